@@ -1,0 +1,5 @@
+pub mod Call
+pub mod Entry
+pub mod History
+pub mod Map
+pub mod Text

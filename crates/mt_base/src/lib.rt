@@ -1,2 +1,14 @@
 //! The words of the interface: ranges, calls, queries and their replies; and what they mean for a map of ranges.
 #![tactic(auto)]
+
+mod calls;
+mod kinds;
+mod memory;
+mod ranges;
+mod replies;
+
+pub use calls::{Call, Query, is_reserved};
+pub use kinds::Kind;
+pub use memory::NoMemory;
+pub use ranges::Range;
+pub use replies::Reply;

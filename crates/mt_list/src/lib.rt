@@ -1,13 +1,6 @@
-// A library with one function.
+//! A map of ranges as a sorted list: the first engine, and later the one to compare with.
 #![tactic(auto)]
 
-ghost use Rattle.std.specs.Prelude.{◌≡◌};
-ghost use Rattle.mt_list.specs.Echo.{echo_of};
+mod ranges;
 
-// The `ensures` clause is the contract: what `echo` returns is `echo_of` of its argument, a definition
-// in `specs/Echo.antt`, which a caller's clause can cite too.
-pub fn echo(x: usize) -> usize
-    ensures { result ≡ echo_of x }
-{
-    x
-}
+pub use ranges::Ranges;

@@ -1,0 +1,42 @@
+-- A map of disjoint ranges, what it holds at an index, and what it becomes by a store.
+-- Source: the kernel's documentation of the maple tree, mtree_load and mtree_store_range.
+use Rattle.std.specs.Prelude.{ℕ, Bool, List, [], ◌∷◌, ◌++◌, Option, ◌+◌, ◌-◌, ◌<◌, ◌≤◌, ◌==◌, ◌&&◌, nat_lt, nat_le, min, max, map, filter, find, if◌then◌else◌}
+use Rattle.mt_base.specs.declared.ranges.Range.{Range}
+
+-- Ranges from `low` upwards: each holds an index and an entry, and begins above the last index of the one before.
+abbrev pub IsMapFrom : ℕ → List Range → Type 0
+IsMapFrom low [] = Unit {0}
+IsMapFrom low (r ∷ m) = (low ≤ r.first) × (r.first ≤ r.last) × (0 < r.entry) × IsMapFrom (r.last + 1) m
+
+abbrev pub IsMap : List Range → Type 0
+IsMap m = IsMapFrom 0 m
+
+abbrev pub holds : ℕ → Range → Bool
+holds index r = nat_le r.first index && nat_le index r.last
+
+-- the range that holds an index
+abbrev pub holding : List Range → ℕ → Option Range
+holding m index = find (holds index) m
+
+-- what is left of a range below `first`, and above `last`
+abbrev pub cut_below : ℕ → Range → Range
+cut_below first r = record { first = r.first; last = min r.last (first - 1); entry = r.entry }
+
+abbrev pub cut_above : ℕ → Range → Range
+cut_above last r = record { first = max r.first (last + 1); last = r.last; entry = r.entry }
+
+-- the part below `first` of each range that begins below it
+abbrev pub parts_below : List Range → ℕ → List Range
+parts_below m first = map (cut_below first) (filter (λ r. nat_lt r.first first) m)
+
+-- the part above `last` of each range that ends above it
+abbrev pub parts_above : List Range → ℕ → List Range
+parts_above m last = map (cut_above last) (filter (λ r. nat_lt last r.last) m)
+
+-- the range that a store puts in, and none where the entry is 0
+abbrev pub part_stored : ℕ → ℕ → ℕ → List Range
+part_stored first last entry = if entry == 0 then [] else record { first = first; last = last; entry = entry } ∷ []
+
+-- the map after `entry` was stored over `first` to `last`
+abbrev pub over : List Range → ℕ → ℕ → ℕ → List Range
+over m first last entry = parts_below m first ++ (part_stored first last entry ++ parts_above m last)

@@ -1,0 +1,24 @@
+use std::fmt;
+
+/// What a tree is for.
+#[derive(Clone, Copy, Debug, PartialEq, Eq)]
+pub enum Kind {
+    /// Ranges are stored where the caller says.
+    Range,
+    /// The tree can also find room for a range.
+    Alloc,
+}
+
+impl fmt::Display for Kind {
+    ghost use Rattle.std.specs.Prelude.{Some};
+    ghost use Rattle.mt_base.specs.Text.{kind_text};
+
+    ghost output = { λ k. Some (kind_text k) };
+
+    fn fmt<W: fmt::Write>(&self, f: &mut fmt::Formatter<W>) -> fmt::Result {
+        match self {
+            Kind::Range => write!(f, "range"),
+            Kind::Alloc => write!(f, "alloc"),
+        }
+    }
+}

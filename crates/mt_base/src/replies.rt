@@ -1,0 +1,24 @@
+use std::fmt;
+
+/// The answer of a call that writes.
+#[derive(Clone, Copy, Debug, PartialEq, Eq)]
+pub enum Reply {
+    /// The call was done.
+    Ok,
+    /// The call's range ends before it begins, or its entry is reserved. Nothing was changed.
+    Invalid,
+}
+
+impl fmt::Display for Reply {
+    ghost use Rattle.std.specs.Prelude.{Some};
+    ghost use Rattle.mt_base.specs.Text.{reply_text};
+
+    ghost output = { λ r. Some (reply_text r) };
+
+    fn fmt<W: fmt::Write>(&self, f: &mut fmt::Formatter<W>) -> fmt::Result {
+        match self {
+            Reply::Ok => write!(f, "ok"),
+            Reply::Invalid => write!(f, "invalid"),
+        }
+    }
+}
