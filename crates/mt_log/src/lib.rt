@@ -1,13 +1,16 @@
-// A library with one function.
+//! The log that the program reads, the transcript that it writes, and when a transcript is a run of a log.
 #![tactic(auto)]
 
-ghost use Rattle.std.specs.Prelude.{◌≡◌};
-ghost use Rattle.mt_log.specs.Echo.{echo_of};
+mod faults;
+mod lines;
+mod names;
+mod reading;
+mod rendering;
+mod transcripts;
 
-// The `ensures` clause is the contract: what `echo` returns is `echo_of` of its argument, a definition
-// in `specs/Echo.antt`, which a caller's clause can cite too.
-pub fn echo(x: usize) -> usize
-    ensures { result ≡ echo_of x }
-{
-    x
-}
+pub use faults::{LogError, Why};
+pub use lines::{Item, Line, Lines, Log};
+pub use names::Word;
+pub use reading::read_log;
+pub use rendering::render;
+pub use transcripts::{Answer, Entries, Entry, Listing, Listings, RangeList, Said, Transcript};

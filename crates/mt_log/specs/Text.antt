@@ -1,0 +1,36 @@
+-- How a transcript is printed: the entries in the order of the log, and then each tree's ranges.
+use Rattle.std.specs.Prelude.{ℕ, List, [], ◌∷◌, ◌++◌, length, codes}
+use Rattle.std.specs.List.{flat_map}
+use Rattle.std.specs.Fmt.{decimal}
+use Rattle.mt_base.specs.declared.ranges.Range.{Range}
+use Rattle.mt_base.specs.Text.{kind_text, reply_text, range_text}
+use Rattle.mt_log.specs.declared.transcripts.Answer.{Answer}
+use Rattle.mt_log.specs.declared.transcripts.Answer.TheVariants as answers
+use Rattle.mt_log.specs.declared.transcripts.Said.{Said}
+use Rattle.mt_log.specs.declared.transcripts.Said.TheVariants.{Wrote, Got}
+use Rattle.mt_log.specs.declared.transcripts.Entry.{Entry}
+use Rattle.mt_log.specs.declared.transcripts.Listing.{Listing}
+use Rattle.mt_log.specs.declared.transcripts.Transcript.{Transcript}
+
+abbrev pub answer_text : Answer → List ℕ
+answer_text answers.None = codes "none"
+answer_text (answers.Entry e) = codes "entry " ++ decimal e
+
+abbrev pub said_text : Said → List ℕ
+said_text (Wrote call reply) = decimal call ++ (codes " " ++ reply_text reply)
+said_text (Got lo hi value) = decimal lo ++ (codes " " ++ (decimal hi ++ (codes " " ++ answer_text value)))
+
+-- an entry's line
+abbrev pub entry_text : Entry → List ℕ
+entry_text e = decimal e.line ++ (codes " " ++ (said_text e.said ++ 10 ∷ []))
+
+abbrev pub range_line : Range → List ℕ
+range_line r = range_text r ++ 10 ∷ []
+
+-- a tree's line, and one for each range
+abbrev pub listing_text : Listing → List ℕ
+listing_text l = codes "tree " ++ (l.name ++ (codes " " ++ (kind_text l.kind ++ (codes " " ++ (decimal (length l.ranges) ++ (10 ∷ [] ++ flat_map range_line l.ranges))))))
+
+-- the text of a transcript
+abbrev pub text_of : Transcript → List ℕ
+text_of t = flat_map entry_text t.entries ++ flat_map listing_text t.lists

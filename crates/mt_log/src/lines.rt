@@ -1,0 +1,71 @@
+use crate::names::Word;
+use mt_base::{Call, Kind, Query};
+use std::marker::Model;
+
+/// What a line of a log says.
+#[derive(Clone, Copy)]
+pub enum Item {
+    Tree { name: Word, kind: Kind },
+    Write { tree: u32, call: Call },
+    Ask { tree: u32, query: Query },
+}
+
+impl Item {
+    ghost use Rattle.std.specs.Prelude.{◌≡◌};
+    ghost use Rattle.mt_log.specs.Reading.{declared_by};
+
+    /// The name that it declares.
+    pub fn declares(&self) -> Option<Word>
+        ensures { result ≡ declared_by self.now }
+    {
+        match self {
+            Item::Tree { name, .. } => Some(*name),
+            Item::Write { .. } | Item::Ask { .. } => None,
+        }
+    }
+}
+
+/// A line of a log, by its number from 1.
+#[derive(Clone, Copy)]
+pub struct Line {
+    pub number: u64,
+    pub item: Item,
+}
+
+/// The lines of a log.
+#[derive(Drop)]
+pub struct Lines {
+    items: Vec<Line>,
+}
+
+impl Model for Lines {
+    ghost use Rattle.std.specs.Prelude.{List};
+    ghost use Rattle.mt_log.specs.declared.lines.Line.{Line};
+
+    ghost Value = { List Line };
+
+    ghost view = { λ l. l.items.items };
+}
+
+impl Lines {
+    ghost use Rattle.std.specs.Prelude.{◌≡◌};
+
+    pub fn new(items: Vec<Line>) -> Self
+        ensures { result ≡ items.items }
+    {
+        Lines { items }
+    }
+
+    pub fn as_slice(&self) -> &[Line]
+        ensures { result.now ≡ self.now }
+    {
+        &self.items
+    }
+}
+
+/// A log: the lines that say something, in order.
+#[derive(Drop)]
+pub struct Log {
+    pub version: u32,
+    pub lines: Lines,
+}
