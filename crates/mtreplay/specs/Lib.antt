@@ -1,0 +1,4 @@
+pub mod Command
+pub mod Ending
+pub mod Headline
+pub mod Playing
