@@ -3,3 +3,4 @@ pub mod Entry
 pub mod History
 pub mod Map
 pub mod Text
+pub mod Width

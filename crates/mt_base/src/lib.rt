@@ -6,9 +6,11 @@ mod kinds;
 mod memory;
 mod ranges;
 mod replies;
+mod widths;
 
 pub use calls::{Call, Query, is_reserved};
 pub use kinds::Kind;
 pub use memory::NoMemory;
 pub use ranges::Range;
 pub use replies::Reply;
+pub use widths::{Width, cols, top, width_of};

@@ -1,0 +1,2 @@
+use mt_base::NoMemory;
+use std::alloc::Global;

@@ -1,0 +1,6 @@
+//! The book of a tree's rows: which are free, which are live, and which were replaced and wait.
+#![tactic(auto)]
+
+mod book;
+
+// pub use book::RowBook;

@@ -1,0 +1,82 @@
+-- The columns of a row: a parent word, pivots, slots and gaps; and the items that are read off them.
+-- Source: the kernel's lib/maple_tree.c, ma_pivots, ma_slots and ma_gaps of maple_range_64 and maple_arange_64.
+-- A row has so many slots, and as many gaps or none. Column c of the row that begins at `base` is the word base + c.
+use Rattle.std.specs.Prelude.{◌≡◌, ◌⊎◌, ℕ, zero, suc, ◌+◌, ◌-◌, ◌*◌, ◌≤◌, ◌<◌, ◌==◌, List, [], ◌∷◌, ◌++◌, length, map, take, replicate, max, nat_le, slice_index, if◌then◌else◌}
+use Rattle.mt_layout.specs.declared.items.Item.{Item}
+
+-- how many slots and gaps a row may have: rows without gaps have 16 slots, rows with gaps 10
+abbrev pub IsLayout : ℕ → ℕ → Type 0
+IsLayout slots gaps = ((slots ≡ 16) × (gaps ≡ 0)) ⊎ ((slots ≡ 10) × (gaps ≡ 10))
+
+abbrev pub pivot_column : ℕ → ℕ
+pivot_column i = 1 + i
+
+abbrev pub slot_column : ℕ → ℕ → ℕ
+slot_column slots i = slots + i
+
+abbrev pub gap_column : ℕ → ℕ → ℕ
+gap_column slots i = 2 * slots + i
+
+abbrev pub gap_at : ℕ → ℕ → List ℕ → ℕ → ℕ → ℕ
+gap_at slots gaps w base i = if gaps == 0 then 0 else slice_index w (base + gap_column slots i)
+
+-- the item in slot i, where its greatest index is `last`
+abbrev pub item_at : ℕ → ℕ → List ℕ → ℕ → ℕ → ℕ → Item
+item_at slots gaps w base i last = record { last = last; word = slice_index w (base + slot_column slots i); gap = gap_at slots gaps w base i }
+
+-- The items from slot i on, of which at most `left` are to come, in a row that ends at `max`: they end with the first
+-- whose pivot is at least `max`, or with the last slot, which has no pivot.
+abbrev pub items_from : ℕ → ℕ → List ℕ → ℕ → ℕ → ℕ → ℕ → List Item
+items_from slots gaps w base max zero i = []
+items_from slots gaps w base max (suc zero) i = item_at slots gaps w base i max ∷ []
+items_from slots gaps w base max (suc (suc left)) i =
+    if nat_le max (slice_index w (base + pivot_column i))
+    then item_at slots gaps w base i (slice_index w (base + pivot_column i)) ∷ []
+    else item_at slots gaps w base i (slice_index w (base + pivot_column i)) ∷ items_from slots gaps w base max (suc left) (i + 1)
+
+-- the items of the row that begins at `base` and ends at `max`
+abbrev pub items_at : ℕ → ℕ → List ℕ → ℕ → ℕ → List Item
+items_at slots gaps w base max = items_from slots gaps w base max slots 0
+
+-- ---- the words of a row
+
+-- these, and zeros behind them, so many in all
+abbrev pub padded_to : ℕ → List ℕ → List ℕ
+padded_to n xs = xs ++ replicate (n - length xs) 0
+
+abbrev pub pivot_words : ℕ → List Item → List ℕ
+pivot_words slots items = padded_to (slots - 1) (take (slots - 1) (map (λ x. x.last) items))
+
+abbrev pub slot_words : ℕ → List Item → List ℕ
+slot_words slots items = padded_to slots (map (λ x. x.word) items)
+
+abbrev pub gap_words : ℕ → List Item → List ℕ
+gap_words gaps items = if gaps == 0 then [] else padded_to gaps (map (λ x. x.gap) items)
+
+-- the words of a row with these items, in a row of so many columns: what is unused is 0
+abbrev pub row_words : ℕ → ℕ → ℕ → ℕ → List Item → List ℕ
+row_words columns slots gaps parent items = padded_to columns (parent ∷ pivot_words slots items ++ slot_words slots items ++ gap_words gaps items)
+
+-- ---- items by themselves
+
+-- the greatest indexes rise, from `min` on
+abbrev pub RiseFrom : ℕ → List Item → Type 0
+RiseFrom min [] = Unit {0}
+RiseFrom min (x ∷ items) = (min ≤ x.last) × RiseFrom (x.last + 1) items
+
+-- the last index of the items
+abbrev pub end_of : ℕ → List Item → ℕ
+end_of max [] = max
+end_of max (x ∷ items) = end_of x.last items
+
+-- what a row can hold: 1 to `slots` items whose greatest indexes rise, and gaps only where there are columns for them
+pub record FitRow (slots gaps : ℕ) (items : List Item) : Type 0 where
+  pub some : 0 < length items
+  pub fit : length items ≤ slots
+  pub rise : RiseFrom 0 items
+  pub no_gaps : gaps ≡ 0 → map (λ x. x.gap) items ≡ replicate (length items) 0
+
+-- the number of indexes of the longest hole of a leaf whose first item begins at `min`
+abbrev pub longest_hole : ℕ → List Item → ℕ
+longest_hole min [] = 0
+longest_hole min (x ∷ items) = max (if x.word == 0 then x.last + 1 - min else 0) (longest_hole (x.last + 1) items)
