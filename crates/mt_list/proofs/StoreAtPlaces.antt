@@ -89,6 +89,9 @@ rise (r ∷ m) low first last le ordered =
 pub places_rise : (m : List Range) (first last : ℕ) → first ≤ last → IsMap m → place_below m first ≤ place_above m last
 places_rise m first last le ordered = rise m 0 first last le ordered
 
+-- what a store's proof cites
+pub ruleset stores = (store_at_places, store_in_slot, places_rise)
+
 last_of_step : (r s : Range) (m : List Range) → last_of (s ∷ m) ≡ slice_get (s ∷ m) (length (s ∷ m) - 1) → last_of (s ∷ m) ≡ slice_get (r ∷ s ∷ m) (length (r ∷ s ∷ m) - 1)
 last_of_step r s m behind =
     let outer : length (r ∷ s ∷ m) - 1 ≡ suc (length m) = omega arith in

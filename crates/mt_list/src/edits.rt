@@ -95,7 +95,7 @@ fn write_slot(ranges: &mut Vec<Range>, slot: usize, range: Range)
 }
 
 /// Stores `entry` over `first` to `last`. An `Err` changes nothing.
-#[tactic(auto, using(crate::proofs::StoreAtPlaces::store_at_places, crate::proofs::StoreAtPlaces::store_in_slot, crate::proofs::StoreAtPlaces::places_rise))]
+#[tactic(auto, using(crate::proofs::StoreAtPlaces::stores))]
 pub fn store(ranges: &mut Vec<Range>, first: u64, last: u64, entry: u64) -> Result<(), AllocError>
     requires order { first ≤ last }
     requires map { IsMap ranges.old.items }
