@@ -1,7 +1,8 @@
 -- The trees that a log declares, numbered from 0 in the order of their lines, and the steps that name them.
-use Rattle.std.specs.Prelude.{ℕ, List, [], ◌∷◌, Option, Some, None, ◌+◌, ◌<◌, length}
+use Rattle.std.specs.Prelude.{◌≡◌, ℕ, All, List, [], ◌∷◌, Option, Some, None, ◌+◌, ◌<◌, length}
 use Rattle.std.specs.List.{filter_map}
 use Rattle.mt_base.specs.declared.kinds.Kind.{Kind}
+use Rattle.mt_base.specs.declared.kinds.Kind.TheVariants as kinds
 use Rattle.mt_log.specs.declared.lines.Item.{Item}
 use Rattle.mt_log.specs.declared.lines.Item.TheVariants.{Tree, Write, Ask}
 use Rattle.mt_log.specs.declared.lines.Line.{Line}
@@ -30,7 +31,8 @@ abbrev pub AreNamedFrom : ℕ → List Line → Type 0
 AreNamedFrom count [] = Unit {0}
 AreNamedFrom count (line ∷ lines) = NamesBelow count line.item × AreNamedFrom (count + length (trees_of (line ∷ []))) lines
 
--- what every log keeps that can be read: its steps name declared trees, and it declares one tree at the most
+-- what every log keeps that can be read: its steps name declared trees, and it declares one tree at the most, for ranges
 pub record IsReadable (lines : List Line) : Type 0 where
   pub named : AreNamedFrom 0 lines
   pub one_tree : length (trees_of lines) < 2
+  pub for_ranges : All (λ d. d.kind ≡ kinds.Range) (trees_of lines)
