@@ -29,23 +29,25 @@ nothing_played = record { steps = []; records = [] }
 abbrev pub history_of : List Record → History
 history_of records = record { kind = kinds.Range; opening = []; records = records }
 
-abbrev pub with_step : Played → ℕ → ℕ → Outcome → List Record → Played
-with_step p line tree outcome more = record {
-    steps = p.steps ++ record { line = line; lane = 0; phase = 0; tree = tree; outcome = outcome } ∷ [];
-    records = p.records ++ more;
-  }
+-- a step of lane 0, in phase 0
+abbrev pub step_done : ℕ → ℕ → Outcome → Step
+step_done line tree outcome = record { line = line; lane = 0; phase = 0; tree = tree; outcome = outcome }
 
 -- a call gets the next number, and the reply of the map as it stands
 abbrev pub called : Played → ℕ → ℕ → Call → Played
 called p line tree call =
     let reply = (acted kinds.Range (last_map (history_of p.records)) call).1 in
-    with_step p line tree (Called (length p.records + 1) call reply) (record { pass = 0; call = call; reply = reply } ∷ [])
+    record {
+      steps = p.steps ++ step_done line tree (Called (length p.records + 1) call reply) ∷ [];
+      records = p.records ++ record { pass = 0; call = call; reply = reply } ∷ [];
+    }
 
 -- a read is answered by the map as it stands, after all calls so far
 abbrev pub looked : Played → ℕ → ℕ → Query → Played
 looked p line tree query =
     let k = length p.records in
-    with_step p line tree (Looked k k k query (answer (last_map (history_of p.records)) query)) []
+    let value = answer (last_map (history_of p.records)) query in
+    record { steps = p.steps ++ step_done line tree (Looked k k k query value) ∷ []; records = p.records }
 
 abbrev pub after_item : Played → ℕ → Item → Played
 after_item p line (Tree name kind) = p

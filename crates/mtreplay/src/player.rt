@@ -80,7 +80,11 @@ impl<M: Ranges> Player<M> {
 }
 
 /// Plays the lines in order.
-fn play_lines<M: Ranges + Drop>(alloc: Global, lines: &[Line], map: M) -> Result<Player<M>, NoMemory>
+fn play_lines<M: Ranges + Drop>(
+    alloc: Global,
+    lines: &[Line],
+    map: M,
+) -> Result<Player<M>, NoMemory>
     requires empty { M.map map ≡ [] }
     requires kind { M.kind map ≡ kinds.Range }
     requires unused { M.used map ≡ 0 }
@@ -148,6 +152,7 @@ fn played<M: Ranges + Drop>(alloc: Global, log: &Log, map: M) -> Result<Transcri
 }
 
 /// Plays the lines of a log in order over an empty map, and lists the trees.
+#[tactic(auto, using(crate::proofs::OneLane::played_is_run))]
 pub fn play<M: Ranges + Drop>(alloc: Global, log: &Log, map: M) -> Result<Transcript, NoMemory>
     requires empty { M.map map ≡ [] }
     requires kind { M.kind map ≡ kinds.Range }
@@ -156,5 +161,5 @@ pub fn play<M: Ranges + Drop>(alloc: Global, log: &Log, map: M) -> Result<Transc
     requires count { length log.now.lines < 2 ^ 62 - 1 }
     ensures { IfOk result (λ t. IsRun log.now t) }
 {
-    Err(NoMemory)
+    played(alloc, log, map)
 }
