@@ -29,12 +29,26 @@ impl<M: Ranges> Model for Player<M> {
 }
 
 impl<M: Ranges> Player<M> {
-    ghost use Rattle.std.specs.Prelude.{◌≡◌, ◌+◌, ◌-◌, ◌<◌, ◌≤◌, ◌^◌, OnOk};
+    ghost use Rattle.std.specs.Prelude.{◌≡◌, ◌∷◌, ◌++◌, ◌+◌, ◌-◌, ◌<◌, ◌≤◌, ◌^◌, [], OnOk};
     ghost use Rattle.mtreplay.specs.Playing.{Played, Shows, called, looked, after_item};
+
+    /// Does what a line asks for.
+    fn line(&mut self, line: &Line) -> Result<(), NoMemory>
+        requires used { self.old.used < 2 ^ 62 - 1 }
+        requires calls { self.old.calls < u64.MAX }
+        ensures shows { OnOk result ((p : Played) → Shows self.old p → Shows self.new (after_item p line.now.number line.now.item)) }
+        ensures calls { OnOk result (self.new.calls ≤ self.old.calls + 1) }
+    {
+        match line.item {
+            Item::Tree { .. } => Ok(()),
+            Item::Write { tree, call } => self.write(line.number, tree, &call),
+            Item::Ask { tree, query } => self.ask(line.number, tree, &query),
+        }
+    }
 
     fn write(&mut self, line: u64, tree: u32, call: &Call) -> Result<(), NoMemory>
         requires used { self.old.used < 2 ^ 62 - 1 }
-        requires calls { self.old.calls < 2 ^ 62 - 1 }
+        requires calls { self.old.calls < u64.MAX }
         ensures shows { OnOk result ((p : Played) → Shows self.old p → Shows self.new (called p line tree call.now)) }
         ensures calls { OnOk result (self.new.calls ≡ self.old.calls + 1) }
     {
@@ -44,8 +58,7 @@ impl<M: Ranges> Player<M> {
             call: self.calls,
             reply,
         };
-        self.entries.push(Entry { line, said })?;
-        Ok(())
+        self.tell(Entry { line, said })
     }
 
     fn ask(&mut self, line: u64, tree: u32, query: &Query) -> Result<(), NoMemory>
@@ -61,21 +74,14 @@ impl<M: Ranges> Player<M> {
             hi: self.calls,
             value,
         };
-        self.entries.push(Entry { line, said })?;
-        Ok(())
+        self.tell(Entry { line, said })
     }
 
-    fn line(&mut self, line: &Line) -> Result<(), NoMemory>
-        requires used { self.old.used < 2 ^ 62 - 1 }
-        requires calls { self.old.calls < 2 ^ 62 - 1 }
-        ensures shows { OnOk result ((p : Played) → Shows self.old p → Shows self.new (after_item p line.now.number line.now.item)) }
-        ensures calls { OnOk result (self.new.calls ≤ self.old.calls + 1) }
+    fn tell(&mut self, entry: Entry) -> Result<(), NoMemory>
+        ensures { OnOk result (self.new ≡ record self.old { entries = self.old.entries ++ entry ∷ [] }) }
     {
-        match line.item {
-            Item::Tree { .. } => Ok(()),
-            Item::Write { tree, call } => self.write(line.number, tree, &call),
-            Item::Ask { tree, query } => self.ask(line.number, tree, &query),
-        }
+        self.entries.push(entry)?;
+        Ok(())
     }
 }
 
