@@ -37,6 +37,7 @@ record IsSound (count : ℕ) (p : Played) : Type 0 where
   within : All (λ (s : Step). TellsUpTo (length p.records) s.outcome) p.steps
   reads : All (λ (s : Step). IsTrueOf (history_of p.records) s.outcome) p.steps
 
+-- nothing was played yet
 nothing_is_sound : (count : ℕ) → IsSound count nothing_played
 nothing_is_sound count = record {
   named = λ k d l. absurd (omega arith);
@@ -47,12 +48,14 @@ nothing_is_sound count = record {
   reads = λ k d l. absurd (omega arith);
 }
 
+-- one more item is numbered next
 enumerate_push : {X : Type 0} (n : ℕ) (xs : List X) (x : X) → enumerate_from n (xs ++ x ∷ []) ≡ enumerate_from n xs ++ (n + length xs, x) ∷ []
 enumerate_push n [] x = let e : n + 0 ≡ n = omega arith in rw e refl
 enumerate_push n (y ∷ ys) x =
     let e : n + suc (length ys) ≡ n + 1 + length ys = omega arith in
     rw e (ap (λ z. (n, y) ∷ z) (enumerate_push (n + 1) ys x))
 
+-- one more call keeps a history legal, where the map after the others answers it so
 legal_push : (m : List Range) (records : List Record) (r : Record) → AreLegalFrom kinds.Range m records → r.reply ≡ (acted kinds.Range (fold (map_after kinds.Range) m records) r.call).1 → AreLegalFrom kinds.Range m (records ++ r ∷ [])
 legal_push m [] r legal said = (said, tt)
 legal_push m (q ∷ records) r legal said = (legal.0, legal_push (map_after kinds.Range m q) records r legal.1 said)
@@ -76,6 +79,7 @@ true_more records r (Looked lo hi k query value) t =
       omega (arith, t.1),
     )
 
+-- a call, or a read, that comes after so many calls follows each step before it
 call_follows : (n : ℕ) (outcome : Outcome) (call : Call) (reply : Reply) → TellsUpTo n outcome → Follows outcome (Called (n + 1) call reply)
 call_follows n (Called number c r) call reply h = omega arith
 call_follows n (Looked lo hi k query value) call reply h = omega (arith, h.1)
@@ -110,6 +114,7 @@ call_is_sound count p line tree call few named sound =
       reads = All-push (λ (s : Step). IsTrueOf (history_of (p.records ++ r ∷ [])) s.outcome) p.steps step (λ k d l. true_more p.records r (get_or p.steps k d).outcome (sound.reads k d l)) tt;
     }
 
+-- a read adds no call
 once_looked : (p : Played) (line tree : ℕ) (query : Query) → tree ≡ 0 → enumerate_from 1 p.records ≡ filter_map (numbered_on 0) p.steps → enumerate_from 1 p.records ≡ filter_map (numbered_on 0) (looked p line tree query).steps
 once_looked p line tree query only once =
     let n : ℕ = length p.records in
@@ -156,7 +161,7 @@ named_within count total (line ∷ lines) l named =
       named_within (count + length (trees_of (line ∷ []))) total lines (omega arith) named.1,
     )
 
--- the steps are those of the log
+-- the steps that were done are those of the log
 item_is_asked : (p : Played) (line : ℕ) (item : Item) → map asked_by (after_item p line item).steps ≡ map asked_by p.steps ++ steps_of (record { number = line; item = item } ∷ [])
 item_is_asked p line (Tree name kind) = sym (append-nil (map asked_by p.steps))
 item_is_asked p line (Write tree call) = map-append asked_by p.steps _
@@ -173,6 +178,7 @@ steps_are_asked (line ∷ lines) p =
 abbrev histories_of : List Declared → List Record → List History
 histories_of trees records = map (λ d. history_of records) trees
 
+-- each opens as its tree is declared
 histories_are_opened : (trees : List Declared) (records : List Record) → All (λ (d : Declared). d.kind ≡ kinds.Range) trees → map opening_of trees ≡ map at_opening (histories_of trees records)
 histories_are_opened [] records h = refl
 histories_are_opened (d ∷ trees) records h =
@@ -186,6 +192,7 @@ history_at [] records tree l = absurd (omega arith)
 history_at (d ∷ trees) records zero l = refl
 history_at (d ∷ trees) records (suc tree) l = history_at trees records tree (omega arith)
 
+-- so each tree's calls are the records of its history, in the order of their numbers
 calls_stand_once : (trees : List Declared) (p : Played) (tree : ℕ) (h : History) → length trees < 2 → IsSound (length trees) p → slice_get (histories_of trees p.records) tree ≡ Some h → IsPermutation (enumerate_from 1 h.records) (filter_map (numbered_on tree) p.steps)
 calls_stand_once trees p tree h few sound is =
     let among : tree < length trees = omega (arith, slice_get_within (histories_of trees p.records) tree h is, length-map trees (λ (d : Declared). history_of p.records)) in
@@ -194,6 +201,7 @@ calls_stand_once trees p tree h few sound is =
     let same : h ≡ history_of p.records = cc in
     rw (same, only, ← sound.once) (IsPermutation-refl (enumerate_from 1 p.records))
 
+-- each step stands in the history of the tree that it names
 reads_are_true : (trees : List Declared) (p : Played) → IsSound (length trees) p → All (StandsIn (histories_of trees p.records)) p.steps
 reads_are_true trees p sound k d l = (
   history_of p.records,
@@ -211,6 +219,7 @@ trees_are_listed : (lines : List Line) (records : List Record) → listings_of l
 trees_are_listed [] records = refl
 trees_are_listed (line ∷ lines) records = listed_more line.number line.item lines records (trees_are_listed lines records)
 
+-- what one lane makes of a log that can be read is a run of it
 log_is_run : (log : Log) → IsReadable log.lines → IsRun log (transcript_of log)
 log_is_run log readable =
     let trees : List Declared = trees_of log.lines in
