@@ -31,6 +31,9 @@ given_count s room = min room (min s.piece (length s.left))
 abbrev pub read_fails : Giving → Bool
 read_fails s = is_listed s.calls s.fails
 
+abbrev pub read_answer : Giving → ℕ → Result ℕ Failed
+read_answer s room = if read_fails s then Err (record {}) else Ok (given_count s room)
+
 abbrev pub after_read : Giving → ℕ → Giving
 after_read s room = record {
     left = if read_fails s then s.left else drop (given_count s room) s.left;
@@ -59,6 +62,9 @@ taken_count s piece = min (length piece) (min s.piece (s.room - length s.written
 -- a write fails where its call is listed, or where it has bytes and finds no room
 abbrev pub write_fails : Taking → List ℕ → Bool
 write_fails s piece = is_listed s.calls s.fails || (nat_lt 0 (length piece) && (s.room - length s.written == 0))
+
+abbrev pub write_answer : Taking → List ℕ → Result ℕ Failed
+write_answer s piece = if write_fails s piece then Err (record {}) else Ok (taken_count s piece)
 
 abbrev pub after_write : Taking → List ℕ → Taking
 after_write s piece = record {
