@@ -1,6 +1,10 @@
 //! A map of ranges as a sorted list: the first engine, and later the one to compare with.
 #![tactic(auto)]
 
+mod edits;
+mod list_map;
+mod places;
 mod ranges;
 
+pub use list_map::ListMap;
 pub use ranges::Ranges;
