@@ -27,9 +27,9 @@ history_of records = record { kind = kinds.Range; opening = []; records = record
 
 abbrev pub with_step : Played → ℕ → ℕ → Outcome → List Record → Played
 with_step p line tree outcome more = record {
-    steps = p.steps ++ record { line = line; lane = 0; phase = 0; tree = tree; outcome = outcome } ∷ [];
-    records = p.records ++ more;
-  }
+  steps = p.steps ++ record { line = line; lane = 0; phase = 0; tree = tree; outcome = outcome } ∷ [];
+  records = p.records ++ more;
+}
 
 -- a call gets the next number, and the reply of the map as it stands
 abbrev pub called : Played → ℕ → ℕ → Call → Played
@@ -58,6 +58,6 @@ histories_of lines = map (λ d. history_of (played lines).records) (trees_of lin
 -- what one lane makes of a log
 abbrev pub transcript_of : Log → Transcript
 transcript_of log = record {
-    entries = map entry_of (played log.lines).steps;
-    lists = map listing_of (zip (trees_of log.lines) (histories_of log.lines));
-  }
+  entries = map entry_of (played log.lines).steps;
+  lists = map listing_of (zip (trees_of log.lines) (histories_of log.lines));
+}

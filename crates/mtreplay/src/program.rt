@@ -28,8 +28,7 @@ fn is_replay(words: &[String]) -> bool
 }
 
 /// Reads a log, plays its lines and writes what they were answered.
-fn replay<S: Source, O: Sink>(alloc: Global, src: &mut S, out: &mut O) -> Result<(), Failure>
-{
+fn replay<S: Source, O: Sink>(alloc: Global, src: &mut S, out: &mut O) -> Result<(), Failure> {
     let bytes = read_input(alloc, src)?;
     let log = read_log(alloc, &bytes)?;
     let transcript = play(alloc, &log, ListMap::new(alloc, Kind::Range))?;
@@ -43,8 +42,7 @@ fn run<S: Source, O: Sink>(
     words: &[String],
     src: &mut S,
     out: &mut O,
-) -> Result<(), Failure>
-{
+) -> Result<(), Failure> {
     if !is_replay(words) {
         return Err(Failure::Usage);
     }
