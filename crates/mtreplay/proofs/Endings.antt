@@ -1,12 +1,12 @@
 -- From how a run ended to what its status says.
-use Rattle.std.proofs.Common.{◌≡◌, ℕ, Bool, true, false, List, ◌++◌, Option, Result, Ok, Err, MatchResult, OnOk, OnErr, IsErrAnd, subst, sym, ◌∙◌}
+use Rattle.std.proofs.Common.{◌≡◌, ℕ, true, List, Result, Ok, Err, MatchResult, OnOk, OnErr, IsErrAnd, subst, sym, ◌∙◌}
 use Rattle.std.specs.Io.KnownBytes.{Appends}
 use Rattle.mt_io.specs.Faults.{Rose}
 use Rattle.mt_io.specs.declared.traits.Failed.{Failed}
 use Rattle.mt_log.specs.declared.lines.Log.{Log}
 use Rattle.mtreplay.specs.Causes.{ReadsLog, Ends, Streams, Finishes, FailsToWrite}
 use Rattle.mtreplay.specs.Ending.{Tells}
-use Rattle.mtreplay.specs.Headline.{TellsRun, IsTextOfRun}
+use Rattle.mtreplay.specs.Headline.{TellsRun}
 use Rattle.mtreplay.specs.declared.failures.Failure.{Failure}
 use Rattle.mtreplay.specs.declared.failures.Failure.TheVariants as failures
 
