@@ -1,5 +1,5 @@
 -- What the sources and sinks in memory do, call by call: a piece at a call, and the listed calls fail.
-use Rattle.std.specs.Prelude.{ℕ, Bool, List, ◌++◌, Result, Ok, Err, ◌+◌, ◌-◌, ◌^◌, ◌==◌, ◌&&◌, ◌||◌, not, min, length, take, drop, nat_lt, if◌then◌else◌}
+use Rattle.std.specs.Prelude.{ℕ, Bool, List, ◌++◌, Result, Ok, Err, ◌+◌, ◌-◌, ◌^◌, ◌==◌, ◌&&◌, ◌||◌, min, length, take, drop, nat_lt, if◌then◌else◌}
 use Rattle.std.specs.List.{list_any}
 use Rattle.mt_io.specs.declared.traits.Failed.{Failed}
 
@@ -36,13 +36,13 @@ read_answer s room = if read_fails s then Err (record {}) else Ok (given_count s
 
 abbrev pub after_read : Giving → ℕ → Giving
 after_read s room = record {
-    left = if read_fails s then s.left else drop (given_count s room) s.left;
-    piece = s.piece;
-    fails = s.fails;
-    calls = one_more s.calls;
-    faults = if read_fails s then one_more s.faults else s.faults;
-    late = late_after s.faults s.late;
-  }
+  left = if read_fails s then s.left else drop (given_count s room) s.left;
+  piece = s.piece;
+  fails = s.fails;
+  calls = one_more s.calls;
+  faults = if read_fails s then one_more s.faults else s.faults;
+  late = late_after s.faults s.late;
+}
 
 -- A sink in memory: the bytes written, how many it takes in all and at a call, the numbers (from 0) of the calls
 -- that fail, and how many calls, faults and late calls there were.
@@ -68,11 +68,11 @@ write_answer s piece = if write_fails s piece then Err (record {}) else Ok (take
 
 abbrev pub after_write : Taking → List ℕ → Taking
 after_write s piece = record {
-    written = if write_fails s piece then s.written else s.written ++ take (taken_count s piece) piece;
-    room = s.room;
-    piece = s.piece;
-    fails = s.fails;
-    calls = one_more s.calls;
-    faults = if write_fails s piece then one_more s.faults else s.faults;
-    late = late_after s.faults s.late;
-  }
+  written = if write_fails s piece then s.written else s.written ++ take (taken_count s piece) piece;
+  room = s.room;
+  piece = s.piece;
+  fails = s.fails;
+  calls = one_more s.calls;
+  faults = if write_fails s piece then one_more s.faults else s.faults;
+  late = late_after s.faults s.late;
+}

@@ -22,7 +22,7 @@ impl Counts {
     pub fn begin(&mut self)
         ensures faults { self.new.faults ≡ self.old.faults }
         ensures late { self.new.late ≡ late_after self.old.faults self.old.late }
-        ensures in_turn { CountsLate self.old.faults self.old.late self.new.late }
+        ensures rises { CountsLate self.old.faults self.old.late self.new.late }
     {
         if self.faults > 0 {
             self.late = self.late.saturating_add(1);

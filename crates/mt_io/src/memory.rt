@@ -27,27 +27,28 @@ impl Model for MemSource {
     ghost Value = { Giving };
 
     ghost view = { λ s. record {
-        left = drop s.at s.bytes.items;
-        piece = s.piece;
-        fails = s.fails.items;
-        calls = s.calls;
-        faults = s.counts.faults;
-        late = s.counts.late;
+      left = drop s.at s.bytes.items;
+      piece = s.piece;
+      fails = s.fails.items;
+      calls = s.calls;
+      faults = s.counts.faults;
+      late = s.counts.late;
     } };
 
     ghost invariant = { λ s. (0 < s.piece) × (s.at ≤ length s.bytes.items) };
 }
 
 impl MemSource {
+    /// A source that was not called yet.
     pub fn new(bytes: Vec<u8>, piece: usize, fails: Vec<u64>) -> Self
         requires { 0 < piece }
         ensures { result ≡ record {
-            left = bytes.items;
-            piece = piece;
-            fails = fails.items;
-            calls = 0;
-            faults = 0;
-            late = 0;
+          left = bytes.items;
+          piece = piece;
+          fails = fails.items;
+          calls = 0;
+          faults = 0;
+          late = 0;
         } }
     {
         MemSource {
@@ -60,6 +61,7 @@ impl MemSource {
         }
     }
 
+    // Moves the next bytes to the front of the buffer.
     fn give(&mut self, buf: &mut [u8]) -> usize
         ensures count { result ≡ given_count self.old (length buf.old) }
         ensures bytes { buf.new ≡ take result self.old.left ++ drop result buf.old }
@@ -123,20 +125,20 @@ impl Model for MemSink {
     ghost Value = { Taking };
 
     ghost view = { λ s. record {
-        written = s.bytes.items;
-        room = s.room;
-        piece = s.piece;
-        fails = s.fails.items;
-        calls = s.calls;
-        faults = s.counts.faults;
-        late = s.counts.late;
+      written = s.bytes.items;
+      room = s.room;
+      piece = s.piece;
+      fails = s.fails.items;
+      calls = s.calls;
+      faults = s.counts.faults;
+      late = s.counts.late;
     } };
 
     ghost invariant = { λ s. (0 < s.piece) × (vec_len s.bytes ≤ s.room) × (s.room ≤ vec_capacity s.bytes) };
 }
 
 impl MemSink {
-    /// Takes all the memory for `room` bytes.
+    /// A sink that was not called yet. It takes the memory for all its room here, and none later.
     ///
     /// # Errors
     ///
@@ -149,13 +151,13 @@ impl MemSink {
     ) -> Result<Self, AllocError>
         requires { 0 < piece }
         ensures { IfOk result (λ s. s ≡ record {
-            written = [];
-            room = room;
-            piece = piece;
-            fails = fails.items;
-            calls = 0;
-            faults = 0;
-            late = 0;
+          written = [];
+          room = room;
+          piece = piece;
+          fails = fails.items;
+          calls = 0;
+          faults = 0;
+          late = 0;
         }) }
     {
         Ok(MemSink {

@@ -20,10 +20,15 @@ impl<T: Read> Model for StdSource<T> {
 
     ghost Value = { Adapted };
 
-    ghost view = { λ s. record { known = T.remaining s.reader; faults = s.counts.faults; late = s.counts.late } };
+    ghost view = { λ s. record {
+      known = T.remaining s.reader;
+      faults = s.counts.faults;
+      late = s.counts.late;
+    } };
 }
 
 impl<T: Read> StdSource<T> {
+    /// A source that was not called yet.
     pub fn new(reader: T) -> Self
         ensures { result ≡ record { known = T.remaining reader; faults = 0; late = 0 } }
     {
@@ -75,10 +80,15 @@ impl<T: Write> Model for StdSink<T> {
 
     ghost Value = { Adapted };
 
-    ghost view = { λ s. record { known = T.contents s.writer; faults = s.counts.faults; late = s.counts.late } };
+    ghost view = { λ s. record {
+      known = T.contents s.writer;
+      faults = s.counts.faults;
+      late = s.counts.late;
+    } };
 }
 
 impl<T: Write> StdSink<T> {
+    /// A sink that was not called yet.
     pub fn new(writer: T) -> Self
         ensures { result ≡ record { known = T.contents writer; faults = 0; late = 0 } }
     {

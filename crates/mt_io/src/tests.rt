@@ -103,8 +103,16 @@ fn a_sink_in_memory_takes_pieces(rt: HostRuntime) -> Result<(), Fail> {
     for (room, piece, fails, calls, want, written) in rows {
         let mut sink = MemSink::new(rt.alloc(), room, piece, fails.to_vec(rt.alloc())?)?;
         let seen = writes(rt.alloc(), &mut sink, LETTERS, calls)?;
-        assert_eq!(rt; seen.as_str(), want, "{piece} bytes a call, room for {room}");
-        assert_eq!(rt; sink.bytes(), written, "{piece} bytes a call, room for {room}");
+        assert_eq!(rt;
+            seen.as_str(),
+            want,
+            "{piece} bytes a call, room for {room}"
+        );
+        assert_eq!(rt;
+            sink.bytes(),
+            written,
+            "{piece} bytes a call, room for {room}"
+        );
     }
     Ok(())
 }
@@ -129,12 +137,18 @@ impl Read for FailsSecond {
 #[test]
 fn a_standard_source_reads_its_reader(rt: HostRuntime) -> Result<(), Fail> {
     let mut whole = StdSource::new(LETTERS);
-    assert_eq!(rt; reads(rt.alloc(), &mut whole, 7, 3)?.as_str(), " abcdefg hij .");
+    assert_eq!(rt;
+        reads(rt.alloc(), &mut whole, 7, 3)?.as_str(),
+        " abcdefg hij ."
+    );
     let mut broken = StdSource::new(FailsSecond {
         rest: LETTERS,
         calls: 0,
     });
-    assert_eq!(rt; reads(rt.alloc(), &mut broken, 7, 4)?.as_str(), " abcdefg ! hij .");
+    assert_eq!(rt;
+        reads(rt.alloc(), &mut broken, 7, 4)?.as_str(),
+        " abcdefg ! hij ."
+    );
     Ok(())
 }
 
@@ -142,12 +156,18 @@ fn a_standard_source_reads_its_reader(rt: HostRuntime) -> Result<(), Fail> {
 fn a_standard_sink_writes_to_its_writer(rt: HostRuntime) -> Result<(), Fail> {
     let mut bytes = Vec::new(rt.alloc());
     let mut whole = StdSink::new(&mut bytes);
-    assert_eq!(rt; writes(rt.alloc(), &mut whole, LETTERS, 2)?.as_str(), " abcdefghij .");
+    assert_eq!(rt;
+        writes(rt.alloc(), &mut whole, LETTERS, 2)?.as_str(),
+        " abcdefghij ."
+    );
     assert_eq!(rt; bytes.as_slice(), LETTERS);
 
     let mut room = [b'?'; 7];
     let mut narrow = StdSink::new(room.as_mut_slice());
-    assert_eq!(rt; writes(rt.alloc(), &mut narrow, LETTERS, 3)?.as_str(), " abcdefg ! !");
+    assert_eq!(rt;
+        writes(rt.alloc(), &mut narrow, LETTERS, 3)?.as_str(),
+        " abcdefg ! !"
+    );
     assert_eq!(rt; room.as_slice(), &LETTERS[..7]);
     Ok(())
 }
