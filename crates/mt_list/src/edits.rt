@@ -1,4 +1,4 @@
-ghost use Rattle.std.specs.Prelude.{◌≡◌, ◌≤◌, ◌++◌, take, drop, vec_len, IfOk, OnOk, OnErr, option_to_list};
+ghost use Rattle.std.specs.Prelude.{◌≡◌, ◌<◌, ◌≤◌, ◌+◌, [], ◌∷◌, ◌++◌, take, drop, vec_len, IfOk, OnOk, OnErr, option_to_list};
 ghost use Rattle.mt_base.specs.Map.{IsMap, over, part_stored};
 ghost use Rattle.mt_list.specs.Places.{piece_below, piece_above};
 
@@ -87,8 +87,15 @@ fn replace(
     Ok(())
 }
 
+fn write_slot(ranges: &mut Vec<Range>, slot: usize, range: Range)
+    requires { slot < vec_len ranges.old }
+    ensures { ranges.new.items ≡ take slot ranges.old.items ++ ((range ∷ []) ++ drop (slot + 1) ranges.old.items) }
+{
+    ranges[slot] = range;
+}
+
 /// Stores `entry` over `first` to `last`. An `Err` changes nothing.
-#[tactic(auto, using(crate::proofs::StoreAtPlaces::store_at_places, crate::proofs::StoreAtPlaces::places_rise))]
+#[tactic(auto, using(crate::proofs::StoreAtPlaces::stores))]
 pub fn store(ranges: &mut Vec<Range>, first: u64, last: u64, entry: u64) -> Result<(), AllocError>
     requires order { first ≤ last }
     requires map { IsMap ranges.old.items }
@@ -100,6 +107,12 @@ pub fn store(ranges: &mut Vec<Range>, first: u64, last: u64, entry: u64) -> Resu
     let below = piece_below(range_at(ranges, start), first);
     let stored = piece_stored(first, last, entry);
     let above = piece_above(last_of(&ranges[..end]), last);
+    if let (None, Some(range), None) = (below, stored, above) {
+        if end - start == 1 {
+            write_slot(ranges, start, range);
+            return Ok(());
+        }
+    }
     let pieces = pieces(*ranges.allocator(), below, stored, above)?;
     replace(ranges, start, end, pieces)
 }

@@ -4,7 +4,11 @@
 mod edits;
 mod list_map;
 mod places;
+#[cfg(test)]
+mod plain;
 mod ranges;
+#[cfg(test)]
+mod tests;
 
 pub use list_map::ListMap;
 pub use ranges::Ranges;
