@@ -24,8 +24,8 @@ pub replay_ends : (wrote : Result (Unit {0}) Failed) (result : Result (Unit {0})
     → Ends true result old new
 replay_ends wrote result old new log text sent is read tells same all fault part = let P : List ℕ → Type 0 = λ t. TellsRun log t in ends wrote result is (subst P same tells) all fault part
   where
-  ends : (wrote : Result (Unit {0}) Failed) (result : Result (Unit {0}) Failure) → MatchResult wrote (λ x. result ≡ Ok x) (λ _. IsErrAnd result (λ f. f ≡ failures.WriteFault)) → TellsRun log sent
-      → OnOk wrote (Appends old.written new.written sent) → OnErr wrote (Rose old.sink_faults new.sink_faults) → Tells old.written new.written old.sink_faults new.sink_faults sent → Ends true result old new
-  ends (Ok done) result is told all fault part = let P : Result (Unit {0}) Failure → Type 0 = λ r. Ends true r old new in subst P (sym is) (finishes old new log sent read told all)
-  ends (Err e) (Ok done) is told all fault part = absurd is
-  ends (Err e) (Err failure) is told all fault part = let P : Failure → Type 0 = λ f. Ends true (Err f) old new in subst P (sym is) (fails_to_write old new log sent read told part fault)
+    ends : (wrote : Result (Unit {0}) Failed) (result : Result (Unit {0}) Failure) → MatchResult wrote (λ x. result ≡ Ok x) (λ _. IsErrAnd result (λ f. f ≡ failures.WriteFault)) → TellsRun log sent
+        → OnOk wrote (Appends old.written new.written sent) → OnErr wrote (Rose old.sink_faults new.sink_faults) → Tells old.written new.written old.sink_faults new.sink_faults sent → Ends true result old new
+    ends (Ok done) result is told all fault part = let P : Result (Unit {0}) Failure → Type 0 = λ r. Ends true r old new in subst P (sym is) (finishes old new log sent read told all)
+    ends (Err e) (Ok done) is told all fault part = absurd is
+    ends (Err e) (Err failure) is told all fault part = let P : Failure → Type 0 = λ f. Ends true (Err f) old new in subst P (sym is) (fails_to_write old new log sent read told part fault)
