@@ -2,7 +2,9 @@
 #![tactic(auto)]
 
 mod items;
+mod layout;
 mod names;
 
-pub use items::Item;
-pub use names::{Name, RowKind};
+pub use items::{Item, Run, gap_of};
+pub use layout::Layout;
+pub use names::{Name, RowKind, is_dead_mark, kind_of, name_of, parent_word, row_of};

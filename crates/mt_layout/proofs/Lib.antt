@@ -1,0 +1,4 @@
+pub mod ReadBack
+pub mod Reading
+pub mod RowWords
+pub mod Writing
