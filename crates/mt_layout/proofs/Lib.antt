@@ -1,3 +1,5 @@
+pub mod NameLaws
+pub mod OwnColumns
 pub mod ReadBack
 pub mod Reading
 pub mod RowWords

@@ -4,6 +4,20 @@ ghost use Rattle.mt_layout.specs.Rows.{IsRowNumber, Names, name_at, row_in, name
 
 use std::marker::Model;
 
+/// A row's address is its number times this: as many bytes as a row has.
+const ROW_SIZE: u64 = 256;
+
+const FIRST_ROW: u64 = 16;
+
+const LAST_ROW: u64 = 65_519;
+
+/// The low bytes of names, which tell the kind of the row.
+const LEAF: u64 = 12;
+
+const INNER: u64 = 20;
+
+const GAPPED: u64 = 28;
+
 /// What a row is: a leaf, an inner row of a range tree, or an inner row of an allocation tree, which has gaps.
 #[derive(Clone, Copy, Debug, PartialEq, Eq)]
 pub enum RowKind {
@@ -44,12 +58,12 @@ pub fn name_of(row: u32, kind: RowKind) -> Name
     requires { IsRowNumber row }
     ensures { result ≡ name_at row kind }
 {
-    let low = match kind {
-        RowKind::Leaf => 12,
-        RowKind::Inner => 20,
-        RowKind::Gapped => 28,
+    let low_byte = match kind {
+        RowKind::Leaf => LEAF,
+        RowKind::Inner => INNER,
+        RowKind::Gapped => GAPPED,
     };
-    Name(u64::from(row) * 256 + low)
+    Name(u64::from(row) * ROW_SIZE + low_byte)
 }
 
 /// The number of the row that this word names, or none where the word is no name.
@@ -59,7 +73,7 @@ pub fn row_of(word: u64) -> Option<u32>
     ensures no_name { IfNone result ((row : ℕ) (kind : RowKind) → Names word row kind → ⊥) }
 {
     kind_of(word)?;
-    Some((word / 256) as u32)
+    Some((word / ROW_SIZE) as u32)
 }
 
 /// The kind of the row that this word names, or none where the word is no name.
@@ -68,14 +82,14 @@ pub fn kind_of(word: u64) -> Option<RowKind>
     ensures name { IfSome result (λ kind. Names word (row_in word) kind) }
     ensures no_name { IfNone result ((row : ℕ) (kind : RowKind) → Names word row kind → ⊥) }
 {
-    let row = word / 256;
-    if row < 16 || row > 65_519 {
+    let row = word / ROW_SIZE;
+    if row < FIRST_ROW || LAST_ROW < row {
         return None;
     }
-    match word % 256 {
-        12 => Some(RowKind::Leaf),
-        20 => Some(RowKind::Inner),
-        28 => Some(RowKind::Gapped),
+    match word % ROW_SIZE {
+        LEAF => Some(RowKind::Leaf),
+        INNER => Some(RowKind::Inner),
+        GAPPED => Some(RowKind::Gapped),
         _ => None,
     }
 }
@@ -84,12 +98,12 @@ pub fn kind_of(word: u64) -> Option<RowKind>
 pub fn parent_word(row: u32, slot: u32) -> u64
     ensures { result ≡ parent_at row slot }
 {
-    u64::from(row) * 256 + u64::from(slot)
+    u64::from(row) * ROW_SIZE + u64::from(slot)
 }
 
 /// Whether this parent word marks the row with this number as dead.
 pub fn is_dead_mark(row: u32, word: u64) -> bool
     ensures { IsTrue result ↔ (word ≡ dead_mark row) }
 {
-    word == u64::from(row) * 256
+    word == u64::from(row) * ROW_SIZE
 }
