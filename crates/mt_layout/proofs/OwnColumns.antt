@@ -21,9 +21,9 @@ module _ (slots gaps base base' : ℕ) (w w' : List ℕ) (layout : IsLayout slot
       ⊎_elim
       (λ (none : gaps ≡ 0). gap_at-none slots gaps w base i none ∙ sym (gap_at-none slots gaps w' base' i none))
       (λ (some : gaps ≡ 0 → ⊥).
-        gap_at-some slots gaps w base i some
-        ∙ (same (gap_column slots i) (omega arith) (⊎_elim (λ l. absurd (some l.1)) (λ l. omega (arith, l.0, l.1)) layout)
-        ∙ sym (gap_at-some slots gaps w' base' i some)))
+      gap_at-some slots gaps w base i some
+      ∙ (same (gap_column slots i) (omega arith) (⊎_elim (λ l. absurd (some l.1)) (λ l. omega (arith, l.0, l.1)) layout)
+      ∙ sym (gap_at-some slots gaps w' base' i some)))
       (cases_eq gaps 0)
 
   same_item : (i last : ℕ) → i < slots → item_at slots gaps w base i last ≡ item_at slots gaps w' base' i last

@@ -43,25 +43,26 @@ module _ (slots gaps : ℕ) (w : List ℕ) (base : ℕ) (items : List Item) (fit
 
   is_item : (i : ℕ) → i < length items → IsItem slots gaps w base max i (item_or items i)
   is_item i h =
-      let x = item_or items i in
-      ( rw (holds.words i (omega arith), holds.holes i (omega arith)) refl,
+      let x = item_or items i in (
+        rw (holds.words i (omega arith), holds.holes i (omega arith)) refl,
         ⊎_elim
-        (λ (inner : i + 1 < slots). let test : nat_lt (i + 1) slots ≡ true = lt-ltb (i + 1) slots inner in rw test (sym (holds.pivots i inner)))
-        (λ (last : slots ≤ i + 1). let test : nat_lt (i + 1) slots ≡ false = le-ltb (i + 1) slots last in rw test (sym (end_of-last items 0 i (omega arith))))
-        (cases_lt (i + 1) slots))
+            (λ (inner : i + 1 < slots). let test : nat_lt (i + 1) slots ≡ true = lt-ltb (i + 1) slots inner in rw test (sym (holds.pivots i inner)))
+            (λ (last : slots ≤ i + 1). let test : nat_lt (i + 1) slots ≡ false = le-ltb (i + 1) slots last in rw test (sym (end_of-last items 0 i (omega arith))))
+            (cases_lt (i + 1) slots),
+      )
 
   reads_back_from : (left i : ℕ) → left + i ≡ slots → i < length items → items_from slots gaps w base max left i ≡ drop i items
   reads_back_from zero i s h = absurd (omega arith)
   reads_back_from (suc left) i s h =
       ⊎_elim
       (λ (more : i + 1 < length items).
-        goes_on slots gaps w base max left i (item_or items i) s (is_item i h) (last_lt-end_of items 0 0 i rise more)
-        ∙ (ap (λ (rest : List Item). item_or items i ∷ rest) (reads_back_from left (i + 1) (omega arith) more)
-        ∙ sym (drop_more items i _ h)))
+      goes_on slots gaps w base max left i (item_or items i) s (is_item i h) (last_lt-end_of items 0 0 i rise more)
+      ∙ (ap (λ (rest : List Item). item_or items i ∷ rest) (reads_back_from left (i + 1) (omega arith) more)
+      ∙ sym (drop_more items i _ h)))
       (λ (last : length items ≤ i + 1).
-        ends slots gaps w base max (suc left) i (item_or items i) s (omega arith) (is_item i h) (omega (arith, end_of-last items 0 i (omega arith)))
-        ∙ (ap (λ (rest : List Item). item_or items i ∷ rest) (sym (drop_all (i + 1) items last))
-        ∙ sym (drop_more items i _ h)))
+      ends slots gaps w base max (suc left) i (item_or items i) s (omega arith) (is_item i h) (omega (arith, end_of-last items 0 i (omega arith)))
+      ∙ (ap (λ (rest : List Item). item_or items i ∷ rest) (sym (drop_all (i + 1) items last))
+      ∙ sym (drop_more items i _ h)))
       (cases_lt (i + 1) (length items))
 
   pub reads_back : 0 < length items → items_at slots gaps w base max ≡ items
@@ -80,10 +81,10 @@ row_words-hold all slots gaps parent items layout fits =
       pivots = λ k h. column (pivot_column k) ∙ used-pivot slots gaps parent items layout fits.fit k h;
       words = λ k h. column (slot_column slots k) ∙ used-slot slots gaps parent items layout fits.fit k h;
       holes = λ k h. ⊎_elim
-        (λ (none : gaps ≡ 0). gap_at-none slots gaps (row_words all slots gaps parent items) 0 k none ∙ sym (no_gap slots gaps items fits none k))
-        (λ (some : gaps ≡ 0 → ⊥).
+          (λ (none : gaps ≡ 0). gap_at-none slots gaps (row_words all slots gaps parent items) 0 k none ∙ sym (no_gap slots gaps items fits none k))
+          (λ (some : gaps ≡ 0 → ⊥).
           gap_at-some slots gaps (row_words all slots gaps parent items) 0 k some
           ∙ (column (gap_column slots k)
           ∙ used-gap slots gaps parent items layout fits.fit k (⊎_elim (λ l. absurd (some l.1)) (λ l. omega (arith, l.0, l.1)) layout)))
-        (cases_eq gaps 0);
+          (cases_eq gaps 0);
     }

@@ -110,13 +110,13 @@ module _ (slots gaps parent : ℕ) (items : List Item) (layout : IsLayout slots 
       → w ≡ used
   is_used w long first pivots slot_is gap_is =
       let column : (c : ℕ) → c < 2 * slots + gaps → get_or w c 0 ≡ get_or used c 0 = λ c within.
-          ⊎_elim (λ (low : c < slots).
-            ⊎_elim (λ (at : c ≡ 0). rw at first)
-            (λ (inner : c ≡ 0 → ⊥). let e : pivot_column (c - 1) ≡ c = omega arith in rw e at (pivots (c - 1) (omega arith) ∙ sym (used-pivot (c - 1) (omega arith))))
-            (cases_eq c 0))
-          (λ (high : slots ≤ c).
-            ⊎_elim (λ (low : c < 2 * slots). let e : slot_column slots (c - slots) ≡ c = omega arith in rw e at (slot_is (c - slots) (omega arith) ∙ sym (used-slot (c - slots) (omega arith))))
-            (λ (end : 2 * slots ≤ c). let e : gap_column slots (c - 2 * slots) ≡ c = omega arith in rw e at (gap_is (c - 2 * slots) (omega arith) ∙ sym (used-gap (c - 2 * slots) (omega arith))))
-            (cases_lt c (2 * slots)))
-          (cases_lt c slots) in
+      ⊎_elim (λ (low : c < slots).
+      ⊎_elim (λ (at : c ≡ 0). rw at first)
+      (λ (inner : c ≡ 0 → ⊥). let e : pivot_column (c - 1) ≡ c = omega arith in rw e at (pivots (c - 1) (omega arith) ∙ sym (used-pivot (c - 1) (omega arith))))
+      (cases_eq c 0))
+      (λ (high : slots ≤ c).
+      ⊎_elim (λ (low : c < 2 * slots). let e : slot_column slots (c - slots) ≡ c = omega arith in rw e at (slot_is (c - slots) (omega arith) ∙ sym (used-slot (c - slots) (omega arith))))
+      (λ (end : 2 * slots ≤ c). let e : gap_column slots (c - 2 * slots) ≡ c = omega arith in rw e at (gap_is (c - 2 * slots) (omega arith) ∙ sym (used-gap (c - 2 * slots) (omega arith))))
+      (cases_lt c (2 * slots)))
+      (cases_lt c slots) in
       ext_get_or 0 w used (long ∙ sym length-used) (λ c h. column c (omega arith))

@@ -45,9 +45,17 @@ impl<const SLOTS: usize, const GAPS: usize> Layout<SLOTS, GAPS> {
         ensures last { result.last ≡ (if nat_lt (i + 1) SLOTS then slice_index words.now (pivot_column i) else max) }
     {
         Item {
-            last: if i + 1 < SLOTS { words[column!(pivot of i)] } else { max },
+            last: if i + 1 < SLOTS {
+                words[column!(pivot of i)]
+            } else {
+                max
+            },
             word: words[column!(slot of i)],
-            gap: if GAPS == 0 { 0 } else { words[column!(gap of i)] },
+            gap: if GAPS == 0 {
+                0
+            } else {
+                words[column!(gap of i)]
+            },
         }
     }
 

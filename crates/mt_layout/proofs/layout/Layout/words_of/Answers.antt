@@ -14,5 +14,5 @@ returns g c =
     record {
       words = words;
       read_back = rw words (reads_back g.row.SLOTS g.row.GAPS _ 0 c.args.items.now c.requires.fit.fit c.requires.fit.rise
-        (row_words-hold (columns Long) g.row.SLOTS g.row.GAPS c.args.parent c.args.items.now c.requires.layout c.requires.fit) c.requires.fit.some);
+          (row_words-hold (columns Long) g.row.SLOTS g.row.GAPS c.args.parent c.args.items.now c.requires.layout c.requires.fit) c.requires.fit.some);
     }
