@@ -1,8 +1,7 @@
 -- Names are read back as what they were made of, and nothing else is read as a name.
-use Rattle.std.proofs.Common.{◌≡◌, ℕ, ◌+◌, ◌*◌, Some, None, rules, arith}
+use Rattle.std.proofs.Common.{◌≡◌, ℕ, Some, None, arith}
 use Rattle.std.proofs.lemmas.Grind.{common_steps}
 use Rattle.mt_layout.specs.declared.names.RowKind.{RowKind}
-use Rattle.mt_layout.specs.declared.names.RowKind.TheVariants as kinds
 use Rattle.mt_layout.specs.Rows.{IsRowNumber, Names, name_at, row_in, named_row, named_kind}
 
 pub named_kind-name_at : (row : ℕ) (kind : RowKind) → IsRowNumber row → named_kind (name_at row kind) ≡ Some kind

@@ -1,13 +1,16 @@
 -- What the words of a row are, column by column.
-use Rattle.std.proofs.Common.{◌≡◌, ◌⊎◌, ℕ, zero, suc, ◌+◌, ◌-◌, ◌*◌, ◌<◌, ◌≤◌, ◌==◌, min, List, [], ◌∷◌, ◌++◌, map, take, drop, length, replicate, get_or, refl, sym, ap, ◌∙◌, subst, inl, inr, ⊎_elim, arith, length-append, length-take, false, ne_eqb}
+use Rattle.std.proofs.Common.{◌≡◌, ℕ, zero, suc, ◌+◌, ◌-◌, ◌*◌, ◌<◌, ◌≤◌, ◌==◌, List, [], ◌∷◌, ◌++◌, map, take, length, replicate, get_or, refl, sym, ap, ◌∙◌, ⊎_elim, arith, length-append, length-take, false, ne_eqb}
 use Rattle.std.proofs.lemmas.Bool.{cases_lt, cases_eq}
 use Rattle.std.proofs.lemmas.List.{get_or_append_left, get_or-append_right, get_or-take, ext_get_or, length-map, length-replicate}
 use Rattle.mt_layout.specs.declared.items.Item.{Item}
-use Rattle.mt_layout.specs.Columns.{IsLayout, pivot_column, slot_column, gap_column, padded_to, pivot_words, slot_words, gap_words, row_words}
+use Rattle.mt_layout.specs.Columns.{IsLayout, pivot_column, slot_column, gap_column, padded_to, pivot_words, slot_words, gap_words}
 
 -- item k, and one of zeros where there is none
 abbrev pub item_or : List Item → ℕ → Item
 item_or items k = get_or items k (record { last = 0; word = 0; gap = 0 })
+
+pub some_slots : (slots gaps : ℕ) → IsLayout slots gaps → 0 < slots
+some_slots slots gaps layout = ⊎_elim (λ h. omega (arith, h.0)) (λ h. omega (arith, h.0)) layout
 
 -- ---- zeros behind a list
 
@@ -66,11 +69,8 @@ module _ (slots gaps parent : ℕ) (items : List Item) (layout : IsLayout slots 
   abbrev pub used : List ℕ
   used = front ++ slot_words slots items ++ gap_words gaps items
 
-  some_slots : 0 < slots
-  some_slots = ⊎_elim (λ h. omega (arith, h.0)) (λ h. omega (arith, h.0)) layout
-
   length-front : length front ≡ slots
-  length-front = omega (arith, length-pivots slots items, some_slots)
+  length-front = omega (arith, length-pivots slots items, some_slots slots gaps layout)
 
   length-middle : length (front ++ slot_words slots items) ≡ 2 * slots
   length-middle = omega (arith, length-append front (slot_words slots items), length-front, length-slots slots items fit)

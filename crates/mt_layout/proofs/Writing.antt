@@ -1,9 +1,9 @@
 -- How the columns of a row are written, item after item.
-use Rattle.std.proofs.Common.{◌≡◌, ℕ, ◌+◌, ◌-◌, ◌*◌, ◌<◌, ◌≤◌, List, [], ◌++◌, length, take, drop, replicate, get_or, refl, sym, ap, ◌∙◌, ⊎_elim, arith, length-drop, length-take-le, append-nil}
+use Rattle.std.proofs.Common.{◌≡◌, ℕ, ◌+◌, ◌-◌, ◌*◌, ◌<◌, ◌≤◌, List, [], length, take, drop, replicate, get_or, refl, ap, ◌∙◌, ⊎_elim, arith, length-drop, length-take-le, append-nil}
 use Rattle.std.proofs.lemmas.List.{get_or-take, drop_all}
 use Rattle.mt_layout.specs.declared.items.Item.{Item}
 use Rattle.mt_layout.specs.Columns.{IsLayout, pivot_column, slot_column, gap_column, row_words}
-use Rattle.mt_layout.proofs.RowWords.{item_or, used, length-used, is_used}
+use Rattle.mt_layout.proofs.RowWords.{item_or, some_slots, used, length-used, is_used}
 use borrow.Rule.Slice.PartMut.{put_mid}
 
 -- the parent word and the first n items are written
@@ -17,9 +17,6 @@ module _ (slots gaps parent : ℕ) (items : List Item) (layout : IsLayout slots 
   abbrev unused : ℕ
   unused = 2 * slots + gaps
 
-  some_slots : 0 < slots
-  some_slots = ⊎_elim (λ h. omega (arith, h.0)) (λ h. omega (arith, h.0)) layout
-
   few_gaps : gaps ≤ slots
   few_gaps = ⊎_elim (λ h. omega (arith, h.0, h.1)) (λ h. omega (arith, h.0, h.1)) layout
 
@@ -28,7 +25,7 @@ module _ (slots gaps parent : ℕ) (items : List Item) (layout : IsLayout slots 
   used_by_now w n long last was =
       let column = λ (c : ℕ) (h : c < unused). get_or-take unused w c 0 h in
       is_used slots gaps parent items layout fit (take unused w) (length-take-le unused w long)
-      (column 0 (omega (arith, some_slots)) ∙ was.first)
+      (column 0 (omega (arith, some_slots slots gaps layout)) ∙ was.first)
       (λ k h. column (pivot_column k) (omega arith) ∙ was.pivots k (omega arith) h)
       (λ k h. column (slot_column slots k) (omega arith) ∙ was.words k (omega arith))
       (λ k h. column (gap_column slots k) (omega arith) ∙ was.holes k (omega (arith, few_gaps)) (omega arith))

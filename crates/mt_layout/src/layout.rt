@@ -15,11 +15,13 @@ macro_rules! column {
     (unused) => { 2 * SLOTS + GAPS };
 }
 
-/// The columns of a row with so many slots, and with a gap for each slot or none.
+/// The columns of a row with so many slots, and with a gap for each slot or none: `Layout<16, 0>` is that of leaves and
+/// of inner rows of range trees, `Layout<10, 10>` that of inner rows of allocation trees.
 pub struct Layout<const SLOTS: usize, const GAPS: usize>;
 
 impl<const SLOTS: usize, const GAPS: usize> Layout<SLOTS, GAPS> {
-    /// The items of the row with these words, which ends at `max`.
+    /// The items of the row with these words, whose greatest index is `max`. No column is read twice, nor any behind the
+    /// last item's.
     pub fn items_of(words: &[u64], max: u64) -> ArrayVec<Item, SLOTS>
         requires layout { IsLayout SLOTS GAPS }
         requires words { length words.now ≡ columns Long }
@@ -36,7 +38,7 @@ impl<const SLOTS: usize, const GAPS: usize> Layout<SLOTS, GAPS> {
         items
     }
 
-    /// The item in slot `i` of the row with these words, which ends at `max`.
+    /// The item in slot `i` of the row with these words, whose greatest index is `max`.
     fn item_in(words: &[u64], i: usize, max: u64) -> Item
         requires layout { IsLayout SLOTS GAPS }
         requires words { length words.now ≡ columns Long }
@@ -59,7 +61,7 @@ impl<const SLOTS: usize, const GAPS: usize> Layout<SLOTS, GAPS> {
         }
     }
 
-    /// Writes the words of a row with these items, whose parent word is `parent`. What is unused is 0.
+    /// Writes the words of a row with these items and this parent word, each once. What is unused is 0.
     pub fn words_of(items: &[Item], parent: u64, words: &mut [u64])
         requires layout { IsLayout SLOTS GAPS }
         requires fit { FitRow SLOTS GAPS items.now }

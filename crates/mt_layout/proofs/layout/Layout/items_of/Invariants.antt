@@ -1,4 +1,4 @@
-use Rattle.std.proofs.Common.{◌≡◌, ◌-◌, ◌≤◌, ◌++◌, length}
+use Rattle.std.proofs.Common.{◌≡◌, ◌-◌, ◌++◌, length}
 use Rattle.mt_layout.specs.Columns.{items_from, items_at}
 use Rattle.mt_layout.proofs.layout.Layout.items_of.Given as goal
 
