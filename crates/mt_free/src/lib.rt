@@ -2,5 +2,7 @@
 #![tactic(auto)]
 
 mod book;
+mod held;
+pub mod laws;
 
-// pub use book::RowBook;
+pub use book::RowBook;
