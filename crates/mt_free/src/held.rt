@@ -31,15 +31,14 @@ pub fn push_held(held: &mut HeapCircularBuffer<HeldRow>, row: u32, stamp: u64)
 }
 
 /// Takes out the first held row, if it was replaced by the call `least` at the latest.
-pub fn pop_due(held: &mut HeapCircularBuffer<HeldRow>, least: u64) -> Option<u32>
-    ensures due { IfSome result (λ row. IfSome (slice_get held.old.items 0) (λ h. (h.row ≡ row) × (h.stamp ≤ least) × (held.old.items ≡ h ∷ held.new.items))) }
-    ensures none_due { IfNone result ((held.new.items ≡ held.old.items) × IfSome (slice_get held.old.items 0) (λ h. least < h.stamp)) }
+pub fn pop_due(held: &mut HeapCircularBuffer<HeldRow>, least: u64) -> Option<HeldRow>
+    ensures due { IfSome result (λ h. (held.old.items ≡ h ∷ held.new.items) × (h.stamp ≤ least)) }
+    ensures none_due { IfNone result (held.new.items ≡ held.old.items) }
+    ensures later { IfNone result (IfSome (slice_get held.old.items 0) (λ h. least < h.stamp)) }
     ensures capacity { held.new.capacity ≡ held.old.capacity }
 {
-    let first = held.front()?;
-    if first.stamp > least {
+    if held.front()?.stamp > least {
         return None;
     }
-    let first = held.pop_front()?;
-    Some(first.row)
+    held.pop_front()
 }
