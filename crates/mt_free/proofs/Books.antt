@@ -1,6 +1,6 @@
 -- Each change of a book leaves a book.
-use Rattle.std.proofs.Common.{◌≡◌, ◌≢◌, ℕ, ◌+◌, ◌<◌, ◌≤◌, suc, zero, List, [], ◌∷◌, ◌++◌, length, map, get_or, arith, refl, ap, sym, ◌∙◌, append_assoc, append-nil, add-one, length-append}
-use Rattle.std.specs.List.{All, AllPairs, Contains, slice_get}
+use Rattle.std.proofs.Common.{◌≡◌, ◌≢◌, ℕ, ◌+◌, ◌<◌, ◌≤◌, suc, zero, List, [], ◌∷◌, ◌++◌, length, map, get_or, arith, refl, ap, append_assoc, append-nil, add-one, length-append}
+use Rattle.std.specs.List.{All, AllPairs, slice_get}
 use Rattle.std.specs.Option.{IfSome}
 use Rattle.std.proofs.lemmas.Bool.{le-leb, lt-leb, le-ltb, lt-ltb}
 use Rattle.std.proofs.lemmas.List.{get_or_append_left, length-map, map_push}

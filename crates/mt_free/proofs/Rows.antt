@@ -1,6 +1,6 @@
 -- Lists of rows in which no row stands twice.
-use Rattle.std.proofs.Common.{◌≡◌, ◌≢◌, ℕ, ◌+◌, ◌-◌, ◌<◌, ◌≤◌, suc, zero, List, [], ◌∷◌, ◌++◌, length, map, take, drop, get_or, arith, sym, ◌∙◌, append_assoc, length-append, refl, eqb, inl, inr}
-use Rattle.std.specs.List.{All, AllPairs, Contains, list_any}
+use Rattle.std.proofs.Common.{◌≡◌, ◌≢◌, ℕ, ◌+◌, ◌-◌, ◌<◌, ◌≤◌, suc, List, [], ◌∷◌, ◌++◌, length, map, take, drop, get_or, arith, sym, ◌∙◌, append_assoc, length-append, refl, inl, inr}
+use Rattle.std.specs.List.{All, AllPairs, Contains}
 use Rattle.std.proofs.lemmas.Bool.{eqb-true}
 use Rattle.std.proofs.lemmas.Bool.Decides.{Decides-eqb}
 use Rattle.std.proofs.lemmas.List.{get_or_append_left, get_or-append-add, get_or_at, get_or-map, get_or_default, take_at, drop_at, length-map}
@@ -45,11 +45,11 @@ pub apart_are_few : (low count : ℕ) (xs : List ℕ) → All (λ r. (low ≤ r)
 apart_are_few low count xs within apart =
     let above : ℕ → ℕ = λ r. r - low in
     let apart' : AreApart (map above xs) = λ i j d lt inside is.
-      (let inside_j : j < length xs = omega (arith, length-map xs above) in
-      let at_i : (low ≤ get_or xs i d) × (get_or xs i d < low + count) = within i d (omega arith) in
-      let at_j : (low ≤ get_or xs j d) × (get_or xs j d < low + count) = within j d inside_j in
-      let same : get_or xs i d - low ≡ get_or xs j d - low = sym (get_or-map above xs i d d (omega arith)) ∙ (is ∙ get_or-map above xs j d d inside_j) in
-      apart i j d lt inside_j (omega (arith, at_i.0, at_j.0, same))) in
+    (let inside_j : j < length xs = omega (arith, length-map xs above) in
+    let at_i : (low ≤ get_or xs i d) × (get_or xs i d < low + count) = within i d (omega arith) in
+    let at_j : (low ≤ get_or xs j d) × (get_or xs j d < low + count) = within j d inside_j in
+    let same : get_or xs i d - low ≡ get_or xs j d - low = sym (get_or-map above xs i d d (omega arith)) ∙ (is ∙ get_or-map above xs j d d inside_j) in
+    apart i j d lt inside_j (omega (arith, at_i.0, at_j.0, same))) in
     let below : All (λ r. r < count) (map above xs) = All-map (λ r. r < count) above xs (λ k d inside. omega (arith, within k d inside)) in
     let few : length (map above xs) ≤ count = length-le_from_distinct_below (map above xs) count (IsDistinct-from_AllPairs Decides-eqb (map above xs) apart') (λ q found. All-contains (λ r. r < count) (map above xs) q below (Contains-from_any eqb-true q (map above xs) found)) in
     omega (arith, few, length-map xs above)

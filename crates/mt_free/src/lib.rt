@@ -4,5 +4,7 @@
 mod book;
 mod held;
 pub mod laws;
+#[cfg(test)]
+mod tests;
 
 pub use book::RowBook;

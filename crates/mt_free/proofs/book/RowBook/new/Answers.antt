@@ -1,4 +1,3 @@
-use Rattle.std.proofs.Common.{arith}
 use Rattle.mt_free.proofs.Books.{new_is_book}
 use Rattle.mt_free.proofs.book.RowBook.new.Goals as goal
 
