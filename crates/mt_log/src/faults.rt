@@ -1,10 +1,30 @@
 use std::alloc::{AllocError, AllocFailed};
 use std::fmt;
 
-/// Why a line is refused.
+/// Why a line is refused: the first of its tests that failed, in this order.
 #[derive(Clone, Copy, Debug, PartialEq, Eq)]
 pub enum Why {
-    /// The line, or the log as a whole, is not of the language that is built so far.
+    /// The last line is not ended.
+    NoNewline,
+    /// The first line is not `mtlog 1`.
+    Header,
+    /// The first field is no word of the language.
+    Unknown,
+    /// The line's word takes another number of fields.
+    Fields,
+    /// A tree's field is no name.
+    Name,
+    /// No tree of this name is declared.
+    NoTree,
+    /// A tree of this name is declared already.
+    Twice,
+    /// The kind is no kind of tree.
+    BadKind,
+    /// A field is no number.
+    Number,
+    /// The line stands behind a step of its phase, and has to stand before it.
+    Order,
+    /// The line is of the language, and of what is not built yet.
     NotYet,
 }
 
@@ -16,6 +36,16 @@ impl fmt::Display for Why {
 
     fn fmt<W: fmt::Write>(&self, f: &mut fmt::Formatter<W>) -> fmt::Result {
         match self {
+            Why::NoNewline => write!(f, "no newline"),
+            Why::Header => write!(f, "no header"),
+            Why::Unknown => write!(f, "unknown word"),
+            Why::Fields => write!(f, "wrong number of fields"),
+            Why::Name => write!(f, "bad name"),
+            Why::NoTree => write!(f, "unknown tree"),
+            Why::Twice => write!(f, "tree declared twice"),
+            Why::BadKind => write!(f, "bad kind"),
+            Why::Number => write!(f, "bad number"),
+            Why::Order => write!(f, "not between phases"),
             Why::NotYet => write!(f, "not yet"),
         }
     }

@@ -2,6 +2,7 @@
 #![tactic(auto)]
 
 mod faults;
+mod keywords;
 mod lines;
 mod names;
 mod reading;
