@@ -24,21 +24,22 @@ use Rattle.mt_log.specs.Run.{Step, Outcome, Called, Looked, Follows, InOrder, Is
 use Rattle.mtreplay.specs.Playing.{Played, nothing_played, history_of, step_done, called, looked, after_item, played, listings_of, transcript_of}
 
 -- no number that a step tells is above n
-abbrev Within : ℕ → Outcome → Type 0
-Within n (Called number call reply) = number ≤ n
-Within n (Looked lo hi k query value) = (lo ≤ n) × (hi ≤ n) × (k ≤ n)
+abbrev TellsUpTo : ℕ → Outcome → Type 0
+TellsUpTo n (Called number call reply) = number ≤ n
+TellsUpTo n (Looked lo hi k query value) = (lo ≤ n) × (hi ≤ n) × (k ≤ n)
 
 -- what one lane keeps from step to step, where so many trees are declared
-record IsInOrder (count : ℕ) (p : Played) : Type 0 where
+record IsSound (count : ℕ) (p : Played) : Type 0 where
   named : All (λ (s : Step). s.tree < count) p.steps
   once : enumerate_from 1 p.records ≡ filter_map (numbered_on 0) p.steps
   legal : IsLegal (history_of p.records)
   order : AllPairs InOrder p.steps
-  within : All (λ (s : Step). Within (length p.records) s.outcome) p.steps
+  within : All (λ (s : Step). TellsUpTo (length p.records) s.outcome) p.steps
   reads : All (λ (s : Step). IsTrueOf (history_of p.records) s.outcome) p.steps
 
-nothing_is_in_order : (count : ℕ) → IsInOrder count nothing_played
-nothing_is_in_order count = record {
+-- nothing was played yet
+nothing_is_sound : (count : ℕ) → IsSound count nothing_played
+nothing_is_sound count = record {
   named = λ k d l. absurd (omega arith);
   once = refl;
   legal = tt;
@@ -47,17 +48,19 @@ nothing_is_in_order count = record {
   reads = λ k d l. absurd (omega arith);
 }
 
+-- one more item is numbered next
 enumerate_push : {X : Type 0} (n : ℕ) (xs : List X) (x : X) → enumerate_from n (xs ++ x ∷ []) ≡ enumerate_from n xs ++ (n + length xs, x) ∷ []
 enumerate_push n [] x = let e : n + 0 ≡ n = omega arith in rw e refl
 enumerate_push n (y ∷ ys) x =
     let e : n + suc (length ys) ≡ n + 1 + length ys = omega arith in
     rw e (ap (λ z. (n, y) ∷ z) (enumerate_push (n + 1) ys x))
 
+-- one more call keeps a history legal, where the map after the others answers it so
 legal_push : (m : List Range) (records : List Record) (r : Record) → AreLegalFrom kinds.Range m records → r.reply ≡ (acted kinds.Range (fold (map_after kinds.Range) m records) r.call).1 → AreLegalFrom kinds.Range m (records ++ r ∷ [])
 legal_push m [] r legal said = (said, tt)
 legal_push m (q ∷ records) r legal said = (legal.0, legal_push (map_after kinds.Range m q) records r legal.1 said)
 
-within_more : (n : ℕ) (outcome : Outcome) → Within n outcome → Within (n + 1) outcome
+within_more : (n : ℕ) (outcome : Outcome) → TellsUpTo n outcome → TellsUpTo (n + 1) outcome
 within_more n (Called number call reply) h = omega arith
 within_more n (Looked lo hi k query value) h = (omega arith, omega arith, omega arith)
 
@@ -76,11 +79,12 @@ true_more records r (Looked lo hi k query value) t =
       omega (arith, t.1),
     )
 
-call_follows : (n : ℕ) (outcome : Outcome) (call : Call) (reply : Reply) → Within n outcome → Follows outcome (Called (n + 1) call reply)
+-- a call, or a read, that comes after so many calls follows each step before it
+call_follows : (n : ℕ) (outcome : Outcome) (call : Call) (reply : Reply) → TellsUpTo n outcome → Follows outcome (Called (n + 1) call reply)
 call_follows n (Called number c r) call reply h = omega arith
 call_follows n (Looked lo hi k query value) call reply h = omega (arith, h.1)
 
-read_follows : (n : ℕ) (outcome : Outcome) (query : Query) (value : Option Range) → Within n outcome → Follows outcome (Looked n n n query value)
+read_follows : (n : ℕ) (outcome : Outcome) (query : Query) (value : Option Range) → TellsUpTo n outcome → Follows outcome (Looked n n n query value)
 read_follows n (Called number c r) query value h = (h, h)
 read_follows n (Looked lo hi k q v) query value h = (h.2, h.0, omega (arith, h.2))
 
@@ -94,22 +98,23 @@ once_called p line tree call only once =
     let numbered : filter_map (numbered_on 0) (step ∷ []) ≡ (length p.records + 1, r) ∷ [] = rw only refl in
     enumerate_push 1 p.records r ∙ rw (once, next) (rw (filter_map-append (numbered_on 0) p.steps (step ∷ []), numbered) refl)
 
-call_is_in_order : (count : ℕ) (p : Played) (line tree : ℕ) (call : Call) → count < 2 → tree < count → IsInOrder count p → IsInOrder count (called p line tree call)
-call_is_in_order count p line tree call few named good =
+call_is_sound : (count : ℕ) (p : Played) (line tree : ℕ) (call : Call) → count < 2 → tree < count → IsSound count p → IsSound count (called p line tree call)
+call_is_sound count p line tree call few named sound =
     let n : ℕ = length p.records in
     let reply : Reply = (acted kinds.Range (last_map (history_of p.records)) call).1 in
     let r : Record = record { pass = 0; call = call; reply = reply } in
     let step : Step = step_done line tree (Called (n + 1) call reply) in
     let longer : length (p.records ++ r ∷ []) ≡ n + 1 = omega (arith, length-append p.records (r ∷ [])) in
     record {
-      named = All-push (λ (s : Step). s.tree < count) p.steps step good.named named;
-      once = once_called p line tree call (omega arith) good.once;
-      legal = legal_push [] p.records r good.legal refl;
-      order = all_pairs_push InOrder p.steps step good.order (λ k d l same knows. call_follows n (get_or p.steps k d).outcome call reply (good.within k d l));
-      within = rw longer (All-push (λ (s : Step). Within (n + 1) s.outcome) p.steps step (λ k d l. within_more n (get_or p.steps k d).outcome (good.within k d l)) (omega arith));
-      reads = All-push (λ (s : Step). IsTrueOf (history_of (p.records ++ r ∷ [])) s.outcome) p.steps step (λ k d l. true_more p.records r (get_or p.steps k d).outcome (good.reads k d l)) tt;
+      named = All-push (λ (s : Step). s.tree < count) p.steps step sound.named named;
+      once = once_called p line tree call (omega arith) sound.once;
+      legal = legal_push [] p.records r sound.legal refl;
+      order = all_pairs_push InOrder p.steps step sound.order (λ k d l same knows. call_follows n (get_or p.steps k d).outcome call reply (sound.within k d l));
+      within = rw longer (All-push (λ (s : Step). TellsUpTo (n + 1) s.outcome) p.steps step (λ k d l. within_more n (get_or p.steps k d).outcome (sound.within k d l)) (omega arith));
+      reads = All-push (λ (s : Step). IsTrueOf (history_of (p.records ++ r ∷ [])) s.outcome) p.steps step (λ k d l. true_more p.records r (get_or p.steps k d).outcome (sound.reads k d l)) tt;
     }
 
+-- a read adds no call
 once_looked : (p : Played) (line tree : ℕ) (query : Query) → tree ≡ 0 → enumerate_from 1 p.records ≡ filter_map (numbered_on 0) p.steps → enumerate_from 1 p.records ≡ filter_map (numbered_on 0) (looked p line tree query).steps
 once_looked p line tree query only once =
     let n : ℕ = length p.records in
@@ -117,29 +122,29 @@ once_looked p line tree query only once =
     let numbered : filter_map (numbered_on 0) (step ∷ []) ≡ [] = rw only refl in
     rw (filter_map-append (numbered_on 0) p.steps (step ∷ []), numbered, append-nil (filter_map (numbered_on 0) p.steps)) once
 
-read_is_in_order : (count : ℕ) (p : Played) (line tree : ℕ) (query : Query) → count < 2 → tree < count → IsInOrder count p → IsInOrder count (looked p line tree query)
-read_is_in_order count p line tree query few named good =
+read_is_sound : (count : ℕ) (p : Played) (line tree : ℕ) (query : Query) → count < 2 → tree < count → IsSound count p → IsSound count (looked p line tree query)
+read_is_sound count p line tree query few named sound =
     let n : ℕ = length p.records in
     let value : Option Range = answer (last_map (history_of p.records)) query in
     let step : Step = step_done line tree (Looked n n n query value) in
     let whole : take n p.records ≡ p.records = take_all n p.records (omega arith) in
     record {
-      named = All-push (λ (s : Step). s.tree < count) p.steps step good.named named;
-      once = once_looked p line tree query (omega arith) good.once;
-      legal = good.legal;
-      order = all_pairs_push InOrder p.steps step good.order (λ k d l same knows. read_follows n (get_or p.steps k d).outcome query value (good.within k d l));
-      within = All-push (λ (s : Step). Within n s.outcome) p.steps step good.within (omega arith, omega arith, omega arith);
-      reads = All-push (λ (s : Step). IsTrueOf (history_of p.records) s.outcome) p.steps step good.reads (record { from = omega arith; to = omega arith; made = omega arith; answered = ap (λ records. answer (last_map (history_of records)) query) (sym whole) }, omega arith);
+      named = All-push (λ (s : Step). s.tree < count) p.steps step sound.named named;
+      once = once_looked p line tree query (omega arith) sound.once;
+      legal = sound.legal;
+      order = all_pairs_push InOrder p.steps step sound.order (λ k d l same knows. read_follows n (get_or p.steps k d).outcome query value (sound.within k d l));
+      within = All-push (λ (s : Step). TellsUpTo n s.outcome) p.steps step sound.within (omega arith, omega arith, omega arith);
+      reads = All-push (λ (s : Step). IsTrueOf (history_of p.records) s.outcome) p.steps step sound.reads (record { from = omega arith; to = omega arith; made = omega arith; answered = ap (λ records. answer (last_map (history_of records)) query) (sym whole) }, omega arith);
     }
 
-item_is_in_order : (count : ℕ) (p : Played) (line : ℕ) (item : Item) → count < 2 → NamesBelow count item → IsInOrder count p → IsInOrder count (after_item p line item)
-item_is_in_order count p line (Tree name kind) few named good = good
-item_is_in_order count p line (Write tree call) few named good = call_is_in_order count p line tree call few named good
-item_is_in_order count p line (Ask tree query) few named good = read_is_in_order count p line tree query few named good
+item_is_sound : (count : ℕ) (p : Played) (line : ℕ) (item : Item) → count < 2 → NamesBelow count item → IsSound count p → IsSound count (after_item p line item)
+item_is_sound count p line (Tree name kind) few named sound = sound
+item_is_sound count p line (Write tree call) few named sound = call_is_sound count p line tree call few named sound
+item_is_sound count p line (Ask tree query) few named sound = read_is_sound count p line tree query few named sound
 
-lines_are_in_order : (count : ℕ) (lines : List Line) (p : Played) → count < 2 → AllByRecursion (λ (line : Line). NamesBelow count line.item) lines → IsInOrder count p → IsInOrder count (fold (λ p line. after_item p line.number line.item) p lines)
-lines_are_in_order count [] p few named good = good
-lines_are_in_order count (line ∷ lines) p few named good = lines_are_in_order count lines (after_item p line.number line.item) few named.1 (item_is_in_order count p line.number line.item few named.0 good)
+lines_are_sound : (count : ℕ) (lines : List Line) (p : Played) → count < 2 → AllByRecursion (λ (line : Line). NamesBelow count line.item) lines → IsSound count p → IsSound count (fold (λ p line. after_item p line.number line.item) p lines)
+lines_are_sound count [] p few named sound = sound
+lines_are_sound count (line ∷ lines) p few named sound = lines_are_sound count lines (after_item p line.number line.item) few named.1 (item_is_sound count p line.number line.item few named.0 sound)
 
 -- each step names one of the trees that are declared in all
 names_within : (count total : ℕ) (item : Item) → count ≤ total → NamesBelow count item → NamesBelow total item
@@ -156,7 +161,7 @@ named_within count total (line ∷ lines) l named =
       named_within (count + length (trees_of (line ∷ []))) total lines (omega arith) named.1,
     )
 
--- the steps are those of the log
+-- the steps that were done are those of the log
 item_is_asked : (p : Played) (line : ℕ) (item : Item) → map asked_by (after_item p line item).steps ≡ map asked_by p.steps ++ steps_of (record { number = line; item = item } ∷ [])
 item_is_asked p line (Tree name kind) = sym (append-nil (map asked_by p.steps))
 item_is_asked p line (Write tree call) = map-append asked_by p.steps _
@@ -173,6 +178,7 @@ steps_are_asked (line ∷ lines) p =
 abbrev histories_of : List Declared → List Record → List History
 histories_of trees records = map (λ d. history_of records) trees
 
+-- each opens as its tree is declared
 histories_are_opened : (trees : List Declared) (records : List Record) → All (λ (d : Declared). d.kind ≡ kinds.Range) trees → map opening_of trees ≡ map at_opening (histories_of trees records)
 histories_are_opened [] records h = refl
 histories_are_opened (d ∷ trees) records h =
@@ -186,19 +192,21 @@ history_at [] records tree l = absurd (omega arith)
 history_at (d ∷ trees) records zero l = refl
 history_at (d ∷ trees) records (suc tree) l = history_at trees records tree (omega arith)
 
-calls_stand_once : (trees : List Declared) (p : Played) (tree : ℕ) (h : History) → length trees < 2 → IsInOrder (length trees) p → slice_get (histories_of trees p.records) tree ≡ Some h → IsPermutation (enumerate_from 1 h.records) (filter_map (numbered_on tree) p.steps)
-calls_stand_once trees p tree h few good is =
+-- so each tree's calls are the records of its history, in the order of their numbers
+calls_stand_once : (trees : List Declared) (p : Played) (tree : ℕ) (h : History) → length trees < 2 → IsSound (length trees) p → slice_get (histories_of trees p.records) tree ≡ Some h → IsPermutation (enumerate_from 1 h.records) (filter_map (numbered_on tree) p.steps)
+calls_stand_once trees p tree h few sound is =
     let among : tree < length trees = omega (arith, slice_get_within (histories_of trees p.records) tree h is, length-map trees (λ (d : Declared). history_of p.records)) in
     let only : tree ≡ 0 = omega arith in
     let at : slice_get (histories_of trees p.records) tree ≡ Some (history_of p.records) = history_at trees p.records tree among in
     let same : h ≡ history_of p.records = cc in
-    rw (same, only, ← good.once) (IsPermutation-refl (enumerate_from 1 p.records))
+    rw (same, only, ← sound.once) (IsPermutation-refl (enumerate_from 1 p.records))
 
-reads_are_true : (trees : List Declared) (p : Played) → IsInOrder (length trees) p → All (StandsIn (histories_of trees p.records)) p.steps
-reads_are_true trees p good k d l = (
+-- each step stands in the history of the tree that it names
+reads_are_true : (trees : List Declared) (p : Played) → IsSound (length trees) p → All (StandsIn (histories_of trees p.records)) p.steps
+reads_are_true trees p sound k d l = (
   history_of p.records,
-  history_at trees p.records (get_or p.steps k d).tree (good.named k d l),
-  good.reads k d l,
+  history_at trees p.records (get_or p.steps k d).tree (sound.named k d l),
+  sound.reads k d l,
 )
 
 -- the listings are the trees with what their history makes of them
@@ -211,21 +219,22 @@ trees_are_listed : (lines : List Line) (records : List Record) → listings_of l
 trees_are_listed [] records = refl
 trees_are_listed (line ∷ lines) records = listed_more line.number line.item lines records (trees_are_listed lines records)
 
+-- what one lane makes of a log that can be read is a run of it
 log_is_run : (log : Log) → IsReadable log.lines → IsRun log (transcript_of log)
 log_is_run log readable =
     let trees : List Declared = trees_of log.lines in
     let p : Played = played log.lines in
-    let good : IsInOrder (length trees) p = lines_are_in_order (length trees) log.lines nothing_played readable.one_tree (named_within 0 (length trees) log.lines (omega arith) readable.named) (nothing_is_in_order (length trees)) in (
+    let sound : IsSound (length trees) p = lines_are_sound (length trees) log.lines nothing_played readable.one_tree (named_within 0 (length trees) log.lines (omega arith) readable.named) (nothing_is_sound (length trees)) in (
       p.steps,
       histories_of trees p.records,
       record {
         asked = sym (steps_are_asked log.lines nothing_played);
         told = refl;
         opened = histories_are_opened trees p.records readable.for_ranges;
-        once = λ tree h is. calls_stand_once trees p tree h readable.one_tree good is;
-        legal = All-map IsLegal (λ (d : Declared). history_of p.records) trees (λ k d l. good.legal);
-        order = good.order;
-        reads = reads_are_true trees p good;
+        once = λ tree h is. calls_stand_once trees p tree h readable.one_tree sound is;
+        legal = All-map IsLegal (λ (d : Declared). history_of p.records) trees (λ k d l. sound.legal);
+        order = sound.order;
+        reads = reads_are_true trees p sound;
         lists = trees_are_listed log.lines p.records;
       },
     )

@@ -49,11 +49,13 @@ looked p line tree query =
     let value = answer (last_map (history_of p.records)) query in
     record { steps = p.steps ++ step_done line tree (Looked k k k query value) ∷ []; records = p.records }
 
+-- a line that declares a tree is no step
 abbrev pub after_item : Played → ℕ → Item → Played
 after_item p line (Tree name kind) = p
 after_item p line (Write tree call) = called p line tree call
 after_item p line (Ask tree query) = looked p line tree query
 
+-- all lines, in order
 abbrev pub played : List Line → Played
 played lines = fold (λ p line. after_item p line.number line.item) nothing_played lines
 
@@ -72,7 +74,8 @@ transcript_of log =
     let p = played log.lines in
     record { entries = map entry_of p.steps; lists = listings_of log.lines (last_map (history_of p.records)) }
 
--- what a player holds: its map with the kind, how much of the map's room for calls is used, how many calls were made, and what is told
+-- what a player holds: its map (the kind, the ranges, and how much of its room for calls is used), how many calls it
+-- made, and the entries that it told
 pub record Held : Type 0 where
   pub kind : Kind
   pub ranges : List Range
@@ -80,7 +83,7 @@ pub record Held : Type 0 where
   pub calls : ℕ
   pub entries : List Entry
 
--- it has played these steps, and no others
+-- it has played these steps
 pub record Shows (player : Held) (p : Played) : Type 0 where
   pub kind : player.kind ≡ kinds.Range
   pub ranges : player.ranges ≡ last_map (history_of p.records)

@@ -29,13 +29,29 @@ impl<M: Ranges> Model for Player<M> {
 }
 
 impl<M: Ranges> Player<M> {
-    ghost use Rattle.std.specs.Prelude.{◌≡◌, ◌+◌, ◌-◌, ◌<◌, ◌≤◌, ◌^◌, OnOk};
+    ghost use Rattle.std.specs.Prelude.{◌≡◌, ℕ, ◌∷◌, ◌++◌, ◌+◌, ◌-◌, ◌<◌, ◌≤◌, ◌^◌, [], OnOk};
     ghost use Rattle.mtreplay.specs.Playing.{Played, Shows, called, looked, after_item};
 
-    fn write(&mut self, line: u64, tree: u32, call: &Call) -> Result<(), NoMemory>
+    /// Does what a line asks for.
+    fn line(&mut self, line: &Line) -> Result<(), NoMemory>
         requires used { self.old.used < 2 ^ 62 - 1 }
-        requires calls { self.old.calls < 2 ^ 62 - 1 }
-        ensures shows { OnOk result ((p : Played) → Shows self.old p → Shows self.new (called p line tree call.now)) }
+        requires calls { self.old.calls < u64.MAX }
+        ensures shows { OnOk result ((p : Played) → Shows self.old p → Shows self.new (after_item p line.now.number line.now.item)) }
+        ensures calls { OnOk result (self.new.calls ≤ self.old.calls + 1) }
+    {
+        match line.item {
+            Item::Tree { .. } => {}
+            Item::Write { call, .. } => self.write(line.number, &call)?,
+            Item::Ask { query, .. } => self.ask(line.number, &query)?,
+        }
+        Ok(())
+    }
+
+    /// Makes a call, and tells its number and reply. As there is one tree, it is the same whichever tree is named.
+    fn write(&mut self, line: u64, call: &Call) -> Result<(), NoMemory>
+        requires used { self.old.used < 2 ^ 62 - 1 }
+        requires calls { self.old.calls < u64.MAX }
+        ensures shows { OnOk result ((tree : ℕ) (p : Played) → Shows self.old p → Shows self.new (called p line tree call.now)) }
         ensures calls { OnOk result (self.new.calls ≡ self.old.calls + 1) }
     {
         let reply = self.map.act(call)?;
@@ -44,12 +60,12 @@ impl<M: Ranges> Player<M> {
             call: self.calls,
             reply,
         };
-        self.entries.push(Entry { line, said })?;
-        Ok(())
+        self.tell(Entry { line, said })
     }
 
-    fn ask(&mut self, line: u64, tree: u32, query: &Query) -> Result<(), NoMemory>
-        ensures shows { OnOk result ((p : Played) → Shows self.old p → Shows self.new (looked p line tree query.now)) }
+    /// Tells the answer of the map as it stands. The window is the number of calls so far.
+    fn ask(&mut self, line: u64, query: &Query) -> Result<(), NoMemory>
+        ensures shows { OnOk result ((tree : ℕ) (p : Played) → Shows self.old p → Shows self.new (looked p line tree query.now)) }
         ensures calls { OnOk result (self.new.calls ≡ self.old.calls) }
     {
         let value = match self.map.ask(query) {
@@ -61,25 +77,19 @@ impl<M: Ranges> Player<M> {
             hi: self.calls,
             value,
         };
-        self.entries.push(Entry { line, said })?;
-        Ok(())
+        self.tell(Entry { line, said })
     }
 
-    fn line(&mut self, line: &Line) -> Result<(), NoMemory>
-        requires used { self.old.used < 2 ^ 62 - 1 }
-        requires calls { self.old.calls < 2 ^ 62 - 1 }
-        ensures shows { OnOk result ((p : Played) → Shows self.old p → Shows self.new (after_item p line.now.number line.now.item)) }
-        ensures calls { OnOk result (self.new.calls ≤ self.old.calls + 1) }
+    /// Adds an entry.
+    fn tell(&mut self, entry: Entry) -> Result<(), NoMemory>
+        ensures { OnOk result (self.new ≡ record self.old { entries = self.old.entries ++ entry ∷ [] }) }
     {
-        match line.item {
-            Item::Tree { .. } => Ok(()),
-            Item::Write { tree, call } => self.write(line.number, tree, &call),
-            Item::Ask { tree, query } => self.ask(line.number, tree, &query),
-        }
+        self.entries.push(entry)?;
+        Ok(())
     }
 }
 
-/// Plays the lines in order.
+/// Plays the lines in order, over an empty map.
 fn play_lines<M: Ranges + Drop>(
     alloc: Global,
     lines: &[Line],
@@ -134,7 +144,7 @@ fn list_tree<M: Ranges>(
     Ok(())
 }
 
-/// What the lines of a log are answered, one after another, and the trees at the end.
+/// Plays the lines in order, and lists the trees that they declare.
 fn played<M: Ranges + Drop>(alloc: Global, log: &Log, map: M) -> Result<Transcript, NoMemory>
     requires empty { M.map map ≡ [] }
     requires kind { M.kind map ≡ kinds.Range }
@@ -152,6 +162,10 @@ fn played<M: Ranges + Drop>(alloc: Global, log: &Log, map: M) -> Result<Transcri
 }
 
 /// Plays the lines of a log in order over an empty map, and lists the trees.
+///
+/// # Errors
+///
+/// `NoMemory` where memory ran out.
 #[tactic(auto, using(crate::proofs::OneLane::played_is_run))]
 pub fn play<M: Ranges + Drop>(alloc: Global, log: &Log, map: M) -> Result<Transcript, NoMemory>
     requires empty { M.map map ≡ [] }
