@@ -1,9 +1,9 @@
 -- Why a run ends without its whole output: the status and the text of each cause.
-use Rattle.std.specs.Prelude.{◌≡◌, ◌⊎◌, ℕ, List, [], ◌∷◌, ◌++◌, Option, Err, ◌+◌, ◌-◌, ◌≤◌, nat_lt, is_ok, length, codes, IfSome, if◌then◌else◌}
+use Rattle.std.specs.Prelude.{◌≡◌, ◌⊎◌, ℕ, List, [], ◌∷◌, ◌++◌, Option, Err, ◌+◌, ◌≤◌, nat_lt, is_ok, length, codes, IfSome, if◌then◌else◌}
 use Rattle.std.specs.Fmt.{decimal}
 use Rattle.std.specs.Io.KnownBytes.{Appends, Consumes}
 use Rattle.mt_io.specs.Faults.{Rose}
-use Rattle.mt_log.specs.Fault.{Fault, why_text}
+use Rattle.mt_log.specs.Fault.{why_text}
 use Rattle.mt_log.specs.Reading.{log_of}
 use Rattle.mtreplay.specs.declared.failures.Failure.{Failure}
 use Rattle.mtreplay.specs.declared.failures.Failure.TheVariants as failures

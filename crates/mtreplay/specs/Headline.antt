@@ -6,6 +6,10 @@ use Rattle.mt_log.specs.Reading.{log_of}
 use Rattle.mt_log.specs.Run.{IsRun}
 use Rattle.mt_log.specs.Text.{text_of}
 
+-- this is the text of a transcript that is a run of the log
+abbrev pub TellsRun : Log → List ℕ → Type 0
+TellsRun log text = (t : Transcript) × IsRun log t × (text ≡ text_of t)
+
 -- this is the text of a transcript that is a run of the log that these bytes are
 abbrev pub IsTextOfRun : List ℕ → List ℕ → Type 0
 IsTextOfRun bytes text = (log : Log) × (t : Transcript) × (log_of bytes ≡ Ok log) × IsRun log t × (text ≡ text_of t)

@@ -1,4 +1,6 @@
+pub mod Causes
 pub mod Command
 pub mod Ending
 pub mod Headline
+pub mod Input
 pub mod Playing

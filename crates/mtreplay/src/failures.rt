@@ -1,8 +1,16 @@
+ghost use Rattle.std.specs.Prelude.{◌≡◌, ◌≤◌, [], length};
+ghost use Rattle.mt_log.specs.Fault.{why_text};
+ghost use Rattle.mtreplay.specs.Ending.{Tells, failure_text};
+
 use crate::streams::{ReadError, write_output};
+use arrayvec::ArrayString;
+use itoa::Buffer;
 use mt_base::NoMemory;
-use mt_io::{Failed, Sink};
+use mt_io::Sink;
 use mt_log::{LogError, Why};
-use std::fmt;
+
+/// Room for the longest line that tells a failure.
+const TEXT_ROOM: usize = 96;
 
 /// Why nothing, or only a part, was printed.
 #[derive(Clone, Copy, Debug, PartialEq, Eq)]
@@ -23,7 +31,7 @@ pub enum Failure {
 
 impl Failure {
     ghost use Rattle.std.specs.Prelude.{◌≡◌};
-    ghost use Rattle.mtreplay.specs.Ending.{status_of};
+    ghost use Rattle.mtreplay.specs.Ending.{status_of, failure_text};
 
     /// The status that the program ends with.
     pub fn status(&self) -> u8
@@ -37,5 +45,91 @@ impl Failure {
             Failure::NoMemory => 5,
             Failure::TooLong => 6,
         }
+    }
+
+    /// The line that tells it. It takes no memory, so that want of memory can be told.
+    fn text(&self) -> ArrayString<TEXT_ROOM>
+        ensures { result.bytes ≡ failure_text self.now }
+    {
+        let mut text = ArrayString::new();
+        match *self {
+            Failure::BadLog { line, why } => push_bad_log(&mut text, line, why),
+            Failure::Usage => text.push_str(
+                "mtreplay: usage: replay [--rows N], make NUMBER STEPS LANES, trial NUMBER STEPS\n",
+            ),
+            Failure::ReadFault => text.push_str("mtreplay: read fault\n"),
+            Failure::WriteFault => text.push_str("mtreplay: write fault\n"),
+            Failure::NoMemory => text.push_str("mtreplay: out of memory\n"),
+            Failure::TooLong => text.push_str("mtreplay: input too long\n"),
+        }
+        text
+    }
+}
+
+fn why_text(why: Why) -> &'static str
+    ensures text { result.now ≡ why_text why }
+    ensures short { length result.now ≤ 23 }
+{
+    match why {
+        Why::NotYet => "not yet",
+    }
+}
+
+fn push_bad_log(text: &mut ArrayString<TEXT_ROOM>, line: u64, why: Why)
+    requires { text.old.bytes ≡ [] }
+    ensures { text.new.bytes ≡ failure_text (Failure.BadLog line why) }
+{
+    text.push_str("mtreplay: line ");
+    text.push_str(Buffer::new().format(line));
+    text.push_str(": ");
+    text.push_str(why_text(why));
+    text.push_str("\n");
+}
+
+/// Writes the line that tells a failure. Where `err` fails, nobody is told.
+pub fn report<E: Sink>(err: &mut E, failure: &Failure)
+    ensures told { Tells (E.written err.old) (E.written err.new) (E.faults err.old) (E.faults err.new) (failure_text failure.now) }
+    ensures in_time { E.faults err.old ≡ 0 → E.late err.old ≡ 0 → E.late err.new ≡ 0 }
+{
+    let _ = write_output(err, failure.text().as_str().as_bytes());
+}
+
+impl From<ReadError> for Failure {
+    ghost use Rattle.std.specs.Prelude.{◌≡◌};
+    ghost use Rattle.mtreplay.specs.Causes.{failure_of_read};
+
+    ghost from_gives = { λ r e. e ≡ failure_of_read r };
+
+    fn from(error: ReadError) -> Self {
+        match error {
+            ReadError::Fault => Failure::ReadFault,
+            ReadError::TooLong => Failure::TooLong,
+            ReadError::NoMemory => Failure::NoMemory,
+        }
+    }
+}
+
+impl From<LogError> for Failure {
+    ghost use Rattle.std.specs.Prelude.{◌≡◌};
+    ghost use Rattle.mtreplay.specs.Causes.{failure_of_log};
+
+    ghost from_gives = { λ r e. e ≡ failure_of_log r };
+
+    fn from(error: LogError) -> Self {
+        match error {
+            LogError::Bad { line, why } => Failure::BadLog { line, why },
+            LogError::NoMemory => Failure::NoMemory,
+        }
+    }
+}
+
+impl From<NoMemory> for Failure {
+    ghost use Rattle.std.specs.Prelude.{◌≡◌};
+    ghost use Rattle.mtreplay.specs.declared.failures.Failure.TheVariants.{NoMemory};
+
+    ghost from_gives = { λ _ e. e ≡ NoMemory };
+
+    fn from(_: NoMemory) -> Self {
+        Failure::NoMemory
     }
 }

@@ -1,18 +1,20 @@
-ghost use Rattle.std.specs.Prelude.{◌≡◌, ◌≢◌, ◌↔◌, ◌⊎◌, ◌<◌, ◌≤◌, ℕ, List, Some, true, false, IsErr, IsTrue, OnOk, IfErr, IfSome, map, string_bytes};
+ghost use Rattle.std.specs.Prelude.{◌≡◌, ◌≢◌, ◌↔◌, ◌⊎◌, ◌<◌, ◌≤◌, ℕ, List, Some, true, false, IsErr, IfOk, IfErr, IfSome, length, map, string_bytes};
 ghost use Rattle.std.specs.Io.KnownBytes.{IsAtEnd};
 ghost use Rattle.mt_io.specs.Faults.{Rose};
 ghost use Rattle.mt_log.specs.Reading.{log_of};
+ghost use Rattle.mt_log.specs.Trees.{IsReadable};
+ghost use Rattle.mtreplay.specs.Causes.{ReadsLog, FailsToRead, Ends, streams};
 ghost use Rattle.mtreplay.specs.Command.{is_replay};
 ghost use Rattle.mtreplay.specs.Ending.{TellsStatus, status_due, ReadsTooMany, ReadsWithin};
-ghost use Rattle.mtreplay.specs.Headline.{Replays, ReplaysPart};
+ghost use Rattle.mtreplay.specs.Headline.{Replays, ReplaysPart, TellsRun};
 
 use crate::failures::{Failure, report};
 use crate::player::play;
-use crate::streams::{read_input, write_output};
-use mt_base::Kind;
+use crate::streams::{LONGEST, read_input, write_output};
+use mt_base::{Kind, NoMemory};
 use mt_io::{Gate, Sink, Source};
 use mt_list::ListMap;
-use mt_log::{read_log, render};
+use mt_log::{Log, read_log, render};
 use std::alloc::Global;
 use std::sync::Wait;
 use std::thread::Threads;
@@ -27,13 +29,38 @@ fn is_replay(words: &[String]) -> bool
     }
 }
 
-/// Reads a log, plays its lines and writes what they were answered.
-fn replay<S: Source, O: Sink>(alloc: Global, src: &mut S, out: &mut O) -> Result<(), Failure>
+/// Reads a log.
+fn read<S: Source>(alloc: Global, src: &mut S) -> Result<Log, Failure>
+    ensures log { IfOk result (λ log. ReadsLog (S.left src.old) (S.left src.new) log) }
+    ensures readable { IfOk result (λ log. IsReadable log.lines) }
+    ensures count { IfOk result (λ log. length log.lines ≤ LONGEST) }
+    ensures fails { IfErr result (λ e. FailsToRead e (S.left src.old) (S.left src.new) (S.faults src.old) (S.faults src.new)) }
+    ensures in_time { S.faults src.old ≡ 0 → S.late src.old ≡ 0 → S.late src.new ≡ 0 }
 {
     let bytes = read_input(alloc, src)?;
-    let log = read_log(alloc, &bytes)?;
-    let transcript = play(alloc, &log, ListMap::new(alloc, Kind::Range))?;
-    let text = render(alloc, &transcript)?;
+    Ok(read_log(alloc, &bytes)?)
+}
+
+/// The text of what the lines of a log were answered.
+fn answers(alloc: Global, log: &Log) -> Result<Vec<u8>, NoMemory>
+    requires readable { IsReadable log.now.lines }
+    requires count { length log.now.lines ≤ LONGEST }
+    ensures { IfOk result (λ text. TellsRun log.now text.items) }
+{
+    let transcript = play(alloc, log, ListMap::new(alloc, Kind::Range))?;
+    render(alloc, &transcript)
+}
+
+/// Reads a log, plays its lines and writes what they were answered.
+fn replay<S: Source, O: Sink>(alloc: Global, src: &mut S, out: &mut O) -> Result<(), Failure>
+    ensures ends { Ends true result (streams (S.left src.old) (S.faults src.old) (O.written out.old) (O.faults out.old))
+        (streams (S.left src.new) (S.faults src.new) (O.written out.new) (O.faults out.new)) }
+    ensures out_kept { IfErr result (λ e. e ≢ Failure.WriteFault → out.new ≡ out.old) }
+    ensures src_in_time { S.faults src.old ≡ 0 → S.late src.old ≡ 0 → S.late src.new ≡ 0 }
+    ensures out_in_time { O.faults out.old ≡ 0 → O.late out.old ≡ 0 → O.late out.new ≡ 0 }
+{
+    let log = read(alloc, src)?;
+    let text = answers(alloc, &log)?;
     write_output(out, &text).map_err(|_| Failure::WriteFault)
 }
 
@@ -44,6 +71,13 @@ fn run<S: Source, O: Sink>(
     src: &mut S,
     out: &mut O,
 ) -> Result<(), Failure>
+    ensures ends { Ends (is_replay (map string_bytes words.now)) result
+        (streams (S.left src.old) (S.faults src.old) (O.written out.old) (O.faults out.old))
+        (streams (S.left src.new) (S.faults src.new) (O.written out.new) (O.faults out.new)) }
+    ensures unread { IfErr result (λ e. e ≡ Failure.Usage → src.new ≡ src.old) }
+    ensures out_kept { IfErr result (λ e. e ≢ Failure.WriteFault → out.new ≡ out.old) }
+    ensures src_in_time { S.faults src.old ≡ 0 → S.late src.old ≡ 0 → S.late src.new ≡ 0 }
+    ensures out_in_time { O.faults out.old ≡ 0 → O.late out.old ≡ 0 → O.late out.new ≡ 0 }
 {
     if !is_replay(words) {
         return Err(Failure::Usage);

@@ -1,0 +1,56 @@
+-- What was read and written so far, piece by piece.
+use Rattle.std.proofs.Common.{◌≡◌, Result, Ok, Err, IfErr, IsErrAnd, ◌≤◌, ◌+◌, ℕ, List, [], ◌++◌, Option, length, take, drop, append_assoc, take-append-drop, sym, ap, subst, append-nil, ◌∙◌, refl}
+use Rattle.std.specs.Io.KnownBytes.{Appends, Consumes, IsAtEnd, Keeps}
+use Rattle.std.proofs.KnownBytes.{Appends-nil, Appends-trans, Appends-kept, Consumes-nil, Consumes-trans, Consumes-kept}
+use Rattle.std.proofs.lemmas.List.{take_rest}
+use Rattle.mtreplay.specs.Ending.{ReadsTooMany, ReadsWithin}
+use Rattle.mt_io.specs.Faults.{Rose}
+use Rattle.mtreplay.specs.Input.{ReadsAll, ReadFails}
+use Rattle.mtreplay.specs.declared.streams.ReadError.{ReadError}
+use Rattle.mtreplay.specs.declared.streams.ReadError.TheVariants as reads
+use Rattle.mtreplay.specs.declared.streams.TheConstants.{LONGEST}
+
+-- one more piece was read
+pub read_more : (before now after : Option (List ℕ)) (bytes piece longer : List ℕ) → Consumes before now bytes → Consumes now after piece → longer ≡ bytes ++ piece → Consumes before after longer
+read_more before now after bytes piece longer so_far more is = subst (Consumes before after) (sym is) (Consumes-trans before now after bytes piece so_far more)
+
+-- a read of no bytes ended the input
+pub read_all : (before now after : Option (List ℕ)) (bytes : List ℕ) → Consumes before now bytes → Consumes now after [] → IsAtEnd after → length bytes ≤ LONGEST → ReadsAll before after bytes
+read_all before now after bytes so_far none at_end within = record {
+  taken = subst (Consumes before after) (append-nil bytes) (Consumes-trans before now after bytes [] so_far none);
+  at_end = at_end;
+  within = within;
+}
+
+-- a read failed
+pub read_within : (before now after : Option (List ℕ)) (bytes : List ℕ) → Consumes before now bytes → Keeps now after → length bytes ≤ LONGEST → ReadsWithin before after
+read_within before now after bytes so_far kept within = (bytes, Consumes-kept before now after bytes so_far kept, within)
+
+pub read_too_many : (before after : Option (List ℕ)) (bytes : List ℕ) → Consumes before after bytes → length bytes ≡ LONGEST + 1 → ReadsTooMany before after
+read_too_many before after bytes taken long = (bytes, taken, long)
+
+-- the error of a failed read
+pub fault_fails : {T : Type 0} (result : Result T ReadError) (left rest : Option (List ℕ)) (before after : ℕ) → IsErrAnd result (λ e. e ≡ reads.Fault) → ReadsWithin left rest → Rose before after → IfErr result (λ e. ReadFails e left rest before after)
+fault_fails (Ok x) left rest before after is within rose = tt
+fault_fails (Err e) left rest before after is within rose = let P : ReadError → Type 0 = λ x. ReadFails x left rest before after in subst P (sym is) (within, rose)
+
+pub ruleset reading = (Consumes-nil, read_more, read_all, read_within, read_too_many)
+
+-- of these bytes the first were appended, and the rest was not
+pub record HasAppended (before now : Option (List ℕ)) (bytes rest : List ℕ) : Type 0 where
+  pub part : List ℕ
+  pub split : bytes ≡ part ++ rest
+  pub appended : Appends before now part
+
+pub appended_none : (before : Option (List ℕ)) (bytes : List ℕ) → HasAppended before before bytes bytes
+appended_none before bytes = record { part = []; split = refl; appended = Appends-nil before }
+
+-- one more piece was appended
+pub appended_more : (before now after : Option (List ℕ)) (bytes rest tail : List ℕ) (n : ℕ) → HasAppended before now bytes rest → Appends now after (take n rest) → tail ≡ drop n rest → HasAppended before after bytes tail
+appended_more before now after bytes rest tail n so_far more is = record {
+  part = so_far.part ++ take n rest;
+  split = so_far.split ∙ ap (λ l. so_far.part ++ l) (sym (take-append-drop n rest) ∙ ap (λ l. take n rest ++ l) (sym is)) ∙ sym (append_assoc so_far.part (take n rest) tail);
+  appended = Appends-trans before now after so_far.part (take n rest) so_far.appended more;
+}
+
+pub ruleset writing = (appended_none, appended_more, take_rest)

@@ -1,0 +1,65 @@
+-- What each end of a run says of its words, its source and its sink.
+use Rattle.std.specs.Prelude.{◌≡◌, ◌++◌, ℕ, Bool, true, false, List, Option, Result, Ok, Err}
+use Rattle.std.specs.Io.KnownBytes.{Appends}
+use Rattle.mt_io.specs.Faults.{Rose}
+use Rattle.mt_log.specs.Reading.{log_of}
+use Rattle.mt_log.specs.declared.faults.LogError.{LogError}
+use Rattle.mt_log.specs.declared.faults.LogError.TheVariants as logs
+use Rattle.mt_log.specs.declared.lines.Log.{Log}
+use Rattle.mtreplay.specs.Ending.{ReadsTooMany, ReadsWithin}
+use Rattle.mtreplay.specs.Headline.{IsTextOfRun}
+use Rattle.mtreplay.specs.Input.{ReadsAll}
+use Rattle.mtreplay.specs.declared.failures.Failure.{Failure}
+use Rattle.mtreplay.specs.declared.failures.Failure.TheVariants as failures
+use Rattle.mtreplay.specs.declared.streams.ReadError.{ReadError}
+use Rattle.mtreplay.specs.declared.streams.ReadError.TheVariants as reads
+
+abbrev pub failure_of_read : ReadError → Failure
+failure_of_read reads.Fault = failures.ReadFault
+failure_of_read reads.TooLong = failures.TooLong
+failure_of_read reads.NoMemory = failures.NoMemory
+
+abbrev pub failure_of_log : LogError → Failure
+failure_of_log (logs.Bad line why) = failures.BadLog line why
+failure_of_log logs.NoMemory = failures.NoMemory
+
+-- the whole input was read, and is this log
+abbrev pub ReadsLog : Option (List ℕ) → Option (List ℕ) → Log → Type 0
+ReadsLog left rest log = (bytes : List ℕ) × ReadsAll left rest bytes × (log_of bytes ≡ Ok log)
+
+-- why no log was read, by what was left of the source and its faults, before and after
+abbrev pub FailsToRead : Failure → Option (List ℕ) → Option (List ℕ) → ℕ → ℕ → Type 0
+FailsToRead (failures.BadLog line why) left rest before after = (bytes : List ℕ) × ReadsAll left rest bytes × (log_of bytes ≡ Err (record { line = line; why = why }))
+FailsToRead failures.Usage left rest before after = ⊥
+FailsToRead failures.ReadFault left rest before after = ReadsWithin left rest × Rose before after
+FailsToRead failures.WriteFault left rest before after = ⊥
+FailsToRead failures.NoMemory left rest before after = Unit {0}
+FailsToRead failures.TooLong left rest before after = ReadsTooMany left rest
+
+-- what is left of a source and what a sink holds, with their faults
+pub record Streams : Type 0 where
+  pub left : Option (List ℕ)
+  pub source_faults : ℕ
+  pub written : Option (List ℕ)
+  pub sink_faults : ℕ
+
+abbrev pub streams : Option (List ℕ) → ℕ → Option (List ℕ) → ℕ → Streams
+streams left source_faults written sink_faults = record { left = left; source_faults = source_faults; written = written; sink_faults = sink_faults }
+
+-- the whole input was read, and the text of a run of its log was written
+abbrev pub Finishes : Streams → Streams → Type 0
+Finishes old new = (bytes text : List ℕ) × ReadsAll old.left new.left bytes × IsTextOfRun bytes text × Appends old.written new.written text
+
+-- the same, but only the first part of the text was written
+abbrev pub FailsToWrite : Streams → Streams → Type 0
+FailsToWrite old new = (bytes part rest : List ℕ) × ReadsAll old.left new.left bytes × IsTextOfRun bytes (part ++ rest) × Appends old.written new.written part × Rose old.sink_faults new.sink_faults
+
+abbrev pub Fails : Failure → Streams → Streams → Type 0
+Fails failures.WriteFault old new = FailsToWrite old new
+Fails failure old new = FailsToRead failure old.left new.left old.source_faults new.source_faults
+
+-- how a run ended, where its words are the command and where they are not
+abbrev pub Ends : Bool → Result (Unit {0}) Failure → Streams → Streams → Type 0
+Ends true (Ok done) old new = Finishes old new
+Ends true (Err failure) old new = Fails failure old new
+Ends false result old new = (result ≡ Err failures.Usage) × (new ≡ old)
