@@ -1,6 +1,6 @@
 -- The book of a tree's rows. A row is free, or out (live), or held: replaced by a call, and not yet free again.
 -- Source: this project's own; the kernel frees nodes by read-copy-update, after a grace period.
-use Rattle.std.specs.Prelude.{◌≡◌, ◌≢◌, ℕ, zero, suc, ◌+◌, ◌-◌, ◌<◌, ◌≤◌, List, [], ◌∷◌, ◌++◌, All, AllPairs, Contains, length, map, filter, nat_lt, nat_le}
+use Rattle.std.specs.Prelude.{◌≢◌, ℕ, zero, suc, ◌+◌, ◌-◌, ◌<◌, ◌≤◌, List, [], ◌∷◌, ◌++◌, All, AllPairs, Contains, length, map, filter, nat_lt, nat_le}
 
 -- a held row, and the number of the call that replaced it
 pub record Held : Type 0 where

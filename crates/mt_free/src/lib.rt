@@ -2,5 +2,9 @@
 #![tactic(auto)]
 
 mod book;
+mod held;
+pub mod laws;
+#[cfg(test)]
+mod tests;
 
-// pub use book::RowBook;
+pub use book::RowBook;
