@@ -39,7 +39,3 @@ first_fields r [] = refl
 -- where the first fields are as many as are wanted, nothing else of the others matters
 pub first_of : {A : Type 0} (n : ℕ) (xs others all : List A) → xs ++ others ≡ all → length xs ≡ n → xs ≡ take n all
 first_of n xs others all whole many = rw (← whole) (sym (take_at xs others n many))
-
--- where there are no more than are wanted, they are all
-pub all_of : {A : Type 0} (n : ℕ) (xs all : List A) → xs ≡ all → length xs ≤ n → xs ≡ take n all
-all_of n xs all same few = rw (← same) (sym (take_all n xs few))

@@ -7,7 +7,7 @@ use Rattle.mt_log.specs.declared.lines.Item.{Item}
 use Rattle.mt_log.specs.declared.lines.Item.TheVariants.{Tree, Write, Ask}
 use Rattle.mt_log.specs.declared.lines.Line.{Line}
 use Rattle.mt_log.specs.Reader.{IsSound}
-use Rattle.mt_log.specs.Reading.{Read, after_item, after_skipped, declared_by, nothing_read}
+use Rattle.mt_log.specs.Reading.{Read, after_item, declared_by, nothing_read}
 use Rattle.mt_log.specs.Trees.{Declared, AreNamedFrom, NamesBelow, MayFollow, trees_of, declared_in}
 
 trees_more : (lines : List Line) (line : Line) → trees_of (lines ++ line ∷ []) ≡ trees_of lines ++ trees_of (line ∷ [])
@@ -52,7 +52,3 @@ sound_more read (Tree name kind) h follows = with_line read (Tree name kind) h t
     (All-push (λ (d : Declared). d.kind ≡ kinds.Range) [] (record { name = name; kind = kind }) (λ k d h. absurd (omega arith)) follows.1) refl
 sound_more read (Write tree call) h follows = with_line read (Write tree call) h follows (omega arith) (λ k d h. absurd (omega arith)) refl
 sound_more read (Ask tree query) h follows = with_line read (Ask tree query) h follows (omega arith) (λ k d h. absurd (omega arith)) refl
-
--- a line that says nothing keeps it so
-pub sound_skipped : (read : Read) → IsSound read → IsSound (after_skipped read)
-sound_skipped read h = record { readable = h.readable; counted = h.counted }

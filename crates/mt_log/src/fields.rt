@@ -13,7 +13,6 @@ use mt_base::Kind;
 const MOST_FIELDS: usize = 8;
 
 /// The fields of a line, as far as they can matter.
-#[tactic(auto, using(crate::proofs::FirstFields::first_of, crate::proofs::FirstFields::all_of))]
 pub fn fields_of(line: &[u8]) -> ArrayVec<&[u8], MOST_FIELDS>
     ensures { map (λ f. f.now) result.items ≡ take MOST_FIELDS (fields_of line.now) }
 {

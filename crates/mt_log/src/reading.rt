@@ -30,7 +30,6 @@ fn said_in(reader: &Reader, line: &[u8]) -> Result<Item, Why>
     item_of(reader, &fields_of(line))
 }
 
-#[tactic(auto, using(crate::proofs::Soundness::sound_more, crate::proofs::Soundness::sound_skipped))]
 fn read_line(reader: &mut Reader, line: &[u8]) -> Result<(), LogError>
     requires next { reader.old.next < 2 ^ 64 - 1 }
     requires sound { IsSound reader.old }
