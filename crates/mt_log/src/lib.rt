@@ -8,8 +8,12 @@ mod items;
 mod keywords;
 mod lines;
 mod names;
+mod numbers;
+mod reader;
 mod reading;
 mod rendering;
+#[cfg(test)]
+mod tests;
 mod transcripts;
 
 pub use faults::{LogError, Why};
