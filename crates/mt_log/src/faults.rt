@@ -28,6 +28,31 @@ pub enum Why {
     NotYet,
 }
 
+impl Why {
+    ghost use Rattle.std.specs.Prelude.{◌≡◌, ◌≤◌, length};
+    ghost use Rattle.mt_log.specs.Fault.{why_text};
+
+    /// The reason in words, of at most 23 bytes.
+    pub fn text(&self) -> &'static str
+        ensures text { result.now ≡ why_text self.now }
+        ensures short { length result.now ≤ 23 }
+    {
+        match self {
+            Why::NoNewline => "no newline",
+            Why::Header => "no header",
+            Why::Unknown => "unknown word",
+            Why::Fields => "wrong number of fields",
+            Why::Name => "bad name",
+            Why::NoTree => "unknown tree",
+            Why::Twice => "tree declared twice",
+            Why::BadKind => "bad kind",
+            Why::Number => "bad number",
+            Why::Order => "not between phases",
+            Why::NotYet => "not yet",
+        }
+    }
+}
+
 impl fmt::Display for Why {
     ghost use Rattle.std.specs.Prelude.{Some};
     ghost use Rattle.mt_log.specs.Fault.{why_text};
@@ -35,19 +60,8 @@ impl fmt::Display for Why {
     ghost output = { λ w. Some (why_text w) };
 
     fn fmt<W: fmt::Write>(&self, f: &mut fmt::Formatter<W>) -> fmt::Result {
-        match self {
-            Why::NoNewline => write!(f, "no newline"),
-            Why::Header => write!(f, "no header"),
-            Why::Unknown => write!(f, "unknown word"),
-            Why::Fields => write!(f, "wrong number of fields"),
-            Why::Name => write!(f, "bad name"),
-            Why::NoTree => write!(f, "unknown tree"),
-            Why::Twice => write!(f, "tree declared twice"),
-            Why::BadKind => write!(f, "bad kind"),
-            Why::Number => write!(f, "bad number"),
-            Why::Order => write!(f, "not between phases"),
-            Why::NotYet => write!(f, "not yet"),
-        }
+        let text = self.text();
+        write!(f, "{text}")
     }
 }
 
