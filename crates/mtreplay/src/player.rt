@@ -89,6 +89,18 @@ impl<M: Ranges> Player<M> {
     }
 }
 
+/// What a query is told of a range: a load is told its entry alone.
+fn told_of(query: &Query, range: Range) -> Answer
+    ensures { result ≡ shown_range query.now range }
+{
+    match query {
+        Query::Load { .. } => Answer::Entry(range.entry),
+        Query::Find { .. } | Query::Next { .. } | Query::Prev { .. } | Query::Rfind { .. } => {
+            Answer::Range(range)
+        }
+    }
+}
+
 /// Plays the lines in order, over an empty map.
 fn play_lines<M: Ranges + Drop>(
     alloc: Global,
