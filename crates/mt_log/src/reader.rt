@@ -25,15 +25,16 @@ impl Reader {
     ghost use Rattle.std.specs.Prelude.{◌≡◌, ◌<◌, ◌-◌, ◌^◌, OnOk, IfOk, length};
     ghost use Rattle.mt_log.specs.Reading.{nothing_read, after_item, after_skipped, before_steps, room_for_tree};
 
-    pub fn new(alloc: Global) -> Self
-        ensures { result ≡ nothing_read }
+    /// A reader behind the first line, with room for so many lines that say something.
+    pub fn new(alloc: Global, room: usize) -> Result<Self, AllocError>
+        ensures { IfOk result (λ reader. reader ≡ nothing_read) }
     {
-        Reader {
+        Ok(Reader {
             names: Vec::new(alloc),
             stepped: false,
-            lines: Vec::new(alloc),
+            lines: Vec::with_capacity(alloc, room)?,
             next: 2,
-        }
+        })
     }
 
     /// The names of the declared trees.
@@ -44,7 +45,7 @@ impl Reader {
     }
 
     /// The number of the next line.
-    pub fn next(&self) -> u64
+    pub fn next_line(&self) -> u64
         ensures { result ≡ self.now.next }
     {
         self.next

@@ -13,6 +13,9 @@ use crate::lines::{Item, Lines, Log};
 use crate::reader::Reader;
 use std::alloc::Global;
 
+/// The length of a short step, as `load a 1`, with its LF.
+const SHORT_STEP: usize = 9;
+
 /// Whether a line says nothing.
 fn is_skipped(line: &[u8]) -> bool
     ensures { result ≡ is_skipped line.now }
@@ -46,7 +49,7 @@ fn read_line(reader: &mut Reader, line: &[u8]) -> Result<(), LogError>
             Ok(())
         }
         Err(why) => Err(LogError::Bad {
-            line: reader.next(),
+            line: reader.next_line(),
             why,
         }),
     }
@@ -59,7 +62,7 @@ fn read_lines(alloc: Global, text: &[u8]) -> Result<Reader, LogError>
     ensures sound { IfOk result (λ r. IsSound r) }
     ensures count { IfOk result (λ r. length r.lines ≤ length text.now) }
 {
-    let mut reader = Reader::new(alloc);
+    let mut reader = Reader::new(alloc, text.len() / SHORT_STEP)?;
     let mut rest = text;
     while let Some((line, others)) = cut(rest, b'\n') {
         read_line(&mut reader, line)?;
@@ -67,7 +70,7 @@ fn read_lines(alloc: Global, text: &[u8]) -> Result<Reader, LogError>
     }
     if !rest.is_empty() {
         return Err(LogError::Bad {
-            line: reader.next(),
+            line: reader.next_line(),
             why: Why::NoNewline,
         });
     }
