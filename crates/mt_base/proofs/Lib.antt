@@ -1,3 +1,4 @@
+pub mod CallsKeepOrder
 pub mod OneRange
 pub mod ReadingAfterStore
 pub mod StoredOrder

@@ -1,6 +1,7 @@
 -- A map of disjoint ranges, what it holds at an index, and what it becomes by a store.
 -- Source: the kernel's documentation of the maple tree, mtree_load and mtree_store_range.
-use Rattle.std.specs.Prelude.{ℕ, Bool, List, [], ◌∷◌, ◌++◌, Option, ◌+◌, ◌-◌, ◌<◌, ◌≤◌, ◌==◌, ◌&&◌, nat_lt, nat_le, min, max, map, filter, find, if◌then◌else◌}
+use Rattle.std.specs.Prelude.{ℕ, Bool, List, [], ◌∷◌, ◌++◌, Option, ◌+◌, ◌-◌, ◌<◌, ◌≤◌, ◌==◌, ◌&&◌, nat_lt, nat_le, not, min, max, map, filter, find, length, slice_get, if◌then◌else◌}
+use Rattle.std.specs.List.{list_any}
 use Rattle.mt_base.specs.declared.ranges.Range.{Range}
 
 -- Ranges from `low` upwards: each holds an index and an entry, and begins above the last index of the one before.
@@ -17,6 +18,25 @@ holds index r = nat_le r.first index && nat_le index r.last
 -- the range that holds an index
 abbrev pub holding : List Range → ℕ → Option Range
 holding m index = find (holds index) m
+
+-- whether a range holds some index of first..last
+abbrev pub overlaps : ℕ → ℕ → Range → Bool
+overlaps first last r = nat_le r.first last && nat_le first r.last
+
+-- whether some range of the map does
+abbrev pub is_held : List Range → ℕ → ℕ → Bool
+is_held m first last = list_any (overlaps first last) m
+
+-- the map without the range that holds an index
+abbrev pub without : List Range → ℕ → List Range
+without m index = filter (λ r. not (holds index r)) m
+
+-- the first and the last range of a list
+abbrev pub first_range : List Range → Option Range
+first_range m = slice_get m 0
+
+abbrev pub last_range : List Range → Option Range
+last_range m = slice_get m (length m - 1)
 
 -- what is left of a range below `first`, and above `last`
 abbrev pub cut_below : ℕ → Range → Range

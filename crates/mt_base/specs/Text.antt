@@ -9,6 +9,9 @@ use Rattle.mt_base.specs.declared.replies.Reply.TheVariants as replies
 
 abbrev pub reply_text : Reply → List ℕ
 reply_text replies.Ok = codes "ok"
+reply_text (replies.Was entry) = codes "was " ++ decimal entry
+reply_text replies.None = codes "none"
+reply_text replies.Exists = codes "exists"
 reply_text replies.Invalid = codes "invalid"
 
 abbrev pub kind_text : Kind → List ℕ

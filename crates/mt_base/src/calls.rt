@@ -6,6 +6,12 @@ ghost use Rattle.mt_base.specs.Entry.{reserved};
 pub enum Call {
     /// Stores `entry` over `first` to `last`, or makes a hole there where `entry` is 0.
     Store { first: u64, last: u64, entry: u64 },
+    /// Stores `entry` over `first` to `last` where no range holds any of these indexes.
+    Insert { first: u64, last: u64, entry: u64 },
+    /// Removes the whole range that holds `index`.
+    Erase { index: u64 },
+    /// Removes every range.
+    Clear,
 }
 
 /// A call that reads.
@@ -13,6 +19,14 @@ pub enum Call {
 pub enum Query {
     /// The range that holds `index`.
     Load { index: u64 },
+    /// The first range that ends at `index` or above and begins at `max` or below, where `index` is at most `max`.
+    Find { index: u64, max: u64 },
+    /// The first range that begins above `index`, and at `max` or below.
+    Next { index: u64, max: u64 },
+    /// The last range that ends below `index`, and at `min` or above.
+    Prev { index: u64, min: u64 },
+    /// The last range that begins at `index` or below and ends at `min` or above, where `index` is at least `min`.
+    Rfind { index: u64, min: u64 },
 }
 
 /// Whether the tree keeps this entry for its own use: no call stores such an entry.

@@ -1,13 +1,21 @@
 //! What holds of every map of ranges. Each law is the contract of a function that does nothing.
 
 ghost use Rattle.std.specs.Prelude.{◌≡◌, ◌<◌, ◌≤◌, ◌-◌, ◌^◌, ◌==◌, ℕ, List, [], ◌∷◌, option_map, slice_get, IsTrue, if◌then◌else◌};
+ghost use Rattle.mt_base.specs.declared.kinds.Kind.{Kind};
 ghost use Rattle.mt_base.specs.declared.ranges.Range.{Range};
+ghost use Rattle.mt_base.specs.declared.calls.Call.{Call};
+ghost use Rattle.mt_base.specs.Call.{acted};
 ghost use Rattle.mt_base.specs.Map.{IsMap, holds, holding, over};
 
 /// A store keeps a map a map.
 #[tactic(auto, using(crate::proofs::StoredOrder::over_is_map))]
 pub fn store_keeps_map()
     ensures { (m : List Range) (first last entry : ℕ) → first ≤ last → IsMap m → IsMap (over m first last entry) }
+{}
+
+/// Every call keeps a map a map.
+pub fn call_keeps_map()
+    ensures { (kind : Kind) (m : List Range) (call : Call) → IsMap m → IsMap (acted kind m call).0 }
 {}
 
 /// After a store an index of its range has the entry that was stored, none where that is 0, and every other index the entry it had.

@@ -5,7 +5,13 @@ use std::fmt;
 pub enum Reply {
     /// The call was done.
     Ok,
-    /// The call's range ends before it begins, or its entry is reserved. Nothing was changed.
+    /// The range that held the index is removed, and this was its entry.
+    Was(u64),
+    /// No range held the index. Nothing was changed.
+    None,
+    /// Some index of the call's range is held already. Nothing was changed.
+    Exists,
+    /// The call's range ends before it begins, or its entry is reserved, or is 0 in an insert. Nothing was changed.
     Invalid,
 }
 
@@ -18,6 +24,9 @@ impl fmt::Display for Reply {
     fn fmt<W: fmt::Write>(&self, f: &mut fmt::Formatter<W>) -> fmt::Result {
         match self {
             Reply::Ok => write!(f, "ok"),
+            Reply::Was(entry) => write!(f, "was {entry}"),
+            Reply::None => write!(f, "none"),
+            Reply::Exists => write!(f, "exists"),
             Reply::Invalid => write!(f, "invalid"),
         }
     }

@@ -1,25 +1,20 @@
 -- The range that holds an index stands at the index's place.
-use Rattle.std.proofs.Common.{◌≡◌, ℕ, ◌+◌, ◌<◌, ◌≤◌, suc, List, [], ◌∷◌, Option, Some, None, arith, nat_lt, nat_le, cond, refl, inl, inr}
+use Rattle.std.proofs.Common.{◌≡◌, ℕ, ◌+◌, ◌<◌, ◌≤◌, suc, List, [], ◌∷◌, None, arith, nat_lt, nat_le, refl, inl, inr}
 use Rattle.std.specs.List.{slice_get}
 use Rattle.std.proofs.lemmas.Bool.{cond_both, cases_Bool, ltb-true, ltb-false, lt-leb, le-leb}
 use Rattle.mt_base.specs.declared.ranges.Range.{Range}
 use Rattle.mt_base.specs.Map.{IsMapFrom, IsMap, holding}
-use Rattle.mt_list.specs.Places.{place_below}
-
--- the range, if it begins at the index or below
-abbrev pub kept_at : ℕ → Option Range → Option Range
-kept_at index None = None
-kept_at index (Some r) = cond (nat_le r.first index) (Some r) None
+use Rattle.mt_list.specs.Places.{place_below, up_to}
 
 -- no range of a map from above the index holds it
 none_holds : (m : List Range) (low index : ℕ) → index < low → IsMapFrom low m → holding m index ≡ None
 none_holds [] low index above ordered = refl
 none_holds (r ∷ m) low index above ordered = rw (lt-leb r.first index (omega (arith, ordered.0))) (none_holds m (r.last + 1) index (omega (arith, ordered.0, ordered.1)) ordered.3)
 
-holding_from : (m : List Range) (low index : ℕ) → IsMapFrom low m → holding m index ≡ kept_at index (slice_get m (place_below m index))
+holding_from : (m : List Range) (low index : ℕ) → IsMapFrom low m → holding m index ≡ up_to index (slice_get m (place_below m index))
 holding_from [] low index ordered = refl
 holding_from (r ∷ m) low index ordered =
-    cond_both (nat_lt r.last index) (1 + place_below m index) 0 (λ n. holding (r ∷ m) index ≡ kept_at index (slice_get (r ∷ m) n))
+    cond_both (nat_lt r.last index) (1 + place_below m index) 0 (λ n. holding (r ∷ m) index ≡ up_to index (slice_get (r ∷ m) n))
     (λ yes.
     let ends : r.last < index = ltb-true r.last index yes in
     let next : 1 + place_below m index ≡ suc (place_below m index) = omega arith in
@@ -32,5 +27,5 @@ holding_from (r ∷ m) low index ordered =
     ])
 
 -- the range at the index's place, if it begins at the index or below, is the one that holds it
-pub holding_at_place : (m : List Range) (index : ℕ) → IsMap m → holding m index ≡ kept_at index (slice_get m (place_below m index))
+pub holding_at_place : (m : List Range) (index : ℕ) → IsMap m → holding m index ≡ up_to index (slice_get m (place_below m index))
 holding_at_place m index ordered = holding_from m 0 index ordered

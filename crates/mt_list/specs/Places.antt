@@ -1,4 +1,4 @@
--- Where a store begins and ends in a list of ranges, and what the ranges there keep of themselves.
+-- Where a call or a query begins and ends in a list of ranges, and what of the ranges there it keeps.
 use Rattle.std.specs.Prelude.{ℕ, List, [], ◌∷◌, Option, Some, None, nat_lt, nat_le, if◌then◌else◌}
 use Rattle.std.specs.List.{prefix_len}
 use Rattle.mt_base.specs.declared.ranges.Range.{Range}
@@ -25,3 +25,12 @@ piece_below first (Some r) = if nat_lt r.first first then cut_below first r ∷ 
 abbrev pub piece_above : ℕ → Option Range → List Range
 piece_above last None = []
 piece_above last (Some r) = if nat_lt last r.last then cut_above last r ∷ [] else []
+
+-- the range, where it begins at `max` or below, and where it ends at `min` or above
+abbrev pub up_to : ℕ → Option Range → Option Range
+up_to max None = None
+up_to max (Some r) = if nat_le r.first max then Some r else None
+
+abbrev pub down_to : ℕ → Option Range → Option Range
+down_to min None = None
+down_to min (Some r) = if nat_le min r.last then Some r else None

@@ -1,8 +1,8 @@
-ghost use Rattle.std.specs.Prelude.{◌≡◌, ◌≤◌, ◌+◌, ◌++◌, length, take, drop, vec_len, IfOk, OnOk, OnErr, option_to_list};
-ghost use Rattle.mt_base.specs.Map.{IsMap, over, part_stored};
+ghost use Rattle.std.specs.Prelude.{◌≡◌, ◌<◌, ◌≤◌, ◌+◌, [], ◌∷◌, ◌++◌, take, drop, length, vec_len, IfOk, OnOk, OnErr, OnSome, IfNone, option_to_list};
+ghost use Rattle.mt_base.specs.Map.{IsMap, holding, over, part_stored, without};
 ghost use Rattle.mt_list.specs.Places.{piece_below, piece_above};
 
-use crate::places::{last_of, place_above, place_below, range_at};
+use crate::places::{last_of, place_above, place_below, range_at, up_to};
 use mt_base::Range;
 use std::alloc::{AllocError, Global};
 
@@ -117,4 +117,18 @@ pub fn store(ranges: &mut Vec<Range>, first: u64, last: u64, entry: u64) -> Resu
     let above = piece_above(last_of(&ranges[..end]), last);
     let pieces = pieces(*ranges.allocator(), below, stored, above)?;
     replace(ranges, start, end, pieces)
+}
+
+/// Removes the range that holds `index`, and gives it; each range above it moves once.
+#[tactic(auto, using(crate::proofs::EraseAtPlace::erases))]
+pub fn erase(ranges: &mut Vec<Range>, index: u64) -> Option<Range>
+    requires { IsMap ranges.old.items }
+    ensures range { result ≡ holding ranges.old.items index }
+    ensures some { OnSome result (ranges.new.items ≡ without ranges.old.items index) }
+    ensures none { IfNone result (ranges.new.items ≡ ranges.old.items) }
+{
+    let place = place_below(ranges, index);
+    let range = up_to(range_at(ranges, place), index)?;
+    ranges.remove(place);
+    Some(range)
 }

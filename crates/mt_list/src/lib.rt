@@ -7,6 +7,7 @@ mod places;
 #[cfg(test)]
 mod plain;
 mod ranges;
+mod searches;
 #[cfg(test)]
 mod tests;
 

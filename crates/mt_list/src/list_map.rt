@@ -1,8 +1,9 @@
 ghost use Rattle.std.specs.Prelude.{◌≡◌, []};
+ghost use Rattle.mt_base.specs.Call.{is_invalid};
 
-use crate::edits::store;
-use crate::places::range_holding;
+use crate::edits::{erase, store};
 use crate::ranges::Ranges;
+use crate::searches::{first_above, first_from, is_held, last_below, last_up_to, range_holding};
 use mt_base::{Call, Kind, NoMemory, Query, Range, Reply, is_reserved};
 use std::alloc::Global;
 use std::marker::Model;
@@ -38,6 +39,13 @@ impl ListMap {
     }
 }
 
+/// Whether a call that stores cannot mean this.
+fn is_invalid(first: u64, last: u64, entry: u64) -> bool
+    ensures { result ≡ is_invalid first last entry }
+{
+    first > last || is_reserved(entry)
+}
+
 impl Ranges for ListMap {
     ghost map = { λ m. m.ranges };
 
@@ -45,14 +53,32 @@ impl Ranges for ListMap {
 
     ghost used = { λ _. 0 };
 
-    #[tactic(auto, using(mt_base::proofs::StoredOrder::over_is_map))]
+    #[tactic(auto, using(mt_base::proofs::StoredOrder::over_is_map, mt_base::proofs::CallsKeepOrder::without_is_map))]
     fn act(&mut self, call: &Call) -> Result<Reply, NoMemory> {
         match *call {
             Call::Store { first, last, entry } => {
-                if first > last || is_reserved(entry) {
+                if is_invalid(first, last, entry) {
                     return Ok(Reply::Invalid);
                 }
                 store(&mut self.ranges, first, last, entry)?;
+                Ok(Reply::Ok)
+            }
+            Call::Insert { first, last, entry } => {
+                if is_invalid(first, last, entry) || entry == 0 {
+                    return Ok(Reply::Invalid);
+                }
+                if is_held(&self.ranges, first, last) {
+                    return Ok(Reply::Exists);
+                }
+                store(&mut self.ranges, first, last, entry)?;
+                Ok(Reply::Ok)
+            }
+            Call::Erase { index } => match erase(&mut self.ranges, index) {
+                Some(range) => Ok(Reply::Was(range.entry)),
+                None => Ok(Reply::None),
+            },
+            Call::Clear => {
+                self.ranges.clear();
                 Ok(Reply::Ok)
             }
         }
@@ -61,6 +87,10 @@ impl Ranges for ListMap {
     fn ask(&mut self, query: &Query) -> Option<Range> {
         match *query {
             Query::Load { index } => range_holding(&self.ranges, index),
+            Query::Find { index, max } => first_from(&self.ranges, index, max),
+            Query::Next { index, max } => first_above(&self.ranges, index, max),
+            Query::Prev { index, min } => last_below(&self.ranges, index, min),
+            Query::Rfind { index, min } => last_up_to(&self.ranges, index, min),
         }
     }
 

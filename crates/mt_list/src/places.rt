@@ -1,6 +1,6 @@
 ghost use Rattle.std.specs.Prelude.{◌≡◌, slice_get};
-ghost use Rattle.mt_base.specs.Map.{IsMap, holding};
-ghost use Rattle.mt_list.specs.Places.{place_below, place_above, last_of};
+ghost use Rattle.mt_base.specs.Map.{IsMap};
+ghost use Rattle.mt_list.specs.Places.{place_below, place_above, last_of, up_to, down_to};
 
 use mt_base::Range;
 
@@ -33,16 +33,16 @@ pub fn last_of(ranges: &[Range]) -> Option<Range>
     ranges.last().copied()
 }
 
-/// The range that holds `index`.
-#[tactic(auto, using(crate::proofs::HoldingAtPlace::holding_at_place))]
-pub fn range_holding(ranges: &[Range], index: u64) -> Option<Range>
-    requires { IsMap ranges.now }
-    ensures { result ≡ holding ranges.now index }
+/// The range, where it begins at `max` or below.
+pub fn up_to(range: Option<Range>, max: u64) -> Option<Range>
+    ensures { result ≡ up_to max range }
 {
-    let range = range_at(ranges, place_below(ranges, index))?;
-    if range.first <= index {
-        Some(range)
-    } else {
-        None
-    }
+    range.filter(|r| r.first <= max)
+}
+
+/// The range, where it ends at `min` or above.
+pub fn down_to(range: Option<Range>, min: u64) -> Option<Range>
+    ensures { result ≡ down_to min range }
+{
+    range.filter(|r| r.last >= min)
 }

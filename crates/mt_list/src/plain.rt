@@ -1,9 +1,11 @@
-//! The definitions as a plain, slow program: what the ranges hold and become, by going over all of them.
+//! The definitions as a plain, slow program: what the ranges hold, become and answer, by going over all of them.
 
-ghost use Rattle.std.specs.Prelude.{◌≡◌, IfOk};
-ghost use Rattle.mt_base.specs.Map.{over, holds, holding, parts_below, parts_above};
+ghost use Rattle.std.specs.Prelude.{◌≡◌, ◌&&◌, IfOk, filter, nat_lt, nat_le};
+ghost use Rattle.mt_base.specs.declared.kinds.Kind.{Kind};
+ghost use Rattle.mt_base.specs.Call.{acted, answer, is_invalid};
+ghost use Rattle.mt_base.specs.Map.{over, holds, holding, overlaps, is_held, without, parts_below, parts_above, first_range, last_range};
 
-use mt_base::Range;
+use mt_base::{Call, Query, Range, Reply, is_reserved};
 use std::alloc::{AllocError, Global};
 
 fn holds(range: &Range, index: u64) -> bool
@@ -13,10 +15,33 @@ fn holds(range: &Range, index: u64) -> bool
 }
 
 /// The range that holds `index`.
-pub fn holding(ranges: &[Range], index: u64) -> Option<Range>
+fn holding(ranges: &[Range], index: u64) -> Option<Range>
     ensures { result ≡ holding ranges.now index }
 {
     ranges.iter().copied().find(|r| holds(r, index))
+}
+
+fn overlaps(range: &Range, first: u64, last: u64) -> bool
+    ensures { result ≡ overlaps first last range.now }
+{
+    range.first <= last && first <= range.last
+}
+
+fn is_held(ranges: &[Range], first: u64, last: u64) -> bool
+    ensures { result ≡ is_held ranges.now first last }
+{
+    ranges.iter().any(|r| overlaps(r, first, last))
+}
+
+/// The ranges without the one that holds `index`.
+fn without(alloc: Global, ranges: &[Range], index: u64) -> Result<Vec<Range>, AllocError>
+    ensures { IfOk result (λ rest. rest.items ≡ without ranges.now index) }
+{
+    ranges
+        .iter()
+        .copied()
+        .filter(|r| !holds(r, index))
+        .collect(alloc)
 }
 
 /// What is left of the ranges below `first`.
@@ -48,7 +73,7 @@ fn parts_above(alloc: Global, ranges: &[Range], last: u64) -> Result<Vec<Range>,
 }
 
 /// What the ranges become where `stored` is put over its indexes.
-pub fn over(alloc: Global, ranges: &[Range], stored: Range) -> Result<Vec<Range>, AllocError>
+fn over(alloc: Global, ranges: &[Range], stored: Range) -> Result<Vec<Range>, AllocError>
     ensures { IfOk result (λ after. after.items ≡ over ranges.now stored.first stored.last stored.entry) }
 {
     let mut after = parts_below(alloc, ranges, stored.first)?;
@@ -58,4 +83,139 @@ pub fn over(alloc: Global, ranges: &[Range], stored: Range) -> Result<Vec<Range>
     let above = parts_above(alloc, ranges, stored.last)?;
     after.extend_from_slice(&above)?;
     Ok(after)
+}
+
+fn is_invalid(first: u64, last: u64, entry: u64) -> bool
+    ensures { result ≡ is_invalid first last entry }
+{
+    last < first || is_reserved(entry)
+}
+
+/// The ranges after a call, and its reply.
+pub fn acted(
+    alloc: Global,
+    ranges: &[Range],
+    call: &Call,
+) -> Result<(Vec<Range>, Reply), AllocError>
+    ensures { (kind : Kind) → IfOk result (λ after. (after.0.items, after.1) ≡ acted kind ranges.now call.now) }
+{
+    match *call {
+        Call::Store { first, last, entry } => {
+            if is_invalid(first, last, entry) {
+                return Ok((Vec::from_slice(alloc, ranges)?, Reply::Invalid));
+            }
+            Ok((
+                over(alloc, ranges, Range { first, last, entry })?,
+                Reply::Ok,
+            ))
+        }
+        Call::Insert { first, last, entry } => {
+            if is_invalid(first, last, entry) || entry == 0 {
+                return Ok((Vec::from_slice(alloc, ranges)?, Reply::Invalid));
+            }
+            if is_held(ranges, first, last) {
+                return Ok((Vec::from_slice(alloc, ranges)?, Reply::Exists));
+            }
+            Ok((
+                over(alloc, ranges, Range { first, last, entry })?,
+                Reply::Ok,
+            ))
+        }
+        Call::Erase { index } => match holding(ranges, index) {
+            Some(range) => Ok((without(alloc, ranges, index)?, Reply::Was(range.entry))),
+            None => Ok((Vec::from_slice(alloc, ranges)?, Reply::None)),
+        },
+        Call::Clear => Ok((Vec::new(alloc), Reply::Ok)),
+    }
+}
+
+/// The first range that ends at `index` or above and begins at `max` or below.
+fn first_ending_from(
+    alloc: Global,
+    ranges: &[Range],
+    index: u64,
+    max: u64,
+) -> Result<Option<Range>, AllocError>
+    ensures { IfOk result (λ found. found ≡ first_range (filter (λ r. nat_le index r.last && nat_le r.first max) ranges.now)) }
+{
+    let found: Vec<Range> = ranges
+        .iter()
+        .copied()
+        .filter(|r| index <= r.last && r.first <= max)
+        .collect(alloc)?;
+    Ok(found.first().copied())
+}
+
+/// The first range that begins above `index`, and at `max` or below.
+fn first_beginning_above(
+    alloc: Global,
+    ranges: &[Range],
+    index: u64,
+    max: u64,
+) -> Result<Option<Range>, AllocError>
+    ensures { IfOk result (λ found. found ≡ first_range (filter (λ r. nat_lt index r.first && nat_le r.first max) ranges.now)) }
+{
+    let found: Vec<Range> = ranges
+        .iter()
+        .copied()
+        .filter(|r| index < r.first && r.first <= max)
+        .collect(alloc)?;
+    Ok(found.first().copied())
+}
+
+/// The last range that ends below `index`, and at `min` or above.
+fn last_ending_below(
+    alloc: Global,
+    ranges: &[Range],
+    index: u64,
+    min: u64,
+) -> Result<Option<Range>, AllocError>
+    ensures { IfOk result (λ found. found ≡ last_range (filter (λ r. nat_lt r.last index && nat_le min r.last) ranges.now)) }
+{
+    let found: Vec<Range> = ranges
+        .iter()
+        .copied()
+        .filter(|r| r.last < index && min <= r.last)
+        .collect(alloc)?;
+    Ok(found.last().copied())
+}
+
+/// The last range that begins at `index` or below and ends at `min` or above.
+fn last_beginning_up_to(
+    alloc: Global,
+    ranges: &[Range],
+    index: u64,
+    min: u64,
+) -> Result<Option<Range>, AllocError>
+    ensures { IfOk result (λ found. found ≡ last_range (filter (λ r. nat_le r.first index && nat_le min r.last) ranges.now)) }
+{
+    let found: Vec<Range> = ranges
+        .iter()
+        .copied()
+        .filter(|r| r.first <= index && min <= r.last)
+        .collect(alloc)?;
+    Ok(found.last().copied())
+}
+
+/// The range that answers a query.
+pub fn answer(alloc: Global, ranges: &[Range], query: &Query) -> Result<Option<Range>, AllocError>
+    ensures { IfOk result (λ found. found ≡ answer ranges.now query.now) }
+{
+    match *query {
+        Query::Load { index } => Ok(holding(ranges, index)),
+        Query::Find { index, max } => {
+            if index > max {
+                return Ok(None);
+            }
+            first_ending_from(alloc, ranges, index, max)
+        }
+        Query::Next { index, max } => first_beginning_above(alloc, ranges, index, max),
+        Query::Prev { index, min } => last_ending_below(alloc, ranges, index, min),
+        Query::Rfind { index, min } => {
+            if index < min {
+                return Ok(None);
+            }
+            last_beginning_up_to(alloc, ranges, index, min)
+        }
+    }
 }

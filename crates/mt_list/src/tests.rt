@@ -4,184 +4,266 @@ use std::alloc::Global;
 use std::process::Abort;
 use std::test::Fail;
 
+const TOP: u64 = u64::MAX;
+
 fn range(first: u64, last: u64, entry: u64) -> Range {
     Range { first, last, entry }
 }
 
-fn store(map: &mut ListMap, stored: Range) -> Result<Reply, NoMemory> {
-    let Range { first, last, entry } = stored;
-    map.act(&Call::Store { first, last, entry })
+fn store(first: u64, last: u64, entry: u64) -> Call {
+    Call::Store { first, last, entry }
 }
 
-/// The ranges of a new map after these stores.
-fn ranges_after(alloc: Global, stores: &[Range]) -> Result<Vec<Range>, NoMemory> {
-    let mut map = ListMap::new(alloc, Kind::Range);
-    for stored in stores {
-        store(&mut map, *stored)?;
-    }
-    map.list(alloc)
+fn insert(first: u64, last: u64, entry: u64) -> Call {
+    Call::Insert { first, last, entry }
 }
 
-fn plain_ranges_after(alloc: Global, stores: &[Range]) -> Result<Vec<Range>, NoMemory> {
-    let mut ranges = Vec::new(alloc);
-    for stored in stores {
-        ranges = plain::over(alloc, &ranges, *stored)?;
-    }
-    Ok(ranges)
+fn erase(index: u64) -> Call {
+    Call::Erase { index }
 }
 
-fn expect_after(
+fn load(index: u64) -> Query {
+    Query::Load { index }
+}
+
+fn find(index: u64, max: u64) -> Query {
+    Query::Find { index, max }
+}
+
+fn next(index: u64, max: u64) -> Query {
+    Query::Next { index, max }
+}
+
+fn prev(index: u64, min: u64) -> Query {
+    Query::Prev { index, min }
+}
+
+fn rfind(index: u64, min: u64) -> Query {
+    Query::Rfind { index, min }
+}
+
+/// Plays the calls on a new map and by the plain program; the replies and the ranges in the end are as wanted.
+fn map_after(
     rt: &impl Abort,
     alloc: Global,
-    stores: &[Range],
+    calls: &[(Call, Reply)],
     want: &[Range],
-) -> Result<(), NoMemory> {
-    assert_eq!(rt; ranges_after(alloc, stores)?.as_slice(), want);
-    assert_eq!(rt; plain_ranges_after(alloc, stores)?.as_slice(), want);
-    Ok(())
+) -> Result<ListMap, NoMemory> {
+    let mut map = ListMap::new(alloc, Kind::Range);
+    let mut ranges = Vec::new(alloc);
+    for (call, reply) in calls {
+        let (after, answered) = plain::acted(alloc, &ranges, call)?;
+        ranges = after;
+        assert_eq!(rt; answered, *reply, "the plain program at {call:?}");
+        assert_eq!(rt; map.act(call)?, *reply, "at {call:?}");
+    }
+    assert_eq!(rt; ranges.as_slice(), want);
+    assert_eq!(rt; map.list(alloc)?.as_slice(), want);
+    Ok(map)
+}
+
+fn expect_answers(rt: &impl Abort, map: &mut ListMap, queries: &[(Query, Option<Range>)]) {
+    for (query, want) in queries {
+        assert_eq!(rt; map.ask(query), *want, "at {query:?}");
+    }
 }
 
 #[test]
 fn stores_into_erases_from_and_ends_at_the_last_index(rt: HostRuntime) -> Result<(), Fail> {
-    let split = [range(0, 39, 1), range(40, 49, 3), range(50, 99, 1)];
-    expect_after(
-        &rt,
-        rt.alloc(),
-        &[range(0, 99, 1), range(40, 49, 3)],
-        &split,
-    )?;
-    let erased = [range(0, 39, 1), range(61, 99, 1)];
-    let stores = [range(0, 99, 1), range(40, 49, 0), range(45, 60, 0)];
-    expect_after(&rt, rt.alloc(), &stores, &erased)?;
-    let top = [range(0, u64::MAX - 1, 7), range(u64::MAX, u64::MAX, 9)];
-    let stores = [range(0, u64::MAX, 7), range(u64::MAX, u64::MAX, 9)];
-    expect_after(&rt, rt.alloc(), &stores, &top)?;
+    let calls = [(store(0, 99, 1), Reply::Ok), (store(40, 49, 3), Reply::Ok)];
+    let want = [range(0, 39, 1), range(40, 49, 3), range(50, 99, 1)];
+    map_after(&rt, rt.alloc(), &calls, &want)?;
+    let calls = [
+        (store(0, 99, 1), Reply::Ok),
+        (store(40, 49, 0), Reply::Ok),
+        (store(45, 60, 0), Reply::Ok),
+    ];
+    let want = [range(0, 39, 1), range(61, 99, 1)];
+    map_after(&rt, rt.alloc(), &calls, &want)?;
+    let calls = [
+        (store(0, TOP, 7), Reply::Ok),
+        (store(TOP, TOP, 9), Reply::Ok),
+    ];
+    let want = [range(0, TOP - 1, 7), range(TOP, TOP, 9)];
+    map_after(&rt, rt.alloc(), &calls, &want)?;
     Ok(())
 }
 
 #[test]
 fn refuses_what_is_invalid(rt: HostRuntime) -> Result<(), Fail> {
-    let mut map = ListMap::new(rt.alloc(), Kind::Alloc);
-    let cases = [
-        (range(10, 19, 5), Reply::Ok),
-        (range(20, 10, 6), Reply::Invalid),
-        (range(12, 12, 2), Reply::Invalid),
-        (range(12, 12, 4094), Reply::Invalid),
-        (range(20, 29, 4098), Reply::Ok),
+    let calls = [
+        (store(5, 4, 1), Reply::Invalid),
+        (store(1, 1, 2), Reply::Invalid),
+        (store(1, 1, 4094), Reply::Invalid),
+        (store(1, 1, 4098), Reply::Ok),
+        (insert(2, 2, 0), Reply::Invalid),
     ];
-    for (stored, want) in cases {
-        assert_eq!(rt; store(&mut map, stored)?, want, "at {stored}");
-    }
-    let want = [range(10, 19, 5), range(20, 29, 4098)];
-    assert_eq!(rt; map.list(rt.alloc())?.as_slice(), want.as_slice());
+    map_after(&rt, rt.alloc(), &calls, &[range(1, 1, 4098)])?;
     Ok(())
 }
 
 #[test]
-fn loads_to_both_ends_of_a_range(rt: HostRuntime) -> Result<(), Fail> {
+fn inserts_where_no_index_is_held(rt: HostRuntime) -> Result<(), Fail> {
+    let calls = [
+        (insert(20, 29, 3), Reply::Ok),
+        (insert(29, 29, 4), Reply::Exists),
+        (insert(30, 30, 4), Reply::Ok),
+    ];
+    let want = [range(20, 29, 3), range(30, 30, 4)];
+    map_after(&rt, rt.alloc(), &calls, &want)?;
+    Ok(())
+}
+
+#[test]
+fn erases_the_whole_range_and_clears(rt: HostRuntime) -> Result<(), Fail> {
+    let calls = [
+        (store(10, 19, 5), Reply::Ok),
+        (erase(15), Reply::Was(5)),
+        (erase(15), Reply::None),
+    ];
+    map_after(&rt, rt.alloc(), &calls, &[])?;
+    let calls = [
+        (store(10, 19, 5), Reply::Ok),
+        (store(30, 39, 7), Reply::Ok),
+        (Call::Clear, Reply::Ok),
+    ];
+    map_after(&rt, rt.alloc(), &calls, &[])?;
+    Ok(())
+}
+
+#[test]
+fn loads_and_finds_at_the_ends_of_a_range(rt: HostRuntime) -> Result<(), Fail> {
+    let held = range(10, 19, 5);
+    let mut map = map_after(&rt, rt.alloc(), &[(store(10, 19, 5), Reply::Ok)], &[held])?;
+    let queries = [
+        (load(9), None),
+        (load(10), Some(held)),
+        (load(19), Some(held)),
+        (load(20), None),
+        (find(5, 9), None),
+        (find(5, 10), Some(held)),
+        (find(20, TOP), None),
+        (find(15, 12), None),
+        (find(12, 12), Some(held)),
+    ];
+    expect_answers(&rt, &mut map, &queries);
+    Ok(())
+}
+
+#[test]
+fn walks_up_and_down(rt: HostRuntime) -> Result<(), Fail> {
+    let (low, middle, top) = (range(0, 9, 1), range(20, 29, 5), range(TOP, TOP, 3));
+    let calls = [
+        (store(0, 9, 1), Reply::Ok),
+        (store(20, 29, 5), Reply::Ok),
+        (store(TOP, TOP, 3), Reply::Ok),
+    ];
+    let mut map = map_after(&rt, rt.alloc(), &calls, &[low, middle, top])?;
+    let queries = [
+        (next(5, TOP), Some(middle)),
+        (next(10, TOP), Some(middle)),
+        (next(0, 20), Some(middle)),
+        (next(0, 19), None),
+        (next(TOP, TOP), None),
+        (prev(25, 0), Some(low)),
+        (prev(20, 0), Some(low)),
+        (prev(15, 10), None),
+        (prev(0, 0), None),
+        (rfind(15, 0), Some(low)),
+        (rfind(15, 10), None),
+        (rfind(TOP, 0), Some(top)),
+    ];
+    expect_answers(&rt, &mut map, &queries);
+    Ok(())
+}
+
+#[test]
+fn walks_over_single_indexes(rt: HostRuntime) -> Result<(), Fail> {
     let mut map = ListMap::new(rt.alloc(), Kind::Range);
-    store(&mut map, range(10, 19, 5))?;
-    let held = Some(range(10, 19, 5));
-    for (index, want) in [(9, None), (10, held), (19, held), (20, None)] {
-        assert_eq!(rt; map.ask(&Query::Load { index }), want, "at {index}");
+    for k in 0..17 {
+        map.act(&store(2 * k, 2 * k, 1))?;
+    }
+    for k in 0..16 {
+        let (index, above) = (2 * k, 2 * k + 2);
+        let queries = [
+            (next(index, TOP), Some(range(above, above, 1))),
+            (rfind(index + 1, 0), Some(range(index, index, 1))),
+        ];
+        expect_answers(&rt, &mut map, &queries);
     }
     Ok(())
 }
 
-/// Stores that lie below, above and inside of what is there, over its ends and over all of it, and that fill holes.
-const OVERLAPPING: [Range; 14] = [
-    Range {
-        first: 100,
-        last: 199,
-        entry: 1,
-    },
-    Range {
-        first: 40,
-        last: 49,
-        entry: 3,
-    },
-    Range {
-        first: 300,
-        last: 399,
-        entry: 4,
-    },
-    Range {
-        first: 90,
-        last: 109,
-        entry: 5,
-    },
-    Range {
-        first: 190,
-        last: 209,
-        entry: 7,
-    },
-    Range {
-        first: 140,
-        last: 149,
-        entry: 8,
-    },
-    Range {
-        first: 145,
-        last: 204,
-        entry: 0,
-    },
-    Range {
-        first: 160,
-        last: 169,
-        entry: 9,
-    },
-    Range {
-        first: 150,
-        last: 159,
-        entry: 11,
-    },
-    Range {
-        first: 170,
-        last: 204,
-        entry: 12,
-    },
-    Range {
-        first: 160,
-        last: 169,
-        entry: 13,
-    },
-    Range {
-        first: 45,
-        last: 350,
-        entry: 15,
-    },
-    Range {
-        first: 45,
-        last: 350,
-        entry: 0,
-    },
-    Range {
-        first: 0,
-        last: u64::MAX,
-        entry: 16,
-    },
+/// Linux 6.12 answers these otherwise, by a fault of its own.
+#[test]
+fn is_right_where_linux_is_not(rt: HostRuntime) -> Result<(), Fail> {
+    let calls = [
+        (store(5, 5, 1), Reply::Ok),
+        (insert(0, TOP, 3), Reply::Exists),
+    ];
+    map_after(&rt, rt.alloc(), &calls, &[range(5, 5, 1)])?;
+    let lowest = range(0, 0, 5);
+    let mut map = map_after(&rt, rt.alloc(), &[(store(0, 0, 5), Reply::Ok)], &[lowest])?;
+    expect_answers(&rt, &mut map, &[(prev(9, 1), None), (rfind(9, 1), None)]);
+    Ok(())
+}
+
+/// Calls that lie below, above and inside of what is there, over its ends and over all of it, and that fill holes.
+fn mixed_calls() -> [Call; 20] {
+    [
+        store(100, 199, 1),
+        store(40, 49, 3),
+        insert(300, 399, 4),
+        insert(399, 400, 5),
+        store(90, 109, 5),
+        store(190, 209, 7),
+        store(140, 149, 8),
+        store(145, 204, 0),
+        insert(160, 169, 9),
+        insert(150, 159, 11),
+        erase(105),
+        store(170, 204, 12),
+        insert(145, 149, 13),
+        erase(205),
+        erase(205),
+        store(45, 350, 15),
+        store(60, 350, 0),
+        store(0, TOP, 16),
+        Call::Clear,
+        insert(TOP, TOP, 17),
+    ]
+}
+
+const INDEXES: [u64; 16] = [
+    0, 39, 40, 49, 50, 99, 100, 140, 149, 150, 160, 199, 300, 399, 400, TOP,
 ];
 
 #[test]
 fn agrees_with_the_plain_program(rt: HostRuntime) -> Result<(), Fail> {
-    let mut map = ListMap::new(rt.alloc(), Kind::Range);
-    let mut ranges = Vec::new(rt.alloc());
-    for stored in &OVERLAPPING {
-        store(&mut map, *stored)?;
-        ranges = plain::over(rt.alloc(), &ranges, *stored)?;
+    let alloc = rt.alloc();
+    let mut map = ListMap::new(alloc, Kind::Range);
+    let mut ranges = Vec::new(alloc);
+    for call in &mixed_calls() {
+        let (after, reply) = plain::acted(alloc, &ranges, call)?;
+        ranges = after;
+        assert_eq!(rt; map.act(call)?, reply, "at {call:?}");
         assert_eq!(rt;
-            map.list(rt.alloc())?.as_slice(),
+            map.list(alloc)?.as_slice(),
             ranges.as_slice(),
-            "after {stored}"
+            "after {call:?}"
         );
-        for Range { first, last, .. } in OVERLAPPING {
-            for index in [first, last, first.saturating_sub(1), last.saturating_add(1)] {
-                let held = plain::holding(&ranges, index);
-                assert_eq!(rt;
-                    map.ask(&Query::Load { index }),
-                    held,
-                    "at {index} after {stored}"
-                );
+        for index in INDEXES {
+            for end in INDEXES {
+                for query in [
+                    load(index),
+                    find(index, end),
+                    next(index, end),
+                    prev(index, end),
+                    rfind(index, end),
+                ] {
+                    let answer = plain::answer(alloc, &ranges, &query)?;
+                    assert_eq!(rt; map.ask(&query), answer, "at {query:?} after {call:?}");
+                }
             }
         }
     }

@@ -1,6 +1,6 @@
-pub mod Numbers
+pub mod Digits
+pub mod FirstFields
 pub mod Padding
 pub mod Parts
 pub mod Pieces
 pub mod Soundness
-pub mod TooMany

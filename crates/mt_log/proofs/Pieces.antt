@@ -1,11 +1,11 @@
-use Rattle.std.proofs.Common.{◌≡◌, ℕ, ◌+◌, ◌<◌, Bool, true, false, List, [], ◌∷◌, Ok, Err, Result, length, arith, refl, cond, ap, codes, length-append}
+use Rattle.std.proofs.Common.{◌≡◌, ℕ, ◌+◌, ◌<◌, ◌≤◌, Bool, true, false, List, [], ◌∷◌, Ok, Err, Result, length, arith, refl, cond, ap, codes, length-append}
 use Rattle.std.specs.List.{slice_split, onto_first}
 use Rattle.std.specs.Str.{bytes_eq}
 use Rattle.mt_log.specs.declared.faults.Why.{Why}
-use Rattle.mt_log.specs.declared.faults.Why.TheVariants.{NotYet}
+use Rattle.mt_log.specs.declared.faults.Why.TheVariants.{NoNewline, Header}
 use Rattle.mt_log.specs.declared.lines.Item.{Item}
 use Rattle.mt_log.specs.Fault.{fault_at, on_line, ◌>>=◌}
-use Rattle.mt_log.specs.Reading.{Read, after_item, after_line, after_pieces, log_of_pieces, nothing_read, item_of, fields_of}
+use Rattle.mt_log.specs.Reading.{Read, is_skipped, after_skipped, after_item, after_line, after_pieces, log_of_pieces, nothing_read, item_of, fields_of}
 
 -- there is a first part
 some_part : (p : ℕ → Bool) (xs : List ℕ) → (part : List ℕ) × (parts : List (List ℕ)) × (slice_split p xs ≡ part ∷ parts)
@@ -30,7 +30,7 @@ pub last_piece : (r : Read) (rest : List ℕ) → length rest ≡ 0 → after_pi
 last_piece r [] h = refl
 last_piece r (b ∷ rest) h = absurd (omega arith)
 
-pub left_over : (r : Read) (rest : List ℕ) → 0 < length rest → after_pieces r (rest ∷ []) ≡ Err (fault_at r.next NotYet)
+pub left_over : (r : Read) (rest : List ℕ) → 0 < length rest → after_pieces r (rest ∷ []) ≡ Err (fault_at r.next NoNewline)
 left_over r [] h = absurd (omega arith)
 left_over r (b ∷ rest) h = refl
 
@@ -38,10 +38,15 @@ left_over r (b ∷ rest) h = refl
 pub behind_header : (p : ℕ → Bool) (header rest : List ℕ) → bytes_eq header (codes "mtlog 1") ≡ true → log_of_pieces (header ∷ slice_split p rest) ≡ (after_pieces nothing_read (slice_split p rest) >>= λ r. Ok (record { version = 1; lines = r.lines }))
 behind_header p header rest named = let first = some_part p rest in rw (first.2, named) refl
 
-grown : (r s : Read) (said : Result Item Why) → (on_line r.next said >>= λ item. Ok (after_item r item)) ≡ Ok s → (s.next ≡ r.next + 1) × (length s.lines ≡ length r.lines + 1)
-grown r s (Ok item) h = let is : after_item r item ≡ s = (cc) in rw (← is) (refl, length-append _ _)
-grown r s (Err why) h = (cc)
+-- another first line is no header
+pub other_header : (p : ℕ → Bool) (header rest : List ℕ) → bytes_eq header (codes "mtlog 1") ≡ false → log_of_pieces (header ∷ slice_split p rest) ≡ Err (fault_at 1 Header)
+other_header p header rest other = let first = some_part p rest in rw (first.2, other) refl
 
--- a line that is read is one more
-pub one_more : (r s : Read) (line : List ℕ) → after_line r line ≡ Ok s → (s.next ≡ r.next + 1) × (length s.lines ≡ length r.lines + 1)
-one_more r s line h = grown r s (item_of r.names (fields_of line)) h
+grown : (r s : Read) (skipped : Bool) (said : Result Item Why) → cond skipped (Ok (after_skipped r)) (on_line r.next said >>= λ item. Ok (after_item r item)) ≡ Ok s → (s.next ≡ r.next + 1) × (length s.lines ≤ length r.lines + 1)
+grown r s true said h = let is : after_skipped r ≡ s = (cc) in rw (← is) (refl, omega arith)
+grown r s false (Ok item) h = let is : after_item r item ≡ s = (cc) in rw (← is) (refl, omega (arith, length-append r.lines (record { number = r.next; item = item } ∷ [])))
+grown r s false (Err why) h = (cc)
+
+-- a line that is read counts, and says one thing at the most
+pub one_more : (r s : Read) (line : List ℕ) → after_line r line ≡ Ok s → (s.next ≡ r.next + 1) × (length s.lines ≤ length r.lines + 1)
+one_more r s line h = grown r s (is_skipped line) (item_of r (fields_of line)) h

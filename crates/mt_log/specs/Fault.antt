@@ -1,7 +1,7 @@
 -- Why bytes are no log: a line, and the first test of it that failed.
 use Rattle.std.specs.Prelude.{◌≡◌, ℕ, List, Result, Ok, Err, codes}
 use Rattle.mt_log.specs.declared.faults.Why.{Why}
-use Rattle.mt_log.specs.declared.faults.Why.TheVariants.{NotYet}
+use Rattle.mt_log.specs.declared.faults.Why.TheVariants.{NoNewline, Header, Unknown, Fields, Name, NoTree, Twice, BadKind, Number, Order, NotYet}
 use Rattle.mt_log.specs.declared.faults.LogError.{LogError}
 use Rattle.mt_log.specs.declared.faults.LogError.TheVariants.{Bad, NoMemory}
 
@@ -9,9 +9,8 @@ pub record Fault : Type 0 where
   pub line : ℕ
   pub why : Why
 
--- Where a line is refused. What is not built yet is told on line 0, whichever line it is.
 abbrev pub fault_at : ℕ → Why → Fault
-fault_at line NotYet = record { line = 0; why = NotYet }
+fault_at line why = record { line = line; why = why }
 
 -- what is read, if nothing is refused, goes on
 infixl 10 ◌>>=◌
@@ -35,4 +34,14 @@ Reads view (Ok x) reading = reading ≡ Ok (view x)
 Reads view (Err e) reading = Refuses e reading
 
 abbrev pub why_text : Why → List ℕ
+why_text NoNewline = codes "no newline"
+why_text Header = codes "no header"
+why_text Unknown = codes "unknown word"
+why_text Fields = codes "wrong number of fields"
+why_text Name = codes "bad name"
+why_text NoTree = codes "unknown tree"
+why_text Twice = codes "tree declared twice"
+why_text BadKind = codes "bad kind"
+why_text Number = codes "bad number"
+why_text Order = codes "not between phases"
 why_text NotYet = codes "not yet"

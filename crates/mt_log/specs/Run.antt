@@ -5,6 +5,7 @@ use Rattle.std.specs.List.{filter_map, enumerate_from, zip}
 use Rattle.mt_base.specs.declared.ranges.Range.{Range}
 use Rattle.mt_base.specs.declared.calls.Call.{Call}
 use Rattle.mt_base.specs.declared.calls.Query.{Query}
+use Rattle.mt_base.specs.declared.calls.Query.TheVariants.{Load, Find, Next, Prev, Rfind}
 use Rattle.mt_base.specs.declared.replies.Reply.{Reply}
 use Rattle.mt_base.specs.History.{Record, History, IsLegal, IsTrueRead, last_map}
 use Rattle.mt_log.specs.declared.lines.Item.{Item}
@@ -56,14 +57,22 @@ item_of_outcome tree (Looked lo hi k query value) = Ask tree query
 abbrev pub asked_by : Step → Asked
 asked_by s = record { line = s.line; lane = s.lane; phase = s.phase; item = item_of_outcome s.tree s.outcome }
 
--- the entry of the transcript that tells it: a load tells the entry of the range alone
-abbrev pub shown : Option Range → Answer
-shown None = answers.None
-shown (Some r) = answers.Entry r.entry
+-- what a query is told of a range: a load tells the entry alone
+abbrev pub shown_range : Query → Range → Answer
+shown_range (Load index) r = answers.Entry r.entry
+shown_range (Find index max) r = answers.Range r
+shown_range (Next index max) r = answers.Range r
+shown_range (Prev index min) r = answers.Range r
+shown_range (Rfind index min) r = answers.Range r
 
+abbrev pub shown : Query → Option Range → Answer
+shown query None = answers.None
+shown query (Some r) = shown_range query r
+
+-- the entry of the transcript that tells it
 abbrev pub said_of : Outcome → Said
 said_of (Called number call reply) = said.Wrote number reply
-said_of (Looked lo hi k query value) = said.Got lo hi (shown value)
+said_of (Looked lo hi k query value) = said.Got lo hi (shown query value)
 
 abbrev pub entry_of : Step → Entry
 entry_of s = record { line = s.line; said = said_of s.outcome }

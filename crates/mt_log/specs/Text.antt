@@ -15,6 +15,7 @@ use Rattle.mt_log.specs.declared.transcripts.Transcript.{Transcript}
 abbrev pub answer_text : Answer → List ℕ
 answer_text answers.None = codes "none"
 answer_text (answers.Entry e) = codes "entry " ++ decimal e
+answer_text (answers.Range r) = codes "range " ++ range_text r
 
 abbrev pub said_text : Said → List ℕ
 said_text (Wrote call reply) = decimal call ++ (codes " " ++ reply_text reply)

@@ -1,11 +1,56 @@
 use std::alloc::{AllocError, AllocFailed};
 use std::fmt;
 
-/// Why a line is refused.
+/// Why a line is refused: the first of its tests that failed, in this order.
 #[derive(Clone, Copy, Debug, PartialEq, Eq)]
 pub enum Why {
-    /// The line, or the log as a whole, is not of the language that is built so far.
+    /// The last line is not ended.
+    NoNewline,
+    /// The first line is not `mtlog 1`.
+    Header,
+    /// The first field is no word of the language.
+    Unknown,
+    /// The line's word takes another number of fields.
+    Fields,
+    /// A tree's field is no name.
+    Name,
+    /// No tree of this name is declared.
+    NoTree,
+    /// A tree of this name is declared already.
+    Twice,
+    /// The kind is no kind of tree.
+    BadKind,
+    /// A field is no number.
+    Number,
+    /// The line stands behind a step of its phase, and has to stand before it.
+    Order,
+    /// The line is of the language, and of what is not built yet.
     NotYet,
+}
+
+impl Why {
+    ghost use Rattle.std.specs.Prelude.{◌≡◌, ◌≤◌, length};
+    ghost use Rattle.mt_log.specs.Fault.{why_text};
+
+    /// The reason in words, of at most 23 bytes.
+    pub fn text(&self) -> &'static str
+        ensures text { result.now ≡ why_text self.now }
+        ensures short { length result.now ≤ 23 }
+    {
+        match self {
+            Why::NoNewline => "no newline",
+            Why::Header => "no header",
+            Why::Unknown => "unknown word",
+            Why::Fields => "wrong number of fields",
+            Why::Name => "bad name",
+            Why::NoTree => "unknown tree",
+            Why::Twice => "tree declared twice",
+            Why::BadKind => "bad kind",
+            Why::Number => "bad number",
+            Why::Order => "not between phases",
+            Why::NotYet => "not yet",
+        }
+    }
 }
 
 impl fmt::Display for Why {
@@ -15,9 +60,8 @@ impl fmt::Display for Why {
     ghost output = { λ w. Some (why_text w) };
 
     fn fmt<W: fmt::Write>(&self, f: &mut fmt::Formatter<W>) -> fmt::Result {
-        match self {
-            Why::NotYet => write!(f, "not yet"),
-        }
+        let text = self.text();
+        write!(f, "{text}")
     }
 }
 
@@ -28,21 +72,6 @@ pub enum LogError {
     Bad { line: u64, why: Why },
     /// Memory ran out.
     NoMemory,
-}
-
-impl LogError {
-    ghost use Rattle.std.specs.Prelude.{◌≡◌};
-    ghost use Rattle.mt_log.specs.Fault.{fault_at};
-    ghost use Rattle.mt_log.specs.declared.faults.LogError.TheVariants.{Bad};
-
-    /// That this line is refused.
-    pub fn at(_line: u64, why: Why) -> Self
-        ensures { result ≡ Bad (fault_at _line why).line (fault_at _line why).why }
-    {
-        match why {
-            Why::NotYet => LogError::Bad { line: 0, why },
-        }
-    }
 }
 
 impl From<AllocError> for LogError {

@@ -5,10 +5,15 @@ mod cuts;
 mod faults;
 mod fields;
 mod items;
+mod keywords;
 mod lines;
 mod names;
+mod numbers;
+mod reader;
 mod reading;
 mod rendering;
+#[cfg(test)]
+mod tests;
 mod transcripts;
 
 pub use faults::{LogError, Why};

@@ -12,7 +12,7 @@ pub enum Item {
 
 impl Item {
     ghost use Rattle.std.specs.Prelude.{◌≡◌};
-    ghost use Rattle.mt_log.specs.Reading.{declared_by};
+    ghost use Rattle.mt_log.specs.Reading.{declared_by, is_step};
 
     /// The name that it declares.
     pub fn declares(&self) -> Option<Word>
@@ -21,6 +21,16 @@ impl Item {
         match self {
             Item::Tree { name, .. } => Some(*name),
             Item::Write { .. } | Item::Ask { .. } => None,
+        }
+    }
+
+    /// Whether it is a call or a query.
+    pub fn is_step(&self) -> bool
+        ensures { result ≡ is_step self.now }
+    {
+        match self {
+            Item::Tree { .. } => false,
+            Item::Write { .. } | Item::Ask { .. } => true,
         }
     }
 }

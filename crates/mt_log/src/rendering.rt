@@ -17,6 +17,7 @@ impl fmt::Display for Answer {
         match self {
             Answer::None => write!(f, "none"),
             Answer::Entry(entry) => write!(f, "entry {entry}"),
+            Answer::Range(range) => write!(f, "range {range}"),
         }
     }
 }

@@ -7,6 +7,7 @@ use std::marker::Model;
 pub enum Answer {
     None,
     Entry(u64),
+    Range(Range),
 }
 
 /// What a line of a log was answered.

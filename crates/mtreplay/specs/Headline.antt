@@ -10,9 +10,9 @@ use Rattle.mt_log.specs.Text.{text_of}
 abbrev pub TellsRun : Log → List ℕ → Type 0
 TellsRun log text = (t : Transcript) × IsRun log t × (text ≡ text_of t)
 
--- this is the text of a transcript that is a run of the log that these bytes are
+-- of the log that these bytes are
 abbrev pub IsTextOfRun : List ℕ → List ℕ → Type 0
-IsTextOfRun bytes text = (log : Log) × (t : Transcript) × (log_of bytes ≡ Ok log) × IsRun log t × (text ≡ text_of t)
+IsTextOfRun bytes text = (log : Log) × (log_of bytes ≡ Ok log) × TellsRun log text
 
 -- From a source that had these bytes left, a sink that held some bytes holds also the text of a run of their log.
 abbrev pub Replays : Option (List ℕ) → Option (List ℕ) → Option (List ℕ) → Type 0

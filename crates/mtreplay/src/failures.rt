@@ -1,5 +1,4 @@
-ghost use Rattle.std.specs.Prelude.{◌≡◌, ◌≤◌, [], length};
-ghost use Rattle.mt_log.specs.Fault.{why_text};
+ghost use Rattle.std.specs.Prelude.{◌≡◌, []};
 ghost use Rattle.mtreplay.specs.Ending.{Tells, failure_text};
 
 use crate::streams::{ReadError, write_output};
@@ -66,15 +65,6 @@ impl Failure {
     }
 }
 
-fn why_text(why: Why) -> &'static str
-    ensures text { result.now ≡ why_text why }
-    ensures short { length result.now ≤ 23 }
-{
-    match why {
-        Why::NotYet => "not yet",
-    }
-}
-
 fn push_bad_log(text: &mut ArrayString<TEXT_ROOM>, line: u64, why: Why)
     requires { text.old.bytes ≡ [] }
     ensures { text.new.bytes ≡ failure_text (Failure.BadLog line why) }
@@ -82,7 +72,7 @@ fn push_bad_log(text: &mut ArrayString<TEXT_ROOM>, line: u64, why: Why)
     text.push_str("mtreplay: line ");
     text.push_str(Buffer::new().format(line));
     text.push_str(": ");
-    text.push_str(why_text(why));
+    text.push_str(why.text());
     text.push_str("\n");
 }
 

@@ -1,10 +1,10 @@
 ghost use Rattle.std.specs.Prelude.{◌≡◌, ◌<◌, ◌-◌, ◌^◌, [], ◌++◌, length, IfOk, OnOk};
 ghost use Rattle.mt_base.specs.declared.kinds.Kind.TheVariants as kinds;
-ghost use Rattle.mt_log.specs.Run.{IsRun};
+ghost use Rattle.mt_log.specs.Run.{IsRun, shown_range};
 ghost use Rattle.mt_log.specs.Trees.{IsReadable};
 ghost use Rattle.mtreplay.specs.Playing.{Shows, played, listed_by, listings_of, transcript_of};
 
-use mt_base::{Call, NoMemory, Query};
+use mt_base::{Call, NoMemory, Query, Range};
 use mt_list::Ranges;
 use mt_log::{
     Answer, Entries, Entry, Item, Line, Listing, Listings, Log, RangeList, Said, Transcript,
@@ -69,7 +69,7 @@ impl<M: Ranges> Player<M> {
         ensures calls { OnOk result (self.new.calls ≡ self.old.calls) }
     {
         let value = match self.map.ask(query) {
-            Some(range) => Answer::Entry(range.entry),
+            Some(range) => told_of(query, range),
             None => Answer::None,
         };
         let said = Said::Got {
@@ -86,6 +86,18 @@ impl<M: Ranges> Player<M> {
     {
         self.entries.push(entry)?;
         Ok(())
+    }
+}
+
+/// What a query is told of a range: a load is told its entry alone.
+fn told_of(query: &Query, range: Range) -> Answer
+    ensures { result ≡ shown_range query.now range }
+{
+    match query {
+        Query::Load { .. } => Answer::Entry(range.entry),
+        Query::Find { .. } | Query::Next { .. } | Query::Prev { .. } | Query::Rfind { .. } => {
+            Answer::Range(range)
+        }
     }
 }
 

@@ -49,104 +49,177 @@ fn run<R: Threads + Wait + Sync + AllocGlobal>(
     Ok(Ending { status, out, err })
 }
 
+/// The log of these steps behind the header and the line that declares the range tree `a`, from line 3 on.
+fn steps(alloc: Global, lines: &str) -> Result<String, AllocError> {
+    let mut log = String::from_str(alloc, "mtlog 1\ntree a range\n")?;
+    log.push_str(lines)?;
+    Ok(log)
+}
+
 #[test]
 fn a_log_is_answered_line_by_line(rt: HostRuntime) -> Result<(), Fail> {
     let rows = [
-        ("mtlog 1\n", ""),
         (
-            "mtlog 1\ntree a range\nstore a 0 99 1\nstore a 40 49 3\n",
+            "store a 0 99 1\nstore a 40 49 3\n",
             "3 1 ok\n4 2 ok\ntree a range 3\n0 39 1\n40 49 3\n50 99 1\n",
         ),
         (
-            "mtlog 1\ntree b_2 range\nstore b_2 5 4 1\nstore b_2 0 9 2\nstore b_2 0 9 4094\nload b_2 5\n",
-            "3 1 invalid\n4 2 invalid\n5 3 invalid\n6 3 3 none\ntree b_2 range 0\n",
+            "store a 0 99 1\nstore a 40 49 0\nstore a 45 60 0\n",
+            "3 1 ok\n4 2 ok\n5 3 ok\ntree a range 2\n0 39 1\n61 99 1\n",
         ),
         (
-            "mtlog 1\ntree c range\nstore c 0 9 4098\nload c 9\n",
-            "3 1 ok\n4 1 1 entry 4098\ntree c range 1\n0 9 4098\n",
+            "store a 0 max 7\nload a max\nstore a max max 9\n",
+            "3 1 ok\n4 1 1 entry 7\n5 2 ok\ntree a range 2\n0 18446744073709551614 7\n18446744073709551615 18446744073709551615 9\n",
+        ),
+        (
+            "insert a 20 29 3\ninsert a 29 29 4\ninsert a 30 30 4\n",
+            "3 1 ok\n4 2 exists\n5 3 ok\ntree a range 2\n20 29 3\n30 30 4\n",
+        ),
+        (
+            "store a 5 4 1\nstore a 1 1 2\nstore a 1 1 4094\nstore a 1 1 4098\ninsert a 2 2 0\n",
+            "3 1 invalid\n4 2 invalid\n5 3 invalid\n6 4 ok\n7 5 invalid\ntree a range 1\n1 1 4098\n",
+        ),
+        (
+            "store a 10 19 5\nerase a 15\nerase a 15\n",
+            "3 1 ok\n4 2 was 5\n5 3 none\ntree a range 0\n",
+        ),
+        (
+            "store a 10 19 5\nfind a 5 9\nfind a 5 10\nfind a 20 max\nfind a 15 12\nfind a 12 12\n",
+            "3 1 ok\n4 1 1 none\n5 1 1 range 10 19 5\n6 1 1 none\n7 1 1 none\n8 1 1 range 10 19 5\ntree a range 1\n10 19 5\n",
+        ),
+        (
+            "store a 0 9 1\nclear a\n\n# a store behind two lines that say nothing\nstore a 0x0A 0xff 0x1000\nload a 00255\n",
+            "3 1 ok\n4 2 ok\n7 3 ok\n8 3 3 entry 4096\ntree a range 1\n10 255 4096\n",
+        ),
+        (
+            "store a 5 5 1\ninsert a 0 max 3\n",
+            "3 1 ok\n4 2 exists\ntree a range 1\n5 5 1\n",
+        ),
+        (
+            "store a 0 0 5\nprev a 9 1\nrfind a 9 1\n",
+            "3 1 ok\n4 1 1 none\n5 1 1 none\ntree a range 1\n0 0 5\n",
         ),
     ];
-    for (log, text) in rows {
+    for (lines, text) in rows {
+        let log = steps(rt.alloc(), lines)?;
         // The read behind the one that finds the end would fail.
         let behind = log.len().div_ceil(GIVEN) as u64 + 1;
-        let mut src = source(rt.alloc(), log, behind)?;
-        let ending = run(&rt, &["replay"], &mut src, 256, 256)?;
-        assert_eq!(rt; ending.status, 0, "{log}");
-        assert_eq!(rt; ending.out.bytes(), text.as_bytes(), "{log}");
-        assert_eq!(rt; ending.err.bytes(), b"".as_slice(), "{log}");
+        let mut src = source(rt.alloc(), &log, behind)?;
+        let ending = run(&rt, &["replay"], &mut src, 512, 256)?;
+        assert_eq!(rt; ending.status, 0, "{lines}");
+        assert_eq!(rt; ending.out.bytes(), text.as_bytes(), "{lines}");
+        assert_eq!(rt; ending.err.bytes(), b"".as_slice(), "{lines}");
     }
     Ok(())
 }
 
 #[test]
-fn a_failure_is_told(rt: HostRuntime) -> Result<(), Fail> {
-    let rows: [(&str, u64, usize, usize, u8, &str, &str); 12] = [
-        (LOG, 1, 256, 256, 3, "", "mtreplay: read fault\n"),
-        (LOG, NEVER, 7, 256, 4, "3 1 ok\n", "mtreplay: write fault\n"),
-        (LOG, NEVER, 0, 7, 4, "", "mtrepla"),
-        ("", NEVER, 256, 256, 1, "", "mtreplay: line 0: not yet\n"),
+fn neighbours_are_found_up_and_down(rt: HostRuntime) -> Result<(), Fail> {
+    let rows = [
+        ("next a 5 max", "range 20 29 5"),
+        ("next a 10 max", "range 20 29 5"),
+        ("next a 0 20", "range 20 29 5"),
+        ("next a 0 19", "none"),
+        ("prev a 25 0", "range 0 9 1"),
+        ("prev a 20 0", "range 0 9 1"),
+        ("prev a 0 0", "none"),
+        ("next a max max", "none"),
+        ("rfind a 15 0", "range 0 9 1"),
+        ("rfind a 15 10", "none"),
         (
-            "mtlog 2\n",
-            NEVER,
-            256,
-            256,
-            1,
-            "",
-            "mtreplay: line 0: not yet\n",
+            "rfind a max 0",
+            "range 18446744073709551615 18446744073709551615 3",
         ),
-        (
-            "mtlog 1",
-            NEVER,
-            256,
-            256,
-            1,
-            "",
-            "mtreplay: line 0: not yet\n",
-        ),
-        (
-            "mtlog 1\n\n",
-            NEVER,
-            256,
-            256,
-            1,
-            "",
-            "mtreplay: line 0: not yet\n",
-        ),
-        (
-            "mtlog 1\nload a 1\n",
-            NEVER,
-            256,
-            256,
-            1,
-            "",
-            "mtreplay: line 0: not yet\n",
-        ),
-        (
-            "mtlog 1\ntree a range\nload a 1",
-            NEVER,
-            256,
-            256,
-            1,
-            "",
-            "mtreplay: line 0: not yet\n",
-        ),
-        (
-            "mtlog 1\ntree a range\nload a -1\n",
-            NEVER,
-            256,
-            256,
-            1,
-            "",
-            "mtreplay: line 0: not yet\n",
-        ),
-        ("mtlog 1\r\n", NEVER, 256, 16, 1, "", "mtreplay: line 0"),
-        ("mtlog 1\ntree a alloc\n", NEVER, 256, 0, 1, "", ""),
+        ("prev a 15 10", "none"),
     ];
-    for (log, failing, room, err_room, status, text, told) in rows {
-        let mut src = source(rt.alloc(), log, failing)?;
+    for (line, answer) in rows {
+        let alloc = rt.alloc();
+        let lines = format!(in alloc;
+            "store a 0 9 1\nstore a 20 29 5\nstore a max max 3\n{line}\n"
+        )?;
+        let log = steps(alloc, &lines)?;
+        let mut src = source(alloc, &log, NEVER)?;
+        let ending = run(&rt, &["replay"], &mut src, 256, 256)?;
+        let text = format!(in alloc;
+            "3 1 ok\n4 2 ok\n5 3 ok\n6 3 3 {answer}\ntree a range 3\n0 9 1\n20 29 5\n18446744073709551615 18446744073709551615 3\n"
+        )?;
+        assert_eq!(rt; ending.status, 0, "{line}");
+        assert_eq!(rt; ending.out.bytes(), text.as_bytes(), "{line}");
+    }
+    Ok(())
+}
+
+#[test]
+fn a_log_without_a_tree_prints_nothing(rt: HostRuntime) -> Result<(), Fail> {
+    let mut src = source(rt.alloc(), "mtlog 1\n", NEVER)?;
+    let ending = run(&rt, &["replay"], &mut src, 256, 256)?;
+    assert_eq!(rt; ending.status, 0);
+    assert_eq!(rt; ending.out.bytes(), b"".as_slice());
+    assert_eq!(rt; ending.err.bytes(), b"".as_slice());
+    Ok(())
+}
+
+#[test]
+fn a_fault_is_told(rt: HostRuntime) -> Result<(), Fail> {
+    let rows = [
+        (1, 256, 256, 3, "", "mtreplay: read fault\n"),
+        (NEVER, 7, 256, 4, "3 1 ok\n", "mtreplay: write fault\n"),
+        (NEVER, 0, 7, 4, "", "mtrepla"),
+    ];
+    for (failing, room, err_room, status, text, told) in rows {
+        let mut src = source(rt.alloc(), LOG, failing)?;
         let ending = run(&rt, &["replay"], &mut src, room, err_room)?;
-        assert_eq!(rt; ending.status, status, "{log}");
-        assert_eq!(rt; ending.out.bytes(), text.as_bytes(), "{log}");
+        assert_eq!(rt; ending.status, status, "{told}");
+        assert_eq!(rt; ending.out.bytes(), text.as_bytes(), "{told}");
+        assert_eq!(rt; ending.err.bytes(), told.as_bytes(), "{told}");
+    }
+    Ok(())
+}
+
+#[test]
+fn a_bad_log_is_told_by_its_line(rt: HostRuntime) -> Result<(), Fail> {
+    let rows = [
+        ("", 256, "mtreplay: line 1: no header\n"),
+        ("mtlog 2\n", 256, "mtreplay: line 1: no header\n"),
+        ("mtlog 1", 256, "mtreplay: line 1: no newline\n"),
+        ("mtlog 1\r\n", 16, "mtreplay: line 1"),
+        ("mtlog 1\ntree a alloc\n", 0, ""),
+        (
+            "mtlog 1\ntree a range\nstore a 1 1 5",
+            256,
+            "mtreplay: line 3: no newline\n",
+        ),
+        (
+            "mtlog 1\ntree a range\nfrob a 1\n",
+            256,
+            "mtreplay: line 3: unknown word\n",
+        ),
+        (
+            "mtlog 1\ntree a range\nstore a 0 18446744073709551616 5\n",
+            256,
+            "mtreplay: line 3: bad number\n",
+        ),
+        (
+            "mtlog 1\ntree a range\nload b 1\n",
+            256,
+            "mtreplay: line 3: unknown tree\n",
+        ),
+        (
+            "mtlog 1\ntree a range\nstore a 1 1\n",
+            256,
+            "mtreplay: line 3: wrong number of fields\n",
+        ),
+        (
+            "mtlog 1\n\n#\ntree a range\nload a 1\njoin\n",
+            256,
+            "mtreplay: line 6: not yet\n",
+        ),
+    ];
+    for (log, err_room, told) in rows {
+        let mut src = source(rt.alloc(), log, NEVER)?;
+        let ending = run(&rt, &["replay"], &mut src, 256, err_room)?;
+        assert_eq!(rt; ending.status, 1, "{log}");
+        assert_eq!(rt; ending.out.bytes(), b"".as_slice(), "{log}");
         assert_eq!(rt; ending.err.bytes(), told.as_bytes(), "{log}");
     }
     Ok(())
@@ -178,7 +251,7 @@ fn words_that_are_no_command_read_nothing(rt: HostRuntime) -> Result<(), Fail> {
 #[test]
 fn an_input_is_read_no_further_than_one_byte_too_many(rt: HostRuntime) -> Result<(), Fail> {
     let rows = [
-        (8_388_608, 1, 0, "mtreplay: line 0: not yet\n"),
+        (8_388_608, 1, 0, "mtreplay: line 1: no newline\n"),
         (8_388_609, 6, 0, "mtreplay: input too long\n"),
         (8_388_612, 6, 3, "mtreplay: input too long\n"),
     ];

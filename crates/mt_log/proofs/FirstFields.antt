@@ -1,0 +1,41 @@
+use Rattle.std.proofs.Common.{◌≡◌, ℕ, ◌≤◌, List, [], ◌∷◌, ◌++◌, length, sym, Result, Ok, Err, take, refl}
+use Rattle.std.proofs.lemmas.List.{take_all, take_at}
+use Rattle.mt_log.specs.declared.faults.Why.{Why}
+use Rattle.mt_log.specs.declared.faults.Why.TheVariants as why
+use Rattle.mt_log.specs.declared.keywords.Keyword.{Keyword}
+use Rattle.mt_log.specs.declared.keywords.Keyword.TheVariants.{Tree, Store, Insert, Erase, Clear, Load, Find, Next, Prev, Rfind}
+use Rattle.mt_log.specs.Fault.{◌>>=◌}
+use Rattle.mt_log.specs.Reading.{Read, item_of, item_by, keyword_of, tree_item, range_item, erase_item, clear_item, load_item, search_item}
+
+-- no word takes five fields or more
+too_many : (k : Keyword) (r : Read) (a b c d e : List ℕ) (more : List (List ℕ)) → item_by k r (a ∷ b ∷ c ∷ d ∷ e ∷ more) ≡ Err why.Fields
+unfolding item_by tree_item range_item erase_item clear_item load_item search_item
+too_many Tree r a b c d e more = refl
+too_many Store r a b c d e more = refl
+too_many Insert r a b c d e more = refl
+too_many Erase r a b c d e more = refl
+too_many Clear r a b c d e more = refl
+too_many Load r a b c d e more = refl
+too_many Find r a b c d e more = refl
+too_many Next r a b c d e more = refl
+too_many Prev r a b c d e more = refl
+too_many Rfind r a b c d e more = refl
+
+either_way : (word : Result Keyword Why) (r : Read) (a b c d e : List ℕ) (more others : List (List ℕ)) → (word >>= λ k. item_by k r (a ∷ b ∷ c ∷ d ∷ e ∷ more)) ≡ (word >>= λ k. item_by k r (a ∷ b ∷ c ∷ d ∷ e ∷ others))
+either_way (Ok k) r a b c d e more others = rw (too_many k r a b c d e more, too_many k r a b c d e others) refl
+either_way (Err e') r a b c d e more others = refl
+
+-- the first eight fields of a line say what all of them say
+pub first_fields : (r : Read) (fields : List (List ℕ)) → item_of r (take 8 fields) ≡ item_of r fields
+unfolding item_of
+first_fields r (w ∷ a ∷ b ∷ c ∷ d ∷ e ∷ more) = either_way (keyword_of w) r a b c d e (take 2 more) more
+first_fields r (w ∷ a ∷ b ∷ c ∷ d ∷ []) = refl
+first_fields r (w ∷ a ∷ b ∷ c ∷ []) = refl
+first_fields r (w ∷ a ∷ b ∷ []) = refl
+first_fields r (w ∷ a ∷ []) = refl
+first_fields r (w ∷ []) = refl
+first_fields r [] = refl
+
+-- where the first fields are as many as are wanted, nothing else of the others matters
+pub first_of : {A : Type 0} (n : ℕ) (xs others all : List A) → xs ++ others ≡ all → length xs ≡ n → xs ≡ take n all
+first_of n xs others all whole many = rw (← whole) (sym (take_at xs others n many))

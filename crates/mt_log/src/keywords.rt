@@ -1,0 +1,83 @@
+ghost use Rattle.std.specs.Prelude.{◌≡◌};
+ghost use Rattle.std.specs.List.{list_any};
+ghost use Rattle.std.specs.Str.{bytes_eq};
+ghost use Rattle.mt_log.specs.Reading.{keyword_of, unbuilt_of, unbuilt_words};
+
+use crate::faults::Why;
+
+/// The first field of a line.
+#[derive(Clone, Copy, Debug, PartialEq, Eq)]
+pub enum Keyword {
+    Tree,
+    Store,
+    Insert,
+    Erase,
+    Clear,
+    Load,
+    Find,
+    Next,
+    Prev,
+    Rfind,
+}
+
+/// The words of the language, each beside its keyword, as the last arguments of the macro `then`.
+macro_rules! words {
+    ($then:ident, $($argument:tt)*) => {
+        $then!($($argument)*,
+            "tree" Tree,
+            "store" Store,
+            "insert" Insert,
+            "erase" Erase,
+            "clear" Clear,
+            "load" Load,
+            "find" Find,
+            "next" Next,
+            "prev" Prev,
+            "rfind" Rfind)
+    };
+}
+
+/// The keyword of a word in the table, or what comes of any other word.
+macro_rules! keyword_in {
+    ($word:ident, $otherwise:expr, $($text:literal $keyword:ident),*) => {
+        $(if $word == $text.as_bytes() {
+            Ok(Keyword::$keyword)
+        } else)* {
+            $otherwise
+        }
+    };
+}
+
+macro_rules! is_one_of {
+    ($word:ident, $($text:literal),*) => {
+        $($word == $text.as_bytes())||*
+    };
+}
+
+/// Whether a word is of the language, and of what is not built yet.
+fn is_unbuilt(word: &[u8]) -> bool
+    ensures { result ≡ list_any (bytes_eq word.now) unbuilt_words }
+{
+    is_one_of!(
+        word, "scan", "alloc", "ralloc", "gap", "rgap", "join", "dup", "check", "pstore", "lane"
+    )
+}
+
+#[tactic(auto, unfolding(crate::specs::Reading::unbuilt_of))]
+fn unbuilt_of(word: &[u8]) -> Result<Keyword, Why>
+    ensures { result ≡ unbuilt_of word.now }
+{
+    if is_unbuilt(word) {
+        Err(Why::NotYet)
+    } else {
+        Err(Why::Unknown)
+    }
+}
+
+/// The keyword that a line's first field is.
+#[tactic(auto, unfolding(crate::specs::Reading::keyword_of))]
+pub fn keyword_of(word: &[u8]) -> Result<Keyword, Why>
+    ensures { result ≡ keyword_of word.now }
+{
+    words!(keyword_in, word, unbuilt_of(word))
+}

@@ -1,0 +1,68 @@
+ghost use Rattle.std.specs.Prelude.{◌≡◌, ◌<◌, ◌≤◌, ◌+◌, ◌*◌, ◌^◌, SomeIff};
+ghost use Rattle.std.specs.Char.{digit_value};
+ghost use Rattle.std.specs.Str.Parse.{AllDigits, digits_value};
+ghost use Rattle.mt_log.specs.Reading.{decimal_of, hexadecimal_of, number_of};
+
+use crate::faults::Why;
+
+/// The value of digits and one more, if this byte is a digit in the radix and the value is below 2^64.
+fn with_digit(value: u64, radix: u32, byte: u8) -> Option<u64>
+    requires lower_bound { 2 ≤ radix }
+    requires upper_bound { radix ≤ 36 }
+    ensures { SomeIff result ((digit_value byte < radix) × (value * radix + digit_value byte < 2 ^ 64)) (value * radix + digit_value byte) }
+{
+    let digit = char::from(byte).to_digit(radix)?;
+    value
+        .checked_mul(u64::from(radix))?
+        .checked_add(u64::from(digit))
+}
+
+/// The value of digits in a radix, if each byte is one and the value is below 2^64.
+#[tactic(auto, using(crate::proofs::Digits::all_read, crate::proofs::Digits::one_more, crate::proofs::Digits::stopped))]
+fn value_of(digits: &[u8], radix: u32) -> Option<u64>
+    requires lower_bound { 2 ≤ radix }
+    requires upper_bound { radix ≤ 36 }
+    ensures { SomeIff result (AllDigits radix digits.now × (digits_value radix digits.now < 2 ^ 64)) (digits_value radix digits.now) }
+{
+    let mut value = 0;
+    for byte in digits {
+        value = with_digit(value, radix, *byte)?;
+    }
+    Some(value)
+}
+
+/// The number that 1 to 20 decimal digits write.
+#[tactic(auto, using(crate::proofs::Digits::decimal_from_value), unfolding(crate::specs::Reading::decimal_of))]
+fn decimal_of(digits: &[u8]) -> Result<u64, Why>
+    ensures { result ≡ decimal_of digits.now }
+{
+    if digits.is_empty() || digits.len() > 20 {
+        return Err(Why::Number);
+    }
+    value_of(digits, 10).ok_or(Why::Number)
+}
+
+/// The number that 1 to 16 hexadecimal digits write.
+#[tactic(auto, using(crate::proofs::Digits::hexadecimal_from_value), unfolding(crate::specs::Reading::hexadecimal_of))]
+fn hexadecimal_of(digits: &[u8]) -> Result<u64, Why>
+    ensures { result ≡ hexadecimal_of digits.now }
+{
+    if digits.is_empty() || digits.len() > 16 {
+        return Err(Why::Number);
+    }
+    value_of(digits, 16).ok_or(Why::Number)
+}
+
+/// The number that a field writes: `max`, or `0x` and hexadecimal digits, or decimal digits.
+#[tactic(auto, unfolding(crate::specs::Reading::number_of))]
+pub fn number_of(field: &[u8]) -> Result<u64, Why>
+    ensures { result ≡ number_of field.now }
+{
+    if field == b"max".as_slice() {
+        return Ok(u64::MAX);
+    }
+    match field.strip_prefix(b"0x".as_slice()) {
+        Some(digits) => hexadecimal_of(digits),
+        None => decimal_of(field),
+    }
+}

@@ -1,0 +1,107 @@
+use crate::faults::Why;
+use crate::lines::{Item, Line};
+use crate::names::Word;
+use std::alloc::{AllocError, Global};
+use std::marker::Model;
+
+/// What was read so far.
+#[derive(Drop)]
+pub struct Reader {
+    names: Vec<Word>,
+    stepped: bool,
+    lines: Vec<Line>,
+    next: u64,
+}
+
+impl Model for Reader {
+    ghost use Rattle.mt_log.specs.Reading.{Read};
+
+    ghost Value = { Read };
+
+    ghost view = { λ r. record { names = r.names.items; stepped = r.stepped; lines = r.lines.items; next = r.next } };
+}
+
+impl Reader {
+    ghost use Rattle.std.specs.Prelude.{◌≡◌, ◌<◌, ◌-◌, ◌^◌, OnOk, IfOk, length};
+    ghost use Rattle.mt_log.specs.Reading.{nothing_read, after_item, after_skipped, before_steps, room_for_tree};
+
+    /// A reader behind the first line, with room for so many lines that say something.
+    pub fn new(alloc: Global, room: usize) -> Result<Self, AllocError>
+        ensures { IfOk result (λ reader. reader ≡ nothing_read) }
+    {
+        Ok(Reader {
+            names: Vec::new(alloc),
+            stepped: false,
+            lines: Vec::with_capacity(alloc, room)?,
+            next: 2,
+        })
+    }
+
+    /// The names of the declared trees.
+    pub fn names(&self) -> &[Word]
+        ensures { result.now ≡ self.now.names }
+    {
+        &self.names
+    }
+
+    /// The number of the next line.
+    pub fn next_line(&self) -> u64
+        ensures { result ≡ self.now.next }
+    {
+        self.next
+    }
+
+    pub fn into_lines(self) -> Vec<Line>
+        ensures { result.items ≡ self.lines }
+    {
+        self.lines
+    }
+
+    /// Whether a line may stand here that stands before the first step of its phase.
+    #[tactic(auto, unfolding(crate::specs::Reading::before_steps))]
+    pub fn before_steps(&self) -> Result<(), Why>
+        ensures { result ≡ before_steps self.now }
+    {
+        if self.stepped {
+            return Err(Why::Order);
+        }
+        Ok(())
+    }
+
+    /// Whether one more tree may be declared.
+    #[tactic(auto, unfolding(crate::specs::Reading::room_for_tree))]
+    pub fn room_for_tree(&self) -> Result<(), Why>
+        ensures room { result ≡ room_for_tree self.now }
+        ensures first { IfOk result (λ _. length self.now.names < 1) }
+    {
+        if !self.names.is_empty() {
+            return Err(Why::NotYet);
+        }
+        Ok(())
+    }
+
+    /// Goes past a line that says this.
+    pub fn add(&mut self, item: Item) -> Result<(), AllocError>
+        requires next { self.old.next < 2 ^ 64 - 1 }
+        ensures { OnOk result (self.new ≡ after_item self.old item) }
+    {
+        if let Some(name) = item.declares() {
+            self.names.push(name)?;
+        }
+        self.lines.push(Line {
+            number: self.next,
+            item,
+        })?;
+        self.stepped = self.stepped || item.is_step();
+        self.next += 1;
+        Ok(())
+    }
+
+    /// Goes past a line that says nothing.
+    pub fn skip(&mut self)
+        requires next { self.old.next < 2 ^ 64 - 1 }
+        ensures { self.new ≡ after_skipped self.old }
+    {
+        self.next += 1;
+    }
+}

@@ -1,0 +1,280 @@
+use super::*;
+use mt_base::{Kind, Query, Range, Reply};
+use std::alloc::{AllocError, Global};
+use std::process::Abort;
+use std::test::Fail;
+
+/// Adds what a line says, in words.
+fn push_meaning(text: &mut String, line: &Line) -> Result<(), AllocError> {
+    let number = line.number;
+    match line.item {
+        Item::Tree { name, kind } => writeln!(text, "{number}: declares {name} for {kind}"),
+        Item::Write { tree, call } => writeln!(text, "{number}: tree {tree}, {call:?}"),
+        Item::Ask { tree, query } => writeln!(text, "{number}: tree {tree}, {query:?}"),
+    }
+}
+
+/// What the lines of a log say, or its fault as its line and its text.
+fn meaning(alloc: Global, log: &str) -> Result<String, AllocError> {
+    let log = match read_log(alloc, log.as_bytes()) {
+        Ok(log) => log,
+        Err(LogError::Bad { line, why }) => return format!(in alloc; "{line} {why}"),
+        Err(LogError::NoMemory) => return Err(AllocError),
+    };
+    let mut text = String::new(alloc);
+    for line in log.lines.as_slice() {
+        push_meaning(&mut text, line)?;
+    }
+    Ok(text)
+}
+
+fn expect(rt: &impl Abort, alloc: Global, log: &str, want: &str) -> Result<(), AllocError> {
+    assert_eq!(rt; meaning(alloc, log)?.as_str(), want, "of {log}");
+    Ok(())
+}
+
+#[test]
+fn each_word_is_read_with_its_fields(rt: HostRuntime) -> Result<(), Fail> {
+    let log = "mtlog 1
+# one tree
+
+tree abcdefghijklm_16 range
+store abcdefghijklm_16 10 19 5
+insert abcdefghijklm_16 0x14 0x1d max
+erase abcdefghijklm_16 3
+#
+clear abcdefghijklm_16
+load abcdefghijklm_16 7
+find abcdefghijklm_16 1 2
+next abcdefghijklm_16 3 4
+prev abcdefghijklm_16 6 5
+rfind abcdefghijklm_16 8 7
+";
+    let want = "4: declares abcdefghijklm_16 for range
+5: tree 0, Store { first: 10, last: 19, entry: 5 }
+6: tree 0, Insert { first: 20, last: 29, entry: 18446744073709551615 }
+7: tree 0, Erase { index: 3 }
+9: tree 0, Clear
+10: tree 0, Load { index: 7 }
+11: tree 0, Find { index: 1, max: 2 }
+12: tree 0, Next { index: 3, max: 4 }
+13: tree 0, Prev { index: 6, min: 5 }
+14: tree 0, Rfind { index: 8, min: 7 }
+";
+    expect(&rt, rt.alloc(), log, want)?;
+    Ok(())
+}
+
+#[test]
+fn each_test_of_a_line_refuses_it(rt: HostRuntime) -> Result<(), Fail> {
+    let cases = [
+        ("", "1 no header"),
+        ("\n", "1 no header"),
+        ("mtlog 2\n", "1 no header"),
+        ("mtlog 1 \n", "1 no header"),
+        ("mtlog 1\r\n", "1 no header"),
+        ("#\nmtlog 1\n", "1 no header"),
+        ("mtlog 1", "1 no newline"),
+        ("mtlog 1\ntree a range\nstore a 0 9 5", "3 no newline"),
+        ("mtlog 1\n\n#", "3 no newline"),
+        ("mtlog 1\ntree a range\nfrob a 1\n", "3 unknown word"),
+        ("mtlog 1\n # a tree\n", "2 unknown word"),
+        (
+            "mtlog 1\ntree a range\nstore a 1 1\n",
+            "3 wrong number of fields",
+        ),
+        ("mtlog 1\ntree A range\n", "2 bad name"),
+        ("mtlog 1\ntree abcdefghijklmn_17 range\n", "2 bad name"),
+        ("mtlog 1\ntree  range\n", "2 bad name"),
+        ("mtlog 1\ntree a range\nload b 1\n", "3 unknown tree"),
+        ("mtlog 1\nload a 1\ntree a range\n", "2 unknown tree"),
+        (
+            "mtlog 1\ntree a range\ntree a range\n",
+            "3 tree declared twice",
+        ),
+        ("mtlog 1\ntree a heap\n", "2 bad kind"),
+        (
+            "mtlog 1\ntree a range\nstore a 0 18446744073709551616 5\n",
+            "3 bad number",
+        ),
+        ("mtlog 1\ntree a range\n\n#\nload a x\n", "5 bad number"),
+        (
+            "mtlog 1\ntree a range\nload a 1\ntree b range\n",
+            "4 not between phases",
+        ),
+        ("mtlog 1\ntree a range\ntree b range\n", "3 not yet"),
+        ("mtlog 1\ntree a alloc\n", "2 not yet"),
+    ];
+    for (log, want) in cases {
+        expect(&rt, rt.alloc(), log, want)?;
+    }
+    Ok(())
+}
+
+#[test]
+fn a_line_is_refused_by_its_first_failed_test(rt: HostRuntime) -> Result<(), Fail> {
+    let cases = [
+        ("frob A 1 2 3 4 5 6 7 8 9", "5 unknown word"),
+        ("Load a 1", "5 unknown word"),
+        (" load a 1", "5 unknown word"),
+        ("\r", "5 unknown word"),
+        ("load a b 1 2 3 4 5 6 7", "5 wrong number of fields"),
+        ("load A", "5 wrong number of fields"),
+        ("load  a 1", "5 wrong number of fields"),
+        ("load a 1 ", "5 wrong number of fields"),
+        ("clear ", "5 bad name"),
+        ("load  1", "5 bad name"),
+        ("load A x", "5 bad name"),
+        ("load b x", "5 unknown tree"),
+        ("store a x 1 y", "5 bad number"),
+        ("load a 1\r", "5 bad number"),
+        ("tree A heap", "5 bad name"),
+        ("tree a heap", "5 tree declared twice"),
+        ("tree a alloc", "5 tree declared twice"),
+        ("tree b heap", "5 bad kind"),
+        ("tree b alloc", "5 not yet"),
+        ("tree b range", "5 not between phases"),
+        ("scan", "5 not yet"),
+        ("alloc a 1 2 3 4 5 6 7 8 9", "5 not yet"),
+        ("ralloc A", "5 not yet"),
+        ("gap ", "5 not yet"),
+        ("rgap a", "5 not yet"),
+        ("join", "5 not yet"),
+        ("dup a b", "5 not yet"),
+        ("check a", "5 not yet"),
+        ("pstore a 1 2 3", "5 not yet"),
+        ("lane 1", "5 not yet"),
+    ];
+    for (line, want) in cases {
+        let log = format!(in rt.alloc();
+            "mtlog 1\n# a tree\ntree a range\nload a 1\n{line}\nload a 2"
+        )?;
+        expect(&rt, rt.alloc(), &log, want)?;
+    }
+    Ok(())
+}
+
+/// The index that a line loads.
+fn loaded_index(alloc: Global, line: &str) -> Result<Option<u64>, AllocError> {
+    let text = format!(in alloc; "mtlog 1\ntree a range\n{line}\n")?;
+    let Ok(log) = read_log(alloc, text.as_bytes()) else {
+        return Ok(None);
+    };
+    Ok(match log.lines.as_slice().last() {
+        Some(
+            Line {
+                item: Item::Ask {
+                    query: Query::Load { index },
+                    ..
+                },
+                ..
+            },
+        ) => Some(*index),
+        _ => None,
+    })
+}
+
+#[test]
+fn numbers_are_read_up_to_the_greatest(rt: HostRuntime) -> Result<(), Fail> {
+    let top = Some(18446744073709551615);
+    let cases = [
+        ("0", Some(0)),
+        ("max", top),
+        ("Max", None),
+        ("maxx", None),
+        ("18446744073709551615", top),
+        ("18446744073709551616", None),
+        ("99999999999999999999", None),
+        ("00000000000000000007", Some(7)),
+        ("000000000000000000007", None),
+        ("0xffffffffffffffff", top),
+        ("0xFFFFffffFFFFffff", top),
+        ("0x0000000000000010", Some(16)),
+        ("0x00000000000000010", None),
+        ("0x10000000000000000", None),
+        ("0xaF9", Some(2809)),
+        ("0x", None),
+        ("0xg", None),
+        ("0xG", None),
+        ("0x+1", None),
+        ("0X1", None),
+        ("x1", None),
+        ("1a", None),
+        ("+1", None),
+        ("-1", None),
+        ("", None),
+    ];
+    for (number, want) in cases {
+        let line = format!(in rt.alloc(); "load a {number}")?;
+        assert_eq!(rt; loaded_index(rt.alloc(), &line)?, want, "at {number}");
+    }
+    Ok(())
+}
+
+fn wrote(line: u64, call: u64, reply: Reply) -> Entry {
+    let said = Said::Wrote { call, reply };
+    Entry { line, said }
+}
+
+fn got(line: u64, lo: u64, hi: u64, value: Answer) -> Entry {
+    let said = Said::Got { lo, hi, value };
+    Entry { line, said }
+}
+
+#[test]
+fn a_transcript_is_printed_line_by_line(rt: HostRuntime) -> Result<(), Fail> {
+    let alloc = rt.alloc();
+    let low = Range {
+        first: 0,
+        last: 9,
+        entry: 1,
+    };
+    let high = Range {
+        first: 10,
+        last: 18446744073709551615,
+        entry: 20,
+    };
+    let entries = vec![in alloc;
+        wrote(3, 1, Reply::Ok),
+        wrote(4, 2, Reply::Was(7)),
+        wrote(5, 3, Reply::None),
+        wrote(6, 4, Reply::Exists),
+        wrote(7, 5, Reply::Invalid),
+        got(50, 1, 2, Answer::None),
+        got(51, 2, 2, Answer::Entry(18446744073709551615)),
+        got(52, 0, 5, Answer::Range(high)),
+    ]?;
+    let name = Word::new(b"a_1".as_slice()).expect(&rt, "a name");
+    let lists = vec![in alloc;
+        Listing {
+            name,
+            kind: Kind::Range,
+            ranges: RangeList::new(vec![in alloc; low, high]?)
+        },
+        Listing {
+            name,
+            kind: Kind::Alloc,
+            ranges: RangeList::new(Vec::new(alloc))
+        },
+    ]?;
+    let transcript = Transcript {
+        entries: Entries::new(entries),
+        lists: Listings::new(lists),
+    };
+    let want = b"3 1 ok
+4 2 was 7
+5 3 none
+6 4 exists
+7 5 invalid
+50 1 2 none
+51 2 2 entry 18446744073709551615
+52 0 5 range 10 18446744073709551615 20
+tree a_1 range 2
+0 9 1
+10 18446744073709551615 20
+tree a_1 alloc 0
+";
+    let text = render(alloc, &transcript).ok();
+    assert_eq!(rt; text.expect(&rt, "memory").as_slice(), want.as_slice());
+    Ok(())
+}
