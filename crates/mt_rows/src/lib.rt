@@ -1,0 +1,6 @@
+//! The words of a tree's rows: what they stand for, and the trait through which they are read and written.
+#![tactic(auto)]
+
+mod rows;
+
+pub use rows::{Place, Rows, Scan};
