@@ -3,6 +3,7 @@
 
 mod calls;
 mod kinds;
+pub mod laws;
 mod memory;
 mod ranges;
 mod replies;

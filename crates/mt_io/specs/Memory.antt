@@ -1,5 +1,5 @@
 -- What the sources and sinks in memory do, call by call: a piece at a call, and the listed calls fail.
-use Rattle.std.specs.Prelude.{ℕ, Bool, List, ◌++◌, Result, Ok, Err, ◌+◌, ◌-◌, ◌^◌, ◌==◌, ◌&&◌, ◌||◌, not, min, length, take, drop, nat_lt, if◌then◌else◌}
+use Rattle.std.specs.Prelude.{ℕ, Bool, List, ◌++◌, Result, Ok, Err, ◌+◌, ◌-◌, ◌^◌, ◌==◌, ◌&&◌, ◌||◌, min, length, take, drop, nat_lt, if◌then◌else◌}
 use Rattle.std.specs.List.{list_any}
 use Rattle.mt_io.specs.declared.traits.Failed.{Failed}
 
@@ -31,15 +31,18 @@ given_count s room = min room (min s.piece (length s.left))
 abbrev pub read_fails : Giving → Bool
 read_fails s = is_listed s.calls s.fails
 
+abbrev pub read_answer : Giving → ℕ → Result ℕ Failed
+read_answer s room = if read_fails s then Err (record {}) else Ok (given_count s room)
+
 abbrev pub after_read : Giving → ℕ → Giving
 after_read s room = record {
-    left = if read_fails s then s.left else drop (given_count s room) s.left;
-    piece = s.piece;
-    fails = s.fails;
-    calls = one_more s.calls;
-    faults = if read_fails s then one_more s.faults else s.faults;
-    late = late_after s.faults s.late;
-  }
+  left = if read_fails s then s.left else drop (given_count s room) s.left;
+  piece = s.piece;
+  fails = s.fails;
+  calls = one_more s.calls;
+  faults = if read_fails s then one_more s.faults else s.faults;
+  late = late_after s.faults s.late;
+}
 
 -- A sink in memory: the bytes written, how many it takes in all and at a call, the numbers (from 0) of the calls
 -- that fail, and how many calls, faults and late calls there were.
@@ -60,13 +63,16 @@ taken_count s piece = min (length piece) (min s.piece (s.room - length s.written
 abbrev pub write_fails : Taking → List ℕ → Bool
 write_fails s piece = is_listed s.calls s.fails || (nat_lt 0 (length piece) && (s.room - length s.written == 0))
 
+abbrev pub write_answer : Taking → List ℕ → Result ℕ Failed
+write_answer s piece = if write_fails s piece then Err (record {}) else Ok (taken_count s piece)
+
 abbrev pub after_write : Taking → List ℕ → Taking
 after_write s piece = record {
-    written = if write_fails s piece then s.written else s.written ++ take (taken_count s piece) piece;
-    room = s.room;
-    piece = s.piece;
-    fails = s.fails;
-    calls = one_more s.calls;
-    faults = if write_fails s piece then one_more s.faults else s.faults;
-    late = late_after s.faults s.late;
-  }
+  written = if write_fails s piece then s.written else s.written ++ take (taken_count s piece) piece;
+  room = s.room;
+  piece = s.piece;
+  fails = s.fails;
+  calls = one_more s.calls;
+  faults = if write_fails s piece then one_more s.faults else s.faults;
+  late = late_after s.faults s.late;
+}

@@ -1,6 +1,14 @@
 //! A map of ranges as a sorted list: the first engine, and later the one to compare with.
 #![tactic(auto)]
 
+mod edits;
+mod list_map;
+mod places;
+#[cfg(test)]
+mod plain;
 mod ranges;
+#[cfg(test)]
+mod tests;
 
+pub use list_map::ListMap;
 pub use ranges::Ranges;

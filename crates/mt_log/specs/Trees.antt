@@ -31,6 +31,15 @@ abbrev pub AreNamedFrom : ℕ → List Line → Type 0
 AreNamedFrom count [] = Unit {0}
 AreNamedFrom count (line ∷ lines) = NamesBelow count line.item × AreNamedFrom (count + length (trees_of (line ∷ []))) lines
 
+<<<<<<< HEAD
+=======
+-- what a line may say, where so many trees were declared before it
+abbrev pub MayFollow : ℕ → Item → Type 0
+MayFollow count (Tree name kind) = (count < 1) × (kind ≡ kinds.Range)
+MayFollow count (Write tree call) = tree < count
+MayFollow count (Ask tree query) = tree < count
+
+>>>>>>> 761661514be7b84538c3498e3468523b22d65ea7
 -- what every log keeps that can be read: its steps name declared trees, and it declares one tree at the most, for ranges
 pub record IsReadable (lines : List Line) : Type 0 where
   pub named : AreNamedFrom 0 lines

@@ -30,6 +30,21 @@ pub enum LogError {
     NoMemory,
 }
 
+impl LogError {
+    ghost use Rattle.std.specs.Prelude.{◌≡◌};
+    ghost use Rattle.mt_log.specs.Fault.{fault_at};
+    ghost use Rattle.mt_log.specs.declared.faults.LogError.TheVariants.{Bad};
+
+    /// That this line is refused.
+    pub fn at(_line: u64, why: Why) -> Self
+        ensures { result ≡ Bad (fault_at _line why).line (fault_at _line why).why }
+    {
+        match why {
+            Why::NotYet => LogError::Bad { line: 0, why },
+        }
+    }
+}
+
 impl From<AllocError> for LogError {
     ghost use Rattle.std.specs.Prelude.{◌≡◌};
     ghost use Rattle.mt_log.specs.declared.faults.LogError.TheVariants.{NoMemory};

@@ -1,7 +1,10 @@
 //! The log that the program reads, the transcript that it writes, and when a transcript is a run of a log.
 #![tactic(auto)]
 
+mod cuts;
 mod faults;
+mod fields;
+mod items;
 mod lines;
 mod names;
 mod reading;

@@ -1,0 +1,3 @@
+pub mod OneRange
+pub mod ReadingAfterStore
+pub mod StoredOrder

@@ -1,0 +1,35 @@
+//! What holds of every map of ranges. Each law is the contract of a function that does nothing.
+
+ghost use Rattle.std.specs.Prelude.{◌≡◌, ◌<◌, ◌≤◌, ◌-◌, ◌^◌, ◌==◌, ℕ, List, [], ◌∷◌, option_map, slice_get, IsTrue, if◌then◌else◌};
+ghost use Rattle.mt_base.specs.declared.ranges.Range.{Range};
+ghost use Rattle.mt_base.specs.Map.{IsMap, holds, holding, over};
+
+/// A store keeps a map a map.
+#[tactic(auto, using(crate::proofs::StoredOrder::over_is_map))]
+pub fn store_keeps_map()
+    ensures { (m : List Range) (first last entry : ℕ) → first ≤ last → IsMap m → IsMap (over m first last entry) }
+{}
+
+/// After a store an index of its range has the entry that was stored, none where that is 0, and every other index the entry it had.
+#[tactic(auto, using(crate::proofs::ReadingAfterStore::entry_inside, crate::proofs::ReadingAfterStore::entry_below, crate::proofs::ReadingAfterStore::entry_above))]
+pub fn load_after_store()
+    ensures inside { (m : List Range) (first last entry index : ℕ) → first ≤ index → index ≤ last → option_map (λ r. r.entry) (holding (over m first last entry) index) ≡ (if entry == 0 then None else Some entry) }
+    ensures below { (m : List Range) (first last entry index : ℕ) → first ≤ last → index < first → option_map (λ r. r.entry) (holding (over m first last entry) index) ≡ option_map (λ r. r.entry) (holding m index) }
+    ensures above { (m : List Range) (first last entry index : ℕ) → first ≤ last → last < index → option_map (λ r. r.entry) (holding (over m first last entry) index) ≡ option_map (λ r. r.entry) (holding m index) }
+{}
+
+/// At most one range of a map holds an index.
+#[tactic(auto, using(crate::proofs::OneRange::one_range))]
+pub fn one_range_holds_an_index()
+    ensures { (m : List Range) (index i j : ℕ) (r s : Range) → IsMap m → slice_get m i ≡ Some r → slice_get m j ≡ Some s → IsTrue (holds index r) → IsTrue (holds index s) → i ≡ j }
+{}
+
+/// Worked stores: into the middle of a range, erasing there and across its end, and at the last index of all.
+pub fn worked_stores()
+    ensures split { over (over [] 0 99 1) 40 49 3
+        ≡ record { first = 0; last = 39; entry = 1 } ∷ record { first = 40; last = 49; entry = 3 } ∷ record { first = 50; last = 99; entry = 1 } ∷ [] }
+    ensures erased { over (over (over [] 0 99 1) 40 49 0) 45 60 0
+        ≡ record { first = 0; last = 39; entry = 1 } ∷ record { first = 61; last = 99; entry = 1 } ∷ [] }
+    ensures top { over (over [] 0 (2 ^ 64 - 1) 7) (2 ^ 64 - 1) (2 ^ 64 - 1) 9
+        ≡ record { first = 0; last = 2 ^ 64 - 2; entry = 7 } ∷ record { first = 2 ^ 64 - 1; last = 2 ^ 64 - 1; entry = 9 } ∷ [] }
+{}

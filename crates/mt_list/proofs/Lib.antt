@@ -1,0 +1,3 @@
+pub mod HoldingAtPlace
+pub mod RisingRanges
+pub mod StoreAtPlaces

@@ -1,0 +1,118 @@
+ghost use Rattle.std.specs.Prelude.{◌≡◌, ◌<◌, ◌≤◌, ◌+◌, [], ◌∷◌, ◌++◌, take, drop, vec_len, IfOk, OnOk, OnErr, option_to_list};
+ghost use Rattle.mt_base.specs.Map.{IsMap, over, part_stored};
+ghost use Rattle.mt_list.specs.Places.{piece_below, piece_above};
+
+use crate::places::{last_of, place_above, place_below, range_at};
+use mt_base::Range;
+use std::alloc::{AllocError, Global};
+
+/// What a range keeps below `first`.
+fn piece_below(range: Option<Range>, first: u64) -> Option<Range>
+    ensures { option_to_list result ≡ piece_below first range }
+{
+    let range = range?;
+    if range.first < first {
+        Some(Range {
+            last: range.last.min(first - 1),
+            ..range
+        })
+    } else {
+        None
+    }
+}
+
+/// What a range keeps above `last`.
+fn piece_above(range: Option<Range>, last: u64) -> Option<Range>
+    ensures { option_to_list result ≡ piece_above last range }
+{
+    let range = range?;
+    if last < range.last {
+        Some(Range {
+            first: range.first.max(last + 1),
+            ..range
+        })
+    } else {
+        None
+    }
+}
+
+fn piece_stored(first: u64, last: u64, entry: u64) -> Option<Range>
+    ensures { option_to_list result ≡ part_stored first last entry }
+{
+    if entry == 0 {
+        None
+    } else {
+        Some(Range { first, last, entry })
+    }
+}
+
+fn push_piece(pieces: &mut Vec<Range>, piece: Option<Range>) -> Result<(), AllocError>
+    ensures { OnOk result (pieces.new.items ≡ pieces.old.items ++ option_to_list piece) }
+{
+    if let Some(range) = piece {
+        pieces.push(range)?;
+    }
+    Ok(())
+}
+
+/// What stands in the place of the ranges that a store touches.
+fn pieces(
+    alloc: Global,
+    below: Option<Range>,
+    stored: Option<Range>,
+    above: Option<Range>,
+) -> Result<Vec<Range>, AllocError>
+    ensures { IfOk result (λ v. v.items ≡ option_to_list below ++ (option_to_list stored ++ option_to_list above)) }
+{
+    let mut pieces = Vec::with_capacity(alloc, 3)?;
+    push_piece(&mut pieces, below)?;
+    push_piece(&mut pieces, stored)?;
+    push_piece(&mut pieces, above)?;
+    Ok(pieces)
+}
+
+/// Puts `pieces` in the place of the ranges from `start` up to `end`. An `Err` changes nothing.
+fn replace(
+    ranges: &mut Vec<Range>,
+    start: usize,
+    end: usize,
+    pieces: Vec<Range>,
+) -> Result<(), AllocError>
+    requires order { start ≤ end }
+    requires bound { end ≤ vec_len ranges.old }
+    ensures ok { OnOk result (ranges.new.items ≡ take start ranges.old.items ++ (pieces.items ++ drop end ranges.old.items)) }
+    ensures err { OnErr result (ranges.new.items ≡ ranges.old.items) }
+{
+    ranges.splice(start..end, pieces)?;
+    Ok(())
+}
+
+fn write_slot(ranges: &mut Vec<Range>, slot: usize, range: Range)
+    requires { slot < vec_len ranges.old }
+    ensures { ranges.new.items ≡ take slot ranges.old.items ++ ((range ∷ []) ++ drop (slot + 1) ranges.old.items) }
+{
+    ranges[slot] = range;
+}
+
+/// Stores `entry` over `first` to `last`. An `Err` changes nothing.
+#[tactic(auto, using(crate::proofs::StoreAtPlaces::stores))]
+pub fn store(ranges: &mut Vec<Range>, first: u64, last: u64, entry: u64) -> Result<(), AllocError>
+    requires order { first ≤ last }
+    requires map { IsMap ranges.old.items }
+    ensures ok { OnOk result (ranges.new.items ≡ over ranges.old.items first last entry) }
+    ensures err { OnErr result (ranges.new.items ≡ ranges.old.items) }
+{
+    let start = place_below(ranges, first);
+    let end = place_above(ranges, last);
+    let below = piece_below(range_at(ranges, start), first);
+    let stored = piece_stored(first, last, entry);
+    let above = piece_above(last_of(&ranges[..end]), last);
+    if let (None, Some(range), None) = (below, stored, above) {
+        if end - start == 1 {
+            write_slot(ranges, start, range);
+            return Ok(());
+        }
+    }
+    let pieces = pieces(*ranges.allocator(), below, stored, above)?;
+    replace(ranges, start, end, pieces)
+}

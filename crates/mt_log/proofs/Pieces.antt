@@ -1,0 +1,47 @@
+use Rattle.std.proofs.Common.{◌≡◌, ℕ, ◌+◌, ◌<◌, Bool, true, false, List, [], ◌∷◌, Ok, Err, Result, length, arith, refl, cond, ap, codes, length-append}
+use Rattle.std.specs.List.{slice_split, onto_first}
+use Rattle.std.specs.Str.{bytes_eq}
+use Rattle.mt_log.specs.declared.faults.Why.{Why}
+use Rattle.mt_log.specs.declared.faults.Why.TheVariants.{NotYet}
+use Rattle.mt_log.specs.declared.lines.Item.{Item}
+use Rattle.mt_log.specs.Fault.{fault_at, on_line, ◌>>=◌}
+use Rattle.mt_log.specs.Reading.{Read, after_item, after_line, after_pieces, log_of_pieces, nothing_read, item_of, fields_of}
+
+-- there is a first part
+some_part : (p : ℕ → Bool) (xs : List ℕ) → (part : List ℕ) × (parts : List (List ℕ)) × (slice_split p xs ≡ part ∷ parts)
+some_part p [] = ([], [], refl)
+some_part p (x ∷ xs) =
+    let others = some_part p xs in
+    elim (p x) as (λ b. (part : List ℕ) × (parts : List (List ℕ)) × (cond b ([] ∷ slice_split p xs) (onto_first x (slice_split p xs)) ≡ part ∷ parts)) [
+      | true ↦ ([], slice_split p xs, refl)
+      | false ↦ (x ∷ others.0, others.1, ap (onto_first x) others.2)
+    ]
+
+before_piece : (r : Read) (line piece : List ℕ) (pieces : List (List ℕ)) → after_pieces r (line ∷ piece ∷ pieces) ≡ (after_line r line >>= λ s. after_pieces s (piece ∷ pieces))
+before_piece r [] piece pieces = refl
+before_piece r (b ∷ line) piece pieces = refl
+
+-- a line with a piece behind it is read first
+pub first_line : (p : ℕ → Bool) (r : Read) (line rest : List ℕ) → after_pieces r (line ∷ slice_split p rest) ≡ (after_line r line >>= λ s. after_pieces s (slice_split p rest))
+first_line p r line rest = let first = some_part p rest in rw first.2 (before_piece r line first.0 first.1)
+
+-- behind the last LF nothing may come
+pub last_piece : (r : Read) (rest : List ℕ) → length rest ≡ 0 → after_pieces r (rest ∷ []) ≡ Ok r
+last_piece r [] h = refl
+last_piece r (b ∷ rest) h = absurd (omega arith)
+
+pub left_over : (r : Read) (rest : List ℕ) → 0 < length rest → after_pieces r (rest ∷ []) ≡ Err (fault_at r.next NotYet)
+left_over r [] h = absurd (omega arith)
+left_over r (b ∷ rest) h = refl
+
+-- behind the first line stand the others
+pub behind_header : (p : ℕ → Bool) (header rest : List ℕ) → bytes_eq header (codes "mtlog 1") ≡ true → log_of_pieces (header ∷ slice_split p rest) ≡ (after_pieces nothing_read (slice_split p rest) >>= λ r. Ok (record { version = 1; lines = r.lines }))
+behind_header p header rest named = let first = some_part p rest in rw (first.2, named) refl
+
+grown : (r s : Read) (said : Result Item Why) → (on_line r.next said >>= λ item. Ok (after_item r item)) ≡ Ok s → (s.next ≡ r.next + 1) × (length s.lines ≡ length r.lines + 1)
+grown r s (Ok item) h = let is : after_item r item ≡ s = (cc) in rw (← is) (refl, length-append _ _)
+grown r s (Err why) h = (cc)
+
+-- a line that is read is one more
+pub one_more : (r s : Read) (line : List ℕ) → after_line r line ≡ Ok s → (s.next ≡ r.next + 1) × (length s.lines ≡ length r.lines + 1)
+one_more r s line h = grown r s (item_of r.names (fields_of line)) h

@@ -1,0 +1,20 @@
+ghost use Rattle.std.specs.Prelude.{◌≡◌, ◌∷◌, ◌==◌, ◌<◌, ◌+◌, [], position, length, IfSome, MatchOption};
+ghost use Rattle.std.specs.List.{slice_split};
+
+fn place(bytes: &[u8], at: u8) -> Option<usize>
+    ensures { result ≡ position (λ b. b == at) bytes.now }
+{
+    bytes.iter().position(|b| *b == at)
+}
+
+/// What stands before the first byte `at` and what stands after it, if there is one.
+#[tactic(auto, using(crate::proofs::Parts::cut_once, crate::proofs::Parts::cut_never))]
+pub fn cut(bytes: &[u8], at: u8) -> Option<(&[u8], &[u8])>
+    ensures parts { MatchOption result
+        (slice_split (λ b. b == at) bytes.now ≡ bytes.now ∷ [])
+        (λ p. slice_split (λ b. b == at) bytes.now ≡ p.0.now ∷ slice_split (λ b. b == at) p.1.now) }
+    ensures shorter { IfSome result (λ p. length p.1.now < length bytes.now) }
+{
+    let place = place(bytes, at)?;
+    Some((&bytes[..place], &bytes[place + 1..]))
+}
