@@ -1,7 +1,39 @@
+ghost use Rattle.std.specs.Prelude.{◌≡◌, ◌≢◌, ◌+◌, ◌<◌, Any};
+ghost use Rattle.mt_layout.specs.Columns.{RiseFrom, longest_hole};
+
+use arrayvec::ArrayVec;
+
 /// What a row holds in one slot: the greatest index of it, its word, and the longest hole below it, in rows with gaps.
 #[derive(Clone, Copy, Debug, Default, PartialEq, Eq)]
 pub struct Item {
     pub last: u64,
     pub word: u64,
     pub gap: u64,
+}
+
+/// The items of a few rows that lie next to each other.
+pub type Run = ArrayVec<Item, 72>;
+
+/// The number of indexes of the longest hole in a leaf with these items, the first of which begins at `min`.
+pub fn gap_of(items: &[Item], min: u64) -> u64
+    requires rise { RiseFrom min items.now }
+    requires entry { Any (λ x. x.word ≢ 0) items.now }
+    ensures { result ≡ longest_hole min items.now }
+{
+    let Some((first, rest)) = items.split_first() else {
+        return 0;
+    };
+    let mut longest = 0;
+    let mut before = first.last;
+    for item in rest {
+        if item.word == 0 {
+            longest = longest.max(item.last - before);
+        }
+        before = item.last;
+    }
+    // Where the first item is a hole an entry lies behind it, so its indexes are not all that there are.
+    if first.word == 0 {
+        longest = longest.max(first.last - min + 1);
+    }
+    longest
 }

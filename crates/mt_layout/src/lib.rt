@@ -2,7 +2,17 @@
 #![tactic(auto)]
 
 mod items;
+mod laws;
+mod layout;
 mod names;
 
-pub use items::Item;
-pub use names::{Name, RowKind};
+pub use items::{Item, Run, gap_of};
+pub use laws::{
+    items_are_in_own_columns, names_are_read_back, what_is_not_read_is_no_name,
+    what_is_read_is_a_name,
+};
+pub use layout::Layout;
+pub use names::{Name, RowKind, is_dead_mark, kind_of, name_of, parent_word, row_of};
+
+#[cfg(test)]
+mod tests;

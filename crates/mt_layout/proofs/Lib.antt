@@ -1,0 +1,6 @@
+pub mod NameLaws
+pub mod OwnColumns
+pub mod ReadBack
+pub mod Reading
+pub mod RowWords
+pub mod Writing

@@ -1,0 +1,24 @@
+-- Names are read back as what they were made of, and nothing else is read as a name.
+use Rattle.std.proofs.Common.{◌≡◌, ℕ, ◌+◌, ◌*◌, Some, None, rules, arith}
+use Rattle.std.proofs.lemmas.Grind.{common_steps}
+use Rattle.mt_layout.specs.declared.names.RowKind.{RowKind}
+use Rattle.mt_layout.specs.declared.names.RowKind.TheVariants as kinds
+use Rattle.mt_layout.specs.Rows.{IsRowNumber, Names, name_at, row_in, named_row, named_kind}
+
+pub named_kind-name_at : (row : ℕ) (kind : RowKind) → IsRowNumber row → named_kind (name_at row kind) ≡ Some kind
+named_kind-name_at row kind here = grind (arith, common_steps)
+
+pub named_row-name_at : (row : ℕ) (kind : RowKind) → IsRowNumber row → named_row (name_at row kind) ≡ Some row
+named_row-name_at row kind here = grind (arith, common_steps)
+
+pub Names-named_kind : (word : ℕ) (kind : RowKind) → named_kind word ≡ Some kind → Names word (row_in word) kind
+Names-named_kind word kind is = grind (arith, common_steps)
+
+pub Names-named_row : (word row : ℕ) → named_row word ≡ Some row → (kind : RowKind) × Names word row kind
+Names-named_row word row is = grind (arith, common_steps)
+
+pub named_row-no_name : (word : ℕ) → named_row word ≡ None → (row : ℕ) (kind : RowKind) → Names word row kind → ⊥
+named_row-no_name word is row kind names = grind (arith, common_steps)
+
+pub named_kind-no_name : (word : ℕ) → named_kind word ≡ None → (row : ℕ) (kind : RowKind) → Names word row kind → ⊥
+named_kind-no_name word is row kind names = grind (arith, common_steps)
