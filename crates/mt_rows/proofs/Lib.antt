@@ -1,0 +1,5 @@
+pub mod Depth
+pub mod Frames
+pub mod Lists
+pub mod Once
+pub mod Ranges
