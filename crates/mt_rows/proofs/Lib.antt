@@ -1,4 +1,5 @@
 pub mod Depth
+pub mod Fates
 pub mod Frames
 pub mod Lists
 pub mod Once

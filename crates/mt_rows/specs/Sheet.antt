@@ -7,14 +7,9 @@ use Rattle.mt_base.specs.Width.{columns}
 use Rattle.mt_base.specs.History.{Record}
 use Rattle.mt_layout.specs.Rows.{dead_mark}
 use Rattle.mt_rows.specs.Spans.{Table, column, base_of}
+use Rattle.mt_rows.specs.declared.rows.Life.{Life}
+use Rattle.mt_rows.specs.declared.rows.Life.TheVariants.{New, Draft, Live, Dead}
 use Rattle.mt_rows.specs.declared.rows.Scan.{Scan}
-
--- What has become of a row: new, being drafted, live, or dead by the call of this number.
-pub data Life : Type 0 where
-  New : Life
-  Draft : Life
-  Live : Life
-  Dead : (call : ℕ) → Life
 
 -- who calls, where that is told: the tree's table, the number of its passes, and of the joined pass its number, the
 -- epochs at which it opened sections, the epoch of the one that stands open, and the greatest call seen begun
@@ -35,11 +30,10 @@ pub record Sheet : Type 0 where
   -- how many rows there are, numbered from 16, and their words
   pub rows : ℕ
   pub tree : Tree
-  -- the number of calls ended; whether a call is in flight, whether it has published, and the tree as it was at `begin`
+  -- the number of calls ended; whether a call is in flight, and whether it has published
   pub ended : ℕ
   pub flying : Bool
   pub published : Bool
-  pub before : Tree
   -- by the row's number: its life, and whether the call in flight has buried it
   pub lives : List Life
   pub buried : List Bool
@@ -93,7 +87,7 @@ pub record MayBegin (s : Sheet) : Type 0 where
   pub room : s.ended < 2 ^ 62 - 1
 
 abbrev pub begun : Sheet → Sheet
-begun s = record s { flying = true; published = false; before = s.tree; scans_at_begin = s.scans }
+begun s = record s { flying = true; published = false; scans_at_begin = s.scans }
 
 -- after a scan with this answer; `cleared` may rise
 abbrev pub scanned : Sheet → Scan → ℕ → Sheet

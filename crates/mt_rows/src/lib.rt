@@ -2,6 +2,8 @@
 #![tactic(auto)]
 
 pub mod laws;
+mod plain;
 mod rows;
 
-pub use rows::{Place, Rows, Scan};
+pub use plain::PlainRows;
+pub use rows::{Life, Place, Rows, Scan};

@@ -11,6 +11,19 @@ pub enum Place {
     Slot { row: u32, col: u32 },
 }
 
+/// What has become of a row.
+#[derive(Clone, Copy, Debug, PartialEq, Eq)]
+pub enum Life {
+    /// It was never used.
+    New,
+    /// It is being written, and no reader can reach it.
+    Draft,
+    /// It was published.
+    Live,
+    /// The call of this number took it out of the tree.
+    Dead(u64),
+}
+
 /// What a scan of all section words found: the least epoch at which a section stands open, and who holds it.
 #[derive(Clone, Copy, Debug, PartialEq, Eq)]
 pub struct Scan {
