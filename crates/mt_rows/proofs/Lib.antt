@@ -1,3 +1,4 @@
+pub mod Deeper
 pub mod Depth
 pub mod Fates
 pub mod Frames

@@ -11,7 +11,8 @@ use Rattle.mt_layout.specs.declared.names.RowKind.TheVariants.{Leaf, Inner, Gapp
 use Rattle.mt_layout.specs.declared.items.Item.{Item}
 use Rattle.mt_layout.specs.Columns.{items_at, row_words}
 use Rattle.mt_layout.specs.Rows.{row_in, named_kind, parent_at}
-use Rattle.mt_rows.specs.Spans.{Table, Span, base_of, column, slots_of, gaps_of, inner_kind, spans_in, root_span, leaf_range}
+use Rattle.mt_rows.specs.declared.spans.Span.{Span}
+use Rattle.mt_rows.specs.Spans.{Table, base_of, column, slots_of, gaps_of, inner_kind, spans_in, root_span, leaf_range}
 use Rattle.mt_rows.specs.Levels.{Fills, Levels, expand}
 use Rattle.mt_rows.specs.Trees.{deepest}
 

@@ -3,7 +3,8 @@ use Rattle.std.specs.Prelude.{◌≡◌, ℕ, zero, suc, ◌+◌, ◌<◌, ◌�
 use Rattle.std.specs.List.{AllByRecursion, flat_map}
 use Rattle.mt_base.specs.declared.ranges.Range.{Range}
 use Rattle.mt_layout.specs.Rows.{row_in}
-use Rattle.mt_rows.specs.Spans.{Table, Span, column, spans_in, leaf_range}
+use Rattle.mt_rows.specs.declared.spans.Span.{Span}
+use Rattle.mt_rows.specs.Spans.{Table, column, spans_in, leaf_range}
 
 -- the spans fill the indexes from `lo` up to, but without, `hi`
 abbrev pub Fills : ℕ → ℕ → List Span → Type 0

@@ -12,6 +12,7 @@ use Rattle.mt_layout.specs.declared.names.RowKind.{RowKind}
 use Rattle.mt_layout.specs.declared.names.RowKind.TheVariants as kinds
 use Rattle.mt_layout.specs.Rows.{row_in, named_kind}
 use Rattle.mt_layout.specs.Columns.{items_at}
+use Rattle.mt_rows.specs.declared.spans.Span.{Span}
 
 -- The words of a tree's rows: column c of row r is the word columns * r + c.
 pub record Table : Type 0 where
@@ -39,14 +40,6 @@ gaps_of Long kinds.Gapped = 10
 abbrev pub inner_kind : Kind → RowKind
 inner_kind trees.Range = kinds.Inner
 inner_kind trees.Alloc = kinds.Gapped
-
--- Indexes from `first` to `last`, and what stands there: in a leaf an entry, or 0 for a hole; in an inner row the name
--- of the child that covers them, and its longest hole.
-pub record Span : Type 0 where
-  pub first : ℕ
-  pub last : ℕ
-  pub word : ℕ
-  pub gap : ℕ
 
 -- items, the first of which begins at `first`, and each other behind the one before
 abbrev pub spans_from : ℕ → List Item → List Span
