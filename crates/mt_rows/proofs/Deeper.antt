@@ -1,7 +1,6 @@
 -- What the definitions by depth give at a depth above 0.
 use Rattle.std.proofs.Common.{◌≡◌, ◌≢◌, ℕ, zero, suc, ◌+◌, ◌-◌, ◌<◌, List, [], ◌∷◌, Option, Some, refl, ap, ◌∙◌, arith}
 use Rattle.std.specs.List.{flat_map, slice_get}
-use Rattle.mt_base.specs.declared.ranges.Range.{Range}
 use Rattle.mt_layout.specs.declared.names.RowKind.{RowKind}
 use Rattle.mt_layout.specs.declared.names.RowKind.TheVariants.{Leaf, Inner, Gapped}
 use Rattle.mt_layout.specs.Rows.{row_in, named_kind, named_row}

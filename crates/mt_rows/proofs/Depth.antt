@@ -1,10 +1,8 @@
 -- By depth and by levels the words stand for the same: ranges, rows and height.
-use Rattle.std.proofs.Common.{◌≡◌, ℕ, zero, suc, ◌+◌, ◌<◌, ◌≤◌, ◌==◌, List, [], ◌∷◌, ◌++◌, Option, Some, None, length, refl, sym, ap, ◌∙◌, subst, inl, inr, arith, append-nil}
-use Rattle.std.specs.Prelude.{if◌then◌else◌}
+use Rattle.std.proofs.Common.{◌≡◌, ℕ, zero, suc, ◌+◌, ◌<◌, ◌≤◌, ◌==◌, List, [], ◌∷◌, ◌++◌, Option, Some, length, refl, sym, ap, ◌∙◌, inl, inr, arith, append-nil}
 use Rattle.std.specs.List.{AllByRecursion, flat_map}
 use Rattle.std.proofs.lemmas.Bool.{cases_Bool}
 use Rattle.std.proofs.lemmas.Grind.{flat_map-append}
-use Rattle.mt_base.specs.declared.ranges.Range.{Range}
 use Rattle.mt_base.specs.declared.kinds.Kind.{Kind}
 use Rattle.mt_base.specs.declared.kinds.Kind.TheVariants as trees
 use Rattle.mt_layout.specs.declared.names.RowKind.{RowKind}
@@ -15,7 +13,7 @@ use Rattle.mt_rows.specs.Spans.{Table, spans_in, inner_kind, leaf_range}
 use Rattle.mt_rows.specs.Levels.{expand, map_of, Levels, one_if, tally, times, is_row_of}
 use Rattle.mt_rows.specs.Trees.{by_kind, ranges_of, rows_of, levels_by, of_first, height_of}
 use Rattle.mt_rows.specs.Laws.{Tree, IsRow, kind_at, covers_all, least_of_root, least_of_kind, least_of}
-use Rattle.mt_rows.proofs.Lists.{all_map, all_front, all_back, tally-append, expand-append, levels_here}
+use Rattle.mt_rows.proofs.Lists.{all_map, all_front, all_back, tally-append}
 
 abbrev IsLeaf : Span → Type 0
 IsLeaf x = named_kind x.word ≡ Some Leaf
@@ -129,9 +127,9 @@ inners_tall : (t : Tree) (depth h : ℕ) (xs : List Span) → AllByRecursion (Is
 inners_tall t depth h [] rows below = tt
 inners_tall t depth h (x ∷ xs) rows below = (
   (let some : 1 ≤ length (spans_in t.table x) = omega (arith, some_least t (suc h) x, rows.0.count.least) in
-  let first = first_tall t.table depth h (spans_in t.table x) some (all_front (λ (y : Span). height_of t.table depth y ≡ h + 1) (spans_in t.table x) (expand t.table xs) below) in
-  let here : height_of t.table (suc depth) x ≡ 1 + of_first (height_of t.table depth) (spans_in t.table x) = levels_by_inner t.kind (named_kind x.word) (of_first (height_of t.table depth) (spans_in t.table x)) rows.0.name.named in
-  omega (arith, first, here)),
+      let first = first_tall t.table depth h (spans_in t.table x) some (all_front (λ (y : Span). height_of t.table depth y ≡ h + 1) (spans_in t.table x) (expand t.table xs) below) in
+      let here : height_of t.table (suc depth) x ≡ 1 + of_first (height_of t.table depth) (spans_in t.table x) = levels_by_inner t.kind (named_kind x.word) (of_first (height_of t.table depth) (spans_in t.table x)) rows.0.name.named in
+      omega (arith, first, here)),
   inners_tall t depth h xs rows.1 (all_back (λ (y : Span). height_of t.table depth y ≡ h + 1) (spans_in t.table x) (expand t.table xs) below),
 )
 

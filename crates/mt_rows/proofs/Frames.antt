@@ -1,18 +1,16 @@
 -- The words of rows that are not reached do not count.
-use Rattle.std.proofs.Common.{◌≡◌, ℕ, zero, suc, ◌+◌, ◌*◌, ◌<◌, List, [], ◌∷◌, ◌++◌, Option, Some, None, refl, sym, ap, ◌∙◌, inl, inr, arith}
+use Rattle.std.proofs.Common.{◌≡◌, ℕ, zero, suc, ◌*◌, List, [], ◌∷◌, ◌++◌, Option, Some, None, refl, ap, ◌∙◌, inl, inr}
 use Rattle.std.specs.List.{AllByRecursion, flat_map}
-use Rattle.mt_base.specs.declared.ranges.Range.{Range}
 use Rattle.mt_base.specs.declared.widths.Width.{Width}
 use Rattle.mt_base.specs.declared.widths.Width.TheVariants.{Long}
 use Rattle.mt_base.specs.Width.{columns}
 use Rattle.mt_layout.specs.declared.names.RowKind.{RowKind}
 use Rattle.mt_layout.specs.declared.names.RowKind.TheVariants.{Leaf, Inner, Gapped}
-use Rattle.mt_layout.specs.declared.items.Item.{Item}
 use Rattle.mt_layout.specs.Rows.{row_in, named_kind}
-use Rattle.mt_layout.specs.Columns.{IsLayout, items_at}
+use Rattle.mt_layout.specs.Columns.{IsLayout}
 use Rattle.mt_layout.proofs.OwnColumns.{same_items}
 use Rattle.mt_rows.specs.declared.spans.Span.{Span}
-use Rattle.mt_rows.specs.Spans.{Table, base_of, column, slots_of, gaps_of, spans_from, row_spans, spans_by, spans_in, leaf_range}
+use Rattle.mt_rows.specs.Spans.{Table, slots_of, gaps_of, spans_from, row_spans, spans_by, spans_in, leaf_range}
 use Rattle.mt_rows.specs.Levels.{SameColumns, SameSpans}
 use Rattle.mt_rows.specs.Trees.{by_kind, ranges_of, rows_of}
 use Rattle.mt_rows.proofs.Lists.{all_front, all_back}

@@ -1,9 +1,8 @@
 -- No row is reached twice, since each row's first pivot lies inside the row's own range.
-use Rattle.std.proofs.Common.{◌≡◌, ◌≢◌, ◌⊎◌, ℕ, zero, suc, ◌+◌, ◌<◌, ◌≤◌, ◌==◌, List, [], ◌∷◌, Option, Some, None, Bool, true, false, length, nat_le, refl, ap, sym, ◌∙◌, subst, inl, inr, ⊎_elim, arith}
+use Rattle.std.proofs.Common.{◌≡◌, ◌≢◌, ◌⊎◌, ℕ, zero, suc, ◌+◌, ◌<◌, ◌≤◌, ◌==◌, List, [], ◌∷◌, Option, Some, None, Bool, false, length, nat_le, refl, ap, subst, inl, inr, ⊎_elim, arith}
 use Rattle.std.specs.Prelude.{if◌then◌else◌, slice_index}
-use Rattle.std.specs.List.{AllByRecursion, flat_map}
+use Rattle.std.specs.List.{AllByRecursion}
 use Rattle.std.proofs.lemmas.Bool.{cases_Bool, eqb-true, leb-false}
-use Rattle.mt_base.specs.declared.kinds.Kind.{Kind}
 use Rattle.mt_base.specs.declared.widths.Width.{Width}
 use Rattle.mt_base.specs.declared.widths.Width.TheVariants.{Long}
 use Rattle.mt_layout.specs.declared.names.RowKind.{RowKind}
@@ -14,8 +13,8 @@ use Rattle.mt_rows.specs.declared.spans.Span.{Span}
 use Rattle.mt_rows.specs.Spans.{Table, base_of, column, slots_of, gaps_of, spans_from, spans_by, spans_in, root_span}
 use Rattle.mt_rows.specs.Levels.{Fills, expand, Levels, one_if, tally, times, is_row_of}
 use Rattle.mt_rows.specs.Trees.{reached_in, deepest}
-use Rattle.mt_rows.specs.Laws.{Tree, IsRow, Stands, top_of, kind_at, covers_all, least_of_root, least_of_kind, least_of}
-use Rattle.mt_rows.proofs.Lists.{all_map, all_front, all_back, all_join, fills-append, fills_le, Filled, expand_fills, levels_map, levels_here}
+use Rattle.mt_rows.specs.Laws.{Tree, IsRow, Stands, top_of, kind_at, covers_all, least_of_root, least_of_kind}
+use Rattle.mt_rows.proofs.Lists.{all_map, all_front, all_back, all_join, fills_le, Filled, expand_fills, levels_map, levels_here}
 use Rattle.mt_rows.proofs.Depth.{rows_by_depth}
 
 -- ---- rows of two items or more
@@ -190,7 +189,7 @@ none_ends_below t zero lo hi xs wide fills = none_ends_beside t lo hi xs wide fi
 none_ends_below t (suc h) lo hi xs wide fills = (
   none_ends_beside t lo hi xs wide.0 fills,
   levels_map (λ (_ : ℕ) (y : Span). NoneEnds (pivot_of t y) (expand t xs)) (λ (_ : ℕ) (y : Span). NoneEnds (pivot_of t y) xs) t
-  (λ _ y none. none_ends_above t (pivot_of t y) xs wide.0 none) h (expand t xs) (none_ends_below t h lo hi (expand t xs) wide.1 (wide_fills t lo hi xs wide.0 fills)),
+      (λ _ y none. none_ends_above t (pivot_of t y) xs wide.0 none) h (expand t xs) (none_ends_below t h lo hi (expand t xs) wide.1 (wide_fills t lo hi xs wide.0 fills)),
 )
 
 -- ---- counting

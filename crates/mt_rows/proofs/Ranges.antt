@@ -1,12 +1,11 @@
 -- Words stand for maps: no range is below the one before it.
-use Rattle.std.proofs.Common.{◌≡◌, ◌≢◌, ℕ, zero, suc, ◌+◌, ◌<◌, ◌≤◌, ◌==◌, List, [], ◌∷◌, refl, sym, subst, inl, inr, arith}
+use Rattle.std.proofs.Common.{◌≡◌, ℕ, zero, suc, ◌+◌, ◌==◌, List, [], ◌∷◌, refl, sym, subst, inl, inr, arith}
 use Rattle.std.specs.List.{AllByRecursion, flat_map}
 use Rattle.std.proofs.lemmas.Bool.{cases_Bool, eqb-false}
-use Rattle.mt_base.specs.declared.ranges.Range.{Range}
 use Rattle.mt_base.specs.Map.{IsMapFrom, IsMap}
 use Rattle.mt_base.proofs.StoredOrder.{IsMapFrom-lower}
 use Rattle.mt_rows.specs.declared.spans.Span.{Span}
-use Rattle.mt_rows.specs.Spans.{Table, spans_in, root_span, leaf_range}
+use Rattle.mt_rows.specs.Spans.{Table, root_span, leaf_range}
 use Rattle.mt_rows.specs.Levels.{Fills, expand, map_of, Levels}
 use Rattle.mt_rows.specs.Trees.{map_in, deepest}
 use Rattle.mt_rows.specs.Laws.{Tree, IsRow, Stands, top_of}

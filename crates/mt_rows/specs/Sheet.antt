@@ -72,9 +72,9 @@ word_at s row col = column s.tree.table row col
 
 abbrev pub with_word : Tree → ℕ → ℕ → ℕ → Tree
 with_word t row col word = record {
-    table = record { width = t.table.width; words = slice_set t.table.words (base_of t.table row + col) word };
-    root = t.root;
-  }
+  table = record { width = t.table.width; words = slice_set t.table.words (base_of t.table row + col) word };
+  root = t.root;
+}
 
 -- one word was loaded
 abbrev pub loaded : Sheet → Sheet

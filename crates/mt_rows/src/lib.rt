@@ -10,3 +10,6 @@ mod spans;
 pub use plain::PlainRows;
 pub use rows::{Life, Place, Rows, Scan};
 pub use spans::Span;
+
+#[cfg(test)]
+mod tests;

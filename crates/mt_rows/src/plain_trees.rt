@@ -130,7 +130,12 @@ fn push_leaf_ranges(spans: &[Span], ranges: &mut Vec<Range>) -> Result<(), NoMem
 
 /// Appends the ranges below a row, at most so many levels deep.
 #[tactic(auto, using(crate::proofs::Deeper::ranges_of_deeper, crate::proofs::Deeper::ranges_of_inner))]
-fn push_ranges(words: &[u64], depth: u32, span: &Span, ranges: &mut Vec<Range>) -> Result<(), NoMemory>
+fn push_ranges(
+    words: &[u64],
+    depth: u32,
+    span: &Span,
+    ranges: &mut Vec<Range>,
+) -> Result<(), NoMemory>
     ensures { IfOk result (λ _. ranges.new.items ≡ ranges.old.items ++ trees.ranges_of (record { width = Long; words = words.now }) depth span.now) }
 {
     let Some(kind) = kind_of(span.word) else {

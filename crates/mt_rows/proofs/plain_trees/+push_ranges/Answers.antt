@@ -1,9 +1,8 @@
-use Rattle.std.proofs.Common.{◌≡◌, ◌++◌, ℕ, List, ap, ◌∙◌, sym, take, ◌-◌, ◌<◌, arith}
+use Rattle.std.proofs.Common.{◌++◌, List, ap, ◌∙◌, sym, ◌-◌, ◌<◌, arith}
 use Rattle.std.specs.List.{flat_map}
 use Rattle.std.proofs.lemmas.List.{take_all}
 use Rattle.mt_base.specs.declared.ranges.Range.{Range}
 use Rattle.mt_base.specs.declared.widths.Width.TheVariants.{Long}
-use Rattle.mt_rows.specs.declared.spans.Span.{Span}
 use Rattle.mt_rows.specs.Spans.{Table}
 use Rattle.mt_rows.specs.Trees.{ranges_of}
 use Rattle.mt_rows.proofs.Deeper.{ranges_of_inner}

@@ -1,4 +1,4 @@
-use Rattle.std.proofs.Common.{◌≡◌, ◌*◌, ◌∙◌, true, slice_set, arith}
+use Rattle.std.proofs.Common.{◌≡◌, true, slice_set, arith}
 use Rattle.mt_rows.specs.Plain.{sheet_of}
 use Rattle.mt_layout.specs.Rows.{dead_mark}
 use Rattle.mt_rows.proofs.Fates.{lives-buried, buried-buried}

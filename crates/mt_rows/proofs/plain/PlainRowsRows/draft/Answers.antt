@@ -1,4 +1,4 @@
-use Rattle.std.proofs.Common.{◌≡◌, slice_set}
+use Rattle.std.proofs.Common.{slice_set}
 use Rattle.mt_rows.specs.Plain.{sheet_of}
 use Rattle.mt_rows.proofs.Fates.{lives-live, buried-live}
 use Rattle.mt_rows.specs.declared.rows.Life.TheVariants.{Draft}
