@@ -31,3 +31,10 @@ impl fmt::Display for Reply {
         }
     }
 }
+
+/// A pass whose section was found open, and the epoch at which it was.
+#[derive(Clone, Copy, Debug, PartialEq, Eq)]
+pub struct Holder {
+    pub pass: u32,
+    pub epoch: u64,
+}

@@ -1,0 +1,70 @@
+-- The words of rows that are not reached do not count.
+use Rattle.std.proofs.Common.{◌≡◌, ℕ, zero, suc, ◌*◌, List, [], ◌∷◌, ◌++◌, Option, Some, None, refl, ap, ◌∙◌, inl, inr}
+use Rattle.std.specs.List.{AllByRecursion, flat_map}
+use Rattle.mt_base.specs.declared.widths.Width.{Width}
+use Rattle.mt_base.specs.declared.widths.Width.TheVariants.{Long}
+use Rattle.mt_base.specs.Width.{columns}
+use Rattle.mt_layout.specs.declared.names.RowKind.{RowKind}
+use Rattle.mt_layout.specs.declared.names.RowKind.TheVariants.{Leaf, Inner, Gapped}
+use Rattle.mt_layout.specs.Rows.{row_in, named_kind}
+use Rattle.mt_layout.specs.Columns.{IsLayout}
+use Rattle.mt_layout.proofs.OwnColumns.{same_items}
+use Rattle.mt_rows.specs.declared.spans.Span.{Span}
+use Rattle.mt_rows.specs.Spans.{Table, slots_of, gaps_of, spans_from, row_spans, spans_by, spans_in, leaf_range}
+use Rattle.mt_rows.specs.Levels.{SameColumns, SameSpans}
+use Rattle.mt_rows.specs.Trees.{by_kind, ranges_of, rows_of}
+use Rattle.mt_rows.proofs.Lists.{all_front, all_back}
+
+is_layout : (width : Width) (kind : RowKind) → IsLayout (slots_of width kind) (gaps_of width kind)
+is_layout Long Leaf = inl (refl, refl)
+is_layout Long Inner = inl (refl, refl)
+is_layout Long Gapped = inr (refl, refl)
+
+abbrev Agree : Table → Table → ℕ → Type 0
+Agree t t' row = SameColumns t t' (columns t.width) row
+
+same_row : (width width' : Width) (w w' : List ℕ) (kind : RowKind) (row first last : ℕ)
+    → Agree (record { width = width; words = w }) (record { width = width'; words = w' }) row
+    → row_spans (record { width = width'; words = w' }) row kind first last ≡ row_spans (record { width = width; words = w }) row kind first last
+same_row Long Long w w' kind row first last same =
+    ap (spans_from first) (same_items (slots_of Long kind) (gaps_of Long kind) (32 * row) (32 * row) w' w (is_layout Long kind) same last)
+
+-- tables that agree on a row have the same spans in it
+pub same_spans : (t t' : Table) (x : Span) → Agree t t' (row_in x.word) → SameSpans t t' x
+same_spans t t' x same = by (named_kind x.word)
+  where
+    by : (kind : Option RowKind) → spans_by t' kind x ≡ spans_by t kind x
+    by None = refl
+    by (Some kind) = same_row t.width t'.width t.words t'.words kind (row_in x.word) x.first x.last same
+
+module _ (t t' : Table) where
+  abbrev Same : ℕ → Type 0
+  Same row = Agree t t' row
+
+  abbrev Stay : ℕ → Span → Type 0
+  Stay depth x = AllByRecursion Same (rows_of t depth x) → ranges_of t' depth x ≡ ranges_of t depth x
+
+  all_stay : (depth : ℕ) → ((x : Span) → Stay depth x) → (xs : List Span) → AllByRecursion Same (flat_map (rows_of t depth) xs)
+      → flat_map (ranges_of t' depth) xs ≡ flat_map (ranges_of t depth) xs
+  all_stay depth each [] same = refl
+  all_stay depth each (x ∷ xs) same =
+      let first = each x (all_front Same (rows_of t depth x) (flat_map (rows_of t depth) xs) same) in
+      let behind = all_stay depth each xs (all_back Same (rows_of t depth x) (flat_map (rows_of t depth) xs) same) in
+      λ i. first i ++ behind i
+
+  by_children : (depth : ℕ) → ((x : Span) → Stay depth x) → (x : Span) → Same (row_in x.word) → AllByRecursion Same (flat_map (rows_of t depth) (spans_in t x))
+      → flat_map (ranges_of t' depth) (spans_in t' x) ≡ flat_map (ranges_of t depth) (spans_in t x)
+  by_children depth each x here below = ap (flat_map (ranges_of t' depth)) (same_spans t t' x here) ∙ all_stay depth each (spans_in t x) below
+
+  by_name : (depth : ℕ) → ((x : Span) → Stay depth x) → (x : Span) (kind : Option RowKind)
+      → AllByRecursion Same (by_kind kind (row_in x.word ∷ []) (row_in x.word ∷ flat_map (rows_of t depth) (spans_in t x)))
+      → by_kind kind (flat_map leaf_range (spans_in t' x)) (flat_map (ranges_of t' depth) (spans_in t' x))
+      ≡ by_kind kind (flat_map leaf_range (spans_in t x)) (flat_map (ranges_of t depth) (spans_in t x))
+  by_name depth each x None same = refl
+  by_name depth each x (Some Leaf) same = ap (flat_map leaf_range) (same_spans t t' x same.0)
+  by_name depth each x (Some Inner) same = by_children depth each x same.0 same.1
+  by_name depth each x (Some Gapped) same = by_children depth each x same.0 same.1
+
+  pub ranges_stay : (depth : ℕ) (x : Span) → AllByRecursion Same (rows_of t depth x) → ranges_of t' depth x ≡ ranges_of t depth x
+  ranges_stay zero x same = refl
+  ranges_stay (suc depth) x same = by_name depth (ranges_stay depth) x (named_kind x.word) same

@@ -1,0 +1,7 @@
+pub mod Deeper
+pub mod Depth
+pub mod Fates
+pub mod Frames
+pub mod Lists
+pub mod Once
+pub mod Ranges

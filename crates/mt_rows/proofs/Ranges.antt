@@ -1,0 +1,38 @@
+-- Words stand for maps: no range is below the one before it.
+use Rattle.std.proofs.Common.{◌≡◌, ℕ, zero, suc, ◌+◌, ◌==◌, List, [], ◌∷◌, refl, sym, subst, inl, inr, arith}
+use Rattle.std.specs.List.{AllByRecursion, flat_map}
+use Rattle.std.proofs.lemmas.Bool.{cases_Bool, eqb-false}
+use Rattle.mt_base.specs.Map.{IsMapFrom, IsMap}
+use Rattle.mt_base.proofs.StoredOrder.{IsMapFrom-lower}
+use Rattle.mt_rows.specs.declared.spans.Span.{Span}
+use Rattle.mt_rows.specs.Spans.{Table, root_span, leaf_range}
+use Rattle.mt_rows.specs.Levels.{Fills, expand, map_of, Levels}
+use Rattle.mt_rows.specs.Trees.{map_in, deepest}
+use Rattle.mt_rows.specs.Laws.{Tree, IsRow, Stands, top_of}
+use Rattle.mt_rows.proofs.Lists.{all_map, Filled, expand_fills}
+use Rattle.mt_rows.proofs.Depth.{ranges_by_depth}
+
+rows_filled : (t : Tree) (h : ℕ) (xs : List Span) → AllByRecursion (IsRow t h) xs → AllByRecursion (Filled t.table) xs
+rows_filled t h xs rows = all_map (IsRow t h) (Filled t.table) (λ x row. row.pivots.fills) xs rows
+
+leaf_map : (lo hi : ℕ) (xs : List Span) → Fills lo hi xs → IsMapFrom lo (flat_map leaf_range xs)
+leaf_map lo hi [] fills = tt
+leaf_map lo hi (x ∷ xs) fills =
+    let begins = fills.0 in let ends = fills.1 in
+    let behind = leaf_map (x.last + 1) hi xs fills.2 in
+    elim (cases_Bool (x.word == 0)) [
+      | inl hole ↦ rw hole (IsMapFrom-lower (flat_map leaf_range xs) lo (x.last + 1) (omega arith) behind)
+      | inr entry ↦ rw entry (omega arith, omega arith, omega (arith, eqb-false x.word 0 entry), behind)
+    ]
+
+pub levels_map_from : (t : Tree) (h lo hi : ℕ) (xs : List Span) → Levels (IsRow t) t.table h xs → Fills lo hi xs → IsMapFrom lo (map_of t.table h xs)
+levels_map_from t zero lo hi xs rows fills = leaf_map lo hi (expand t.table xs) (expand_fills t.table lo hi xs (rows_filled t zero xs rows) fills)
+levels_map_from t (suc h) lo hi xs rows fills = levels_map_from t h lo hi (expand t.table xs) rows.1 (expand_fills t.table lo hi xs (rows_filled t (suc h) xs rows.0) fills)
+
+pub empty_map : (t : Table) → map_in t 0 ≡ []
+empty_map t = refl
+
+pub tree_map : (t : Tree) (h : ℕ) → Stands t h → IsMap (map_in t.table t.root)
+tree_map t h stands =
+    let root = root_span t.table t.root in
+    subst IsMap (sym (ranges_by_depth t deepest h root stands.low stands.rows)) (levels_map_from t h 0 (top_of t + 1) (root ∷ []) stands.rows (refl, omega arith, refl))

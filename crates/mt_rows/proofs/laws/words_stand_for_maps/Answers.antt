@@ -1,0 +1,5 @@
+use Rattle.mt_rows.proofs.Ranges.{empty_map, tree_map}
+use Rattle.mt_rows.proofs.laws.words_stand_for_maps.Goals as goal
+
+pub returns : goal.returns
+returns c = record { empty = empty_map; tree = tree_map }

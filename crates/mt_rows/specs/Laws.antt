@@ -1,0 +1,157 @@
+-- The eight laws of lawful words, each of a row that covers first..last at a height; leaves have the height 0.
+-- Source: the kernel's lib/maple_tree.c, mt_validate and its parts; that a leaf never ends with a hole below the
+-- greatest index, and the least numbers of items, are this project's.
+use Rattle.std.specs.Prelude.{◌≡◌, ◌≢◌, ◌⊎◌, ℕ, zero, suc, ◌+◌, ◌-◌, ◌<◌, ◌≤◌, ◌==◌, ◌&&◌, List, [], ◌∷◌, Some, Bool, false, length, max, slice_index, if◌then◌else◌}
+use Rattle.std.specs.List.{AllByRecursion, flat_map}
+use Rattle.mt_base.specs.declared.kinds.Kind.{Kind}
+use Rattle.mt_base.specs.Entry.{reserved}
+use Rattle.mt_base.specs.Width.{columns, greatest}
+use Rattle.mt_layout.specs.declared.names.RowKind.{RowKind}
+use Rattle.mt_layout.specs.declared.names.RowKind.TheVariants.{Leaf, Inner, Gapped}
+use Rattle.mt_layout.specs.declared.items.Item.{Item}
+use Rattle.mt_layout.specs.Columns.{items_at, row_words}
+use Rattle.mt_layout.specs.Rows.{row_in, named_kind, parent_at}
+use Rattle.mt_rows.specs.declared.spans.Span.{Span}
+use Rattle.mt_rows.specs.Spans.{Table, base_of, column, slots_of, gaps_of, inner_kind, spans_in, root_span, leaf_range}
+use Rattle.mt_rows.specs.Levels.{Fills, Levels, expand}
+use Rattle.mt_rows.specs.Trees.{deepest}
+
+-- A tree of rows: how many there are, and which kind of tree it is.
+pub record Tree : Type 0 where
+  pub rows : ℕ
+  pub kind : Kind
+  pub table : Table
+  pub root : ℕ
+
+abbrev pub top_of : Tree → ℕ
+top_of t = greatest t.table.width
+
+-- the kind that a row of this height has
+abbrev pub kind_at : Kind → ℕ → RowKind
+kind_at tree zero = Leaf
+kind_at tree (suc h) = inner_kind tree
+
+-- Name: the word that leads here names a row of the table, of the kind of its height in this tree.
+pub record NameLaw (t : Tree) (h : ℕ) (x : Span) : Type 0 where
+  pub named : named_kind x.word ≡ Some (kind_at t.kind h)
+  pub in_table : row_in x.word < 16 + t.rows
+
+-- Parent: each child's parent word names this row and the child's slot.
+abbrev pub ParentsFrom : Table → ℕ → ℕ → List Span → Type 0
+ParentsFrom t row slot [] = Unit {0}
+ParentsFrom t row slot (x ∷ xs) = (column t (row_in x.word) 0 ≡ parent_at row slot) × ParentsFrom t row (slot + 1) xs
+
+abbrev pub ParentLaw : Tree → ℕ → Span → Type 0
+ParentLaw t zero x = Unit {0}
+ParentLaw t (suc h) x = ParentsFrom t.table (row_in x.word) 0 (spans_in t.table x)
+
+-- Pivots: the items fill the row's indexes, and each column is what the parent word and the items make it, so that
+-- unused columns are 0.
+abbrev pub items_in : Table → RowKind → Span → List Item
+items_in t kind x = items_at (slots_of t.width kind) (gaps_of t.width kind) t.words (base_of t (row_in x.word)) x.last
+
+abbrev pub words_in : Table → RowKind → Span → List ℕ
+words_in t kind x = row_words (columns t.width) (slots_of t.width kind) (gaps_of t.width kind) (column t (row_in x.word) 0) (items_in t kind x)
+
+pub record PivotLaw (t : Tree) (h : ℕ) (x : Span) : Type 0 where
+  pub fills : Fills x.first (x.last + 1) (spans_in t.table x)
+  pub unused : (c : ℕ) → c < columns t.table.width → column t.table (row_in x.word) c ≡ slice_index (words_in t.table (kind_at t.kind h) x) c
+
+-- A row that covers every index is the root, since every other row has a neighbour.
+abbrev pub covers_all : Tree → Span → Bool
+covers_all t x = (x.first == 0) && (x.last == top_of t)
+
+-- Count: the least number of items.
+abbrev pub least_of_root : ℕ → ℕ
+least_of_root zero = 1
+least_of_root (suc h) = 2
+
+abbrev pub least_of_kind : RowKind → ℕ
+least_of_kind Leaf = 6
+least_of_kind Inner = 6
+least_of_kind Gapped = 4
+
+abbrev pub least_of : Tree → ℕ → Span → ℕ
+least_of t h x = if covers_all t x then least_of_root h else least_of_kind (kind_at t.kind h)
+
+pub record CountLaw (t : Tree) (h : ℕ) (x : Span) : Type 0 where
+  pub least : least_of t h x ≤ length (spans_in t.table x)
+  pub most : length (spans_in t.table x) ≤ slots_of t.table.width (kind_at t.kind h)
+
+-- Entries: no leaf slot holds a reserved entry.
+abbrev pub EntryLaw : Tree → ℕ → Span → Type 0
+EntryLaw t zero x = AllByRecursion (λ (y : Span). reserved y.word ≡ false) (spans_in t.table x)
+EntryLaw t (suc h) x = Unit {0}
+
+-- Holes: no two holes follow each other; a leaf that does not end at the greatest index ends with an entry; and some
+-- item is an entry.
+abbrev pub BeginsFull : List Span → Type 0
+BeginsFull [] = Unit {0}
+BeginsFull (x ∷ xs) = x.word ≢ 0
+
+abbrev pub Apart : List Span → Type 0
+Apart [] = Unit {0}
+Apart (x ∷ xs) = (x.word ≡ 0 → BeginsFull xs) × Apart xs
+
+abbrev pub EndsFull : List Span → Type 0
+EndsFull [] = Unit {0}
+EndsFull (x ∷ []) = x.word ≢ 0
+EndsFull (x ∷ y ∷ ys) = EndsFull (y ∷ ys)
+
+pub record HoleLawOfLeaf (t : Tree) (x : Span) : Type 0 where
+  pub apart : Apart (spans_in t.table x)
+  pub ends : x.last < top_of t → EndsFull (spans_in t.table x)
+  pub some : flat_map leaf_range (spans_in t.table x) ≢ []
+
+abbrev pub HoleLaw : Tree → ℕ → Span → Type 0
+HoleLaw t zero x = HoleLawOfLeaf t x
+HoleLaw t (suc h) x = Unit {0}
+
+-- Gaps: each gap word of an inner row with gaps is the longest hole in the leaves below its item.
+abbrev pub hole_length : Span → ℕ
+hole_length x = if x.word == 0 then x.last + 1 - x.first else 0
+
+abbrev pub longest_in : List Span → ℕ
+longest_in [] = 0
+longest_in (x ∷ xs) = max (hole_length x) (longest_in xs)
+
+-- the longest hole below rows of a height
+abbrev pub longest_below : Table → ℕ → List Span → ℕ
+longest_below t zero xs = longest_in (expand t xs)
+longest_below t (suc h) xs = longest_below t h (expand t xs)
+
+abbrev pub GapLawBy : RowKind → Table → ℕ → List Span → Type 0
+GapLawBy Leaf t h xs = Unit {0}
+GapLawBy Inner t h xs = Unit {0}
+GapLawBy Gapped t h xs = AllByRecursion (λ (y : Span). y.gap ≡ longest_below t h (y ∷ [])) xs
+
+abbrev pub GapLaw : Tree → ℕ → Span → Type 0
+GapLaw t zero x = Unit {0}
+GapLaw t (suc h) x = GapLawBy (inner_kind t.kind) t.table h (spans_in t.table x)
+
+-- ---- lawful words
+
+-- all laws of a row but those of parents and gaps, which hold only between calls
+pub record IsRow (t : Tree) (h : ℕ) (x : Span) : Type 0 where
+  pub name : NameLaw t h x
+  pub pivots : PivotLaw t h x
+  pub count : CountLaw t h x
+  pub entries : EntryLaw t h x
+  pub holes : HoleLaw t h x
+
+pub record IsTended (t : Tree) (h : ℕ) (x : Span) : Type 0 where
+  pub parent : ParentLaw t h x
+  pub gaps : GapLaw t h x
+
+-- Depth: every leaf stands at the height 0, and the root's height is below 9.
+pub record Stands (t : Tree) (h : ℕ) : Type 0 where
+  pub low : h < deepest
+  pub rows : Levels (IsRow t) t.table h (root_span t.table t.root ∷ [])
+
+-- the words keep all laws but those of parents and gaps
+abbrev pub IsTree : Tree → Type 0
+IsTree t = (t.root ≡ 0) ⊎ ((h : ℕ) × Stands t h)
+
+-- the words are lawful
+abbrev pub IsLawful : Tree → Type 0
+IsLawful t = (t.root ≡ 0) ⊎ ((h : ℕ) × Stands t h × (column t.table (row_in t.root) 0 ≡ 1) × Levels (IsTended t) t.table h (root_span t.table t.root ∷ []))

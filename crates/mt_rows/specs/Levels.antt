@@ -1,0 +1,69 @@
+-- A tree by its levels: the rows of a height are a list of spans, and what stands in them is the list one level lower.
+use Rattle.std.specs.Prelude.{◌≡◌, ℕ, zero, suc, ◌+◌, ◌<◌, ◌≤◌, ◌==◌, List, [], ◌∷◌, ◌++◌, Bool, true, false}
+use Rattle.std.specs.List.{AllByRecursion, flat_map}
+use Rattle.mt_base.specs.declared.ranges.Range.{Range}
+use Rattle.mt_layout.specs.Rows.{row_in}
+use Rattle.mt_rows.specs.declared.spans.Span.{Span}
+use Rattle.mt_rows.specs.Spans.{Table, column, spans_in, leaf_range}
+
+-- the spans fill the indexes from `lo` up to, but without, `hi`
+abbrev pub Fills : ℕ → ℕ → List Span → Type 0
+Fills lo hi [] = lo ≡ hi
+Fills lo hi (x ∷ xs) = (x.first ≡ lo) × (lo ≤ x.last) × Fills (x.last + 1) hi xs
+
+-- what stands in rows
+abbrev pub expand : Table → List Span → List Span
+expand t xs = flat_map (spans_in t) xs
+
+-- the rows that stand d levels lower
+abbrev pub level : Table → ℕ → List Span → List Span
+level t zero xs = xs
+level t (suc d) xs = level t d (expand t xs)
+
+-- the map below rows of a height; leaves have the height 0
+abbrev pub map_of : Table → ℕ → List Span → List Range
+map_of t zero xs = flat_map leaf_range (expand t xs)
+map_of t (suc h) xs = map_of t h (expand t xs)
+
+-- what holds of each row that is reached, with its height
+abbrev pub Levels : (ℕ → Span → Type 0) → Table → ℕ → List Span → Type 0
+Levels P t zero xs = AllByRecursion (P zero) xs
+Levels P t (suc h) xs = AllByRecursion (P (suc h)) xs × Levels P t h (expand t xs)
+
+abbrev pub one_if : Bool → ℕ
+one_if true = 1
+one_if false = 0
+
+abbrev pub tally : {A : Type 0} → (A → Bool) → List A → ℕ
+tally p [] = 0
+tally p (x ∷ xs) = one_if (p x) + tally p xs
+
+-- how many of the rows that are reached pass a test on their height and their span
+abbrev pub times : (ℕ → Span → Bool) → Table → ℕ → List Span → ℕ
+times p t zero xs = tally (p zero) xs
+times p t (suc h) xs = tally (p (suc h)) xs + times p t h (expand t xs)
+
+-- the span's row has this number
+abbrev pub is_row_of : ℕ → ℕ → Span → Bool
+is_row_of row h x = row_in x.word == row
+
+-- ---- what two moments share
+
+-- the same spans stand in a row, whatever it covers and of whatever kind it is
+abbrev pub SameSpans : Table → Table → Span → Type 0
+SameSpans t t' x = spans_in t' x ≡ spans_in t x
+
+-- the two agree on a row, but for its parent word
+abbrev pub SameColumns : Table → Table → ℕ → ℕ → Type 0
+SameColumns t t' columns row = (c : ℕ) → 0 < c → c < columns → column t' row c ≡ column t row c
+
+-- all but the gaps: the spans have the same first and last indexes, and the same of them are 0
+abbrev pub SameShape : List Span → List Span → Type 0
+SameShape [] [] = Unit {0}
+SameShape (x ∷ xs) (y ∷ ys) = (x.first ≡ y.first) × (x.last ≡ y.last) × ((x.word == 0) ≡ (y.word == 0)) × SameShape xs ys
+SameShape [] (y ∷ ys) = ⊥
+SameShape (x ∷ xs) [] = ⊥
+
+-- `part` is what a map has from `lo` to `hi`, and no range of the map reaches over an end
+abbrev pub Part : List Range → ℕ → ℕ → List Range → Type 0
+Part m lo hi part = (front : List Range) × (back : List Range) × (m ≡ front ++ (part ++ back)) × AllByRecursion (λ (r : Range). r.last < lo) front × AllByRecursion (λ (r : Range). hi < r.first) back

@@ -1,0 +1,6 @@
+pub mod Laws
+pub mod Levels
+pub mod Plain
+pub mod Sheet
+pub mod Spans
+pub mod Trees

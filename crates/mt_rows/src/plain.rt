@@ -1,0 +1,140 @@
+ghost use Rattle.std.specs.Prelude.{◌≡◌, ◌+◌, ◌*◌, ◌<◌, ◌≤◌, IfOk};
+ghost use Rattle.mt_base.specs.Width.{columns};
+
+use crate::rows::{Life, Rows, Scan};
+use mt_base::{NoMemory, Width, cols};
+use mt_layout::parent_word;
+use std::alloc::Global;
+use std::marker::Model;
+
+/// Rows are numbered from here.
+const FIRST_ROW: usize = 16;
+
+/// What has become of a row, and whether the call in flight has buried it.
+#[derive(Clone, Copy, Debug, PartialEq, Eq)]
+struct Fate {
+    life: Life,
+    buried: bool,
+}
+
+/// Rows in memory that nobody else reads.
+#[derive(Drop)]
+pub struct PlainRows {
+    rows: u64,
+    width: Width,
+    words: Vec<u64>,
+    root: u64,
+    fates: Vec<Fate>,
+    ended: u64,
+    flying: bool,
+    published: bool,
+    cleared: u64,
+    scan: Scan,
+    scans: u64,
+    scans_at_begin: u64,
+    reads: u64,
+}
+
+impl Model for PlainRows {
+    ghost use Rattle.mt_rows.specs.Sheet.{Sheet};
+
+    ghost Value = { Sheet };
+
+    ghost use Rattle.mt_rows.specs.Plain.{sheet_of, IsPlain};
+
+    ghost view = { sheet_of };
+
+    ghost invariant = { IsPlain };
+}
+
+/// Where the word in this column of this row stands.
+fn place_of(width: Width, row: u32, col: u32) -> usize
+    requires row { row < 65520 }
+    requires column { col < columns width }
+    ensures { result ≡ columns width * row + col }
+{
+    cols(width) as usize * row as usize + col as usize
+}
+
+impl PlainRows {
+    ghost use Rattle.std.specs.Prelude.{◌≡◌, ◌≤◌, IfOk};
+    ghost use Rattle.mt_rows.specs.Plain.{new_sheet};
+
+    /// So many rows, none of which was ever used, and an empty tree. There are 65,504 rows at the most.
+    pub fn new(alloc: Global, rows: u64) -> Result<PlainRows, NoMemory>
+        requires { rows ≤ 65504 }
+        ensures { IfOk result (λ p. p ≡ new_sheet rows) }
+    {
+        let width = Width::Long;
+        let numbers = FIRST_ROW + rows as usize;
+        let unused = Fate {
+            life: Life::New,
+            buried: false,
+        };
+        Ok(PlainRows {
+            rows,
+            width,
+            words: vec![in alloc; 0; cols(width) as usize * numbers]?,
+            root: 0,
+            fates: vec![in alloc; unused; numbers]?,
+            ended: 0,
+            flying: false,
+            published: false,
+            cleared: 0,
+            scan: Scan { least: 0, by: None },
+            scans: 0,
+            scans_at_begin: 0,
+            reads: 0,
+        })
+    }
+}
+
+impl Rows for PlainRows {
+    ghost sheet = { λ s. s };
+
+    fn size(&self) -> u64 {
+        self.rows
+    }
+
+    fn width(&self) -> Width {
+        self.width
+    }
+
+    fn load(&mut self, row: u32, col: u32) -> u64 {
+        self.reads = self.reads.saturating_add(1);
+        self.words[place_of(self.width, row, col)]
+    }
+
+    fn root(&mut self) -> u64 {
+        self.reads = self.reads.saturating_add(1);
+        self.root
+    }
+
+    fn begin(&mut self) -> u64 {
+        self.flying = true;
+        self.published = false;
+        self.scans_at_begin = self.scans;
+        self.ended + 1
+    }
+
+    fn scan(&mut self) -> Scan {
+        self.scan = Scan {
+            least: u64::MAX,
+            by: None,
+        };
+        self.scans = self.scans.saturating_add(1);
+        self.cleared = self.ended;
+        self.scan
+    }
+
+    fn draft(&mut self, row: u32, col: u32, word: u64) {
+        self.words[place_of(self.width, row, col)] = word;
+        self.fates[row as usize].life = Life::Draft;
+    }
+
+    fn bury(&mut self, row: u32) {
+        // A dead row is its own parent.
+        self.words[place_of(self.width, row, 0)] = parent_word(row, 0);
+        self.fates[row as usize].buried = true;
+    }
+}

@@ -1,0 +1,228 @@
+//! What words stand for, as the definitions say it: slow, for the answers to be compared with.
+
+ghost use Rattle.std.specs.Prelude.{◌≡◌, ◌+◌, ◌-◌, ◌^◌, ◌<◌, ◌≤◌, [], ◌∷◌, ◌++◌, IfOk, length, slice_index};
+ghost use Rattle.std.specs.List.{flat_map};
+ghost use Rattle.mt_base.specs.declared.widths.Width.TheVariants.{Long};
+ghost use Rattle.mt_layout.specs.Columns.{gap_at, items_from};
+ghost use Rattle.mt_rows.specs.Spans.{spans_from, leaf_range};
+ghost use Rattle.mt_rows.specs.Spans as defined;
+ghost use Rattle.mt_rows.specs.Trees as trees;
+
+use crate::spans::Span;
+use arrayvec::ArrayVec;
+use mt_base::{NoMemory, Range, Width, cols, top};
+use mt_layout::{RowKind, kind_of, row_of};
+use std::alloc::Global;
+
+/// No row stands deeper than this many levels.
+const DEEPEST: u32 = 9;
+
+/// Where a row's columns stand among the words, how many slots and gaps it has, and the last index that it covers.
+#[derive(Clone, Copy)]
+struct Columns {
+    base: usize,
+    slots: usize,
+    gaps: usize,
+    last: u64,
+}
+
+/// The word at this place, and 0 behind the last word.
+fn word_at(words: &[u64], at: usize) -> u64
+    ensures { result ≡ slice_index words.now at }
+{
+    words.get(at).copied().unwrap_or(0)
+}
+
+/// The longest hole below the item in slot `i`, and 0 in rows without gaps.
+fn gap_in(words: &[u64], row: Columns, i: usize) -> u64
+    requires base { row.base < 2 ^ 32 }
+    requires slots { row.slots ≤ 16 }
+    requires slot { i < row.slots }
+    ensures { result ≡ gap_at row.slots row.gaps words.now row.base i }
+{
+    if row.gaps == 0 {
+        return 0;
+    }
+    word_at(words, row.base + (2 * row.slots + i))
+}
+
+/// Appends the spans of a row from slot `i` on, the first of which begins at `first`.
+fn push_spans(words: &[u64], row: Columns, i: usize, first: u64, spans: &mut ArrayVec<Span, 16>)
+    requires base { row.base < 2 ^ 32 }
+    requires slots { row.slots ≤ 16 }
+    requires slot { i < row.slots }
+    requires room { length spans.old.items + (row.slots - i) ≤ 16 }
+    ensures { spans.new.items ≡ spans.old.items ++ spans_from first (items_from row.slots row.gaps words.now row.base row.last (row.slots - i) i) }
+{
+    let word = word_at(words, row.base + (row.slots + i));
+    let gap = gap_in(words, row, i);
+    if i + 1 == row.slots {
+        spans.push(Span {
+            first,
+            last: row.last,
+            word,
+            gap,
+        });
+        return;
+    }
+    let last = word_at(words, row.base + (1 + i));
+    spans.push(Span {
+        first,
+        last,
+        word,
+        gap,
+    });
+    if last < row.last {
+        push_spans(words, row, i + 1, last + 1, spans);
+    }
+}
+
+/// What stands in the row that a span names, and nothing where its word is no name.
+pub fn spans_in(words: &[u64], span: &Span) -> ArrayVec<Span, 16>
+    ensures { result.items ≡ defined.spans_in (record { width = Long; words = words.now }) span.now }
+{
+    let mut spans = ArrayVec::new();
+    let (Some(row), Some(kind)) = (row_of(span.word), kind_of(span.word)) else {
+        return spans;
+    };
+    let (slots, gaps) = match kind {
+        RowKind::Leaf | RowKind::Inner => (16, 0),
+        RowKind::Gapped => (10, 10),
+    };
+    let base = cols(Width::Long) as usize * row as usize;
+    let columns = Columns {
+        base,
+        slots,
+        gaps,
+        last: span.last,
+    };
+    push_spans(words, columns, 0, span.first, &mut spans);
+    spans
+}
+
+/// The span of a tree's root, which covers every index.
+fn root_span(root: u64) -> Span
+    ensures { result ≡ defined.root_span (record { width = Long; words = [] }) root }
+{
+    Span {
+        first: 0,
+        last: top(Width::Long),
+        word: root,
+        gap: 0,
+    }
+}
+
+/// Appends the ranges of a leaf with these spans.
+fn push_leaf_ranges(spans: &[Span], ranges: &mut Vec<Range>) -> Result<(), NoMemory>
+    ensures { IfOk result (λ _. ranges.new.items ≡ ranges.old.items ++ flat_map leaf_range spans.now) }
+{
+    for span in spans {
+        if span.word != 0 {
+            ranges.push(Range {
+                first: span.first,
+                last: span.last,
+                entry: span.word,
+            })?;
+        }
+    }
+    Ok(())
+}
+
+/// Appends the ranges below a row, at most so many levels deep.
+#[tactic(auto, using(crate::proofs::Deeper::ranges_of_deeper, crate::proofs::Deeper::ranges_of_inner))]
+fn push_ranges(
+    words: &[u64],
+    depth: u32,
+    span: &Span,
+    ranges: &mut Vec<Range>,
+) -> Result<(), NoMemory>
+    ensures { IfOk result (λ _. ranges.new.items ≡ ranges.old.items ++ trees.ranges_of (record { width = Long; words = words.now }) depth span.now) }
+{
+    let Some(kind) = kind_of(span.word) else {
+        return Ok(());
+    };
+    if depth == 0 {
+        return Ok(());
+    }
+    let spans = spans_in(words, span);
+    match kind {
+        RowKind::Leaf => push_leaf_ranges(spans.as_slice(), ranges),
+        _ => {
+            for child in spans.as_slice() {
+                push_ranges(words, depth - 1, child, ranges)?;
+            }
+            Ok(())
+        }
+    }
+}
+
+/// Appends the rows that are reached, at most so many levels deep: each row before its children, children from the left.
+#[tactic(auto, using(crate::proofs::Deeper::rows_of_deeper, crate::proofs::Deeper::rows_of_inner))]
+fn push_rows(words: &[u64], depth: u32, span: &Span, rows: &mut Vec<u32>) -> Result<(), NoMemory>
+    ensures { IfOk result (λ _. rows.new.items ≡ rows.old.items ++ trees.rows_of (record { width = Long; words = words.now }) depth span.now) }
+{
+    let (Some(row), Some(kind)) = (row_of(span.word), kind_of(span.word)) else {
+        return Ok(());
+    };
+    if depth == 0 {
+        return Ok(());
+    }
+    rows.push(row)?;
+    match kind {
+        RowKind::Leaf => Ok(()),
+        _ => {
+            let spans = spans_in(words, span);
+            for child in spans.as_slice() {
+                push_rows(words, depth - 1, child, rows)?;
+            }
+            Ok(())
+        }
+    }
+}
+
+/// The number of levels below and with a row, at most so many, counted along the first children.
+#[tactic(auto, using(crate::proofs::Deeper::height_of_deeper, crate::proofs::Deeper::height_of_inner))]
+fn height_of(words: &[u64], depth: u32, span: &Span) -> u32
+    ensures height { result ≡ trees.height_of (record { width = Long; words = words.now }) depth span.now }
+    ensures low { result ≤ depth }
+{
+    let Some(kind) = kind_of(span.word) else {
+        return 0;
+    };
+    if depth == 0 {
+        return 0;
+    }
+    let spans = spans_in(words, span);
+    match kind {
+        RowKind::Leaf => 1,
+        _ => match spans.as_slice().first() {
+            None => 1,
+            Some(child) => 1 + height_of(words, depth - 1, child),
+        },
+    }
+}
+
+/// The map that words stand for, from the root word.
+pub fn map_in(alloc: Global, words: &[u64], root: u64) -> Result<Vec<Range>, NoMemory>
+    ensures { IfOk result (λ m. m.items ≡ trees.map_in (record { width = Long; words = words.now }) root) }
+{
+    let mut ranges = Vec::new(alloc);
+    push_ranges(words, DEEPEST, &root_span(root), &mut ranges)?;
+    Ok(ranges)
+}
+
+/// The rows that are reached from the root word.
+pub fn reached_in(alloc: Global, words: &[u64], root: u64) -> Result<Vec<u32>, NoMemory>
+    ensures { IfOk result (λ rows. rows.items ≡ trees.reached_in (record { width = Long; words = words.now }) root) }
+{
+    let mut rows = Vec::new(alloc);
+    push_rows(words, DEEPEST, &root_span(root), &mut rows)?;
+    Ok(rows)
+}
+
+/// The number of levels of a tree, from the root word.
+pub fn height_in(words: &[u64], root: u64) -> u32
+    ensures { result ≡ trees.height_in (record { width = Long; words = words.now }) root }
+{
+    height_of(words, DEEPEST, &root_span(root))
+}

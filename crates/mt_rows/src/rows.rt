@@ -1,0 +1,81 @@
+ghost use Rattle.std.specs.Prelude.{◌≡◌, ◌≤◌, ◌+◌, min};
+ghost use Rattle.mt_base.specs.Width.{columns};
+ghost use Rattle.mt_rows.specs.Sheet.{Sheet, IsPlace, word_at, loaded, MayBegin, begun, scanned, IsFree, life_of, drafted, MayBury, after_bury};
+
+use mt_base::{Holder, Width};
+
+/// Where a word is published: the root word, or a slot column of a live row.
+#[derive(Clone, Copy, Debug, PartialEq, Eq)]
+pub enum Place {
+    Root,
+    Slot { row: u32, col: u32 },
+}
+
+/// What has become of a row.
+#[derive(Clone, Copy, Debug, PartialEq, Eq)]
+pub enum Life {
+    /// It was never used.
+    New,
+    /// It is being written, and no reader can reach it.
+    Draft,
+    /// It was published.
+    Live,
+    /// The call of this number took it out of the tree.
+    Dead(u64),
+}
+
+/// What a scan of all section words found: the least epoch at which a section stands open, and who holds it.
+#[derive(Clone, Copy, Debug, PartialEq, Eq)]
+pub struct Scan {
+    pub least: u64,
+    pub by: Option<Holder>,
+}
+
+/// The words of a tree's rows, and what has become of each row. No call is refused.
+///
+/// All meanings are one record, the `sheet`, and what a call leaves is one equation on it.
+pub trait Rows {
+    ghost sheet: { Self → Sheet };
+
+    /// The number of rows.
+    fn size(&self) -> u64
+        ensures { result ≡ (sheet self.now).rows };
+
+    /// How wide the words are.
+    fn width(&self) -> Width
+        ensures { result ≡ (sheet self.now).tree.table.width };
+
+    /// A column of a row.
+    fn load(&mut self, row: u32, col: u32) -> u64
+        requires { IsPlace (sheet self.old) row col }
+        ensures word { result ≡ word_at (sheet self.old) row col }
+        ensures rest { sheet self.new ≡ loaded (sheet self.old) };
+
+    /// The root word.
+    fn root(&mut self) -> u64
+        ensures word { result ≡ (sheet self.old).tree.root }
+        ensures rest { sheet self.new ≡ loaded (sheet self.old) };
+
+    /// Begins a call, and gives its number.
+    fn begin(&mut self) -> u64
+        requires { MayBegin (sheet self.old) }
+        ensures number { result ≡ (sheet self.old).ended + 1 }
+        ensures rest { sheet self.new ≡ begun (sheet self.old) };
+
+    /// Loads every section word, and raises `cleared` by what was found.
+    fn scan(&mut self) -> Scan
+        ensures rest { sheet self.new ≡ scanned (sheet self.old) result (sheet self.new).cleared }
+        ensures kept { (sheet self.old).cleared ≤ (sheet self.new).cleared }
+        ensures cleared { min result.least (sheet self.old).ended ≤ (sheet self.new).cleared };
+
+    /// Writes a column of a row that may be written anew. The row is then a draft.
+    fn draft(&mut self, row: u32, col: u32, word: u64)
+        requires place { IsPlace (sheet self.old) row col }
+        requires free { IsFree (sheet self.old).cleared (life_of (sheet self.old) row) }
+        ensures { sheet self.new ≡ drafted (sheet self.old) row col word };
+
+    /// Stores the dead mark of a live row that the call in flight replaces.
+    fn bury(&mut self, row: u32)
+        requires { MayBury (sheet self.old) row }
+        ensures { sheet self.new ≡ after_bury (sheet self.old) row };
+}

@@ -1,0 +1,117 @@
+use crate::plain_trees::{height_in, map_in, reached_in};
+use crate::{PlainRows, Rows, Scan};
+use mt_base::{NoMemory, Range, Width};
+use std::alloc::Global;
+use std::process::Abort;
+use std::test::Fail;
+
+const TOP: u64 = u64::MAX;
+
+/// The hole behind the last entry of a tree whose entries end at the index 16.
+const LONGEST: u64 = 18_446_744_073_709_551_599;
+
+/// An inner row of an allocation tree: a parent word, 9 pivots, 10 slots and 10 gaps.
+#[rattlefmt::skip]
+const INNER: [u64; 32] = [
+    1,
+    11, TOP, 0, 0, 0, 0, 0, 0, 0,
+    4364, 4620, 0, 0, 0, 0, 0, 0, 0, 0,
+    0, LONGEST, 0, 0, 0, 0, 0, 0, 0, 0,
+    0, 0,
+];
+
+/// Leaves: a parent word, 15 pivots and 16 slots.
+#[rattlefmt::skip]
+const LEFT: [u64; 32] = [
+    4096,
+    0, 1, 2, 3, 4, 11, 0, 0, 0, 0, 0, 0, 0, 0, 0,
+    4096, 4096, 4096, 4096, 4096, 4096, 0, 0, 0, 0, 0, 0, 0, 0, 0, 0,
+];
+
+#[rattlefmt::skip]
+const RIGHT: [u64; 32] = [
+    4097,
+    12, 13, 14, 15, 16, TOP, 0, 0, 0, 0, 0, 0, 0, 0, 0,
+    4096, 4096, 4096, 4096, 4096, 0, 0, 0, 0, 0, 0, 0, 0, 0, 0, 0,
+];
+
+#[rattlefmt::skip]
+const LONE: [u64; 32] = [
+    1,
+    9, 19, TOP, 0, 0, 0, 0, 0, 0, 0, 0, 0, 0, 0, 0,
+    0, 5, 0, 0, 0, 0, 0, 0, 0, 0, 0, 0, 0, 0, 0, 0,
+];
+
+/// The words of a table whose first rows are these.
+fn table(alloc: Global, rows: &[[u64; 32]]) -> Result<Vec<u64>, NoMemory> {
+    let mut words = vec![in alloc; 0; 512]?;
+    for row in rows {
+        words.extend_from_slice(row)?;
+    }
+    Ok(words)
+}
+
+fn range(first: u64, last: u64, entry: u64) -> Range {
+    Range { first, last, entry }
+}
+
+/// What the words of a table stand for from this root word: the ranges, the rows that are reached, and the height.
+fn expect_tree(
+    rt: &impl Abort,
+    alloc: Global,
+    words: &[u64],
+    root: u64,
+    (ranges, rows, height): (&[Range], &[u32], u32),
+) -> Result<(), NoMemory> {
+    assert_eq!(rt; map_in(alloc, words, root)?.as_slice(), ranges);
+    assert_eq!(rt; reached_in(alloc, words, root)?.as_slice(), rows);
+    assert_eq!(rt; height_in(words, root), height);
+    Ok(())
+}
+
+#[test]
+fn trees_of_words(rt: HostRuntime) -> Result<(), Fail> {
+    let eleven = [
+        range(0, 0, 4096),
+        range(1, 1, 4096),
+        range(2, 2, 4096),
+        range(3, 3, 4096),
+        range(4, 4, 4096),
+        range(5, 11, 4096),
+        range(12, 12, 4096),
+        range(13, 13, 4096),
+        range(14, 14, 4096),
+        range(15, 15, 4096),
+        range(16, 16, 4096),
+    ];
+    let words = table(rt.alloc(), &[INNER, LEFT, RIGHT])?;
+    expect_tree(&rt, rt.alloc(), &words, 4124, (&eleven, &[16, 17, 18], 2))?;
+    let words = table(rt.alloc(), &[LONE])?;
+    expect_tree(
+        &rt,
+        rt.alloc(),
+        &words,
+        4108,
+        (&[range(10, 19, 5)], &[16], 1),
+    )?;
+    expect_tree(&rt, rt.alloc(), &words, 0, (&[], &[], 0))?;
+    Ok(())
+}
+
+#[test]
+fn rows_in_memory(rt: HostRuntime) -> Result<(), Fail> {
+    let mut rows = PlainRows::new(rt.alloc(), 3)?;
+    assert_eq!(rt; rows.size(), 3);
+    assert_eq!(rt; rows.width(), Width::Long);
+    assert_eq!(rt; rows.root(), 0);
+    let none = Scan {
+        least: u64::MAX,
+        by: None,
+    };
+    assert_eq!(rt; rows.scan(), none);
+    assert_eq!(rt; rows.begin(), 1);
+    rows.draft(17, 5, 4096);
+    assert_eq!(rt; rows.load(17, 5), 4096);
+    assert_eq!(rt; rows.load(18, 5), 0);
+    Ok(())
+}
