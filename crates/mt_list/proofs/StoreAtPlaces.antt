@@ -69,12 +69,6 @@ pub store_at_places : (m : List Range) (first last entry : ℕ) (below stored ab
 store_at_places m first last entry below stored above pieces ordered b s a p =
     rw (p, b, s, a, parts_below_are m 0 first ordered, parts_above_are m 0 last ordered) (regrouped (take (place_below m first) m) _ _ _ (drop (place_above m last) m))
 
--- the same where the one range that is touched gives its slot to the one that is stored
-pub store_in_slot : (m : List Range) (first last entry slot : ℕ) (range : Range) → IsMap m → slot ≡ place_below m first → place_above m last - slot ≡ 1 → [] ≡ piece_below first (slice_get m (place_below m first)) → range ∷ [] ≡ part_stored first last entry → [] ≡ piece_above last (last_of (take (place_above m last) m)) → take slot m ++ ((range ∷ []) ++ drop (slot + 1) m) ≡ over m first last entry
-store_in_slot m first last entry slot range ordered start one b s a =
-    let end : slot + 1 ≡ place_above m last = omega arith in
-    rw (end, start) (store_at_places m first last entry [] (range ∷ []) [] (range ∷ []) ordered b s a refl)
-
 rise : (m : List Range) (low first last : ℕ) → first ≤ last → IsMapFrom low m → place_below m first ≤ place_above m last
 rise [] low first last le ordered = omega arith
 rise (r ∷ m) low first last le ordered =
@@ -90,7 +84,7 @@ pub places_rise : (m : List Range) (first last : ℕ) → first ≤ last → IsM
 places_rise m first last le ordered = rise m 0 first last le ordered
 
 -- what a store's proof cites
-pub ruleset stores = (store_at_places, store_in_slot, places_rise)
+pub ruleset stores = (store_at_places, places_rise)
 
 last_of_step : (r s : Range) (m : List Range) → last_of (s ∷ m) ≡ slice_get (s ∷ m) (length (s ∷ m) - 1) → last_of (s ∷ m) ≡ slice_get (r ∷ s ∷ m) (length (r ∷ s ∷ m) - 1)
 last_of_step r s m behind =

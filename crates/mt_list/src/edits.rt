@@ -1,4 +1,4 @@
-ghost use Rattle.std.specs.Prelude.{◌≡◌, ◌<◌, ◌≤◌, ◌+◌, [], ◌∷◌, ◌++◌, take, drop, vec_len, IfOk, OnOk, OnErr, OnSome, IfNone, option_to_list};
+ghost use Rattle.std.specs.Prelude.{◌≡◌, ◌≤◌, ◌+◌, ◌++◌, length, take, drop, vec_len, IfOk, OnOk, OnErr, OnSome, IfNone, option_to_list};
 ghost use Rattle.mt_base.specs.Map.{IsMap, holding, over, part_stored, without};
 ghost use Rattle.mt_list.specs.Places.{piece_below, piece_above};
 
@@ -36,6 +36,7 @@ fn piece_above(range: Option<Range>, last: u64) -> Option<Range>
     }
 }
 
+/// What a store puts in, which is nothing where `entry` is 0.
 fn piece_stored(first: u64, last: u64, entry: u64) -> Option<Range>
     ensures { option_to_list result ≡ part_stored first last entry }
 {
@@ -71,7 +72,17 @@ fn pieces(
     Ok(pieces)
 }
 
+/// Writes `pieces` over as many ranges, from `start` on.
+fn overwrite(ranges: &mut Vec<Range>, start: usize, pieces: &[Range])
+    requires { start + length pieces.now ≤ vec_len ranges.old }
+    ensures { ranges.new.items ≡ take start ranges.old.items ++ (pieces.now ++ drop (start + length pieces.now) ranges.old.items) }
+{
+    ranges[start..start + pieces.len()].copy_from_slice(pieces);
+}
+
 /// Puts `pieces` in the place of the ranges from `start` up to `end`. An `Err` changes nothing.
+///
+/// Each range behind them is moved at most once, and none where there are as many pieces.
 fn replace(
     ranges: &mut Vec<Range>,
     start: usize,
@@ -83,15 +94,12 @@ fn replace(
     ensures ok { OnOk result (ranges.new.items ≡ take start ranges.old.items ++ (pieces.items ++ drop end ranges.old.items)) }
     ensures err { OnErr result (ranges.new.items ≡ ranges.old.items) }
 {
+    if pieces.len() == end - start {
+        overwrite(ranges, start, &pieces);
+        return Ok(());
+    }
     ranges.splice(start..end, pieces)?;
     Ok(())
-}
-
-fn write_slot(ranges: &mut Vec<Range>, slot: usize, range: Range)
-    requires { slot < vec_len ranges.old }
-    ensures { ranges.new.items ≡ take slot ranges.old.items ++ ((range ∷ []) ++ drop (slot + 1) ranges.old.items) }
-{
-    ranges[slot] = range;
 }
 
 /// Stores `entry` over `first` to `last`. An `Err` changes nothing.
@@ -107,12 +115,6 @@ pub fn store(ranges: &mut Vec<Range>, first: u64, last: u64, entry: u64) -> Resu
     let below = piece_below(range_at(ranges, start), first);
     let stored = piece_stored(first, last, entry);
     let above = piece_above(last_of(&ranges[..end]), last);
-    if let (None, Some(range), None) = (below, stored, above) {
-        if end - start == 1 {
-            write_slot(ranges, start, range);
-            return Ok(());
-        }
-    }
     let pieces = pieces(*ranges.allocator(), below, stored, above)?;
     replace(ranges, start, end, pieces)
 }

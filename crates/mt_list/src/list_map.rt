@@ -9,7 +9,7 @@ use std::alloc::Global;
 use std::marker::Model;
 
 /// A map of ranges as a sorted list. Its meaning is a tree's kind and its ranges, in rising order.
-#[derive(Drop)]
+#[derive(Debug, Drop)]
 pub struct ListMap {
     kind: Kind,
     ranges: Vec<Range>,
