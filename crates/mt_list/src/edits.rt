@@ -1,4 +1,4 @@
-ghost use Rattle.std.specs.Prelude.{◌≡◌, ◌<◌, ◌≤◌, ◌+◌, [], ◌∷◌, ◌++◌, take, drop, length, vec_len, IfOk, OnOk, OnErr, OnSome, IfNone, option_to_list};
+ghost use Rattle.std.specs.Prelude.{◌≡◌, ◌≤◌, ◌+◌, ◌++◌, length, take, drop, vec_len, IfOk, OnOk, OnErr, OnSome, IfNone, option_to_list};
 ghost use Rattle.mt_base.specs.Map.{IsMap, holding, over, part_stored, without};
 ghost use Rattle.mt_list.specs.Places.{piece_below, piece_above};
 
