@@ -137,4 +137,8 @@ impl Rows for PlainRows {
         self.words[place_of(self.width, row, 0)] = parent_word(row, 0);
         self.fates[row as usize].buried = true;
     }
+
+    fn tend(&mut self, row: u32, col: u32, word: u64) {
+        self.words[place_of(self.width, row, col)] = word;
+    }
 }
