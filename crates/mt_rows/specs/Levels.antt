@@ -1,8 +1,9 @@
 -- A tree by its levels: the rows of a height are a list of spans, and what stands in them is the list one level lower.
-use Rattle.std.specs.Prelude.{◌≡◌, ℕ, zero, suc, ◌+◌, ◌<◌, ◌≤◌, ◌==◌, List, [], ◌∷◌, ◌++◌, Bool, true, false}
-use Rattle.std.specs.List.{AllByRecursion, flat_map}
+use Rattle.std.specs.Prelude.{◌≡◌, ◌≢◌, ℕ, zero, suc, ◌+◌, ◌<◌, ◌≤◌, ◌==◌, List, [], ◌∷◌, ◌++◌, Bool, true, false, Some}
+use Rattle.std.specs.List.{AllByRecursion, flat_map, slice_get}
 use Rattle.mt_base.specs.declared.ranges.Range.{Range}
-use Rattle.mt_layout.specs.Rows.{row_in}
+use Rattle.mt_layout.specs.declared.names.RowKind.TheVariants.{Leaf}
+use Rattle.mt_layout.specs.Rows.{row_in, named_kind}
 use Rattle.mt_rows.specs.declared.spans.Span.{Span}
 use Rattle.mt_rows.specs.Spans.{Table, column, spans_in, leaf_range}
 
@@ -46,6 +47,11 @@ times p t (suc h) xs = tally (p (suc h)) xs + times p t h (expand t xs)
 -- the span's row has this number
 abbrev pub is_row_of : ℕ → ℕ → Span → Bool
 is_row_of row h x = row_in x.word == row
+
+-- x stands d levels below `top`
+abbrev pub IsBelow : Table → ℕ → Span → Span → Type 0
+IsBelow t zero top x = x ≡ top
+IsBelow t (suc d) top x = (named_kind top.word ≢ Some Leaf) × ((i : ℕ) × (y : Span) × (slice_get (spans_in t top) i ≡ Some y) × IsBelow t d y x)
 
 -- ---- what two moments share
 

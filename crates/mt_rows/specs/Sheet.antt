@@ -1,12 +1,16 @@
 -- All meanings of a tree's rows in one record, and what each call does to it.
 -- Source: this project's own; the kernel's writers replace nodes under a lock, and free them after a grace period.
-use Rattle.std.specs.Prelude.{◌≡◌, ℕ, ◌+◌, ◌-◌, ◌^◌, ◌<◌, ◌≤◌, Bool, true, false, List, Option, min, slice_index_or, slice_set}
+use Rattle.std.specs.Prelude.{◌≡◌, ◌≢◌, ◌⊎◌, ℕ, ◌+◌, ◌-◌, ◌^◌, ◌<◌, ◌≤◌, Bool, true, false, List, Option, Some, length, min, slice_index_or, slice_set}
 use Rattle.std.specs.Option.{option_map}
 use Rattle.mt_base.specs.declared.kinds.Kind.{Kind}
 use Rattle.mt_base.specs.Width.{columns}
 use Rattle.mt_base.specs.History.{Record}
-use Rattle.mt_layout.specs.Rows.{dead_mark}
-use Rattle.mt_rows.specs.Spans.{Table, column, base_of}
+use Rattle.mt_layout.specs.declared.names.RowKind.TheVariants.{Gapped}
+use Rattle.mt_layout.specs.Rows.{row_in, named_kind, dead_mark}
+use Rattle.mt_layout.specs.Columns.{gap_column}
+use Rattle.mt_rows.specs.declared.spans.Span.{Span}
+use Rattle.mt_rows.specs.Spans.{Table, column, base_of, slots_of, spans_in, root_span}
+use Rattle.mt_rows.specs.Levels.{IsBelow}
 use Rattle.mt_rows.specs.declared.rows.Life.{Life}
 use Rattle.mt_rows.specs.declared.rows.Life.TheVariants.{New, Draft, Live, Dead}
 use Rattle.mt_rows.specs.declared.rows.Scan.{Scan}
@@ -115,3 +119,26 @@ pub record MayBury (s : Sheet) (row : ℕ) : Type 0 where
 
 abbrev pub after_bury : Sheet → ℕ → Sheet
 after_bury s row = record s { tree = with_word s.tree row 0 (dead_mark row); buried = slice_set s.buried row true }
+
+-- ---- tend
+
+-- the column is the gap column of an item of a row that is reached and has gaps
+pub record IsGapOf (t : Tree) (row col : ℕ) : Type 0 where
+  pub depth : ℕ
+  pub at : Span
+  pub slot : ℕ
+  pub reached : IsBelow t.table depth (root_span t.table t.root) at
+  pub gapped : named_kind at.word ≡ Some Gapped
+  pub number : row_in at.word ≡ row
+  pub used : slot < length (spans_in t.table at)
+  pub column : col ≡ gap_column (slots_of t.table.width Gapped) slot
+
+pub record MayTend (s : Sheet) (row col word : ℕ) : Type 0 where
+  pub at : IsPlace s row col
+  pub live : life_of s row ≡ Live
+  pub kept : is_buried s row ≡ false
+  pub column : (col ≡ 0) ⊎ IsGapOf s.tree row col
+  pub alive : col ≡ 0 → word ≢ dead_mark row
+
+abbrev pub tended : Sheet → ℕ → ℕ → ℕ → Sheet
+tended s row col word = record s { tree = with_word s.tree row col word }

@@ -1,12 +1,12 @@
 //! What lawful words stand for. Each law is the contract of a function that does nothing.
 
-ghost use Rattle.std.specs.Prelude.{◌≡◌, ℕ, ◌+◌, ◌<◌, ◌≤◌, ◌==◌, [], ◌∷◌};
+ghost use Rattle.std.specs.Prelude.{◌≡◌, ℕ, ◌+◌, ◌<◌, ◌≤◌, ◌==◌, Bool, List, [], ◌∷◌, ◌++◌};
 ghost use Rattle.std.specs.List.{AllByRecursion};
 ghost use Rattle.mt_base.specs.Map.{IsMap};
 ghost use Rattle.mt_base.specs.Width.{columns};
 ghost use Rattle.mt_rows.specs.declared.spans.Span.{Span};
 ghost use Rattle.mt_rows.specs.Spans.{Table};
-ghost use Rattle.mt_rows.specs.Levels.{Fills, map_of, Levels, tally, times, is_row_of, SameColumns};
+ghost use Rattle.mt_rows.specs.Levels.{Fills, map_of, Levels, tally, times, is_row_of, SameColumns, SameSpans};
 ghost use Rattle.mt_rows.specs.Trees.{ranges_of, rows_of, height_of, map_in, reached_in};
 ghost use Rattle.mt_rows.specs.Laws.{Tree, IsRow, Stands, top_of};
 
@@ -32,4 +32,16 @@ pub fn rows_not_reached_do_not_count()
 pub fn words_stand_for_maps()
     ensures empty { (t : Table) → map_in t 0 ≡ [] }
     ensures tree { (t : Tree) (h : ℕ) → Stands t h → IsMap (map_in t.table t.root) }
+{}
+
+/// Rows of a height that stand side by side stand for the map of the first, and behind it that of the others.
+pub fn rows_stand_side_by_side()
+    ensures ranges { (t : Table) (h : ℕ) (xs ys : List Span) → map_of t h (xs ++ ys) ≡ map_of t h xs ++ map_of t h ys }
+    ensures rows { (p : ℕ → Span → Bool) (t : Table) (h : ℕ) (xs ys : List Span) → times p t h (xs ++ ys) ≡ times p t h xs + times p t h ys }
+{}
+
+/// Tables that have the same spans in each row that is reached stand for the same.
+pub fn same_spans_stand_for_the_same()
+    ensures ranges { (t t' : Table) (h : ℕ) (xs : List Span) → Levels (λ (_ : ℕ) (x : Span). SameSpans t t' x) t h xs → map_of t' h xs ≡ map_of t h xs }
+    ensures rows { (p : ℕ → Span → Bool) (t t' : Table) (h : ℕ) (xs : List Span) → Levels (λ (_ : ℕ) (x : Span). SameSpans t t' x) t h xs → times p t' h xs ≡ times p t h xs }
 {}

@@ -90,6 +90,9 @@ impl PlainRows {
 }
 
 impl Rows for PlainRows {
+    ghost use Rattle.std.specs.Prelude.{◌≡◌, ◌≤◌, None, min};
+    ghost use Rattle.mt_rows.specs.Sheet.{scanned};
+
     ghost sheet = { λ s. s };
 
     fn size(&self) -> u64 {
@@ -117,7 +120,15 @@ impl Rows for PlainRows {
         self.ended + 1
     }
 
-    fn scan(&mut self) -> Scan {
+    fn scan(&mut self) -> Scan
+        // As of all rows.
+        ensures rest { self.new ≡ scanned self.old result self.new.cleared }
+        ensures kept { self.old.cleared ≤ self.new.cleared }
+        ensures cleared { min result.least self.old.ended ≤ self.new.cleared }
+
+        // Nobody else reads these rows.
+        ensures found { result ≡ record { least = u64.MAX; by = None } }
+    {
         self.scan = Scan {
             least: u64::MAX,
             by: None,
@@ -136,5 +147,9 @@ impl Rows for PlainRows {
         // A dead row is its own parent.
         self.words[place_of(self.width, row, 0)] = parent_word(row, 0);
         self.fates[row as usize].buried = true;
+    }
+
+    fn tend(&mut self, row: u32, col: u32, word: u64) {
+        self.words[place_of(self.width, row, col)] = word;
     }
 }

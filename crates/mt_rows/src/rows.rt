@@ -1,6 +1,6 @@
 ghost use Rattle.std.specs.Prelude.{◌≡◌, ◌≤◌, ◌+◌, min};
 ghost use Rattle.mt_base.specs.Width.{columns};
-ghost use Rattle.mt_rows.specs.Sheet.{Sheet, IsPlace, word_at, loaded, MayBegin, begun, scanned, IsFree, life_of, drafted, MayBury, after_bury};
+ghost use Rattle.mt_rows.specs.Sheet.{Sheet, IsPlace, word_at, loaded, MayBegin, begun, scanned, IsFree, life_of, drafted, MayBury, after_bury, MayTend, tended};
 
 use mt_base::{Holder, Width};
 
@@ -78,4 +78,9 @@ pub trait Rows {
     fn bury(&mut self, row: u32)
         requires { MayBury (sheet self.old) row }
         ensures { sheet self.new ≡ after_bury (sheet self.old) row };
+
+    /// Writes the parent word of a live row, or the longest hole below one of its items.
+    fn tend(&mut self, row: u32, col: u32, word: u64)
+        requires { MayTend (sheet self.old) row col word }
+        ensures { sheet self.new ≡ tended (sheet self.old) row col word };
 }
