@@ -5,6 +5,7 @@ mod items;
 mod laws;
 mod layout;
 mod names;
+mod spans;
 
 pub use items::{Item, Run, gap_of};
 pub use laws::{
@@ -13,6 +14,7 @@ pub use laws::{
 };
 pub use layout::Layout;
 pub use names::{Name, RowKind, is_dead_mark, kind_of, name_of, parent_word, row_of};
+pub use spans::Span;
 
 #[cfg(test)]
 mod tests;

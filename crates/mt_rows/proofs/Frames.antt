@@ -9,8 +9,9 @@ use Rattle.mt_layout.specs.declared.names.RowKind.TheVariants.{Leaf, Inner, Gapp
 use Rattle.mt_layout.specs.Rows.{row_in, named_kind}
 use Rattle.mt_layout.specs.Columns.{IsLayout}
 use Rattle.mt_layout.proofs.OwnColumns.{same_items}
-use Rattle.mt_rows.specs.declared.spans.Span.{Span}
-use Rattle.mt_rows.specs.Spans.{Table, slots_of, gaps_of, spans_from, row_spans, spans_by, spans_in, leaf_range}
+use Rattle.mt_layout.specs.declared.spans.Span.{Span}
+use Rattle.mt_layout.specs.Spans.{spans_from, leaf_range}
+use Rattle.mt_rows.specs.Spans.{Table, slots_of, gaps_of, row_spans, spans_by, spans_in}
 use Rattle.mt_rows.specs.Levels.{SameColumns, SameSpans}
 use Rattle.mt_rows.specs.Trees.{by_kind, ranges_of, rows_of}
 use Rattle.mt_rows.proofs.Lists.{all_front, all_back}

@@ -2,8 +2,9 @@
 use Rattle.std.proofs.Common.{◌≡◌, ℕ, zero, suc, ◌+◌, List, [], ◌∷◌, ◌++◌, Bool, refl, sym, ap, ◌∙◌, subst, arith}
 use Rattle.std.specs.List.{AllByRecursion, flat_map}
 use Rattle.std.proofs.lemmas.Grind.{flat_map-append}
-use Rattle.mt_rows.specs.declared.spans.Span.{Span}
-use Rattle.mt_rows.specs.Spans.{Table, leaf_range}
+use Rattle.mt_layout.specs.declared.spans.Span.{Span}
+use Rattle.mt_layout.specs.Spans.{leaf_range}
+use Rattle.mt_rows.specs.Spans.{Table}
 use Rattle.mt_rows.specs.Levels.{expand, level, map_of, Levels, tally, times, SameSpans}
 use Rattle.mt_rows.proofs.Lists.{all_front, all_back, all_join, tally-append, expand-append}
 

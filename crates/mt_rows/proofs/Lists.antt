@@ -2,9 +2,10 @@
 use Rattle.std.proofs.Common.{◌≡◌, ℕ, zero, suc, ◌+◌, ◌≤◌, List, [], ◌∷◌, ◌++◌, Bool, sym, subst, arith}
 use Rattle.std.specs.List.{AllByRecursion}
 use Rattle.std.proofs.lemmas.Grind.{flat_map-append}
-use Rattle.mt_rows.specs.declared.spans.Span.{Span}
+use Rattle.mt_layout.specs.declared.spans.Span.{Span}
 use Rattle.mt_rows.specs.Spans.{Table, spans_in}
-use Rattle.mt_rows.specs.Levels.{Fills, expand, Levels, tally}
+use Rattle.mt_layout.specs.Spans.{Fills}
+use Rattle.mt_rows.specs.Levels.{expand, Levels, tally}
 
 pub all_map : {A : Type 0} (P Q : A → Type 0) → ((x : A) → P x → Q x) → (xs : List A) → AllByRecursion P xs → AllByRecursion Q xs
 all_map P Q f [] each = tt

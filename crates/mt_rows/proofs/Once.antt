@@ -9,9 +9,10 @@ use Rattle.mt_layout.specs.declared.names.RowKind.{RowKind}
 use Rattle.mt_layout.specs.declared.names.RowKind.TheVariants.{Leaf, Inner, Gapped}
 use Rattle.mt_layout.specs.Rows.{row_in, named_kind}
 use Rattle.mt_layout.specs.Columns.{items_from, items_at}
-use Rattle.mt_rows.specs.declared.spans.Span.{Span}
-use Rattle.mt_rows.specs.Spans.{Table, base_of, column, slots_of, gaps_of, spans_from, spans_by, spans_in, root_span}
-use Rattle.mt_rows.specs.Levels.{Fills, expand, Levels, one_if, tally, times, is_row_of}
+use Rattle.mt_layout.specs.declared.spans.Span.{Span}
+use Rattle.mt_layout.specs.Spans.{spans_from, Fills}
+use Rattle.mt_rows.specs.Spans.{Table, base_of, column, slots_of, gaps_of, spans_by, spans_in, root_span}
+use Rattle.mt_rows.specs.Levels.{expand, Levels, one_if, tally, times, is_row_of}
 use Rattle.mt_rows.specs.Trees.{reached_in, deepest}
 use Rattle.mt_rows.specs.Laws.{Tree, IsRow, Stands, top_of, kind_at, covers_all, least_of_root, least_of_kind}
 use Rattle.mt_rows.proofs.Lists.{all_map, all_front, all_back, all_join, fills_le, Filled, expand_fills, levels_map, levels_here}

@@ -4,9 +4,10 @@ use Rattle.std.specs.List.{AllByRecursion, flat_map}
 use Rattle.std.proofs.lemmas.Bool.{cases_Bool, eqb-false}
 use Rattle.mt_base.specs.Map.{IsMapFrom, IsMap}
 use Rattle.mt_base.proofs.StoredOrder.{IsMapFrom-lower}
-use Rattle.mt_rows.specs.declared.spans.Span.{Span}
-use Rattle.mt_rows.specs.Spans.{Table, root_span, leaf_range}
-use Rattle.mt_rows.specs.Levels.{Fills, expand, map_of, Levels}
+use Rattle.mt_layout.specs.declared.spans.Span.{Span}
+use Rattle.mt_layout.specs.Spans.{leaf_range, Fills}
+use Rattle.mt_rows.specs.Spans.{Table, root_span}
+use Rattle.mt_rows.specs.Levels.{expand, map_of, Levels}
 use Rattle.mt_rows.specs.Trees.{map_in, deepest}
 use Rattle.mt_rows.specs.Laws.{Tree, IsRow, Stands, top_of}
 use Rattle.mt_rows.proofs.Lists.{all_map, Filled, expand_fills}

@@ -11,9 +11,10 @@ use Rattle.mt_layout.specs.declared.names.RowKind.TheVariants.{Leaf, Inner, Gapp
 use Rattle.mt_layout.specs.declared.items.Item.{Item}
 use Rattle.mt_layout.specs.Columns.{items_at, row_words}
 use Rattle.mt_layout.specs.Rows.{row_in, named_kind, parent_at}
-use Rattle.mt_rows.specs.declared.spans.Span.{Span}
-use Rattle.mt_rows.specs.Spans.{Table, base_of, column, slots_of, gaps_of, inner_kind, spans_in, root_span, leaf_range}
-use Rattle.mt_rows.specs.Levels.{Fills, Levels, expand}
+use Rattle.mt_layout.specs.declared.spans.Span.{Span}
+use Rattle.mt_layout.specs.Spans.{leaf_range, Fills, Apart, EndsFull}
+use Rattle.mt_rows.specs.Spans.{Table, base_of, column, slots_of, gaps_of, inner_kind, spans_in, root_span}
+use Rattle.mt_rows.specs.Levels.{Levels, expand}
 use Rattle.mt_rows.specs.Trees.{deepest}
 
 -- A tree of rows: how many there are, and which kind of tree it is.
@@ -85,19 +86,6 @@ EntryLaw t (suc h) x = Unit {0}
 
 -- Holes: no two holes follow each other; a leaf that does not end at the greatest index ends with an entry; and some
 -- item is an entry.
-abbrev pub BeginsFull : List Span → Type 0
-BeginsFull [] = Unit {0}
-BeginsFull (x ∷ xs) = x.word ≢ 0
-
-abbrev pub Apart : List Span → Type 0
-Apart [] = Unit {0}
-Apart (x ∷ xs) = (x.word ≡ 0 → BeginsFull xs) × Apart xs
-
-abbrev pub EndsFull : List Span → Type 0
-EndsFull [] = Unit {0}
-EndsFull (x ∷ []) = x.word ≢ 0
-EndsFull (x ∷ y ∷ ys) = EndsFull (y ∷ ys)
-
 pub record HoleLawOfLeaf (t : Tree) (x : Span) : Type 0 where
   pub apart : Apart (spans_in t.table x)
   pub ends : x.last < top_of t → EndsFull (spans_in t.table x)

@@ -4,13 +4,9 @@ use Rattle.std.specs.List.{AllByRecursion, flat_map, slice_get}
 use Rattle.mt_base.specs.declared.ranges.Range.{Range}
 use Rattle.mt_layout.specs.declared.names.RowKind.TheVariants.{Leaf}
 use Rattle.mt_layout.specs.Rows.{row_in, named_kind}
-use Rattle.mt_rows.specs.declared.spans.Span.{Span}
-use Rattle.mt_rows.specs.Spans.{Table, column, spans_in, leaf_range}
-
--- the spans fill the indexes from `lo` up to, but without, `hi`
-abbrev pub Fills : ℕ → ℕ → List Span → Type 0
-Fills lo hi [] = lo ≡ hi
-Fills lo hi (x ∷ xs) = (x.first ≡ lo) × (lo ≤ x.last) × Fills (x.last + 1) hi xs
+use Rattle.mt_layout.specs.declared.spans.Span.{Span}
+use Rattle.mt_layout.specs.Spans.{leaf_range}
+use Rattle.mt_rows.specs.Spans.{Table, column, spans_in}
 
 -- what stands in rows
 abbrev pub expand : Table → List Span → List Span

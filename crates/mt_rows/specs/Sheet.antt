@@ -8,7 +8,7 @@ use Rattle.mt_base.specs.History.{Record}
 use Rattle.mt_layout.specs.declared.names.RowKind.TheVariants.{Gapped}
 use Rattle.mt_layout.specs.Rows.{row_in, named_kind, dead_mark}
 use Rattle.mt_layout.specs.Columns.{gap_column}
-use Rattle.mt_rows.specs.declared.spans.Span.{Span}
+use Rattle.mt_layout.specs.declared.spans.Span.{Span}
 use Rattle.mt_rows.specs.Spans.{Table, column, base_of, slots_of, spans_in, root_span}
 use Rattle.mt_rows.specs.Levels.{IsBelow}
 use Rattle.mt_rows.specs.declared.rows.Life.{Life}

@@ -1,18 +1,17 @@
--- The items of a row with their first indexes, read off the words of a tree.
+-- The spans of a row, read off the words of a tree.
 -- Source: the kernel's include/linux/maple_tree.h, the layout of its nodes.
-use Rattle.std.specs.Prelude.{ℕ, ◌+◌, ◌*◌, ◌==◌, List, [], ◌∷◌, Option, Some, None, slice_index, if◌then◌else◌}
-use Rattle.mt_base.specs.declared.ranges.Range.{Range}
+use Rattle.std.specs.Prelude.{ℕ, ◌+◌, ◌*◌, List, [], Option, Some, None, slice_index}
 use Rattle.mt_base.specs.declared.kinds.Kind.{Kind}
 use Rattle.mt_base.specs.declared.kinds.Kind.TheVariants as trees
 use Rattle.mt_base.specs.declared.widths.Width.{Width}
 use Rattle.mt_base.specs.declared.widths.Width.TheVariants.{Long}
 use Rattle.mt_base.specs.Width.{columns, greatest}
-use Rattle.mt_layout.specs.declared.items.Item.{Item}
 use Rattle.mt_layout.specs.declared.names.RowKind.{RowKind}
 use Rattle.mt_layout.specs.declared.names.RowKind.TheVariants as kinds
 use Rattle.mt_layout.specs.Rows.{row_in, named_kind}
 use Rattle.mt_layout.specs.Columns.{items_at}
-use Rattle.mt_rows.specs.declared.spans.Span.{Span}
+use Rattle.mt_layout.specs.declared.spans.Span.{Span}
+use Rattle.mt_layout.specs.Spans.{spans_from}
 
 -- The words of a tree's rows: column c of row r is the word columns * r + c.
 pub record Table : Type 0 where
@@ -41,11 +40,6 @@ abbrev pub inner_kind : Kind → RowKind
 inner_kind trees.Range = kinds.Inner
 inner_kind trees.Alloc = kinds.Gapped
 
--- items, the first of which begins at `first`, and each other behind the one before
-abbrev pub spans_from : ℕ → List Item → List Span
-spans_from first [] = []
-spans_from first (x ∷ items) = record { first = first; last = x.last; word = x.word; gap = x.gap } ∷ spans_from (x.last + 1) items
-
 -- what stands in a row of this kind that covers first..last
 abbrev pub row_spans : Table → ℕ → RowKind → ℕ → ℕ → List Span
 row_spans t row kind first last = spans_from first (items_at (slots_of t.width kind) (gaps_of t.width kind) t.words (base_of t row) last)
@@ -61,7 +55,3 @@ spans_in t x = spans_by t (named_kind x.word) x
 -- the root's span: it covers every index
 abbrev pub root_span : Table → ℕ → Span
 root_span t root = record { first = 0; last = greatest t.width; word = root; gap = 0 }
-
--- the range of a leaf's span, and none of a hole
-abbrev pub leaf_range : Span → List Range
-leaf_range x = if x.word == 0 then [] else record { first = x.first; last = x.last; entry = x.word } ∷ []

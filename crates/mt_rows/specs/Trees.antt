@@ -6,8 +6,9 @@ use Rattle.mt_base.specs.declared.ranges.Range.{Range}
 use Rattle.mt_layout.specs.declared.names.RowKind.{RowKind}
 use Rattle.mt_layout.specs.declared.names.RowKind.TheVariants.{Leaf, Inner, Gapped}
 use Rattle.mt_layout.specs.Rows.{row_in, named_kind}
-use Rattle.mt_rows.specs.declared.spans.Span.{Span}
-use Rattle.mt_rows.specs.Spans.{Table, spans_in, root_span, leaf_range}
+use Rattle.mt_layout.specs.declared.spans.Span.{Span}
+use Rattle.mt_layout.specs.Spans.{leaf_range}
+use Rattle.mt_rows.specs.Spans.{Table, spans_in, root_span}
 
 -- no row stands deeper than this many levels
 abbrev pub deepest : ℕ

@@ -4,9 +4,10 @@ ghost use Rattle.std.specs.Prelude.{◌≡◌, ℕ, ◌+◌, ◌<◌, ◌≤◌,
 ghost use Rattle.std.specs.List.{AllByRecursion};
 ghost use Rattle.mt_base.specs.Map.{IsMap};
 ghost use Rattle.mt_base.specs.Width.{columns};
-ghost use Rattle.mt_rows.specs.declared.spans.Span.{Span};
+ghost use Rattle.mt_layout.specs.declared.spans.Span.{Span};
 ghost use Rattle.mt_rows.specs.Spans.{Table};
-ghost use Rattle.mt_rows.specs.Levels.{Fills, map_of, Levels, tally, times, is_row_of, SameColumns, SameSpans};
+ghost use Rattle.mt_layout.specs.Spans.{Fills};
+ghost use Rattle.mt_rows.specs.Levels.{map_of, Levels, tally, times, is_row_of, SameColumns, SameSpans};
 ghost use Rattle.mt_rows.specs.Trees.{ranges_of, rows_of, height_of, map_in, reached_in};
 ghost use Rattle.mt_rows.specs.Laws.{Tree, IsRow, Stands, top_of};
 

@@ -5,11 +5,9 @@ pub mod laws;
 mod plain;
 pub mod plain_trees;
 mod rows;
-mod spans;
 
 pub use plain::PlainRows;
 pub use rows::{Life, Place, Rows, Scan};
-pub use spans::Span;
 
 #[cfg(test)]
 mod tests;

@@ -4,14 +4,13 @@ ghost use Rattle.std.specs.Prelude.{◌≡◌, ◌+◌, ◌-◌, ◌^◌, ◌<�
 ghost use Rattle.std.specs.List.{flat_map};
 ghost use Rattle.mt_base.specs.declared.widths.Width.TheVariants.{Long};
 ghost use Rattle.mt_layout.specs.Columns.{gap_at, items_from};
-ghost use Rattle.mt_rows.specs.Spans.{spans_from, leaf_range};
+ghost use Rattle.mt_layout.specs.Spans.{spans_from, leaf_range};
 ghost use Rattle.mt_rows.specs.Spans as defined;
 ghost use Rattle.mt_rows.specs.Trees as trees;
 
-use crate::spans::Span;
 use arrayvec::ArrayVec;
 use mt_base::{NoMemory, Range, Width, cols, top};
-use mt_layout::{RowKind, kind_of, row_of};
+use mt_layout::{RowKind, Span, kind_of, row_of};
 use std::alloc::Global;
 
 /// No row stands deeper than this many levels.
