@@ -1,6 +1,7 @@
 pub mod Laws
 pub mod Levels
 pub mod Plain
+pub mod Publish
 pub mod Sheet
 pub mod Spans
 pub mod Trees

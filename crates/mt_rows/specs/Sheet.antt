@@ -1,6 +1,6 @@
 -- All meanings of a tree's rows in one record, and what each call does to it.
 -- Source: this project's own; the kernel's writers replace nodes under a lock, and free them after a grace period.
-use Rattle.std.specs.Prelude.{◌≡◌, ◌≢◌, ◌⊎◌, ℕ, ◌+◌, ◌-◌, ◌^◌, ◌<◌, ◌≤◌, Bool, true, false, List, Option, Some, length, min, slice_index_or, slice_set}
+use Rattle.std.specs.Prelude.{◌≡◌, ◌≢◌, ◌⊎◌, ℕ, ◌+◌, ◌-◌, ◌^◌, ◌<◌, ◌≤◌, Bool, true, false, List, Option, Some, None, length, min, slice_index_or, slice_set}
 use Rattle.std.specs.Option.{option_map}
 use Rattle.mt_base.specs.declared.kinds.Kind.{Kind}
 use Rattle.mt_base.specs.Width.{columns}
@@ -142,3 +142,21 @@ pub record MayTend (s : Sheet) (row col word : ℕ) : Type 0 where
 
 abbrev pub tended : Sheet → ℕ → ℕ → ℕ → Sheet
 tended s row col word = record s { tree = with_word s.tree row col word }
+
+-- ---- calls that only load
+
+-- nothing but the number of loads has changed
+abbrev pub OnlyReads : Sheet → Sheet → Type 0
+OnlyReads s s' = s' ≡ record s { reads = s'.reads }
+
+-- told or not, the count rose by so much at the most
+abbrev pub RoseUpTo : ℕ → Option ℕ → Option ℕ → Type 0
+RoseUpTo n None None = Unit {0}
+RoseUpTo n (Some a) (Some b) = b ≤ a + n
+RoseUpTo n None (Some b) = ⊥
+RoseUpTo n (Some a) None = ⊥
+
+-- nothing has changed, but so many loads were made at the most
+pub record ReadsUpTo (n : ℕ) (s s' : Sheet) : Type 0 where
+  pub rest : OnlyReads s s'
+  pub reads : RoseUpTo n s.reads s'.reads

@@ -1,0 +1,29 @@
+-- Where the items of a level are cut into rows. Source: this project's own least numbers of items; the kernel's
+-- mab_calc_split, which keeps a leaf from ending with a slot of no entry.
+use Rattle.std.specs.Prelude.{◌≡◌, ◌≢◌, ℕ, ◌+◌, ◌-◌, ◌<◌, ◌≤◌, List, [], ◌∷◌, Bool, true, length, map, slice_index}
+use Rattle.mt_layout.specs.declared.items.Item.{Item}
+
+abbrev pub word_of : List Item → ℕ → ℕ
+word_of items i = slice_index (map (λ x. x.word) items) i
+
+-- A row of the items `from` to, but without, `to`: `least` at the least and `most` at the most; and a leaf with others
+-- behind it ends with an entry.
+pub record IsPiece (leaf : Bool) (least most : ℕ) (items : List Item) (from to : ℕ) : Type 0 where
+  pub some : from < to
+  pub many : from + least ≤ to
+  pub few : to ≤ from + most
+  pub full : leaf ≡ true → to < length items → word_of items (to - 1) ≢ 0
+
+-- rows that end at these places, each behind the one before, the first beginning at `from` and the last ending with the items
+abbrev pub ArePieces : Bool → ℕ → ℕ → List Item → ℕ → List ℕ → Type 0
+ArePieces leaf least most items from [] = from ≡ length items
+ArePieces leaf least most items from (to ∷ ends) = IsPiece leaf least most items from to × ArePieces leaf least most items to ends
+
+pub record AreFewest (leaf : Bool) (least most : ℕ) (items : List Item) (ends : List ℕ) : Type 0 where
+  pub pieces : ArePieces leaf least most items 0 ends
+  pub fewest : (others : List ℕ) → ArePieces leaf least most items 0 others → length ends ≤ length others
+
+-- One row where `most` items or fewer are there, also below `least`; else the fewest rows.
+pub record IsCut (leaf : Bool) (least most : ℕ) (items : List Item) (ends : List ℕ) : Type 0 where
+  pub one : length items ≤ most → ends ≡ length items ∷ []
+  pub more : most < length items → AreFewest leaf least most items ends

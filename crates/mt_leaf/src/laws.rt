@@ -1,0 +1,39 @@
+//! What a store on the items of leaves does. Each law is the contract of a function that does nothing.
+
+ghost use Rattle.std.specs.Prelude.{◌≡◌, ◌+◌, ◌<◌, ◌≤◌, ℕ, List, ◌++◌, length};
+ghost use Rattle.std.specs.List.{flat_map};
+ghost use Rattle.mt_base.specs.Map.{over};
+ghost use Rattle.mt_layout.specs.declared.items.Item.{Item};
+ghost use Rattle.mt_layout.specs.declared.spans.Span.{Span};
+ghost use Rattle.mt_layout.specs.Columns.{end_of};
+ghost use Rattle.mt_layout.specs.Spans.{spans_from, leaf_range, Fills, Apart};
+ghost use Rattle.mt_leaf.specs.Edits.{edited, stored, joined, starting};
+
+/// A store on the spans of leaves is that store on the map that they stand for.
+pub fn an_edit_is_a_store()
+    ensures ranges { (xs : List Span) (first last entry : ℕ) → flat_map leaf_range (edited xs first last entry) ≡ over (flat_map leaf_range xs) first last entry }
+    ensures fills { (lo hi first last entry : ℕ) (xs : List Span) → Fills lo hi xs → lo ≤ first → first ≤ last → last < hi → Fills lo hi (edited xs first last entry) }
+    ensures apart { (xs : List Span) (first last entry : ℕ) → Apart (edited xs first last entry) }
+    ensures count { (lo hi first last entry : ℕ) (xs : List Span) → Fills lo hi xs → first ≤ last → length (edited xs first last entry) ≤ length xs + 2 }
+{}
+
+/// What lies between the leaf where a store begins and the leaf where it ends does not count.
+pub fn leaves_between_do_not_count()
+    ensures { (lo middle behind hi first last entry : ℕ) (left between right : List Span) → Fills lo middle left → Fills middle behind between → Fills behind hi right → first < middle → behind ≤ last → last < hi
+        → stored (left ++ starting middle right) first last entry ≡ stored (left ++ (between ++ right)) first last entry }
+{}
+
+/// Holes are joined where leaves meet, and nowhere else in lawful leaves.
+pub fn leaves_are_joined()
+    ensures ranges { (xs : List Span) → flat_map leaf_range (joined xs) ≡ flat_map leaf_range xs }
+    ensures fills { (lo hi : ℕ) (xs : List Span) → Fills lo hi xs → Fills lo hi (joined xs) }
+    ensures apart { (xs : List Span) → Apart (joined xs) }
+    ensures count { (xs ys : List Span) → Apart xs → Apart ys → length xs + length ys ≤ length (joined (xs ++ ys)) + 1 }
+    ensures most { (xs : List Span) → length (joined xs) ≤ length xs }
+{}
+
+/// Items are one with their spans: equal spans are of equal items, and items behind others begin at their end.
+pub fn spans_tell_the_items()
+    ensures same { (first : ℕ) (xs ys : List Item) → spans_from first xs ≡ spans_from first ys → xs ≡ ys }
+    ensures append { (first : ℕ) (xs ys : List Item) → 1 ≤ length xs → spans_from first (xs ++ ys) ≡ spans_from first xs ++ spans_from (end_of 0 xs + 1) ys }
+{}

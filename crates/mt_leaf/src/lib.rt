@@ -1,0 +1,11 @@
+//! The items of a few leaves: what a store makes of them, and where a level is cut into rows.
+#![tactic(auto)]
+
+mod cuts;
+mod edits;
+pub mod laws;
+#[cfg(test)]
+mod tests;
+
+pub use cuts::cut;
+pub use edits::{edit, exact_slot};

@@ -1,0 +1,47 @@
+-- The way down from the root of a tree to the leaf that covers an index, and the slot there.
+-- Source: the kernel's lib/maple_tree.c, mas_walk, mas_next_node and mas_prev_node.
+use Rattle.std.specs.Prelude.{ℕ, zero, suc, ◌+◌, List, [], ◌∷◌, length, take_while, nat_lt, slice_index_or, sum, map}
+use Rattle.mt_layout.specs.declared.spans.Span.{Span}
+use Rattle.mt_layout.specs.Rows.{row_in, named_kind}
+use Rattle.mt_rows.specs.Spans.{Table, spans_in, root_span}
+use Rattle.mt_rows.specs.Trees.{by_kind, deepest}
+use Rattle.mt_path.specs.declared.paths.PathStep.{PathStep}
+
+-- the slot that holds an index: that of the first span which ends at it or above
+abbrev pub slot_for : List Span → ℕ → ℕ
+slot_for xs index = length (take_while (λ x. nat_lt x.last index) xs)
+
+abbrev pub no_span : Span
+no_span = record { first = 0; last = 0; word = 0; gap = 0 }
+
+-- the span in a slot
+abbrev pub span_at : List Span → ℕ → Span
+span_at xs slot = slice_index_or xs slot no_span
+
+-- the step in the row that a span names
+abbrev pub step_in : Table → Span → ℕ → PathStep
+step_in t x index = record { row = row_in x.word; slot = slot_for (spans_in t x) index; min = x.first; max = x.last }
+
+-- the span below a row that covers an index
+abbrev pub below : Table → Span → ℕ → Span
+below t x index = span_at (spans_in t x) (slot_for (spans_in t x) index)
+
+-- the steps from a row down to the leaf, at most so many; none where its word is no name
+unfoldable pub path_of : Table → ℕ → Span → ℕ → List PathStep
+path_of t zero x index = []
+path_of t (suc depth) x index = by_kind (named_kind x.word) (step_in t x index ∷ []) (step_in t x index ∷ path_of t depth (below t x index) index)
+
+-- the path to an index, the root first
+abbrev pub path_in : Table → ℕ → ℕ → List PathStep
+path_in t root index = path_of t deepest (root_span t root) index
+
+-- a path's step at a level, the root's level being 0
+abbrev pub no_step : PathStep
+no_step = record { row = 0; slot = 0; min = 0; max = 0 }
+
+abbrev pub step_at : List PathStep → ℕ → PathStep
+step_at path level = slice_index_or path level no_step
+
+-- how many words a walk loads: the root word, and in each row its pivots up to the index and one slot
+abbrev pub loads_on : List PathStep → ℕ
+loads_on path = 1 + sum (map (λ s. s.slot + 2) path)

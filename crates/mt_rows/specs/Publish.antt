@@ -1,0 +1,167 @@
+-- What a publishing store and the end of a call are asked for, and what they leave.
+-- Source: this project's own; the kernel's mas_replace_node publishes a subtree by one store of its parent's slot.
+use Rattle.std.specs.Prelude.{◌≡◌, ◌≢◌, ◌⊎◌, ℕ, ◌+◌, ◌<◌, ◌≤◌, ◌==◌, Bool, true, false, List, [], ◌∷◌, ◌++◌, Option, Some, IfSome, length, map, nat_lt, if◌then◌else◌}
+use Rattle.std.specs.Option.{option_map, option_and_then}
+use Rattle.mt_base.specs.declared.kinds.Kind.{Kind}
+use Rattle.mt_base.specs.declared.ranges.Range.{Range}
+use Rattle.mt_base.specs.declared.calls.Call.{Call}
+use Rattle.mt_base.specs.declared.replies.Reply.{Reply}
+use Rattle.mt_base.specs.Width.{kind_width}
+use Rattle.mt_base.specs.Call.{acted}
+use Rattle.mt_base.specs.History.{Record}
+use Rattle.mt_layout.specs.declared.names.RowKind.{RowKind}
+use Rattle.mt_layout.specs.declared.spans.Span.{Span}
+use Rattle.mt_layout.specs.Rows.{row_in, named_kind, dead_mark}
+use Rattle.mt_layout.specs.Columns.{slot_column}
+use Rattle.mt_rows.specs.declared.rows.Life.{Life}
+use Rattle.mt_rows.specs.declared.rows.Life.TheVariants.{Draft, Live, Dead}
+use Rattle.mt_rows.specs.declared.rows.Place.{Place}
+use Rattle.mt_rows.specs.declared.rows.Place.TheVariants.{Root, Slot}
+use Rattle.mt_rows.specs.Spans.{slots_of, spans_in, root_span}
+use Rattle.mt_rows.specs.Levels.{IsBelow, tally}
+use Rattle.mt_rows.specs.Trees.{map_in, reached_in, height_in}
+use Rattle.mt_rows.specs.Laws as laws
+use Rattle.mt_rows.specs.Sheet.{Caller, Tree, Sheet, IsPlace, life_of, is_buried, word_at, with_word}
+
+-- ---- the tree that words are
+
+-- the words as a tree of this kind
+abbrev pub tree_as : Kind → ℕ → Tree → laws.Tree
+tree_as kind rows t = record { rows = rows; kind = kind; table = t.table; root = t.root }
+
+-- rows of this kind: of the kind that they tell, where they tell one, and of its width
+pub record AreOfKind (s : Sheet) (kind : Kind) : Type 0 where
+  pub told : IfSome s.kind (λ k. k ≡ kind)
+  pub width : s.tree.table.width ≡ kind_width kind
+
+-- the words keep all laws but those of parents and gaps
+pub record IsTreeOf (s : Sheet) (kind : Kind) : Type 0 where
+  pub of_kind : AreOfKind s kind
+  pub words : laws.IsTree (tree_as kind s.rows s.tree)
+
+-- the words are lawful
+pub record IsLawfulOf (s : Sheet) (kind : Kind) : Type 0 where
+  pub of_kind : AreOfKind s kind
+  pub words : laws.IsLawful (tree_as kind s.rows s.tree)
+
+abbrev pub map_by : Tree → List Range
+map_by t = map_in t.table t.root
+
+-- ---- rows that are reached
+
+abbrev pub is_reached : Tree → ℕ → Bool
+is_reached t row = nat_lt 0 (tally (λ (r : ℕ). r == row) (reached_in t.table t.root))
+
+abbrev pub IsReached : Tree → ℕ → Type 0
+IsReached t row = is_reached t row ≡ true
+
+-- Live rows are those that are reached from the root.
+abbrev pub LiveAreReached : Sheet → Type 0
+LiveAreReached s = (row : ℕ) → 16 ≤ row → row < 16 + s.rows → (life_of s row ≡ Live → IsReached s.tree row) × (IsReached s.tree row → life_of s row ≡ Live)
+
+-- the span is reached, so many levels above the leaves
+pub record StandsAt (t : Tree) (height : ℕ) (x : Span) : Type 0 where
+  pub depth : ℕ
+  pub below : IsBelow t.table depth (root_span t.table t.root) x
+  pub levels : depth + height + 1 ≡ height_in t.table t.root
+
+-- the same of the spans are 0
+abbrev pub SameHoles : List Span → List Span → Type 0
+SameHoles xs ys = map (λ (x : Span). x.word == 0) xs ≡ map (λ (y : Span). y.word == 0) ys
+
+-- a row that is reached before and after keeps its range, its level, and which of its slots are 0
+pub record KeepsPlace (t t' : Tree) (h h' : ℕ) (x x' : Span) : Type 0 where
+  pub height : h' ≡ h
+  pub first : x'.first ≡ x.first
+  pub last : x'.last ≡ x.last
+  pub holes : SameHoles (spans_in t.table x) (spans_in t'.table x')
+
+-- ---- publish
+
+-- the slot column of an item of a row that is reached
+pub record IsSlotOf (t : Tree) (row col : ℕ) : Type 0 where
+  pub depth : ℕ
+  pub at : Span
+  pub kind : RowKind
+  pub slot : ℕ
+  pub reached : IsBelow t.table depth (root_span t.table t.root) at
+  pub named : named_kind at.word ≡ Some kind
+  pub number : row_in at.word ≡ row
+  pub used : slot < length (spans_in t.table at)
+  pub column : col ≡ slot_column (slots_of t.table.width kind) slot
+
+abbrev pub IsPlaceToPublish : Sheet → Place → Type 0
+IsPlaceToPublish s Root = Unit {0}
+IsPlaceToPublish s (Slot row col) = IsPlace s row col × (life_of s row ≡ Live) × IsSlotOf s.tree row col
+
+-- the tree after the word is stored at the place
+abbrev pub with_published : Tree → Place → ℕ → Tree
+with_published t Root word = record { table = t.table; root = word }
+with_published t (Slot row col) word = with_word t row col word
+
+-- a row that is reached then was live, or is a draft without its dead mark
+abbrev pub IsKnown : Sheet → Tree → ℕ → Type 0
+IsKnown s t' row = (life_of s row ≡ Live) ⊎ ((life_of s row ≡ Draft) × (word_at s row 0 ≢ dead_mark row))
+
+-- what a publishing store makes of rows
+pub record Changes (s : Sheet) (t' : Tree) : Type 0 where
+  pub known : (row : ℕ) → IsReached t' row → IsKnown s t' row
+  pub stay : (h h' : ℕ) (x x' : Span) → StandsAt s.tree h x → StandsAt t' h' x' → row_in x.word ≡ row_in x'.word → KeepsPlace s.tree t' h h' x x'
+  pub gone : (row : ℕ) → IsReached s.tree row → is_reached t' row ≡ false → is_buried s row ≡ true
+  pub buried : (row : ℕ) → 16 ≤ row → row < 16 + s.rows → is_buried s row ≡ true → IsReached s.tree row × (is_reached t' row ≡ false)
+
+-- the whole condition of a publishing store, on a tree of this kind
+pub record MayPublish (kind : Kind) (s : Sheet) (place : Place) (word : ℕ) (call : Call) (reply : Reply) : Type 0 where
+  pub flying : s.flying ≡ true
+  pub before : s.published ≡ false
+  pub at : IsPlaceToPublish s place
+  pub live : LiveAreReached s
+  pub tree : IsTreeOf s kind
+  pub answer : acted kind (map_by s.tree) call ≡ (map_by (with_published s.tree place word), reply)
+  pub after : laws.IsTree (tree_as kind s.rows (with_published s.tree place word))
+  pub rows : Changes s (with_published s.tree place word)
+
+-- where records are told, one more: the caller's
+abbrev pub with_record : Sheet → Call → Reply → Option (List Record)
+with_record s call reply = option_and_then (λ (c : Caller). option_map (λ (rs : List Record). rs ++ (record { pass = c.pass; call = call; reply = reply } ∷ [])) s.records) s.caller
+
+-- The drafts that are reached are live then, and the buried rows are dead by this call.
+abbrev pub life_after : Sheet → Tree → ℕ → Life
+life_after s t' row = if is_reached t' row then Live else (if is_buried s row then Dead (s.ended + 1) else life_of s row)
+
+pub record Published (s s' : Sheet) (place : Place) (word : ℕ) (call : Call) (reply : Reply) : Type 0 where
+  pub rest : s' ≡ record s { tree = with_published s.tree place word; published = true; lives = s'.lives; buried = s'.buried; records = with_record s call reply }
+  pub lives : (row : ℕ) → 16 ≤ row → row < 16 + s.rows → life_of s' row ≡ life_after s (with_published s.tree place word) row
+  pub buried : (row : ℕ) → 16 ≤ row → row < 16 + s.rows → is_buried s' row ≡ false
+
+-- ---- finish
+
+abbrev pub NoneBuried : Sheet → Type 0
+NoneBuried s = (row : ℕ) → 16 ≤ row → row < 16 + s.rows → is_buried s row ≡ false
+
+-- a call that published nothing leaves the map
+pub record LeavesMap (kind : Kind) (s : Sheet) (call : Call) (reply : Reply) : Type 0 where
+  pub none_buried : NoneBuried s
+  pub of_kind : AreOfKind s kind
+  pub answer : acted kind (map_by s.tree) call ≡ (map_by s.tree, reply)
+
+pub record MayFinish (kind : Kind) (s : Sheet) (call : Call) (reply : Reply) : Type 0 where
+  pub flying : s.flying ≡ true
+  pub kept : s.published ≡ false → LeavesMap kind s call reply
+
+abbrev pub finished : Sheet → Call → Reply → Sheet
+finished s call reply = record s { ended = s.ended + 1; flying = false; published = false; records = if s.published then s.records else with_record s call reply }
+
+-- ---- plant
+
+-- rows of which none was used by a call
+pub record MayPlant (kind : Kind) (s : Sheet) (root : ℕ) : Type 0 where
+  pub idle : s.flying ≡ false
+  pub first : s.ended ≡ 0
+  pub empty : s.tree.root ≡ 0
+  pub of_kind : AreOfKind s kind
+  pub lawful : laws.IsLawful (tree_as kind s.rows (record { table = s.tree.table; root = root }))
+
+pub record Planted (s s' : Sheet) (root : ℕ) : Type 0 where
+  pub rest : s' ≡ record s { tree = record { table = s.tree.table; root = root }; lives = s'.lives; opened = length (reached_in s.tree.table root) }
+  pub lives : (row : ℕ) → 16 ≤ row → row < 16 + s.rows → life_of s' row ≡ (if is_reached s'.tree row then Live else life_of s row)
