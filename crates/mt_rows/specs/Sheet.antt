@@ -1,6 +1,6 @@
 -- All meanings of a tree's rows in one record, and what each call does to it.
 -- Source: this project's own; the kernel's writers replace nodes under a lock, and free them after a grace period.
-use Rattle.std.specs.Prelude.{◌≡◌, ◌≢◌, ◌⊎◌, ℕ, ◌+◌, ◌-◌, ◌^◌, ◌<◌, ◌≤◌, Bool, true, false, List, Option, Some, None, length, min, slice_index_or, slice_set}
+use Rattle.std.specs.Prelude.{◌≡◌, ◌≢◌, ◌⊎◌, ℕ, ◌+◌, ◌-◌, ◌*◌, ◌^◌, ◌<◌, ◌≤◌, Bool, true, false, List, Option, Some, None, length, min, slice_index_or, slice_set}
 use Rattle.std.specs.Option.{option_map}
 use Rattle.mt_base.specs.declared.kinds.Kind.{Kind}
 use Rattle.mt_base.specs.Width.{columns}
@@ -64,6 +64,15 @@ life_of s row = slice_index_or s.lives row New
 
 abbrev pub is_buried : Sheet → ℕ → Bool
 is_buried s row = slice_index_or s.buried row false
+
+-- what every table of rows keeps: few enough rows to be named, a word for each column, and a life for each row, where
+-- rows are numbered from 16
+pub record IsWhole (s : Sheet) : Type 0 where
+  pub few : s.rows ≤ 65504
+  pub words : length s.tree.table.words ≡ columns s.tree.table.width * (16 + s.rows)
+  pub lives : length s.lives ≡ 16 + s.rows
+  pub buried : length s.buried ≡ 16 + s.rows
+  pub cleared : s.cleared ≤ s.ended
 
 -- a row and a column of the table
 pub record IsPlace (s : Sheet) (row col : ℕ) : Type 0 where

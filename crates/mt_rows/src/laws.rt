@@ -1,15 +1,25 @@
 //! What lawful words stand for. Each law is the contract of a function that does nothing.
 
-ghost use Rattle.std.specs.Prelude.{◌≡◌, ℕ, ◌+◌, ◌<◌, ◌≤◌, ◌==◌, Bool, List, [], ◌∷◌, ◌++◌};
+ghost use Rattle.std.specs.Prelude.{◌≡◌, ◌≢◌, ℕ, suc, ◌+◌, ◌<◌, ◌≤◌, ◌==◌, Bool, true, false, List, [], ◌∷◌, ◌++◌};
 ghost use Rattle.std.specs.List.{AllByRecursion};
+ghost use Rattle.mt_base.specs.declared.calls.Call.TheVariants.{Store};
+ghost use Rattle.mt_base.specs.declared.replies.Reply.TheVariants as reply;
+ghost use Rattle.mt_base.specs.declared.kinds.Kind.{Kind};
+ghost use Rattle.mt_base.specs.Entry.{reserved};
 ghost use Rattle.mt_base.specs.Map.{IsMap};
 ghost use Rattle.mt_base.specs.Width.{columns};
 ghost use Rattle.mt_layout.specs.declared.spans.Span.{Span};
-ghost use Rattle.mt_rows.specs.Spans.{Table};
 ghost use Rattle.mt_layout.specs.Spans.{Fills};
+ghost use Rattle.mt_layout.specs.Rows.{row_in};
+ghost use Rattle.mt_layout.specs.Columns.{slot_column};
+ghost use Rattle.mt_rows.specs.declared.rows.Place.TheVariants.{Slot};
+ghost use Rattle.mt_rows.specs.Spans.{Table, slots_of};
 ghost use Rattle.mt_rows.specs.Levels.{map_of, Levels, tally, times, is_row_of, SameColumns, SameSpans};
-ghost use Rattle.mt_rows.specs.Trees.{ranges_of, rows_of, height_of, map_in, reached_in};
-ghost use Rattle.mt_rows.specs.Laws.{Tree, IsRow, Stands, top_of};
+ghost use Rattle.mt_rows.specs.Trees.{ranges_of, rows_of, height_of, map_in, reached_in, deepest};
+ghost use Rattle.mt_rows.specs.Laws.{Tree, IsRow, IsTree, Stands, HasWords, top_of, kind_at};
+ghost use Rattle.mt_rows.specs.Sheet.{Sheet, IsPlace, IsWhole, drafted, after_bury, tended};
+ghost use Rattle.mt_rows.specs.Publish.{tree_as, AreOfKind, LiveAreReached, NoneBuried, MayPublish};
+ghost use Rattle.mt_rows.specs.Replacement.{root_of, IsSlotAt, with_slot, with_child, IsNewBelow, ReplacesChild, ReplacesEntry};
 
 /// What stands below a row by depth and by levels is the same: the ranges, how often each row is reached, and the height.
 pub fn depth_and_levels_agree()
@@ -45,4 +55,40 @@ pub fn rows_stand_side_by_side()
 pub fn same_spans_stand_for_the_same()
     ensures ranges { (t t' : Table) (h : ℕ) (xs : List Span) → Levels (λ (_ : ℕ) (x : Span). SameSpans t t' x) t h xs → map_of t' h xs ≡ map_of t h xs }
     ensures rows { (p : ℕ → Span → Bool) (t t' : Table) (h : ℕ) (xs : List Span) → Levels (λ (_ : ℕ) (x : Span). SameSpans t t' x) t h xs → times p t' h xs ≡ times p t h xs }
+{}
+
+/// What stands below a slot is replaced by one store of the slot's word.
+pub fn one_store_replaces_a_child()
+    ensures { (t : Tree) (h k depth slot word : ℕ) (row child : Span) → HasWords t → Stands t h → h ≡ depth + suc k → IsSlotAt t depth row slot child
+        → let t' = with_slot t (suc k) row slot word in let child' = with_child child word in
+        Levels (IsRow t') t'.table k (child' ∷ []) → IsNewBelow t t' h k child child' → ReplacesChild t t' h k (suc depth) child child' }
+{}
+
+/// An entry is replaced by another by one store of its slot, and nothing else changes.
+pub fn one_store_replaces_an_entry()
+    ensures { (t : Tree) (h slot entry : ℕ) (row item : Span) → HasWords t → Stands t h → IsSlotAt t h row slot item → item.word ≢ 0 → entry ≢ 0 → reserved entry ≡ false
+        → ReplacesEntry t (with_slot t 0 row slot entry) h item entry }
+{}
+
+/// What stands below the root word is replaced by one store of it, by a tree of any height.
+pub fn one_store_replaces_the_root()
+    ensures grown { (t : Tree) (h word : ℕ) → h < deepest → let t' = record t { root = word } in Levels (IsRow t') t'.table h (root_of t')
+        → Stands t' h × (map_in t'.table t'.root ≡ map_of t.table h (root_of t')) }
+    ensures emptied { (t : Tree) → let t' = record t { root = 0 } in IsTree t' × (map_in t'.table t'.root ≡ []) }
+{}
+
+/// A draft, a burying and a new parent word leave what stands in every other row, and a burying or a parent word what
+/// stands in the row itself.
+pub fn writes_leave_other_rows()
+    ensures draft { (s : Sheet) (row col word : ℕ) (x : Span) → IsPlace s row col → row_in x.word ≢ row → SameSpans s.tree.table (drafted s row col word).tree.table x }
+    ensures bury { (s : Sheet) (row : ℕ) (x : Span) → IsPlace s row 0 → SameSpans s.tree.table (after_bury s row).tree.table x }
+    ensures tend { (s : Sheet) (row word : ℕ) (x : Span) → IsPlace s row 0 → SameSpans s.tree.table (tended s row 0 word).tree.table x }
+{}
+
+/// A store of an entry over just the indexes of a range may be published by one store of its slot, and takes no row.
+pub fn an_exact_store_may_be_published()
+    ensures { (kind : Kind) (s : Sheet) (h slot entry row col : ℕ) (leaf item : Span) → IsWhole s → s.flying ≡ true → s.published ≡ false → LiveAreReached s → NoneBuried s → AreOfKind s kind
+        → Stands (tree_as kind s.rows s.tree) h → IsSlotAt (tree_as kind s.rows s.tree) h leaf slot item → row ≡ row_in leaf.word → col ≡ slot_column (slots_of s.tree.table.width (kind_at kind 0)) slot
+        → item.word ≢ 0 → entry ≢ 0 → reserved entry ≡ false
+        → MayPublish kind s (Slot row col) entry (Store item.first item.last entry) reply.Ok }
 {}

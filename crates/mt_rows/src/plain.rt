@@ -1,8 +1,8 @@
 ghost use Rattle.std.specs.Prelude.{◌≡◌, ◌+◌, ◌*◌, ◌<◌, ◌≤◌, IfOk};
 ghost use Rattle.mt_base.specs.Width.{columns};
 
-use crate::rows::{Life, Rows, Scan};
-use mt_base::{NoMemory, Width, cols};
+use crate::rows::{Life, Place, Rows, Scan};
+use mt_base::{Call, NoMemory, Reply, Width, cols};
 use mt_layout::parent_word;
 use std::alloc::Global;
 use std::marker::Model;
@@ -151,5 +151,19 @@ impl Rows for PlainRows {
 
     fn tend(&mut self, row: u32, col: u32, word: u64) {
         self.words[place_of(self.width, row, col)] = word;
+    }
+
+    fn publish(&mut self, place: Place, word: u64, _call: &Call, _reply: &Reply) {
+        match place {
+            Place::Root => self.root = word,
+            Place::Slot { row, col } => self.words[place_of(self.width, row, col)] = word,
+        }
+        self.published = true;
+    }
+
+    fn finish(&mut self, _call: &Call, _reply: &Reply) {
+        self.ended += 1;
+        self.flying = false;
+        self.published = false;
     }
 }

@@ -1,8 +1,10 @@
 ghost use Rattle.std.specs.Prelude.{◌≡◌, ◌≤◌, ◌+◌, min};
 ghost use Rattle.mt_base.specs.Width.{columns};
-ghost use Rattle.mt_rows.specs.Sheet.{Sheet, IsPlace, word_at, loaded, MayBegin, begun, scanned, IsFree, life_of, drafted, MayBury, after_bury, MayTend, tended};
+ghost use Rattle.mt_base.specs.declared.kinds.Kind.{Kind};
+ghost use Rattle.mt_rows.specs.Publish.{MayPublish, Published, MayFinish, finished};
+ghost use Rattle.mt_rows.specs.Sheet.{Sheet, IsWhole, IsPlace, word_at, loaded, MayBegin, begun, scanned, IsFree, life_of, drafted, MayBury, after_bury, MayTend, tended};
 
-use mt_base::{Holder, Width};
+use mt_base::{Call, Holder, Reply, Width};
 
 /// Where a word is published: the root word, or a slot column of a live row.
 #[derive(Clone, Copy, Debug, PartialEq, Eq)]
@@ -39,7 +41,8 @@ pub trait Rows {
 
     /// The number of rows.
     fn size(&self) -> u64
-        ensures { result ≡ (sheet self.now).rows };
+        ensures rows { result ≡ (sheet self.now).rows }
+        ensures whole { IsWhole (sheet self.now) };
 
     /// How wide the words are.
     fn width(&self) -> Width
@@ -83,4 +86,15 @@ pub trait Rows {
     fn tend(&mut self, row: u32, col: u32, word: u64)
         requires { MayTend (sheet self.old) row col word }
         ensures { sheet self.new ≡ tended (sheet self.old) row col word };
+
+    /// Stores a word at a place, which is the event of the call in flight: with this one store the words stand for the
+    /// map after it. The drafts that are reached then are live, and the buried rows are dead by this call.
+    fn publish(&mut self, place: Place, word: u64, call: &Call, reply: &Reply)
+        requires { (kind : Kind) × MayPublish kind (sheet self.old) place word call.now reply.now }
+        ensures { Published (sheet self.old) (sheet self.new) place word call.now reply.now };
+
+    /// Ends the call in flight. Where nothing was published this is its event, and it left the map as it was.
+    fn finish(&mut self, call: &Call, reply: &Reply)
+        requires { (kind : Kind) × MayFinish kind (sheet self.old) call.now reply.now }
+        ensures { sheet self.new ≡ finished (sheet self.old) call.now reply.now };
 }
