@@ -14,5 +14,5 @@ pub fn cut(items: &Run, most: u32, least: u32, leaf: bool) -> ArrayVec<u32, 3>
     requires apart { leaf ≡ true → Apart (spans_from 0 items.now.items) }
     ensures { IsCut leaf least most items.now.items result.items }
 {
-    todo
+    ArrayVec::new()
 }

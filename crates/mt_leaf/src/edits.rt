@@ -16,7 +16,7 @@ pub fn edit(items: &Run, min: u64, first: u64, last: u64, entry: u64) -> Run
     requires to { last ≤ end_of 0 items.now.items }
     ensures { spans_from min result.items ≡ edited (spans_from min items.now.items) first last entry }
 {
-    todo
+    Run::new()
 }
 
 /// The slot whose entry stands at just `first` to `last`. The first item begins at `min`.
@@ -24,5 +24,5 @@ pub fn exact_slot(items: &Run, min: u64, first: u64, last: u64) -> Option<u32>
     requires { RiseFrom min items.now.items }
     ensures { result ≡ exact_slot_of (spans_from min items.now.items) first last }
 {
-    todo
+    None
 }

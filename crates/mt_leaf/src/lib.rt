@@ -4,8 +4,6 @@
 mod cuts;
 mod edits;
 pub mod laws;
-#[cfg(test)]
-mod tests;
 
 pub use cuts::cut;
 pub use edits::{edit, exact_slot};

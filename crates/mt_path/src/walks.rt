@@ -17,5 +17,5 @@ pub fn walk<R: Rows>(rows: &mut R, index: u64) -> Path
     ensures empty { (result.items ≡ []) ↔ (map_in (R.sheet rows.old).tree.table (R.sheet rows.old).tree.root ≡ []) }
     ensures reads { ReadsUpTo (loads_on result.items) (R.sheet rows.old) (R.sheet rows.new) }
 {
-    todo
+    Path::new()
 }
