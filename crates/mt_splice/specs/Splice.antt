@@ -81,18 +81,18 @@ pub record MaySplice (kind : Kind) (s : Sheet) (book : Book) (left right : List 
   pub room : 3 * height_in s.tree.table s.tree.root + 1 ≤ length book.free
   pub flying : s.flying ≡ true
   pub before : s.published ≡ false
-  pub number : number ≡ s.ended + 1
+  pub in_flight : number ≡ s.ended + 1
   pub none_buried : NoneBuried s
   pub live : LiveAreReached s
-  pub book : IsBookOf s book number
+  pub booked : IsBookOf s book number
   pub lawful : IsLawfulOf s kind
   pub first : ℕ
   pub last : ℕ
   pub entry : ℕ
   pub store : IsStoreBy kind (greatest s.tree.table.width) (map_by s.tree) call reply first last entry
-  pub left : left ≡ path_in s.tree.table s.tree.root first
-  pub right : right ≡ path_in s.tree.table s.tree.root last
-  pub items : spans_from (last_step left).min items ≡ edited (region_of s.tree.table left right) first last entry
+  pub left_path : left ≡ path_in s.tree.table s.tree.root first
+  pub right_path : right ≡ path_in s.tree.table s.tree.root last
+  pub edits : spans_from (last_step left).min items ≡ edited (region_of s.tree.table left right) first last entry
 
 -- ---- after
 
@@ -122,10 +122,10 @@ pub record IsSpliced (kind : Kind) (s s' : Sheet) (book book' : Book) (number : 
   pub tree : IsTreeOf s' kind
   pub parents : HasParents (tree_as kind s'.rows s'.tree)
   pub map : map_by s'.tree ≡ (acted kind (map_by s.tree) call).0
-  pub place : WasPublishedAt s s' place
+  pub published : WasPublishedAt s s' place
   pub none_buried : NoneBuried s'
   pub live : LiveAreReached s'
   pub dead : (row : ℕ) → IsReached s.tree row → is_reached s'.tree row ≡ false → life_of s' row ≡ Dead number
   pub others : (row : ℕ) → 16 ≤ row → row < 16 + s.rows → is_reached s.tree row ≡ false → is_reached s'.tree row ≡ false → life_of s' row ≡ life_of s row
-  pub booked : IsBooked s s' book book' number (3 * height_in s.tree.table s.tree.root + 1)
-  pub book : IsBookOf s' book' (number + 1)
+  pub moved : IsBooked s s' book book' number (3 * height_in s.tree.table s.tree.root + 1)
+  pub booked : IsBookOf s' book' (number + 1)
