@@ -6,3 +6,4 @@ pub mod Joins
 pub mod Lists
 pub mod Once
 pub mod Ranges
+pub mod Reached
