@@ -2,8 +2,10 @@ pub mod Deeper
 pub mod Depth
 pub mod Fates
 pub mod Frames
+pub mod Heights
 pub mod Joins
 pub mod Lists
 pub mod Once
 pub mod Ranges
 pub mod Reached
+pub mod SlotWords
