@@ -96,7 +96,7 @@ pub upper_map : (P Q : ℕ → Span → Type 0) (t : Table) → ((h : ℕ) (x : 
 upper_map P Q t f zero k xs upper = tt
 upper_map P Q t f (suc d) k xs upper = (all_map (P (suc (d + k))) (Q (suc (d + k))) (f (suc (d + k))) xs upper.0, upper_map P Q t f d k (expand t xs) upper.1)
 
-all_both : {A : Type 0} (P Q R : A → Type 0) → ((x : A) → P x → Q x → R x) → (xs : List A) → AllByRecursion P xs → AllByRecursion Q xs → AllByRecursion R xs
+pub all_both : {A : Type 0} (P Q R : A → Type 0) → ((x : A) → P x → Q x → R x) → (xs : List A) → AllByRecursion P xs → AllByRecursion Q xs → AllByRecursion R xs
 all_both P Q R f [] one two = tt
 all_both P Q R f (x ∷ xs) one two = (f x one.0 two.0, all_both P Q R f xs one.1 two.1)
 

@@ -1,3 +1,4 @@
+pub mod Between
 pub mod Deeper
 pub mod Depth
 pub mod Fates
@@ -8,4 +9,7 @@ pub mod Lists
 pub mod Once
 pub mod Ranges
 pub mod Reached
+pub mod RowLaws
+pub mod SlotChild
+pub mod SlotStore
 pub mod SlotWords
