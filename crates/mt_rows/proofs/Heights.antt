@@ -125,6 +125,12 @@ pub level_shared : (t t' : Table) (d k : ℕ) (xs : List Span) → Upper (Shared
 level_shared t t' zero k xs same = refl
 level_shared t t' (suc d) k xs same = ap (level t' d) (expand_shared t t' xs same.0) ∙ level_shared t t' d k (expand t xs) same.1
 
+-- every one of these levels has the same rows
+pub level_shared_above : (t t' : Table) (d e n k : ℕ) (xs : List Span) → n ≡ d + e → Upper (Shared t t') t n k xs → level t' d xs ≡ level t d xs
+level_shared_above t t' zero e n k xs sum same = refl
+level_shared_above t t' (suc d) e zero k xs sum same = absurd (omega arith)
+level_shared_above t t' (suc d) e (suc n) k xs sum same = ap (level t' d) (expand_shared t t' xs same.0) ∙ level_shared_above t t' d e n k (expand t xs) (omega arith) same.1
+
 pub times_upper_shared : (p : ℕ → Span → Bool) (t t' : Table) (d k : ℕ) (xs : List Span) → Upper (Shared t t') t d k xs → times_upper p t' d k xs ≡ times_upper p t d k xs
 times_upper_shared p t t' zero k xs same = refl
 times_upper_shared p t t' (suc d) k xs same = ap (λ (n : ℕ). tally (p (suc (d + k))) xs + n) (ap (times_upper p t' d k) (expand_shared t t' xs same.0) ∙ times_upper_shared p t t' d k (expand t xs) same.1)

@@ -1,6 +1,7 @@
 pub mod Between
 pub mod Deeper
 pub mod Depth
+pub mod ExactStore
 pub mod Fates
 pub mod Frames
 pub mod Heights
@@ -11,5 +12,6 @@ pub mod Ranges
 pub mod Reached
 pub mod RowLaws
 pub mod SlotChild
+pub mod SlotEntry
 pub mod SlotStore
 pub mod SlotWords

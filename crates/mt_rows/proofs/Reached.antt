@@ -7,16 +7,18 @@ use Rattle.mt_base.specs.declared.kinds.Kind.{Kind}
 use Rattle.mt_base.specs.declared.kinds.Kind.TheVariants as trees
 use Rattle.mt_layout.specs.declared.names.RowKind.TheVariants.{Leaf}
 use Rattle.mt_layout.specs.Rows.{row_in, named_kind}
+use Rattle.mt_layout.proofs.NameLaws.{Names-named_kind}
 use Rattle.mt_layout.specs.declared.spans.Span.{Span}
 use Rattle.mt_rows.specs.Spans.{Table, spans_in, inner_kind, root_span}
 use Rattle.mt_rows.specs.Levels.{expand, level, Levels, one_if, tally, times, is_row_of, IsBelow}
 use Rattle.mt_rows.specs.Trees.{deepest, reached_in, height_in}
-use Rattle.mt_rows.specs.Laws.{Tree, IsRow, Stands}
+use Rattle.mt_rows.specs.Laws.{Tree, IsRow, Stands, kind_at}
 use Rattle.mt_rows.specs.Sheet as sheet
 use Rattle.mt_rows.specs.Publish.{is_reached, StandsAt}
 use Rattle.mt_rows.specs.Replacement.{root_of}
 use Rattle.mt_rows.proofs.Depth.{rows_by_depth, height_by_depth}
 use Rattle.mt_rows.proofs.Once.{once}
+use Rattle.mt_rows.proofs.Heights.{level_rows}
 
 -- ---- one of a list
 
@@ -199,14 +201,14 @@ module _ (p : Span → Bool) (t : Table) where
 
 module _ (t : Tree) (h : ℕ) (stands : Stands t h) where
   -- the words and the root word of the tree
-  abbrev words : sheet.Tree
+  abbrev pub words : sheet.Tree
   words = record { table = t.table; root = t.root }
 
   abbrev root : Span
   root = root_span t.table t.root
 
   -- how often a row is reached
-  abbrev times_in : ℕ → ℕ
+  abbrev pub times_in : ℕ → ℕ
   times_in row = times (is_row_of row) t.table h (root_of t)
 
   pub times_in_once : (row : ℕ) → times_in row ≤ 1
@@ -246,6 +248,10 @@ module _ (t : Tree) (h : ℕ) (stands : Stands t h) where
     one = below_on_level t.table at.depth (root_of t) root x (inl refl) at.below;
   }
 
+  -- a row that stands on a level has the laws of its height
+  pub on_level_law : (k : ℕ) (x : Span) → OnLevel t.table h (root_of t) k x → IsRow t k x
+  on_level_law k x on = all_one_of (IsRow t k) (level t.table on.depth (root_of t)) x (level_rows (IsRow t) t.table on.depth k h (root_of t) on.height stands.rows) on.one
+
   -- a row that stands on a level is reached
   pub on_level_reached : (k : ℕ) (x : Span) → OnLevel t.table h (root_of t) k x → 1 ≤ times_in (row_in x.word)
   on_level_reached k x on = times_some (is_row_of (row_in x.word)) t.table on.depth k h (root_of t) x on.height on.one (eq-eqb (row_in x.word) (row_in x.word) refl)
@@ -253,6 +259,14 @@ module _ (t : Tree) (h : ℕ) (stands : Stands t h) where
   -- a row that is reached stands on a level
   pub reached_on_level : (row : ℕ) → 1 ≤ times_in row → (k : ℕ) × (x : Span) × OnLevel t.table h (root_of t) k x × (row_in x.word ≡ row)
   reached_on_level row some = let place = times_place (is_row_of row) t.table h (root_of t) some in (place.0, place.1, place.2, eqb-true (row_in place.1.word) row place.3)
+
+  -- it is a row of the table
+  pub reached_number : (row : ℕ) → 1 ≤ times_in row → (16 ≤ row) × (row < 16 + t.rows)
+  reached_number row some =
+      let place = reached_on_level row some in
+      let law = on_level_law place.0 place.1 place.2 in
+      let number = (Names-named_kind place.1.word (kind_at t.kind place.0) law.name.named).0.0 in
+      subst (λ (r : ℕ). (16 ≤ r) × (r < 16 + t.rows)) place.3 (number, law.name.in_table)
 
   -- and on just one
   pub one_place : (k l : ℕ) (x y : Span) → OnLevel t.table h (root_of t) k x → OnLevel t.table h (root_of t) l y → row_in x.word ≡ row_in y.word → (k ≡ l) × (x ≡ y)

@@ -94,10 +94,6 @@ module _ (t : Tree) (h k depth slot word : ℕ) (row child : Span) (has : HasWor
 
   -- ---- the map, and the rows that are reached
 
-  fills : Fills 0 (top_of t + 1) (front ++ (child ∷ back))
-  fills = subst (Fills 0 (top_of t + 1)) before
-      (level_fills t (suc depth) k 0 (top_of t + 1) (root_of t) (levels_upper (IsRow t) t.table (suc depth) k h (root_of t) lower stands.rows) (refl, omega arith, refl))
-
   upper_times : (p : ℕ → Span → Bool) → times_upper p t'.table (suc depth) k (root_of t') ≡ times_upper p t.table (suc depth) k (root_of t)
   upper_times p =
       let more = times_upper_more p t.table depth k (root_of t) in
@@ -119,7 +115,7 @@ module _ (t : Tree) (h k depth slot word : ℕ) (row child : Span) (has : HasWor
 
   pub replaces_child : Levels (IsRow t') t'.table k (child' ∷ []) → ReplacesChild t t' h k (suc depth) child child'
   replaces_child new =
-      let apart = fills_split 0 (top_of t + 1) front child back fills in
+      let apart = fills_split 0 (top_of t + 1) front child back (store.below_fills s) in
       record {
         stands = stands_after new;
         front = front;

@@ -10,11 +10,11 @@ use Rattle.mt_rows.specs.Spans.{Table, spans_in, root_span}
 use Rattle.mt_rows.specs.Levels.{expand, level, Levels, one_if, tally, times, is_row_of, SameSpans}
 use Rattle.mt_rows.specs.Laws.{Tree, HasWords, IsRow, Stands, top_of}
 use Rattle.mt_rows.specs.Replacement.{root_of, IsSlotAt, with_slot, with_child}
-use Rattle.mt_rows.proofs.Lists.{all_map, all_front, all_back, all_join, tally-append, expand-append}
+use Rattle.mt_rows.proofs.Lists.{all_map, all_front, all_back, all_join, tally-append, expand-append, Filled, expand_fills}
 use Rattle.mt_rows.proofs.Joins.{Shared, expand_shared, times-append}
 use Rattle.mt_rows.proofs.Once.{once, tally_nowhere}
 use Rattle.mt_rows.proofs.Frames.{same_spans}
-use Rattle.mt_rows.proofs.Heights.{Upper, times_upper, levels_upper, level_rows, level_shared, upper_map, upper_both, upper_shared, upper_nowhere, times_split, all_both}
+use Rattle.mt_rows.proofs.Heights.{Upper, times_upper, levels_upper, level_rows, level_shared, upper_map, upper_both, upper_shared, upper_nowhere, times_split, level_fills, all_both}
 use Rattle.mt_rows.proofs.SlotWords.{put_span, put_span_at, get_parts}
 use Rattle.mt_rows.proofs.RowLaws.{row_keeps, others_keep, spans_put}
 
@@ -145,6 +145,13 @@ module _ (s : Store) where
   below_after =
       ap (expand after_store.table) (level_same ∙ s.at.stands) ∙ (expand-append after_store.table s.at.front (s.row ∷ s.at.back)
       ∙ ((λ i. shared s.at.front front_other i ++ (row_after i ++ shared s.at.back back_other i)) ∙ regroup (expand t.table s.at.front) (expand t.table s.at.back) child'))
+
+  -- what the rows of the level below cover
+  pub below_fills : Fills 0 (top_of t + 1) (front_below ++ (s.child ∷ back_below))
+  below_fills =
+      let fills = level_fills t s.depth s.low 0 (top_of t + 1) (root_of t) (levels_upper (IsRow t) t.table s.depth s.low s.height (root_of t) s.levels s.stands.rows) (refl, omega arith, refl) in
+      let rows = level_rows (IsRow t) t.table s.depth s.low s.height (root_of t) s.levels s.stands.rows in
+      subst (Fills 0 (top_of t + 1)) below_before (expand_fills t.table 0 (top_of t + 1) here (all_map (IsRow t s.low) (Filled t.table) (λ x row. row.pivots.fills) here rows) fills)
 
   -- the laws of the level, where the row keeps its own
   pub level_laws_after : IsRow after_store s.low s.row → AllByRecursion (IsRow after_store s.low) (level after_store.table s.depth (root_of after_store))
