@@ -1,10 +1,8 @@
 -- What stands below a slot is replaced by one store of the slot's word.
-use Rattle.std.proofs.Common.{◌≡◌, ℕ, zero, suc, ◌+◌, ◌<◌, ◌≤◌, List, [], ◌∷◌, ◌++◌, Bool, refl, sym, ap, ◌∙◌, subst, arith}
-use Rattle.std.specs.List.{AllByRecursion}
+use Rattle.std.proofs.Common.{◌≡◌, ℕ, suc, ◌+◌, ◌<◌, List, [], ◌∷◌, ◌++◌, Bool, sym, ap, ◌∙◌, subst, arith}
 use Rattle.mt_base.specs.declared.ranges.Range.{Range}
 use Rattle.mt_layout.specs.declared.spans.Span.{Span}
-use Rattle.mt_layout.specs.Spans.{Fills}
-use Rattle.mt_rows.specs.Spans.{Table, root_span}
+use Rattle.mt_rows.specs.Spans.{Table}
 use Rattle.mt_rows.specs.Levels.{level, map_of, Levels, tally, times}
 use Rattle.mt_rows.specs.Laws.{Tree, HasWords, IsRow, Stands, top_of}
 use Rattle.mt_rows.specs.Replacement.{root_of, IsSlotAt, with_slot, with_child, ReplacesChild}
@@ -12,7 +10,7 @@ use Rattle.mt_rows.proofs.Lists.{all_map, levels_map}
 use Rattle.mt_rows.proofs.Joins.{Shared, map_of-append, times-append, levels_join, levels_front, levels_back, map_of_shared, times_shared, levels_shared}
 use Rattle.mt_rows.proofs.Once.{times_nowhere}
 use Rattle.mt_rows.proofs.Between.{Between, fills_split, map_between}
-use Rattle.mt_rows.proofs.Heights.{times_upper, level_next, map_of_split, times_split, levels_upper, levels_lower, levels_both, levels_pair, upper_more, times_upper_more, level_fills, times_upper_shared}
+use Rattle.mt_rows.proofs.Heights.{times_upper, level_next, map_of_split, times_split, levels_lower, levels_both, levels_pair, upper_more, times_upper_more, times_upper_shared}
 use Rattle.mt_rows.proofs.RowLaws.{row_put}
 use Rattle.mt_rows.proofs.SlotStore as store
 
