@@ -11,6 +11,7 @@ pub mod Once
 pub mod Ranges
 pub mod Reached
 pub mod RowLaws
+pub mod Settled
 pub mod SlotChild
 pub mod SlotEntry
 pub mod SlotStore
