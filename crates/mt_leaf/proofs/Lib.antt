@@ -1,3 +1,6 @@
+pub mod EditSteps
 pub mod Joined
+pub mod Pushes
+pub mod Slots
 pub mod Spans
 pub mod Stored

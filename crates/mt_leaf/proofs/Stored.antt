@@ -41,7 +41,7 @@ ranges_edited xs first last entry = ranges_joined (stored xs first last entry) �
 -- ---- what they fill
 
 -- nothing begins below `lo`
-none_below : (lo hi first : ℕ) (xs : List Span) → Fills lo hi xs → first ≤ lo → spans_below xs first ≡ []
+pub none_below : (lo hi first : ℕ) (xs : List Span) → Fills lo hi xs → first ≤ lo → spans_below xs first ≡ []
 none_below lo hi first [] fills h = refl
 none_below lo hi first (x ∷ xs) fills h =
     let begins = fills.0 in let low = fills.1 in
@@ -73,7 +73,7 @@ fills_below lo hi first (x ∷ xs) fills h k = elim (cases_Bool (nat_lt x.first 
     ]
 
 -- all that begins above `last` stays
-all_above : (lo hi last : ℕ) (xs : List Span) → Fills lo hi xs → last < lo → spans_above xs last ≡ xs
+pub all_above : (lo hi last : ℕ) (xs : List Span) → Fills lo hi xs → last < lo → spans_above xs last ≡ xs
 all_above lo hi last [] fills h = refl
 all_above lo hi last (x ∷ xs) fills h =
     let begins = fills.0 in let reaches = fills.1 in

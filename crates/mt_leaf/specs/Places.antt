@@ -4,8 +4,8 @@ use Rattle.std.specs.List.{prefix_len}
 use Rattle.mt_layout.specs.declared.items.Item.{Item}
 
 -- the slot that holds this index, of items that reach it
-abbrev pub slot_holding : List Item → ℕ → ℕ
-slot_holding items index = prefix_len (λ x. nat_lt x.last index) items
+abbrev pub slot_reaching : List Item → ℕ → ℕ
+slot_reaching items index = prefix_len (λ x. nat_lt x.last index) items
 
 -- the first slot that ends above this index
 abbrev pub slot_above : List Item → ℕ → ℕ
@@ -30,4 +30,4 @@ cut_item begin first (x ∷ items) = if nat_lt begin first then record x { last 
 
 -- what stands below `first` of items, the first of which begins at `min`
 abbrev pub items_below : ℕ → List Item → ℕ → List Item
-items_below min items first = take (slot_holding items first) items ++ cut_item (first_of min items (slot_holding items first)) first (drop (slot_holding items first) items)
+items_below min items first = take (slot_reaching items first) items ++ cut_item (first_of min items (slot_reaching items first)) first (drop (slot_reaching items first) items)

@@ -1,14 +1,16 @@
-ghost use Rattle.std.specs.Prelude.{◌≡◌, ◌≤◌, ◌<◌, ◌+◌, fold, length};
+ghost use Rattle.std.specs.Prelude.{◌≡◌, ◌↔◌, ◌≤◌, ◌<◌, ◌+◌, ◌-◌, fold, length, IsTrue};
 ghost use Rattle.mt_layout.specs.Columns.{RiseFrom, end_of};
 ghost use Rattle.mt_layout.specs.Spans.{spans_from};
+ghost use Rattle.mt_leaf.specs.Cuts.{word_of};
 ghost use Rattle.mt_leaf.specs.Edits.{edited, exact_slot_of};
-ghost use Rattle.mt_leaf.specs.Places.{slot_holding, slot_above, with_joined, items_below};
+ghost use Rattle.mt_leaf.specs.Places.{slot_reaching, slot_above, with_joined, items_below};
 
-use crate::places::{first_of, slot_above, slot_holding};
+use crate::places::{slot_above, slot_and_first};
 use mt_layout::{Item, Run};
 
 /// The items after `entry` was stored over `first` to `last`, with holes that follow each other joined. The first item
 /// begins at `min`. An entry of 0 makes a hole.
+#[tactic(auto, using(crate::proofs::EditSteps::steps, crate::proofs::Slots::slots))]
 pub fn edit(items: &Run, min: u64, first: u64, last: u64, entry: u64) -> Run
     requires some { 1 ≤ length items.now.items }
     requires room { length items.now.items ≤ 70 }
@@ -39,9 +41,9 @@ pub fn exact_slot(items: &Run, min: u64, first: u64, last: u64) -> Option<u32>
     ensures { result ≡ exact_slot_of (spans_from min items.now.items) first last }
 {
     let items = items.as_slice();
-    let slot = slot_holding(items, first);
+    let (slot, begin) = slot_and_first(items, min, first);
     let item = items.get(slot)?;
-    if first_of(items, min, slot) == first && item.last == last && item.word != 0 {
+    if begin == first && item.last == last && item.word != 0 {
         Some(slot as u32)
     } else {
         None
@@ -49,16 +51,18 @@ pub fn exact_slot(items: &Run, min: u64, first: u64, last: u64) -> Option<u32>
 }
 
 /// Pushes what stands below `first` of these items, the first of which begins at `min`.
+#[tactic(auto, using(crate::proofs::EditSteps::steps))]
 fn push_below(edited: &mut Run, items: &[Item], min: u64, first: u64)
+    requires some { 1 ≤ length items.now }
     requires rise { RiseFrom min items.now }
     requires reach { first ≤ end_of 0 items.now }
-    requires room { length edited.old.items + slot_holding items.now first < 72 }
+    requires room { length edited.old.items + slot_reaching items.now first < 72 }
     ensures items { edited.new.items ≡ fold with_joined edited.old.items (items_below min items.now first) }
-    ensures count { length edited.new.items ≤ length edited.old.items + slot_holding items.now first + 1 }
+    ensures count { length edited.new.items ≤ length edited.old.items + slot_reaching items.now first + 1 }
 {
-    let slot = slot_holding(items, first);
+    let (slot, begin) = slot_and_first(items, min, first);
     push_joined_all(edited, &items[..slot]);
-    if first_of(items, min, slot) < first {
+    if begin < first {
         push_joined(
             edited,
             Item {
@@ -86,8 +90,16 @@ fn push_joined(edited: &mut Run, item: Item)
     ensures items { edited.new.items ≡ with_joined edited.old.items item }
     ensures count { length edited.new.items ≤ length edited.old.items + 1 }
 {
-    match edited.last_mut() {
-        Some(hole) if hole.word == 0 && item.word == 0 => hole.last = item.last,
-        _ => edited.push(item),
+    if item.word == 0 && ends_with_hole(edited) {
+        let hole = edited.len() - 1;
+        edited[hole].last = item.last;
+    } else {
+        edited.push(item);
     }
+}
+
+fn ends_with_hole(items: &Run) -> bool
+    ensures { IsTrue result ↔ (0 < length items.now.items) × (word_of items.now.items (length items.now.items - 1) ≡ 0) }
+{
+    items.last().is_some_and(|item| item.word == 0)
 }
