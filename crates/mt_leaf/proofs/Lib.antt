@@ -1,4 +1,5 @@
 pub mod EditSteps
+pub mod ExactSlot
 pub mod Joined
 pub mod Pushes
 pub mod Slots
