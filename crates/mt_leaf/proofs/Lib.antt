@@ -1,3 +1,4 @@
+pub mod CutLaws
 pub mod EditSteps
 pub mod ExactSlot
 pub mod Joined

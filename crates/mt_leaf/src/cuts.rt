@@ -1,6 +1,6 @@
-ghost use Rattle.std.specs.Prelude.{◌≡◌, ◌≢◌, ◌≤◌, ◌<◌, ◌+◌, ◌-◌, ◌*◌, true, length};
+ghost use Rattle.std.specs.Prelude.{◌≡◌, ◌≤◌, ◌<◌, ◌+◌, ◌*◌, true, length};
 ghost use Rattle.mt_layout.specs.Spans.{spans_from, Apart};
-ghost use Rattle.mt_leaf.specs.Cuts.{IsCut, word_of};
+ghost use Rattle.mt_leaf.specs.Cuts.{IsCut, IsEnd};
 
 use arrayvec::ArrayVec;
 use mt_layout::Run;
@@ -34,11 +34,7 @@ fn full_end(items: &Run, end: u32, leaf: bool) -> u32
     requires some { 2 ≤ end }
     requires inside { end < length items.now.items }
     requires apart { leaf ≡ true → Apart (spans_from 0 items.now.items) }
-    ensures most { result ≤ end }
-    ensures least { end ≤ result + 1 }
-    ensures full { leaf ≡ true → word_of items.now.items (result - 1) ≢ 0 }
-    ensures kept { word_of items.now.items (end - 1) ≢ 0 → result ≡ end }
-    ensures inner { leaf ≢ true → result ≡ end }
+    ensures { IsEnd leaf items.now.items end result }
 {
     if leaf && items[end as usize - 1].word == 0 {
         end - 1
