@@ -3,7 +3,7 @@ use Rattle.std.proofs.Common.{◌≡◌, ◌≢◌, ℕ, zero, suc, ◌+◌, ◌
 use Rattle.std.proofs.lemmas.Bool.{cases_Bool}
 use Rattle.mt_layout.specs.declared.items.Item.{Item}
 use Rattle.mt_layout.specs.Spans.{spans_from, Apart}
-use Rattle.mt_leaf.specs.Cuts.{word_of, IsEnd, IsPiece, ArePieces, AreFewest, IsCut}
+use Rattle.mt_leaf.specs.Cuts.{word_of, IsEnd, IsPiece, ArePieces, IsCut}
 
 word_at : (items : List Item) (i : ℕ) (d : Item) → i < length items → word_of items i ≡ (get_or items i d).word
 word_at [] i d within = absurd (omega arith)

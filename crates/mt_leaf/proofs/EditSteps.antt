@@ -1,11 +1,9 @@
 -- The items that an edit pushes are those of the store, so what it makes is the store with holes joined.
-use Rattle.std.proofs.Common.{◌≡◌, ℕ, zero, suc, ◌+◌, ◌-◌, ◌<◌, ◌≤◌, nat_lt, nat_le, min, max, List, [], ◌∷◌, ◌++◌, length, get_or, take, drop, fold, map, refl, sym, ap, ◌∙◌, subst, inl, inr, arith, append-nil}
-use Rattle.std.specs.List.{prefix_len}
-use Rattle.std.proofs.lemmas.Bool.{cases_Bool, ltb-true, ltb-false, lt-ltb, le-ltb, leb-true, leb-false, le-leb, lt-leb}
+use Rattle.std.proofs.Common.{◌≡◌, ℕ, suc, ◌+◌, ◌-◌, ◌<◌, ◌≤◌, nat_lt, nat_le, min, List, [], ◌∷◌, ◌++◌, length, get_or, take, drop, fold, map, refl, sym, ap, ◌∙◌, inl, inr, arith, append-nil}
+use Rattle.std.proofs.lemmas.Bool.{cases_Bool, ltb-true, ltb-false, lt-ltb, le-ltb, leb-true, leb-false, le-leb}
 use Rattle.std.proofs.lemmas.Grind.{fold-append}
 use Rattle.std.proofs.lemmas.List.{drop_more, map-append}
 use Rattle.mt_layout.specs.declared.items.Item.{Item}
-use Rattle.mt_layout.specs.declared.spans.Span.{Span}
 use Rattle.mt_layout.specs.Columns.{RiseFrom, end_of}
 use Rattle.mt_layout.specs.Spans.{spans_from, Fills}
 use Rattle.mt_leaf.specs.Edits.{spans_below, spans_above, span_stored, stored, edited}
@@ -51,6 +49,7 @@ items_above-spans lo last (x ∷ items) rise = elim (cases_Bool (nat_le x.last l
       let some = lt-ltb last x.last above in
       rw (n, some, all) (ap (λ (rest : List Item). x ∷ rest) (sym (items_of-spans_from (x.last + 1) items)))
 ]
+
 -- ---- the steps
 
 -- items are pushed up to the slot that reaches `first`, and then what that one has below it

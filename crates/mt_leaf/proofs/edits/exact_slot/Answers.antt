@@ -1,5 +1,4 @@
-use Rattle.std.proofs.Common.{◌≡◌, sym, ◌∙◌}
-use Rattle.std.proofs.lemmas.Bool.{ltb-true}
+use Rattle.std.proofs.Common.{sym, ◌∙◌}
 use Rattle.mt_layout.specs.Columns.{RiseFrom}
 use Rattle.mt_leaf.proofs.ExactSlot.{none_reaches, exact, not_exact}
 use Rattle.mt_leaf.proofs.edits.exact_slot.Goals as goal

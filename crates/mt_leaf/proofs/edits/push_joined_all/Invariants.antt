@@ -1,4 +1,4 @@
-use Rattle.std.proofs.Common.{◌≡◌, ◌≤◌, ◌<◌, ◌+◌, fold, length, take}
+use Rattle.std.proofs.Common.{◌≡◌, ◌≤◌, ◌+◌, fold, length, take}
 use Rattle.mt_leaf.specs.Places.{with_joined}
 use Rattle.mt_leaf.proofs.edits.push_joined_all.Given as goal
 
