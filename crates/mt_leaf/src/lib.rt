@@ -4,6 +4,9 @@
 mod cuts;
 mod edits;
 pub mod laws;
+mod places;
+#[cfg(test)]
+mod tests;
 
 pub use cuts::cut;
 pub use edits::{edit, exact_slot};
