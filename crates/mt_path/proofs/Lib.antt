@@ -1,3 +1,5 @@
 pub mod Places
 pub mod Steps
 pub mod TreePaths
+pub mod Loads
+pub mod Searches

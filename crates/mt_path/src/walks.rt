@@ -1,22 +1,24 @@
-ghost use Rattle.std.specs.Prelude.{◌≡◌, ◌+◌, ◌<◌, ◌≤◌, ◌↔◌, []};
+ghost use Rattle.std.specs.Prelude.{◌≡◌, ◌≢◌, ◌+◌, ◌<◌, ◌≤◌, ◌↔◌, ℕ, suc, Some, IfSome, [], ◌++◌, length};
 ghost use Rattle.mt_base.specs.declared.kinds.Kind.{Kind};
 ghost use Rattle.mt_base.specs.Width.{greatest};
+ghost use Rattle.mt_layout.specs.declared.names.RowKind.{RowKind};
+ghost use Rattle.mt_layout.specs.Rows.{row_in, named_kind};
+ghost use Rattle.mt_rows.specs.Spans.{slots_of};
 ghost use Rattle.mt_rows.specs.Trees.{map_in};
-ghost use Rattle.mt_layout.specs.Columns.{slot_column};
-ghost use Rattle.mt_rows.specs.Spans.{slots_of, row_spans};
-ghost use Rattle.mt_rows.specs.Sheet.{IsPlace, word_at, ReadsUpTo};
+ghost use Rattle.mt_rows.specs.Sheet.{Sheet, IsPlace, ReadsUpTo};
 ghost use Rattle.mt_rows.specs.Publish.{IsTreeOf};
-ghost use Rattle.mt_path.specs.Paths.{slot_for, span_at, path_in, loads_on};
+ghost use Rattle.mt_path.specs.Paths.{below, path_of, path_in, loads_on};
+ghost use Rattle.mt_path.specs.Walks.{row_for, IsFound, gapless, rest_of};
 
 use crate::paths::{Path, PathStep};
 use mt_base::{Width, top};
-use mt_layout::{RowKind, kind_of, row_of};
+use mt_layout::{RowKind, Span, kind_of, row_of};
 use mt_rows::Rows;
 
 /// No row stands deeper than this many levels.
 const DEEPEST: u32 = 9;
 
-/// A row that is searched: its number and its kind, and the first and the last index that it covers.
+/// A row that a walk enters: its number and its kind, and the first and the last index that it covers.
 #[derive(Clone, Copy)]
 struct Row {
     number: u32,
@@ -33,6 +35,20 @@ struct Found {
     last: u64,
 }
 
+/// The row that a span names, or none where its word is no name.
+fn row_for(span: Span) -> Option<Row>
+    ensures { result ≡ row_for span }
+{
+    let number = row_of(span.word)?;
+    let kind = kind_of(span.word)?;
+    Some(Row {
+        number,
+        kind,
+        min: span.first,
+        max: span.last,
+    })
+}
+
 /// How many slots a row of this kind has.
 fn slots(width: Width, kind: RowKind) -> u32
     ensures { result ≡ slots_of width kind }
@@ -43,15 +59,11 @@ fn slots(width: Width, kind: RowKind) -> u32
     }
 }
 
-/// The slot of a row that holds an index. No pivot behind it is read.
+/// The slot of a row that holds an index: the first whose pivot is not below it. No pivot behind that is loaded.
 fn find_slot<R: Rows>(rows: &mut R, row: Row, index: u64) -> Found
     requires row { IsPlace (R.sheet rows.old) row.number 0 }
     requires index { index ≤ row.max }
-    ensures slot { result.slot ≡ slot_for (row_spans (R.sheet rows.old).tree.table row.number row.kind row.min row.max) index }
-    ensures first { result.first ≡ (span_at (row_spans (R.sheet rows.old).tree.table row.number row.kind row.min row.max) result.slot).first }
-    ensures last { result.last ≡ (span_at (row_spans (R.sheet rows.old).tree.table row.number row.kind row.min row.max) result.slot).last }
-    ensures word { (span_at (row_spans (R.sheet rows.old).tree.table row.number row.kind row.min row.max) result.slot).word ≡ word_at (R.sheet rows.old) row.number (slot_column (slots_of (R.sheet rows.old).tree.table.width row.kind) result.slot) }
-    ensures used { result.slot < slots_of (R.sheet rows.old).tree.table.width row.kind }
+    ensures found { IsFound (R.sheet rows.old).tree.table row index result }
     ensures reads { ReadsUpTo (result.slot + 1) (R.sheet rows.old) (R.sheet rows.new) }
 {
     let last_slot = slots(rows.width(), row.kind) - 1;
@@ -74,6 +86,38 @@ fn find_slot<R: Rows>(rows: &mut R, row: Row, index: u64) -> Found
     }
 }
 
+/// Enters the row that a span names: appends its step, and gives the span below it that holds the index, but for its
+/// gap. There is none below a leaf, nor where the span's word is no name.
+fn enter<R: Rows>(rows: &mut R, span: Span, index: u64, path: &mut Path) -> Option<Span>
+    requires row { (kind : RowKind) → named_kind span.word ≡ Some kind → IsPlace (R.sheet rows.old) (row_in span.word) 0 }
+    requires index { index ≤ span.last }
+    requires room { length path.old.items < 9 }
+    ensures path { (depth : ℕ) → path.old.items ++ path_of (R.sheet rows.old).tree.table (suc depth) span index ≡ path.new.items ++ rest_of (R.sheet rows.old).tree.table depth result index }
+    ensures length { length path.new.items ≤ length path.old.items + 1 }
+    ensures below { IfSome result (λ child. child ≡ gapless (below (R.sheet rows.old).tree.table span index)) }
+    ensures inner { IfSome result (λ _. named_kind span.word ≢ Some RowKind.Leaf) }
+    ensures reads { (s : Sheet) → ReadsUpTo (loads_on path.old.items) s (R.sheet rows.old) → ReadsUpTo (loads_on path.new.items) s (R.sheet rows.new) }
+{
+    let row = row_for(span)?;
+    let found = find_slot(rows, row, index);
+    path.push(PathStep {
+        row: row.number,
+        slot: found.slot,
+        min: row.min,
+        max: row.max,
+    });
+    if row.kind == RowKind::Leaf {
+        return None;
+    }
+    let slot_column = slots(rows.width(), row.kind) + found.slot;
+    Some(Span {
+        first: found.first,
+        last: found.last,
+        word: rows.load(row.number, slot_column),
+        gap: 0,
+    })
+}
+
 /// The way to an index, and the slot of the leaf that holds it. It is empty where the tree is.
 pub fn walk<R: Rows>(rows: &mut R, index: u64) -> Path
     requires tree { (kind : Kind) × IsTreeOf (R.sheet rows.old) kind }
@@ -82,5 +126,18 @@ pub fn walk<R: Rows>(rows: &mut R, index: u64) -> Path
     ensures empty { (result.items ≡ []) ↔ (map_in (R.sheet rows.old).tree.table (R.sheet rows.old).tree.root ≡ []) }
     ensures reads { ReadsUpTo (loads_on result.items) (R.sheet rows.old) (R.sheet rows.new) }
 {
-    Path::new()
+    let mut path = Path::new();
+    let mut next = Some(Span {
+        first: 0,
+        last: top(rows.width()),
+        word: rows.root(),
+        gap: 0,
+    });
+    for _ in 0..DEEPEST {
+        let Some(span) = next else {
+            break;
+        };
+        next = enter(rows, span, index, &mut path);
+    }
+    path
 }
