@@ -3,3 +3,4 @@ pub mod Steps
 pub mod TreePaths
 pub mod Loads
 pub mod Searches
+pub mod Entering
