@@ -4,3 +4,5 @@ pub mod TreePaths
 pub mod Loads
 pub mod Searches
 pub mod Entering
+pub mod Walking
+pub mod Empty

@@ -66,7 +66,7 @@ reads_more n m s s' s'' first second = record {
 pub reads_up : (n m : ℕ) (s s' : Sheet) → n ≤ m → ReadsUpTo n s s' → ReadsUpTo m s s'
 reads_up n m s s' more reads = record { rest = reads.rest; reads = rose_up n m s.reads s'.reads more reads.reads }
 
-one_read : (s s' : Sheet) → s' ≡ loaded s → ReadsUpTo 1 s s'
+pub one_read : (s s' : Sheet) → s' ≡ loaded s → ReadsUpTo 1 s s'
 one_read s s' is = record {
   rest = is ∙ ap (λ (r : Option ℕ). record s { reads = r }) (sym (ap (λ (r : Sheet). r.reads) is));
   reads = subst (λ (r : Option ℕ). RoseUpTo 1 s.reads r) (sym (ap (λ (r : Sheet). r.reads) is)) (rose_one s.reads);

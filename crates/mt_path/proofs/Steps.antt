@@ -48,8 +48,8 @@ module _ (t : Tree) where
     pub from : x.first ≤ index
     pub to : index ≤ x.last
 
-  pub is_row : (h : ℕ) (x : Span) (index : ℕ) → Leads h x index → IsRow t h x
-  is_row h x index leads = (levels_here (IsRow t) t.table h (x ∷ []) leads.rows).0
+  pub row_here : (h : ℕ) (x : Span) (index : ℕ) → Leads h x index → IsRow t h x
+  row_here h x index leads = (levels_here (IsRow t) t.table h (x ∷ []) leads.rows).0
 
   rows_below : (h : ℕ) (x : Span) → Levels (IsRow t) t.table (suc h) (x ∷ []) → Levels (IsRow t) t.table h (spans_in t.table x)
   rows_below h x rows = subst (Levels (IsRow t) t.table h) (append-nil (spans_in t.table x)) rows.1
@@ -57,7 +57,7 @@ module _ (t : Tree) where
   pub child_at : (h : ℕ) (x : Span) (index : ℕ) → Leads h x index → At x.first (x.last + 1) (spans_in t.table x) index (below t.table x index)
   child_at h x index leads =
       let to = leads.to in
-      at_slot x.first (x.last + 1) (spans_in t.table x) index (is_row h x index leads).pivots.fills leads.from (omega arith)
+      at_slot x.first (x.last + 1) (spans_in t.table x) index (row_here h x index leads).pivots.fills leads.from (omega arith)
 
   pub child_leads : (h : ℕ) (x : Span) (index : ℕ) → Leads (suc h) x index → Leads h (below t.table x index) index
   child_leads h x index leads =
@@ -71,10 +71,10 @@ module _ (t : Tree) where
       }
 
   leaf_path : (depth : ℕ) (x : Span) (index : ℕ) → Leads zero x index → path_of t.table (suc depth) x index ≡ step_in t.table x index ∷ []
-  leaf_path depth x index leads = path_of_leaf t.table depth x index (is_row zero x index leads).name.named
+  leaf_path depth x index leads = path_of_leaf t.table depth x index (row_here zero x index leads).name.named
 
   inner_path : (depth h : ℕ) (x : Span) (index j : ℕ) → Leads (suc h) x index → path_of t.table (suc depth) x j ≡ step_in t.table x j ∷ path_of t.table depth (below t.table x j) j
-  inner_path depth h x index j leads = path_of_inner t.table depth x j (inner_kind t.kind) (is_row (suc h) x index leads).name.named (is_inner t.kind)
+  inner_path depth h x index j leads = path_of_inner t.table depth x j (inner_kind t.kind) (row_here (suc h) x index leads).name.named (is_inner t.kind)
 
   pub path_length : (depth h : ℕ) (x : Span) (index : ℕ) → h < depth → Leads h x index → length (path_of t.table depth x index) ≡ h + 1
   path_length zero h x index deep leads = absurd (omega arith)
@@ -143,7 +143,7 @@ module _ (t : Tree) where
   row_below zero h x index low leads = refl
   row_below (suc d) zero x index low leads = absurd (omega arith)
   row_below (suc d) (suc h) x index low leads = (
-    (λ leaf. is_inner t.kind (let same : Some (inner_kind t.kind) ≡ Some Leaf = sym (is_row (suc h) x index leads).name.named ∙ leaf in cc)),
+    (λ leaf. is_inner t.kind (let same : Some (inner_kind t.kind) ≡ Some Leaf = sym (row_here (suc h) x index leads).name.named ∙ leaf in cc)),
     (
       slot_for (spans_in t.table x) index,
       below t.table x index,
@@ -157,7 +157,7 @@ module _ (t : Tree) where
   slots_agree : (h : ℕ) (x : Span) (i j : ℕ) → Leads h x i → (below t.table x i).first ≤ j → j ≤ (below t.table x i).last → slot_for (spans_in t.table x) j ≡ slot_for (spans_in t.table x) i
   slots_agree h x i j leads from to =
       let at = child_at h x i leads in
-      let fills = subst (Fills x.first (x.last + 1)) at.parts (is_row h x i leads).pivots.fills in
+      let fills = subst (Fills x.first (x.last + 1)) at.parts (row_here h x i leads).pivots.fills in
       ap (λ (l : List Span). slot_for l j) at.parts ∙ (slot_is x.first (x.last + 1) at.front (below t.table x i) at.back j fills from to ∙ at.slot)
 
   within : (d h : ℕ) (x : Span) (i j : ℕ) → d ≤ h → Leads h x i → (row_on t.table d x i).first ≤ j → j ≤ (row_on t.table d x i).last → (x.first ≤ j) × (j ≤ x.last)

@@ -9,7 +9,7 @@ use Rattle.mt_rows.specs.Laws.{Tree, IsRow, Stands, top_of}
 use Rattle.mt_path.specs.declared.paths.PathStep.{PathStep}
 use Rattle.mt_path.specs.Paths.{slot_for, span_at, step_in, below, path_in, step_at, row_on, At}
 use Rattle.mt_path.proofs.Places.{at_slot, at_once, first_behind, last_before, fills_split}
-use Rattle.mt_path.proofs.Steps.{Leads, is_row, child_at, path_length, path_step, row_leads, level_fills, row_at, row_next, row_below, rows_agree, steps_agree}
+use Rattle.mt_path.proofs.Steps.{Leads, row_here, child_at, path_length, path_step, row_leads, level_fills, row_at, row_next, row_below, rows_agree, steps_agree}
 
 abbrev pub root_of : Tree → Span
 root_of t = root_span t.table t.root
@@ -46,7 +46,7 @@ module _ (t : Tree) (h : ℕ) (stands : Stands t h) where
   leads index d k within high = row_leads t d k h (root_of t) index high (root_leads index within)
 
   pub lawful : (index d k : ℕ) → index ≤ top_of t → h ≡ d + k → IsRow t k (row_of t d index)
-  lawful index d k within high = is_row t k (row_of t d index) index (leads index d k within high)
+  lawful index d k within high = row_here t k (row_of t d index) index (leads index d k within high)
 
   pub reached : (index d : ℕ) → index ≤ top_of t → d ≤ h → IsBelow t.table d (root_of t) (row_of t d index)
   reached index d within low = row_below t d h (root_of t) index low (root_leads index within)

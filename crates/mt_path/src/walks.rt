@@ -1,4 +1,4 @@
-ghost use Rattle.std.specs.Prelude.{◌≡◌, ◌≢◌, ◌+◌, ◌<◌, ◌≤◌, ◌↔◌, ℕ, suc, Some, IfSome, [], ◌++◌, length};
+ghost use Rattle.std.specs.Prelude.{◌≡◌, ◌≢◌, ◌+◌, ◌<◌, ◌≤◌, ◌↔◌, ℕ, suc, Some, IsSome, IfSome, [], ◌++◌, length};
 ghost use Rattle.mt_base.specs.declared.kinds.Kind.{Kind};
 ghost use Rattle.mt_base.specs.Width.{greatest};
 ghost use Rattle.mt_layout.specs.declared.names.RowKind.{RowKind};
@@ -95,6 +95,7 @@ fn enter<R: Rows>(rows: &mut R, span: Span, index: u64, path: &mut Path) -> Opti
     ensures path { (depth : ℕ) → path.old.items ++ path_of (R.sheet rows.old).tree.table (suc depth) span index ≡ path.new.items ++ rest_of (R.sheet rows.old).tree.table depth result index }
     ensures length { length path.new.items ≤ length path.old.items + 1 }
     ensures below { IfSome result (λ child. child ≡ gapless (below (R.sheet rows.old).tree.table span index)) }
+    ensures named { IfSome result (λ _. IsSome (named_kind span.word)) }
     ensures inner { IfSome result (λ _. named_kind span.word ≢ Some RowKind.Leaf) }
     ensures reads { (s : Sheet) → ReadsUpTo (loads_on path.old.items) s (R.sheet rows.old) → ReadsUpTo (loads_on path.new.items) s (R.sheet rows.new) }
 {
