@@ -6,3 +6,4 @@ pub mod Searches
 pub mod Entering
 pub mod Walking
 pub mod Empty
+pub mod Bounds
