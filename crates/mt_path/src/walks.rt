@@ -91,7 +91,7 @@ fn find_slot<R: Rows>(rows: &mut R, row: Row, index: u64) -> Found
 fn enter<R: Rows>(rows: &mut R, span: Span, index: u64, path: &mut Path) -> Option<Span>
     requires row { (kind : RowKind) → named_kind span.word ≡ Some kind → IsPlace (R.sheet rows.old) (row_in span.word) 0 }
     requires index { index ≤ span.last }
-    requires room { length path.old.items < 9 }
+    requires room { length path.old.items < DEEPEST }
     ensures path { (depth : ℕ) → path.old.items ++ path_of (R.sheet rows.old).tree.table (suc depth) span index ≡ path.new.items ++ rest_of (R.sheet rows.old).tree.table depth result index }
     ensures length { length path.new.items ≤ length path.old.items + 1 }
     ensures below { IfSome result (λ child. child ≡ gapless (below (R.sheet rows.old).tree.table span index)) }
@@ -110,11 +110,11 @@ fn enter<R: Rows>(rows: &mut R, span: Span, index: u64, path: &mut Path) -> Opti
     if row.kind == RowKind::Leaf {
         return None;
     }
-    let slot_column = slots(rows.width(), row.kind) + found.slot;
+    let column = slots(rows.width(), row.kind) + found.slot;
     Some(Span {
         first: found.first,
         last: found.last,
-        word: rows.load(row.number, slot_column),
+        word: rows.load(row.number, column),
         gap: 0,
     })
 }
@@ -128,6 +128,7 @@ pub fn walk<R: Rows>(rows: &mut R, index: u64) -> Path
     ensures reads { ReadsUpTo (loads_on result.items) (R.sheet rows.old) (R.sheet rows.new) }
 {
     let mut path = Path::new();
+    // A walk reads no gaps.
     let mut next = Some(Span {
         first: 0,
         last: top(rows.width()),
