@@ -1,8 +1,9 @@
 -- The way down from the root of a tree to the leaf that covers an index, and the slot there.
 -- Source: the kernel's lib/maple_tree.c, mas_walk, mas_next_node and mas_prev_node.
-use Rattle.std.specs.Prelude.{ℕ, zero, suc, ◌+◌, List, [], ◌∷◌, length, take_while, nat_lt, slice_index_or, sum, map}
+use Rattle.std.specs.Prelude.{◌≡◌, ℕ, zero, suc, ◌+◌, ◌≤◌, List, [], ◌∷◌, ◌++◌, length, take_while, nat_lt, slice_index_or, sum, map}
 use Rattle.mt_layout.specs.declared.spans.Span.{Span}
 use Rattle.mt_layout.specs.Rows.{row_in, named_kind}
+use Rattle.mt_layout.specs.Spans.{Fills}
 use Rattle.mt_rows.specs.Spans.{Table, spans_in, root_span}
 use Rattle.mt_rows.specs.Trees.{by_kind, deepest}
 use Rattle.mt_path.specs.declared.paths.PathStep.{PathStep}
@@ -45,3 +46,21 @@ step_at path level = slice_index_or path level no_step
 -- how many words a walk loads: the root word, and in each row its pivots up to the index and one slot
 abbrev pub loads_on : List PathStep → ℕ
 loads_on path = 1 + sum (map (λ s. s.slot + 2) path)
+
+-- ---- where the rows of a path stand
+
+-- the row that a path enters so many levels below a row
+unfoldable pub row_on : Table → ℕ → Span → ℕ → Span
+row_on t zero x index = x
+row_on t (suc d) x index = row_on t d (below t x index) index
+
+-- Of spans that fill the indexes from `lo` up to, but without, `hi`, this one holds the index.
+pub record At (lo hi : ℕ) (xs : List Span) (index : ℕ) (x : Span) : Type 0 where
+  pub front : List Span
+  pub back : List Span
+  pub parts : xs ≡ front ++ (x ∷ back)
+  pub slot : length front ≡ slot_for xs index
+  pub before : Fills lo x.first front
+  pub after : Fills (x.last + 1) hi back
+  pub from : x.first ≤ index
+  pub to : index ≤ x.last

@@ -20,7 +20,11 @@ pub fn right_at<R: Rows>(rows: &mut R, path: &Path, level: u32) -> Option<Path>
     ensures some { IfSome result (λ right. right.items ≡ path_in (R.sheet rows.old).tree.table (R.sheet rows.old).tree.root ((step_at path.now.items level).max + 1)) }
     ensures rest { OnlyReads (R.sheet rows.old) (R.sheet rows.new) }
 {
-    None
+    let last = path[level as usize].max;
+    if last == top(rows.width()) {
+        return None;
+    }
+    Some(walk(rows, last + 1))
 }
 
 /// The way to the row that stands left of the path's at this level, and from there to its last leaf; none where the
@@ -33,5 +37,9 @@ pub fn left_at<R: Rows>(rows: &mut R, path: &Path, level: u32) -> Option<Path>
     ensures some { IfSome result (λ left. left.items ≡ path_in (R.sheet rows.old).tree.table (R.sheet rows.old).tree.root ((step_at path.now.items level).min - 1)) }
     ensures rest { OnlyReads (R.sheet rows.old) (R.sheet rows.new) }
 {
-    None
+    let first = path[level as usize].min;
+    if first == 0 {
+        return None;
+    }
+    Some(walk(rows, first - 1))
 }

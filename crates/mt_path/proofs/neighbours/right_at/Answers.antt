@@ -1,0 +1,25 @@
+use Rattle.std.proofs.Common.{◌≡◌, ◌≢◌, ◌+◌, ◌≤◌, List, ap, ◌∙◌, subst, sym, arith}
+use Rattle.mt_base.specs.declared.widths.Width.{Width}
+use Rattle.mt_base.specs.Width.{greatest}
+use Rattle.mt_path.specs.declared.paths.PathStep.{PathStep}
+use Rattle.mt_path.specs.Paths.{step_at}
+use Rattle.mt_path.proofs.Bounds.{inside, greatest_fits}
+use Rattle.mt_path.proofs.neighbours.right_at.Goals as goal
+
+pub overflow_add-last : goal.overflow_add-last
+overflow_add-last g c =
+    let sheet = g.R.Rows.sheet c.args.rows.now in
+    let path = c.requires.path in
+    let ends = inside sheet c.requires.tree.0 path.0 c.args.level c.args.path.now.items c.requires.tree.1 path.1 path.2 c.requires.level in
+    let end = subst (λ (l : List PathStep). (step_at l c.args.level).max ≤ greatest sheet.tree.table.width) (sym c.deref.ensures.0) ends.max in
+    let top = c.top.ensures ∙ ap greatest c.width.ensures in
+    omega (arith, end, top, c.if-last-top.false, greatest_fits sheet.tree.table.width)
+
+pub walk-requires-clause-index : goal.walk-requires-clause-index
+walk-requires-clause-index g c =
+    let sheet = g.R.Rows.sheet c.args.rows.now in
+    let path = c.requires.path in
+    let ends = inside sheet c.requires.tree.0 path.0 c.args.level c.args.path.now.items c.requires.tree.1 path.1 path.2 c.requires.level in
+    let end = subst (λ (l : List PathStep). (step_at l c.args.level).max ≤ greatest sheet.tree.table.width) (sym c.deref.ensures.0) ends.max in
+    let top = c.top.ensures ∙ ap greatest c.width.ensures in
+    omega (arith, end, top, c.if-last-top.false)
