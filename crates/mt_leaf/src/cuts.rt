@@ -14,9 +14,6 @@ pub fn cut(items: &Run, most: u32, least: u32, leaf: bool) -> ArrayVec<u32, 3>
     requires apart { leaf ≡ true → Apart (spans_from 0 items.now.items) }
     ensures { IsCut leaf least most items.now.items result.items }
 {
-<<<<<<< HEAD
-    ArrayVec::new()
-=======
     let count = items.len() as u32;
     let mut ends = ArrayVec::new();
     if most < count {
@@ -44,5 +41,4 @@ fn full_end(items: &Run, end: u32, leaf: bool) -> u32
     } else {
         end
     }
->>>>>>> 2537750b49f6ce2300b62fabbc546104b80cbdae
 }

@@ -20,9 +20,6 @@ pub fn edit(items: &Run, min: u64, first: u64, last: u64, entry: u64) -> Run
     requires to { last ≤ end_of 0 items.now.items }
     ensures { spans_from min result.items ≡ edited (spans_from min items.now.items) first last entry }
 {
-<<<<<<< HEAD
-    Run::new()
-=======
     let items = items.as_slice();
     let mut edited = Run::new();
     push_below(&mut edited, items, min, first);
@@ -36,7 +33,6 @@ pub fn edit(items: &Run, min: u64, first: u64, last: u64, entry: u64) -> Run
     );
     push_joined_all(&mut edited, &items[slot_above(items, last)..]);
     edited
->>>>>>> 2537750b49f6ce2300b62fabbc546104b80cbdae
 }
 
 /// The slot whose entry stands at just `first` to `last`. The first item begins at `min`.
@@ -44,9 +40,6 @@ pub fn exact_slot(items: &Run, min: u64, first: u64, last: u64) -> Option<u32>
     requires { RiseFrom min items.now.items }
     ensures { result ≡ exact_slot_of (spans_from min items.now.items) first last }
 {
-<<<<<<< HEAD
-    None
-=======
     let items = items.as_slice();
     let (slot, begin) = slot_and_first(items, min, first);
     let item = items.get(slot)?;
@@ -109,5 +102,4 @@ fn ends_with_hole(items: &Run) -> bool
     ensures { IsTrue result ↔ (0 < length items.now.items) × (word_of items.now.items (length items.now.items - 1) ≡ 0) }
 {
     items.last().is_some_and(|item| item.word == 0)
->>>>>>> 2537750b49f6ce2300b62fabbc546104b80cbdae
 }

@@ -4,6 +4,8 @@
 pub mod laws;
 mod neighbours;
 mod paths;
+#[cfg(test)]
+mod tests;
 mod walks;
 
 pub use neighbours::{left_at, right_at};
