@@ -1,5 +1,6 @@
 -- What loads leave as it was, and how many they are together.
 use Rattle.std.proofs.Common.{◌≡◌, ℕ, ◌+◌, ◌<◌, ◌≤◌, Option, Some, None, refl, sym, ap, ◌∙◌, subst, arith}
+use Rattle.mt_base.specs.declared.kinds.Kind.{Kind}
 use Rattle.mt_base.specs.declared.widths.Width.{Width}
 use Rattle.mt_base.specs.declared.widths.Width.TheVariants.{Long}
 use Rattle.mt_base.specs.Width.{columns}
@@ -8,6 +9,7 @@ use Rattle.mt_layout.specs.declared.names.RowKind.TheVariants.{Leaf, Inner, Gapp
 use Rattle.mt_layout.specs.Columns.{pivot_column, slot_column}
 use Rattle.mt_rows.specs.Spans.{column, slots_of}
 use Rattle.mt_rows.specs.Sheet.{Tree, Sheet, IsPlace, word_at, loaded, one_more, RoseUpTo, ReadsUpTo}
+use Rattle.mt_rows.specs.Publish.{IsTreeOf}
 use Rattle.std.specs.Option.{option_map}
 
 pub tree_kept : (n : ℕ) (s s' : Sheet) → ReadsUpTo n s s' → s'.tree ≡ s.tree
@@ -78,3 +80,11 @@ reads_next n s s' s'' reads is = reads_more n 1 s s' s'' reads (one_read s' s'' 
 
 pub word_kept : (n : ℕ) (s s' : Sheet) (row col word : ℕ) → ReadsUpTo n s s' → word ≡ word_at s' row col → word ≡ word_at s row col
 word_kept n s s' row col word reads is = is ∙ ap (λ (t : Tree). column t.table row col) (tree_kept n s s' reads)
+
+-- ---- the tree of the words
+
+loaded_tree : (s : Sheet) (kind : Kind) (reads : Option ℕ) → IsTreeOf s kind → IsTreeOf (record s { reads = reads }) kind
+loaded_tree s kind reads tree = record { of_kind = record { told = tree.of_kind.told; width = tree.of_kind.width }; words = tree.words }
+
+pub is_tree_kept : (n : ℕ) (s s' : Sheet) (kind : Kind) → ReadsUpTo n s s' → IsTreeOf s kind → IsTreeOf s' kind
+is_tree_kept n s s' kind reads tree = subst (λ (r : Sheet). IsTreeOf r kind) (sym reads.rest) (loaded_tree s kind s'.reads tree)

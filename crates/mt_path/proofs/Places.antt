@@ -1,5 +1,5 @@
 -- Where the span that holds an index stands among spans end to end.
-use Rattle.std.proofs.Common.{◌≡◌, ℕ, zero, suc, ◌+◌, ◌<◌, ◌≤◌, List, [], ◌∷◌, ◌++◌, Bool, true, false, cond, length, nat_lt, refl, sym, ap, ◌∙◌, subst, ⊎_elim, arith, ◌-◌, append_assoc, Some, lt-ltb, le-ltb}
+use Rattle.std.proofs.Common.{◌≡◌, ℕ, suc, ◌+◌, ◌<◌, ◌≤◌, List, [], ◌∷◌, ◌++◌, Bool, true, false, cond, length, nat_lt, refl, sym, ap, ◌∙◌, subst, ⊎_elim, arith, ◌-◌, append_assoc, Some, lt-ltb, le-ltb}
 use Rattle.std.specs.List.{take_while, slice_get}
 use Rattle.std.proofs.lemmas.List.Sums.{take_while-cons}
 use Rattle.std.proofs.lemmas.Bool.{cases_lt}

@@ -1,9 +1,9 @@
 -- How a row is searched for an index: slot by slot, up to the first pivot that is not below it.
-use Rattle.std.proofs.Common.{◌≡◌, ℕ, suc, ◌+◌, ◌-◌, ◌<◌, ◌≤◌, List, [], ◌∷◌, Bool, true, false, refl, sym, ap, ◌∙◌, subst, ⊎_elim, arith, lt-ltb, le-ltb}
-use Rattle.std.specs.Prelude.{if◌then◌else◌, nat_lt, slice_index}
+use Rattle.std.proofs.Common.{◌≡◌, ℕ, suc, ◌+◌, ◌-◌, ◌<◌, ◌≤◌, List, [], ◌∷◌, true, false, refl, sym, ap, ◌∙◌, subst, ⊎_elim, arith, lt-ltb, le-ltb}
+use Rattle.std.specs.Prelude.{nat_lt, slice_index}
 use Rattle.std.proofs.lemmas.Bool.{cases_lt}
 use Rattle.mt_layout.specs.declared.items.Item.{Item}
-use Rattle.mt_layout.specs.Columns.{pivot_column, slot_column, gap_at, item_at, items_from, items_at}
+use Rattle.mt_layout.specs.Columns.{pivot_column, slot_column, item_at, items_from, items_at}
 use Rattle.mt_layout.specs.declared.spans.Span.{Span}
 use Rattle.mt_layout.specs.Spans.{spans_from}
 use Rattle.mt_layout.proofs.Reading.{IsItem, ends, goes_on}
@@ -78,15 +78,15 @@ module _ (slots gaps : ℕ) (w : List ℕ) (base max : ℕ) where
       let left : slots - i ≡ suc (slots - (i + 1)) = omega arith in
       let from = ap (λ (n : ℕ). spans_from first (items_from slots gaps w base max n i)) left in
       ⊎_elim
-          (λ (more : x.last < max). (
-            spans_behind (i + 1) (x.last + 1),
-            from ∙ ap (spans_from first) (goes_on slots gaps w base max (slots - (i + 1)) i x (omega arith) is more),
-          ))
-          (λ (last : max ≤ x.last). (
-            [],
-            from ∙ ap (spans_from first) (ends slots gaps w base max (suc (slots - (i + 1))) i x (omega arith) (omega arith) is last),
-          ))
-          (cases_lt x.last max)
+      (λ (more : x.last < max). (
+        spans_behind (i + 1) (x.last + 1),
+        from ∙ ap (spans_from first) (goes_on slots gaps w base max (slots - (i + 1)) i x (omega arith) is more),
+      ))
+      (λ (last : max ≤ x.last). (
+        [],
+        from ∙ ap (spans_from first) (ends slots gaps w base max (suc (slots - (i + 1))) i x (omega arith) (omega arith) is last),
+      ))
+      (cases_lt x.last max)
 
   ends_by : (min index i first : ℕ) (x : Item) → i < slots → IsItem slots gaps w base max i x → index ≤ x.last → Passed min index i first → Ends min index i first x.last
   ends_by min index i first x used is within passed =

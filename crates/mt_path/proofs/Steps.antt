@@ -1,6 +1,5 @@
 -- The rows on the path to an index, level by level.
 use Rattle.std.proofs.Common.{◌≡◌, ◌≢◌, ℕ, zero, suc, ◌+◌, ◌<◌, ◌≤◌, List, [], ◌∷◌, ◌++◌, Option, Some, length, refl, sym, ap, ◌∙◌, subst, arith, append-nil, append_assoc}
-use Rattle.std.specs.List.{AllByRecursion}
 use Rattle.mt_base.specs.declared.kinds.Kind.{Kind}
 use Rattle.mt_base.specs.declared.kinds.Kind.TheVariants as trees
 use Rattle.mt_layout.specs.declared.names.RowKind.{RowKind}
@@ -12,11 +11,11 @@ use Rattle.mt_rows.specs.Spans.{Table, spans_in, inner_kind}
 use Rattle.mt_rows.specs.Levels.{expand, level, Levels, IsBelow}
 use Rattle.mt_rows.specs.Trees.{by_kind}
 use Rattle.mt_rows.specs.Laws.{Tree, IsRow}
-use Rattle.mt_rows.proofs.Lists.{all_map, Filled, expand_fills, levels_here, fills-append, fills_le}
+use Rattle.mt_rows.proofs.Lists.{all_map, Filled, expand_fills, levels_here}
 use Rattle.mt_rows.proofs.Joins.{level-append, levels_front, levels_back}
 use Rattle.mt_path.specs.declared.paths.PathStep.{PathStep}
 use Rattle.mt_path.specs.Paths.{slot_for, span_at, step_in, below, path_of, step_at, row_on, At}
-use Rattle.mt_path.proofs.Places.{at_slot, at_once, at_parts, at_get, at_within, slot_is}
+use Rattle.mt_path.proofs.Places.{at_slot, at_parts, at_get, at_within, slot_is}
 
 -- ---- one step
 
@@ -148,7 +147,7 @@ module _ (t : Tree) where
       slot_for (spans_in t.table x) index,
       below t.table x index,
       at_get x.first (x.last + 1) (spans_in t.table x) index (below t.table x index) (child_at (suc h) x index leads),
-      row_below d h (below t.table x index) index (omega arith) (child_leads h x index leads)
+      row_below d h (below t.table x index) index (omega arith) (child_leads h x index leads),
     ),
   )
 

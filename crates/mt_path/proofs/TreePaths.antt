@@ -133,8 +133,7 @@ module _ (t : Tree) (h : ℕ) (stands : Stands t h) where
   -- the first row of those that begin at an index is the one that holds it
   pub next_row : (d mid : ℕ) (front back : List Span) → d ≤ h → mid ≤ top_of t → rows_at t d ≡ front ++ back → Fills mid (top_of t + 1) back → (rest : List Span) × (back ≡ row_of t d mid ∷ rest)
   next_row d mid front back low within parts behind =
-      let first = first_behind 0 mid (top_of t + 1) front back (subst (Fills 0 (top_of t + 1)) parts (rows_fill d low)) behind (omega arith) (omega arith) in
-      (
+      let first = first_behind 0 mid (top_of t + 1) front back (subst (Fills 0 (top_of t + 1)) parts (rows_fill d low)) behind (omega arith) (omega arith) in (
         first.0,
         first.1 ∙ ap (λ (y : Span). y ∷ first.0) (ap (λ (l : List Span). span_at l (slot_for l mid)) (sym parts) ∙ in_slot mid d within low),
       )
@@ -142,8 +141,7 @@ module _ (t : Tree) (h : ℕ) (stands : Stands t h) where
   -- the last row of those that end before an index holds the one below it
   pub row_before : (d mid : ℕ) (front back : List Span) → d ≤ h → 0 < mid → mid ≤ top_of t + 1 → rows_at t d ≡ front ++ back → Fills 0 mid front → (rest : List Span) × (front ≡ rest ++ (row_of t d (mid - 1) ∷ []))
   row_before d mid front back low some within parts before =
-      let last = last_before 0 mid (top_of t + 1) front back (subst (Fills 0 (top_of t + 1)) parts (rows_fill d low)) before some within in
-      (
+      let last = last_before 0 mid (top_of t + 1) front back (subst (Fills 0 (top_of t + 1)) parts (rows_fill d low)) before some within in (
         last.0,
         last.1 ∙ ap (λ (y : Span). last.0 ++ (y ∷ [])) (ap (λ (l : List Span). span_at l (slot_for l (mid - 1))) (sym parts) ∙ in_slot (mid - 1) d (omega arith) low),
       )

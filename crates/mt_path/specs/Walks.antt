@@ -10,7 +10,7 @@ use Rattle.mt_rows.specs.Spans.{Table, column, slots_of, row_spans}
 use Rattle.mt_path.specs.declared.paths.PathStep.{PathStep}
 use Rattle.mt_path.specs.declared.walks.Row.{Row}
 use Rattle.mt_path.specs.declared.walks.Found.{Found}
-use Rattle.mt_path.specs.Paths.{slot_for, span_at, below, path_of}
+use Rattle.mt_path.specs.Paths.{slot_for, span_at, path_of}
 
 -- the row that a span names
 abbrev pub row_for : Span → Option Row

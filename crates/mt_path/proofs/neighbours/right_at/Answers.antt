@@ -1,5 +1,4 @@
-use Rattle.std.proofs.Common.{◌≡◌, ◌≢◌, ◌+◌, ◌≤◌, List, ap, ◌∙◌, subst, sym, arith}
-use Rattle.mt_base.specs.declared.widths.Width.{Width}
+use Rattle.std.proofs.Common.{◌≤◌, List, ap, ◌∙◌, subst, sym, arith}
 use Rattle.mt_base.specs.Width.{greatest}
 use Rattle.mt_path.specs.declared.paths.PathStep.{PathStep}
 use Rattle.mt_path.specs.Paths.{step_at}

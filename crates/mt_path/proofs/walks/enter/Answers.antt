@@ -1,14 +1,10 @@
 use Rattle.std.proofs.Common.{rules, ◌≡◌, ◌≢◌, Some, None, ℕ, ◌+◌, ◌++◌, [], List, ap, ◌∙◌, sym}
-use Rattle.std.specs.Option.{option_map}
 use denote.Enum.Bare.{same_true}
 use Rattle.mt_layout.specs.contracts.names.RowKind.{the_type}
 use Rattle.mt_base.specs.declared.widths.Width.{Width}
 use Rattle.mt_layout.specs.declared.names.RowKind.TheVariants.{Leaf}
-use Rattle.mt_layout.specs.declared.spans.Span.{Span}
-use Rattle.mt_layout.specs.Columns.{slot_column}
 use Rattle.mt_rows.specs.Spans.{column, slots_of}
 use Rattle.mt_path.specs.declared.paths.PathStep.{PathStep}
-use Rattle.mt_path.specs.declared.walks.Row.{Row}
 use Rattle.mt_path.specs.Paths.{path_of}
 use Rattle.mt_path.specs.Walks.{row_for, rest_of}
 use Rattle.mt_path.proofs.Loads.{word_kept, tree_kept}

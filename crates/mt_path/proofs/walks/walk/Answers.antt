@@ -1,4 +1,4 @@
-use Rattle.std.proofs.Common.{rules, ◌≡◌, ℕ, ◌+◌, ◌<◌, ◌≤◌, Option, Some, None, subst, sym, arith}
+use Rattle.std.proofs.Common.{rules, ◌≡◌, Option, None, subst}
 use Rattle.mt_layout.specs.declared.spans.Span.{Span}
 use Rattle.mt_path.proofs.Walking.{Walking, may_enter, enters, ends_none, ends_deep}
 use Rattle.mt_path.proofs.Empty.{empty_together}
