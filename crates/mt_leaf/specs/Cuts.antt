@@ -14,6 +14,14 @@ pub record IsPiece (leaf : Bool) (least most : ℕ) (items : List Item) (from to
   pub few : to ≤ from + most
   pub full : leaf ≡ true → to < length items → word_of items (to - 1) ≢ 0
 
+-- the end of a row that is to end at `end`, or in a leaf one item before, so that it does not end with a hole
+pub record IsEnd (leaf : Bool) (items : List Item) (end to : ℕ) : Type 0 where
+  pub most : to ≤ end
+  pub least : end ≤ to + 1
+  pub full : leaf ≡ true → word_of items (to - 1) ≢ 0
+  pub kept : word_of items (end - 1) ≢ 0 → to ≡ end
+  pub inner : leaf ≢ true → to ≡ end
+
 -- rows that end at these places, each behind the one before, the first beginning at `from` and the last ending with the items
 abbrev pub ArePieces : Bool → ℕ → ℕ → List Item → ℕ → List ℕ → Type 0
 ArePieces leaf least most items from [] = from ≡ length items

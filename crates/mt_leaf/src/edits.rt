@@ -1,12 +1,16 @@
-ghost use Rattle.std.specs.Prelude.{◌≡◌, ◌≤◌, length};
+ghost use Rattle.std.specs.Prelude.{◌≡◌, ◌↔◌, ◌≤◌, ◌<◌, ◌+◌, ◌-◌, fold, length, IsTrue};
 ghost use Rattle.mt_layout.specs.Columns.{RiseFrom, end_of};
 ghost use Rattle.mt_layout.specs.Spans.{spans_from};
+ghost use Rattle.mt_leaf.specs.Cuts.{word_of};
 ghost use Rattle.mt_leaf.specs.Edits.{edited, exact_slot_of};
+ghost use Rattle.mt_leaf.specs.Places.{slot_reaching, slot_above, with_joined, items_below};
 
+use crate::places::{slot_above, slot_and_first};
 use mt_layout::{Item, Run};
 
 /// The items after `entry` was stored over `first` to `last`, with holes that follow each other joined. The first item
 /// begins at `min`. An entry of 0 makes a hole.
+#[tactic(auto, using(crate::proofs::EditSteps::steps, crate::proofs::Slots::slots))]
 pub fn edit(items: &Run, min: u64, first: u64, last: u64, entry: u64) -> Run
     requires some { 1 ≤ length items.now.items }
     requires room { length items.now.items ≤ 70 }
@@ -16,7 +20,19 @@ pub fn edit(items: &Run, min: u64, first: u64, last: u64, entry: u64) -> Run
     requires to { last ≤ end_of 0 items.now.items }
     ensures { spans_from min result.items ≡ edited (spans_from min items.now.items) first last entry }
 {
-    todo
+    let items = items.as_slice();
+    let mut edited = Run::new();
+    push_below(&mut edited, items, min, first);
+    push_joined(
+        &mut edited,
+        Item {
+            last,
+            word: entry,
+            gap: 0,
+        },
+    );
+    push_joined_all(&mut edited, &items[slot_above(items, last)..]);
+    edited
 }
 
 /// The slot whose entry stands at just `first` to `last`. The first item begins at `min`.
@@ -24,5 +40,66 @@ pub fn exact_slot(items: &Run, min: u64, first: u64, last: u64) -> Option<u32>
     requires { RiseFrom min items.now.items }
     ensures { result ≡ exact_slot_of (spans_from min items.now.items) first last }
 {
-    todo
+    let items = items.as_slice();
+    let (slot, begin) = slot_and_first(items, min, first);
+    let item = items.get(slot)?;
+    if begin == first && item.last == last && item.word != 0 {
+        Some(slot as u32)
+    } else {
+        None
+    }
+}
+
+/// Pushes what stands below `first` of these items, the first of which begins at `min`.
+#[tactic(auto, using(crate::proofs::EditSteps::steps))]
+fn push_below(edited: &mut Run, items: &[Item], min: u64, first: u64)
+    requires some { 1 ≤ length items.now }
+    requires rise { RiseFrom min items.now }
+    requires reach { first ≤ end_of 0 items.now }
+    requires room { length edited.old.items + slot_reaching items.now first < 72 }
+    ensures items { edited.new.items ≡ fold with_joined edited.old.items (items_below min items.now first) }
+    ensures count { length edited.new.items ≤ length edited.old.items + slot_reaching items.now first + 1 }
+{
+    let (slot, begin) = slot_and_first(items, min, first);
+    push_joined_all(edited, &items[..slot]);
+    if begin < first {
+        push_joined(
+            edited,
+            Item {
+                last: first - 1,
+                ..items[slot]
+            },
+        );
+    }
+}
+
+/// Pushes these items.
+fn push_joined_all(edited: &mut Run, items: &[Item])
+    requires { length edited.old.items + length items.now ≤ 72 }
+    ensures items { edited.new.items ≡ fold with_joined edited.old.items items.now }
+    ensures count { length edited.new.items ≤ length edited.old.items + length items.now }
+{
+    for item in items {
+        push_joined(edited, *item);
+    }
+}
+
+/// Pushes an item, as one with the last where both are holes.
+fn push_joined(edited: &mut Run, item: Item)
+    requires { length edited.old.items < 72 }
+    ensures items { edited.new.items ≡ with_joined edited.old.items item }
+    ensures count { length edited.new.items ≤ length edited.old.items + 1 }
+{
+    if item.word == 0 && ends_with_hole(edited) {
+        let hole = edited.len() - 1;
+        edited[hole].last = item.last;
+    } else {
+        edited.push(item);
+    }
+}
+
+fn ends_with_hole(items: &Run) -> bool
+    ensures { IsTrue result ↔ (0 < length items.now.items) × (word_of items.now.items (length items.now.items - 1) ≡ 0) }
+{
+    items.last().is_some_and(|item| item.word == 0)
 }

@@ -4,6 +4,7 @@
 mod cuts;
 mod edits;
 pub mod laws;
+mod places;
 #[cfg(test)]
 mod tests;
 
