@@ -54,7 +54,7 @@ length_joined [] = omega arith
 length_joined (x ∷ xs) = let one = length_join x (joined xs) in let rest = length_joined xs in omega arith
 
 -- two spans that are not both holes stay two
-join_apart : (x : Span) (xs : List Span) → (x.word ≡ 0 → BeginsFull xs) → join x xs ≡ x ∷ xs
+pub join_apart : (x : Span) (xs : List Span) → (x.word ≡ 0 → BeginsFull xs) → join x xs ≡ x ∷ xs
 join_apart x [] full = refl
 join_apart x (y ∷ ys) full = elim (cases_Bool (x.word == 0)) [
   | inl z ↦ elim (cases_Bool (y.word == 0)) [ inl t ↦ absurd (full (eqb-true x.word 0 z) (eqb-true y.word 0 t)) | inr f ↦ rw (z, f) refl ]

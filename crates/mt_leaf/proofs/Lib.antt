@@ -1,3 +1,4 @@
+pub mod Counts
 pub mod CutLaws
 pub mod EditSteps
 pub mod ExactSlot

@@ -47,7 +47,7 @@ none_below lo hi first (x ∷ xs) fills h =
     let begins = fills.0 in let low = fills.1 in
     rw (le-ltb x.first first (omega arith)) (none_below (x.last + 1) hi first xs fills.2 (omega arith))
 
-none_above : (lo hi last : ℕ) (xs : List Span) → Fills lo hi xs → hi ≤ last + 1 → spans_above xs last ≡ []
+pub none_above : (lo hi last : ℕ) (xs : List Span) → Fills lo hi xs → hi ≤ last + 1 → spans_above xs last ≡ []
 none_above lo hi last [] fills h = refl
 none_above lo hi last (x ∷ xs) fills h =
     let ends = fills_le (x.last + 1) hi xs fills.2 in
@@ -102,7 +102,7 @@ fills_edited lo hi first last entry xs fills h k l = fills_joined lo hi (stored 
 
 -- ---- how many
 
-length_above : (xs : List Span) (last : ℕ) → length (spans_above xs last) ≤ length xs
+pub length_above : (xs : List Span) (last : ℕ) → length (spans_above xs last) ≤ length xs
 length_above [] last = omega arith
 length_above (x ∷ xs) last = elim (cases_Bool (nat_lt last x.last)) [ inl t ↦ let k = length_above xs last in rw t (omega (arith, k)) | inr n ↦ let k = length_above xs last in rw n (omega (arith, k)) ]
 
@@ -133,28 +133,28 @@ length_edited lo hi first last entry xs fills h =
 
 -- ---- what stands between two leaves does not count
 
-below-append : (first : ℕ) (xs ys : List Span) → spans_below (xs ++ ys) first ≡ spans_below xs first ++ spans_below ys first
+pub below-append : (first : ℕ) (xs ys : List Span) → spans_below (xs ++ ys) first ≡ spans_below xs first ++ spans_below ys first
 below-append first [] ys = refl
 below-append first (x ∷ xs) ys = elim (cases_Bool (nat_lt x.first first)) [
   | inl t ↦ rw t (ap (λ (l : List Span). span_below first x ∷ l) (below-append first xs ys))
   | inr n ↦ rw n (below-append first xs ys)
 ]
 
-above-append : (last : ℕ) (xs ys : List Span) → spans_above (xs ++ ys) last ≡ spans_above xs last ++ spans_above ys last
+pub above-append : (last : ℕ) (xs ys : List Span) → spans_above (xs ++ ys) last ≡ spans_above xs last ++ spans_above ys last
 above-append last [] ys = refl
 above-append last (x ∷ xs) ys = elim (cases_Bool (nat_lt last x.last)) [
   | inl t ↦ rw t (ap (λ (l : List Span). span_above last x ∷ l) (above-append last xs ys))
   | inr n ↦ rw n (above-append last xs ys)
 ]
 
-above-starting : (middle behind hi last : ℕ) (xs : List Span) → Fills behind hi xs → middle ≤ behind → behind ≤ last → spans_above (starting middle xs) last ≡ spans_above xs last
+pub above-starting : (middle behind hi last : ℕ) (xs : List Span) → Fills behind hi xs → middle ≤ behind → behind ≤ last → spans_above (starting middle xs) last ≡ spans_above xs last
 above-starting middle behind hi last [] fills h k = refl
 above-starting middle behind hi last (x ∷ xs) fills h k =
     let begins = fills.0 in
     let e : max middle (last + 1) ≡ max x.first (last + 1) = omega arith in
     elim (cases_Bool (nat_lt last x.last)) [ inl t ↦ rw (t, e) refl | inr u ↦ rw u refl ]
 
-fills_starting : (middle behind hi : ℕ) (xs : List Span) → Fills behind hi xs → middle ≤ behind → behind < hi → Fills middle hi (starting middle xs)
+pub fills_starting : (middle behind hi : ℕ) (xs : List Span) → Fills behind hi xs → middle ≤ behind → behind < hi → Fills middle hi (starting middle xs)
 fills_starting middle behind hi [] fills h k = absurd (omega arith)
 fills_starting middle behind hi (x ∷ xs) fills h k = let reaches = fills.1 in (refl, omega arith, fills.2)
 

@@ -1,7 +1,7 @@
 -- What a store makes of the items of a few leaves that lie next to each other.
 -- Source: the kernel's lib/maple_tree.c, mas_wr_store_entry and its parts: a store splits the ranges at its ends, replaces
 -- what lies between, and never leaves two slots of no entry next to each other.
-use Rattle.std.specs.Prelude.{ℕ, List, [], ◌∷◌, ◌++◌, Option, ◌+◌, ◌-◌, ◌==◌, ◌&&◌, not, nat_lt, min, max, map, filter, position, if◌then◌else◌}
+use Rattle.std.specs.Prelude.{ℕ, Bool, false, List, [], ◌∷◌, ◌++◌, Option, ◌+◌, ◌-◌, ◌==◌, ◌&&◌, not, nat_lt, min, max, map, filter, position, if◌then◌else◌}
 use Rattle.mt_layout.specs.declared.spans.Span.{Span}
 
 -- what is left of a span below `first`, and above `last`
@@ -48,3 +48,9 @@ exact_slot_of xs first last = position (λ x. (x.first == first) && ((x.last == 
 abbrev pub starting : ℕ → List Span → List Span
 starting first [] = []
 starting first (x ∷ xs) = record x { first = first } ∷ xs
+
+-- the last span is a hole
+abbrev pub ends_with_hole : List Span → Bool
+ends_with_hole [] = false
+ends_with_hole (x ∷ []) = x.word == 0
+ends_with_hole (x ∷ y ∷ ys) = ends_with_hole (y ∷ ys)

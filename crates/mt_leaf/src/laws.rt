@@ -1,13 +1,13 @@
 //! What a store on the items of leaves does. Each law is the contract of a function that does nothing.
 
-ghost use Rattle.std.specs.Prelude.{◌≡◌, ◌+◌, ◌<◌, ◌≤◌, ℕ, List, ◌++◌, length};
+ghost use Rattle.std.specs.Prelude.{◌≡◌, ◌+◌, ◌*◌, ◌<◌, ◌≤◌, ℕ, true, List, ◌++◌, length};
 ghost use Rattle.std.specs.List.{flat_map};
 ghost use Rattle.mt_base.specs.Map.{over};
 ghost use Rattle.mt_layout.specs.declared.items.Item.{Item};
 ghost use Rattle.mt_layout.specs.declared.spans.Span.{Span};
 ghost use Rattle.mt_layout.specs.Columns.{end_of};
-ghost use Rattle.mt_layout.specs.Spans.{spans_from, leaf_range, Fills, Apart};
-ghost use Rattle.mt_leaf.specs.Edits.{edited, stored, joined, starting};
+ghost use Rattle.mt_layout.specs.Spans.{spans_from, leaf_range, Fills, Apart, EndsFull};
+ghost use Rattle.mt_leaf.specs.Edits.{edited, stored, joined, starting, ends_with_hole};
 
 /// A store on the spans of leaves is that store on the map that they stand for.
 pub fn an_edit_is_a_store()
@@ -36,4 +36,16 @@ pub fn leaves_are_joined()
 pub fn spans_tell_the_items()
     ensures same { (first : ℕ) (xs ys : List Item) → spans_from first xs ≡ spans_from first ys → xs ≡ ys }
     ensures append { (first : ℕ) (xs ys : List Item) → 1 ≤ length xs → spans_from first (xs ++ ys) ≡ spans_from first xs ++ spans_from (end_of 0 xs + 1) ys }
+{}
+
+/// A store on one leaf, or on two leaves with the leaves between them left out, gives few enough items for two rows and a
+/// hole.
+pub fn an_edit_is_short()
+    ensures one { (lo hi first last entry n : ℕ) (xs : List Span) → Fills lo hi xs → lo ≤ first → first ≤ last → last < hi → length xs ≤ n → length (edited xs first last entry) ≤ n + 2 }
+    ensures one_to_a_hole { (lo hi first last entry n : ℕ) (xs : List Span) → Fills lo hi xs → lo ≤ first → first ≤ last → last < hi → length xs ≤ n
+        → ends_with_hole (edited xs first last entry) ≡ true → EndsFull xs → length (edited xs first last entry) ≤ n + 1 }
+    ensures two { (lo middle behind hi first last entry n : ℕ) (left right : List Span) → Fills lo middle left → Fills behind hi right → first < middle → middle ≤ behind → behind ≤ last → last < hi → length left ≤ n → length right ≤ n
+        → length (edited (left ++ starting middle right) first last entry) ≤ 2 * n + 1 }
+    ensures two_to_a_hole { (lo middle behind hi first last entry n : ℕ) (left right : List Span) → Fills lo middle left → Fills behind hi right → first < middle → middle ≤ behind → behind ≤ last → last < hi → length left ≤ n → length right ≤ n
+        → ends_with_hole (edited (left ++ starting middle right) first last entry) ≡ true → EndsFull right → length (edited (left ++ starting middle right) first last entry) ≤ n + 1 }
 {}
