@@ -7,6 +7,7 @@ pub mod Frames
 pub mod Heights
 pub mod Joins
 pub mod Lists
+pub mod NineLevels
 pub mod Once
 pub mod Ranges
 pub mod Reached

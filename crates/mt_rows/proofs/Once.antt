@@ -21,12 +21,12 @@ use Rattle.mt_rows.proofs.Depth.{rows_by_depth}
 -- ---- rows of two items or more
 
 -- the row does not cover every index
-abbrev IsPart : Tree → Span → Type 0
+abbrev pub IsPart : Tree → Span → Type 0
 IsPart t x = covers_all t x ≡ false
 
-record Wide (t : Table) (x : Span) : Type 0 where
-  fills : Filled t x
-  two : 2 ≤ length (spans_in t x)
+pub record Wide (t : Table) (x : Span) : Type 0 where
+  pub fills : Filled t x
+  pub two : 2 ≤ length (spans_in t x)
 
 least_two : (kind : RowKind) → 2 ≤ least_of_kind kind
 least_two Leaf = omega arith
@@ -41,7 +41,7 @@ part_wide t h x part row = record {
       omega (arith, least, least_two (kind_at t.kind h));
 }
 
-inner_wide : (t : Tree) (h : ℕ) (x : Span) → IsRow t (suc h) x → Wide t.table x
+pub inner_wide : (t : Tree) (h : ℕ) (x : Span) → IsRow t (suc h) x → Wide t.table x
 inner_wide t h x row = record {
   fills = row.pivots.fills;
   two = elim (cases_Bool (covers_all t x)) [
@@ -73,17 +73,17 @@ split_parts t lo last (x ∷ y ∷ ys) within fills two =
       | inr off ↦ rw off refl
     ]
 
-expand_parts : (t : Tree) (lo hi : ℕ) (xs : List Span) → hi ≤ top_of t + 1 → AllByRecursion (Wide t.table) xs → Fills lo hi xs → AllByRecursion (IsPart t) (expand t.table xs)
+pub expand_parts : (t : Tree) (lo hi : ℕ) (xs : List Span) → hi ≤ top_of t + 1 → AllByRecursion (Wide t.table) xs → Fills lo hi xs → AllByRecursion (IsPart t) (expand t.table xs)
 expand_parts t lo hi [] within wide fills = tt
 expand_parts t lo hi (x ∷ xs) within wide fills =
     let behind = fills_le (x.last + 1) hi xs fills.2 in
     all_join (IsPart t) (spans_in t.table x) (expand t.table xs) (split_parts t x.first x.last (spans_in t.table x) (omega arith) wide.0.fills wide.0.two) (expand_parts t (x.last + 1) hi xs within wide.1 fills.2)
 
-rows_wide : (t : Tree) (h : ℕ) (xs : List Span) → AllByRecursion (IsPart t) xs → AllByRecursion (IsRow t h) xs → AllByRecursion (Wide t.table) xs
+pub rows_wide : (t : Tree) (h : ℕ) (xs : List Span) → AllByRecursion (IsPart t) xs → AllByRecursion (IsRow t h) xs → AllByRecursion (Wide t.table) xs
 rows_wide t h [] parts rows = tt
 rows_wide t h (x ∷ xs) parts rows = (part_wide t h x parts.0 rows.0, rows_wide t h xs parts.1 rows.1)
 
-wide_fills : (t : Table) (lo hi : ℕ) (xs : List Span) → AllByRecursion (Wide t) xs → Fills lo hi xs → Fills lo hi (expand t xs)
+pub wide_fills : (t : Table) (lo hi : ℕ) (xs : List Span) → AllByRecursion (Wide t) xs → Fills lo hi xs → Fills lo hi (expand t xs)
 wide_fills t lo hi xs wide fills = expand_fills t lo hi xs (all_map (Wide t) (Filled t) (λ x w. w.fills) xs wide) fills
 
 abbrev AllWide : Table → ℕ → List Span → Type 0

@@ -92,3 +92,8 @@ pub fn an_exact_store_may_be_published()
         → item.word ≢ 0 → entry ≢ 0 → reserved entry ≡ false
         → MayPublish kind s (Slot row col) entry (Store item.first item.last entry) reply.Ok }
 {}
+
+/// A tree of as many rows as can be named has nine levels at the most.
+pub fn a_tree_has_nine_levels_at_most()
+    ensures { (t : Tree) (h : ℕ) → t.rows ≤ 65504 → Levels (IsRow t) t.table h (root_of t) → h < deepest }
+{}
