@@ -34,7 +34,7 @@ ends_joined [] = refl
 ends_joined (x ∷ []) = refl
 ends_joined (x ∷ y ∷ ys) = ends_join x (joined (y ∷ ys)) ∙ (ends_behind x (joined (y ∷ ys)) (some_join y (joined ys)) ∙ ends_joined (y ∷ ys))
 
-ends-append : (xs : List Span) (y : Span) (ys : List Span) → ends_with_hole (xs ++ (y ∷ ys)) ≡ ends_with_hole (y ∷ ys)
+pub ends-append : (xs : List Span) (y : Span) (ys : List Span) → ends_with_hole (xs ++ (y ∷ ys)) ≡ ends_with_hole (y ∷ ys)
 ends-append [] y ys = refl
 ends-append (x ∷ []) y ys = refl
 ends-append (x ∷ z ∷ xs) y ys = ends-append (z ∷ xs) y ys

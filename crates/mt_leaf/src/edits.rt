@@ -73,8 +73,8 @@ fn push_below(edited: &mut Run, items: &[Item], min: u64, first: u64)
     }
 }
 
-/// Pushes these items.
-fn push_joined_all(edited: &mut Run, items: &[Item])
+/// Pushes these items, each as one with the item before where both are holes.
+pub fn push_joined_all(edited: &mut Run, items: &[Item])
     requires { length edited.old.items + length items.now ≤ 72 }
     ensures items { edited.new.items ≡ fold with_joined edited.old.items items.now }
     ensures count { length edited.new.items ≤ length edited.old.items + length items.now }

@@ -9,4 +9,4 @@ mod places;
 mod tests;
 
 pub use cuts::cut;
-pub use edits::{edit, exact_slot};
+pub use edits::{edit, exact_slot, push_joined_all};

@@ -102,6 +102,26 @@ module _ (t : Tree) (h : ℕ) (stands : Stands t h) where
     (λ e above. steps_agree t deepest d h e (top_row t) i j stands.low above low (root_leads i within) from to),
   )
 
+  -- whose rows at a level begin at the same index go through one row
+  pub same_row : (i j d : ℕ) → i ≤ top_of t → j ≤ top_of t → d ≤ h → (row_of t d i).first ≡ (row_of t d j).first → row_of t d i ≡ row_of t d j
+  same_row i j d within within' low same =
+      let first = place i d within low in let second = place j d within' low in
+      let from = first.from in let to = first.to in let from' = second.from in let to' = second.to in
+      let k = (row_of t d i).first in
+      let one = inside_agree i k d within low (omega arith) (omega arith) in
+      let other = inside_agree j k d within' low (omega arith) (omega arith) in
+      sym one.0 ∙ other.0
+
+  -- and take the same slots above it
+  pub same_steps : (i j d e : ℕ) → i ≤ top_of t → j ≤ top_of t → d ≤ h → e < d → (row_of t d i).first ≡ (row_of t d j).first → step_of t e i ≡ step_of t e j
+  same_steps i j d e within within' low above same =
+      let first = place i d within low in let second = place j d within' low in
+      let from = first.from in let to = first.to in let from' = second.from in let to' = second.to in
+      let k = (row_of t d i).first in
+      let one = inside_agree i k d within low (omega arith) (omega arith) in
+      let other = inside_agree j k d within' low (omega arith) (omega arith) in
+      sym (one.1 e above) ∙ other.1 e above
+
   -- of two indexes whose rows begin at the same index
   pub same_min : (i j d : ℕ) → i ≤ top_of t → j ≤ top_of t → d ≤ h → (step_of t d i).min ≡ (step_of t d j).min → Agree t d i j
   same_min i j d within within' low same =
