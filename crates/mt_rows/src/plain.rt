@@ -1,7 +1,7 @@
 ghost use Rattle.std.specs.Prelude.{◌≡◌, ◌+◌, ◌*◌, ◌<◌, ◌≤◌, IfOk};
 ghost use Rattle.mt_base.specs.Width.{columns};
 
-use crate::rows::{Life, Place, Rows, Scan};
+use crate::rows::{Place, Rows, Scan};
 use mt_base::{Call, NoMemory, Reply, Width, cols};
 use mt_layout::parent_word;
 use std::alloc::Global;
@@ -10,11 +10,14 @@ use std::marker::Model;
 /// Rows are numbered from here.
 const FIRST_ROW: usize = 16;
 
-/// What has become of a row, and whether the call in flight has buried it.
-#[derive(Clone, Copy, Debug, PartialEq, Eq)]
-struct Fate {
-    life: Life,
-    buried: bool,
+/// What has become of a row.
+#[derive(Clone, Copy)]
+enum Fate {
+    New,
+    Draft,
+    Live,
+    /// The call of this number buried it. The row is dead once that call has published.
+    Buried(u64),
 }
 
 /// Rows in memory that nobody else reads.
@@ -28,6 +31,7 @@ pub struct PlainRows {
     ended: u64,
     flying: bool,
     published: bool,
+    opened: u64,
     cleared: u64,
     scan: Scan,
     scans: u64,
@@ -67,19 +71,16 @@ impl PlainRows {
     {
         let width = Width::Long;
         let numbers = FIRST_ROW + rows as usize;
-        let unused = Fate {
-            life: Life::New,
-            buried: false,
-        };
         Ok(PlainRows {
             rows,
             width,
             words: vec![in alloc; 0; cols(width) as usize * numbers]?,
             root: 0,
-            fates: vec![in alloc; unused; numbers]?,
+            fates: vec![in alloc; Fate::New; numbers]?,
             ended: 0,
             flying: false,
             published: false,
+            opened: 0,
             cleared: 0,
             scan: Scan { least: 0, by: None },
             scans: 0,
@@ -140,13 +141,13 @@ impl Rows for PlainRows {
 
     fn draft(&mut self, row: u32, col: u32, word: u64) {
         self.words[place_of(self.width, row, col)] = word;
-        self.fates[row as usize].life = Life::Draft;
+        self.fates[row as usize] = Fate::Draft;
     }
 
     fn bury(&mut self, row: u32) {
         // A dead row is its own parent.
         self.words[place_of(self.width, row, 0)] = parent_word(row, 0);
-        self.fates[row as usize].buried = true;
+        self.fates[row as usize] = Fate::Buried(self.ended + 1);
     }
 
     fn tend(&mut self, row: u32, col: u32, word: u64) {
