@@ -5,4 +5,5 @@ pub mod Joins
 pub mod Lists
 pub mod Once
 pub mod PlainFates
+pub mod PlainPlant
 pub mod Ranges

@@ -1,14 +1,21 @@
-ghost use Rattle.std.specs.Prelude.{◌≡◌, ◌+◌, ◌*◌, ◌<◌, ◌≤◌, IfOk};
+ghost use Rattle.std.specs.Prelude.{◌≡◌, ◌+◌, ◌*◌, ◌<◌, ◌≤◌, IfOk, length, slice_set};
+ghost use Rattle.std.specs.List.{fold};
+ghost use Rattle.mt_base.specs.declared.widths.Width.TheVariants.{Long};
 ghost use Rattle.mt_base.specs.Width.{columns};
+ghost use Rattle.mt_rows.specs.Trees.{rows_of, deepest};
 
+use crate::plain_trees::spans_in;
 use crate::rows::{Place, Rows, Scan};
-use mt_base::{Call, NoMemory, Reply, Width, cols};
-use mt_layout::parent_word;
+use mt_base::{Call, NoMemory, Reply, Width, cols, top};
+use mt_layout::{RowKind, Span, kind_of, parent_word, row_of};
 use std::alloc::Global;
 use std::marker::Model;
 
 /// Rows are numbered from here.
 const FIRST_ROW: usize = 16;
+
+/// No row stands deeper than this many levels.
+const DEEPEST: u32 = 9;
 
 /// What has become of a row.
 #[derive(Clone, Copy)]
@@ -60,9 +67,67 @@ fn place_of(width: Width, row: u32, col: u32) -> usize
     cols(width) as usize * row as usize + col as usize
 }
 
+/// Writes a row's fate, and nothing where there is no such row.
+#[tactic(auto, using(std::proofs::lemmas::List::set_past))]
+fn set_fate(fates: &mut [Fate], row: u32, fate: Fate)
+    ensures { fates.new ≡ slice_set fates.old row fate }
+{
+    let row = row as usize;
+    if row < fates.len() {
+        fates[row] = fate;
+    }
+}
+
+/// Makes the rows live that a span reaches, at most so many levels deep, and counts them.
+fn settle(words: &[u64], depth: u32, span: &Span, fates: &mut [Fate]) -> u64
+    requires { depth ≤ deepest }
+    ensures count { result ≡ length (rows_of (record { width = Long; words = words.now }) depth span.now) }
+    ensures lives { fates.new ≡ fold (λ fs row. slice_set fs row Fate.Live) fates.old (rows_of (record { width = Long; words = words.now }) depth span.now) }
+{
+    let (Some(row), Some(kind)) = (row_of(span.word), kind_of(span.word)) else {
+        return 0;
+    };
+    if depth == 0 {
+        return 0;
+    }
+    set_fate(fates, row, Fate::Live);
+    match kind {
+        RowKind::Leaf => 1,
+        _ => {
+            let mut count = 1;
+            for child in spans_in(words, span).as_slice() {
+                count += settle(words, depth - 1, child, fates);
+            }
+            count
+        }
+    }
+}
+
 impl PlainRows {
     ghost use Rattle.std.specs.Prelude.{◌≡◌, ◌≤◌, IfOk};
+    ghost use Rattle.mt_base.specs.declared.kinds.Kind.{Kind};
     ghost use Rattle.mt_rows.specs.Plain.{new_sheet};
+    ghost use Rattle.mt_rows.specs.Publish.{MayPlant, Planted};
+
+    /// Sets the root word before the first call. The rows that are reached from it are live then.
+    pub fn plant(&mut self, root: u64)
+        requires { (kind : Kind) × MayPlant kind self.old root }
+        ensures { Planted self.old self.new root }
+    {
+        self.root = root;
+        let span = Span {
+            first: 0,
+            last: top(self.width),
+            word: root,
+            gap: 0,
+        };
+        self.opened = settle(
+            self.words.as_slice(),
+            DEEPEST,
+            &span,
+            self.fates.as_mut_slice(),
+        );
+    }
 
     /// So many rows, none of which was ever used, and an empty tree. There are 65,504 rows at the most.
     pub fn new(alloc: Global, rows: u64) -> Result<PlainRows, NoMemory>
