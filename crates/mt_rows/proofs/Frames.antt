@@ -16,7 +16,7 @@ use Rattle.mt_rows.specs.Levels.{SameColumns, SameSpans}
 use Rattle.mt_rows.specs.Trees.{by_kind, ranges_of, rows_of}
 use Rattle.mt_rows.proofs.Lists.{all_front, all_back}
 
-is_layout : (width : Width) (kind : RowKind) → IsLayout (slots_of width kind) (gaps_of width kind)
+pub is_layout : (width : Width) (kind : RowKind) → IsLayout (slots_of width kind) (gaps_of width kind)
 is_layout Long Leaf = inl (refl, refl)
 is_layout Long Inner = inl (refl, refl)
 is_layout Long Gapped = inr (refl, refl)

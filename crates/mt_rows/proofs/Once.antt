@@ -256,7 +256,7 @@ once_in t h row stands =
 
 -- ---- what is not counted is nowhere
 
-tally_nowhere : (p : Span → Bool) (xs : List Span) → tally p xs ≡ 0 → AllByRecursion (λ (x : Span). p x ≡ false) xs
+pub tally_nowhere : (p : Span → Bool) (xs : List Span) → tally p xs ≡ 0 → AllByRecursion (λ (x : Span). p x ≡ false) xs
 tally_nowhere p [] none = tt
 tally_nowhere p (x ∷ xs) none = elim (cases_Bool (p x)) [
   | inl passes ↦ let some : 1 + tally p xs ≡ 0 = subst (λ (b : Bool). one_if b + tally p xs ≡ 0) passes none in absurd (omega arith)

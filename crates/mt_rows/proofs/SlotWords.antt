@@ -1,0 +1,173 @@
+-- The word of one slot is stored: the item in that slot has another word, and nothing else of its row changes.
+use Rattle.std.proofs.Common.{◌≡◌, ◌≢◌, ℕ, zero, suc, ◌+◌, ◌-◌, ◌*◌, ◌<◌, ◌≤◌, ◌==◌, List, [], ◌∷◌, ◌++◌, Bool, true, false, Some, length, map, take, replicate, refl, sym, ap, ◌∙◌, subst, ⊎_elim, arith, length-append, length-take, length-set, get_or-set_other, get_or-set_same}
+use Rattle.std.specs.Prelude.{if◌then◌else◌, nat_le, slice_index, slice_set}
+use Rattle.std.specs.List.{slice_get}
+use Rattle.std.proofs.lemmas.Bool.{cases_eq}
+use Rattle.std.proofs.lemmas.List.{length-map, length-replicate, set-append_left, set-append_right}
+use Rattle.mt_layout.specs.declared.items.Item.{Item}
+use Rattle.mt_layout.specs.declared.spans.Span.{Span}
+use Rattle.mt_layout.specs.Columns.{pivot_column, slot_column, gap_column, gap_at, item_at, items_from, items_at, padded_to, pivot_words, slot_words, gap_words, row_words}
+use Rattle.mt_layout.specs.Spans.{spans_from}
+use Rattle.mt_layout.proofs.Reading.{gap_at-none, gap_at-some}
+
+-- ---- the word of one item of a list
+
+abbrev pub put_item : ℕ → ℕ → List Item → List Item
+put_item n word [] = []
+put_item zero word (x ∷ xs) = record x { word = word } ∷ xs
+put_item (suc n) word (x ∷ xs) = x ∷ put_item n word xs
+
+abbrev pub put_span : ℕ → ℕ → List Span → List Span
+put_span n word [] = []
+put_span zero word (x ∷ xs) = record x { word = word } ∷ xs
+put_span (suc n) word (x ∷ xs) = x ∷ put_span n word xs
+
+pub put_item-last : (n word : ℕ) (xs : List Item) → map (λ (x : Item). x.last) (put_item n word xs) ≡ map (λ (x : Item). x.last) xs
+put_item-last n word [] = refl
+put_item-last zero word (x ∷ xs) = refl
+put_item-last (suc n) word (x ∷ xs) = ap (λ (l : List ℕ). x.last ∷ l) (put_item-last n word xs)
+
+pub put_item-gap : (n word : ℕ) (xs : List Item) → map (λ (x : Item). x.gap) (put_item n word xs) ≡ map (λ (x : Item). x.gap) xs
+put_item-gap n word [] = refl
+put_item-gap zero word (x ∷ xs) = refl
+put_item-gap (suc n) word (x ∷ xs) = ap (λ (l : List ℕ). x.gap ∷ l) (put_item-gap n word xs)
+
+pub put_item-word : (n word : ℕ) (xs : List Item) → map (λ (x : Item). x.word) (put_item n word xs) ≡ slice_set (map (λ (x : Item). x.word) xs) n word
+put_item-word n word [] = refl
+put_item-word zero word (x ∷ xs) = refl
+put_item-word (suc n) word (x ∷ xs) = ap (λ (l : List ℕ). x.word ∷ l) (put_item-word n word xs)
+
+pub length-put_item : (n word : ℕ) (xs : List Item) → length (put_item n word xs) ≡ length xs
+length-put_item n word [] = refl
+length-put_item zero word (x ∷ xs) = refl
+length-put_item (suc n) word (x ∷ xs) = ap suc (length-put_item n word xs)
+
+pub spans_from-put : (n word first : ℕ) (xs : List Item) → spans_from first (put_item n word xs) ≡ put_span n word (spans_from first xs)
+spans_from-put n word first [] = refl
+spans_from-put zero word first (x ∷ xs) = refl
+spans_from-put (suc n) word first (x ∷ xs) = ap (λ (l : List Span). record { first = first; last = x.last; word = x.word; gap = x.gap } ∷ l) (spans_from-put n word (x.last + 1) xs)
+
+pub length-spans_from : (first : ℕ) (xs : List Item) → length (spans_from first xs) ≡ length xs
+length-spans_from first [] = refl
+length-spans_from first (x ∷ xs) = ap suc (length-spans_from (x.last + 1) xs)
+
+pub put_span_at : (n word : ℕ) (front back : List Span) (x : Span) → length front ≡ n → put_span n word (front ++ (x ∷ back)) ≡ front ++ (record x { word = word } ∷ back)
+put_span_at n word front back x at = ap (λ (k : ℕ). put_span k word (front ++ (x ∷ back))) (sym at) ∙ here front
+  where
+    here : (front : List Span) → put_span (length front) word (front ++ (x ∷ back)) ≡ front ++ (record x { word = word } ∷ back)
+    here [] = refl
+    here (y ∷ front) = ap (λ (l : List Span). y ∷ l) (here front)
+
+pub get_parts : {A : Type 0} (xs : List A) (i : ℕ) (x : A) → slice_get xs i ≡ Some x → (front : List A) × (back : List A) × (xs ≡ front ++ (x ∷ back)) × (length front ≡ i)
+get_parts [] i x at = absurd (cc)
+get_parts (y ∷ xs) zero x at = let same : y ≡ x = cc in ([], xs, ap (λ z. z ∷ xs) same, refl)
+get_parts (y ∷ xs) (suc i) x at = let parts = get_parts xs i x at in (y ∷ parts.0, parts.1, ap (λ l. y ∷ l) parts.2, ap suc parts.3)
+
+-- ---- the items that are read off the words
+
+put_if : (b : Bool) (n word : ℕ) (xs ys : List Item) → (if b then put_item n word xs else put_item n word ys) ≡ put_item n word (if b then xs else ys)
+put_if true n word xs ys = refl
+put_if false n word xs ys = refl
+
+module _ (slots gaps base n word : ℕ) (w : List ℕ) (slot : n < slots) (fits : base + slot_column slots n < length w) where
+  abbrev stored : List ℕ
+  stored = slice_set w (base + slot_column slots n) word
+
+  pub other_column : (c : ℕ) → c ≢ slot_column slots n → slice_index stored (base + c) ≡ slice_index w (base + c)
+  other_column c other = get_or-set_other w (base + slot_column slots n) (base + c) word 0 (λ e. other (omega arith))
+
+  pub slot_here : slice_index stored (base + slot_column slots n) ≡ word
+  slot_here = get_or-set_same w (base + slot_column slots n) word 0 fits
+
+  pivot_same : (i : ℕ) → i + 1 < slots → slice_index stored (base + pivot_column i) ≡ slice_index w (base + pivot_column i)
+  pivot_same i h = other_column (pivot_column i) (λ e. omega arith)
+
+  gap_same : (i : ℕ) → gap_at slots gaps stored base i ≡ gap_at slots gaps w base i
+  gap_same i =
+      ⊎_elim
+      (λ (none : gaps ≡ 0). gap_at-none slots gaps stored base i none ∙ sym (gap_at-none slots gaps w base i none))
+      (λ (some : gaps ≡ 0 → ⊥). gap_at-some slots gaps stored base i some ∙ (other_column (gap_column slots i) (λ e. omega arith) ∙ sym (gap_at-some slots gaps w base i some)))
+      (cases_eq gaps 0)
+
+  item_other : (i last : ℕ) → i ≢ n → item_at slots gaps stored base i last ≡ item_at slots gaps w base i last
+  item_other i last other = rw (other_column (slot_column slots i) (λ e. other (omega arith)), gap_same i) refl
+
+  item_here : (i last : ℕ) → n ≡ i → item_at slots gaps stored base i last ≡ record (item_at slots gaps w base i last) { word = word }
+  item_here i last here = let is : slice_index stored (base + slot_column slots i) ≡ word = subst (λ (j : ℕ). slice_index stored (base + slot_column slots j) ≡ word) here slot_here in rw (is, gap_same i) refl
+
+  past : (max left i : ℕ) → n < i → left + i ≡ slots → items_from slots gaps stored base max left i ≡ items_from slots gaps w base max left i
+  past max zero i after sum = refl
+  past max (suc zero) i after sum = ap (λ (x : Item). x ∷ []) (item_other i max (λ e. omega arith))
+  past max (suc (suc left)) i after sum = rw (pivot_same i (omega arith), item_other i _ (λ e. omega arith), past max (suc left) (i + 1) (omega arith) (omega arith)) refl
+
+  items_from-put : (max left i k : ℕ) → n ≡ i + k → left + i ≡ slots → items_from slots gaps stored base max left i ≡ put_item k word (items_from slots gaps w base max left i)
+  items_from-put max zero i k at sum = refl
+  items_from-put max (suc zero) i zero at sum = ap (λ (x : Item). x ∷ []) (item_here i max (omega arith))
+  items_from-put max (suc zero) i (suc k) at sum = absurd (omega arith)
+  items_from-put max (suc (suc left)) i zero at sum =
+      let pivot : ℕ = slice_index w (base + pivot_column i) in
+      rw (pivot_same i (omega arith), item_here i _ (omega arith), past max (suc left) (i + 1) (omega arith) (omega arith))
+      (put_if (nat_le max pivot) zero word (item_at slots gaps w base i pivot ∷ []) (item_at slots gaps w base i pivot ∷ items_from slots gaps w base max (suc left) (i + 1)))
+  items_from-put max (suc (suc left)) i (suc k) at sum =
+      let pivot : ℕ = slice_index w (base + pivot_column i) in
+      rw (pivot_same i (omega arith), item_other i _ (λ e. omega arith), items_from-put max (suc left) (i + 1) k (omega arith) (omega arith))
+      (put_if (nat_le max pivot) (suc k) word (item_at slots gaps w base i pivot ∷ []) (item_at slots gaps w base i pivot ∷ items_from slots gaps w base max (suc left) (i + 1)))
+
+  pub items_at-put : (max : ℕ) → items_at slots gaps stored base max ≡ put_item n word (items_at slots gaps w base max)
+  items_at-put max = items_from-put max slots 0 n (omega arith) (omega arith)
+
+-- ---- the words that items make
+
+padded_to-set : (n i v : ℕ) (xs : List ℕ) → i < length xs → padded_to n (slice_set xs i v) ≡ slice_set (padded_to n xs) i v
+padded_to-set n i v xs inside = ap (λ (k : ℕ). slice_set xs i v ++ replicate (n - k) 0) (length-set xs i v) ∙ sym (set-append_left xs (replicate (n - length xs) 0) i v inside)
+
+length-padded : (n : ℕ) (xs : List ℕ) → length xs ≤ n → length (padded_to n xs) ≡ n
+length-padded n xs fit = omega (arith, length-append xs (replicate (n - length xs) 0), length-replicate {A = ℕ} (n - length xs) 0)
+
+length-pivots : (slots : ℕ) (items : List Item) → length (pivot_words slots items) ≡ slots - 1
+length-pivots slots items = length-padded (slots - 1) (take (slots - 1) (map (λ (x : Item). x.last) items)) (omega (arith, length-take (slots - 1) (map (λ (x : Item). x.last) items)))
+
+-- all but the parent word
+pub row_words-parent : (all slots gaps parent parent' : ℕ) (items : List Item) (c : ℕ) → 0 < c → slice_index (row_words all slots gaps parent' items) c ≡ slice_index (row_words all slots gaps parent items) c
+row_words-parent all slots gaps parent parent' items zero above = absurd (omega arith)
+row_words-parent all slots gaps parent parent' items (suc c) above = refl
+
+module _ (all slots gaps parent n word : ℕ) (items : List Item) (some : 0 < slots) (used : n < length items) (fit : length items ≤ slots) where
+  abbrev front : List ℕ
+  front = parent ∷ pivot_words slots items
+
+  abbrev middle : List ℕ
+  middle = slot_words slots items
+
+  length-front : length front ≡ slots
+  length-front = omega (arith, length-pivots slots items)
+
+  length-middle : length middle ≡ slots
+  length-middle = length-padded slots (map (λ (x : Item). x.word) items) (omega (arith, length-map items (λ (x : Item). x.word)))
+
+  middle-put : slot_words slots (put_item n word items) ≡ slice_set middle n word
+  middle-put = ap (padded_to slots) (put_item-word n word items) ∙ padded_to-set slots n word (map (λ (x : Item). x.word) items) (omega (arith, length-map items (λ (x : Item). x.word)))
+
+  front-put : front ++ slice_set middle n word ≡ slice_set (front ++ middle) (slot_column slots n) word
+  front-put =
+      let at : slot_column slots n - slots ≡ n = omega arith in
+      ap (λ (k : ℕ). front ++ slice_set middle k word) (sym at) ∙ sym (set-append_right front middle slots (slot_column slots n) word length-front (omega arith))
+
+  inside : slot_column slots n < length (front ++ middle)
+  inside = omega (arith, length-append front middle, length-front, length-middle)
+
+  used-put : parent ∷ pivot_words slots (put_item n word items) ++ slot_words slots (put_item n word items) ++ gap_words gaps (put_item n word items)
+      ≡ slice_set (front ++ middle ++ gap_words gaps items) (slot_column slots n) word
+  used-put =
+      (λ i. (parent ∷ padded_to (slots - 1) (take (slots - 1) (put_item-last n word items i))) ++ middle-put i ++ gaps-put i)
+      ∙ (ap (λ (l : List ℕ). l ++ gap_words gaps items) front-put ∙ sym (set-append_left (front ++ middle) (gap_words gaps items) (slot_column slots n) word inside))
+    where
+      gaps-put : gap_words gaps (put_item n word items) ≡ gap_words gaps items
+      gaps-put = ap (λ (l : List ℕ). if gaps == 0 then [] else padded_to gaps l) (put_item-gap n word items)
+
+  pub row_words-put : row_words all slots gaps parent (put_item n word items) ≡ slice_set (row_words all slots gaps parent items) (slot_column slots n) word
+  row_words-put = ap (padded_to all) used-put ∙ padded_to-set all (slot_column slots n) word (front ++ middle ++ gap_words gaps items) (omega (arith, length-append (front ++ middle) (gap_words gaps items), inside))
+
+  pub row_words-inside : slot_column slots n < length (row_words all slots gaps parent items)
+  row_words-inside =
+      omega (arith, length-append (front ++ middle) (gap_words gaps items), inside, length-append (front ++ middle ++ gap_words gaps items) (replicate (all - length (front ++ middle ++ gap_words gaps items)) 0))

@@ -1,0 +1,12 @@
+use Rattle.std.proofs.Common.{ℕ, sym, subst}
+use Rattle.mt_base.specs.declared.calls.Call.TheVariants.{Store}
+use Rattle.mt_base.specs.declared.replies.Reply.TheVariants as reply
+use Rattle.mt_rows.specs.declared.rows.Place.TheVariants.{Slot}
+use Rattle.mt_rows.specs.Publish.{MayPublish}
+use Rattle.mt_rows.proofs.ExactStore.{may_publish}
+use Rattle.mt_rows.proofs.laws.an_exact_store_may_be_published.Goals as goal
+
+pub returns : goal.returns
+returns c = λ kind s h slot entry row col leaf item whole flying before live none_buried of_kind stands at is_row is_col old new free.
+    subst (λ (r : ℕ × ℕ). MayPublish kind s (Slot r.0 r.1) entry (Store item.first item.last entry) reply.Ok) (λ i. (sym is_row i, sym is_col i))
+    (may_publish kind s h slot entry leaf item whole live none_buried of_kind stands at old new free flying before)
