@@ -1,8 +1,8 @@
 -- What rows in memory stand for after a row's fate has changed.
-use Rattle.std.proofs.Common.{◌≡◌, ◌≢◌, ◌⊎◌, ℕ, zero, suc, ◌+◌, ◌<◌, ◌≤◌, List, [], ◌∷◌, Bool, true, false, length, map, refl, sym, ap, ◌∙◌, subst, inl, inr, arith}
-use Rattle.std.specs.Prelude.{slice_index_or, slice_set, replicate, nat_le, nat_lt, if◌then◌else◌}
+use Rattle.std.proofs.Common.{◌≡◌, ◌≢◌, ◌⊎◌, ℕ, zero, suc, ◌+◌, ◌*◌, ◌<◌, ◌≤◌, Option, Some, None, List, [], ◌∷◌, Bool, true, false, length, map, refl, sym, ap, ◌∙◌, subst, inl, inr, arith}
+use Rattle.std.specs.Prelude.{slice_index, slice_index_or, slice_set, replicate, nat_le, nat_lt, if◌then◌else◌}
 use Rattle.std.proofs.lemmas.Bool.{cases_Bool, cases_lt, leb-true, ltb-false, le-leb, lt-leb, lt-ltb, le-ltb}
-use Rattle.std.proofs.lemmas.List.{map-set, get_or_past}
+use Rattle.std.proofs.lemmas.List.{map-set, get_or_past, get_or_default}
 use Rattle.std.proofs.Math.Seq.{map-set_same}
 use Rattle.mt_rows.specs.declared.rows.Life.{Life}
 use Rattle.mt_rows.specs.declared.rows.Life.TheVariants as lives
@@ -11,11 +11,17 @@ use Rattle.mt_rows.specs.declared.plain.Fate.TheVariants.{New, Draft, Live, Buri
 use Rattle.mt_base.specs.declared.kinds.Kind.{Kind}
 use Rattle.mt_base.specs.declared.calls.Call.{Call}
 use Rattle.mt_base.specs.declared.replies.Reply.{Reply}
+use Rattle.mt_base.specs.Width.{columns}
+use Rattle.mt_layout.specs.Rows.{named_row}
+use Rattle.mt_rows.specs.declared.rows.Place.{Place}
+use Rattle.mt_rows.specs.declared.rows.Place.TheVariants.{Slot}
+use Rattle.mt_base.specs.declared.widths.Width.{Width}
+use Rattle.mt_base.specs.declared.widths.Width.TheVariants.{Long}
 use Rattle.mt_rows.specs.declared.plain.PlainRows.TheInside.{Inside}
 use Rattle.mt_rows.specs.Levels.{one_if}
-use Rattle.mt_rows.specs.Sheet.{Sheet, IsFree, MayBury, life_of, is_buried}
+use Rattle.mt_rows.specs.Sheet.{Sheet, IsPlace, IsFree, MayBury, life_of, is_buried, word_at}
 use Rattle.mt_rows.specs.Publish.{MayFinish}
-use Rattle.mt_rows.specs.Plain.{life_in, buried_in, past_of, fate_of, sheet_of, IsPlain}
+use Rattle.mt_rows.specs.Plain.{life_in, buried_in, past_of, fate_of, sheet_of, IsPlain, names_buried, buried_by, opens, IsPlaceIn}
 
 -- a fate that reads as another leaves what was read
 pub map-replicate : {A B : Type 0} (f : A → B) (n : ℕ) (a : A) → map f (replicate n a) ≡ replicate n (f a)
@@ -163,3 +169,22 @@ module _ (p : Inside) (s : Sheet) (kind : Kind) (call : Call) (reply : Reply) (p
 pub either_same : {A : Type 0} (b : Bool) (a : A) → a ≡ (if b then a else a)
 either_same true a = refl
 either_same false a = refl
+
+-- ---- a word in place of another
+
+place_within : (width : Width) (row col rows : ℕ) → row < 16 + rows → col < columns width → columns width * row + col < columns width * (16 + rows)
+place_within Long row col rows last column = omega arith
+
+pub store_opens : (p : Inside) (s : Sheet) (place : Place) (row col at old : ℕ) → IsPlain p → sheet_of p ≡ s → s.published ≡ false → IsPlaceIn s place → place ≡ Slot row col → at ≡ columns p.width * row + col → old ≡ slice_index_or p.words.items at old
+    → opens s place ≡ names_buried p.ended p.fates.items (named_row old)
+store_opens p s place row col at old plain is before inside slot at_is read =
+    let here : IsPlace (sheet_of p) row col = subst (λ (s : Sheet). IsPlace s row col) (sym is) (subst (IsPlaceIn s) slot inside) in
+    let within : at < length p.words.items = let size = plain.words in let last = here.last in let column = here.column in omega (arith, place_within p.width row col p.rows last column) in
+    let word : old ≡ word_at s row col = read ∙ (get_or_default p.words.items at old 0 within ∙ (ap (λ (n : ℕ). slice_index p.words.items n) at_is ∙ ap (λ (s : Sheet). word_at s row col) is)) in
+    ap (opens s) slot ∙ (ap (λ (n : ℕ). buried_by s (named_row n)) (sym word) ∙ by (named_row old))
+  where
+    by : (name : Option ℕ) → buried_by s name ≡ names_buried p.ended p.fates.items name
+    by None = refl
+    by (Some r) =
+        let past : past_of p ≡ p.ended = ap (λ (b : Bool). p.ended + one_if b) (ap (λ (s : Sheet). s.published) is ∙ before) ∙ omega arith in
+        ap (λ (s : Sheet). is_buried s r) (sym is) ∙ (buried_told p r ∙ ap (λ (n : ℕ). buried_in n (fate_of p r)) past)

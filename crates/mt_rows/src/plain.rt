@@ -1,8 +1,11 @@
-ghost use Rattle.std.specs.Prelude.{◌≡◌, ◌+◌, ◌*◌, ◌<◌, ◌≤◌, IfOk, length, slice_set};
+ghost use Rattle.std.specs.Prelude.{◌≡◌, ◌+◌, ◌*◌, ◌<◌, ◌≤◌, IfOk, length, slice_index_or, slice_set, if◌then◌else◌};
 ghost use Rattle.std.specs.List.{fold};
 ghost use Rattle.mt_base.specs.declared.widths.Width.TheVariants.{Long};
 ghost use Rattle.mt_base.specs.Width.{columns};
+ghost use Rattle.mt_layout.specs.Rows.{named_row};
 ghost use Rattle.mt_rows.specs.Trees.{rows_of, deepest};
+ghost use Rattle.mt_rows.specs.Plain as drafts;
+ghost use Rattle.mt_rows.specs.Plain.{names_of, enlivened, names_buried};
 
 use crate::plain_trees::spans_in;
 use crate::rows::{Place, Rows, Scan};
@@ -103,6 +106,57 @@ fn settle(words: &[u64], depth: u32, span: &Span, fates: &mut [Fate]) -> u64
     }
 }
 
+fn is_draft(fates: &[Fate], row: u32) -> bool
+    ensures { result ≡ drafts.is_draft (slice_index_or fates.now row Fate.New) }
+{
+    matches!(fates.get(row as usize), Some(Fate::Draft))
+}
+
+/// The words in the slots of an inner row, which name its children.
+fn names_in(words: &[u64], row: u32, kind: RowKind) -> &[u64]
+    requires { 32 * row + 32 ≤ length words.now }
+    ensures { result.now ≡ names_of words.now row kind }
+{
+    let base = 32 * row as usize;
+    match kind {
+        RowKind::Leaf => &words[..0],
+        RowKind::Inner => &words[base + 16..base + 32],
+        RowKind::Gapped => &words[base + 10..base + 20],
+    }
+}
+
+/// Makes the drafts live that are reached from a word, at most so many levels deep. Below a row that is no draft there is
+/// none.
+fn enliven(words: &[u64], depth: u32, word: u64, fates: &mut [Fate])
+    requires { length words.now ≡ 32 * length fates.old }
+    ensures { fates.new ≡ enlivened words.now depth word fates.old }
+{
+    let (Some(row), Some(kind)) = (row_of(word), kind_of(word)) else {
+        return;
+    };
+    if depth == 0 || !is_draft(fates, row) {
+        return;
+    }
+    set_fate(fates, row, Fate::Live);
+    for child in names_in(words, row, kind) {
+        enliven(words, depth - 1, *child, fates);
+    }
+}
+
+/// How many levels of drafts may be reached from a word that is stored in place of this one: none, unless a call behind
+/// the first `past` has buried its row.
+fn levels_in_place_of(fates: &[Fate], past: u64, old: u64) -> u32
+    ensures { result ≡ (if names_buried past fates.now (named_row old) then deepest else 0) }
+{
+    let Some(row) = row_of(old) else {
+        return 0;
+    };
+    match fates.get(row as usize) {
+        Some(Fate::Buried(call)) if past < *call => DEEPEST,
+        _ => 0,
+    }
+}
+
 impl PlainRows {
     ghost use Rattle.std.specs.Prelude.{◌≡◌, ◌≤◌, IfOk};
     ghost use Rattle.mt_base.specs.declared.kinds.Kind.{Kind};
@@ -152,6 +206,34 @@ impl PlainRows {
             scans_at_begin: 0,
             reads: 0,
         })
+    }
+}
+
+impl PlainRows {
+    ghost use Rattle.std.specs.Prelude.{◌≡◌, false, if◌then◌else◌};
+    ghost use Rattle.mt_rows.specs.Trees.{deepest};
+    ghost use Rattle.mt_rows.specs.Publish.{with_published};
+    ghost use Rattle.mt_rows.specs.Plain.{IsPlaceIn, opens};
+
+    /// Stores a word at a place, and says how many levels of drafts may be reached from it.
+    fn store(&mut self, place: Place, word: u64) -> u32
+        requires place { IsPlaceIn self.old place }
+        requires before { self.old.published ≡ false }
+        ensures rest { self.new ≡ record self.old { tree = with_published self.old.tree place word } }
+        ensures levels { result ≡ (if opens self.old place then deepest else 0) }
+    {
+        match place {
+            Place::Root => {
+                self.root = word;
+                DEEPEST
+            }
+            Place::Slot { row, col } => {
+                let slot = place_of(self.width, row, col);
+                let old = self.words[slot];
+                self.words[slot] = word;
+                levels_in_place_of(self.fates.as_slice(), self.ended, old)
+            }
+        }
     }
 }
 
@@ -220,10 +302,13 @@ impl Rows for PlainRows {
     }
 
     fn publish(&mut self, place: Place, word: u64, _call: &Call, _reply: &Reply) {
-        match place {
-            Place::Root => self.root = word,
-            Place::Slot { row, col } => self.words[place_of(self.width, row, col)] = word,
-        }
+        let levels = self.store(place, word);
+        enliven(
+            self.words.as_slice(),
+            levels,
+            word,
+            self.fates.as_mut_slice(),
+        );
         self.published = true;
     }
 
