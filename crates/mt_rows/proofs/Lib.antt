@@ -8,7 +8,9 @@ pub mod Joins
 pub mod Lists
 pub mod Once
 pub mod PlainFates
+pub mod PlainNames
 pub mod PlainPlant
+pub mod PlainWalk
 pub mod Ranges
 pub mod Reached
 pub mod RowLaws
