@@ -1,4 +1,4 @@
-use Rattle.mt_rows.proofs.PlainNames.{names_are}
+use Rattle.mt_rows.proofs.PlainReached.{ready_at}
 use Rattle.mt_rows.proofs.PlainWalk.{walk_one}
 use Rattle.mt_rows.proofs.plain.PlainRowsRows.publish.Goals as goal
 
