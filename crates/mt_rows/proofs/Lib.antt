@@ -11,6 +11,8 @@ pub mod PlainFates
 pub mod PlainNames
 pub mod PlainPlant
 pub mod PlainReached
+pub mod PlainRoot
+pub mod PlainSlot
 pub mod PlainWalk
 pub mod Ranges
 pub mod Reached

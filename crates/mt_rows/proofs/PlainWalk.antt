@@ -134,7 +134,7 @@ fold-map : (w : List ℕ) (depth : ℕ) (xs : List Span) (fates : List Fate)
 fold-map w depth [] fates = refl
 fold-map w depth (x ∷ xs) fates = fold-map w depth xs (enlivened w depth x.word fates)
 
-no_name : (w : List ℕ) (depth : ℕ) (fates : List Fate) → enlivened w depth 0 fates ≡ fates
+pub no_name : (w : List ℕ) (depth : ℕ) (fates : List Fate) → enlivened w depth 0 fates ≡ fates
 no_name w zero fates = refl
 no_name w (suc depth) fates = refl
 

@@ -1,4 +1,5 @@
-use Rattle.mt_rows.proofs.PlainReached.{ready_at}
+use Rattle.mt_rows.proofs.PlainRoot.{root_reaches}
+use Rattle.mt_rows.proofs.PlainSlot.{inner_reaches}
 use Rattle.mt_rows.proofs.PlainWalk.{walk_one}
 use Rattle.mt_rows.proofs.plain.PlainRowsRows.publish.Goals as goal
 
