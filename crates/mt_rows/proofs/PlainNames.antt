@@ -1,7 +1,8 @@
 -- The words in the slots of an inner row are those of its items, and zeros behind them.
-use Rattle.std.proofs.Common.{◌≡◌, ℕ, suc, ◌+◌, ◌-◌, ◌*◌, ◌<◌, ◌≤◌, List, [], ◌∷◌, ◌++◌, Option, Some, length, map, take, drop, replicate, refl, sym, ap, ◌∙◌, subst, arith, length-append, length-take, length-drop, inl, inr}
+use Rattle.std.proofs.Common.{◌≡◌, ℕ, zero, suc, ◌+◌, ◌-◌, ◌*◌, ◌<◌, ◌≤◌, List, [], ◌∷◌, ◌++◌, Option, Some, length, map, take, drop, replicate, refl, sym, ap, ◌∙◌, subst, arith, length-append, length-take, length-drop, inl, inr}
 use Rattle.std.specs.Prelude.{slice_index}
-use Rattle.std.specs.List.{slice_range}
+use Rattle.std.specs.List.{slice_get, slice_range}
+use Rattle.std.proofs.lemmas.Option.{slice_get_within}
 use Rattle.std.proofs.lemmas.List.{ext_get_or, get_or-take, get_or-drop, length-map, length-replicate}
 use Rattle.mt_base.specs.declared.kinds.Kind.{Kind}
 use Rattle.mt_base.specs.declared.kinds.Kind.TheVariants as trees
@@ -19,6 +20,8 @@ use Rattle.mt_layout.proofs.RowWords.{item_or, get_or-padded, get_or-field, used
 use Rattle.mt_rows.specs.Spans.{Table, column, slots_of, gaps_of, spans_by, spans_in, inner_kind}
 use Rattle.mt_rows.specs.Laws.{Tree, HasWords, IsRow, kind_at, items_in}
 use Rattle.mt_rows.specs.Plain.{names_of}
+use Rattle.mt_rows.proofs.Frames.{is_layout}
+use Rattle.mt_rows.proofs.RowLaws.{slot_inside}
 use Rattle.mt_rows.proofs.SlotWords.{length-spans_from}
 
 module _ (w : List ℕ) (row slots gaps parent : ℕ) (items : List Item) (layout : IsLayout slots gaps) (fit : length items ≤ slots) (two : 2 * slots ≤ 32) (within : 32 * row + 32 ≤ length w)
@@ -83,3 +86,27 @@ names_are t h x has row =
     let fit : length items ≤ slots_of t.table.width (inner_kind t.kind) = omega (arith, row.count.most, ap length spans, length-spans_from x.first items) in
     let read = read_names t.table.width t.kind t.table.words (row_in x.word) (column t.table (row_in x.word) 0) items fit (omega (arith, has, row_inside t.table.width (row_in x.word) t.rows row.name.in_table)) row.pivots.unused in
     (n, read ∙ ap (λ (l : List ℕ). l ++ replicate n 0) (sym (ap (map (λ (y : Span). y.word)) spans ∙ span_words x.first items)))
+
+-- ---- the word of an item is in its slot
+
+span_word : (first : ℕ) (items : List Item) (i : ℕ) (y : Span) → slice_get (spans_from first items) i ≡ Some y → y.word ≡ (item_or items i).word
+span_word first [] i y at = absurd (cc)
+span_word first (x ∷ items) zero y at = let same : record { first = first; last = x.last; word = x.word; gap = x.gap } ≡ y = cc in ap (λ (z : Span). z.word) (sym same)
+span_word first (x ∷ items) (suc i) y at = span_word (x.last + 1) items i y at
+
+pub slot_read : (t : Tree) (h slot : ℕ) (x y : Span) → IsRow t h x → slice_get (spans_in t.table x) slot ≡ Some y → y.word ≡ column t.table (row_in x.word) (slot_column (slots_of t.table.width (kind_at t.kind h)) slot)
+slot_read t h slot x y row at =
+    let kind = kind_at t.kind h in
+    let slots = slots_of t.table.width kind in
+    let gaps = gaps_of t.table.width kind in
+    let items = items_in t.table kind x in
+    let parent = column t.table (row_in x.word) 0 in
+    let layout = is_layout t.table.width kind in
+    let spans : spans_in t.table x ≡ spans_from x.first items = ap (λ (k : Option RowKind). spans_by t.table k x) row.name.named in
+    let used_slot = slice_get_within (spans_in t.table x) slot y at in
+    let most = row.count.most in
+    let fit : length items ≤ slots = omega (arith, ap length spans, length-spans_from x.first items) in
+    span_word x.first items slot y (sym (ap (λ (l : List Span). slice_get l slot) spans) ∙ at)
+    ∙ (sym (used-slot slots gaps parent items layout fit slot (omega arith))
+    ∙ (sym (get_or-padded (used slots gaps parent items layout fit) (columns t.table.width - length (used slots gaps parent items layout fit)) (slot_column slots slot))
+    ∙ sym (row.pivots.unused (slot_column slots slot) (slot_inside t.table.width kind slot (omega arith)))))

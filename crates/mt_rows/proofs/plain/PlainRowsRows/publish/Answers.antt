@@ -1,5 +1,5 @@
 use Rattle.mt_rows.proofs.PlainRoot.{root_reaches}
-use Rattle.mt_rows.proofs.PlainSlot.{inner_reaches}
+use Rattle.mt_rows.proofs.PlainSlot.{slot_reaches}
 use Rattle.mt_rows.proofs.PlainWalk.{walk_one}
 use Rattle.mt_rows.proofs.plain.PlainRowsRows.publish.Goals as goal
 
