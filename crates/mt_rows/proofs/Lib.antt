@@ -10,6 +10,7 @@ pub mod Once
 pub mod PlainFates
 pub mod PlainNames
 pub mod PlainPlant
+pub mod PlainPublish
 pub mod PlainReached
 pub mod PlainRoot
 pub mod PlainSlot

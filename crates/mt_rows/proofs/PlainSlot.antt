@@ -300,8 +300,8 @@ module _ (b : Before) (inside : (r : ℕ) → is_buried b.sheet r ≡ true → (
   none_opens None none opened = absurd (cc)
   none_opens (Some r) none opened = none r opened
 
-  rooted : (after : Tree) → after.root ≡ b.sheet.tree.root → (b.sheet.tree.root ≡ 0 → ⊥) → laws.IsTree (tree_as b.kind b.sheet.rows after) → (h : ℕ) × laws.Stands (tree_as b.kind b.sheet.rows after) h
-  rooted after same some tree = elim tree [ inl empty ↦ absurd (some (sym same ∙ empty)) | inr stands ↦ stands ]
+  rooted : (later : Tree) → later.root ≡ b.sheet.tree.root → (b.sheet.tree.root ≡ 0 → ⊥) → laws.IsTree (tree_as b.kind b.sheet.rows later) → (h : ℕ) × laws.Stands (tree_as b.kind b.sheet.rows later) h
+  rooted later same some tree = elim tree [ inl empty ↦ absurd (some (sym same ∙ empty)) | inr stands ↦ stands ]
 
   module _ (h d slot : ℕ) (at child : Span) (stands : laws.Stands (tree_as b.kind b.sheet.rows b.sheet.tree) h) (some : b.sheet.tree.root ≡ 0 → ⊥) where
     by_height : (low : ℕ) → h ≡ d + low → IsSlotAt (tree_as b.kind b.sheet.rows b.sheet.tree) d at slot child → SlotReaches (row_in at.word) (slot_column (slots_of b.sheet.tree.table.width (laws.kind_at b.kind low)) slot)
