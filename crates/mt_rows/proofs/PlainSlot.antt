@@ -282,6 +282,9 @@ module _ (b : Before) (h k d slot word : ℕ) (at child : Span) (stands : laws.S
 
 -- ---- in any slot
 
+same_kind : (t : laws.Tree) (low : ℕ) (x : Span) (kind : RowKind) → laws.IsRow t low x → named_kind x.word ≡ Some kind → laws.kind_at t.kind low ≡ kind
+same_kind t low x kind law named = let same : Some (laws.kind_at t.kind low) ≡ Some kind = sym law.name.named ∙ named in cc
+
 module _ (b : Before) (inside : (r : ℕ) → is_buried b.sheet r ≡ true → (16 ≤ r) × (r < 16 + b.sheet.rows)) (word levels : ℕ) where
   -- how many levels are walked where a word is stored in this slot
   abbrev Walks : ℕ → ℕ → Type 0
@@ -347,7 +350,6 @@ module _ (b : Before) (inside : (r : ℕ) → is_buried b.sheet r ≡ true → (
       let child = slice_index_or (spans_in t.table place.at) place.slot place.at in
       let on : IsSlotAt t place.depth place.at place.slot child = record { front = parts.0; back = parts.1; stands = parts.2; holds = slice_get-get_or (spans_in t.table place.at) place.slot place.at place.used } in
       let law = store.row_law (record { tree = t; height = h; low = low; depth = place.depth; slot = place.slot; word = word; row = place.at; child = child; has = b.has; stands = stands.1; levels = height; at = on }) in
-      let kinds : Some (laws.kind_at b.kind low) ≡ Some place.kind = sym law.name.named ∙ place.named in
-      let kind : laws.kind_at b.kind low ≡ place.kind = cc in
+      let kind = same_kind t low place.at place.kind law place.named in
       let column : slot_column (slots_of b.sheet.tree.table.width (laws.kind_at b.kind low)) place.slot ≡ col = ap (λ (k : RowKind). slot_column (slots_of b.sheet.tree.table.width k) place.slot) kind ∙ sym place.column in
       subst (λ (z : ℕ × ℕ). SlotReaches z.0 z.1) (λ i. (place.number i, column i)) (by_height h place.depth place.slot place.at child stands.1 some low height on)
