@@ -1,5 +1,5 @@
 -- Where the ranges of a map lie, and a store that leaves what lies below it and above it.
-use Rattle.std.proofs.Common.{◌≡◌, ℕ, zero, suc, ◌+◌, ◌-◌, ◌<◌, ◌≤◌, ◌==◌, List, [], ◌∷◌, ◌++◌, min, max, nat_lt, Bool, false, refl, sym, ap, ◌∙◌, inl, inr, arith, append-nil, append_assoc}
+use Rattle.std.proofs.Common.{◌≡◌, ℕ, zero, suc, ◌+◌, ◌-◌, ◌<◌, ◌≤◌, ◌==◌, List, [], ◌∷◌, ◌++◌, min, max, nat_lt, false, refl, sym, ap, ◌∙◌, inl, inr, arith, append-nil, append_assoc}
 use Rattle.std.specs.List.{AllByRecursion, flat_map}
 use Rattle.std.proofs.lemmas.Bool.{cases_Bool, lt-ltb, le-ltb}
 use Rattle.mt_base.specs.declared.ranges.Range.{Range}

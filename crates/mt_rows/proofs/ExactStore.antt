@@ -1,15 +1,14 @@
 -- A store of an entry over just the indexes of a range may be published by one store of its slot.
-use Rattle.std.proofs.Common.{◌≡◌, ◌≢◌, ℕ, zero, ◌+◌, ◌<◌, ◌≤◌, ◌==◌, List, [], ◌∷◌, ◌++◌, Bool, true, false, nat_lt, map, refl, sym, ap, ◌∙◌, subst, inl, inr, arith, ne_eqb, le-ltb}
+use Rattle.std.proofs.Common.{◌≡◌, ◌≢◌, ℕ, zero, ◌+◌, ◌<◌, ◌≤◌, ◌==◌, List, ◌∷◌, ◌++◌, Bool, true, false, map, refl, sym, ap, ◌∙◌, subst, inl, inr, arith, ne_eqb, le-ltb}
 use Rattle.std.proofs.lemmas.Bool.{cases_Bool, eqb-true}
 use Rattle.std.proofs.lemmas.List.{map-append}
 use Rattle.mt_base.specs.declared.ranges.Range.{Range}
 use Rattle.mt_base.specs.declared.kinds.Kind.{Kind}
 use Rattle.mt_base.specs.declared.calls.Call.TheVariants.{Store}
-use Rattle.mt_base.specs.declared.replies.Reply.{Reply}
 use Rattle.mt_base.specs.declared.replies.Reply.TheVariants as reply
 use Rattle.mt_base.specs.Entry.{reserved}
 use Rattle.mt_base.specs.Map.{over}
-use Rattle.mt_base.specs.Call.{acted, is_invalid}
+use Rattle.mt_base.specs.Call.{acted}
 use Rattle.mt_layout.specs.Rows.{row_in}
 use Rattle.mt_layout.specs.Columns.{slot_column}
 use Rattle.mt_layout.specs.declared.names.RowKind.TheVariants.{Leaf}
@@ -20,8 +19,8 @@ use Rattle.mt_rows.specs.Levels.{level, map_of}
 use Rattle.mt_rows.specs.Trees.{deepest}
 use Rattle.mt_rows.specs.Laws as laws
 use Rattle.mt_rows.specs.Sheet.{Sheet, Tree, IsWhole, with_word}
-use Rattle.mt_rows.specs.Publish.{tree_as, AreOfKind, LiveAreReached, NoneBuried, MayPublish, IsPlaceToPublish, IsReached, StandsAt, KeepsPlace, SameHoles, Changes, map_by, is_reached}
-use Rattle.mt_rows.specs.Replacement.{root_of, IsSlotAt, with_slot}
+use Rattle.mt_rows.specs.Publish.{tree_as, AreOfKind, LiveAreReached, NoneBuried, MayPublish, IsPlaceToPublish, IsReached, StandsAt, KeepsPlace, SameHoles, Changes, map_by}
+use Rattle.mt_rows.specs.Replacement.{root_of, IsSlotAt}
 use Rattle.mt_rows.proofs.Depth.{ranges_by_depth}
 use Rattle.mt_rows.proofs.Heights.{level_shared_above}
 use Rattle.mt_rows.proofs.RowLaws.{slot_inside}

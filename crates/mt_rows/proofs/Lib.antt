@@ -18,6 +18,7 @@ pub mod PlainWalk
 pub mod Ranges
 pub mod Reached
 pub mod RowLaws
+pub mod Settled
 pub mod SlotChild
 pub mod SlotEntry
 pub mod SlotStore

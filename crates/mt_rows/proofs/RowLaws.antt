@@ -1,26 +1,25 @@
 -- A row keeps its laws while its columns stay, and while just the word of one of its slots changes.
-use Rattle.std.proofs.Common.{◌≡◌, ◌≢◌, ℕ, zero, suc, ◌+◌, ◌*◌, ◌<◌, ◌≤◌, ◌==◌, List, [], ◌∷◌, ◌++◌, Bool, false, Option, Some, length, refl, sym, ap, ◌∙◌, subst, ⊎_elim, arith, length-append, ne_eqb, get_or-set_other, get_or-set_same}
+use Rattle.std.proofs.Common.{◌≡◌, ◌≢◌, ℕ, zero, suc, ◌+◌, ◌*◌, ◌<◌, ◌≤◌, ◌==◌, List, [], ◌∷◌, false, Option, length, refl, sym, ap, ◌∙◌, subst, ⊎_elim, arith, length-append, ne_eqb, get_or-set_other, get_or-set_same}
 use Rattle.std.specs.Prelude.{slice_index, slice_set}
-use Rattle.std.specs.List.{AllByRecursion, flat_map, slice_get}
+use Rattle.std.specs.List.{AllByRecursion, flat_map}
 use Rattle.std.proofs.lemmas.Bool.{cases_eq}
-use Rattle.std.proofs.lemmas.Option.{slice_get_within}
 use Rattle.mt_base.specs.declared.widths.Width.{Width}
 use Rattle.mt_base.specs.declared.widths.Width.TheVariants.{Long}
 use Rattle.mt_base.specs.Width.{columns}
 use Rattle.mt_base.specs.Entry.{reserved}
 use Rattle.mt_layout.specs.declared.names.RowKind.{RowKind}
 use Rattle.mt_layout.specs.declared.names.RowKind.TheVariants.{Leaf, Inner, Gapped}
-use Rattle.mt_layout.specs.Rows.{row_in, named_kind}
+use Rattle.mt_layout.specs.Rows.{row_in}
 use Rattle.mt_layout.specs.Columns.{slot_column, items_at, row_words}
 use Rattle.mt_layout.proofs.OwnColumns.{same_items}
 use Rattle.mt_layout.specs.declared.items.Item.{Item}
 use Rattle.mt_layout.specs.declared.spans.Span.{Span}
 use Rattle.mt_layout.specs.Spans.{spans_from, leaf_range, Fills, BeginsFull, Apart, EndsFull}
-use Rattle.mt_rows.specs.Spans.{Table, base_of, column, slots_of, gaps_of, row_spans, spans_by, spans_in}
+use Rattle.mt_rows.specs.Spans.{base_of, column, slots_of, gaps_of, spans_by, spans_in}
 use Rattle.mt_rows.specs.Levels.{SameColumns, SameSpans}
-use Rattle.mt_rows.specs.Laws.{Tree, HasWords, IsRow, PivotLaw, CountLaw, NameLaw, EntryLaw, HoleLaw, HoleLawOfLeaf, kind_at, least_of, items_in, words_in, top_of}
+use Rattle.mt_rows.specs.Laws.{Tree, HasWords, IsRow, EntryLaw, HoleLaw, kind_at, least_of, items_in, words_in}
 use Rattle.mt_rows.proofs.Frames.{is_layout, same_spans}
-use Rattle.mt_rows.proofs.SlotWords.{put_item, put_span, length-put_item, spans_from-put, length-spans_from, other_column, slot_here, items_at-put, row_words-parent, row_words-put, row_words-inside}
+use Rattle.mt_rows.proofs.SlotWords.{put_item, put_span, spans_from-put, length-spans_from, other_column, slot_here, items_at-put, row_words-parent, row_words-put, row_words-inside}
 
 -- the tree with other words and another root word
 abbrev pub with_words : Tree → List ℕ → ℕ → Tree

@@ -1,18 +1,17 @@
 -- What stands below a slot is replaced by one store of the slot's word.
-use Rattle.std.proofs.Common.{◌≡◌, ℕ, zero, suc, ◌+◌, ◌<◌, ◌≤◌, List, [], ◌∷◌, ◌++◌, Bool, refl, sym, ap, ◌∙◌, subst, arith}
-use Rattle.std.specs.List.{AllByRecursion}
+use Rattle.std.proofs.Common.{◌≡◌, ◌⊎◌, ⊎_elim, ℕ, zero, suc, ◌+◌, ◌≤◌, ◌<◌, List, [], ◌∷◌, ◌++◌, Bool, refl, sym, ap, ◌∙◌, subst, arith}
 use Rattle.mt_base.specs.declared.ranges.Range.{Range}
+use Rattle.mt_layout.specs.Rows.{row_in}
 use Rattle.mt_layout.specs.declared.spans.Span.{Span}
-use Rattle.mt_layout.specs.Spans.{Fills}
-use Rattle.mt_rows.specs.Spans.{Table, root_span}
+use Rattle.mt_rows.specs.Spans.{Table}
 use Rattle.mt_rows.specs.Levels.{level, map_of, Levels, tally, times}
 use Rattle.mt_rows.specs.Laws.{Tree, HasWords, IsRow, Stands, top_of}
-use Rattle.mt_rows.specs.Replacement.{root_of, IsSlotAt, with_slot, with_child, ReplacesChild}
+use Rattle.mt_rows.specs.Replacement.{root_of, IsSlotAt, with_slot, with_child, IsNewBelow, ReplacesChild}
 use Rattle.mt_rows.proofs.Lists.{all_map, levels_map}
 use Rattle.mt_rows.proofs.Joins.{Shared, map_of-append, times-append, levels_join, levels_front, levels_back, map_of_shared, times_shared, levels_shared}
 use Rattle.mt_rows.proofs.Once.{times_nowhere}
 use Rattle.mt_rows.proofs.Between.{Between, fills_split, map_between}
-use Rattle.mt_rows.proofs.Heights.{times_upper, level_next, map_of_split, times_split, levels_upper, levels_lower, levels_both, levels_pair, upper_more, times_upper_more, level_fills, times_upper_shared}
+use Rattle.mt_rows.proofs.Heights.{times_upper, level_next, map_of_split, times_split, levels_lower, levels_both, levels_pair, upper_more, times_upper_more, times_upper_shared}
 use Rattle.mt_rows.proofs.RowLaws.{row_put}
 use Rattle.mt_rows.proofs.SlotStore as store
 
@@ -131,3 +130,25 @@ module _ (t : Tree) (h k depth slot word : ℕ) (row child : Span) (has : HasWor
             (map_between t k (child.last + 1) (top_of t + 1) back back_laws apart.2);
         rows = rows;
       }
+
+  -- ---- a child that was written before the store
+
+  -- the row that is written does not stand below the new child
+  not_below : IsNewBelow t t h k child child' → times (store.is_written s) t.table k (child' ∷ []) ≡ 0
+  not_below apart = none (times (store.is_written s) t.table k (child' ∷ [])) (apart (row_in row.word))
+    where
+      none : (n : ℕ) → (1 ≤ n → (times (store.is_written s) t.table h (root_of t) ≡ 0) ⊎ (1 ≤ times (store.is_written s) t.table k (child ∷ []))) → n ≡ 0
+      none zero either = refl
+      none (suc n) either =
+          let split = times_split (store.is_written s) t.table depth (suc k) h (root_of t) height in
+          let mine = store.tally_here s in
+          let old = ap (times (store.is_written s) t.table k) (sym before) ∙ none_below in
+          let three = three_times (store.is_written s) t.table k front back child in
+          ⊎_elim (λ (unreached : times (store.is_written s) t.table h (root_of t) ≡ 0). absurd (omega arith)) (λ (below : 1 ≤ times (store.is_written s) t.table k (child ∷ [])). absurd (omega arith)) (either (omega arith))
+
+  -- So what stands below the new child before the store stands there after it, and the child is replaced.
+  pub replaces_written_child : Levels (IsRow t) t.table k (child' ∷ []) → IsNewBelow t t h k child child'
+      → ReplacesChild t t' h k (suc depth) child child' × (map_of t'.table k (child' ∷ []) ≡ map_of t.table k (child' ∷ [])) × ((p : ℕ → Span → Bool) → times p t'.table k (child' ∷ []) ≡ times p t.table k (child' ∷ []))
+  replaces_written_child laws apart =
+      let other = times_nowhere (store.is_written s) t.table k (child' ∷ []) (not_below apart) in
+      (replaces_child (keep (child' ∷ []) other laws), map_of_shared t.table t'.table k (child' ∷ []) (same (child' ∷ []) other), λ p. times_shared p t.table t'.table k (child' ∷ []) (same (child' ∷ []) other))

@@ -1,5 +1,5 @@
 -- The word of one slot is stored: the item in that slot has another word, and nothing else of its row changes.
-use Rattle.std.proofs.Common.{◌≡◌, ◌≢◌, ℕ, zero, suc, ◌+◌, ◌-◌, ◌*◌, ◌<◌, ◌≤◌, ◌==◌, List, [], ◌∷◌, ◌++◌, Bool, true, false, Some, length, map, take, replicate, refl, sym, ap, ◌∙◌, subst, ⊎_elim, arith, length-append, length-take, length-set, get_or-set_other, get_or-set_same}
+use Rattle.std.proofs.Common.{◌≡◌, ◌≢◌, ℕ, zero, suc, ◌+◌, ◌-◌, ◌<◌, ◌≤◌, ◌==◌, List, [], ◌∷◌, ◌++◌, Bool, true, false, Some, length, map, take, replicate, refl, sym, ap, ◌∙◌, subst, ⊎_elim, arith, length-append, length-take, length-set, get_or-set_other, get_or-set_same}
 use Rattle.std.specs.Prelude.{if◌then◌else◌, nat_le, slice_index, slice_set}
 use Rattle.std.specs.List.{slice_get}
 use Rattle.std.proofs.lemmas.Bool.{cases_eq}
