@@ -98,8 +98,7 @@ module _ (p q : Inside) (s : Sheet) (kind : Kind) (place : Place) (word levels :
   inside row buried =
       let fate = buried_fate (past_of p) (fate_of p row) (sym (buried_are row) ∙ buried) in
       let rows : p.rows ≡ s.rows = ap (λ (s : Sheet). s.rows) is in
-      let size = plain.fates in
-      (
+      let size = plain.fates in (
         (plain.buried row fate.0 fate.1).0,
         elim (cases_lt row (length p.fates.items)) [ inl within ↦ omega arith | inr beyond ↦ let new = get_or_past p.fates.items row New beyond in let at = fate.1 in absurd (cc) ],
       )

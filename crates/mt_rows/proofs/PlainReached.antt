@@ -117,9 +117,9 @@ module _ (kind : Kind) (s : Sheet) (after : Tree) (past : ℕ) (fates : List Fat
         let on_y' : reached.OnLevel t.table h (root_of t) (suc m) y = subst (λ (n : ℕ). reached.OnLevel t.table h (root_of t) n y) height on_y in
         all_from (λ (z : Span). fate_at fates (row_in z.word) ≡ Live) (spans_in t'.table x)
         (λ z one.
-          let child' = on_level_child t'.table h' m (root_of t') x z on_x one in
-          let child = on_level_child t.table h m (root_of t) y z on_y' (subst (λ (l : List Span). reached.IsOneOf z l) spans one) in
-          stays_live (row_in z.word) (on_level_is m z child') (reached.times_reached t h stands (row_in z.word) (reached.on_level_reached t h stands m z child)))
+        let child' = on_level_child t'.table h' m (root_of t') x z on_x one in
+        let child = on_level_child t.table h m (root_of t) y z on_y' (subst (λ (l : List Span). reached.IsOneOf z l) spans one) in
+        stays_live (row_in z.word) (on_level_is m z child') (reached.times_reached t h stands (row_in z.word) (reached.on_level_reached t h stands m z child)))
 
   live_children : (m : ℕ) (x : Span) → reached.OnLevel t'.table h' (root_of t') (suc m) x → IsReached s.tree (row_in x.word) → SameSpans t.table t'.table x → AllLive fates (spans_in t'.table x)
   live_children m x on was same = elim tree [

@@ -4,7 +4,7 @@ ghost use Rattle.mt_base.specs.declared.widths.Width.TheVariants.{Long};
 ghost use Rattle.mt_base.specs.Width.{columns};
 ghost use Rattle.mt_layout.specs.Rows.{named_row};
 ghost use Rattle.mt_rows.specs.Trees.{rows_of, deepest};
-ghost use Rattle.mt_rows.specs.Plain as drafts;
+ghost use Rattle.mt_rows.specs.Plain as defined;
 ghost use Rattle.mt_rows.specs.Plain.{names_of, enlivened, names_buried};
 
 use crate::plain_trees::spans_in;
@@ -107,17 +107,17 @@ fn settle(words: &[u64], depth: u32, span: &Span, fates: &mut [Fate]) -> u64
 }
 
 fn is_draft(fates: &[Fate], row: u32) -> bool
-    ensures { result ≡ drafts.is_draft (slice_index_or fates.now row Fate.New) }
+    ensures { result ≡ defined.is_draft (slice_index_or fates.now row Fate.New) }
 {
     matches!(fates.get(row as usize), Some(Fate::Draft))
 }
 
 /// The words in the slots of an inner row, which name its children.
 fn names_in(words: &[u64], row: u32, kind: RowKind) -> &[u64]
-    requires { 32 * row + 32 ≤ length words.now }
+    requires { columns Long * (row + 1) ≤ length words.now }
     ensures { result.now ≡ names_of words.now row kind }
 {
-    let base = 32 * row as usize;
+    let base = cols(Width::Long) as usize * row as usize;
     match kind {
         RowKind::Leaf => &words[..0],
         RowKind::Inner => &words[base + 16..base + 32],
@@ -128,7 +128,7 @@ fn names_in(words: &[u64], row: u32, kind: RowKind) -> &[u64]
 /// Makes the drafts live that are reached from a word, at most so many levels deep. Below a row that is no draft there is
 /// none.
 fn enliven(words: &[u64], depth: u32, word: u64, fates: &mut [Fate])
-    requires { length words.now ≡ 32 * length fates.old }
+    requires { length words.now ≡ columns Long * length fates.old }
     ensures { fates.new ≡ enlivened words.now depth word fates.old }
 {
     let (Some(row), Some(kind)) = (row_of(word), kind_of(word)) else {
@@ -158,30 +158,11 @@ fn levels_in_place_of(fates: &[Fate], past: u64, old: u64) -> u32
 }
 
 impl PlainRows {
-    ghost use Rattle.std.specs.Prelude.{◌≡◌, ◌≤◌, IfOk};
+    ghost use Rattle.std.specs.Prelude.{◌≡◌, ◌≤◌, IfOk, false, if◌then◌else◌};
     ghost use Rattle.mt_base.specs.declared.kinds.Kind.{Kind};
-    ghost use Rattle.mt_rows.specs.Plain.{new_sheet};
-    ghost use Rattle.mt_rows.specs.Publish.{MayPlant, Planted};
-
-    /// Sets the root word before the first call. The rows that are reached from it are live then.
-    pub fn plant(&mut self, root: u64)
-        requires { (kind : Kind) × MayPlant kind self.old root }
-        ensures { Planted self.old self.new root }
-    {
-        self.root = root;
-        let span = Span {
-            first: 0,
-            last: top(self.width),
-            word: root,
-            gap: 0,
-        };
-        self.opened = settle(
-            self.words.as_slice(),
-            DEEPEST,
-            &span,
-            self.fates.as_mut_slice(),
-        );
-    }
+    ghost use Rattle.mt_rows.specs.Trees.{deepest};
+    ghost use Rattle.mt_rows.specs.Plain.{new_sheet, IsPlaceIn, opens};
+    ghost use Rattle.mt_rows.specs.Publish.{MayPlant, Planted, with_published};
 
     /// So many rows, none of which was ever used, and an empty tree. There are 65,504 rows at the most.
     pub fn new(alloc: Global, rows: u64) -> Result<PlainRows, NoMemory>
@@ -207,13 +188,26 @@ impl PlainRows {
             reads: 0,
         })
     }
-}
 
-impl PlainRows {
-    ghost use Rattle.std.specs.Prelude.{◌≡◌, false, if◌then◌else◌};
-    ghost use Rattle.mt_rows.specs.Trees.{deepest};
-    ghost use Rattle.mt_rows.specs.Publish.{with_published};
-    ghost use Rattle.mt_rows.specs.Plain.{IsPlaceIn, opens};
+    /// Sets the root word before the first call. The rows that are reached from it are live then.
+    pub fn plant(&mut self, root: u64)
+        requires { (kind : Kind) × MayPlant kind self.old root }
+        ensures { Planted self.old self.new root }
+    {
+        self.root = root;
+        let span = Span {
+            first: 0,
+            last: top(self.width),
+            word: root,
+            gap: 0,
+        };
+        self.opened = settle(
+            self.words.as_slice(),
+            DEEPEST,
+            &span,
+            self.fates.as_mut_slice(),
+        );
+    }
 
     /// Stores a word at a place, and says how many levels of drafts may be reached from it.
     fn store(&mut self, place: Place, word: u64) -> u32
