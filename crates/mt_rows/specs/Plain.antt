@@ -1,10 +1,39 @@
 -- What rows in memory stand for. Source: this project's own.
-use Rattle.std.specs.Prelude.{◌≡◌, ℕ, ◌+◌, ◌*◌, ◌≤◌, false, Some, None, length, map, replicate}
+use Rattle.std.specs.Prelude.{◌≡◌, ℕ, ◌+◌, ◌-◌, ◌*◌, ◌^◌, ◌<◌, ◌≤◌, Bool, true, false, Option, Some, None, List, [], zero, suc, length, map, replicate, nat_le, nat_lt, slice_index_or, slice_set, if◌then◌else◌}
+use Rattle.std.specs.List.{fold, slice_range}
 use Rattle.mt_base.specs.declared.widths.Width.TheVariants.{Long}
 use Rattle.mt_base.specs.Width.{columns}
-use Rattle.mt_rows.specs.declared.rows.Life.TheVariants.{New}
+use Rattle.mt_layout.specs.declared.names.RowKind.{RowKind}
+use Rattle.mt_layout.specs.declared.names.RowKind.TheVariants as kinds
+use Rattle.mt_layout.specs.Rows.{row_in, named_kind, named_row}
+use Rattle.mt_rows.specs.declared.rows.Place.{Place}
+use Rattle.mt_rows.specs.declared.rows.Place.TheVariants.{Root, Slot}
+use Rattle.mt_rows.specs.declared.rows.Life.{Life}
+use Rattle.mt_rows.specs.declared.rows.Life.TheVariants as lives
+use Rattle.mt_rows.specs.declared.plain.Fate.{Fate}
+use Rattle.mt_rows.specs.declared.plain.Fate.TheVariants.{New, Draft, Live, Buried}
 use Rattle.mt_rows.specs.declared.plain.PlainRows.TheInside.{Inside}
-use Rattle.mt_rows.specs.Sheet.{Sheet}
+use Rattle.mt_rows.specs.Levels.{one_if}
+use Rattle.mt_rows.specs.Sheet.{Sheet, IsPlace, is_buried, word_at}
+
+-- A row that a call buried is dead once that call has published or ended, as the first `past` calls have.
+abbrev pub life_in : ℕ → Fate → Life
+life_in past New = lives.New
+life_in past Draft = lives.Draft
+life_in past Live = lives.Live
+life_in past (Buried call) = if nat_le call past then lives.Dead call else lives.Live
+
+abbrev pub buried_in : ℕ → Fate → Bool
+buried_in past New = false
+buried_in past Draft = false
+buried_in past Live = false
+buried_in past (Buried call) = nat_lt past call
+
+abbrev pub past_of : Inside → ℕ
+past_of p = p.ended + one_if p.published
+
+abbrev pub fate_of : Inside → ℕ → Fate
+fate_of p row = slice_index_or p.fates.items row New
 
 abbrev pub sheet_of : Inside → Sheet
 sheet_of p = record {
@@ -13,9 +42,9 @@ sheet_of p = record {
   ended = p.ended;
   flying = p.flying;
   published = p.published;
-  lives = map (λ f. f.life) p.fates.items;
-  buried = map (λ f. f.buried) p.fates.items;
-  opened = 0;
+  lives = map (life_in (past_of p)) p.fates.items;
+  buried = map (buried_in (past_of p)) p.fates.items;
+  opened = p.opened;
   cleared = p.cleared;
   scan = p.scan;
   scans = p.scans;
@@ -26,12 +55,16 @@ sheet_of p = record {
   caller = None;
 }
 
--- there is a word for each column, and a fate for each row, and those below 16 that no row has
+-- there is a word for each column, and a fate for each row, and those below 16 that no row has; no row was buried by a
+-- call to come
 pub record IsPlain (p : Inside) : Type 0 where
   pub few : p.rows ≤ 65504
   pub words : length p.words.items ≡ columns p.width * (16 + p.rows)
   pub fates : length p.fates.items ≡ 16 + p.rows
   pub cleared : p.cleared ≤ p.ended
+  pub room : p.flying ≡ true → p.ended < 2 ^ 62 - 1
+  pub calm : p.flying ≡ false → p.published ≡ false
+  pub buried : (row call : ℕ) → fate_of p row ≡ Buried call → (16 ≤ row) × (call ≤ p.ended + one_if p.flying)
 
 -- so many rows, none of which was used, and no call
 abbrev pub new_sheet : ℕ → Sheet
@@ -41,7 +74,7 @@ new_sheet rows = record {
   ended = 0;
   flying = false;
   published = false;
-  lives = replicate (16 + rows) New;
+  lives = replicate (16 + rows) lives.New;
   buried = replicate (16 + rows) false;
   opened = 0;
   cleared = 0;
@@ -53,3 +86,48 @@ new_sheet rows = record {
   records = None;
   caller = None;
 }
+
+-- ---- the drafts that are reached from a word
+
+abbrev pub is_draft : Fate → Bool
+is_draft New = false
+is_draft Draft = true
+is_draft Live = false
+is_draft (Buried call) = false
+
+-- the words in the slots of an inner row, which name its children
+abbrev pub names_of : List ℕ → ℕ → RowKind → List ℕ
+names_of w row kinds.Leaf = []
+names_of w row kinds.Inner = slice_range w (32 * row + 16) (32 * row + 32)
+names_of w row kinds.Gapped = slice_range w (32 * row + 10) (32 * row + 20)
+
+abbrev pub enlivened_by : (List ℕ) → (ℕ → List Fate → List Fate) → Option RowKind → ℕ → List Fate → List Fate
+enlivened_by w below None row fates = fates
+enlivened_by w below (Some kind) row fates =
+    if is_draft (slice_index_or fates row New)
+    then fold (λ (fs : List Fate) (word : ℕ). below word fs) (slice_set fates row Live) (names_of w row kind)
+    else fates
+
+-- A draft that a word names is live, and so are the drafts below it, at most so many levels deep.
+abbrev pub enlivened : List ℕ → ℕ → ℕ → List Fate → List Fate
+enlivened w zero word fates = fates
+enlivened w (suc depth) word fates = enlivened_by w (enlivened w depth) (named_kind word) (row_in word) fates
+
+-- the row, where there is one, was buried by a call behind the first `past`
+abbrev pub names_buried : ℕ → List Fate → Option ℕ → Bool
+names_buried past fates None = false
+names_buried past fates (Some row) = buried_in past (slice_index_or fates row New)
+
+-- the word names a row that the call in flight has buried
+abbrev pub buried_by : Sheet → Option ℕ → Bool
+buried_by s None = false
+buried_by s (Some row) = is_buried s row
+
+-- drafts may be reached by a word that is stored at the place
+abbrev pub opens : Sheet → Place → Bool
+opens s Root = true
+opens s (Slot row col) = buried_by s (named_row (word_at s row col))
+
+abbrev pub IsPlaceIn : Sheet → Place → Type 0
+IsPlaceIn s Root = Unit {0}
+IsPlaceIn s (Slot row col) = IsPlace s row col

@@ -1,20 +1,33 @@
-ghost use Rattle.std.specs.Prelude.{◌≡◌, ◌+◌, ◌*◌, ◌<◌, ◌≤◌, IfOk};
+ghost use Rattle.std.specs.Prelude.{◌≡◌, ◌+◌, ◌*◌, ◌<◌, ◌≤◌, IfOk, length, slice_index_or, slice_set, if◌then◌else◌};
+ghost use Rattle.std.specs.List.{fold};
+ghost use Rattle.mt_base.specs.declared.widths.Width.TheVariants.{Long};
 ghost use Rattle.mt_base.specs.Width.{columns};
+ghost use Rattle.mt_layout.specs.Rows.{named_row};
+ghost use Rattle.mt_rows.specs.Trees.{rows_of, deepest};
+ghost use Rattle.mt_rows.specs.Plain as defined;
+ghost use Rattle.mt_rows.specs.Plain.{names_of, enlivened, names_buried};
 
-use crate::rows::{Life, Place, Rows, Scan};
-use mt_base::{Call, NoMemory, Reply, Width, cols};
-use mt_layout::parent_word;
+use crate::plain_trees::spans_in;
+use crate::rows::{Place, Rows, Scan};
+use mt_base::{Call, NoMemory, Reply, Width, cols, top};
+use mt_layout::{RowKind, Span, kind_of, parent_word, row_of};
 use std::alloc::Global;
 use std::marker::Model;
 
 /// Rows are numbered from here.
 const FIRST_ROW: usize = 16;
 
-/// What has become of a row, and whether the call in flight has buried it.
-#[derive(Clone, Copy, Debug, PartialEq, Eq)]
-struct Fate {
-    life: Life,
-    buried: bool,
+/// No row stands deeper than this many levels.
+const DEEPEST: u32 = 9;
+
+/// What has become of a row.
+#[derive(Clone, Copy)]
+enum Fate {
+    New,
+    Draft,
+    Live,
+    /// The call of this number buried it. The row is dead once that call has published.
+    Buried(u64),
 }
 
 /// Rows in memory that nobody else reads.
@@ -28,6 +41,7 @@ pub struct PlainRows {
     ended: u64,
     flying: bool,
     published: bool,
+    opened: u64,
     cleared: u64,
     scan: Scan,
     scans: u64,
@@ -56,9 +70,99 @@ fn place_of(width: Width, row: u32, col: u32) -> usize
     cols(width) as usize * row as usize + col as usize
 }
 
+/// Writes a row's fate, and nothing where there is no such row.
+#[tactic(auto, using(std::proofs::lemmas::List::set_past))]
+fn set_fate(fates: &mut [Fate], row: u32, fate: Fate)
+    ensures { fates.new ≡ slice_set fates.old row fate }
+{
+    let row = row as usize;
+    if row < fates.len() {
+        fates[row] = fate;
+    }
+}
+
+/// Makes the rows live that a span reaches, at most so many levels deep, and counts them.
+fn settle(words: &[u64], depth: u32, span: &Span, fates: &mut [Fate]) -> u64
+    requires { depth ≤ deepest }
+    ensures count { result ≡ length (rows_of (record { width = Long; words = words.now }) depth span.now) }
+    ensures lives { fates.new ≡ fold (λ fs row. slice_set fs row Fate.Live) fates.old (rows_of (record { width = Long; words = words.now }) depth span.now) }
+{
+    let (Some(row), Some(kind)) = (row_of(span.word), kind_of(span.word)) else {
+        return 0;
+    };
+    if depth == 0 {
+        return 0;
+    }
+    set_fate(fates, row, Fate::Live);
+    match kind {
+        RowKind::Leaf => 1,
+        _ => {
+            let mut count = 1;
+            for child in spans_in(words, span).as_slice() {
+                count += settle(words, depth - 1, child, fates);
+            }
+            count
+        }
+    }
+}
+
+fn is_draft(fates: &[Fate], row: u32) -> bool
+    ensures { result ≡ defined.is_draft (slice_index_or fates.now row Fate.New) }
+{
+    matches!(fates.get(row as usize), Some(Fate::Draft))
+}
+
+/// The words in the slots of an inner row, which name its children.
+fn names_in(words: &[u64], row: u32, kind: RowKind) -> &[u64]
+    requires { columns Long * (row + 1) ≤ length words.now }
+    ensures { result.now ≡ names_of words.now row kind }
+{
+    let base = cols(Width::Long) as usize * row as usize;
+    match kind {
+        RowKind::Leaf => &words[..0],
+        RowKind::Inner => &words[base + 16..base + 32],
+        RowKind::Gapped => &words[base + 10..base + 20],
+    }
+}
+
+/// Makes the drafts live that are reached from a word, at most so many levels deep. Below a row that is no draft there is
+/// none.
+fn enliven(words: &[u64], depth: u32, word: u64, fates: &mut [Fate])
+    requires { length words.now ≡ columns Long * length fates.old }
+    ensures { fates.new ≡ enlivened words.now depth word fates.old }
+{
+    let (Some(row), Some(kind)) = (row_of(word), kind_of(word)) else {
+        return;
+    };
+    if depth == 0 || !is_draft(fates, row) {
+        return;
+    }
+    set_fate(fates, row, Fate::Live);
+    for child in names_in(words, row, kind) {
+        enliven(words, depth - 1, *child, fates);
+    }
+}
+
+/// How many levels of drafts may be reached from a word that is stored in place of this one: none, unless a call behind
+/// the first `past` has buried its row.
+fn levels_in_place_of(fates: &[Fate], past: u64, old: u64) -> u32
+    ensures { result ≡ (if names_buried past fates.now (named_row old) then deepest else 0) }
+{
+    let Some(row) = row_of(old) else {
+        return 0;
+    };
+    match fates.get(row as usize) {
+        Some(Fate::Buried(call)) if past < *call => DEEPEST,
+        _ => 0,
+    }
+}
+
 impl PlainRows {
-    ghost use Rattle.std.specs.Prelude.{◌≡◌, ◌≤◌, IfOk};
-    ghost use Rattle.mt_rows.specs.Plain.{new_sheet};
+    ghost use Rattle.std.specs.Prelude.{◌≡◌, ◌≤◌, IfOk, false, if◌then◌else◌};
+    ghost use Rattle.mt_base.specs.declared.kinds.Kind.{Kind};
+    ghost use Rattle.mt_rows.specs.Trees.{deepest};
+    ghost use Rattle.mt_rows.specs.Plain.{new_sheet, IsPlaceIn, opens};
+    ghost use Rattle.mt_rows.specs.Publish.{MayPlant, Planted, with_published};
 
     /// So many rows, none of which was ever used, and an empty tree. There are 65,504 rows at the most.
     pub fn new(alloc: Global, rows: u64) -> Result<PlainRows, NoMemory>
@@ -67,25 +171,63 @@ impl PlainRows {
     {
         let width = Width::Long;
         let numbers = FIRST_ROW + rows as usize;
-        let unused = Fate {
-            life: Life::New,
-            buried: false,
-        };
         Ok(PlainRows {
             rows,
             width,
             words: vec![in alloc; 0; cols(width) as usize * numbers]?,
             root: 0,
-            fates: vec![in alloc; unused; numbers]?,
+            fates: vec![in alloc; Fate::New; numbers]?,
             ended: 0,
             flying: false,
             published: false,
+            opened: 0,
             cleared: 0,
             scan: Scan { least: 0, by: None },
             scans: 0,
             scans_at_begin: 0,
             reads: 0,
         })
+    }
+
+    /// Sets the root word before the first call. The rows that are reached from it are live then.
+    pub fn plant(&mut self, root: u64)
+        requires { (kind : Kind) × MayPlant kind self.old root }
+        ensures { Planted self.old self.new root }
+    {
+        self.root = root;
+        let span = Span {
+            first: 0,
+            last: top(self.width),
+            word: root,
+            gap: 0,
+        };
+        self.opened = settle(
+            self.words.as_slice(),
+            DEEPEST,
+            &span,
+            self.fates.as_mut_slice(),
+        );
+    }
+
+    /// Stores a word at a place, and says how many levels of drafts may be reached from it.
+    fn store(&mut self, place: Place, word: u64) -> u32
+        requires place { IsPlaceIn self.old place }
+        requires before { self.old.published ≡ false }
+        ensures rest { self.new ≡ record self.old { tree = with_published self.old.tree place word } }
+        ensures levels { result ≡ (if opens self.old place then deepest else 0) }
+    {
+        match place {
+            Place::Root => {
+                self.root = word;
+                DEEPEST
+            }
+            Place::Slot { row, col } => {
+                let slot = place_of(self.width, row, col);
+                let old = self.words[slot];
+                self.words[slot] = word;
+                levels_in_place_of(self.fates.as_slice(), self.ended, old)
+            }
+        }
     }
 }
 
@@ -140,13 +282,13 @@ impl Rows for PlainRows {
 
     fn draft(&mut self, row: u32, col: u32, word: u64) {
         self.words[place_of(self.width, row, col)] = word;
-        self.fates[row as usize].life = Life::Draft;
+        self.fates[row as usize] = Fate::Draft;
     }
 
     fn bury(&mut self, row: u32) {
         // A dead row is its own parent.
         self.words[place_of(self.width, row, 0)] = parent_word(row, 0);
-        self.fates[row as usize].buried = true;
+        self.fates[row as usize] = Fate::Buried(self.ended + 1);
     }
 
     fn tend(&mut self, row: u32, col: u32, word: u64) {
@@ -154,10 +296,13 @@ impl Rows for PlainRows {
     }
 
     fn publish(&mut self, place: Place, word: u64, _call: &Call, _reply: &Reply) {
-        match place {
-            Place::Root => self.root = word,
-            Place::Slot { row, col } => self.words[place_of(self.width, row, col)] = word,
-        }
+        let levels = self.store(place, word);
+        enliven(
+            self.words.as_slice(),
+            levels,
+            word,
+            self.fates.as_mut_slice(),
+        );
         self.published = true;
     }
 

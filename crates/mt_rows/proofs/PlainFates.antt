@@ -1,0 +1,190 @@
+-- What rows in memory stand for after a row's fate has changed.
+use Rattle.std.proofs.Common.{◌≡◌, ◌≢◌, ◌⊎◌, ℕ, zero, suc, ◌+◌, ◌*◌, ◌<◌, ◌≤◌, Option, Some, None, List, [], ◌∷◌, Bool, true, false, length, map, refl, sym, ap, ◌∙◌, subst, inl, inr, arith}
+use Rattle.std.specs.Prelude.{slice_index, slice_index_or, slice_set, replicate, nat_le, nat_lt, if◌then◌else◌}
+use Rattle.std.proofs.lemmas.Bool.{cases_Bool, cases_lt, leb-true, ltb-false, le-leb, lt-leb, lt-ltb, le-ltb}
+use Rattle.std.proofs.lemmas.List.{map-set, get_or_past, get_or_default}
+use Rattle.std.proofs.Math.Seq.{map-set_same}
+use Rattle.mt_rows.specs.declared.rows.Life.{Life}
+use Rattle.mt_rows.specs.declared.rows.Life.TheVariants as lives
+use Rattle.mt_rows.specs.declared.plain.Fate.{Fate}
+use Rattle.mt_rows.specs.declared.plain.Fate.TheVariants.{New, Draft, Live, Buried}
+use Rattle.mt_base.specs.declared.kinds.Kind.{Kind}
+use Rattle.mt_base.specs.declared.calls.Call.{Call}
+use Rattle.mt_base.specs.declared.replies.Reply.{Reply}
+use Rattle.mt_base.specs.Width.{columns}
+use Rattle.mt_layout.specs.Rows.{named_row}
+use Rattle.mt_rows.specs.declared.rows.Place.{Place}
+use Rattle.mt_rows.specs.declared.rows.Place.TheVariants.{Slot}
+use Rattle.mt_base.specs.declared.widths.Width.{Width}
+use Rattle.mt_base.specs.declared.widths.Width.TheVariants.{Long}
+use Rattle.mt_rows.specs.declared.plain.PlainRows.TheInside.{Inside}
+use Rattle.mt_rows.specs.Levels.{one_if}
+use Rattle.mt_rows.specs.Sheet.{Sheet, IsPlace, IsFree, MayBury, life_of, is_buried, word_at}
+use Rattle.mt_rows.specs.Publish.{MayFinish}
+use Rattle.mt_rows.specs.Plain.{life_in, buried_in, past_of, fate_of, sheet_of, IsPlain, names_buried, buried_by, opens, IsPlaceIn}
+
+-- a fate that reads as another leaves what was read
+pub map-replicate : {A B : Type 0} (f : A → B) (n : ℕ) (a : A) → map f (replicate n a) ≡ replicate n (f a)
+map-replicate f zero a = refl
+map-replicate f (suc n) a = ap (λ xs. f a ∷ xs) (map-replicate f n a)
+
+-- ---- one fate written
+
+pub lives-set : (past : ℕ) (fates : List Fate) (row : ℕ) (f : Fate) → map (life_in past) (slice_set fates row f) ≡ slice_set (map (life_in past) fates) row (life_in past f)
+lives-set past fates row f = map-set (life_in past) fates row f
+
+pub buried-set : (past : ℕ) (fates : List Fate) (row : ℕ) (f : Fate) → map (buried_in past) (slice_set fates row f) ≡ slice_set (map (buried_in past) fates) row (buried_in past f)
+buried-set past fates row f = map-set (buried_in past) fates row f
+
+pub lives-kept : (past : ℕ) (fates : List Fate) (row : ℕ) (f : Fate) → life_in past f ≡ life_in past (slice_index_or fates row New) → map (life_in past) (slice_set fates row f) ≡ map (life_in past) fates
+lives-kept past fates row f same = map-set_same (life_in past) fates row f New same
+
+pub buried-kept : (past : ℕ) (fates : List Fate) (row : ℕ) (f : Fate) → buried_in past f ≡ buried_in past (slice_index_or fates row New) → map (buried_in past) (slice_set fates row f) ≡ map (buried_in past) fates
+buried-kept past fates row f same = map-set_same (buried_in past) fates row f New same
+
+pub life_at : (past : ℕ) (fates : List Fate) (row : ℕ) → slice_index_or (map (life_in past) fates) row lives.New ≡ life_in past (slice_index_or fates row New)
+life_at past [] row = refl
+life_at past (f ∷ fates) zero = refl
+life_at past (f ∷ fates) (suc row) = life_at past fates row
+
+pub buried_at : (past : ℕ) (fates : List Fate) (row : ℕ) → slice_index_or (map (buried_in past) fates) row false ≡ buried_in past (slice_index_or fates row New)
+buried_at past [] row = refl
+buried_at past (f ∷ fates) zero = refl
+buried_at past (f ∷ fates) (suc row) = buried_at past fates row
+
+-- ---- the fates that a call asks for
+
+pub free_unburied : (past cleared : ℕ) (f : Fate) → IsFree cleared (life_in past f) → buried_in past f ≡ false
+free_unburied past cleared New free = refl
+free_unburied past cleared Draft free = refl
+free_unburied past cleared Live free = refl
+free_unburied past cleared (Buried call) free = elim (cases_Bool (nat_le call past)) [
+  | inl dead ↦ le-ltb past call (leb-true call past dead)
+  | inr alive ↦ absurd (subst (λ (b : Bool). IsFree cleared (if b then lives.Dead call else lives.Live)) alive free)
+]
+
+-- a row that the next call buries is not dead yet
+pub next_lives : (past : ℕ) → life_in past (Buried (past + 1)) ≡ lives.Live
+next_lives past = rw (lt-leb (past + 1) past (omega arith)) refl
+
+pub next_buried : (past : ℕ) → buried_in past (Buried (past + 1)) ≡ true
+next_buried past = lt-ltb past (past + 1) (omega arith)
+
+-- ---- a call that ends
+
+-- where the fates of all rows are told alike before and after, they read alike
+pub lives_alike : (past past' : ℕ) (fates : List Fate) → ((row : ℕ) → life_in past (slice_index_or fates row New) ≡ life_in past' (slice_index_or fates row New)) → map (life_in past) fates ≡ map (life_in past') fates
+lives_alike past past' [] alike = refl
+lives_alike past past' (f ∷ fates) alike = let first = alike 0 in let rest = lives_alike past past' fates (λ row. alike (suc row)) in λ i. first i ∷ rest i
+
+pub buried_alike : (past past' : ℕ) (fates : List Fate) → ((row : ℕ) → buried_in past (slice_index_or fates row New) ≡ buried_in past' (slice_index_or fates row New)) → map (buried_in past) fates ≡ map (buried_in past') fates
+buried_alike past past' [] alike = refl
+buried_alike past past' (f ∷ fates) alike = let first = alike 0 in let rest = buried_alike past past' fates (λ row. alike (suc row)) in λ i. first i ∷ rest i
+
+-- a fate that is not buried yet reads the same after more calls
+pub unburied_lives : (past past' : ℕ) (f : Fate) → past ≤ past' → buried_in past f ≡ false → life_in past f ≡ life_in past' f
+unburied_lives past past' New more none = refl
+unburied_lives past past' Draft more none = refl
+unburied_lives past past' Live more none = refl
+unburied_lives past past' (Buried call) more none = let dead = ltb-false past call none in rw (le-leb call past (omega arith), le-leb call past' (omega arith)) refl
+
+pub unburied_stays : (past past' : ℕ) (f : Fate) → past ≤ past' → buried_in past f ≡ false → buried_in past f ≡ buried_in past' f
+unburied_stays past past' New more none = refl
+unburied_stays past past' Draft more none = refl
+unburied_stays past past' Live more none = refl
+unburied_stays past past' (Buried call) more none = let dead = ltb-false past call none in rw (le-ltb past call (omega arith), le-ltb past' call (omega arith)) refl
+
+-- ---- by the sheet
+
+pub life_told : (p : Inside) (row : ℕ) → life_of (sheet_of p) row ≡ life_in (past_of p) (fate_of p row)
+life_told p row = life_at (past_of p) p.fates.items row
+
+pub buried_told : (p : Inside) (row : ℕ) → is_buried (sheet_of p) row ≡ buried_in (past_of p) (fate_of p row)
+buried_told p row = buried_at (past_of p) p.fates.items row
+
+pub drafted_buried : (p : Inside) (s : Sheet) (row : ℕ) → sheet_of p ≡ s → IsFree s.cleared (life_of s row) → map (buried_in (past_of p)) (slice_set p.fates.items row Draft) ≡ (sheet_of p).buried
+drafted_buried p s row is free =
+    let told : IsFree p.cleared (life_of (sheet_of p) row) = subst (λ (s : Sheet). IsFree s.cleared (life_of s row)) (sym is) free in
+    let here : IsFree p.cleared (life_in (past_of p) (fate_of p row)) = subst (IsFree p.cleared) (life_told p row) told in
+    buried-kept (past_of p) p.fates.items row Draft (sym (free_unburied (past_of p) p.cleared (fate_of p row) here))
+
+-- the call in flight buries a live row
+module _ (p : Inside) (s : Sheet) (row : ℕ) (is : sheet_of p ≡ s) (may : MayBury s row) where
+  before : p.published ≡ false
+  before = ap (λ (s : Sheet). s.published) is ∙ may.before
+
+  next : past_of p + 1 ≡ p.ended + 1
+  next = ap (λ (b : Bool). p.ended + one_if b + 1) before ∙ omega arith
+
+  pub buried_lives : map (life_in (past_of p)) (slice_set p.fates.items row (Buried (p.ended + 1))) ≡ (sheet_of p).lives
+  buried_lives =
+      let live : life_in (past_of p) (fate_of p row) ≡ lives.Live = sym (life_told p row) ∙ (ap (λ (s : Sheet). life_of s row) is ∙ may.live) in
+      lives-kept (past_of p) p.fates.items row (Buried (p.ended + 1)) (ap (λ (n : ℕ). life_in (past_of p) (Buried n)) (sym next) ∙ (next_lives (past_of p) ∙ sym live))
+
+  pub buried_buried : map (buried_in (past_of p)) (slice_set p.fates.items row (Buried (p.ended + 1))) ≡ slice_set (sheet_of p).buried row true
+  buried_buried =
+      buried-set (past_of p) p.fates.items row (Buried (p.ended + 1)) ∙ ap (slice_set (sheet_of p).buried row) (ap (λ (n : ℕ). buried_in (past_of p) (Buried n)) (sym next) ∙ next_buried (past_of p))
+
+-- ---- a call that ends
+
+one_at_most : (b : Bool) → one_if b ≤ 1
+one_at_most true = omega arith
+one_at_most false = omega arith
+
+pub buried_before : (p : Inside) → IsPlain p → (row call : ℕ) → fate_of p row ≡ Buried call → (16 ≤ row) × (call ≤ p.ended + 1 + 0)
+buried_before p plain row call at = let known = plain.buried row call at in let low = known.1 in (known.0, omega (arith, one_at_most p.flying))
+
+module _ (p : Inside) (s : Sheet) (kind : Kind) (call : Call) (reply : Reply) (plain : IsPlain p) (is : sheet_of p ≡ s) (may : MayFinish kind s call reply) where
+  none_above : (row : ℕ) → p.published ≡ false → buried_in (past_of p) (fate_of p row) ≡ false
+  none_above row silent = elim (cases_lt row 16) [
+    | inl low ↦ by_fate low (fate_of p row) refl
+    | inr high ↦ elim (cases_lt row (16 + p.rows)) [
+      | inl within ↦ sym (buried_told p row) ∙ (ap (λ (s : Sheet). is_buried s row) is ∙ (may.kept (sym (ap (λ (s : Sheet). s.published) is) ∙ silent)).none_buried row high (subst (λ (s : Sheet). row < 16 + s.rows) is within))
+      | inr beyond ↦ ap (buried_in (past_of p)) (get_or_past p.fates.items row New (let size = plain.fates in omega arith))
+    ]
+  ]
+    where
+      by_fate : row < 16 → (f : Fate) → fate_of p row ≡ f → buried_in (past_of p) f ≡ false
+      by_fate low New at = refl
+      by_fate low Draft at = refl
+      by_fate low Live at = refl
+      by_fate low (Buried call) at = let high = (plain.buried row call at).0 in absurd (omega arith)
+
+  pub finished_lives : map (life_in (p.ended + 1 + 0)) p.fates.items ≡ (sheet_of p).lives
+  finished_lives = elim (cases_Bool p.published) [
+    | inl told ↦ ap (λ (n : ℕ). map (life_in n) p.fates.items) (let all : past_of p ≡ p.ended + 1 = ap (λ (b : Bool). p.ended + one_if b) told in omega arith)
+    | inr silent ↦
+        let less : past_of p ≤ p.ended + 1 + 0 = subst (λ (b : Bool). p.ended + one_if b ≤ p.ended + 1 + 0) (sym silent) (omega arith) in
+        sym (lives_alike (past_of p) (p.ended + 1 + 0) p.fates.items (λ row. unburied_lives (past_of p) (p.ended + 1 + 0) (fate_of p row) less (none_above row silent)))
+  ]
+
+  pub finished_buried : map (buried_in (p.ended + 1 + 0)) p.fates.items ≡ (sheet_of p).buried
+  finished_buried = elim (cases_Bool p.published) [
+    | inl told ↦ ap (λ (n : ℕ). map (buried_in n) p.fates.items) (let all : past_of p ≡ p.ended + 1 = ap (λ (b : Bool). p.ended + one_if b) told in omega arith)
+    | inr silent ↦
+        let less : past_of p ≤ p.ended + 1 + 0 = subst (λ (b : Bool). p.ended + one_if b ≤ p.ended + 1 + 0) (sym silent) (omega arith) in
+        sym (buried_alike (past_of p) (p.ended + 1 + 0) p.fates.items (λ row. unburied_stays (past_of p) (p.ended + 1 + 0) (fate_of p row) less (none_above row silent)))
+  ]
+
+pub either_same : {A : Type 0} (b : Bool) (a : A) → a ≡ (if b then a else a)
+either_same true a = refl
+either_same false a = refl
+
+-- ---- a word in place of another
+
+place_within : (width : Width) (row col rows : ℕ) → row < 16 + rows → col < columns width → columns width * row + col < columns width * (16 + rows)
+place_within Long row col rows last column = omega arith
+
+pub store_opens : (p : Inside) (s : Sheet) (place : Place) (row col at old : ℕ) → IsPlain p → sheet_of p ≡ s → s.published ≡ false → IsPlaceIn s place → place ≡ Slot row col → at ≡ columns p.width * row + col → old ≡ slice_index_or p.words.items at old
+    → opens s place ≡ names_buried p.ended p.fates.items (named_row old)
+store_opens p s place row col at old plain is before inside slot at_is read =
+    let here : IsPlace (sheet_of p) row col = subst (λ (s : Sheet). IsPlace s row col) (sym is) (subst (IsPlaceIn s) slot inside) in
+    let within : at < length p.words.items = let size = plain.words in let last = here.last in let column = here.column in omega (arith, place_within p.width row col p.rows last column) in
+    let word : old ≡ word_at s row col = read ∙ (get_or_default p.words.items at old 0 within ∙ (ap (λ (n : ℕ). slice_index p.words.items n) at_is ∙ ap (λ (s : Sheet). word_at s row col) is)) in
+    ap (opens s) slot ∙ (ap (λ (n : ℕ). buried_by s (named_row n)) (sym word) ∙ by (named_row old))
+  where
+    by : (name : Option ℕ) → buried_by s name ≡ names_buried p.ended p.fates.items name
+    by None = refl
+    by (Some r) =
+        let past : past_of p ≡ p.ended = ap (λ (b : Bool). p.ended + one_if b) (ap (λ (s : Sheet). s.published) is ∙ before) ∙ omega arith in
+        ap (λ (s : Sheet). is_buried s r) (sym is) ∙ (buried_told p r ∙ ap (λ (n : ℕ). buried_in n (fate_of p r)) past)

@@ -1,0 +1,213 @@
+-- The rows that are reached: how many there are at the most, and what becomes of the fates when each is made live.
+use Rattle.std.proofs.Common.{◌≡◌, ◌≢◌, ◌⊎◌, ℕ, zero, suc, ◌+◌, ◌-◌, ◌*◌, ◌^◌, ◌<◌, ◌≤◌, ◌==◌, List, [], ◌∷◌, ◌++◌, Option, Some, None, Bool, true, false, length, map, take, refl, sym, ap, ◌∙◌, subst, inl, inr, arith, length-append, length-set, get_or-set_same, get_or-set_other, zero-add}
+use Rattle.std.specs.Prelude.{slice_index, slice_index_or, slice_set, nat_le, nat_lt, if◌then◌else◌}
+use Rattle.std.specs.List.{flat_map, fold}
+use Rattle.std.proofs.lemmas.Bool.{cases_Bool, cases_eq, cases_lt, eq-eqb, ne_eqb, lt-ltb, le-ltb}
+use Rattle.std.proofs.lemmas.List.{get_or_past}
+use Rattle.std.proofs.lemmas.List.Folds.{length-flat_map-take}
+use Rattle.std.proofs.Math.Nat.{pow-succ', pow-le-pow_right, one-le-pow, mul-le-mul_right}
+use Rattle.mt_base.specs.declared.kinds.Kind.{Kind}
+use Rattle.mt_base.specs.declared.widths.Width.{Width}
+use Rattle.mt_base.specs.declared.widths.Width.TheVariants.{Long}
+use Rattle.mt_base.specs.Width.{greatest}
+use Rattle.mt_layout.specs.declared.names.RowKind.{RowKind}
+use Rattle.mt_layout.specs.declared.names.RowKind.TheVariants.{Leaf, Inner, Gapped}
+use Rattle.mt_layout.specs.declared.items.Item.{Item}
+use Rattle.mt_layout.specs.Columns.{items_from, items_at, pivot_column}
+use Rattle.mt_layout.specs.Rows.{row_in, named_kind}
+use Rattle.mt_layout.specs.declared.spans.Span.{Span}
+use Rattle.mt_layout.specs.Spans.{spans_from}
+use Rattle.mt_rows.specs.Spans.{Table, base_of, slots_of, gaps_of, spans_by, spans_in}
+use Rattle.mt_rows.specs.Trees.{by_kind, rows_of, reached_in, deepest}
+use Rattle.mt_rows.specs.Levels.{one_if, tally}
+use Rattle.mt_rows.specs.Sheet.{Sheet}
+use Rattle.mt_rows.specs.Publish.{MayPlant, Planted}
+use Rattle.mt_rows.specs.declared.rows.Life.{Life}
+use Rattle.mt_rows.specs.declared.rows.Life.TheVariants as lives
+use Rattle.mt_rows.specs.declared.plain.Fate.{Fate}
+use Rattle.mt_rows.specs.declared.plain.Fate.TheVariants.{New, Draft, Live, Buried}
+use Rattle.mt_rows.specs.declared.plain.PlainRows.TheInside.{Inside}
+use Rattle.mt_rows.specs.Plain.{life_in, buried_in, past_of, fate_of, sheet_of, IsPlain}
+use Rattle.mt_rows.proofs.PlainFates.{life_at, buried-kept, either_same}
+use Rattle.mt_rows.proofs.Deeper.{rows_of_inner}
+
+-- ---- how many
+
+spans_few : (first : ℕ) (items : List Item) → length (spans_from first items) ≡ length items
+spans_few first [] = refl
+spans_few first (x ∷ items) = ap suc (spans_few (x.last + 1) items)
+
+items_few : (slots gaps : ℕ) (w : List ℕ) (base max left i : ℕ) → length (items_from slots gaps w base max left i) ≤ left
+items_few slots gaps w base max zero i = omega arith
+items_few slots gaps w base max (suc zero) i = omega arith
+items_few slots gaps w base max (suc (suc left)) i = elim (cases_Bool (nat_le max (slice_index w (base + pivot_column i)))) [
+  | inl ends ↦ rw ends (omega arith)
+  | inr more ↦ let rest = items_few slots gaps w base max (suc left) (i + 1) in rw more (omega arith)
+]
+
+slots_few : (width : Width) (kind : RowKind) → slots_of width kind ≤ 16
+slots_few Long Leaf = omega arith
+slots_few Long Inner = omega arith
+slots_few Long Gapped = omega arith
+
+children_few : (t : Table) (x : Span) → length (spans_in t x) ≤ 16
+children_few t x = by (named_kind x.word)
+  where
+    by : (kind : Option RowKind) → length (spans_by t kind x) ≤ 16
+    by None = omega arith
+    by (Some kind) =
+        let slots = slots_of t.width kind in let gaps = gaps_of t.width kind in let base = base_of t (row_in x.word) in
+        let same = spans_few x.first (items_at slots gaps t.words base x.last) in
+        omega (arith, same, items_few slots gaps t.words base x.last slots 0, slots_few t.width kind)
+
+below_few : (f : Span → List ℕ) (most : ℕ) (xs : List Span) → ((x : Span) → length (f x) ≤ most) → length (flat_map f xs) ≤ length xs * most
+below_few f most [] few = omega arith
+below_few f most (x ∷ xs) few = let first = few x in let rest = below_few f most xs few in let both = length-append (f x) (flat_map f xs) in omega arith
+
+-- a row and what its children give are fewer than 16 times what a child gives, and one more
+row_few : (kind : Option RowKind) (row p q : ℕ) (below : List ℕ) → 1 ≤ p → q ≡ 16 * p → length below ≤ 16 * (p - 1) → length (by_kind kind (row ∷ []) (row ∷ below)) < q
+row_few None row p q below some more few = omega arith
+row_few (Some Leaf) row p q below some more few = omega arith
+row_few (Some Inner) row p q below some more few = omega arith
+row_few (Some Gapped) row p q below some more few = omega arith
+
+pub rows_few : (t : Table) (depth : ℕ) (x : Span) → length (rows_of t depth x) < 16 ^ depth
+rows_few t zero x = omega (arith, one-le-pow zero 16)
+rows_few t (suc depth) x =
+    let most = 16 ^ depth - 1 in
+    let each = below_few (rows_of t depth) most (spans_in t x) (λ y. let few = rows_few t depth y in omega arith) in
+    let wide = mul-le-mul_right most (children_few t x) in
+    row_few (named_kind x.word) (row_in x.word) (16 ^ depth) (16 ^ suc depth) (flat_map (rows_of t depth) (spans_in t x)) (one-le-pow depth 16 (omega arith)) (pow-succ' 16 depth) (omega arith)
+
+pub rows_fit : (t : Table) (depth : ℕ) (x : Span) → depth ≤ deepest → length (rows_of t depth x) < 2 ^ 64
+rows_fit t depth x low =
+    let few = rows_few t depth x in
+    let most : 16 ^ depth ≤ 16 ^ 9 = pow-le-pow_right (omega arith) low in
+    omega arith
+
+-- ---- one more child counted
+
+module _ (t : Table) (depth : ℕ) (x : Span) (kind : RowKind) (deep : 0 < depth) (low : depth ≤ deepest) (named : named_kind x.word ≡ Some kind) (other : kind ≢ Leaf) where
+  pub one_more_fits : (xs : List Span) (i count more : ℕ) (d : Span) → xs ≡ spans_in t x → i < length xs → count ≡ 1 + length (flat_map (rows_of t (depth - 1)) (take i xs))
+      → more ≡ length (rows_of t (depth - 1) (slice_index_or xs i d)) → count + more < 2 ^ 64
+  one_more_fits xs i count more d same within counted next =
+      let all = rows_fit t depth x low in
+      let parts = length-flat_map-take (rows_of t (depth - 1)) xs i d within in
+      let whole : length (rows_of t depth x) ≡ suc (length (flat_map (rows_of t (depth - 1)) xs)) = ap length (rows_of_inner t depth x kind deep named other ∙ ap (λ (l : List Span). row_in x.word ∷ flat_map (rows_of t (depth - 1)) l) (sym same)) in
+      omega arith
+
+-- ---- each row made live
+
+abbrev pub settled : List Fate → List ℕ → List Fate
+settled fates rows = fold (λ (fs : List Fate) (row : ℕ). slice_set fs row Live) fates rows
+
+pub settled_length : (rows : List ℕ) (fates : List Fate) → length (settled fates rows) ≡ length fates
+settled_length [] fates = refl
+settled_length (r ∷ rows) fates = settled_length rows (slice_set fates r Live) ∙ length-set fates r Live
+
+-- a row that is counted is live then, and each other row keeps its fate
+pub settled_fate : (rows : List ℕ) (fates : List Fate) (row : ℕ) → row < length fates
+    → slice_index_or (settled fates rows) row New ≡ (if nat_lt 0 (tally (λ (r : ℕ). r == row) rows) then Live else slice_index_or fates row New)
+settled_fate [] fates row within = refl
+settled_fate (r ∷ rows) fates row within =
+    settled_fate rows (slice_set fates r Live) row (omega (arith, length-set fates r Live)) ∙ elim (cases_eq r row) [
+      | inl here ↦
+          let at : slice_index_or (slice_set fates r Live) row New ≡ Live = ap (λ (k : ℕ). slice_index_or (slice_set fates r Live) k New) (sym here) ∙ get_or-set_same fates r Live New (omega arith) in
+          rw (at, eq-eqb r row here, lt-ltb 0 (1 + tally (λ (r : ℕ). r == row) rows) (omega arith)) (sym (either_same (nat_lt 0 (tally (λ (r : ℕ). r == row) rows)) Live))
+      | inr other ↦
+          rw (get_or-set_other fates r row Live New (λ e. other (sym e)), ne_eqb r row other, zero-add (tally (λ (r : ℕ). r == row) rows)) refl
+    ]
+
+-- no fate is new but for rows made live
+pub settled_or_kept : (rows : List ℕ) (fates : List Fate) (row : ℕ) → (slice_index_or (settled fates rows) row New ≡ Live) ⊎ (slice_index_or (settled fates rows) row New ≡ slice_index_or fates row New)
+settled_or_kept rows fates row = elim (cases_lt row (length fates)) [
+  | inl within ↦ by (nat_lt 0 (tally (λ (r : ℕ). r == row) rows)) (settled_fate rows fates row within)
+  | inr beyond ↦ inr (get_or_past (settled fates rows) row New (omega (arith, settled_length rows fates)) ∙ sym (get_or_past fates row New beyond))
+]
+  where
+    by : (b : Bool) → slice_index_or (settled fates rows) row New ≡ (if b then Live else slice_index_or fates row New)
+        → (slice_index_or (settled fates rows) row New ≡ Live) ⊎ (slice_index_or (settled fates rows) row New ≡ slice_index_or fates row New)
+    by true is = inl is
+    by false is = inr is
+
+-- where no row was buried by a call to come, none is so then
+pub settled_buried : (past : ℕ) (rows : List ℕ) (fates : List Fate) → ((row : ℕ) → buried_in past (slice_index_or fates row New) ≡ false) → map (buried_in past) (settled fates rows) ≡ map (buried_in past) fates
+settled_buried past [] fates none = refl
+settled_buried past (r ∷ rows) fates none =
+    settled_buried past rows (slice_set fates r Live) (λ row. kept row (settled_or_kept (r ∷ []) fates row)) ∙ buried-kept past fates r Live (sym (none r))
+  where
+    kept : (row : ℕ) → (slice_index_or (settled fates (r ∷ [])) row New ≡ Live) ⊎ (slice_index_or (settled fates (r ∷ [])) row New ≡ slice_index_or fates row New) → buried_in past (slice_index_or (slice_set fates r Live) row New) ≡ false
+    kept row (inl live) = ap (buried_in past) live
+    kept row (inr same) = ap (buried_in past) same ∙ none row
+
+-- ---- by the sheet
+
+-- p with another root word and count, and the fates of q
+abbrev pub planted : Inside → ℕ → ℕ → Inside → Inside
+planted p root opened q = record p { root = root; opened = opened; fates = q.fates }
+
+module _ (p q : Inside) (s : Sheet) (kind : Kind) (root opened : ℕ) (plain : IsPlain p) (is : sheet_of p ≡ s) (may : MayPlant kind s root)
+    (counted : opened ≡ length (reached_in (sheet_of p).tree.table root)) (settles : q.fates.items ≡ settled p.fates.items (reached_in (sheet_of p).tree.table root)) where
+  reached : List ℕ
+  reached = reached_in (sheet_of p).tree.table root
+
+  idle : p.flying ≡ false
+  idle = ap (λ (s : Sheet). s.flying) is ∙ may.idle
+
+  none_buried : (row : ℕ) → buried_in (past_of p) (fate_of p row) ≡ false
+  none_buried row = by (fate_of p row) refl
+    where
+      by : (f : Fate) → fate_of p row ≡ f → buried_in (past_of p) f ≡ false
+      by New at = refl
+      by Draft at = refl
+      by Live at = refl
+      by (Buried call) at =
+          let low : call ≤ p.ended + 0 = subst (λ (b : Bool). call ≤ p.ended + one_if b) idle (plain.buried row call at).1 in
+          le-ltb (past_of p) call (omega arith)
+
+  buried_stays : (row call : ℕ) → slice_index_or q.fates.items row New ≡ Buried call → (16 ≤ row) × (call ≤ p.ended + one_if p.flying)
+  buried_stays row call at = by (settled_or_kept (reached_in (sheet_of p).tree.table root) p.fates.items row)
+    where
+      same : slice_index_or q.fates.items row New ≡ slice_index_or (settled p.fates.items (reached_in (sheet_of p).tree.table root)) row New
+      same = ap (λ (l : List Fate). slice_index_or l row New) settles
+
+      by : (slice_index_or (settled p.fates.items (reached_in (sheet_of p).tree.table root)) row New ≡ Live) ⊎ (slice_index_or (settled p.fates.items (reached_in (sheet_of p).tree.table root)) row New ≡ fate_of p row)
+          → (16 ≤ row) × (call ≤ p.ended + one_if p.flying)
+      by (inl live) = let e = same in absurd (cc)
+      by (inr kept) = plain.buried row call (sym kept ∙ (sym same ∙ at))
+
+  pub planted_plain : IsPlain (planted p root opened q)
+  planted_plain = record {
+    few = plain.few;
+    words = plain.words;
+    fates = ap length settles ∙ (settled_length (reached_in (sheet_of p).tree.table root) p.fates.items ∙ plain.fates);
+    cleared = plain.cleared;
+    room = plain.room;
+    calm = plain.calm;
+    buried = buried_stays;
+  }
+
+  life_after : (row : ℕ) → row < 16 + p.rows → life_in (past_of p) (slice_index_or q.fates.items row New) ≡ (if nat_lt 0 (tally (λ (r : ℕ). r == row) (reached_in (sheet_of p).tree.table root)) then lives.Live else life_in (past_of p) (fate_of p row))
+  life_after row within =
+      ap (λ (l : List Fate). life_in (past_of p) (slice_index_or l row New)) settles
+      ∙ (ap (life_in (past_of p)) (settled_fate (reached_in (sheet_of p).tree.table root) p.fates.items row (let size = plain.fates in omega arith))
+      ∙ by (nat_lt 0 (tally (λ (r : ℕ). r == row) (reached_in (sheet_of p).tree.table root))))
+    where
+      by : (b : Bool) → life_in (past_of p) (if b then Live else fate_of p row) ≡ (if b then lives.Live else life_in (past_of p) (fate_of p row))
+      by true = refl
+      by false = refl
+
+  pub planted_is : Planted s (sheet_of (planted p root opened q)) root
+  planted_is = subst (λ (s : Sheet). Planted s (sheet_of (planted p root opened q)) root) is (record {
+    rest =
+        let buried = ap (map (buried_in (past_of p))) settles ∙ settled_buried (past_of p) (reached_in (sheet_of p).tree.table root) p.fates.items none_buried in
+        λ i. record (sheet_of (planted p root opened q)) { buried = buried i; opened = counted i };
+    lives = λ row first within.
+        life_at (past_of p) q.fates.items row ∙ (life_after row within
+        ∙ ap (λ (l : Life). if nat_lt 0 (tally (λ (r : ℕ). r == row) (reached_in (sheet_of p).tree.table root)) then lives.Live else l) (sym (life_at (past_of p) p.fates.items row)));
+  })
+
+-- the rows that are counted from the root's span
+pub reached_as : (width : Width) (words words' : List ℕ) (root last : ℕ) → words' ≡ words → last ≡ greatest width
+    → rows_of (record { width = Long; words = words' }) deepest (record { first = 0; last = last; word = root; gap = 0 }) ≡ reached_in (record { width = width; words = words }) root
+reached_as Long words words' root last same top = λ i. rows_of (record { width = Long; words = same i }) deepest (record { first = 0; last = top i; word = root; gap = 0 })

@@ -1,0 +1,167 @@
+-- What a publishing store leaves: the rows that are reached are live, and the buried rows are dead.
+use Rattle.std.proofs.Common.{◌≡◌, ◌⊎◌, ℕ, zero, suc, ◌+◌, ◌*◌, ◌<◌, ◌≤◌, List, [], ◌∷◌, Bool, true, false, length, map, refl, sym, ap, ◌∙◌, subst, inl, inr, arith, length-set}
+use Rattle.std.specs.Prelude.{slice_index_or, nat_le, nat_lt, if◌then◌else◌}
+use Rattle.std.proofs.lemmas.Bool.{cases_Bool, cases_lt, le-leb, le-ltb, lt-ltb}
+use Rattle.std.proofs.lemmas.List.{get_or_past}
+use Rattle.mt_base.specs.declared.kinds.Kind.{Kind}
+use Rattle.mt_base.specs.declared.calls.Call.{Call}
+use Rattle.mt_base.specs.declared.replies.Reply.{Reply}
+use Rattle.mt_base.specs.Width.{columns}
+use Rattle.mt_rows.specs.declared.rows.Place.{Place}
+use Rattle.mt_rows.specs.declared.rows.Place.TheVariants.{Root, Slot}
+use Rattle.mt_rows.specs.declared.rows.Life.{Life}
+use Rattle.mt_rows.specs.declared.rows.Life.TheVariants as lives
+use Rattle.mt_rows.specs.declared.plain.Fate.{Fate}
+use Rattle.mt_rows.specs.declared.plain.Fate.TheVariants.{New, Draft, Live, Buried}
+use Rattle.mt_rows.specs.declared.plain.PlainRows.TheInside.{Inside}
+use Rattle.mt_rows.specs.Levels.{one_if}
+use Rattle.mt_rows.specs.Trees.{deepest}
+use Rattle.mt_rows.specs.Laws as laws
+use Rattle.mt_rows.specs.Sheet.{Sheet, Tree, life_of, is_buried}
+use Rattle.mt_rows.specs.Publish.{tree_as, is_reached, with_published, with_record, life_after, IsReached, IsPlaceToPublish, Changes, MayPublish, Published}
+use Rattle.mt_rows.specs.Plain.{life_in, buried_in, past_of, fate_of, sheet_of, IsPlain, enlivened, opens}
+use Rattle.mt_rows.proofs.PlainFates.{life_told, buried_told}
+use Rattle.mt_rows.proofs.PlainWalk.{fate_at}
+use Rattle.mt_rows.proofs.PlainRoot.{Before, Reaches, root_reaches}
+use Rattle.mt_rows.proofs.PlainSlot.{slot_reaches}
+
+-- ---- fates once the call has published
+
+unreached_life : (past ended : ℕ) (f : Fate) → past ≡ ended → ((call : ℕ) → f ≡ Buried call → call ≤ ended + 1) → life_in (ended + 1) f ≡ (if buried_in past f then lives.Dead (ended + 1) else life_in past f)
+unreached_life past ended New is low = refl
+unreached_life past ended Draft is low = refl
+unreached_life past ended Live is low = refl
+unreached_life past ended (Buried call) is low =
+    let most = low call refl in
+    elim (cases_lt past call) [
+      | inl above ↦ let last : call ≡ ended + 1 = omega arith in rw (le-leb call (ended + 1) most, lt-ltb past call above) (ap (λ (n : ℕ). lives.Dead n) last)
+      | inr below ↦ rw (le-leb call (ended + 1) most, le-ltb past call below, le-leb call past below) refl
+    ]
+
+none_buried : (ended : ℕ) (f : Fate) → ((call : ℕ) → f ≡ Buried call → call ≤ ended + 1) → buried_in (ended + 1) f ≡ false
+none_buried ended New low = refl
+none_buried ended Draft low = refl
+none_buried ended Live low = refl
+none_buried ended (Buried call) low = le-ltb (ended + 1) call (low call refl)
+
+buried_fate : (past : ℕ) (f : Fate) → buried_in past f ≡ true → (call : ℕ) × (f ≡ Buried call)
+buried_fate past New is = absurd (cc)
+buried_fate past Draft is = absurd (cc)
+buried_fate past Live is = absurd (cc)
+buried_fate past (Buried call) is = (call, refl)
+
+one_at_most : (b : Bool) → one_if b ≤ 1
+one_at_most true = omega arith
+one_at_most false = omega arith
+
+-- ---- the walk at any place
+
+place_reaches : (b : Before) (place : Place) (word levels : ℕ) → ((r : ℕ) → is_buried b.sheet r ≡ true → (16 ≤ r) × (r < 16 + b.sheet.rows)) → IsPlaceToPublish b.sheet place
+    → Changes b.sheet (with_published b.sheet.tree place word) → laws.IsTree (tree_as b.kind b.sheet.rows (with_published b.sheet.tree place word)) → levels ≡ (if opens b.sheet place then deepest else 0)
+    → Reaches (with_published b.sheet.tree place word) b.fates (enlivened (with_published b.sheet.tree place word).table.words levels word b.fates)
+place_reaches b Root word levels inside at rows tree walks = root_reaches b word levels (omega arith) tree rows
+place_reaches b (Slot row col) word levels inside at rows tree walks =
+    slot_reaches b inside word levels row col at.2 rows tree (
+      (λ opened. let all : levels ≡ deepest = walks ∙ ap (λ (b : Bool). if b then deepest else 0) opened in omega arith),
+      (λ closed. walks ∙ ap (λ (b : Bool). if b then deepest else 0) closed),
+    )
+
+-- ---- the rows after the walk
+
+-- p with the fates of q, once it has published
+abbrev pub published : Inside → Inside → Inside
+published p q = record p { fates = q.fates; published = true }
+
+-- p is what the sheet tells, with the word stored
+module _ (p q : Inside) (s : Sheet) (kind : Kind) (place : Place) (word levels : ℕ) (call : Call) (reply : Reply) (plain : IsPlain p) (is : sheet_of p ≡ record s { tree = with_published s.tree place word })
+    (may : MayPublish kind s place word call reply) (walks : levels ≡ (if opens s place then deepest else 0)) (walked : q.fates.items ≡ enlivened p.words.items levels word p.fates.items)
+    (long : length q.fates.items ≡ length p.fates.items) where
+  abbrev after : Tree
+  after = with_published s.tree place word
+
+  silent : p.published ≡ false
+  silent = ap (λ (s : Sheet). s.published) is ∙ may.before
+
+  past_is : past_of p ≡ p.ended
+  past_is = ap (λ (b : Bool). p.ended + one_if b) silent ∙ omega arith
+
+  lives_are : (row : ℕ) → life_of s row ≡ life_in (past_of p) (fate_of p row)
+  lives_are row = sym (ap (λ (s : Sheet). life_of s row) is) ∙ life_told p row
+
+  buried_are : (row : ℕ) → is_buried s row ≡ buried_in (past_of p) (fate_of p row)
+  buried_are row = sym (ap (λ (s : Sheet). is_buried s row) is) ∙ buried_told p row
+
+  low : (row call : ℕ) → fate_of p row ≡ Buried call → call ≤ p.ended + 1
+  low row call at = let most = (plain.buried row call at).1 in omega (arith, one_at_most p.flying)
+
+  inside : (row : ℕ) → is_buried s row ≡ true → (16 ≤ row) × (row < 16 + s.rows)
+  inside row buried =
+      let fate = buried_fate (past_of p) (fate_of p row) (sym (buried_are row) ∙ buried) in
+      let rows : p.rows ≡ s.rows = ap (λ (s : Sheet). s.rows) is in
+      let size = plain.fates in (
+        (plain.buried row fate.0 fate.1).0,
+        elim (cases_lt row (length p.fates.items)) [ inl within ↦ omega arith | inr beyond ↦ let new = get_or_past p.fates.items row New beyond in let at = fate.1 in absurd (cc) ],
+      )
+
+  words_are : p.words.items ≡ after.table.words
+  words_are = ap (λ (s : Sheet). s.tree.table.words) is
+
+  has_after : length after.table.words ≡ columns after.table.width * (16 + s.rows)
+  has_after = sym (ap length words_are) ∙ (plain.words ∙ ap (λ (s : Sheet). columns s.tree.table.width * (16 + s.rows)) is)
+
+  has : (place : Place) → length (with_published s.tree place word).table.words ≡ columns (with_published s.tree place word).table.width * (16 + s.rows) → laws.HasWords (tree_as kind s.rows s.tree)
+  has Root long = long
+  has (Slot row col) long = sym (length-set s.tree.table.words _ word) ∙ long
+
+  before : Before
+  before = record {
+    kind = kind;
+    sheet = s;
+    past = past_of p;
+    fates = p.fates.items;
+    lives_are = lives_are;
+    buried_are = buried_are;
+    live = may.live;
+    has = has place has_after;
+    tree = may.tree.words;
+  }
+
+  reaches : Reaches after p.fates.items q.fates.items
+  unfolding before
+  reaches = subst (Reaches after p.fates.items) (sym (walked ∙ ap (λ (w : List ℕ). enlivened w levels word p.fates.items) words_are)) (place_reaches before place word levels inside may.at may.rows may.after walks)
+
+  buried_stays : (row call : ℕ) → fate_at q.fates.items row ≡ Buried call → fate_of p row ≡ Buried call
+  buried_stays row call at = elim (reaches row) [ inl here ↦ let live = here.1 in absurd (cc) | inr not ↦ sym not.1 ∙ at ]
+
+  pub published_plain : IsPlain (published p q)
+  published_plain = record {
+    few = plain.few;
+    words = plain.words;
+    fates = long ∙ plain.fates;
+    cleared = plain.cleared;
+    room = plain.room;
+    calm = λ idle. let flying : p.flying ≡ true = ap (λ (s : Sheet). s.flying) is ∙ may.flying in absurd (cc);
+    buried = λ row call at. plain.buried row call (buried_stays row call at);
+  }
+
+  fate_low : (row call : ℕ) → fate_at q.fates.items row ≡ Buried call → call ≤ p.ended + 1
+  fate_low row call at = low row call (buried_stays row call at)
+
+  ended_is : p.ended ≡ s.ended
+  ended_is = ap (λ (s : Sheet). s.ended) is
+
+  lives_after : (row : ℕ) → life_in (p.ended + 1) (fate_at q.fates.items row) ≡ life_after s after row
+  lives_after row = elim (reaches row) [
+    | inl here ↦ ap (life_in (p.ended + 1)) here.1 ∙ rw here.0 refl
+    | inr not ↦
+        ap (life_in (p.ended + 1)) not.1
+        ∙ (unreached_life (past_of p) p.ended (fate_of p row) past_is (low row)
+        ∙ rw not.0 (λ i. if sym (buried_are row) i then lives.Dead (ended_is i + 1) else sym (lives_are row) i))
+  ]
+
+  pub published_is : Published s (sheet_of (published p q)) place word call reply
+  published_is = record {
+    rest = λ i. record (is i) { published = true; lives = (sheet_of (published p q)).lives; buried = (sheet_of (published p q)).buried; records = with_record (is i) call reply };
+    lives = λ row first within. life_told (published p q) row ∙ lives_after row;
+    buried = λ row first within. buried_told (published p q) row ∙ none_buried p.ended (fate_at q.fates.items row) (fate_low row);
+  }

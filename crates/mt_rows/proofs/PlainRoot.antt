@@ -1,0 +1,73 @@
+-- A root word is published: the rows that are reached from it are live after the walk of drafts, and no other fate changes.
+use Rattle.std.proofs.Common.{◌≡◌, ◌⊎◌, ℕ, zero, suc, ◌+◌, ◌<◌, ◌≤◌, List, [], ◌∷◌, Bool, true, false, refl, sym, ap, ◌∙◌, subst, inl, inr, arith}
+use Rattle.std.proofs.lemmas.Bool.{cases_Bool}
+use Rattle.mt_base.specs.declared.kinds.Kind.{Kind}
+use Rattle.mt_layout.specs.declared.spans.Span.{Span}
+use Rattle.mt_rows.specs.declared.plain.Fate.{Fate}
+use Rattle.mt_rows.specs.declared.plain.Fate.TheVariants.{Live}
+use Rattle.mt_rows.specs.Spans.{root_span}
+use Rattle.mt_rows.specs.Levels.{Levels, times, is_row_of}
+use Rattle.mt_rows.specs.Trees.{deepest}
+use Rattle.mt_rows.specs.Laws as laws
+use Rattle.mt_rows.specs.Sheet.{Sheet, Tree, life_of, is_buried}
+use Rattle.mt_rows.specs.Publish.{tree_as, LiveAreReached, IsReached, is_reached, Changes}
+use Rattle.mt_rows.specs.Replacement.{root_of}
+use Rattle.mt_rows.specs.Plain.{life_in, buried_in, enlivened}
+use Rattle.mt_rows.proofs.Reached as reached
+use Rattle.mt_rows.proofs.PlainWalk.{fate_at, Ready, walk_one, no_name}
+use Rattle.mt_rows.proofs.PlainReached.{levels_from, ready_at}
+
+-- what is known of rows when a word is stored
+pub record Before : Type 0 where
+  pub kind : Kind
+  pub sheet : Sheet
+  pub past : ℕ
+  pub fates : List Fate
+  pub lives_are : (row : ℕ) → life_of sheet row ≡ life_in past (fate_at fates row)
+  pub buried_are : (row : ℕ) → is_buried sheet row ≡ buried_in past (fate_at fates row)
+  pub live : LiveAreReached sheet
+  pub has : laws.HasWords (tree_as kind sheet.rows sheet.tree)
+  pub tree : laws.IsTree (tree_as kind sheet.rows sheet.tree)
+
+-- the rows that are reached are live, and no other fate has changed
+abbrev pub Reaches : Tree → List Fate → List Fate → Type 0
+Reaches after fates fates' = (row : ℕ) → (IsReached after row × (fate_at fates' row ≡ Live)) ⊎ ((is_reached after row ≡ false) × (fate_at fates' row ≡ fate_at fates row))
+
+module _ (b : Before) (word depth : ℕ) (deep : deepest ≤ depth) where
+  abbrev s : Sheet
+  s = b.sheet
+
+  abbrev after : Tree
+  after = record { table = s.tree.table; root = word }
+
+  abbrev t' : laws.Tree
+  t' = tree_as b.kind s.rows after
+
+  abbrev fates' : List Fate
+  fates' = enlivened s.tree.table.words depth word b.fates
+
+  empty_reaches : word ≡ 0 → Reaches after b.fates fates'
+  empty_reaches empty row = inr (
+    ap (λ (root : ℕ). is_reached (record { table = s.tree.table; root = root }) row) empty,
+    ap (λ (fs : List Fate). fate_at fs row) (ap (λ (root : ℕ). enlivened s.tree.table.words depth root b.fates) empty ∙ no_name s.tree.table.words depth b.fates),
+  )
+
+  module _ (rows : Changes s after) (h' : ℕ) (stands' : laws.Stands t' h') where
+    ready : Levels (Ready t'.table b.fates) t'.table h' (root_of t')
+    ready = levels_from (Ready t'.table b.fates) t'.table h' (root_of t') h' zero (omega arith)
+        (λ m x low on. ready_at b.kind s after b.past b.fates b.lives_are b.buried_are b.live b.tree rows h' stands' m x on refl)
+
+    tree_reaches : Reaches after b.fates fates'
+    tree_reaches row =
+        let low = stands'.low in
+        let walked = walk_one t' b.has h' depth (omega arith) (root_span s.tree.table word) b.fates stands'.rows ready (reached.times_in_once t' h' stands') row in
+        elim walked [
+          | inl here ↦ inl (reached.times_reached t' h' stands' row here.0, here.1)
+          | inr not ↦ elim (cases_Bool (is_reached after row)) [
+            | inl is ↦ let some = reached.reached_times t' h' stands' row is in let none = not.0 in absurd (omega arith)
+            | inr none ↦ inr (none, not.1)
+          ]
+        ]
+
+  pub root_reaches : laws.IsTree t' → Changes s after → Reaches after b.fates fates'
+  root_reaches tree' rows = elim tree' [ inl empty ↦ empty_reaches empty | inr stands' ↦ tree_reaches rows stands'.0 stands'.1 ]

@@ -1,0 +1,11 @@
+use Rattle.std.proofs.Common.{◌≡◌, ◌-◌, ℕ, List, take}
+use Rattle.std.specs.List.{fold}
+use Rattle.mt_rows.specs.declared.plain.Fate.{Fate}
+use Rattle.mt_rows.specs.Plain.{enlivened}
+use Rattle.mt_rows.proofs.plain.+enliven.Given as goal
+
+abbrev pub decreases-enliven : goal.decreases-enliven
+decreases-enliven l = l.depth
+
+abbrev pub invariant-loop-child : goal.invariant-loop-child
+invariant-loop-child l = l.fates ≡ fold (λ (fs : List Fate) (word : ℕ). enlivened l.words (l.depth - 1) word fs) l.initial.fates (take l.child-index l.child-items)
