@@ -64,18 +64,21 @@ module _ (t : Tree) (h : ℕ) (stands : Stands t h) where
   pub reached : (index d : ℕ) → index ≤ top_of t → d ≤ h → IsBelow t.table d (top_row t) (row_of t d index)
   reached index d within low = row_below t d h (top_row t) index low (root_leads index within)
 
-  -- the row of the next level stands in the slot of the step
+  -- in the slot of a step stands what holds the index
+  pub holds : (index d : ℕ) → index ≤ top_of t → d ≤ h → At (row_of t d index).first ((row_of t d index).last + 1) (spans_in t.table (row_of t d index)) index (below t.table (row_of t d index) index)
+  holds index d within low = child_at t (h - d) (row_of t d index) index (leads index d (h - d) within (omega arith))
+
+  -- which above the leaves is the row of the next level
   pub child : (index d : ℕ) → index ≤ top_of t → d < h → At (row_of t d index).first ((row_of t d index).last + 1) (spans_in t.table (row_of t d index)) index (row_of t (suc d) index)
   child index d within low =
       let row = row_of t d index in
-      subst (At row.first (row.last + 1) (spans_in t.table row) index) (sym (row_next t d (top_row t) index))
-      (child_at t (h - d) row index (leads index d (h - d) within (omega arith)))
+      subst (At row.first (row.last + 1) (spans_in t.table row) index) (sym (row_next t d (top_row t) index)) (holds index d within (omega arith))
 
   -- the slot of the step holds a span, and a word is published there by a store in its column
   pub slot_used : (index d : ℕ) → index ≤ top_of t → d ≤ h → (step_of t d index).slot < length (spans_in t.table (row_of t d index))
   slot_used index d within low =
       let row = row_of t d index in
-      let at = child_at t (h - d) row index (leads index d (h - d) within (omega arith)) in
+      let at = holds index d within low in
       let used = slice_get_within (spans_in t.table row) (slot_for (spans_in t.table row) index) (below t.table row index) (at_get row.first (row.last + 1) (spans_in t.table row) index (below t.table row index) at) in
       subst (λ (s : PathStep). s.slot < length (spans_in t.table row)) (sym (step index d within low)) used
 

@@ -1,4 +1,4 @@
-ghost use Rattle.std.specs.Prelude.{IfOk};
+ghost use Rattle.std.specs.Prelude.{◌≡◌, IfOk, length};
 ghost use Rattle.mt_base.specs.declared.kinds.Kind.TheVariants as trees;
 ghost use Rattle.mt_rows.specs.Publish.{IsTreeOf};
 ghost use Rattle.mt_path.specs.Frozen.{frozen};
@@ -45,6 +45,7 @@ const RIGHT: [u64; 32] = [
 struct FrozenRows {
     words: Vec<u64>,
     root: u64,
+    ghost whole: { length words.items ≡ 608 },
 }
 
 impl Rows for FrozenRows {
