@@ -4,8 +4,8 @@ ghost use Rattle.mt_rows.specs.Publish.{IsTreeOf};
 ghost use Rattle.mt_path.specs.Frozen.{frozen};
 
 use crate::{Path, PathStep, left_at, right_at, walk};
-use mt_base::{NoMemory, Width};
-use mt_rows::{PlainRows, Rows, Scan};
+use mt_base::{Call, NoMemory, Reply, Width};
+use mt_rows::{Place, PlainRows, Rows, Scan};
 use std::alloc::Global;
 use std::process::Abort;
 use std::test::Fail;
@@ -83,6 +83,10 @@ impl Rows for FrozenRows {
     fn bury(&mut self, _row: u32) {}
 
     fn tend(&mut self, _row: u32, _col: u32, _word: u64) {}
+
+    fn publish(&mut self, _place: Place, _word: u64, _call: &Call, _reply: &Reply) {}
+
+    fn finish(&mut self, _call: &Call, _reply: &Reply) {}
 }
 
 /// An allocation tree: the row 16 with the leaves 17 and 18.
