@@ -134,7 +134,7 @@ module _ (t : Tree) (h k depth slot word : ℕ) (row child : Span) (has : HasWor
   -- ---- a child that was written before the store
 
   -- the row that is written does not stand below the new child
-  not_below : IsNewBelow t t h k child child' → times (store.is_written s) t.table k (child' ∷ []) ≡ 0
+  not_below : IsNewBelow t h k child child' → times (store.is_written s) t.table k (child' ∷ []) ≡ 0
   not_below apart = none (times (store.is_written s) t.table k (child' ∷ [])) (apart (row_in row.word))
     where
       none : (n : ℕ) → (1 ≤ n → (times (store.is_written s) t.table h (root_of t) ≡ 0) ⊎ (1 ≤ times (store.is_written s) t.table k (child ∷ []))) → n ≡ 0
@@ -147,7 +147,7 @@ module _ (t : Tree) (h k depth slot word : ℕ) (row child : Span) (has : HasWor
           ⊎_elim (λ (unreached : times (store.is_written s) t.table h (root_of t) ≡ 0). absurd (omega arith)) (λ (below : 1 ≤ times (store.is_written s) t.table k (child ∷ [])). absurd (omega arith)) (either (omega arith))
 
   -- So what stands below the new child before the store stands there after it, and the child is replaced.
-  pub replaces_written_child : Levels (IsRow t) t.table k (child' ∷ []) → IsNewBelow t t h k child child'
+  pub replaces_written_child : Levels (IsRow t) t.table k (child' ∷ []) → IsNewBelow t h k child child'
       → ReplacesChild t t' h k (suc depth) child child' × (map_of t'.table k (child' ∷ []) ≡ map_of t.table k (child' ∷ [])) × ((p : ℕ → Span → Bool) → times p t'.table k (child' ∷ []) ≡ times p t.table k (child' ∷ []))
   replaces_written_child laws apart =
       let other = times_nowhere (store.is_written s) t.table k (child' ∷ []) (not_below apart) in

@@ -100,12 +100,12 @@ with_published t Root word = record { table = t.table; root = word }
 with_published t (Slot row col) word = with_word t row col word
 
 -- a row that is reached then was live, or is a draft without its dead mark
-abbrev pub IsKnown : Sheet → Tree → ℕ → Type 0
-IsKnown s t' row = (life_of s row ≡ Live) ⊎ ((life_of s row ≡ Draft) × (word_at s row 0 ≢ dead_mark row))
+abbrev pub IsKnown : Sheet → ℕ → Type 0
+IsKnown s row = (life_of s row ≡ Live) ⊎ ((life_of s row ≡ Draft) × (word_at s row 0 ≢ dead_mark row))
 
 -- what a publishing store makes of rows
 pub record Changes (s : Sheet) (t' : Tree) : Type 0 where
-  pub known : (row : ℕ) → IsReached t' row → IsKnown s t' row
+  pub known : (row : ℕ) → IsReached t' row → IsKnown s row
   pub stay : (h h' : ℕ) (x x' : Span) → StandsAt s.tree h x → StandsAt t' h' x' → row_in x.word ≡ row_in x'.word → KeepsPlace s.tree t' h h' x x'
   pub gone : (row : ℕ) → IsReached s.tree row → is_reached t' row ≡ false → is_buried s row ≡ true
   pub buried : (row : ℕ) → 16 ≤ row → row < 16 + s.rows → is_buried s row ≡ true → IsReached s.tree row × (is_reached t' row ≡ false)

@@ -31,8 +31,8 @@ abbrev pub with_child : Span → ℕ → Span
 with_child child word = record child { word = word }
 
 -- rows below the new child were not reached, or were reached from the old one
-abbrev pub IsNewBelow : Tree → Tree → ℕ → ℕ → Span → Span → Type 0
-IsNewBelow t t' h k child child' = (row : ℕ) → 1 ≤ times (is_row_of row) t'.table k (child' ∷ []) → (times (is_row_of row) t.table h (root_of t) ≡ 0) ⊎ (1 ≤ times (is_row_of row) t.table k (child ∷ []))
+abbrev pub IsNewBelow : Tree → ℕ → ℕ → Span → Span → Type 0
+IsNewBelow t h k child child' = (row : ℕ) → 1 ≤ times (is_row_of row) t.table k (child' ∷ []) → (times (is_row_of row) t.table h (root_of t) ≡ 0) ⊎ (1 ≤ times (is_row_of row) t.table k (child ∷ []))
 
 -- In a tree of height h a child of height k is replaced: the map is the ranges below it, those of the new child and those
 -- above it, and of the rows that are reached just those below the two children differ.

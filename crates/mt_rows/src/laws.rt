@@ -57,11 +57,15 @@ pub fn same_spans_stand_for_the_same()
     ensures rows { (p : ℕ → Span → Bool) (t t' : Table) (h : ℕ) (xs : List Span) → Levels (λ (_ : ℕ) (x : Span). SameSpans t t' x) t h xs → times p t' h xs ≡ times p t h xs }
 {}
 
-/// What stands below a slot is replaced by one store of the slot's word.
+/// What stands below a slot is replaced by one store of the slot's word. The new child is known by the words after the
+/// store, or by those before it, where its rows were not reached or were reached from the old child.
 pub fn one_store_replaces_a_child()
-    ensures { (t : Tree) (h k depth slot word : ℕ) (row child : Span) → HasWords t → Stands t h → h ≡ depth + suc k → IsSlotAt t depth row slot child
+    ensures by_words_after { (t : Tree) (h k depth slot word : ℕ) (row child : Span) → HasWords t → Stands t h → h ≡ depth + suc k → IsSlotAt t depth row slot child
         → let t' = with_slot t (suc k) row slot word in let child' = with_child child word in
-        Levels (IsRow t') t'.table k (child' ∷ []) → IsNewBelow t t' h k child child' → ReplacesChild t t' h k (suc depth) child child' }
+        Levels (IsRow t') t'.table k (child' ∷ []) → ReplacesChild t t' h k (suc depth) child child' }
+    ensures by_words_before { (t : Tree) (h k depth slot word : ℕ) (row child : Span) → HasWords t → Stands t h → h ≡ depth + suc k → IsSlotAt t depth row slot child
+        → let t' = with_slot t (suc k) row slot word in let child' = with_child child word in
+        Levels (IsRow t) t.table k (child' ∷ []) → IsNewBelow t h k child child' → ReplacesChild t t' h k (suc depth) child child' × (map_of t'.table k (child' ∷ []) ≡ map_of t.table k (child' ∷ [])) }
 {}
 
 /// An entry is replaced by another by one store of its slot, and nothing else changes.
