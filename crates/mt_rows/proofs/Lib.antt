@@ -7,6 +7,7 @@ pub mod Heights
 pub mod Joins
 pub mod Lists
 pub mod Once
+pub mod PlainExamples
 pub mod PlainFates
 pub mod PlainNames
 pub mod PlainPlant

@@ -1,6 +1,10 @@
+ghost use Rattle.std.specs.Prelude.{◌≡◌, slice_index};
+ghost use Rattle.std.specs.List.{fold, range_with_len};
+ghost use Rattle.mt_rows.specs.Sheet.{IsPlace, IsFree, life_of, drafted};
+
 use crate::plain_trees::{height_in, map_in, reached_in};
 use crate::{PlainRows, Rows, Scan};
-use mt_base::{NoMemory, Range, Width};
+use mt_base::{Call, NoMemory, Range, Reply, Width};
 use std::alloc::Global;
 use std::process::Abort;
 use std::test::Fail;
@@ -113,5 +117,27 @@ fn rows_in_memory(rt: HostRuntime) -> Result<(), Fail> {
     rows.draft(17, 5, 4096);
     assert_eq!(rt; rows.load(17, 5), 4096);
     assert_eq!(rt; rows.load(18, 5), 0);
+    Ok(())
+}
+
+/// Drafts each column of a row.
+fn draft_row(rows: &mut PlainRows, row: u32, words: &[u64; 32])
+    requires place { IsPlace rows.old row 0 }
+    requires free { IsFree rows.old.cleared (life_of rows.old row) }
+    ensures { rows.new ≡ fold (λ s col. drafted s row col (slice_index words.now col)) rows.old (range_with_len 0 32) }
+{
+    for col in 0..32 {
+        rows.draft(row, col, words[col as usize]);
+    }
+}
+
+#[test]
+fn a_call_that_changes_nothing(rt: HostRuntime) -> Result<(), Fail> {
+    let mut rows = PlainRows::new(rt.alloc(), 3)?;
+    rows.plant(0);
+    assert_eq!(rt; rows.begin(), 1);
+    rows.finish(&Call::Erase { index: 5 }, &Reply::None);
+    assert_eq!(rt; rows.begin(), 2);
+    assert_eq!(rt; rows.root(), 0);
     Ok(())
 }
