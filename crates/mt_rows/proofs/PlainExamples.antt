@@ -1,21 +1,23 @@
 -- Small trees in memory: rows drafted column by column, trees that may be planted, and stores that may be published.
-use Rattle.std.proofs.Common.{◌≡◌, ◌⊎◌, ℕ, zero, suc, ◌+◌, ◌<◌, ◌≤◌, List, [], ◌∷◌, ◌++◌, length, take, drop, refl, sym, ap, ◌∙◌, subst, inl, inr, arith, get_or-set_same}
-use Rattle.std.specs.Prelude.{replicate, slice_index, slice_index_or, slice_set}
+use Rattle.std.proofs.Common.{◌≡◌, ◌⊎◌, ℕ, zero, suc, ◌+◌, ◌<◌, ◌≤◌, List, [], ◌∷◌, ◌++◌, Bool, true, length, take, drop, refl, sym, ap, ◌∙◌, subst, inl, inr, arith, get_or-set_same}
+use Rattle.std.specs.Prelude.{replicate, slice_index, slice_index_or, slice_set, if◌then◌else◌}
 use Rattle.std.specs.List.{fold, range_with_len}
 use Rattle.std.proofs.lemmas.Bool.{cases_lt}
 use Rattle.std.proofs.lemmas.List.{get_or_past, length-set, get_or-take, get_or-drop}
 use Rattle.std.proofs.lemmas.List.Sums.{fold_push}
 use Rattle.mt_base.specs.declared.widths.Width.TheVariants.{Long}
+use Rattle.mt_base.specs.declared.kinds.Kind.{Kind}
 use Rattle.mt_base.specs.declared.kinds.Kind.TheVariants.{Alloc}
+use Rattle.mt_base.specs.Width.{columns}
 use Rattle.mt_layout.specs.declared.names.RowKind.TheVariants.{Leaf, Inner, Gapped}
 use Rattle.mt_layout.specs.declared.spans.Span.{Span}
 use Rattle.mt_rows.specs.Spans.{root_span}
 use Rattle.mt_rows.specs.Laws as laws
-use Rattle.mt_rows.specs.Publish.{MayPlant}
+use Rattle.mt_rows.specs.Publish.{MayPlant, Planted, is_reached}
 use Rattle.mt_rows.specs.Plain.{new_sheet}
 use Rattle.mt_rows.specs.declared.rows.Life.{Life}
 use Rattle.mt_rows.specs.declared.rows.Life.TheVariants as lives
-use Rattle.mt_rows.specs.Sheet.{Sheet, IsPlace, IsFree, life_of, drafted}
+use Rattle.mt_rows.specs.Sheet.{Sheet, IsPlace, IsFree, MayBury, life_of, loaded, begun, drafted}
 
 -- ---- rows drafted column by column
 
@@ -144,3 +146,21 @@ lawful = inr (
 
 may_plant : MayPlant Alloc ready_to_plant 4124
 may_plant = record { idle = refl; first = refl; empty = refl; of_kind = record { told = tt; width = refl }; lawful = lawful }
+
+-- three rows drafted one after the other may be planted
+module _ (s s₁ s₂ s₃ : Sheet) (new : s ≡ new_sheet 3) (first : s₁ ≡ with_columns s 16 inner 32) (second : s₂ ≡ with_columns s₁ 17 left 32) (third : s₃ ≡ with_columns s₂ 18 right 32) where
+  leaves_are : s₃ ≡ ready_to_plant
+  leaves_are = third ∙ (ap (λ (s : Sheet). with_columns s 18 right 32) (second ∙ ap (λ (s : Sheet). with_columns s 17 left 32) (first ∙ ap (λ (s : Sheet). with_columns s 16 inner 32) new)) ∙ is_ready)
+
+  pub leaves_may_plant : (kind : Kind) × MayPlant kind s₃ 4124
+  leaves_may_plant = (Alloc, subst (λ (s : Sheet). MayPlant Alloc s 4124) (sym leaves_are) may_plant)
+
+  -- and a leaf may be buried then by the first call
+  pub leaf_may_be_buried : (s₄ s₅ s₆ : Sheet) → Planted s₃ s₄ 4124 → s₅ ≡ loaded s₄ → s₆ ≡ begun s₅ → MayBury s₆ 17
+  leaf_may_be_buried s₄ s₅ s₆ planted read begins =
+      let done : Planted ready_to_plant s₄ 4124 = subst (λ (s : Sheet). Planted s s₄ 4124) leaves_are planted in
+      let reached : is_reached s₄.tree 17 ≡ true = ap (λ (s : Sheet). is_reached s.tree 17) done.rest in
+      let live : life_of s₄ 17 ≡ lives.Live = done.lives 17 (omega arith) (omega arith) ∙ ap (λ (b : Bool). if b then lives.Live else life_of ready_to_plant 17) reached in
+      let rows : s₄.rows ≡ 3 = ap (λ (s : Sheet). s.rows) done.rest in
+      let columns : 0 < columns s₄.tree.table.width = subst (λ (s : Sheet). 0 < columns s.tree.table.width) (sym done.rest) (omega arith) in
+      subst (λ (s : Sheet). MayBury s 17) (sym (begins ∙ ap begun read)) (record { flying = refl; before = refl; at = record { first = omega arith; last = omega arith; column = columns }; live = live })

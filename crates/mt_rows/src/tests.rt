@@ -141,3 +141,17 @@ fn a_call_that_changes_nothing(rt: HostRuntime) -> Result<(), Fail> {
     assert_eq!(rt; rows.root(), 0);
     Ok(())
 }
+
+#[test]
+fn a_planted_tree(rt: HostRuntime) -> Result<(), Fail> {
+    let mut rows = PlainRows::new(rt.alloc(), 3)?;
+    draft_row(&mut rows, 16, &INNER);
+    draft_row(&mut rows, 17, &LEFT);
+    draft_row(&mut rows, 18, &RIGHT);
+    rows.plant(4124);
+    assert_eq!(rt; rows.root(), 4124);
+    assert_eq!(rt; rows.begin(), 1);
+    rows.bury(17);
+    assert_eq!(rt; rows.load(17, 0), 4352);
+    Ok(())
+}
