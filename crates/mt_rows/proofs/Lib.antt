@@ -16,6 +16,7 @@ pub mod PlainReached
 pub mod PlainRoot
 pub mod PlainSlot
 pub mod PlainWalk
+pub mod PlainWrites
 pub mod Ranges
 pub mod Reached
 pub mod RowLaws

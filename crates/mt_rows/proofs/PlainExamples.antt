@@ -1,5 +1,5 @@
 -- Small trees in memory: rows drafted column by column, trees that may be planted, and stores that may be published.
-use Rattle.std.proofs.Common.{◌≡◌, ◌⊎◌, ℕ, zero, suc, ◌+◌, ◌<◌, ◌≤◌, List, [], ◌∷◌, ◌++◌, Bool, true, length, take, drop, refl, sym, ap, ◌∙◌, subst, inl, inr, arith, get_or-set_same}
+use Rattle.std.proofs.Common.{◌≡◌, ℕ, zero, suc, ◌+◌, ◌<◌, List, [], ◌∷◌, ◌++◌, Bool, true, length, take, drop, refl, sym, ap, ◌∙◌, subst, inl, inr, arith, get_or-set_same}
 use Rattle.std.specs.Prelude.{replicate, slice_index, slice_index_or, slice_set, if◌then◌else◌}
 use Rattle.std.specs.List.{fold, range_with_len}
 use Rattle.std.proofs.lemmas.Bool.{cases_lt}
@@ -9,7 +9,7 @@ use Rattle.mt_base.specs.declared.widths.Width.TheVariants.{Long}
 use Rattle.mt_base.specs.declared.kinds.Kind.{Kind}
 use Rattle.mt_base.specs.declared.kinds.Kind.TheVariants.{Alloc}
 use Rattle.mt_base.specs.Width.{columns}
-use Rattle.mt_layout.specs.declared.names.RowKind.TheVariants.{Leaf, Inner, Gapped}
+use Rattle.mt_layout.specs.declared.names.RowKind.TheVariants.{Leaf, Gapped}
 use Rattle.mt_layout.specs.declared.spans.Span.{Span}
 use Rattle.mt_rows.specs.Spans.{root_span}
 use Rattle.mt_rows.specs.Laws as laws
@@ -21,7 +21,7 @@ use Rattle.mt_rows.specs.Sheet.{Sheet, IsPlace, IsFree, MayBury, life_of, loaded
 
 -- ---- rows drafted column by column
 
-abbrev with_columns : Sheet → ℕ → List ℕ → ℕ → Sheet
+abbrev pub with_columns : Sheet → ℕ → List ℕ → ℕ → Sheet
 with_columns s row words n = fold (λ (s : Sheet) (col : ℕ). drafted s row col (slice_index words col)) s (range_with_len 0 n)
 
 range_more : (a n : ℕ) → range_with_len a (suc n) ≡ range_with_len a n ++ ((a + n) ∷ [])
@@ -74,7 +74,7 @@ ready_to_plant = record (new_sheet 3) { tree = record { table = record { width =
 pub is_ready : drafted_leaves ≡ ready_to_plant
 is_ready = refl
 
-column_in : (w : List ℕ) (base n : ℕ) (row : List ℕ) → take n (drop base w) ≡ row → (c : ℕ) → c < n → slice_index w (base + c) ≡ slice_index row c
+pub column_in : (w : List ℕ) (base n : ℕ) (row : List ℕ) → take n (drop base w) ≡ row → (c : ℕ) → c < n → slice_index w (base + c) ≡ slice_index row c
 column_in w base n row is c within = sym (get_or-drop base w c 0) ∙ (sym (get_or-take n (drop base w) c 0 within) ∙ ap (λ (l : List ℕ). slice_index l c) is)
 
 abbrev tree : laws.Tree

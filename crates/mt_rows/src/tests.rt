@@ -3,7 +3,7 @@ ghost use Rattle.std.specs.List.{fold, range_with_len};
 ghost use Rattle.mt_rows.specs.Sheet.{IsPlace, IsFree, life_of, drafted};
 
 use crate::plain_trees::{height_in, map_in, reached_in};
-use crate::{PlainRows, Rows, Scan};
+use crate::{Place, PlainRows, Rows, Scan};
 use mt_base::{Call, NoMemory, Range, Reply, Width};
 use std::alloc::Global;
 use std::process::Abort;
@@ -44,6 +44,13 @@ const LONE: [u64; 32] = [
     1,
     9, 19, TOP, 0, 0, 0, 0, 0, 0, 0, 0, 0, 0, 0, 0,
     0, 5, 0, 0, 0, 0, 0, 0, 0, 0, 0, 0, 0, 0, 0, 0,
+];
+
+#[rattlefmt::skip]
+const NEXT: [u64; 32] = [
+    1,
+    9, 19, TOP, 0, 0, 0, 0, 0, 0, 0, 0, 0, 0, 0, 0,
+    8, 7, 0, 0, 0, 0, 0, 0, 0, 0, 0, 0, 0, 0, 0, 0,
 ];
 
 /// The words of a table whose first rows are these.
@@ -153,5 +160,48 @@ fn a_planted_tree(rt: HostRuntime) -> Result<(), Fail> {
     assert_eq!(rt; rows.begin(), 1);
     rows.bury(17);
     assert_eq!(rt; rows.load(17, 0), 4352);
+    Ok(())
+}
+
+#[test]
+fn a_leaf_is_written_and_replaced(rt: HostRuntime) -> Result<(), Fail> {
+    let mut rows = PlainRows::new(rt.alloc(), 2)?;
+    let first = Call::Store {
+        first: 10,
+        last: 19,
+        entry: 5,
+    };
+    assert_eq!(rt; rows.begin(), 1);
+    assert_eq!(rt; rows.size(), 2);
+    draft_row(&mut rows, 16, &LONE);
+    rows.publish(Place::Root, 4108, &first, &Reply::Ok);
+    rows.finish(&first, &Reply::Ok);
+
+    let exact = Call::Store {
+        first: 10,
+        last: 19,
+        entry: 7,
+    };
+    assert_eq!(rt; rows.begin(), 2);
+    assert_eq!(rt; rows.size(), 2);
+    rows.publish(Place::Slot { row: 16, col: 17 }, 7, &exact, &Reply::Ok);
+    rows.finish(&exact, &Reply::Ok);
+
+    let more = Call::Store {
+        first: 0,
+        last: 9,
+        entry: 8,
+    };
+    assert_eq!(rt; rows.begin(), 3);
+    assert_eq!(rt; rows.size(), 2);
+    draft_row(&mut rows, 17, &NEXT);
+    rows.bury(16);
+    rows.publish(Place::Root, 4364, &more, &Reply::Ok);
+    rows.finish(&more, &Reply::Ok);
+    assert_eq!(rt; rows.root(), 4364);
+
+    // The first leaf is dead by call 3.
+    rows.scan();
+    rows.draft(16, 1, 9);
     Ok(())
 }
