@@ -8,6 +8,7 @@ pub mod Joins
 pub mod Lists
 pub mod NineLevels
 pub mod Once
+pub mod PlainExamples
 pub mod PlainFates
 pub mod PlainNames
 pub mod PlainPlant
@@ -16,6 +17,7 @@ pub mod PlainReached
 pub mod PlainRoot
 pub mod PlainSlot
 pub mod PlainWalk
+pub mod PlainWrites
 pub mod Ranges
 pub mod Reached
 pub mod RowLaws

@@ -1,12 +1,11 @@
 -- A root word is published: the rows that are reached from it are live after the walk of drafts, and no other fate changes.
-use Rattle.std.proofs.Common.{◌≡◌, ◌⊎◌, ℕ, zero, suc, ◌+◌, ◌<◌, ◌≤◌, List, [], ◌∷◌, Bool, true, false, refl, sym, ap, ◌∙◌, subst, inl, inr, arith}
+use Rattle.std.proofs.Common.{◌≡◌, ◌⊎◌, ℕ, zero, ◌≤◌, List, false, refl, ap, ◌∙◌, inl, inr, arith}
 use Rattle.std.proofs.lemmas.Bool.{cases_Bool}
 use Rattle.mt_base.specs.declared.kinds.Kind.{Kind}
-use Rattle.mt_layout.specs.declared.spans.Span.{Span}
 use Rattle.mt_rows.specs.declared.plain.Fate.{Fate}
 use Rattle.mt_rows.specs.declared.plain.Fate.TheVariants.{Live}
 use Rattle.mt_rows.specs.Spans.{root_span}
-use Rattle.mt_rows.specs.Levels.{Levels, times, is_row_of}
+use Rattle.mt_rows.specs.Levels.{Levels}
 use Rattle.mt_rows.specs.Trees.{deepest}
 use Rattle.mt_rows.specs.Laws as laws
 use Rattle.mt_rows.specs.Sheet.{Sheet, Tree, life_of, is_buried}

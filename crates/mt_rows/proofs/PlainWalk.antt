@@ -1,22 +1,22 @@
 -- The walk that makes drafts live: what is reached from a word is live then, and no other fate has changed.
-use Rattle.std.proofs.Common.{◌≡◌, ◌⊎◌, ℕ, zero, suc, ◌+◌, ◌<◌, ◌≤◌, ◌==◌, List, [], ◌∷◌, ◌++◌, Option, Some, Bool, true, false, length, map, replicate, refl, sym, ap, ◌∙◌, subst, inl, inr, arith, append-nil, eqb-true, eq-eqb, ne_eqb, get_or-set_same, get_or-set_other}
+use Rattle.std.proofs.Common.{◌≡◌, ◌⊎◌, ℕ, zero, suc, ◌+◌, ◌<◌, ◌≤◌, ◌==◌, List, [], ◌∷◌, ◌++◌, Option, Some, Bool, length, map, replicate, refl, sym, ap, ◌∙◌, subst, inl, inr, arith, append-nil, eqb-true, eq-eqb, ne_eqb, get_or-set_same, get_or-set_other}
 use Rattle.std.specs.Prelude.{slice_index_or, slice_set, if◌then◌else◌}
 use Rattle.std.specs.List.{AllByRecursion, fold}
-use Rattle.std.proofs.lemmas.Bool.{cases_Bool, cases_eq, cases_lt}
+use Rattle.std.proofs.lemmas.Bool.{cases_eq, cases_lt}
 use Rattle.std.proofs.lemmas.List.{get_or_past}
 use Rattle.std.proofs.lemmas.List.Sums.{fold-append}
 use Rattle.mt_layout.specs.Rows.{row_in, named_kind}
 use Rattle.mt_layout.specs.declared.names.RowKind.{RowKind}
 use Rattle.mt_layout.specs.declared.spans.Span.{Span}
 use Rattle.mt_rows.specs.Spans.{Table, spans_in, inner_kind}
-use Rattle.mt_rows.specs.Levels.{expand, level, Levels, one_if, tally, times, is_row_of}
+use Rattle.mt_rows.specs.Levels.{expand, Levels, one_if, tally, times, is_row_of}
 use Rattle.mt_rows.specs.Laws.{Tree, HasWords, IsRow, kind_at}
 use Rattle.mt_rows.specs.declared.plain.Fate.{Fate}
-use Rattle.mt_rows.specs.declared.plain.Fate.TheVariants.{New, Draft, Live, Buried}
+use Rattle.mt_rows.specs.declared.plain.Fate.TheVariants.{New, Draft, Live}
 use Rattle.mt_rows.specs.Plain.{is_draft, names_of, enlivened_by, enlivened}
 use Rattle.mt_rows.proofs.Lists.{all_join}
 use Rattle.mt_rows.proofs.Joins.{times-append, levels_front, levels_back}
-use Rattle.mt_rows.proofs.Reached.{IsOneOf, one_of_expand, all_one_of, tally_some, tally_place, times_some}
+use Rattle.mt_rows.proofs.Reached.{IsOneOf, one_of_expand, all_one_of, tally_place, times_some}
 use Rattle.mt_rows.proofs.PlainNames.{names_are}
 
 abbrev pub fate_at : List Fate → ℕ → Fate

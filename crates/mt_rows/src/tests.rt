@@ -1,6 +1,10 @@
+ghost use Rattle.std.specs.Prelude.{◌≡◌, slice_index};
+ghost use Rattle.std.specs.List.{fold, range_with_len};
+ghost use Rattle.mt_rows.specs.Sheet.{IsPlace, IsFree, life_of, drafted};
+
 use crate::plain_trees::{height_in, map_in, reached_in};
-use crate::{PlainRows, Rows, Scan};
-use mt_base::{NoMemory, Range, Width};
+use crate::{Place, PlainRows, Rows, Scan};
+use mt_base::{Call, NoMemory, Range, Reply, Width};
 use std::alloc::Global;
 use std::process::Abort;
 use std::test::Fail;
@@ -40,6 +44,13 @@ const LONE: [u64; 32] = [
     1,
     9, 19, TOP, 0, 0, 0, 0, 0, 0, 0, 0, 0, 0, 0, 0,
     0, 5, 0, 0, 0, 0, 0, 0, 0, 0, 0, 0, 0, 0, 0, 0,
+];
+
+#[rattlefmt::skip]
+const NEXT: [u64; 32] = [
+    1,
+    9, 19, TOP, 0, 0, 0, 0, 0, 0, 0, 0, 0, 0, 0, 0,
+    8, 7, 0, 0, 0, 0, 0, 0, 0, 0, 0, 0, 0, 0, 0, 0,
 ];
 
 /// The words of a table whose first rows are these.
@@ -113,5 +124,84 @@ fn rows_in_memory(rt: HostRuntime) -> Result<(), Fail> {
     rows.draft(17, 5, 4096);
     assert_eq!(rt; rows.load(17, 5), 4096);
     assert_eq!(rt; rows.load(18, 5), 0);
+    Ok(())
+}
+
+/// Drafts each column of a row.
+fn draft_row(rows: &mut PlainRows, row: u32, words: &[u64; 32])
+    requires place { IsPlace rows.old row 0 }
+    requires free { IsFree rows.old.cleared (life_of rows.old row) }
+    ensures { rows.new ≡ fold (λ s col. drafted s row col (slice_index words.now col)) rows.old (range_with_len 0 32) }
+{
+    for col in 0..32 {
+        rows.draft(row, col, words[col as usize]);
+    }
+}
+
+#[test]
+fn a_call_that_changes_nothing(rt: HostRuntime) -> Result<(), Fail> {
+    let mut rows = PlainRows::new(rt.alloc(), 3)?;
+    rows.plant(0);
+    assert_eq!(rt; rows.begin(), 1);
+    rows.finish(&Call::Erase { index: 5 }, &Reply::None);
+    assert_eq!(rt; rows.begin(), 2);
+    assert_eq!(rt; rows.root(), 0);
+    Ok(())
+}
+
+#[test]
+fn a_planted_tree(rt: HostRuntime) -> Result<(), Fail> {
+    let mut rows = PlainRows::new(rt.alloc(), 3)?;
+    draft_row(&mut rows, 16, &INNER);
+    draft_row(&mut rows, 17, &LEFT);
+    draft_row(&mut rows, 18, &RIGHT);
+    rows.plant(4124);
+    assert_eq!(rt; rows.root(), 4124);
+    assert_eq!(rt; rows.begin(), 1);
+    rows.bury(17);
+    assert_eq!(rt; rows.load(17, 0), 4352);
+    Ok(())
+}
+
+#[test]
+fn a_leaf_is_written_and_replaced(rt: HostRuntime) -> Result<(), Fail> {
+    let mut rows = PlainRows::new(rt.alloc(), 2)?;
+    let first = Call::Store {
+        first: 10,
+        last: 19,
+        entry: 5,
+    };
+    assert_eq!(rt; rows.begin(), 1);
+    assert_eq!(rt; rows.size(), 2);
+    draft_row(&mut rows, 16, &LONE);
+    rows.publish(Place::Root, 4108, &first, &Reply::Ok);
+    rows.finish(&first, &Reply::Ok);
+
+    let exact = Call::Store {
+        first: 10,
+        last: 19,
+        entry: 7,
+    };
+    assert_eq!(rt; rows.begin(), 2);
+    assert_eq!(rt; rows.size(), 2);
+    rows.publish(Place::Slot { row: 16, col: 17 }, 7, &exact, &Reply::Ok);
+    rows.finish(&exact, &Reply::Ok);
+
+    let more = Call::Store {
+        first: 0,
+        last: 9,
+        entry: 8,
+    };
+    assert_eq!(rt; rows.begin(), 3);
+    assert_eq!(rt; rows.size(), 2);
+    draft_row(&mut rows, 17, &NEXT);
+    rows.bury(16);
+    rows.publish(Place::Root, 4364, &more, &Reply::Ok);
+    rows.finish(&more, &Reply::Ok);
+    assert_eq!(rt; rows.root(), 4364);
+
+    // The first leaf is dead by call 3.
+    rows.scan();
+    rows.draft(16, 1, 9);
     Ok(())
 }

@@ -1,4 +1,4 @@
-use Rattle.std.proofs.Common.{◌≡◌, ◌∙◌, Bool, List, ap, sym}
+use Rattle.std.proofs.Common.{◌∙◌, Bool, List, ap, sym}
 use Rattle.std.specs.Prelude.{if◌then◌else◌}
 use Rattle.mt_layout.specs.Rows.{named_row}
 use Rattle.mt_rows.specs.Trees.{deepest}

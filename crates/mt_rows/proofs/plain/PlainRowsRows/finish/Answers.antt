@@ -1,4 +1,4 @@
-use Rattle.std.proofs.Common.{◌<◌, ◌≤◌, ◌+◌, ◌-◌, ◌^◌, false, true, refl, arith}
+use Rattle.std.proofs.Common.{◌+◌, false, refl, arith}
 use Rattle.mt_rows.specs.Plain.{sheet_of}
 use Rattle.mt_rows.proofs.PlainFates.{buried_before, finished_lives, finished_buried, either_same}
 use Rattle.mt_rows.proofs.plain.PlainRowsRows.finish.Goals as goal

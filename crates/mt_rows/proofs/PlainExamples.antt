@@ -1,0 +1,166 @@
+-- Small trees in memory: rows drafted column by column, trees that may be planted, and stores that may be published.
+use Rattle.std.proofs.Common.{◌≡◌, ℕ, zero, suc, ◌+◌, ◌<◌, List, [], ◌∷◌, ◌++◌, Bool, true, length, take, drop, refl, sym, ap, ◌∙◌, subst, inl, inr, arith, get_or-set_same}
+use Rattle.std.specs.Prelude.{replicate, slice_index, slice_index_or, slice_set, if◌then◌else◌}
+use Rattle.std.specs.List.{fold, range_with_len}
+use Rattle.std.proofs.lemmas.Bool.{cases_lt}
+use Rattle.std.proofs.lemmas.List.{get_or_past, length-set, get_or-take, get_or-drop}
+use Rattle.std.proofs.lemmas.List.Sums.{fold_push}
+use Rattle.mt_base.specs.declared.widths.Width.TheVariants.{Long}
+use Rattle.mt_base.specs.declared.kinds.Kind.{Kind}
+use Rattle.mt_base.specs.declared.kinds.Kind.TheVariants.{Alloc}
+use Rattle.mt_base.specs.Width.{columns}
+use Rattle.mt_layout.specs.declared.names.RowKind.TheVariants.{Leaf, Gapped}
+use Rattle.mt_layout.specs.declared.spans.Span.{Span}
+use Rattle.mt_rows.specs.Spans.{root_span}
+use Rattle.mt_rows.specs.Laws as laws
+use Rattle.mt_rows.specs.Publish.{MayPlant, Planted, is_reached}
+use Rattle.mt_rows.specs.Plain.{new_sheet}
+use Rattle.mt_rows.specs.declared.rows.Life.{Life}
+use Rattle.mt_rows.specs.declared.rows.Life.TheVariants as lives
+use Rattle.mt_rows.specs.Sheet.{Sheet, IsPlace, IsFree, MayBury, life_of, loaded, begun, drafted}
+
+-- ---- rows drafted column by column
+
+abbrev pub with_columns : Sheet → ℕ → List ℕ → ℕ → Sheet
+with_columns s row words n = fold (λ (s : Sheet) (col : ℕ). drafted s row col (slice_index words col)) s (range_with_len 0 n)
+
+range_more : (a n : ℕ) → range_with_len a (suc n) ≡ range_with_len a n ++ ((a + n) ∷ [])
+range_more a zero = let same : a ≡ a + 0 = omega arith in ap (λ (k : ℕ). k ∷ []) same
+range_more a (suc n) =
+    let last : a + 1 + n ≡ a + suc n = omega arith in
+    ap (λ (l : List ℕ). a ∷ l) (range_more (a + 1) n ∙ ap (λ (k : ℕ). range_with_len (a + 1) n ++ (k ∷ [])) last)
+
+pub draft_next : (s s' s'' : Sheet) (row n : ℕ) (words : List ℕ) → s' ≡ with_columns s row words n → s'' ≡ drafted s' row n (slice_index words n) → s'' ≡ with_columns s row words (n + 1)
+draft_next s s' s'' row n words before next =
+    let count : n + 1 ≡ suc n = omega arith in
+    let last : 0 + n ≡ n = omega arith in
+    let more : range_with_len 0 (n + 1) ≡ range_with_len 0 n ++ (n ∷ []) = ap (range_with_len 0) count ∙ (range_more 0 n ∙ ap (λ (k : ℕ). range_with_len 0 n ++ (k ∷ [])) last) in
+    next ∙ (ap (λ (s : Sheet). drafted s row n (slice_index words n)) before
+    ∙ (sym (fold_push (λ (s : Sheet) (col : ℕ). drafted s row col (slice_index words col)) s (range_with_len 0 n) n)
+    ∙ ap (fold (λ (s : Sheet) (col : ℕ). drafted s row col (slice_index words col)) s) (sym more)))
+
+pub place_stays : (s s' : Sheet) (row n word : ℕ) → IsPlace s row 0 → s' ≡ drafted s row n word → IsPlace s' row 0
+place_stays s s' row n word place is = subst (λ (s : Sheet). IsPlace s row 0) (sym is) (record { first = place.first; last = place.last; column = place.column })
+
+free_draft : (cleared : ℕ) (ls : List Life) (row : ℕ) → IsFree cleared (slice_index_or (slice_set ls row lives.Draft) row lives.New)
+free_draft cleared ls row = elim (cases_lt row (length ls)) [
+  | inl within ↦ subst (IsFree cleared) (sym (get_or-set_same ls row lives.Draft lives.New within)) tt
+  | inr beyond ↦ subst (IsFree cleared) (sym (get_or_past (slice_set ls row lives.Draft) row lives.New (omega (arith, length-set ls row lives.Draft)))) tt
+]
+
+pub free_stays : (s s' : Sheet) (row n word : ℕ) → s' ≡ drafted s row n word → IsFree s'.cleared (life_of s' row)
+free_stays s s' row n word is = subst (λ (s : Sheet). IsFree s.cleared (life_of s row)) (sym is) (free_draft s.cleared s.lives row)
+
+-- ---- an allocation tree of two leaves
+
+abbrev inner : List ℕ
+inner = 1 ∷ 11 ∷ 18446744073709551615 ∷ 0 ∷ 0 ∷ 0 ∷ 0 ∷ 0 ∷ 0 ∷ 0 ∷ 4364 ∷ 4620 ∷ 0 ∷ 0 ∷ 0 ∷ 0 ∷ 0 ∷ 0 ∷ 0 ∷ 0 ∷ 0 ∷ 18446744073709551599 ∷ 0 ∷ 0 ∷ 0 ∷ 0 ∷ 0 ∷ 0 ∷ 0 ∷ 0 ∷ 0 ∷ 0 ∷ []
+
+abbrev left : List ℕ
+left = 4096 ∷ 0 ∷ 1 ∷ 2 ∷ 3 ∷ 4 ∷ 11 ∷ 0 ∷ 0 ∷ 0 ∷ 0 ∷ 0 ∷ 0 ∷ 0 ∷ 0 ∷ 0 ∷ 4096 ∷ 4096 ∷ 4096 ∷ 4096 ∷ 4096 ∷ 4096 ∷ 0 ∷ 0 ∷ 0 ∷ 0 ∷ 0 ∷ 0 ∷ 0 ∷ 0 ∷ 0 ∷ 0 ∷ []
+
+abbrev right : List ℕ
+right = 4097 ∷ 12 ∷ 13 ∷ 14 ∷ 15 ∷ 16 ∷ 18446744073709551615 ∷ 0 ∷ 0 ∷ 0 ∷ 0 ∷ 0 ∷ 0 ∷ 0 ∷ 0 ∷ 0 ∷ 4096 ∷ 4096 ∷ 4096 ∷ 4096 ∷ 4096 ∷ 0 ∷ 0 ∷ 0 ∷ 0 ∷ 0 ∷ 0 ∷ 0 ∷ 0 ∷ 0 ∷ 0 ∷ 0 ∷ []
+
+abbrev two_leaves : List ℕ
+two_leaves = replicate 512 0 ++ (inner ++ (left ++ right))
+
+abbrev pub drafted_leaves : Sheet
+drafted_leaves = with_columns (with_columns (with_columns (new_sheet 3) 16 inner 32) 17 left 32) 18 right 32
+
+abbrev ready_to_plant : Sheet
+ready_to_plant = record (new_sheet 3) { tree = record { table = record { width = Long; words = two_leaves }; root = 0 }; lives = replicate 16 lives.New ++ (lives.Draft ∷ lives.Draft ∷ lives.Draft ∷ []) }
+
+pub is_ready : drafted_leaves ≡ ready_to_plant
+is_ready = refl
+
+pub column_in : (w : List ℕ) (base n : ℕ) (row : List ℕ) → take n (drop base w) ≡ row → (c : ℕ) → c < n → slice_index w (base + c) ≡ slice_index row c
+column_in w base n row is c within = sym (get_or-drop base w c 0) ∙ (sym (get_or-take n (drop base w) c 0 within) ∙ ap (λ (l : List ℕ). slice_index l c) is)
+
+abbrev tree : laws.Tree
+tree = record { rows = 3; kind = Alloc; table = record { width = Long; words = two_leaves }; root = 4124 }
+
+abbrev root : Span
+root = root_span tree.table 4124
+
+abbrev left_leaf : Span
+left_leaf = record { first = 0; last = 11; word = 4364; gap = 0 }
+
+abbrev right_leaf : Span
+right_leaf = record { first = 12; last = 18446744073709551615; word = 4620; gap = 18446744073709551599 }
+
+root_law : laws.IsRow tree 1 root
+root_law = record {
+  name = record { named = refl; in_table = omega arith };
+  pivots = record { fills = (refl, omega arith, (refl, omega arith, refl)); unused = column_in two_leaves 512 32 (laws.words_in tree.table Gapped root) refl };
+  count = record { least = omega arith; most = omega arith };
+  entries = tt;
+  holes = tt;
+}
+
+abbrev entry : ℕ
+entry = 4096
+
+not_hole : {P : Type 0} → entry ≡ 0 → P
+not_hole hole = absurd (omega arith)
+
+left_law : laws.IsRow tree 0 left_leaf
+left_law = record {
+  name = record { named = refl; in_table = omega arith };
+  pivots = record {
+    fills = (refl, omega arith, (refl, omega arith, (refl, omega arith, (refl, omega arith, (refl, omega arith, (refl, omega arith, refl))))));
+    unused = column_in two_leaves 544 32 (laws.words_in tree.table Leaf left_leaf) refl;
+  };
+  count = record { least = omega arith; most = omega arith };
+  entries = (refl, (refl, (refl, (refl, (refl, (refl, tt))))));
+  holes = record {
+    apart = (not_hole, (not_hole, (not_hole, (not_hole, (not_hole, (not_hole, tt))))));
+    ends = λ low hole. absurd (omega arith);
+    some = λ none. absurd (cc);
+  };
+}
+
+right_law : laws.IsRow tree 0 right_leaf
+right_law = record {
+  name = record { named = refl; in_table = omega arith };
+  pivots = record {
+    fills = (refl, omega arith, (refl, omega arith, (refl, omega arith, (refl, omega arith, (refl, omega arith, (refl, omega arith, refl))))));
+    unused = column_in two_leaves 576 32 (laws.words_in tree.table Leaf right_leaf) refl;
+  };
+  count = record { least = omega arith; most = omega arith };
+  entries = (refl, (refl, (refl, (refl, (refl, (refl, tt))))));
+  holes = record {
+    apart = (not_hole, (not_hole, (not_hole, (not_hole, (not_hole, ((λ hole. tt), tt))))));
+    ends = λ low. absurd (omega arith);
+    some = λ none. absurd (cc);
+  };
+}
+
+lawful : laws.IsLawful tree
+lawful = inr (
+  1,
+  record { low = omega arith; rows = ((root_law, tt), (left_law, (right_law, tt))) },
+  refl,
+  ((record { parent = (refl, (refl, tt)); gaps = (refl, (refl, tt)) }, tt), (record { parent = tt; gaps = tt }, (record { parent = tt; gaps = tt }, tt))),
+)
+
+may_plant : MayPlant Alloc ready_to_plant 4124
+may_plant = record { idle = refl; first = refl; empty = refl; of_kind = record { told = tt; width = refl }; lawful = lawful }
+
+-- three rows drafted one after the other may be planted
+module _ (s s₁ s₂ s₃ : Sheet) (new : s ≡ new_sheet 3) (first : s₁ ≡ with_columns s 16 inner 32) (second : s₂ ≡ with_columns s₁ 17 left 32) (third : s₃ ≡ with_columns s₂ 18 right 32) where
+  leaves_are : s₃ ≡ ready_to_plant
+  leaves_are = third ∙ (ap (λ (s : Sheet). with_columns s 18 right 32) (second ∙ ap (λ (s : Sheet). with_columns s 17 left 32) (first ∙ ap (λ (s : Sheet). with_columns s 16 inner 32) new)) ∙ is_ready)
+
+  pub leaves_may_plant : (kind : Kind) × MayPlant kind s₃ 4124
+  leaves_may_plant = (Alloc, subst (λ (s : Sheet). MayPlant Alloc s 4124) (sym leaves_are) may_plant)
+
+  -- and a leaf may be buried then by the first call
+  pub leaf_may_be_buried : (s₄ s₅ s₆ : Sheet) → Planted s₃ s₄ 4124 → s₅ ≡ loaded s₄ → s₆ ≡ begun s₅ → MayBury s₆ 17
+  leaf_may_be_buried s₄ s₅ s₆ planted read begins =
+      let done : Planted ready_to_plant s₄ 4124 = subst (λ (s : Sheet). Planted s s₄ 4124) leaves_are planted in
+      let reached : is_reached s₄.tree 17 ≡ true = ap (λ (s : Sheet). is_reached s.tree 17) done.rest in
+      let live : life_of s₄ 17 ≡ lives.Live = done.lives 17 (omega arith) (omega arith) ∙ ap (λ (b : Bool). if b then lives.Live else life_of ready_to_plant 17) reached in
+      let rows : s₄.rows ≡ 3 = ap (λ (s : Sheet). s.rows) done.rest in
+      let columns : 0 < columns s₄.tree.table.width = subst (λ (s : Sheet). 0 < columns s.tree.table.width) (sym done.rest) (omega arith) in
+      subst (λ (s : Sheet). MayBury s 17) (sym (begins ∙ ap begun read)) (record { flying = refl; before = refl; at = record { first = omega arith; last = omega arith; column = columns }; live = live })
