@@ -235,7 +235,7 @@ module _ (s : Sheet) (ended : ℕ) (k : Knows s (tree_of (lone 1 0 5) zeros 0) e
 
   changes₁ : Changes s₁ first_tree
   changes₁ = record {
-    known = λ row is. subst (λ (r : ℕ). IsKnown s₁ first_tree r) (one_row 16 row is) (inr (k.life_16, λ e. omega arith));
+    known = λ row is. subst (λ (r : ℕ). IsKnown s₁ r) (one_row 16 row is) (inr (k.life_16, λ e. omega arith));
     stay = λ h h' x x' stood stood' same. let levels = stood.levels in absurd (omega arith);
     gone = λ row was not. absurd (cc);
     buried = λ row low high is. let none = none_buried₁ row low high in absurd (cc);
@@ -312,7 +312,7 @@ module _ (s : Sheet) (ended : ℕ) (k : Knows s (tree_of (lone 4096 0 7) (lone 1
 
   changes₃ : Changes s₃ third_tree
   changes₃ = record {
-    known = λ row is. subst (λ (r : ℕ). IsKnown s₃ third_tree r) (one_row 17 row is) (inr (k.life_17, λ e. omega arith));
+    known = λ row is. subst (λ (r : ℕ). IsKnown s₃ r) (one_row 17 row is) (inr (k.life_17, λ e. omega arith));
     stay = λ h h' x x' stood stood' same. absurd (no_row_stays buried_tree third_tree h h' x x' refl refl (λ e. omega arith) stood stood' same);
     gone = λ row was not. subst (λ (r : ℕ). is_buried s r ≡ true) (one_row 16 row was) k.buried_16;
     buried = of_rows (λ (r : ℕ). is_buried s r ≡ true → IsReached buried_tree r × (is_reached third_tree r ≡ false)) (λ e. (refl, refl)) (λ e. let none = k.buried_17 in absurd (cc));
