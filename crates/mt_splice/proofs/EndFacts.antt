@@ -1,0 +1,396 @@
+-- What a replacement leaves in lives and in the book, and where it published.
+use Rattle.std.proofs.Common.{◌≡◌, ◌≢◌, ℕ, zero, suc, ◌+◌, ◌*◌, ◌<◌, ◌≤◌, List, ◌++◌, Option, Some, None, IfSome, Bool, true, false, map, refl, sym, ap, ◌∙◌, subst, inl, inr, arith, append_assoc}
+use Rattle.std.specs.Prelude.{if◌then◌else◌}
+use Rattle.std.specs.List.{All, AllPairs, Contains}
+use Rattle.std.proofs.lemmas.Bool.{cases_Bool}
+use Rattle.std.proofs.lemmas.List.{length-map, map-append}
+use Rattle.std.proofs.lemmas.List.Elements.{All-weaker, All-append, All-contains, Contains-append_left, Contains-append_right, Contains-append_cases}
+use Rattle.mt_base.specs.declared.kinds.Kind.{Kind}
+use Rattle.mt_base.specs.declared.ranges.Range.{Range}
+use Rattle.mt_base.specs.declared.replies.Reply.{Reply}
+use Rattle.mt_base.specs.declared.widths.Width.{Width}
+use Rattle.mt_base.specs.Call.{acted}
+use Rattle.mt_base.specs.Width.{columns}
+use Rattle.mt_layout.specs.Rows.{row_in}
+use Rattle.mt_free.specs.Book.{Book, Held, IsOut, held_rows}
+use Rattle.mt_rows.specs.declared.rows.Life.{Life}
+use Rattle.mt_rows.specs.declared.rows.Life.TheVariants.{New, Draft, Live, Dead}
+use Rattle.mt_rows.specs.declared.rows.Place.{Place}
+use Rattle.mt_rows.specs.declared.rows.Place.TheVariants.{Root, Slot}
+use Rattle.mt_rows.specs.Spans.{column, root_span}
+use Rattle.mt_rows.specs.Levels.{is_row_of}
+use Rattle.mt_rows.specs.Trees.{height_in}
+use Rattle.mt_rows.specs.Laws as laws
+use Rattle.mt_rows.specs.Sheet.{Sheet, Tree, life_of, is_buried, word_at}
+use Rattle.mt_rows.specs.Publish.{tree_as, IsTreeOf, LiveAreReached, NoneBuried, is_reached, IsReached, map_by, with_published, life_after}
+use Rattle.mt_rows.proofs.Reached as reached
+use Rattle.mt_splice.specs.Seen.{passing}
+use Rattle.mt_splice.specs.Work.{Work, now}
+use Rattle.mt_splice.specs.Progress.{Before, is_taken, row_seen, stamped}
+use Rattle.mt_splice.specs.Splice.{IsSpare, IsBookOf, WasPublishedAt, IsBooked, HasParents, IsSpliced}
+use Rattle.mt_splice.specs.Ends.{StandsAs, count_in, IsChildSlot, IsEndPlace, IsTop}
+use Rattle.mt_splice.proofs.EndTrees.{is_tree, none_or_some}
+use Rattle.mt_splice.proofs.EndHoles.{name_some, at_on_level, child_on_level}
+use Rattle.mt_splice.proofs.EndLists.{all_ones, map_one, one_contains, apart_ends, seen_contains, contains_seen, stamped_rows, rows_stamped}
+use Rattle.mt_splice.proofs.EndWords.{slot_word}
+use Rattle.mt_splice.proofs.EndAfter.{Outcome, above_in}
+use Rattle.mt_splice.proofs.EndPublish as ends
+
+pub life_if_reached : (s : Sheet) (t : Tree) (row : ℕ) → is_reached t row ≡ true → life_after s t row ≡ Live
+life_if_reached s t row is = ap (λ (c : Bool). if c then Live else (if is_buried s row then Dead (s.ended + 1) else life_of s row)) is
+
+life_if_buried : (s : Sheet) (t : Tree) (row : ℕ) → is_reached t row ≡ false → is_buried s row ≡ true → life_after s t row ≡ Dead (s.ended + 1)
+life_if_buried s t row not is =
+    ap (λ (c : Bool). if c then Live else (if is_buried s row then Dead (s.ended + 1) else life_of s row)) not
+    ∙ ap (λ (c : Bool). if c then Dead (s.ended + 1) else life_of s row) is
+
+life_if_kept : (s : Sheet) (t : Tree) (row : ℕ) → is_reached t row ≡ false → is_buried s row ≡ false → life_after s t row ≡ life_of s row
+life_if_kept s t row not none =
+    ap (λ (c : Bool). if c then Live else (if is_buried s row then Dead (s.ended + 1) else life_of s row)) not
+    ∙ ap (λ (c : Bool). if c then Dead (s.ended + 1) else life_of s row) none
+
+-- a spare row is not live
+spare_not_live : (cleared : ℕ) (life : Life) → IsSpare cleared life → life ≢ Live
+spare_not_live cleared New spare is = absurd (cc)
+spare_not_live cleared Draft spare is = absurd spare
+spare_not_live cleared Live spare is = absurd spare
+spare_not_live cleared (Dead call) spare is = absurd (cc)
+
+-- the row of the root is reached
+pub root_counts : (t : laws.Tree) (h : ℕ) → laws.Stands t h → 1 ≤ count_in (is_row_of (row_in t.root)) t (Some h)
+root_counts t h stands = reached.on_level_reached t h stands h (root_span t.table t.root) (record { depth = zero; height = omega arith; one = inl refl })
+
+pub root_named : (t : laws.Tree) (h : ℕ) → laws.Stands t h → t.root ≢ 0
+root_named t h stands =
+    name_some t.root (laws.kind_at t.kind h) (reached.on_level_law t h stands h (root_span t.table t.root) (record { depth = zero; height = omega arith; one = inl refl })).name.named
+
+module _ (f : ends.Finish) (s' : Sheet) (o : Outcome f s') where
+  abbrev b : Before
+  b = f.end.before
+
+  abbrev s : Sheet
+  s = f.sheet
+
+  abbrev w : Work
+  w = f.end.work
+
+  abbrev book : Book
+  book = f.end.book
+
+  rows' : s'.rows ≡ b.sheet.rows
+  rows' = ap (λ (x : Sheet). x.rows) o.rest
+
+  low' : (row : ℕ) → row < 16 + s'.rows → row < 16 + b.sheet.rows
+  low' row last = subst (λ (n : ℕ). row < 16 + n) rows' last
+
+  tree : IsTreeOf s' b.kind
+  tree = record {
+    of_kind = record {
+      told = subst (λ (k : Option Kind). IfSome k (λ (k : Kind). k ≡ b.kind)) (sym (ap (λ (x : Sheet). x.kind) o.rest)) f.may.lawful.of_kind.told;
+      width = o.width ∙ f.may.lawful.of_kind.width;
+    };
+    words = subst (λ (n : ℕ). laws.IsTree (tree_as b.kind n s'.tree)) (sym rows') (is_tree (tree_as b.kind b.sheet.rows s'.tree) f.end.new o.stands);
+  }
+
+  map_is : map_by s'.tree ≡ (acted b.kind (map_by b.sheet.tree) f.call).0
+  map_is = o.map ∙ sym (ap (λ (r : List Range × Reply). r.0) f.may.answer)
+
+  none_buried : NoneBuried s'
+  none_buried row first last = o.buried row first (low' row last)
+
+  -- ---- lives
+
+  reached_later : (row : ℕ) → is_reached s'.tree row ≡ true → 1 ≤ ends.new_count f row
+  reached_later row is = ends.later_reached f row (sym (o.reached row) ∙ is)
+
+  unreached_later : (row : ℕ) → is_reached s'.tree row ≡ false → ends.new_count f row ≡ 0
+  unreached_later row is = ends.later_unreached f row (sym (o.reached row) ∙ is)
+
+  is_reached_later : (row : ℕ) → 1 ≤ ends.new_count f row → is_reached s'.tree row ≡ true
+  is_reached_later row some = o.reached row ∙ ends.reached_later f row some
+
+  not_reached_later : (row : ℕ) → ends.new_count f row ≡ 0 → is_reached s'.tree row ≡ false
+  not_reached_later row none = o.reached row ∙ ends.unreached_later f row none
+
+  buried_now : (row : ℕ) → 1 ≤ ends.old_count f row → ends.new_count f row ≡ 0 → is_buried s row ≡ true
+  buried_now row was none =
+      let number = ends.was_number f row was in
+      (ends.progress f).buried row number.0 number.1 ∙ ends.some_gone f row (ends.was_gone f row was none)
+
+  -- a row that is reached neither before nor after was not taken, and is not buried
+  untouched : (row : ℕ) → 16 ≤ row → row < 16 + b.sheet.rows → ends.old_count f row ≡ 0 → ends.new_count f row ≡ 0 → life_of s' row ≡ life_of b.sheet row
+  untouched row first last was is =
+      let c = ends.counts f row in let sum = c.sum in let were = c.were in
+      let kept : is_buried s row ≡ false = elim (cases_Bool (is_buried s row)) [
+        | inl buried ↦ let some = ends.buried_gone f row first last buried in absurd (omega arith)
+        | inr not ↦ not
+      ] in
+      o.lives row first last ∙ (life_if_kept s (ends.published f) row (ends.unreached_later f row is) kept ∙ ends.life_kept f row first last (ends.not_taken f row (omega arith)))
+
+  live : LiveAreReached s'
+  live row first last = (
+    (λ alive. elim (cases_Bool (is_reached s'.tree row)) [
+      | inl is ↦ is
+      | inr not ↦ absurd (dead (unreached_later row not) alive)
+    ]),
+    (λ is. o.lives row first (low' row last) ∙ life_if_reached s (ends.published f) row (sym (o.reached row) ∙ is)),
+  )
+    where
+      dead : ends.new_count f row ≡ 0 → life_of s' row ≡ Live → ⊥
+      dead none alive = elim (none_or_some (ends.old_count f row)) [
+        | inl never ↦
+            let before : life_of b.sheet row ≡ Live = sym (untouched row first (low' row last) never none) ∙ alive in
+            let was = ends.was_reached f row ((f.may.was.live row first (low' row last)).0 before) in
+            absurd (omega arith)
+        | inr was ↦
+            let dead : Dead (s.ended + 1) ≡ Live = sym (life_if_buried s (ends.published f) row (ends.unreached_later f row none) (buried_now row was none)) ∙ (sym (o.lives row first (low' row last)) ∙ alive) in
+            absurd (cc)
+      ]
+
+  dead : (row : ℕ) → IsReached b.sheet.tree row → is_reached s'.tree row ≡ false → life_of s' row ≡ Dead b.number
+  dead row is not =
+      let was = ends.was_reached f row is in
+      let number = ends.was_number f row was in
+      let none = unreached_later row not in
+      let ended : s.ended ≡ b.sheet.ended = ap (λ (x : Sheet). x.ended) (ends.progress f).rest in
+      o.lives row number.0 number.1
+      ∙ (life_if_buried s (ends.published f) row (ends.unreached_later f row none) (buried_now row was none)
+      ∙ ap Dead (ap (λ (n : ℕ). n + 1) ended ∙ sym f.may.in_flight))
+
+  others : (row : ℕ) → 16 ≤ row → row < 16 + b.sheet.rows → is_reached b.sheet.tree row ≡ false → is_reached s'.tree row ≡ false → life_of s' row ≡ life_of b.sheet row
+  others row first last was is = untouched row first last (ends.was_unreached f row was) (unreached_later row is)
+
+  -- ---- the book
+
+  abbrev taken : List ℕ
+  taken = map row_seen w.taken
+
+  abbrev gone : List ℕ
+  gone = map row_seen w.gone
+
+  taken_reached : (row : ℕ) → Contains taken row → 1 ≤ ends.new_count f row
+  taken_reached row has = ends.taken_later f row (contains_seen row w.taken has)
+
+  gone_fate : (row : ℕ) → Contains gone row → (1 ≤ ends.old_count f row) × (ends.new_count f row ≡ 0)
+  gone_fate row has = ends.gone_was f row (contains_seen row w.gone has)
+
+  moved : IsBooked b.sheet s' b.book book b.number (3 * height_in b.sheet.tree.table b.sheet.tree.root + 1)
+  moved = record {
+    taken = taken;
+    free = (ends.progress f).free;
+    few = let few = f.may.few in omega (arith, length-map w.taken row_seen);
+    used = all_ones (IsReached s'.tree) taken (λ row one. is_reached_later row (taken_reached row (one_contains taken row one)));
+    gone = gone;
+    held = (ends.progress f).held ∙ ap (λ (l : List Held). b.book.held ++ l) (sym (stamped_rows b.number w.gone));
+    were_reached = all_ones (IsReached b.sheet.tree) gone (λ row one. ends.reached_was f row (gone_fate row (one_contains gone row one)).0);
+    are_not = all_ones (λ (row : ℕ). is_reached s'.tree row ≡ false) gone (λ row one. not_reached_later row (gone_fate row (one_contains gone row one)).1);
+    all = λ row was not. seen_contains row w.gone (ends.was_gone f row (ends.was_reached f row was) (unreached_later row not));
+  }
+
+  held_later : held_rows book ≡ held_rows b.book ++ gone
+  held_later =
+      ap (map (λ (h : Held). h.row)) (ends.progress f).held
+      ∙ (map-append (λ (h : Held). h.row) b.book.held (map (stamped b.number) w.gone)
+      ∙ ap (λ (l : List ℕ). held_rows b.book ++ l) (rows_stamped b.number w.gone))
+
+  still_free : (row : ℕ) → Contains book.free row → Contains b.book.free row
+  still_free row has = subst (λ (l : List ℕ). Contains l row) (sym (ends.progress f).free) (Contains-append_left book.free taken row has)
+
+  was_free : (row : ℕ) → Contains taken row → Contains b.book.free row
+  was_free row has = subst (λ (l : List ℕ). Contains l row) (sym (ends.progress f).free) (Contains-append_right book.free taken row has)
+
+  -- a row that was reached was neither free nor held
+  was_out : (row : ℕ) → 1 ≤ ends.old_count f row → IsOut b.book row
+  was_out row was = f.may.was.book.reached row (ends.reached_was f row was)
+
+  free_unreached : (row : ℕ) → Contains book.free row → (ends.old_count f row ≡ 0) × (ends.new_count f row ≡ 0)
+  free_unreached row has =
+      let never : ends.old_count f row ≡ 0 = elim (none_or_some (ends.old_count f row)) [
+        | inl never ↦ never
+        | inr was ↦ absurd ((was_out row was).not_free (still_free row has))
+      ] in
+      let c = ends.counts f row in let sum = c.sum in
+      elim (none_or_some (ends.taken_count f row)) [
+        | inl none ↦ (never, omega arith)
+        | inr some ↦ absurd (twice (seen_contains row w.taken some))
+      ]
+    where
+      once : Contains (book.free ++ taken) row → Contains (held_rows b.book) row → ⊥
+      once free held = apart_ends (book.free ++ taken) (held_rows b.book) row (subst (λ (l : List ℕ). AllPairs (λ r q. r ≢ q) (l ++ held_rows b.book)) (ends.progress f).free f.may.was.book.sound.once) free held
+
+      twice : Contains taken row → ⊥
+      twice has_taken =
+          apart_ends book.free (taken ++ held_rows b.book) row
+          (subst (λ (l : List ℕ). AllPairs (λ r q. r ≢ q) l) (append_assoc book.free taken (held_rows b.book))
+          (subst (λ (l : List ℕ). AllPairs (λ r q. r ≢ q) (l ++ held_rows b.book)) (ends.progress f).free f.may.was.book.sound.once))
+          has (Contains-append_left taken (held_rows b.book) row has_taken)
+
+  out_is : (row : ℕ) → 16 ≤ row → row < 16 + s'.rows → IsOut book row → IsReached s'.tree row
+  out_is row first last out =
+      elim (none_or_some (ends.taken_count f row)) [
+        | inr some ↦ is_reached_later row (ends.taken_later f row some)
+        | inl none ↦
+            let not_gone : ends.gone_count f row ≡ 0 = elim (none_or_some (ends.gone_count f row)) [
+              | inl never ↦ never
+              | inr some ↦ absurd (out.not_held (subst (λ (l : List ℕ). Contains l row) (sym held_later) (Contains-append_right (held_rows b.book) gone row (seen_contains row w.gone some))))
+            ] in
+            let was = ends.was_reached f row (f.may.was.book.out row first (low' row last) (out_before none)) in
+            let c = ends.counts f row in let sum = c.sum in
+            is_reached_later row (omega arith)
+      ]
+    where
+      out_before : ends.taken_count f row ≡ 0 → IsOut b.book row
+      out_before none = record {
+        here = (first, subst (λ (n : ℕ). row < 16 + n) (sym f.may.was.book.rows) (low' row last));
+        not_free = λ free. elim (Contains-append_cases book.free taken row (subst (λ (l : List ℕ). Contains l row) (ends.progress f).free free)) [
+          | inl still ↦ out.not_free still
+          | inr has ↦ let some = contains_seen row w.taken has in absurd (omega arith)
+        ];
+        not_held = λ held. out.not_held (subst (λ (l : List ℕ). Contains l row) (sym held_later) (Contains-append_left (held_rows b.book) gone row held));
+      }
+
+  is_out : (row : ℕ) → IsReached s'.tree row → IsOut book row
+  is_out row is =
+      let some = reached_later row is in
+      let number = ends.later_number f row some in
+      record {
+        here = (number.0, subst (λ (n : ℕ). row < 16 + n) (sym ((ends.progress f).rows ∙ f.may.was.book.rows)) number.1);
+        not_free = λ free. (let never = free_unreached row free in let none = never.1 in absurd (omega arith));
+        not_held = λ held. elim (Contains-append_cases (held_rows b.book) gone row (subst (λ (l : List ℕ). Contains l row) held_later held)) [
+          | inl before ↦ held_before some before
+          | inr has ↦ let fate = gone_fate row has in let none = fate.1 in absurd (omega arith)
+        ];
+      }
+    where
+      held_before : 1 ≤ ends.new_count f row → Contains (held_rows b.book) row → ⊥
+      held_before some held =
+          let c = ends.counts f row in let sum = c.sum in
+          elim (none_or_some (ends.old_count f row)) [
+            | inr was ↦ absurd ((was_out row was).not_held held)
+            | inl never ↦ apart_ends b.book.free (held_rows b.book) row f.may.was.book.sound.once (was_free row (seen_contains row w.taken (omega arith))) held
+          ]
+
+  spare : All (λ (row : ℕ). IsSpare s'.cleared (life_of s' row)) book.free
+  spare = all_ones (λ (row : ℕ). IsSpare s'.cleared (life_of s' row)) book.free (λ row one.
+      let free = one_contains book.free row one in
+      let before = still_free row free in
+      let number = All-contains (λ (r : ℕ). (16 ≤ r) × (r < 16 + b.book.rows)) b.book.free row f.may.was.book.sound.free_rows before in
+      let last : row < 16 + b.sheet.rows = subst (λ (n : ℕ). row < 16 + n) f.may.was.book.rows number.1 in
+      let fate = free_unreached row free in
+      let was : IsSpare b.sheet.cleared (life_of b.sheet row) = All-contains (λ (r : ℕ). IsSpare b.sheet.cleared (life_of b.sheet r)) b.book.free row f.may.was.book.spare before in
+      subst (λ (n : ℕ). IsSpare n (life_of s' row)) (sym (ap (λ (x : Sheet). x.cleared) o.rest))
+      (subst (IsSpare b.sheet.cleared) (sym (untouched row number.0 last fate.0 fate.1)) was))
+
+  stamps : All (λ (h : Held). h.stamp < b.number + 1) book.held
+  stamps =
+      subst (All (λ (h : Held). h.stamp < b.number + 1)) (sym (ends.progress f).held)
+      (All-append (λ (h : Held). h.stamp < b.number + 1) b.book.held (map (stamped b.number) w.gone)
+      (All-weaker (λ (h : Held). h.stamp < b.number) (λ (h : Held). h.stamp < b.number + 1) (λ h low. omega arith) b.book.held f.may.was.book.stamps)
+      (all_ones (λ (h : Held). h.stamp < b.number + 1) (map (stamped b.number) w.gone) (λ h one.
+      (let at = map_one (stamped b.number) w.gone h one in
+      subst (λ (g : Held). g.stamp < b.number + 1) at.2 (omega arith)))))
+
+  booked : IsBookOf s' book (b.number + 1)
+  booked = record {
+    sound = f.may.sound;
+    rows = (ends.progress f).rows ∙ (f.may.was.book.rows ∙ sym rows');
+    out = out_is;
+    reached = is_out;
+    spare = spare;
+    stamps = stamps;
+  }
+
+  -- ---- where it was published
+
+  root_before : f.end.start.tree.root ≡ b.sheet.tree.root
+  root_before = ap (λ (t : laws.Tree). t.root) f.may.was.tree
+
+  other_root : (old new : Option ℕ) → f.end.old ≡ old → f.end.new ≡ new → StandsAs f.end.start.tree old → IsTop w old new f.word → f.word ≢ f.end.start.tree.root
+  other_root None None is is' stands top same = absurd top
+  other_root (Some h) None is is' stands top same = root_named f.end.start.tree h stands (sym same ∙ top)
+  other_root None (Some h') is is' stands top same = ends.word_is_some f h' is' (same ∙ stands)
+  other_root (Some h) (Some h') is is' stands top same =
+      let was : 1 ≤ ends.old_count f (row_in f.end.start.tree.root) = subst (λ (o : Option ℕ). 1 ≤ count_in (is_row_of (row_in f.end.start.tree.root)) f.end.start.tree o) (sym is) (root_counts f.end.start.tree h stands) in
+      let not = ends.old_is_not_taken f (row_in f.end.start.tree.root) was in
+      let taken : is_taken w (row_in f.end.start.tree.root) ≡ true = subst (λ (n : ℕ). is_taken w (row_in n) ≡ true) same top in
+      absurd (cc)
+
+  -- ---- the slot that was written
+
+  module _ (h row col : ℕ) (is_old : f.end.old ≡ Some h) (place : IsChildSlot (now f.end.start w) h row col) where
+    abbrev t : laws.Tree
+    t = now f.end.start w
+
+    stands : laws.Stands t h
+    stands = subst (StandsAs t) is_old (ends.stands_now f)
+
+    counted_now : (r : ℕ) → 1 ≤ count_in (is_row_of r) t (Some h) → 1 ≤ ends.old_count f r
+    counted_now r some =
+        let same = ends.now_count f.end.start w f.end.old (is_row_of r) f.may.holds in
+        let here : 1 ≤ count_in (is_row_of r) t f.end.old = subst (λ (old : Option ℕ). 1 ≤ count_in (is_row_of r) t old) (sym is_old) some in
+        omega arith
+
+    row_was : 1 ≤ ends.old_count f row
+    row_was = subst (λ (r : ℕ). 1 ≤ ends.old_count f r) place.number
+        (counted_now (row_in place.at.word) (reached.on_level_reached t h stands (suc place.low) place.at (at_on_level t h row col (ends.has_words f) stands place 0)))
+
+    child_was : 1 ≤ ends.old_count f (row_in place.child.word)
+    child_was = counted_now (row_in place.child.word) (reached.on_level_reached t h stands place.low place.child (child_on_level t h row col (ends.has_words f) stands place 0))
+
+    child_named : place.child.word ≢ 0
+    child_named = name_some place.child.word (laws.kind_at t.kind place.low) (reached.on_level_law t h stands place.low place.child (child_on_level t h row col (ends.has_words f) stands place 0)).name.named
+
+    row_law : laws.IsRow t (suc place.low) place.at
+    row_law = reached.on_level_law t h stands (suc place.low) place.at (at_on_level t h row col (ends.has_words f) stands place 0)
+
+    word_now : column t.table row col ≡ place.child.word
+    word_now =
+        (λ i. column t.table (sym place.number i) (place.column i))
+        ∙ slot_word t.table (laws.kind_at t.kind (suc place.low)) place.at place.child place.slot row_law.name.named place.here.holds
+
+    word_was : (0 < col) × (col < columns b.sheet.tree.table.width) → word_at b.sheet row col ≡ place.child.word
+    word_was within =
+        sym ((ends.progress f).kept row col (ends.old_is_not_taken f row row_was) within.0 within.1)
+        ∙ (ap (λ (v : Tree). column v.table row col) (ends.tree_is f) ∙ word_now)
+
+    not_child : (new : Option ℕ) → IsTop w (Some h) new f.word → f.word ≢ place.child.word
+    not_child None top same = child_named (sym same ∙ top)
+    not_child (Some h') top same =
+        let not = ends.old_is_not_taken f (row_in place.child.word) child_was in
+        let taken : is_taken w (row_in place.child.word) ≡ true = subst (λ (n : ℕ). is_taken w (row_in n) ≡ true) same top in
+        absurd (cc)
+
+    slot_published : (new : Option ℕ) → IsTop w (Some h) new f.word → f.place ≡ Slot row col → passing (is_row_of row) w.gone ≡ 0 → WasPublishedAt b.sheet s' (Slot row col)
+    slot_published new top is_place kept =
+        let number = ends.was_number f row row_was in
+        let c = ends.counts f row in let sum = c.sum in
+        let alive = is_reached_later row (let was = row_was in omega arith) in
+        let low : (0 < col) × (col < columns b.sheet.tree.table.width) = subst (λ (v : Width). (0 < col) × (col < columns v)) (ends.progress f).width (above_in s f.place (ends.place_is f) row col is_place) in (
+          o.root ∙ (ap (λ (p : Place). (with_published s.tree p f.word).root) is_place ∙ (ends.progress f).root),
+          (f.may.was.live row number.0 number.1).1 (ends.reached_was f row row_was),
+          o.lives row number.0 number.1 ∙ life_if_reached s (ends.published f) row (sym (o.reached row) ∙ alive),
+          (λ same. not_child new top (sym (o.at row col is_place) ∙ (same ∙ word_was low))),
+        )
+
+  published_in : (old new : Option ℕ) (place : Place) → f.end.old ≡ old → f.end.new ≡ new → f.place ≡ place → StandsAs f.end.start.tree old → IsEndPlace f.end.start w old place → IsTop w old new f.word → WasPublishedAt b.sheet s' place
+  published_in old new Root is_old is_new is_place was at top = λ same.
+      other_root old new is_old is_new was top
+      (sym (o.root ∙ ap (λ (p : Place). (with_published s.tree p f.word).root) is_place) ∙ (same ∙ sym root_before))
+  published_in None new (Slot row col) is_old is_new is_place was at top = absurd at
+  published_in (Some h) new (Slot row col) is_old is_new is_place was at top = slot_published h row col is_old at.0 new top is_place at.1
+
+  -- all is done but for the parent words
+  pub spliced : HasParents (tree_as b.kind s'.rows s'.tree) → IsSpliced b.kind b.sheet s' b.book book b.number f.call f.reply f.place
+  spliced parents = record {
+    rest = o.rest;
+    tree = tree;
+    parents = parents;
+    map = map_is;
+    published = published_in f.end.old f.end.new f.place refl refl refl (ends.stands_was f) f.may.at f.may.top;
+    none_buried = none_buried;
+    live = live;
+    dead = dead;
+    others = others;
+    moved = moved;
+    booked = booked;
+  }

@@ -1,0 +1,421 @@
+-- When all new rows are written and all old rows are buried, one store may publish them.
+use Rattle.std.proofs.Common.{◌≡◌, ◌≢◌, ℕ, suc, ◌+◌, ◌<◌, ◌≤◌, List, [], ◌∷◌, Option, Some, None, IfSome, Bool, true, false, nat_lt, refl, sym, ap, ◌∙◌, subst, inl, inr, arith, lt-ltb}
+use Rattle.std.specs.Prelude.{if◌then◌else◌}
+use Rattle.std.proofs.lemmas.Bool.{cases_Bool, ltb-true}
+use Rattle.mt_base.specs.declared.kinds.Kind.{Kind}
+use Rattle.mt_base.specs.declared.widths.Width.{Width}
+use Rattle.mt_base.specs.declared.ranges.Range.{Range}
+use Rattle.mt_base.specs.declared.calls.Call.{Call}
+use Rattle.mt_base.specs.declared.replies.Reply.{Reply}
+use Rattle.mt_base.specs.Call.{acted}
+use Rattle.mt_base.specs.Width.{columns}
+use Rattle.mt_layout.specs.declared.spans.Span.{Span}
+use Rattle.mt_layout.specs.Rows.{row_in}
+use Rattle.mt_layout.specs.Columns.{slot_column}
+use Rattle.std.proofs.lemmas.Option.{slice_get_within}
+use Rattle.mt_rows.specs.declared.rows.Life.TheVariants.{Draft, Live}
+use Rattle.mt_rows.specs.declared.rows.Place.{Place}
+use Rattle.mt_rows.specs.declared.rows.Place.TheVariants.{Root, Slot}
+use Rattle.mt_rows.specs.Spans.{spans_in, slots_of}
+use Rattle.mt_rows.specs.Levels.{tally, is_row_of}
+use Rattle.mt_rows.specs.Laws.{HasWords, Stands, kind_at}
+use Rattle.mt_rows.specs.Laws as laws
+use Rattle.mt_rows.specs.Sheet.{Sheet, Tree, life_of, is_buried}
+use Rattle.mt_rows.specs.Publish.{tree_as, AreOfKind, LiveAreReached, is_reached, IsReached, map_by, StandsAt, KeepsPlace, SameHoles, IsKnown, Changes, MayPublish, IsPlaceToPublish, IsSlotOf, with_published}
+use Rattle.mt_rows.proofs.RowLaws.{slot_inside}
+use Rattle.mt_rows.proofs.Reached as reached
+use Rattle.mt_rows.proofs.Settled.{Implies}
+use Rattle.mt_splice.specs.declared.writes.NewRow.{NewRow}
+use Rattle.mt_splice.specs.Seen.{Seen, passing}
+use Rattle.mt_splice.specs.Work.{Start, Work, now, times_in}
+use Rattle.mt_splice.specs.Progress.{Before, IsProgress, is_taken, is_gone}
+use Rattle.mt_splice.specs.Ends.{StandsAs, count_in, map_as, HoldsAs, IsChildSlot, IsEndPlace, IsTop, End, MayEnd}
+use Rattle.mt_splice.proofs.Moments.{old_stands, old_times, old_map}
+use Rattle.mt_splice.proofs.EndTrees.{words_of, is_tree, map_is, count_once, reached_count, count_reached, unreached_count, count_unreached, count_number, none_or_some, placed_count, stays}
+use Rattle.mt_splice.proofs.EndHoles.{same_place_spans, at_one, at_on_level, slot_holes}
+
+-- ---- the tree as it was, by the words then and now
+
+pub was_stands : (start : Start) (w : Work) (o : Option ℕ) → HoldsAs start w o → StandsAs start.tree o
+was_stands start w None holds = holds
+was_stands start w (Some h) holds = subst (Stands start.tree) holds.0 holds.1.stands
+
+pub now_stands : (start : Start) (w : Work) (o : Option ℕ) → HoldsAs start w o → StandsAs (now start w) o
+now_stands start w None holds = holds
+now_stands start w (Some h) holds = subst (Stands (now start w)) holds.0 (old_stands start w holds.1)
+
+pub now_count : (start : Start) (w : Work) (o : Option ℕ) (p : ℕ → Span → Bool) → HoldsAs start w o → count_in p (now start w) o ≡ count_in p start.tree o
+now_count start w None p holds = refl
+now_count start w (Some h) p holds = subst (λ (n : ℕ). times_in p (now start w) n ≡ times_in p start.tree n) holds.0 (old_times start w holds.1 p)
+
+pub now_map : (start : Start) (w : Work) (o : Option ℕ) → HoldsAs start w o → map_as (now start w) o ≡ map_as start.tree o
+now_map start w None holds = refl
+now_map start w (Some h) holds = subst (λ (n : ℕ). map_as (now start w) (Some n) ≡ map_as start.tree (Some n)) holds.0 (old_map start w holds.1)
+
+pub taken_new : (start : Start) (w : Work) (o : Option ℕ) (row : ℕ) → HoldsAs start w o → 1 ≤ passing (is_row_of row) w.taken → count_in (is_row_of row) start.tree o ≡ 0
+taken_new start w None row holds some = refl
+taken_new start w (Some h) row holds some = subst (λ (n : ℕ). times_in (is_row_of row) start.tree n ≡ 0) holds.0 (holds.1.taken row some)
+
+-- ---- how often a row is counted
+
+-- a row reached at the start, taken, reached at the end, gone
+pub record Counts (old taken new gone : ℕ) : Type 0 where
+  pub sum : old + taken ≡ new + gone
+  pub were : gone ≤ old
+  pub fresh : 1 ≤ taken → old ≡ 0
+  pub once : old ≤ 1
+
+pub old_not_taken : (old taken new gone : ℕ) → Counts old taken new gone → 1 ≤ old → taken ≡ 0
+old_not_taken old taken new gone c was = elim (none_or_some taken) [ inl none ↦ none | inr some ↦ let new = c.fresh some in absurd (omega arith) ]
+
+tally_implies : {A : Type 0} (p q : A → Bool) → ((x : A) → p x ≡ true → q x ≡ true) → (xs : List A) → tally p xs ≤ tally q xs
+tally_implies p q f [] = omega arith
+tally_implies p q f (x ∷ xs) = let behind = tally_implies p q f xs in elim (cases_Bool (p x)) [
+  | inl passes ↦ rw (passes, f x passes) (omega arith)
+  | inr fails ↦ rw fails (omega arith)
+]
+
+pub passing_implies : (p q : ℕ → Span → Bool) → Implies p q → (seen : List Seen) → passing p seen ≤ passing q seen
+passing_implies p q f seen = tally_implies (λ (s : Seen). p s.height s.at) (λ (s : Seen). q s.height s.at) (λ s passes. f s.height s.at passes) seen
+
+-- ---- the end of a replacement
+
+pub record Finish : Type 0 where
+  pub end : End
+  pub sheet : Sheet
+  pub made : List NewRow
+  pub place : Place
+  pub word : ℕ
+  pub call : Call
+  pub reply : Reply
+  pub may : MayEnd end sheet made place word call reply
+
+module _ (f : Finish) where
+  abbrev b : Before
+  b = f.end.before
+
+  abbrev start : Start
+  start = f.end.start
+
+  abbrev w : Work
+  w = f.end.work
+
+  abbrev s : Sheet
+  s = f.sheet
+
+  abbrev later : laws.Tree
+  later = tree_as b.kind b.sheet.rows (with_published s.tree f.place f.word)
+
+  abbrev pub published : Tree
+  published = with_published f.sheet.tree f.place f.word
+
+  abbrev pub progress : IsProgress b s f.end.book w
+  progress = f.may.progress
+
+  -- ---- what the rows are now
+
+  pub rows_same : s.rows ≡ b.sheet.rows
+  rows_same = ap (λ (x : Sheet). x.rows) progress.rest
+
+  was_is : words_of start.tree ≡ b.sheet.tree
+  was_is = ap words_of f.may.was.tree
+
+  pub tree_is : s.tree ≡ words_of (now start w)
+  tree_is =
+      let width : s.tree.table.width ≡ start.tree.table.width = progress.width ∙ sym (ap (λ (t : laws.Tree). t.table.width) f.may.was.tree) in
+      let root : s.tree.root ≡ start.tree.root = progress.root ∙ sym (ap (λ (t : laws.Tree). t.root) f.may.was.tree) in
+      λ i. record { table = record { width = width i; words = progress.words i }; root = root i }
+
+  pub as_tree : tree_as b.kind s.rows s.tree ≡ now start w
+  as_tree =
+      (λ i. tree_as b.kind (rows_same i) (tree_is i))
+      ∙ sym (λ i. record { rows = (f.may.was.tree i).rows; kind = (f.may.was.tree i).kind; table = record { width = start.tree.table.width; words = w.words }; root = start.tree.root })
+
+  pub stands_was : StandsAs start.tree f.end.old
+  stands_was = was_stands start w f.end.old f.may.holds
+
+  pub stands_now : StandsAs (now start w) f.end.old
+  stands_now = now_stands start w f.end.old f.may.holds
+
+  pub stands_later : StandsAs later f.end.new
+  stands_later = f.may.replaced.stands
+
+  -- ---- how often a row is reached
+
+  abbrev pub old_count : ℕ → ℕ
+  old_count row = count_in (is_row_of row) f.end.start.tree f.end.old
+
+  abbrev pub new_count : ℕ → ℕ
+  new_count row = count_in (is_row_of row) (tree_as f.end.before.kind f.end.before.sheet.rows (with_published f.sheet.tree f.place f.word)) f.end.new
+
+  abbrev pub taken_count : ℕ → ℕ
+  taken_count row = passing (is_row_of row) f.end.work.taken
+
+  abbrev pub gone_count : ℕ → ℕ
+  gone_count row = passing (is_row_of row) f.end.work.gone
+
+  pub counts : (row : ℕ) → Counts (old_count row) (taken_count row) (new_count row) (gone_count row)
+  counts row = record {
+    sum = f.may.replaced.rows (is_row_of row);
+    were = f.may.replaced.were (is_row_of row);
+    fresh = taken_new start w f.end.old row f.may.holds;
+    once = count_once start.tree f.end.old row stands_was;
+  }
+
+  pub was_reached : (row : ℕ) → is_reached b.sheet.tree row ≡ true → 1 ≤ old_count row
+  was_reached row is = reached_count start.tree f.end.old row stands_was (ap (λ (t : Tree). is_reached t row) was_is ∙ is)
+
+  pub reached_was : (row : ℕ) → 1 ≤ old_count row → is_reached b.sheet.tree row ≡ true
+  reached_was row some = ap (λ (t : Tree). is_reached t row) (sym was_is) ∙ count_reached start.tree f.end.old row stands_was some
+
+  pub was_unreached : (row : ℕ) → is_reached b.sheet.tree row ≡ false → old_count row ≡ 0
+  was_unreached row is = unreached_count start.tree f.end.old row stands_was (ap (λ (t : Tree). is_reached t row) was_is ∙ is)
+
+  pub now_reached : (row : ℕ) → is_reached s.tree row ≡ true → 1 ≤ old_count row
+  now_reached row is =
+      let some = reached_count (now start w) f.end.old row stands_now (ap (λ (t : Tree). is_reached t row) (sym tree_is) ∙ is) in
+      let same = now_count start w f.end.old (is_row_of row) f.may.holds in
+      omega arith
+
+  pub reached_now : (row : ℕ) → 1 ≤ old_count row → is_reached s.tree row ≡ true
+  reached_now row some =
+      let same = now_count start w f.end.old (is_row_of row) f.may.holds in
+      ap (λ (t : Tree). is_reached t row) tree_is ∙ count_reached (now start w) f.end.old row stands_now (omega arith)
+
+  pub later_reached : (row : ℕ) → is_reached published row ≡ true → 1 ≤ new_count row
+  later_reached row is = reached_count later f.end.new row stands_later is
+
+  pub reached_later : (row : ℕ) → 1 ≤ new_count row → is_reached published row ≡ true
+  reached_later row some = count_reached later f.end.new row stands_later some
+
+  pub later_unreached : (row : ℕ) → is_reached published row ≡ false → new_count row ≡ 0
+  later_unreached row is = unreached_count later f.end.new row stands_later is
+
+  pub unreached_later : (row : ℕ) → new_count row ≡ 0 → is_reached published row ≡ false
+  unreached_later row none = count_unreached later f.end.new row stands_later none
+
+  pub was_number : (row : ℕ) → 1 ≤ old_count row → (16 ≤ row) × (row < 16 + b.sheet.rows)
+  was_number row some =
+      let number = count_number start.tree f.end.old row stands_was some in
+      (number.0, subst (λ (n : ℕ). row < 16 + n) (ap (λ (t : laws.Tree). t.rows) f.may.was.tree) number.1)
+
+  pub later_number : (row : ℕ) → 1 ≤ new_count row → (16 ≤ row) × (row < 16 + b.sheet.rows)
+  later_number row some = count_number later f.end.new row stands_later some
+
+  -- ---- rows taken and gone
+
+  pub taken_some : (row : ℕ) → is_taken w row ≡ true → 1 ≤ taken_count row
+  taken_some row is = let some = ltb-true 0 (taken_count row) is in omega arith
+
+  pub some_taken : (row : ℕ) → 1 ≤ taken_count row → is_taken w row ≡ true
+  some_taken row some = lt-ltb 0 (taken_count row) (omega arith)
+
+  pub not_taken : (row : ℕ) → taken_count row ≡ 0 → is_taken w row ≡ false
+  not_taken row none = ap (nat_lt 0) none
+
+  pub old_is_not_taken : (row : ℕ) → 1 ≤ old_count row → is_taken w row ≡ false
+  old_is_not_taken row was = not_taken row (old_not_taken (old_count row) (taken_count row) (new_count row) (gone_count row) (counts row) was)
+
+  pub gone_some : (row : ℕ) → is_gone w row ≡ true → 1 ≤ gone_count row
+  gone_some row is = let some = ltb-true 0 (gone_count row) is in omega arith
+
+  pub some_gone : (row : ℕ) → 1 ≤ gone_count row → is_gone w row ≡ true
+  some_gone row some = lt-ltb 0 (gone_count row) (omega arith)
+
+  -- a row that is taken is reached then
+  pub taken_later : (row : ℕ) → 1 ≤ taken_count row → 1 ≤ new_count row
+  taken_later row some = let c = counts row in let sum = c.sum in let were = c.were in let none = c.fresh some in omega arith
+
+  -- ---- lives
+
+  pub life_taken : (row : ℕ) → 16 ≤ row → row < 16 + b.sheet.rows → is_taken w row ≡ true → life_of s row ≡ Draft
+  life_taken row first last taken = progress.lives row first last ∙ ap (λ (c : Bool). if c then Draft else life_of b.sheet row) taken
+
+  pub life_kept : (row : ℕ) → 16 ≤ row → row < 16 + b.sheet.rows → is_taken w row ≡ false → life_of s row ≡ life_of b.sheet row
+  life_kept row first last not = progress.lives row first last ∙ ap (λ (c : Bool). if c then Draft else life_of b.sheet row) not
+
+  pub old_is_live : (row : ℕ) → 1 ≤ old_count row → life_of s row ≡ Live
+  old_is_live row was =
+      let number = was_number row was in
+      life_kept row number.0 number.1 (old_is_not_taken row was) ∙ (f.may.was.live row number.0 number.1).1 (reached_was row was)
+
+  live : LiveAreReached s
+  live row first last = (
+    (λ alive. elim (cases_Bool (is_taken w row)) [
+      | inl taken ↦ (let draft = life_taken row first (in_table) taken in let both : Draft ≡ Live = sym draft ∙ alive in absurd (cc))
+      | inr not ↦ reached_now row (was_reached row ((f.may.was.live row first in_table).0 (sym (life_kept row first in_table not) ∙ alive)))
+    ]),
+    (λ is. old_is_live row (now_reached row is)),
+  )
+    where
+      in_table : row < 16 + b.sheet.rows
+      in_table = subst (λ (n : ℕ). row < 16 + n) rows_same last
+
+  -- ---- the place
+
+  pub of_kind : AreOfKind s b.kind
+  of_kind = record {
+    told = subst (λ (k : Option Kind). IfSome k (λ (k : Kind). k ≡ b.kind)) (sym (ap (λ (x : Sheet). x.kind) progress.rest)) f.may.lawful.of_kind.told;
+    width = progress.width ∙ f.may.lawful.of_kind.width;
+  }
+
+  pub has_words : HasWords (now start w)
+  has_words =
+      let long = progress.whole.words in
+      let tree : laws.Tree = tree_as b.kind s.rows s.tree in
+      subst HasWords as_tree long
+
+  place_in : (o : Option ℕ) (place : Place) → StandsAs (now start w) o → IsEndPlace start w o place → ((row : ℕ) → 1 ≤ count_in (is_row_of row) (now start w) o → (16 ≤ row) × (row < 16 + s.rows) × (life_of s row ≡ Live)) → IsPlaceToPublish s place
+  place_in o Root stands at known = tt
+  place_in None (Slot row col) stands at known = absurd at
+  place_in (Some h) (Slot row col) stands at known =
+      let t : laws.Tree = now start w in
+      let place : IsChildSlot t h row col = at.0 in
+      let on = at_on_level t h row col has_words stands place 0 in
+      let law = reached.on_level_law t h stands (suc place.low) place.at on in
+      let here = known (row_in place.at.word) (reached.on_level_reached t h stands (suc place.low) place.at on) in
+      let used = slice_get_within (spans_in t.table place.at) place.slot place.child place.here.holds in
+      let most = law.count.most in
+      subst (λ (r : ℕ). IsPlaceToPublish s (Slot r col)) place.number (
+        record {
+          first = here.0;
+          last = here.1;
+          column = subst (λ (c : ℕ). c < columns s.tree.table.width) (sym place.column)
+              (subst (λ (v : Width). slot_column (slots_of t.table.width (kind_at t.kind (suc place.low))) place.slot < columns v) (sym (ap (λ (v : Tree). v.table.width) tree_is))
+              (slot_inside t.table.width (kind_at t.kind (suc place.low)) place.slot (omega arith)));
+        },
+        here.2,
+        subst (λ (v : Tree). IsSlotOf v (row_in place.at.word) col) (sym tree_is) (record {
+          depth = place.depth;
+          at = place.at;
+          kind = kind_at t.kind (suc place.low);
+          slot = place.slot;
+          reached = reached.below_root t h stands place.depth (suc place.low) place.at place.levels (at_one t h row col has_words stands place 0);
+          named = law.name.named;
+          number = refl;
+          used = used;
+          column = place.column;
+        }),
+      )
+
+  pub place_is : IsPlaceToPublish s f.place
+  place_is = place_in f.end.old f.place stands_now f.may.at (λ row some.
+      let same = now_count start w f.end.old (is_row_of row) f.may.holds in
+      let was : 1 ≤ old_count row = omega arith in
+      let number = was_number row was in
+      (number.0, subst (λ (n : ℕ). row < 16 + n) (sym rows_same) number.1, old_is_live row was))
+
+  -- ---- the map
+
+  pub map_was : map_by b.sheet.tree ≡ map_as start.tree f.end.old
+  map_was = ap map_by (sym was_is) ∙ map_is start.tree f.end.old stands_was
+
+  pub map_now : map_by s.tree ≡ map_by b.sheet.tree
+  map_now = ap map_by tree_is ∙ (map_is (now start w) f.end.old stands_now ∙ (now_map start w f.end.old f.may.holds ∙ sym map_was))
+
+  pub map_later : map_by published ≡ start.map
+  map_later = map_is later f.end.new stands_later ∙ f.may.replaced.ranges
+
+  answer : acted b.kind (map_by s.tree) f.call ≡ (map_by published, f.reply)
+  answer = ap (λ (m : List Range). acted b.kind m f.call) map_now ∙ (f.may.answer ∙ (λ i. (sym map_later i, f.reply)))
+
+  -- ---- what becomes of rows
+
+  known : (row : ℕ) → IsReached published row → IsKnown s row
+  known row is =
+      let some = later_reached row is in
+      let c = counts row in let sum = c.sum in
+      let number = later_number row some in
+      elim (none_or_some (taken_count row)) [
+        | inl none ↦ inl (old_is_live row (omega arith))
+        | inr taken ↦ inr (
+          life_taken row number.0 number.1 (some_taken row taken),
+          (λ dead.
+              let parent = progress.new_parents row (some_taken row taken) in let first = number.0 in
+              absurd (omega arith)),
+        )
+      ]
+
+  -- of a row that is reached before and after none is taken or gone
+  pub stays_even : (row : ℕ) → 1 ≤ old_count row → 1 ≤ new_count row → (p : ℕ → Span → Bool) → Implies p (is_row_of row) → passing p w.taken ≡ passing p w.gone
+  stays_even row was is p within =
+      let c = counts row in let sum = c.sum in let once = c.once in
+      let none = old_not_taken (old_count row) (taken_count row) (new_count row) (gone_count row) c was in
+      let taken = passing_implies p (is_row_of row) within w.taken in
+      let gone = passing_implies p (is_row_of row) within w.gone in
+      omega arith
+
+  pub keeps_span : (k k' : ℕ) (x x' : Span) → StandsAt (words_of (now start w)) k x → StandsAt published k' x' → row_in x.word ≡ row_in x'.word → (k' ≡ k) × (x'.first ≡ x.first) × (x'.last ≡ x.last) × (x'.word ≡ x.word)
+  keeps_span k k' x x' at at' same =
+      let now_same = now_count start w f.end.old (is_row_of (row_in x.word)) f.may.holds in
+      let was = placed_count (now start w) f.end.old k x stands_now at in
+      let is : 1 ≤ new_count (row_in x.word) = subst (λ (r : ℕ). 1 ≤ new_count r) (sym same) (placed_count later f.end.new k' x' stands_later at') in
+      stays (now start w) later f.end.old f.end.new (λ p. passing p w.taken) (λ p. passing p w.gone) k k' x x' stands_now stands_later
+      (λ p. ap (λ (n : ℕ). n + passing p w.taken) (now_count start w f.end.old p f.may.holds) ∙ f.may.replaced.rows p) at at' same
+      (stays_even (row_in x.word) (omega arith) is)
+
+  pub word_is_some : (h : ℕ) → f.end.new ≡ Some h → f.word ≢ 0
+  word_is_some h is zero_word =
+      let taken : is_taken w (row_in f.word) ≡ true = subst (λ (o : Option ℕ). IsTop w f.end.old o f.word) is f.may.top in
+      let number = later_number (row_in f.word) (taken_later (row_in f.word) (taken_some (row_in f.word) taken)) in
+      let first = number.0 in
+      let low : row_in f.word ≡ 0 = ap row_in zero_word in
+      absurd (omega arith)
+
+  holes_in : (o o' : Option ℕ) (place : Place) (k k' : ℕ) (x x' : Span) → StandsAs (now start w) o → IsEndPlace start w o place → f.end.new ≡ o' → StandsAs later o' → StandsAt (words_of (now start w)) k x → StandsAt published k' x'
+      → SameHoles (spans_in (now start w).table x) (spans_in (with_published (words_of (now start w)) place f.word).table x)
+  holes_in o o' Root k k' x x' stands at is stands' stood stood' = refl
+  holes_in None o' (Slot row col) k k' x x' stands at is stands' stood stood' = absurd at
+  holes_in (Some h) None (Slot row col) k k' x x' stands at is stands' stood stood' = absurd (let some = placed_count later None k' x' stands' stood' in omega arith)
+  holes_in (Some h) (Some h') (Slot row col) k k' x x' stands at is stands' stood stood' = slot_holes (now start w) h row col has_words stands at.0 f.word (word_is_some h' is) k x stood
+
+  stay : (k k' : ℕ) (x x' : Span) → StandsAt s.tree k x → StandsAt published k' x' → row_in x.word ≡ row_in x'.word → KeepsPlace s.tree published k k' x x'
+  stay k k' x x' stood stood' same =
+      let at = subst (λ (t : Tree). StandsAt t k x) tree_is stood in
+      let place = keeps_span k k' x x' at stood' same in
+      record {
+        height = place.0;
+        first = place.1;
+        last = place.2;
+        holes = subst (SameHoles (spans_in s.tree.table x)) (sym (same_place_spans published.table x x' place.1 place.2 place.3))
+            (subst (λ (t : Tree). SameHoles (spans_in t.table x) (spans_in (with_published t f.place f.word).table x)) (sym tree_is)
+            (holes_in f.end.old f.end.new f.place k k' x x' stands_now f.may.at refl stands_later at stood'));
+      }
+
+  pub buried_gone : (row : ℕ) → 16 ≤ row → row < 16 + b.sheet.rows → is_buried s row ≡ true → 1 ≤ gone_count row
+  buried_gone row first last is = gone_some row (sym (progress.buried row first last) ∙ is)
+
+  -- a row that is gone was reached, and is not then
+  pub gone_was : (row : ℕ) → 1 ≤ gone_count row → (1 ≤ old_count row) × (new_count row ≡ 0)
+  gone_was row some =
+      let c = counts row in let sum = c.sum in let were = c.were in let once = c.once in
+      let none = old_not_taken (old_count row) (taken_count row) (new_count row) (gone_count row) c (omega arith) in
+      (omega arith, omega arith)
+
+  pub was_gone : (row : ℕ) → 1 ≤ old_count row → new_count row ≡ 0 → 1 ≤ gone_count row
+  was_gone row was none = let c = counts row in let sum = c.sum in omega arith
+
+  changes : Changes s published
+  changes = record {
+    known = known;
+    stay = stay;
+    gone = λ row was not.
+        let some = now_reached row was in
+        let number = was_number row some in
+        progress.buried row number.0 number.1 ∙ some_gone row (was_gone row some (later_unreached row not));
+    buried = λ row first last is.
+        let fate = gone_was row (buried_gone row first (subst (λ (n : ℕ). row < 16 + n) rows_same last) is) in
+        (reached_now row fate.0, unreached_later row fate.1);
+  }
+
+  pub may_publish : MayPublish b.kind s f.place f.word f.call f.reply
+  may_publish = record {
+    flying = ap (λ (x : Sheet). x.flying) progress.rest ∙ f.may.flying;
+    before = ap (λ (x : Sheet). x.published) progress.rest ∙ f.may.unpublished;
+    at = place_is;
+    live = live;
+    tree = record { of_kind = of_kind; words = subst laws.IsTree (sym as_tree) (is_tree (now start w) f.end.old stands_now) };
+    answer = answer;
+    after = subst (λ (n : ℕ). laws.IsTree (tree_as b.kind n published)) (sym rows_same) (is_tree later f.end.new stands_later);
+    rows = changes;
+  }

@@ -1,0 +1,232 @@
+-- The children of inner rows are tended, row by row.
+use Rattle.std.proofs.Common.{◌≡◌, ◌≢◌, ℕ, zero, suc, ◌+◌, ◌-◌, ◌*◌, ◌<◌, ◌≤◌, List, [], ◌∷◌, Some, Bool, length, refl, sym, ap, ◌∙◌, subst, ⊎_elim, inl, arith, length-set}
+use Rattle.std.specs.Prelude.{false, slice_index_or, slice_set}
+use Rattle.std.specs.List.{slice_get}
+use Rattle.std.proofs.lemmas.Option.{slice_get_within}
+use Rattle.mt_base.specs.declared.widths.Width.{Width}
+use Rattle.mt_base.specs.declared.widths.Width.TheVariants.{Long}
+use Rattle.mt_base.specs.Width.{columns}
+use Rattle.mt_layout.specs.declared.names.RowKind.{RowKind}
+use Rattle.mt_layout.specs.declared.names.RowKind.TheVariants.{Leaf, Inner, Gapped}
+use Rattle.mt_layout.specs.Rows.{row_in, named_row, parent_at, dead_mark}
+use Rattle.mt_layout.specs.Columns.{slot_column}
+use Rattle.mt_rows.specs.declared.rows.Life.{Life}
+use Rattle.mt_rows.specs.declared.rows.Life.TheVariants.{New}
+use Rattle.mt_rows.specs.declared.rows.Place.{Place}
+use Rattle.mt_rows.specs.declared.rows.Place.TheVariants.{Root, Slot}
+use Rattle.mt_rows.specs.Spans.{column, slots_of}
+use Rattle.mt_rows.specs.Sheet.{Sheet, IsWhole, IsPlace, MayTend, life_of, is_buried, tended}
+use Rattle.mt_splice.specs.declared.writes.NewRow.{NewRow}
+use Rattle.mt_splice.specs.Writes.{child_word, child_row, IsChild, AreChildren, AreTended}
+use Rattle.mt_splice.specs.Ends.{OnlyParents, MayTendRows, AreRowsTended, MayTendTop, MayTendTopAt, IsTopTended, IsTopTendedAt}
+use Rattle.mt_splice.proofs.Drafts.{equal_or_not, other_row, other_column, same_column}
+
+-- of the rows the first ones are tended
+pub record AreRowsTendedUpTo (s s' : Sheet) (kind : RowKind) (made : List NewRow) (done : ℕ) : Type 0 where
+  pub only : OnlyParents s s'
+  pub children : (i : ℕ) (n : NewRow) (slot : ℕ) → i < done → slice_get made i ≡ Some n → slot < n.count → column s'.tree.table (child_row s.tree.table kind n.row slot) 0 ≡ parent_at n.row slot
+  pub others : (r : ℕ) → ((i : ℕ) (n : NewRow) (slot : ℕ) → i < done → slice_get made i ≡ Some n → slot < n.count → child_row s.tree.table kind n.row slot ≢ r) → column s'.tree.table r 0 ≡ column s.tree.table r 0
+
+pub only_none : (s : Sheet) → OnlyParents s s
+only_none s = record { rest = refl; root = refl; width = refl; size = refl; kept = λ r c above within. refl }
+
+pub only_more : (s s' s″ : Sheet) → OnlyParents s s' → OnlyParents s' s″ → OnlyParents s s″
+only_more s s' s″ first more = record {
+  rest = ap (λ (x : Sheet). record x { tree = s.tree; reads = s.reads }) more.rest ∙ first.rest;
+  root = more.root ∙ first.root;
+  width = more.width ∙ first.width;
+  size = more.size ∙ first.size;
+  kept = λ r c above within. more.kept r c above (subst (λ (w : Width). c < columns w) (sym first.width) within) ∙ first.kept r c above within;
+}
+
+pub only_tended : (s s' : Sheet) (kind : RowKind) (row count : ℕ) → AreTended s s' kind row count → OnlyParents s s'
+only_tended s s' kind row count done = record {
+  rest = done.rest;
+  root = done.root;
+  width = done.width;
+  size = done.size;
+  kept = λ r c above within. done.others r c within (λ none. absurd (omega arith));
+}
+
+pub no_rows_tended : (s : Sheet) (kind : RowKind) (made : List NewRow) → AreRowsTendedUpTo s s kind made 0
+no_rows_tended s kind made = record {
+  only = only_none s;
+  children = λ i n slot low at below. absurd (omega arith);
+  others = λ r none. refl;
+}
+
+slot_above : (w : Width) (kind : RowKind) (i : ℕ) → 0 < slot_column (slots_of w kind) i
+slot_above Long Leaf i = omega arith
+slot_above Long Inner i = omega arith
+slot_above Long Gapped i = omega arith
+
+slot_within : (w : Width) (kind : RowKind) (i : ℕ) → i < slots_of w kind → slot_column (slots_of w kind) i < columns w
+slot_within Long Leaf i within = omega arith
+slot_within Long Inner i within = omega arith
+slot_within Long Gapped i within = omega arith
+
+some_columns : (w : Width) → 0 < columns w
+some_columns Long = omega arith
+
+-- words in slots stay while only parent words are written
+pub word_stays : (s t : Sheet) (kind : RowKind) (row slot : ℕ) → OnlyParents s t → slot < slots_of s.tree.table.width kind → child_word t.tree.table kind row slot ≡ child_word s.tree.table kind row slot
+word_stays s t kind row slot only within =
+    ap (λ (w : Width). column t.tree.table row (slot_column (slots_of w kind) slot)) only.width
+    ∙ only.kept row (slot_column (slots_of s.tree.table.width kind) slot) (slot_above s.tree.table.width kind slot) (slot_within s.tree.table.width kind slot within)
+
+pub children_stay : (s t : Sheet) (kind : RowKind) (row count : ℕ) → OnlyParents s t → AreChildren s kind row count → AreChildren t kind row count
+children_stay s t kind row count only are =
+    let rows : s.rows ≡ t.rows = sym (ap (λ (x : Sheet). x.rows) only.rest) in
+    record {
+      first = are.first;
+      last = subst (λ (n : ℕ). row < 16 + n) rows are.last;
+      slots = subst (λ (w : Width). count ≤ slots_of w kind) (sym only.width) are.slots;
+      each = λ slot below. child slot below;
+      apart = λ i j low_i low_j same. are.apart i j low_i low_j (sym (row_stays i low_i) ∙ (same ∙ row_stays j low_j));
+    }
+  where
+    row_stays : (slot : ℕ) → slot < count → child_row t.tree.table kind row slot ≡ child_row s.tree.table kind row slot
+    row_stays slot below = let slots = are.slots in ap row_in (word_stays s t kind row slot only (omega arith))
+
+    child : (slot : ℕ) → slot < count → IsChild t kind row slot
+    child slot below =
+        let slots = are.slots in
+        let each = are.each slot below in
+        let same = row_stays slot below in
+        let rows : s.rows ≡ t.rows = sym (ap (λ (x : Sheet). x.rows) only.rest) in
+        let lives : s.lives ≡ t.lives = sym (ap (λ (x : Sheet). x.lives) only.rest) in
+        let buried : s.buried ≡ t.buried = sym (ap (λ (x : Sheet). x.buried) only.rest) in
+        record {
+          named = ap named_row (word_stays s t kind row slot only (omega arith)) ∙ (each.named ∙ ap (λ (r : ℕ). Some r) (sym same));
+          at = subst (λ (r : ℕ). IsPlace t r 0) (sym same) (record {
+            first = each.at.first;
+            last = subst (λ (n : ℕ). child_row s.tree.table kind row slot < 16 + n) rows each.at.last;
+            column = some_columns t.tree.table.width;
+          });
+          live = ap (life_of t) same ∙ (ap (λ (l : List Life). slice_index_or l (child_row s.tree.table kind row slot) New) (sym lives) ∙ each.live);
+          kept = ap (is_buried t) same ∙ (ap (λ (l : List Bool). slice_index_or l (child_row s.tree.table kind row slot) false) (sym buried) ∙ each.kept);
+          other = λ is. each.other (sym same ∙ is);
+        }
+
+get_at : {A : Type 0} (xs : List A) (i : ℕ) (d : A) → i < length xs → slice_get xs i ≡ Some (slice_index_or xs i d)
+get_at [] i d within = absurd (omega arith)
+get_at (x ∷ xs) zero d within = refl
+get_at (x ∷ xs) (suc i) d within = get_at xs i d (omega arith)
+
+pub children_still : (s t : Sheet) (kind : RowKind) (made : List NewRow) (i : ℕ) (d : NewRow) → MayTendRows s kind made → AreRowsTendedUpTo s t kind made i → i < length made
+    → AreChildren t kind (slice_index_or made i d).row (slice_index_or made i d).count
+children_still s t kind made i d may done within =
+    let n = slice_index_or made i d in
+    children_stay s t kind n.row n.count done.only (may.each i n (get_at made i d within))
+
+module _ (s t t' : Sheet) (kind : RowKind) (made : List NewRow) (i : ℕ) (n : NewRow) (may : MayTendRows s kind made) (done : AreRowsTendedUpTo s t kind made i) (at : slice_get made i ≡ Some n)
+    (tended : AreTended t t' kind n.row n.count) where
+  row_now : (slot : ℕ) → slot < n.count → child_row t.tree.table kind n.row slot ≡ child_row s.tree.table kind n.row slot
+  row_now slot below = let slots = (may.each i n at).slots in ap row_in (word_stays s t kind n.row slot done.only (omega arith))
+
+  kept_now : (r : ℕ) → ((slot : ℕ) → slot < n.count → child_row s.tree.table kind n.row slot ≢ r) → column t'.tree.table r 0 ≡ column t.tree.table r 0
+  kept_now r other = tended.others r 0 (some_columns t.tree.table.width) (λ _ slot below same. other slot below (sym (row_now slot below) ∙ same))
+
+  children_now : (j : ℕ) (m : NewRow) (slot : ℕ) → j < i + 1 → slice_get made j ≡ Some m → slot < m.count → column t'.tree.table (child_row s.tree.table kind m.row slot) 0 ≡ parent_at m.row slot
+  children_now j m slot low at_m below = ⊎_elim
+      (λ (here : j ≡ i). let same : n ≡ m = one_item (sym at ∙ (ap (slice_get made) (sym here) ∙ at_m)) in
+      subst (λ (k : NewRow). (slot : ℕ) → slot < k.count → column t'.tree.table (child_row s.tree.table kind k.row slot) 0 ≡ parent_at k.row slot) same
+      (λ slot below. ap (λ (r : ℕ). column t'.tree.table r 0) (sym (row_now slot below)) ∙ tended.children slot below) slot below)
+      (λ (off : j ≢ i). let before : j < i = omega (arith, off) in
+      kept_now (child_row s.tree.table kind m.row slot) (λ other low_other same. may.apart j i m n slot other before at_m at below low_other (sym same))
+      ∙ done.children j m slot before at_m below) (equal_or_not j i)
+    where
+      one_item : {a c : NewRow} → Some a ≡ Some c → a ≡ c
+      one_item same = cc
+
+  one_more_row : AreRowsTendedUpTo s t' kind made (i + 1)
+  one_more_row = record {
+    only = only_more s t t' done.only (only_tended t t' kind n.row n.count tended);
+    children = children_now;
+    others = λ r other. kept_now r (λ slot below. other i n slot (omega arith) at below) ∙ done.others r (λ j m slot low at_m below. other j m slot (omega arith) at_m below);
+  }
+
+pub next_row_tended : (s t t' : Sheet) (kind : RowKind) (made : List NewRow) (i : ℕ) (d : NewRow) → MayTendRows s kind made → AreRowsTendedUpTo s t kind made i → i < length made
+    → AreTended t t' kind (slice_index_or made i d).row (slice_index_or made i d).count → AreRowsTendedUpTo s t' kind made (i + 1)
+next_row_tended s t t' kind made i d may done within tended = one_more_row s t t' kind made i (slice_index_or made i d) may done (get_at made i d within) tended
+
+pub all_rows_tended : (s s' : Sheet) (kind : RowKind) (made : List NewRow) (done : ℕ) → length made ≤ done → AreRowsTendedUpTo s s' kind made done → AreRowsTended s s' kind made
+all_rows_tended s s' kind made done all tended = record {
+  only = tended.only;
+  children = λ i n slot at below. tended.children i n slot (let within = slice_get_within made i n at in omega arith) at below;
+  others = λ r other. tended.others r (λ i n slot low at below. other i n slot at below);
+}
+
+-- ---- one word is stored, in a column that is not the parent word's
+
+pub kept_column : (w : Width) (words : List ℕ) (row col word r c : ℕ) → c < columns w → col < columns w → c ≢ col
+    → column (record { width = w; words = slice_set words (columns w * row + col) word }) r c ≡ column (record { width = w; words = words }) r c
+kept_column w words row col word r c within inside other =
+    ⊎_elim (λ (same : r ≡ row). subst (λ (n : ℕ). column (record { width = w; words = slice_set words (columns w * row + col) word }) n c ≡ column (record { width = w; words = words }) n c) (sym same)
+    (other_column w words row col word c other))
+    (λ (off : r ≢ row). other_row w words row col word r c off inside within) (equal_or_not r row)
+
+-- ---- the row that was published in a slot
+
+pub top_only : (s s' : Sheet) (place : Place) (word : ℕ) → IsTopTendedAt s s' place word → OnlyParents s s'
+top_only s s' Root word is = subst (OnlyParents s) (sym is) (only_none s)
+top_only s s' (Slot row col) word done = done.only
+
+pub top_kept : (s s' : Sheet) (place : Place) (word r : ℕ) → IsTopTendedAt s s' place word → ((row col : ℕ) → place ≡ Slot row col → r ≢ row_in word) → column s'.tree.table r 0 ≡ column s.tree.table r 0
+top_kept s s' Root word r is other = ap (λ (x : Sheet). column x.tree.table r 0) is
+top_kept s s' (Slot row col) word r done other = done.others r (other row col refl)
+
+-- the slot of a column of an inner row
+few_slots : (w : Width) (col : ℕ) → slots_of w Inner ≤ col → col < columns w → col - slots_of w Inner < 256
+few_slots Long col above within = omega arith
+
+-- a parent word that is a dead mark is that of the row itself
+own_parent : (child row slot : ℕ) → slot < 256 → parent_at row slot ≡ dead_mark child → child ≡ row
+own_parent child row slot few dead = omega arith
+
+pub top_is : (word top : ℕ) → named_row word ≡ Some (row_in word) → Some top ≡ named_row word → top ≡ row_in word
+top_is word top named found = let same : Some top ≡ Some (row_in word) = found ∙ named in cc
+
+pub may_tend_top : (s : Sheet) (row col word slots top : ℕ) → MayTendTop s row col word → slots ≡ slots_of s.tree.table.width Inner → Some top ≡ named_row word → MayTend s top 0 (parent_at row (col - slots))
+may_tend_top s row col word slots top may wide found =
+    subst (λ (n : ℕ). MayTend s n 0 (parent_at row (col - slots))) (sym (top_is word top may.named found)) (record {
+      at = may.at;
+      live = may.live;
+      kept = may.kept;
+      column = inl refl;
+      alive = λ _ dead. may.other (own_parent (row_in word) row (col - slots)
+          (subst (λ (n : ℕ). col - n < 256) (sym wide) (few_slots s.tree.table.width col may.slot may.within)) dead);
+    })
+
+pub top_tended : (s : Sheet) (row col word slots top : ℕ) → IsWhole s → MayTendTop s row col word → slots ≡ slots_of s.tree.table.width Inner → Some top ≡ named_row word
+    → IsTopTended s (tended s top 0 (parent_at row (col - slots))) row col word
+top_tended s row col word slots top whole may wide found =
+    subst (λ (n : ℕ). IsTopTended s (tended s n 0 (parent_at row (col - slots))) row col word) (sym (top_is word top may.named found)) (record {
+      only = record {
+        rest = refl;
+        root = refl;
+        width = refl;
+        size = length-set s.tree.table.words (columns s.tree.table.width * row_in word + 0) (parent_at row (col - slots));
+        kept = λ r c above within. kept_column s.tree.table.width s.tree.table.words (row_in word) 0 (parent_at row (col - slots)) r c within (some_columns s.tree.table.width) (λ none. absurd (omega arith));
+      };
+      here = same_column s.tree.table.width s.tree.table.words (row_in word) (16 + s.rows) 0 (parent_at row (col - slots)) (some_columns s.tree.table.width) may.at.last whole.words
+          ∙ ap (λ (n : ℕ). parent_at row (col - n)) wide;
+      others = λ r other. other_row s.tree.table.width s.tree.table.words (row_in word) 0 (parent_at row (col - slots)) r 0 other (some_columns s.tree.table.width) (some_columns s.tree.table.width);
+    })
+
+-- a row that may be tended still may when other parent words were written
+pub top_still : (s t : Sheet) (place : Place) (word : ℕ) → OnlyParents s t → MayTendTopAt s place word → MayTendTopAt t place word
+top_still s t Root word only may = tt
+top_still s t (Slot row col) word only may =
+    let rows : s.rows ≡ t.rows = sym (ap (λ (x : Sheet). x.rows) only.rest) in
+    let lives : s.lives ≡ t.lives = sym (ap (λ (x : Sheet). x.lives) only.rest) in
+    let buried : s.buried ≡ t.buried = sym (ap (λ (x : Sheet). x.buried) only.rest) in
+    record {
+      named = may.named;
+      at = record { first = may.at.first; last = subst (λ (n : ℕ). row_in word < 16 + n) rows may.at.last; column = some_columns t.tree.table.width };
+      live = ap (λ (l : List Life). slice_index_or l (row_in word) New) (sym lives) ∙ may.live;
+      kept = ap (λ (l : List Bool). slice_index_or l (row_in word) false) (sym buried) ∙ may.kept;
+      other = may.other;
+      slot = subst (λ (w : Width). slots_of w Inner ≤ col) (sym only.width) may.slot;
+      within = subst (λ (w : Width). col < columns w) (sym only.width) may.within;
+    }

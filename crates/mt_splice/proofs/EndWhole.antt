@@ -1,0 +1,98 @@
+-- From a replacement that is written and buried to one that is done.
+use Rattle.std.proofs.Common.{◌≡◌, ℕ, suc, inl, ◌≤◌, List, Option, Some, None, refl, sym, ap, subst, arith}
+use Rattle.mt_base.specs.declared.calls.Call.{Call}
+use Rattle.mt_base.specs.declared.replies.Reply.{Reply}
+use Rattle.mt_layout.specs.declared.names.RowKind.TheVariants.{Inner}
+use Rattle.mt_layout.specs.Rows.{row_in}
+use Rattle.mt_rows.specs.declared.rows.Place.{Place}
+use Rattle.mt_rows.specs.declared.rows.Place.TheVariants.{Root, Slot}
+use Rattle.mt_rows.specs.Levels.{is_row_of}
+use Rattle.mt_rows.specs.Laws as laws
+use Rattle.mt_rows.specs.Sheet.{Sheet}
+use Rattle.mt_rows.specs.Publish.{tree_as, MayPublish, Published}
+use Rattle.mt_rows.proofs.Reached as reached
+use Rattle.mt_splice.specs.declared.writes.NewRow.{NewRow}
+use Rattle.mt_splice.specs.Seen.{passing}
+use Rattle.mt_splice.specs.Work.{now}
+use Rattle.mt_splice.specs.Progress.{row_seen}
+use Rattle.mt_splice.specs.Splice.{HasParents, IsSpliced}
+use Rattle.mt_splice.specs.Ends.{StandsAs, count_in, IsEndPlace, End, MayEnd, MayTendRows, AreRowsTended, MayTendTopAt, IsTopTendedAt}
+use Rattle.mt_splice.proofs.EndHoles.{at_on_level}
+use Rattle.mt_splice.proofs.EndLists.{seen_some}
+use Rattle.mt_splice.proofs.EndMade.{made_seen}
+use Rattle.mt_splice.proofs.EndAfter.{outcome}
+use Rattle.mt_splice.proofs.EndFacts.{spliced}
+use Rattle.mt_splice.proofs.EndTending.{only_more, top_only, top_still}
+use Rattle.mt_splice.proofs.EndParents.{may_tend_some, may_tend_place, has_parents}
+use Rattle.mt_splice.proofs.EndPublish as ends
+
+abbrev finish : (e : End) (s : Sheet) (made : List NewRow) (place : Place) (word : ℕ) (call : Call) (reply : Reply) → MayEnd e s made place word call reply → ends.Finish
+finish e s made place word call reply may = record { end = e; sheet = s; made = made; place = place; word = word; call = call; reply = reply; may = may }
+
+pub may_publish_end : (e : End) (s : Sheet) (made : List NewRow) (place : Place) (word : ℕ) (call : Call) (reply : Reply) → MayEnd e s made place word call reply → MayPublish e.before.kind s place word call reply
+may_publish_end e s made place word call reply may = ends.may_publish (finish e s made place word call reply may)
+
+-- ---- where nothing is left, no row was taken
+
+none_new : (f : ends.Finish) (row : ℕ) → f.end.new ≡ None → ends.new_count f row ≡ 0
+none_new f row none = ap (count_in (is_row_of row) (tree_as f.end.before.kind f.end.before.sheet.rows (ends.published f))) none
+
+none_made : (f : ends.Finish) (n : NewRow) → f.end.new ≡ None → reached.IsOneOf n f.made → ⊥
+none_made f n none one =
+    let found = made_seen f.sheet.tree.table f.end.work.taken n (subst (reached.IsOneOf n) f.may.inner one) in
+    let some = ends.taken_later f (row_seen found.0) (seen_some f.end.work.taken found.0 found.1) in
+    let never = none_new f (row_seen found.0) none in
+    absurd (omega arith)
+
+none_in_slot : (f : ends.Finish) (old : Option ℕ) (row col : ℕ) → f.end.old ≡ old → f.end.new ≡ None → IsEndPlace f.end.start f.end.work old (Slot row col) → ⊥
+none_in_slot f None row col is_old none at = absurd at
+none_in_slot f (Some h) row col is_old none at =
+    let t : laws.Tree = now f.end.start f.end.work in
+    let stands : laws.Stands t h = subst (StandsAs t) is_old (ends.stands_now f) in
+    let place = at.0 in
+    let some : 1 ≤ count_in (is_row_of (row_in place.at.word)) t (Some h) = reached.on_level_reached t h stands (suc place.low) place.at (at_on_level t h row col (ends.has_words f) stands place 0) in
+    let here : 1 ≤ count_in (is_row_of (row_in place.at.word)) t f.end.old = subst (λ (old : Option ℕ). 1 ≤ count_in (is_row_of (row_in place.at.word)) t old) (sym is_old) some in
+    let same = ends.now_count f.end.start f.end.work f.end.old (is_row_of (row_in place.at.word)) f.may.holds in
+    let gone : passing (is_row_of (row_in place.at.word)) f.end.work.gone ≡ 0 = subst (λ (n : ℕ). passing (is_row_of n) f.end.work.gone ≡ 0) (sym place.number) at.1 in
+    let c = ends.counts f (row_in place.at.word) in let sum = c.sum in
+    let never = none_new f (row_in place.at.word) none in
+    absurd (omega arith)
+
+-- ---- what may be tended
+
+tend_rows_by : (f : ends.Finish) (s₁ : Sheet) (new : Option ℕ) → f.end.new ≡ new → Published f.sheet s₁ f.place f.word f.call f.reply → MayTendRows s₁ Inner f.made
+tend_rows_by f s₁ None is done = record {
+  each = λ i n at. absurd (none_made f n is (reached.one_of_get f.made i n at));
+  apart = λ i j n m slot slot' lt at_n at_m low low' same. absurd (none_made f n is (reached.one_of_get f.made i n at_n));
+}
+tend_rows_by f s₁ (Some h) is done = may_tend_some f h is s₁ done
+
+tend_top_by : (f : ends.Finish) (s₁ : Sheet) (new : Option ℕ) (place : Place) → f.end.new ≡ new → f.place ≡ place → IsEndPlace f.end.start f.end.work f.end.old place → Published f.sheet s₁ f.place f.word f.call f.reply → MayTendTopAt s₁ place f.word
+tend_top_by f s₁ new Root is is_place at done = tt
+tend_top_by f s₁ None (Slot row col) is is_place at done = absurd (none_in_slot f f.end.old row col refl is at)
+tend_top_by f s₁ (Some h) (Slot row col) is is_place at done = may_tend_place f h is s₁ done (Slot row col) is_place
+
+pub may_tend_rows : (e : End) (s s₁ : Sheet) (made : List NewRow) (place : Place) (word : ℕ) (call : Call) (reply : Reply) → MayEnd e s made place word call reply → Published s s₁ place word call reply → MayTendRows s₁ Inner made
+may_tend_rows e s s₁ made place word call reply may done = tend_rows_by (finish e s made place word call reply may) s₁ e.new refl done
+
+pub may_tend_top_now : (e : End) (s s₁ s₂ : Sheet) (made : List NewRow) (place : Place) (word : ℕ) (call : Call) (reply : Reply) → MayEnd e s made place word call reply → Published s s₁ place word call reply
+    → AreRowsTended s₁ s₂ Inner made → MayTendTopAt s₂ place word
+may_tend_top_now e s s₁ s₂ made place word call reply may done tended =
+    top_still s₁ s₂ place word tended.only (tend_top_by (finish e s made place word call reply may) s₁ e.new place refl refl may.at done)
+
+-- ---- all is done
+
+parents_by : (f : ends.Finish) (s₁ s₂ s₃ : Sheet) (new : Option ℕ) → f.end.new ≡ new → Published f.sheet s₁ f.place f.word f.call f.reply → AreRowsTended s₁ s₂ Inner f.made → IsTopTendedAt s₂ s₃ f.place f.word
+    → StandsAs (tree_as f.end.before.kind s₃.rows s₃.tree) new → HasParents (tree_as f.end.before.kind s₃.rows s₃.tree)
+parents_by f s₁ s₂ s₃ None is done tended top stands = inl stands
+parents_by f s₁ s₂ s₃ (Some h) is done tended top stands = has_parents f h is s₁ done s₂ s₃ tended top stands
+
+pub spliced_end : (e : End) (s s₁ s₂ s₃ : Sheet) (made : List NewRow) (place : Place) (word : ℕ) (call : Call) (reply : Reply) → MayEnd e s made place word call reply → Published s s₁ place word call reply
+    → AreRowsTended s₁ s₂ Inner made → IsTopTendedAt s₂ s₃ place word → IsSpliced e.before.kind e.before.sheet s₃ e.before.book e.book e.before.number call reply place
+spliced_end e s s₁ s₂ s₃ made place word call reply may done tended top =
+    let f = finish e s made place word call reply may in
+    let only = only_more s₁ s₂ s₃ tended.only (top_only s₂ s₃ place word top) in
+    let o = outcome (finish e s made place word call reply may) s₁ s₃ done only in
+    let rows : e.before.sheet.rows ≡ s₃.rows = sym (ap (λ (x : Sheet). x.rows) o.rest) in
+    spliced (finish e s made place word call reply may) s₃ o
+    (parents_by (finish e s made place word call reply may) s₁ s₂ s₃ e.new refl done tended top (subst (λ (n : ℕ). StandsAs (tree_as e.before.kind n s₃.tree) e.new) rows o.stands))

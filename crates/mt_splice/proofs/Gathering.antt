@@ -1,0 +1,61 @@
+-- The items of a row behind a slot.
+use Rattle.std.proofs.Common.{◌≡◌, ℕ, zero, suc, ◌+◌, ◌-◌, ◌<◌, ◌≤◌, List, [], length, take, drop, nat_le, refl, sym, ap, ◌∙◌, arith, inl, inr}
+use Rattle.std.specs.Prelude.{slice_index}
+use Rattle.std.proofs.lemmas.Bool.{cases_Bool}
+use Rattle.std.proofs.lemmas.List.{take_all, length-take}
+use Rattle.std.proofs.Math.ListN.{drop_of_length-le}
+use Rattle.mt_layout.specs.declared.items.Item.{Item}
+use Rattle.mt_base.specs.declared.widths.Width.{Width}
+use Rattle.mt_base.specs.declared.widths.Width.TheVariants.{Long}
+use Rattle.mt_layout.specs.declared.names.RowKind.TheVariants.{Inner}
+use Rattle.mt_layout.specs.Columns.{items_from, pivot_column}
+use Rattle.mt_rows.specs.Spans.{Table, base_of, slots_of, gaps_of}
+use Rattle.mt_splice.specs.Writes.{items_of_row}
+
+module _ (slots gaps : ℕ) (w : List ℕ) (base max : ℕ) where
+  pub few_items : (left i : ℕ) → length (items_from slots gaps w base max left i) ≤ left
+  few_items zero i = omega arith
+  few_items (suc zero) i = omega arith
+  few_items (suc (suc left)) i = elim (cases_Bool (nat_le max (slice_index w (base + pivot_column i)))) [
+    | inl last ↦ rw last (omega arith)
+    | inr more ↦ let rest = few_items (suc left) (i + 1) in rw more (omega arith)
+  ]
+
+  drop_from : (k left i : ℕ) → k < length (items_from slots gaps w base max left i) → drop k (items_from slots gaps w base max left i) ≡ items_from slots gaps w base max (left - k) (i + k)
+  drop_from zero left i below = let same : i + 0 ≡ i = omega arith in let all : left - 0 ≡ left = omega arith in rw (same, all) refl
+  drop_from (suc k) zero i below = absurd (omega arith)
+  drop_from (suc k) (suc zero) i below = absurd (omega arith)
+  drop_from (suc k) (suc (suc left)) i below = elim (cases_Bool (nat_le max (slice_index w (base + pivot_column i)))) [
+    | inl last ↦ let one : suc k < 1 = rw last at below in absurd (omega arith)
+    | inr more ↦
+        let rest : suc k < suc (length (items_from slots gaps w base max (suc left) (i + 1))) = rw more at below in
+        let place : (i + 1) + k ≡ i + suc k = omega arith in
+        let count : suc left - k ≡ suc (suc left) - suc k = omega arith in
+        rw more (drop_from k (suc left) (i + 1) (omega arith) ∙ (λ j. items_from slots gaps w base max (count j) (place j)))
+  ]
+
+  pub items_behind : (k n : ℕ) → k < length (items_from slots gaps w base max slots 0) → slots ≤ n + k
+      → take n (items_from slots gaps w base max (slots - k) k) ≡ drop k (items_from slots gaps w base max slots 0)
+  items_behind k n below all =
+      let few = few_items (slots - k) k in
+      let place : k ≡ 0 + k = omega arith in
+      take_all n (items_from slots gaps w base max (slots - k) k) (omega arith)
+      ∙ (ap (items_from slots gaps w base max (slots - k)) place ∙ sym (drop_from k slots 0 below))
+
+-- the items up to a slot are not more than its number
+pub items_ahead : (k : ℕ) (xs : List Item) → length (take k xs) ≤ k
+items_ahead k xs = let n = length-take k xs in omega arith
+
+-- ---- of a row of a table
+
+inner_slots : (w : Width) → slots_of w Inner ≡ 16
+inner_slots Long = refl
+
+pub behind_slot : (t : Table) (row max k : ℕ) → k < length (items_of_row t Inner row max)
+    → take (16 - k) (items_from (slots_of t.width Inner) (gaps_of t.width Inner) t.words (base_of t row) max (slots_of t.width Inner - k) k) ≡ drop k (items_of_row t Inner row max)
+behind_slot t row max k below =
+    let few = few_items (slots_of t.width Inner) (gaps_of t.width Inner) t.words (base_of t row) max (slots_of t.width Inner) 0 in
+    items_behind (slots_of t.width Inner) (gaps_of t.width Inner) t.words (base_of t row) max k (16 - k) below (omega (arith, inner_slots t.width))
+
+pub none_behind : (k : ℕ) (xs : List Item) → length xs ≤ k → drop k xs ≡ []
+none_behind k xs past = drop_of_length-le xs past

@@ -1,0 +1,55 @@
+-- The path to an index is the same by the words now.
+use Rattle.std.proofs.Common.{◌≡◌, ◌≢◌, ℕ, zero, suc, ◌<◌, ◌≤◌, List, [], ◌∷◌, sym, ap, ◌∙◌, subst, arith, append-nil}
+use Rattle.mt_layout.specs.declared.names.RowKind.TheVariants.{Leaf}
+use Rattle.mt_layout.specs.declared.spans.Span.{Span}
+use Rattle.mt_layout.specs.Rows.{row_in}
+use Rattle.mt_base.specs.declared.kinds.Kind.{Kind}
+use Rattle.mt_base.specs.declared.kinds.Kind.TheVariants as trees
+use Rattle.mt_rows.specs.Spans.{Table, inner_kind, spans_in}
+use Rattle.mt_rows.specs.Levels.{Levels, SameSpans}
+use Rattle.mt_rows.specs.Trees.{deepest}
+use Rattle.mt_rows.specs.Laws.{Tree, top_of}
+use Rattle.mt_rows.proofs.Joins.{Shared, levels_front, levels_back}
+use Rattle.mt_rows.proofs.Lists.{levels_here}
+use Rattle.mt_path.specs.declared.paths.PathStep.{PathStep}
+use Rattle.mt_path.specs.Paths.{slot_for, span_at, step_in, below, path_of, path_in}
+use Rattle.mt_path.proofs.Steps.{Leads, path_of_leaf, path_of_inner, child_at, child_leads, row_here}
+use Rattle.mt_path.proofs.TreePaths.{root_leads, top_row}
+use Rattle.mt_splice.specs.Work.{Start, Work, now, Holds}
+use Rattle.mt_splice.proofs.Moments.{old_shared}
+
+inner_other : (tree : Kind) → inner_kind tree ≢ Leaf
+inner_other trees.Range = λ e. cc
+inner_other trees.Alloc = λ e. cc
+
+module _ (t : Tree) (t' : Table) where
+  step_shared : (x : Span) (index : ℕ) → SameSpans t.table t' x → step_in t' x index ≡ step_in t.table x index
+  step_shared x index same = ap (λ (xs : List Span). record { row = row_in x.word; slot = slot_for xs index; min = x.first; max = x.last }) same
+
+  below_shared : (x : Span) (index : ℕ) → SameSpans t.table t' x → below t' x index ≡ below t.table x index
+  below_shared x index same = ap (λ (xs : List Span). span_at xs (slot_for xs index)) same
+
+  child_shared : (h : ℕ) (x : Span) (index : ℕ) → Leads t (suc h) x index → Levels (Shared t.table t') t.table (suc h) (x ∷ []) → Levels (Shared t.table t') t.table h (below t.table x index ∷ [])
+  child_shared h x index leads same =
+      let y = below t.table x index in
+      let at = child_at t (suc h) x index leads in
+      let all : Levels (Shared t.table t') t.table h (spans_in t.table x) = subst (Levels (Shared t.table t') t.table h) (append-nil (spans_in t.table x)) same.1 in
+      let parts = subst (Levels (Shared t.table t') t.table h) at.parts all in
+      levels_front (Shared t.table t') t.table h (y ∷ []) at.back (levels_back (Shared t.table t') t.table h at.front (y ∷ at.back) parts)
+
+  path_shared : (depth h : ℕ) (x : Span) (index : ℕ) → h < depth → Leads t h x index → Levels (Shared t.table t') t.table h (x ∷ []) → path_of t' depth x index ≡ path_of t.table depth x index
+  path_shared zero h x index deep leads same = absurd (omega arith)
+  path_shared (suc depth) zero x index deep leads same =
+      let leaf = (row_here t zero x index leads).name.named in
+      path_of_leaf t' depth x index leaf ∙ (ap (λ (s : PathStep). s ∷ []) (step_shared x index same.0) ∙ sym (path_of_leaf t.table depth x index leaf))
+  path_shared (suc depth) (suc h) x index deep leads same =
+      let named = (row_here t (suc h) x index leads).name.named in
+      let here = (levels_here (Shared t.table t') t.table (suc h) (x ∷ []) same).0 in
+      let rest = path_shared depth h (below t.table x index) index (omega arith) (child_leads t h x index leads) (child_shared h x index leads same) in
+      path_of_inner t' depth x index (inner_kind t.kind) named (inner_other t.kind)
+      ∙ ((λ i. step_shared x index here i ∷ path_of t' depth (below_shared x index here i) index)
+      ∙ (ap (λ (l : List PathStep). step_in t.table x index ∷ l) rest ∙ sym (path_of_inner t.table depth x index (inner_kind t.kind) named (inner_other t.kind))))
+
+pub path_now : (start : Start) (s : Work) → Holds start s → (index : ℕ) → index ≤ top_of start.tree → path_in (now start s).table start.tree.root index ≡ path_in start.tree.table start.tree.root index
+path_now start s holds index within =
+    path_shared start.tree (now start s).table deepest start.height (top_row start.tree) index holds.stands.low (root_leads start.tree start.height holds.stands index within) (old_shared start s holds)

@@ -1,0 +1,186 @@
+-- A replacement ends at the root: by one row that covers all, by a root above several rows, or with no row at all.
+use Rattle.std.proofs.Common.{◌≡◌, ℕ, suc, ◌+◌, ◌<◌, ◌≤◌, List, [], ◌∷◌, ◌++◌, Bool, refl, sym, ap, ◌∙◌, subst, arith, append-nil}
+use Rattle.std.specs.List.{flat_map}
+use Rattle.mt_layout.specs.declared.spans.Span.{Span}
+use Rattle.mt_layout.specs.Spans.{leaf_range, Fills}
+use Rattle.mt_rows.specs.Spans.{root_span}
+use Rattle.mt_rows.specs.Levels.{expand, map_of, Levels, tally, times}
+use Rattle.mt_rows.specs.Trees.{deepest}
+use Rattle.mt_rows.specs.Laws.{Tree, IsRow, Stands, top_of}
+use Rattle.mt_rows.specs.Replacement.{root_of}
+use Rattle.mt_rows.proofs.Lists.{levels_map}
+use Rattle.mt_rows.proofs.RowLaws.{row_keeps}
+use Rattle.mt_rows.proofs.NineLevels.{nine_levels}
+use Rattle.mt_path.specs.declared.paths.PathStep.{PathStep}
+use Rattle.mt_path.specs.Paths.{path_in, row_on}
+use Rattle.mt_splice.specs.Seen.{passing}
+use Rattle.mt_splice.specs.Work.{Start, Work, now, rows_at, times_in, IsUsed, IsTaken, Holds}
+use Rattle.mt_splice.specs.Replaced.{IsHalfReplaced, IsReplaced}
+use Rattle.mt_splice.specs.Burying.{AreBuried, AreLevelsBuried}
+use Rattle.mt_splice.specs.Climbs.{begin_of, end_of, Gathered, AreWritten, Climbed}
+use Rattle.mt_splice.specs.Endings.{with_root}
+use Rattle.mt_splice.proofs.Splits.{fills_none}
+use Rattle.mt_splice.proofs.Moments.{still_half}
+use Rattle.mt_splice.proofs.Written.{are_taken}
+use Rattle.mt_splice.proofs.Rises.{step_here}
+
+-- ---- another root word
+
+reroot : (t : Tree) (root : ℕ) (h : ℕ) (xs : List Span) → Levels (IsRow t) t.table h xs → Levels (IsRow (with_root t root)) t.table h xs
+reroot t root h xs rows = levels_map (IsRow t) (IsRow (with_root t root)) t.table (λ k x row. row_keeps t t.table.words root k x (λ c above within. refl) row) h xs rows
+
+-- a span that covers all, and has no gap, is that of a root
+root_is : (t : Tree) (x : Span) → x.first ≡ 0 → x.last ≡ top_of t → x.gap ≡ 0 → x ≡ root_span t.table x.word
+root_is t x first last gap = λ i. record { first = first i; last = last i; word = x.word; gap = gap i }
+
+-- the rows of one level stand in place of the whole tree
+module _ (start : Start) (s : Work) (x : Span) (first : x.first ≡ 0) (last : x.last ≡ top_of start.tree) (gap : x.gap ≡ 0) where
+  abbrev t' : Tree
+  t' = with_root (now start s) x.word
+
+  at_root : x ∷ [] ≡ root_of t'
+  at_root = ap (λ (y : Span). y ∷ []) (root_is start.tree x first last gap)
+
+  root_rows : (k : ℕ) → Levels (IsRow (now start s)) (now start s).table k (x ∷ []) → Levels (IsRow t') t'.table k (root_of t')
+  root_rows k rows = subst (Levels (IsRow t') t'.table k) at_root (reroot (now start s) x.word k (x ∷ []) rows)
+
+  root_stands : (k : ℕ) → k < deepest → Levels (IsRow (now start s)) (now start s).table k (x ∷ []) → Stands t' k
+  root_stands k low rows = record { low = low; rows = root_rows k rows }
+
+-- ---- one row covers all
+
+module _ (start : Start) (s s' : Work) (left right : List PathStep) (depth height : ℕ) (x : Span) (climbed : Climbed start s left right depth height (x ∷ [])) (first : x.first ≡ 0) (last : x.last ≡ top_of start.tree)
+    (levels : AreLevelsBuried start s s' depth height 0 start.height) where
+  -- nothing stands beside the row
+  alone : climbed.front ++ ((x ∷ []) ++ climbed.back) ≡ x ∷ []
+  alone =
+      let fills = climbed.fills in
+      let begins = fills.0 in let ends = fills.2 in
+      let no_front : begin_of left depth ≡ 0 = omega arith in
+      let no_back : end_of right depth ≡ top_of start.tree + 1 = omega arith in
+      λ i. fills_none 0 climbed.front (subst (λ (hi : ℕ). Fills 0 hi climbed.front) no_front climbed.stretch.before) i
+      ++ ((x ∷ []) ++ fills_none (top_of start.tree + 1) climbed.back (subst (λ (lo : ℕ). Fills lo (top_of start.tree + 1) climbed.back) no_back climbed.stretch.after) i)
+
+  half_now : IsHalfReplaced start.tree s'.words start.map s.taken s.gone height (rows_at start.tree depth) (x ∷ [])
+  half_now =
+      still_half start s s' start.map s.taken s.gone height (rows_at start.tree depth) (x ∷ []) levels.keeps
+      (subst (Levels (IsUsed s) (now start s).table height) alone climbed.used)
+      (subst (IsHalfReplaced start.tree s.words start.map s.taken s.gone height (rows_at start.tree depth)) alone climbed.half)
+
+  pub ends_at_root : IsReplaced start.tree (with_root (now start s') x.word) start.map s'.taken s'.gone start.height height
+  ends_at_root =
+      let low : height < deepest = (let all = climbed.levels in let deep = climbed.holds.stands.low in omega arith) in
+      let root = at_root start s' x first last climbed.gapless.0 in
+      record {
+        stands = root_stands start s' x first last climbed.gapless.0 height low half_now.stands;
+        ranges = ap (map_of (now start s').table height) (sym root) ∙ half_now.ranges;
+        rows = λ p.
+            let half = half_now.rows p in
+            let new = ap (times p (now start s').table height) root in
+            let gone = levels.gone p in
+            let taken = ap (passing p) levels.taken in
+            omega arith;
+        were = λ p.
+            let half = half_now.were p in
+            let gone = levels.gone p in
+            omega arith;
+      }
+
+-- ---- a root above several rows
+
+pub path_begins : (start : Start) (s : Work) (holds : Holds start s) (path : List PathStep) (i : ℕ) (within : i ≤ top_of start.tree) → path ≡ path_in start.tree.table start.tree.root i → (begin_of path 0 ≡ 0) × (end_of path 0 ≡ top_of start.tree + 1)
+unfolding row_on
+path_begins start s holds path i within is =
+    let step = step_here start s holds path i within is 0 start.height (omega arith) in
+    (ap (λ (z : PathStep). z.min) step, ap (λ (z : PathStep). z.max + 1) step)
+
+module _ (start : Start) (s s' : Work) (left right : List PathStep) (height : ℕ) (new : List Span) (x : Span) (climbed : Climbed start s left right 0 height new)
+    (written : AreWritten start s s' (suc height) new (x ∷ [])) (few : start.tree.rows ≤ 65504) where
+  begins : begin_of left 0 ≡ 0
+  begins = (path_begins start s climbed.holds left climbed.paths.from (let order = climbed.paths.order in let within = climbed.paths.within in omega arith) climbed.paths.is_left).0
+
+  ends : end_of right 0 ≡ top_of start.tree + 1
+  ends = (path_begins start s climbed.holds right climbed.paths.to climbed.paths.within climbed.paths.is_right).1
+
+  all_new : climbed.front ++ (new ++ climbed.back) ≡ new
+  all_new =
+      (λ i. fills_none 0 climbed.front (subst (λ (hi : ℕ). Fills 0 hi climbed.front) begins climbed.stretch.before) i
+      ++ (new ++ fills_none (top_of start.tree + 1) climbed.back (subst (λ (lo : ℕ). Fills lo (top_of start.tree + 1) climbed.back) ends climbed.stretch.after) i))
+      ∙ append-nil new
+
+  whole : Fills 0 (top_of start.tree + 1) (x ∷ [])
+  whole = written.fills 0 (top_of start.tree + 1) (subst (λ (ends : ℕ × ℕ). Fills ends.0 ends.1 new) (λ i. (begins i, ends i)) climbed.fills)
+
+  x_last : x.last ≡ top_of start.tree
+  x_last = let end = whole.2 in omega arith
+
+  half_new : IsHalfReplaced start.tree s'.words start.map s.taken s.gone height (root_of start.tree) new
+  half_new =
+      still_half start s s' start.map s.taken s.gone height (root_of start.tree) new written.keeps
+      (subst (Levels (IsUsed s) (now start s).table height) all_new climbed.used)
+      (subst (IsHalfReplaced start.tree s.words start.map s.taken s.gone height (root_of start.tree)) all_new climbed.half)
+
+  pub ends_grown : IsReplaced start.tree (with_root (now start s') x.word) start.map s'.taken s'.gone start.height (suc start.height)
+  ends_grown =
+      let same : height ≡ start.height = (let all = climbed.levels in omega arith) in
+      let root = at_root start s' x whole.0 x_last written.gapless.0 in
+      let rows : Levels (IsRow (now start s')) (now start s').table (suc height) (x ∷ []) = (written.lawful, subst (Levels (IsRow (now start s')) (now start s').table height) (sym written.hold) half_new.stands) in
+      let low = nine_levels (with_root (now start s') x.word) (suc height) few (root_rows start s' x whole.0 x_last written.gapless.0 (suc height) rows) in
+      subst (λ (h : ℕ). IsReplaced start.tree (with_root (now start s') x.word) start.map s'.taken s'.gone start.height (suc h)) same
+      (record {
+        stands = root_stands start s' x whole.0 x_last written.gapless.0 (suc height) low rows;
+        ranges = ap (map_of (now start s').table (suc height)) (sym root) ∙ (ap (map_of (now start s').table height) written.hold ∙ half_new.ranges);
+        rows = λ p.
+            let half = half_new.rows p in
+            let new = ap (times p (now start s').table (suc height)) root in
+            let below = ap (times p (now start s').table height) written.hold in
+            let taken = written.taken p in
+            let gone = ap (passing p) written.gone in
+            let height_is = ap (λ (h : ℕ). times p start.tree.table h (root_of start.tree)) same in
+            omega arith;
+        were = λ p.
+            let half = half_new.were p in
+            let gone = ap (passing p) written.gone in
+            let height_is = ap (λ (h : ℕ). times p start.tree.table h (root_of start.tree)) same in
+            omega arith;
+      })
+
+-- ---- no row at all
+
+module _ (start : Start) (s s₁ s₂ : Work) (left right : List PathStep) (hole : Span) (gathered : Gathered start s left right start.height 0 (hole ∷ [])) (none : hole.word ≡ 0)
+    (begins : begin_of left start.height ≡ 0) (ends : end_of right start.height ≡ top_of start.tree + 1)
+    (buried : AreBuried start s s₁ start.height 0 0 (top_of start.tree + 1)) (levels : AreLevelsBuried start s₁ s₂ start.height 0 0 start.height) where
+  pub ends_empty : start.map ≡ []
+  ends_empty =
+      let no_front = fills_none 0 gathered.front (subst (λ (hi : ℕ). Fills 0 hi gathered.front) begins gathered.stretch.before) in
+      let no_back = fills_none (top_of start.tree + 1) gathered.back (subst (λ (lo : ℕ). Fills lo (top_of start.tree + 1) gathered.back) ends gathered.stretch.after) in
+      sym gathered.level.0
+      ∙ ((λ i. flat_map leaf_range (expand start.tree.table (no_front i) ++ ((hole ∷ []) ++ expand start.tree.table (no_back i)))) ∙ no_range hole none)
+    where
+      no_range : (x : Span) → x.word ≡ 0 → flat_map leaf_range (x ∷ []) ≡ []
+      no_range x none = ap (λ (w : ℕ). flat_map leaf_range (record x { word = w } ∷ [])) none
+
+  pub all_gone : (p : ℕ → Span → Bool) → passing p s₂.gone ≡ times_in p start.tree start.height
+  all_gone p =
+      let here = buried.gone p in
+      let all = levels.gone p in
+      let nothing = ap (passing p) gathered.level.2 in
+      let no_front = fills_none 0 buried.front buried.stretch.before in
+      let no_back = fills_none (top_of start.tree + 1) buried.back buried.stretch.after in
+      let leaves : rows_at start.tree start.height ≡ buried.old = buried.stretch.parts ∙ ((λ i. no_front i ++ (buried.old ++ no_back i)) ∙ append-nil buried.old) in
+      let level = ap (tally (p 0)) leaves in
+      omega arith
+
+-- ---- the first row of all
+
+-- one leaf that holds spans which stand for the map
+pub first_leaf : (start : Start) (s s' : Work) (run : List Span) (x : Span) → AreWritten start s s' 0 run (x ∷ []) → Fills 0 (top_of start.tree + 1) run → flat_map leaf_range run ≡ start.map
+    → Stands (with_root (now start s') x.word) 0 × (map_of (now start s').table 0 (root_of (with_root (now start s') x.word)) ≡ start.map) × IsTaken s' 0 x
+first_leaf start s s' run x written fills stands =
+    let whole = written.fills 0 (top_of start.tree + 1) fills in
+    let last : x.last ≡ top_of start.tree = (let end = whole.2 in omega arith) in
+    let root = at_root start s' x whole.0 last written.gapless.0 in (
+      root_stands start s' x whole.0 last written.gapless.0 0 (omega arith) written.lawful,
+      ap (map_of (now start s').table 0) (sym root) ∙ (ap (flat_map leaf_range) written.hold ∙ stands),
+      (are_taken start s s' 0 run (x ∷ []) written).0,
+    )

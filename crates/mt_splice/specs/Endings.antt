@@ -1,0 +1,41 @@
+-- The one store that ends a replacement.
+-- Source: the kernel's lib/maple_tree.c, mas_replace_node.
+use Rattle.std.specs.Prelude.{◌≡◌, ℕ, ◌+◌, slice_set}
+use Rattle.mt_layout.specs.Columns.{slot_column}
+use Rattle.mt_layout.specs.declared.names.RowKind.{RowKind}
+use Rattle.mt_layout.specs.Rows.{row_in}
+use Rattle.mt_layout.specs.declared.spans.Span.{Span}
+use Rattle.mt_rows.specs.Spans.{base_of, slots_of, spans_in}
+use Rattle.mt_rows.specs.Laws.{Tree}
+use Rattle.mt_rows.specs.Sheet as sheet
+use Rattle.mt_rows.specs.Publish.{StandsAt, SameHoles, IsSlotOf}
+use Rattle.mt_rows.specs.Replacement.{IsSlotAt}
+use Rattle.mt_path.specs.declared.paths.PathStep.{PathStep}
+use Rattle.mt_splice.specs.Work.{tree_with}
+
+-- the tree with another root word
+abbrev pub with_root : Tree → ℕ → Tree
+with_root t word = record { rows = t.rows; kind = t.kind; table = t.table; root = word }
+
+-- the tree after a word is stored in the slot of a path's row, which is of this kind
+abbrev pub with_step : Tree → RowKind → PathStep → ℕ → Tree
+with_step t kind step word = tree_with t (slice_set t.table.words (base_of t.table step.row + slot_column (slots_of t.table.width kind) step.slot) word)
+
+-- the words and the root word of a tree
+abbrev pub words_of : Tree → sheet.Tree
+words_of t = record { table = t.table; root = t.root }
+
+abbrev pub column_of : Tree → RowKind → PathStep → ℕ
+column_of t kind step = slot_column (slots_of t.table.width kind) step.slot
+
+-- a path's row stands at this depth, with a child in its slot
+pub record IsStepIn (t : Tree) (depth : ℕ) (step : PathStep) : Type 0 where
+  pub row : Span
+  pub child : Span
+  pub at : IsSlotAt t depth row step.slot child
+  pub number : row_in row.word ≡ step.row
+
+-- The slot of a path's row is one of a row that is reached, and the store makes no hole and fills none.
+pub record IsPublished (t : Tree) (kind : RowKind) (step : PathStep) (word : ℕ) : Type 0 where
+  pub slot : IsSlotOf (words_of t) step.row (column_of t kind step)
+  pub holes : (k : ℕ) (x : Span) → StandsAt (words_of t) k x → SameHoles (spans_in t.table x) (spans_in (with_step t kind step word).table x)

@@ -1,0 +1,156 @@
+-- What is known when all new rows are written and all old rows are buried, and what a store that publishes them is followed by.
+-- Source: this project's own; the kernel's lib/maple_tree.c, mas_wmb_replace and mas_adopt_children, which set the parents
+-- of children that have moved.
+use Rattle.std.specs.Prelude.{◌≡◌, ◌≢◌, ℕ, suc, ◌+◌, ◌-◌, ◌*◌, ◌<◌, ◌≤◌, true, false, Bool, List, [], Option, Some, None, length}
+use Rattle.std.specs.List.{slice_get}
+use Rattle.mt_base.specs.declared.kinds.Kind.TheVariants as trees
+use Rattle.mt_base.specs.declared.ranges.Range.{Range}
+use Rattle.mt_base.specs.declared.calls.Call.{Call}
+use Rattle.mt_base.specs.declared.replies.Reply.{Reply}
+use Rattle.mt_base.specs.Call.{acted}
+use Rattle.mt_base.specs.Width.{columns}
+use Rattle.mt_layout.specs.declared.names.RowKind.{RowKind}
+use Rattle.mt_layout.specs.declared.names.RowKind.TheVariants.{Inner}
+use Rattle.mt_layout.specs.declared.spans.Span.{Span}
+use Rattle.mt_layout.specs.Rows.{row_in, named_row, parent_at}
+use Rattle.mt_layout.specs.Columns.{slot_column}
+use Rattle.mt_free.specs.Book.{Book, IsBook}
+use Rattle.mt_rows.specs.declared.rows.Life.TheVariants.{Live}
+use Rattle.mt_rows.specs.declared.rows.Place.{Place}
+use Rattle.mt_rows.specs.declared.rows.Place.TheVariants.{Root, Slot}
+use Rattle.mt_rows.specs.Spans.{column, slots_of}
+use Rattle.mt_rows.specs.Levels.{map_of, is_row_of}
+use Rattle.mt_rows.specs.Trees.{height_in}
+use Rattle.mt_rows.specs.Laws.{Tree, Stands, kind_at}
+use Rattle.mt_rows.specs.Sheet.{Sheet, IsPlace, life_of, is_buried}
+use Rattle.mt_rows.specs.Publish.{tree_as, map_by, IsLawfulOf, with_published}
+use Rattle.mt_rows.specs.Replacement.{root_of, IsSlotAt}
+use Rattle.mt_splice.specs.declared.writes.NewRow.{NewRow}
+use Rattle.mt_splice.specs.Seen.{Seen, passing}
+use Rattle.mt_splice.specs.Work.{Start, Work, now, times_in, Holds}
+use Rattle.mt_splice.specs.Writes.{child_row, AreChildren}
+use Rattle.mt_splice.specs.Progress.{Before, IsBefore, IsProgress, is_taken, new_rows_of}
+
+-- ---- a tree of a height, or the empty tree, which has none
+
+abbrev pub StandsAs : Tree → Option ℕ → Type 0
+StandsAs t None = t.root ≡ 0
+StandsAs t (Some h) = Stands t h
+
+abbrev pub count_in : (ℕ → Span → Bool) → Tree → Option ℕ → ℕ
+count_in p t None = 0
+count_in p t (Some h) = times_in p t h
+
+abbrev pub map_as : Tree → Option ℕ → List Range
+map_as t None = []
+map_as t (Some h) = map_of t.table h (root_of t)
+
+-- The tree t' stands for the map in place of t, where either may be the empty tree.
+pub record IsReplacedAs (t t' : Tree) (map : List Range) (taken gone : List Seen) (old new : Option ℕ) : Type 0 where
+  pub stands : StandsAs t' new
+  pub ranges : map_as t' new ≡ map
+  pub rows : (p : ℕ → Span → Bool) → count_in p t old + passing p taken ≡ count_in p t' new + passing p gone
+  pub were : (p : ℕ → Span → Bool) → passing p gone ≤ count_in p t old
+
+abbrev pub HoldsAs : Start → Work → Option ℕ → Type 0
+HoldsAs start w None = start.tree.root ≡ 0
+HoldsAs start w (Some h) = (start.height ≡ h) × Holds start w
+
+-- ---- the end
+
+-- the column is that of an item of an inner row, which stands so many levels below the root
+pub record IsChildSlot (t : Tree) (height row col : ℕ) : Type 0 where
+  pub depth : ℕ
+  pub low : ℕ
+  pub slot : ℕ
+  pub at : Span
+  pub child : Span
+  pub levels : height ≡ depth + suc low
+  pub here : IsSlotAt t depth at slot child
+  pub number : row_in at.word ≡ row
+  pub column : col ≡ slot_column (slots_of t.table.width (kind_at t.kind (suc low))) slot
+
+abbrev pub IsEndPlace : Start → Work → Option ℕ → Place → Type 0
+IsEndPlace start w old Root = Unit {0}
+IsEndPlace start w None (Slot row col) = ⊥
+IsEndPlace start w (Some h) (Slot row col) = IsChildSlot (now start w) h row col × (passing (is_row_of row) w.gone ≡ 0)
+
+-- the word to be published names a row that was taken, or is 0 where nothing is left of a tree
+abbrev pub IsTop : Work → Option ℕ → Option ℕ → ℕ → Type 0
+IsTop w old (Some h) word = is_taken w (row_in word) ≡ true
+IsTop w (Some h) None word = word ≡ 0
+IsTop w None None word = ⊥
+
+-- what the end of a replacement looks back to, and the heights of the two trees
+pub record End : Type 0 where
+  pub before : Before
+  pub start : Start
+  pub work : Work
+  pub book : Book
+  pub old : Option ℕ
+  pub new : Option ℕ
+
+-- All new rows are written and all old rows are buried; one word is still to be stored, and then the children of the new
+-- inner rows are to be tended.
+pub record MayEnd (e : End) (s : Sheet) (made : List NewRow) (place : Place) (word : ℕ) (call : Call) (reply : Reply) : Type 0 where
+  pub range : e.before.kind ≡ trees.Range
+  pub flying : e.before.sheet.flying ≡ true
+  pub unpublished : e.before.sheet.published ≡ false
+  pub in_flight : e.before.number ≡ e.before.sheet.ended + 1
+  pub was : IsBefore e.before e.start
+  pub lawful : IsLawfulOf e.before.sheet e.before.kind
+  pub progress : IsProgress e.before s e.book e.work
+  pub sound : IsBook e.book
+  pub few : length e.work.taken ≤ 3 * height_in e.before.sheet.tree.table e.before.sheet.tree.root + 1
+  pub answer : acted e.before.kind (map_by e.before.sheet.tree) call ≡ (e.start.map, reply)
+  pub holds : HoldsAs e.start e.work e.old
+  pub replaced : IsReplacedAs e.start.tree (tree_as e.before.kind e.before.sheet.rows (with_published s.tree place word)) e.start.map e.work.taken e.work.gone e.old e.new
+  pub at : IsEndPlace e.start e.work e.old place
+  pub top : IsTop e.work e.old e.new word
+  pub inner : made ≡ new_rows_of s.tree.table e.work.taken
+
+-- ---- parent words
+
+-- nothing but parent words and the number of loads has changed
+pub record OnlyParents (s s' : Sheet) : Type 0 where
+  pub rest : record s' { tree = s.tree; reads = s.reads } ≡ s
+  pub root : s'.tree.root ≡ s.tree.root
+  pub width : s'.tree.table.width ≡ s.tree.table.width
+  pub size : length s'.tree.table.words ≡ length s.tree.table.words
+  pub kept : (r c : ℕ) → 0 < c → c < columns s.tree.table.width → column s'.tree.table r c ≡ column s.tree.table r c
+
+-- inner rows whose children may be tended, all of them other rows
+pub record MayTendRows (s : Sheet) (kind : RowKind) (made : List NewRow) : Type 0 where
+  pub each : (i : ℕ) (n : NewRow) → slice_get made i ≡ Some n → AreChildren s kind n.row n.count
+  pub apart : (i j : ℕ) (n m : NewRow) (slot slot' : ℕ) → i < j → slice_get made i ≡ Some n → slice_get made j ≡ Some m → slot < n.count → slot' < m.count
+      → child_row s.tree.table kind n.row slot ≢ child_row s.tree.table kind m.row slot'
+
+-- the parent words of all their children name row and slot, and nothing else has changed
+pub record AreRowsTended (s s' : Sheet) (kind : RowKind) (made : List NewRow) : Type 0 where
+  pub only : OnlyParents s s'
+  pub children : (i : ℕ) (n : NewRow) (slot : ℕ) → slice_get made i ≡ Some n → slot < n.count → column s'.tree.table (child_row s.tree.table kind n.row slot) 0 ≡ parent_at n.row slot
+  pub others : (r : ℕ) → ((i : ℕ) (n : NewRow) (slot : ℕ) → slice_get made i ≡ Some n → slot < n.count → child_row s.tree.table kind n.row slot ≢ r) → column s'.tree.table r 0 ≡ column s.tree.table r 0
+
+-- the row that was published in a slot may be tended
+pub record MayTendTop (s : Sheet) (row col word : ℕ) : Type 0 where
+  pub named : named_row word ≡ Some (row_in word)
+  pub at : IsPlace s (row_in word) 0
+  pub live : life_of s (row_in word) ≡ Live
+  pub kept : is_buried s (row_in word) ≡ false
+  pub other : row_in word ≢ row
+  pub slot : slots_of s.tree.table.width Inner ≤ col
+  pub within : col < columns s.tree.table.width
+
+abbrev pub MayTendTopAt : Sheet → Place → ℕ → Type 0
+MayTendTopAt s Root word = Unit {0}
+MayTendTopAt s (Slot row col) word = MayTendTop s row col word
+
+-- its parent word names the row and the slot, and nothing else has changed
+pub record IsTopTended (s s' : Sheet) (row col word : ℕ) : Type 0 where
+  pub only : OnlyParents s s'
+  pub here : column s'.tree.table (row_in word) 0 ≡ parent_at row (col - slots_of s.tree.table.width Inner)
+  pub others : (r : ℕ) → r ≢ row_in word → column s'.tree.table r 0 ≡ column s.tree.table r 0
+
+abbrev pub IsTopTendedAt : Sheet → Sheet → Place → ℕ → Type 0
+IsTopTendedAt s s' Root word = s' ≡ s
+IsTopTendedAt s s' (Slot row col) word = IsTopTended s s' row col word

@@ -1,0 +1,17 @@
+pub mod Beginnings
+pub mod Burying
+pub mod Climbs
+pub mod Endings
+pub mod Ends
+pub mod Levels
+pub mod Progress
+pub mod Publishing
+pub mod Replaced
+pub mod Replacing
+pub mod Runs
+pub mod Seen
+pub mod Splice
+pub mod Stretches
+pub mod TakingIn
+pub mod Work
+pub mod Writes

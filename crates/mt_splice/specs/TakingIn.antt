@@ -1,0 +1,60 @@
+-- The row beside the gathered items, taken in where they are too few, or where a leaf would end with a hole.
+-- Source: the kernel's lib/maple_tree.c, mas_rebalance, which takes the right neighbour first.
+use Rattle.std.specs.Prelude.{◌≡◌, ◌⊎◌, ℕ, suc, ◌-◌, ◌<◌, ◌≤◌, ◌==◌, Bool, false, nat_lt, List, ◌++◌, fold, length, slice_get}
+use Rattle.std.specs.Option.{option_map_or}
+use Rattle.mt_layout.specs.declared.items.Item.{Item}
+use Rattle.mt_layout.specs.declared.names.RowKind.{RowKind}
+use Rattle.mt_layout.specs.declared.names.RowKind.TheVariants.{Leaf, Inner, Gapped}
+use Rattle.mt_layout.specs.Spans.{spans_from, EndsFull}
+use Rattle.mt_leaf.specs.Places.{with_joined}
+use Rattle.mt_rows.specs.Laws.{top_of, kind_at, least_of_kind}
+use Rattle.mt_rows.specs.Sheet.{Sheet}
+use Rattle.mt_rows.specs.Publish.{AreOfKind}
+use Rattle.mt_path.specs.declared.paths.PathStep.{PathStep}
+use Rattle.mt_path.specs.Paths.{step_at}
+use Rattle.mt_splice.specs.Work.{Start, Work, now}
+use Rattle.mt_splice.specs.Climbs.{begin_of, end_of, Gathered}
+use Rattle.mt_splice.specs.Endings.{words_of}
+use Rattle.mt_splice.specs.Runs.{MayBeCut}
+
+abbrev pub is_hole_at : List Item → ℕ → Bool
+is_hole_at items i = option_map_or (λ (x : Item). x.word == 0) (slice_get items i) false
+
+-- too few items for a row of this kind that is not the root
+abbrev pub short_run : RowKind → List Item → Bool
+short_run kind items = nat_lt (length items) (least_of_kind kind)
+
+-- items of a leaf that end with a hole
+abbrev pub holed_run : RowKind → List Item → Bool
+holed_run Leaf items = is_hole_at items (length items - 1)
+holed_run Inner items = false
+holed_run Gapped items = false
+
+-- items in front of others; in leaves two holes that meet are one
+abbrev pub beside_items : RowKind → List Item → List Item → List Item
+beside_items Leaf xs ys = fold with_joined xs ys
+beside_items Inner xs ys = xs ++ ys
+beside_items Gapped xs ys = xs ++ ys
+
+-- the rows have the tree's words as they are now
+pub record IsNow (start : Start) (w : Work) (s : Sheet) : Type 0 where
+  pub rows : s.rows ≡ start.tree.rows
+  pub words : s.tree ≡ words_of (now start w)
+  pub of_kind : AreOfKind s start.tree.kind
+
+-- Few enough items to take in a row beside them, fewer where a leaf may end with a hole; and in inner rows two at the
+-- least where they stand for every index.
+pub record MayWiden (start : Start) (w : Work) (s : Sheet) (kind : RowKind) (left right : List PathStep) (depth height : ℕ) (items : List Item) : Type 0 where
+  pub is_now : IsNow start w s
+  pub of_kind : kind ≡ kind_at start.tree.kind height
+  pub gathered : Gathered start w left right depth height (spans_from (begin_of left depth) items)
+  pub few : length items ≤ 33
+  pub ends : height ≡ 0 → (step_at right depth).max < top_of start.tree → (length items ≤ 18) ⊎ EndsFull (spans_from (begin_of left depth) items)
+  pub two : (h : ℕ) → height ≡ suc h → begin_of left depth ≡ 0 → (step_at right depth).max ≡ top_of start.tree → 2 ≤ length items
+
+-- The items are gathered, and may be cut into rows or stand for every index.
+pub record IsWidened (start : Start) (w : Work) (left right : List PathStep) (depth height : ℕ) (items : List Item) : Type 0 where
+  pub gathered : Gathered start w left right depth height (spans_from (begin_of left depth) items)
+  pub cut : MayBeCut start.tree height (begin_of left depth) (end_of right depth) (spans_from (begin_of left depth) items)
+      ⊎ ((begin_of left depth ≡ 0) × ((step_at right depth).max ≡ top_of start.tree) × (length items ≤ 33))
+  pub two : (h : ℕ) → height ≡ suc h → begin_of left depth ≡ 0 → (step_at right depth).max ≡ top_of start.tree → 2 ≤ length items

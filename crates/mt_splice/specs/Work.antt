@@ -1,0 +1,71 @@
+-- What a replacement begins with, and what it has done so far.
+-- Source: this project's own; the kernel keeps the old and the new nodes in lib/maple_tree.c, struct maple_subtree_state.
+use Rattle.std.specs.Prelude.{◌≡◌, ℕ, ◌≤◌, Bool, true, List}
+use Rattle.mt_base.specs.declared.kinds.Kind.TheVariants as trees
+use Rattle.mt_base.specs.declared.ranges.Range.{Range}
+use Rattle.mt_base.specs.Width.{columns}
+use Rattle.mt_layout.specs.declared.spans.Span.{Span}
+use Rattle.mt_layout.specs.Rows.{row_in}
+use Rattle.mt_rows.specs.Spans.{Table}
+use Rattle.mt_rows.specs.Levels.{level, Levels, times, is_row_of, SameColumns}
+use Rattle.mt_rows.specs.Laws.{Tree, Stands}
+use Rattle.mt_rows.specs.Replacement.{root_of}
+use Rattle.mt_splice.specs.Seen.{Seen, passing}
+
+-- the tree as it was, its height, and the map that is to be
+pub record Start : Type 0 where
+  pub tree : Tree
+  pub height : ℕ
+  pub map : List Range
+
+-- the words now, which rows are in use, and the rows that were taken and those that are gone
+pub record Work : Type 0 where
+  pub words : List ℕ
+  pub used : ℕ → Bool
+  pub taken : List Seen
+  pub gone : List Seen
+
+-- ---- the tree with other words
+
+abbrev pub table_with : Table → List ℕ → Table
+table_with t words = record { width = t.width; words = words }
+
+abbrev pub tree_with : Tree → List ℕ → Tree
+tree_with t words = record { rows = t.rows; kind = t.kind; table = table_with t.table words; root = t.root }
+
+-- the tree by the words now
+abbrev pub now : Start → Work → Tree
+now start s = tree_with start.tree s.words
+
+-- the rows of a level from the left, the root's level being 0
+abbrev pub rows_at : Tree → ℕ → List Span
+rows_at t depth = level t.table depth (root_of t)
+
+-- how many rows of a tree of this height pass a test
+abbrev pub times_in : (ℕ → Span → Bool) → Tree → ℕ → ℕ
+times_in p t h = times p t.table h (root_of t)
+
+-- ---- rows in use, and rows taken
+
+abbrev pub IsUsed : Work → ℕ → Span → Type 0
+IsUsed s h x = s.used (row_in x.word) ≡ true
+
+abbrev pub IsTaken : Work → ℕ → Span → Type 0
+IsTaken s h x = 1 ≤ passing (is_row_of (row_in x.word)) s.taken
+
+-- a row has the words that it had, but for its parent word
+abbrev pub KeepsWords : Tree → List ℕ → List ℕ → ℕ → Type 0
+KeepsWords t words words' row = SameColumns (table_with t.table words) (table_with t.table words') (columns t.table.width) row
+
+-- rows in use stay in use, and keep their words
+pub record Keeps (start : Start) (s s' : Work) : Type 0 where
+  pub used : (row : ℕ) → s.used row ≡ true → s'.used row ≡ true
+  pub words : (row : ℕ) → s.used row ≡ true → KeepsWords start.tree s.words s'.words row
+
+-- The tree is one of ranges. Its rows are in use and have the words that they had, and the rows taken are others.
+pub record Holds (start : Start) (s : Work) : Type 0 where
+  pub range : start.tree.kind ≡ trees.Range
+  pub stands : Stands start.tree start.height
+  pub used : Levels (IsUsed s) start.tree.table start.height (root_of start.tree)
+  pub words : Levels (λ (_ : ℕ) (x : Span). KeepsWords start.tree start.tree.table.words s.words (row_in x.word)) start.tree.table start.height (root_of start.tree)
+  pub taken : (row : ℕ) → 1 ≤ passing (is_row_of row) s.taken → times_in (is_row_of row) start.tree start.height ≡ 0

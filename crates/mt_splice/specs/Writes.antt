@@ -1,0 +1,78 @@
+-- A row written anew, and the items of a row read.
+-- Source: the kernel's lib/maple_tree.c, mab_mas_cp and mas_mab_cp: a node's slots are copied out and written into a new node.
+use Rattle.std.specs.Prelude.{◌≡◌, ◌≢◌, ℕ, ◌+◌, ◌-◌, ◌<◌, ◌≤◌, false, Some, List, [], ◌∷◌, ◌++◌, length, take, drop, slice_index, slice_set}
+use Rattle.mt_base.specs.Width.{columns}
+use Rattle.mt_layout.specs.declared.items.Item.{Item}
+use Rattle.mt_layout.specs.declared.names.RowKind.{RowKind}
+use Rattle.mt_layout.specs.Rows.{name_at, row_in, named_row, parent_at}
+use Rattle.mt_layout.specs.Columns.{row_words, items_at, slot_column}
+use Rattle.mt_free.specs.Book.{Book}
+use Rattle.mt_rows.specs.declared.rows.Life.TheVariants.{Draft, Live}
+use Rattle.mt_rows.specs.Spans.{Table, base_of, column, slots_of, gaps_of}
+use Rattle.mt_rows.specs.Sheet.{Sheet, IsPlace, life_of, is_buried}
+
+-- the first columns of a row are these words, and every other row is as before
+pub record AreDrafted (s s' : Sheet) (row : ℕ) (words : List ℕ) : Type 0 where
+  pub rest : record s' { tree = s.tree; lives = s.lives } ≡ s
+  pub root : s'.tree.root ≡ s.tree.root
+  pub width : s'.tree.table.width ≡ s.tree.table.width
+  pub size : length s'.tree.table.words ≡ length s.tree.table.words
+  pub own : (c : ℕ) → c < length words → column s'.tree.table row c ≡ slice_index words c
+  pub others : (r c : ℕ) → r ≢ row → c < columns s.tree.table.width → column s'.tree.table r c ≡ column s.tree.table r c
+
+-- the parent word of a row that has no parent yet: the root's
+abbrev pub no_parent : ℕ
+no_parent = 1
+
+-- the words of a new row of this kind with these items
+abbrev pub new_words : Table → RowKind → List Item → List ℕ
+new_words t kind items = row_words (columns t.width) (slots_of t.width kind) (gaps_of t.width kind) no_parent items
+
+-- A row was taken from the book and holds the items, a draft; the word names it.
+pub record IsRowWritten (s s' : Sheet) (book book' : Book) (kind : RowKind) (items : List Item) (word : ℕ) : Type 0 where
+  pub row : ℕ
+  pub taken : book ≡ record book' { free = book'.free ++ row ∷ [] }
+  pub named : word ≡ name_at row kind
+  pub drafted : AreDrafted s s' row (new_words s.tree.table kind items)
+  pub lives : s'.lives ≡ slice_set s.lives row Draft
+
+-- the items of a row that covers the indexes up to `max`
+abbrev pub items_of_row : Table → RowKind → ℕ → ℕ → List Item
+items_of_row t kind row max = items_at (slots_of t.width kind) (gaps_of t.width kind) t.words (base_of t row) max
+
+-- of these, those in the slots from `from` to, but without, `to`
+abbrev pub items_between : Table → RowKind → ℕ → ℕ → ℕ → ℕ → List Item
+items_between t kind row max from to = take (to - from) (drop from (items_of_row t kind row max))
+
+-- ---- the parent words of a row's children
+
+abbrev pub child_word : Table → RowKind → ℕ → ℕ → ℕ
+child_word t kind row slot = column t row (slot_column (slots_of t.width kind) slot)
+
+-- the row that the word in a slot names
+abbrev pub child_row : Table → RowKind → ℕ → ℕ → ℕ
+child_row t kind row slot = row_in (child_word t kind row slot)
+
+-- a child whose parent word may be written
+pub record IsChild (s : Sheet) (kind : RowKind) (row slot : ℕ) : Type 0 where
+  pub named : named_row (child_word s.tree.table kind row slot) ≡ Some (child_row s.tree.table kind row slot)
+  pub at : IsPlace s (child_row s.tree.table kind row slot) 0
+  pub live : life_of s (child_row s.tree.table kind row slot) ≡ Live
+  pub kept : is_buried s (child_row s.tree.table kind row slot) ≡ false
+  pub other : child_row s.tree.table kind row slot ≢ row
+
+pub record AreChildren (s : Sheet) (kind : RowKind) (row count : ℕ) : Type 0 where
+  pub first : 16 ≤ row
+  pub last : row < 16 + s.rows
+  pub slots : count ≤ slots_of s.tree.table.width kind
+  pub each : (slot : ℕ) → slot < count → IsChild s kind row slot
+  pub apart : (i j : ℕ) → i < count → j < count → child_row s.tree.table kind row i ≡ child_row s.tree.table kind row j → i ≡ j
+
+-- the parent words of the children in the first slots name this row and the slot, and every other word is as before
+pub record AreTended (s s' : Sheet) (kind : RowKind) (row count : ℕ) : Type 0 where
+  pub rest : record s' { tree = s.tree; reads = s.reads } ≡ s
+  pub root : s'.tree.root ≡ s.tree.root
+  pub width : s'.tree.table.width ≡ s.tree.table.width
+  pub size : length s'.tree.table.words ≡ length s.tree.table.words
+  pub children : (slot : ℕ) → slot < count → column s'.tree.table (child_row s.tree.table kind row slot) 0 ≡ parent_at row slot
+  pub others : (r c : ℕ) → c < columns s.tree.table.width → (c ≡ 0 → (slot : ℕ) → slot < count → child_row s.tree.table kind row slot ≢ r) → column s'.tree.table r c ≡ column s.tree.table r c

@@ -1,0 +1,57 @@
+//! The end of a replacement: one word is published, and the children of rows that are new are tended.
+
+ghost use Rattle.mt_layout.specs.declared.names.RowKind.TheVariants.{Inner};
+ghost use Rattle.mt_splice.specs.Splice.{IsSpliced};
+ghost use Rattle.mt_splice.specs.Ends.{End, MayEnd, MayTendRows, AreRowsTended, MayTendTopAt, IsTopTendedAt};
+
+use crate::reads::slots_in;
+use crate::tends::tend_children;
+use crate::writes::NewRow;
+use mt_base::{Call, Reply};
+use mt_layout::{RowKind, parent_word, row_of};
+use mt_rows::{Place, Rows};
+
+/// Writes the parent words of the children of these inner rows.
+#[tactic(auto, using(crate::proofs::EndTending::no_rows_tended, crate::proofs::EndTending::children_still))]
+fn tend_rows<R: Rows>(rows: &mut R, kind: RowKind, made: &[NewRow])
+    requires { MayTendRows (R.sheet rows.old) kind made.now }
+    ensures { AreRowsTended (R.sheet rows.old) (R.sheet rows.new) kind made.now }
+{
+    for new in made {
+        tend_children(rows, kind, new.row, new.count);
+    }
+}
+
+/// Writes the parent word of the row that was published in a slot.
+#[tactic(auto, using(crate::proofs::EndTending::may_tend_top, crate::proofs::EndTending::top_tended))]
+fn tend_top<R: Rows>(rows: &mut R, place: Place, word: u64)
+    requires { MayTendTopAt (R.sheet rows.old) place word }
+    ensures { IsTopTendedAt (R.sheet rows.old) (R.sheet rows.new) place word }
+{
+    let Place::Slot { row, col } = place else {
+        return;
+    };
+    let Some(top) = row_of(word) else {
+        unreachable!()
+    };
+    rows.size();
+    let slots = slots_in(rows.width(), RowKind::Inner);
+    rows.tend(top, 0, parent_word(row, col - slots));
+}
+
+/// Publishes the replacement by one store, and writes the parent words of all rows that have another parent then.
+pub fn publish_at<R: Rows>(
+    rows: &mut R,
+    place: Place,
+    word: u64,
+    made: &[NewRow],
+    call: &Call,
+    reply: &Reply,
+)
+    requires { (e : End) × MayEnd e (R.sheet rows.old) made.now place word call.now reply.now }
+    ensures { (e : End) → MayEnd e (R.sheet rows.old) made.now place word call.now reply.now → IsSpliced e.before.kind e.before.sheet (R.sheet rows.new) e.before.book e.book e.before.number call.now reply.now place }
+{
+    rows.publish(place, word, call, reply);
+    tend_rows(rows, RowKind::Inner, made);
+    tend_top(rows, place, word);
+}

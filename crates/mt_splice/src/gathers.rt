@@ -1,0 +1,80 @@
+//! What is to stand in the rows of a level, gathered.
+
+ghost use Rattle.std.specs.Prelude.{◌≡◌, ◌<◌, ◌≤◌, ◌+◌, ◌++◌, length, take, drop};
+ghost use Rattle.mt_layout.specs.declared.names.RowKind.TheVariants.{Inner};
+ghost use Rattle.mt_rows.specs.Sheet.{OnlyReads};
+ghost use Rattle.mt_splice.specs.Writes.{items_of_row};
+
+use crate::reads::push_items;
+use mt_layout::{Item, RowKind, Run};
+use mt_path::PathStep;
+use mt_rows::Rows;
+
+/// The most slots that a row has.
+const SLOTS: u32 = 16;
+
+/// Appends items, for which there is room.
+pub fn push_all(run: &mut Run, items: &[Item])
+    requires { length run.old.items + length items.now ≤ 72 }
+    ensures { run.new.items ≡ run.old.items ++ items.now }
+{
+    match run.try_extend_from_slice(items) {
+        Ok(()) => {}
+        Err(_) => unreachable!(),
+    }
+}
+
+/// Appends the items of an inner row of a path that stand behind its slot.
+#[tactic(auto, using(crate::proofs::Gathering::behind_slot))]
+fn push_behind<R: Rows>(rows: &mut R, step: &PathStep, run: &mut Run)
+    requires row { (16 ≤ step.now.row) × (step.now.row < 16 + (R.sheet rows.old).rows) }
+    requires slot { step.now.slot + 1 < length (items_of_row (R.sheet rows.old).tree.table Inner step.now.row step.now.max) }
+    requires room { length run.old.items + 16 ≤ 72 }
+    ensures items { run.new.items ≡ run.old.items ++ drop (step.now.slot + 1) (items_of_row (R.sheet rows.old).tree.table Inner step.now.row step.now.max) }
+    ensures rest { OnlyReads (R.sheet rows.old) (R.sheet rows.new) }
+{
+    push_items(
+        rows,
+        RowKind::Inner,
+        step.row,
+        step.max,
+        step.slot + 1,
+        SLOTS,
+        run,
+    );
+}
+
+/// The items left of the left path's slot, the new ones, which end at `last`, and those right of the right path's slot.
+#[tactic(auto, using(crate::proofs::Gathering::items_ahead, crate::proofs::Gathering::none_behind))]
+pub fn gather<R: Rows>(
+    rows: &mut R,
+    left: &PathStep,
+    new: &[Item],
+    last: u64,
+    right: &PathStep,
+) -> Run
+    requires left_row { (16 ≤ left.now.row) × (left.now.row < 16 + (R.sheet rows.old).rows) }
+    requires right_row { (16 ≤ right.now.row) × (right.now.row < 16 + (R.sheet rows.old).rows) }
+    requires left_slot { left.now.slot ≤ 16 }
+    requires few { length new.now ≤ 3 }
+    requires more { last < right.now.max → right.now.slot + 1 < length (items_of_row (R.sheet rows.old).tree.table Inner right.now.row right.now.max) }
+    requires none { right.now.max ≤ last → length (items_of_row (R.sheet rows.old).tree.table Inner right.now.row right.now.max) ≤ right.now.slot + 1 }
+    ensures items { let t = (R.sheet rows.old).tree.table in result.items ≡ take left.now.slot (items_of_row t Inner left.now.row left.now.max) ++ (new.now ++ drop (right.now.slot + 1) (items_of_row t Inner right.now.row right.now.max)) }
+    ensures rest { OnlyReads (R.sheet rows.old) (R.sheet rows.new) }
+{
+    let mut run = Run::new();
+    push_items(
+        rows,
+        RowKind::Inner,
+        left.row,
+        left.max,
+        0,
+        left.slot,
+        &mut run,
+    );
+    push_all(&mut run, new);
+    if last < right.max {
+        push_behind(rows, right, &mut run);
+    }
+    run
+}

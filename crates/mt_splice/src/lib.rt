@@ -1,0 +1,18 @@
+//! The replacement of nodes: a store replaces rows on as many levels as must change, and one store of one word publishes
+//! it.
+#![tactic(auto)]
+
+mod ascends;
+mod begins;
+mod beside;
+mod ends;
+mod gathers;
+pub mod laws;
+mod levels;
+mod reads;
+mod replaces;
+mod splices;
+mod tends;
+mod writes;
+
+pub use splices::splice;

@@ -1,0 +1,72 @@
+//! The items of a row read from the rows of a tree.
+
+ghost use Rattle.std.specs.Prelude.{◌≡◌, ◌≢◌, ◌<◌, ◌≤◌, ◌+◌, ◌-◌, [], ◌∷◌, ◌++◌, nat_lt, length, take, if◌then◌else◌};
+ghost use Rattle.mt_layout.specs.Columns.{item_at, items_from, pivot_column};
+ghost use Rattle.mt_rows.specs.Spans.{base_of, column, slots_of, gaps_of};
+ghost use Rattle.mt_rows.specs.Sheet.{OnlyReads};
+
+use mt_base::Width;
+use mt_layout::{Item, RowKind, Run};
+use mt_rows::Rows;
+use std::ops::Range;
+
+/// How many slots a row of this kind has.
+pub fn slots_in(width: Width, kind: RowKind) -> u32
+    ensures { result ≡ slots_of width kind }
+{
+    match (width, kind) {
+        (Width::Long, RowKind::Leaf | RowKind::Inner) => 16,
+        (Width::Long, RowKind::Gapped) => 10,
+    }
+}
+
+/// The item in a slot of a row that covers the indexes up to `max`.
+fn load_item<R: Rows>(rows: &mut R, kind: RowKind, row: u32, max: u64, slot: u32) -> Item
+    requires first { 16 ≤ row }
+    requires last { row < 16 + (R.sheet rows.old).rows }
+    requires slot { slot < slots_of (R.sheet rows.old).tree.table.width kind }
+    ensures item { let t = (R.sheet rows.old).tree.table in result ≡ item_at (slots_of t.width kind) (gaps_of t.width kind) t.words (base_of t row) slot result.last }
+    ensures last { let t = (R.sheet rows.old).tree.table in result.last ≡ (if nat_lt (slot + 1) (slots_of t.width kind) then column t row (pivot_column slot) else max) }
+    ensures rest { OnlyReads (R.sheet rows.old) (R.sheet rows.new) }
+{
+    let slots = slots_in(rows.width(), kind);
+    let last = if slot + 1 < slots {
+        rows.load(row, 1 + slot)
+    } else {
+        max
+    };
+    let word = rows.load(row, slots + slot);
+    let gap = match kind {
+        RowKind::Leaf | RowKind::Inner => 0,
+        RowKind::Gapped => rows.load(row, 2 * slots + slot),
+    };
+    Item { last, word, gap }
+}
+
+/// Appends the items of a row that covers the indexes up to `max`, from one slot up to, but without, another, or to the
+/// row's last item.
+#[tactic(auto, using(crate::proofs::Readings::one_more_read, crate::proofs::Readings::last_read, crate::proofs::Readings::all_read))]
+pub fn push_items<R: Rows>(
+    rows: &mut R,
+    kind: RowKind,
+    row: u32,
+    max: u64,
+    from: u32,
+    to: u32,
+    run: &mut Run,
+)
+    requires first { 16 ≤ row }
+    requires last { row < 16 + (R.sheet rows.old).rows }
+    requires room { length run.old.items + (to - from) ≤ 72 }
+    ensures items { let t = (R.sheet rows.old).tree.table in run.new.items ≡ run.old.items ++ take (to - from) (items_from (slots_of t.width kind) (gaps_of t.width kind) t.words (base_of t row) max (slots_of t.width kind - from) from) }
+    ensures rest { OnlyReads (R.sheet rows.old) (R.sheet rows.new) }
+{
+    let end = to.min(slots_in(rows.width(), kind));
+    for slot in from..end {
+        let item = load_item(rows, kind, row, max, slot);
+        run.push(item);
+        if max <= item.last {
+            return;
+        }
+    }
+}
