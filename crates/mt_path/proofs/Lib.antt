@@ -7,3 +7,4 @@ pub mod Entering
 pub mod Walking
 pub mod Empty
 pub mod Bounds
+pub mod PlantedLeaves

@@ -1,11 +1,12 @@
-ghost use Rattle.std.specs.Prelude.{◌≡◌, IfOk, length};
+ghost use Rattle.std.specs.Prelude.{◌≡◌, IfOk, slice_index};
+ghost use Rattle.std.specs.List.{fold, range_with_len};
 ghost use Rattle.mt_base.specs.declared.kinds.Kind.TheVariants as trees;
 ghost use Rattle.mt_rows.specs.Publish.{IsTreeOf};
-ghost use Rattle.mt_path.specs.Frozen.{frozen};
+ghost use Rattle.mt_rows.specs.Sheet.{IsPlace, IsFree, life_of, drafted};
 
 use crate::{Path, PathStep, left_at, right_at, walk};
-use mt_base::{Call, NoMemory, Reply, Width};
-use mt_rows::{Place, PlainRows, Rows, Scan};
+use mt_base::NoMemory;
+use mt_rows::{PlainRows, Rows};
 use std::alloc::Global;
 use std::process::Abort;
 use std::test::Fail;
@@ -40,64 +41,27 @@ const RIGHT: [u64; 32] = [
     4096, 4096, 4096, 4096, 4096, 0, 0, 0, 0, 0, 0, 0, 0, 0, 0, 0,
 ];
 
-/// Three rows that are only read: no call can begin, and no row can be written.
-#[derive(Drop)]
-struct FrozenRows {
-    words: Vec<u64>,
-    root: u64,
-    ghost whole: { length words.items ≡ 608 },
-}
-
-impl Rows for FrozenRows {
-    ghost use Rattle.mt_path.specs.Frozen.{frozen};
-
-    ghost sheet = { λ rows. frozen rows.words.items rows.root };
-
-    fn size(&self) -> u64 {
-        3
+/// Drafts each column of a row.
+fn draft_row(rows: &mut PlainRows, row: u32, words: &[u64; 32])
+    requires place { IsPlace rows.old row 0 }
+    requires free { IsFree rows.old.cleared (life_of rows.old row) }
+    ensures { rows.new ≡ fold (λ s col. drafted s row col (slice_index words.now col)) rows.old (range_with_len 0 32) }
+{
+    for col in 0..32 {
+        rows.draft(row, col, words[col as usize]);
     }
-
-    fn width(&self) -> Width {
-        Width::Long
-    }
-
-    fn load(&mut self, row: u32, col: u32) -> u64 {
-        let column = 32 * row as usize + col as usize;
-        self.words.get(column).copied().unwrap_or(0)
-    }
-
-    fn root(&mut self) -> u64 {
-        self.root
-    }
-
-    fn begin(&mut self) -> u64 {
-        0
-    }
-
-    fn scan(&mut self) -> Scan {
-        Scan { least: 0, by: None }
-    }
-
-    fn draft(&mut self, _row: u32, _col: u32, _word: u64) {}
-
-    fn bury(&mut self, _row: u32) {}
-
-    fn tend(&mut self, _row: u32, _col: u32, _word: u64) {}
-
-    fn publish(&mut self, _place: Place, _word: u64, _call: &Call, _reply: &Reply) {}
-
-    fn finish(&mut self, _call: &Call, _reply: &Reply) {}
 }
 
 /// An allocation tree: the row 16 with the leaves 17 and 18.
-fn two_leaves(alloc: Global) -> Result<FrozenRows, NoMemory>
-    ensures { IfOk result (λ rows. IsTreeOf (frozen rows.words.items rows.root) trees.Alloc) }
+fn two_leaves(alloc: Global) -> Result<PlainRows, NoMemory>
+    ensures { IfOk result (λ rows. IsTreeOf rows trees.Alloc) }
 {
-    let mut words = vec![in alloc; 0; 512]?;
-    words.extend_from_slice(&INNER)?;
-    words.extend_from_slice(&LEFT)?;
-    words.extend_from_slice(&RIGHT)?;
-    Ok(FrozenRows { words, root: 4124 })
+    let mut rows = PlainRows::new(alloc, 3)?;
+    draft_row(&mut rows, 16, &INNER);
+    draft_row(&mut rows, 17, &LEFT);
+    draft_row(&mut rows, 18, &RIGHT);
+    rows.plant(4124);
+    Ok(rows)
 }
 
 fn step(row: u32, slot: u32, min: u64, max: u64) -> PathStep {
