@@ -13,6 +13,7 @@ use Rattle.mt_rows.specs.Sheet.{Sheet, OnlyReads}
 use Rattle.mt_path.specs.declared.paths.PathStep.{PathStep}
 use Rattle.mt_path.specs.Paths.{step_at, At}
 use Rattle.mt_path.proofs.TreePaths.{row_of, child}
+use Rattle.mt_rows.proofs.SlotWords.{length-spans_from}
 use Rattle.mt_splice.specs.Work.{Start, Work, now, Holds}
 use Rattle.mt_splice.specs.Stretches.{spans_on}
 use Rattle.mt_splice.specs.Climbs.{begin_of, end_of, Climbed}
@@ -22,7 +23,6 @@ use Rattle.mt_splice.specs.Replacing.{MayRise}
 use Rattle.mt_splice.proofs.LevelRows.{fills_end, last_ends}
 use Rattle.mt_splice.proofs.Rises.{step_here, spans_here, level_left}
 use Rattle.mt_splice.proofs.Runs.{left_few, slot_used, few_gathered, two_gathered}
-use Rattle.mt_splice.proofs.TakenIn.{length-spans}
 use Rattle.mt_splice.proofs.Widens.{now_read, table_now, row_number, deep_enough, spans_by_items}
 
 -- ---- items and their spans
@@ -133,7 +133,7 @@ module _ (start : Start) (w : Work) (s : Sheet) (left right : List PathStep) (de
       let at = right_at.slot in
       let same = ap length (spans_here start w holds right to climbed.paths.within climbed.paths.is_right depth (suc height) levels_here ∙ right_at.parts) in
       let items = ap length right_are in
-      omega (arith, slot, at, same, items, length-spans (step_at right depth).min right_items, length-append right_at.front (row_of start.tree (suc depth) to ∷ right_at.back))
+      omega (arith, slot, at, same, items, length-spans_from (step_at right depth).min right_items, length-append right_at.front (row_of start.tree (suc depth) to ∷ right_at.back))
 
   ends_above : (step_at right depth).max ≡ (row_of start.tree depth to).last
   ends_above = ap (λ (z : PathStep). z.max) (step_here start w holds right to climbed.paths.within climbed.paths.is_right depth (suc height) levels_here)
@@ -174,11 +174,11 @@ module _ (start : Start) (w : Work) (s : Sheet) (left right : List PathStep) (de
         ∙ spans_from-items_of (begin_of left depth) (end_of right depth) gathered_spans (level_left start w left right depth height new_spans climbed gathered_spans refl).fills
 
     count_run : length run ≡ length gathered_spans
-    count_run = sym (length-spans (begin_of left depth) run) ∙ ap length spans_are
+    count_run = sym (length-spans_from (begin_of left depth) run) ∙ ap length spans_are
 
     not_one : (x : Span) → new_spans ≡ x ∷ [] → x.first ≡ 0 → x.last ≡ top_of start.tree → ⊥
     not_one x one first last =
-        let count : length new ≡ 1 = sym (length-spans (begin_of left (suc depth)) new) ∙ ap length one in
+        let count : length new ≡ 1 = sym (length-spans_from (begin_of left (suc depth)) new) ∙ ap length one in
         let fills = subst (Fills (begin_of left (suc depth)) (end_of right (suc depth))) one climbed.fills in
         let begins = fills.0 in let ends = fills.2 in
         may.goes_on (inr (count, inr ((omega arith), (omega arith))))
@@ -189,7 +189,7 @@ module _ (start : Start) (w : Work) (s : Sheet) (left right : List PathStep) (de
       of_kind = kind_here;
       gathered = level_left start w left right depth height new_spans climbed (spans_from (begin_of left depth) run) spans_are;
       few =
-          let few = few_gathered start w left right depth height new_spans climbed (let few = may.few in let same = length-spans (begin_of left (suc depth)) new in omega arith) in
+          let few = few_gathered start w left right depth height new_spans climbed (let few = may.few in let same = length-spans_from (begin_of left (suc depth)) new in omega arith) in
           let same = count_run in omega arith;
       ends = λ leaf. absurd (omega arith);
       two = λ h high first last.

@@ -7,6 +7,7 @@ use Rattle.mt_layout.specs.Spans.{spans_from}
 use Rattle.mt_free.specs.Book.{Book}
 use Rattle.mt_rows.specs.Sheet.{Sheet}
 use Rattle.mt_path.specs.declared.paths.PathStep.{PathStep}
+use Rattle.mt_rows.proofs.SlotWords.{length-spans_from}
 use Rattle.mt_splice.specs.declared.writes.NewRow.{NewRow}
 use Rattle.mt_splice.specs.Work.{Start, Work}
 use Rattle.mt_splice.specs.Climbs.{begin_of}
@@ -14,7 +15,6 @@ use Rattle.mt_splice.specs.Progress.{Before, row_seen}
 use Rattle.mt_splice.specs.Levels.{MayRewriteLevel, IsLevelRewritten}
 use Rattle.mt_splice.specs.Replacing.{MayReplaceRows, AreRowsReplaced}
 use Rattle.mt_splice.proofs.LevelEnds.{notes_few}
-use Rattle.mt_splice.proofs.LevelRuns.{length-spans}
 use Rattle.mt_splice.proofs.Runs.{some_climbed}
 
 module _ (b : Before) (start : Start) (s : Sheet) (book : Book) (w : Work) (made : List NewRow) (kind : RowKind) (left right : List PathStep) (depth height : ℕ) (items : List Item) (number : ℕ)
@@ -62,6 +62,6 @@ module _ (b : Before) (start : Start) (s : Sheet) (book : Book) (w : Work) (made
           omega arith;
     };
     climbed = done.climbed;
-    some = let some = some_climbed start w' left right depth height (spans_from (begin_of left depth) new) done.climbed in let same = length-spans (begin_of left depth) new in omega arith;
+    some = let some = some_climbed start w' left right depth height (spans_from (begin_of left depth) new) done.climbed in let same = length-spans_from (begin_of left depth) new in omega arith;
     few = few;
   }

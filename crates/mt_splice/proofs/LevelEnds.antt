@@ -28,6 +28,7 @@ use Rattle.mt_rows.proofs.Reached.{height_is}
 use Rattle.mt_path.specs.declared.paths.PathStep.{PathStep}
 use Rattle.mt_path.specs.Paths.{step_at}
 use Rattle.mt_path.proofs.TreePaths as paths
+use Rattle.mt_rows.proofs.SlotWords.{length-spans_from}
 use Rattle.mt_splice.specs.declared.writes.NewRow.{NewRow}
 use Rattle.mt_splice.specs.Seen.{Seen, passing}
 use Rattle.mt_splice.specs.Work.{Start, Work, now, Holds}
@@ -42,7 +43,6 @@ use Rattle.mt_splice.specs.Replacing.{IsCase, IsAnswer, IsUnderWay, AreRowsRepla
 use Rattle.mt_splice.proofs.Steps.{rows_now}
 use Rattle.mt_splice.proofs.Written.{holds_written, are_taken}
 use Rattle.mt_splice.proofs.Gathering.{few_items}
-use Rattle.mt_splice.proofs.LevelRuns.{length-spans}
 use Rattle.mt_splice.proofs.EndForms as forms
 use Rattle.mt_splice.proofs.RootEndings as roots
 use Rattle.mt_splice.proofs.SlotEnding as slots
@@ -77,7 +77,7 @@ spans_few t None x = omega arith
 spans_few t (Some kind) x =
     let most = few_items (slots_of t.width kind) (gaps_of t.width kind) t.words (base_of t (row_in x.word)) x.last (slots_of t.width kind) 0 in
     let few = slots_few t.width kind in
-    let long = length-spans x.first (items_at (slots_of t.width kind) (gaps_of t.width kind) t.words (base_of t (row_in x.word)) x.last) in
+    let long = length-spans_from x.first (items_at (slots_of t.width kind) (gaps_of t.width kind) t.words (base_of t (row_in x.word)) x.last) in
     omega arith
 
 notes_by : (h : ℕ) (t : Table) (s : Seen) → length (new_row_by h t s) ≤ 1
@@ -221,9 +221,9 @@ module _ (b : Before) (start : Start) (s : Sheet) (book : Book) (w : Work) (made
     free = free_left;
     run = record {
       fills = may.rows.climbed.fills;
-      some = let some = may.rows.some in let same = length-spans from new in omega arith;
-      few = let few = may.rows.few in let same = length-spans from new in omega arith;
-      least = let is = ap (λ (c : Bool). if c then 2 else least_of_kind (kind_at start.tree.kind (suc height))) covers in let two = may.two in let same = length-spans from new in omega arith;
+      some = let some = may.rows.some in let same = length-spans_from from new in omega arith;
+      few = let few = may.rows.few in let same = length-spans_from from new in omega arith;
+      least = let is = ap (λ (c : Bool). if c then 2 else least_of_kind (kind_at start.tree.kind (suc height))) covers in let two = may.two in let same = length-spans_from from new in omega arith;
       gapless = may.rows.climbed.gapless;
       fit = tt;
       leaves = λ none. absurd (omega arith);

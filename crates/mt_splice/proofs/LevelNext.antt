@@ -17,6 +17,7 @@ use Rattle.mt_rows.specs.Sheet as sheet
 use Rattle.mt_rows.specs.Publish.{AreOfKind}
 use Rattle.mt_path.specs.declared.paths.PathStep.{PathStep}
 use Rattle.mt_path.specs.Paths.{step_at}
+use Rattle.mt_rows.proofs.SlotWords.{length-spans_from}
 use Rattle.mt_splice.specs.declared.writes.NewRow.{NewRow}
 use Rattle.mt_splice.specs.Work.{Start, Work}
 use Rattle.mt_splice.specs.Climbs.{begin_of, end_of, Gathered, Climbed}
@@ -27,7 +28,6 @@ use Rattle.mt_splice.specs.TakingIn.{IsNow, MayWiden, IsWidened}
 use Rattle.mt_splice.specs.Replacing.{IsUnderWay, MayReplaceRows, AreRowsReplaced, MayRise, MayReplaceLevel, MayEndWithNothing, MayEndLevel, EndsHere, words_in}
 use Rattle.mt_splice.proofs.EndForms.{now_is}
 use Rattle.mt_splice.proofs.LevelPaths.{is_tree_now}
-use Rattle.mt_splice.proofs.LevelRuns.{length-spans}
 use Rattle.mt_splice.proofs.Runs.{some_gathered, leaves_hold_an_entry, cut_whole}
 use Rattle.mt_splice.proofs.Steps.{rows_now, progress_reads}
 use Rattle.mt_splice.proofs.Widens.{leaf_height, deep_enough}
@@ -101,7 +101,7 @@ module _ (b : Before) (start : Start) (s : sheet.Sheet) (book : Book) (w : Work)
     module _ (not : kind ≡ Leaf → begin_of left₁ depth ≡ 0 → (step_at right₁ depth).max ≡ greatest width → words_in items₁ ≡ 0 ∷ [] → ⊥) where
       enough : begin_of left₁ depth ≡ 0 → (step_at right₁ depth).max ≡ top_of start.tree → (n : ℕ) → height ≡ n → least_of_root n ≤ length spans
       enough first last zero is = some_gathered start w left₁ right₁ depth height spans wide.gathered
-      enough first last (suc h) is = let two = wide.two h is first last in let same = length-spans (begin_of left₁ depth) items₁ in omega arith
+      enough first last (suc h) is = let two = wide.two h is first last in let same = length-spans_from (begin_of left₁ depth) items₁ in omega arith
 
       some_entry : begin_of left₁ depth ≡ 0 → (step_at right₁ depth).max ≡ top_of start.tree → height ≡ 0 → flat_map leaf_range spans ≡ [] → ⊥
       some_entry first last leaf =
@@ -113,7 +113,7 @@ module _ (b : Before) (start : Start) (s : sheet.Sheet) (book : Book) (w : Work)
       cut =
           ⊎_elim (λ (cut : MayBeCut start.tree height (begin_of left₁ depth) (end_of right₁ depth) spans). cut)
           (λ (whole : (begin_of left₁ depth ≡ 0) × ((step_at right₁ depth).max ≡ top_of start.tree) × (length items₁ ≤ 33)).
-          let few : length spans ≤ 33 = (let few = whole.2 in let same = length-spans (begin_of left₁ depth) items₁ in omega arith) in
+          let few : length spans ≤ 33 = (let few = whole.2 in let same = length-spans_from (begin_of left₁ depth) items₁ in omega arith) in
           cut_whole start w left₁ right₁ depth height spans wide.gathered few whole.0 whole.1 (enough whole.0 whole.1 height refl) (some_entry whole.0 whole.1)) wide.cut
 
       pub rows_may_be_replaced : MayReplaceRows b start s₁ book w made kind left₁ right₁ depth height items₁ number

@@ -27,6 +27,7 @@ use Rattle.mt_rows.specs.Sheet.{Sheet}
 use Rattle.mt_rows.specs.Publish.{is_reached}
 use Rattle.mt_rows.proofs.Frames.{same_spans}
 use Rattle.mt_rows.proofs.Lists.{fills_le}
+use Rattle.mt_rows.proofs.SlotWords.{length-spans_from}
 use Rattle.mt_splice.specs.declared.writes.NewRow.{NewRow}
 use Rattle.mt_splice.specs.Seen.{Seen}
 use Rattle.mt_splice.specs.Work.{Start, Work, now, Keeps}
@@ -35,7 +36,7 @@ use Rattle.mt_splice.specs.Progress.{Before, IsBefore, IsProgress, row_seen, is_
 use Rattle.mt_splice.specs.Climbs.{AreWritten, MayBeIn}
 use Rattle.mt_splice.specs.Runs.{MayBeLeaves, span_to}
 use Rattle.mt_splice.specs.Levels.{MayWriteRow, IsOneWritten, noted}
-use Rattle.mt_splice.proofs.LevelRuns.{IsRun, some_items, length-spans}
+use Rattle.mt_splice.proofs.LevelRuns.{IsRun, some_items}
 use Rattle.mt_splice.proofs.WrittenRows.{IsNewRow, new_named, new_spans, new_unused}
 use Rattle.mt_splice.proofs.StepSeen.{was_seen, seen_here, seen_more}
 use Rattle.mt_splice.proofs.Steps.{row_named, table_now, with_taken, row_number, row_was_unused, progress_taken, keeps_taken}
@@ -125,7 +126,7 @@ module _ (t : Tree) (height lo hi : ℕ) (kind : RowKind) (row : ℕ) (items : L
   holes (suc h) fit leaves = tt
 
   length_is : length (spans_in t.table at) ≡ length items
-  length_is = ap length spans ∙ length-spans lo items
+  length_is = ap length spans ∙ length-spans_from lo items
 
   spans_long : length (spans_in t.table at) ≡ length (spans_from lo items)
   spans_long = ap length spans
@@ -247,7 +248,7 @@ module _ (b : Before) (start : Start) (s s' : Sheet) (book book' : Book) (w : Wo
 
   noted_is : (h : ℕ) (k : RowKind) → k ≡ kind_at start.tree.kind h → noted k word (length items) ≡ new_row_by h s'.tree.table new_seen
   noted_is zero k is = ap (λ (k : RowKind). noted k word (length items)) is
-  noted_is (suc h) k is = ap (λ (k : RowKind). noted k word (length items)) is ∙ (inner start.tree.kind ∙ ap (λ (n : ℕ). record { row = row_in word; count = n } ∷ []) (sym (length-spans lo items) ∙ sym (ap length spans_then)))
+  noted_is (suc h) k is = ap (λ (k : RowKind). noted k word (length items)) is ∙ (inner start.tree.kind ∙ ap (λ (n : ℕ). record { row = row_in word; count = n } ∷ []) (sym (length-spans_from lo items) ∙ sym (ap length spans_then)))
     where
       inner : (tree : Kind) → noted (inner_kind tree) word (length items) ≡ record { row = row_in word; count = length items } ∷ []
       inner Range = refl

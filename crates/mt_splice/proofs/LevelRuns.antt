@@ -13,6 +13,7 @@ use Rattle.mt_layout.specs.Spans.{spans_from, leaf_range, Fills, Apart, BeginsFu
 use Rattle.mt_leaf.specs.Cuts.{word_of, IsPiece, ArePieces, IsCut}
 use Rattle.mt_rows.specs.Laws.{Tree, top_of, kind_at, least_of, least_of_root, least_of_kind, covers_all}
 use Rattle.mt_rows.proofs.Lists.{all_front, all_back}
+use Rattle.mt_rows.proofs.SlotWords.{length-spans_from}
 use Rattle.mt_splice.specs.Climbs.{MayBeIn}
 use Rattle.mt_splice.specs.Runs.{MayBeLeaves, span_to, MayBeCut}
 
@@ -86,17 +87,13 @@ ends_full lo zero (x ∷ y ∷ xs) at full = absurd (omega arith)
 ends_full lo (suc k) (x ∷ []) at full = absurd (omega arith)
 ends_full lo (suc k) (x ∷ y ∷ xs) at full = ends_full (x.last + 1) k (y ∷ xs) (omega arith) full
 
-pub length-spans : (lo : ℕ) (xs : List Item) → length (spans_from lo xs) ≡ length xs
-length-spans lo [] = refl
-length-spans lo (x ∷ xs) = ap suc (length-spans (x.last + 1) xs)
-
 -- ---- a part of the items
 
 abbrev pub IsRun : Tree → ℕ → ℕ → ℕ → List Item → Type 0
 IsRun t height lo hi items = MayBeCut t height lo hi (spans_from lo items)
 
 pub some_items : (t : Tree) (height lo hi : ℕ) (items : List Item) → IsRun t height lo hi items → 1 ≤ length items
-some_items t height lo hi items run = subst (λ (n : ℕ). 1 ≤ n) (length-spans lo items) run.some
+some_items t height lo hi items run = subst (λ (n : ℕ). 1 ≤ n) (length-spans_from lo items) run.some
 
 least_is_few : (t : Tree) (height n : ℕ) (x : Span) → least_of_kind (kind_at t.kind height) ≤ n → 2 ≤ n → least_of t height x ≤ n
 least_is_few t height n x least two = by (covers_all t x) (of_root height)
@@ -130,7 +127,7 @@ module _ (t : Tree) (height lo hi : ℕ) (front part back : List Item) (run : Is
   apart_part apart = apart_front (spans_from begin part) (spans_from end back) (apart_back (spans_from lo front) (spans_from begin part ++ spans_from end back) (subst Apart parts_are apart))
 
   long : 2 ≤ length (spans_from begin part)
-  long = subst (λ (n : ℕ). 2 ≤ n) (sym (length-spans begin part)) two
+  long = subst (λ (n : ℕ). 2 ≤ n) (sym (length-spans_from begin part)) two
 
   ends_part : height ≡ 0 → (back' : List Item) → back ≡ back' → (hi ≤ top_of t → EndsFull (spans_from lo (front ++ (part ++ back)))) → end ≤ top_of t → EndsFull (spans_from begin part)
   ends_part is [] none ends below =
@@ -146,7 +143,7 @@ module _ (t : Tree) (height lo hi : ℕ) (front part back : List Item) (run : Is
 
   few_in_part : length (spans_from begin part) ≤ 45
   few_in_part =
-      let few = run.few in let all = length-spans lo (front ++ (part ++ back)) in let here = length-spans begin part in
+      let few = run.few in let all = length-spans_from lo (front ++ (part ++ back)) in let here = length-spans_from begin part in
       let long = length-append front (part ++ back) in let rest = length-append part back in
       omega arith
 
@@ -161,7 +158,7 @@ module _ (t : Tree) (height lo hi : ℕ) (front part back : List Item) (run : Is
     fills = fills_all.0;
     some = let l = long in omega arith;
     few = few_in_part;
-    least = subst (λ (n : ℕ). least_of t height (span_to begin end) ≤ n) (sym (length-spans begin part)) (least_is_few t height (length part) (span_to begin end) least two);
+    least = subst (λ (n : ℕ). least_of t height (span_to begin end) ≤ n) (sym (length-spans_from begin part)) (least_is_few t height (length part) (span_to begin end) least two);
     gapless = of_part (λ (x : Span). x.gap ≡ 0) run.gapless;
     fit = fit_part height run.fit;
     leaves = leaves_part;

@@ -18,6 +18,7 @@ use Rattle.mt_rows.specs.Spans.{slots_of, inner_kind}
 use Rattle.mt_rows.specs.Laws.{IsRow, kind_at, least_of_kind}
 use Rattle.mt_rows.specs.Sheet.{Sheet}
 use Rattle.mt_rows.proofs.Lists.{all_join, all_map, tally-append, expand-append, fills-append}
+use Rattle.mt_rows.proofs.SlotWords.{length-spans_from}
 use Rattle.mt_splice.specs.declared.writes.NewRow.{NewRow}
 use Rattle.mt_splice.specs.Work.{Start, Work, now, IsUsed}
 use Rattle.mt_splice.specs.Climbs.{AreWritten}
@@ -27,7 +28,7 @@ use Rattle.mt_splice.specs.Levels.{MayWriteRow, IsOneWritten, MayWriteRows, AreR
 use Rattle.mt_splice.proofs.Moments.{keeps_none, keeps_more}
 use Rattle.mt_splice.proofs.Written.{still_hold, still_lawful, still_in_use}
 use Rattle.mt_splice.proofs.StepSeen.{not_both}
-use Rattle.mt_splice.proofs.LevelRuns.{after, after-append, spans-append, apart_anywhere, part_of, AreParts, take_part, length-spans, length-part, cut_makes_parts}
+use Rattle.mt_splice.proofs.LevelRuns.{after, after-append, spans-append, apart_anywhere, part_of, AreParts, take_part, length-part, cut_makes_parts}
 
 -- ---- more spans are written
 
@@ -156,7 +157,7 @@ pub few_enough : (b : Before) (start : Start) (s : Sheet) (book : Book) (w : Wor
 few_enough b start s book w kind height lo hi items made may = by s.tree.table.width height start.tree.kind may.range may.of_kind
   where
     few : length items ≤ 45
-    few = let few = may.run.few in let long = length-spans lo items in omega arith
+    few = let few = may.run.few in let long = length-spans_from lo items in omega arith
 
     by : (v : Width) (h : ℕ) (tree : Kind) → tree ≡ Range → kind ≡ kind_at tree h → length items + 3 ≤ 3 * slots_of v kind
     by Long zero tree range is = subst (λ (k : RowKind). length items + 3 ≤ 3 * slots_of Long k) (sym is) (let few = few in omega arith)

@@ -15,12 +15,9 @@ use Rattle.mt_leaf.proofs.Joined.{fills_joined, joined_apart, length_joined, len
 use Rattle.mt_leaf.proofs.Pushes.{all_pushed}
 use Rattle.mt_leaf.proofs.Counts.{ends_joined, ends-append}
 use Rattle.mt_rows.specs.Laws.{kind_at}
+use Rattle.mt_rows.proofs.SlotWords.{length-spans_from}
 use Rattle.mt_splice.specs.Climbs.{MayBeIn, beside}
 use Rattle.mt_splice.specs.TakingIn.{is_hole_at, beside_items}
-
-pub length-spans : (first : ℕ) (items : List Item) → length (spans_from first items) ≡ length items
-length-spans first [] = refl
-length-spans first (x ∷ items) = ap (λ (n : ℕ). suc n) (length-spans (x.last + 1) items)
 
 -- what spans end with does not depend on where they begin
 pub ends_from : (first first' : ℕ) (items : List Item) → ends_with_hole (spans_from first items) ≡ ends_with_hole (spans_from first' items)
@@ -77,17 +74,17 @@ module _ (lo middle hi : ℕ) (items row : List Item) (here : Fills lo middle (s
   beside_spans trees.Alloc (suc height) fit = in_inner
 
   beside_length : (tree : Kind) (height : ℕ) → MayBeIn height xs → length (beside_items (kind_at tree height) items row) ≡ length (beside height xs ys)
-  beside_length tree height fit = sym (length-spans lo (beside_items (kind_at tree height) items row)) ∙ ap length (beside_spans tree height fit)
+  beside_length tree height fit = sym (length-spans_from lo (beside_items (kind_at tree height) items row)) ∙ ap length (beside_spans tree height fit)
 
   beside_most : (height : ℕ) → length (beside height xs ys) ≤ length items + length row
   beside_most zero =
-      let most = length_joined (xs ++ ys) in let both = length-append xs ys in let first = length-spans lo items in let then = length-spans middle row in omega arith
-  beside_most (suc height) = let both = length-append xs ys in let first = length-spans lo items in let then = length-spans middle row in omega arith
+      let most = length_joined (xs ++ ys) in let both = length-append xs ys in let first = length-spans_from lo items in let then = length-spans_from middle row in omega arith
+  beside_most (suc height) = let both = length-append xs ys in let first = length-spans_from lo items in let then = length-spans_from middle row in omega arith
 
   beside_least : (height : ℕ) → MayBeIn height xs → MayBeIn height ys → length items + length row ≤ length (beside height xs ys) + 1
   beside_least zero fit fit' =
-      let least = length_joins xs ys fit.0 fit'.0 in let first = length-spans lo items in let then = length-spans middle row in omega arith
-  beside_least (suc height) fit fit' = let both = length-append xs ys in let first = length-spans lo items in let then = length-spans middle row in omega arith
+      let least = length_joins xs ys fit.0 fit'.0 in let first = length-spans_from lo items in let then = length-spans_from middle row in omega arith
+  beside_least (suc height) fit fit' = let both = length-append xs ys in let first = length-spans_from lo items in let then = length-spans_from middle row in omega arith
 
   pub most_beside : (tree : Kind) (height : ℕ) → MayBeIn height xs → length (beside_items (kind_at tree height) items row) ≤ length items + length row
   most_beside tree height fit = let same = beside_length tree height fit in let most = beside_most height in omega arith

@@ -22,6 +22,7 @@ use Rattle.mt_path.specs.declared.paths.PathStep.{PathStep}
 use Rattle.mt_path.specs.Paths.{step_at, path_in}
 use Rattle.mt_path.proofs.Places.{at_within}
 use Rattle.mt_path.proofs.TreePaths.{row_of, levels, right_begins, left_ends}
+use Rattle.mt_rows.proofs.SlotWords.{length-spans_from}
 use Rattle.mt_splice.specs.Work.{Start, Work, now, rows_at, Holds}
 use Rattle.mt_splice.specs.Stretches.{spans_on}
 use Rattle.mt_splice.specs.Climbs.{begin_of, end_of, MayBeIn, beside, Gathered}
@@ -32,7 +33,7 @@ use Rattle.mt_splice.proofs.Moments.{old_stands}
 use Rattle.mt_splice.proofs.Rises.{step_here, row_is_lawful, spans_here, at_here}
 use Rattle.mt_splice.proofs.Neighbours.{takes_right, takes_left}
 use Rattle.mt_splice.proofs.Runs.{cut_alone, cut_with_right, cut_with_left}
-use Rattle.mt_splice.proofs.TakenIn.{length-spans, ends_from, ends_at_last, no_hole_ends, beside_spans}
+use Rattle.mt_splice.proofs.TakenIn.{ends_from, ends_at_last, no_hole_ends, beside_spans}
 use Rattle.mt_splice.proofs.PathsNow.{path_now}
 
 -- ---- what is read changes nothing
@@ -127,7 +128,7 @@ two_least t h x range = elim (cases_Bool (covers_all t x)) [
 
 two_enough : (start : Start) (lo hi h height : ℕ) (items : List Item) → start.tree.kind ≡ trees.Range → height ≡ suc h → MayBeCut start.tree height lo hi (spans_from lo items) → 2 ≤ length items
 two_enough start lo hi h height items range high cut =
-    let same = length-spans lo items in
+    let same = length-spans_from lo items in
     let least = subst (λ (n : ℕ). least_of start.tree n (span_to lo hi) ≤ length (spans_from lo items)) high cut.least in
     let two = two_least start.tree h (span_to lo hi) range in
     omega arith
@@ -190,8 +191,8 @@ module _ (start : Start) (w : Work) (s : Sheet) (kind : RowKind) (left right : L
     gathered = gathered;
     cut = ⊎_elim
         (λ (six : 6 ≤ length items). inl (cut_alone start w left right depth height (spans_from (begin_of left depth) items) gathered
-        (let few = may.few in let same = length-spans (begin_of left depth) items in omega arith)
-        (let same = length-spans (begin_of left depth) items in omega arith)
+        (let few = may.few in let same = length-spans_from (begin_of left depth) items in omega arith)
+        (let same = length-spans_from (begin_of left depth) items in omega arith)
         (λ leaf more. ends_from (begin_of left depth) 0 items ∙ ends leaf more)))
         (λ (whole : (begin_of left depth ≡ 0) × ((step_at right depth).max ≡ top_of start.tree)). inr (whole.0, whole.1, may.few)) enough;
     two = may.two;
@@ -241,7 +242,7 @@ module _ (start : Start) (w : Work) (s : Sheet) (kind : RowKind) (left right : L
         let all : beside height (spans_from (begin_of left depth) items) (spans_on (now start w).table (kind_at start.tree.kind height) (step_at right' depth)) ≡ spans_from (begin_of left depth) (beside_items kind items row) =
         ap (beside height (spans_from (begin_of left depth) items)) spans_behind ∙ sym both in
         let cut = subst (MayBeCut start.tree height (begin_of left depth) (end_of right' depth)) all
-        (cut_with_right start w left right right' depth height (spans_from (begin_of left depth) items) gathered more is_right_then (let n = length-spans (begin_of left depth) items in omega arith)) in
+        (cut_with_right start w left right right' depth height (spans_from (begin_of left depth) items) gathered more is_right_then (let n = length-spans_from (begin_of left depth) items in omega arith)) in
         record {
           gathered = subst (Gathered start w left right' depth height) all (takes_right start w left right right' depth height (spans_from (begin_of left depth) items) gathered more is_right_then);
           cut = inl cut;
@@ -295,7 +296,7 @@ module _ (start : Start) (w : Work) (s : Sheet) (kind : RowKind) (left right : L
         let all : beside height (spans_on (now start w).table (kind_at start.tree.kind height) (step_at left' depth)) (spans_from (begin_of left depth) items) ≡ spans_from (begin_of left' depth) (beside_items kind row items) =
         ap (λ (xs : List Span). beside height xs (spans_from (begin_of left depth) items)) spans ∙ sym both in
         let cut = subst (MayBeCut start.tree height (begin_of left' depth) (end_of right depth)) all
-        (cut_with_left start w left right left' depth height (spans_from (begin_of left depth) items) gathered more is_left_then last (let n = length-spans (begin_of left depth) items in omega arith)) in
+        (cut_with_left start w left right left' depth height (spans_from (begin_of left depth) items) gathered more is_left_then last (let n = length-spans_from (begin_of left depth) items in omega arith)) in
         record {
           gathered = subst (Gathered start w left' right depth height) all (takes_left start w left right left' depth height (spans_from (begin_of left depth) items) gathered more is_left_then);
           cut = inl cut;
