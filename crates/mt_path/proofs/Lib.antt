@@ -7,4 +7,3 @@ pub mod Entering
 pub mod Walking
 pub mod Empty
 pub mod Bounds
-pub mod PlantedLeaves
