@@ -90,15 +90,9 @@ fn end_with_nothing<R: Rows>(
     ensures level { (b : Before) (start : Start) (w : Work) (height : ℕ) → MayEndWithNothing b start (R.sheet rows.old) book.old w made.now.items region.now.left.items region.now.right.items depth height region.now.run.items number call.now reply.now
         → IsSpliced b.kind b.sheet (R.sheet rows.new) b.book book.new b.number call.now reply.now result }
 {
-    bury_rows(
-        rows,
-        book,
-        &region.left,
-        &region.right,
-        depth as usize,
-        number,
-    );
-    bury_above(rows, book, &region.left, &region.right, depth, number);
+    let (left, right) = (&region.left, &region.right);
+    bury_rows(rows, book, left, right, depth as usize, number);
+    bury_above(rows, book, left, right, depth, number);
     book.rows();
     publish_at(rows, Place::Root, 0, made.as_slice(), call, reply);
     Place::Root
