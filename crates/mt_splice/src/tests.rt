@@ -1,4 +1,4 @@
-ghost use Rattle.std.specs.Prelude.{◌≡◌, ◌≢◌, ◌<◌, ◌≤◌, ◌+◌, ◌-◌, ◌^◌, ◌++◌, ℕ, false, length};
+ghost use Rattle.std.specs.Prelude.{◌≡◌, ◌≢◌, ◌<◌, ◌≤◌, ◌+◌, ◌-◌, ◌^◌, [], ◌∷◌, ◌++◌, ℕ, false, length};
 ghost use Rattle.mt_base.specs.Entry.{reserved};
 ghost use Rattle.mt_base.specs.Map.{over};
 ghost use Rattle.mt_layout.specs.Spans.{spans_from};
@@ -6,7 +6,7 @@ ghost use Rattle.mt_layout.specs.declared.names.RowKind.TheVariants.{Leaf};
 ghost use Rattle.mt_rows.specs.Publish.{map_by};
 ghost use Rattle.mt_rows.specs.Sheet.{OnlyReads};
 ghost use Rattle.mt_splice.specs.Splice.{last_step, region_of};
-ghost use Rattle.mt_splice.specs.Testing.{IsReady, AreEnds, IsRunOver};
+ghost use Rattle.mt_splice.specs.Testing.{IsReady, AreEnds, IsRunOver, leaves_items};
 ghost use Rattle.mt_splice.specs.Writes.{items_of_row};
 
 use crate::reads::push_items;
@@ -33,6 +33,42 @@ fn push_leaf(rows: &mut PlainRows, leaf: PathStep, run: &mut Run)
     push_items(rows, RowKind::Leaf, leaf.row, leaf.max, 0, 16, run);
 }
 
+/// The last step of a path.
+fn last_of(path: &Path) -> PathStep
+    requires { 1 ≤ length path.now.items }
+    ensures { result ≡ last_step path.now.items }
+{
+    path[path.len() - 1]
+}
+
+/// The items of two leaves, one behind the other, or those of one.
+fn leaves_at(rows: &mut PlainRows, left: PathStep, right: PathStep) -> Run
+    requires left { (16 ≤ left.row) × (left.row < 16 + rows.old.rows) }
+    requires right { (16 ≤ right.row) × (right.row < 16 + rows.old.rows) }
+    ensures items { result.items ≡ leaves_items rows.old.tree.table left right }
+    ensures rest { OnlyReads rows.old rows.new }
+{
+    let mut run = Run::new();
+    push_leaf(rows, left, &mut run);
+    if left.row != right.row {
+        push_leaf(rows, right, &mut run);
+    }
+    run
+}
+
+/// The one hole of the empty tree.
+fn hole() -> Run
+    ensures { result.items ≡ record { last = u64.MAX; word = 0; gap = 0 } ∷ [] }
+{
+    let mut run = Run::new();
+    run.push(Item {
+        last: TOP,
+        word: 0,
+        gap: 0,
+    });
+    run
+}
+
 /// The items of the leaves at the ends of two paths, and the first index there. The empty tree is one hole.
 fn items_at(rows: &mut PlainRows, left: &Path, right: &Path) -> (u64, Run)
     requires ends { (first : ℕ) × (last : ℕ) × AreEnds rows.old left.now.items right.now.items first last }
@@ -41,20 +77,12 @@ fn items_at(rows: &mut PlainRows, left: &Path, right: &Path) -> (u64, Run)
     ensures fit { (first last : ℕ) → AreEnds rows.old left.now.items right.now.items first last → IsRunOver result.0 result.1.items first last }
     ensures rest { OnlyReads rows.old rows.new }
 {
-    let mut run = Run::new();
-    let (Some(left), Some(right)) = (left.as_slice().last(), right.as_slice().last()) else {
-        run.push(Item {
-            last: TOP,
-            word: 0,
-            gap: 0,
-        });
-        return (0, run);
-    };
-    push_leaf(rows, *left, &mut run);
-    if left.row != right.row {
-        push_leaf(rows, *right, &mut run);
+    if left.is_empty() {
+        return (0, hole());
     }
-    (left.min, run)
+    let leaf = last_of(left);
+    let run = leaves_at(rows, leaf, last_of(right));
+    (leaf.min, run)
 }
 
 /// A whole store of an entry, as one call.
