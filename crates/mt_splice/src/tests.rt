@@ -4,14 +4,14 @@ ghost use Rattle.mt_base.specs.Map.{over};
 ghost use Rattle.mt_layout.specs.Spans.{spans_from};
 ghost use Rattle.mt_layout.specs.declared.names.RowKind.TheVariants.{Leaf};
 ghost use Rattle.mt_rows.specs.Publish.{map_by};
-ghost use Rattle.mt_rows.specs.Sheet.{OnlyReads};
+ghost use Rattle.mt_rows.specs.Sheet.{IsPlace, OnlyReads};
 ghost use Rattle.mt_splice.specs.Splice.{last_step, region_of};
 ghost use Rattle.mt_splice.specs.Testing.{IsReady, AreEnds, IsRunOver, leaves_items};
 ghost use Rattle.mt_splice.specs.Writes.{items_of_row};
 
 use crate::reads::push_items;
 use crate::splice;
-use mt_base::{Call, Kind, NoMemory, Range, Reply, Width, cols};
+use mt_base::{Call, Kind, NoMemory, Range, Reply};
 use mt_free::RowBook;
 use mt_layout::{Item, RowKind, Run};
 use mt_leaf::edit;
@@ -118,15 +118,25 @@ fn store(rows: &mut PlainRows, book: &mut RowBook, first: u64, last: u64, entry:
     place
 }
 
+/// Appends the words of a row.
+fn push_row(rows: &mut PlainRows, row: u32, words: &mut Vec<u64>) -> Result<(), NoMemory>
+    requires { IsPlace rows.old row 0 }
+    ensures { OnlyReads rows.old rows.new }
+{
+    for col in 0..32 {
+        words.push(rows.load(row, col))?;
+    }
+    Ok(())
+}
+
 /// All words of the rows, with those of the numbers below the first row's.
 fn words_of(rows: &mut PlainRows, alloc: Global) -> Result<Vec<u64>, NoMemory>
     ensures { OnlyReads rows.old rows.new }
 {
     let mut words = vec![in alloc; 0; 512]?;
-    for row in 16..16 + rows.size() as u32 {
-        for col in 0..cols(Width::Long) {
-            words.push(rows.load(row, col))?;
-        }
+    let count = rows.size();
+    for n in 0..count {
+        push_row(rows, 16 + n as u32, &mut words)?;
     }
     Ok(words)
 }
