@@ -364,3 +364,17 @@ leaves_are s left right first last ends some =
       spans = all.0;
       fit = all.1;
     }
+
+-- ---- rows that were only read are as ready as before
+
+ready_with : (s : Sheet) (book : Book) (reads : _) → IsReady s book → IsReady (record s { reads = reads }) book
+ready_with s book reads ready = record {
+  idle = ready.idle;
+  lawful = record { of_kind = record { told = ready.lawful.of_kind.told; width = ready.lawful.of_kind.width }; words = ready.lawful.words };
+  live = ready.live;
+  none_buried = ready.none_buried;
+  booked = record { sound = ready.booked.sound; rows = ready.booked.rows; out = ready.booked.out; reached = ready.booked.reached; spare = ready.booked.spare; stamps = ready.booked.stamps };
+}
+
+pub ready_if_read : (s s' : Sheet) (book : Book) → OnlyReads s s' → IsReady s book → IsReady s' book
+ready_if_read s s' book reads ready = subst (λ (x : Sheet). IsReady x book) (sym reads) (ready_with s book s'.reads ready)
