@@ -47,6 +47,7 @@ pub mod StepSeen
 pub mod Steps
 pub mod TakenIn
 pub mod Tending
+pub mod Testing
 pub mod Widens
 pub mod Written
 pub mod WrittenRows

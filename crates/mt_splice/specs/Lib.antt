@@ -13,5 +13,6 @@ pub mod Seen
 pub mod Splice
 pub mod Stretches
 pub mod TakingIn
+pub mod Testing
 pub mod Work
 pub mod Writes

@@ -13,6 +13,8 @@ mod reads;
 mod replaces;
 mod splices;
 mod tends;
+#[cfg(test)]
+mod tests;
 mod writes;
 
 pub use splices::splice;

@@ -1,0 +1,380 @@
+-- A whole store in a test: its call begins, the leaves at its ends are read, and the rows are ready once more when it ends.
+use Rattle.std.proofs.Common.{◌≡◌, ◌≢◌, ℕ, zero, suc, ◌+◌, ◌-◌, ◌*◌, ◌^◌, ◌<◌, ◌≤◌, ◌==◌, ◌++◌, List, [], ◌∷◌, Bool, true, false, length, nat_lt, refl, sym, ap, ◌∙◌, subst, inl, inr, ⊎_elim, arith, length-append}
+use Rattle.std.specs.Prelude.{if◌then◌else◌}
+use Rattle.std.proofs.lemmas.Bool.{cases_Bool, eqb-true, eqb-false, le-ltb, ltb-true, ltb-false}
+use Rattle.mt_base.specs.declared.kinds.Kind.TheVariants as trees
+use Rattle.mt_base.specs.declared.widths.Width.{Width}
+use Rattle.mt_base.specs.declared.widths.Width.TheVariants.{Long}
+use Rattle.mt_base.specs.declared.calls.Call.TheVariants.{Store}
+use Rattle.mt_base.specs.declared.replies.Reply.TheVariants as reply
+use Rattle.mt_base.specs.declared.ranges.Range.{Range}
+use Rattle.mt_base.specs.Call.{acted}
+use Rattle.mt_base.specs.Entry.{reserved}
+use Rattle.mt_base.specs.Map.{over}
+use Rattle.mt_base.specs.Width.{greatest}
+use Rattle.mt_free.specs.Book.{Book}
+use Rattle.mt_layout.specs.declared.items.Item.{Item}
+use Rattle.mt_layout.specs.declared.names.RowKind.TheVariants.{Leaf}
+use Rattle.mt_layout.specs.declared.spans.Span.{Span}
+use Rattle.mt_layout.specs.Rows.{row_in, named_kind}
+use Rattle.mt_layout.specs.Columns.{end_of}
+use Rattle.mt_layout.specs.Spans.{Fills, spans_from}
+use Rattle.mt_layout.proofs.NameLaws.{Names-named_kind}
+use Rattle.mt_leaf.specs.Edits.{edited, starting}
+use Rattle.mt_leaf.proofs.Spans.{spans_from-append}
+use Rattle.mt_rows.specs.Spans.{Table, root_span, spans_in, slots_of, gaps_of, base_of}
+use Rattle.mt_rows.specs.Trees.{height_in, deepest}
+use Rattle.mt_rows.specs.Laws.{Tree, IsLawful, IsTree, IsRow, Stands, ParentLaw, IsTended, GapLaw, top_of}
+use Rattle.mt_rows.specs.Replacement.{root_of}
+use Rattle.mt_rows.specs.Sheet as sheets
+use Rattle.mt_rows.specs.Sheet.{Sheet, OnlyReads, begun}
+use Rattle.mt_rows.specs.Publish.{tree_as, IsTreeOf, IsLawfulOf, map_by, finished}
+use Rattle.mt_rows.specs.declared.rows.Place.{Place}
+use Rattle.mt_rows.proofs.Depth.{height_by_depth}
+use Rattle.mt_rows.proofs.Lists.{levels_map, fills-append}
+use Rattle.mt_rows.proofs.Reached.{one_of_parts, one_place}
+use Rattle.mt_path.specs.declared.paths.PathStep.{PathStep}
+use Rattle.mt_path.specs.Paths.{path_in, path_of, step_at, step_in, At}
+use Rattle.mt_path.proofs.Places.{at_once}
+use Rattle.mt_path.proofs.Entering.{path_of_none}
+use Rattle.mt_path.proofs.TreePaths.{row_of, rows_at, step, place, lawful, levels, rows_fill, right_begins}
+use Rattle.mt_splice.specs.Splice.{IsBookOf, IsSpliced, IsStoreBy, HasParents, MaySplice, last_step, leaf_spans, region_of}
+use Rattle.mt_splice.specs.Testing.{IsReady, AreEnds, IsRunOver, IsWithin, leaf_items, leaves_items}
+use Rattle.mt_splice.proofs.Gathering.{few_items}
+use Rattle.mt_splice.proofs.LevelRows.{fills_end, fills_rise}
+use Rattle.mt_splice.proofs.PathRows.{rows_in_order, spans_of_step}
+
+-- ---- laws before and after
+
+tree_if_lawful : (t : Tree) → IsLawful t → IsTree t
+tree_if_lawful t (inl empty) = inl empty
+tree_if_lawful t (inr (h, stands, parent, tended)) = inr (h, stands)
+
+tended_range : (t : Tree) → t.kind ≡ trees.Range → (h : ℕ) (x : Span) → ParentLaw t h x → IsTended t h x
+tended_range t range zero x parent = record { parent = parent; gaps = tt }
+tended_range t range (suc h) x parent = record { parent = parent; gaps = rw range tt }
+
+lawful_by_parents : (t : Tree) → t.kind ≡ trees.Range → HasParents t → IsLawful t
+lawful_by_parents t range (inl empty) = inl empty
+lawful_by_parents t range (inr (h, stands, parent, levels)) = inr (h, stands, parent, levels_map (ParentLaw t) (IsTended t) t.table (tended_range t range) h (root_of t) levels)
+
+low_tree : (t : Tree) → IsLawful t → height_in t.table t.root ≤ 9
+low_tree t (inl empty) = let none : height_in t.table t.root ≡ 0 = ap (height_in t.table) empty in omega arith
+low_tree t (inr (h, stands, parent, tended)) =
+    let high = height_by_depth t deepest h (root_span t.table t.root) stands.low stands.rows in
+    let low = stands.low in omega arith
+
+-- ---- the call begins
+
+within_if_ready : (s : Sheet) (book : Book) (reads : _) → IsReady s book → IsWithin (record (begun s) { reads = reads }) book
+within_if_ready s book reads ready = record {
+  flying = refl;
+  before = refl;
+  lawful = record { of_kind = record { told = ready.lawful.of_kind.told; width = ready.lawful.of_kind.width }; words = ready.lawful.words };
+  live = ready.live;
+  none_buried = ready.none_buried;
+  booked = record { sound = ready.booked.sound; rows = ready.booked.rows; out = ready.booked.out; reached = ready.booked.reached; spare = ready.booked.spare; stamps = ready.booked.stamps };
+}
+
+module _ (s₀ s₁ s₂ s₃ : Sheet) (begins : s₁ ≡ begun s₀) (first_reads : OnlyReads s₁ s₂) (then_reads : OnlyReads s₂ s₃) where
+  pub reads_two : OnlyReads s₁ s₃
+  reads_two = then_reads ∙ ap (λ (x : Sheet). record x { reads = s₃.reads }) first_reads
+
+  pub open_is : s₃ ≡ record (begun s₀) { reads = s₃.reads }
+  open_is = reads_two ∙ ap (λ (x : Sheet). record x { reads = s₃.reads }) begins
+
+  pub is_within : (book : Book) → IsReady s₀ book → IsWithin s₃ book
+  is_within book ready = subst (λ (x : Sheet). IsWithin x book) (sym open_is) (within_if_ready s₀ book s₃.reads ready)
+
+  pub ends_are : (book : Book) (left right : List PathStep) (first last : ℕ) → IsReady s₀ book → first ≤ last → last ≤ greatest s₃.tree.table.width
+      → left ≡ path_in s₁.tree.table s₁.tree.root first → right ≡ path_in s₂.tree.table s₂.tree.root last → AreEnds s₃ left right first last
+  ends_are book left right first last ready order within is_left is_right = record {
+    tree = let in_call = is_within book ready in record { of_kind = in_call.lawful.of_kind; words = tree_if_lawful (tree_as trees.Range s₃.rows s₃.tree) in_call.lawful.words };
+    order = order;
+    within = within;
+    left_path = is_left ∙ ap (λ (x : Sheet). path_in x.tree.table x.tree.root first) (sym reads_two);
+    right_path = is_right ∙ ap (λ (x : Sheet). path_in x.tree.table x.tree.root last) (sym then_reads);
+  }
+
+pub wide : (w : Width) (n : ℕ) → n < 2 ^ 64 → n ≤ greatest w
+wide Long n fits = omega arith
+
+-- ---- the splice
+
+acts_so : (m : List Range) (first last entry : ℕ) → first ≤ last → reserved entry ≡ false → acted trees.Range m (Store first last entry) ≡ (over m first last entry, reply.Ok)
+acts_so m first last entry order free = rw (le-ltb last first order, free) refl
+
+module _ (s₃ : Sheet) (book : Book) (left right : List PathStep) (items items' : List Item) (number min first last entry : ℕ)
+    (in_call : IsWithin s₃ book) (ends : AreEnds s₃ left right first last) (same_end : number ≡ s₃.ended + 1) (some : entry ≢ 0) (free : reserved entry ≡ false) (room : 28 ≤ length book.free)
+    (is_region : spans_from min items ≡ region_of s₃.tree.table left right) (is_min : min ≡ (last_step left).min) (is_edited : spans_from min items' ≡ edited (spans_from min items) first last entry) where
+  pub may_splice : MaySplice trees.Range s₃ book left right items' number (Store first last entry) reply.Ok
+  may_splice = record {
+    range = refl;
+    room = let low = low_tree (tree_as trees.Range s₃.rows s₃.tree) in_call.lawful.words in omega arith;
+    flying = in_call.flying;
+    before = in_call.before;
+    in_flight = same_end;
+    none_buried = in_call.none_buried;
+    live = in_call.live;
+    booked = subst (IsBookOf s₃ book) (sym same_end) in_call.booked;
+    lawful = in_call.lawful;
+    first = first;
+    last = last;
+    entry = entry;
+    store = record { acts = acts_so (map_by s₃.tree) first last entry ends.order free; order = ends.order; within = ends.within; lawful = free };
+    some = λ _. some;
+    left_path = ends.left_path;
+    right_path = ends.right_path;
+    edits = ap (λ (n : ℕ). spans_from n items') (sym is_min) ∙ is_edited ∙ ap (λ (l : List Span). edited l first last entry) is_region;
+  }
+
+pub end_same : (s₀ s₃ : Sheet) (number : ℕ) → s₃ ≡ record (begun s₀) { reads = s₃.reads } → number ≡ s₀.ended + 1 → number ≡ s₃.ended + 1
+end_same s₀ s₃ number is here = here ∙ ap (λ (x : Sheet). x.ended + 1) (sym is)
+
+pub reads_on : (a b c : Sheet) → OnlyReads a b → OnlyReads b c → OnlyReads a c
+reads_on a b c before behind = behind ∙ ap (λ (x : Sheet). record x { reads = c.reads }) before
+
+-- ---- the call ends
+
+module _ (s s' s″ : Sheet) (book book' : Book) (number first last entry : ℕ) (place : Place) (order : first ≤ last) (free : reserved entry ≡ false) (same_end : number ≡ s.ended + 1)
+    (spliced : IsSpliced trees.Range s s' book book' number (Store first last entry) reply.Ok place) (ends : s″ ≡ finished s' (Store first last entry) reply.Ok) where
+  abbrev done : Sheet
+  done = finished s' (Store first last entry) reply.Ok
+
+  ended_is : s'.ended ≡ s.ended
+  ended_is = ap (λ (x : Sheet). x.ended) spliced.rest
+
+  done_ready : IsReady done book'
+  done_ready = record {
+    idle = refl;
+    lawful = record {
+      of_kind = record { told = spliced.tree.of_kind.told; width = spliced.tree.of_kind.width };
+      words = lawful_by_parents (tree_as trees.Range s'.rows s'.tree) refl spliced.parents;
+    };
+    live = spliced.live;
+    none_buried = spliced.none_buried;
+    booked =
+        let booked = spliced.booked in
+        let stamp : number + 1 ≡ s'.ended + 1 + 1 = (let same = ended_is in omega arith) in
+        subst (IsBookOf done book') stamp (record { sound = booked.sound; rows = booked.rows; out = booked.out; reached = booked.reached; spare = booked.spare; stamps = booked.stamps });
+  }
+
+  pub ready_again : IsReady s″ book'
+  ready_again = subst (λ (x : Sheet). IsReady x book') (sym ends) done_ready
+
+  pub one_more_ended : s″.ended ≡ s.ended + 1
+  one_more_ended = let is = ap (λ (x : Sheet). x.ended) ends in let same = ended_is in omega arith
+
+  pub map_stored : map_by s″.tree ≡ over (map_by s.tree) first last entry
+  map_stored = ap (λ (x : Sheet). map_by x.tree) ends ∙ (spliced.map ∙ ap (λ (a : List Range × _). a.0) (acts_so (map_by s.tree) first last entry order free))
+
+-- ---- the leaves at a store's ends
+
+leaf_slots : (width : Width) → slots_of width Leaf ≡ 16
+leaf_slots Long = refl
+
+some_filled : (lo hi begin : ℕ) (items : List Item) → lo < hi → Fills lo hi (spans_from begin items) → 1 ≤ length items
+some_filled lo hi begin [] wide fills = let same : lo ≡ hi = fills in absurd (omega arith)
+some_filled lo hi begin (x ∷ items) wide fills = omega arith
+
+fill_later : (lo lo' hi : ℕ) (items : List Item) → lo' ≤ lo → lo < hi → Fills lo hi (spans_from lo items) → Fills lo' hi (spans_from lo' items)
+fill_later lo lo' hi [] below wide fills = let same : lo ≡ hi = fills in absurd (omega arith)
+fill_later lo lo' hi (x ∷ items) below wide fills = let from = fills.1 in (refl, omega arith, fills.2)
+
+later_starts : (lo begin : ℕ) (items : List Item) → spans_from lo items ≡ starting lo (spans_from begin items)
+later_starts lo begin [] = refl
+later_starts lo begin (x ∷ items) = refl
+
+module _ (t : Tree) (h : ℕ) (stands : Stands t h) where
+  module _ (path : List PathStep) (index : ℕ) (inside : index ≤ top_of t) (is : path ≡ path_in t.table t.root index) where
+    abbrev leaf : Span
+    leaf = row_of t h index
+
+    abbrev end : PathStep
+    end = last_step path
+
+    law : IsRow t 0 leaf
+    law = lawful t h stands index h 0 inside (omega arith)
+
+    end_is : end ≡ step_in t.table leaf index
+    end_is =
+        let long : length path - 1 ≡ h = (let all = ap length is in let many = levels t h stands index inside in omega arith) in
+        ap (step_at path) long ∙ (ap (λ (l : List PathStep). step_at l h) is ∙ step t h stands index h inside (omega arith))
+
+    long_path : 1 ≤ length path
+    long_path = let all = ap length is in let many = levels t h stands index inside in omega arith
+
+    end_row : (16 ≤ end.row) × (end.row < 16 + t.rows)
+    end_row = subst (λ (s : PathStep). (16 ≤ s.row) × (s.row < 16 + t.rows)) (sym end_is) ((Names-named_kind leaf.word Leaf law.name.named).0.0, law.name.in_table)
+
+    end_at : At 0 (top_of t + 1) (rows_at t h) index leaf
+    end_at = place t h stands index h inside (omega arith)
+
+    end_fills : Fills end.min (end.max + 1) (spans_from end.min (leaf_items t.table end))
+    end_fills =
+        subst (λ (s : PathStep). Fills s.min (s.max + 1) (leaf_spans t.table s)) (sym end_is)
+        (subst (Fills leaf.first (leaf.last + 1)) (sym (spans_of_step t.table leaf Leaf (step_in t.table leaf index) index law.name.named refl t.table)) law.pivots.fills)
+
+    end_min : end.min ≡ leaf.first
+    end_min = ap (λ (s : PathStep). s.min) end_is
+
+    end_max : end.max ≡ leaf.last
+    end_max = ap (λ (s : PathStep). s.max) end_is
+
+    few_at_end : length (leaf_items t.table end) ≤ 16
+    few_at_end = subst (λ (n : ℕ). length (leaf_items t.table end) ≤ n) (leaf_slots t.table.width) (few_items (slots_of t.table.width Leaf) (gaps_of t.table.width Leaf) t.table.words (base_of t.table end.row) end.max (slots_of t.table.width Leaf) 0)
+
+  module _ (left right : List PathStep) (first last : ℕ) (order : first ≤ last) (within : last ≤ top_of t) (is_left : left ≡ path_in t.table t.root first) (is_right : right ≡ path_in t.table t.root last) where
+    abbrev from_within : first ≤ top_of t
+    from_within = omega arith
+
+    abbrev l : PathStep
+    l = last_step left
+
+    abbrev r : PathStep
+    r = last_step right
+
+    abbrev left_leaf : Span
+    left_leaf = row_of t h first
+
+    abbrev right_leaf : Span
+    right_leaf = row_of t h last
+
+    abbrev left_at : At 0 (top_of t + 1) (rows_at t h) first left_leaf
+    left_at = end_at left first from_within is_left
+
+    abbrev right_at : At 0 (top_of t + 1) (rows_at t h) last right_leaf
+    right_at = end_at right last within is_right
+
+    same_leaf : row_in left_leaf.word ≡ row_in right_leaf.word → left_leaf ≡ right_leaf
+    same_leaf same =
+        (one_place t h stands 0 0 left_leaf right_leaf
+        (record { depth = h; height = omega arith; one = one_of_parts (rows_at t h) left_at.front left_at.back left_leaf left_at.parts })
+        (record { depth = h; height = omega arith; one = one_of_parts (rows_at t h) right_at.front right_at.back right_leaf right_at.parts }) same).1
+
+    in_order : (left_leaf ≡ right_leaf → ⊥) → left_leaf.last < right_leaf.first
+    in_order apart = elim (cases_Bool (nat_lt left_leaf.last last)) [
+      | inl more ↦
+          (let more = ltb-true left_leaf.last last more in
+          let begins = right_begins t h stands first h from_within (omega arith) (omega arith) in
+          let sorted = rows_in_order t h stands (left_leaf.last + 1) last h (omega arith) within (omega arith) in
+          omega arith)
+      | inr none ↦
+          (let none = ltb-false left_leaf.last last none in
+          let from = left_at.from in
+          absurd (apart (sym (at_once 0 (top_of t + 1) (rows_at t h) last right_leaf right_at left_at.front left_leaf left_at.back (rows_fill t h stands h (omega arith)) left_at.parts (omega arith) (omega arith)).1)))
+    ]
+
+    run_over : (run : List Item) (hi : ℕ) → Fills l.min hi (spans_from l.min run) → last < hi → length run ≤ 32 → IsRunOver l.min run first last
+    run_over run hi fills to few =
+        let from = left_at.from in let min = end_min left first from_within is_left in
+        let some = some_filled l.min hi l.min run (omega arith) fills in
+        let end = fills_end l.min l.min hi 0 run some fills in
+        record { some = some; few = few; rise = fills_rise l.min hi run fills; from = omega arith; to = omega arith }
+
+    few_left : length (leaf_items t.table l) ≤ 16
+    few_left = few_at_end left first from_within is_left
+
+    few_right : length (leaf_items t.table r) ≤ 16
+    few_right = few_at_end right last within is_right
+
+    two_leaves : (left_leaf ≡ right_leaf → ⊥)
+        → (spans_from l.min (leaf_items t.table l ++ leaf_items t.table r) ≡ leaf_spans t.table l ++ starting (l.max + 1) (leaf_spans t.table r)) × IsRunOver l.min (leaf_items t.table l ++ leaf_items t.table r) first last
+    two_leaves apart =
+        let sorted = in_order apart in
+        let from = left_at.from in let to = left_at.to in let from' = right_at.from in let to' = right_at.to in
+        let min = end_min left first from_within is_left in let max = end_max left first from_within is_left in
+        let min' = end_min right last within is_right in let max' = end_max right last within is_right in
+        let own = end_fills left first from_within is_left in
+        let some = some_filled l.min (l.max + 1) l.min (leaf_items t.table l) (omega arith) own in
+        let end : l.max + 1 ≡ end_of 0 (leaf_items t.table l) + 1 = fills_end l.min l.min (l.max + 1) 0 (leaf_items t.table l) some own in
+        let behind = fill_later r.min (l.max + 1) (r.max + 1) (leaf_items t.table r) (omega arith) (omega arith) (end_fills right last within is_right) in
+        let joined = spans_from-append l.min (leaf_items t.table l) (leaf_items t.table r) some ∙ ap (λ (n : ℕ). leaf_spans t.table l ++ spans_from n (leaf_items t.table r)) (sym end) in
+        let all = fills-append l.min (l.max + 1) (r.max + 1) (leaf_spans t.table l) (spans_from (l.max + 1) (leaf_items t.table r)) own behind in
+        let count = length-append (leaf_items t.table l) (leaf_items t.table r) in
+        let few = few_left in let few' = few_right in
+        (
+          joined ∙ ap (λ (xs : List Span). leaf_spans t.table l ++ xs) (later_starts (l.max + 1) r.min (leaf_items t.table r)),
+          run_over (leaf_items t.table l ++ leaf_items t.table r) (r.max + 1) (subst (Fills l.min (r.max + 1)) (sym joined) all) (omega arith) (omega arith),
+        )
+
+    one_leaf : left_leaf ≡ right_leaf → IsRunOver l.min (leaf_items t.table l) first last
+    one_leaf same =
+        let lasts = ap (λ (x : Span). x.last) same in
+        let max = end_max left first from_within is_left in
+        let to = right_at.to in
+        let few = few_left in
+        run_over (leaf_items t.table l) (l.max + 1) (end_fills left first from_within is_left) (omega arith) (omega arith)
+
+    row_left : l.row ≡ row_in left_leaf.word
+    row_left = ap (λ (s : PathStep). s.row) (end_is left first from_within is_left)
+
+    row_right : r.row ≡ row_in right_leaf.word
+    row_right = ap (λ (s : PathStep). s.row) (end_is right last within is_right)
+
+    spans_by_case : (b : Bool) → (l.row == r.row) ≡ b
+        → (spans_from l.min (if b then leaf_items t.table l else leaf_items t.table l ++ leaf_items t.table r) ≡ (if b then leaf_spans t.table l else leaf_spans t.table l ++ starting (l.max + 1) (leaf_spans t.table r)))
+        × IsRunOver l.min (if b then leaf_items t.table l else leaf_items t.table l ++ leaf_items t.table r) first last
+    spans_by_case true same = (refl, one_leaf (same_leaf (sym row_left ∙ (eqb-true l.row r.row same ∙ row_right))))
+    spans_by_case false other = two_leaves (λ same. eqb-false l.row r.row other (row_left ∙ (ap (λ (x : Span). row_in x.word) same ∙ sym row_right)))
+
+    region_of_some : (path : List PathStep) → 1 ≤ length path → region_of t.table path right ≡ (if (last_step path).row == r.row then leaf_spans t.table (last_step path) else leaf_spans t.table (last_step path) ++ starting ((last_step path).max + 1) (leaf_spans t.table r))
+    region_of_some [] some = absurd (omega arith)
+    region_of_some (s ∷ path) some = refl
+
+    pub spans_are : (spans_from l.min (leaves_items t.table l r) ≡ region_of t.table left right) × IsRunOver l.min (leaves_items t.table l r) first last
+    spans_are =
+        let both = spans_by_case (l.row == r.row) refl in
+        (both.0 ∙ sym (region_of_some left (long_path left first from_within is_left)), both.1)
+
+-- ---- as the paths are told
+
+pub some_path : (path : List PathStep) → (length path == 0) ≡ false → 1 ≤ length path
+some_path path some = let other = eqb-false (length path) 0 some in omega (arith, other)
+
+pub no_path : (path : List PathStep) → (length path == 0) ≡ true → path ≡ []
+no_path [] none = refl
+no_path (x ∷ path) none = let zero' = eqb-true (length (x ∷ path)) 0 none in absurd (omega arith)
+
+stands_on : (s : Sheet) (left right : List PathStep) (first last : ℕ) → AreEnds s left right first last → 1 ≤ length left → (h : ℕ) × Stands (tree_as trees.Range s.rows s.tree) h
+stands_on s left right first last ends some = by ends.tree.words
+  where
+    by : IsTree (tree_as trees.Range s.rows s.tree) → (h : ℕ) × Stands (tree_as trees.Range s.rows s.tree) h
+    by (inl empty) = let none = ap length (ends.left_path ∙ path_of_none s.tree.table deepest (root_span s.tree.table s.tree.root) first (ap named_kind empty)) in absurd (omega arith)
+    by (inr stands) = stands
+
+-- what is known where the left path has a step
+pub record AreLeaves (s : Sheet) (left right : List PathStep) (first last : ℕ) : Type 0 where
+  pub some : 1 ≤ length right
+  pub left_row : (16 ≤ (last_step left).row) × ((last_step left).row < 16 + s.rows)
+  pub right_row : (16 ≤ (last_step right).row) × ((last_step right).row < 16 + s.rows)
+  pub spans : spans_from (last_step left).min (leaves_items s.tree.table (last_step left) (last_step right)) ≡ region_of s.tree.table left right
+  pub fit : IsRunOver (last_step left).min (leaves_items s.tree.table (last_step left) (last_step right)) first last
+
+pub leaves_are : (s : Sheet) (left right : List PathStep) (first last : ℕ) → AreEnds s left right first last → (length left == 0) ≡ false → AreLeaves s left right first last
+leaves_are s left right first last ends some =
+    let t = tree_as trees.Range s.rows s.tree in
+    let tree = stands_on s left right first last ends (some_path left some) in
+    let order = ends.order in let within = ends.within in
+    let all = spans_are t tree.0 tree.1 left right first last ends.order ends.within ends.left_path ends.right_path in
+    record {
+      some = long_path t tree.0 tree.1 right last ends.within ends.right_path;
+      left_row = end_row t tree.0 tree.1 left first (omega arith) ends.left_path;
+      right_row = end_row t tree.0 tree.1 right last ends.within ends.right_path;
+      spans = all.0;
+      fit = all.1;
+    }
+
+-- ---- rows that were only read are as ready as before
+
+ready_with : (s : Sheet) (book : Book) (reads : _) → IsReady s book → IsReady (record s { reads = reads }) book
+ready_with s book reads ready = record {
+  idle = ready.idle;
+  lawful = record { of_kind = record { told = ready.lawful.of_kind.told; width = ready.lawful.of_kind.width }; words = ready.lawful.words };
+  live = ready.live;
+  none_buried = ready.none_buried;
+  booked = record { sound = ready.booked.sound; rows = ready.booked.rows; out = ready.booked.out; reached = ready.booked.reached; spare = ready.booked.spare; stamps = ready.booked.stamps };
+}
+
+pub ready_if_read : (s s' : Sheet) (book : Book) → OnlyReads s s' → IsReady s book → IsReady s' book
+ready_if_read s s' book reads ready = subst (λ (x : Sheet). IsReady x book) (sym reads) (ready_with s book s'.reads ready)

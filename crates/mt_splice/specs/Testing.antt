@@ -1,0 +1,56 @@
+-- What a whole store in a test is asked for, and what it leaves.
+-- Source: this project's own.
+use Rattle.std.specs.Prelude.{◌≡◌, ◌+◌, ◌≤◌, ◌<◌, ◌==◌, ◌++◌, ℕ, false, true, List, length, if◌then◌else◌}
+use Rattle.mt_base.specs.declared.kinds.Kind.TheVariants as trees
+use Rattle.mt_base.specs.Width.{greatest}
+use Rattle.mt_layout.specs.declared.items.Item.{Item}
+use Rattle.mt_layout.specs.declared.names.RowKind.TheVariants.{Leaf}
+use Rattle.mt_layout.specs.Columns.{RiseFrom, end_of}
+use Rattle.mt_free.specs.Book.{Book}
+use Rattle.mt_rows.specs.Spans.{Table}
+use Rattle.mt_rows.specs.Sheet.{Sheet}
+use Rattle.mt_rows.specs.Publish.{IsTreeOf, IsLawfulOf, LiveAreReached, NoneBuried}
+use Rattle.mt_path.specs.declared.paths.PathStep.{PathStep}
+use Rattle.mt_path.specs.Paths.{path_in}
+use Rattle.mt_splice.specs.Writes.{items_of_row}
+use Rattle.mt_splice.specs.Splice.{IsBookOf}
+
+-- the rows and the book between two calls
+pub record IsReady (s : Sheet) (book : Book) : Type 0 where
+  pub idle : s.flying ≡ false
+  pub lawful : IsLawfulOf s trees.Range
+  pub live : LiveAreReached s
+  pub none_buried : NoneBuried s
+  pub booked : IsBookOf s book (s.ended + 1)
+
+-- the paths to the ends of a store
+pub record AreEnds (s : Sheet) (left right : List PathStep) (first last : ℕ) : Type 0 where
+  pub tree : IsTreeOf s trees.Range
+  pub order : first ≤ last
+  pub within : last ≤ greatest s.tree.table.width
+  pub left_path : left ≡ path_in s.tree.table s.tree.root first
+  pub right_path : right ≡ path_in s.tree.table s.tree.root last
+
+-- items of two leaves at the most, the first of which begins at `min`, and which hold both indexes
+pub record IsRunOver (min : ℕ) (items : List Item) (first last : ℕ) : Type 0 where
+  pub some : 1 ≤ length items
+  pub few : length items ≤ 32
+  pub rise : RiseFrom min items
+  pub from : min ≤ first
+  pub to : last ≤ end_of 0 items
+
+-- the items of two leaves, one behind the other, or those of one
+abbrev pub leaf_items : Table → PathStep → List Item
+leaf_items t s = items_of_row t Leaf s.row s.max
+
+abbrev pub leaves_items : Table → PathStep → PathStep → List Item
+leaves_items t l r = if l.row == r.row then leaf_items t l else leaf_items t l ++ leaf_items t r
+
+-- the rows and the book within a call that has published nothing yet
+pub record IsWithin (s : Sheet) (book : Book) : Type 0 where
+  pub flying : s.flying ≡ true
+  pub before : s.published ≡ false
+  pub lawful : IsLawfulOf s trees.Range
+  pub live : LiveAreReached s
+  pub none_buried : NoneBuried s
+  pub booked : IsBookOf s book (s.ended + 1)
