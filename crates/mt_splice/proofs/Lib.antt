@@ -18,6 +18,7 @@ pub mod EndTending
 pub mod EndTrees
 pub mod EndWhole
 pub mod EndWords
+pub mod Fresh
 pub mod Gapless
 pub mod Gathering
 pub mod LevelBuries

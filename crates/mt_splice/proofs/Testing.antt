@@ -1,5 +1,5 @@
 -- A whole store in a test: its call begins, the leaves at its ends are read, and the rows are ready once more when it ends.
-use Rattle.std.proofs.Common.{◌≡◌, ◌≢◌, ℕ, zero, suc, ◌+◌, ◌-◌, ◌*◌, ◌^◌, ◌<◌, ◌≤◌, ◌==◌, ◌++◌, List, [], ◌∷◌, Bool, true, false, length, nat_lt, refl, sym, ap, ◌∙◌, subst, inl, inr, ⊎_elim, arith, length-append}
+use Rattle.std.proofs.Common.{◌≡◌, ◌≢◌, ℕ, zero, suc, ◌+◌, ◌-◌, ◌^◌, ◌<◌, ◌≤◌, ◌==◌, ◌++◌, List, [], ◌∷◌, Bool, true, false, length, nat_lt, refl, sym, ap, ◌∙◌, subst, inl, inr, arith, length-append}
 use Rattle.std.specs.Prelude.{if◌then◌else◌}
 use Rattle.std.proofs.lemmas.Bool.{cases_Bool, eqb-true, eqb-false, le-ltb, ltb-true, ltb-false}
 use Rattle.mt_base.specs.declared.kinds.Kind.TheVariants as trees
@@ -22,23 +22,22 @@ use Rattle.mt_layout.specs.Spans.{Fills, spans_from}
 use Rattle.mt_layout.proofs.NameLaws.{Names-named_kind}
 use Rattle.mt_leaf.specs.Edits.{edited, starting}
 use Rattle.mt_leaf.proofs.Spans.{spans_from-append}
-use Rattle.mt_rows.specs.Spans.{Table, root_span, spans_in, slots_of, gaps_of, base_of}
+use Rattle.mt_rows.specs.Spans.{root_span, slots_of, gaps_of, base_of}
 use Rattle.mt_rows.specs.Trees.{height_in, deepest}
-use Rattle.mt_rows.specs.Laws.{Tree, IsLawful, IsTree, IsRow, Stands, ParentLaw, IsTended, GapLaw, top_of}
+use Rattle.mt_rows.specs.Laws.{Tree, IsLawful, IsTree, IsRow, Stands, ParentLaw, IsTended, top_of}
 use Rattle.mt_rows.specs.Replacement.{root_of}
-use Rattle.mt_rows.specs.Sheet as sheets
 use Rattle.mt_rows.specs.Sheet.{Sheet, OnlyReads, begun}
-use Rattle.mt_rows.specs.Publish.{tree_as, IsTreeOf, IsLawfulOf, map_by, finished}
+use Rattle.mt_rows.specs.Publish.{tree_as, map_by, finished}
 use Rattle.mt_rows.specs.declared.rows.Place.{Place}
 use Rattle.mt_rows.proofs.Depth.{height_by_depth}
 use Rattle.mt_rows.proofs.Lists.{levels_map, fills-append}
 use Rattle.mt_rows.proofs.Reached.{one_of_parts, one_place}
 use Rattle.mt_path.specs.declared.paths.PathStep.{PathStep}
-use Rattle.mt_path.specs.Paths.{path_in, path_of, step_at, step_in, At}
+use Rattle.mt_path.specs.Paths.{path_in, step_at, step_in, At}
 use Rattle.mt_path.proofs.Places.{at_once}
 use Rattle.mt_path.proofs.Entering.{path_of_none}
 use Rattle.mt_path.proofs.TreePaths.{row_of, rows_at, step, place, lawful, levels, rows_fill, right_begins}
-use Rattle.mt_splice.specs.Splice.{IsBookOf, IsSpliced, IsStoreBy, HasParents, MaySplice, last_step, leaf_spans, region_of}
+use Rattle.mt_splice.specs.Splice.{IsBookOf, IsSpliced, HasParents, MaySplice, last_step, leaf_spans, region_of}
 use Rattle.mt_splice.specs.Testing.{IsReady, AreEnds, IsRunOver, IsWithin, leaf_items, leaves_items}
 use Rattle.mt_splice.proofs.Gathering.{few_items}
 use Rattle.mt_splice.proofs.LevelRows.{fills_end, fills_rise}
@@ -292,8 +291,7 @@ module _ (t : Tree) (h : ℕ) (stands : Stands t h) where
         let joined = spans_from-append l.min (leaf_items t.table l) (leaf_items t.table r) some ∙ ap (λ (n : ℕ). leaf_spans t.table l ++ spans_from n (leaf_items t.table r)) (sym end) in
         let all = fills-append l.min (l.max + 1) (r.max + 1) (leaf_spans t.table l) (spans_from (l.max + 1) (leaf_items t.table r)) own behind in
         let count = length-append (leaf_items t.table l) (leaf_items t.table r) in
-        let few = few_left in let few' = few_right in
-        (
+        let few = few_left in let few' = few_right in (
           joined ∙ ap (λ (xs : List Span). leaf_spans t.table l ++ xs) (later_starts (l.max + 1) r.min (leaf_items t.table r)),
           run_over (leaf_items t.table l ++ leaf_items t.table r) (r.max + 1) (subst (Fills l.min (r.max + 1)) (sym joined) all) (omega arith) (omega arith),
         )

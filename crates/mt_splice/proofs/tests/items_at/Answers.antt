@@ -1,4 +1,4 @@
-use Rattle.std.proofs.Common.{◌≡◌, ◌<◌, ◌≤◌, ◌+◌, sym, ap, ◌∙◌, subst, List, false, length, ◌==◌}
+use Rattle.std.proofs.Common.{◌≡◌, ◌<◌, ◌≤◌, ◌+◌, sym, ◌∙◌, subst, List, false, length, ◌==◌}
 use Rattle.mt_layout.specs.declared.items.Item.{Item}
 use Rattle.mt_layout.specs.Spans.{spans_from}
 use Rattle.mt_path.specs.declared.paths.PathStep.{PathStep}
@@ -42,5 +42,5 @@ returns-clause-fit c first last ends =
     let leaves = leaves_are c.args.rows.now c.args.left.now.items c.args.right.now.items first last ends some in
     let run : c.leaves_at-run.result.items ≡ leaves_items c.args.rows.now.tree.table c.last_of-leaf.result c.last_of.result = c.leaves_at-run.ensures.items in
     let all : c.leaves_at-run.result.items ≡ leaves_items c.args.rows.now.tree.table (last_step c.args.left.now.items) (last_step c.args.right.now.items) =
-        run ∙ (λ i. leaves_items c.args.rows.now.tree.table (c.last_of-leaf.ensures i) (c.last_of.ensures i)) in
+    run ∙ (λ i. leaves_items c.args.rows.now.tree.table (c.last_of-leaf.ensures i) (c.last_of.ensures i)) in
     subst (λ (p : PathStep × List Item). IsRunOver p.0.min p.1 first last) (λ i. (sym c.last_of-leaf.ensures i, sym all i)) leaves.fit
