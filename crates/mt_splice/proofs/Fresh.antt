@@ -7,7 +7,7 @@ use Rattle.mt_free.specs.Book.{Held, rows_down, IsBook, new_book}
 use Rattle.mt_rows.specs.declared.rows.Life.TheVariants as lives
 use Rattle.mt_rows.specs.Plain.{new_sheet}
 use Rattle.mt_splice.specs.Splice.{IsSpare}
-use Rattle.mt_splice.specs.Testing.{IsReady}
+use Rattle.mt_splice.specs.Testing.{IsBetweenCalls}
 
 same_anywhere : {X : Type 0} (n i : ℕ) (x : X) → slice_index_or (replicate n x) i x ≡ x
 same_anywhere zero i x = refl
@@ -21,7 +21,7 @@ in_down (suc n) m low =
     ⊎_elim (λ (less : m < n). let here = in_down n m less in (suc here.0, let below = here.1 in omega arith, here.2))
     (λ (last : n ≤ m). (0, omega arith, let same : n ≡ m = omega arith in subst (λ (k : ℕ). 16 + n ≡ 16 + k) same refl)) (cases_lt m n)
 
-pub fresh_is_ready : (n : ℕ) → IsBook (new_book n) → IsReady (new_sheet n) (new_book n)
+pub fresh_is_ready : (n : ℕ) → IsBook (new_book n) → IsBetweenCalls (new_sheet n) (new_book n)
 fresh_is_ready n sound = record {
   idle = refl;
   lawful = record { of_kind = record { told = tt; width = refl }; words = inl refl };

@@ -38,7 +38,7 @@ use Rattle.mt_path.proofs.Places.{at_once}
 use Rattle.mt_path.proofs.Entering.{path_of_none}
 use Rattle.mt_path.proofs.TreePaths.{row_of, rows_at, step, place, lawful, levels, rows_fill, right_begins}
 use Rattle.mt_splice.specs.Splice.{IsBookOf, IsSpliced, HasParents, MaySplice, last_step, leaf_spans, region_of}
-use Rattle.mt_splice.specs.Testing.{IsReady, AreEnds, IsRunOver, IsWithin, leaf_items, leaves_items}
+use Rattle.mt_splice.specs.Testing.{IsBetweenCalls, AreEnds, IsRunOver, IsWithin, leaf_items, leaves_items}
 use Rattle.mt_splice.proofs.Gathering.{few_items}
 use Rattle.mt_splice.proofs.LevelRows.{fills_end, fills_rise}
 use Rattle.mt_splice.proofs.PathRows.{rows_in_order, spans_of_step}
@@ -65,7 +65,7 @@ low_tree t (inr (h, stands, parent, tended)) =
 
 -- ---- the call begins
 
-within_if_ready : (s : Sheet) (book : Book) (reads : _) → IsReady s book → IsWithin (record (begun s) { reads = reads }) book
+within_if_ready : (s : Sheet) (book : Book) (reads : _) → IsBetweenCalls s book → IsWithin (record (begun s) { reads = reads }) book
 within_if_ready s book reads ready = record {
   flying = refl;
   before = refl;
@@ -82,10 +82,10 @@ module _ (s₀ s₁ s₂ s₃ : Sheet) (begins : s₁ ≡ begun s₀) (first_rea
   pub open_is : s₃ ≡ record (begun s₀) { reads = s₃.reads }
   open_is = reads_two ∙ ap (λ (x : Sheet). record x { reads = s₃.reads }) begins
 
-  pub is_within : (book : Book) → IsReady s₀ book → IsWithin s₃ book
+  pub is_within : (book : Book) → IsBetweenCalls s₀ book → IsWithin s₃ book
   is_within book ready = subst (λ (x : Sheet). IsWithin x book) (sym open_is) (within_if_ready s₀ book s₃.reads ready)
 
-  pub ends_are : (book : Book) (left right : List PathStep) (first last : ℕ) → IsReady s₀ book → first ≤ last → last ≤ greatest s₃.tree.table.width
+  pub ends_are : (book : Book) (left right : List PathStep) (first last : ℕ) → IsBetweenCalls s₀ book → first ≤ last → last ≤ greatest s₃.tree.table.width
       → left ≡ path_in s₁.tree.table s₁.tree.root first → right ≡ path_in s₂.tree.table s₂.tree.root last → AreEnds s₃ left right first last
   ends_are book left right first last ready order within is_left is_right = record {
     tree = let in_call = is_within book ready in record { of_kind = in_call.lawful.of_kind; words = tree_if_lawful (tree_as trees.Range s₃.rows s₃.tree) in_call.lawful.words };
@@ -104,7 +104,7 @@ acts_so : (m : List Range) (first last entry : ℕ) → first ≤ last → reser
 acts_so m first last entry order free = rw (le-ltb last first order, free) refl
 
 module _ (s₃ : Sheet) (book : Book) (left right : List PathStep) (items items' : List Item) (number min first last entry : ℕ)
-    (in_call : IsWithin s₃ book) (ends : AreEnds s₃ left right first last) (same_end : number ≡ s₃.ended + 1) (some : entry ≢ 0) (free : reserved entry ≡ false) (room : 28 ≤ length book.free)
+    (in_call : IsWithin s₃ book) (ends : AreEnds s₃ left right first last) (same_end : number ≡ s₃.ended + 1) (some : s₃.tree.root ≡ 0 → entry ≢ 0) (free : reserved entry ≡ false) (room : 28 ≤ length book.free)
     (is_region : spans_from min items ≡ region_of s₃.tree.table left right) (is_min : min ≡ (last_step left).min) (is_edited : spans_from min items' ≡ edited (spans_from min items) first last entry) where
   pub may_splice : MaySplice trees.Range s₃ book left right items' number (Store first last entry) reply.Ok
   may_splice = record {
@@ -121,7 +121,7 @@ module _ (s₃ : Sheet) (book : Book) (left right : List PathStep) (items items'
     last = last;
     entry = entry;
     store = record { acts = acts_so (map_by s₃.tree) first last entry ends.order free; order = ends.order; within = ends.within; lawful = free };
-    some = λ _. some;
+    some = some;
     left_path = ends.left_path;
     right_path = ends.right_path;
     edits = ap (λ (n : ℕ). spans_from n items') (sym is_min) ∙ is_edited ∙ ap (λ (l : List Span). edited l first last entry) is_region;
@@ -143,7 +143,7 @@ module _ (s s' s″ : Sheet) (book book' : Book) (number first last entry : ℕ)
   ended_is : s'.ended ≡ s.ended
   ended_is = ap (λ (x : Sheet). x.ended) spliced.rest
 
-  done_ready : IsReady done book'
+  done_ready : IsBetweenCalls done book'
   done_ready = record {
     idle = refl;
     lawful = record {
@@ -158,8 +158,8 @@ module _ (s s' s″ : Sheet) (book book' : Book) (number first last entry : ℕ)
         subst (IsBookOf done book') stamp (record { sound = booked.sound; rows = booked.rows; out = booked.out; reached = booked.reached; spare = booked.spare; stamps = booked.stamps });
   }
 
-  pub ready_again : IsReady s″ book'
-  ready_again = subst (λ (x : Sheet). IsReady x book') (sym ends) done_ready
+  pub ready_again : IsBetweenCalls s″ book'
+  ready_again = subst (λ (x : Sheet). IsBetweenCalls x book') (sym ends) done_ready
 
   pub one_more_ended : s″.ended ≡ s.ended + 1
   one_more_ended = let is = ap (λ (x : Sheet). x.ended) ends in let same = ended_is in omega arith
@@ -365,7 +365,7 @@ leaves_are s left right first last ends some =
 
 -- ---- rows that were only read are as ready as before
 
-ready_with : (s : Sheet) (book : Book) (reads : _) → IsReady s book → IsReady (record s { reads = reads }) book
+ready_with : (s : Sheet) (book : Book) (reads : _) → IsBetweenCalls s book → IsBetweenCalls (record s { reads = reads }) book
 ready_with s book reads ready = record {
   idle = ready.idle;
   lawful = record { of_kind = record { told = ready.lawful.of_kind.told; width = ready.lawful.of_kind.width }; words = ready.lawful.words };
@@ -374,5 +374,5 @@ ready_with s book reads ready = record {
   booked = record { sound = ready.booked.sound; rows = ready.booked.rows; out = ready.booked.out; reached = ready.booked.reached; spare = ready.booked.spare; stamps = ready.booked.stamps };
 }
 
-pub ready_if_read : (s s' : Sheet) (book : Book) → OnlyReads s s' → IsReady s book → IsReady s' book
-ready_if_read s s' book reads ready = subst (λ (x : Sheet). IsReady x book) (sym reads) (ready_with s book s'.reads ready)
+pub ready_if_read : (s s' : Sheet) (book : Book) → OnlyReads s s' → IsBetweenCalls s book → IsBetweenCalls s' book
+ready_if_read s s' book reads ready = subst (λ (x : Sheet). IsBetweenCalls x book) (sym reads) (ready_with s book s'.reads ready)

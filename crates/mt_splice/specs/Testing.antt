@@ -16,7 +16,7 @@ use Rattle.mt_splice.specs.Writes.{items_of_row}
 use Rattle.mt_splice.specs.Splice.{IsBookOf}
 
 -- the rows and the book between two calls
-pub record IsReady (s : Sheet) (book : Book) : Type 0 where
+pub record IsBetweenCalls (s : Sheet) (book : Book) : Type 0 where
   pub idle : s.flying ≡ false
   pub lawful : IsLawfulOf s trees.Range
   pub live : LiveAreReached s

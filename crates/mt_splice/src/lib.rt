@@ -12,6 +12,8 @@ mod levels;
 mod reads;
 mod replaces;
 mod splices;
+#[cfg(test)]
+mod stores;
 mod tends;
 #[cfg(test)]
 mod tests;

@@ -1,122 +1,22 @@
-ghost use Rattle.std.specs.Prelude.{◌≡◌, ◌≢◌, ◌<◌, ◌≤◌, ◌+◌, ◌-◌, ◌^◌, [], ◌∷◌, ◌++◌, ℕ, false, length};
-ghost use Rattle.mt_base.specs.Entry.{reserved};
-ghost use Rattle.mt_base.specs.Map.{over};
-ghost use Rattle.mt_layout.specs.Spans.{spans_from};
-ghost use Rattle.mt_layout.specs.declared.names.RowKind.TheVariants.{Leaf};
-ghost use Rattle.mt_rows.specs.Publish.{map_by};
+ghost use Rattle.std.specs.Prelude.{◌≡◌, ◌<◌, ◌≤◌, ◌+◌, ◌-◌, ◌^◌, IfOk, length};
 ghost use Rattle.mt_rows.specs.Sheet.{IsPlace, OnlyReads};
-ghost use Rattle.mt_splice.specs.Splice.{last_step, region_of};
-ghost use Rattle.mt_splice.specs.Testing.{IsReady, AreEnds, IsRunOver, leaves_items};
-ghost use Rattle.mt_splice.specs.Writes.{items_of_row};
+ghost use Rattle.mt_splice.specs.Testing.{IsBetweenCalls};
 
-use crate::reads::push_items;
-use crate::splice;
-use mt_base::{Call, Kind, NoMemory, Range, Reply};
+use crate::stores::store;
+use mt_base::{Call, Kind, NoMemory, Range, is_reserved};
 use mt_free::RowBook;
-use mt_layout::{Item, RowKind, Run};
-use mt_leaf::edit;
-use mt_path::{Path, PathStep, walk};
-use mt_rows::plain_trees::{map_in, reached_in};
+use mt_list::{ListMap, Ranges};
+use mt_rows::plain_trees::{height_in, map_in, reached_in};
 use mt_rows::{Place, PlainRows, Rows};
 use std::alloc::Global;
+use std::process::Abort;
 use std::test::Fail;
 
+/// The last index.
 const TOP: u64 = u64::MAX;
 
-/// Appends the items of the leaf that a path ends in.
-fn push_leaf(rows: &mut PlainRows, leaf: PathStep, run: &mut Run)
-    requires row { (16 ≤ leaf.row) × (leaf.row < 16 + rows.old.rows) }
-    requires room { length run.old.items ≤ 16 }
-    ensures items { run.new.items ≡ run.old.items ++ items_of_row rows.old.tree.table Leaf leaf.row leaf.max }
-    ensures rest { OnlyReads rows.old rows.new }
-{
-    push_items(rows, RowKind::Leaf, leaf.row, leaf.max, 0, 16, run);
-}
-
-/// The last step of a path.
-fn last_of(path: &Path) -> PathStep
-    requires { 1 ≤ length path.now.items }
-    ensures { result ≡ last_step path.now.items }
-{
-    path[path.len() - 1]
-}
-
-/// The items of two leaves, one behind the other, or those of one.
-fn leaves_at(rows: &mut PlainRows, left: PathStep, right: PathStep) -> Run
-    requires left { (16 ≤ left.row) × (left.row < 16 + rows.old.rows) }
-    requires right { (16 ≤ right.row) × (right.row < 16 + rows.old.rows) }
-    ensures items { result.items ≡ leaves_items rows.old.tree.table left right }
-    ensures rest { OnlyReads rows.old rows.new }
-{
-    let mut run = Run::new();
-    push_leaf(rows, left, &mut run);
-    if left.row != right.row {
-        push_leaf(rows, right, &mut run);
-    }
-    run
-}
-
-/// The one hole of the empty tree.
-fn hole() -> Run
-    ensures { result.items ≡ record { last = u64.MAX; word = 0; gap = 0 } ∷ [] }
-{
-    let mut run = Run::new();
-    run.push(Item {
-        last: TOP,
-        word: 0,
-        gap: 0,
-    });
-    run
-}
-
-/// The items of the leaves at the ends of two paths, and the first index there. The empty tree is one hole.
-fn items_at(rows: &mut PlainRows, left: &Path, right: &Path) -> (u64, Run)
-    requires ends { (first : ℕ) × (last : ℕ) × AreEnds rows.old left.now.items right.now.items first last }
-    ensures items { spans_from result.0 result.1.items ≡ region_of rows.old.tree.table left.now.items right.now.items }
-    ensures min { result.0 ≡ (last_step left.now.items).min }
-    ensures fit { (first last : ℕ) → AreEnds rows.old left.now.items right.now.items first last → IsRunOver result.0 result.1.items first last }
-    ensures rest { OnlyReads rows.old rows.new }
-{
-    if left.is_empty() {
-        return (0, hole());
-    }
-    let leaf = last_of(left);
-    let run = leaves_at(rows, leaf, last_of(right));
-    (leaf.min, run)
-}
-
-/// A whole store of an entry, as one call.
-fn store(rows: &mut PlainRows, book: &mut RowBook, first: u64, last: u64, entry: u64) -> Place
-    requires ready { IsReady rows.old book.old }
-    requires order { first ≤ last }
-    requires some { entry ≢ 0 }
-    requires lawful { reserved entry ≡ false }
-    requires free { 28 ≤ length book.old.free }
-    requires room { rows.old.ended < 2 ^ 62 - 1 }
-    ensures ready { IsReady rows.new book.new }
-    ensures ended { rows.new.ended ≡ rows.old.ended + 1 }
-    ensures map { map_by rows.new.tree ≡ over (map_by rows.old.tree) first last entry }
-{
-    let call = Call::Store { first, last, entry };
-    let number = rows.begin();
-    let left = walk(rows, first);
-    let right = walk(rows, last);
-    let (min, items) = items_at(rows, &left, &right);
-    let items = edit(&items, min, first, last, entry);
-    let place = splice(
-        rows,
-        book,
-        Kind::Range,
-        &left,
-        &right,
-        &items,
-        number,
-        &call,
-        &Reply::Ok,
-    );
-    rows.finish(&call, &Reply::Ok);
-    place
-}
+/// As many rows as the trees of these tests have.
+const ROWS: u64 = 400;
 
 /// Appends the words of a row.
 fn push_row(rows: &mut PlainRows, row: u32, words: &mut Vec<u64>) -> Result<(), NoMemory>
@@ -141,68 +41,304 @@ fn words_of(rows: &mut PlainRows, alloc: Global) -> Result<Vec<u64>, NoMemory>
     Ok(words)
 }
 
-/// The ranges that the rows stand for, and the rows that are reached.
-fn tree_of(rows: &mut PlainRows, alloc: Global) -> Result<(Vec<Range>, Vec<u32>), NoMemory>
-    ensures { OnlyReads rows.old rows.new }
+/// The root word.
+fn root_of(rows: &mut PlainRows) -> u64
+    ensures word { result ≡ rows.old.tree.root }
+    ensures rest { OnlyReads rows.old rows.new }
 {
-    let root = rows.root();
-    let words = words_of(rows, alloc)?;
-    let ranges = map_in(alloc, words.as_slice(), root)?;
-    let reached = reached_in(alloc, words.as_slice(), root)?;
-    Ok((ranges, reached))
+    rows.root()
 }
 
-/// The range of one index.
-fn at(index: u64) -> Range {
-    Range {
-        first: index,
-        last: index,
-        entry: 1,
+/// A tree of nodes with the book of its rows, and a sorted list that plays the same stores.
+#[derive(Drop)]
+struct Tree {
+    rows: PlainRows,
+    book: RowBook,
+    list: ListMap,
+}
+
+/// What a store made of a tree: whether it was published at the root word, the tree's levels and rows, and how many rows
+/// were taken and retired.
+#[derive(Debug, Clone, Copy, PartialEq, Eq)]
+struct Shape {
+    at_root: bool,
+    height: u32,
+    live: u64,
+    taken: u64,
+    gone: u64,
+}
+
+impl Tree {
+    /// The empty tree.
+    fn new(alloc: Global) -> Result<Tree, NoMemory>
+        ensures ready { IfOk result (λ t. IsBetweenCalls t.rows t.book) }
+        ensures ended { IfOk result (λ t. t.rows.ended ≡ 0) }
+    {
+        let rows = PlainRows::new(alloc, ROWS)?;
+        let book = RowBook::new(alloc, ROWS)?;
+        let list = ListMap::new(alloc, Kind::Range);
+        Ok(Tree { rows, book, list })
     }
+
+    /// Stores into the nodes.
+    fn store_in_nodes(&mut self, rt: &impl Abort, range: Range) -> Place
+        requires ready { IsBetweenCalls self.old.rows self.old.book }
+        requires room { self.old.rows.ended < 2 ^ 62 - 1 }
+        ensures ready { IsBetweenCalls self.new.rows self.new.book }
+        ensures ended { self.new.rows.ended ≡ self.old.rows.ended + 1 }
+    {
+        let Range { first, last, entry } = range;
+        let root = root_of(&mut self.rows);
+        assert!(rt; first <= last);
+        assert!(rt; !is_reserved(entry));
+        assert!(rt; root != 0 || entry != 0);
+        assert!(rt; self.book.free() >= 28);
+        store(&mut self.rows, &mut self.book, first, last, entry)
+    }
+
+    /// By the plain program the nodes stand for the ranges of the list, and as many rows are reached as are live.
+    fn expect_same(&mut self, rt: &impl Abort, alloc: Global, last: Range) -> Result<(), NoMemory>
+        ensures rows { OnlyReads self.old.rows self.new.rows }
+        ensures book { self.new.book ≡ self.old.book }
+    {
+        let root = root_of(&mut self.rows);
+        let words = words_of(&mut self.rows, alloc)?;
+        let ranges = map_in(alloc, words.as_slice(), root)?;
+        assert_eq!(rt;
+            ranges.as_slice(),
+            self.list.list(alloc)?.as_slice(),
+            "after {last:?}"
+        );
+        let reached = reached_in(alloc, words.as_slice(), root)?;
+        assert_eq!(rt; reached.len() as u64, self.book.live(), "after {last:?}");
+        Ok(())
+    }
+
+    /// Stores into the nodes and into the list, which then are the same.
+    fn store(&mut self, rt: &impl Abort, alloc: Global, range: Range) -> Result<Place, NoMemory>
+        requires ready { IsBetweenCalls self.old.rows self.old.book }
+        requires room { self.old.rows.ended < 2 ^ 62 - 1 }
+        ensures ready { IsBetweenCalls self.new.rows self.new.book }
+        ensures ended { self.new.rows.ended ≡ self.old.rows.ended + 1 }
+    {
+        let place = self.store_in_nodes(rt, range);
+        let Range { first, last, entry } = range;
+        self.list.act(&Call::Store { first, last, entry })?;
+        self.expect_same(rt, alloc, range)?;
+        Ok(place)
+    }
+
+    /// Stores each of these ranges.
+    fn store_all(
+        &mut self,
+        rt: &impl Abort,
+        alloc: Global,
+        ranges: &[Range],
+    ) -> Result<(), NoMemory>
+        requires ready { IsBetweenCalls self.old.rows self.old.book }
+        requires room { self.old.rows.ended + length ranges.now < 2 ^ 62 }
+        ensures ready { IsBetweenCalls self.new.rows self.new.book }
+        ensures ended { self.new.rows.ended ≤ self.old.rows.ended + length ranges.now }
+    {
+        for range in ranges {
+            self.store(rt, alloc, *range)?;
+        }
+        Ok(())
+    }
+
+    /// The number of its levels.
+    fn height(&mut self, alloc: Global) -> Result<u32, NoMemory>
+        ensures rows { OnlyReads self.old.rows self.new.rows }
+        ensures book { self.new.book ≡ self.old.book }
+    {
+        let root = root_of(&mut self.rows);
+        let words = words_of(&mut self.rows, alloc)?;
+        Ok(height_in(words.as_slice(), root))
+    }
+
+    /// Stores a range, and tells what that made of the tree.
+    fn shape_after(
+        &mut self,
+        rt: &impl Abort,
+        alloc: Global,
+        range: Range,
+    ) -> Result<Shape, NoMemory>
+        requires ready { IsBetweenCalls self.old.rows self.old.book }
+        requires room { self.old.rows.ended < 2 ^ 62 - 1 }
+    {
+        let (free, held) = (self.book.free(), self.book.held());
+        let place = self.store(rt, alloc, range)?;
+        Ok(Shape {
+            at_root: place == Place::Root,
+            height: self.height(alloc)?,
+            live: self.book.live(),
+            taken: free.abs_diff(self.book.free()),
+            gone: held.abs_diff(self.book.held()),
+        })
+    }
+}
+
+/// Tries each of these stores on a tree of its own, into which the ranges `before` were stored.
+fn expect_each(
+    rt: &impl Abort,
+    alloc: Global,
+    before: &[Range],
+    cases: &[(Range, Shape)],
+) -> Result<(), NoMemory> {
+    assert!(rt; before.len() < 1000);
+    for (range, want) in cases {
+        let mut tree = Tree::new(alloc)?;
+        tree.store_all(rt, alloc, before)?;
+        let shape = tree.shape_after(rt, alloc, *range)?;
+        assert_eq!(rt; shape, *want, "after {range:?}");
+    }
+    Ok(())
+}
+
+/// A store that was published at the root word.
+fn at_root(height: u32, live: u64, taken: u64, gone: u64) -> Shape {
+    Shape {
+        at_root: true,
+        height,
+        live,
+        taken,
+        gone,
+    }
+}
+
+/// A store that was published in a slot.
+fn in_slot(height: u32, live: u64, taken: u64, gone: u64) -> Shape {
+    Shape {
+        at_root: false,
+        height,
+        live,
+        taken,
+        gone,
+    }
+}
+
+fn range(first: u64, last: u64, entry: u64) -> Range {
+    Range { first, last, entry }
+}
+
+/// So many ranges of one index, at the even indexes.
+fn singles(alloc: Global, count: u32) -> Result<Vec<Range>, NoMemory> {
+    let mut ranges = Vec::new(alloc);
+    for n in 0..count {
+        let at = 2 * u64::from(n);
+        ranges.push(range(at, at, 1))?;
+    }
+    Ok(ranges)
+}
+
+/// So many ranges of ten indexes, side by side.
+fn tens(alloc: Global, count: u32) -> Result<Vec<Range>, NoMemory> {
+    let mut ranges = Vec::new(alloc);
+    for n in 0..count {
+        let first = 10 * u64::from(n);
+        ranges.push(range(first, first + 9, 1))?;
+    }
+    Ok(ranges)
 }
 
 #[test]
 fn stores_of_single_indexes(rt: HostRuntime) -> Result<(), Fail> {
-    let mut rows = PlainRows::new(rt.alloc(), 200)?;
-    let mut book = RowBook::new(rt.alloc(), 200)?;
-    for n in 0..17 {
-        assert!(&rt; book.free() >= 28);
-        store(&mut rows, &mut book, 2 * n, 2 * n, 1);
-    }
-    let (ranges, reached) = tree_of(&mut rows, rt.alloc())?;
-    let want = [
-        at(0),
-        at(2),
-        at(4),
-        at(6),
-        at(8),
-        at(10),
-        at(12),
-        at(14),
-        at(16),
-        at(18),
-        at(20),
-        at(22),
-        at(24),
-        at(26),
-        at(28),
-        at(30),
-        at(32),
-    ];
-    assert_eq!(&rt; ranges.as_slice(), want.as_slice());
-    assert_eq!(&rt; book.live(), reached.len() as u64);
+    let mut tree = Tree::new(rt.alloc())?;
+    let ranges = singles(rt.alloc(), 17)?;
+    assert!(&rt; ranges.len() == 17);
+    tree.store_all(&rt, rt.alloc(), ranges.as_slice())?;
+    assert_eq!(&rt; tree.list.list(rt.alloc())?.as_slice(), ranges.as_slice());
+    let shape = tree.shape_after(&rt, rt.alloc(), range(0, TOP, 8))?;
+    assert_eq!(&rt; shape, at_root(1, 1, 1, 5));
+    Ok(())
+}
 
-    assert!(&rt; book.free() >= 28);
-    let place = store(&mut rows, &mut book, 0, TOP, 8);
-    assert_eq!(&rt; place, Place::Root);
-    let (ranges, reached) = tree_of(&mut rows, rt.alloc())?;
-    let whole = Range {
-        first: 0,
-        last: TOP,
-        entry: 8,
-    };
-    assert_eq!(&rt; ranges.as_slice(), [whole].as_slice());
-    assert_eq!(&rt; reached.len(), 1);
-    assert_eq!(&rt; book.live(), 1);
+#[test]
+fn replaces_no_leaf_and_one(rt: HostRuntime) -> Result<(), Fail> {
+    let empty = [
+        (range(5, 5, 1), at_root(1, 1, 1, 0)),
+        (range(0, TOP, 8), at_root(1, 1, 1, 0)),
+    ];
+    expect_each(&rt, rt.alloc(), &[], &empty)?;
+    // one leaf, of 16 items
+    let leaf = [
+        // its items are others
+        (range(0, 0, 9), at_root(1, 1, 1, 1)),
+        // 17 items: two leaves, and a root above them
+        (range(16, 16, 1), at_root(2, 3, 3, 1)),
+        (range(0, TOP, 0), at_root(0, 0, 0, 1)),
+        (range(0, TOP, 8), at_root(1, 1, 1, 1)),
+    ];
+    expect_each(&rt, rt.alloc(), singles(rt.alloc(), 8)?.as_slice(), &leaf)?;
+    Ok(())
+}
+
+#[test]
+fn replaces_leaves_below_a_root(rt: HostRuntime) -> Result<(), Fail> {
+    // leaves of 9, 8, 8 and 15 items
+    let cases = [
+        // in place
+        (range(0, 0, 9), in_slot(2, 5, 1, 1)),
+        // the last leaf is split in two
+        (range(40, 40, 1), at_root(2, 6, 3, 2)),
+        // the first leaf has too few items, and takes those of the leaf behind
+        (range(0, 7, 3), at_root(2, 4, 2, 3)),
+        // the last leaf has too few items, and takes those of the leaf before
+        (range(30, 39, 0), at_root(2, 4, 2, 3)),
+        // the first leaf would end with a hole
+        (range(8, 8, 0), at_root(2, 4, 2, 3)),
+        // two leaves go, and the leaf behind is taken in: two new ones
+        (range(9, 23, 0), at_root(2, 4, 3, 4)),
+        // one leaf is left, and is the root
+        (range(5, 30, 7), at_root(1, 1, 1, 5)),
+        (range(0, TOP, 0), at_root(0, 0, 0, 5)),
+        (range(0, TOP, 8), at_root(1, 1, 1, 5)),
+    ];
+    expect_each(&rt, rt.alloc(), singles(rt.alloc(), 20)?.as_slice(), &cases)?;
+    // a root of 16 leaves, of which the last has 15 items
+    let grown = [(range(136, 136, 1), at_root(3, 20, 5, 2))];
+    expect_each(&rt, rt.alloc(), singles(rt.alloc(), 68)?.as_slice(), &grown)?;
+    Ok(())
+}
+
+#[test]
+fn splits_two_leaves_in_three(rt: HostRuntime) -> Result<(), Fail> {
+    // leaves of 16, 16 and 9 items, without a hole but the last; the first ends at 89
+    let mut before = tens(rt.alloc(), 24)?;
+    for at in [5, 15, 25, 30, 95, 105, 115, 125, 130] {
+        before.push(range(at, at, 1))?;
+    }
+    let cases = [(range(89, 90, 9), at_root(2, 5, 4, 3))];
+    expect_each(&rt, rt.alloc(), before.as_slice(), &cases)?;
+    Ok(())
+}
+
+#[test]
+fn replaces_rows_of_three_levels(rt: HostRuntime) -> Result<(), Fail> {
+    // two inner rows, of 9 leaves and of 15
+    let cases = [
+        // in place
+        (range(0, 0, 9), in_slot(3, 27, 1, 1)),
+        // the last leaf is split in two, below the same root
+        (range(200, 200, 1), in_slot(3, 28, 3, 2)),
+        // the second leaf goes, and the first takes the items of the third
+        (range(2, 12, 0), in_slot(3, 25, 2, 4)),
+        // the first inner row has too few leaves, and takes those of the row behind: two new ones
+        (range(0, 47, 3), at_root(3, 21, 4, 10)),
+        // the second inner row has too few leaves, and takes those of the row before: one, which is the root
+        (range(100, 190, 0), at_root(2, 14, 2, 15)),
+        // leaves of both inner rows go: two levels are left
+        (range(8, 160, 5), at_root(2, 6, 2, 23)),
+        // two levels are lost
+        (range(1, 196, 0), at_root(1, 1, 1, 27)),
+        (range(0, TOP, 0), at_root(0, 0, 0, 27)),
+        (range(0, TOP, 8), at_root(1, 1, 1, 27)),
+    ];
+    expect_each(
+        &rt,
+        rt.alloc(),
+        singles(rt.alloc(), 100)?.as_slice(),
+        &cases,
+    )?;
     Ok(())
 }

@@ -4,7 +4,7 @@ use Rattle.mt_rows.specs.Publish.{map_by}
 use Rattle.mt_base.specs.Map.{over}
 use Rattle.mt_splice.specs.Splice.{region_of}
 use Rattle.mt_splice.proofs.Testing.{wide, open_is, is_within, ends_are, may_splice, end_same, reads_on, ready_again, map_stored}
-use Rattle.mt_splice.proofs.tests.store.Goals as goal
+use Rattle.mt_splice.proofs.stores.store.Goals as goal
 
 pub items_at-min-requires : goal.items_at-min-requires
 items_at-min-requires c = record {
@@ -29,7 +29,8 @@ splice-place-requires c =
     (c.walk-right.ensures.path))
     (end_same c.args.rows.now c.items_at-min.new.rows c.begin-number.result
     (open_is c.args.rows.now c.begin-number.new.self c.walk-left.new.rows c.items_at-min.new.rows c.begin-number.ensures.rest c.walk-left.ensures.reads.rest reads) c.begin-number.ensures.number)
-    c.requires.some c.requires.lawful c.requires.free
+    (λ empty. c.requires.some (sym (ap (λ (x : Sheet). x.tree.root) (open_is c.args.rows.now c.begin-number.new.self c.walk-left.new.rows c.items_at-min.new.rows c.begin-number.ensures.rest c.walk-left.ensures.reads.rest reads)) ∙ empty))
+    c.requires.lawful c.requires.free
     (c.items_at-min.ensures.items ∙ ap (λ (x : Sheet). region_of x.tree.table c.walk-left.result.items c.walk-right.result.items) (sym c.items_at-min.ensures.rest))
     c.items_at-min.ensures.min c.edit-items.ensures
 

@@ -5,7 +5,7 @@ use Rattle.mt_path.specs.declared.paths.PathStep.{PathStep}
 use Rattle.mt_splice.specs.Splice.{last_step}
 use Rattle.mt_splice.specs.Testing.{IsRunOver, leaves_items}
 use Rattle.mt_splice.proofs.Testing.{leaves_are}
-use Rattle.mt_splice.proofs.tests.items_at.Goals as goal
+use Rattle.mt_splice.proofs.stores.items_at.Goals as goal
 
 pub last_of-requires : goal.last_of-requires
 last_of-requires c =
