@@ -13,6 +13,7 @@ reply_text (replies.Was entry) = codes "was " ++ decimal entry
 reply_text replies.None = codes "none"
 reply_text replies.Exists = codes "exists"
 reply_text replies.Invalid = codes "invalid"
+reply_text (replies.NoNodes s) = codes "nomem " ++ (decimal s.need ++ (codes " " ++ (decimal s.free ++ (codes " " ++ (decimal s.live ++ (codes " " ++ decimal s.held))))))
 
 abbrev pub kind_text : Kind → List ℕ
 kind_text kinds.Range = codes "range"

@@ -13,5 +13,5 @@ pub use calls::{Call, Query, is_reserved};
 pub use kinds::Kind;
 pub use memory::NoMemory;
 pub use ranges::Range;
-pub use replies::{Holder, Reply};
+pub use replies::{Holder, Reply, Shortage, errno};
 pub use widths::{Width, cols, top, width_of};

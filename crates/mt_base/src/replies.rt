@@ -1,3 +1,6 @@
+ghost use Rattle.std.specs.Prelude.{◌≡◌};
+ghost use Rattle.mt_base.specs.Errno.{errno_of};
+
 use std::fmt;
 
 /// The answer of a call that writes.
@@ -13,6 +16,19 @@ pub enum Reply {
     Exists,
     /// The call's range ends before it begins, or its entry is reserved, or is 0 in an insert. Nothing was changed.
     Invalid,
+    /// Too few rows are free. Nothing was changed.
+    NoNodes(Shortage),
+}
+
+/// How many rows a call needs, and how many rows are free, live and held; and where some are held, whose open section
+/// holds them.
+#[derive(Clone, Copy, Debug, PartialEq, Eq)]
+pub struct Shortage {
+    pub need: u64,
+    pub free: u64,
+    pub live: u64,
+    pub held: u64,
+    pub by: Option<Holder>,
 }
 
 impl fmt::Display for Reply {
@@ -28,6 +44,7 @@ impl fmt::Display for Reply {
             Reply::None => write!(f, "none"),
             Reply::Exists => write!(f, "exists"),
             Reply::Invalid => write!(f, "invalid"),
+            Reply::NoNodes(s) => write!(f, "nomem {} {} {} {}", s.need, s.free, s.live, s.held),
         }
     }
 }
@@ -37,4 +54,17 @@ impl fmt::Display for Reply {
 pub struct Holder {
     pub pass: u32,
     pub epoch: u64,
+}
+
+/// The error number of a refusal, as the kernel has it: 12 (`ENOMEM`), 17 (`EEXIST`) or 22 (`EINVAL`); none of another
+/// reply.
+pub fn errno(reply: &Reply) -> Option<u32>
+    ensures { result ≡ errno_of reply.now }
+{
+    match reply {
+        Reply::NoNodes(_) => Some(12),
+        Reply::Exists => Some(17),
+        Reply::Invalid => Some(22),
+        Reply::Ok | Reply::Was(_) | Reply::None => None,
+    }
 }

@@ -1,14 +1,17 @@
 -- What a publishing store and the end of a call are asked for, and what they leave.
 -- Source: this project's own; the kernel's mas_replace_node publishes a subtree by one store of its parent's slot.
-use Rattle.std.specs.Prelude.{◌≡◌, ◌≢◌, ◌⊎◌, ℕ, ◌+◌, ◌<◌, ◌≤◌, ◌==◌, Bool, true, false, List, [], ◌∷◌, ◌++◌, Option, Some, IfSome, length, map, nat_lt, if◌then◌else◌}
+use Rattle.std.specs.Prelude.{◌≡◌, ◌≢◌, ◌⊎◌, ℕ, ◌+◌, ◌-◌, ◌*◌, ◌^◌, ◌<◌, ◌≤◌, ◌==◌, Bool, true, false, List, [], ◌∷◌, ◌++◌, All, AllPairs, Option, Some, None, IfSome, length, map, nat_lt, if◌then◌else◌}
 use Rattle.std.specs.Option.{option_map, option_and_then}
 use Rattle.mt_base.specs.declared.kinds.Kind.{Kind}
 use Rattle.mt_base.specs.declared.ranges.Range.{Range}
 use Rattle.mt_base.specs.declared.calls.Call.{Call}
 use Rattle.mt_base.specs.declared.replies.Reply.{Reply}
+use Rattle.mt_base.specs.declared.replies.Reply.TheVariants.{NoNodes}
+use Rattle.mt_base.specs.declared.replies.Shortage.{Shortage}
 use Rattle.mt_base.specs.Width.{kind_width}
 use Rattle.mt_base.specs.Call.{acted}
 use Rattle.mt_base.specs.History.{Record}
+use Rattle.mt_base.specs.Nodes.{NeedsRows, IsShort}
 use Rattle.mt_layout.specs.declared.names.RowKind.{RowKind}
 use Rattle.mt_layout.specs.declared.spans.Span.{Span}
 use Rattle.mt_layout.specs.Rows.{row_in, named_kind, dead_mark}
@@ -139,11 +142,37 @@ pub record Published (s s' : Sheet) (place : Place) (word : ℕ) (call : Call) (
 abbrev pub NoneBuried : Sheet → Type 0
 NoneBuried s = (row : ℕ) → 16 ≤ row → row < 16 + s.rows → is_buried s row ≡ false
 
--- a call that published nothing leaves the map
+-- a row that died after the least epoch at which the last scan found a section open
+pub record IsHeldBack (s : Sheet) (row : ℕ) : Type 0 where
+  pub call : ℕ
+  pub dead : life_of s row ≡ Dead call
+  pub after : s.scan.least < call
+
+-- A shortage is real: it tells the height and how many rows are reached, and so many rows are held back by the section
+-- that a scan of this call found.
+pub record IsCounted (s : Sheet) (short : Shortage) : Type 0 where
+  pub need : short.need ≡ 3 * height_in s.tree.table s.tree.root + 1
+  pub live : short.live ≡ length (reached_in s.tree.table s.tree.root)
+  pub rows : List ℕ
+  pub many : length rows ≡ short.held
+  pub apart : AllPairs (λ r q. r ≢ q) rows
+  pub held : All (IsHeldBack s) rows
+  pub scanned : (s.scans_at_begin < s.scans) ⊎ (s.scans ≡ 2 ^ 64 - 1)
+  pub by : short.by ≡ (if nat_lt 0 short.held then s.scan.by else None)
+
+-- a call that is refused for want of rows
+pub record IsRefused (kind : Kind) (s : Sheet) (call : Call) (reply : Reply) : Type 0 where
+  pub shortage : Shortage
+  pub answer : reply ≡ NoNodes shortage
+  pub needs : NeedsRows kind (map_by s.tree) call
+  pub short : IsShort s.rows s.opened s.ended (map_by s.tree) shortage
+  pub counted : IsCounted s shortage
+
+-- a call that published nothing leaves the map, by its reply or by a refusal
 pub record LeavesMap (kind : Kind) (s : Sheet) (call : Call) (reply : Reply) : Type 0 where
   pub none_buried : NoneBuried s
   pub of_kind : AreOfKind s kind
-  pub answer : acted kind (map_by s.tree) call ≡ (map_by s.tree, reply)
+  pub answer : (acted kind (map_by s.tree) call ≡ (map_by s.tree, reply)) ⊎ IsRefused kind s call reply
 
 pub record MayFinish (kind : Kind) (s : Sheet) (call : Call) (reply : Reply) : Type 0 where
   pub flying : s.flying ≡ true

@@ -3,6 +3,7 @@
 use Rattle.std.specs.Prelude.{◌≡◌, ◌≢◌, ◌⊎◌, ℕ, ◌+◌, ◌-◌, ◌*◌, ◌^◌, ◌<◌, ◌≤◌, Bool, true, false, List, Option, Some, None, length, min, slice_index_or, slice_set}
 use Rattle.std.specs.Option.{option_map}
 use Rattle.mt_base.specs.declared.kinds.Kind.{Kind}
+use Rattle.mt_base.specs.declared.replies.Holder.{Holder}
 use Rattle.mt_base.specs.Width.{columns}
 use Rattle.mt_base.specs.History.{Record}
 use Rattle.mt_layout.specs.declared.names.RowKind.TheVariants.{Gapped}
@@ -101,6 +102,10 @@ pub record MayBegin (s : Sheet) : Type 0 where
 
 abbrev pub begun : Sheet → Sheet
 begun s = record s { flying = true; published = false; scans_at_begin = s.scans }
+
+-- the least epoch is that of the holder that is told; it is the greatest number where no section stands open
+abbrev pub IsScan : Scan → Type 0
+IsScan answer = ((answer.by ≡ None) × (answer.least ≡ 2 ^ 64 - 1)) ⊎ ((holder : Holder) × (answer.by ≡ Some holder) × (answer.least ≡ holder.epoch))
 
 -- after a scan with this answer; `cleared` may rise
 abbrev pub scanned : Sheet → Scan → ℕ → Sheet

@@ -2,7 +2,7 @@ ghost use Rattle.std.specs.Prelude.{◌≡◌, ◌≤◌, ◌+◌, min};
 ghost use Rattle.mt_base.specs.Width.{columns};
 ghost use Rattle.mt_base.specs.declared.kinds.Kind.{Kind};
 ghost use Rattle.mt_rows.specs.Publish.{MayPublish, Published, MayFinish, finished};
-ghost use Rattle.mt_rows.specs.Sheet.{Sheet, IsWhole, IsPlace, word_at, loaded, MayBegin, begun, scanned, IsFree, life_of, drafted, MayBury, after_bury, MayTend, tended};
+ghost use Rattle.mt_rows.specs.Sheet.{Sheet, IsWhole, IsPlace, word_at, loaded, MayBegin, begun, IsScan, scanned, IsFree, life_of, drafted, MayBury, after_bury, MayTend, tended};
 
 use mt_base::{Call, Holder, Reply, Width};
 
@@ -67,6 +67,7 @@ pub trait Rows {
 
     /// Loads every section word, and raises `cleared` by what was found.
     fn scan(&mut self) -> Scan
+        ensures answer { IsScan result }
         ensures rest { sheet self.new ≡ scanned (sheet self.old) result (sheet self.new).cleared }
         ensures kept { (sheet self.old).cleared ≤ (sheet self.new).cleared }
         ensures cleared { min result.least (sheet self.old).ended ≤ (sheet self.new).cleared };
@@ -93,7 +94,8 @@ pub trait Rows {
         requires { (kind : Kind) × MayPublish kind (sheet self.old) place word call.now reply.now }
         ensures { Published (sheet self.old) (sheet self.new) place word call.now reply.now };
 
-    /// Ends the call in flight. Where nothing was published this is its event, and it left the map as it was.
+    /// Ends the call in flight. Where nothing was published this is its event, and it left the map as it was: by its
+    /// reply, or since it was refused for want of rows.
     fn finish(&mut self, call: &Call, reply: &Reply)
         requires { (kind : Kind) × MayFinish kind (sheet self.old) call.now reply.now }
         ensures { sheet self.new ≡ finished (sheet self.old) call.now reply.now };
