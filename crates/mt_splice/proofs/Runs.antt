@@ -5,8 +5,6 @@ use Rattle.std.specs.List.{flat_map}
 use Rattle.std.proofs.lemmas.Bool.{cases_lt}
 use Rattle.mt_base.specs.declared.kinds.Kind.{Kind}
 use Rattle.mt_base.specs.declared.kinds.Kind.TheVariants as trees
-use Rattle.mt_base.specs.declared.widths.Width.{Width}
-use Rattle.mt_base.specs.declared.widths.Width.TheVariants.{Long}
 use Rattle.mt_base.specs.declared.ranges.Range.{Range}
 use Rattle.mt_base.specs.Entry.{reserved}
 use Rattle.mt_base.specs.Map.{over}
@@ -26,6 +24,7 @@ use Rattle.mt_splice.specs.Splice.{region_of}
 use Rattle.mt_splice.specs.Stretches.{ArePaths, spans_on}
 use Rattle.mt_splice.specs.Climbs.{begin_of, end_of, MayBeIn, beside, Gathered, Climbed}
 use Rattle.mt_splice.specs.Runs.{span_to, MayBeCut}
+use Rattle.mt_splice.proofs.Sizes.{range_slots}
 use Rattle.mt_splice.proofs.Counts.{full_unless_hole, full_join, full_joined, two_hold_an_entry}
 use Rattle.mt_splice.proofs.Regions.{all_edited}
 use Rattle.mt_splice.proofs.PathRows.{rows_in_order}
@@ -33,10 +32,6 @@ use Rattle.mt_splice.proofs.Neighbours.{takes_right, takes_left}
 use Rattle.mt_splice.proofs.Rises.{at_here, step_here, row_is_lawful, spans_here, level_left}
 
 -- ---- rows of a tree of ranges
-
-range_slots : (width : Width) (h : ℕ) → slots_of width (kind_at trees.Range h) ≡ 16
-range_slots Long zero = refl
-range_slots Long (suc h) = refl
 
 range_least : (h : ℕ) → least_of_kind (kind_at trees.Range h) ≡ 6
 range_least zero = refl

@@ -39,6 +39,7 @@ use Rattle.mt_path.proofs.Entering.{path_of_none}
 use Rattle.mt_path.proofs.TreePaths.{row_of, rows_at, step, place, lawful, levels, rows_fill, right_begins}
 use Rattle.mt_splice.specs.Splice.{IsBookOf, IsSpliced, HasParents, MaySplice, last_step, leaf_spans, region_of}
 use Rattle.mt_splice.specs.Testing.{IsBetweenCalls, AreEnds, IsRunOver, IsWithin, leaf_items, leaves_items}
+use Rattle.mt_splice.proofs.Sizes.{leaf_slots}
 use Rattle.mt_splice.proofs.Gathering.{few_items}
 use Rattle.mt_splice.proofs.LevelRows.{fills_end, fills_rise}
 use Rattle.mt_splice.proofs.PathRows.{rows_in_order, spans_of_step}
@@ -168,9 +169,6 @@ module _ (s s' s″ : Sheet) (book book' : Book) (number first last entry : ℕ)
   map_stored = ap (λ (x : Sheet). map_by x.tree) ends ∙ (spliced.map ∙ ap (λ (a : List Range × _). a.0) (acts_so (map_by s.tree) first last entry order free))
 
 -- ---- the leaves at a store's ends
-
-leaf_slots : (width : Width) → slots_of width Leaf ≡ 16
-leaf_slots Long = refl
 
 some_filled : (lo hi begin : ℕ) (items : List Item) → lo < hi → Fills lo hi (spans_from begin items) → 1 ≤ length items
 some_filled lo hi begin [] wide fills = let same : lo ≡ hi = fills in absurd (omega arith)

@@ -9,11 +9,11 @@ ghost use Rattle.mt_splice.specs.TakingIn.{is_hole_at, short_run, holed_run, bes
 ghost use Rattle.mt_rows.specs.Laws.{least_of_kind};
 
 use crate::gathers::push_all;
-use crate::reads::{push_items, slots_in};
+use crate::reads::push_items;
 use mt_layout::{RowKind, Run};
 use mt_leaf::push_joined_all;
 use mt_path::{Path, PathStep, left_at, right_at};
-use mt_rows::Rows;
+use mt_rows::{Rows, slots};
 
 /// The items that are to stand in the rows of a level from the left path's row to the right path's.
 #[derive(Drop)]
@@ -71,7 +71,7 @@ fn row_items<R: Rows>(rows: &mut R, kind: RowKind, step: &PathStep) -> Run
     ensures rest { OnlyReads (R.sheet rows.old) (R.sheet rows.new) }
 {
     let mut run = Run::new();
-    let slots = slots_in(rows.width(), kind);
+    let slots = slots(rows.width(), kind);
     push_items(rows, kind, step.row, step.max, 0, slots, &mut run);
     run
 }

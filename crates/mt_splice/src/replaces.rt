@@ -23,10 +23,7 @@ use mt_base::{Call, Reply, Width, top};
 use mt_free::RowBook;
 use mt_layout::{Item, RowKind, Run};
 use mt_path::Path;
-use mt_rows::{Place, Rows};
-
-/// The first column of a slot in an inner row of a tree of ranges.
-const SLOTS: u32 = 16;
+use mt_rows::{Place, Rows, slots};
 
 /// Writes the rows of a level, and buries those that they replace.
 fn replace_rows<R: Rows>(
@@ -155,9 +152,10 @@ fn end_in_place<R: Rows>(
         → IsSpliced b.kind b.sheet (R.sheet rows.new) b.book book.new b.number call.now reply.now result }
 {
     let parent = step_on(&region.left, depth as usize);
+    let column = slots(rows.width(), RowKind::Inner) + parent.slot;
     let place = Place::Slot {
         row: parent.row,
-        col: SLOTS + parent.slot,
+        col: column,
     };
     book.rows();
     publish_at(rows, place, new[0].word, made.as_slice(), call, reply);
