@@ -40,7 +40,7 @@ use Rattle.mt_splice.specs.Levels.{MayWriteRow, IsOneWritten}
 use Rattle.mt_splice.specs.Endings.{IsStepIn, column_of}
 use Rattle.mt_splice.specs.Ends.{End, MayEnd, IsReplacedAs, IsEndPlace}
 use Rattle.mt_splice.specs.Replacing.{IsCase, IsAnswer, IsUnderWay, AreRowsReplaced, MayBuryAbove, AreAboveBuried, EndsHere, MayEndLevel, MayEndAtRoot, MayEndAbove, MayEndInPlace}
-use Rattle.mt_splice.proofs.Sizes.{inner_slots}
+use Rattle.mt_splice.proofs.Sizes.{inner_slots, tree_slots}
 use Rattle.mt_splice.proofs.Steps.{rows_now}
 use Rattle.mt_splice.proofs.Written.{holds_written, are_taken}
 use Rattle.mt_splice.proofs.Gathering.{few_items}
@@ -220,7 +220,7 @@ module _ (b : Before) (start : Start) (s : Sheet) (book : Book) (w : Work) (made
     run = record {
       fills = may.rows.climbed.fills;
       some = let some = may.rows.some in let same = length-spans_from from new in omega arith;
-      few = let few = may.rows.few in let same = length-spans_from from new in omega arith;
+      few = let few = may.rows.few in let slots = tree_slots start.tree (suc height) may.rows.under.holds.range in let same = length-spans_from from new in omega arith;
       least = let is = ap (λ (c : Bool). if c then 2 else least_of_kind (kind_at start.tree.kind (suc height))) covers in let two = may.two in let same = length-spans_from from new in omega arith;
       gapless = may.rows.climbed.gapless;
       fit = tt;

@@ -99,6 +99,7 @@ module _ (t : Tree) (h : ℕ) (stands : Stands t h) (first last : ℕ) (order : 
     run =
         (let count = length_edited left_leaf.first (left_leaf.last + 1) first last entry (spans_in t.table left_leaf) (leaf_law first from_within).pivots.fills order in
         let most = leaf_most first from_within in
+        let slots = leaf_slots t.table.width in
         record { few = omega arith; ends = λ more hole. omega arith });
   }
 
@@ -142,6 +143,7 @@ module _ (t : Tree) (h : ℕ) (stands : Stands t h) (first last : ℕ) (order : 
             ∙ ap (λ (l : List Span). stored (spans_in t.table left_leaf ++ l) first last entry) (sym (expand-append t.table middle.0 (right_leaf ∷ []) ∙ ap (λ (l : List Span). expand t.table middle.0 ++ l) (append-nil (spans_in t.table right_leaf)))));
         run =
             (let most = leaf_most first from_within in let most' = leaf_most last within in
+            let slots = leaf_slots t.table.width in
             let apart = fills_le (left_leaf.last + 1) right_leaf.first middle.0 middle.2 in
             let count = two_short left_leaf.first (left_leaf.last + 1) right_leaf.first (right_leaf.last + 1) first last entry 16 (spans_in t.table left_leaf) (spans_in t.table right_leaf)
             own.0.pivots.fills right_row.pivots.fills (omega arith) apart from' (omega arith) most most' in

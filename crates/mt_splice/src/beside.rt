@@ -1,6 +1,7 @@
 //! What is to stand in the rows of a level, and the row beside them.
 
 ghost use Rattle.std.specs.Prelude.{◌≡◌, ◌<◌, ◌≤◌, ◌+◌, ◌-◌, ◌||◌, ℕ, length};
+ghost use Rattle.mt_rows.specs.Spans.{slots_of};
 ghost use Rattle.mt_rows.specs.Sheet.{OnlyReads};
 ghost use Rattle.mt_path.specs.Paths.{step_at};
 ghost use Rattle.mt_splice.specs.Writes.{items_of_row};
@@ -97,7 +98,7 @@ fn take_right<R: Rows>(
 ) -> Region
     requires depth { depth < length right.items }
     requires row { let step = step_at right.items depth in (16 ≤ step.row) × (step.row < 16 + (R.sheet rows.old).rows) }
-    requires few { length region.run.items ≤ 33 }
+    requires room { length region.run.items + slots_of (R.sheet rows.old).tree.table.width kind ≤ 72 }
     ensures left { result.left ≡ region.left }
     ensures right { result.right ≡ right }
     ensures run { let step = step_at right.items depth in result.run.items ≡ beside_items kind region.run.items (items_of_row (R.sheet rows.old).tree.table kind step.row step.max) }
@@ -117,7 +118,7 @@ fn take_right<R: Rows>(
 fn take_left<R: Rows>(rows: &mut R, region: Region, left: Path, depth: u32, kind: RowKind) -> Region
     requires depth { depth < length left.items }
     requires row { let step = step_at left.items depth in (16 ≤ step.row) × (step.row < 16 + (R.sheet rows.old).rows) }
-    requires few { length region.run.items ≤ 33 }
+    requires room { length region.run.items + slots_of (R.sheet rows.old).tree.table.width kind ≤ 72 }
     ensures left { result.left ≡ left }
     ensures right { result.right ≡ region.right }
     ensures run { let step = step_at left.items depth in result.run.items ≡ beside_items kind (items_of_row (R.sheet rows.old).tree.table kind step.row step.max) region.run.items }
