@@ -38,6 +38,8 @@ pub fn left_at<R: Rows>(rows: &mut R, path: &Path, level: u32) -> Option<Path>
     ensures none { IsNone result ↔ ((step_at path.now.items level).min ≡ 0) }
     ensures some { IfSome result (λ left. left.items ≡ path_in (R.sheet rows.old).tree.table (R.sheet rows.old).tree.root ((step_at path.now.items level).min - 1)) }
     ensures rest { OnlyReads (R.sheet rows.old) (R.sheet rows.new) }
+    ensures reads { IfSome result (λ left. ReadsUpTo (loads_on left.items) (R.sheet rows.old) (R.sheet rows.new)) }
+    ensures unread { IfNone result (R.sheet rows.new ≡ R.sheet rows.old) }
 {
     let first = path[level as usize].min;
     if first == 0 {
