@@ -3,7 +3,6 @@ ghost use Rattle.mt_base.specs.declared.kinds.Kind.{Kind};
 ghost use Rattle.mt_base.specs.Width.{greatest};
 ghost use Rattle.mt_layout.specs.declared.names.RowKind.{RowKind};
 ghost use Rattle.mt_layout.specs.Rows.{row_in, named_kind};
-ghost use Rattle.mt_rows.specs.Spans.{slots_of};
 ghost use Rattle.mt_rows.specs.Trees.{map_in};
 ghost use Rattle.mt_rows.specs.Sheet.{Sheet, IsPlace, ReadsUpTo};
 ghost use Rattle.mt_rows.specs.Publish.{IsTreeOf};
@@ -11,9 +10,9 @@ ghost use Rattle.mt_path.specs.Paths.{below, path_of, path_in, loads_on};
 ghost use Rattle.mt_path.specs.Walks.{row_for, IsFound, gapless, rest_of};
 
 use crate::paths::{Path, PathStep};
-use mt_base::{Width, top};
+use mt_base::top;
 use mt_layout::{RowKind, Span, kind_of, row_of};
-use mt_rows::Rows;
+use mt_rows::{Rows, slots};
 
 /// No row stands deeper than this many levels.
 const DEEPEST: u32 = 9;
@@ -47,16 +46,6 @@ fn row_for(span: Span) -> Option<Row>
         min: span.first,
         max: span.last,
     })
-}
-
-/// How many slots a row of this kind has.
-fn slots(width: Width, kind: RowKind) -> u32
-    ensures { result ≡ slots_of width kind }
-{
-    match (width, kind) {
-        (Width::Long, RowKind::Leaf | RowKind::Inner) => 16,
-        (Width::Long, RowKind::Gapped) => 10,
-    }
 }
 
 /// The slot of a row that holds an index: the first whose pivot is not below it. No pivot behind that is loaded.

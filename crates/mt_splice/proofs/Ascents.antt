@@ -7,7 +7,7 @@ use Rattle.mt_layout.specs.declared.spans.Span.{Span}
 use Rattle.mt_layout.specs.Spans.{spans_from, Fills}
 use Rattle.mt_base.specs.declared.kinds.Kind.{Kind}
 use Rattle.mt_leaf.proofs.Spans.{item_of, items_of-spans_from, spans_from-items_of, fills_le}
-use Rattle.mt_rows.specs.Spans.{spans_in}
+use Rattle.mt_rows.specs.Spans.{slots_of, spans_in}
 use Rattle.mt_rows.specs.Laws.{top_of, kind_at}
 use Rattle.mt_rows.specs.Sheet.{Sheet, OnlyReads}
 use Rattle.mt_path.specs.declared.paths.PathStep.{PathStep}
@@ -22,6 +22,7 @@ use Rattle.mt_splice.specs.TakingIn.{MayWiden}
 use Rattle.mt_splice.specs.Replacing.{MayRise}
 use Rattle.mt_splice.proofs.LevelRows.{fills_end, last_ends}
 use Rattle.mt_splice.proofs.Rises.{step_here, spans_here, level_left}
+use Rattle.mt_splice.proofs.Sizes.{inner_slots}
 use Rattle.mt_splice.proofs.Runs.{left_few, slot_used, few_gathered, two_gathered}
 use Rattle.mt_splice.proofs.Widens.{now_read, table_now, row_number, deep_enough, spans_by_items}
 
@@ -96,10 +97,11 @@ module _ (start : Start) (w : Work) (s : Sheet) (left right : List PathStep) (de
       let rows = may.is_now.rows in
       (number.0, (let below = number.1 in omega arith))
 
-  pub left_slot : (step_at left depth).slot ≤ 16
+  pub left_slot : (step_at left depth).slot ≤ slots_of s.tree.table.width Inner
   left_slot =
       let few = left_few start w left right depth height new_spans climbed in
       let used = slot_used start w left right depth height new_spans climbed in
+      let slots = inner_slots s.tree.table.width in
       omega arith
 
   -- ---- their items

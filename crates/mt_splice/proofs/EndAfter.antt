@@ -101,6 +101,7 @@ pub record Outcome (f : Finish) (s' : Sheet) : Type 0 where
   pub lives : (row : ℕ) → 16 ≤ row → row < 16 + f.end.before.sheet.rows → life_of s' row ≡ life_after f.sheet (published f) row
   pub buried : (row : ℕ) → 16 ≤ row → row < 16 + f.end.before.sheet.rows → is_buried s' row ≡ false
   pub at : (row col : ℕ) → f.place ≡ Slot row col → word_at s' row col ≡ f.word
+  pub kept : (row col : ℕ) → 0 < col → col < columns f.end.before.sheet.tree.table.width → column s'.tree.table row col ≡ column (published f).table row col
 
 some_slots : (w : Width) (kind : RowKind) (i : ℕ) → 0 < slot_column (slots_of w kind) i
 some_slots Long Leaf i = omega arith
@@ -179,6 +180,9 @@ module _ (f : Finish) (s₁ s₂ : Sheet) (done : Published f.sheet s₁ f.place
         ap (λ (x : Sheet). life_of x row) later_is ∙ done.lives row first (subst (λ (n : ℕ). row < 16 + n) (sym (rows_same f)) last);
     buried = λ row first last.
         ap (λ (x : Sheet). is_buried x row) later_is ∙ done.buried row first (subst (λ (n : ℕ). row < 16 + n) (sym (rows_same f)) last);
+    kept = λ row col above within.
+        only.kept row col above (subst (λ (v : Width). col < columns v) (sym (ap (λ (v : Tree). v.table.width) tree₁ ∙ (width₁ f.place ∙ (progress f).width))) within)
+        ∙ ap (λ (v : Tree). column v.table row col) tree₁;
     at = λ row col is.
         (let above = above_in f.sheet f.place (place_is f) row col is in
         only.kept row col above.0 (subst (λ (v : Width). col < columns v) (sym (ap (λ (v : Tree). v.table.width) tree₁ ∙ width₁ f.place)) above.1)

@@ -22,13 +22,14 @@ use Rattle.mt_rows.specs.Levels.{is_row_of}
 use Rattle.mt_rows.specs.Trees.{height_in}
 use Rattle.mt_rows.specs.Laws as laws
 use Rattle.mt_rows.specs.Sheet.{Sheet, Tree, life_of, is_buried, word_at}
-use Rattle.mt_rows.specs.Publish.{tree_as, IsTreeOf, LiveAreReached, NoneBuried, is_reached, IsReached, map_by, with_published, life_after}
+use Rattle.mt_rows.specs.Publish.{tree_as, IsTreeOf, LiveAreReached, NoneBuried, is_reached, IsReached, map_by, with_published, life_after, IsPlaceToPublish}
 use Rattle.mt_rows.proofs.Reached as reached
 use Rattle.mt_splice.specs.Seen.{passing}
 use Rattle.mt_splice.specs.Work.{Work, now}
 use Rattle.mt_splice.specs.Progress.{Before, is_taken, row_seen, stamped}
 use Rattle.mt_splice.specs.Splice.{IsSpare, IsBookOf, WasPublishedAt, IsBooked, HasParents, IsSpliced}
 use Rattle.mt_splice.specs.Ends.{StandsAs, count_in, IsChildSlot, IsEndPlace, IsTop}
+use Rattle.mt_splice.proofs.Drafts.{equal_or_not, other_row, other_column}
 use Rattle.mt_splice.proofs.EndTrees.{is_tree, none_or_some}
 use Rattle.mt_splice.proofs.EndHoles.{name_some, at_on_level, child_on_level}
 use Rattle.mt_splice.proofs.EndLists.{all_ones, map_one, one_contains, apart_ends, seen_contains, contains_seen, stamped_rows, rows_stamped}
@@ -379,6 +380,34 @@ module _ (f : ends.Finish) (s' : Sheet) (o : Outcome f s') where
   published_in None new (Slot row col) is_old is_new is_place was at top = absurd at
   published_in (Some h) new (Slot row col) is_old is_new is_place was at top = slot_published h row col is_old at.0 new top is_place at.1
 
+  -- ---- words that stay
+
+  stored_kept : (place : Place) → IsPlaceToPublish s place → (row col : ℕ) → col < columns s.tree.table.width → place ≢ Slot row col → column (with_published s.tree place f.word).table row col ≡ column s.tree.table row col
+  stored_kept Root at row col within other = refl
+  stored_kept (Slot r c) at row col within other =
+      let inside = (above_in s (Slot r c) at r c refl).1 in
+      elim (equal_or_not row r) [
+        | inr off ↦ other_row s.tree.table.width s.tree.table.words r c f.word row col off inside within
+        | inl same ↦
+            subst (λ (n : ℕ). column (with_published s.tree (Slot r c) f.word).table n col ≡ column s.tree.table n col) (sym same)
+            (other_column s.tree.table.width s.tree.table.words r c f.word col (λ here. other (λ i. Slot (sym same i) (sym here i))))
+      ]
+
+  -- a row that is not reached for the first time was not taken
+  not_taken_of : (row : ℕ) → (IsReached s'.tree row → IsReached b.sheet.tree row) → is_taken w row ≡ false
+  not_taken_of row old = elim (none_or_some (ends.taken_count f row)) [
+    | inl none ↦ ends.not_taken f row none
+    | inr some ↦
+        let was = ends.was_reached f row (old (is_reached_later row (ends.taken_later f row some))) in
+        ends.old_is_not_taken f row was
+  ]
+
+  kept : (row col : ℕ) → (IsReached s'.tree row → IsReached b.sheet.tree row) → 0 < col → col < columns b.sheet.tree.table.width → f.place ≢ Slot row col → word_at s' row col ≡ word_at b.sheet row col
+  kept row col old above within other =
+      o.kept row col above within
+      ∙ (stored_kept f.place (ends.place_is f) row col (subst (λ (v : Width). col < columns v) (sym (ends.progress f).width) within) other
+      ∙ (ends.progress f).kept row col (not_taken_of row old) above within)
+
   -- all is done but for the parent words
   pub spliced : HasParents (tree_as b.kind s'.rows s'.tree) → IsSpliced b.kind b.sheet s' b.book book b.number f.call f.reply f.place
   spliced parents = record {
@@ -387,6 +416,7 @@ module _ (f : ends.Finish) (s' : Sheet) (o : Outcome f s') where
     parents = parents;
     map = map_is;
     published = published_in f.end.old f.end.new f.place refl refl refl (ends.stands_was f) f.may.at f.may.top;
+    kept = kept;
     none_buried = none_buried;
     live = live;
     dead = dead;

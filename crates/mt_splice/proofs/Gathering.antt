@@ -5,8 +5,6 @@ use Rattle.std.proofs.lemmas.Bool.{cases_Bool}
 use Rattle.std.proofs.lemmas.List.{take_all, length-take}
 use Rattle.std.proofs.Math.ListN.{drop_of_length-le}
 use Rattle.mt_layout.specs.declared.items.Item.{Item}
-use Rattle.mt_base.specs.declared.widths.Width.{Width}
-use Rattle.mt_base.specs.declared.widths.Width.TheVariants.{Long}
 use Rattle.mt_layout.specs.declared.names.RowKind.TheVariants.{Inner}
 use Rattle.mt_layout.specs.Columns.{items_from, pivot_column}
 use Rattle.mt_rows.specs.Spans.{Table, base_of, slots_of, gaps_of}
@@ -48,14 +46,11 @@ items_ahead k xs = let n = length-take k xs in omega arith
 
 -- ---- of a row of a table
 
-inner_slots : (w : Width) → slots_of w Inner ≡ 16
-inner_slots Long = refl
-
 pub behind_slot : (t : Table) (row max k : ℕ) → k < length (items_of_row t Inner row max)
-    → take (16 - k) (items_from (slots_of t.width Inner) (gaps_of t.width Inner) t.words (base_of t row) max (slots_of t.width Inner - k) k) ≡ drop k (items_of_row t Inner row max)
+    → take (slots_of t.width Inner - k) (items_from (slots_of t.width Inner) (gaps_of t.width Inner) t.words (base_of t row) max (slots_of t.width Inner - k) k) ≡ drop k (items_of_row t Inner row max)
 behind_slot t row max k below =
     let few = few_items (slots_of t.width Inner) (gaps_of t.width Inner) t.words (base_of t row) max (slots_of t.width Inner) 0 in
-    items_behind (slots_of t.width Inner) (gaps_of t.width Inner) t.words (base_of t row) max k (16 - k) below (omega (arith, inner_slots t.width))
+    items_behind (slots_of t.width Inner) (gaps_of t.width Inner) t.words (base_of t row) max k (slots_of t.width Inner - k) below (omega arith)
 
 pub none_behind : (k : ℕ) (xs : List Item) → length xs ≤ k → drop k xs ≡ []
 none_behind k xs past = drop_of_length-le xs past

@@ -40,6 +40,7 @@ use Rattle.mt_splice.specs.Levels.{MayWriteRow, IsOneWritten}
 use Rattle.mt_splice.specs.Endings.{IsStepIn, column_of}
 use Rattle.mt_splice.specs.Ends.{End, MayEnd, IsReplacedAs, IsEndPlace}
 use Rattle.mt_splice.specs.Replacing.{IsCase, IsAnswer, IsUnderWay, AreRowsReplaced, MayBuryAbove, AreAboveBuried, EndsHere, MayEndLevel, MayEndAtRoot, MayEndAbove, MayEndInPlace}
+use Rattle.mt_splice.proofs.Sizes.{inner_slots, tree_slots}
 use Rattle.mt_splice.proofs.Steps.{rows_now}
 use Rattle.mt_splice.proofs.Written.{holds_written, are_taken}
 use Rattle.mt_splice.proofs.Gathering.{few_items}
@@ -68,9 +69,6 @@ slots_few : (w : Width) (kind : RowKind) → slots_of w kind ≤ 16
 slots_few Long Leaf = omega arith
 slots_few Long Inner = omega arith
 slots_few Long Gapped = omega arith
-
-inner_slots : (w : Width) → slots_of w Inner ≡ 16
-inner_slots Long = refl
 
 spans_few : (t : Table) (kind : Option RowKind) (x : Span) → length (spans_by t kind x) ≤ 16
 spans_few t None x = omega arith
@@ -222,7 +220,7 @@ module _ (b : Before) (start : Start) (s : Sheet) (book : Book) (w : Work) (made
     run = record {
       fills = may.rows.climbed.fills;
       some = let some = may.rows.some in let same = length-spans_from from new in omega arith;
-      few = let few = may.rows.few in let same = length-spans_from from new in omega arith;
+      few = let few = may.rows.few in let slots = tree_slots start.tree (suc height) may.rows.under.holds.range in let same = length-spans_from from new in omega arith;
       least = let is = ap (λ (c : Bool). if c then 2 else least_of_kind (kind_at start.tree.kind (suc height))) covers in let two = may.two in let same = length-spans_from from new in omega arith;
       gapless = may.rows.climbed.gapless;
       fit = tt;
@@ -293,17 +291,22 @@ module _ (b : Before) (start : Start) (s : Sheet) (book : Book) (w : Work) (made
       let few = spans_few (now start w).table (named_kind stays.0.row.word) stays.0.row in
       omega arith
 
-  column_is : column_of (now start w) (kind_at start.tree.kind (suc height)) step ≡ 16 + step.slot
-  column_is = (λ i. slot_column (slots_of start.tree.table.width (inner_kind (under.holds.range i))) step.slot) ∙ ap (λ (n : ℕ). slot_column n step.slot) (inner_slots start.tree.table.width)
+  width_now : start.tree.table.width ≡ s.tree.table.width
+  width_now = ap (λ (t : Tree). t.table.width) under.case.was.tree ∙ sym under.progress.width
 
-  pub place_ends : (d : Item) → IsBook book → MayEnd (end_with b start w book start.height) s made (Slot step.row (16 + step.slot)) (slice_index_or new 0 d).word call reply
-  place_ends d sound =
+  column_is : column_of (now start w) (kind_at start.tree.kind (suc height)) step ≡ slot_column (slots_of s.tree.table.width Inner) step.slot
+  column_is =
+      (λ i. slot_column (slots_of start.tree.table.width (inner_kind (under.holds.range i))) step.slot)
+      ∙ ap (λ (width : Width). slot_column (slots_of width Inner) step.slot) width_now
+
+  pub place_ends : (n : ℕ) → n ≡ slots_of s.tree.table.width Inner → (d : Item) → IsBook book → MayEnd (end_with b start w book start.height) s made (Slot step.row (n + step.slot)) (slice_index_or new 0 d).word call reply
+  place_ends n is d sound =
       let word = (slice_index_or new 0 d).word in
       let climbed = climbed_one d in
       let x = one_span left (suc depth) (slice_index_or new 0 d) in
       let levels : start.height ≡ depth + suc height = (let below = climbed.levels in omega arith) in
       let end = forms.ends_in_slot b start s book w under.case.was under.progress depth height word step levels stays.0 stays.1 (slots.ends_at_step start w left right depth height x climbed may.same has) in
-      subst (λ (col : ℕ). MayEnd (end_with b start w book start.height) s made (Slot step.row col) word call reply) column_is
+      subst (λ (col : ℕ). MayEnd (end_with b start w book start.height) s made (Slot step.row col) word call reply) (column_is ∙ ap (λ (k : ℕ). slot_column k step.slot) (sym is))
       (may_end b start s book w made call reply under.case under.progress under.holds under.inner (let few = under.few in omega arith) may.answer sound start.height
       (Slot step.row (column_of (now start w) (kind_at start.tree.kind (suc height)) step)) word end.0 end.1 climbed.taken.0)
 

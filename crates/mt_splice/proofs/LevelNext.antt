@@ -21,7 +21,7 @@ use Rattle.mt_rows.proofs.SlotWords.{length-spans_from}
 use Rattle.mt_splice.specs.declared.writes.NewRow.{NewRow}
 use Rattle.mt_splice.specs.Work.{Start, Work}
 use Rattle.mt_splice.specs.Climbs.{begin_of, end_of, Gathered, Climbed}
-use Rattle.mt_splice.specs.Runs.{MayBeCut}
+use Rattle.mt_splice.specs.Runs.{most_items, MayBeCut}
 use Rattle.mt_splice.specs.Progress.{Before, new_rows_of}
 use Rattle.mt_splice.specs.Endings.{words_of}
 use Rattle.mt_splice.specs.TakingIn.{IsNow, MayWiden, IsWidened}
@@ -112,8 +112,8 @@ module _ (b : Before) (start : Start) (s : sheet.Sheet) (book : Book) (w : Work)
       cut : MayBeCut start.tree height (begin_of left₁ depth) (end_of right₁ depth) spans
       cut =
           ⊎_elim (λ (cut : MayBeCut start.tree height (begin_of left₁ depth) (end_of right₁ depth) spans). cut)
-          (λ (whole : (begin_of left₁ depth ≡ 0) × ((step_at right₁ depth).max ≡ top_of start.tree) × (length items₁ ≤ 33)).
-          let few : length spans ≤ 33 = (let few = whole.2 in let same = length-spans_from (begin_of left₁ depth) items₁ in omega arith) in
+          (λ (whole : (begin_of left₁ depth ≡ 0) × ((step_at right₁ depth).max ≡ top_of start.tree) × (length items₁ ≤ most_items start.tree.table.width (kind_at start.tree.kind height))).
+          let few : length spans ≤ most_items start.tree.table.width (kind_at start.tree.kind height) = (let few = whole.2 in let same = length-spans_from (begin_of left₁ depth) items₁ in omega arith) in
           cut_whole start w left₁ right₁ depth height spans wide.gathered few whole.0 whole.1 (enough whole.0 whole.1 height refl) (some_entry whole.0 whole.1)) wide.cut
 
       pub rows_may_be_replaced : MayReplaceRows b start s₁ book w made kind left₁ right₁ depth height items₁ number

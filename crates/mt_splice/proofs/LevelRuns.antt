@@ -15,7 +15,7 @@ use Rattle.mt_rows.specs.Laws.{Tree, top_of, kind_at, least_of, least_of_root, l
 use Rattle.mt_rows.proofs.Lists.{all_front, all_back}
 use Rattle.mt_rows.proofs.SlotWords.{length-spans_from}
 use Rattle.mt_splice.specs.Climbs.{MayBeIn}
-use Rattle.mt_splice.specs.Runs.{MayBeLeaves, span_to, MayBeCut}
+use Rattle.mt_splice.specs.Runs.{most_in_three, MayBeLeaves, span_to, MayBeCut}
 
 -- ---- items one behind the other
 
@@ -141,7 +141,7 @@ module _ (t : Tree) (height lo hi : ℕ) (front part back : List Item) (run : Is
   fit_part zero fit = (apart_part fit.0, of_part _ fit.1)
   fit_part (suc h) fit = tt
 
-  few_in_part : length (spans_from begin part) ≤ 45
+  few_in_part : length (spans_from begin part) ≤ most_in_three t.table.width (kind_at t.kind height)
   few_in_part =
       let few = run.few in let all = length-spans_from lo (front ++ (part ++ back)) in let here = length-spans_from begin part in
       let long = length-append front (part ++ back) in let rest = length-append part back in

@@ -28,6 +28,7 @@ use Rattle.mt_splice.specs.Levels.{MayWriteRow, IsOneWritten, MayWriteRows, AreR
 use Rattle.mt_splice.proofs.Moments.{keeps_none, keeps_more}
 use Rattle.mt_splice.proofs.Written.{still_hold, still_lawful, still_in_use}
 use Rattle.mt_splice.proofs.StepSeen.{not_both}
+use Rattle.mt_splice.proofs.Sizes.{tree_slots}
 use Rattle.mt_splice.proofs.LevelRuns.{after, after-append, spans-append, apart_anywhere, part_of, AreParts, take_part, length-part, cut_makes_parts}
 
 -- ---- more spans are written
@@ -157,7 +158,7 @@ pub few_enough : (b : Before) (start : Start) (s : Sheet) (book : Book) (w : Wor
 few_enough b start s book w kind height lo hi items made may = by s.tree.table.width height start.tree.kind may.range may.of_kind
   where
     few : length items ≤ 45
-    few = let few = may.run.few in let long = length-spans_from lo items in omega arith
+    few = let few = may.run.few in let slots = tree_slots start.tree height may.range in let long = length-spans_from lo items in omega arith
 
     by : (v : Width) (h : ℕ) (tree : Kind) → tree ≡ Range → kind ≡ kind_at tree h → length items + 3 ≤ 3 * slots_of v kind
     by Long zero tree range is = subst (λ (k : RowKind). length items + 3 ≤ 3 * slots_of Long k) (sym is) (let few = few in omega arith)

@@ -41,6 +41,7 @@ pub mod Rises
 pub mod RootEndings
 pub mod Runs
 pub mod Settled
+pub mod Sizes
 pub mod SlotEnding
 pub mod SpliceBegins
 pub mod Splits

@@ -3,13 +3,11 @@ use Rattle.std.proofs.Common.{◌≡◌, ℕ, ◌+◌, ◌-◌, ◌≤◌, ◌==
 use Rattle.std.specs.Prelude.{if◌then◌else◌}
 use Rattle.std.specs.List.{AllByRecursion}
 use Rattle.std.proofs.lemmas.Bool.{cases_Bool, eqb-true, eqb-false}
-use Rattle.mt_base.specs.declared.widths.Width.{Width}
-use Rattle.mt_base.specs.declared.widths.Width.TheVariants.{Long}
 use Rattle.mt_layout.specs.declared.names.RowKind.TheVariants.{Leaf}
 use Rattle.mt_layout.specs.declared.spans.Span.{Span}
 use Rattle.mt_layout.specs.Rows.{row_in}
 use Rattle.mt_layout.specs.Spans.{Fills}
-use Rattle.mt_rows.specs.Spans.{Table, slots_of, spans_in}
+use Rattle.mt_rows.specs.Spans.{Table, spans_in}
 use Rattle.mt_rows.specs.Levels.{expand}
 use Rattle.mt_rows.specs.Laws.{Tree, IsRow, Stands, top_of}
 use Rattle.mt_rows.specs.Replacement.{root_of}
@@ -26,6 +24,7 @@ use Rattle.mt_splice.specs.Splice.{last_step, leaf_spans, region_of}
 use Rattle.mt_splice.specs.Work.{rows_at}
 use Rattle.mt_splice.specs.Stretches.{IsStretch}
 use Rattle.mt_splice.specs.Runs.{IsLeafRun}
+use Rattle.mt_splice.proofs.Sizes.{leaf_slots}
 use Rattle.mt_splice.proofs.Splits.{split_more}
 use Rattle.mt_splice.proofs.PathRows.{rows_in_order, spans_of_step}
 use Rattle.mt_splice.proofs.Gapless.{all_joined}
@@ -51,9 +50,6 @@ module _ (P : Span → Type 0) (ends : (x : Span) (last : ℕ) → P x → P (re
       (all_join P (spans_below xs first) (span_stored first last entry ∷ spans_above xs last) (all_below xs first each) (here, all_above xs last each))
 
 -- ---- the leaves at a store's ends
-
-leaf_slots : (width : Width) → slots_of width Leaf ≡ 16
-leaf_slots Long = refl
 
 module _ (t : Tree) (h : ℕ) (stands : Stands t h) (first last : ℕ) (order : first ≤ last) (within : last ≤ top_of t) where
   abbrev from_within : first ≤ top_of t
@@ -103,6 +99,7 @@ module _ (t : Tree) (h : ℕ) (stands : Stands t h) (first last : ℕ) (order : 
     run =
         (let count = length_edited left_leaf.first (left_leaf.last + 1) first last entry (spans_in t.table left_leaf) (leaf_law first from_within).pivots.fills order in
         let most = leaf_most first from_within in
+        let slots = leaf_slots t.table.width in
         record { few = omega arith; ends = λ more hole. omega arith });
   }
 
@@ -146,6 +143,7 @@ module _ (t : Tree) (h : ℕ) (stands : Stands t h) (first last : ℕ) (order : 
             ∙ ap (λ (l : List Span). stored (spans_in t.table left_leaf ++ l) first last entry) (sym (expand-append t.table middle.0 (right_leaf ∷ []) ∙ ap (λ (l : List Span). expand t.table middle.0 ++ l) (append-nil (spans_in t.table right_leaf)))));
         run =
             (let most = leaf_most first from_within in let most' = leaf_most last within in
+            let slots = leaf_slots t.table.width in
             let apart = fills_le (left_leaf.last + 1) right_leaf.first middle.0 middle.2 in
             let count = two_short left_leaf.first (left_leaf.last + 1) right_leaf.first (right_leaf.last + 1) first last entry 16 (spans_in t.table left_leaf) (spans_in t.table right_leaf)
             own.0.pivots.fills right_row.pivots.fills (omega arith) apart from' (omega arith) most most' in

@@ -5,8 +5,6 @@ use Rattle.std.specs.List.{flat_map}
 use Rattle.std.proofs.lemmas.Bool.{cases_lt}
 use Rattle.mt_base.specs.declared.kinds.Kind.{Kind}
 use Rattle.mt_base.specs.declared.kinds.Kind.TheVariants as trees
-use Rattle.mt_base.specs.declared.widths.Width.{Width}
-use Rattle.mt_base.specs.declared.widths.Width.TheVariants.{Long}
 use Rattle.mt_base.specs.declared.ranges.Range.{Range}
 use Rattle.mt_base.specs.Entry.{reserved}
 use Rattle.mt_base.specs.Map.{over}
@@ -25,7 +23,8 @@ use Rattle.mt_splice.specs.Work.{Start, Work, now, Holds}
 use Rattle.mt_splice.specs.Splice.{region_of}
 use Rattle.mt_splice.specs.Stretches.{ArePaths, spans_on}
 use Rattle.mt_splice.specs.Climbs.{begin_of, end_of, MayBeIn, beside, Gathered, Climbed}
-use Rattle.mt_splice.specs.Runs.{span_to, MayBeCut}
+use Rattle.mt_splice.specs.Runs.{most_items, most_in_three, span_to, MayBeCut}
+use Rattle.mt_splice.proofs.Sizes.{leaf_slots, range_slots, tree_slots}
 use Rattle.mt_splice.proofs.Counts.{full_unless_hole, full_join, full_joined, two_hold_an_entry}
 use Rattle.mt_splice.proofs.Regions.{all_edited}
 use Rattle.mt_splice.proofs.PathRows.{rows_in_order}
@@ -34,13 +33,12 @@ use Rattle.mt_splice.proofs.Rises.{at_here, step_here, row_is_lawful, spans_here
 
 -- ---- rows of a tree of ranges
 
-range_slots : (width : Width) (h : ℕ) → slots_of width (kind_at trees.Range h) ≡ 16
-range_slots Long zero = refl
-range_slots Long (suc h) = refl
-
 range_least : (h : ℕ) → least_of_kind (kind_at trees.Range h) ≡ 6
 range_least zero = refl
 range_least (suc h) = refl
+
+pub tree_least : (t : Tree) (h : ℕ) → t.kind ≡ trees.Range → least_of_kind (kind_at t.kind h) ≡ 6
+tree_least t h range = ap (λ (kind : Kind). least_of_kind (kind_at kind h)) range ∙ range_least h
 
 row_most : (t : Tree) (h : ℕ) (x : Span) → t.kind ≡ trees.Range → IsRow t h x → length (spans_in t.table x) ≤ 16
 row_most t h x range row =
@@ -137,7 +135,7 @@ six_enough t height lo hi run range six = by (covers_all t (span_to lo hi))
 
     by : (b : Bool) → (if b then least_of_root height else least_of_kind (kind_at t.kind height)) ≤ length run
     by true = let least = root_least height in omega arith
-    by false = let least = ap (λ (kind : Kind). least_of_kind (kind_at kind height)) range ∙ range_least height in omega arith
+    by false = let least = tree_least t height range in omega arith
 
 all_enough : (t : Tree) (height lo hi : ℕ) (run : List Span) → lo ≡ 0 → hi ≡ top_of t + 1 → least_of_root height ≤ length run → least_of t height (span_to lo hi) ≤ length run
 all_enough t height lo hi run first last least =
@@ -157,26 +155,29 @@ leaves_hold_an_entry start s left right depth run gathered not_hole = by run (so
     by (x ∷ y ∷ ys) some apart not_hole = two_hold_an_entry (x ∷ y ∷ ys) apart (omega arith)
 
 -- enough spans, which end with an entry or with the greatest index
-pub cut_alone : (start : Start) (s : Work) (left right : List PathStep) (depth height : ℕ) (run : List Span) → Gathered start s left right depth height run → length run ≤ 33 → 6 ≤ length run
+pub cut_alone : (start : Start) (s : Work) (left right : List PathStep) (depth height : ℕ) (run : List Span) → Gathered start s left right depth height run → length run ≤ most_items start.tree.table.width (kind_at start.tree.kind height) → least_of_kind (kind_at start.tree.kind height) ≤ length run
     → (height ≡ 0 → (step_at right depth).max < top_of start.tree → ends_with_hole run ≡ false) → MayBeCut start.tree height (begin_of left depth) (end_of right depth) run
-cut_alone start s left right depth height run gathered few six ends = record {
-  fills = gathered.fills;
-  some = omega arith;
-  few = omega arith;
-  least = six_enough start.tree height (begin_of left depth) (end_of right depth) run gathered.holds.range six;
-  gapless = gathered.gapless;
-  fit = gathered.fit;
-  leaves = λ leaf. record { ends = λ more. full_unless_hole run (ends leaf (omega arith)); some = leaf_entry height run leaf gathered.fit (omega arith) };
-}
+cut_alone start s left right depth height run gathered few least ends =
+    let six : 6 ≤ length run = (let is = tree_least start.tree height gathered.holds.range in omega arith) in
+    let slots = tree_slots start.tree height gathered.holds.range in
+    record {
+      fills = gathered.fills;
+      some = omega arith;
+      few = omega arith;
+      least = six_enough start.tree height (begin_of left depth) (end_of right depth) run gathered.holds.range six;
+      gapless = gathered.gapless;
+      fit = gathered.fit;
+      leaves = λ leaf. record { ends = λ more. full_unless_hole run (ends leaf (omega arith)); some = leaf_entry height run leaf gathered.fit (omega arith) };
+    }
 
 -- spans that stand for every index
-pub cut_whole : (start : Start) (s : Work) (left right : List PathStep) (depth height : ℕ) (run : List Span) → Gathered start s left right depth height run → length run ≤ 33
+pub cut_whole : (start : Start) (s : Work) (left right : List PathStep) (depth height : ℕ) (run : List Span) → Gathered start s left right depth height run → length run ≤ most_items start.tree.table.width (kind_at start.tree.kind height)
     → begin_of left depth ≡ 0 → (step_at right depth).max ≡ top_of start.tree → least_of_root height ≤ length run → (height ≡ 0 → flat_map leaf_range run ≢ [])
     → MayBeCut start.tree height (begin_of left depth) (end_of right depth) run
 cut_whole start s left right depth height run gathered few first last least some = record {
   fills = gathered.fills;
   some = some_gathered start s left right depth height run gathered;
-  few = omega arith;
+  few = let slots = tree_slots start.tree height gathered.holds.range in omega arith;
   least = all_enough start.tree height (begin_of left depth) (end_of right depth) run first (let same = last in omega arith) least;
   gapless = gathered.gapless;
   fit = gathered.fit;
@@ -197,7 +198,7 @@ empty_run t right first last entry order within free some =
       record {
         fills = fills;
         some = one;
-        few = omega arith;
+        few = let slots = leaf_slots t.table.width in omega arith;
         least = all_enough t 0 0 (top_of t + 1) (edited (hole ∷ []) first last entry) refl refl one;
         gapless = no_gaps-edited (hole ∷ []) first last entry (refl, tt);
         fit = (
@@ -219,7 +220,7 @@ empty_run t right first last entry order within free some =
 -- ---- with the row on the right
 
 module _ (start : Start) (s : Work) (left right right' : List PathStep) (depth height : ℕ) (run : List Span) (gathered : Gathered start s left right depth height run)
-    (more : (step_at right depth).max < top_of start.tree) (is_right : right' ≡ path_in start.tree.table start.tree.root ((step_at right depth).max + 1)) (few : length run ≤ 18) where
+    (more : (step_at right depth).max < top_of start.tree) (is_right : right' ≡ path_in start.tree.table start.tree.root ((step_at right depth).max + 1)) (few : length run + slots_of start.tree.table.width (kind_at start.tree.kind height) ≤ most_in_three start.tree.table.width (kind_at start.tree.kind height)) where
   abbrev t : Tree
   t = start.tree
 
@@ -255,6 +256,7 @@ module _ (start : Start) (s : Work) (left right right' : List PathStep) (depth h
   pub cut_with_right : MayBeCut t height (begin_of left depth) (end_of right' depth) (beside height run spans_behind)
   cut_with_right =
       let some = some_gathered start s left right depth height run gathered in
+      let slots = tree_slots t height gathered.holds.range in
       let least = counts.0 in let most = counts.1 in
       let few_all = beside_few height run spans_behind in
       let many_all = beside_many height run spans_behind (run_apart height run gathered.fit) (row_apart t height row_behind spans_behind law_behind spans_are) in
@@ -276,7 +278,7 @@ module _ (start : Start) (s : Work) (left right right' : List PathStep) (depth h
 -- ---- with the row on the left, where none stands on the right
 
 module _ (start : Start) (s : Work) (left right left' : List PathStep) (depth height : ℕ) (run : List Span) (gathered : Gathered start s left right depth height run)
-    (more : 0 < (step_at left depth).min) (is_left : left' ≡ path_in start.tree.table start.tree.root ((step_at left depth).min - 1)) (last : (step_at right depth).max ≡ top_of start.tree) (few : length run ≤ 18) where
+    (more : 0 < (step_at left depth).min) (is_left : left' ≡ path_in start.tree.table start.tree.root ((step_at left depth).min - 1)) (last : (step_at right depth).max ≡ top_of start.tree) (few : length run + slots_of start.tree.table.width (kind_at start.tree.kind height) ≤ most_in_three start.tree.table.width (kind_at start.tree.kind height)) where
   abbrev old : Tree
   old = start.tree
 
@@ -322,6 +324,7 @@ module _ (start : Start) (s : Work) (left right left' : List PathStep) (depth he
   pub cut_with_left : MayBeCut old height (begin_of left' depth) (end_of right depth) (beside height spans_ahead run)
   cut_with_left =
       let some = some_gathered start s left right depth height run gathered in
+      let slots = tree_slots old height gathered.holds.range in
       let least = counts_ahead.0 in let most = counts_ahead.1 in
       let few_all = beside_few height spans_ahead run in
       let many_all = beside_many height spans_ahead run (row_apart old height row_ahead spans_ahead law_ahead ahead_are) (run_apart height run gathered.fit) in
@@ -377,7 +380,7 @@ module _ (start : Start) (s : Work) (left right : List PathStep) (depth height :
       let many = ap (λ (xs : List Span). length xs) (spans_here start s climbed.holds left climbed.paths.from left_within climbed.paths.is_left depth here levels ∙ left_at.parts) in
       omega (arith, many, step, at, length-append left_at.front (row_of start.tree (suc depth) climbed.paths.from ∷ left_at.back))
 
-  pub few_gathered : length new ≤ 3 → length (take (step_at left depth).slot left_spans ++ (new ++ drop ((step_at right depth).slot + 1) right_spans)) ≤ 33
+  pub few_gathered : length new ≤ 3 → length (take (step_at left depth).slot left_spans ++ (new ++ drop ((step_at right depth).slot + 1) right_spans)) ≤ most_items start.tree.table.width (kind_at start.tree.kind here)
   few_gathered few =
       omega (
         arith,
@@ -385,6 +388,7 @@ module _ (start : Start) (s : Work) (left right : List PathStep) (depth height :
         left_few,
         right_few,
         slot_used,
+        tree_slots start.tree here climbed.holds.range,
         length-append (take (step_at left depth).slot left_spans) (new ++ drop ((step_at right depth).slot + 1) right_spans),
         length-append new (drop ((step_at right depth).slot + 1) right_spans),
         length-take (step_at left depth).slot left_spans,

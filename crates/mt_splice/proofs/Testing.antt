@@ -1,5 +1,5 @@
 -- A whole store in a test: its call begins, the leaves at its ends are read, and the rows are ready once more when it ends.
-use Rattle.std.proofs.Common.{◌≡◌, ◌≢◌, ℕ, zero, suc, ◌+◌, ◌-◌, ◌^◌, ◌<◌, ◌≤◌, ◌==◌, ◌++◌, List, [], ◌∷◌, Bool, true, false, length, nat_lt, refl, sym, ap, ◌∙◌, subst, inl, inr, arith, length-append}
+use Rattle.std.proofs.Common.{◌≡◌, ◌≢◌, ℕ, zero, suc, ◌+◌, ◌*◌, ◌-◌, ◌^◌, ◌<◌, ◌≤◌, ◌==◌, ◌++◌, List, [], ◌∷◌, Bool, true, false, length, nat_lt, refl, sym, ap, ◌∙◌, subst, inl, inr, arith, length-append}
 use Rattle.std.specs.Prelude.{if◌then◌else◌}
 use Rattle.std.proofs.lemmas.Bool.{cases_Bool, eqb-true, eqb-false, le-ltb, ltb-true, ltb-false}
 use Rattle.mt_base.specs.declared.kinds.Kind.TheVariants as trees
@@ -39,6 +39,7 @@ use Rattle.mt_path.proofs.Entering.{path_of_none}
 use Rattle.mt_path.proofs.TreePaths.{row_of, rows_at, step, place, lawful, levels, rows_fill, right_begins}
 use Rattle.mt_splice.specs.Splice.{IsBookOf, IsSpliced, HasParents, MaySplice, last_step, leaf_spans, region_of}
 use Rattle.mt_splice.specs.Testing.{IsBetweenCalls, AreEnds, IsRunOver, IsWithin, leaf_items, leaves_items}
+use Rattle.mt_splice.proofs.Sizes.{leaf_slots}
 use Rattle.mt_splice.proofs.Gathering.{few_items}
 use Rattle.mt_splice.proofs.LevelRows.{fills_end, fills_rise}
 use Rattle.mt_splice.proofs.PathRows.{rows_in_order, spans_of_step}
@@ -169,9 +170,6 @@ module _ (s s' s″ : Sheet) (book book' : Book) (number first last entry : ℕ)
 
 -- ---- the leaves at a store's ends
 
-leaf_slots : (width : Width) → slots_of width Leaf ≡ 16
-leaf_slots Long = refl
-
 some_filled : (lo hi begin : ℕ) (items : List Item) → lo < hi → Fills lo hi (spans_from begin items) → 1 ≤ length items
 some_filled lo hi begin [] wide fills = let same : lo ≡ hi = fills in absurd (omega arith)
 some_filled lo hi begin (x ∷ items) wide fills = omega arith
@@ -264,7 +262,7 @@ module _ (t : Tree) (h : ℕ) (stands : Stands t h) where
           absurd (apart (sym (at_once 0 (top_of t + 1) (rows_at t h) last right_leaf right_at left_at.front left_leaf left_at.back (rows_fill t h stands h (omega arith)) left_at.parts (omega arith) (omega arith)).1)))
     ]
 
-    run_over : (run : List Item) (hi : ℕ) → Fills l.min hi (spans_from l.min run) → last < hi → length run ≤ 32 → IsRunOver l.min run first last
+    run_over : (run : List Item) (hi : ℕ) → Fills l.min hi (spans_from l.min run) → last < hi → length run ≤ 2 * slots_of t.table.width Leaf → IsRunOver t.table.width l.min run first last
     run_over run hi fills to few =
         let from = left_at.from in let min = end_min left first from_within is_left in
         let some = some_filled l.min hi l.min run (omega arith) fills in
@@ -278,7 +276,7 @@ module _ (t : Tree) (h : ℕ) (stands : Stands t h) where
     few_right = few_at_end right last within is_right
 
     two_leaves : (left_leaf ≡ right_leaf → ⊥)
-        → (spans_from l.min (leaf_items t.table l ++ leaf_items t.table r) ≡ leaf_spans t.table l ++ starting (l.max + 1) (leaf_spans t.table r)) × IsRunOver l.min (leaf_items t.table l ++ leaf_items t.table r) first last
+        → (spans_from l.min (leaf_items t.table l ++ leaf_items t.table r) ≡ leaf_spans t.table l ++ starting (l.max + 1) (leaf_spans t.table r)) × IsRunOver t.table.width l.min (leaf_items t.table l ++ leaf_items t.table r) first last
     two_leaves apart =
         let sorted = in_order apart in
         let from = left_at.from in let to = left_at.to in let from' = right_at.from in let to' = right_at.to in
@@ -291,17 +289,17 @@ module _ (t : Tree) (h : ℕ) (stands : Stands t h) where
         let joined = spans_from-append l.min (leaf_items t.table l) (leaf_items t.table r) some ∙ ap (λ (n : ℕ). leaf_spans t.table l ++ spans_from n (leaf_items t.table r)) (sym end) in
         let all = fills-append l.min (l.max + 1) (r.max + 1) (leaf_spans t.table l) (spans_from (l.max + 1) (leaf_items t.table r)) own behind in
         let count = length-append (leaf_items t.table l) (leaf_items t.table r) in
-        let few = few_left in let few' = few_right in (
+        let few = few_left in let few' = few_right in let slots = leaf_slots t.table.width in (
           joined ∙ ap (λ (xs : List Span). leaf_spans t.table l ++ xs) (later_starts (l.max + 1) r.min (leaf_items t.table r)),
           run_over (leaf_items t.table l ++ leaf_items t.table r) (r.max + 1) (subst (Fills l.min (r.max + 1)) (sym joined) all) (omega arith) (omega arith),
         )
 
-    one_leaf : left_leaf ≡ right_leaf → IsRunOver l.min (leaf_items t.table l) first last
+    one_leaf : left_leaf ≡ right_leaf → IsRunOver t.table.width l.min (leaf_items t.table l) first last
     one_leaf same =
         let lasts = ap (λ (x : Span). x.last) same in
         let max = end_max left first from_within is_left in
         let to = right_at.to in
-        let few = few_left in
+        let few = few_left in let slots = leaf_slots t.table.width in
         run_over (leaf_items t.table l) (l.max + 1) (end_fills left first from_within is_left) (omega arith) (omega arith)
 
     row_left : l.row ≡ row_in left_leaf.word
@@ -312,7 +310,7 @@ module _ (t : Tree) (h : ℕ) (stands : Stands t h) where
 
     spans_by_case : (b : Bool) → (l.row == r.row) ≡ b
         → (spans_from l.min (if b then leaf_items t.table l else leaf_items t.table l ++ leaf_items t.table r) ≡ (if b then leaf_spans t.table l else leaf_spans t.table l ++ starting (l.max + 1) (leaf_spans t.table r)))
-        × IsRunOver l.min (if b then leaf_items t.table l else leaf_items t.table l ++ leaf_items t.table r) first last
+        × IsRunOver t.table.width l.min (if b then leaf_items t.table l else leaf_items t.table l ++ leaf_items t.table r) first last
     spans_by_case true same = (refl, one_leaf (same_leaf (sym row_left ∙ (eqb-true l.row r.row same ∙ row_right))))
     spans_by_case false other = two_leaves (λ same. eqb-false l.row r.row other (row_left ∙ (ap (λ (x : Span). row_in x.word) same ∙ sym row_right)))
 
@@ -320,7 +318,7 @@ module _ (t : Tree) (h : ℕ) (stands : Stands t h) where
     region_of_some [] some = absurd (omega arith)
     region_of_some (s ∷ path) some = refl
 
-    pub spans_are : (spans_from l.min (leaves_items t.table l r) ≡ region_of t.table left right) × IsRunOver l.min (leaves_items t.table l r) first last
+    pub spans_are : (spans_from l.min (leaves_items t.table l r) ≡ region_of t.table left right) × IsRunOver t.table.width l.min (leaves_items t.table l r) first last
     spans_are =
         let both = spans_by_case (l.row == r.row) refl in
         (both.0 ∙ sym (region_of_some left (long_path left first from_within is_left)), both.1)
@@ -347,7 +345,7 @@ pub record AreLeaves (s : Sheet) (left right : List PathStep) (first last : ℕ)
   pub left_row : (16 ≤ (last_step left).row) × ((last_step left).row < 16 + s.rows)
   pub right_row : (16 ≤ (last_step right).row) × ((last_step right).row < 16 + s.rows)
   pub spans : spans_from (last_step left).min (leaves_items s.tree.table (last_step left) (last_step right)) ≡ region_of s.tree.table left right
-  pub fit : IsRunOver (last_step left).min (leaves_items s.tree.table (last_step left) (last_step right)) first last
+  pub fit : IsRunOver s.tree.table.width (last_step left).min (leaves_items s.tree.table (last_step left) (last_step right)) first last
 
 pub leaves_are : (s : Sheet) (left right : List PathStep) (first last : ℕ) → AreEnds s left right first last → (length left == 0) ≡ false → AreLeaves s left right first last
 leaves_are s left right first last ends some =

@@ -12,7 +12,7 @@ use Rattle.mt_layout.specs.Rows.{row_in}
 use Rattle.mt_layout.specs.Spans.{spans_from, Fills, EndsFull}
 use Rattle.mt_layout.proofs.NameLaws.{Names-named_kind}
 use Rattle.mt_leaf.specs.Edits.{ends_with_hole}
-use Rattle.mt_rows.specs.Spans.{Table, spans_in}
+use Rattle.mt_rows.specs.Spans.{Table, slots_of, spans_in}
 use Rattle.mt_rows.specs.Laws as laws
 use Rattle.mt_rows.specs.Laws.{Tree, Stands, top_of, kind_at, covers_all, least_of, least_of_kind}
 use Rattle.mt_rows.specs.Sheet as sheet
@@ -26,13 +26,14 @@ use Rattle.mt_rows.proofs.SlotWords.{length-spans_from}
 use Rattle.mt_splice.specs.Work.{Start, Work, now, rows_at, Holds}
 use Rattle.mt_splice.specs.Stretches.{spans_on}
 use Rattle.mt_splice.specs.Climbs.{begin_of, end_of, MayBeIn, beside, Gathered}
-use Rattle.mt_splice.specs.Runs.{span_to, MayBeCut}
+use Rattle.mt_splice.specs.Runs.{most_before_hole, most_in_three, span_to, MayBeCut}
 use Rattle.mt_splice.specs.Writes.{items_of_row}
 use Rattle.mt_splice.specs.TakingIn.{short_run, holed_run, beside_items, IsNow, MayWiden, IsWidened}
+use Rattle.mt_splice.proofs.Sizes.{leaf_slots, tree_slots}
 use Rattle.mt_splice.proofs.Moments.{old_stands}
 use Rattle.mt_splice.proofs.Rises.{step_here, row_is_lawful, spans_here, at_here}
 use Rattle.mt_splice.proofs.Neighbours.{takes_right, takes_left}
-use Rattle.mt_splice.proofs.Runs.{cut_alone, cut_with_right, cut_with_left}
+use Rattle.mt_splice.proofs.Runs.{tree_least, cut_alone, cut_with_right, cut_with_left}
 use Rattle.mt_splice.proofs.TakenIn.{ends_from, ends_at_last, no_hole_ends, beside_spans}
 use Rattle.mt_splice.proofs.PathsNow.{path_now}
 
@@ -192,11 +193,18 @@ module _ (start : Start) (w : Work) (s : Sheet) (kind : RowKind) (left right : L
     cut = ⊎_elim
         (λ (six : 6 ≤ length items). inl (cut_alone start w left right depth height (spans_from (begin_of left depth) items) gathered
         (let few = may.few in let same = length-spans_from (begin_of left depth) items in omega arith)
-        (let same = length-spans_from (begin_of left depth) items in omega arith)
+        (let least = tree_least start.tree height holds.range in let same = length-spans_from (begin_of left depth) items in omega arith)
         (λ leaf more. ends_from (begin_of left depth) 0 items ∙ ends leaf more)))
         (λ (whole : (begin_of left depth ≡ 0) × ((step_at right depth).max ≡ top_of start.tree)). inr (whole.0, whole.1, may.few)) enough;
     two = may.two;
   }
+
+  -- few enough for a row beside them
+  row_beside : length items ≤ most_before_hole start.tree.table.width
+      → length (spans_from (begin_of left depth) items) + slots_of start.tree.table.width (kind_at start.tree.kind height) ≤ most_in_three start.tree.table.width (kind_at start.tree.kind height)
+  row_beside few =
+      let same = length-spans_from (begin_of left depth) items in
+      omega (arith, few, same, leaf_slots start.tree.table.width, tree_slots start.tree height holds.range)
 
   -- ---- the row behind
 
@@ -227,7 +235,7 @@ module _ (start : Start) (w : Work) (s : Sheet) (kind : RowKind) (left right : L
         let same = ap (λ (k : ℕ). (row_of start.tree depth (k + 1)).first) last in
         omega arith
 
-    pub widens_right : (t : Table) (row : List Item) → t ≡ s.tree.table → row ≡ items_of_row t kind (step_at right' depth).row (step_at right' depth).max → length items ≤ 18
+    pub widens_right : (t : Table) (row : List Item) → t ≡ s.tree.table → row ≡ items_of_row t kind (step_at right' depth).row (step_at right' depth).max → length items ≤ most_before_hole start.tree.table.width
         → IsWidened start w left right' depth height (beside_items kind items row)
     widens_right t row same is few =
         let spans = spans_by_items start w holds right' behind behind_within is_right_then depth height gathered.levels t kind row (same ∙ table_now start w s may.is_now holds) may.of_kind is in
@@ -242,7 +250,7 @@ module _ (start : Start) (w : Work) (s : Sheet) (kind : RowKind) (left right : L
         let all : beside height (spans_from (begin_of left depth) items) (spans_on (now start w).table (kind_at start.tree.kind height) (step_at right' depth)) ≡ spans_from (begin_of left depth) (beside_items kind items row) =
         ap (beside height (spans_from (begin_of left depth) items)) spans_behind ∙ sym both in
         let cut = subst (MayBeCut start.tree height (begin_of left depth) (end_of right' depth)) all
-        (cut_with_right start w left right right' depth height (spans_from (begin_of left depth) items) gathered more is_right_then (let n = length-spans_from (begin_of left depth) items in omega arith)) in
+        (cut_with_right start w left right right' depth height (spans_from (begin_of left depth) items) gathered more is_right_then (row_beside few)) in
         record {
           gathered = subst (Gathered start w left right' depth height) all (takes_right start w left right right' depth height (spans_from (begin_of left depth) items) gathered more is_right_then);
           cut = inl cut;
@@ -282,7 +290,7 @@ module _ (start : Start) (w : Work) (s : Sheet) (kind : RowKind) (left right : L
         let same = ap (λ (k : ℕ). (row_of start.tree depth (k - 1)).last) first in
         omega arith
 
-    pub widens_left : (t : Table) (row : List Item) → t ≡ s.tree.table → row ≡ items_of_row t kind (step_at left' depth).row (step_at left' depth).max → (step_at right depth).max ≡ top_of start.tree → length items ≤ 18
+    pub widens_left : (t : Table) (row : List Item) → t ≡ s.tree.table → row ≡ items_of_row t kind (step_at left' depth).row (step_at left' depth).max → (step_at right depth).max ≡ top_of start.tree → length items ≤ most_before_hole start.tree.table.width
         → IsWidened start w left' right depth height (beside_items kind row items)
     widens_left t row same is last few =
         let spans = spans_by_items start w holds left' ahead ahead_within is_left_then depth height gathered.levels t kind row (same ∙ table_now start w s may.is_now holds) may.of_kind is in
@@ -296,7 +304,7 @@ module _ (start : Start) (w : Work) (s : Sheet) (kind : RowKind) (left right : L
         let all : beside height (spans_on (now start w).table (kind_at start.tree.kind height) (step_at left' depth)) (spans_from (begin_of left depth) items) ≡ spans_from (begin_of left' depth) (beside_items kind row items) =
         ap (λ (xs : List Span). beside height xs (spans_from (begin_of left depth) items)) spans ∙ sym both in
         let cut = subst (MayBeCut start.tree height (begin_of left' depth) (end_of right depth)) all
-        (cut_with_left start w left right left' depth height (spans_from (begin_of left depth) items) gathered more is_left_then last (let n = length-spans_from (begin_of left depth) items in omega arith)) in
+        (cut_with_left start w left right left' depth height (spans_from (begin_of left depth) items) gathered more is_left_then last (row_beside few)) in
         record {
           gathered = subst (Gathered start w left' right depth height) all (takes_left start w left right left' depth height (spans_from (begin_of left depth) items) gathered more is_left_then);
           cut = inl cut;
@@ -344,8 +352,8 @@ module _ (start : Start) (w : Work) (s : Sheet) (kind : RowKind) (left right : L
   six_of : short_run kind items ≡ false → 6 ≤ length items
   six_of not = let many = ltb-false (length items) (least_of_kind kind) not in let six = least_six start w kind height may.gathered.holds may.of_kind in omega arith
 
-  few_of : short_run kind items ≡ true → length items ≤ 18
-  few_of short = let few = ltb-true (length items) (least_of_kind kind) short in let six = least_six start w kind height may.gathered.holds may.of_kind in omega arith
+  few_of : short_run kind items ≡ true → length items ≤ most_before_hole start.tree.table.width
+  few_of short = let few = ltb-true (length items) (least_of_kind kind) short in let six = least_six start w kind height may.gathered.holds may.of_kind in let slots = leaf_slots start.tree.table.width in omega arith
 
   -- nothing is wanted
   pub wide_already : (short_run kind items || holed_run kind items) ≡ false → IsWidened start w left right depth height items
@@ -354,12 +362,12 @@ module _ (start : Start) (w : Work) (s : Sheet) (kind : RowKind) (left right : L
       stays_wide start w s kind left right depth height items may (inl (six_of both.0)) (λ leaf more. not_holed start kind height items may.of_kind leaf both.1)
 
   -- few enough to take in the row behind
-  pub few_behind : (short_run kind items || holed_run kind items) ≡ true → (step_at right depth).max < top_of start.tree → length items ≤ 18
+  pub few_behind : (short_run kind items || holed_run kind items) ≡ true → (step_at right depth).max < top_of start.tree → length items ≤ most_before_hole start.tree.table.width
   few_behind wanting more =
       ⊎_elim few_of
       (λ (holed : holed_run kind items ≡ true).
       let leaf = leaf_height start.tree.kind height (sym may.of_kind ∙ is_leaf kind items holed) in
-      ⊎_elim (λ (few : length items ≤ 18). few)
+      ⊎_elim (λ (few : length items ≤ most_before_hole start.tree.table.width). few)
       (λ (full : EndsFull (spans_from (begin_of left depth) items)).
       let no_hole = no_hole_ends (spans_from (begin_of left depth) items) full in
       let hole = ends_from (begin_of left depth) 0 items ∙ holed_leaf kind items holed in
@@ -370,7 +378,7 @@ module _ (start : Start) (w : Work) (s : Sheet) (kind : RowKind) (left right : L
   pub last_and_enough : (step_at right depth).max ≡ top_of start.tree → short_run kind items ≡ false → IsWidened start w left right depth height items
   last_and_enough last not = stays_wide start w s kind left right depth height items may (inl (six_of not)) (λ leaf more. absurd (omega arith))
 
-  pub few_ahead : short_run kind items ≡ true → length items ≤ 18
+  pub few_ahead : short_run kind items ≡ true → length items ≤ most_before_hole start.tree.table.width
   few_ahead short = few_of short
 
   -- none stands behind nor before

@@ -1,19 +1,38 @@
 -- How many spans are gathered, and how they end: what makes them fit to be cut into rows.
 -- Source: this project's own least numbers of items; the kernel's mab_calc_split, which keeps a leaf from ending with a
 -- slot of no entry.
-use Rattle.std.specs.Prelude.{◌≡◌, ◌≢◌, ℕ, ◌-◌, ◌<◌, ◌≤◌, true, List, [], length}
+use Rattle.std.specs.Prelude.{◌≡◌, ◌≢◌, ℕ, ◌+◌, ◌-◌, ◌*◌, ◌<◌, ◌≤◌, true, List, [], length}
 use Rattle.std.specs.List.{flat_map}
+use Rattle.mt_base.specs.declared.widths.Width.{Width}
+use Rattle.mt_layout.specs.declared.names.RowKind.{RowKind}
+use Rattle.mt_layout.specs.declared.names.RowKind.TheVariants.{Leaf}
 use Rattle.mt_layout.specs.declared.spans.Span.{Span}
 use Rattle.mt_layout.specs.Spans.{leaf_range, Fills, EndsFull}
-use Rattle.mt_rows.specs.Laws.{Tree, top_of, least_of}
+use Rattle.mt_rows.specs.Spans.{slots_of}
+use Rattle.mt_rows.specs.Laws.{Tree, top_of, kind_at, least_of}
 use Rattle.mt_leaf.specs.Edits.{ends_with_hole}
 use Rattle.mt_splice.specs.Climbs.{Gapless, MayBeIn}
+
+-- The most items that are to stand in the rows of a level: those of two full rows but one of each, and three in the place
+-- of these two. In leaves the three are what a store writes and what it leaves in front and behind; in inner rows they are
+-- the new rows of the level below.
+abbrev pub most_items : Width → RowKind → ℕ
+most_items width kind = 2 * slots_of width kind + 1
+
+-- The most items of leaves that end with a hole where others stand behind them: those of one full leaf but one, and three
+-- in its place. Nothing is left of a second leaf then, since it ended with an entry.
+abbrev pub most_before_hole : Width → ℕ
+most_before_hole width = slots_of width Leaf + 2
+
+-- the most items that can be cut into three rows: each may be one short, so that no leaf ends with a hole
+abbrev pub most_in_three : Width → RowKind → ℕ
+most_in_three width kind = 3 * slots_of width kind - 3
 
 -- The spans of leaves after a store, of which the last leaf ended at `last`: where others stand behind it, they end with
 -- an entry or are few.
 pub record IsLeafRun (t : Tree) (last : ℕ) (run : List Span) : Type 0 where
-  pub few : length run ≤ 33
-  pub ends : last < top_of t → ends_with_hole run ≡ true → length run ≤ 18
+  pub few : length run ≤ most_items t.table.width Leaf
+  pub ends : last < top_of t → ends_with_hole run ≡ true → length run ≤ most_before_hole t.table.width
 
 -- leaves that hold the spans end with an entry where others stand behind them, and hold an entry
 pub record MayBeLeaves (t : Tree) (hi : ℕ) (run : List Span) : Type 0 where
@@ -28,7 +47,7 @@ span_to lo hi = record { first = lo; last = hi - 1; word = 0; gap = 0 }
 pub record MayBeCut (t : Tree) (height lo hi : ℕ) (run : List Span) : Type 0 where
   pub fills : Fills lo hi run
   pub some : 1 ≤ length run
-  pub few : length run ≤ 45
+  pub few : length run ≤ most_in_three t.table.width (kind_at t.kind height)
   pub least : least_of t height (span_to lo hi) ≤ length run
   pub gapless : Gapless run
   pub fit : MayBeIn height run

@@ -10,7 +10,7 @@ use Rattle.mt_base.specs.declared.replies.Reply.{Reply}
 use Rattle.mt_base.specs.Entry.{reserved}
 use Rattle.mt_base.specs.Map.{over}
 use Rattle.mt_base.specs.Call.{acted}
-use Rattle.mt_base.specs.Width.{greatest}
+use Rattle.mt_base.specs.Width.{columns, greatest}
 use Rattle.mt_layout.specs.declared.items.Item.{Item}
 use Rattle.mt_layout.specs.declared.spans.Span.{Span}
 use Rattle.mt_layout.specs.declared.names.RowKind.TheVariants.{Leaf}
@@ -118,12 +118,15 @@ pub record IsBooked (s s' : Sheet) (book book' : Book) (number most : ℕ) : Typ
   pub are_not : All (λ row. is_reached s'.tree row ≡ false) gone
   pub all : (row : ℕ) → IsReached s.tree row → is_reached s'.tree row ≡ false → Contains gone row
 
+-- The tree stands for the map after the call by one store at the place; rows that were not taken keep every other word but
+-- their parent words.
 pub record IsSpliced (kind : Kind) (s s' : Sheet) (book book' : Book) (number : ℕ) (call : Call) (reply : Reply) (place : Place) : Type 0 where
   pub rest : s' ≡ record s { tree = s'.tree; published = true; lives = s'.lives; buried = s'.buried; records = with_record s call reply; reads = s'.reads }
   pub tree : IsTreeOf s' kind
   pub parents : HasParents (tree_as kind s'.rows s'.tree)
   pub map : map_by s'.tree ≡ (acted kind (map_by s.tree) call).0
   pub published : WasPublishedAt s s' place
+  pub kept : (row col : ℕ) → (IsReached s'.tree row → IsReached s.tree row) → 0 < col → col < columns s.tree.table.width → place ≢ Slot row col → word_at s' row col ≡ word_at s row col
   pub none_buried : NoneBuried s'
   pub live : LiveAreReached s'
   pub dead : (row : ℕ) → IsReached s.tree row → is_reached s'.tree row ≡ false → life_of s' row ≡ Dead number

@@ -15,7 +15,7 @@ use Rattle.mt_path.specs.Paths.{step_at}
 use Rattle.mt_splice.specs.Work.{Start, Work, now}
 use Rattle.mt_splice.specs.Climbs.{begin_of, end_of, Gathered}
 use Rattle.mt_splice.specs.Endings.{words_of}
-use Rattle.mt_splice.specs.Runs.{MayBeCut}
+use Rattle.mt_splice.specs.Runs.{most_items, most_before_hole, MayBeCut}
 
 abbrev pub is_hole_at : List Item → ℕ → Bool
 is_hole_at items i = option_map_or (λ (x : Item). x.word == 0) (slice_get items i) false
@@ -48,13 +48,13 @@ pub record MayWiden (start : Start) (w : Work) (s : Sheet) (kind : RowKind) (lef
   pub is_now : IsNow start w s
   pub of_kind : kind ≡ kind_at start.tree.kind height
   pub gathered : Gathered start w left right depth height (spans_from (begin_of left depth) items)
-  pub few : length items ≤ 33
-  pub ends : height ≡ 0 → (step_at right depth).max < top_of start.tree → (length items ≤ 18) ⊎ EndsFull (spans_from (begin_of left depth) items)
+  pub few : length items ≤ most_items start.tree.table.width (kind_at start.tree.kind height)
+  pub ends : height ≡ 0 → (step_at right depth).max < top_of start.tree → (length items ≤ most_before_hole start.tree.table.width) ⊎ EndsFull (spans_from (begin_of left depth) items)
   pub two : (h : ℕ) → height ≡ suc h → begin_of left depth ≡ 0 → (step_at right depth).max ≡ top_of start.tree → 2 ≤ length items
 
 -- The items are gathered, and may be cut into rows or stand for every index.
 pub record IsWidened (start : Start) (w : Work) (left right : List PathStep) (depth height : ℕ) (items : List Item) : Type 0 where
   pub gathered : Gathered start w left right depth height (spans_from (begin_of left depth) items)
   pub cut : MayBeCut start.tree height (begin_of left depth) (end_of right depth) (spans_from (begin_of left depth) items)
-      ⊎ ((begin_of left depth ≡ 0) × ((step_at right depth).max ≡ top_of start.tree) × (length items ≤ 33))
+      ⊎ ((begin_of left depth ≡ 0) × ((step_at right depth).max ≡ top_of start.tree) × (length items ≤ most_items start.tree.table.width (kind_at start.tree.kind height)))
   pub two : (h : ℕ) → height ≡ suc h → begin_of left depth ≡ 0 → (step_at right depth).max ≡ top_of start.tree → 2 ≤ length items

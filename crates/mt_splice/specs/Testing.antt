@@ -1,13 +1,14 @@
 -- What a whole store in a test is asked for, and what it leaves.
 -- Source: this project's own.
-use Rattle.std.specs.Prelude.{◌≡◌, ◌+◌, ◌≤◌, ◌==◌, ◌++◌, ℕ, false, true, List, length, if◌then◌else◌}
+use Rattle.std.specs.Prelude.{◌≡◌, ◌+◌, ◌*◌, ◌≤◌, ◌==◌, ◌++◌, ℕ, false, true, List, length, if◌then◌else◌}
 use Rattle.mt_base.specs.declared.kinds.Kind.TheVariants as trees
+use Rattle.mt_base.specs.declared.widths.Width.{Width}
 use Rattle.mt_base.specs.Width.{greatest}
 use Rattle.mt_layout.specs.declared.items.Item.{Item}
 use Rattle.mt_layout.specs.declared.names.RowKind.TheVariants.{Leaf}
 use Rattle.mt_layout.specs.Columns.{RiseFrom, end_of}
 use Rattle.mt_free.specs.Book.{Book}
-use Rattle.mt_rows.specs.Spans.{Table}
+use Rattle.mt_rows.specs.Spans.{Table, slots_of}
 use Rattle.mt_rows.specs.Sheet.{Sheet}
 use Rattle.mt_rows.specs.Publish.{IsTreeOf, IsLawfulOf, LiveAreReached, NoneBuried}
 use Rattle.mt_path.specs.declared.paths.PathStep.{PathStep}
@@ -31,10 +32,10 @@ pub record AreEnds (s : Sheet) (left right : List PathStep) (first last : ℕ) :
   pub left_path : left ≡ path_in s.tree.table s.tree.root first
   pub right_path : right ≡ path_in s.tree.table s.tree.root last
 
--- items of two leaves at the most, the first of which begins at `min`, and which hold both indexes
-pub record IsRunOver (min : ℕ) (items : List Item) (first last : ℕ) : Type 0 where
+-- items of two leaves of the width at the most, the first of which begins at `min`, and which hold both indexes
+pub record IsRunOver (width : Width) (min : ℕ) (items : List Item) (first last : ℕ) : Type 0 where
   pub some : 1 ≤ length items
-  pub few : length items ≤ 32
+  pub few : length items ≤ 2 * slots_of width Leaf
   pub rise : RiseFrom min items
   pub from : min ≤ first
   pub to : last ≤ end_of 0 items

@@ -1,6 +1,7 @@
 //! What is to stand in the rows of a level, and the row beside them.
 
 ghost use Rattle.std.specs.Prelude.{◌≡◌, ◌<◌, ◌≤◌, ◌+◌, ◌-◌, ◌||◌, ℕ, length};
+ghost use Rattle.mt_rows.specs.Spans.{slots_of};
 ghost use Rattle.mt_rows.specs.Sheet.{OnlyReads};
 ghost use Rattle.mt_path.specs.Paths.{step_at};
 ghost use Rattle.mt_splice.specs.Writes.{items_of_row};
@@ -9,11 +10,11 @@ ghost use Rattle.mt_splice.specs.TakingIn.{is_hole_at, short_run, holed_run, bes
 ghost use Rattle.mt_rows.specs.Laws.{least_of_kind};
 
 use crate::gathers::push_all;
-use crate::reads::{push_items, slots_in};
+use crate::reads::push_items;
 use mt_layout::{RowKind, Run};
 use mt_leaf::push_joined_all;
 use mt_path::{Path, PathStep, left_at, right_at};
-use mt_rows::Rows;
+use mt_rows::{Rows, slots};
 
 /// The items that are to stand in the rows of a level from the left path's row to the right path's.
 #[derive(Drop)]
@@ -71,7 +72,7 @@ fn row_items<R: Rows>(rows: &mut R, kind: RowKind, step: &PathStep) -> Run
     ensures rest { OnlyReads (R.sheet rows.old) (R.sheet rows.new) }
 {
     let mut run = Run::new();
-    let slots = slots_in(rows.width(), kind);
+    let slots = slots(rows.width(), kind);
     push_items(rows, kind, step.row, step.max, 0, slots, &mut run);
     run
 }
@@ -97,7 +98,7 @@ fn take_right<R: Rows>(
 ) -> Region
     requires depth { depth < length right.items }
     requires row { let step = step_at right.items depth in (16 ≤ step.row) × (step.row < 16 + (R.sheet rows.old).rows) }
-    requires few { length region.run.items ≤ 33 }
+    requires room { length region.run.items + slots_of (R.sheet rows.old).tree.table.width kind ≤ 72 }
     ensures left { result.left ≡ region.left }
     ensures right { result.right ≡ right }
     ensures run { let step = step_at right.items depth in result.run.items ≡ beside_items kind region.run.items (items_of_row (R.sheet rows.old).tree.table kind step.row step.max) }
@@ -117,7 +118,7 @@ fn take_right<R: Rows>(
 fn take_left<R: Rows>(rows: &mut R, region: Region, left: Path, depth: u32, kind: RowKind) -> Region
     requires depth { depth < length left.items }
     requires row { let step = step_at left.items depth in (16 ≤ step.row) × (step.row < 16 + (R.sheet rows.old).rows) }
-    requires few { length region.run.items ≤ 33 }
+    requires room { length region.run.items + slots_of (R.sheet rows.old).tree.table.width kind ≤ 72 }
     ensures left { result.left ≡ left }
     ensures right { result.right ≡ region.right }
     ensures run { let step = step_at left.items depth in result.run.items ≡ beside_items kind (items_of_row (R.sheet rows.old).tree.table kind step.row step.max) region.run.items }

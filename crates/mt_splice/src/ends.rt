@@ -4,12 +4,11 @@ ghost use Rattle.mt_layout.specs.declared.names.RowKind.TheVariants.{Inner};
 ghost use Rattle.mt_splice.specs.Splice.{IsSpliced};
 ghost use Rattle.mt_splice.specs.Ends.{End, MayEnd, MayTendRows, AreRowsTended, MayTendTopAt, IsTopTendedAt};
 
-use crate::reads::slots_in;
 use crate::tends::tend_children;
 use crate::writes::NewRow;
 use mt_base::{Call, Reply};
 use mt_layout::{RowKind, parent_word, row_of};
-use mt_rows::{Place, Rows};
+use mt_rows::{Place, Rows, slots};
 
 /// Writes the parent words of the children of these inner rows.
 #[tactic(auto, using(crate::proofs::EndTending::no_rows_tended, crate::proofs::EndTending::children_still))]
@@ -35,7 +34,7 @@ fn tend_top<R: Rows>(rows: &mut R, place: Place, word: u64)
         unreachable!()
     };
     rows.size();
-    let slots = slots_in(rows.width(), RowKind::Inner);
+    let slots = slots(rows.width(), RowKind::Inner);
     rows.tend(top, 0, parent_word(row, col - slots));
 }
 

@@ -2,16 +2,14 @@
 
 ghost use Rattle.std.specs.Prelude.{◌≡◌, ◌<◌, ◌≤◌, ◌+◌, ◌++◌, length, take, drop};
 ghost use Rattle.mt_layout.specs.declared.names.RowKind.TheVariants.{Inner};
+ghost use Rattle.mt_rows.specs.Spans.{slots_of};
 ghost use Rattle.mt_rows.specs.Sheet.{OnlyReads};
 ghost use Rattle.mt_splice.specs.Writes.{items_of_row};
 
 use crate::reads::push_items;
 use mt_layout::{Item, RowKind, Run};
 use mt_path::PathStep;
-use mt_rows::Rows;
-
-/// The most slots that a row has.
-const SLOTS: u32 = 16;
+use mt_rows::{Rows, slots};
 
 /// Appends items, for which there is room.
 pub fn push_all(run: &mut Run, items: &[Item])
@@ -29,17 +27,18 @@ pub fn push_all(run: &mut Run, items: &[Item])
 fn push_behind<R: Rows>(rows: &mut R, step: &PathStep, run: &mut Run)
     requires row { (16 ≤ step.now.row) × (step.now.row < 16 + (R.sheet rows.old).rows) }
     requires slot { step.now.slot + 1 < length (items_of_row (R.sheet rows.old).tree.table Inner step.now.row step.now.max) }
-    requires room { length run.old.items + 16 ≤ 72 }
+    requires room { length run.old.items + slots_of (R.sheet rows.old).tree.table.width Inner ≤ 72 }
     ensures items { run.new.items ≡ run.old.items ++ drop (step.now.slot + 1) (items_of_row (R.sheet rows.old).tree.table Inner step.now.row step.now.max) }
     ensures rest { OnlyReads (R.sheet rows.old) (R.sheet rows.new) }
 {
+    let slots = slots(rows.width(), RowKind::Inner);
     push_items(
         rows,
         RowKind::Inner,
         step.row,
         step.max,
         step.slot + 1,
-        SLOTS,
+        slots,
         run,
     );
 }
@@ -55,7 +54,7 @@ pub fn gather<R: Rows>(
 ) -> Run
     requires left_row { (16 ≤ left.now.row) × (left.now.row < 16 + (R.sheet rows.old).rows) }
     requires right_row { (16 ≤ right.now.row) × (right.now.row < 16 + (R.sheet rows.old).rows) }
-    requires left_slot { left.now.slot ≤ 16 }
+    requires left_slot { left.now.slot ≤ slots_of (R.sheet rows.old).tree.table.width Inner }
     requires few { length new.now ≤ 3 }
     requires more { last < right.now.max → right.now.slot + 1 < length (items_of_row (R.sheet rows.old).tree.table Inner right.now.row right.now.max) }
     requires none { right.now.max ≤ last → length (items_of_row (R.sheet rows.old).tree.table Inner right.now.row right.now.max) ≤ right.now.slot + 1 }

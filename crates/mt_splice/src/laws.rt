@@ -13,12 +13,12 @@ ghost use Rattle.mt_layout.specs.declared.spans.Span.{Span};
 ghost use Rattle.mt_leaf.specs.Edits.{edited, ends_with_hole};
 ghost use Rattle.mt_path.specs.Paths.{path_in, row_on, step_at};
 ghost use Rattle.mt_path.specs.declared.paths.PathStep.{PathStep};
-ghost use Rattle.mt_rows.specs.Laws.{HasWords, Stands, Tree, kind_at, least_of_root, top_of};
+ghost use Rattle.mt_rows.specs.Laws.{HasWords, Stands, Tree, kind_at, least_of_kind, least_of_root, top_of};
 ghost use Rattle.mt_rows.specs.Levels.{Levels, is_row_of, map_of, tally};
 ghost use Rattle.mt_rows.specs.Publish.{MayPublish, is_reached, tree_as};
 ghost use Rattle.mt_rows.specs.Replacement.{root_of};
 ghost use Rattle.mt_rows.specs.Sheet.{Sheet};
-ghost use Rattle.mt_rows.specs.Spans.{root_span};
+ghost use Rattle.mt_rows.specs.Spans.{root_span, slots_of};
 ghost use Rattle.mt_rows.specs.Trees.{map_in};
 ghost use Rattle.mt_rows.specs.declared.rows.Place.TheVariants.{Root, Slot};
 ghost use Rattle.mt_splice.specs.Beginnings.{Begins};
@@ -27,7 +27,7 @@ ghost use Rattle.mt_splice.specs.Climbs.{AreWritten, Climbed, Gathered, IsPathAh
 ghost use Rattle.mt_splice.specs.Endings.{IsPublished, IsStepIn, column_of, with_root, with_step, words_of};
 ghost use Rattle.mt_splice.specs.Publishing.{IsReady};
 ghost use Rattle.mt_splice.specs.Replaced.{IsReplaced};
-ghost use Rattle.mt_splice.specs.Runs.{IsLeafRun, MayBeCut};
+ghost use Rattle.mt_splice.specs.Runs.{IsLeafRun, MayBeCut, most_in_three, most_items};
 ghost use Rattle.mt_splice.specs.Seen.{Adds, passing};
 ghost use Rattle.mt_splice.specs.Splice.{region_of};
 ghost use Rattle.mt_splice.specs.Work.{Holds, IsTaken, IsUsed, Keeps, Start, Work, now, rows_at, times_in};
@@ -66,16 +66,16 @@ pub fn the_row_beside_is_taken_in()
 pub fn gathered_spans_may_be_cut()
     ensures some { (start : Start) (s : Work) (left right : List PathStep) (depth height : ℕ) (run : List Span) → Gathered start s left right depth height run → 1 ≤ length run }
     ensures entry { (start : Start) (s : Work) (left right : List PathStep) (depth : ℕ) (run : List Span) → Gathered start s left right depth 0 run → ((x : Span) → run ≡ x ∷ [] → x.word ≢ 0) → flat_map leaf_range run ≢ [] }
-    ensures alone { (start : Start) (s : Work) (left right : List PathStep) (depth height : ℕ) (run : List Span) → Gathered start s left right depth height run → length run ≤ 33 → 6 ≤ length run
+    ensures alone { (start : Start) (s : Work) (left right : List PathStep) (depth height : ℕ) (run : List Span) → Gathered start s left right depth height run → length run ≤ most_items start.tree.table.width (kind_at start.tree.kind height) → least_of_kind (kind_at start.tree.kind height) ≤ length run
         → (height ≡ 0 → (step_at right depth).max < top_of start.tree → ends_with_hole run ≡ false) → MayBeCut start.tree height (begin_of left depth) (end_of right depth) run }
-    ensures whole { (start : Start) (s : Work) (left right : List PathStep) (depth height : ℕ) (run : List Span) → Gathered start s left right depth height run → length run ≤ 33
+    ensures whole { (start : Start) (s : Work) (left right : List PathStep) (depth height : ℕ) (run : List Span) → Gathered start s left right depth height run → length run ≤ most_items start.tree.table.width (kind_at start.tree.kind height)
         → begin_of left depth ≡ 0 → (step_at right depth).max ≡ top_of start.tree → least_of_root height ≤ length run → (height ≡ 0 → flat_map leaf_range run ≢ [])
         → MayBeCut start.tree height (begin_of left depth) (end_of right depth) run }
     ensures with_right { (start : Start) (s : Work) (left right right' : List PathStep) (depth height : ℕ) (run : List Span) → Gathered start s left right depth height run
-        → (step_at right depth).max < top_of start.tree → IsPathBehind start right depth right' → length run ≤ 18
+        → (step_at right depth).max < top_of start.tree → IsPathBehind start right depth right' → length run + slots_of start.tree.table.width (kind_at start.tree.kind height) ≤ most_in_three start.tree.table.width (kind_at start.tree.kind height)
         → MayBeCut start.tree height (begin_of left depth) (end_of right' depth) (beside height run (spans_now start s right' depth height)) }
     ensures with_left { (start : Start) (s : Work) (left right left' : List PathStep) (depth height : ℕ) (run : List Span) → Gathered start s left right depth height run
-        → 0 < begin_of left depth → IsPathAhead start left depth left' → (step_at right depth).max ≡ top_of start.tree → length run ≤ 18
+        → 0 < begin_of left depth → IsPathAhead start left depth left' → (step_at right depth).max ≡ top_of start.tree → length run + slots_of start.tree.table.width (kind_at start.tree.kind height) ≤ most_in_three start.tree.table.width (kind_at start.tree.kind height)
         → MayBeCut start.tree height (begin_of left' depth) (end_of right depth) (beside height (spans_now start s left' depth height) run) }
 {}
 
@@ -92,7 +92,7 @@ pub fn a_level_is_left()
         → (run : List Span) → run ≡ between_slots start s left right depth (suc height) new
         → Gathered start s left right depth (suc height) run }
     ensures few { (start : Start) (s : Work) (left right : List PathStep) (depth height : ℕ) (new : List Span) → Climbed start s left right (suc depth) height new → length new ≤ 3
-        → length (between_slots start s left right depth (suc height) new) ≤ 33 }
+        → length (between_slots start s left right depth (suc height) new) ≤ most_items start.tree.table.width (kind_at start.tree.kind (suc height)) }
     ensures two { (start : Start) (s : Work) (left right : List PathStep) (depth height : ℕ) (new : List Span) → Climbed start s left right (suc depth) height new
         → begin_of left depth ≡ 0 → (step_at right depth).max ≡ top_of start.tree → ((x : Span) → new ≡ x ∷ [] → x.first ≡ 0 → x.last ≡ top_of start.tree → ⊥)
         → 2 ≤ length (between_slots start s left right depth (suc height) new) }

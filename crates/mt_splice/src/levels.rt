@@ -12,14 +12,13 @@ ghost use Rattle.mt_splice.specs.Progress.{Before};
 ghost use Rattle.mt_splice.specs.Levels.{MayWriteRow, IsOneWritten, noted, MayWriteRows, AreRowsWritten, MayBuryRows, AreRowsBuried, MayRewriteLevel, IsLevelRewritten};
 
 use crate::beside::least_items;
-use crate::reads::slots_in;
 use crate::writes::{NewRow, write_row};
 use arrayvec::ArrayVec;
 use mt_free::RowBook;
 use mt_layout::{Item, RowKind, Run, row_of};
 use mt_leaf::cut;
 use mt_path::{Path, PathStep, walk};
-use mt_rows::Rows;
+use mt_rows::{Rows, slots};
 
 /// Whether rows of this kind are leaves.
 pub fn is_leaf(kind: RowKind) -> bool
@@ -88,7 +87,7 @@ pub fn write_rows<R: Rows>(
     ensures few { length result.items ≤ 3 }
 {
     let leaf = is_leaf(kind);
-    let most = slots_in(rows.width(), kind);
+    let most = slots(rows.width(), kind);
     let ends = cut(run, most, least_items(kind), leaf);
     let items = run.as_slice();
     let mut written = ArrayVec::new();

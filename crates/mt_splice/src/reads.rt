@@ -5,20 +5,9 @@ ghost use Rattle.mt_layout.specs.Columns.{item_at, items_from, pivot_column};
 ghost use Rattle.mt_rows.specs.Spans.{base_of, column, slots_of, gaps_of};
 ghost use Rattle.mt_rows.specs.Sheet.{OnlyReads};
 
-use mt_base::Width;
 use mt_layout::{Item, RowKind, Run};
-use mt_rows::Rows;
+use mt_rows::{Rows, slots};
 use std::ops::Range;
-
-/// How many slots a row of this kind has.
-pub fn slots_in(width: Width, kind: RowKind) -> u32
-    ensures { result ≡ slots_of width kind }
-{
-    match (width, kind) {
-        (Width::Long, RowKind::Leaf | RowKind::Inner) => 16,
-        (Width::Long, RowKind::Gapped) => 10,
-    }
-}
 
 /// The item in a slot of a row that covers the indexes up to `max`.
 fn load_item<R: Rows>(rows: &mut R, kind: RowKind, row: u32, max: u64, slot: u32) -> Item
@@ -29,7 +18,7 @@ fn load_item<R: Rows>(rows: &mut R, kind: RowKind, row: u32, max: u64, slot: u32
     ensures last { let t = (R.sheet rows.old).tree.table in result.last ≡ (if nat_lt (slot + 1) (slots_of t.width kind) then column t row (pivot_column slot) else max) }
     ensures rest { OnlyReads (R.sheet rows.old) (R.sheet rows.new) }
 {
-    let slots = slots_in(rows.width(), kind);
+    let slots = slots(rows.width(), kind);
     let last = if slot + 1 < slots {
         rows.load(row, 1 + slot)
     } else {
@@ -61,7 +50,7 @@ pub fn push_items<R: Rows>(
     ensures items { let t = (R.sheet rows.old).tree.table in run.new.items ≡ run.old.items ++ take (to - from) (items_from (slots_of t.width kind) (gaps_of t.width kind) t.words (base_of t row) max (slots_of t.width kind - from) from) }
     ensures rest { OnlyReads (R.sheet rows.old) (R.sheet rows.new) }
 {
-    let end = to.min(slots_in(rows.width(), kind));
+    let end = to.min(slots(rows.width(), kind));
     for slot in from..end {
         let item = load_item(rows, kind, row, max, slot);
         run.push(item);

@@ -23,10 +23,7 @@ use mt_base::{Call, Reply, Width, top};
 use mt_free::RowBook;
 use mt_layout::{Item, RowKind, Run};
 use mt_path::Path;
-use mt_rows::{Place, Rows};
-
-/// The first column of a slot in an inner row of a tree of ranges.
-const SLOTS: u32 = 16;
+use mt_rows::{Place, Rows, slots};
 
 /// Writes the rows of a level, and buries those that they replace.
 fn replace_rows<R: Rows>(
@@ -155,13 +152,27 @@ fn end_in_place<R: Rows>(
         → IsSpliced b.kind b.sheet (R.sheet rows.new) b.book book.new b.number call.now reply.now result }
 {
     let parent = step_on(&region.left, depth as usize);
+    let column = slots(rows.width(), RowKind::Inner) + parent.slot;
     let place = Place::Slot {
         row: parent.row,
-        col: SLOTS + parent.slot,
+        col: column,
     };
     book.rows();
     publish_at(rows, place, new[0].word, made.as_slice(), call, reply);
     place
+}
+
+/// Whether the rows of a level from the left path's row to the right path's stand for every index.
+fn stands_for_all(width: Width, region: &Region, depth: u32) -> bool
+    requires left { depth < length region.now.left.items }
+    requires right { depth < length region.now.right.items }
+    ensures first { result ≡ true → begin_of region.now.left.items depth ≡ 0 }
+    ensures last { result ≡ true → (step_at region.now.right.items depth).max ≡ greatest width }
+    ensures all { begin_of region.now.left.items depth ≡ 0 → (step_at region.now.right.items depth).max ≡ greatest width → result ≡ true }
+{
+    let first = step_on(&region.left, depth as usize).min;
+    let last = step_on(&region.right, depth as usize).max;
+    first == 0 && last == top(width)
 }
 
 /// Whether one row stands for every index.
@@ -173,9 +184,7 @@ fn is_whole(width: Width, region: &Region, new: &ArrayVec<Item, 3>, depth: u32) 
     ensures last { result ≡ true → (step_at region.now.right.items depth).max ≡ greatest width }
     ensures all { length new.now.items ≡ 1 → begin_of region.now.left.items depth ≡ 0 → (step_at region.now.right.items depth).max ≡ greatest width → result ≡ true }
 {
-    let first = step_on(&region.left, depth as usize).min;
-    let last = step_on(&region.right, depth as usize).max;
-    new.len() == 1 && first == 0 && last == top(width)
+    new.len() == 1 && stands_for_all(width, region, depth)
 }
 
 /// Ends a replacement at a level: by a new root, or by one row in the place of one row.
@@ -213,9 +222,7 @@ fn is_nothing(width: Width, region: &Region, depth: u32, kind: RowKind) -> bool
     ensures hole { result ≡ true → words_in region.now.run.items ≡ 0 ∷ [] }
     ensures other { kind ≡ Leaf → begin_of region.now.left.items depth ≡ 0 → (step_at region.now.right.items depth).max ≡ greatest width → words_in region.now.run.items ≡ 0 ∷ [] → result ≡ true }
 {
-    let first = step_on(&region.left, depth as usize).min;
-    let last = step_on(&region.right, depth as usize).max;
-    let all = first == 0 && last == top(width);
+    let all = stands_for_all(width, region, depth);
     is_leaf(kind) && all && region.run.len() == 1 && region.run[0].word == 0
 }
 
@@ -230,7 +237,7 @@ fn ends_here(width: Width, region: &Region, new: &ArrayVec<Item, 3>, depth: u32)
 {
     let left = step_on(&region.left, depth as usize);
     let right = step_on(&region.right, depth as usize);
-    let all = left.min == 0 && right.max == top(width);
+    let all = stands_for_all(width, region, depth);
     depth == 0 || new.len() == 1 && (left.min == right.min || all)
 }
 

@@ -6,6 +6,7 @@ ghost use Rattle.mt_base.specs.Map.{over};
 ghost use Rattle.mt_layout.specs.Spans.{spans_from};
 ghost use Rattle.mt_layout.specs.declared.names.RowKind.TheVariants.{Leaf};
 ghost use Rattle.mt_rows.specs.Publish.{map_by};
+ghost use Rattle.mt_rows.specs.Spans.{slots_of};
 ghost use Rattle.mt_rows.specs.Sheet.{OnlyReads};
 ghost use Rattle.mt_splice.specs.Splice.{last_step, region_of};
 ghost use Rattle.mt_splice.specs.Testing.{IsBetweenCalls, AreEnds, IsRunOver, leaves_items};
@@ -18,7 +19,7 @@ use mt_free::RowBook;
 use mt_layout::{Item, RowKind, Run};
 use mt_leaf::edit;
 use mt_path::{Path, PathStep, walk};
-use mt_rows::{Place, PlainRows, Rows};
+use mt_rows::{Place, PlainRows, Rows, slots};
 
 /// The last index.
 const TOP: u64 = u64::MAX;
@@ -26,11 +27,12 @@ const TOP: u64 = u64::MAX;
 /// Appends the items of the leaf that a path ends in.
 fn push_leaf(rows: &mut PlainRows, leaf: PathStep, run: &mut Run)
     requires row { (16 ≤ leaf.row) × (leaf.row < 16 + rows.old.rows) }
-    requires room { length run.old.items ≤ 16 }
+    requires room { length run.old.items + slots_of rows.old.tree.table.width Leaf ≤ 72 }
     ensures items { run.new.items ≡ run.old.items ++ items_of_row rows.old.tree.table Leaf leaf.row leaf.max }
     ensures rest { OnlyReads rows.old rows.new }
 {
-    push_items(rows, RowKind::Leaf, leaf.row, leaf.max, 0, 16, run);
+    let slots = slots(rows.width(), RowKind::Leaf);
+    push_items(rows, RowKind::Leaf, leaf.row, leaf.max, 0, slots, run);
 }
 
 /// The last step of a path.
@@ -74,7 +76,7 @@ fn items_at(rows: &mut PlainRows, left: &Path, right: &Path) -> (u64, Run)
     requires ends { (first : ℕ) × (last : ℕ) × AreEnds rows.old left.now.items right.now.items first last }
     ensures items { spans_from result.0 result.1.items ≡ region_of rows.old.tree.table left.now.items right.now.items }
     ensures min { result.0 ≡ (last_step left.now.items).min }
-    ensures fit { (first last : ℕ) → AreEnds rows.old left.now.items right.now.items first last → IsRunOver result.0 result.1.items first last }
+    ensures fit { (first last : ℕ) → AreEnds rows.old left.now.items right.now.items first last → IsRunOver rows.old.tree.table.width result.0 result.1.items first last }
     ensures rest { OnlyReads rows.old rows.new }
 {
     if left.is_empty() {

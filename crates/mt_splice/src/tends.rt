@@ -2,9 +2,8 @@
 
 ghost use Rattle.mt_splice.specs.Writes.{AreChildren, AreTended};
 
-use crate::reads::slots_in;
 use mt_layout::{RowKind, parent_word, row_of};
-use mt_rows::Rows;
+use mt_rows::{Rows, slots};
 
 /// Writes the parent words of the children in the first slots of an inner row.
 #[tactic(auto, using(crate::proofs::Tending::none_tended, crate::proofs::Tending::is_named, crate::proofs::Tending::may_tend, crate::proofs::Tending::one_more_tended))]
@@ -13,7 +12,7 @@ pub fn tend_children<R: Rows>(rows: &mut R, kind: RowKind, row: u32, count: u32)
     ensures { AreTended (R.sheet rows.old) (R.sheet rows.new) kind row count }
 {
     rows.size();
-    let slots = slots_in(rows.width(), kind);
+    let slots = slots(rows.width(), kind);
     for slot in 0..count {
         let word = rows.load(row, slots + slot);
         let Some(child) = row_of(word) else {

@@ -43,4 +43,4 @@ returns-clause-fit c first last ends =
     let run : c.leaves_at-run.result.items ≡ leaves_items c.args.rows.now.tree.table c.last_of-leaf.result c.last_of.result = c.leaves_at-run.ensures.items in
     let all : c.leaves_at-run.result.items ≡ leaves_items c.args.rows.now.tree.table (last_step c.args.left.now.items) (last_step c.args.right.now.items) =
     run ∙ (λ i. leaves_items c.args.rows.now.tree.table (c.last_of-leaf.ensures i) (c.last_of.ensures i)) in
-    subst (λ (p : PathStep × List Item). IsRunOver p.0.min p.1 first last) (λ i. (sym c.last_of-leaf.ensures i, sym all i)) leaves.fit
+    subst (λ (p : PathStep × List Item). IsRunOver c.args.rows.now.tree.table.width p.0.min p.1 first last) (λ i. (sym c.last_of-leaf.ensures i, sym all i)) leaves.fit

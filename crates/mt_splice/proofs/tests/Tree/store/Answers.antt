@@ -1,5 +1,4 @@
 use Rattle.std.proofs.Common.{sym, subst}
-use Rattle.mt_free.specs.Book.{Book}
 use Rattle.mt_splice.specs.Testing.{IsBetweenCalls}
 use Rattle.mt_splice.proofs.Testing.{ready_if_read}
 use Rattle.mt_splice.proofs.tests.Tree.store.Goals as goal
