@@ -1,6 +1,7 @@
 pub mod AboveNothing
 pub mod Ascents
 pub mod Beginnings
+pub mod BetweenCalls
 pub mod Buried
 pub mod Conditions
 pub mod Counts
@@ -21,6 +22,7 @@ pub mod EndWords
 pub mod Fresh
 pub mod Gapless
 pub mod Gathering
+pub mod LeafRegions
 pub mod LevelBuries
 pub mod LevelDone
 pub mod LevelEnds
@@ -49,7 +51,6 @@ pub mod StepSeen
 pub mod Steps
 pub mod TakenIn
 pub mod Tending
-pub mod Testing
 pub mod Widens
 pub mod Written
 pub mod WrittenRows

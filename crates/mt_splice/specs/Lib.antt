@@ -1,4 +1,5 @@
 pub mod Beginnings
+pub mod Between
 pub mod Burying
 pub mod Climbs
 pub mod Endings
@@ -6,6 +7,7 @@ pub mod Ends
 pub mod Levels
 pub mod Progress
 pub mod Publishing
+pub mod Regions
 pub mod Replaced
 pub mod Replacing
 pub mod Runs
@@ -13,6 +15,5 @@ pub mod Seen
 pub mod Splice
 pub mod Stretches
 pub mod TakingIn
-pub mod Testing
 pub mod Work
 pub mod Writes

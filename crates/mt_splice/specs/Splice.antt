@@ -95,6 +95,21 @@ pub record MaySplice (kind : Kind) (s : Sheet) (book : Book) (left right : List 
   pub right_path : right ≡ path_in s.tree.table s.tree.root last
   pub edits : spans_from (last_step left).min items ≡ edited (region_of s.tree.table left right) first last entry
 
+-- the same of a store whose leaves are still to be read
+pub record MayReplace (kind : Kind) (s : Sheet) (book : Book) (left : List PathStep) (first last entry : ℕ) (number : ℕ) (call : Call) (reply : Reply) : Type 0 where
+  pub range : kind ≡ trees.Range
+  pub room : 3 * height_in s.tree.table s.tree.root + 1 ≤ length book.free
+  pub flying : s.flying ≡ true
+  pub before : s.published ≡ false
+  pub in_flight : number ≡ s.ended + 1
+  pub none_buried : NoneBuried s
+  pub live : LiveAreReached s
+  pub booked : IsBookOf s book number
+  pub lawful : IsLawfulOf s kind
+  pub store : IsStoreBy kind (greatest s.tree.table.width) (map_by s.tree) call reply first last entry
+  pub some : s.tree.root ≡ 0 → entry ≢ 0
+  pub left_path : left ≡ path_in s.tree.table s.tree.root first
+
 -- ---- after
 
 -- each child's parent word names its parent and its slot, and the root's is 1

@@ -8,11 +8,11 @@ mod beside;
 mod ends;
 mod gathers;
 pub mod laws;
+mod leaves;
 mod levels;
 mod reads;
 mod replaces;
 mod splices;
-#[cfg(test)]
 mod stores;
 mod tends;
 #[cfg(test)]
@@ -20,3 +20,4 @@ mod tests;
 mod writes;
 
 pub use splices::splice;
+pub use stores::replace_range;

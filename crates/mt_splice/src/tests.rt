@@ -1,11 +1,15 @@
-ghost use Rattle.std.specs.Prelude.{◌≡◌, ◌<◌, ◌≤◌, ◌+◌, ◌-◌, ◌^◌, IfOk, length};
+ghost use Rattle.std.specs.Prelude.{◌≡◌, ◌≢◌, false, ◌<◌, ◌≤◌, ◌+◌, ◌-◌, ◌^◌, IfOk, length};
+ghost use Rattle.mt_base.specs.Entry.{reserved};
+ghost use Rattle.mt_base.specs.Map.{over};
+ghost use Rattle.mt_rows.specs.Publish.{map_by};
 ghost use Rattle.mt_rows.specs.Sheet.{IsPlace, OnlyReads};
-ghost use Rattle.mt_splice.specs.Testing.{IsBetweenCalls};
+ghost use Rattle.mt_splice.specs.Between.{IsBetweenCalls};
 
-use crate::stores::store;
-use mt_base::{Call, Kind, NoMemory, Range, is_reserved};
+use crate::replace_range;
+use mt_base::{Call, Kind, NoMemory, Range, Reply, is_reserved};
 use mt_free::RowBook;
 use mt_list::{ListMap, Ranges};
+use mt_path::walk;
 use mt_rows::plain_trees::{height_in, map_in, reached_in};
 use mt_rows::{Place, PlainRows, Rows};
 use std::alloc::Global;
@@ -47,6 +51,37 @@ fn root_of(rows: &mut PlainRows) -> u64
     ensures rest { OnlyReads rows.old rows.new }
 {
     rows.root()
+}
+
+/// A whole store as one call: of an entry, or of a hole into a tree that is not empty.
+fn store(rows: &mut PlainRows, book: &mut RowBook, first: u64, last: u64, entry: u64) -> Place
+    requires ready { IsBetweenCalls rows.old book.old }
+    requires order { first ≤ last }
+    requires some { rows.old.tree.root ≡ 0 → entry ≢ 0 }
+    requires lawful { reserved entry ≡ false }
+    requires free { 28 ≤ length book.old.free }
+    requires room { rows.old.ended < 2 ^ 62 - 1 }
+    ensures ready { IsBetweenCalls rows.new book.new }
+    ensures ended { rows.new.ended ≡ rows.old.ended + 1 }
+    ensures map { map_by rows.new.tree ≡ over (map_by rows.old.tree) first last entry }
+{
+    let call = Call::Store { first, last, entry };
+    let number = rows.begin();
+    let left = walk(rows, first);
+    let place = replace_range(
+        rows,
+        book,
+        Kind::Range,
+        &left,
+        first,
+        last,
+        entry,
+        number,
+        &call,
+        &Reply::Ok,
+    );
+    rows.finish(&call, &Reply::Ok);
+    place
 }
 
 /// A tree of nodes with the book of its rows, and a sorted list that plays the same stores.

@@ -2,7 +2,7 @@ use Rattle.std.proofs.Common.{sym, subst, lit≤}
 use Rattle.mt_free.specs.Book.{Book}
 use Rattle.mt_free.proofs.Books.{new_is_book}
 use Rattle.mt_rows.specs.Sheet.{Sheet}
-use Rattle.mt_splice.specs.Testing.{IsBetweenCalls}
+use Rattle.mt_splice.specs.Between.{IsBetweenCalls}
 use Rattle.mt_splice.proofs.Fresh.{fresh_is_ready}
 use Rattle.mt_splice.proofs.tests.Tree.new.Goals as goal
 

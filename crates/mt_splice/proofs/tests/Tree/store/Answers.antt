@@ -1,6 +1,6 @@
 use Rattle.std.proofs.Common.{sym, subst}
-use Rattle.mt_splice.specs.Testing.{IsBetweenCalls}
-use Rattle.mt_splice.proofs.Testing.{ready_if_read}
+use Rattle.mt_splice.specs.Between.{IsBetweenCalls}
+use Rattle.mt_splice.proofs.BetweenCalls.{ready_if_read}
 use Rattle.mt_splice.proofs.tests.Tree.store.Goals as goal
 
 pub returns-in_err-expect_same-clause-ready : goal.returns-in_err-expect_same-clause-ready

@@ -1,5 +1,5 @@
 use Rattle.std.proofs.Common.{◌≡◌, ◌+◌}
-use Rattle.mt_splice.specs.Testing.{IsBetweenCalls}
+use Rattle.mt_splice.specs.Between.{IsBetweenCalls}
 use Rattle.mt_splice.proofs.tests.Tree.store_all.Given as goal
 
 abbrev pub invariant-loop-range : goal.invariant-loop-range

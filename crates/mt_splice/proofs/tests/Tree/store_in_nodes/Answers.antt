@@ -1,4 +1,4 @@
-use Rattle.mt_splice.proofs.Testing.{ready_if_read}
+use Rattle.mt_splice.proofs.BetweenCalls.{ready_if_read}
 use Rattle.mt_splice.proofs.tests.Tree.store_in_nodes.Goals as goal
 
 pub store-requires-clause-ready : goal.store-requires-clause-ready

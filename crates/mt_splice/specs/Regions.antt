@@ -1,28 +1,18 @@
--- What a whole store in a test is asked for, and what it leaves.
--- Source: this project's own.
-use Rattle.std.specs.Prelude.{◌≡◌, ◌+◌, ◌*◌, ◌≤◌, ◌==◌, ◌++◌, ℕ, false, true, List, length, if◌then◌else◌}
+-- The leaves at the ends of a store, and their items.
+-- Source: the kernel's lib/maple_tree.c, mas_wr_spanning_store, which takes the two end nodes of a store.
+use Rattle.std.specs.Prelude.{◌≡◌, ◌+◌, ◌*◌, ◌≤◌, ◌==◌, ◌++◌, ℕ, List, length, if◌then◌else◌}
 use Rattle.mt_base.specs.declared.kinds.Kind.TheVariants as trees
 use Rattle.mt_base.specs.declared.widths.Width.{Width}
 use Rattle.mt_base.specs.Width.{greatest}
 use Rattle.mt_layout.specs.declared.items.Item.{Item}
 use Rattle.mt_layout.specs.declared.names.RowKind.TheVariants.{Leaf}
 use Rattle.mt_layout.specs.Columns.{RiseFrom, end_of}
-use Rattle.mt_free.specs.Book.{Book}
 use Rattle.mt_rows.specs.Spans.{Table, slots_of}
 use Rattle.mt_rows.specs.Sheet.{Sheet}
-use Rattle.mt_rows.specs.Publish.{IsTreeOf, IsLawfulOf, LiveAreReached, NoneBuried}
+use Rattle.mt_rows.specs.Publish.{IsTreeOf}
 use Rattle.mt_path.specs.declared.paths.PathStep.{PathStep}
 use Rattle.mt_path.specs.Paths.{path_in}
 use Rattle.mt_splice.specs.Writes.{items_of_row}
-use Rattle.mt_splice.specs.Splice.{IsBookOf}
-
--- the rows and the book between two calls
-pub record IsBetweenCalls (s : Sheet) (book : Book) : Type 0 where
-  pub idle : s.flying ≡ false
-  pub lawful : IsLawfulOf s trees.Range
-  pub live : LiveAreReached s
-  pub none_buried : NoneBuried s
-  pub booked : IsBookOf s book (s.ended + 1)
 
 -- the paths to the ends of a store
 pub record AreEnds (s : Sheet) (left right : List PathStep) (first last : ℕ) : Type 0 where
@@ -46,12 +36,3 @@ leaf_items t s = items_of_row t Leaf s.row s.max
 
 abbrev pub leaves_items : Table → PathStep → PathStep → List Item
 leaves_items t l r = if l.row == r.row then leaf_items t l else leaf_items t l ++ leaf_items t r
-
--- the rows and the book within a call that has published nothing yet
-pub record IsWithin (s : Sheet) (book : Book) : Type 0 where
-  pub flying : s.flying ≡ true
-  pub before : s.published ≡ false
-  pub lawful : IsLawfulOf s trees.Range
-  pub live : LiveAreReached s
-  pub none_buried : NoneBuried s
-  pub booked : IsBookOf s book (s.ended + 1)

@@ -1,4 +1,4 @@
--- A whole store in a test: its call begins, the leaves at its ends are read, and the rows are ready once more when it ends.
+-- The leaves at a store's ends, and their items one behind the other.
 use Rattle.std.proofs.Common.{◌≡◌, ◌≢◌, ℕ, zero, suc, ◌+◌, ◌*◌, ◌-◌, ◌^◌, ◌<◌, ◌≤◌, ◌==◌, ◌++◌, List, [], ◌∷◌, Bool, true, false, length, nat_lt, refl, sym, ap, ◌∙◌, subst, inl, inr, arith, length-append}
 use Rattle.std.specs.Prelude.{if◌then◌else◌}
 use Rattle.std.proofs.lemmas.Bool.{cases_Bool, eqb-true, eqb-false, le-ltb, ltb-true, ltb-false}
@@ -38,135 +38,11 @@ use Rattle.mt_path.proofs.Places.{at_once}
 use Rattle.mt_path.proofs.Entering.{path_of_none}
 use Rattle.mt_path.proofs.TreePaths.{row_of, rows_at, step, place, lawful, levels, rows_fill, right_begins}
 use Rattle.mt_splice.specs.Splice.{IsBookOf, IsSpliced, HasParents, MaySplice, last_step, leaf_spans, region_of}
-use Rattle.mt_splice.specs.Testing.{IsBetweenCalls, AreEnds, IsRunOver, IsWithin, leaf_items, leaves_items}
+use Rattle.mt_splice.specs.Regions.{AreEnds, IsRunOver, leaf_items, leaves_items}
 use Rattle.mt_splice.proofs.Sizes.{leaf_slots}
 use Rattle.mt_splice.proofs.Gathering.{few_items}
 use Rattle.mt_splice.proofs.LevelRows.{fills_end, fills_rise}
 use Rattle.mt_splice.proofs.PathRows.{rows_in_order, spans_of_step}
-
--- ---- laws before and after
-
-tree_if_lawful : (t : Tree) → IsLawful t → IsTree t
-tree_if_lawful t (inl empty) = inl empty
-tree_if_lawful t (inr (h, stands, parent, tended)) = inr (h, stands)
-
-tended_range : (t : Tree) → t.kind ≡ trees.Range → (h : ℕ) (x : Span) → ParentLaw t h x → IsTended t h x
-tended_range t range zero x parent = record { parent = parent; gaps = tt }
-tended_range t range (suc h) x parent = record { parent = parent; gaps = rw range tt }
-
-lawful_by_parents : (t : Tree) → t.kind ≡ trees.Range → HasParents t → IsLawful t
-lawful_by_parents t range (inl empty) = inl empty
-lawful_by_parents t range (inr (h, stands, parent, levels)) = inr (h, stands, parent, levels_map (ParentLaw t) (IsTended t) t.table (tended_range t range) h (root_of t) levels)
-
-low_tree : (t : Tree) → IsLawful t → height_in t.table t.root ≤ 9
-low_tree t (inl empty) = let none : height_in t.table t.root ≡ 0 = ap (height_in t.table) empty in omega arith
-low_tree t (inr (h, stands, parent, tended)) =
-    let high = height_by_depth t deepest h (root_span t.table t.root) stands.low stands.rows in
-    let low = stands.low in omega arith
-
--- ---- the call begins
-
-within_if_ready : (s : Sheet) (book : Book) (reads : _) → IsBetweenCalls s book → IsWithin (record (begun s) { reads = reads }) book
-within_if_ready s book reads ready = record {
-  flying = refl;
-  before = refl;
-  lawful = record { of_kind = record { told = ready.lawful.of_kind.told; width = ready.lawful.of_kind.width }; words = ready.lawful.words };
-  live = ready.live;
-  none_buried = ready.none_buried;
-  booked = record { sound = ready.booked.sound; rows = ready.booked.rows; out = ready.booked.out; reached = ready.booked.reached; spare = ready.booked.spare; stamps = ready.booked.stamps };
-}
-
-module _ (s₀ s₁ s₂ s₃ : Sheet) (begins : s₁ ≡ begun s₀) (first_reads : OnlyReads s₁ s₂) (then_reads : OnlyReads s₂ s₃) where
-  pub reads_two : OnlyReads s₁ s₃
-  reads_two = then_reads ∙ ap (λ (x : Sheet). record x { reads = s₃.reads }) first_reads
-
-  pub open_is : s₃ ≡ record (begun s₀) { reads = s₃.reads }
-  open_is = reads_two ∙ ap (λ (x : Sheet). record x { reads = s₃.reads }) begins
-
-  pub is_within : (book : Book) → IsBetweenCalls s₀ book → IsWithin s₃ book
-  is_within book ready = subst (λ (x : Sheet). IsWithin x book) (sym open_is) (within_if_ready s₀ book s₃.reads ready)
-
-  pub ends_are : (book : Book) (left right : List PathStep) (first last : ℕ) → IsBetweenCalls s₀ book → first ≤ last → last ≤ greatest s₃.tree.table.width
-      → left ≡ path_in s₁.tree.table s₁.tree.root first → right ≡ path_in s₂.tree.table s₂.tree.root last → AreEnds s₃ left right first last
-  ends_are book left right first last ready order within is_left is_right = record {
-    tree = let in_call = is_within book ready in record { of_kind = in_call.lawful.of_kind; words = tree_if_lawful (tree_as trees.Range s₃.rows s₃.tree) in_call.lawful.words };
-    order = order;
-    within = within;
-    left_path = is_left ∙ ap (λ (x : Sheet). path_in x.tree.table x.tree.root first) (sym reads_two);
-    right_path = is_right ∙ ap (λ (x : Sheet). path_in x.tree.table x.tree.root last) (sym then_reads);
-  }
-
-pub wide : (w : Width) (n : ℕ) → n < 2 ^ 64 → n ≤ greatest w
-wide Long n fits = omega arith
-
--- ---- the splice
-
-acts_so : (m : List Range) (first last entry : ℕ) → first ≤ last → reserved entry ≡ false → acted trees.Range m (Store first last entry) ≡ (over m first last entry, reply.Ok)
-acts_so m first last entry order free = rw (le-ltb last first order, free) refl
-
-module _ (s₃ : Sheet) (book : Book) (left right : List PathStep) (items items' : List Item) (number min first last entry : ℕ)
-    (in_call : IsWithin s₃ book) (ends : AreEnds s₃ left right first last) (same_end : number ≡ s₃.ended + 1) (some : s₃.tree.root ≡ 0 → entry ≢ 0) (free : reserved entry ≡ false) (room : 28 ≤ length book.free)
-    (is_region : spans_from min items ≡ region_of s₃.tree.table left right) (is_min : min ≡ (last_step left).min) (is_edited : spans_from min items' ≡ edited (spans_from min items) first last entry) where
-  pub may_splice : MaySplice trees.Range s₃ book left right items' number (Store first last entry) reply.Ok
-  may_splice = record {
-    range = refl;
-    room = let low = low_tree (tree_as trees.Range s₃.rows s₃.tree) in_call.lawful.words in omega arith;
-    flying = in_call.flying;
-    before = in_call.before;
-    in_flight = same_end;
-    none_buried = in_call.none_buried;
-    live = in_call.live;
-    booked = subst (IsBookOf s₃ book) (sym same_end) in_call.booked;
-    lawful = in_call.lawful;
-    first = first;
-    last = last;
-    entry = entry;
-    store = record { acts = acts_so (map_by s₃.tree) first last entry ends.order free; order = ends.order; within = ends.within; lawful = free };
-    some = some;
-    left_path = ends.left_path;
-    right_path = ends.right_path;
-    edits = ap (λ (n : ℕ). spans_from n items') (sym is_min) ∙ is_edited ∙ ap (λ (l : List Span). edited l first last entry) is_region;
-  }
-
-pub end_same : (s₀ s₃ : Sheet) (number : ℕ) → s₃ ≡ record (begun s₀) { reads = s₃.reads } → number ≡ s₀.ended + 1 → number ≡ s₃.ended + 1
-end_same s₀ s₃ number is here = here ∙ ap (λ (x : Sheet). x.ended + 1) (sym is)
-
-pub reads_on : (a b c : Sheet) → OnlyReads a b → OnlyReads b c → OnlyReads a c
-reads_on a b c before behind = behind ∙ ap (λ (x : Sheet). record x { reads = c.reads }) before
-
--- ---- the call ends
-
-module _ (s s' s″ : Sheet) (book book' : Book) (number first last entry : ℕ) (place : Place) (order : first ≤ last) (free : reserved entry ≡ false) (same_end : number ≡ s.ended + 1)
-    (spliced : IsSpliced trees.Range s s' book book' number (Store first last entry) reply.Ok place) (ends : s″ ≡ finished s' (Store first last entry) reply.Ok) where
-  abbrev done : Sheet
-  done = finished s' (Store first last entry) reply.Ok
-
-  ended_is : s'.ended ≡ s.ended
-  ended_is = ap (λ (x : Sheet). x.ended) spliced.rest
-
-  done_ready : IsBetweenCalls done book'
-  done_ready = record {
-    idle = refl;
-    lawful = record {
-      of_kind = record { told = spliced.tree.of_kind.told; width = spliced.tree.of_kind.width };
-      words = lawful_by_parents (tree_as trees.Range s'.rows s'.tree) refl spliced.parents;
-    };
-    live = spliced.live;
-    none_buried = spliced.none_buried;
-    booked =
-        let booked = spliced.booked in
-        let stamp : number + 1 ≡ s'.ended + 1 + 1 = (let same = ended_is in omega arith) in
-        subst (IsBookOf done book') stamp (record { sound = booked.sound; rows = booked.rows; out = booked.out; reached = booked.reached; spare = booked.spare; stamps = booked.stamps });
-  }
-
-  pub ready_again : IsBetweenCalls s″ book'
-  ready_again = subst (λ (x : Sheet). IsBetweenCalls x book') (sym ends) done_ready
-
-  pub one_more_ended : s″.ended ≡ s.ended + 1
-  one_more_ended = let is = ap (λ (x : Sheet). x.ended) ends in let same = ended_is in omega arith
-
-  pub map_stored : map_by s″.tree ≡ over (map_by s.tree) first last entry
-  map_stored = ap (λ (x : Sheet). map_by x.tree) ends ∙ (spliced.map ∙ ap (λ (a : List Range × _). a.0) (acts_so (map_by s.tree) first last entry order free))
 
 -- ---- the leaves at a store's ends
 
@@ -360,17 +236,3 @@ leaves_are s left right first last ends some =
       spans = all.0;
       fit = all.1;
     }
-
--- ---- rows that were only read are as ready as before
-
-ready_with : (s : Sheet) (book : Book) (reads : _) → IsBetweenCalls s book → IsBetweenCalls (record s { reads = reads }) book
-ready_with s book reads ready = record {
-  idle = ready.idle;
-  lawful = record { of_kind = record { told = ready.lawful.of_kind.told; width = ready.lawful.of_kind.width }; words = ready.lawful.words };
-  live = ready.live;
-  none_buried = ready.none_buried;
-  booked = record { sound = ready.booked.sound; rows = ready.booked.rows; out = ready.booked.out; reached = ready.booked.reached; spare = ready.booked.spare; stamps = ready.booked.stamps };
-}
-
-pub ready_if_read : (s s' : Sheet) (book : Book) → OnlyReads s s' → IsBetweenCalls s book → IsBetweenCalls s' book
-ready_if_read s s' book reads ready = subst (λ (x : Sheet). IsBetweenCalls x book) (sym reads) (ready_with s book s'.reads ready)
