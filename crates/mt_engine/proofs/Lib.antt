@@ -1,1 +1,3 @@
+pub mod LeafSlots
+pub mod LeafSteps
 pub mod Slots
