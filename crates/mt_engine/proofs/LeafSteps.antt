@@ -1,27 +1,29 @@
 -- The leaf of an index: where it stands, what it holds, and what it shares with the leaf of another index.
-use Rattle.std.proofs.Common.{◌≡◌, ◌≢◌, ℕ, zero, suc, ◌+◌, ◌-◌, ◌^◌, ◌<◌, ◌≤◌, List, Option, Bool, length, nat_lt, true, false, refl, sym, ap, ◌∙◌, subst, inl, inr, arith, lt-ltb, le-ltb}
+use Rattle.std.proofs.Common.{◌≡◌, ◌≢◌, ℕ, zero, suc, ◌+◌, ◌-◌, ◌^◌, ◌<◌, ◌≤◌, List, [], ◌∷◌, Option, Some, None, Bool, length, get_or, slice_get, nat_lt, true, false, refl, sym, ap, ◌∙◌, subst, inl, inr, arith, lt-ltb, le-ltb}
 use Rattle.std.specs.Prelude.{slice_index, if◌then◌else◌}
-use Rattle.std.proofs.lemmas.Option.{slice_get_within}
+use Rattle.std.proofs.lemmas.Option.{slice_get_within, get_or_from_slice_get, slice_get-get_or}
 use Rattle.mt_base.specs.declared.kinds.Kind.{Kind}
 use Rattle.mt_base.specs.declared.widths.Width.{Width}
 use Rattle.mt_base.specs.declared.widths.Width.TheVariants.{Long}
 use Rattle.mt_base.specs.Width.{greatest, columns}
 use Rattle.mt_layout.specs.declared.names.RowKind.TheVariants.{Leaf}
 use Rattle.mt_layout.specs.declared.spans.Span.{Span}
-use Rattle.mt_layout.specs.Rows.{row_in}
+use Rattle.mt_layout.specs.Rows.{row_in, named_kind}
 use Rattle.mt_layout.specs.Columns.{pivot_column, slot_column, gap_at, items_at}
 use Rattle.mt_layout.specs.declared.items.Item.{Item}
 use Rattle.mt_layout.specs.Spans.{Fills}
 use Rattle.mt_layout.proofs.NameLaws.{Names-named_kind}
-use Rattle.mt_rows.specs.Spans.{Table, base_of, column, slots_of, gaps_of, spans_in}
+use Rattle.mt_rows.specs.Spans.{Table, base_of, column, slots_of, gaps_of, spans_in, root_span}
+use Rattle.mt_rows.specs.Trees.{deepest}
 use Rattle.mt_rows.specs.Laws as laws
 use Rattle.mt_rows.specs.Publish.{IsTreeOf, tree_as}
 use Rattle.mt_rows.specs.Sheet.{Tree, Sheet, IsPlace, OnlyReads, word_at, loaded}
 use Rattle.mt_rows.proofs.SlotWords.{length-spans_from}
 use Rattle.mt_path.specs.declared.paths.PathStep.{PathStep}
-use Rattle.mt_path.specs.Paths.{slot_for, span_at, step_in, path_in, step_at, At}
+use Rattle.mt_path.specs.Paths.{slot_for, span_at, step_in, path_in, step_at, no_step, At}
 use Rattle.mt_path.proofs.Places.{at_get, at_within}
 use Rattle.mt_path.proofs.Bounds.{greatest_fits}
+use Rattle.mt_path.proofs.Entering.{path_of_none}
 use Rattle.mt_path.proofs.Steps.{rows_agree}
 use Rattle.mt_path.proofs.TreePaths.{top_row, rows_at, row_of, levels, step, place as place_at, lawful, holds, root_leads}
 use Rattle.mt_splice.specs.Splice.{last_step, leaf_spans}
@@ -368,3 +370,38 @@ module _ (s : Sheet) (kind : Kind) (tree : IsTreeOf s kind) where
         let leaf : record handle.leaf { slot = handle.leaf.slot - 1 } ≡ leaf_in s.tree (handle.span.first - 1) =
         ap (λ (x : PathStep). record x { slot = x.slot - 1 }) leaf_is ∙ (sym there ∙ ap (λ (x : Span). leaf_in s.tree (x.first - 1)) (sym span_of_is)) in
         λ i. record { leaf = leaf i; span = (loaded ∙ ap (here_in s.tree.table) leaf) i }
+
+-- ---- the end of a path
+
+module _ (s : Sheet) (kind : Kind) (tree : IsTreeOf s kind) (index : ℕ) (inside : index ≤ greatest s.tree.table.width) (steps : List PathStep) (path : steps ≡ path_in s.tree.table s.tree.root index) where
+  some_root : 1 ≤ length steps → s.tree.root ≢ 0
+  some_root some empty =
+      let none = ap length (path ∙ path_of_none s.tree.table deepest (root_span s.tree.table s.tree.root) index (ap named_kind empty)) in
+      absurd (omega arith)
+
+  pub end_is_leaf : (leaf : PathStep) → slice_get steps (length steps - 1) ≡ Some leaf → IsStepOfLeaf s leaf
+  end_is_leaf leaf end =
+      let within = slice_get_within steps (length steps - 1) leaf end in
+      let is : leaf ≡ leaf_in s.tree index = sym (get_or_from_slice_get steps (length steps - 1) leaf no_step end) ∙ ap last_step path in
+      subst (IsStepOfLeaf s) (sym is) (step_of_index s kind tree index (some_root (omega arith)) inside)
+
+  no_end : slice_get steps (length steps - 1) ≡ None → length steps ≡ 0
+  no_end none = by steps none
+    where
+      by : (l : List PathStep) → slice_get l (length l - 1) ≡ None → length l ≡ 0
+      by [] none = refl
+      by (x ∷ l) none =
+          let some = slice_get-get_or (x ∷ l) (length (x ∷ l) - 1) no_step (omega arith) in
+          let clash : Some (get_or (x ∷ l) (length (x ∷ l) - 1) no_step) ≡ None = sym some ∙ none in
+          absurd (cc)
+
+  pub root_if_no_end : slice_get steps (length steps - 1) ≡ None → s.tree.root ≡ 0
+  root_if_no_end none = by tree.words
+    where
+      by : laws.IsTree (tree_as kind s.rows s.tree) → s.tree.root ≡ 0
+      by (inl empty) = empty
+      by (inr (h, stands)) =
+          let many = levels (tree_as kind s.rows s.tree) h stands index inside in
+          let same = ap length path in
+          let short = no_end none in
+          absurd (omega arith)
