@@ -1,9 +1,9 @@
 -- What stands in the slots of a leaf, and spans that fill a leaf's indexes slot by slot.
-use Rattle.std.proofs.Common.{◌≡◌, ◌≢◌, ℕ, zero, suc, ◌+◌, ◌-◌, ◌<◌, ◌≤◌, List, [], ◌∷◌, length, nat_lt, nat_le, true, false, refl, sym, ap, ◌∙◌, subst, inl, inr, arith, lt-ltb, le-ltb}
+use Rattle.std.proofs.Common.{◌≡◌, ◌≢◌, ℕ, zero, suc, ◌+◌, ◌<◌, ◌≤◌, List, [], ◌∷◌, length, nat_lt, nat_le, true, false, refl, ap, ◌∙◌, subst, inl, inr, arith, lt-ltb, le-ltb}
 use Rattle.std.specs.Prelude.{slice_index, if◌then◌else◌}
 use Rattle.std.proofs.lemmas.Bool.{cases_Bool}
 use Rattle.mt_layout.specs.declared.spans.Span.{Span}
-use Rattle.mt_layout.specs.Columns.{pivot_column, slot_column, gap_at, item_at, items_from}
+use Rattle.mt_layout.specs.Columns.{pivot_column, slot_column, gap_at, items_from}
 use Rattle.mt_layout.specs.Spans.{Fills, spans_from}
 use Rattle.mt_rows.proofs.Lists.{fills_le}
 use Rattle.mt_path.specs.Paths.{slot_for, span_at}

@@ -1,12 +1,4 @@
-use Rattle.std.proofs.Common.{rules, ◌≡◌, ◌≢◌, ◌≤◌, ◌+◌, ◌-◌, ◌↔◌, ℕ, IsNone, IfSome, ◌*◌, ◌<◌, length, ◌/◌, ◌%◌, Bool, true, false, nat_eq, nat_lt, List, [], ◌∷◌, ◌++◌, slice_index_or, slice_set, bit_and, bit_or, Fits, w8, w32, w64, Bor, MutBor}
-use Rattle.mt_base.specs.declared.kinds.Kind.{Kind}
-use Rattle.mt_base.specs.Width.{greatest}
-use Rattle.mt_rows.specs.Publish.{IsTreeOf}
-use Rattle.mt_rows.specs.Sheet.{OnlyReads}
-use Rattle.mt_path.specs.Paths.{span_at}
-use Rattle.mt_splice.specs.Splice.{leaf_spans}
-use Rattle.mt_engine.specs.Handles.{handle_in, IsHandleOf, IsStepOfLeaf}
-use Rattle.std.proofs.Common.{◌∙◌, arith}
+use Rattle.std.proofs.Common.{◌+◌, ◌∙◌, arith}
 use Rattle.mt_engine.proofs.LeafSteps.{few_if, place, last_is_pivot, last_is_max}
 use Rattle.mt_engine.proofs.handles.load_last.Goals as goal
 
@@ -16,12 +8,12 @@ load-requires g c = let low = few_if c.width.result c.slots.result c.slots.ensur
 
 -- src/handles.rt:45:9
 pub returns-then-leaf-slots-clause-last : goal.returns-then-leaf-slots-clause-last
-returns-then-leaf-slots-clause-last g c = 
+returns-then-leaf-slots-clause-last g c =
     let few = few_if c.width.result c.slots.result c.slots.ensures in let below = c.if-leaf-slots.true in
     c.load.ensures.word ∙ last_is_pivot _ _ _ c.requires.tree.1 c.requires.leaf (omega arith)
 
 -- src/handles.rt:38:1
 pub returns-clause-last : goal.returns-clause-last
-returns-clause-last g c = 
+returns-clause-last g c =
     let few = few_if c.width.result c.slots.result c.slots.ensures in let past = c.if-leaf-slots.false in
     last_is_max _ _ _ c.requires.tree.1 c.requires.leaf (omega arith)

@@ -1,12 +1,4 @@
-use Rattle.std.proofs.Common.{rules, ◌≡◌, ◌≢◌, ◌≤◌, ◌+◌, ◌-◌, ◌↔◌, ℕ, IsNone, IfSome, ◌*◌, ◌<◌, length, ◌/◌, ◌%◌, Bool, true, false, nat_eq, nat_lt, List, [], ◌∷◌, ◌++◌, slice_index_or, slice_set, bit_and, bit_or, Fits, w8, w32, w64, Bor, MutBor}
-use Rattle.mt_base.specs.declared.kinds.Kind.{Kind}
-use Rattle.mt_base.specs.Width.{greatest}
-use Rattle.mt_rows.specs.Publish.{IsTreeOf}
-use Rattle.mt_rows.specs.Sheet.{OnlyReads}
-use Rattle.mt_path.specs.Paths.{span_at}
-use Rattle.mt_splice.specs.Splice.{leaf_spans}
-use Rattle.mt_engine.specs.Handles.{handle_in, IsHandleOf, IsStepOfLeaf}
-use Rattle.std.proofs.Common.{ap, ◌∙◌, arith}
+use Rattle.std.proofs.Common.{◌+◌, ap, ◌∙◌, arith}
 use Rattle.mt_rows.specs.Spans.{column}
 use Rattle.mt_rows.specs.Sheet.{Tree}
 use Rattle.mt_splice.proofs.Testing.{reads_on}
@@ -19,7 +11,7 @@ load_last-last-requires-clause-tree g c = (c.requires.tree.0, tree_if_read (g.R.
 
 -- src/handles.rt:59:9
 pub load-word-requires : goal.load-word-requires
-load-word-requires g c = 
+load-word-requires g c =
     let few = few_if c.width.result c.slots.result c.slots.ensures in
     let low = slot_low _ _ _ c.requires.tree.1 c.requires.leaf in
     place_if_read (g.R.Rows.sheet c.args.rows.now) _ c.args.leaf.row (c.slots.result + c.args.leaf.slot)
@@ -28,7 +20,7 @@ load-word-requires g c =
 
 -- src/handles.rt:51:1
 pub returns-clause-span : goal.returns-clause-span
-returns-clause-span g c = 
+returns-clause-span g c =
     let few = few_if c.width.result c.slots.result c.slots.ensures in
     let first = same_tree (g.R.Rows.sheet c.args.rows.now) _ c.load_first-first.ensures.rest in
     let both = same_tree (g.R.Rows.sheet c.args.rows.now) _ (reads_on (g.R.Rows.sheet c.args.rows.now) _ _ c.load_first-first.ensures.rest c.load_last-last.ensures.rest) in
