@@ -1,2 +1,5 @@
+pub mod HandleSteps
+pub mod LeafSlots
+pub mod LeafSteps
 pub mod Slots
 pub mod SpanLists

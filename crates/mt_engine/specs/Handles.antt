@@ -1,6 +1,6 @@
 -- Where an index stands in a tree: the leaf that covers it, the slot there, and what stands in it.
 -- Source: the kernel's struct ma_state, whose node, offset, index and last a walk sets.
-use Rattle.std.specs.Prelude.{◌≡◌, ◌≢◌, ℕ, ◌≤◌, ◌<◌, ◌+◌, length}
+use Rattle.std.specs.Prelude.{◌≡◌, ◌≢◌, ℕ, ◌≤◌, ◌<◌, length}
 use Rattle.mt_base.specs.Width.{greatest}
 use Rattle.mt_rows.specs.Sheet.{Tree, Sheet}
 use Rattle.mt_path.specs.declared.paths.PathStep.{PathStep}

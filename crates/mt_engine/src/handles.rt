@@ -21,6 +21,32 @@ pub struct Handle {
     pub span: Span,
 }
 
+/// The first index of what stands in the slot of a leaf.
+fn load_first<R: Rows>(rows: &mut R, leaf: PathStep) -> u64
+    requires tree { (kind : Kind) × IsTreeOf (R.sheet rows.old) kind }
+    requires leaf { IsStepOfLeaf (R.sheet rows.old) leaf }
+    ensures first { result ≡ (span_at (leaf_spans (R.sheet rows.old).tree.table leaf) leaf.slot).first }
+    ensures rest { OnlyReads (R.sheet rows.old) (R.sheet rows.new) }
+{
+    if leaf.slot == 0 {
+        return leaf.min;
+    }
+    rows.load(leaf.row, leaf.slot) + 1
+}
+
+/// The last index of what stands in the slot of a leaf.
+fn load_last<R: Rows>(rows: &mut R, leaf: PathStep) -> u64
+    requires tree { (kind : Kind) × IsTreeOf (R.sheet rows.old) kind }
+    requires leaf { IsStepOfLeaf (R.sheet rows.old) leaf }
+    ensures last { result ≡ (span_at (leaf_spans (R.sheet rows.old).tree.table leaf) leaf.slot).last }
+    ensures rest { OnlyReads (R.sheet rows.old) (R.sheet rows.new) }
+{
+    if leaf.slot + 1 < slots(rows.width(), RowKind::Leaf) {
+        return rows.load(leaf.row, 1 + leaf.slot);
+    }
+    leaf.max
+}
+
 /// What stands in the slot of a leaf.
 fn load_span<R: Rows>(rows: &mut R, leaf: PathStep) -> Span
     requires tree { (kind : Kind) × IsTreeOf (R.sheet rows.old) kind }
@@ -28,18 +54,9 @@ fn load_span<R: Rows>(rows: &mut R, leaf: PathStep) -> Span
     ensures span { result ≡ span_at (leaf_spans (R.sheet rows.old).tree.table leaf) leaf.slot }
     ensures rest { OnlyReads (R.sheet rows.old) (R.sheet rows.new) }
 {
-    let slots = slots(rows.width(), RowKind::Leaf);
-    let first = if leaf.slot == 0 {
-        leaf.min
-    } else {
-        rows.load(leaf.row, leaf.slot) + 1
-    };
-    let last = if leaf.slot + 1 < slots {
-        rows.load(leaf.row, 1 + leaf.slot)
-    } else {
-        leaf.max
-    };
-    let word = rows.load(leaf.row, slots + leaf.slot);
+    let first = load_first(rows, leaf);
+    let last = load_last(rows, leaf);
+    let word = rows.load(leaf.row, slots(rows.width(), RowKind::Leaf) + leaf.slot);
     Span {
         first,
         last,
