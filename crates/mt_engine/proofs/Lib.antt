@@ -1,1 +1,3 @@
+pub mod Leafwise
 pub mod Slots
+pub mod Slotwise
