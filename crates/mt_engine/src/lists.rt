@@ -1,6 +1,6 @@
 //! All ranges of a tree.
 
-ghost use Rattle.std.specs.Prelude.{◌≡◌, ◌+◌, ◌<◌, ◌++◌, Some, IfOk, IfSome, nat_lt, if◌then◌else◌};
+ghost use Rattle.std.specs.Prelude.{◌≡◌, ◌+◌, ◌<◌, ◌++◌, IfOk, nat_lt, if◌then◌else◌};
 ghost use Rattle.std.specs.List.{flat_map};
 ghost use Rattle.mt_base.specs.declared.kinds.Kind.{Kind};
 ghost use Rattle.mt_layout.specs.declared.names.RowKind.TheVariants.{Leaf};
@@ -10,7 +10,7 @@ ghost use Rattle.mt_rows.specs.Publish.{IsTreeOf, map_by};
 ghost use Rattle.mt_rows.specs.Sheet.{IsPlace, OnlyReads};
 ghost use Rattle.mt_rows.specs.Spans.{column, slots_of};
 ghost use Rattle.mt_splice.specs.Splice.{leaf_spans};
-ghost use Rattle.mt_engine.specs.Listing.{ranges_from, BeginsLeaf};
+ghost use Rattle.mt_engine.specs.Listing.{BeginsLeaf, TakesLeaf};
 
 use mt_base::{NoMemory, Range, top};
 use mt_layout::RowKind;
@@ -67,11 +67,11 @@ fn push_leaf<R: Rows>(rows: &mut R, leaf: PathStep, ranges: &mut Vec<Range>) -> 
 }
 
 /// Appends the ranges of the leaf that begins at an index, and gives the index behind it, or none at the end.
+#[tactic(auto, using(crate::proofs::Leafwise::take_none))]
 fn push_leaf_at<R: Rows>(rows: &mut R, index: u64, ranges: &mut Vec<Range>) -> Result<Option<u64>, NoMemory>
     requires tree { (kind : Kind) × IsTreeOf (R.sheet rows.old) kind }
     requires begins { BeginsLeaf (R.sheet rows.old).tree index }
-    ensures ranges { let m = map_by (R.sheet rows.old).tree in IfOk result (λ next. ranges.new.items ++ ranges_from m next ≡ ranges.old.items ++ ranges_from m (Some index)) }
-    ensures next { IfOk result (λ next. IfSome next (λ i. (index < i) × BeginsLeaf (R.sheet rows.old).tree i)) }
+    ensures leaf { IfOk result (λ next. TakesLeaf (R.sheet rows.old).tree index next ranges.old.items ranges.new.items) }
     ensures rest { OnlyReads (R.sheet rows.old) (R.sheet rows.new) }
 {
     let path = walk(rows, index);
