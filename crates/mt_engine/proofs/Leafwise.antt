@@ -149,6 +149,9 @@ module _ (t : Tree) (h : ℕ) (stands : Stands t h) where
 
 -- ---- a walk to a leaf
 
+pub width_kept : (s t u : Sheet) → OnlyReads s t → OnlyReads t u → u.tree.table.width ≡ s.tree.table.width
+width_kept s t u before behind = ap (λ (x : Sheet). x.tree.table.width) behind ∙ ap (λ (x : Sheet). x.tree.table.width) before
+
 some_column : (w : Width) → 0 < columns w
 some_column Long = omega arith
 
@@ -278,11 +281,16 @@ first_leaf s kind tree = record { within = omega arith; min = by tree.words }
         let at = place (tree_as kind s.rows s.tree) h stands 0 h (omega arith) (omega arith) in
         let from = at.from in omega (arith, first, from)
 
-pub none_taken : (s : Sheet) → ((kind : Kind) × IsTreeOf s kind) → AreListed s s (Some 0) []
-none_taken s tree = record { tree = tree; rest = refl; ranges = from_zero (map_by s.tree); begins = first_leaf s tree.0 tree.1 }
+pub none_taken : (s : Sheet) (listed : List Range) → ((kind : Kind) × IsTreeOf s kind) → listed ≡ [] → AreListed s s (Some 0) listed
+none_taken s listed tree none = record {
+  tree = tree;
+  rest = refl;
+  ranges = ap (λ (l : List Range). l ++ ranges_from (map_by s.tree) (Some 0)) none ∙ from_zero (map_by s.tree);
+  begins = first_leaf s tree.0 tree.1;
+}
 
-pub one_more_leaf : (s t u : Sheet) (index : ℕ) (next : Option ℕ) (before after : List Range) → AreListed s t (Some index) before → TakesLeaf t.tree index next before after → OnlyReads t u → AreListed s u next after
-one_more_leaf s t u index next before after done takes reads =
+pub one_more_leaf : (s t u : Sheet) (index : ℕ) (here next : Option ℕ) (before after : List Range) → AreListed s t here before → here ≡ Some index → TakesLeaf t.tree index next before after → OnlyReads t u → AreListed s u next after
+one_more_leaf s t u index here next before after done at takes reads =
     let same : t.tree ≡ s.tree = ap (λ (x : Sheet). x.tree) done.rest in
     let on : u.tree ≡ t.tree = ap (λ (x : Sheet). x.tree) reads in
     let listed : after ++ ranges_from (map_by s.tree) next ≡ before ++ ranges_from (map_by s.tree) (Some index) =
@@ -290,7 +298,7 @@ one_more_leaf s t u index next before after done takes reads =
     record {
       tree = (done.tree.0, tree_if_read t u done.tree.0 reads done.tree.1);
       rest = reads ∙ ap (λ (x : Sheet). record x { reads = u.reads }) done.rest;
-      ranges = listed ∙ done.ranges;
+      ranges = listed ∙ (ap (λ (o : Option ℕ). before ++ ranges_from (map_by s.tree) o) (sym at) ∙ done.ranges);
       begins = subst (λ (x : sheets.Tree). IfSome next (BeginsLeaf x)) (sym on) takes.begins;
     }
 

@@ -86,6 +86,7 @@ fn push_leaf_at<R: Rows>(rows: &mut R, index: u64, ranges: &mut Vec<Range>) -> R
 }
 
 /// All ranges of the map that the words stand for, in rising order.
+#[tactic(auto, using(crate::proofs::Leafwise::all_leaves, crate::proofs::Leafwise::fewer_left))]
 pub fn list<R: Rows>(rows: &mut R, alloc: Global) -> Result<Vec<Range>, NoMemory>
     requires tree { (kind : Kind) × IsTreeOf (R.sheet rows.old) kind }
     ensures items { IfOk result (λ ranges. ranges.items ≡ map_by (R.sheet rows.old).tree) }
