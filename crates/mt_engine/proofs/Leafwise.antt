@@ -1,6 +1,6 @@
 -- The ranges of a tree, leaf by leaf: those from a leaf on are the leaf's own and those from the next leaf on.
-use Rattle.std.proofs.Common.{◌≡◌, ℕ, zero, suc, ◌+◌, ◌-◌, ◌^◌, ◌<◌, ◌≤◌, ◌==◌, ◌≢◌, List, [], ◌∷◌, ◌++◌, Bool, Option, Some, None, true, false, nat_le, length, refl, sym, ap, ◌∙◌, subst, arith, inl, inr, append_assoc, append-nil}
-use Rattle.std.specs.Prelude.{IfSome, if◌then◌else◌}
+use Rattle.std.proofs.Common.{◌≡◌, ℕ, zero, suc, ◌+◌, ◌-◌, ◌^◌, ◌<◌, ◌≤◌, ◌==◌, ◌≢◌, List, [], ◌∷◌, ◌++◌, Option, Some, None, nat_le, length, refl, sym, ap, ◌∙◌, subst, arith, inl, inr, append_assoc, append-nil}
+use Rattle.std.specs.Prelude.{IfSome}
 use Rattle.std.specs.List.{AllByRecursion, flat_map, filter, slice_get}
 use Rattle.std.proofs.lemmas.Option.{slice_get_within, get_or_from_slice_get}
 use Rattle.std.proofs.lemmas.Bool.{cases_Bool, le-leb, lt-leb}
@@ -14,10 +14,10 @@ use Rattle.mt_base.specs.Width.{greatest, columns}
 use Rattle.mt_layout.specs.declared.spans.Span.{Span}
 use Rattle.mt_layout.specs.declared.names.RowKind.TheVariants.{Leaf}
 use Rattle.mt_layout.specs.Spans.{Fills, leaf_range}
-use Rattle.mt_layout.specs.Rows.{row_in, named_kind}
+use Rattle.mt_layout.specs.Rows.{named_kind}
 use Rattle.mt_layout.proofs.NameLaws.{Names-named_kind}
 use Rattle.mt_rows.specs.Spans.{Table, spans_in, root_span}
-use Rattle.mt_rows.specs.Levels.{expand, level, map_of, Levels}
+use Rattle.mt_rows.specs.Levels.{expand, level, map_of}
 use Rattle.mt_rows.specs.Trees.{map_in, deepest}
 use Rattle.mt_rows.specs.Laws.{Tree, IsRow, IsTree, Stands, top_of}
 use Rattle.mt_rows.specs.Sheet.{Sheet, IsPlace, OnlyReads}
@@ -30,7 +30,7 @@ use Rattle.mt_path.specs.declared.paths.PathStep.{PathStep}
 use Rattle.mt_path.specs.Paths.{path_in, step_at, step_in, no_step, At}
 use Rattle.mt_path.proofs.Entering.{path_of_none}
 use Rattle.mt_path.proofs.Places.{at_within}
-use Rattle.mt_path.proofs.TreePaths.{row_of, rows_at, top_row, levels, step, place, lawful, rows_fill, right_begins}
+use Rattle.mt_path.proofs.TreePaths.{row_of, rows_at, levels, step, place, lawful, rows_fill, right_begins}
 use Rattle.mt_splice.specs.Splice.{last_step, leaf_spans}
 use Rattle.mt_splice.proofs.PathRows.{spans_of_step}
 use Rattle.mt_engine.specs.Handles.{leaf_in}
@@ -149,8 +149,13 @@ module _ (t : Tree) (h : ℕ) (stands : Stands t h) where
 
 -- ---- a walk to a leaf
 
-pub width_kept : (s t u : Sheet) → OnlyReads s t → OnlyReads t u → u.tree.table.width ≡ s.tree.table.width
-width_kept s t u before behind = ap (λ (x : Sheet). x.tree.table.width) behind ∙ ap (λ (x : Sheet). x.tree.table.width) before
+-- a copy of a path's last step
+pub found_last : (path steps : List PathStep) (last copied : Option PathStep) (leaf : PathStep) → steps ≡ path → last ≡ slice_get steps (length steps - 1) → copied ≡ last → copied ≡ Some leaf → slice_get path (length path - 1) ≡ Some leaf
+found_last path steps last copied found same is copy some = ap (λ (l : List PathStep). slice_get l (length l - 1)) (sym same) ∙ (sym is ∙ (sym copy ∙ some))
+
+-- the greatest index is the same after reads
+pub greatest_kept : (s t u : Sheet) (width : Width) (top : ℕ) → OnlyReads s t → OnlyReads t u → width ≡ u.tree.table.width → top ≡ greatest width → top ≡ greatest s.tree.table.width
+greatest_kept s t u width top before behind wide is = is ∙ ap greatest (wide ∙ (ap (λ (x : Sheet). x.tree.table.width) behind ∙ ap (λ (x : Sheet). x.tree.table.width) before))
 
 some_column : (w : Width) → 0 < columns w
 some_column Long = omega arith
@@ -216,15 +221,15 @@ module _ (s s₁ : Sheet) (kind : Kind) (index : ℕ) (path : List PathStep) (le
       ∙ (append_assoc before (flat_map leaf_range (spans_in t.table row)) rest
       ∙ ap (λ (l : List Range). before ++ l) (sym (from_leaf t h stands.1 index begins.within first_is)))
 
-  pub take_last : (before after : List Range) → after ≡ before ++ flat_map leaf_range (leaf_spans s₁.tree.table leaf) → leaf.max ≡ greatest s.tree.table.width → TakesLeaf s.tree index None before after
-  take_last before after pushed end = record {
+  pub take_last : (before after : List Range) (top : ℕ) → after ≡ before ++ flat_map leaf_range (leaf_spans s₁.tree.table leaf) → top ≡ greatest s.tree.table.width → leaf.max ≡ top → TakesLeaf s.tree index None before after
+  take_last before after top pushed is end = record {
     ranges = ap (λ (l : List Range). after ++ l) (sym (none_above t h stands.1 (leaf.max + 1) (omega arith))) ∙ listed before after pushed;
     later = tt;
     begins = tt;
   }
 
-  pub take_more : (before after : List Range) → after ≡ before ++ flat_map leaf_range (leaf_spans s₁.tree.table leaf) → leaf.max ≢ greatest s.tree.table.width → TakesLeaf s.tree index (Some (leaf.max + 1)) before after
-  take_more before after pushed more =
+  pub take_more : (before after : List Range) (top : ℕ) → after ≡ before ++ flat_map leaf_range (leaf_spans s₁.tree.table leaf) → top ≡ greatest s.tree.table.width → leaf.max ≢ top → TakesLeaf s.tree index (Some (leaf.max + 1)) before after
+  take_more before after top pushed is more =
       let at = place t h stands.1 index h begins.within (omega arith) in
       let to = at.to in
       let ends = at_within 0 (top_of t + 1) (rows_at t h) index row at in

@@ -68,7 +68,11 @@ fn push_leaf<R: Rows>(rows: &mut R, leaf: PathStep, ranges: &mut Vec<Range>) -> 
 
 /// Appends the ranges of the leaf that begins at an index, and gives the index behind it, or none at the end.
 #[tactic(auto, using(crate::proofs::Leafwise::take_none))]
-fn push_leaf_at<R: Rows>(rows: &mut R, index: u64, ranges: &mut Vec<Range>) -> Result<Option<u64>, NoMemory>
+fn push_leaf_at<R: Rows>(
+    rows: &mut R,
+    index: u64,
+    ranges: &mut Vec<Range>,
+) -> Result<Option<u64>, NoMemory>
     requires tree { (kind : Kind) × IsTreeOf (R.sheet rows.old) kind }
     requires begins { BeginsLeaf (R.sheet rows.old).tree index }
     ensures leaf { IfOk result (λ next. TakesLeaf (R.sheet rows.old).tree index next ranges.old.items ranges.new.items) }
