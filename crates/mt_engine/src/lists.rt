@@ -48,7 +48,7 @@ fn push_range(range: Range, ranges: &mut Vec<Range>) -> Result<(), NoMemory>
 }
 
 /// Appends the ranges of a leaf.
-#[tactic(auto, using(crate::proofs::Slotwise::none_listed, crate::proofs::Slotwise::one_more_listed, crate::proofs::Slotwise::last_listed, crate::proofs::Slotwise::all_listed))]
+#[tactic(auto, using(crate::proofs::Slotwise::none_listed, crate::proofs::Slotwise::one_more_listed, crate::proofs::Slotwise::all_listed))]
 fn push_leaf<R: Rows>(rows: &mut R, leaf: PathStep, ranges: &mut Vec<Range>) -> Result<(), NoMemory>
     requires row { IsPlace (R.sheet rows.old) leaf.row 0 }
     ensures ranges { IfOk result (λ _. ranges.new.items ≡ ranges.old.items ++ flat_map leaf_range (leaf_spans (R.sheet rows.old).tree.table leaf)) }
