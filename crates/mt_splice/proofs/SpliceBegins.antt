@@ -153,11 +153,17 @@ module _ (kind : Kind) (s : Sheet) (book : Book) (left right : List PathStep) (i
       in_flight = may.in_flight;
       was = before_splice h;
       lawful = may.lawful;
-      room = let room = may.room in let high = height_by_depth (tree_as kind s.rows s.tree) deepest h (root_span s.tree.table s.tree.root) stands.low stands.rows in omega arith;
     }
 
     under_way : IsUnderWay b (start_at h) s book (work_of s) [] (suc h)
-    under_way = record { case = case_is; progress = none_done; holds = holds_first (start_at h) (work_of s) left right may.first may.last may.entry begins; inner = refl; few = omega arith }
+    under_way = record {
+      case = case_is;
+      progress = none_done;
+      holds = holds_first (start_at h) (work_of s) left right may.first may.last may.entry begins;
+      inner = refl;
+      room = let room = may.room in let high = height_by_depth (tree_as kind s.rows s.tree) deepest h (root_span s.tree.table s.tree.root) stands.low stands.rows in omega arith;
+      few = omega arith;
+    }
 
     widens : MayWiden (start_at h) (work_of s) s Leaf left right h 0 items
     widens = record {
