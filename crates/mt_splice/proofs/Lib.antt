@@ -3,6 +3,7 @@ pub mod Ascents
 pub mod Beginnings
 pub mod BetweenCalls
 pub mod Buried
+pub mod Clearing
 pub mod Conditions
 pub mod Counting
 pub mod Counts

@@ -110,6 +110,19 @@ pub record MayReplace (kind : Kind) (s : Sheet) (book : Book) (left : List PathS
   pub some : s.tree.root ≡ 0 → entry ≢ 0
   pub left_path : left ≡ path_in s.tree.table s.tree.root first
 
+-- what the emptying of a tree that is not empty is asked for: no row need be free
+pub record MayClear (kind : Kind) (s : Sheet) (book : Book) (number : ℕ) (call : Call) (reply : Reply) : Type 0 where
+  pub range : kind ≡ trees.Range
+  pub flying : s.flying ≡ true
+  pub before : s.published ≡ false
+  pub in_flight : number ≡ s.ended + 1
+  pub none_buried : NoneBuried s
+  pub live : LiveAreReached s
+  pub booked : IsBookOf s book number
+  pub lawful : IsLawfulOf s kind
+  pub some : s.tree.root ≢ 0
+  pub answer : acted kind (map_by s.tree) call ≡ ([], reply)
+
 -- ---- after
 
 -- each child's parent word names its parent and its slot, and the root's is 1

@@ -1,7 +1,7 @@
 use Rattle.std.proofs.Common.{◌+◌, ap, ◌∙◌, arith}
 use Rattle.mt_rows.specs.Spans.{column}
 use Rattle.mt_rows.specs.Sheet.{Tree}
-use Rattle.mt_splice.proofs.Testing.{reads_on}
+use Rattle.mt_splice.proofs.BetweenCalls.{reads_on}
 use Rattle.mt_engine.proofs.LeafSteps.{here_in, few_if, slot_low, place, same_tree, tree_if_read, place_if_read, span_is}
 use Rattle.mt_engine.proofs.handles.load_span.Goals as goal
 
