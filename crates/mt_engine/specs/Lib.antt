@@ -1,3 +1,6 @@
+pub mod Engine
 pub mod Handles
 pub mod Listing
 pub mod MapSpans
+pub mod Plans
+pub mod Rooms

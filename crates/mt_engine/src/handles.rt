@@ -5,13 +5,13 @@ ghost use Rattle.mt_base.specs.declared.kinds.Kind.{Kind};
 ghost use Rattle.mt_base.specs.Width.{greatest};
 ghost use Rattle.mt_rows.specs.Publish.{IsTreeOf};
 ghost use Rattle.mt_rows.specs.Sheet.{OnlyReads};
-ghost use Rattle.mt_path.specs.Paths.{span_at};
+ghost use Rattle.mt_path.specs.Paths.{path_in, span_at};
 ghost use Rattle.mt_splice.specs.Splice.{leaf_spans};
 ghost use Rattle.mt_engine.specs.Handles.{handle_in, IsHandleOf, IsStepOfLeaf};
 
 use mt_base::top;
 use mt_layout::{RowKind, Span};
-use mt_path::{PathStep, walk};
+use mt_path::{Path, PathStep, walk};
 use mt_rows::{Rows, slots};
 
 /// A slot of a leaf, and what stands there: a range, or a hole, whose word is 0.
@@ -65,6 +65,21 @@ fn load_span<R: Rows>(rows: &mut R, leaf: PathStep) -> Span
     }
 }
 
+/// The slot of the leaf that a path ends in, and what stands there; none in the empty tree.
+pub fn handle_of<R: Rows>(rows: &mut R, path: &Path) -> Option<Handle>
+    requires tree { (kind : Kind) × IsTreeOf (R.sheet rows.old) kind }
+    requires path { (index : ℕ) × (index ≤ greatest (R.sheet rows.old).tree.table.width) × (path.now.items ≡ path_in (R.sheet rows.old).tree.table (R.sheet rows.old).tree.root index) }
+    ensures none { IsNone result ↔ ((R.sheet rows.old).tree.root ≡ 0) }
+    ensures some { (index : ℕ) → path.now.items ≡ path_in (R.sheet rows.old).tree.table (R.sheet rows.old).tree.root index → IfSome result (λ handle. handle ≡ handle_in (R.sheet rows.old).tree index) }
+    ensures rest { OnlyReads (R.sheet rows.old) (R.sheet rows.new) }
+{
+    let leaf = *path.as_slice().last()?;
+    Some(Handle {
+        leaf,
+        span: load_span(rows, leaf),
+    })
+}
+
 /// The slot of the leaf that holds an index, and what stands there; none in the empty tree.
 pub fn handle_at<R: Rows>(rows: &mut R, index: u64) -> Option<Handle>
     requires tree { (kind : Kind) × IsTreeOf (R.sheet rows.old) kind }
@@ -74,11 +89,7 @@ pub fn handle_at<R: Rows>(rows: &mut R, index: u64) -> Option<Handle>
     ensures rest { OnlyReads (R.sheet rows.old) (R.sheet rows.new) }
 {
     let path = walk(rows, index);
-    let leaf = *path.as_slice().last()?;
-    Some(Handle {
-        leaf,
-        span: load_span(rows, leaf),
-    })
+    handle_of(rows, &path)
 }
 
 /// What stands behind a handle: in the next slot of its leaf, or in the first slot of the leaf behind. There is none where

@@ -26,7 +26,7 @@ fn range_in(span: Span) -> Range
 }
 
 /// The range that holds an index.
-fn load<R: Rows>(rows: &mut R, index: u64) -> Option<Range>
+pub fn load<R: Rows>(rows: &mut R, index: u64) -> Option<Range>
     requires tree { (kind : Kind) × IsTreeOf (R.sheet rows.old) kind }
     requires index { index ≤ greatest (R.sheet rows.old).tree.table.width }
     ensures answer { result ≡ answer (map_by (R.sheet rows.old).tree) (Load index) }
@@ -40,7 +40,7 @@ fn load<R: Rows>(rows: &mut R, index: u64) -> Option<Range>
 }
 
 /// The first range that ends at `index` or above and begins at `max` or below, where `index` is at most `max`.
-fn find<R: Rows>(rows: &mut R, index: u64, max: u64) -> Option<Range>
+pub fn find<R: Rows>(rows: &mut R, index: u64, max: u64) -> Option<Range>
     requires tree { (kind : Kind) × IsTreeOf (R.sheet rows.old) kind }
     requires index { index ≤ greatest (R.sheet rows.old).tree.table.width }
     ensures answer { result ≡ answer (map_by (R.sheet rows.old).tree) (Find index max) }

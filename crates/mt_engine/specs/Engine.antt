@@ -1,0 +1,63 @@
+-- The rows of a tree and the book of them: between two calls of an engine, and within a call that has published nothing.
+-- Source: this project's own.
+use Rattle.std.specs.Prelude.{◌≡◌, ◌⊎◌, ℕ, ◌+◌, ◌-◌, ◌*◌, ◌^◌, ◌<◌, ◌≤◌, true, false, All, List, length}
+use Rattle.mt_base.specs.declared.calls.Call.{Call}
+use Rattle.mt_base.specs.declared.kinds.Kind.TheVariants as trees
+use Rattle.mt_base.specs.declared.replies.Reply.{Reply}
+use Rattle.mt_base.specs.Call.{acted}
+use Rattle.mt_base.specs.Nodes.{NeedsRows}
+use Rattle.mt_free.specs.Book.{Book, Held, live_count, after_reclaim}
+use Rattle.mt_rows.specs.declared.rows.Life.TheVariants.{Dead}
+use Rattle.mt_rows.specs.Trees.{height_in}
+use Rattle.mt_rows.specs.Sheet.{Sheet, life_of}
+use Rattle.mt_rows.specs.Publish.{IsLawfulOf, LiveAreReached, NoneBuried, MayFinish, IsRefused, finished, map_by, with_record}
+use Rattle.mt_splice.specs.Splice.{IsBookOf}
+
+-- What holds of the rows and the book whether or not a call is in flight: lawful words of a tree of ranges, live rows that
+-- are reached, and a book of these rows whose held rows died by the calls that it tells. A call takes 28 rows at the most.
+pub record IsEngineState (s : Sheet) (book : Book) : Type 0 where
+  pub lawful : IsLawfulOf s trees.Range
+  pub live : LiveAreReached s
+  pub none_buried : NoneBuried s
+  pub booked : IsBookOf s book (s.ended + 1)
+  pub held : All (λ (h : Held). life_of s h.row ≡ Dead h.stamp) book.held
+  pub grown : length book.held + live_count book ≤ s.opened + 28 * s.ended
+
+-- between two calls
+pub record IsIdle (s : Sheet) (book : Book) : Type 0 where
+  pub idle : s.flying ≡ false
+  pub state : IsEngineState s book
+
+-- within a call that has published nothing
+pub record IsInCall (s : Sheet) (book : Book) : Type 0 where
+  pub flying : s.flying ≡ true
+  pub before : s.published ≡ false
+  pub state : IsEngineState s book
+
+-- a scan was made in this call
+abbrev pub WasScanned : Sheet → Type 0
+WasScanned s = (s.scans_at_begin < s.scans) ⊎ (s.scans ≡ 2 ^ 64 - 1)
+
+-- a call that needed rows found three for each level, and one, when held rows that no section holds were free
+pub record HadRoom (s s' : Sheet) (book : Book) : Type 0 where
+  pub scanned : WasScanned s'
+  pub room : 3 * height_in s.tree.table s.tree.root + 1 ≤ length (after_reclaim book s'.scan.least).free
+
+-- The call did what it says: the words stand for the map after it.
+pub record IsDone (s s' : Sheet) (book : Book) (call : Call) (reply : Reply) : Type 0 where
+  pub acts : acted trees.Range (map_by s.tree) call ≡ (map_by s'.tree, reply)
+  pub room : NeedsRows trees.Range (map_by s.tree) call → HadRoom s s' book
+
+-- What a call has come to when it may end with this reply: it did what it says, or it was refused for want of rows and
+-- left every word. The rows are then as between two calls.
+pub record IsAnswered (s s' : Sheet) (book book' : Book) (call : Call) (reply : Reply) : Type 0 where
+  pub may : MayFinish trees.Range s' call reply
+  pub idle : IsIdle (finished s' call reply) book'
+  pub answer : IsDone s s' book call reply ⊎ (IsRefused trees.Range s' call reply × (s'.tree ≡ s.tree))
+  pub record_told : (finished s' call reply).records ≡ with_record s call reply
+  pub rest : s' ≡ record s { tree = s'.tree; published = s'.published; lives = s'.lives; buried = s'.buried; cleared = s'.cleared; scan = s'.scan; scans = s'.scans; reads = s'.reads; records = s'.records }
+
+-- the same by one word in a slot of a leaf, which needs no row: the book stays
+pub record IsAnsweredByOneWord (s s' : Sheet) (book : Book) (call : Call) (reply : Reply) : Type 0 where
+  pub answered : IsAnswered s s' book book call reply
+  pub root : s'.tree.root ≡ s.tree.root

@@ -1,0 +1,35 @@
+//! Room for the rows that a call may take.
+
+ghost use Rattle.std.specs.Prelude.{◌≡◌, IfOk, OnErr, IfErr};
+ghost use Rattle.mt_rows.specs.Trees.{height_in};
+ghost use Rattle.mt_engine.specs.Engine.{IsInCall};
+ghost use Rattle.mt_engine.specs.Rooms.{IsScanned, HasRoom, IsShortOf};
+
+use mt_base::Shortage;
+use mt_free::RowBook;
+use mt_rows::Rows;
+
+/// Scans, frees the rows that no section holds, and tells the shortage where fewer than three rows for each level and one
+/// are free then.
+pub fn make_room<R: Rows>(rows: &mut R, book: &mut RowBook, height: u64) -> Result<(), Shortage>
+    requires in_call { IsInCall (R.sheet rows.old) book.old }
+    requires height { height ≡ height_in (R.sheet rows.old).tree.table (R.sheet rows.old).tree.root }
+    ensures scanned { IsScanned (R.sheet rows.old) (R.sheet rows.new) book.old book.new }
+    ensures room { IfOk result (λ _. HasRoom (R.sheet rows.new) book.new) }
+    ensures short { IfErr result (λ shortage. IsShortOf (R.sheet rows.new) shortage) }
+{
+    let scan = rows.scan();
+    book.reclaim(scan.least);
+    let need = 3 * height + 1;
+    if need <= book.free() {
+        return Ok(());
+    }
+    let held = book.held();
+    Err(Shortage {
+        need,
+        free: book.free(),
+        live: book.live(),
+        held,
+        by: if held > 0 { scan.by } else { None },
+    })
+}
