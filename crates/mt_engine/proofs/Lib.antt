@@ -1,0 +1,4 @@
+pub mod HandleSteps
+pub mod LeafSlots
+pub mod LeafSteps
+pub mod Slots
