@@ -3,6 +3,7 @@ pub mod Ascents
 pub mod Beginnings
 pub mod Buried
 pub mod Conditions
+pub mod Counting
 pub mod Counts
 pub mod Drafts
 pub mod EndAfter
@@ -30,6 +31,7 @@ pub mod LevelPaths
 pub mod LevelRows
 pub mod LevelRuns
 pub mod LevelSteps
+pub mod LiveRows
 pub mod Moments
 pub mod Neighbours
 pub mod NewLevels
