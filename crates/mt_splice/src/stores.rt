@@ -11,6 +11,7 @@ ghost use Rattle.mt_rows.specs.Sheet.{OnlyReads};
 ghost use Rattle.mt_splice.specs.Splice.{last_step, region_of};
 ghost use Rattle.mt_splice.specs.Testing.{IsBetweenCalls, AreEnds, IsRunOver, leaves_items};
 ghost use Rattle.mt_splice.specs.Writes.{items_of_row};
+ghost use Rattle.mt_splice.specs.Runs.{run_room};
 
 use crate::reads::push_items;
 use crate::splice;
@@ -27,7 +28,7 @@ const TOP: u64 = u64::MAX;
 /// Appends the items of the leaf that a path ends in.
 fn push_leaf(rows: &mut PlainRows, leaf: PathStep, run: &mut Run)
     requires row { (16 ≤ leaf.row) × (leaf.row < 16 + rows.old.rows) }
-    requires room { length run.old.items + slots_of rows.old.tree.table.width Leaf ≤ 72 }
+    requires room { length run.old.items + slots_of rows.old.tree.table.width Leaf ≤ run_room }
     ensures items { run.new.items ≡ run.old.items ++ items_of_row rows.old.tree.table Leaf leaf.row leaf.max }
     ensures rest { OnlyReads rows.old rows.new }
 {
