@@ -112,6 +112,7 @@ module _ (kind : Kind) (s : Sheet) (book : Book) (left right : List PathStep) (i
     kept = λ row c untaken above within. refl;
     parents = λ row untaken kept. refl;
     new_parents = λ row taken. absurd (not_both false taken refl);
+    marks = λ row reached gone. absurd (not_both false gone refl);
   }
 
   -- ---- a tree stands

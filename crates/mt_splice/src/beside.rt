@@ -1,6 +1,6 @@
 //! What is to stand in the rows of a level, and the row beside them.
 
-ghost use Rattle.std.specs.Prelude.{◌≡◌, ◌<◌, ◌≤◌, ◌+◌, ◌-◌, ◌||◌, ℕ, length};
+ghost use Rattle.std.specs.Prelude.{◌≡◌, ◌<◌, ◌≤◌, ◌+◌, ◌-◌, ◌||◌, ℕ, false, length};
 ghost use Rattle.mt_rows.specs.Spans.{slots_of};
 ghost use Rattle.mt_rows.specs.Sheet.{OnlyReads};
 ghost use Rattle.mt_path.specs.Paths.{step_at};
@@ -140,6 +140,7 @@ pub fn widen<R: Rows>(rows: &mut R, region: Region, depth: u32, kind: RowKind) -
     requires level { (start : Start) × (w : Work) × (height : ℕ) × MayWiden start w (R.sheet rows.old) kind region.left.items region.right.items depth height region.run.items }
     ensures level { (start : Start) (w : Work) (height : ℕ) → MayWiden start w (R.sheet rows.old) kind region.left.items region.right.items depth height region.run.items
         → IsWidened start w result.left.items result.right.items depth height result.run.items }
+    ensures as_it_is { (short_run kind region.run.items || holed_run kind region.run.items) ≡ false → result ≡ region }
     ensures rest { OnlyReads (R.sheet rows.old) (R.sheet rows.new) }
 {
     if !wants_row(&region.run, kind) {
