@@ -1,1 +1,3 @@
+pub mod MapPlaces
+pub mod MapQueries
 pub mod Slots
