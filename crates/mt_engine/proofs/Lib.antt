@@ -1,3 +1,4 @@
 pub mod MapPlaces
 pub mod MapQueries
+pub mod SlotQueries
 pub mod Slots

@@ -9,15 +9,8 @@ use Rattle.mt_base.specs.Map.{IsMap, holding, is_held, overlaps, holds}
 use Rattle.mt_layout.specs.declared.spans.Span.{Span}
 use Rattle.mt_list.specs.Places.{place_below, place_above, last_of}
 use Rattle.mt_engine.specs.MapSpans.{range_of, IsSpanAt}
+use Rattle.mt_engine.specs.Nearest.{first_from, last_up_to}
 use Rattle.mt_engine.proofs.MapPlaces.{Outside, Beside, outside_hole, beside_hole, beside_held, next_place, prev_place, first_place, last_place, first_held, last_held, none_before, none_before_hole, none_behind}
-
--- the range at a place: the first that ends at the index or above
-abbrev pub first_from : List Range → ℕ → Option Range
-first_from m index = slice_get m (place_below m index)
-
--- and the last that begins at the index or below
-abbrev pub last_up_to : List Range → ℕ → Option Range
-last_up_to m index = last_of (take (place_above m index) m)
 
 -- a hole holds nothing
 outside_holds_none : (m : List Range) (a b index : ℕ) → a ≤ index → index ≤ b → AllByRecursion (Outside a b) m → holding m index ≡ None

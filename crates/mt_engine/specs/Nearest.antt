@@ -1,0 +1,13 @@
+-- The range of a map that is nearest to an index from above and from below.
+-- Source: the kernel's lib/maple_tree.c, mas_find and mas_find_rev, which begin with the range that holds the index.
+use Rattle.std.specs.Prelude.{ℕ, List, Option, take, slice_get}
+use Rattle.mt_base.specs.declared.ranges.Range.{Range}
+use Rattle.mt_list.specs.Places.{place_below, place_above, last_of}
+
+-- the first range that ends at the index or above
+abbrev pub first_from : List Range → ℕ → Option Range
+first_from m index = slice_get m (place_below m index)
+
+-- the last range that begins at the index or below
+abbrev pub last_up_to : List Range → ℕ → Option Range
+last_up_to m index = last_of (take (place_above m index) m)
