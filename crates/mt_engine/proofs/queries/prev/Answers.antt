@@ -19,12 +19,12 @@ last_up_to-requires-clause-here g c =
     let ok = c.in_ok-here in
     let down = c.in_ok-below in
     below_kept (g.R.Rows.sheet c.args.rows.now) (g.R.Rows.sheet c.handle_at.new.rows) c.requires.tree ok.ensures.rest ok.here (not_none ok.here _ ok.ensures.none) c.args.index c.requires.index ok.ensures.some
-    (g.R.Rows.sheet c.before.new.rows) down.ensures.rest down.below (not_none down.below _ down.ensures.none) down.ensures.some
+    (g.R.Rows.sheet c.before-2.new.rows) down.ensures.rest down.below (not_none down.below _ down.ensures.none) down.ensures.some
 
 pub returns-clause-answer : goal.returns-clause-answer
 returns-clause-answer g c =
     let ok = c.in_ok-here in
     let down = c.in_ok-below in
     prev_found (g.R.Rows.sheet c.args.rows.now) (g.R.Rows.sheet c.handle_at.new.rows) c.requires.tree ok.ensures.rest ok.here (not_none ok.here _ ok.ensures.none) c.args.index c.requires.index ok.ensures.some
-    (g.R.Rows.sheet c.before.new.rows) down.ensures.rest down.below (not_none down.below _ down.ensures.none) down.ensures.some
+    (g.R.Rows.sheet c.before-2.new.rows) down.ensures.rest down.below (not_none down.below _ down.ensures.none) down.ensures.some
     c.args.min c.last_up_to.result c.down_to.result c.last_up_to.ensures.range c.down_to.ensures
