@@ -1,8 +1,8 @@
 -- What a map has at an index tells what stands at the places of the index: the range in its slot, or the one right behind
 -- the hole there, or right before it.
-use Rattle.std.proofs.Common.{◌≡◌, ◌≢◌, ◌⊎◌, ℕ, ◌+◌, ◌-◌, ◌<◌, ◌≤◌, ◌&&◌, zero, suc, Bool, true, false, List, [], ◌∷◌, Option, Some, None, take, arith, nat_lt, nat_le, refl, sym, ap, ◌∙◌, subst, inl, inr}
+use Rattle.std.proofs.Common.{◌≡◌, ◌⊎◌, ℕ, ◌+◌, ◌-◌, ◌<◌, ◌≤◌, ◌&&◌, zero, suc, Bool, true, false, List, [], ◌∷◌, Option, Some, None, take, arith, nat_lt, nat_le, refl, sym, ap, ◌∙◌, subst, inl, inr}
 use Rattle.std.specs.List.{AllByRecursion, slice_get, prefix_len}
-use Rattle.std.proofs.lemmas.Bool.{cond_both, cases_Bool, cases_lt, or_parts, and_parts, and_left, and_right, ltb-true, ltb-false, leb-true, leb-false, lt-ltb, le-ltb, lt-leb, le-leb}
+use Rattle.std.proofs.lemmas.Bool.{cases_Bool, cases_lt, or_parts, and_parts, ltb-true, leb-true, lt-ltb, le-ltb, lt-leb, le-leb}
 use Rattle.std.proofs.lemmas.Option.{cond_some}
 use Rattle.mt_base.specs.declared.ranges.Range.{Range}
 use Rattle.mt_base.specs.Map.{IsMapFrom, IsMap, holds, holding, overlaps, is_held}
@@ -32,6 +32,7 @@ clear a b r none = elim (cases_lt r.last a) [
   ]
 ]
 
+-- a hole
 pub outside_hole : (m : List Range) (low a b : ℕ) → IsMapFrom low m → is_held m a b ≡ false → AllByRecursion (Outside a b) m
 outside_hole [] low a b ordered none = tt
 outside_hole (r ∷ m) low a b ordered none =
@@ -45,13 +46,14 @@ beside_hole m a b each = all_map (Outside a b) (Beside a b) (λ r out. (out.0, w
     widen r (inl below) = inl below
     widen r (inr above) = inr (inl above)
 
+-- a map from above the span
 above_all : (m : List Range) (a b low : ℕ) → b < low → IsMapFrom low m → AllByRecursion (Beside a b) m
 above_all [] a b low above ordered = tt
 above_all (r ∷ m) a b low above ordered =
     let begins = ordered.0 in let ends = ordered.1 in
     ((ordered.1, inr (inl (omega arith))), above_all m a b (r.last + 1) (omega arith) ordered.3)
 
--- no range of a map from above the index holds it
+-- the range that holds an index lies where the map does
 held_from : (m : List Range) (low index : ℕ) (r : Range) → IsMapFrom low m → holding m index ≡ Some r → low ≤ r.first
 held_from [] low index r ordered held = absurd (cc)
 held_from (s ∷ m) low index r ordered held = elim (cases_Bool (holds index s)) [
@@ -64,6 +66,7 @@ holds_is r index held =
     let parts = and_parts (nat_le r.first index) (nat_le index r.last) held in
     (leb-true r.first index parts.0, leb-true index r.last parts.1)
 
+-- a range of the map
 pub beside_held : (m : List Range) (low index : ℕ) (r : Range) → IsMapFrom low m → holding m index ≡ Some r → AllByRecursion (Beside r.first r.last) m
 beside_held [] low index r ordered held = tt
 beside_held (s ∷ m) low index r ordered held = elim (cases_Bool (holds index s)) [
@@ -88,13 +91,14 @@ same_test true q there back = sym (there refl)
 same_test false true there back = back refl
 same_test false false there back = refl
 
--- what ends at the index or below begins at the last index or below
+-- what begins at the index or below ends at the last index or below
 next_test : (a b index : ℕ) (r : Range) → a ≤ index → index ≤ b → Beside a b r → nat_le r.first index ≡ nat_lt r.last (b + 1)
 next_test a b index r from to (order, inl below) = same_test _ _ (λ _. lt-ltb r.last (b + 1) (omega arith)) (λ _. le-leb r.first index (omega arith))
 next_test a b index r from to (order, inr (inl above)) =
     same_test _ _ (λ t. absurd (let le = leb-true r.first index t in omega arith)) (λ t. absurd (let lt = ltb-true r.last (b + 1) t in omega arith))
 next_test a b index r from to (order, inr (inr (begins, ends))) = same_test _ _ (λ _. lt-ltb r.last (b + 1) (omega arith)) (λ _. le-leb r.first index (omega arith))
 
+-- what ends below the index begins below the first index
 prev_test : (a b index : ℕ) (r : Range) → 0 < a → a ≤ index → index ≤ b → Beside a b r → nat_lt r.last index ≡ nat_le r.first (a - 1)
 prev_test a b index r some from to (order, inl below) = same_test _ _ (λ _. le-leb r.first (a - 1) (omega arith)) (λ _. lt-ltb r.last index (omega arith))
 prev_test a b index r some from to (order, inr (inl above)) =
@@ -102,6 +106,7 @@ prev_test a b index r some from to (order, inr (inl above)) =
 prev_test a b index r some from to (order, inr (inr (begins, ends))) =
     same_test _ _ (λ t. absurd (let lt = ltb-true r.last index t in omega arith)) (λ t. absurd (let le = leb-true r.first (a - 1) t in omega arith))
 
+-- what ends below one index of a hole ends below all of it, and so with what begins there or below
 first_test : (a b index : ℕ) (r : Range) → a ≤ index → index ≤ b → Outside a b r → nat_lt r.last index ≡ nat_lt r.last (b + 1)
 first_test a b index r from to (order, inl below) = same_test _ _ (λ _. lt-ltb r.last (b + 1) (omega arith)) (λ _. lt-ltb r.last index (omega arith))
 first_test a b index r from to (order, inr above) =
@@ -130,7 +135,7 @@ module _ (m : List Range) (a b index : ℕ) (from : a ≤ index) (to : index ≤
 
 -- ---- what stands at a place
 
--- a map from an index has no range that ends below it, or begins below it
+-- a map from an index has no range that ends below it, and none that begins below it
 none_below : (m : List Range) (low index : ℕ) → index ≤ low → IsMapFrom low m → place_below m index ≡ 0
 none_below [] low index le ordered = refl
 none_below (r ∷ m) low index le ordered = let begins = ordered.0 in let ends = ordered.1 in rw (le-ltb r.last index (omega arith)) refl

@@ -1,11 +1,11 @@
 -- What a map has at an index answers the queries: the range in the slot of the index, or the one right behind the hole
 -- there, or right before it.
-use Rattle.std.proofs.Common.{◌≡◌, ◌≢◌, ◌⊎◌, ℕ, ◌+◌, ◌-◌, ◌<◌, ◌≤◌, ◌==◌, zero, suc, Bool, true, false, List, [], ◌∷◌, Option, Some, None, take, arith, nat_lt, nat_le, refl, sym, ap, ◌∙◌, subst, inl, inr}
+use Rattle.std.proofs.Common.{◌≡◌, ◌≢◌, ℕ, ◌+◌, ◌-◌, ◌<◌, ◌≤◌, ◌==◌, false, List, [], ◌∷◌, Option, Some, None, take, arith, nat_le, refl, sym, ap, ◌∙◌, subst, inl, inr}
 use Rattle.std.specs.Prelude.{IsSome}
 use Rattle.std.specs.List.{AllByRecursion, slice_get}
 use Rattle.std.proofs.lemmas.Bool.{cases_Bool, eqb-true, eqb-false, and_left, and_right, lt-leb}
 use Rattle.mt_base.specs.declared.ranges.Range.{Range}
-use Rattle.mt_base.specs.Map.{IsMap, holding, is_held, overlaps, holds}
+use Rattle.mt_base.specs.Map.{IsMap, holding, holds}
 use Rattle.mt_layout.specs.declared.spans.Span.{Span}
 use Rattle.mt_list.specs.Places.{place_below, place_above, last_of}
 use Rattle.mt_engine.specs.MapSpans.{range_of, IsSpanAt}

@@ -1,5 +1,6 @@
--- The range of a map that is nearest to an index from above and from below.
--- Source: the kernel's lib/maple_tree.c, mas_find and mas_find_rev, which begin with the range that holds the index.
+-- The range of a map that is nearest to an index: the one at it or above, and the one at it or below.
+-- Source: the kernel's lib/maple_tree.c, mas_find, which finds the entry at an index or after it, and mas_find_rev, at it
+-- or below.
 use Rattle.std.specs.Prelude.{ℕ, List, Option, take, slice_get}
 use Rattle.mt_base.specs.declared.ranges.Range.{Range}
 use Rattle.mt_list.specs.Places.{place_below, place_above, last_of}
