@@ -1,3 +1,4 @@
 pub mod Handles
 pub mod Listing
 pub mod MapSpans
+pub mod Nearest
