@@ -16,24 +16,24 @@ use Rattle.mt_rows.specs.Trees.{by_kind, ranges_of, rows_of, levels_by, of_first
 use Rattle.mt_rows.specs.Laws.{Tree, IsRow, kind_at, covers_all, least_of_root, least_of_kind, least_of}
 use Rattle.mt_rows.proofs.Lists.{all_map, all_front, all_back, tally-append}
 
-abbrev IsLeaf : Span → Type 0
+abbrev pub IsLeaf : Span → Type 0
 IsLeaf x = named_kind x.word ≡ Some Leaf
 
-abbrev IsInner : Kind → Span → Type 0
+abbrev pub IsInner : Kind → Span → Type 0
 IsInner tree x = named_kind x.word ≡ Some (inner_kind tree)
 
-leaves : (t : Tree) (xs : List Span) → AllByRecursion (IsRow t zero) xs → AllByRecursion IsLeaf xs
+pub leaves : (t : Tree) (xs : List Span) → AllByRecursion (IsRow t zero) xs → AllByRecursion IsLeaf xs
 leaves t xs rows = all_map (IsRow t zero) IsLeaf (λ x row. row.name.named) xs rows
 
-inners : (t : Tree) (h : ℕ) (xs : List Span) → AllByRecursion (IsRow t (suc h)) xs → AllByRecursion (IsInner t.kind) xs
+pub inners : (t : Tree) (h : ℕ) (xs : List Span) → AllByRecursion (IsRow t (suc h)) xs → AllByRecursion (IsInner t.kind) xs
 inners t h xs rows = all_map (IsRow t (suc h)) (IsInner t.kind) (λ x row. row.name.named) xs rows
 
 -- ---- what a leaf and an inner row give
 
-by_leaf : {A : Type 0} (k : Option RowKind) (leaf inner : List A) → k ≡ Some Leaf → by_kind k leaf inner ≡ leaf
+pub by_leaf : {A : Type 0} (k : Option RowKind) (leaf inner : List A) → k ≡ Some Leaf → by_kind k leaf inner ≡ leaf
 by_leaf k leaf inner is = ap (λ (k : Option RowKind). by_kind k leaf inner) is
 
-by_inner : {A : Type 0} (tree : Kind) (k : Option RowKind) (leaf inner : List A) → k ≡ Some (inner_kind tree) → by_kind k leaf inner ≡ inner
+pub by_inner : {A : Type 0} (tree : Kind) (k : Option RowKind) (leaf inner : List A) → k ≡ Some (inner_kind tree) → by_kind k leaf inner ≡ inner
 by_inner trees.Range k leaf inner is = ap (λ (k : Option RowKind). by_kind k leaf inner) is
 by_inner trees.Alloc k leaf inner is = ap (λ (k : Option RowKind). by_kind k leaf inner) is
 
@@ -100,7 +100,7 @@ rows_by_depth t depth h row x deep rows = ap (count row) (sym (append-nil (rows_
 -- ---- height
 
 -- every row has items
-some_least : (t : Tree) (h : ℕ) (x : Span) → 1 ≤ least_of t h x
+pub some_least : (t : Tree) (h : ℕ) (x : Span) → 1 ≤ least_of t h x
 some_least t h x = elim (cases_Bool (covers_all t x)) [ inl all ↦ rw all (of_root h) | inr part ↦ rw part (of_kind (kind_at t.kind h)) ]
   where
     of_root : (h : ℕ) → 1 ≤ least_of_root h

@@ -2,6 +2,7 @@ pub mod Between
 pub mod Deeper
 pub mod Depth
 pub mod ExactStore
+pub mod FewRows
 pub mod Frames
 pub mod Heights
 pub mod Joins

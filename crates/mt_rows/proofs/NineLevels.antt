@@ -31,7 +31,7 @@ part_four t h x part row =
     let least : least_of_kind (kind_at t.kind h) ≤ length (spans_in t.table x) = subst (λ (b : Bool). (if b then least_of_root h else least_of_kind (kind_at t.kind h)) ≤ length (spans_in t.table x)) part row.count.least in
     omega (arith, least, least_four (kind_at t.kind h))
 
-expand_four : (t : Tree) (h : ℕ) (xs : List Span) → AllByRecursion (IsPart t) xs → AllByRecursion (IsRow t h) xs → 4 * length xs ≤ length (expand t.table xs)
+pub expand_four : (t : Tree) (h : ℕ) (xs : List Span) → AllByRecursion (IsPart t) xs → AllByRecursion (IsRow t h) xs → 4 * length xs ≤ length (expand t.table xs)
 expand_four t h [] parts rows = omega arith
 expand_four t h (x ∷ xs) parts rows =
     omega (arith, length-append (spans_in t.table x) (expand t.table xs), part_four t h x parts.0 rows.0, expand_four t h xs parts.1 rows.1)

@@ -1,6 +1,6 @@
 //! What lawful words stand for. Each law is the contract of a function that does nothing.
 
-ghost use Rattle.std.specs.Prelude.{◌≡◌, ◌≢◌, ℕ, suc, ◌+◌, ◌<◌, ◌≤◌, ◌==◌, Bool, true, false, List, [], ◌∷◌, ◌++◌};
+ghost use Rattle.std.specs.Prelude.{◌≡◌, ◌≢◌, ℕ, suc, ◌+◌, ◌*◌, ◌/◌, ◌^◌, ◌<◌, ◌≤◌, ◌==◌, Bool, true, false, List, [], ◌∷◌, ◌++◌, length};
 ghost use Rattle.std.specs.List.{AllByRecursion};
 ghost use Rattle.mt_base.specs.declared.calls.Call.TheVariants.{Store};
 ghost use Rattle.mt_base.specs.declared.replies.Reply.TheVariants as reply;
@@ -100,4 +100,12 @@ pub fn an_exact_store_may_be_published()
 /// A tree of as many rows as can be named has nine levels at the most.
 pub fn a_tree_has_nine_levels_at_most()
     ensures { (t : Tree) (h : ℕ) → t.rows ≤ 65504 → Levels (IsRow t) t.table h (root_of t) → h < deepest }
+{}
+
+/// A tree has at most half as many rows as ranges, rounded down, and two more; and with so many levels it has so many
+/// ranges, and a row on each level.
+pub fn a_tree_has_few_rows()
+    ensures rows { (t : Tree) (h : ℕ) → Stands t h → length (reached_in t.table t.root) ≤ length (map_in t.table t.root) / 2 + 2 }
+    ensures levels { (t : Tree) (h : ℕ) → Stands t h → h + 1 ≤ length (reached_in t.table t.root) }
+    ensures tall { (t : Tree) (h : ℕ) → Stands t h → 3 * 4 ^ h ≤ 2 * length (map_in t.table t.root) + 1 }
 {}

@@ -4,6 +4,7 @@ pub mod Beginnings
 pub mod Buried
 pub mod Clearing
 pub mod Conditions
+pub mod Counting
 pub mod Counts
 pub mod Drafts
 pub mod EndAfter
@@ -31,6 +32,7 @@ pub mod LevelPaths
 pub mod LevelRows
 pub mod LevelRuns
 pub mod LevelSteps
+pub mod LiveRows
 pub mod Moments
 pub mod Neighbours
 pub mod NewLevels

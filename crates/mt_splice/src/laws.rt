@@ -7,6 +7,7 @@ ghost use Rattle.mt_base.specs.declared.kinds.Kind.{Kind};
 ghost use Rattle.mt_base.specs.declared.replies.Reply.{Reply};
 ghost use Rattle.mt_base.specs.Entry.{reserved};
 ghost use Rattle.mt_base.specs.Map.{over};
+ghost use Rattle.mt_free.specs.Book.{Book, live_count};
 ghost use Rattle.mt_layout.specs.Rows.{row_in};
 ghost use Rattle.mt_layout.specs.Spans.{leaf_range, Fills};
 ghost use Rattle.mt_layout.specs.declared.spans.Span.{Span};
@@ -15,11 +16,11 @@ ghost use Rattle.mt_path.specs.Paths.{path_in, row_on, step_at};
 ghost use Rattle.mt_path.specs.declared.paths.PathStep.{PathStep};
 ghost use Rattle.mt_rows.specs.Laws.{HasWords, Stands, Tree, kind_at, least_of_kind, least_of_root, top_of};
 ghost use Rattle.mt_rows.specs.Levels.{Levels, is_row_of, map_of, tally};
-ghost use Rattle.mt_rows.specs.Publish.{MayPublish, is_reached, tree_as};
+ghost use Rattle.mt_rows.specs.Publish.{IsTreeOf, MayPublish, is_reached, tree_as};
 ghost use Rattle.mt_rows.specs.Replacement.{root_of};
 ghost use Rattle.mt_rows.specs.Sheet.{Sheet};
 ghost use Rattle.mt_rows.specs.Spans.{root_span, slots_of};
-ghost use Rattle.mt_rows.specs.Trees.{map_in};
+ghost use Rattle.mt_rows.specs.Trees.{map_in, reached_in};
 ghost use Rattle.mt_rows.specs.declared.rows.Place.TheVariants.{Root, Slot};
 ghost use Rattle.mt_splice.specs.Beginnings.{Begins};
 ghost use Rattle.mt_splice.specs.Burying.{AreBuried, AreLevelsBuried};
@@ -29,7 +30,7 @@ ghost use Rattle.mt_splice.specs.Publishing.{IsReady};
 ghost use Rattle.mt_splice.specs.Replaced.{IsReplaced};
 ghost use Rattle.mt_splice.specs.Runs.{IsLeafRun, MayBeCut, most_in_three, most_items};
 ghost use Rattle.mt_splice.specs.Seen.{Adds, passing};
-ghost use Rattle.mt_splice.specs.Splice.{region_of};
+ghost use Rattle.mt_splice.specs.Splice.{IsBookOf, region_of};
 ghost use Rattle.mt_splice.specs.Work.{Holds, IsTaken, IsUsed, Keeps, Start, Work, now, rows_at, times_in};
 
 /// At the beginning the spans of the leaves at the store's ends, after the store, are gathered.
@@ -184,4 +185,9 @@ pub fn the_tree_stands_as_it_was()
     ensures reached { (start : Start) (s : Work) → Holds start s → (row : ℕ) → is_reached (words_of (now start s)) row ≡ is_reached (words_of start.tree) row }
     ensures ranges { (start : Start) (s : Work) → Holds start s → map_in (now start s).table start.tree.root ≡ map_in start.tree.table start.tree.root }
     ensures levels { (start : Start) (s : Work) → Holds start s → (depth k : ℕ) → start.height ≡ depth + k → rows_at (now start s) depth ≡ rows_at start.tree depth }
+{}
+
+/// A book of a tree's rows counts as live just the rows that are reached.
+pub fn a_book_counts_the_rows_reached()
+    ensures { (s : Sheet) (kind : Kind) (book : Book) (number : ℕ) → IsTreeOf s kind → IsBookOf s book number → live_count book ≡ length (reached_in s.tree.table s.tree.root) }
 {}

@@ -1,0 +1,88 @@
+-- The rows that a book counts as live are those that are reached.
+use Rattle.std.proofs.Common.{◌≡◌, ℕ, zero, suc, ◌+◌, ◌<◌, ◌≤◌, ◌==◌, List, ◌++◌, length, refl, ap, inl, inr, arith, length-append}
+use Rattle.std.specs.List.{All, Contains}
+use Rattle.std.proofs.lemmas.Bool.{ltb-true, lt-ltb}
+use Rattle.std.proofs.lemmas.List.{length-map}
+use Rattle.std.proofs.lemmas.List.Elements.{All-map, All-append, All-contains, Contains-append_left, Contains-append_right, Contains-append_cases}
+use Rattle.mt_base.specs.declared.kinds.Kind.{Kind}
+use Rattle.mt_free.specs.Book.{Book, Held, IsOut, IsRowOf, held_rows, live_count}
+use Rattle.mt_rows.specs.Trees.{reached_in}
+use Rattle.mt_rows.specs.Sheet.{Sheet}
+use Rattle.mt_rows.specs.Publish.{tree_as, IsTreeOf, IsReached}
+use Rattle.mt_rows.proofs.Lists.{tally-append}
+use Rattle.mt_rows.proofs.Once.{once_in}
+use Rattle.mt_splice.specs.Splice.{IsBookOf}
+use Rattle.mt_splice.proofs.Counting.{times_of, contains_times, times_contains, apart_once, span_length}
+
+-- no row is reached twice, also where the tree is empty
+pub reached_once : (s : Sheet) (kind : Kind) → IsTreeOf s kind → (row : ℕ) → times_of row (reached_in s.tree.table s.tree.root) ≤ 1
+reached_once s kind tree row = elim tree.words [
+  | inl empty ↦ let none : times_of row (reached_in s.tree.table s.tree.root) ≡ 0 = ap (λ (root : ℕ). times_of row (reached_in s.tree.table root)) empty in omega arith
+  | inr stands ↦ once_in (tree_as kind s.rows s.tree) stands.0 row stands.1
+]
+
+module _ (s : Sheet) (kind : Kind) (book : Book) (number : ℕ) (tree : IsTreeOf s kind) (of : IsBookOf s book number) where
+  abbrev reached : List ℕ
+  reached = reached_in s.tree.table s.tree.root
+
+  -- the rows that are not out
+  abbrev inside : List ℕ
+  inside = book.free ++ held_rows book
+
+  reached_times : (row : ℕ) → IsReached s.tree row → 1 ≤ times_of row reached
+  reached_times row is = let some = ltb-true 0 (times_of row reached) is in omega arith
+
+  times_reached : (row : ℕ) → 1 ≤ times_of row reached → IsReached s.tree row
+  times_reached row some = lt-ltb 0 (times_of row reached) (omega arith)
+
+  inside_rows : All (IsRowOf book) inside
+  inside_rows = All-append (IsRowOf book) book.free (held_rows book) of.sound.free_rows (All-map (IsRowOf book) (λ (h : Held). h.row) book.held of.sound.waiting_rows)
+
+  not_both : (row : ℕ) → Contains inside row → IsOut book row → ⊥
+  not_both row has out = elim (Contains-append_cases book.free (held_rows book) row has) [ inl free ↦ out.not_free free | inr held ↦ out.not_held held ]
+
+  -- a row that is inside is not reached
+  inside_unreached : (row : ℕ) → 1 ≤ times_of row inside → times_of row reached ≡ 0
+  inside_unreached row some = none (times_of row reached) (λ found. not_both row (times_contains inside row some) (of.reached row (times_reached row found)))
+    where
+      none : (n : ℕ) → (1 ≤ n → ⊥) → n ≡ 0
+      none zero not = refl
+      none (suc n) not = absurd (not (omega arith))
+
+  -- and every other one is
+  others_reached : (row : ℕ) → 16 ≤ row → row < 16 + book.rows → times_of row inside ≡ 0 → 1 ≤ times_of row reached
+  others_reached row from below none = reached_times row (of.out row from (let same = of.rows in omega arith) record {
+    here = (from, below);
+    not_free = λ free. (let some = contains_times inside row (Contains-append_left book.free (held_rows book) row free) in omega arith);
+    not_held = λ held. (let some = contains_times inside row (Contains-append_right book.free (held_rows book) row held) in omega arith);
+  })
+
+  all_inside : (row : ℕ) → 1 ≤ times_of row (inside ++ reached) → (16 ≤ row) × (row < 16 + book.rows)
+  all_inside row some = either (times_of row inside) refl
+    where
+      either : (n : ℕ) → times_of row inside ≡ n → (16 ≤ row) × (row < 16 + book.rows)
+      either zero none = (of.reached row (times_reached row (let parts = tally-append (λ (r : ℕ). r == row) inside reached in omega arith))).here
+      either (suc n) some = All-contains (IsRowOf book) inside row inside_rows (times_contains inside row (omega arith))
+
+  each_once : (row : ℕ) → 16 ≤ row → row < 16 + book.rows → times_of row (inside ++ reached) ≡ 1
+  each_once row from below = either (times_of row inside) refl
+    where
+      either : (n : ℕ) → times_of row inside ≡ n → times_of row (inside ++ reached) ≡ 1
+      either zero none =
+          let parts = tally-append (λ (r : ℕ). r == row) inside reached in
+          let some = others_reached row from below none in
+          let most = reached_once s kind tree row in
+          omega arith
+      either (suc n) some =
+          let parts = tally-append (λ (r : ℕ). r == row) inside reached in
+          let none = inside_unreached row (omega arith) in
+          let most = apart_once inside row of.sound.once in
+          omega arith
+
+  pub live_is_reached : live_count book ≡ length reached
+  live_is_reached =
+      let all = span_length 16 book.rows (inside ++ reached) all_inside each_once in
+      let outer = length-append inside reached in
+      let inner = length-append book.free (held_rows book) in
+      let held = length-map book.held (λ (h : Held). h.row) in
+      omega arith
