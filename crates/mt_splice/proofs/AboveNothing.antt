@@ -1,5 +1,5 @@
 -- All levels above a level that stands for every index are buried; and where nothing is left of the leaves, all levels are.
-use Rattle.std.proofs.Common.{◌≡◌, ℕ, suc, ◌+◌, ◌*◌, ◌≤◌, List, [], ◌∷◌, ◌++◌, Bool, Some, None, length, map, refl, sym, ap, ◌∙◌, subst, arith, append-nil}
+use Rattle.std.proofs.Common.{◌≡◌, ℕ, suc, ◌+◌, ◌*◌, ◌≤◌, List, [], ◌∷◌, ◌++◌, Some, None, length, map, refl, sym, ap, ◌∙◌, subst, arith, append-nil}
 use Rattle.mt_base.specs.declared.calls.Call.{Call}
 use Rattle.mt_base.specs.declared.replies.Reply.{Reply}
 use Rattle.mt_layout.specs.declared.items.Item.{Item}
@@ -9,7 +9,7 @@ use Rattle.mt_free.specs.Book.{Book, IsBook}
 use Rattle.mt_rows.specs.declared.rows.Place.TheVariants.{Root}
 use Rattle.mt_rows.specs.Trees.{height_in}
 use Rattle.mt_rows.specs.Spans.{spans_in}
-use Rattle.mt_rows.specs.Levels.{tally, times}
+use Rattle.mt_rows.specs.Levels.{tally}
 use Rattle.mt_rows.specs.Laws.{top_of}
 use Rattle.mt_rows.specs.Sheet.{Sheet}
 use Rattle.mt_path.specs.declared.paths.PathStep.{PathStep}
@@ -17,44 +17,36 @@ use Rattle.mt_path.specs.Paths.{path_in}
 use Rattle.mt_path.proofs.Places.{at_within}
 use Rattle.mt_path.proofs.TreePaths.{row_of, child}
 use Rattle.mt_splice.specs.declared.writes.NewRow.{NewRow}
-use Rattle.mt_splice.specs.Seen.{passing}
-use Rattle.mt_splice.specs.Work.{Start, Work, rows_at, Holds}
+use Rattle.mt_splice.specs.Seen.{Seen, passing}
+use Rattle.mt_splice.specs.Work.{Start, Work, rows_at, times_in, Holds}
 use Rattle.mt_splice.specs.Burying.{AreBuried, AreLevelsBuried}
 use Rattle.mt_splice.specs.Climbs.{begin_of, end_of, Gathered}
-use Rattle.mt_splice.specs.Progress.{Before, IsProgress, new_rows_of}
+use Rattle.mt_splice.specs.Progress.{Before, IsProgress, row_seen, new_rows_of}
 use Rattle.mt_splice.specs.Ends.{End, MayEnd}
 use Rattle.mt_splice.specs.Splice.{IsSpliced}
 use Rattle.mt_splice.specs.Levels.{MayBuryRows, AreRowsBuried}
-use Rattle.mt_splice.specs.Replacing.{IsUnderWay, MayBuryAbove, AreAboveBuried, MayEndWithNothing}
+use Rattle.mt_splice.specs.Replacing.{IsAnswer, IsBurying, IsUnderWay, MayBuryAbove, AreAboveBuried, MayEndEmpty, words_in}
 use Rattle.mt_splice.proofs.Moments.{holds_later}
 use Rattle.mt_splice.proofs.Rises.{step_here, at_here}
-use Rattle.mt_splice.proofs.Buried.{no_level_buried, one_more_level, gone_below, gathered_others}
-use Rattle.mt_splice.proofs.Splits.{fills_none}
+use Rattle.mt_splice.proofs.Buried.{no_level_buried, one_more_level, gone_below, none_gone}
 use Rattle.mt_splice.proofs.EndForms as form
 use Rattle.mt_splice.proofs.RootEndings as root
 use Rattle.mt_splice.proofs.LevelRows.{made_stays}
 
--- ---- under way
+-- ---- rows are still to be buried
 
--- what burying rows leaves under way
-pub still_under_way : (b : Before) (start : Start) (s s' : Sheet) (book book' : Book) (w w' : Work) (made : List NewRow) (levels depth height lo hi : ℕ) → IsUnderWay b start s book w made levels
-    → IsProgress b s' book' w' → AreBuried start w w' depth height lo hi → IsUnderWay b start s' book' w' made levels
-still_under_way b start s s' book book' w w' made levels depth height lo hi under progress buried = record {
+-- where levels are still to be replaced, rows may also be buried alone
+pub burying : (b : Before) (start : Start) (s : Sheet) (book : Book) (w : Work) (made : List NewRow) (levels : ℕ) → IsUnderWay b start s book w made levels → IsBurying b start s book w made
+burying b start s book w made levels under = record { case = under.case; progress = under.progress; holds = under.holds; inner = under.inner }
+
+-- what burying rows leaves
+pub still_burying : (b : Before) (start : Start) (s s' : Sheet) (book book' : Book) (w w' : Work) (made : List NewRow) (depth height lo hi : ℕ) → IsBurying b start s book w made
+    → IsProgress b s' book' w' → AreBuried start w w' depth height lo hi → IsBurying b start s' book' w' made
+still_burying b start s s' book book' w w' made depth height lo hi under progress buried = record {
   case = under.case;
   progress = progress;
   holds = holds_later start w w' buried.keeps buried.taken under.holds;
   inner = under.inner ∙ (sym (made_stays b start s s' book book' w w' under.case.was under.progress progress buried.keeps) ∙ ap (new_rows_of s'.tree.table) (sym buried.taken));
-  few = (let few = under.few in let same = ap length buried.taken in omega arith);
-}
-
--- fewer levels are left
-pub fewer_levels : (b : Before) (start : Start) (s : Sheet) (book : Book) (w : Work) (made : List NewRow) (levels fewer : ℕ) → fewer ≤ levels → IsUnderWay b start s book w made levels → IsUnderWay b start s book w made fewer
-fewer_levels b start s book w made levels fewer order under = record {
-  case = under.case;
-  progress = under.progress;
-  holds = under.holds;
-  inner = under.inner;
-  few = (let few = under.few in omega arith);
 }
 
 -- ---- the rows above a path's row
@@ -85,7 +77,7 @@ module _ (start : Start) (w : Work) (holds : Holds start w) (path : List PathSte
 pub record AreBuriedFrom (b : Before) (start : Start) (s' : Sheet) (book' : Book) (w w' : Work) (made : List NewRow) (left right : List PathStep) (depth height upper : ℕ) : Type 0 where
   pub high : ℕ
   pub levels : start.height ≡ upper + high
-  pub under : IsUnderWay b start s' book' w' made 0
+  pub under : IsBurying b start s' book' w' made
   pub buried : AreLevelsBuried start w w' depth height upper high
   pub first : begin_of left upper ≡ 0
   pub last : end_of right upper ≡ top_of start.tree + 1
@@ -100,7 +92,7 @@ none_above s book left right depth number = record {
     record {
       high = height;
       levels = may.levels;
-      under = fewer_levels b start s book w made depth 0 (omega arith) may.under;
+      under = may.under;
       buried = no_level_buried start w depth height;
       first = may.first;
       last = may.last;
@@ -142,7 +134,7 @@ module _ (b : Before) (start : Start) (s s' : Sheet) (book book' : Book) (w w' :
     record {
       high = suc far.high;
       levels = next_levels;
-      under = still_under_way b start s' s″ book' book″ w' one.0 made 0 upper (suc far.high) (begin_of left upper) (end_of right upper) far.under one.1.progress one.1.buried;
+      under = still_burying b start s' s″ book' book″ w' one.0 made upper (suc far.high) (begin_of left upper) (end_of right upper) far.under one.1.progress one.1.buried;
       buried = one_more_level start w w' one.0 depth height upper far.high far.buried
           (subst (λ (ends : ℕ × ℕ). AreBuried start w' one.0 upper (suc far.high) ends.0 ends.1) (λ j. (next_first j, next_last j)) one.1.buried);
       first = next_first;
@@ -181,91 +173,83 @@ all_above s s' book book' left right depth number upper far is b start w made he
 
 -- ---- nothing is left
 
+-- the one item that is to stand in the leaves is a hole
 module _ (b : Before) (start : Start) (s : Sheet) (book : Book) (w : Work) (made : List NewRow) (left right : List PathStep) (depth height : ℕ) (items : List Item) (number : ℕ) (call : Call) (reply : Reply)
-    (may : MayEndWithNothing b start s book w made left right depth height items number call reply) where
-  last_is : end_of right depth ≡ top_of start.tree + 1
-  last_is = ap (λ (n : ℕ). n + 1) may.nothing.last
-
+    (under : IsUnderWay b start s book w made (suc depth)) (gathered : Gathered start w left right depth height (spans_from (begin_of left depth) items)) (leaf : height ≡ 0)
+    (first : begin_of left depth ≡ 0) (last : end_of right depth ≡ top_of start.tree + 1) (holes : words_in items ≡ 0 ∷ []) (in_call : number ≡ b.number) (answer : IsAnswer b start call reply) where
   height_here : start.height ≡ depth
-  height_here = let levels = may.gathered.levels in let leaf = may.nothing.leaf in omega arith
+  height_here = let levels = gathered.levels in omega (arith, leaf)
 
-  -- the gathered spans are those of the leaves
   leaves_gathered : Gathered start w left right start.height 0 (spans_from (begin_of left depth) items)
-  leaves_gathered = subst (λ (at : ℕ × ℕ). Gathered start w left right at.0 at.1 (spans_from (begin_of left depth) items)) (λ j. (sym height_here j, may.nothing.leaf j)) may.gathered
+  leaves_gathered = subst (λ (at : ℕ × ℕ). Gathered start w left right at.0 at.1 (spans_from (begin_of left depth) items)) (λ j. (sym height_here j, leaf j)) gathered
 
-  pub leaves_may_be_buried : MayBuryRows b start s book w left right depth height number
+  one_hole : (hole : Span) × (spans_from (begin_of left depth) items ≡ hole ∷ []) × (hole.word ≡ 0)
+  one_hole = found items holes
+    where
+      found : (items : List Item) → map (λ (x : Item). x.word) items ≡ 0 ∷ [] → (hole : Span) × (spans_from (begin_of left depth) items ≡ hole ∷ []) × (hole.word ≡ 0)
+      found [] holes = let one = ap length holes in absurd (omega (arith, one))
+      found (x ∷ []) holes = (record { first = begin_of left depth; last = x.last; word = x.word; gap = x.gap }, refl, head_is x.word 0 holes)
+        where
+          head_is : (m n : ℕ) → m ∷ [] ≡ n ∷ [] → m ≡ n
+          head_is m n same = cc
+      found (x ∷ y ∷ more) holes = let one = ap length holes in absurd (omega (arith, one))
+
+  pub ends_with_hole : MayEndEmpty b start s book w made left right depth number call reply
+  ends_with_hole = record {
+    under = burying b start s book w made (suc depth) under;
+    levels = height_here;
+    paths = gathered.paths;
+    first = first;
+    last = last;
+    none_taken = leaves_gathered.level.1;
+    none_gone = leaves_gathered.level.2;
+    none = root.ends_empty start w left right one_hole.0 (subst (Gathered start w left right start.height 0) one_hole.1 leaves_gathered) one_hole.2
+        (ap (begin_of left) height_here ∙ first) (ap (end_of right) height_here ∙ last);
+    in_call = in_call;
+    answer = answer;
+  }
+
+module _ (b : Before) (start : Start) (s : Sheet) (book : Book) (w : Work) (made : List NewRow) (left right : List PathStep) (depth number : ℕ) (call : Call) (reply : Reply)
+    (may : MayEndEmpty b start s book w made left right depth number call reply) where
+  pub leaves_may_be_buried : MayBuryRows b start s book w left right depth 0 number
   leaves_may_be_buried = record {
     before = may.under.case.was;
     progress = may.under.progress;
     holds = may.under.holds;
-    levels = may.gathered.levels;
-    paths = may.gathered.paths;
-    yet = gathered_others start w left right depth height (spans_from (begin_of left depth) items) may.gathered;
+    levels = let levels = may.levels in omega arith;
+    paths = may.paths;
+    yet = λ p. subst (λ (d : ℕ). tally (p 0) (rows_at start.tree d) + passing p w.gone ≤ times_in p start.tree start.height) may.levels (none_gone start w may.none_gone p);
     of_kind = may.under.case.lawful.of_kind;
     flying = may.under.case.flying;
     unpublished = may.under.case.unpublished;
     call = may.in_call;
   }
 
-  module _ (s₁ : Sheet) (book₁ : Book) (w₁ : Work) (buried : AreRowsBuried b start s₁ book₁ w w₁ depth height (begin_of left depth) (end_of right depth)) where
-    all_leaves : AreBuried start w w₁ start.height 0 0 (top_of start.tree + 1)
-    all_leaves =
-        subst (λ (at : ℕ × ℕ). AreBuried start w w₁ at.0 at.1 0 (top_of start.tree + 1)) (λ j. (sym height_here j, may.nothing.leaf j))
-        (subst (λ (ends : ℕ × ℕ). AreBuried start w w₁ depth height ends.0 ends.1) (λ j. (may.nothing.first j, last_is j)) buried.buried)
+  module _ (s₁ : Sheet) (book₁ : Book) (w₁ : Work) (buried : AreRowsBuried b start s₁ book₁ w w₁ depth 0 (begin_of left depth) (end_of right depth)) where
+    all_leaves : AreBuried start w w₁ depth 0 0 (top_of start.tree + 1)
+    all_leaves = subst (λ (ends : ℕ × ℕ). AreBuried start w w₁ depth 0 ends.0 ends.1) (λ j. (may.first j, may.last j)) buried.buried
 
-    leaves_gone : (p : ℕ → Span → Bool) → passing p w₁.gone ≤ times p start.tree.table height (rows_at start.tree depth)
-    leaves_gone p =
-        let here = all_leaves.gone p in
-        let nothing = ap (passing p) leaves_gathered.level.2 in
-        let no_front = fills_none 0 all_leaves.front all_leaves.stretch.before in
-        let no_back = fills_none (top_of start.tree + 1) all_leaves.back all_leaves.stretch.after in
-        let leaves : rows_at start.tree start.height ≡ all_leaves.old = all_leaves.stretch.parts ∙ ((λ i. no_front i ++ (all_leaves.old ++ no_back i)) ∙ append-nil all_leaves.old) in
-        let level = ap (tally (p 0)) leaves in
-        subst (λ (at : ℕ × ℕ). passing p w₁.gone ≤ times p start.tree.table at.1 (rows_at start.tree at.0)) (λ j. (height_here j, sym may.nothing.leaf j)) (le_here p here nothing level)
-      where
-        le_here : (p : ℕ → Span → Bool) → passing p w₁.gone ≡ tally (p 0) all_leaves.old + passing p w.gone → passing p w.gone ≡ 0 → tally (p 0) (rows_at start.tree start.height) ≡ tally (p 0) all_leaves.old
-            → passing p w₁.gone ≤ times p start.tree.table 0 (rows_at start.tree start.height)
-        le_here p here nothing level = omega arith
-
-    pub above_may_be_buried : MayBuryAbove b start s₁ book₁ w₁ made left right depth height number
+    pub above_may_be_buried : MayBuryAbove b start s₁ book₁ w₁ made left right depth 0 number
     above_may_be_buried = record {
-      under = fewer_levels b start s₁ book₁ w₁ made (suc depth) depth (omega arith)
-          (still_under_way b start s s₁ book book₁ w w₁ made (suc depth) depth height (begin_of left depth) (end_of right depth) may.under buried.progress buried.buried);
-      levels = may.gathered.levels;
-      paths = may.gathered.paths;
-      first = may.nothing.first;
-      last = last_is;
-      were = leaves_gone;
+      under = still_burying b start s s₁ book book₁ w w₁ made depth 0 (begin_of left depth) (end_of right depth) may.under buried.progress buried.buried;
+      levels = let levels = may.levels in omega arith;
+      paths = may.paths;
+      first = may.first;
+      last = may.last;
+      were = λ p. (let gone = root.leaves_gone start w w₁ depth may.none_gone all_leaves p in omega arith);
       in_call = may.in_call;
     }
 
-    module _ (s₂ : Sheet) (book₂ : Book) (w₂ : Work) (above : AreAboveBuried b start s₂ book₂ w₁ w₂ made depth height) (sound : IsBook book₂) where
-      above_leaves : AreLevelsBuried start w₁ w₂ start.height 0 0 start.height
-      above_leaves = subst (λ (at : ℕ × ℕ). AreLevelsBuried start w₁ w₂ at.0 at.1 0 start.height) (λ j. (sym height_here j, may.nothing.leaf j)) above.buried
-
+    module _ (s₂ : Sheet) (book₂ : Book) (w₂ : Work) (above : AreAboveBuried b start s₂ book₂ w₁ w₂ made depth 0) where
       none_taken : w₂.taken ≡ []
-      none_taken = above.buried.taken ∙ (buried.buried.taken ∙ leaves_gathered.level.1)
+      none_taken = above.buried.taken ∙ (buried.buried.taken ∙ may.none_taken)
 
-      -- the one item is a hole
-      one_hole : (hole : Span) × (spans_from (begin_of left depth) items ≡ hole ∷ []) × (hole.word ≡ 0)
-      one_hole = found items may.nothing.one may.nothing.hole
-        where
-          found : (items : List Item) → length items ≡ 1 → map (λ (x : Item). x.word) items ≡ 0 ∷ [] → (hole : Span) × (spans_from (begin_of left depth) items ≡ hole ∷ []) × (hole.word ≡ 0)
-          found [] one holes = absurd (omega (arith, one))
-          found (x ∷ []) one holes = (record { first = begin_of left depth; last = x.last; word = x.word; gap = x.gap }, refl, head_is x.word 0 holes)
-            where
-              head_is : (m n : ℕ) → m ∷ [] ≡ n ∷ [] → m ≡ n
-              head_is m n same = cc
-          found (x ∷ y ∷ more) one holes = absurd (omega (arith, one))
-
-      begins_leaves : begin_of left start.height ≡ 0
-      begins_leaves = ap (begin_of left) height_here ∙ may.nothing.first
-
-      ends_leaves : end_of right start.height ≡ top_of start.tree + 1
-      ends_leaves = ap (end_of right) height_here ∙ last_is
-
-      hole_gathered : Gathered start w left right start.height 0 (one_hole.0 ∷ [])
-      hole_gathered = subst (Gathered start w left right start.height 0) one_hole.1 leaves_gathered
+      -- no row was taken for that
+      pub free_rows_stay : book₂.free ≡ book.free
+      free_rows_stay =
+          let were : b.book.free ≡ book.free = may.under.progress.free ∙ (ap (λ (seen : List Seen). book.free ++ map row_seen seen) may.none_taken ∙ append-nil book.free) in
+          let are : b.book.free ≡ book₂.free = above.under.progress.free ∙ (ap (λ (seen : List Seen). book₂.free ++ map row_seen seen) none_taken ∙ append-nil book₂.free) in
+          sym are ∙ were
 
       few_taken : length w₂.taken ≤ 3 * height_in b.sheet.tree.table b.sheet.tree.root + 1
       few_taken = let none = ap length none_taken in omega arith
@@ -273,8 +257,8 @@ module _ (b : Before) (start : Start) (s : Sheet) (book : Book) (w : Work) (made
       abbrev pub end_now : End
       end_now = record { before = b; start = start; work = w₂; book = book₂; old = Some start.height; new = None }
 
-      pub may_end_now : MayEnd end_now s₂ made Root 0 call reply
-      may_end_now = record {
+      pub may_end_now : IsBook book₂ → MayEnd end_now s₂ made Root 0 call reply
+      may_end_now sound = record {
         range = may.under.case.range;
         flying = may.under.case.flying;
         unpublished = may.under.case.unpublished;
@@ -286,52 +270,55 @@ module _ (b : Before) (start : Start) (s : Sheet) (book : Book) (w : Work) (made
         few = few_taken;
         answer = may.answer;
         holds = (refl, above.under.holds);
-        replaced = form.ends_empty b start s₂ book₂ w₂ may.under.case.was above.under.progress
-            (root.ends_empty start w w₁ w₂ left right one_hole.0 hole_gathered one_hole.2 begins_leaves ends_leaves all_leaves above_leaves) none_taken
-            (root.all_gone start w w₁ w₂ left right one_hole.0 hole_gathered one_hole.2 begins_leaves ends_leaves all_leaves above_leaves);
+        replaced = form.ends_empty b start s₂ book₂ w₂ may.under.case.was above.under.progress may.none none_taken (root.all_gone start w w₁ depth may.none_gone all_leaves w₂ above.buried);
         at = tt;
         top = refl;
         inner = above.under.inner;
       }
 
-pub ends_with_nothing : (b : Before) (start : Start) (s s₁ s₂ s₃ : Sheet) (book book₁ book₂ : Book) (w : Work) (made : List NewRow) (left right : List PathStep) (depth height : ℕ) (items : List Item) (number : ℕ) (call : Call) (reply : Reply)
-    → MayEndWithNothing b start s book w made left right depth height items number call reply
-    → ((b : Before) (start : Start) (w : Work) (height : ℕ) → MayBuryRows b start s book w left right depth height number → (w' : Work) × AreRowsBuried b start s₁ book₁ w w' depth height (begin_of left depth) (end_of right depth))
-    → ((b : Before) (start : Start) (w : Work) (made : List NewRow) (height : ℕ) → MayBuryAbove b start s₁ book₁ w made left right depth height number → (w' : Work) × AreAboveBuried b start s₂ book₂ w w' made depth height)
-    → IsBook book₂
-    → ((e : End) → MayEnd e s₂ made Root 0 call reply → IsSpliced e.before.kind e.before.sheet s₃ e.before.book e.book e.before.number call reply Root)
-    → IsSpliced b.kind b.sheet s₃ b.book book₂ b.number call reply Root
-ends_with_nothing b start s s₁ s₂ s₃ book book₁ book₂ w made left right depth height items number call reply may buries above sound ends =
-    let one = buries b start w height (leaves_may_be_buried b start s book w made left right depth height items number call reply may) in
-    let two = above b start one.0 made height (above_may_be_buried b start s book w made left right depth height items number call reply may s₁ book₁ one.0 one.1) in
-    ends (end_now b start s book w made left right depth height items number call reply may s₁ book₁ one.0 one.1 s₂ book₂ two.0 two.1 sound)
-    (may_end_now b start s book w made left right depth height items number call reply may s₁ book₁ one.0 one.1 s₂ book₂ two.0 two.1 sound)
+-- ---- what the calls that empty a tree do
 
--- ---- what each call requires
+abbrev BuriesLeaves : Sheet → Sheet → Book → Book → List PathStep → List PathStep → ℕ → ℕ → Type 0
+BuriesLeaves s s₁ book book₁ left right depth number =
+    (b : Before) (start : Start) (w : Work) (height : ℕ) → MayBuryRows b start s book w left right depth height number → (w' : Work) × AreRowsBuried b start s₁ book₁ w w' depth height (begin_of left depth) (end_of right depth)
 
-pub first_requires : (s : Sheet) (book : Book) (made : List NewRow) (left right : List PathStep) (depth : ℕ) (items : List Item) (number : ℕ) (call : Call) (reply : Reply)
-    → (b : Before) × (start : Start) × (w : Work) × (height : ℕ) × MayEndWithNothing b start s book w made left right depth height items number call reply
-    → (b : Before) × (start : Start) × (w : Work) × (height : ℕ) × MayBuryRows b start s book w left right depth height number
-first_requires s book made left right depth items number call reply (b, start, w, height, may) =
-    (b, start, w, height, leaves_may_be_buried b start s book w made left right depth height items number call reply may)
+abbrev BuriesAbove : Sheet → Sheet → Book → Book → List PathStep → List PathStep → ℕ → ℕ → Type 0
+BuriesAbove s₁ s₂ book₁ book₂ left right depth number =
+    (b : Before) (start : Start) (w : Work) (made : List NewRow) (height : ℕ) → MayBuryAbove b start s₁ book₁ w made left right depth height number → (w' : Work) × AreAboveBuried b start s₂ book₂ w w' made depth height
 
-pub second_requires : (s s₁ : Sheet) (book book₁ : Book) (made : List NewRow) (left right : List PathStep) (depth : ℕ) (items : List Item) (number : ℕ) (call : Call) (reply : Reply)
-    → (b : Before) × (start : Start) × (w : Work) × (height : ℕ) × MayEndWithNothing b start s book w made left right depth height items number call reply
-    → ((b : Before) (start : Start) (w : Work) (height : ℕ) → MayBuryRows b start s book w left right depth height number → (w' : Work) × AreRowsBuried b start s₁ book₁ w w' depth height (begin_of left depth) (end_of right depth))
-    → (b : Before) × (start : Start) × (w : Work) × (made : List NewRow) × (height : ℕ) × MayBuryAbove b start s₁ book₁ w made left right depth height number
-second_requires s s₁ book book₁ made left right depth items number call reply (b, start, w, height, may) buries =
-    let one = buries b start w height (leaves_may_be_buried b start s book w made left right depth height items number call reply may) in
-    (b, start, one.0, made, height, above_may_be_buried b start s book w made left right depth height items number call reply may s₁ book₁ one.0 one.1)
+module _ (s : Sheet) (book : Book) (made : List NewRow) (left right : List PathStep) (depth number : ℕ) (call : Call) (reply : Reply) where
+  abbrev IsAsked : Type 0
+  IsAsked = (b : Before) × (start : Start) × (w : Work) × MayEndEmpty b start s book w made left right depth number call reply
 
-pub third_requires : (s s₁ s₂ : Sheet) (book book₁ book₂ : Book) (made : List NewRow) (left right : List PathStep) (depth : ℕ) (items : List Item) (number : ℕ) (call : Call) (reply : Reply)
-    → (b : Before) × (start : Start) × (w : Work) × (height : ℕ) × MayEndWithNothing b start s book w made left right depth height items number call reply
-    → ((b : Before) (start : Start) (w : Work) (height : ℕ) → MayBuryRows b start s book w left right depth height number → (w' : Work) × AreRowsBuried b start s₁ book₁ w w' depth height (begin_of left depth) (end_of right depth))
-    → ((b : Before) (start : Start) (w : Work) (made : List NewRow) (height : ℕ) → MayBuryAbove b start s₁ book₁ w made left right depth height number → (w' : Work) × AreAboveBuried b start s₂ book₂ w w' made depth height)
-    → IsBook book₂
-    → (e : End) × MayEnd e s₂ made Root 0 call reply
-third_requires s s₁ s₂ book book₁ book₂ made left right depth items number call reply (b, start, w, height, may) buries above sound =
-    let one = buries b start w height (leaves_may_be_buried b start s book w made left right depth height items number call reply may) in
-    let two = above b start one.0 made height (above_may_be_buried b start s book w made left right depth height items number call reply may s₁ book₁ one.0 one.1) in (
-      end_now b start s book w made left right depth height items number call reply may s₁ book₁ one.0 one.1 s₂ book₂ two.0 two.1 sound,
-      may_end_now b start s book w made left right depth height items number call reply may s₁ book₁ one.0 one.1 s₂ book₂ two.0 two.1 sound,
-    )
+  pub first_requires : IsAsked → (b : Before) × (start : Start) × (w : Work) × (height : ℕ) × MayBuryRows b start s book w left right depth height number
+  first_requires (b, start, w, may) = (b, start, w, 0, leaves_may_be_buried b start s book w made left right depth number call reply may)
+
+  module _ (s₁ : Sheet) (book₁ : Book) (buries : BuriesLeaves s s₁ book book₁ left right depth number) where
+    pub second_requires : IsAsked → (b : Before) × (start : Start) × (w : Work) × (made : List NewRow) × (height : ℕ) × MayBuryAbove b start s₁ book₁ w made left right depth height number
+    second_requires (b, start, w, may) =
+        let one = buries b start w 0 (leaves_may_be_buried b start s book w made left right depth number call reply may) in
+        (b, start, one.0, made, 0, above_may_be_buried b start s book w made left right depth number call reply may s₁ book₁ one.0 one.1)
+
+    module _ (s₂ : Sheet) (book₂ : Book) (above : BuriesAbove s₁ s₂ book₁ book₂ left right depth number) where
+      pub ends_at : (asked : IsAsked) → IsBook book₂ → (w₂ : Work) × MayEnd (record { before = asked.0; start = asked.1; work = w₂; book = book₂; old = Some asked.1.height; new = None }) s₂ made Root 0 call reply
+      ends_at (b, start, w, may) sound =
+          let one = buries b start w 0 (leaves_may_be_buried b start s book w made left right depth number call reply may) in
+          let two = above b start one.0 made 0 (above_may_be_buried b start s book w made left right depth number call reply may s₁ book₁ one.0 one.1) in
+          (two.0, may_end_now b start s book w made left right depth number call reply may s₁ book₁ one.0 one.1 s₂ book₂ two.0 two.1 sound)
+
+      pub third_requires : IsAsked → IsBook book₂ → (e : End) × MayEnd e s₂ made Root 0 call reply
+      third_requires asked sound =
+          let end = ends_at asked sound in
+          (record { before = asked.0; start = asked.1; work = end.0; book = book₂; old = Some asked.1.height; new = None }, end.1)
+
+      pub none_was_taken : IsAsked → book₂.free ≡ book.free
+      none_was_taken (b, start, w, may) =
+          let one = buries b start w 0 (leaves_may_be_buried b start s book w made left right depth number call reply may) in
+          let two = above b start one.0 made 0 (above_may_be_buried b start s book w made left right depth number call reply may s₁ book₁ one.0 one.1) in
+          free_rows_stay b start s book w made left right depth number call reply may s₁ book₁ one.0 one.1 s₂ book₂ two.0 two.1
+
+      pub is_emptied : (s₃ : Sheet) → ((e : End) → MayEnd e s₂ made Root 0 call reply → IsSpliced e.before.kind e.before.sheet s₃ e.before.book e.book e.before.number call reply Root) → IsBook book₂
+          → (b : Before) (start : Start) (w : Work) → MayEndEmpty b start s book w made left right depth number call reply → IsSpliced b.kind b.sheet s₃ b.book book₂ b.number call reply Root
+      is_emptied s₃ ends sound b start w may =
+          let end = ends_at (b, start, w, may) sound in
+          ends (record { before = b; start = start; work = end.0; book = book₂; old = Some start.height; new = None }) end.1

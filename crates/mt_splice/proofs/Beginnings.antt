@@ -1,7 +1,8 @@
 -- A replacement begins: the spans of the leaves after the store are gathered.
-use Rattle.std.proofs.Common.{◌≡◌, ℕ, ◌+◌, ◌<◌, ◌≤◌, List, ◌++◌, true, false, refl, sym, ap, ◌∙◌, subst, arith}
+use Rattle.std.proofs.Common.{◌≡◌, ℕ, ◌+◌, ◌<◌, ◌≤◌, List, [], ◌++◌, true, false, refl, sym, ap, ◌∙◌, subst, arith}
 use Rattle.std.specs.List.{AllByRecursion, flat_map}
 use Rattle.std.proofs.lemmas.Grind.{flat_map-append}
+use Rattle.mt_base.specs.declared.kinds.Kind.TheVariants as trees
 use Rattle.mt_base.specs.declared.ranges.Range.{Range}
 use Rattle.mt_base.specs.Entry.{reserved}
 use Rattle.mt_base.specs.Map.{over}
@@ -9,8 +10,8 @@ use Rattle.mt_layout.specs.declared.spans.Span.{Span}
 use Rattle.mt_layout.specs.Rows.{row_in}
 use Rattle.mt_layout.specs.Spans.{leaf_range, Fills}
 use Rattle.mt_rows.specs.Spans.{spans_in}
-use Rattle.mt_rows.specs.Levels.{expand, is_row_of}
-use Rattle.mt_rows.specs.Laws.{Tree, IsRow, top_of}
+use Rattle.mt_rows.specs.Levels.{expand, is_row_of, Levels}
+use Rattle.mt_rows.specs.Laws.{Tree, IsRow, Stands, top_of}
 use Rattle.mt_rows.specs.Replacement.{root_of}
 use Rattle.mt_rows.proofs.Lists.{all_map, all_front, all_back, Filled, expand_fills, expand-append, levels_map}
 use Rattle.mt_rows.proofs.Heights.{map_of_split, level_rows}
@@ -24,7 +25,7 @@ use Rattle.mt_path.specs.Paths.{step_in, step_at}
 use Rattle.mt_path.proofs.TreePaths.{row_of, place}
 use Rattle.mt_splice.specs.Seen.{passing}
 use Rattle.mt_splice.specs.Splice.{region_of}
-use Rattle.mt_splice.specs.Work.{Start, Work, KeepsWords, Holds}
+use Rattle.mt_splice.specs.Work.{Start, Work, KeepsWords, IsUsed, Holds}
 use Rattle.mt_splice.specs.Beginnings.{Begins}
 use Rattle.mt_splice.specs.Stretches.{IsStretch, ArePaths}
 use Rattle.mt_splice.specs.Runs.{IsLeafRun}
@@ -34,6 +35,19 @@ use Rattle.mt_splice.proofs.Gapless.{gapless_row}
 use Rattle.mt_splice.proofs.Regions.{all_expand, all_edited, Leaves, region_leaves}
 use Rattle.mt_splice.proofs.Rises.{step_here}
 
+-- the old tree stands as it was where nothing was done yet
+pub holds_at_first : (start : Start) (s : Work) → start.tree.kind ≡ trees.Range → Stands start.tree start.height → s.words ≡ start.tree.table.words
+    → Levels (IsUsed s) start.tree.table start.height (root_of start.tree) → s.taken ≡ [] → Holds start s
+holds_at_first start s range stands words used taken = record {
+  range = range;
+  stands = stands;
+  used = used;
+  words =
+      levels_map (λ (_ : ℕ) (x : Span). s.used (row_in x.word) ≡ true) (RowsKeep start.tree start.tree.table.words s.words) start.tree.table
+      (λ _ x used. subst (λ (words : List ℕ). KeepsWords start.tree start.tree.table.words words (row_in x.word)) (sym words) (λ c above within. refl)) start.height (root_of start.tree) used;
+  taken = λ row some. let none = ap (passing (is_row_of row)) taken in absurd (omega arith);
+}
+
 module _ (start : Start) (s : Work) (left right : List PathStep) (first last entry : ℕ) (begins : Begins start s left right first last entry) where
   abbrev t : Tree
   t = start.tree
@@ -42,15 +56,7 @@ module _ (start : Start) (s : Work) (left right : List PathStep) (first last ent
   h = start.height
 
   pub holds_first : Holds start s
-  holds_first = record {
-    range = begins.range;
-    stands = begins.stands;
-    used = begins.used;
-    words =
-        levels_map (λ (_ : ℕ) (x : Span). s.used (row_in x.word) ≡ true) (RowsKeep t t.table.words s.words) t.table
-        (λ _ x used. subst (λ (words : List ℕ). KeepsWords t t.table.words words (row_in x.word)) (sym begins.words) (λ c above within. refl)) h (root_of t) begins.used;
-    taken = λ row some. let none = ap (passing (is_row_of row)) begins.taken in absurd (omega arith);
-  }
+  holds_first = holds_at_first start s begins.range begins.stands begins.words begins.used begins.taken
 
   paths_first : ArePaths start left right
   paths_first = record { from = first; to = last; order = begins.order; within = begins.within; is_left = begins.is_left; is_right = begins.is_right }

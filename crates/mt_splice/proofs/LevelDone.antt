@@ -38,7 +38,7 @@ module _ (b : Before) (start : Start) (s : Sheet) (book : Book) (w : Work) (made
     gathered = may.gathered;
     cut = may.cut;
     of_kind = may.of_kind;
-    free = let room = may.under.case.room in let few = may.under.few in let free = free_is in omega arith;
+    free = let room = may.under.room in let few = may.under.few in let free = free_is in omega arith;
     known = may.under.inner;
     told = may.under.case.lawful.of_kind;
     flying = may.under.case.flying;
@@ -54,6 +54,7 @@ module _ (b : Before) (start : Start) (s : Sheet) (book : Book) (w : Work) (made
       progress = done.progress;
       holds = done.climbed.holds;
       inner = done.known;
+      room = may.under.room;
       few =
           let was = may.under.few in
           let free = free_is in

@@ -44,6 +44,7 @@ use Rattle.mt_splice.proofs.Sizes.{inner_slots, tree_slots}
 use Rattle.mt_splice.proofs.Steps.{rows_now}
 use Rattle.mt_splice.proofs.Written.{holds_written, are_taken}
 use Rattle.mt_splice.proofs.Gathering.{few_items}
+use Rattle.mt_splice.proofs.AboveNothing.{burying}
 use Rattle.mt_splice.proofs.EndForms as forms
 use Rattle.mt_splice.proofs.RootEndings as roots
 use Rattle.mt_splice.proofs.SlotEnding as slots
@@ -155,7 +156,7 @@ module _ (b : Before) (start : Start) (s : Sheet) (book : Book) (w : Work) (made
     (may : MayEndAtRoot b start s book w made left right depth height new number call reply) where
   pub root_buries : MayBuryAbove b start s book w made left right depth height number
   root_buries = record {
-    under = may.rows.under;
+    under = burying b start s book w made depth may.rows.under;
     levels = may.rows.climbed.levels;
     paths = may.rows.climbed.paths;
     first = may.first;
@@ -171,7 +172,7 @@ module _ (b : Before) (start : Start) (s : Sheet) (book : Book) (w : Work) (made
       let climbed = one_climbed b start s book w made left right depth height new d may.rows may.one in
       let under = above.under in
       let last : (slice_index_or new 0 d).last ≡ top_of start.tree = (let ends = climbed.fills.2 in let right_end = may.last in omega arith) in
-      may_end b start s' book' w' made call reply under.case under.progress under.holds under.inner (let few = under.few in omega arith) may.answer sound height Root word
+      may_end b start s' book' w' made call reply under.case under.progress under.holds under.inner (let few = may.rows.under.few in let same = ap length above.buried.taken in omega arith) may.answer sound height Root word
       (forms.ends_at_root b start s' book' w' under.case.was under.progress height word
       (roots.ends_at_root start w w' left right depth height (one_span left depth (slice_index_or new 0 d)) climbed may.first last above.buried))
       tt (subst (λ (seen : List Seen). 1 ≤ passing (is_row_of (row_in word)) seen) (sym above.buried.taken) climbed.taken.0)
@@ -202,7 +203,7 @@ module _ (b : Before) (start : Start) (s : Sheet) (book : Book) (w : Work) (made
 
   free_left : 0 < length book.free
   free_left =
-      let room = may.rows.under.case.room in
+      let room = may.rows.under.room in
       let few = may.rows.under.few in
       let free = ap length may.rows.under.progress.free in
       let parts = length-append book.free (map row_seen w.taken) in

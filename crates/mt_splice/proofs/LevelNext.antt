@@ -1,6 +1,5 @@
 -- A level of a replacement: what its steps hand on to each other, and to the next level.
 use Rattle.std.proofs.Common.{◌≡◌, ◌⊎◌, ℕ, zero, suc, ◌+◌, ◌-◌, ◌<◌, ◌≤◌, List, [], ◌∷◌, length, map, refl, sym, ap, ◌∙◌, subst, inl, inr, ⊎_elim, arith}
-use Rattle.std.proofs.lemmas.List.{length-map}
 use Rattle.std.specs.List.{flat_map}
 use Rattle.mt_base.specs.declared.calls.Call.{Call}
 use Rattle.mt_base.specs.declared.replies.Reply.{Reply}
@@ -25,7 +24,8 @@ use Rattle.mt_splice.specs.Runs.{most_items, MayBeCut}
 use Rattle.mt_splice.specs.Progress.{Before, new_rows_of}
 use Rattle.mt_splice.specs.Endings.{words_of}
 use Rattle.mt_splice.specs.TakingIn.{IsNow, MayWiden, IsWidened}
-use Rattle.mt_splice.specs.Replacing.{IsUnderWay, MayReplaceRows, AreRowsReplaced, MayRise, MayReplaceLevel, MayEndWithNothing, MayEndLevel, EndsHere, words_in}
+use Rattle.mt_splice.specs.Replacing.{IsUnderWay, MayReplaceRows, AreRowsReplaced, MayRise, MayReplaceLevel, MayEndEmpty, MayEndLevel, EndsHere, words_in}
+use Rattle.mt_splice.proofs.AboveNothing.{ends_with_hole}
 use Rattle.mt_splice.proofs.EndForms.{now_is}
 use Rattle.mt_splice.proofs.LevelPaths.{is_tree_now}
 use Rattle.mt_splice.proofs.Runs.{some_gathered, leaves_hold_an_entry, cut_whole}
@@ -39,6 +39,7 @@ under_read b start s s' book w made levels reads under = record {
   progress = progress_reads b s s' book w reads under.progress;
   holds = under.holds;
   inner = under.inner ∙ ap (λ (k : sheet.Sheet). new_rows_of k.tree.table w.taken) (sym reads);
+  room = under.room;
   few = under.few;
 }
 
@@ -82,20 +83,10 @@ module _ (b : Before) (start : Start) (s : sheet.Sheet) (book : Book) (w : Work)
     top_is = top_by_width b start s₁ book w made (suc depth) width under is_width
 
     -- nothing is left
-    pub ends_with_none : kind ≡ Leaf → begin_of left₁ depth ≡ 0 → (step_at right₁ depth).max ≡ greatest width → words_in items₁ ≡ 0 ∷ [] → MayEndWithNothing b start s₁ book w made left₁ right₁ depth height items₁ number call reply
-    ends_with_none leaf first last hole = record {
-      under = under;
-      gathered = wide.gathered;
-      nothing = record {
-        leaf = leaf_height start.tree.kind height (sym may.may.of_kind ∙ leaf);
-        first = first;
-        last = last ∙ top_is;
-        one = sym (length-map items₁ (λ (x : Item). x.word)) ∙ ap length hole;
-        hole = hole;
-      };
-      in_call = may.in_call;
-      answer = may.answer;
-    }
+    pub ends_with_none : kind ≡ Leaf → begin_of left₁ depth ≡ 0 → (step_at right₁ depth).max ≡ greatest width → words_in items₁ ≡ 0 ∷ [] → MayEndEmpty b start s₁ book w made left₁ right₁ depth number call reply
+    ends_with_none leaf first last hole =
+        ends_with_hole b start s₁ book w made left₁ right₁ depth height items₁ number call reply under wide.gathered (leaf_height start.tree.kind height (sym may.may.of_kind ∙ leaf)) first
+        (ap (λ (n : ℕ). n + 1) (last ∙ top_is)) hole may.in_call may.answer
 
     -- something is left
     module _ (not : kind ≡ Leaf → begin_of left₁ depth ≡ 0 → (step_at right₁ depth).max ≡ greatest width → words_in items₁ ≡ 0 ∷ [] → ⊥) where

@@ -2,6 +2,7 @@ pub mod AboveNothing
 pub mod Ascents
 pub mod Beginnings
 pub mod Buried
+pub mod Clearing
 pub mod Conditions
 pub mod Counting
 pub mod Counts

@@ -147,28 +147,34 @@ module _ (start : Start) (s s' : Work) (left right : List PathStep) (height : �
 
 -- ---- no row at all
 
-module _ (start : Start) (s s₁ s₂ : Work) (left right : List PathStep) (hole : Span) (gathered : Gathered start s left right start.height 0 (hole ∷ [])) (none : hole.word ≡ 0)
-    (begins : begin_of left start.height ≡ 0) (ends : end_of right start.height ≡ top_of start.tree + 1)
-    (buried : AreBuried start s s₁ start.height 0 0 (top_of start.tree + 1)) (levels : AreLevelsBuried start s₁ s₂ start.height 0 0 start.height) where
-  pub ends_empty : start.map ≡ []
-  ends_empty =
-      let no_front = fills_none 0 gathered.front (subst (λ (hi : ℕ). Fills 0 hi gathered.front) begins gathered.stretch.before) in
-      let no_back = fills_none (top_of start.tree + 1) gathered.back (subst (λ (lo : ℕ). Fills lo (top_of start.tree + 1) gathered.back) ends gathered.stretch.after) in
-      sym gathered.level.0
-      ∙ ((λ i. flat_map leaf_range (expand start.tree.table (no_front i) ++ ((hole ∷ []) ++ expand start.tree.table (no_back i)))) ∙ no_range hole none)
-    where
-      no_range : (x : Span) → x.word ≡ 0 → flat_map leaf_range (x ∷ []) ≡ []
-      no_range x none = ap (λ (w : ℕ). flat_map leaf_range (record x { word = w } ∷ [])) none
+-- one hole is left of all leaves
+pub ends_empty : (start : Start) (s : Work) (left right : List PathStep) (hole : Span) → Gathered start s left right start.height 0 (hole ∷ []) → hole.word ≡ 0 → begin_of left start.height ≡ 0
+    → end_of right start.height ≡ top_of start.tree + 1 → start.map ≡ []
+ends_empty start s left right hole gathered none begins ends =
+    let no_front = fills_none 0 gathered.front (subst (λ (hi : ℕ). Fills 0 hi gathered.front) begins gathered.stretch.before) in
+    let no_back = fills_none (top_of start.tree + 1) gathered.back (subst (λ (lo : ℕ). Fills lo (top_of start.tree + 1) gathered.back) ends gathered.stretch.after) in
+    sym gathered.level.0
+    ∙ ((λ i. flat_map leaf_range (expand start.tree.table (no_front i) ++ ((hole ∷ []) ++ expand start.tree.table (no_back i)))) ∙ no_range hole none)
+  where
+    no_range : (x : Span) → x.word ≡ 0 → flat_map leaf_range (x ∷ []) ≡ []
+    no_range x none = ap (λ (w : ℕ). flat_map leaf_range (record x { word = w } ∷ [])) none
 
-  pub all_gone : (p : ℕ → Span → Bool) → passing p s₂.gone ≡ times_in p start.tree start.height
-  all_gone p =
+-- all leaves are buried, and then all levels above them
+module _ (start : Start) (s s₁ : Work) (depth : ℕ) (none : s.gone ≡ []) (buried : AreBuried start s s₁ depth 0 0 (top_of start.tree + 1)) where
+  pub leaves_gone : (p : ℕ → Span → Bool) → passing p s₁.gone ≡ times p start.tree.table 0 (rows_at start.tree depth)
+  leaves_gone p =
       let here = buried.gone p in
-      let all = levels.gone p in
-      let nothing = ap (passing p) gathered.level.2 in
+      let nothing = ap (passing p) none in
       let no_front = fills_none 0 buried.front buried.stretch.before in
       let no_back = fills_none (top_of start.tree + 1) buried.back buried.stretch.after in
-      let leaves : rows_at start.tree start.height ≡ buried.old = buried.stretch.parts ∙ ((λ i. no_front i ++ (buried.old ++ no_back i)) ∙ append-nil buried.old) in
+      let leaves : rows_at start.tree depth ≡ buried.old = buried.stretch.parts ∙ ((λ i. no_front i ++ (buried.old ++ no_back i)) ∙ append-nil buried.old) in
       let level = ap (tally (p 0)) leaves in
+      omega arith
+
+  pub all_gone : (s₂ : Work) → AreLevelsBuried start s₁ s₂ depth 0 0 start.height → (p : ℕ → Span → Bool) → passing p s₂.gone ≡ times_in p start.tree start.height
+  all_gone s₂ levels p =
+      let here = leaves_gone p in
+      let all = levels.gone p in
       omega arith
 
 -- ---- the first row of all

@@ -25,7 +25,7 @@ use Rattle.mt_rows.specs.Trees.{deepest}
 use Rattle.mt_rows.specs.Laws.{Tree, Stands, IsLawful, top_of}
 use Rattle.mt_rows.specs.Replacement.{root_of}
 use Rattle.mt_rows.specs.Sheet.{Sheet, IsWhole}
-use Rattle.mt_rows.specs.Publish.{tree_as, map_by, is_reached}
+use Rattle.mt_rows.specs.Publish.{tree_as, map_by, is_reached, NoneBuried}
 use Rattle.mt_rows.proofs.Depth.{ranges_by_depth, height_by_depth}
 use Rattle.mt_rows.proofs.SlotWords.{length-spans_from}
 use Rattle.mt_path.specs.declared.paths.PathStep.{PathStep}
@@ -57,7 +57,7 @@ use Rattle.mt_splice.proofs.StepSeen.{not_both}
 no_path : (t : Table) (root i : ℕ) → root ≡ 0 → path_in t root i ≡ []
 no_path t root i empty = path_of_none t deepest (root_span t root) i (ap named_kind empty)
 
-stands_of : (t : Tree) → IsLawful t → (t.root ≡ 0 → ⊥) → (h : ℕ) × Stands t h
+pub stands_of : (t : Tree) → IsLawful t → (t.root ≡ 0 → ⊥) → (h : ℕ) × Stands t h
 stands_of t (inl empty) not = absurd (not empty)
 stands_of t (inr (h, stands, parent, tended)) not = (h, stands)
 
@@ -79,6 +79,25 @@ start_of kind s height map = record { tree = tree_as kind s.rows s.tree; height 
 abbrev pub work_of : Sheet → Work
 work_of s = record { words = s.tree.table.words; used = λ row. is_reached s.tree row || false; taken = []; gone = [] }
 
+pub nothing_done : (kind : Kind) (s : Sheet) (book : Book) (number : ℕ) → IsWhole s → NoneBuried s → IsProgress (before_of kind s book number) s book (work_of s)
+nothing_done kind s book number whole none_buried = record {
+  rest = refl;
+  root = refl;
+  width = refl;
+  words = refl;
+  whole = whole;
+  used = λ row. refl;
+  free = sym (append-nil book.free);
+  held = sym (append-nil book.held);
+  rows = refl;
+  lives = λ row low high. refl;
+  buried = none_buried;
+  kept = λ row c untaken above within. refl;
+  parents = λ row untaken kept. refl;
+  new_parents = λ row taken. absurd (not_both false taken refl);
+  marks = λ row reached gone. absurd (not_both false gone refl);
+}
+
 -- the end of what begins with the empty tree
 abbrev pub first_end : Before → Start → Work → Book → End
 first_end b start w book = record { before = b; start = start; work = w; book = book; old = None; new = Some 0 }
@@ -97,23 +116,7 @@ module _ (kind : Kind) (s : Sheet) (book : Book) (left right : List PathStep) (i
   before_splice h = record { whole = whole; tree = refl; live = may.live; none_buried = may.none_buried; book = may.booked }
 
   none_done : IsProgress b s book (work_of s)
-  none_done = record {
-    rest = refl;
-    root = refl;
-    width = refl;
-    words = refl;
-    whole = whole;
-    used = λ row. refl;
-    free = sym (append-nil book.free);
-    held = sym (append-nil book.held);
-    rows = refl;
-    lives = λ row low high. refl;
-    buried = may.none_buried;
-    kept = λ row c untaken above within. refl;
-    parents = λ row untaken kept. refl;
-    new_parents = λ row taken. absurd (not_both false taken refl);
-    marks = λ row reached gone. absurd (not_both false gone refl);
-  }
+  none_done = nothing_done kind s book number whole may.none_buried
 
   -- ---- a tree stands
 
@@ -154,11 +157,17 @@ module _ (kind : Kind) (s : Sheet) (book : Book) (left right : List PathStep) (i
       in_flight = may.in_flight;
       was = before_splice h;
       lawful = may.lawful;
-      room = let room = may.room in let high = height_by_depth (tree_as kind s.rows s.tree) deepest h (root_span s.tree.table s.tree.root) stands.low stands.rows in omega arith;
     }
 
     under_way : IsUnderWay b (start_at h) s book (work_of s) [] (suc h)
-    under_way = record { case = case_is; progress = none_done; holds = holds_first (start_at h) (work_of s) left right may.first may.last may.entry begins; inner = refl; few = omega arith }
+    under_way = record {
+      case = case_is;
+      progress = none_done;
+      holds = holds_first (start_at h) (work_of s) left right may.first may.last may.entry begins;
+      inner = refl;
+      room = let room = may.room in let high = height_by_depth (tree_as kind s.rows s.tree) deepest h (root_span s.tree.table s.tree.root) stands.low stands.rows in omega arith;
+      few = omega arith;
+    }
 
     widens : MayWiden (start_at h) (work_of s) s Leaf left right h 0 items
     widens = record {

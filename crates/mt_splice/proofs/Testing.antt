@@ -5,7 +5,9 @@ use Rattle.std.proofs.lemmas.Bool.{cases_Bool, eqb-true, eqb-false, le-ltb, ltb-
 use Rattle.mt_base.specs.declared.kinds.Kind.TheVariants as trees
 use Rattle.mt_base.specs.declared.widths.Width.{Width}
 use Rattle.mt_base.specs.declared.widths.Width.TheVariants.{Long}
-use Rattle.mt_base.specs.declared.calls.Call.TheVariants.{Store}
+use Rattle.mt_base.specs.declared.calls.Call.{Call}
+use Rattle.mt_base.specs.declared.calls.Call.TheVariants.{Store, Clear}
+use Rattle.mt_base.specs.declared.replies.Reply.{Reply}
 use Rattle.mt_base.specs.declared.replies.Reply.TheVariants as reply
 use Rattle.mt_base.specs.declared.ranges.Range.{Range}
 use Rattle.mt_base.specs.Call.{acted}
@@ -37,7 +39,7 @@ use Rattle.mt_path.specs.Paths.{path_in, step_at, step_in, At}
 use Rattle.mt_path.proofs.Places.{at_once}
 use Rattle.mt_path.proofs.Entering.{path_of_none}
 use Rattle.mt_path.proofs.TreePaths.{row_of, rows_at, step, place, lawful, levels, rows_fill, right_begins}
-use Rattle.mt_splice.specs.Splice.{IsBookOf, IsSpliced, HasParents, MaySplice, last_step, leaf_spans, region_of}
+use Rattle.mt_splice.specs.Splice.{IsBookOf, IsSpliced, HasParents, MaySplice, MayClear, last_step, leaf_spans, region_of}
 use Rattle.mt_splice.specs.Testing.{IsBetweenCalls, AreEnds, IsRunOver, IsWithin, leaf_items, leaves_items}
 use Rattle.mt_splice.proofs.Sizes.{leaf_slots}
 use Rattle.mt_splice.proofs.Gathering.{few_items}
@@ -136,10 +138,10 @@ reads_on a b c before behind = behind ∙ ap (λ (x : Sheet). record x { reads =
 
 -- ---- the call ends
 
-module _ (s s' s″ : Sheet) (book book' : Book) (number first last entry : ℕ) (place : Place) (order : first ≤ last) (free : reserved entry ≡ false) (same_end : number ≡ s.ended + 1)
-    (spliced : IsSpliced trees.Range s s' book book' number (Store first last entry) reply.Ok place) (ends : s″ ≡ finished s' (Store first last entry) reply.Ok) where
+module _ (s s' s″ : Sheet) (book book' : Book) (number : ℕ) (call : Call) (answer : Reply) (place : Place) (same_end : number ≡ s.ended + 1)
+    (spliced : IsSpliced trees.Range s s' book book' number call answer place) (ends : s″ ≡ finished s' call answer) where
   abbrev done : Sheet
-  done = finished s' (Store first last entry) reply.Ok
+  done = finished s' call answer
 
   ended_is : s'.ended ≡ s.ended
   ended_is = ap (λ (x : Sheet). x.ended) spliced.rest
@@ -165,8 +167,30 @@ module _ (s s' s″ : Sheet) (book book' : Book) (number first last entry : ℕ)
   pub one_more_ended : s″.ended ≡ s.ended + 1
   one_more_ended = let is = ap (λ (x : Sheet). x.ended) ends in let same = ended_is in omega arith
 
-  pub map_stored : map_by s″.tree ≡ over (map_by s.tree) first last entry
-  map_stored = ap (λ (x : Sheet). map_by x.tree) ends ∙ (spliced.map ∙ ap (λ (a : List Range × _). a.0) (acts_so (map_by s.tree) first last entry order free))
+pub map_stored : (s s' s″ : Sheet) (book book' : Book) (number first last entry : ℕ) (place : Place) → first ≤ last → reserved entry ≡ false → IsSpliced trees.Range s s' book book' number (Store first last entry) reply.Ok place
+    → s″ ≡ finished s' (Store first last entry) reply.Ok → map_by s″.tree ≡ over (map_by s.tree) first last entry
+map_stored s s' s″ book book' number first last entry place order free spliced ends =
+    ap (λ (x : Sheet). map_by x.tree) ends ∙ (spliced.map ∙ ap (λ (a : List Range × _). a.0) (acts_so (map_by s.tree) first last entry order free))
+
+-- ---- a tree that is emptied
+
+clear_if_within : (s : Sheet) (book : Book) (number : ℕ) → IsWithin s book → number ≡ s.ended + 1 → s.tree.root ≢ 0 → MayClear trees.Range s book number Clear reply.Ok
+clear_if_within s book number in_call same_end some = record {
+  range = refl;
+  flying = in_call.flying;
+  before = in_call.before;
+  in_flight = same_end;
+  none_buried = in_call.none_buried;
+  live = in_call.live;
+  booked = subst (IsBookOf s book) (sym same_end) in_call.booked;
+  lawful = in_call.lawful;
+  some = some;
+  answer = refl;
+}
+
+pub may_clear : (s s' : Sheet) (book : Book) (number : ℕ) → s' ≡ begun s → number ≡ s.ended + 1 → IsBetweenCalls s book → s.tree.root ≢ 0 → MayClear trees.Range s' book number Clear reply.Ok
+may_clear s s' book number is same_end ready some =
+    subst (λ (x : Sheet). MayClear trees.Range x book number Clear reply.Ok) (sym is) (clear_if_within (begun s) book number (within_if_ready s book (begun s).reads ready) same_end some)
 
 -- ---- the leaves at a store's ends
 

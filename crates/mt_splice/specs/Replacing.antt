@@ -1,6 +1,6 @@
 -- A replacement under way, level by level: what holds between its steps.
 -- Source: the kernel's lib/maple_tree.c, mas_spanning_rebalance, which goes up level by level.
-use Rattle.std.specs.Prelude.{◌≡◌, ◌⊎◌, ℕ, suc, ◌+◌, ◌*◌, ◌≤◌, Bool, true, false, List, [], ◌∷◌, length, map}
+use Rattle.std.specs.Prelude.{◌≡◌, ◌⊎◌, ℕ, suc, ◌+◌, ◌*◌, ◌≤◌, Bool, true, false, List, [], length, map}
 use Rattle.mt_base.specs.declared.calls.Call.{Call}
 use Rattle.mt_base.specs.declared.kinds.Kind.TheVariants as trees
 use Rattle.mt_base.specs.declared.replies.Reply.{Reply}
@@ -26,7 +26,7 @@ use Rattle.mt_splice.specs.Runs.{MayBeCut}
 use Rattle.mt_splice.specs.Progress.{Before, IsBefore, IsProgress, new_rows_of}
 use Rattle.mt_splice.specs.TakingIn.{IsNow, MayWiden}
 
--- a call of a tree of ranges is in flight and has not published; the tree is lawful, and the book has rows enough
+-- a call of a tree of ranges is in flight and has not published, and the tree is lawful
 pub record IsCase (b : Before) (start : Start) : Type 0 where
   pub range : b.kind ≡ trees.Range
   pub flying : b.sheet.flying ≡ true
@@ -34,18 +34,25 @@ pub record IsCase (b : Before) (start : Start) : Type 0 where
   pub in_flight : b.number ≡ b.sheet.ended + 1
   pub was : IsBefore b start
   pub lawful : IsLawfulOf b.sheet b.kind
-  pub room : 3 * (start.height + 1) + 1 ≤ length b.book.free
 
 -- the call makes this map, and is answered so
 abbrev pub IsAnswer : Before → Start → Call → Reply → Type 0
 IsAnswer b start call reply = acted b.kind (map_by b.sheet.tree) call ≡ (start.map, reply)
 
--- So many levels are still to be replaced, three rows on each at the most.
+-- Rows are still to be buried, and none to be written.
+pub record IsBurying (b : Before) (start : Start) (s : Sheet) (book : Book) (w : Work) (made : List NewRow) : Type 0 where
+  pub case : IsCase b start
+  pub progress : IsProgress b s book w
+  pub holds : Holds start w
+  pub inner : made ≡ new_rows_of s.tree.table w.taken
+
+-- So many levels are still to be replaced, three rows on each at the most, and the book has rows enough.
 pub record IsUnderWay (b : Before) (start : Start) (s : Sheet) (book : Book) (w : Work) (made : List NewRow) (levels : ℕ) : Type 0 where
   pub case : IsCase b start
   pub progress : IsProgress b s book w
   pub holds : Holds start w
   pub inner : made ≡ new_rows_of s.tree.table w.taken
+  pub room : 3 * (start.height + 1) + 1 ≤ length b.book.free
   pub few : length w.taken + 3 * levels ≤ 3 * (start.height + 1)
 
 -- ---- the rows of a level
@@ -84,7 +91,7 @@ pub record MayRise (start : Start) (w : Work) (s : Sheet) (left right : List Pat
 
 -- the rows of a level that stands for every index are replaced or buried, and those above it may be buried
 pub record MayBuryAbove (b : Before) (start : Start) (s : Sheet) (book : Book) (w : Work) (made : List NewRow) (left right : List PathStep) (depth height number : ℕ) : Type 0 where
-  pub under : IsUnderWay b start s book w made depth
+  pub under : IsBurying b start s book w made
   pub levels : start.height ≡ depth + height
   pub paths : ArePaths start left right
   pub first : begin_of left depth ≡ 0
@@ -93,7 +100,7 @@ pub record MayBuryAbove (b : Before) (start : Start) (s : Sheet) (book : Book) (
   pub in_call : number ≡ b.number
 
 pub record AreAboveBuried (b : Before) (start : Start) (s : Sheet) (book : Book) (w w' : Work) (made : List NewRow) (depth height : ℕ) : Type 0 where
-  pub under : IsUnderWay b start s book w' made 0
+  pub under : IsBurying b start s book w' made
   pub buried : AreLevelsBuried start w w' depth height 0 start.height
 
 -- ---- a whole level
@@ -109,21 +116,6 @@ pub record MayReplaceLevel (b : Before) (start : Start) (s : Sheet) (book : Book
 abbrev pub words_in : List Item → List ℕ
 words_in items = map (λ (x : Item). x.word) items
 
--- nothing is to stand in the leaves: one hole of every index
-pub record IsNothing (start : Start) (left right : List PathStep) (depth height : ℕ) (items : List Item) : Type 0 where
-  pub leaf : height ≡ 0
-  pub first : begin_of left depth ≡ 0
-  pub last : (step_at right depth).max ≡ top_of start.tree
-  pub one : length items ≡ 1
-  pub hole : words_in items ≡ 0 ∷ []
-
-pub record MayEndWithNothing (b : Before) (start : Start) (s : Sheet) (book : Book) (w : Work) (made : List NewRow) (left right : List PathStep) (depth height : ℕ) (items : List Item) (number : ℕ) (call : Call) (reply : Reply) : Type 0 where
-  pub under : IsUnderWay b start s book w made (suc depth)
-  pub gathered : Gathered start w left right depth height (spans_from (begin_of left depth) items)
-  pub nothing : IsNothing start left right depth height items
-  pub in_call : number ≡ b.number
-  pub answer : IsAnswer b start call reply
-
 pub record MayEndLevel (b : Before) (start : Start) (s : Sheet) (book : Book) (w : Work) (made : List NewRow) (left right : List PathStep) (depth height : ℕ) (new : List Item) (number : ℕ) (call : Call) (reply : Reply) : Type 0 where
   pub rows : AreRowsReplaced b start s book w made left right depth height new
   pub here : EndsHere start left right depth (length new)
@@ -131,6 +123,19 @@ pub record MayEndLevel (b : Before) (start : Start) (s : Sheet) (book : Book) (w
   pub answer : IsAnswer b start call reply
 
 -- ---- the ways in which it ends
+
+-- nothing is to be left of the tree, of which no row is gone yet and none was taken
+pub record MayEndEmpty (b : Before) (start : Start) (s : Sheet) (book : Book) (w : Work) (made : List NewRow) (left right : List PathStep) (depth number : ℕ) (call : Call) (reply : Reply) : Type 0 where
+  pub under : IsBurying b start s book w made
+  pub levels : start.height ≡ depth
+  pub paths : ArePaths start left right
+  pub first : begin_of left depth ≡ 0
+  pub last : end_of right depth ≡ top_of start.tree + 1
+  pub none_taken : w.taken ≡ []
+  pub none_gone : w.gone ≡ []
+  pub none : start.map ≡ []
+  pub in_call : number ≡ b.number
+  pub answer : IsAnswer b start call reply
 
 -- one row stands for every index
 pub record MayEndAtRoot (b : Before) (start : Start) (s : Sheet) (book : Book) (w : Work) (made : List NewRow) (left right : List PathStep) (depth height : ℕ) (new : List Item) (number : ℕ) (call : Call) (reply : Reply) : Type 0 where

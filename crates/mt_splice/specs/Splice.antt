@@ -95,6 +95,19 @@ pub record MaySplice (kind : Kind) (s : Sheet) (book : Book) (left right : List 
   pub right_path : right ≡ path_in s.tree.table s.tree.root last
   pub edits : spans_from (last_step left).min items ≡ edited (region_of s.tree.table left right) first last entry
 
+-- what the emptying of a tree that is not empty is asked for: no row need be free
+pub record MayClear (kind : Kind) (s : Sheet) (book : Book) (number : ℕ) (call : Call) (reply : Reply) : Type 0 where
+  pub range : kind ≡ trees.Range
+  pub flying : s.flying ≡ true
+  pub before : s.published ≡ false
+  pub in_flight : number ≡ s.ended + 1
+  pub none_buried : NoneBuried s
+  pub live : LiveAreReached s
+  pub booked : IsBookOf s book number
+  pub lawful : IsLawfulOf s kind
+  pub some : s.tree.root ≢ 0
+  pub answer : acted kind (map_by s.tree) call ≡ ([], reply)
+
 -- ---- after
 
 -- each child's parent word names its parent and its slot, and the root's is 1

@@ -5,6 +5,7 @@
 mod ascends;
 mod begins;
 mod beside;
+mod clears;
 mod ends;
 mod gathers;
 pub mod laws;
@@ -19,4 +20,5 @@ mod tends;
 mod tests;
 mod writes;
 
+pub use clears::clear;
 pub use splices::splice;

@@ -6,12 +6,13 @@ ghost use Rattle.mt_layout.specs.declared.names.RowKind.TheVariants.{Leaf};
 ghost use Rattle.mt_free.specs.Book.{Book};
 ghost use Rattle.mt_path.specs.declared.paths.PathStep.{PathStep};
 ghost use Rattle.mt_path.specs.Paths.{step_at};
+ghost use Rattle.mt_rows.specs.declared.rows.Place.TheVariants.{Root};
 ghost use Rattle.mt_splice.specs.Climbs.{begin_of};
 ghost use Rattle.mt_splice.specs.declared.writes.NewRow.{NewRow};
 ghost use Rattle.mt_splice.specs.Work.{Start, Work};
 ghost use Rattle.mt_splice.specs.Progress.{Before};
 ghost use Rattle.mt_splice.specs.Splice.{IsSpliced};
-ghost use Rattle.mt_splice.specs.Replacing.{MayReplaceRows, AreRowsReplaced, MayBuryAbove, AreAboveBuried, MayReplaceLevel, MayEndWithNothing, IsNothing, MayEndLevel, EndsHere, MayEndAtRoot, MayEndAbove, MayEndInPlace, words_in};
+ghost use Rattle.mt_splice.specs.Replacing.{MayReplaceRows, AreRowsReplaced, MayBuryAbove, AreAboveBuried, MayReplaceLevel, MayEndEmpty, MayEndLevel, EndsHere, MayEndAtRoot, MayEndAbove, MayEndInPlace, words_in};
 
 use crate::ascends::rise;
 use crate::beside::{Region, widen};
@@ -72,27 +73,27 @@ fn bury_above<R: Rows>(
     }
 }
 
-/// Ends a replacement of which nothing is left: all rows are buried, and the root word is 0.
-fn end_with_nothing<R: Rows>(
+/// Ends a replacement of which nothing is left: all rows are buried, and the root word is 0. That takes no row.
+pub fn end_empty<R: Rows>(
     rows: &mut R,
     book: &mut RowBook,
     made: &ArrayVec<NewRow, 28>,
-    region: &Region,
+    left: &Path,
+    right: &Path,
     depth: u32,
     number: u64,
     call: &Call,
     reply: &Reply,
-) -> Place
-    requires level { (b : Before) × (start : Start) × (w : Work) × (height : ℕ) × MayEndWithNothing b start (R.sheet rows.old) book.old w made.now.items region.now.left.items region.now.right.items depth height region.now.run.items number call.now reply.now }
-    ensures level { (b : Before) (start : Start) (w : Work) (height : ℕ) → MayEndWithNothing b start (R.sheet rows.old) book.old w made.now.items region.now.left.items region.now.right.items depth height region.now.run.items number call.now reply.now
-        → IsSpliced b.kind b.sheet (R.sheet rows.new) b.book book.new b.number call.now reply.now result }
+)
+    requires level { (b : Before) × (start : Start) × (w : Work) × MayEndEmpty b start (R.sheet rows.old) book.old w made.now.items left.now.items right.now.items depth number call.now reply.now }
+    ensures level { (b : Before) (start : Start) (w : Work) → MayEndEmpty b start (R.sheet rows.old) book.old w made.now.items left.now.items right.now.items depth number call.now reply.now
+        → IsSpliced b.kind b.sheet (R.sheet rows.new) b.book book.new b.number call.now reply.now Root }
+    ensures none_taken { book.new.free ≡ book.old.free }
 {
-    let (left, right) = (&region.left, &region.right);
     bury_rows(rows, book, left, right, depth as usize, number);
     bury_above(rows, book, left, right, depth, number);
     book.rows();
     publish_at(rows, Place::Root, 0, made.as_slice(), call, reply);
-    Place::Root
 }
 
 /// Ends a replacement by one row that stands for every index: all rows above it are buried, and it is the root.
@@ -259,7 +260,9 @@ pub fn replace_level<R: Rows>(
 {
     let region = widen(rows, region, depth, kind);
     if is_nothing(rows.width(), &region, depth, kind) {
-        return end_with_nothing(rows, book, made, &region, depth, number, call, reply);
+        let (left, right) = (&region.left, &region.right);
+        end_empty(rows, book, made, left, right, depth, number, call, reply);
+        return Place::Root;
     }
     let new = replace_rows(rows, book, made, &region, depth, kind, number);
     if ends_here(rows.width(), &region, &new, depth) {

@@ -1,4 +1,4 @@
-//! Whole stores, as a test makes them: the leaves at the ends are read, edited and replaced.
+//! Whole stores, as a test makes them: the leaves at the ends are read, edited and replaced. And the emptying of a tree.
 
 ghost use Rattle.std.specs.Prelude.{◌≡◌, ◌≢◌, ◌<◌, ◌≤◌, ◌+◌, ◌-◌, ◌^◌, [], ◌∷◌, ◌++◌, ℕ, false, length};
 ghost use Rattle.mt_base.specs.Entry.{reserved};
@@ -14,7 +14,7 @@ ghost use Rattle.mt_splice.specs.Writes.{items_of_row};
 ghost use Rattle.mt_splice.specs.Runs.{run_room};
 
 use crate::reads::push_items;
-use crate::splice;
+use crate::{clear, splice};
 use mt_base::{Call, Kind, Reply};
 use mt_free::RowBook;
 use mt_layout::{Item, RowKind, Run};
@@ -119,4 +119,19 @@ pub fn store(rows: &mut PlainRows, book: &mut RowBook, first: u64, last: u64, en
     );
     rows.finish(&call, &Reply::Ok);
     place
+}
+
+/// The emptying of a tree that is not empty, as one call.
+pub fn empty(rows: &mut PlainRows, book: &mut RowBook)
+    requires ready { IsBetweenCalls rows.old book.old }
+    requires some { rows.old.tree.root ≢ 0 }
+    requires room { rows.old.ended < 2 ^ 62 - 1 }
+    ensures ready { IsBetweenCalls rows.new book.new }
+    ensures ended { rows.new.ended ≡ rows.old.ended + 1 }
+    ensures none_taken { book.new.free ≡ book.old.free }
+    ensures root { rows.new.tree.root ≡ 0 }
+{
+    let number = rows.begin();
+    clear(rows, book, Kind::Range, number, &Call::Clear, &Reply::Ok);
+    rows.finish(&Call::Clear, &Reply::Ok);
 }

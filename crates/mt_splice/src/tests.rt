@@ -2,7 +2,7 @@ ghost use Rattle.std.specs.Prelude.{◌≡◌, ◌<◌, ◌≤◌, ◌+◌, ◌-
 ghost use Rattle.mt_rows.specs.Sheet.{IsPlace, OnlyReads};
 ghost use Rattle.mt_splice.specs.Testing.{IsBetweenCalls};
 
-use crate::stores::store;
+use crate::stores::{empty, store};
 use mt_base::{Call, Kind, NoMemory, Range, is_reserved};
 use mt_free::RowBook;
 use mt_list::{ListMap, Ranges};
@@ -126,6 +126,20 @@ impl Tree {
         self.list.act(&Call::Store { first, last, entry })?;
         self.expect_same(rt, alloc, range)?;
         Ok(place)
+    }
+
+    /// Empties the nodes and the list.
+    fn clear(&mut self, rt: &impl Abort, alloc: Global) -> Result<(), NoMemory>
+        requires ready { IsBetweenCalls self.old.rows self.old.book }
+        requires room { self.old.rows.ended < 2 ^ 62 - 1 }
+        ensures ready { IsBetweenCalls self.new.rows self.new.book }
+        ensures ended { self.new.rows.ended ≡ self.old.rows.ended + 1 }
+    {
+        let root = root_of(&mut self.rows);
+        assert!(rt; root != 0);
+        empty(&mut self.rows, &mut self.book);
+        self.list.act(&Call::Clear)?;
+        self.expect_same(rt, alloc, range(0, TOP, 0))
     }
 
     /// Stores each of these ranges.
@@ -340,5 +354,21 @@ fn replaces_rows_of_three_levels(rt: HostRuntime) -> Result<(), Fail> {
         singles(rt.alloc(), 100)?.as_slice(),
         &cases,
     )?;
+    Ok(())
+}
+
+#[test]
+fn empties_whole_trees(rt: HostRuntime) -> Result<(), Fail> {
+    for (count, live) in [(8, 1), (20, 5), (100, 27)] {
+        let ranges = singles(rt.alloc(), count)?;
+        assert!(&rt; ranges.len() < 1000);
+        let mut tree = Tree::new(rt.alloc())?;
+        tree.store_all(&rt, rt.alloc(), ranges.as_slice())?;
+        let (free, held) = (tree.book.free(), tree.book.held());
+        tree.clear(&rt, rt.alloc())?;
+        let after = (tree.book.free(), tree.book.live(), tree.book.held());
+        assert_eq!(&rt; after, (free, 0, held + live));
+        assert_eq!(&rt; tree.height(rt.alloc())?, 0);
+    }
     Ok(())
 }

@@ -13,14 +13,14 @@ is_nothing-requires-clause-right g t c =
     let r = c.requires.level in
     next.right_is_deep r.0 r.1 (g.R.Rows.sheet c.args.rows.now) c.args.book.now r.2 c.args.made.now.items c.args.kind c.args.region.left.items c.args.region.right.items c.args.depth r.3 c.args.region.run.items c.args.number c.args.call.now c.args.reply.now r.4 (g.R.Rows.sheet c.widen-region.new.rows) c.widen-region.result.left.items c.widen-region.result.right.items c.widen-region.result.run.items c.widen-region.ensures.rest (c.widen-region.ensures.level r.1 r.2 r.3 r.4.may)
 
-pub end_with_nothing-requires : goal.end_with_nothing-requires
-end_with_nothing-requires g t c =
+pub end_empty-requires : goal.end_empty-requires
+end_empty-requires g t c =
     let r = c.requires.level in
-    record { level = (r.0, r.1, r.2, r.3, next.ends_with_none r.0 r.1 (g.R.Rows.sheet c.args.rows.now) c.args.book.now r.2 c.args.made.now.items c.args.kind c.args.region.left.items c.args.region.right.items c.args.depth r.3 c.args.region.run.items c.args.number c.args.call.now c.args.reply.now r.4 (g.R.Rows.sheet c.widen-region.new.rows) c.widen-region.result.left.items c.widen-region.result.right.items c.widen-region.result.run.items c.widen-region.ensures.rest (c.widen-region.ensures.level r.1 r.2 r.3 r.4.may) c.width.result c.width.ensures (c.is_nothing.ensures.leaf c.if-is_nothing.true) (c.is_nothing.ensures.first c.if-is_nothing.true) (c.is_nothing.ensures.last c.if-is_nothing.true) (c.is_nothing.ensures.hole c.if-is_nothing.true)) }
+    record { level = (r.0, r.1, r.2, next.ends_with_none r.0 r.1 (g.R.Rows.sheet c.args.rows.now) c.args.book.now r.2 c.args.made.now.items c.args.kind c.args.region.left.items c.args.region.right.items c.args.depth r.3 c.args.region.run.items c.args.number c.args.call.now c.args.reply.now r.4 (g.R.Rows.sheet c.widen-region.new.rows) c.widen-region.result.left.items c.widen-region.result.right.items c.widen-region.result.run.items c.widen-region.ensures.rest (c.widen-region.ensures.level r.1 r.2 r.3 r.4.may) c.width.result c.width.ensures (c.is_nothing.ensures.leaf c.if-is_nothing.true) (c.is_nothing.ensures.first c.if-is_nothing.true) (c.is_nothing.ensures.last c.if-is_nothing.true) (c.is_nothing.ensures.hole c.if-is_nothing.true)) }
 
 pub returns-then-is_nothing : goal.returns-then-is_nothing
 returns-then-is_nothing g t c = record {
-  level = λ b start w height may. c.end_with_nothing.ensures.level b start w height (next.ends_with_none b start (g.R.Rows.sheet c.args.rows.now) c.args.book.now w c.args.made.now.items c.args.kind c.args.region.left.items c.args.region.right.items c.args.depth height c.args.region.run.items c.args.number c.args.call.now c.args.reply.now may (g.R.Rows.sheet c.widen-region.new.rows) c.widen-region.result.left.items c.widen-region.result.right.items c.widen-region.result.run.items c.widen-region.ensures.rest (c.widen-region.ensures.level start w height may.may) c.width.result c.width.ensures (c.is_nothing.ensures.leaf c.if-is_nothing.true) (c.is_nothing.ensures.first c.if-is_nothing.true) (c.is_nothing.ensures.last c.if-is_nothing.true) (c.is_nothing.ensures.hole c.if-is_nothing.true));
+  level = λ b start w height may. c.end_empty.ensures.level b start w (next.ends_with_none b start (g.R.Rows.sheet c.args.rows.now) c.args.book.now w c.args.made.now.items c.args.kind c.args.region.left.items c.args.region.right.items c.args.depth height c.args.region.run.items c.args.number c.args.call.now c.args.reply.now may (g.R.Rows.sheet c.widen-region.new.rows) c.widen-region.result.left.items c.widen-region.result.right.items c.widen-region.result.run.items c.widen-region.ensures.rest (c.widen-region.ensures.level start w height may.may) c.width.result c.width.ensures (c.is_nothing.ensures.leaf c.if-is_nothing.true) (c.is_nothing.ensures.first c.if-is_nothing.true) (c.is_nothing.ensures.last c.if-is_nothing.true) (c.is_nothing.ensures.hole c.if-is_nothing.true));
 }
 
 pub replace_rows-new-requires : goal.replace_rows-new-requires
