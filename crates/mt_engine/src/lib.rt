@@ -1,7 +1,11 @@
 //! The tree on one thread: what its words answer to the queries of a map of ranges.
 #![tactic(auto)]
 
-pub mod handles;
+mod handles;
 pub mod laws;
-pub mod lists;
-pub mod queries;
+mod lists;
+mod queries;
+
+pub use handles::{Handle, before, behind, handle_at};
+pub use lists::list;
+pub use queries::ask;

@@ -89,7 +89,7 @@ returns-clause-fewest g c = record {
   ends = c.cut-ends.result.items;
   cut = subst (λ (n : ℕ). IsCut c.is_leaf-leaf.result n (slots_of (g.R.Rows.sheet c.args.rows.now).tree.table.width c.args.kind) c.args.run.now.items c.cut-ends.result.items) c.least_items.ensures
       (subst (λ (n : ℕ). IsCut c.is_leaf-leaf.result c.least_items.result n c.args.run.now.items c.cut-ends.result.items)
-      (most_as (g.R.Rows.sheet c.args.rows.now) c.args.kind c.slots_in-most.result c.width.result c.slots_in-most.ensures c.width.ensures) c.cut-ends.ensures);
+      (most_as (g.R.Rows.sheet c.args.rows.now) c.args.kind c.slots-most.result c.width.result c.slots-most.ensures c.width.ensures) c.cut-ends.ensures);
   count =
       let far = c.loop-end.invariant in
       let counted = far.count in
