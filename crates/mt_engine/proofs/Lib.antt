@@ -2,6 +2,9 @@ pub mod HandleSteps
 pub mod LeafSlots
 pub mod LeafSteps
 pub mod Leafwise
+pub mod MapPlaces
+pub mod MapQueries
+pub mod SlotQueries
 pub mod Slots
 pub mod Slotwise
 pub mod SpanLists

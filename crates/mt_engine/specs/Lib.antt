@@ -2,5 +2,6 @@ pub mod Engine
 pub mod Handles
 pub mod Listing
 pub mod MapSpans
+pub mod Nearest
 pub mod Plans
 pub mod Rooms

@@ -1,15 +1,18 @@
 //! The queries of a map, answered by the words of a tree.
 
-ghost use Rattle.std.specs.Prelude.{◌≡◌, ◌≤◌, Option, Some, None, if◌then◌else◌};
+ghost use Rattle.std.specs.Prelude.{◌≡◌, ℕ, ◌≤◌};
 ghost use Rattle.mt_base.specs.declared.kinds.Kind.{Kind};
 ghost use Rattle.mt_base.specs.declared.calls.Query.TheVariants.{Load, Find, Next, Prev, Rfind};
 ghost use Rattle.mt_base.specs.Call.{answer};
 ghost use Rattle.mt_base.specs.Width.{greatest};
+ghost use Rattle.mt_list.specs.Places.{up_to, down_to};
 ghost use Rattle.mt_rows.specs.Publish.{IsTreeOf, map_by};
 ghost use Rattle.mt_rows.specs.Sheet.{OnlyReads};
+ghost use Rattle.mt_engine.specs.Handles.{handle_in, IsHandleOf};
 ghost use Rattle.mt_engine.specs.MapSpans.{range_of};
+ghost use Rattle.mt_engine.specs.Nearest.{first_from, last_up_to};
 
-use crate::handles::{before, behind, handle_at};
+use crate::handles::{Handle, before, behind, handle_at};
 use mt_base::{Query, Range};
 use mt_layout::Span;
 use mt_rows::Rows;
@@ -39,6 +42,48 @@ pub fn load<R: Rows>(rows: &mut R, index: u64) -> Option<Range>
     Some(range_in(here.span))
 }
 
+/// The range, where it begins at `max` or below.
+fn up_to(range: Option<Range>, max: u64) -> Option<Range>
+    ensures { result ≡ up_to max range }
+{
+    range.filter(|r| r.first <= max)
+}
+
+/// The range, where it ends at `min` or above.
+fn down_to(range: Option<Range>, min: u64) -> Option<Range>
+    ensures { result ≡ down_to min range }
+{
+    range.filter(|r| r.last >= min)
+}
+
+/// The first range that ends at an index of a slot or above: the range in the slot, or the one right behind the hole there.
+fn first_from<R: Rows>(rows: &mut R, here: &Handle) -> Option<Range>
+    requires tree { (kind : Kind) × IsTreeOf (R.sheet rows.old) kind }
+    requires here { IsHandleOf (R.sheet rows.old) here.now }
+    ensures range { (index : ℕ) → index ≤ greatest (R.sheet rows.old).tree.table.width → here.now ≡ handle_in (R.sheet rows.old).tree index → result ≡ first_from (map_by (R.sheet rows.old).tree) index }
+    ensures rest { OnlyReads (R.sheet rows.old) (R.sheet rows.new) }
+{
+    if here.span.word != 0 {
+        return Some(range_in(here.span));
+    }
+    let found = behind(rows, here)?;
+    Some(range_in(found.span))
+}
+
+/// The last range that begins at an index of a slot or below: the range in the slot, or the one right before the hole there.
+fn last_up_to<R: Rows>(rows: &mut R, here: &Handle) -> Option<Range>
+    requires tree { (kind : Kind) × IsTreeOf (R.sheet rows.old) kind }
+    requires here { IsHandleOf (R.sheet rows.old) here.now }
+    ensures range { (index : ℕ) → index ≤ greatest (R.sheet rows.old).tree.table.width → here.now ≡ handle_in (R.sheet rows.old).tree index → result ≡ last_up_to (map_by (R.sheet rows.old).tree) index }
+    ensures rest { OnlyReads (R.sheet rows.old) (R.sheet rows.new) }
+{
+    if here.span.word != 0 {
+        return Some(range_in(here.span));
+    }
+    let found = before(rows, here)?;
+    Some(range_in(found.span))
+}
+
 /// The first range that ends at `index` or above and begins at `max` or below, where `index` is at most `max`.
 pub fn find<R: Rows>(rows: &mut R, index: u64, max: u64) -> Option<Range>
     requires tree { (kind : Kind) × IsTreeOf (R.sheet rows.old) kind }
@@ -49,14 +94,8 @@ pub fn find<R: Rows>(rows: &mut R, index: u64, max: u64) -> Option<Range>
     if index > max {
         return None;
     }
-    let mut found = handle_at(rows, index)?;
-    if found.span.word == 0 {
-        found = behind(rows, &found)?;
-    }
-    if found.span.first > max {
-        return None;
-    }
-    Some(range_in(found.span))
+    let here = handle_at(rows, index)?;
+    up_to(first_from(rows, &here), max)
 }
 
 /// The first range that begins above `index`, and at `max` or below.
@@ -67,14 +106,8 @@ fn next<R: Rows>(rows: &mut R, index: u64, max: u64) -> Option<Range>
     ensures rest { OnlyReads (R.sheet rows.old) (R.sheet rows.new) }
 {
     let here = handle_at(rows, index)?;
-    let mut found = behind(rows, &here)?;
-    if found.span.word == 0 {
-        found = behind(rows, &found)?;
-    }
-    if found.span.first > max {
-        return None;
-    }
-    Some(range_in(found.span))
+    let above = behind(rows, &here)?;
+    up_to(first_from(rows, &above), max)
 }
 
 /// The last range that ends below `index`, and at `min` or above.
@@ -85,14 +118,8 @@ fn prev<R: Rows>(rows: &mut R, index: u64, min: u64) -> Option<Range>
     ensures rest { OnlyReads (R.sheet rows.old) (R.sheet rows.new) }
 {
     let here = handle_at(rows, index)?;
-    let mut found = before(rows, &here)?;
-    if found.span.word == 0 {
-        found = before(rows, &found)?;
-    }
-    if found.span.last < min {
-        return None;
-    }
-    Some(range_in(found.span))
+    let below = before(rows, &here)?;
+    down_to(last_up_to(rows, &below), min)
 }
 
 /// The last range that begins at `index` or below and ends at `min` or above, where `index` is at least `min`.
@@ -105,14 +132,8 @@ fn rfind<R: Rows>(rows: &mut R, index: u64, min: u64) -> Option<Range>
     if index < min {
         return None;
     }
-    let mut found = handle_at(rows, index)?;
-    if found.span.word == 0 {
-        found = before(rows, &found)?;
-    }
-    if found.span.last < min {
-        return None;
-    }
-    Some(range_in(found.span))
+    let here = handle_at(rows, index)?;
+    down_to(last_up_to(rows, &here), min)
 }
 
 /// Answers a query as the map answers it that the words stand for.

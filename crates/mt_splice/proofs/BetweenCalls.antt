@@ -7,7 +7,7 @@ use Rattle.mt_base.specs.declared.kinds.Kind.TheVariants as trees
 use Rattle.mt_base.specs.declared.widths.Width.{Width}
 use Rattle.mt_base.specs.declared.widths.Width.TheVariants.{Long}
 use Rattle.mt_base.specs.declared.calls.Call.{Call}
-use Rattle.mt_base.specs.declared.calls.Call.TheVariants.{Store}
+use Rattle.mt_base.specs.declared.calls.Call.TheVariants.{Store, Clear}
 use Rattle.mt_base.specs.declared.replies.Reply.{Reply}
 use Rattle.mt_base.specs.declared.replies.Reply.TheVariants as reply
 use Rattle.mt_base.specs.declared.ranges.Range.{Range}
@@ -41,7 +41,7 @@ use Rattle.mt_path.specs.Paths.{path_in, step_at, step_in, At}
 use Rattle.mt_path.proofs.Places.{at_once}
 use Rattle.mt_path.proofs.Entering.{path_of_none}
 use Rattle.mt_path.proofs.TreePaths.{row_of, rows_at, step, place, lawful, levels, rows_fill, right_begins}
-use Rattle.mt_splice.specs.Splice.{IsBookOf, IsStoreBy, IsSpliced, HasParents, WasPublishedAt, MaySplice, MayReplace, last_step, leaf_spans, region_of}
+use Rattle.mt_splice.specs.Splice.{IsBookOf, IsStoreBy, IsSpliced, HasParents, WasPublishedAt, MaySplice, MayReplace, MayClear, last_step, leaf_spans, region_of}
 use Rattle.mt_splice.specs.Between.{IsBetweenCalls}
 use Rattle.mt_splice.specs.Regions.{AreEnds}
 use Rattle.mt_splice.proofs.Sizes.{leaf_slots}
@@ -149,6 +149,7 @@ spliced_with kind s s' book book' number call reply place reads spliced = record
   none_buried = spliced.none_buried;
   live = spliced.live;
   dead = spliced.dead;
+  marked = spliced.marked;
   others = spliced.others;
   moved =
       let moved = spliced.moved in
@@ -260,3 +261,23 @@ ready_with s book reads ready = record {
 
 pub ready_if_read : (s s' : Sheet) (book : Book) → OnlyReads s s' → IsBetweenCalls s book → IsBetweenCalls s' book
 ready_if_read s s' book reads ready = subst (λ (x : Sheet). IsBetweenCalls x book) (sym reads) (ready_with s book s'.reads ready)
+
+-- ---- a tree that is emptied
+
+begun_clear : (s : Sheet) (book : Book) (number : ℕ) → IsBetweenCalls s book → number ≡ s.ended + 1 → s.tree.root ≢ 0 → MayClear trees.Range (begun s) book number Clear reply.Ok
+begun_clear s book number ready is some = record {
+  range = refl;
+  flying = refl;
+  before = refl;
+  in_flight = is;
+  none_buried = ready.none_buried;
+  live = ready.live;
+  booked =
+      subst (IsBookOf (begun s) book) (sym is) (record { sound = ready.booked.sound; rows = ready.booked.rows; out = ready.booked.out; reached = ready.booked.reached; spare = ready.booked.spare; stamps = ready.booked.stamps });
+  lawful = record { of_kind = record { told = ready.lawful.of_kind.told; width = ready.lawful.of_kind.width }; words = ready.lawful.words };
+  some = some;
+  answer = refl;
+}
+
+pub may_clear : (s s' : Sheet) (book : Book) (number : ℕ) → s' ≡ begun s → number ≡ s.ended + 1 → IsBetweenCalls s book → s.tree.root ≢ 0 → MayClear trees.Range s' book number Clear reply.Ok
+may_clear s s' book number begins is ready some = subst (λ (x : Sheet). MayClear trees.Range x book number Clear reply.Ok) (sym begins) (begun_clear s book number ready is some)

@@ -6,7 +6,6 @@ use Rattle.mt_base.specs.declared.ranges.Range.{Range}
 use Rattle.mt_base.specs.declared.calls.Call.{Call}
 use Rattle.mt_base.specs.declared.replies.Reply.{Reply}
 use Rattle.mt_base.specs.declared.widths.Width.{Width}
-use Rattle.mt_base.specs.Call.{acted}
 use Rattle.mt_base.specs.Width.{greatest}
 use Rattle.mt_free.specs.Book.{Book}
 use Rattle.mt_rows.specs.declared.rows.Place.TheVariants.{Root}
@@ -19,7 +18,7 @@ use Rattle.mt_path.proofs.Empty.{empty_together}
 use Rattle.mt_path.proofs.Places.{at_within}
 use Rattle.mt_path.proofs.TreePaths as paths
 use Rattle.mt_splice.specs.declared.writes.NewRow.{NewRow}
-use Rattle.mt_splice.specs.Work.{Start, Work, rows_at, Holds}
+use Rattle.mt_splice.specs.Work.{Start, rows_at, Holds}
 use Rattle.mt_splice.specs.Splice.{MayClear, IsSpliced}
 use Rattle.mt_splice.specs.Climbs.{begin_of, end_of}
 use Rattle.mt_splice.specs.Replacing.{MayEndEmpty}

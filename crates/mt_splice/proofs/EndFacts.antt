@@ -11,7 +11,7 @@ use Rattle.mt_base.specs.declared.replies.Reply.{Reply}
 use Rattle.mt_base.specs.declared.widths.Width.{Width}
 use Rattle.mt_base.specs.Call.{acted}
 use Rattle.mt_base.specs.Width.{columns}
-use Rattle.mt_layout.specs.Rows.{row_in}
+use Rattle.mt_layout.specs.Rows.{row_in, dead_mark}
 use Rattle.mt_free.specs.Book.{Book, Held, IsOut, held_rows}
 use Rattle.mt_rows.specs.declared.rows.Life.{Life}
 use Rattle.mt_rows.specs.declared.rows.Life.TheVariants.{New, Draft, Live, Dead}
@@ -40,7 +40,7 @@ use Rattle.mt_splice.proofs.EndPublish as ends
 pub life_if_reached : (s : Sheet) (t : Tree) (row : ℕ) → is_reached t row ≡ true → life_after s t row ≡ Live
 life_if_reached s t row is = ap (λ (c : Bool). if c then Live else (if is_buried s row then Dead (s.ended + 1) else life_of s row)) is
 
-life_if_buried : (s : Sheet) (t : Tree) (row : ℕ) → is_reached t row ≡ false → is_buried s row ≡ true → life_after s t row ≡ Dead (s.ended + 1)
+pub life_if_buried : (s : Sheet) (t : Tree) (row : ℕ) → is_reached t row ≡ false → is_buried s row ≡ true → life_after s t row ≡ Dead (s.ended + 1)
 life_if_buried s t row not is =
     ap (λ (c : Bool). if c then Live else (if is_buried s row then Dead (s.ended + 1) else life_of s row)) not
     ∙ ap (λ (c : Bool). if c then Dead (s.ended + 1) else life_of s row) is
@@ -409,8 +409,8 @@ module _ (f : ends.Finish) (s' : Sheet) (o : Outcome f s') where
       ∙ (ends.progress f).kept row col (not_taken_of row old) above within)
 
   -- all is done but for the parent words
-  pub spliced : HasParents (tree_as b.kind s'.rows s'.tree) → IsSpliced b.kind b.sheet s' b.book book b.number f.call f.reply f.place
-  spliced parents = record {
+  pub spliced : HasParents (tree_as b.kind s'.rows s'.tree) → ((row : ℕ) → IsReached b.sheet.tree row → is_reached s'.tree row ≡ false → word_at s' row 0 ≡ dead_mark row) → IsSpliced b.kind b.sheet s' b.book book b.number f.call f.reply f.place
+  spliced parents marked = record {
     rest = o.rest;
     tree = tree;
     parents = parents;
@@ -420,6 +420,7 @@ module _ (f : ends.Finish) (s' : Sheet) (o : Outcome f s') where
     none_buried = none_buried;
     live = live;
     dead = dead;
+    marked = marked;
     others = others;
     moved = moved;
     booked = booked;

@@ -1,19 +1,24 @@
 -- From a replacement that is written and buried to one that is done.
-use Rattle.std.proofs.Common.{◌≡◌, ℕ, suc, inl, ◌≤◌, List, Option, Some, None, refl, sym, ap, subst, arith}
+use Rattle.std.proofs.Common.{◌≡◌, ◌≢◌, ℕ, suc, inl, ◌+◌, ◌<◌, ◌≤◌, List, Option, Some, None, true, refl, sym, ap, ◌∙◌, subst, arith}
+use Rattle.std.specs.Prelude.{slice_index_or}
 use Rattle.mt_base.specs.declared.calls.Call.{Call}
 use Rattle.mt_base.specs.declared.replies.Reply.{Reply}
 use Rattle.mt_layout.specs.declared.names.RowKind.TheVariants.{Inner}
-use Rattle.mt_layout.specs.Rows.{row_in}
+use Rattle.mt_layout.specs.Rows.{row_in, dead_mark}
+use Rattle.mt_rows.specs.declared.rows.Life.{Life}
+use Rattle.mt_rows.specs.declared.rows.Life.TheVariants.{New, Live, Dead}
 use Rattle.mt_rows.specs.declared.rows.Place.{Place}
 use Rattle.mt_rows.specs.declared.rows.Place.TheVariants.{Root, Slot}
+use Rattle.mt_rows.specs.Spans.{column}
 use Rattle.mt_rows.specs.Levels.{is_row_of}
 use Rattle.mt_rows.specs.Laws as laws
-use Rattle.mt_rows.specs.Sheet.{Sheet}
-use Rattle.mt_rows.specs.Publish.{tree_as, MayPublish, Published}
+use Rattle.mt_rows.specs.Sheet.{Sheet, life_of, word_at}
+use Rattle.mt_rows.specs.Publish.{tree_as, is_reached, MayPublish, Published}
 use Rattle.mt_rows.proofs.Reached as reached
 use Rattle.mt_splice.specs.declared.writes.NewRow.{NewRow}
 use Rattle.mt_splice.specs.Seen.{passing}
 use Rattle.mt_splice.specs.Work.{now}
+use Rattle.mt_splice.specs.Writes.{child_row}
 use Rattle.mt_splice.specs.Progress.{row_seen}
 use Rattle.mt_splice.specs.Splice.{HasParents, IsSpliced}
 use Rattle.mt_splice.specs.Ends.{StandsAs, count_in, IsEndPlace, End, MayEnd, MayTendRows, AreRowsTended, MayTendTopAt, IsTopTendedAt}
@@ -21,9 +26,9 @@ use Rattle.mt_splice.proofs.EndHoles.{at_on_level}
 use Rattle.mt_splice.proofs.EndLists.{seen_some}
 use Rattle.mt_splice.proofs.EndMade.{made_seen}
 use Rattle.mt_splice.proofs.EndAfter.{outcome}
-use Rattle.mt_splice.proofs.EndFacts.{spliced}
-use Rattle.mt_splice.proofs.EndTending.{only_more, top_only, top_still}
-use Rattle.mt_splice.proofs.EndParents.{may_tend_some, may_tend_place, has_parents}
+use Rattle.mt_splice.proofs.EndFacts.{life_if_buried, spliced}
+use Rattle.mt_splice.proofs.EndTending.{only_more, top_only, top_kept, top_still}
+use Rattle.mt_splice.proofs.EndParents.{parent_stays, may_tend_some, may_tend_place, has_parents}
 use Rattle.mt_splice.proofs.EndPublish as ends
 
 abbrev finish : (e : End) (s : Sheet) (made : List NewRow) (place : Place) (word : ℕ) (call : Call) (reply : Reply) → MayEnd e s made place word call reply → ends.Finish
@@ -87,6 +92,35 @@ parents_by : (f : ends.Finish) (s₁ s₂ s₃ : Sheet) (new : Option ℕ) → f
 parents_by f s₁ s₂ s₃ None is done tended top stands = inl stands
 parents_by f s₁ s₂ s₃ (Some h) is done tended top stands = has_parents f h is s₁ done s₂ s₃ tended top stands
 
+-- a row that is gone keeps its dead mark, since only live rows are tended
+module _ (f : ends.Finish) (s₁ s₂ s₃ : Sheet) (done : Published f.sheet s₁ f.place f.word f.call f.reply) (may : MayTendRows s₁ Inner f.made) (tended : AreRowsTended s₁ s₂ Inner f.made) (may_top : MayTendTopAt s₂ f.place f.word)
+    (top : IsTopTendedAt s₂ s₃ f.place f.word) where
+  dead_now : (row : ℕ) → is_reached f.end.before.sheet.tree row ≡ true → ends.new_count f row ≡ 0 → life_of s₁ row ≡ Dead (f.sheet.ended + 1)
+  dead_now row was none =
+      let some = ends.was_reached f row was in
+      let number = ends.was_number f row some in
+      done.lives row number.0 (subst (λ (n : ℕ). row < 16 + n) (sym (ends.rows_same f)) number.1)
+      ∙ life_if_buried f.sheet (ends.published f) row (ends.unreached_later f row none) ((ends.progress f).buried row number.0 number.1 ∙ ends.some_gone f row (ends.was_gone f row some none))
+
+  not_live : (row child : ℕ) → is_reached f.end.before.sheet.tree row ≡ true → ends.new_count f row ≡ 0 → life_of s₁ child ≡ Live → child ≢ row
+  not_live row child was none live same =
+      let both : Live ≡ Dead (f.sheet.ended + 1) = sym live ∙ (ap (life_of s₁) same ∙ dead_now row was none) in
+      absurd (cc)
+
+  top_other : (place : Place) → MayTendTopAt s₂ place f.word → (row : ℕ) → is_reached f.end.before.sheet.tree row ≡ true → ends.new_count f row ≡ 0 → (r c : ℕ) → place ≡ Slot r c → row ≢ row_in f.word
+  top_other Root at row was none r c is = absurd (cc)
+  top_other (Slot r' c') at row was none r c is =
+      let lives : s₂.lives ≡ s₁.lives = ap (λ (x : Sheet). x.lives) tended.only.rest in
+      λ same. not_live row (row_in f.word) was none (ap (λ (l : List Life). slice_index_or l (row_in f.word) New) (sym lives) ∙ at.live) (sym same)
+
+  marked_end : (row : ℕ) → is_reached f.end.before.sheet.tree row ≡ true → ends.new_count f row ≡ 0 → word_at s₃ row 0 ≡ dead_mark row
+  marked_end row was none =
+      let some = ends.was_reached f row was in
+      top_kept s₂ s₃ f.place f.word row top (top_other f.place may_top row was none)
+      ∙ (tended.others row (λ i n slot at below. not_live row (child_row s₁.tree.table Inner n.row slot) was none ((may.each i n at).each slot below).live)
+      ∙ (ap (λ (x : Sheet). column x.tree.table row 0) done.rest
+      ∙ (parent_stays f row ∙ (ends.progress f).marks row was (ends.some_gone f row (ends.was_gone f row some none)))))
+
 pub spliced_end : (e : End) (s s₁ s₂ s₃ : Sheet) (made : List NewRow) (place : Place) (word : ℕ) (call : Call) (reply : Reply) → MayEnd e s made place word call reply → Published s s₁ place word call reply
     → AreRowsTended s₁ s₂ Inner made → IsTopTendedAt s₂ s₃ place word → IsSpliced e.before.kind e.before.sheet s₃ e.before.book e.book e.before.number call reply place
 spliced_end e s s₁ s₂ s₃ made place word call reply may done tended top =
@@ -96,3 +130,6 @@ spliced_end e s s₁ s₂ s₃ made place word call reply may done tended top =
     let rows : e.before.sheet.rows ≡ s₃.rows = sym (ap (λ (x : Sheet). x.rows) o.rest) in
     spliced (finish e s made place word call reply may) s₃ o
     (parents_by (finish e s made place word call reply may) s₁ s₂ s₃ e.new refl done tended top (subst (λ (n : ℕ). StandsAs (tree_as e.before.kind n s₃.tree) e.new) rows o.stands))
+    (λ row was not.
+    marked_end f s₁ s₂ s₃ done (may_tend_rows e s s₁ made place word call reply may done) tended (may_tend_top_now e s s₁ s₂ made place word call reply may done tended) top
+    row was (ends.later_unreached f row (sym (o.reached row) ∙ not)))

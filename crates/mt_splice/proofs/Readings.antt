@@ -8,6 +8,7 @@ use Rattle.mt_layout.specs.declared.names.RowKind.{RowKind}
 use Rattle.mt_layout.specs.Columns.{item_at, items_from, pivot_column}
 use Rattle.mt_rows.specs.Spans.{Table, base_of, slots_of, gaps_of}
 use Rattle.mt_rows.specs.Sheet.{Sheet, OnlyReads}
+use Rattle.mt_splice.specs.Runs.{run_room}
 
 abbrev pub unread : ℕ → ℕ → List ℕ → ℕ → ℕ → ℕ → ℕ → List Item
 unread slots gaps w base max to i = take (to - i) (items_from slots gaps w base max (slots - i) i)
@@ -70,7 +71,7 @@ unread_in t kind row max to i = unread (slots_of t.width kind) (gaps_of t.width 
 pub record AreReadUpTo (s s' : Sheet) (kind : RowKind) (row max from to slot : ℕ) (run run' : List Item) : Type 0 where
   pub rest : OnlyReads s s'
   pub items : run' ++ unread_in s'.tree.table kind row max to slot ≡ run ++ unread_in s.tree.table kind row max to from
-  pub room : length run' + (to - slot) ≤ 72
+  pub room : length run' + (to - slot) ≤ run_room
 
 module _ (s t u : Sheet) (kind : RowKind) (row max from to slot : ℕ) (run before after : List Item) (item : Item) (done : AreReadUpTo s t kind row max from to slot run before) (reads : OnlyReads t u)
     (is : item ≡ item_at (slots_of t.tree.table.width kind) (gaps_of t.tree.table.width kind) t.tree.table.words (base_of t.tree.table row) slot item.last)

@@ -95,6 +95,7 @@ nothing_done kind s book number whole none_buried = record {
   kept = λ row c untaken above within. refl;
   parents = λ row untaken kept. refl;
   new_parents = λ row taken. absurd (not_both false taken refl);
+  marks = λ row reached gone. absurd (not_both false gone refl);
 }
 
 -- the end of what begins with the empty tree

@@ -24,7 +24,7 @@ use Rattle.mt_splice.specs.Work.{Start, Work, table_with, Keeps}
 use Rattle.mt_splice.specs.Writes.{IsRowWritten, no_parent}
 use Rattle.mt_splice.specs.Splice.{IsSpare}
 use Rattle.mt_splice.specs.Progress.{Before, IsBefore, IsProgress, row_seen, is_taken, is_gone, stamped}
-use Rattle.mt_splice.proofs.Drafts.{equal_or_not, other_row, other_column}
+use Rattle.mt_splice.proofs.Drafts.{equal_or_not, other_row, other_column, same_column}
 use Rattle.mt_splice.proofs.StepSeen.{was_seen, not_both, seen_here, seen_other, seen_before, seen_not_here, seen_more, seen_last, seen_not_last, seen_front, seen_front_not_last, listed_seen, not_listed}
 
 -- ---- what is true of numbers, lists and lives
@@ -202,6 +202,12 @@ module _ (b : Before) (start : Start) (s s' : Sheet) (book book' : Book) (w : Wo
       (λ (other : row_seen seen ≢ row). column_other row 0 other (some_columns s.tree.table.width) ∙ progress.new_parents row (sym (seen_other seen w.taken row other) ∙ taken))
       (equal_or_not (row_seen seen) row)
 
+  -- a row that was reached is not the one that is written
+  mark_stays : (row : ℕ) → is_reached b.sheet.tree row ≡ true → is_gone w row ≡ true → column s'.tree.table row 0 ≡ dead_mark row
+  mark_stays row reached gone =
+      column_other row 0 (λ same. not_both (is_reached b.sheet.tree row) reached (ap (is_reached b.sheet.tree) (sym same ∙ seen_row) ∙ free_unreached b start s book w before progress written.row row_here)) (some_columns s.tree.table.width)
+      ∙ progress.marks row reached gone
+
   pub progress_taken : IsProgress b s' book' then_taken
   progress_taken = record {
     rest = ap (λ (k : Sheet). record k { tree = b.sheet.tree; lives = b.sheet.lives; buried = b.sheet.buried; reads = b.sheet.reads }) written.drafted.rest ∙ progress.rest;
@@ -220,6 +226,7 @@ module _ (b : Before) (start : Start) (s s' : Sheet) (book book' : Book) (w : Wo
     parents = λ row untaken stays.
         column_other row 0 (seen_not_here seen w.taken row untaken) (some_columns s.tree.table.width) ∙ progress.parents row (seen_before seen w.taken row untaken) stays;
     new_parents = parent_new;
+    marks = mark_stays;
   }
 
   pub keeps_taken : Keeps start w then_taken
@@ -298,6 +305,14 @@ module _ (b : Before) (start : Start) (s : Sheet) (book : Book) (w : Work) (seen
       (λ (other : row ≢ r). get_or-set_other s.buried row r true false (λ same. other (sym same)) ∙ (progress.buried r low high ∙ sym (seen_not_last w.gone seen r other)))
       (equal_or_not row r)
 
+  marked_then : (r : ℕ) → is_reached b.sheet.tree r ≡ true → is_gone then_gone r ≡ true → column sheet_buried.tree.table r 0 ≡ dead_mark r
+  marked_then r was gone =
+      ⊎_elim
+      (λ (same : row ≡ r). subst (λ (k : ℕ). column sheet_buried.tree.table k 0 ≡ dead_mark k) same
+      (same_column s.tree.table.width s.tree.table.words row (16 + s.rows) 0 (dead_mark row) (some_columns s.tree.table.width) at_row.1 progress.whole.words))
+      (λ (other : row ≢ r). parent_stays r (λ same. other (sym same)) ∙ progress.marks r was (sym (seen_not_last w.gone seen r other) ∙ gone))
+      (equal_or_not row r)
+
   pub progress_gone : IsProgress b sheet_buried book_retired then_gone
   progress_gone = record {
     rest = progress.rest;
@@ -322,6 +337,7 @@ module _ (b : Before) (start : Start) (s : Sheet) (book : Book) (w : Work) (seen
     parents = λ r untaken stay. parent_stays r (λ same. seen_front_not_last w.gone seen r stay (sym same)) ∙ progress.parents r untaken (seen_front w.gone seen r stay);
     new_parents = λ r taken.
         parent_stays r (λ same. not_both (is_taken w r) taken (ap (is_taken w) same ∙ reached_untaken b start s book w before progress row reached)) ∙ progress.new_parents r taken;
+    marks = marked_then;
   }
 
   pub keeps_gone : Keeps start w then_gone
@@ -345,6 +361,7 @@ progress_read b s book w reads progress = record {
   kept = progress.kept;
   parents = progress.parents;
   new_parents = progress.new_parents;
+  marks = progress.marks;
 }
 
 pub progress_reads : (b : Before) (s s' : Sheet) (book : Book) (w : Work) → OnlyReads s s' → IsProgress b s book w → IsProgress b s' book w

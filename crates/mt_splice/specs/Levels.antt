@@ -2,6 +2,7 @@
 -- Source: this project's own; the kernel's mab_mas_cp writes a big node's items into one, two or three nodes.
 use Rattle.std.specs.Prelude.{◌≡◌, ℕ, ◌+◌, ◌<◌, ◌≤◌, Bool, true, false, List, [], ◌∷◌, length}
 use Rattle.mt_base.specs.declared.kinds.Kind.TheVariants as trees
+use Rattle.mt_base.specs.declared.widths.Width.{Width}
 use Rattle.mt_layout.specs.declared.items.Item.{Item}
 use Rattle.mt_layout.specs.declared.names.RowKind.{RowKind}
 use Rattle.mt_layout.specs.declared.names.RowKind.TheVariants.{Leaf, Inner, Gapped}
@@ -11,9 +12,10 @@ use Rattle.mt_layout.specs.Spans.{spans_from}
 use Rattle.mt_free.specs.Book.{Book}
 use Rattle.mt_rows.specs.Spans.{slots_of}
 use Rattle.mt_rows.specs.Levels.{tally}
-use Rattle.mt_rows.specs.Laws.{kind_at}
+use Rattle.mt_rows.specs.Laws.{kind_at, least_of_kind}
 use Rattle.mt_rows.specs.Sheet.{Sheet}
 use Rattle.mt_rows.specs.Publish.{AreOfKind}
+use Rattle.mt_leaf.specs.Cuts.{IsCut}
 use Rattle.mt_path.specs.declared.paths.PathStep.{PathStep}
 use Rattle.mt_splice.specs.declared.writes.NewRow.{NewRow}
 use Rattle.mt_splice.specs.Seen.{passing}
@@ -69,6 +71,15 @@ pub record AreRowsWritten (b : Before) (start : Start) (s' : Sheet) (book book' 
   pub made : made' ≡ new_rows_of s'.tree.table w'.taken
   pub free : length book.free ≡ length book'.free + length new
   pub few : length new ≤ 3
+
+-- the items of a level stand in as few rows as they can be cut into
+pub record AreFewestRows (width : Width) (kind : RowKind) (items new : List Item) : Type 0 where
+  pub leaf : Bool
+  pub is_leaf : leaf ≡ true → kind ≡ Leaf
+  pub of_leaf : kind ≡ Leaf → leaf ≡ true
+  pub ends : List ℕ
+  pub cut : IsCut leaf (least_of_kind kind) (slots_of width kind) items ends
+  pub count : length new ≡ length ends
 
 -- ---- the rows that are replaced
 

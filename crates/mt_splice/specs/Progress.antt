@@ -3,7 +3,7 @@
 use Rattle.std.specs.Prelude.{◌≡◌, ℕ, zero, suc, ◌+◌, ◌<◌, ◌≤◌, ◌||◌, Bool, true, false, List, [], ◌∷◌, ◌++◌, length, map, nat_lt, if◌then◌else◌}
 use Rattle.mt_base.specs.declared.kinds.Kind.{Kind}
 use Rattle.mt_base.specs.Width.{columns}
-use Rattle.mt_layout.specs.Rows.{row_in}
+use Rattle.mt_layout.specs.Rows.{row_in, dead_mark}
 use Rattle.mt_free.specs.Book.{Book, Held}
 use Rattle.mt_rows.specs.declared.rows.Life.TheVariants.{Draft}
 use Rattle.mt_rows.specs.Spans.{Table, column, spans_in}
@@ -64,6 +64,7 @@ pub record IsProgress (b : Before) (s : Sheet) (book : Book) (w : Work) : Type 0
   pub kept : (row c : ℕ) → is_taken w row ≡ false → 0 < c → c < columns b.sheet.tree.table.width → column s.tree.table row c ≡ column b.sheet.tree.table row c
   pub parents : (row : ℕ) → is_taken w row ≡ false → is_gone w row ≡ false → column s.tree.table row 0 ≡ column b.sheet.tree.table row 0
   pub new_parents : (row : ℕ) → is_taken w row ≡ true → column s.tree.table row 0 ≡ no_parent
+  pub marks : (row : ℕ) → is_reached b.sheet.tree row ≡ true → is_gone w row ≡ true → column s.tree.table row 0 ≡ dead_mark row
 
 -- ---- inner rows that were written
 

@@ -13,6 +13,10 @@ use Rattle.mt_rows.specs.Laws.{Tree, top_of, kind_at, least_of}
 use Rattle.mt_leaf.specs.Edits.{ends_with_hole}
 use Rattle.mt_splice.specs.Climbs.{Gapless, MayBeIn}
 
+-- how many items are gathered at once: the room of a `Run`
+abbrev pub run_room : ℕ
+run_room = 72
+
 -- The most items that are to stand in the rows of a level: those of two full rows but one of each, and three in the place
 -- of these two. In leaves the three are what a store writes and what it leaves in front and behind; in inner rows they are
 -- the new rows of the level below.

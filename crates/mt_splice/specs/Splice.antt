@@ -14,7 +14,7 @@ use Rattle.mt_base.specs.Width.{columns, greatest}
 use Rattle.mt_layout.specs.declared.items.Item.{Item}
 use Rattle.mt_layout.specs.declared.spans.Span.{Span}
 use Rattle.mt_layout.specs.declared.names.RowKind.TheVariants.{Leaf}
-use Rattle.mt_layout.specs.Rows.{row_in}
+use Rattle.mt_layout.specs.Rows.{row_in, dead_mark}
 use Rattle.mt_layout.specs.Spans.{spans_from}
 use Rattle.mt_free.specs.Book.{Book, Held, IsBook, IsOut}
 use Rattle.mt_rows.specs.declared.rows.Life.{Life}
@@ -158,6 +158,7 @@ pub record IsSpliced (kind : Kind) (s s' : Sheet) (book book' : Book) (number : 
   pub none_buried : NoneBuried s'
   pub live : LiveAreReached s'
   pub dead : (row : ℕ) → IsReached s.tree row → is_reached s'.tree row ≡ false → life_of s' row ≡ Dead number
+  pub marked : (row : ℕ) → IsReached s.tree row → is_reached s'.tree row ≡ false → word_at s' row 0 ≡ dead_mark row
   pub others : (row : ℕ) → 16 ≤ row → row < 16 + s.rows → is_reached s.tree row ≡ false → is_reached s'.tree row ≡ false → life_of s' row ≡ life_of s row
   pub moved : IsBooked s s' book book' number (3 * height_in s.tree.table s.tree.root + 1)
   pub booked : IsBookOf s' book' (number + 1)

@@ -1,6 +1,6 @@
 //! What is to stand in the rows of a level, and the row beside them.
 
-ghost use Rattle.std.specs.Prelude.{◌≡◌, ◌<◌, ◌≤◌, ◌+◌, ◌-◌, ◌||◌, ℕ, length};
+ghost use Rattle.std.specs.Prelude.{◌≡◌, ◌<◌, ◌≤◌, ◌+◌, ◌-◌, ◌||◌, ℕ, false, length};
 ghost use Rattle.mt_rows.specs.Spans.{slots_of};
 ghost use Rattle.mt_rows.specs.Sheet.{OnlyReads};
 ghost use Rattle.mt_path.specs.Paths.{step_at};
@@ -8,6 +8,7 @@ ghost use Rattle.mt_splice.specs.Writes.{items_of_row};
 ghost use Rattle.mt_splice.specs.Work.{Start, Work};
 ghost use Rattle.mt_splice.specs.TakingIn.{is_hole_at, short_run, holed_run, beside_items, MayWiden, IsWidened};
 ghost use Rattle.mt_rows.specs.Laws.{least_of_kind};
+ghost use Rattle.mt_splice.specs.Runs.{run_room};
 
 use crate::gathers::push_all;
 use crate::reads::push_items;
@@ -79,7 +80,7 @@ fn row_items<R: Rows>(rows: &mut R, kind: RowKind, step: &PathStep) -> Run
 
 /// Appends the items of a row behind others; in leaves two holes that meet are one.
 fn append(run: &mut Run, kind: RowKind, items: &Run)
-    requires { length run.old.items + length items.now.items ≤ 72 }
+    requires { length run.old.items + length items.now.items ≤ run_room }
     ensures { run.new.items ≡ beside_items kind run.old.items items.now.items }
 {
     match kind {
@@ -98,7 +99,7 @@ fn take_right<R: Rows>(
 ) -> Region
     requires depth { depth < length right.items }
     requires row { let step = step_at right.items depth in (16 ≤ step.row) × (step.row < 16 + (R.sheet rows.old).rows) }
-    requires room { length region.run.items + slots_of (R.sheet rows.old).tree.table.width kind ≤ 72 }
+    requires room { length region.run.items + slots_of (R.sheet rows.old).tree.table.width kind ≤ run_room }
     ensures left { result.left ≡ region.left }
     ensures right { result.right ≡ right }
     ensures run { let step = step_at right.items depth in result.run.items ≡ beside_items kind region.run.items (items_of_row (R.sheet rows.old).tree.table kind step.row step.max) }
@@ -118,7 +119,7 @@ fn take_right<R: Rows>(
 fn take_left<R: Rows>(rows: &mut R, region: Region, left: Path, depth: u32, kind: RowKind) -> Region
     requires depth { depth < length left.items }
     requires row { let step = step_at left.items depth in (16 ≤ step.row) × (step.row < 16 + (R.sheet rows.old).rows) }
-    requires room { length region.run.items + slots_of (R.sheet rows.old).tree.table.width kind ≤ 72 }
+    requires room { length region.run.items + slots_of (R.sheet rows.old).tree.table.width kind ≤ run_room }
     ensures left { result.left ≡ left }
     ensures right { result.right ≡ region.right }
     ensures run { let step = step_at left.items depth in result.run.items ≡ beside_items kind (items_of_row (R.sheet rows.old).tree.table kind step.row step.max) region.run.items }
@@ -139,6 +140,7 @@ pub fn widen<R: Rows>(rows: &mut R, region: Region, depth: u32, kind: RowKind) -
     requires level { (start : Start) × (w : Work) × (height : ℕ) × MayWiden start w (R.sheet rows.old) kind region.left.items region.right.items depth height region.run.items }
     ensures level { (start : Start) (w : Work) (height : ℕ) → MayWiden start w (R.sheet rows.old) kind region.left.items region.right.items depth height region.run.items
         → IsWidened start w result.left.items result.right.items depth height result.run.items }
+    ensures as_it_is { (short_run kind region.run.items || holed_run kind region.run.items) ≡ false → result ≡ region }
     ensures rest { OnlyReads (R.sheet rows.old) (R.sheet rows.new) }
 {
     if !wants_row(&region.run, kind) {

@@ -5,6 +5,7 @@ ghost use Rattle.mt_layout.specs.declared.names.RowKind.TheVariants.{Inner};
 ghost use Rattle.mt_rows.specs.Spans.{slots_of};
 ghost use Rattle.mt_rows.specs.Sheet.{OnlyReads};
 ghost use Rattle.mt_splice.specs.Writes.{items_of_row};
+ghost use Rattle.mt_splice.specs.Runs.{run_room};
 
 use crate::reads::push_items;
 use mt_layout::{Item, RowKind, Run};
@@ -13,7 +14,7 @@ use mt_rows::{Rows, slots};
 
 /// Appends items, for which there is room.
 pub fn push_all(run: &mut Run, items: &[Item])
-    requires { length run.old.items + length items.now ≤ 72 }
+    requires { length run.old.items + length items.now ≤ run_room }
     ensures { run.new.items ≡ run.old.items ++ items.now }
 {
     match run.try_extend_from_slice(items) {
@@ -27,7 +28,7 @@ pub fn push_all(run: &mut Run, items: &[Item])
 fn push_behind<R: Rows>(rows: &mut R, step: &PathStep, run: &mut Run)
     requires row { (16 ≤ step.now.row) × (step.now.row < 16 + (R.sheet rows.old).rows) }
     requires slot { step.now.slot + 1 < length (items_of_row (R.sheet rows.old).tree.table Inner step.now.row step.now.max) }
-    requires room { length run.old.items + slots_of (R.sheet rows.old).tree.table.width Inner ≤ 72 }
+    requires room { length run.old.items + slots_of (R.sheet rows.old).tree.table.width Inner ≤ run_room }
     ensures items { run.new.items ≡ run.old.items ++ drop (step.now.slot + 1) (items_of_row (R.sheet rows.old).tree.table Inner step.now.row step.now.max) }
     ensures rest { OnlyReads (R.sheet rows.old) (R.sheet rows.new) }
 {

@@ -7,6 +7,7 @@ ghost use Rattle.mt_layout.specs.declared.names.RowKind.TheVariants.{Leaf};
 ghost use Rattle.mt_rows.specs.Spans.{slots_of};
 ghost use Rattle.mt_rows.specs.Sheet.{OnlyReads};
 ghost use Rattle.mt_splice.specs.Regions.{AreEnds, IsRunOver, leaves_items};
+ghost use Rattle.mt_splice.specs.Runs.{run_room};
 ghost use Rattle.mt_splice.specs.Splice.{last_step, region_of};
 ghost use Rattle.mt_splice.specs.Writes.{items_of_row};
 
@@ -19,7 +20,7 @@ use mt_rows::{Rows, slots};
 /// Appends the items of the leaf that a path ends in.
 fn push_leaf<R: Rows>(rows: &mut R, leaf: PathStep, run: &mut Run)
     requires row { (16 ≤ leaf.row) × (leaf.row < 16 + (R.sheet rows.old).rows) }
-    requires room { length run.old.items + slots_of (R.sheet rows.old).tree.table.width Leaf ≤ 72 }
+    requires room { length run.old.items + slots_of (R.sheet rows.old).tree.table.width Leaf ≤ run_room }
     ensures items { run.new.items ≡ run.old.items ++ items_of_row (R.sheet rows.old).tree.table Leaf leaf.row leaf.max }
     ensures rest { OnlyReads (R.sheet rows.old) (R.sheet rows.new) }
 {

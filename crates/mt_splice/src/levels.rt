@@ -9,7 +9,7 @@ ghost use Rattle.mt_rows.specs.Sheet.{MayBury, after_bury};
 ghost use Rattle.mt_splice.specs.Climbs.{begin_of, end_of};
 ghost use Rattle.mt_splice.specs.Work.{Start, Work};
 ghost use Rattle.mt_splice.specs.Progress.{Before};
-ghost use Rattle.mt_splice.specs.Levels.{MayWriteRow, IsOneWritten, noted, MayWriteRows, AreRowsWritten, MayBuryRows, AreRowsBuried, MayRewriteLevel, IsLevelRewritten};
+ghost use Rattle.mt_splice.specs.Levels.{MayWriteRow, IsOneWritten, noted, MayWriteRows, AreRowsWritten, AreFewestRows, MayBuryRows, AreRowsBuried, MayRewriteLevel, IsLevelRewritten};
 
 use crate::beside::least_items;
 use crate::writes::{NewRow, write_row};
@@ -83,6 +83,7 @@ pub fn write_rows<R: Rows>(
     requires rows { (b : Before) × (start : Start) × (w : Work) × (height : ℕ) × (lo : ℕ) × (hi : ℕ) × MayWriteRows b start (R.sheet rows.old) book.old w kind height lo hi run.now.items made.old.items }
     ensures rows { (b : Before) (start : Start) (w : Work) (height lo hi : ℕ) → MayWriteRows b start (R.sheet rows.old) book.old w kind height lo hi run.now.items made.old.items
         → (w' : Work) × AreRowsWritten b start (R.sheet rows.new) book.old book.new w w' height lo run.now.items made.new.items result.items }
+    ensures fewest { AreFewestRows (R.sheet rows.old).tree.table.width kind run.now.items result.items }
     ensures made { length made.new.items ≤ length made.old.items + 3 }
     ensures few { length result.items ≤ 3 }
 {

@@ -4,6 +4,7 @@ ghost use Rattle.std.specs.Prelude.{◌≡◌, ◌≢◌, ◌<◌, ◌≤◌, �
 ghost use Rattle.mt_layout.specs.Columns.{item_at, items_from, pivot_column};
 ghost use Rattle.mt_rows.specs.Spans.{base_of, column, slots_of, gaps_of};
 ghost use Rattle.mt_rows.specs.Sheet.{OnlyReads};
+ghost use Rattle.mt_splice.specs.Runs.{run_room};
 
 use mt_layout::{Item, RowKind, Run};
 use mt_rows::{Rows, slots};
@@ -46,7 +47,7 @@ pub fn push_items<R: Rows>(
 )
     requires first { 16 ≤ row }
     requires last { row < 16 + (R.sheet rows.old).rows }
-    requires room { length run.old.items + (to - from) ≤ 72 }
+    requires room { length run.old.items + (to - from) ≤ run_room }
     ensures items { let t = (R.sheet rows.old).tree.table in run.new.items ≡ run.old.items ++ take (to - from) (items_from (slots_of t.width kind) (gaps_of t.width kind) t.words (base_of t row) max (slots_of t.width kind - from) from) }
     ensures rest { OnlyReads (R.sheet rows.old) (R.sheet rows.new) }
 {

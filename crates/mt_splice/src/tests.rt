@@ -5,7 +5,7 @@ ghost use Rattle.mt_rows.specs.Publish.{map_by};
 ghost use Rattle.mt_rows.specs.Sheet.{IsPlace, OnlyReads};
 ghost use Rattle.mt_splice.specs.Between.{IsBetweenCalls};
 
-use crate::replace_range;
+use crate::{clear, replace_range};
 use mt_base::{Call, Kind, NoMemory, Range, Reply, is_reserved};
 use mt_free::RowBook;
 use mt_list::{ListMap, Ranges};
@@ -82,6 +82,21 @@ fn store(rows: &mut PlainRows, book: &mut RowBook, first: u64, last: u64, entry:
     );
     rows.finish(&call, &Reply::Ok);
     place
+}
+
+/// The emptying of a tree that is not empty, as one call.
+fn empty(rows: &mut PlainRows, book: &mut RowBook)
+    requires ready { IsBetweenCalls rows.old book.old }
+    requires some { rows.old.tree.root ≢ 0 }
+    requires room { rows.old.ended < 2 ^ 62 - 1 }
+    ensures ready { IsBetweenCalls rows.new book.new }
+    ensures ended { rows.new.ended ≡ rows.old.ended + 1 }
+    ensures none_taken { book.new.free ≡ book.old.free }
+    ensures root { rows.new.tree.root ≡ 0 }
+{
+    let number = rows.begin();
+    clear(rows, book, Kind::Range, number, &Call::Clear, &Reply::Ok);
+    rows.finish(&Call::Clear, &Reply::Ok);
 }
 
 /// A tree of nodes with the book of its rows, and a sorted list that plays the same stores.
@@ -161,6 +176,20 @@ impl Tree {
         self.list.act(&Call::Store { first, last, entry })?;
         self.expect_same(rt, alloc, range)?;
         Ok(place)
+    }
+
+    /// Empties the nodes and the list.
+    fn clear(&mut self, rt: &impl Abort, alloc: Global) -> Result<(), NoMemory>
+        requires ready { IsBetweenCalls self.old.rows self.old.book }
+        requires room { self.old.rows.ended < 2 ^ 62 - 1 }
+        ensures ready { IsBetweenCalls self.new.rows self.new.book }
+        ensures ended { self.new.rows.ended ≡ self.old.rows.ended + 1 }
+    {
+        let root = root_of(&mut self.rows);
+        assert!(rt; root != 0);
+        empty(&mut self.rows, &mut self.book);
+        self.list.act(&Call::Clear)?;
+        self.expect_same(rt, alloc, range(0, TOP, 0))
     }
 
     /// Stores each of these ranges.
@@ -375,5 +404,21 @@ fn replaces_rows_of_three_levels(rt: HostRuntime) -> Result<(), Fail> {
         singles(rt.alloc(), 100)?.as_slice(),
         &cases,
     )?;
+    Ok(())
+}
+
+#[test]
+fn empties_whole_trees(rt: HostRuntime) -> Result<(), Fail> {
+    for (count, live) in [(8, 1), (20, 5), (100, 27)] {
+        let ranges = singles(rt.alloc(), count)?;
+        assert!(&rt; ranges.len() < 1000);
+        let mut tree = Tree::new(rt.alloc())?;
+        tree.store_all(&rt, rt.alloc(), ranges.as_slice())?;
+        let (free, held) = (tree.book.free(), tree.book.held());
+        tree.clear(&rt, rt.alloc())?;
+        let after = (tree.book.free(), tree.book.live(), tree.book.held());
+        assert_eq!(&rt; after, (free, 0, held + live));
+        assert_eq!(&rt; tree.height(rt.alloc())?, 0);
+    }
     Ok(())
 }

@@ -1,5 +1,6 @@
-use Rattle.std.proofs.Common.{◌+◌, ◌*◌, ℕ, List, ◌≤◌, rules, length, arith, sym, subst, get_or}
+use Rattle.std.proofs.Common.{◌+◌, ◌*◌, ℕ, List, ◌≤◌, rules, length, arith, sym, ap, subst, get_or}
 use Rattle.mt_leaf.specs.Cuts.{IsCut}
+use Rattle.mt_rows.specs.Spans.{slots_of}
 use Rattle.mt_layout.specs.declared.items.Item.{Item}
 use Rattle.mt_splice.specs.Work.{Start, Work}
 use Rattle.mt_splice.specs.Progress.{Before}
@@ -79,3 +80,21 @@ returns-clause-rows g c =
     so_far_all (g.R.Rows.sheet c.args.rows.now) (g.R.Rows.sheet c.loop-end.rows) c.args.book.now c.loop-end.book c.args.kind c.slots-most.result c.args.run.now.items c.args.made.now.items c.loop-end.made.items
     c.loop-end.written.items c.loop-end.from c.as_slice-end-items.result.now c.loop-end.end-index c.loop-end.invariant c.loop-end-test.false
     (let index = c.loop-end.auto.end-index-end in omega arith)
+
+pub returns-clause-fewest : goal.returns-clause-fewest
+returns-clause-fewest g c = record {
+  leaf = c.is_leaf-leaf.result;
+  is_leaf = c.is_leaf-leaf.ensures.leaf;
+  of_leaf = c.is_leaf-leaf.ensures.other;
+  ends = c.cut-ends.result.items;
+  cut = subst (λ (n : ℕ). IsCut c.is_leaf-leaf.result n (slots_of (g.R.Rows.sheet c.args.rows.now).tree.table.width c.args.kind) c.args.run.now.items c.cut-ends.result.items) c.least_items.ensures
+      (subst (λ (n : ℕ). IsCut c.is_leaf-leaf.result c.least_items.result n c.args.run.now.items c.cut-ends.result.items)
+      (most_as (g.R.Rows.sheet c.args.rows.now) c.args.kind c.slots-most.result c.width.result c.slots-most.ensures c.width.ensures) c.cut-ends.ensures);
+  count =
+      let far = c.loop-end.invariant in
+      let counted = far.count in
+      let all = c.loop-end-test.false in
+      let index = c.loop-end.auto.end-index-end in
+      let same = ap length c.as_slice-end-items.ensures.value in
+      omega (arith, counted, all, index, same);
+}

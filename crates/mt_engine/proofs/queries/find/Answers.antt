@@ -1,0 +1,15 @@
+use Rattle.std.proofs.Common.{◌∙◌}
+use Rattle.mt_engine.proofs.SlotQueries.{handle_of, handle_kept, find_found}
+use Rattle.mt_engine.proofs.queries.find.Goals as goal
+
+pub first_from-requires-clause-here : goal.first_from-requires-clause-here
+first_from-requires-clause-here g c =
+    let ok = c.in_ok-here in
+    handle_kept (g.R.Rows.sheet c.args.rows.now) (g.R.Rows.sheet c.handle_at.new.rows) c.args.index _ ok.ensures.rest (handle_of _ _ _ c.requires.index ok.ensures.none ok.ensures.some)
+
+pub returns-clause-answer : goal.returns-clause-answer
+returns-clause-answer g c =
+    let ok = c.in_ok-here in
+    c.up_to.ensures
+    ∙ find_found (g.R.Rows.sheet c.args.rows.now) (g.R.Rows.sheet c.handle_at.new.rows) c.requires.tree c.args.index _ (handle_of _ _ _ c.requires.index ok.ensures.none ok.ensures.some) ok.ensures.rest
+    c.args.max c.first_from.result c.if-index-max.false c.first_from.ensures.range
