@@ -1,9 +1,12 @@
+pub mod Answering
 pub mod HandleSteps
 pub mod LeafSlots
 pub mod LeafSteps
 pub mod Leafwise
+pub mod Leaving
 pub mod MapPlaces
 pub mod MapQueries
+pub mod Needs
 pub mod SlotQueries
 pub mod Slots
 pub mod Slotwise
