@@ -1,5 +1,6 @@
 pub mod Answering
 pub mod HandleSteps
+pub mod InCalls
 pub mod LeafSlots
 pub mod LeafSteps
 pub mod Leafwise
