@@ -19,7 +19,7 @@ use Rattle.mt_rows.specs.Publish.{MayFinish, tree_as, is_reached, finished, map_
 use Rattle.mt_splice.specs.Splice.{IsBookOf, IsSpliced}
 use Rattle.mt_splice.specs.Between.{IsBetweenCalls}
 use Rattle.mt_splice.proofs.BetweenCalls.{low_tree, ready_again}
-use Rattle.mt_engine.specs.Engine.{IsEngineState, IsIdle, HadRoom, IsDone, IsAnswered}
+use Rattle.mt_engine.specs.Engine.{IsEngineState, IsIdle, HadRoom, IsAnswered}
 
 -- ---- held rows
 

@@ -1,5 +1,5 @@
 -- What a call has come to, by the way in which it was carried out.
-use Rattle.std.proofs.Common.{◌≡◌, ◌≢◌, ℕ, ◌+◌, ◌*◌, ◌≤◌, List, length, true, refl, sym, ap, ◌∙◌, subst, inl, inr, arith}
+use Rattle.std.proofs.Common.{◌≡◌, ℕ, ◌+◌, ◌*◌, ◌≤◌, List, length, refl, sym, ap, ◌∙◌, subst, inl}
 use Rattle.mt_base.specs.declared.ranges.Range.{Range}
 use Rattle.mt_base.specs.declared.calls.Call.{Call}
 use Rattle.mt_base.specs.declared.calls.Call.TheVariants.{Clear}
@@ -7,7 +7,6 @@ use Rattle.mt_base.specs.declared.kinds.Kind.TheVariants as trees
 use Rattle.mt_base.specs.declared.replies.Reply.{Reply}
 use Rattle.mt_base.specs.declared.replies.Reply.TheVariants as reply
 use Rattle.mt_base.specs.Call.{acted}
-use Rattle.mt_base.specs.Nodes.{NeedsRows}
 use Rattle.mt_base.specs.Width.{greatest}
 use Rattle.mt_free.specs.Book.{Book, after_reclaim}
 use Rattle.mt_rows.specs.Trees.{height_in}
@@ -17,7 +16,7 @@ use Rattle.mt_rows.specs.declared.rows.Place.TheVariants.{Root}
 use Rattle.mt_rows.specs.Sheet.{Tree, Sheet, OnlyReads}
 use Rattle.mt_rows.specs.Publish.{map_by, with_record}
 use Rattle.mt_splice.specs.Splice.{IsStoreBy, IsSpliced}
-use Rattle.mt_engine.specs.Engine.{IsInCall, IsAnswered, IsDone, HadRoom, WasScanned}
+use Rattle.mt_engine.specs.Engine.{IsInCall, IsAnswered, HadRoom, WasScanned}
 use Rattle.mt_engine.specs.Rooms.{IsScanned, HasRoom}
 use Rattle.mt_engine.proofs.AfterSplice.{acts_by, may_finish, idle_after, told, rest_is, answered_by}
 
