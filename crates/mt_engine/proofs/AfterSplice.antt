@@ -92,16 +92,16 @@ module _ (s s' : Sheet) (book book' : Book) (number : ℕ) (call : Call) (reply 
   idle_after =
       let ready : IsBetweenCalls done book' = ready_again s s' done book book' number call reply place same_end spliced refl in
       record {
-    idle = refl;
-    state = record {
-      lawful = ready.lawful;
-      live = ready.live;
-      none_buried = ready.none_buried;
-      booked = ready.booked;
-      held = held_after;
-      grown = grown_after;
-    };
-  }
+        idle = refl;
+        state = record {
+          lawful = ready.lawful;
+          live = ready.live;
+          none_buried = ready.none_buried;
+          booked = ready.booked;
+          held = held_after;
+          grown = grown_after;
+        };
+      }
 
   published_is : s'.published ≡ true
   published_is = ap (λ (x : Sheet). x.published) spliced.rest

@@ -60,11 +60,11 @@ module _ (s s₁ s₂ s' : Sheet) (book book₂ book' : Book) (number : ℕ) (ca
       let scan_is : s'.scan ≡ s₂.scan = ap (λ (x : Sheet). x.scan) spliced.rest in
       let freed : book₂ ≡ after_reclaim book s'.scan.least = scanned.freed ∙ ap (λ (x : Scan). after_reclaim book x.least) (sym scan_is) in
       record {
-    scanned = subst (λ (x : Sheet). WasScanned x) (sym spliced.rest) scanned.scanned;
-    room =
-        subst (λ (t : Tree). 3 * height_in t.table t.root + 1 ≤ length (after_reclaim book s'.scan.least).free) tree_is
-        (subst (λ (b : Book). 3 * height_in s₂.tree.table s₂.tree.root + 1 ≤ length b.free) freed room);
-  }
+        scanned = subst (λ (x : Sheet). WasScanned x) (sym spliced.rest) scanned.scanned;
+        room =
+            subst (λ (t : Tree). 3 * height_in t.table t.root + 1 ≤ length (after_reclaim book s'.scan.least).free) tree_is
+            (subst (λ (b : Book). 3 * height_in s₂.tree.table s₂.tree.root + 1 ≤ length b.free) freed room);
+      }
 
   map_is : map_by s'.tree ≡ (acted trees.Range (map_by s.tree) call).0
   map_is = spliced.map ∙ ap (λ (t : Tree). (acted trees.Range (map_by t) call).0) tree_is
