@@ -27,6 +27,7 @@ use Rattle.mt_engine.specs.Engine.{IsEngineState, IsIdle, HadRoom, IsAnswered}
 not_reached : (s : Sheet) (book : Book) (number : ℕ) (row : ℕ) → IsBookOf s book number → Contains (held_rows book) row → is_reached s.tree row ≡ false
 not_reached s book number row booked held = elim (cases_Bool (is_reached s.tree row)) [ inl reached ↦ absurd ((booked.reached row reached).not_held held) | inr apart ↦ apart ]
 
+-- what stands in the list of held rows is a held row
 holds : (book : Book) (k : ℕ) (d : Held) → k < length book.held → Contains (held_rows book) (get_or book.held k d).row
 holds book k d within =
     let f : Held → ℕ = λ h. h.row in
