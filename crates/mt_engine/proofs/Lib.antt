@@ -1,3 +1,4 @@
+pub mod AfterSplice
 pub mod Answering
 pub mod HandleSteps
 pub mod InCalls
