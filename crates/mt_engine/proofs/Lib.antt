@@ -9,6 +9,7 @@ pub mod Leaving
 pub mod MapPlaces
 pub mod MapQueries
 pub mod Needs
+pub mod Performing
 pub mod SlotQueries
 pub mod Slots
 pub mod Slotwise
