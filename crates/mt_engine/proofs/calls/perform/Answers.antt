@@ -6,7 +6,7 @@ use Rattle.mt_rows.specs.Sheet.{Sheet}
 use Rattle.mt_rows.specs.Publish.{map_by}
 use Rattle.mt_splice.specs.Splice.{IsStoreBy}
 use Rattle.mt_engine.specs.Engine.{IsAnswered}
-use Rattle.mt_engine.specs.Plans.{IsPlan, IsOwnStore}
+use Rattle.mt_engine.specs.Plans.{IsPlan}
 use Rattle.mt_engine.proofs.InCalls.{in_call_if_read, answered_after_reads}
 use Rattle.mt_engine.proofs.Leaving.{leaves}
 use Rattle.mt_engine.proofs.Performing.{may_clear_now, cleared_now}
@@ -27,11 +27,10 @@ change-requires-clause-store g c =
     let plan = subst (IsPlan (greatest s.tree.table.width) (map_by s.tree) c.args.call.now) c.in-Change.is c.plan_of.ensures.plan in
     subst (λ (x : Sheet). IsStoreBy trees.Range (greatest x.tree.table.width) (map_by x.tree) c.args.call.now c.in-Change.reply c.in-Change.first c.in-Change.last c.in-Change.entry) (sym c.plan_of.ensures.rest) plan.0
 
-pub change-requires-clause-own : goal.change-requires-clause-own
-change-requires-clause-own g c =
+pub change-requires-clause-no_clear : goal.change-requires-clause-no_clear
+change-requires-clause-no_clear g c =
     let s = g.R.Rows.sheet c.args.rows.now in
-    let plan = subst (IsPlan (greatest s.tree.table.width) (map_by s.tree) c.args.call.now) c.in-Change.is c.plan_of.ensures.plan in
-    subst (λ (x : Sheet). IsOwnStore (map_by x.tree) c.args.call.now c.in-Change.first c.in-Change.last c.in-Change.entry) (sym c.plan_of.ensures.rest) plan.1
+    (subst (IsPlan (greatest s.tree.table.width) (map_by s.tree) c.args.call.now) c.in-Change.is c.plan_of.ensures.plan).1
 
 pub returns-in-Leave : goal.returns-in-Leave
 returns-in-Leave g c =
