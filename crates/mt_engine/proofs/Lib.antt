@@ -8,8 +8,10 @@ pub mod Leafwise
 pub mod Leaving
 pub mod MapPlaces
 pub mod MapQueries
+pub mod MapStores
 pub mod Needs
 pub mod Performing
+pub mod Planning
 pub mod SlotQueries
 pub mod Slots
 pub mod Slotwise
