@@ -7,6 +7,9 @@ pub mod Leaving
 pub mod MapPlaces
 pub mod MapQueries
 pub mod Needs
+pub mod Reclaims
+pub mod Scanned
+pub mod Shortages
 pub mod SlotQueries
 pub mod Slots
 pub mod Slotwise
