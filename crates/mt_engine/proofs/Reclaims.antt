@@ -1,10 +1,10 @@
 -- What the freeing of held rows that were replaced early enough leaves of a book.
 use Rattle.std.proofs.Common.{◌≡◌, ℕ, ◌+◌, ◌<◌, ◌≤◌, List, [], ◌∷◌, ◌++◌, true, length, map, nat_le, nat_lt, sym, subst, inl, inr, arith, append-nil, length-append}
 use Rattle.std.specs.Prelude.{min}
-use Rattle.std.specs.List.{All, Contains}
+use Rattle.std.specs.List.{All}
 use Rattle.std.proofs.lemmas.Bool.{cases_Bool, leb-true, leb-false, ltb-true}
 use Rattle.std.proofs.lemmas.List.Elements.{All-head, All-tail, All-push, All-weaker, Contains-append_left, Contains-append_right, Contains-append_cases, filter_passes}
-use Rattle.mt_free.specs.Book.{Held, Book, IsBook, IsOut, held_rows, kept, after_reclaim}
+use Rattle.mt_free.specs.Book.{Held, Book, IsBook, IsOut, kept, after_reclaim}
 use Rattle.mt_free.proofs.Books.{book, reclaim_leaves_book, first_due, none_due}
 use Rattle.mt_rows.specs.declared.rows.Life.{Life}
 use Rattle.mt_rows.specs.declared.rows.Life.TheVariants.{New, Draft, Live, Dead}

@@ -1,5 +1,5 @@
 -- What is true of a tree in which too few rows are free, when the rows that no section holds were freed.
-use Rattle.std.proofs.Common.{◌≡◌, ◌≢◌, ℕ, zero, suc, ◌+◌, ◌-◌, ◌*◌, ◌^◌, ◌<◌, ◌≤◌, List, [], ◌∷◌, ◌++◌, Option, Some, None, length, get_or, refl, sym, ap, ◌∙◌, subst, inl, inr, arith, length-append, nat_lt}
+use Rattle.std.proofs.Common.{◌≡◌, ◌≢◌, ℕ, zero, suc, ◌+◌, ◌-◌, ◌*◌, ◌^◌, ◌<◌, ◌≤◌, List, [], ◌∷◌, ◌++◌, Option, None, length, get_or, refl, sym, ap, ◌∙◌, subst, inl, inr, arith, length-append, nat_lt}
 use Rattle.std.specs.Prelude.{◌↔◌, IsSome, IfSome, if◌then◌else◌}
 use Rattle.std.specs.List.{All, AllPairs}
 use Rattle.std.proofs.lemmas.Bool.{false≢true, lt-ltb}
@@ -80,7 +80,7 @@ levelled s lawful = elim lawful.words [
       let few = few_rows t h at in
       let many = many_ranges t h at in
       of_levels h (height_in s.tree.table s.tree.root) (length (reached_in s.tree.table s.tree.root)) (map_by s.tree) at.low
-        (height_by_depth t deepest h (root_span s.tree.table s.tree.root) at.low at.rows) (row_on_each_level t h at) (omega (arith, few)) many (one_at_least h (length (map_by s.tree)) many)
+      (height_by_depth t deepest h (root_span s.tree.table s.tree.root) at.low at.rows) (row_on_each_level t h at) (omega (arith, few)) many (one_at_least h (length (map_by s.tree)) many)
 ]
 
 tree_of : (s : Sheet) → IsLawfulOf s trees.Range → IsTreeOf s trees.Range
@@ -182,15 +182,15 @@ pub short_after : (s s' : Sheet) (answer : Scan) (book book' : Book) (shortage :
     → IsShortOf s' shortage
 short_after s s' answer book book' shortage is rest scan few need free live held by less =
     short_of s' book' shortage is.in_call (subst (λ (a : Scan). IsScan a) (sym same) scan) is.scanned (subst (λ (t : Sheet). t.ended < 2 ^ 62 - 1) (sym rest) few)
-      (subst (λ (b : Book). All (λ (h : Held). s'.scan.least < h.stamp) b.held) (sym is.freed) (left_later s'.scan.least book.held))
-      (record {
-        need = subst (λ (t : Sheet). shortage.need ≡ 3 * height_in t.tree.table t.tree.root + 1) (sym rest) need;
-        free = free;
-        live = live;
-        held = held;
-        by = subst (λ (a : Scan). shortage.by ≡ (if nat_lt 0 shortage.held then a.by else None)) (sym same) by;
-        few = less;
-      })
+    (subst (λ (b : Book). All (λ (h : Held). s'.scan.least < h.stamp) b.held) (sym is.freed) (left_later s'.scan.least book.held))
+    (record {
+      need = subst (λ (t : Sheet). shortage.need ≡ 3 * height_in t.tree.table t.tree.root + 1) (sym rest) need;
+      free = free;
+      live = live;
+      held = held;
+      by = subst (λ (a : Scan). shortage.by ≡ (if nat_lt 0 shortage.held then a.by else None)) (sym same) by;
+      few = less;
+    })
   where
     same : s'.scan ≡ answer
     same = ap (λ (t : Sheet). t.scan) rest

@@ -1,9 +1,7 @@
-use Rattle.std.proofs.Common.{◌≡◌, ◌+◌, ◌*◌, ◌<◌, ◌≤◌, refl, sym, ap, ◌∙◌, subst, arith, nat_lt, Some, None}
-use Rattle.std.specs.Prelude.{if◌then◌else◌}
+use Rattle.std.proofs.Common.{◌+◌, ◌*◌, refl, ap, arith}
 use Rattle.std.proofs.lemmas.Bool.{lt-ltb, le-ltb}
 use Rattle.mt_rows.specs.Trees.{height_in}
 use Rattle.mt_rows.specs.Sheet.{Sheet}
-use Rattle.mt_engine.specs.Rooms.{IsScanned, HasRoom, IsShortOf}
 use Rattle.mt_engine.proofs.Scanned.{is_scanned}
 use Rattle.mt_engine.proofs.Shortages.{low_height, short_after}
 use Rattle.mt_engine.proofs.rooms.make_room.Goals as goal
@@ -34,7 +32,7 @@ returns-then-held-gt0-clause-scanned g c = is_scanned _ _ _ _ _ c.requires.in_ca
 pub returns-then-held-gt0-clause-short : goal.returns-then-held-gt0-clause-short
 returns-then-held-gt0-clause-short g c =
     short_after _ _ _ _ _ _ (is_scanned _ _ _ _ _ c.requires.in_call c.scan-scan.ensures.rest c.scan-scan.ensures.kept c.scan-scan.ensures.cleared c.reclaim.ensures.freed) c.scan-scan.ensures.rest c.scan-scan.ensures.answer c.requires.few
-      (ap (λ h. 3 * h + 1) c.requires.height) c.free-2.ensures c.live.ensures c.held-held.ensures (rw (lt-ltb 0 c.held-held.result c.if-held-gt0.true) refl) (omega (arith, c.free-2.ensures, c.free.ensures, c.if-need-free.false))
+    (ap (λ h. 3 * h + 1) c.requires.height) c.free-2.ensures c.live.ensures c.held-held.ensures (rw (lt-ltb 0 c.held-held.result c.if-held-gt0.true) refl) (omega (arith, c.free-2.ensures, c.free.ensures, c.if-need-free.false))
 
 -- src/rooms.rt:14:1
 pub returns-else-held-gt0-clause-scanned : goal.returns-else-held-gt0-clause-scanned
@@ -44,4 +42,4 @@ returns-else-held-gt0-clause-scanned g c = is_scanned _ _ _ _ _ c.requires.in_ca
 pub returns-else-held-gt0-clause-short : goal.returns-else-held-gt0-clause-short
 returns-else-held-gt0-clause-short g c =
     short_after _ _ _ _ _ _ (is_scanned _ _ _ _ _ c.requires.in_call c.scan-scan.ensures.rest c.scan-scan.ensures.kept c.scan-scan.ensures.cleared c.reclaim.ensures.freed) c.scan-scan.ensures.rest c.scan-scan.ensures.answer c.requires.few
-      (ap (λ h. 3 * h + 1) c.requires.height) c.free-2.ensures c.live.ensures c.held-held.ensures (rw (le-ltb 0 c.held-held.result c.if-held-gt0.false) refl) (omega (arith, c.free-2.ensures, c.free.ensures, c.if-need-free.false))
+    (ap (λ h. 3 * h + 1) c.requires.height) c.free-2.ensures c.live.ensures c.held-held.ensures (rw (le-ltb 0 c.held-held.result c.if-held-gt0.false) refl) (omega (arith, c.free-2.ensures, c.free.ensures, c.if-need-free.false))
