@@ -1,5 +1,7 @@
+pub mod AfterSplice
 pub mod Answering
 pub mod HandleSteps
+pub mod InCalls
 pub mod LeafSlots
 pub mod LeafSteps
 pub mod Leafwise

@@ -5,12 +5,14 @@ use Rattle.mt_base.specs.declared.calls.Call.{Call}
 use Rattle.mt_base.specs.declared.kinds.Kind.TheVariants as trees
 use Rattle.mt_base.specs.declared.replies.Reply.{Reply}
 use Rattle.mt_base.specs.Call.{acted}
-use Rattle.mt_base.specs.Nodes.{NeedsRows}
+use Rattle.mt_base.specs.declared.replies.Reply.TheVariants.{NoNodes}
+use Rattle.mt_base.specs.declared.replies.Shortage.{Shortage}
+use Rattle.mt_base.specs.Nodes.{NeedsRows, IsShort}
 use Rattle.mt_free.specs.Book.{Book, Held, live_count, after_reclaim}
 use Rattle.mt_rows.specs.declared.rows.Life.TheVariants.{Dead}
 use Rattle.mt_rows.specs.Trees.{height_in}
 use Rattle.mt_rows.specs.Sheet.{Sheet, life_of}
-use Rattle.mt_rows.specs.Publish.{IsLawfulOf, LiveAreReached, NoneBuried, MayFinish, IsRefused, finished, map_by, with_record}
+use Rattle.mt_rows.specs.Publish.{IsLawfulOf, LiveAreReached, NoneBuried, MayFinish, IsRefused, IsCounted, finished, map_by, with_record}
 use Rattle.mt_splice.specs.Splice.{IsBookOf}
 
 -- What holds of the rows and the book whether or not a call is in flight: lawful words of a tree of ranges, live rows that
@@ -66,3 +68,25 @@ pub record IsAnswered (s s' : Sheet) (book book' : Book) (call : Call) (reply : 
 pub record IsAnsweredByOneWord (s s' : Sheet) (book : Book) (call : Call) (reply : Reply) : Type 0 where
   pub answered : IsAnswered s s' book book call reply
   pub root : s'.tree.root ≡ s.tree.root
+
+-- ---- a whole call
+
+-- The call needed rows, and a scan of it found fewer free than three for each level and one; the shortage tells the height,
+-- the book, and whose section holds rows back.
+pub record IsShortFor (s s' : Sheet) (call : Call) (reply : Reply) : Type 0 where
+  pub shortage : Shortage
+  pub answer : reply ≡ NoNodes shortage
+  pub needs : NeedsRows trees.Range (map_by s.tree) call
+  pub short : IsShort s.rows s.opened s.ended (map_by s.tree) shortage
+  pub counted : IsCounted s' shortage
+
+-- It did what it says, with rows enough where it needed some; or it was refused for want of rows, which left every word.
+-- The rows are between two calls again, one more call has ended, and it is told where records are.
+pub record IsApplied (s s' : Sheet) (book book' : Book) (call : Call) (reply : Reply) : Type 0 where
+  pub idle : IsIdle s' book'
+  pub ended : s'.ended ≡ s.ended + 1
+  pub answer : IsDone s s' book call reply ⊎ (IsShortFor s s' call reply × (s'.tree ≡ s.tree))
+  pub record_told : s'.records ≡ with_record s call reply
+  pub opened : s'.opened ≡ s.opened
+  pub caller : s'.caller ≡ s.caller
+  pub rows : s'.rows ≡ s.rows

@@ -1,6 +1,7 @@
 //! The tree on one thread: what its words answer to the queries of a map of ranges, and the calls that change it.
 #![tactic(auto)]
 
+mod calls;
 mod changes;
 mod handles;
 pub mod laws;
@@ -9,7 +10,6 @@ mod plans;
 mod queries;
 mod rooms;
 
-pub use changes::change;
+pub use calls::apply;
 pub use lists::list;
-pub use plans::{Plan, plan_of};
 pub use queries::ask;

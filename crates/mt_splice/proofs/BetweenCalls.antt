@@ -63,7 +63,7 @@ lawful_by_parents : (t : Tree) → t.kind ≡ trees.Range → HasParents t → I
 lawful_by_parents t range (inl empty) = inl empty
 lawful_by_parents t range (inr (h, stands, parent, levels)) = inr (h, stands, parent, levels_map (ParentLaw t) (IsTended t) t.table (tended_range t range) h (root_of t) levels)
 
-low_tree : (t : Tree) → IsLawful t → height_in t.table t.root ≤ 9
+pub low_tree : (t : Tree) → IsLawful t → height_in t.table t.root ≤ 9
 low_tree t (inl empty) = let none : height_in t.table t.root ≡ 0 = ap (height_in t.table) empty in omega arith
 low_tree t (inr (h, stands, parent, tended)) =
     let high = height_by_depth t deepest h (root_span t.table t.root) stands.low stands.rows in
