@@ -1,23 +1,116 @@
 -- A call that publishes nothing: it leaves the map, or is refused for want of rows.
-use Rattle.std.proofs.Common.{◌≡◌}
+use Rattle.std.proofs.Common.{◌≡◌, ℕ, List, Option, refl, sym, ap, ◌∙◌, subst, inl, inr, arith}
+use Rattle.std.specs.Prelude.{◌⊎◌}
 use Rattle.mt_base.specs.declared.calls.Call.{Call}
 use Rattle.mt_base.specs.declared.kinds.Kind.TheVariants as trees
+use Rattle.mt_base.specs.declared.ranges.Range.{Range}
 use Rattle.mt_base.specs.declared.replies.Reply.{Reply}
 use Rattle.mt_base.specs.declared.replies.Reply.TheVariants.{NoNodes}
 use Rattle.mt_base.specs.declared.replies.Shortage.{Shortage}
 use Rattle.mt_base.specs.Call.{acted}
 use Rattle.mt_base.specs.Nodes.{NeedsRows}
 use Rattle.mt_free.specs.Book.{Book}
+use Rattle.mt_rows.specs.declared.rows.Scan.{Scan}
 use Rattle.mt_rows.specs.Sheet.{Sheet, OnlyReads}
-use Rattle.mt_rows.specs.Publish.{map_by}
-use Rattle.mt_engine.specs.Engine.{IsInCall, IsAnswered}
+use Rattle.mt_rows.specs.Publish.{AreOfKind, IsRefused, finished, map_by, with_record}
+use Rattle.mt_engine.specs.Engine.{IsIdle, IsInCall, IsAnswered, IsDone}
 use Rattle.mt_engine.specs.Rooms.{IsScanned, IsShortOf}
+
+-- the call's reply leaves the map
+abbrev StaysBy : Sheet → Call → Reply → Type 0
+StaysBy s call reply = acted trees.Range (map_by s.tree) call ≡ (map_by s.tree, reply)
+
+-- ---- rows that were read and scanned
+
+module _ (s : Sheet) (reads : Option ℕ) (scan : Scan) (scans cleared : ℕ) where
+  abbrev seen : Sheet
+  seen = record s { reads = reads; scan = scan; scans = scans; cleared = cleared }
+
+  module _ (book next : Book) (call : Call) (reply : Reply) (is : IsInCall seen next) where
+    of_kind : AreOfKind seen trees.Range
+    of_kind = record { told = is.state.lawful.of_kind.told; width = is.state.lawful.of_kind.width }
+
+    ended : IsIdle (finished seen call reply) next
+    ended = record {
+      idle = refl;
+      state = record {
+        lawful = record { of_kind = record { told = is.state.lawful.of_kind.told; width = is.state.lawful.of_kind.width }; words = is.state.lawful.words };
+        live = is.state.live;
+        none_buried = is.state.none_buried;
+        booked = record {
+          sound = is.state.booked.sound;
+          rows = is.state.booked.rows;
+          out = is.state.booked.out;
+          reached = is.state.booked.reached;
+          spare = is.state.booked.spare;
+          stamps = λ k d within. (let below = is.state.booked.stamps k d within in omega (arith, below));
+        };
+        held = is.state.held;
+        grown = (let grown = is.state.grown in omega (arith, grown));
+      };
+    }
+
+    told : (finished seen call reply).records ≡ with_record s call reply
+    told = rw is.before refl
+
+    done : StaysBy s call reply → IsDone s seen book call reply
+    done stays = record { acts = stays; room = λ needs. absurd (needs.changes (ap (λ (p : List Range × Reply). p.0) stays)) }
+
+    pub answered : StaysBy s call reply ⊎ IsRefused trees.Range seen call reply → IsAnswered s seen book next call reply
+    answered by = record {
+      may = record { flying = is.flying; kept = λ _. record { none_buried = is.state.none_buried; of_kind = of_kind; answer = by } };
+      idle = ended;
+      answer = elim by [ inl stays ↦ inl (done stays) | inr refused ↦ inr (refused, refl) ];
+      record_told = told;
+      rest = refl;
+    }
+
+-- a call goes on while rows are read
+read_in_call : (s : Sheet) (reads : Option ℕ) (book : Book) → IsInCall s book → IsInCall (record s { reads = reads }) book
+read_in_call s reads book is = record {
+  flying = is.flying;
+  before = is.before;
+  state = record {
+    lawful = record { of_kind = record { told = is.state.lawful.of_kind.told; width = is.state.lawful.of_kind.width }; words = is.state.lawful.words };
+    live = is.state.live;
+    none_buried = is.state.none_buried;
+    booked = record {
+      sound = is.state.booked.sound;
+      rows = is.state.booked.rows;
+      out = is.state.booked.out;
+      reached = is.state.booked.reached;
+      spare = is.state.booked.spare;
+      stamps = is.state.booked.stamps;
+    };
+    held = is.state.held;
+    grown = is.state.grown;
+  };
+  scans = is.scans;
+}
+
+pub reads_in_call : (s s' : Sheet) (book : Book) → IsInCall s book → OnlyReads s s' → IsInCall s' book
+reads_in_call s s' book is reads = subst (λ (t : Sheet). IsInCall t book) (sym reads) (read_in_call s s'.reads book is)
 
 -- rows were only read, and the map stays
 pub leaves : (s s' : Sheet) (book : Book) (call : Call) (reply : Reply) → IsInCall s book → OnlyReads s s' → acted trees.Range (map_by s.tree) call ≡ (map_by s.tree, reply) → IsAnswered s s' book book call reply
-leaves = ?
+leaves s s' book call reply is reads stays =
+    subst (λ (t : Sheet). IsAnswered s t book book call reply) (sym reads) (answered s s'.reads s.scan s.scans s.cleared book book call reply (read_in_call s s'.reads book is) (inl stays))
 
 -- a scan found too few free rows
 pub refuses : (s s₁ s' : Sheet) (book book' : Book) (call : Call) (shortage : Shortage) → IsInCall s book → OnlyReads s s₁ → IsScanned s₁ s' book book' → IsShortOf s' shortage → NeedsRows trees.Range (map_by s.tree) call
     → IsAnswered s s' book book' call (NoNodes shortage)
-refuses = ?
+refuses s s₁ s' book book' call shortage is reads found short needs =
+    subst (λ (t : Sheet). IsAnswered s t book book' call (NoNodes shortage)) (sym same)
+    (answered s s₁.reads s'.scan s'.scans s'.cleared book book' call (NoNodes shortage) (subst (λ (t : Sheet). IsInCall t book') same found.in_call) (inr (subst (λ (t : Sheet). IsRefused trees.Range t call (NoNodes shortage)) same refused)))
+  where
+    same : s' ≡ record s { reads = s₁.reads; scan = s'.scan; scans = s'.scans; cleared = s'.cleared }
+    same = found.rest ∙ ap (λ (t : Sheet). record t { scan = s'.scan; scans = s'.scans; cleared = s'.cleared }) reads
+
+    refused : IsRefused trees.Range s' call (NoNodes shortage)
+    refused = record {
+      shortage = shortage;
+      answer = refl;
+      needs = subst (λ (t : Sheet). NeedsRows trees.Range (map_by t.tree) call) (sym same) needs;
+      short = short.short;
+      counted = short.counted;
+    }

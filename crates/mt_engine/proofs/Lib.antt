@@ -12,6 +12,9 @@ pub mod MapStores
 pub mod Needs
 pub mod Performing
 pub mod Planning
+pub mod Reclaims
+pub mod Scanned
+pub mod Shortages
 pub mod SlotQueries
 pub mod Slots
 pub mod Slotwise

@@ -30,11 +30,16 @@ pub record IsIdle (s : Sheet) (book : Book) : Type 0 where
   pub idle : s.flying ≡ false
   pub state : IsEngineState s book
 
+-- the count of scans has not fallen in this call, or stands at its last value
+abbrev pub CountsScans : Sheet → Type 0
+CountsScans s = (s.scans_at_begin ≤ s.scans) ⊎ (s.scans ≡ 2 ^ 64 - 1)
+
 -- within a call that has published nothing
 pub record IsInCall (s : Sheet) (book : Book) : Type 0 where
   pub flying : s.flying ≡ true
   pub before : s.published ≡ false
   pub state : IsEngineState s book
+  pub scans : CountsScans s
 
 -- a scan was made in this call
 abbrev pub WasScanned : Sheet → Type 0

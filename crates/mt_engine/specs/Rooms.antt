@@ -1,6 +1,6 @@
 -- What a scan and the freeing of held rows leave, and what is told where too few rows are free then.
 -- Source: this project's own; the kernel's mas_alloc_nodes asks for the nodes of a whole write at once.
-use Rattle.std.specs.Prelude.{◌≡◌, ℕ, ◌+◌, ◌*◌, ◌≤◌, length}
+use Rattle.std.specs.Prelude.{◌≡◌, ◌+◌, ◌*◌, ◌≤◌, length}
 use Rattle.mt_base.specs.declared.replies.Shortage.{Shortage}
 use Rattle.mt_base.specs.Nodes.{IsShort}
 use Rattle.mt_free.specs.Book.{Book, after_reclaim}

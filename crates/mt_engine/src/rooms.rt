@@ -1,6 +1,6 @@
 //! Room for the rows that a call may take.
 
-ghost use Rattle.std.specs.Prelude.{◌≡◌, IfOk, OnErr, IfErr};
+ghost use Rattle.std.specs.Prelude.{◌≡◌, ◌-◌, ◌^◌, ◌<◌, IfOk, IfErr};
 ghost use Rattle.mt_rows.specs.Trees.{height_in};
 ghost use Rattle.mt_engine.specs.Engine.{IsInCall};
 ghost use Rattle.mt_engine.specs.Rooms.{IsScanned, HasRoom, IsShortOf};
@@ -14,6 +14,7 @@ use mt_rows::Rows;
 pub fn make_room<R: Rows>(rows: &mut R, book: &mut RowBook, height: u64) -> Result<(), Shortage>
     requires in_call { IsInCall (R.sheet rows.old) book.old }
     requires height { height ≡ height_in (R.sheet rows.old).tree.table (R.sheet rows.old).tree.root }
+    requires few { (R.sheet rows.old).ended < 2 ^ 62 - 1 }
     ensures scanned { IsScanned (R.sheet rows.old) (R.sheet rows.new) book.old book.new }
     ensures room { IfOk result (λ _. HasRoom (R.sheet rows.new) book.new) }
     ensures short { IfErr result (λ shortage. IsShortOf (R.sheet rows.new) shortage) }
