@@ -7,6 +7,7 @@ pub mod Leaving
 pub mod MapPlaces
 pub mod MapQueries
 pub mod Needs
+pub mod OneWord
 pub mod SlotQueries
 pub mod Slots
 pub mod Slotwise
