@@ -1,4 +1,5 @@
 pub mod Answering
+pub mod ExactChanges
 pub mod HandleSteps
 pub mod LeafSlots
 pub mod LeafSteps

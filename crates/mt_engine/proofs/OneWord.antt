@@ -1,9 +1,8 @@
 -- Another entry of one range, published by one word in the slot of its leaf: the rows stay as they are.
-use Rattle.std.proofs.Common.{◌≡◌, ◌≢◌, ℕ, zero, suc, ◌+◌, ◌*◌, ◌<◌, ◌≤◌, List, [], ◌∷◌, Bool, true, false, All, nat_lt, refl, sym, ap, ◌∙◌, subst, inl, inr, arith, get_or-set_other}
+use Rattle.std.proofs.Common.{◌≡◌, ◌≢◌, ℕ, zero, suc, ◌+◌, ◌*◌, ◌<◌, ◌≤◌, List, [], ◌∷◌, Bool, true, false, All, nat_lt, refl, sym, ap, ◌∙◌, subst, inl, inr, arith, get_or-set_other, ◌++◌, Some}
 use Rattle.std.specs.Prelude.{slice_index, slice_set, slice_index_or}
-use Rattle.std.specs.List.{AllByRecursion}
+use Rattle.std.specs.List.{AllByRecursion, Contains}
 use Rattle.std.proofs.lemmas.Bool.{cases_Bool}
-use Rattle.std.specs.List.{Contains}
 use Rattle.std.proofs.lemmas.List.Elements.{All-weaker, All-contains, All-contains_itself}
 use Rattle.mt_base.specs.declared.widths.Width.{Width}
 use Rattle.mt_base.specs.declared.widths.Width.TheVariants.{Long}
@@ -15,6 +14,7 @@ use Rattle.mt_base.specs.Call.{acted}
 use Rattle.mt_base.specs.Entry.{reserved}
 use Rattle.mt_base.specs.Nodes.{NeedsRows}
 use Rattle.mt_base.specs.Width.{columns, greatest}
+use Rattle.mt_base.specs.Map.{holding, over}
 use Rattle.mt_layout.specs.declared.names.RowKind.TheVariants.{Leaf}
 use Rattle.mt_layout.specs.declared.spans.Span.{Span}
 use Rattle.mt_layout.specs.Columns.{slot_column}
@@ -25,27 +25,33 @@ use Rattle.mt_rows.specs.declared.rows.Life.TheVariants.{New, Dead}
 use Rattle.mt_rows.specs.declared.rows.Place.{Place}
 use Rattle.mt_rows.specs.declared.rows.Place.TheVariants.{Slot}
 use Rattle.mt_rows.specs.Spans.{Table, column, slots_of, spans_in}
-use Rattle.mt_rows.specs.Levels.{Levels, is_row_of}
+use Rattle.mt_rows.specs.Levels.{Levels, is_row_of, map_of}
 use Rattle.mt_rows.specs.Laws as laws
 use Rattle.mt_rows.specs.Sheet.{Sheet, Tree, IsWhole, life_of, with_word}
 use Rattle.mt_rows.specs.Publish.{tree_as, AreOfKind, map_by, is_reached, LiveAreReached, NoneBuried, MayPublish, Published, with_record, life_after, finished}
 use Rattle.mt_rows.specs.Replacement.{root_of, IsSlotAt, ReplacesEntry}
+use Rattle.mt_rows.specs.Trees.{deepest}
 use Rattle.mt_rows.proofs.ExactStore.{may_publish}
 use Rattle.mt_rows.proofs.Heights.{levels_upper, levels_both, upper_both, upper_shared}
 use Rattle.mt_rows.proofs.Reached as reached
 use Rattle.mt_rows.proofs.SlotEntry as exact
 use Rattle.mt_rows.proofs.SlotStore as store
+use Rattle.mt_rows.proofs.Depth.{ranges_by_depth}
+use Rattle.mt_rows.proofs.Ranges.{tree_map}
 use Rattle.mt_path.specs.Paths.{slot_for, below, step_in}
+use Rattle.mt_path.specs.declared.paths.PathStep.{PathStep}
 use Rattle.mt_path.proofs.Places.{at_get}
-use Rattle.mt_path.proofs.TreePaths.{row_of, place, holds}
+use Rattle.mt_path.proofs.TreePaths.{row_of, place, holds, top_row}
 use Rattle.mt_splice.specs.Splice.{IsBookOf, IsSpare, IsStoreBy}
 use Rattle.mt_splice.proofs.BetweenCalls.{acts_so}
-use Rattle.mt_path.specs.declared.paths.PathStep.{PathStep}
 use Rattle.mt_engine.specs.declared.handles.Handle.{Handle}
 use Rattle.mt_engine.specs.Handles.{IsHandleOf}
 use Rattle.mt_engine.specs.Engine.{IsInCall, IsEngineState, IsAnswered, IsAnsweredByOneWord}
+use Rattle.mt_engine.specs.MapSpans.{range_of}
 use Rattle.mt_engine.proofs.LeafSteps.{leaf_slots}
-use Rattle.mt_engine.proofs.Slots.{end_is, slot_holds}
+use Rattle.mt_engine.proofs.Slots.{end_is, slot_holds, map_is_all, stands_in_all}
+use Rattle.mt_engine.proofs.SpanLists.{ranges, holding_behind, held_at_entry}
+use Rattle.mt_engine.proofs.ExactChanges.{exact_needs_no_rows}
 
 -- ---- the parent words beside a slot of a leaf
 
@@ -133,6 +139,25 @@ module _ (s : Sheet) (h index entry : ℕ) (whole : IsWhole s) (stands : laws.St
 
     pub lawful_after : column t.table (row_in t.root) 0 ≡ 1 → Levels (laws.IsTended t) t.table h (root_of t) → laws.IsLawful t'
     lawful_after parent tended = inr (h, replaced.stands, parent_same (row_in t.root) ∙ parent, tended_after tended)
+
+    -- ---- it needs no rows, whichever call makes it
+
+    held_first : holding (map_by s.tree) item.first ≡ Some (range_of item)
+    held_first =
+        let one = stands_in_all t h stands index inside in
+        let from = one.from in let to = one.to in
+        ap (λ (m : List Range). holding m item.first) (map_is_all t h stands ∙ ap ranges one.parts)
+        ∙ (holding_behind 0 item.first item.first one.front (item ∷ one.back) one.before (omega arith) ∙ held_at_entry item one.back item.first old (omega arith) (omega arith))
+
+    same_map : entry ≡ item.word → over (map_by s.tree) item.first item.last entry ≡ map_by s.tree
+    same_map same =
+        let by_levels : map_by s.tree ≡ map_of t.table h (root_of t) = ranges_by_depth t deepest h (top_row t) stands.low stands.rows in
+        ap (λ (m : List Range). over m item.first item.last entry) by_levels
+        ∙ (exact.is_over t h slot entry leaf item whole.words stands at old new free
+        ∙ (replaced.after ∙ (ap (λ (e : ℕ). replaced.front ++ (record { first = item.first; last = item.last; entry = e } ∷ replaced.back)) same ∙ (sym replaced.before ∙ sym by_levels))))
+
+    pub no_rows : (call : Call) (reply : Reply) → IsStoreBy trees.Range (greatest s.tree.table.width) (map_by s.tree) call reply item.first item.last entry → NeedsRows trees.Range (map_by s.tree) call → ⊥
+    no_rows call reply stores = exact_needs_no_rows (map_by s.tree) item.first item.last item.word entry call reply (tree_map t h stands) held_first stores.order new same_map stores.acts
 
     -- ---- it may be published, by whichever call
 
@@ -251,23 +276,29 @@ module _ (s : Sheet) (book : Book) (handle : Handle) (entry : ℕ) (call : Call)
       let all = leaf_slots s.tree.table.width in
       omega arith
 
+  stores_there : IsStoreBy trees.Range (greatest s.tree.table.width) (map_by s.tree) call reply (below s.tree.table here is.index).first (below s.tree.table here is.index).last entry
+  stores_there = subst (λ (x : Span). IsStoreBy trees.Range (greatest s.tree.table.width) (map_by s.tree) call reply x.first x.last entry) span_is stores
+
   may_there : MayPublish trees.Range s (where_published s stood.0 is.index entry whole stood.1 is.within) entry call reply
   may_there =
       may_as s stood.0 is.index entry whole stood.1 is.within full new stores.lawful call reply in_call.flying in_call.before in_call.state.live in_call.state.none_buried in_call.state.lawful.of_kind
-      (subst (λ (x : Span). IsStoreBy trees.Range (greatest s.tree.table.width) (map_by s.tree) call reply x.first x.last entry) span_is stores)
+      stores_there
 
   pub may_publish_entry : MayPublish trees.Range s (Slot handle.leaf.row (slots + handle.leaf.slot)) entry call reply
   may_publish_entry = subst (λ (p : Place). MayPublish trees.Range s p entry call reply) (sym place_is) may_there
 
-  answered_there : (s' : Sheet) → (NeedsRows trees.Range (map_by s.tree) call → ⊥) → Published s s' (where_published s stood.0 is.index entry whole stood.1 is.within) entry call reply → IsAnsweredByOneWord s s' book call reply
-  answered_there s' no_rows done =
+  no_rows_there : NeedsRows trees.Range (map_by s.tree) call → ⊥
+  no_rows_there = no_rows s stood.0 is.index entry whole stood.1 is.within full new stores.lawful call reply stores_there
+
+  answered_there : (s' : Sheet) → Published s s' (where_published s stood.0 is.index entry whole stood.1 is.within) entry call reply → IsAnsweredByOneWord s s' book call reply
+  answered_there s' done =
       subst (λ (x : Sheet). IsAnsweredByOneWord s x book call reply) (sym done.rest)
       (record {
         answered =
             is_answered s book (written s stood.0 is.index entry whole stood.1 is.within) s'.lives s'.buried call reply in_call (reached_stay s stood.0 is.index entry whole stood.1 is.within full new stores.lawful) done.lives done.buried refl
-            (lawful_after s stood.0 is.index entry whole stood.1 is.within full new stores.lawful stood.2 stood.3) may_there.answer no_rows;
+            (lawful_after s stood.0 is.index entry whole stood.1 is.within full new stores.lawful stood.2 stood.3) may_there.answer no_rows_there;
         root = refl;
       })
 
-  pub entry_published : (s' : Sheet) → (NeedsRows trees.Range (map_by s.tree) call → ⊥) → Published s s' (Slot handle.leaf.row (slots + handle.leaf.slot)) entry call reply → IsAnsweredByOneWord s s' book call reply
-  entry_published s' no_rows done = answered_there s' no_rows (subst (λ (p : Place). Published s s' p entry call reply) place_is done)
+  pub entry_published : (s' : Sheet) → Published s s' (Slot handle.leaf.row (slots + handle.leaf.slot)) entry call reply → IsAnsweredByOneWord s s' book call reply
+  entry_published s' done = answered_there s' (subst (λ (p : Place). Published s s' p entry call reply) place_is done)

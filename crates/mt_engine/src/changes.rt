@@ -4,7 +4,6 @@ ghost use Rattle.std.specs.Prelude.{◌≡◌, ◌≢◌, ◌+◌, ◌≤◌, �
 ghost use Rattle.mt_base.specs.declared.calls.Call.TheVariants.{Clear};
 ghost use Rattle.mt_base.specs.declared.kinds.Kind.TheVariants as trees;
 ghost use Rattle.mt_base.specs.declared.replies.Reply.TheVariants.{NoNodes};
-ghost use Rattle.mt_base.specs.Nodes.{NeedsRows};
 ghost use Rattle.mt_base.specs.Width.{greatest};
 ghost use Rattle.mt_rows.specs.Publish.{map_by};
 ghost use Rattle.mt_free.specs.Book.{Book};
@@ -39,7 +38,6 @@ fn publish_entry<R: Rows>(rows: &mut R, here: &Handle, entry: u64, call: &Call, 
     requires range { here.now.span.word ≢ 0 }
     requires entry { entry ≢ 0 }
     requires store { IsStoreBy trees.Range (greatest (R.sheet rows.old).tree.table.width) (map_by (R.sheet rows.old).tree) call.now reply.now here.now.span.first here.now.span.last entry }
-    requires no_rows { NeedsRows trees.Range (map_by (R.sheet rows.old).tree) call.now → ⊥ }
     ensures { (book : Book) → IsInCall (R.sheet rows.old) book → IsAnsweredByOneWord (R.sheet rows.old) (R.sheet rows.new) book call.now reply.now }
 {
     rows.size();
