@@ -40,6 +40,7 @@ fn publish_entry<R: Rows>(rows: &mut R, here: &Handle, entry: u64, call: &Call, 
     requires store { IsStoreBy trees.Range (greatest (R.sheet rows.old).tree.table.width) (map_by (R.sheet rows.old).tree) call.now reply.now here.now.span.first here.now.span.last entry }
     ensures { (book : Book) → IsInCall (R.sheet rows.old) book → IsAnsweredByOneWord (R.sheet rows.old) (R.sheet rows.new) book call.now reply.now }
 {
+    rows.size();
     let place = Place::Slot {
         row: here.leaf.row,
         col: slots(rows.width(), RowKind::Leaf) + here.leaf.slot,
