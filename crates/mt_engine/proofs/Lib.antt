@@ -1,5 +1,6 @@
 pub mod AfterSplice
 pub mod Answering
+pub mod Changing
 pub mod ExactChanges
 pub mod HandleSteps
 pub mod InCalls

@@ -5,3 +5,4 @@ pub mod MapSpans
 pub mod Nearest
 pub mod Plans
 pub mod Rooms
+pub mod Ways

@@ -13,23 +13,13 @@ ghost use Rattle.mt_engine.specs.Handles.{IsHandleOf};
 
 use crate::handles::{Handle, handle_of};
 use crate::rooms::make_room;
+use crate::ways::{Way, way_of};
 use mt_base::{Call, Kind, Reply, Shortage};
 use mt_free::RowBook;
 use mt_layout::RowKind;
 use mt_path::walk;
 use mt_rows::{Place, Rows, slots};
 use mt_splice::replace_range;
-
-/// Whether a store of a hole up to `last` leaves the tree as it is, since a hole is there already, or nothing at all.
-fn is_hole_over(here: &Option<Handle>, last: u64) -> bool
-    ensures none { IsNone here.now → result ≡ true }
-    ensures some { IfSome here.now (λ handle. (result ≡ true) ↔ ((handle.span.word ≡ 0) × (last ≤ handle.span.last))) }
-{
-    match here {
-        Some(handle) => handle.span.word == 0 && last <= handle.span.last,
-        None => true,
-    }
-}
 
 /// Publishes another entry of the range that a handle is of.
 fn publish_entry<R: Rows>(rows: &mut R, here: &Handle, entry: u64, call: &Call, reply: &Reply)
@@ -70,28 +60,27 @@ pub fn change<R: Rows>(
 {
     let left = walk(rows, first);
     let here = handle_of(rows, &left);
-    if entry == 0 && is_hole_over(&here, last) {
-        return Ok(());
-    }
-    if let Some(handle) = here {
-        let span = handle.span;
-        if entry != 0 && span.word != 0 && span.first == first && span.last == last {
-            publish_entry(rows, &handle, entry, call, reply);
-            return Ok(());
+    match way_of(here, first, last, entry) {
+        Way::Nothing => Ok(()),
+        Way::OneWord { at } => {
+            publish_entry(rows, &at, entry, call, reply);
+            Ok(())
+        }
+        Way::NewRows => {
+            make_room(rows, book, left.len() as u64)?;
+            replace_range(
+                rows,
+                book,
+                Kind::Range,
+                &left,
+                first,
+                last,
+                entry,
+                number,
+                call,
+                reply,
+            );
+            Ok(())
         }
     }
-    make_room(rows, book, left.len() as u64)?;
-    replace_range(
-        rows,
-        book,
-        Kind::Range,
-        &left,
-        first,
-        last,
-        entry,
-        number,
-        call,
-        reply,
-    );
-    Ok(())
 }

@@ -9,6 +9,7 @@ mod lists;
 mod plans;
 mod queries;
 mod rooms;
+mod ways;
 
 pub use calls::apply;
 pub use lists::list;
