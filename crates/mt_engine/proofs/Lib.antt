@@ -1,5 +1,6 @@
 pub mod AfterSplice
 pub mod Answering
+pub mod ExactChanges
 pub mod HandleSteps
 pub mod InCalls
 pub mod LeafSlots
@@ -8,7 +9,11 @@ pub mod Leafwise
 pub mod Leaving
 pub mod MapPlaces
 pub mod MapQueries
+pub mod MapStores
 pub mod Needs
+pub mod OneWord
+pub mod Performing
+pub mod Planning
 pub mod Reclaims
 pub mod Scanned
 pub mod Shortages

@@ -54,14 +54,14 @@ above_all (r ∷ m) a b low above ordered =
     ((ordered.1, inr (inl (omega arith))), above_all m a b (r.last + 1) (omega arith) ordered.3)
 
 -- the range that holds an index lies where the map does
-held_from : (m : List Range) (low index : ℕ) (r : Range) → IsMapFrom low m → holding m index ≡ Some r → low ≤ r.first
+pub held_from : (m : List Range) (low index : ℕ) (r : Range) → IsMapFrom low m → holding m index ≡ Some r → low ≤ r.first
 held_from [] low index r ordered held = absurd (cc)
 held_from (s ∷ m) low index r ordered held = elim (cases_Bool (holds index s)) [
   | inl here ↦ (let same : s ≡ r = (let at = rw here at held in cc) in subst (λ (x : Range). low ≤ x.first) same ordered.0)
   | inr behind ↦ (let begins = ordered.0 in let ends = ordered.1 in let more = held_from m (s.last + 1) index r ordered.3 (rw behind at held) in omega arith)
 ]
 
-holds_is : (r : Range) (index : ℕ) → holds index r ≡ true → (r.first ≤ index) × (index ≤ r.last)
+pub holds_is : (r : Range) (index : ℕ) → holds index r ≡ true → (r.first ≤ index) × (index ≤ r.last)
 holds_is r index held =
     let parts = and_parts (nat_le r.first index) (nat_le index r.last) held in
     (leb-true r.first index parts.0, leb-true index r.last parts.1)

@@ -28,10 +28,10 @@ spans_map lo hi (x ∷ xs) fills =
 
 -- ---- one range
 
-starts_above : (r : Range) (index : ℕ) → index < r.first → holds index r ≡ false
+pub starts_above : (r : Range) (index : ℕ) → index < r.first → holds index r ≡ false
 starts_above r index lt = and_left (nat_le r.first index) (nat_le index r.last) (lt-leb r.first index lt)
 
-stops_below : (r : Range) (index : ℕ) → r.last < index → holds index r ≡ false
+pub stops_below : (r : Range) (index : ℕ) → r.last < index → holds index r ≡ false
 stops_below r index lt = and_right (nat_le r.first index) (nat_le index r.last) (lt-leb index r.last lt)
 
 lies_above : (r : Range) (first last : ℕ) → last < r.first → overlaps first last r ≡ false

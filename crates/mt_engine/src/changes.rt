@@ -3,13 +3,13 @@
 ghost use Rattle.std.specs.Prelude.{◌≡◌, ◌≢◌, ◌+◌, ◌-◌, ◌^◌, ◌<◌, ◌≤◌, ◌↔◌, IsNone, IfSome, IfOk, IfErr, true};
 ghost use Rattle.mt_base.specs.declared.kinds.Kind.TheVariants as trees;
 ghost use Rattle.mt_base.specs.declared.replies.Reply.TheVariants.{NoNodes};
+ghost use Rattle.mt_base.specs.declared.calls.Call.TheVariants.{Clear};
 ghost use Rattle.mt_base.specs.Width.{greatest};
 ghost use Rattle.mt_rows.specs.Publish.{map_by};
 ghost use Rattle.mt_free.specs.Book.{Book};
 ghost use Rattle.mt_splice.specs.Splice.{IsStoreBy};
 ghost use Rattle.mt_engine.specs.Engine.{IsInCall, IsAnswered, IsAnsweredByOneWord};
 ghost use Rattle.mt_engine.specs.Handles.{IsHandleOf};
-ghost use Rattle.mt_engine.specs.Plans.{IsOwnStore};
 
 use crate::handles::{Handle, handle_of};
 use crate::rooms::make_room;
@@ -40,6 +40,7 @@ fn publish_entry<R: Rows>(rows: &mut R, here: &Handle, entry: u64, call: &Call, 
     requires store { IsStoreBy trees.Range (greatest (R.sheet rows.old).tree.table.width) (map_by (R.sheet rows.old).tree) call.now reply.now here.now.span.first here.now.span.last entry }
     ensures { (book : Book) → IsInCall (R.sheet rows.old) book → IsAnsweredByOneWord (R.sheet rows.old) (R.sheet rows.new) book call.now reply.now }
 {
+    rows.size();
     let place = Place::Slot {
         row: here.leaf.row,
         col: slots(rows.width(), RowKind::Leaf) + here.leaf.slot,
@@ -62,7 +63,7 @@ pub fn change<R: Rows>(
     requires in_call { IsInCall (R.sheet rows.old) book.old }
     requires number { number ≡ (R.sheet rows.old).ended + 1 }
     requires store { IsStoreBy trees.Range (greatest (R.sheet rows.old).tree.table.width) (map_by (R.sheet rows.old).tree) call.now reply.now first last entry }
-    requires own { IsOwnStore (map_by (R.sheet rows.old).tree) call.now first last entry }
+    requires no_clear { call.now ≢ Clear }
     requires few { (R.sheet rows.old).ended < 2 ^ 62 - 1 }
     ensures done { IfOk result (λ _. IsAnswered (R.sheet rows.old) (R.sheet rows.new) book.old book.new call.now reply.now) }
     ensures short { IfErr result (λ shortage. IsAnswered (R.sheet rows.old) (R.sheet rows.new) book.old book.new call.now (NoNodes shortage)) }

@@ -1,0 +1,150 @@
+-- What a store makes of the ranges beside it, and of the range that it covers exactly.
+use Rattle.std.proofs.Common.{◌≡◌, ◌≢◌, ℕ, ◌+◌, ◌-◌, ◌<◌, ◌≤◌, ◌==◌, List, [], ◌∷◌, ◌++◌, Some, min, max, map, nat_lt, refl, sym, ap, ◌∙◌, subst, inl, inr, arith}
+use Rattle.std.specs.List.{AllByRecursion}
+use Rattle.std.specs.Option.{option_map}
+use Rattle.std.proofs.lemmas.Bool.{cases_Bool, cond_both, lt-ltb, le-ltb, ltb-true, eqb-true, le-leb}
+use Rattle.mt_base.specs.declared.ranges.Range.{Range}
+use Rattle.mt_base.specs.Map.{IsMapFrom, holds, holding, over, without, parts_below, parts_above, part_stored, cut_below, cut_above}
+use Rattle.mt_engine.proofs.MapPlaces.{Outside, held_from, holds_is}
+use Rattle.mt_engine.proofs.SpanLists.{starts_above, stops_below}
+
+-- ---- the range that holds an index
+
+pub held_each : (P : Range → Type 0) (m : List Range) (index : ℕ) (r : Range) → AllByRecursion P m → holding m index ≡ Some r → P r × (r.first ≤ index) × (index ≤ r.last)
+held_each P [] index r each held = absurd (cc)
+held_each P (s ∷ m) index r each held = elim (cases_Bool (holds index s)) [
+  | inl here ↦
+      (let same : s ≡ r = (let at = rw here at held in cc) in
+      let is = holds_is s index here in
+      subst (λ (x : Range). P x × (x.first ≤ index) × (index ≤ x.last)) same (each.0, is.0, is.1))
+  | inr behind ↦ held_each P m index r each.1 (rw behind at held)
+]
+
+-- ---- ranges beside a store
+
+-- a map that begins where the store does, or above, has no part below it
+none_below : (m : List Range) (low first : ℕ) → first ≤ low → IsMapFrom low m → parts_below m first ≡ []
+none_below [] low first le ordered = refl
+none_below (r ∷ m) low first le ordered =
+    let begins = ordered.0 in let ends = ordered.1 in
+    rw (le-ltb r.first first (omega arith)) (none_below m (r.last + 1) first (omega arith) ordered.3)
+
+-- and one that begins above the store's last index stays whole
+all_above : (m : List Range) (low last : ℕ) → last < low → IsMapFrom low m → parts_above m last ≡ m
+all_above [] low last lt ordered = refl
+all_above (r ∷ m) low last lt ordered =
+    let begins = ordered.0 in let ends = ordered.1 in
+    let starts : max r.first (last + 1) ≡ r.first = omega arith in
+    let same : cut_above last r ≡ r = ap (λ (n : ℕ). record { first = n; last = r.last; entry = r.entry }) starts in
+    let behind = all_above m (r.last + 1) last (omega arith) ordered.3 in
+    rw (lt-ltb last r.last (omega arith)) (λ i. same i ∷ behind i)
+
+-- a range below the store stays
+store_behind : (r : Range) (m : List Range) (first last entry : ℕ) → r.first ≤ r.last → r.last < first → first ≤ last → over (r ∷ m) first last entry ≡ r ∷ over m first last entry
+store_behind r m first last entry order below le =
+    let ends : min r.last (first - 1) ≡ r.last = omega arith in
+    let same : cut_below first r ≡ r = ap (λ (n : ℕ). record { first = r.first; last = n; entry = r.entry }) ends in
+    rw (lt-ltb r.first first (omega arith), le-ltb last r.last (omega arith)) (ap (λ (x : Range). x ∷ over m first last entry) same)
+
+store_before : (m : List Range) (low first last entry : ℕ) → first ≤ low → last < low → IsMapFrom low m → over m first last entry ≡ part_stored first last entry ++ m
+store_before m low first last entry le lt ordered =
+    let below = none_below m low first le ordered in
+    let above = all_above m low last lt ordered in
+    λ i. below i ++ (part_stored first last entry ++ above i)
+
+-- a store of no entry where nothing is held changes nothing
+pub store_none_beside : (m : List Range) (low first last : ℕ) → first ≤ last → IsMapFrom low m → AllByRecursion (Outside first last) m → over m first last 0 ≡ m
+store_none_beside [] low first last le ordered each = refl
+store_none_beside (r ∷ m) low first last le ordered each = elim each.0.1 [
+  | inl below ↦ store_behind r m first last 0 ordered.1 below le ∙ ap (λ (l : List Range). r ∷ l) (store_none_beside m (r.last + 1) first last le ordered.3 each.1)
+  | inr above ↦ store_before (r ∷ m) r.first first last 0 (omega arith) above (omega arith, ordered.1, ordered.2, ordered.3)
+]
+
+-- ---- a store over exactly one range
+
+store_exact : (r : Range) (m : List Range) (low entry : ℕ) → IsMapFrom low (r ∷ m) → over (r ∷ m) r.first r.last entry ≡ part_stored r.first r.last entry ++ m
+store_exact r m low entry ordered =
+    let ends = ordered.1 in
+    let below = none_below m (r.last + 1) r.first (omega arith) ordered.3 in
+    let above = all_above m (r.last + 1) r.last (omega arith) ordered.3 in
+    rw (le-ltb r.first r.first (omega arith), le-ltb r.last r.last (omega arith)) (λ i. below i ++ (part_stored r.first r.last entry ++ above i))
+
+without_none : (m : List Range) (low index : ℕ) → index < low → IsMapFrom low m → without m index ≡ m
+without_none [] low index lt ordered = refl
+without_none (r ∷ m) low index lt ordered =
+    let begins = ordered.0 in let ends = ordered.1 in
+    rw (starts_above r index (omega arith)) (ap (λ (l : List Range). r ∷ l) (without_none m (r.last + 1) index (omega arith) ordered.3))
+
+-- what is left without a range is what a store of no entry over it leaves
+pub without_is_store : (m : List Range) (low index : ℕ) (r : Range) → IsMapFrom low m → holding m index ≡ Some r → without m index ≡ over m r.first r.last 0
+without_is_store [] low index r ordered held = absurd (cc)
+without_is_store (s ∷ m) low index r ordered held = elim (cases_Bool (holds index s)) [
+  | inl here ↦
+      (let same : s ≡ r = (let at = rw here at held in cc) in
+      let is = holds_is s index here in
+      let to = is.1 in
+      let whole : without (s ∷ m) index ≡ m = rw here (without_none m (s.last + 1) index (omega arith) ordered.3) in
+      subst (λ (x : Range). without (s ∷ m) index ≡ over (s ∷ m) x.first x.last 0) same (whole ∙ sym (store_exact s m low 0 ordered)))
+  | inr behind ↦
+      (let at = rw behind at held in
+      let begins = held_from m (s.last + 1) index r ordered.3 at in
+      let lies = held_each (λ (x : Range). Unit {0}) m index r (any m) at in
+      let from = lies.1 in let to = lies.2 in
+      let less : without (s ∷ m) index ≡ s ∷ without m index = rw behind refl in
+      less ∙ (ap (λ (l : List Range). s ∷ l) (without_is_store m (s.last + 1) index r ordered.3 at) ∙ sym (store_behind s m r.first r.last 0 ordered.1 (omega arith) (omega arith))))
+]
+  where
+    any : (l : List Range) → AllByRecursion (λ (x : Range). Unit {0}) l
+    any [] = tt
+    any (x ∷ l) = (tt, any l)
+
+-- the indexes of a range, whatever its entry
+abbrev pub extent : Range → Range
+extent r = record { first = r.first; last = r.last; entry = 0 }
+
+pub stored_some : (first last entry : ℕ) → entry ≢ 0 → part_stored first last entry ≡ record { first = first; last = last; entry = entry } ∷ []
+stored_some first last entry some = elim (cases_Bool (entry == 0)) [ inl none ↦ absurd (some (eqb-true entry 0 none)) | inr other ↦ rw other refl ]
+
+-- a store of an entry over exactly one range leaves every range its indexes
+pub exact_extents : (m : List Range) (low entry index : ℕ) (r : Range) → IsMapFrom low m → holding m r.first ≡ Some r → entry ≢ 0 → option_map extent (holding (over m r.first r.last entry) index) ≡ option_map extent (holding m index)
+exact_extents [] low entry index r ordered held some = absurd (cc)
+exact_extents (s ∷ m) low entry index r ordered held some = elim (cases_Bool (holds r.first s)) [
+  | inl here ↦
+      (let same : s ≡ r = (let at = rw here at held in cc) in
+      let stored : over (s ∷ m) s.first s.last entry ≡ record { first = s.first; last = s.last; entry = entry } ∷ m = store_exact s m low entry ordered ∙ ap (λ (l : List Range). l ++ m) (stored_some s.first s.last entry some) in
+      subst (λ (x : Range). option_map extent (holding (over (s ∷ m) x.first x.last entry) index) ≡ option_map extent (holding (s ∷ m) index)) same
+      (ap (λ (l : List Range). option_map extent (holding l index)) stored ∙ other_entry s m index entry))
+  | inr behind ↦
+      (let at = rw behind at held in
+      let begins = held_from m (s.last + 1) r.first r ordered.3 at in
+      let lies = held_each (λ (x : Range). x.first ≤ x.last) m r.first r (orders m (s.last + 1) ordered.3) at in
+      let to = lies.0 in
+      ap (λ (l : List Range). option_map extent (holding l index)) (store_behind s m r.first r.last entry ordered.1 (omega arith) (omega arith))
+      ∙ same_behind s (over m r.first r.last entry) m index (exact_extents m (s.last + 1) entry index r ordered.3 at some))
+]
+  where
+    orders : (l : List Range) (low : ℕ) → IsMapFrom low l → AllByRecursion (λ (x : Range). x.first ≤ x.last) l
+    orders [] low ordered = tt
+    orders (x ∷ l) low ordered = (ordered.1, orders l (x.last + 1) ordered.3)
+
+    other_entry : (x : Range) (l : List Range) (index entry : ℕ) → option_map extent (holding (record { first = x.first; last = x.last; entry = entry } ∷ l) index) ≡ option_map extent (holding (x ∷ l) index)
+    other_entry x l index entry = elim (cases_Bool (holds index x)) [ inl here ↦ rw here refl | inr behind ↦ rw behind refl ]
+
+    same_behind : (x : Range) (l k : List Range) (index : ℕ) → option_map extent (holding l index) ≡ option_map extent (holding k index) → option_map extent (holding (x ∷ l) index) ≡ option_map extent (holding (x ∷ k) index)
+    same_behind x l k index same = elim (cases_Bool (holds index x)) [ inl here ↦ rw here refl | inr behind ↦ rw behind same ]
+
+-- ---- what holds the first index after a store
+
+past_below : (m rest : List Range) (first : ℕ) → holding (parts_below m first ++ rest) first ≡ holding rest first
+past_below [] rest first = refl
+past_below (r ∷ m) rest first =
+    let behind = past_below m rest first in
+    cond_both (nat_lt r.first first) _ _ (λ kept. holding (map (cut_below first) kept ++ rest) first ≡ holding rest first)
+    (λ part. let begins = ltb-true r.first first part in rw (stops_below (cut_below first r) first (omega arith)) behind)
+    (λ out. behind)
+
+pub stored_holds : (m : List Range) (first last entry : ℕ) → first ≤ last → entry ≢ 0 → holding (over m first last entry) first ≡ Some (record { first = first; last = last; entry = entry })
+stored_holds m first last entry le some =
+    past_below m (part_stored first last entry ++ parts_above m last) first
+    ∙ (ap (λ (l : List Range). holding (l ++ parts_above m last) first) (stored_some first last entry some)
+    ∙ rw (le-leb first first (omega arith), le-leb first last le) refl)
