@@ -1,5 +1,5 @@
 -- A call of an engine from its begin to its end: what holds on while rows are only read.
-use Rattle.std.proofs.Common.{◌≡◌, ℕ, ◌+◌, refl, sym, ap, ◌∙◌, subst, inl, inr, ⊎_elim}
+use Rattle.std.proofs.Common.{◌≡◌, ℕ, ◌+◌, refl, sym, ap, ◌∙◌, subst, inl, inr, ⊎_elim, arith}
 use Rattle.mt_base.specs.declared.calls.Call.{Call}
 use Rattle.mt_base.specs.declared.kinds.Kind.TheVariants as trees
 use Rattle.mt_base.specs.declared.replies.Reply.{Reply}
@@ -9,8 +9,8 @@ use Rattle.mt_free.specs.Book.{Book}
 use Rattle.mt_rows.specs.Sheet.{Sheet, OnlyReads, begun}
 use Rattle.mt_rows.specs.Laws.{Tree, IsLawful, IsTree}
 use Rattle.mt_rows.specs.Sheet as words
-use Rattle.mt_rows.specs.Publish.{IsTreeOf, IsLawfulOf, IsRefused, IsCounted, IsHeldBack, map_by, tree_as, finished}
-use Rattle.mt_engine.specs.Engine.{IsEngineState, IsIdle, IsInCall, IsAnswered, IsDone, HadRoom, IsApplied, IsShortFor}
+use Rattle.mt_rows.specs.Publish.{IsTreeOf, IsRefused, IsCounted, map_by, tree_as, finished}
+use Rattle.mt_engine.specs.Engine.{IsEngineState, IsIdle, IsInCall, IsAnswered, IsDone, IsApplied, IsShortFor}
 
 state_with : (s : Sheet) (book : Book) (reads : _) → IsEngineState s book → IsEngineState (record s { reads = reads }) book
 state_with s book reads state = record {
@@ -22,8 +22,8 @@ state_with s book reads state = record {
   grown = state.grown;
 }
 
-in_call_with : (s : Sheet) (book : Book) (reads : _) → IsInCall s book → IsInCall (record s { reads = reads }) book
-in_call_with s book reads in_call = record { flying = in_call.flying; before = in_call.before; state = state_with s book reads in_call.state }
+pub in_call_with : (s : Sheet) (book : Book) (reads : _) → IsInCall s book → IsInCall (record s { reads = reads }) book
+in_call_with s book reads in_call = record { flying = in_call.flying; before = in_call.before; state = state_with s book reads in_call.state; scans = in_call.scans }
 
 pub in_call_if_read : (s s' : Sheet) (book : Book) → OnlyReads s s' → IsInCall s book → IsInCall s' book
 in_call_if_read s s' book reads in_call = subst (λ (x : Sheet). IsInCall x book) (sym reads) (in_call_with s book s'.reads in_call)
@@ -39,7 +39,7 @@ begun_state s book state = record {
 }
 
 pub in_call_begun : (s s' : Sheet) (book : Book) → s' ≡ begun s → IsIdle s book → IsInCall s' book
-in_call_begun s s' book begins idle = subst (λ (x : Sheet). IsInCall x book) (sym begins) (record { flying = refl; before = refl; state = begun_state s book idle.state })
+in_call_begun s s' book begins idle = subst (λ (x : Sheet). IsInCall x book) (sym begins) (record { flying = refl; before = refl; state = begun_state s book idle.state; scans = inl (omega arith) })
 
 is_tree : (t : Tree) → IsLawful t → IsTree t
 is_tree t (inl empty) = inl empty

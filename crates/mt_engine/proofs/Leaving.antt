@@ -15,6 +15,7 @@ use Rattle.mt_rows.specs.Sheet.{Sheet, OnlyReads}
 use Rattle.mt_rows.specs.Publish.{AreOfKind, IsRefused, finished, map_by, with_record}
 use Rattle.mt_engine.specs.Engine.{IsIdle, IsInCall, IsAnswered, IsDone}
 use Rattle.mt_engine.specs.Rooms.{IsScanned, IsShortOf}
+use Rattle.mt_engine.proofs.InCalls.{in_call_with}
 
 -- the call's reply leaves the map
 abbrev StaysBy : Sheet → Call → Reply → Type 0
@@ -65,36 +66,10 @@ module _ (s : Sheet) (reads : Option ℕ) (scan : Scan) (scans cleared : ℕ) wh
       rest = refl;
     }
 
--- a call goes on while rows are read
-read_in_call : (s : Sheet) (reads : Option ℕ) (book : Book) → IsInCall s book → IsInCall (record s { reads = reads }) book
-read_in_call s reads book is = record {
-  flying = is.flying;
-  before = is.before;
-  state = record {
-    lawful = record { of_kind = record { told = is.state.lawful.of_kind.told; width = is.state.lawful.of_kind.width }; words = is.state.lawful.words };
-    live = is.state.live;
-    none_buried = is.state.none_buried;
-    booked = record {
-      sound = is.state.booked.sound;
-      rows = is.state.booked.rows;
-      out = is.state.booked.out;
-      reached = is.state.booked.reached;
-      spare = is.state.booked.spare;
-      stamps = is.state.booked.stamps;
-    };
-    held = is.state.held;
-    grown = is.state.grown;
-  };
-  scans = is.scans;
-}
-
-pub reads_in_call : (s s' : Sheet) (book : Book) → IsInCall s book → OnlyReads s s' → IsInCall s' book
-reads_in_call s s' book is reads = subst (λ (t : Sheet). IsInCall t book) (sym reads) (read_in_call s s'.reads book is)
-
 -- rows were only read, and the map stays
 pub leaves : (s s' : Sheet) (book : Book) (call : Call) (reply : Reply) → IsInCall s book → OnlyReads s s' → acted trees.Range (map_by s.tree) call ≡ (map_by s.tree, reply) → IsAnswered s s' book book call reply
 leaves s s' book call reply is reads stays =
-    subst (λ (t : Sheet). IsAnswered s t book book call reply) (sym reads) (answered s s'.reads s.scan s.scans s.cleared book book call reply (read_in_call s s'.reads book is) (inl stays))
+    subst (λ (t : Sheet). IsAnswered s t book book call reply) (sym reads) (answered s s'.reads s.scan s.scans s.cleared book book call reply (in_call_with s book s'.reads is) (inl stays))
 
 -- a scan found too few free rows
 pub refuses : (s s₁ s' : Sheet) (book book' : Book) (call : Call) (shortage : Shortage) → IsInCall s book → OnlyReads s s₁ → IsScanned s₁ s' book book' → IsShortOf s' shortage → NeedsRows trees.Range (map_by s.tree) call
