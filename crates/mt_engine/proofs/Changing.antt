@@ -13,7 +13,7 @@ use Rattle.mt_base.specs.Width.{greatest}
 use Rattle.mt_free.specs.Book.{Book}
 use Rattle.mt_rows.specs.Spans.{root_span}
 use Rattle.mt_rows.specs.Trees.{height_in, deepest}
-use Rattle.mt_rows.specs.Laws.{Tree, Stands, top_of}
+use Rattle.mt_rows.specs.Laws.{Tree, Stands, IsLawful, top_of}
 use Rattle.mt_rows.specs.Sheet.{Sheet, OnlyReads}
 use Rattle.mt_rows.specs.Publish.{tree_as, map_by}
 use Rattle.mt_rows.proofs.Depth.{height_by_depth}
@@ -32,6 +32,7 @@ use Rattle.mt_engine.specs.Ways.{IsHoleOver, IsExactly, IsWay}
 use Rattle.mt_engine.proofs.InCalls.{tree_in_call}
 use Rattle.mt_engine.proofs.Needs.{hole_over_hole, store_needs_rows, first_store_needs_rows}
 use Rattle.mt_engine.proofs.Performing.{none_at_root}
+use Rattle.mt_engine.proofs.SlotQueries.{not_none}
 use Rattle.mt_engine.proofs.Slots.{tree_map, slot_tells}
 
 -- what stands at the first index of a store: nothing in the empty tree, else what its slot has
@@ -47,11 +48,11 @@ module _ (s : Sheet) (book : Book) (in_call : IsInCall s book) (first last entry
   within = let order = store.order in let last_within = store.within in omega arith
 
   some_root : (handle : Handle) → StandsHere s first (Some handle) → s.tree.root ≢ 0
-  some_root handle here empty = here.none.1 empty
+  some_root handle here empty = not_none handle (s.tree.root ≡ 0) here.none empty
 
   stored_is : (here : Option Handle) → StandsHere s first here → IsWay here first last entry Nothing → over m first last entry ≡ m
   stored_is None here none =
-      let empty = none_at_root s.tree (here.none.0 tt) in
+      let empty = none_at_root s.tree (here.none.0 refl) in
       (λ i. over (empty i) first last (none i)) ∙ sym empty
   stored_is (Some handle) here way =
       let tells = slot_tells s trees.Range first (tree_in_call s book in_call) (some_root handle here) within in
@@ -66,7 +67,7 @@ module _ (s : Sheet) (book : Book) (in_call : IsInCall s book) (first last entry
   -- a store by new rows needs them
   pub new_rows_needed : (here : Option Handle) → StandsHere s first here → call ≢ Clear → IsWay here first last entry NewRows → NeedsRows trees.Range m call
   new_rows_needed None here no_clear some =
-      let empty = none_at_root s.tree (here.none.0 tt) in
+      let empty = none_at_root s.tree (here.none.0 refl) in
       subst (λ (x : List Range). NeedsRows trees.Range x call) (sym empty)
       (first_store_needs_rows (greatest s.tree.table.width) first last entry call reply (subst (λ (x : List Range). IsStoreBy trees.Range (greatest s.tree.table.width) x call reply first last entry) empty store) no_clear some)
   new_rows_needed (Some handle) here no_clear way =
@@ -78,7 +79,7 @@ module _ (s : Sheet) (book : Book) (in_call : IsInCall s book) (first last entry
 
   pub some_entry : (here : Option Handle) → StandsHere s first here → IsWay here first last entry NewRows → s.tree.root ≡ 0 → entry ≢ 0
   some_entry None here some empty = some
-  some_entry (Some handle) here way empty = absurd (here.none.1 empty)
+  some_entry (Some handle) here way empty = absurd (not_none handle (s.tree.root ≡ 0) here.none empty)
 
   -- a store by one word is one of the range of the handle
   pub one_handle : (here : Option Handle) (at : Handle) → StandsHere s first here → IsWay here first last entry (OneWord at) → IsHandleOf s at
@@ -99,7 +100,7 @@ module _ (s : Sheet) (book : Book) (in_call : IsInCall s book) (first last entry
 pub path_height : (s : Sheet) (book : Book) (index : ℕ) (path : List PathStep) → IsInCall s book → index ≤ greatest s.tree.table.width → path ≡ path_in s.tree.table s.tree.root index → length path ≡ height_in s.tree.table s.tree.root
 path_height s book index path in_call within is = by in_call.state.lawful.words
   where
-    by : _ → length path ≡ height_in s.tree.table s.tree.root
+    by : IsLawful (tree_as trees.Range s.rows s.tree) → length path ≡ height_in s.tree.table s.tree.root
     by (inl empty) = ap length (is ∙ path_of_none s.tree.table deepest (root_span s.tree.table s.tree.root) index (ap named_kind empty)) ∙ sym (ap (height_in s.tree.table) empty)
     by (inr (h, stands, parent, tended)) =
         let t = tree_as trees.Range s.rows s.tree in
@@ -128,3 +129,21 @@ may_replace_now s s' book book' left first last entry number call reply scanned 
       some = λ empty. some (ap (λ (x : Sheet). x.tree.root) same ∙ empty);
       left_path = path ∙ ap (λ (x : Sheet). path_in x.tree.table x.tree.root first) same;
     }
+
+-- ---- what was read before
+
+pub stands_here : (s s₁ s₂ : Sheet) (first : ℕ) (path : List PathStep) (here : Option Handle) → OnlyReads s s₁ → OnlyReads s₁ s₂ → path ≡ path_in s.tree.table s.tree.root first → IsNone here ↔ (s₁.tree.root ≡ 0)
+    → ((index : ℕ) → path ≡ path_in s₁.tree.table s₁.tree.root index → IfSome here (λ handle. handle ≡ handle_in s₁.tree index)) → StandsHere s₂ first here
+stands_here s s₁ s₂ first path here walked loaded is none some =
+    let at : path ≡ path_in s₁.tree.table s₁.tree.root first = is ∙ ap (λ (x : Sheet). path_in x.tree.table x.tree.root first) (sym walked) in
+    subst (λ (x : Sheet). StandsHere x first here) (sym loaded) (stands_with s₁ s₂.reads first here (record { none = none; some = some first at }))
+  where
+    stands_with : (s : Sheet) (reads : _) (first : ℕ) (here : Option Handle) → StandsHere s first here → StandsHere (record s { reads = reads }) first here
+    stands_with s reads first here stands = record { none = stands.none; some = stands.some }
+
+pub store_read : (s s' : Sheet) (call : Call) (reply : Reply) (first last entry : ℕ) → OnlyReads s s' → IsStoreBy trees.Range (greatest s.tree.table.width) (map_by s.tree) call reply first last entry
+    → IsStoreBy trees.Range (greatest s'.tree.table.width) (map_by s'.tree) call reply first last entry
+store_read s s' call reply first last entry reads store = subst (λ (x : Sheet). IsStoreBy trees.Range (greatest x.tree.table.width) (map_by x.tree) call reply first last entry) (sym reads) store
+
+pub within_read : (s s' : Sheet) (index : ℕ) → OnlyReads s s' → index ≤ greatest s.tree.table.width → index ≤ greatest s'.tree.table.width
+within_read s s' index reads within = subst (λ (x : Sheet). index ≤ greatest x.tree.table.width) (sym reads) within

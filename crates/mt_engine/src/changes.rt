@@ -67,7 +67,9 @@ pub fn change<R: Rows>(
             Ok(())
         }
         Way::NewRows => {
-            make_room(rows, book, left.len() as u64)?;
+            if let Err(shortage) = make_room(rows, book, left.len() as u64) {
+                return Err(shortage);
+            }
             replace_range(
                 rows,
                 book,
