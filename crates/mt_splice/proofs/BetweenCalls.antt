@@ -1,7 +1,6 @@
 -- A store within a call: the call begins, rows are only read, then replaced, and the rows are ready once more when it ends.
-use Rattle.std.proofs.Common.{◌≡◌, ◌≢◌, ℕ, zero, suc, ◌+◌, ◌*◌, ◌-◌, ◌^◌, ◌<◌, ◌≤◌, ◌==◌, ◌++◌, List, [], ◌∷◌, Bool, true, false, length, nat_lt, refl, sym, ap, ◌∙◌, subst, inl, inr, arith, length-append}
-use Rattle.std.specs.Prelude.{if◌then◌else◌}
-use Rattle.std.proofs.lemmas.Bool.{cases_Bool, eqb-true, eqb-false, le-ltb, ltb-true, ltb-false}
+use Rattle.std.proofs.Common.{◌≡◌, ◌≢◌, ℕ, zero, suc, ◌+◌, ◌*◌, ◌^◌, ◌<◌, ◌≤◌, List, false, length, refl, sym, ap, ◌∙◌, subst, inl, inr, arith}
+use Rattle.std.proofs.lemmas.Bool.{le-ltb}
 use Rattle.mt_base.specs.declared.kinds.Kind.{Kind}
 use Rattle.mt_base.specs.declared.kinds.Kind.TheVariants as trees
 use Rattle.mt_base.specs.declared.widths.Width.{Width}
@@ -17,37 +16,25 @@ use Rattle.mt_base.specs.Map.{over}
 use Rattle.mt_base.specs.Width.{greatest}
 use Rattle.mt_free.specs.Book.{Book}
 use Rattle.mt_layout.specs.declared.items.Item.{Item}
-use Rattle.mt_layout.specs.declared.names.RowKind.TheVariants.{Leaf}
 use Rattle.mt_layout.specs.declared.spans.Span.{Span}
-use Rattle.mt_layout.specs.Rows.{row_in, named_kind}
-use Rattle.mt_layout.specs.Columns.{end_of}
-use Rattle.mt_layout.specs.Spans.{Fills, spans_from}
-use Rattle.mt_layout.proofs.NameLaws.{Names-named_kind}
-use Rattle.mt_leaf.specs.Edits.{edited, starting}
-use Rattle.mt_leaf.proofs.Spans.{spans_from-append}
-use Rattle.mt_rows.specs.Spans.{root_span, slots_of, gaps_of, base_of}
+use Rattle.mt_layout.specs.Spans.{spans_from}
+use Rattle.mt_leaf.specs.Edits.{edited}
+use Rattle.mt_rows.specs.Spans.{root_span}
 use Rattle.mt_rows.specs.Trees.{height_in, deepest}
-use Rattle.mt_rows.specs.Laws.{Tree, IsLawful, IsTree, IsRow, Stands, ParentLaw, IsTended, top_of}
+use Rattle.mt_rows.specs.Laws.{Tree, IsLawful, IsTree, ParentLaw, IsTended}
 use Rattle.mt_rows.specs.Replacement.{root_of}
 use Rattle.mt_rows.specs.Sheet.{Sheet, OnlyReads, begun}
 use Rattle.mt_rows.specs.Publish.{tree_as, IsLawfulOf, map_by, finished}
 use Rattle.mt_rows.specs.declared.rows.Place.{Place}
 use Rattle.mt_rows.specs.declared.rows.Place.TheVariants.{Root, Slot}
 use Rattle.mt_rows.proofs.Depth.{height_by_depth}
-use Rattle.mt_rows.proofs.Lists.{levels_map, fills-append}
-use Rattle.mt_rows.proofs.Reached.{one_of_parts, one_place}
+use Rattle.mt_rows.proofs.Lists.{levels_map}
 use Rattle.mt_path.specs.declared.paths.PathStep.{PathStep}
-use Rattle.mt_path.specs.Paths.{path_in, step_at, step_in, At}
-use Rattle.mt_path.proofs.Places.{at_once}
-use Rattle.mt_path.proofs.Entering.{path_of_none}
-use Rattle.mt_path.proofs.TreePaths.{row_of, rows_at, step, place, lawful, levels, rows_fill, right_begins}
-use Rattle.mt_splice.specs.Splice.{IsBookOf, IsStoreBy, IsSpliced, HasParents, WasPublishedAt, MaySplice, MayReplace, MayClear, last_step, leaf_spans, region_of}
+use Rattle.mt_path.specs.Paths.{path_in}
+use Rattle.mt_path.proofs.TreePaths.{place, lawful, levels}
+use Rattle.mt_splice.specs.Splice.{IsBookOf, IsStoreBy, IsSpliced, HasParents, WasPublishedAt, MaySplice, MayReplace, MayClear, last_step, region_of}
 use Rattle.mt_splice.specs.Between.{IsBetweenCalls}
 use Rattle.mt_splice.specs.Regions.{AreEnds}
-use Rattle.mt_splice.proofs.Sizes.{leaf_slots}
-use Rattle.mt_splice.proofs.Gathering.{few_items}
-use Rattle.mt_splice.proofs.LevelRows.{fills_end, fills_rise}
-use Rattle.mt_splice.proofs.PathRows.{rows_in_order, spans_of_step}
 
 -- ---- laws before and after
 

@@ -1,18 +1,8 @@
 -- The leaves at a store's ends, and their items one behind the other.
-use Rattle.std.proofs.Common.{◌≡◌, ◌≢◌, ℕ, zero, suc, ◌+◌, ◌*◌, ◌-◌, ◌^◌, ◌<◌, ◌≤◌, ◌==◌, ◌++◌, List, [], ◌∷◌, Bool, true, false, length, nat_lt, refl, sym, ap, ◌∙◌, subst, inl, inr, arith, length-append}
+use Rattle.std.proofs.Common.{◌≡◌, ℕ, ◌+◌, ◌*◌, ◌-◌, ◌<◌, ◌≤◌, ◌==◌, ◌++◌, List, [], ◌∷◌, Bool, true, false, length, nat_lt, refl, sym, ap, ◌∙◌, subst, inl, inr, arith, length-append}
 use Rattle.std.specs.Prelude.{if◌then◌else◌}
-use Rattle.std.proofs.lemmas.Bool.{cases_Bool, eqb-true, eqb-false, le-ltb, ltb-true, ltb-false}
+use Rattle.std.proofs.lemmas.Bool.{cases_Bool, eqb-true, eqb-false, ltb-true, ltb-false}
 use Rattle.mt_base.specs.declared.kinds.Kind.TheVariants as trees
-use Rattle.mt_base.specs.declared.widths.Width.{Width}
-use Rattle.mt_base.specs.declared.widths.Width.TheVariants.{Long}
-use Rattle.mt_base.specs.declared.calls.Call.TheVariants.{Store}
-use Rattle.mt_base.specs.declared.replies.Reply.TheVariants as reply
-use Rattle.mt_base.specs.declared.ranges.Range.{Range}
-use Rattle.mt_base.specs.Call.{acted}
-use Rattle.mt_base.specs.Entry.{reserved}
-use Rattle.mt_base.specs.Map.{over}
-use Rattle.mt_base.specs.Width.{greatest}
-use Rattle.mt_free.specs.Book.{Book}
 use Rattle.mt_layout.specs.declared.items.Item.{Item}
 use Rattle.mt_layout.specs.declared.names.RowKind.TheVariants.{Leaf}
 use Rattle.mt_layout.specs.declared.spans.Span.{Span}
@@ -20,24 +10,21 @@ use Rattle.mt_layout.specs.Rows.{row_in, named_kind}
 use Rattle.mt_layout.specs.Columns.{end_of}
 use Rattle.mt_layout.specs.Spans.{Fills, spans_from}
 use Rattle.mt_layout.proofs.NameLaws.{Names-named_kind}
-use Rattle.mt_leaf.specs.Edits.{edited, starting}
+use Rattle.mt_leaf.specs.Edits.{starting}
 use Rattle.mt_leaf.proofs.Spans.{spans_from-append}
 use Rattle.mt_rows.specs.Spans.{root_span, slots_of, gaps_of, base_of}
-use Rattle.mt_rows.specs.Trees.{height_in, deepest}
-use Rattle.mt_rows.specs.Laws.{Tree, IsLawful, IsTree, IsRow, Stands, ParentLaw, IsTended, top_of}
-use Rattle.mt_rows.specs.Replacement.{root_of}
-use Rattle.mt_rows.specs.Sheet.{Sheet, OnlyReads, begun}
-use Rattle.mt_rows.specs.Publish.{tree_as, map_by, finished}
-use Rattle.mt_rows.specs.declared.rows.Place.{Place}
-use Rattle.mt_rows.proofs.Depth.{height_by_depth}
-use Rattle.mt_rows.proofs.Lists.{levels_map, fills-append}
+use Rattle.mt_rows.specs.Trees.{deepest}
+use Rattle.mt_rows.specs.Laws.{Tree, IsTree, IsRow, Stands, top_of}
+use Rattle.mt_rows.specs.Sheet.{Sheet}
+use Rattle.mt_rows.specs.Publish.{tree_as}
+use Rattle.mt_rows.proofs.Lists.{fills-append}
 use Rattle.mt_rows.proofs.Reached.{one_of_parts, one_place}
 use Rattle.mt_path.specs.declared.paths.PathStep.{PathStep}
 use Rattle.mt_path.specs.Paths.{path_in, step_at, step_in, At}
 use Rattle.mt_path.proofs.Places.{at_once}
 use Rattle.mt_path.proofs.Entering.{path_of_none}
 use Rattle.mt_path.proofs.TreePaths.{row_of, rows_at, step, place, lawful, levels, rows_fill, right_begins}
-use Rattle.mt_splice.specs.Splice.{IsBookOf, IsSpliced, HasParents, MaySplice, last_step, leaf_spans, region_of}
+use Rattle.mt_splice.specs.Splice.{last_step, leaf_spans, region_of}
 use Rattle.mt_splice.specs.Regions.{AreEnds, IsRunOver, leaf_items, leaves_items}
 use Rattle.mt_splice.proofs.Sizes.{leaf_slots}
 use Rattle.mt_splice.proofs.Gathering.{few_items}

@@ -1,6 +1,6 @@
 -- The leaves at the ends of a store, and their items.
 -- Source: the kernel's lib/maple_tree.c, mas_wr_spanning_store, which takes the two end nodes of a store.
-use Rattle.std.specs.Prelude.{◌≡◌, ◌+◌, ◌*◌, ◌≤◌, ◌==◌, ◌++◌, ℕ, List, length, if◌then◌else◌}
+use Rattle.std.specs.Prelude.{◌≡◌, ◌*◌, ◌≤◌, ◌==◌, ◌++◌, ℕ, List, length, if◌then◌else◌}
 use Rattle.mt_base.specs.declared.kinds.Kind.TheVariants as trees
 use Rattle.mt_base.specs.declared.widths.Width.{Width}
 use Rattle.mt_base.specs.Width.{greatest}

@@ -1,5 +1,4 @@
-use Rattle.std.proofs.Common.{List, sym, ap, ◌∙◌, arith}
-use Rattle.mt_base.specs.declared.kinds.Kind.TheVariants as trees
+use Rattle.std.proofs.Common.{List, ap, ◌∙◌, arith}
 use Rattle.mt_base.specs.declared.calls.Call.TheVariants.{Store}
 use Rattle.mt_base.specs.declared.replies.Reply.TheVariants as reply
 use Rattle.mt_base.specs.declared.ranges.Range.{Range}
