@@ -113,3 +113,14 @@ applied s s₁ s' s″ book book' call reply begins answered' ends =
               (λ i. ((ap (λ (x : Sheet). x.rows) answered.rest i, ap (λ (x : Sheet). x.opened) answered.rest i), (ap (λ (x : Sheet). x.ended) answered.rest i, refused.1 i))) r.short;
           counted = subst (λ (x : Sheet). IsCounted x r.shortage) (sym ends) (counted_end s' call reply r.shortage r.counted);
         }
+
+-- ---- between calls
+
+idle_with : (s : Sheet) (book : Book) (reads : _) → IsIdle s book → IsIdle (record s { reads = reads }) book
+idle_with s book reads idle = record { idle = idle.idle; state = state_with s book reads idle.state }
+
+pub idle_if_read : (s s' : Sheet) (book : Book) → OnlyReads s s' → IsIdle s book → IsIdle s' book
+idle_if_read s s' book reads idle = subst (λ (x : Sheet). IsIdle x book) (sym reads) (idle_with s book s'.reads idle)
+
+pub tree_idle : (s : Sheet) (book : Book) → IsIdle s book → IsTreeOf s trees.Range
+tree_idle s book idle = let lawful = idle.state.lawful in record { of_kind = lawful.of_kind; words = is_tree (tree_as trees.Range s.rows s.tree) lawful.words }

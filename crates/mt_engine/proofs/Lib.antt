@@ -2,6 +2,7 @@ pub mod AfterSplice
 pub mod Answering
 pub mod Changing
 pub mod ExactChanges
+pub mod FreshEngine
 pub mod HandleSteps
 pub mod InCalls
 pub mod LeafSlots

@@ -2,6 +2,7 @@
 -- Source: this project's own.
 use Rattle.std.specs.Prelude.{◌≡◌, ◌⊎◌, ℕ, ◌+◌, ◌-◌, ◌*◌, ◌^◌, ◌<◌, ◌≤◌, true, false, All, List, length}
 use Rattle.mt_base.specs.declared.calls.Call.{Call}
+use Rattle.mt_base.specs.declared.kinds.Kind.{Kind}
 use Rattle.mt_base.specs.declared.kinds.Kind.TheVariants as trees
 use Rattle.mt_base.specs.declared.replies.Reply.{Reply}
 use Rattle.mt_base.specs.Call.{acted}
@@ -24,6 +25,12 @@ pub record IsEngineState (s : Sheet) (book : Book) : Type 0 where
   pub booked : IsBookOf s book (s.ended + 1)
   pub held : All (λ (h : Held). life_of s h.row ≡ Dead h.stamp) book.held
   pub grown : length book.held + live_count book ≤ s.opened + 28 * s.ended
+
+-- what an engine stands for
+pub record Parts : Type 0 where
+  pub sheet : Sheet
+  pub book : Book
+  pub kind : Kind
 
 -- between two calls
 pub record IsIdle (s : Sheet) (book : Book) : Type 0 where

@@ -3,14 +3,15 @@
 
 mod calls;
 mod changes;
+mod engine;
 mod handles;
 pub mod laws;
 mod lists;
 mod plans;
 mod queries;
 mod rooms;
+#[cfg(test)]
+mod tests;
 mod ways;
 
-pub use calls::apply;
-pub use lists::list;
-pub use queries::ask;
+pub use engine::Engine;

@@ -1,0 +1,152 @@
+ghost use Rattle.std.specs.Prelude.{◌≡◌, ◌<◌, ◌+◌, ◌-◌, ◌^◌, ◌≤◌, IfOk};
+
+use crate::Engine;
+use mt_base::{Call, Kind, NoMemory, Query, Reply, Shortage, errno};
+use mt_free::RowBook;
+use mt_list::{ListMap, Ranges};
+use mt_rows::PlainRows;
+use std::alloc::Global;
+use std::process::Abort;
+use std::test::Fail;
+
+/// The last index.
+const TOP: u64 = u64::MAX;
+
+/// An engine of an empty tree over so many rows in memory.
+fn fresh(alloc: Global, rows: u64) -> Result<Engine<PlainRows>, NoMemory>
+    requires { rows ≤ 65504 }
+    ensures { IfOk result (λ engine. engine.sheet.ended ≡ 0) }
+{
+    let book = RowBook::new(alloc, rows)?;
+    Ok(Engine::new(PlainRows::new(alloc, rows)?, book, Kind::Range))
+}
+
+fn store(first: u64, last: u64, entry: u64) -> Call {
+    Call::Store { first, last, entry }
+}
+
+fn insert(first: u64, last: u64, entry: u64) -> Call {
+    Call::Insert { first, last, entry }
+}
+
+fn erase(index: u64) -> Call {
+    Call::Erase { index }
+}
+
+/// Asks each kind of query at an index, with bounds, of the engine and of the list, which answer the same.
+fn expect_answers(
+    rt: &impl Abort,
+    engine: &mut Engine<PlainRows>,
+    list: &mut ListMap,
+    index: u64,
+    bound: u64,
+)
+    ensures { engine.new.sheet.ended ≡ engine.old.sheet.ended }
+{
+    let queries = [
+        Query::Load { index },
+        Query::Find { index, max: bound },
+        Query::Next { index, max: bound },
+        Query::Prev { index, min: bound },
+        Query::Rfind { index, min: bound },
+    ];
+    for query in queries {
+        assert_eq!(rt; engine.ask(&query), list.ask(&query), "at {query:?}");
+    }
+}
+
+/// Makes a call on the engine and on the list, which answer the same and then hold the same ranges.
+fn expect_same(
+    rt: &impl Abort,
+    alloc: Global,
+    engine: &mut Engine<PlainRows>,
+    list: &mut ListMap,
+    call: &Call,
+) -> Result<(), NoMemory>
+    requires { engine.old.sheet.ended < 2 ^ 62 - 1 }
+    ensures { engine.new.sheet.ended ≡ engine.old.sheet.ended + 1 }
+{
+    let reply = engine.apply(call);
+    assert_eq!(rt; reply, list.act(call)?, "at {call:?}");
+    let ranges = engine.list(alloc)?;
+    assert_eq!(rt;
+        ranges.as_slice(),
+        list.list(alloc)?.as_slice(),
+        "after {call:?}"
+    );
+    expect_answers(rt, engine, list, 15, TOP);
+    expect_answers(rt, engine, list, 30, 12);
+    Ok(())
+}
+
+#[test]
+fn answers_as_a_list_does(rt: HostRuntime) -> Result<(), Fail> {
+    let mut engine = fresh(rt.alloc(), 400)?;
+    let mut list = ListMap::new(rt.alloc(), Kind::Range);
+    let calls = [
+        erase(3),
+        Call::Clear,
+        store(5, 9, 0),
+        store(10, 19, 5),
+        store(12, 13, 7),
+        store(12, 13, 8),
+        store(5, 4, 1),
+        store(1, 1, 2),
+        insert(2, 2, 0),
+        insert(19, 25, 9),
+        insert(20, 25, 9),
+        store(0, TOP, 4),
+        store(TOP, TOP, 6),
+        store(7, 7, 0),
+        erase(7),
+        erase(8),
+        store(6, 6, 1),
+        erase(TOP),
+        erase(6),
+        erase(0),
+    ];
+    for call in calls {
+        expect_same(&rt, rt.alloc(), &mut engine, &mut list, &call)?;
+    }
+    for n in 0..80 {
+        expect_same(
+            &rt,
+            rt.alloc(),
+            &mut engine,
+            &mut list,
+            &store(2 * n, 2 * n, 1),
+        )?;
+    }
+    for n in 0..40 {
+        expect_same(&rt, rt.alloc(), &mut engine, &mut list, &erase(3 * n))?;
+    }
+    expect_same(&rt, rt.alloc(), &mut engine, &mut list, &Call::Clear)?;
+    Ok(())
+}
+
+#[test]
+fn tells_that_too_few_rows_are_free(rt: HostRuntime) -> Result<(), Fail> {
+    let mut engine = fresh(rt.alloc(), 4)?;
+    let shortage = Shortage {
+        need: 4,
+        free: 3,
+        live: 1,
+        held: 0,
+        by: None,
+    };
+    let calls = [
+        (store(10, 10, 5), Reply::Ok, None),
+        (store(20, 20, 7), Reply::NoNodes(shortage), Some(12)),
+        (store(10, 10, 9), Reply::Ok, None),
+        (insert(10, 12, 9), Reply::Exists, Some(17)),
+        (store(10, 10, 2), Reply::Invalid, Some(22)),
+        (Call::Clear, Reply::Ok, None),
+    ];
+    for (call, want, number) in calls {
+        let reply = engine.apply(&call);
+        assert_eq!(&rt; reply, want, "at {call:?}");
+        assert_eq!(&rt; errno(&reply), number, "at {call:?}");
+    }
+    assert_eq!(&rt; engine.list(rt.alloc())?.len(), 0);
+    Ok(())
+}
