@@ -1,5 +1,5 @@
 -- A store is carried out in the way that what stands at its first index allows.
-use Rattle.std.proofs.Common.{◌≡◌, ◌≢◌, ℕ, ◌+◌, ◌*◌, ◌-◌, ◌≤◌, ◌<◌, ◌↔◌, List, [], ◌∷◌, Some, None, Option, length, refl, sym, ap, ◌∙◌, subst, inl, inr, arith}
+use Rattle.std.proofs.Common.{◌≡◌, ◌≢◌, ℕ, ◌+◌, ◌≤◌, ◌↔◌, List, Some, None, Option, length, refl, sym, ap, ◌∙◌, subst, inl, inr, arith}
 use Rattle.std.specs.Prelude.{IsNone, IfSome}
 use Rattle.mt_base.specs.declared.calls.Call.{Call}
 use Rattle.mt_base.specs.declared.calls.Call.TheVariants.{Clear}
@@ -13,7 +13,7 @@ use Rattle.mt_base.specs.Width.{greatest}
 use Rattle.mt_free.specs.Book.{Book}
 use Rattle.mt_rows.specs.Spans.{root_span}
 use Rattle.mt_rows.specs.Trees.{height_in, deepest}
-use Rattle.mt_rows.specs.Laws.{Tree, Stands, IsLawful, top_of}
+use Rattle.mt_rows.specs.Laws.{IsLawful}
 use Rattle.mt_rows.specs.Sheet.{Sheet, OnlyReads}
 use Rattle.mt_rows.specs.Publish.{tree_as, map_by}
 use Rattle.mt_rows.proofs.Depth.{height_by_depth}
@@ -26,7 +26,7 @@ use Rattle.mt_splice.specs.Splice.{IsStoreBy, MayReplace, IsBookOf}
 use Rattle.mt_engine.specs.declared.handles.Handle.{Handle}
 use Rattle.mt_engine.specs.declared.ways.Way.TheVariants.{Nothing, OneWord, NewRows}
 use Rattle.mt_engine.specs.Handles.{handle_in, IsHandleOf}
-use Rattle.mt_engine.specs.Engine.{IsInCall, IsAnswered}
+use Rattle.mt_engine.specs.Engine.{IsInCall}
 use Rattle.mt_engine.specs.Rooms.{IsScanned, HasRoom}
 use Rattle.mt_engine.specs.Ways.{IsHoleOver, IsExactly, IsWay}
 use Rattle.mt_engine.proofs.InCalls.{tree_in_call}

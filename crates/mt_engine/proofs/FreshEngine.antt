@@ -1,5 +1,5 @@
 -- Rows and a book of which nothing was used yet make an engine.
-use Rattle.std.proofs.Common.{◌≡◌, ℕ, zero, suc, ◌+◌, ◌*◌, ◌-◌, ◌≤◌, length, refl, ap, arith}
+use Rattle.std.proofs.Common.{◌≡◌, ℕ, zero, suc, length, refl, ap, arith}
 use Rattle.std.proofs.lemmas.List.Elements.{All-nil}
 use Rattle.mt_free.specs.Book.{Held, IsBook, new_book, rows_down}
 use Rattle.mt_rows.specs.declared.rows.Life.TheVariants.{Dead}

@@ -1,11 +1,10 @@
-use Rattle.std.proofs.Common.{sym, ap, subst}
+use Rattle.std.proofs.Common.{sym, subst}
 use Rattle.mt_base.specs.declared.kinds.Kind.TheVariants as trees
 use Rattle.mt_base.specs.declared.replies.Reply.TheVariants.{NoNodes}
 use Rattle.mt_base.specs.Width.{greatest}
 use Rattle.mt_rows.specs.Sheet.{Sheet}
 use Rattle.mt_rows.specs.Publish.{map_by}
 use Rattle.mt_splice.specs.Splice.{IsStoreBy}
-use Rattle.mt_engine.specs.Engine.{IsAnswered}
 use Rattle.mt_engine.specs.Plans.{IsPlan}
 use Rattle.mt_engine.proofs.InCalls.{in_call_if_read, answered_after_reads}
 use Rattle.mt_engine.proofs.Leaving.{leaves}

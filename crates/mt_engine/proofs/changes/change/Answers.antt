@@ -5,7 +5,7 @@ use Rattle.mt_path.specs.Paths.{path_in}
 use Rattle.mt_splice.proofs.BetweenCalls.{reads_on}
 use Rattle.mt_engine.specs.Ways.{IsWay}
 use Rattle.mt_engine.proofs.Answering.{replaces}
-use Rattle.mt_engine.proofs.Changing.{nothing_acts, new_rows_needed, some_entry, one_handle, one_exact, one_store, path_height, may_replace_now, stands_here, store_read, within_read}
+use Rattle.mt_engine.proofs.Changing.{nothing_acts, new_rows_needed, some_entry, one_handle, one_store, path_height, may_replace_now, stands_here, store_read, within_read}
 use Rattle.mt_engine.proofs.InCalls.{in_call_if_read, answered_after_reads}
 use Rattle.mt_engine.proofs.Leaving.{leaves, refuses}
 use Rattle.mt_engine.proofs.Performing.{number_read}
