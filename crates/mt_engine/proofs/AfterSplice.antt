@@ -1,5 +1,5 @@
 -- A call that has replaced rows: what it has come to.
-use Rattle.std.proofs.Common.{◌≡◌, ℕ, ◌+◌, ◌*◌, ◌-◌, ◌<◌, ◌≤◌, ◌++◌, List, true, false, length, map, get_or, refl, sym, ap, ◌∙◌, subst, inl, inr, arith, length-append}
+use Rattle.std.proofs.Common.{◌≡◌, ℕ, ◌+◌, ◌*◌, ◌-◌, ◌<◌, ◌≤◌, ◌++◌, List, Bool, true, false, length, map, get_or, refl, sym, ap, ◌∙◌, subst, inl, inr, arith, length-append}
 use Rattle.std.specs.List.{All, Contains}
 use Rattle.std.proofs.lemmas.Bool.{cases_Bool}
 use Rattle.std.proofs.lemmas.List.{get_or-map, get_or_append_left, length-map}
@@ -9,7 +9,7 @@ use Rattle.mt_base.specs.declared.calls.Call.{Call}
 use Rattle.mt_base.specs.declared.kinds.Kind.TheVariants as trees
 use Rattle.mt_base.specs.declared.replies.Reply.{Reply}
 use Rattle.mt_base.specs.Call.{acted}
-use Rattle.mt_base.specs.Nodes.{NeedsRows}
+use Rattle.mt_base.specs.Nodes.{NeedsRows, is_exact_store}
 use Rattle.mt_free.specs.Book.{Book, Held, IsRowOf, held_rows, live_count}
 use Rattle.mt_rows.specs.declared.rows.Life.TheVariants.{Dead}
 use Rattle.mt_rows.specs.declared.rows.Place.{Place}
@@ -19,7 +19,7 @@ use Rattle.mt_rows.specs.Publish.{MayFinish, tree_as, is_reached, finished, map_
 use Rattle.mt_splice.specs.Splice.{IsBookOf, IsSpliced}
 use Rattle.mt_splice.specs.Between.{IsBetweenCalls}
 use Rattle.mt_splice.proofs.BetweenCalls.{low_tree, ready_again}
-use Rattle.mt_engine.specs.Engine.{IsEngineState, IsIdle, HadRoom, IsAnswered}
+use Rattle.mt_engine.specs.Engine.{IsEngineState, IsIdle, HadRoom, IsAnswered, is_refusal}
 
 -- ---- held rows
 
@@ -47,6 +47,9 @@ grows : (rows rows' free free' taken held held' height opened ended : ℕ) → r
 grows rows rows' free free' taken held held' height opened ended same frees few low counted counted' grown = omega arith
 
 -- ---- the whole
+
+pub not_both : (b : Bool) → b ≡ true → b ≡ false → ⊥
+not_both b is not = absurd (cc)
 
 -- a map and a reply, each by itself
 pub acts_by : (was : List Range × Reply) (m : List Range) (reply : Reply) → m ≡ was.0 → was.1 ≡ reply → was ≡ (m, reply)
@@ -122,11 +125,16 @@ module _ (s s' : Sheet) (book book' : Book) (number : ℕ) (call : Call) (reply 
       (sym spliced.rest) refl
 
   -- what it did, where the answer is the reply and there was room
-  pub answered_by : s.flying ≡ true → (acted trees.Range (map_by s.tree) call).1 ≡ reply → (NeedsRows trees.Range (map_by s.tree) call → HadRoom s s' book) → IsAnswered s s' book book' call reply
-  answered_by flies replies room = record {
+  pub answered_by : s.flying ≡ true → (acted trees.Range (map_by s.tree) call).1 ≡ reply → (NeedsRows trees.Range (map_by s.tree) call → HadRoom s s' book) → is_refusal reply ≡ false → is_exact_store (map_by s.tree) call ≡ false → IsAnswered s s' book book' call reply
+  answered_by flies replies room success inexact = record {
     may = may_finish flies;
     idle = idle_after;
-    answer = inl (record { acts = acts_by (acted trees.Range (map_by s.tree) call) (map_by s'.tree) reply spliced.map replies; room = room });
+    answer = inl (record {
+      acts = acts_by (acted trees.Range (map_by s.tree) call) (map_by s'.tree) reply spliced.map replies;
+      kept = λ refused. absurd (not_both (is_refusal reply) refused success);
+      room = room;
+      took = record { freed = book; is = inl refl; taken = spliced.moved.taken; free = spliced.moved.free; few = spliced.moved.few; exact = λ exact. absurd (not_both (is_exact_store (map_by s.tree) call) exact inexact) };
+    });
     record_told = told;
     rest = rest_is;
   }

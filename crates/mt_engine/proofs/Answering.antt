@@ -1,5 +1,5 @@
 -- What a call has come to, by the way in which it was carried out.
-use Rattle.std.proofs.Common.{◌≡◌, ℕ, ◌+◌, ◌*◌, ◌≤◌, List, length, refl, sym, ap, ◌∙◌, subst, inl}
+use Rattle.std.proofs.Common.{◌≡◌, ℕ, ◌+◌, ◌*◌, ◌≤◌, List, length, refl, sym, ap, ◌∙◌, subst, inl, inr, false}
 use Rattle.mt_base.specs.declared.ranges.Range.{Range}
 use Rattle.mt_base.specs.declared.calls.Call.{Call}
 use Rattle.mt_base.specs.declared.calls.Call.TheVariants.{Clear}
@@ -7,6 +7,7 @@ use Rattle.mt_base.specs.declared.kinds.Kind.TheVariants as trees
 use Rattle.mt_base.specs.declared.replies.Reply.{Reply}
 use Rattle.mt_base.specs.declared.replies.Reply.TheVariants as reply
 use Rattle.mt_base.specs.Call.{acted}
+use Rattle.mt_base.specs.Nodes.{NeedsRows, is_exact_store}
 use Rattle.mt_base.specs.Width.{greatest}
 use Rattle.mt_free.specs.Book.{Book, after_reclaim}
 use Rattle.mt_rows.specs.Trees.{height_in}
@@ -16,9 +17,9 @@ use Rattle.mt_rows.specs.declared.rows.Place.TheVariants.{Root}
 use Rattle.mt_rows.specs.Sheet.{Tree, Sheet, OnlyReads}
 use Rattle.mt_rows.specs.Publish.{map_by, with_record}
 use Rattle.mt_splice.specs.Splice.{IsStoreBy, IsSpliced}
-use Rattle.mt_engine.specs.Engine.{IsInCall, IsAnswered, HadRoom, WasScanned}
+use Rattle.mt_engine.specs.Engine.{IsInCall, IsAnswered, HadRoom, TookRows, WasScanned, is_refusal}
 use Rattle.mt_engine.specs.Rooms.{IsScanned, HasRoom}
-use Rattle.mt_engine.proofs.AfterSplice.{acts_by, may_finish, idle_after, told, rest_is, answered_by}
+use Rattle.mt_engine.proofs.AfterSplice.{not_both, acts_by, may_finish, idle_after, told, rest_is, answered_by}
 
 -- ---- what was read and scanned before
 
@@ -69,22 +70,34 @@ module _ (s s₁ s₂ s' : Sheet) (book book₂ book' : Book) (number : ℕ) (ca
   map_is : map_by s'.tree ≡ (acted trees.Range (map_by s.tree) call).0
   map_is = spliced.map ∙ ap (λ (t : Tree). (acted trees.Range (map_by t) call).0) tree_is
 
-  by_rows : HasRoom s₂ book₂ → (acted trees.Range (map_by s.tree) call).1 ≡ reply → IsAnswered s s' book book' call reply
-  by_rows room replies = record {
+  took_rows : NeedsRows trees.Range (map_by s.tree) call → TookRows s s' book book' call
+  took_rows needs =
+      let scan_is : s'.scan ≡ s₂.scan = ap (λ (x : Sheet). x.scan) spliced.rest in
+      record {
+        freed = book₂;
+        is = inr (scanned.freed ∙ ap (λ (x : Scan). after_reclaim book x.least) (sym scan_is));
+        taken = spliced.moved.taken;
+        free = spliced.moved.free;
+        few = subst (λ (t : Tree). length spliced.moved.taken ≤ 3 * height_in t.table t.root + 1) tree_is spliced.moved.few;
+        exact = λ exact. absurd (not_both (is_exact_store (map_by s.tree) call) exact needs.more);
+      }
+
+  by_rows : HasRoom s₂ book₂ → NeedsRows trees.Range (map_by s.tree) call → is_refusal reply ≡ false → (acted trees.Range (map_by s.tree) call).1 ≡ reply → IsAnswered s s' book book' call reply
+  by_rows room need success replies = record {
     may = may_finish s₂ s' book₂ book' number call reply place scanned.in_call.state is_number spliced scanned.in_call.flying;
     idle = idle_after s₂ s' book₂ book' number call reply place scanned.in_call.state is_number spliced;
-    answer = inl (record { acts = acts_by (acted trees.Range (map_by s.tree) call) (map_by s'.tree) reply map_is replies; room = λ needs. had_room room });
+    answer = inl (record { acts = acts_by (acted trees.Range (map_by s.tree) call) (map_by s'.tree) reply map_is replies; kept = λ refused. absurd (not_both (is_refusal reply) refused success); room = λ needs. had_room room; took = took_rows need });
     record_told = told s₂ s' book₂ book' number call reply place scanned.in_call.state is_number spliced ∙ ap (λ (x : Sheet). with_record x call reply) scans;
     rest = then_changes s s₂ s' (scans_change s s₂ scans) (rest_is s₂ s' book₂ book' number call reply place scanned.in_call.state is_number spliced);
   }
 
-pub replaces : (s s₁ s₂ s' : Sheet) (book book₂ book' : Book) (first last entry number : ℕ) (call : Call) (reply : Reply) (place : Place) → IsInCall s book → OnlyReads s s₁ → IsScanned s₁ s₂ book book₂ → HasRoom s₂ book₂ → number ≡ s.ended + 1
+pub replaces : (s s₁ s₂ s' : Sheet) (book book₂ book' : Book) (first last entry number : ℕ) (call : Call) (reply : Reply) (place : Place) → IsInCall s book → OnlyReads s s₁ → IsScanned s₁ s₂ book book₂ → HasRoom s₂ book₂ → NeedsRows trees.Range (map_by s.tree) call → is_refusal reply ≡ false → number ≡ s.ended + 1
     → IsStoreBy trees.Range (greatest s.tree.table.width) (map_by s.tree) call reply first last entry → IsSpliced trees.Range s₂ s' book₂ book' number call reply place → IsAnswered s s' book book' call reply
-replaces s s₁ s₂ s' book book₂ book' first last entry number call reply place in_call reads scanned room is store spliced =
-    by_rows s s₁ s₂ s' book book₂ book' number call reply place reads scanned is spliced room (ap (λ (was : List Range × Reply). was.1) store.acts)
+replaces s s₁ s₂ s' book book₂ book' first last entry number call reply place in_call reads scanned room needs success is store spliced =
+    by_rows s s₁ s₂ s' book book₂ book' number call reply place reads scanned is spliced room needs success (ap (λ (was : List Range × Reply). was.1) store.acts)
 
 -- ---- by the end of all ranges
 
 pub clears : (s s' : Sheet) (book book' : Book) (number : ℕ) → IsInCall s book → number ≡ s.ended + 1 → IsSpliced trees.Range s s' book book' number Clear reply.Ok Root → IsAnswered s s' book book' Clear reply.Ok
 clears s s' book book' number in_call is spliced =
-    answered_by s s' book book' number Clear reply.Ok Root in_call.state is spliced in_call.flying refl (λ needs. absurd (needs.not_clear refl))
+    answered_by s s' book book' number Clear reply.Ok Root in_call.state is spliced in_call.flying refl (λ needs. absurd (needs.not_clear refl)) refl refl

@@ -50,13 +50,21 @@ tree_in_call s book in_call = let lawful = in_call.state.lawful in record { of_k
 
 -- ---- what was read before
 
+done_with : (s s' : Sheet) (book book' : Book) (call : Call) (reply : Reply) (reads : _) → IsDone (record s { reads = reads }) s' book book' call reply → IsDone s s' book book' call reply
+done_with s s' book book' call reply reads done = record {
+  acts = done.acts;
+  kept = done.kept;
+  room = λ needs. (let had = done.room needs in record { scanned = had.scanned; room = had.room });
+  took = let took = done.took in record { freed = took.freed; is = took.is; taken = took.taken; free = took.free; few = took.few; exact = took.exact };
+}
+
 answered_with : (s s' : Sheet) (book book' : Book) (call : Call) (reply : Reply) (reads : _) → IsAnswered (record s { reads = reads }) s' book book' call reply → IsAnswered s s' book book' call reply
 answered_with s s' book book' call reply reads answered = record {
   may = answered.may;
   idle = answered.idle;
   answer =
       ⊎_elim
-      (λ (done : IsDone (record s { reads = reads }) s' book call reply). inl (record { acts = done.acts; room = λ needs. (let had = done.room needs in record { scanned = had.scanned; room = had.room }) }))
+      (λ (done : IsDone (record s { reads = reads }) s' book book' call reply). inl (done_with s s' book book' call reply reads done))
       (λ (refused : IsRefused trees.Range s' call reply × (s'.tree ≡ s.tree)). inr refused) answered.answer;
   record_told = answered.record_told;
   rest = answered.rest;
@@ -68,10 +76,15 @@ answered_after_reads s s₁ s' book book' call reply reads answered =
 
 -- ---- the end
 
-begun_done : (s s' s″ : Sheet) (book : Book) (call : Call) (reply : Reply) → s″ ≡ finished s' call reply → IsDone (begun s) s' book call reply → IsDone s s″ book call reply
-begun_done s s' s″ book call reply ends done =
-    subst (λ (x : Sheet). IsDone s x book call reply) (sym ends)
-    (record { acts = done.acts; room = λ needs. (let had = done.room needs in record { scanned = had.scanned; room = had.room }) })
+begun_done : (s s' s″ : Sheet) (book book' : Book) (call : Call) (reply : Reply) → s″ ≡ finished s' call reply → IsDone (begun s) s' book book' call reply → IsDone s s″ book book' call reply
+begun_done s s' s″ book book' call reply ends done =
+    subst (λ (x : Sheet). IsDone s x book book' call reply) (sym ends)
+    (record {
+      acts = done.acts;
+      kept = done.kept;
+      room = λ needs. (let had = done.room needs in record { scanned = had.scanned; room = had.room });
+      took = let took = done.took in record { freed = took.freed; is = took.is; taken = took.taken; free = took.free; few = took.few; exact = took.exact };
+    })
 
 counted_end : (s : Sheet) (call : Call) (reply : Reply) (shortage : Shortage) → IsCounted s shortage → IsCounted (finished s call reply) shortage
 counted_end s call reply shortage counted = record {
@@ -92,7 +105,7 @@ applied s s₁ s' s″ book book' call reply begins answered' ends =
       idle = subst (λ (x : Sheet). IsIdle x book') (sym ends) answered.idle;
       ended = ap (λ (x : Sheet). x.ended) ends ∙ ap (λ (x : Sheet). x.ended + 1) answered.rest;
       answer =
-          ⊎_elim (λ (done : IsDone (begun s) s' book call reply). inl (begun_done s s' s″ book call reply ends done))
+          ⊎_elim (λ (done : IsDone (begun s) s' book book' call reply). inl (begun_done s s' s″ book book' call reply ends done))
           (λ (refused : IsRefused trees.Range s' call reply × (s'.tree ≡ s.tree)). inr (short_for refused, ap (λ (x : Sheet). x.tree) ends ∙ refused.1)) answered.answer;
       record_told = ap (λ (x : Sheet). x.records) ends ∙ answered.record_told;
       opened = ap (λ (x : Sheet). x.opened) ends ∙ ap (λ (x : Sheet). x.opened) answered.rest;

@@ -1,5 +1,5 @@
 -- A call that publishes nothing: it leaves the map, or is refused for want of rows.
-use Rattle.std.proofs.Common.{◌≡◌, ℕ, List, Option, refl, sym, ap, ◌∙◌, subst, inl, inr, arith}
+use Rattle.std.proofs.Common.{◌≡◌, ℕ, List, [], Option, append-nil, refl, sym, ap, ◌∙◌, subst, inl, inr, arith}
 use Rattle.std.specs.Prelude.{◌⊎◌}
 use Rattle.mt_base.specs.declared.calls.Call.{Call}
 use Rattle.mt_base.specs.declared.kinds.Kind.TheVariants as trees
@@ -54,14 +54,19 @@ module _ (s : Sheet) (reads : Option ℕ) (scan : Scan) (scans cleared : ℕ) wh
     told : (finished seen call reply).records ≡ with_record s call reply
     told = rw is.before refl
 
-    done : StaysBy s call reply → IsDone s seen book call reply
-    done stays = record { acts = stays; room = λ needs. absurd (needs.changes (ap (λ (p : List Range × Reply). p.0) stays)) }
+    done : StaysBy s call reply → next ≡ book → IsDone s seen book next call reply
+    done stays same = record {
+      acts = stays;
+      kept = λ refused. refl;
+      room = λ needs. absurd (needs.changes (ap (λ (p : List Range × Reply). p.0) stays));
+      took = record { freed = book; is = inl refl; taken = []; free = ap (λ (b : Book). b.free) (sym same) ∙ sym (append-nil next.free); few = omega arith; exact = λ exact. refl };
+    }
 
-    pub answered : StaysBy s call reply ⊎ IsRefused trees.Range seen call reply → IsAnswered s seen book next call reply
+    pub answered : (StaysBy s call reply × (next ≡ book)) ⊎ IsRefused trees.Range seen call reply → IsAnswered s seen book next call reply
     answered by = record {
-      may = record { flying = is.flying; kept = λ _. record { none_buried = is.state.none_buried; of_kind = of_kind; answer = by } };
+      may = record { flying = is.flying; kept = λ _. record { none_buried = is.state.none_buried; of_kind = of_kind; answer = elim by [ inl stays ↦ inl stays.0 | inr refused ↦ inr refused ] } };
       idle = ended;
-      answer = elim by [ inl stays ↦ inl (done stays) | inr refused ↦ inr (refused, refl) ];
+      answer = elim by [ inl stays ↦ inl (done stays.0 stays.1) | inr refused ↦ inr (refused, refl) ];
       record_told = told;
       rest = refl;
     }
@@ -69,7 +74,7 @@ module _ (s : Sheet) (reads : Option ℕ) (scan : Scan) (scans cleared : ℕ) wh
 -- rows were only read, and the map stays
 pub leaves : (s s' : Sheet) (book : Book) (call : Call) (reply : Reply) → IsInCall s book → OnlyReads s s' → acted trees.Range (map_by s.tree) call ≡ (map_by s.tree, reply) → IsAnswered s s' book book call reply
 leaves s s' book call reply is reads stays =
-    subst (λ (t : Sheet). IsAnswered s t book book call reply) (sym reads) (answered s s'.reads s.scan s.scans s.cleared book book call reply (in_call_with s book s'.reads is) (inl stays))
+    subst (λ (t : Sheet). IsAnswered s t book book call reply) (sym reads) (answered s s'.reads s.scan s.scans s.cleared book book call reply (in_call_with s book s'.reads is) (inl (stays, refl)))
 
 -- a scan found too few free rows
 pub refuses : (s s₁ s' : Sheet) (book book' : Book) (call : Call) (shortage : Shortage) → IsInCall s book → OnlyReads s s₁ → IsScanned s₁ s' book book' → IsShortOf s' shortage → NeedsRows trees.Range (map_by s.tree) call

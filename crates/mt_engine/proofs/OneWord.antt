@@ -1,5 +1,5 @@
 -- Another entry of one range, published by one word in the slot of its leaf: the rows stay as they are.
-use Rattle.std.proofs.Common.{◌≡◌, ◌≢◌, ℕ, zero, suc, ◌+◌, ◌*◌, ◌<◌, ◌≤◌, List, [], ◌∷◌, Bool, true, false, All, nat_lt, refl, sym, ap, ◌∙◌, subst, inl, inr, arith, get_or-set_other, ◌++◌, Some}
+use Rattle.std.proofs.Common.{◌≡◌, ◌≢◌, ℕ, zero, suc, ◌+◌, ◌*◌, ◌<◌, ◌≤◌, List, [], ◌∷◌, Bool, true, false, All, nat_lt, refl, sym, ap, ◌∙◌, subst, inl, inr, arith, get_or-set_other, ◌++◌, Some, append-nil}
 use Rattle.std.specs.Prelude.{slice_index, slice_set, slice_index_or}
 use Rattle.std.specs.List.{AllByRecursion, Contains}
 use Rattle.std.proofs.lemmas.Bool.{cases_Bool}
@@ -46,7 +46,8 @@ use Rattle.mt_splice.specs.Splice.{IsBookOf, IsSpare, IsStoreBy}
 use Rattle.mt_splice.proofs.BetweenCalls.{acts_so}
 use Rattle.mt_engine.specs.declared.handles.Handle.{Handle}
 use Rattle.mt_engine.specs.Handles.{IsHandleOf}
-use Rattle.mt_engine.specs.Engine.{IsInCall, IsEngineState, IsAnswered, IsAnsweredByOneWord}
+use Rattle.mt_engine.specs.Engine.{IsInCall, IsEngineState, IsAnswered, IsAnsweredByOneWord, is_refusal}
+use Rattle.mt_engine.proofs.AfterSplice.{not_both}
 use Rattle.mt_engine.specs.MapSpans.{range_of}
 use Rattle.mt_engine.proofs.LeafSteps.{leaf_slots}
 use Rattle.mt_engine.proofs.Slots.{end_is, slot_holds, map_is_all, stands_in_all}
@@ -185,7 +186,7 @@ all_with {X} P Q R f xs ps qs = All-weaker (Contains xs) R (λ x one. f x (All-c
 module _ (s : Sheet) (book : Book) (after : Tree) (lives : List Life) (buried : List Bool) (call : Call) (reply : Reply) (in_call : IsInCall s book) (reached_same : (row : ℕ) → is_reached after row ≡ is_reached s.tree row)
     (alive : (row : ℕ) → 16 ≤ row → row < 16 + s.rows → slice_index_or lives row New ≡ life_after s after row) (kept : (row : ℕ) → 16 ≤ row → row < 16 + s.rows → slice_index_or buried row false ≡ false)
     (width : after.table.width ≡ s.tree.table.width) (lawful : laws.IsLawful (tree_as trees.Range s.rows after)) (acts : acted trees.Range (map_by s.tree) call ≡ (map_by after, reply))
-    (no_rows : NeedsRows trees.Range (map_by s.tree) call → ⊥) where
+    (no_rows : NeedsRows trees.Range (map_by s.tree) call → ⊥) (success : is_refusal reply ≡ false) where
   abbrev later : Sheet
   later = record s { tree = after; published = true; lives = lives; buried = buried; records = with_record s call reply }
 
@@ -232,7 +233,13 @@ module _ (s : Sheet) (book : Book) (after : Tree) (lives : List Life) (buried : 
   is_answered = record {
     may = record { flying = in_call.flying; kept = λ not. absurd (cc) };
     idle = record { idle = refl; state = state };
-    answer = inl (record { acts = acts; room = λ needs. absurd (no_rows needs) });
+    answer =
+        inl (record {
+          acts = acts;
+          kept = λ refused. absurd (not_both (is_refusal reply) refused success);
+          room = λ needs. absurd (no_rows needs);
+          took = record { freed = book; is = inl refl; taken = []; free = sym (append-nil book.free); few = omega arith; exact = λ exact. refl };
+        });
     record_told = refl;
     rest = refl;
   }
@@ -290,15 +297,15 @@ module _ (s : Sheet) (book : Book) (handle : Handle) (entry : ℕ) (call : Call)
   no_rows_there : NeedsRows trees.Range (map_by s.tree) call → ⊥
   no_rows_there = no_rows s stood.0 is.index entry whole stood.1 is.within full new stores.lawful call reply stores_there
 
-  answered_there : (s' : Sheet) → Published s s' (where_published s stood.0 is.index entry whole stood.1 is.within) entry call reply → IsAnsweredByOneWord s s' book call reply
-  answered_there s' done =
+  answered_there : (s' : Sheet) → is_refusal reply ≡ false → Published s s' (where_published s stood.0 is.index entry whole stood.1 is.within) entry call reply → IsAnsweredByOneWord s s' book call reply
+  answered_there s' success done =
       subst (λ (x : Sheet). IsAnsweredByOneWord s x book call reply) (sym done.rest)
       (record {
         answered =
             is_answered s book (written s stood.0 is.index entry whole stood.1 is.within) s'.lives s'.buried call reply in_call (reached_stay s stood.0 is.index entry whole stood.1 is.within full new stores.lawful) done.lives done.buried refl
-            (lawful_after s stood.0 is.index entry whole stood.1 is.within full new stores.lawful stood.2 stood.3) may_there.answer no_rows_there;
+            (lawful_after s stood.0 is.index entry whole stood.1 is.within full new stores.lawful stood.2 stood.3) may_there.answer no_rows_there success;
         root = refl;
       })
 
-  pub entry_published : (s' : Sheet) → Published s s' (Slot handle.leaf.row (slots + handle.leaf.slot)) entry call reply → IsAnsweredByOneWord s s' book call reply
-  entry_published s' done = answered_there s' (subst (λ (p : Place). Published s s' p entry call reply) place_is done)
+  pub entry_published : (s' : Sheet) → is_refusal reply ≡ false → Published s s' (Slot handle.leaf.row (slots + handle.leaf.slot)) entry call reply → IsAnsweredByOneWord s s' book call reply
+  entry_published s' success done = answered_there s' success (subst (λ (p : Place). Published s s' p entry call reply) place_is done)

@@ -1,14 +1,15 @@
 -- The rows of a tree and the book of them: between two calls of an engine, and within a call that has published nothing.
 -- Source: this project's own.
-use Rattle.std.specs.Prelude.{◌≡◌, ◌⊎◌, ◌+◌, ◌-◌, ◌*◌, ◌^◌, ◌<◌, ◌≤◌, true, false, All, length}
+use Rattle.std.specs.Prelude.{◌≡◌, ◌⊎◌, ◌+◌, ◌-◌, ◌*◌, ◌^◌, ◌<◌, ◌≤◌, true, false, All, length, Bool, List, [], ◌++◌, ℕ}
 use Rattle.mt_base.specs.declared.calls.Call.{Call}
 use Rattle.mt_base.specs.declared.kinds.Kind.{Kind}
 use Rattle.mt_base.specs.declared.kinds.Kind.TheVariants as trees
 use Rattle.mt_base.specs.declared.replies.Reply.{Reply}
 use Rattle.mt_base.specs.Call.{acted}
+use Rattle.mt_base.specs.declared.replies.Reply.TheVariants as answers
 use Rattle.mt_base.specs.declared.replies.Reply.TheVariants.{NoNodes}
 use Rattle.mt_base.specs.declared.replies.Shortage.{Shortage}
-use Rattle.mt_base.specs.Nodes.{NeedsRows, IsShort}
+use Rattle.mt_base.specs.Nodes.{NeedsRows, is_exact_store, IsShort}
 use Rattle.mt_free.specs.Book.{Book, Held, live_count, after_reclaim}
 use Rattle.mt_rows.specs.declared.rows.Life.TheVariants.{Dead}
 use Rattle.mt_rows.specs.Trees.{height_in}
@@ -57,17 +58,38 @@ pub record HadRoom (s s' : Sheet) (book : Book) : Type 0 where
   pub scanned : WasScanned s'
   pub room : 3 * height_in s.tree.table s.tree.root + 1 ≤ length (after_reclaim book s'.scan.least).free
 
--- The call did what it says: the words stand for the map after it.
-pub record IsDone (s s' : Sheet) (book : Book) (call : Call) (reply : Reply) : Type 0 where
+-- The rows that a call took, of those that were free, or that were free when held rows that no section holds were freed: at
+-- most three for each level and one, and none for the store of an entry over exactly one range.
+pub record TookRows (s s' : Sheet) (book book' : Book) (call : Call) : Type 0 where
+  pub freed : Book
+  pub is : (freed ≡ book) ⊎ (freed ≡ after_reclaim book s'.scan.least)
+  pub taken : List ℕ
+  pub free : freed.free ≡ book'.free ++ taken
+  pub few : length taken ≤ 3 * height_in s.tree.table s.tree.root + 1
+  pub exact : is_exact_store (map_by s.tree) call ≡ true → taken ≡ []
+
+-- a reply that says that nothing was changed
+abbrev pub is_refusal : Reply → Bool
+is_refusal answers.Ok = false
+is_refusal (answers.Was entry) = false
+is_refusal answers.None = true
+is_refusal answers.Exists = true
+is_refusal answers.Invalid = true
+is_refusal (answers.NoNodes shortage) = true
+
+-- The call did what it says: the words stand for the map after it, and a refusal left every word.
+pub record IsDone (s s' : Sheet) (book book' : Book) (call : Call) (reply : Reply) : Type 0 where
   pub acts : acted trees.Range (map_by s.tree) call ≡ (map_by s'.tree, reply)
+  pub kept : is_refusal reply ≡ true → s'.tree ≡ s.tree
   pub room : NeedsRows trees.Range (map_by s.tree) call → HadRoom s s' book
+  pub took : TookRows s s' book book' call
 
 -- What a call has come to when it may end with this reply: it did what it says, or it was refused for want of rows and
 -- left every word. The rows are then as between two calls.
 pub record IsAnswered (s s' : Sheet) (book book' : Book) (call : Call) (reply : Reply) : Type 0 where
   pub may : MayFinish trees.Range s' call reply
   pub idle : IsIdle (finished s' call reply) book'
-  pub answer : IsDone s s' book call reply ⊎ (IsRefused trees.Range s' call reply × (s'.tree ≡ s.tree))
+  pub answer : IsDone s s' book book' call reply ⊎ (IsRefused trees.Range s' call reply × (s'.tree ≡ s.tree))
   pub record_told : (finished s' call reply).records ≡ with_record s call reply
   pub rest : s' ≡ record s { tree = s'.tree; published = s'.published; lives = s'.lives; buried = s'.buried; cleared = s'.cleared; scan = s'.scan; scans = s'.scans; reads = s'.reads; records = s'.records }
 
@@ -92,7 +114,7 @@ pub record IsShortFor (s s' : Sheet) (call : Call) (reply : Reply) : Type 0 wher
 pub record IsApplied (s s' : Sheet) (book book' : Book) (call : Call) (reply : Reply) : Type 0 where
   pub idle : IsIdle s' book'
   pub ended : s'.ended ≡ s.ended + 1
-  pub answer : IsDone s s' book call reply ⊎ (IsShortFor s s' call reply × (s'.tree ≡ s.tree))
+  pub answer : IsDone s s' book book' call reply ⊎ (IsShortFor s s' call reply × (s'.tree ≡ s.tree))
   pub record_told : s'.records ≡ with_record s call reply
   pub opened : s'.opened ≡ s.opened
   pub caller : s'.caller ≡ s.caller

@@ -1,6 +1,6 @@
 //! Stores into a tree: by no word, by one word, or by new rows.
 
-ghost use Rattle.std.specs.Prelude.{◌≡◌, ◌≢◌, ◌+◌, ◌-◌, ◌^◌, ◌<◌, ◌≤◌, ◌↔◌, IsNone, IfSome, IfOk, IfErr, true};
+ghost use Rattle.std.specs.Prelude.{false, ◌≡◌, ◌≢◌, ◌+◌, ◌-◌, ◌^◌, ◌<◌, ◌≤◌, ◌↔◌, IsNone, IfSome, IfOk, IfErr, true};
 ghost use Rattle.mt_base.specs.declared.kinds.Kind.TheVariants as trees;
 ghost use Rattle.mt_base.specs.declared.replies.Reply.TheVariants.{NoNodes};
 ghost use Rattle.mt_base.specs.declared.calls.Call.TheVariants.{Clear};
@@ -8,7 +8,7 @@ ghost use Rattle.mt_base.specs.Width.{greatest};
 ghost use Rattle.mt_rows.specs.Publish.{map_by};
 ghost use Rattle.mt_free.specs.Book.{Book};
 ghost use Rattle.mt_splice.specs.Splice.{IsStoreBy};
-ghost use Rattle.mt_engine.specs.Engine.{IsInCall, IsAnswered, IsAnsweredByOneWord};
+ghost use Rattle.mt_engine.specs.Engine.{IsInCall, IsAnswered, IsAnsweredByOneWord, is_refusal};
 ghost use Rattle.mt_engine.specs.Handles.{IsHandleOf};
 
 use crate::handles::{Handle, handle_of};
@@ -28,6 +28,7 @@ fn publish_entry<R: Rows>(rows: &mut R, here: &Handle, entry: u64, call: &Call, 
     requires range { here.now.span.word ≢ 0 }
     requires entry { entry ≢ 0 }
     requires store { IsStoreBy trees.Range (greatest (R.sheet rows.old).tree.table.width) (map_by (R.sheet rows.old).tree) call.now reply.now here.now.span.first here.now.span.last entry }
+    requires success { is_refusal reply.now ≡ false }
     ensures { (book : Book) → IsInCall (R.sheet rows.old) book → IsAnsweredByOneWord (R.sheet rows.old) (R.sheet rows.new) book call.now reply.now }
 {
     rows.size();
@@ -54,6 +55,7 @@ pub fn change<R: Rows>(
     requires number { number ≡ (R.sheet rows.old).ended + 1 }
     requires store { IsStoreBy trees.Range (greatest (R.sheet rows.old).tree.table.width) (map_by (R.sheet rows.old).tree) call.now reply.now first last entry }
     requires no_clear { call.now ≢ Clear }
+    requires success { is_refusal reply.now ≡ false }
     requires few { (R.sheet rows.old).ended < 2 ^ 62 - 1 }
     ensures done { IfOk result (λ _. IsAnswered (R.sheet rows.old) (R.sheet rows.new) book.old book.new call.now reply.now) }
     ensures short { IfErr result (λ shortage. IsAnswered (R.sheet rows.old) (R.sheet rows.new) book.old book.new call.now (NoNodes shortage)) }

@@ -31,6 +31,11 @@ change-requires-clause-no_clear g c =
     let s = g.R.Rows.sheet c.args.rows.now in
     (subst (IsPlan (greatest s.tree.table.width) (map_by s.tree) c.args.call.now) c.in-Change.is c.plan_of.ensures.plan).1
 
+pub change-requires-clause-success : goal.change-requires-clause-success
+change-requires-clause-success g c =
+    let s = g.R.Rows.sheet c.args.rows.now in
+    (subst (IsPlan (greatest s.tree.table.width) (map_by s.tree) c.args.call.now) c.in-Change.is c.plan_of.ensures.plan).2
+
 pub returns-in-Leave : goal.returns-in-Leave
 returns-in-Leave g c =
     let s = g.R.Rows.sheet c.args.rows.now in

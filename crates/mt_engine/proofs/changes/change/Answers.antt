@@ -1,6 +1,9 @@
 use Rattle.std.proofs.Common.{refl, sym, ap, ◌∙◌, subst, arith}
 use Rattle.mt_base.specs.declared.replies.Reply.TheVariants.{NoNodes}
+use Rattle.mt_base.specs.declared.kinds.Kind.TheVariants as trees
+use Rattle.mt_base.specs.Nodes.{NeedsRows}
 use Rattle.mt_rows.specs.Sheet.{Sheet}
+use Rattle.mt_rows.specs.Publish.{map_by}
 use Rattle.mt_path.specs.Paths.{path_in}
 use Rattle.mt_splice.proofs.BetweenCalls.{reads_on}
 use Rattle.mt_engine.specs.Ways.{IsWay}
@@ -151,5 +154,7 @@ returns-in_default-clause-done g c =
     let store = store_read s s₂ c.args.call.now c.args.reply.now c.args.first c.args.last c.args.entry reads c.requires.store in
     let here = stands_here s s₁ s₂ c.args.first c.walk-left.result.items c.handle_of-here.result walked loaded c.walk-left.ensures.path c.handle_of-here.ensures.none c.handle_of-here.ensures.some in
     let s₃ = g.R.Rows.sheet c.make_room.new.rows in
+    let needs = new_rows_needed s₂ c.args.book.now in_call c.args.first c.args.last c.args.entry c.args.call.now c.args.reply.now store c.handle_of-here.result here c.requires.no_clear (subst (IsWay c.handle_of-here.result c.args.first c.args.last c.args.entry) c.in-NewRows.is c.way_of.ensures) in
+    let needs' = subst (λ (x : Sheet). NeedsRows trees.Range (map_by x.tree) c.args.call.now) reads needs in
     replaces s s₂ s₃ (g.R.Rows.sheet c.replace_range.new.rows) c.args.book.now c.make_room.new.book c.replace_range.new.book c.args.first c.args.last c.args.entry c.args.number c.args.call.now c.args.reply.now c.replace_range.result
-    c.requires.in_call reads c.make_room.ensures.scanned c.in_default.ensures.room c.requires.number c.requires.store c.replace_range.ensures
+    c.requires.in_call reads c.make_room.ensures.scanned c.in_default.ensures.room needs' c.requires.success c.requires.number c.requires.store c.replace_range.ensures

@@ -22,4 +22,4 @@ publish-requires g c = (
 pub returns : goal.returns
 returns g c = λ book in_call.
     entry_published (g.R.Rows.sheet c.args.rows.now) book c.args.here.now c.args.entry c.args.call.now c.args.reply.now c.size.ensures.whole in_call c.requires.here c.requires.range c.requires.entry c.requires.store
-    c.slots.result (c.slots.ensures ∙ ap (λ (w : Width). slots_of w Leaf) c.width.ensures) (g.R.Rows.sheet c.publish.new.self) c.publish.ensures
+    c.slots.result (c.slots.ensures ∙ ap (λ (w : Width). slots_of w Leaf) c.width.ensures) (g.R.Rows.sheet c.publish.new.self) c.requires.success c.publish.ensures

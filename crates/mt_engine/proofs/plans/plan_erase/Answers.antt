@@ -1,4 +1,4 @@
-use Rattle.std.proofs.Common.{sym}
+use Rattle.std.proofs.Common.{refl, sym}
 use Rattle.mt_base.specs.declared.kinds.Kind.TheVariants as trees
 use Rattle.mt_base.specs.Width.{greatest}
 use Rattle.mt_rows.specs.Publish.{map_by}
@@ -12,4 +12,5 @@ returns-clause-plan g c =
     let s = g.R.Rows.sheet c.args.rows.now in (
       erase_is_store (map_by s.tree) (greatest s.tree.table.width) c.args.index c.in-Some.range (tree_map s trees.Range c.requires.tree) (ranges_end_within s (trees.Range, c.requires.tree)) (sym c.in-Some.ensures.answer),
       λ clash. absurd (cc),
+      refl,
     )
