@@ -2,3 +2,4 @@ pub mod CallsKeepOrder
 pub mod OneRange
 pub mod ReadingAfterStore
 pub mod StoredOrder
+pub mod Shortages

@@ -2,6 +2,7 @@
 use Rattle.std.proofs.Common.{◌≡◌, ℕ, ◌+◌, ◌≤◌, suc, zero, true, List, [], ◌∷◌, Some, arith, nat_le, refl, ap}
 use Rattle.std.specs.List.{slice_get}
 use Rattle.std.proofs.lemmas.Bool.{and_parts, leb-true}
+use Rattle.mt_base.specs.declared.kinds.Kind.{Kind}
 use Rattle.mt_base.specs.declared.ranges.Range.{Range}
 use Rattle.mt_base.specs.Map.{IsMapFrom, IsMap, holds}
 
@@ -30,5 +31,5 @@ one_range_from (t ∷ m) low index (suc i) zero r s ordered at_i at_j held_r hel
     absurd (omega (arith, held_from r index held_r, begins_from m (t.last + 1) i r ordered.3 at_i))
 one_range_from (t ∷ m) low index (suc i) (suc j) r s ordered at_i at_j held_r held_s = ap suc (one_range_from m (t.last + 1) index i j r s ordered.3 at_i at_j held_r held_s)
 
-pub one_range : (m : List Range) (index i j : ℕ) (r s : Range) → IsMap m → slice_get m i ≡ Some r → slice_get m j ≡ Some s → holds index r ≡ true → holds index s ≡ true → i ≡ j
-one_range m index i j r s ordered = one_range_from m 0 index i j r s ordered
+pub one_range : (kind : Kind) (m : List Range) (index i j : ℕ) (r s : Range) → IsMap kind m → slice_get m i ≡ Some r → slice_get m j ≡ Some s → holds index r ≡ true → holds index s ≡ true → i ≡ j
+one_range kind m index i j r s ordered = one_range_from m 0 index i j r s ordered.rise

@@ -10,11 +10,12 @@ use Rattle.mt_base.specs.declared.calls.Query.TheVariants.{Load, Find, Next, Pre
 use Rattle.mt_base.specs.declared.replies.Reply.{Reply}
 use Rattle.mt_base.specs.declared.replies.Reply.TheVariants as reply
 use Rattle.mt_base.specs.Entry.{reserved}
+use Rattle.mt_base.specs.Width.{greatest_of}
 use Rattle.mt_base.specs.Map.{over, holding, is_held, without, first_range, last_range}
 
--- what a call that stores cannot mean: a range that ends before it begins, or a reserved entry
-abbrev pub is_invalid : ℕ → ℕ → ℕ → Bool
-is_invalid first last entry = nat_lt last first || reserved entry
+-- what a call that stores cannot mean: a range that ends before it begins, or above the greatest index, or a reserved entry
+abbrev pub is_invalid : Kind → ℕ → ℕ → ℕ → Bool
+is_invalid kind first last entry = nat_lt last first || (nat_lt (greatest_of kind) last || reserved entry)
 
 -- the map and the reply after the range that holds an index was removed
 abbrev pub erased : List Range → ℕ → Option Range → List Range × Reply
@@ -23,9 +24,9 @@ erased m index (Some r) = (without m index, reply.Was r.entry)
 
 -- the map and the reply after a call on a tree of this kind
 abbrev pub acted : Kind → List Range → Call → List Range × Reply
-acted kind m (Store first last entry) = if is_invalid first last entry then (m, reply.Invalid) else (over m first last entry, reply.Ok)
+acted kind m (Store first last entry) = if is_invalid kind first last entry then (m, reply.Invalid) else (over m first last entry, reply.Ok)
 acted kind m (Insert first last entry) =
-    if is_invalid first last entry || (entry == 0) then (m, reply.Invalid)
+    if is_invalid kind first last entry || (entry == 0) then (m, reply.Invalid)
     else (if is_held m first last then (m, reply.Exists)
     else (over m first last entry, reply.Ok))
 acted kind m (Erase index) = erased m index (holding m index)

@@ -1,16 +1,20 @@
 -- A map of disjoint ranges, what it holds at an index, and what it becomes by a store.
 -- Source: the kernel's documentation of the maple tree, mtree_load and mtree_store_range.
 use Rattle.std.specs.Prelude.{ℕ, Bool, List, [], ◌∷◌, ◌++◌, Option, ◌+◌, ◌-◌, ◌<◌, ◌≤◌, ◌==◌, ◌&&◌, nat_lt, nat_le, not, min, max, map, filter, find, length, slice_get, if◌then◌else◌}
-use Rattle.std.specs.List.{list_any}
+use Rattle.std.specs.List.{list_any, AllByRecursion}
 use Rattle.mt_base.specs.declared.ranges.Range.{Range}
+use Rattle.mt_base.specs.declared.kinds.Kind.{Kind}
+use Rattle.mt_base.specs.Width.{greatest_of}
 
 -- Ranges from `low` upwards: each holds an index and an entry, and begins above the last index of the one before.
 abbrev pub IsMapFrom : ℕ → List Range → Type 0
 IsMapFrom low [] = Unit {0}
 IsMapFrom low (r ∷ m) = (low ≤ r.first) × (r.first ≤ r.last) × (0 < r.entry) × IsMapFrom (r.last + 1) m
 
-abbrev pub IsMap : List Range → Type 0
-IsMap m = IsMapFrom 0 m
+-- a map of a tree of this kind: its ranges rise, and none ends above the greatest index
+pub record IsMap (kind : Kind) (m : List Range) : Type 0 where
+  pub rise : IsMapFrom 0 m
+  pub within : AllByRecursion (λ (r : Range). r.last ≤ greatest_of kind) m
 
 abbrev pub holds : ℕ → Range → Bool
 holds index r = nat_le r.first index && nat_le index r.last

@@ -1,12 +1,16 @@
--- Which calls need rows, and what is true where too few are free.
+-- Which calls want rows, and what is true of a call that is refused for want of them.
 -- Source: the kernel's -ENOMEM of mas_alloc_nodes; how many rows a call needs is this project's.
-use Rattle.std.specs.Prelude.{◌≡◌, ◌≢◌, ◌↔◌, ℕ, ◌+◌, ◌-◌, ◌*◌, ◌^◌, ◌<◌, ◌≤◌, ◌==◌, ◌&&◌, Bool, false, not, List, [], Option, Some, None, IsSome, IfSome, length}
+use Rattle.std.specs.Prelude.{◌≡◌, ◌≢◌, ◌↔◌, ◌⊎◌, ℕ, ◌+◌, ◌-◌, ◌*◌, ◌^◌, ◌<◌, ◌≤◌, ◌==◌, ◌&&◌, Bool, false, not, List, [], Option, Some, None, IsSome, IfSome, length}
+use Rattle.std.specs.Option.{option_map}
 use Rattle.mt_base.specs.declared.ranges.Range.{Range}
 use Rattle.mt_base.specs.declared.kinds.Kind.{Kind}
 use Rattle.mt_base.specs.declared.calls.Call.{Call}
 use Rattle.mt_base.specs.declared.calls.Call.TheVariants.{Store, Insert, Erase, Clear}
+use Rattle.mt_base.specs.declared.replies.Reply.{Reply}
+use Rattle.mt_base.specs.declared.replies.Reply.TheVariants.{NoNodes}
 use Rattle.mt_base.specs.declared.replies.Shortage.{Shortage}
 use Rattle.mt_base.specs.Map.{holding}
+use Rattle.mt_base.specs.Width.{deepest, most_taken}
 use Rattle.mt_base.specs.Call.{acted}
 
 -- the range is of exactly these indexes
@@ -15,24 +19,33 @@ is_exactly first last None = false
 is_exactly first last (Some r) = (r.first == first) && (r.last == last)
 
 -- the store of an entry over exactly one range changes that range's entry alone
-abbrev pub is_exact_store : List Range → Call → Bool
-is_exact_store m (Store first last entry) = not (entry == 0) && is_exactly first last (holding m first)
-is_exact_store m (Insert first last entry) = false
-is_exact_store m (Erase index) = false
-is_exact_store m Clear = false
+abbrev pub is_exact_store : List Range → ℕ → ℕ → ℕ → Bool
+is_exact_store m first last entry = not (entry == 0) && is_exactly first last (holding m first)
 
--- the call changes the map, and by more than one range's entry; a clear needs no row
-pub record NeedsRows (kind : Kind) (m : List Range) (call : Call) : Type 0 where
-  pub changes : (acted kind m call).0 ≢ m
-  pub more : is_exact_store m call ≡ false
-  pub not_clear : call ≢ Clear
+-- the call changes the map
+abbrev pub Changes : Kind → List Range → Call → Type 0
+Changes kind m call = (acted kind m call).0 ≢ m
 
--- Of a tree with so many rows, `opened` of which it had before its first call, after `ended` calls and with this map: the
--- rows are free, live or held, and fewer are free than three for each level and one.
-pub record IsShort (rows opened ended : ℕ) (m : List Range) (s : Shortage) : Type 0 where
-  pub all : s.free + s.live + s.held ≡ rows
+-- The call wants rows: it changes the map, and by more than one range's entry. A clear wants none.
+abbrev pub Wants : Kind → List Range → Call → Type 0
+Wants kind m (Store first last entry) = Changes kind m (Store first last entry) × (is_exact_store m first last entry ≡ false)
+Wants kind m (Insert first last entry) = Changes kind m (Insert first last entry)
+Wants kind m (Erase index) = Changes kind m (Erase index)
+Wants kind m Clear = ⊥
+
+-- What the rows of a tree are limited by: how many there are, how many the tree had before its first call, how many calls
+-- have ended, and whether readers may hold rows back.
+pub record Limits : Type 0 where
+  pub rows : ℕ
+  pub opened : ℕ
+  pub ended : ℕ
+  pub may_hold : Bool
+
+-- With this map the rows are free, live or held, and fewer are free than three for each level and one.
+pub record IsShort (l : Limits) (m : List Range) (s : Shortage) : Type 0 where
+  pub all : s.free + s.live + s.held ≡ l.rows
   pub levels : ℕ
-  pub low : levels ≤ 9
+  pub low : levels ≤ deepest
   pub need : s.need ≡ 3 * levels + 1
   pub few : s.free < s.need
   pub flat : (levels ≡ 0) ↔ (m ≡ [])
@@ -41,5 +54,26 @@ pub record IsShort (rows opened ended : ℕ) (m : List Range) (s : Shortage) : T
   pub none : (s.live ≡ 0) ↔ (m ≡ [])
   pub half : 2 * s.live ≤ length m + 4
   pub holder : IsSome s.by ↔ (0 < s.held)
-  pub epoch : IfSome s.by (λ h. h.epoch ≤ ended)
-  pub grown : s.held + s.live ≤ opened + 28 * ended
+  pub epoch : IfSome s.by (λ h. h.epoch ≤ l.ended)
+  pub grown : s.held + s.live ≤ l.opened + most_taken * l.ended
+  pub unheld : l.may_hold ≡ false → s.held ≡ 0
+
+-- The call is refused for want of rows: it wants some, and too few are free.
+pub record IsRefused (kind : Kind) (l : Limits) (m : List Range) (call : Call) (reply : Reply) : Type 0 where
+  pub shortage : Shortage
+  pub told : reply ≡ NoNodes shortage
+  pub wants : Wants kind m call
+  pub short : IsShort l m shortage
+
+-- refused, where rows are limited
+abbrev pub MayRefuse : Kind → Option Limits → List Range → Call → Reply → Type 0
+MayRefuse kind None m call reply = ⊥
+MayRefuse kind (Some l) m call reply = IsRefused kind l m call reply
+
+-- The call does what it says and is answered so, or it is refused for want of rows and leaves the map.
+abbrev pub IsMade : Kind → Option Limits → List Range → Call → List Range → Reply → Type 0
+IsMade kind limits m call m' reply = (acted kind m call ≡ (m', reply)) ⊎ (MayRefuse kind limits m call reply × (m' ≡ m))
+
+-- one more call has ended
+abbrev pub one_call_more : Option Limits → Option Limits
+one_call_more limits = option_map (λ (l : Limits). record l { ended = l.ended + 1 }) limits

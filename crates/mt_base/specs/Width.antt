@@ -1,5 +1,7 @@
--- How wide the words of a tree's rows are. Source: the kernel's include/linux/maple_tree.h, for machines of 64 bits.
-use Rattle.std.specs.Prelude.{ℕ, ◌-◌, ◌^◌}
+-- How wide the words of a tree's rows are, and how large a tree can be.
+-- Source: the kernel's include/linux/maple_tree.h, for machines of 64 bits; that rows are numbered in 16 bits, and how many
+-- of them a call takes, are this project's.
+use Rattle.std.specs.Prelude.{ℕ, ◌+◌, ◌-◌, ◌*◌, ◌^◌}
 use Rattle.mt_base.specs.declared.kinds.Kind.{Kind}
 use Rattle.mt_base.specs.declared.kinds.Kind.TheVariants as kinds
 use Rattle.mt_base.specs.declared.widths.Width.{Width}
@@ -13,6 +15,22 @@ kind_width kinds.Alloc = Long
 abbrev pub greatest : Width → ℕ
 greatest Long = 2 ^ 64 - 1
 
+-- the greatest index of a tree of this kind
+abbrev pub greatest_of : Kind → ℕ
+greatest_of kind = greatest (kind_width kind)
+
 -- how many words a row has
 abbrev pub columns : Width → ℕ
 columns Long = 32
+
+-- a tree has so many rows at the most
+abbrev pub most_rows : ℕ
+most_rows = 65504
+
+-- a tree has so many levels at the most
+abbrev pub deepest : ℕ
+deepest = 9
+
+-- a call takes so many rows at the most: three for each level, and one
+abbrev pub most_taken : ℕ
+most_taken = 3 * deepest + 1

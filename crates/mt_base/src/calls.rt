@@ -1,5 +1,9 @@
 ghost use Rattle.std.specs.Prelude.{◌≡◌};
 ghost use Rattle.mt_base.specs.Entry.{reserved};
+ghost use Rattle.mt_base.specs.Call.{is_invalid};
+
+use crate::kinds::Kind;
+use crate::widths::{top, width_of};
 
 /// A call that writes. Each gets the next number of its tree, from 1, also where it changes nothing.
 #[derive(Clone, Copy, Debug, PartialEq, Eq)]
@@ -34,4 +38,11 @@ pub fn is_reserved(entry: u64) -> bool
     ensures { result ≡ reserved entry }
 {
     entry < 4096 && entry % 4 == 2
+}
+
+/// Whether a call that stores `entry` over `first` to `last` of a tree of this kind is refused as invalid.
+pub fn is_invalid(kind: Kind, first: u64, last: u64, entry: u64) -> bool
+    ensures { result ≡ is_invalid kind first last entry }
+{
+    first > last || last > top(width_of(kind)) || is_reserved(entry)
 }

@@ -1,21 +1,23 @@
 //! What holds of every map of ranges. Each law is the contract of a function that does nothing.
 
-ghost use Rattle.std.specs.Prelude.{◌≡◌, ◌<◌, ◌≤◌, ◌-◌, ◌^◌, ◌==◌, ℕ, List, [], ◌∷◌, option_map, slice_get, IsTrue, if◌then◌else◌};
+ghost use Rattle.std.specs.Prelude.{◌≡◌, ◌<◌, ◌≤◌, ◌-◌, ◌^◌, ◌==◌, ℕ, Bool, true, List, [], ◌∷◌, option_map, slice_get, IsTrue, if◌then◌else◌};
 ghost use Rattle.mt_base.specs.declared.kinds.Kind.{Kind};
 ghost use Rattle.mt_base.specs.declared.ranges.Range.{Range};
 ghost use Rattle.mt_base.specs.declared.calls.Call.{Call};
+ghost use Rattle.mt_base.specs.declared.replies.Shortage.{Shortage};
 ghost use Rattle.mt_base.specs.Call.{acted};
 ghost use Rattle.mt_base.specs.Map.{IsMap, holds, holding, over};
+ghost use Rattle.mt_base.specs.Nodes.{IsShort};
+ghost use Rattle.mt_base.specs.Width.{greatest_of};
 
 /// A store keeps a map a map.
-#[tactic(auto, using(crate::proofs::StoredOrder::over_is_map))]
 pub fn store_keeps_map()
-    ensures { (m : List Range) (first last entry : ℕ) → first ≤ last → IsMap m → IsMap (over m first last entry) }
+    ensures { (kind : Kind) (m : List Range) (first last entry : ℕ) → first ≤ last → last ≤ greatest_of kind → IsMap kind m → IsMap kind (over m first last entry) }
 {}
 
 /// Every call keeps a map a map.
 pub fn call_keeps_map()
-    ensures { (kind : Kind) (m : List Range) (call : Call) → IsMap m → IsMap (acted kind m call).0 }
+    ensures { (kind : Kind) (m : List Range) (call : Call) → IsMap kind m → IsMap kind (acted kind m call).0 }
 {}
 
 /// After a store an index of its range has the entry that was stored, none where that is 0, and every other index the entry it had.
@@ -29,7 +31,7 @@ pub fn load_after_store()
 /// At most one range of a map holds an index.
 #[tactic(auto, using(crate::proofs::OneRange::one_range))]
 pub fn one_range_holds_an_index()
-    ensures { (m : List Range) (index i j : ℕ) (r s : Range) → IsMap m → slice_get m i ≡ Some r → slice_get m j ≡ Some s → IsTrue (holds index r) → IsTrue (holds index s) → i ≡ j }
+    ensures { (kind : Kind) (m : List Range) (index i j : ℕ) (r s : Range) → IsMap kind m → slice_get m i ≡ Some r → slice_get m j ≡ Some s → IsTrue (holds index r) → IsTrue (holds index s) → i ≡ j }
 {}
 
 /// Worked stores: into the middle of a range, erasing there and across its end, and at the last index of all.
@@ -40,4 +42,13 @@ pub fn worked_stores()
         ≡ record { first = 0; last = 39; entry = 1 } ∷ record { first = 61; last = 99; entry = 1 } ∷ [] }
     ensures top { over (over [] 0 (2 ^ 64 - 1) 7) (2 ^ 64 - 1) (2 ^ 64 - 1) 9
         ≡ record { first = 0; last = 2 ^ 64 - 2; entry = 7 } ∷ record { first = 2 ^ 64 - 1; last = 2 ^ 64 - 1; entry = 9 } ∷ [] }
+{}
+
+/// Where rows are short, they are short of limits that allow more: a tree that opened with more, or more calls that have
+/// ended, or readers that may hold rows back.
+#[tactic(auto, using(crate::proofs::Shortages::still_short))]
+pub fn a_shortage_stays_one()
+    ensures { (rows opened opened' ended ended' : ℕ) (may_hold : Bool) (m : List Range) (s : Shortage) → opened ≤ opened' → ended ≤ ended'
+        → IsShort (record { rows = rows; opened = opened; ended = ended; may_hold = may_hold }) m s
+        → IsShort (record { rows = rows; opened = opened'; ended = ended'; may_hold = true }) m s }
 {}

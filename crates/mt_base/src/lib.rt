@@ -9,9 +9,9 @@ mod ranges;
 mod replies;
 mod widths;
 
-pub use calls::{Call, Query, is_reserved};
+pub use calls::{Call, Query, is_invalid, is_reserved};
 pub use kinds::Kind;
 pub use memory::NoMemory;
 pub use ranges::Range;
 pub use replies::{Holder, Reply, Shortage, errno};
-pub use widths::{Width, cols, top, width_of};
+pub use widths::{DEEPEST, MOST_ROWS, MOST_TAKEN, Width, cols, top, width_of};

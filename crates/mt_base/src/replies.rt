@@ -1,8 +1,6 @@
 ghost use Rattle.std.specs.Prelude.{◌≡◌};
 ghost use Rattle.mt_base.specs.Errno.{errno_of};
 
-use std::fmt;
-
 /// The answer of a call that writes.
 #[derive(Clone, Copy, Debug, PartialEq, Eq)]
 pub enum Reply {
@@ -29,24 +27,6 @@ pub struct Shortage {
     pub live: u64,
     pub held: u64,
     pub by: Option<Holder>,
-}
-
-impl fmt::Display for Reply {
-    ghost use Rattle.std.specs.Prelude.{Some};
-    ghost use Rattle.mt_base.specs.Text.{reply_text};
-
-    ghost output = { λ r. Some (reply_text r) };
-
-    fn fmt<W: fmt::Write>(&self, f: &mut fmt::Formatter<W>) -> fmt::Result {
-        match self {
-            Reply::Ok => write!(f, "ok"),
-            Reply::Was(entry) => write!(f, "was {entry}"),
-            Reply::None => write!(f, "none"),
-            Reply::Exists => write!(f, "exists"),
-            Reply::Invalid => write!(f, "invalid"),
-            Reply::NoNodes(s) => write!(f, "nomem {} {} {} {}", s.need, s.free, s.live, s.held),
-        }
-    }
 }
 
 /// A pass whose section was found open, and the epoch at which it was.

@@ -3,6 +3,15 @@ ghost use Rattle.mt_base.specs.Width.{columns, greatest, kind_width};
 
 use crate::kinds::Kind;
 
+/// A tree has so many rows at the most.
+pub const MOST_ROWS: u64 = 65_504;
+
+/// A tree has so many levels at the most.
+pub const DEEPEST: usize = 9;
+
+/// A call takes so many rows at the most: three for each level, and one.
+pub const MOST_TAKEN: usize = 28;
+
 /// How wide the words of a tree's rows are.
 #[derive(Clone, Copy, Debug, PartialEq, Eq)]
 pub enum Width {
