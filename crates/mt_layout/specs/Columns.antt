@@ -1,12 +1,21 @@
 -- The columns of a row: a parent word, pivots, slots and gaps; and the items that are read off them.
 -- Source: the kernel's lib/maple_tree.c, ma_pivots, ma_slots and ma_gaps of maple_range_64 and maple_arange_64.
 -- A row has so many slots, and as many gaps or none. Column c of the row that begins at `base` is the word base + c.
-use Rattle.std.specs.Prelude.{◌≡◌, ◌⊎◌, ℕ, zero, suc, ◌+◌, ◌-◌, ◌*◌, ◌≤◌, ◌<◌, ◌==◌, List, [], ◌∷◌, ◌++◌, length, map, take, replicate, max, nat_le, slice_index, if◌then◌else◌}
+use Rattle.std.specs.Prelude.{◌≡◌, ℕ, zero, suc, ◌+◌, ◌-◌, ◌*◌, ◌≤◌, ◌<◌, ◌==◌, List, [], ◌∷◌, ◌++◌, length, map, take, replicate, nat_le, slice_index, if◌then◌else◌}
+use Rattle.mt_base.specs.declared.widths.Width.{Width}
+use Rattle.mt_base.specs.Width.{columns}
 use Rattle.mt_layout.specs.declared.items.Item.{Item}
+use Rattle.mt_layout.specs.declared.names.RowKind.{RowKind}
+use Rattle.mt_layout.specs.Sizes.{slots_of, gaps_of}
+use Rattle.mt_layout.specs.Spans.{spans_from, longest_in}
 
--- how many slots and gaps a row may have: rows without gaps have 16 slots, rows with gaps 10
-abbrev pub IsLayout : ℕ → ℕ → Type 0
-IsLayout slots gaps = ((slots ≡ 16) × (gaps ≡ 0)) ⊎ ((slots ≡ 10) × (gaps ≡ 10))
+-- rows of some width and kind have so many words, slots and gaps
+pub record IsLayout (words slots gaps : ℕ) : Type 0 where
+  pub width : Width
+  pub kind : RowKind
+  pub all : words ≡ columns width
+  pub slots_are : slots ≡ slots_of width kind
+  pub gaps_are : gaps ≡ gaps_of width kind
 
 abbrev pub pivot_column : ℕ → ℕ
 pivot_column i = 1 + i
@@ -69,14 +78,17 @@ abbrev pub end_of : ℕ → List Item → ℕ
 end_of max [] = max
 end_of max (x ∷ items) = end_of x.last items
 
+-- no item tells a gap
+abbrev pub NoGaps : List Item → Type 0
+NoGaps items = map (λ x. x.gap) items ≡ replicate (length items) 0
+
 -- what a row can hold: 1 to `slots` items whose greatest indexes rise, and gaps only where there are columns for them
 pub record FitRow (slots gaps : ℕ) (items : List Item) : Type 0 where
   pub some : 0 < length items
   pub fit : length items ≤ slots
   pub rise : RiseFrom 0 items
-  pub no_gaps : gaps ≡ 0 → map (λ x. x.gap) items ≡ replicate (length items) 0
+  pub no_gaps : gaps ≡ 0 → NoGaps items
 
 -- the number of indexes of the longest hole of a leaf whose first item begins at `min`
 abbrev pub longest_hole : ℕ → List Item → ℕ
-longest_hole min [] = 0
-longest_hole min (x ∷ items) = max (if x.word == 0 then x.last + 1 - min else 0) (longest_hole (x.last + 1) items)
+longest_hole min items = longest_in (spans_from min items)

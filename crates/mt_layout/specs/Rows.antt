@@ -1,15 +1,17 @@
 -- Names of rows, parent words and the dead mark: how the words of a tree lead from row to row.
 -- Source: the kernel's include/linux/maple_tree.h and lib/maple_tree.c, node types and encoded nodes of 256 bytes.
-use Rattle.std.specs.Prelude.{◌≡◌, ℕ, Bool, Option, Some, None, ◌+◌, ◌*◌, ◌/◌, ◌%◌, ◌≤◌, ◌==◌, ◌&&◌, nat_le, is_some, if◌then◌else◌}
+use Rattle.std.specs.Prelude.{◌≡◌, ℕ, Bool, Option, Some, None, ◌+◌, ◌*◌, ◌/◌, ◌%◌, ◌<◌, ◌≤◌, ◌==◌, ◌&&◌, nat_le, nat_lt, is_some, if◌then◌else◌}
+use Rattle.mt_base.specs.Width.{most_rows}
 use Rattle.mt_layout.specs.declared.names.RowKind.{RowKind}
 use Rattle.mt_layout.specs.declared.names.RowKind.TheVariants as kinds
+use Rattle.mt_layout.specs.Sizes.{first_row}
 
--- rows are numbered from 16, and there are 65,504 at the most
+-- rows are numbered from the first on, as many as there may be
 abbrev pub is_row : ℕ → Bool
-is_row row = nat_le 16 row && nat_le row 65519
+is_row row = nat_le first_row row && nat_lt row (first_row + most_rows)
 
 abbrev pub IsRowNumber : ℕ → Type 0
-IsRowNumber row = (16 ≤ row) × (row ≤ 65519)
+IsRowNumber row = (first_row ≤ row) × (row < first_row + most_rows)
 
 abbrev pub kind_number : RowKind → ℕ
 kind_number kinds.Leaf = 1

@@ -1,6 +1,6 @@
 -- Items with their first indexes, as they stand end to end in a row or in a few rows next to each other.
 -- Source: the kernel's core-api/maple_tree: a node's ranges follow each other, and a range of no entry is one slot of 0.
-use Rattle.std.specs.Prelude.{◌≡◌, ◌≢◌, ℕ, ◌+◌, ◌≤◌, ◌==◌, List, [], ◌∷◌, if◌then◌else◌}
+use Rattle.std.specs.Prelude.{◌≡◌, ◌≢◌, ℕ, ◌+◌, ◌-◌, ◌≤◌, ◌==◌, max, List, [], ◌∷◌, if◌then◌else◌}
 use Rattle.mt_base.specs.declared.ranges.Range.{Range}
 use Rattle.mt_layout.specs.declared.items.Item.{Item}
 use Rattle.mt_layout.specs.declared.spans.Span.{Span}
@@ -8,7 +8,7 @@ use Rattle.mt_layout.specs.declared.spans.Span.{Span}
 -- items, the first of which begins at `first`, and each other behind the one before
 abbrev pub spans_from : ℕ → List Item → List Span
 spans_from first [] = []
-spans_from first (x ∷ items) = record { first = first; last = x.last; word = x.word; gap = x.gap } ∷ spans_from (x.last + 1) items
+spans_from first (x ∷ items) = record { first = first; last = x.last; word = x.word } ∷ spans_from (x.last + 1) items
 
 -- the range of a leaf's span, and none of a hole
 abbrev pub leaf_range : Span → List Range
@@ -20,6 +20,15 @@ Fills lo hi [] = lo ≡ hi
 Fills lo hi (x ∷ xs) = (x.first ≡ lo) × (lo ≤ x.last) × Fills (x.last + 1) hi xs
 
 -- ---- holes in a leaf
+
+-- the number of indexes of a hole, and 0 of an entry
+abbrev pub hole_length : Span → ℕ
+hole_length x = if x.word == 0 then x.last + 1 - x.first else 0
+
+-- the number of indexes of the longest hole among spans of leaves
+abbrev pub longest_in : List Span → ℕ
+longest_in [] = 0
+longest_in (x ∷ xs) = max (hole_length x) (longest_in xs)
 
 abbrev pub BeginsFull : List Span → Type 0
 BeginsFull [] = Unit {0}
