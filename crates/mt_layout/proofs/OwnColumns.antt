@@ -2,19 +2,18 @@
 use Rattle.std.proofs.Common.{◌≡◌, ℕ, zero, suc, ◌+◌, ◌<◌, List, [], ◌∷◌, refl, sym, ap, ◌∙◌, ⊎_elim, arith}
 use Rattle.std.proofs.lemmas.Bool.{cases_eq}
 use Rattle.std.specs.Prelude.{slice_index}
-use Rattle.mt_base.specs.Width.{columns}
-use Rattle.mt_base.specs.declared.widths.Width.TheVariants.{Long}
 use Rattle.mt_layout.specs.declared.items.Item.{Item}
 use Rattle.mt_layout.specs.Columns.{IsLayout, pivot_column, slot_column, gap_column, gap_at, item_at, items_from, items_at}
 use Rattle.mt_layout.proofs.Reading.{gap_at-none, gap_at-some}
+use Rattle.mt_layout.proofs.RowSizes.{slots-fit, all_gaps}
 
-module _ (slots gaps base base' : ℕ) (w w' : List ℕ) (layout : IsLayout slots gaps)
-    (same : (c : ℕ) → 0 < c → c < columns Long → slice_index w (base + c) ≡ slice_index w' (base' + c)) where
+module _ (words slots gaps base base' : ℕ) (w w' : List ℕ) (layout : IsLayout words slots gaps)
+    (same : (c : ℕ) → 0 < c → c < words → slice_index w (base + c) ≡ slice_index w' (base' + c)) where
   same_pivot : (i : ℕ) → i + 1 < slots → slice_index w (base + pivot_column i) ≡ slice_index w' (base' + pivot_column i)
-  same_pivot i h = same (pivot_column i) (omega arith) (⊎_elim (λ l. omega (arith, l.0)) (λ l. omega (arith, l.0)) layout)
+  same_pivot i h = same (pivot_column i) (omega arith) (omega (arith, slots-fit words slots gaps layout))
 
   same_slot : (i : ℕ) → i < slots → slice_index w (base + slot_column slots i) ≡ slice_index w' (base' + slot_column slots i)
-  same_slot i h = same (slot_column slots i) (omega arith) (⊎_elim (λ l. omega (arith, l.0)) (λ l. omega (arith, l.0)) layout)
+  same_slot i h = same (slot_column slots i) (omega arith) (omega (arith, slots-fit words slots gaps layout))
 
   same_gap : (i : ℕ) → i < slots → gap_at slots gaps w base i ≡ gap_at slots gaps w' base' i
   same_gap i h =
@@ -22,7 +21,7 @@ module _ (slots gaps base base' : ℕ) (w w' : List ℕ) (layout : IsLayout slot
       (λ (none : gaps ≡ 0). gap_at-none slots gaps w base i none ∙ sym (gap_at-none slots gaps w' base' i none))
       (λ (some : gaps ≡ 0 → ⊥).
       gap_at-some slots gaps w base i some
-      ∙ (same (gap_column slots i) (omega arith) (⊎_elim (λ l. absurd (some l.1)) (λ l. omega (arith, l.0, l.1)) layout)
+      ∙ (same (gap_column slots i) (omega arith) (omega (arith, slots-fit words slots gaps layout, all_gaps words slots gaps layout))
       ∙ sym (gap_at-some slots gaps w' base' i some)))
       (cases_eq gaps 0)
 

@@ -7,6 +7,7 @@ use Rattle.mt_layout.specs.declared.items.Item.{Item}
 use Rattle.mt_layout.specs.Columns.{IsLayout, pivot_column, slot_column, gap_column, gap_at, items_from, items_at, row_words, RiseFrom, end_of, FitRow}
 use Rattle.mt_layout.proofs.Reading.{gap_at-none, gap_at-some, IsItem, ends, goes_on}
 use Rattle.mt_layout.proofs.RowWords.{item_or, used, used-pivot, used-slot, used-gap, get_or-padded, get_or-zeros, get_or-field}
+use Rattle.mt_layout.proofs.RowSizes.{all_gaps}
 
 -- ---- where items end
 
@@ -74,17 +75,17 @@ no_gap slots gaps items fits none k =
     sym (get_or-field (λ x. x.gap) refl items k)
     ∙ (ap (λ (xs : List ℕ). get_or xs k 0) (fits.no_gaps none) ∙ get_or-zeros (length items) k)
 
-pub row_words-hold : (all slots gaps parent : ℕ) (items : List Item) → IsLayout slots gaps → FitRow slots gaps items → Holds slots gaps (row_words all slots gaps parent items) 0 items
+pub row_words-hold : (all slots gaps parent : ℕ) (items : List Item) → IsLayout all slots gaps → FitRow slots gaps items → Holds slots gaps (row_words all slots gaps parent items) 0 items
 row_words-hold all slots gaps parent items layout fits =
-    let column = λ (c : ℕ). ap (λ (n : ℕ). get_or (row_words all slots gaps parent items) n 0) (zero-add c) ∙ get_or-padded (used slots gaps parent items layout fits.fit) (all - length (used slots gaps parent items layout fits.fit)) c in
+    let column = λ (c : ℕ). ap (λ (n : ℕ). get_or (row_words all slots gaps parent items) n 0) (zero-add c) ∙ get_or-padded (used all slots gaps parent items layout fits.fit) (all - length (used all slots gaps parent items layout fits.fit)) c in
     record {
-      pivots = λ k h. column (pivot_column k) ∙ used-pivot slots gaps parent items layout fits.fit k h;
-      words = λ k h. column (slot_column slots k) ∙ used-slot slots gaps parent items layout fits.fit k h;
+      pivots = λ k h. column (pivot_column k) ∙ used-pivot all slots gaps parent items layout fits.fit k h;
+      words = λ k h. column (slot_column slots k) ∙ used-slot all slots gaps parent items layout fits.fit k h;
       holes = λ k h. ⊎_elim
           (λ (none : gaps ≡ 0). gap_at-none slots gaps (row_words all slots gaps parent items) 0 k none ∙ sym (no_gap slots gaps items fits none k))
           (λ (some : gaps ≡ 0 → ⊥).
           gap_at-some slots gaps (row_words all slots gaps parent items) 0 k some
           ∙ (column (gap_column slots k)
-          ∙ used-gap slots gaps parent items layout fits.fit k (⊎_elim (λ l. absurd (some l.1)) (λ l. omega (arith, l.0, l.1)) layout)))
+          ∙ used-gap all slots gaps parent items layout fits.fit k (omega (arith, all_gaps all slots gaps layout))))
           (cases_eq gaps 0);
     }

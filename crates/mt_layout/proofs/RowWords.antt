@@ -4,13 +4,11 @@ use Rattle.std.proofs.lemmas.Bool.{cases_lt, cases_eq}
 use Rattle.std.proofs.lemmas.List.{get_or_append_left, get_or-append_right, get_or-take, ext_get_or, length-map, length-replicate}
 use Rattle.mt_layout.specs.declared.items.Item.{Item}
 use Rattle.mt_layout.specs.Columns.{IsLayout, pivot_column, slot_column, gap_column, padded_to, pivot_words, slot_words, gap_words}
+use Rattle.mt_layout.proofs.RowSizes.{some_slots, all_gaps}
 
 -- item k, and one of zeros where there is none
 abbrev pub item_or : List Item → ℕ → Item
 item_or items k = get_or items k (record { last = 0; word = 0; gap = 0 })
-
-pub some_slots : (slots gaps : ℕ) → IsLayout slots gaps → 0 < slots
-some_slots slots gaps layout = ⊎_elim (λ h. omega (arith, h.0)) (λ h. omega (arith, h.0)) layout
 
 -- ---- zeros behind a list
 
@@ -62,7 +60,7 @@ length-gaps (suc gaps) items fit =
     ap length (gap_words-some (suc gaps) items (omega arith))
     ∙ length-padded (suc gaps) (map (λ x. x.gap) items) (omega (arith, fit (omega arith), length-map items (λ x. x.gap)))
 
-module _ (slots gaps parent : ℕ) (items : List Item) (layout : IsLayout slots gaps) (fit : length items ≤ slots) where
+module _ (words slots gaps parent : ℕ) (items : List Item) (layout : IsLayout words slots gaps) (fit : length items ≤ slots) where
   abbrev front : List ℕ
   front = parent ∷ pivot_words slots items
 
@@ -70,13 +68,13 @@ module _ (slots gaps parent : ℕ) (items : List Item) (layout : IsLayout slots 
   used = front ++ slot_words slots items ++ gap_words gaps items
 
   length-front : length front ≡ slots
-  length-front = omega (arith, length-pivots slots items, some_slots slots gaps layout)
+  length-front = omega (arith, length-pivots slots items, some_slots words slots gaps layout)
 
   length-middle : length (front ++ slot_words slots items) ≡ 2 * slots
   length-middle = omega (arith, length-append front (slot_words slots items), length-front, length-slots slots items fit)
 
   length-end : length (gap_words gaps items) ≡ gaps
-  length-end = length-gaps gaps items (λ some. ⊎_elim (λ h. omega (arith, h.1)) (λ h. omega (arith, h.0, h.1)) layout)
+  length-end = length-gaps gaps items (λ some. omega (arith, all_gaps words slots gaps layout some))
 
   pub length-used : length used ≡ 2 * slots + gaps
   length-used = omega (arith, length-append (front ++ slot_words slots items) (gap_words gaps items), length-middle, length-end)

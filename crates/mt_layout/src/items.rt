@@ -1,6 +1,7 @@
 ghost use Rattle.std.specs.Prelude.{◌≡◌, ◌≢◌, ◌+◌, ◌<◌, Any};
 ghost use Rattle.mt_layout.specs.Columns.{RiseFrom, longest_hole};
 
+use crate::sizes::RUN_ROOM;
 use arrayvec::ArrayVec;
 
 /// What a row holds in one slot: the greatest index of it, its word, and the longest hole below it, in rows with gaps.
@@ -12,7 +13,7 @@ pub struct Item {
 }
 
 /// The items of a few rows that lie next to each other.
-pub type Run = ArrayVec<Item, 72>;
+pub type Run = ArrayVec<Item, RUN_ROOM>;
 
 /// The number of indexes of the longest hole in a leaf with these items, the first of which begins at `min`.
 pub fn gap_of(items: &[Item], min: u64) -> u64

@@ -1,7 +1,5 @@
 //! Laws of names and of rows.
 ghost use Rattle.std.specs.Prelude.{◌≡◌, ℕ, ◌+◌, ◌<◌, List, Some, None, slice_index};
-ghost use Rattle.mt_base.specs.Width.{columns};
-ghost use Rattle.mt_base.specs.declared.widths.Width.TheVariants.{Long};
 ghost use Rattle.mt_layout.specs.declared.names.RowKind.{RowKind};
 ghost use Rattle.mt_layout.specs.Rows.{IsRowNumber, Names, name_at, row_in, named_row, named_kind};
 ghost use Rattle.mt_layout.specs.Columns.{IsLayout, items_at};
@@ -26,7 +24,7 @@ pub fn what_is_not_read_is_no_name()
 
 /// The items of a row are in its own columns, and not in that of its parent word.
 pub fn items_are_in_own_columns()
-    ensures { (slots gaps base base' : ℕ) (w w' : List ℕ) → IsLayout slots gaps
-        → ((c : ℕ) → 0 < c → c < columns Long → slice_index w (base + c) ≡ slice_index w' (base' + c))
+    ensures { (words slots gaps base base' : ℕ) (w w' : List ℕ) → IsLayout words slots gaps
+        → ((c : ℕ) → 0 < c → c < words → slice_index w (base + c) ≡ slice_index w' (base' + c))
         → (max : ℕ) → items_at slots gaps w base max ≡ items_at slots gaps w' base' max }
 {}

@@ -1,6 +1,4 @@
 ghost use Rattle.std.specs.Prelude.{◌≡◌, ◌≢◌, ℕ, ◌+◌, ◌<◌, length, nat_lt, slice_index, if◌then◌else◌};
-ghost use Rattle.mt_base.specs.Width.{columns};
-ghost use Rattle.mt_base.specs.declared.widths.Width.TheVariants.{Long};
 ghost use Rattle.mt_layout.specs.Columns.{IsLayout, FitRow, pivot_column, slot_column, gap_column, item_at, items_at, row_words, end_of};
 
 use crate::items::Item;
@@ -15,16 +13,15 @@ macro_rules! column {
     (unused) => { 2 * SLOTS + GAPS };
 }
 
-/// The columns of a row with so many slots, and with a gap for each slot or none: `Layout<16, 0>` is that of leaves and
-/// of inner rows of range trees, `Layout<10, 10>` that of inner rows of allocation trees.
+/// The columns of a row with so many slots, and with a gap for each slot or none: inner rows of allocation trees have
+/// gaps, leaves and inner rows of range trees have none.
 pub struct Layout<const SLOTS: usize, const GAPS: usize>;
 
 impl<const SLOTS: usize, const GAPS: usize> Layout<SLOTS, GAPS> {
     /// The items of the row with these words, whose greatest index is `max`. No column is read twice, nor any behind the
     /// last item's.
     pub fn items_of(words: &[u64], max: u64) -> ArrayVec<Item, SLOTS>
-        requires layout { IsLayout SLOTS GAPS }
-        requires words { length words.now ≡ columns Long }
+        requires layout { IsLayout (length words.now) SLOTS GAPS }
         ensures { result.items ≡ items_at SLOTS GAPS words.now 0 max }
     {
         let mut items = ArrayVec::new();
@@ -40,8 +37,7 @@ impl<const SLOTS: usize, const GAPS: usize> Layout<SLOTS, GAPS> {
 
     /// The item in slot `i` of the row with these words, whose greatest index is `max`.
     fn item_in(words: &[u64], i: usize, max: u64) -> Item
-        requires layout { IsLayout SLOTS GAPS }
-        requires words { length words.now ≡ columns Long }
+        requires layout { IsLayout (length words.now) SLOTS GAPS }
         requires slot { i < SLOTS }
         ensures item { result ≡ item_at SLOTS GAPS words.now 0 i result.last }
         ensures last { result.last ≡ (if nat_lt (i + 1) SLOTS then slice_index words.now (pivot_column i) else max) }
@@ -63,10 +59,9 @@ impl<const SLOTS: usize, const GAPS: usize> Layout<SLOTS, GAPS> {
 
     /// Writes the words of a row with these items and this parent word, each once. What is unused is 0.
     pub fn words_of(items: &[Item], parent: u64, words: &mut [u64])
-        requires layout { IsLayout SLOTS GAPS }
+        requires layout { IsLayout (length words.old) SLOTS GAPS }
         requires fit { FitRow SLOTS GAPS items.now }
-        requires words { length words.old ≡ columns Long }
-        ensures words { words.new ≡ row_words (columns Long) SLOTS GAPS parent items.now }
+        ensures words { words.new ≡ row_words (length words.old) SLOTS GAPS parent items.now }
         ensures read_back { items_at SLOTS GAPS words.new 0 (end_of 0 items.now) ≡ items.now }
     {
         words[column!(parent)] = parent;
@@ -78,8 +73,7 @@ impl<const SLOTS: usize, const GAPS: usize> Layout<SLOTS, GAPS> {
 
     /// Writes an item into slot `i` of the row with these words.
     fn write_item(words: &mut [u64], i: usize, item: Item)
-        requires layout { IsLayout SLOTS GAPS }
-        requires words { length words.old ≡ columns Long }
+        requires layout { IsLayout (length words.old) SLOTS GAPS }
         requires slot { i < SLOTS }
         ensures pivot { i + 1 < SLOTS → slice_index words.new (pivot_column i) ≡ item.last }
         ensures slot { slice_index words.new (slot_column SLOTS i) ≡ item.word }

@@ -2,14 +2,12 @@ ghost use Rattle.std.specs.Prelude.{◌≡◌, ◌↔◌, ℕ, IsTrue, IsSome, I
 ghost use Rattle.mt_layout.specs.declared.names.RowKind.{RowKind};
 ghost use Rattle.mt_layout.specs.Rows.{IsRowNumber, Names, name_at, row_in, named_row, named_kind, parent_at, dead_mark};
 
+use crate::sizes::FIRST_ROW;
+use mt_base::MOST_ROWS;
 use std::marker::Model;
 
 /// A row's address is its number times this: as many bytes as a row has.
 const ROW_SIZE: u64 = 256;
-
-const FIRST_ROW: u64 = 16;
-
-const LAST_ROW: u64 = 65_519;
 
 /// The low bytes of names, which tell the kind of the row.
 const LEAF: u64 = 12;
@@ -83,7 +81,7 @@ pub fn kind_of(word: u64) -> Option<RowKind>
     ensures no_name { IfNone result ((row : ℕ) (kind : RowKind) → Names word row kind → ⊥) }
 {
     let row = word / ROW_SIZE;
-    if row < FIRST_ROW || LAST_ROW < row {
+    if row < u64::from(FIRST_ROW) || u64::from(FIRST_ROW) + MOST_ROWS <= row {
         return None;
     }
     match word % ROW_SIZE {

@@ -1,10 +1,16 @@
-//! How many columns of a row are slots.
+//! How large rows are.
 
 ghost use Rattle.std.specs.Prelude.{◌≡◌};
-ghost use Rattle.mt_rows.specs.Spans.{slots_of};
+ghost use Rattle.mt_layout.specs.Sizes.{slots_of, gaps_of, least_items};
 
+use crate::names::RowKind;
 use mt_base::Width;
-use mt_layout::RowKind;
+
+/// Rows are numbered from here.
+pub const FIRST_ROW: u32 = 16;
+
+/// How many items a `Run` has room for.
+pub const RUN_ROOM: usize = 72;
 
 /// How many slots a row of this kind has. They stand in the columns from that number on, behind the parent word and the
 /// pivots.
@@ -14,5 +20,25 @@ pub fn slots(width: Width, kind: RowKind) -> u32
     match (width, kind) {
         (Width::Long, RowKind::Leaf | RowKind::Inner) => 16,
         (Width::Long, RowKind::Gapped) => 10,
+    }
+}
+
+/// How many gaps a row of this kind has: one for each slot, or none.
+pub fn gaps(width: Width, kind: RowKind) -> u32
+    ensures { result ≡ gaps_of width kind }
+{
+    match (width, kind) {
+        (Width::Long, RowKind::Leaf | RowKind::Inner) => 0,
+        (Width::Long, RowKind::Gapped) => 10,
+    }
+}
+
+/// The least number of items in a row of this kind that is not the root.
+pub fn least_items(width: Width, kind: RowKind) -> u32
+    ensures { result ≡ least_items width kind }
+{
+    match (width, kind) {
+        (Width::Long, RowKind::Leaf | RowKind::Inner) => 6,
+        (Width::Long, RowKind::Gapped) => 4,
     }
 }

@@ -56,7 +56,7 @@ fn check_row<const SLOTS: usize, const GAPS: usize>(
     parent: u64,
     columns: &[(usize, u64)],
 )
-    requires layout { IsLayout SLOTS GAPS }
+    requires layout { IsLayout 32 SLOTS GAPS }
     requires fit { FitRow SLOTS GAPS items.now }
 {
     let words = check_round_trip::<SLOTS, GAPS>(rt, items, parent);
@@ -75,7 +75,7 @@ fn check_round_trip<const SLOTS: usize, const GAPS: usize>(
     items: &[Item],
     parent: u64,
 ) -> [u64; 32]
-    requires layout { IsLayout SLOTS GAPS }
+    requires layout { IsLayout 32 SLOTS GAPS }
     requires fit { FitRow SLOTS GAPS items.now }
 {
     let mut words = [7; 32];

@@ -1,0 +1,55 @@
+-- What proofs use of the sizes of rows, so that none of them names a number.
+use Rattle.std.proofs.Common.{◌≡◌, ℕ, ◌+◌, ◌*◌, ◌<◌, ◌≤◌, inl, inr, refl, arith}
+use Rattle.std.specs.Prelude.{◌⊎◌}
+use Rattle.mt_base.specs.declared.widths.Width.{Width}
+use Rattle.mt_base.specs.declared.widths.Width.TheVariants.{Long}
+use Rattle.mt_base.specs.Width.{columns}
+use Rattle.mt_layout.specs.declared.names.RowKind.{RowKind}
+use Rattle.mt_layout.specs.declared.names.RowKind.TheVariants as kinds
+use Rattle.mt_layout.specs.Columns.{IsLayout}
+use Rattle.mt_layout.specs.Sizes.{slots_of, gaps_of, least_items, run_room, AreSizes}
+
+pub sizes : (width : Width) (kind : RowKind) → AreSizes width kind
+sizes Long kinds.Leaf = record { least = omega arith; some = omega arith; room = omega arith; columns_fit = omega arith; gaps = inl refl }
+sizes Long kinds.Inner = record { least = omega arith; some = omega arith; room = omega arith; columns_fit = omega arith; gaps = inl refl }
+sizes Long kinds.Gapped = record { least = omega arith; some = omega arith; room = omega arith; columns_fit = omega arith; gaps = inr refl }
+
+-- ---- of a width and a kind
+
+pub some_slots_of : (width : Width) (kind : RowKind) → 0 < slots_of width kind
+some_slots_of width kind = omega (arith, sizes width kind)
+
+pub least-below-slots : (width : Width) (kind : RowKind) → 2 * least_items width kind + 2 ≤ slots_of width kind
+least-below-slots width kind = (sizes width kind).least
+
+pub some_least : (width : Width) (kind : RowKind) → 2 ≤ least_items width kind
+some_least width kind = (sizes width kind).some
+
+pub slots_of-room : (width : Width) (kind : RowKind) → 2 * slots_of width kind + 8 ≤ run_room
+slots_of-room width kind = (sizes width kind).room
+
+pub slots_of-columns : (width : Width) (kind : RowKind) → 2 * slots_of width kind + gaps_of width kind ≤ columns width
+slots_of-columns width kind = (sizes width kind).columns_fit
+
+pub none_or_all : (width : Width) (kind : RowKind) → (gaps_of width kind ≡ 0) ⊎ (gaps_of width kind ≡ slots_of width kind)
+none_or_all width kind = (sizes width kind).gaps
+
+-- ---- of a layout
+
+pub layout_of : (width : Width) (kind : RowKind) → IsLayout (columns width) (slots_of width kind) (gaps_of width kind)
+layout_of width kind = record { width = width; kind = kind; all = refl; slots_are = refl; gaps_are = refl }
+
+pub some_slots : (words slots gaps : ℕ) → IsLayout words slots gaps → 0 < slots
+some_slots words slots gaps layout = omega (arith, sizes layout.width layout.kind, layout)
+
+pub slots-fit : (words slots gaps : ℕ) → IsLayout words slots gaps → 2 * slots + gaps ≤ words
+slots-fit words slots gaps layout = omega (arith, sizes layout.width layout.kind, layout)
+
+pub slots-room : (words slots gaps : ℕ) → IsLayout words slots gaps → 2 * slots + 8 ≤ run_room
+slots-room words slots gaps layout = omega (arith, sizes layout.width layout.kind, layout)
+
+pub few_gaps : (words slots gaps : ℕ) → IsLayout words slots gaps → gaps ≤ slots
+few_gaps words slots gaps layout = omega (arith, sizes layout.width layout.kind, layout)
+
+pub all_gaps : (words slots gaps : ℕ) → IsLayout words slots gaps → 0 < gaps → gaps ≡ slots
+all_gaps words slots gaps layout some = omega (arith, sizes layout.width layout.kind, layout)
