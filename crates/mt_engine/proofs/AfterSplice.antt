@@ -24,7 +24,7 @@ use Rattle.mt_engine.specs.Engine.{IsEngineState, IsIdle, HadRoom, IsAnswered, i
 -- ---- held rows
 
 -- a held row is not reached
-not_reached : (s : Sheet) (book : Book) (number : ℕ) (row : ℕ) → IsBookOf s book number → Contains (held_rows book) row → is_reached s.tree row ≡ false
+not_reached : (s : Sheet) (book : Book) (number : ℕ) (row : ℕ) → IsBookOf s.tree s.lives s.cleared book number → Contains (held_rows book) row → is_reached s.tree row ≡ false
 not_reached s book number row booked held = elim (cases_Bool (is_reached s.tree row)) [ inl reached ↦ absurd ((booked.reached row reached).not_held held) | inr apart ↦ apart ]
 
 -- what stands in the list of held rows is a held row
@@ -60,7 +60,7 @@ module _ (s s' : Sheet) (book book' : Book) (number : ℕ) (call : Call) (reply 
   done = finished s' call reply
 
   -- an old held row keeps its life: it was not reached, and is not
-  old_held : All (λ (h : Held). life_of s' h.row ≡ Dead h.stamp) book.held
+  old_held : All (λ (h : Held). life_of s'.lives h.row ≡ Dead h.stamp) book.held
   old_held = λ k d within.
       (let row : ℕ = (get_or book.held k d).row in
       let here : Contains (held_rows book) row = holds book k d within in
@@ -71,25 +71,25 @@ module _ (s s' : Sheet) (book book' : Book) (number : ℕ) (call : Call) (reply 
       spliced.others row at.0 (omega (arith, at.1)) (not_reached s book (s.ended + 1) row state.booked here) (not_reached s' book' (number + 1) row spliced.booked there) ∙ state.held k d within)
 
   -- a row that went died by this call
-  new_held : All (λ (h : Held). life_of s' h.row ≡ Dead h.stamp) (map (λ (r : ℕ). record { row = r; stamp = number }) spliced.moved.gone)
+  new_held : All (λ (h : Held). life_of s'.lives h.row ≡ Dead h.stamp) (map (λ (r : ℕ). record { row = r; stamp = number }) spliced.moved.gone)
   new_held =
       let gone = spliced.moved.gone in
       let held : ℕ → Held = λ (r : ℕ). record { row = r; stamp = number } in
-      All-map (λ (h : Held). life_of s' h.row ≡ Dead h.stamp) held gone
+      All-map (λ (h : Held). life_of s'.lives h.row ≡ Dead h.stamp) held gone
       (λ k d within. spliced.dead (get_or gone k d) (spliced.moved.were_reached k d within) (spliced.moved.are_not k d within))
 
-  held_after : All (λ (h : Held). life_of s' h.row ≡ Dead h.stamp) book'.held
+  held_after : All (λ (h : Held). life_of s'.lives h.row ≡ Dead h.stamp) book'.held
   held_after =
-      let P : Held → Type 0 = λ (h : Held). life_of s' h.row ≡ Dead h.stamp in
+      let P : Held → Type 0 = λ (h : Held). life_of s'.lives h.row ≡ Dead h.stamp in
       subst (All P) (sym spliced.moved.held) (All-append P book.held _ old_held new_held)
 
   grown_after : length book'.held + live_count book' ≤ s'.opened + 28 * (s'.ended + 1)
   grown_after =
       let opened : s'.opened ≡ s.opened = ap (λ (x : Sheet). x.opened) spliced.rest in
       let ended : s'.ended ≡ s.ended = ap (λ (x : Sheet). x.ended) spliced.rest in
-      let rows : book'.rows ≡ book.rows = spliced.booked.rows ∙ (ap (λ (x : Sheet). x.rows) spliced.rest ∙ sym state.booked.rows) in
+      let rows : book'.rows ≡ book.rows = spliced.booked.rows ∙ (ap (λ (x : Sheet). x.tree.rows) spliced.rest ∙ sym state.booked.rows) in
       let frees : length book.free ≡ length book'.free + length spliced.moved.taken = ap length spliced.moved.free ∙ length-append book'.free spliced.moved.taken in
-      let low : height_in s.tree.table s.tree.root ≤ 9 = low_tree (tree_as trees.Range s.rows s.tree) state.lawful.words in
+      let low : height_in s.tree.table s.tree.root ≤ 9 = low_tree (tree_as trees.Range s.tree.rows s.tree) state.lawful.words in
       rw (opened, ended) (grows book.rows book'.rows (length book.free) (length book'.free) (length spliced.moved.taken) (length book.held) (length book'.held) (height_in s.tree.table s.tree.root) s.opened s.ended rows frees spliced.moved.few low state.booked.sound.counted spliced.booked.sound.counted state.grown)
 
   pub idle_after : IsIdle done book'
@@ -110,9 +110,9 @@ module _ (s s' : Sheet) (book book' : Book) (number : ℕ) (call : Call) (reply 
   published_is : s'.published ≡ true
   published_is = ap (λ (x : Sheet). x.published) spliced.rest
 
-  pub may_finish : s.flying ≡ true → MayFinish trees.Range s' call reply
+  pub may_finish : s.in_flight ≡ true → MayFinish trees.Range s' call reply
   may_finish flies = record {
-    flying = ap (λ (x : Sheet). x.flying) spliced.rest ∙ flies;
+    in_flight = ap (λ (x : Sheet). x.in_flight) spliced.rest ∙ flies;
     kept = λ before. absurd (let is = published_is in cc);
   }
 
@@ -125,7 +125,7 @@ module _ (s s' : Sheet) (book book' : Book) (number : ℕ) (call : Call) (reply 
       (sym spliced.rest) refl
 
   -- what it did, where the answer is the reply and there was room
-  pub answered_by : s.flying ≡ true → (acted trees.Range (map_by s.tree) call).1 ≡ reply → (NeedsRows trees.Range (map_by s.tree) call → HadRoom s s' book) → is_refusal reply ≡ false → is_exact_store (map_by s.tree) call ≡ false → IsAnswered s s' book book' call reply
+  pub answered_by : s.in_flight ≡ true → (acted trees.Range (map_by s.tree) call).1 ≡ reply → (NeedsRows trees.Range (map_by s.tree) call → HadRoom s s' book) → is_refusal reply ≡ false → is_exact_store (map_by s.tree) call ≡ false → IsAnswered s s' book book' call reply
   answered_by flies replies room success inexact = record {
     may = may_finish flies;
     idle = idle_after;

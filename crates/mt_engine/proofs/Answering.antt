@@ -84,7 +84,7 @@ module _ (s s₁ s₂ s' : Sheet) (book book₂ book' : Book) (number : ℕ) (ca
 
   by_rows : HasRoom s₂ book₂ → NeedsRows trees.Range (map_by s.tree) call → is_refusal reply ≡ false → (acted trees.Range (map_by s.tree) call).1 ≡ reply → IsAnswered s s' book book' call reply
   by_rows room need success replies = record {
-    may = may_finish s₂ s' book₂ book' number call reply place scanned.in_call.state is_number spliced scanned.in_call.flying;
+    may = may_finish s₂ s' book₂ book' number call reply place scanned.in_call.state is_number spliced scanned.in_call.in_flight;
     idle = idle_after s₂ s' book₂ book' number call reply place scanned.in_call.state is_number spliced;
     answer = inl (record { acts = acts_by (acted trees.Range (map_by s.tree) call) (map_by s'.tree) reply map_is replies; kept = λ refused. absurd (not_both (is_refusal reply) refused success); room = λ needs. had_room room; took = took_rows need });
     record_told = told s₂ s' book₂ book' number call reply place scanned.in_call.state is_number spliced ∙ ap (λ (x : Sheet). with_record x call reply) scans;
@@ -100,4 +100,4 @@ replaces s s₁ s₂ s' book book₂ book' first last entry number call reply pl
 
 pub clears : (s s' : Sheet) (book book' : Book) (number : ℕ) → IsInCall s book → number ≡ s.ended + 1 → IsSpliced trees.Range s s' book book' number Clear reply.Ok Root → IsAnswered s s' book book' Clear reply.Ok
 clears s s' book book' number in_call is spliced =
-    answered_by s s' book book' number Clear reply.Ok Root in_call.state is spliced in_call.flying refl (λ needs. absurd (needs.not_clear refl)) refl refl
+    answered_by s s' book book' number Clear reply.Ok Root in_call.state is spliced in_call.in_flight refl (λ needs. absurd (needs.not_clear refl)) refl refl

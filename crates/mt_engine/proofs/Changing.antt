@@ -100,10 +100,10 @@ module _ (s : Sheet) (book : Book) (in_call : IsInCall s book) (first last entry
 pub path_height : (s : Sheet) (book : Book) (index : ℕ) (path : List PathStep) → IsInCall s book → index ≤ greatest s.tree.table.width → path ≡ path_in s.tree.table s.tree.root index → length path ≡ height_in s.tree.table s.tree.root
 path_height s book index path in_call within is = by in_call.state.lawful.words
   where
-    by : IsLawful (tree_as trees.Range s.rows s.tree) → length path ≡ height_in s.tree.table s.tree.root
+    by : IsLawful (tree_as trees.Range s.tree.rows s.tree) → length path ≡ height_in s.tree.table s.tree.root
     by (inl empty) = ap length (is ∙ path_of_none s.tree.table deepest (root_span s.tree.table s.tree.root) index (ap named_kind empty)) ∙ sym (ap (height_in s.tree.table) empty)
     by (inr (h, stands, parent, tended)) =
-        let t = tree_as trees.Range s.rows s.tree in
+        let t = tree_as trees.Range s.tree.rows s.tree in
         ap length is ∙ (levels t h stands index within ∙ sym (height_by_depth t deepest h (root_span s.tree.table s.tree.root) stands.low stands.rows))
 
 -- ---- rows that have room may be replaced
@@ -118,12 +118,12 @@ may_replace_now s s' book book' left first last entry number call reply scanned 
     record {
       range = refl;
       room = room;
-      flying = in_call.flying;
+      in_flight = in_call.in_flight;
       before = in_call.before;
-      in_flight = number';
+      numbered = number';
       none_buried = in_call.state.none_buried;
       live = in_call.state.live;
-      booked = subst (IsBookOf s' book') (sym number') in_call.state.booked;
+      booked = subst (IsBookOf s'.tree s'.lives s'.cleared book') (sym number') in_call.state.booked;
       lawful = in_call.state.lawful;
       store = subst (λ (x : Sheet). IsStoreBy trees.Range (greatest x.tree.table.width) (map_by x.tree) call reply first last entry) same store;
       some = λ empty. some (ap (λ (x : Sheet). x.tree.root) same ∙ empty);

@@ -22,7 +22,7 @@ fresh_is_idle n sound =
         live = ready.live;
         none_buried = ready.none_buried;
         booked = ready.booked;
-        held = All-nil (λ (h : Held). life_of (new_sheet n) h.row ≡ Dead h.stamp);
+        held = All-nil (λ (h : Held). life_of (new_sheet n).lives h.row ≡ Dead h.stamp);
         grown = let all = length-rows_down n in omega arith;
       };
     }

@@ -22,7 +22,7 @@ use Rattle.mt_engine.proofs.LeafSteps.{IsStepTo, step_to, leaf_of_other, here_in
 
 -- ---- the handle of an index
 
-module _ (s : Sheet) (kind : Kind) (tree : IsTreeOf s kind) where
+module _ (s : Sheet) (kind : Kind) (tree : IsTreeOf s.tree kind) where
   -- the leaf at the end of a path that has a step
   pub step_of_index : (index : ℕ) → s.tree.root ≢ 0 → index ≤ greatest s.tree.table.width → IsStepOfLeaf s (leaf_in s.tree index)
   step_of_index index some inside = record {
@@ -127,7 +127,7 @@ module _ (s : Sheet) (kind : Kind) (tree : IsTreeOf s kind) where
 
 -- ---- the end of a path
 
-module _ (s : Sheet) (kind : Kind) (tree : IsTreeOf s kind) (index : ℕ) (inside : index ≤ greatest s.tree.table.width) (steps : List PathStep) (path : steps ≡ path_in s.tree.table s.tree.root index) where
+module _ (s : Sheet) (kind : Kind) (tree : IsTreeOf s.tree kind) (index : ℕ) (inside : index ≤ greatest s.tree.table.width) (steps : List PathStep) (path : steps ≡ path_in s.tree.table s.tree.root index) where
   some_root : 1 ≤ length steps → s.tree.root ≢ 0
   some_root some empty =
       let none = ap length (path ∙ path_of_none s.tree.table deepest (root_span s.tree.table s.tree.root) index (ap named_kind empty)) in
@@ -152,10 +152,10 @@ module _ (s : Sheet) (kind : Kind) (tree : IsTreeOf s kind) (index : ℕ) (insid
   pub root_if_no_end : slice_get steps (length steps - 1) ≡ None → s.tree.root ≡ 0
   root_if_no_end none = by tree.words
     where
-      by : laws.IsTree (tree_as kind s.rows s.tree) → s.tree.root ≡ 0
+      by : laws.IsTree (tree_as kind s.tree.rows s.tree) → s.tree.root ≡ 0
       by (inl empty) = empty
       by (inr (h, stands)) =
-          let many = levels (tree_as kind s.rows s.tree) h stands index inside in
+          let many = levels (tree_as kind s.tree.rows s.tree) h stands index inside in
           let same = ap length path in
           let short = no_end none in
           absurd (omega arith)

@@ -23,7 +23,7 @@ state_with s book reads state = record {
 }
 
 pub in_call_with : (s : Sheet) (book : Book) (reads : _) → IsInCall s book → IsInCall (record s { reads = reads }) book
-in_call_with s book reads in_call = record { flying = in_call.flying; before = in_call.before; state = state_with s book reads in_call.state; scans = in_call.scans }
+in_call_with s book reads in_call = record { in_flight = in_call.in_flight; before = in_call.before; state = state_with s book reads in_call.state; scans = in_call.scans }
 
 pub in_call_if_read : (s s' : Sheet) (book : Book) → OnlyReads s s' → IsInCall s book → IsInCall s' book
 in_call_if_read s s' book reads in_call = subst (λ (x : Sheet). IsInCall x book) (sym reads) (in_call_with s book s'.reads in_call)
@@ -39,14 +39,14 @@ begun_state s book state = record {
 }
 
 pub in_call_begun : (s s' : Sheet) (book : Book) → s' ≡ begun s → IsIdle s book → IsInCall s' book
-in_call_begun s s' book begins idle = subst (λ (x : Sheet). IsInCall x book) (sym begins) (record { flying = refl; before = refl; state = begun_state s book idle.state; scans = inl (omega arith) })
+in_call_begun s s' book begins idle = subst (λ (x : Sheet). IsInCall x book) (sym begins) (record { in_flight = refl; before = refl; state = begun_state s book idle.state; scans = inl (omega arith) })
 
 is_tree : (t : Tree) → IsLawful t → IsTree t
 is_tree t (inl empty) = inl empty
 is_tree t (inr (h, stands, parent, tended)) = inr (h, stands)
 
-pub tree_in_call : (s : Sheet) (book : Book) → IsInCall s book → IsTreeOf s trees.Range
-tree_in_call s book in_call = let lawful = in_call.state.lawful in record { of_kind = lawful.of_kind; words = is_tree (tree_as trees.Range s.rows s.tree) lawful.words }
+pub tree_in_call : (s : Sheet) (book : Book) → IsInCall s book → IsTreeOf s.tree trees.Range
+tree_in_call s book in_call = let lawful = in_call.state.lawful in record { of_kind = lawful.of_kind; words = is_tree (tree_as trees.Range s.tree.rows s.tree) lawful.words }
 
 -- ---- what was read before
 
@@ -110,7 +110,7 @@ applied s s₁ s' s″ book book' call reply begins answered' ends =
       record_told = ap (λ (x : Sheet). x.records) ends ∙ answered.record_told;
       opened = ap (λ (x : Sheet). x.opened) ends ∙ ap (λ (x : Sheet). x.opened) answered.rest;
       caller = ap (λ (x : Sheet). x.caller) ends ∙ ap (λ (x : Sheet). x.caller) answered.rest;
-      rows = ap (λ (x : Sheet). x.rows) ends ∙ ap (λ (x : Sheet). x.rows) answered.rest;
+      rows = ap (λ (x : Sheet). x.tree.rows) ends ∙ ap (λ (x : Sheet). x.tree.rows) answered.rest;
     }
   where
     short_for : IsRefused trees.Range s' call reply × (s'.tree ≡ s.tree) → IsShortFor s s″ call reply
@@ -123,7 +123,7 @@ applied s s₁ s' s″ book book' call reply begins answered' ends =
           needs = subst (λ (t : words.Tree). NeedsRows trees.Range (map_by t) call) refused.1 r.needs;
           short =
               subst (λ (q : (ℕ × ℕ) × (ℕ × words.Tree)). IsShort q.0.0 q.0.1 q.1.0 (map_by q.1.1) r.shortage)
-              (λ i. ((ap (λ (x : Sheet). x.rows) answered.rest i, ap (λ (x : Sheet). x.opened) answered.rest i), (ap (λ (x : Sheet). x.ended) answered.rest i, refused.1 i))) r.short;
+              (λ i. ((ap (λ (x : Sheet). x.tree.rows) answered.rest i, ap (λ (x : Sheet). x.opened) answered.rest i), (ap (λ (x : Sheet). x.ended) answered.rest i, refused.1 i))) r.short;
           counted = subst (λ (x : Sheet). IsCounted x r.shortage) (sym ends) (counted_end s' call reply r.shortage r.counted);
         }
 
@@ -135,5 +135,5 @@ idle_with s book reads idle = record { idle = idle.idle; state = state_with s bo
 pub idle_if_read : (s s' : Sheet) (book : Book) → OnlyReads s s' → IsIdle s book → IsIdle s' book
 idle_if_read s s' book reads idle = subst (λ (x : Sheet). IsIdle x book) (sym reads) (idle_with s book s'.reads idle)
 
-pub tree_idle : (s : Sheet) (book : Book) → IsIdle s book → IsTreeOf s trees.Range
-tree_idle s book idle = let lawful = idle.state.lawful in record { of_kind = lawful.of_kind; words = is_tree (tree_as trees.Range s.rows s.tree) lawful.words }
+pub tree_idle : (s : Sheet) (book : Book) → IsIdle s book → IsTreeOf s.tree trees.Range
+tree_idle s book idle = let lawful = idle.state.lawful in record { of_kind = lawful.of_kind; words = is_tree (tree_as trees.Range s.tree.rows s.tree) lawful.words }

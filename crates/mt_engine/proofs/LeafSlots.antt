@@ -21,10 +21,10 @@ module _ (slots gaps : ℕ) (w : List ℕ) (base max : ℕ) where
     pub gap : x.gap ≡ gap_at slots gaps w base j
 
   head_in : (i j first last : ℕ) → j ≡ i + 0 → last ≡ last_in i
-      → StandsIn j (record { first = first; last = last; word = slice_index w (base + slot_column slots i); gap = gap_at slots gaps w base i })
+      → StandsIn j (record { first = first; last = last; word = slice_index w (base + slot_column slots i) })
   head_in i j first last at is =
       let same : i ≡ j = omega arith in
-      subst (λ (n : ℕ). StandsIn n (record { first = first; last = last; word = slice_index w (base + slot_column slots i); gap = gap_at slots gaps w base i })) same
+      subst (λ (n : ℕ). StandsIn n (record { first = first; last = last; word = slice_index w (base + slot_column slots i) })) same
       (record { last = is; word = refl; gap = refl })
 
   pub stands_in : (left i first k j : ℕ) → left + i ≡ slots → j ≡ i + k → k < length (items_from slots gaps w base max left i)

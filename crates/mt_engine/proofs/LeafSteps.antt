@@ -33,8 +33,8 @@ use Rattle.mt_engine.proofs.LeafSlots.{StandsIn, stands_in, fills_within, fills_
 
 -- what holds of a leaf, whatever slot the step takes
 pub record IsLeaf (s : Sheet) (leaf : PathStep) : Type 0 where
-  pub first : 16 ≤ leaf.row
-  pub row : leaf.row < 16 + s.rows
+  pub first : first_row ≤ leaf.row
+  pub row : leaf.row < first_row + s.tree.rows
   pub fills : Fills leaf.min (leaf.max + 1) (leaf_spans s.tree.table leaf)
   pub within : leaf.max ≤ greatest s.tree.table.width
 
@@ -56,7 +56,7 @@ in_leaf t h stands index inside =
 
 module _ (s : Sheet) (kind : Kind) where
   abbrev t : laws.Tree
-  t = tree_as kind s.rows s.tree
+  t = tree_as kind s.tree.rows s.tree
 
   module _ (h : ℕ) (stands : laws.Stands t h) (index : ℕ) (inside : index ≤ laws.top_of t) where
     abbrev row : Span
@@ -112,12 +112,12 @@ module _ (s : Sheet) (kind : Kind) where
 
   -- ---- as the tree is told
 
-  pub step_to : (index : ℕ) → IsTreeOf s kind → s.tree.root ≢ 0 → index ≤ greatest s.tree.table.width → IsStepTo s index (leaf_in s.tree index)
+  pub step_to : (index : ℕ) → IsTreeOf s.tree kind → s.tree.root ≢ 0 → index ≤ greatest s.tree.table.width → IsStepTo s index (leaf_in s.tree index)
   step_to index tree some inside =
       let stands = some_tree tree.words some in
       subst (IsStepTo s index) (sym (in_leaf t stands.0 stands.1 index inside)) (is_step stands.0 stands.1 index inside)
 
-  pub leaf_of_other : (index other : ℕ) → IsTreeOf s kind → s.tree.root ≢ 0 → index ≤ greatest s.tree.table.width → (leaf_in s.tree index).min ≤ other → other ≤ (leaf_in s.tree index).max
+  pub leaf_of_other : (index other : ℕ) → IsTreeOf s.tree kind → s.tree.root ≢ 0 → index ≤ greatest s.tree.table.width → (leaf_in s.tree index).min ≤ other → other ≤ (leaf_in s.tree index).max
       → leaf_in s.tree other ≡ record (leaf_in s.tree index) { slot = slot_for (leaf_spans s.tree.table (leaf_in s.tree index)) other }
   leaf_of_other index other tree some inside from to =
       let stands = some_tree tree.words some in
@@ -132,7 +132,7 @@ module _ (s : Sheet) (kind : Kind) where
 
   -- ---- one of a leaf's slots
 
-  pub leaf_of_step : (leaf : PathStep) → IsTreeOf s kind → IsStepOfLeaf s leaf → IsLeaf s leaf
+  pub leaf_of_step : (leaf : PathStep) → IsTreeOf s.tree kind → IsStepOfLeaf s leaf → IsLeaf s leaf
   leaf_of_step leaf tree step =
       let facts = (step_to step.index tree step.some step.within).leaf in
       subst (IsLeaf s) (sym step.leaf) (record { first = facts.first; row = facts.row; fills = facts.fills; within = facts.within })
@@ -176,7 +176,7 @@ ends_at_pivot t leaf slot used below =
     let test : nat_lt (slot + 1) (slots_of t.width Leaf) ≡ true = lt-ltb (slot + 1) (slots_of t.width Leaf) (omega arith) in
     sym ((slot_stands t leaf slot used).last ∙ ap (λ (b : Bool). if b then column t leaf.row (1 + slot) else leaf.max) test)
 
-ends_at_max : (t : Table) (leaf : PathStep) (slot : ℕ) → slot < length (leaf_spans t leaf) → 16 ≤ slot + 1 → leaf.max ≡ (span_at (leaf_spans t leaf) slot).last
+ends_at_max : (t : Table) (leaf : PathStep) (slot : ℕ) → slot < length (leaf_spans t leaf) → first_row ≤ slot + 1 → leaf.max ≡ (span_at (leaf_spans t leaf) slot).last
 ends_at_max t leaf slot used past =
     let slots = leaf_slots t.width in
     let test : nat_lt (slot + 1) (slots_of t.width Leaf) ≡ false = le-ltb (slot + 1) (slots_of t.width Leaf) (omega arith) in
@@ -197,11 +197,11 @@ begins_at_min : (t : Table) (leaf : PathStep) (slot : ℕ) → Fills leaf.min (l
 begins_at_min t leaf zero fills used none = sym (fills_first leaf.min (leaf.max + 1) (leaf_spans t leaf) fills used)
 begins_at_min t leaf (suc slot) fills used none = absurd (omega arith)
 
-module _ (s : Sheet) (kind : Kind) (leaf : PathStep) (tree : IsTreeOf s kind) (step : IsStepOfLeaf s leaf) where
+module _ (s : Sheet) (kind : Kind) (leaf : PathStep) (tree : IsTreeOf s.tree kind) (step : IsStepOfLeaf s leaf) where
   pub slot_low : leaf.slot < 16
   slot_low = let few = few_spans s.tree.table leaf in let used = step.used in omega arith
 
-  pub place : (col : ℕ) → col < 32 → IsPlace s leaf.row col
+  pub place : (col : ℕ) → col < 32 → IsPlace s.tree leaf.row col
   place col low =
       let facts = leaf_of_step s kind leaf tree step in
       let all = row_columns s.tree.table.width in
@@ -210,7 +210,7 @@ module _ (s : Sheet) (kind : Kind) (leaf : PathStep) (tree : IsTreeOf s kind) (s
   pub first_is_min : leaf.slot ≡ 0 → leaf.min ≡ (here_in s.tree.table leaf).first
   first_is_min none = begins_at_min s.tree.table leaf leaf.slot (leaf_of_step s kind leaf tree step).fills step.used none
 
-  pub first_is_behind : leaf.slot ≢ 0 → word_at s leaf.row leaf.slot + 1 ≡ (here_in s.tree.table leaf).first
+  pub first_is_behind : leaf.slot ≢ 0 → word_at s.tree leaf.row leaf.slot + 1 ≡ (here_in s.tree.table leaf).first
   first_is_behind other = begins_behind s.tree.table leaf leaf.slot (leaf_of_step s kind leaf tree step).fills step.used other
 
   pub first_fits : (here_in s.tree.table leaf).first < 2 ^ 64
@@ -220,29 +220,29 @@ module _ (s : Sheet) (kind : Kind) (leaf : PathStep) (tree : IsTreeOf s kind) (s
       let from = within.1 in let to = within.2 in let top = facts.within in let fits = greatest_fits s.tree.table.width in
       omega arith
 
-  pub last_is_pivot : leaf.slot + 1 < 16 → word_at s leaf.row (1 + leaf.slot) ≡ (here_in s.tree.table leaf).last
+  pub last_is_pivot : leaf.slot + 1 < 16 → word_at s.tree leaf.row (1 + leaf.slot) ≡ (here_in s.tree.table leaf).last
   last_is_pivot below = ends_at_pivot s.tree.table leaf leaf.slot step.used below
 
-  pub last_is_max : 16 ≤ leaf.slot + 1 → leaf.max ≡ (here_in s.tree.table leaf).last
+  pub last_is_max : first_row ≤ leaf.slot + 1 → leaf.max ≡ (here_in s.tree.table leaf).last
   last_is_max past = ends_at_max s.tree.table leaf leaf.slot step.used past
 
-  pub word_is : word_at s leaf.row (16 + leaf.slot) ≡ (here_in s.tree.table leaf).word
-  word_is = ap (λ (n : ℕ). word_at s leaf.row (n + leaf.slot)) (sym (leaf_slots s.tree.table.width)) ∙ sym (slot_stands s.tree.table leaf leaf.slot step.used).word
+  pub word_is : word_at s.tree leaf.row (16 + leaf.slot) ≡ (here_in s.tree.table leaf).word
+  word_is = ap (λ (n : ℕ). word_at s.tree leaf.row (n + leaf.slot)) (sym (leaf_slots s.tree.table.width)) ∙ sym (slot_stands s.tree.table leaf leaf.slot step.used).word
 
   pub gap_is : 0 ≡ (here_in s.tree.table leaf).gap
   gap_is = sym ((slot_stands s.tree.table leaf leaf.slot step.used).gap ∙ leaf_gap s.tree.table.width s.tree.table.words (base_of s.tree.table leaf.row) leaf.slot)
 
-  pub span_is : (first last word : ℕ) → first ≡ (here_in s.tree.table leaf).first → last ≡ (here_in s.tree.table leaf).last → word ≡ word_at s leaf.row (16 + leaf.slot)
-      → record { first = first; last = last; word = word; gap = 0 } ≡ here_in s.tree.table leaf
-  span_is first last word begins ends is = λ i. record { first = begins i; last = ends i; word = (is ∙ word_is) i; gap = gap_is i }
+  pub span_is : (first last word : ℕ) → first ≡ (here_in s.tree.table leaf).first → last ≡ (here_in s.tree.table leaf).last → word ≡ word_at s.tree leaf.row (16 + leaf.slot)
+      → record { first = first; last = last; word = word } ≡ here_in s.tree.table leaf
+  span_is first last word begins ends is = λ i. record { first = begins i; last = ends i; word = (is ∙ word_is) i }
 
 -- ---- after loads
 
-tree_with : (s : Sheet) (kind : Kind) (reads : Option ℕ) → IsTreeOf s kind → IsTreeOf (record s { reads = reads }) kind
+tree_with : (s : Sheet) (kind : Kind) (reads : Option ℕ) → IsTreeOf s.tree kind → IsTreeOf (record s { reads = reads }).tree kind
 tree_with s kind reads tree = record { of_kind = record { told = tree.of_kind.told; width = tree.of_kind.width }; words = tree.words }
 
-pub tree_if_read : (s s' : Sheet) (kind : Kind) → OnlyReads s s' → IsTreeOf s kind → IsTreeOf s' kind
-tree_if_read s s' kind reads tree = subst (λ (r : Sheet). IsTreeOf r kind) (sym reads) (tree_with s kind s'.reads tree)
+pub tree_if_read : (s s' : Sheet) (kind : Kind) → OnlyReads s s' → IsTreeOf s.tree kind → IsTreeOf s'.tree kind
+tree_if_read s s' kind reads tree = subst (λ (r : Sheet). IsTreeOf r.tree kind) (sym reads) (tree_with s kind s'.reads tree)
 
 step_with : (s : Sheet) (leaf : PathStep) (reads : Option ℕ) → IsStepOfLeaf s leaf → IsStepOfLeaf (record s { reads = reads }) leaf
 step_with s leaf reads step = record { some = step.some; index = step.index; within = step.within; leaf = step.leaf; used = step.used }
@@ -250,11 +250,11 @@ step_with s leaf reads step = record { some = step.some; index = step.index; wit
 pub step_if_read : (s s' : Sheet) (leaf : PathStep) → OnlyReads s s' → IsStepOfLeaf s leaf → IsStepOfLeaf s' leaf
 step_if_read s s' leaf reads step = subst (λ (r : Sheet). IsStepOfLeaf r leaf) (sym reads) (step_with s leaf s'.reads step)
 
-place_with : (s : Sheet) (number col : ℕ) (reads : Option ℕ) → IsPlace s number col → IsPlace (record s { reads = reads }) number col
+place_with : (s : Sheet) (number col : ℕ) (reads : Option ℕ) → IsPlace s.tree number col → IsPlace (record s { reads = reads }).tree number col
 place_with s number col reads at = record { first = at.first; last = at.last; column = at.column }
 
-pub place_if_read : (s s' : Sheet) (number col : ℕ) → OnlyReads s s' → IsPlace s number col → IsPlace s' number col
-place_if_read s s' number col reads at = subst (λ (r : Sheet). IsPlace r number col) (sym reads) (place_with s number col s'.reads at)
+pub place_if_read : (s s' : Sheet) (number col : ℕ) → OnlyReads s s' → IsPlace s.tree number col → IsPlace s'.tree number col
+place_if_read s s' number col reads at = subst (λ (r : Sheet). IsPlace r.tree number col) (sym reads) (place_with s number col s'.reads at)
 
 pub same_tree : (s s' : Sheet) → OnlyReads s s' → s'.tree ≡ s.tree
 same_tree s s' reads = ap (λ (r : Sheet). r.tree) reads

@@ -160,10 +160,10 @@ greatest_kept s t u width top before behind wide is = is ∙ ap greatest (wide �
 some_column : (w : Width) → 0 < columns w
 some_column Long = omega arith
 
-stands_on : (s : Sheet) (kind : Kind) (index : ℕ) (path : List PathStep) → IsTreeOf s kind → path ≡ path_in s.tree.table s.tree.root index → 1 ≤ length path → (h : ℕ) × Stands (tree_as kind s.rows s.tree) h
+stands_on : (s : Sheet) (kind : Kind) (index : ℕ) (path : List PathStep) → IsTreeOf s.tree kind → path ≡ path_in s.tree.table s.tree.root index → 1 ≤ length path → (h : ℕ) × Stands (tree_as kind s.tree.rows s.tree) h
 stands_on s kind index path tree is some = by tree.words
   where
-    by : IsTree (tree_as kind s.rows s.tree) → (h : ℕ) × Stands (tree_as kind s.rows s.tree) h
+    by : IsTree (tree_as kind s.tree.rows s.tree) → (h : ℕ) × Stands (tree_as kind s.tree.rows s.tree) h
     by (inl empty) = let none = ap length (is ∙ path_of_none s.tree.table deepest (root_span s.tree.table s.tree.root) index (ap named_kind empty)) in absurd (omega arith)
     by (inr stands) = stands
 
@@ -173,10 +173,10 @@ module _ (t : Tree) (h : ℕ) (stands : Stands t h) (index : ℕ) (within : inde
       let long : length (path_in t.table t.root index) - 1 ≡ h = (let many = levels t h stands index within in omega arith) in
       ap (step_at (path_in t.table t.root index)) long ∙ step t h stands index h within (omega arith)
 
-module _ (s s₁ : Sheet) (kind : Kind) (index : ℕ) (path : List PathStep) (leaf : PathStep) (tree : IsTreeOf s kind) (begins : BeginsLeaf s.tree index) (is : path ≡ path_in s.tree.table s.tree.root index) (reads : OnlyReads s s₁)
+module _ (s s₁ : Sheet) (kind : Kind) (index : ℕ) (path : List PathStep) (leaf : PathStep) (tree : IsTreeOf s.tree kind) (begins : BeginsLeaf s.tree index) (is : path ≡ path_in s.tree.table s.tree.root index) (reads : OnlyReads s s₁)
     (found : slice_get path (length path - 1) ≡ Some leaf) where
   abbrev t : Tree
-  t = tree_as kind s.rows s.tree
+  t = tree_as kind s.tree.rows s.tree
 
   stands : (h : ℕ) × Stands t h
   stands = let some = slice_get_within path (length path - 1) leaf found in stands_on s kind index path tree is (omega arith)
@@ -196,10 +196,10 @@ module _ (s s₁ : Sheet) (kind : Kind) (index : ℕ) (path : List PathStep) (le
   law : IsRow t 0 row
   law = lawful t h stands.1 index h 0 begins.within (omega arith)
 
-  pub leaf_place : IsPlace s₁ leaf.row 0
+  pub leaf_place : IsPlace s₁.tree leaf.row 0
   leaf_place =
-      subst (λ (x : Sheet). IsPlace x leaf.row 0) (sym reads)
-      (subst (λ (l : PathStep). IsPlace (record s { reads = s₁.reads }) l.row 0) (sym leaf_is)
+      subst (λ (x : Sheet). IsPlace x.tree leaf.row 0) (sym reads)
+      (subst (λ (l : PathStep). IsPlace (record s { reads = s₁.reads }).tree l.row 0) (sym leaf_is)
       (record { first = (Names-named_kind row.word Leaf law.name.named).0.0; last = law.name.in_table; column = some_column s.tree.table.width }))
 
   own : flat_map leaf_range (leaf_spans s₁.tree.table leaf) ≡ flat_map leaf_range (spans_in t.table row)
@@ -264,29 +264,29 @@ still (Some index) = 2 ^ 64 - index
 
 -- so far the ranges before the leaf that begins at `next` were listed
 pub record AreListed (s s' : Sheet) (next : Option ℕ) (listed : List Range) : Type 0 where
-  pub tree : (kind : Kind) × IsTreeOf s' kind
+  pub tree : (kind : Kind) × IsTreeOf s'.tree kind
   pub rest : OnlyReads s s'
   pub ranges : listed ++ ranges_from (map_by s.tree) next ≡ map_by s.tree
   pub begins : IfSome next (BeginsLeaf s'.tree)
 
 -- rows that were only read are a tree still
-tree_with : (s : Sheet) (reads : _) (kind : Kind) → IsTreeOf s kind → IsTreeOf (record s { reads = reads }) kind
+tree_with : (s : Sheet) (reads : _) (kind : Kind) → IsTreeOf s.tree kind → IsTreeOf (record s { reads = reads }).tree kind
 tree_with s reads kind tree = record { of_kind = record { told = tree.of_kind.told; width = tree.of_kind.width }; words = tree.words }
 
-pub tree_if_read : (s s' : Sheet) (kind : Kind) → OnlyReads s s' → IsTreeOf s kind → IsTreeOf s' kind
-tree_if_read s s' kind reads tree = subst (λ (x : Sheet). IsTreeOf x kind) (sym reads) (tree_with s s'.reads kind tree)
+pub tree_if_read : (s s' : Sheet) (kind : Kind) → OnlyReads s s' → IsTreeOf s.tree kind → IsTreeOf s'.tree kind
+tree_if_read s s' kind reads tree = subst (λ (x : Sheet). IsTreeOf x.tree kind) (sym reads) (tree_with s s'.reads kind tree)
 
-first_leaf : (s : Sheet) (kind : Kind) → IsTreeOf s kind → BeginsLeaf s.tree 0
+first_leaf : (s : Sheet) (kind : Kind) → IsTreeOf s.tree kind → BeginsLeaf s.tree 0
 first_leaf s kind tree = record { within = omega arith; min = by tree.words }
   where
-    by : IsTree (tree_as kind s.rows s.tree) → (leaf_in s.tree 0).min ≡ 0
+    by : IsTree (tree_as kind s.tree.rows s.tree) → (leaf_in s.tree 0).min ≡ 0
     by (inl empty) = ap (λ (l : List PathStep). (last_step l).min) (path_of_none s.tree.table deepest (root_span s.tree.table s.tree.root) 0 (ap named_kind empty))
     by (inr (h, stands)) =
-        let first = ap (λ (l : PathStep). l.min) (end_is (tree_as kind s.rows s.tree) h stands 0 (omega arith)) in
-        let at = place (tree_as kind s.rows s.tree) h stands 0 h (omega arith) (omega arith) in
+        let first = ap (λ (l : PathStep). l.min) (end_is (tree_as kind s.tree.rows s.tree) h stands 0 (omega arith)) in
+        let at = place (tree_as kind s.tree.rows s.tree) h stands 0 h (omega arith) (omega arith) in
         let from = at.from in omega (arith, first, from)
 
-pub none_taken : (s : Sheet) (listed : List Range) → ((kind : Kind) × IsTreeOf s kind) → listed ≡ [] → AreListed s s (Some 0) listed
+pub none_taken : (s : Sheet) (listed : List Range) → ((kind : Kind) × IsTreeOf s.tree kind) → listed ≡ [] → AreListed s s (Some 0) listed
 none_taken s listed tree none = record {
   tree = tree;
   rest = refl;

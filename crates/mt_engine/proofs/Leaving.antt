@@ -28,7 +28,7 @@ module _ (s : Sheet) (reads : Option ℕ) (scan : Scan) (scans cleared : ℕ) wh
   seen = record s { reads = reads; scan = scan; scans = scans; cleared = cleared }
 
   module _ (book next : Book) (call : Call) (reply : Reply) (is : IsInCall seen next) where
-    of_kind : AreOfKind seen trees.Range
+    of_kind : AreOfKind seen.kind seen.tree.table.width trees.Range
     of_kind = record { told = is.state.lawful.of_kind.told; width = is.state.lawful.of_kind.width }
 
     ended : IsIdle (finished seen call reply) next
@@ -64,7 +64,7 @@ module _ (s : Sheet) (reads : Option ℕ) (scan : Scan) (scans cleared : ℕ) wh
 
     pub answered : (StaysBy s call reply × (next ≡ book)) ⊎ IsRefused trees.Range seen call reply → IsAnswered s seen book next call reply
     answered by = record {
-      may = record { flying = is.flying; kept = λ _. record { none_buried = is.state.none_buried; of_kind = of_kind; answer = elim by [ inl stays ↦ inl stays.0 | inr refused ↦ inr refused ] } };
+      may = record { in_flight = is.in_flight; kept = λ _. record { none_buried = is.state.none_buried; of_kind = of_kind; answer = elim by [ inl stays ↦ inl stays.0 | inr refused ↦ inr refused ] } };
       idle = ended;
       answer = elim by [ inl stays ↦ inl (done stays.0 stays.1) | inr refused ↦ inr (refused, refl) ];
       record_told = told;

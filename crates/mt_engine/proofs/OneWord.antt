@@ -77,18 +77,18 @@ leaves_tended t (x ∷ xs) = (record { parent = tt; gaps = tt }, leaves_tended t
 
 -- ---- the store
 
-module _ (s : Sheet) (h index entry : ℕ) (whole : IsWhole s) (stands : laws.Stands (tree_as trees.Range s.rows s.tree) h) (inside : index ≤ greatest s.tree.table.width) where
+module _ (s : Sheet) (h index entry : ℕ) (whole : IsWhole s) (stands : laws.Stands (tree_as trees.Range s.tree.rows s.tree) h) (inside : index ≤ greatest s.tree.table.width) where
   abbrev pub t : laws.Tree
-  t = tree_as trees.Range s.rows s.tree
+  t = tree_as trees.Range s.tree.rows s.tree
 
   abbrev pub leaf : Span
-  leaf = row_of (tree_as trees.Range s.rows s.tree) h index
+  leaf = row_of (tree_as trees.Range s.tree.rows s.tree) h index
 
   abbrev pub slot : ℕ
-  slot = slot_for (spans_in s.tree.table (row_of (tree_as trees.Range s.rows s.tree) h index)) index
+  slot = slot_for (spans_in s.tree.table (row_of (tree_as trees.Range s.tree.rows s.tree) h index)) index
 
   abbrev pub item : Span
-  item = below s.tree.table (row_of (tree_as trees.Range s.rows s.tree) h index) index
+  item = below s.tree.table (row_of (tree_as trees.Range s.tree.rows s.tree) h index) index
 
   abbrev pub where_published : Place
   where_published = Slot (row_in leaf.word) (slot_column (slots_of s.tree.table.width Leaf) slot)
@@ -107,7 +107,7 @@ module _ (s : Sheet) (h index entry : ℕ) (whole : IsWhole s) (stands : laws.St
     st = exact.entry_store t h slot entry leaf item whole.words stands at old new free
 
     abbrev t' : laws.Tree
-    t' = tree_as trees.Range s.rows written
+    t' = tree_as trees.Range s.tree.rows written
 
     replaced : ReplacesEntry t t' h item entry
     replaced = exact.replaces_entry t h slot entry leaf item whole.words stands at old new free
@@ -162,13 +162,13 @@ module _ (s : Sheet) (h index entry : ℕ) (whole : IsWhole s) (stands : laws.St
 
     -- ---- it may be published, by whichever call
 
-    pub may_as : (call : Call) (reply : Reply) → s.flying ≡ true → s.published ≡ false → LiveAreReached s → NoneBuried s → AreOfKind s trees.Range
+    pub may_as : (call : Call) (reply : Reply) → s.in_flight ≡ true → s.published ≡ false → LiveAreReached s.tree s.lives → NoneBuried s.tree.rows s.buried → AreOfKind s.kind s.tree.table.width trees.Range
         → IsStoreBy trees.Range (greatest s.tree.table.width) (map_by s.tree) call reply item.first item.last entry → MayPublish trees.Range s where_published entry call reply
-    may_as call reply flying before live none_buried of_kind stores =
-        let may = may_publish trees.Range s h slot entry leaf item whole live none_buried of_kind stands at old new free flying before in
+    may_as call reply in_flight before live none_buried of_kind stores =
+        let may = may_publish trees.Range s h slot entry leaf item whole live none_buried of_kind stands at old new free in_flight before in
         let exactly = acts_so (map_by s.tree) item.first item.last entry stores.order free in
         record {
-          flying = may.flying;
+          in_flight = may.in_flight;
           before = may.before;
           at = may.at;
           live = may.live;
@@ -184,8 +184,8 @@ all_with : {X : Type 0} (P Q R : X → Type 0) → ((x : X) → P x → Q x → 
 all_with {X} P Q R f xs ps qs = All-weaker (Contains xs) R (λ x one. f x (All-contains P xs x ps one) (All-contains Q xs x qs one)) xs (All-contains_itself xs)
 
 module _ (s : Sheet) (book : Book) (after : Tree) (lives : List Life) (buried : List Bool) (call : Call) (reply : Reply) (in_call : IsInCall s book) (reached_same : (row : ℕ) → is_reached after row ≡ is_reached s.tree row)
-    (alive : (row : ℕ) → 16 ≤ row → row < 16 + s.rows → slice_index_or lives row New ≡ life_after s after row) (kept : (row : ℕ) → 16 ≤ row → row < 16 + s.rows → slice_index_or buried row false ≡ false)
-    (width : after.table.width ≡ s.tree.table.width) (lawful : laws.IsLawful (tree_as trees.Range s.rows after)) (acts : acted trees.Range (map_by s.tree) call ≡ (map_by after, reply))
+    (alive : (row : ℕ) → first_row ≤ row → row < first_row + s.tree.rows → slice_index_or lives row New ≡ life_after s after row) (kept : (row : ℕ) → first_row ≤ row → row < first_row + s.tree.rows → slice_index_or buried row false ≡ false)
+    (width : after.table.width ≡ s.tree.table.width) (lawful : laws.IsLawful (tree_as trees.Range s.tree.rows after)) (acts : acted trees.Range (map_by s.tree) call ≡ (map_by after, reply))
     (no_rows : NeedsRows trees.Range (map_by s.tree) call → ⊥) (success : is_refusal reply ≡ false) where
   abbrev later : Sheet
   later = record s { tree = after; published = true; lives = lives; buried = buried; records = with_record s call reply }
@@ -193,7 +193,7 @@ module _ (s : Sheet) (book : Book) (after : Tree) (lives : List Life) (buried : 
   abbrev ended : Sheet
   ended = finished later call reply
 
-  same_life : (row : ℕ) → 16 ≤ row → row < 16 + s.rows → life_of later row ≡ life_of s row
+  same_life : (row : ℕ) → first_row ≤ row → row < first_row + s.tree.rows → life_of later.lives row ≡ life_of s.lives row
   same_life row low high =
       alive row low high
       ∙ elim (cases_Bool (is_reached after row)) [
@@ -201,10 +201,10 @@ module _ (s : Sheet) (book : Book) (after : Tree) (lives : List Life) (buried : 
         | inr not ↦ rw (not, in_call.state.none_buried row low high) refl
       ]
 
-  same_of_book : (row : ℕ) → IsRowOf book row → life_of later row ≡ life_of s row
+  same_of_book : (row : ℕ) → IsRowOf book row → life_of later.lives row ≡ life_of s.lives row
   same_of_book row is = let rows = in_call.state.booked.rows in let high = is.1 in same_life row is.0 (omega arith)
 
-  booked : IsBookOf ended book (s.ended + 1 + 1)
+  booked : IsBookOf ended.tree ended.lives ended.cleared book (s.ended + 1 + 1)
   booked =
       let was = in_call.state.booked in
       record {
@@ -212,7 +212,7 @@ module _ (s : Sheet) (book : Book) (after : Tree) (lives : List Life) (buried : 
         rows = was.rows;
         out = λ row low high out. reached_same row ∙ was.out row low high out;
         reached = λ row is. was.reached row (sym (reached_same row) ∙ is);
-        spare = all_with (IsRowOf book) (λ row. IsSpare s.cleared (life_of s row)) (λ row. IsSpare s.cleared (life_of later row)) (λ row is spare. subst (IsSpare s.cleared) (sym (same_of_book row is)) spare) book.free was.sound.free_rows was.spare;
+        spare = all_with (IsRowOf book) (λ row. IsSpare s.cleared (life_of s.lives row)) (λ row. IsSpare s.cleared (life_of later.lives row)) (λ row is spare. subst (IsSpare s.cleared) (sym (same_of_book row is)) spare) book.free was.sound.free_rows was.spare;
         stamps = All-weaker (λ (h : Held). h.stamp < s.ended + 1) (λ (h : Held). h.stamp < s.ended + 1 + 1) (λ h below. omega arith) book.held was.stamps;
       }
 
@@ -224,14 +224,14 @@ module _ (s : Sheet) (book : Book) (after : Tree) (lives : List Life) (buried : 
         ((λ is. stay ∙ was.0 (sym same ∙ is)), (λ is. same ∙ was.1 (sym stay ∙ is)));
     none_buried = kept;
     booked = booked;
-    held = all_with (λ (h : Held). IsRowOf book h.row) (λ (h : Held). life_of s h.row ≡ Dead h.stamp) (λ (h : Held). life_of later h.row ≡ Dead h.stamp) (λ h is dead. same_of_book h.row is ∙ dead) book.held in_call.state.booked.sound.waiting_rows
+    held = all_with (λ (h : Held). IsRowOf book h.row) (λ (h : Held). life_of s.lives h.row ≡ Dead h.stamp) (λ (h : Held). life_of later.lives h.row ≡ Dead h.stamp) (λ h is dead. same_of_book h.row is ∙ dead) book.held in_call.state.booked.sound.waiting_rows
         in_call.state.held;
     grown = let grown = in_call.state.grown in omega arith;
   }
 
   pub is_answered : IsAnswered s later book book call reply
   is_answered = record {
-    may = record { flying = in_call.flying; kept = λ not. absurd (cc) };
+    may = record { in_flight = in_call.in_flight; kept = λ not. absurd (cc) };
     idle = record { idle = refl; state = state };
     answer =
         inl (record {
@@ -249,7 +249,7 @@ module _ (s : Sheet) (book : Book) (after : Tree) (lives : List Life) (buried : 
 module _ (s : Sheet) (book : Book) (handle : Handle) (entry : ℕ) (call : Call) (reply : Reply) (whole : IsWhole s) (in_call : IsInCall s book) (is : IsHandleOf s handle) (range : handle.span.word ≢ 0) (new : entry ≢ 0)
     (stores : IsStoreBy trees.Range (greatest s.tree.table.width) (map_by s.tree) call reply handle.span.first handle.span.last entry) (slots : ℕ) (are_slots : slots ≡ slots_of s.tree.table.width Leaf) where
   abbrev words : laws.Tree
-  words = tree_as trees.Range s.rows s.tree
+  words = tree_as trees.Range s.tree.rows s.tree
 
   abbrev Stood : Type 0
   Stood = (h : ℕ) × laws.Stands words h × (column words.table (row_in words.root) 0 ≡ 1) × Levels (laws.IsTended words) words.table h (root_of words)
@@ -288,7 +288,7 @@ module _ (s : Sheet) (book : Book) (handle : Handle) (entry : ℕ) (call : Call)
 
   may_there : MayPublish trees.Range s (where_published s stood.0 is.index entry whole stood.1 is.within) entry call reply
   may_there =
-      may_as s stood.0 is.index entry whole stood.1 is.within full new stores.lawful call reply in_call.flying in_call.before in_call.state.live in_call.state.none_buried in_call.state.lawful.of_kind
+      may_as s stood.0 is.index entry whole stood.1 is.within full new stores.lawful call reply in_call.in_flight in_call.before in_call.state.live in_call.state.none_buried in_call.state.lawful.of_kind
       stores_there
 
   pub may_publish_entry : MayPublish trees.Range s (Slot handle.leaf.row (slots + handle.leaf.slot)) entry call reply

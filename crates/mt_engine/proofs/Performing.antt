@@ -23,12 +23,12 @@ number_read s s₁ number reads is = is ∙ ap (λ (x : Sheet). x.ended + 1) (sy
 may_clear_in : (s : Sheet) (book : Book) (number : ℕ) → IsInCall s book → number ≡ s.ended + 1 → map_by s.tree ≢ [] → MayClear trees.Range s book number Clear reply.Ok
 may_clear_in s book number in_call is some = record {
   range = refl;
-  flying = in_call.flying;
+  in_flight = in_call.in_flight;
   before = in_call.before;
-  in_flight = is;
+  numbered = is;
   none_buried = in_call.state.none_buried;
   live = in_call.state.live;
-  booked = subst (IsBookOf s book) (sym is) in_call.state.booked;
+  booked = subst (IsBookOf s.tree s.lives s.cleared book) (sym is) in_call.state.booked;
   lawful = in_call.state.lawful;
   some = λ empty. some (none_at_root s.tree empty);
   answer = refl;

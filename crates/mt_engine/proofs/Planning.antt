@@ -28,7 +28,7 @@ use Rattle.mt_engine.proofs.MapStores.{held_each, without_is_store}
 -- ---- clear
 
 -- a tree that has a root has a range
-pub some_range : (s : Sheet) (kind : Kind) → IsTreeOf s kind → s.tree.root ≢ 0 → map_by s.tree ≢ []
+pub some_range : (s : Sheet) (kind : Kind) → IsTreeOf s.tree kind → s.tree.root ≢ 0 → map_by s.tree ≢ []
 some_range s kind tree some none =
     let steps = path_in s.tree.table s.tree.root 0 in
     let empty = (empty_together s kind 0 steps tree (omega arith) refl).1 none in

@@ -13,7 +13,7 @@ use Rattle.mt_splice.specs.Splice.{IsSpare}
 
 -- the held row died by the call that the book tells, which has ended
 pub record DiedBy (s : Sheet) (h : Held) : Type 0 where
-  pub dead : life_of s h.row ≡ Dead h.stamp
+  pub dead : life_of s.lives h.row ≡ Dead h.stamp
   pub ended : h.stamp ≤ s.ended
 
 -- what is kept while one held row after another is freed
@@ -23,7 +23,7 @@ pub record Kept (s : Sheet) (cleared : ℕ) (was b : Book) : Type 0 where
   pub counted : length b.free + length b.held ≡ length was.free + length was.held
   pub fewer : length b.held ≤ length was.held
   pub out : (row : ℕ) → IsOut b row → IsOut was row
-  pub spare : All (λ row. IsSpare cleared (life_of s row)) b.free
+  pub spare : All (λ row. IsSpare cleared (life_of s.lives row)) b.free
   pub dead : All (DiedBy s) b.held
 
 pub spare_rises : (was cleared : ℕ) (life : Life) → was ≤ cleared → IsSpare was life → IsSpare cleared life
@@ -52,7 +52,7 @@ module _ (s : Sheet) (cleared least : ℕ) (reach : min least s.ended ≤ cleare
         counted = omega (arith, k.counted, length-append free (h.row ∷ []));
         fewer = (let more = k.fewer in omega arith);
         out = λ row out. k.out row (out_before rows free h held row out);
-        spare = All-push (λ row. IsSpare cleared (life_of s row)) free h.row k.spare (subst (λ (l : Life). IsSpare cleared l) (sym first.dead) (let ended = first.ended in omega (arith, ended, due, reach)));
+        spare = All-push (λ row. IsSpare cleared (life_of s.lives row)) free h.row k.spare (subst (λ (l : Life). IsSpare cleared l) (sym first.dead) (let ended = first.ended in omega (arith, ended, due, reach)));
         dead = All-tail (DiedBy s) h held k.dead;
       }
 

@@ -38,14 +38,14 @@ module _ (s : Sheet) (answer : Scan) (cleared : ℕ) (book : Book) (is : IsInCal
     counted = refl;
     fewer = omega arith;
     out = λ row out. out;
-    spare = All-weaker (λ row. IsSpare s.cleared (life_of s row)) (λ row. IsSpare cleared (life_of s row)) (λ row spare. spare_rises s.cleared cleared (life_of s row) rises spare) book.free is.state.booked.spare;
+    spare = All-weaker (λ row. IsSpare s.cleared (life_of s.lives row)) (λ row. IsSpare cleared (life_of s.lives row)) (λ row spare. spare_rises s.cleared cleared (life_of s.lives row) rises spare) book.free is.state.booked.spare;
     dead = λ k d within. record { dead = is.state.held k d within; ended = (let below = is.state.booked.stamps k d within in omega (arith, below)) };
   }
 
   now_kept : Kept s cleared book freed
   now_kept = reclaimed s cleared answer.least reach book was_kept
 
-  booked : IsBookOf after freed (s.ended + 1)
+  booked : IsBookOf after.tree after.lives after.cleared freed (s.ended + 1)
   booked = record {
     sound = now_kept.sound;
     rows = is.state.booked.rows;
@@ -73,7 +73,7 @@ module _ (s : Sheet) (answer : Scan) (cleared : ℕ) (book : Book) (is : IsInCal
     rest = refl;
     scanned = was_scanned;
     freed = refl;
-    in_call = record { flying = is.flying; before = is.before; state = state; scans = still_counts after was_scanned };
+    in_call = record { in_flight = is.in_flight; before = is.before; state = state; scans = still_counts after was_scanned };
   }
 
 pub is_scanned : (s s' : Sheet) (answer : Scan) (book next : Book) → IsInCall s book → s' ≡ scanned s answer s'.cleared → s.cleared ≤ s'.cleared → min answer.least s.ended ≤ s'.cleared → next ≡ after_reclaim book answer.least → IsScanned s s' book next

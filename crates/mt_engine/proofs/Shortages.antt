@@ -69,12 +69,12 @@ one_at_least h zero many = absurd (less (4 ^ h) (pow_pos h) many)
     less p some many = omega (arith, some, many)
 one_at_least h (suc n) many = omega arith
 
-levelled : (s : Sheet) → IsLawfulOf s trees.Range → Levelled (height_in s.tree.table s.tree.root) (length (reached_in s.tree.table s.tree.root)) (map_by s.tree)
+levelled : (s : Sheet) → IsLawfulOf s.tree trees.Range → Levelled (height_in s.tree.table s.tree.root) (length (reached_in s.tree.table s.tree.root)) (map_by s.tree)
 levelled s lawful = elim lawful.words [
   | inl empty ↦ of_nothing (height_in s.tree.table s.tree.root) (length (reached_in s.tree.table s.tree.root)) (map_by s.tree)
       (ap (λ (root : ℕ). height_in s.tree.table root) empty) (ap (λ (root : ℕ). length (reached_in s.tree.table root)) empty) (ap (λ (root : ℕ). map_in s.tree.table root) empty)
   | inr stands ↦
-      let t : Tree = tree_as trees.Range s.rows s.tree in
+      let t : Tree = tree_as trees.Range s.tree.rows s.tree in
       let h : ℕ = stands.0 in
       let at : Stands t h = stands.1 in
       let few = few_rows t h at in
@@ -83,7 +83,7 @@ levelled s lawful = elim lawful.words [
       (height_by_depth t deepest h (root_span s.tree.table s.tree.root) at.low at.rows) (row_on_each_level t h at) (omega (arith, few)) many (one_at_least h (length (map_by s.tree)) many)
 ]
 
-tree_of : (s : Sheet) → IsLawfulOf s trees.Range → IsTreeOf s trees.Range
+tree_of : (s : Sheet) → IsLawfulOf s.tree trees.Range → IsTreeOf s.tree trees.Range
 tree_of s lawful = record { of_kind = lawful.of_kind; words = elim lawful.words [ inl empty ↦ inl empty | inr stands ↦ inr (stands.0, stands.1) ] }
 
 pub low_height : (s : Sheet) (book : Book) (height : ℕ) → IsInCall s book → height ≡ height_in s.tree.table s.tree.root → height ≤ 9
@@ -141,7 +141,7 @@ module _ (s : Sheet) (book : Book) (shortage : Shortage) (is : IsInCall s book) 
   told = subst (λ (by : Option Holder). HolderTold by shortage.held s.ended) (sym tells.by)
       (holder_told s.scan.by s.scan.least shortage.held s.ended scan (λ some. held_later s book.held later is.state.booked.stamps (let held = tells.held in omega (arith, held, some))) few)
 
-  is_short : IsShort s.rows s.opened s.ended (map_by s.tree) shortage
+  is_short : IsShort s.tree.rows s.opened s.ended (map_by s.tree) shortage
   is_short = record {
     all = (let free = tells.free in let live = tells.live in let held = tells.held in let counted = is.state.booked.sound.counted in let rows = is.state.booked.rows in omega (arith, free, live, held, counted, rows));
     levels = height_in s.tree.table s.tree.root;
@@ -158,7 +158,7 @@ module _ (s : Sheet) (book : Book) (shortage : Shortage) (is : IsInCall s book) 
     grown = (let live = tells.live in let held = tells.held in let grown = is.state.grown in omega (arith, live, held, grown));
   }
 
-  held_back : All (λ (h : Held). IsHeldBack s h.row) book.held
+  held_back : All (λ (h : Held). IsHeldBack s.lives s.scan.least h.row) book.held
   held_back = λ k d within. record { call = (get_or book.held k d).stamp; dead = is.state.held k d within; after = later k d within }
 
   counted : IsCounted s shortage
@@ -168,7 +168,7 @@ module _ (s : Sheet) (book : Book) (shortage : Shortage) (is : IsInCall s book) 
     rows = held_rows book;
     many = length-map book.held (λ (h : Held). h.row) ∙ sym tells.held;
     apart = back_apart book.free (held_rows book) is.state.booked.sound.once;
-    held = All-map (IsHeldBack s) (λ (h : Held). h.row) book.held held_back;
+    held = All-map (IsHeldBack s.lives s.scan.least) (λ (h : Held). h.row) book.held held_back;
     scanned = was;
     by = tells.by;
   }

@@ -70,7 +70,7 @@ ends_within t (inr (h, stands)) =
 
 -- ---- at the slot of a handle
 
-module _ (s : Sheet) (tree : (kind : Kind) × IsTreeOf s kind) where
+module _ (s : Sheet) (tree : (kind : Kind) × IsTreeOf s.tree kind) where
   abbrev m : List Range
   m = map_by s.tree
 
@@ -78,7 +78,7 @@ module _ (s : Sheet) (tree : (kind : Kind) × IsTreeOf s kind) where
   top = greatest s.tree.table.width
 
   pub ranges_end_within : AllByRecursion (λ (r : Range). r.last < top + 1) m
-  ranges_end_within = ends_within (tree_as tree.0 s.rows s.tree) tree.1.words
+  ranges_end_within = ends_within (tree_as tree.0 s.tree.rows s.tree) tree.1.words
 
   is_map : IsMap m
   is_map = tree_map s tree.0 tree.1
@@ -157,7 +157,7 @@ nearest_before : (f : List Range → ℕ → Option Range) (s s' : Sheet) (index
 nearest_before f s s' index h at found reads known =
     subst (λ (t : Tree). (i : ℕ) → i ≤ greatest t.table.width → h ≡ handle_in t i → found ≡ f (map_by t) i) (tree_same s s' reads) known index at.within at.is
 
-module _ (s s₁ : Sheet) (tree : (kind : Kind) × IsTreeOf s kind) (index : ℕ) (h : Handle) (at : IsHandleAt s index h) (reads : OnlyReads s s₁) where
+module _ (s s₁ : Sheet) (tree : (kind : Kind) × IsTreeOf s.tree kind) (index : ℕ) (h : Handle) (at : IsHandleAt s index h) (reads : OnlyReads s s₁) where
   pub find_found : (max : ℕ) (found : Option Range) → index ≤ max → IsNearest first_from s₁ h found → up_to max found ≡ answer (map_by s.tree) (Find index max)
   find_found max found order known = ap (up_to max) (nearest_before first_from s s₁ index h at found reads known) ∙ find_is s tree index h at max order
 

@@ -44,7 +44,7 @@ module _ (slots gaps : ℕ) (w : List ℕ) (base max i last : ℕ) (ends : last 
       rw test (ap (λ (n : ℕ). item_at slots gaps w base i n ∷ []) (sym pivot))
 
   abbrev pub span : ℕ → Span
-  span first = record { first = first; last = last; word = slice_index w (base + slot_column slots i); gap = 0 }
+  span first = record { first = first; last = last; word = slice_index w (base + slot_column slots i) }
 
   pub ranges_go_on : (first : ℕ) → i < slots → last < max
       → flat_map leaf_range (spans_from first (items_from slots gaps w base max (slots - i) i)) ≡ leaf_range (span first) ++ flat_map leaf_range (spans_from (last + 1) (items_from slots gaps w base max (slots - (i + 1)) (i + 1)))
@@ -81,12 +81,12 @@ module _ (s t u : Sheet) (leaf : PathStep) (slot first : ℕ) (ranges before aft
     (entry : range.entry ≡ column t.tree.table leaf.row (slot_column (slots_of t.tree.table.width Leaf) slot))
     (ends : range.last ≡ last_in (slots_of t.tree.table.width Leaf) t.tree.table.words (base_of t.tree.table leaf.row) leaf.max slot)
     (slots : slot < slots_of t.tree.table.width Leaf)
-    (pushed : after ≡ before ++ leaf_range (record { first = range.first; last = range.last; word = range.entry; gap = 0 })) where
+    (pushed : after ≡ before ++ leaf_range (record { first = range.first; last = range.last; word = range.entry })) where
   abbrev slot_span : Span
-  slot_span = record { first = first; last = range.last; word = column t.tree.table leaf.row (slot_column (slots_of t.tree.table.width Leaf) slot); gap = 0 }
+  slot_span = record { first = first; last = range.last; word = column t.tree.table leaf.row (slot_column (slots_of t.tree.table.width Leaf) slot) }
 
   now_pushed : after ≡ before ++ leaf_range slot_span
-  now_pushed = pushed ∙ (λ j. before ++ leaf_range (record { first = begins j; last = range.last; word = entry j; gap = 0 }))
+  now_pushed = pushed ∙ (λ j. before ++ leaf_range (record { first = begins j; last = range.last; word = entry j }))
 
   pub one_more_listed : range.last < leaf.max → AreListedUpTo s u leaf (slot + 1) (range.last + 1) ranges after
   one_more_listed more = record {

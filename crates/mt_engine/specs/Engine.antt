@@ -20,11 +20,11 @@ use Rattle.mt_splice.specs.Splice.{IsBookOf}
 -- What holds of the rows and the book whether or not a call is in flight: lawful words of a tree of ranges, live rows that
 -- are reached, and a book of these rows whose held rows died by the calls that it tells. A call takes 28 rows at the most.
 pub record IsEngineState (s : Sheet) (book : Book) : Type 0 where
-  pub lawful : IsLawfulOf s trees.Range
-  pub live : LiveAreReached s
-  pub none_buried : NoneBuried s
-  pub booked : IsBookOf s book (s.ended + 1)
-  pub held : All (λ (h : Held). life_of s h.row ≡ Dead h.stamp) book.held
+  pub lawful : IsLawfulOf s.tree trees.Range
+  pub live : LiveAreReached s.tree s.lives
+  pub none_buried : NoneBuried s.tree.rows s.buried
+  pub booked : IsBookOf s.tree s.lives s.cleared book (s.ended + 1)
+  pub held : All (λ (h : Held). life_of s.lives h.row ≡ Dead h.stamp) book.held
   pub grown : length book.held + live_count book ≤ s.opened + 28 * s.ended
 
 -- what an engine stands for
@@ -35,7 +35,7 @@ pub record Parts : Type 0 where
 
 -- between two calls
 pub record IsIdle (s : Sheet) (book : Book) : Type 0 where
-  pub idle : s.flying ≡ false
+  pub idle : s.in_flight ≡ false
   pub state : IsEngineState s book
 
 -- the count of scans has not fallen in this call, or stands at its last value
@@ -44,7 +44,7 @@ CountsScans s = (s.scans_at_begin ≤ s.scans) ⊎ (s.scans ≡ 2 ^ 64 - 1)
 
 -- within a call that has published nothing
 pub record IsInCall (s : Sheet) (book : Book) : Type 0 where
-  pub flying : s.flying ≡ true
+  pub in_flight : s.in_flight ≡ true
   pub before : s.published ≡ false
   pub state : IsEngineState s book
   pub scans : CountsScans s
@@ -106,7 +106,7 @@ pub record IsShortFor (s s' : Sheet) (call : Call) (reply : Reply) : Type 0 wher
   pub shortage : Shortage
   pub answer : reply ≡ NoNodes shortage
   pub needs : NeedsRows trees.Range (map_by s.tree) call
-  pub short : IsShort s.rows s.opened s.ended (map_by s.tree) shortage
+  pub short : IsShort s.tree.rows s.opened s.ended (map_by s.tree) shortage
   pub counted : IsCounted s' shortage
 
 -- It did what it says, with rows enough where it needed some; or it was refused for want of rows, which left every word.
@@ -118,4 +118,4 @@ pub record IsApplied (s s' : Sheet) (book book' : Book) (call : Call) (reply : R
   pub record_told : s'.records ≡ with_record s call reply
   pub opened : s'.opened ≡ s.opened
   pub caller : s'.caller ≡ s.caller
-  pub rows : s'.rows ≡ s.rows
+  pub rows : s'.tree.rows ≡ s.tree.rows

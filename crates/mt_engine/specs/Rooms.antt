@@ -22,5 +22,5 @@ HasRoom s book = 3 * height_in s.tree.table s.tree.root + 1 ≤ length book.free
 
 -- they are not
 pub record IsShortOf (s : Sheet) (shortage : Shortage) : Type 0 where
-  pub short : IsShort s.rows s.opened s.ended (map_by s.tree) shortage
+  pub short : IsShort s.tree.rows s.opened s.ended (map_by s.tree) shortage
   pub counted : IsCounted s shortage

@@ -23,7 +23,7 @@ pub struct Handle {
 
 /// The first index of what stands in the slot of a leaf.
 fn load_first<R: Rows>(rows: &mut R, leaf: PathStep) -> u64
-    requires tree { (kind : Kind) × IsTreeOf (R.sheet rows.old) kind }
+    requires tree { (kind : Kind) × IsTreeOf (R.sheet rows.old).tree kind }
     requires leaf { IsStepOfLeaf (R.sheet rows.old) leaf }
     ensures first { result ≡ (span_at (leaf_spans (R.sheet rows.old).tree.table leaf) leaf.slot).first }
     ensures rest { OnlyReads (R.sheet rows.old) (R.sheet rows.new) }
@@ -36,7 +36,7 @@ fn load_first<R: Rows>(rows: &mut R, leaf: PathStep) -> u64
 
 /// The last index of what stands in the slot of a leaf.
 fn load_last<R: Rows>(rows: &mut R, leaf: PathStep) -> u64
-    requires tree { (kind : Kind) × IsTreeOf (R.sheet rows.old) kind }
+    requires tree { (kind : Kind) × IsTreeOf (R.sheet rows.old).tree kind }
     requires leaf { IsStepOfLeaf (R.sheet rows.old) leaf }
     ensures last { result ≡ (span_at (leaf_spans (R.sheet rows.old).tree.table leaf) leaf.slot).last }
     ensures rest { OnlyReads (R.sheet rows.old) (R.sheet rows.new) }
@@ -49,7 +49,7 @@ fn load_last<R: Rows>(rows: &mut R, leaf: PathStep) -> u64
 
 /// What stands in the slot of a leaf.
 fn load_span<R: Rows>(rows: &mut R, leaf: PathStep) -> Span
-    requires tree { (kind : Kind) × IsTreeOf (R.sheet rows.old) kind }
+    requires tree { (kind : Kind) × IsTreeOf (R.sheet rows.old).tree kind }
     requires leaf { IsStepOfLeaf (R.sheet rows.old) leaf }
     ensures span { result ≡ span_at (leaf_spans (R.sheet rows.old).tree.table leaf) leaf.slot }
     ensures rest { OnlyReads (R.sheet rows.old) (R.sheet rows.new) }
@@ -61,13 +61,12 @@ fn load_span<R: Rows>(rows: &mut R, leaf: PathStep) -> Span
         first,
         last,
         word,
-        gap: 0,
     }
 }
 
 /// The slot of the leaf that a path ends in, and what stands there; none in the empty tree.
 pub fn handle_of<R: Rows>(rows: &mut R, path: &Path) -> Option<Handle>
-    requires tree { (kind : Kind) × IsTreeOf (R.sheet rows.old) kind }
+    requires tree { (kind : Kind) × IsTreeOf (R.sheet rows.old).tree kind }
     requires path { (index : ℕ) × (index ≤ greatest (R.sheet rows.old).tree.table.width) × (path.now.items ≡ path_in (R.sheet rows.old).tree.table (R.sheet rows.old).tree.root index) }
     ensures none { IsNone result ↔ ((R.sheet rows.old).tree.root ≡ 0) }
     ensures some { (index : ℕ) → path.now.items ≡ path_in (R.sheet rows.old).tree.table (R.sheet rows.old).tree.root index → IfSome result (λ handle. handle ≡ handle_in (R.sheet rows.old).tree index) }
@@ -82,7 +81,7 @@ pub fn handle_of<R: Rows>(rows: &mut R, path: &Path) -> Option<Handle>
 
 /// The slot of the leaf that holds an index, and what stands there; none in the empty tree.
 pub fn handle_at<R: Rows>(rows: &mut R, index: u64) -> Option<Handle>
-    requires tree { (kind : Kind) × IsTreeOf (R.sheet rows.old) kind }
+    requires tree { (kind : Kind) × IsTreeOf (R.sheet rows.old).tree kind }
     requires index { index ≤ greatest (R.sheet rows.old).tree.table.width }
     ensures none { IsNone result ↔ ((R.sheet rows.old).tree.root ≡ 0) }
     ensures some { IfSome result (λ handle. handle ≡ handle_in (R.sheet rows.old).tree index) }
@@ -95,7 +94,7 @@ pub fn handle_at<R: Rows>(rows: &mut R, index: u64) -> Option<Handle>
 /// What stands behind a handle: in the next slot of its leaf, or in the first slot of the leaf behind. There is none where
 /// the handle's span ends at the greatest index.
 pub fn behind<R: Rows>(rows: &mut R, here: &Handle) -> Option<Handle>
-    requires tree { (kind : Kind) × IsTreeOf (R.sheet rows.old) kind }
+    requires tree { (kind : Kind) × IsTreeOf (R.sheet rows.old).tree kind }
     requires here { IsHandleOf (R.sheet rows.old) here.now }
     ensures none { IsNone result ↔ (here.now.span.last ≡ greatest (R.sheet rows.old).tree.table.width) }
     ensures some { IfSome result (λ handle. handle ≡ handle_in (R.sheet rows.old).tree (here.now.span.last + 1)) }
@@ -121,7 +120,7 @@ pub fn behind<R: Rows>(rows: &mut R, here: &Handle) -> Option<Handle>
 /// What stands before a handle: in the slot before it in its leaf, or in the last slot of the leaf before. There is none
 /// where the handle's span begins at 0.
 pub fn before<R: Rows>(rows: &mut R, here: &Handle) -> Option<Handle>
-    requires tree { (kind : Kind) × IsTreeOf (R.sheet rows.old) kind }
+    requires tree { (kind : Kind) × IsTreeOf (R.sheet rows.old).tree kind }
     requires here { IsHandleOf (R.sheet rows.old) here.now }
     ensures none { IsNone result ↔ (here.now.span.first ≡ 0) }
     ensures some { IfSome result (λ handle. handle ≡ handle_in (R.sheet rows.old).tree (here.now.span.first - 1)) }

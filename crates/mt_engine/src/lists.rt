@@ -20,7 +20,7 @@ use std::alloc::Global;
 
 /// What stands in a slot of a leaf, which begins at `first`: a range, or a hole where the entry is 0.
 fn load_range<R: Rows>(rows: &mut R, leaf: PathStep, slot: u32, first: u64) -> Range
-    requires row { IsPlace (R.sheet rows.old) leaf.row 0 }
+    requires row { IsPlace (R.sheet rows.old).tree leaf.row 0 }
     requires slot { slot < slots_of (R.sheet rows.old).tree.table.width Leaf }
     ensures first { result.first ≡ first }
     ensures last { let t = (R.sheet rows.old).tree.table in result.last ≡ (if nat_lt (slot + 1) (slots_of t.width Leaf) then column t leaf.row (pivot_column slot) else leaf.max) }
@@ -50,7 +50,7 @@ fn push_range(range: Range, ranges: &mut Vec<Range>) -> Result<(), NoMemory>
 /// Appends the ranges of a leaf.
 #[tactic(auto, using(crate::proofs::Slotwise::none_listed, crate::proofs::Slotwise::one_more_listed, crate::proofs::Slotwise::all_listed))]
 fn push_leaf<R: Rows>(rows: &mut R, leaf: PathStep, ranges: &mut Vec<Range>) -> Result<(), NoMemory>
-    requires row { IsPlace (R.sheet rows.old) leaf.row 0 }
+    requires row { IsPlace (R.sheet rows.old).tree leaf.row 0 }
     ensures ranges { IfOk result (λ _. ranges.new.items ≡ ranges.old.items ++ flat_map leaf_range (leaf_spans (R.sheet rows.old).tree.table leaf)) }
     ensures rest { OnlyReads (R.sheet rows.old) (R.sheet rows.new) }
 {
@@ -73,7 +73,7 @@ fn push_leaf_at<R: Rows>(
     index: u64,
     ranges: &mut Vec<Range>,
 ) -> Result<Option<u64>, NoMemory>
-    requires tree { (kind : Kind) × IsTreeOf (R.sheet rows.old) kind }
+    requires tree { (kind : Kind) × IsTreeOf (R.sheet rows.old).tree kind }
     requires begins { BeginsLeaf (R.sheet rows.old).tree index }
     ensures leaf { IfOk result (λ next. TakesLeaf (R.sheet rows.old).tree index next ranges.old.items ranges.new.items) }
     ensures rest { OnlyReads (R.sheet rows.old) (R.sheet rows.new) }
@@ -92,7 +92,7 @@ fn push_leaf_at<R: Rows>(
 /// All ranges of the map that the words stand for, in rising order.
 #[tactic(auto, using(crate::proofs::Leafwise::all_leaves, crate::proofs::Leafwise::fewer_left))]
 pub fn list<R: Rows>(rows: &mut R, alloc: Global) -> Result<Vec<Range>, NoMemory>
-    requires tree { (kind : Kind) × IsTreeOf (R.sheet rows.old) kind }
+    requires tree { (kind : Kind) × IsTreeOf (R.sheet rows.old).tree kind }
     ensures items { IfOk result (λ ranges. ranges.items ≡ map_by (R.sheet rows.old).tree) }
     ensures rest { OnlyReads (R.sheet rows.old) (R.sheet rows.new) }
 {

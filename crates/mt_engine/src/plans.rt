@@ -40,7 +40,7 @@ fn is_invalid(first: u64, last: u64, entry: u64) -> bool
 
 /// What a store comes to.
 fn plan_store<R: Rows>(rows: &R, first: u64, last: u64, entry: u64) -> Plan
-    requires tree { IsTreeOf (R.sheet rows.now) trees.Range }
+    requires tree { IsTreeOf (R.sheet rows.now).tree trees.Range }
     ensures { IsPlan (greatest (R.sheet rows.now).tree.table.width) (map_by (R.sheet rows.now).tree) (Store first last entry) result }
 {
     if is_invalid(first, last, entry) {
@@ -58,7 +58,7 @@ fn plan_store<R: Rows>(rows: &R, first: u64, last: u64, entry: u64) -> Plan
 
 /// What an insert comes to.
 fn plan_insert<R: Rows>(rows: &mut R, first: u64, last: u64, entry: u64) -> Plan
-    requires tree { IsTreeOf (R.sheet rows.old) trees.Range }
+    requires tree { IsTreeOf (R.sheet rows.old).tree trees.Range }
     ensures plan { IsPlan (greatest (R.sheet rows.old).tree.table.width) (map_by (R.sheet rows.old).tree) (Insert first last entry) result }
     ensures rest { OnlyReads (R.sheet rows.old) (R.sheet rows.new) }
 {
@@ -82,7 +82,7 @@ fn plan_insert<R: Rows>(rows: &mut R, first: u64, last: u64, entry: u64) -> Plan
 
 /// What an erase comes to: a hole over the whole range that holds the index.
 fn plan_erase<R: Rows>(rows: &mut R, index: u64) -> Plan
-    requires tree { IsTreeOf (R.sheet rows.old) trees.Range }
+    requires tree { IsTreeOf (R.sheet rows.old).tree trees.Range }
     ensures plan { IsPlan (greatest (R.sheet rows.old).tree.table.width) (map_by (R.sheet rows.old).tree) (Erase index) result }
     ensures rest { OnlyReads (R.sheet rows.old) (R.sheet rows.new) }
 {
@@ -99,7 +99,7 @@ fn plan_erase<R: Rows>(rows: &mut R, index: u64) -> Plan
 
 /// What a clear comes to.
 fn plan_clear<R: Rows>(rows: &mut R) -> Plan
-    requires tree { IsTreeOf (R.sheet rows.old) trees.Range }
+    requires tree { IsTreeOf (R.sheet rows.old).tree trees.Range }
     ensures plan { IsPlan (greatest (R.sheet rows.old).tree.table.width) (map_by (R.sheet rows.old).tree) Clear result }
     ensures rest { OnlyReads (R.sheet rows.old) (R.sheet rows.new) }
 {
@@ -111,7 +111,7 @@ fn plan_clear<R: Rows>(rows: &mut R) -> Plan
 
 /// What a call comes to.
 pub fn plan_of<R: Rows>(rows: &mut R, call: &Call) -> Plan
-    requires tree { IsTreeOf (R.sheet rows.old) trees.Range }
+    requires tree { IsTreeOf (R.sheet rows.old).tree trees.Range }
     ensures plan { IsPlan (greatest (R.sheet rows.old).tree.table.width) (map_by (R.sheet rows.old).tree) call.now result }
     ensures rest { OnlyReads (R.sheet rows.old) (R.sheet rows.new) }
 {

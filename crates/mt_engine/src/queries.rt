@@ -30,7 +30,7 @@ fn range_in(span: Span) -> Range
 
 /// The range that holds an index.
 pub fn load<R: Rows>(rows: &mut R, index: u64) -> Option<Range>
-    requires tree { (kind : Kind) × IsTreeOf (R.sheet rows.old) kind }
+    requires tree { (kind : Kind) × IsTreeOf (R.sheet rows.old).tree kind }
     requires index { index ≤ greatest (R.sheet rows.old).tree.table.width }
     ensures answer { result ≡ answer (map_by (R.sheet rows.old).tree) (Load index) }
     ensures rest { OnlyReads (R.sheet rows.old) (R.sheet rows.new) }
@@ -58,7 +58,7 @@ fn down_to(range: Option<Range>, min: u64) -> Option<Range>
 
 /// The first range that ends at an index of a slot or above: the range in the slot, or the one right behind the hole there.
 fn first_from<R: Rows>(rows: &mut R, here: &Handle) -> Option<Range>
-    requires tree { (kind : Kind) × IsTreeOf (R.sheet rows.old) kind }
+    requires tree { (kind : Kind) × IsTreeOf (R.sheet rows.old).tree kind }
     requires here { IsHandleOf (R.sheet rows.old) here.now }
     ensures range { (index : ℕ) → index ≤ greatest (R.sheet rows.old).tree.table.width → here.now ≡ handle_in (R.sheet rows.old).tree index → result ≡ first_from (map_by (R.sheet rows.old).tree) index }
     ensures rest { OnlyReads (R.sheet rows.old) (R.sheet rows.new) }
@@ -72,7 +72,7 @@ fn first_from<R: Rows>(rows: &mut R, here: &Handle) -> Option<Range>
 
 /// The last range that begins at an index of a slot or below: the range in the slot, or the one right before the hole there.
 fn last_up_to<R: Rows>(rows: &mut R, here: &Handle) -> Option<Range>
-    requires tree { (kind : Kind) × IsTreeOf (R.sheet rows.old) kind }
+    requires tree { (kind : Kind) × IsTreeOf (R.sheet rows.old).tree kind }
     requires here { IsHandleOf (R.sheet rows.old) here.now }
     ensures range { (index : ℕ) → index ≤ greatest (R.sheet rows.old).tree.table.width → here.now ≡ handle_in (R.sheet rows.old).tree index → result ≡ last_up_to (map_by (R.sheet rows.old).tree) index }
     ensures rest { OnlyReads (R.sheet rows.old) (R.sheet rows.new) }
@@ -86,7 +86,7 @@ fn last_up_to<R: Rows>(rows: &mut R, here: &Handle) -> Option<Range>
 
 /// The first range that ends at `index` or above and begins at `max` or below, where `index` is at most `max`.
 pub fn find<R: Rows>(rows: &mut R, index: u64, max: u64) -> Option<Range>
-    requires tree { (kind : Kind) × IsTreeOf (R.sheet rows.old) kind }
+    requires tree { (kind : Kind) × IsTreeOf (R.sheet rows.old).tree kind }
     requires index { index ≤ greatest (R.sheet rows.old).tree.table.width }
     ensures answer { result ≡ answer (map_by (R.sheet rows.old).tree) (Find index max) }
     ensures rest { OnlyReads (R.sheet rows.old) (R.sheet rows.new) }
@@ -100,7 +100,7 @@ pub fn find<R: Rows>(rows: &mut R, index: u64, max: u64) -> Option<Range>
 
 /// The first range that begins above `index`, and at `max` or below.
 fn next<R: Rows>(rows: &mut R, index: u64, max: u64) -> Option<Range>
-    requires tree { (kind : Kind) × IsTreeOf (R.sheet rows.old) kind }
+    requires tree { (kind : Kind) × IsTreeOf (R.sheet rows.old).tree kind }
     requires index { index ≤ greatest (R.sheet rows.old).tree.table.width }
     ensures answer { result ≡ answer (map_by (R.sheet rows.old).tree) (Next index max) }
     ensures rest { OnlyReads (R.sheet rows.old) (R.sheet rows.new) }
@@ -112,7 +112,7 @@ fn next<R: Rows>(rows: &mut R, index: u64, max: u64) -> Option<Range>
 
 /// The last range that ends below `index`, and at `min` or above.
 fn prev<R: Rows>(rows: &mut R, index: u64, min: u64) -> Option<Range>
-    requires tree { (kind : Kind) × IsTreeOf (R.sheet rows.old) kind }
+    requires tree { (kind : Kind) × IsTreeOf (R.sheet rows.old).tree kind }
     requires index { index ≤ greatest (R.sheet rows.old).tree.table.width }
     ensures answer { result ≡ answer (map_by (R.sheet rows.old).tree) (Prev index min) }
     ensures rest { OnlyReads (R.sheet rows.old) (R.sheet rows.new) }
@@ -124,7 +124,7 @@ fn prev<R: Rows>(rows: &mut R, index: u64, min: u64) -> Option<Range>
 
 /// The last range that begins at `index` or below and ends at `min` or above, where `index` is at least `min`.
 fn rfind<R: Rows>(rows: &mut R, index: u64, min: u64) -> Option<Range>
-    requires tree { (kind : Kind) × IsTreeOf (R.sheet rows.old) kind }
+    requires tree { (kind : Kind) × IsTreeOf (R.sheet rows.old).tree kind }
     requires index { index ≤ greatest (R.sheet rows.old).tree.table.width }
     ensures answer { result ≡ answer (map_by (R.sheet rows.old).tree) (Rfind index min) }
     ensures rest { OnlyReads (R.sheet rows.old) (R.sheet rows.new) }
@@ -138,7 +138,7 @@ fn rfind<R: Rows>(rows: &mut R, index: u64, min: u64) -> Option<Range>
 
 /// Answers a query as the map answers it that the words stand for.
 pub fn ask<R: Rows>(rows: &mut R, query: &Query) -> Option<Range>
-    requires tree { (kind : Kind) × IsTreeOf (R.sheet rows.old) kind }
+    requires tree { (kind : Kind) × IsTreeOf (R.sheet rows.old).tree kind }
     ensures answer { result ≡ answer (map_by (R.sheet rows.old).tree) query.now }
     ensures rest { OnlyReads (R.sheet rows.old) (R.sheet rows.new) }
 {

@@ -34,11 +34,11 @@ inside_by t index level (inr (h, stands)) within low =
     let end = ends.1 in
     subst (Inside (laws.top_of t)) (sym (step t h stands index level within below)) (record { min = omega arith; max = omega arith })
 
-pub inside : (s : Sheet) (kind : Kind) (index level : ℕ) (steps : List PathStep) → IsTreeOf s kind → index ≤ greatest s.tree.table.width → steps ≡ path_in s.tree.table s.tree.root index → level < length steps
+pub inside : (s : Sheet) (kind : Kind) (index level : ℕ) (steps : List PathStep) → IsTreeOf s.tree kind → index ≤ greatest s.tree.table.width → steps ≡ path_in s.tree.table s.tree.root index → level < length steps
     → Inside (greatest s.tree.table.width) (step_at steps level)
 inside s kind index level steps tree within is low =
     subst (λ (l : List PathStep). Inside (greatest s.tree.table.width) (step_at l level)) (sym is)
-    (inside_by (tree_as kind s.rows s.tree) index level tree.words within (subst (λ (l : List PathStep). level < length l) is low))
+    (inside_by (tree_as kind s.tree.rows s.tree) index level tree.words within (subst (λ (l : List PathStep). level < length l) is low))
 
 pub greatest_fits : (width : Width) → greatest width < 2 ^ 64
 greatest_fits Long = lit< tt

@@ -81,18 +81,18 @@ module _ (t : Table) (depth : ℕ) (x : Span) (index : ℕ) (row : Row) (found :
       (path_of_leaf t depth x index ((named x row is).0 ∙ ap Some leaf) ∙ ap (λ (s : PathStep). s ∷ []) (step_same t x index row found is at))
       ∙ sym (append-nil (steps ++ (record { row = row.number; slot = found.slot; min = row.min; max = row.max } ∷ [])))
 
-  child_same : (word : ℕ) → word ≡ column t row.number (slot_column (slots_of t.width row.kind) found.slot) → record { first = found.first; last = found.last; word = word; gap = 0 } ≡ gapless (below t x index)
+  child_same : (word : ℕ) → word ≡ column t row.number (slot_column (slots_of t.width row.kind) found.slot) → record { first = found.first; last = found.last; word = word } ≡ gapless (below t x index)
   child_same word loaded =
       let spans = spans_same t x row is in
       let there : span_at (spans_of t row) found.slot ≡ below t x index = (λ i. span_at (spans i) (at.slot i)) ∙ ap (λ (l : List Span). span_at (spans_in t x) (slot_for l index)) spans in
-      let here : record { first = found.first; last = found.last; word = word; gap = 0 } ≡ gapless (span_at (spans_of t row) found.slot) = λ i. record { first = at.first i; last = at.last i; word = (loaded ∙ at.word) i; gap = 0 } in
+      let here : record { first = found.first; last = found.last; word = word } ≡ gapless (span_at (spans_of t row) found.slot) = λ i. record { first = at.first i; last = at.last i; word = (loaded ∙ at.word) i } in
       here ∙ ap gapless there
 
   pub follows_inner : (steps : List PathStep) (word : ℕ) → row.kind ≢ Leaf → word ≡ column t row.number (slot_column (slots_of t.width row.kind) found.slot)
       → steps ++ path_of t (suc depth) x index
-      ≡ (steps ++ (record { row = row.number; slot = found.slot; min = row.min; max = row.max } ∷ [])) ++ path_of t depth (record { first = found.first; last = found.last; word = word; gap = 0 }) index
+      ≡ (steps ++ (record { row = row.number; slot = found.slot; min = row.min; max = row.max } ∷ [])) ++ path_of t depth (record { first = found.first; last = found.last; word = word }) index
   follows_inner steps word other loaded =
       let rest = ap (λ (y : Span). path_of t depth y index) (child_same word loaded) ∙ path_of_gapless t depth (below t x index) index in
       ap (λ (l : List PathStep). steps ++ l)
       (path_of_inner t depth x index row.kind (named x row is).0 other ∙ (λ i. step_same t x index row found is at i ∷ sym rest i))
-      ∙ sym (append_assoc steps (record { row = row.number; slot = found.slot; min = row.min; max = row.max } ∷ []) (path_of t depth (record { first = found.first; last = found.last; word = word; gap = 0 }) index))
+      ∙ sym (append_assoc steps (record { row = row.number; slot = found.slot; min = row.min; max = row.max } ∷ []) (path_of t depth (record { first = found.first; last = found.last; word = word }) index))

@@ -15,9 +15,9 @@ use Rattle.std.specs.Option.{option_map}
 pub tree_kept : (n : ℕ) (s s' : Sheet) → ReadsUpTo n s s' → s'.tree ≡ s.tree
 tree_kept n s s' reads = ap (λ (r : Sheet). r.tree) reads.rest
 
-pub place_kept : (n : ℕ) (s s' : Sheet) (row col : ℕ) → ReadsUpTo n s s' → IsPlace s row 0 → col < columns s.tree.table.width → IsPlace s' row col
+pub place_kept : (n : ℕ) (s s' : Sheet) (row col : ℕ) → ReadsUpTo n s s' → IsPlace s.tree row 0 → col < columns s.tree.table.width → IsPlace s'.tree row col
 place_kept n s s' row col reads place within =
-    let same = ap (λ (r : Sheet). r.rows) reads.rest in
+    let same = ap (λ (r : Sheet). r.tree.rows) reads.rest in
     let last = place.last in
     record { first = place.first; last = omega arith; column = subst (λ (t : Tree). col < columns t.table.width) (sym (tree_kept n s s' reads)) within }
 
@@ -78,13 +78,13 @@ one_read s s' is = record {
 pub reads_next : (n : ℕ) (s s' s'' : Sheet) → ReadsUpTo n s s' → s'' ≡ loaded s' → ReadsUpTo (n + 1) s s''
 reads_next n s s' s'' reads is = reads_more n 1 s s' s'' reads (one_read s' s'' is)
 
-pub word_kept : (n : ℕ) (s s' : Sheet) (row col word : ℕ) → ReadsUpTo n s s' → word ≡ word_at s' row col → word ≡ word_at s row col
+pub word_kept : (n : ℕ) (s s' : Sheet) (row col word : ℕ) → ReadsUpTo n s s' → word ≡ word_at s'.tree row col → word ≡ word_at s.tree row col
 word_kept n s s' row col word reads is = is ∙ ap (λ (t : Tree). column t.table row col) (tree_kept n s s' reads)
 
 -- ---- the tree of the words
 
-loaded_tree : (s : Sheet) (kind : Kind) (reads : Option ℕ) → IsTreeOf s kind → IsTreeOf (record s { reads = reads }) kind
+loaded_tree : (s : Sheet) (kind : Kind) (reads : Option ℕ) → IsTreeOf s.tree kind → IsTreeOf (record s { reads = reads }).tree kind
 loaded_tree s kind reads tree = record { of_kind = record { told = tree.of_kind.told; width = tree.of_kind.width }; words = tree.words }
 
-pub is_tree_kept : (n : ℕ) (s s' : Sheet) (kind : Kind) → ReadsUpTo n s s' → IsTreeOf s kind → IsTreeOf s' kind
-is_tree_kept n s s' kind reads tree = subst (λ (r : Sheet). IsTreeOf r kind) (sym reads.rest) (loaded_tree s kind s'.reads tree)
+pub is_tree_kept : (n : ℕ) (s s' : Sheet) (kind : Kind) → ReadsUpTo n s s' → IsTreeOf s.tree kind → IsTreeOf s'.tree kind
+is_tree_kept n s s' kind reads tree = subst (λ (r : Sheet). IsTreeOf r.tree kind) (sym reads.rest) (loaded_tree s kind s'.reads tree)

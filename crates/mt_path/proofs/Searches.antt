@@ -48,7 +48,7 @@ module _ (slots gaps : ℕ) (w : List ℕ) (base max : ℕ) where
   last_item i last = (refl, (let test : nat_lt (i + 1) slots ≡ false = le-ltb (i + 1) slots (omega arith) in rw test refl))
 
   abbrev span_of : ℕ → Item → Span
-  span_of first x = record { first = first; last = x.last; word = x.word; gap = x.gap }
+  span_of first x = record { first = first; last = x.last; word = x.word }
 
   pub passed_more : (min index i first : ℕ) → i + 1 < slots → pivot i < index → index ≤ max → Passed min index i first → Passed min index (i + 1) (pivot i + 1)
   passed_more min index i first inner past within passed =

@@ -30,31 +30,31 @@ Next t (Some x) index = ((x.word ≡ 0) × (index ≤ x.last)) ⊎ ((h : ℕ) ×
 pub record Walking (s s' : sheets.Sheet) (index entered : ℕ) (steps : List PathStep) (next : Option Span) : Type 0 where
   pub path : steps ++ rest_of s.tree.table (9 - entered) next index ≡ path_in s.tree.table s.tree.root index
   pub short : length steps ≤ entered
-  pub leads : (kind : Kind) → IsTreeOf s kind → Next (tree_as kind s.rows s.tree) next index
+  pub leads : (kind : Kind) → IsTreeOf s.tree kind → Next (tree_as kind s.rows s.tree) next index
   pub reads : sheets.ReadsUpTo (loads_on steps) s s'
 
 -- ---- the row that is entered
 
-word_by : (b : Bool) (word : ℕ) (kind : RowKind) → is_row (row_in word) ≡ b → (if b then kind_in word else None) ≡ Some kind → 16 ≤ row_in word
+word_by : (b : Bool) (word : ℕ) (kind : RowKind) → is_row (row_in word) ≡ b → (if b then kind_in word else None) ≡ Some kind → first_row ≤ row_in word
 word_by true word kind test is = first (nat_le 16 (row_in word)) refl test
   where
-    first : (b : Bool) → nat_le 16 (row_in word) ≡ b → (b && nat_le (row_in word) 65519) ≡ true → 16 ≤ row_in word
+    first : (b : Bool) → nat_le 16 (row_in word) ≡ b → (b && nat_le (row_in word) 65519) ≡ true → first_row ≤ row_in word
     first true low both = leb-true 16 (row_in word) low
     first false low both = absurd (cc)
 word_by false word kind test is = absurd (cc)
 
 -- a name's row is numbered from 16
-pub row_above : (word : ℕ) (kind : RowKind) → named_kind word ≡ Some kind → 16 ≤ row_in word
+pub row_above : (word : ℕ) (kind : RowKind) → named_kind word ≡ Some kind → first_row ≤ row_in word
 row_above word kind is = word_by (is_row (row_in word)) word kind refl is
 
-in_table : (t : laws.Tree) (x : Span) (index : ℕ) (kind : RowKind) → Next t (Some x) index → named_kind x.word ≡ Some kind → row_in x.word < 16 + t.rows
+in_table : (t : laws.Tree) (x : Span) (index : ℕ) (kind : RowKind) → Next t (Some x) index → named_kind x.word ≡ Some kind → row_in x.word < first_row + t.rows
 in_table t x index kind (inl empty) named = let none : named_kind 0 ≡ Some kind = ap named_kind (sym empty.0) ∙ named in absurd (cc)
-in_table t x index kind (inr (h, y, is, leads)) named = subst (λ (z : Span). row_in z.word < 16 + t.rows) (sym is) (row_here t h y index leads).name.in_table
+in_table t x index kind (inr (h, y, is, leads)) named = subst (λ (z : Span). row_in z.word < first_row + t.rows) (sym is) (row_here t h y index leads).name.in_table
 
 some_columns : (width : Width) → 0 < columns width
 some_columns Long = omega arith
 
-pub may_enter : (s s' : sheets.Sheet) (index entered : ℕ) (steps : List PathStep) (x : Span) (kind : Kind) → IsTreeOf s kind → Walking s s' index entered steps (Some x)
+pub may_enter : (s s' : sheets.Sheet) (index entered : ℕ) (steps : List PathStep) (x : Span) (kind : Kind) → IsTreeOf s.tree kind → Walking s s' index entered steps (Some x)
     → (k : RowKind) → named_kind x.word ≡ Some k → sheets.IsPlace s' (row_in x.word) 0
 may_enter s s' index entered steps x kind tree walking k named =
     place_kept (loads_on steps) s s' (row_in x.word) 0 walking.reads (record {
@@ -67,7 +67,7 @@ reaches : (t : laws.Tree) (x : Span) (index : ℕ) → Next t (Some x) index →
 reaches t x index (inl empty) = empty.1
 reaches t x index (inr (h, y, is, leads)) = subst (λ (z : Span). index ≤ z.last) (sym is) leads.to
 
-pub covers : (s s' : sheets.Sheet) (index entered : ℕ) (steps : List PathStep) (x : Span) (kind : Kind) → IsTreeOf s kind → Walking s s' index entered steps (Some x) → index ≤ x.last
+pub covers : (s s' : sheets.Sheet) (index entered : ℕ) (steps : List PathStep) (x : Span) (kind : Kind) → IsTreeOf s.tree kind → Walking s s' index entered steps (Some x) → index ≤ x.last
 covers s s' index entered steps x kind tree walking = reaches (tree_as kind s.rows s.tree) x index (walking.leads kind tree)
 
 -- ---- a step
@@ -112,7 +112,7 @@ enters s s' s'' index entered steps steps' x next more walking path one child na
 -- ---- the start and the end
 
 pub starts : (s s' : sheets.Sheet) (index last word : ℕ) → index ≤ greatest s.tree.table.width → last ≡ greatest s.tree.table.width → word ≡ s.tree.root → s' ≡ sheets.loaded s
-    → Walking s s' index 0 [] (Some (record { first = 0; last = last; word = word; gap = 0 }))
+    → Walking s s' index 0 [] (Some (record { first = 0; last = last; word = word }))
 starts s s' index last word within top root is = record {
   path = ap (λ (x : Span). path_of s.tree.table 9 x index) span;
   short = omega arith;
@@ -120,10 +120,10 @@ starts s s' index last word within top root is = record {
   reads = one_read s s' is;
 }
   where
-    span : record { first = 0; last = last; word = word; gap = 0 } ≡ root_span s.tree.table s.tree.root
-    span = λ i. record { first = 0; last = top i; word = root i; gap = 0 }
+    span : record { first = 0; last = last; word = word } ≡ root_span s.tree.table s.tree.root
+    span = λ i. record { first = 0; last = top i; word = root i }
 
-    by : (kind : Kind) → laws.IsTree (tree_as kind s.rows s.tree) → Next (tree_as kind s.rows s.tree) (Some (record { first = 0; last = last; word = word; gap = 0 })) index
+    by : (kind : Kind) → laws.IsTree (tree_as kind s.rows s.tree) → Next (tree_as kind s.rows s.tree) (Some (record { first = 0; last = last; word = word })) index
     by kind (inl empty) = inl (root ∙ empty, omega arith)
     by kind (inr (h, stands)) = inr (h, root_span s.tree.table s.tree.root, span, root_leads (tree_as kind s.rows s.tree) h stands index within)
 

@@ -13,7 +13,7 @@ abbrev pub slot_for : List Span → ℕ → ℕ
 slot_for xs index = length (take_while (λ x. nat_lt x.last index) xs)
 
 abbrev pub no_span : Span
-no_span = record { first = 0; last = 0; word = 0; gap = 0 }
+no_span = record { first = 0; last = 0; word = 0 }
 
 -- the span in a slot
 abbrev pub span_at : List Span → ℕ → Span

@@ -13,7 +13,7 @@ use mt_rows::Rows;
 /// The way to the row that stands right of the path's at this level, and from there to its first leaf; none where the
 /// path's row is the last of the level.
 pub fn right_at<R: Rows>(rows: &mut R, path: &Path, level: u32) -> Option<Path>
-    requires tree { (kind : Kind) × IsTreeOf (R.sheet rows.old) kind }
+    requires tree { (kind : Kind) × IsTreeOf (R.sheet rows.old).tree kind }
     requires path { (index : ℕ) × (index ≤ greatest (R.sheet rows.old).tree.table.width) × (path.now.items ≡ path_in (R.sheet rows.old).tree.table (R.sheet rows.old).tree.root index) }
     requires level { level < length path.now.items }
     ensures none { IsNone result ↔ ((step_at path.now.items level).max ≡ greatest (R.sheet rows.old).tree.table.width) }
@@ -32,7 +32,7 @@ pub fn right_at<R: Rows>(rows: &mut R, path: &Path, level: u32) -> Option<Path>
 /// The way to the row that stands left of the path's at this level, and from there to its last leaf; none where the
 /// path's row is the first of the level.
 pub fn left_at<R: Rows>(rows: &mut R, path: &Path, level: u32) -> Option<Path>
-    requires tree { (kind : Kind) × IsTreeOf (R.sheet rows.old) kind }
+    requires tree { (kind : Kind) × IsTreeOf (R.sheet rows.old).tree kind }
     requires path { (index : ℕ) × (index ≤ greatest (R.sheet rows.old).tree.table.width) × (path.now.items ≡ path_in (R.sheet rows.old).tree.table (R.sheet rows.old).tree.root index) }
     requires level { level < length path.now.items }
     ensures none { IsNone result ↔ ((step_at path.now.items level).min ≡ 0) }

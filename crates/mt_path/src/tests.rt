@@ -43,8 +43,8 @@ const RIGHT: [u64; 32] = [
 
 /// Drafts each column of a row.
 fn draft_row(rows: &mut PlainRows, row: u32, words: &[u64; 32])
-    requires place { IsPlace rows.old row 0 }
-    requires free { IsFree rows.old.cleared (life_of rows.old row) }
+    requires place { IsPlace rows.old.tree row 0 }
+    requires free { IsFree rows.old.cleared (life_of rows.old.lives row) }
     ensures { rows.new ≡ fold (λ s col. drafted s row col (slice_index words.now col)) rows.old (range_with_len 0 32) }
 {
     for col in 0..32 {
@@ -54,7 +54,7 @@ fn draft_row(rows: &mut PlainRows, row: u32, words: &[u64; 32])
 
 /// An allocation tree: the row 16 with the leaves 17 and 18.
 fn two_leaves(alloc: Global) -> Result<PlainRows, NoMemory>
-    ensures { IfOk result (λ rows. IsTreeOf rows trees.Alloc) }
+    ensures { IfOk result (λ rows. IsTreeOf rows.tree trees.Alloc) }
 {
     let mut rows = PlainRows::new(alloc, 3)?;
     draft_row(&mut rows, 16, &INNER);

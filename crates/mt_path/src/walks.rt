@@ -50,7 +50,7 @@ fn row_for(span: Span) -> Option<Row>
 
 /// The slot of a row that holds an index: the first whose pivot is not below it. No pivot behind that is loaded.
 fn find_slot<R: Rows>(rows: &mut R, row: Row, index: u64) -> Found
-    requires row { IsPlace (R.sheet rows.old) row.number 0 }
+    requires row { IsPlace (R.sheet rows.old).tree row.number 0 }
     requires index { index ≤ row.max }
     ensures found { IsFound (R.sheet rows.old).tree.table row index result }
     ensures reads { ReadsUpTo (result.slot + 1) (R.sheet rows.old) (R.sheet rows.new) }
@@ -78,7 +78,7 @@ fn find_slot<R: Rows>(rows: &mut R, row: Row, index: u64) -> Found
 /// Enters the row that a span names: appends its step, and gives the span below it that holds the index, but for its
 /// gap. There is none below a leaf, nor where the span's word is no name.
 fn enter<R: Rows>(rows: &mut R, span: Span, index: u64, path: &mut Path) -> Option<Span>
-    requires row { (kind : RowKind) → named_kind span.word ≡ Some kind → IsPlace (R.sheet rows.old) (row_in span.word) 0 }
+    requires row { (kind : RowKind) → named_kind span.word ≡ Some kind → IsPlace (R.sheet rows.old).tree (row_in span.word) 0 }
     requires index { index ≤ span.last }
     requires room { length path.old.items < DEEPEST }
     ensures path { (depth : ℕ) → path.old.items ++ path_of (R.sheet rows.old).tree.table (suc depth) span index ≡ path.new.items ++ rest_of (R.sheet rows.old).tree.table depth result index }
@@ -104,13 +104,12 @@ fn enter<R: Rows>(rows: &mut R, span: Span, index: u64, path: &mut Path) -> Opti
         first: found.first,
         last: found.last,
         word: rows.load(row.number, column),
-        gap: 0,
     })
 }
 
 /// The way to an index, and the slot of the leaf that holds it. It is empty where the tree is.
 pub fn walk<R: Rows>(rows: &mut R, index: u64) -> Path
-    requires tree { (kind : Kind) × IsTreeOf (R.sheet rows.old) kind }
+    requires tree { (kind : Kind) × IsTreeOf (R.sheet rows.old).tree kind }
     requires index { index ≤ greatest (R.sheet rows.old).tree.table.width }
     ensures path { result.items ≡ path_in (R.sheet rows.old).tree.table (R.sheet rows.old).tree.root index }
     ensures empty { (result.items ≡ []) ↔ (map_in (R.sheet rows.old).tree.table (R.sheet rows.old).tree.root ≡ []) }
@@ -122,7 +121,6 @@ pub fn walk<R: Rows>(rows: &mut R, index: u64) -> Path
         first: 0,
         last: top(rows.width()),
         word: rows.root(),
-        gap: 0,
     });
     for _ in 0..DEEPEST {
         let Some(span) = next else {

@@ -13,7 +13,7 @@ use Rattle.mt_layout.specs.Spans.{leaf_range}
 use Rattle.mt_rows.specs.Spans.{Table, spans_in, inner_kind}
 use Rattle.mt_rows.specs.Levels.{expand, map_of, Levels, one_if, tally, times, is_row_of}
 use Rattle.mt_rows.specs.Trees.{by_kind, ranges_of, rows_of, levels_by, of_first, height_of}
-use Rattle.mt_rows.specs.Laws.{Tree, IsRow, kind_at, covers_all, least_of_root, least_of_kind, least_of}
+use Rattle.mt_rows.specs.Laws.{Tree, IsRow, kind_at, covers_all, least_of_root, least_items_TODO, least_of}
 use Rattle.mt_rows.proofs.Lists.{all_map, all_front, all_back, tally-append}
 
 abbrev pub IsLeaf : Span → Type 0
@@ -107,7 +107,7 @@ some_least t h x = elim (cases_Bool (covers_all t x)) [ inl all ↦ rw all (of_r
     of_root zero = omega arith
     of_root (suc h) = omega arith
 
-    of_kind : (kind : RowKind) → 1 ≤ least_of_kind kind
+    of_kind : (kind : RowKind) → 1 ≤ least_items_TODO kind
     of_kind Leaf = omega arith
     of_kind Inner = omega arith
     of_kind Gapped = omega arith

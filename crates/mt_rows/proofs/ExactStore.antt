@@ -28,10 +28,10 @@ use Rattle.mt_rows.proofs.SlotStore as store
 use Rattle.mt_rows.proofs.SlotEntry as exact
 use Rattle.mt_rows.proofs.Reached as reached
 
-module _ (kind : Kind) (s : Sheet) (h slot entry : ℕ) (leaf item : Span) (whole : IsWhole s) (live : LiveAreReached s) (none_buried : NoneBuried s) (of_kind : AreOfKind s kind)
-    (stands : laws.Stands (tree_as kind s.rows s.tree) h) (at : IsSlotAt (tree_as kind s.rows s.tree) h leaf slot item) (old : item.word ≢ 0) (new : entry ≢ 0) (free : reserved entry ≡ false) where
+module _ (kind : Kind) (s : Sheet) (h slot entry : ℕ) (leaf item : Span) (whole : IsWhole s) (live : LiveAreReached s.tree s.lives) (none_buried : NoneBuried s.tree.rows s.buried) (of_kind : AreOfKind s.kind s.tree.table.width kind)
+    (stands : laws.Stands (tree_as kind s.tree.rows s.tree) h) (at : IsSlotAt (tree_as kind s.tree.rows s.tree) h leaf slot item) (old : item.word ≢ 0) (new : entry ≢ 0) (free : reserved entry ≡ false) where
   abbrev t : laws.Tree
-  t = tree_as kind s.rows s.tree
+  t = tree_as kind s.tree.rows s.tree
 
   abbrev row : ℕ
   row = row_in leaf.word
@@ -43,7 +43,7 @@ module _ (kind : Kind) (s : Sheet) (h slot entry : ℕ) (leaf item : Span) (whol
   written = with_word s.tree row col entry
 
   abbrev t' : laws.Tree
-  t' = tree_as kind s.rows written
+  t' = tree_as kind s.tree.rows written
 
   abbrev st : store.Store
   st = exact.entry_store t h slot entry leaf item whole.words stands at old new free
@@ -62,7 +62,7 @@ module _ (kind : Kind) (s : Sheet) (h slot entry : ℕ) (leaf item : Span) (whol
   leaf_reached : 1 ≤ reached.times_in t h stands row
   leaf_reached = reached.on_level_reached t h stands zero leaf leaf_on_level
 
-  number : (16 ≤ row) × (row < 16 + s.rows)
+  number : (first_row ≤ row) × (row < first_row + s.tree.rows)
   number = reached.reached_number t h stands row leaf_reached
 
   place : IsPlaceToPublish s (Slot row col)
@@ -149,9 +149,9 @@ module _ (kind : Kind) (s : Sheet) (h slot entry : ℕ) (leaf item : Span) (whol
     buried = λ r first last is. let not = none_buried r first last in absurd (cc);
   }
 
-  pub may_publish : s.flying ≡ true → s.published ≡ false → MayPublish kind s (Slot row col) entry (Store item.first item.last entry) reply.Ok
-  may_publish flying before = record {
-    flying = flying;
+  pub may_publish : s.in_flight ≡ true → s.published ≡ false → MayPublish kind s (Slot row col) entry (Store item.first item.last entry) reply.Ok
+  may_publish in_flight before = record {
+    in_flight = in_flight;
     before = before;
     at = place;
     live = live;

@@ -13,7 +13,7 @@ use Rattle.mt_layout.specs.Spans.{Fills}
 use Rattle.mt_rows.specs.Spans.{Table, spans_in, root_span}
 use Rattle.mt_rows.specs.Levels.{expand, level, Levels, tally, times, is_row_of}
 use Rattle.mt_rows.specs.Trees.{deepest}
-use Rattle.mt_rows.specs.Laws.{Tree, IsRow, top_of, kind_at, least_of_root, least_of_kind}
+use Rattle.mt_rows.specs.Laws.{Tree, IsRow, top_of, kind_at, least_of_root, least_items_TODO}
 use Rattle.mt_rows.specs.Replacement.{root_of}
 use Rattle.mt_rows.proofs.Lists.{all_map}
 use Rattle.mt_rows.proofs.Heights.{times_split, level_rows}
@@ -21,14 +21,14 @@ use Rattle.mt_rows.proofs.Once.{IsPart, inner_wide, expand_parts, rows_wide, wid
 
 -- ---- how many rows a level has at the least
 
-least_four : (kind : RowKind) → 4 ≤ least_of_kind kind
+least_four : (kind : RowKind) → 4 ≤ least_items_TODO kind
 least_four Leaf = omega arith
 least_four Inner = omega arith
 least_four Gapped = omega arith
 
 part_four : (t : Tree) (h : ℕ) (x : Span) → IsPart t x → IsRow t h x → 4 ≤ length (spans_in t.table x)
 part_four t h x part row =
-    let least : least_of_kind (kind_at t.kind h) ≤ length (spans_in t.table x) = subst (λ (b : Bool). (if b then least_of_root h else least_of_kind (kind_at t.kind h)) ≤ length (spans_in t.table x)) part row.count.least in
+    let least : least_items_TODO (kind_at t.kind h) ≤ length (spans_in t.table x) = subst (λ (b : Bool). (if b then least_of_root h else least_items_TODO (kind_at t.kind h)) ≤ length (spans_in t.table x)) part row.count.least in
     omega (arith, least, least_four (kind_at t.kind h))
 
 pub expand_four : (t : Tree) (h : ℕ) (xs : List Span) → AllByRecursion (IsPart t) xs → AllByRecursion (IsRow t h) xs → 4 * length xs ≤ length (expand t.table xs)
@@ -113,8 +113,8 @@ pub level_fits : (t : Tree) (d k h : ℕ) → h ≡ d + k → Levels (IsRow t) t
 level_fits t d k h height rows =
     let here = level_rows (IsRow t) t.table d k h (root_of t) height rows in
     few (λ (x : Span). row_in x.word) 16 t.rows (level t.table d (root_of t))
-    (all_map (IsRow t k) (λ (x : Span). 16 ≤ row_in x.word) (λ x row. (Names-named_kind x.word (kind_at t.kind k) row.name.named).0.0) (level t.table d (root_of t)) here)
-    (all_map (IsRow t k) (λ (x : Span). row_in x.word < 16 + t.rows) (λ x row. row.name.in_table) (level t.table d (root_of t)) here)
+    (all_map (IsRow t k) (λ (x : Span). first_row ≤ row_in x.word) (λ x row. (Names-named_kind x.word (kind_at t.kind k) row.name.named).0.0) (level t.table d (root_of t)) here)
+    (all_map (IsRow t k) (λ (x : Span). row_in x.word < first_row + t.rows) (λ x row. row.name.in_table) (level t.table d (root_of t)) here)
     (λ row. once_in_level t d k h row height rows)
 
 -- ---- so that the levels are few

@@ -14,7 +14,7 @@ use Rattle.mt_layout.specs.Spans.{spans_from, Fills}
 use Rattle.mt_rows.specs.Spans.{Table, base_of, column, slots_of, gaps_of, spans_by, spans_in, root_span}
 use Rattle.mt_rows.specs.Levels.{expand, Levels, one_if, tally, times, is_row_of}
 use Rattle.mt_rows.specs.Trees.{reached_in, deepest}
-use Rattle.mt_rows.specs.Laws.{Tree, IsRow, Stands, top_of, kind_at, covers_all, least_of_root, least_of_kind}
+use Rattle.mt_rows.specs.Laws.{Tree, IsRow, Stands, top_of, kind_at, covers_all, least_of_root, least_items_TODO}
 use Rattle.mt_rows.proofs.Lists.{all_map, all_front, all_back, all_join, fills_le, Filled, expand_fills, levels_map, levels_here}
 use Rattle.mt_rows.proofs.Depth.{rows_by_depth}
 
@@ -28,7 +28,7 @@ pub record Wide (t : Table) (x : Span) : Type 0 where
   pub fills : Filled t x
   pub two : 2 ≤ length (spans_in t x)
 
-least_two : (kind : RowKind) → 2 ≤ least_of_kind kind
+least_two : (kind : RowKind) → 2 ≤ least_items_TODO kind
 least_two Leaf = omega arith
 least_two Inner = omega arith
 least_two Gapped = omega arith
@@ -37,7 +37,7 @@ part_wide : (t : Tree) (h : ℕ) (x : Span) → IsPart t x → IsRow t h x → W
 part_wide t h x part row = record {
   fills = row.pivots.fills;
   two =
-      let least : least_of_kind (kind_at t.kind h) ≤ length (spans_in t.table x) = subst (λ (b : Bool). (if b then least_of_root h else least_of_kind (kind_at t.kind h)) ≤ length (spans_in t.table x)) part row.count.least in
+      let least : least_items_TODO (kind_at t.kind h) ≤ length (spans_in t.table x) = subst (λ (b : Bool). (if b then least_of_root h else least_items_TODO (kind_at t.kind h)) ≤ length (spans_in t.table x)) part row.count.least in
       omega (arith, least, least_two (kind_at t.kind h));
 }
 
@@ -45,7 +45,7 @@ pub inner_wide : (t : Tree) (h : ℕ) (x : Span) → IsRow t (suc h) x → Wide 
 inner_wide t h x row = record {
   fills = row.pivots.fills;
   two = elim (cases_Bool (covers_all t x)) [
-    | inl all ↦ subst (λ (b : Bool). (if b then 2 else least_of_kind (kind_at t.kind (suc h))) ≤ length (spans_in t.table x)) all row.count.least
+    | inl all ↦ subst (λ (b : Bool). (if b then 2 else least_items_TODO (kind_at t.kind (suc h))) ≤ length (spans_in t.table x)) all row.count.least
     | inr part ↦ (part_wide t (suc h) x part row).two
   ];
 }

@@ -39,8 +39,8 @@ draft_next s s' s'' row n words before next =
     ∙ (sym (fold_push (λ (s : Sheet) (col : ℕ). drafted s row col (slice_index words col)) s (range_with_len 0 n) n)
     ∙ ap (fold (λ (s : Sheet) (col : ℕ). drafted s row col (slice_index words col)) s) (sym more)))
 
-pub place_stays : (s s' : Sheet) (row n word : ℕ) → IsPlace s row 0 → s' ≡ drafted s row n word → IsPlace s' row 0
-place_stays s s' row n word place is = subst (λ (s : Sheet). IsPlace s row 0) (sym is) (record { first = place.first; last = place.last; column = place.column })
+pub place_stays : (s s' : Sheet) (row n word : ℕ) → IsPlace s.tree row 0 → s' ≡ drafted s row n word → IsPlace s'.tree row 0
+place_stays s s' row n word place is = subst (λ (s : Sheet). IsPlace s.tree row 0) (sym is) (record { first = place.first; last = place.last; column = place.column })
 
 free_draft : (cleared : ℕ) (ls : List Life) (row : ℕ) → IsFree cleared (slice_index_or (slice_set ls row lives.Draft) row lives.New)
 free_draft cleared ls row = elim (cases_lt row (length ls)) [
@@ -48,8 +48,8 @@ free_draft cleared ls row = elim (cases_lt row (length ls)) [
   | inr beyond ↦ subst (IsFree cleared) (sym (get_or_past (slice_set ls row lives.Draft) row lives.New (omega (arith, length-set ls row lives.Draft)))) tt
 ]
 
-pub free_stays : (s s' : Sheet) (row n word : ℕ) → s' ≡ drafted s row n word → IsFree s'.cleared (life_of s' row)
-free_stays s s' row n word is = subst (λ (s : Sheet). IsFree s.cleared (life_of s row)) (sym is) (free_draft s.cleared s.lives row)
+pub free_stays : (s s' : Sheet) (row n word : ℕ) → s' ≡ drafted s row n word → IsFree s'.cleared (life_of s'.lives row)
+free_stays s s' row n word is = subst (λ (s : Sheet). IsFree s.cleared (life_of s.lives row)) (sym is) (free_draft s.cleared s.lives row)
 
 -- ---- an allocation tree of two leaves
 
@@ -84,10 +84,10 @@ abbrev root : Span
 root = root_span tree.table 4124
 
 abbrev left_leaf : Span
-left_leaf = record { first = 0; last = 11; word = 4364; gap = 0 }
+left_leaf = record { first = 0; last = 11; word = 4364 }
 
 abbrev right_leaf : Span
-right_leaf = record { first = 12; last = 18446744073709551615; word = 4620; gap = 18446744073709551599 }
+right_leaf = record { first = 12; last = 18446744073709551615; word = 4620 }
 
 root_law : laws.IsRow tree 1 root
 root_law = record {
@@ -160,7 +160,7 @@ module _ (s s₁ s₂ s₃ : Sheet) (new : s ≡ new_sheet 3) (first : s₁ ≡ 
   leaf_may_be_buried s₄ s₅ s₆ planted read begins =
       let done : Planted ready_to_plant s₄ 4124 = subst (λ (s : Sheet). Planted s s₄ 4124) leaves_are planted in
       let reached : is_reached s₄.tree 17 ≡ true = ap (λ (s : Sheet). is_reached s.tree 17) done.rest in
-      let live : life_of s₄ 17 ≡ lives.Live = done.lives 17 (omega arith) (omega arith) ∙ ap (λ (b : Bool). if b then lives.Live else life_of ready_to_plant 17) reached in
-      let rows : s₄.rows ≡ 3 = ap (λ (s : Sheet). s.rows) done.rest in
+      let live : life_of s₄.lives 17 ≡ lives.Live = done.lives 17 (omega arith) (omega arith) ∙ ap (λ (b : Bool). if b then lives.Live else life_of ready_to_plant.lives 17) reached in
+      let rows : s₄.tree.rows ≡ 3 = ap (λ (s : Sheet). s.tree.rows) done.rest in
       let columns : 0 < columns s₄.tree.table.width = subst (λ (s : Sheet). 0 < columns s.tree.table.width) (sym done.rest) (omega arith) in
-      subst (λ (s : Sheet). MayBury s 17) (sym (begins ∙ ap begun read)) (record { flying = refl; before = refl; at = record { first = omega arith; last = omega arith; column = columns }; live = live })
+      subst (λ (s : Sheet). MayBury s 17) (sym (begins ∙ ap begun read)) (record { in_flight = refl; before = refl; at = record { first = omega arith; last = omega arith; column = columns }; live = live })

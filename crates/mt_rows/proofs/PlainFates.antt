@@ -95,15 +95,15 @@ unburied_stays past past' (Buried call) more none = let dead = ltb-false past ca
 
 -- ---- by the sheet
 
-pub life_told : (p : Inside) (row : ℕ) → life_of (sheet_of p) row ≡ life_in (past_of p) (fate_of p row)
+pub life_told : (p : Inside) (row : ℕ) → life_of (sheet_of p).lives row ≡ life_in (past_of p) (fate_of p row)
 life_told p row = life_at (past_of p) p.fates.items row
 
-pub buried_told : (p : Inside) (row : ℕ) → is_buried (sheet_of p) row ≡ buried_in (past_of p) (fate_of p row)
+pub buried_told : (p : Inside) (row : ℕ) → is_buried (sheet_of p).buried row ≡ buried_in (past_of p) (fate_of p row)
 buried_told p row = buried_at (past_of p) p.fates.items row
 
-pub drafted_buried : (p : Inside) (s : Sheet) (row : ℕ) → sheet_of p ≡ s → IsFree s.cleared (life_of s row) → map (buried_in (past_of p)) (slice_set p.fates.items row Draft) ≡ (sheet_of p).buried
+pub drafted_buried : (p : Inside) (s : Sheet) (row : ℕ) → sheet_of p ≡ s → IsFree s.cleared (life_of s.lives row) → map (buried_in (past_of p)) (slice_set p.fates.items row Draft) ≡ (sheet_of p).buried
 drafted_buried p s row is free =
-    let told : IsFree p.cleared (life_of (sheet_of p) row) = subst (λ (s : Sheet). IsFree s.cleared (life_of s row)) (sym is) free in
+    let told : IsFree p.cleared (life_of (sheet_of p).lives row) = subst (λ (s : Sheet). IsFree s.cleared (life_of s.lives row)) (sym is) free in
     let here : IsFree p.cleared (life_in (past_of p) (fate_of p row)) = subst (IsFree p.cleared) (life_told p row) told in
     buried-kept (past_of p) p.fates.items row Draft (sym (free_unburied (past_of p) p.cleared (fate_of p row) here))
 
@@ -117,7 +117,7 @@ module _ (p : Inside) (s : Sheet) (row : ℕ) (is : sheet_of p ≡ s) (may : May
 
   pub buried_lives : map (life_in (past_of p)) (slice_set p.fates.items row (Buried (p.ended + 1))) ≡ (sheet_of p).lives
   buried_lives =
-      let live : life_in (past_of p) (fate_of p row) ≡ lives.Live = sym (life_told p row) ∙ (ap (λ (s : Sheet). life_of s row) is ∙ may.live) in
+      let live : life_in (past_of p) (fate_of p row) ≡ lives.Live = sym (life_told p row) ∙ (ap (λ (s : Sheet). life_of s.lives row) is ∙ may.live) in
       lives-kept (past_of p) p.fates.items row (Buried (p.ended + 1)) (ap (λ (n : ℕ). life_in (past_of p) (Buried n)) (sym next) ∙ (next_lives (past_of p) ∙ sym live))
 
   pub buried_buried : map (buried_in (past_of p)) (slice_set p.fates.items row (Buried (p.ended + 1))) ≡ slice_set (sheet_of p).buried row true
@@ -130,15 +130,15 @@ one_at_most : (b : Bool) → one_if b ≤ 1
 one_at_most true = omega arith
 one_at_most false = omega arith
 
-pub buried_before : (p : Inside) → IsPlain p → (row call : ℕ) → fate_of p row ≡ Buried call → (16 ≤ row) × (call ≤ p.ended + 1 + 0)
-buried_before p plain row call at = let known = plain.buried row call at in let low = known.1 in (known.0, omega (arith, one_at_most p.flying))
+pub buried_before : (p : Inside) → IsPlain p → (row call : ℕ) → fate_of p row ≡ Buried call → (first_row ≤ row) × (call ≤ p.ended + 1 + 0)
+buried_before p plain row call at = let known = plain.buried row call at in let low = known.1 in (known.0, omega (arith, one_at_most p.in_flight))
 
 module _ (p : Inside) (s : Sheet) (kind : Kind) (call : Call) (reply : Reply) (plain : IsPlain p) (is : sheet_of p ≡ s) (may : MayFinish kind s call reply) where
   none_above : (row : ℕ) → p.published ≡ false → buried_in (past_of p) (fate_of p row) ≡ false
   none_above row silent = elim (cases_lt row 16) [
     | inl low ↦ by_fate low (fate_of p row) refl
     | inr high ↦ elim (cases_lt row (16 + p.rows)) [
-      | inl within ↦ sym (buried_told p row) ∙ (ap (λ (s : Sheet). is_buried s row) is ∙ (may.kept (sym (ap (λ (s : Sheet). s.published) is) ∙ silent)).none_buried row high (subst (λ (s : Sheet). row < 16 + s.rows) is within))
+      | inl within ↦ sym (buried_told p row) ∙ (ap (λ (s : Sheet). is_buried s.buried row) is ∙ (may.kept (sym (ap (λ (s : Sheet). s.published) is) ∙ silent)).none_buried row high (subst (λ (s : Sheet). row < first_row + s.tree.rows) is within))
       | inr beyond ↦ ap (buried_in (past_of p)) (get_or_past p.fates.items row New (let size = plain.fates in omega arith))
     ]
   ]
@@ -171,19 +171,19 @@ either_same false a = refl
 
 -- ---- a word in place of another
 
-place_within : (width : Width) (row col rows : ℕ) → row < 16 + rows → col < columns width → columns width * row + col < columns width * (16 + rows)
+place_within : (width : Width) (row col rows : ℕ) → row < first_row + rows → col < columns width → columns width * row + col < columns width * (16 + rows)
 place_within Long row col rows last column = omega arith
 
 pub store_opens : (p : Inside) (s : Sheet) (place : Place) (row col at old : ℕ) → IsPlain p → sheet_of p ≡ s → s.published ≡ false → IsPlaceIn s place → place ≡ Slot row col → at ≡ columns p.width * row + col → old ≡ slice_index_or p.words.items at old
     → opens s place ≡ names_buried p.ended p.fates.items (named_row old)
 store_opens p s place row col at old plain is before inside slot at_is read =
-    let here : IsPlace (sheet_of p) row col = subst (λ (s : Sheet). IsPlace s row col) (sym is) (subst (IsPlaceIn s) slot inside) in
+    let here : IsPlace (sheet_of p).tree row col = subst (λ (s : Sheet). IsPlace s.tree row col) (sym is) (subst (IsPlaceIn s) slot inside) in
     let within : at < length p.words.items = let size = plain.words in let last = here.last in let column = here.column in omega (arith, place_within p.width row col p.rows last column) in
-    let word : old ≡ word_at s row col = read ∙ (get_or_default p.words.items at old 0 within ∙ (ap (λ (n : ℕ). slice_index p.words.items n) at_is ∙ ap (λ (s : Sheet). word_at s row col) is)) in
+    let word : old ≡ word_at s.tree row col = read ∙ (get_or_default p.words.items at old 0 within ∙ (ap (λ (n : ℕ). slice_index p.words.items n) at_is ∙ ap (λ (s : Sheet). word_at s.tree row col) is)) in
     ap (opens s) slot ∙ (ap (λ (n : ℕ). buried_by s (named_row n)) (sym word) ∙ by (named_row old))
   where
     by : (name : Option ℕ) → buried_by s name ≡ names_buried p.ended p.fates.items name
     by None = refl
     by (Some r) =
         let past : past_of p ≡ p.ended = ap (λ (b : Bool). p.ended + one_if b) (ap (λ (s : Sheet). s.published) is ∙ before) ∙ omega arith in
-        ap (λ (s : Sheet). is_buried s r) (sym is) ∙ (buried_told p r ∙ ap (λ (n : ℕ). buried_in n (fate_of p r)) past)
+        ap (λ (s : Sheet). is_buried s.buried r) (sym is) ∙ (buried_told p r ∙ ap (λ (n : ℕ). buried_in n (fate_of p r)) past)

@@ -74,7 +74,7 @@ read_names : (width : Width) (kind : Kind) (w : List ℕ) (row parent : ℕ) (it
 read_names Long trees.Range w row parent items fit within written = slots_read w row 16 0 parent items (inl (refl, refl)) fit (omega arith) within written
 read_names Long trees.Alloc w row parent items fit within written = slots_read w row 10 10 parent items (inr (refl, refl)) fit (omega arith) within written
 
-row_inside : (width : Width) (row rows : ℕ) → row < 16 + rows → columns width * row + columns width ≤ columns width * (16 + rows)
+row_inside : (width : Width) (row rows : ℕ) → row < first_row + rows → columns width * row + columns width ≤ columns width * (16 + rows)
 row_inside Long row rows within = omega arith
 
 pub names_are : (t : Tree) (h : ℕ) (x : Span) → HasWords t → IsRow t (suc h) x → (n : ℕ) × (names_of t.table.words (row_in x.word) (inner_kind t.kind) ≡ map (λ (y : Span). y.word) (spans_in t.table x) ++ replicate n 0)
@@ -90,7 +90,7 @@ names_are t h x has row =
 
 span_word : (first : ℕ) (items : List Item) (i : ℕ) (y : Span) → slice_get (spans_from first items) i ≡ Some y → y.word ≡ (item_or items i).word
 span_word first [] i y at = absurd (cc)
-span_word first (x ∷ items) zero y at = let same : record { first = first; last = x.last; word = x.word; gap = x.gap } ≡ y = cc in ap (λ (z : Span). z.word) (sym same)
+span_word first (x ∷ items) zero y at = let same : record { first = first; last = x.last; word = x.word } ≡ y = cc in ap (λ (z : Span). z.word) (sym same)
 span_word first (x ∷ items) (suc i) y at = span_word (x.last + 1) items i y at
 
 pub slot_read : (t : Tree) (h slot : ℕ) (x y : Span) → IsRow t h x → slice_get (spans_in t.table x) slot ≡ Some y → y.word ≡ column t.table (row_in x.word) (slot_column (slots_of t.table.width (kind_at t.kind h)) slot)

@@ -151,8 +151,8 @@ module _ (p q : Inside) (s : Sheet) (kind : Kind) (root opened : ℕ) (plain : I
   reached : List ℕ
   reached = reached_in (sheet_of p).tree.table root
 
-  idle : p.flying ≡ false
-  idle = ap (λ (s : Sheet). s.flying) is ∙ may.idle
+  idle : p.in_flight ≡ false
+  idle = ap (λ (s : Sheet). s.in_flight) is ∙ may.idle
 
   none_buried : (row : ℕ) → buried_in (past_of p) (fate_of p row) ≡ false
   none_buried row = by (fate_of p row) refl
@@ -165,14 +165,14 @@ module _ (p q : Inside) (s : Sheet) (kind : Kind) (root opened : ℕ) (plain : I
           let low : call ≤ p.ended + 0 = subst (λ (b : Bool). call ≤ p.ended + one_if b) idle (plain.buried row call at).1 in
           le-ltb (past_of p) call (omega arith)
 
-  buried_stays : (row call : ℕ) → slice_index_or q.fates.items row New ≡ Buried call → (16 ≤ row) × (call ≤ p.ended + one_if p.flying)
+  buried_stays : (row call : ℕ) → slice_index_or q.fates.items row New ≡ Buried call → (first_row ≤ row) × (call ≤ p.ended + one_if p.in_flight)
   buried_stays row call at = by (settled_or_kept (reached_in (sheet_of p).tree.table root) p.fates.items row)
     where
       same : slice_index_or q.fates.items row New ≡ slice_index_or (settled p.fates.items (reached_in (sheet_of p).tree.table root)) row New
       same = ap (λ (l : List Fate). slice_index_or l row New) settles
 
       by : (slice_index_or (settled p.fates.items (reached_in (sheet_of p).tree.table root)) row New ≡ Live) ⊎ (slice_index_or (settled p.fates.items (reached_in (sheet_of p).tree.table root)) row New ≡ fate_of p row)
-          → (16 ≤ row) × (call ≤ p.ended + one_if p.flying)
+          → (first_row ≤ row) × (call ≤ p.ended + one_if p.in_flight)
       by (inl live) = let e = same in absurd (cc)
       by (inr kept) = plain.buried row call (sym kept ∙ (sym same ∙ at))
 
@@ -187,7 +187,7 @@ module _ (p q : Inside) (s : Sheet) (kind : Kind) (root opened : ℕ) (plain : I
     buried = buried_stays;
   }
 
-  life_after : (row : ℕ) → row < 16 + p.rows → life_in (past_of p) (slice_index_or q.fates.items row New) ≡ (if nat_lt 0 (tally (λ (r : ℕ). r == row) (reached_in (sheet_of p).tree.table root)) then lives.Live else life_in (past_of p) (fate_of p row))
+  life_after : (row : ℕ) → row < first_row + p.rows → life_in (past_of p) (slice_index_or q.fates.items row New) ≡ (if nat_lt 0 (tally (λ (r : ℕ). r == row) (reached_in (sheet_of p).tree.table root)) then lives.Live else life_in (past_of p) (fate_of p row))
   life_after row within =
       ap (λ (l : List Fate). life_in (past_of p) (slice_index_or l row New)) settles
       ∙ (ap (life_in (past_of p)) (settled_fate (reached_in (sheet_of p).tree.table root) p.fates.items row (let size = plain.fates in omega arith))
@@ -209,5 +209,5 @@ module _ (p q : Inside) (s : Sheet) (kind : Kind) (root opened : ℕ) (plain : I
 
 -- the rows that are counted from the root's span
 pub reached_as : (width : Width) (words words' : List ℕ) (root last : ℕ) → words' ≡ words → last ≡ greatest width
-    → rows_of (record { width = Long; words = words' }) deepest (record { first = 0; last = last; word = root; gap = 0 }) ≡ reached_in (record { width = width; words = words }) root
-reached_as Long words words' root last same top = λ i. rows_of (record { width = Long; words = same i }) deepest (record { first = 0; last = top i; word = root; gap = 0 })
+    → rows_of (record { width = Long; words = words' }) deepest (record { first = 0; last = last; word = root }) ≡ reached_in (record { width = width; words = words }) root
+reached_as Long words words' root last same top = λ i. rows_of (record { width = Long; words = same i }) deepest (record { first = 0; last = top i; word = root })

@@ -55,8 +55,8 @@ one_at_most false = omega arith
 
 -- ---- the walk at any place
 
-place_reaches : (b : Before) (place : Place) (word levels : ℕ) → ((r : ℕ) → is_buried b.sheet r ≡ true → (16 ≤ r) × (r < 16 + b.sheet.rows)) → IsPlaceToPublish b.sheet place
-    → Changes b.sheet (with_published b.sheet.tree place word) → laws.IsTree (tree_as b.kind b.sheet.rows (with_published b.sheet.tree place word)) → levels ≡ (if opens b.sheet place then deepest else 0)
+place_reaches : (b : Before) (place : Place) (word levels : ℕ) → ((r : ℕ) → is_buried b.sheet.buried r ≡ true → (first_row ≤ r) × (r < first_row + b.sheet.tree.rows)) → IsPlaceToPublish b.sheet place
+    → Changes b.sheet (with_published b.sheet.tree place word) → laws.IsTree (tree_as b.kind b.sheet.tree.rows (with_published b.sheet.tree place word)) → levels ≡ (if opens b.sheet place then deepest else 0)
     → Reaches (with_published b.sheet.tree place word) b.fates (enlivened (with_published b.sheet.tree place word).table.words levels word b.fates)
 place_reaches b Root word levels inside at rows tree walks = root_reaches b word levels (omega arith) tree rows
 place_reaches b (Slot row col) word levels inside at rows tree walks =
@@ -84,19 +84,19 @@ module _ (p q : Inside) (s : Sheet) (kind : Kind) (place : Place) (word levels :
   past_is : past_of p ≡ p.ended
   past_is = ap (λ (b : Bool). p.ended + one_if b) silent ∙ omega arith
 
-  lives_are : (row : ℕ) → life_of s row ≡ life_in (past_of p) (fate_of p row)
-  lives_are row = sym (ap (λ (s : Sheet). life_of s row) is) ∙ life_told p row
+  lives_are : (row : ℕ) → life_of s.lives row ≡ life_in (past_of p) (fate_of p row)
+  lives_are row = sym (ap (λ (s : Sheet). life_of s.lives row) is) ∙ life_told p row
 
-  buried_are : (row : ℕ) → is_buried s row ≡ buried_in (past_of p) (fate_of p row)
-  buried_are row = sym (ap (λ (s : Sheet). is_buried s row) is) ∙ buried_told p row
+  buried_are : (row : ℕ) → is_buried s.buried row ≡ buried_in (past_of p) (fate_of p row)
+  buried_are row = sym (ap (λ (s : Sheet). is_buried s.buried row) is) ∙ buried_told p row
 
   low : (row call : ℕ) → fate_of p row ≡ Buried call → call ≤ p.ended + 1
-  low row call at = let most = (plain.buried row call at).1 in omega (arith, one_at_most p.flying)
+  low row call at = let most = (plain.buried row call at).1 in omega (arith, one_at_most p.in_flight)
 
-  inside : (row : ℕ) → is_buried s row ≡ true → (16 ≤ row) × (row < 16 + s.rows)
+  inside : (row : ℕ) → is_buried s.buried row ≡ true → (first_row ≤ row) × (row < first_row + s.tree.rows)
   inside row buried =
       let fate = buried_fate (past_of p) (fate_of p row) (sym (buried_are row) ∙ buried) in
-      let rows : p.rows ≡ s.rows = ap (λ (s : Sheet). s.rows) is in
+      let rows : p.rows ≡ s.tree.rows = ap (λ (s : Sheet). s.tree.rows) is in
       let size = plain.fates in (
         (plain.buried row fate.0 fate.1).0,
         elim (cases_lt row (length p.fates.items)) [ inl within ↦ omega arith | inr beyond ↦ let new = get_or_past p.fates.items row New beyond in let at = fate.1 in absurd (cc) ],
@@ -105,10 +105,10 @@ module _ (p q : Inside) (s : Sheet) (kind : Kind) (place : Place) (word levels :
   words_are : p.words.items ≡ after.table.words
   words_are = ap (λ (s : Sheet). s.tree.table.words) is
 
-  has_after : length after.table.words ≡ columns after.table.width * (16 + s.rows)
-  has_after = sym (ap length words_are) ∙ (plain.words ∙ ap (λ (s : Sheet). columns s.tree.table.width * (16 + s.rows)) is)
+  has_after : length after.table.words ≡ columns after.table.width * (16 + s.tree.rows)
+  has_after = sym (ap length words_are) ∙ (plain.words ∙ ap (λ (s : Sheet). columns s.tree.table.width * (16 + s.tree.rows)) is)
 
-  has : (place : Place) → length (with_published s.tree place word).table.words ≡ columns (with_published s.tree place word).table.width * (16 + s.rows) → laws.HasWords (tree_as kind s.rows s.tree)
+  has : (place : Place) → length (with_published s.tree place word).table.words ≡ columns (with_published s.tree place word).table.width * (16 + s.tree.rows) → laws.HasWords (tree_as kind s.tree.rows s.tree)
   has Root long = long
   has (Slot row col) long = sym (length-set s.tree.table.words _ word) ∙ long
 
@@ -139,7 +139,7 @@ module _ (p q : Inside) (s : Sheet) (kind : Kind) (place : Place) (word levels :
     fates = long ∙ plain.fates;
     cleared = plain.cleared;
     room = plain.room;
-    calm = λ idle. let flying : p.flying ≡ true = ap (λ (s : Sheet). s.flying) is ∙ may.flying in absurd (cc);
+    calm = λ idle. let in_flight : p.in_flight ≡ true = ap (λ (s : Sheet). s.in_flight) is ∙ may.in_flight in absurd (cc);
     buried = λ row call at. plain.buried row call (buried_stays row call at);
   }
 

@@ -75,25 +75,25 @@ same_row_spans t kind x y named_x named_y row first last =
 -- ---- the rows that are reached by the words after the store
 
 module _ (kind : Kind) (s : Sheet) (after : Tree) (past : ℕ) (fates : List Fate)
-    (lives_are : (row : ℕ) → life_of s row ≡ life_in past (fate_at fates row)) (buried_are : (row : ℕ) → is_buried s row ≡ buried_in past (fate_at fates row))
-    (live : LiveAreReached s) (tree : laws.IsTree (tree_as kind s.rows s.tree)) (rows : Changes s after) (h' : ℕ) (stands' : laws.Stands (tree_as kind s.rows after) h') where
+    (lives_are : (row : ℕ) → life_of s.lives row ≡ life_in past (fate_at fates row)) (buried_are : (row : ℕ) → is_buried s.buried row ≡ buried_in past (fate_at fates row))
+    (live : LiveAreReached s.tree s.lives) (tree : laws.IsTree (tree_as kind s.tree.rows s.tree)) (rows : Changes s after) (h' : ℕ) (stands' : laws.Stands (tree_as kind s.tree.rows after) h') where
   abbrev t : laws.Tree
-  t = tree_as kind s.rows s.tree
+  t = tree_as kind s.tree.rows s.tree
 
   abbrev t' : laws.Tree
-  t' = tree_as kind s.rows after
+  t' = tree_as kind s.tree.rows after
 
-  reached_inside : (row : ℕ) → IsReached after row → (16 ≤ row) × (row < 16 + s.rows)
+  reached_inside : (row : ℕ) → IsReached after row → (first_row ≤ row) × (row < first_row + s.tree.rows)
   reached_inside row is = reached.reached_number t' h' stands' row (reached.reached_times t' h' stands' row is)
 
   -- a row that is reached then was not buried
-  not_buried : (row : ℕ) → IsReached after row → is_buried s row ≡ true → ⊥
+  not_buried : (row : ℕ) → IsReached after row → is_buried s.buried row ≡ true → ⊥
   not_buried row is buried = let inside = reached_inside row is in let gone = (rows.buried row inside.0 inside.1 buried).1 in absurd (cc)
 
-  still_live : (row : ℕ) → IsReached after row → life_of s row ≡ lives.Live → fate_at fates row ≡ Live
+  still_live : (row : ℕ) → IsReached after row → life_of s.lives row ≡ lives.Live → fate_at fates row ≡ Live
   still_live row is alive = elim (live_fate past (fate_at fates row) (sym (lives_are row) ∙ alive)) [ inl same ↦ same | inr buried ↦ absurd (not_buried row is (buried_are row ∙ buried)) ]
 
-  reached_fate : (row : ℕ) → IsReached after row → (fate_at fates row ≡ Draft) ⊎ ((fate_at fates row ≡ Live) × (life_of s row ≡ lives.Live))
+  reached_fate : (row : ℕ) → IsReached after row → (fate_at fates row ≡ Draft) ⊎ ((fate_at fates row ≡ Live) × (life_of s.lives row ≡ lives.Live))
   reached_fate row is = elim (rows.known row is) [ inl alive ↦ inr (still_live row is alive, alive) | inr draft ↦ inl (draft_fate past (fate_at fates row) (sym (lives_are row) ∙ draft.0)) ]
 
   -- a row that is reached before and after is live
@@ -104,7 +104,7 @@ module _ (kind : Kind) (s : Sheet) (after : Tree) (past : ℕ) (fates : List Fat
   on_level_is k x on = reached.times_reached t' h' stands' (row_in x.word) (reached.on_level_reached t' h' stands' k x on)
 
   -- the children of a live row were its children
-  module _ (h : ℕ) (stands : laws.Stands (tree_as kind s.rows s.tree) h) where
+  module _ (h : ℕ) (stands : laws.Stands (tree_as kind s.tree.rows s.tree) h) where
     was_children : (m k : ℕ) (x y : Span) → reached.OnLevel t'.table h' (root_of t') (suc m) x → reached.OnLevel t.table h (root_of t) k y → row_in y.word ≡ row_in x.word → SameSpans t.table t'.table x → AllLive fates (spans_in t'.table x)
     was_children m k x y on_x on_y row same =
         let keeps = rows.stay k (suc m) y x (reached.stands_at t h stands on_y.depth k y on_y.height on_y.one) (reached.stands_at t' h' stands' on_x.depth (suc m) x on_x.height on_x.one) row in

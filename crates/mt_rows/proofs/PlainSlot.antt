@@ -47,8 +47,8 @@ fills_same lo hi (z ∷ zs) x y fills (inr one_x) (inl is_y) same =
 fills_same lo hi (z ∷ zs) x y fills (inr one_x) (inr one_y) same = fills_same (z.last + 1) hi zs x y fills.2 one_x one_y same
 
 -- a word is stored in a slot of a row that is reached
-module _ (b : Before) (h low d slot word : ℕ) (at child : Span) (stands : laws.Stands (tree_as b.kind b.sheet.rows b.sheet.tree) h) (height : h ≡ d + low)
-    (on : IsSlotAt (tree_as b.kind b.sheet.rows b.sheet.tree) d at slot child) where
+module _ (b : Before) (h low d slot word : ℕ) (at child : Span) (stands : laws.Stands (tree_as b.kind b.sheet.tree.rows b.sheet.tree) h) (height : h ≡ d + low)
+    (on : IsSlotAt (tree_as b.kind b.sheet.tree.rows b.sheet.tree) d at slot child) where
   abbrev s : Sheet
   s = b.sheet
 
@@ -87,9 +87,9 @@ module _ (b : Before) (h low d slot word : ℕ) (at child : Span) (stands : laws
 
 -- ---- in a leaf: the same rows are reached
 
-module _ (b : Before) (h d slot word : ℕ) (at child : Span) (stands : laws.Stands (tree_as b.kind b.sheet.rows b.sheet.tree) h) (height : h ≡ d + zero)
-    (on : IsSlotAt (tree_as b.kind b.sheet.rows b.sheet.tree) d at slot child) (rows : Changes b.sheet (after b h zero d slot word at child stands height on))
-    (h' : ℕ) (stands_at_h' : laws.Stands (tree_as b.kind b.sheet.rows (after b h zero d slot word at child stands height on)) h') where
+module _ (b : Before) (h d slot word : ℕ) (at child : Span) (stands : laws.Stands (tree_as b.kind b.sheet.tree.rows b.sheet.tree) h) (height : h ≡ d + zero)
+    (on : IsSlotAt (tree_as b.kind b.sheet.tree.rows b.sheet.tree) d at slot child) (rows : Changes b.sheet (after b h zero d slot word at child stands height on))
+    (h' : ℕ) (stands_at_h' : laws.Stands (tree_as b.kind b.sheet.tree.rows (after b h zero d slot word at child stands height on)) h') where
   abbrev leaf_store : store.Store
   leaf_store = st b h zero d slot word at child stands height on
 
@@ -122,7 +122,7 @@ module _ (b : Before) (h d slot word : ℕ) (at child : Span) (stands : laws.Sta
   pub leaf_live : (r : ℕ) → IsReached leaf_after r → fate_at b.fates r ≡ Live
   leaf_live r is = was_live b h zero d slot word at child stands height on rows h' stands_at_h' r is (leaf_before r is)
 
-  pub leaf_buries_none : (r : ℕ) → 16 ≤ r → r < 16 + b.sheet.rows → is_buried b.sheet r ≡ true → ⊥
+  pub leaf_buries_none : (r : ℕ) → first_row ≤ r → r < first_row + b.sheet.tree.rows → is_buried b.sheet.buried r ≡ true → ⊥
   leaf_buries_none r first within buried = let changed = rows.buried r first within buried in let still = leaf_later r changed.0 in let gone = changed.1 in absurd (cc)
 
 -- ---- in an inner row: what is reached besides was reached before, or is reached from the word
@@ -130,9 +130,9 @@ module _ (b : Before) (h d slot word : ℕ) (at child : Span) (stands : laws.Sta
 three_times : (p : ℕ → Span → Bool) (t : Table) (k : ℕ) (front back : List Span) (x : Span) → times p t k (front ++ (x ∷ back)) ≡ times p t k front + (times p t k (x ∷ []) + times p t k back)
 three_times p t k front back x = times-append p t k front (x ∷ back) ∙ ap (λ (n : ℕ). times p t k front + n) (times-append p t k (x ∷ []) back)
 
-module _ (b : Before) (h k d slot word : ℕ) (at child : Span) (stands : laws.Stands (tree_as b.kind b.sheet.rows b.sheet.tree) h) (height : h ≡ d + suc k)
-    (on : IsSlotAt (tree_as b.kind b.sheet.rows b.sheet.tree) d at slot child) (rows : Changes b.sheet (after b h (suc k) d slot word at child stands height on))
-    (h' : ℕ) (stands_at_h' : laws.Stands (tree_as b.kind b.sheet.rows (after b h (suc k) d slot word at child stands height on)) h') where
+module _ (b : Before) (h k d slot word : ℕ) (at child : Span) (stands : laws.Stands (tree_as b.kind b.sheet.tree.rows b.sheet.tree) h) (height : h ≡ d + suc k)
+    (on : IsSlotAt (tree_as b.kind b.sheet.tree.rows b.sheet.tree) d at slot child) (rows : Changes b.sheet (after b h (suc k) d slot word at child stands height on))
+    (h' : ℕ) (stands_at_h' : laws.Stands (tree_as b.kind b.sheet.tree.rows (after b h (suc k) d slot word at child stands height on)) h') where
   abbrev inner_store : store.Store
   inner_store = st b h (suc k) d slot word at child stands height on
 
@@ -243,7 +243,7 @@ module _ (b : Before) (h k d slot word : ℕ) (at child : Span) (stands : laws.S
       let is : x ≡ child' = fills_same 0 (laws.top_of inner_tree' + 1) (level inner_tree'.table (suc d) (root_of inner_tree')) x child' level_fill one child'_one keeps.first in
       sym (ap (λ (y : Span). row_in y.word) is) ∙ same
 
-  old_row : is_buried b.sheet (row_in child.word) ≡ false → row_in word ≡ row_in child.word
+  old_row : is_buried b.sheet.buried (row_in child.word) ≡ false → row_in word ≡ row_in child.word
   old_row unburied = elim (cases_Bool (is_reached inner_after (row_in child.word))) [
     | inl is ↦
         let place = reached.reached_on_level inner_tree' h inner_stands' (row_in child.word) (reached.reached_times inner_tree' h inner_stands' (row_in child.word) is) in
@@ -251,7 +251,7 @@ module _ (b : Before) (h k d slot word : ℕ) (at child : Span) (stands : laws.S
     | inr gone ↦ let buried = rows.gone (row_in child.word) child_was gone in absurd (cc)
   ]
 
-  old_word : is_buried b.sheet (row_in child.word) ≡ false → word ≡ child.word
+  old_word : is_buried b.sheet.buried (row_in child.word) ≡ false → word ≡ child.word
   old_word unburied =
       let law = levels_here (laws.IsRow inner_tree') inner_tree'.table k (child' ∷ []) child_laws in
       let law_before = reached.on_level_law inner_tree h stands k child child_on in
@@ -262,19 +262,19 @@ module _ (b : Before) (h k d slot word : ℕ) (at child : Span) (stands : laws.S
   abbrev place : ℕ
   place = base_of b.sheet.tree.table (row_in at.word) + slot_column (slots_of b.sheet.tree.table.width (laws.kind_at b.kind (suc k))) slot
 
-  pub child_word : child.word ≡ word_at b.sheet (row_in at.word) (slot_column (slots_of b.sheet.tree.table.width (laws.kind_at b.kind (suc k))) slot)
+  pub child_word : child.word ≡ word_at b.sheet.tree (row_in at.word) (slot_column (slots_of b.sheet.tree.table.width (laws.kind_at b.kind (suc k))) slot)
   child_word = slot_read inner_tree (suc k) slot at child (store.row_law inner_store) on.holds
 
   pub child_name : named_row child.word ≡ Some (row_in child.word)
   child_name = ap (λ (kind : Option RowKind). if is_some kind then Some (row_in child.word) else None) (reached.on_level_law inner_tree h stands k child child_on).name.named
 
-  same_words : is_buried b.sheet (row_in child.word) ≡ false → inner_after ≡ b.sheet.tree
+  same_words : is_buried b.sheet.buried (row_in child.word) ≡ false → inner_after ≡ b.sheet.tree
   same_words unburied =
       let words : slice_set b.sheet.tree.table.words place word ≡ b.sheet.tree.table.words =
       ap (slice_set b.sheet.tree.table.words place) (old_word unburied ∙ child_word) ∙ set-get_or b.sheet.tree.table.words place 0 in
       λ i. record { table = record { width = b.sheet.tree.table.width; words = words i }; root = b.sheet.tree.root }
 
-  pub unburied_live : is_buried b.sheet (row_in child.word) ≡ false → (r : ℕ) → IsReached inner_after r → fate_at b.fates r ≡ Live
+  pub unburied_live : is_buried b.sheet.buried (row_in child.word) ≡ false → (r : ℕ) → IsReached inner_after r → fate_at b.fates r ≡ Live
   unburied_live unburied r is = inner_live r is (subst (λ (tree : Tree). IsReached tree r) (same_words unburied) is)
 
 -- ---- in any slot
@@ -282,13 +282,13 @@ module _ (b : Before) (h k d slot word : ℕ) (at child : Span) (stands : laws.S
 same_kind : (t : laws.Tree) (low : ℕ) (x : Span) (kind : RowKind) → laws.IsRow t low x → named_kind x.word ≡ Some kind → laws.kind_at t.kind low ≡ kind
 same_kind t low x kind law named = let same : Some (laws.kind_at t.kind low) ≡ Some kind = sym law.name.named ∙ named in cc
 
-module _ (b : Before) (inside : (r : ℕ) → is_buried b.sheet r ≡ true → (16 ≤ r) × (r < 16 + b.sheet.rows)) (word levels : ℕ) where
+module _ (b : Before) (inside : (r : ℕ) → is_buried b.sheet.buried r ≡ true → (first_row ≤ r) × (r < first_row + b.sheet.tree.rows)) (word levels : ℕ) where
   -- how many levels are walked where a word is stored in this slot
   abbrev Walks : ℕ → ℕ → Type 0
   Walks row col = (opens b.sheet (Slot row col) ≡ true → deepest ≤ levels) × (opens b.sheet (Slot row col) ≡ false → levels ≡ 0)
 
   abbrev SlotReaches : ℕ → ℕ → Type 0
-  SlotReaches row col = let after = with_word b.sheet.tree row col word in Changes b.sheet after → laws.IsTree (tree_as b.kind b.sheet.rows after) → Walks row col → Reaches after b.fates (enlivened after.table.words levels word b.fates)
+  SlotReaches row col = let after = with_word b.sheet.tree row col word in Changes b.sheet after → laws.IsTree (tree_as b.kind b.sheet.tree.rows after) → Walks row col → Reaches after b.fates (enlivened after.table.words levels word b.fates)
 
   -- where nothing is walked
   still : (after : Tree) → levels ≡ 0 → ((r : ℕ) → IsReached after r → fate_at b.fates r ≡ Live) → Reaches after b.fates (enlivened after.table.words levels word b.fates)
@@ -296,21 +296,21 @@ module _ (b : Before) (inside : (r : ℕ) → is_buried b.sheet r ≡ true → (
       let same : fate_at (enlivened after.table.words levels word b.fates) r ≡ fate_at b.fates r = ap (λ (n : ℕ). fate_at (enlivened after.table.words n word b.fates) r) none in
       elim (cases_Bool (is_reached after r)) [ inl is ↦ inl (is, same ∙ alive r is) | inr not ↦ inr (not, same) ]
 
-  none_opens : (name : Option ℕ) → ((r : ℕ) → is_buried b.sheet r ≡ true → ⊥) → buried_by b.sheet name ≡ true → ⊥
+  none_opens : (name : Option ℕ) → ((r : ℕ) → is_buried b.sheet.buried r ≡ true → ⊥) → buried_by b.sheet name ≡ true → ⊥
   none_opens None none opened = absurd (cc)
   none_opens (Some r) none opened = none r opened
 
-  rooted : (later : Tree) → later.root ≡ b.sheet.tree.root → (b.sheet.tree.root ≡ 0 → ⊥) → laws.IsTree (tree_as b.kind b.sheet.rows later) → (h : ℕ) × laws.Stands (tree_as b.kind b.sheet.rows later) h
+  rooted : (later : Tree) → later.root ≡ b.sheet.tree.root → (b.sheet.tree.root ≡ 0 → ⊥) → laws.IsTree (tree_as b.kind b.sheet.tree.rows later) → (h : ℕ) × laws.Stands (tree_as b.kind b.sheet.tree.rows later) h
   rooted later same some tree = elim tree [ inl empty ↦ absurd (some (sym same ∙ empty)) | inr stands ↦ stands ]
 
-  module _ (h d slot : ℕ) (at child : Span) (stands : laws.Stands (tree_as b.kind b.sheet.rows b.sheet.tree) h) (some : b.sheet.tree.root ≡ 0 → ⊥) where
-    by_height : (low : ℕ) → h ≡ d + low → IsSlotAt (tree_as b.kind b.sheet.rows b.sheet.tree) d at slot child → SlotReaches (row_in at.word) (slot_column (slots_of b.sheet.tree.table.width (laws.kind_at b.kind low)) slot)
+  module _ (h d slot : ℕ) (at child : Span) (stands : laws.Stands (tree_as b.kind b.sheet.tree.rows b.sheet.tree) h) (some : b.sheet.tree.root ≡ 0 → ⊥) where
+    by_height : (low : ℕ) → h ≡ d + low → IsSlotAt (tree_as b.kind b.sheet.tree.rows b.sheet.tree) d at slot child → SlotReaches (row_in at.word) (slot_column (slots_of b.sheet.tree.table.width (laws.kind_at b.kind low)) slot)
     by_height zero height on rows tree' walks =
         let col = slot_column (slots_of b.sheet.tree.table.width (laws.kind_at b.kind zero)) slot in
         let later = after b h zero d slot word at child stands height on in
         let stands' = rooted later refl some tree' in
         elim (cases_Bool (opens b.sheet (Slot (row_in at.word) col))) [
-          | inl opened ↦ absurd (none_opens (named_row (word_at b.sheet (row_in at.word) col)) (λ r buried. leaf_buries_none b h d slot word at child stands height on rows stands'.0 stands'.1 r (inside r buried).0 (inside r buried).1 buried) opened)
+          | inl opened ↦ absurd (none_opens (named_row (word_at b.sheet.tree (row_in at.word) col)) (λ r buried. leaf_buries_none b h d slot word at child stands height on rows stands'.0 stands'.1 r (inside r buried).0 (inside r buried).1 buried) opened)
           | inr closed ↦ still later (walks.1 closed) (leaf_live b h d slot word at child stands height on rows stands'.0 stands'.1)
         ]
     by_height (suc k) height on rows tree' walks =
@@ -320,9 +320,9 @@ module _ (b : Before) (inside : (r : ℕ) → is_buried b.sheet r ≡ true → (
         elim (cases_Bool (opens b.sheet (Slot (row_in at.word) col))) [
           | inl opened ↦ inner_reaches b h k d slot word at child stands height on rows stands'.0 stands'.1 levels (walks.0 opened)
           | inr closed ↦
-              let name : named_row (word_at b.sheet (row_in at.word) col) ≡ Some (row_in child.word) =
+              let name : named_row (word_at b.sheet.tree (row_in at.word) col) ≡ Some (row_in child.word) =
               ap named_row (sym (child_word b h k d slot word at child stands height on rows stands'.0 stands'.1)) ∙ child_name b h k d slot word at child stands height on rows stands'.0 stands'.1 in
-              let unburied : is_buried b.sheet (row_in child.word) ≡ false = sym (ap (buried_by b.sheet) name) ∙ closed in
+              let unburied : is_buried b.sheet.buried (row_in child.word) ≡ false = sym (ap (buried_by b.sheet) name) ∙ closed in
               still later (walks.1 closed) (unburied_live b h k d slot word at child stands height on rows stands'.0 stands'.1 unburied)
         ]
 
@@ -335,7 +335,7 @@ module _ (b : Before) (inside : (r : ℕ) → is_buried b.sheet r ≡ true → (
 
   pub slot_reaches : (row col : ℕ) → IsSlotOf b.sheet.tree row col → SlotReaches row col
   slot_reaches row col place =
-      let t = tree_as b.kind b.sheet.rows b.sheet.tree in
+      let t = tree_as b.kind b.sheet.tree.rows b.sheet.tree in
       let some = not_empty row col place in
       let stands = rooted b.sheet.tree refl some b.tree in
       let h = stands.0 in

@@ -45,17 +45,17 @@ tree_of first second root = record { table = record { width = Long; words = repl
 
 -- s, of two rows, with this tree and number of calls
 abbrev pub known : Sheet → Tree → ℕ → Bool → Bool → Sheet
-known s tree ended flying published = record s { rows = 2; tree = tree; ended = ended; flying = flying; published = published; kind = None }
+known s tree ended in_flight published = record s { rows = 2; tree = tree; ended = ended; in_flight = in_flight; published = published; kind = None }
 
-pub record Knows (s : Sheet) (tree : Tree) (ended : ℕ) (flying published : Bool) (first second : Life) (gone : Bool) : Type 0 where
-  pub is : s ≡ known s tree ended flying published
-  pub life_16 : life_of s 16 ≡ first
-  pub life_17 : life_of s 17 ≡ second
-  pub buried_16 : is_buried s 16 ≡ gone
-  pub buried_17 : is_buried s 17 ≡ false
+pub record Knows (s : Sheet) (tree : Tree) (ended : ℕ) (in_flight published : Bool) (first second : Life) (gone : Bool) : Type 0 where
+  pub is : s ≡ known s tree ended in_flight published
+  pub life_16 : life_of s.lives 16 ≡ first
+  pub life_17 : life_of s.lives 17 ≡ second
+  pub buried_16 : is_buried s.buried 16 ≡ gone
+  pub buried_17 : is_buried s.buried 17 ≡ false
 
 -- what holds of both rows holds of each
-of_rows : (P : ℕ → Type 0) → P 16 → P 17 → (row : ℕ) → 16 ≤ row → row < 18 → P row
+of_rows : (P : ℕ → Type 0) → P 16 → P 17 → (row : ℕ) → first_row ≤ row → row < 18 → P row
 of_rows P first second row low high = elim (cases_eq row 16) [
   | inl at ↦ subst P (sym at) first
   | inr other ↦ let at : 17 ≡ row = omega arith in subst P at second
@@ -78,29 +78,29 @@ drafted_once : (ls : List Life) (row : ℕ) (cols : List ℕ) → fold (λ (ls :
 drafted_once ls row [] = refl
 drafted_once ls row (c ∷ cols) = ap (λ (l : List Life). fold (λ (ls : List Life) (col : ℕ). slice_set ls row lives.Draft) l cols) (set-set ls row lives.Draft lives.Draft) ∙ drafted_once ls row cols
 
-module _ (s s' : Sheet) (tree : Tree) (ended : ℕ) (flying published : Bool) (first second : Life) (gone : Bool) (k : Knows s tree ended flying published first second gone) where
+module _ (s s' : Sheet) (tree : Tree) (ended : ℕ) (in_flight published : Bool) (first second : Life) (gone : Bool) (k : Knows s tree ended in_flight published first second gone) where
   pub knows_begun : s' ≡ begun s → Knows s' tree ended true false first second gone
   knows_begun is =
-      let new : s' ≡ begun (known s tree ended flying published) = is ∙ ap begun k.is in
+      let new : s' ≡ begun (known s tree ended in_flight published) = is ∙ ap begun k.is in
       subst (λ (s : Sheet). Knows s tree ended true false first second gone) (sym new) (record { is = refl; life_16 = k.life_16; life_17 = k.life_17; buried_16 = k.buried_16; buried_17 = k.buried_17 })
 
   pub knows_finished : (call : Call) (reply : Reply) → s' ≡ finished s call reply → Knows s' tree (ended + 1) false false first second gone
   knows_finished call reply is =
-      let new : s' ≡ finished (known s tree ended flying published) call reply = is ∙ ap (λ (s : Sheet). finished s call reply) k.is in
+      let new : s' ≡ finished (known s tree ended in_flight published) call reply = is ∙ ap (λ (s : Sheet). finished s call reply) k.is in
       subst (λ (s : Sheet). Knows s tree (ended + 1) false false first second gone) (sym new) (record { is = refl; life_16 = k.life_16; life_17 = k.life_17; buried_16 = k.buried_16; buried_17 = k.buried_17 })
 
   -- a row that is drafted whole
   module _ (row : ℕ) (words : List ℕ) (tree' : Tree) (trees_are : fold (λ (t : Tree) (col : ℕ). with_word t row col (slice_index words col)) tree (range_with_len 0 32) ≡ tree') (is : s' ≡ with_columns s row words 32) where
-    drafted_is : s' ≡ record (known s tree' ended flying published) { lives = slice_set s.lives row lives.Draft }
+    drafted_is : s' ≡ record (known s tree' ended in_flight published) { lives = slice_set s.lives row lives.Draft }
     drafted_is =
-        is ∙ (ap (λ (s : Sheet). with_columns s row words 32) k.is ∙ (drafted_all (known s tree ended flying published) row words (range_with_len 0 32)
-        ∙ (λ i. record (known s (trees_are i) ended flying published) { lives = drafted_once s.lives row (range_with_len 1 31) i })))
+        is ∙ (ap (λ (s : Sheet). with_columns s row words 32) k.is ∙ (drafted_all (known s tree ended in_flight published) row words (range_with_len 0 32)
+        ∙ (λ i. record (known s (trees_are i) ended in_flight published) { lives = drafted_once s.lives row (range_with_len 1 31) i })))
 
-    knows_drafted : (f g : Life) → slice_index_or (slice_set s.lives row lives.Draft) 16 lives.New ≡ f → slice_index_or (slice_set s.lives row lives.Draft) 17 lives.New ≡ g → Knows s' tree' ended flying published f g gone
-    knows_drafted f g is_f is_g = subst (λ (s : Sheet). Knows s tree' ended flying published f g gone) (sym drafted_is) (record { is = refl; life_16 = is_f; life_17 = is_g; buried_16 = k.buried_16; buried_17 = k.buried_17 })
+    knows_drafted : (f g : Life) → slice_index_or (slice_set s.lives row lives.Draft) 16 lives.New ≡ f → slice_index_or (slice_set s.lives row lives.Draft) 17 lives.New ≡ g → Knows s' tree' ended in_flight published f g gone
+    knows_drafted f g is_f is_g = subst (λ (s : Sheet). Knows s tree' ended in_flight published f g gone) (sym drafted_is) (record { is = refl; life_16 = is_f; life_17 = is_g; buried_16 = k.buried_16; buried_17 = k.buried_17 })
 
-    rows_are : s.rows ≡ 2
-    rows_are = ap (λ (s : Sheet). s.rows) k.is
+    rows_are : s.tree.rows ≡ 2
+    rows_are = ap (λ (s : Sheet). s.tree.rows) k.is
 
     lives_long : IsWhole s → length s.lives ≡ 18
     lives_long whole = whole.lives ∙ ap (λ (n : ℕ). 16 + n) rows_are
@@ -109,12 +109,12 @@ module _ (s s' : Sheet) (tree : Tree) (ended : ℕ) (flying published : Bool) (f
     buried_long whole = ap (λ (s : Sheet). length s.buried) drafted_is ∙ (whole.buried ∙ ap (λ (n : ℕ). 16 + n) rows_are)
 
   -- the first row, and the second
-  pub knows_first : (words : List ℕ) (tree' : Tree) → fold (λ (t : Tree) (col : ℕ). with_word t 16 col (slice_index words col)) tree (range_with_len 0 32) ≡ tree' → s' ≡ with_columns s 16 words 32 → IsWhole s → Knows s' tree' ended flying published lives.Draft second gone
+  pub knows_first : (words : List ℕ) (tree' : Tree) → fold (λ (t : Tree) (col : ℕ). with_word t 16 col (slice_index words col)) tree (range_with_len 0 32) ≡ tree' → s' ≡ with_columns s 16 words 32 → IsWhole s → Knows s' tree' ended in_flight published lives.Draft second gone
   knows_first words tree' trees_are is whole =
       let long = lives_long 16 words tree' trees_are is whole in
       knows_drafted 16 words tree' trees_are is lives.Draft second (get_or-set_same s.lives 16 lives.Draft lives.New (omega arith)) (get_or-set_other s.lives 16 17 lives.Draft lives.New (λ e. omega arith) ∙ k.life_17)
 
-  pub knows_second : (words : List ℕ) (tree' : Tree) → fold (λ (t : Tree) (col : ℕ). with_word t 17 col (slice_index words col)) tree (range_with_len 0 32) ≡ tree' → s' ≡ with_columns s 17 words 32 → IsWhole s → Knows s' tree' ended flying published first lives.Draft gone
+  pub knows_second : (words : List ℕ) (tree' : Tree) → fold (λ (t : Tree) (col : ℕ). with_word t 17 col (slice_index words col)) tree (range_with_len 0 32) ≡ tree' → s' ≡ with_columns s 17 words 32 → IsWhole s → Knows s' tree' ended in_flight published first lives.Draft gone
   knows_second words tree' trees_are is whole =
       let long = lives_long 17 words tree' trees_are is whole in
       knows_drafted 17 words tree' trees_are is first lives.Draft (get_or-set_other s.lives 17 16 lives.Draft lives.New (λ e. omega arith) ∙ k.life_16) (get_or-set_same s.lives 17 lives.Draft lives.New (omega arith))
@@ -123,7 +123,7 @@ module _ (s s' : Sheet) (tree : Tree) (ended : ℕ) (flying published : Bool) (f
 
 module _ (parent a b : ℕ) (apart : a ≡ 0 → b ≢ 0) (entry : b ≢ 0) (free_a : reserved a ≡ false) (free_b : reserved b ≡ false) where
   abbrev span : ℕ → ℕ → ℕ → Span
-  span first last word = record { first = first; last = last; word = word; gap = 0 }
+  span first last word = record { first = first; last = last; word = word }
 
   abbrev leaf_spans : List Span
   leaf_spans = span 0 9 a ∷ span 10 19 b ∷ span 20 18446744073709551615 0 ∷ []
@@ -184,36 +184,36 @@ no_row_stays a b h h' x x' leaf leaf' other stood stood' same =
 
 -- ---- what each call asks for
 
-module _ (s : Sheet) (tree : Tree) (ended : ℕ) (flying published : Bool) (first second : Life) (gone : Bool) (k : Knows s tree ended flying published first second gone) where
-  pub is_place : (row : ℕ) → 16 ≤ row → row < 18 → tree.table.width ≡ Long → IsPlace s row 0
-  is_place row low high width = subst (λ (s : Sheet). IsPlace s row 0) (sym k.is) (record { first = low; last = high; column = subst (λ (w : Width). 0 < columns w) (sym width) (omega arith) })
+module _ (s : Sheet) (tree : Tree) (ended : ℕ) (in_flight published : Bool) (first second : Life) (gone : Bool) (k : Knows s tree ended in_flight published first second gone) where
+  pub is_place : (row : ℕ) → first_row ≤ row → row < 18 → tree.table.width ≡ Long → IsPlace s.tree row 0
+  is_place row low high width = subst (λ (s : Sheet). IsPlace s.tree row 0) (sym k.is) (record { first = low; last = high; column = subst (λ (w : Width). 0 < columns w) (sym width) (omega arith) })
 
-  pub second_free : second ≡ lives.New → IsFree s.cleared (life_of s 17)
+  pub second_free : second ≡ lives.New → IsFree s.cleared (life_of s.lives 17)
   second_free new = subst (IsFree s.cleared) (sym (k.life_17 ∙ new)) tt
 
-  pub may_bury : flying ≡ true → published ≡ false → tree.table.width ≡ Long → first ≡ lives.Live → MayBury s 16
+  pub may_bury : in_flight ≡ true → published ≡ false → tree.table.width ≡ Long → first ≡ lives.Live → MayBury s 16
   may_bury begun silent width live = record {
-    flying = ap (λ (s : Sheet). s.flying) k.is ∙ begun;
+    in_flight = ap (λ (s : Sheet). s.in_flight) k.is ∙ begun;
     before = ap (λ (s : Sheet). s.published) k.is ∙ silent;
     at = is_place 16 (omega arith) (omega arith) width;
     live = k.life_16 ∙ live;
   }
 
-  none_buried : gone ≡ false → (row : ℕ) → 16 ≤ row → row < 18 → is_buried s row ≡ false
-  none_buried kept = of_rows (λ (r : ℕ). is_buried s r ≡ false) (k.buried_16 ∙ kept) k.buried_17
+  none_buried : gone ≡ false → (row : ℕ) → first_row ≤ row → row < 18 → is_buried s.buried row ≡ false
+  none_buried kept = of_rows (λ (r : ℕ). is_buried s.buried r ≡ false) (k.buried_16 ∙ kept) k.buried_17
 
   -- after a store at a place by which the rows are reached as they are told
-  pub knows_published : (s' : Sheet) (place : Place) (word : ℕ) (call : Call) (reply : Reply) (tree' : Tree) (f g : Life) → with_published tree place word ≡ tree' → life_after (known s tree ended flying published) tree' 16 ≡ f → life_after (known s tree ended flying published) tree' 17 ≡ g
-      → Published s s' place word call reply → Knows s' tree' ended flying true f g false
+  pub knows_published : (s' : Sheet) (place : Place) (word : ℕ) (call : Call) (reply : Reply) (tree' : Tree) (f g : Life) → with_published tree place word ≡ tree' → life_after (known s tree ended in_flight published) tree' 16 ≡ f → life_after (known s tree ended in_flight published) tree' 17 ≡ g
+      → Published s s' place word call reply → Knows s' tree' ended in_flight true f g false
   knows_published s' place word call reply tree' f g is_tree is_f is_g done =
-      let told : Published (known s tree ended flying published) s' place word call reply = subst (λ (s : Sheet). Published s s' place word call reply) k.is done in
+      let told : Published (known s tree ended in_flight published) s' place word call reply = subst (λ (s : Sheet). Published s s' place word call reply) k.is done in
       record {
         is =
-            let new : s' ≡ record (known s tree' ended flying published) { published = true; lives = s'.lives; buried = s'.buried; records = with_record (known s tree ended flying published) call reply } =
-            told.rest ∙ (λ i. record (known s (is_tree i) ended flying published) { published = true; lives = s'.lives; buried = s'.buried; records = with_record (known s tree ended flying published) call reply }) in
-            subst (λ (z : Sheet). z ≡ known z tree' ended flying true) (sym new) refl;
-        life_16 = told.lives 16 (omega arith) (omega arith) ∙ (ap (λ (t : Tree). life_after (known s tree ended flying published) t 16) is_tree ∙ is_f);
-        life_17 = told.lives 17 (omega arith) (omega arith) ∙ (ap (λ (t : Tree). life_after (known s tree ended flying published) t 17) is_tree ∙ is_g);
+            let new : s' ≡ record (known s tree' ended in_flight published) { published = true; lives = s'.lives; buried = s'.buried; records = with_record (known s tree ended in_flight published) call reply } =
+            told.rest ∙ (λ i. record (known s (is_tree i) ended in_flight published) { published = true; lives = s'.lives; buried = s'.buried; records = with_record (known s tree ended in_flight published) call reply }) in
+            subst (λ (z : Sheet). z ≡ known z tree' ended in_flight true) (sym new) refl;
+        life_16 = told.lives 16 (omega arith) (omega arith) ∙ (ap (λ (t : Tree). life_after (known s tree ended in_flight published) t 16) is_tree ∙ is_f);
+        life_17 = told.lives 17 (omega arith) (omega arith) ∙ (ap (λ (t : Tree). life_after (known s tree ended in_flight published) t 17) is_tree ∙ is_g);
         buried_16 = told.buried 16 (omega arith) (omega arith);
         buried_17 = told.buried 17 (omega arith) (omega arith);
       }
@@ -230,7 +230,7 @@ module _ (s : Sheet) (ended : ℕ) (k : Knows s (tree_of (lone 1 0 5) zeros 0) e
   abbrev s₁ : Sheet
   s₁ = known s (tree_of (lone 1 0 5) zeros 0) ended true false
 
-  none_buried₁ : (row : ℕ) → 16 ≤ row → row < 18 → is_buried s row ≡ false
+  none_buried₁ : (row : ℕ) → first_row ≤ row → row < 18 → is_buried s.buried row ≡ false
   none_buried₁ = none_buried s (tree_of (lone 1 0 5) zeros 0) ended true false lives.Draft lives.New false k refl
 
   changes₁ : Changes s₁ first_tree
@@ -243,10 +243,10 @@ module _ (s : Sheet) (ended : ℕ) (k : Knows s (tree_of (lone 1 0 5) zeros 0) e
 
   pub may_publish_first : MayPublish trees.Range s Root 4108 (Store 10 19 5) reply.Ok
   may_publish_first = subst (λ (s : Sheet). MayPublish trees.Range s Root 4108 (Store 10 19 5) reply.Ok) (sym k.is) (record {
-    flying = refl;
+    in_flight = refl;
     before = refl;
     at = tt;
-    live = of_rows (λ (r : ℕ). (life_of s r ≡ lives.Live → false ≡ true) × (false ≡ true → life_of s r ≡ lives.Live)) ((λ e. let d = k.life_16 in absurd (cc)), (λ e. absurd (cc))) ((λ e. let d = k.life_17 in absurd (cc)), (λ e. absurd (cc)));
+    live = of_rows (λ (r : ℕ). (life_of s.lives r ≡ lives.Live → false ≡ true) × (false ≡ true → life_of s.lives r ≡ lives.Live)) ((λ e. let d = k.life_16 in absurd (cc)), (λ e. absurd (cc))) ((λ e. let d = k.life_17 in absurd (cc)), (λ e. absurd (cc)));
     tree = record { of_kind = record { told = tt; width = refl }; words = inl refl };
     answer = refl;
     after = inr (0, first_stands);
@@ -255,7 +255,7 @@ module _ (s : Sheet) (ended : ℕ) (k : Knows s (tree_of (lone 1 0 5) zeros 0) e
 
   pub knows_first_published : (s' : Sheet) → Published s s' Root 4108 (Store 10 19 5) reply.Ok → Knows s' first_tree ended true true lives.Live lives.New false
   knows_first_published s' = knows_published s (tree_of (lone 1 0 5) zeros 0) ended true false lives.Draft lives.New false k s' Root 4108 (Store 10 19 5) reply.Ok first_tree lives.Live lives.New refl refl
-      (ap (λ (b : Bool). if b then lives.Dead (ended + 1) else life_of s 17) k.buried_17 ∙ k.life_17)
+      (ap (λ (b : Bool). if b then lives.Dead (ended + 1) else life_of s.lives 17) k.buried_17 ∙ k.life_17)
 
 -- ---- an entry over just the indexes of a range
 
@@ -269,17 +269,17 @@ module _ (s : Sheet) (ended : ℕ) (k : Knows s (tree_of (lone 1 0 5) zeros 4108
   abbrev leaf : Span
   leaf = root_span first_tree.table 4108
 
-  live₂ : LiveAreReached s₂
-  live₂ = of_rows (λ (r : ℕ). (life_of s r ≡ lives.Live → IsReached first_tree r) × (IsReached first_tree r → life_of s r ≡ lives.Live)) ((λ e. refl), (λ e. k.life_16)) ((λ e. let new = k.life_17 in absurd (cc)), (λ e. absurd (cc)))
+  live₂ : LiveAreReached s₂.tree s₂.lives
+  live₂ = of_rows (λ (r : ℕ). (life_of s.lives r ≡ lives.Live → IsReached first_tree r) × (IsReached first_tree r → life_of s.lives r ≡ lives.Live)) ((λ e. refl), (λ e. k.life_16)) ((λ e. let new = k.life_17 in absurd (cc)), (λ e. absurd (cc)))
 
   pub may_publish_entry : MayPublish trees.Range s (Slot 16 17) 7 (Store 10 19 7) reply.Ok
   may_publish_entry = subst (λ (s : Sheet). MayPublish trees.Range s (Slot 16 17) 7 (Store 10 19 7) reply.Ok) (sym k.is)
-      (exact.may_publish trees.Range s₂ 0 1 7 leaf (record { first = 10; last = 19; word = 5; gap = 0 }) (subst IsWhole k.is whole) live₂ (none_buried s first_tree ended true false lives.Live lives.New false k refl)
+      (exact.may_publish trees.Range s₂ 0 1 7 leaf (record { first = 10; last = 19; word = 5 }) (subst IsWhole k.is whole) live₂ (none_buried s first_tree ended true false lives.Live lives.New false k refl)
       (record { told = tt; width = refl }) first_stands (record { front = []; back = []; stands = refl; holds = refl }) (λ e. absurd (omega arith)) (λ e. absurd (omega arith)) refl refl refl)
 
   pub knows_entry_published : (s' : Sheet) → Published s s' (Slot 16 17) 7 (Store 10 19 7) reply.Ok → Knows s' second_tree ended true true lives.Live lives.New false
   knows_entry_published s' = knows_published s first_tree ended true false lives.Live lives.New false k s' (Slot 16 17) 7 (Store 10 19 7) reply.Ok second_tree lives.Live lives.New refl refl
-      (ap (λ (b : Bool). if b then lives.Dead (ended + 1) else life_of s 17) k.buried_17 ∙ k.life_17)
+      (ap (λ (b : Bool). if b then lives.Dead (ended + 1) else life_of s.lives 17) k.buried_17 ∙ k.life_17)
 
 -- ---- the leaf is replaced
 
@@ -314,16 +314,16 @@ module _ (s : Sheet) (ended : ℕ) (k : Knows s (tree_of (lone 4096 0 7) (lone 1
   changes₃ = record {
     known = λ row is. subst (λ (r : ℕ). IsKnown s₃ r) (one_row 17 row is) (inr (k.life_17, λ e. omega arith));
     stay = λ h h' x x' stood stood' same. absurd (no_row_stays buried_tree third_tree h h' x x' refl refl (λ e. omega arith) stood stood' same);
-    gone = λ row was not. subst (λ (r : ℕ). is_buried s r ≡ true) (one_row 16 row was) k.buried_16;
-    buried = of_rows (λ (r : ℕ). is_buried s r ≡ true → IsReached buried_tree r × (is_reached third_tree r ≡ false)) (λ e. (refl, refl)) (λ e. let none = k.buried_17 in absurd (cc));
+    gone = λ row was not. subst (λ (r : ℕ). is_buried s.buried r ≡ true) (one_row 16 row was) k.buried_16;
+    buried = of_rows (λ (r : ℕ). is_buried s.buried r ≡ true → IsReached buried_tree r × (is_reached third_tree r ≡ false)) (λ e. (refl, refl)) (λ e. let none = k.buried_17 in absurd (cc));
   }
 
   pub may_publish_replacement : MayPublish trees.Range s Root 4364 (Store 0 9 8) reply.Ok
   may_publish_replacement = subst (λ (s : Sheet). MayPublish trees.Range s Root 4364 (Store 0 9 8) reply.Ok) (sym k.is) (record {
-    flying = refl;
+    in_flight = refl;
     before = refl;
     at = tt;
-    live = of_rows (λ (r : ℕ). (life_of s r ≡ lives.Live → IsReached buried_tree r) × (IsReached buried_tree r → life_of s r ≡ lives.Live)) ((λ e. refl), (λ e. k.life_16)) ((λ e. let draft = k.life_17 in absurd (cc)), (λ e. absurd (cc)));
+    live = of_rows (λ (r : ℕ). (life_of s.lives r ≡ lives.Live → IsReached buried_tree r) × (IsReached buried_tree r → life_of s.lives r ≡ lives.Live)) ((λ e. refl), (λ e. k.life_16)) ((λ e. let draft = k.life_17 in absurd (cc)), (λ e. absurd (cc)));
     tree = record { of_kind = record { told = tt; width = refl }; words = inr (0, buried_stands) };
     answer = refl;
     after = inr (0, third_stands);

@@ -260,12 +260,12 @@ module _ (t : Tree) (h : ℕ) (stands : Stands t h) where
   reached_on_level row some = let place = times_place (is_row_of row) t.table h (root_of t) some in (place.0, place.1, place.2, eqb-true (row_in place.1.word) row place.3)
 
   -- it is a row of the table
-  pub reached_number : (row : ℕ) → 1 ≤ times_in row → (16 ≤ row) × (row < 16 + t.rows)
+  pub reached_number : (row : ℕ) → 1 ≤ times_in row → (first_row ≤ row) × (row < first_row + t.rows)
   reached_number row some =
       let place = reached_on_level row some in
       let law = on_level_law place.0 place.1 place.2 in
       let number = (Names-named_kind place.1.word (kind_at t.kind place.0) law.name.named).0.0 in
-      subst (λ (r : ℕ). (16 ≤ r) × (r < 16 + t.rows)) place.3 (number, law.name.in_table)
+      subst (λ (r : ℕ). (first_row ≤ r) × (r < first_row + t.rows)) place.3 (number, law.name.in_table)
 
   -- and on just one
   pub one_place : (k l : ℕ) (x y : Span) → OnLevel t.table h (root_of t) k x → OnLevel t.table h (root_of t) l y → row_in x.word ≡ row_in y.word → (k ≡ l) × (x ≡ y)

@@ -78,7 +78,7 @@ some_slots Long Inner = omega arith
 some_slots Long Gapped = omega arith
 
 -- a slot column of a row of the table is one of its words
-pub slot_fits : (width : Width) (kind : RowKind) (row rows slot : ℕ) → slot < slots_of width kind → row < 16 + rows → columns width * row + slot_column (slots_of width kind) slot < columns width * (16 + rows)
+pub slot_fits : (width : Width) (kind : RowKind) (row rows slot : ℕ) → slot < slots_of width kind → row < first_row + rows → columns width * row + slot_column (slots_of width kind) slot < columns width * (16 + rows)
 slot_fits Long Leaf row rows slot inside in_table = omega arith
 slot_fits Long Inner row rows slot inside in_table = omega arith
 slot_fits Long Gapped row rows slot inside in_table = omega arith

@@ -45,7 +45,7 @@ length-put_item (suc n) word (x ∷ xs) = ap suc (length-put_item n word xs)
 pub spans_from-put : (n word first : ℕ) (xs : List Item) → spans_from first (put_item n word xs) ≡ put_span n word (spans_from first xs)
 spans_from-put n word first [] = refl
 spans_from-put zero word first (x ∷ xs) = refl
-spans_from-put (suc n) word first (x ∷ xs) = ap (λ (l : List Span). record { first = first; last = x.last; word = x.word; gap = x.gap } ∷ l) (spans_from-put n word (x.last + 1) xs)
+spans_from-put (suc n) word first (x ∷ xs) = ap (λ (l : List Span). record { first = first; last = x.last; word = x.word } ∷ l) (spans_from-put n word (x.last + 1) xs)
 
 pub length-spans_from : (first : ℕ) (xs : List Item) → length (spans_from first xs) ≡ length xs
 length-spans_from first [] = refl

@@ -1,21 +1,21 @@
 -- The eight laws of lawful words, each of a row that covers first..last at a height; leaves have the height 0.
 -- Source: the kernel's lib/maple_tree.c, mt_validate and its parts; that a leaf never ends with a hole below the
 -- greatest index, and the least numbers of items, are this project's.
-use Rattle.std.specs.Prelude.{◌≡◌, ◌≢◌, ◌⊎◌, ℕ, zero, suc, ◌+◌, ◌-◌, ◌*◌, ◌<◌, ◌≤◌, ◌==◌, ◌&&◌, List, [], ◌∷◌, Some, Bool, false, length, max, slice_index, if◌then◌else◌}
+use Rattle.std.specs.Prelude.{◌≡◌, ◌≢◌, ◌⊎◌, ℕ, zero, suc, ◌+◌, ◌-◌, ◌*◌, ◌<◌, ◌≤◌, ◌==◌, ◌&&◌, List, [], ◌∷◌, Some, Bool, false, length, slice_index, if◌then◌else◌}
 use Rattle.std.specs.List.{AllByRecursion, flat_map}
 use Rattle.mt_base.specs.declared.kinds.Kind.{Kind}
 use Rattle.mt_base.specs.Entry.{reserved}
-use Rattle.mt_base.specs.Width.{columns, greatest}
+use Rattle.mt_base.specs.Width.{columns, greatest, deepest}
 use Rattle.mt_layout.specs.declared.names.RowKind.{RowKind}
 use Rattle.mt_layout.specs.declared.names.RowKind.TheVariants.{Leaf, Inner, Gapped}
 use Rattle.mt_layout.specs.declared.items.Item.{Item}
-use Rattle.mt_layout.specs.Columns.{items_at, row_words}
+use Rattle.mt_layout.specs.Sizes.{first_row, slots_of, gaps_of, least_items}
+use Rattle.mt_layout.specs.Columns.{items_at, row_words, gap_column}
 use Rattle.mt_layout.specs.Rows.{row_in, named_kind, parent_at}
 use Rattle.mt_layout.specs.declared.spans.Span.{Span}
-use Rattle.mt_layout.specs.Spans.{leaf_range, Fills, Apart, EndsFull}
-use Rattle.mt_rows.specs.Spans.{Table, base_of, column, slots_of, gaps_of, inner_kind, spans_in, root_span}
+use Rattle.mt_layout.specs.Spans.{leaf_range, longest_in, Fills, Apart, EndsFull}
+use Rattle.mt_rows.specs.Spans.{Table, base_of, column, inner_kind, spans_in, root_span}
 use Rattle.mt_rows.specs.Levels.{Levels, expand}
-use Rattle.mt_rows.specs.Trees.{deepest}
 
 -- A tree of rows: how many there are, and which kind of tree it is.
 pub record Tree : Type 0 where
@@ -27,9 +27,9 @@ pub record Tree : Type 0 where
 abbrev pub top_of : Tree → ℕ
 top_of t = greatest t.table.width
 
--- there is a word for each column of each row, and of those below 16 that no row has
+-- there is a word for each column of each row, and of those before the first that no row has
 abbrev pub HasWords : Tree → Type 0
-HasWords t = length t.table.words ≡ columns t.table.width * (16 + t.rows)
+HasWords t = length t.table.words ≡ columns t.table.width * (first_row + t.rows)
 
 -- the kind that a row of this height has
 abbrev pub kind_at : Kind → ℕ → RowKind
@@ -39,7 +39,7 @@ kind_at tree (suc h) = inner_kind tree
 -- Name: the word that leads here names a row of the table, of the kind of its height in this tree.
 pub record NameLaw (t : Tree) (h : ℕ) (x : Span) : Type 0 where
   pub named : named_kind x.word ≡ Some (kind_at t.kind h)
-  pub in_table : row_in x.word < 16 + t.rows
+  pub in_table : row_in x.word < first_row + t.rows
 
 -- Parent: each child's parent word names this row and the child's slot.
 abbrev pub ParentsFrom : Table → ℕ → ℕ → List Span → Type 0
@@ -71,13 +71,8 @@ abbrev pub least_of_root : ℕ → ℕ
 least_of_root zero = 1
 least_of_root (suc h) = 2
 
-abbrev pub least_of_kind : RowKind → ℕ
-least_of_kind Leaf = 6
-least_of_kind Inner = 6
-least_of_kind Gapped = 4
-
 abbrev pub least_of : Tree → ℕ → Span → ℕ
-least_of t h x = if covers_all t x then least_of_root h else least_of_kind (kind_at t.kind h)
+least_of t h x = if covers_all t x then least_of_root h else least_items t.table.width (kind_at t.kind h)
 
 pub record CountLaw (t : Tree) (h : ℕ) (x : Span) : Type 0 where
   pub least : least_of t h x ≤ length (spans_in t.table x)
@@ -100,26 +95,23 @@ HoleLaw t zero x = HoleLawOfLeaf t x
 HoleLaw t (suc h) x = Unit {0}
 
 -- Gaps: each gap word of an inner row with gaps is the longest hole in the leaves below its item.
-abbrev pub hole_length : Span → ℕ
-hole_length x = if x.word == 0 then x.last + 1 - x.first else 0
-
-abbrev pub longest_in : List Span → ℕ
-longest_in [] = 0
-longest_in (x ∷ xs) = max (hole_length x) (longest_in xs)
-
 -- the longest hole below rows of a height
 abbrev pub longest_below : Table → ℕ → List Span → ℕ
 longest_below t zero xs = longest_in (expand t xs)
 longest_below t (suc h) xs = longest_below t h (expand t xs)
 
-abbrev pub GapLawBy : RowKind → Table → ℕ → List Span → Type 0
-GapLawBy Leaf t h xs = Unit {0}
-GapLawBy Inner t h xs = Unit {0}
-GapLawBy Gapped t h xs = AllByRecursion (λ (y : Span). y.gap ≡ longest_below t h (y ∷ [])) xs
+abbrev pub GapsFrom : Table → ℕ → ℕ → ℕ → List Span → Type 0
+GapsFrom t h row slot [] = Unit {0}
+GapsFrom t h row slot (x ∷ xs) = (column t row (gap_column (slots_of t.width Gapped) slot) ≡ longest_below t h (x ∷ [])) × GapsFrom t h row (slot + 1) xs
+
+abbrev pub GapLawBy : RowKind → Table → ℕ → Span → Type 0
+GapLawBy Leaf t h x = Unit {0}
+GapLawBy Inner t h x = Unit {0}
+GapLawBy Gapped t h x = GapsFrom t h (row_in x.word) 0 (spans_in t x)
 
 abbrev pub GapLaw : Tree → ℕ → Span → Type 0
 GapLaw t zero x = Unit {0}
-GapLaw t (suc h) x = GapLawBy (inner_kind t.kind) t.table h (spans_in t.table x)
+GapLaw t (suc h) x = GapLawBy (inner_kind t.kind) t.table h x
 
 -- ---- lawful words
 
@@ -135,7 +127,7 @@ pub record IsTended (t : Tree) (h : ℕ) (x : Span) : Type 0 where
   pub parent : ParentLaw t h x
   pub gaps : GapLaw t h x
 
--- Depth: every leaf stands at the height 0, and the root's height is below 9.
+-- Depth: every leaf stands at the height 0, and the root's height is below the most.
 pub record Stands (t : Tree) (h : ℕ) : Type 0 where
   pub low : h < deepest
   pub rows : Levels (IsRow t) t.table h (root_span t.table t.root ∷ [])

@@ -58,14 +58,3 @@ SameSpans t t' x = spans_in t' x ≡ spans_in t x
 -- the two agree on a row, but for its parent word
 abbrev pub SameColumns : Table → Table → ℕ → ℕ → Type 0
 SameColumns t t' columns row = (c : ℕ) → 0 < c → c < columns → column t' row c ≡ column t row c
-
--- all but the gaps: the spans have the same first and last indexes, and the same of them are 0
-abbrev pub SameShape : List Span → List Span → Type 0
-SameShape [] [] = Unit {0}
-SameShape (x ∷ xs) (y ∷ ys) = (x.first ≡ y.first) × (x.last ≡ y.last) × ((x.word == 0) ≡ (y.word == 0)) × SameShape xs ys
-SameShape [] (y ∷ ys) = ⊥
-SameShape (x ∷ xs) [] = ⊥
-
--- `part` is what a map has from `lo` to `hi`, and no range of the map reaches over an end
-abbrev pub Part : List Range → ℕ → ℕ → List Range → Type 0
-Part m lo hi part = (front : List Range) × (back : List Range) × (m ≡ front ++ (part ++ back)) × AllByRecursion (λ (r : Range). r.last < lo) front × AllByRecursion (λ (r : Range). hi < r.first) back

@@ -2,9 +2,10 @@
 use Rattle.std.specs.Prelude.{◌≡◌, ℕ, ◌+◌, ◌-◌, ◌*◌, ◌^◌, ◌<◌, ◌≤◌, Bool, true, false, Option, Some, None, List, [], zero, suc, length, map, replicate, nat_le, nat_lt, slice_index_or, slice_set, if◌then◌else◌}
 use Rattle.std.specs.List.{fold, slice_range}
 use Rattle.mt_base.specs.declared.widths.Width.TheVariants.{Long}
-use Rattle.mt_base.specs.Width.{columns}
+use Rattle.mt_base.specs.Width.{columns, most_rows}
 use Rattle.mt_layout.specs.declared.names.RowKind.{RowKind}
 use Rattle.mt_layout.specs.declared.names.RowKind.TheVariants as kinds
+use Rattle.mt_layout.specs.Sizes.{first_row, slots_of}
 use Rattle.mt_layout.specs.Rows.{row_in, named_kind, named_row}
 use Rattle.mt_rows.specs.declared.rows.Place.{Place}
 use Rattle.mt_rows.specs.declared.rows.Place.TheVariants.{Root, Slot}
@@ -37,15 +38,15 @@ fate_of p row = slice_index_or p.fates.items row New
 
 abbrev pub sheet_of : Inside → Sheet
 sheet_of p = record {
-  rows = p.rows;
-  tree = record { table = record { width = p.width; words = p.words.items }; root = p.root };
+  tree = record { rows = p.rows; table = record { width = p.width; words = p.words.items }; root = p.root };
   ended = p.ended;
-  flying = p.flying;
+  in_flight = p.in_flight;
   published = p.published;
   lives = map (life_in (past_of p)) p.fates.items;
   buried = map (buried_in (past_of p)) p.fates.items;
   opened = p.opened;
   cleared = p.cleared;
+  shared = false;
   scan = p.scan;
   scans = p.scans;
   scans_at_begin = p.scans_at_begin;
@@ -55,29 +56,31 @@ sheet_of p = record {
   caller = None;
 }
 
--- there is a word for each column, and a fate for each row, and those below 16 that no row has; no row was buried by a
+-- there is a word for each column, and a fate for each row, and those before the first that no row has; no row was buried by a
 -- call to come
 pub record IsPlain (p : Inside) : Type 0 where
-  pub few : p.rows ≤ 65504
-  pub words : length p.words.items ≡ columns p.width * (16 + p.rows)
-  pub fates : length p.fates.items ≡ 16 + p.rows
+  pub few : p.rows ≤ most_rows
+  pub long : p.width ≡ Long
+  pub words : length p.words.items ≡ columns p.width * (first_row + p.rows)
+  pub fates : length p.fates.items ≡ first_row + p.rows
+  pub scans : p.scans_at_begin ≤ p.scans
   pub cleared : p.cleared ≤ p.ended
-  pub room : p.flying ≡ true → p.ended < 2 ^ 62 - 1
-  pub calm : p.flying ≡ false → p.published ≡ false
-  pub buried : (row call : ℕ) → fate_of p row ≡ Buried call → (16 ≤ row) × (call ≤ p.ended + one_if p.flying)
+  pub room : p.in_flight ≡ true → p.ended < 2 ^ 62 - 1
+  pub calm : p.in_flight ≡ false → p.published ≡ false
+  pub buried : (row call : ℕ) → fate_of p row ≡ Buried call → (first_row ≤ row) × (1 ≤ call) × (call ≤ p.ended + one_if p.in_flight)
 
 -- so many rows, none of which was used, and no call
 abbrev pub new_sheet : ℕ → Sheet
 new_sheet rows = record {
-  rows = rows;
-  tree = record { table = record { width = Long; words = replicate (columns Long * (16 + rows)) 0 }; root = 0 };
+  tree = record { rows = rows; table = record { width = Long; words = replicate (columns Long * (first_row + rows)) 0 }; root = 0 };
   ended = 0;
-  flying = false;
+  in_flight = false;
   published = false;
-  lives = replicate (16 + rows) lives.New;
-  buried = replicate (16 + rows) false;
+  lives = replicate (first_row + rows) lives.New;
+  buried = replicate (first_row + rows) false;
   opened = 0;
   cleared = 0;
+  shared = false;
   scan = record { least = 0; by = None };
   scans = 0;
   scans_at_begin = 0;
@@ -98,8 +101,7 @@ is_draft (Buried call) = false
 -- the words in the slots of an inner row, which name its children
 abbrev pub names_of : List ℕ → ℕ → RowKind → List ℕ
 names_of w row kinds.Leaf = []
-names_of w row kinds.Inner = slice_range w (32 * row + 16) (32 * row + 32)
-names_of w row kinds.Gapped = slice_range w (32 * row + 10) (32 * row + 20)
+names_of w row kind = slice_range w (columns Long * row + slots_of Long kind) (columns Long * row + 2 * slots_of Long kind)
 
 abbrev pub enlivened_by : (List ℕ) → (ℕ → List Fate → List Fate) → Option RowKind → ℕ → List Fate → List Fate
 enlivened_by w below None row fates = fates
@@ -121,13 +123,13 @@ names_buried past fates (Some row) = buried_in past (slice_index_or fates row Ne
 -- the word names a row that the call in flight has buried
 abbrev pub buried_by : Sheet → Option ℕ → Bool
 buried_by s None = false
-buried_by s (Some row) = is_buried s row
+buried_by s (Some row) = is_buried s.buried row
 
 -- drafts may be reached by a word that is stored at the place
 abbrev pub opens : Sheet → Place → Bool
 opens s Root = true
-opens s (Slot row col) = buried_by s (named_row (word_at s row col))
+opens s (Slot row col) = buried_by s (named_row (word_at s.tree row col))
 
-abbrev pub IsPlaceIn : Sheet → Place → Type 0
-IsPlaceIn s Root = Unit {0}
-IsPlaceIn s (Slot row col) = IsPlace s row col
+abbrev pub IsPlaceIn : Rooted → Place → Type 0
+IsPlaceIn t Root = Unit {0}
+IsPlaceIn t (Slot row col) = IsPlace t row col

@@ -6,64 +6,63 @@ use Rattle.mt_base.specs.declared.kinds.Kind.{Kind}
 use Rattle.mt_base.specs.declared.ranges.Range.{Range}
 use Rattle.mt_base.specs.declared.calls.Call.{Call}
 use Rattle.mt_base.specs.declared.replies.Reply.{Reply}
-use Rattle.mt_base.specs.declared.replies.Reply.TheVariants.{NoNodes}
 use Rattle.mt_base.specs.declared.replies.Shortage.{Shortage}
 use Rattle.mt_base.specs.Width.{kind_width}
 use Rattle.mt_base.specs.Call.{acted}
 use Rattle.mt_base.specs.History.{Record}
-use Rattle.mt_base.specs.Nodes.{NeedsRows, IsShort}
+use Rattle.mt_base.specs.Nodes.{IsRefused}
 use Rattle.mt_layout.specs.declared.names.RowKind.{RowKind}
 use Rattle.mt_layout.specs.declared.spans.Span.{Span}
 use Rattle.mt_layout.specs.Rows.{row_in, named_kind, dead_mark}
+use Rattle.mt_layout.specs.Sizes.{first_row, slots_of}
 use Rattle.mt_layout.specs.Columns.{slot_column}
 use Rattle.mt_rows.specs.declared.rows.Life.{Life}
 use Rattle.mt_rows.specs.declared.rows.Life.TheVariants.{Draft, Live, Dead}
 use Rattle.mt_rows.specs.declared.rows.Place.{Place}
 use Rattle.mt_rows.specs.declared.rows.Place.TheVariants.{Root, Slot}
-use Rattle.mt_rows.specs.Spans.{slots_of, spans_in, root_span}
+use Rattle.mt_rows.specs.Spans.{spans_in, root_span}
 use Rattle.mt_rows.specs.Levels.{IsBelow, tally}
 use Rattle.mt_rows.specs.Trees.{map_in, reached_in, height_in}
-use Rattle.mt_rows.specs.Laws as laws
-use Rattle.mt_rows.specs.Sheet.{Caller, Tree, Sheet, IsPlace, life_of, is_buried, word_at, with_word}
+use Rattle.mt_rows.specs.Laws.{Tree, IsTree, IsLawful}
+use Rattle.mt_rows.specs.Sheet.{Caller, Rooted, Sheet, IsPlace, life_of, is_buried, word_at, with_word, limits_of}
 
 -- ---- the tree that words are
 
 -- the words as a tree of this kind
-abbrev pub tree_as : Kind → ℕ → Tree → laws.Tree
-tree_as kind rows t = record { rows = rows; kind = kind; table = t.table; root = t.root }
+abbrev pub tree_as : Kind → Rooted → Tree
+tree_as kind t = record { rows = t.rows; kind = kind; table = t.table; root = t.root }
 
--- rows of this kind: of the kind that they tell, where they tell one, and of its width
-pub record AreOfKind (s : Sheet) (kind : Kind) : Type 0 where
-  pub told : IfSome s.kind (λ k. k ≡ kind)
-  pub width : s.tree.table.width ≡ kind_width kind
+-- rows of this kind: of the kind that they tell, where they tell one
+abbrev pub IsTold : Option Kind → Kind → Type 0
+IsTold told kind = IfSome told (λ k. k ≡ kind)
 
 -- the words keep all laws but those of parents and gaps
-pub record IsTreeOf (s : Sheet) (kind : Kind) : Type 0 where
-  pub of_kind : AreOfKind s kind
-  pub words : laws.IsTree (tree_as kind s.rows s.tree)
+pub record IsTreeOf (t : Rooted) (kind : Kind) : Type 0 where
+  pub width : t.table.width ≡ kind_width kind
+  pub words : IsTree (tree_as kind t)
 
 -- the words are lawful
-pub record IsLawfulOf (s : Sheet) (kind : Kind) : Type 0 where
-  pub of_kind : AreOfKind s kind
-  pub words : laws.IsLawful (tree_as kind s.rows s.tree)
+pub record IsLawfulOf (t : Rooted) (kind : Kind) : Type 0 where
+  pub width : t.table.width ≡ kind_width kind
+  pub words : IsLawful (tree_as kind t)
 
-abbrev pub map_by : Tree → List Range
+abbrev pub map_by : Rooted → List Range
 map_by t = map_in t.table t.root
 
 -- ---- rows that are reached
 
-abbrev pub is_reached : Tree → ℕ → Bool
+abbrev pub is_reached : Rooted → ℕ → Bool
 is_reached t row = nat_lt 0 (tally (λ (r : ℕ). r == row) (reached_in t.table t.root))
 
-abbrev pub IsReached : Tree → ℕ → Type 0
+abbrev pub IsReached : Rooted → ℕ → Type 0
 IsReached t row = is_reached t row ≡ true
 
 -- Live rows are those that are reached from the root.
-abbrev pub LiveAreReached : Sheet → Type 0
-LiveAreReached s = (row : ℕ) → 16 ≤ row → row < 16 + s.rows → (life_of s row ≡ Live → IsReached s.tree row) × (IsReached s.tree row → life_of s row ≡ Live)
+abbrev pub LiveAreReached : Rooted → List Life → Type 0
+LiveAreReached t lives = (row : ℕ) → first_row ≤ row → row < first_row + t.rows → (life_of lives row ≡ Live → IsReached t row) × (IsReached t row → life_of lives row ≡ Live)
 
 -- the span is reached, so many levels above the leaves
-pub record StandsAt (t : Tree) (height : ℕ) (x : Span) : Type 0 where
+pub record StandsAt (t : Rooted) (height : ℕ) (x : Span) : Type 0 where
   pub depth : ℕ
   pub below : IsBelow t.table depth (root_span t.table t.root) x
   pub levels : depth + height + 1 ≡ height_in t.table t.root
@@ -73,7 +72,7 @@ abbrev pub SameHoles : List Span → List Span → Type 0
 SameHoles xs ys = map (λ (x : Span). x.word == 0) xs ≡ map (λ (y : Span). y.word == 0) ys
 
 -- a row that is reached before and after keeps its range, its level, and which of its slots are 0
-pub record KeepsPlace (t t' : Tree) (h h' : ℕ) (x x' : Span) : Type 0 where
+pub record KeepsPlace (t t' : Rooted) (h h' : ℕ) (x x' : Span) : Type 0 where
   pub height : h' ≡ h
   pub first : x'.first ≡ x.first
   pub last : x'.last ≡ x.last
@@ -82,7 +81,7 @@ pub record KeepsPlace (t t' : Tree) (h h' : ℕ) (x x' : Span) : Type 0 where
 -- ---- publish
 
 -- the slot column of an item of a row that is reached
-pub record IsSlotOf (t : Tree) (row col : ℕ) : Type 0 where
+pub record IsSlotOf (t : Rooted) (row col : ℕ) : Type 0 where
   pub depth : ℕ
   pub at : Span
   pub kind : RowKind
@@ -95,33 +94,34 @@ pub record IsSlotOf (t : Tree) (row col : ℕ) : Type 0 where
 
 abbrev pub IsPlaceToPublish : Sheet → Place → Type 0
 IsPlaceToPublish s Root = Unit {0}
-IsPlaceToPublish s (Slot row col) = IsPlace s row col × (life_of s row ≡ Live) × IsSlotOf s.tree row col
+IsPlaceToPublish s (Slot row col) = IsPlace s.tree row col × (life_of s.lives row ≡ Live) × IsSlotOf s.tree row col
 
 -- the tree after the word is stored at the place
-abbrev pub with_published : Tree → Place → ℕ → Tree
-with_published t Root word = record { table = t.table; root = word }
+abbrev pub with_published : Rooted → Place → ℕ → Rooted
+with_published t Root word = record { rows = t.rows; table = t.table; root = word }
 with_published t (Slot row col) word = with_word t row col word
 
 -- a row that is reached then was live, or is a draft without its dead mark
-abbrev pub IsKnown : Sheet → ℕ → Type 0
-IsKnown s row = (life_of s row ≡ Live) ⊎ ((life_of s row ≡ Draft) × (word_at s row 0 ≢ dead_mark row))
+abbrev pub IsKnown : Rooted → List Life → ℕ → Type 0
+IsKnown t lives row = (life_of lives row ≡ Live) ⊎ ((life_of lives row ≡ Draft) × (word_at t row 0 ≢ dead_mark row))
 
 -- what a publishing store makes of rows
-pub record Changes (s : Sheet) (t' : Tree) : Type 0 where
-  pub known : (row : ℕ) → IsReached t' row → IsKnown s row
+pub record Changes (s : Sheet) (t' : Rooted) : Type 0 where
+  pub known : (row : ℕ) → IsReached t' row → IsKnown s.tree s.lives row
   pub stay : (h h' : ℕ) (x x' : Span) → StandsAt s.tree h x → StandsAt t' h' x' → row_in x.word ≡ row_in x'.word → KeepsPlace s.tree t' h h' x x'
-  pub gone : (row : ℕ) → IsReached s.tree row → is_reached t' row ≡ false → is_buried s row ≡ true
-  pub buried : (row : ℕ) → 16 ≤ row → row < 16 + s.rows → is_buried s row ≡ true → IsReached s.tree row × (is_reached t' row ≡ false)
+  pub gone : (row : ℕ) → IsReached s.tree row → is_reached t' row ≡ false → is_buried s.buried row ≡ true
+  pub buried : (row : ℕ) → first_row ≤ row → row < first_row + s.tree.rows → is_buried s.buried row ≡ true → IsReached s.tree row × (is_reached t' row ≡ false)
 
 -- the whole condition of a publishing store, on a tree of this kind
 pub record MayPublish (kind : Kind) (s : Sheet) (place : Place) (word : ℕ) (call : Call) (reply : Reply) : Type 0 where
-  pub flying : s.flying ≡ true
+  pub in_flight : s.in_flight ≡ true
   pub before : s.published ≡ false
+  pub told : IsTold s.kind kind
   pub at : IsPlaceToPublish s place
-  pub live : LiveAreReached s
-  pub tree : IsTreeOf s kind
+  pub live : LiveAreReached s.tree s.lives
+  pub tree : IsTreeOf s.tree kind
   pub answer : acted kind (map_by s.tree) call ≡ (map_by (with_published s.tree place word), reply)
-  pub after : laws.IsTree (tree_as kind s.rows (with_published s.tree place word))
+  pub after : IsTree (tree_as kind (with_published s.tree place word))
   pub rows : Changes s (with_published s.tree place word)
 
 -- where records are told, one more: the caller's
@@ -129,68 +129,72 @@ abbrev pub with_record : Sheet → Call → Reply → Option (List Record)
 with_record s call reply = option_and_then (λ (c : Caller). option_map (λ (rs : List Record). rs ++ (record { pass = c.pass; call = call; reply = reply } ∷ [])) s.records) s.caller
 
 -- The drafts that are reached are live then, and the buried rows are dead by this call.
-abbrev pub life_after : Sheet → Tree → ℕ → Life
-life_after s t' row = if is_reached t' row then Live else (if is_buried s row then Dead (s.ended + 1) else life_of s row)
+abbrev pub life_after : Sheet → Rooted → ℕ → Life
+life_after s t' row = if is_reached t' row then Live else (if is_buried s.buried row then Dead (s.ended + 1) else life_of s.lives row)
 
 pub record Published (s s' : Sheet) (place : Place) (word : ℕ) (call : Call) (reply : Reply) : Type 0 where
   pub rest : s' ≡ record s { tree = with_published s.tree place word; published = true; lives = s'.lives; buried = s'.buried; records = with_record s call reply }
-  pub lives : (row : ℕ) → 16 ≤ row → row < 16 + s.rows → life_of s' row ≡ life_after s (with_published s.tree place word) row
-  pub buried : (row : ℕ) → 16 ≤ row → row < 16 + s.rows → is_buried s' row ≡ false
+  pub lives : (row : ℕ) → first_row ≤ row → row < first_row + s.tree.rows → life_of s'.lives row ≡ life_after s (with_published s.tree place word) row
+  pub buried : (row : ℕ) → first_row ≤ row → row < first_row + s.tree.rows → is_buried s'.buried row ≡ false
 
 -- ---- finish
 
-abbrev pub NoneBuried : Sheet → Type 0
-NoneBuried s = (row : ℕ) → 16 ≤ row → row < 16 + s.rows → is_buried s row ≡ false
+-- no row is buried
+abbrev pub NoneBuried : ℕ → List Bool → Type 0
+NoneBuried rows buried = (row : ℕ) → first_row ≤ row → row < first_row + rows → is_buried buried row ≡ false
 
--- a row that died after the least epoch at which the last scan found a section open
-pub record IsHeldBack (s : Sheet) (row : ℕ) : Type 0 where
+-- a row that died after the least epoch at which a scan found a section open
+pub record IsHeldBack (lives : List Life) (least : ℕ) (row : ℕ) : Type 0 where
   pub call : ℕ
-  pub dead : life_of s row ≡ Dead call
-  pub after : s.scan.least < call
+  pub dead : life_of lives row ≡ Dead call
+  pub after : least < call
 
--- A shortage is real: it tells the height and how many rows are reached, and so many rows are held back by the section
--- that a scan of this call found.
+-- a scan was made in the call in flight
+abbrev pub WasScanned : Sheet → Type 0
+WasScanned s = (s.scans_at_begin < s.scans) ⊎ (s.scans ≡ 2 ^ 64 - 1)
+
+-- A shortage is real: it tells the height and how many rows are reached, and so many rows are held back by the section that
+-- the last scan found.
 pub record IsCounted (s : Sheet) (short : Shortage) : Type 0 where
   pub need : short.need ≡ 3 * height_in s.tree.table s.tree.root + 1
   pub live : short.live ≡ length (reached_in s.tree.table s.tree.root)
   pub rows : List ℕ
   pub many : length rows ≡ short.held
   pub apart : AllPairs (λ r q. r ≢ q) rows
-  pub held : All (IsHeldBack s) rows
-  pub scanned : (s.scans_at_begin < s.scans) ⊎ (s.scans ≡ 2 ^ 64 - 1)
+  pub held : All (IsHeldBack s.lives s.scan.least) rows
   pub by : short.by ≡ (if nat_lt 0 short.held then s.scan.by else None)
 
--- a call that is refused for want of rows
-pub record IsRefused (kind : Kind) (s : Sheet) (call : Call) (reply : Reply) : Type 0 where
-  pub shortage : Shortage
-  pub answer : reply ≡ NoNodes shortage
-  pub needs : NeedsRows kind (map_by s.tree) call
-  pub short : IsShort s.rows s.opened s.ended (map_by s.tree) shortage
-  pub counted : IsCounted s shortage
+-- a call that is refused for want of rows, as a scan of this call found
+pub record IsFoundShort (kind : Kind) (s : Sheet) (call : Call) (reply : Reply) : Type 0 where
+  pub refused : IsRefused kind (limits_of s) (map_by s.tree) call reply
+  pub counted : IsCounted s refused.shortage
+  pub scanned : WasScanned s
 
 -- a call that published nothing leaves the map, by its reply or by a refusal
 pub record LeavesMap (kind : Kind) (s : Sheet) (call : Call) (reply : Reply) : Type 0 where
-  pub none_buried : NoneBuried s
-  pub of_kind : AreOfKind s kind
-  pub answer : (acted kind (map_by s.tree) call ≡ (map_by s.tree, reply)) ⊎ IsRefused kind s call reply
+  pub none_buried : NoneBuried s.tree.rows s.buried
+  pub told : IsTold s.kind kind
+  pub width : s.tree.table.width ≡ kind_width kind
+  pub answer : (acted kind (map_by s.tree) call ≡ (map_by s.tree, reply)) ⊎ IsFoundShort kind s call reply
 
 pub record MayFinish (kind : Kind) (s : Sheet) (call : Call) (reply : Reply) : Type 0 where
-  pub flying : s.flying ≡ true
+  pub in_flight : s.in_flight ≡ true
   pub kept : s.published ≡ false → LeavesMap kind s call reply
 
 abbrev pub finished : Sheet → Call → Reply → Sheet
-finished s call reply = record s { ended = s.ended + 1; flying = false; published = false; records = if s.published then s.records else with_record s call reply }
+finished s call reply = record s { ended = s.ended + 1; in_flight = false; published = false; records = if s.published then s.records else with_record s call reply }
 
 -- ---- plant
 
 -- rows of which none was used by a call
 pub record MayPlant (kind : Kind) (s : Sheet) (root : ℕ) : Type 0 where
-  pub idle : s.flying ≡ false
+  pub idle : s.in_flight ≡ false
   pub first : s.ended ≡ 0
   pub empty : s.tree.root ≡ 0
-  pub of_kind : AreOfKind s kind
-  pub lawful : laws.IsLawful (tree_as kind s.rows (record { table = s.tree.table; root = root }))
+  pub told : IsTold s.kind kind
+  pub lawful : IsLawfulOf (with_published s.tree Root root) kind
 
+-- the rows that are reached from the root word are live, and of the others all are as they were
 pub record Planted (s s' : Sheet) (root : ℕ) : Type 0 where
-  pub rest : s' ≡ record s { tree = record { table = s.tree.table; root = root }; lives = s'.lives; opened = length (reached_in s.tree.table root) }
-  pub lives : (row : ℕ) → 16 ≤ row → row < 16 + s.rows → life_of s' row ≡ (if is_reached s'.tree row then Live else life_of s row)
+  pub rest : s' ≡ record s { tree = with_published s.tree Root root; lives = s'.lives; opened = length (reached_in s.tree.table root) }
+  pub lives : (row : ℕ) → first_row ≤ row → row < first_row + s.tree.rows → life_of s'.lives row ≡ (if is_reached s'.tree row then Live else life_of s.lives row)

@@ -4,14 +4,16 @@ use Rattle.std.specs.Prelude.{◌≡◌, ◌≢◌, ◌⊎◌, ℕ, ◌+◌, ◌
 use Rattle.std.specs.Option.{option_map}
 use Rattle.mt_base.specs.declared.kinds.Kind.{Kind}
 use Rattle.mt_base.specs.declared.replies.Holder.{Holder}
-use Rattle.mt_base.specs.Width.{columns}
+use Rattle.mt_base.specs.Width.{columns, most_rows}
+use Rattle.mt_base.specs.Nodes.{Limits}
 use Rattle.mt_base.specs.History.{Record}
 use Rattle.mt_layout.specs.declared.names.RowKind.TheVariants.{Gapped}
 use Rattle.mt_layout.specs.Rows.{row_in, named_kind, dead_mark}
+use Rattle.mt_layout.specs.Sizes.{first_row, slots_of}
 use Rattle.mt_layout.specs.Columns.{gap_column}
 use Rattle.mt_layout.specs.declared.spans.Span.{Span}
-use Rattle.mt_rows.specs.Spans.{Table, column, base_of, slots_of, spans_in, root_span}
-use Rattle.mt_rows.specs.Levels.{IsBelow}
+use Rattle.mt_rows.specs.Spans.{Table, column, base_of, spans_in, root_span}
+use Rattle.mt_rows.specs.Levels.{IsBelow, one_if}
 use Rattle.mt_rows.specs.declared.rows.Life.{Life}
 use Rattle.mt_rows.specs.declared.rows.Life.TheVariants.{New, Draft, Live, Dead}
 use Rattle.mt_rows.specs.declared.rows.Scan.{Scan}
@@ -26,18 +28,18 @@ pub record Caller : Type 0 where
   pub standing : Option ℕ
   pub begun : ℕ
 
--- words and the root word
-pub record Tree : Type 0 where
+-- how many rows there are, their words, and the root word
+pub record Rooted : Type 0 where
+  pub rows : ℕ
   pub table : Table
   pub root : ℕ
 
 pub record Sheet : Type 0 where
-  -- how many rows there are, numbered from 16, and their words
-  pub rows : ℕ
-  pub tree : Tree
+  -- the rows with their words, and the root word
+  pub tree : Rooted
   -- the number of calls ended; whether a call is in flight, and whether it has published
   pub ended : ℕ
-  pub flying : Bool
+  pub in_flight : Bool
   pub published : Bool
   -- by the row's number: its life, and whether the call in flight has buried it
   pub lives : List Life
@@ -46,7 +48,8 @@ pub record Sheet : Type 0 where
   pub opened : ℕ
   -- a number that never falls: a row that is dead by a call up to it may be used again
   pub cleared : ℕ
-  -- the last scan's answer, how many there were, and how many at the last `begin`
+  -- whether others may read the rows; the last scan's answer, how many scans there were, and how many at the last `begin`
+  pub shared : Bool
   pub scan : Scan
   pub scans : ℕ
   pub scans_at_begin : ℕ
@@ -60,32 +63,45 @@ pub record Sheet : Type 0 where
 abbrev pub one_more : ℕ → ℕ
 one_more n = min (n + 1) (2 ^ 64 - 1)
 
-abbrev pub life_of : Sheet → ℕ → Life
-life_of s row = slice_index_or s.lives row New
+abbrev pub life_of : List Life → ℕ → Life
+life_of lives row = slice_index_or lives row New
 
-abbrev pub is_buried : Sheet → ℕ → Bool
-is_buried s row = slice_index_or s.buried row false
+abbrev pub is_buried : List Bool → ℕ → Bool
+is_buried buried row = slice_index_or buried row false
 
--- what every table of rows keeps: few enough rows to be named, a word for each column, and a life for each row, where
--- rows are numbered from 16
+-- what the calls on rows are limited by
+abbrev pub limits_of : Sheet → Limits
+limits_of s = record { rows = s.tree.rows; opened = s.opened; ended = s.ended; may_hold = s.shared }
+
+-- a dead row died by a call that has ended, or by the call in flight
+abbrev pub HasDied : ℕ → Bool → Life → Type 0
+HasDied ended in_flight New = Unit {0}
+HasDied ended in_flight Draft = Unit {0}
+HasDied ended in_flight Live = Unit {0}
+HasDied ended in_flight (Dead call) = (1 ≤ call) × (call ≤ ended + one_if in_flight)
+
+-- what every table of rows keeps: few enough rows to be named, a word for each column, and a life for each row
 pub record IsWhole (s : Sheet) : Type 0 where
-  pub few : s.rows ≤ 65504
-  pub words : length s.tree.table.words ≡ columns s.tree.table.width * (16 + s.rows)
-  pub lives : length s.lives ≡ 16 + s.rows
-  pub buried : length s.buried ≡ 16 + s.rows
+  pub few : s.tree.rows ≤ most_rows
+  pub words : length s.tree.table.words ≡ columns s.tree.table.width * (first_row + s.tree.rows)
+  pub lives : length s.lives ≡ first_row + s.tree.rows
+  pub buried : length s.buried ≡ first_row + s.tree.rows
   pub cleared : s.cleared ≤ s.ended
+  pub scans : s.scans_at_begin ≤ s.scans
+  pub dead : (row : ℕ) → HasDied s.ended s.in_flight (life_of s.lives row)
 
 -- a row and a column of the table
-pub record IsPlace (s : Sheet) (row col : ℕ) : Type 0 where
-  pub first : 16 ≤ row
-  pub last : row < 16 + s.rows
-  pub column : col < columns s.tree.table.width
+pub record IsPlace (t : Rooted) (row col : ℕ) : Type 0 where
+  pub first : first_row ≤ row
+  pub last : row < first_row + t.rows
+  pub column : col < columns t.table.width
 
-abbrev pub word_at : Sheet → ℕ → ℕ → ℕ
-word_at s row col = column s.tree.table row col
+abbrev pub word_at : Rooted → ℕ → ℕ → ℕ
+word_at t row col = column t.table row col
 
-abbrev pub with_word : Tree → ℕ → ℕ → ℕ → Tree
+abbrev pub with_word : Rooted → ℕ → ℕ → ℕ → Rooted
 with_word t row col word = record {
+  rows = t.rows;
   table = record { width = t.table.width; words = slice_set t.table.words (base_of t.table row + col) word };
   root = t.root;
 }
@@ -97,15 +113,19 @@ loaded s = record s { reads = option_map one_more s.reads }
 -- ---- begin and scan
 
 pub record MayBegin (s : Sheet) : Type 0 where
-  pub idle : s.flying ≡ false
+  pub idle : s.in_flight ≡ false
   pub room : s.ended < 2 ^ 62 - 1
 
 abbrev pub begun : Sheet → Sheet
-begun s = record s { flying = true; published = false; scans_at_begin = s.scans }
+begun s = record s { in_flight = true; published = false; scans_at_begin = s.scans }
 
--- the least epoch is that of the holder that is told; it is the greatest number where no section stands open
-abbrev pub IsScan : Scan → Type 0
-IsScan answer = ((answer.by ≡ None) × (answer.least ≡ 2 ^ 64 - 1)) ⊎ ((holder : Holder) × (answer.by ≡ Some holder) × (answer.least ≡ holder.epoch))
+-- What a scan may answer. The least epoch is that of the holder that is told; it is the greatest number where no section
+-- stands open. The holder is one of the table's passes, and not the caller where the caller has no section open. Where
+-- nobody else may read there is none.
+pub record IsScan (shared : Bool) (caller : Option Caller) (answer : Scan) : Type 0 where
+  pub least : ((answer.by ≡ None) × (answer.least ≡ 2 ^ 64 - 1)) ⊎ ((holder : Holder) × (answer.by ≡ Some holder) × (answer.least ≡ holder.epoch))
+  pub alone : shared ≡ false → answer.by ≡ None
+  pub pass : (c : Caller) (holder : Holder) → caller ≡ Some c → answer.by ≡ Some holder → (holder.pass < c.passes) × (c.standing ≡ None → holder.pass ≢ c.pass)
 
 -- after a scan with this answer; `cleared` may rise
 abbrev pub scanned : Sheet → Scan → ℕ → Sheet
@@ -126,10 +146,10 @@ drafted s row col word = record s { tree = with_word s.tree row col word; lives 
 -- ---- bury
 
 pub record MayBury (s : Sheet) (row : ℕ) : Type 0 where
-  pub flying : s.flying ≡ true
+  pub in_flight : s.in_flight ≡ true
   pub before : s.published ≡ false
-  pub at : IsPlace s row 0
-  pub live : life_of s row ≡ Live
+  pub at : IsPlace s.tree row 0
+  pub live : life_of s.lives row ≡ Live
 
 abbrev pub after_bury : Sheet → ℕ → Sheet
 after_bury s row = record s { tree = with_word s.tree row 0 (dead_mark row); buried = slice_set s.buried row true }
@@ -137,7 +157,7 @@ after_bury s row = record s { tree = with_word s.tree row 0 (dead_mark row); bur
 -- ---- tend
 
 -- the column is the gap column of an item of a row that is reached and has gaps
-pub record IsGapOf (t : Tree) (row col : ℕ) : Type 0 where
+pub record IsGapOf (t : Rooted) (row col : ℕ) : Type 0 where
   pub depth : ℕ
   pub at : Span
   pub slot : ℕ
@@ -148,9 +168,9 @@ pub record IsGapOf (t : Tree) (row col : ℕ) : Type 0 where
   pub column : col ≡ gap_column (slots_of t.table.width Gapped) slot
 
 pub record MayTend (s : Sheet) (row col word : ℕ) : Type 0 where
-  pub at : IsPlace s row col
-  pub live : life_of s row ≡ Live
-  pub kept : is_buried s row ≡ false
+  pub at : IsPlace s.tree row col
+  pub live : life_of s.lives row ≡ Live
+  pub kept : is_buried s.buried row ≡ false
   pub column : (col ≡ 0) ⊎ IsGapOf s.tree row col
   pub alive : col ≡ 0 → word ≢ dead_mark row
 

@@ -4,11 +4,11 @@ use Rattle.std.specs.Prelude.{ℕ, ◌+◌, ◌*◌, List, [], Option, Some, Non
 use Rattle.mt_base.specs.declared.kinds.Kind.{Kind}
 use Rattle.mt_base.specs.declared.kinds.Kind.TheVariants as trees
 use Rattle.mt_base.specs.declared.widths.Width.{Width}
-use Rattle.mt_base.specs.declared.widths.Width.TheVariants.{Long}
 use Rattle.mt_base.specs.Width.{columns, greatest}
 use Rattle.mt_layout.specs.declared.names.RowKind.{RowKind}
 use Rattle.mt_layout.specs.declared.names.RowKind.TheVariants as kinds
 use Rattle.mt_layout.specs.Rows.{row_in, named_kind}
+use Rattle.mt_layout.specs.Sizes.{slots_of, gaps_of}
 use Rattle.mt_layout.specs.Columns.{items_at}
 use Rattle.mt_layout.specs.declared.spans.Span.{Span}
 use Rattle.mt_layout.specs.Spans.{spans_from}
@@ -23,17 +23,6 @@ base_of t row = columns t.width * row
 
 abbrev pub column : Table → ℕ → ℕ → ℕ
 column t row c = slice_index t.words (base_of t row + c)
-
--- how many slots and gaps a row of this kind has
-abbrev pub slots_of : Width → RowKind → ℕ
-slots_of Long kinds.Leaf = 16
-slots_of Long kinds.Inner = 16
-slots_of Long kinds.Gapped = 10
-
-abbrev pub gaps_of : Width → RowKind → ℕ
-gaps_of Long kinds.Leaf = 0
-gaps_of Long kinds.Inner = 0
-gaps_of Long kinds.Gapped = 10
 
 -- the kind of the inner rows of a tree
 abbrev pub inner_kind : Kind → RowKind
@@ -54,4 +43,4 @@ spans_in t x = spans_by t (named_kind x.word) x
 
 -- the root's span: it covers every index
 abbrev pub root_span : Table → ℕ → Span
-root_span t root = record { first = 0; last = greatest t.width; word = root; gap = 0 }
+root_span t root = record { first = 0; last = greatest t.width; word = root }

@@ -3,16 +3,13 @@
 use Rattle.std.specs.Prelude.{ℕ, zero, suc, ◌+◌, List, [], ◌∷◌, Option, Some, None}
 use Rattle.std.specs.List.{flat_map}
 use Rattle.mt_base.specs.declared.ranges.Range.{Range}
+use Rattle.mt_base.specs.Width.{deepest}
 use Rattle.mt_layout.specs.declared.names.RowKind.{RowKind}
 use Rattle.mt_layout.specs.declared.names.RowKind.TheVariants.{Leaf, Inner, Gapped}
 use Rattle.mt_layout.specs.Rows.{row_in, named_kind}
 use Rattle.mt_layout.specs.declared.spans.Span.{Span}
 use Rattle.mt_layout.specs.Spans.{leaf_range}
 use Rattle.mt_rows.specs.Spans.{Table, spans_in, root_span}
-
--- no row stands deeper than this many levels
-abbrev pub deepest : ℕ
-deepest = 9
 
 -- what a row gives: for a leaf by its spans, for an inner row by its children
 abbrev pub by_kind : {A : Type 0} → Option RowKind → List A → List A → List A

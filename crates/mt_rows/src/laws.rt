@@ -84,15 +84,15 @@ pub fn one_store_replaces_the_root()
 /// A draft, a burying and a new parent word leave what stands in every other row, and a burying or a parent word what
 /// stands in the row itself.
 pub fn writes_leave_other_rows()
-    ensures draft { (s : Sheet) (row col word : ℕ) (x : Span) → IsPlace s row col → row_in x.word ≢ row → SameSpans s.tree.table (drafted s row col word).tree.table x }
-    ensures bury { (s : Sheet) (row : ℕ) (x : Span) → IsPlace s row 0 → SameSpans s.tree.table (after_bury s row).tree.table x }
-    ensures tend { (s : Sheet) (row word : ℕ) (x : Span) → IsPlace s row 0 → SameSpans s.tree.table (tended s row 0 word).tree.table x }
+    ensures draft { (s : Sheet) (row col word : ℕ) (x : Span) → IsPlace s.tree row col → row_in x.word ≢ row → SameSpans s.tree.table (drafted s row col word).tree.table x }
+    ensures bury { (s : Sheet) (row : ℕ) (x : Span) → IsPlace s.tree row 0 → SameSpans s.tree.table (after_bury s row).tree.table x }
+    ensures tend { (s : Sheet) (row word : ℕ) (x : Span) → IsPlace s.tree row 0 → SameSpans s.tree.table (tended s row 0 word).tree.table x }
 {}
 
 /// A store of an entry over just the indexes of a range may be published by one store of its slot, and takes no row.
 pub fn an_exact_store_may_be_published()
-    ensures { (kind : Kind) (s : Sheet) (h slot entry row col : ℕ) (leaf item : Span) → IsWhole s → s.flying ≡ true → s.published ≡ false → LiveAreReached s → NoneBuried s → AreOfKind s kind
-        → Stands (tree_as kind s.rows s.tree) h → IsSlotAt (tree_as kind s.rows s.tree) h leaf slot item → row ≡ row_in leaf.word → col ≡ slot_column (slots_of s.tree.table.width (kind_at kind 0)) slot
+    ensures { (kind : Kind) (s : Sheet) (h slot entry row col : ℕ) (leaf item : Span) → IsWhole s → s.in_flight ≡ true → s.published ≡ false → LiveAreReached s.tree s.lives → NoneBuried s.tree.rows s.buried → AreOfKind s.kind s.tree.table.width kind
+        → Stands (tree_as kind s.tree.rows s.tree) h → IsSlotAt (tree_as kind s.tree.rows s.tree) h leaf slot item → row ≡ row_in leaf.word → col ≡ slot_column (slots_of s.tree.table.width (kind_at kind 0)) slot
         → item.word ≢ 0 → entry ≢ 0 → reserved entry ≡ false
         → MayPublish kind s (Slot row col) entry (Store item.first item.last entry) reply.Ok }
 {}

@@ -39,7 +39,7 @@ pub struct PlainRows {
     root: u64,
     fates: Vec<Fate>,
     ended: u64,
-    flying: bool,
+    in_flight: bool,
     published: bool,
     opened: u64,
     cleared: u64,
@@ -178,7 +178,7 @@ impl PlainRows {
             root: 0,
             fates: vec![in alloc; Fate::New; numbers]?,
             ended: 0,
-            flying: false,
+            in_flight: false,
             published: false,
             opened: 0,
             cleared: 0,
@@ -199,7 +199,6 @@ impl PlainRows {
             first: 0,
             last: top(self.width),
             word: root,
-            gap: 0,
         };
         self.opened = settle(
             self.words.as_slice(),
@@ -256,7 +255,7 @@ impl Rows for PlainRows {
     }
 
     fn begin(&mut self) -> u64 {
-        self.flying = true;
+        self.in_flight = true;
         self.published = false;
         self.scans_at_begin = self.scans;
         self.ended + 1
@@ -308,7 +307,7 @@ impl Rows for PlainRows {
 
     fn finish(&mut self, _call: &Call, _reply: &Reply) {
         self.ended += 1;
-        self.flying = false;
+        self.in_flight = false;
         self.published = false;
     }
 }

@@ -107,7 +107,6 @@ fn root_span(root: u64) -> Span
         first: 0,
         last: top(Width::Long),
         word: root,
-        gap: 0,
     }
 }
 

@@ -50,8 +50,8 @@ pub trait Rows {
 
     /// A column of a row.
     fn load(&mut self, row: u32, col: u32) -> u64
-        requires { IsPlace (sheet self.old) row col }
-        ensures word { result ≡ word_at (sheet self.old) row col }
+        requires { IsPlace (sheet self.old).tree row col }
+        ensures word { result ≡ word_at (sheet self.old).tree row col }
         ensures rest { sheet self.new ≡ loaded (sheet self.old) };
 
     /// The root word.
@@ -74,8 +74,8 @@ pub trait Rows {
 
     /// Writes a column of a row that may be written anew. The row is then a draft.
     fn draft(&mut self, row: u32, col: u32, word: u64)
-        requires place { IsPlace (sheet self.old) row col }
-        requires free { IsFree (sheet self.old).cleared (life_of (sheet self.old) row) }
+        requires place { IsPlace (sheet self.old).tree row col }
+        requires free { IsFree (sheet self.old).cleared (life_of (sheet self.old).lives row) }
         ensures { sheet self.new ≡ drafted (sheet self.old) row col word };
 
     /// Stores the dead mark of a live row that the call in flight replaces.

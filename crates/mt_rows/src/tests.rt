@@ -129,8 +129,8 @@ fn rows_in_memory(rt: HostRuntime) -> Result<(), Fail> {
 
 /// Drafts each column of a row.
 fn draft_row(rows: &mut PlainRows, row: u32, words: &[u64; 32])
-    requires place { IsPlace rows.old row 0 }
-    requires free { IsFree rows.old.cleared (life_of rows.old row) }
+    requires place { IsPlace rows.old.tree row 0 }
+    requires free { IsFree rows.old.cleared (life_of rows.old.lives row) }
     ensures { rows.new ≡ fold (λ s col. drafted s row col (slice_index words.now col)) rows.old (range_with_len 0 32) }
 {
     for col in 0..32 {

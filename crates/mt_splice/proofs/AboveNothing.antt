@@ -115,7 +115,7 @@ module _ (b : Before) (start : Start) (s s' : Sheet) (book book' : Book) (w w' :
     paths = may.paths;
     yet = gone_below start w' upper far.high next_levels (λ p. let gone = far.buried.gone p in let were = may.were p in omega arith);
     of_kind = may.under.case.lawful.of_kind;
-    flying = may.under.case.flying;
+    in_flight = may.under.case.in_flight;
     unpublished = may.under.case.unpublished;
     call = may.in_call;
   }
@@ -188,7 +188,7 @@ module _ (b : Before) (start : Start) (s : Sheet) (book : Book) (w : Work) (made
     where
       found : (items : List Item) → map (λ (x : Item). x.word) items ≡ 0 ∷ [] → (hole : Span) × (spans_from (begin_of left depth) items ≡ hole ∷ []) × (hole.word ≡ 0)
       found [] holes = let one = ap length holes in absurd (omega (arith, one))
-      found (x ∷ []) holes = (record { first = begin_of left depth; last = x.last; word = x.word; gap = x.gap }, refl, head_is x.word 0 holes)
+      found (x ∷ []) holes = (record { first = begin_of left depth; last = x.last; word = x.word }, refl, head_is x.word 0 holes)
         where
           head_is : (m n : ℕ) → m ∷ [] ≡ n ∷ [] → m ≡ n
           head_is m n same = cc
@@ -220,7 +220,7 @@ module _ (b : Before) (start : Start) (s : Sheet) (book : Book) (w : Work) (made
     paths = may.paths;
     yet = λ p. subst (λ (d : ℕ). tally (p 0) (rows_at start.tree d) + passing p w.gone ≤ times_in p start.tree start.height) may.levels (none_gone start w may.none_gone p);
     of_kind = may.under.case.lawful.of_kind;
-    flying = may.under.case.flying;
+    in_flight = may.under.case.in_flight;
     unpublished = may.under.case.unpublished;
     call = may.in_call;
   }
@@ -260,9 +260,9 @@ module _ (b : Before) (start : Start) (s : Sheet) (book : Book) (w : Work) (made
       pub may_end_now : IsBook book₂ → MayEnd end_now s₂ made Root 0 call reply
       may_end_now sound = record {
         range = may.under.case.range;
-        flying = may.under.case.flying;
-        unpublished = may.under.case.unpublished;
         in_flight = may.under.case.in_flight;
+        unpublished = may.under.case.unpublished;
+        numbered = may.under.case.numbered;
         was = may.under.case.was;
         lawful = may.under.case.lawful;
         progress = above.under.progress;

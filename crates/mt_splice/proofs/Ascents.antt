@@ -85,13 +85,13 @@ module _ (start : Start) (w : Work) (s : Sheet) (left right : List PathStep) (de
   pub right_deep : depth < length right
   right_deep = deep_enough start w holds right to climbed.paths.within climbed.paths.is_right depth (suc height) levels_here
 
-  pub left_number : (16 ≤ (step_at left depth).row) × ((step_at left depth).row < 16 + s.rows)
+  pub left_number : (first_row ≤ (step_at left depth).row) × ((step_at left depth).row < first_row + s.tree.rows)
   left_number =
       let number = row_number start w holds left from from_within climbed.paths.is_left depth (suc height) levels_here in
       let rows = may.is_now.rows in
       (number.0, (let below = number.1 in omega arith))
 
-  pub right_number : (16 ≤ (step_at right depth).row) × ((step_at right depth).row < 16 + s.rows)
+  pub right_number : (first_row ≤ (step_at right depth).row) × ((step_at right depth).row < first_row + s.tree.rows)
   right_number =
       let number = row_number start w holds right to climbed.paths.within climbed.paths.is_right depth (suc height) levels_here in
       let rows = may.is_now.rows in

@@ -63,9 +63,9 @@ replace_with : (kind : Kind) (s : Sheet) (book : Book) (left : List PathStep) (f
 replace_with kind s book left first last entry number call reply reads may = record {
   range = may.range;
   room = may.room;
-  flying = may.flying;
-  before = may.before;
   in_flight = may.in_flight;
+  before = may.before;
+  numbered = may.numbered;
   none_buried = may.none_buried;
   live = may.live;
   booked = record { sound = may.booked.sound; rows = may.booked.rows; out = may.booked.out; reached = may.booked.reached; spare = may.booked.spare; stamps = may.booked.stamps };
@@ -83,13 +83,13 @@ replace_if_read kind s s' book left first last entry number call reply reads may
 
 module _ (kind : Kind) (s : Sheet) (book : Book) (left right : List PathStep) (first last entry number : ℕ) (call : Call) (reply : Reply)
     (may : MayReplace kind s book left first last entry number call reply) (is_right : right ≡ path_in s.tree.table s.tree.root last) where
-  lawful_range : IsLawfulOf s trees.Range
-  lawful_range = subst (IsLawfulOf s) may.range may.lawful
+  lawful_range : IsLawfulOf s.tree trees.Range
+  lawful_range = subst (IsLawfulOf s.tree) may.range may.lawful
 
   -- the paths to the ends of the store
   pub ends_are : AreEnds s left right first last
   ends_are = record {
-    tree = record { of_kind = lawful_range.of_kind; words = tree_if_lawful (tree_as trees.Range s.rows s.tree) lawful_range.words };
+    tree = record { of_kind = lawful_range.of_kind; words = tree_if_lawful (tree_as trees.Range s.tree.rows s.tree) lawful_range.words };
     order = may.store.order;
     within = may.store.within;
     left_path = may.left_path;
@@ -101,9 +101,9 @@ module _ (kind : Kind) (s : Sheet) (book : Book) (left right : List PathStep) (f
   may_splice items items' min is_region is_min is_edited = record {
     range = may.range;
     room = may.room;
-    flying = may.flying;
-    before = may.before;
     in_flight = may.in_flight;
+    before = may.before;
+    numbered = may.numbered;
     none_buried = may.none_buried;
     live = may.live;
     booked = may.booked;
@@ -156,8 +156,8 @@ reads_on a b c before behind = behind ∙ ap (λ (x : Sheet). record x { reads =
 -- ---- a call begins
 
 -- 28 rows are enough for a tree of nine levels
-pub room_enough : (s : Sheet) (book : Book) → IsLawfulOf s trees.Range → 28 ≤ length book.free → 3 * height_in s.tree.table s.tree.root + 1 ≤ length book.free
-room_enough s book lawful many = let low = low_tree (tree_as trees.Range s.rows s.tree) lawful.words in omega arith
+pub room_enough : (s : Sheet) (book : Book) → IsLawfulOf s.tree trees.Range → 28 ≤ length book.free → 3 * height_in s.tree.table s.tree.root + 1 ≤ length book.free
+room_enough s book lawful many = let low = low_tree (tree_as trees.Range s.tree.rows s.tree) lawful.words in omega arith
 
 -- the number of a call that has begun
 pub number_now : (s₀ s₁ s₂ : Sheet) (number : ℕ) → s₁ ≡ begun s₀ → OnlyReads s₁ s₂ → number ≡ s₀.ended + 1 → number ≡ s₂.ended + 1
@@ -169,13 +169,13 @@ begun_may : (s : Sheet) (book : Book) (reads : _) (left : List PathStep) (first 
 begun_may s book reads left first last entry number call reply ready is room store some path = record {
   range = refl;
   room = room;
-  flying = refl;
+  in_flight = refl;
   before = refl;
-  in_flight = is;
+  numbered = is;
   none_buried = ready.none_buried;
   live = ready.live;
   booked =
-      subst (IsBookOf (record (begun s) { reads = reads }) book) (sym is)
+      subst (IsBookOf (record (begun s) { reads = reads }).tree (record (begun s) { reads = reads }).lives (record (begun s) { reads = reads }).cleared book) (sym is)
       (record { sound = ready.booked.sound; rows = ready.booked.rows; out = ready.booked.out; reached = ready.booked.reached; spare = ready.booked.spare; stamps = ready.booked.stamps });
   lawful = record { of_kind = record { told = ready.lawful.of_kind.told; width = ready.lawful.of_kind.width }; words = ready.lawful.words };
   store = store;
@@ -216,14 +216,14 @@ module _ (s s' s″ : Sheet) (book book' : Book) (number : ℕ) (call : Call) (r
     idle = refl;
     lawful = record {
       of_kind = record { told = spliced.tree.of_kind.told; width = spliced.tree.of_kind.width };
-      words = lawful_by_parents (tree_as trees.Range s'.rows s'.tree) refl spliced.parents;
+      words = lawful_by_parents (tree_as trees.Range s'.tree.rows s'.tree) refl spliced.parents;
     };
     live = spliced.live;
     none_buried = spliced.none_buried;
     booked =
         let booked = spliced.booked in
         let stamp : number + 1 ≡ s'.ended + 1 + 1 = (let same = ended_is in omega arith) in
-        subst (IsBookOf done book') stamp (record { sound = booked.sound; rows = booked.rows; out = booked.out; reached = booked.reached; spare = booked.spare; stamps = booked.stamps });
+        subst (IsBookOf done.tree done.lives done.cleared book') stamp (record { sound = booked.sound; rows = booked.rows; out = booked.out; reached = booked.reached; spare = booked.spare; stamps = booked.stamps });
   }
 
   pub ready_again : IsBetweenCalls s″ book'
@@ -254,13 +254,13 @@ ready_if_read s s' book reads ready = subst (λ (x : Sheet). IsBetweenCalls x bo
 begun_clear : (s : Sheet) (book : Book) (number : ℕ) → IsBetweenCalls s book → number ≡ s.ended + 1 → s.tree.root ≢ 0 → MayClear trees.Range (begun s) book number Clear reply.Ok
 begun_clear s book number ready is some = record {
   range = refl;
-  flying = refl;
+  in_flight = refl;
   before = refl;
-  in_flight = is;
+  numbered = is;
   none_buried = ready.none_buried;
   live = ready.live;
   booked =
-      subst (IsBookOf (begun s) book) (sym is) (record { sound = ready.booked.sound; rows = ready.booked.rows; out = ready.booked.out; reached = ready.booked.reached; spare = ready.booked.spare; stamps = ready.booked.stamps });
+      subst (IsBookOf (begun s).tree (begun s).lives (begun s).cleared book) (sym is) (record { sound = ready.booked.sound; rows = ready.booked.rows; out = ready.booked.out; reached = ready.booked.reached; spare = ready.booked.spare; stamps = ready.booked.stamps });
   lawful = record { of_kind = record { told = ready.lawful.of_kind.told; width = ready.lawful.of_kind.width }; words = ready.lawful.words };
   some = some;
   answer = refl;

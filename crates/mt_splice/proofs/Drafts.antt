@@ -20,9 +20,9 @@ pub record AreDraftedUpTo (s s' : Sheet) (row : ℕ) (words : List ℕ) (done : 
   pub others : (r c : ℕ) → r ≢ row → c < columns s.tree.table.width → column s'.tree.table r c ≡ column s.tree.table r c
   pub none : done ≡ 0 → s'.lives ≡ s.lives
   pub life : 0 < done → s'.lives ≡ slice_set s.lives row Draft
-  pub free : IsFree s.cleared (life_of s' row)
+  pub free : IsFree s.cleared (life_of s'.lives row)
 
-pub none_drafted : (s : Sheet) (row : ℕ) (words : List ℕ) → IsFree s.cleared (life_of s row) → AreDraftedUpTo s s row words 0
+pub none_drafted : (s : Sheet) (row : ℕ) (words : List ℕ) → IsFree s.cleared (life_of s.lives row) → AreDraftedUpTo s s row words 0
 none_drafted s row words free = record {
   rest = refl;
   root = refl;
@@ -68,9 +68,9 @@ set_twice (y ∷ l) (suc i) x = ap (λ (t : List Life). y ∷ t) (set_twice l i 
 draft_is_free : (cleared : ℕ) (lives : List Life) (row : ℕ) → row < length lives → IsFree cleared (slice_index_or (set lives row Draft) row New)
 draft_is_free cleared lives row within = rw (get_or-set_same lives row Draft New within) tt
 
-module _ (s t : Sheet) (row i word : ℕ) (words : List ℕ) (whole : IsWhole s) (in_table : row < 16 + s.rows) (within : i < columns s.tree.table.width)
+module _ (s t : Sheet) (row i word : ℕ) (words : List ℕ) (whole : IsWhole s) (in_table : row < first_row + s.tree.rows) (within : i < columns s.tree.table.width)
     (is : word ≡ slice_index words i) (done : AreDraftedUpTo s t row words i) where
-  size_now : length t.tree.table.words ≡ columns t.tree.table.width * (16 + s.rows)
+  size_now : length t.tree.table.words ≡ columns t.tree.table.width * (16 + s.tree.rows)
   size_now = rw (done.size, done.width) whole.words
 
   within_now : i < columns t.tree.table.width
@@ -78,7 +78,7 @@ module _ (s t : Sheet) (row i word : ℕ) (words : List ℕ) (whole : IsWhole s)
 
   own_now : (c : ℕ) → c < i + 1 → column (drafted t row i word).tree.table row c ≡ slice_index words c
   own_now c below = ⊎_elim (λ (same : c ≡ i). subst (λ (k : ℕ). column (drafted t row i word).tree.table row k ≡ slice_index words k) (sym same)
-      (same_column t.tree.table.width t.tree.table.words row (16 + s.rows) i word within_now in_table size_now ∙ is))
+      (same_column t.tree.table.width t.tree.table.words row (16 + s.tree.rows) i word within_now in_table size_now ∙ is))
       (λ (other : c ≢ i). other_column t.tree.table.width t.tree.table.words row i word c other ∙ done.own c (omega (arith, other))) (equal_or_not c i)
 
   lives_now : set t.lives row Draft ≡ set s.lives row Draft

@@ -93,14 +93,14 @@ module _ (t : laws.Tree) (words : List ℕ) (o : Option ℕ) (range : t.kind ≡
 -- what has become of the rows and the words when the word is published, and parent words are written
 pub record Outcome (f : Finish) (s' : Sheet) : Type 0 where
   pub rest : s' ≡ record f.end.before.sheet { tree = s'.tree; published = true; lives = s'.lives; buried = s'.buried; records = with_record f.end.before.sheet f.call f.reply; reads = s'.reads }
-  pub stands : StandsAs (tree_as f.end.before.kind f.end.before.sheet.rows s'.tree) f.end.new
+  pub stands : StandsAs (tree_as f.end.before.kind f.end.before.sheet.tree.rows s'.tree) f.end.new
   pub width : s'.tree.table.width ≡ f.end.before.sheet.tree.table.width
   pub root : s'.tree.root ≡ (published f).root
   pub map : map_by s'.tree ≡ f.end.start.map
   pub reached : (row : ℕ) → is_reached s'.tree row ≡ is_reached (published f) row
-  pub lives : (row : ℕ) → 16 ≤ row → row < 16 + f.end.before.sheet.rows → life_of s' row ≡ life_after f.sheet (published f) row
-  pub buried : (row : ℕ) → 16 ≤ row → row < 16 + f.end.before.sheet.rows → is_buried s' row ≡ false
-  pub at : (row col : ℕ) → f.place ≡ Slot row col → word_at s' row col ≡ f.word
+  pub lives : (row : ℕ) → first_row ≤ row → row < first_row + f.end.before.sheet.tree.rows → life_of s'.lives row ≡ life_after f.sheet (published f) row
+  pub buried : (row : ℕ) → first_row ≤ row → row < first_row + f.end.before.sheet.tree.rows → is_buried s'.buried row ≡ false
+  pub at : (row col : ℕ) → f.place ≡ Slot row col → word_at s'.tree row col ≡ f.word
   pub kept : (row col : ℕ) → 0 < col → col < columns f.end.before.sheet.tree.table.width → column s'.tree.table row col ≡ column (published f).table row col
 
 some_slots : (w : Width) (kind : RowKind) (i : ℕ) → 0 < slot_column (slots_of w kind) i
@@ -126,10 +126,10 @@ module _ (f : Finish) (s₁ s₂ : Sheet) (done : Published f.sheet s₁ f.place
   width₁ (Slot row col) = refl
 
   abbrev t₁ : laws.Tree
-  t₁ = tree_as f.end.before.kind f.end.before.sheet.rows s₁.tree
+  t₁ = tree_as f.end.before.kind f.end.before.sheet.tree.rows s₁.tree
 
   abbrev t₂ : laws.Tree
-  t₂ = tree_with (tree_as f.end.before.kind f.end.before.sheet.rows s₁.tree) s₂.tree.table.words
+  t₂ = tree_with (tree_as f.end.before.kind f.end.before.sheet.tree.rows s₁.tree) s₂.tree.table.words
 
   tree₂ : s₂.tree ≡ words_of t₂
   tree₂ = λ i. record { table = record { width = only.width i; words = s₂.tree.table.words }; root = only.root i }
@@ -138,7 +138,7 @@ module _ (f : Finish) (s₁ s₂ : Sheet) (done : Published f.sheet s₁ f.place
   keep r c above within = sym (ap (λ (v : Tree). column v.table r c) tree₂) ∙ only.kept r c above within
 
   stands₁ : StandsAs t₁ f.end.new
-  stands₁ = subst (λ (v : Tree). StandsAs (tree_as f.end.before.kind f.end.before.sheet.rows v) f.end.new) (sym tree₁) (stands_later f)
+  stands₁ = subst (λ (v : Tree). StandsAs (tree_as f.end.before.kind f.end.before.sheet.tree.rows v) f.end.new) (sym tree₁) (stands_later f)
 
   -- the sheet at the start, but for what the writes have changed
   before_is : f.sheet ≡ record f.end.before.sheet { tree = f.sheet.tree; lives = f.sheet.lives; buried = f.sheet.buried; reads = f.sheet.reads }
@@ -161,25 +161,25 @@ module _ (f : Finish) (s₁ s₂ : Sheet) (done : Published f.sheet s₁ f.place
       ∙ (ap (λ (x : Sheet). record x { tree = s₂.tree; reads = s₂.reads }) published_is
       ∙ (λ i. record f.end.before.sheet { tree = s₂.tree; published = true; lives = lives i; buried = buried i; records = with_record f.end.before.sheet f.call f.reply; reads = s₂.reads }))
 
-  word_in : (place : Place) → IsPlaceToPublish f.sheet place → (row col : ℕ) → place ≡ Slot row col → word_at (record s₁ { tree = with_published f.sheet.tree place f.word }) row col ≡ f.word
+  word_in : (place : Place) → IsPlaceToPublish f.sheet place → (row col : ℕ) → place ≡ Slot row col → word_at (record s₁ { tree = with_published f.sheet.tree place f.word }).tree row col ≡ f.word
   word_in Root at row col is = absurd (cc)
   word_in (Slot r c) at row col is =
       let rows : r ≡ row = cc in let cols : c ≡ col = cc in
       (λ i. column (with_published f.sheet.tree (Slot r c) f.word).table (sym rows i) (sym cols i))
-      ∙ same_column f.sheet.tree.table.width f.sheet.tree.table.words r (16 + f.sheet.rows) c f.word at.0.column at.0.last (progress f).whole.words
+      ∙ same_column f.sheet.tree.table.width f.sheet.tree.table.words r (16 + f.sheet.tree.rows) c f.word at.0.column at.0.last (progress f).whole.words
 
   pub outcome : Outcome f s₂
   outcome = record {
     rest = rest₂;
-    stands = subst (λ (v : Tree). StandsAs (tree_as f.end.before.kind f.end.before.sheet.rows v) f.end.new) (sym tree₂) (other_stands t₁ s₂.tree.table.words f.end.new f.may.range keep stands₁);
+    stands = subst (λ (v : Tree). StandsAs (tree_as f.end.before.kind f.end.before.sheet.tree.rows v) f.end.new) (sym tree₂) (other_stands t₁ s₂.tree.table.words f.end.new f.may.range keep stands₁);
     width = only.width ∙ (ap (λ (v : Tree). v.table.width) tree₁ ∙ (width₁ f.place ∙ (progress f).width));
     root = only.root ∙ ap (λ (v : Tree). v.root) tree₁;
     map = ap map_by tree₂ ∙ (other_map t₁ s₂.tree.table.words f.end.new f.may.range keep stands₁ ∙ (ap map_by tree₁ ∙ map_later f));
     reached = λ row. ap (λ (v : Tree). is_reached v row) tree₂ ∙ (other_reached t₁ s₂.tree.table.words f.end.new f.may.range keep stands₁ row ∙ ap (λ (v : Tree). is_reached v row) tree₁);
     lives = λ row first last.
-        ap (λ (x : Sheet). life_of x row) later_is ∙ done.lives row first (subst (λ (n : ℕ). row < 16 + n) (sym (rows_same f)) last);
+        ap (λ (x : Sheet). life_of x.lives row) later_is ∙ done.lives row first (subst (λ (n : ℕ). row < first_row + n) (sym (rows_same f)) last);
     buried = λ row first last.
-        ap (λ (x : Sheet). is_buried x row) later_is ∙ done.buried row first (subst (λ (n : ℕ). row < 16 + n) (sym (rows_same f)) last);
+        ap (λ (x : Sheet). is_buried x.buried row) later_is ∙ done.buried row first (subst (λ (n : ℕ). row < first_row + n) (sym (rows_same f)) last);
     kept = λ row col above within.
         only.kept row col above (subst (λ (v : Width). col < columns v) (sym (ap (λ (v : Tree). v.table.width) tree₁ ∙ (width₁ f.place ∙ (progress f).width))) within)
         ∙ ap (λ (v : Tree). column v.table row col) tree₁;

@@ -38,17 +38,17 @@ use Rattle.mt_splice.proofs.EndAfter.{Outcome, above_in}
 use Rattle.mt_splice.proofs.EndPublish as ends
 
 pub life_if_reached : (s : Sheet) (t : Tree) (row : ℕ) → is_reached t row ≡ true → life_after s t row ≡ Live
-life_if_reached s t row is = ap (λ (c : Bool). if c then Live else (if is_buried s row then Dead (s.ended + 1) else life_of s row)) is
+life_if_reached s t row is = ap (λ (c : Bool). if c then Live else (if is_buried s.buried row then Dead (s.ended + 1) else life_of s.lives row)) is
 
-pub life_if_buried : (s : Sheet) (t : Tree) (row : ℕ) → is_reached t row ≡ false → is_buried s row ≡ true → life_after s t row ≡ Dead (s.ended + 1)
+pub life_if_buried : (s : Sheet) (t : Tree) (row : ℕ) → is_reached t row ≡ false → is_buried s.buried row ≡ true → life_after s t row ≡ Dead (s.ended + 1)
 life_if_buried s t row not is =
-    ap (λ (c : Bool). if c then Live else (if is_buried s row then Dead (s.ended + 1) else life_of s row)) not
-    ∙ ap (λ (c : Bool). if c then Dead (s.ended + 1) else life_of s row) is
+    ap (λ (c : Bool). if c then Live else (if is_buried s.buried row then Dead (s.ended + 1) else life_of s.lives row)) not
+    ∙ ap (λ (c : Bool). if c then Dead (s.ended + 1) else life_of s.lives row) is
 
-life_if_kept : (s : Sheet) (t : Tree) (row : ℕ) → is_reached t row ≡ false → is_buried s row ≡ false → life_after s t row ≡ life_of s row
+life_if_kept : (s : Sheet) (t : Tree) (row : ℕ) → is_reached t row ≡ false → is_buried s.buried row ≡ false → life_after s t row ≡ life_of s.lives row
 life_if_kept s t row not none =
-    ap (λ (c : Bool). if c then Live else (if is_buried s row then Dead (s.ended + 1) else life_of s row)) not
-    ∙ ap (λ (c : Bool). if c then Dead (s.ended + 1) else life_of s row) none
+    ap (λ (c : Bool). if c then Live else (if is_buried s.buried row then Dead (s.ended + 1) else life_of s.lives row)) not
+    ∙ ap (λ (c : Bool). if c then Dead (s.ended + 1) else life_of s.lives row) none
 
 -- a spare row is not live
 spare_not_live : (cleared : ℕ) (life : Life) → IsSpare cleared life → life ≢ Live
@@ -78,25 +78,25 @@ module _ (f : ends.Finish) (s' : Sheet) (o : Outcome f s') where
   abbrev book : Book
   book = f.end.book
 
-  rows' : s'.rows ≡ b.sheet.rows
-  rows' = ap (λ (x : Sheet). x.rows) o.rest
+  rows' : s'.tree.rows ≡ b.sheet.tree.rows
+  rows' = ap (λ (x : Sheet). x.tree.rows) o.rest
 
-  low' : (row : ℕ) → row < 16 + s'.rows → row < 16 + b.sheet.rows
-  low' row last = subst (λ (n : ℕ). row < 16 + n) rows' last
+  low' : (row : ℕ) → row < first_row + s'.tree.rows → row < first_row + b.sheet.tree.rows
+  low' row last = subst (λ (n : ℕ). row < first_row + n) rows' last
 
-  tree : IsTreeOf s' b.kind
+  tree : IsTreeOf s'.tree b.kind
   tree = record {
     of_kind = record {
       told = subst (λ (k : Option Kind). IfSome k (λ (k : Kind). k ≡ b.kind)) (sym (ap (λ (x : Sheet). x.kind) o.rest)) f.may.lawful.of_kind.told;
       width = o.width ∙ f.may.lawful.of_kind.width;
     };
-    words = subst (λ (n : ℕ). laws.IsTree (tree_as b.kind n s'.tree)) (sym rows') (is_tree (tree_as b.kind b.sheet.rows s'.tree) f.end.new o.stands);
+    words = subst (λ (n : ℕ). laws.IsTree (tree_as b.kind n s'.tree)) (sym rows') (is_tree (tree_as b.kind b.sheet.tree.rows s'.tree) f.end.new o.stands);
   }
 
   map_is : map_by s'.tree ≡ (acted b.kind (map_by b.sheet.tree) f.call).0
   map_is = o.map ∙ sym (ap (λ (r : List Range × Reply). r.0) f.may.answer)
 
-  none_buried : NoneBuried s'
+  none_buried : NoneBuried s'.tree.rows s'.buried
   none_buried row first last = o.buried row first (low' row last)
 
   -- ---- lives
@@ -113,22 +113,22 @@ module _ (f : ends.Finish) (s' : Sheet) (o : Outcome f s') where
   not_reached_later : (row : ℕ) → ends.new_count f row ≡ 0 → is_reached s'.tree row ≡ false
   not_reached_later row none = o.reached row ∙ ends.unreached_later f row none
 
-  buried_now : (row : ℕ) → 1 ≤ ends.old_count f row → ends.new_count f row ≡ 0 → is_buried s row ≡ true
+  buried_now : (row : ℕ) → 1 ≤ ends.old_count f row → ends.new_count f row ≡ 0 → is_buried s.buried row ≡ true
   buried_now row was none =
       let number = ends.was_number f row was in
       (ends.progress f).buried row number.0 number.1 ∙ ends.some_gone f row (ends.was_gone f row was none)
 
   -- a row that is reached neither before nor after was not taken, and is not buried
-  untouched : (row : ℕ) → 16 ≤ row → row < 16 + b.sheet.rows → ends.old_count f row ≡ 0 → ends.new_count f row ≡ 0 → life_of s' row ≡ life_of b.sheet row
+  untouched : (row : ℕ) → first_row ≤ row → row < first_row + b.sheet.tree.rows → ends.old_count f row ≡ 0 → ends.new_count f row ≡ 0 → life_of s'.lives row ≡ life_of b.sheet.lives row
   untouched row first last was is =
       let c = ends.counts f row in let sum = c.sum in let were = c.were in
-      let kept : is_buried s row ≡ false = elim (cases_Bool (is_buried s row)) [
+      let kept : is_buried s.buried row ≡ false = elim (cases_Bool (is_buried s.buried row)) [
         | inl buried ↦ let some = ends.buried_gone f row first last buried in absurd (omega arith)
         | inr not ↦ not
       ] in
       o.lives row first last ∙ (life_if_kept s (ends.published f) row (ends.unreached_later f row is) kept ∙ ends.life_kept f row first last (ends.not_taken f row (omega arith)))
 
-  live : LiveAreReached s'
+  live : LiveAreReached s'.tree s'.lives
   live row first last = (
     (λ alive. elim (cases_Bool (is_reached s'.tree row)) [
       | inl is ↦ is
@@ -137,10 +137,10 @@ module _ (f : ends.Finish) (s' : Sheet) (o : Outcome f s') where
     (λ is. o.lives row first (low' row last) ∙ life_if_reached s (ends.published f) row (sym (o.reached row) ∙ is)),
   )
     where
-      dead : ends.new_count f row ≡ 0 → life_of s' row ≡ Live → ⊥
+      dead : ends.new_count f row ≡ 0 → life_of s'.lives row ≡ Live → ⊥
       dead none alive = elim (none_or_some (ends.old_count f row)) [
         | inl never ↦
-            let before : life_of b.sheet row ≡ Live = sym (untouched row first (low' row last) never none) ∙ alive in
+            let before : life_of b.sheet.lives row ≡ Live = sym (untouched row first (low' row last) never none) ∙ alive in
             let was = ends.was_reached f row ((f.may.was.live row first (low' row last)).0 before) in
             absurd (omega arith)
         | inr was ↦
@@ -148,7 +148,7 @@ module _ (f : ends.Finish) (s' : Sheet) (o : Outcome f s') where
             absurd (cc)
       ]
 
-  dead : (row : ℕ) → IsReached b.sheet.tree row → is_reached s'.tree row ≡ false → life_of s' row ≡ Dead b.number
+  dead : (row : ℕ) → IsReached b.sheet.tree row → is_reached s'.tree row ≡ false → life_of s'.lives row ≡ Dead b.number
   dead row is not =
       let was = ends.was_reached f row is in
       let number = ends.was_number f row was in
@@ -156,9 +156,9 @@ module _ (f : ends.Finish) (s' : Sheet) (o : Outcome f s') where
       let ended : s.ended ≡ b.sheet.ended = ap (λ (x : Sheet). x.ended) (ends.progress f).rest in
       o.lives row number.0 number.1
       ∙ (life_if_buried s (ends.published f) row (ends.unreached_later f row none) (buried_now row was none)
-      ∙ ap Dead (ap (λ (n : ℕ). n + 1) ended ∙ sym f.may.in_flight))
+      ∙ ap Dead (ap (λ (n : ℕ). n + 1) ended ∙ sym f.may.numbered))
 
-  others : (row : ℕ) → 16 ≤ row → row < 16 + b.sheet.rows → is_reached b.sheet.tree row ≡ false → is_reached s'.tree row ≡ false → life_of s' row ≡ life_of b.sheet row
+  others : (row : ℕ) → first_row ≤ row → row < first_row + b.sheet.tree.rows → is_reached b.sheet.tree row ≡ false → is_reached s'.tree row ≡ false → life_of s'.lives row ≡ life_of b.sheet.lives row
   others row first last was is = untouched row first last (ends.was_unreached f row was) (unreached_later row is)
 
   -- ---- the book
@@ -226,7 +226,7 @@ module _ (f : ends.Finish) (s' : Sheet) (o : Outcome f s') where
           (subst (λ (l : List ℕ). AllPairs (λ r q. r ≢ q) (l ++ held_rows b.book)) (ends.progress f).free f.may.was.book.sound.once))
           has (Contains-append_left taken (held_rows b.book) row has_taken)
 
-  out_is : (row : ℕ) → 16 ≤ row → row < 16 + s'.rows → IsOut book row → IsReached s'.tree row
+  out_is : (row : ℕ) → first_row ≤ row → row < first_row + s'.tree.rows → IsOut book row → IsReached s'.tree row
   out_is row first last out =
       elim (none_or_some (ends.taken_count f row)) [
         | inr some ↦ is_reached_later row (ends.taken_later f row some)
@@ -242,7 +242,7 @@ module _ (f : ends.Finish) (s' : Sheet) (o : Outcome f s') where
     where
       out_before : ends.taken_count f row ≡ 0 → IsOut b.book row
       out_before none = record {
-        here = (first, subst (λ (n : ℕ). row < 16 + n) (sym f.may.was.book.rows) (low' row last));
+        here = (first, subst (λ (n : ℕ). row < first_row + n) (sym f.may.was.book.rows) (low' row last));
         not_free = λ free. elim (Contains-append_cases book.free taken row (subst (λ (l : List ℕ). Contains l row) (ends.progress f).free free)) [
           | inl still ↦ out.not_free still
           | inr has ↦ let some = contains_seen row w.taken has in absurd (omega arith)
@@ -255,7 +255,7 @@ module _ (f : ends.Finish) (s' : Sheet) (o : Outcome f s') where
       let some = reached_later row is in
       let number = ends.later_number f row some in
       record {
-        here = (number.0, subst (λ (n : ℕ). row < 16 + n) (sym ((ends.progress f).rows ∙ f.may.was.book.rows)) number.1);
+        here = (number.0, subst (λ (n : ℕ). row < first_row + n) (sym ((ends.progress f).rows ∙ f.may.was.book.rows)) number.1);
         not_free = λ free. (let never = free_unreached row free in let none = never.1 in absurd (omega arith));
         not_held = λ held. elim (Contains-append_cases (held_rows b.book) gone row (subst (λ (l : List ℕ). Contains l row) held_later held)) [
           | inl before ↦ held_before some before
@@ -271,15 +271,15 @@ module _ (f : ends.Finish) (s' : Sheet) (o : Outcome f s') where
             | inl never ↦ apart_ends b.book.free (held_rows b.book) row f.may.was.book.sound.once (was_free row (seen_contains row w.taken (omega arith))) held
           ]
 
-  spare : All (λ (row : ℕ). IsSpare s'.cleared (life_of s' row)) book.free
-  spare = all_ones (λ (row : ℕ). IsSpare s'.cleared (life_of s' row)) book.free (λ row one.
+  spare : All (λ (row : ℕ). IsSpare s'.cleared (life_of s'.lives row)) book.free
+  spare = all_ones (λ (row : ℕ). IsSpare s'.cleared (life_of s'.lives row)) book.free (λ row one.
       let free = one_contains book.free row one in
       let before = still_free row free in
-      let number = All-contains (λ (r : ℕ). (16 ≤ r) × (r < 16 + b.book.rows)) b.book.free row f.may.was.book.sound.free_rows before in
-      let last : row < 16 + b.sheet.rows = subst (λ (n : ℕ). row < 16 + n) f.may.was.book.rows number.1 in
+      let number = All-contains (λ (r : ℕ). (first_row ≤ r) × (r < first_row + b.book.rows)) b.book.free row f.may.was.book.sound.free_rows before in
+      let last : row < first_row + b.sheet.tree.rows = subst (λ (n : ℕ). row < first_row + n) f.may.was.book.rows number.1 in
       let fate = free_unreached row free in
-      let was : IsSpare b.sheet.cleared (life_of b.sheet row) = All-contains (λ (r : ℕ). IsSpare b.sheet.cleared (life_of b.sheet r)) b.book.free row f.may.was.book.spare before in
-      subst (λ (n : ℕ). IsSpare n (life_of s' row)) (sym (ap (λ (x : Sheet). x.cleared) o.rest))
+      let was : IsSpare b.sheet.cleared (life_of b.sheet.lives row) = All-contains (λ (r : ℕ). IsSpare b.sheet.cleared (life_of b.sheet.lives r)) b.book.free row f.may.was.book.spare before in
+      subst (λ (n : ℕ). IsSpare n (life_of s'.lives row)) (sym (ap (λ (x : Sheet). x.cleared) o.rest))
       (subst (IsSpare b.sheet.cleared) (sym (untouched row number.0 last fate.0 fate.1)) was))
 
   stamps : All (λ (h : Held). h.stamp < b.number + 1) book.held
@@ -291,7 +291,7 @@ module _ (f : ends.Finish) (s' : Sheet) (o : Outcome f s') where
       (let at = map_one (stamped b.number) w.gone h one in
       subst (λ (g : Held). g.stamp < b.number + 1) at.2 (omega arith)))))
 
-  booked : IsBookOf s' book (b.number + 1)
+  booked : IsBookOf s'.tree s'.lives s'.cleared book (b.number + 1)
   booked = record {
     sound = f.may.sound;
     rows = (ends.progress f).rows ∙ (f.may.was.book.rows ∙ sym rows');
@@ -349,7 +349,7 @@ module _ (f : ends.Finish) (s' : Sheet) (o : Outcome f s') where
         (λ i. column t.table (sym place.number i) (place.column i))
         ∙ slot_word t.table (laws.kind_at t.kind (suc place.low)) place.at place.child place.slot row_law.name.named place.here.holds
 
-    word_was : (0 < col) × (col < columns b.sheet.tree.table.width) → word_at b.sheet row col ≡ place.child.word
+    word_was : (0 < col) × (col < columns b.sheet.tree.table.width) → word_at b.sheet.tree row col ≡ place.child.word
     word_was within =
         sym ((ends.progress f).kept row col (ends.old_is_not_taken f row row_was) within.0 within.1)
         ∙ (ap (λ (v : Tree). column v.table row col) (ends.tree_is f) ∙ word_now)
@@ -402,14 +402,14 @@ module _ (f : ends.Finish) (s' : Sheet) (o : Outcome f s') where
         ends.old_is_not_taken f row was
   ]
 
-  kept : (row col : ℕ) → (IsReached s'.tree row → IsReached b.sheet.tree row) → 0 < col → col < columns b.sheet.tree.table.width → f.place ≢ Slot row col → word_at s' row col ≡ word_at b.sheet row col
+  kept : (row col : ℕ) → (IsReached s'.tree row → IsReached b.sheet.tree row) → 0 < col → col < columns b.sheet.tree.table.width → f.place ≢ Slot row col → word_at s'.tree row col ≡ word_at b.sheet.tree row col
   kept row col old above within other =
       o.kept row col above within
       ∙ (stored_kept f.place (ends.place_is f) row col (subst (λ (v : Width). col < columns v) (sym (ends.progress f).width) within) other
       ∙ (ends.progress f).kept row col (not_taken_of row old) above within)
 
   -- all is done but for the parent words
-  pub spliced : HasParents (tree_as b.kind s'.rows s'.tree) → ((row : ℕ) → IsReached b.sheet.tree row → is_reached s'.tree row ≡ false → word_at s' row 0 ≡ dead_mark row) → IsSpliced b.kind b.sheet s' b.book book b.number f.call f.reply f.place
+  pub spliced : HasParents (tree_as b.kind s'.tree.rows s'.tree) → ((row : ℕ) → IsReached b.sheet.tree row → is_reached s'.tree row ≡ false → word_at s'.tree row 0 ≡ dead_mark row) → IsSpliced b.kind b.sheet s' b.book book b.number f.call f.reply f.place
   spliced parents marked = record {
     rest = o.rest;
     tree = tree;

@@ -19,15 +19,15 @@ use Rattle.mt_splice.specs.Endings.{with_root, with_step, column_of, IsStepIn}
 use Rattle.mt_splice.specs.Ends.{IsReplacedAs, IsEndPlace}
 
 -- the tree now, and the sheet's
-pub now_is : (b : Before) (start : Start) (s : Sheet) (book : Book) (w : Work) → IsBefore b start → IsProgress b s book w → now start w ≡ tree_as b.kind b.sheet.rows s.tree
+pub now_is : (b : Before) (start : Start) (s : Sheet) (book : Book) (w : Work) → IsBefore b start → IsProgress b s book w → now start w ≡ tree_as b.kind b.sheet.tree.rows s.tree
 now_is b start s book w was progress =
     (λ i. record { rows = (was.tree i).rows; kind = (was.tree i).kind; table = record { width = (was.tree i).table.width; words = w.words }; root = (was.tree i).root })
-    ∙ sym (λ i. record { rows = b.sheet.rows; kind = b.kind; table = record { width = progress.width i; words = progress.words i }; root = progress.root i })
+    ∙ sym (λ i. record { rows = b.sheet.tree.rows; kind = b.kind; table = record { width = progress.width i; words = progress.words i }; root = progress.root i })
 
 module _ (b : Before) (start : Start) (s : Sheet) (book : Book) (w : Work) (was : IsBefore b start) (progress : IsProgress b s book w) where
   -- the tree after the store
   abbrev stored : Place → ℕ → Tree
-  stored place word = tree_as b.kind b.sheet.rows (with_published s.tree place word)
+  stored place word = tree_as b.kind b.sheet.tree.rows (with_published s.tree place word)
 
   root_is : (word : ℕ) → with_root (now start w) word ≡ stored Root word
   root_is word = ap (λ (t : Tree). with_root t word) (now_is b start s book w was progress)

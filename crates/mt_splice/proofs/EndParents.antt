@@ -60,7 +60,7 @@ module _ (f : ends.Finish) where
   s = f.sheet
 
   abbrev pub later : laws.Tree
-  later = tree_as f.end.before.kind f.end.before.sheet.rows (with_published f.sheet.tree f.place f.word)
+  later = tree_as f.end.before.kind f.end.before.sheet.tree.rows (with_published f.sheet.tree f.place f.word)
 
   -- ---- the store and the words
 
@@ -81,7 +81,7 @@ module _ (f : ends.Finish) where
       subst (λ (n : ℕ). is_taken w n ≡ false) same (elim (cases_Bool (is_taken w r)) [
         | inr not ↦ not
         | inl taken ↦
-            let last : r < 16 + b.sheet.rows = subst (λ (n : ℕ). r < 16 + n) (ends.rows_same f) at.0.last in
+            let last : r < first_row + b.sheet.tree.rows = subst (λ (n : ℕ). r < first_row + n) (ends.rows_same f) at.0.last in
             let draft : Draft ≡ Live = sym (ends.life_taken f r at.0.first last taken) ∙ at.1 in
             absurd (cc)
       ])
@@ -225,7 +225,7 @@ module _ (f : ends.Finish) where
         stood : laws.Stands f.end.start.tree h₀
         stood = subst (StandsAs f.end.start.tree) is_old (ends.stands_was f)
 
-        stood_b : laws.Stands (tree_as b.kind b.sheet.rows b.sheet.tree) h₀
+        stood_b : laws.Stands (tree_as b.kind b.sheet.tree.rows b.sheet.tree) h₀
         stood_b = subst (λ (t : laws.Tree). laws.Stands t h₀) f.may.was.tree stood
 
         from_level : (k : ℕ) (x : Span) → reached.OnLevel (now f.end.start w).table h₀ (root_of (now f.end.start w)) k x → reached.OnLevel f.end.start.tree.table h₀ (root_of f.end.start.tree) k x
@@ -240,11 +240,11 @@ module _ (f : ends.Finish) where
             levels_at (Shared f.end.start.tree.table (now f.end.start w).table) f.end.start.tree.table h₀ k (root_of f.end.start.tree) x
             (subst (λ (n : ℕ). Levels (Shared f.end.start.tree.table (now f.end.start w).table) f.end.start.tree.table n (root_of f.end.start.tree)) holds.0 (old_shared f.end.start w holds.1)) on
 
-        by : laws.IsLawful (tree_as b.kind b.sheet.rows b.sheet.tree) → WasLawful h₀
-        by (inl empty) = absurd (root_named (tree_as b.kind b.sheet.rows b.sheet.tree) h₀ stood_b empty)
+        by : laws.IsLawful (tree_as b.kind b.sheet.tree.rows b.sheet.tree) → WasLawful h₀
+        by (inl empty) = absurd (root_named (tree_as b.kind b.sheet.tree.rows b.sheet.tree) h₀ stood_b empty)
         by (inr (h₁, stood₁, root, tended)) =
-            let tall = reached.height_is (tree_as b.kind b.sheet.rows b.sheet.tree) h₀ stood_b in
-            let tall₁ = reached.height_is (tree_as b.kind b.sheet.rows b.sheet.tree) h₁ stood₁ in
+            let tall = reached.height_is (tree_as b.kind b.sheet.tree.rows b.sheet.tree) h₀ stood_b in
+            let tall₁ = reached.height_is (tree_as b.kind b.sheet.tree.rows b.sheet.tree) h₁ stood₁ in
             let same : h₁ ≡ h₀ = omega arith in
             let levels : Levels (laws.IsTended f.end.start.tree) f.end.start.tree.table h₀ (root_of f.end.start.tree) =
             subst (λ (n : ℕ). Levels (laws.IsTended f.end.start.tree) f.end.start.tree.table n (root_of f.end.start.tree)) same
@@ -390,24 +390,24 @@ module _ (f : ends.Finish) where
       table₁ : s₁.tree.table ≡ later.table
       table₁ = ap (λ (t : Tree). t.table) tree₁
 
-      rows₁ : s₁.rows ≡ b.sheet.rows
-      rows₁ = ap (λ (x : Sheet). x.rows) done.rest ∙ ends.rows_same f
+      rows₁ : s₁.tree.rows ≡ b.sheet.tree.rows
+      rows₁ = ap (λ (x : Sheet). x.tree.rows) done.rest ∙ ends.rows_same f
 
       -- a row that is reached may be tended
       record IsReady (word : ℕ) : Type 0 where
         named : named_row word ≡ Some (row_in word)
-        at : IsPlace s₁ (row_in word) 0
-        live : life_of s₁ (row_in word) ≡ Live
-        kept : is_buried s₁ (row_in word) ≡ false
+        at : IsPlace s₁.tree (row_in word) 0
+        live : life_of s₁.lives (row_in word) ≡ Live
+        kept : is_buried s₁.buried (row_in word) ≡ false
 
       ready : (k : ℕ) (x : Span) → reached.OnLevel later.table h (root_of later) k x → IsReady x.word
       ready k x on =
           let some = place_counted k x on in
           let number = ends.later_number f (row_in x.word) some in
-          let last : row_in x.word < 16 + f.sheet.rows = subst (λ (n : ℕ). row_in x.word < 16 + n) (sym (ends.rows_same f)) number.1 in
+          let last : row_in x.word < first_row + f.sheet.tree.rows = subst (λ (n : ℕ). row_in x.word < first_row + n) (sym (ends.rows_same f)) number.1 in
           record {
             named = ap (λ (kind : Option RowKind). if is_some kind then Some (row_in x.word) else None) (reached.on_level_law later h stands k x on).name.named;
-            at = record { first = number.0; last = subst (λ (n : ℕ). row_in x.word < 16 + n) (sym rows₁) number.1; column = some_columns s₁.tree.table.width };
+            at = record { first = number.0; last = subst (λ (n : ℕ). row_in x.word < first_row + n) (sym rows₁) number.1; column = some_columns s₁.tree.table.width };
             live = done.lives (row_in x.word) number.0 last ∙ life_if_reached f.sheet (ends.published f) (row_in x.word) (ends.reached_later f (row_in x.word) some);
             kept = done.buried (row_in x.word) number.0 last;
           }
@@ -431,7 +431,7 @@ module _ (f : ends.Finish) where
           let law = reached.on_level_law later h stands (suc m.low) m.at m.on in
           record {
             first = number.0;
-            last = subst (λ (r : ℕ). n.row < 16 + r) (sym rows₁) number.1;
+            last = subst (λ (r : ℕ). n.row < first_row + r) (sym rows₁) number.1;
             slots = subst (λ (c : ℕ). c ≤ slots_of s₁.tree.table.width Inner) (sym m.count)
                 (subst (λ (kind : RowKind). length (spans_in later.table m.at) ≤ slots_of s₁.tree.table.width kind) (inner m.low)
                 (subst (λ (t : Table). length (spans_in later.table m.at) ≤ slots_of t.width (laws.kind_at b.kind (suc m.low))) (sym table₁) law.count.most));
@@ -442,9 +442,9 @@ module _ (f : ends.Finish) where
                 let word = child_word₁ n slot c in
                 record {
                   named = subst (λ (v : ℕ). named_row v ≡ Some (row_in v)) (sym word) is.named;
-                  at = subst (λ (v : ℕ). IsPlace s₁ (row_in v) 0) (sym word) is.at;
-                  live = subst (λ (v : ℕ). life_of s₁ (row_in v) ≡ Live) (sym word) is.live;
-                  kept = subst (λ (v : ℕ). is_buried s₁ (row_in v) ≡ false) (sym word) is.kept;
+                  at = subst (λ (v : ℕ). IsPlace s₁.tree (row_in v) 0) (sym word) is.at;
+                  live = subst (λ (v : ℕ). life_of s₁.lives (row_in v) ≡ Live) (sym word) is.live;
+                  kept = subst (λ (v : ℕ). is_buried s₁.buried (row_in v) ≡ false) (sym word) is.kept;
                   other = λ same. not_own_child later h stands c.row.low slot c.row.at c.child c.row.on c.get (ap row_in (sym word) ∙ (same ∙ sym c.row.row));
                 });
             apart = λ i j low_i low_j same. (same_parent n n i j one one low_i low_j same).1;
@@ -475,9 +475,9 @@ module _ (f : ends.Finish) where
           let width : f.sheet.tree.table.width ≡ s₁.tree.table.width = sym (ap (λ (v : Tree). v.table.width) tree₁ ∙ width_later f.place) in
           record {
             named = subst (λ (v : ℕ). named_row v ≡ Some (row_in v)) word here.named;
-            at = subst (λ (v : ℕ). IsPlace s₁ (row_in v) 0) word here.at;
-            live = subst (λ (v : ℕ). life_of s₁ (row_in v) ≡ Live) word here.live;
-            kept = subst (λ (v : ℕ). is_buried s₁ (row_in v) ≡ false) word here.kept;
+            at = subst (λ (v : ℕ). IsPlace s₁.tree (row_in v) 0) word here.at;
+            live = subst (λ (v : ℕ). life_of s₁.lives (row_in v) ≡ Live) word here.live;
+            kept = subst (λ (v : ℕ). is_buried s₁.buried (row_in v) ≡ false) word here.kept;
             other = λ same. not_own_child later h stands top.low top.slot top.at top.top top.on top.get (ap row_in word ∙ (same ∙ sym top.number));
             slot =
                 (let column_is = top.column_is in
@@ -597,7 +597,7 @@ module _ (f : ends.Finish) where
         spans₃ x = same_spans s₁.tree.table s₃.tree.table x (λ c above within. only₃.kept (row_in x.word) c above within) ∙ ap (λ (t : Table). spans_in t x) table₁
 
         abbrev final : laws.Tree
-        final = tree_as f.end.before.kind s₃.rows s₃.tree
+        final = tree_as f.end.before.kind s₃.tree.rows s₃.tree
 
         parent_law : (k : ℕ) (x : Span) → reached.OnLevel later.table h (root_of later) k x → laws.ParentLaw final k x
         parent_law zero x on = tt

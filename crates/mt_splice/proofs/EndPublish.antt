@@ -104,7 +104,7 @@ module _ (f : Finish) where
   s = f.sheet
 
   abbrev later : laws.Tree
-  later = tree_as b.kind b.sheet.rows (with_published s.tree f.place f.word)
+  later = tree_as b.kind b.sheet.tree.rows (with_published s.tree f.place f.word)
 
   abbrev pub published : Tree
   published = with_published f.sheet.tree f.place f.word
@@ -114,8 +114,8 @@ module _ (f : Finish) where
 
   -- ---- what the rows are now
 
-  pub rows_same : s.rows ≡ b.sheet.rows
-  rows_same = ap (λ (x : Sheet). x.rows) progress.rest
+  pub rows_same : s.rows ≡ b.sheet.tree.rows
+  rows_same = ap (λ (x : Sheet). x.tree.rows) progress.rest
 
   was_is : words_of start.tree ≡ b.sheet.tree
   was_is = ap words_of f.may.was.tree
@@ -146,7 +146,7 @@ module _ (f : Finish) where
   old_count row = count_in (is_row_of row) f.end.start.tree f.end.old
 
   abbrev pub new_count : ℕ → ℕ
-  new_count row = count_in (is_row_of row) (tree_as f.end.before.kind f.end.before.sheet.rows (with_published f.sheet.tree f.place f.word)) f.end.new
+  new_count row = count_in (is_row_of row) (tree_as f.end.before.kind f.end.before.sheet.tree.rows (with_published f.sheet.tree f.place f.word)) f.end.new
 
   abbrev pub taken_count : ℕ → ℕ
   taken_count row = passing (is_row_of row) f.end.work.taken
@@ -194,12 +194,12 @@ module _ (f : Finish) where
   pub unreached_later : (row : ℕ) → new_count row ≡ 0 → is_reached published row ≡ false
   unreached_later row none = count_unreached later f.end.new row stands_later none
 
-  pub was_number : (row : ℕ) → 1 ≤ old_count row → (16 ≤ row) × (row < 16 + b.sheet.rows)
+  pub was_number : (row : ℕ) → 1 ≤ old_count row → (first_row ≤ row) × (row < first_row + b.sheet.tree.rows)
   was_number row some =
       let number = count_number start.tree f.end.old row stands_was some in
-      (number.0, subst (λ (n : ℕ). row < 16 + n) (ap (λ (t : laws.Tree). t.rows) f.may.was.tree) number.1)
+      (number.0, subst (λ (n : ℕ). row < first_row + n) (ap (λ (t : laws.Tree). t.rows) f.may.was.tree) number.1)
 
-  pub later_number : (row : ℕ) → 1 ≤ new_count row → (16 ≤ row) × (row < 16 + b.sheet.rows)
+  pub later_number : (row : ℕ) → 1 ≤ new_count row → (first_row ≤ row) × (row < first_row + b.sheet.tree.rows)
   later_number row some = count_number later f.end.new row stands_later some
 
   -- ---- rows taken and gone
@@ -228,18 +228,18 @@ module _ (f : Finish) where
 
   -- ---- lives
 
-  pub life_taken : (row : ℕ) → 16 ≤ row → row < 16 + b.sheet.rows → is_taken w row ≡ true → life_of s row ≡ Draft
-  life_taken row first last taken = progress.lives row first last ∙ ap (λ (c : Bool). if c then Draft else life_of b.sheet row) taken
+  pub life_taken : (row : ℕ) → first_row ≤ row → row < first_row + b.sheet.tree.rows → is_taken w row ≡ true → life_of s.lives row ≡ Draft
+  life_taken row first last taken = progress.lives row first last ∙ ap (λ (c : Bool). if c then Draft else life_of b.sheet.lives row) taken
 
-  pub life_kept : (row : ℕ) → 16 ≤ row → row < 16 + b.sheet.rows → is_taken w row ≡ false → life_of s row ≡ life_of b.sheet row
-  life_kept row first last not = progress.lives row first last ∙ ap (λ (c : Bool). if c then Draft else life_of b.sheet row) not
+  pub life_kept : (row : ℕ) → first_row ≤ row → row < first_row + b.sheet.tree.rows → is_taken w row ≡ false → life_of s.lives row ≡ life_of b.sheet.lives row
+  life_kept row first last not = progress.lives row first last ∙ ap (λ (c : Bool). if c then Draft else life_of b.sheet.lives row) not
 
-  pub old_is_live : (row : ℕ) → 1 ≤ old_count row → life_of s row ≡ Live
+  pub old_is_live : (row : ℕ) → 1 ≤ old_count row → life_of s.lives row ≡ Live
   old_is_live row was =
       let number = was_number row was in
       life_kept row number.0 number.1 (old_is_not_taken row was) ∙ (f.may.was.live row number.0 number.1).1 (reached_was row was)
 
-  live : LiveAreReached s
+  live : LiveAreReached s.tree s.lives
   live row first last = (
     (λ alive. elim (cases_Bool (is_taken w row)) [
       | inl taken ↦ (let draft = life_taken row first (in_table) taken in let both : Draft ≡ Live = sym draft ∙ alive in absurd (cc))
@@ -248,12 +248,12 @@ module _ (f : Finish) where
     (λ is. old_is_live row (now_reached row is)),
   )
     where
-      in_table : row < 16 + b.sheet.rows
-      in_table = subst (λ (n : ℕ). row < 16 + n) rows_same last
+      in_table : row < first_row + b.sheet.tree.rows
+      in_table = subst (λ (n : ℕ). row < first_row + n) rows_same last
 
   -- ---- the place
 
-  pub of_kind : AreOfKind s b.kind
+  pub of_kind : AreOfKind s.kind s.tree.table.width b.kind
   of_kind = record {
     told = subst (λ (k : Option Kind). IfSome k (λ (k : Kind). k ≡ b.kind)) (sym (ap (λ (x : Sheet). x.kind) progress.rest)) f.may.lawful.of_kind.told;
     width = progress.width ∙ f.may.lawful.of_kind.width;
@@ -265,7 +265,7 @@ module _ (f : Finish) where
       let tree : laws.Tree = tree_as b.kind s.rows s.tree in
       subst HasWords as_tree long
 
-  place_in : (o : Option ℕ) (place : Place) → StandsAs (now start w) o → IsEndPlace start w o place → ((row : ℕ) → 1 ≤ count_in (is_row_of row) (now start w) o → (16 ≤ row) × (row < 16 + s.rows) × (life_of s row ≡ Live)) → IsPlaceToPublish s place
+  place_in : (o : Option ℕ) (place : Place) → StandsAs (now start w) o → IsEndPlace start w o place → ((row : ℕ) → 1 ≤ count_in (is_row_of row) (now start w) o → (first_row ≤ row) × (row < first_row + s.rows) × (life_of s.lives row ≡ Live)) → IsPlaceToPublish s place
   place_in o Root stands at known = tt
   place_in None (Slot row col) stands at known = absurd at
   place_in (Some h) (Slot row col) stands at known =
@@ -303,7 +303,7 @@ module _ (f : Finish) where
       let same = now_count start w f.end.old (is_row_of row) f.may.holds in
       let was : 1 ≤ old_count row = omega arith in
       let number = was_number row was in
-      (number.0, subst (λ (n : ℕ). row < 16 + n) (sym rows_same) number.1, old_is_live row was))
+      (number.0, subst (λ (n : ℕ). row < first_row + n) (sym rows_same) number.1, old_is_live row was))
 
   -- ---- the map
 
@@ -382,7 +382,7 @@ module _ (f : Finish) where
             (holes_in f.end.old f.end.new f.place k k' x x' stands_now f.may.at refl stands_later at stood'));
       }
 
-  pub buried_gone : (row : ℕ) → 16 ≤ row → row < 16 + b.sheet.rows → is_buried s row ≡ true → 1 ≤ gone_count row
+  pub buried_gone : (row : ℕ) → first_row ≤ row → row < first_row + b.sheet.tree.rows → is_buried s.buried row ≡ true → 1 ≤ gone_count row
   buried_gone row first last is = gone_some row (sym (progress.buried row first last) ∙ is)
 
   -- a row that is gone was reached, and is not then
@@ -404,13 +404,13 @@ module _ (f : Finish) where
         let number = was_number row some in
         progress.buried row number.0 number.1 ∙ some_gone row (was_gone row some (later_unreached row not));
     buried = λ row first last is.
-        let fate = gone_was row (buried_gone row first (subst (λ (n : ℕ). row < 16 + n) rows_same last) is) in
+        let fate = gone_was row (buried_gone row first (subst (λ (n : ℕ). row < first_row + n) rows_same last) is) in
         (reached_now row fate.0, unreached_later row fate.1);
   }
 
   pub may_publish : MayPublish b.kind s f.place f.word f.call f.reply
   may_publish = record {
-    flying = ap (λ (x : Sheet). x.flying) progress.rest ∙ f.may.flying;
+    in_flight = ap (λ (x : Sheet). x.in_flight) progress.rest ∙ f.may.in_flight;
     before = ap (λ (x : Sheet). x.published) progress.rest ∙ f.may.unpublished;
     at = place_is;
     live = live;

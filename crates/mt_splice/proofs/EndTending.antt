@@ -76,10 +76,10 @@ word_stays s t kind row slot only within =
 
 pub children_stay : (s t : Sheet) (kind : RowKind) (row count : ℕ) → OnlyParents s t → AreChildren s kind row count → AreChildren t kind row count
 children_stay s t kind row count only are =
-    let rows : s.rows ≡ t.rows = sym (ap (λ (x : Sheet). x.rows) only.rest) in
+    let rows : s.tree.rows ≡ t.tree.rows = sym (ap (λ (x : Sheet). x.tree.rows) only.rest) in
     record {
       first = are.first;
-      last = subst (λ (n : ℕ). row < 16 + n) rows are.last;
+      last = subst (λ (n : ℕ). row < first_row + n) rows are.last;
       slots = subst (λ (w : Width). count ≤ slots_of w kind) (sym only.width) are.slots;
       each = λ slot below. child slot below;
       apart = λ i j low_i low_j same. are.apart i j low_i low_j (sym (row_stays i low_i) ∙ (same ∙ row_stays j low_j));
@@ -93,18 +93,18 @@ children_stay s t kind row count only are =
         let slots = are.slots in
         let each = are.each slot below in
         let same = row_stays slot below in
-        let rows : s.rows ≡ t.rows = sym (ap (λ (x : Sheet). x.rows) only.rest) in
+        let rows : s.tree.rows ≡ t.tree.rows = sym (ap (λ (x : Sheet). x.tree.rows) only.rest) in
         let lives : s.lives ≡ t.lives = sym (ap (λ (x : Sheet). x.lives) only.rest) in
         let buried : s.buried ≡ t.buried = sym (ap (λ (x : Sheet). x.buried) only.rest) in
         record {
           named = ap named_row (word_stays s t kind row slot only (omega arith)) ∙ (each.named ∙ ap (λ (r : ℕ). Some r) (sym same));
-          at = subst (λ (r : ℕ). IsPlace t r 0) (sym same) (record {
+          at = subst (λ (r : ℕ). IsPlace t.tree r 0) (sym same) (record {
             first = each.at.first;
-            last = subst (λ (n : ℕ). child_row s.tree.table kind row slot < 16 + n) rows each.at.last;
+            last = subst (λ (n : ℕ). child_row s.tree.table kind row slot < first_row + n) rows each.at.last;
             column = some_columns t.tree.table.width;
           });
-          live = ap (life_of t) same ∙ (ap (λ (l : List Life). slice_index_or l (child_row s.tree.table kind row slot) New) (sym lives) ∙ each.live);
-          kept = ap (is_buried t) same ∙ (ap (λ (l : List Bool). slice_index_or l (child_row s.tree.table kind row slot) false) (sym buried) ∙ each.kept);
+          live = ap (life_of t.lives) same ∙ (ap (λ (l : List Life). slice_index_or l (child_row s.tree.table kind row slot) New) (sym lives) ∙ each.live);
+          kept = ap (is_buried t.buried) same ∙ (ap (λ (l : List Bool). slice_index_or l (child_row s.tree.table kind row slot) false) (sym buried) ∙ each.kept);
           other = λ is. each.other (sym same ∙ is);
         }
 
@@ -209,7 +209,7 @@ top_tended s row col word slots top whole may wide found =
         size = length-set s.tree.table.words (columns s.tree.table.width * row_in word + 0) (parent_at row (col - slots));
         kept = λ r c above within. kept_column s.tree.table.width s.tree.table.words (row_in word) 0 (parent_at row (col - slots)) r c within (some_columns s.tree.table.width) (λ none. absurd (omega arith));
       };
-      here = same_column s.tree.table.width s.tree.table.words (row_in word) (16 + s.rows) 0 (parent_at row (col - slots)) (some_columns s.tree.table.width) may.at.last whole.words
+      here = same_column s.tree.table.width s.tree.table.words (row_in word) (16 + s.tree.rows) 0 (parent_at row (col - slots)) (some_columns s.tree.table.width) may.at.last whole.words
           ∙ ap (λ (n : ℕ). parent_at row (col - n)) wide;
       others = λ r other. other_row s.tree.table.width s.tree.table.words (row_in word) 0 (parent_at row (col - slots)) r 0 other (some_columns s.tree.table.width) (some_columns s.tree.table.width);
     })
@@ -218,12 +218,12 @@ top_tended s row col word slots top whole may wide found =
 pub top_still : (s t : Sheet) (place : Place) (word : ℕ) → OnlyParents s t → MayTendTopAt s place word → MayTendTopAt t place word
 top_still s t Root word only may = tt
 top_still s t (Slot row col) word only may =
-    let rows : s.rows ≡ t.rows = sym (ap (λ (x : Sheet). x.rows) only.rest) in
+    let rows : s.tree.rows ≡ t.tree.rows = sym (ap (λ (x : Sheet). x.tree.rows) only.rest) in
     let lives : s.lives ≡ t.lives = sym (ap (λ (x : Sheet). x.lives) only.rest) in
     let buried : s.buried ≡ t.buried = sym (ap (λ (x : Sheet). x.buried) only.rest) in
     record {
       named = may.named;
-      at = record { first = may.at.first; last = subst (λ (n : ℕ). row_in word < 16 + n) rows may.at.last; column = some_columns t.tree.table.width };
+      at = record { first = may.at.first; last = subst (λ (n : ℕ). row_in word < first_row + n) rows may.at.last; column = some_columns t.tree.table.width };
       live = ap (λ (l : List Life). slice_index_or l (row_in word) New) (sym lives) ∙ may.live;
       kept = ap (λ (l : List Bool). slice_index_or l (row_in word) false) (sym buried) ∙ may.kept;
       other = may.other;

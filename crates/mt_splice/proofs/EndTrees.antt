@@ -67,7 +67,7 @@ count_unreached t o row stands none = elim (cases_Bool (is_reached (words_of t) 
   | inr not ↦ not
 ]
 
-pub count_number : (t : Tree) (o : Option ℕ) (row : ℕ) → StandsAs t o → 1 ≤ count_in (is_row_of row) t o → (16 ≤ row) × (row < 16 + t.rows)
+pub count_number : (t : Tree) (o : Option ℕ) (row : ℕ) → StandsAs t o → 1 ≤ count_in (is_row_of row) t o → (first_row ≤ row) × (row < first_row + t.rows)
 count_number t None row stands some = absurd (omega arith)
 count_number t (Some h) row stands some = reached.reached_number t h stands row some
 

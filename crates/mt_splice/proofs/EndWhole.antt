@@ -40,7 +40,7 @@ may_publish_end e s made place word call reply may = ends.may_publish (finish e 
 -- ---- where nothing is left, no row was taken
 
 none_new : (f : ends.Finish) (row : ℕ) → f.end.new ≡ None → ends.new_count f row ≡ 0
-none_new f row none = ap (count_in (is_row_of row) (tree_as f.end.before.kind f.end.before.sheet.rows (ends.published f))) none
+none_new f row none = ap (count_in (is_row_of row) (tree_as f.end.before.kind f.end.before.sheet.tree.rows (ends.published f))) none
 
 none_made : (f : ends.Finish) (n : NewRow) → f.end.new ≡ None → reached.IsOneOf n f.made → ⊥
 none_made f n none one =
@@ -88,23 +88,23 @@ may_tend_top_now e s s₁ s₂ made place word call reply may done tended =
 -- ---- all is done
 
 parents_by : (f : ends.Finish) (s₁ s₂ s₃ : Sheet) (new : Option ℕ) → f.end.new ≡ new → Published f.sheet s₁ f.place f.word f.call f.reply → AreRowsTended s₁ s₂ Inner f.made → IsTopTendedAt s₂ s₃ f.place f.word
-    → StandsAs (tree_as f.end.before.kind s₃.rows s₃.tree) new → HasParents (tree_as f.end.before.kind s₃.rows s₃.tree)
+    → StandsAs (tree_as f.end.before.kind s₃.tree.rows s₃.tree) new → HasParents (tree_as f.end.before.kind s₃.tree.rows s₃.tree)
 parents_by f s₁ s₂ s₃ None is done tended top stands = inl stands
 parents_by f s₁ s₂ s₃ (Some h) is done tended top stands = has_parents f h is s₁ done s₂ s₃ tended top stands
 
 -- a row that is gone keeps its dead mark, since only live rows are tended
 module _ (f : ends.Finish) (s₁ s₂ s₃ : Sheet) (done : Published f.sheet s₁ f.place f.word f.call f.reply) (may : MayTendRows s₁ Inner f.made) (tended : AreRowsTended s₁ s₂ Inner f.made) (may_top : MayTendTopAt s₂ f.place f.word)
     (top : IsTopTendedAt s₂ s₃ f.place f.word) where
-  dead_now : (row : ℕ) → is_reached f.end.before.sheet.tree row ≡ true → ends.new_count f row ≡ 0 → life_of s₁ row ≡ Dead (f.sheet.ended + 1)
+  dead_now : (row : ℕ) → is_reached f.end.before.sheet.tree row ≡ true → ends.new_count f row ≡ 0 → life_of s₁.lives row ≡ Dead (f.sheet.ended + 1)
   dead_now row was none =
       let some = ends.was_reached f row was in
       let number = ends.was_number f row some in
-      done.lives row number.0 (subst (λ (n : ℕ). row < 16 + n) (sym (ends.rows_same f)) number.1)
+      done.lives row number.0 (subst (λ (n : ℕ). row < first_row + n) (sym (ends.rows_same f)) number.1)
       ∙ life_if_buried f.sheet (ends.published f) row (ends.unreached_later f row none) ((ends.progress f).buried row number.0 number.1 ∙ ends.some_gone f row (ends.was_gone f row some none))
 
-  not_live : (row child : ℕ) → is_reached f.end.before.sheet.tree row ≡ true → ends.new_count f row ≡ 0 → life_of s₁ child ≡ Live → child ≢ row
+  not_live : (row child : ℕ) → is_reached f.end.before.sheet.tree row ≡ true → ends.new_count f row ≡ 0 → life_of s₁.lives child ≡ Live → child ≢ row
   not_live row child was none live same =
-      let both : Live ≡ Dead (f.sheet.ended + 1) = sym live ∙ (ap (life_of s₁) same ∙ dead_now row was none) in
+      let both : Live ≡ Dead (f.sheet.ended + 1) = sym live ∙ (ap (life_of s₁.lives) same ∙ dead_now row was none) in
       absurd (cc)
 
   top_other : (place : Place) → MayTendTopAt s₂ place f.word → (row : ℕ) → is_reached f.end.before.sheet.tree row ≡ true → ends.new_count f row ≡ 0 → (r c : ℕ) → place ≡ Slot r c → row ≢ row_in f.word
@@ -113,7 +113,7 @@ module _ (f : ends.Finish) (s₁ s₂ s₃ : Sheet) (done : Published f.sheet s�
       let lives : s₂.lives ≡ s₁.lives = ap (λ (x : Sheet). x.lives) tended.only.rest in
       λ same. not_live row (row_in f.word) was none (ap (λ (l : List Life). slice_index_or l (row_in f.word) New) (sym lives) ∙ at.live) (sym same)
 
-  marked_end : (row : ℕ) → is_reached f.end.before.sheet.tree row ≡ true → ends.new_count f row ≡ 0 → word_at s₃ row 0 ≡ dead_mark row
+  marked_end : (row : ℕ) → is_reached f.end.before.sheet.tree row ≡ true → ends.new_count f row ≡ 0 → word_at s₃.tree row 0 ≡ dead_mark row
   marked_end row was none =
       let some = ends.was_reached f row was in
       top_kept s₂ s₃ f.place f.word row top (top_other f.place may_top row was none)
@@ -127,7 +127,7 @@ spliced_end e s s₁ s₂ s₃ made place word call reply may done tended top =
     let f = finish e s made place word call reply may in
     let only = only_more s₁ s₂ s₃ tended.only (top_only s₂ s₃ place word top) in
     let o = outcome (finish e s made place word call reply may) s₁ s₃ done only in
-    let rows : e.before.sheet.rows ≡ s₃.rows = sym (ap (λ (x : Sheet). x.rows) o.rest) in
+    let rows : e.before.sheet.tree.rows ≡ s₃.tree.rows = sym (ap (λ (x : Sheet). x.tree.rows) o.rest) in
     spliced (finish e s made place word call reply may) s₃ o
     (parents_by (finish e s made place word call reply may) s₁ s₂ s₃ e.new refl done tended top (subst (λ (n : ℕ). StandsAs (tree_as e.before.kind n s₃.tree) e.new) rows o.stands))
     (λ row was not.

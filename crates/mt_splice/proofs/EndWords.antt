@@ -13,7 +13,7 @@ use Rattle.mt_rows.specs.Spans.{Table, base_of, column, slots_of, gaps_of, spans
 module _ (slots gaps : ℕ) (w : List ℕ) (base max : ℕ) where
   one_word : (first i k last : ℕ) (y : Span) → slice_get (spans_from first (item_at slots gaps w base i last ∷ [])) k ≡ Some y → slice_index w (base + slot_column slots (i + k)) ≡ y.word
   one_word first i zero last y at =
-      let same : record { first = first; last = last; word = slice_index w (base + slot_column slots i); gap = (item_at slots gaps w base i last).gap } ≡ y = cc in
+      let same : record { first = first; last = last; word = slice_index w (base + slot_column slots i) } ≡ y = cc in
       let here : slot_column slots (i + 0) ≡ slot_column slots i = omega arith in
       ap (λ (c : ℕ). slice_index w (base + c)) here ∙ ap (λ (x : Span). x.word) same
   one_word first i (suc k) last y at = absurd (cc)

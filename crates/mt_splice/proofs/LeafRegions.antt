@@ -64,8 +64,8 @@ module _ (t : Tree) (h : ℕ) (stands : Stands t h) where
     long_path : 1 ≤ length path
     long_path = let all = ap length is in let many = levels t h stands index inside in omega arith
 
-    end_row : (16 ≤ end.row) × (end.row < 16 + t.rows)
-    end_row = subst (λ (s : PathStep). (16 ≤ s.row) × (s.row < 16 + t.rows)) (sym end_is) ((Names-named_kind leaf.word Leaf law.name.named).0.0, law.name.in_table)
+    end_row : (first_row ≤ end.row) × (end.row < first_row + t.rows)
+    end_row = subst (λ (s : PathStep). (first_row ≤ s.row) × (s.row < first_row + t.rows)) (sym end_is) ((Names-named_kind leaf.word Leaf law.name.named).0.0, law.name.in_table)
 
     end_at : At 0 (top_of t + 1) (rows_at t h) index leaf
     end_at = place t h stands index h inside (omega arith)
@@ -195,24 +195,24 @@ pub no_path : (path : List PathStep) → (length path == 0) ≡ true → path �
 no_path [] none = refl
 no_path (x ∷ path) none = let zero' = eqb-true (length (x ∷ path)) 0 none in absurd (omega arith)
 
-stands_on : (s : Sheet) (left right : List PathStep) (first last : ℕ) → AreEnds s left right first last → 1 ≤ length left → (h : ℕ) × Stands (tree_as trees.Range s.rows s.tree) h
+stands_on : (s : Sheet) (left right : List PathStep) (first last : ℕ) → AreEnds s left right first last → 1 ≤ length left → (h : ℕ) × Stands (tree_as trees.Range s.tree.rows s.tree) h
 stands_on s left right first last ends some = by ends.tree.words
   where
-    by : IsTree (tree_as trees.Range s.rows s.tree) → (h : ℕ) × Stands (tree_as trees.Range s.rows s.tree) h
+    by : IsTree (tree_as trees.Range s.tree.rows s.tree) → (h : ℕ) × Stands (tree_as trees.Range s.tree.rows s.tree) h
     by (inl empty) = let none = ap length (ends.left_path ∙ path_of_none s.tree.table deepest (root_span s.tree.table s.tree.root) first (ap named_kind empty)) in absurd (omega arith)
     by (inr stands) = stands
 
 -- what is known where the left path has a step
 pub record AreLeaves (s : Sheet) (left right : List PathStep) (first last : ℕ) : Type 0 where
   pub some : 1 ≤ length right
-  pub left_row : (16 ≤ (last_step left).row) × ((last_step left).row < 16 + s.rows)
-  pub right_row : (16 ≤ (last_step right).row) × ((last_step right).row < 16 + s.rows)
+  pub left_row : (first_row ≤ (last_step left).row) × ((last_step left).row < first_row + s.tree.rows)
+  pub right_row : (first_row ≤ (last_step right).row) × ((last_step right).row < first_row + s.tree.rows)
   pub spans : spans_from (last_step left).min (leaves_items s.tree.table (last_step left) (last_step right)) ≡ region_of s.tree.table left right
   pub fit : IsRunOver s.tree.table.width (last_step left).min (leaves_items s.tree.table (last_step left) (last_step right)) first last
 
 pub leaves_are : (s : Sheet) (left right : List PathStep) (first last : ℕ) → AreEnds s left right first last → (length left == 0) ≡ false → AreLeaves s left right first last
 leaves_are s left right first last ends some =
-    let t = tree_as trees.Range s.rows s.tree in
+    let t = tree_as trees.Range s.tree.rows s.tree in
     let tree = stands_on s left right first last ends (some_path left some) in
     let order = ends.order in let within = ends.within in
     let all = spans_are t tree.0 tree.1 left right first last ends.order ends.within ends.left_path ends.right_path in

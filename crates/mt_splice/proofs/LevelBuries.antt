@@ -134,7 +134,7 @@ module _ (b : Before) (start : Start) (s : Sheet) (book : Book) (w : Work) (left
     stays_now = ap (nat_lt 0) (not_buried_yet start w may.holds path i within is_path depth height may.levels w w' lo buried may.yet)
 
     pub row_may_be_buried : MayBury s' row
-    row_may_be_buried = subst (MayBury s') (sym row_is) (may_bury b start s' book' w' seen_now may.before progress reached_now stays_now may.flying may.unpublished)
+    row_may_be_buried = subst (MayBury s') (sym row_is) (may_bury b start s' book' w' seen_now may.before progress reached_now stays_now may.in_flight may.unpublished)
 
     pub row_is_out : IsOut book' row
     row_is_out = subst (IsOut book') (sym row_is) (is_out b start s' book' w' seen_now may.before progress reached_now stays_now)
@@ -207,7 +207,7 @@ module _ (b : Before) (start : Start) (s : Sheet) (book : Book) (w : Work) (left
   next_within = let end = right_end_within b start s book w left right depth height number may in omega arith
 
   -- the tree may be walked to it
-  pub tree_far : IsTreeOf s' b.kind
+  pub tree_far : IsTreeOf s'.tree b.kind
   tree_far = is_tree_now b start s' book' w' may.before far.progress holds_far may.of_kind
 
   pub next_fits : last + 1 ≤ greatest s'.tree.table.width

@@ -41,7 +41,7 @@ module _ (b : Before) (start : Start) (s : Sheet) (book : Book) (w : Work) (made
     free = let room = may.under.room in let few = may.under.few in let free = free_is in omega arith;
     known = may.under.inner;
     told = may.under.case.lawful.of_kind;
-    flying = may.under.case.flying;
+    in_flight = may.under.case.in_flight;
     unpublished = may.under.case.unpublished;
     call = may.in_call;
   }

@@ -21,7 +21,7 @@ use Rattle.mt_rows.specs.declared.rows.Place.TheVariants.{Root, Slot}
 use Rattle.mt_rows.specs.Spans.{Table, base_of, slots_of, gaps_of, inner_kind, spans_by, spans_in}
 use Rattle.mt_rows.specs.Levels.{is_row_of}
 use Rattle.mt_rows.specs.Trees.{height_in}
-use Rattle.mt_rows.specs.Laws.{Tree, HasWords, top_of, kind_at, least_of_kind, covers_all}
+use Rattle.mt_rows.specs.Laws.{Tree, HasWords, top_of, kind_at, least_items_TODO, covers_all}
 use Rattle.mt_rows.specs.Sheet.{Sheet}
 use Rattle.mt_rows.specs.Publish.{tree_as, with_published}
 use Rattle.mt_rows.proofs.Reached.{height_is}
@@ -101,13 +101,13 @@ module _ (b : Before) (start : Start) (s : Sheet) (book : Book) (w : Work) (made
   tall : height_in b.sheet.tree.table b.sheet.tree.root ≡ start.height + 1
   tall = ap (λ (t : Tree). height_in t.table t.root) (sym case.was.tree) ∙ height_is start.tree start.height holds.stands
 
-  may_end : (h : ℕ) (place : Place) (word : ℕ) → IsReplacedAs start.tree (tree_as b.kind b.sheet.rows (with_published s.tree place word)) start.map w.taken w.gone (Some start.height) (Some h)
+  may_end : (h : ℕ) (place : Place) (word : ℕ) → IsReplacedAs start.tree (tree_as b.kind b.sheet.tree.rows (with_published s.tree place word)) start.map w.taken w.gone (Some start.height) (Some h)
       → IsEndPlace start w (Some start.height) place → 1 ≤ passing (is_row_of (row_in word)) w.taken → MayEnd (end_with b start w book h) s made place word call reply
   may_end h place word replaced at taken = record {
     range = case.range;
-    flying = case.flying;
-    unpublished = case.unpublished;
     in_flight = case.in_flight;
+    unpublished = case.unpublished;
+    numbered = case.numbered;
     was = case.was;
     lawful = case.lawful;
     progress = progress;
@@ -123,7 +123,7 @@ module _ (b : Before) (start : Start) (s : Sheet) (book : Book) (w : Work) (made
 
 -- the span of the one row
 abbrev one_span : List PathStep → ℕ → Item → Span
-one_span left depth x = record { first = begin_of left depth; last = x.last; word = x.word; gap = x.gap }
+one_span left depth x = record { first = begin_of left depth; last = x.last; word = x.word }
 
 one_climbed : (b : Before) (start : Start) (s : Sheet) (book : Book) (w : Work) (made : List NewRow) (left right : List PathStep) (depth height : ℕ) (new : List Item) (d : Item)
     → AreRowsReplaced b start s book w made left right depth height new → length new ≡ 1 → Climbed start w left right depth height (one_span left depth (slice_index_or new 0 d) ∷ [])
@@ -222,7 +222,7 @@ module _ (b : Before) (start : Start) (s : Sheet) (book : Book) (w : Work) (made
       fills = may.rows.climbed.fills;
       some = let some = may.rows.some in let same = length-spans_from from new in omega arith;
       few = let few = may.rows.few in let slots = tree_slots start.tree (suc height) may.rows.under.holds.range in let same = length-spans_from from new in omega arith;
-      least = let is = ap (λ (c : Bool). if c then 2 else least_of_kind (kind_at start.tree.kind (suc height))) covers in let two = may.two in let same = length-spans_from from new in omega arith;
+      least = let is = ap (λ (c : Bool). if c then 2 else least_items_TODO (kind_at start.tree.kind (suc height))) covers in let two = may.two in let same = length-spans_from from new in omega arith;
       gapless = may.rows.climbed.gapless;
       fit = tt;
       leaves = λ none. absurd (omega arith);

@@ -38,8 +38,8 @@ gathered_may_be_written b start s book w left right depth height lo items made k
 module _ (b : Before) (start : Start) (s s₁ : Sheet) (book book₁ : Book) (w w₁ : Work) (left right : List PathStep) (depth height lo : ℕ) (items : List Item) (made : List NewRow) (new : List Item)
     (before : IsBefore b start) (gathered : Gathered start w left right depth height (spans_from lo items)) (written : AreRowsWritten b start s₁ book book₁ w w₁ height lo items made new) where
   -- once they are written the old rows may be buried
-  pub written_may_be_buried : AreOfKind b.sheet b.kind → b.sheet.flying ≡ true → b.sheet.published ≡ false → (number : ℕ) → number ≡ b.number → MayBuryRows b start s₁ book₁ w₁ left right depth height number
-  written_may_be_buried of_kind flying unpublished number call = record {
+  pub written_may_be_buried : AreOfKind b.sheet.kind b.sheet.tree.table.width b.kind → b.sheet.in_flight ≡ true → b.sheet.published ≡ false → (number : ℕ) → number ≡ b.number → MayBuryRows b start s₁ book₁ w₁ left right depth height number
+  written_may_be_buried of_kind in_flight unpublished number call = record {
     before = before;
     progress = written.progress;
     holds = holds_written start w w₁ height (spans_from lo items) (spans_from lo new) gathered.holds written.written;
@@ -48,7 +48,7 @@ module _ (b : Before) (start : Start) (s s₁ : Sheet) (book book₁ : Book) (w 
     yet = λ p. subst (λ (gone : List Seen). tally (p height) (rows_at start.tree depth) + passing p gone ≤ times_in p start.tree start.height) (sym written.written.gone)
         (gathered_others start w left right depth height (spans_from lo items) gathered p);
     of_kind = of_kind;
-    flying = flying;
+    in_flight = in_flight;
     unpublished = unpublished;
     call = call;
   }
@@ -81,7 +81,7 @@ module _ (b : Before) (start : Start) (s : Sheet) (book : Book) (w : Work) (kind
 
   module _ (s₁ : Sheet) (book₁ : Book) (w₁ : Work) (made₁ : List NewRow) (new : List Item) (written : AreRowsWritten b start s₁ book book₁ w w₁ height (begin_of left depth) items made₁ new) where
     pub level_may_be_buried : MayBuryRows b start s₁ book₁ w₁ left right depth height number
-    level_may_be_buried = written_may_be_buried b start s s₁ book book₁ w w₁ left right depth height (begin_of left depth) items made₁ new may.before may.gathered written may.told may.flying may.unpublished number may.call
+    level_may_be_buried = written_may_be_buried b start s s₁ book book₁ w w₁ left right depth height (begin_of left depth) items made₁ new may.before may.gathered written may.told may.in_flight may.unpublished number may.call
 
     pub level_done : (s₂ : Sheet) (book₂ : Book) (w₂ : Work) → AreRowsBuried b start s₂ book₂ w₁ w₂ depth height (begin_of left depth) (end_of right depth) → IsLevelRewritten b start s₂ book book₂ w₂ left right depth height made₁ new
     level_done s₂ book₂ w₂ buried = record {

@@ -48,7 +48,7 @@ pub rows_are_now : (b : Before) (start : Start) (s : sheet.Sheet) (book : Book) 
 rows_are_now b start s book w made levels under = record {
   rows = rows_now b start s book w under.case.was under.progress ∙ sym (ap (λ (t : Tree). t.rows) under.case.was.tree);
   words = ap words_of (sym (now_is b start s book w under.case.was under.progress));
-  of_kind = subst (AreOfKind s) (sym (ap (λ (t : Tree). t.kind) under.case.was.tree)) (is_tree_now b start s book w under.case.was under.progress under.holds under.case.lawful.of_kind).of_kind;
+  of_kind = subst (AreOfKind s.kind s.tree.table.width) (sym (ap (λ (t : Tree). t.kind) under.case.was.tree)) (is_tree_now b start s book w under.case.was under.progress under.holds under.case.lawful.of_kind).of_kind;
 }
 
 -- the greatest index, by the rows' width

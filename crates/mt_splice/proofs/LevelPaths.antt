@@ -61,7 +61,7 @@ module _ (b : Before) (start : Start) (s : Sheet) (book : Book) (w : Work) (befo
   root_now : s.tree.root ≡ start.tree.root
   root_now = progress.root ∙ sym (ap (λ (t : laws.Tree). t.root) before.tree)
 
-  tree_now : now start w ≡ tree_as b.kind s.rows s.tree
+  tree_now : now start w ≡ tree_as b.kind s.tree.rows s.tree
   tree_now =
       let rows = ap (λ (t : laws.Tree). t.rows) before.tree ∙ sym (rows_now b start s book w before progress) in
       let kind = ap (λ (t : laws.Tree). t.kind) before.tree in
@@ -70,7 +70,7 @@ module _ (b : Before) (start : Start) (s : Sheet) (book : Book) (w : Work) (befo
       λ i. record { rows = rows i; kind = kind i; table = table i; root = root i }
 
   -- the words are a tree still
-  pub is_tree_now : AreOfKind b.sheet b.kind → IsTreeOf s b.kind
+  pub is_tree_now : AreOfKind b.sheet.kind b.sheet.tree.table.width b.kind → IsTreeOf s.tree b.kind
   is_tree_now of_kind = record {
     of_kind = record {
       told = subst (λ (k : Option Kind). IfSome k (λ k. k ≡ b.kind)) (sym (ap (λ (k : Sheet). k.kind) progress.rest)) of_kind.told;

@@ -65,7 +65,7 @@ last_ends d (suc k) m (x ∷ []) at = absurd (omega arith)
 last_ends d (suc k) m (x ∷ y ∷ items) at = last_ends d k x.last (y ∷ items) (omega arith)
 
 -- one span in the place of several
-one_fills : (lo begin hi word : ℕ) (items : List Item) → 1 ≤ length items → Fills lo hi (spans_from begin items) → Fills lo hi (record { first = begin; last = end_of 0 items; word = word; gap = 0 } ∷ [])
+one_fills : (lo begin hi word : ℕ) (items : List Item) → 1 ≤ length items → Fills lo hi (spans_from begin items) → Fills lo hi (record { first = begin; last = end_of 0 items; word = word } ∷ [])
 one_fills lo begin hi word [] some fills = absurd (omega arith)
 one_fills lo begin hi word (x ∷ items) some fills =
     let end = fills_end lo begin hi 0 (x ∷ items) some fills in
@@ -102,10 +102,10 @@ length-words Long Leaf items fit = length-padded 32 (used 16 0 no_parent items (
 length-words Long Inner items fit = length-padded 32 (used 16 0 no_parent items (inl (refl, refl)) fit) (let all = length-used 16 0 no_parent items (inl (refl, refl)) fit in omega arith)
 length-words Long Gapped items fit = length-padded 32 (used 10 10 no_parent items (inr (refl, refl)) fit) (let all = length-used 10 10 no_parent items (inr (refl, refl)) fit in omega arith)
 
-module _ (t : Tree) (height lo hi : ℕ) (kind : RowKind) (row : ℕ) (items : List Item) (new : IsNewRow t.table kind row items) (is : kind ≡ kind_at t.kind height) (in_table : row < 16 + t.rows)
+module _ (t : Tree) (height lo hi : ℕ) (kind : RowKind) (row : ℕ) (items : List Item) (new : IsNewRow t.table kind row items) (is : kind ≡ kind_at t.kind height) (in_table : row < first_row + t.rows)
     (run : IsRun t height lo hi items) (fit : length items ≤ slots_of t.table.width kind) where
   abbrev at : Span
-  at = record { first = lo; last = end_of 0 items; word = name_at row kind; gap = 0 }
+  at = record { first = lo; last = end_of 0 items; word = name_at row kind }
 
   spans : spans_in t.table at ≡ spans_from lo items
   spans = new_spans t.table kind row items new lo 0
@@ -138,14 +138,14 @@ module _ (t : Tree) (height lo hi : ℕ) (kind : RowKind) (row : ℕ) (items : L
   new_lawful = record {
     name = record {
       named = new_named t.table kind row items new ∙ ap (λ (k : RowKind). Some k) is;
-      in_table = subst (λ (r : ℕ). r < 16 + t.rows) (sym (row_named row kind)) in_table;
+      in_table = subst (λ (r : ℕ). r < first_row + t.rows) (sym (row_named row kind)) in_table;
     };
     pivots = record {
       fills = subst (λ (n : ℕ). Fills lo n (spans_in t.table at)) end_is (subst (Fills lo hi) (sym spans) run.fills);
       unused = λ c within. new_unused t.table kind row items new lo 0 c within ∙ ap (λ (k : RowKind). slice_index (words_in t.table k at) c) is;
     };
     count = record {
-      least = subst (λ (n : ℕ). least_of t height (record { first = lo; last = n; word = 0; gap = 0 }) ≤ length (spans_in t.table at)) last_is
+      least = subst (λ (n : ℕ). least_of t height (record { first = lo; last = n; word = 0 }) ≤ length (spans_in t.table at)) last_is
           (subst (λ (n : ℕ). least_of t height (span_to lo hi) ≤ n) (sym spans_long) run.least);
       most = subst (λ (k : RowKind). length (spans_in t.table at) ≤ slots_of t.table.width k) is (subst (λ (n : ℕ). n ≤ slots_of t.table.width kind) (sym length_is) fit);
     };
@@ -186,7 +186,7 @@ row_may_be_written b start s book w kind height lo hi items made may = run_fits 
 module _ (b : Before) (start : Start) (s s' : Sheet) (book book' : Book) (w : Work) (kind : RowKind) (height lo hi : ℕ) (items : List Item) (made : List NewRow) (word : ℕ)
     (may : MayWriteRow b start s book w kind height lo hi items made) (written : IsRowWritten s s' book book' kind items word) where
   abbrev pub new_at : Span
-  new_at = record { first = lo; last = end_of 0 items; word = word; gap = 0 }
+  new_at = record { first = lo; last = end_of 0 items; word = word }
 
   abbrev pub new_seen : Seen
   new_seen = record { height = height; at = new_at }
@@ -218,20 +218,20 @@ module _ (b : Before) (start : Start) (s s' : Sheet) (book book' : Book) (w : Wo
         ∙ ap (λ (v : Width). slice_index (row_words (columns v) (slots_of v kind) (gaps_of v kind) no_parent items) c) (sym written.drafted.width);
   }
 
-  row_in_tree : written.row < 16 + start.tree.rows
+  row_in_tree : written.row < first_row + start.tree.rows
   row_in_tree =
       let at = row_number b start s s' book book' w kind items new_seen may.before may.progress written in
-      subst (λ (n : ℕ). written.row < 16 + n) (ap (λ (k : Sheet). k.rows) may.progress.rest ∙ sym (ap (λ (t : Tree). t.rows) may.before.tree)) at.1
+      subst (λ (n : ℕ). written.row < first_row + n) (ap (λ (k : Sheet). k.tree.rows) may.progress.rest ∙ sym (ap (λ (t : Tree). t.rows) may.before.tree)) at.1
 
   fit_then : length items ≤ slots_of start.tree.table.width kind
   fit_then = subst (λ (v : Width). length items ≤ slots_of v kind) (may.progress.width ∙ sym (ap (λ (t : Tree). t.table.width) may.before.tree)) may.fit
 
   lawful_then : IsRow (now start work_then) height new_at
-  lawful_then = subst (λ (n : ℕ). IsRow (now start work_then) height (record { first = lo; last = end_of 0 items; word = n; gap = 0 })) (sym written.named)
+  lawful_then = subst (λ (n : ℕ). IsRow (now start work_then) height (record { first = lo; last = end_of 0 items; word = n })) (sym written.named)
       (new_lawful (now start work_then) height lo hi kind written.row items (subst (λ (t : Table). IsNewRow t kind written.row items) (sym table_then) new_then) may.of_kind row_in_tree (run_now start work_then height lo hi items may.run) fit_then)
 
   spans_then : spans_in s'.tree.table new_at ≡ spans_from lo items
-  spans_then = ap (λ (n : ℕ). spans_in s'.tree.table (record { first = lo; last = end_of 0 items; word = n; gap = 0 })) written.named ∙ new_spans s'.tree.table kind written.row items new_then lo 0
+  spans_then = ap (λ (n : ℕ). spans_in s'.tree.table (record { first = lo; last = end_of 0 items; word = n })) written.named ∙ new_spans s'.tree.table kind written.row items new_then lo 0
 
   pub one_written : AreWritten start w work_then height (spans_from lo items) (new_at ∷ [])
   one_written = record {

@@ -15,7 +15,7 @@ use Rattle.mt_base.specs.declared.widths.Width.TheVariants.{Long}
 use Rattle.mt_base.specs.declared.kinds.Kind.{Kind}
 use Rattle.mt_base.specs.declared.kinds.Kind.TheVariants.{Range, Alloc}
 use Rattle.mt_rows.specs.Spans.{slots_of, inner_kind}
-use Rattle.mt_rows.specs.Laws.{IsRow, kind_at, least_of_kind}
+use Rattle.mt_rows.specs.Laws.{IsRow, kind_at, least_items_TODO}
 use Rattle.mt_rows.specs.Sheet.{Sheet}
 use Rattle.mt_rows.proofs.Lists.{all_join, all_map, tally-append, expand-append, fills-append}
 use Rattle.mt_rows.proofs.SlotWords.{length-spans_from}
@@ -81,7 +81,7 @@ pub record AreRowsSoFar (b : Before) (start : Start) (s' : Sheet) (book book' : 
 
 -- the first row is still to be written
 pub none_so_far : (b : Before) (start : Start) (s : Sheet) (book : Book) (w : Work) (kind : RowKind) (height lo hi : ℕ) (items : List Item) (made : List NewRow) (most : ℕ) (leaf : Bool) (ends : List ℕ)
-    → MayWriteRows b start s book w kind height lo hi items made → most ≡ slots_of s.tree.table.width kind → (kind ≡ Leaf → leaf ≡ true) → IsCut leaf (least_of_kind kind) most items ends
+    → MayWriteRows b start s book w kind height lo hi items made → most ≡ slots_of s.tree.table.width kind → (kind ≡ Leaf → leaf ≡ true) → IsCut leaf (least_items_TODO kind) most items ends
     → AreRowsSoFar b start s book book w w height most lo items made [] 0 ends
 none_so_far b start s book w kind height lo hi items made most leaf ends may most_is leaf_is cut = record {
   progress = may.progress;
@@ -90,7 +90,7 @@ none_so_far b start s book w kind height lo hi items made most leaf ends may mos
   free = omega arith;
   reach = refl;
   parts = cut_makes_parts start.tree height lo hi items leaf most may.run (λ zero. leaf_is (may.of_kind ∙ ap (kind_at start.tree.kind) zero)) ends
-      (subst (λ (k : RowKind). IsCut leaf (least_of_kind k) most items ends) may.of_kind cut);
+      (subst (λ (k : RowKind). IsCut leaf (least_items_TODO k) most items ends) may.of_kind cut);
 }
 
 -- the rows are all written
@@ -147,7 +147,7 @@ module _ (b : Before) (start : Start) (s' : Sheet) (book book' : Book) (w w' : W
 
 -- ---- what a cut asks for
 
-pub sizes_fit : (w : Width) (kind : RowKind) → 2 * least_of_kind kind + 2 ≤ slots_of w kind
+pub sizes_fit : (w : Width) (kind : RowKind) → 2 * least_items_TODO kind + 2 ≤ slots_of w kind
 sizes_fit Long Leaf = omega arith
 sizes_fit Long Inner = omega arith
 sizes_fit Long Gapped = omega arith
@@ -184,7 +184,7 @@ pub record IsSoFar (s s' : Sheet) (book book' : Book) (kind : RowKind) (most : �
   pub so : (b : Before) (start : Start) (w : Work) (height lo hi : ℕ) → MayWriteRows b start s book w kind height lo hi items made → (w' : Work) × AreRowsSoFar b start s' book book' w w' height most lo items made' new from (drop index ends)
 
 pub so_far_none : (s : Sheet) (book : Book) (kind : RowKind) (most : ℕ) (items : List Item) (made : List NewRow) (leaf : Bool) (ends : List ℕ) → most ≡ slots_of s.tree.table.width kind → (kind ≡ Leaf → leaf ≡ true)
-    → IsCut leaf (least_of_kind kind) most items ends → IsSoFar s s book book kind most items made made [] 0 ends 0
+    → IsCut leaf (least_items_TODO kind) most items ends → IsSoFar s s book book kind most items made made [] 0 ends 0
 so_far_none s book kind most items made leaf ends most_is leaf_is cut = record {
   count = refl;
   notes = omega arith;

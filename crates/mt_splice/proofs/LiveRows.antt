@@ -15,13 +15,13 @@ use Rattle.mt_splice.specs.Splice.{IsBookOf}
 use Rattle.mt_splice.proofs.Counting.{times_of, contains_times, times_contains, apart_once, span_length}
 
 -- no row is reached twice, also where the tree is empty
-pub reached_once : (s : Sheet) (kind : Kind) → IsTreeOf s kind → (row : ℕ) → times_of row (reached_in s.tree.table s.tree.root) ≤ 1
+pub reached_once : (s : Sheet) (kind : Kind) → IsTreeOf s.tree kind → (row : ℕ) → times_of row (reached_in s.tree.table s.tree.root) ≤ 1
 reached_once s kind tree row = elim tree.words [
   | inl empty ↦ let none : times_of row (reached_in s.tree.table s.tree.root) ≡ 0 = ap (λ (root : ℕ). times_of row (reached_in s.tree.table root)) empty in omega arith
-  | inr stands ↦ once_in (tree_as kind s.rows s.tree) stands.0 row stands.1
+  | inr stands ↦ once_in (tree_as kind s.tree.rows s.tree) stands.0 row stands.1
 ]
 
-module _ (s : Sheet) (kind : Kind) (book : Book) (number : ℕ) (tree : IsTreeOf s kind) (of : IsBookOf s book number) where
+module _ (s : Sheet) (kind : Kind) (book : Book) (number : ℕ) (tree : IsTreeOf s.tree kind) (of : IsBookOf s.tree s.lives s.cleared book number) where
   abbrev reached : List ℕ
   reached = reached_in s.tree.table s.tree.root
 
@@ -50,21 +50,21 @@ module _ (s : Sheet) (kind : Kind) (book : Book) (number : ℕ) (tree : IsTreeOf
       none (suc n) not = absurd (not (omega arith))
 
   -- and every other one is
-  others_reached : (row : ℕ) → 16 ≤ row → row < 16 + book.rows → times_of row inside ≡ 0 → 1 ≤ times_of row reached
+  others_reached : (row : ℕ) → first_row ≤ row → row < first_row + book.rows → times_of row inside ≡ 0 → 1 ≤ times_of row reached
   others_reached row from below none = reached_times row (of.out row from (let same = of.rows in omega arith) record {
     here = (from, below);
     not_free = λ free. (let some = contains_times inside row (Contains-append_left book.free (held_rows book) row free) in omega arith);
     not_held = λ held. (let some = contains_times inside row (Contains-append_right book.free (held_rows book) row held) in omega arith);
   })
 
-  all_inside : (row : ℕ) → 1 ≤ times_of row (inside ++ reached) → (16 ≤ row) × (row < 16 + book.rows)
+  all_inside : (row : ℕ) → 1 ≤ times_of row (inside ++ reached) → (first_row ≤ row) × (row < first_row + book.rows)
   all_inside row some = either (times_of row inside) refl
     where
-      either : (n : ℕ) → times_of row inside ≡ n → (16 ≤ row) × (row < 16 + book.rows)
+      either : (n : ℕ) → times_of row inside ≡ n → (first_row ≤ row) × (row < first_row + book.rows)
       either zero none = (of.reached row (times_reached row (let parts = tally-append (λ (r : ℕ). r == row) inside reached in omega arith))).here
       either (suc n) some = All-contains (IsRowOf book) inside row inside_rows (times_contains inside row (omega arith))
 
-  each_once : (row : ℕ) → 16 ≤ row → row < 16 + book.rows → times_of row (inside ++ reached) ≡ 1
+  each_once : (row : ℕ) → first_row ≤ row → row < first_row + book.rows → times_of row (inside ++ reached) ≡ 1
   each_once row from below = either (times_of row inside) refl
     where
       either : (n : ℕ) → times_of row inside ≡ n → times_of row (inside ++ reached) ≡ 1

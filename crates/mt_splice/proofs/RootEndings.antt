@@ -31,7 +31,7 @@ reroot t root h xs rows = levels_map (IsRow t) (IsRow (with_root t root)) t.tabl
 
 -- a span that covers all, and has no gap, is that of a root
 root_is : (t : Tree) (x : Span) → x.first ≡ 0 → x.last ≡ top_of t → x.gap ≡ 0 → x ≡ root_span t.table x.word
-root_is t x first last gap = λ i. record { first = first i; last = last i; word = x.word; gap = gap i }
+root_is t x first last gap = λ i. record { first = first i; last = last i; word = x.word }
 
 -- the rows of one level stand in place of the whole tree
 module _ (start : Start) (s : Work) (x : Span) (first : x.first ≡ 0) (last : x.last ≡ top_of start.tree) (gap : x.gap ≡ 0) where

@@ -11,7 +11,7 @@ use Rattle.mt_base.specs.Map.{over}
 use Rattle.mt_layout.specs.declared.spans.Span.{Span}
 use Rattle.mt_layout.specs.Spans.{leaf_range, Fills, Apart, EndsFull}
 use Rattle.mt_rows.specs.Spans.{slots_of, spans_in}
-use Rattle.mt_rows.specs.Laws.{Tree, IsRow, top_of, kind_at, covers_all, least_of_root, least_of_kind, least_of}
+use Rattle.mt_rows.specs.Laws.{Tree, IsRow, top_of, kind_at, covers_all, least_of_root, least_items_TODO, least_of}
 use Rattle.mt_leaf.specs.Edits.{stored, edited, ends_with_hole}
 use Rattle.mt_leaf.proofs.Stored.{ranges_edited, fills_edited, length_edited}
 use Rattle.mt_leaf.proofs.Counts.{no_gaps-edited}
@@ -33,12 +33,12 @@ use Rattle.mt_splice.proofs.Rises.{at_here, step_here, row_is_lawful, spans_here
 
 -- ---- rows of a tree of ranges
 
-range_least : (h : ℕ) → least_of_kind (kind_at trees.Range h) ≡ 6
+range_least : (h : ℕ) → least_items_TODO (kind_at trees.Range h) ≡ 6
 range_least zero = refl
 range_least (suc h) = refl
 
-pub tree_least : (t : Tree) (h : ℕ) → t.kind ≡ trees.Range → least_of_kind (kind_at t.kind h) ≡ 6
-tree_least t h range = ap (λ (kind : Kind). least_of_kind (kind_at kind h)) range ∙ range_least h
+pub tree_least : (t : Tree) (h : ℕ) → t.kind ≡ trees.Range → least_items_TODO (kind_at t.kind h) ≡ 6
+tree_least t h range = ap (λ (kind : Kind). least_items_TODO (kind_at kind h)) range ∙ range_least h
 
 row_most : (t : Tree) (h : ℕ) (x : Span) → t.kind ≡ trees.Range → IsRow t h x → length (spans_in t.table x) ≤ 16
 row_most t h x range row =
@@ -47,8 +47,8 @@ row_most t h x range row =
 
 part_least : (t : Tree) (h : ℕ) (x : Span) → t.kind ≡ trees.Range → covers_all t x ≡ false → IsRow t h x → 6 ≤ length (spans_in t.table x)
 part_least t h x range part row =
-    let least : least_of_kind (kind_at t.kind h) ≤ length (spans_in t.table x) = subst (λ (b : Bool). (if b then least_of_root h else least_of_kind (kind_at t.kind h)) ≤ length (spans_in t.table x)) part row.count.least in
-    subst (λ (n : ℕ). n ≤ length (spans_in t.table x)) (range_least h) (subst (λ (kind : Kind). least_of_kind (kind_at kind h) ≤ length (spans_in t.table x)) range least)
+    let least : least_items_TODO (kind_at t.kind h) ≤ length (spans_in t.table x) = subst (λ (b : Bool). (if b then least_of_root h else least_items_TODO (kind_at t.kind h)) ≤ length (spans_in t.table x)) part row.count.least in
+    subst (λ (n : ℕ). n ≤ length (spans_in t.table x)) (range_least h) (subst (λ (kind : Kind). least_items_TODO (kind_at kind h) ≤ length (spans_in t.table x)) range least)
 
 late_part : (t : Tree) (x : Span) → 0 < x.first → covers_all t x ≡ false
 late_part t x late = let not : (x.first == 0) ≡ false = ne_eqb x.first 0 (λ none. omega arith) in rw not refl
@@ -133,7 +133,7 @@ six_enough t height lo hi run range six = by (covers_all t (span_to lo hi))
     root_least zero = omega arith
     root_least (suc height) = omega arith
 
-    by : (b : Bool) → (if b then least_of_root height else least_of_kind (kind_at t.kind height)) ≤ length run
+    by : (b : Bool) → (if b then least_of_root height else least_items_TODO (kind_at t.kind height)) ≤ length run
     by true = let least = root_least height in omega arith
     by false = let least = tree_least t height range in omega arith
 
@@ -155,7 +155,7 @@ leaves_hold_an_entry start s left right depth run gathered not_hole = by run (so
     by (x ∷ y ∷ ys) some apart not_hole = two_hold_an_entry (x ∷ y ∷ ys) apart (omega arith)
 
 -- enough spans, which end with an entry or with the greatest index
-pub cut_alone : (start : Start) (s : Work) (left right : List PathStep) (depth height : ℕ) (run : List Span) → Gathered start s left right depth height run → length run ≤ most_items start.tree.table.width (kind_at start.tree.kind height) → least_of_kind (kind_at start.tree.kind height) ≤ length run
+pub cut_alone : (start : Start) (s : Work) (left right : List PathStep) (depth height : ℕ) (run : List Span) → Gathered start s left right depth height run → length run ≤ most_items start.tree.table.width (kind_at start.tree.kind height) → least_items_TODO (kind_at start.tree.kind height) ≤ length run
     → (height ≡ 0 → (step_at right depth).max < top_of start.tree → ends_with_hole run ≡ false) → MayBeCut start.tree height (begin_of left depth) (end_of right depth) run
 cut_alone start s left right depth height run gathered few least ends =
     let six : 6 ≤ length run = (let is = tree_least start.tree height gathered.holds.range in omega arith) in
@@ -189,7 +189,7 @@ pub empty_run : (t : Tree) (right : List PathStep) (first last entry : ℕ) → 
     → MayBeCut t 0 0 (top_of t + 1) (edited (region_of t.table [] right) first last entry) × (flat_map leaf_range (edited (region_of t.table [] right) first last entry) ≡ over [] first last entry)
     × (length (edited (region_of t.table [] right) first last entry) ≤ 3)
 empty_run t right first last entry order within free some =
-    let hole : Span = record { first = 0; last = top_of t; word = 0; gap = 0 } in
+    let hole : Span = record { first = 0; last = top_of t; word = 0 } in
     let whole : Fills 0 (top_of t + 1) (hole ∷ []) = (refl, omega arith, refl) in
     let fills = fills_edited 0 (top_of t + 1) first last entry (hole ∷ []) whole (omega arith) order (omega arith) in
     let count = length_edited 0 (top_of t + 1) first last entry (hole ∷ []) whole order in

@@ -41,13 +41,13 @@ passing_within p q within seen = tally_within (λ (s : Seen). p s.height s.at) (
 -- ---- rows that are reached
 
 -- they are rows of the table
-pub reached_within : (t : Tree) (h row : ℕ) → Stands t h → 1 ≤ times_in (is_row_of row) t h → (16 ≤ row) × (row < 16 + t.rows)
+pub reached_within : (t : Tree) (h row : ℕ) → Stands t h → 1 ≤ times_in (is_row_of row) t h → (first_row ≤ row) × (row < first_row + t.rows)
 reached_within t h row stands some =
     let place = reached_on_level t h stands row some in
     let on = place.2 in
     let law = all_one_of (IsRow t place.0) (level t.table on.depth (root_of t)) place.1 (level_rows (IsRow t) t.table on.depth place.0 h (root_of t) on.height stands.rows) on.one in
     let name = Names-named_kind place.1.word (kind_at t.kind place.0) law.name.named in
-    subst (λ (n : ℕ). (16 ≤ n) × (n < 16 + t.rows)) place.3 (name.0.0, law.name.in_table)
+    subst (λ (n : ℕ). (first_row ≤ n) × (n < first_row + t.rows)) place.3 (name.0.0, law.name.in_table)
 
 -- the gap of a span does not tell what stands in it
 other_gap : (t : Table) (x : Span) (gap : ℕ) → spans_in t (record x { gap = gap }) ≡ spans_in t x
@@ -58,18 +58,18 @@ other_gap t x gap = by (named_kind x.word)
     by (Some kind) = refl
 
 same_spans_in : (t : Table) (x x' : Span) → x'.first ≡ x.first → x'.last ≡ x.last → x'.word ≡ x.word → spans_in t x' ≡ spans_in t x
-same_spans_in t x x' first last word = sym (other_gap t x' x.gap) ∙ (λ i. spans_in t (record { first = first i; last = last i; word = word i; gap = x.gap }))
+same_spans_in t x x' first last word = sym (other_gap t x' x.gap) ∙ (λ i. spans_in t (record { first = first i; last = last i; word = word i }))
 
 -- ---- what a publishing store makes of rows
 
 module _ (kind : Kind) (s : sheet.Sheet) (tree' : sheet.Tree) (m : List Range) (taken gone : List Seen) (call : Call) (reply : Reply) (h h' : ℕ)
-    (ready : IsReady kind s m taken gone call reply) (stands : Stands (tree_as kind s.rows s.tree) h) (replaced : IsReplaced (tree_as kind s.rows s.tree) (tree_as kind s.rows tree') m taken gone h h')
+    (ready : IsReady kind s m taken gone call reply) (stands : Stands (tree_as kind s.tree.rows s.tree) h) (replaced : IsReplaced (tree_as kind s.tree.rows s.tree) (tree_as kind s.tree.rows tree') m taken gone h h')
     (slots : (k : ℕ) (x : Span) → StandsAt s.tree k x → SameHoles (spans_in s.tree.table x) (spans_in tree'.table x)) where
   abbrev t : Tree
-  t = tree_as kind s.rows s.tree
+  t = tree_as kind s.tree.rows s.tree
 
   abbrev t' : Tree
-  t' = tree_as kind s.rows tree'
+  t' = tree_as kind s.tree.rows tree'
 
   abbrev was : ℕ → ℕ
   was row = times_in (is_row_of row) t h
@@ -104,7 +104,7 @@ module _ (kind : Kind) (s : sheet.Sheet) (tree' : sheet.Tree) (m : List Range) (
       let same = tally_reached t' h' replaced.stands row in
       le-ltb 0 (tally (λ (r : ℕ). r == row) (reached_in tree'.table tree'.root)) (omega arith)
 
-  buried_is_gone : (row : ℕ) → 16 ≤ row → row < 16 + s.rows → sheet.is_buried s row ≡ true → IsReached s.tree row × (is_reached tree' row ≡ false)
+  buried_is_gone : (row : ℕ) → first_row ≤ row → row < first_row + s.tree.rows → sheet.is_buried s row ≡ true → IsReached s.tree row × (is_reached tree' row ≡ false)
   buried_is_gone row low high buried =
       let once = times_in_once t h stands row in
       let one = ready.just_those row low high buried in

@@ -116,7 +116,7 @@ module _ (start : Start) (s : Work) (left right : List PathStep) (depth height :
       let last : x.last ≡ replaced.last = (let end = fills.2 in let same = ends in omega arith) in
       let gapless = subst (AllByRecursion (λ (y : Span). y.gap ≡ 0)) child_at.parts (gapless_row old (suc height) parent holds.range (row_is_lawful start s holds left i within climbed.paths.is_left depth (suc height) levels)) in
       let gap : x.gap ≡ replaced.gap = climbed.gapless.0 ∙ sym (all_back (λ (y : Span). y.gap ≡ 0) child_at.front (replaced ∷ child_at.back) gapless).0 in
-      λ k. record { first = first k; last = last k; word = x.word; gap = gap k }
+      λ k. record { first = first k; last = last k; word = x.word }
 
   half : IsHalfReplaced old s.words start.map s.taken s.gone height (rows_at old (suc depth)) (front ++ (x ∷ back))
   half = subst (IsHalfReplaced old s.words start.map s.taken s.gone height (rows_at old (suc depth))) (λ k. front_is k ++ (x ∷ back_is k)) climbed.half

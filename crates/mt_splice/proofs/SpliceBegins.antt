@@ -74,12 +74,12 @@ abbrev pub before_of : Kind → Sheet → Book → ℕ → Before
 before_of kind s book number = record { sheet = s; book = book; kind = kind; number = number }
 
 abbrev pub start_of : Kind → Sheet → ℕ → List Range → Start
-start_of kind s height map = record { tree = tree_as kind s.rows s.tree; height = height; map = map }
+start_of kind s height map = record { tree = tree_as kind s.tree.rows s.tree; height = height; map = map }
 
 abbrev pub work_of : Sheet → Work
 work_of s = record { words = s.tree.table.words; used = λ row. is_reached s.tree row || false; taken = []; gone = [] }
 
-pub nothing_done : (kind : Kind) (s : Sheet) (book : Book) (number : ℕ) → IsWhole s → NoneBuried s → IsProgress (before_of kind s book number) s book (work_of s)
+pub nothing_done : (kind : Kind) (s : Sheet) (book : Book) (number : ℕ) → IsWhole s → NoneBuried s.tree.rows s.buried → IsProgress (before_of kind s book number) s book (work_of s)
 nothing_done kind s book number whole none_buried = record {
   rest = refl;
   root = refl;
@@ -120,12 +120,12 @@ module _ (kind : Kind) (s : Sheet) (book : Book) (left right : List PathStep) (i
 
   -- ---- a tree stands
 
-  module _ (h : ℕ) (stands : Stands (tree_as kind s.rows s.tree) h) where
+  module _ (h : ℕ) (stands : Stands (tree_as kind s.tree.rows s.tree) h) where
     begins : Begins (start_at h) (work_of s) left right may.first may.last may.entry
     begins = record {
       range = may.range;
       stands = stands;
-      map = ap (λ (m : List Range). over m may.first may.last may.entry) (ranges_by_depth (tree_as kind s.rows s.tree) deepest h (root_span s.tree.table s.tree.root) stands.low stands.rows);
+      map = ap (λ (m : List Range). over m may.first may.last may.entry) (ranges_by_depth (tree_as kind s.tree.rows s.tree) deepest h (root_span s.tree.table s.tree.root) stands.low stands.rows);
       order = may.store.order;
       within = may.store.within;
       free = may.store.lawful;
@@ -138,7 +138,7 @@ module _ (kind : Kind) (s : Sheet) (book : Book) (left right : List PathStep) (i
     }
 
     left_levels : length left ≡ h + 1
-    left_levels = ap length may.left_path ∙ paths.levels (tree_as kind s.rows s.tree) h stands may.first (let order = may.store.order in let within = may.store.within in omega arith)
+    left_levels = ap length may.left_path ∙ paths.levels (tree_as kind s.tree.rows s.tree) h stands may.first (let order = may.store.order in let within = may.store.within in omega arith)
 
     run_is : spans_from (step_at left h).min items ≡ edited (region_of s.tree.table left right) may.first may.last may.entry
     run_is = subst (λ (d : ℕ). spans_from (step_at left d).min items ≡ edited (region_of s.tree.table left right) may.first may.last may.entry) (let all = left_levels in omega arith) may.edits
@@ -146,15 +146,15 @@ module _ (kind : Kind) (s : Sheet) (book : Book) (left right : List PathStep) (i
     run_gathered : Gathered (start_at h) (work_of s) left right h 0 (spans_from (step_at left h).min items)
     run_gathered = leaves_gathered (start_at h) (work_of s) left right may.first may.last may.entry begins (spans_from (step_at left h).min items) run_is
 
-    run_few : IsLeafRun (tree_as kind s.rows s.tree) (step_at right h).max (spans_from (step_at left h).min items)
+    run_few : IsLeafRun (tree_as kind s.tree.rows s.tree) (step_at right h).max (spans_from (step_at left h).min items)
     run_few = leaves_run (start_at h) (work_of s) left right may.first may.last may.entry begins (spans_from (step_at left h).min items) run_is
 
     case_is : IsCase b (start_at h)
     case_is = record {
       range = may.range;
-      flying = may.flying;
-      unpublished = may.before;
       in_flight = may.in_flight;
+      unpublished = may.before;
+      numbered = may.numbered;
       was = before_splice h;
       lawful = may.lawful;
     }
@@ -165,7 +165,7 @@ module _ (kind : Kind) (s : Sheet) (book : Book) (left right : List PathStep) (i
       progress = none_done;
       holds = holds_first (start_at h) (work_of s) left right may.first may.last may.entry begins;
       inner = refl;
-      room = let room = may.room in let high = height_by_depth (tree_as kind s.rows s.tree) deepest h (root_span s.tree.table s.tree.root) stands.low stands.rows in omega arith;
+      room = let room = may.room in let high = height_by_depth (tree_as kind s.tree.rows s.tree) deepest h (root_span s.tree.table s.tree.root) stands.low stands.rows in omega arith;
       few = omega arith;
     }
 
@@ -189,7 +189,7 @@ module _ (kind : Kind) (s : Sheet) (book : Book) (left right : List PathStep) (i
   -- the leaves' level may be replaced first
   pub leaves_may_be_replaced : (depth : ℕ) → depth + 1 ≡ length left → MayReplaceLevel b (start_at depth) s book (work_of s) [] Leaf left right depth 0 items number call reply
   leaves_may_be_replaced depth deep =
-      let tree = stands_of (tree_as kind s.rows s.tree) may.lawful.words (λ empty. let none = ap length (may.left_path ∙ no_path s.tree.table s.tree.root may.first empty) in omega arith) in
+      let tree = stands_of (tree_as kind s.tree.rows s.tree) may.lawful.words (λ empty. let none = ap length (may.left_path ∙ no_path s.tree.table s.tree.root may.first empty) in omega arith) in
       let same : tree.0 ≡ depth = (let all = left_levels tree.0 tree.1 in omega arith) in
       subst (λ (h : ℕ). MayReplaceLevel b (start_at h) s book (work_of s) [] Leaf left right h 0 items number call reply) same (may_replace tree.0 tree.1)
 
@@ -211,7 +211,7 @@ some_steps path n is some = let other = eqb-false (length path) 0 some in omega 
 
 -- a span that covers all, and has no gap, is that of a root
 root_is : (t : Tree) (x : Span) → x.first ≡ 0 → x.last ≡ top_of t → x.gap ≡ 0 → x ≡ root_span t.table x.word
-root_is t x first last gap = λ i. record { first = first i; last = last i; word = x.word; gap = gap i }
+root_is t x first last gap = λ i. record { first = first i; last = last i; word = x.word }
 
 one_counted : (seen : List Seen) (free free' : List ℕ) → free ≡ free' ++ map row_seen seen → length free ≡ length free' + 1 → length seen ≡ 1
 one_counted seen free free' is one = let all = ap length is ∙ length-append free' (map row_seen seen) in let same = length-map seen row_seen in omega arith
@@ -224,7 +224,7 @@ module _ (kind : Kind) (s : Sheet) (book : Book) (right : List PathStep) (items 
   start₀ = start_at kind s book [] right items number call reply may whole 0
 
   abbrev tree₀ : Tree
-  tree₀ = tree_as kind s.rows s.tree
+  tree₀ = tree_as kind s.tree.rows s.tree
 
   abbrev hi : ℕ
   hi = top_of tree₀ + 1
@@ -260,7 +260,7 @@ module _ (kind : Kind) (s : Sheet) (book : Book) (right : List PathStep) (items 
   -- and then published
   module _ (s' : Sheet) (book' : Book) (w' : Work) (made : List NewRow) (item : Item) (one : IsOneWritten b₀ start₀ s' book book' (work_of s) w' 0 0 hi items made item) (sound : IsBook book') where
     abbrev leaf : Span
-    leaf = record { first = 0; last = item.last; word = item.word; gap = item.gap }
+    leaf = record { first = 0; last = item.last; word = item.word }
 
     leaf_last : item.last ≡ top_of tree₀
     leaf_last = let last = one.last in omega arith
@@ -283,9 +283,9 @@ module _ (kind : Kind) (s : Sheet) (book : Book) (right : List PathStep) (items 
     pub first_may_end : MayEnd (first_end b₀ start₀ w' book') s' made Root item.word call reply
     first_may_end = record {
       range = may.range;
-      flying = may.flying;
-      unpublished = may.before;
       in_flight = may.in_flight;
+      unpublished = may.before;
+      numbered = may.numbered;
       was = before_splice kind s book [] right items number call reply may whole 0;
       lawful = may.lawful;
       progress = one.progress;

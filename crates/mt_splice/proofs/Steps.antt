@@ -65,8 +65,8 @@ module _ (b : Before) (start : Start) (s : Sheet) (book : Book) (w : Work) (befo
   pub table_now : table_with start.tree.table w.words ≡ s.tree.table
   table_now = λ i. record { width = (ap (λ (t : laws.Tree). t.table.width) before.tree ∙ sym progress.width) i; words = sym progress.words i }
 
-  pub rows_now : s.rows ≡ b.sheet.rows
-  rows_now = ap (λ (k : Sheet). k.rows) progress.rest
+  pub rows_now : s.tree.rows ≡ b.sheet.tree.rows
+  rows_now = ap (λ (k : Sheet). k.tree.rows) progress.rest
 
   pub cleared_now : s.cleared ≡ b.sheet.cleared
   cleared_now = ap (λ (k : Sheet). k.cleared) progress.rest
@@ -91,18 +91,18 @@ module _ (b : Before) (start : Start) (s : Sheet) (book : Book) (w : Work) (befo
   pub free_unused : (row : ℕ) → Contains book.free row → w.used row ≡ false
   free_unused row here = progress.used row ∙ or_none (is_reached b.sheet.tree row) (is_taken w row) (free_unreached row here) (free_untaken row here)
 
-  life_untaken : (row : ℕ) → 16 ≤ row → row < 16 + b.sheet.rows → is_taken w row ≡ false → life_of s row ≡ life_of b.sheet row
-  life_untaken row low high untaken = progress.lives row low high ∙ ap (λ (t : Bool). if t then Draft else life_of b.sheet row) untaken
+  life_untaken : (row : ℕ) → first_row ≤ row → row < first_row + b.sheet.tree.rows → is_taken w row ≡ false → life_of s.lives row ≡ life_of b.sheet.lives row
+  life_untaken row low high untaken = progress.lives row low high ∙ ap (λ (t : Bool). if t then Draft else life_of b.sheet.lives row) untaken
 
-  free_is_free : (row : ℕ) → Contains book.free row → IsFree s.cleared (life_of s row)
+  free_is_free : (row : ℕ) → Contains book.free row → IsFree s.cleared (life_of s.lives row)
   free_is_free row here =
       let at = free_number row here in
-      let spare = All-contains (λ (row : ℕ). IsSpare b.sheet.cleared (life_of b.sheet row)) b.book.free row before.book.spare (was_free row here) in
-      let same = life_untaken row at.0 (subst (λ (n : ℕ). row < 16 + n) before.book.rows at.1) (free_untaken row here) in
-      subst (λ (life : Life). IsFree s.cleared life) (sym same) (subst (λ (n : ℕ). IsFree n (life_of b.sheet row)) (sym cleared_now) (spare_is_free b.sheet.cleared (life_of b.sheet row) spare))
+      let spare = All-contains (λ (row : ℕ). IsSpare b.sheet.cleared (life_of b.sheet.lives row)) b.book.free row before.book.spare (was_free row here) in
+      let same = life_untaken row at.0 (subst (λ (n : ℕ). row < first_row + n) before.book.rows at.1) (free_untaken row here) in
+      subst (λ (life : Life). IsFree s.cleared life) (sym same) (subst (λ (n : ℕ). IsFree n (life_of b.sheet.lives row)) (sym cleared_now) (spare_is_free b.sheet.cleared (life_of b.sheet.lives row) spare))
 
   -- each row that is free may be written anew
-  pub all_free : All (λ row. IsFree s.cleared (life_of s row)) book.free
+  pub all_free : All (λ row. IsFree s.cleared (life_of s.lives row)) book.free
   all_free = λ k d within. free_is_free (get_or book.free k d) (k, within, get_or_default book.free k (get_or book.free k d) d within)
 
   -- rows that were reached
@@ -113,10 +113,10 @@ module _ (b : Before) (start : Start) (s : Sheet) (book : Book) (w : Work) (befo
   pub reached_untaken : (row : ℕ) → is_reached b.sheet.tree row ≡ true → is_taken w row ≡ false
   reached_untaken row reached = not_listed w.taken row (λ taken. (reached_out row reached).not_free (subst (λ (l : List ℕ). Contains l row) (sym progress.free) (Contains-append_right book.free (map row_seen w.taken) row taken)))
 
-  pub reached_number : (row : ℕ) → is_reached b.sheet.tree row ≡ true → (16 ≤ row) × (row < 16 + b.sheet.rows)
-  reached_number row reached = let at = (reached_out row reached).here in (at.0, subst (λ (n : ℕ). row < 16 + n) before.book.rows at.1)
+  pub reached_number : (row : ℕ) → is_reached b.sheet.tree row ≡ true → (first_row ≤ row) × (row < first_row + b.sheet.tree.rows)
+  reached_number row reached = let at = (reached_out row reached).here in (at.0, subst (λ (n : ℕ). row < first_row + n) before.book.rows at.1)
 
-  pub reached_live : (row : ℕ) → is_reached b.sheet.tree row ≡ true → life_of s row ≡ Live
+  pub reached_live : (row : ℕ) → is_reached b.sheet.tree row ≡ true → life_of s.lives row ≡ Live
   reached_live row reached =
       let at = reached_number row reached in
       life_untaken row at.0 at.1 (reached_untaken row reached) ∙ (before.live row at.0 at.1).1 reached
@@ -154,10 +154,10 @@ module _ (b : Before) (start : Start) (s s' : Sheet) (book book' : Book) (w : Wo
   row_here : Contains book.free written.row
   row_here = subst (λ (l : List ℕ). Contains l written.row) (sym free_before) (Contains-append_right book'.free (written.row ∷ []) written.row (0, omega arith, refl))
 
-  pub row_number : (16 ≤ written.row) × (written.row < 16 + s.rows)
+  pub row_number : (first_row ≤ written.row) × (written.row < first_row + s.tree.rows)
   row_number =
       let at = free_number b start s book w before progress written.row row_here in
-      (at.0, subst (λ (n : ℕ). written.row < 16 + n) (before.book.rows ∙ sym (rows_now b start s book w before progress)) at.1)
+      (at.0, subst (λ (n : ℕ). written.row < first_row + n) (before.book.rows ∙ sym (rows_now b start s book w before progress)) at.1)
 
   pub row_was_unused : w.used (row_seen seen) ≡ false
   row_was_unused = ap w.used seen_row ∙ free_unused b start s book w before progress written.row row_here
@@ -165,8 +165,8 @@ module _ (b : Before) (start : Start) (s s' : Sheet) (book book' : Book) (w : Wo
   other_than : (row : ℕ) → row_seen seen ≢ row → row ≢ written.row
   other_than row other same = other (seen_row ∙ sym same)
 
-  same_rows : s'.rows ≡ s.rows
-  same_rows = ap (λ (k : Sheet). k.rows) written.drafted.rest
+  same_rows : s'.tree.rows ≡ s.tree.rows
+  same_rows = ap (λ (k : Sheet). k.tree.rows) written.drafted.rest
 
   whole_then : IsWhole s'
   whole_then = record {
@@ -177,18 +177,18 @@ module _ (b : Before) (start : Start) (s s' : Sheet) (book book' : Book) (w : Wo
     cleared = subst (λ (k : Sheet). k.cleared ≤ k.ended) (sym written.drafted.rest) progress.whole.cleared;
   }
 
-  life_same : (row : ℕ) → row_seen seen ≡ row → life_of s' row ≡ (if is_taken then_taken row then Draft else life_of b.sheet row)
+  life_same : (row : ℕ) → row_seen seen ≡ row → life_of s'.lives row ≡ (if is_taken then_taken row then Draft else life_of b.sheet.lives row)
   life_same row same =
       ap (λ (l : List Life). slice_index_or l row New) written.lives
       ∙ (ap (λ (r : ℕ). slice_index_or (set s.lives written.row Draft) r New) (sym same ∙ seen_row)
       ∙ (get_or-set_same s.lives written.row Draft New (subst (λ (n : ℕ). written.row < n) (sym progress.whole.lives) row_number.1)
-      ∙ sym (ap (λ (t : Bool). if t then Draft else life_of b.sheet row) (seen_here seen w.taken row same))))
+      ∙ sym (ap (λ (t : Bool). if t then Draft else life_of b.sheet.lives row) (seen_here seen w.taken row same))))
 
-  life_other : (row : ℕ) → row_seen seen ≢ row → 16 ≤ row → row < 16 + b.sheet.rows → life_of s' row ≡ (if is_taken then_taken row then Draft else life_of b.sheet row)
+  life_other : (row : ℕ) → row_seen seen ≢ row → first_row ≤ row → row < first_row + b.sheet.tree.rows → life_of s'.lives row ≡ (if is_taken then_taken row then Draft else life_of b.sheet.lives row)
   life_other row other low high =
       ap (λ (l : List Life). slice_index_or l row New) written.lives
       ∙ (get_or-set_other s.lives written.row row Draft New (other_than row other)
-      ∙ (progress.lives row low high ∙ sym (ap (λ (t : Bool). if t then Draft else life_of b.sheet row) (seen_other seen w.taken row other))))
+      ∙ (progress.lives row low high ∙ sym (ap (λ (t : Bool). if t then Draft else life_of b.sheet.lives row) (seen_other seen w.taken row other))))
 
   column_other : (row c : ℕ) → row_seen seen ≢ row → c < columns s.tree.table.width → column s'.tree.table row c ≡ column s.tree.table row c
   column_other row c other within = written.drafted.others row c (other_than row other) within
@@ -218,9 +218,9 @@ module _ (b : Before) (start : Start) (s s' : Sheet) (book book' : Book) (w : Wo
     used = λ row. refl;
     free = progress.free ∙ (ap (λ (l : List ℕ). l ++ map row_seen w.taken) free_before ∙ (append_assoc book'.free (written.row ∷ []) (map row_seen w.taken) ∙ ap (λ (r : ℕ). book'.free ++ r ∷ map row_seen w.taken) (sym seen_row)));
     held = sym (ap (λ (k : Book). k.held) written.taken) ∙ progress.held;
-    rows = sym (ap (λ (k : Book). k.rows) written.taken) ∙ progress.rows;
+    rows = sym (ap (λ (k : Book). k.tree.rows) written.taken) ∙ progress.rows;
     lives = λ row low high. ⊎_elim (λ (same : row_seen seen ≡ row). life_same row same) (λ (other : row_seen seen ≢ row). life_other row other low high) (equal_or_not (row_seen seen) row);
-    buried = λ row low high. ap (λ (k : Sheet). is_buried k row) written.drafted.rest ∙ progress.buried row low high;
+    buried = λ row low high. ap (λ (k : Sheet). is_buried k.buried row) written.drafted.rest ∙ progress.buried row low high;
     kept = λ row c untaken above within.
         column_other row c (seen_not_here seen w.taken row untaken) (within_now c within) ∙ progress.kept row c (seen_before seen w.taken row untaken) above within;
     parents = λ row untaken stays.
@@ -253,14 +253,14 @@ module _ (b : Before) (start : Start) (s : Sheet) (book : Book) (w : Work) (seen
   abbrev pub then_gone : Work
   then_gone = with_gone sheet_buried.tree.table.words w seen
 
-  at_row : (16 ≤ row) × (row < 16 + s.rows)
+  at_row : (first_row ≤ row) × (row < first_row + s.tree.rows)
   at_row =
       let at = reached_number b start s book w before progress row reached in
-      (at.0, subst (λ (n : ℕ). row < 16 + n) (sym (rows_now b start s book w before progress)) at.1)
+      (at.0, subst (λ (n : ℕ). row < first_row + n) (sym (rows_now b start s book w before progress)) at.1)
 
-  pub may_bury : b.sheet.flying ≡ true → b.sheet.published ≡ false → MayBury s row
-  may_bury flying unpublished = record {
-    flying = ap (λ (k : Sheet). k.flying) progress.rest ∙ flying;
+  pub may_bury : b.sheet.in_flight ≡ true → b.sheet.published ≡ false → MayBury s row
+  may_bury in_flight unpublished = record {
+    in_flight = ap (λ (k : Sheet). k.in_flight) progress.rest ∙ in_flight;
     before = ap (λ (k : Sheet). k.published) progress.rest ∙ unpublished;
     at = record { first = at_row.0; last = at_row.1; column = some_columns s.tree.table.width };
     live = reached_live b start s book w before progress row reached;
@@ -276,7 +276,7 @@ module _ (b : Before) (start : Start) (s : Sheet) (book : Book) (w : Work) (seen
 
   pub is_out : IsOut book row
   is_out = record {
-    here = let at = (before.book.reached row reached).here in (at.0, subst (λ (n : ℕ). row < 16 + n) (sym progress.rows) at.1);
+    here = let at = (before.book.reached row reached).here in (at.0, subst (λ (n : ℕ). row < first_row + n) (sym progress.rows) at.1);
     not_free = λ here. (before.book.reached row reached).not_free (subst (λ (l : List ℕ). Contains l row) (sym progress.free) (Contains-append_left book.free (map row_seen w.taken) row here));
     not_held = not_held_now;
   }
@@ -297,7 +297,7 @@ module _ (b : Before) (start : Start) (s : Sheet) (book : Book) (w : Work) (seen
   parent_stays : (r : ℕ) → r ≢ row → column sheet_buried.tree.table r 0 ≡ column s.tree.table r 0
   parent_stays r other = other_row s.tree.table.width s.tree.table.words row 0 (dead_mark row) r 0 other (some_columns s.tree.table.width) (some_columns s.tree.table.width)
 
-  buried_then : (r : ℕ) → 16 ≤ r → r < 16 + b.sheet.rows → is_buried sheet_buried r ≡ is_gone then_gone r
+  buried_then : (r : ℕ) → first_row ≤ r → r < first_row + b.sheet.tree.rows → is_buried sheet_buried.buried r ≡ is_gone then_gone r
   buried_then r low high =
       ⊎_elim
       (λ (same : row ≡ r). ap (λ (k : ℕ). slice_index_or (set s.buried row true) k false) (sym same)
@@ -309,7 +309,7 @@ module _ (b : Before) (start : Start) (s : Sheet) (book : Book) (w : Work) (seen
   marked_then r was gone =
       ⊎_elim
       (λ (same : row ≡ r). subst (λ (k : ℕ). column sheet_buried.tree.table k 0 ≡ dead_mark k) same
-      (same_column s.tree.table.width s.tree.table.words row (16 + s.rows) 0 (dead_mark row) (some_columns s.tree.table.width) at_row.1 progress.whole.words))
+      (same_column s.tree.table.width s.tree.table.words row (16 + s.tree.rows) 0 (dead_mark row) (some_columns s.tree.table.width) at_row.1 progress.whole.words))
       (λ (other : row ≢ r). parent_stays r (λ same. other (sym same)) ∙ progress.marks r was (sym (seen_not_last w.gone seen r other) ∙ gone))
       (equal_or_not row r)
 

@@ -98,4 +98,4 @@ module _ (lo middle hi : ℕ) (items row : List Item) (here : Fills lo middle (s
     where
       ends_then : (row : List Item) → 1 ≤ length row → ends_with_hole (spans_from lo items ++ spans_from middle row) ≡ ends_with_hole (spans_from middle row)
       ends_then [] some = absurd (omega arith)
-      ends_then (r ∷ row) some = ends-append (spans_from lo items) (record { first = middle; last = r.last; word = r.word; gap = r.gap }) (spans_from (r.last + 1) row)
+      ends_then (r ∷ row) some = ends-append (spans_from lo items) (record { first = middle; last = r.last; word = r.word }) (spans_from (r.last + 1) row)

@@ -69,7 +69,7 @@ module _ (s t : Sheet) (kind : RowKind) (row count slot : ℕ) (whole : IsWhole 
   abbrev written : Table
   written = wrote t.tree.table.width t.tree.table.words child 0 (parent_at row slot)
 
-  size_now : length t.tree.table.words ≡ columns t.tree.table.width * (16 + s.rows)
+  size_now : length t.tree.table.words ≡ columns t.tree.table.width * (16 + s.tree.rows)
   size_now = rw (done.tended.size, done.tended.width) whole.words
 
   kept_now : (r c : ℕ) → c < columns s.tree.table.width → (c ≡ 0 → child ≢ r) → column written r c ≡ column t.tree.table r c
@@ -77,7 +77,7 @@ module _ (s t : Sheet) (kind : RowKind) (row count slot : ℕ) (whole : IsWhole 
 
   children_now : (i : ℕ) → i < slot + 1 → column written (child_row s.tree.table kind row i) 0 ≡ parent_at row i
   children_now i low = ⊎_elim (λ (at : i ≡ slot). subst (λ (k : ℕ). column written (child_row s.tree.table kind row k) 0 ≡ parent_at row k) (sym at)
-      (same_column t.tree.table.width t.tree.table.words child (16 + s.rows) 0 (parent_at row slot) (some_columns t.tree.table.width) (are.each slot below).at.last size_now))
+      (same_column t.tree.table.width t.tree.table.words child (16 + s.tree.rows) 0 (parent_at row slot) (some_columns t.tree.table.width) (are.each slot below).at.last size_now))
       (λ (off : i ≢ slot). kept_now (child_row s.tree.table kind row i) 0 (some_columns s.tree.table.width) (λ _ same. off (sym (are.apart slot i below (omega arith) same)))
       ∙ done.tended.children i (omega (arith, off))) (equal_or_not i slot)
 
@@ -107,7 +107,7 @@ module _ (s t : Sheet) (kind : RowKind) (row count slot : ℕ) (whole : IsWhole 
   at_tendable =
       let lives : t.lives ≡ s.lives = ap (λ (x : Sheet). x.lives) done.tended.rest in
       let buried : t.buried ≡ s.buried = ap (λ (x : Sheet). x.buried) done.tended.rest in
-      let rows : t.rows ≡ s.rows = ap (λ (x : Sheet). x.rows) done.tended.rest in
+      let rows : t.tree.rows ≡ s.tree.rows = ap (λ (x : Sheet). x.tree.rows) done.tended.rest in
       let each = are.each slot below in
       record {
         at = record { first = each.at.first; last = rw rows each.at.last; column = rw done.tended.width each.at.column };

@@ -14,7 +14,7 @@ use Rattle.mt_layout.proofs.NameLaws.{Names-named_kind}
 use Rattle.mt_leaf.specs.Edits.{ends_with_hole}
 use Rattle.mt_rows.specs.Spans.{Table, slots_of, spans_in}
 use Rattle.mt_rows.specs.Laws as laws
-use Rattle.mt_rows.specs.Laws.{Tree, Stands, top_of, kind_at, covers_all, least_of, least_of_kind}
+use Rattle.mt_rows.specs.Laws.{Tree, Stands, top_of, kind_at, covers_all, least_of, least_items_TODO}
 use Rattle.mt_rows.specs.Sheet as sheet
 use Rattle.mt_rows.specs.Sheet.{Sheet, OnlyReads}
 use Rattle.mt_rows.specs.Publish.{tree_as, IsTreeOf}
@@ -56,10 +56,10 @@ widen_read start w s s' kind left right depth height items reads may = record {
 -- ---- the rows as they are now are a tree
 
 module _ (start : Start) (w : Work) (s : Sheet) (is : IsNow start w s) (holds : Holds start w) where
-  same_tree : tree_as start.tree.kind s.rows s.tree ≡ now start w
+  same_tree : tree_as start.tree.kind s.tree.rows s.tree ≡ now start w
   same_tree = λ j. record { rows = is.rows j; kind = start.tree.kind; table = (is.words j).table; root = (is.words j).root }
 
-  pub tree_now : (kind : Kind) × IsTreeOf s kind
+  pub tree_now : (kind : Kind) × IsTreeOf s.tree kind
   tree_now = (start.tree.kind, record { of_kind = is.of_kind; words = subst laws.IsTree (sym same_tree) (inr (start.height, old_stands start w holds)) })
 
   pub table_now : s.tree.table ≡ (now start w).table
@@ -83,7 +83,7 @@ module _ (start : Start) (w : Work) (holds : Holds start w) (path : List PathSte
   is_step : (step_at path d).row ≡ row_in x.word
   is_step = ap (λ (z : PathStep). z.row) (step_here start w holds path i within is_path d k high)
 
-  pub row_number : (16 ≤ (step_at path d).row) × ((step_at path d).row < 16 + start.tree.rows)
+  pub row_number : (first_row ≤ (step_at path d).row) × ((step_at path d).row < first_row + start.tree.rows)
   row_number =
       let law = row_is_lawful start w holds path i within is_path d k high in
       let number = (Names-named_kind x.word (kind_at start.tree.kind k) law.name.named).0 in
@@ -124,7 +124,7 @@ module _ (start : Start) (w : Work) (holds : Holds start w) (path : List PathSte
 two_least : (t : Tree) (h : ℕ) (x : Span) → t.kind ≡ trees.Range → 2 ≤ least_of t (suc h) x
 two_least t h x range = elim (cases_Bool (covers_all t x)) [
   | inl all ↦ rw all (omega arith)
-  | inr part ↦ let six : least_of_kind (kind_at t.kind (suc h)) ≡ 6 = ap (λ (k : Kind). least_of_kind (kind_at k (suc h))) range in rw part (omega arith)
+  | inr part ↦ let six : least_items_TODO (kind_at t.kind (suc h)) ≡ 6 = ap (λ (k : Kind). least_items_TODO (kind_at k (suc h))) range in rw part (omega arith)
 ]
 
 two_enough : (start : Start) (lo hi h height : ℕ) (items : List Item) → start.tree.kind ≡ trees.Range → height ≡ suc h → MayBeCut start.tree height lo hi (spans_from lo items) → 2 ≤ length items
@@ -146,7 +146,7 @@ module _ (start : Start) (w : Work) (s : Sheet) (kind : RowKind) (left right : L
   from_within : gathered.paths.from ≤ top_of start.tree
   from_within = let order = gathered.paths.order in let within = gathered.paths.within in omega arith
 
-  pub kind_of_tree : (kind : Kind) × IsTreeOf s kind
+  pub kind_of_tree : (kind : Kind) × IsTreeOf s.tree kind
   kind_of_tree = tree_now start w s may.is_now holds
 
   pub is_right_path : (i : ℕ) × (i ≤ greatest s.tree.table.width) × (right ≡ path_in s.tree.table s.tree.root i)
@@ -218,7 +218,7 @@ module _ (start : Start) (w : Work) (s : Sheet) (kind : RowKind) (left right : L
     pub is_right_then : right' ≡ path_in start.tree.table start.tree.root behind
     is_right_then = is_right ∙ paths_same start w s may.is_now holds behind behind_within
 
-    pub right_row : (depth < length right') × (16 ≤ (step_at right' depth).row) × ((step_at right' depth).row < 16 + s.rows)
+    pub right_row : (depth < length right') × (first_row ≤ (step_at right' depth).row) × ((step_at right' depth).row < first_row + s.tree.rows)
     right_row =
         let number = row_number start w holds right' behind behind_within is_right_then depth height gathered.levels in
         let rows = may.is_now.rows in
@@ -273,7 +273,7 @@ module _ (start : Start) (w : Work) (s : Sheet) (kind : RowKind) (left right : L
     pub is_left_then : left' ≡ path_in start.tree.table start.tree.root ahead
     is_left_then = is_left ∙ paths_same start w s may.is_now holds ahead ahead_within
 
-    pub left_row : (depth < length left') × (16 ≤ (step_at left' depth).row) × ((step_at left' depth).row < 16 + s.rows)
+    pub left_row : (depth < length left') × (first_row ≤ (step_at left' depth).row) × ((step_at left' depth).row < first_row + s.tree.rows)
     left_row =
         let number = row_number start w holds left' ahead ahead_within is_left_then depth height gathered.levels in
         let rows = may.is_now.rows in
@@ -321,10 +321,10 @@ or_false : (a b : Bool) → (a || b) ≡ false → (a ≡ false) × (b ≡ false
 or_false true b is = absurd (cc)
 or_false false b is = (refl, is)
 
-least_six : (start : Start) (w : Work) (kind : RowKind) (height : ℕ) → Holds start w → kind ≡ kind_at start.tree.kind height → least_of_kind kind ≡ 6
-least_six start w kind height holds of_kind = ap least_of_kind (of_kind ∙ ap (λ (k : Kind). kind_at k height) holds.range) ∙ six height
+least_six : (start : Start) (w : Work) (kind : RowKind) (height : ℕ) → Holds start w → kind ≡ kind_at start.tree.kind height → least_items_TODO kind ≡ 6
+least_six start w kind height holds of_kind = ap least_items_TODO (of_kind ∙ ap (λ (k : Kind). kind_at k height) holds.range) ∙ six height
   where
-    six : (height : ℕ) → least_of_kind (kind_at trees.Range height) ≡ 6
+    six : (height : ℕ) → least_items_TODO (kind_at trees.Range height) ≡ 6
     six zero = refl
     six (suc height) = refl
 
@@ -350,10 +350,10 @@ not_holed start kind height items of_kind leaf no_hole =
 
 module _ (start : Start) (w : Work) (s : Sheet) (kind : RowKind) (left right : List PathStep) (depth height : ℕ) (items : List Item) (may : MayWiden start w s kind left right depth height items) where
   six_of : short_run kind items ≡ false → 6 ≤ length items
-  six_of not = let many = ltb-false (length items) (least_of_kind kind) not in let six = least_six start w kind height may.gathered.holds may.of_kind in omega arith
+  six_of not = let many = ltb-false (length items) (least_items_TODO kind) not in let six = least_six start w kind height may.gathered.holds may.of_kind in omega arith
 
   few_of : short_run kind items ≡ true → length items ≤ most_before_hole start.tree.table.width
-  few_of short = let few = ltb-true (length items) (least_of_kind kind) short in let six = least_six start w kind height may.gathered.holds may.of_kind in let slots = leaf_slots start.tree.table.width in omega arith
+  few_of short = let few = ltb-true (length items) (least_items_TODO kind) short in let six = least_six start w kind height may.gathered.holds may.of_kind in let slots = leaf_slots start.tree.table.width in omega arith
 
   -- nothing is wanted
   pub wide_already : (short_run kind items || holed_run kind items) ≡ false → IsWidened start w left right depth height items

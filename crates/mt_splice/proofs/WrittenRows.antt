@@ -36,7 +36,7 @@ items_read Long words kind row items fit own =
 
 module _ (t : Table) (kind : RowKind) (row : ℕ) (items : List Item) (new : IsNewRow t kind row items) where
   abbrev pub new_span : ℕ → ℕ → Span
-  new_span first gap = record { first = first; last = end_of 0 items; word = name_at row kind; gap = gap }
+  new_span first gap = record { first = first; last = end_of 0 items; word = name_at row kind }
 
   pub new_number : row_in (name_at row kind) ≡ row
   new_number = let n = new.number in grind (arith, common_steps)

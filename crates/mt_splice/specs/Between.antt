@@ -9,8 +9,8 @@ use Rattle.mt_splice.specs.Splice.{IsBookOf}
 
 -- no call is in flight; the words are lawful, the live rows are those reached, and the book is of these rows
 pub record IsBetweenCalls (s : Sheet) (book : Book) : Type 0 where
-  pub idle : s.flying ≡ false
-  pub lawful : IsLawfulOf s trees.Range
-  pub live : LiveAreReached s
-  pub none_buried : NoneBuried s
-  pub booked : IsBookOf s book (s.ended + 1)
+  pub idle : s.in_flight ≡ false
+  pub lawful : IsLawfulOf s.tree trees.Range
+  pub live : LiveAreReached s.tree s.lives
+  pub none_buried : NoneBuried s.tree.rows s.buried
+  pub booked : IsBookOf s.tree s.lives s.cleared book (s.ended + 1)

@@ -94,17 +94,17 @@ pub record End : Type 0 where
 -- inner rows are to be tended.
 pub record MayEnd (e : End) (s : Sheet) (made : List NewRow) (place : Place) (word : ℕ) (call : Call) (reply : Reply) : Type 0 where
   pub range : e.before.kind ≡ trees.Range
-  pub flying : e.before.sheet.flying ≡ true
+  pub in_flight : e.before.sheet.in_flight ≡ true
   pub unpublished : e.before.sheet.published ≡ false
-  pub in_flight : e.before.number ≡ e.before.sheet.ended + 1
+  pub numbered : e.before.number ≡ e.before.sheet.ended + 1
   pub was : IsBefore e.before e.start
-  pub lawful : IsLawfulOf e.before.sheet e.before.kind
+  pub lawful : IsLawfulOf e.before.sheet.tree e.before.kind
   pub progress : IsProgress e.before s e.book e.work
   pub sound : IsBook e.book
   pub few : length e.work.taken ≤ 3 * height_in e.before.sheet.tree.table e.before.sheet.tree.root + 1
   pub answer : acted e.before.kind (map_by e.before.sheet.tree) call ≡ (e.start.map, reply)
   pub holds : HoldsAs e.start e.work e.old
-  pub replaced : IsReplacedAs e.start.tree (tree_as e.before.kind e.before.sheet.rows (with_published s.tree place word)) e.start.map e.work.taken e.work.gone e.old e.new
+  pub replaced : IsReplacedAs e.start.tree (tree_as e.before.kind e.before.sheet.tree.rows (with_published s.tree place word)) e.start.map e.work.taken e.work.gone e.old e.new
   pub at : IsEndPlace e.start e.work e.old place
   pub top : IsTop e.work e.old e.new word
   pub inner : made ≡ new_rows_of s.tree.table e.work.taken
@@ -134,9 +134,9 @@ pub record AreRowsTended (s s' : Sheet) (kind : RowKind) (made : List NewRow) : 
 -- the row that was published in a slot may be tended
 pub record MayTendTop (s : Sheet) (row col word : ℕ) : Type 0 where
   pub named : named_row word ≡ Some (row_in word)
-  pub at : IsPlace s (row_in word) 0
-  pub live : life_of s (row_in word) ≡ Live
-  pub kept : is_buried s (row_in word) ≡ false
+  pub at : IsPlace s.tree (row_in word) 0
+  pub live : life_of s.lives (row_in word) ≡ Live
+  pub kept : is_buried s.buried (row_in word) ≡ false
   pub other : row_in word ≢ row
   pub slot : slots_of s.tree.table.width Inner ≤ col
   pub within : col < columns s.tree.table.width

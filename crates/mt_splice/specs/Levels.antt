@@ -12,7 +12,7 @@ use Rattle.mt_layout.specs.Spans.{spans_from}
 use Rattle.mt_free.specs.Book.{Book}
 use Rattle.mt_rows.specs.Spans.{slots_of}
 use Rattle.mt_rows.specs.Levels.{tally}
-use Rattle.mt_rows.specs.Laws.{kind_at, least_of_kind}
+use Rattle.mt_rows.specs.Laws.{kind_at, least_items_TODO}
 use Rattle.mt_rows.specs.Sheet.{Sheet}
 use Rattle.mt_rows.specs.Publish.{AreOfKind}
 use Rattle.mt_leaf.specs.Cuts.{IsCut}
@@ -78,7 +78,7 @@ pub record AreFewestRows (width : Width) (kind : RowKind) (items new : List Item
   pub is_leaf : leaf ≡ true → kind ≡ Leaf
   pub of_leaf : kind ≡ Leaf → leaf ≡ true
   pub ends : List ℕ
-  pub cut : IsCut leaf (least_of_kind kind) (slots_of width kind) items ends
+  pub cut : IsCut leaf (least_items_TODO kind) (slots_of width kind) items ends
   pub count : length new ≡ length ends
 
 -- ---- the rows that are replaced
@@ -92,8 +92,8 @@ pub record MayBuryRows (b : Before) (start : Start) (s : Sheet) (book : Book) (w
   pub levels : start.height ≡ depth + height
   pub paths : ArePaths start left right
   pub yet : (p : ℕ → Span → Bool) → tally (p height) (rows_at start.tree depth) + passing p w.gone ≤ times_in p start.tree start.height
-  pub of_kind : AreOfKind b.sheet b.kind
-  pub flying : b.sheet.flying ≡ true
+  pub of_kind : AreOfKind b.sheet.kind b.sheet.tree.table.width b.kind
+  pub in_flight : b.sheet.in_flight ≡ true
   pub unpublished : b.sheet.published ≡ false
   pub call : number ≡ b.number
 
@@ -113,8 +113,8 @@ pub record MayRewriteLevel (b : Before) (start : Start) (s : Sheet) (book : Book
   pub of_kind : kind ≡ kind_at start.tree.kind height
   pub free : 3 ≤ length book.free
   pub known : made ≡ new_rows_of s.tree.table w.taken
-  pub told : AreOfKind b.sheet b.kind
-  pub flying : b.sheet.flying ≡ true
+  pub told : AreOfKind b.sheet.kind b.sheet.tree.table.width b.kind
+  pub in_flight : b.sheet.in_flight ≡ true
   pub unpublished : b.sheet.published ≡ false
   pub call : number ≡ b.number
 

@@ -26,10 +26,10 @@ pub record Before : Type 0 where
 -- they may be replaced: all live rows are reached, none is buried, and the book is of these rows
 pub record IsBefore (b : Before) (start : Start) : Type 0 where
   pub whole : IsWhole b.sheet
-  pub tree : start.tree ≡ tree_as b.kind b.sheet.rows b.sheet.tree
-  pub live : LiveAreReached b.sheet
-  pub none_buried : NoneBuried b.sheet
-  pub book : IsBookOf b.sheet b.book b.number
+  pub tree : start.tree ≡ tree_as b.kind b.sheet.tree.rows b.sheet.tree
+  pub live : LiveAreReached b.sheet.tree b.sheet.lives
+  pub none_buried : NoneBuried b.sheet.tree.rows b.sheet.buried
+  pub book : IsBookOf b.sheet.tree b.sheet.lives b.sheet.cleared b.book b.number
 
 abbrev pub row_seen : Seen → ℕ
 row_seen s = row_in s.at.word
@@ -59,8 +59,8 @@ pub record IsProgress (b : Before) (s : Sheet) (book : Book) (w : Work) : Type 0
   pub free : b.book.free ≡ book.free ++ map row_seen w.taken
   pub held : book.held ≡ b.book.held ++ map (stamped b.number) w.gone
   pub rows : book.rows ≡ b.book.rows
-  pub lives : (row : ℕ) → 16 ≤ row → row < 16 + b.sheet.rows → life_of s row ≡ (if is_taken w row then Draft else life_of b.sheet row)
-  pub buried : (row : ℕ) → 16 ≤ row → row < 16 + b.sheet.rows → is_buried s row ≡ is_gone w row
+  pub lives : (row : ℕ) → first_row ≤ row → row < first_row + b.sheet.tree.rows → life_of s.lives row ≡ (if is_taken w row then Draft else life_of b.sheet.lives row)
+  pub buried : (row : ℕ) → first_row ≤ row → row < first_row + b.sheet.tree.rows → is_buried s.buried row ≡ is_gone w row
   pub kept : (row c : ℕ) → is_taken w row ≡ false → 0 < c → c < columns b.sheet.tree.table.width → column s.tree.table row c ≡ column b.sheet.tree.table row c
   pub parents : (row : ℕ) → is_taken w row ≡ false → is_gone w row ≡ false → column s.tree.table row 0 ≡ column b.sheet.tree.table row 0
   pub new_parents : (row : ℕ) → is_taken w row ≡ true → column s.tree.table row 0 ≡ no_parent

@@ -15,11 +15,11 @@ use Rattle.mt_splice.specs.Seen.{Seen, passing}
 
 -- The rows taken are drafts without their dead mark, and just those gone are buried; the call makes this map.
 pub record IsReady (kind : Kind) (s : Sheet) (map : List Range) (taken gone : List Seen) (call : Call) (reply : Reply) : Type 0 where
-  pub flying : s.flying ≡ true
+  pub in_flight : s.in_flight ≡ true
   pub before : s.published ≡ false
-  pub of_kind : AreOfKind s kind
-  pub live : LiveAreReached s
+  pub of_kind : AreOfKind s.kind s.tree.table.width kind
+  pub live : LiveAreReached s.tree s.lives
   pub acts : acted kind (map_by s.tree) call ≡ (map, reply)
-  pub drafts : (row : ℕ) → 1 ≤ passing (is_row_of row) taken → (life_of s row ≡ Draft) × (word_at s row 0 ≢ dead_mark row)
-  pub are_buried : (row : ℕ) → 1 ≤ passing (is_row_of row) gone → is_buried s row ≡ true
-  pub just_those : (row : ℕ) → 16 ≤ row → row < 16 + s.rows → is_buried s row ≡ true → 1 ≤ passing (is_row_of row) gone
+  pub drafts : (row : ℕ) → 1 ≤ passing (is_row_of row) taken → (life_of s.lives row ≡ Draft) × (word_at s.tree row 0 ≢ dead_mark row)
+  pub are_buried : (row : ℕ) → 1 ≤ passing (is_row_of row) gone → is_buried s.buried row ≡ true
+  pub just_those : (row : ℕ) → first_row ≤ row → row < first_row + s.tree.rows → is_buried s.buried row ≡ true → 1 ≤ passing (is_row_of row) gone

@@ -16,7 +16,7 @@ use Rattle.mt_splice.specs.Writes.{items_of_row}
 
 -- the paths to the ends of a store
 pub record AreEnds (s : Sheet) (left right : List PathStep) (first last : ℕ) : Type 0 where
-  pub tree : IsTreeOf s trees.Range
+  pub tree : IsTreeOf s.tree trees.Range
   pub order : first ≤ last
   pub within : last ≤ greatest s.tree.table.width
   pub left_path : left ≡ path_in s.tree.table s.tree.root first

@@ -29,11 +29,11 @@ use Rattle.mt_splice.specs.TakingIn.{IsNow, MayWiden}
 -- a call of a tree of ranges is in flight and has not published, and the tree is lawful
 pub record IsCase (b : Before) (start : Start) : Type 0 where
   pub range : b.kind ≡ trees.Range
-  pub flying : b.sheet.flying ≡ true
+  pub in_flight : b.sheet.in_flight ≡ true
   pub unpublished : b.sheet.published ≡ false
-  pub in_flight : b.number ≡ b.sheet.ended + 1
+  pub numbered : b.number ≡ b.sheet.ended + 1
   pub was : IsBefore b start
-  pub lawful : IsLawfulOf b.sheet b.kind
+  pub lawful : IsLawfulOf b.sheet.tree b.kind
 
 -- the call makes this map, and is answered so
 abbrev pub IsAnswer : Before → Start → Call → Reply → Type 0

@@ -45,7 +45,7 @@ pub record MayBeLeaves (t : Tree) (hi : ℕ) (run : List Span) : Type 0 where
 
 -- a span of the indexes from lo up to, but without, hi
 abbrev pub span_to : ℕ → ℕ → Span
-span_to lo hi = record { first = lo; last = hi - 1; word = 0; gap = 0 }
+span_to lo hi = record { first = lo; last = hi - 1; word = 0 }
 
 -- The spans fill lo up to, but without, hi; they are enough for a row of this height, and not too many for three.
 pub record MayBeCut (t : Tree) (height lo hi : ℕ) (run : List Span) : Type 0 where

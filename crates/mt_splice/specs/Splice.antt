@@ -50,7 +50,7 @@ leaf_spans t s = row_spans t s.row Leaf s.min s.max
 
 -- what stands in the leaves at the ends of two paths, one behind the other; one hole in the empty tree
 abbrev pub region_of : Table → List PathStep → List PathStep → List Span
-region_of t [] right = record { first = 0; last = greatest t.width; word = 0; gap = 0 } ∷ []
+region_of t [] right = record { first = 0; last = greatest t.width; word = 0 } ∷ []
 region_of t (s ∷ left) right =
     let l = last_step (s ∷ left) in let r = last_step right in
     if l.row == r.row then leaf_spans t l else leaf_spans t l ++ starting (l.max + 1) (leaf_spans t r)
@@ -66,12 +66,12 @@ IsSpare cleared (Dead call) = call ≤ cleared
 
 -- the book is of these rows: those that are out are those that are reached, its free rows are spare, and its stamps are
 -- below `number`
-pub record IsBookOf (s : Sheet) (book : Book) (number : ℕ) : Type 0 where
+pub record IsBookOf (s : Sheet).tree (s : Sheet).lives (s : Sheet).cleared (book : Book) (number : ℕ) : Type 0 where
   pub sound : IsBook book
-  pub rows : book.rows ≡ s.rows
-  pub out : (row : ℕ) → 16 ≤ row → row < 16 + s.rows → IsOut book row → IsReached s.tree row
+  pub rows : book.rows ≡ s.tree.rows
+  pub out : (row : ℕ) → first_row ≤ row → row < first_row + s.tree.rows → IsOut book row → IsReached s.tree row
   pub reached : (row : ℕ) → IsReached s.tree row → IsOut book row
-  pub spare : All (λ row. IsSpare s.cleared (life_of s row)) book.free
+  pub spare : All (λ row. IsSpare s.cleared (life_of s.lives row)) book.free
   pub stamps : All (λ (h : Held). h.stamp < number) book.held
 
 -- ---- before
@@ -79,13 +79,13 @@ pub record IsBookOf (s : Sheet) (book : Book) (number : ℕ) : Type 0 where
 pub record MaySplice (kind : Kind) (s : Sheet) (book : Book) (left right : List PathStep) (items : List Item) (number : ℕ) (call : Call) (reply : Reply) : Type 0 where
   pub range : kind ≡ trees.Range
   pub room : 3 * height_in s.tree.table s.tree.root + 1 ≤ length book.free
-  pub flying : s.flying ≡ true
+  pub in_flight : s.in_flight ≡ true
   pub before : s.published ≡ false
-  pub in_flight : number ≡ s.ended + 1
-  pub none_buried : NoneBuried s
-  pub live : LiveAreReached s
-  pub booked : IsBookOf s book number
-  pub lawful : IsLawfulOf s kind
+  pub numbered : number ≡ s.ended + 1
+  pub none_buried : NoneBuried s.tree.rows s.buried
+  pub live : LiveAreReached s.tree s.lives
+  pub booked : IsBookOf s.tree s.lives s.cleared book number
+  pub lawful : IsLawfulOf s.tree kind
   pub first : ℕ
   pub last : ℕ
   pub entry : ℕ
@@ -99,13 +99,13 @@ pub record MaySplice (kind : Kind) (s : Sheet) (book : Book) (left right : List 
 pub record MayReplace (kind : Kind) (s : Sheet) (book : Book) (left : List PathStep) (first last entry : ℕ) (number : ℕ) (call : Call) (reply : Reply) : Type 0 where
   pub range : kind ≡ trees.Range
   pub room : 3 * height_in s.tree.table s.tree.root + 1 ≤ length book.free
-  pub flying : s.flying ≡ true
+  pub in_flight : s.in_flight ≡ true
   pub before : s.published ≡ false
-  pub in_flight : number ≡ s.ended + 1
-  pub none_buried : NoneBuried s
-  pub live : LiveAreReached s
-  pub booked : IsBookOf s book number
-  pub lawful : IsLawfulOf s kind
+  pub numbered : number ≡ s.ended + 1
+  pub none_buried : NoneBuried s.tree.rows s.buried
+  pub live : LiveAreReached s.tree s.lives
+  pub booked : IsBookOf s.tree s.lives s.cleared book number
+  pub lawful : IsLawfulOf s.tree kind
   pub store : IsStoreBy kind (greatest s.tree.table.width) (map_by s.tree) call reply first last entry
   pub some : s.tree.root ≡ 0 → entry ≢ 0
   pub left_path : left ≡ path_in s.tree.table s.tree.root first
@@ -113,13 +113,13 @@ pub record MayReplace (kind : Kind) (s : Sheet) (book : Book) (left : List PathS
 -- what the emptying of a tree that is not empty is asked for: no row need be free
 pub record MayClear (kind : Kind) (s : Sheet) (book : Book) (number : ℕ) (call : Call) (reply : Reply) : Type 0 where
   pub range : kind ≡ trees.Range
-  pub flying : s.flying ≡ true
+  pub in_flight : s.in_flight ≡ true
   pub before : s.published ≡ false
-  pub in_flight : number ≡ s.ended + 1
-  pub none_buried : NoneBuried s
-  pub live : LiveAreReached s
-  pub booked : IsBookOf s book number
-  pub lawful : IsLawfulOf s kind
+  pub numbered : number ≡ s.ended + 1
+  pub none_buried : NoneBuried s.tree.rows s.buried
+  pub live : LiveAreReached s.tree s.lives
+  pub booked : IsBookOf s.tree s.lives s.cleared book number
+  pub lawful : IsLawfulOf s.tree kind
   pub some : s.tree.root ≢ 0
   pub answer : acted kind (map_by s.tree) call ≡ ([], reply)
 
@@ -132,7 +132,7 @@ HasParents t = (t.root ≡ 0) ⊎ ((h : ℕ) × laws.Stands t h × (column t.tab
 -- the one store that published was at this place
 abbrev pub WasPublishedAt : Sheet → Sheet → Place → Type 0
 WasPublishedAt s s' Root = s'.tree.root ≢ s.tree.root
-WasPublishedAt s s' (Slot row col) = (s'.tree.root ≡ s.tree.root) × (life_of s row ≡ Live) × (life_of s' row ≡ Live) × (word_at s' row col ≢ word_at s row col)
+WasPublishedAt s s' (Slot row col) = (s'.tree.root ≡ s.tree.root) × (life_of s.lives row ≡ Live) × (life_of s'.lives row ≡ Live) × (word_at s'.tree row col ≢ word_at s.tree row col)
 
 -- at most so many rows were taken; the rows that are reached no more were retired with the call's number
 pub record IsBooked (s s' : Sheet) (book book' : Book) (number most : ℕ) : Type 0 where
@@ -150,15 +150,15 @@ pub record IsBooked (s s' : Sheet) (book book' : Book) (number most : ℕ) : Typ
 -- their parent words.
 pub record IsSpliced (kind : Kind) (s s' : Sheet) (book book' : Book) (number : ℕ) (call : Call) (reply : Reply) (place : Place) : Type 0 where
   pub rest : s' ≡ record s { tree = s'.tree; published = true; lives = s'.lives; buried = s'.buried; records = with_record s call reply; reads = s'.reads }
-  pub tree : IsTreeOf s' kind
-  pub parents : HasParents (tree_as kind s'.rows s'.tree)
+  pub tree : IsTreeOf s'.tree kind
+  pub parents : HasParents (tree_as kind s'.tree.rows s'.tree)
   pub map : map_by s'.tree ≡ (acted kind (map_by s.tree) call).0
   pub published : WasPublishedAt s s' place
-  pub kept : (row col : ℕ) → (IsReached s'.tree row → IsReached s.tree row) → 0 < col → col < columns s.tree.table.width → place ≢ Slot row col → word_at s' row col ≡ word_at s row col
-  pub none_buried : NoneBuried s'
-  pub live : LiveAreReached s'
-  pub dead : (row : ℕ) → IsReached s.tree row → is_reached s'.tree row ≡ false → life_of s' row ≡ Dead number
-  pub marked : (row : ℕ) → IsReached s.tree row → is_reached s'.tree row ≡ false → word_at s' row 0 ≡ dead_mark row
-  pub others : (row : ℕ) → 16 ≤ row → row < 16 + s.rows → is_reached s.tree row ≡ false → is_reached s'.tree row ≡ false → life_of s' row ≡ life_of s row
+  pub kept : (row col : ℕ) → (IsReached s'.tree row → IsReached s.tree row) → 0 < col → col < columns s.tree.table.width → place ≢ Slot row col → word_at s'.tree row col ≡ word_at s.tree row col
+  pub none_buried : NoneBuried s'.tree.rows s'.buried
+  pub live : LiveAreReached s'.tree s'.lives
+  pub dead : (row : ℕ) → IsReached s.tree row → is_reached s'.tree row ≡ false → life_of s'.lives row ≡ Dead number
+  pub marked : (row : ℕ) → IsReached s.tree row → is_reached s'.tree row ≡ false → word_at s'.tree row 0 ≡ dead_mark row
+  pub others : (row : ℕ) → first_row ≤ row → row < first_row + s.tree.rows → is_reached s.tree row ≡ false → is_reached s'.tree row ≡ false → life_of s'.lives row ≡ life_of s.lives row
   pub moved : IsBooked s s' book book' number (3 * height_in s.tree.table s.tree.root + 1)
-  pub booked : IsBookOf s' book' (number + 1)
+  pub booked : IsBookOf s'.tree s'.lives s'.cleared book' (number + 1)

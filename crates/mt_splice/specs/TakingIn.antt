@@ -7,7 +7,7 @@ use Rattle.mt_layout.specs.declared.names.RowKind.{RowKind}
 use Rattle.mt_layout.specs.declared.names.RowKind.TheVariants.{Leaf, Inner, Gapped}
 use Rattle.mt_layout.specs.Spans.{spans_from, EndsFull}
 use Rattle.mt_leaf.specs.Places.{with_joined}
-use Rattle.mt_rows.specs.Laws.{top_of, kind_at, least_of_kind}
+use Rattle.mt_rows.specs.Laws.{top_of, kind_at, least_items_TODO}
 use Rattle.mt_rows.specs.Sheet.{Sheet}
 use Rattle.mt_rows.specs.Publish.{AreOfKind}
 use Rattle.mt_path.specs.declared.paths.PathStep.{PathStep}
@@ -22,7 +22,7 @@ is_hole_at items i = option_map_or (λ (x : Item). x.word == 0) (slice_get items
 
 -- too few items for a row of this kind that is not the root
 abbrev pub short_run : RowKind → List Item → Bool
-short_run kind items = nat_lt (length items) (least_of_kind kind)
+short_run kind items = nat_lt (length items) (least_items_TODO kind)
 
 -- items of a leaf that end with a hole
 abbrev pub holed_run : RowKind → List Item → Bool
@@ -38,9 +38,9 @@ beside_items Gapped xs ys = xs ++ ys
 
 -- the rows have the tree's words as they are now
 pub record IsNow (start : Start) (w : Work) (s : Sheet) : Type 0 where
-  pub rows : s.rows ≡ start.tree.rows
+  pub rows : s.tree.rows ≡ start.tree.rows
   pub words : s.tree ≡ words_of (now start w)
-  pub of_kind : AreOfKind s start.tree.kind
+  pub of_kind : AreOfKind s.kind s.tree.table.width start.tree.kind
 
 -- Few enough items to take in a row beside them, fewer where a leaf may end with a hole; and in inner rows two at the
 -- least where they stand for every index.

@@ -56,14 +56,14 @@ child_row t kind row slot = row_in (child_word t kind row slot)
 -- a child whose parent word may be written
 pub record IsChild (s : Sheet) (kind : RowKind) (row slot : ℕ) : Type 0 where
   pub named : named_row (child_word s.tree.table kind row slot) ≡ Some (child_row s.tree.table kind row slot)
-  pub at : IsPlace s (child_row s.tree.table kind row slot) 0
-  pub live : life_of s (child_row s.tree.table kind row slot) ≡ Live
-  pub kept : is_buried s (child_row s.tree.table kind row slot) ≡ false
+  pub at : IsPlace s.tree (child_row s.tree.table kind row slot) 0
+  pub live : life_of s.lives (child_row s.tree.table kind row slot) ≡ Live
+  pub kept : is_buried s.buried (child_row s.tree.table kind row slot) ≡ false
   pub other : child_row s.tree.table kind row slot ≢ row
 
 pub record AreChildren (s : Sheet) (kind : RowKind) (row count : ℕ) : Type 0 where
-  pub first : 16 ≤ row
-  pub last : row < 16 + s.rows
+  pub first : first_row ≤ row
+  pub last : row < first_row + s.tree.rows
   pub slots : count ≤ slots_of s.tree.table.width kind
   pub each : (slot : ℕ) → slot < count → IsChild s kind row slot
   pub apart : (i j : ℕ) → i < count → j < count → child_row s.tree.table kind row i ≡ child_row s.tree.table kind row j → i ≡ j

@@ -7,7 +7,7 @@ ghost use Rattle.mt_path.specs.Paths.{step_at};
 ghost use Rattle.mt_splice.specs.Writes.{items_of_row};
 ghost use Rattle.mt_splice.specs.Work.{Start, Work};
 ghost use Rattle.mt_splice.specs.TakingIn.{is_hole_at, short_run, holed_run, beside_items, MayWiden, IsWidened};
-ghost use Rattle.mt_rows.specs.Laws.{least_of_kind};
+ghost use Rattle.mt_rows.specs.Laws.{least_items_TODO};
 ghost use Rattle.mt_splice.specs.Runs.{run_room};
 
 use crate::gathers::push_all;
@@ -27,7 +27,7 @@ pub struct Region {
 
 /// The least number of items in a row of this kind that is not the root.
 pub fn least_items(kind: RowKind) -> u32
-    ensures { result ≡ least_of_kind kind }
+    ensures { result ≡ least_items_TODO kind }
 {
     match kind {
         RowKind::Leaf | RowKind::Inner => 6,
@@ -68,7 +68,7 @@ fn wants_row(run: &Run, kind: RowKind) -> bool
 
 /// All items of a row that a path steps through.
 fn row_items<R: Rows>(rows: &mut R, kind: RowKind, step: &PathStep) -> Run
-    requires row { (16 ≤ step.now.row) × (step.now.row < 16 + (R.sheet rows.old).rows) }
+    requires row { (first_row ≤ step.now.row) × (step.now.row < first_row + (R.sheet rows.old).tree.rows) }
     ensures items { result.items ≡ items_of_row (R.sheet rows.old).tree.table kind step.now.row step.now.max }
     ensures rest { OnlyReads (R.sheet rows.old) (R.sheet rows.new) }
 {
@@ -98,7 +98,7 @@ fn take_right<R: Rows>(
     kind: RowKind,
 ) -> Region
     requires depth { depth < length right.items }
-    requires row { let step = step_at right.items depth in (16 ≤ step.row) × (step.row < 16 + (R.sheet rows.old).rows) }
+    requires row { let step = step_at right.items depth in (first_row ≤ step.row) × (step.row < first_row + (R.sheet rows.old).tree.rows) }
     requires room { length region.run.items + slots_of (R.sheet rows.old).tree.table.width kind ≤ run_room }
     ensures left { result.left ≡ region.left }
     ensures right { result.right ≡ right }
@@ -118,7 +118,7 @@ fn take_right<R: Rows>(
 /// Takes in the row of the left path, which stands before the region.
 fn take_left<R: Rows>(rows: &mut R, region: Region, left: Path, depth: u32, kind: RowKind) -> Region
     requires depth { depth < length left.items }
-    requires row { let step = step_at left.items depth in (16 ≤ step.row) × (step.row < 16 + (R.sheet rows.old).rows) }
+    requires row { let step = step_at left.items depth in (first_row ≤ step.row) × (step.row < first_row + (R.sheet rows.old).tree.rows) }
     requires room { length region.run.items + slots_of (R.sheet rows.old).tree.table.width kind ≤ run_room }
     ensures left { result.left ≡ left }
     ensures right { result.right ≡ region.right }

@@ -26,7 +26,7 @@ pub fn push_all(run: &mut Run, items: &[Item])
 /// Appends the items of an inner row of a path that stand behind its slot.
 #[tactic(auto, using(crate::proofs::Gathering::behind_slot))]
 fn push_behind<R: Rows>(rows: &mut R, step: &PathStep, run: &mut Run)
-    requires row { (16 ≤ step.now.row) × (step.now.row < 16 + (R.sheet rows.old).rows) }
+    requires row { (first_row ≤ step.now.row) × (step.now.row < first_row + (R.sheet rows.old).tree.rows) }
     requires slot { step.now.slot + 1 < length (items_of_row (R.sheet rows.old).tree.table Inner step.now.row step.now.max) }
     requires room { length run.old.items + slots_of (R.sheet rows.old).tree.table.width Inner ≤ run_room }
     ensures items { run.new.items ≡ run.old.items ++ drop (step.now.slot + 1) (items_of_row (R.sheet rows.old).tree.table Inner step.now.row step.now.max) }
@@ -53,8 +53,8 @@ pub fn gather<R: Rows>(
     last: u64,
     right: &PathStep,
 ) -> Run
-    requires left_row { (16 ≤ left.now.row) × (left.now.row < 16 + (R.sheet rows.old).rows) }
-    requires right_row { (16 ≤ right.now.row) × (right.now.row < 16 + (R.sheet rows.old).rows) }
+    requires left_row { (first_row ≤ left.now.row) × (left.now.row < first_row + (R.sheet rows.old).tree.rows) }
+    requires right_row { (first_row ≤ right.now.row) × (right.now.row < first_row + (R.sheet rows.old).tree.rows) }
     requires left_slot { left.now.slot ≤ slots_of (R.sheet rows.old).tree.table.width Inner }
     requires few { length new.now ≤ 3 }
     requires more { last < right.now.max → right.now.slot + 1 < length (items_of_row (R.sheet rows.old).tree.table Inner right.now.row right.now.max) }

@@ -14,7 +14,7 @@ ghost use Rattle.mt_layout.specs.declared.spans.Span.{Span};
 ghost use Rattle.mt_leaf.specs.Edits.{edited, ends_with_hole};
 ghost use Rattle.mt_path.specs.Paths.{path_in, row_on, step_at};
 ghost use Rattle.mt_path.specs.declared.paths.PathStep.{PathStep};
-ghost use Rattle.mt_rows.specs.Laws.{HasWords, Stands, Tree, kind_at, least_of_kind, least_of_root, top_of};
+ghost use Rattle.mt_rows.specs.Laws.{HasWords, Stands, Tree, kind_at, least_items_TODO, least_of_root, top_of};
 ghost use Rattle.mt_rows.specs.Levels.{Levels, is_row_of, map_of, tally};
 ghost use Rattle.mt_rows.specs.Publish.{IsTreeOf, MayPublish, is_reached, tree_as};
 ghost use Rattle.mt_rows.specs.Replacement.{root_of};
@@ -67,7 +67,7 @@ pub fn the_row_beside_is_taken_in()
 pub fn gathered_spans_may_be_cut()
     ensures some { (start : Start) (s : Work) (left right : List PathStep) (depth height : ℕ) (run : List Span) → Gathered start s left right depth height run → 1 ≤ length run }
     ensures entry { (start : Start) (s : Work) (left right : List PathStep) (depth : ℕ) (run : List Span) → Gathered start s left right depth 0 run → ((x : Span) → run ≡ x ∷ [] → x.word ≢ 0) → flat_map leaf_range run ≢ [] }
-    ensures alone { (start : Start) (s : Work) (left right : List PathStep) (depth height : ℕ) (run : List Span) → Gathered start s left right depth height run → length run ≤ most_items start.tree.table.width (kind_at start.tree.kind height) → least_of_kind (kind_at start.tree.kind height) ≤ length run
+    ensures alone { (start : Start) (s : Work) (left right : List PathStep) (depth height : ℕ) (run : List Span) → Gathered start s left right depth height run → length run ≤ most_items start.tree.table.width (kind_at start.tree.kind height) → least_items_TODO (kind_at start.tree.kind height) ≤ length run
         → (height ≡ 0 → (step_at right depth).max < top_of start.tree → ends_with_hole run ≡ false) → MayBeCut start.tree height (begin_of left depth) (end_of right depth) run }
     ensures whole { (start : Start) (s : Work) (left right : List PathStep) (depth height : ℕ) (run : List Span) → Gathered start s left right depth height run → length run ≤ most_items start.tree.table.width (kind_at start.tree.kind height)
         → begin_of left depth ≡ 0 → (step_at right depth).max ≡ top_of start.tree → least_of_root height ≤ length run → (height ≡ 0 → flat_map leaf_range run ≢ [])
@@ -163,14 +163,14 @@ pub fn nothing_is_left_of_the_tree()
 
 /// The one store that ends a replacement may be published.
 pub fn the_end_may_be_published()
-    ensures root { (start : Start) (w : Work) → Holds start w → (kind : Kind) (s : Sheet) → now start w ≡ tree_as kind s.rows s.tree → (call : Call) (reply : Reply) → IsReady kind s start.map w.taken w.gone call reply
+    ensures root { (start : Start) (w : Work) → Holds start w → (kind : Kind) (s : Sheet) → now start w ≡ tree_as kind s.tree.rows s.tree → (call : Call) (reply : Reply) → IsReady kind s start.map w.taken w.gone call reply
         → (h' word : ℕ) → IsReplaced start.tree (with_root (now start w) word) start.map w.taken w.gone start.height h' → MayPublish kind s Root word call reply }
-    ensures slot { (start : Start) (w : Work) → Holds start w → (kind : Kind) (s : Sheet) → now start w ≡ tree_as kind s.rows s.tree → (call : Call) (reply : Reply) → IsReady kind s start.map w.taken w.gone call reply
+    ensures slot { (start : Start) (w : Work) → Holds start w → (kind : Kind) (s : Sheet) → now start w ≡ tree_as kind s.tree.rows s.tree → (call : Call) (reply : Reply) → IsReady kind s start.map w.taken w.gone call reply
         → (k word : ℕ) (step : PathStep) → IsReplaced start.tree (with_step (now start w) (kind_at start.tree.kind k) step word) start.map w.taken w.gone start.height start.height
-        → IsPublished (now start w) (kind_at start.tree.kind k) step word → MayPublish kind s (Slot step.row (column_of (tree_as kind s.rows s.tree) (kind_at kind k) step)) word call reply }
-    ensures emptied { (start : Start) (w : Work) → Holds start w → (kind : Kind) (s : Sheet) → now start w ≡ tree_as kind s.rows s.tree → (call : Call) (reply : Reply) → IsReady kind s start.map w.taken w.gone call reply
+        → IsPublished (now start w) (kind_at start.tree.kind k) step word → MayPublish kind s (Slot step.row (column_of (tree_as kind s.tree.rows s.tree) (kind_at kind k) step)) word call reply }
+    ensures emptied { (start : Start) (w : Work) → Holds start w → (kind : Kind) (s : Sheet) → now start w ≡ tree_as kind s.tree.rows s.tree → (call : Call) (reply : Reply) → IsReady kind s start.map w.taken w.gone call reply
         → start.map ≡ [] → ((p : ℕ → Span → Bool) → passing p w.gone ≡ times_in p start.tree start.height) → MayPublish kind s Root 0 call reply }
-    ensures first { (start : Start) (w : Work) (kind : Kind) (s : Sheet) (word : ℕ) (call : Call) (reply : Reply) → now start w ≡ tree_as kind s.rows s.tree → s.tree.root ≡ 0 → w.gone ≡ []
+    ensures first { (start : Start) (w : Work) (kind : Kind) (s : Sheet) (word : ℕ) (call : Call) (reply : Reply) → now start w ≡ tree_as kind s.tree.rows s.tree → s.tree.root ≡ 0 → w.gone ≡ []
         → IsReady kind s start.map w.taken w.gone call reply → Stands (with_root (now start w) word) 0 → map_of (now start w).table 0 (root_of (with_root (now start w) word)) ≡ start.map
         → 1 ≤ passing (is_row_of (row_in word)) w.taken → MayPublish kind s Root word call reply }
 {}
@@ -189,5 +189,5 @@ pub fn the_tree_stands_as_it_was()
 
 /// A book of a tree's rows counts as live just the rows that are reached.
 pub fn a_book_counts_the_rows_reached()
-    ensures { (s : Sheet) (kind : Kind) (book : Book) (number : ℕ) → IsTreeOf s kind → IsBookOf s book number → live_count book ≡ length (reached_in s.tree.table s.tree.root) }
+    ensures { (s : Sheet) (kind : Kind) (book : Book) (number : ℕ) → IsTreeOf s.tree kind → IsBookOf s.tree s.lives s.cleared book number → live_count book ≡ length (reached_in s.tree.table s.tree.root) }
 {}

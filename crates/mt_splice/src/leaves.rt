@@ -19,7 +19,7 @@ use mt_rows::{Rows, slots};
 
 /// Appends the items of the leaf that a path ends in.
 fn push_leaf<R: Rows>(rows: &mut R, leaf: PathStep, run: &mut Run)
-    requires row { (16 ≤ leaf.row) × (leaf.row < 16 + (R.sheet rows.old).rows) }
+    requires row { (first_row ≤ leaf.row) × (leaf.row < first_row + (R.sheet rows.old).tree.rows) }
     requires room { length run.old.items + slots_of (R.sheet rows.old).tree.table.width Leaf ≤ run_room }
     ensures items { run.new.items ≡ run.old.items ++ items_of_row (R.sheet rows.old).tree.table Leaf leaf.row leaf.max }
     ensures rest { OnlyReads (R.sheet rows.old) (R.sheet rows.new) }
@@ -38,8 +38,8 @@ fn last_of(path: &Path) -> PathStep
 
 /// The items of two leaves, one behind the other, or those of one.
 fn leaves_at<R: Rows>(rows: &mut R, left: PathStep, right: PathStep) -> Run
-    requires left { (16 ≤ left.row) × (left.row < 16 + (R.sheet rows.old).rows) }
-    requires right { (16 ≤ right.row) × (right.row < 16 + (R.sheet rows.old).rows) }
+    requires left { (first_row ≤ left.row) × (left.row < first_row + (R.sheet rows.old).tree.rows) }
+    requires right { (first_row ≤ right.row) × (right.row < first_row + (R.sheet rows.old).tree.rows) }
     ensures items { result.items ≡ leaves_items (R.sheet rows.old).tree.table left right }
     ensures rest { OnlyReads (R.sheet rows.old) (R.sheet rows.new) }
 {

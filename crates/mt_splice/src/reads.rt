@@ -12,8 +12,8 @@ use std::ops::Range;
 
 /// The item in a slot of a row that covers the indexes up to `max`.
 fn load_item<R: Rows>(rows: &mut R, kind: RowKind, row: u32, max: u64, slot: u32) -> Item
-    requires first { 16 ≤ row }
-    requires last { row < 16 + (R.sheet rows.old).rows }
+    requires first { first_row ≤ row }
+    requires last { row < first_row + (R.sheet rows.old).tree.rows }
     requires slot { slot < slots_of (R.sheet rows.old).tree.table.width kind }
     ensures item { let t = (R.sheet rows.old).tree.table in result ≡ item_at (slots_of t.width kind) (gaps_of t.width kind) t.words (base_of t row) slot result.last }
     ensures last { let t = (R.sheet rows.old).tree.table in result.last ≡ (if nat_lt (slot + 1) (slots_of t.width kind) then column t row (pivot_column slot) else max) }
@@ -45,8 +45,8 @@ pub fn push_items<R: Rows>(
     to: u32,
     run: &mut Run,
 )
-    requires first { 16 ≤ row }
-    requires last { row < 16 + (R.sheet rows.old).rows }
+    requires first { first_row ≤ row }
+    requires last { row < first_row + (R.sheet rows.old).tree.rows }
     requires room { length run.old.items + (to - from) ≤ run_room }
     ensures items { let t = (R.sheet rows.old).tree.table in run.new.items ≡ run.old.items ++ take (to - from) (items_from (slots_of t.width kind) (gaps_of t.width kind) t.words (base_of t row) max (slots_of t.width kind - from) from) }
     ensures rest { OnlyReads (R.sheet rows.old) (R.sheet rows.new) }

@@ -24,7 +24,7 @@ const ROWS: u64 = 400;
 
 /// Appends the words of a row.
 fn push_row(rows: &mut PlainRows, row: u32, words: &mut Vec<u64>) -> Result<(), NoMemory>
-    requires { IsPlace rows.old row 0 }
+    requires { IsPlace rows.old.tree row 0 }
     ensures { OnlyReads rows.old rows.new }
 {
     for col in 0..32 {

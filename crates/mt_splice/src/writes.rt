@@ -42,10 +42,10 @@ fn words_for(kind: RowKind, items: &[Item]) -> [u64; 32]
 /// Writes all words of a row that may be written anew.
 #[tactic(auto, using(crate::proofs::Drafts::none_drafted, crate::proofs::Drafts::one_more))]
 fn draft_words<R: Rows>(rows: &mut R, row: u32, words: &[u64])
-    requires first { 16 ≤ row }
-    requires last { row < 16 + (R.sheet rows.old).rows }
+    requires first { first_row ≤ row }
+    requires last { row < first_row + (R.sheet rows.old).tree.rows }
     requires columns { length words.now ≡ columns (R.sheet rows.old).tree.table.width }
-    requires free { IsFree (R.sheet rows.old).cleared (life_of (R.sheet rows.old) row) }
+    requires free { IsFree (R.sheet rows.old).cleared (life_of (R.sheet rows.old).lives row) }
     ensures words { AreDrafted (R.sheet rows.old) (R.sheet rows.new) row words.now }
     ensures life { (R.sheet rows.new).lives ≡ slice_set (R.sheet rows.old).lives row Draft }
     ensures number { IsRowNumber row }
@@ -60,8 +60,8 @@ fn draft_words<R: Rows>(rows: &mut R, row: u32, words: &[u64])
 /// Writes a new row of this kind with these items, in a row that it takes from the book, and gives the row's name.
 pub fn write_row<R: Rows>(rows: &mut R, book: &mut RowBook, kind: RowKind, items: &[Item]) -> u64
     requires free { 0 < length book.old.free }
-    requires rows { book.old.rows ≡ (R.sheet rows.old).rows }
-    requires spare { All (λ row. IsFree (R.sheet rows.old).cleared (life_of (R.sheet rows.old) row)) book.old.free }
+    requires rows { book.old.rows ≡ (R.sheet rows.old).tree.rows }
+    requires spare { All (λ row. IsFree (R.sheet rows.old).cleared (life_of (R.sheet rows.old).lives row)) book.old.free }
     requires fit { FitRow (slots_of (R.sheet rows.old).tree.table.width kind) (gaps_of (R.sheet rows.old).tree.table.width kind) items.now }
     ensures { IsRowWritten (R.sheet rows.old) (R.sheet rows.new) book.old book.new kind items.now result }
 {

@@ -6,6 +6,6 @@ use Rattle.mt_path.proofs.tests.draft_row.Given as goal
 abbrev pub invariant-loop-col : goal.invariant-loop-col
 invariant-loop-col l = record {
   is : l.rows ≡ fold (λ (s : Sheet) (col : ℕ). drafted s l.row col (slice_index l.words col)) l.initial.rows (range_with_len 0 l.col);
-  place : IsPlace l.rows l.row 0;
-  free : IsFree l.rows.cleared (life_of l.rows l.row);
+  place : IsPlace l.rows.tree l.row 0;
+  free : IsFree l.rows.cleared (life_of l.rows.lives l.row);
 }

@@ -13,11 +13,11 @@ use Rattle.mt_path.proofs.tests.rows_beside.Goals as goal
 reads_again : (s s' s'' : Sheet) → OnlyReads s s' → OnlyReads s' s'' → OnlyReads s s''
 reads_again s s' s'' first next = next ∙ ap (λ (r : Sheet). record r { reads = s''.reads }) first
 
-tree_stays : (s s' : Sheet) → OnlyReads s s' → IsTreeOf s Alloc → (kind : Kind) × IsTreeOf s' kind
-tree_stays s s' only tree = (Alloc, subst (λ (r : Sheet). IsTreeOf r Alloc) (sym only) (record { of_kind = record { told = tree.of_kind.told; width = tree.of_kind.width }; words = tree.words }))
+tree_stays : (s s' : Sheet) → OnlyReads s s' → IsTreeOf s.tree Alloc → (kind : Kind) × IsTreeOf s'.tree kind
+tree_stays s s' only tree = (Alloc, subst (λ (r : Sheet). IsTreeOf r.tree Alloc) (sym only) (record { of_kind = record { told = tree.of_kind.told; width = tree.of_kind.width }; words = tree.words }))
 
 -- the path of an index is its path still
-path_stays : (s s' : Sheet) (steps : List PathStep) (index : ℕ) → OnlyReads s s' → IsTreeOf s Alloc → index ≤ 18446744073709551615 → steps ≡ path_in s.tree.table s.tree.root index
+path_stays : (s s' : Sheet) (steps : List PathStep) (index : ℕ) → OnlyReads s s' → IsTreeOf s.tree Alloc → index ≤ 18446744073709551615 → steps ≡ path_in s.tree.table s.tree.root index
     → (i : ℕ) × (i ≤ greatest s'.tree.table.width) × (steps ≡ path_in s'.tree.table s'.tree.root i)
 path_stays s s' steps index only tree fits is =
     let within : index ≤ greatest s.tree.table.width = subst (λ (w : Width). index ≤ greatest w) (sym tree.of_kind.width) fits in

@@ -32,10 +32,10 @@ abbrev root : Span
 root = root_span tree.table 4124
 
 abbrev left_leaf : Span
-left_leaf = record { first = 0; last = 11; word = 4364; gap = 0 }
+left_leaf = record { first = 0; last = 11; word = 4364 }
 
 abbrev right_leaf : Span
-right_leaf = record { first = 12; last = 18446744073709551615; word = 4620; gap = 18446744073709551599 }
+right_leaf = record { first = 12; last = 18446744073709551615; word = 4620 }
 
 -- ---- each row keeps the laws
 
@@ -110,10 +110,10 @@ module _ (s s₁ s₂ s₃ : Sheet) (new : s ≡ new_sheet 3) (first : s₁ ≡ 
   leaves_may_plant = (Alloc, subst (λ (s : Sheet). MayPlant Alloc s 4124) (sym leaves_are) may_plant)
 
   -- and planted they are a tree
-  leaves_are_tree : (s₄ : Sheet) → Planted s₃ s₄ 4124 → IsTreeOf s₄ Alloc
+  leaves_are_tree : (s₄ : Sheet) → Planted s₃ s₄ 4124 → IsTreeOf s₄.tree Alloc
   leaves_are_tree s₄ planted =
       let done : Planted ready_to_plant s₄ 4124 = subst (λ (s : Sheet). Planted s s₄ 4124) leaves_are planted in
-      subst (λ (s : Sheet). IsTreeOf s Alloc) (sym done.rest) (record { of_kind = record { told = tt; width = refl }; words = inr (1, stands) })
+      subst (λ (s : Sheet). IsTreeOf s.tree Alloc) (sym done.rest) (record { of_kind = record { told = tt; width = refl }; words = inr (1, stands) })
 
 pub plant-requires : goal.plant-requires
 plant-requires c = leaves_may_plant c.in_ok-rows.rows c.draft_row.new.rows c.draft_row-2.new.rows c.draft_row-3.new.rows c.in_ok-rows.ensures c.draft_row.ensures c.draft_row-2.ensures c.draft_row-3.ensures

@@ -39,4 +39,4 @@ returns-clause-path g c = λ depth.
     let word = word_kept (found.slot + 1) sheet after row.number (c.slots.result + found.slot) c.load.result c.find_slot-found.ensures.reads c.load.ensures.word
     ∙ ap (λ (n : ℕ). column sheet.tree.table row.number (n + found.slot)) slots in
     follows_inner sheet.tree.table depth c.args.span c.args.index row found some c.find_slot-found.ensures.found c.args.path.now.items c.load.result other word
-    ∙ ap (λ (l : List PathStep). l ++ path_of sheet.tree.table depth (record { first = found.first; last = found.last; word = c.load.result; gap = 0 }) c.args.index) (sym c.push.ensures.items)
+    ∙ ap (λ (l : List PathStep). l ++ path_of sheet.tree.table depth (record { first = found.first; last = found.last; word = c.load.result }) c.args.index) (sym c.push.ensures.items)

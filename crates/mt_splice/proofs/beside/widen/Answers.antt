@@ -33,7 +33,7 @@ take_right-requires-clause-depth g c =
 
 pub take_right-requires-clause-row : goal.take_right-requires-clause-row
 take_right-requires-clause-row g c =
-    let row = right_row c.requires.level.0 c.requires.level.1 (g.R.Rows.sheet c.args.rows.now) c.args.kind c.args.region.left.items c.args.region.right.items c.args.depth c.requires.level.2 c.args.region.run.items c.requires.level.3 c.in-Some.right.items (right_more c.requires.level.0 c.requires.level.1 (g.R.Rows.sheet c.args.rows.now) c.args.kind c.args.region.left.items c.args.region.right.items c.args.depth c.requires.level.2 c.args.region.run.items c.requires.level.3 (λ e. not_both (c.in-Some.ensures.none.1 e))) c.in-Some.ensures.some in let rows = ap (λ (s : Sheet). s.rows) c.right_at.ensures.rest in (row.1, (let below = row.2 in omega arith))
+    let row = right_row c.requires.level.0 c.requires.level.1 (g.R.Rows.sheet c.args.rows.now) c.args.kind c.args.region.left.items c.args.region.right.items c.args.depth c.requires.level.2 c.args.region.run.items c.requires.level.3 c.in-Some.right.items (right_more c.requires.level.0 c.requires.level.1 (g.R.Rows.sheet c.args.rows.now) c.args.kind c.args.region.left.items c.args.region.right.items c.args.depth c.requires.level.2 c.args.region.run.items c.requires.level.3 (λ e. not_both (c.in-Some.ensures.none.1 e))) c.in-Some.ensures.some in let rows = ap (λ (s : Sheet). s.tree.rows) c.right_at.ensures.rest in (row.1, (let below = row.2 in omega arith))
 
 pub returns-in-Some-clause-level : goal.returns-in-Some-clause-level
 returns-in-Some-clause-level g c =
@@ -65,7 +65,7 @@ take_left-requires-clause-depth g c =
 
 pub take_left-requires-clause-row : goal.take_left-requires-clause-row
 take_left-requires-clause-row g c =
-    let row = left_row c.requires.level.0 c.requires.level.1 (g.R.Rows.sheet c.right_at.new.rows) c.args.kind c.args.region.left.items c.args.region.right.items c.args.depth c.requires.level.2 c.args.region.run.items (widen_read c.requires.level.0 c.requires.level.1 (g.R.Rows.sheet c.args.rows.now) (g.R.Rows.sheet c.right_at.new.rows) c.args.kind c.args.region.left.items c.args.region.right.items c.args.depth c.requires.level.2 c.args.region.run.items c.right_at.ensures.rest c.requires.level.3) c.in-Some-left_at.left.items (some_above (step_at c.args.region.left.items c.args.depth).min (λ e. not_both (c.in-Some-left_at.ensures.none.1 e))) c.in-Some-left_at.ensures.some in let rows = ap (λ (s : Sheet). s.rows) c.left_at.ensures.rest in (row.1, (let below = row.2 in omega arith))
+    let row = left_row c.requires.level.0 c.requires.level.1 (g.R.Rows.sheet c.right_at.new.rows) c.args.kind c.args.region.left.items c.args.region.right.items c.args.depth c.requires.level.2 c.args.region.run.items (widen_read c.requires.level.0 c.requires.level.1 (g.R.Rows.sheet c.args.rows.now) (g.R.Rows.sheet c.right_at.new.rows) c.args.kind c.args.region.left.items c.args.region.right.items c.args.depth c.requires.level.2 c.args.region.run.items c.right_at.ensures.rest c.requires.level.3) c.in-Some-left_at.left.items (some_above (step_at c.args.region.left.items c.args.depth).min (λ e. not_both (c.in-Some-left_at.ensures.none.1 e))) c.in-Some-left_at.ensures.some in let rows = ap (λ (s : Sheet). s.tree.rows) c.left_at.ensures.rest in (row.1, (let below = row.2 in omega arith))
 
 pub returns-in-Some-left_at-clause-level : goal.returns-in-Some-left_at-clause-level
 returns-in-Some-left_at-clause-level g c =

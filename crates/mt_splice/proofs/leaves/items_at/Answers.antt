@@ -18,14 +18,14 @@ leaves_at-run-requires-clause-left g c =
     let some : (length c.args.left.now.items == 0) ≡ false = sym c.is_empty.ensures ∙ c.if-is_empty.false in
     let ends = c.requires.ends in
     let leaves = leaves_are (g.R.Rows.sheet c.args.rows.now) c.args.left.now.items c.args.right.now.items ends.0 ends.1 ends.2 some in
-    subst (λ (s : PathStep). (16 ≤ s.row) × (s.row < 16 + (g.R.Rows.sheet c.args.rows.now).rows)) (sym c.last_of-leaf.ensures) leaves.left_row
+    subst (λ (s : PathStep). (first_row ≤ s.row) × (s.row < first_row + (g.R.Rows.sheet c.args.rows.now).rows)) (sym c.last_of-leaf.ensures) leaves.left_row
 
 pub leaves_at-run-requires-clause-right : goal.leaves_at-run-requires-clause-right
 leaves_at-run-requires-clause-right g c =
     let some : (length c.args.left.now.items == 0) ≡ false = sym c.is_empty.ensures ∙ c.if-is_empty.false in
     let ends = c.requires.ends in
     let leaves = leaves_are (g.R.Rows.sheet c.args.rows.now) c.args.left.now.items c.args.right.now.items ends.0 ends.1 ends.2 some in
-    subst (λ (s : PathStep). (16 ≤ s.row) × (s.row < 16 + (g.R.Rows.sheet c.args.rows.now).rows)) (sym c.last_of.ensures) leaves.right_row
+    subst (λ (s : PathStep). (first_row ≤ s.row) × (s.row < first_row + (g.R.Rows.sheet c.args.rows.now).rows)) (sym c.last_of.ensures) leaves.right_row
 
 pub returns-clause-items : goal.returns-clause-items
 returns-clause-items g c =

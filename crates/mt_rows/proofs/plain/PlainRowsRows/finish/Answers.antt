@@ -20,4 +20,4 @@ returns c =
     let lives = finished_lives p c.args.self.now c.requires.0 c.args._call.now c.args._reply.now c.self.invariant c.self.view_is c.requires.1 in
     let buried = finished_buried p c.args.self.now c.requires.0 c.args._call.now c.args._reply.now c.self.invariant c.self.view_is c.requires.1 in
     rw (← c.self.view_is)
-    (λ i. record (sheet_of p) { ended = p.ended + 1; flying = false; published = false; lives = lives i; buried = buried i; records = either_same p.published (sheet_of p).records i })
+    (λ i. record (sheet_of p) { ended = p.ended + 1; in_flight = false; published = false; lives = lives i; buried = buried i; records = either_same p.published (sheet_of p).records i })
