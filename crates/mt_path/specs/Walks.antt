@@ -5,8 +5,9 @@ use Rattle.std.specs.Option.{option_map}
 use Rattle.mt_layout.specs.declared.names.RowKind.{RowKind}
 use Rattle.mt_layout.specs.declared.spans.Span.{Span}
 use Rattle.mt_layout.specs.Rows.{row_in, named_kind}
+use Rattle.mt_layout.specs.Sizes.{slots_of}
 use Rattle.mt_layout.specs.Columns.{slot_column}
-use Rattle.mt_rows.specs.Spans.{Table, column, slots_of, row_spans}
+use Rattle.mt_rows.specs.Spans.{Table, column, row_spans}
 use Rattle.mt_path.specs.declared.paths.PathStep.{PathStep}
 use Rattle.mt_path.specs.declared.walks.Row.{Row}
 use Rattle.mt_path.specs.declared.walks.Found.{Found}
@@ -26,10 +27,6 @@ pub record IsFound (t : Table) (row : Row) (index : ℕ) (found : Found) : Type 
   pub first : found.first ≡ (span_at (spans_of t row) found.slot).first
   pub last : found.last ≡ (span_at (spans_of t row) found.slot).last
   pub word : column t row.number (slot_column (slots_of t.width row.kind) found.slot) ≡ (span_at (spans_of t row) found.slot).word
-
--- a walk knows of a span all but its gap
-abbrev pub gapless : Span → Span
-gapless x = record x { gap = 0 }
 
 -- the steps that are still to come, at most so many: none behind a leaf
 abbrev pub rest_of : Table → ℕ → Option Span → ℕ → List PathStep
