@@ -89,7 +89,7 @@ module _ (s s' : Sheet) (book book' : Book) (number : ℕ) (call : Call) (reply 
       let ended : s'.ended ≡ s.ended = ap (λ (x : Sheet). x.ended) spliced.rest in
       let rows : book'.rows ≡ book.rows = spliced.booked.rows ∙ (ap (λ (x : Sheet). x.tree.rows) spliced.rest ∙ sym state.booked.rows) in
       let frees : length book.free ≡ length book'.free + length spliced.moved.taken = ap length spliced.moved.free ∙ length-append book'.free spliced.moved.taken in
-      let low : height_in s.tree.table s.tree.root ≤ 9 = low_tree (tree_as trees.Range s.tree.rows s.tree) state.lawful.words in
+      let low : height_in s.tree.table s.tree.root ≤ 9 = low_tree (tree_as trees.Range s.tree) state.lawful.words in
       rw (opened, ended) (grows book.rows book'.rows (length book.free) (length book'.free) (length spliced.moved.taken) (length book.held) (length book'.held) (height_in s.tree.table s.tree.root) s.opened s.ended rows frees spliced.moved.few low state.booked.sound.counted spliced.booked.sound.counted state.grown)
 
   pub idle_after : IsIdle done book'

@@ -100,10 +100,10 @@ module _ (s : Sheet) (book : Book) (in_call : IsInCall s book) (first last entry
 pub path_height : (s : Sheet) (book : Book) (index : ℕ) (path : List PathStep) → IsInCall s book → index ≤ greatest s.tree.table.width → path ≡ path_in s.tree.table s.tree.root index → length path ≡ height_in s.tree.table s.tree.root
 path_height s book index path in_call within is = by in_call.state.lawful.words
   where
-    by : IsLawful (tree_as trees.Range s.tree.rows s.tree) → length path ≡ height_in s.tree.table s.tree.root
+    by : IsLawful (tree_as trees.Range s.tree) → length path ≡ height_in s.tree.table s.tree.root
     by (inl empty) = ap length (is ∙ path_of_none s.tree.table deepest (root_span s.tree.table s.tree.root) index (ap named_kind empty)) ∙ sym (ap (height_in s.tree.table) empty)
     by (inr (h, stands, parent, tended)) =
-        let t = tree_as trees.Range s.tree.rows s.tree in
+        let t = tree_as trees.Range s.tree in
         ap length is ∙ (levels t h stands index within ∙ sym (height_by_depth t deepest h (root_span s.tree.table s.tree.root) stands.low stands.rows))
 
 -- ---- rows that have room may be replaced

@@ -152,10 +152,10 @@ module _ (s : Sheet) (kind : Kind) (tree : IsTreeOf s.tree kind) (index : ℕ) (
   pub root_if_no_end : slice_get steps (length steps - 1) ≡ None → s.tree.root ≡ 0
   root_if_no_end none = by tree.words
     where
-      by : laws.IsTree (tree_as kind s.tree.rows s.tree) → s.tree.root ≡ 0
+      by : laws.IsTree (tree_as kind s.tree) → s.tree.root ≡ 0
       by (inl empty) = empty
       by (inr (h, stands)) =
-          let many = levels (tree_as kind s.tree.rows s.tree) h stands index inside in
+          let many = levels (tree_as kind s.tree) h stands index inside in
           let same = ap length path in
           let short = no_end none in
           absurd (omega arith)

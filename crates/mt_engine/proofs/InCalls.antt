@@ -46,7 +46,7 @@ is_tree t (inl empty) = inl empty
 is_tree t (inr (h, stands, parent, tended)) = inr (h, stands)
 
 pub tree_in_call : (s : Sheet) (book : Book) → IsInCall s book → IsTreeOf s.tree trees.Range
-tree_in_call s book in_call = let lawful = in_call.state.lawful in record { of_kind = lawful.of_kind; words = is_tree (tree_as trees.Range s.tree.rows s.tree) lawful.words }
+tree_in_call s book in_call = let lawful = in_call.state.lawful in record { of_kind = lawful.of_kind; words = is_tree (tree_as trees.Range s.tree) lawful.words }
 
 -- ---- what was read before
 
@@ -136,4 +136,4 @@ pub idle_if_read : (s s' : Sheet) (book : Book) → OnlyReads s s' → IsIdle s 
 idle_if_read s s' book reads idle = subst (λ (x : Sheet). IsIdle x book) (sym reads) (idle_with s book s'.reads idle)
 
 pub tree_idle : (s : Sheet) (book : Book) → IsIdle s book → IsTreeOf s.tree trees.Range
-tree_idle s book idle = let lawful = idle.state.lawful in record { of_kind = lawful.of_kind; words = is_tree (tree_as trees.Range s.tree.rows s.tree) lawful.words }
+tree_idle s book idle = let lawful = idle.state.lawful in record { of_kind = lawful.of_kind; words = is_tree (tree_as trees.Range s.tree) lawful.words }

@@ -56,7 +56,7 @@ in_leaf t h stands index inside =
 
 module _ (s : Sheet) (kind : Kind) where
   abbrev t : laws.Tree
-  t = tree_as kind s.tree.rows s.tree
+  t = tree_as kind s.tree
 
   module _ (h : ℕ) (stands : laws.Stands t h) (index : ℕ) (inside : index ≤ laws.top_of t) where
     abbrev row : Span

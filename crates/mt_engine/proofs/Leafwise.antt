@@ -160,10 +160,10 @@ greatest_kept s t u width top before behind wide is = is ∙ ap greatest (wide �
 some_column : (w : Width) → 0 < columns w
 some_column Long = omega arith
 
-stands_on : (s : Sheet) (kind : Kind) (index : ℕ) (path : List PathStep) → IsTreeOf s.tree kind → path ≡ path_in s.tree.table s.tree.root index → 1 ≤ length path → (h : ℕ) × Stands (tree_as kind s.tree.rows s.tree) h
+stands_on : (s : Sheet) (kind : Kind) (index : ℕ) (path : List PathStep) → IsTreeOf s.tree kind → path ≡ path_in s.tree.table s.tree.root index → 1 ≤ length path → (h : ℕ) × Stands (tree_as kind s.tree) h
 stands_on s kind index path tree is some = by tree.words
   where
-    by : IsTree (tree_as kind s.tree.rows s.tree) → (h : ℕ) × Stands (tree_as kind s.tree.rows s.tree) h
+    by : IsTree (tree_as kind s.tree) → (h : ℕ) × Stands (tree_as kind s.tree) h
     by (inl empty) = let none = ap length (is ∙ path_of_none s.tree.table deepest (root_span s.tree.table s.tree.root) index (ap named_kind empty)) in absurd (omega arith)
     by (inr stands) = stands
 
@@ -176,7 +176,7 @@ module _ (t : Tree) (h : ℕ) (stands : Stands t h) (index : ℕ) (within : inde
 module _ (s s₁ : Sheet) (kind : Kind) (index : ℕ) (path : List PathStep) (leaf : PathStep) (tree : IsTreeOf s.tree kind) (begins : BeginsLeaf s.tree index) (is : path ≡ path_in s.tree.table s.tree.root index) (reads : OnlyReads s s₁)
     (found : slice_get path (length path - 1) ≡ Some leaf) where
   abbrev t : Tree
-  t = tree_as kind s.tree.rows s.tree
+  t = tree_as kind s.tree
 
   stands : (h : ℕ) × Stands t h
   stands = let some = slice_get_within path (length path - 1) leaf found in stands_on s kind index path tree is (omega arith)
@@ -279,11 +279,11 @@ tree_if_read s s' kind reads tree = subst (λ (x : Sheet). IsTreeOf x.tree kind)
 first_leaf : (s : Sheet) (kind : Kind) → IsTreeOf s.tree kind → BeginsLeaf s.tree 0
 first_leaf s kind tree = record { within = omega arith; min = by tree.words }
   where
-    by : IsTree (tree_as kind s.tree.rows s.tree) → (leaf_in s.tree 0).min ≡ 0
+    by : IsTree (tree_as kind s.tree) → (leaf_in s.tree 0).min ≡ 0
     by (inl empty) = ap (λ (l : List PathStep). (last_step l).min) (path_of_none s.tree.table deepest (root_span s.tree.table s.tree.root) 0 (ap named_kind empty))
     by (inr (h, stands)) =
-        let first = ap (λ (l : PathStep). l.min) (end_is (tree_as kind s.tree.rows s.tree) h stands 0 (omega arith)) in
-        let at = place (tree_as kind s.tree.rows s.tree) h stands 0 h (omega arith) (omega arith) in
+        let first = ap (λ (l : PathStep). l.min) (end_is (tree_as kind s.tree) h stands 0 (omega arith)) in
+        let at = place (tree_as kind s.tree) h stands 0 h (omega arith) (omega arith) in
         let from = at.from in omega (arith, first, from)
 
 pub none_taken : (s : Sheet) (listed : List Range) → ((kind : Kind) × IsTreeOf s.tree kind) → listed ≡ [] → AreListed s s (Some 0) listed

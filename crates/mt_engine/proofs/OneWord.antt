@@ -77,18 +77,18 @@ leaves_tended t (x ∷ xs) = (record { parent = tt; gaps = tt }, leaves_tended t
 
 -- ---- the store
 
-module _ (s : Sheet) (h index entry : ℕ) (whole : IsWhole s) (stands : laws.Stands (tree_as trees.Range s.tree.rows s.tree) h) (inside : index ≤ greatest s.tree.table.width) where
+module _ (s : Sheet) (h index entry : ℕ) (whole : IsWhole s) (stands : laws.Stands (tree_as trees.Range s.tree) h) (inside : index ≤ greatest s.tree.table.width) where
   abbrev pub t : laws.Tree
-  t = tree_as trees.Range s.tree.rows s.tree
+  t = tree_as trees.Range s.tree
 
   abbrev pub leaf : Span
-  leaf = row_of (tree_as trees.Range s.tree.rows s.tree) h index
+  leaf = row_of (tree_as trees.Range s.tree) h index
 
   abbrev pub slot : ℕ
-  slot = slot_for (spans_in s.tree.table (row_of (tree_as trees.Range s.tree.rows s.tree) h index)) index
+  slot = slot_for (spans_in s.tree.table (row_of (tree_as trees.Range s.tree) h index)) index
 
   abbrev pub item : Span
-  item = below s.tree.table (row_of (tree_as trees.Range s.tree.rows s.tree) h index) index
+  item = below s.tree.table (row_of (tree_as trees.Range s.tree) h index) index
 
   abbrev pub where_published : Place
   where_published = Slot (row_in leaf.word) (slot_column (slots_of s.tree.table.width Leaf) slot)
@@ -249,7 +249,7 @@ module _ (s : Sheet) (book : Book) (after : Tree) (lives : List Life) (buried : 
 module _ (s : Sheet) (book : Book) (handle : Handle) (entry : ℕ) (call : Call) (reply : Reply) (whole : IsWhole s) (in_call : IsInCall s book) (is : IsHandleOf s handle) (range : handle.span.word ≢ 0) (new : entry ≢ 0)
     (stores : IsStoreBy trees.Range (greatest s.tree.table.width) (map_by s.tree) call reply handle.span.first handle.span.last entry) (slots : ℕ) (are_slots : slots ≡ slots_of s.tree.table.width Leaf) where
   abbrev words : laws.Tree
-  words = tree_as trees.Range s.tree.rows s.tree
+  words = tree_as trees.Range s.tree
 
   abbrev Stood : Type 0
   Stood = (h : ℕ) × laws.Stands words h × (column words.table (row_in words.root) 0 ≡ 1) × Levels (laws.IsTended words) words.table h (root_of words)

@@ -74,7 +74,7 @@ levelled s lawful = elim lawful.words [
   | inl empty ↦ of_nothing (height_in s.tree.table s.tree.root) (length (reached_in s.tree.table s.tree.root)) (map_by s.tree)
       (ap (λ (root : ℕ). height_in s.tree.table root) empty) (ap (λ (root : ℕ). length (reached_in s.tree.table root)) empty) (ap (λ (root : ℕ). map_in s.tree.table root) empty)
   | inr stands ↦
-      let t : Tree = tree_as trees.Range s.tree.rows s.tree in
+      let t : Tree = tree_as trees.Range s.tree in
       let h : ℕ = stands.0 in
       let at : Stands t h = stands.1 in
       let few = few_rows t h at in

@@ -78,7 +78,7 @@ module _ (s : Sheet) (tree : (kind : Kind) × IsTreeOf s.tree kind) where
   top = greatest s.tree.table.width
 
   pub ranges_end_within : AllByRecursion (λ (r : Range). r.last < top + 1) m
-  ranges_end_within = ends_within (tree_as tree.0 s.tree.rows s.tree) tree.1.words
+  ranges_end_within = ends_within (tree_as tree.0 s.tree) tree.1.words
 
   is_map : IsMap m
   is_map = tree_map s tree.0 tree.1

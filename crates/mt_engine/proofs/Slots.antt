@@ -102,7 +102,7 @@ map_by_words t (inl empty) = let none = ap (λ (root : ℕ). map_by (record { ta
 map_by_words t (inr (h, stands)) = maps.tree_map t h stands
 
 pub tree_map : (s : Sheet) (kind : Kind) → IsTreeOf s.tree kind → IsMap (map_by s.tree)
-tree_map s kind tree = map_by_words (tree_as kind s.tree.rows s.tree) tree.words
+tree_map s kind tree = map_by_words (tree_as kind s.tree) tree.words
 
 tells_by_words : (t : Tree) (index : ℕ) → IsTree t → t.root ≢ 0 → index ≤ top_of t
     → IsSpanAt (map_by (record { table = t.table; root = t.root })) (top_of t) index (handle_in (record { table = t.table; root = t.root }) index).span
@@ -111,4 +111,4 @@ tells_by_words t index (inr (h, stands)) some within = tells t h stands index wi
 
 pub slot_tells : (s : Sheet) (kind : Kind) (index : ℕ) → IsTreeOf s.tree kind → s.tree.root ≢ 0 → index ≤ greatest s.tree.table.width
     → IsSpanAt (map_by s.tree) (greatest s.tree.table.width) index (handle_in s.tree index).span
-slot_tells s kind index tree some within = tells_by_words (tree_as kind s.tree.rows s.tree) index tree.words some within
+slot_tells s kind index tree some within = tells_by_words (tree_as kind s.tree) index tree.words some within

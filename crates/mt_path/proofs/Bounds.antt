@@ -38,7 +38,7 @@ pub inside : (s : Sheet) (kind : Kind) (index level : ℕ) (steps : List PathSte
     → Inside (greatest s.tree.table.width) (step_at steps level)
 inside s kind index level steps tree within is low =
     subst (λ (l : List PathStep). Inside (greatest s.tree.table.width) (step_at l level)) (sym is)
-    (inside_by (tree_as kind s.tree.rows s.tree) index level tree.words within (subst (λ (l : List PathStep). level < length l) is low))
+    (inside_by (tree_as kind s.tree) index level tree.words within (subst (λ (l : List PathStep). level < length l) is low))
 
 pub greatest_fits : (width : Width) → greatest width < 2 ^ 64
 greatest_fits Long = lit< tt

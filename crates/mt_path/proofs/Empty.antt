@@ -46,5 +46,5 @@ empty_by t index (inr (h, stands)) within = (
 pub empty_together : (s : Sheet) (kind : Kind) (index : ℕ) (steps : List PathStep) → IsTreeOf s.tree kind → index ≤ greatest s.tree.table.width → steps ≡ path_in s.tree.table s.tree.root index
     → (steps ≡ []) ↔ (map_in s.tree.table s.tree.root ≡ [])
 empty_together s kind index steps tree within is =
-    let both = empty_by (tree_as kind s.tree.rows s.tree) index tree.words within in
+    let both = empty_by (tree_as kind s.tree) index tree.words within in
     ((λ none. both.0 (sym is ∙ none)), (λ none. is ∙ both.1 none))

@@ -29,9 +29,9 @@ use Rattle.mt_rows.proofs.SlotEntry as exact
 use Rattle.mt_rows.proofs.Reached as reached
 
 module _ (kind : Kind) (s : Sheet) (h slot entry : ℕ) (leaf item : Span) (whole : IsWhole s) (live : LiveAreReached s.tree s.lives) (none_buried : NoneBuried s.tree.rows s.buried) (of_kind : AreOfKind s.kind s.tree.table.width kind)
-    (stands : laws.Stands (tree_as kind s.tree.rows s.tree) h) (at : IsSlotAt (tree_as kind s.tree.rows s.tree) h leaf slot item) (old : item.word ≢ 0) (new : entry ≢ 0) (free : reserved entry ≡ false) where
+    (stands : laws.Stands (tree_as kind s.tree) h) (at : IsSlotAt (tree_as kind s.tree) h leaf slot item) (old : item.word ≢ 0) (new : entry ≢ 0) (free : reserved entry ≡ false) where
   abbrev t : laws.Tree
-  t = tree_as kind s.tree.rows s.tree
+  t = tree_as kind s.tree
 
   abbrev row : ℕ
   row = row_in leaf.word

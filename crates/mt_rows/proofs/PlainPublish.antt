@@ -56,7 +56,7 @@ one_at_most false = omega arith
 -- ---- the walk at any place
 
 place_reaches : (b : Before) (place : Place) (word levels : ℕ) → ((r : ℕ) → is_buried b.sheet.buried r ≡ true → (first_row ≤ r) × (r < first_row + b.sheet.tree.rows)) → IsPlaceToPublish b.sheet place
-    → Changes b.sheet (with_published b.sheet.tree place word) → laws.IsTree (tree_as b.kind b.sheet.tree.rows (with_published b.sheet.tree place word)) → levels ≡ (if opens b.sheet place then deepest else 0)
+    → Changes b.sheet (with_published b.sheet.tree place word) → laws.IsTree (tree_as b.kind (with_published b.sheet.tree place word)) → levels ≡ (if opens b.sheet place then deepest else 0)
     → Reaches (with_published b.sheet.tree place word) b.fates (enlivened (with_published b.sheet.tree place word).table.words levels word b.fates)
 place_reaches b Root word levels inside at rows tree walks = root_reaches b word levels (omega arith) tree rows
 place_reaches b (Slot row col) word levels inside at rows tree walks =
@@ -108,7 +108,7 @@ module _ (p q : Inside) (s : Sheet) (kind : Kind) (place : Place) (word levels :
   has_after : length after.table.words ≡ columns after.table.width * (16 + s.tree.rows)
   has_after = sym (ap length words_are) ∙ (plain.words ∙ ap (λ (s : Sheet). columns s.tree.table.width * (16 + s.tree.rows)) is)
 
-  has : (place : Place) → length (with_published s.tree place word).table.words ≡ columns (with_published s.tree place word).table.width * (16 + s.tree.rows) → laws.HasWords (tree_as kind s.tree.rows s.tree)
+  has : (place : Place) → length (with_published s.tree place word).table.words ≡ columns (with_published s.tree place word).table.width * (16 + s.tree.rows) → laws.HasWords (tree_as kind s.tree)
   has Root long = long
   has (Slot row col) long = sym (length-set s.tree.table.words _ word) ∙ long
 

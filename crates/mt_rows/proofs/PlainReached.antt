@@ -76,9 +76,9 @@ same_row_spans t kind x y named_x named_y row first last =
 
 module _ (kind : Kind) (s : Sheet) (after : Tree) (past : ℕ) (fates : List Fate)
     (lives_are : (row : ℕ) → life_of s.lives row ≡ life_in past (fate_at fates row)) (buried_are : (row : ℕ) → is_buried s.buried row ≡ buried_in past (fate_at fates row))
-    (live : LiveAreReached s.tree s.lives) (tree : laws.IsTree (tree_as kind s.tree.rows s.tree)) (rows : Changes s after) (h' : ℕ) (stands' : laws.Stands (tree_as kind s.tree.rows after) h') where
+    (live : LiveAreReached s.tree s.lives) (tree : laws.IsTree (tree_as kind s.tree)) (rows : Changes s after) (h' : ℕ) (stands' : laws.Stands (tree_as kind s.tree.rows after) h') where
   abbrev t : laws.Tree
-  t = tree_as kind s.tree.rows s.tree
+  t = tree_as kind s.tree
 
   abbrev t' : laws.Tree
   t' = tree_as kind s.tree.rows after
@@ -104,7 +104,7 @@ module _ (kind : Kind) (s : Sheet) (after : Tree) (past : ℕ) (fates : List Fat
   on_level_is k x on = reached.times_reached t' h' stands' (row_in x.word) (reached.on_level_reached t' h' stands' k x on)
 
   -- the children of a live row were its children
-  module _ (h : ℕ) (stands : laws.Stands (tree_as kind s.tree.rows s.tree) h) where
+  module _ (h : ℕ) (stands : laws.Stands (tree_as kind s.tree) h) where
     was_children : (m k : ℕ) (x y : Span) → reached.OnLevel t'.table h' (root_of t') (suc m) x → reached.OnLevel t.table h (root_of t) k y → row_in y.word ≡ row_in x.word → SameSpans t.table t'.table x → AllLive fates (spans_in t'.table x)
     was_children m k x y on_x on_y row same =
         let keeps = rows.stay k (suc m) y x (reached.stands_at t h stands on_y.depth k y on_y.height on_y.one) (reached.stands_at t' h' stands' on_x.depth (suc m) x on_x.height on_x.one) row in

@@ -25,8 +25,8 @@ pub record Before : Type 0 where
   pub lives_are : (row : ℕ) → life_of sheet.lives row ≡ life_in past (fate_at fates row)
   pub buried_are : (row : ℕ) → is_buried sheet.buried row ≡ buried_in past (fate_at fates row)
   pub live : LiveAreReached sheet.tree sheet.lives
-  pub has : laws.HasWords (tree_as kind sheet.tree.rows sheet.tree)
-  pub tree : laws.IsTree (tree_as kind sheet.tree.rows sheet.tree)
+  pub has : laws.HasWords (tree_as kind sheet.tree)
+  pub tree : laws.IsTree (tree_as kind sheet.tree)
 
 -- the rows that are reached are live, and no other fate has changed
 abbrev pub Reaches : Tree → List Fate → List Fate → Type 0

@@ -47,8 +47,8 @@ fills_same lo hi (z ∷ zs) x y fills (inr one_x) (inl is_y) same =
 fills_same lo hi (z ∷ zs) x y fills (inr one_x) (inr one_y) same = fills_same (z.last + 1) hi zs x y fills.2 one_x one_y same
 
 -- a word is stored in a slot of a row that is reached
-module _ (b : Before) (h low d slot word : ℕ) (at child : Span) (stands : laws.Stands (tree_as b.kind b.sheet.tree.rows b.sheet.tree) h) (height : h ≡ d + low)
-    (on : IsSlotAt (tree_as b.kind b.sheet.tree.rows b.sheet.tree) d at slot child) where
+module _ (b : Before) (h low d slot word : ℕ) (at child : Span) (stands : laws.Stands (tree_as b.kind b.sheet.tree) h) (height : h ≡ d + low)
+    (on : IsSlotAt (tree_as b.kind b.sheet.tree) d at slot child) where
   abbrev s : Sheet
   s = b.sheet
 
@@ -87,8 +87,8 @@ module _ (b : Before) (h low d slot word : ℕ) (at child : Span) (stands : laws
 
 -- ---- in a leaf: the same rows are reached
 
-module _ (b : Before) (h d slot word : ℕ) (at child : Span) (stands : laws.Stands (tree_as b.kind b.sheet.tree.rows b.sheet.tree) h) (height : h ≡ d + zero)
-    (on : IsSlotAt (tree_as b.kind b.sheet.tree.rows b.sheet.tree) d at slot child) (rows : Changes b.sheet (after b h zero d slot word at child stands height on))
+module _ (b : Before) (h d slot word : ℕ) (at child : Span) (stands : laws.Stands (tree_as b.kind b.sheet.tree) h) (height : h ≡ d + zero)
+    (on : IsSlotAt (tree_as b.kind b.sheet.tree) d at slot child) (rows : Changes b.sheet (after b h zero d slot word at child stands height on))
     (h' : ℕ) (stands_at_h' : laws.Stands (tree_as b.kind b.sheet.tree.rows (after b h zero d slot word at child stands height on)) h') where
   abbrev leaf_store : store.Store
   leaf_store = st b h zero d slot word at child stands height on
@@ -130,8 +130,8 @@ module _ (b : Before) (h d slot word : ℕ) (at child : Span) (stands : laws.Sta
 three_times : (p : ℕ → Span → Bool) (t : Table) (k : ℕ) (front back : List Span) (x : Span) → times p t k (front ++ (x ∷ back)) ≡ times p t k front + (times p t k (x ∷ []) + times p t k back)
 three_times p t k front back x = times-append p t k front (x ∷ back) ∙ ap (λ (n : ℕ). times p t k front + n) (times-append p t k (x ∷ []) back)
 
-module _ (b : Before) (h k d slot word : ℕ) (at child : Span) (stands : laws.Stands (tree_as b.kind b.sheet.tree.rows b.sheet.tree) h) (height : h ≡ d + suc k)
-    (on : IsSlotAt (tree_as b.kind b.sheet.tree.rows b.sheet.tree) d at slot child) (rows : Changes b.sheet (after b h (suc k) d slot word at child stands height on))
+module _ (b : Before) (h k d slot word : ℕ) (at child : Span) (stands : laws.Stands (tree_as b.kind b.sheet.tree) h) (height : h ≡ d + suc k)
+    (on : IsSlotAt (tree_as b.kind b.sheet.tree) d at slot child) (rows : Changes b.sheet (after b h (suc k) d slot word at child stands height on))
     (h' : ℕ) (stands_at_h' : laws.Stands (tree_as b.kind b.sheet.tree.rows (after b h (suc k) d slot word at child stands height on)) h') where
   abbrev inner_store : store.Store
   inner_store = st b h (suc k) d slot word at child stands height on
@@ -303,8 +303,8 @@ module _ (b : Before) (inside : (r : ℕ) → is_buried b.sheet.buried r ≡ tru
   rooted : (later : Tree) → later.root ≡ b.sheet.tree.root → (b.sheet.tree.root ≡ 0 → ⊥) → laws.IsTree (tree_as b.kind b.sheet.tree.rows later) → (h : ℕ) × laws.Stands (tree_as b.kind b.sheet.tree.rows later) h
   rooted later same some tree = elim tree [ inl empty ↦ absurd (some (sym same ∙ empty)) | inr stands ↦ stands ]
 
-  module _ (h d slot : ℕ) (at child : Span) (stands : laws.Stands (tree_as b.kind b.sheet.tree.rows b.sheet.tree) h) (some : b.sheet.tree.root ≡ 0 → ⊥) where
-    by_height : (low : ℕ) → h ≡ d + low → IsSlotAt (tree_as b.kind b.sheet.tree.rows b.sheet.tree) d at slot child → SlotReaches (row_in at.word) (slot_column (slots_of b.sheet.tree.table.width (laws.kind_at b.kind low)) slot)
+  module _ (h d slot : ℕ) (at child : Span) (stands : laws.Stands (tree_as b.kind b.sheet.tree) h) (some : b.sheet.tree.root ≡ 0 → ⊥) where
+    by_height : (low : ℕ) → h ≡ d + low → IsSlotAt (tree_as b.kind b.sheet.tree) d at slot child → SlotReaches (row_in at.word) (slot_column (slots_of b.sheet.tree.table.width (laws.kind_at b.kind low)) slot)
     by_height zero height on rows tree' walks =
         let col = slot_column (slots_of b.sheet.tree.table.width (laws.kind_at b.kind zero)) slot in
         let later = after b h zero d slot word at child stands height on in
@@ -335,7 +335,7 @@ module _ (b : Before) (inside : (r : ℕ) → is_buried b.sheet.buried r ≡ tru
 
   pub slot_reaches : (row col : ℕ) → IsSlotOf b.sheet.tree row col → SlotReaches row col
   slot_reaches row col place =
-      let t = tree_as b.kind b.sheet.tree.rows b.sheet.tree in
+      let t = tree_as b.kind b.sheet.tree in
       let some = not_empty row col place in
       let stands = rooted b.sheet.tree refl some b.tree in
       let h = stands.0 in

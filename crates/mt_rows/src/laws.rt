@@ -92,7 +92,7 @@ pub fn writes_leave_other_rows()
 /// A store of an entry over just the indexes of a range may be published by one store of its slot, and takes no row.
 pub fn an_exact_store_may_be_published()
     ensures { (kind : Kind) (s : Sheet) (h slot entry row col : ℕ) (leaf item : Span) → IsWhole s → s.in_flight ≡ true → s.published ≡ false → LiveAreReached s.tree s.lives → NoneBuried s.tree.rows s.buried → AreOfKind s.kind s.tree.table.width kind
-        → Stands (tree_as kind s.tree.rows s.tree) h → IsSlotAt (tree_as kind s.tree.rows s.tree) h leaf slot item → row ≡ row_in leaf.word → col ≡ slot_column (slots_of s.tree.table.width (kind_at kind 0)) slot
+        → Stands (tree_as kind s.tree) h → IsSlotAt (tree_as kind s.tree) h leaf slot item → row ≡ row_in leaf.word → col ≡ slot_column (slots_of s.tree.table.width (kind_at kind 0)) slot
         → item.word ≢ 0 → entry ≢ 0 → reserved entry ≡ false
         → MayPublish kind s (Slot row col) entry (Store item.first item.last entry) reply.Ok }
 {}

@@ -20,12 +20,12 @@ use Rattle.mt_splice.specs.declared.writes.NewRow.{NewRow}
 use Rattle.mt_splice.specs.Seen.{Seen, passing}
 use Rattle.mt_splice.specs.Work.{Start, Work, rows_at, times_in, Holds}
 use Rattle.mt_splice.specs.Burying.{AreBuried, AreLevelsBuried}
-use Rattle.mt_splice.specs.Climbs.{begin_of, end_of, Gathered}
+use Rattle.mt_splice.specs.Climbs.{begin_of, behind_of, Gathered}
 use Rattle.mt_splice.specs.Progress.{Before, IsProgress, row_seen, new_rows_of}
 use Rattle.mt_splice.specs.Ends.{End, MayEnd}
 use Rattle.mt_splice.specs.Splice.{IsSpliced}
 use Rattle.mt_splice.specs.Levels.{MayBuryRows, AreRowsBuried}
-use Rattle.mt_splice.specs.Replacing.{IsAnswer, IsBurying, IsUnderWay, MayBuryAbove, AreAboveBuried, MayEndEmpty, words_in}
+use Rattle.mt_splice.specs.Replacing.{IsAnswer, IsBurying, IsUnderWay, MayBuryAbove, AreAboveBuried, MayEndEmpty, item_words}
 use Rattle.mt_splice.proofs.Moments.{holds_later}
 use Rattle.mt_splice.proofs.Rises.{step_here, at_here}
 use Rattle.mt_splice.proofs.Buried.{no_level_buried, one_more_level, gone_below, none_gone}
@@ -36,13 +36,13 @@ use Rattle.mt_splice.proofs.LevelRows.{made_stays}
 -- ---- rows are still to be buried
 
 -- where levels are still to be replaced, rows may also be buried alone
-pub burying : (b : Before) (start : Start) (s : Sheet) (book : Book) (w : Work) (made : List NewRow) (levels : ℕ) → IsUnderWay b start s book w made levels → IsBurying b start s book w made
-burying b start s book w made levels under = record { case = under.case; progress = under.progress; holds = under.holds; inner = under.inner }
+pub burying : (b : Before) (start : Start) (s : Sheet) (book : Book) (w : Work) (new_inner_rows : List NewRow) (levels : ℕ) → IsUnderWay b start s book w new_inner_rows levels → IsBurying b start s book w new_inner_rows
+burying b start s book w new_inner_rows levels under = record { case = under.case; progress = under.progress; holds = under.holds; inner = under.inner }
 
 -- what burying rows leaves
-pub still_burying : (b : Before) (start : Start) (s s' : Sheet) (book book' : Book) (w w' : Work) (made : List NewRow) (depth height lo hi : ℕ) → IsBurying b start s book w made
-    → IsProgress b s' book' w' → AreBuried start w w' depth height lo hi → IsBurying b start s' book' w' made
-still_burying b start s s' book book' w w' made depth height lo hi under progress buried = record {
+pub still_burying : (b : Before) (start : Start) (s s' : Sheet) (book book' : Book) (w w' : Work) (new_inner_rows : List NewRow) (depth height lo hi : ℕ) → IsBurying b start s book w new_inner_rows
+    → IsProgress b s' book' w' → AreBuried start w w' depth height lo hi → IsBurying b start s' book' w' new_inner_rows
+still_burying b start s s' book book' w w' new_inner_rows depth height lo hi under progress buried = record {
   case = under.case;
   progress = progress;
   holds = holds_later start w w' buried.keeps buried.taken under.holds;
@@ -62,7 +62,7 @@ module _ (start : Start) (w : Work) (holds : Holds start w) (path : List PathSte
       omega arith
 
   -- and one that ends with the last index below one that does
-  pub ends_above : end_of path (suc d) ≡ top_of start.tree + 1 → end_of path d ≡ top_of start.tree + 1
+  pub ends_above : behind_of path (suc d) ≡ top_of start.tree + 1 → behind_of path d ≡ top_of start.tree + 1
   ends_above last =
       let upper = ap (λ (z : PathStep). z.max) (step_here start w holds path i within is_path d (suc k) levels) in
       let lower = ap (λ (z : PathStep). z.max) (step_here start w holds path i within is_path (suc d) k (omega arith)) in
@@ -74,20 +74,20 @@ module _ (start : Start) (w : Work) (holds : Holds start w) (path : List PathSte
 -- ---- the levels so far
 
 -- the levels above `depth` are buried down to `upper`, the root's being 0, of which the rows stand for every index
-pub record AreBuriedFrom (b : Before) (start : Start) (s' : Sheet) (book' : Book) (w w' : Work) (made : List NewRow) (left right : List PathStep) (depth height upper : ℕ) : Type 0 where
+pub record AreBuriedFrom (b : Before) (start : Start) (s' : Sheet) (book' : Book) (w w' : Work) (new_inner_rows : List NewRow) (left right : List PathStep) (depth height upper : ℕ) : Type 0 where
   pub high : ℕ
   pub levels : start.height ≡ upper + high
-  pub under : IsBurying b start s' book' w' made
+  pub under : IsBurying b start s' book' w' new_inner_rows
   pub buried : AreLevelsBuried start w w' depth height upper high
   pub first : begin_of left upper ≡ 0
-  pub last : end_of right upper ≡ top_of start.tree + 1
+  pub last : behind_of right upper ≡ top_of start.tree + 1
 
 pub record IsBuriedFrom (s s' : Sheet) (book book' : Book) (left right : List PathStep) (depth number upper : ℕ) : Type 0 where
-  pub so : (b : Before) (start : Start) (w : Work) (made : List NewRow) (height : ℕ) → MayBuryAbove b start s book w made left right depth height number → (w' : Work) × AreBuriedFrom b start s' book' w w' made left right depth height upper
+  pub so : (b : Before) (start : Start) (w : Work) (new_inner_rows : List NewRow) (height : ℕ) → MayBuryAbove b start s book w new_inner_rows left right depth height number → (w' : Work) × AreBuriedFrom b start s' book' w w' new_inner_rows left right depth height upper
 
 pub none_above : (s : Sheet) (book : Book) (left right : List PathStep) (depth number : ℕ) → IsBuriedFrom s s book book left right depth number depth
 none_above s book left right depth number = record {
-  so = λ b start w made height may. (
+  so = λ b start w new_inner_rows height may. (
     w,
     record {
       high = height;
@@ -101,8 +101,8 @@ none_above s book left right depth number = record {
 }
 
 -- the next level
-module _ (b : Before) (start : Start) (s s' : Sheet) (book book' : Book) (w w' : Work) (made : List NewRow) (left right : List PathStep) (depth height upper number : ℕ) (may : MayBuryAbove b start s book w made left right depth height number)
-    (far : AreBuriedFrom b start s' book' w w' made left right depth height (suc upper)) where
+module _ (b : Before) (start : Start) (s s' : Sheet) (book book' : Book) (w w' : Work) (new_inner_rows : List NewRow) (left right : List PathStep) (depth height upper number : ℕ) (may : MayBuryAbove b start s book w new_inner_rows left right depth height number)
+    (far : AreBuriedFrom b start s' book' w w' new_inner_rows left right depth height (suc upper)) where
   next_levels : start.height ≡ upper + suc far.high
   next_levels = let levels = far.levels in omega arith
 
@@ -124,17 +124,17 @@ module _ (b : Before) (start : Start) (s s' : Sheet) (book book' : Book) (w w' :
   next_first =
       begins_above start w' far.under.holds left may.paths.from (let order = may.paths.order in let within = may.paths.within in omega arith) may.paths.is_left upper far.high next_levels far.first
 
-  next_last : end_of right upper ≡ top_of start.tree + 1
+  next_last : behind_of right upper ≡ top_of start.tree + 1
   next_last = ends_above start w' far.under.holds right may.paths.to may.paths.within may.paths.is_right upper far.high next_levels far.last
 
-  pub next_buried_from : (s″ : Sheet) (book″ : Book) → (w″ : Work) × AreRowsBuried b start s″ book″ w' w″ upper (suc far.high) (begin_of left upper) (end_of right upper)
-      → (w″ : Work) × AreBuriedFrom b start s″ book″ w w″ made left right depth height upper
+  pub next_buried_from : (s″ : Sheet) (book″ : Book) → (w″ : Work) × AreRowsBuried b start s″ book″ w' w″ upper (suc far.high) (begin_of left upper) (behind_of right upper)
+      → (w″ : Work) × AreBuriedFrom b start s″ book″ w w″ new_inner_rows left right depth height upper
   next_buried_from s″ book″ one = (
     one.0,
     record {
       high = suc far.high;
       levels = next_levels;
-      under = still_burying b start s' s″ book' book″ w' one.0 made upper (suc far.high) (begin_of left upper) (end_of right upper) far.under one.1.progress one.1.buried;
+      under = still_burying b start s' s″ book' book″ w' one.0 new_inner_rows upper (suc far.high) (begin_of left upper) (behind_of right upper) far.under one.1.progress one.1.buried;
       buried = one_more_level start w w' one.0 depth height upper far.high far.buried
           (subst (λ (ends : ℕ × ℕ). AreBuried start w' one.0 upper (suc far.high) ends.0 ends.1) (λ j. (next_first j, next_last j)) one.1.buried);
       first = next_first;
@@ -144,39 +144,39 @@ module _ (b : Before) (start : Start) (s s' : Sheet) (book book' : Book) (w w' :
 
 -- a level that the code names
 pub level_may_be_buried : (s s' : Sheet) (book book' : Book) (left right : List PathStep) (depth number upper lower : ℕ) → IsBuriedFrom s s' book book' left right depth number upper → upper ≡ suc lower
-    → (b : Before) × (start : Start) × (w : Work) × (made : List NewRow) × (height : ℕ) × MayBuryAbove b start s book w made left right depth height number
+    → (b : Before) × (start : Start) × (w : Work) × (new_inner_rows : List NewRow) × (height : ℕ) × MayBuryAbove b start s book w new_inner_rows left right depth height number
     → (b : Before) × (start : Start) × (w : Work) × (height : ℕ) × MayBuryRows b start s' book' w left right lower height number
-level_may_be_buried s s' book book' left right depth number upper lower far is (b, start, w, made, height, may) =
-    let so = far.so b start w made height may in
-    let from = subst (AreBuriedFrom b start s' book' w so.0 made left right depth height) is so.1 in
-    (b, start, so.0, suc from.high, next_may_be_buried b start s s' book book' w so.0 made left right depth height lower number may from)
+level_may_be_buried s s' book book' left right depth number upper lower far is (b, start, w, new_inner_rows, height, may) =
+    let so = far.so b start w new_inner_rows height may in
+    let from = subst (AreBuriedFrom b start s' book' w so.0 new_inner_rows left right depth height) is so.1 in
+    (b, start, so.0, suc from.high, next_may_be_buried b start s s' book book' w so.0 new_inner_rows left right depth height lower number may from)
 
 pub level_is_buried : (s s' s″ : Sheet) (book book' book″ : Book) (left right : List PathStep) (depth number upper lower : ℕ) → IsBuriedFrom s s' book book' left right depth number upper → upper ≡ suc lower
     → ((b : Before) (start : Start) (w : Work) (height : ℕ) → MayBuryRows b start s' book' w left right lower height number
-    → (w' : Work) × AreRowsBuried b start s″ book″ w w' lower height (begin_of left lower) (end_of right lower))
+    → (w' : Work) × AreRowsBuried b start s″ book″ w w' lower height (begin_of left lower) (behind_of right lower))
     → IsBuriedFrom s s″ book book″ left right depth number lower
 level_is_buried s s' s″ book book' book″ left right depth number upper lower far is buries = record {
-  so = λ b start w made height may.
-      let so = far.so b start w made height may in
-      let from = subst (AreBuriedFrom b start s' book' w so.0 made left right depth height) is so.1 in
-      next_buried_from b start s s' book book' w so.0 made left right depth height lower number may from s″ book″
-      (buries b start so.0 (suc from.high) (next_may_be_buried b start s s' book book' w so.0 made left right depth height lower number may from));
+  so = λ b start w new_inner_rows height may.
+      let so = far.so b start w new_inner_rows height may in
+      let from = subst (AreBuriedFrom b start s' book' w so.0 new_inner_rows left right depth height) is so.1 in
+      next_buried_from b start s s' book book' w so.0 new_inner_rows left right depth height lower number may from s″ book″
+      (buries b start so.0 (suc from.high) (next_may_be_buried b start s s' book book' w so.0 new_inner_rows left right depth height lower number may from));
 }
 
 pub all_above : (s s' : Sheet) (book book' : Book) (left right : List PathStep) (depth number upper : ℕ) → IsBuriedFrom s s' book book' left right depth number upper → upper ≡ 0
-    → (b : Before) (start : Start) (w : Work) (made : List NewRow) (height : ℕ) → MayBuryAbove b start s book w made left right depth height number → (w' : Work) × AreAboveBuried b start s' book' w w' made depth height
-all_above s s' book book' left right depth number upper far is b start w made height may =
-    let so = far.so b start w made height may in
-    let from = subst (AreBuriedFrom b start s' book' w so.0 made left right depth height) is so.1 in
+    → (b : Before) (start : Start) (w : Work) (new_inner_rows : List NewRow) (height : ℕ) → MayBuryAbove b start s book w new_inner_rows left right depth height number → (w' : Work) × AreAboveBuried b start s' book' w w' new_inner_rows depth height
+all_above s s' book book' left right depth number upper far is b start w new_inner_rows height may =
+    let so = far.so b start w new_inner_rows height may in
+    let from = subst (AreBuriedFrom b start s' book' w so.0 new_inner_rows left right depth height) is so.1 in
     let levels = from.levels in let high : from.high ≡ start.height = omega arith in
     (so.0, record { under = from.under; buried = subst (AreLevelsBuried start w so.0 depth height 0) high from.buried })
 
 -- ---- nothing is left
 
 -- the one item that is to stand in the leaves is a hole
-module _ (b : Before) (start : Start) (s : Sheet) (book : Book) (w : Work) (made : List NewRow) (left right : List PathStep) (depth height : ℕ) (items : List Item) (number : ℕ) (call : Call) (reply : Reply)
-    (under : IsUnderWay b start s book w made (suc depth)) (gathered : Gathered start w left right depth height (spans_from (begin_of left depth) items)) (leaf : height ≡ 0)
-    (first : begin_of left depth ≡ 0) (last : end_of right depth ≡ top_of start.tree + 1) (holes : words_in items ≡ 0 ∷ []) (in_call : number ≡ b.number) (answer : IsAnswer b start call reply) where
+module _ (b : Before) (start : Start) (s : Sheet) (book : Book) (w : Work) (new_inner_rows : List NewRow) (left right : List PathStep) (depth height : ℕ) (items : List Item) (number : ℕ) (call : Call) (reply : Reply)
+    (under : IsUnderWay b start s book w new_inner_rows (suc depth)) (gathered : Gathered start w left right depth height (spans_from (begin_of left depth) items)) (leaf : height ≡ 0)
+    (first : begin_of left depth ≡ 0) (last : behind_of right depth ≡ top_of start.tree + 1) (holes : item_words items ≡ 0 ∷ []) (in_call : number ≡ b.number) (answer : IsAnswer b start call reply) where
   height_here : start.height ≡ depth
   height_here = let levels = gathered.levels in omega (arith, leaf)
 
@@ -194,9 +194,9 @@ module _ (b : Before) (start : Start) (s : Sheet) (book : Book) (w : Work) (made
           head_is m n same = cc
       found (x ∷ y ∷ more) holes = let one = ap length holes in absurd (omega (arith, one))
 
-  pub ends_with_hole : MayEndEmpty b start s book w made left right depth number call reply
+  pub ends_with_hole : MayEndEmpty b start s book w new_inner_rows left right depth number call reply
   ends_with_hole = record {
-    under = burying b start s book w made (suc depth) under;
+    under = burying b start s book w new_inner_rows (suc depth) under;
     levels = height_here;
     paths = gathered.paths;
     first = first;
@@ -204,13 +204,13 @@ module _ (b : Before) (start : Start) (s : Sheet) (book : Book) (w : Work) (made
     none_taken = leaves_gathered.level.1;
     none_gone = leaves_gathered.level.2;
     none = root.ends_empty start w left right one_hole.0 (subst (Gathered start w left right start.height 0) one_hole.1 leaves_gathered) one_hole.2
-        (ap (begin_of left) height_here ∙ first) (ap (end_of right) height_here ∙ last);
+        (ap (begin_of left) height_here ∙ first) (ap (behind_of right) height_here ∙ last);
     in_call = in_call;
     answer = answer;
   }
 
-module _ (b : Before) (start : Start) (s : Sheet) (book : Book) (w : Work) (made : List NewRow) (left right : List PathStep) (depth number : ℕ) (call : Call) (reply : Reply)
-    (may : MayEndEmpty b start s book w made left right depth number call reply) where
+module _ (b : Before) (start : Start) (s : Sheet) (book : Book) (w : Work) (new_inner_rows : List NewRow) (left right : List PathStep) (depth number : ℕ) (call : Call) (reply : Reply)
+    (may : MayEndEmpty b start s book w new_inner_rows left right depth number call reply) where
   pub leaves_may_be_buried : MayBuryRows b start s book w left right depth 0 number
   leaves_may_be_buried = record {
     before = may.under.case.was;
@@ -225,13 +225,13 @@ module _ (b : Before) (start : Start) (s : Sheet) (book : Book) (w : Work) (made
     call = may.in_call;
   }
 
-  module _ (s₁ : Sheet) (book₁ : Book) (w₁ : Work) (buried : AreRowsBuried b start s₁ book₁ w w₁ depth 0 (begin_of left depth) (end_of right depth)) where
+  module _ (s₁ : Sheet) (book₁ : Book) (w₁ : Work) (buried : AreRowsBuried b start s₁ book₁ w w₁ depth 0 (begin_of left depth) (behind_of right depth)) where
     all_leaves : AreBuried start w w₁ depth 0 0 (top_of start.tree + 1)
     all_leaves = subst (λ (ends : ℕ × ℕ). AreBuried start w w₁ depth 0 ends.0 ends.1) (λ j. (may.first j, may.last j)) buried.buried
 
-    pub above_may_be_buried : MayBuryAbove b start s₁ book₁ w₁ made left right depth 0 number
+    pub above_may_be_buried : MayBuryAbove b start s₁ book₁ w₁ new_inner_rows left right depth 0 number
     above_may_be_buried = record {
-      under = still_burying b start s s₁ book book₁ w w₁ made depth 0 (begin_of left depth) (end_of right depth) may.under buried.progress buried.buried;
+      under = still_burying b start s s₁ book book₁ w w₁ new_inner_rows depth 0 (begin_of left depth) (behind_of right depth) may.under buried.progress buried.buried;
       levels = let levels = may.levels in omega arith;
       paths = may.paths;
       first = may.first;
@@ -240,7 +240,7 @@ module _ (b : Before) (start : Start) (s : Sheet) (book : Book) (w : Work) (made
       in_call = may.in_call;
     }
 
-    module _ (s₂ : Sheet) (book₂ : Book) (w₂ : Work) (above : AreAboveBuried b start s₂ book₂ w₁ w₂ made depth 0) where
+    module _ (s₂ : Sheet) (book₂ : Book) (w₂ : Work) (above : AreAboveBuried b start s₂ book₂ w₁ w₂ new_inner_rows depth 0) where
       none_taken : w₂.taken ≡ []
       none_taken = above.buried.taken ∙ (buried.buried.taken ∙ may.none_taken)
 
@@ -257,7 +257,7 @@ module _ (b : Before) (start : Start) (s : Sheet) (book : Book) (w : Work) (made
       abbrev pub end_now : End
       end_now = record { before = b; start = start; work = w₂; book = book₂; old = Some start.height; new = None }
 
-      pub may_end_now : IsBook book₂ → MayEnd end_now s₂ made Root 0 call reply
+      pub may_end_now : IsBook book₂ → MayEnd end_now s₂ new_inner_rows Root 0 call reply
       may_end_now sound = record {
         range = may.under.case.range;
         in_flight = may.under.case.in_flight;
@@ -280,45 +280,45 @@ module _ (b : Before) (start : Start) (s : Sheet) (book : Book) (w : Work) (made
 
 abbrev BuriesLeaves : Sheet → Sheet → Book → Book → List PathStep → List PathStep → ℕ → ℕ → Type 0
 BuriesLeaves s s₁ book book₁ left right depth number =
-    (b : Before) (start : Start) (w : Work) (height : ℕ) → MayBuryRows b start s book w left right depth height number → (w' : Work) × AreRowsBuried b start s₁ book₁ w w' depth height (begin_of left depth) (end_of right depth)
+    (b : Before) (start : Start) (w : Work) (height : ℕ) → MayBuryRows b start s book w left right depth height number → (w' : Work) × AreRowsBuried b start s₁ book₁ w w' depth height (begin_of left depth) (behind_of right depth)
 
 abbrev BuriesAbove : Sheet → Sheet → Book → Book → List PathStep → List PathStep → ℕ → ℕ → Type 0
 BuriesAbove s₁ s₂ book₁ book₂ left right depth number =
-    (b : Before) (start : Start) (w : Work) (made : List NewRow) (height : ℕ) → MayBuryAbove b start s₁ book₁ w made left right depth height number → (w' : Work) × AreAboveBuried b start s₂ book₂ w w' made depth height
+    (b : Before) (start : Start) (w : Work) (new_inner_rows : List NewRow) (height : ℕ) → MayBuryAbove b start s₁ book₁ w new_inner_rows left right depth height number → (w' : Work) × AreAboveBuried b start s₂ book₂ w w' new_inner_rows depth height
 
-module _ (s : Sheet) (book : Book) (made : List NewRow) (left right : List PathStep) (depth number : ℕ) (call : Call) (reply : Reply) where
+module _ (s : Sheet) (book : Book) (new_inner_rows : List NewRow) (left right : List PathStep) (depth number : ℕ) (call : Call) (reply : Reply) where
   abbrev IsAsked : Type 0
-  IsAsked = (b : Before) × (start : Start) × (w : Work) × MayEndEmpty b start s book w made left right depth number call reply
+  IsAsked = (b : Before) × (start : Start) × (w : Work) × MayEndEmpty b start s book w new_inner_rows left right depth number call reply
 
   pub first_requires : IsAsked → (b : Before) × (start : Start) × (w : Work) × (height : ℕ) × MayBuryRows b start s book w left right depth height number
-  first_requires (b, start, w, may) = (b, start, w, 0, leaves_may_be_buried b start s book w made left right depth number call reply may)
+  first_requires (b, start, w, may) = (b, start, w, 0, leaves_may_be_buried b start s book w new_inner_rows left right depth number call reply may)
 
   module _ (s₁ : Sheet) (book₁ : Book) (buries : BuriesLeaves s s₁ book book₁ left right depth number) where
-    pub second_requires : IsAsked → (b : Before) × (start : Start) × (w : Work) × (made : List NewRow) × (height : ℕ) × MayBuryAbove b start s₁ book₁ w made left right depth height number
+    pub second_requires : IsAsked → (b : Before) × (start : Start) × (w : Work) × (new_inner_rows : List NewRow) × (height : ℕ) × MayBuryAbove b start s₁ book₁ w new_inner_rows left right depth height number
     second_requires (b, start, w, may) =
-        let one = buries b start w 0 (leaves_may_be_buried b start s book w made left right depth number call reply may) in
-        (b, start, one.0, made, 0, above_may_be_buried b start s book w made left right depth number call reply may s₁ book₁ one.0 one.1)
+        let one = buries b start w 0 (leaves_may_be_buried b start s book w new_inner_rows left right depth number call reply may) in
+        (b, start, one.0, new_inner_rows, 0, above_may_be_buried b start s book w new_inner_rows left right depth number call reply may s₁ book₁ one.0 one.1)
 
     module _ (s₂ : Sheet) (book₂ : Book) (above : BuriesAbove s₁ s₂ book₁ book₂ left right depth number) where
-      pub ends_at : (asked : IsAsked) → IsBook book₂ → (w₂ : Work) × MayEnd (record { before = asked.0; start = asked.1; work = w₂; book = book₂; old = Some asked.1.height; new = None }) s₂ made Root 0 call reply
+      pub ends_at : (asked : IsAsked) → IsBook book₂ → (w₂ : Work) × MayEnd (record { before = asked.0; start = asked.1; work = w₂; book = book₂; old = Some asked.1.height; new = None }) s₂ new_inner_rows Root 0 call reply
       ends_at (b, start, w, may) sound =
-          let one = buries b start w 0 (leaves_may_be_buried b start s book w made left right depth number call reply may) in
-          let two = above b start one.0 made 0 (above_may_be_buried b start s book w made left right depth number call reply may s₁ book₁ one.0 one.1) in
-          (two.0, may_end_now b start s book w made left right depth number call reply may s₁ book₁ one.0 one.1 s₂ book₂ two.0 two.1 sound)
+          let one = buries b start w 0 (leaves_may_be_buried b start s book w new_inner_rows left right depth number call reply may) in
+          let two = above b start one.0 new_inner_rows 0 (above_may_be_buried b start s book w new_inner_rows left right depth number call reply may s₁ book₁ one.0 one.1) in
+          (two.0, may_end_now b start s book w new_inner_rows left right depth number call reply may s₁ book₁ one.0 one.1 s₂ book₂ two.0 two.1 sound)
 
-      pub third_requires : IsAsked → IsBook book₂ → (e : End) × MayEnd e s₂ made Root 0 call reply
+      pub third_requires : IsAsked → IsBook book₂ → (e : End) × MayEnd e s₂ new_inner_rows Root 0 call reply
       third_requires asked sound =
           let end = ends_at asked sound in
           (record { before = asked.0; start = asked.1; work = end.0; book = book₂; old = Some asked.1.height; new = None }, end.1)
 
       pub none_was_taken : IsAsked → book₂.free ≡ book.free
       none_was_taken (b, start, w, may) =
-          let one = buries b start w 0 (leaves_may_be_buried b start s book w made left right depth number call reply may) in
-          let two = above b start one.0 made 0 (above_may_be_buried b start s book w made left right depth number call reply may s₁ book₁ one.0 one.1) in
-          free_rows_stay b start s book w made left right depth number call reply may s₁ book₁ one.0 one.1 s₂ book₂ two.0 two.1
+          let one = buries b start w 0 (leaves_may_be_buried b start s book w new_inner_rows left right depth number call reply may) in
+          let two = above b start one.0 new_inner_rows 0 (above_may_be_buried b start s book w new_inner_rows left right depth number call reply may s₁ book₁ one.0 one.1) in
+          free_rows_stay b start s book w new_inner_rows left right depth number call reply may s₁ book₁ one.0 one.1 s₂ book₂ two.0 two.1
 
-      pub is_emptied : (s₃ : Sheet) → ((e : End) → MayEnd e s₂ made Root 0 call reply → IsSpliced e.before.kind e.before.sheet s₃ e.before.book e.book e.before.number call reply Root) → IsBook book₂
-          → (b : Before) (start : Start) (w : Work) → MayEndEmpty b start s book w made left right depth number call reply → IsSpliced b.kind b.sheet s₃ b.book book₂ b.number call reply Root
+      pub is_emptied : (s₃ : Sheet) → ((e : End) → MayEnd e s₂ new_inner_rows Root 0 call reply → IsSpliced e.before.kind e.before.sheet s₃ e.before.book e.book e.before.number call reply Root) → IsBook book₂
+          → (b : Before) (start : Start) (w : Work) → MayEndEmpty b start s book w new_inner_rows left right depth number call reply → IsSpliced b.kind b.sheet s₃ b.book book₂ b.number call reply Root
       is_emptied s₃ ends sound b start w may =
           let end = ends_at (b, start, w, may) sound in
           ends (record { before = b; start = start; work = end.0; book = book₂; old = Some start.height; new = None }) end.1

@@ -7,7 +7,8 @@ use Rattle.mt_layout.specs.declared.spans.Span.{Span}
 use Rattle.mt_layout.specs.Spans.{spans_from, Fills}
 use Rattle.mt_base.specs.declared.kinds.Kind.{Kind}
 use Rattle.mt_leaf.proofs.Spans.{item_of, items_of-spans_from, spans_from-items_of, fills_le}
-use Rattle.mt_rows.specs.Spans.{slots_of, spans_in}
+use Rattle.mt_rows.specs.Spans.{spans_in}
+use Rattle.mt_layout.specs.Sizes.{slots_of}
 use Rattle.mt_rows.specs.Laws.{top_of, kind_at}
 use Rattle.mt_rows.specs.Sheet.{Sheet, OnlyReads}
 use Rattle.mt_path.specs.declared.paths.PathStep.{PathStep}
@@ -16,10 +17,10 @@ use Rattle.mt_path.proofs.TreePaths.{row_of, child}
 use Rattle.mt_rows.proofs.SlotWords.{length-spans_from}
 use Rattle.mt_splice.specs.Work.{Start, Work, now, Holds}
 use Rattle.mt_splice.specs.Stretches.{spans_on}
-use Rattle.mt_splice.specs.Climbs.{begin_of, end_of, Climbed}
+use Rattle.mt_splice.specs.Climbs.{begin_of, behind_of, Climbed}
 use Rattle.mt_splice.specs.Writes.{items_of_row}
-use Rattle.mt_splice.specs.TakingIn.{MayWiden}
-use Rattle.mt_splice.specs.Replacing.{MayRise}
+use Rattle.mt_splice.specs.TakingIn.{MayTakeIn}
+use Rattle.mt_splice.specs.Replacing.{MayGoUp}
 use Rattle.mt_splice.proofs.LevelRows.{fills_end, last_ends}
 use Rattle.mt_splice.proofs.Rises.{step_here, spans_here, level_left}
 use Rattle.mt_splice.proofs.Sizes.{inner_slots}
@@ -54,7 +55,7 @@ items_between first middle last i k xs new ys =
 abbrev no_item : Item
 no_item = record { last = 0; word = 0; gap = 0 }
 
-module _ (start : Start) (w : Work) (s : Sheet) (left right : List PathStep) (depth height : ℕ) (new : List Item) (may : MayRise start w s left right depth height new) where
+module _ (start : Start) (w : Work) (s : Sheet) (left right : List PathStep) (depth height : ℕ) (new : List Item) (may : MayGoUp start w s.tree left right depth height new) where
   abbrev new_spans : List Span
   new_spans = spans_from (begin_of left (suc depth)) new
 
@@ -144,7 +145,7 @@ module _ (start : Start) (w : Work) (s : Sheet) (left right : List PathStep) (de
   last_new : (slice_index_or new (length new - 1) no_item).last ≡ (row_of start.tree (suc depth) to).last
   last_new =
       let some = may.some in
-      let ends = fills_end (begin_of left (suc depth)) (begin_of left (suc depth)) (end_of right (suc depth)) 0 new some climbed.fills in
+      let ends = fills_end (begin_of left (suc depth)) (begin_of left (suc depth)) (behind_of right (suc depth)) 0 new some climbed.fills in
       let last = last_ends no_item (length new - 1) 0 new (omega arith) in
       let below = ap (λ (z : PathStep). z.max) (step_here start w holds right to climbed.paths.within climbed.paths.is_right (suc depth) height climbed.levels) in
       omega arith
@@ -173,7 +174,7 @@ module _ (start : Start) (w : Work) (s : Sheet) (left right : List PathStep) (de
         (λ j. map item_of (take (step_at left depth).slot (left_are j) ++ (new_spans ++ drop ((step_at right depth).slot + 1) (right_are j))))
         ∙ (items_between (step_at left depth).min (begin_of left (suc depth)) (step_at right depth).min (step_at left depth).slot ((step_at right depth).slot + 1) left_items new right_items ∙ sym is_run) in
         ap (spans_from (begin_of left depth)) (sym items)
-        ∙ spans_from-items_of (begin_of left depth) (end_of right depth) gathered_spans (level_left start w left right depth height new_spans climbed gathered_spans refl).fills
+        ∙ spans_from-items_of (begin_of left depth) (behind_of right depth) gathered_spans (level_left start w left right depth height new_spans climbed gathered_spans refl).fills
 
     count_run : length run ≡ length gathered_spans
     count_run = sym (length-spans_from (begin_of left depth) run) ∙ ap length spans_are
@@ -181,11 +182,11 @@ module _ (start : Start) (w : Work) (s : Sheet) (left right : List PathStep) (de
     not_one : (x : Span) → new_spans ≡ x ∷ [] → x.first ≡ 0 → x.last ≡ top_of start.tree → ⊥
     not_one x one first last =
         let count : length new ≡ 1 = sym (length-spans_from (begin_of left (suc depth)) new) ∙ ap length one in
-        let fills = subst (Fills (begin_of left (suc depth)) (end_of right (suc depth))) one climbed.fills in
+        let fills = subst (Fills (begin_of left (suc depth)) (behind_of right (suc depth))) one climbed.fills in
         let begins = fills.0 in let ends = fills.2 in
         may.goes_on (inr (count, inr ((omega arith), (omega arith))))
 
-    pub rises : (s' : Sheet) → OnlyReads s s' → MayWiden start w s' Inner left right depth (suc height) run
+    pub rises : (s' : Sheet) → OnlyReads s s' → MayTakeIn start w s'.tree Inner left right depth (suc height) run
     rises s' reads = record {
       is_now = now_read start w s s' reads may.is_now;
       of_kind = kind_here;

@@ -20,7 +20,8 @@ use Rattle.mt_layout.specs.declared.spans.Span.{Span}
 use Rattle.mt_layout.specs.Spans.{spans_from}
 use Rattle.mt_leaf.specs.Edits.{edited}
 use Rattle.mt_rows.specs.Spans.{root_span}
-use Rattle.mt_rows.specs.Trees.{height_in, deepest}
+use Rattle.mt_rows.specs.Trees.{height_in}
+use Rattle.mt_base.specs.Width.{deepest}
 use Rattle.mt_rows.specs.Laws.{Tree, IsLawful, IsTree, ParentLaw, IsTended}
 use Rattle.mt_rows.specs.Replacement.{root_of}
 use Rattle.mt_rows.specs.Sheet.{Sheet, OnlyReads, begun}
@@ -32,7 +33,9 @@ use Rattle.mt_rows.proofs.Lists.{levels_map}
 use Rattle.mt_path.specs.declared.paths.PathStep.{PathStep}
 use Rattle.mt_path.specs.Paths.{path_in}
 use Rattle.mt_path.proofs.TreePaths.{place, lawful, levels}
-use Rattle.mt_splice.specs.Splice.{IsBookOf, IsStoreBy, IsSpliced, HasParents, WasPublishedAt, MaySplice, MayReplace, MayClear, last_step, region_of}
+use Rattle.mt_splice.specs.Splice.{IsStoreBy, IsSpliced, HasParents, WasPublishedAt, MaySplice, MayReplace, MayClear, region_of}
+use Rattle.mt_splice.specs.Kept.{IsBookOf}
+use Rattle.mt_path.specs.Handles.{last_step}
 use Rattle.mt_splice.specs.Between.{IsBetweenCalls}
 use Rattle.mt_splice.specs.Regions.{AreEnds}
 
@@ -89,7 +92,7 @@ module _ (kind : Kind) (s : Sheet) (book : Book) (left right : List PathStep) (f
   -- the paths to the ends of the store
   pub ends_are : AreEnds s left right first last
   ends_are = record {
-    tree = record { of_kind = lawful_range.of_kind; words = tree_if_lawful (tree_as trees.Range s.tree.rows s.tree) lawful_range.words };
+    tree = record { of_kind = lawful_range.of_kind; words = tree_if_lawful (tree_as trees.Range s.tree) lawful_range.words };
     order = may.store.order;
     within = may.store.within;
     left_path = may.left_path;
@@ -157,7 +160,7 @@ reads_on a b c before behind = behind ∙ ap (λ (x : Sheet). record x { reads =
 
 -- 28 rows are enough for a tree of nine levels
 pub room_enough : (s : Sheet) (book : Book) → IsLawfulOf s.tree trees.Range → 28 ≤ length book.free → 3 * height_in s.tree.table s.tree.root + 1 ≤ length book.free
-room_enough s book lawful many = let low = low_tree (tree_as trees.Range s.tree.rows s.tree) lawful.words in omega arith
+room_enough s book lawful many = let low = low_tree (tree_as trees.Range s.tree) lawful.words in omega arith
 
 -- the number of a call that has begun
 pub number_now : (s₀ s₁ s₂ : Sheet) (number : ℕ) → s₁ ≡ begun s₀ → OnlyReads s₁ s₂ → number ≡ s₀.ended + 1 → number ≡ s₂.ended + 1
@@ -216,7 +219,7 @@ module _ (s s' s″ : Sheet) (book book' : Book) (number : ℕ) (call : Call) (r
     idle = refl;
     lawful = record {
       of_kind = record { told = spliced.tree.of_kind.told; width = spliced.tree.of_kind.width };
-      words = lawful_by_parents (tree_as trees.Range s'.tree.rows s'.tree) refl spliced.parents;
+      words = lawful_by_parents (tree_as trees.Range s'.tree) refl spliced.parents;
     };
     live = spliced.live;
     none_buried = spliced.none_buried;

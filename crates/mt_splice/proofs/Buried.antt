@@ -17,7 +17,7 @@ use Rattle.mt_path.proofs.TreePaths.{row_of, root_leads, next_row}
 use Rattle.mt_splice.specs.Seen.{passing, Adds}
 use Rattle.mt_splice.specs.Work.{Start, Work, rows_at, times_in, Keeps, Holds}
 use Rattle.mt_splice.specs.Burying.{AreBuried, AreLevelsBuried}
-use Rattle.mt_splice.specs.Climbs.{begin_of, end_of, Gathered, Climbed}
+use Rattle.mt_splice.specs.Climbs.{begin_of, behind_of, Gathered, Climbed}
 use Rattle.mt_splice.proofs.Splits.{fills_none}
 use Rattle.mt_splice.proofs.Moments.{keeps_none, keeps_more}
 use Rattle.mt_splice.proofs.Written.{counts_itself}
@@ -75,9 +75,9 @@ module _ (start : Start) (s : Work) (holds : Holds start s) (path : List PathSte
         one k begins = let from = at.from in let to = at.to in rows_agree t depth start.height (root_span t.table t.root) i k (omega arith) (root_leads t start.height holds.stands i within) (omega arith) (omega arith)
 
     -- then the path's row
-    pub one_more_buried : (s″ : Work) → Keeps start s' s″ → s″.taken ≡ s'.taken → Adds height (row ∷ []) s'.gone s″.gone → AreBuried start s₀ s″ depth height lo (end_of path depth)
+    pub one_more_buried : (s″ : Work) → Keeps start s' s″ → s″.taken ≡ s'.taken → Adds height (row ∷ []) s'.gone s″.gone → AreBuried start s₀ s″ depth height lo (behind_of path depth)
     one_more_buried s″ keeps taken gone =
-        let ends : row.last + 1 ≡ end_of path depth = sym (ap (λ (z : PathStep). z.max + 1) step) in
+        let ends : row.last + 1 ≡ behind_of path depth = sym (ap (λ (z : PathStep). z.max + 1) step) in
         let after : Fills (begin_of path depth) (top_of t + 1) (row ∷ next.0) = subst (Fills (begin_of path depth) (top_of t + 1)) next.1 buried.stretch.after in
         record {
           front = buried.front;
@@ -86,7 +86,7 @@ module _ (start : Start) (s : Work) (holds : Holds start s) (path : List PathSte
           stretch = record {
             parts = buried.stretch.parts ∙ (ap (λ (l : List Span). buried.front ++ (buried.old ++ l)) next.1 ∙ ap (λ (l : List Span). buried.front ++ l) (sym (append_assoc buried.old (row ∷ []) next.0)));
             before = buried.stretch.before;
-            here = fills-append lo (begin_of path depth) (end_of path depth) buried.old (row ∷ []) buried.stretch.here (after.0, after.1, ends);
+            here = fills-append lo (begin_of path depth) (behind_of path depth) buried.old (row ∷ []) buried.stretch.here (after.0, after.1, ends);
             after = subst (λ (from : ℕ). Fills from (top_of t + 1) next.0) ends after.2;
           };
           keeps = keeps_more start s₀ s' s″ buried.keeps keeps;

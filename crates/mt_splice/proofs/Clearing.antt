@@ -20,7 +20,7 @@ use Rattle.mt_path.proofs.TreePaths as paths
 use Rattle.mt_splice.specs.declared.writes.NewRow.{NewRow}
 use Rattle.mt_splice.specs.Work.{Start, rows_at, Holds}
 use Rattle.mt_splice.specs.Splice.{MayClear, IsSpliced}
-use Rattle.mt_splice.specs.Climbs.{begin_of, end_of}
+use Rattle.mt_splice.specs.Climbs.{begin_of, behind_of}
 use Rattle.mt_splice.specs.Replacing.{MayEndEmpty}
 use Rattle.mt_splice.proofs.Beginnings.{holds_at_first}
 use Rattle.mt_splice.proofs.Moments.{reached_are_used}
@@ -37,12 +37,12 @@ pub tree_read : (s s' : Sheet) (kind : Kind) → OnlyReads s s' → IsTreeOf s.t
 tree_read s s' kind reads tree = subst (λ (k : Sheet). IsTreeOf k.tree kind) (sym reads) (tree_with_reads s kind s'.reads tree)
 
 pub tree_to_clear : (kind : Kind) (s : Sheet) (book : Book) (number : ℕ) (call : Call) (reply : Reply) → MayClear kind s book number call reply → IsTreeOf s.tree kind
-tree_to_clear kind s book number call reply may = record { of_kind = may.lawful.of_kind; words = inr (stands_of (tree_as kind s.tree.rows s.tree) may.lawful.words may.some) }
+tree_to_clear kind s book number call reply may = record { of_kind = may.lawful.of_kind; words = inr (stands_of (tree_as kind s.tree) may.lawful.words may.some) }
 
 -- ---- nothing was done yet
 
 module _ (kind : Kind) (s : Sheet) (book : Book) (number : ℕ) (call : Call) (reply : Reply) (may : MayClear kind s book number call reply) (whole : IsWhole s) where
-  module _ (h : ℕ) (stands : Stands (tree_as kind s.tree.rows s.tree) h) where
+  module _ (h : ℕ) (stands : Stands (tree_as kind s.tree) h) where
     abbrev start : Start
     start = start_of kind s h []
 
@@ -59,7 +59,7 @@ module _ (kind : Kind) (s : Sheet) (book : Book) (number : ℕ) (call : Call) (r
           let from = (at_here start (work_of s) holds left 0 (omega arith) is_left h 0 (omega arith)).from in
           omega arith
 
-      ends : end_of right h ≡ top_of start.tree + 1
+      ends : behind_of right h ≡ top_of start.tree + 1
       ends =
           let step = ap (λ (z : PathStep). z.max) (step_here start (work_of s) holds right (top_of start.tree) (omega arith) is_right h 0 (omega arith)) in
           let at = at_here start (work_of s) holds right (top_of start.tree) (omega arith) is_right h 0 (omega arith) in
@@ -94,11 +94,11 @@ module _ (kind : Kind) (s : Sheet) (book : Book) (number : ℕ) (call : Call) (r
       }
 
   -- the paths as they were walked, and the list as it is passed
-  pub may_end_empty : (s₁ s₂ : Sheet) → OnlyReads s s₁ → OnlyReads s₁ s₂ → (left right : List PathStep) (width : Width) (index depth : ℕ) (made : List NewRow) → left ≡ path_in s.tree.table s.tree.root 0
-      → width ≡ s₁.tree.table.width → index ≡ greatest width → right ≡ path_in s₁.tree.table s₁.tree.root index → depth + 1 ≡ length left → made ≡ []
-      → MayEndEmpty (before_of kind s book number) (start_of kind s depth []) s₂ book (work_of s) made left right depth number call reply
-  may_end_empty s₁ s₂ reads₁ reads₂ left right width index depth made is_left is_width is_top is_right deep none =
-      let tree = stands_of (tree_as kind s.tree.rows s.tree) may.lawful.words may.some in
+  pub may_end_empty : (s₁ s₂ : Sheet) → OnlyReads s s₁ → OnlyReads s₁ s₂ → (left right : List PathStep) (width : Width) (index depth : ℕ) (new_inner_rows : List NewRow) → left ≡ path_in s.tree.table s.tree.root 0
+      → width ≡ s₁.tree.table.width → index ≡ greatest width → right ≡ path_in s₁.tree.table s₁.tree.root index → depth + 1 ≡ length left → new_inner_rows ≡ []
+      → MayEndEmpty (before_of kind s book number) (start_of kind s depth []) s₂ book (work_of s) new_inner_rows left right depth number call reply
+  may_end_empty s₁ s₂ reads₁ reads₂ left right width index depth new_inner_rows is_left is_width is_top is_right deep none =
+      let tree = stands_of (tree_as kind s.tree) may.lawful.words may.some in
       let reads : OnlyReads s s₂ = reads₂ ∙ ap (λ (x : Sheet). record x { reads = s₂.reads }) reads₁ in
       let last : index ≡ greatest s.tree.table.width = is_top ∙ ap greatest (is_width ∙ ap (λ (x : Sheet). x.tree.table.width) reads₁) in
       let right_now : right ≡ path_in s.tree.table s.tree.root (greatest s.tree.table.width) = is_right ∙ (ap (λ (x : Sheet). path_in x.tree.table x.tree.root index) reads₁ ∙ ap (path_in s.tree.table s.tree.root) last) in
@@ -108,8 +108,8 @@ module _ (kind : Kind) (s : Sheet) (book : Book) (number : ℕ) (call : Call) (r
 
 pub some_levels : (kind : Kind) (s : Sheet) (book : Book) (number : ℕ) (call : Call) (reply : Reply) → MayClear kind s book number call reply → (left : List PathStep) → left ≡ path_in s.tree.table s.tree.root 0 → 1 ≤ length left
 some_levels kind s book number call reply may left is_left =
-    let tree = stands_of (tree_as kind s.tree.rows s.tree) may.lawful.words may.some in
-    let long = ap length is_left ∙ paths.levels (tree_as kind s.tree.rows s.tree) tree.0 tree.1 0 (omega arith) in
+    let tree = stands_of (tree_as kind s.tree) may.lawful.words may.some in
+    let long = ap length is_left ∙ paths.levels (tree_as kind s.tree) tree.0 tree.1 0 (omega arith) in
     omega arith
 
 -- ---- the tree is empty
@@ -117,11 +117,11 @@ some_levels kind s book number call reply may left is_left =
 pub map_is_empty : (kind : Kind) (s s' : Sheet) (book book' : Book) (number : ℕ) (call : Call) (reply : Reply) → MayClear kind s book number call reply → IsSpliced kind s s' book book' number call reply Root → map_by s'.tree ≡ []
 map_is_empty kind s s' book book' number call reply may spliced = spliced.map ∙ ap (λ (a : List Range × Reply). a.0) may.answer
 
-root_by_map : (s : Sheet) (kind : Kind) → IsTreeOf s.tree kind → map_by s.tree ≡ [] → IsTree (tree_as kind s.tree.rows s.tree) → s.tree.root ≡ 0
+root_by_map : (s : Sheet) (kind : Kind) → IsTreeOf s.tree kind → map_by s.tree ≡ [] → IsTree (tree_as kind s.tree) → s.tree.root ≡ 0
 root_by_map s kind tree none (inl empty) = empty
 root_by_map s kind tree none (inr (h, stands)) =
     let no_path = (empty_together s kind 0 (path_in s.tree.table s.tree.root 0) tree (omega arith) refl).1 none in
-    let long = paths.levels (tree_as kind s.tree.rows s.tree) h stands 0 (omega arith) in
+    let long = paths.levels (tree_as kind s.tree) h stands 0 (omega arith) in
     let short = ap length no_path in
     absurd (omega arith)
 

@@ -16,9 +16,11 @@ use Rattle.mt_layout.specs.Columns.{slot_column}
 use Rattle.mt_layout.specs.declared.spans.Span.{Span}
 use Rattle.mt_rows.specs.declared.rows.Life.TheVariants.{Live}
 use Rattle.mt_rows.specs.declared.rows.Place.TheVariants.{Root, Slot}
-use Rattle.mt_rows.specs.Spans.{slots_of, spans_in}
+use Rattle.mt_rows.specs.Spans.{spans_in}
+use Rattle.mt_layout.specs.Sizes.{slots_of}
 use Rattle.mt_rows.specs.Levels.{level, map_of, one_if, is_row_of}
-use Rattle.mt_rows.specs.Trees.{deepest, height_in}
+use Rattle.mt_rows.specs.Trees.{height_in}
+use Rattle.mt_base.specs.Width.{deepest}
 use Rattle.mt_rows.specs.Laws.{Tree, IsRow, Stands, kind_at}
 use Rattle.mt_rows.specs.Sheet as sheet
 use Rattle.mt_rows.specs.Publish.{tree_as, map_by, is_reached, StandsAt, Changes, IsSlotOf, with_published, MayPublish}
@@ -41,7 +43,7 @@ map_is t h m stands same = ranges_by_depth t deepest h _ stands.low stands.rows 
 
 module _ (kind : Kind) (s : sheet.Sheet) (m : List Range) (taken gone : List Seen) (call : Call) (reply : Reply) (ready : IsReady kind s m taken gone call reply) where
   abbrev t : Tree
-  t = tree_as kind s.tree.rows s.tree
+  t = tree_as kind s.tree
 
   answered : (tree' : sheet.Tree) → map_by tree' ≡ m → acted kind (map_by s.tree) call ≡ (map_by tree', reply)
   answered tree' same = ready.acts ∙ (λ i. (sym same i, reply))
@@ -114,9 +116,9 @@ none_stands tree k x empty at =
 
 -- the first row of a tree is stored as its root
 module _ (kind : Kind) (s : sheet.Sheet) (m : List Range) (taken : List Seen) (call : Call) (reply : Reply) (ready : IsReady kind s m taken [] call reply) (empty : s.tree.root ≡ 0) (word : ℕ)
-    (stands : Stands (with_root (tree_as kind s.tree.rows s.tree) word) 0) (ranges : map_of s.tree.table 0 (root_of (with_root (tree_as kind s.tree.rows s.tree) word)) ≡ m) (new : 1 ≤ passing (is_row_of (row_in word)) taken) where
+    (stands : Stands (with_root (tree_as kind s.tree) word) 0) (ranges : map_of s.tree.table 0 (root_of (with_root (tree_as kind s.tree) word)) ≡ m) (new : 1 ≤ passing (is_row_of (row_in word)) taken) where
   abbrev first_tree : Tree
-  first_tree = with_root (tree_as kind s.tree.rows s.tree) word
+  first_tree = with_root (tree_as kind s.tree) word
 
   first_changes : Changes s (with_published s.tree Root word)
   first_changes = record {
@@ -147,10 +149,10 @@ module _ (kind : Kind) (s : sheet.Sheet) (m : List Range) (taken : List Seen) (c
   }
 
 -- the last rows of a tree are gone
-module _ (kind : Kind) (s : sheet.Sheet) (taken gone : List Seen) (call : Call) (reply : Reply) (ready : IsReady kind s [] taken gone call reply) (h : ℕ) (stands : Stands (tree_as kind s.tree.rows s.tree) h)
-    (all_gone : (p : ℕ → Span → Bool) → passing p gone ≡ times_in p (tree_as kind s.tree.rows s.tree) h) where
+module _ (kind : Kind) (s : sheet.Sheet) (taken gone : List Seen) (call : Call) (reply : Reply) (ready : IsReady kind s [] taken gone call reply) (h : ℕ) (stands : Stands (tree_as kind s.tree) h)
+    (all_gone : (p : ℕ → Span → Bool) → passing p gone ≡ times_in p (tree_as kind s.tree) h) where
   abbrev last_tree : Tree
-  last_tree = tree_as kind s.tree.rows s.tree
+  last_tree = tree_as kind s.tree
 
   last_changes : Changes s (with_published s.tree Root 0)
   last_changes = record {
@@ -176,8 +178,8 @@ module _ (kind : Kind) (s : sheet.Sheet) (taken gone : List Seen) (call : Call) 
 
 -- ---- as a replacement leaves them
 
-module _ (start : Start) (w : Work) (holds : Holds start w) (kind : Kind) (s : sheet.Sheet) (is_now : now start w ≡ tree_as kind s.tree.rows s.tree) (call : Call) (reply : Reply) (ready : IsReady kind s start.map w.taken w.gone call reply) where
-  stands_now : Stands (tree_as kind s.tree.rows s.tree) start.height
+module _ (start : Start) (w : Work) (holds : Holds start w) (kind : Kind) (s : sheet.Sheet) (is_now : now start w ≡ tree_as kind s.tree) (call : Call) (reply : Reply) (ready : IsReady kind s start.map w.taken w.gone call reply) where
+  stands_now : Stands (tree_as kind s.tree) start.height
   stands_now = subst (λ (t : Tree). Stands t start.height) is_now (old_stands start w holds)
 
   pub root_is_published : (h' word : ℕ) → IsReplaced start.tree (with_root (now start w) word) start.map w.taken w.gone start.height h' → MayPublish kind s Root word call reply
@@ -186,7 +188,7 @@ module _ (start : Start) (w : Work) (holds : Holds start w) (kind : Kind) (s : s
       (subst (λ (t : Tree). IsReplaced t (with_root t word) start.map w.taken w.gone start.height h') is_now (replaced_now start w holds (with_root (now start w) word) start.map w.taken w.gone h' replaced))
 
   pub slot_is_published : (k word : ℕ) (step : PathStep) → IsReplaced start.tree (with_step (now start w) (kind_at start.tree.kind k) step word) start.map w.taken w.gone start.height start.height
-      → IsPublished (now start w) (kind_at start.tree.kind k) step word → MayPublish kind s (Slot step.row (column_of (tree_as kind s.tree.rows s.tree) (kind_at kind k) step)) word call reply
+      → IsPublished (now start w) (kind_at start.tree.kind k) step word → MayPublish kind s (Slot step.row (column_of (tree_as kind s.tree) (kind_at kind k) step)) word call reply
   slot_is_published k word step replaced published =
       may_publish_slot kind s start.map w.taken w.gone call reply ready start.height k word step stands_now
       (subst (λ (t : Tree). IsReplaced t (with_step t (kind_at t.kind k) step word) start.map w.taken w.gone start.height start.height) is_now
@@ -198,7 +200,7 @@ module _ (start : Start) (w : Work) (holds : Holds start w) (kind : Kind) (s : s
       may_publish_empty kind s w.taken w.gone call reply (subst (λ (m : List Range). IsReady kind s m w.taken w.gone call reply) none ready) start.height stands_now
       (subst (λ (t : Tree). (p : ℕ → Span → Bool) → passing p w.gone ≡ times_in p t start.height) is_now (λ p. all_gone p ∙ sym (old_times start w holds p)))
 
-pub first_is_published : (start : Start) (w : Work) (kind : Kind) (s : sheet.Sheet) (word : ℕ) (call : Call) (reply : Reply) → now start w ≡ tree_as kind s.tree.rows s.tree → s.tree.root ≡ 0 → w.gone ≡ []
+pub first_is_published : (start : Start) (w : Work) (kind : Kind) (s : sheet.Sheet) (word : ℕ) (call : Call) (reply : Reply) → now start w ≡ tree_as kind s.tree → s.tree.root ≡ 0 → w.gone ≡ []
     → IsReady kind s start.map w.taken w.gone call reply → Stands (with_root (now start w) word) 0 → map_of (now start w).table 0 (root_of (with_root (now start w) word)) ≡ start.map
     → 1 ≤ passing (is_row_of (row_in word)) w.taken → MayPublish kind s Root word call reply
 first_is_published start w kind s word call reply is_now empty none ready stands ranges new =

@@ -27,7 +27,8 @@ use Rattle.mt_rows.proofs.Reached as reached
 use Rattle.mt_splice.specs.Seen.{passing}
 use Rattle.mt_splice.specs.Work.{Work, now}
 use Rattle.mt_splice.specs.Progress.{Before, is_taken, row_seen, stamped}
-use Rattle.mt_splice.specs.Splice.{IsSpare, IsBookOf, WasPublishedAt, IsBooked, HasParents, IsSpliced}
+use Rattle.mt_splice.specs.Splice.{WasPublishedAt, IsBooked, HasParents, IsSpliced}
+use Rattle.mt_splice.specs.Kept.{IsSpare, IsBookOf}
 use Rattle.mt_splice.specs.Ends.{StandsAs, count_in, IsChildSlot, IsEndPlace, IsTop}
 use Rattle.mt_splice.proofs.Drafts.{equal_or_not, other_row, other_column}
 use Rattle.mt_splice.proofs.EndTrees.{is_tree, none_or_some}
@@ -409,7 +410,7 @@ module _ (f : ends.Finish) (s' : Sheet) (o : Outcome f s') where
       ∙ (ends.progress f).kept row col (not_taken_of row old) above within)
 
   -- all is done but for the parent words
-  pub spliced : HasParents (tree_as b.kind s'.tree.rows s'.tree) → ((row : ℕ) → IsReached b.sheet.tree row → is_reached s'.tree row ≡ false → word_at s'.tree row 0 ≡ dead_mark row) → IsSpliced b.kind b.sheet s' b.book book b.number f.call f.reply f.place
+  pub spliced : HasParents (tree_as b.kind s'.tree) → ((row : ℕ) → IsReached b.sheet.tree row → is_reached s'.tree row ≡ false → word_at s'.tree row 0 ≡ dead_mark row) → IsSpliced b.kind b.sheet s' b.book book b.number f.call f.reply f.place
   spliced parents marked = record {
     rest = o.rest;
     tree = tree;

@@ -27,7 +27,7 @@ now_is b start s book w was progress =
 module _ (b : Before) (start : Start) (s : Sheet) (book : Book) (w : Work) (was : IsBefore b start) (progress : IsProgress b s book w) where
   -- the tree after the store
   abbrev stored : Place → ℕ → Tree
-  stored place word = tree_as b.kind b.sheet.tree.rows (with_published s.tree place word)
+  stored place word = tree_as b.kind (with_published s.tree place word)
 
   root_is : (word : ℕ) → with_root (now start w) word ≡ stored Root word
   root_is word = ap (λ (t : Tree). with_root t word) (now_is b start s book w was progress)

@@ -15,7 +15,8 @@ use Rattle.mt_layout.specs.Columns.{slot_column}
 use Rattle.mt_rows.specs.declared.rows.Life.TheVariants.{Draft, Live}
 use Rattle.mt_rows.specs.declared.rows.Place.{Place}
 use Rattle.mt_rows.specs.declared.rows.Place.TheVariants.{Root, Slot}
-use Rattle.mt_rows.specs.Spans.{Table, column, slots_of, inner_kind, spans_in, root_span}
+use Rattle.mt_rows.specs.Spans.{Table, column, inner_kind, spans_in, root_span}
+use Rattle.mt_layout.specs.Sizes.{slots_of}
 use Rattle.mt_rows.specs.Levels.{Levels, is_row_of}
 use Rattle.mt_rows.specs.Laws as laws
 use Rattle.mt_rows.specs.Sheet.{Sheet, Tree, IsPlace, life_of, is_buried}
@@ -60,7 +61,7 @@ module _ (f : ends.Finish) where
   s = f.sheet
 
   abbrev pub later : laws.Tree
-  later = tree_as f.end.before.kind f.end.before.sheet.tree.rows (with_published f.sheet.tree f.place f.word)
+  later = tree_as f.end.before.kind (with_published f.sheet.tree f.place f.word)
 
   -- ---- the store and the words
 
@@ -136,7 +137,7 @@ module _ (f : ends.Finish) where
       pub count : n.count ≡ length (spans_in later.table at)
       pub taken : is_taken w n.row ≡ true
 
-    made_row : (n : NewRow) → reached.IsOneOf n f.made → MadeRow n
+    made_row : (n : NewRow) → reached.IsOneOf n f.new_inner_rows → MadeRow n
     made_row n one =
         let found = made_seen s.tree.table w.taken n (subst (reached.IsOneOf n) f.may.inner one) in
         let place = taken_place found.0 found.1 in
@@ -153,7 +154,7 @@ module _ (f : ends.Finish) where
         }
 
     -- an inner row that was taken is in the list
-    row_made : (k : ℕ) (x : Span) → reached.OnLevel later.table h (root_of later) (suc k) x → is_taken w (row_in x.word) ≡ true → reached.IsOneOf (record { row = row_in x.word; count = length (spans_in later.table x) }) f.made
+    row_made : (k : ℕ) (x : Span) → reached.OnLevel later.table h (root_of later) (suc k) x → is_taken w (row_in x.word) ≡ true → reached.IsOneOf (record { row = row_in x.word; count = length (spans_in later.table x) }) f.new_inner_rows
     row_made k x on taken =
         let found = some_seen (row_in x.word) w.taken (ends.taken_some f (row_in x.word) taken) in
         let place = taken_place found.0 found.1 in
@@ -161,7 +162,7 @@ module _ (f : ends.Finish) where
         let spans : spans_in s.tree.table found.0.at ≡ spans_in later.table x =
         sym (same_place_spans s.tree.table found.0.at place.0 place.2 place.3 place.4) ∙ (ap (spans_in s.tree.table) same.1 ∙ sym (taken_spans x taken)) in
         let is : new_row s.tree.table found.0 ≡ record { row = row_in x.word; count = length (spans_in later.table x) } = (λ i. record { row = found.2 i; count = length (spans i) }) in
-        subst (λ (n : NewRow). reached.IsOneOf n f.made) is (subst (reached.IsOneOf (new_row s.tree.table found.0)) (sym f.may.inner) (seen_made s.tree.table w.taken found.0 k same.0 found.1))
+        subst (λ (n : NewRow). reached.IsOneOf n f.new_inner_rows) is (subst (reached.IsOneOf (new_row s.tree.table found.0)) (sym f.may.inner) (seen_made s.tree.table w.taken found.0 k same.0 found.1))
 
     -- ---- the children of a row in the list
 
@@ -180,7 +181,7 @@ module _ (f : ends.Finish) where
     named_inner : (k : ℕ) (x : Span) → reached.OnLevel later.table h (root_of later) (suc k) x → named_kind x.word ≡ Some Inner
     named_inner k x on = (reached.on_level_law later h stands (suc k) x on).name.named ∙ ap (λ (kind : RowKind). Some kind) (inner k)
 
-    made_child : (n : NewRow) (slot : ℕ) → reached.IsOneOf n f.made → slot < n.count → MadeChild n slot
+    made_child : (n : NewRow) (slot : ℕ) → reached.IsOneOf n f.new_inner_rows → slot < n.count → MadeChild n slot
     made_child n slot one low =
         let m = made_row n one in
         let at = get_some (spans_in later.table m.at) slot (subst (λ (c : ℕ). slot < c) m.count low) in
@@ -225,7 +226,7 @@ module _ (f : ends.Finish) where
         stood : laws.Stands f.end.start.tree h₀
         stood = subst (StandsAs f.end.start.tree) is_old (ends.stands_was f)
 
-        stood_b : laws.Stands (tree_as b.kind b.sheet.tree.rows b.sheet.tree) h₀
+        stood_b : laws.Stands (tree_as b.kind b.sheet.tree) h₀
         stood_b = subst (λ (t : laws.Tree). laws.Stands t h₀) f.may.was.tree stood
 
         from_level : (k : ℕ) (x : Span) → reached.OnLevel (now f.end.start w).table h₀ (root_of (now f.end.start w)) k x → reached.OnLevel f.end.start.tree.table h₀ (root_of f.end.start.tree) k x
@@ -240,11 +241,11 @@ module _ (f : ends.Finish) where
             levels_at (Shared f.end.start.tree.table (now f.end.start w).table) f.end.start.tree.table h₀ k (root_of f.end.start.tree) x
             (subst (λ (n : ℕ). Levels (Shared f.end.start.tree.table (now f.end.start w).table) f.end.start.tree.table n (root_of f.end.start.tree)) holds.0 (old_shared f.end.start w holds.1)) on
 
-        by : laws.IsLawful (tree_as b.kind b.sheet.tree.rows b.sheet.tree) → WasLawful h₀
-        by (inl empty) = absurd (root_named (tree_as b.kind b.sheet.tree.rows b.sheet.tree) h₀ stood_b empty)
+        by : laws.IsLawful (tree_as b.kind b.sheet.tree) → WasLawful h₀
+        by (inl empty) = absurd (root_named (tree_as b.kind b.sheet.tree) h₀ stood_b empty)
         by (inr (h₁, stood₁, root, tended)) =
-            let tall = reached.height_is (tree_as b.kind b.sheet.tree.rows b.sheet.tree) h₀ stood_b in
-            let tall₁ = reached.height_is (tree_as b.kind b.sheet.tree.rows b.sheet.tree) h₁ stood₁ in
+            let tall = reached.height_is (tree_as b.kind b.sheet.tree) h₀ stood_b in
+            let tall₁ = reached.height_is (tree_as b.kind b.sheet.tree) h₁ stood₁ in
             let same : h₁ ≡ h₀ = omega arith in
             let levels : Levels (laws.IsTended f.end.start.tree) f.end.start.tree.table h₀ (root_of f.end.start.tree) =
             subst (λ (n : ℕ). Levels (laws.IsTended f.end.start.tree) f.end.start.tree.table n (root_of f.end.start.tree)) same
@@ -416,7 +417,7 @@ module _ (f : ends.Finish) where
       child_word₁ n slot c = ap (λ (t : Table). child_word t Inner n.row slot) table₁ ∙ c.word
 
       -- the children of two rows in the list are others
-      same_parent : (n m : NewRow) (i j : ℕ) → reached.IsOneOf n f.made → reached.IsOneOf m f.made → i < n.count → j < m.count → child_row s₁.tree.table Inner n.row i ≡ child_row s₁.tree.table Inner m.row j → (n.row ≡ m.row) × (i ≡ j)
+      same_parent : (n m : NewRow) (i j : ℕ) → reached.IsOneOf n f.new_inner_rows → reached.IsOneOf m f.new_inner_rows → i < n.count → j < m.count → child_row s₁.tree.table Inner n.row i ≡ child_row s₁.tree.table Inner m.row j → (n.row ≡ m.row) × (i ≡ j)
       same_parent n m i j one_n one_m low_i low_j same =
           let c = made_child n i one_n low_i in
           let d = made_child m j one_m low_j in
@@ -424,7 +425,7 @@ module _ (f : ends.Finish) where
           (ap row_in (sym (child_word₁ n i c)) ∙ (same ∙ ap row_in (child_word₁ m j d))) in
           (sym c.row.row ∙ (ap (λ (v : Span). row_in v.word) both.0 ∙ d.row.row), both.1)
 
-      are_children : (n : NewRow) → reached.IsOneOf n f.made → AreChildren s₁ Inner n.row n.count
+      are_children : (n : NewRow) → reached.IsOneOf n f.new_inner_rows → AreChildren s₁ Inner n.row n.count
       are_children n one =
           let m = made_row n one in
           let number = ends.later_number f n.row (ends.taken_later f n.row (ends.taken_some f n.row m.taken)) in
@@ -450,12 +451,12 @@ module _ (f : ends.Finish) where
             apart = λ i j low_i low_j same. (same_parent n n i j one one low_i low_j same).1;
           }
 
-      pub may_tend_some : MayTendRows s₁ Inner f.made
+      pub may_tend_some : MayTendRows s₁ Inner f.new_inner_rows
       may_tend_some = record {
-        each = λ i n at. are_children n (reached.one_of_get f.made i n at);
+        each = λ i n at. are_children n (reached.one_of_get f.new_inner_rows i n at);
         apart = λ i j n m slot slot' lt at_n at_m low low' same.
-            (let one_n = reached.one_of_get f.made i n at_n in
-            let one_m = reached.one_of_get f.made j m at_m in
+            (let one_n = reached.one_of_get f.new_inner_rows i n at_n in
+            let one_m = reached.one_of_get f.new_inner_rows j m at_m in
             let rows = (same_parent n m slot slot' one_n one_m low low' same).0 in
             let taken = ends.taken_some f m.row (made_row m one_m).taken in
             let c = ends.counts f m.row in let sum = c.sum in let were = c.were in let never = c.fresh taken in
@@ -492,13 +493,13 @@ module _ (f : ends.Finish) where
 
       -- ---- the parent words when all is tended
 
-      module _ (s₂ s₃ : Sheet) (tended : AreRowsTended s₁ s₂ Inner f.made) (top : IsTopTendedAt s₂ s₃ f.place f.word) where
+      module _ (s₂ s₃ : Sheet) (tended : AreRowsTended s₁ s₂ Inner f.new_inner_rows) (top : IsTopTendedAt s₂ s₃ f.place f.word) where
         -- a row that is neither the top row nor a child of a row in the list keeps its parent word
         untended : (r : ℕ) → ((n : NewRow) (slot : ℕ) (c : MadeChild n slot) → row_in c.child.word ≢ r) → ((row col : ℕ) → f.place ≡ Slot row col → r ≢ row_in f.word) → column s₃.tree.table r 0 ≡ column s.tree.table r 0
         untended r not_made not_top =
             top_kept s₂ s₃ f.place f.word r top not_top
             ∙ (tended.others r (λ i n slot at low same.
-            (let c = made_child n slot (reached.one_of_get f.made i n at) low in
+            (let c = made_child n slot (reached.one_of_get f.new_inner_rows i n at) low in
             not_made n slot c (ap row_in (sym (child_word₁ n slot c)) ∙ same)))
             ∙ (ap (λ (t : Table). column t r 0) table₁ ∙ parent_stays r))
 
@@ -517,7 +518,7 @@ module _ (f : ends.Finish) where
         child_of_taken : (k i : ℕ) (x y : Span) → reached.OnLevel later.table h (root_of later) (suc k) x → is_taken w (row_in x.word) ≡ true → slice_get (spans_in later.table x) i ≡ Some y → column s₃.tree.table (row_in y.word) 0 ≡ parent_at (row_in x.word) i
         child_of_taken k i x y on taken get =
             let n : NewRow = record { row = row_in x.word; count = length (spans_in later.table x) } in
-            let at = reached.get_one_of f.made (record { row = row_in x.word; count = length (spans_in later.table x) }) (row_made k x on taken) in
+            let at = reached.get_one_of f.new_inner_rows (record { row = row_in x.word; count = length (spans_in later.table x) }) (row_made k x on taken) in
             let low = slice_get_within (spans_in later.table x) i y get in
             let word : child_word s₁.tree.table Inner (row_in x.word) i ≡ y.word =
             ap (λ (t : Table). child_word t Inner (row_in x.word) i) table₁ ∙ slot_word later.table Inner x y i (named_inner k x on) get in
@@ -597,7 +598,7 @@ module _ (f : ends.Finish) where
         spans₃ x = same_spans s₁.tree.table s₃.tree.table x (λ c above within. only₃.kept (row_in x.word) c above within) ∙ ap (λ (t : Table). spans_in t x) table₁
 
         abbrev final : laws.Tree
-        final = tree_as f.end.before.kind s₃.tree.rows s₃.tree
+        final = tree_as f.end.before.kind s₃.tree
 
         parent_law : (k : ℕ) (x : Span) → reached.OnLevel later.table h (root_of later) k x → laws.ParentLaw final k x
         parent_law zero x on = tt

@@ -16,7 +16,8 @@ use Rattle.std.proofs.lemmas.Option.{slice_get_within}
 use Rattle.mt_rows.specs.declared.rows.Life.TheVariants.{Draft, Live}
 use Rattle.mt_rows.specs.declared.rows.Place.{Place}
 use Rattle.mt_rows.specs.declared.rows.Place.TheVariants.{Root, Slot}
-use Rattle.mt_rows.specs.Spans.{spans_in, slots_of}
+use Rattle.mt_rows.specs.Spans.{spans_in}
+use Rattle.mt_layout.specs.Sizes.{slots_of}
 use Rattle.mt_rows.specs.Levels.{tally, is_row_of}
 use Rattle.mt_rows.specs.Laws.{HasWords, Stands, kind_at}
 use Rattle.mt_rows.specs.Laws as laws
@@ -83,12 +84,12 @@ passing_implies p q f seen = tally_implies (λ (s : Seen). p s.height s.at) (λ 
 pub record Finish : Type 0 where
   pub end : End
   pub sheet : Sheet
-  pub made : List NewRow
+  pub new_inner_rows : List NewRow
   pub place : Place
   pub word : ℕ
   pub call : Call
   pub reply : Reply
-  pub may : MayEnd end sheet made place word call reply
+  pub may : MayEnd end sheet new_inner_rows place word call reply
 
 module _ (f : Finish) where
   abbrev b : Before
@@ -104,7 +105,7 @@ module _ (f : Finish) where
   s = f.sheet
 
   abbrev later : laws.Tree
-  later = tree_as b.kind b.sheet.tree.rows (with_published s.tree f.place f.word)
+  later = tree_as b.kind (with_published s.tree f.place f.word)
 
   abbrev pub published : Tree
   published = with_published f.sheet.tree f.place f.word
@@ -146,7 +147,7 @@ module _ (f : Finish) where
   old_count row = count_in (is_row_of row) f.end.start.tree f.end.old
 
   abbrev pub new_count : ℕ → ℕ
-  new_count row = count_in (is_row_of row) (tree_as f.end.before.kind f.end.before.sheet.tree.rows (with_published f.sheet.tree f.place f.word)) f.end.new
+  new_count row = count_in (is_row_of row) (tree_as f.end.before.kind (with_published f.sheet.tree f.place f.word)) f.end.new
 
   abbrev pub taken_count : ℕ → ℕ
   taken_count row = passing (is_row_of row) f.end.work.taken

@@ -14,7 +14,8 @@ use Rattle.mt_rows.specs.declared.rows.Life.{Life}
 use Rattle.mt_rows.specs.declared.rows.Life.TheVariants.{New}
 use Rattle.mt_rows.specs.declared.rows.Place.{Place}
 use Rattle.mt_rows.specs.declared.rows.Place.TheVariants.{Root, Slot}
-use Rattle.mt_rows.specs.Spans.{column, slots_of}
+use Rattle.mt_rows.specs.Spans.{column}
+use Rattle.mt_layout.specs.Sizes.{slots_of}
 use Rattle.mt_rows.specs.Sheet.{Sheet, IsWhole, IsPlace, MayTend, life_of, is_buried, tended}
 use Rattle.mt_splice.specs.declared.writes.NewRow.{NewRow}
 use Rattle.mt_splice.specs.Writes.{child_word, child_row, IsChild, AreChildren, AreTended}
@@ -22,10 +23,10 @@ use Rattle.mt_splice.specs.Ends.{OnlyParents, MayTendRows, AreRowsTended, MayTen
 use Rattle.mt_splice.proofs.Drafts.{equal_or_not, other_row, other_column, same_column}
 
 -- of the rows the first ones are tended
-pub record AreRowsTendedUpTo (s s' : Sheet) (kind : RowKind) (made : List NewRow) (done : ℕ) : Type 0 where
+pub record AreRowsTendedUpTo (s s' : Sheet) (kind : RowKind) (new_inner_rows : List NewRow) (done : ℕ) : Type 0 where
   pub only : OnlyParents s s'
-  pub children : (i : ℕ) (n : NewRow) (slot : ℕ) → i < done → slice_get made i ≡ Some n → slot < n.count → column s'.tree.table (child_row s.tree.table kind n.row slot) 0 ≡ parent_at n.row slot
-  pub others : (r : ℕ) → ((i : ℕ) (n : NewRow) (slot : ℕ) → i < done → slice_get made i ≡ Some n → slot < n.count → child_row s.tree.table kind n.row slot ≢ r) → column s'.tree.table r 0 ≡ column s.tree.table r 0
+  pub children : (i : ℕ) (n : NewRow) (slot : ℕ) → i < done → slice_get new_inner_rows i ≡ Some n → slot < n.count → column s'.tree.table (child_row s.tree.table kind n.row slot) 0 ≡ parent_at n.row slot
+  pub others : (r : ℕ) → ((i : ℕ) (n : NewRow) (slot : ℕ) → i < done → slice_get new_inner_rows i ≡ Some n → slot < n.count → child_row s.tree.table kind n.row slot ≢ r) → column s'.tree.table r 0 ≡ column s.tree.table r 0
 
 pub only_none : (s : Sheet) → OnlyParents s s
 only_none s = record { rest = refl; root = refl; width = refl; size = refl; kept = λ r c above within. refl }
@@ -48,8 +49,8 @@ only_tended s s' kind row count done = record {
   kept = λ r c above within. done.others r c within (λ none. absurd (omega arith));
 }
 
-pub no_rows_tended : (s : Sheet) (kind : RowKind) (made : List NewRow) → AreRowsTendedUpTo s s kind made 0
-no_rows_tended s kind made = record {
+pub no_rows_tended : (s : Sheet) (kind : RowKind) (new_inner_rows : List NewRow) → AreRowsTendedUpTo s s kind new_inner_rows 0
+no_rows_tended s kind new_inner_rows = record {
   only = only_none s;
   children = λ i n slot low at below. absurd (omega arith);
   others = λ r none. refl;
@@ -113,13 +114,13 @@ get_at [] i d within = absurd (omega arith)
 get_at (x ∷ xs) zero d within = refl
 get_at (x ∷ xs) (suc i) d within = get_at xs i d (omega arith)
 
-pub children_still : (s t : Sheet) (kind : RowKind) (made : List NewRow) (i : ℕ) (d : NewRow) → MayTendRows s kind made → AreRowsTendedUpTo s t kind made i → i < length made
-    → AreChildren t kind (slice_index_or made i d).row (slice_index_or made i d).count
-children_still s t kind made i d may done within =
-    let n = slice_index_or made i d in
-    children_stay s t kind n.row n.count done.only (may.each i n (get_at made i d within))
+pub children_still : (s t : Sheet) (kind : RowKind) (new_inner_rows : List NewRow) (i : ℕ) (d : NewRow) → MayTendRows s kind new_inner_rows → AreRowsTendedUpTo s t kind new_inner_rows i → i < length new_inner_rows
+    → AreChildren t kind (slice_index_or new_inner_rows i d).row (slice_index_or new_inner_rows i d).count
+children_still s t kind new_inner_rows i d may done within =
+    let n = slice_index_or new_inner_rows i d in
+    children_stay s t kind n.row n.count done.only (may.each i n (get_at new_inner_rows i d within))
 
-module _ (s t t' : Sheet) (kind : RowKind) (made : List NewRow) (i : ℕ) (n : NewRow) (may : MayTendRows s kind made) (done : AreRowsTendedUpTo s t kind made i) (at : slice_get made i ≡ Some n)
+module _ (s t t' : Sheet) (kind : RowKind) (new_inner_rows : List NewRow) (i : ℕ) (n : NewRow) (may : MayTendRows s kind new_inner_rows) (done : AreRowsTendedUpTo s t kind new_inner_rows i) (at : slice_get new_inner_rows i ≡ Some n)
     (tended : AreTended t t' kind n.row n.count) where
   row_now : (slot : ℕ) → slot < n.count → child_row t.tree.table kind n.row slot ≡ child_row s.tree.table kind n.row slot
   row_now slot below = let slots = (may.each i n at).slots in ap row_in (word_stays s t kind n.row slot done.only (omega arith))
@@ -127,9 +128,9 @@ module _ (s t t' : Sheet) (kind : RowKind) (made : List NewRow) (i : ℕ) (n : N
   kept_now : (r : ℕ) → ((slot : ℕ) → slot < n.count → child_row s.tree.table kind n.row slot ≢ r) → column t'.tree.table r 0 ≡ column t.tree.table r 0
   kept_now r other = tended.others r 0 (some_columns t.tree.table.width) (λ _ slot below same. other slot below (sym (row_now slot below) ∙ same))
 
-  children_now : (j : ℕ) (m : NewRow) (slot : ℕ) → j < i + 1 → slice_get made j ≡ Some m → slot < m.count → column t'.tree.table (child_row s.tree.table kind m.row slot) 0 ≡ parent_at m.row slot
+  children_now : (j : ℕ) (m : NewRow) (slot : ℕ) → j < i + 1 → slice_get new_inner_rows j ≡ Some m → slot < m.count → column t'.tree.table (child_row s.tree.table kind m.row slot) 0 ≡ parent_at m.row slot
   children_now j m slot low at_m below = ⊎_elim
-      (λ (here : j ≡ i). let same : n ≡ m = one_item (sym at ∙ (ap (slice_get made) (sym here) ∙ at_m)) in
+      (λ (here : j ≡ i). let same : n ≡ m = one_item (sym at ∙ (ap (slice_get new_inner_rows) (sym here) ∙ at_m)) in
       subst (λ (k : NewRow). (slot : ℕ) → slot < k.count → column t'.tree.table (child_row s.tree.table kind k.row slot) 0 ≡ parent_at k.row slot) same
       (λ slot below. ap (λ (r : ℕ). column t'.tree.table r 0) (sym (row_now slot below)) ∙ tended.children slot below) slot below)
       (λ (off : j ≢ i). let before : j < i = omega (arith, off) in
@@ -139,21 +140,21 @@ module _ (s t t' : Sheet) (kind : RowKind) (made : List NewRow) (i : ℕ) (n : N
       one_item : {a c : NewRow} → Some a ≡ Some c → a ≡ c
       one_item same = cc
 
-  one_more_row : AreRowsTendedUpTo s t' kind made (i + 1)
+  one_more_row : AreRowsTendedUpTo s t' kind new_inner_rows (i + 1)
   one_more_row = record {
     only = only_more s t t' done.only (only_tended t t' kind n.row n.count tended);
     children = children_now;
     others = λ r other. kept_now r (λ slot below. other i n slot (omega arith) at below) ∙ done.others r (λ j m slot low at_m below. other j m slot (omega arith) at_m below);
   }
 
-pub next_row_tended : (s t t' : Sheet) (kind : RowKind) (made : List NewRow) (i : ℕ) (d : NewRow) → MayTendRows s kind made → AreRowsTendedUpTo s t kind made i → i < length made
-    → AreTended t t' kind (slice_index_or made i d).row (slice_index_or made i d).count → AreRowsTendedUpTo s t' kind made (i + 1)
-next_row_tended s t t' kind made i d may done within tended = one_more_row s t t' kind made i (slice_index_or made i d) may done (get_at made i d within) tended
+pub next_row_tended : (s t t' : Sheet) (kind : RowKind) (new_inner_rows : List NewRow) (i : ℕ) (d : NewRow) → MayTendRows s kind new_inner_rows → AreRowsTendedUpTo s t kind new_inner_rows i → i < length new_inner_rows
+    → AreTended t t' kind (slice_index_or new_inner_rows i d).row (slice_index_or new_inner_rows i d).count → AreRowsTendedUpTo s t' kind new_inner_rows (i + 1)
+next_row_tended s t t' kind new_inner_rows i d may done within tended = one_more_row s t t' kind new_inner_rows i (slice_index_or new_inner_rows i d) may done (get_at new_inner_rows i d within) tended
 
-pub all_rows_tended : (s s' : Sheet) (kind : RowKind) (made : List NewRow) (done : ℕ) → length made ≤ done → AreRowsTendedUpTo s s' kind made done → AreRowsTended s s' kind made
-all_rows_tended s s' kind made done all tended = record {
+pub all_rows_tended : (s s' : Sheet) (kind : RowKind) (new_inner_rows : List NewRow) (done : ℕ) → length new_inner_rows ≤ done → AreRowsTendedUpTo s s' kind new_inner_rows done → AreRowsTended s s' kind new_inner_rows
+all_rows_tended s s' kind new_inner_rows done all tended = record {
   only = tended.only;
-  children = λ i n slot at below. tended.children i n slot (let within = slice_get_within made i n at in omega arith) at below;
+  children = λ i n slot at below. tended.children i n slot (let within = slice_get_within new_inner_rows i n at in omega arith) at below;
   others = λ r other. tended.others r (λ i n slot low at below. other i n slot at below);
 }
 

@@ -5,7 +5,8 @@ use Rattle.mt_layout.specs.Rows.{row_in}
 use Rattle.mt_layout.specs.declared.spans.Span.{Span}
 use Rattle.mt_rows.specs.Spans.{Table, root_span}
 use Rattle.mt_rows.specs.Levels.{is_row_of}
-use Rattle.mt_rows.specs.Trees.{deepest, map_in, height_in}
+use Rattle.mt_rows.specs.Trees.{map_in, height_in}
+use Rattle.mt_base.specs.Width.{deepest}
 use Rattle.mt_rows.specs.Laws.{Tree, IsTree}
 use Rattle.mt_rows.specs.Sheet as sheet
 use Rattle.mt_rows.specs.Publish.{is_reached, StandsAt}

@@ -31,18 +31,18 @@ use Rattle.mt_splice.proofs.EndTending.{only_more, top_only, top_kept, top_still
 use Rattle.mt_splice.proofs.EndParents.{parent_stays, may_tend_some, may_tend_place, has_parents}
 use Rattle.mt_splice.proofs.EndPublish as ends
 
-abbrev finish : (e : End) (s : Sheet) (made : List NewRow) (place : Place) (word : ℕ) (call : Call) (reply : Reply) → MayEnd e s made place word call reply → ends.Finish
-finish e s made place word call reply may = record { end = e; sheet = s; made = made; place = place; word = word; call = call; reply = reply; may = may }
+abbrev finish : (e : End) (s : Sheet) (new_inner_rows : List NewRow) (place : Place) (word : ℕ) (call : Call) (reply : Reply) → MayEnd e s new_inner_rows place word call reply → ends.Finish
+finish e s new_inner_rows place word call reply may = record { end = e; sheet = s; new_inner_rows = new_inner_rows; place = place; word = word; call = call; reply = reply; may = may }
 
-pub may_publish_end : (e : End) (s : Sheet) (made : List NewRow) (place : Place) (word : ℕ) (call : Call) (reply : Reply) → MayEnd e s made place word call reply → MayPublish e.before.kind s place word call reply
-may_publish_end e s made place word call reply may = ends.may_publish (finish e s made place word call reply may)
+pub may_publish_end : (e : End) (s : Sheet) (new_inner_rows : List NewRow) (place : Place) (word : ℕ) (call : Call) (reply : Reply) → MayEnd e s new_inner_rows place word call reply → MayPublish e.before.kind s place word call reply
+may_publish_end e s new_inner_rows place word call reply may = ends.may_publish (finish e s new_inner_rows place word call reply may)
 
 -- ---- where nothing is left, no row was taken
 
 none_new : (f : ends.Finish) (row : ℕ) → f.end.new ≡ None → ends.new_count f row ≡ 0
 none_new f row none = ap (count_in (is_row_of row) (tree_as f.end.before.kind f.end.before.sheet.tree.rows (ends.published f))) none
 
-none_made : (f : ends.Finish) (n : NewRow) → f.end.new ≡ None → reached.IsOneOf n f.made → ⊥
+none_made : (f : ends.Finish) (n : NewRow) → f.end.new ≡ None → reached.IsOneOf n f.new_inner_rows → ⊥
 none_made f n none one =
     let found = made_seen f.sheet.tree.table f.end.work.taken n (subst (reached.IsOneOf n) f.may.inner one) in
     let some = ends.taken_later f (row_seen found.0) (seen_some f.end.work.taken found.0 found.1) in
@@ -65,10 +65,10 @@ none_in_slot f (Some h) row col is_old none at =
 
 -- ---- what may be tended
 
-tend_rows_by : (f : ends.Finish) (s₁ : Sheet) (new : Option ℕ) → f.end.new ≡ new → Published f.sheet s₁ f.place f.word f.call f.reply → MayTendRows s₁ Inner f.made
+tend_rows_by : (f : ends.Finish) (s₁ : Sheet) (new : Option ℕ) → f.end.new ≡ new → Published f.sheet s₁ f.place f.word f.call f.reply → MayTendRows s₁ Inner f.new_inner_rows
 tend_rows_by f s₁ None is done = record {
-  each = λ i n at. absurd (none_made f n is (reached.one_of_get f.made i n at));
-  apart = λ i j n m slot slot' lt at_n at_m low low' same. absurd (none_made f n is (reached.one_of_get f.made i n at_n));
+  each = λ i n at. absurd (none_made f n is (reached.one_of_get f.new_inner_rows i n at));
+  apart = λ i j n m slot slot' lt at_n at_m low low' same. absurd (none_made f n is (reached.one_of_get f.new_inner_rows i n at_n));
 }
 tend_rows_by f s₁ (Some h) is done = may_tend_some f h is s₁ done
 
@@ -77,23 +77,23 @@ tend_top_by f s₁ new Root is is_place at done = tt
 tend_top_by f s₁ None (Slot row col) is is_place at done = absurd (none_in_slot f f.end.old row col refl is at)
 tend_top_by f s₁ (Some h) (Slot row col) is is_place at done = may_tend_place f h is s₁ done (Slot row col) is_place
 
-pub may_tend_rows : (e : End) (s s₁ : Sheet) (made : List NewRow) (place : Place) (word : ℕ) (call : Call) (reply : Reply) → MayEnd e s made place word call reply → Published s s₁ place word call reply → MayTendRows s₁ Inner made
-may_tend_rows e s s₁ made place word call reply may done = tend_rows_by (finish e s made place word call reply may) s₁ e.new refl done
+pub may_tend_rows : (e : End) (s s₁ : Sheet) (new_inner_rows : List NewRow) (place : Place) (word : ℕ) (call : Call) (reply : Reply) → MayEnd e s new_inner_rows place word call reply → Published s s₁ place word call reply → MayTendRows s₁ Inner new_inner_rows
+may_tend_rows e s s₁ new_inner_rows place word call reply may done = tend_rows_by (finish e s new_inner_rows place word call reply may) s₁ e.new refl done
 
-pub may_tend_top_now : (e : End) (s s₁ s₂ : Sheet) (made : List NewRow) (place : Place) (word : ℕ) (call : Call) (reply : Reply) → MayEnd e s made place word call reply → Published s s₁ place word call reply
-    → AreRowsTended s₁ s₂ Inner made → MayTendTopAt s₂ place word
-may_tend_top_now e s s₁ s₂ made place word call reply may done tended =
-    top_still s₁ s₂ place word tended.only (tend_top_by (finish e s made place word call reply may) s₁ e.new place refl refl may.at done)
+pub may_tend_top_now : (e : End) (s s₁ s₂ : Sheet) (new_inner_rows : List NewRow) (place : Place) (word : ℕ) (call : Call) (reply : Reply) → MayEnd e s new_inner_rows place word call reply → Published s s₁ place word call reply
+    → AreRowsTended s₁ s₂ Inner new_inner_rows → MayTendTopAt s₂ place word
+may_tend_top_now e s s₁ s₂ new_inner_rows place word call reply may done tended =
+    top_still s₁ s₂ place word tended.only (tend_top_by (finish e s new_inner_rows place word call reply may) s₁ e.new place refl refl may.at done)
 
 -- ---- all is done
 
-parents_by : (f : ends.Finish) (s₁ s₂ s₃ : Sheet) (new : Option ℕ) → f.end.new ≡ new → Published f.sheet s₁ f.place f.word f.call f.reply → AreRowsTended s₁ s₂ Inner f.made → IsTopTendedAt s₂ s₃ f.place f.word
-    → StandsAs (tree_as f.end.before.kind s₃.tree.rows s₃.tree) new → HasParents (tree_as f.end.before.kind s₃.tree.rows s₃.tree)
+parents_by : (f : ends.Finish) (s₁ s₂ s₃ : Sheet) (new : Option ℕ) → f.end.new ≡ new → Published f.sheet s₁ f.place f.word f.call f.reply → AreRowsTended s₁ s₂ Inner f.new_inner_rows → IsTopTendedAt s₂ s₃ f.place f.word
+    → StandsAs (tree_as f.end.before.kind s₃.tree) new → HasParents (tree_as f.end.before.kind s₃.tree)
 parents_by f s₁ s₂ s₃ None is done tended top stands = inl stands
 parents_by f s₁ s₂ s₃ (Some h) is done tended top stands = has_parents f h is s₁ done s₂ s₃ tended top stands
 
 -- a row that is gone keeps its dead mark, since only live rows are tended
-module _ (f : ends.Finish) (s₁ s₂ s₃ : Sheet) (done : Published f.sheet s₁ f.place f.word f.call f.reply) (may : MayTendRows s₁ Inner f.made) (tended : AreRowsTended s₁ s₂ Inner f.made) (may_top : MayTendTopAt s₂ f.place f.word)
+module _ (f : ends.Finish) (s₁ s₂ s₃ : Sheet) (done : Published f.sheet s₁ f.place f.word f.call f.reply) (may : MayTendRows s₁ Inner f.new_inner_rows) (tended : AreRowsTended s₁ s₂ Inner f.new_inner_rows) (may_top : MayTendTopAt s₂ f.place f.word)
     (top : IsTopTendedAt s₂ s₃ f.place f.word) where
   dead_now : (row : ℕ) → is_reached f.end.before.sheet.tree row ≡ true → ends.new_count f row ≡ 0 → life_of s₁.lives row ≡ Dead (f.sheet.ended + 1)
   dead_now row was none =
@@ -121,15 +121,15 @@ module _ (f : ends.Finish) (s₁ s₂ s₃ : Sheet) (done : Published f.sheet s�
       ∙ (ap (λ (x : Sheet). column x.tree.table row 0) done.rest
       ∙ (parent_stays f row ∙ (ends.progress f).marks row was (ends.some_gone f row (ends.was_gone f row some none)))))
 
-pub spliced_end : (e : End) (s s₁ s₂ s₃ : Sheet) (made : List NewRow) (place : Place) (word : ℕ) (call : Call) (reply : Reply) → MayEnd e s made place word call reply → Published s s₁ place word call reply
-    → AreRowsTended s₁ s₂ Inner made → IsTopTendedAt s₂ s₃ place word → IsSpliced e.before.kind e.before.sheet s₃ e.before.book e.book e.before.number call reply place
-spliced_end e s s₁ s₂ s₃ made place word call reply may done tended top =
-    let f = finish e s made place word call reply may in
+pub spliced_end : (e : End) (s s₁ s₂ s₃ : Sheet) (new_inner_rows : List NewRow) (place : Place) (word : ℕ) (call : Call) (reply : Reply) → MayEnd e s new_inner_rows place word call reply → Published s s₁ place word call reply
+    → AreRowsTended s₁ s₂ Inner new_inner_rows → IsTopTendedAt s₂ s₃ place word → IsSpliced e.before.kind e.before.sheet s₃ e.before.book e.book e.before.number call reply place
+spliced_end e s s₁ s₂ s₃ new_inner_rows place word call reply may done tended top =
+    let f = finish e s new_inner_rows place word call reply may in
     let only = only_more s₁ s₂ s₃ tended.only (top_only s₂ s₃ place word top) in
-    let o = outcome (finish e s made place word call reply may) s₁ s₃ done only in
+    let o = outcome (finish e s new_inner_rows place word call reply may) s₁ s₃ done only in
     let rows : e.before.sheet.tree.rows ≡ s₃.tree.rows = sym (ap (λ (x : Sheet). x.tree.rows) o.rest) in
-    spliced (finish e s made place word call reply may) s₃ o
-    (parents_by (finish e s made place word call reply may) s₁ s₂ s₃ e.new refl done tended top (subst (λ (n : ℕ). StandsAs (tree_as e.before.kind n s₃.tree) e.new) rows o.stands))
+    spliced (finish e s new_inner_rows place word call reply may) s₃ o
+    (parents_by (finish e s new_inner_rows place word call reply may) s₁ s₂ s₃ e.new refl done tended top (subst (λ (n : ℕ). StandsAs (tree_as e.before.kind n s₃.tree) e.new) rows o.stands))
     (λ row was not.
-    marked_end f s₁ s₂ s₃ done (may_tend_rows e s s₁ made place word call reply may done) tended (may_tend_top_now e s s₁ s₂ made place word call reply may done tended) top
+    marked_end f s₁ s₂ s₃ done (may_tend_rows e s s₁ new_inner_rows place word call reply may done) tended (may_tend_top_now e s s₁ s₂ new_inner_rows place word call reply may done tended) top
     row was (ends.later_unreached f row (sym (o.reached row) ∙ not)))

@@ -8,7 +8,8 @@ use Rattle.mt_layout.specs.declared.spans.Span.{Span}
 use Rattle.mt_layout.specs.Rows.{row_in, named_kind}
 use Rattle.mt_layout.specs.Columns.{pivot_column, slot_column, item_at, items_from}
 use Rattle.mt_layout.specs.Spans.{spans_from}
-use Rattle.mt_rows.specs.Spans.{Table, base_of, column, slots_of, gaps_of, spans_by, spans_in}
+use Rattle.mt_rows.specs.Spans.{Table, base_of, column, spans_by, spans_in}
+use Rattle.mt_layout.specs.Sizes.{slots_of, gaps_of}
 
 module _ (slots gaps : ℕ) (w : List ℕ) (base max : ℕ) where
   one_word : (first i k last : ℕ) (y : Span) → slice_get (spans_from first (item_at slots gaps w base i last ∷ [])) k ≡ Some y → slice_index w (base + slot_column slots (i + k)) ≡ y.word

@@ -6,7 +6,7 @@ use Rattle.std.proofs.lemmas.List.Elements.{All-nil}
 use Rattle.mt_free.specs.Book.{Held, rows_down, IsBook, new_book}
 use Rattle.mt_rows.specs.declared.rows.Life.TheVariants as lives
 use Rattle.mt_rows.specs.Plain.{new_sheet}
-use Rattle.mt_splice.specs.Splice.{IsSpare}
+use Rattle.mt_splice.specs.Kept.{IsSpare}
 use Rattle.mt_splice.specs.Between.{IsBetweenCalls}
 
 same_anywhere : {X : Type 0} (n i : ℕ) (x : X) → slice_index_or (replicate n x) i x ≡ x

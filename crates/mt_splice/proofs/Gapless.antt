@@ -11,7 +11,8 @@ use Rattle.mt_layout.specs.Rows.{row_in}
 use Rattle.mt_layout.specs.Columns.{items_at}
 use Rattle.mt_layout.specs.declared.spans.Span.{Span}
 use Rattle.mt_layout.specs.Spans.{spans_from}
-use Rattle.mt_rows.specs.Spans.{base_of, slots_of, gaps_of, spans_by, spans_in}
+use Rattle.mt_rows.specs.Spans.{base_of, spans_by, spans_in}
+use Rattle.mt_layout.specs.Sizes.{slots_of, gaps_of}
 use Rattle.mt_rows.specs.Laws.{Tree, IsRow, kind_at}
 use Rattle.mt_leaf.specs.Edits.{join, joined}
 use Rattle.mt_leaf.proofs.Counts.{no_gaps-items}

@@ -7,7 +7,8 @@ use Rattle.std.proofs.Math.ListN.{drop_of_length-le}
 use Rattle.mt_layout.specs.declared.items.Item.{Item}
 use Rattle.mt_layout.specs.declared.names.RowKind.TheVariants.{Inner}
 use Rattle.mt_layout.specs.Columns.{items_from, pivot_column}
-use Rattle.mt_rows.specs.Spans.{Table, base_of, slots_of, gaps_of}
+use Rattle.mt_rows.specs.Spans.{Table, base_of}
+use Rattle.mt_layout.specs.Sizes.{slots_of, gaps_of}
 use Rattle.mt_splice.specs.Writes.{items_of_row}
 
 module _ (slots gaps : ℕ) (w : List ℕ) (base max : ℕ) where

@@ -12,8 +12,9 @@ use Rattle.mt_layout.specs.Spans.{Fills, spans_from}
 use Rattle.mt_layout.proofs.NameLaws.{Names-named_kind}
 use Rattle.mt_leaf.specs.Edits.{starting}
 use Rattle.mt_leaf.proofs.Spans.{spans_from-append}
-use Rattle.mt_rows.specs.Spans.{root_span, slots_of, gaps_of, base_of}
-use Rattle.mt_rows.specs.Trees.{deepest}
+use Rattle.mt_rows.specs.Spans.{root_span, base_of}
+use Rattle.mt_layout.specs.Sizes.{slots_of, gaps_of}
+use Rattle.mt_base.specs.Width.{deepest}
 use Rattle.mt_rows.specs.Laws.{Tree, IsTree, IsRow, Stands, top_of}
 use Rattle.mt_rows.specs.Sheet.{Sheet}
 use Rattle.mt_rows.specs.Publish.{tree_as}
@@ -24,7 +25,8 @@ use Rattle.mt_path.specs.Paths.{path_in, step_at, step_in, At}
 use Rattle.mt_path.proofs.Places.{at_once}
 use Rattle.mt_path.proofs.Entering.{path_of_none}
 use Rattle.mt_path.proofs.TreePaths.{row_of, rows_at, step, place, lawful, levels, rows_fill, right_begins}
-use Rattle.mt_splice.specs.Splice.{last_step, leaf_spans, region_of}
+use Rattle.mt_splice.specs.Splice.{region_of}
+use Rattle.mt_path.specs.Handles.{last_step, leaf_spans}
 use Rattle.mt_splice.specs.Regions.{AreEnds, IsRunOver, leaf_items, leaves_items}
 use Rattle.mt_splice.proofs.Sizes.{leaf_slots}
 use Rattle.mt_splice.proofs.Gathering.{few_items}
@@ -195,10 +197,10 @@ pub no_path : (path : List PathStep) → (length path == 0) ≡ true → path �
 no_path [] none = refl
 no_path (x ∷ path) none = let zero' = eqb-true (length (x ∷ path)) 0 none in absurd (omega arith)
 
-stands_on : (s : Sheet) (left right : List PathStep) (first last : ℕ) → AreEnds s left right first last → 1 ≤ length left → (h : ℕ) × Stands (tree_as trees.Range s.tree.rows s.tree) h
+stands_on : (s : Sheet) (left right : List PathStep) (first last : ℕ) → AreEnds s left right first last → 1 ≤ length left → (h : ℕ) × Stands (tree_as trees.Range s.tree) h
 stands_on s left right first last ends some = by ends.tree.words
   where
-    by : IsTree (tree_as trees.Range s.tree.rows s.tree) → (h : ℕ) × Stands (tree_as trees.Range s.tree.rows s.tree) h
+    by : IsTree (tree_as trees.Range s.tree) → (h : ℕ) × Stands (tree_as trees.Range s.tree) h
     by (inl empty) = let none = ap length (ends.left_path ∙ path_of_none s.tree.table deepest (root_span s.tree.table s.tree.root) first (ap named_kind empty)) in absurd (omega arith)
     by (inr stands) = stands
 
@@ -212,7 +214,7 @@ pub record AreLeaves (s : Sheet) (left right : List PathStep) (first last : ℕ)
 
 pub leaves_are : (s : Sheet) (left right : List PathStep) (first last : ℕ) → AreEnds s left right first last → (length left == 0) ≡ false → AreLeaves s left right first last
 leaves_are s left right first last ends some =
-    let t = tree_as trees.Range s.tree.rows s.tree in
+    let t = tree_as trees.Range s.tree in
     let tree = stands_on s left right first last ends (some_path left some) in
     let order = ends.order in let within = ends.within in
     let all = spans_are t tree.0 tree.1 left right first last ends.order ends.within ends.left_path ends.right_path in

@@ -21,7 +21,7 @@ use Rattle.mt_path.proofs.TreePaths.{row_of, root_leads, place, step, next_row, 
 use Rattle.mt_splice.specs.Seen.{Seen}
 use Rattle.mt_splice.specs.Work.{Start, Work, times_in, Holds}
 use Rattle.mt_splice.specs.Burying.{AreBuried}
-use Rattle.mt_splice.specs.Climbs.{begin_of, end_of}
+use Rattle.mt_splice.specs.Climbs.{begin_of, behind_of}
 use Rattle.mt_splice.specs.Progress.{Before, IsProgress, row_seen, is_gone}
 use Rattle.mt_splice.specs.Levels.{MayBuryRows, AreRowsBuried}
 use Rattle.mt_splice.proofs.Moments.{holds_later}
@@ -145,7 +145,7 @@ module _ (b : Before) (start : Start) (s : Sheet) (book : Book) (w : Work) (left
     abbrev pub work_buried : Work
     work_buried = with_gone (after_bury s' (row_seen seen_now)).tree.table.words w' seen_now
 
-    pub row_buried : (s″ : Sheet) (book″ : Book) → s″ ≡ after_bury s' row → book″ ≡ after_retire book' row number → IsProgress b s″ book″ work_buried × AreBuried start w work_buried depth height lo (end_of path depth)
+    pub row_buried : (s″ : Sheet) (book″ : Book) → s″ ≡ after_bury s' row → book″ ≡ after_retire book' row number → IsProgress b s″ book″ work_buried × AreBuried start w work_buried depth height lo (behind_of path depth)
     row_buried s″ book″ sheet_is book_is = (
       subst (λ (k : Sheet). IsProgress b k book″ work_buried) (sym (sheet_is ∙ ap (after_bury s') row_is))
           (subst (λ (k : Book). IsProgress b (after_bury s' (row_seen seen_now)) k work_buried) (sym (book_is ∙ (λ j. after_retire book' (row_is j) (may.call j))))
@@ -271,7 +271,7 @@ module _ (b : Before) (start : Start) (s : Sheet) (book : Book) (w : Work) (left
         )
 
 pub all_buried : (s s' : Sheet) (book book' : Book) (left right : List PathStep) (depth number last : ℕ) → IsBuriedUpTo s s' book book' left right depth number last → (step_at right depth).max ≤ last
-    → (b : Before) (start : Start) (w : Work) (height : ℕ) → MayBuryRows b start s book w left right depth height number → (w' : Work) × AreRowsBuried b start s' book' w w' depth height (begin_of left depth) (end_of right depth)
+    → (b : Before) (start : Start) (w : Work) (height : ℕ) → MayBuryRows b start s book w left right depth height number → (w' : Work) × AreRowsBuried b start s' book' w w' depth height (begin_of left depth) (behind_of right depth)
 all_buried s s' book book' left right depth number last far done b start w height may =
     let so = far.so b start w height may in
     let order = so.1.order in

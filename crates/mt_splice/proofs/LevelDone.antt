@@ -17,10 +17,10 @@ use Rattle.mt_splice.specs.Replacing.{MayReplaceRows, AreRowsReplaced}
 use Rattle.mt_splice.proofs.LevelEnds.{notes_few}
 use Rattle.mt_splice.proofs.Runs.{some_climbed}
 
-module _ (b : Before) (start : Start) (s : Sheet) (book : Book) (w : Work) (made : List NewRow) (kind : RowKind) (left right : List PathStep) (depth height : ℕ) (items : List Item) (number : ℕ)
-    (may : MayReplaceRows b start s book w made kind left right depth height items number) where
+module _ (b : Before) (start : Start) (s : Sheet) (book : Book) (w : Work) (new_inner_rows : List NewRow) (kind : RowKind) (left right : List PathStep) (depth height : ℕ) (items : List Item) (number : ℕ)
+    (may : MayReplaceRows b start s book w new_inner_rows kind left right depth height items number) where
   -- there is room to note three rows
-  pub room_for_three : length made + 3 ≤ 28
+  pub room_for_three : length new_inner_rows + 3 ≤ 28
   room_for_three =
       let noted = ap length may.under.inner in
       let few = notes_few s.tree.table w.taken in
@@ -31,7 +31,7 @@ module _ (b : Before) (start : Start) (s : Sheet) (book : Book) (w : Work) (made
   free_is : length b.book.free ≡ length book.free + length w.taken
   free_is = ap length may.under.progress.free ∙ (length-append book.free (map row_seen w.taken) ∙ ap (λ (n : ℕ). length book.free + n) (length-map w.taken row_seen))
 
-  pub may_rewrite : MayRewriteLevel b start s book w kind left right depth height number items made
+  pub may_rewrite : MayRewriteLevel b start s book w kind left right depth height number items new_inner_rows
   may_rewrite = record {
     before = may.under.case.was;
     progress = may.under.progress;
@@ -46,9 +46,9 @@ module _ (b : Before) (start : Start) (s : Sheet) (book : Book) (w : Work) (made
     call = may.in_call;
   }
 
-  pub rows_replaced : (s' : Sheet) (book' : Book) (w' : Work) (made' : List NewRow) (new : List Item) → length new ≤ 3 → IsLevelRewritten b start s' book book' w' left right depth height made' new
-      → AreRowsReplaced b start s' book' w' made' left right depth height new
-  rows_replaced s' book' w' made' new few done = record {
+  pub rows_replaced : (s' : Sheet) (book' : Book) (w' : Work) (new_inner_rows' : List NewRow) (new : List Item) → length new ≤ 3 → IsLevelRewritten b start s' book book' w' left right depth height new_inner_rows' new
+      → AreRowsReplaced b start s' book' w' new_inner_rows' left right depth height new
+  rows_replaced s' book' w' new_inner_rows' new few done = record {
     under = record {
       case = may.under.case;
       progress = done.progress;

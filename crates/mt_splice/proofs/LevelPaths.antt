@@ -7,7 +7,7 @@ use Rattle.mt_layout.specs.declared.spans.Span.{Span}
 use Rattle.mt_free.specs.Book.{Book}
 use Rattle.mt_rows.specs.Spans.{Table, spans_in, inner_kind, root_span}
 use Rattle.mt_rows.specs.Levels.{Levels, SameSpans}
-use Rattle.mt_rows.specs.Trees.{deepest}
+use Rattle.mt_base.specs.Width.{deepest}
 use Rattle.mt_rows.specs.Laws as laws
 use Rattle.mt_rows.specs.Sheet.{Sheet}
 use Rattle.mt_rows.specs.Publish.{tree_as, AreOfKind, IsTreeOf}
@@ -61,7 +61,7 @@ module _ (b : Before) (start : Start) (s : Sheet) (book : Book) (w : Work) (befo
   root_now : s.tree.root ≡ start.tree.root
   root_now = progress.root ∙ sym (ap (λ (t : laws.Tree). t.root) before.tree)
 
-  tree_now : now start w ≡ tree_as b.kind s.tree.rows s.tree
+  tree_now : now start w ≡ tree_as b.kind s.tree
   tree_now =
       let rows = ap (λ (t : laws.Tree). t.rows) before.tree ∙ sym (rows_now b start s book w before progress) in
       let kind = ap (λ (t : laws.Tree). t.kind) before.tree in

@@ -20,9 +20,10 @@ use Rattle.mt_layout.proofs.NameLaws.{named_row-name_at}
 use Rattle.mt_layout.proofs.RowWords.{used, length-used}
 use Rattle.mt_leaf.proofs.Slots.{rise_from_zero}
 use Rattle.mt_free.specs.Book.{Book}
-use Rattle.mt_rows.specs.Spans.{Table, slots_of, gaps_of, inner_kind, spans_in}
+use Rattle.mt_rows.specs.Spans.{Table, inner_kind, spans_in}
+use Rattle.mt_layout.specs.Sizes.{slots_of, gaps_of}
 use Rattle.mt_rows.specs.Levels.{SameColumns, SameSpans}
-use Rattle.mt_rows.specs.Laws.{Tree, IsRow, EntryLaw, HoleLaw, kind_at, least_of, words_in}
+use Rattle.mt_rows.specs.Laws.{Tree, IsRow, EntryLaw, HoleLaw, kind_at, least_of, item_words}
 use Rattle.mt_rows.specs.Sheet.{Sheet}
 use Rattle.mt_rows.specs.Publish.{is_reached}
 use Rattle.mt_rows.proofs.Frames.{same_spans}
@@ -142,7 +143,7 @@ module _ (t : Tree) (height lo hi : ℕ) (kind : RowKind) (row : ℕ) (items : L
     };
     pivots = record {
       fills = subst (λ (n : ℕ). Fills lo n (spans_in t.table at)) end_is (subst (Fills lo hi) (sym spans) run.fills);
-      unused = λ c within. new_unused t.table kind row items new lo 0 c within ∙ ap (λ (k : RowKind). slice_index (words_in t.table k at) c) is;
+      unused = λ c within. new_unused t.table kind row items new lo 0 c within ∙ ap (λ (k : RowKind). slice_index (item_words t.table k at) c) is;
     };
     count = record {
       least = subst (λ (n : ℕ). least_of t height (record { first = lo; last = n; word = 0 }) ≤ length (spans_in t.table at)) last_is
@@ -179,12 +180,12 @@ made_stays b start s s' book book' w w' before progress progress' keeps =
 
 -- ---- one row is written
 
-pub row_may_be_written : (b : Before) (start : Start) (s : Sheet) (book : Book) (w : Work) (kind : RowKind) (height lo hi : ℕ) (items : List Item) (made : List NewRow)
-    → MayWriteRow b start s book w kind height lo hi items made → FitRow (slots_of s.tree.table.width kind) (gaps_of s.tree.table.width kind) items
-row_may_be_written b start s book w kind height lo hi items made may = run_fits start.tree height lo hi s.tree.table.width kind items may.run may.fit
+pub row_may_be_written : (b : Before) (start : Start) (s : Sheet) (book : Book) (w : Work) (kind : RowKind) (height lo hi : ℕ) (items : List Item) (new_inner_rows : List NewRow)
+    → MayWriteRow b start s book w kind height lo hi items new_inner_rows → FitRow (slots_of s.tree.table.width kind) (gaps_of s.tree.table.width kind) items
+row_may_be_written b start s book w kind height lo hi items new_inner_rows may = run_fits start.tree height lo hi s.tree.table.width kind items may.run may.fit
 
-module _ (b : Before) (start : Start) (s s' : Sheet) (book book' : Book) (w : Work) (kind : RowKind) (height lo hi : ℕ) (items : List Item) (made : List NewRow) (word : ℕ)
-    (may : MayWriteRow b start s book w kind height lo hi items made) (written : IsRowWritten s s' book book' kind items word) where
+module _ (b : Before) (start : Start) (s s' : Sheet) (book book' : Book) (w : Work) (kind : RowKind) (height lo hi : ℕ) (items : List Item) (new_inner_rows : List NewRow) (word : ℕ)
+    (may : MayWriteRow b start s book w kind height lo hi items new_inner_rows) (written : IsRowWritten s s' book book' kind items word) where
   abbrev pub new_at : Span
   new_at = record { first = lo; last = end_of 0 items; word = word }
 
@@ -212,7 +213,7 @@ module _ (b : Before) (start : Start) (s s' : Sheet) (book book' : Book) (w : Wo
   new_then : IsNewRow s'.tree.table kind written.row items
   new_then = record {
     number = number_then;
-    fit = subst (λ (v : Width). FitRow (slots_of v kind) (gaps_of v kind) items) (sym written.drafted.width) (row_may_be_written b start s book w kind height lo hi items made may);
+    fit = subst (λ (v : Width). FitRow (slots_of v kind) (gaps_of v kind) items) (sym written.drafted.width) (row_may_be_written b start s book w kind height lo hi items new_inner_rows may);
     own = λ c within.
         written.drafted.own c (subst (λ (n : ℕ). c < n) (sym (length-words s.tree.table.width kind items may.fit)) (subst (λ (v : Width). c < columns v) written.drafted.width within))
         ∙ ap (λ (v : Width). slice_index (row_words (columns v) (slots_of v kind) (gaps_of v kind) no_parent items) c) (sym written.drafted.width);
@@ -254,11 +255,11 @@ module _ (b : Before) (start : Start) (s s' : Sheet) (book book' : Book) (w : Wo
       inner Range = refl
       inner Alloc = refl
 
-  pub one_more_written : (made' : List NewRow) (item : Item) → made' ≡ made ++ noted kind word (length items) → item ≡ record { last = end_of 0 items; word = word; gap = 0 } → IsOneWritten b start s' book book' w work_then height lo hi items made' item
-  one_more_written made' item made_is item_is = record {
+  pub one_more_written : (new_inner_rows' : List NewRow) (item : Item) → new_inner_rows' ≡ new_inner_rows ++ noted kind word (length items) → item ≡ record { last = end_of 0 items; word = word; gap = 0 } → IsOneWritten b start s' book book' w work_then height lo hi items new_inner_rows' item
+  one_more_written new_inner_rows' item made_is item_is = record {
     progress = progress_then;
     written = subst (λ (x : Item). AreWritten start w work_then height (spans_from lo items) (spans_from lo (x ∷ []))) (sym item_is) one_written;
-    made = made_is ∙ (λ i. (may.known ∙ sym (made_stays b start s s' book book' w work_then may.before may.progress progress_then keeps_then)) i ++ noted_is height kind may.of_kind i);
+    new_inner_rows = made_is ∙ (λ i. (may.known ∙ sym (made_stays b start s s' book book' w work_then may.before may.progress progress_then keeps_then)) i ++ noted_is height kind may.of_kind i);
     last = ap (λ (x : Item). x.last + 1) item_is ∙ sym (fills_end lo lo hi 0 items (some_items start.tree height lo hi items may.run) may.run.fills);
     free = ap (λ (k : Book). length k.free) written.taken ∙ length-append book'.free (written.row ∷ []);
   }

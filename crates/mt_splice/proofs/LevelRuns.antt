@@ -11,7 +11,8 @@ use Rattle.mt_layout.specs.declared.names.RowKind.{RowKind}
 use Rattle.mt_layout.specs.declared.names.RowKind.TheVariants.{Leaf, Inner, Gapped}
 use Rattle.mt_layout.specs.Spans.{spans_from, leaf_range, Fills, Apart, BeginsFull, EndsFull}
 use Rattle.mt_leaf.specs.Cuts.{word_of, IsPiece, ArePieces, IsCut}
-use Rattle.mt_rows.specs.Laws.{Tree, top_of, kind_at, least_of, least_of_root, least_items_TODO, covers_all}
+use Rattle.mt_rows.specs.Laws.{Tree, top_of, kind_at, least_of, least_of_root, covers_all}
+use Rattle.mt_layout.specs.Sizes.{least_items}
 use Rattle.mt_rows.proofs.Lists.{all_front, all_back}
 use Rattle.mt_rows.proofs.SlotWords.{length-spans_from}
 use Rattle.mt_splice.specs.Climbs.{MayBeIn}
@@ -95,18 +96,18 @@ IsRun t height lo hi items = MayBeCut t height lo hi (spans_from lo items)
 pub some_items : (t : Tree) (height lo hi : ℕ) (items : List Item) → IsRun t height lo hi items → 1 ≤ length items
 some_items t height lo hi items run = subst (λ (n : ℕ). 1 ≤ n) (length-spans_from lo items) run.some
 
-least_is_few : (t : Tree) (height n : ℕ) (x : Span) → least_items_TODO (kind_at t.kind height) ≤ n → 2 ≤ n → least_of t height x ≤ n
+least_is_few : (t : Tree) (height n : ℕ) (x : Span) → least_items (kind_at t.kind height) ≤ n → 2 ≤ n → least_of t height x ≤ n
 least_is_few t height n x least two = by (covers_all t x) (of_root height)
   where
     of_root : (height : ℕ) → least_of_root height ≤ 2
     of_root zero = omega arith
     of_root (suc height) = omega arith
 
-    by : (c : Bool) → least_of_root height ≤ 2 → (if c then least_of_root height else least_items_TODO (kind_at t.kind height)) ≤ n
+    by : (c : Bool) → least_of_root height ≤ 2 → (if c then least_of_root height else least_items (kind_at t.kind height)) ≤ n
     by true few = omega arith
     by false few = least
 
-module _ (t : Tree) (height lo hi : ℕ) (front part back : List Item) (run : IsRun t height lo hi (front ++ (part ++ back))) (two : 2 ≤ length part) (least : least_items_TODO (kind_at t.kind height) ≤ length part)
+module _ (t : Tree) (height lo hi : ℕ) (front part back : List Item) (run : IsRun t height lo hi (front ++ (part ++ back))) (two : 2 ≤ length part) (least : least_items (kind_at t.kind height) ≤ length part)
     (full : height ≡ 0 → 1 ≤ length back → EndsFull (spans_from (after lo front) part)) where
   abbrev begin : ℕ
   begin = after lo front
@@ -207,9 +208,9 @@ word_in_part items from to some =
 
 module _ (t : Tree) (height lo hi : ℕ) (items : List Item) (leaf : Bool) (most : ℕ) (run : IsRun t height lo hi items) (is_leaf : height ≡ 0 → leaf ≡ true) where
   abbrev least : ℕ
-  least = least_items_TODO (kind_at t.kind height)
+  least = least_items (kind_at t.kind height)
 
-  some_least : (kind : RowKind) → 4 ≤ least_items_TODO kind
+  some_least : (kind : RowKind) → 4 ≤ least_items kind
   some_least Leaf = omega arith
   some_least Inner = omega arith
   some_least Gapped = omega arith

@@ -11,14 +11,14 @@ use Rattle.mt_rows.specs.Sheet.{Sheet}
 use Rattle.mt_rows.specs.Publish.{tree_as, IsTreeOf, IsReached}
 use Rattle.mt_rows.proofs.Lists.{tally-append}
 use Rattle.mt_rows.proofs.Once.{once_in}
-use Rattle.mt_splice.specs.Splice.{IsBookOf}
+use Rattle.mt_splice.specs.Kept.{IsBookOf}
 use Rattle.mt_splice.proofs.Counting.{times_of, contains_times, times_contains, apart_once, span_length}
 
 -- no row is reached twice, also where the tree is empty
 pub reached_once : (s : Sheet) (kind : Kind) → IsTreeOf s.tree kind → (row : ℕ) → times_of row (reached_in s.tree.table s.tree.root) ≤ 1
 reached_once s kind tree row = elim tree.words [
   | inl empty ↦ let none : times_of row (reached_in s.tree.table s.tree.root) ≡ 0 = ap (λ (root : ℕ). times_of row (reached_in s.tree.table root)) empty in omega arith
-  | inr stands ↦ once_in (tree_as kind s.tree.rows s.tree) stands.0 row stands.1
+  | inr stands ↦ once_in (tree_as kind s.tree) stands.0 row stands.1
 ]
 
 module _ (s : Sheet) (kind : Kind) (book : Book) (number : ℕ) (tree : IsTreeOf s.tree kind) (of : IsBookOf s.tree s.lives s.cleared book number) where

@@ -16,7 +16,8 @@ use Rattle.mt_rows.proofs.Heights.{levels_upper, levels_pair, level_shared}
 use Rattle.mt_rows.proofs.RowLaws.{row_keeps}
 use Rattle.mt_rows.proofs.Reached.{IsOneOf, times_reached, tally_reached, on_level_reached}
 use Rattle.mt_rows.proofs.Depth.{ranges_by_depth}
-use Rattle.mt_rows.specs.Trees.{map_in, deepest}
+use Rattle.mt_rows.specs.Trees.{map_in}
+use Rattle.mt_base.specs.Width.{deepest}
 use Rattle.std.specs.Prelude.{nat_lt}
 use Rattle.mt_splice.specs.Seen.{Seen, passing}
 use Rattle.mt_splice.specs.Work.{Start, Work, table_with, tree_with, now, rows_at, times_in, IsUsed, KeepsWords, Keeps, Holds}

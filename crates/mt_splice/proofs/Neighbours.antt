@@ -19,7 +19,7 @@ use Rattle.mt_path.proofs.Places.{fills_split}
 use Rattle.mt_path.proofs.TreePaths.{row_of, place, next_row, row_before}
 use Rattle.mt_splice.specs.Work.{Start, Work, now}
 use Rattle.mt_splice.specs.Stretches.{ArePaths, spans_on}
-use Rattle.mt_splice.specs.Climbs.{begin_of, end_of, Gapless, MayBeIn, beside, MayStandIn, Gathered}
+use Rattle.mt_splice.specs.Climbs.{begin_of, behind_of, Gapless, MayBeIn, beside, MayStandIn, Gathered}
 use Rattle.mt_splice.proofs.Gapless.{all_joined}
 use Rattle.mt_splice.proofs.Rises.{step_here, row_is_lawful, spans_here, gapless_here}
 
@@ -117,7 +117,7 @@ module _ (start : Start) (s : Work) (left right right' : List PathStep) (depth h
   fills_behind : Fills behind (top_of t + 1) (row_behind ∷ found.0)
   fills_behind = subst (Fills behind (top_of t + 1)) found.1 gathered.stretch.after
 
-  ends_then : row_behind.last + 1 ≡ end_of right' depth
+  ends_then : row_behind.last + 1 ≡ behind_of right' depth
   ends_then = sym (ap (λ (z : PathStep). z.max + 1) next_step)
 
   abbrev spans_behind : List Span
@@ -129,7 +129,7 @@ module _ (start : Start) (s : Work) (left right right' : List PathStep) (depth h
   row_then : IsRow t height row_behind
   row_then = row_is_lawful start s gathered.holds right' behind behind_within is_right depth height gathered.levels
 
-  spans_fill : Fills behind (end_of right' depth) spans_behind
+  spans_fill : Fills behind (behind_of right' depth) spans_behind
   spans_fill =
       subst (λ (ends : ℕ × ℕ). Fills ends.0 ends.1 spans_behind) (λ k. (fills_behind.0 k, ends_then k))
       (subst (Fills row_behind.first (row_behind.last + 1)) (sym spans_are) row_then.pivots.fills)
@@ -145,10 +145,10 @@ module _ (start : Start) (s : Work) (left right right' : List PathStep) (depth h
     stretch = record {
       parts = gathered.stretch.parts ∙ (ap (λ (l : List Span). gathered.front ++ (gathered.old ++ l)) found.1 ∙ ap (λ (l : List Span). gathered.front ++ l) (sym (append_assoc gathered.old (row_behind ∷ []) found.0)));
       before = gathered.stretch.before;
-      here = fills-append (begin_of left depth) behind (end_of right' depth) gathered.old (row_behind ∷ []) gathered.stretch.here (fills_behind.0, fills_behind.1, ends_then);
+      here = fills-append (begin_of left depth) behind (behind_of right' depth) gathered.old (row_behind ∷ []) gathered.stretch.here (fills_behind.0, fills_behind.1, ends_then);
       after = subst (λ (lo : ℕ). Fills lo (top_of t + 1) found.0) ends_then fills_behind.2;
     };
-    fills = beside_fills height (begin_of left depth) behind (end_of right' depth) run spans_behind gathered.fills spans_fill;
+    fills = beside_fills height (begin_of left depth) behind (behind_of right' depth) run spans_behind gathered.fills spans_fill;
     gapless = beside_gapless height run spans_behind gathered.gapless (gapless_here start s gathered.holds right' behind behind_within is_right depth height gathered.levels);
     fit = beside_fit height run spans_behind (run_free height run gathered.fit) (row_free t height row_behind spans_behind row_then spans_are);
     level = beside_stands start s depth height (expand t.table gathered.front) run spans_behind (expand t.table found.0)
@@ -238,10 +238,10 @@ module _ (start : Start) (s : Work) (left right left' : List PathStep) (depth he
     stretch = record {
       parts = gathered.stretch.parts ∙ (ap (λ (l : List Span). l ++ (gathered.old ++ gathered.back)) found_ahead.1 ∙ append_assoc found_ahead.0 (row_ahead ∷ []) (gathered.old ++ gathered.back));
       before = subst (λ (hi : ℕ). Fills 0 hi found_ahead.0) begins_then fills_ahead.0;
-      here = (begins_then, subst (λ (lo : ℕ). lo ≤ row_ahead.last) begins_then fills_ahead.1, subst (λ (lo : ℕ). Fills lo (end_of right depth) gathered.old) (sym fills_ahead.2) gathered.stretch.here);
+      here = (begins_then, subst (λ (lo : ℕ). lo ≤ row_ahead.last) begins_then fills_ahead.1, subst (λ (lo : ℕ). Fills lo (behind_of right depth) gathered.old) (sym fills_ahead.2) gathered.stretch.here);
       after = gathered.stretch.after;
     };
-    fills = beside_fills height (begin_of left' depth) (begin_of left depth) (end_of right depth) spans_ahead run spans_ahead_fill gathered.fills;
+    fills = beside_fills height (begin_of left' depth) (begin_of left depth) (behind_of right depth) spans_ahead run spans_ahead_fill gathered.fills;
     gapless = beside_gapless height spans_ahead run (gapless_here start s gathered.holds left' ahead ahead_within is_left depth height gathered.levels) gathered.gapless;
     fit = beside_fit height spans_ahead run (row_free old_tree height row_ahead spans_ahead row_first spans_ahead_are) (run_free height run gathered.fit);
     level = beside_stands start s depth height (expand old_tree.table found_ahead.0) spans_ahead run (expand old_tree.table gathered.back)

@@ -7,7 +7,7 @@ use Rattle.mt_base.specs.declared.kinds.Kind.{Kind}
 use Rattle.mt_base.specs.declared.kinds.Kind.TheVariants as trees
 use Rattle.mt_rows.specs.Spans.{Table, inner_kind, spans_in}
 use Rattle.mt_rows.specs.Levels.{Levels, SameSpans}
-use Rattle.mt_rows.specs.Trees.{deepest}
+use Rattle.mt_base.specs.Width.{deepest}
 use Rattle.mt_rows.specs.Laws.{Tree, top_of}
 use Rattle.mt_rows.proofs.Joins.{Shared, levels_front, levels_back}
 use Rattle.mt_rows.proofs.Lists.{levels_here}

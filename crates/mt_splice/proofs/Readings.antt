@@ -6,9 +6,10 @@ use Rattle.std.proofs.Math.Seq.{take-nil}
 use Rattle.mt_layout.specs.declared.items.Item.{Item}
 use Rattle.mt_layout.specs.declared.names.RowKind.{RowKind}
 use Rattle.mt_layout.specs.Columns.{item_at, items_from, pivot_column}
-use Rattle.mt_rows.specs.Spans.{Table, base_of, slots_of, gaps_of}
+use Rattle.mt_rows.specs.Spans.{Table, base_of}
+use Rattle.mt_layout.specs.Sizes.{slots_of, gaps_of}
 use Rattle.mt_rows.specs.Sheet.{Sheet, OnlyReads}
-use Rattle.mt_splice.specs.Runs.{run_room}
+use Rattle.mt_layout.specs.Sizes.{run_room}
 
 abbrev pub unread : ℕ → ℕ → List ℕ → ℕ → ℕ → ℕ → ℕ → List Item
 unread slots gaps w base max to i = take (to - i) (items_from slots gaps w base max (slots - i) i)

@@ -20,7 +20,8 @@ use Rattle.mt_leaf.proofs.Counts.{two_short, two_to_a_hole}
 use Rattle.mt_path.specs.declared.paths.PathStep.{PathStep}
 use Rattle.mt_path.specs.Paths.{step_in, step_at, path_in, At}
 use Rattle.mt_path.proofs.TreePaths.{row_of, step, place, lawful, levels}
-use Rattle.mt_splice.specs.Splice.{last_step, leaf_spans, region_of}
+use Rattle.mt_splice.specs.Splice.{region_of}
+use Rattle.mt_path.specs.Handles.{last_step, leaf_spans}
 use Rattle.mt_splice.specs.Work.{rows_at}
 use Rattle.mt_splice.specs.Stretches.{IsStretch}
 use Rattle.mt_splice.specs.Runs.{IsLeafRun}

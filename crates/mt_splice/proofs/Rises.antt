@@ -17,7 +17,7 @@ use Rattle.mt_path.proofs.TreePaths.{row_of, step, place, lawful, child}
 use Rattle.mt_splice.specs.Work.{Start, Work, now, rows_at, IsUsed, KeepsWords, Holds}
 use Rattle.mt_splice.specs.Replaced.{IsHalfReplaced}
 use Rattle.mt_splice.specs.Stretches.{IsStretch, spans_on}
-use Rattle.mt_splice.specs.Climbs.{begin_of, end_of, Gapless, Gathered, Climbed}
+use Rattle.mt_splice.specs.Climbs.{begin_of, behind_of, Gapless, Gathered, Climbed}
 use Rattle.mt_splice.proofs.Moments.{RowsKeep}
 use Rattle.mt_splice.proofs.Gapless.{all_take, all_drop, gapless_row}
 use Rattle.mt_splice.proofs.PathRows.{stretch_between, front_below, back_below, spans_of_step, take_slot, drop_slot}
@@ -91,7 +91,7 @@ module _ (start : Start) (s : Work) (left right : List PathStep) (depth height :
   left_below : begin_of left (suc depth) ≡ (row_of t (suc depth) i).first
   left_below = ap (λ (z : PathStep). z.min) (step_here start s climbed.holds left i from_within climbed.paths.is_left (suc depth) height climbed.levels)
 
-  right_below : end_of right (suc depth) ≡ (row_of t (suc depth) j).last + 1
+  right_below : behind_of right (suc depth) ≡ (row_of t (suc depth) j).last + 1
   right_below = ap (λ (z : PathStep). z.max + 1) (step_here start s climbed.holds right j to_within climbed.paths.is_right (suc depth) height climbed.levels)
 
   abbrev left_at : At left_row.first (left_row.last + 1) (spans_in t.table left_row) i (row_of t (suc depth) i)
@@ -106,7 +106,7 @@ module _ (start : Start) (s : Work) (left right : List PathStep) (depth height :
   abbrev back : List Span
   back = (place t start.height stands j depth to_within (let low = levels in omega arith)).back
 
-  stretch_above : (old : List Span) × IsStretch t depth (begin_of left depth) (end_of right depth) front old back
+  stretch_above : (old : List Span) × IsStretch t depth (begin_of left depth) (behind_of right depth) front old back
   stretch_above =
       let between = stretch_between t start.height stands i j depth climbed.paths.order to_within (let low = levels in omega arith) from_within in (
         between.0,
@@ -117,8 +117,8 @@ module _ (start : Start) (s : Work) (left right : List PathStep) (depth height :
   -- what stands beside the replaced rows
   front_is : climbed.front ≡ expand t.table front ++ left_at.front
   front_is =
-      front_below t start.height stands i depth height from_within levels (end_of right (suc depth)) climbed.front climbed.old climbed.back
-      (subst (λ (lo : ℕ). IsStretch t (suc depth) lo (end_of right (suc depth)) climbed.front climbed.old climbed.back) left_below climbed.stretch)
+      front_below t start.height stands i depth height from_within levels (behind_of right (suc depth)) climbed.front climbed.old climbed.back
+      (subst (λ (lo : ℕ). IsStretch t (suc depth) lo (behind_of right (suc depth)) climbed.front climbed.old climbed.back) left_below climbed.stretch)
 
   back_is : climbed.back ≡ right_at.back ++ expand t.table back
   back_is =
@@ -131,7 +131,7 @@ module _ (start : Start) (s : Work) (left right : List PathStep) (depth height :
       regroup : (a b n c e : List Span) → (a ++ b) ++ (n ++ (c ++ e)) ≡ a ++ ((b ++ (n ++ c)) ++ e)
       regroup a b n c e = simp append_assoc
 
-  fills_above : Fills (begin_of left depth) (end_of right depth) (left_at.front ++ (new ++ right_at.back))
+  fills_above : Fills (begin_of left depth) (behind_of right depth) (left_at.front ++ (new ++ right_at.back))
   fills_above =
       subst (λ (ends : ℕ × ℕ). Fills ends.0 ends.1 (left_at.front ++ (new ++ right_at.back)))
       (λ k. (sym (ap (λ (z : PathStep). z.min) left_step) k, sym (ap (λ (z : PathStep). z.max + 1) right_step) k))
@@ -169,7 +169,7 @@ module _ (start : Start) (s : Work) (left right : List PathStep) (depth height :
         old = stretch_above.0;
         back = back;
         stretch = stretch_above.1;
-        fills = subst (Fills (begin_of left depth) (end_of right depth)) (sym run_is) fills_above;
+        fills = subst (Fills (begin_of left depth) (behind_of right depth)) (sym run_is) fills_above;
         gapless = subst Gapless (sym is_run)
             (all_join (λ (x : Span). x.gap ≡ 0) (take (step_at left depth).slot left_spans) (new ++ drop ((step_at right depth).slot + 1) right_spans)
             (all_take (λ (x : Span). x.gap ≡ 0) (step_at left depth).slot left_spans (gapless_here start s climbed.holds left i from_within climbed.paths.is_left depth (suc height) levels))

@@ -5,7 +5,7 @@ use Rattle.mt_layout.specs.declared.spans.Span.{Span}
 use Rattle.mt_layout.specs.Spans.{leaf_range, Fills}
 use Rattle.mt_rows.specs.Spans.{root_span}
 use Rattle.mt_rows.specs.Levels.{expand, map_of, Levels, tally, times}
-use Rattle.mt_rows.specs.Trees.{deepest}
+use Rattle.mt_base.specs.Width.{deepest}
 use Rattle.mt_rows.specs.Laws.{Tree, IsRow, Stands, top_of}
 use Rattle.mt_rows.specs.Replacement.{root_of}
 use Rattle.mt_rows.proofs.Lists.{levels_map}
@@ -17,7 +17,7 @@ use Rattle.mt_splice.specs.Seen.{passing}
 use Rattle.mt_splice.specs.Work.{Start, Work, now, rows_at, times_in, IsUsed, IsTaken, Holds}
 use Rattle.mt_splice.specs.Replaced.{IsHalfReplaced, IsReplaced}
 use Rattle.mt_splice.specs.Burying.{AreBuried, AreLevelsBuried}
-use Rattle.mt_splice.specs.Climbs.{begin_of, end_of, Gathered, AreWritten, Climbed}
+use Rattle.mt_splice.specs.Climbs.{begin_of, behind_of, Gathered, AreWritten, Climbed}
 use Rattle.mt_splice.specs.Endings.{with_root}
 use Rattle.mt_splice.proofs.Splits.{fills_none}
 use Rattle.mt_splice.proofs.Moments.{still_half}
@@ -57,7 +57,7 @@ module _ (start : Start) (s s' : Work) (left right : List PathStep) (depth heigh
       let fills = climbed.fills in
       let begins = fills.0 in let ends = fills.2 in
       let no_front : begin_of left depth ≡ 0 = omega arith in
-      let no_back : end_of right depth ≡ top_of start.tree + 1 = omega arith in
+      let no_back : behind_of right depth ≡ top_of start.tree + 1 = omega arith in
       λ i. fills_none 0 climbed.front (subst (λ (hi : ℕ). Fills 0 hi climbed.front) no_front climbed.stretch.before) i
       ++ ((x ∷ []) ++ fills_none (top_of start.tree + 1) climbed.back (subst (λ (lo : ℕ). Fills lo (top_of start.tree + 1) climbed.back) no_back climbed.stretch.after) i)
 
@@ -88,7 +88,7 @@ module _ (start : Start) (s s' : Work) (left right : List PathStep) (depth heigh
 
 -- ---- a root above several rows
 
-pub path_begins : (start : Start) (s : Work) (holds : Holds start s) (path : List PathStep) (i : ℕ) (within : i ≤ top_of start.tree) → path ≡ path_in start.tree.table start.tree.root i → (begin_of path 0 ≡ 0) × (end_of path 0 ≡ top_of start.tree + 1)
+pub path_begins : (start : Start) (s : Work) (holds : Holds start s) (path : List PathStep) (i : ℕ) (within : i ≤ top_of start.tree) → path ≡ path_in start.tree.table start.tree.root i → (begin_of path 0 ≡ 0) × (behind_of path 0 ≡ top_of start.tree + 1)
 unfolding row_on
 path_begins start s holds path i within is =
     let step = step_here start s holds path i within is 0 start.height (omega arith) in
@@ -99,7 +99,7 @@ module _ (start : Start) (s s' : Work) (left right : List PathStep) (height : �
   begins : begin_of left 0 ≡ 0
   begins = (path_begins start s climbed.holds left climbed.paths.from (let order = climbed.paths.order in let within = climbed.paths.within in omega arith) climbed.paths.is_left).0
 
-  ends : end_of right 0 ≡ top_of start.tree + 1
+  ends : behind_of right 0 ≡ top_of start.tree + 1
   ends = (path_begins start s climbed.holds right climbed.paths.to climbed.paths.within climbed.paths.is_right).1
 
   all_new : climbed.front ++ (new ++ climbed.back) ≡ new
@@ -149,7 +149,7 @@ module _ (start : Start) (s s' : Work) (left right : List PathStep) (height : �
 
 -- one hole is left of all leaves
 pub ends_empty : (start : Start) (s : Work) (left right : List PathStep) (hole : Span) → Gathered start s left right start.height 0 (hole ∷ []) → hole.word ≡ 0 → begin_of left start.height ≡ 0
-    → end_of right start.height ≡ top_of start.tree + 1 → start.map ≡ []
+    → behind_of right start.height ≡ top_of start.tree + 1 → start.map ≡ []
 ends_empty start s left right hole gathered none begins ends =
     let no_front = fills_none 0 gathered.front (subst (λ (hi : ℕ). Fills 0 hi gathered.front) begins gathered.stretch.before) in
     let no_back = fills_none (top_of start.tree + 1) gathered.back (subst (λ (lo : ℕ). Fills lo (top_of start.tree + 1) gathered.back) ends gathered.stretch.after) in

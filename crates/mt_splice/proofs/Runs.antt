@@ -10,8 +10,10 @@ use Rattle.mt_base.specs.Entry.{reserved}
 use Rattle.mt_base.specs.Map.{over}
 use Rattle.mt_layout.specs.declared.spans.Span.{Span}
 use Rattle.mt_layout.specs.Spans.{leaf_range, Fills, Apart, EndsFull}
-use Rattle.mt_rows.specs.Spans.{slots_of, spans_in}
-use Rattle.mt_rows.specs.Laws.{Tree, IsRow, top_of, kind_at, covers_all, least_of_root, least_items_TODO, least_of}
+use Rattle.mt_rows.specs.Spans.{spans_in}
+use Rattle.mt_layout.specs.Sizes.{slots_of}
+use Rattle.mt_rows.specs.Laws.{Tree, IsRow, top_of, kind_at, covers_all, least_of_root, least_of}
+use Rattle.mt_layout.specs.Sizes.{least_items}
 use Rattle.mt_leaf.specs.Edits.{stored, edited, ends_with_hole}
 use Rattle.mt_leaf.proofs.Stored.{ranges_edited, fills_edited, length_edited}
 use Rattle.mt_leaf.proofs.Counts.{no_gaps-edited}
@@ -22,7 +24,7 @@ use Rattle.mt_path.proofs.TreePaths.{row_of, child, right_begins, left_ends}
 use Rattle.mt_splice.specs.Work.{Start, Work, now, Holds}
 use Rattle.mt_splice.specs.Splice.{region_of}
 use Rattle.mt_splice.specs.Stretches.{ArePaths, spans_on}
-use Rattle.mt_splice.specs.Climbs.{begin_of, end_of, MayBeIn, beside, Gathered, Climbed}
+use Rattle.mt_splice.specs.Climbs.{begin_of, behind_of, MayBeIn, beside, Gathered, Climbed}
 use Rattle.mt_splice.specs.Runs.{most_items, most_in_three, span_to, MayBeCut}
 use Rattle.mt_splice.proofs.Sizes.{leaf_slots, range_slots, tree_slots}
 use Rattle.mt_splice.proofs.Counts.{full_unless_hole, full_join, full_joined, two_hold_an_entry}
@@ -33,12 +35,12 @@ use Rattle.mt_splice.proofs.Rises.{at_here, step_here, row_is_lawful, spans_here
 
 -- ---- rows of a tree of ranges
 
-range_least : (h : ℕ) → least_items_TODO (kind_at trees.Range h) ≡ 6
+range_least : (h : ℕ) → least_items (kind_at trees.Range h) ≡ 6
 range_least zero = refl
 range_least (suc h) = refl
 
-pub tree_least : (t : Tree) (h : ℕ) → t.kind ≡ trees.Range → least_items_TODO (kind_at t.kind h) ≡ 6
-tree_least t h range = ap (λ (kind : Kind). least_items_TODO (kind_at kind h)) range ∙ range_least h
+pub tree_least : (t : Tree) (h : ℕ) → t.kind ≡ trees.Range → least_items (kind_at t.kind h) ≡ 6
+tree_least t h range = ap (λ (kind : Kind). least_items (kind_at kind h)) range ∙ range_least h
 
 row_most : (t : Tree) (h : ℕ) (x : Span) → t.kind ≡ trees.Range → IsRow t h x → length (spans_in t.table x) ≤ 16
 row_most t h x range row =
@@ -47,8 +49,8 @@ row_most t h x range row =
 
 part_least : (t : Tree) (h : ℕ) (x : Span) → t.kind ≡ trees.Range → covers_all t x ≡ false → IsRow t h x → 6 ≤ length (spans_in t.table x)
 part_least t h x range part row =
-    let least : least_items_TODO (kind_at t.kind h) ≤ length (spans_in t.table x) = subst (λ (b : Bool). (if b then least_of_root h else least_items_TODO (kind_at t.kind h)) ≤ length (spans_in t.table x)) part row.count.least in
-    subst (λ (n : ℕ). n ≤ length (spans_in t.table x)) (range_least h) (subst (λ (kind : Kind). least_items_TODO (kind_at kind h) ≤ length (spans_in t.table x)) range least)
+    let least : least_items (kind_at t.kind h) ≤ length (spans_in t.table x) = subst (λ (b : Bool). (if b then least_of_root h else least_items (kind_at t.kind h)) ≤ length (spans_in t.table x)) part row.count.least in
+    subst (λ (n : ℕ). n ≤ length (spans_in t.table x)) (range_least h) (subst (λ (kind : Kind). least_items (kind_at kind h) ≤ length (spans_in t.table x)) range least)
 
 late_part : (t : Tree) (x : Span) → 0 < x.first → covers_all t x ≡ false
 late_part t x late = let not : (x.first == 0) ≡ false = ne_eqb x.first 0 (λ none. omega arith) in rw not refl
@@ -67,7 +69,7 @@ some_filled lo hi [] less fills = absurd (omega arith)
 some_filled lo hi (x ∷ xs) less fills = omega arith
 
 -- the rows between the paths cover something
-some_between : (start : Start) (s : Work) (left right : List PathStep) (depth height : ℕ) → ArePaths start left right → Holds start s → start.height ≡ depth + height → begin_of left depth < end_of right depth
+some_between : (start : Start) (s : Work) (left right : List PathStep) (depth height : ℕ) → ArePaths start left right → Holds start s → start.height ≡ depth + height → begin_of left depth < behind_of right depth
 some_between start s left right depth height paths holds levels =
     let order = paths.order in let within = paths.within in
     let left_step = step_here start s holds left paths.from (omega arith) paths.is_left depth height levels in
@@ -80,11 +82,11 @@ some_between start s left right depth height paths holds levels =
 
 pub some_gathered : (start : Start) (s : Work) (left right : List PathStep) (depth height : ℕ) (run : List Span) → Gathered start s left right depth height run → 1 ≤ length run
 some_gathered start s left right depth height run gathered =
-    some_filled (begin_of left depth) (end_of right depth) run (some_between start s left right depth height gathered.paths gathered.holds gathered.levels) gathered.fills
+    some_filled (begin_of left depth) (behind_of right depth) run (some_between start s left right depth height gathered.paths gathered.holds gathered.levels) gathered.fills
 
 pub some_climbed : (start : Start) (s : Work) (left right : List PathStep) (depth height : ℕ) (new : List Span) → Climbed start s left right depth height new → 1 ≤ length new
 some_climbed start s left right depth height new climbed =
-    some_filled (begin_of left depth) (end_of right depth) new (some_between start s left right depth height climbed.paths climbed.holds climbed.levels) climbed.fills
+    some_filled (begin_of left depth) (behind_of right depth) new (some_between start s left right depth height climbed.paths climbed.holds climbed.levels) climbed.fills
 
 -- ---- spans beside each other
 
@@ -133,7 +135,7 @@ six_enough t height lo hi run range six = by (covers_all t (span_to lo hi))
     root_least zero = omega arith
     root_least (suc height) = omega arith
 
-    by : (b : Bool) → (if b then least_of_root height else least_items_TODO (kind_at t.kind height)) ≤ length run
+    by : (b : Bool) → (if b then least_of_root height else least_items (kind_at t.kind height)) ≤ length run
     by true = let least = root_least height in omega arith
     by false = let least = tree_least t height range in omega arith
 
@@ -155,8 +157,8 @@ leaves_hold_an_entry start s left right depth run gathered not_hole = by run (so
     by (x ∷ y ∷ ys) some apart not_hole = two_hold_an_entry (x ∷ y ∷ ys) apart (omega arith)
 
 -- enough spans, which end with an entry or with the greatest index
-pub cut_alone : (start : Start) (s : Work) (left right : List PathStep) (depth height : ℕ) (run : List Span) → Gathered start s left right depth height run → length run ≤ most_items start.tree.table.width (kind_at start.tree.kind height) → least_items_TODO (kind_at start.tree.kind height) ≤ length run
-    → (height ≡ 0 → (step_at right depth).max < top_of start.tree → ends_with_hole run ≡ false) → MayBeCut start.tree height (begin_of left depth) (end_of right depth) run
+pub cut_alone : (start : Start) (s : Work) (left right : List PathStep) (depth height : ℕ) (run : List Span) → Gathered start s left right depth height run → length run ≤ most_items start.tree.table.width (kind_at start.tree.kind height) → least_items (kind_at start.tree.kind height) ≤ length run
+    → (height ≡ 0 → (step_at right depth).max < top_of start.tree → ends_with_hole run ≡ false) → MayBeCut start.tree height (begin_of left depth) (behind_of right depth) run
 cut_alone start s left right depth height run gathered few least ends =
     let six : 6 ≤ length run = (let is = tree_least start.tree height gathered.holds.range in omega arith) in
     let slots = tree_slots start.tree height gathered.holds.range in
@@ -164,7 +166,7 @@ cut_alone start s left right depth height run gathered few least ends =
       fills = gathered.fills;
       some = omega arith;
       few = omega arith;
-      least = six_enough start.tree height (begin_of left depth) (end_of right depth) run gathered.holds.range six;
+      least = six_enough start.tree height (begin_of left depth) (behind_of right depth) run gathered.holds.range six;
       gapless = gathered.gapless;
       fit = gathered.fit;
       leaves = λ leaf. record { ends = λ more. full_unless_hole run (ends leaf (omega arith)); some = leaf_entry height run leaf gathered.fit (omega arith) };
@@ -173,12 +175,12 @@ cut_alone start s left right depth height run gathered few least ends =
 -- spans that stand for every index
 pub cut_whole : (start : Start) (s : Work) (left right : List PathStep) (depth height : ℕ) (run : List Span) → Gathered start s left right depth height run → length run ≤ most_items start.tree.table.width (kind_at start.tree.kind height)
     → begin_of left depth ≡ 0 → (step_at right depth).max ≡ top_of start.tree → least_of_root height ≤ length run → (height ≡ 0 → flat_map leaf_range run ≢ [])
-    → MayBeCut start.tree height (begin_of left depth) (end_of right depth) run
+    → MayBeCut start.tree height (begin_of left depth) (behind_of right depth) run
 cut_whole start s left right depth height run gathered few first last least some = record {
   fills = gathered.fills;
   some = some_gathered start s left right depth height run gathered;
   few = let slots = tree_slots start.tree height gathered.holds.range in omega arith;
-  least = all_enough start.tree height (begin_of left depth) (end_of right depth) run first (let same = last in omega arith) least;
+  least = all_enough start.tree height (begin_of left depth) (behind_of right depth) run first (let same = last in omega arith) least;
   gapless = gathered.gapless;
   fit = gathered.fit;
   leaves = λ leaf. record { ends = λ more. absurd (omega arith); some = some leaf };
@@ -253,20 +255,20 @@ module _ (start : Start) (s : Work) (left right right' : List PathStep) (depth h
   counts : (6 ≤ length spans_behind) × (length spans_behind ≤ 16)
   counts = subst (λ (xs : List Span). (6 ≤ length xs) × (length xs ≤ 16)) (sym spans_are) (part_least t height row_behind gathered.holds.range (late_part t row_behind starts_late) law_behind, row_most t height row_behind gathered.holds.range law_behind)
 
-  pub cut_with_right : MayBeCut t height (begin_of left depth) (end_of right' depth) (beside height run spans_behind)
+  pub cut_with_right : MayBeCut t height (begin_of left depth) (behind_of right' depth) (beside height run spans_behind)
   cut_with_right =
       let some = some_gathered start s left right depth height run gathered in
       let slots = tree_slots t height gathered.holds.range in
       let least = counts.0 in let most = counts.1 in
       let few_all = beside_few height run spans_behind in
       let many_all = beside_many height run spans_behind (run_apart height run gathered.fit) (row_apart t height row_behind spans_behind law_behind spans_are) in
-      let last : end_of right' depth ≡ row_behind.last + 1 = ap (λ (z : PathStep). z.max + 1) (step_here start s gathered.holds right' behind behind_within is_right depth height gathered.levels) in
+      let last : behind_of right' depth ≡ row_behind.last + 1 = ap (λ (z : PathStep). z.max + 1) (step_here start s gathered.holds right' behind behind_within is_right depth height gathered.levels) in
       let taken = takes_right start s left right right' depth height run gathered more is_right in
       record {
         fills = taken.fills;
         some = omega arith;
         few = omega arith;
-        least = six_enough t height (begin_of left depth) (end_of right' depth) (beside height run spans_behind) gathered.holds.range (omega arith);
+        least = six_enough t height (begin_of left depth) (behind_of right' depth) (beside height run spans_behind) gathered.holds.range (omega arith);
         gapless = taken.gapless;
         fit = taken.fit;
         leaves = λ leaf. record {
@@ -321,7 +323,7 @@ module _ (start : Start) (s : Work) (left right left' : List PathStep) (depth he
   counts_ahead : (6 ≤ length spans_ahead) × (length spans_ahead ≤ 16)
   counts_ahead = subst (λ (xs : List Span). (6 ≤ length xs) × (length xs ≤ 16)) (sym ahead_are) (part_least old height row_ahead gathered.holds.range (early_part old row_ahead ends_early) law_ahead, row_most old height row_ahead gathered.holds.range law_ahead)
 
-  pub cut_with_left : MayBeCut old height (begin_of left' depth) (end_of right depth) (beside height spans_ahead run)
+  pub cut_with_left : MayBeCut old height (begin_of left' depth) (behind_of right depth) (beside height spans_ahead run)
   cut_with_left =
       let some = some_gathered start s left right depth height run gathered in
       let slots = tree_slots old height gathered.holds.range in
@@ -333,7 +335,7 @@ module _ (start : Start) (s : Work) (left right left' : List PathStep) (depth he
         fills = taken.fills;
         some = omega arith;
         few = omega arith;
-        least = six_enough old height (begin_of left' depth) (end_of right depth) (beside height spans_ahead run) gathered.holds.range (omega arith);
+        least = six_enough old height (begin_of left' depth) (behind_of right depth) (beside height spans_ahead run) gathered.holds.range (omega arith);
         gapless = taken.gapless;
         fit = taken.fit;
         leaves = λ leaf. record {
@@ -405,7 +407,7 @@ module _ (start : Start) (s : Work) (left right : List PathStep) (depth height :
       (λ (many : 1 < length run). many)
       (λ (few : length run ≤ 1).
       let one = one_joined (take (step_at left depth).slot left_spans) new (drop ((step_at right depth).slot + 1) right_spans) (some_climbed start s left right (suc depth) height new climbed) few in
-      let fills = subst (Fills (begin_of left depth) (end_of right depth)) one.2 gathered.fills in
+      let fills = subst (Fills (begin_of left depth) (behind_of right depth)) one.2 gathered.fills in
       let begins = fills.0 in let ends = fills.2 in
       absurd (not_one one.0 one.1 (omega arith) (omega arith)))
       (cases_lt 1 (length run))

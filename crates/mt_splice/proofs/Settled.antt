@@ -63,10 +63,10 @@ same_spans_in t x x' first last word = sym (other_gap t x' x.gap) ∙ (λ i. spa
 -- ---- what a publishing store makes of rows
 
 module _ (kind : Kind) (s : sheet.Sheet) (tree' : sheet.Tree) (m : List Range) (taken gone : List Seen) (call : Call) (reply : Reply) (h h' : ℕ)
-    (ready : IsReady kind s m taken gone call reply) (stands : Stands (tree_as kind s.tree.rows s.tree) h) (replaced : IsReplaced (tree_as kind s.tree.rows s.tree) (tree_as kind s.tree.rows tree') m taken gone h h')
+    (ready : IsReady kind s m taken gone call reply) (stands : Stands (tree_as kind s.tree) h) (replaced : IsReplaced (tree_as kind s.tree) (tree_as kind s.tree.rows tree') m taken gone h h')
     (slots : (k : ℕ) (x : Span) → StandsAt s.tree k x → SameHoles (spans_in s.tree.table x) (spans_in tree'.table x)) where
   abbrev t : Tree
-  t = tree_as kind s.tree.rows s.tree
+  t = tree_as kind s.tree
 
   abbrev t' : Tree
   t' = tree_as kind s.tree.rows tree'

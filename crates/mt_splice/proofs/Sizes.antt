@@ -5,7 +5,7 @@ use Rattle.mt_base.specs.declared.kinds.Kind.TheVariants as trees
 use Rattle.mt_base.specs.declared.widths.Width.{Width}
 use Rattle.mt_base.specs.declared.widths.Width.TheVariants.{Long}
 use Rattle.mt_layout.specs.declared.names.RowKind.TheVariants.{Leaf, Inner}
-use Rattle.mt_rows.specs.Spans.{slots_of}
+use Rattle.mt_layout.specs.Sizes.{slots_of}
 use Rattle.mt_rows.specs.Laws.{Tree, kind_at}
 
 pub leaf_slots : (width : Width) → slots_of width Leaf ≡ 16

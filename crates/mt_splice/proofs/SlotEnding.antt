@@ -8,7 +8,8 @@ use Rattle.mt_layout.specs.declared.names.RowKind.{RowKind}
 use Rattle.mt_layout.specs.Rows.{row_in, named_kind}
 use Rattle.mt_layout.specs.Columns.{slot_column}
 use Rattle.mt_layout.specs.Spans.{Fills}
-use Rattle.mt_rows.specs.Spans.{Table, slots_of, spans_in}
+use Rattle.mt_rows.specs.Spans.{Table, spans_in}
+use Rattle.mt_layout.specs.Sizes.{slots_of}
 use Rattle.mt_rows.specs.Levels.{map_of, Levels, tally, times, is_row_of}
 use Rattle.mt_rows.specs.Laws.{Tree, HasWords, IsRow, top_of, kind_at}
 use Rattle.mt_rows.specs.Publish.{StandsAt, SameHoles, IsSlotOf}
@@ -30,7 +31,7 @@ use Rattle.mt_splice.specs.Seen.{passing}
 use Rattle.mt_splice.specs.Work.{Start, Work, now, rows_at, Holds}
 use Rattle.mt_splice.specs.Replaced.{IsHalfReplaced, IsReplaced}
 use Rattle.mt_splice.specs.Stretches.{IsStretch}
-use Rattle.mt_splice.specs.Climbs.{begin_of, end_of, Climbed}
+use Rattle.mt_splice.specs.Climbs.{begin_of, behind_of, Climbed}
 use Rattle.mt_splice.specs.Endings.{words_of, with_step, IsStepIn, IsPublished}
 use Rattle.mt_splice.proofs.Splits.{split_same}
 use Rattle.mt_splice.proofs.Moments.{old_shared, old_stands, old_times, old_level}
@@ -88,7 +89,7 @@ module _ (start : Start) (s : Work) (left right : List PathStep) (depth height :
   begins : begin_of left (suc depth) ≡ replaced.first
   begins = ap (λ (z : PathStep). z.min) (step_here start s holds left i within climbed.paths.is_left (suc depth) height climbed.levels)
 
-  ends : end_of right (suc depth) ≡ replaced.last + 1
+  ends : behind_of right (suc depth) ≡ replaced.last + 1
   ends =
       ap (λ (z : PathStep). z.max + 1) (step_here start s holds right climbed.paths.to climbed.paths.within climbed.paths.is_right (suc depth) height climbed.levels)
       ∙ ap (λ (y : Span). y.last + 1) right_is

@@ -19,9 +19,10 @@ use Rattle.mt_layout.specs.Spans.{leaf_range, spans_from}
 use Rattle.mt_leaf.specs.Edits.{edited, ends_with_hole}
 use Rattle.mt_free.specs.Book.{Book, IsBook}
 use Rattle.mt_rows.specs.declared.rows.Place.TheVariants.{Root}
-use Rattle.mt_rows.specs.Spans.{Table, root_span, slots_of}
+use Rattle.mt_rows.specs.Spans.{Table, root_span}
+use Rattle.mt_layout.specs.Sizes.{slots_of}
 use Rattle.mt_rows.specs.Levels.{map_of, tally, is_row_of}
-use Rattle.mt_rows.specs.Trees.{deepest}
+use Rattle.mt_base.specs.Width.{deepest}
 use Rattle.mt_rows.specs.Laws.{Tree, Stands, IsLawful, top_of}
 use Rattle.mt_rows.specs.Replacement.{root_of}
 use Rattle.mt_rows.specs.Sheet.{Sheet, IsWhole}
@@ -43,8 +44,9 @@ use Rattle.mt_splice.specs.Endings.{with_root}
 use Rattle.mt_splice.specs.Ends.{End, MayEnd, IsReplacedAs}
 use Rattle.mt_splice.specs.Progress.{Before, IsBefore, IsProgress, row_seen}
 use Rattle.mt_splice.specs.Levels.{MayWriteRow, IsOneWritten}
-use Rattle.mt_splice.specs.TakingIn.{MayWiden}
-use Rattle.mt_splice.specs.Replacing.{IsCase, IsUnderWay, MayReplaceLevel}
+use Rattle.mt_splice.specs.TakingIn.{MayTakeIn}
+use Rattle.mt_splice.specs.Replacing.{IsUnderWay, MayReplaceLevel}
+use Rattle.mt_splice.specs.Progress.{IsCase}
 use Rattle.mt_splice.proofs.Beginnings.{holds_first, leaves_gathered, leaves_run}
 use Rattle.mt_splice.proofs.Counts.{full_unless_hole}
 use Rattle.mt_splice.proofs.EndForms.{now_is}
@@ -74,7 +76,7 @@ abbrev pub before_of : Kind → Sheet → Book → ℕ → Before
 before_of kind s book number = record { sheet = s; book = book; kind = kind; number = number }
 
 abbrev pub start_of : Kind → Sheet → ℕ → List Range → Start
-start_of kind s height map = record { tree = tree_as kind s.tree.rows s.tree; height = height; map = map }
+start_of kind s height map = record { tree = tree_as kind s.tree; height = height; map = map }
 
 abbrev pub work_of : Sheet → Work
 work_of s = record { words = s.tree.table.words; used = λ row. is_reached s.tree row || false; taken = []; gone = [] }
@@ -120,12 +122,12 @@ module _ (kind : Kind) (s : Sheet) (book : Book) (left right : List PathStep) (i
 
   -- ---- a tree stands
 
-  module _ (h : ℕ) (stands : Stands (tree_as kind s.tree.rows s.tree) h) where
+  module _ (h : ℕ) (stands : Stands (tree_as kind s.tree) h) where
     begins : Begins (start_at h) (work_of s) left right may.first may.last may.entry
     begins = record {
       range = may.range;
       stands = stands;
-      map = ap (λ (m : List Range). over m may.first may.last may.entry) (ranges_by_depth (tree_as kind s.tree.rows s.tree) deepest h (root_span s.tree.table s.tree.root) stands.low stands.rows);
+      map = ap (λ (m : List Range). over m may.first may.last may.entry) (ranges_by_depth (tree_as kind s.tree) deepest h (root_span s.tree.table s.tree.root) stands.low stands.rows);
       order = may.store.order;
       within = may.store.within;
       free = may.store.lawful;
@@ -138,7 +140,7 @@ module _ (kind : Kind) (s : Sheet) (book : Book) (left right : List PathStep) (i
     }
 
     left_levels : length left ≡ h + 1
-    left_levels = ap length may.left_path ∙ paths.levels (tree_as kind s.tree.rows s.tree) h stands may.first (let order = may.store.order in let within = may.store.within in omega arith)
+    left_levels = ap length may.left_path ∙ paths.levels (tree_as kind s.tree) h stands may.first (let order = may.store.order in let within = may.store.within in omega arith)
 
     run_is : spans_from (step_at left h).min items ≡ edited (region_of s.tree.table left right) may.first may.last may.entry
     run_is = subst (λ (d : ℕ). spans_from (step_at left d).min items ≡ edited (region_of s.tree.table left right) may.first may.last may.entry) (let all = left_levels in omega arith) may.edits
@@ -146,7 +148,7 @@ module _ (kind : Kind) (s : Sheet) (book : Book) (left right : List PathStep) (i
     run_gathered : Gathered (start_at h) (work_of s) left right h 0 (spans_from (step_at left h).min items)
     run_gathered = leaves_gathered (start_at h) (work_of s) left right may.first may.last may.entry begins (spans_from (step_at left h).min items) run_is
 
-    run_few : IsLeafRun (tree_as kind s.tree.rows s.tree) (step_at right h).max (spans_from (step_at left h).min items)
+    run_few : IsLeafRun (tree_as kind s.tree) (step_at right h).max (spans_from (step_at left h).min items)
     run_few = leaves_run (start_at h) (work_of s) left right may.first may.last may.entry begins (spans_from (step_at left h).min items) run_is
 
     case_is : IsCase b (start_at h)
@@ -165,11 +167,11 @@ module _ (kind : Kind) (s : Sheet) (book : Book) (left right : List PathStep) (i
       progress = none_done;
       holds = holds_first (start_at h) (work_of s) left right may.first may.last may.entry begins;
       inner = refl;
-      room = let room = may.room in let high = height_by_depth (tree_as kind s.tree.rows s.tree) deepest h (root_span s.tree.table s.tree.root) stands.low stands.rows in omega arith;
+      room = let room = may.room in let high = height_by_depth (tree_as kind s.tree) deepest h (root_span s.tree.table s.tree.root) stands.low stands.rows in omega arith;
       few = omega arith;
     }
 
-    widens : MayWiden (start_at h) (work_of s) s Leaf left right h 0 items
+    widens : MayTakeIn (start_at h) (work_of s) s.tree Leaf left right h 0 items
     widens = record {
       is_now = record { rows = refl; words = refl; of_kind = may.lawful.of_kind };
       of_kind = refl;
@@ -189,14 +191,14 @@ module _ (kind : Kind) (s : Sheet) (book : Book) (left right : List PathStep) (i
   -- the leaves' level may be replaced first
   pub leaves_may_be_replaced : (depth : ℕ) → depth + 1 ≡ length left → MayReplaceLevel b (start_at depth) s book (work_of s) [] Leaf left right depth 0 items number call reply
   leaves_may_be_replaced depth deep =
-      let tree = stands_of (tree_as kind s.tree.rows s.tree) may.lawful.words (λ empty. let none = ap length (may.left_path ∙ no_path s.tree.table s.tree.root may.first empty) in omega arith) in
+      let tree = stands_of (tree_as kind s.tree) may.lawful.words (λ empty. let none = ap length (may.left_path ∙ no_path s.tree.table s.tree.root may.first empty) in omega arith) in
       let same : tree.0 ≡ depth = (let all = left_levels tree.0 tree.1 in omega arith) in
       subst (λ (h : ℕ). MayReplaceLevel b (start_at h) s book (work_of s) [] Leaf left right h 0 items number call reply) same (may_replace tree.0 tree.1)
 
   -- the same, of the lists as they are passed
-  pub level_may_be_replaced : (depth : ℕ) (left' right' : List PathStep) (items' : List Item) (made : List NewRow) → depth + 1 ≡ length left → left' ≡ left → right' ≡ right → items' ≡ items → made ≡ []
-      → MayReplaceLevel b (start_at depth) s book (work_of s) made Leaf left' right' depth 0 items' number call reply
-  level_may_be_replaced depth left' right' items' made deep is_left is_right is none =
+  pub level_may_be_replaced : (depth : ℕ) (left' right' : List PathStep) (items' : List Item) (new_inner_rows : List NewRow) → depth + 1 ≡ length left → left' ≡ left → right' ≡ right → items' ≡ items → new_inner_rows ≡ []
+      → MayReplaceLevel b (start_at depth) s book (work_of s) new_inner_rows Leaf left' right' depth 0 items' number call reply
+  level_may_be_replaced depth left' right' items' new_inner_rows deep is_left is_right is none =
       subst (λ (l : List PathStep × List PathStep × List Item × List NewRow). MayReplaceLevel b (start_at depth) s book (work_of s) l.3 Leaf l.0 l.1 depth 0 l.2 number call reply)
       (λ i. (sym is_left i, sym is_right i, sym is i, sym none i)) (leaves_may_be_replaced depth deep)
 
@@ -224,7 +226,7 @@ module _ (kind : Kind) (s : Sheet) (book : Book) (right : List PathStep) (items 
   start₀ = start_at kind s book [] right items number call reply may whole 0
 
   abbrev tree₀ : Tree
-  tree₀ = tree_as kind s.tree.rows s.tree
+  tree₀ = tree_as kind s.tree
 
   abbrev hi : ℕ
   hi = top_of tree₀ + 1
@@ -258,7 +260,7 @@ module _ (kind : Kind) (s : Sheet) (book : Book) (right : List PathStep) (items 
   }
 
   -- and then published
-  module _ (s' : Sheet) (book' : Book) (w' : Work) (made : List NewRow) (item : Item) (one : IsOneWritten b₀ start₀ s' book book' (work_of s) w' 0 0 hi items made item) (sound : IsBook book') where
+  module _ (s' : Sheet) (book' : Book) (w' : Work) (new_inner_rows : List NewRow) (item : Item) (one : IsOneWritten b₀ start₀ s' book book' (work_of s) w' 0 0 hi items new_inner_rows item) (sound : IsBook book') where
     abbrev leaf : Span
     leaf = record { first = 0; last = item.last; word = item.word }
 
@@ -280,7 +282,7 @@ module _ (kind : Kind) (s : Sheet) (book : Book) (right : List PathStep) (items 
       were = λ p. (let gone = ap (passing p) one.written.gone in omega arith);
     }
 
-    pub first_may_end : MayEnd (first_end b₀ start₀ w' book') s' made Root item.word call reply
+    pub first_may_end : MayEnd (first_end b₀ start₀ w' book') s' new_inner_rows Root item.word call reply
     first_may_end = record {
       range = may.range;
       in_flight = may.in_flight;
@@ -297,19 +299,19 @@ module _ (kind : Kind) (s : Sheet) (book : Book) (right : List PathStep) (items 
           (ap (λ (t : Tree). with_root t item.word) (now_is b₀ start₀ s' book' w' (before_splice kind s book [] right items number call reply may whole 0) one.progress)) leaf_replaces;
       at = tt;
       top = lt-ltb 0 (passing (is_row_of (row_in item.word)) w'.taken) leaf_stands.2;
-      inner = one.made;
+      inner = one.new_inner_rows;
     }
 
   -- the same, of the lists as they are passed
-  pub piece_may_be_written : (items' : List Item) (made : List NewRow) → items' ≡ items → made ≡ [] → MayWriteRow b₀ start₀ s book (work_of s) Leaf 0 0 hi items' made
-  piece_may_be_written items' made is none = subst (λ (l : List Item × List NewRow). MayWriteRow b₀ start₀ s book (work_of s) Leaf 0 0 hi l.0 l.1) (λ i. (sym is i, sym none i)) first_may_be_written
+  pub piece_may_be_written : (items' : List Item) (new_inner_rows : List NewRow) → items' ≡ items → new_inner_rows ≡ [] → MayWriteRow b₀ start₀ s book (work_of s) Leaf 0 0 hi items' new_inner_rows
+  piece_may_be_written items' new_inner_rows is none = subst (λ (l : List Item × List NewRow). MayWriteRow b₀ start₀ s book (work_of s) Leaf 0 0 hi l.0 l.1) (λ i. (sym is i, sym none i)) first_may_be_written
 
-  pub piece_may_end : (s' : Sheet) (book' : Book) (item : Item) (items' : List Item) (made made' made″ : List NewRow) → items' ≡ items → made ≡ [] → made″ ≡ made' → IsBook book'
-      → ((b : Before) (start : Start) (w : Work) (height lo hi : ℕ) → MayWriteRow b start s book w Leaf height lo hi items' made → (w' : Work) × IsOneWritten b start s' book book' w w' height lo hi items' made' item)
-      → (w' : Work) × MayEnd (first_end b₀ start₀ w' book') s' made″ Root item.word call reply
-  piece_may_end s' book' item items' made made' made″ is none same sound written =
-      let one = written b₀ start₀ (work_of s) 0 0 hi (piece_may_be_written items' made is none) in (
+  pub piece_may_end : (s' : Sheet) (book' : Book) (item : Item) (items' : List Item) (new_inner_rows new_inner_rows' new_inner_rows″ : List NewRow) → items' ≡ items → new_inner_rows ≡ [] → new_inner_rows″ ≡ new_inner_rows' → IsBook book'
+      → ((b : Before) (start : Start) (w : Work) (height lo hi : ℕ) → MayWriteRow b start s book w Leaf height lo hi items' new_inner_rows → (w' : Work) × IsOneWritten b start s' book book' w w' height lo hi items' new_inner_rows' item)
+      → (w' : Work) × MayEnd (first_end b₀ start₀ w' book') s' new_inner_rows″ Root item.word call reply
+  piece_may_end s' book' item items' new_inner_rows new_inner_rows' new_inner_rows″ is none same sound written =
+      let one = written b₀ start₀ (work_of s) 0 0 hi (piece_may_be_written items' new_inner_rows is none) in (
         one.0,
         subst (λ (l : List NewRow). MayEnd (first_end b₀ start₀ one.0 book') s' l Root item.word call reply) (sym same)
-            (first_may_end s' book' one.0 made' item (subst (λ (l : List Item). IsOneWritten b₀ start₀ s' book book' (work_of s) one.0 0 0 hi l made' item) is one.1) sound),
+            (first_may_end s' book' one.0 new_inner_rows' item (subst (λ (l : List Item). IsOneWritten b₀ start₀ s' book book' (work_of s) one.0 0 0 hi l new_inner_rows' item) is one.1) sound),
       )

@@ -22,7 +22,7 @@ use Rattle.mt_rows.specs.Laws as laws
 use Rattle.mt_splice.specs.Seen.{Seen}
 use Rattle.mt_splice.specs.Work.{Start, Work, table_with, Keeps}
 use Rattle.mt_splice.specs.Writes.{IsRowWritten, no_parent}
-use Rattle.mt_splice.specs.Splice.{IsSpare}
+use Rattle.mt_splice.specs.Kept.{IsSpare}
 use Rattle.mt_splice.specs.Progress.{Before, IsBefore, IsProgress, row_seen, is_taken, is_gone, stamped}
 use Rattle.mt_splice.proofs.Drafts.{equal_or_not, other_row, other_column, same_column}
 use Rattle.mt_splice.proofs.StepSeen.{was_seen, not_both, seen_here, seen_other, seen_before, seen_not_here, seen_more, seen_last, seen_not_last, seen_front, seen_front_not_last, listed_seen, not_listed}

@@ -10,7 +10,8 @@ use Rattle.mt_layout.specs.declared.names.RowKind.{RowKind}
 use Rattle.mt_layout.specs.declared.names.RowKind.TheVariants.{Leaf, Inner, Gapped}
 use Rattle.mt_layout.specs.Rows.{named_row, parent_at, dead_mark}
 use Rattle.mt_layout.specs.Columns.{slot_column}
-use Rattle.mt_rows.specs.Spans.{Table, column, slots_of}
+use Rattle.mt_rows.specs.Spans.{Table, column}
+use Rattle.mt_layout.specs.Sizes.{slots_of}
 use Rattle.mt_rows.specs.Sheet.{Sheet, IsWhole, MayTend, loaded, tended}
 use Rattle.mt_splice.specs.Writes.{child_word, child_row, AreChildren, AreTended}
 use Rattle.mt_splice.proofs.Drafts.{equal_or_not, wrote, plain, other_row, other_column, same_column}

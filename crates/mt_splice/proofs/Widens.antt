@@ -12,9 +12,11 @@ use Rattle.mt_layout.specs.Rows.{row_in}
 use Rattle.mt_layout.specs.Spans.{spans_from, Fills, EndsFull}
 use Rattle.mt_layout.proofs.NameLaws.{Names-named_kind}
 use Rattle.mt_leaf.specs.Edits.{ends_with_hole}
-use Rattle.mt_rows.specs.Spans.{Table, slots_of, spans_in}
+use Rattle.mt_rows.specs.Spans.{Table, spans_in}
+use Rattle.mt_layout.specs.Sizes.{slots_of}
 use Rattle.mt_rows.specs.Laws as laws
-use Rattle.mt_rows.specs.Laws.{Tree, Stands, top_of, kind_at, covers_all, least_of, least_items_TODO}
+use Rattle.mt_rows.specs.Laws.{Tree, Stands, top_of, kind_at, covers_all, least_of}
+use Rattle.mt_layout.specs.Sizes.{least_items}
 use Rattle.mt_rows.specs.Sheet as sheet
 use Rattle.mt_rows.specs.Sheet.{Sheet, OnlyReads}
 use Rattle.mt_rows.specs.Publish.{tree_as, IsTreeOf}
@@ -25,10 +27,10 @@ use Rattle.mt_path.proofs.TreePaths.{row_of, levels, right_begins, left_ends}
 use Rattle.mt_rows.proofs.SlotWords.{length-spans_from}
 use Rattle.mt_splice.specs.Work.{Start, Work, now, rows_at, Holds}
 use Rattle.mt_splice.specs.Stretches.{spans_on}
-use Rattle.mt_splice.specs.Climbs.{begin_of, end_of, MayBeIn, beside, Gathered}
+use Rattle.mt_splice.specs.Climbs.{begin_of, behind_of, MayBeIn, beside, Gathered}
 use Rattle.mt_splice.specs.Runs.{most_before_hole, most_in_three, span_to, MayBeCut}
 use Rattle.mt_splice.specs.Writes.{items_of_row}
-use Rattle.mt_splice.specs.TakingIn.{short_run, holed_run, beside_items, IsNow, MayWiden, IsWidened}
+use Rattle.mt_splice.specs.TakingIn.{short_run, holed_run, beside_items, IsNow, MayTakeIn, IsTakenIn}
 use Rattle.mt_splice.proofs.Sizes.{leaf_slots, tree_slots}
 use Rattle.mt_splice.proofs.Moments.{old_stands}
 use Rattle.mt_splice.proofs.Rises.{step_here, row_is_lawful, spans_here, at_here}
@@ -39,11 +41,11 @@ use Rattle.mt_splice.proofs.PathsNow.{path_now}
 
 -- ---- what is read changes nothing
 
-pub now_read : (start : Start) (w : Work) (s s' : Sheet) → OnlyReads s s' → IsNow start w s → IsNow start w s'
+pub now_read : (start : Start) (w : Work) (s s' : Sheet) → OnlyReads s s' → IsNow start w s.tree → IsNow start w s'.tree
 now_read start w s s' reads is = subst (IsNow start w) (sym reads) (record { rows = is.rows; words = is.words; of_kind = record { told = is.of_kind.told; width = is.of_kind.width } })
 
-pub widen_read : (start : Start) (w : Work) (s s' : Sheet) (kind : RowKind) (left right : List PathStep) (depth height : ℕ) (items : List Item) → OnlyReads s s' → MayWiden start w s kind left right depth height items
-    → MayWiden start w s' kind left right depth height items
+pub widen_read : (start : Start) (w : Work) (s s' : Sheet) (kind : RowKind) (left right : List PathStep) (depth height : ℕ) (items : List Item) → OnlyReads s s' → MayTakeIn start w s.tree kind left right depth height items
+    → MayTakeIn start w s'.tree kind left right depth height items
 widen_read start w s s' kind left right depth height items reads may = record {
   is_now = now_read start w s s' reads may.is_now;
   of_kind = may.of_kind;
@@ -55,8 +57,8 @@ widen_read start w s s' kind left right depth height items reads may = record {
 
 -- ---- the rows as they are now are a tree
 
-module _ (start : Start) (w : Work) (s : Sheet) (is : IsNow start w s) (holds : Holds start w) where
-  same_tree : tree_as start.tree.kind s.tree.rows s.tree ≡ now start w
+module _ (start : Start) (w : Work) (s : Sheet) (is : IsNow start w s.tree) (holds : Holds start w) where
+  same_tree : tree_as start.tree.kind s.tree ≡ now start w
   same_tree = λ j. record { rows = is.rows j; kind = start.tree.kind; table = (is.words j).table; root = (is.words j).root }
 
   pub tree_now : (kind : Kind) × IsTreeOf s.tree kind
@@ -124,7 +126,7 @@ module _ (start : Start) (w : Work) (holds : Holds start w) (path : List PathSte
 two_least : (t : Tree) (h : ℕ) (x : Span) → t.kind ≡ trees.Range → 2 ≤ least_of t (suc h) x
 two_least t h x range = elim (cases_Bool (covers_all t x)) [
   | inl all ↦ rw all (omega arith)
-  | inr part ↦ let six : least_items_TODO (kind_at t.kind (suc h)) ≡ 6 = ap (λ (k : Kind). least_items_TODO (kind_at k (suc h))) range in rw part (omega arith)
+  | inr part ↦ let six : least_items (kind_at t.kind (suc h)) ≡ 6 = ap (λ (k : Kind). least_items (kind_at k (suc h))) range in rw part (omega arith)
 ]
 
 two_enough : (start : Start) (lo hi h height : ℕ) (items : List Item) → start.tree.kind ≡ trees.Range → height ≡ suc h → MayBeCut start.tree height lo hi (spans_from lo items) → 2 ≤ length items
@@ -136,7 +138,7 @@ two_enough start lo hi h height items range high cut =
 
 -- ---- taken in or not
 
-module _ (start : Start) (w : Work) (s : Sheet) (kind : RowKind) (left right : List PathStep) (depth height : ℕ) (items : List Item) (may : MayWiden start w s kind left right depth height items) where
+module _ (start : Start) (w : Work) (s : Sheet) (kind : RowKind) (left right : List PathStep) (depth height : ℕ) (items : List Item) (may : MayTakeIn start w s.tree kind left right depth height items) where
   abbrev gathered : Gathered start w left right depth height (spans_from (begin_of left depth) items)
   gathered = may.gathered
 
@@ -187,7 +189,7 @@ module _ (start : Start) (w : Work) (s : Sheet) (kind : RowKind) (left right : L
 
   -- as they are
   pub stays_wide : (6 ≤ length items) ⊎ ((begin_of left depth ≡ 0) × ((step_at right depth).max ≡ top_of start.tree))
-      → (height ≡ 0 → (step_at right depth).max < top_of start.tree → ends_with_hole (spans_from 0 items) ≡ false) → IsWidened start w left right depth height items
+      → (height ≡ 0 → (step_at right depth).max < top_of start.tree → ends_with_hole (spans_from 0 items) ≡ false) → IsTakenIn start w left right depth height items
   stays_wide enough ends = record {
     gathered = gathered;
     cut = ⊎_elim
@@ -224,7 +226,7 @@ module _ (start : Start) (w : Work) (s : Sheet) (kind : RowKind) (left right : L
         let rows = may.is_now.rows in
         (deep_enough start w holds right' behind behind_within is_right_then depth height gathered.levels, number.0, (let below = number.1 in omega arith))
 
-    begins_behind : (step_at right' depth).min ≡ end_of right depth
+    begins_behind : (step_at right' depth).min ≡ behind_of right depth
     begins_behind =
         let here = step_here start w holds right gathered.paths.to gathered.paths.within gathered.paths.is_right depth height gathered.levels in
         let then = step_here start w holds right' behind behind_within is_right_then depth height gathered.levels in
@@ -236,25 +238,25 @@ module _ (start : Start) (w : Work) (s : Sheet) (kind : RowKind) (left right : L
         omega arith
 
     pub widens_right : (t : Table) (row : List Item) → t ≡ s.tree.table → row ≡ items_of_row t kind (step_at right' depth).row (step_at right' depth).max → length items ≤ most_before_hole start.tree.table.width
-        → IsWidened start w left right' depth height (beside_items kind items row)
+        → IsTakenIn start w left right' depth height (beside_items kind items row)
     widens_right t row same is few =
         let spans = spans_by_items start w holds right' behind behind_within is_right_then depth height gathered.levels t kind row (same ∙ table_now start w s may.is_now holds) may.of_kind is in
         let spans_behind = spans ∙ ap (λ (k : ℕ). spans_from k row) begins_behind in
         let filled = subst (λ (xs : List Span). Fills (step_at right' depth).min ((step_at right' depth).max + 1) xs) spans_behind
         (spans_fill start w holds right' behind behind_within is_right_then depth height gathered.levels) in
-        let fills : Fills (end_of right depth) ((step_at right' depth).max + 1) (spans_from (end_of right depth) row) =
-        subst (λ (k : ℕ). Fills k ((step_at right' depth).max + 1) (spans_from (end_of right depth) row)) begins_behind filled in
-        let both : spans_from (begin_of left depth) (beside_items kind items row) ≡ beside height (spans_from (begin_of left depth) items) (spans_from (end_of right depth) row) =
+        let fills : Fills (behind_of right depth) ((step_at right' depth).max + 1) (spans_from (behind_of right depth) row) =
+        subst (λ (k : ℕ). Fills k ((step_at right' depth).max + 1) (spans_from (behind_of right depth) row)) begins_behind filled in
+        let both : spans_from (begin_of left depth) (beside_items kind items row) ≡ beside height (spans_from (begin_of left depth) items) (spans_from (behind_of right depth) row) =
         ap (λ (k : RowKind). spans_from (begin_of left depth) (beside_items k items row)) may.of_kind
-        ∙ beside_spans (begin_of left depth) (end_of right depth) ((step_at right' depth).max + 1) items row gathered.fills fills start.tree.kind height gathered.fit in
+        ∙ beside_spans (begin_of left depth) (behind_of right depth) ((step_at right' depth).max + 1) items row gathered.fills fills start.tree.kind height gathered.fit in
         let all : beside height (spans_from (begin_of left depth) items) (spans_on (now start w).table (kind_at start.tree.kind height) (step_at right' depth)) ≡ spans_from (begin_of left depth) (beside_items kind items row) =
         ap (beside height (spans_from (begin_of left depth) items)) spans_behind ∙ sym both in
-        let cut = subst (MayBeCut start.tree height (begin_of left depth) (end_of right' depth)) all
+        let cut = subst (MayBeCut start.tree height (begin_of left depth) (behind_of right' depth)) all
         (cut_with_right start w left right right' depth height (spans_from (begin_of left depth) items) gathered more is_right_then (row_beside few)) in
         record {
           gathered = subst (Gathered start w left right' depth height) all (takes_right start w left right right' depth height (spans_from (begin_of left depth) items) gathered more is_right_then);
           cut = inl cut;
-          two = λ h high first last. two_enough start (begin_of left depth) (end_of right' depth) h height (beside_items kind items row) holds.range high cut;
+          two = λ h high first last. two_enough start (begin_of left depth) (behind_of right' depth) h height (beside_items kind items row) holds.range high cut;
         }
 
   -- ---- the row before, where none stands behind
@@ -291,7 +293,7 @@ module _ (start : Start) (w : Work) (s : Sheet) (kind : RowKind) (left right : L
         omega arith
 
     pub widens_left : (t : Table) (row : List Item) → t ≡ s.tree.table → row ≡ items_of_row t kind (step_at left' depth).row (step_at left' depth).max → (step_at right depth).max ≡ top_of start.tree → length items ≤ most_before_hole start.tree.table.width
-        → IsWidened start w left' right depth height (beside_items kind row items)
+        → IsTakenIn start w left' right depth height (beside_items kind row items)
     widens_left t row same is last few =
         let spans = spans_by_items start w holds left' ahead ahead_within is_left_then depth height gathered.levels t kind row (same ∙ table_now start w s may.is_now holds) may.of_kind is in
         let fills : Fills (begin_of left' depth) (begin_of left depth) (spans_from (begin_of left' depth) row) =
@@ -300,15 +302,15 @@ module _ (start : Start) (w : Work) (s : Sheet) (kind : RowKind) (left right : L
         let fit = subst (MayBeIn height) spans (fit_here start w holds left' ahead ahead_within is_left_then depth height gathered.levels) in
         let both : spans_from (begin_of left' depth) (beside_items kind row items) ≡ beside height (spans_from (begin_of left' depth) row) (spans_from (begin_of left depth) items) =
         ap (λ (k : RowKind). spans_from (begin_of left' depth) (beside_items k row items)) may.of_kind
-        ∙ beside_spans (begin_of left' depth) (begin_of left depth) (end_of right depth) row items fills gathered.fills start.tree.kind height fit in
+        ∙ beside_spans (begin_of left' depth) (begin_of left depth) (behind_of right depth) row items fills gathered.fills start.tree.kind height fit in
         let all : beside height (spans_on (now start w).table (kind_at start.tree.kind height) (step_at left' depth)) (spans_from (begin_of left depth) items) ≡ spans_from (begin_of left' depth) (beside_items kind row items) =
         ap (λ (xs : List Span). beside height xs (spans_from (begin_of left depth) items)) spans ∙ sym both in
-        let cut = subst (MayBeCut start.tree height (begin_of left' depth) (end_of right depth)) all
+        let cut = subst (MayBeCut start.tree height (begin_of left' depth) (behind_of right depth)) all
         (cut_with_left start w left right left' depth height (spans_from (begin_of left depth) items) gathered more is_left_then last (row_beside few)) in
         record {
           gathered = subst (Gathered start w left' right depth height) all (takes_left start w left right left' depth height (spans_from (begin_of left depth) items) gathered more is_left_then);
           cut = inl cut;
-          two = λ h high first last. two_enough start (begin_of left' depth) (end_of right depth) h height (beside_items kind row items) holds.range high cut;
+          two = λ h high first last. two_enough start (begin_of left' depth) (behind_of right depth) h height (beside_items kind row items) holds.range high cut;
         }
 
 -- ---- what is wanted
@@ -321,10 +323,10 @@ or_false : (a b : Bool) → (a || b) ≡ false → (a ≡ false) × (b ≡ false
 or_false true b is = absurd (cc)
 or_false false b is = (refl, is)
 
-least_six : (start : Start) (w : Work) (kind : RowKind) (height : ℕ) → Holds start w → kind ≡ kind_at start.tree.kind height → least_items_TODO kind ≡ 6
-least_six start w kind height holds of_kind = ap least_items_TODO (of_kind ∙ ap (λ (k : Kind). kind_at k height) holds.range) ∙ six height
+least_six : (start : Start) (w : Work) (kind : RowKind) (height : ℕ) → Holds start w → kind ≡ kind_at start.tree.kind height → least_items kind ≡ 6
+least_six start w kind height holds of_kind = ap least_items (of_kind ∙ ap (λ (k : Kind). kind_at k height) holds.range) ∙ six height
   where
-    six : (height : ℕ) → least_items_TODO (kind_at trees.Range height) ≡ 6
+    six : (height : ℕ) → least_items (kind_at trees.Range height) ≡ 6
     six zero = refl
     six (suc height) = refl
 
@@ -348,15 +350,15 @@ not_holed start kind height items of_kind leaf no_hole =
     let is : kind ≡ Leaf = of_kind ∙ ap (kind_at start.tree.kind) leaf in
     ends_at_last 0 items ∙ (sym (ap (λ (k : RowKind). holed_run k items) is) ∙ no_hole)
 
-module _ (start : Start) (w : Work) (s : Sheet) (kind : RowKind) (left right : List PathStep) (depth height : ℕ) (items : List Item) (may : MayWiden start w s kind left right depth height items) where
+module _ (start : Start) (w : Work) (s : Sheet) (kind : RowKind) (left right : List PathStep) (depth height : ℕ) (items : List Item) (may : MayTakeIn start w s.tree kind left right depth height items) where
   six_of : short_run kind items ≡ false → 6 ≤ length items
-  six_of not = let many = ltb-false (length items) (least_items_TODO kind) not in let six = least_six start w kind height may.gathered.holds may.of_kind in omega arith
+  six_of not = let many = ltb-false (length items) (least_items kind) not in let six = least_six start w kind height may.gathered.holds may.of_kind in omega arith
 
   few_of : short_run kind items ≡ true → length items ≤ most_before_hole start.tree.table.width
-  few_of short = let few = ltb-true (length items) (least_items_TODO kind) short in let six = least_six start w kind height may.gathered.holds may.of_kind in let slots = leaf_slots start.tree.table.width in omega arith
+  few_of short = let few = ltb-true (length items) (least_items kind) short in let six = least_six start w kind height may.gathered.holds may.of_kind in let slots = leaf_slots start.tree.table.width in omega arith
 
   -- nothing is wanted
-  pub wide_already : (short_run kind items || holed_run kind items) ≡ false → IsWidened start w left right depth height items
+  pub wide_already : (short_run kind items || holed_run kind items) ≡ false → IsTakenIn start w left right depth height items
   wide_already not =
       let both = or_false (short_run kind items) (holed_run kind items) not in
       stays_wide start w s kind left right depth height items may (inl (six_of both.0)) (λ leaf more. not_holed start kind height items may.of_kind leaf both.1)
@@ -375,12 +377,12 @@ module _ (start : Start) (w : Work) (s : Sheet) (kind : RowKind) (left right : L
       (may.ends leaf more)) (or_true (short_run kind items) (holed_run kind items) wanting)
 
   -- none stands behind, and the items are enough
-  pub last_and_enough : (step_at right depth).max ≡ top_of start.tree → short_run kind items ≡ false → IsWidened start w left right depth height items
+  pub last_and_enough : (step_at right depth).max ≡ top_of start.tree → short_run kind items ≡ false → IsTakenIn start w left right depth height items
   last_and_enough last not = stays_wide start w s kind left right depth height items may (inl (six_of not)) (λ leaf more. absurd (omega arith))
 
   pub few_ahead : short_run kind items ≡ true → length items ≤ most_before_hole start.tree.table.width
   few_ahead short = few_of short
 
   -- none stands behind nor before
-  pub alone : (step_at right depth).max ≡ top_of start.tree → (step_at left depth).min ≡ 0 → IsWidened start w left right depth height items
+  pub alone : (step_at right depth).max ≡ top_of start.tree → (step_at left depth).min ≡ 0 → IsTakenIn start w left right depth height items
   alone last first = stays_wide start w s kind left right depth height items may (inr (first, last)) (λ leaf more. absurd (omega arith))

@@ -19,7 +19,7 @@ use Rattle.mt_splice.specs.Work.{Start, Work, now, rows_at, times_in, IsUsed, Is
 use Rattle.mt_splice.specs.Replaced.{IsHalfReplaced}
 use Rattle.mt_splice.specs.Stretches.{IsStretch}
 use Rattle.mt_splice.specs.Burying.{AreBuried}
-use Rattle.mt_splice.specs.Climbs.{begin_of, end_of, Gathered, AreWritten, Climbed}
+use Rattle.mt_splice.specs.Climbs.{begin_of, behind_of, Gathered, AreWritten, Climbed}
 use Rattle.mt_splice.proofs.Splits.{split_same}
 use Rattle.mt_splice.proofs.NewLevels.{NewLevel, run_between, level_holds, half_up, half_leaves}
 use Rattle.mt_splice.proofs.Moments.{row_stays, keeps_more, still_used, still_half, holds_later}
@@ -108,14 +108,14 @@ module _ (start : Start) (s s₁ s₂ : Work) (height : ℕ) (spans rows : List 
 
 -- the level from a stretch of which the spans were written in new rows
 module _ (start : Start) (s s₁ s₂ : Work) (left right : List PathStep) (depth height : ℕ) (run rows : List Span)
-    (gathered : Gathered start s left right depth height run) (written : AreWritten start s s₁ height run rows) (buried : AreBuried start s₁ s₂ depth height (begin_of left depth) (end_of right depth)) where
+    (gathered : Gathered start s left right depth height run) (written : AreWritten start s s₁ height run rows) (buried : AreBuried start s₁ s₂ depth height (begin_of left depth) (behind_of right depth)) where
   keeps_all : Keeps start s s₂
   keeps_all = keeps_more start s s₁ s₂ written.keeps buried.keeps
 
   new_level : NewLevel start s₂ depth height
   new_level = record {
     lo = begin_of left depth;
-    hi = end_of right depth;
+    hi = behind_of right depth;
     front = gathered.front;
     old = gathered.old;
     back = gathered.back;
@@ -125,7 +125,7 @@ module _ (start : Start) (s s₁ s₂ : Work) (left right : List PathStep) (dept
     levels = gathered.levels;
     stretch = gathered.stretch;
     hold = still_hold start s s₁ s₂ height run rows written buried.keeps;
-    fills = written.fills (begin_of left depth) (end_of right depth) gathered.fills;
+    fills = written.fills (begin_of left depth) (behind_of right depth) gathered.fills;
     lawful = still_lawful start s s₁ s₂ height run rows written buried.keeps;
   }
 
@@ -134,12 +134,12 @@ module _ (start : Start) (s s₁ s₂ : Work) (left right : List PathStep) (dept
 
   buries_then : Adds height gathered.old s.gone s₂.gone
   buries_then = λ p.
-      let same = stretch_once start.tree depth (begin_of left depth) (end_of right depth) buried.front buried.old buried.back gathered.front gathered.old gathered.back buried.stretch gathered.stretch in
+      let same = stretch_once start.tree depth (begin_of left depth) (behind_of right depth) buried.front buried.old buried.back gathered.front gathered.old gathered.back buried.stretch gathered.stretch in
       buried.gone p ∙ (λ i. tally (p height) (same.1 i) + passing p (written.gone i))
 
 module _ (start : Start) (s s₁ s₂ : Work) (left right : List PathStep) where
   abbrev Parts : ℕ → ℕ → List Span → List Span → Type 0
-  Parts depth height run rows = (gathered : Gathered start s left right depth height run) × AreWritten start s s₁ height run rows × AreBuried start s₁ s₂ depth height (begin_of left depth) (end_of right depth)
+  Parts depth height run rows = (gathered : Gathered start s left right depth height run) × AreWritten start s s₁ height run rows × AreBuried start s₁ s₂ depth height (begin_of left depth) (behind_of right depth)
 
   abbrev level_of : (depth height : ℕ) (run rows : List Span) → Parts depth height run rows → NewLevel start s₂ depth height
   level_of depth height run rows parts = new_level start s s₁ s₂ left right depth height run rows parts.0 parts.1 parts.2
@@ -168,7 +168,7 @@ module _ (start : Start) (s s₁ s₂ : Work) (left right : List PathStep) where
   )
 
 pub level_replaced : (start : Start) (s s₁ s₂ : Work) (left right : List PathStep) (depth height : ℕ) (run rows : List Span) → Gathered start s left right depth height run → AreWritten start s s₁ height run rows
-    → AreBuried start s₁ s₂ depth height (begin_of left depth) (end_of right depth) → Climbed start s₂ left right depth height rows
+    → AreBuried start s₁ s₂ depth height (begin_of left depth) (behind_of right depth) → Climbed start s₂ left right depth height rows
 level_replaced start s s₁ s₂ left right depth height run rows gathered written buried =
     let holds = holds_later start s₁ s₂ buried.keeps buried.taken (holds_written start s s₁ height run rows gathered.holds written) in
     let all : AllByRecursion (IsUsed s₂ height) (gathered.front ++ (gathered.old ++ gathered.back)) = subst (AllByRecursion (IsUsed s₂ height)) gathered.stretch.parts
@@ -181,7 +181,7 @@ level_replaced start s s₁ s₂ left right depth height run rows gathered writt
       old = gathered.old;
       back = gathered.back;
       stretch = gathered.stretch;
-      fills = written.fills (begin_of left depth) (end_of right depth) gathered.fills;
+      fills = written.fills (begin_of left depth) (behind_of right depth) gathered.fills;
       gapless = written.gapless;
       taken = subst (λ (seen : List Seen). AllByRecursion (λ (x : Span). 1 ≤ passing (is_row_of (row_in x.word)) seen) rows) (sym buried.taken) (are_taken start s s₁ height run rows written);
       half = half_then start s s₁ s₂ left right depth height run rows (gathered, written, buried);

@@ -14,8 +14,9 @@ use Rattle.mt_layout.specs.Spans.{spans_from}
 use Rattle.mt_layout.proofs.NameLaws.{named_kind-name_at}
 use Rattle.mt_layout.proofs.OwnColumns.{same_items}
 use Rattle.mt_layout.proofs.ReadBack.{reads_back, row_words-hold}
-use Rattle.mt_rows.specs.Spans.{Table, column, slots_of, gaps_of, spans_by, spans_in}
-use Rattle.mt_rows.specs.Laws.{items_in, words_in}
+use Rattle.mt_rows.specs.Spans.{Table, column, spans_by, spans_in}
+use Rattle.mt_layout.specs.Sizes.{slots_of, gaps_of}
+use Rattle.mt_rows.specs.Laws.{items_in, item_words}
 use Rattle.mt_rows.proofs.Frames.{is_layout}
 use Rattle.mt_splice.specs.Writes.{no_parent, new_words}
 
@@ -50,7 +51,7 @@ module _ (t : Table) (kind : RowKind) (row : ℕ) (items : List Item) (new : IsN
   pub new_spans : (first gap : ℕ) → spans_in t (new_span first gap) ≡ spans_from first items
   new_spans first gap = ap (λ (k : Option RowKind). spans_by t k (new_span first gap)) new_named ∙ ap (spans_from first) (new_items first gap)
 
-  pub new_unused : (first gap c : ℕ) → c < columns t.width → column t (row_in (name_at row kind)) c ≡ slice_index (words_in t kind (new_span first gap)) c
+  pub new_unused : (first gap c : ℕ) → c < columns t.width → column t (row_in (name_at row kind)) c ≡ slice_index (item_words t kind (new_span first gap)) c
   new_unused first gap c within =
       let parent : column t (row_in (name_at row kind)) 0 ≡ no_parent = ap (λ (r : ℕ). column t r 0) new_number ∙ new.own 0 (omega arith) in
       ap (λ (r : ℕ). column t r c) new_number ∙ new.own c within

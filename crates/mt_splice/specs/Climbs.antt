@@ -20,8 +20,8 @@ use Rattle.mt_splice.specs.Stretches.{IsStretch, ArePaths, spans_on}
 abbrev pub begin_of : List PathStep → ℕ → ℕ
 begin_of left depth = (step_at left depth).min
 
-abbrev pub end_of : List PathStep → ℕ → ℕ
-end_of right depth = (step_at right depth).max + 1
+abbrev pub behind_of : List PathStep → ℕ → ℕ
+behind_of right depth = (step_at right depth).max + 1
 
 -- what stands now in a path's row of a depth and a height
 abbrev pub spans_now : Start → Work → List PathStep → ℕ → ℕ → List Span
@@ -29,7 +29,7 @@ spans_now start s path depth height = spans_on (now start s).table (kind_at star
 
 -- the row behind the right path's, and the row ahead of the left path's, by the paths that lead to them
 abbrev pub IsPathBehind : Start → List PathStep → ℕ → List PathStep → Type 0
-IsPathBehind start right depth right' = right' ≡ path_in start.tree.table start.tree.root (end_of right depth)
+IsPathBehind start right depth right' = right' ≡ path_in start.tree.table start.tree.root (behind_of right depth)
 
 abbrev pub IsPathAhead : Start → List PathStep → ℕ → List PathStep → Type 0
 IsPathAhead start left depth left' = left' ≡ path_in start.tree.table start.tree.root (begin_of left depth - 1)
@@ -38,10 +38,6 @@ IsPathAhead start left depth left' = left' ≡ path_in start.tree.table start.tr
 abbrev pub between_slots : Start → Work → List PathStep → List PathStep → ℕ → ℕ → List Span → List Span
 between_slots start s left right depth height new =
     take (step_at left depth).slot (spans_now start s left depth height) ++ (new ++ drop ((step_at right depth).slot + 1) (spans_now start s right depth height))
-
--- no span has a gap, as in a tree of ranges
-abbrev pub Gapless : List Span → Type 0
-Gapless xs = AllByRecursion (λ (x : Span). x.gap ≡ 0) xs
 
 -- spans that rows of a height may hold: in leaves no two holes follow each other, and no entry is reserved
 abbrev pub MayBeIn : ℕ → List Span → Type 0
@@ -67,9 +63,8 @@ pub record Gathered (start : Start) (s : Work) (left right : List PathStep) (dep
   pub front : List Span
   pub old : List Span
   pub back : List Span
-  pub stretch : IsStretch start.tree depth (begin_of left depth) (end_of right depth) front old back
-  pub fills : Fills (begin_of left depth) (end_of right depth) run
-  pub gapless : Gapless run
+  pub stretch : IsStretch start.tree depth (begin_of left depth) (behind_of right depth) front old back
+  pub fills : Fills (begin_of left depth) (behind_of right depth) run
   pub fit : MayBeIn height run
   pub level : MayStandIn start s depth height (expand start.tree.table front ++ (run ++ expand start.tree.table back))
 
@@ -78,7 +73,6 @@ pub record AreWritten (start : Start) (s s' : Work) (height : ℕ) (spans rows :
   pub hold : expand (now start s').table rows ≡ spans
   pub fills : (lo hi : ℕ) → Fills lo hi spans → Fills lo hi rows
   pub lawful : AllByRecursion (IsRow (now start s') height) rows
-  pub gapless : Gapless rows
   pub were_free : AllByRecursion (λ (x : Span). s.used (row_in x.word) ≡ false) rows
   pub used : AllByRecursion (IsUsed s' height) rows
   pub keeps : Keeps start s s'
@@ -93,9 +87,8 @@ pub record Climbed (start : Start) (s : Work) (left right : List PathStep) (dept
   pub front : List Span
   pub old : List Span
   pub back : List Span
-  pub stretch : IsStretch start.tree depth (begin_of left depth) (end_of right depth) front old back
-  pub fills : Fills (begin_of left depth) (end_of right depth) new
-  pub gapless : Gapless new
+  pub stretch : IsStretch start.tree depth (begin_of left depth) (behind_of right depth) front old back
+  pub fills : Fills (begin_of left depth) (behind_of right depth) new
   pub taken : AllByRecursion (IsTaken s height) new
   pub half : IsHalfReplaced start.tree s.words start.map s.taken s.gone height (rows_at start.tree depth) (front ++ (new ++ back))
   pub used : Levels (IsUsed s) (now start s).table height (front ++ (new ++ back))

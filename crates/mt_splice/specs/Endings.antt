@@ -5,13 +5,14 @@ use Rattle.mt_layout.specs.Columns.{slot_column}
 use Rattle.mt_layout.specs.declared.names.RowKind.{RowKind}
 use Rattle.mt_layout.specs.Rows.{row_in}
 use Rattle.mt_layout.specs.declared.spans.Span.{Span}
-use Rattle.mt_rows.specs.Spans.{base_of, slots_of, spans_in}
+use Rattle.mt_rows.specs.Spans.{base_of, spans_in}
 use Rattle.mt_rows.specs.Laws.{Tree}
-use Rattle.mt_rows.specs.Sheet as sheet
+use Rattle.mt_rows.specs.Sheet.{Rooted}
 use Rattle.mt_rows.specs.Publish.{StandsAt, SameHoles, IsSlotOf}
 use Rattle.mt_rows.specs.Replacement.{IsSlotAt}
 use Rattle.mt_path.specs.declared.paths.PathStep.{PathStep}
 use Rattle.mt_splice.specs.Work.{tree_with}
+use Rattle.mt_layout.specs.Sizes.{slots_of}
 
 -- the tree with another root word
 abbrev pub with_root : Tree → ℕ → Tree
@@ -21,9 +22,9 @@ with_root t word = record { rows = t.rows; kind = t.kind; table = t.table; root 
 abbrev pub with_step : Tree → RowKind → PathStep → ℕ → Tree
 with_step t kind step word = tree_with t (slice_set t.table.words (base_of t.table step.row + slot_column (slots_of t.table.width kind) step.slot) word)
 
--- the words and the root word of a tree
-abbrev pub words_of : Tree → sheet.Tree
-words_of t = record { table = t.table; root = t.root }
+-- the rows, the words and the root word of a tree
+abbrev pub words_of : Tree → Rooted
+words_of t = record { rows = t.rows; table = t.table; root = t.root }
 
 abbrev pub column_of : Tree → RowKind → PathStep → ℕ
 column_of t kind step = slot_column (slots_of t.table.width kind) step.slot

@@ -3,7 +3,6 @@
 -- of children that have moved.
 use Rattle.std.specs.Prelude.{◌≡◌, ◌≢◌, ℕ, suc, ◌+◌, ◌-◌, ◌*◌, ◌<◌, ◌≤◌, true, false, Bool, List, [], Option, Some, None, length}
 use Rattle.std.specs.List.{slice_get}
-use Rattle.mt_base.specs.declared.kinds.Kind.TheVariants as trees
 use Rattle.mt_base.specs.declared.ranges.Range.{Range}
 use Rattle.mt_base.specs.declared.calls.Call.{Call}
 use Rattle.mt_base.specs.declared.replies.Reply.{Reply}
@@ -18,18 +17,19 @@ use Rattle.mt_free.specs.Book.{Book, IsBook}
 use Rattle.mt_rows.specs.declared.rows.Life.TheVariants.{Live}
 use Rattle.mt_rows.specs.declared.rows.Place.{Place}
 use Rattle.mt_rows.specs.declared.rows.Place.TheVariants.{Root, Slot}
-use Rattle.mt_rows.specs.Spans.{column, slots_of}
+use Rattle.mt_rows.specs.Spans.{column}
 use Rattle.mt_rows.specs.Levels.{map_of, is_row_of}
 use Rattle.mt_rows.specs.Trees.{height_in}
 use Rattle.mt_rows.specs.Laws.{Tree, Stands, kind_at}
 use Rattle.mt_rows.specs.Sheet.{Sheet, IsPlace, life_of, is_buried}
-use Rattle.mt_rows.specs.Publish.{tree_as, map_by, IsLawfulOf, with_published}
+use Rattle.mt_rows.specs.Publish.{tree_as, map_by, with_published}
 use Rattle.mt_rows.specs.Replacement.{root_of, IsSlotAt}
 use Rattle.mt_splice.specs.declared.writes.NewRow.{NewRow}
 use Rattle.mt_splice.specs.Seen.{Seen, passing}
 use Rattle.mt_splice.specs.Work.{Start, Work, now, times_in, Holds}
 use Rattle.mt_splice.specs.Writes.{child_row, AreChildren}
-use Rattle.mt_splice.specs.Progress.{Before, IsBefore, IsProgress, is_taken, new_rows_of}
+use Rattle.mt_splice.specs.Progress.{Before, IsCase, IsProgress, is_taken, new_rows_of}
+use Rattle.mt_layout.specs.Sizes.{slots_of}
 
 -- ---- a tree of a height, or the empty tree, which has none
 
@@ -81,33 +81,22 @@ IsTop w old (Some h) word = is_taken w (row_in word) ≡ true
 IsTop w (Some h) None word = word ≡ 0
 IsTop w None None word = ⊥
 
--- what the end of a replacement looks back to, and the heights of the two trees
-pub record End : Type 0 where
-  pub before : Before
-  pub start : Start
-  pub work : Work
-  pub book : Book
-  pub old : Option ℕ
-  pub new : Option ℕ
-
 -- All new rows are written and all old rows are buried; one word is still to be stored, and then the children of the new
 -- inner rows are to be tended.
-pub record MayEnd (e : End) (s : Sheet) (made : List NewRow) (place : Place) (word : ℕ) (call : Call) (reply : Reply) : Type 0 where
-  pub range : e.before.kind ≡ trees.Range
-  pub in_flight : e.before.sheet.in_flight ≡ true
-  pub unpublished : e.before.sheet.published ≡ false
-  pub numbered : e.before.number ≡ e.before.sheet.ended + 1
-  pub was : IsBefore e.before e.start
-  pub lawful : IsLawfulOf e.before.sheet.tree e.before.kind
-  pub progress : IsProgress e.before s e.book e.work
-  pub sound : IsBook e.book
-  pub few : length e.work.taken ≤ 3 * height_in e.before.sheet.tree.table e.before.sheet.tree.root + 1
-  pub answer : acted e.before.kind (map_by e.before.sheet.tree) call ≡ (e.start.map, reply)
-  pub holds : HoldsAs e.start e.work e.old
-  pub replaced : IsReplacedAs e.start.tree (tree_as e.before.kind e.before.sheet.tree.rows (with_published s.tree place word)) e.start.map e.work.taken e.work.gone e.old e.new
-  pub at : IsEndPlace e.start e.work e.old place
-  pub top : IsTop e.work e.old e.new word
-  pub inner : made ≡ new_rows_of s.tree.table e.work.taken
+pub record MayPublishEnd (b : Before) (start : Start) (s : Sheet) (book : Book) (inner : List NewRow) (place : Place) (word : ℕ) (call : Call) (reply : Reply) : Type 0 where
+  pub work : Work
+  -- the heights of the two trees
+  pub old : Option ℕ
+  pub new : Option ℕ
+  pub case : IsCase b start
+  pub progress : IsProgress b s book work
+  pub few : length work.taken ≤ 3 * height_in b.sheet.tree.table b.sheet.tree.root + 1
+  pub answer : acted b.kind (map_by b.sheet.tree) call ≡ (start.map, reply)
+  pub holds : HoldsAs start work old
+  pub replaced : IsReplacedAs start.tree (tree_as b.kind (with_published s.tree place word)) start.map work.taken work.gone old new
+  pub at : IsEndPlace start work old place
+  pub top : IsTop work old new word
+  pub inner_rows : inner ≡ new_rows_of s.tree.table work.taken
 
 -- ---- parent words
 
@@ -120,16 +109,16 @@ pub record OnlyParents (s s' : Sheet) : Type 0 where
   pub kept : (r c : ℕ) → 0 < c → c < columns s.tree.table.width → column s'.tree.table r c ≡ column s.tree.table r c
 
 -- inner rows whose children may be tended, all of them other rows
-pub record MayTendRows (s : Sheet) (kind : RowKind) (made : List NewRow) : Type 0 where
-  pub each : (i : ℕ) (n : NewRow) → slice_get made i ≡ Some n → AreChildren s kind n.row n.count
-  pub apart : (i j : ℕ) (n m : NewRow) (slot slot' : ℕ) → i < j → slice_get made i ≡ Some n → slice_get made j ≡ Some m → slot < n.count → slot' < m.count
+pub record MayTendRows (s : Sheet) (kind : RowKind) (new_inner_rows : List NewRow) : Type 0 where
+  pub each : (i : ℕ) (n : NewRow) → slice_get new_inner_rows i ≡ Some n → AreChildren s kind n.row n.count
+  pub apart : (i j : ℕ) (n m : NewRow) (slot slot' : ℕ) → i < j → slice_get new_inner_rows i ≡ Some n → slice_get new_inner_rows j ≡ Some m → slot < n.count → slot' < m.count
       → child_row s.tree.table kind n.row slot ≢ child_row s.tree.table kind m.row slot'
 
 -- the parent words of all their children name row and slot, and nothing else has changed
-pub record AreRowsTended (s s' : Sheet) (kind : RowKind) (made : List NewRow) : Type 0 where
+pub record AreRowsTended (s s' : Sheet) (kind : RowKind) (new_inner_rows : List NewRow) : Type 0 where
   pub only : OnlyParents s s'
-  pub children : (i : ℕ) (n : NewRow) (slot : ℕ) → slice_get made i ≡ Some n → slot < n.count → column s'.tree.table (child_row s.tree.table kind n.row slot) 0 ≡ parent_at n.row slot
-  pub others : (r : ℕ) → ((i : ℕ) (n : NewRow) (slot : ℕ) → slice_get made i ≡ Some n → slot < n.count → child_row s.tree.table kind n.row slot ≢ r) → column s'.tree.table r 0 ≡ column s.tree.table r 0
+  pub children : (i : ℕ) (n : NewRow) (slot : ℕ) → slice_get new_inner_rows i ≡ Some n → slot < n.count → column s'.tree.table (child_row s.tree.table kind n.row slot) 0 ≡ parent_at n.row slot
+  pub others : (r : ℕ) → ((i : ℕ) (n : NewRow) (slot : ℕ) → slice_get new_inner_rows i ≡ Some n → slot < n.count → child_row s.tree.table kind n.row slot ≢ r) → column s'.tree.table r 0 ≡ column s.tree.table r 0
 
 -- the row that was published in a slot may be tended
 pub record MayTendTop (s : Sheet) (row col word : ℕ) : Type 0 where

@@ -2,8 +2,11 @@ pub mod Beginnings
 pub mod Between
 pub mod Burying
 pub mod Climbs
+pub mod Decisions
 pub mod Endings
 pub mod Ends
+pub mod Entries
+pub mod Kept
 pub mod Levels
 pub mod Progress
 pub mod Publishing

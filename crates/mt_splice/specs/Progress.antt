@@ -9,12 +9,13 @@ use Rattle.mt_rows.specs.declared.rows.Life.TheVariants.{Draft}
 use Rattle.mt_rows.specs.Spans.{Table, column, spans_in}
 use Rattle.mt_rows.specs.Levels.{is_row_of}
 use Rattle.mt_rows.specs.Sheet.{Sheet, IsWhole, life_of, is_buried}
-use Rattle.mt_rows.specs.Publish.{tree_as, is_reached, LiveAreReached, NoneBuried}
+use Rattle.mt_rows.specs.Publish.{tree_as, IsTold, is_reached}
 use Rattle.mt_splice.specs.declared.writes.NewRow.{NewRow}
 use Rattle.mt_splice.specs.Seen.{Seen, passing}
 use Rattle.mt_splice.specs.Work.{Start, Work}
 use Rattle.mt_splice.specs.Writes.{no_parent}
-use Rattle.mt_splice.specs.Splice.{IsBookOf}
+use Rattle.mt_splice.specs.Kept.{MayBeReplaced, IsKept, IsUnpublished}
+use Rattle.mt_layout.specs.Sizes.{first_row}
 
 -- the rows and the book as they were, and the number of the call
 pub record Before : Type 0 where
@@ -23,13 +24,18 @@ pub record Before : Type 0 where
   pub kind : Kind
   pub number : ℕ
 
--- they may be replaced: all live rows are reached, none is buried, and the book is of these rows
+-- They are kept, and the start is their tree.
 pub record IsBefore (b : Before) (start : Start) : Type 0 where
   pub whole : IsWhole b.sheet
-  pub tree : start.tree ≡ tree_as b.kind b.sheet.tree.rows b.sheet.tree
-  pub live : LiveAreReached b.sheet.tree b.sheet.lives
-  pub none_buried : NoneBuried b.sheet.tree.rows b.sheet.buried
-  pub book : IsBookOf b.sheet.tree b.sheet.lives b.sheet.cleared b.book b.number
+  pub tree : start.tree ≡ tree_as b.kind b.sheet.tree
+  pub kept : IsKept b.kind b.sheet.tree b.sheet.lives b.sheet.buried b.sheet.cleared b.book b.number
+
+-- a call on them is in flight and has published nothing
+pub record IsCase (b : Before) (start : Start) : Type 0 where
+  pub range : MayBeReplaced b.kind
+  pub told : IsTold b.sheet.kind b.kind
+  pub unpublished : IsUnpublished b.sheet.in_flight b.sheet.published b.sheet.ended b.number
+  pub was : IsBefore b start
 
 abbrev pub row_seen : Seen → ℕ
 row_seen s = row_in s.at.word

@@ -8,14 +8,10 @@ use Rattle.mt_layout.specs.declared.names.RowKind.{RowKind}
 use Rattle.mt_layout.specs.declared.names.RowKind.TheVariants.{Leaf}
 use Rattle.mt_layout.specs.declared.spans.Span.{Span}
 use Rattle.mt_layout.specs.Spans.{leaf_range, Fills, EndsFull}
-use Rattle.mt_rows.specs.Spans.{slots_of}
 use Rattle.mt_rows.specs.Laws.{Tree, top_of, kind_at, least_of}
 use Rattle.mt_leaf.specs.Edits.{ends_with_hole}
-use Rattle.mt_splice.specs.Climbs.{Gapless, MayBeIn}
-
--- how many items are gathered at once: the room of a `Run`
-abbrev pub run_room : ℕ
-run_room = 72
+use Rattle.mt_splice.specs.Climbs.{MayBeIn}
+use Rattle.mt_layout.specs.Sizes.{slots_of, run_room}
 
 -- The most items that are to stand in the rows of a level: those of two full rows but one of each, and three in the place
 -- of these two. In leaves the three are what a store writes and what it leaves in front and behind; in inner rows they are
@@ -53,6 +49,5 @@ pub record MayBeCut (t : Tree) (height lo hi : ℕ) (run : List Span) : Type 0 w
   pub some : 1 ≤ length run
   pub few : length run ≤ most_in_three t.table.width (kind_at t.kind height)
   pub least : least_of t height (span_to lo hi) ≤ length run
-  pub gapless : Gapless run
   pub fit : MayBeIn height run
   pub leaves : height ≡ 0 → MayBeLeaves t hi run

@@ -1,9 +1,8 @@
 -- What a replacement of nodes is asked for, and what it leaves.
 -- Source: the kernel's lib/maple_tree.c, mas_wr_spanning_store, mas_split and mas_rebalance; that every such store is
 -- published by one store of one word is this project's.
-use Rattle.std.specs.Prelude.{◌≡◌, ◌≢◌, ◌⊎◌, ℕ, ◌+◌, ◌-◌, ◌*◌, ◌<◌, ◌≤◌, ◌==◌, true, false, List, [], ◌∷◌, ◌++◌, All, Contains, length, map, if◌then◌else◌}
+use Rattle.std.specs.Prelude.{◌≡◌, ◌≢◌, ◌⊎◌, ℕ, ◌+◌, ◌*◌, ◌<◌, ◌≤◌, ◌==◌, true, false, List, [], ◌∷◌, ◌++◌, All, Contains, length, map, if◌then◌else◌}
 use Rattle.mt_base.specs.declared.kinds.Kind.{Kind}
-use Rattle.mt_base.specs.declared.kinds.Kind.TheVariants as trees
 use Rattle.mt_base.specs.declared.ranges.Range.{Range}
 use Rattle.mt_base.specs.declared.calls.Call.{Call}
 use Rattle.mt_base.specs.declared.replies.Reply.{Reply}
@@ -13,24 +12,25 @@ use Rattle.mt_base.specs.Call.{acted}
 use Rattle.mt_base.specs.Width.{columns, greatest}
 use Rattle.mt_layout.specs.declared.items.Item.{Item}
 use Rattle.mt_layout.specs.declared.spans.Span.{Span}
-use Rattle.mt_layout.specs.declared.names.RowKind.TheVariants.{Leaf}
+use Rattle.mt_layout.specs.Sizes.{first_row}
 use Rattle.mt_layout.specs.Rows.{row_in, dead_mark}
 use Rattle.mt_layout.specs.Spans.{spans_from}
-use Rattle.mt_free.specs.Book.{Book, Held, IsBook, IsOut}
-use Rattle.mt_rows.specs.declared.rows.Life.{Life}
-use Rattle.mt_rows.specs.declared.rows.Life.TheVariants.{New, Draft, Live, Dead}
+use Rattle.mt_free.specs.Book.{Book}
+use Rattle.mt_rows.specs.declared.rows.Life.TheVariants.{Live, Dead}
 use Rattle.mt_rows.specs.declared.rows.Place.{Place}
 use Rattle.mt_rows.specs.declared.rows.Place.TheVariants.{Root, Slot}
-use Rattle.mt_rows.specs.Spans.{Table, column, row_spans}
+use Rattle.mt_rows.specs.Spans.{Table, column}
 use Rattle.mt_rows.specs.Levels.{Levels}
 use Rattle.mt_rows.specs.Trees.{height_in}
-use Rattle.mt_rows.specs.Laws as laws
+use Rattle.mt_rows.specs.Laws.{Tree, Stands, ParentLaw}
 use Rattle.mt_rows.specs.Sheet.{Sheet, life_of, word_at}
-use Rattle.mt_rows.specs.Publish.{tree_as, IsTreeOf, IsLawfulOf, map_by, is_reached, IsReached, LiveAreReached, NoneBuried, with_record}
+use Rattle.mt_rows.specs.Publish.{tree_as, IsTold, IsTreeOf, map_by, is_reached, IsReached, LiveAreReached, NoneBuried, with_record}
 use Rattle.mt_rows.specs.Replacement.{root_of}
 use Rattle.mt_leaf.specs.Edits.{edited, starting}
 use Rattle.mt_path.specs.declared.paths.PathStep.{PathStep}
-use Rattle.mt_path.specs.Paths.{path_in, step_at}
+use Rattle.mt_path.specs.Paths.{path_in}
+use Rattle.mt_path.specs.Handles.{last_step, leaf_spans}
+use Rattle.mt_splice.specs.Kept.{MayBeReplaced, IsBookOf, IsKept, IsUnpublished}
 
 -- ---- the store
 
@@ -41,13 +41,6 @@ pub record IsStoreBy (kind : Kind) (top : ℕ) (m : List Range) (call : Call) (r
   pub within : last ≤ top
   pub lawful : reserved entry ≡ false
 
--- the leaf at the end of a path, and what stands in it
-abbrev pub last_step : List PathStep → PathStep
-last_step path = step_at path (length path - 1)
-
-abbrev pub leaf_spans : Table → PathStep → List Span
-leaf_spans t s = row_spans t s.row Leaf s.min s.max
-
 -- what stands in the leaves at the ends of two paths, one behind the other; one hole in the empty tree
 abbrev pub region_of : Table → List PathStep → List PathStep → List Span
 region_of t [] right = record { first = 0; last = greatest t.width; word = 0 } ∷ []
@@ -55,37 +48,16 @@ region_of t (s ∷ left) right =
     let l = last_step (s ∷ left) in let r = last_step right in
     if l.row == r.row then leaf_spans t l else leaf_spans t l ++ starting (l.max + 1) (leaf_spans t r)
 
--- ---- the book beside the rows
-
--- a row that no reader can hold: it was never used, or its death is cleared
-abbrev pub IsSpare : ℕ → Life → Type 0
-IsSpare cleared New = Unit {0}
-IsSpare cleared Draft = ⊥
-IsSpare cleared Live = ⊥
-IsSpare cleared (Dead call) = call ≤ cleared
-
--- the book is of these rows: those that are out are those that are reached, its free rows are spare, and its stamps are
--- below `number`
-pub record IsBookOf (s : Sheet).tree (s : Sheet).lives (s : Sheet).cleared (book : Book) (number : ℕ) : Type 0 where
-  pub sound : IsBook book
-  pub rows : book.rows ≡ s.tree.rows
-  pub out : (row : ℕ) → first_row ≤ row → row < first_row + s.tree.rows → IsOut book row → IsReached s.tree row
-  pub reached : (row : ℕ) → IsReached s.tree row → IsOut book row
-  pub spare : All (λ row. IsSpare s.cleared (life_of s.lives row)) book.free
-  pub stamps : All (λ (h : Held). h.stamp < number) book.held
-
 -- ---- before
 
+-- A call of a tree of this kind is in flight and has published nothing. It changes the map by a store; the paths lead to the
+-- store's ends, and the items are what stands in the leaves there after it. For each level three rows are free, and one more.
 pub record MaySplice (kind : Kind) (s : Sheet) (book : Book) (left right : List PathStep) (items : List Item) (number : ℕ) (call : Call) (reply : Reply) : Type 0 where
-  pub range : kind ≡ trees.Range
+  pub range : MayBeReplaced kind
+  pub told : IsTold s.kind kind
+  pub kept : IsKept kind s.tree s.lives s.buried s.cleared book number
+  pub unpublished : IsUnpublished s.in_flight s.published s.ended number
   pub room : 3 * height_in s.tree.table s.tree.root + 1 ≤ length book.free
-  pub in_flight : s.in_flight ≡ true
-  pub before : s.published ≡ false
-  pub numbered : number ≡ s.ended + 1
-  pub none_buried : NoneBuried s.tree.rows s.buried
-  pub live : LiveAreReached s.tree s.lives
-  pub booked : IsBookOf s.tree s.lives s.cleared book number
-  pub lawful : IsLawfulOf s.tree kind
   pub first : ℕ
   pub last : ℕ
   pub entry : ℕ
@@ -97,37 +69,29 @@ pub record MaySplice (kind : Kind) (s : Sheet) (book : Book) (left right : List 
 
 -- the same of a store whose leaves are still to be read
 pub record MayReplace (kind : Kind) (s : Sheet) (book : Book) (left : List PathStep) (first last entry : ℕ) (number : ℕ) (call : Call) (reply : Reply) : Type 0 where
-  pub range : kind ≡ trees.Range
+  pub range : MayBeReplaced kind
+  pub told : IsTold s.kind kind
+  pub kept : IsKept kind s.tree s.lives s.buried s.cleared book number
+  pub unpublished : IsUnpublished s.in_flight s.published s.ended number
   pub room : 3 * height_in s.tree.table s.tree.root + 1 ≤ length book.free
-  pub in_flight : s.in_flight ≡ true
-  pub before : s.published ≡ false
-  pub numbered : number ≡ s.ended + 1
-  pub none_buried : NoneBuried s.tree.rows s.buried
-  pub live : LiveAreReached s.tree s.lives
-  pub booked : IsBookOf s.tree s.lives s.cleared book number
-  pub lawful : IsLawfulOf s.tree kind
   pub store : IsStoreBy kind (greatest s.tree.table.width) (map_by s.tree) call reply first last entry
   pub some : s.tree.root ≡ 0 → entry ≢ 0
   pub left_path : left ≡ path_in s.tree.table s.tree.root first
 
 -- what the emptying of a tree that is not empty is asked for: no row need be free
 pub record MayClear (kind : Kind) (s : Sheet) (book : Book) (number : ℕ) (call : Call) (reply : Reply) : Type 0 where
-  pub range : kind ≡ trees.Range
-  pub in_flight : s.in_flight ≡ true
-  pub before : s.published ≡ false
-  pub numbered : number ≡ s.ended + 1
-  pub none_buried : NoneBuried s.tree.rows s.buried
-  pub live : LiveAreReached s.tree s.lives
-  pub booked : IsBookOf s.tree s.lives s.cleared book number
-  pub lawful : IsLawfulOf s.tree kind
+  pub range : MayBeReplaced kind
+  pub told : IsTold s.kind kind
+  pub kept : IsKept kind s.tree s.lives s.buried s.cleared book number
+  pub unpublished : IsUnpublished s.in_flight s.published s.ended number
   pub some : s.tree.root ≢ 0
   pub answer : acted kind (map_by s.tree) call ≡ ([], reply)
 
 -- ---- after
 
 -- each child's parent word names its parent and its slot, and the root's is 1
-abbrev pub HasParents : laws.Tree → Type 0
-HasParents t = (t.root ≡ 0) ⊎ ((h : ℕ) × laws.Stands t h × (column t.table (row_in t.root) 0 ≡ 1) × Levels (laws.ParentLaw t) t.table h (root_of t))
+abbrev pub HasParents : Tree → Type 0
+HasParents t = (t.root ≡ 0) ⊎ ((h : ℕ) × Stands t h × (column t.table (row_in t.root) 0 ≡ 1) × Levels (ParentLaw t) t.table h (root_of t))
 
 -- the one store that published was at this place
 abbrev pub WasPublishedAt : Sheet → Sheet → Place → Type 0
@@ -151,7 +115,7 @@ pub record IsBooked (s s' : Sheet) (book book' : Book) (number most : ℕ) : Typ
 pub record IsSpliced (kind : Kind) (s s' : Sheet) (book book' : Book) (number : ℕ) (call : Call) (reply : Reply) (place : Place) : Type 0 where
   pub rest : s' ≡ record s { tree = s'.tree; published = true; lives = s'.lives; buried = s'.buried; records = with_record s call reply; reads = s'.reads }
   pub tree : IsTreeOf s'.tree kind
-  pub parents : HasParents (tree_as kind s'.tree.rows s'.tree)
+  pub parents : HasParents (tree_as kind s'.tree)
   pub map : map_by s'.tree ≡ (acted kind (map_by s.tree) call).0
   pub published : WasPublishedAt s s' place
   pub kept : (row col : ℕ) → (IsReached s'.tree row → IsReached s.tree row) → 0 < col → col < columns s.tree.table.width → place ≢ Slot row col → word_at s'.tree row col ≡ word_at s.tree row col

@@ -2,27 +2,29 @@
 -- Source: the kernel's lib/maple_tree.c, mas_rebalance, which takes the right neighbour first.
 use Rattle.std.specs.Prelude.{◌≡◌, ◌⊎◌, ℕ, suc, ◌-◌, ◌<◌, ◌≤◌, ◌==◌, Bool, false, nat_lt, List, ◌++◌, fold, length, slice_get}
 use Rattle.std.specs.Option.{option_map_or}
+use Rattle.mt_base.specs.declared.widths.Width.{Width}
+use Rattle.mt_base.specs.Width.{kind_width}
 use Rattle.mt_layout.specs.declared.items.Item.{Item}
 use Rattle.mt_layout.specs.declared.names.RowKind.{RowKind}
 use Rattle.mt_layout.specs.declared.names.RowKind.TheVariants.{Leaf, Inner, Gapped}
 use Rattle.mt_layout.specs.Spans.{spans_from, EndsFull}
 use Rattle.mt_leaf.specs.Places.{with_joined}
-use Rattle.mt_rows.specs.Laws.{top_of, kind_at, least_items_TODO}
-use Rattle.mt_rows.specs.Sheet.{Sheet}
-use Rattle.mt_rows.specs.Publish.{AreOfKind}
+use Rattle.mt_rows.specs.Laws.{top_of, kind_at}
+use Rattle.mt_rows.specs.Sheet.{Rooted}
 use Rattle.mt_path.specs.declared.paths.PathStep.{PathStep}
 use Rattle.mt_path.specs.Paths.{step_at}
 use Rattle.mt_splice.specs.Work.{Start, Work, now}
-use Rattle.mt_splice.specs.Climbs.{begin_of, end_of, Gathered}
+use Rattle.mt_splice.specs.Climbs.{begin_of, behind_of, Gathered}
 use Rattle.mt_splice.specs.Endings.{words_of}
 use Rattle.mt_splice.specs.Runs.{most_items, most_before_hole, MayBeCut}
+use Rattle.mt_layout.specs.Sizes.{least_items}
 
 abbrev pub is_hole_at : List Item → ℕ → Bool
 is_hole_at items i = option_map_or (λ (x : Item). x.word == 0) (slice_get items i) false
 
 -- too few items for a row of this kind that is not the root
-abbrev pub short_run : RowKind → List Item → Bool
-short_run kind items = nat_lt (length items) (least_items_TODO kind)
+abbrev pub short_run : Width → RowKind → List Item → Bool
+short_run width kind items = nat_lt (length items) (least_items width kind)
 
 -- items of a leaf that end with a hole
 abbrev pub holed_run : RowKind → List Item → Bool
@@ -37,15 +39,14 @@ beside_items Inner xs ys = xs ++ ys
 beside_items Gapped xs ys = xs ++ ys
 
 -- the rows have the tree's words as they are now
-pub record IsNow (start : Start) (w : Work) (s : Sheet) : Type 0 where
-  pub rows : s.tree.rows ≡ start.tree.rows
-  pub words : s.tree ≡ words_of (now start w)
-  pub of_kind : AreOfKind s.kind s.tree.table.width start.tree.kind
+pub record IsNow (start : Start) (w : Work) (t : Rooted) : Type 0 where
+  pub words : t ≡ words_of (now start w)
+  pub width : t.table.width ≡ kind_width start.tree.kind
 
 -- Few enough items to take in a row beside them, fewer where a leaf may end with a hole; and in inner rows two at the
 -- least where they stand for every index.
-pub record MayWiden (start : Start) (w : Work) (s : Sheet) (kind : RowKind) (left right : List PathStep) (depth height : ℕ) (items : List Item) : Type 0 where
-  pub is_now : IsNow start w s
+pub record MayTakeIn (start : Start) (w : Work) (t : Rooted) (kind : RowKind) (left right : List PathStep) (depth height : ℕ) (items : List Item) : Type 0 where
+  pub is_now : IsNow start w t
   pub of_kind : kind ≡ kind_at start.tree.kind height
   pub gathered : Gathered start w left right depth height (spans_from (begin_of left depth) items)
   pub few : length items ≤ most_items start.tree.table.width (kind_at start.tree.kind height)
@@ -53,8 +54,8 @@ pub record MayWiden (start : Start) (w : Work) (s : Sheet) (kind : RowKind) (lef
   pub two : (h : ℕ) → height ≡ suc h → begin_of left depth ≡ 0 → (step_at right depth).max ≡ top_of start.tree → 2 ≤ length items
 
 -- The items are gathered, and may be cut into rows or stand for every index.
-pub record IsWidened (start : Start) (w : Work) (left right : List PathStep) (depth height : ℕ) (items : List Item) : Type 0 where
+pub record IsTakenIn (start : Start) (w : Work) (left right : List PathStep) (depth height : ℕ) (items : List Item) : Type 0 where
   pub gathered : Gathered start w left right depth height (spans_from (begin_of left depth) items)
-  pub cut : MayBeCut start.tree height (begin_of left depth) (end_of right depth) (spans_from (begin_of left depth) items)
+  pub cut : MayBeCut start.tree height (begin_of left depth) (behind_of right depth) (spans_from (begin_of left depth) items)
       ⊎ ((begin_of left depth ≡ 0) × ((step_at right depth).max ≡ top_of start.tree) × (length items ≤ most_items start.tree.table.width (kind_at start.tree.kind height)))
   pub two : (h : ℕ) → height ≡ suc h → begin_of left depth ≡ 0 → (step_at right depth).max ≡ top_of start.tree → 2 ≤ length items

@@ -1,7 +1,6 @@
 -- What a replacement begins with, and what it has done so far.
 -- Source: this project's own; the kernel keeps the old and the new nodes in lib/maple_tree.c, struct maple_subtree_state.
 use Rattle.std.specs.Prelude.{◌≡◌, ℕ, ◌≤◌, Bool, true, List}
-use Rattle.mt_base.specs.declared.kinds.Kind.TheVariants as trees
 use Rattle.mt_base.specs.declared.ranges.Range.{Range}
 use Rattle.mt_base.specs.Width.{columns}
 use Rattle.mt_layout.specs.declared.spans.Span.{Span}
@@ -11,6 +10,7 @@ use Rattle.mt_rows.specs.Levels.{level, Levels, times, is_row_of, SameColumns}
 use Rattle.mt_rows.specs.Laws.{Tree, Stands}
 use Rattle.mt_rows.specs.Replacement.{root_of}
 use Rattle.mt_splice.specs.Seen.{Seen, passing}
+use Rattle.mt_splice.specs.Kept.{MayBeReplaced}
 
 -- the tree as it was, its height, and the map that is to be
 pub record Start : Type 0 where
@@ -64,7 +64,7 @@ pub record Keeps (start : Start) (s s' : Work) : Type 0 where
 
 -- The tree is one of ranges. Its rows are in use and have the words that they had, and the rows taken are others.
 pub record Holds (start : Start) (s : Work) : Type 0 where
-  pub range : start.tree.kind ≡ trees.Range
+  pub range : MayBeReplaced start.tree.kind
   pub stands : Stands start.tree start.height
   pub used : Levels (IsUsed s) start.tree.table start.height (root_of start.tree)
   pub words : Levels (λ (_ : ℕ) (x : Span). KeepsWords start.tree start.tree.table.words s.words (row_in x.word)) start.tree.table start.height (root_of start.tree)

@@ -8,8 +8,9 @@ use Rattle.mt_layout.specs.Rows.{name_at, row_in, named_row, parent_at}
 use Rattle.mt_layout.specs.Columns.{row_words, items_at, slot_column}
 use Rattle.mt_free.specs.Book.{Book}
 use Rattle.mt_rows.specs.declared.rows.Life.TheVariants.{Draft, Live}
-use Rattle.mt_rows.specs.Spans.{Table, base_of, column, slots_of, gaps_of}
+use Rattle.mt_rows.specs.Spans.{Table, base_of, column}
 use Rattle.mt_rows.specs.Sheet.{Sheet, IsPlace, life_of, is_buried}
+use Rattle.mt_layout.specs.Sizes.{first_row, slots_of, gaps_of}
 
 -- the first columns of a row are these words, and every other row is as before
 pub record AreDrafted (s s' : Sheet) (row : ℕ) (words : List ℕ) : Type 0 where

@@ -1,16 +1,43 @@
 //! The end of a whole tree.
 
 ghost use Rattle.std.specs.Prelude.{◌≡◌, []};
-ghost use Rattle.mt_rows.specs.Publish.{map_by};
 ghost use Rattle.mt_rows.specs.declared.rows.Place.TheVariants.{Root};
+ghost use Rattle.mt_rows.specs.Publish.{map_by};
+ghost use Rattle.mt_splice.specs.Entries.{IsBegunBy};
 ghost use Rattle.mt_splice.specs.Splice.{MayClear, IsSpliced};
 
+use crate::begun::Begun;
+use crate::levels::NewRows;
+use crate::regions::copy_path;
 use crate::replaces::end_empty;
-use arrayvec::ArrayVec;
 use mt_base::{Call, Kind, Reply, top};
 use mt_free::RowBook;
-use mt_path::walk;
+use mt_path::{walk, walk_on};
 use mt_rows::Rows;
+use std::marker::Brand;
+
+/// The same, where what it begins with has a name.
+fn clear_as<R: Rows, B: Begun>(
+    rows: &mut R,
+    book: &mut RowBook,
+    kind: Kind,
+    number: u64,
+    call: &Call,
+    reply: &Reply,
+)
+    requires begun { IsBegunBy B.before B.start kind (R.sheet rows.old) book.old number call.now }
+    requires may { MayClear kind (R.sheet rows.old) book.old number call.now reply.now }
+    ensures spliced { IsSpliced B.before.kind B.before.sheet (R.sheet rows.new) B.before.book book.new B.before.number call.now reply.now Root }
+    ensures none_taken { book.new.free ≡ book.old.free }
+{
+    let left = walk(rows, 0);
+    let mut right = copy_path(&left);
+    let last = top(rows.width());
+    walk_on(rows, &mut right, last);
+    let inner = NewRows::new();
+    let depth = left.len() as u32 - 1;
+    end_empty::<R, B>(rows, book, &inner, &left, &right, depth, number, call, reply);
+}
 
 /// Empties a tree: publishes 0 at the root word, by one store, and retires every row with the call's number. It takes no
 /// row.
@@ -28,11 +55,5 @@ pub fn clear<R: Rows>(
     ensures root { (R.sheet rows.new).tree.root ≡ 0 }
     ensures map { map_by (R.sheet rows.new).tree ≡ [] }
 {
-    rows.size();
-    let left = walk(rows, 0);
-    let last = top(rows.width());
-    let right = walk(rows, last);
-    let made = ArrayVec::new();
-    let depth = left.len() as u32 - 1;
-    end_empty(rows, book, &made, &left, &right, depth, number, call, reply);
+    clear_as::<R, Brand>(rows, book, kind, number, call, reply);
 }

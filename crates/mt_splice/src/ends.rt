@@ -2,21 +2,23 @@
 
 ghost use Rattle.mt_layout.specs.declared.names.RowKind.TheVariants.{Inner};
 ghost use Rattle.mt_splice.specs.Splice.{IsSpliced};
-ghost use Rattle.mt_splice.specs.Ends.{End, MayEnd, MayTendRows, AreRowsTended, MayTendTopAt, IsTopTendedAt};
+ghost use Rattle.mt_splice.specs.Ends.{MayPublishEnd, MayTendRows, AreRowsTended, MayTendTopAt, IsTopTendedAt};
 
+use crate::begun::Begun;
 use crate::tends::tend_children;
 use crate::writes::NewRow;
 use mt_base::{Call, Reply};
-use mt_layout::{RowKind, parent_word, row_of};
-use mt_rows::{Place, Rows, slots};
+use mt_free::RowBook;
+use mt_layout::{RowKind, parent_word, row_of, slots};
+use mt_rows::{Place, Rows};
 
 /// Writes the parent words of the children of these inner rows.
 #[tactic(auto, using(crate::proofs::EndTending::no_rows_tended, crate::proofs::EndTending::children_still))]
-fn tend_rows<R: Rows>(rows: &mut R, kind: RowKind, made: &[NewRow])
-    requires { MayTendRows (R.sheet rows.old) kind made.now }
-    ensures { AreRowsTended (R.sheet rows.old) (R.sheet rows.new) kind made.now }
+fn tend_rows<R: Rows>(rows: &mut R, kind: RowKind, new_inner_rows: &[NewRow])
+    requires { MayTendRows (R.sheet rows.old) kind new_inner_rows.now }
+    ensures { AreRowsTended (R.sheet rows.old) (R.sheet rows.new) kind new_inner_rows.now }
 {
-    for new in made {
+    for new in new_inner_rows {
         tend_children(rows, kind, new.row, new.count);
     }
 }
@@ -38,19 +40,21 @@ fn tend_top<R: Rows>(rows: &mut R, place: Place, word: u64)
     rows.tend(top, 0, parent_word(row, col - slots));
 }
 
-/// Publishes the replacement by one store, and writes the parent words of all rows that have another parent then.
-pub fn publish_at<R: Rows>(
+/// Publishes the replacement by one store, and writes the parent words of all rows that have another parent then. The book
+/// is as it is then.
+pub fn publish_at<R: Rows, B: Begun>(
     rows: &mut R,
+    book: &RowBook,
     place: Place,
     word: u64,
-    made: &[NewRow],
+    inner: &[NewRow],
     call: &Call,
     reply: &Reply,
 )
-    requires { (e : End) × MayEnd e (R.sheet rows.old) made.now place word call.now reply.now }
-    ensures { (e : End) → MayEnd e (R.sheet rows.old) made.now place word call.now reply.now → IsSpliced e.before.kind e.before.sheet (R.sheet rows.new) e.before.book e.book e.before.number call.now reply.now place }
+    requires { MayPublishEnd B.before B.start (R.sheet rows.old) book.now inner.now place word call.now reply.now }
+    ensures { IsSpliced B.before.kind B.before.sheet (R.sheet rows.new) B.before.book book.now B.before.number call.now reply.now place }
 {
     rows.publish(place, word, call, reply);
-    tend_rows(rows, RowKind::Inner, made);
+    tend_rows(rows, RowKind::Inner, inner);
     tend_top(rows, place, word);
 }

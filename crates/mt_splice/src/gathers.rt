@@ -1,27 +1,19 @@
-//! What is to stand in the rows of a level, gathered.
+//! What is to stand in the rows of the next level, gathered.
 
 ghost use Rattle.std.specs.Prelude.{◌≡◌, ◌<◌, ◌≤◌, ◌+◌, ◌++◌, length, take, drop};
 ghost use Rattle.mt_layout.specs.declared.names.RowKind.TheVariants.{Inner};
-ghost use Rattle.mt_rows.specs.Spans.{slots_of};
+ghost use Rattle.mt_layout.specs.Sizes.{first_row, run_room, slots_of};
 ghost use Rattle.mt_rows.specs.Sheet.{OnlyReads};
+ghost use Rattle.mt_splice.specs.Replacing.{MayGather, IsGathered};
 ghost use Rattle.mt_splice.specs.Writes.{items_of_row};
-ghost use Rattle.mt_splice.specs.Runs.{run_room};
 
+use crate::begun::Begun;
 use crate::reads::push_items;
-use mt_layout::{Item, RowKind, Run};
+use crate::regions::{Region, push_all, step_on};
+use mt_layout::{Item, RowKind, Run, slots};
+use mt_leaf::Towards;
 use mt_path::PathStep;
-use mt_rows::{Rows, slots};
-
-/// Appends items, for which there is room.
-pub fn push_all(run: &mut Run, items: &[Item])
-    requires { length run.old.items + length items.now ≤ run_room }
-    ensures { run.new.items ≡ run.old.items ++ items.now }
-{
-    match run.try_extend_from_slice(items) {
-        Ok(()) => {}
-        Err(_) => unreachable!(),
-    }
-}
+use mt_rows::Rows;
 
 /// Appends the items of an inner row of a path that stand behind its slot.
 #[tactic(auto, using(crate::proofs::Gathering::behind_slot))]
@@ -44,25 +36,27 @@ fn push_behind<R: Rows>(rows: &mut R, step: &PathStep, run: &mut Run)
     );
 }
 
-/// The items left of the left path's slot, the new ones, which end at `last`, and those right of the right path's slot.
+/// Fills a run, which may hold other items, with those left of the left path's slot, the new ones, which end at `last`, and
+/// those right of the right path's slot.
 #[tactic(auto, using(crate::proofs::Gathering::items_ahead, crate::proofs::Gathering::none_behind))]
-pub fn gather<R: Rows>(
+fn gather<R: Rows>(
     rows: &mut R,
     left: &PathStep,
     new: &[Item],
     last: u64,
     right: &PathStep,
-) -> Run
+    run: &mut Run,
+)
     requires left_row { (first_row ≤ left.now.row) × (left.now.row < first_row + (R.sheet rows.old).tree.rows) }
     requires right_row { (first_row ≤ right.now.row) × (right.now.row < first_row + (R.sheet rows.old).tree.rows) }
     requires left_slot { left.now.slot ≤ slots_of (R.sheet rows.old).tree.table.width Inner }
     requires few { length new.now ≤ 3 }
     requires more { last < right.now.max → right.now.slot + 1 < length (items_of_row (R.sheet rows.old).tree.table Inner right.now.row right.now.max) }
     requires none { right.now.max ≤ last → length (items_of_row (R.sheet rows.old).tree.table Inner right.now.row right.now.max) ≤ right.now.slot + 1 }
-    ensures items { let t = (R.sheet rows.old).tree.table in result.items ≡ take left.now.slot (items_of_row t Inner left.now.row left.now.max) ++ (new.now ++ drop (right.now.slot + 1) (items_of_row t Inner right.now.row right.now.max)) }
+    ensures items { let t = (R.sheet rows.old).tree.table in run.new.items ≡ take left.now.slot (items_of_row t Inner left.now.row left.now.max) ++ (new.now ++ drop (right.now.slot + 1) (items_of_row t Inner right.now.row right.now.max)) }
     ensures rest { OnlyReads (R.sheet rows.old) (R.sheet rows.new) }
 {
-    let mut run = Run::new();
+    run.clear();
     push_items(
         rows,
         RowKind::Inner,
@@ -70,11 +64,42 @@ pub fn gather<R: Rows>(
         left.max,
         0,
         left.slot,
-        &mut run,
+        run,
     );
-    push_all(&mut run, new);
+    push_all(run, new);
     if last < right.max {
-        push_behind(rows, right, &mut run);
+        push_behind(rows, right, run);
     }
-    run
+}
+
+/// Where the change stands among the items of a row above: at their end, at their beginning, or between.
+fn towards_of(left: &PathStep, last: u64, right: &PathStep) -> Towards {
+    if right.max <= last {
+        Towards::Last
+    } else if left.slot == 0 {
+        Towards::First
+    } else {
+        Towards::Middle
+    }
+}
+
+/// Fills a region with what is to stand in the rows of a level: the new rows of the level below, and what stands beside
+/// them.
+pub fn parent_items<R: Rows, B: Begun>(
+    rows: &mut R,
+    region: &mut Region,
+    new: &[Item],
+    depth: u32,
+)
+    requires { MayGather B.start (R.sheet rows.old).tree region.old.left.items region.old.right.items depth new.now }
+    ensures level { IsGathered B.start (R.sheet rows.old).tree region.old.left.items region.old.right.items depth new.now region.new.run.items }
+    ensures left { region.new.left ≡ region.old.left }
+    ensures right { region.new.right ≡ region.old.right }
+    ensures rest { OnlyReads (R.sheet rows.old) (R.sheet rows.new) }
+{
+    let left = step_on(&region.left, depth);
+    let right = step_on(&region.right, depth);
+    let last = new[new.len() - 1].last;
+    gather(rows, &left, new, last, &right, &mut region.run);
+    region.towards = towards_of(&left, last, &right);
 }

@@ -14,23 +14,25 @@ ghost use Rattle.mt_layout.specs.declared.spans.Span.{Span};
 ghost use Rattle.mt_leaf.specs.Edits.{edited, ends_with_hole};
 ghost use Rattle.mt_path.specs.Paths.{path_in, row_on, step_at};
 ghost use Rattle.mt_path.specs.declared.paths.PathStep.{PathStep};
-ghost use Rattle.mt_rows.specs.Laws.{HasWords, Stands, Tree, kind_at, least_items_TODO, least_of_root, top_of};
+ghost use Rattle.mt_rows.specs.Laws.{HasWords, Stands, Tree, kind_at, least_items, least_of_root, top_of};
 ghost use Rattle.mt_rows.specs.Levels.{Levels, is_row_of, map_of, tally};
 ghost use Rattle.mt_rows.specs.Publish.{IsTreeOf, MayPublish, is_reached, tree_as};
 ghost use Rattle.mt_rows.specs.Replacement.{root_of};
 ghost use Rattle.mt_rows.specs.Sheet.{Sheet};
-ghost use Rattle.mt_rows.specs.Spans.{root_span, slots_of};
+ghost use Rattle.mt_rows.specs.Spans.{root_span};
+ghost use Rattle.mt_layout.specs.Sizes.{slots_of};
 ghost use Rattle.mt_rows.specs.Trees.{map_in, reached_in};
 ghost use Rattle.mt_rows.specs.declared.rows.Place.TheVariants.{Root, Slot};
 ghost use Rattle.mt_splice.specs.Beginnings.{Begins};
 ghost use Rattle.mt_splice.specs.Burying.{AreBuried, AreLevelsBuried};
-ghost use Rattle.mt_splice.specs.Climbs.{AreWritten, Climbed, Gathered, IsPathAhead, IsPathBehind, begin_of, beside, between_slots, end_of, spans_now};
+ghost use Rattle.mt_splice.specs.Climbs.{AreWritten, Climbed, Gathered, IsPathAhead, IsPathBehind, begin_of, beside, between_slots, behind_of, spans_now};
 ghost use Rattle.mt_splice.specs.Endings.{IsPublished, IsStepIn, column_of, with_root, with_step, words_of};
 ghost use Rattle.mt_splice.specs.Publishing.{IsReady};
 ghost use Rattle.mt_splice.specs.Replaced.{IsReplaced};
 ghost use Rattle.mt_splice.specs.Runs.{IsLeafRun, MayBeCut, most_in_three, most_items};
 ghost use Rattle.mt_splice.specs.Seen.{Adds, passing};
-ghost use Rattle.mt_splice.specs.Splice.{IsBookOf, region_of};
+ghost use Rattle.mt_splice.specs.Splice.{region_of};
+ghost use Rattle.mt_splice.specs.Kept.{IsBookOf};
 ghost use Rattle.mt_splice.specs.Work.{Holds, IsTaken, IsUsed, Keeps, Start, Work, now, rows_at, times_in};
 
 /// At the beginning the spans of the leaves at the store's ends, after the store, are gathered.
@@ -67,23 +69,23 @@ pub fn the_row_beside_is_taken_in()
 pub fn gathered_spans_may_be_cut()
     ensures some { (start : Start) (s : Work) (left right : List PathStep) (depth height : ℕ) (run : List Span) → Gathered start s left right depth height run → 1 ≤ length run }
     ensures entry { (start : Start) (s : Work) (left right : List PathStep) (depth : ℕ) (run : List Span) → Gathered start s left right depth 0 run → ((x : Span) → run ≡ x ∷ [] → x.word ≢ 0) → flat_map leaf_range run ≢ [] }
-    ensures alone { (start : Start) (s : Work) (left right : List PathStep) (depth height : ℕ) (run : List Span) → Gathered start s left right depth height run → length run ≤ most_items start.tree.table.width (kind_at start.tree.kind height) → least_items_TODO (kind_at start.tree.kind height) ≤ length run
-        → (height ≡ 0 → (step_at right depth).max < top_of start.tree → ends_with_hole run ≡ false) → MayBeCut start.tree height (begin_of left depth) (end_of right depth) run }
+    ensures alone { (start : Start) (s : Work) (left right : List PathStep) (depth height : ℕ) (run : List Span) → Gathered start s left right depth height run → length run ≤ most_items start.tree.table.width (kind_at start.tree.kind height) → least_items (kind_at start.tree.kind height) ≤ length run
+        → (height ≡ 0 → (step_at right depth).max < top_of start.tree → ends_with_hole run ≡ false) → MayBeCut start.tree height (begin_of left depth) (behind_of right depth) run }
     ensures whole { (start : Start) (s : Work) (left right : List PathStep) (depth height : ℕ) (run : List Span) → Gathered start s left right depth height run → length run ≤ most_items start.tree.table.width (kind_at start.tree.kind height)
         → begin_of left depth ≡ 0 → (step_at right depth).max ≡ top_of start.tree → least_of_root height ≤ length run → (height ≡ 0 → flat_map leaf_range run ≢ [])
-        → MayBeCut start.tree height (begin_of left depth) (end_of right depth) run }
+        → MayBeCut start.tree height (begin_of left depth) (behind_of right depth) run }
     ensures with_right { (start : Start) (s : Work) (left right right' : List PathStep) (depth height : ℕ) (run : List Span) → Gathered start s left right depth height run
         → (step_at right depth).max < top_of start.tree → IsPathBehind start right depth right' → length run + slots_of start.tree.table.width (kind_at start.tree.kind height) ≤ most_in_three start.tree.table.width (kind_at start.tree.kind height)
-        → MayBeCut start.tree height (begin_of left depth) (end_of right' depth) (beside height run (spans_now start s right' depth height)) }
+        → MayBeCut start.tree height (begin_of left depth) (behind_of right' depth) (beside height run (spans_now start s right' depth height)) }
     ensures with_left { (start : Start) (s : Work) (left right left' : List PathStep) (depth height : ℕ) (run : List Span) → Gathered start s left right depth height run
         → 0 < begin_of left depth → IsPathAhead start left depth left' → (step_at right depth).max ≡ top_of start.tree → length run + slots_of start.tree.table.width (kind_at start.tree.kind height) ≤ most_in_three start.tree.table.width (kind_at start.tree.kind height)
-        → MayBeCut start.tree height (begin_of left' depth) (end_of right depth) (beside height (spans_now start s left' depth height) run) }
+        → MayBeCut start.tree height (begin_of left' depth) (behind_of right depth) (beside height (spans_now start s left' depth height) run) }
 {}
 
 /// When the gathered spans are written and the rows that these replace are buried, the level is replaced.
 pub fn a_level_is_replaced()
     ensures { (start : Start) (s s₁ s₂ : Work) (left right : List PathStep) (depth height : ℕ) (run rows : List Span) → Gathered start s left right depth height run → AreWritten start s s₁ height run rows
-        → AreBuried start s₁ s₂ depth height (begin_of left depth) (end_of right depth) → Climbed start s₂ left right depth height rows }
+        → AreBuried start s₁ s₂ depth height (begin_of left depth) (behind_of right depth) → Climbed start s₂ left right depth height rows }
 {}
 
 /// When a level is left, what stands beside the replaced rows in the rows above them is gathered with the new ones; it is
@@ -108,7 +110,7 @@ pub fn old_rows_are_buried()
         → AreBuried start s s depth height (begin_of path depth) (begin_of path depth) }
     ensures one_more { (start : Start) (s : Work) → Holds start s → (path : List PathStep) (i : ℕ) → i ≤ top_of start.tree → path ≡ path_in start.tree.table start.tree.root i → (depth height : ℕ) → start.height ≡ depth + height
         → (s₀ s' : Work) (lo : ℕ) → AreBuried start s₀ s' depth height lo (begin_of path depth) → (s″ : Work) → Keeps start s' s″ → s″.taken ≡ s'.taken
-        → Adds height (row_on start.tree.table depth (root_span start.tree.table start.tree.root) i ∷ []) s'.gone s″.gone → AreBuried start s₀ s″ depth height lo (end_of path depth) }
+        → Adds height (row_on start.tree.table depth (root_span start.tree.table start.tree.root) i ∷ []) s'.gone s″.gone → AreBuried start s₀ s″ depth height lo (behind_of path depth) }
     ensures not_yet { (start : Start) (s : Work) → Holds start s → (path : List PathStep) (i : ℕ) → i ≤ top_of start.tree → path ≡ path_in start.tree.table start.tree.root i → (depth height : ℕ) → start.height ≡ depth + height
         → (s₀ s' : Work) (lo : ℕ) → AreBuried start s₀ s' depth height lo (begin_of path depth)
         → ((p : ℕ → Span → Bool) → tally (p height) (rows_at start.tree depth) + passing p s₀.gone ≤ times_in p start.tree start.height)
@@ -153,24 +155,24 @@ pub fn one_row_takes_the_place_of_one()
 /// Where one hole is left of all leaves the tree is empty, and all its rows are gone when they are buried.
 pub fn nothing_is_left_of_the_tree()
     ensures map { (start : Start) (s s₁ s₂ : Work) (left right : List PathStep) (hole : Span) → Gathered start s left right start.height 0 (hole ∷ []) → hole.word ≡ 0
-        → begin_of left start.height ≡ 0 → end_of right start.height ≡ top_of start.tree + 1
+        → begin_of left start.height ≡ 0 → behind_of right start.height ≡ top_of start.tree + 1
         → AreBuried start s s₁ start.height 0 0 (top_of start.tree + 1) → AreLevelsBuried start s₁ s₂ start.height 0 0 start.height → start.map ≡ [] }
     ensures gone { (start : Start) (s s₁ s₂ : Work) (left right : List PathStep) (hole : Span) → Gathered start s left right start.height 0 (hole ∷ []) → hole.word ≡ 0
-        → begin_of left start.height ≡ 0 → end_of right start.height ≡ top_of start.tree + 1
+        → begin_of left start.height ≡ 0 → behind_of right start.height ≡ top_of start.tree + 1
         → AreBuried start s s₁ start.height 0 0 (top_of start.tree + 1) → AreLevelsBuried start s₁ s₂ start.height 0 0 start.height
         → (p : ℕ → Span → Bool) → passing p s₂.gone ≡ times_in p start.tree start.height }
 {}
 
 /// The one store that ends a replacement may be published.
 pub fn the_end_may_be_published()
-    ensures root { (start : Start) (w : Work) → Holds start w → (kind : Kind) (s : Sheet) → now start w ≡ tree_as kind s.tree.rows s.tree → (call : Call) (reply : Reply) → IsReady kind s start.map w.taken w.gone call reply
+    ensures root { (start : Start) (w : Work) → Holds start w → (kind : Kind) (s : Sheet) → now start w ≡ tree_as kind s.tree → (call : Call) (reply : Reply) → IsReady kind s start.map w.taken w.gone call reply
         → (h' word : ℕ) → IsReplaced start.tree (with_root (now start w) word) start.map w.taken w.gone start.height h' → MayPublish kind s Root word call reply }
-    ensures slot { (start : Start) (w : Work) → Holds start w → (kind : Kind) (s : Sheet) → now start w ≡ tree_as kind s.tree.rows s.tree → (call : Call) (reply : Reply) → IsReady kind s start.map w.taken w.gone call reply
+    ensures slot { (start : Start) (w : Work) → Holds start w → (kind : Kind) (s : Sheet) → now start w ≡ tree_as kind s.tree → (call : Call) (reply : Reply) → IsReady kind s start.map w.taken w.gone call reply
         → (k word : ℕ) (step : PathStep) → IsReplaced start.tree (with_step (now start w) (kind_at start.tree.kind k) step word) start.map w.taken w.gone start.height start.height
-        → IsPublished (now start w) (kind_at start.tree.kind k) step word → MayPublish kind s (Slot step.row (column_of (tree_as kind s.tree.rows s.tree) (kind_at kind k) step)) word call reply }
-    ensures emptied { (start : Start) (w : Work) → Holds start w → (kind : Kind) (s : Sheet) → now start w ≡ tree_as kind s.tree.rows s.tree → (call : Call) (reply : Reply) → IsReady kind s start.map w.taken w.gone call reply
+        → IsPublished (now start w) (kind_at start.tree.kind k) step word → MayPublish kind s (Slot step.row (column_of (tree_as kind s.tree) (kind_at kind k) step)) word call reply }
+    ensures emptied { (start : Start) (w : Work) → Holds start w → (kind : Kind) (s : Sheet) → now start w ≡ tree_as kind s.tree → (call : Call) (reply : Reply) → IsReady kind s start.map w.taken w.gone call reply
         → start.map ≡ [] → ((p : ℕ → Span → Bool) → passing p w.gone ≡ times_in p start.tree start.height) → MayPublish kind s Root 0 call reply }
-    ensures first { (start : Start) (w : Work) (kind : Kind) (s : Sheet) (word : ℕ) (call : Call) (reply : Reply) → now start w ≡ tree_as kind s.tree.rows s.tree → s.tree.root ≡ 0 → w.gone ≡ []
+    ensures first { (start : Start) (w : Work) (kind : Kind) (s : Sheet) (word : ℕ) (call : Call) (reply : Reply) → now start w ≡ tree_as kind s.tree → s.tree.root ≡ 0 → w.gone ≡ []
         → IsReady kind s start.map w.taken w.gone call reply → Stands (with_root (now start w) word) 0 → map_of (now start w).table 0 (root_of (with_root (now start w) word)) ≡ start.map
         → 1 ≤ passing (is_row_of (row_in word)) w.taken → MayPublish kind s Root word call reply }
 {}

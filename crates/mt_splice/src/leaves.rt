@@ -1,81 +1,144 @@
-//! The items of the leaves at the ends of a store.
+//! What stands in the leaves at the ends of a store, after it.
 
-ghost use Rattle.std.specs.Prelude.{◌≡◌, ◌<◌, ◌≤◌, ◌+◌, [], ◌∷◌, ◌++◌, ℕ, length};
+ghost use Rattle.std.specs.Prelude.{◌≡◌, ◌≢◌, ◌<◌, ◌≤◌, ◌+◌, [], ◌∷◌, ℕ, fold, drop, length};
+ghost use Rattle.mt_base.specs.declared.kinds.Kind.{Kind};
 ghost use Rattle.mt_base.specs.Width.{greatest};
+ghost use Rattle.mt_layout.specs.Sizes.{first_row, run_room, slots_of};
 ghost use Rattle.mt_layout.specs.Spans.{spans_from};
-ghost use Rattle.mt_layout.specs.declared.names.RowKind.TheVariants.{Leaf};
-ghost use Rattle.mt_rows.specs.Spans.{slots_of};
+ghost use Rattle.mt_leaf.specs.Edits.{edited};
+ghost use Rattle.mt_leaf.specs.Places.{items_below, slot_above, with_joined};
+ghost use Rattle.mt_path.specs.Handles.{last_step};
 ghost use Rattle.mt_rows.specs.Sheet.{OnlyReads};
-ghost use Rattle.mt_splice.specs.Regions.{AreEnds, IsRunOver, leaves_items};
-ghost use Rattle.mt_splice.specs.Runs.{run_room};
-ghost use Rattle.mt_splice.specs.Splice.{last_step, region_of};
-ghost use Rattle.mt_splice.specs.Writes.{items_of_row};
+ghost use Rattle.mt_splice.specs.Regions.{AreEnds, IsLeafStep, leaf_items};
+ghost use Rattle.mt_splice.specs.Splice.{region_of};
 
-use crate::reads::push_items;
+use crate::reads::{load_item, push_items};
+use crate::regions::Region;
 use mt_base::{Width, top};
-use mt_layout::{Item, RowKind, Run};
-use mt_path::{Path, PathStep};
-use mt_rows::{Rows, slots};
+use mt_layout::{Item, RowKind, Run, slots};
+use mt_leaf::{Towards, edit_into, push_joined};
+use mt_path::PathStep;
+use mt_rows::Rows;
 
-/// Appends the items of the leaf that a path ends in.
-fn push_leaf<R: Rows>(rows: &mut R, leaf: PathStep, run: &mut Run)
-    requires row { (first_row ≤ leaf.row) × (leaf.row < first_row + (R.sheet rows.old).tree.rows) }
-    requires room { length run.old.items + slots_of (R.sheet rows.old).tree.table.width Leaf ≤ run_room }
-    ensures items { run.new.items ≡ run.old.items ++ items_of_row (R.sheet rows.old).tree.table Leaf leaf.row leaf.max }
+/// Fills an empty run with what stands in a leaf below `first`, which the path's slot there holds.
+fn push_below<R: Rows>(rows: &mut R, leaf: &PathStep, first: u64, run: &mut Run)
+    requires leaf { IsLeafStep (R.sheet rows.old).tree leaf.now first }
+    requires empty { run.old.items ≡ [] }
+    ensures items { run.new.items ≡ items_below leaf.now.min (leaf_items (R.sheet rows.old).tree.table leaf.now) first }
     ensures rest { OnlyReads (R.sheet rows.old) (R.sheet rows.new) }
 {
-    let slots = slots(rows.width(), RowKind::Leaf);
-    push_items(rows, RowKind::Leaf, leaf.row, leaf.max, 0, slots, run);
-}
-
-/// The last step of a path.
-fn last_of(path: &Path) -> PathStep
-    requires { 1 ≤ length path.now.items }
-    ensures { result ≡ last_step path.now.items }
-{
-    path[path.len() - 1]
-}
-
-/// The items of two leaves, one behind the other, or those of one.
-fn leaves_at<R: Rows>(rows: &mut R, left: PathStep, right: PathStep) -> Run
-    requires left { (first_row ≤ left.row) × (left.row < first_row + (R.sheet rows.old).tree.rows) }
-    requires right { (first_row ≤ right.row) × (right.row < first_row + (R.sheet rows.old).tree.rows) }
-    ensures items { result.items ≡ leaves_items (R.sheet rows.old).tree.table left right }
-    ensures rest { OnlyReads (R.sheet rows.old) (R.sheet rows.new) }
-{
-    let mut run = Run::new();
-    push_leaf(rows, left, &mut run);
-    if left.row != right.row {
-        push_leaf(rows, right, &mut run);
+    push_items(rows, RowKind::Leaf, leaf.row, leaf.max, 0, leaf.slot, run);
+    let begin = run.last().map_or(leaf.min, |item| item.last + 1);
+    if begin < first {
+        let item = load_item(rows, RowKind::Leaf, leaf.row, leaf.max, leaf.slot);
+        run.push(Item {
+            last: first - 1,
+            ..item
+        });
     }
-    run
 }
 
-/// The one hole of the empty tree.
-fn hole(width: Width) -> Run
-    ensures { result.items ≡ record { last = greatest width; word = 0; gap = 0 } ∷ [] }
+/// Appends what stands in a leaf above `last`, which the path's slot there holds; two holes that meet are one.
+fn push_above<R: Rows>(rows: &mut R, leaf: &PathStep, last: u64, run: &mut Run)
+    requires leaf { IsLeafStep (R.sheet rows.old).tree leaf.now last }
+    requires room { length run.old.items + slots_of (R.sheet rows.old).tree.table.width RowKind.Leaf ≤ run_room }
+    ensures items { run.new.items ≡ fold with_joined run.old.items (drop (slot_above (leaf_items (R.sheet rows.old).tree.table leaf.now) last) (leaf_items (R.sheet rows.old).tree.table leaf.now)) }
+    ensures rest { OnlyReads (R.sheet rows.old) (R.sheet rows.new) }
 {
-    let mut run = Run::new();
-    run.push(Item {
+    for slot in leaf.slot..slots(rows.width(), RowKind::Leaf) {
+        let item = load_item(rows, RowKind::Leaf, leaf.row, leaf.max, slot);
+        if last < item.last {
+            push_joined(run, item);
+        }
+        if leaf.max <= item.last {
+            return;
+        }
+    }
+}
+
+/// Where the change stands among the items: the one that was stored is at `at`.
+fn towards_of(at: usize, count: usize) -> Towards {
+    if count <= at + 2 {
+        Towards::Last
+    } else if at <= 1 {
+        Towards::First
+    } else {
+        Towards::Middle
+    }
+}
+
+/// Fills a region's run, which is empty, with what stands in the leaves at the ends of its paths after `entry` was stored
+/// over `first` to `last`. An entry of 0 makes a hole.
+fn push_edited<R: Rows>(
+    rows: &mut R,
+    region: &mut Region,
+    left: &PathStep,
+    right: &PathStep,
+    first: u64,
+    last: u64,
+    entry: u64,
+)
+    requires ends { (kind : Kind) × AreEnds kind (R.sheet rows.old).tree region.old.left.items region.old.right.items first last }
+    requires some { region.old.left.items ≢ [] }
+    requires left { left.now ≡ last_step region.old.left.items }
+    requires right { right.now ≡ last_step region.old.right.items }
+    requires empty { region.old.run.items ≡ [] }
+    ensures run { spans_from left.now.min region.new.run.items ≡ edited (region_of (R.sheet rows.old).tree.table region.old.left.items region.old.right.items) first last entry }
+    ensures left { region.new.left ≡ region.old.left }
+    ensures right { region.new.right ≡ region.old.right }
+    ensures rest { OnlyReads (R.sheet rows.old) (R.sheet rows.new) }
+{
+    push_below(rows, left, first, &mut region.run);
+    push_joined(
+        &mut region.run,
+        Item {
+            last,
+            word: entry,
+            gap: 0,
+        },
+    );
+    let at = region.run.len() - 1;
+    push_above(rows, right, last, &mut region.run);
+    region.towards = towards_of(at, region.run.len());
+}
+
+/// The same of the empty tree, which is one hole.
+fn push_first(width: Width, first: u64, last: u64, entry: u64, run: &mut Run)
+    requires order { first ≤ last }
+    requires within { last ≤ greatest width }
+    requires empty { run.old.items ≡ [] }
+    ensures { spans_from 0 run.new.items ≡ edited (record { first = 0; last = greatest width; word = 0 } ∷ []) first last entry }
+{
+    let hole = [Item {
         last: top(width),
         word: 0,
         gap: 0,
-    });
-    run
+    }];
+    edit_into(&hole, 0, first, last, entry, run);
 }
 
-/// The items of the leaves at the ends of two paths, and the first index there. The empty tree is one hole.
-pub fn items_at<R: Rows>(rows: &mut R, left: &Path, right: &Path) -> (u64, Run)
-    requires ends { (first : ℕ) × (last : ℕ) × AreEnds (R.sheet rows.old) left.now.items right.now.items first last }
-    ensures items { spans_from result.0 result.1.items ≡ region_of (R.sheet rows.old).tree.table left.now.items right.now.items }
-    ensures min { result.0 ≡ (last_step left.now.items).min }
-    ensures fit { (first last : ℕ) → AreEnds (R.sheet rows.old) left.now.items right.now.items first last → IsRunOver (R.sheet rows.old).tree.table.width result.0 result.1.items first last }
+/// Fills a region's run, which is empty, with what is to stand in the leaves from its left path's to its right path's after
+/// a store.
+pub fn fill_leaves<R: Rows>(
+    rows: &mut R,
+    region: &mut Region,
+    first: u64,
+    last: u64,
+    entry: u64,
+)
+    requires ends { (kind : Kind) × AreEnds kind (R.sheet rows.old).tree region.old.left.items region.old.right.items first last }
+    requires empty { region.old.run.items ≡ [] }
+    ensures run { spans_from (last_step region.old.left.items).min region.new.run.items ≡ edited (region_of (R.sheet rows.old).tree.table region.old.left.items region.old.right.items) first last entry }
+    ensures left { region.new.left ≡ region.old.left }
+    ensures right { region.new.right ≡ region.old.right }
     ensures rest { OnlyReads (R.sheet rows.old) (R.sheet rows.new) }
 {
-    if left.is_empty() {
-        return (0, hole(rows.width()));
+    let ends = (
+        region.left.last().copied(),
+        region.right.last().copied(),
+    );
+    match ends {
+        (Some(left), Some(right)) => push_edited(rows, region, &left, &right, first, last, entry),
+        _ => push_first(rows.width(), first, last, entry, &mut region.run),
     }
-    let leaf = last_of(left);
-    let run = leaves_at(rows, leaf, last_of(right));
-    (leaf.min, run)
 }

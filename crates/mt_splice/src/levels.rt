@@ -1,68 +1,81 @@
 //! The rows of a level: the new ones are written, and the old ones buried.
 
-ghost use Rattle.std.specs.Prelude.{◌≡◌, ◌<◌, ◌≤◌, ◌+◌, ◌++◌, ℕ, true, Some, All, length};
+ghost use Rattle.std.specs.Prelude.{◌≡◌, ◌<◌, ◌≤◌, ◌+◌, ◌*◌, ◌++◌, ℕ, true, Some, All, length};
+ghost use Rattle.mt_base.specs.declared.kinds.Kind.{Kind};
+ghost use Rattle.mt_base.specs.Width.{greatest, most_taken};
+ghost use Rattle.mt_free.specs.Book.{IsOut, after_retire};
 ghost use Rattle.mt_layout.specs.declared.names.RowKind.TheVariants.{Leaf};
 ghost use Rattle.mt_layout.specs.Rows.{row_in, named_row};
-ghost use Rattle.mt_free.specs.Book.{IsOut, after_retire};
-ghost use Rattle.mt_path.specs.Paths.{step_at};
-ghost use Rattle.mt_rows.specs.Sheet.{MayBury, after_bury};
-ghost use Rattle.mt_splice.specs.Climbs.{begin_of, end_of};
-ghost use Rattle.mt_splice.specs.Work.{Start, Work};
-ghost use Rattle.mt_splice.specs.Progress.{Before};
-ghost use Rattle.mt_splice.specs.Levels.{MayWriteRow, IsOneWritten, noted, MayWriteRows, AreRowsWritten, AreFewestRows, MayBuryRows, AreRowsBuried, MayRewriteLevel, IsLevelRewritten};
+ghost use Rattle.mt_layout.specs.Sizes.{slots_of};
+ghost use Rattle.mt_layout.specs.Spans.{spans_from, Apart};
+ghost use Rattle.mt_path.specs.Paths.{path_in, step_at};
+ghost use Rattle.mt_rows.specs.Publish.{IsTreeOf};
+ghost use Rattle.mt_rows.specs.Sheet.{MayBury, after_bury, OnlyReads};
+ghost use Rattle.mt_splice.specs.Levels.{MayAddRow, IsRowAdded, noted, IsCutOf, MayAddRows, AreRowsAdded, MayBuryLevel, IsLevelBuried, IsRowBehind};
 
-use crate::beside::least_items;
+use crate::begun::Begun;
+use crate::regions::{Region, step_on};
 use crate::writes::{NewRow, write_row};
 use arrayvec::ArrayVec;
+use mt_base::Width;
 use mt_free::RowBook;
-use mt_layout::{Item, RowKind, Run, row_of};
-use mt_leaf::cut;
+use mt_layout::{Item, RowKind, least_items, row_of, slots};
+use mt_leaf::cut_towards;
 use mt_path::{Path, PathStep, walk};
-use mt_rows::{Rows, slots};
+use mt_rows::Rows;
 
-/// Whether rows of this kind are leaves.
-pub fn is_leaf(kind: RowKind) -> bool
-    ensures leaf { result ≡ true → kind ≡ Leaf }
-    ensures other { kind ≡ Leaf → result ≡ true }
+/// The inner rows that a call has written: 28 rows are the most that a call takes.
+pub type NewRows = ArrayVec<NewRow, 28>;
+
+/// The places at which a region's items are cut into the fewest rows of this kind.
+pub fn ends_of(width: Width, region: &Region, kind: RowKind) -> ArrayVec<u32, 3>
+    requires some { 1 ≤ length region.now.run.items }
+    requires few { length region.now.run.items + 3 ≤ 3 * slots_of width kind }
+    requires apart { kind ≡ Leaf → Apart (spans_from 0 region.now.run.items) }
+    ensures cut { IsCutOf width kind region.now.run.items result.items }
+    ensures some { 1 ≤ length result.items }
+    ensures few { length result.items ≤ 3 }
 {
-    match kind {
-        RowKind::Leaf => true,
-        RowKind::Inner | RowKind::Gapped => false,
-    }
+    cut_towards(
+        region.run.as_slice(),
+        slots(width, kind),
+        least_items(width, kind),
+        kind == RowKind::Leaf,
+        region.towards,
+    )
 }
 
 /// Notes a new row by its name, where it has children.
-fn note_row(made: &mut ArrayVec<NewRow, 28>, kind: RowKind, word: u64, count: u32)
-    requires room { length made.old.items < 28 }
+fn note_row(inner: &mut NewRows, kind: RowKind, word: u64, count: u32)
+    requires room { length inner.old.items < most_taken }
     requires named { named_row word ≡ Some (row_in word) }
-    ensures noted { made.new.items ≡ made.old.items ++ noted kind word count }
-    ensures few { length made.new.items ≤ length made.old.items + 1 }
+    ensures noted { inner.new.items ≡ inner.old.items ++ noted kind word count }
+    ensures few { length inner.new.items ≤ length inner.old.items + 1 }
 {
     let Some(row) = row_of(word) else {
         return;
     };
     match kind {
         RowKind::Leaf => {}
-        RowKind::Inner | RowKind::Gapped => made.push(NewRow { row, count }),
+        RowKind::Inner | RowKind::Gapped => inner.push(NewRow { row, count }),
     }
 }
 
 /// Writes one row with these items, and gives the item that it is one level up.
-pub fn write_piece<R: Rows>(
+pub fn write_piece<R: Rows, B: Begun>(
     rows: &mut R,
     book: &mut RowBook,
     kind: RowKind,
     items: &[Item],
-    made: &mut ArrayVec<NewRow, 28>,
+    inner: &mut NewRows,
 ) -> Item
-    requires room { length made.old.items < 28 }
-    requires row { (b : Before) × (start : Start) × (w : Work) × (height : ℕ) × (lo : ℕ) × (hi : ℕ) × MayWriteRow b start (R.sheet rows.old) book.old w kind height lo hi items.now made.old.items }
-    ensures row { (b : Before) (start : Start) (w : Work) (height lo hi : ℕ) → MayWriteRow b start (R.sheet rows.old) book.old w kind height lo hi items.now made.old.items
-        → (w' : Work) × IsOneWritten b start (R.sheet rows.new) book.old book.new w w' height lo hi items.now made.new.items result }
-    ensures made { length made.new.items ≤ length made.old.items + 1 }
+    requires room { length inner.old.items < most_taken }
+    requires row { MayAddRow B.before B.start (R.sheet rows.old) book.old kind items.now inner.old.items }
+    ensures row { IsRowAdded B.before B.start (R.sheet rows.old) (R.sheet rows.new) book.old book.new kind items.now inner.old.items inner.new.items result }
+    ensures few { length inner.new.items ≤ length inner.old.items + 1 }
 {
     let word = write_row(rows, book, kind, items);
-    note_row(made, kind, word, items.len() as u32);
+    note_row(inner, kind, word, items.len() as u32);
     Item {
         last: items[items.len() - 1].last,
         word,
@@ -70,35 +83,31 @@ pub fn write_piece<R: Rows>(
     }
 }
 
-/// Writes the items of a level in the fewest rows, and gives the items that these are one level up. Of inner rows it notes
-/// how many children they have.
-pub fn write_rows<R: Rows>(
+/// Writes the items of a level in rows that end at these places, and gives the items that these are one level up. Of inner
+/// rows it notes how many children they have.
+pub fn write_rows<R: Rows, B: Begun>(
     rows: &mut R,
     book: &mut RowBook,
     kind: RowKind,
-    run: &Run,
-    made: &mut ArrayVec<NewRow, 28>,
+    items: &[Item],
+    ends: &[u32],
+    inner: &mut NewRows,
 ) -> ArrayVec<Item, 3>
-    requires room { length made.old.items + 3 ≤ 28 }
-    requires rows { (b : Before) × (start : Start) × (w : Work) × (height : ℕ) × (lo : ℕ) × (hi : ℕ) × MayWriteRows b start (R.sheet rows.old) book.old w kind height lo hi run.now.items made.old.items }
-    ensures rows { (b : Before) (start : Start) (w : Work) (height lo hi : ℕ) → MayWriteRows b start (R.sheet rows.old) book.old w kind height lo hi run.now.items made.old.items
-        → (w' : Work) × AreRowsWritten b start (R.sheet rows.new) book.old book.new w w' height lo run.now.items made.new.items result.items }
-    ensures fewest { AreFewestRows (R.sheet rows.old).tree.table.width kind run.now.items result.items }
-    ensures made { length made.new.items ≤ length made.old.items + 3 }
+    requires room { length inner.old.items + 3 ≤ most_taken }
+    requires rows { MayAddRows B.before B.start (R.sheet rows.old) book.old kind items.now ends.now inner.old.items }
+    ensures rows { AreRowsAdded B.before B.start (R.sheet rows.old) (R.sheet rows.new) book.old book.new kind items.now ends.now inner.old.items inner.new.items result.items }
+    ensures made { length inner.new.items ≤ length inner.old.items + 3 }
     ensures few { length result.items ≤ 3 }
 {
-    let leaf = is_leaf(kind);
-    let most = slots(rows.width(), kind);
-    let ends = cut(run, most, least_items(kind), leaf);
-    let items = run.as_slice();
-    let mut written = ArrayVec::new();
+    let mut new = ArrayVec::new();
     let mut from = 0;
-    for end in ends.as_slice() {
+    for end in ends {
         let to = *end as usize;
-        written.push(write_piece(rows, book, kind, &items[from..to], made));
+        let item = write_piece::<R, B>(rows, book, kind, &items[from..to], inner);
+        new.push(item);
         from = to;
     }
-    written
+    new
 }
 
 /// Buries a live row that is out, and retires it with the call's number.
@@ -113,61 +122,43 @@ fn bury_row<R: Rows>(rows: &mut R, book: &mut RowBook, row: u32, number: u64)
     book.retire(row, number);
 }
 
-/// A path's step at a level, the root's level being 0.
-pub fn step_on(path: &Path, depth: usize) -> PathStep
-    requires { depth < length path.now.items }
-    ensures { result ≡ step_at path.now.items depth }
+/// The row of a level that begins behind `last`: the right path's, or one that is walked to.
+fn row_behind<R: Rows>(rows: &mut R, right: &Path, depth: u32, last: u64) -> PathStep
+    requires tree { (kind : Kind) × IsTreeOf (R.sheet rows.old).tree kind }
+    requires right { (index : ℕ) × (index ≤ greatest (R.sheet rows.old).tree.table.width) × (right.now.items ≡ path_in (R.sheet rows.old).tree.table (R.sheet rows.old).tree.root index) }
+    requires depth { depth < length right.now.items }
+    requires more { last < greatest (R.sheet rows.old).tree.table.width }
+    ensures step { IsRowBehind (R.sheet rows.old).tree.table (R.sheet rows.old).tree.root depth last result }
+    ensures rest { OnlyReads (R.sheet rows.old) (R.sheet rows.new) }
 {
-    path[depth]
+    let step = step_on(right, depth);
+    if step.min == last + 1 {
+        return step;
+    }
+    let path = walk(rows, last + 1);
+    step_on(&path, depth)
 }
 
 /// Buries the rows of a level from the left path's to the right path's, the root's level being 0, and retires them with the
 /// call's number.
-pub fn bury_rows<R: Rows>(
+pub fn bury_rows<R: Rows, B: Begun>(
     rows: &mut R,
     book: &mut RowBook,
     left: &Path,
     right: &Path,
-    depth: usize,
+    depth: u32,
     number: u64,
 )
-    requires rows { (b : Before) × (start : Start) × (w : Work) × (height : ℕ) × MayBuryRows b start (R.sheet rows.old) book.old w left.now.items right.now.items depth height number }
-    ensures rows { (b : Before) (start : Start) (w : Work) (height : ℕ) → MayBuryRows b start (R.sheet rows.old) book.old w left.now.items right.now.items depth height number
-        → (w' : Work) × AreRowsBuried b start (R.sheet rows.new) book.new w w' depth height (begin_of left.now.items depth) (end_of right.now.items depth) }
+    requires { MayBuryLevel B.before B.start (R.sheet rows.old) book.old left.now.items right.now.items depth number }
+    ensures { IsLevelBuried B.before B.start (R.sheet rows.old) (R.sheet rows.new) book.old book.new left.now.items right.now.items depth number }
 {
     let end = step_on(right, depth).max;
     let first = step_on(left, depth);
     bury_row(rows, book, first.row, number);
     let mut last = first.max;
     while last < end {
-        let path = walk(rows, last + 1);
-        let next = step_on(&path, depth);
+        let next = row_behind(rows, right, depth, last);
         bury_row(rows, book, next.row, number);
         last = next.max;
     }
-}
-
-/// Replaces the rows of a level from the left path's to the right path's by new rows of these items, and gives the items
-/// that these are one level up.
-pub fn rewrite_rows<R: Rows>(
-    rows: &mut R,
-    book: &mut RowBook,
-    kind: RowKind,
-    left: &Path,
-    right: &Path,
-    depth: usize,
-    number: u64,
-    run: &Run,
-    made: &mut ArrayVec<NewRow, 28>,
-) -> ArrayVec<Item, 3>
-    requires room { length made.old.items + 3 ≤ 28 }
-    requires level { (b : Before) × (start : Start) × (w : Work) × (height : ℕ) × MayRewriteLevel b start (R.sheet rows.old) book.old w kind left.now.items right.now.items depth height number run.now.items made.old.items }
-    ensures level { (b : Before) (start : Start) (w : Work) (height : ℕ) → MayRewriteLevel b start (R.sheet rows.old) book.old w kind left.now.items right.now.items depth height number run.now.items made.old.items
-        → (w' : Work) × IsLevelRewritten b start (R.sheet rows.new) book.old book.new w' left.now.items right.now.items depth height made.new.items result.items }
-    ensures made { length made.new.items ≤ length made.old.items + 3 }
-    ensures few { length result.items ≤ 3 }
-{
-    let new = write_rows(rows, book, kind, run, made);
-    bury_rows(rows, book, left, right, depth, number);
-    new
 }

@@ -2,24 +2,24 @@
 //! it.
 #![tactic(auto)]
 
-mod ascends;
 mod begins;
+mod begun;
 mod beside;
 mod clears;
+mod decisions;
 mod ends;
 mod gathers;
 pub mod laws;
 mod leaves;
 mod levels;
 mod reads;
+mod regions;
 mod replaces;
 mod splices;
-mod stores;
 mod tends;
 #[cfg(test)]
 mod tests;
 mod writes;
 
 pub use clears::clear;
-pub use splices::splice;
-pub use stores::replace_range;
+pub use splices::{replace_range, splice};

@@ -2,16 +2,17 @@
 
 ghost use Rattle.std.specs.Prelude.{◌≡◌, ◌≢◌, ◌<◌, ◌≤◌, ◌+◌, ◌-◌, [], ◌∷◌, ◌++◌, nat_lt, length, take, if◌then◌else◌};
 ghost use Rattle.mt_layout.specs.Columns.{item_at, items_from, pivot_column};
-ghost use Rattle.mt_rows.specs.Spans.{base_of, column, slots_of, gaps_of};
+ghost use Rattle.mt_rows.specs.Spans.{base_of, column};
+ghost use Rattle.mt_layout.specs.Sizes.{slots_of, gaps_of};
 ghost use Rattle.mt_rows.specs.Sheet.{OnlyReads};
-ghost use Rattle.mt_splice.specs.Runs.{run_room};
+ghost use Rattle.mt_layout.specs.Sizes.{run_room};
 
-use mt_layout::{Item, RowKind, Run};
-use mt_rows::{Rows, slots};
+use mt_layout::{Item, RowKind, Run, slots};
+use mt_rows::Rows;
 use std::ops::Range;
 
 /// The item in a slot of a row that covers the indexes up to `max`.
-fn load_item<R: Rows>(rows: &mut R, kind: RowKind, row: u32, max: u64, slot: u32) -> Item
+pub fn load_item<R: Rows>(rows: &mut R, kind: RowKind, row: u32, max: u64, slot: u32) -> Item
     requires first { first_row ≤ row }
     requires last { row < first_row + (R.sheet rows.old).tree.rows }
     requires slot { slot < slots_of (R.sheet rows.old).tree.table.width kind }

@@ -1,37 +1,84 @@
-//! The entry: a store that replaces nodes.
+//! The entries: stores that replace nodes.
 
-ghost use Rattle.std.specs.Prelude.{◌≡◌};
-ghost use Rattle.mt_splice.specs.Splice.{MaySplice, IsSpliced};
+ghost use Rattle.std.specs.Prelude.{◌≡◌, []};
+ghost use Rattle.mt_splice.specs.Entries.{IsBegunBy};
+ghost use Rattle.mt_splice.specs.Splice.{MaySplice, MayReplace, IsSpliced};
 
 use crate::begins::begin_tree;
-use crate::beside::Region;
-use crate::gathers::push_all;
+use crate::begun::Begun;
+use crate::leaves::fill_leaves;
+use crate::levels::NewRows;
+use crate::regions::{Region, copy_path, push_all};
 use crate::replaces::replace_level;
-use arrayvec::ArrayVec;
 use mt_base::{Call, Kind, Reply};
 use mt_free::RowBook;
 use mt_layout::{RowKind, Run};
-use mt_path::Path;
+use mt_leaf::Towards;
+use mt_path::{Path, walk_on};
 use mt_rows::{Place, Rows};
+use std::marker::Brand;
 
-/// The same path once more.
-fn copy_path(path: &Path) -> Path
-    ensures { result.items ≡ path.now.items }
+/// A region of these paths, in which no item stands yet.
+fn empty_region(left: Path, right: Path) -> Region
+    ensures left { result.left ≡ left }
+    ensures right { result.right ≡ right }
+    ensures run { result.run.items ≡ [] }
 {
-    let mut copy = Path::new();
-    match copy.try_extend_from_slice(path.as_slice()) {
-        Ok(()) => copy,
-        Err(_) => unreachable!(),
+    Region {
+        left,
+        right,
+        run: Run::new(),
+        towards: Towards::Middle,
     }
 }
 
-/// The same items once more.
-fn copy_run(run: &Run) -> Run
-    ensures { result.items ≡ run.now.items }
+/// Replaces the leaves of a region, where what it begins with has a name.
+fn splice_as<R: Rows, B: Begun>(
+    rows: &mut R,
+    book: &mut RowBook,
+    kind: Kind,
+    region: &mut Region,
+    number: u64,
+    call: &Call,
+    reply: &Reply,
+) -> Place
+    requires begun { IsBegunBy B.before B.start kind (R.sheet rows.old) book.old number call.now }
+    requires may { MaySplice kind (R.sheet rows.old) book.old region.old.left.items region.old.right.items region.old.run.items number call.now reply.now }
+    ensures { IsSpliced B.before.kind B.before.sheet (R.sheet rows.new) B.before.book book.new B.before.number call.now reply.now result }
 {
-    let mut copy = Run::new();
-    push_all(&mut copy, run.as_slice());
-    copy
+    if region.left.is_empty() {
+        return begin_tree::<R, B>(rows, book, region.run.as_slice(), call, reply);
+    }
+    let mut inner = NewRows::new();
+    let depth = region.left.len() as u32 - 1;
+    replace_level::<R, B>(
+        rows,
+        book,
+        &mut inner,
+        region,
+        depth,
+        RowKind::Leaf,
+        number,
+        call,
+        reply,
+    )
+}
+
+/// Replaces the leaves from a region's left path to its right path by rows of its items, and all rows above that must
+/// change, and publishes that by one store, whose place it gives. The region is used up.
+fn splice_region<R: Rows>(
+    rows: &mut R,
+    book: &mut RowBook,
+    kind: Kind,
+    region: &mut Region,
+    number: u64,
+    call: &Call,
+    reply: &Reply,
+) -> Place
+    requires { MaySplice kind (R.sheet rows.old) book.old region.old.left.items region.old.right.items region.old.run.items number call.now reply.now }
+    ensures { IsSpliced kind (R.sheet rows.old) (R.sheet rows.new) book.old book.new number call.now reply.now result }
+{
+    splice_as::<R, Brand>(rows, book, kind, region, number, call, reply)
 }
 
 /// Replaces the leaves from the left path to the right path by rows of these items, and all rows above that must change,
@@ -50,26 +97,31 @@ pub fn splice<R: Rows>(
     requires { MaySplice kind (R.sheet rows.old) book.old left.now.items right.now.items items.now.items number call.now reply.now }
     ensures { IsSpliced kind (R.sheet rows.old) (R.sheet rows.new) book.old book.new number call.now reply.now result }
 {
-    if left.is_empty() {
-        return begin_tree(rows, book, items, call, reply);
-    }
-    rows.size();
-    let mut made = ArrayVec::new();
-    let region = Region {
-        left: copy_path(left),
-        right: copy_path(right),
-        run: copy_run(items),
-    };
-    let depth = left.len() as u32 - 1;
-    replace_level(
-        rows,
-        book,
-        &mut made,
-        region,
-        depth,
-        RowKind::Leaf,
-        number,
-        call,
-        reply,
-    )
+    let mut region = empty_region(copy_path(left), copy_path(right));
+    push_all(&mut region.run, items.as_slice());
+    splice_region(rows, book, kind, &mut region, number, call, reply)
+}
+
+/// Stores an entry, or a hole where it is 0, over `first` to `last`, by new rows; `left` is the path to `first`. The leaves
+/// at both ends are read and replaced.
+pub fn replace_range<R: Rows>(
+    rows: &mut R,
+    book: &mut RowBook,
+    kind: Kind,
+    left: Path,
+    first: u64,
+    last: u64,
+    entry: u64,
+    number: u64,
+    call: &Call,
+    reply: &Reply,
+) -> Place
+    requires { MayReplace kind (R.sheet rows.old) book.old left.items first last entry number call.now reply.now }
+    ensures { IsSpliced kind (R.sheet rows.old) (R.sheet rows.new) book.old book.new number call.now reply.now result }
+{
+    let mut right = copy_path(&left);
+    walk_on(rows, &mut right, last);
+    let mut region = empty_region(left, right);
+    fill_leaves(rows, &mut region, first, last, entry);
+    splice_region(rows, book, kind, &mut region, number, call, reply)
 }

@@ -2,8 +2,8 @@
 
 ghost use Rattle.mt_splice.specs.Writes.{AreChildren, AreTended};
 
-use mt_layout::{RowKind, parent_word, row_of};
-use mt_rows::{Rows, slots};
+use mt_layout::{RowKind, parent_word, row_of, slots};
+use mt_rows::Rows;
 
 /// Writes the parent words of the children in the first slots of an inner row.
 #[tactic(auto, using(crate::proofs::Tending::none_tended, crate::proofs::Tending::is_named, crate::proofs::Tending::may_tend, crate::proofs::Tending::one_more_tended))]

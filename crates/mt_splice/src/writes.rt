@@ -1,17 +1,16 @@
 //! Rows written anew.
 
-ghost use Rattle.std.specs.Prelude.{◌≡◌, ◌<◌, ◌≤◌, ◌+◌, All, length, slice_set, []};
-ghost use Rattle.mt_base.specs.declared.widths.Width.TheVariants.{Long};
+ghost use Rattle.std.specs.Prelude.{◌≡◌, ◌≢◌, ◌<◌, ◌≤◌, ◌+◌, ◌*◌, ℕ, All, length, slice_set};
 ghost use Rattle.mt_base.specs.Width.{columns};
 ghost use Rattle.mt_layout.specs.Rows.{IsRowNumber};
-ghost use Rattle.mt_layout.specs.Columns.{FitRow};
+ghost use Rattle.mt_layout.specs.Sizes.{first_row, slots_of, gaps_of};
 ghost use Rattle.mt_rows.specs.declared.rows.Life.TheVariants.{Draft};
-ghost use Rattle.mt_rows.specs.Spans.{slots_of, gaps_of};
 ghost use Rattle.mt_rows.specs.Sheet.{IsPlace, IsFree, life_of};
 ghost use Rattle.mt_splice.specs.Writes.{AreDrafted, new_words, IsRowWritten};
 
+use mt_base::cols;
 use mt_free::RowBook;
-use mt_layout::{Item, Layout, RowKind, name_of};
+use mt_layout::{Item, RowKind, gaps, name_of, slots};
 use mt_rows::Rows;
 
 /// The parent word of a row that has no parent yet: the root's.
@@ -24,37 +23,47 @@ pub struct NewRow {
     pub count: u32,
 }
 
-/// The words of a new row with these items.
-fn words_for(kind: RowKind, items: &[Item]) -> [u64; 32]
-    requires { FitRow (slots_of Long kind) (gaps_of Long kind) items.now }
-    ensures { result ≡ new_words (record { width = Long; words = [] }) kind items.now }
+/// Writes an item into a slot of a row that may be written anew.
+fn draft_item<R: Rows>(rows: &mut R, row: u32, kind: RowKind, slot: u32, item: Item)
+    requires place { IsPlace (R.sheet rows.old).tree row 0 }
+    requires free { IsFree (R.sheet rows.old).cleared (life_of (R.sheet rows.old).lives row) }
+    requires slot { slot < slots_of (R.sheet rows.old).tree.table.width kind }
+    -- exactly the columns of the item are written, and the row is a draft then
 {
-    let mut words = [0; 32];
-    match kind {
-        RowKind::Leaf | RowKind::Inner => {
-            Layout::<16, 0>::words_of(items, NO_PARENT, &mut words);
-        }
-        RowKind::Gapped => Layout::<10, 10>::words_of(items, NO_PARENT, &mut words),
+    let width = rows.width();
+    let slots = slots(width, kind);
+    if slot + 1 < slots {
+        rows.draft(row, 1 + slot, item.last);
     }
-    words
+    rows.draft(row, slots + slot, item.word);
+    if gaps(width, kind) > 0 {
+        rows.draft(row, 2 * slots + slot, item.gap);
+    }
 }
 
-/// Writes all words of a row that may be written anew.
-#[tactic(auto, using(crate::proofs::Drafts::none_drafted, crate::proofs::Drafts::one_more))]
-fn draft_words<R: Rows>(rows: &mut R, row: u32, words: &[u64])
-    requires first { first_row ≤ row }
-    requires last { row < first_row + (R.sheet rows.old).tree.rows }
-    requires columns { length words.now ≡ columns (R.sheet rows.old).tree.table.width }
-    requires free { IsFree (R.sheet rows.old).cleared (life_of (R.sheet rows.old).lives row) }
-    ensures words { AreDrafted (R.sheet rows.old) (R.sheet rows.new) row words.now }
-    ensures life { (R.sheet rows.new).lives ≡ slice_set (R.sheet rows.old).lives row Draft }
-    ensures number { IsRowNumber row }
+/// Writes 0 into the columns of a row that no item of this kind of row uses.
+fn draft_unused<R: Rows>(rows: &mut R, row: u32, kind: RowKind)
 {
-    // Every table has few enough rows for each to be named.
-    rows.size();
-    for (col, word) in words.iter().enumerate() {
-        rows.draft(row, col as u32, *word);
+    let width = rows.width();
+    for col in 2 * slots(width, kind) + gaps(width, kind)..cols(width) {
+        rows.draft(row, col, 0);
     }
+}
+
+/// Writes all words of a row that may be written anew: of these items, without a parent. What is unused is 0.
+fn draft_row<R: Rows>(rows: &mut R, row: u32, kind: RowKind, items: &[Item])
+    requires place { IsPlace (R.sheet rows.old).tree row 0 }
+    requires free { IsFree (R.sheet rows.old).cleared (life_of (R.sheet rows.old).lives row) }
+    requires fit { length items.now ≤ slots_of (R.sheet rows.old).tree.table.width kind }
+    ensures words { AreDrafted (R.sheet rows.old) (R.sheet rows.new) row (new_words (R.sheet rows.old).tree.table kind items.now) }
+    ensures life { (R.sheet rows.new).lives ≡ slice_set (R.sheet rows.old).lives row Draft }
+{
+    rows.draft(row, 0, NO_PARENT);
+    for slot in 0..slots(rows.width(), kind) {
+        let item = items.get(slot as usize).copied().unwrap_or_default();
+        draft_item(rows, row, kind, slot, item);
+    }
+    draft_unused(rows, row, kind);
 }
 
 /// Writes a new row of this kind with these items, in a row that it takes from the book, and gives the row's name.
@@ -62,11 +71,10 @@ pub fn write_row<R: Rows>(rows: &mut R, book: &mut RowBook, kind: RowKind, items
     requires free { 0 < length book.old.free }
     requires rows { book.old.rows ≡ (R.sheet rows.old).tree.rows }
     requires spare { All (λ row. IsFree (R.sheet rows.old).cleared (life_of (R.sheet rows.old).lives row)) book.old.free }
-    requires fit { FitRow (slots_of (R.sheet rows.old).tree.table.width kind) (gaps_of (R.sheet rows.old).tree.table.width kind) items.now }
+    requires fit { length items.now ≤ slots_of (R.sheet rows.old).tree.table.width kind }
     ensures { IsRowWritten (R.sheet rows.old) (R.sheet rows.new) book.old book.new kind items.now result }
 {
     let row = book.take();
-    let words = words_for(kind, items);
-    draft_words(rows, row, &words);
+    draft_row(rows, row, kind, items);
     name_of(row, kind).word()
 }

@@ -29,8 +29,8 @@ end_empty-requires g c =
         start_of c.args.kind s (c.len.result - 1) [],
         work_of s,
         may_end_empty c.args.kind s c.args.book.now c.args.number c.args.call.now c.args.reply.now c.requires c.size.ensures.whole (g.R.Rows.sheet c.walk-left.new.rows) (g.R.Rows.sheet c.walk-right.new.rows)
-            c.walk-left.ensures.reads.rest c.walk-right.ensures.reads.rest c.walk-left.result.items c.walk-right.result.items c.width.result c.top-last.result (c.len.result - 1) c.new-made.result.items
-            c.walk-left.ensures.path c.width.ensures c.top-last.ensures c.walk-right.ensures.path deep c.new-made.ensures,
+            c.walk-left.ensures.reads.rest c.walk-right.ensures.reads.rest c.walk-left.result.items c.walk-right.result.items c.width.result c.top-last.result (c.len.result - 1) c.new-new_inner_rows.result.items
+            c.walk-left.ensures.path c.width.ensures c.top-last.ensures c.walk-right.ensures.path deep c.new-new_inner_rows.ensures,
       );
     }
 
@@ -42,8 +42,8 @@ returns g c =
     let spliced : IsSpliced c.args.kind s (g.R.Rows.sheet c.end_empty.new.rows) c.args.book.now c.end_empty.new.book c.args.number c.args.call.now c.args.reply.now Root =
     c.end_empty.ensures.level (before_of c.args.kind s c.args.book.now c.args.number) (start_of c.args.kind s (c.len.result - 1) []) (work_of s)
     (may_end_empty c.args.kind s c.args.book.now c.args.number c.args.call.now c.args.reply.now c.requires c.size.ensures.whole (g.R.Rows.sheet c.walk-left.new.rows) (g.R.Rows.sheet c.walk-right.new.rows)
-    c.walk-left.ensures.reads.rest c.walk-right.ensures.reads.rest c.walk-left.result.items c.walk-right.result.items c.width.result c.top-last.result (c.len.result - 1) c.new-made.result.items
-    c.walk-left.ensures.path c.width.ensures c.top-last.ensures c.walk-right.ensures.path deep c.new-made.ensures) in
+    c.walk-left.ensures.reads.rest c.walk-right.ensures.reads.rest c.walk-left.result.items c.walk-right.result.items c.width.result c.top-last.result (c.len.result - 1) c.new-new_inner_rows.result.items
+    c.walk-left.ensures.path c.width.ensures c.top-last.ensures c.walk-right.ensures.path deep c.new-new_inner_rows.ensures) in
     record {
       spliced = spliced;
       none_taken = c.end_empty.ensures.none_taken;

@@ -2,7 +2,7 @@ use Rattle.std.proofs.Common.{◌≡◌, ◌<◌, ◌≤◌, ◌+◌, sym, ◌�
 use Rattle.mt_layout.specs.declared.items.Item.{Item}
 use Rattle.mt_layout.specs.Spans.{spans_from}
 use Rattle.mt_path.specs.declared.paths.PathStep.{PathStep}
-use Rattle.mt_splice.specs.Splice.{last_step}
+use Rattle.mt_path.specs.Handles.{last_step}
 use Rattle.mt_splice.specs.Regions.{IsRunOver, leaves_items}
 use Rattle.mt_splice.proofs.LeafRegions.{leaves_are}
 use Rattle.mt_splice.proofs.leaves.items_at.Goals as goal

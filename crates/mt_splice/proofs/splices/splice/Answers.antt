@@ -21,7 +21,7 @@ replace_level-requires g c =
         work_of s,
         0,
         level_may_be_replaced c.args.kind s c.args.book.now c.args.left.now.items c.args.right.now.items c.args.items.now.items c.args.number c.args.call.now c.args.reply.now c.requires c.size.ensures.whole (c.len.result - 1)
-            c.copy_path.result.items c.copy_path-2.result.items c.copy_run.result.items c.new-made.result.items deep c.copy_path.ensures c.copy_path-2.ensures c.copy_run.ensures c.new-made.ensures,
+            c.copy_path.result.items c.copy_path-2.result.items c.copy_run.result.items c.new-new_inner_rows.result.items deep c.copy_path.ensures c.copy_path-2.ensures c.copy_run.ensures c.new-new_inner_rows.ensures,
       );
     }
 
@@ -33,4 +33,4 @@ returns g c =
     (start_at c.args.kind s c.args.book.now c.args.left.now.items c.args.right.now.items c.args.items.now.items c.args.number c.args.call.now c.args.reply.now c.requires c.size.ensures.whole (c.len.result - 1))
     (work_of s) 0
     (level_may_be_replaced c.args.kind s c.args.book.now c.args.left.now.items c.args.right.now.items c.args.items.now.items c.args.number c.args.call.now c.args.reply.now c.requires c.size.ensures.whole (c.len.result - 1)
-    c.copy_path.result.items c.copy_path-2.result.items c.copy_run.result.items c.new-made.result.items deep c.copy_path.ensures c.copy_path-2.ensures c.copy_run.ensures c.new-made.ensures)
+    c.copy_path.result.items c.copy_path-2.result.items c.copy_run.result.items c.new-new_inner_rows.result.items deep c.copy_path.ensures c.copy_path-2.ensures c.copy_run.ensures c.new-new_inner_rows.ensures)

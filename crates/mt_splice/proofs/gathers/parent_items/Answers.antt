@@ -1,6 +1,6 @@
 use Rattle.std.proofs.Common.{sym}
 use Rattle.mt_splice.proofs.Ascents.{left_deep, right_deep, left_number, right_number, left_slot, more_right, none_right, rises}
-use Rattle.mt_splice.proofs.ascends.rise.Goals as goal
+use Rattle.mt_splice.proofs.ascends.parent_items.Goals as goal
 
 pub bounds-deref-at : goal.bounds-deref-at
 bounds-deref-at g c =

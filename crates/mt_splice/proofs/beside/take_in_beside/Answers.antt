@@ -3,7 +3,7 @@ use Rattle.mt_rows.specs.Sheet.{Sheet}
 use Rattle.mt_path.specs.Paths.{step_at}
 use Rattle.mt_splice.specs.Writes.{items_of_row}
 use Rattle.mt_splice.proofs.Widens.{widen_read, kind_of_tree, is_right_path, is_left_path, right_deep, left_deep, right_more, right_last, right_row, left_row, widens_right, widens_left, wide_already, few_behind, few_ahead, last_and_enough}
-use Rattle.mt_splice.proofs.beside.widen.Goals as goal
+use Rattle.mt_splice.proofs.beside.take_in_beside.Goals as goal
 
 not_both : true ≡ false → ⊥
 not_both e = cc

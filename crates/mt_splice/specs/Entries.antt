@@ -1,0 +1,34 @@
+-- What a replacement begins with, told by the entry that begins it.
+-- Source: this project's own.
+use Rattle.std.specs.Prelude.{◌≡◌, ◌-◌, ℕ, List, [], length}
+use Rattle.mt_base.specs.declared.calls.Call.{Call}
+use Rattle.mt_base.specs.declared.kinds.Kind.{Kind}
+use Rattle.mt_base.specs.Call.{acted}
+use Rattle.mt_free.specs.Book.{Book}
+use Rattle.mt_path.specs.Paths.{path_in}
+use Rattle.mt_rows.specs.Sheet.{Sheet}
+use Rattle.mt_rows.specs.Publish.{map_by, tree_as}
+use Rattle.mt_base.specs.declared.replies.Reply.{Reply}
+use Rattle.mt_layout.specs.declared.items.Item.{Item}
+use Rattle.mt_path.specs.declared.paths.PathStep.{PathStep}
+use Rattle.mt_splice.specs.Progress.{Before}
+use Rattle.mt_splice.specs.Splice.{MaySplice}
+use Rattle.mt_splice.specs.Work.{Start}
+
+-- the rows and the book as they are now
+abbrev pub before_of : Kind → Sheet → Book → ℕ → Before
+before_of kind s book number = record { sheet = s; book = book; kind = kind; number = number }
+
+-- the tree as it is now, with the map that the call makes
+abbrev pub start_of : Kind → Sheet → Call → Start
+start_of kind s call = record { tree = tree_as kind s.tree; height = length (path_in s.tree.table s.tree.root 0) - 1; map = (acted kind (map_by s.tree) call).0 }
+
+pub record IsBegunBy (b : Before) (start : Start) (kind : Kind) (s : Sheet) (book : Book) (number : ℕ) (call : Call) : Type 0 where
+  pub before : b ≡ before_of kind s book number
+  pub start : start ≡ start_of kind s call
+
+-- a store of an entry into the empty tree, where these are the items after it
+pub record IsFirst (b : Before) (start : Start) (s : Sheet) (book : Book) (items : List Item) (call : Call) (reply : Reply) : Type 0 where
+  pub right : List PathStep
+  pub begun : IsBegunBy b start b.kind s book b.number call
+  pub may : MaySplice b.kind s book [] right items b.number call reply

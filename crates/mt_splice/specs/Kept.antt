@@ -1,0 +1,46 @@
+-- A tree whose words, rows and book agree, and a call in flight on it.
+-- Source: this project's own; the kernel's writers hold the tree's lock, and free nodes after a grace period.
+use Rattle.std.specs.Prelude.{◌≡◌, ◌+◌, ◌<◌, ◌≤◌, ℕ, Bool, true, false, List, All}
+use Rattle.mt_base.specs.declared.kinds.Kind.{Kind}
+use Rattle.mt_base.specs.declared.kinds.Kind.TheVariants as trees
+use Rattle.mt_free.specs.Book.{Book, Held, IsBook, IsOut}
+use Rattle.mt_layout.specs.Sizes.{first_row}
+use Rattle.mt_rows.specs.declared.rows.Life.{Life}
+use Rattle.mt_rows.specs.declared.rows.Life.TheVariants.{New, Draft, Live, Dead}
+use Rattle.mt_rows.specs.Sheet.{Rooted, life_of}
+use Rattle.mt_rows.specs.Publish.{IsLawfulOf, IsReached, LiveAreReached, NoneBuried}
+
+-- trees of this kind are replaced: those without gaps
+abbrev pub MayBeReplaced : Kind → Type 0
+MayBeReplaced kind = kind ≡ trees.Range
+
+-- a row that no reader can hold: it was never used, or its death is cleared
+abbrev pub IsSpare : ℕ → Life → Type 0
+IsSpare cleared New = Unit {0}
+IsSpare cleared Draft = ⊥
+IsSpare cleared Live = ⊥
+IsSpare cleared (Dead call) = call ≤ cleared
+
+-- the book is of these rows: those that are out are those that are reached, its free rows are spare, and its stamps are
+-- below `number`
+pub record IsBookOf (t : Rooted) (lives : List Life) (cleared : ℕ) (book : Book) (number : ℕ) : Type 0 where
+  pub sound : IsBook book
+  pub rows : book.rows ≡ t.rows
+  pub out : (row : ℕ) → first_row ≤ row → row < first_row + t.rows → IsOut book row → IsReached t row
+  pub reached : (row : ℕ) → IsReached t row → IsOut book row
+  pub spare : All (λ row. IsSpare cleared (life_of lives row)) book.free
+  pub stamps : All (λ (h : Held). h.stamp < number) book.held
+
+-- The words of a tree of this kind are lawful, the live rows are those that are reached, none is buried, and the book is of
+-- these rows.
+pub record IsKept (kind : Kind) (t : Rooted) (lives : List Life) (buried : List Bool) (cleared : ℕ) (book : Book) (number : ℕ) : Type 0 where
+  pub lawful : IsLawfulOf t kind
+  pub live : LiveAreReached t lives
+  pub none_buried : NoneBuried t.rows buried
+  pub booked : IsBookOf t lives cleared book number
+
+-- the call of this number is in flight and has published nothing
+pub record IsUnpublished (in_flight published : Bool) (ended number : ℕ) : Type 0 where
+  pub in_flight : in_flight ≡ true
+  pub before : published ≡ false
+  pub numbered : number ≡ ended + 1

@@ -1,0 +1,57 @@
+//! How a replacement goes on at a level, decided before a row of it is written.
+
+ghost use Rattle.std.specs.Prelude.{◌≡◌, ◌<◌, ◌≤◌, true, [], ◌∷◌, length};
+ghost use Rattle.mt_layout.specs.declared.names.RowKind.TheVariants.{Leaf};
+ghost use Rattle.mt_splice.specs.Decisions.{IsNext, item_words};
+
+use crate::regions::{Region, step_on};
+use mt_base::{Width, top};
+use mt_layout::RowKind;
+
+/// How a replacement goes on, when what is to stand in the rows of a level is known.
+#[derive(Clone, Copy, Debug, PartialEq, Eq)]
+pub enum Next {
+    /// One hole is all that is to stand in the leaves: nothing is left of the tree.
+    Empty,
+    /// One row stands for every index: it becomes the root.
+    Root,
+    /// Several rows stand in the place of the root: they stand in a new root.
+    RootAbove,
+    /// One row takes the place of one row, in the slot of the row above.
+    Slot,
+    /// The rows above must change too.
+    Up,
+}
+
+/// How a replacement goes on at a level whose items are cut into so many rows.
+pub fn next_of(width: Width, region: &Region, depth: u32, kind: RowKind, pieces: usize) -> Next
+    requires left { depth < length region.now.left.items }
+    requires right { depth < length region.now.right.items }
+    requires some { 1 ≤ pieces }
+    ensures { IsNext width region.now.left.items region.now.right.items depth kind region.now.run.items pieces result }
+{
+    let left = step_on(&region.left, depth);
+    let right = step_on(&region.right, depth);
+    let all = left.min == 0 && right.max == top(width);
+    if all && is_one_hole(region, kind) {
+        return Next::Empty;
+    }
+    if pieces == 1 && all {
+        return Next::Root;
+    }
+    if depth == 0 {
+        return Next::RootAbove;
+    }
+    if pieces == 1 && left.min == right.min {
+        return Next::Slot;
+    }
+    Next::Up
+}
+
+/// Whether one hole is all that is to stand in the leaves.
+fn is_one_hole(region: &Region, kind: RowKind) -> bool
+    ensures hole { result ≡ true → (kind ≡ Leaf) × (item_words region.now.run.items ≡ 0 ∷ []) }
+    ensures other { kind ≡ Leaf → item_words region.now.run.items ≡ 0 ∷ [] → result ≡ true }
+{
+    kind == RowKind::Leaf && region.run.len() == 1 && region.run[0].word == 0
+}
