@@ -16,7 +16,8 @@ use Rattle.mt_rows.specs.declared.rows.Place.{Place}
 use Rattle.mt_rows.specs.Trees.{height_in}
 use Rattle.mt_rows.specs.Sheet.{Sheet, life_of}
 use Rattle.mt_rows.specs.Publish.{MayFinish, tree_as, is_reached, finished, map_by, with_record}
-use Rattle.mt_splice.specs.Splice.{IsBookOf, IsSpliced}
+use Rattle.mt_splice.specs.Splice.{IsSpliced}
+use Rattle.mt_splice.specs.Kept.{IsBookOf}
 use Rattle.mt_splice.specs.Between.{IsBetweenCalls}
 use Rattle.mt_splice.proofs.BetweenCalls.{low_tree, ready_again}
 use Rattle.mt_engine.specs.Engine.{IsEngineState, IsIdle, HadRoom, IsAnswered, is_refusal}

@@ -17,7 +17,8 @@ use Rattle.mt_rows.specs.declared.rows.Place.TheVariants.{Root}
 use Rattle.mt_rows.specs.Sheet.{Tree, Sheet, OnlyReads}
 use Rattle.mt_rows.specs.Publish.{map_by, with_record}
 use Rattle.mt_splice.specs.Splice.{IsStoreBy, IsSpliced}
-use Rattle.mt_engine.specs.Engine.{IsInCall, IsAnswered, HadRoom, TookRows, WasScanned, is_refusal}
+use Rattle.mt_engine.specs.Engine.{IsInCall, IsAnswered, HadRoom, TookRows, is_refusal}
+use Rattle.mt_rows.specs.Publish.{WasScanned}
 use Rattle.mt_engine.specs.Rooms.{IsScanned, HasRoom}
 use Rattle.mt_engine.proofs.AfterSplice.{not_both, acts_by, may_finish, idle_after, told, rest_is, answered_by}
 

@@ -12,7 +12,8 @@ use Rattle.mt_base.specs.Nodes.{NeedsRows}
 use Rattle.mt_base.specs.Width.{greatest}
 use Rattle.mt_free.specs.Book.{Book}
 use Rattle.mt_rows.specs.Spans.{root_span}
-use Rattle.mt_rows.specs.Trees.{height_in, deepest}
+use Rattle.mt_rows.specs.Trees.{height_in}
+use Rattle.mt_base.specs.Width.{deepest}
 use Rattle.mt_rows.specs.Laws.{IsLawful}
 use Rattle.mt_rows.specs.Sheet.{Sheet, OnlyReads}
 use Rattle.mt_rows.specs.Publish.{tree_as, map_by}
@@ -22,10 +23,11 @@ use Rattle.mt_path.specs.declared.paths.PathStep.{PathStep}
 use Rattle.mt_path.proofs.Entering.{path_of_none}
 use Rattle.mt_path.proofs.TreePaths.{levels}
 use Rattle.mt_layout.specs.Rows.{named_kind}
-use Rattle.mt_splice.specs.Splice.{IsStoreBy, MayReplace, IsBookOf}
-use Rattle.mt_engine.specs.declared.handles.Handle.{Handle}
+use Rattle.mt_splice.specs.Splice.{IsStoreBy, MayReplace}
+use Rattle.mt_splice.specs.Kept.{IsBookOf}
+use Rattle.mt_path.specs.declared.handles.Handle.{Handle}
 use Rattle.mt_engine.specs.declared.ways.Way.TheVariants.{Nothing, OneWord, NewRows}
-use Rattle.mt_engine.specs.Handles.{handle_in, IsHandleOf}
+use Rattle.mt_path.specs.Handles.{handle_in, IsHandleOf}
 use Rattle.mt_engine.specs.Engine.{IsInCall}
 use Rattle.mt_engine.specs.Rooms.{IsScanned, HasRoom}
 use Rattle.mt_engine.specs.Ways.{IsHoleOver, IsExactly, IsWay}
@@ -82,7 +84,7 @@ module _ (s : Sheet) (book : Book) (in_call : IsInCall s book) (first last entry
   some_entry (Some handle) here way empty = absurd (not_none handle (s.tree.root ≡ 0) here.none empty)
 
   -- a store by one word is one of the range of the handle
-  pub one_handle : (here : Option Handle) (at : Handle) → StandsHere s first here → IsWay here first last entry (OneWord at) → IsHandleOf s at
+  pub one_handle : (here : Option Handle) (at : Handle) → StandsHere s first here → IsWay here first last entry (OneWord at) → IsHandleOf s.tree at
   one_handle None at here way = absurd way
   one_handle (Some handle) at here way = record { some = some_root handle here; index = first; within = within; is = way.0 ∙ here.some }
 

@@ -6,7 +6,7 @@ use Rattle.mt_base.specs.Width.{greatest}
 use Rattle.mt_layout.specs.declared.spans.Span.{Span}
 use Rattle.mt_layout.specs.Rows.{named_kind}
 use Rattle.mt_rows.specs.Spans.{root_span}
-use Rattle.mt_rows.specs.Trees.{deepest}
+use Rattle.mt_base.specs.Width.{deepest}
 use Rattle.mt_rows.specs.Laws as laws
 use Rattle.mt_rows.specs.Publish.{IsTreeOf, tree_as}
 use Rattle.mt_rows.specs.Sheet.{Sheet, loaded}
@@ -14,9 +14,9 @@ use Rattle.mt_path.specs.declared.paths.PathStep.{PathStep}
 use Rattle.mt_path.specs.Paths.{span_at, path_in, no_step}
 use Rattle.mt_path.proofs.Entering.{path_of_none}
 use Rattle.mt_path.proofs.TreePaths.{levels}
-use Rattle.mt_splice.specs.Splice.{last_step, leaf_spans}
-use Rattle.mt_engine.specs.declared.handles.Handle.{Handle}
-use Rattle.mt_engine.specs.Handles.{leaf_in, handle_in, IsHandleOf, IsStepOfLeaf}
+use Rattle.mt_path.specs.Handles.{last_step, leaf_spans}
+use Rattle.mt_path.specs.declared.handles.Handle.{Handle}
+use Rattle.mt_path.specs.Handles.{leaf_in, handle_in, IsHandleOf, IsStepOfLeaf}
 use Rattle.mt_engine.proofs.LeafSlots.{fills_within, fills_next, fills_more, fills_slot}
 use Rattle.mt_engine.proofs.LeafSteps.{IsStepTo, step_to, leaf_of_other, here_in, slot_low}
 
@@ -24,7 +24,7 @@ use Rattle.mt_engine.proofs.LeafSteps.{IsStepTo, step_to, leaf_of_other, here_in
 
 module _ (s : Sheet) (kind : Kind) (tree : IsTreeOf s.tree kind) where
   -- the leaf at the end of a path that has a step
-  pub step_of_index : (index : ℕ) → s.tree.root ≢ 0 → index ≤ greatest s.tree.table.width → IsStepOfLeaf s (leaf_in s.tree index)
+  pub step_of_index : (index : ℕ) → s.tree.root ≢ 0 → index ≤ greatest s.tree.table.width → IsStepOfLeaf s.tree (leaf_in s.tree index)
   step_of_index index some inside = record {
     some = some;
     index = index;
@@ -33,7 +33,7 @@ module _ (s : Sheet) (kind : Kind) (tree : IsTreeOf s.tree kind) where
     used = (step_to s kind index tree some inside).used;
   }
 
-  module _ (handle : Handle) (is : IsHandleOf s handle) where
+  module _ (handle : Handle) (is : IsHandleOf s.tree handle) where
     abbrev leaf_of_is : PathStep
     leaf_of_is = leaf_in s.tree is.index
 
@@ -45,7 +45,7 @@ module _ (s : Sheet) (kind : Kind) (tree : IsTreeOf s.tree kind) where
 
     -- what holds of the next slot of the same leaf, and of the one before
     other_slot : (slot other : ℕ) → slot < length spans → (span_at spans slot).first ≤ other → other ≤ (span_at spans slot).last
-        → IsStepOfLeaf s (record leaf_of_is { slot = slot }) × (leaf_in s.tree other ≡ record leaf_of_is { slot = slot })
+        → IsStepOfLeaf s.tree (record leaf_of_is { slot = slot }) × (leaf_in s.tree other ≡ record leaf_of_is { slot = slot })
     other_slot slot other used from to =
         let fills = facts.leaf.fills in
         let within = fills_within leaf_of_is.min (leaf_of_is.max + 1) spans slot fills used in
@@ -57,7 +57,7 @@ module _ (s : Sheet) (kind : Kind) (tree : IsTreeOf s.tree kind) where
         )
 
     behind_slot : (span_at spans leaf_of_is.slot).last ≢ leaf_of_is.max
-        → IsStepOfLeaf s (record leaf_of_is { slot = leaf_of_is.slot + 1 }) × (leaf_in s.tree ((span_at spans leaf_of_is.slot).last + 1) ≡ record leaf_of_is { slot = leaf_of_is.slot + 1 })
+        → IsStepOfLeaf s.tree (record leaf_of_is { slot = leaf_of_is.slot + 1 }) × (leaf_in s.tree ((span_at spans leaf_of_is.slot).last + 1) ≡ record leaf_of_is { slot = leaf_of_is.slot + 1 })
     behind_slot other =
         let fills = facts.leaf.fills in let used = facts.used in
         let more = fills_more leaf_of_is.min (leaf_of_is.max + 1) spans leaf_of_is.slot fills used (λ same. other (omega arith)) in
@@ -66,10 +66,10 @@ module _ (s : Sheet) (kind : Kind) (tree : IsTreeOf s.tree kind) where
         let wide = fills_within leaf_of_is.min (leaf_of_is.max + 1) spans (suc leaf_of_is.slot) fills more in
         let order = wide.1 in
         let both = other_slot (suc leaf_of_is.slot) ((span_at spans leaf_of_is.slot).last + 1) more (omega arith) (omega arith) in
-        subst (λ (n : ℕ). IsStepOfLeaf s (record leaf_of_is { slot = n }) × (leaf_in s.tree ((span_at spans leaf_of_is.slot).last + 1) ≡ record leaf_of_is { slot = n })) plus both
+        subst (λ (n : ℕ). IsStepOfLeaf s.tree (record leaf_of_is { slot = n }) × (leaf_in s.tree ((span_at spans leaf_of_is.slot).last + 1) ≡ record leaf_of_is { slot = n })) plus both
 
     before_slot : leaf_of_is.slot ≢ 0
-        → IsStepOfLeaf s (record leaf_of_is { slot = leaf_of_is.slot - 1 }) × (leaf_in s.tree ((span_at spans leaf_of_is.slot).first - 1) ≡ record leaf_of_is { slot = leaf_of_is.slot - 1 })
+        → IsStepOfLeaf s.tree (record leaf_of_is { slot = leaf_of_is.slot - 1 }) × (leaf_in s.tree ((span_at spans leaf_of_is.slot).first - 1) ≡ record leaf_of_is { slot = leaf_of_is.slot - 1 })
     before_slot other =
         let fills = facts.leaf.fills in let used = facts.used in
         let plus : suc (leaf_of_is.slot - 1) ≡ leaf_of_is.slot = omega arith in
@@ -98,9 +98,9 @@ module _ (s : Sheet) (kind : Kind) (tree : IsTreeOf s.tree kind) where
     slot_fits = subst (λ (x : PathStep). x.slot < 16) (sym leaf_is) (slot_low s kind leaf_of_is tree (step_of_index is.index is.some is.within))
 
     -- the slot behind, and what stands in it
-    pub step_behind : handle.span.last ≢ handle.leaf.max → IsStepOfLeaf s (record handle.leaf { slot = handle.leaf.slot + 1 })
+    pub step_behind : handle.span.last ≢ handle.leaf.max → IsStepOfLeaf s.tree (record handle.leaf { slot = handle.leaf.slot + 1 })
     step_behind other =
-        subst (λ (x : PathStep). IsStepOfLeaf s (record x { slot = x.slot + 1 })) (sym leaf_is)
+        subst (λ (x : PathStep). IsStepOfLeaf s.tree (record x { slot = x.slot + 1 })) (sym leaf_is)
         (behind_slot (λ same. other (ap (λ (x : Span). x.last) span_of_is ∙ (same ∙ sym (ap (λ (x : PathStep). x.max) leaf_is))))).0
 
     pub handle_behind : (span : Span) → handle.span.last ≢ handle.leaf.max → span ≡ here_in s.tree.table (record handle.leaf { slot = handle.leaf.slot + 1 })
@@ -112,9 +112,9 @@ module _ (s : Sheet) (kind : Kind) (tree : IsTreeOf s.tree kind) where
         λ i. record { leaf = leaf i; span = (loaded ∙ ap (here_in s.tree.table) leaf) i }
 
     -- the slot before, and what stands in it
-    pub step_before : handle.leaf.slot ≢ 0 → IsStepOfLeaf s (record handle.leaf { slot = handle.leaf.slot - 1 })
+    pub step_before : handle.leaf.slot ≢ 0 → IsStepOfLeaf s.tree (record handle.leaf { slot = handle.leaf.slot - 1 })
     step_before other =
-        subst (λ (x : PathStep). IsStepOfLeaf s (record x { slot = x.slot - 1 })) (sym leaf_is)
+        subst (λ (x : PathStep). IsStepOfLeaf s.tree (record x { slot = x.slot - 1 })) (sym leaf_is)
         (before_slot (λ same. other (ap (λ (x : PathStep). x.slot) leaf_is ∙ same))).0
 
     pub handle_before : (span : Span) → handle.leaf.slot ≢ 0 → span ≡ here_in s.tree.table (record handle.leaf { slot = handle.leaf.slot - 1 })
@@ -133,11 +133,11 @@ module _ (s : Sheet) (kind : Kind) (tree : IsTreeOf s.tree kind) (index : ℕ) (
       let none = ap length (path ∙ path_of_none s.tree.table deepest (root_span s.tree.table s.tree.root) index (ap named_kind empty)) in
       absurd (omega arith)
 
-  pub end_is_leaf : (leaf : PathStep) → slice_get steps (length steps - 1) ≡ Some leaf → IsStepOfLeaf s leaf
+  pub end_is_leaf : (leaf : PathStep) → slice_get steps (length steps - 1) ≡ Some leaf → IsStepOfLeaf s.tree leaf
   end_is_leaf leaf end =
       let within = slice_get_within steps (length steps - 1) leaf end in
       let is : leaf ≡ leaf_in s.tree index = sym (get_or_from_slice_get steps (length steps - 1) leaf no_step end) ∙ ap last_step path in
-      subst (IsStepOfLeaf s) (sym is) (step_of_index s kind tree index (some_root (omega arith)) inside)
+      subst (IsStepOfLeaf s.tree) (sym is) (step_of_index s kind tree index (some_root (omega arith)) inside)
 
   no_end : slice_get steps (length steps - 1) ≡ None → length steps ≡ 0
   no_end none = by steps none

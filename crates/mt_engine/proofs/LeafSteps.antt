@@ -12,7 +12,8 @@ use Rattle.mt_layout.specs.Columns.{gap_at, items_at}
 use Rattle.mt_layout.specs.declared.items.Item.{Item}
 use Rattle.mt_layout.specs.Spans.{Fills}
 use Rattle.mt_layout.proofs.NameLaws.{Names-named_kind}
-use Rattle.mt_rows.specs.Spans.{Table, base_of, column, slots_of, gaps_of, spans_in}
+use Rattle.mt_rows.specs.Spans.{Table, base_of, column, spans_in}
+use Rattle.mt_layout.specs.Sizes.{slots_of, gaps_of}
 use Rattle.mt_rows.specs.Laws as laws
 use Rattle.mt_rows.specs.Publish.{IsTreeOf, tree_as}
 use Rattle.mt_rows.specs.Sheet.{Sheet, IsPlace, OnlyReads, word_at, loaded}
@@ -23,10 +24,10 @@ use Rattle.mt_path.proofs.Places.{at_get, at_within}
 use Rattle.mt_path.proofs.Bounds.{greatest_fits}
 use Rattle.mt_path.proofs.Steps.{rows_agree}
 use Rattle.mt_path.proofs.TreePaths.{top_row, rows_at, row_of, levels, step, place as place_at, lawful, holds, root_leads}
-use Rattle.mt_splice.specs.Splice.{leaf_spans}
+use Rattle.mt_path.specs.Handles.{leaf_spans}
 use Rattle.mt_splice.proofs.Gathering.{few_items}
 use Rattle.mt_splice.proofs.PathRows.{spans_of_step}
-use Rattle.mt_engine.specs.Handles.{leaf_in, IsStepOfLeaf}
+use Rattle.mt_path.specs.Handles.{leaf_in, IsStepOfLeaf}
 use Rattle.mt_engine.proofs.LeafSlots.{StandsIn, stands_in, fills_within, fills_first, fills_next}
 
 -- ---- a leaf of a tree
@@ -132,7 +133,7 @@ module _ (s : Sheet) (kind : Kind) where
 
   -- ---- one of a leaf's slots
 
-  pub leaf_of_step : (leaf : PathStep) → IsTreeOf s.tree kind → IsStepOfLeaf s leaf → IsLeaf s leaf
+  pub leaf_of_step : (leaf : PathStep) → IsTreeOf s.tree kind → IsStepOfLeaf s.tree leaf → IsLeaf s leaf
   leaf_of_step leaf tree step =
       let facts = (step_to step.index tree step.some step.within).leaf in
       subst (IsLeaf s) (sym step.leaf) (record { first = facts.first; row = facts.row; fills = facts.fills; within = facts.within })
@@ -197,7 +198,7 @@ begins_at_min : (t : Table) (leaf : PathStep) (slot : ℕ) → Fills leaf.min (l
 begins_at_min t leaf zero fills used none = sym (fills_first leaf.min (leaf.max + 1) (leaf_spans t leaf) fills used)
 begins_at_min t leaf (suc slot) fills used none = absurd (omega arith)
 
-module _ (s : Sheet) (kind : Kind) (leaf : PathStep) (tree : IsTreeOf s.tree kind) (step : IsStepOfLeaf s leaf) where
+module _ (s : Sheet) (kind : Kind) (leaf : PathStep) (tree : IsTreeOf s.tree kind) (step : IsStepOfLeaf s.tree leaf) where
   pub slot_low : leaf.slot < 16
   slot_low = let few = few_spans s.tree.table leaf in let used = step.used in omega arith
 
@@ -244,10 +245,10 @@ tree_with s kind reads tree = record { of_kind = record { told = tree.of_kind.to
 pub tree_if_read : (s s' : Sheet) (kind : Kind) → OnlyReads s s' → IsTreeOf s.tree kind → IsTreeOf s'.tree kind
 tree_if_read s s' kind reads tree = subst (λ (r : Sheet). IsTreeOf r.tree kind) (sym reads) (tree_with s kind s'.reads tree)
 
-step_with : (s : Sheet) (leaf : PathStep) (reads : Option ℕ) → IsStepOfLeaf s leaf → IsStepOfLeaf (record s { reads = reads }) leaf
+step_with : (s : Sheet) (leaf : PathStep) (reads : Option ℕ) → IsStepOfLeaf s.tree leaf → IsStepOfLeaf (record s { reads = reads }) leaf
 step_with s leaf reads step = record { some = step.some; index = step.index; within = step.within; leaf = step.leaf; used = step.used }
 
-pub step_if_read : (s s' : Sheet) (leaf : PathStep) → OnlyReads s s' → IsStepOfLeaf s leaf → IsStepOfLeaf s' leaf
+pub step_if_read : (s s' : Sheet) (leaf : PathStep) → OnlyReads s s' → IsStepOfLeaf s.tree leaf → IsStepOfLeaf s'.tree leaf
 step_if_read s s' leaf reads step = subst (λ (r : Sheet). IsStepOfLeaf r leaf) (sym reads) (step_with s leaf s'.reads step)
 
 place_with : (s : Sheet) (number col : ℕ) (reads : Option ℕ) → IsPlace s.tree number col → IsPlace (record s { reads = reads }).tree number col

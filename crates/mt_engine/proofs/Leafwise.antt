@@ -18,7 +18,8 @@ use Rattle.mt_layout.specs.Rows.{named_kind}
 use Rattle.mt_layout.proofs.NameLaws.{Names-named_kind}
 use Rattle.mt_rows.specs.Spans.{Table, spans_in, root_span}
 use Rattle.mt_rows.specs.Levels.{expand, level, map_of}
-use Rattle.mt_rows.specs.Trees.{map_in, deepest}
+use Rattle.mt_rows.specs.Trees.{map_in}
+use Rattle.mt_base.specs.Width.{deepest}
 use Rattle.mt_rows.specs.Laws.{Tree, IsRow, IsTree, Stands, top_of}
 use Rattle.mt_rows.specs.Sheet.{Sheet, IsPlace, OnlyReads}
 use Rattle.mt_rows.specs.Sheet as sheets
@@ -31,9 +32,9 @@ use Rattle.mt_path.specs.Paths.{path_in, step_at, step_in, no_step, At}
 use Rattle.mt_path.proofs.Entering.{path_of_none}
 use Rattle.mt_path.proofs.Places.{at_within}
 use Rattle.mt_path.proofs.TreePaths.{row_of, rows_at, levels, step, place, lawful, rows_fill, right_begins}
-use Rattle.mt_splice.specs.Splice.{last_step, leaf_spans}
+use Rattle.mt_path.specs.Handles.{last_step, leaf_spans}
 use Rattle.mt_splice.proofs.PathRows.{spans_of_step}
-use Rattle.mt_engine.specs.Handles.{leaf_in}
+use Rattle.mt_path.specs.Handles.{leaf_in}
 use Rattle.mt_engine.specs.Listing.{ranges_from, BeginsLeaf, TakesLeaf}
 
 -- ---- ranges and where they begin

@@ -24,13 +24,14 @@ use Rattle.mt_rows.specs.declared.rows.Life.{Life}
 use Rattle.mt_rows.specs.declared.rows.Life.TheVariants.{New, Dead}
 use Rattle.mt_rows.specs.declared.rows.Place.{Place}
 use Rattle.mt_rows.specs.declared.rows.Place.TheVariants.{Slot}
-use Rattle.mt_rows.specs.Spans.{Table, column, slots_of, spans_in}
+use Rattle.mt_rows.specs.Spans.{Table, column, spans_in}
+use Rattle.mt_layout.specs.Sizes.{slots_of}
 use Rattle.mt_rows.specs.Levels.{Levels, is_row_of, map_of}
 use Rattle.mt_rows.specs.Laws as laws
 use Rattle.mt_rows.specs.Sheet.{Sheet, Tree, IsWhole, life_of, with_word}
 use Rattle.mt_rows.specs.Publish.{tree_as, AreOfKind, map_by, is_reached, LiveAreReached, NoneBuried, MayPublish, Published, with_record, life_after, finished}
 use Rattle.mt_rows.specs.Replacement.{root_of, IsSlotAt, ReplacesEntry}
-use Rattle.mt_rows.specs.Trees.{deepest}
+use Rattle.mt_base.specs.Width.{deepest}
 use Rattle.mt_rows.proofs.ExactStore.{may_publish}
 use Rattle.mt_rows.proofs.Heights.{levels_upper, levels_both, upper_both, upper_shared}
 use Rattle.mt_rows.proofs.Reached as reached
@@ -42,10 +43,11 @@ use Rattle.mt_path.specs.Paths.{slot_for, below, step_in}
 use Rattle.mt_path.specs.declared.paths.PathStep.{PathStep}
 use Rattle.mt_path.proofs.Places.{at_get}
 use Rattle.mt_path.proofs.TreePaths.{row_of, place, holds, top_row}
-use Rattle.mt_splice.specs.Splice.{IsBookOf, IsSpare, IsStoreBy}
+use Rattle.mt_splice.specs.Splice.{IsStoreBy}
+use Rattle.mt_splice.specs.Kept.{IsBookOf, IsSpare}
 use Rattle.mt_splice.proofs.BetweenCalls.{acts_so}
-use Rattle.mt_engine.specs.declared.handles.Handle.{Handle}
-use Rattle.mt_engine.specs.Handles.{IsHandleOf}
+use Rattle.mt_path.specs.declared.handles.Handle.{Handle}
+use Rattle.mt_path.specs.Handles.{IsHandleOf}
 use Rattle.mt_engine.specs.Engine.{IsInCall, IsEngineState, IsAnswered, IsAnsweredByOneWord, is_refusal}
 use Rattle.mt_engine.proofs.AfterSplice.{not_both}
 use Rattle.mt_engine.specs.MapSpans.{range_of}
@@ -246,7 +248,7 @@ module _ (s : Sheet) (book : Book) (after : Tree) (lives : List Life) (buried : 
 
 -- ---- by a handle
 
-module _ (s : Sheet) (book : Book) (handle : Handle) (entry : ℕ) (call : Call) (reply : Reply) (whole : IsWhole s) (in_call : IsInCall s book) (is : IsHandleOf s handle) (range : handle.span.word ≢ 0) (new : entry ≢ 0)
+module _ (s : Sheet) (book : Book) (handle : Handle) (entry : ℕ) (call : Call) (reply : Reply) (whole : IsWhole s) (in_call : IsInCall s book) (is : IsHandleOf s.tree handle) (range : handle.span.word ≢ 0) (new : entry ≢ 0)
     (stores : IsStoreBy trees.Range (greatest s.tree.table.width) (map_by s.tree) call reply handle.span.first handle.span.last entry) (slots : ℕ) (are_slots : slots ≡ slots_of s.tree.table.width Leaf) where
   abbrev words : laws.Tree
   words = tree_as trees.Range s.tree

@@ -9,7 +9,8 @@ use Rattle.mt_rows.specs.declared.rows.Place.TheVariants.{Root}
 use Rattle.mt_rows.specs.Trees.{map_in}
 use Rattle.mt_rows.specs.Sheet.{Tree, Sheet, OnlyReads}
 use Rattle.mt_rows.specs.Publish.{map_by}
-use Rattle.mt_splice.specs.Splice.{MayClear, IsBookOf, IsSpliced}
+use Rattle.mt_splice.specs.Splice.{MayClear, IsSpliced}
+use Rattle.mt_splice.specs.Kept.{IsBookOf}
 use Rattle.mt_engine.specs.Engine.{IsInCall, IsAnswered}
 use Rattle.mt_engine.proofs.Answering.{clears}
 use Rattle.mt_engine.proofs.InCalls.{in_call_if_read, answered_after_reads}

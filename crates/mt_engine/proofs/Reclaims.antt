@@ -9,7 +9,7 @@ use Rattle.mt_free.proofs.Books.{book, reclaim_leaves_book, first_due, none_due}
 use Rattle.mt_rows.specs.declared.rows.Life.{Life}
 use Rattle.mt_rows.specs.declared.rows.Life.TheVariants.{New, Draft, Live, Dead}
 use Rattle.mt_rows.specs.Sheet.{Sheet, life_of}
-use Rattle.mt_splice.specs.Splice.{IsSpare}
+use Rattle.mt_splice.specs.Kept.{IsSpare}
 
 -- the held row died by the call that the book tells, which has ended
 pub record DiedBy (s : Sheet) (h : Held) : Type 0 where

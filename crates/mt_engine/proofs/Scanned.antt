@@ -7,8 +7,9 @@ use Rattle.mt_free.specs.Book.{Book, after_reclaim}
 use Rattle.mt_free.proofs.StillOut.{out_after_reclaim}
 use Rattle.mt_rows.specs.declared.rows.Scan.{Scan}
 use Rattle.mt_rows.specs.Sheet.{Sheet, life_of, scanned, one_more}
-use Rattle.mt_splice.specs.Splice.{IsBookOf, IsSpare}
-use Rattle.mt_engine.specs.Engine.{IsEngineState, IsInCall, WasScanned, CountsScans}
+use Rattle.mt_splice.specs.Kept.{IsBookOf, IsSpare}
+use Rattle.mt_engine.specs.Engine.{IsEngineState, IsInCall, CountsScans}
+use Rattle.mt_rows.specs.Publish.{WasScanned}
 use Rattle.mt_engine.specs.Rooms.{IsScanned}
 use Rattle.mt_engine.proofs.Reclaims.{Kept, spare_rises, reclaimed}
 

@@ -14,14 +14,16 @@ use Rattle.mt_base.specs.Nodes.{IsShort}
 use Rattle.mt_free.specs.Book.{Held, Book, live_count, held_rows}
 use Rattle.mt_rows.specs.declared.rows.Scan.{Scan}
 use Rattle.mt_rows.specs.Spans.{root_span}
-use Rattle.mt_rows.specs.Trees.{map_in, reached_in, height_in, deepest}
+use Rattle.mt_rows.specs.Trees.{map_in, reached_in, height_in}
+use Rattle.mt_base.specs.Width.{deepest}
 use Rattle.mt_rows.specs.Laws.{Tree, Stands}
 use Rattle.mt_rows.specs.Sheet.{Sheet, IsScan, scanned}
 use Rattle.mt_rows.specs.Publish.{tree_as, IsLawfulOf, IsTreeOf, IsHeldBack, IsCounted, map_by}
 use Rattle.mt_rows.proofs.Depth.{height_by_depth}
 use Rattle.mt_rows.proofs.FewRows.{few_rows, row_on_each_level, many_ranges}
 use Rattle.mt_splice.proofs.LiveRows.{live_is_reached}
-use Rattle.mt_engine.specs.Engine.{IsInCall, WasScanned}
+use Rattle.mt_engine.specs.Engine.{IsInCall}
+use Rattle.mt_rows.specs.Publish.{WasScanned}
 use Rattle.mt_engine.specs.Rooms.{IsScanned, IsShortOf}
 use Rattle.mt_engine.proofs.Reclaims.{left_later}
 

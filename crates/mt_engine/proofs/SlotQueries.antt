@@ -16,12 +16,13 @@ use Rattle.mt_rows.specs.Levels.{map_of}
 use Rattle.mt_rows.specs.Publish.{IsTreeOf, map_by, tree_as}
 use Rattle.mt_rows.specs.Sheet.{Sheet, Tree, OnlyReads}
 use Rattle.mt_rows.specs.Spans.{root_span}
-use Rattle.mt_rows.specs.Trees.{map_in, deepest}
+use Rattle.mt_rows.specs.Trees.{map_in}
+use Rattle.mt_base.specs.Width.{deepest}
 use Rattle.mt_rows.proofs.Between.{Between, map_between}
 use Rattle.mt_rows.proofs.Depth.{ranges_by_depth}
 use Rattle.mt_rows.proofs.Lists.{all_map}
-use Rattle.mt_engine.specs.declared.handles.Handle.{Handle}
-use Rattle.mt_engine.specs.Handles.{handle_in, IsHandleOf}
+use Rattle.mt_path.specs.declared.handles.Handle.{Handle}
+use Rattle.mt_path.specs.Handles.{handle_in, IsHandleOf}
 use Rattle.mt_engine.specs.MapSpans.{range_of, IsSpanAt}
 use Rattle.mt_engine.specs.Nearest.{first_from, last_up_to}
 use Rattle.mt_engine.proofs.MapQueries as queries
@@ -41,7 +42,7 @@ pub record IsHandleAt (s : Sheet) (index : ℕ) (h : Handle) : Type 0 where
   pub within : index ≤ greatest s.tree.table.width
   pub is : h ≡ handle_in s.tree index
 
-pub handle_kept : (s s' : Sheet) (index : ℕ) (h : Handle) → OnlyReads s s' → IsHandleAt s index h → IsHandleOf s' h
+pub handle_kept : (s s' : Sheet) (index : ℕ) (h : Handle) → OnlyReads s s' → IsHandleAt s index h → IsHandleOf s'.tree h
 handle_kept s s' index h reads at =
     let same = sym (tree_same s s' reads) in
     record {

@@ -9,7 +9,7 @@ use Rattle.mt_layout.specs.declared.spans.Span.{Span}
 use Rattle.mt_layout.specs.Spans.{Fills, Apart}
 use Rattle.mt_rows.specs.Spans.{spans_in}
 use Rattle.mt_rows.specs.Levels.{expand}
-use Rattle.mt_rows.specs.Trees.{deepest}
+use Rattle.mt_base.specs.Width.{deepest}
 use Rattle.mt_rows.specs.Laws.{Tree, IsTree, IsRow, Stands, top_of}
 use Rattle.mt_rows.specs.Publish.{IsTreeOf, tree_as, map_by}
 use Rattle.mt_rows.specs.Sheet.{Sheet}
@@ -21,9 +21,9 @@ use Rattle.mt_path.specs.declared.paths.PathStep.{PathStep}
 use Rattle.mt_path.specs.Paths.{slot_for, span_at, step_in, below, path_in, step_at, At}
 use Rattle.mt_path.proofs.Places.{at_parts}
 use Rattle.mt_path.proofs.TreePaths.{top_row, rows_at, row_of, levels, step, place, rows_fill, lawful, holds}
-use Rattle.mt_splice.specs.Splice.{last_step, leaf_spans}
+use Rattle.mt_path.specs.Handles.{last_step, leaf_spans}
 use Rattle.mt_splice.proofs.PathRows.{spans_of_step}
-use Rattle.mt_engine.specs.Handles.{handle_in}
+use Rattle.mt_path.specs.Handles.{handle_in}
 use Rattle.mt_engine.specs.MapSpans.{IsSpanAt}
 use Rattle.mt_engine.proofs.SpanLists.{ranges, apart_join, span_tells}
 

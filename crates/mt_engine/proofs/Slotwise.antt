@@ -9,10 +9,11 @@ use Rattle.mt_layout.specs.declared.spans.Span.{Span}
 use Rattle.mt_layout.specs.declared.names.RowKind.TheVariants.{Leaf}
 use Rattle.mt_layout.specs.Columns.{item_at, items_from, pivot_column, slot_column}
 use Rattle.mt_layout.specs.Spans.{spans_from, leaf_range}
-use Rattle.mt_rows.specs.Spans.{Table, base_of, column, slots_of, gaps_of}
+use Rattle.mt_rows.specs.Spans.{Table, base_of, column}
+use Rattle.mt_layout.specs.Sizes.{slots_of, gaps_of}
 use Rattle.mt_rows.specs.Sheet.{Sheet, OnlyReads}
 use Rattle.mt_path.specs.declared.paths.PathStep.{PathStep}
-use Rattle.mt_splice.specs.Splice.{leaf_spans}
+use Rattle.mt_path.specs.Handles.{leaf_spans}
 
 -- the greatest index of the item in a slot
 abbrev last_in : ℕ → List ℕ → ℕ → ℕ → ℕ → ℕ

@@ -15,7 +15,7 @@ use Rattle.mt_rows.specs.declared.rows.Life.TheVariants.{Dead}
 use Rattle.mt_rows.specs.Trees.{height_in}
 use Rattle.mt_rows.specs.Sheet.{Sheet, life_of}
 use Rattle.mt_rows.specs.Publish.{IsLawfulOf, LiveAreReached, NoneBuried, MayFinish, IsRefused, IsCounted, finished, map_by, with_record}
-use Rattle.mt_splice.specs.Splice.{IsBookOf}
+use Rattle.mt_splice.specs.Kept.{IsBookOf}
 
 -- What holds of the rows and the book whether or not a call is in flight: lawful words of a tree of ranges, live rows that
 -- are reached, and a book of these rows whose held rows died by the calls that it tells. A call takes 28 rows at the most.

@@ -1,5 +1,4 @@
 pub mod Engine
-pub mod Handles
 pub mod Listing
 pub mod MapSpans
 pub mod Nearest

@@ -5,7 +5,7 @@ use Rattle.mt_base.specs.declared.ranges.Range.{Range}
 use Rattle.mt_base.specs.Width.{greatest}
 use Rattle.mt_rows.specs.Sheet.{Tree}
 use Rattle.mt_rows.specs.Publish.{map_by}
-use Rattle.mt_engine.specs.Handles.{leaf_in}
+use Rattle.mt_path.specs.Handles.{leaf_in}
 
 -- the ranges of a map from an index on, and none where there is no index
 abbrev pub ranges_from : List Range → Option ℕ → List Range

@@ -7,7 +7,8 @@ use Rattle.mt_free.specs.Book.{Book, after_reclaim}
 use Rattle.mt_rows.specs.Trees.{height_in}
 use Rattle.mt_rows.specs.Sheet.{Sheet}
 use Rattle.mt_rows.specs.Publish.{IsCounted, map_by}
-use Rattle.mt_engine.specs.Engine.{IsInCall, WasScanned}
+use Rattle.mt_engine.specs.Engine.{IsInCall}
+use Rattle.mt_rows.specs.Publish.{WasScanned}
 
 -- the rows were scanned, and those that no section holds are free
 pub record IsScanned (s s' : Sheet) (book book' : Book) : Type 0 where

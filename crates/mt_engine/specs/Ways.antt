@@ -1,7 +1,7 @@
 -- In which way a store can be carried out, by what stands at its first index.
 -- Source: the kernel's lib/maple_tree.c, mas_wr_store_entry, which tells a store that changes one slot from others.
 use Rattle.std.specs.Prelude.{◌≡◌, ◌≢◌, ℕ, ◌≤◌, Option, Some, None}
-use Rattle.mt_engine.specs.declared.handles.Handle.{Handle}
+use Rattle.mt_path.specs.declared.handles.Handle.{Handle}
 use Rattle.mt_engine.specs.declared.ways.Way.{Way}
 use Rattle.mt_engine.specs.declared.ways.Way.TheVariants.{Nothing, OneWord, NewRows}
 

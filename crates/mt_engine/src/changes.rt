@@ -9,7 +9,7 @@ ghost use Rattle.mt_rows.specs.Publish.{map_by};
 ghost use Rattle.mt_free.specs.Book.{Book};
 ghost use Rattle.mt_splice.specs.Splice.{IsStoreBy};
 ghost use Rattle.mt_engine.specs.Engine.{IsInCall, IsAnswered, IsAnsweredByOneWord, is_refusal};
-ghost use Rattle.mt_engine.specs.Handles.{IsHandleOf};
+ghost use Rattle.mt_path.specs.Handles.{IsHandleOf};
 
 use crate::handles::{Handle, handle_of};
 use crate::rooms::make_room;
@@ -24,7 +24,7 @@ use mt_splice::replace_range;
 /// Publishes another entry of the range that a handle is of.
 fn publish_entry<R: Rows>(rows: &mut R, here: &Handle, entry: u64, call: &Call, reply: &Reply)
     requires book { (book : Book) × IsInCall (R.sheet rows.old) book }
-    requires here { IsHandleOf (R.sheet rows.old) here.now }
+    requires here { IsHandleOf (R.sheet rows.old).tree here.now }
     requires range { here.now.span.word ≢ 0 }
     requires entry { entry ≢ 0 }
     requires store { IsStoreBy trees.Range (greatest (R.sheet rows.old).tree.table.width) (map_by (R.sheet rows.old).tree) call.now reply.now here.now.span.first here.now.span.last entry }

@@ -6,8 +6,8 @@ ghost use Rattle.mt_base.specs.Width.{greatest};
 ghost use Rattle.mt_rows.specs.Publish.{IsTreeOf};
 ghost use Rattle.mt_rows.specs.Sheet.{OnlyReads};
 ghost use Rattle.mt_path.specs.Paths.{path_in, span_at};
-ghost use Rattle.mt_splice.specs.Splice.{leaf_spans};
-ghost use Rattle.mt_engine.specs.Handles.{handle_in, IsHandleOf, IsStepOfLeaf};
+ghost use Rattle.mt_path.specs.Handles.{leaf_spans};
+ghost use Rattle.mt_path.specs.Handles.{handle_in, IsHandleOf, IsStepOfLeaf};
 
 use mt_base::top;
 use mt_layout::{RowKind, Span};
@@ -24,7 +24,7 @@ pub struct Handle {
 /// The first index of what stands in the slot of a leaf.
 fn load_first<R: Rows>(rows: &mut R, leaf: PathStep) -> u64
     requires tree { (kind : Kind) × IsTreeOf (R.sheet rows.old).tree kind }
-    requires leaf { IsStepOfLeaf (R.sheet rows.old) leaf }
+    requires leaf { IsStepOfLeaf (R.sheet rows.old).tree leaf }
     ensures first { result ≡ (span_at (leaf_spans (R.sheet rows.old).tree.table leaf) leaf.slot).first }
     ensures rest { OnlyReads (R.sheet rows.old) (R.sheet rows.new) }
 {
@@ -37,7 +37,7 @@ fn load_first<R: Rows>(rows: &mut R, leaf: PathStep) -> u64
 /// The last index of what stands in the slot of a leaf.
 fn load_last<R: Rows>(rows: &mut R, leaf: PathStep) -> u64
     requires tree { (kind : Kind) × IsTreeOf (R.sheet rows.old).tree kind }
-    requires leaf { IsStepOfLeaf (R.sheet rows.old) leaf }
+    requires leaf { IsStepOfLeaf (R.sheet rows.old).tree leaf }
     ensures last { result ≡ (span_at (leaf_spans (R.sheet rows.old).tree.table leaf) leaf.slot).last }
     ensures rest { OnlyReads (R.sheet rows.old) (R.sheet rows.new) }
 {
@@ -50,7 +50,7 @@ fn load_last<R: Rows>(rows: &mut R, leaf: PathStep) -> u64
 /// What stands in the slot of a leaf.
 fn load_span<R: Rows>(rows: &mut R, leaf: PathStep) -> Span
     requires tree { (kind : Kind) × IsTreeOf (R.sheet rows.old).tree kind }
-    requires leaf { IsStepOfLeaf (R.sheet rows.old) leaf }
+    requires leaf { IsStepOfLeaf (R.sheet rows.old).tree leaf }
     ensures span { result ≡ span_at (leaf_spans (R.sheet rows.old).tree.table leaf) leaf.slot }
     ensures rest { OnlyReads (R.sheet rows.old) (R.sheet rows.new) }
 {
@@ -95,7 +95,7 @@ pub fn handle_at<R: Rows>(rows: &mut R, index: u64) -> Option<Handle>
 /// the handle's span ends at the greatest index.
 pub fn behind<R: Rows>(rows: &mut R, here: &Handle) -> Option<Handle>
     requires tree { (kind : Kind) × IsTreeOf (R.sheet rows.old).tree kind }
-    requires here { IsHandleOf (R.sheet rows.old) here.now }
+    requires here { IsHandleOf (R.sheet rows.old).tree here.now }
     ensures none { IsNone result ↔ (here.now.span.last ≡ greatest (R.sheet rows.old).tree.table.width) }
     ensures some { IfSome result (λ handle. handle ≡ handle_in (R.sheet rows.old).tree (here.now.span.last + 1)) }
     ensures rest { OnlyReads (R.sheet rows.old) (R.sheet rows.new) }
@@ -121,7 +121,7 @@ pub fn behind<R: Rows>(rows: &mut R, here: &Handle) -> Option<Handle>
 /// where the handle's span begins at 0.
 pub fn before<R: Rows>(rows: &mut R, here: &Handle) -> Option<Handle>
     requires tree { (kind : Kind) × IsTreeOf (R.sheet rows.old).tree kind }
-    requires here { IsHandleOf (R.sheet rows.old) here.now }
+    requires here { IsHandleOf (R.sheet rows.old).tree here.now }
     ensures none { IsNone result ↔ (here.now.span.first ≡ 0) }
     ensures some { IfSome result (λ handle. handle ≡ handle_in (R.sheet rows.old).tree (here.now.span.first - 1)) }
     ensures rest { OnlyReads (R.sheet rows.old) (R.sheet rows.new) }

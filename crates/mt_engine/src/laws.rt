@@ -6,7 +6,7 @@ ghost use Rattle.mt_base.specs.Map.{IsMap};
 ghost use Rattle.mt_base.specs.Width.{greatest};
 ghost use Rattle.mt_rows.specs.Publish.{IsTreeOf, map_by};
 ghost use Rattle.mt_rows.specs.Sheet.{Sheet};
-ghost use Rattle.mt_engine.specs.Handles.{handle_in};
+ghost use Rattle.mt_path.specs.Handles.{handle_in};
 ghost use Rattle.mt_engine.specs.MapSpans.{IsSpanAt};
 
 /// The words of a tree stand for a map: its ranges rise, and none is empty.

@@ -8,8 +8,9 @@ ghost use Rattle.mt_layout.specs.Columns.{pivot_column, slot_column};
 ghost use Rattle.mt_layout.specs.Spans.{leaf_range};
 ghost use Rattle.mt_rows.specs.Publish.{IsTreeOf, map_by};
 ghost use Rattle.mt_rows.specs.Sheet.{IsPlace, OnlyReads};
-ghost use Rattle.mt_rows.specs.Spans.{column, slots_of};
-ghost use Rattle.mt_splice.specs.Splice.{leaf_spans};
+ghost use Rattle.mt_rows.specs.Spans.{column};
+ghost use Rattle.mt_layout.specs.Sizes.{slots_of};
+ghost use Rattle.mt_path.specs.Handles.{leaf_spans};
 ghost use Rattle.mt_engine.specs.Listing.{BeginsLeaf, TakesLeaf};
 
 use mt_base::{NoMemory, Range, top};

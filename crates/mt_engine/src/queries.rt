@@ -8,7 +8,7 @@ ghost use Rattle.mt_base.specs.Width.{greatest};
 ghost use Rattle.mt_list.specs.Places.{up_to, down_to};
 ghost use Rattle.mt_rows.specs.Publish.{IsTreeOf, map_by};
 ghost use Rattle.mt_rows.specs.Sheet.{OnlyReads};
-ghost use Rattle.mt_engine.specs.Handles.{handle_in, IsHandleOf};
+ghost use Rattle.mt_path.specs.Handles.{handle_in, IsHandleOf};
 ghost use Rattle.mt_engine.specs.MapSpans.{range_of};
 ghost use Rattle.mt_engine.specs.Nearest.{first_from, last_up_to};
 
@@ -59,7 +59,7 @@ fn down_to(range: Option<Range>, min: u64) -> Option<Range>
 /// The first range that ends at an index of a slot or above: the range in the slot, or the one right behind the hole there.
 fn first_from<R: Rows>(rows: &mut R, here: &Handle) -> Option<Range>
     requires tree { (kind : Kind) × IsTreeOf (R.sheet rows.old).tree kind }
-    requires here { IsHandleOf (R.sheet rows.old) here.now }
+    requires here { IsHandleOf (R.sheet rows.old).tree here.now }
     ensures range { (index : ℕ) → index ≤ greatest (R.sheet rows.old).tree.table.width → here.now ≡ handle_in (R.sheet rows.old).tree index → result ≡ first_from (map_by (R.sheet rows.old).tree) index }
     ensures rest { OnlyReads (R.sheet rows.old) (R.sheet rows.new) }
 {
@@ -73,7 +73,7 @@ fn first_from<R: Rows>(rows: &mut R, here: &Handle) -> Option<Range>
 /// The last range that begins at an index of a slot or below: the range in the slot, or the one right before the hole there.
 fn last_up_to<R: Rows>(rows: &mut R, here: &Handle) -> Option<Range>
     requires tree { (kind : Kind) × IsTreeOf (R.sheet rows.old).tree kind }
-    requires here { IsHandleOf (R.sheet rows.old) here.now }
+    requires here { IsHandleOf (R.sheet rows.old).tree here.now }
     ensures range { (index : ℕ) → index ≤ greatest (R.sheet rows.old).tree.table.width → here.now ≡ handle_in (R.sheet rows.old).tree index → result ≡ last_up_to (map_by (R.sheet rows.old).tree) index }
     ensures rest { OnlyReads (R.sheet rows.old) (R.sheet rows.new) }
 {

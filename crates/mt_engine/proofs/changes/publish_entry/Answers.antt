@@ -2,7 +2,7 @@ use Rattle.std.proofs.Common.{ap, ◌∙◌, arith}
 use Rattle.mt_base.specs.declared.kinds.Kind.TheVariants as trees
 use Rattle.mt_base.specs.declared.widths.Width.{Width}
 use Rattle.mt_layout.specs.declared.names.RowKind.TheVariants.{Leaf}
-use Rattle.mt_rows.specs.Spans.{slots_of}
+use Rattle.mt_layout.specs.Sizes.{slots_of}
 use Rattle.mt_engine.proofs.OneWord.{column_low, may_publish_entry, entry_published}
 use Rattle.mt_engine.proofs.changes.publish_entry.Goals as goal
 

@@ -1,7 +1,7 @@
 use Rattle.std.proofs.Common.{arith, ◌<◌}
 use Rattle.std.proofs.lemmas.Grind.{common_steps}
 use Rattle.mt_layout.specs.declared.names.RowKind.TheVariants.{Leaf}
-use Rattle.mt_rows.specs.Spans.{slots_of}
+use Rattle.mt_layout.specs.Sizes.{slots_of}
 use Rattle.mt_engine.proofs.Slotwise.{last_listed}
 use Rattle.mt_engine.proofs.lists.push_leaf.Goals as goal
 
