@@ -1,5 +1,6 @@
 pub mod CallsKeepOrder
+pub mod Lists
 pub mod OneRange
 pub mod ReadingAfterStore
-pub mod StoredOrder
 pub mod Shortages
+pub mod StoredOrder

@@ -1,7 +1,9 @@
+pub mod Gapless
 pub mod NameLaws
 pub mod OwnColumns
 pub mod ReadBack
 pub mod Reading
 pub mod RowSizes
 pub mod RowWords
+pub mod SpanLists
 pub mod Writing

@@ -1,8 +1,8 @@
 -- Names are read back as what they were made of, and nothing else is read as a name.
-use Rattle.std.proofs.Common.{◌≡◌, ℕ, Some, None, arith}
+use Rattle.std.proofs.Common.{◌≡◌, ℕ, ◌<◌, Some, None, arith}
 use Rattle.std.proofs.lemmas.Grind.{common_steps}
 use Rattle.mt_layout.specs.declared.names.RowKind.{RowKind}
-use Rattle.mt_layout.specs.Rows.{IsRowNumber, Names, name_at, row_in, named_row, named_kind}
+use Rattle.mt_layout.specs.Rows.{IsRowNumber, Names, name_at, row_in, named_row, named_kind, parent_at, dead_mark}
 
 pub named_kind-name_at : (row : ℕ) (kind : RowKind) → IsRowNumber row → named_kind (name_at row kind) ≡ Some kind
 named_kind-name_at row kind here = grind (arith, common_steps)
@@ -21,3 +21,10 @@ named_row-no_name word is row kind names = grind (arith, common_steps)
 
 pub named_kind-no_name : (word : ℕ) → named_kind word ≡ None → (row : ℕ) (kind : RowKind) → Names word row kind → ⊥
 named_kind-no_name word is row kind names = grind (arith, common_steps)
+
+pub row_in-name_at : (row : ℕ) (kind : RowKind) → row_in (name_at row kind) ≡ row
+row_in-name_at row kind = grind (arith, common_steps)
+
+-- a parent word that is a dead mark is that of the row itself
+pub own_parent : (child row slot : ℕ) → slot < 256 → parent_at row slot ≡ dead_mark child → child ≡ row
+own_parent child row slot few dead = omega arith

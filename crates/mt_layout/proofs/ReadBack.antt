@@ -8,16 +8,13 @@ use Rattle.mt_layout.specs.Columns.{IsLayout, pivot_column, slot_column, gap_col
 use Rattle.mt_layout.proofs.Reading.{gap_at-none, gap_at-some, IsItem, ends, goes_on}
 use Rattle.mt_layout.proofs.RowWords.{item_or, used, used-pivot, used-slot, used-gap, get_or-padded, get_or-zeros, get_or-field}
 use Rattle.mt_layout.proofs.RowSizes.{all_gaps}
+use Rattle.mt_layout.proofs.SpanLists.{last_ends}
 
 -- ---- where items end
 
 -- the last of them ends where they end
 end_of-last : (items : List Item) (d k : ℕ) → k + 1 ≡ length items → end_of d items ≡ (item_or items k).last
-end_of-last [] d k h = absurd (omega arith)
-end_of-last (x ∷ []) d zero h = refl
-end_of-last (x ∷ []) d (suc k) h = absurd (omega arith)
-end_of-last (x ∷ y ∷ items) d zero h = absurd (omega arith)
-end_of-last (x ∷ y ∷ items) d (suc k) h = end_of-last (y ∷ items) x.last k (omega arith)
+end_of-last items d k h = sym (last_ends (record { last = 0; word = 0; gap = 0 }) k d items h)
 
 min_le-end_of : (items : List Item) (d min : ℕ) → 0 < length items → RiseFrom min items → min ≤ end_of d items
 min_le-end_of [] d min h rise = absurd (omega arith)

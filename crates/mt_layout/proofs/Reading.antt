@@ -1,6 +1,6 @@
 -- How the items of a row are read off its words, one after another.
-use Rattle.std.proofs.Common.{◌≡◌, ℕ, zero, suc, ◌+◌, ◌-◌, ◌<◌, ◌≤◌, true, false, List, [], ◌∷◌, ◌++◌, refl, sym, ◌∙◌, arith, append-nil, append_assoc, lt-ltb, le-ltb, le-leb, ◌==◌, eq-eqb, ne_eqb}
-use Rattle.std.proofs.lemmas.Bool.{lt-leb}
+use Rattle.std.proofs.Common.{◌≡◌, ℕ, zero, suc, ◌+◌, ◌-◌, ◌<◌, ◌≤◌, true, false, List, [], ◌∷◌, ◌++◌, length, refl, sym, ◌∙◌, inl, inr, arith, append-nil, append_assoc, lt-ltb, le-ltb, le-leb, ◌==◌, eq-eqb, ne_eqb}
+use Rattle.std.proofs.lemmas.Bool.{cases_Bool, lt-leb}
 use Rattle.std.specs.Prelude.{if◌then◌else◌, nat_lt, nat_le, slice_index}
 use Rattle.mt_layout.specs.declared.items.Item.{Item}
 use Rattle.mt_layout.specs.Columns.{pivot_column, gap_column, gap_at, item_at, items_from}
@@ -13,6 +13,20 @@ pub gap_at-some : (slots gaps : ℕ) (w : List ℕ) (base i : ℕ) → (gaps ≡
 gap_at-some slots gaps w base i some = let test : (gaps == 0) ≡ false = ne_eqb gaps 0 some in rw test refl
 
 module _ (slots gaps : ℕ) (w : List ℕ) (base max : ℕ) where
+  -- how many items there are
+  pub few_items : (left i : ℕ) → length (items_from slots gaps w base max left i) ≤ left
+  few_items zero i = omega arith
+  few_items (suc zero) i = omega arith
+  few_items (suc (suc left)) i = elim (cases_Bool (nat_le max (slice_index w (base + pivot_column i)))) [
+    | inl last ↦ rw last (omega arith)
+    | inr more ↦ let rest = few_items (suc left) (i + 1) in rw more (omega arith)
+  ]
+
+  pub some_items : (left i : ℕ) → 1 ≤ left → 1 ≤ length (items_from slots gaps w base max left i)
+  some_items zero i some = absurd (omega arith)
+  some_items (suc zero) i some = omega arith
+  some_items (suc (suc left)) i some = elim (cases_Bool (nat_le max (slice_index w (base + pivot_column i)))) [ inl last ↦ rw last (omega arith) | inr more ↦ rw more (omega arith) ]
+
   abbrev pivot : ℕ → ℕ
   pivot i = slice_index w (base + pivot_column i)
 

@@ -6,7 +6,7 @@ use Rattle.mt_base.specs.declared.widths.Width.TheVariants.{Long}
 use Rattle.mt_base.specs.Width.{columns}
 use Rattle.mt_layout.specs.declared.names.RowKind.{RowKind}
 use Rattle.mt_layout.specs.declared.names.RowKind.TheVariants as kinds
-use Rattle.mt_layout.specs.Columns.{IsLayout}
+use Rattle.mt_layout.specs.Columns.{IsLayout, slot_column}
 use Rattle.mt_layout.specs.Sizes.{slots_of, gaps_of, least_items, run_room, AreSizes}
 
 pub sizes : (width : Width) (kind : RowKind) → AreSizes width kind
@@ -33,6 +33,16 @@ slots_of-columns width kind = (sizes width kind).columns_fit
 
 pub none_or_all : (width : Width) (kind : RowKind) → (gaps_of width kind ≡ 0) ⊎ (gaps_of width kind ≡ slots_of width kind)
 none_or_all width kind = (sizes width kind).gaps
+
+pub some_columns : (width : Width) → 0 < columns width
+some_columns width = omega (arith, sizes width kinds.Leaf, some_slots_of width kinds.Leaf)
+
+-- a column of a slot is one of the row, and not that of the parent word
+pub slot_above : (width : Width) (kind : RowKind) (i : ℕ) → 0 < slot_column (slots_of width kind) i
+slot_above width kind i = omega (arith, some_slots_of width kind)
+
+pub slot_within : (width : Width) (kind : RowKind) (i : ℕ) → i < slots_of width kind → slot_column (slots_of width kind) i < columns width
+slot_within width kind i used = omega (arith, sizes width kind)
 
 -- ---- of a layout
 

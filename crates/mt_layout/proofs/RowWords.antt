@@ -3,8 +3,8 @@ use Rattle.std.proofs.Common.{◌≡◌, ℕ, zero, suc, ◌+◌, ◌-◌, ◌*�
 use Rattle.std.proofs.lemmas.Bool.{cases_lt, cases_eq}
 use Rattle.std.proofs.lemmas.List.{get_or_append_left, get_or-append_right, get_or-take, ext_get_or, length-map, length-replicate}
 use Rattle.mt_layout.specs.declared.items.Item.{Item}
-use Rattle.mt_layout.specs.Columns.{IsLayout, pivot_column, slot_column, gap_column, padded_to, pivot_words, slot_words, gap_words}
-use Rattle.mt_layout.proofs.RowSizes.{some_slots, all_gaps}
+use Rattle.mt_layout.specs.Columns.{IsLayout, pivot_column, slot_column, gap_column, padded_to, pivot_words, slot_words, gap_words, row_words}
+use Rattle.mt_layout.proofs.RowSizes.{some_slots, slots-fit, all_gaps}
 
 -- item k, and one of zeros where there is none
 abbrev pub item_or : List Item → ℕ → Item
@@ -22,7 +22,7 @@ get_or-padded [] m k = get_or-zeros m k
 get_or-padded (x ∷ xs) m zero = refl
 get_or-padded (x ∷ xs) m (suc k) = get_or-padded xs m k
 
-length-padded : (n : ℕ) (xs : List ℕ) → length xs ≤ n → length (padded_to n xs) ≡ n
+pub length-padded : (n : ℕ) (xs : List ℕ) → length xs ≤ n → length (padded_to n xs) ≡ n
 length-padded n xs h = omega (arith, length-append xs (replicate (n - length xs) 0), length-replicate {A = ℕ} (n - length xs) 0)
 
 pub get_or-field : (f : Item → ℕ) → f (record { last = 0; word = 0; gap = 0 }) ≡ 0 → (items : List Item) (k : ℕ) → get_or (map f items) k 0 ≡ f (item_or items k)
@@ -38,10 +38,10 @@ get_or-pivots slots items k h =
     ∙ (get_or-take (slots - 1) (map (λ x. x.last) items) k 0 (omega arith)
     ∙ get_or-field (λ x. x.last) refl items k)
 
-length-pivots : (slots : ℕ) (items : List Item) → length (pivot_words slots items) ≡ slots - 1
+pub length-pivots : (slots : ℕ) (items : List Item) → length (pivot_words slots items) ≡ slots - 1
 length-pivots slots items = length-padded (slots - 1) (take (slots - 1) (map (λ x. x.last) items)) (omega (arith, length-take (slots - 1) (map (λ x. x.last) items)))
 
-length-slots : (slots : ℕ) (items : List Item) → length items ≤ slots → length (slot_words slots items) ≡ slots
+pub length-slots : (slots : ℕ) (items : List Item) → length items ≤ slots → length (slot_words slots items) ≡ slots
 length-slots slots items fit = length-padded slots (map (λ x. x.word) items) (omega (arith, length-map items (λ x. x.word)))
 
 gap_words-some : (gaps : ℕ) (items : List Item) → 0 < gaps → gap_words gaps items ≡ padded_to gaps (map (λ x. x.gap) items)
@@ -78,6 +78,9 @@ module _ (words slots gaps parent : ℕ) (items : List Item) (layout : IsLayout 
 
   pub length-used : length used ≡ 2 * slots + gaps
   length-used = omega (arith, length-append (front ++ slot_words slots items) (gap_words gaps items), length-middle, length-end)
+
+  pub length-row_words : length (row_words words slots gaps parent items) ≡ words
+  length-row_words = length-padded words used (omega (arith, length-used, slots-fit words slots gaps layout))
 
   pub used-pivot : (k : ℕ) → k + 1 < slots → get_or used (pivot_column k) 0 ≡ (item_or items k).last
   used-pivot k h =

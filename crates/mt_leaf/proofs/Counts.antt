@@ -1,5 +1,4 @@
--- How many items a store on one leaf or on two gives, fewer where it ends with a hole; and where lists of spans meet, what
--- is joined.
+-- How many items a store on one leaf or on two gives, fewer where it ends with a hole.
 use Rattle.std.proofs.Common.{◌≡◌, ◌≢◌, ℕ, zero, suc, ◌+◌, ◌*◌, ◌<◌, ◌≤◌, ◌==◌, ◌&&◌, List, [], ◌∷◌, ◌++◌, true, length, nat_lt, nat_le, refl, sym, ap, ◌∙◌, subst, inl, inr, arith, length-append, append-nil, eq-eqb}
 use Rattle.std.specs.Prelude.{slice_index}
 use Rattle.std.specs.List.{AllByRecursion}
@@ -8,41 +7,11 @@ use Rattle.mt_layout.specs.Columns.{pivot_column, items_from}
 use Rattle.mt_layout.specs.declared.spans.Span.{Span}
 use Rattle.mt_layout.specs.Spans.{spans_from, Fills, BeginsFull, Apart, EndsFull}
 use Rattle.mt_leaf.specs.Edits.{spans_below, spans_above, span_above, span_stored, stored, join, joined, edited, starting, ends_with_hole}
-use Rattle.mt_leaf.proofs.Joined.{length_joined, join_apart, joined_apart}
+use Rattle.mt_leaf.proofs.Joined.{length_joined}
+use Rattle.mt_leaf.proofs.Holes.{ends_joined, ends-append, full_no_hole}
 use Rattle.mt_leaf.proofs.Stored.{none_below, none_above, all_above, length_above, length_edited, below-append, above-append, above-starting, fills_starting}
 
--- ---- what spans end with
-
-ends_join : (x : Span) (xs : List Span) → ends_with_hole (join x xs) ≡ ends_with_hole (x ∷ xs)
-ends_join x [] = refl
-ends_join x (y ∷ []) = elim (cases_Bool (x.word == 0)) [
-  | inl z ↦ elim (cases_Bool (y.word == 0)) [ inl t ↦ rw (z, t) (rw z refl) | inr f ↦ rw (z, f) (rw f refl) ]
-  | inr n ↦ rw n refl
-]
-ends_join x (y ∷ w ∷ ys) = elim (cases_Bool ((x.word == 0) && (y.word == 0))) [ inl t ↦ rw t refl | inr n ↦ rw n refl ]
-
-ends_behind : (x : Span) (xs : List Span) → 1 ≤ length xs → ends_with_hole (x ∷ xs) ≡ ends_with_hole xs
-ends_behind x [] some = absurd (omega arith)
-ends_behind x (y ∷ ys) some = refl
-
-some_join : (x : Span) (xs : List Span) → 1 ≤ length (join x xs)
-some_join x [] = omega arith
-some_join x (y ∷ ys) = elim (cases_Bool ((x.word == 0) && (y.word == 0))) [ inl t ↦ rw t (omega arith) | inr n ↦ rw n (omega arith) ]
-
-pub ends_joined : (xs : List Span) → ends_with_hole (joined xs) ≡ ends_with_hole xs
-ends_joined [] = refl
-ends_joined (x ∷ []) = refl
-ends_joined (x ∷ y ∷ ys) = ends_join x (joined (y ∷ ys)) ∙ (ends_behind x (joined (y ∷ ys)) (some_join y (joined ys)) ∙ ends_joined (y ∷ ys))
-
-pub ends-append : (xs : List Span) (y : Span) (ys : List Span) → ends_with_hole (xs ++ (y ∷ ys)) ≡ ends_with_hole (y ∷ ys)
-ends-append [] y ys = refl
-ends-append (x ∷ []) y ys = refl
-ends-append (x ∷ z ∷ xs) y ys = ends-append (z ∷ xs) y ys
-
-full_no_hole : (xs : List Span) → EndsFull xs → ends_with_hole xs ≢ true
-full_no_hole [] full = λ e. absurd (cc)
-full_no_hole (x ∷ []) full = λ e. full (eqb-true x.word 0 e)
-full_no_hole (x ∷ y ∷ ys) full = full_no_hole (y ∷ ys) full
+-- ---- fewer where they end with a hole
 
 -- what is left above ends as the spans do, if anything is left
 none_left : (lo hi last : ℕ) (z : Span) (xs : List Span) → Fills lo hi xs → EndsFull xs → ends_with_hole (z ∷ spans_above xs last) ≡ true → spans_above xs last ≡ []
@@ -110,75 +79,3 @@ two_to_a_hole lo middle behind hi first last entry n left right f g begins order
     let same = ap (λ (l : List Span). length (joined l)) parts in
     let to_hole = subst (λ (l : List Span). ends_with_hole (joined l) ≡ true) parts hole in
     omega (arith, same, few_to_a_hole behind hi last (span_stored first last entry) (spans_below left first) right g full to_hole, length_below left first)
-
--- ---- where lists meet
-
-pub apart-append : (xs ys : List Span) → Apart xs → Apart ys → (ends_with_hole xs ≡ true → BeginsFull ys) → Apart (xs ++ ys)
-apart-append [] ys front back meet = back
-apart-append (x ∷ []) ys front back meet = ((λ hole. meet (eq-eqb x.word 0 hole)), back)
-apart-append (x ∷ z ∷ xs) ys front back meet = (front.0, apart-append (z ∷ xs) ys front.1 back meet)
-
--- nothing is joined where no two holes meet
-pub joined_beside : (xs ys : List Span) → Apart xs → Apart ys → (ends_with_hole xs ≡ true → BeginsFull ys) → joined (xs ++ ys) ≡ xs ++ ys
-joined_beside xs ys front back meet = joined_apart (xs ++ ys) (apart-append xs ys front back meet)
-
--- two holes that meet are one, which ends where the second does
-pub joined_holes : (front : List Span) (hole y : Span) (ys : List Span) → Apart (front ++ (hole ∷ [])) → Apart (y ∷ ys) → hole.word ≡ 0 → y.word ≡ 0
-    → joined (front ++ (hole ∷ y ∷ ys)) ≡ front ++ (record hole { last = y.last } ∷ ys)
-joined_holes [] hole y ys apart back is meets = ap (join hole) (joined_apart (y ∷ ys) back) ∙ rw (is, meets) refl
-joined_holes (x ∷ front) hole y ys apart back is meets =
-    ap (join x) (joined_holes front hole y ys apart.1 back is meets) ∙ join_apart x (front ++ (record hole { last = y.last } ∷ ys)) (λ empty. begins front (apart.0 empty))
-  where
-    begins : (front : List Span) → BeginsFull (front ++ (hole ∷ [])) → BeginsFull (front ++ (record hole { last = y.last } ∷ ys))
-    begins [] full = full
-    begins (z ∷ front) full = full
-
--- so they are joined by dropping the first of them
-pub joined_by_dropping : (front : List Span) (hole y : Span) (ys : List Span) → Apart (front ++ (hole ∷ [])) → Apart (y ∷ ys) → hole.word ≡ 0 → y.word ≡ 0 → hole.gap ≡ y.gap
-    → joined (front ++ (hole ∷ y ∷ ys)) ≡ front ++ starting hole.first (y ∷ ys)
-joined_by_dropping front hole y ys apart back is meets gaps =
-    let words = is ∙ sym meets in
-    joined_holes front hole y ys apart back is meets
-    ∙ (λ i. front ++ (record { first = hole.first; last = y.last; word = words i; gap = gaps i } ∷ ys))
-
--- ---- spans of leaves have no gaps
-
-abbrev pub NoGaps : List Span → Type 0
-NoGaps xs = AllByRecursion (λ (x : Span). x.gap ≡ 0) xs
-
-pub no_gaps-items : (slots : ℕ) (w : List ℕ) (base max left i first : ℕ) → NoGaps (spans_from first (items_from slots 0 w base max left i))
-no_gaps-items slots w base max zero i first = tt
-no_gaps-items slots w base max (suc zero) i first = (refl, tt)
-no_gaps-items slots w base max (suc (suc left)) i first = elim (cases_Bool (nat_le max (slice_index w (base + pivot_column i)))) [
-  | inl t ↦ rw t (refl, tt)
-  | inr n ↦ rw n (refl, no_gaps-items slots w base max (suc left) (i + 1) (slice_index w (base + pivot_column i) + 1))
-]
-
-pub no_gaps-append : (xs ys : List Span) → NoGaps xs → NoGaps ys → NoGaps (xs ++ ys)
-no_gaps-append [] ys front back = back
-no_gaps-append (x ∷ xs) ys front back = (front.0, no_gaps-append xs ys front.1 back)
-
-pub no_gaps-starting : (first : ℕ) (xs : List Span) → NoGaps xs → NoGaps (starting first xs)
-no_gaps-starting first [] none = tt
-no_gaps-starting first (x ∷ xs) none = none
-
-no_gaps-join : (x : Span) (xs : List Span) → x.gap ≡ 0 → NoGaps xs → NoGaps (join x xs)
-no_gaps-join x [] here behind = (here, tt)
-no_gaps-join x (y ∷ ys) here behind = elim (cases_Bool ((x.word == 0) && (y.word == 0))) [ inl t ↦ rw t (here, behind.1) | inr n ↦ rw n (here, behind) ]
-
-pub no_gaps-joined : (xs : List Span) → NoGaps xs → NoGaps (joined xs)
-no_gaps-joined [] none = tt
-no_gaps-joined (x ∷ xs) none = no_gaps-join x (joined xs) none.0 (no_gaps-joined xs none.1)
-
-no_gaps-below : (xs : List Span) (first : ℕ) → NoGaps xs → NoGaps (spans_below xs first)
-no_gaps-below [] first none = tt
-no_gaps-below (x ∷ xs) first none = elim (cases_Bool (nat_lt x.first first)) [ inl t ↦ rw t (none.0, no_gaps-below xs first none.1) | inr n ↦ rw n (no_gaps-below xs first none.1) ]
-
-no_gaps-above : (xs : List Span) (last : ℕ) → NoGaps xs → NoGaps (spans_above xs last)
-no_gaps-above [] last none = tt
-no_gaps-above (x ∷ xs) last none = elim (cases_Bool (nat_lt last x.last)) [ inl t ↦ rw t (none.0, no_gaps-above xs last none.1) | inr n ↦ rw n (no_gaps-above xs last none.1) ]
-
-pub no_gaps-edited : (xs : List Span) (first last entry : ℕ) → NoGaps xs → NoGaps (edited xs first last entry)
-no_gaps-edited xs first last entry none =
-    no_gaps-joined (stored xs first last entry)
-    (no_gaps-append (spans_below xs first) (span_stored first last entry ∷ spans_above xs last) (no_gaps-below xs first none) (refl, no_gaps-above xs last none))

@@ -1,11 +1,13 @@
--- Where rows end: an end in front of a hole is full, and where two or three rows are given, fewer would not do.
-use Rattle.std.proofs.Common.{◌≡◌, ◌≢◌, ℕ, zero, suc, ◌+◌, ◌-◌, ◌*◌, ◌/◌, ◌<◌, ◌≤◌, List, [], ◌∷◌, Bool, true, false, length, get_or, max, refl, sym, subst, arith, inl, inr, ◌∙◌}
-use Rattle.std.proofs.lemmas.Bool.{cases_Bool}
+-- Where rows end: beside a hole stands an entry, and where two or three rows are given, fewer would not do.
+use Rattle.std.proofs.Common.{◌≡◌, ◌≢◌, ℕ, zero, suc, ◌+◌, ◌-◌, ◌*◌, ◌/◌, ◌<◌, ◌≤◌, List, [], ◌∷◌, Bool, true, false, length, get_or, max, refl, sym, subst, arith, inl, inr, ◌∙◌, ⊎_elim}
+use Rattle.std.proofs.lemmas.Bool.{cases_Bool, cases_lt}
 use Rattle.mt_layout.specs.declared.items.Item.{Item}
 use Rattle.mt_layout.specs.Spans.{spans_from, Apart}
-use Rattle.mt_leaf.specs.Cuts.{word_of, IsEnd, IsPiece, ArePieces, IsCut}
+use Rattle.mt_leaf.specs.declared.cuts.Towards.{Towards}
+use Rattle.mt_leaf.specs.declared.cuts.Towards.TheVariants as towards
+use Rattle.mt_leaf.specs.Cuts.{word_of, IsEnd, IsLaterEnd, IsPiece, ArePieces, IsCut, MeetAt, first_place, half_place, last_place}
 
-word_at : (items : List Item) (i : ℕ) (d : Item) → i < length items → word_of items i ≡ (get_or items i d).word
+pub word_at : (items : List Item) (i : ℕ) (d : Item) → i < length items → word_of items i ≡ (get_or items i d).word
 word_at [] i d within = absurd (omega arith)
 word_at (x ∷ items) zero d within = refl
 word_at (x ∷ items) (suc i) d within = word_at items i d (omega arith)
@@ -19,80 +21,183 @@ full_before (x ∷ y ∷ items) first (suc i) apart within hole =
     let next : suc i + 1 ≡ suc (i + 1) = omega arith in
     full_before (y ∷ items) (x.last + 1) i apart.1 (omega arith) (rw next at hole)
 
+-- and behind it
+full_behind : (items : List Item) (first i : ℕ) → Apart (spans_from first items) → i + 1 < length items → word_of items i ≡ 0 → word_of items (i + 1) ≢ 0
+full_behind items first i apart within hole = λ other. full_before items first i apart within other hole
+
 -- where the row would end with a hole it ends one item before
-pub one_before : (leaf : Bool) (items : List Item) (end : ℕ) (d : Item) → 2 ≤ end → end < length items → leaf ≡ true → (leaf ≡ true → Apart (spans_from 0 items)) → (get_or items (end - 1) d).word ≡ 0
+pub one_before : (leaf : Bool) (items : List Item) (end : ℕ) → 2 ≤ end → end < length items → (leaf ≡ true → Apart (spans_from 0 items)) → leaf ≡ true → word_of items (end - 1) ≡ 0
     → IsEnd leaf items end (end - 1)
-one_before leaf items end d some inside is apart hole =
-    let here : word_of items (end - 1) ≡ 0 = word_at items (end - 1) d (omega arith) ∙ hole in
+one_before leaf items end some inside apart is hole =
     let before : end - 1 ≡ end - 1 - 1 + 1 = omega arith in
     record {
       most = omega arith;
       least = omega arith;
-      full = λ l. full_before items 0 (end - 1 - 1) (apart l) (omega arith) (rw before at here);
-      kept = λ entry. absurd (entry here);
+      full = λ l. full_before items 0 (end - 1 - 1) (apart l) (omega arith) (rw before at hole);
+      kept = λ entry. absurd (entry hole);
       inner = λ other. absurd (other is);
     }
 
-module _ (leaf : Bool) (least most : ℕ) (items : List Item) where
+-- or one item behind
+pub one_behind : (leaf : Bool) (items : List Item) (end : ℕ) → 1 ≤ end → end < length items → (leaf ≡ true → Apart (spans_from 0 items)) → leaf ≡ true → word_of items (end - 1) ≡ 0
+    → IsLaterEnd leaf items end (end + 1)
+one_behind leaf items end some inside apart is hole =
+    let here : end - 1 + 1 ≡ end + 1 - 1 = omega arith in
+    record {
+      least = omega arith;
+      most = omega arith;
+      full = λ l. rw here at (full_behind items 0 (end - 1) (apart l) (omega arith) hole);
+      kept = λ entry. absurd (entry hole);
+      inner = λ other. absurd (other is);
+    }
+
+-- ---- where two rows meet
+
+false_is_not_true : (b : Bool) → b ≡ false → b ≢ true
+false_is_not_true b is = λ other. absurd (let both : false ≡ true = sym is ∙ other in cc)
+
+-- a row that ends at the place itself shows that it was not moved
+not_before : (leaf : Bool) (items : List Item) (end to other : ℕ) → IsEnd leaf items end to → (leaf ≡ true → word_of items (other - 1) ≢ 0) → other ≡ end → to ≡ end
+not_before leaf items end to other is full same = elim (cases_Bool leaf) [
+  | inl t ↦ is.kept (subst (λ (n : ℕ). word_of items (n - 1) ≢ 0) same (full t))
+  | inr n ↦ is.inner (false_is_not_true leaf n)
+]
+
+not_behind : (leaf : Bool) (items : List Item) (end to other : ℕ) → IsLaterEnd leaf items end to → (leaf ≡ true → word_of items (other - 1) ≢ 0) → other ≡ end → to ≡ end
+not_behind leaf items end to other is full same = elim (cases_Bool leaf) [
+  | inl t ↦ is.kept (subst (λ (n : ℕ). word_of items (n - 1) ≢ 0) same (full t))
+  | inr n ↦ is.inner (false_is_not_true leaf n)
+]
+
+-- what is used of a place where two rows may meet
+record Meets (leaf : Bool) (least most : ℕ) (items : List Item) (place : ℕ) : Type 0 where
+  some : 0 < place
+  many : least ≤ place
+  rest : place + least ≤ length items
+  inside : place < length items
+  full : leaf ≡ true → word_of items (place - 1) ≢ 0
+  only : most < max place (length items - place) → (a : ℕ) → IsPiece leaf least most items 0 a → IsPiece leaf least most items a (length items) → ⊥
+
+module _ (leaf : Bool) (least most : ℕ) (items : List Item) (sizes : 2 * least + 2 ≤ most) (long : most < length items) where
+  meets_first : (place : ℕ) → IsLaterEnd leaf items (first_place least most (length items)) place → Meets leaf least most items place
+  meets_first place end =
+      let low = end.least in let near = end.most in
+      record {
+        some = omega arith;
+        many = omega arith;
+        rest = omega arith;
+        inside = omega arith;
+        full = end.full;
+        only = λ more a front back.
+            let few = front.few in let rest = back.few in let inside = back.some in
+            let at : a ≡ first_place least most (length items) = omega arith in
+            let same = not_behind leaf items (first_place least most (length items)) place a end (λ l. front.full l inside) at in
+            omega arith;
+      }
+
+  meets_middle : (place : ℕ) → IsEnd leaf items (half_place (length items)) place → Meets leaf least most items place
+  meets_middle place end =
+      let low = end.most in let near = end.least in
+      record {
+        some = omega arith;
+        many = omega arith;
+        rest = omega arith;
+        inside = omega arith;
+        full = end.full;
+        only = λ more a front back.
+            let few = front.few in let rest = back.few in let inside = back.some in
+            let short : place < half_place (length items) = omega arith in
+            let at : a ≡ half_place (length items) = omega arith in
+            let same = not_before leaf items (half_place (length items)) place a end (λ l. front.full l inside) at in
+            omega arith;
+      }
+
+  meets_last : (place : ℕ) → IsEnd leaf items (last_place least most (length items)) place → Meets leaf least most items place
+  meets_last place end =
+      let low = end.most in let near = end.least in
+      record {
+        some = omega arith;
+        many = omega arith;
+        rest = omega arith;
+        inside = omega arith;
+        full = end.full;
+        only = λ more a front back.
+            let few = front.few in let rest = back.few in let inside = back.some in
+            let at : a ≡ last_place least most (length items) = omega arith in
+            let same = not_before leaf items (last_place least most (length items)) place a end (λ l. front.full l inside) at in
+            omega arith;
+      }
+
+  meets : (side : Towards) (place : ℕ) → MeetAt side leaf least most items place → Meets leaf least most items place
+  meets towards.First place at = meets_first place at
+  meets towards.Middle place at = meets_middle place at
+  meets towards.Last place at = meets_last place at
+
+-- no other two rows have fewer items at the end that the cut is made towards
+pub nearest_first : (leaf : Bool) (least most : ℕ) (items : List Item) (to other : ℕ) → MeetAt towards.First leaf least most items to → ArePieces leaf least most items 0 (other ∷ length items ∷ []) → to ≤ other
+nearest_first leaf least most items to other at pieces =
+    let many = pieces.0.many in let rest = pieces.1.0.few in let inside = pieces.1.0.some in
+    let near = at.most in
+    ⊎_elim
+    (λ (less : other < to).
+    let here : other ≡ first_place least most (length items) = omega arith in
+    let same = not_behind leaf items (first_place least most (length items)) to other at (λ l. pieces.0.full l inside) here in
+    omega arith)
+    (λ (more : to ≤ other). more)
+    (cases_lt other to)
+
+pub nearest_last : (leaf : Bool) (least most : ℕ) (items : List Item) (to other : ℕ) → MeetAt towards.Last leaf least most items to → ArePieces leaf least most items 0 (other ∷ length items ∷ []) → other ≤ to
+nearest_last leaf least most items to other at pieces =
+    let few = pieces.0.few in let rest = pieces.1.0.many in let inside = pieces.1.0.some in
+    let near = at.least in
+    ⊎_elim
+    (λ (less : to < other).
+    let here : other ≡ last_place least most (length items) = omega arith in
+    let same = not_before leaf items (last_place least most (length items)) to other at (λ l. pieces.0.full l inside) here in
+    omega arith)
+    (λ (more : other ≤ to). more)
+    (cases_lt to other)
+
+-- ---- the cuts
+
+module _ (leaf : Bool) (least most : ℕ) (items : List Item) (side : Towards) where
   not_one : most < length items → (others : List ℕ) → ArePieces leaf least most items 0 others → 2 ≤ length others
   not_one long [] pieces = let none : 0 ≡ length items = pieces in absurd (omega arith)
   not_one long (a ∷ []) pieces = let few = pieces.0.few in let end : a ≡ length items = pieces.1 in absurd (omega arith)
   not_one long (a ∷ b ∷ others) pieces = omega arith
 
-  no_two : (half : ℕ) → 1 ≤ most → most < length items → IsEnd leaf items ((length items + 1) / 2) half → most < max half (length items - half)
-      → (a : ℕ) → IsPiece leaf least most items 0 a → IsPiece leaf least most items a (length items) → ⊥
-  no_two half one long end more a front back =
-      let front_few = front.few in let back_few = back.few in
-      let low = end.most in let near = end.least in
-      let short : half < (length items + 1) / 2 = omega arith in
-      let here : a ≡ (length items + 1) / 2 = omega arith in
-      elim (cases_Bool leaf) [
-        | inl t ↦
-            let entry : word_of items (a - 1) ≢ 0 = front.full t (omega arith) in
-            let kept = end.kept (subst (λ (n : ℕ). word_of items (n - 1) ≢ 0) here entry) in
-            omega arith
-        | inr n ↦ let kept = end.inner (λ t. false_is_not_true (sym n ∙ t)) in omega arith
-      ]
-    where
-      false_is_not_true : false ≡ true → ⊥
-      false_is_not_true e = cc
-
-  not_two : (half : ℕ) → 1 ≤ most → most < length items → IsEnd leaf items ((length items + 1) / 2) half → most < max half (length items - half)
-      → (others : List ℕ) → ArePieces leaf least most items 0 others → 3 ≤ length others
-  not_two half one long end more [] pieces = let none : 0 ≡ length items = pieces in absurd (omega arith)
-  not_two half one long end more (a ∷ []) pieces = let few = pieces.0.few in let all : a ≡ length items = pieces.1 in absurd (omega arith)
-  not_two half one long end more (a ∷ b ∷ []) pieces =
-      absurd (no_two half one long end more a pieces.0 (subst (IsPiece leaf least most items a) pieces.1.1 pieces.1.0))
-  not_two half one long end more (a ∷ b ∷ c ∷ others) pieces = omega arith
-
-  -- ---- the cuts
+  not_two : (place : ℕ) → most < length items → Meets leaf least most items place → most < max place (length items - place) → (others : List ℕ) → ArePieces leaf least most items 0 others → 3 ≤ length others
+  not_two place long at more [] pieces = let none : 0 ≡ length items = pieces in absurd (omega arith)
+  not_two place long at more (a ∷ []) pieces = let few = pieces.0.few in let all : a ≡ length items = pieces.1 in absurd (omega arith)
+  not_two place long at more (a ∷ b ∷ []) pieces = absurd (at.only more a pieces.0 (subst (IsPiece leaf least most items a) pieces.1.1 pieces.1.0))
+  not_two place long at more (a ∷ b ∷ c ∷ others) pieces = omega arith
 
   pub one_row : length items ≤ most → IsCut leaf least most items (length items ∷ [])
   one_row short = record { one = λ _. refl; more = λ long. absurd (omega arith) }
 
-  pub two_rows : (half : ℕ) → 2 * least + 2 ≤ most → most < length items → IsEnd leaf items ((length items + 1) / 2) half → max half (length items - half) ≤ most
-      → IsCut leaf least most items (half ∷ length items ∷ [])
-  two_rows half sizes long end fits =
-      let low = end.most in let near = end.least in
+  pub two_rows : (place : ℕ) → 2 * least + 2 ≤ most → most < length items → MeetAt side leaf least most items place → max place (length items - place) ≤ most → IsCut leaf least most items (place ∷ length items ∷ [])
+  two_rows place sizes long meet fits =
+      let at = meets leaf least most items sizes long side place meet in
+      let some = at.some in let many = at.many in let rest = at.rest in let inside = at.inside in
       record {
         one = λ short. absurd (omega arith);
         more = λ _. record {
           pieces = (
-            record { some = omega arith; many = omega arith; few = omega arith; full = λ l _. end.full l },
-            (record { some = omega arith; many = omega arith; few = omega arith; full = λ l inside. absurd (omega arith) }, refl),
+            record { some = omega arith; many = omega arith; few = omega arith; full = λ l _. at.full l },
+            (record { some = omega arith; many = omega arith; few = omega arith; full = λ l past. absurd (omega arith) }, refl),
           );
           fewest = not_one long;
         };
       }
 
-  pub three_rows : (half third thirds : ℕ) → 2 * least + 2 ≤ most → length items + 3 ≤ 3 * most → most < length items
-      → IsEnd leaf items ((length items + 1) / 2) half → most < max half (length items - half)
+  pub three_rows : (place third thirds : ℕ) → 2 * least + 2 ≤ most → length items + 3 ≤ 3 * most → most < length items
+      → MeetAt side leaf least most items place → most < max place (length items - place)
       → IsEnd leaf items ((length items + 2) / 3) third → IsEnd leaf items ((2 * length items + 2) / 3) thirds
       → IsCut leaf least most items (third ∷ thirds ∷ length items ∷ [])
-  three_rows half third thirds sizes room long end more one two =
-      let low = end.most in let near = end.least in
-      let low₁ = one.most in let near₁ = one.least in
-      let low₂ = two.most in let near₂ = two.least in
+  three_rows place third thirds sizes room long meet more one two =
+      let at = meets leaf least most items sizes long side place meet in
+      let low = one.most in let near = one.least in
+      let high = two.most in let close = two.least in
       record {
         one = λ short. absurd (omega arith);
         more = λ _. record {
@@ -100,9 +205,9 @@ module _ (leaf : Bool) (least most : ℕ) (items : List Item) where
             record { some = omega arith; many = omega arith; few = omega arith; full = λ l _. one.full l },
             (
               record { some = omega arith; many = omega arith; few = omega arith; full = λ l _. two.full l },
-              (record { some = omega arith; many = omega arith; few = omega arith; full = λ l inside. absurd (omega arith) }, refl),
+              (record { some = omega arith; many = omega arith; few = omega arith; full = λ l past. absurd (omega arith) }, refl),
             ),
           );
-          fewest = not_two half (omega arith) long end more;
+          fewest = not_two place long at more;
         };
       }

@@ -1,22 +1,21 @@
--- The items that an edit pushes are those of the store, so what it makes is the store with holes joined.
-use Rattle.std.proofs.Common.{◌≡◌, ℕ, suc, ◌+◌, ◌-◌, ◌<◌, ◌≤◌, nat_lt, nat_le, min, List, [], ◌∷◌, ◌++◌, length, get_or, take, drop, fold, map, refl, sym, ap, ◌∙◌, inl, inr, arith, append-nil}
+-- The items that an edit pushes are those of the store, so what it makes is the store with holes joined. `pushed_edit` is for
+-- callers that push items which they read elsewhere.
+use Rattle.std.proofs.Common.{◌≡◌, ℕ, suc, ◌+◌, ◌-◌, ◌<◌, ◌≤◌, nat_lt, nat_le, min, max, List, [], ◌∷◌, ◌++◌, length, get_or, take, drop, fold, refl, sym, ap, ◌∙◌, subst, inl, inr, arith, append-nil}
 use Rattle.std.proofs.lemmas.Bool.{cases_Bool, ltb-true, ltb-false, lt-ltb, le-ltb, leb-true, leb-false, le-leb}
 use Rattle.std.proofs.lemmas.Grind.{fold-append}
-use Rattle.std.proofs.lemmas.List.{drop_more, map-append}
+use Rattle.std.proofs.lemmas.List.{drop_more}
 use Rattle.mt_layout.specs.declared.items.Item.{Item}
-use Rattle.mt_layout.specs.Columns.{RiseFrom, end_of}
-use Rattle.mt_layout.specs.Spans.{spans_from, Fills}
-use Rattle.mt_leaf.specs.Edits.{spans_below, spans_above, span_stored, stored, edited}
+use Rattle.mt_layout.specs.declared.spans.Span.{Span}
+use Rattle.mt_layout.specs.Columns.{RiseFrom, end_of, NoGaps}
+use Rattle.mt_layout.specs.Spans.{spans_from}
+use Rattle.mt_layout.proofs.Gapless.{no_gaps-cons, no_gap_first, no_gaps-append, no_gaps-take, no_gaps-drop}
+use Rattle.mt_layout.proofs.SpanLists.{after, after_some, spans-append, rise_fills}
+use Rattle.mt_leaf.specs.Edits.{spans_below, spans_above, span_stored, stored, joined, edited}
 use Rattle.mt_leaf.specs.Places.{slot_reaching, slot_above, first_of, with_joined, cut_item, items_below}
-use Rattle.mt_leaf.proofs.Spans.{item_of, items_of-spans_from, spans_from-items_of, spans_fill}
-use Rattle.mt_leaf.proofs.Stored.{none_below, all_above, fills_edited}
-use Rattle.mt_leaf.proofs.Pushes.{all_pushed}
+use Rattle.mt_leaf.proofs.Stored.{none_below, all_above}
+use Rattle.mt_leaf.proofs.Pushes.{all_pushed, no_gaps-with_joined, no_gaps-pushed}
 
-fills_on : (lo : ℕ) (items : List Item) → RiseFrom lo items → (hi : ℕ) × Fills lo hi (spans_from lo items)
-fills_on lo [] rise = (lo, refl)
-fills_on lo (x ∷ items) rise = let behind = fills_on (x.last + 1) items rise.1 in (behind.0, (refl, rise.0, behind.1))
-
-items_below-spans : (lo first : ℕ) (items : List Item) → RiseFrom lo items → items_below lo items first ≡ map item_of (spans_below (spans_from lo items) first)
+items_below-spans : (lo first : ℕ) (items : List Item) → RiseFrom lo items → spans_from lo (items_below lo items first) ≡ spans_below (spans_from lo items) first
 items_below-spans lo first [] rise = refl
 items_below-spans lo first (x ∷ items) rise = elim (cases_Bool (nat_lt x.last first)) [
   | inl t ↦
@@ -25,29 +24,44 @@ items_below-spans lo first (x ∷ items) rise = elim (cases_Bool (nat_lt x.last 
       let next : 1 + slot_reaching items first ≡ suc (slot_reaching items first) = omega arith in
       let whole : min x.last (first - 1) ≡ x.last = omega arith in
       let begins = lt-ltb lo first (omega arith) in
-      rw (t, next, begins, whole) (ap (λ (rest : List Item). x ∷ rest) (items_below-spans (x.last + 1) first items rise.1))
+      rw (t, next, begins, whole) (ap (λ (rest : List Span). record { first = lo; last = x.last; word = x.word } ∷ rest) (items_below-spans (x.last + 1) first items rise.1))
   | inr n ↦
       let reaches : first ≤ x.last = ltb-false x.last first n in
-      let behind = fills_on (x.last + 1) items rise.1 in
-      let none = none_below (x.last + 1) behind.0 first (spans_from (x.last + 1) items) behind.1 (omega arith) in
+      let behind = rise_fills (x.last + 1) items rise.1 in
+      let none = none_below (x.last + 1) (after (x.last + 1) items) first (spans_from (x.last + 1) items) behind (omega arith) in
       let cut : min x.last (first - 1) ≡ first - 1 = omega arith in
       elim (cases_Bool (nat_lt lo first)) [ inl begins ↦ rw (n, begins, none, cut) refl | inr above ↦ rw (n, above, none) refl ]
 ]
 
-items_above-spans : (lo last : ℕ) (items : List Item) → RiseFrom lo items → drop (slot_above items last) items ≡ map item_of (spans_above (spans_from lo items) last)
-items_above-spans lo last [] rise = refl
-items_above-spans lo last (x ∷ items) rise = elim (cases_Bool (nat_le x.last last)) [
+-- what stands below ends in front of `first`
+after-items_below : (lo first : ℕ) (items : List Item) → RiseFrom lo items → lo ≤ first → first ≤ after lo items → after lo (items_below lo items first) ≡ first
+after-items_below lo first [] rise from to = omega arith
+after-items_below lo first (x ∷ items) rise from to = elim (cases_Bool (nat_lt x.last first)) [
+  | inl t ↦
+      let below : x.last < first = ltb-true x.last first t in
+      let next : 1 + slot_reaching items first ≡ suc (slot_reaching items first) = omega arith in
+      rw (t, next) (after-items_below (x.last + 1) first items rise.1 (omega arith) to)
+  | inr n ↦ elim (cases_Bool (nat_lt lo first)) [
+    | inl begins ↦ let some : lo < first = ltb-true lo first begins in rw (n, begins) (omega arith)
+    | inr above ↦ let none : first ≤ lo = ltb-false lo first above in rw (n, above) (omega arith)
+  ]
+]
+
+items_above-spans : (lo last : ℕ) (items : List Item) → RiseFrom lo items → lo ≤ last + 1 → spans_from (last + 1) (drop (slot_above items last) items) ≡ spans_above (spans_from lo items) last
+items_above-spans lo last [] rise from = refl
+items_above-spans lo last (x ∷ items) rise from = elim (cases_Bool (nat_le x.last last)) [
   | inl t ↦
       let within : x.last ≤ last = leb-true x.last last t in
       let next : 1 + slot_above items last ≡ suc (slot_above items last) = omega arith in
       let none = le-ltb last x.last within in
-      rw (t, next, none) (items_above-spans (x.last + 1) last items rise.1)
+      rw (t, next, none) (items_above-spans (x.last + 1) last items rise.1 (omega arith))
   | inr n ↦
       let above : last < x.last = leb-false x.last last n in
-      let behind = fills_on (x.last + 1) items rise.1 in
-      let all = all_above (x.last + 1) behind.0 last (spans_from (x.last + 1) items) behind.1 (omega arith) in
+      let behind = rise_fills (x.last + 1) items rise.1 in
+      let all = all_above (x.last + 1) (after (x.last + 1) items) last (spans_from (x.last + 1) items) behind (omega arith) in
       let some = lt-ltb last x.last above in
-      rw (n, some, all) (ap (λ (rest : List Item). x ∷ rest) (sym (items_of-spans_from (x.last + 1) items)))
+      let begins : max lo (last + 1) ≡ last + 1 = omega arith in
+      rw (n, some, all, begins) refl
 ]
 
 -- ---- the steps
@@ -87,20 +101,41 @@ reaching_le_above (x ∷ items) first last order = elim (cases_Bool (nat_lt x.la
   | inr n ↦ rw n (omega arith)
 ]
 
--- what was pushed is the store on the items' spans, with holes joined
+-- ---- what is pushed
+
+-- the item of the store
+abbrev pub item_stored : ℕ → ℕ → Item
+item_stored last entry = record { last = last; word = entry; gap = 0 }
+
+-- Of items of a region, what stands below the store is pushed, then the item of the store, then the items above it: that is
+-- the store on their spans, with holes joined.
 pub pushed_edit : (lo first last entry : ℕ) (items made : List Item) → 1 ≤ length items → RiseFrom lo items → lo ≤ first → first ≤ last → last ≤ end_of 0 items
-    → made ≡ fold with_joined (with_joined (fold with_joined [] (items_below lo items first)) (record { last = last; word = entry; gap = 0 })) (drop (slot_above items last) items)
+    → made ≡ fold with_joined (with_joined (fold with_joined [] (items_below lo items first)) (item_stored last entry)) (drop (slot_above items last) items)
     → spans_from lo made ≡ edited (spans_from lo items) first last entry
 pushed_edit lo first last entry items made some rise from order to is =
-    let xs = spans_from lo items in
-    let below = items_below-spans lo first items rise in
-    let above = items_above-spans lo last items rise in
-    let parts : items_below lo items first ++ (item_of (span_stored first last entry) ∷ drop (slot_above items last) items) ≡ map item_of (stored xs first last entry) =
-    rw (below, above) (sym (map-append item_of (spans_below xs first) (span_stored first last entry ∷ spans_above xs last))) in
-    let all : made ≡ map item_of (edited xs first last entry) =
-    is
-    ∙ (sym (fold-append with_joined [] (items_below lo items first) (item_of (span_stored first last entry) ∷ drop (slot_above items last) items))
-    ∙ (ap (fold with_joined []) parts ∙ all_pushed (stored xs first last entry))) in
-    ap (spans_from lo) all ∙ spans_from-items_of lo (end_of 0 items + 1) (edited xs first last entry) (fills_edited lo (end_of 0 items + 1) first last entry xs (spans_fill lo 0 items some rise) from order (omega arith))
+    let below = items_below lo items first in
+    let above = drop (slot_above items last) items in
+    let ends = after-items_below lo first items rise from (omega (arith, after_some lo 0 items some)) in
+    let parts : spans_from lo (below ++ (item_stored last entry ∷ above)) ≡ stored (spans_from lo items) first last entry =
+    spans-append lo below (item_stored last entry ∷ above)
+    ∙ (λ i. items_below-spans lo first items rise i ++ (span_stored (ends i) last entry ∷ items_above-spans lo last items rise (omega arith) i)) in
+    ap (spans_from lo) (is ∙ sym (fold-append with_joined [] below (item_stored last entry ∷ above)))
+    ∙ (all_pushed lo (below ++ (item_stored last entry ∷ above)) ∙ ap joined parts)
+
+-- and where the items have no gaps neither have those that are made
+pub no_gaps-edit : (lo first last entry : ℕ) (items made : List Item)
+    → made ≡ fold with_joined (with_joined (fold with_joined [] (items_below lo items first)) (item_stored last entry)) (drop (slot_above items last) items)
+    → NoGaps items → NoGaps made
+no_gaps-edit lo first last entry items made is none =
+    let slot = slot_reaching items first in
+    let below = no_gaps-append (take slot items) (cut_item (first_of lo items slot) first (drop slot items)) (no_gaps-take slot items none) (cut (first_of lo items slot) (drop slot items) (no_gaps-drop slot items none)) in
+    subst NoGaps (sym is)
+    (no_gaps-pushed (with_joined (fold with_joined [] (items_below lo items first)) (item_stored last entry)) (drop (slot_above items last) items)
+    (no_gaps-with_joined (fold with_joined [] (items_below lo items first)) (item_stored last entry) (no_gaps-pushed [] (items_below lo items first) refl below) refl)
+    (no_gaps-drop (slot_above items last) items none))
+  where
+    cut : (begin : ℕ) (rest : List Item) → NoGaps rest → NoGaps (cut_item begin first rest)
+    cut begin [] none = refl
+    cut begin (x ∷ rest) none = elim (cases_Bool (nat_lt begin first)) [ inl t ↦ rw t (no_gaps-cons (record x { last = first - 1 }) [] (no_gap_first x rest none) refl) | inr n ↦ rw n refl ]
 
 pub ruleset steps = (below_cut, below_whole, reaching_some, reaching_le_above)

@@ -35,7 +35,7 @@ begins_elsewhere first last x other = rw (ne_eqb x.first first other) refl
 none_behind : (lo first last : ℕ) (items : List Item) → RiseFrom lo items → first < lo → exact_slot_of (spans_from lo items) first last ≡ None
 none_behind lo first last [] rise above = refl
 none_behind lo first last (x ∷ items) rise above =
-    let span : Span = record { first = lo; last = x.last; word = x.word; gap = x.gap } in
+    let span : Span = record { first = lo; last = x.last; word = x.word } in
     let low = rise.0 in
     not_here (is_exact first last) span (spans_from (x.last + 1) items) (begins_elsewhere first last span (λ e. omega arith))
     ∙ ap (option_map suc) (none_behind (x.last + 1) first last items rise.1 (omega arith))
@@ -53,7 +53,7 @@ exact_or_none : (lo first last : ℕ) (items : List Item) → RiseFrom lo items
     → exact_slot_of (spans_from lo items) first last ≡ if_exact (first_of lo items (slot_reaching items first)) first last (slot_reaching items first) (drop (slot_reaching items first) items)
 exact_or_none lo first last [] rise = refl
 exact_or_none lo first last (x ∷ items) rise =
-    let span : Span = record { first = lo; last = x.last; word = x.word; gap = x.gap } in
+    let span : Span = record { first = lo; last = x.last; word = x.word } in
     let low = rise.0 in
     elim (cases_Bool (nat_lt x.last first)) [
       | inl t ↦

@@ -2,8 +2,8 @@ pub mod Counts
 pub mod CutLaws
 pub mod EditSteps
 pub mod ExactSlot
+pub mod Holes
 pub mod Joined
 pub mod Pushes
 pub mod Slots
-pub mod Spans
 pub mod Stored

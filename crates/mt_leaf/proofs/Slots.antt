@@ -6,6 +6,7 @@ use Rattle.std.proofs.lemmas.List.Sums.{prefix_len_is, prefix_len_passes, prefix
 use Rattle.std.proofs.lemmas.Bool.{ltb-true}
 use Rattle.mt_layout.specs.declared.items.Item.{Item}
 use Rattle.mt_layout.specs.Columns.{RiseFrom}
+use Rattle.mt_layout.proofs.SpanLists.{rise_from_zero}
 use Rattle.mt_leaf.specs.Places.{slot_reaching, first_of}
 
 pub no_item : Item
@@ -26,10 +27,6 @@ lasts_rise (x ∷ items) min rise (suc i) (suc j) d le within = lasts_rise items
 -- a partition point is the length of the front that passes
 pub partition_point_is : (passes : Item → Bool) (items : List Item) (i : ℕ) → i ≤ length items → IsPartitionPoint (λ x. passes x ≡ true) (λ x. passes x ≡ false) items i → prefix_len passes items ≡ i
 partition_point_is passes items i within point = prefix_len_is passes items i no_item within (λ k below. point.0 k no_item (omega arith) below) (λ inside. point.1 i no_item (omega arith) inside)
-
-pub rise_from_zero : (min : ℕ) (items : List Item) → RiseFrom min items → RiseFrom 0 items
-rise_from_zero min [] rise = tt
-rise_from_zero min (x ∷ items) rise = (omega arith, rise.1)
 
 -- an item behind another begins at its end
 pub first_of-behind : (items : List Item) (min slot : ℕ) (d : Item) → 0 < slot → slot ≤ length items → (get_or items (slot - 1) d).last + 1 ≡ first_of min items slot

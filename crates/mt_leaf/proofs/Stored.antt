@@ -8,7 +8,7 @@ use Rattle.mt_base.specs.declared.ranges.Range.{Range}
 use Rattle.mt_layout.specs.declared.spans.Span.{Span}
 use Rattle.mt_layout.specs.Spans.{leaf_range, Fills}
 use Rattle.mt_leaf.specs.Edits.{span_below, span_above, spans_below, spans_above, span_stored, stored, edited, starting}
-use Rattle.mt_leaf.proofs.Spans.{fills-append, fills_le}
+use Rattle.mt_layout.proofs.SpanLists.{fills-append, fills_le}
 use Rattle.mt_leaf.proofs.Joined.{ranges_joined, fills_joined, length_joined}
 
 -- ---- the ranges

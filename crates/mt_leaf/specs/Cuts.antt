@@ -1,7 +1,9 @@
 -- Where the items of a level are cut into rows. Source: this project's own least numbers of items; the kernel's
 -- mab_calc_split, which keeps a leaf from ending with a slot of no entry.
-use Rattle.std.specs.Prelude.{◌≡◌, ◌≢◌, ℕ, ◌+◌, ◌-◌, ◌<◌, ◌≤◌, List, [], ◌∷◌, Bool, true, length, map, slice_index}
+use Rattle.std.specs.Prelude.{◌≡◌, ◌≢◌, ℕ, ◌+◌, ◌-◌, ◌*◌, ◌/◌, ◌<◌, ◌≤◌, min, max, List, [], ◌∷◌, Bool, true, length, map, slice_index}
 use Rattle.mt_layout.specs.declared.items.Item.{Item}
+use Rattle.mt_leaf.specs.declared.cuts.Towards.{Towards}
+use Rattle.mt_leaf.specs.declared.cuts.Towards.TheVariants as towards
 
 abbrev pub word_of : List Item → ℕ → ℕ
 word_of items i = slice_index (map (λ x. x.word) items) i
@@ -22,6 +24,14 @@ pub record IsEnd (leaf : Bool) (items : List Item) (end to : ℕ) : Type 0 where
   pub kept : word_of items (end - 1) ≢ 0 → to ≡ end
   pub inner : leaf ≢ true → to ≡ end
 
+-- the end of a row that is to end at `end`, or in a leaf one item behind, so that it does not end with a hole
+pub record IsLaterEnd (leaf : Bool) (items : List Item) (end to : ℕ) : Type 0 where
+  pub least : end ≤ to
+  pub most : to ≤ end + 1
+  pub full : leaf ≡ true → word_of items (to - 1) ≢ 0
+  pub kept : word_of items (end - 1) ≢ 0 → to ≡ end
+  pub inner : leaf ≢ true → to ≡ end
+
 -- rows that end at these places, each behind the one before, the first beginning at `from` and the last ending with the items
 abbrev pub ArePieces : Bool → ℕ → ℕ → List Item → ℕ → List ℕ → Type 0
 ArePieces leaf least most items from [] = from ≡ length items
@@ -35,3 +45,26 @@ pub record AreFewest (leaf : Bool) (least most : ℕ) (items : List Item) (ends 
 pub record IsCut (leaf : Bool) (least most : ℕ) (items : List Item) (ends : List ℕ) : Type 0 where
   pub one : length items ≤ most → ends ≡ length items ∷ []
   pub more : most < length items → AreFewest leaf least most items ends
+
+-- ---- where two rows meet
+
+-- the first place at which so many items may be cut in two, the half, and the last place
+abbrev pub first_place : ℕ → ℕ → ℕ → ℕ
+first_place least most count = max least (count - most)
+
+abbrev pub half_place : ℕ → ℕ
+half_place count = (count + 1) / 2
+
+abbrev pub last_place : ℕ → ℕ → ℕ → ℕ
+last_place least most count = min most (count - least)
+
+-- Two rows meet there: at that place, or in a leaf at the next one further inside, where the first row would end with a hole.
+abbrev pub MeetAt : Towards → Bool → ℕ → ℕ → List Item → ℕ → Type 0
+MeetAt towards.First leaf least most items to = IsLaterEnd leaf items (first_place least most (length items)) to
+MeetAt towards.Middle leaf least most items to = IsEnd leaf items (half_place (length items)) to
+MeetAt towards.Last leaf least most items to = IsEnd leaf items (last_place least most (length items)) to
+
+-- Two rows meet where they are asked to, and three rows are of about one size.
+pub record IsCutTowards (side : Towards) (leaf : Bool) (least most : ℕ) (items : List Item) (ends : List ℕ) : Type 0 where
+  pub two : (to : ℕ) → ends ≡ to ∷ length items ∷ [] → MeetAt side leaf least most items to
+  pub three : (one next : ℕ) → ends ≡ one ∷ next ∷ length items ∷ [] → IsEnd leaf items ((length items + 2) / 3) one × IsEnd leaf items ((2 * length items + 2) / 3) next

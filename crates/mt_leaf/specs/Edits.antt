@@ -20,7 +20,7 @@ abbrev pub spans_above : List Span → ℕ → List Span
 spans_above xs last = map (span_above last) (filter (λ x. nat_lt last x.last) xs)
 
 abbrev pub span_stored : ℕ → ℕ → ℕ → Span
-span_stored first last entry = record { first = first; last = last; word = entry; gap = 0 }
+span_stored first last entry = record { first = first; last = last; word = entry }
 
 -- the spans after `entry` was stored over `first` to `last`; an entry of 0 makes a hole
 abbrev pub stored : List Span → ℕ → ℕ → ℕ → List Span

@@ -1,5 +1,6 @@
-ghost use Rattle.std.specs.Prelude.{◌≡◌, ◌↔◌, ◌≤◌, ◌<◌, ◌+◌, ◌-◌, fold, length, IsTrue};
-ghost use Rattle.mt_layout.specs.Columns.{RiseFrom, end_of};
+ghost use Rattle.std.specs.Prelude.{◌≡◌, ◌↔◌, ◌≤◌, ◌<◌, ◌+◌, ◌-◌, [], fold, length, IsTrue};
+ghost use Rattle.mt_layout.specs.Columns.{RiseFrom, end_of, NoGaps};
+ghost use Rattle.mt_layout.specs.Sizes.{run_room, edit_room};
 ghost use Rattle.mt_layout.specs.Spans.{spans_from};
 ghost use Rattle.mt_leaf.specs.Cuts.{word_of};
 ghost use Rattle.mt_leaf.specs.Edits.{edited, exact_slot_of};
@@ -10,29 +11,44 @@ use mt_layout::{Item, Run};
 
 /// The items after `entry` was stored over `first` to `last`, with holes that follow each other joined. The first item
 /// begins at `min`. An entry of 0 makes a hole.
-#[tactic(auto, using(crate::proofs::EditSteps::steps, crate::proofs::Slots::slots))]
 pub fn edit(items: &Run, min: u64, first: u64, last: u64, entry: u64) -> Run
     requires some { 1 ≤ length items.now.items }
-    requires room { length items.now.items ≤ 70 }
+    requires room { length items.now.items ≤ edit_room }
     requires rise { RiseFrom min items.now.items }
     requires order { first ≤ last }
     requires from { min ≤ first }
     requires to { last ≤ end_of 0 items.now.items }
-    ensures { spans_from min result.items ≡ edited (spans_from min items.now.items) first last entry }
+    ensures spans { spans_from min result.items ≡ edited (spans_from min items.now.items) first last entry }
+    ensures no_gaps { NoGaps items.now.items → NoGaps result.items }
 {
-    let items = items.as_slice();
-    let mut edited = Run::new();
-    push_below(&mut edited, items, min, first);
+    let mut run = Run::new();
+    edit_into(items.as_slice(), min, first, last, entry, &mut run);
+    run
+}
+
+/// The same, in the caller's empty run.
+#[tactic(auto, using(crate::proofs::EditSteps::steps, crate::proofs::Slots::slots))]
+pub fn edit_into(items: &[Item], min: u64, first: u64, last: u64, entry: u64, run: &mut Run)
+    requires empty { run.old.items ≡ [] }
+    requires some { 1 ≤ length items.now }
+    requires room { length items.now ≤ edit_room }
+    requires rise { RiseFrom min items.now }
+    requires order { first ≤ last }
+    requires from { min ≤ first }
+    requires to { last ≤ end_of 0 items.now }
+    ensures spans { spans_from min run.new.items ≡ edited (spans_from min items.now) first last entry }
+    ensures no_gaps { NoGaps items.now → NoGaps run.new.items }
+{
+    push_below(run, items, min, first);
     push_joined(
-        &mut edited,
+        run,
         Item {
             last,
             word: entry,
             gap: 0,
         },
     );
-    push_joined_all(&mut edited, &items[slot_above(items, last)..]);
-    edited
+    push_joined_all(run, &items[slot_above(items, last)..]);
 }
 
 /// The slot whose entry stands at just `first` to `last`. The first item begins at `min`.
@@ -52,19 +68,19 @@ pub fn exact_slot(items: &Run, min: u64, first: u64, last: u64) -> Option<u32>
 
 /// Pushes what stands below `first` of these items, the first of which begins at `min`.
 #[tactic(auto, using(crate::proofs::EditSteps::steps))]
-fn push_below(edited: &mut Run, items: &[Item], min: u64, first: u64)
+fn push_below(run: &mut Run, items: &[Item], min: u64, first: u64)
     requires some { 1 ≤ length items.now }
     requires rise { RiseFrom min items.now }
     requires reach { first ≤ end_of 0 items.now }
-    requires room { length edited.old.items + slot_reaching items.now first < 72 }
-    ensures items { edited.new.items ≡ fold with_joined edited.old.items (items_below min items.now first) }
-    ensures count { length edited.new.items ≤ length edited.old.items + slot_reaching items.now first + 1 }
+    requires room { length run.old.items + slot_reaching items.now first < run_room }
+    ensures items { run.new.items ≡ fold with_joined run.old.items (items_below min items.now first) }
+    ensures count { length run.new.items ≤ length run.old.items + slot_reaching items.now first + 1 }
 {
     let (slot, begin) = slot_and_first(items, min, first);
-    push_joined_all(edited, &items[..slot]);
+    push_joined_all(run, &items[..slot]);
     if begin < first {
         push_joined(
-            edited,
+            run,
             Item {
                 last: first - 1,
                 ..items[slot]
@@ -74,27 +90,27 @@ fn push_below(edited: &mut Run, items: &[Item], min: u64, first: u64)
 }
 
 /// Pushes these items, each as one with the item before where both are holes.
-pub fn push_joined_all(edited: &mut Run, items: &[Item])
-    requires { length edited.old.items + length items.now ≤ 72 }
-    ensures items { edited.new.items ≡ fold with_joined edited.old.items items.now }
-    ensures count { length edited.new.items ≤ length edited.old.items + length items.now }
+pub fn push_joined_all(run: &mut Run, items: &[Item])
+    requires { length run.old.items + length items.now ≤ run_room }
+    ensures items { run.new.items ≡ fold with_joined run.old.items items.now }
+    ensures count { length run.new.items ≤ length run.old.items + length items.now }
 {
     for item in items {
-        push_joined(edited, *item);
+        push_joined(run, *item);
     }
 }
 
 /// Pushes an item, as one with the last where both are holes.
-fn push_joined(edited: &mut Run, item: Item)
-    requires { length edited.old.items < 72 }
-    ensures items { edited.new.items ≡ with_joined edited.old.items item }
-    ensures count { length edited.new.items ≤ length edited.old.items + 1 }
+pub fn push_joined(run: &mut Run, item: Item)
+    requires { length run.old.items < run_room }
+    ensures items { run.new.items ≡ with_joined run.old.items item }
+    ensures count { length run.new.items ≤ length run.old.items + 1 }
 {
-    if item.word == 0 && ends_with_hole(edited) {
-        let hole = edited.len() - 1;
-        edited[hole].last = item.last;
+    if item.word == 0 && ends_with_hole(run) {
+        let hole = run.len() - 1;
+        run[hole].last = item.last;
     } else {
-        edited.push(item);
+        run.push(item);
     }
 }
 

@@ -1,12 +1,14 @@
 //! What a store on the items of leaves does. Each law is the contract of a function that does nothing.
 
-ghost use Rattle.std.specs.Prelude.{◌≡◌, ◌+◌, ◌*◌, ◌<◌, ◌≤◌, ℕ, true, List, ◌++◌, length};
+ghost use Rattle.std.specs.Prelude.{◌≡◌, ◌+◌, ◌*◌, ◌<◌, ◌≤◌, ℕ, Bool, true, List, [], ◌∷◌, ◌++◌, length};
 ghost use Rattle.std.specs.List.{flat_map};
 ghost use Rattle.mt_base.specs.Map.{over};
 ghost use Rattle.mt_layout.specs.declared.items.Item.{Item};
 ghost use Rattle.mt_layout.specs.declared.spans.Span.{Span};
-ghost use Rattle.mt_layout.specs.Columns.{end_of};
+ghost use Rattle.mt_layout.specs.Columns.{end_of, NoGaps};
 ghost use Rattle.mt_layout.specs.Spans.{spans_from, leaf_range, Fills, Apart, EndsFull};
+ghost use Rattle.mt_leaf.specs.declared.cuts.Towards.TheVariants.{First, Last};
+ghost use Rattle.mt_leaf.specs.Cuts.{ArePieces, MeetAt};
 ghost use Rattle.mt_leaf.specs.Edits.{edited, stored, joined, starting, ends_with_hole};
 
 /// A store on the spans of leaves is that store on the map that they stand for.
@@ -32,9 +34,10 @@ pub fn leaves_are_joined()
     ensures most { (xs : List Span) → length (joined xs) ≤ length xs }
 {}
 
-/// Items are one with their spans: equal spans are of equal items, and items behind others begin at their end.
+/// Items are one with their spans: equal spans are of equal items where none has a gap, and items behind others begin at
+/// their end.
 pub fn spans_tell_the_items()
-    ensures same { (first : ℕ) (xs ys : List Item) → spans_from first xs ≡ spans_from first ys → xs ≡ ys }
+    ensures same { (first : ℕ) (xs ys : List Item) → NoGaps xs → NoGaps ys → spans_from first xs ≡ spans_from first ys → xs ≡ ys }
     ensures append { (first : ℕ) (xs ys : List Item) → 1 ≤ length xs → spans_from first (xs ++ ys) ≡ spans_from first xs ++ spans_from (end_of 0 xs + 1) ys }
 {}
 
@@ -48,4 +51,10 @@ pub fn an_edit_is_short()
         → length (edited (left ++ starting middle right) first last entry) ≤ 2 * n + 1 }
     ensures two_to_a_hole { (lo middle behind hi first last entry n : ℕ) (left right : List Span) → Fills lo middle left → Fills behind hi right → first < middle → middle ≤ behind → behind ≤ last → last < hi → length left ≤ n → length right ≤ n
         → ends_with_hole (edited (left ++ starting middle right) first last entry) ≡ true → EndsFull right → length (edited (left ++ starting middle right) first last entry) ≤ n + 1 }
+{}
+
+/// A cut towards an end is as near to it as may be: no other two rows have fewer items at that end.
+pub fn a_cut_towards_an_end_is_nearest()
+    ensures first { (leaf : Bool) (least most : ℕ) (items : List Item) (to other : ℕ) → MeetAt First leaf least most items to → ArePieces leaf least most items 0 (other ∷ length items ∷ []) → to ≤ other }
+    ensures last { (leaf : Bool) (least most : ℕ) (items : List Item) (to other : ℕ) → MeetAt Last leaf least most items to → ArePieces leaf least most items 0 (other ∷ length items ∷ []) → other ≤ to }
 {}

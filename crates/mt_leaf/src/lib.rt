@@ -8,5 +8,5 @@ mod places;
 #[cfg(test)]
 mod tests;
 
-pub use cuts::cut;
-pub use edits::{edit, exact_slot, push_joined_all};
+pub use cuts::{Towards, cut, cut_towards};
+pub use edits::{edit, edit_into, exact_slot, push_joined, push_joined_all};

@@ -1,8 +1,9 @@
 ghost use Rattle.std.specs.Prelude.{◌≡◌, ◌≤◌, ◌+◌, ◌*◌, true, length};
 ghost use Rattle.mt_layout.specs.Columns.{RiseFrom, end_of};
+ghost use Rattle.mt_layout.specs.Sizes.{edit_room};
 ghost use Rattle.mt_layout.specs.Spans.{spans_from, Apart};
 
-use crate::{cut, edit, exact_slot};
+use crate::{Towards, cut, cut_towards, edit, exact_slot};
 use arrayvec::ArrayVec;
 use mt_base::Range;
 use mt_layout::{Item, Run};
@@ -26,7 +27,7 @@ fn run_of(rt: &impl Abort, items: &[Item]) -> Run
 /// Stores a range among these items, the first of which begins at `min`.
 fn expect_edit(rt: &impl Abort, items: &[Item], min: u64, store: Range, want: &[Item])
     requires some { 1 ≤ length items.now }
-    requires room { length items.now ≤ 70 }
+    requires room { length items.now ≤ edit_room }
     requires rise { RiseFrom min items.now }
     requires order { store.first ≤ store.last }
     requires from { min ≤ store.first }
@@ -134,6 +135,42 @@ fn cuts_of_entries(rt: HostRuntime) {
     expect_ends(&rt, &[ENTRY; 17], true, &[9, 17]);
     expect_ends(&rt, &[ENTRY; 32], true, &[16, 32]);
     expect_ends(&rt, &[ENTRY; 45], false, &[15, 30, 45]);
+}
+
+fn expect_meeting(rt: &impl Abort, items: &[Item], leaf: bool, towards: Towards, want: &[u32])
+    requires some { 1 ≤ length items.now }
+    requires few { length items.now + 3 ≤ 48 }
+    requires apart { leaf ≡ true → Apart (spans_from 0 items.now) }
+{
+    let ends = cut_towards(items, 16, 6, leaf, towards);
+    assert_eq!(rt; ends.as_slice(), want, "{towards:?}");
+}
+
+/// The first row's end, of two rows that meet as they are asked to, in a leaf and in an inner row.
+macro_rules! meetings {
+    ($rt:expr, $items:expr, $($towards:ident at $leaf:literal or $inner:literal;)*) => {
+        $(
+            expect_meeting($rt, &$items, true, Towards::$towards, &[$leaf, $items.len() as u32]);
+            expect_meeting($rt, &$items, false, Towards::$towards, &[$inner, $items.len() as u32]);
+        )*
+    };
+}
+
+#[test]
+fn cuts_towards_an_end(rt: HostRuntime) {
+    meetings! { &rt, [ENTRY; 17], First at 6 or 6; Middle at 9 or 9; Last at 11 or 11; }
+    meetings! { &rt, [ENTRY; 26], First at 10 or 10; Middle at 13 or 13; Last at 16 or 16; }
+    let mut items = [ENTRY; 17];
+    items[5] = HOLE;
+    items[8] = HOLE;
+    items[10] = HOLE;
+    meetings! { &rt, items, First at 7 or 6; Middle at 8 or 9; Last at 10 or 11; }
+    let mut many = [ENTRY; 32];
+    many[15] = HOLE;
+    expect_meeting(&rt, &many, true, Towards::First, &[11, 22, 32]);
+    expect_meeting(&rt, &many, true, Towards::Last, &[11, 22, 32]);
+    expect_meeting(&rt, &many, false, Towards::Last, &[16, 32]);
+    expect_meeting(&rt, &many[..16], true, Towards::Last, &[16]);
 }
 
 #[test]

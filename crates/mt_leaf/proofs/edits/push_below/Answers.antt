@@ -9,4 +9,4 @@ returns-then-begin-first-clause-items c =
     let some = reaching_some items 0 c.args.first c.requires.some c.requires.reach in
     let within : found.result.0 < length items = omega (arith, found.ensures.slot) in
     rw (c.push_joined.ensures.items, c.push_joined_all.ensures.items)
-    (below_cut c.args.edited.now.items c.args.min c.args.first found.result.0 found.result.1 items _ found.ensures.slot found.ensures.first within c.if-begin-first.true)
+    (below_cut c.args.run.now.items c.args.min c.args.first found.result.0 found.result.1 items _ found.ensures.slot found.ensures.first within c.if-begin-first.true)

@@ -4,6 +4,6 @@ use Rattle.mt_leaf.proofs.edits.push_joined_all.Given as goal
 
 abbrev pub invariant-loop-item : goal.invariant-loop-item
 invariant-loop-item l = record {
-  items : l.edited.items ≡ fold with_joined l.initial.edited.items (take l.item-index l.items);
-  count : length l.edited.items ≤ length l.initial.edited.items + l.item-index;
+  items : l.run.items ≡ fold with_joined l.initial.run.items (take l.item-index l.items);
+  count : length l.run.items ≤ length l.initial.run.items + l.item-index;
 }
