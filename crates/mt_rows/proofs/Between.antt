@@ -1,20 +1,18 @@
 -- Where the ranges of a map lie, and a store that leaves what lies below it and above it.
-use Rattle.std.proofs.Common.{◌≡◌, ℕ, zero, suc, ◌+◌, ◌-◌, ◌<◌, ◌≤◌, ◌==◌, List, [], ◌∷◌, ◌++◌, min, max, nat_lt, false, refl, sym, ap, ◌∙◌, inl, inr, arith, append-nil, append_assoc}
+use Rattle.std.proofs.Common.{◌≡◌, ℕ, zero, suc, ◌+◌, ◌-◌, ◌<◌, ◌≤◌, ◌==◌, List, [], ◌∷◌, ◌++◌, min, max, nat_lt, false, refl, ap, ◌∙◌, inl, inr, arith, append-nil, append_assoc}
 use Rattle.std.specs.List.{AllByRecursion, flat_map}
 use Rattle.std.proofs.lemmas.Bool.{cases_Bool, lt-ltb, le-ltb}
 use Rattle.mt_base.specs.declared.ranges.Range.{Range}
 use Rattle.mt_base.specs.Map.{over, parts_below, parts_above, part_stored, cut_below, cut_above}
+use Rattle.mt_base.proofs.Lists.{all_map}
 use Rattle.mt_layout.specs.declared.spans.Span.{Span}
 use Rattle.mt_layout.specs.Spans.{leaf_range, Fills}
+use Rattle.mt_layout.proofs.SpanLists.{fills_le}
 use Rattle.mt_rows.specs.Levels.{expand, map_of, Levels}
 use Rattle.mt_rows.specs.Laws.{Tree, IsRow}
-use Rattle.mt_rows.proofs.Lists.{all_map, fills_le, Filled, expand_fills}
-
--- ---- spans
-
-pub fills_split : (lo hi : ℕ) (front : List Span) (x : Span) (back : List Span) → Fills lo hi (front ++ (x ∷ back)) → Fills lo x.first front × (x.first ≤ x.last) × Fills (x.last + 1) hi back
-fills_split lo hi [] x back fills = (sym fills.0, (let begins = fills.0 in let ends = fills.1 in omega arith), fills.2)
-fills_split lo hi (y ∷ front) x back fills = let behind = fills_split (y.last + 1) hi front x back fills.2 in ((fills.0, fills.1, behind.0), behind.1, behind.2)
+use Rattle.mt_rows.proofs.Lists.{Filled, expand_fills}
+-- this stands below; here it is for the crates above
+pub use Rattle.mt_layout.proofs.SpanLists.{fills_split}
 
 -- ---- the ranges of a map
 

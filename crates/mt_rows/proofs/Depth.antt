@@ -5,16 +5,18 @@ use Rattle.std.proofs.lemmas.Bool.{cases_Bool}
 use Rattle.std.proofs.lemmas.Grind.{flat_map-append}
 use Rattle.mt_base.specs.declared.kinds.Kind.{Kind}
 use Rattle.mt_base.specs.declared.kinds.Kind.TheVariants as trees
+use Rattle.mt_base.proofs.Lists.{all_map, all_front, all_back}
 use Rattle.mt_layout.specs.declared.names.RowKind.{RowKind}
-use Rattle.mt_layout.specs.declared.names.RowKind.TheVariants.{Leaf, Inner, Gapped}
+use Rattle.mt_layout.specs.declared.names.RowKind.TheVariants.{Leaf}
 use Rattle.mt_layout.specs.Rows.{row_in, named_kind}
+use Rattle.mt_layout.proofs.RowSizes as sizes
 use Rattle.mt_layout.specs.declared.spans.Span.{Span}
 use Rattle.mt_layout.specs.Spans.{leaf_range}
 use Rattle.mt_rows.specs.Spans.{Table, spans_in, inner_kind}
 use Rattle.mt_rows.specs.Levels.{expand, map_of, Levels, one_if, tally, times, is_row_of}
 use Rattle.mt_rows.specs.Trees.{by_kind, ranges_of, rows_of, levels_by, of_first, height_of}
-use Rattle.mt_rows.specs.Laws.{Tree, IsRow, kind_at, covers_all, least_of_root, least_items_TODO, least_of}
-use Rattle.mt_rows.proofs.Lists.{all_map, all_front, all_back, tally-append}
+use Rattle.mt_rows.specs.Laws.{Tree, IsRow, kind_at, covers_all, least_of_root, least_of}
+use Rattle.mt_rows.proofs.Lists.{tally-append}
 
 abbrev pub IsLeaf : Span → Type 0
 IsLeaf x = named_kind x.word ≡ Some Leaf
@@ -101,16 +103,11 @@ rows_by_depth t depth h row x deep rows = ap (count row) (sym (append-nil (rows_
 
 -- every row has items
 pub some_least : (t : Tree) (h : ℕ) (x : Span) → 1 ≤ least_of t h x
-some_least t h x = elim (cases_Bool (covers_all t x)) [ inl all ↦ rw all (of_root h) | inr part ↦ rw part (of_kind (kind_at t.kind h)) ]
+some_least t h x = elim (cases_Bool (covers_all t x)) [ inl all ↦ rw all (of_root h) | inr part ↦ rw part (omega (arith, sizes.some_least t.table.width (kind_at t.kind h))) ]
   where
     of_root : (h : ℕ) → 1 ≤ least_of_root h
     of_root zero = omega arith
     of_root (suc h) = omega arith
-
-    of_kind : (kind : RowKind) → 1 ≤ least_items_TODO kind
-    of_kind Leaf = omega arith
-    of_kind Inner = omega arith
-    of_kind Gapped = omega arith
 
 -- every row of a height has as many levels
 abbrev Tall : Table → ℕ → ℕ → List Span → Type 0

@@ -3,23 +3,25 @@ use Rattle.std.proofs.Common.{◌≡◌, ◌≢◌, ℕ, zero, ◌+◌, ◌<◌,
 use Rattle.std.proofs.lemmas.Bool.{cases_Bool, eqb-true}
 use Rattle.std.proofs.lemmas.List.{map-append}
 use Rattle.mt_base.specs.declared.ranges.Range.{Range}
+use Rattle.mt_base.specs.declared.widths.Width.{Width}
 use Rattle.mt_base.specs.declared.kinds.Kind.{Kind}
 use Rattle.mt_base.specs.declared.calls.Call.TheVariants.{Store}
 use Rattle.mt_base.specs.declared.replies.Reply.TheVariants as reply
 use Rattle.mt_base.specs.Entry.{reserved}
 use Rattle.mt_base.specs.Map.{over}
 use Rattle.mt_base.specs.Call.{acted}
+use Rattle.mt_base.specs.Width.{kind_width, greatest, greatest_of, deepest}
 use Rattle.mt_layout.specs.Rows.{row_in}
 use Rattle.mt_layout.specs.Columns.{slot_column}
 use Rattle.mt_layout.specs.declared.names.RowKind.TheVariants.{Leaf}
 use Rattle.mt_layout.specs.declared.spans.Span.{Span}
+use Rattle.mt_layout.specs.Sizes.{slots_of, first_row}
 use Rattle.mt_rows.specs.declared.rows.Place.TheVariants.{Slot}
-use Rattle.mt_rows.specs.Spans.{slots_of, spans_in, root_span}
+use Rattle.mt_rows.specs.Spans.{spans_in, root_span}
 use Rattle.mt_rows.specs.Levels.{level, map_of}
-use Rattle.mt_rows.specs.Trees.{deepest}
 use Rattle.mt_rows.specs.Laws as laws
-use Rattle.mt_rows.specs.Sheet.{Sheet, Tree, IsWhole, with_word}
-use Rattle.mt_rows.specs.Publish.{tree_as, AreOfKind, LiveAreReached, NoneBuried, MayPublish, IsPlaceToPublish, IsReached, StandsAt, KeepsPlace, SameHoles, Changes, map_by}
+use Rattle.mt_rows.specs.Sheet.{Sheet, Rooted, IsWhole, with_word}
+use Rattle.mt_rows.specs.Publish.{tree_as, IsTold, LiveAreReached, NoneBuried, MayPublish, IsPlaceToPublish, IsReached, StandsAt, KeepsPlace, SameHoles, Changes, map_by}
 use Rattle.mt_rows.specs.Replacement.{root_of, IsSlotAt}
 use Rattle.mt_rows.proofs.Depth.{ranges_by_depth}
 use Rattle.mt_rows.proofs.Heights.{level_shared_above}
@@ -28,7 +30,7 @@ use Rattle.mt_rows.proofs.SlotStore as store
 use Rattle.mt_rows.proofs.SlotEntry as exact
 use Rattle.mt_rows.proofs.Reached as reached
 
-module _ (kind : Kind) (s : Sheet) (h slot entry : ℕ) (leaf item : Span) (whole : IsWhole s) (live : LiveAreReached s.tree s.lives) (none_buried : NoneBuried s.tree.rows s.buried) (of_kind : AreOfKind s.kind s.tree.table.width kind)
+module _ (kind : Kind) (s : Sheet) (h slot entry : ℕ) (leaf item : Span) (whole : IsWhole s) (live : LiveAreReached s.tree s.lives) (none_buried : NoneBuried s.tree.rows s.buried) (told : IsTold s.kind kind) (width : s.tree.table.width ≡ kind_width kind)
     (stands : laws.Stands (tree_as kind s.tree) h) (at : IsSlotAt (tree_as kind s.tree) h leaf slot item) (old : item.word ≢ 0) (new : entry ≢ 0) (free : reserved entry ≡ false) where
   abbrev t : laws.Tree
   t = tree_as kind s.tree
@@ -39,11 +41,11 @@ module _ (kind : Kind) (s : Sheet) (h slot entry : ℕ) (leaf item : Span) (whol
   abbrev col : ℕ
   col = slot_column (slots_of s.tree.table.width Leaf) slot
 
-  abbrev written : Tree
+  abbrev written : Rooted
   written = with_word s.tree row col entry
 
   abbrev t' : laws.Tree
-  t' = tree_as kind s.tree.rows written
+  t' = tree_as kind written
 
   abbrev st : store.Store
   st = exact.entry_store t h slot entry leaf item whole.words stands at old new free
@@ -93,9 +95,10 @@ module _ (kind : Kind) (s : Sheet) (h slot entry : ℕ) (leaf item : Span) (whol
   answer : acted kind (map_by s.tree) (Store item.first item.last entry) ≡ (map_by written, reply.Ok)
   answer =
       let order = exact.order t h slot entry leaf item whole.words stands at old new free in
+      let within : item.last ≤ greatest_of kind = subst (λ (w : Width). item.last ≤ greatest w) width (exact.within t h slot entry leaf item whole.words stands at old new free) in
       let stored : over (map_by s.tree) item.first item.last entry ≡ map_by written =
       ap (λ (m : List Range). over m item.first item.last entry) map_is ∙ (exact.is_over t h slot entry leaf item whole.words stands at old new free ∙ sym map_is') in
-      rw (le-ltb item.last item.first order, free) (λ i. (stored i, reply.Ok))
+      rw (le-ltb item.last item.first order, le-ltb (greatest_of kind) item.last within, free) (λ i. (stored i, reply.Ok))
 
   -- ---- what becomes of rows
 
@@ -154,8 +157,9 @@ module _ (kind : Kind) (s : Sheet) (h slot entry : ℕ) (leaf item : Span) (whol
     in_flight = in_flight;
     before = before;
     at = place;
+    told = told;
     live = live;
-    tree = record { of_kind = of_kind; words = inr (h, stands) };
+    tree = record { width = width; words = inr (h, stands) };
     answer = answer;
     after = inr (h, stands');
     rows = changes;

@@ -8,12 +8,17 @@ use Rattle.std.proofs.lemmas.Grind.{flat_map-append}
 use Rattle.std.proofs.Math.Nat.{pow-succ'}
 use Rattle.mt_base.specs.declared.kinds.Kind.{Kind}
 use Rattle.mt_base.specs.declared.ranges.Range.{Range}
+use Rattle.mt_base.specs.Width.{deepest}
+use Rattle.mt_base.specs.declared.widths.Width.{Width}
+use Rattle.mt_base.specs.declared.widths.Width.TheVariants.{Long}
+use Rattle.mt_layout.specs.declared.names.RowKind.TheVariants.{Leaf}
+use Rattle.mt_layout.specs.Sizes.{least_items}
 use Rattle.mt_layout.specs.Rows.{row_in, named_kind}
 use Rattle.mt_layout.specs.declared.spans.Span.{Span}
 use Rattle.mt_layout.specs.Spans.{leaf_range, Fills, BeginsFull, Apart}
 use Rattle.mt_rows.specs.Spans.{Table, spans_in, root_span}
 use Rattle.mt_rows.specs.Levels.{expand, map_of, Levels}
-use Rattle.mt_rows.specs.Trees.{rows_of, map_in, reached_in, deepest}
+use Rattle.mt_rows.specs.Trees.{rows_of, map_in, reached_in}
 use Rattle.mt_rows.specs.Laws.{Tree, IsRow, Stands, top_of}
 use Rattle.mt_rows.specs.Replacement.{root_of}
 use Rattle.mt_rows.proofs.Depth.{IsLeaf, IsInner, leaves, inners, by_leaf, by_inner, ranges_by_depth, some_least}
@@ -75,11 +80,14 @@ apart_halves (x ∷ xs) apart =
       | inr entry ↦ let any = behind.any in record { any = rw entry (omega (arith, any)); full = λ _. rw entry (omega (arith, any)) }
     ]
 
+least_six : (width : Width) → 6 ≤ least_items width Leaf
+least_six Long = omega arith
+
 leaf_three : (t : Tree) (x : Span) → IsPart t x → IsRow t zero x → 3 ≤ length (flat_map leaf_range (spans_in t.table x))
 leaf_three t x part row =
-    let least : 6 ≤ length (spans_in t.table x) = subst (λ (b : Bool). (if b then 1 else 6) ≤ length (spans_in t.table x)) part row.count.least in
+    let least : least_items t.table.width Leaf ≤ length (spans_in t.table x) = subst (λ (b : Bool). (if b then 1 else least_items t.table.width Leaf) ≤ length (spans_in t.table x)) part row.count.least in
     let any = (apart_halves (spans_in t.table x) row.holes.apart).any in
-    omega (arith, least, any)
+    omega (arith, least, least_six t.table.width, any)
 
 leaves_three : (t : Tree) (xs : List Span) → AllByRecursion (IsPart t) xs → AllByRecursion (IsRow t zero) xs → 3 * length xs ≤ length (map_of t.table zero xs)
 leaves_three t [] parts rows = omega arith

@@ -1,25 +1,21 @@
 -- The words of rows that are not reached do not count.
-use Rattle.std.proofs.Common.{◌≡◌, ℕ, zero, suc, ◌*◌, List, [], ◌∷◌, ◌++◌, Option, Some, None, refl, ap, ◌∙◌, inl, inr}
+use Rattle.std.proofs.Common.{◌≡◌, ℕ, zero, suc, ◌*◌, List, [], ◌∷◌, ◌++◌, Option, Some, None, refl, ap, ◌∙◌}
 use Rattle.std.specs.List.{AllByRecursion, flat_map}
 use Rattle.mt_base.specs.declared.widths.Width.{Width}
 use Rattle.mt_base.specs.declared.widths.Width.TheVariants.{Long}
 use Rattle.mt_base.specs.Width.{columns}
+use Rattle.mt_base.proofs.Lists.{all_front, all_back}
 use Rattle.mt_layout.specs.declared.names.RowKind.{RowKind}
 use Rattle.mt_layout.specs.declared.names.RowKind.TheVariants.{Leaf, Inner, Gapped}
 use Rattle.mt_layout.specs.Rows.{row_in, named_kind}
-use Rattle.mt_layout.specs.Columns.{IsLayout}
+use Rattle.mt_layout.proofs.RowSizes.{layout_of}
 use Rattle.mt_layout.proofs.OwnColumns.{same_items}
 use Rattle.mt_layout.specs.declared.spans.Span.{Span}
 use Rattle.mt_layout.specs.Spans.{spans_from, leaf_range}
-use Rattle.mt_rows.specs.Spans.{Table, slots_of, gaps_of, row_spans, spans_by, spans_in}
+use Rattle.mt_layout.specs.Sizes.{slots_of, gaps_of}
+use Rattle.mt_rows.specs.Spans.{Table, row_spans, spans_by, spans_in}
 use Rattle.mt_rows.specs.Levels.{SameColumns, SameSpans}
 use Rattle.mt_rows.specs.Trees.{by_kind, ranges_of, rows_of}
-use Rattle.mt_rows.proofs.Lists.{all_front, all_back}
-
-pub is_layout : (width : Width) (kind : RowKind) → IsLayout (slots_of width kind) (gaps_of width kind)
-is_layout Long Leaf = inl (refl, refl)
-is_layout Long Inner = inl (refl, refl)
-is_layout Long Gapped = inr (refl, refl)
 
 abbrev Agree : Table → Table → ℕ → Type 0
 Agree t t' row = SameColumns t t' (columns t.width) row
@@ -28,7 +24,7 @@ same_row : (width width' : Width) (w w' : List ℕ) (kind : RowKind) (row first 
     → Agree (record { width = width; words = w }) (record { width = width'; words = w' }) row
     → row_spans (record { width = width'; words = w' }) row kind first last ≡ row_spans (record { width = width; words = w }) row kind first last
 same_row Long Long w w' kind row first last same =
-    ap (spans_from first) (same_items (slots_of Long kind) (gaps_of Long kind) (32 * row) (32 * row) w' w (is_layout Long kind) same last)
+    ap (spans_from first) (same_items (columns Long) (slots_of Long kind) (gaps_of Long kind) (columns Long * row) (columns Long * row) w' w (layout_of Long kind) same last)
 
 -- tables that agree on a row have the same spans in it
 pub same_spans : (t t' : Table) (x : Span) → Agree t t' (row_in x.word) → SameSpans t t' x

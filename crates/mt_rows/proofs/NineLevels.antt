@@ -1,35 +1,38 @@
 -- A tree of as many rows as can be named has nine levels at the most: each level below the first two has four times as
 -- many rows as the one above it, or more, and no row is reached twice.
-use Rattle.std.proofs.Common.{◌≡◌, ℕ, zero, suc, ◌+◌, ◌-◌, ◌*◌, ◌<◌, ◌≤◌, ◌==◌, List, [], ◌∷◌, Bool, length, nat_lt, refl, subst, inl, inr, ⊎_elim, arith, length-append}
+use Rattle.std.proofs.Common.{◌≡◌, ℕ, zero, suc, ◌+◌, ◌-◌, ◌*◌, ◌^◌, ◌<◌, ◌≤◌, ◌==◌, List, [], ◌∷◌, Bool, length, nat_lt, refl, subst, inl, inr, ⊎_elim, arith, length-append}
 use Rattle.std.specs.Prelude.{if◌then◌else◌}
 use Rattle.std.specs.List.{AllByRecursion}
 use Rattle.std.proofs.lemmas.Bool.{cases_Bool, cases_lt, lt-ltb, ltb-true, ltb-false, le-ltb, eqb-false}
+use Rattle.mt_base.specs.Width.{deepest, most_rows}
+use Rattle.mt_base.specs.declared.widths.Width.{Width}
+use Rattle.mt_base.specs.declared.widths.Width.TheVariants.{Long}
+use Rattle.mt_base.proofs.Lists.{all_map}
 use Rattle.mt_layout.specs.declared.names.RowKind.{RowKind}
 use Rattle.mt_layout.specs.declared.names.RowKind.TheVariants.{Leaf, Inner, Gapped}
 use Rattle.mt_layout.specs.Rows.{row_in}
 use Rattle.mt_layout.proofs.NameLaws.{Names-named_kind}
 use Rattle.mt_layout.specs.declared.spans.Span.{Span}
 use Rattle.mt_layout.specs.Spans.{Fills}
+use Rattle.mt_layout.specs.Sizes.{least_items, first_row}
 use Rattle.mt_rows.specs.Spans.{Table, spans_in, root_span}
 use Rattle.mt_rows.specs.Levels.{expand, level, Levels, tally, times, is_row_of}
-use Rattle.mt_rows.specs.Trees.{deepest}
-use Rattle.mt_rows.specs.Laws.{Tree, IsRow, top_of, kind_at, least_of_root, least_items_TODO}
+use Rattle.mt_rows.specs.Laws.{Tree, IsRow, top_of, kind_at, least_of_root}
 use Rattle.mt_rows.specs.Replacement.{root_of}
-use Rattle.mt_rows.proofs.Lists.{all_map}
 use Rattle.mt_rows.proofs.Heights.{times_split, level_rows}
 use Rattle.mt_rows.proofs.Once.{IsPart, inner_wide, expand_parts, rows_wide, wide_fills, once}
 
 -- ---- how many rows a level has at the least
 
-least_four : (kind : RowKind) → 4 ≤ least_items_TODO kind
-least_four Leaf = omega arith
-least_four Inner = omega arith
-least_four Gapped = omega arith
+least_four : (width : Width) (kind : RowKind) → 4 ≤ least_items width kind
+least_four Long Leaf = omega arith
+least_four Long Inner = omega arith
+least_four Long Gapped = omega arith
 
 part_four : (t : Tree) (h : ℕ) (x : Span) → IsPart t x → IsRow t h x → 4 ≤ length (spans_in t.table x)
 part_four t h x part row =
-    let least : least_items_TODO (kind_at t.kind h) ≤ length (spans_in t.table x) = subst (λ (b : Bool). (if b then least_of_root h else least_items_TODO (kind_at t.kind h)) ≤ length (spans_in t.table x)) part row.count.least in
-    omega (arith, least, least_four (kind_at t.kind h))
+    let least : least_items t.table.width (kind_at t.kind h) ≤ length (spans_in t.table x) = subst (λ (b : Bool). (if b then least_of_root h else least_items t.table.width (kind_at t.kind h)) ≤ length (spans_in t.table x)) part row.count.least in
+    omega (arith, least, least_four t.table.width (kind_at t.kind h))
 
 pub expand_four : (t : Tree) (h : ℕ) (xs : List Span) → AllByRecursion (IsPart t) xs → AllByRecursion (IsRow t h) xs → 4 * length xs ≤ length (expand t.table xs)
 expand_four t h [] parts rows = omega arith
@@ -112,7 +115,7 @@ once_in_level t d k h row height rows =
 pub level_fits : (t : Tree) (d k h : ℕ) → h ≡ d + k → Levels (IsRow t) t.table h (root_of t) → length (level t.table d (root_of t)) ≤ t.rows
 level_fits t d k h height rows =
     let here = level_rows (IsRow t) t.table d k h (root_of t) height rows in
-    few (λ (x : Span). row_in x.word) 16 t.rows (level t.table d (root_of t))
+    few (λ (x : Span). row_in x.word) first_row t.rows (level t.table d (root_of t))
     (all_map (IsRow t k) (λ (x : Span). first_row ≤ row_in x.word) (λ x row. (Names-named_kind x.word (kind_at t.kind k) row.name.named).0.0) (level t.table d (root_of t)) here)
     (all_map (IsRow t k) (λ (x : Span). row_in x.word < first_row + t.rows) (λ x row. row.name.in_table) (level t.table d (root_of t)) here)
     (λ row. once_in_level t d k h row height rows)
@@ -122,8 +125,8 @@ level_fits t d k h height rows =
 pub grown_fits : (t : Tree) (d k h : ℕ) → h ≡ suc d + k → Levels (IsRow t) t.table h (root_of t) → grown d 2 ≤ t.rows
 grown_fits t d k h height rows = omega (arith, long_level t d k h height rows, level_fits t (suc d) k h height rows)
 
-pub nine_levels : (t : Tree) (h : ℕ) → t.rows ≤ 65504 → Levels (IsRow t) t.table h (root_of t) → h < deepest
+pub nine_levels : (t : Tree) (h : ℕ) → t.rows ≤ most_rows → Levels (IsRow t) t.table h (root_of t) → h < deepest
 nine_levels t h named rows = ⊎_elim
-    (λ (low : h < 9). low)
-    (λ (high : 9 ≤ h). let many : 131072 ≤ t.rows = grown_fits t 8 (h - 9) h (omega arith) rows in absurd (omega arith))
-    (cases_lt h 9)
+    (λ (low : h < deepest). low)
+    (λ (high : deepest ≤ h). let many : 2 * 4 ^ (deepest - 1) ≤ t.rows = grown_fits t (deepest - 1) (h - deepest) h (omega arith) rows in absurd (omega arith))
+    (cases_lt h deepest)

@@ -1,21 +1,24 @@
 -- No row is reached twice, since each row's first pivot lies inside the row's own range.
-use Rattle.std.proofs.Common.{◌≡◌, ◌≢◌, ◌⊎◌, ℕ, zero, suc, ◌+◌, ◌<◌, ◌≤◌, ◌==◌, List, [], ◌∷◌, Option, Some, None, Bool, false, length, nat_le, refl, ap, subst, inl, inr, ⊎_elim, arith}
+use Rattle.std.proofs.Common.{◌≡◌, ◌≢◌, ◌⊎◌, ℕ, zero, suc, ◌+◌, ◌-◌, ◌<◌, ◌≤◌, ◌==◌, List, [], ◌∷◌, Option, Some, None, Bool, false, length, nat_le, refl, ap, subst, inl, inr, ⊎_elim, arith}
 use Rattle.std.specs.Prelude.{if◌then◌else◌, slice_index}
 use Rattle.std.specs.List.{AllByRecursion}
 use Rattle.std.proofs.lemmas.Bool.{cases_Bool, eqb-true, leb-false}
 use Rattle.mt_base.specs.declared.widths.Width.{Width}
-use Rattle.mt_base.specs.declared.widths.Width.TheVariants.{Long}
+use Rattle.mt_base.specs.Width.{deepest}
+use Rattle.mt_base.proofs.Lists.{all_map, all_front, all_back, all_join}
 use Rattle.mt_layout.specs.declared.names.RowKind.{RowKind}
-use Rattle.mt_layout.specs.declared.names.RowKind.TheVariants.{Leaf, Inner, Gapped}
 use Rattle.mt_layout.specs.Rows.{row_in, named_kind}
 use Rattle.mt_layout.specs.Columns.{items_from, items_at}
+use Rattle.mt_layout.proofs.RowSizes.{least-below-slots, some_least}
 use Rattle.mt_layout.specs.declared.spans.Span.{Span}
 use Rattle.mt_layout.specs.Spans.{spans_from, Fills}
-use Rattle.mt_rows.specs.Spans.{Table, base_of, column, slots_of, gaps_of, spans_by, spans_in, root_span}
+use Rattle.mt_layout.specs.Sizes.{slots_of, gaps_of, least_items}
+use Rattle.mt_layout.proofs.SpanLists.{fills_le}
+use Rattle.mt_rows.specs.Spans.{Table, base_of, column, spans_by, spans_in, root_span}
 use Rattle.mt_rows.specs.Levels.{expand, Levels, one_if, tally, times, is_row_of}
-use Rattle.mt_rows.specs.Trees.{reached_in, deepest}
-use Rattle.mt_rows.specs.Laws.{Tree, IsRow, Stands, top_of, kind_at, covers_all, least_of_root, least_items_TODO}
-use Rattle.mt_rows.proofs.Lists.{all_map, all_front, all_back, all_join, fills_le, Filled, expand_fills, levels_map, levels_here}
+use Rattle.mt_rows.specs.Trees.{reached_in}
+use Rattle.mt_rows.specs.Laws.{Tree, IsRow, Stands, top_of, kind_at, covers_all, least_of_root}
+use Rattle.mt_rows.proofs.Lists.{Filled, expand_fills, levels_map, levels_here}
 use Rattle.mt_rows.proofs.Depth.{rows_by_depth}
 
 -- ---- rows of two items or more
@@ -28,24 +31,19 @@ pub record Wide (t : Table) (x : Span) : Type 0 where
   pub fills : Filled t x
   pub two : 2 ≤ length (spans_in t x)
 
-least_two : (kind : RowKind) → 2 ≤ least_items_TODO kind
-least_two Leaf = omega arith
-least_two Inner = omega arith
-least_two Gapped = omega arith
-
 part_wide : (t : Tree) (h : ℕ) (x : Span) → IsPart t x → IsRow t h x → Wide t.table x
 part_wide t h x part row = record {
   fills = row.pivots.fills;
   two =
-      let least : least_items_TODO (kind_at t.kind h) ≤ length (spans_in t.table x) = subst (λ (b : Bool). (if b then least_of_root h else least_items_TODO (kind_at t.kind h)) ≤ length (spans_in t.table x)) part row.count.least in
-      omega (arith, least, least_two (kind_at t.kind h));
+      let least : least_items t.table.width (kind_at t.kind h) ≤ length (spans_in t.table x) = subst (λ (b : Bool). (if b then least_of_root h else least_items t.table.width (kind_at t.kind h)) ≤ length (spans_in t.table x)) part row.count.least in
+      omega (arith, least, some_least t.table.width (kind_at t.kind h));
 }
 
 pub inner_wide : (t : Tree) (h : ℕ) (x : Span) → IsRow t (suc h) x → Wide t.table x
 inner_wide t h x row = record {
   fills = row.pivots.fills;
   two = elim (cases_Bool (covers_all t x)) [
-    | inl all ↦ subst (λ (b : Bool). (if b then 2 else least_items_TODO (kind_at t.kind (suc h))) ≤ length (spans_in t.table x)) all row.count.least
+    | inl all ↦ subst (λ (b : Bool). (if b then 2 else least_items t.table.width (kind_at t.kind (suc h))) ≤ length (spans_in t.table x)) all row.count.least
     | inr part ↦ (part_wide t (suc h) x part row).two
   ];
 }
@@ -131,9 +129,14 @@ first_item slots gaps left w base first last two = elim (cases_Bool (nat_le last
 
 first_of_row : (width : Width) (kind : RowKind) (w : List ℕ) (base first last : ℕ) → 2 ≤ length (spans_from first (items_at (slots_of width kind) (gaps_of width kind) w base last))
     → Splits (slice_index w (base + 1)) last (spans_from first (items_at (slots_of width kind) (gaps_of width kind) w base last))
-first_of_row Long Leaf w base first last two = first_item 16 0 14 w base first last two
-first_of_row Long Inner w base first last two = first_item 16 0 14 w base first last two
-first_of_row Long Gapped w base first last two = first_item 10 10 8 w base first last two
+first_of_row width kind w base first last two =
+    let slots = slots_of width kind in
+    let gaps = gaps_of width kind in
+    let some = some_least width kind in
+    let enough = least-below-slots width kind in
+    let is : suc (suc (slots - 2)) ≡ slots = omega arith in
+    subst (λ (n : ℕ). 2 ≤ length (spans_from first (items_from slots gaps w base last n 0)) → Splits (slice_index w (base + 1)) last (spans_from first (items_from slots gaps w base last n 0)))
+    is (first_item slots gaps (slots - 2) w base first last) two
 
 first_by : (t : Table) (x : Span) (kind : Option RowKind) → 2 ≤ length (spans_by t kind x) → Splits (pivot_of t x) x.last (spans_by t kind x)
 first_by t x None two = absurd (omega arith)

@@ -69,7 +69,7 @@ abbrev pub drafted_leaves : Sheet
 drafted_leaves = with_columns (with_columns (with_columns (new_sheet 3) 16 inner 32) 17 left 32) 18 right 32
 
 abbrev ready_to_plant : Sheet
-ready_to_plant = record (new_sheet 3) { tree = record { table = record { width = Long; words = two_leaves }; root = 0 }; lives = replicate 16 lives.New ++ (lives.Draft ∷ lives.Draft ∷ lives.Draft ∷ []) }
+ready_to_plant = record (new_sheet 3) { tree = record { rows = 3; table = record { width = Long; words = two_leaves }; root = 0 }; lives = replicate 16 lives.New ++ (lives.Draft ∷ lives.Draft ∷ lives.Draft ∷ []) }
 
 pub is_ready : drafted_leaves ≡ ready_to_plant
 is_ready = refl
@@ -145,7 +145,7 @@ lawful = inr (
 )
 
 may_plant : MayPlant Alloc ready_to_plant 4124
-may_plant = record { idle = refl; first = refl; empty = refl; of_kind = record { told = tt; width = refl }; lawful = lawful }
+may_plant = record { idle = refl; first = refl; empty = refl; told = tt; lawful = record { width = refl; words = lawful } }
 
 -- three rows drafted one after the other may be planted
 module _ (s s₁ s₂ s₃ : Sheet) (new : s ≡ new_sheet 3) (first : s₁ ≡ with_columns s 16 inner 32) (second : s₂ ≡ with_columns s₁ 17 left 32) (third : s₃ ≡ with_columns s₂ 18 right 32) where

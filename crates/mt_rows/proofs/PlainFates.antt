@@ -5,6 +5,7 @@ use Rattle.std.proofs.lemmas.Bool.{cases_Bool, cases_lt, leb-true, ltb-false, le
 use Rattle.std.proofs.lemmas.List.{map-set, get_or_past, get_or_default}
 use Rattle.std.proofs.Math.Seq.{map-set_same}
 use Rattle.mt_rows.specs.declared.rows.Life.TheVariants as lives
+use Rattle.mt_layout.specs.Sizes.{first_row}
 use Rattle.mt_rows.specs.declared.plain.Fate.{Fate}
 use Rattle.mt_rows.specs.declared.plain.Fate.TheVariants.{New, Draft, Live, Buried}
 use Rattle.mt_base.specs.declared.kinds.Kind.{Kind}
@@ -16,10 +17,11 @@ use Rattle.mt_rows.specs.declared.rows.Place.{Place}
 use Rattle.mt_rows.specs.declared.rows.Place.TheVariants.{Slot}
 use Rattle.mt_base.specs.declared.widths.Width.{Width}
 use Rattle.mt_base.specs.declared.widths.Width.TheVariants.{Long}
-use Rattle.mt_rows.specs.declared.plain.PlainRows.TheInside.{Inside}
+use Rattle.mt_rows.specs.declared.plain.State.{State}
 use Rattle.mt_rows.specs.Levels.{one_if}
 use Rattle.mt_rows.specs.Sheet.{Sheet, IsPlace, IsFree, MayBury, life_of, is_buried, word_at}
 use Rattle.mt_rows.specs.Publish.{MayFinish}
+use Rattle.mt_rows.specs.PlainWhole.{life_at}
 use Rattle.mt_rows.specs.Plain.{life_in, buried_in, past_of, fate_of, sheet_of, IsPlain, names_buried, buried_by, opens, IsPlaceIn}
 
 -- a fate that reads as another leaves what was read
@@ -40,11 +42,6 @@ lives-kept past fates row f same = map-set_same (life_in past) fates row f New s
 
 pub buried-kept : (past : ℕ) (fates : List Fate) (row : ℕ) (f : Fate) → buried_in past f ≡ buried_in past (slice_index_or fates row New) → map (buried_in past) (slice_set fates row f) ≡ map (buried_in past) fates
 buried-kept past fates row f same = map-set_same (buried_in past) fates row f New same
-
-pub life_at : (past : ℕ) (fates : List Fate) (row : ℕ) → slice_index_or (map (life_in past) fates) row lives.New ≡ life_in past (slice_index_or fates row New)
-life_at past [] row = refl
-life_at past (f ∷ fates) zero = refl
-life_at past (f ∷ fates) (suc row) = life_at past fates row
 
 pub buried_at : (past : ℕ) (fates : List Fate) (row : ℕ) → slice_index_or (map (buried_in past) fates) row false ≡ buried_in past (slice_index_or fates row New)
 buried_at past [] row = refl
@@ -95,20 +92,20 @@ unburied_stays past past' (Buried call) more none = let dead = ltb-false past ca
 
 -- ---- by the sheet
 
-pub life_told : (p : Inside) (row : ℕ) → life_of (sheet_of p).lives row ≡ life_in (past_of p) (fate_of p row)
+pub life_told : (p : State) (row : ℕ) → life_of (sheet_of p).lives row ≡ life_in (past_of p) (fate_of p row)
 life_told p row = life_at (past_of p) p.fates.items row
 
-pub buried_told : (p : Inside) (row : ℕ) → is_buried (sheet_of p).buried row ≡ buried_in (past_of p) (fate_of p row)
+pub buried_told : (p : State) (row : ℕ) → is_buried (sheet_of p).buried row ≡ buried_in (past_of p) (fate_of p row)
 buried_told p row = buried_at (past_of p) p.fates.items row
 
-pub drafted_buried : (p : Inside) (s : Sheet) (row : ℕ) → sheet_of p ≡ s → IsFree s.cleared (life_of s.lives row) → map (buried_in (past_of p)) (slice_set p.fates.items row Draft) ≡ (sheet_of p).buried
+pub drafted_buried : (p : State) (s : Sheet) (row : ℕ) → sheet_of p ≡ s → IsFree s.cleared (life_of s.lives row) → map (buried_in (past_of p)) (slice_set p.fates.items row Draft) ≡ (sheet_of p).buried
 drafted_buried p s row is free =
     let told : IsFree p.cleared (life_of (sheet_of p).lives row) = subst (λ (s : Sheet). IsFree s.cleared (life_of s.lives row)) (sym is) free in
     let here : IsFree p.cleared (life_in (past_of p) (fate_of p row)) = subst (IsFree p.cleared) (life_told p row) told in
     buried-kept (past_of p) p.fates.items row Draft (sym (free_unburied (past_of p) p.cleared (fate_of p row) here))
 
 -- the call in flight buries a live row
-module _ (p : Inside) (s : Sheet) (row : ℕ) (is : sheet_of p ≡ s) (may : MayBury s row) where
+module _ (p : State) (s : Sheet) (row : ℕ) (is : sheet_of p ≡ s) (may : MayBury s row) where
   before : p.published ≡ false
   before = ap (λ (s : Sheet). s.published) is ∙ may.before
 
@@ -126,24 +123,24 @@ module _ (p : Inside) (s : Sheet) (row : ℕ) (is : sheet_of p ≡ s) (may : May
 
 -- ---- a call that ends
 
-one_at_most : (b : Bool) → one_if b ≤ 1
+pub one_at_most : (b : Bool) → one_if b ≤ 1
 one_at_most true = omega arith
 one_at_most false = omega arith
 
-pub buried_before : (p : Inside) → IsPlain p → (row call : ℕ) → fate_of p row ≡ Buried call → (first_row ≤ row) × (call ≤ p.ended + 1 + 0)
-buried_before p plain row call at = let known = plain.buried row call at in let low = known.1 in (known.0, omega (arith, one_at_most p.in_flight))
+pub buried_before : (p : State) → IsPlain p → (row call : ℕ) → fate_of p row ≡ Buried call → (first_row ≤ row) × (1 ≤ call) × (call ≤ p.ended + 1 + 0)
+buried_before p plain row call at = let known = plain.buried row call at in let low = known.2 in (known.0, known.1, omega (arith, one_at_most p.in_flight))
 
-module _ (p : Inside) (s : Sheet) (kind : Kind) (call : Call) (reply : Reply) (plain : IsPlain p) (is : sheet_of p ≡ s) (may : MayFinish kind s call reply) where
+module _ (p : State) (s : Sheet) (kind : Kind) (call : Call) (reply : Reply) (plain : IsPlain p) (is : sheet_of p ≡ s) (may : MayFinish kind s call reply) where
   none_above : (row : ℕ) → p.published ≡ false → buried_in (past_of p) (fate_of p row) ≡ false
-  none_above row silent = elim (cases_lt row 16) [
+  none_above row silent = elim (cases_lt row first_row) [
     | inl low ↦ by_fate low (fate_of p row) refl
-    | inr high ↦ elim (cases_lt row (16 + p.rows)) [
+    | inr high ↦ elim (cases_lt row (first_row + p.rows)) [
       | inl within ↦ sym (buried_told p row) ∙ (ap (λ (s : Sheet). is_buried s.buried row) is ∙ (may.kept (sym (ap (λ (s : Sheet). s.published) is) ∙ silent)).none_buried row high (subst (λ (s : Sheet). row < first_row + s.tree.rows) is within))
       | inr beyond ↦ ap (buried_in (past_of p)) (get_or_past p.fates.items row New (let size = plain.fates in omega arith))
     ]
   ]
     where
-      by_fate : row < 16 → (f : Fate) → fate_of p row ≡ f → buried_in (past_of p) f ≡ false
+      by_fate : row < first_row → (f : Fate) → fate_of p row ≡ f → buried_in (past_of p) f ≡ false
       by_fate low New at = refl
       by_fate low Draft at = refl
       by_fate low Live at = refl
@@ -171,13 +168,13 @@ either_same false a = refl
 
 -- ---- a word in place of another
 
-place_within : (width : Width) (row col rows : ℕ) → row < first_row + rows → col < columns width → columns width * row + col < columns width * (16 + rows)
+place_within : (width : Width) (row col rows : ℕ) → row < first_row + rows → col < columns width → columns width * row + col < columns width * (first_row + rows)
 place_within Long row col rows last column = omega arith
 
-pub store_opens : (p : Inside) (s : Sheet) (place : Place) (row col at old : ℕ) → IsPlain p → sheet_of p ≡ s → s.published ≡ false → IsPlaceIn s place → place ≡ Slot row col → at ≡ columns p.width * row + col → old ≡ slice_index_or p.words.items at old
+pub store_opens : (p : State) (s : Sheet) (place : Place) (row col at old : ℕ) → IsPlain p → sheet_of p ≡ s → s.published ≡ false → IsPlaceIn s.tree place → place ≡ Slot row col → at ≡ columns p.width * row + col → old ≡ slice_index_or p.words.items at old
     → opens s place ≡ names_buried p.ended p.fates.items (named_row old)
 store_opens p s place row col at old plain is before inside slot at_is read =
-    let here : IsPlace (sheet_of p).tree row col = subst (λ (s : Sheet). IsPlace s.tree row col) (sym is) (subst (IsPlaceIn s) slot inside) in
+    let here : IsPlace (sheet_of p).tree row col = subst (λ (s : Sheet). IsPlace s.tree row col) (sym is) (subst (IsPlaceIn s.tree) slot inside) in
     let within : at < length p.words.items = let size = plain.words in let last = here.last in let column = here.column in omega (arith, place_within p.width row col p.rows last column) in
     let word : old ≡ word_at s.tree row col = read ∙ (get_or_default p.words.items at old 0 within ∙ (ap (λ (n : ℕ). slice_index p.words.items n) at_is ∙ ap (λ (s : Sheet). word_at s.tree row col) is)) in
     ap (opens s) slot ∙ (ap (λ (n : ℕ). buried_by s (named_row n)) (sym word) ∙ by (named_row old))

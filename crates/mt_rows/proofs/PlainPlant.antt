@@ -9,33 +9,31 @@ use Rattle.std.proofs.Math.Nat.{pow-succ', pow-le-pow_right, one-le-pow, mul-le-
 use Rattle.mt_base.specs.declared.kinds.Kind.{Kind}
 use Rattle.mt_base.specs.declared.widths.Width.{Width}
 use Rattle.mt_base.specs.declared.widths.Width.TheVariants.{Long}
-use Rattle.mt_base.specs.Width.{greatest}
+use Rattle.mt_base.specs.Width.{columns, greatest, deepest}
+use Rattle.mt_layout.proofs.RowSizes.{slots_of-columns}
 use Rattle.mt_layout.specs.declared.names.RowKind.{RowKind}
 use Rattle.mt_layout.specs.declared.names.RowKind.TheVariants.{Leaf, Inner, Gapped}
-use Rattle.mt_layout.specs.declared.items.Item.{Item}
 use Rattle.mt_layout.specs.Columns.{items_from, items_at, pivot_column}
 use Rattle.mt_layout.specs.Rows.{row_in, named_kind}
 use Rattle.mt_layout.specs.declared.spans.Span.{Span}
-use Rattle.mt_layout.specs.Spans.{spans_from}
-use Rattle.mt_rows.specs.Spans.{Table, base_of, slots_of, gaps_of, spans_by, spans_in}
-use Rattle.mt_rows.specs.Trees.{by_kind, rows_of, reached_in, deepest}
+use Rattle.mt_layout.specs.Sizes.{slots_of, gaps_of, first_row}
+use Rattle.mt_layout.proofs.SpanLists.{length-spans_from}
+use Rattle.mt_rows.specs.Spans.{Table, base_of, spans_by, spans_in}
+use Rattle.mt_rows.specs.Trees.{by_kind, rows_of, reached_in}
 use Rattle.mt_rows.specs.Levels.{one_if, tally}
-use Rattle.mt_rows.specs.Sheet.{Sheet}
-use Rattle.mt_rows.specs.Publish.{MayPlant, Planted}
+use Rattle.mt_rows.specs.Sheet.{Sheet, life_of}
+use Rattle.mt_rows.specs.Publish.{LiveAreReached, is_reached, MayPlant, Planted}
 use Rattle.mt_rows.specs.declared.rows.Life.{Life}
 use Rattle.mt_rows.specs.declared.rows.Life.TheVariants as lives
 use Rattle.mt_rows.specs.declared.plain.Fate.{Fate}
 use Rattle.mt_rows.specs.declared.plain.Fate.TheVariants.{New, Draft, Live, Buried}
-use Rattle.mt_rows.specs.declared.plain.PlainRows.TheInside.{Inside}
+use Rattle.mt_rows.specs.declared.plain.State.{State}
 use Rattle.mt_rows.specs.Plain.{life_in, buried_in, past_of, fate_of, sheet_of, IsPlain}
-use Rattle.mt_rows.proofs.PlainFates.{life_at, buried-kept, either_same}
+use Rattle.mt_rows.specs.PlainWhole.{life_at}
+use Rattle.mt_rows.proofs.PlainFates.{buried-kept, either_same}
 use Rattle.mt_rows.proofs.Deeper.{rows_of_inner}
 
 -- ---- how many
-
-spans_few : (first : ℕ) (items : List Item) → length (spans_from first items) ≡ length items
-spans_few first [] = refl
-spans_few first (x ∷ items) = ap suc (spans_few (x.last + 1) items)
 
 items_few : (slots gaps : ℕ) (w : List ℕ) (base max left i : ℕ) → length (items_from slots gaps w base max left i) ≤ left
 items_few slots gaps w base max zero i = omega arith
@@ -45,45 +43,46 @@ items_few slots gaps w base max (suc (suc left)) i = elim (cases_Bool (nat_le ma
   | inr more ↦ let rest = items_few slots gaps w base max (suc left) (i + 1) in rw more (omega arith)
 ]
 
-slots_few : (width : Width) (kind : RowKind) → slots_of width kind ≤ 16
-slots_few Long Leaf = omega arith
-slots_few Long Inner = omega arith
-slots_few Long Gapped = omega arith
-
-children_few : (t : Table) (x : Span) → length (spans_in t x) ≤ 16
+children_few : (t : Table) (x : Span) → length (spans_in t x) ≤ columns t.width
 children_few t x = by (named_kind x.word)
   where
-    by : (kind : Option RowKind) → length (spans_by t kind x) ≤ 16
+    by : (kind : Option RowKind) → length (spans_by t kind x) ≤ columns t.width
     by None = omega arith
     by (Some kind) =
         let slots = slots_of t.width kind in let gaps = gaps_of t.width kind in let base = base_of t (row_in x.word) in
-        let same = spans_few x.first (items_at slots gaps t.words base x.last) in
-        omega (arith, same, items_few slots gaps t.words base x.last slots 0, slots_few t.width kind)
+        let same = length-spans_from x.first (items_at slots gaps t.words base x.last) in
+        omega (arith, same, items_few slots gaps t.words base x.last slots 0, slots_of-columns t.width kind)
 
 below_few : (f : Span → List ℕ) (most : ℕ) (xs : List Span) → ((x : Span) → length (f x) ≤ most) → length (flat_map f xs) ≤ length xs * most
 below_few f most [] few = omega arith
 below_few f most (x ∷ xs) few = let first = few x in let rest = below_few f most xs few in let both = length-append (f x) (flat_map f xs) in omega arith
 
--- a row and what its children give are fewer than 16 times what a child gives, and one more
-row_few : (kind : Option RowKind) (row p q : ℕ) (below : List ℕ) → 1 ≤ p → q ≡ 16 * p → length below ≤ 16 * (p - 1) → length (by_kind kind (row ∷ []) (row ∷ below)) < q
-row_few None row p q below some more few = omega arith
-row_few (Some Leaf) row p q below some more few = omega arith
-row_few (Some Inner) row p q below some more few = omega arith
-row_few (Some Gapped) row p q below some more few = omega arith
+some_columns : (width : Width) → 0 < columns width
+some_columns Long = omega arith
 
-pub rows_few : (t : Table) (depth : ℕ) (x : Span) → length (rows_of t depth x) < 16 ^ depth
-rows_few t zero x = omega (arith, one-le-pow zero 16)
+-- a row and what its children give are fewer than a child gives at the most, for each column
+row_few : (width : Width) (kind : Option RowKind) (row p q : ℕ) (below : List ℕ) → 1 ≤ p → q ≡ columns width * p → length below ≤ columns width * (p - 1) → length (by_kind kind (row ∷ []) (row ∷ below)) < q
+row_few Long None row p q below some more few = omega arith
+row_few Long (Some Leaf) row p q below some more few = omega arith
+row_few Long (Some Inner) row p q below some more few = omega arith
+row_few Long (Some Gapped) row p q below some more few = omega arith
+
+pub rows_few : (t : Table) (depth : ℕ) (x : Span) → length (rows_of t depth x) < columns t.width ^ depth
+rows_few t zero x = omega (arith, one-le-pow zero (columns t.width) (some_columns t.width))
 rows_few t (suc depth) x =
-    let most = 16 ^ depth - 1 in
+    let most = columns t.width ^ depth - 1 in
     let each = below_few (rows_of t depth) most (spans_in t x) (λ y. let few = rows_few t depth y in omega arith) in
     let wide = mul-le-mul_right most (children_few t x) in
-    row_few (named_kind x.word) (row_in x.word) (16 ^ depth) (16 ^ suc depth) (flat_map (rows_of t depth) (spans_in t x)) (one-le-pow depth 16 (omega arith)) (pow-succ' 16 depth) (omega arith)
+    row_few t.width (named_kind x.word) (row_in x.word) (columns t.width ^ depth) (columns t.width ^ suc depth) (flat_map (rows_of t depth) (spans_in t x)) (one-le-pow depth (columns t.width) (some_columns t.width)) (pow-succ' (columns t.width) depth) (omega arith)
+
+deepest_fits : (width : Width) → columns width ^ deepest < 2 ^ 64
+deepest_fits Long = omega arith
 
 pub rows_fit : (t : Table) (depth : ℕ) (x : Span) → depth ≤ deepest → length (rows_of t depth x) < 2 ^ 64
 rows_fit t depth x low =
     let few = rows_few t depth x in
-    let most : 16 ^ depth ≤ 16 ^ 9 = pow-le-pow_right (omega arith) low in
-    omega arith
+    let most : columns t.width ^ depth ≤ columns t.width ^ deepest = pow-le-pow_right (some_columns t.width) low in
+    omega (arith, few, most, deepest_fits t.width)
 
 -- ---- one more child counted
 
@@ -143,10 +142,10 @@ settled_buried past (r ∷ rows) fates none =
 -- ---- by the sheet
 
 -- p with another root word and count, and the fates of q
-abbrev pub planted : Inside → ℕ → ℕ → Inside → Inside
+abbrev pub planted : State → ℕ → ℕ → State → State
 planted p root opened q = record p { root = root; opened = opened; fates = q.fates }
 
-module _ (p q : Inside) (s : Sheet) (kind : Kind) (root opened : ℕ) (plain : IsPlain p) (is : sheet_of p ≡ s) (may : MayPlant kind s root)
+module _ (p q : State) (s : Sheet) (kind : Kind) (root opened : ℕ) (plain : IsPlain p) (is : sheet_of p ≡ s) (may : MayPlant kind s root)
     (counted : opened ≡ length (reached_in (sheet_of p).tree.table root)) (settles : q.fates.items ≡ settled p.fates.items (reached_in (sheet_of p).tree.table root)) where
   reached : List ℕ
   reached = reached_in (sheet_of p).tree.table root
@@ -162,29 +161,50 @@ module _ (p q : Inside) (s : Sheet) (kind : Kind) (root opened : ℕ) (plain : I
       by Draft at = refl
       by Live at = refl
       by (Buried call) at =
-          let low : call ≤ p.ended + 0 = subst (λ (b : Bool). call ≤ p.ended + one_if b) idle (plain.buried row call at).1 in
+          let low : call ≤ p.ended + 0 = subst (λ (b : Bool). call ≤ p.ended + one_if b) idle (plain.buried row call at).2 in
           le-ltb (past_of p) call (omega arith)
 
-  buried_stays : (row call : ℕ) → slice_index_or q.fates.items row New ≡ Buried call → (first_row ≤ row) × (call ≤ p.ended + one_if p.in_flight)
+  buried_stays : (row call : ℕ) → slice_index_or q.fates.items row New ≡ Buried call → (first_row ≤ row) × (1 ≤ call) × (call ≤ p.ended + one_if p.in_flight)
   buried_stays row call at = by (settled_or_kept (reached_in (sheet_of p).tree.table root) p.fates.items row)
     where
       same : slice_index_or q.fates.items row New ≡ slice_index_or (settled p.fates.items (reached_in (sheet_of p).tree.table root)) row New
       same = ap (λ (l : List Fate). slice_index_or l row New) settles
 
       by : (slice_index_or (settled p.fates.items (reached_in (sheet_of p).tree.table root)) row New ≡ Live) ⊎ (slice_index_or (settled p.fates.items (reached_in (sheet_of p).tree.table root)) row New ≡ fate_of p row)
-          → (first_row ≤ row) × (call ≤ p.ended + one_if p.in_flight)
+          → (first_row ≤ row) × (1 ≤ call) × (call ≤ p.ended + one_if p.in_flight)
       by (inl live) = let e = same in absurd (cc)
       by (inr kept) = plain.buried row call (sym kept ∙ (sym same ∙ at))
+
+  -- before the first call no row of an empty tree is live
+  not_live : (row : ℕ) → life_in (past_of p) (fate_of p row) ≡ lives.Live → ⊥
+  not_live row = by (fate_of p row) refl
+    where
+      by : (f : Fate) → fate_of p row ≡ f → life_in (past_of p) f ≡ lives.Live → ⊥
+      by New at alive = absurd (cc)
+      by Draft at alive = absurd (cc)
+      by Live at alive = plain.fresh row (ap (λ (s : Sheet). s.ended) is ∙ may.first) idle (ap (λ (s : Sheet). s.tree.root) is ∙ may.empty) at
+      by (Buried call) at alive =
+          let known = plain.buried row call at in
+          let none : p.ended ≡ 0 = ap (λ (s : Sheet). s.ended) is ∙ may.first in
+          let some = known.1 in
+          let low : call ≤ p.ended + 0 = subst (λ (b : Bool). call ≤ p.ended + one_if b) idle known.2 in
+          absurd (omega arith)
+
+  none_settled : root ≡ 0 → settled p.fates.items (reached_in (sheet_of p).tree.table root) ≡ p.fates.items
+  none_settled empty = ap (λ (r : ℕ). settled p.fates.items (reached_in (sheet_of p).tree.table r)) empty
 
   pub planted_plain : IsPlain (planted p root opened q)
   planted_plain = record {
     few = plain.few;
+    long = plain.long;
     words = plain.words;
     fates = ap length settles ∙ (settled_length (reached_in (sheet_of p).tree.table root) p.fates.items ∙ plain.fates);
+    scans = plain.scans;
     cleared = plain.cleared;
     room = plain.room;
     calm = plain.calm;
     buried = buried_stays;
+    fresh = λ row first none empty alive. not_live row (ap (life_in (past_of p)) (sym (ap (λ (l : List Fate). slice_index_or l row New) (settles ∙ none_settled empty)) ∙ alive));
   }
 
   life_after : (row : ℕ) → row < first_row + p.rows → life_in (past_of p) (slice_index_or q.fates.items row New) ≡ (if nat_lt 0 (tally (λ (r : ℕ). r == row) (reached_in (sheet_of p).tree.table root)) then lives.Live else life_in (past_of p) (fate_of p row))
@@ -197,6 +217,18 @@ module _ (p q : Inside) (s : Sheet) (kind : Kind) (root opened : ℕ) (plain : I
       by true = refl
       by false = refl
 
+  life_told : (row : ℕ) → row < first_row + p.rows → life_of (sheet_of (planted p root opened q)).lives row ≡ (if is_reached (sheet_of (planted p root opened q)).tree row then lives.Live else life_in (past_of p) (fate_of p row))
+  life_told row within = life_at (past_of p) q.fates.items row ∙ life_after row within
+
+  live_are_reached : LiveAreReached (sheet_of (planted p root opened q)).tree (sheet_of (planted p root opened q)).lives
+  live_are_reached row first within = (
+    λ alive. elim (cases_Bool (is_reached (sheet_of (planted p root opened q)).tree row)) [
+      | inl is ↦ is
+      | inr not ↦ absurd (not_live row (sym (life_told row within ∙ ap (λ (b : Bool). if b then lives.Live else life_in (past_of p) (fate_of p row)) not) ∙ alive))
+    ],
+    λ is. life_told row within ∙ ap (λ (b : Bool). if b then lives.Live else life_in (past_of p) (fate_of p row)) is,
+  )
+
   pub planted_is : Planted s (sheet_of (planted p root opened q)) root
   planted_is = subst (λ (s : Sheet). Planted s (sheet_of (planted p root opened q)) root) is (record {
     rest =
@@ -205,6 +237,7 @@ module _ (p q : Inside) (s : Sheet) (kind : Kind) (root opened : ℕ) (plain : I
     lives = λ row first within.
         life_at (past_of p) q.fates.items row ∙ (life_after row within
         ∙ ap (λ (l : Life). if nat_lt 0 (tally (λ (r : ℕ). r == row) (reached_in (sheet_of p).tree.table root)) then lives.Live else l) (sym (life_at (past_of p) p.fates.items row)));
+    live = live_are_reached;
   })
 
 -- the rows that are counted from the root's span

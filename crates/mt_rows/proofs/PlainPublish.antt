@@ -6,20 +6,20 @@ use Rattle.std.proofs.lemmas.List.{get_or_past}
 use Rattle.mt_base.specs.declared.kinds.Kind.{Kind}
 use Rattle.mt_base.specs.declared.calls.Call.{Call}
 use Rattle.mt_base.specs.declared.replies.Reply.{Reply}
-use Rattle.mt_base.specs.Width.{columns}
+use Rattle.mt_base.specs.Width.{columns, deepest}
+use Rattle.mt_layout.specs.Sizes.{first_row}
 use Rattle.mt_rows.specs.declared.rows.Place.{Place}
 use Rattle.mt_rows.specs.declared.rows.Place.TheVariants.{Root, Slot}
 use Rattle.mt_rows.specs.declared.rows.Life.TheVariants as lives
 use Rattle.mt_rows.specs.declared.plain.Fate.{Fate}
 use Rattle.mt_rows.specs.declared.plain.Fate.TheVariants.{New, Draft, Live, Buried}
-use Rattle.mt_rows.specs.declared.plain.PlainRows.TheInside.{Inside}
+use Rattle.mt_rows.specs.declared.plain.State.{State}
 use Rattle.mt_rows.specs.Levels.{one_if}
-use Rattle.mt_rows.specs.Trees.{deepest}
 use Rattle.mt_rows.specs.Laws as laws
-use Rattle.mt_rows.specs.Sheet.{Sheet, Tree, life_of, is_buried}
+use Rattle.mt_rows.specs.Sheet.{Sheet, Rooted, life_of, is_buried}
 use Rattle.mt_rows.specs.Publish.{tree_as, with_published, with_record, life_after, IsPlaceToPublish, Changes, MayPublish, Published}
 use Rattle.mt_rows.specs.Plain.{life_in, buried_in, past_of, fate_of, sheet_of, IsPlain, enlivened, opens}
-use Rattle.mt_rows.proofs.PlainFates.{life_told, buried_told}
+use Rattle.mt_rows.proofs.PlainFates.{one_at_most, life_told, buried_told}
 use Rattle.mt_rows.proofs.PlainWalk.{fate_at}
 use Rattle.mt_rows.proofs.PlainRoot.{Before, Reaches, root_reaches}
 use Rattle.mt_rows.proofs.PlainSlot.{slot_reaches}
@@ -49,9 +49,9 @@ buried_fate past Draft is = absurd (cc)
 buried_fate past Live is = absurd (cc)
 buried_fate past (Buried call) is = (call, refl)
 
-one_at_most : (b : Bool) → one_if b ≤ 1
-one_at_most true = omega arith
-one_at_most false = omega arith
+rows_stay : (t : Rooted) (place : Place) (word : ℕ) → (with_published t place word).rows ≡ t.rows
+rows_stay t Root word = refl
+rows_stay t (Slot row col) word = refl
 
 -- ---- the walk at any place
 
@@ -68,14 +68,14 @@ place_reaches b (Slot row col) word levels inside at rows tree walks =
 -- ---- the rows after the walk
 
 -- p with the fates of q, once it has published
-abbrev pub published : Inside → Inside → Inside
+abbrev pub published : State → State → State
 published p q = record p { fates = q.fates; published = true }
 
 -- p is what the sheet tells, with the word stored
-module _ (p q : Inside) (s : Sheet) (kind : Kind) (place : Place) (word levels : ℕ) (call : Call) (reply : Reply) (plain : IsPlain p) (is : sheet_of p ≡ record s { tree = with_published s.tree place word })
+module _ (p q : State) (s : Sheet) (kind : Kind) (place : Place) (word levels : ℕ) (call : Call) (reply : Reply) (plain : IsPlain p) (is : sheet_of p ≡ record s { tree = with_published s.tree place word })
     (may : MayPublish kind s place word call reply) (walks : levels ≡ (if opens s place then deepest else 0)) (walked : q.fates.items ≡ enlivened p.words.items levels word p.fates.items)
     (long : length q.fates.items ≡ length p.fates.items) where
-  abbrev after : Tree
+  abbrev after : Rooted
   after = with_published s.tree place word
 
   silent : p.published ≡ false
@@ -91,12 +91,12 @@ module _ (p q : Inside) (s : Sheet) (kind : Kind) (place : Place) (word levels :
   buried_are row = sym (ap (λ (s : Sheet). is_buried s.buried row) is) ∙ buried_told p row
 
   low : (row call : ℕ) → fate_of p row ≡ Buried call → call ≤ p.ended + 1
-  low row call at = let most = (plain.buried row call at).1 in omega (arith, one_at_most p.in_flight)
+  low row call at = let most = (plain.buried row call at).2 in omega (arith, one_at_most p.in_flight)
 
   inside : (row : ℕ) → is_buried s.buried row ≡ true → (first_row ≤ row) × (row < first_row + s.tree.rows)
   inside row buried =
       let fate = buried_fate (past_of p) (fate_of p row) (sym (buried_are row) ∙ buried) in
-      let rows : p.rows ≡ s.tree.rows = ap (λ (s : Sheet). s.tree.rows) is in
+      let rows : p.rows ≡ s.tree.rows = ap (λ (s : Sheet). s.tree.rows) is ∙ rows_stay s.tree place word in
       let size = plain.fates in (
         (plain.buried row fate.0 fate.1).0,
         elim (cases_lt row (length p.fates.items)) [ inl within ↦ omega arith | inr beyond ↦ let new = get_or_past p.fates.items row New beyond in let at = fate.1 in absurd (cc) ],
@@ -105,10 +105,10 @@ module _ (p q : Inside) (s : Sheet) (kind : Kind) (place : Place) (word levels :
   words_are : p.words.items ≡ after.table.words
   words_are = ap (λ (s : Sheet). s.tree.table.words) is
 
-  has_after : length after.table.words ≡ columns after.table.width * (16 + s.tree.rows)
-  has_after = sym (ap length words_are) ∙ (plain.words ∙ ap (λ (s : Sheet). columns s.tree.table.width * (16 + s.tree.rows)) is)
+  has_after : laws.HasWords (tree_as kind after)
+  has_after = sym (ap length words_are) ∙ (plain.words ∙ ap (λ (s : Sheet). columns s.tree.table.width * (first_row + s.tree.rows)) is)
 
-  has : (place : Place) → length (with_published s.tree place word).table.words ≡ columns (with_published s.tree place word).table.width * (16 + s.tree.rows) → laws.HasWords (tree_as kind s.tree)
+  has : (place : Place) → laws.HasWords (tree_as kind (with_published s.tree place word)) → laws.HasWords (tree_as kind s.tree)
   has Root long = long
   has (Slot row col) long = sym (length-set s.tree.table.words _ word) ∙ long
 
@@ -135,12 +135,15 @@ module _ (p q : Inside) (s : Sheet) (kind : Kind) (place : Place) (word levels :
   pub published_plain : IsPlain (published p q)
   published_plain = record {
     few = plain.few;
+    long = plain.long;
     words = plain.words;
     fates = long ∙ plain.fates;
+    scans = plain.scans;
     cleared = plain.cleared;
     room = plain.room;
     calm = λ idle. let in_flight : p.in_flight ≡ true = ap (λ (s : Sheet). s.in_flight) is ∙ may.in_flight in absurd (cc);
     buried = λ row call at. plain.buried row call (buried_stays row call at);
+    fresh = λ row first idle empty alive. let in_flight : p.in_flight ≡ true = ap (λ (s : Sheet). s.in_flight) is ∙ may.in_flight in absurd (cc);
   }
 
   fate_low : (row call : ℕ) → fate_at q.fates.items row ≡ Buried call → call ≤ p.ended + 1

@@ -8,12 +8,13 @@ use Rattle.mt_layout.specs.declared.names.RowKind.{RowKind}
 use Rattle.mt_layout.specs.Rows.{row_in, named_kind}
 use Rattle.mt_layout.specs.declared.spans.Span.{Span}
 use Rattle.mt_rows.specs.declared.rows.Life.TheVariants as lives
+use Rattle.mt_layout.specs.Sizes.{first_row}
 use Rattle.mt_rows.specs.declared.plain.Fate.{Fate}
 use Rattle.mt_rows.specs.declared.plain.Fate.TheVariants.{New, Draft, Live, Buried}
 use Rattle.mt_rows.specs.Spans.{Table, row_spans, spans_by, spans_in}
 use Rattle.mt_rows.specs.Levels.{level, Levels, SameSpans}
 use Rattle.mt_rows.specs.Laws as laws
-use Rattle.mt_rows.specs.Sheet.{Sheet, Tree, life_of, is_buried}
+use Rattle.mt_rows.specs.Sheet.{Sheet, Rooted, life_of, is_buried}
 use Rattle.mt_rows.specs.Publish.{tree_as, LiveAreReached, IsReached, is_reached, Changes}
 use Rattle.mt_rows.specs.Replacement.{root_of}
 use Rattle.mt_rows.specs.Plain.{life_in, buried_in}
@@ -41,9 +42,6 @@ draft_fate past (Buried call) is = by (nat_le call past) is
     by : (b : Bool) → (if b then lives.Dead call else lives.Live) ≡ lives.Draft → Buried call ≡ Draft
     by true is = absurd (cc)
     by false is = absurd (cc)
-
-draft_not_live : (past : ℕ) (f : Fate) → f ≡ Draft → life_in past f ≡ lives.Live → ⊥
-draft_not_live past f draft live = let is : life_in past f ≡ lives.Draft = ap (life_in past) draft in absurd (cc)
 
 -- ---- levels
 
@@ -74,17 +72,17 @@ same_row_spans t kind x y named_x named_y row first last =
 
 -- ---- the rows that are reached by the words after the store
 
-module _ (kind : Kind) (s : Sheet) (after : Tree) (past : ℕ) (fates : List Fate)
+module _ (kind : Kind) (s : Sheet) (after : Rooted) (many : after.rows ≡ s.tree.rows) (past : ℕ) (fates : List Fate)
     (lives_are : (row : ℕ) → life_of s.lives row ≡ life_in past (fate_at fates row)) (buried_are : (row : ℕ) → is_buried s.buried row ≡ buried_in past (fate_at fates row))
-    (live : LiveAreReached s.tree s.lives) (tree : laws.IsTree (tree_as kind s.tree)) (rows : Changes s after) (h' : ℕ) (stands' : laws.Stands (tree_as kind s.tree.rows after) h') where
+    (live : LiveAreReached s.tree s.lives) (tree : laws.IsTree (tree_as kind s.tree)) (rows : Changes s after) (h' : ℕ) (stands' : laws.Stands (tree_as kind after) h') where
   abbrev t : laws.Tree
   t = tree_as kind s.tree
 
   abbrev t' : laws.Tree
-  t' = tree_as kind s.tree.rows after
+  t' = tree_as kind after
 
   reached_inside : (row : ℕ) → IsReached after row → (first_row ≤ row) × (row < first_row + s.tree.rows)
-  reached_inside row is = reached.reached_number t' h' stands' row (reached.reached_times t' h' stands' row is)
+  reached_inside row is = subst (λ (n : ℕ). (first_row ≤ row) × (row < first_row + n)) many (reached.reached_number t' h' stands' row (reached.reached_times t' h' stands' row is))
 
   -- a row that is reached then was not buried
   not_buried : (row : ℕ) → IsReached after row → is_buried s.buried row ≡ true → ⊥
@@ -122,7 +120,7 @@ module _ (kind : Kind) (s : Sheet) (after : Tree) (past : ℕ) (fates : List Fat
 
   live_children : (m : ℕ) (x : Span) → reached.OnLevel t'.table h' (root_of t') (suc m) x → IsReached s.tree (row_in x.word) → SameSpans t.table t'.table x → AllLive fates (spans_in t'.table x)
   live_children m x on was same = elim tree [
-    | inl empty ↦ let none : is_reached s.tree (row_in x.word) ≡ false = ap (λ (root : ℕ). is_reached (record { table = s.tree.table; root = root }) (row_in x.word)) empty in absurd (cc)
+    | inl empty ↦ let none : is_reached s.tree (row_in x.word) ≡ false = ap (λ (root : ℕ). is_reached (record { rows = s.tree.rows; table = s.tree.table; root = root }) (row_in x.word)) empty in absurd (cc)
     | inr old ↦
         let place = reached.reached_on_level t old.0 old.1 (row_in x.word) (reached.reached_times t old.0 old.1 (row_in x.word) was) in
         was_children old.0 old.1 m place.0 x place.1 on place.2 place.3 same

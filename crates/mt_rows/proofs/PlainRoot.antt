@@ -2,13 +2,13 @@
 use Rattle.std.proofs.Common.{◌≡◌, ◌⊎◌, ℕ, zero, ◌≤◌, List, false, refl, ap, ◌∙◌, inl, inr, arith}
 use Rattle.std.proofs.lemmas.Bool.{cases_Bool}
 use Rattle.mt_base.specs.declared.kinds.Kind.{Kind}
+use Rattle.mt_base.specs.Width.{deepest}
 use Rattle.mt_rows.specs.declared.plain.Fate.{Fate}
 use Rattle.mt_rows.specs.declared.plain.Fate.TheVariants.{Live}
 use Rattle.mt_rows.specs.Spans.{root_span}
 use Rattle.mt_rows.specs.Levels.{Levels}
-use Rattle.mt_rows.specs.Trees.{deepest}
 use Rattle.mt_rows.specs.Laws as laws
-use Rattle.mt_rows.specs.Sheet.{Sheet, Tree, life_of, is_buried}
+use Rattle.mt_rows.specs.Sheet.{Sheet, Rooted, life_of, is_buried}
 use Rattle.mt_rows.specs.Publish.{tree_as, LiveAreReached, IsReached, is_reached, Changes}
 use Rattle.mt_rows.specs.Replacement.{root_of}
 use Rattle.mt_rows.specs.Plain.{life_in, buried_in, enlivened}
@@ -29,32 +29,32 @@ pub record Before : Type 0 where
   pub tree : laws.IsTree (tree_as kind sheet.tree)
 
 -- the rows that are reached are live, and no other fate has changed
-abbrev pub Reaches : Tree → List Fate → List Fate → Type 0
+abbrev pub Reaches : Rooted → List Fate → List Fate → Type 0
 Reaches after fates fates' = (row : ℕ) → (IsReached after row × (fate_at fates' row ≡ Live)) ⊎ ((is_reached after row ≡ false) × (fate_at fates' row ≡ fate_at fates row))
 
 module _ (b : Before) (word depth : ℕ) (deep : deepest ≤ depth) where
   abbrev s : Sheet
   s = b.sheet
 
-  abbrev after : Tree
-  after = record { table = s.tree.table; root = word }
+  abbrev after : Rooted
+  after = record { rows = s.tree.rows; table = s.tree.table; root = word }
 
   abbrev t' : laws.Tree
-  t' = tree_as b.kind s.rows after
+  t' = tree_as b.kind after
 
   abbrev fates' : List Fate
   fates' = enlivened s.tree.table.words depth word b.fates
 
   empty_reaches : word ≡ 0 → Reaches after b.fates fates'
   empty_reaches empty row = inr (
-    ap (λ (root : ℕ). is_reached (record { table = s.tree.table; root = root }) row) empty,
+    ap (λ (root : ℕ). is_reached (record { rows = s.tree.rows; table = s.tree.table; root = root }) row) empty,
     ap (λ (fs : List Fate). fate_at fs row) (ap (λ (root : ℕ). enlivened s.tree.table.words depth root b.fates) empty ∙ no_name s.tree.table.words depth b.fates),
   )
 
   module _ (rows : Changes s after) (h' : ℕ) (stands' : laws.Stands t' h') where
     ready : Levels (Ready t'.table b.fates) t'.table h' (root_of t')
     ready = levels_from (Ready t'.table b.fates) t'.table h' (root_of t') h' zero (omega arith)
-        (λ m x low on. ready_at b.kind s after b.past b.fates b.lives_are b.buried_are b.live b.tree rows h' stands' m x on refl)
+        (λ m x low on. ready_at b.kind s after refl b.past b.fates b.lives_are b.buried_are b.live b.tree rows h' stands' m x on refl)
 
     tree_reaches : Reaches after b.fates fates'
     tree_reaches row =

@@ -4,28 +4,29 @@ use Rattle.std.specs.Prelude.{slice_index_or, slice_set, is_some, if◌then◌el
 use Rattle.std.proofs.lemmas.Bool.{cases_Bool}
 use Rattle.std.proofs.lemmas.List.{set-get_or}
 use Rattle.std.proofs.lemmas.Option.{slice_get-get_or}
+use Rattle.mt_base.specs.Width.{deepest}
 use Rattle.mt_layout.specs.declared.names.RowKind.{RowKind}
 use Rattle.mt_layout.specs.Columns.{slot_column}
 use Rattle.mt_layout.specs.Rows.{row_in, named_kind, named_row, name_at}
 use Rattle.mt_layout.specs.declared.spans.Span.{Span}
 use Rattle.mt_layout.specs.Spans.{Fills}
 use Rattle.mt_layout.proofs.NameLaws.{Names-named_kind}
+use Rattle.mt_layout.specs.Sizes.{slots_of, first_row}
 use Rattle.mt_rows.specs.declared.plain.Fate.TheVariants.{Live}
-use Rattle.mt_rows.specs.Spans.{Table, base_of, slots_of, spans_in, root_span}
+use Rattle.mt_rows.specs.Spans.{base_of, spans_in, root_span}
 use Rattle.mt_rows.specs.Levels.{level, Levels, tally, times, is_row_of, IsBelow, SameSpans}
-use Rattle.mt_rows.specs.Trees.{deepest}
 use Rattle.mt_rows.specs.Laws as laws
-use Rattle.mt_rows.specs.Sheet.{Sheet, Tree, is_buried, word_at, with_word}
+use Rattle.mt_rows.specs.Sheet.{Sheet, Rooted, is_buried, word_at, with_word}
 use Rattle.mt_rows.specs.Publish.{tree_as, IsReached, is_reached, IsSlotOf, Changes}
 use Rattle.mt_rows.specs.Replacement.{root_of, IsSlotAt, with_child, ReplacesChild}
 use Rattle.mt_rows.specs.Plain.{enlivened, buried_by, opens}
 use Rattle.mt_rows.specs.declared.rows.Place.TheVariants.{Slot}
 use Rattle.mt_rows.proofs.Lists.{levels_here}
-use Rattle.mt_rows.proofs.Joins.{times-append, levels_front, levels_back}
+use Rattle.mt_rows.proofs.Joins.{levels_front, levels_back}
 use Rattle.mt_rows.proofs.Heights.{level_next, times_split, levels_lower, levels_upper, level_fills, times_upper_shared}
 use Rattle.mt_rows.proofs.Reached as reached
 use Rattle.mt_rows.proofs.SlotStore as store
-use Rattle.mt_rows.proofs.SlotChild.{replaces_child}
+use Rattle.mt_rows.proofs.SlotChild.{three_times, replaces_child}
 use Rattle.mt_rows.proofs.PlainNames.{slot_read}
 use Rattle.mt_rows.proofs.PlainWalk.{fate_at, Ready, walk_one}
 use Rattle.mt_rows.proofs.PlainReached.{levels_from, ready_at, stays_live}
@@ -53,7 +54,7 @@ module _ (b : Before) (h low d slot word : ℕ) (at child : Span) (stands : laws
   s = b.sheet
 
   abbrev t : laws.Tree
-  t = tree_as b.kind s.rows s.tree
+  t = tree_as b.kind s.tree
 
   abbrev row : ℕ
   row = row_in at.word
@@ -61,11 +62,11 @@ module _ (b : Before) (h low d slot word : ℕ) (at child : Span) (stands : laws
   abbrev col : ℕ
   col = slot_column (slots_of s.tree.table.width (laws.kind_at b.kind low)) slot
 
-  abbrev pub after : Tree
+  abbrev pub after : Rooted
   after = with_word s.tree row col word
 
   abbrev t' : laws.Tree
-  t' = tree_as b.kind s.rows after
+  t' = tree_as b.kind after
 
   abbrev st : store.Store
   st = record { tree = t; height = h; low = low; depth = d; slot = slot; word = word; row = at; child = child; has = b.has; stands = stands; levels = height; at = on }
@@ -83,13 +84,13 @@ module _ (b : Before) (h low d slot word : ℕ) (at child : Span) (stands : laws
     stands' = subst (laws.Stands t') same_height stands_at_h'
 
     was_live : (r : ℕ) → IsReached after r → IsReached s.tree r → fate_at b.fates r ≡ Live
-    was_live r = stays_live b.kind s after b.past b.fates b.lives_are b.buried_are b.live b.tree rows h stands' r
+    was_live r = stays_live b.kind s after refl b.past b.fates b.lives_are b.buried_are b.live b.tree rows h stands' r
 
 -- ---- in a leaf: the same rows are reached
 
 module _ (b : Before) (h d slot word : ℕ) (at child : Span) (stands : laws.Stands (tree_as b.kind b.sheet.tree) h) (height : h ≡ d + zero)
     (on : IsSlotAt (tree_as b.kind b.sheet.tree) d at slot child) (rows : Changes b.sheet (after b h zero d slot word at child stands height on))
-    (h' : ℕ) (stands_at_h' : laws.Stands (tree_as b.kind b.sheet.tree.rows (after b h zero d slot word at child stands height on)) h') where
+    (h' : ℕ) (stands_at_h' : laws.Stands (tree_as b.kind (after b h zero d slot word at child stands height on)) h') where
   abbrev leaf_store : store.Store
   leaf_store = st b h zero d slot word at child stands height on
 
@@ -99,7 +100,7 @@ module _ (b : Before) (h d slot word : ℕ) (at child : Span) (stands : laws.Sta
   abbrev leaf_tree' : laws.Tree
   leaf_tree' = t' b h zero d slot word at child stands height on
 
-  abbrev leaf_after : Tree
+  abbrev leaf_after : Rooted
   leaf_after = after b h zero d slot word at child stands height on
 
   leaf_stands' : laws.Stands leaf_tree' h
@@ -127,12 +128,9 @@ module _ (b : Before) (h d slot word : ℕ) (at child : Span) (stands : laws.Sta
 
 -- ---- in an inner row: what is reached besides was reached before, or is reached from the word
 
-three_times : (p : ℕ → Span → Bool) (t : Table) (k : ℕ) (front back : List Span) (x : Span) → times p t k (front ++ (x ∷ back)) ≡ times p t k front + (times p t k (x ∷ []) + times p t k back)
-three_times p t k front back x = times-append p t k front (x ∷ back) ∙ ap (λ (n : ℕ). times p t k front + n) (times-append p t k (x ∷ []) back)
-
 module _ (b : Before) (h k d slot word : ℕ) (at child : Span) (stands : laws.Stands (tree_as b.kind b.sheet.tree) h) (height : h ≡ d + suc k)
     (on : IsSlotAt (tree_as b.kind b.sheet.tree) d at slot child) (rows : Changes b.sheet (after b h (suc k) d slot word at child stands height on))
-    (h' : ℕ) (stands_at_h' : laws.Stands (tree_as b.kind b.sheet.tree.rows (after b h (suc k) d slot word at child stands height on)) h') where
+    (h' : ℕ) (stands_at_h' : laws.Stands (tree_as b.kind (after b h (suc k) d slot word at child stands height on)) h') where
   abbrev inner_store : store.Store
   inner_store = st b h (suc k) d slot word at child stands height on
 
@@ -142,7 +140,7 @@ module _ (b : Before) (h k d slot word : ℕ) (at child : Span) (stands : laws.S
   abbrev inner_tree' : laws.Tree
   inner_tree' = t' b h (suc k) d slot word at child stands height on
 
-  abbrev inner_after : Tree
+  abbrev inner_after : Rooted
   inner_after = after b h (suc k) d slot word at child stands height on
 
   abbrev child' : Span
@@ -182,7 +180,7 @@ module _ (b : Before) (h k d slot word : ℕ) (at child : Span) (stands : laws.S
 
   child_ready : Levels (Ready inner_tree'.table b.fates) inner_tree'.table k (child' ∷ [])
   child_ready = of_child (Ready inner_tree'.table b.fates) (levels_from (Ready inner_tree'.table b.fates) inner_tree'.table h (root_of inner_tree') k (suc d) lower
-      (λ m x low on_x. ready_at b.kind b.sheet inner_after b.past b.fates b.lives_are b.buried_are b.live b.tree rows h inner_stands' m x on_x (low_same m x low on_x)))
+      (λ m x low on_x. ready_at b.kind b.sheet inner_after refl b.past b.fates b.lives_are b.buried_are b.live b.tree rows h inner_stands' m x on_x (low_same m x low on_x)))
 
   -- ---- how often rows are reached
 
@@ -272,10 +270,10 @@ module _ (b : Before) (h k d slot word : ℕ) (at child : Span) (stands : laws.S
   same_words unburied =
       let words : slice_set b.sheet.tree.table.words place word ≡ b.sheet.tree.table.words =
       ap (slice_set b.sheet.tree.table.words place) (old_word unburied ∙ child_word) ∙ set-get_or b.sheet.tree.table.words place 0 in
-      λ i. record { table = record { width = b.sheet.tree.table.width; words = words i }; root = b.sheet.tree.root }
+      λ i. record { rows = b.sheet.tree.rows; table = record { width = b.sheet.tree.table.width; words = words i }; root = b.sheet.tree.root }
 
   pub unburied_live : is_buried b.sheet.buried (row_in child.word) ≡ false → (r : ℕ) → IsReached inner_after r → fate_at b.fates r ≡ Live
-  unburied_live unburied r is = inner_live r is (subst (λ (tree : Tree). IsReached tree r) (same_words unburied) is)
+  unburied_live unburied r is = inner_live r is (subst (λ (tree : Rooted). IsReached tree r) (same_words unburied) is)
 
 -- ---- in any slot
 
@@ -288,10 +286,10 @@ module _ (b : Before) (inside : (r : ℕ) → is_buried b.sheet.buried r ≡ tru
   Walks row col = (opens b.sheet (Slot row col) ≡ true → deepest ≤ levels) × (opens b.sheet (Slot row col) ≡ false → levels ≡ 0)
 
   abbrev SlotReaches : ℕ → ℕ → Type 0
-  SlotReaches row col = let after = with_word b.sheet.tree row col word in Changes b.sheet after → laws.IsTree (tree_as b.kind b.sheet.tree.rows after) → Walks row col → Reaches after b.fates (enlivened after.table.words levels word b.fates)
+  SlotReaches row col = let after = with_word b.sheet.tree row col word in Changes b.sheet after → laws.IsTree (tree_as b.kind after) → Walks row col → Reaches after b.fates (enlivened after.table.words levels word b.fates)
 
   -- where nothing is walked
-  still : (after : Tree) → levels ≡ 0 → ((r : ℕ) → IsReached after r → fate_at b.fates r ≡ Live) → Reaches after b.fates (enlivened after.table.words levels word b.fates)
+  still : (after : Rooted) → levels ≡ 0 → ((r : ℕ) → IsReached after r → fate_at b.fates r ≡ Live) → Reaches after b.fates (enlivened after.table.words levels word b.fates)
   still after none alive r =
       let same : fate_at (enlivened after.table.words levels word b.fates) r ≡ fate_at b.fates r = ap (λ (n : ℕ). fate_at (enlivened after.table.words n word b.fates) r) none in
       elim (cases_Bool (is_reached after r)) [ inl is ↦ inl (is, same ∙ alive r is) | inr not ↦ inr (not, same) ]
@@ -300,7 +298,7 @@ module _ (b : Before) (inside : (r : ℕ) → is_buried b.sheet.buried r ≡ tru
   none_opens None none opened = absurd (cc)
   none_opens (Some r) none opened = none r opened
 
-  rooted : (later : Tree) → later.root ≡ b.sheet.tree.root → (b.sheet.tree.root ≡ 0 → ⊥) → laws.IsTree (tree_as b.kind b.sheet.tree.rows later) → (h : ℕ) × laws.Stands (tree_as b.kind b.sheet.tree.rows later) h
+  rooted : (later : Rooted) → later.root ≡ b.sheet.tree.root → (b.sheet.tree.root ≡ 0 → ⊥) → laws.IsTree (tree_as b.kind later) → (h : ℕ) × laws.Stands (tree_as b.kind later) h
   rooted later same some tree = elim tree [ inl empty ↦ absurd (some (sym same ∙ empty)) | inr stands ↦ stands ]
 
   module _ (h d slot : ℕ) (at child : Span) (stands : laws.Stands (tree_as b.kind b.sheet.tree) h) (some : b.sheet.tree.root ≡ 0 → ⊥) where

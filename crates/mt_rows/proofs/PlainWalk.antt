@@ -5,6 +5,7 @@ use Rattle.std.specs.List.{AllByRecursion, fold}
 use Rattle.std.proofs.lemmas.Bool.{cases_eq, cases_lt}
 use Rattle.std.proofs.lemmas.List.{get_or_past}
 use Rattle.std.proofs.lemmas.List.Sums.{fold-append}
+use Rattle.mt_base.proofs.Lists.{all_join, none_or_some}
 use Rattle.mt_layout.specs.Rows.{row_in, named_kind}
 use Rattle.mt_layout.specs.declared.names.RowKind.{RowKind}
 use Rattle.mt_layout.specs.declared.spans.Span.{Span}
@@ -14,7 +15,6 @@ use Rattle.mt_rows.specs.Laws.{Tree, HasWords, IsRow, kind_at}
 use Rattle.mt_rows.specs.declared.plain.Fate.{Fate}
 use Rattle.mt_rows.specs.declared.plain.Fate.TheVariants.{New, Draft, Live}
 use Rattle.mt_rows.specs.Plain.{is_draft, names_of, enlivened_by, enlivened}
-use Rattle.mt_rows.proofs.Lists.{all_join}
 use Rattle.mt_rows.proofs.Joins.{times-append, levels_front, levels_back}
 use Rattle.mt_rows.proofs.Reached.{IsOneOf, one_of_expand, all_one_of, tally_place, times_some}
 use Rattle.mt_rows.proofs.PlainNames.{names_are}
@@ -57,10 +57,6 @@ children_counted t h x row = let below = ap (times (is_row_of row) t h) (append-
 
 children_hold : (P : ℕ → Span → Type 0) (t : Table) (h : ℕ) (x : Span) → Levels P t (suc h) (x ∷ []) → Levels P t h (spans_in t x)
 children_hold P t h x rows = subst (Levels P t h) (append-nil (spans_in t x)) rows.1
-
-none_or_some : (n : ℕ) → (n ≡ 0) ⊎ (1 ≤ n)
-none_or_some zero = inl refl
-none_or_some (suc n) = inr (omega arith)
 
 -- ---- what is ready
 

@@ -1,17 +1,22 @@
--- Words stand for maps: no range is below the one before it.
-use Rattle.std.proofs.Common.{◌≡◌, ℕ, zero, suc, ◌+◌, ◌==◌, List, [], ◌∷◌, refl, sym, subst, inl, inr, arith}
+-- Words stand for maps: each range stands behind the one before it, and none ends above the greatest index.
+use Rattle.std.proofs.Common.{◌≡◌, ℕ, zero, suc, ◌+◌, ◌≤◌, ◌==◌, List, [], ◌∷◌, refl, sym, subst, inl, inr, arith}
 use Rattle.std.specs.List.{AllByRecursion, flat_map}
 use Rattle.std.proofs.lemmas.Bool.{cases_Bool, eqb-false}
+use Rattle.mt_base.specs.declared.ranges.Range.{Range}
+use Rattle.mt_base.specs.declared.widths.Width.{Width}
 use Rattle.mt_base.specs.Map.{IsMapFrom, IsMap}
 use Rattle.mt_base.proofs.StoredOrder.{IsMapFrom-lower}
+use Rattle.mt_base.specs.Width.{greatest, kind_width, deepest}
+use Rattle.mt_base.proofs.Lists.{all_map}
 use Rattle.mt_layout.specs.declared.spans.Span.{Span}
 use Rattle.mt_layout.specs.Spans.{leaf_range, Fills}
 use Rattle.mt_rows.specs.Spans.{Table, root_span}
 use Rattle.mt_rows.specs.Levels.{expand, map_of, Levels}
-use Rattle.mt_rows.specs.Trees.{map_in, deepest}
+use Rattle.mt_rows.specs.Trees.{map_in}
 use Rattle.mt_rows.specs.Laws.{Tree, IsRow, Stands, top_of}
-use Rattle.mt_rows.proofs.Lists.{all_map, Filled, expand_fills}
+use Rattle.mt_rows.proofs.Lists.{Filled, expand_fills}
 use Rattle.mt_rows.proofs.Depth.{ranges_by_depth}
+use Rattle.mt_rows.proofs.Between.{Between, map_between}
 
 rows_filled : (t : Tree) (h : ℕ) (xs : List Span) → AllByRecursion (IsRow t h) xs → AllByRecursion (Filled t.table) xs
 rows_filled t h xs rows = all_map (IsRow t h) (Filled t.table) (λ x row. row.pivots.fills) xs rows
@@ -33,7 +38,19 @@ levels_map_from t (suc h) lo hi xs rows fills = levels_map_from t h lo hi (expan
 pub empty_map : (t : Table) → map_in t 0 ≡ []
 empty_map t = refl
 
-pub tree_map : (t : Tree) (h : ℕ) → Stands t h → IsMap (map_in t.table t.root)
-tree_map t h stands =
-    let root = root_span t.table t.root in
-    subst IsMap (sym (ranges_by_depth t deepest h root stands.low stands.rows)) (levels_map_from t h 0 (top_of t + 1) (root ∷ []) stands.rows (refl, omega arith, refl))
+-- the ranges of a tree rise, and none ends above the greatest index
+module _ (t : Tree) (h : ℕ) (stands : Stands t h) where
+  by_levels : map_in t.table t.root ≡ map_of t.table h (root_span t.table t.root ∷ [])
+  by_levels = ranges_by_depth t deepest h (root_span t.table t.root) stands.low stands.rows
+
+  pub tree_rises : IsMapFrom 0 (map_in t.table t.root)
+  tree_rises = subst (IsMapFrom 0) (sym by_levels) (levels_map_from t h 0 (top_of t + 1) (root_span t.table t.root ∷ []) stands.rows (refl, omega arith, refl))
+
+  pub tree_within : AllByRecursion (λ (r : Range). r.last ≤ top_of t) (map_in t.table t.root)
+  tree_within =
+      subst (AllByRecursion (λ (r : Range). r.last ≤ top_of t)) (sym by_levels)
+      (all_map (Between 0 (top_of t + 1)) (λ (r : Range). r.last ≤ top_of t) (λ r between. let ends = between.2 in omega arith) (map_of t.table h (root_span t.table t.root ∷ []))
+      (map_between t h 0 (top_of t + 1) (root_span t.table t.root ∷ []) stands.rows (refl, omega arith, refl)))
+
+  pub tree_map : t.table.width ≡ kind_width t.kind → IsMap t.kind (map_in t.table t.root)
+  tree_map wide = record { rise = tree_rises; within = subst (λ (w : Width). AllByRecursion (λ (r : Range). r.last ≤ greatest w) (map_in t.table t.root)) wide tree_within }

@@ -4,13 +4,15 @@ use Rattle.std.specs.List.{AllByRecursion, slice_get}
 use Rattle.std.proofs.lemmas.Bool.{cases_Bool, eqb-true, ltb-true, ltb-false}
 use Rattle.mt_base.specs.declared.kinds.Kind.{Kind}
 use Rattle.mt_base.specs.declared.kinds.Kind.TheVariants as trees
+use Rattle.mt_base.specs.Width.{deepest}
 use Rattle.mt_layout.specs.declared.names.RowKind.TheVariants.{Leaf}
 use Rattle.mt_layout.specs.Rows.{row_in, named_kind}
 use Rattle.mt_layout.proofs.NameLaws.{Names-named_kind}
 use Rattle.mt_layout.specs.declared.spans.Span.{Span}
+use Rattle.mt_layout.specs.Sizes.{first_row}
 use Rattle.mt_rows.specs.Spans.{Table, spans_in, inner_kind, root_span}
 use Rattle.mt_rows.specs.Levels.{expand, level, Levels, one_if, tally, times, is_row_of, IsBelow}
-use Rattle.mt_rows.specs.Trees.{deepest, reached_in, height_in}
+use Rattle.mt_rows.specs.Trees.{reached_in, height_in}
 use Rattle.mt_rows.specs.Laws.{Tree, IsRow, Stands, kind_at}
 use Rattle.mt_rows.specs.Sheet as sheet
 use Rattle.mt_rows.specs.Publish.{is_reached, StandsAt}
@@ -200,8 +202,8 @@ module _ (p : Span → Bool) (t : Table) where
 
 module _ (t : Tree) (h : ℕ) (stands : Stands t h) where
   -- the words and the root word of the tree
-  abbrev pub words : sheet.Tree
-  words = record { table = t.table; root = t.root }
+  abbrev pub words : sheet.Rooted
+  words = record { rows = t.rows; table = t.table; root = t.root }
 
   abbrev root : Span
   root = root_span t.table t.root

@@ -8,18 +8,20 @@ use Rattle.mt_base.specs.declared.widths.Width.TheVariants.{Long}
 use Rattle.mt_base.specs.Width.{columns}
 use Rattle.mt_base.specs.Entry.{reserved}
 use Rattle.mt_layout.specs.declared.names.RowKind.{RowKind}
-use Rattle.mt_layout.specs.declared.names.RowKind.TheVariants.{Leaf, Inner, Gapped}
 use Rattle.mt_layout.specs.Rows.{row_in}
 use Rattle.mt_layout.specs.Columns.{slot_column, items_at, row_words}
 use Rattle.mt_layout.proofs.OwnColumns.{same_items}
 use Rattle.mt_layout.specs.declared.items.Item.{Item}
 use Rattle.mt_layout.specs.declared.spans.Span.{Span}
 use Rattle.mt_layout.specs.Spans.{spans_from, leaf_range, Fills, BeginsFull, Apart, EndsFull}
-use Rattle.mt_rows.specs.Spans.{base_of, column, slots_of, gaps_of, spans_by, spans_in}
+use Rattle.mt_layout.specs.Sizes.{slots_of, gaps_of, first_row}
+use Rattle.mt_layout.proofs.RowSizes.{layout_of, some_slots_of, slots_of-columns}
+use Rattle.mt_layout.proofs.SpanLists.{length-spans_from}
+use Rattle.mt_rows.specs.Spans.{base_of, column, spans_by, spans_in}
 use Rattle.mt_rows.specs.Levels.{SameColumns, SameSpans}
 use Rattle.mt_rows.specs.Laws.{Tree, HasWords, IsRow, EntryLaw, HoleLaw, kind_at, least_of, items_in, words_in}
-use Rattle.mt_rows.proofs.Frames.{is_layout, same_spans}
-use Rattle.mt_rows.proofs.SlotWords.{put_item, put_span, spans_from-put, length-spans_from, other_column, slot_here, items_at-put, row_words-parent, row_words-put, row_words-inside}
+use Rattle.mt_rows.proofs.Frames.{same_spans}
+use Rattle.mt_rows.proofs.SlotWords.{put_item, put_span, spans_from-put, other_column, slot_here, items_at-put, row_words-parent, row_words-put, row_words-inside}
 
 -- the tree with other words and another root word
 abbrev pub with_words : Tree → List ℕ → ℕ → Tree
@@ -27,7 +29,7 @@ with_words t words root = record { rows = t.rows; kind = t.kind; table = record 
 
 items_same : (width : Width) (kind : RowKind) (w w' : List ℕ) (row last : ℕ) → SameColumns (record { width = width; words = w }) (record { width = width; words = w' }) (columns width) row
     → items_at (slots_of width kind) (gaps_of width kind) w' (columns width * row) last ≡ items_at (slots_of width kind) (gaps_of width kind) w (columns width * row) last
-items_same Long kind w w' row last same = same_items (slots_of Long kind) (gaps_of Long kind) (32 * row) (32 * row) w' w (is_layout Long kind) same last
+items_same width kind w w' row last same = same_items (columns width) (slots_of width kind) (gaps_of width kind) (columns width * row) (columns width * row) w' w (layout_of width kind) same last
 
 -- ---- a row whose spans stay
 
@@ -72,21 +74,12 @@ module _ (t : Tree) (words : List ℕ) (root : ℕ) where
 
 -- ---- a row in which one slot has another word
 
-some_slots : (width : Width) (kind : RowKind) → 0 < slots_of width kind
-some_slots Long Leaf = omega arith
-some_slots Long Inner = omega arith
-some_slots Long Gapped = omega arith
-
 -- a slot column of a row of the table is one of its words
-pub slot_fits : (width : Width) (kind : RowKind) (row rows slot : ℕ) → slot < slots_of width kind → row < first_row + rows → columns width * row + slot_column (slots_of width kind) slot < columns width * (16 + rows)
-slot_fits Long Leaf row rows slot inside in_table = omega arith
-slot_fits Long Inner row rows slot inside in_table = omega arith
-slot_fits Long Gapped row rows slot inside in_table = omega arith
+pub slot_fits : (width : Width) (kind : RowKind) (row rows slot : ℕ) → slot < slots_of width kind → row < first_row + rows → columns width * row + slot_column (slots_of width kind) slot < columns width * (first_row + rows)
+slot_fits Long kind row rows slot inside in_table = omega (arith, slots_of-columns Long kind)
 
 pub slot_inside : (width : Width) (kind : RowKind) (slot : ℕ) → slot < slots_of width kind → slot_column (slots_of width kind) slot < columns width
-slot_inside Long Leaf slot inside = omega arith
-slot_inside Long Inner slot inside = omega arith
-slot_inside Long Gapped slot inside = omega arith
+slot_inside width kind slot inside = omega (arith, slots_of-columns width kind)
 
 other_place : (width : Width) (row other c col : ℕ) → other ≢ row → c < columns width → col < columns width → columns width * other + c ≢ columns width * row + col
 other_place Long row other c col apart inside at = λ e. apart (omega arith)
@@ -145,7 +138,7 @@ module _ (t : Tree) (h slot word : ℕ) (x : Span) (has : HasWords t) (row : IsR
 
   words_put : words_in put.table here_kind x ≡ slice_set (words_in t.table here_kind x) (slot_column slots slot) word
   words_put =
-      let some = some_slots t.table.width here_kind in
+      let some = some_slots_of t.table.width here_kind in
       let parent : column put.table (row_in x.word) 0 ≡ column t.table (row_in x.word) 0 = other_column slots gaps base slot word t.table.words inside fits 0 (λ e. omega arith) in
       (λ i. row_words (columns t.table.width) slots gaps (parent i) (items_put i))
       ∙ row_words-put (columns t.table.width) slots gaps (column t.table (row_in x.word) 0) slot word (items_in t.table here_kind x) some (omega (arith, length-items)) (omega (arith, length-items, row.count.most))
@@ -156,7 +149,7 @@ module _ (t : Tree) (h slot word : ℕ) (x : Span) (has : HasWords t) (row : IsR
       (λ (here : c ≡ slot_column slots slot).
       ap (λ (n : ℕ). column put.table (row_in x.word) n) here
       ∙ (slot_here slots gaps base slot word t.table.words inside fits
-      ∙ (sym (get_or-set_same (words_in t.table here_kind x) (slot_column slots slot) word 0 (row_words-inside (columns t.table.width) slots gaps (column t.table (row_in x.word) 0) slot word (items_in t.table here_kind x) (some_slots t.table.width here_kind) (omega (arith, length-items)) (omega (arith, length-items, row.count.most))))
+      ∙ (sym (get_or-set_same (words_in t.table here_kind x) (slot_column slots slot) word 0 (row_words-inside (columns t.table.width) slots gaps (column t.table (row_in x.word) 0) slot word (items_in t.table here_kind x) (some_slots_of t.table.width here_kind) (omega (arith, length-items)) (omega (arith, length-items, row.count.most))))
       ∙ (ap (λ (n : ℕ). slice_index (slice_set (words_in t.table here_kind x) (slot_column slots slot) word) n) (sym here) ∙ ap (λ (ws : List ℕ). slice_index ws c) (sym words_put)))))
       (λ (other : c ≡ slot_column slots slot → ⊥).
       other_column slots gaps base slot word t.table.words inside fits c other

@@ -1,12 +1,12 @@
 -- Two trees, where what is reached in one and what is taken make up what is reached in the other and what is gone.
-use Rattle.std.proofs.Common.{◌≡◌, ◌⊎◌, ℕ, zero, suc, ◌+◌, ◌≤◌, ◌==◌, ◌&&◌, Bool, true, refl, sym, ap, ◌∙◌, inl, inr, arith, eq-eqb}
+use Rattle.std.proofs.Common.{◌≡◌, ℕ, ◌+◌, ◌==◌, ◌&&◌, Bool, true, refl, sym, ap, ◌∙◌, arith, eq-eqb}
 use Rattle.std.proofs.lemmas.Bool.{and_parts, eqb-true}
 use Rattle.mt_layout.specs.Rows.{row_in}
 use Rattle.mt_layout.specs.declared.spans.Span.{Span}
 use Rattle.mt_rows.specs.Levels.{times, is_row_of}
 use Rattle.mt_rows.specs.Laws.{Tree, Stands}
 use Rattle.mt_rows.specs.Replacement.{root_of}
-use Rattle.mt_rows.proofs.Reached.{OnLevel, times_in, times_in_once, times_some, times_place, one_place}
+use Rattle.mt_rows.proofs.Reached.{OnLevel, times_some, times_place, one_place}
 
 -- what passes the one test passes the other
 abbrev pub Implies : (ℕ → Span → Bool) → (ℕ → Span → Bool) → Type 0
@@ -43,24 +43,8 @@ same_place k n x y at =
       word = eqb-true y.word x.word d.1;
     }
 
-none_or_some : (n : ℕ) → (n ≡ 0) ⊎ (1 ≤ n)
-none_or_some zero = inl refl
-none_or_some (suc n) = inr (omega arith)
-
 module _ (t t' : Tree) (h h' : ℕ) (stands : Stands t h) (stands' : Stands t' h') (taken gone : (ℕ → Span → Bool) → ℕ)
     (rows : (p : ℕ → Span → Bool) → times p t.table h (root_of t) + taken p ≡ times p t'.table h' (root_of t') + gone p) where
-  -- a row that is reached then was reached, or is taken
-  pub was_or_taken : (row : ℕ) → 1 ≤ times_in t' h' stands' row → (1 ≤ times_in t h stands row) ⊎ (1 ≤ taken (is_row_of row))
-  was_or_taken row some = let all = rows (is_row_of row) in elim (none_or_some (times_in t h stands row)) [ inl none ↦ inr (omega arith) | inr was ↦ inl was ]
-
-  -- a row that was reached and is not then is gone
-  pub is_gone : (row : ℕ) → 1 ≤ times_in t h stands row → times_in t' h' stands' row ≡ 0 → 1 ≤ gone (is_row_of row)
-  is_gone row was not = let all = rows (is_row_of row) in omega arith
-
-  -- a row that is gone and not taken is not reached then
-  pub gone_is : (row : ℕ) → 1 ≤ gone (is_row_of row) → taken (is_row_of row) ≡ 0 → times_in t' h' stands' row ≡ 0
-  gone_is row some untaken = let all = rows (is_row_of row) in let once = times_in_once t h stands row in omega arith
-
   -- a row of which as much is taken as is gone stands where it stood
   pub stays_in_place : (k k' : ℕ) (x x' : Span) → OnLevel t.table h (root_of t) k x → OnLevel t'.table h' (root_of t') k' x' → row_in x.word ≡ row_in x'.word
       → ((p : ℕ → Span → Bool) → Implies p (is_row_of (row_in x.word)) → taken p ≡ gone p) → (k' ≡ k) × (x'.first ≡ x.first) × (x'.last ≡ x.last) × (x'.word ≡ x.word)

@@ -1,16 +1,18 @@
 -- What stands below a slot is replaced by one store of the slot's word.
 use Rattle.std.proofs.Common.{◌≡◌, ◌⊎◌, ⊎_elim, ℕ, zero, suc, ◌+◌, ◌≤◌, ◌<◌, List, [], ◌∷◌, ◌++◌, Bool, refl, sym, ap, ◌∙◌, subst, arith}
 use Rattle.mt_base.specs.declared.ranges.Range.{Range}
+use Rattle.mt_base.proofs.Lists.{all_map}
 use Rattle.mt_layout.specs.Rows.{row_in}
 use Rattle.mt_layout.specs.declared.spans.Span.{Span}
+use Rattle.mt_layout.proofs.SpanLists.{fills_split}
 use Rattle.mt_rows.specs.Spans.{Table}
 use Rattle.mt_rows.specs.Levels.{level, map_of, Levels, tally, times}
 use Rattle.mt_rows.specs.Laws.{Tree, HasWords, IsRow, Stands, top_of}
 use Rattle.mt_rows.specs.Replacement.{root_of, IsSlotAt, with_slot, with_child, IsNewBelow, ReplacesChild}
-use Rattle.mt_rows.proofs.Lists.{all_map, levels_map}
+use Rattle.mt_rows.proofs.Lists.{levels_map}
 use Rattle.mt_rows.proofs.Joins.{Shared, map_of-append, times-append, levels_join, levels_front, levels_back, map_of_shared, times_shared, levels_shared}
 use Rattle.mt_rows.proofs.Once.{times_nowhere}
-use Rattle.mt_rows.proofs.Between.{Between, fills_split, map_between}
+use Rattle.mt_rows.proofs.Between.{Between, map_between}
 use Rattle.mt_rows.proofs.Heights.{times_upper, level_next, map_of_split, times_split, levels_lower, levels_both, levels_pair, upper_more, times_upper_more, times_upper_shared}
 use Rattle.mt_rows.proofs.RowLaws.{row_put}
 use Rattle.mt_rows.proofs.SlotStore as store
@@ -18,7 +20,7 @@ use Rattle.mt_rows.proofs.SlotStore as store
 three_maps : (t : Table) (k : ℕ) (front back : List Span) (x : Span) → map_of t k (front ++ (x ∷ back)) ≡ map_of t k front ++ (map_of t k (x ∷ []) ++ map_of t k back)
 three_maps t k front back x = map_of-append t k front (x ∷ back) ∙ ap (λ (m : List Range). map_of t k front ++ m) (map_of-append t k (x ∷ []) back)
 
-three_times : (p : ℕ → Span → Bool) (t : Table) (k : ℕ) (front back : List Span) (x : Span) → times p t k (front ++ (x ∷ back)) ≡ times p t k front + (times p t k (x ∷ []) + times p t k back)
+pub three_times : (p : ℕ → Span → Bool) (t : Table) (k : ℕ) (front back : List Span) (x : Span) → times p t k (front ++ (x ∷ back)) ≡ times p t k front + (times p t k (x ∷ []) + times p t k back)
 three_times p t k front back x = times-append p t k front (x ∷ back) ∙ ap (λ (n : ℕ). times p t k front + n) (times-append p t k (x ∷ []) back)
 
 module _ (t : Tree) (h k depth slot word : ℕ) (row child : Span) (has : HasWords t) (stands : Stands t h) (height : h ≡ depth + suc k) (at : IsSlotAt t depth row slot child) where

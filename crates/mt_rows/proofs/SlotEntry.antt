@@ -7,10 +7,11 @@ use Rattle.mt_base.specs.Entry.{reserved}
 use Rattle.mt_base.specs.Map.{over}
 use Rattle.mt_layout.specs.declared.spans.Span.{Span}
 use Rattle.mt_layout.specs.Spans.{leaf_range}
+use Rattle.mt_layout.proofs.SpanLists.{fills_le, fills_split}
 use Rattle.mt_rows.specs.Levels.{map_of, tally, times}
 use Rattle.mt_rows.specs.Laws.{Tree, HasWords, IsRow, Stands, top_of}
 use Rattle.mt_rows.specs.Replacement.{root_of, IsSlotAt, with_slot, with_child, ReplacesEntry}
-use Rattle.mt_rows.proofs.Between.{fills_split, leaf_between, over_between, over_exact}
+use Rattle.mt_rows.proofs.Between.{leaf_between, over_between, over_exact}
 use Rattle.mt_rows.proofs.Heights.{map_of_split, times_split, levels_both, times_upper_shared}
 use Rattle.mt_rows.proofs.RowLaws.{leaf_put}
 use Rattle.mt_rows.proofs.SlotStore as store
@@ -76,6 +77,12 @@ module _ (t : Tree) (h slot entry : ℕ) (row item : Span) (has : HasWords t) (s
       ∙ (over_between 0 item.first (item.last + 1) (top_of t + 1) item.first item.last entry front (record { first = item.first; last = item.last; entry = item.word } ∷ []) back
       (leaf_between 0 item.first (store.front_below s) apart.0) (leaf_between (item.last + 1) (top_of t + 1) (store.back_below s) apart.2) (omega arith) order (omega arith)
       ∙ (ap (λ (m : List Range). front ++ (m ++ back)) (over_exact item.first item.last entry item.word order (ne_eqb entry 0 new)) ∙ sym after))
+
+  pub within : item.last ≤ top_of t
+  within =
+      let apart = fills_split 0 (top_of t + 1) (store.front_below s) item (store.back_below s) (store.below_fills s) in
+      let behind = fills_le (item.last + 1) (top_of t + 1) (store.back_below s) apart.2 in
+      omega arith
 
   pub order : item.first ≤ item.last
   order = (fills_split 0 (top_of t + 1) (store.front_below s) item (store.back_below s) (store.below_fills s)).1

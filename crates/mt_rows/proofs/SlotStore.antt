@@ -3,6 +3,7 @@ use Rattle.std.proofs.Common.{◌≡◌, ℕ, zero, suc, ◌+◌, ◌<◌, ◌�
 use Rattle.std.specs.List.{AllByRecursion}
 use Rattle.std.proofs.lemmas.Bool.{eqb-false}
 use Rattle.std.proofs.lemmas.Option.{slice_get_within}
+use Rattle.mt_base.proofs.Lists.{all_map, all_front, all_back, all_join, get_parts}
 use Rattle.mt_layout.specs.Rows.{row_in}
 use Rattle.mt_layout.specs.declared.spans.Span.{Span}
 use Rattle.mt_layout.specs.Spans.{Fills}
@@ -10,12 +11,12 @@ use Rattle.mt_rows.specs.Spans.{spans_in, root_span}
 use Rattle.mt_rows.specs.Levels.{expand, level, one_if, tally, times, is_row_of, SameSpans}
 use Rattle.mt_rows.specs.Laws.{Tree, HasWords, IsRow, Stands, top_of}
 use Rattle.mt_rows.specs.Replacement.{root_of, IsSlotAt, with_slot, with_child}
-use Rattle.mt_rows.proofs.Lists.{all_map, all_front, all_back, all_join, tally-append, expand-append, Filled, expand_fills}
+use Rattle.mt_rows.proofs.Lists.{tally-append, expand-append, Filled, expand_fills}
 use Rattle.mt_rows.proofs.Joins.{Shared, expand_shared}
 use Rattle.mt_rows.proofs.Once.{once, tally_nowhere}
 use Rattle.mt_rows.proofs.Frames.{same_spans}
 use Rattle.mt_rows.proofs.Heights.{Upper, times_upper, levels_upper, level_rows, level_shared, upper_map, upper_both, upper_shared, upper_nowhere, times_split, level_fills, all_both}
-use Rattle.mt_rows.proofs.SlotWords.{put_span, put_span_at, get_parts}
+use Rattle.mt_rows.proofs.SlotWords.{put_span, put_span_at}
 use Rattle.mt_rows.proofs.RowLaws.{row_keeps, others_keep, spans_put}
 
 -- a store of a word in a slot of a row that stands so many levels below the root, and `low` levels above the leaves

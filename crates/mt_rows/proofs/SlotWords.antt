@@ -1,7 +1,6 @@
 -- The word of one slot is stored: the item in that slot has another word, and nothing else of its row changes.
-use Rattle.std.proofs.Common.{◌≡◌, ◌≢◌, ℕ, zero, suc, ◌+◌, ◌-◌, ◌<◌, ◌≤◌, ◌==◌, List, [], ◌∷◌, ◌++◌, Bool, true, false, Some, length, map, take, replicate, refl, sym, ap, ◌∙◌, subst, ⊎_elim, arith, length-append, length-take, length-set, get_or-set_other, get_or-set_same}
+use Rattle.std.proofs.Common.{◌≡◌, ◌≢◌, ℕ, zero, suc, ◌+◌, ◌-◌, ◌<◌, ◌≤◌, ◌==◌, List, [], ◌∷◌, ◌++◌, Bool, true, false, length, map, take, replicate, refl, sym, ap, ◌∙◌, subst, ⊎_elim, arith, length-append, length-take, length-set, get_or-set_other, get_or-set_same}
 use Rattle.std.specs.Prelude.{if◌then◌else◌, nat_le, slice_index, slice_set}
-use Rattle.std.specs.List.{slice_get}
 use Rattle.std.proofs.lemmas.Bool.{cases_eq}
 use Rattle.std.proofs.lemmas.List.{length-map, length-replicate, set-append_left, set-append_right}
 use Rattle.mt_layout.specs.declared.items.Item.{Item}
@@ -9,6 +8,8 @@ use Rattle.mt_layout.specs.declared.spans.Span.{Span}
 use Rattle.mt_layout.specs.Columns.{pivot_column, slot_column, gap_column, gap_at, item_at, items_from, items_at, padded_to, pivot_words, slot_words, gap_words, row_words}
 use Rattle.mt_layout.specs.Spans.{spans_from}
 use Rattle.mt_layout.proofs.Reading.{gap_at-none, gap_at-some}
+-- this stands below; here it is for the crates above
+pub use Rattle.mt_layout.proofs.SpanLists.{length-spans_from}
 
 -- ---- the word of one item of a list
 
@@ -37,19 +38,10 @@ put_item-word n word [] = refl
 put_item-word zero word (x ∷ xs) = refl
 put_item-word (suc n) word (x ∷ xs) = ap (λ (l : List ℕ). x.word ∷ l) (put_item-word n word xs)
 
-pub length-put_item : (n word : ℕ) (xs : List Item) → length (put_item n word xs) ≡ length xs
-length-put_item n word [] = refl
-length-put_item zero word (x ∷ xs) = refl
-length-put_item (suc n) word (x ∷ xs) = ap suc (length-put_item n word xs)
-
 pub spans_from-put : (n word first : ℕ) (xs : List Item) → spans_from first (put_item n word xs) ≡ put_span n word (spans_from first xs)
 spans_from-put n word first [] = refl
 spans_from-put zero word first (x ∷ xs) = refl
 spans_from-put (suc n) word first (x ∷ xs) = ap (λ (l : List Span). record { first = first; last = x.last; word = x.word } ∷ l) (spans_from-put n word (x.last + 1) xs)
-
-pub length-spans_from : (first : ℕ) (xs : List Item) → length (spans_from first xs) ≡ length xs
-length-spans_from first [] = refl
-length-spans_from first (x ∷ xs) = ap suc (length-spans_from (x.last + 1) xs)
 
 pub put_span_at : (n word : ℕ) (front back : List Span) (x : Span) → length front ≡ n → put_span n word (front ++ (x ∷ back)) ≡ front ++ (record x { word = word } ∷ back)
 put_span_at n word front back x at = ap (λ (k : ℕ). put_span k word (front ++ (x ∷ back))) (sym at) ∙ here front
@@ -57,11 +49,6 @@ put_span_at n word front back x at = ap (λ (k : ℕ). put_span k word (front ++
     here : (front : List Span) → put_span (length front) word (front ++ (x ∷ back)) ≡ front ++ (record x { word = word } ∷ back)
     here [] = refl
     here (y ∷ front) = ap (λ (l : List Span). y ∷ l) (here front)
-
-pub get_parts : {A : Type 0} (xs : List A) (i : ℕ) (x : A) → slice_get xs i ≡ Some x → (front : List A) × (back : List A) × (xs ≡ front ++ (x ∷ back)) × (length front ≡ i)
-get_parts [] i x at = absurd (cc)
-get_parts (y ∷ xs) zero x at = let same : y ≡ x = cc in ([], xs, ap (λ z. z ∷ xs) same, refl)
-get_parts (y ∷ xs) (suc i) x at = let parts = get_parts xs i x at in (y ∷ parts.0, parts.1, ap (λ l. y ∷ l) parts.2, ap suc parts.3)
 
 -- ---- the items that are read off the words
 

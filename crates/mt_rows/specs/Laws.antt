@@ -1,7 +1,7 @@
 -- The eight laws of lawful words, each of a row that covers first..last at a height; leaves have the height 0.
 -- Source: the kernel's lib/maple_tree.c, mt_validate and its parts; that a leaf never ends with a hole below the
 -- greatest index, and the least numbers of items, are this project's.
-use Rattle.std.specs.Prelude.{◌≡◌, ◌≢◌, ◌⊎◌, ℕ, zero, suc, ◌+◌, ◌-◌, ◌*◌, ◌<◌, ◌≤◌, ◌==◌, ◌&&◌, List, [], ◌∷◌, Some, Bool, false, length, slice_index, if◌then◌else◌}
+use Rattle.std.specs.Prelude.{◌≡◌, ◌≢◌, ◌⊎◌, ℕ, zero, suc, ◌+◌, ◌*◌, ◌<◌, ◌≤◌, ◌==◌, ◌&&◌, List, [], ◌∷◌, Some, Bool, false, length, slice_index, if◌then◌else◌}
 use Rattle.std.specs.List.{AllByRecursion, flat_map}
 use Rattle.mt_base.specs.declared.kinds.Kind.{Kind}
 use Rattle.mt_base.specs.Entry.{reserved}

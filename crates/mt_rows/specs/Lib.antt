@@ -1,6 +1,8 @@
 pub mod Laws
 pub mod Levels
+pub mod Memory
 pub mod Plain
+pub mod PlainWhole
 pub mod Publish
 pub mod Replacement
 pub mod Sheet

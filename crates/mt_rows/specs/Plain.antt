@@ -1,5 +1,5 @@
 -- What rows in memory stand for. Source: this project's own.
-use Rattle.std.specs.Prelude.{◌≡◌, ℕ, ◌+◌, ◌-◌, ◌*◌, ◌^◌, ◌<◌, ◌≤◌, Bool, true, false, Option, Some, None, List, [], zero, suc, length, map, replicate, nat_le, nat_lt, slice_index_or, slice_set, if◌then◌else◌}
+use Rattle.std.specs.Prelude.{◌≡◌, ◌≢◌, ℕ, ◌+◌, ◌-◌, ◌*◌, ◌^◌, ◌<◌, ◌≤◌, Bool, true, false, Option, Some, None, List, [], zero, suc, length, map, replicate, nat_le, nat_lt, slice_index_or, slice_set, if◌then◌else◌}
 use Rattle.std.specs.List.{fold, slice_range}
 use Rattle.mt_base.specs.declared.widths.Width.TheVariants.{Long}
 use Rattle.mt_base.specs.Width.{columns, most_rows}
@@ -13,9 +13,9 @@ use Rattle.mt_rows.specs.declared.rows.Life.{Life}
 use Rattle.mt_rows.specs.declared.rows.Life.TheVariants as lives
 use Rattle.mt_rows.specs.declared.plain.Fate.{Fate}
 use Rattle.mt_rows.specs.declared.plain.Fate.TheVariants.{New, Draft, Live, Buried}
-use Rattle.mt_rows.specs.declared.plain.PlainRows.TheInside.{Inside}
+use Rattle.mt_rows.specs.declared.plain.State.{State}
 use Rattle.mt_rows.specs.Levels.{one_if}
-use Rattle.mt_rows.specs.Sheet.{Sheet, IsPlace, is_buried, word_at}
+use Rattle.mt_rows.specs.Sheet.{Rooted, Sheet, IsPlace, is_buried, word_at}
 
 -- A row that a call buried is dead once that call has published or ended, as the first `past` calls have.
 abbrev pub life_in : ℕ → Fate → Life
@@ -30,13 +30,13 @@ buried_in past Draft = false
 buried_in past Live = false
 buried_in past (Buried call) = nat_lt past call
 
-abbrev pub past_of : Inside → ℕ
+abbrev pub past_of : State → ℕ
 past_of p = p.ended + one_if p.published
 
-abbrev pub fate_of : Inside → ℕ → Fate
+abbrev pub fate_of : State → ℕ → Fate
 fate_of p row = slice_index_or p.fates.items row New
 
-abbrev pub sheet_of : Inside → Sheet
+abbrev pub sheet_of : State → Sheet
 sheet_of p = record {
   tree = record { rows = p.rows; table = record { width = p.width; words = p.words.items }; root = p.root };
   ended = p.ended;
@@ -57,8 +57,8 @@ sheet_of p = record {
 }
 
 -- there is a word for each column, and a fate for each row, and those before the first that no row has; no row was buried by a
--- call to come
-pub record IsPlain (p : Inside) : Type 0 where
+-- call to come; and before the first call an empty tree has no live row
+pub record IsPlain (p : State) : Type 0 where
   pub few : p.rows ≤ most_rows
   pub long : p.width ≡ Long
   pub words : length p.words.items ≡ columns p.width * (first_row + p.rows)
@@ -68,6 +68,7 @@ pub record IsPlain (p : Inside) : Type 0 where
   pub room : p.in_flight ≡ true → p.ended < 2 ^ 62 - 1
   pub calm : p.in_flight ≡ false → p.published ≡ false
   pub buried : (row call : ℕ) → fate_of p row ≡ Buried call → (first_row ≤ row) × (1 ≤ call) × (call ≤ p.ended + one_if p.in_flight)
+  pub fresh : (row : ℕ) → p.ended ≡ 0 → p.in_flight ≡ false → p.root ≡ 0 → fate_of p row ≢ Live
 
 -- so many rows, none of which was used, and no call
 abbrev pub new_sheet : ℕ → Sheet

@@ -194,7 +194,8 @@ pub record MayPlant (kind : Kind) (s : Sheet) (root : ℕ) : Type 0 where
   pub told : IsTold s.kind kind
   pub lawful : IsLawfulOf (with_published s.tree Root root) kind
 
--- the rows that are reached from the root word are live, and of the others all are as they were
+-- the rows that are reached from the root word are live, and they alone; all others are as they were
 pub record Planted (s s' : Sheet) (root : ℕ) : Type 0 where
   pub rest : s' ≡ record s { tree = with_published s.tree Root root; lives = s'.lives; opened = length (reached_in s.tree.table root) }
   pub lives : (row : ℕ) → first_row ≤ row → row < first_row + s.tree.rows → life_of s'.lives row ≡ (if is_reached s'.tree row then Live else life_of s.lives row)
+  pub live : LiveAreReached s'.tree s'.lives

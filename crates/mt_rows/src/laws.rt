@@ -7,18 +7,19 @@ ghost use Rattle.mt_base.specs.declared.replies.Reply.TheVariants as reply;
 ghost use Rattle.mt_base.specs.declared.kinds.Kind.{Kind};
 ghost use Rattle.mt_base.specs.Entry.{reserved};
 ghost use Rattle.mt_base.specs.Map.{IsMap};
-ghost use Rattle.mt_base.specs.Width.{columns};
+ghost use Rattle.mt_base.specs.Width.{columns, deepest, kind_width, most_rows};
 ghost use Rattle.mt_layout.specs.declared.spans.Span.{Span};
 ghost use Rattle.mt_layout.specs.Spans.{Fills};
 ghost use Rattle.mt_layout.specs.Rows.{row_in};
+ghost use Rattle.mt_layout.specs.Sizes.{slots_of};
 ghost use Rattle.mt_layout.specs.Columns.{slot_column};
 ghost use Rattle.mt_rows.specs.declared.rows.Place.TheVariants.{Slot};
-ghost use Rattle.mt_rows.specs.Spans.{Table, slots_of};
+ghost use Rattle.mt_rows.specs.Spans.{Table};
 ghost use Rattle.mt_rows.specs.Levels.{map_of, Levels, tally, times, is_row_of, SameColumns, SameSpans};
-ghost use Rattle.mt_rows.specs.Trees.{ranges_of, rows_of, height_of, map_in, reached_in, deepest};
+ghost use Rattle.mt_rows.specs.Trees.{ranges_of, rows_of, height_of, map_in, reached_in};
 ghost use Rattle.mt_rows.specs.Laws.{Tree, IsRow, IsTree, Stands, HasWords, top_of, kind_at};
 ghost use Rattle.mt_rows.specs.Sheet.{Sheet, IsPlace, IsWhole, drafted, after_bury, tended};
-ghost use Rattle.mt_rows.specs.Publish.{tree_as, AreOfKind, LiveAreReached, NoneBuried, MayPublish};
+ghost use Rattle.mt_rows.specs.Publish.{tree_as, IsTold, LiveAreReached, NoneBuried, MayPublish};
 ghost use Rattle.mt_rows.specs.Replacement.{root_of, IsSlotAt, with_slot, with_child, IsNewBelow, ReplacesChild, ReplacesEntry};
 
 /// What stands below a row by depth and by levels is the same: the ranges, how often each row is reached, and the height.
@@ -39,10 +40,10 @@ pub fn rows_not_reached_do_not_count()
     ensures { (t t' : Table) (depth : ℕ) (x : Span) → AllByRecursion (SameColumns t t' (columns t.width)) (rows_of t depth x) → ranges_of t' depth x ≡ ranges_of t depth x }
 {}
 
-/// A tree stands for a map, and an empty one for the empty map.
+/// A tree stands for a map of its kind, and an empty one for the empty map.
 pub fn words_stand_for_maps()
     ensures empty { (t : Table) → map_in t 0 ≡ [] }
-    ensures tree { (t : Tree) (h : ℕ) → Stands t h → IsMap (map_in t.table t.root) }
+    ensures tree { (t : Tree) (h : ℕ) → Stands t h → t.table.width ≡ kind_width t.kind → IsMap t.kind (map_in t.table t.root) }
 {}
 
 /// Rows of a height that stand side by side stand for the map of the first, and behind it that of the others.
@@ -91,7 +92,7 @@ pub fn writes_leave_other_rows()
 
 /// A store of an entry over just the indexes of a range may be published by one store of its slot, and takes no row.
 pub fn an_exact_store_may_be_published()
-    ensures { (kind : Kind) (s : Sheet) (h slot entry row col : ℕ) (leaf item : Span) → IsWhole s → s.in_flight ≡ true → s.published ≡ false → LiveAreReached s.tree s.lives → NoneBuried s.tree.rows s.buried → AreOfKind s.kind s.tree.table.width kind
+    ensures { (kind : Kind) (s : Sheet) (h slot entry row col : ℕ) (leaf item : Span) → IsWhole s → s.in_flight ≡ true → s.published ≡ false → LiveAreReached s.tree s.lives → NoneBuried s.tree.rows s.buried → IsTold s.kind kind → s.tree.table.width ≡ kind_width kind
         → Stands (tree_as kind s.tree) h → IsSlotAt (tree_as kind s.tree) h leaf slot item → row ≡ row_in leaf.word → col ≡ slot_column (slots_of s.tree.table.width (kind_at kind 0)) slot
         → item.word ≢ 0 → entry ≢ 0 → reserved entry ≡ false
         → MayPublish kind s (Slot row col) entry (Store item.first item.last entry) reply.Ok }
@@ -99,7 +100,7 @@ pub fn an_exact_store_may_be_published()
 
 /// A tree of as many rows as can be named has nine levels at the most.
 pub fn a_tree_has_nine_levels_at_most()
-    ensures { (t : Tree) (h : ℕ) → t.rows ≤ 65504 → Levels (IsRow t) t.table h (root_of t) → h < deepest }
+    ensures { (t : Tree) (h : ℕ) → t.rows ≤ most_rows → Levels (IsRow t) t.table h (root_of t) → h < deepest }
 {}
 
 /// A tree has at most half as many rows as ranges, rounded down, and two more; and with so many levels it has so many

@@ -5,11 +5,9 @@ pub mod laws;
 mod plain;
 pub mod plain_trees;
 mod rows;
-mod sizes;
 
 pub use plain::PlainRows;
 pub use rows::{Life, Place, Rows, Scan};
-pub use sizes::slots;
 
 #[cfg(test)]
 mod tests;

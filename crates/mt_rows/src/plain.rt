@@ -1,24 +1,18 @@
 ghost use Rattle.std.specs.Prelude.{◌≡◌, ◌+◌, ◌*◌, ◌<◌, ◌≤◌, IfOk, length, slice_index_or, slice_set, if◌then◌else◌};
 ghost use Rattle.std.specs.List.{fold};
 ghost use Rattle.mt_base.specs.declared.widths.Width.TheVariants.{Long};
-ghost use Rattle.mt_base.specs.Width.{columns};
+ghost use Rattle.mt_base.specs.Width.{columns, deepest, most_rows};
+ghost use Rattle.mt_layout.specs.Sizes.{first_row};
 ghost use Rattle.mt_layout.specs.Rows.{named_row};
-ghost use Rattle.mt_rows.specs.Trees.{rows_of, deepest};
+ghost use Rattle.mt_rows.specs.Trees.{rows_of};
 ghost use Rattle.mt_rows.specs.Plain as defined;
-ghost use Rattle.mt_rows.specs.Plain.{names_of, enlivened, names_buried};
+ghost use Rattle.mt_rows.specs.Plain.{IsPlain, names_of, enlivened, names_buried};
 
 use crate::plain_trees::spans_in;
 use crate::rows::{Place, Rows, Scan};
-use mt_base::{Call, NoMemory, Reply, Width, cols, top};
-use mt_layout::{RowKind, Span, kind_of, parent_word, row_of};
+use mt_base::{Call, DEEPEST, NoMemory, Reply, Width, cols, top};
+use mt_layout::{FIRST_ROW, RowKind, Span, kind_of, parent_word, row_of, slots};
 use std::alloc::Global;
-use std::marker::Model;
-
-/// Rows are numbered from here.
-const FIRST_ROW: usize = 16;
-
-/// No row stands deeper than this many levels.
-const DEEPEST: u32 = 9;
 
 /// What has become of a row.
 #[derive(Clone, Copy)]
@@ -30,9 +24,9 @@ enum Fate {
     Buried(u64),
 }
 
-/// Rows in memory that nobody else reads.
+/// What rows in memory keep.
 #[derive(Drop)]
-pub struct PlainRows {
+struct State {
     rows: u64,
     width: Width,
     words: Vec<u64>,
@@ -49,21 +43,16 @@ pub struct PlainRows {
     reads: u64,
 }
 
-impl Model for PlainRows {
-    ghost use Rattle.mt_rows.specs.Sheet.{Sheet};
-
-    ghost Value = { Sheet };
-
-    ghost use Rattle.mt_rows.specs.Plain.{sheet_of, IsPlain};
-
-    ghost view = { sheet_of };
-
-    ghost invariant = { IsPlain };
+/// Rows in memory that nobody else reads.
+#[derive(Drop)]
+pub struct PlainRows {
+    state: State,
+    ghost plain: { IsPlain state },
 }
 
 /// Where the word in this column of this row stands.
 fn place_of(width: Width, row: u32, col: u32) -> usize
-    requires row { row < 65520 }
+    requires row { row < first_row + most_rows }
     requires column { col < columns width }
     ensures { result ≡ columns width * row + col }
 {
@@ -118,10 +107,10 @@ fn names_in(words: &[u64], row: u32, kind: RowKind) -> &[u64]
     ensures { result.now ≡ names_of words.now row kind }
 {
     let base = cols(Width::Long) as usize * row as usize;
+    let slots = slots(Width::Long, kind) as usize;
     match kind {
         RowKind::Leaf => &words[..0],
-        RowKind::Inner => &words[base + 16..base + 32],
-        RowKind::Gapped => &words[base + 10..base + 20],
+        RowKind::Inner | RowKind::Gapped => &words[base + slots..base + 2 * slots],
     }
 }
 
@@ -152,26 +141,27 @@ fn levels_in_place_of(fates: &[Fate], past: u64, old: u64) -> u32
         return 0;
     };
     match fates.get(row as usize) {
-        Some(Fate::Buried(call)) if past < *call => DEEPEST,
+        Some(Fate::Buried(call)) if past < *call => DEEPEST as u32,
         _ => 0,
     }
 }
 
 impl PlainRows {
-    ghost use Rattle.std.specs.Prelude.{◌≡◌, ◌≤◌, IfOk, false, if◌then◌else◌};
+    ghost use Rattle.std.specs.Prelude.{◌≡◌, ◌≤◌, IfOk, true, false, if◌then◌else◌};
     ghost use Rattle.mt_base.specs.declared.kinds.Kind.{Kind};
-    ghost use Rattle.mt_rows.specs.Trees.{deepest};
+    ghost use Rattle.mt_base.specs.Width.{deepest, most_rows};
     ghost use Rattle.mt_rows.specs.Plain.{new_sheet, IsPlaceIn, opens};
+    ghost use Rattle.mt_rows.specs.Memory.{sheet_in};
     ghost use Rattle.mt_rows.specs.Publish.{MayPlant, Planted, with_published};
 
-    /// So many rows, none of which was ever used, and an empty tree. There are 65,504 rows at the most.
+    /// So many rows, none of which was ever used, and an empty tree. There are `MOST_ROWS` at the most.
     pub fn new(alloc: Global, rows: u64) -> Result<PlainRows, NoMemory>
-        requires { rows ≤ 65504 }
-        ensures { IfOk result (λ p. p ≡ new_sheet rows) }
+        requires { rows ≤ most_rows }
+        ensures { IfOk result (λ p. sheet_in p ≡ new_sheet rows) }
     {
         let width = Width::Long;
-        let numbers = FIRST_ROW + rows as usize;
-        Ok(PlainRows {
+        let numbers = FIRST_ROW as usize + rows as usize;
+        let state = State {
             rows,
             width,
             words: vec![in alloc; 0; cols(width) as usize * numbers]?,
@@ -186,45 +176,47 @@ impl PlainRows {
             scans: 0,
             scans_at_begin: 0,
             reads: 0,
-        })
+        };
+        Ok(PlainRows { state })
     }
 
     /// Sets the root word before the first call. The rows that are reached from it are live then.
     pub fn plant(&mut self, root: u64)
-        requires { (kind : Kind) × MayPlant kind self.old root }
-        ensures { Planted self.old self.new root }
+        requires { (kind : Kind) × MayPlant kind (sheet_in self.old) root }
+        ensures { Planted (sheet_in self.old) (sheet_in self.new) root }
     {
-        self.root = root;
+        self.state.root = root;
         let span = Span {
             first: 0,
-            last: top(self.width),
+            last: top(self.state.width),
             word: root,
         };
-        self.opened = settle(
-            self.words.as_slice(),
-            DEEPEST,
+        self.state.opened = settle(
+            self.state.words.as_slice(),
+            DEEPEST as u32,
             &span,
-            self.fates.as_mut_slice(),
+            self.state.fates.as_mut_slice(),
         );
     }
 
     /// Stores a word at a place, and says how many levels of drafts may be reached from it.
     fn store(&mut self, place: Place, word: u64) -> u32
-        requires place { IsPlaceIn self.old place }
-        requires before { self.old.published ≡ false }
-        ensures rest { self.new ≡ record self.old { tree = with_published self.old.tree place word } }
-        ensures levels { result ≡ (if opens self.old place then deepest else 0) }
+        requires place { IsPlaceIn (sheet_in self.old).tree place }
+        requires in_flight { (sheet_in self.old).in_flight ≡ true }
+        requires before { (sheet_in self.old).published ≡ false }
+        ensures rest { sheet_in self.new ≡ record (sheet_in self.old) { tree = with_published (sheet_in self.old).tree place word } }
+        ensures levels { result ≡ (if opens (sheet_in self.old) place then deepest else 0) }
     {
         match place {
             Place::Root => {
-                self.root = word;
-                DEEPEST
+                self.state.root = word;
+                DEEPEST as u32
             }
             Place::Slot { row, col } => {
-                let slot = place_of(self.width, row, col);
-                let old = self.words[slot];
-                self.words[slot] = word;
-                levels_in_place_of(self.fates.as_slice(), self.ended, old)
+                let slot = place_of(self.state.width, row, col);
+                let old = self.state.words[slot];
+                self.state.words[slot] = word;
+                levels_in_place_of(self.state.fates.as_slice(), self.state.ended, old)
             }
         }
     }
@@ -233,81 +225,85 @@ impl PlainRows {
 impl Rows for PlainRows {
     ghost use Rattle.std.specs.Prelude.{◌≡◌, ◌≤◌, None, min};
     ghost use Rattle.mt_rows.specs.Sheet.{scanned};
+    ghost use Rattle.mt_rows.specs.Memory.{sheet_in};
+    ghost use Rattle.mt_rows.specs.PlainWhole.{plain_whole};
 
-    ghost sheet = { λ s. s };
+    ghost sheet = { sheet_in };
+
+    ghost whole = { λ p. plain_whole p.state p.plain };
 
     fn size(&self) -> u64 {
-        self.rows
+        self.state.rows
     }
 
     fn width(&self) -> Width {
-        self.width
+        self.state.width
     }
 
     fn load(&mut self, row: u32, col: u32) -> u64 {
-        self.reads = self.reads.saturating_add(1);
-        self.words[place_of(self.width, row, col)]
+        self.state.reads = self.state.reads.saturating_add(1);
+        self.state.words[place_of(self.state.width, row, col)]
     }
 
     fn root(&mut self) -> u64 {
-        self.reads = self.reads.saturating_add(1);
-        self.root
+        self.state.reads = self.state.reads.saturating_add(1);
+        self.state.root
     }
 
     fn begin(&mut self) -> u64 {
-        self.in_flight = true;
-        self.published = false;
-        self.scans_at_begin = self.scans;
-        self.ended + 1
+        self.state.in_flight = true;
+        self.state.published = false;
+        self.state.scans_at_begin = self.state.scans;
+        self.state.ended + 1
     }
 
     fn scan(&mut self) -> Scan
         // As of all rows.
-        ensures rest { self.new ≡ scanned self.old result self.new.cleared }
-        ensures kept { self.old.cleared ≤ self.new.cleared }
-        ensures cleared { min result.least self.old.ended ≤ self.new.cleared }
+        ensures rest { sheet_in self.new ≡ scanned (sheet_in self.old) result (sheet_in self.new).cleared }
+        ensures kept { (sheet_in self.old).cleared ≤ (sheet_in self.new).cleared }
+        ensures cleared { min result.least (sheet_in self.old).ended ≤ (sheet_in self.new).cleared }
 
         // Nobody else reads these rows.
         ensures found { result ≡ record { least = u64.MAX; by = None } }
     {
-        self.scan = Scan {
+        self.state.scan = Scan {
             least: u64::MAX,
             by: None,
         };
-        self.scans = self.scans.saturating_add(1);
-        self.cleared = self.ended;
-        self.scan
+        self.state.scans = self.state.scans.saturating_add(1);
+        self.state.cleared = self.state.ended;
+        self.state.scan
     }
 
     fn draft(&mut self, row: u32, col: u32, word: u64) {
-        self.words[place_of(self.width, row, col)] = word;
-        self.fates[row as usize] = Fate::Draft;
+        self.state.words[place_of(self.state.width, row, col)] = word;
+        self.state.fates[row as usize] = Fate::Draft;
     }
 
     fn bury(&mut self, row: u32) {
         // A dead row is its own parent.
-        self.words[place_of(self.width, row, 0)] = parent_word(row, 0);
-        self.fates[row as usize] = Fate::Buried(self.ended + 1);
+        self.state.words[place_of(self.state.width, row, 0)] = parent_word(row, 0);
+        self.state.fates[row as usize] = Fate::Buried(self.state.ended + 1);
     }
 
     fn tend(&mut self, row: u32, col: u32, word: u64) {
-        self.words[place_of(self.width, row, col)] = word;
+        self.state.words[place_of(self.state.width, row, col)] = word;
     }
 
     fn publish(&mut self, place: Place, word: u64, _call: &Call, _reply: &Reply) {
         let levels = self.store(place, word);
         enliven(
-            self.words.as_slice(),
+            self.state.words.as_slice(),
             levels,
             word,
-            self.fates.as_mut_slice(),
+            self.state.fates.as_mut_slice(),
         );
-        self.published = true;
+        self.state.published = true;
     }
 
     fn finish(&mut self, _call: &Call, _reply: &Reply) {
-        self.ended += 1;
-        self.in_flight = false;
-        self.published = false;
+        self.state.ended += 1;
+        self.state.in_flight = false;
+        self.state.published = false;
     }
 }

@@ -1,27 +1,24 @@
 //! What words stand for, as the definitions say it: slow, for the answers to be compared with.
 
-ghost use Rattle.std.specs.Prelude.{◌≡◌, ◌+◌, ◌-◌, ◌^◌, ◌<◌, ◌≤◌, [], ◌∷◌, ◌++◌, IfOk, length, slice_index};
+ghost use Rattle.std.specs.Prelude.{◌≡◌, ◌+◌, ◌-◌, ◌^◌, ◌<◌, ◌≤◌, [], ◌++◌, IfOk, length, slice_index};
 ghost use Rattle.std.specs.List.{flat_map};
 ghost use Rattle.mt_base.specs.declared.widths.Width.TheVariants.{Long};
-ghost use Rattle.mt_layout.specs.Columns.{gap_at, items_from};
+ghost use Rattle.mt_layout.specs.Columns.{items_from};
+ghost use Rattle.mt_layout.specs.Sizes.{slots_of, gaps_of, run_room};
 ghost use Rattle.mt_layout.specs.Spans.{spans_from, leaf_range};
 ghost use Rattle.mt_rows.specs.Spans as defined;
 ghost use Rattle.mt_rows.specs.Trees as trees;
 
 use arrayvec::ArrayVec;
-use mt_base::{NoMemory, Range, Width, cols, top};
-use mt_layout::{RowKind, Span, kind_of, row_of};
+use mt_base::{DEEPEST, NoMemory, Range, Width, cols, top};
+use mt_layout::{RUN_ROOM, RowKind, Span, kind_of, row_of, slots};
 use std::alloc::Global;
 
-/// No row stands deeper than this many levels.
-const DEEPEST: u32 = 9;
-
-/// Where a row's columns stand among the words, how many slots and gaps it has, and the last index that it covers.
+/// Where a row's columns stand among the words, its kind, and the last index that it covers.
 #[derive(Clone, Copy)]
 struct Columns {
     base: usize,
-    slots: usize,
-    gaps: usize,
+    kind: RowKind,
     last: u64,
 }
 
@@ -32,67 +29,48 @@ fn word_at(words: &[u64], at: usize) -> u64
     words.get(at).copied().unwrap_or(0)
 }
 
-/// The longest hole below the item in slot `i`, and 0 in rows without gaps.
-fn gap_in(words: &[u64], row: Columns, i: usize) -> u64
-    requires base { row.base < 2 ^ 32 }
-    requires slots { row.slots ≤ 16 }
-    requires slot { i < row.slots }
-    ensures { result ≡ gap_at row.slots row.gaps words.now row.base i }
-{
-    if row.gaps == 0 {
-        return 0;
-    }
-    word_at(words, row.base + (2 * row.slots + i))
-}
-
 /// Appends the spans of a row from slot `i` on, the first of which begins at `first`.
-fn push_spans(words: &[u64], row: Columns, i: usize, first: u64, spans: &mut ArrayVec<Span, 16>)
+fn push_spans(
+    words: &[u64],
+    row: Columns,
+    i: usize,
+    first: u64,
+    spans: &mut ArrayVec<Span, RUN_ROOM>,
+)
     requires base { row.base < 2 ^ 32 }
-    requires slots { row.slots ≤ 16 }
-    requires slot { i < row.slots }
-    requires room { length spans.old.items + (row.slots - i) ≤ 16 }
-    ensures { spans.new.items ≡ spans.old.items ++ spans_from first (items_from row.slots row.gaps words.now row.base row.last (row.slots - i) i) }
+    requires slot { i < slots_of Long row.kind }
+    requires room { length spans.old.items + (slots_of Long row.kind - i) ≤ run_room }
+    ensures { spans.new.items ≡ spans.old.items ++ spans_from first (items_from (slots_of Long row.kind) (gaps_of Long row.kind) words.now row.base row.last (slots_of Long row.kind - i) i) }
 {
-    let word = word_at(words, row.base + (row.slots + i));
-    let gap = gap_in(words, row, i);
-    if i + 1 == row.slots {
+    let slots = slots(Width::Long, row.kind) as usize;
+    let word = word_at(words, row.base + (slots + i));
+    if i + 1 == slots {
         spans.push(Span {
             first,
             last: row.last,
             word,
-            gap,
         });
         return;
     }
     let last = word_at(words, row.base + (1 + i));
-    spans.push(Span {
-        first,
-        last,
-        word,
-        gap,
-    });
+    spans.push(Span { first, last, word });
     if last < row.last {
         push_spans(words, row, i + 1, last + 1, spans);
     }
 }
 
 /// What stands in the row that a span names, and nothing where its word is no name.
-pub fn spans_in(words: &[u64], span: &Span) -> ArrayVec<Span, 16>
+#[tactic(auto, using(mt_layout::proofs::RowSizes::some_slots_of, mt_layout::proofs::RowSizes::sizes))]
+pub fn spans_in(words: &[u64], span: &Span) -> ArrayVec<Span, RUN_ROOM>
     ensures { result.items ≡ defined.spans_in (record { width = Long; words = words.now }) span.now }
 {
     let mut spans = ArrayVec::new();
     let (Some(row), Some(kind)) = (row_of(span.word), kind_of(span.word)) else {
         return spans;
     };
-    let (slots, gaps) = match kind {
-        RowKind::Leaf | RowKind::Inner => (16, 0),
-        RowKind::Gapped => (10, 10),
-    };
-    let base = cols(Width::Long) as usize * row as usize;
     let columns = Columns {
-        base,
-        slots,
-        gaps,
+        base: cols(Width::Long) as usize * row as usize,
+        kind,
         last: span.last,
     };
     push_spans(words, columns, 0, span.first, &mut spans);
@@ -205,7 +183,7 @@ pub fn map_in(alloc: Global, words: &[u64], root: u64) -> Result<Vec<Range>, NoM
     ensures { IfOk result (λ m. m.items ≡ trees.map_in (record { width = Long; words = words.now }) root) }
 {
     let mut ranges = Vec::new(alloc);
-    push_ranges(words, DEEPEST, &root_span(root), &mut ranges)?;
+    push_ranges(words, DEEPEST as u32, &root_span(root), &mut ranges)?;
     Ok(ranges)
 }
 
@@ -214,7 +192,7 @@ pub fn reached_in(alloc: Global, words: &[u64], root: u64) -> Result<Vec<u32>, N
     ensures { IfOk result (λ rows. rows.items ≡ trees.reached_in (record { width = Long; words = words.now }) root) }
 {
     let mut rows = Vec::new(alloc);
-    push_rows(words, DEEPEST, &root_span(root), &mut rows)?;
+    push_rows(words, DEEPEST as u32, &root_span(root), &mut rows)?;
     Ok(rows)
 }
 
@@ -222,5 +200,5 @@ pub fn reached_in(alloc: Global, words: &[u64], root: u64) -> Result<Vec<u32>, N
 pub fn height_in(words: &[u64], root: u64) -> u32
     ensures { result ≡ trees.height_in (record { width = Long; words = words.now }) root }
 {
-    height_of(words, DEEPEST, &root_span(root))
+    height_of(words, DEEPEST as u32, &root_span(root))
 }

@@ -1,5 +1,4 @@
 ghost use Rattle.std.specs.Prelude.{◌≡◌, ◌≤◌, ◌+◌, min};
-ghost use Rattle.mt_base.specs.Width.{columns};
 ghost use Rattle.mt_base.specs.declared.kinds.Kind.{Kind};
 ghost use Rattle.mt_rows.specs.Publish.{MayPublish, Published, MayFinish, finished};
 ghost use Rattle.mt_rows.specs.Sheet.{Sheet, IsWhole, IsPlace, word_at, loaded, MayBegin, begun, IsScan, scanned, IsFree, life_of, drafted, MayBury, after_bury, MayTend, tended};
@@ -41,8 +40,7 @@ pub trait Rows {
 
     /// The number of rows.
     fn size(&self) -> u64
-        ensures rows { result ≡ (sheet self.now).rows }
-        ensures whole { IsWhole (sheet self.now) };
+        ensures { result ≡ (sheet self.now).tree.rows };
 
     /// How wide the words are.
     fn width(&self) -> Width
@@ -65,9 +63,9 @@ pub trait Rows {
         ensures number { result ≡ (sheet self.old).ended + 1 }
         ensures rest { sheet self.new ≡ begun (sheet self.old) };
 
-    /// Loads every section word, and raises `cleared` by what was found.
+    /// Loads every section word, and raises `cleared` by what was found. Where nobody else reads, no section is open.
     fn scan(&mut self) -> Scan
-        ensures answer { IsScan result }
+        ensures answer { IsScan (sheet self.old).shared (sheet self.old).caller result }
         ensures rest { sheet self.new ≡ scanned (sheet self.old) result (sheet self.new).cleared }
         ensures kept { (sheet self.old).cleared ≤ (sheet self.new).cleared }
         ensures cleared { min result.least (sheet self.old).ended ≤ (sheet self.new).cleared };
@@ -99,4 +97,7 @@ pub trait Rows {
     fn finish(&mut self, call: &Call, reply: &Reply)
         requires { (kind : Kind) × MayFinish kind (sheet self.old) call.now reply.now }
         ensures { sheet self.new ≡ finished (sheet self.old) call.now reply.now };
+
+    // Every table of rows is whole.
+    ghost whole: { (rows : Self) → IsWhole (sheet rows) };
 }

@@ -1,6 +1,7 @@
 ghost use Rattle.std.specs.Prelude.{◌≡◌, slice_index};
 ghost use Rattle.std.specs.List.{fold, range_with_len};
 ghost use Rattle.mt_rows.specs.Sheet.{IsPlace, IsFree, life_of, drafted};
+ghost use Rattle.mt_rows.specs.Memory.{sheet_in};
 
 use crate::plain_trees::{height_in, map_in, reached_in};
 use crate::{Place, PlainRows, Rows, Scan};
@@ -129,9 +130,9 @@ fn rows_in_memory(rt: HostRuntime) -> Result<(), Fail> {
 
 /// Drafts each column of a row.
 fn draft_row(rows: &mut PlainRows, row: u32, words: &[u64; 32])
-    requires place { IsPlace rows.old.tree row 0 }
-    requires free { IsFree rows.old.cleared (life_of rows.old.lives row) }
-    ensures { rows.new ≡ fold (λ s col. drafted s row col (slice_index words.now col)) rows.old (range_with_len 0 32) }
+    requires place { IsPlace (sheet_in rows.old).tree row 0 }
+    requires free { IsFree (sheet_in rows.old).cleared (life_of (sheet_in rows.old).lives row) }
+    ensures { sheet_in rows.new ≡ fold (λ s col. drafted s row col (slice_index words.now col)) (sheet_in rows.old) (range_with_len 0 32) }
 {
     for col in 0..32 {
         rows.draft(row, col, words[col as usize]);
@@ -172,7 +173,6 @@ fn a_leaf_is_written_and_replaced(rt: HostRuntime) -> Result<(), Fail> {
         entry: 5,
     };
     assert_eq!(rt; rows.begin(), 1);
-    assert_eq!(rt; rows.size(), 2);
     draft_row(&mut rows, 16, &LONE);
     rows.publish(Place::Root, 4108, &first, &Reply::Ok);
     rows.finish(&first, &Reply::Ok);
@@ -183,7 +183,6 @@ fn a_leaf_is_written_and_replaced(rt: HostRuntime) -> Result<(), Fail> {
         entry: 7,
     };
     assert_eq!(rt; rows.begin(), 2);
-    assert_eq!(rt; rows.size(), 2);
     rows.publish(Place::Slot { row: 16, col: 17 }, 7, &exact, &Reply::Ok);
     rows.finish(&exact, &Reply::Ok);
 
@@ -193,7 +192,6 @@ fn a_leaf_is_written_and_replaced(rt: HostRuntime) -> Result<(), Fail> {
         entry: 8,
     };
     assert_eq!(rt; rows.begin(), 3);
-    assert_eq!(rt; rows.size(), 2);
     draft_row(&mut rows, 17, &NEXT);
     rows.bury(16);
     rows.publish(Place::Root, 4364, &more, &Reply::Ok);

@@ -1,6 +1,8 @@
 use Rattle.std.proofs.Common.{◌≡◌, ◌+◌, ◌*◌, ◌∙◌, ap, rules, map}
 use Rattle.std.specs.Prelude.{replicate}
 use Rattle.mt_base.specs.declared.widths.Width.TheVariants.{Long}
+use Rattle.mt_base.specs.Width.{columns}
+use Rattle.mt_layout.specs.Sizes.{first_row}
 use Rattle.mt_rows.specs.Plain.{new_sheet, life_in, buried_in}
 use Rattle.mt_rows.specs.declared.plain.Fate.TheVariants.{New}
 use Rattle.mt_rows.proofs.PlainFates.{map-replicate}
@@ -9,10 +11,10 @@ use Rattle.mt_rows.proofs.plain.PlainRows.new.Goals as goal
 pub returns : goal.returns
 returns c =
     let words = c.in_ok-vec.ensures.items_if_clones_equal (search rules) in
-    let fates : c.in_ok-vec-2.field-0.items ≡ replicate (16 + c.args.rows) New = c.in_ok-vec-2.ensures.items_if_clones_equal (search rules) in
-    let size : c.cols.result * (16 + c.args.rows) ≡ 32 * (16 + c.args.rows) = ap (λ n. n * (16 + c.args.rows)) c.cols.ensures in
+    let fates : c.in_ok-vec-2.field-0.items ≡ replicate (first_row + c.args.rows) New = c.in_ok-vec-2.ensures.items_if_clones_equal (search rules) in
+    let size : c.cols.result * (first_row + c.args.rows) ≡ columns Long * (first_row + c.args.rows) = ap (λ n. n * (first_row + c.args.rows)) c.cols.ensures in
     λ i. record (new_sheet c.args.rows) {
-      tree = record { table = record { width = Long; words = (words ∙ ap (λ n. replicate n 0) size) i }; root = 0 };
-      lives = (ap (map (life_in 0)) fates ∙ map-replicate (life_in 0) (16 + c.args.rows) New) i;
-      buried = (ap (map (buried_in 0)) fates ∙ map-replicate (buried_in 0) (16 + c.args.rows) New) i;
+      tree = record { rows = c.args.rows; table = record { width = Long; words = (words ∙ ap (λ n. replicate n 0) size) i }; root = 0 };
+      lives = (ap (map (life_in 0)) fates ∙ map-replicate (life_in 0) (first_row + c.args.rows) New) i;
+      buried = (ap (map (buried_in 0)) fates ∙ map-replicate (buried_in 0) (first_row + c.args.rows) New) i;
     }

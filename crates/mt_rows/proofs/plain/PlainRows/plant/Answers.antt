@@ -1,26 +1,27 @@
-use Rattle.std.proofs.Common.{◌≡◌, ◌∙◌, ap, length}
+use Rattle.std.proofs.Common.{◌≡◌, ◌∙◌, ap, length, refl}
 use Rattle.std.specs.Vec.{with_items}
 use Rattle.std.proofs.lemmas.List.{with_items_is}
-use Rattle.mt_rows.specs.declared.plain.PlainRows.TheInside.{Inside}
+use Rattle.mt_rows.specs.declared.plain.State.{State}
+use Rattle.mt_rows.specs.Memory.{sheet_in}
 use Rattle.mt_rows.proofs.PlainPlant.{settled, planted_plain, planted_is, reached_as}
 use Rattle.mt_rows.proofs.plain.PlainRows.plant.Goals as goal
 
 pub invariant_of-self : goal.invariant_of-self
 invariant_of-self c =
-    let p = c.self.inside in
-    let q : Inside = record p { fates = with_items p.fates c.settle-self-inside.new.fates } in
+    let p = c.args.self.now.state in
+    let q : State = record p { fates = with_items p.fates c.settle-self.new.fates } in
     let rows = reached_as p.width p.words.items c.as_slice.result.now c.args.root c.top.result c.as_slice.ensures.value c.top.ensures in
-    let count = c.settle-self-inside.ensures.count ∙ ap length rows in
-    let kept : q.fates.items ≡ c.settle-self-inside.new.fates = with_items_is p.fates c.settle-self-inside.new.fates (c.settle-self-inside.auto.fates ∙ c.as_mut_slice.ensures.len) in
-    let fates = kept ∙ (c.settle-self-inside.ensures.lives ∙ (λ i. settled (c.as_mut_slice.ensures.value i) (rows i))) in
-    planted_plain p q c.args.self.now c.requires.0 c.args.root c.settle-self-inside.result c.self.invariant c.self.view_is c.requires.1 count fates
+    let count = c.settle-self.ensures.count ∙ ap length rows in
+    let kept : q.fates.items ≡ c.settle-self.new.fates = with_items_is p.fates c.settle-self.new.fates (c.settle-self.auto.fates ∙ c.as_mut_slice.ensures.len) in
+    let fates = kept ∙ (c.settle-self.ensures.lives ∙ (λ i. settled (c.as_mut_slice.ensures.value i) (rows i))) in
+    record { plain = planted_plain p q (sheet_in c.args.self.now) c.requires.0 c.args.root c.settle-self.result c.args.self.now.plain refl c.requires.1 count fates }
 
 pub returns : goal.returns
 returns c =
-    let p = c.self.inside in
-    let q : Inside = record p { fates = with_items p.fates c.settle-self-inside.new.fates } in
+    let p = c.args.self.now.state in
+    let q : State = record p { fates = with_items p.fates c.settle-self.new.fates } in
     let rows = reached_as p.width p.words.items c.as_slice.result.now c.args.root c.top.result c.as_slice.ensures.value c.top.ensures in
-    let count = c.settle-self-inside.ensures.count ∙ ap length rows in
-    let kept : q.fates.items ≡ c.settle-self-inside.new.fates = with_items_is p.fates c.settle-self-inside.new.fates (c.settle-self-inside.auto.fates ∙ c.as_mut_slice.ensures.len) in
-    let fates = kept ∙ (c.settle-self-inside.ensures.lives ∙ (λ i. settled (c.as_mut_slice.ensures.value i) (rows i))) in
-    planted_is p q c.args.self.now c.requires.0 c.args.root c.settle-self-inside.result c.self.invariant c.self.view_is c.requires.1 count fates
+    let count = c.settle-self.ensures.count ∙ ap length rows in
+    let kept : q.fates.items ≡ c.settle-self.new.fates = with_items_is p.fates c.settle-self.new.fates (c.settle-self.auto.fates ∙ c.as_mut_slice.ensures.len) in
+    let fates = kept ∙ (c.settle-self.ensures.lives ∙ (λ i. settled (c.as_mut_slice.ensures.value i) (rows i))) in
+    planted_is p q (sheet_in c.args.self.now) c.requires.0 c.args.root c.settle-self.result c.args.self.now.plain refl c.requires.1 count fates

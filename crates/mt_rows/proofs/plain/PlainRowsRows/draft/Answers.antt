@@ -1,16 +1,16 @@
-use Rattle.std.proofs.Common.{slice_set}
+use Rattle.std.proofs.Common.{slice_set, refl}
 use Rattle.mt_rows.specs.Plain.{sheet_of, past_of}
 use Rattle.mt_rows.specs.declared.plain.Fate.TheVariants.{Draft}
+use Rattle.mt_rows.specs.Memory.{sheet_in}
 use Rattle.mt_rows.proofs.PlainFates.{lives-set, drafted_buried}
 use Rattle.mt_rows.proofs.plain.PlainRowsRows.draft.Goals as goal
 
 pub returns : goal.returns
 returns c =
-    let p = c.self.inside in
-    let buried = drafted_buried p c.args.self.now c.args.row c.self.view_is c.requires.free in
-    rw (← c.self.view_is)
-    (λ i. record (sheet_of p) {
-      tree = record { table = record { width = p.width; words = slice_set p.words.items (c.place_of.ensures i) c.args.word }; root = p.root };
+    let p = c.args.self.now.state in
+    let buried = drafted_buried p (sheet_in c.args.self.now) c.args.row refl c.requires.free in
+    λ i. record (sheet_of p) {
+      tree = record { rows = p.rows; table = record { width = p.width; words = slice_set p.words.items (c.place_of.ensures i) c.args.word }; root = p.root };
       lives = lives-set (past_of p) p.fates.items c.args.row Draft i;
       buried = buried i;
-    })
+    }
