@@ -4,7 +4,7 @@ use Rattle.std.specs.List.{slice_get}
 use Rattle.std.proofs.lemmas.Option.{cond_some}
 use Rattle.std.proofs.lemmas.Bool.{cond_both, and_right, ltb-true, ltb-false, lt-leb, le-leb}
 use Rattle.mt_base.specs.declared.ranges.Range.{Range}
-use Rattle.mt_base.specs.Map.{IsMapFrom, IsMap, holding, without}
+use Rattle.mt_base.specs.Map.{IsMapFrom, holding, without}
 use Rattle.mt_list.specs.Places.{place_below, up_to}
 use Rattle.mt_list.proofs.HoldingAtPlace.{holding_at_place}
 
@@ -38,10 +38,10 @@ pub place_within : (m : List Range) (place index : ℕ) (r : Range) → place �
 place_within m place index r at held = up_to_within m place index r held
 
 -- without the range that holds the index, the map is the map without the range at the index's place
-pub without_at_place : (m : List Range) (place index : ℕ) (r : Range) → IsMap m → place ≡ place_below m index → up_to index (slice_get m place) ≡ Some r → remove m place ≡ without m index
+pub without_at_place : (m : List Range) (place index : ℕ) (r : Range) → IsMapFrom 0 m → place ≡ place_below m index → up_to index (slice_get m place) ≡ Some r → remove m place ≡ without m index
 without_at_place m place index r ordered at held = rw at (sym (without_from m 0 index r ordered (rw at at held)))
 
-pub held_at_place : (m : List Range) (place index : ℕ) → IsMap m → place ≡ place_below m index → up_to index (slice_get m place) ≡ holding m index
+pub held_at_place : (m : List Range) (place index : ℕ) → IsMapFrom 0 m → place ≡ place_below m index → up_to index (slice_get m place) ≡ holding m index
 held_at_place m place index ordered at = rw at (sym (holding_at_place m index ordered))
 
 -- what an erase's proof cites

@@ -3,7 +3,7 @@ use Rattle.std.proofs.Common.{◌≡◌, ℕ, ◌+◌, ◌<◌, ◌≤◌, suc, 
 use Rattle.std.specs.List.{slice_get}
 use Rattle.std.proofs.lemmas.Bool.{cond_both, cases_Bool, ltb-true, ltb-false, lt-leb, le-leb}
 use Rattle.mt_base.specs.declared.ranges.Range.{Range}
-use Rattle.mt_base.specs.Map.{IsMapFrom, IsMap, holding}
+use Rattle.mt_base.specs.Map.{IsMapFrom, holding}
 use Rattle.mt_list.specs.Places.{place_below, up_to}
 
 -- no range of a map from above the index holds it
@@ -27,5 +27,5 @@ holding_from (r ∷ m) low index ordered =
     ])
 
 -- the range at the index's place, if it begins at the index or below, is the one that holds it
-pub holding_at_place : (m : List Range) (index : ℕ) → IsMap m → holding m index ≡ up_to index (slice_get m (place_below m index))
+pub holding_at_place : (m : List Range) (index : ℕ) → IsMapFrom 0 m → holding m index ≡ up_to index (slice_get m (place_below m index))
 holding_at_place m index ordered = holding_from m 0 index ordered

@@ -1,5 +1,7 @@
 pub mod EraseAtPlace
 pub mod HoldingAtPlace
+pub mod MapsKept
 pub mod QueriesAtPlaces
+pub mod Replaced
 pub mod RisingRanges
 pub mod StoreAtPlaces

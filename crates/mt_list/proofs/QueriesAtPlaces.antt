@@ -4,7 +4,7 @@ use Rattle.std.specs.List.{slice_get, prefix_len, list_any}
 use Rattle.std.specs.Option.{is_some}
 use Rattle.std.proofs.lemmas.Bool.{cond_both, cases_Bool, cases_lt, and_left, and_right, ltb-false, leb-true, leb-false, lt-leb, le-leb, le-ltb, lt-ltb}
 use Rattle.mt_base.specs.declared.ranges.Range.{Range}
-use Rattle.mt_base.specs.Map.{IsMapFrom, IsMap, overlaps, is_held, first_range, last_range}
+use Rattle.mt_base.specs.Map.{IsMapFrom, overlaps, is_held, first_range, last_range}
 use Rattle.mt_list.specs.Places.{place_below, place_above, last_of, up_to, down_to}
 use Rattle.mt_list.proofs.StoreAtPlaces.{last_of_is_at_end}
 
@@ -36,11 +36,11 @@ begins_above : (a b : ℕ) → nat_lt b a ≡ not (nat_le a b)
 begins_above a b = elim (cases_lt b a) [ inl lt ↦ rw (lt-ltb b a lt, lt-leb a b lt) refl | inr le ↦ rw (le-ltb b a le, le-leb a b le) refl ]
 
 -- the first range that ends at `index` or above, if it begins at `max` or below
-pub first_from_place : (m : List Range) (index max : ℕ) → IsMap m → first_range (filter (λ r. nat_le index r.last && nat_le r.first max) m) ≡ up_to max (slice_get m (place_below m index))
+pub first_from_place : (m : List Range) (index max : ℕ) → IsMapFrom 0 m → first_range (filter (λ r. nat_le index r.last && nat_le r.first max) m) ≡ up_to max (slice_get m (place_below m index))
 first_from_place m index max ordered = first_past (λ r. nat_lt r.last index) (λ r. nat_le index r.last) m 0 max (λ r. ends_from r.last index) ordered
 
 -- the first range that begins above `index`, if it begins at `max` or below
-pub first_above_place : (m : List Range) (index max : ℕ) → IsMap m → first_range (filter (λ r. nat_lt index r.first && nat_le r.first max) m) ≡ up_to max (slice_get m (place_above m index))
+pub first_above_place : (m : List Range) (index max : ℕ) → IsMapFrom 0 m → first_range (filter (λ r. nat_lt index r.first && nat_le r.first max) m) ≡ up_to max (slice_get m (place_above m index))
 first_above_place m index max ordered = first_past (λ r. nat_le r.first index) (λ r. nat_lt index r.first) m 0 max (λ r. begins_above r.first index) ordered
 
 -- whether some range passes a test is whether there is a first that does
@@ -99,20 +99,20 @@ last_down_to (r ∷ s ∷ m) low min ordered =
       | inr below ↦ rw below behind
     ]
 
-last_in_front : (front : Range → Bool) (m : List Range) (min : ℕ) → Stops front → IsMap m → last_range (filter (λ r. front r && nat_le min r.last) m) ≡ down_to min (last_of (take (prefix_len front m) m))
+last_in_front : (front : Range → Bool) (m : List Range) (min : ℕ) → Stops front → IsMapFrom 0 m → last_range (filter (λ r. front r && nat_le min r.last) m) ≡ down_to min (last_of (take (prefix_len front m) m))
 last_in_front front m min stops ordered =
     let within : List Range = take (prefix_len front m) m in
     rw (filter_front front (λ r. nat_le min r.last) m 0 stops ordered, ← last_of_is_at_end (filter (λ r. nat_le min r.last) within))
     (last_down_to within 0 min (IsMapFrom-take m 0 (prefix_len front m) ordered))
 
 -- the last range that ends below `index`, if it ends at `min` or above
-pub last_below_place : (m : List Range) (index min : ℕ) → IsMap m → last_range (filter (λ r. nat_lt r.last index && nat_le min r.last) m) ≡ down_to min (last_of (take (place_below m index) m))
+pub last_below_place : (m : List Range) (index min : ℕ) → IsMapFrom 0 m → last_range (filter (λ r. nat_lt r.last index && nat_le min r.last) m) ≡ down_to min (last_of (take (place_below m index) m))
 last_below_place m index min ordered =
     last_in_front (λ r. nat_lt r.last index) m min
     (λ r s above order order' stopped. le-ltb s.last index (omega (arith, ltb-false r.last index stopped))) ordered
 
 -- the last range that begins at `index` or below, if it ends at `min` or above
-pub last_up_to_place : (m : List Range) (index min : ℕ) → IsMap m → last_range (filter (λ r. nat_le r.first index && nat_le min r.last) m) ≡ down_to min (last_of (take (place_above m index) m))
+pub last_up_to_place : (m : List Range) (index min : ℕ) → IsMapFrom 0 m → last_range (filter (λ r. nat_le r.first index && nat_le min r.last) m) ≡ down_to min (last_of (take (place_above m index) m))
 last_up_to_place m index min ordered =
     last_in_front (λ r. nat_le r.first index) m min
     (λ r s above order order' stopped. lt-leb s.first index (omega (arith, leb-false r.first index stopped))) ordered

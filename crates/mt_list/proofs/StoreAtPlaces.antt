@@ -3,7 +3,7 @@ use Rattle.std.proofs.Common.{◌≡◌, ℕ, ◌+◌, ◌-◌, ◌<◌, ◌≤�
 use Rattle.std.specs.List.{slice_get}
 use Rattle.std.proofs.lemmas.Bool.{cond_both, ltb-true, ltb-false, leb-true, leb-false, lt-ltb, le-ltb, le-leb, cases_Bool}
 use Rattle.mt_base.specs.declared.ranges.Range.{Range}
-use Rattle.mt_base.specs.Map.{IsMapFrom, IsMap, over, parts_below, parts_above, part_stored}
+use Rattle.mt_base.specs.Map.{IsMapFrom, over, parts_below, parts_above, part_stored}
 use Rattle.mt_list.specs.Places.{place_below, place_above, piece_below, piece_above, last_of}
 
 -- a map from `first` or above has no part below `first`
@@ -65,7 +65,7 @@ regrouped : (front below stored above back : List Range) → front ++ ((below ++
 regrouped front below stored above back = simp append_assoc
 
 -- what is put together from the pieces is the map after the store
-pub store_at_places : (m : List Range) (first last entry : ℕ) (below stored above pieces : List Range) → IsMap m → below ≡ piece_below first (slice_get m (place_below m first)) → stored ≡ part_stored first last entry → above ≡ piece_above last (last_of (take (place_above m last) m)) → pieces ≡ below ++ (stored ++ above) → take (place_below m first) m ++ (pieces ++ drop (place_above m last) m) ≡ over m first last entry
+pub store_at_places : (m : List Range) (first last entry : ℕ) (below stored above pieces : List Range) → IsMapFrom 0 m → below ≡ piece_below first (slice_get m (place_below m first)) → stored ≡ part_stored first last entry → above ≡ piece_above last (last_of (take (place_above m last) m)) → pieces ≡ below ++ (stored ++ above) → take (place_below m first) m ++ (pieces ++ drop (place_above m last) m) ≡ over m first last entry
 store_at_places m first last entry below stored above pieces ordered b s a p =
     rw (p, b, s, a, parts_below_are m 0 first ordered, parts_above_are m 0 last ordered) (regrouped (take (place_below m first) m) _ _ _ (drop (place_above m last) m))
 
@@ -80,7 +80,7 @@ rise (r ∷ m) low first last le ordered =
     (λ no. omega arith)
 
 -- the places are in order
-pub places_rise : (m : List Range) (first last : ℕ) → first ≤ last → IsMap m → place_below m first ≤ place_above m last
+pub places_rise : (m : List Range) (first last : ℕ) → first ≤ last → IsMapFrom 0 m → place_below m first ≤ place_above m last
 places_rise m first last le ordered = rise m 0 first last le ordered
 
 -- what a store's proof cites

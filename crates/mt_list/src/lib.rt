@@ -3,6 +3,7 @@
 
 mod edits;
 mod list_map;
+mod pieces;
 mod places;
 #[cfg(test)]
 mod plain;

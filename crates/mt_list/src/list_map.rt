@@ -1,10 +1,9 @@
-ghost use Rattle.std.specs.Prelude.{◌≡◌, []};
-ghost use Rattle.mt_base.specs.Call.{is_invalid};
+ghost use Rattle.std.specs.Prelude.{◌≡◌, [], None};
 
 use crate::edits::{erase, store};
 use crate::ranges::Ranges;
 use crate::searches::{first_above, first_from, is_held, last_below, last_up_to, range_holding};
-use mt_base::{Call, Kind, NoMemory, Query, Range, Reply, is_reserved};
+use mt_base::{Call, Kind, NoMemory, Query, Range, Reply, is_invalid};
 use std::alloc::Global;
 use std::marker::Model;
 
@@ -23,7 +22,7 @@ impl Model for ListMap {
 
     ghost view = { λ m. record { kind = m.kind; ranges = m.ranges.items } };
 
-    ghost invariant = { λ m. IsMap m.ranges.items };
+    ghost invariant = { λ m. IsMap m.kind m.ranges.items };
 }
 
 impl ListMap {
@@ -39,13 +38,6 @@ impl ListMap {
     }
 }
 
-/// Whether a call that stores cannot mean this.
-fn is_invalid(first: u64, last: u64, entry: u64) -> bool
-    ensures { result ≡ is_invalid first last entry }
-{
-    first > last || is_reserved(entry)
-}
-
 impl Ranges for ListMap {
     ghost map = { λ m. m.ranges };
 
@@ -53,18 +45,19 @@ impl Ranges for ListMap {
 
     ghost used = { λ _. 0 };
 
-    #[tactic(auto, using(mt_base::proofs::StoredOrder::over_is_map, mt_base::proofs::CallsKeepOrder::without_is_map))]
+    ghost limits = { λ _. None };
+
     fn act(&mut self, call: &Call) -> Result<Reply, NoMemory> {
         match *call {
             Call::Store { first, last, entry } => {
-                if is_invalid(first, last, entry) {
+                if is_invalid(self.kind, first, last, entry) {
                     return Ok(Reply::Invalid);
                 }
                 store(&mut self.ranges, first, last, entry)?;
                 Ok(Reply::Ok)
             }
             Call::Insert { first, last, entry } => {
-                if is_invalid(first, last, entry) || entry == 0 {
+                if is_invalid(self.kind, first, last, entry) || entry == 0 {
                     return Ok(Reply::Invalid);
                 }
                 if is_held(&self.ranges, first, last) {

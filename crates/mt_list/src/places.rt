@@ -1,12 +1,12 @@
 ghost use Rattle.std.specs.Prelude.{◌≡◌, slice_get};
-ghost use Rattle.mt_base.specs.Map.{IsMap};
+ghost use Rattle.mt_base.specs.Map.{IsMapFrom};
 ghost use Rattle.mt_list.specs.Places.{place_below, place_above, last_of, up_to, down_to};
 
 use mt_base::Range;
 
 /// How many ranges end below `first`.
 pub fn place_below(ranges: &[Range], first: u64) -> usize
-    requires { IsMap ranges.now }
+    requires { IsMapFrom 0 ranges.now }
     ensures { result ≡ place_below ranges.now first }
 {
     ranges.partition_point(|r| r.last < first)
@@ -14,7 +14,7 @@ pub fn place_below(ranges: &[Range], first: u64) -> usize
 
 /// How many ranges begin at `last` or below.
 pub fn place_above(ranges: &[Range], last: u64) -> usize
-    requires { IsMap ranges.now }
+    requires { IsMapFrom 0 ranges.now }
     ensures { result ≡ place_above ranges.now last }
 {
     ranges.partition_point(|r| r.first <= last)

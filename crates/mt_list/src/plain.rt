@@ -1,11 +1,10 @@
 //! The definitions as a plain, slow program: what the ranges hold, become and answer, by going over all of them.
 
 ghost use Rattle.std.specs.Prelude.{◌≡◌, ◌&&◌, IfOk, filter, nat_lt, nat_le};
-ghost use Rattle.mt_base.specs.declared.kinds.Kind.{Kind};
-ghost use Rattle.mt_base.specs.Call.{acted, answer, is_invalid};
+ghost use Rattle.mt_base.specs.Call.{acted, answer};
 ghost use Rattle.mt_base.specs.Map.{over, holds, holding, overlaps, is_held, without, parts_below, parts_above, first_range, last_range};
 
-use mt_base::{Call, Query, Range, Reply, is_reserved};
+use mt_base::{Call, Kind, Query, Range, Reply, is_invalid};
 use std::alloc::{AllocError, Global};
 
 fn holds(range: &Range, index: u64) -> bool
@@ -85,23 +84,18 @@ fn over(alloc: Global, ranges: &[Range], stored: Range) -> Result<Vec<Range>, Al
     Ok(after)
 }
 
-fn is_invalid(first: u64, last: u64, entry: u64) -> bool
-    ensures { result ≡ is_invalid first last entry }
-{
-    last < first || is_reserved(entry)
-}
-
-/// The ranges after a call, and its reply.
+/// The ranges of a tree of this kind after a call, and its reply.
 pub fn acted(
     alloc: Global,
+    kind: Kind,
     ranges: &[Range],
     call: &Call,
 ) -> Result<(Vec<Range>, Reply), AllocError>
-    ensures { (kind : Kind) → IfOk result (λ after. (after.0.items, after.1) ≡ acted kind ranges.now call.now) }
+    ensures { IfOk result (λ after. (after.0.items, after.1) ≡ acted kind ranges.now call.now) }
 {
     match *call {
         Call::Store { first, last, entry } => {
-            if is_invalid(first, last, entry) {
+            if is_invalid(kind, first, last, entry) {
                 return Ok((Vec::from_slice(alloc, ranges)?, Reply::Invalid));
             }
             Ok((
@@ -110,7 +104,7 @@ pub fn acted(
             ))
         }
         Call::Insert { first, last, entry } => {
-            if is_invalid(first, last, entry) || entry == 0 {
+            if is_invalid(kind, first, last, entry) || entry == 0 {
                 return Ok((Vec::from_slice(alloc, ranges)?, Reply::Invalid));
             }
             if is_held(ranges, first, last) {

@@ -3,7 +3,7 @@
 ghost use Rattle.std.specs.Prelude.{◌≡◌, ◌≤◌};
 ghost use Rattle.mt_base.specs.declared.calls.Query.{Query};
 ghost use Rattle.mt_base.specs.Call.{answer};
-ghost use Rattle.mt_base.specs.Map.{IsMap, holding, is_held};
+ghost use Rattle.mt_base.specs.Map.{IsMapFrom, holding, is_held};
 
 use crate::places::{down_to, last_of, place_above, place_below, range_at, up_to};
 use mt_base::Range;
@@ -11,7 +11,7 @@ use mt_base::Range;
 /// The range that holds `index`.
 #[tactic(auto, using(crate::proofs::HoldingAtPlace::holding_at_place))]
 pub fn range_holding(ranges: &[Range], index: u64) -> Option<Range>
-    requires { IsMap ranges.now }
+    requires { IsMapFrom 0 ranges.now }
     ensures { result ≡ holding ranges.now index }
 {
     up_to(range_at(ranges, place_below(ranges, index)), index)
@@ -20,7 +20,7 @@ pub fn range_holding(ranges: &[Range], index: u64) -> Option<Range>
 /// The first range that ends at `index` or above and begins at `max` or below, where `index` is at most `max`.
 #[tactic(auto, using(crate::proofs::QueriesAtPlaces::first_from_place))]
 pub fn first_from(ranges: &[Range], index: u64, max: u64) -> Option<Range>
-    requires { IsMap ranges.now }
+    requires { IsMapFrom 0 ranges.now }
     ensures { result ≡ answer ranges.now (Query.Find index max) }
 {
     if index > max {
@@ -32,7 +32,7 @@ pub fn first_from(ranges: &[Range], index: u64, max: u64) -> Option<Range>
 /// The first range that begins above `index`, and at `max` or below.
 #[tactic(auto, using(crate::proofs::QueriesAtPlaces::first_above_place))]
 pub fn first_above(ranges: &[Range], index: u64, max: u64) -> Option<Range>
-    requires { IsMap ranges.now }
+    requires { IsMapFrom 0 ranges.now }
     ensures { result ≡ answer ranges.now (Query.Next index max) }
 {
     up_to(range_at(ranges, place_above(ranges, index)), max)
@@ -41,7 +41,7 @@ pub fn first_above(ranges: &[Range], index: u64, max: u64) -> Option<Range>
 /// The last range that ends below `index`, and at `min` or above.
 #[tactic(auto, using(crate::proofs::QueriesAtPlaces::last_below_place))]
 pub fn last_below(ranges: &[Range], index: u64, min: u64) -> Option<Range>
-    requires { IsMap ranges.now }
+    requires { IsMapFrom 0 ranges.now }
     ensures { result ≡ answer ranges.now (Query.Prev index min) }
 {
     down_to(last_of(&ranges[..place_below(ranges, index)]), min)
@@ -50,7 +50,7 @@ pub fn last_below(ranges: &[Range], index: u64, min: u64) -> Option<Range>
 /// The last range that begins at `index` or below and ends at `min` or above, where `index` is at least `min`.
 #[tactic(auto, using(crate::proofs::QueriesAtPlaces::last_up_to_place))]
 pub fn last_up_to(ranges: &[Range], index: u64, min: u64) -> Option<Range>
-    requires { IsMap ranges.now }
+    requires { IsMapFrom 0 ranges.now }
     ensures { result ≡ answer ranges.now (Query.Rfind index min) }
 {
     if index < min {
@@ -62,7 +62,7 @@ pub fn last_up_to(ranges: &[Range], index: u64, min: u64) -> Option<Range>
 /// Whether a range holds some index of `first` to `last`.
 #[tactic(auto, using(crate::proofs::QueriesAtPlaces::is_held_where_found))]
 pub fn is_held(ranges: &[Range], first: u64, last: u64) -> bool
-    requires map { IsMap ranges.now }
+    requires map { IsMapFrom 0 ranges.now }
     requires order { first ≤ last }
     ensures { result ≡ is_held ranges.now first last }
 {

@@ -52,7 +52,7 @@ fn map_after(
     let mut map = ListMap::new(alloc, Kind::Range);
     let mut ranges = Vec::new(alloc);
     for (call, reply) in calls {
-        let (after, answered) = plain::acted(alloc, &ranges, call)?;
+        let (after, answered) = plain::acted(alloc, Kind::Range, &ranges, call)?;
         ranges = after;
         assert_eq!(rt; answered, *reply, "the plain program at {call:?}");
         assert_eq!(rt; map.act(call)?, *reply, "at {call:?}");
@@ -244,7 +244,7 @@ fn agrees_with_the_plain_program(rt: HostRuntime) -> Result<(), Fail> {
     let mut map = ListMap::new(alloc, Kind::Range);
     let mut ranges = Vec::new(alloc);
     for call in &mixed_calls() {
-        let (after, reply) = plain::acted(alloc, &ranges, call)?;
+        let (after, reply) = plain::acted(alloc, Kind::Range, &ranges, call)?;
         ranges = after;
         assert_eq!(rt; map.act(call)?, reply, "at {call:?}");
         assert_eq!(rt;

@@ -1,15 +1,15 @@
-use Rattle.std.proofs.Common.{◌≡◌, ℕ, ◌≤◌, List, [], ◌∷◌, ◌++◌, length, sym, Result, Ok, Err, take, refl}
-use Rattle.std.proofs.lemmas.List.{take_all, take_at}
+use Rattle.std.proofs.Common.{◌≡◌, ℕ, List, [], ◌∷◌, ◌++◌, length, sym, Result, Ok, Err, take, refl}
+use Rattle.std.proofs.lemmas.List.{take_at}
 use Rattle.mt_log.specs.declared.faults.Why.{Why}
 use Rattle.mt_log.specs.declared.faults.Why.TheVariants as why
 use Rattle.mt_log.specs.declared.keywords.Keyword.{Keyword}
 use Rattle.mt_log.specs.declared.keywords.Keyword.TheVariants.{Tree, Store, Insert, Erase, Clear, Load, Find, Next, Prev, Rfind}
 use Rattle.mt_log.specs.Fault.{◌>>=◌}
-use Rattle.mt_log.specs.Reading.{Read, item_of, item_by, keyword_of, tree_item, range_item, erase_item, clear_item, load_item, search_item}
+use Rattle.mt_log.specs.Reading.{Read, item_of, item_by, keyword_of, tree_item, range_item, index_item, bound_item, whole_item}
 
 -- no word takes five fields or more
 too_many : (k : Keyword) (r : Read) (a b c d e : List ℕ) (more : List (List ℕ)) → item_by k r (a ∷ b ∷ c ∷ d ∷ e ∷ more) ≡ Err why.Fields
-unfolding item_by tree_item range_item erase_item clear_item load_item search_item
+unfolding item_by tree_item range_item index_item bound_item whole_item
 too_many Tree r a b c d e more = refl
 too_many Store r a b c d e more = refl
 too_many Insert r a b c d e more = refl

@@ -1,8 +1,8 @@
 -- The log that bytes are, or the first line that is bad and why. It is read off the list of lines, cut at each LF,
 -- and the list of a line's fields, cut at each space.
-use Rattle.std.specs.Prelude.{ℕ, Bool, true, false, List, [], ◌∷◌, ◌++◌, Option, Some, None, Result, Ok, Err, ◌+◌, ◌-◌, ◌^◌, ◌==◌, ◌&&◌, ◌||◌, nat_lt, nat_le, is_some, length, take, drop, position, codes, if◌then◌else◌}
+use Rattle.std.specs.Prelude.{ℕ, Bool, true, false, List, [], ◌∷◌, ◌++◌, Option, Result, Ok, Err, ◌+◌, ◌-◌, ◌^◌, ◌==◌, ◌&&◌, ◌||◌, nat_lt, nat_le, is_some, length, take, drop, position, slice_get, codes, if◌then◌else◌}
 use Rattle.std.specs.List.{slice_split, list_all, list_any}
-use Rattle.std.specs.Option.{ok_or, option_to_list}
+use Rattle.std.specs.Option.{ok_or, option_map, option_and_then}
 use Rattle.std.specs.Char.{is_ascii_digit, is_ascii_hexdigit}
 use Rattle.std.specs.Str.{bytes_eq}
 use Rattle.std.specs.Str.Parse.{digits_value}
@@ -12,7 +12,9 @@ use Rattle.mt_base.specs.declared.calls.Call.{Call}
 use Rattle.mt_base.specs.declared.calls.Call.TheVariants.{Store, Insert, Erase, Clear}
 use Rattle.mt_base.specs.declared.calls.Query.{Query}
 use Rattle.mt_base.specs.declared.calls.Query.TheVariants.{Load, Find, Next, Prev, Rfind}
+use Rattle.mt_base.specs.Width.{greatest_of}
 use Rattle.mt_log.specs.Name.{is_name}
+use Rattle.mt_log.specs.Trees.{known_after}
 use Rattle.mt_log.specs.Fault.{Fault, fault_at, on_line, ◌>>=◌}
 use Rattle.mt_log.specs.declared.faults.Why.{Why}
 use Rattle.mt_log.specs.declared.faults.Why.TheVariants as why
@@ -22,6 +24,8 @@ use Rattle.mt_log.specs.declared.lines.Item.{Item}
 use Rattle.mt_log.specs.declared.lines.Item.TheVariants.{Tree, Write, Ask}
 use Rattle.mt_log.specs.declared.lines.Line.{Line}
 use Rattle.mt_log.specs.declared.lines.Log.{Log}
+use Rattle.mt_log.specs.declared.trees.KnownTree.{KnownTree}
+use Rattle.mt_log.specs.declared.trees.NumberedTree.{NumberedTree}
 
 -- 1 to 20 decimal digits, of a value below 2 ^ 64
 unfoldable pub decimal_of : List ℕ → Result ℕ Why
@@ -31,25 +35,36 @@ decimal_of digits = if list_all is_ascii_digit digits && nat_le 1 (length digits
 unfoldable pub hexadecimal_of : List ℕ → Result ℕ Why
 hexadecimal_of digits = if list_all is_ascii_hexdigit digits && nat_le 1 (length digits) && nat_le (length digits) 16 then Ok (digits_value 16 digits) else Err why.Number
 
--- a number: `max`, or `0x` and hexadecimal digits, or decimal digits
-unfoldable pub number_of : List ℕ → Result ℕ Why
-number_of field =
-    if bytes_eq field (codes "max") then Ok (2 ^ 64 - 1)
+-- a number: `max`, which is this one, or `0x` and hexadecimal digits, or decimal digits
+unfoldable pub number_of : ℕ → List ℕ → Result ℕ Why
+number_of most field =
+    if bytes_eq field (codes "max") then Ok most
     else (if bytes_eq (take 2 field) (codes "0x") then hexadecimal_of (drop 2 field)
     else decimal_of field)
 
--- the number of the tree of this name, where trees of these names are declared
-abbrev pub place_of : List (List ℕ) → List ℕ → Option ℕ
-place_of names name = position (λ other. bytes_eq other name) names
+-- an index of a tree of this kind, and an entry
+unfoldable pub index_of : Kind → List ℕ → Result ℕ Why
+index_of kind field = number_of (greatest_of kind) field
 
--- the number of a declared tree
-unfoldable pub tree_of : List (List ℕ) → List ℕ → Result ℕ Why
-tree_of names name = if is_name name then ok_or (place_of names name) why.NoTree else Err why.Name
+unfoldable pub entry_number_of : List ℕ → Result ℕ Why
+entry_number_of field = number_of (2 ^ 64 - 1) field
+
+-- where the tree of this name stands, where these are declared
+abbrev pub place_of : List KnownTree → List ℕ → Option ℕ
+place_of trees name = position (λ tree. bytes_eq tree.name name) trees
+
+-- the tree that stands at a place: its number and its kind
+abbrev pub tree_at : List KnownTree → ℕ → Option NumberedTree
+tree_at trees place = option_map (λ tree. record { number = place; kind = tree.kind }) (slice_get trees place)
+
+-- the declared tree of this name
+unfoldable pub tree_of : List KnownTree → List ℕ → Result NumberedTree Why
+tree_of trees name = if is_name name then ok_or (option_and_then (tree_at trees) (place_of trees name)) why.NoTree else Err why.Name
 
 -- the name of a tree that is to be declared
-unfoldable pub new_name_of : List (List ℕ) → List ℕ → Result (List ℕ) Why
-new_name_of names name =
-    if is_name name then (if is_some (place_of names name) then Err why.Twice else Ok name)
+unfoldable pub new_name_of : List KnownTree → List ℕ → Result (List ℕ) Why
+new_name_of trees name =
+    if is_name name then (if is_some (place_of trees name) then Err why.Twice else Ok name)
     else Err why.Name
 
 -- trees that find room for ranges are not built yet
@@ -59,10 +74,10 @@ kind_of field =
     else (if bytes_eq field (codes "alloc") then Err why.NotYet
     else Err why.BadKind)
 
--- what was read so far: the names of the trees, whether a step of this phase stands there, the lines that say
+-- what was read so far: the declared trees, whether a step of this phase stands there, the lines that say
 -- something, and the number of the next line
 pub record Read : Type 0 where
-  pub names : List (List ℕ)
+  pub trees : List KnownTree
   pub stepped : Bool
   pub lines : List Line
   pub next : ℕ
@@ -98,12 +113,12 @@ before_steps r = if r.stepped then Err why.Order else Ok tt
 
 -- a second tree is not built yet
 unfoldable pub room_for_tree : Read → Result (Unit {0}) Why
-room_for_tree r = if length r.names == 0 then Ok tt else Err why.NotYet
+room_for_tree r = if length r.trees == 0 then Ok tt else Err why.NotYet
 
 -- T and a kind
 unfoldable pub tree_item : Read → List (List ℕ) → Result Item Why
 tree_item r (name ∷ kind ∷ []) = do
-  n ← new_name_of r.names name
+  n ← new_name_of r.trees name
   k ← kind_of kind
   before ← before_steps r
   room ← room_for_tree r
@@ -111,58 +126,50 @@ tree_item r (name ∷ kind ∷ []) = do
 tree_item r fields = Err why.Fields
 
 -- T F L E: a range and an entry
-unfoldable pub range_item : (ℕ → ℕ → ℕ → Call) → List (List ℕ) → List (List ℕ) → Result Item Why
-range_item call names (name ∷ first ∷ last ∷ entry ∷ []) = do
-  tree ← tree_of names name
-  a ← number_of first
-  b ← number_of last
-  e ← number_of entry
-  Ok (Write tree (call a b e))
-range_item call names fields = Err why.Fields
+unfoldable pub range_item : (ℕ → ℕ → ℕ → Call) → List KnownTree → List (List ℕ) → Result Item Why
+range_item call trees (name ∷ first ∷ last ∷ entry ∷ []) = do
+  tree ← tree_of trees name
+  a ← index_of tree.kind first
+  b ← index_of tree.kind last
+  e ← entry_number_of entry
+  Ok (Write tree.number (call a b e))
+range_item call trees fields = Err why.Fields
 
--- T I: a call at an index
-unfoldable pub erase_item : List (List ℕ) → List (List ℕ) → Result Item Why
-erase_item names (name ∷ index ∷ []) = do
-  tree ← tree_of names name
-  i ← number_of index
-  Ok (Write tree (Erase i))
-erase_item names fields = Err why.Fields
+-- T I: an index
+unfoldable pub index_item : (ℕ → ℕ → Item) → List KnownTree → List (List ℕ) → Result Item Why
+index_item item trees (name ∷ index ∷ []) = do
+  tree ← tree_of trees name
+  i ← index_of tree.kind index
+  Ok (item tree.number i)
+index_item item trees fields = Err why.Fields
 
--- T: a call on the whole tree
-unfoldable pub clear_item : List (List ℕ) → List (List ℕ) → Result Item Why
-clear_item names (name ∷ []) = do
-  tree ← tree_of names name
-  Ok (Write tree Clear)
-clear_item names fields = Err why.Fields
+-- T I BOUND: an index, and a bound up or down from it
+unfoldable pub bound_item : (ℕ → ℕ → Query) → List KnownTree → List (List ℕ) → Result Item Why
+bound_item query trees (name ∷ index ∷ bound ∷ []) = do
+  tree ← tree_of trees name
+  i ← index_of tree.kind index
+  b ← index_of tree.kind bound
+  Ok (Ask tree.number (query i b))
+bound_item query trees fields = Err why.Fields
 
--- T I: a query at an index
-unfoldable pub load_item : List (List ℕ) → List (List ℕ) → Result Item Why
-load_item names (name ∷ index ∷ []) = do
-  tree ← tree_of names name
-  i ← number_of index
-  Ok (Ask tree (Load i))
-load_item names fields = Err why.Fields
-
--- T I BOUND: a query from an index up or down to a bound
-unfoldable pub search_item : (ℕ → ℕ → Query) → List (List ℕ) → List (List ℕ) → Result Item Why
-search_item query names (name ∷ index ∷ bound ∷ []) = do
-  tree ← tree_of names name
-  i ← number_of index
-  b ← number_of bound
-  Ok (Ask tree (query i b))
-search_item query names fields = Err why.Fields
+-- T: the whole tree
+unfoldable pub whole_item : (ℕ → Item) → List KnownTree → List (List ℕ) → Result Item Why
+whole_item item trees (name ∷ []) = do
+  tree ← tree_of trees name
+  Ok (item tree.number)
+whole_item item trees fields = Err why.Fields
 
 unfoldable pub item_by : Keyword → Read → List (List ℕ) → Result Item Why
 item_by keyword.Tree r fields = tree_item r fields
-item_by keyword.Store r fields = range_item Store r.names fields
-item_by keyword.Insert r fields = range_item Insert r.names fields
-item_by keyword.Erase r fields = erase_item r.names fields
-item_by keyword.Clear r fields = clear_item r.names fields
-item_by keyword.Load r fields = load_item r.names fields
-item_by keyword.Find r fields = search_item Find r.names fields
-item_by keyword.Next r fields = search_item Next r.names fields
-item_by keyword.Prev r fields = search_item Prev r.names fields
-item_by keyword.Rfind r fields = search_item Rfind r.names fields
+item_by keyword.Store r fields = range_item Store r.trees fields
+item_by keyword.Insert r fields = range_item Insert r.trees fields
+item_by keyword.Erase r fields = index_item (λ tree index. Write tree (Erase index)) r.trees fields
+item_by keyword.Clear r fields = whole_item (λ tree. Write tree Clear) r.trees fields
+item_by keyword.Load r fields = index_item (λ tree index. Ask tree (Load index)) r.trees fields
+item_by keyword.Find r fields = bound_item Find r.trees fields
+item_by keyword.Next r fields = bound_item Next r.trees fields
+item_by keyword.Prev r fields = bound_item Prev r.trees fields
+item_by keyword.Rfind r fields = bound_item Rfind r.trees fields
 
 -- what the fields of a line say, behind what was read
 unfoldable pub item_of : Read → List (List ℕ) → Result Item Why
@@ -174,16 +181,7 @@ fields_of line = slice_split (λ b. b == 32) line
 
 -- behind the first line
 abbrev pub nothing_read : Read
-nothing_read = record { names = []; stepped = false; lines = []; next = 2 }
-
--- the name that a line declares
-abbrev pub declared_by : Item → Option (List ℕ)
-declared_by (Tree name kind) = Some name
-declared_by (Write tree call) = None
-declared_by (Ask tree query) = None
-
-abbrev pub names_after : List (List ℕ) → Item → List (List ℕ)
-names_after names item = names ++ option_to_list (declared_by item)
+nothing_read = record { trees = []; stepped = false; lines = []; next = 2 }
 
 -- a call or a query is a step; a line that declares a tree is none
 abbrev pub is_step : Item → Bool
@@ -192,7 +190,7 @@ is_step (Write tree call) = true
 is_step (Ask tree query) = true
 
 abbrev pub after_item : Read → Item → Read
-after_item r item = record { names = names_after r.names item; stepped = r.stepped || is_step item; lines = r.lines ++ record { number = r.next; item = item } ∷ []; next = r.next + 1 }
+after_item r item = record { trees = known_after r.trees item; stepped = r.stepped || is_step item; lines = r.lines ++ record { number = r.next; item = item } ∷ []; next = r.next + 1 }
 
 -- a line that is empty or begins with `#` is skipped
 abbrev pub is_skipped : List ℕ → Bool
@@ -200,7 +198,7 @@ is_skipped [] = true
 is_skipped (b ∷ bytes) = b == 35
 
 abbrev pub after_skipped : Read → Read
-after_skipped r = record { names = r.names; stepped = r.stepped; lines = r.lines; next = r.next + 1 }
+after_skipped r = record { trees = r.trees; stepped = r.stepped; lines = r.lines; next = r.next + 1 }
 
 abbrev pub after_line : Read → List ℕ → Result Read Fault
 after_line r line =

@@ -1,12 +1,14 @@
--- When a transcript is a run of a log: its steps are those of the log, each tree has one legal history in which the
--- tree's calls stand in the order of their numbers, and each read is true of that history.
-use Rattle.std.specs.Prelude.{◌≡◌, ◌⊎◌, ℕ, List, [], Option, Some, None, ◌+◌, ◌==◌, ◌<◌, ◌≤◌, length, map, slice_get, All, AllPairs, IsPermutation, if◌then◌else◌}
-use Rattle.std.specs.List.{filter_map, enumerate_from, zip}
+-- When a transcript is a run of a log over trees of so many rows: its steps are those of the log, each tree has one legal
+-- history in which the tree's calls stand in the order of their numbers, and each read is true of that history.
+use Rattle.std.specs.Prelude.{◌≡◌, ◌≢◌, ◌⊎◌, ℕ, Bool, true, false, List, [], ◌∷◌, ◌++◌, Option, Some, None, IfSome, ◌+◌, ◌==◌, ◌<◌, ◌≤◌, ◌&&◌, nat_le, length, map, slice_get, All, AllPairs, IsPermutation, if◌then◌else◌}
+use Rattle.std.specs.List.{filter_map, enumerate_from, list_any}
 use Rattle.mt_base.specs.declared.ranges.Range.{Range}
 use Rattle.mt_base.specs.declared.calls.Call.{Call}
 use Rattle.mt_base.specs.declared.calls.Query.{Query}
 use Rattle.mt_base.specs.declared.calls.Query.TheVariants.{Load, Find, Next, Prev, Rfind}
+use Rattle.mt_base.specs.declared.replies.Holder.{Holder}
 use Rattle.mt_base.specs.declared.replies.Reply.{Reply}
+use Rattle.mt_base.specs.declared.replies.Reply.TheVariants as replies
 use Rattle.mt_base.specs.History.{Record, History, IsLegal, IsTrueRead, last_map}
 use Rattle.mt_log.specs.declared.lines.Item.{Item}
 use Rattle.mt_log.specs.declared.lines.Item.TheVariants.{Tree, Write, Ask}
@@ -19,23 +21,46 @@ use Rattle.mt_log.specs.declared.transcripts.Said.TheVariants as said
 use Rattle.mt_log.specs.declared.transcripts.Entry.{Entry}
 use Rattle.mt_log.specs.declared.transcripts.Listing.{Listing}
 use Rattle.mt_log.specs.declared.transcripts.Transcript.{Transcript}
-use Rattle.mt_log.specs.Trees.{Declared, trees_of}
+use Rattle.mt_log.specs.Trees.{Declared, Opening, Empty, phase_after, trees_of}
 
--- a step of a log: the number of its line, its lane, its phase, and what it asks for
+-- ---- what a log asks for
+
+-- a line that is answered: its number, its lane, its phase, and what it asks for
 pub record Asked : Type 0 where
   pub line : ℕ
   pub lane : ℕ
   pub phase : ℕ
   pub item : Item
 
--- No line names a lane or ends a phase yet: each step is one of lane 0, in phase 0.
-abbrev pub asked_in : ℕ → Item → Option Asked
-asked_in line (Tree name kind) = None
-asked_in line (Write tree call) = Some (record { line = line; lane = 0; phase = 0; item = Write tree call })
-asked_in line (Ask tree query) = Some (record { line = line; lane = 0; phase = 0; item = Ask tree query })
+-- the lane of the lines behind this one: no line names a lane yet
+abbrev pub lane_after : ℕ → Item → ℕ
+lane_after lane (Tree name kind) = lane
+lane_after lane (Write tree call) = lane
+lane_after lane (Ask tree query) = lane
+
+-- the lane that does what a line asks for: a step is done by the lane in which the log stands
+abbrev pub lane_of : ℕ → Item → ℕ
+lane_of lane (Tree name kind) = 0
+lane_of lane (Write tree call) = lane
+lane_of lane (Ask tree query) = lane
+
+-- all lines are answered but those that declare an empty tree
+abbrev pub is_answered : Item → Bool
+is_answered (Tree name kind) = false
+is_answered (Write tree call) = true
+is_answered (Ask tree query) = true
+
+-- the lines that are answered, from here on, where the log stands in this lane and this phase
+abbrev pub asked_from : ℕ → ℕ → List Line → List Asked
+asked_from lane phase [] = []
+asked_from lane phase (line ∷ lines) =
+    let rest = asked_from (lane_after lane line.item) (phase_after phase line.item) lines in
+    if is_answered line.item then record { line = line.number; lane = lane_of lane line.item; phase = phase; item = line.item } ∷ rest else rest
 
 abbrev pub steps_of : List Line → List Asked
-steps_of lines = filter_map (λ line. asked_in line.number line.item) lines
+steps_of lines = asked_from 0 0 lines
+
+-- ---- what came of it
 
 -- What came of a step: a call with its number and reply, or a read that is true after the first k calls.
 pub data Outcome : Type 0 where
@@ -49,13 +74,21 @@ pub record Step : Type 0 where
   pub tree : ℕ
   pub outcome : Outcome
 
--- the step of the log that was done
-abbrev pub item_of_outcome : ℕ → Outcome → Item
-item_of_outcome tree (Called number call reply) = Write tree call
-item_of_outcome tree (Looked lo hi k query value) = Ask tree query
+abbrev pub step_of : Asked → ℕ → Outcome → Step
+step_of a tree outcome = record { line = a.line; lane = a.lane; phase = a.phase; tree = tree; outcome = outcome }
 
-abbrev pub asked_by : Step → Asked
-asked_by s = record { line = s.line; lane = s.lane; phase = s.phase; item = item_of_outcome s.tree s.outcome }
+-- these steps are what came of a line
+abbrev pub IsDone : Asked → Item → List Step → Type 0
+IsDone a (Tree name kind) steps = steps ≡ []
+IsDone a (Write tree call) steps = (number : ℕ) × (reply : Reply) × (steps ≡ step_of a tree (Called number call reply) ∷ [])
+IsDone a (Ask tree query) steps = (lo hi k : ℕ) × (value : Option Range) × (steps ≡ step_of a tree (Looked lo hi k query value) ∷ [])
+
+-- these are what came of the lines, in order
+abbrev pub AreDone : List Asked → List Step → Type 0
+AreDone [] steps = steps ≡ []
+AreDone (a ∷ asked) steps = (mine rest : List Step) × (steps ≡ mine ++ rest) × IsDone a a.item mine × AreDone asked rest
+
+-- ---- what is told of it
 
 -- what a query is told of a range: a load tells the entry alone
 abbrev pub shown_range : Query → Range → Answer
@@ -77,6 +110,8 @@ said_of (Looked lo hi k query value) = said.Got lo hi (shown query value)
 abbrev pub entry_of : Step → Entry
 entry_of s = record { line = s.line; said = said_of s.outcome }
 
+-- ---- the histories of the trees
+
 -- a call on this tree, by its number; its pass is the lane
 abbrev pub record_of : ℕ → Outcome → Option (ℕ × Record)
 record_of lane (Called number call reply) = Some (number, record { pass = lane; call = call; reply = reply })
@@ -84,6 +119,17 @@ record_of lane (Looked lo hi k query value) = None
 
 abbrev pub numbered_on : ℕ → Step → Option (ℕ × Record)
 numbered_on tree s = if s.tree == tree then record_of s.lane s.outcome else None
+
+-- how a history opens, among the steps and the histories of all trees: empty
+abbrev pub OpensAs : List Step → List History → Opening → History → Type 0
+OpensAs steps trees Empty h = h.opening ≡ []
+
+-- it is the history of a tree that is declared so
+pub record Opens (steps : List Step) (trees : List History) (d : Declared) (h : History) : Type 0 where
+  pub kind : h.kind ≡ d.tree.kind
+  pub opening : OpensAs steps trees d.opening h
+
+-- ---- the order of steps
 
 -- Of two steps on one tree the later knows of the earlier where both are of one lane, or the earlier's phase is lower.
 abbrev pub Knows : Step → Step → Type 0
@@ -99,6 +145,8 @@ Follows (Looked lo hi k q v) (Looked lo' hi' k' q' v') = (k ≤ k') × (lo ≤ l
 abbrev pub InOrder : Step → Step → Type 0
 InOrder s t = s.tree ≡ t.tree → Knows s t → Follows s.outcome t.outcome
 
+-- ---- what a step says of its tree
+
 -- a read is true of its tree's history, and its window ends in it; a call is one of the history's records
 abbrev pub IsTrueOf : History → Outcome → Type 0
 IsTrueOf h (Called number call reply) = Unit {0}
@@ -107,32 +155,58 @@ IsTrueOf h (Looked lo hi k query value) = IsTrueRead h k lo hi query value × (h
 abbrev pub StandsIn : List History → Step → Type 0
 StandsIn trees s = (h : History) × (slice_get trees s.tree ≡ Some h) × IsTrueOf h s.outcome
 
--- a declared tree opens empty
-abbrev pub opening_of : Declared → History
-opening_of d = record { kind = d.kind; opening = []; records = [] }
+-- whose open section is told to hold rows
+abbrev pub holder_of : Reply → Option Holder
+holder_of (replies.NoNodes shortage) = shortage.by
+holder_of replies.Ok = None
+holder_of (replies.Was entry) = None
+holder_of replies.None = None
+holder_of replies.Exists = None
+holder_of replies.Invalid = None
 
-abbrev pub at_opening : History → History
-at_opening h = record { kind = h.kind; opening = h.opening; records = [] }
+abbrev pub holder_in : Outcome → Option Holder
+holder_in (Called number call reply) = holder_of reply
+holder_in (Looked lo hi k query value) = None
 
--- a tree at the end
-abbrev pub listing_of : Declared × History → Listing
-listing_of p = record { name = p.0.name; kind = p.0.kind; ranges = last_map p.1 }
+abbrev pub is_read : Outcome → Bool
+is_read (Called number call reply) = false
+is_read (Looked lo hi k query value) = true
 
-pub record IsRunBy (log : Log) (t : Transcript) (steps : List Step) (trees : List History) : Type 0 where
+-- this lane read the step's tree, in a phase that was not later
+abbrev pub is_read_by : ℕ → Step → Step → Bool
+is_read_by lane s r = (r.lane == lane) && ((r.tree == s.tree) && (nat_le r.phase s.phase && is_read r.outcome))
+
+-- where rows were held, another lane held them, which read this tree in a phase that was not later
+abbrev pub IsHeldRightly : List Step → Step → Type 0
+IsHeldRightly steps s = IfSome (holder_in s.outcome) (λ holder. (holder.pass ≢ s.lane) × (list_any (is_read_by holder.pass s) steps ≡ true))
+
+-- ---- a run
+
+-- the trees at the end
+abbrev pub listings_of : List Declared → List History → List Listing
+listings_of [] trees = []
+listings_of (d ∷ declared) [] = []
+listings_of (d ∷ declared) (h ∷ trees) = record { name = d.tree.name; kind = d.tree.kind; ranges = last_map h } ∷ listings_of declared trees
+
+pub record IsRunBy (log : Log) (rows : ℕ) (t : Transcript) (steps : List Step) (trees : List History) : Type 0 where
   -- each step of the log was done once, in the order of the log, and told so
-  pub asked : steps_of log.lines ≡ map asked_by steps
+  pub asked : AreDone (steps_of log.lines) steps
   pub told : t.entries ≡ map entry_of steps
-  -- each declared tree has a history, from its opening map
-  pub opened : map opening_of (trees_of log.lines) ≡ map at_opening trees
+  -- each declared tree has a history, from its opening map, and so many rows
+  pub count : length trees ≡ length (trees_of log.lines)
+  pub opened : (tree : ℕ) (d : Declared) (h : History) → slice_get (trees_of log.lines) tree ≡ Some d → slice_get trees tree ≡ Some h → Opens steps trees d h
+  pub sized : All (λ h. h.rows ≡ rows) trees
   -- in which its calls stand, each once, in the order of their numbers, which are 1 and on
   pub once : (tree : ℕ) (h : History) → slice_get trees tree ≡ Some h → IsPermutation (enumerate_from 1 h.records) (filter_map (numbered_on tree) steps)
-  -- and each was answered as the map before it answers
+  -- and each was answered as the map before it answers, or was refused for want of rows
   pub legal : All IsLegal trees
   -- what a lane knew, its later steps keep to
   pub order : AllPairs InOrder steps
   pub reads : All (StandsIn trees) steps
+  -- where rows were held, a reader held them
+  pub holders : All (IsHeldRightly steps) steps
   -- and the listings are the trees at the end
-  pub lists : t.lists ≡ map listing_of (zip (trees_of log.lines) trees)
+  pub lists : t.lists ≡ listings_of (trees_of log.lines) trees
 
-abbrev pub IsRun : Log → Transcript → Type 0
-IsRun log t = (steps : List Step) × (trees : List History) × IsRunBy log t steps trees
+abbrev pub IsRun : Log → ℕ → Transcript → Type 0
+IsRun log rows t = (steps : List Step) × (trees : List History) × IsRunBy log rows t steps trees

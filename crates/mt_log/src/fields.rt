@@ -1,11 +1,12 @@
-ghost use Rattle.std.specs.Prelude.{◌≡◌, ◌<◌, ◌^◌, IfOk, IfSome, length, map, take, position};
+ghost use Rattle.std.specs.Prelude.{◌≡◌, ◌<◌, ◌^◌, IfOk, IfSome, length, map, take, option_and_then};
 ghost use Rattle.std.specs.Str.{bytes_eq};
 ghost use Rattle.mt_base.specs.declared.kinds.Kind.TheVariants as kinds;
-ghost use Rattle.mt_log.specs.Reading.{fields_of, place_of, tree_of, new_name_of, kind_of};
+ghost use Rattle.mt_log.specs.Reading.{fields_of, place_of, tree_at, tree_of, new_name_of, kind_of};
 
 use crate::cuts::cut;
 use crate::faults::Why;
 use crate::names::{Word, is_name};
+use crate::trees::{KnownTree, NumberedTree};
 use arrayvec::ArrayVec;
 use mt_base::Kind;
 
@@ -29,40 +30,52 @@ pub fn fields_of(line: &[u8]) -> ArrayVec<&[u8], MOST_FIELDS>
     fields
 }
 
-fn is_named(word: &Word, name: &[u8]) -> bool
-    ensures { result ≡ bytes_eq word.now name.now }
+fn is_named(tree: &KnownTree, name: &[u8]) -> bool
+    ensures { result ≡ bytes_eq tree.now.name name.now }
 {
-    word.as_bytes() == name
+    tree.name.as_bytes() == name
 }
 
-fn place_of(names: &[Word], name: &[u8]) -> Option<usize>
-    ensures place { result ≡ place_of names.now name.now }
-    ensures declared { IfSome result (λ place. place < length names.now) }
+fn place_of(trees: &[KnownTree], name: &[u8]) -> Option<usize>
+    ensures place { result ≡ place_of trees.now name.now }
+    ensures declared { IfSome result (λ place. place < length trees.now) }
 {
-    names.iter().position(|other| is_named(other, name))
+    trees.iter().position(|tree| is_named(tree, name))
 }
 
-/// The number of the tree of this name.
+fn tree_named(trees: &[KnownTree], name: &[u8]) -> Option<NumberedTree>
+    requires { length trees.now < 2 ^ 32 }
+    ensures tree { result ≡ option_and_then (tree_at trees.now) (place_of trees.now name.now) }
+    ensures declared { IfSome result (λ tree. tree.number < length trees.now) }
+{
+    let place = place_of(trees, name)?;
+    let tree = trees.get(place)?;
+    Some(NumberedTree {
+        number: place as u32,
+        kind: tree.kind,
+    })
+}
+
+/// The tree of this name.
 #[tactic(auto, unfolding(crate::specs::Reading::tree_of))]
-pub fn tree_of(names: &[Word], name: &[u8]) -> Result<u32, Why>
-    requires { length names.now < 2 ^ 32 }
-    ensures tree { result ≡ tree_of names.now name.now }
-    ensures declared { IfOk result (λ tree. tree < length names.now) }
+pub fn tree_of(trees: &[KnownTree], name: &[u8]) -> Result<NumberedTree, Why>
+    requires { length trees.now < 2 ^ 32 }
+    ensures tree { result ≡ tree_of trees.now name.now }
+    ensures declared { IfOk result (λ tree. tree.number < length trees.now) }
 {
     if !is_name(name) {
         return Err(Why::Name);
     }
-    let place = place_of(names, name).ok_or(Why::NoTree)?;
-    Ok(place as u32)
+    tree_named(trees, name).ok_or(Why::NoTree)
 }
 
 /// The name of a tree that is to be declared.
 #[tactic(auto, unfolding(crate::specs::Reading::new_name_of))]
-pub fn new_name_of(names: &[Word], name: &[u8]) -> Result<Word, Why>
-    ensures { result ≡ new_name_of names.now name.now }
+pub fn new_name_of(trees: &[KnownTree], name: &[u8]) -> Result<Word, Why>
+    ensures { result ≡ new_name_of trees.now name.now }
 {
     let word = Word::new(name).ok_or(Why::Name)?;
-    if place_of(names, name).is_some() {
+    if place_of(trees, name).is_some() {
         return Err(Why::Twice);
     }
     Ok(word)

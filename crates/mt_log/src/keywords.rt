@@ -20,26 +20,29 @@ pub enum Keyword {
     Rfind,
 }
 
-/// The words of the language, each beside its keyword, as the last arguments of the macro `then`.
+/// The words of the language, each beside its keyword and what its line says: the form of its fields, and what is made of
+/// them. They are the last arguments of the macro `then`.
 macro_rules! words {
     ($then:ident, $($argument:tt)*) => {
         $then!($($argument)*,
-            "tree" Tree,
-            "store" Store,
-            "insert" Insert,
-            "erase" Erase,
-            "clear" Clear,
-            "load" Load,
-            "find" Find,
-            "next" Next,
-            "prev" Prev,
-            "rfind" Rfind)
+            "tree" Tree declaration(),
+            "store" Store range_call(Store),
+            "insert" Insert range_call(Insert),
+            "erase" Erase index_call(Erase),
+            "clear" Clear whole_call(Clear),
+            "load" Load index_query(Load),
+            "find" Find bound_query(Find max),
+            "next" Next bound_query(Next max),
+            "prev" Prev bound_query(Prev min),
+            "rfind" Rfind bound_query(Rfind min))
     };
 }
 
+pub(crate) use words;
+
 /// The keyword of a word in the table, or what comes of any other word.
 macro_rules! keyword_in {
-    ($word:ident, $otherwise:expr, $($text:literal $keyword:ident),*) => {
+    ($word:ident, $otherwise:expr, $($text:literal $keyword:ident $form:ident($($part:ident)*)),*) => {
         $(if $word == $text.as_bytes() {
             Ok(Keyword::$keyword)
         } else)* {

@@ -15,10 +15,11 @@ mod rendering;
 #[cfg(test)]
 mod tests;
 mod transcripts;
+mod trees;
 
 pub use faults::{LogError, Why};
 pub use lines::{Item, Line, Lines, Log};
 pub use names::Word;
 pub use reading::read_log;
-pub use rendering::render;
+pub use rendering::{Printed, render};
 pub use transcripts::{Answer, Entries, Entry, Listing, Listings, RangeList, Said, Transcript};

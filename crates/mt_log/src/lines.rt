@@ -1,4 +1,5 @@
 use crate::names::Word;
+use crate::trees::KnownTree;
 use mt_base::{Call, Kind, Query};
 use std::marker::Model;
 
@@ -11,15 +12,20 @@ pub enum Item {
 }
 
 impl Item {
-    ghost use Rattle.std.specs.Prelude.{◌≡◌};
-    ghost use Rattle.mt_log.specs.Reading.{declared_by, is_step};
+    ghost use Rattle.std.specs.Prelude.{◌≡◌, List};
+    ghost use Rattle.mt_log.specs.declared.trees.KnownTree.{KnownTree};
+    ghost use Rattle.mt_log.specs.Reading.{is_step};
+    ghost use Rattle.mt_log.specs.Trees.{known_by};
 
-    /// The name that it declares.
-    pub fn declares(&self) -> Option<Word>
-        ensures { result ≡ declared_by self.now }
+    /// The tree that it declares, whichever trees are known.
+    pub fn declares(&self) -> Option<KnownTree>
+        ensures { (trees : List KnownTree) → result ≡ known_by trees self.now }
     {
         match self {
-            Item::Tree { name, .. } => Some(*name),
+            Item::Tree { name, kind } => Some(KnownTree {
+                name: *name,
+                kind: *kind,
+            }),
             Item::Write { .. } | Item::Ask { .. } => None,
         }
     }

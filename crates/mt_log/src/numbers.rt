@@ -1,9 +1,10 @@
 ghost use Rattle.std.specs.Prelude.{◌≡◌, ◌<◌, ◌≤◌, ◌+◌, ◌*◌, ◌^◌, SomeIff};
 ghost use Rattle.std.specs.Char.{digit_value};
 ghost use Rattle.std.specs.Str.Parse.{AllDigits, digits_value};
-ghost use Rattle.mt_log.specs.Reading.{decimal_of, hexadecimal_of, number_of};
+ghost use Rattle.mt_log.specs.Reading.{decimal_of, hexadecimal_of, number_of, index_of, entry_number_of};
 
 use crate::faults::Why;
+use mt_base::{Kind, top, width_of};
 
 /// The value of digits and one more, if this byte is a digit in the radix and the value is below 2^64.
 fn with_digit(value: u64, radix: u32, byte: u8) -> Option<u64>
@@ -53,16 +54,32 @@ fn hexadecimal_of(digits: &[u8]) -> Result<u64, Why>
     value_of(digits, 16).ok_or(Why::Number)
 }
 
-/// The number that a field writes: `max`, or `0x` and hexadecimal digits, or decimal digits.
+/// The number that a field writes: `max`, which is `most`, or `0x` and hexadecimal digits, or decimal digits.
 #[tactic(auto, unfolding(crate::specs::Reading::number_of))]
-pub fn number_of(field: &[u8]) -> Result<u64, Why>
-    ensures { result ≡ number_of field.now }
+fn number_of(field: &[u8], most: u64) -> Result<u64, Why>
+    ensures { result ≡ number_of most field.now }
 {
     if field == b"max".as_slice() {
-        return Ok(u64::MAX);
+        return Ok(most);
     }
     match field.strip_prefix(b"0x".as_slice()) {
         Some(digits) => hexadecimal_of(digits),
         None => decimal_of(field),
     }
+}
+
+/// The index of a tree of this kind that a field writes.
+#[tactic(auto, unfolding(crate::specs::Reading::index_of))]
+pub fn index_of(field: &[u8], kind: Kind) -> Result<u64, Why>
+    ensures { result ≡ index_of kind field.now }
+{
+    number_of(field, top(width_of(kind)))
+}
+
+/// The entry that a field writes.
+#[tactic(auto, unfolding(crate::specs::Reading::entry_number_of))]
+pub fn entry_number_of(field: &[u8]) -> Result<u64, Why>
+    ensures { result ≡ entry_number_of field.now }
+{
+    number_of(field, u64::MAX)
 }

@@ -1,13 +1,13 @@
 use crate::faults::Why;
 use crate::lines::{Item, Line};
-use crate::names::Word;
+use crate::trees::KnownTree;
 use std::alloc::{AllocError, Global};
 use std::marker::Model;
 
 /// What was read so far.
 #[derive(Drop)]
 pub struct Reader {
-    names: Vec<Word>,
+    trees: Vec<KnownTree>,
     stepped: bool,
     lines: Vec<Line>,
     next: u64,
@@ -18,30 +18,31 @@ impl Model for Reader {
 
     ghost Value = { Read };
 
-    ghost view = { λ r. record { names = r.names.items; stepped = r.stepped; lines = r.lines.items; next = r.next } };
+    ghost view = { λ r. record { trees = r.trees.items; stepped = r.stepped; lines = r.lines.items; next = r.next } };
 }
 
 impl Reader {
     ghost use Rattle.std.specs.Prelude.{◌≡◌, ◌<◌, ◌-◌, ◌^◌, OnOk, IfOk, length};
     ghost use Rattle.mt_log.specs.Reading.{nothing_read, after_item, after_skipped, before_steps, room_for_tree};
+    ghost use Rattle.mt_log.specs.Trees.{known_by};
 
     /// A reader behind the first line, with room for so many lines that say something.
     pub fn new(alloc: Global, room: usize) -> Result<Self, AllocError>
         ensures { IfOk result (λ reader. reader ≡ nothing_read) }
     {
         Ok(Reader {
-            names: Vec::new(alloc),
+            trees: Vec::new(alloc),
             stepped: false,
             lines: Vec::with_capacity(alloc, room)?,
             next: 2,
         })
     }
 
-    /// The names of the declared trees.
-    pub fn names(&self) -> &[Word]
-        ensures { result.now ≡ self.now.names }
+    /// The declared trees.
+    pub fn trees(&self) -> &[KnownTree]
+        ensures { result.now ≡ self.now.trees }
     {
-        &self.names
+        &self.trees
     }
 
     /// The number of the next line.
@@ -72,12 +73,19 @@ impl Reader {
     #[tactic(auto, unfolding(crate::specs::Reading::room_for_tree))]
     pub fn room_for_tree(&self) -> Result<(), Why>
         ensures room { result ≡ room_for_tree self.now }
-        ensures first { IfOk result (λ _. length self.now.names < 1) }
+        ensures first { IfOk result (λ _. length self.now.trees < 1) }
     {
-        if !self.names.is_empty() {
+        if !self.trees.is_empty() {
             return Err(Why::NotYet);
         }
         Ok(())
+    }
+
+    /// The tree that a line declares.
+    fn declared_by(&self, item: &Item) -> Option<KnownTree>
+        ensures { result ≡ known_by self.now.trees item.now }
+    {
+        item.declares()
     }
 
     /// Goes past a line that says this.
@@ -85,8 +93,8 @@ impl Reader {
         requires next { self.old.next < 2 ^ 64 - 1 }
         ensures { OnOk result (self.new ≡ after_item self.old item) }
     {
-        if let Some(name) = item.declares() {
-            self.names.push(name)?;
+        if let Some(tree) = self.declared_by(&item) {
+            self.trees.push(tree)?;
         }
         self.lines.push(Line {
             number: self.next,

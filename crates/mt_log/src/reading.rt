@@ -26,9 +26,9 @@ fn is_skipped(line: &[u8]) -> bool
 /// What a line says, behind what was read.
 #[tactic(auto, using(crate::proofs::FirstFields::first_fields))]
 fn said_in(reader: &Reader, line: &[u8]) -> Result<Item, Why>
-    requires { length reader.now.names < 2 ^ 32 }
+    requires { length reader.now.trees < 2 ^ 32 }
     ensures item { result ≡ item_of reader.now (fields_of line.now) }
-    ensures follows { IfOk result (MayFollow (length reader.now.names)) }
+    ensures follows { IfOk result (MayFollow (length reader.now.trees)) }
 {
     item_of(reader, &fields_of(line))
 }

@@ -22,26 +22,43 @@ impl fmt::Display for Answer {
     }
 }
 
-impl fmt::Display for Said {
-    ghost use Rattle.std.specs.Prelude.{Some};
-    ghost use Rattle.mt_log.specs.Text.{said_text};
+/// A reply, as a log of this version has it printed. There is one version yet.
+#[derive(Clone, Copy)]
+pub struct Printed {
+    pub version: u32,
+    pub reply: Reply,
+}
 
-    ghost output = { λ s. Some (said_text s) };
+impl fmt::Display for Printed {
+    ghost use Rattle.std.specs.Prelude.{Some};
+    ghost use Rattle.mt_log.specs.Text.{reply_text};
+
+    ghost output = { λ p. Some (reply_text p.version p.reply) };
 
     fn fmt<W: fmt::Write>(&self, f: &mut fmt::Formatter<W>) -> fmt::Result {
-        match self {
-            Said::Wrote { call, reply } => write!(f, "{call} {reply}"),
-            Said::Got { lo, hi, value } => write!(f, "{lo} {hi} {value}"),
+        match self.reply {
+            Reply::Ok => write!(f, "ok"),
+            Reply::Was(entry) => write!(f, "was {entry}"),
+            Reply::None => write!(f, "none"),
+            Reply::Exists => write!(f, "exists"),
+            Reply::Invalid => write!(f, "invalid"),
+            Reply::NoNodes(s) => write!(f, "nomem {} {} {} {}", s.need, s.free, s.live, s.held),
         }
     }
 }
 
 /// Adds the line of an entry.
-fn push_entry(text: &mut String, entry: &Entry) -> Result<(), AllocError>
-    ensures { OnOk result (string_bytes text.new ≡ string_bytes text.old ++ entry_text entry.now) }
+fn push_entry(text: &mut String, version: u32, entry: &Entry) -> Result<(), AllocError>
+    ensures { OnOk result (string_bytes text.new ≡ string_bytes text.old ++ entry_text version entry.now) }
 {
-    let Entry { line, said } = *entry;
-    writeln!(text, "{line} {said}")
+    let line = entry.line;
+    match entry.said {
+        Said::Wrote { call, reply } => {
+            let reply = Printed { version, reply };
+            writeln!(text, "{line} {call} {reply}")
+        }
+        Said::Got { lo, hi, value } => writeln!(text, "{line} {lo} {hi} {value}"),
+    }
 }
 
 fn push_range(text: &mut String, range: &Range) -> Result<(), AllocError>
@@ -70,11 +87,11 @@ fn push_listing(text: &mut String, listing: &Listing) -> Result<(), AllocError>
     push_ranges(text, ranges)
 }
 
-fn push_entries(text: &mut String, entries: &[Entry]) -> Result<(), AllocError>
-    ensures { OnOk result (string_bytes text.new ≡ string_bytes text.old ++ flat_map entry_text entries.now) }
+fn push_entries(text: &mut String, version: u32, entries: &[Entry]) -> Result<(), AllocError>
+    ensures { OnOk result (string_bytes text.new ≡ string_bytes text.old ++ flat_map (entry_text version) entries.now) }
 {
     for entry in entries {
-        push_entry(text, entry)?;
+        push_entry(text, version, entry)?;
     }
     Ok(())
 }
@@ -88,12 +105,12 @@ fn push_listings(text: &mut String, listings: &[Listing]) -> Result<(), AllocErr
     Ok(())
 }
 
-/// The text of a transcript.
-pub fn render(alloc: Global, transcript: &Transcript) -> Result<Vec<u8>, NoMemory>
-    ensures { IfOk result (λ v. v.items ≡ text_of transcript.now) }
+/// The text of a transcript of a log of this version.
+pub fn render(alloc: Global, version: u32, transcript: &Transcript) -> Result<Vec<u8>, NoMemory>
+    ensures { IfOk result (λ v. v.items ≡ text_of version transcript.now) }
 {
     let mut text = String::new(alloc);
-    push_entries(&mut text, transcript.entries.as_slice())?;
+    push_entries(&mut text, version, transcript.entries.as_slice())?;
     push_listings(&mut text, transcript.lists.as_slice())?;
     Ok(text.into_bytes())
 }

@@ -1,5 +1,5 @@
 use super::*;
-use mt_base::{Kind, Query, Range, Reply};
+use mt_base::{Holder, Kind, Query, Range, Reply, Shortage};
 use std::alloc::{AllocError, Global};
 use std::process::Abort;
 use std::test::Fail;
@@ -234,12 +234,20 @@ fn a_transcript_is_printed_line_by_line(rt: HostRuntime) -> Result<(), Fail> {
         last: 18446744073709551615,
         entry: 20,
     };
+    let short = Shortage {
+        need: 7,
+        free: 6,
+        live: 4,
+        held: 20,
+        by: Some(Holder { pass: 3, epoch: 5 }),
+    };
     let entries = vec![in alloc;
         wrote(3, 1, Reply::Ok),
         wrote(4, 2, Reply::Was(7)),
         wrote(5, 3, Reply::None),
         wrote(6, 4, Reply::Exists),
         wrote(7, 5, Reply::Invalid),
+        wrote(8, 6, Reply::NoNodes(short)),
         got(50, 1, 2, Answer::None),
         got(51, 2, 2, Answer::Entry(18446744073709551615)),
         got(52, 0, 5, Answer::Range(high)),
@@ -266,6 +274,7 @@ fn a_transcript_is_printed_line_by_line(rt: HostRuntime) -> Result<(), Fail> {
 5 3 none
 6 4 exists
 7 5 invalid
+8 6 nomem 7 6 4 20
 50 1 2 none
 51 2 2 entry 18446744073709551615
 52 0 5 range 10 18446744073709551615 20
@@ -274,7 +283,7 @@ tree a_1 range 2
 10 18446744073709551615 20
 tree a_1 alloc 0
 ";
-    let text = render(alloc, &transcript).ok();
+    let text = render(alloc, 1, &transcript).ok();
     assert_eq!(rt; text.expect(&rt, "memory").as_slice(), want.as_slice());
     Ok(())
 }

@@ -1,10 +1,9 @@
-use Rattle.std.proofs.Common.{◌≡◌, ◌∙◌}
-use Rattle.std.proofs.IntoIterSteps.{All-taken}
+use Rattle.std.proofs.Common.{arith}
+use Rattle.mt_list.proofs.Replaced.{replaced}
 use Rattle.mt_list.proofs.edits.replace.Goals as goal
 
--- the items that `splice` took from the pieces are the pieces
 pub returns-clause-ok : goal.returns-clause-ok
 returns-clause-ok c =
-    let told = c.in_ok-splice.ensures.items in
-    let taken : told.1 ≡ c.args.pieces.items = All-taken told.0 told.1 told.3 ∙ told.2.0 in
-    rw taken at told.4
+    replaced c.args.ranges.now.items c.args.pieces.now c.split_at.result.0.now c.split_at.result.1.now c.insert_all.new.ranges.items c.overwrite.new.ranges.items c.close.new.ranges.items c.args.start c.args.end c.min.result
+    c.requires.order (omega (arith, c.args.ranges.now.ok.0)) c.split_at.ensures.front c.split_at.ensures.back c.min.ensures
+    c.in_ok-insert_all.ensures.ok c.overwrite.ensures c.close.ensures
