@@ -2,10 +2,10 @@
 use Rattle.std.proofs.Common.{◌≡◌, ℕ, ◌+◌, ◌<◌, ◌≤◌, List, [], ◌++◌, true, false, refl, sym, ap, ◌∙◌, subst, arith}
 use Rattle.std.specs.List.{AllByRecursion, flat_map}
 use Rattle.std.proofs.lemmas.Grind.{flat_map-append}
-use Rattle.mt_base.specs.declared.kinds.Kind.TheVariants as trees
 use Rattle.mt_base.specs.declared.ranges.Range.{Range}
 use Rattle.mt_base.specs.Entry.{reserved}
 use Rattle.mt_base.specs.Map.{over}
+use Rattle.mt_base.proofs.Lists.{all_map, all_front, all_back}
 use Rattle.mt_layout.specs.declared.spans.Span.{Span}
 use Rattle.mt_layout.specs.Rows.{row_in}
 use Rattle.mt_layout.specs.Spans.{leaf_range, Fills}
@@ -13,30 +13,29 @@ use Rattle.mt_rows.specs.Spans.{spans_in}
 use Rattle.mt_rows.specs.Levels.{expand, is_row_of, Levels}
 use Rattle.mt_rows.specs.Laws.{Tree, IsRow, Stands, top_of}
 use Rattle.mt_rows.specs.Replacement.{root_of}
-use Rattle.mt_rows.proofs.Lists.{all_map, all_front, all_back, Filled, expand_fills, expand-append, levels_map}
+use Rattle.mt_rows.proofs.Lists.{Filled, expand_fills, expand-append, levels_map}
 use Rattle.mt_rows.proofs.Heights.{map_of_split, level_rows}
 use Rattle.mt_rows.proofs.Between.{leaf_between, over_between}
 use Rattle.mt_leaf.specs.Edits.{stored, edited}
 use Rattle.mt_leaf.proofs.Joined.{apart_joined}
 use Rattle.mt_leaf.proofs.Stored.{ranges_edited, fills_edited}
-use Rattle.mt_leaf.proofs.Counts.{no_gaps-edited}
 use Rattle.mt_path.specs.declared.paths.PathStep.{PathStep}
 use Rattle.mt_path.specs.Paths.{step_in, step_at}
 use Rattle.mt_path.proofs.TreePaths.{row_of, place}
 use Rattle.mt_splice.specs.Seen.{passing}
+use Rattle.mt_splice.specs.Kept.{MayBeReplaced}
 use Rattle.mt_splice.specs.Splice.{region_of}
 use Rattle.mt_splice.specs.Work.{Start, Work, KeepsWords, IsUsed, Holds}
 use Rattle.mt_splice.specs.Beginnings.{Begins}
 use Rattle.mt_splice.specs.Stretches.{IsStretch, ArePaths}
 use Rattle.mt_splice.specs.Runs.{IsLeafRun}
-use Rattle.mt_splice.specs.Climbs.{Gapless, Gathered}
+use Rattle.mt_splice.specs.Climbs.{Gathered}
 use Rattle.mt_splice.proofs.Moments.{RowsKeep}
-use Rattle.mt_splice.proofs.Gapless.{gapless_row}
 use Rattle.mt_splice.proofs.Regions.{all_expand, all_edited, Leaves, region_leaves}
 use Rattle.mt_splice.proofs.Rises.{step_here}
 
 -- the old tree stands as it was where nothing was done yet
-pub holds_at_first : (start : Start) (s : Work) → start.tree.kind ≡ trees.Range → Stands start.tree start.height → s.words ≡ start.tree.table.words
+pub holds_at_first : (start : Start) (s : Work) → MayBeReplaced start.tree.kind → Stands start.tree start.height → s.words ≡ start.tree.table.words
     → Levels (IsUsed s) start.tree.table start.height (root_of start.tree) → s.taken ≡ [] → Holds start s
 holds_at_first start s range stands words used taken = record {
   range = range;
@@ -127,11 +126,6 @@ module _ (start : Start) (s : Work) (left right : List PathStep) (first last ent
       from_low begins.order to_high)
       ∙ sym map_is))
 
-  gapless_items : Gapless items
-  gapless_items =
-      no_gaps-edited (expand t.table leaves.old) first last entry
-      (all_expand (λ (x : Span). x.gap ≡ 0) t.table leaves.old (all_map (IsRow t 0) (λ (x : Span). Gapless (spans_in t.table x)) (λ x row. gapless_row t 0 x begins.range row) leaves.old rows_old))
-
   free_items : AllByRecursion (λ (x : Span). reserved x.word ≡ false) items
   free_items =
       all_edited (λ (x : Span). reserved x.word ≡ false) (λ x last none. none) (λ x first none. none) (expand t.table leaves.old) first last entry begins.free
@@ -149,7 +143,6 @@ module _ (start : Start) (s : Work) (left right : List PathStep) (first last ent
         (λ k. (sym (ap (λ (z : PathStep). z.min) left_step) k, sym (ap (λ (z : PathStep). z.max + 1) right_step) k)) leaves.stretch;
     fills = subst (λ (ends : ℕ × ℕ). Fills ends.0 ends.1 items) (λ k. (sym (ap (λ (z : PathStep). z.min) left_step) k, sym (ap (λ (z : PathStep). z.max + 1) right_step) k))
         (fills_edited lo hi first last entry (expand t.table leaves.old) (filled lo hi leaves.old rows_old leaves.stretch.here) from_low begins.order to_high);
-    gapless = gapless_items;
     fit = (apart_joined (stored (expand t.table leaves.old) first last entry), free_items);
     level = (items_stand, begins.taken, begins.gone);
   }

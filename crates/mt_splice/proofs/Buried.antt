@@ -7,7 +7,8 @@ use Rattle.mt_rows.specs.Spans.{root_span}
 use Rattle.mt_rows.specs.Levels.{tally, times, is_row_of}
 use Rattle.mt_rows.specs.Laws.{Tree, top_of}
 use Rattle.mt_rows.specs.Replacement.{root_of}
-use Rattle.mt_rows.proofs.Lists.{tally-append, fills-append}
+use Rattle.mt_layout.proofs.SpanLists.{fills-append}
+use Rattle.mt_rows.proofs.Lists.{tally-append}
 use Rattle.mt_rows.proofs.Heights.{level_next, times_split}
 use Rattle.mt_rows.proofs.Reached.{one_of_parts, on_level_reached, times_in_once}
 use Rattle.mt_path.specs.declared.paths.PathStep.{PathStep}

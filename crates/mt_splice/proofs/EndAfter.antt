@@ -2,29 +2,30 @@
 use Rattle.std.proofs.Common.{◌≡◌, ℕ, zero, suc, ◌+◌, ◌<◌, ◌≤◌, List, [], ◌∷◌, Option, Some, None, Bool, true, false, refl, sym, ap, ◌∙◌, subst, inl, inr, arith}
 use Rattle.std.specs.List.{AllByRecursion}
 use Rattle.std.proofs.lemmas.Bool.{cases_Bool}
-use Rattle.mt_base.specs.declared.kinds.Kind.TheVariants as trees
 use Rattle.mt_base.specs.declared.widths.Width.{Width}
-use Rattle.mt_base.specs.declared.widths.Width.TheVariants.{Long}
 use Rattle.mt_base.specs.Width.{columns}
-use Rattle.mt_layout.specs.declared.names.RowKind.{RowKind}
-use Rattle.mt_layout.specs.declared.names.RowKind.TheVariants.{Leaf, Inner, Gapped}
 use Rattle.mt_layout.specs.declared.spans.Span.{Span}
 use Rattle.mt_layout.specs.Rows.{row_in}
 use Rattle.mt_layout.specs.Columns.{slot_column}
+use Rattle.mt_layout.specs.Sizes.{first_row, slots_of}
+use Rattle.mt_layout.proofs.RowSizes.{slot_above}
 use Rattle.mt_rows.specs.declared.rows.Place.{Place}
 use Rattle.mt_rows.specs.declared.rows.Place.TheVariants.{Root, Slot}
 use Rattle.mt_rows.specs.Spans.{Table, column}
-use Rattle.mt_layout.specs.Sizes.{slots_of}
 use Rattle.mt_rows.specs.Levels.{expand, Levels, is_row_of}
-use Rattle.mt_rows.specs.Laws as laws
-use Rattle.mt_rows.specs.Sheet.{Sheet, Tree, life_of, is_buried, word_at}
+use Rattle.mt_rows.specs.Laws.{Tree}
+use Rattle.mt_rows.specs.Sheet.{Rooted, Sheet, life_of, is_buried, word_at}
 use Rattle.mt_rows.specs.Publish.{tree_as, is_reached, map_by, with_record, with_published, life_after, Published, IsPlaceToPublish}
 use Rattle.mt_rows.specs.Replacement.{root_of}
 use Rattle.mt_splice.specs.Work.{Start, Work, tree_with, KeepsWords}
-use Rattle.mt_splice.specs.Ends.{StandsAs, count_in, HoldsAs, OnlyParents}
+use Rattle.mt_splice.specs.Kept.{MayBeReplaced}
+use Rattle.mt_splice.specs.Replaced.{StandsAs, count_in}
+use Rattle.mt_splice.specs.Endings.{words_of}
+use Rattle.mt_splice.specs.Ends.{HoldsAs, OnlyParents}
 use Rattle.mt_splice.proofs.Drafts.{same_column}
-use Rattle.mt_splice.proofs.EndTrees.{words_of, map_is, reached_count, count_reached, unreached_count, count_unreached}
-use Rattle.mt_splice.proofs.EndPublish.{now_stands, now_count, now_map, Finish, published, rows_same, stands_later, map_later, progress, place_is}
+use Rattle.mt_splice.proofs.EndTrees.{map_is, reached_count, count_reached, unreached_count, count_unreached}
+use Rattle.mt_splice.proofs.EndPublish.{now_stands, now_count, now_map, Finish, published_rows, published_width, published, rows_same, width_same, stands_later, map_later, progress, place_is}
+use Rattle.mt_splice.proofs.EndTending.{only_rows, only_width}
 
 -- ---- a tree whose parent words have changed
 
@@ -49,13 +50,13 @@ high None = 0
 high (Some h) = h
 
 -- the same tree by other words, as a moment of a replacement that takes nothing
-abbrev first_moment : laws.Tree → Option ℕ → Start
+abbrev first_moment : Tree → Option ℕ → Start
 first_moment t o = record { tree = t; height = high o; map = [] }
 
 abbrev later_moment : List ℕ → Work
 later_moment words = record { words = words; used = (λ (row : ℕ). true); taken = []; gone = [] }
 
-all_hold : (t : laws.Tree) (words : List ℕ) (o : Option ℕ) → t.kind ≡ trees.Range → AllKeep t.table (record { width = t.table.width; words = words }) → StandsAs t o → HoldsAs (first_moment t o) (later_moment words) o
+all_hold : (t : Tree) (words : List ℕ) (o : Option ℕ) → MayBeReplaced t.kind → AllKeep t.table (record { width = t.table.width; words = words }) → StandsAs t o → HoldsAs (first_moment t o) (later_moment words) o
 all_hold t words None range keep stands = stands
 all_hold t words (Some h) range keep stands = (
   refl,
@@ -68,8 +69,8 @@ all_hold t words (Some h) range keep stands = (
   },
 )
 
-module _ (t : laws.Tree) (words : List ℕ) (o : Option ℕ) (range : t.kind ≡ trees.Range) (keep : AllKeep t.table (record { width = t.table.width; words = words })) (stands : StandsAs t o) where
-  abbrev other : laws.Tree
+module _ (t : Tree) (words : List ℕ) (o : Option ℕ) (range : MayBeReplaced t.kind) (keep : AllKeep t.table (record { width = t.table.width; words = words })) (stands : StandsAs t o) where
+  abbrev other : Tree
   other = tree_with t words
 
   pub other_stands : StandsAs other o
@@ -93,21 +94,17 @@ module _ (t : laws.Tree) (words : List ℕ) (o : Option ℕ) (range : t.kind ≡
 
 -- what has become of the rows and the words when the word is published, and parent words are written
 pub record Outcome (f : Finish) (s' : Sheet) : Type 0 where
-  pub rest : s' ≡ record f.end.before.sheet { tree = s'.tree; published = true; lives = s'.lives; buried = s'.buried; records = with_record f.end.before.sheet f.call f.reply; reads = s'.reads }
-  pub stands : StandsAs (tree_as f.end.before.kind f.end.before.sheet.tree.rows s'.tree) f.end.new
-  pub width : s'.tree.table.width ≡ f.end.before.sheet.tree.table.width
+  pub rest : s' ≡ record f.before.sheet { tree = s'.tree; published = true; lives = s'.lives; buried = s'.buried; records = with_record f.before.sheet f.call f.reply; reads = s'.reads }
+  pub stands : StandsAs (tree_as f.before.kind s'.tree) f.may.new
+  pub rows : s'.tree.rows ≡ f.before.sheet.tree.rows
+  pub width : s'.tree.table.width ≡ f.before.sheet.tree.table.width
   pub root : s'.tree.root ≡ (published f).root
-  pub map : map_by s'.tree ≡ f.end.start.map
+  pub map : map_by s'.tree ≡ f.start.map
   pub reached : (row : ℕ) → is_reached s'.tree row ≡ is_reached (published f) row
-  pub lives : (row : ℕ) → first_row ≤ row → row < first_row + f.end.before.sheet.tree.rows → life_of s'.lives row ≡ life_after f.sheet (published f) row
-  pub buried : (row : ℕ) → first_row ≤ row → row < first_row + f.end.before.sheet.tree.rows → is_buried s'.buried row ≡ false
+  pub lives : (row : ℕ) → first_row ≤ row → row < first_row + f.before.sheet.tree.rows → life_of s'.lives row ≡ life_after f.sheet (published f) row
+  pub buried : (row : ℕ) → first_row ≤ row → row < first_row + f.before.sheet.tree.rows → is_buried s'.buried row ≡ false
   pub at : (row col : ℕ) → f.place ≡ Slot row col → word_at s'.tree row col ≡ f.word
-  pub kept : (row col : ℕ) → 0 < col → col < columns f.end.before.sheet.tree.table.width → column s'.tree.table row col ≡ column (published f).table row col
-
-some_slots : (w : Width) (kind : RowKind) (i : ℕ) → 0 < slot_column (slots_of w kind) i
-some_slots Long Leaf i = omega arith
-some_slots Long Inner i = omega arith
-some_slots Long Gapped i = omega arith
+  pub kept : (row col : ℕ) → 0 < col → col < columns f.before.sheet.tree.table.width → column s'.tree.table row col ≡ column (published f).table row col
 
 -- the column of a slot place is one of a row, and not that of its parent word
 pub above_in : (s : Sheet) (place : Place) → IsPlaceToPublish s place → (row col : ℕ) → place ≡ Slot row col → (0 < col) × (col < columns s.tree.table.width)
@@ -115,77 +112,75 @@ above_in s Root at row col is = absurd (cc)
 above_in s (Slot r c) at row col is =
     let cols : c ≡ col = cc in
     let column_is : c ≡ slot_column (slots_of s.tree.table.width at.2.kind) at.2.slot = at.2.column in
-    let some = some_slots s.tree.table.width at.2.kind at.2.slot in
+    let some = slot_above s.tree.table.width at.2.kind at.2.slot in
     subst (λ (n : ℕ). (0 < n) × (n < columns s.tree.table.width)) cols (omega arith, at.0.column)
 
 module _ (f : Finish) (s₁ s₂ : Sheet) (done : Published f.sheet s₁ f.place f.word f.call f.reply) (only : OnlyParents s₁ s₂) where
   tree₁ : s₁.tree ≡ published f
   tree₁ = ap (λ (x : Sheet). x.tree) done.rest
 
-  width₁ : (place : Place) → (with_published f.sheet.tree place f.word).table.width ≡ f.sheet.tree.table.width
-  width₁ Root = refl
-  width₁ (Slot row col) = refl
+  width₁ : s₁.tree.table.width ≡ f.sheet.tree.table.width
+  width₁ = ap (λ (v : Rooted). v.table.width) tree₁ ∙ published_width f.sheet.tree f.place f.word
 
-  abbrev t₁ : laws.Tree
-  t₁ = tree_as f.end.before.kind f.end.before.sheet.tree.rows s₁.tree
+  abbrev t₁ : Tree
+  t₁ = tree_as f.before.kind s₁.tree
 
-  abbrev t₂ : laws.Tree
-  t₂ = tree_with (tree_as f.end.before.kind f.end.before.sheet.tree.rows s₁.tree) s₂.tree.table.words
-
-  tree₂ : s₂.tree ≡ words_of t₂
-  tree₂ = λ i. record { table = record { width = only.width i; words = s₂.tree.table.words }; root = only.root i }
+  -- the tree then, by the words at the end
+  abbrev t₂ : Tree
+  t₂ = tree_with (tree_as f.before.kind s₁.tree) s₂.tree.table.words
 
   keep : AllKeep t₁.table t₂.table
-  keep r c above within = sym (ap (λ (v : Tree). column v.table r c) tree₂) ∙ only.kept r c above within
+  keep r c above within = sym (ap (λ (v : Rooted). column v.table r c) only.tree) ∙ only.kept r c above within
 
-  stands₁ : StandsAs t₁ f.end.new
-  stands₁ = subst (λ (v : Tree). StandsAs (tree_as f.end.before.kind f.end.before.sheet.tree.rows v) f.end.new) (sym tree₁) (stands_later f)
+  stands₁ : StandsAs t₁ f.may.new
+  stands₁ = subst (λ (v : Rooted). StandsAs (tree_as f.before.kind v) f.may.new) (sym tree₁) (stands_later f)
 
   -- the sheet at the start, but for what the writes have changed
-  before_is : f.sheet ≡ record f.end.before.sheet { tree = f.sheet.tree; lives = f.sheet.lives; buried = f.sheet.buried; reads = f.sheet.reads }
+  before_is : f.sheet ≡ record f.before.sheet { tree = f.sheet.tree; lives = f.sheet.lives; buried = f.sheet.buried; reads = f.sheet.reads }
   before_is = ap (λ (x : Sheet). record x { tree = f.sheet.tree; lives = f.sheet.lives; buried = f.sheet.buried; reads = f.sheet.reads }) (progress f).rest
 
-  published_is : s₁ ≡ record f.end.before.sheet { tree = s₁.tree; published = true; lives = s₁.lives; buried = s₁.buried; records = with_record f.end.before.sheet f.call f.reply; reads = s₁.reads }
+  published_is : s₁ ≡ record f.before.sheet { tree = s₁.tree; published = true; lives = s₁.lives; buried = s₁.buried; records = with_record f.before.sheet f.call f.reply; reads = s₁.reads }
   published_is =
       let all = done.rest ∙ ap (λ (x : Sheet). record x { tree = published f; published = true; lives = s₁.lives; buried = s₁.buried; records = with_record x f.call f.reply }) before_is in
       let reads : f.sheet.reads ≡ s₁.reads = sym (ap (λ (x : Sheet). x.reads) done.rest) in
-      all ∙ (λ i. record f.end.before.sheet { tree = sym tree₁ i; published = true; lives = s₁.lives; buried = s₁.buried; records = with_record f.end.before.sheet f.call f.reply; reads = reads i })
+      all ∙ (λ i. record f.before.sheet { tree = sym tree₁ i; published = true; lives = s₁.lives; buried = s₁.buried; records = with_record f.before.sheet f.call f.reply; reads = reads i })
 
   later_is : s₂ ≡ record s₁ { tree = s₂.tree; reads = s₂.reads }
   later_is = ap (λ (x : Sheet). record x { tree = s₂.tree; reads = s₂.reads }) only.rest
 
-  rest₂ : s₂ ≡ record f.end.before.sheet { tree = s₂.tree; published = true; lives = s₂.lives; buried = s₂.buried; records = with_record f.end.before.sheet f.call f.reply; reads = s₂.reads }
+  rest₂ : s₂ ≡ record f.before.sheet { tree = s₂.tree; published = true; lives = s₂.lives; buried = s₂.buried; records = with_record f.before.sheet f.call f.reply; reads = s₂.reads }
   rest₂ =
       let lives : s₁.lives ≡ s₂.lives = sym (ap (λ (x : Sheet). x.lives) only.rest) in
       let buried : s₁.buried ≡ s₂.buried = sym (ap (λ (x : Sheet). x.buried) only.rest) in
       later_is
       ∙ (ap (λ (x : Sheet). record x { tree = s₂.tree; reads = s₂.reads }) published_is
-      ∙ (λ i. record f.end.before.sheet { tree = s₂.tree; published = true; lives = lives i; buried = buried i; records = with_record f.end.before.sheet f.call f.reply; reads = s₂.reads }))
+      ∙ (λ i. record f.before.sheet { tree = s₂.tree; published = true; lives = lives i; buried = buried i; records = with_record f.before.sheet f.call f.reply; reads = s₂.reads }))
 
-  word_in : (place : Place) → IsPlaceToPublish f.sheet place → (row col : ℕ) → place ≡ Slot row col → word_at (record s₁ { tree = with_published f.sheet.tree place f.word }).tree row col ≡ f.word
+  word_in : (place : Place) → IsPlaceToPublish f.sheet place → (row col : ℕ) → place ≡ Slot row col → word_at (with_published f.sheet.tree place f.word) row col ≡ f.word
   word_in Root at row col is = absurd (cc)
   word_in (Slot r c) at row col is =
       let rows : r ≡ row = cc in let cols : c ≡ col = cc in
-      (λ i. column (with_published f.sheet.tree (Slot r c) f.word).table (sym rows i) (sym cols i))
-      ∙ same_column f.sheet.tree.table.width f.sheet.tree.table.words r (16 + f.sheet.tree.rows) c f.word at.0.column at.0.last (progress f).whole.words
+      (λ i. word_at (with_published f.sheet.tree (Slot r c) f.word) (sym rows i) (sym cols i))
+      ∙ same_column f.sheet.tree.table.width f.sheet.tree.table.words r (first_row + f.sheet.tree.rows) c f.word at.0.column at.0.last (progress f).whole.words
 
   pub outcome : Outcome f s₂
   outcome = record {
     rest = rest₂;
-    stands = subst (λ (v : Tree). StandsAs (tree_as f.end.before.kind f.end.before.sheet.tree.rows v) f.end.new) (sym tree₂) (other_stands t₁ s₂.tree.table.words f.end.new f.may.range keep stands₁);
-    width = only.width ∙ (ap (λ (v : Tree). v.table.width) tree₁ ∙ (width₁ f.place ∙ (progress f).width));
-    root = only.root ∙ ap (λ (v : Tree). v.root) tree₁;
-    map = ap map_by tree₂ ∙ (other_map t₁ s₂.tree.table.words f.end.new f.may.range keep stands₁ ∙ (ap map_by tree₁ ∙ map_later f));
-    reached = λ row. ap (λ (v : Tree). is_reached v row) tree₂ ∙ (other_reached t₁ s₂.tree.table.words f.end.new f.may.range keep stands₁ row ∙ ap (λ (v : Tree). is_reached v row) tree₁);
+    stands = subst (λ (v : Rooted). StandsAs (tree_as f.before.kind v) f.may.new) (sym only.tree) (other_stands t₁ s₂.tree.table.words f.may.new f.may.case.range keep stands₁);
+    rows = only_rows s₁ s₂ only ∙ (ap (λ (v : Rooted). v.rows) tree₁ ∙ (published_rows f.sheet.tree f.place f.word ∙ rows_same f));
+    width = only_width s₁ s₂ only ∙ (width₁ ∙ width_same f);
+    root = ap (λ (v : Rooted). v.root) only.tree ∙ ap (λ (v : Rooted). v.root) tree₁;
+    map = ap map_by only.tree ∙ (other_map t₁ s₂.tree.table.words f.may.new f.may.case.range keep stands₁ ∙ (ap map_by tree₁ ∙ map_later f));
+    reached = λ row.
+        ap (λ (v : Rooted). is_reached v row) only.tree ∙ (other_reached t₁ s₂.tree.table.words f.may.new f.may.case.range keep stands₁ row ∙ ap (λ (v : Rooted). is_reached v row) tree₁);
     lives = λ row first last.
         ap (λ (x : Sheet). life_of x.lives row) later_is ∙ done.lives row first (subst (λ (n : ℕ). row < first_row + n) (sym (rows_same f)) last);
     buried = λ row first last.
         ap (λ (x : Sheet). is_buried x.buried row) later_is ∙ done.buried row first (subst (λ (n : ℕ). row < first_row + n) (sym (rows_same f)) last);
     kept = λ row col above within.
-        only.kept row col above (subst (λ (v : Width). col < columns v) (sym (ap (λ (v : Tree). v.table.width) tree₁ ∙ (width₁ f.place ∙ (progress f).width))) within)
-        ∙ ap (λ (v : Tree). column v.table row col) tree₁;
+        only.kept row col above (subst (λ (v : Width). col < columns v) (sym (width₁ ∙ width_same f)) within) ∙ ap (λ (v : Rooted). column v.table row col) tree₁;
     at = λ row col is.
         (let above = above_in f.sheet f.place (place_is f) row col is in
-        only.kept row col above.0 (subst (λ (v : Width). col < columns v) (sym (ap (λ (v : Tree). v.table.width) tree₁ ∙ width₁ f.place)) above.1)
-        ∙ (ap (λ (v : Tree). column v.table row col) tree₁ ∙ word_in f.place (place_is f) row col is));
+        only.kept row col above.0 (subst (λ (v : Width). col < columns v) (sym width₁) above.1)
+        ∙ (ap (λ (v : Rooted). column v.table row col) tree₁ ∙ word_in f.place (place_is f) row col is));
   }

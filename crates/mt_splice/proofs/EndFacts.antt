@@ -68,16 +68,16 @@ root_named t h stands =
 
 module _ (f : ends.Finish) (s' : Sheet) (o : Outcome f s') where
   abbrev b : Before
-  b = f.end.before
+  b = f.before
 
   abbrev s : Sheet
   s = f.sheet
 
   abbrev w : Work
-  w = f.end.work
+  w = f.may.work
 
   abbrev book : Book
-  book = f.end.book
+  book = f.book
 
   rows' : s'.tree.rows ≡ b.sheet.tree.rows
   rows' = ap (λ (x : Sheet). x.tree.rows) o.rest
@@ -88,10 +88,10 @@ module _ (f : ends.Finish) (s' : Sheet) (o : Outcome f s') where
   tree : IsTreeOf s'.tree b.kind
   tree = record {
     of_kind = record {
-      told = subst (λ (k : Option Kind). IfSome k (λ (k : Kind). k ≡ b.kind)) (sym (ap (λ (x : Sheet). x.kind) o.rest)) f.may.lawful.of_kind.told;
-      width = o.width ∙ f.may.lawful.of_kind.width;
+      told = subst (λ (k : Option Kind). IfSome k (λ (k : Kind). k ≡ b.kind)) (sym (ap (λ (x : Sheet). x.kind) o.rest)) f.may.case.was.kept.lawful.of_kind.told;
+      width = o.width ∙ f.may.case.was.kept.lawful.of_kind.width;
     };
-    words = subst (λ (n : ℕ). laws.IsTree (tree_as b.kind n s'.tree)) (sym rows') (is_tree (tree_as b.kind b.sheet.tree.rows s'.tree) f.end.new o.stands);
+    words = subst (λ (n : ℕ). laws.IsTree (tree_as b.kind n s'.tree)) (sym rows') (is_tree (tree_as b.kind s'.tree) f.may.new o.stands);
   }
 
   map_is : map_by s'.tree ≡ (acted b.kind (map_by b.sheet.tree) f.call).0
@@ -142,7 +142,7 @@ module _ (f : ends.Finish) (s' : Sheet) (o : Outcome f s') where
       dead none alive = elim (none_or_some (ends.old_count f row)) [
         | inl never ↦
             let before : life_of b.sheet.lives row ≡ Live = sym (untouched row first (low' row last) never none) ∙ alive in
-            let was = ends.was_reached f row ((f.may.was.live row first (low' row last)).0 before) in
+            let was = ends.was_reached f row ((f.may.case.was.kept.live row first (low' row last)).0 before) in
             absurd (omega arith)
         | inr was ↦
             let dead : Dead (s.ended + 1) ≡ Live = sym (life_if_buried s (ends.published f) row (ends.unreached_later f row none) (buried_now row was none)) ∙ (sym (o.lives row first (low' row last)) ∙ alive) in
@@ -157,7 +157,7 @@ module _ (f : ends.Finish) (s' : Sheet) (o : Outcome f s') where
       let ended : s.ended ≡ b.sheet.ended = ap (λ (x : Sheet). x.ended) (ends.progress f).rest in
       o.lives row number.0 number.1
       ∙ (life_if_buried s (ends.published f) row (ends.unreached_later f row none) (buried_now row was none)
-      ∙ ap Dead (ap (λ (n : ℕ). n + 1) ended ∙ sym f.may.numbered))
+      ∙ ap Dead (ap (λ (n : ℕ). n + 1) ended ∙ sym f.may.case.unpublished.numbered))
 
   others : (row : ℕ) → first_row ≤ row → row < first_row + b.sheet.tree.rows → is_reached b.sheet.tree row ≡ false → is_reached s'.tree row ≡ false → life_of s'.lives row ≡ life_of b.sheet.lives row
   others row first last was is = untouched row first last (ends.was_unreached f row was) (unreached_later row is)
@@ -203,7 +203,7 @@ module _ (f : ends.Finish) (s' : Sheet) (o : Outcome f s') where
 
   -- a row that was reached was neither free nor held
   was_out : (row : ℕ) → 1 ≤ ends.old_count f row → IsOut b.book row
-  was_out row was = f.may.was.book.reached row (ends.reached_was f row was)
+  was_out row was = f.may.case.was.kept.booked.reached row (ends.reached_was f row was)
 
   free_unreached : (row : ℕ) → Contains book.free row → (ends.old_count f row ≡ 0) × (ends.new_count f row ≡ 0)
   free_unreached row has =
@@ -218,13 +218,13 @@ module _ (f : ends.Finish) (s' : Sheet) (o : Outcome f s') where
       ]
     where
       once : Contains (book.free ++ taken) row → Contains (held_rows b.book) row → ⊥
-      once free held = apart_ends (book.free ++ taken) (held_rows b.book) row (subst (λ (l : List ℕ). AllPairs (λ r q. r ≢ q) (l ++ held_rows b.book)) (ends.progress f).free f.may.was.book.sound.once) free held
+      once free held = apart_ends (book.free ++ taken) (held_rows b.book) row (subst (λ (l : List ℕ). AllPairs (λ r q. r ≢ q) (l ++ held_rows b.book)) (ends.progress f).free f.may.case.was.kept.booked.sound.once) free held
 
       twice : Contains taken row → ⊥
       twice has_taken =
           apart_ends book.free (taken ++ held_rows b.book) row
           (subst (λ (l : List ℕ). AllPairs (λ r q. r ≢ q) l) (append_assoc book.free taken (held_rows b.book))
-          (subst (λ (l : List ℕ). AllPairs (λ r q. r ≢ q) (l ++ held_rows b.book)) (ends.progress f).free f.may.was.book.sound.once))
+          (subst (λ (l : List ℕ). AllPairs (λ r q. r ≢ q) (l ++ held_rows b.book)) (ends.progress f).free f.may.case.was.kept.booked.sound.once))
           has (Contains-append_left taken (held_rows b.book) row has_taken)
 
   out_is : (row : ℕ) → first_row ≤ row → row < first_row + s'.tree.rows → IsOut book row → IsReached s'.tree row
@@ -236,14 +236,14 @@ module _ (f : ends.Finish) (s' : Sheet) (o : Outcome f s') where
               | inl never ↦ never
               | inr some ↦ absurd (out.not_held (subst (λ (l : List ℕ). Contains l row) (sym held_later) (Contains-append_right (held_rows b.book) gone row (seen_contains row w.gone some))))
             ] in
-            let was = ends.was_reached f row (f.may.was.book.out row first (low' row last) (out_before none)) in
+            let was = ends.was_reached f row (f.may.case.was.kept.booked.out row first (low' row last) (out_before none)) in
             let c = ends.counts f row in let sum = c.sum in
             is_reached_later row (omega arith)
       ]
     where
       out_before : ends.taken_count f row ≡ 0 → IsOut b.book row
       out_before none = record {
-        here = (first, subst (λ (n : ℕ). row < first_row + n) (sym f.may.was.book.rows) (low' row last));
+        here = (first, subst (λ (n : ℕ). row < first_row + n) (sym f.may.case.was.kept.booked.rows) (low' row last));
         not_free = λ free. elim (Contains-append_cases book.free taken row (subst (λ (l : List ℕ). Contains l row) (ends.progress f).free free)) [
           | inl still ↦ out.not_free still
           | inr has ↦ let some = contains_seen row w.taken has in absurd (omega arith)
@@ -256,7 +256,7 @@ module _ (f : ends.Finish) (s' : Sheet) (o : Outcome f s') where
       let some = reached_later row is in
       let number = ends.later_number f row some in
       record {
-        here = (number.0, subst (λ (n : ℕ). row < first_row + n) (sym ((ends.progress f).rows ∙ f.may.was.book.rows)) number.1);
+        here = (number.0, subst (λ (n : ℕ). row < first_row + n) (sym ((ends.progress f).rows ∙ f.may.case.was.kept.booked.rows)) number.1);
         not_free = λ free. (let never = free_unreached row free in let none = never.1 in absurd (omega arith));
         not_held = λ held. elim (Contains-append_cases (held_rows b.book) gone row (subst (λ (l : List ℕ). Contains l row) held_later held)) [
           | inl before ↦ held_before some before
@@ -269,17 +269,17 @@ module _ (f : ends.Finish) (s' : Sheet) (o : Outcome f s') where
           let c = ends.counts f row in let sum = c.sum in
           elim (none_or_some (ends.old_count f row)) [
             | inr was ↦ absurd ((was_out row was).not_held held)
-            | inl never ↦ apart_ends b.book.free (held_rows b.book) row f.may.was.book.sound.once (was_free row (seen_contains row w.taken (omega arith))) held
+            | inl never ↦ apart_ends b.book.free (held_rows b.book) row f.may.case.was.kept.booked.sound.once (was_free row (seen_contains row w.taken (omega arith))) held
           ]
 
   spare : All (λ (row : ℕ). IsSpare s'.cleared (life_of s'.lives row)) book.free
   spare = all_ones (λ (row : ℕ). IsSpare s'.cleared (life_of s'.lives row)) book.free (λ row one.
       let free = one_contains book.free row one in
       let before = still_free row free in
-      let number = All-contains (λ (r : ℕ). (first_row ≤ r) × (r < first_row + b.book.rows)) b.book.free row f.may.was.book.sound.free_rows before in
-      let last : row < first_row + b.sheet.tree.rows = subst (λ (n : ℕ). row < first_row + n) f.may.was.book.rows number.1 in
+      let number = All-contains (λ (r : ℕ). (first_row ≤ r) × (r < first_row + b.book.rows)) b.book.free row f.may.case.was.kept.booked.sound.free_rows before in
+      let last : row < first_row + b.sheet.tree.rows = subst (λ (n : ℕ). row < first_row + n) f.may.case.was.kept.booked.rows number.1 in
       let fate = free_unreached row free in
-      let was : IsSpare b.sheet.cleared (life_of b.sheet.lives row) = All-contains (λ (r : ℕ). IsSpare b.sheet.cleared (life_of b.sheet.lives r)) b.book.free row f.may.was.book.spare before in
+      let was : IsSpare b.sheet.cleared (life_of b.sheet.lives row) = All-contains (λ (r : ℕ). IsSpare b.sheet.cleared (life_of b.sheet.lives r)) b.book.free row f.may.case.was.kept.booked.spare before in
       subst (λ (n : ℕ). IsSpare n (life_of s'.lives row)) (sym (ap (λ (x : Sheet). x.cleared) o.rest))
       (subst (IsSpare b.sheet.cleared) (sym (untouched row number.0 last fate.0 fate.1)) was))
 
@@ -287,7 +287,7 @@ module _ (f : ends.Finish) (s' : Sheet) (o : Outcome f s') where
   stamps =
       subst (All (λ (h : Held). h.stamp < b.number + 1)) (sym (ends.progress f).held)
       (All-append (λ (h : Held). h.stamp < b.number + 1) b.book.held (map (stamped b.number) w.gone)
-      (All-weaker (λ (h : Held). h.stamp < b.number) (λ (h : Held). h.stamp < b.number + 1) (λ h low. omega arith) b.book.held f.may.was.book.stamps)
+      (All-weaker (λ (h : Held). h.stamp < b.number) (λ (h : Held). h.stamp < b.number + 1) (λ h low. omega arith) b.book.held f.may.case.was.kept.booked.stamps)
       (all_ones (λ (h : Held). h.stamp < b.number + 1) (map (stamped b.number) w.gone) (λ h one.
       (let at = map_one (stamped b.number) w.gone h one in
       subst (λ (g : Held). g.stamp < b.number + 1) at.2 (omega arith)))))
@@ -295,7 +295,7 @@ module _ (f : ends.Finish) (s' : Sheet) (o : Outcome f s') where
   booked : IsBookOf s'.tree s'.lives s'.cleared book (b.number + 1)
   booked = record {
     sound = f.may.sound;
-    rows = (ends.progress f).rows ∙ (f.may.was.book.rows ∙ sym rows');
+    rows = (ends.progress f).rows ∙ (f.may.case.was.kept.booked.rows ∙ sym rows');
     out = out_is;
     reached = is_out;
     spare = spare;
@@ -304,32 +304,32 @@ module _ (f : ends.Finish) (s' : Sheet) (o : Outcome f s') where
 
   -- ---- where it was published
 
-  root_before : f.end.start.tree.root ≡ b.sheet.tree.root
-  root_before = ap (λ (t : laws.Tree). t.root) f.may.was.tree
+  root_before : f.start.tree.root ≡ b.sheet.tree.root
+  root_before = ap (λ (t : laws.Tree). t.root) f.may.case.was.tree
 
-  other_root : (old new : Option ℕ) → f.end.old ≡ old → f.end.new ≡ new → StandsAs f.end.start.tree old → IsTop w old new f.word → f.word ≢ f.end.start.tree.root
+  other_root : (old new : Option ℕ) → f.may.old ≡ old → f.may.new ≡ new → StandsAs f.start.tree old → IsTop w old new f.word → f.word ≢ f.start.tree.root
   other_root None None is is' stands top same = absurd top
-  other_root (Some h) None is is' stands top same = root_named f.end.start.tree h stands (sym same ∙ top)
+  other_root (Some h) None is is' stands top same = root_named f.start.tree h stands (sym same ∙ top)
   other_root None (Some h') is is' stands top same = ends.word_is_some f h' is' (same ∙ stands)
   other_root (Some h) (Some h') is is' stands top same =
-      let was : 1 ≤ ends.old_count f (row_in f.end.start.tree.root) = subst (λ (o : Option ℕ). 1 ≤ count_in (is_row_of (row_in f.end.start.tree.root)) f.end.start.tree o) (sym is) (root_counts f.end.start.tree h stands) in
-      let not = ends.old_is_not_taken f (row_in f.end.start.tree.root) was in
-      let taken : is_taken w (row_in f.end.start.tree.root) ≡ true = subst (λ (n : ℕ). is_taken w (row_in n) ≡ true) same top in
+      let was : 1 ≤ ends.old_count f (row_in f.start.tree.root) = subst (λ (o : Option ℕ). 1 ≤ count_in (is_row_of (row_in f.start.tree.root)) f.start.tree o) (sym is) (root_counts f.start.tree h stands) in
+      let not = ends.old_is_not_taken f (row_in f.start.tree.root) was in
+      let taken : is_taken w (row_in f.start.tree.root) ≡ true = subst (λ (n : ℕ). is_taken w (row_in n) ≡ true) same top in
       absurd (cc)
 
   -- ---- the slot that was written
 
-  module _ (h row col : ℕ) (is_old : f.end.old ≡ Some h) (place : IsChildSlot (now f.end.start w) h row col) where
+  module _ (h row col : ℕ) (is_old : f.may.old ≡ Some h) (place : IsChildSlot (now f.start w) h row col) where
     abbrev t : laws.Tree
-    t = now f.end.start w
+    t = now f.start w
 
     stands : laws.Stands t h
     stands = subst (StandsAs t) is_old (ends.stands_now f)
 
     counted_now : (r : ℕ) → 1 ≤ count_in (is_row_of r) t (Some h) → 1 ≤ ends.old_count f r
     counted_now r some =
-        let same = ends.now_count f.end.start w f.end.old (is_row_of r) f.may.holds in
-        let here : 1 ≤ count_in (is_row_of r) t f.end.old = subst (λ (old : Option ℕ). 1 ≤ count_in (is_row_of r) t old) (sym is_old) some in
+        let same = ends.now_count f.start w f.may.old (is_row_of r) f.may.holds in
+        let here : 1 ≤ count_in (is_row_of r) t f.may.old = subst (λ (old : Option ℕ). 1 ≤ count_in (is_row_of r) t old) (sym is_old) some in
         omega arith
 
     row_was : 1 ≤ ends.old_count f row
@@ -369,12 +369,12 @@ module _ (f : ends.Finish) (s' : Sheet) (o : Outcome f s') where
         let alive = is_reached_later row (let was = row_was in omega arith) in
         let low : (0 < col) × (col < columns b.sheet.tree.table.width) = subst (λ (v : Width). (0 < col) × (col < columns v)) (ends.progress f).width (above_in s f.place (ends.place_is f) row col is_place) in (
           o.root ∙ (ap (λ (p : Place). (with_published s.tree p f.word).root) is_place ∙ (ends.progress f).root),
-          (f.may.was.live row number.0 number.1).1 (ends.reached_was f row row_was),
+          (f.may.case.was.kept.live row number.0 number.1).1 (ends.reached_was f row row_was),
           o.lives row number.0 number.1 ∙ life_if_reached s (ends.published f) row (sym (o.reached row) ∙ alive),
           (λ same. not_child new top (sym (o.at row col is_place) ∙ (same ∙ word_was low))),
         )
 
-  published_in : (old new : Option ℕ) (place : Place) → f.end.old ≡ old → f.end.new ≡ new → f.place ≡ place → StandsAs f.end.start.tree old → IsEndPlace f.end.start w old place → IsTop w old new f.word → WasPublishedAt b.sheet s' place
+  published_in : (old new : Option ℕ) (place : Place) → f.may.old ≡ old → f.may.new ≡ new → f.place ≡ place → StandsAs f.start.tree old → IsEndPlace f.start w old place → IsTop w old new f.word → WasPublishedAt b.sheet s' place
   published_in old new Root is_old is_new is_place was at top = λ same.
       other_root old new is_old is_new was top
       (sym (o.root ∙ ap (λ (p : Place). (with_published s.tree p f.word).root) is_place) ∙ (same ∙ sym root_before))
@@ -416,7 +416,7 @@ module _ (f : ends.Finish) (s' : Sheet) (o : Outcome f s') where
     tree = tree;
     parents = parents;
     map = map_is;
-    published = published_in f.end.old f.end.new f.place refl refl refl (ends.stands_was f) f.may.at f.may.top;
+    published = published_in f.may.old f.may.new f.place refl refl refl (ends.stands_was f) f.may.at f.may.top;
     kept = kept;
     none_buried = none_buried;
     live = live;

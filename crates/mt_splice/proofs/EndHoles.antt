@@ -1,5 +1,5 @@
 -- A name stored in a slot in place of another leaves which slots of each row are 0.
-use Rattle.std.proofs.Common.{◌≡◌, ◌≢◌, ◌⊎◌, ℕ, zero, suc, ◌==◌, List, [], ◌∷◌, ◌++◌, length, Option, Some, None, Bool, map, refl, sym, ap, ◌∙◌, subst, inl, inr, arith, ne_eqb}
+use Rattle.std.proofs.Common.{◌≡◌, ◌≢◌, ◌⊎◌, ℕ, zero, suc, ◌==◌, List, [], ◌∷◌, ◌++◌, length, Some, None, Bool, map, refl, sym, ap, ◌∙◌, subst, inl, inr, arith, ne_eqb}
 use Rattle.std.specs.List.{slice_get}
 use Rattle.std.proofs.lemmas.Bool.{cases_Bool, eqb-true}
 use Rattle.std.proofs.lemmas.List.{map-append}
@@ -7,25 +7,21 @@ use Rattle.mt_layout.specs.declared.names.RowKind.{RowKind}
 use Rattle.mt_layout.specs.declared.spans.Span.{Span}
 use Rattle.mt_layout.specs.Rows.{row_in, named_kind}
 use Rattle.mt_rows.specs.declared.rows.Place.TheVariants.{Slot}
-use Rattle.mt_rows.specs.Spans.{Table, row_spans, spans_by, spans_in}
+use Rattle.mt_rows.specs.Spans.{Table, spans_in}
 use Rattle.mt_rows.specs.Levels.{level}
 use Rattle.mt_rows.specs.Laws.{Tree, HasWords, Stands, kind_at}
-use Rattle.mt_rows.specs.Sheet as sheet
+use Rattle.mt_rows.specs.Sheet.{Rooted}
 use Rattle.mt_rows.specs.Publish.{SameHoles, StandsAt, with_published}
 use Rattle.mt_rows.specs.Replacement.{root_of}
 use Rattle.mt_rows.proofs.Heights.{level_next}
 use Rattle.mt_rows.proofs.SlotStore as store
 use Rattle.mt_rows.proofs.Reached as reached
 use Rattle.mt_splice.specs.Ends.{IsChildSlot}
-use Rattle.mt_splice.proofs.EndTrees.{words_of}
+use Rattle.mt_splice.specs.Endings.{words_of}
 
--- spans of the same row with the same ends hold the same, whatever their gaps
+-- spans of the same row with the same ends hold the same
 pub same_place_spans : (t : Table) (x y : Span) → y.first ≡ x.first → y.last ≡ x.last → y.word ≡ x.word → spans_in t y ≡ spans_in t x
-same_place_spans t x y first last word = ap (λ (k : Option RowKind). spans_by t k y) (ap named_kind word) ∙ by (named_kind x.word)
-  where
-    by : (k : Option RowKind) → spans_by t k y ≡ spans_by t k x
-    by None = refl
-    by (Some kind) = λ i. row_spans t (row_in (word i)) kind (first i) (last i)
+same_place_spans t x y first last word = λ i. spans_in t (record { first = first i; last = last i; word = word i })
 
 -- 0 is no name
 pub name_some : (word : ℕ) (kind : RowKind) → named_kind word ≡ Some kind → word ≢ 0
@@ -77,7 +73,7 @@ module _ (t : Tree) (h row col : ℕ) (has : HasWords t) (stands : Stands t h) (
   pub top_get : slice_get (spans_in (with_published (words_of t) (Slot row col) word).table place.at) place.slot ≡ Some top_span
   top_get =
       let p = store.parts st in
-      ap (λ (v : sheet.Tree). slice_get (spans_in v.table place.at) place.slot) is_store
+      ap (λ (v : Rooted). slice_get (spans_in v.table place.at) place.slot) is_store
       ∙ (ap (λ (xs : List Span). slice_get xs place.slot) (store.row_after st)
       ∙ (ap (slice_get (p.0 ++ (top_span ∷ p.1))) (sym p.3) ∙ get_here p.0 p.1 top_span))
 
@@ -90,7 +86,7 @@ module _ (t : Tree) (h row col : ℕ) (has : HasWords t) (stands : Stands t h) (
   ]
     where
       stored : slice_get (spans_in (store.after_store st).table x) i ≡ Some y
-      stored = ap (λ (v : sheet.Tree). slice_get (spans_in v.table x) i) (sym is_store) ∙ at
+      stored = ap (λ (v : Rooted). slice_get (spans_in v.table x) i) (sym is_store) ∙ at
 
       at_place : row_in x.word ≡ row_in place.at.word → (slice_get (spans_in t.table x) i ≡ Some y) ⊎ ((row_in x.word ≡ row) × (i ≡ place.slot) × (y ≡ top_span))
       at_place same =
@@ -121,4 +117,4 @@ module _ (t : Tree) (h row col : ℕ) (has : HasWords t) (stands : Stands t h) (
 
     pub slot_holes : (k : ℕ) (x : Span) → StandsAt (words_of t) k x → SameHoles (spans_in t.table x) (spans_in (with_published (words_of t) (Slot row col) word).table x)
     slot_holes k x at =
-        subst (λ (v : sheet.Tree). SameHoles (spans_in t.table x) (spans_in v.table x)) (sym is_store) (holes_stay k x (reached.on_level t h stands k x at))
+        subst (λ (v : Rooted). SameHoles (spans_in t.table x) (spans_in v.table x)) (sym is_store) (holes_stay k x (reached.on_level t h stands k x at))

@@ -52,16 +52,16 @@ some_columns Long = omega arith
 
 module _ (f : ends.Finish) where
   abbrev b : Before
-  b = f.end.before
+  b = f.before
 
   abbrev w : Work
-  w = f.end.work
+  w = f.may.work
 
   abbrev s : Sheet
   s = f.sheet
 
   abbrev pub later : laws.Tree
-  later = tree_as f.end.before.kind (with_published f.sheet.tree f.place f.word)
+  later = tree_as f.before.kind (with_published f.sheet.tree f.place f.word)
 
   -- ---- the store and the words
 
@@ -101,9 +101,9 @@ module _ (f : ends.Finish) where
   taken_spans x taken = stored_spans f.place (ends.place_is f) (place_old f.place (ends.place_is f)) x taken
 
   pub inner : (k : ℕ) → laws.kind_at b.kind (suc k) ≡ Inner
-  inner k = ap inner_kind f.may.range
+  inner k = ap inner_kind f.may.case.range
 
-  module _ (h : ℕ) (is_new : f.end.new ≡ Some h) where
+  module _ (h : ℕ) (is_new : f.may.new ≡ Some h) where
     pub stands : laws.Stands later h
     stands = subst (StandsAs later) is_new (ends.stands_later f)
 
@@ -123,7 +123,7 @@ module _ (f : ends.Finish) where
         let c = ends.counts f (row_seen sn) in let were = c.were in let never = c.fresh mine in
         let gone = ends.passing_implies (is_here sn.height sn.at) (is_row_of (row_seen sn)) (here_row sn.height sn.at) w.gone in
         let all = f.may.replaced.rows (is_here sn.height sn.at) in
-        let found : 1 ≤ count_in (is_here sn.height sn.at) later f.end.new = omega arith in
+        let found : 1 ≤ count_in (is_here sn.height sn.at) later f.may.new = omega arith in
         let place = reached.times_place (is_here sn.height sn.at) later.table h (root_of later) (subst (λ (new : Option ℕ). 1 ≤ count_in (is_here sn.height sn.at) later new) is_new found) in
         let here = here_is sn.height place.0 sn.at place.1 place.3 in
         (place.1, subst (λ (k : ℕ). reached.OnLevel later.table h (root_of later) k place.1) here.0 place.2, here.1, here.2, here.3)
@@ -137,9 +137,9 @@ module _ (f : ends.Finish) where
       pub count : n.count ≡ length (spans_in later.table at)
       pub taken : is_taken w n.row ≡ true
 
-    made_row : (n : NewRow) → reached.IsOneOf n f.new_inner_rows → MadeRow n
+    made_row : (n : NewRow) → reached.IsOneOf n f.inner → MadeRow n
     made_row n one =
-        let found = made_seen s.tree.table w.taken n (subst (reached.IsOneOf n) f.may.inner one) in
+        let found = made_seen s.tree.table w.taken n (subst (reached.IsOneOf n) f.may.inner_rows one) in
         let place = taken_place found.0 found.1 in
         let taken = ends.some_taken f (row_seen found.0) (seen_some w.taken found.0 found.1) in
         let row : row_in place.0.word ≡ row_seen found.0 = ap row_in place.4 in
@@ -154,7 +154,7 @@ module _ (f : ends.Finish) where
         }
 
     -- an inner row that was taken is in the list
-    row_made : (k : ℕ) (x : Span) → reached.OnLevel later.table h (root_of later) (suc k) x → is_taken w (row_in x.word) ≡ true → reached.IsOneOf (record { row = row_in x.word; count = length (spans_in later.table x) }) f.new_inner_rows
+    row_made : (k : ℕ) (x : Span) → reached.OnLevel later.table h (root_of later) (suc k) x → is_taken w (row_in x.word) ≡ true → reached.IsOneOf (record { row = row_in x.word; count = length (spans_in later.table x) }) f.inner
     row_made k x on taken =
         let found = some_seen (row_in x.word) w.taken (ends.taken_some f (row_in x.word) taken) in
         let place = taken_place found.0 found.1 in
@@ -162,7 +162,7 @@ module _ (f : ends.Finish) where
         let spans : spans_in s.tree.table found.0.at ≡ spans_in later.table x =
         sym (same_place_spans s.tree.table found.0.at place.0 place.2 place.3 place.4) ∙ (ap (spans_in s.tree.table) same.1 ∙ sym (taken_spans x taken)) in
         let is : new_row s.tree.table found.0 ≡ record { row = row_in x.word; count = length (spans_in later.table x) } = (λ i. record { row = found.2 i; count = length (spans i) }) in
-        subst (λ (n : NewRow). reached.IsOneOf n f.new_inner_rows) is (subst (reached.IsOneOf (new_row s.tree.table found.0)) (sym f.may.inner) (seen_made s.tree.table w.taken found.0 k same.0 found.1))
+        subst (λ (n : NewRow). reached.IsOneOf n f.inner) is (subst (reached.IsOneOf (new_row s.tree.table found.0)) (sym f.may.inner_rows) (seen_made s.tree.table w.taken found.0 k same.0 found.1))
 
     -- ---- the children of a row in the list
 
@@ -181,7 +181,7 @@ module _ (f : ends.Finish) where
     named_inner : (k : ℕ) (x : Span) → reached.OnLevel later.table h (root_of later) (suc k) x → named_kind x.word ≡ Some Inner
     named_inner k x on = (reached.on_level_law later h stands (suc k) x on).name.named ∙ ap (λ (kind : RowKind). Some kind) (inner k)
 
-    made_child : (n : NewRow) (slot : ℕ) → reached.IsOneOf n f.new_inner_rows → slot < n.count → MadeChild n slot
+    made_child : (n : NewRow) (slot : ℕ) → reached.IsOneOf n f.inner → slot < n.count → MadeChild n slot
     made_child n slot one low =
         let m = made_row n one in
         let at = get_some (spans_in later.table m.at) slot (subst (λ (c : ℕ). slot < c) m.count low) in
@@ -197,49 +197,49 @@ module _ (f : ends.Finish) where
 
     -- ---- rows that were reached before
 
-    old_counted : (h₀ : ℕ) → f.end.old ≡ Some h₀ → (r : ℕ) → 1 ≤ count_in (is_row_of r) (now f.end.start w) (Some h₀) → 1 ≤ ends.old_count f r
+    old_counted : (h₀ : ℕ) → f.may.old ≡ Some h₀ → (r : ℕ) → 1 ≤ count_in (is_row_of r) (now f.start w) (Some h₀) → 1 ≤ ends.old_count f r
     old_counted h₀ is_old r some =
-        let same = ends.now_count f.end.start w f.end.old (is_row_of r) f.may.holds in
-        let here : 1 ≤ count_in (is_row_of r) (now f.end.start w) f.end.old = subst (λ (old : Option ℕ). 1 ≤ count_in (is_row_of r) (now f.end.start w) old) (sym is_old) some in
+        let same = ends.now_count f.start w f.may.old (is_row_of r) f.may.holds in
+        let here : 1 ≤ count_in (is_row_of r) (now f.start w) f.may.old = subst (λ (old : Option ℕ). 1 ≤ count_in (is_row_of r) (now f.start w) old) (sym is_old) some in
         omega arith
 
-    now_counted : (h₀ : ℕ) → f.end.old ≡ Some h₀ → (r : ℕ) → 1 ≤ ends.old_count f r → 1 ≤ count_in (is_row_of r) (now f.end.start w) (Some h₀)
+    now_counted : (h₀ : ℕ) → f.may.old ≡ Some h₀ → (r : ℕ) → 1 ≤ ends.old_count f r → 1 ≤ count_in (is_row_of r) (now f.start w) (Some h₀)
     now_counted h₀ is_old r some =
-        let same = ends.now_count f.end.start w f.end.old (is_row_of r) f.may.holds in
-        subst (λ (old : Option ℕ). 1 ≤ count_in (is_row_of r) (now f.end.start w) old) is_old (omega arith)
+        let same = ends.now_count f.start w f.may.old (is_row_of r) f.may.holds in
+        subst (λ (old : Option ℕ). 1 ≤ count_in (is_row_of r) (now f.start w) old) is_old (omega arith)
 
-    stands_old : (h₀ : ℕ) → f.end.old ≡ Some h₀ → laws.Stands (now f.end.start w) h₀
-    stands_old h₀ is_old = subst (StandsAs (now f.end.start w)) is_old (ends.stands_now f)
+    stands_old : (h₀ : ℕ) → f.may.old ≡ Some h₀ → laws.Stands (now f.start w) h₀
+    stands_old h₀ is_old = subst (StandsAs (now f.start w)) is_old (ends.stands_now f)
 
     -- what the lawful words say of the tree as it was
     record WasLawful (h₀ : ℕ) : Type 0 where
       root : column b.sheet.tree.table (row_in b.sheet.tree.root) 0 ≡ 1
-      parents : (k i : ℕ) (x y : Span) → reached.OnLevel (now f.end.start w).table h₀ (root_of (now f.end.start w)) (suc k) x → slice_get (spans_in (now f.end.start w).table x) i ≡ Some y
+      parents : (k i : ℕ) (x y : Span) → reached.OnLevel (now f.start w).table h₀ (root_of (now f.start w)) (suc k) x → slice_get (spans_in (now f.start w).table x) i ≡ Some y
           → column b.sheet.tree.table (row_in y.word) 0 ≡ parent_at (row_in x.word) i
 
-    was_lawful : (h₀ : ℕ) → f.end.old ≡ Some h₀ → WasLawful h₀
-    was_lawful h₀ is_old = by f.may.lawful.words
+    was_lawful : (h₀ : ℕ) → f.may.old ≡ Some h₀ → WasLawful h₀
+    was_lawful h₀ is_old = by f.may.case.was.kept.lawful.words
       where
-        holds : HoldsAs f.end.start w (Some h₀)
-        holds = subst (HoldsAs f.end.start w) is_old f.may.holds
+        holds : HoldsAs f.start w (Some h₀)
+        holds = subst (HoldsAs f.start w) is_old f.may.holds
 
-        stood : laws.Stands f.end.start.tree h₀
-        stood = subst (StandsAs f.end.start.tree) is_old (ends.stands_was f)
+        stood : laws.Stands f.start.tree h₀
+        stood = subst (StandsAs f.start.tree) is_old (ends.stands_was f)
 
         stood_b : laws.Stands (tree_as b.kind b.sheet.tree) h₀
-        stood_b = subst (λ (t : laws.Tree). laws.Stands t h₀) f.may.was.tree stood
+        stood_b = subst (λ (t : laws.Tree). laws.Stands t h₀) f.may.case.was.tree stood
 
-        from_level : (k : ℕ) (x : Span) → reached.OnLevel (now f.end.start w).table h₀ (root_of (now f.end.start w)) k x → reached.OnLevel f.end.start.tree.table h₀ (root_of f.end.start.tree) k x
+        from_level : (k : ℕ) (x : Span) → reached.OnLevel (now f.start w).table h₀ (root_of (now f.start w)) k x → reached.OnLevel f.start.tree.table h₀ (root_of f.start.tree) k x
         from_level k x on = record {
           depth = on.depth;
           height = on.height;
-          one = subst (reached.IsOneOf x) (old_level f.end.start w holds.1 on.depth k (holds.0 ∙ on.height)) on.one;
+          one = subst (reached.IsOneOf x) (old_level f.start w holds.1 on.depth k (holds.0 ∙ on.height)) on.one;
         }
 
-        spans_were : (k : ℕ) (x : Span) → reached.OnLevel f.end.start.tree.table h₀ (root_of f.end.start.tree) k x → spans_in (now f.end.start w).table x ≡ spans_in f.end.start.tree.table x
+        spans_were : (k : ℕ) (x : Span) → reached.OnLevel f.start.tree.table h₀ (root_of f.start.tree) k x → spans_in (now f.start w).table x ≡ spans_in f.start.tree.table x
         spans_were k x on =
-            levels_at (Shared f.end.start.tree.table (now f.end.start w).table) f.end.start.tree.table h₀ k (root_of f.end.start.tree) x
-            (subst (λ (n : ℕ). Levels (Shared f.end.start.tree.table (now f.end.start w).table) f.end.start.tree.table n (root_of f.end.start.tree)) holds.0 (old_shared f.end.start w holds.1)) on
+            levels_at (Shared f.start.tree.table (now f.start w).table) f.start.tree.table h₀ k (root_of f.start.tree) x
+            (subst (λ (n : ℕ). Levels (Shared f.start.tree.table (now f.start w).table) f.start.tree.table n (root_of f.start.tree)) holds.0 (old_shared f.start w holds.1)) on
 
         by : laws.IsLawful (tree_as b.kind b.sheet.tree) → WasLawful h₀
         by (inl empty) = absurd (root_named (tree_as b.kind b.sheet.tree) h₀ stood_b empty)
@@ -247,18 +247,18 @@ module _ (f : ends.Finish) where
             let tall = reached.height_is (tree_as b.kind b.sheet.tree) h₀ stood_b in
             let tall₁ = reached.height_is (tree_as b.kind b.sheet.tree) h₁ stood₁ in
             let same : h₁ ≡ h₀ = omega arith in
-            let levels : Levels (laws.IsTended f.end.start.tree) f.end.start.tree.table h₀ (root_of f.end.start.tree) =
-            subst (λ (n : ℕ). Levels (laws.IsTended f.end.start.tree) f.end.start.tree.table n (root_of f.end.start.tree)) same
-            (subst (λ (t : laws.Tree). Levels (laws.IsTended t) t.table h₁ (root_of t)) (sym f.may.was.tree) tended) in
+            let levels : Levels (laws.IsTended f.start.tree) f.start.tree.table h₀ (root_of f.start.tree) =
+            subst (λ (n : ℕ). Levels (laws.IsTended f.start.tree) f.start.tree.table n (root_of f.start.tree)) same
+            (subst (λ (t : laws.Tree). Levels (laws.IsTended t) t.table h₁ (root_of t)) (sym f.may.case.was.tree) tended) in
             record {
               root = root;
               parents = λ k i x y on at.
                   (let there = from_level (suc k) x on in
-                  let law : laws.ParentsFrom f.end.start.tree.table (row_in x.word) 0 (spans_in f.end.start.tree.table x) =
-                  (levels_at (laws.IsTended f.end.start.tree) f.end.start.tree.table h₀ (suc k) (root_of f.end.start.tree) x levels there).parent in
+                  let law : laws.ParentsFrom f.start.tree.table (row_in x.word) 0 (spans_in f.start.tree.table x) =
+                  (levels_at (laws.IsTended f.start.tree) f.start.tree.table h₀ (suc k) (root_of f.start.tree) x levels there).parent in
                   let first : 0 + i ≡ i = omega arith in
-                  ap (λ (t : laws.Tree). column t.table (row_in y.word) 0) (sym f.may.was.tree)
-                  ∙ (parents_at f.end.start.tree.table (row_in x.word) 0 (spans_in f.end.start.tree.table x) i y law (ap (λ (xs : List Span). slice_get xs i) (sym (spans_were (suc k) x there)) ∙ at)
+                  ap (λ (t : laws.Tree). column t.table (row_in y.word) 0) (sym f.may.case.was.tree)
+                  ∙ (parents_at f.start.tree.table (row_in x.word) 0 (spans_in f.start.tree.table x) i y law (ap (λ (xs : List Span). slice_get xs i) (sym (spans_were (suc k) x there)) ∙ at)
                   ∙ ap (parent_at (row_in x.word)) first));
             }
 
@@ -280,12 +280,12 @@ module _ (f : ends.Finish) where
     width_later Root = refl
     width_later (Slot r c) = refl
 
-    top_in : (old : Option ℕ) (place : Place) (row col : ℕ) → f.end.old ≡ old → f.place ≡ place → place ≡ Slot row col → IsEndPlace f.end.start w old place → TopAt row col
+    top_in : (old : Option ℕ) (place : Place) (row col : ℕ) → f.may.old ≡ old → f.place ≡ place → place ≡ Slot row col → IsEndPlace f.start w old place → TopAt row col
     top_in old Root row col is_old is_place is at = absurd (cc)
     top_in None (Slot r c) row col is_old is_place is at = absurd at
     top_in (Some h₀) (Slot r c) row col is_old is_place is at =
         let rows : r ≡ row = cc in let cols : c ≡ col = cc in
-        let t : laws.Tree = now f.end.start w in
+        let t : laws.Tree = now f.start w in
         let stood = stands_old h₀ is_old in
         let place = at.0 in
         let on = at_on_level t h₀ r c (ends.has_words f) stood place 0 in
@@ -313,11 +313,11 @@ module _ (f : ends.Finish) where
           old = subst (λ (n : ℕ). is_taken w n ≡ false) (place.number ∙ rows) (ends.old_is_not_taken f (row_in place.at.word) was);
         }
       where
-        kind_here : (low : ℕ) → laws.kind_at (now f.end.start w).kind (suc low) ≡ Inner
-        kind_here low = ap (λ (t : laws.Tree). laws.kind_at t.kind (suc low)) f.may.was.tree ∙ inner low
+        kind_here : (low : ℕ) → laws.kind_at (now f.start w).kind (suc low) ≡ Inner
+        kind_here low = ap (λ (t : laws.Tree). laws.kind_at t.kind (suc low)) f.may.case.was.tree ∙ inner low
 
     pub top_at : (row col : ℕ) → f.place ≡ Slot row col → TopAt row col
-    top_at row col is = top_in f.end.old f.place row col refl refl is f.may.at
+    top_at row col is = top_in f.may.old f.place row col refl refl is f.may.at
 
     -- ---- what stands in a row that was not taken
 
@@ -328,15 +328,15 @@ module _ (f : ends.Finish) where
     abbrev IsTopChild : Span → ℕ → Span → Type 0
     IsTopChild x i y = (row : ℕ) × (col : ℕ) × (f.place ≡ Slot row col) × (row_in x.word ≡ row) × (col ≡ slot_column (slots_of later.table.width Inner) i) × (y.word ≡ f.word)
 
-    kept_in : (old : Option ℕ) (place : Place) (k i : ℕ) (x y : Span) → f.end.old ≡ old → f.place ≡ place → IsEndPlace f.end.start w old place → reached.OnLevel later.table h (root_of later) (suc k) x → ends.taken_count f (row_in x.word) ≡ 0
+    kept_in : (old : Option ℕ) (place : Place) (k i : ℕ) (x y : Span) → f.may.old ≡ old → f.place ≡ place → IsEndPlace f.start w old place → reached.OnLevel later.table h (root_of later) (suc k) x → ends.taken_count f (row_in x.word) ≡ 0
         → slice_get (spans_in later.table x) i ≡ Some y → IsOldChild x i y ⊎ IsTopChild x i y
     kept_in None place k i x y is_old is_place at on none get =
         let is = place_counted (suc k) x on in
         let c = ends.counts f (row_in x.word) in let sum = c.sum in
-        let never = ap (count_in (is_row_of (row_in x.word)) f.end.start.tree) is_old in
+        let never = ap (count_in (is_row_of (row_in x.word)) f.start.tree) is_old in
         absurd (omega arith)
     kept_in (Some h₀) place k i x y is_old is_place at on none get =
-        let t : laws.Tree = now f.end.start w in
+        let t : laws.Tree = now f.start w in
         let stood = stands_old h₀ is_old in
         let is = place_counted (suc k) x on in
         let c = ends.counts f (row_in x.word) in let sum = c.sum in
@@ -350,19 +350,19 @@ module _ (f : ends.Finish) where
         ∙ (ap (λ (xs : List Span). slice_get xs i) (sym (same_place_spans later.table found.1 x same.1 same.2 same.3)) ∙ get) in
         by h₀ is_old place is_place at found.1 on₀ found.3 here
       where
-        old_child : (h₀ : ℕ) → f.end.old ≡ Some h₀ → (x₀ : Span) → reached.OnLevel (now f.end.start w).table h₀ (root_of (now f.end.start w)) (suc k) x₀ → row_in x₀.word ≡ row_in x.word
-            → slice_get (spans_in (now f.end.start w).table x₀) i ≡ Some y → IsOldChild x i y
+        old_child : (h₀ : ℕ) → f.may.old ≡ Some h₀ → (x₀ : Span) → reached.OnLevel (now f.start w).table h₀ (root_of (now f.start w)) (suc k) x₀ → row_in x₀.word ≡ row_in x.word
+            → slice_get (spans_in (now f.start w).table x₀) i ≡ Some y → IsOldChild x i y
         old_child h₀ is_old x₀ on₀ row here = (
           (was_lawful h₀ is_old).parents k i x₀ y on₀ here ∙ ap (λ (r : ℕ). parent_at r i) row,
-          old_counted h₀ is_old (row_in y.word) (reached.on_level_reached (now f.end.start w) h₀ (stands_old h₀ is_old) k y (child_on (now f.end.start w) h₀ (stands_old h₀ is_old) k i x₀ y on₀ here)),
+          old_counted h₀ is_old (row_in y.word) (reached.on_level_reached (now f.start w) h₀ (stands_old h₀ is_old) k y (child_on (now f.start w) h₀ (stands_old h₀ is_old) k i x₀ y on₀ here)),
         )
 
-        by : (h₀ : ℕ) → f.end.old ≡ Some h₀ → (place : Place) → f.place ≡ place → IsEndPlace f.end.start w (Some h₀) place → (x₀ : Span) → reached.OnLevel (now f.end.start w).table h₀ (root_of (now f.end.start w)) (suc k) x₀
-            → row_in x₀.word ≡ row_in x.word → slice_get (spans_in (with_published (words_of (now f.end.start w)) place f.word).table x₀) i ≡ Some y → IsOldChild x i y ⊎ IsTopChild x i y
+        by : (h₀ : ℕ) → f.may.old ≡ Some h₀ → (place : Place) → f.place ≡ place → IsEndPlace f.start w (Some h₀) place → (x₀ : Span) → reached.OnLevel (now f.start w).table h₀ (root_of (now f.start w)) (suc k) x₀
+            → row_in x₀.word ≡ row_in x.word → slice_get (spans_in (with_published (words_of (now f.start w)) place f.word).table x₀) i ≡ Some y → IsOldChild x i y ⊎ IsTopChild x i y
         by h₀ is_old Root is_place at x₀ on₀ row here = inl (old_child h₀ is_old x₀ on₀ row here)
         by h₀ is_old (Slot r c) is_place at x₀ on₀ row here =
             let place = at.0 in
-            elim (slot_get (now f.end.start w) h₀ r c (ends.has_words f) (stands_old h₀ is_old) place f.word (suc k) x₀ y i on₀ here) [
+            elim (slot_get (now f.start w) h₀ r c (ends.has_words f) (stands_old h₀ is_old) place f.word (suc k) x₀ y i on₀ here) [
               | inl old ↦ inl (old_child h₀ is_old x₀ on₀ row old)
               | inr top ↦ inr (
                 r,
@@ -376,11 +376,11 @@ module _ (f : ends.Finish) where
               )
             ]
           where
-            kind_here : (low : ℕ) → laws.kind_at (now f.end.start w).kind (suc low) ≡ Inner
-            kind_here low = ap (λ (t : laws.Tree). laws.kind_at t.kind (suc low)) f.may.was.tree ∙ inner low
+            kind_here : (low : ℕ) → laws.kind_at (now f.start w).kind (suc low) ≡ Inner
+            kind_here low = ap (λ (t : laws.Tree). laws.kind_at t.kind (suc low)) f.may.case.was.tree ∙ inner low
 
     kept_children : (k i : ℕ) (x y : Span) → reached.OnLevel later.table h (root_of later) (suc k) x → ends.taken_count f (row_in x.word) ≡ 0 → slice_get (spans_in later.table x) i ≡ Some y → IsOldChild x i y ⊎ IsTopChild x i y
-    kept_children k i x y on none get = kept_in f.end.old f.place k i x y refl refl f.may.at on none get
+    kept_children k i x y on none get = kept_in f.may.old f.place k i x y refl refl f.may.at on none get
 
     -- ---- the sheet when the word is published
 
@@ -417,7 +417,7 @@ module _ (f : ends.Finish) where
       child_word₁ n slot c = ap (λ (t : Table). child_word t Inner n.row slot) table₁ ∙ c.word
 
       -- the children of two rows in the list are others
-      same_parent : (n m : NewRow) (i j : ℕ) → reached.IsOneOf n f.new_inner_rows → reached.IsOneOf m f.new_inner_rows → i < n.count → j < m.count → child_row s₁.tree.table Inner n.row i ≡ child_row s₁.tree.table Inner m.row j → (n.row ≡ m.row) × (i ≡ j)
+      same_parent : (n m : NewRow) (i j : ℕ) → reached.IsOneOf n f.inner → reached.IsOneOf m f.inner → i < n.count → j < m.count → child_row s₁.tree.table Inner n.row i ≡ child_row s₁.tree.table Inner m.row j → (n.row ≡ m.row) × (i ≡ j)
       same_parent n m i j one_n one_m low_i low_j same =
           let c = made_child n i one_n low_i in
           let d = made_child m j one_m low_j in
@@ -425,7 +425,7 @@ module _ (f : ends.Finish) where
           (ap row_in (sym (child_word₁ n i c)) ∙ (same ∙ ap row_in (child_word₁ m j d))) in
           (sym c.row.row ∙ (ap (λ (v : Span). row_in v.word) both.0 ∙ d.row.row), both.1)
 
-      are_children : (n : NewRow) → reached.IsOneOf n f.new_inner_rows → AreChildren s₁ Inner n.row n.count
+      are_children : (n : NewRow) → reached.IsOneOf n f.inner → AreChildren s₁ Inner n.row n.count
       are_children n one =
           let m = made_row n one in
           let number = ends.later_number f n.row (ends.taken_later f n.row (ends.taken_some f n.row m.taken)) in
@@ -451,18 +451,18 @@ module _ (f : ends.Finish) where
             apart = λ i j low_i low_j same. (same_parent n n i j one one low_i low_j same).1;
           }
 
-      pub may_tend_some : MayTendRows s₁ Inner f.new_inner_rows
+      pub may_tend_some : MayTendRows s₁ Inner f.inner
       may_tend_some = record {
-        each = λ i n at. are_children n (reached.one_of_get f.new_inner_rows i n at);
+        each = λ i n at. are_children n (reached.one_of_get f.inner i n at);
         apart = λ i j n m slot slot' lt at_n at_m low low' same.
-            (let one_n = reached.one_of_get f.new_inner_rows i n at_n in
-            let one_m = reached.one_of_get f.new_inner_rows j m at_m in
+            (let one_n = reached.one_of_get f.inner i n at_n in
+            let one_m = reached.one_of_get f.inner j m at_m in
             let rows = (same_parent n m slot slot' one_n one_m low low' same).0 in
             let taken = ends.taken_some f m.row (made_row m one_m).taken in
             let c = ends.counts f m.row in let sum = c.sum in let were = c.were in let never = c.fresh taken in
-            let once = count_once later f.end.new m.row (ends.stands_later f) in
+            let once = count_once later f.may.new m.row (ends.stands_later f) in
             let same_index = made_once s.tree.table w.taken i j n m (omega arith)
-            (subst (λ (l : List NewRow). slice_get l i ≡ Some n) f.may.inner at_n) (subst (λ (l : List NewRow). slice_get l j ≡ Some m) f.may.inner at_m) rows in
+            (subst (λ (l : List NewRow). slice_get l i ≡ Some n) f.may.inner_rows at_n) (subst (λ (l : List NewRow). slice_get l j ≡ Some m) f.may.inner_rows at_m) rows in
             omega arith);
       }
 
@@ -493,13 +493,13 @@ module _ (f : ends.Finish) where
 
       -- ---- the parent words when all is tended
 
-      module _ (s₂ s₃ : Sheet) (tended : AreRowsTended s₁ s₂ Inner f.new_inner_rows) (top : IsTopTendedAt s₂ s₃ f.place f.word) where
+      module _ (s₂ s₃ : Sheet) (tended : AreRowsTended s₁ s₂ Inner f.inner) (top : IsTopTendedAt s₂ s₃ f.place f.word) where
         -- a row that is neither the top row nor a child of a row in the list keeps its parent word
         untended : (r : ℕ) → ((n : NewRow) (slot : ℕ) (c : MadeChild n slot) → row_in c.child.word ≢ r) → ((row col : ℕ) → f.place ≡ Slot row col → r ≢ row_in f.word) → column s₃.tree.table r 0 ≡ column s.tree.table r 0
         untended r not_made not_top =
             top_kept s₂ s₃ f.place f.word r top not_top
             ∙ (tended.others r (λ i n slot at low same.
-            (let c = made_child n slot (reached.one_of_get f.new_inner_rows i n at) low in
+            (let c = made_child n slot (reached.one_of_get f.inner i n at) low in
             not_made n slot c (ap row_in (sym (child_word₁ n slot c)) ∙ same)))
             ∙ (ap (λ (t : Table). column t r 0) table₁ ∙ parent_stays r))
 
@@ -513,12 +513,12 @@ module _ (f : ends.Finish) where
             (ends.progress f).parents r not (ap (nat_lt 0) gone)
 
         top_taken : is_taken w (row_in f.word) ≡ true
-        top_taken = subst (λ (new : Option ℕ). IsTop w f.end.old new f.word) is_new f.may.top
+        top_taken = subst (λ (new : Option ℕ). IsTop w f.may.old new f.word) is_new f.may.top
 
         child_of_taken : (k i : ℕ) (x y : Span) → reached.OnLevel later.table h (root_of later) (suc k) x → is_taken w (row_in x.word) ≡ true → slice_get (spans_in later.table x) i ≡ Some y → column s₃.tree.table (row_in y.word) 0 ≡ parent_at (row_in x.word) i
         child_of_taken k i x y on taken get =
             let n : NewRow = record { row = row_in x.word; count = length (spans_in later.table x) } in
-            let at = reached.get_one_of f.new_inner_rows (record { row = row_in x.word; count = length (spans_in later.table x) }) (row_made k x on taken) in
+            let at = reached.get_one_of f.inner (record { row = row_in x.word; count = length (spans_in later.table x) }) (row_made k x on taken) in
             let low = slice_get_within (spans_in later.table x) i y get in
             let word : child_word s₁.tree.table Inner (row_in x.word) i ≡ y.word =
             ap (λ (t : Table). child_word t Inner (row_in x.word) i) table₁ ∙ slot_word later.table Inner x y i (named_inner k x on) get in
@@ -577,15 +577,15 @@ module _ (f : ends.Finish) where
         root_stays = untended (row_in later.root) (λ n slot c same. not_root c.row.low slot c.row.at c.child c.row.on c.get same)
             (λ row col is same. (let t = top_at row col is in not_root t.low t.slot t.at t.top t.on t.get (ap row_in t.word ∙ sym same)))
 
-        root_in : (old : Option ℕ) (place : Place) → f.end.old ≡ old → f.place ≡ place → IsEndPlace f.end.start w old place → column s.tree.table (row_in later.root) 0 ≡ 1
+        root_in : (old : Option ℕ) (place : Place) → f.may.old ≡ old → f.place ≡ place → IsEndPlace f.start w old place → column s.tree.table (row_in later.root) 0 ≡ 1
         root_in old Root is_old is at =
             let word : f.word ≡ later.root = sym (ap (λ (p : Place). (with_published s.tree p f.word).root) is) in
             (ends.progress f).new_parents (row_in later.root) (subst (λ (v : ℕ). is_taken w (row_in v) ≡ true) word top_taken)
         root_in None (Slot row col) is_old is at = absurd at
         root_in (Some h₀) (Slot row col) is_old is at =
             let root : later.root ≡ b.sheet.tree.root = ap (λ (p : Place). (with_published s.tree p f.word).root) is ∙ (ends.progress f).root in
-            let before : later.root ≡ (now f.end.start w).root = ap (λ (p : Place). (with_published s.tree p f.word).root) is ∙ ap (λ (v : Tree). v.root) (ends.tree_is f) in
-            let was = old_counted h₀ is_old (row_in (now f.end.start w).root) (root_counts (now f.end.start w) h₀ (stands_old h₀ is_old)) in
+            let before : later.root ≡ (now f.start w).root = ap (λ (p : Place). (with_published s.tree p f.word).root) is ∙ ap (λ (v : Tree). v.root) (ends.tree_is f) in
+            let was = old_counted h₀ is_old (row_in (now f.start w).root) (root_counts (now f.start w) h₀ (stands_old h₀ is_old)) in
             parent_was (row_in later.root) (subst (λ (v : ℕ). 1 ≤ ends.old_count f (row_in v)) (sym before) was) (place_counted h (root_span later.table later.root) root_on)
             ∙ (ap (λ (v : ℕ). column b.sheet.tree.table (row_in v) 0) root ∙ (was_lawful h₀ is_old).root)
 
@@ -598,7 +598,7 @@ module _ (f : ends.Finish) where
         spans₃ x = same_spans s₁.tree.table s₃.tree.table x (λ c above within. only₃.kept (row_in x.word) c above within) ∙ ap (λ (t : Table). spans_in t x) table₁
 
         abbrev final : laws.Tree
-        final = tree_as f.end.before.kind s₃.tree
+        final = tree_as f.before.kind s₃.tree
 
         parent_law : (k : ℕ) (x : Span) → reached.OnLevel later.table h (root_of later) k x → laws.ParentLaw final k x
         parent_law zero x on = tt
@@ -616,7 +616,7 @@ module _ (f : ends.Finish) where
         has_parents stood = inr (
           h,
           stood,
-          ap (λ (v : ℕ). column s₃.tree.table (row_in v) 0) root₃ ∙ (root_stays ∙ root_in f.end.old f.place refl refl f.may.at),
+          ap (λ (v : ℕ). column s₃.tree.table (row_in v) 0) root₃ ∙ (root_stays ∙ root_in f.may.old f.place refl refl f.may.at),
           subst (Levels (laws.ParentLaw final) final.table h) roots
               (levels_shared (laws.ParentLaw final) later.table final.table h (root_of later)
               (levels_each (Shared later.table final.table) later.table h (root_of later) (λ k x on. spans₃ x))

@@ -12,27 +12,31 @@ use Rattle.mt_base.specs.Width.{columns}
 use Rattle.mt_layout.specs.declared.spans.Span.{Span}
 use Rattle.mt_layout.specs.Rows.{row_in}
 use Rattle.mt_layout.specs.Columns.{slot_column}
+use Rattle.mt_layout.specs.Sizes.{first_row, slots_of}
+use Rattle.mt_layout.proofs.RowSizes.{slot_within}
+use Rattle.mt_free.specs.Book.{Book}
 use Rattle.std.proofs.lemmas.Option.{slice_get_within}
 use Rattle.mt_rows.specs.declared.rows.Life.TheVariants.{Draft, Live}
 use Rattle.mt_rows.specs.declared.rows.Place.{Place}
 use Rattle.mt_rows.specs.declared.rows.Place.TheVariants.{Root, Slot}
 use Rattle.mt_rows.specs.Spans.{spans_in}
-use Rattle.mt_layout.specs.Sizes.{slots_of}
 use Rattle.mt_rows.specs.Levels.{tally, is_row_of}
 use Rattle.mt_rows.specs.Laws.{HasWords, Stands, kind_at}
 use Rattle.mt_rows.specs.Laws as laws
-use Rattle.mt_rows.specs.Sheet.{Sheet, Tree, life_of, is_buried}
-use Rattle.mt_rows.specs.Publish.{tree_as, AreOfKind, LiveAreReached, is_reached, IsReached, map_by, StandsAt, KeepsPlace, SameHoles, IsKnown, Changes, MayPublish, IsPlaceToPublish, IsSlotOf, with_published}
-use Rattle.mt_rows.proofs.RowLaws.{slot_inside}
+use Rattle.mt_rows.specs.Sheet.{Rooted, Sheet, life_of, is_buried}
+use Rattle.mt_rows.specs.Publish.{tree_as, IsTold, LiveAreReached, is_reached, IsReached, map_by, StandsAt, KeepsPlace, SameHoles, IsKnown, Changes, MayPublish, IsPlaceToPublish, IsSlotOf, with_published}
 use Rattle.mt_rows.proofs.Reached as reached
 use Rattle.mt_rows.proofs.Settled.{Implies}
 use Rattle.mt_splice.specs.declared.writes.NewRow.{NewRow}
 use Rattle.mt_splice.specs.Seen.{Seen, passing}
 use Rattle.mt_splice.specs.Work.{Start, Work, now, times_in}
 use Rattle.mt_splice.specs.Progress.{Before, IsProgress, is_taken, is_gone}
-use Rattle.mt_splice.specs.Ends.{StandsAs, count_in, map_as, HoldsAs, IsChildSlot, IsEndPlace, IsTop, End, MayEnd}
+use Rattle.mt_splice.specs.Replaced.{StandsAs, count_in, map_as}
+use Rattle.mt_splice.specs.Endings.{words_of}
+use Rattle.mt_splice.specs.Ends.{HoldsAs, IsChildSlot, IsEndPlace, IsTop, MayPublishEnd}
 use Rattle.mt_splice.proofs.Moments.{old_stands, old_times, old_map}
-use Rattle.mt_splice.proofs.EndTrees.{words_of, is_tree, map_is, count_once, reached_count, count_reached, unreached_count, count_unreached, count_number, none_or_some, placed_count, stays}
+use Rattle.mt_splice.proofs.EndForms.{now_is, has_words}
+use Rattle.mt_splice.proofs.EndTrees.{is_tree, map_is, count_once, reached_count, count_reached, unreached_count, count_unreached, count_number, none_or_some, placed_count, stays}
 use Rattle.mt_splice.proofs.EndHoles.{same_place_spans, at_one, at_on_level, slot_holes}
 
 -- ---- the tree as it was, by the words then and now
@@ -82,24 +86,35 @@ passing_implies p q f seen = tally_implies (λ (s : Seen). p s.height s.at) (λ 
 -- ---- the end of a replacement
 
 pub record Finish : Type 0 where
-  pub end : End
+  pub before : Before
+  pub start : Start
   pub sheet : Sheet
-  pub new_inner_rows : List NewRow
+  pub book : Book
+  pub inner : List NewRow
   pub place : Place
   pub word : ℕ
   pub call : Call
   pub reply : Reply
-  pub may : MayEnd end sheet new_inner_rows place word call reply
+  pub may : MayPublishEnd before start sheet book inner place word call reply
+
+-- the word that is stored changes neither how many rows there are nor how wide they are
+pub published_rows : (t : Rooted) (place : Place) (word : ℕ) → (with_published t place word).rows ≡ t.rows
+published_rows t Root word = refl
+published_rows t (Slot row col) word = refl
+
+pub published_width : (t : Rooted) (place : Place) (word : ℕ) → (with_published t place word).table.width ≡ t.table.width
+published_width t Root word = refl
+published_width t (Slot row col) word = refl
 
 module _ (f : Finish) where
   abbrev b : Before
-  b = f.end.before
+  b = f.before
 
   abbrev start : Start
-  start = f.end.start
+  start = f.start
 
   abbrev w : Work
-  w = f.end.work
+  w = f.may.work
 
   abbrev s : Sheet
   s = f.sheet
@@ -107,101 +122,101 @@ module _ (f : Finish) where
   abbrev later : laws.Tree
   later = tree_as b.kind (with_published s.tree f.place f.word)
 
-  abbrev pub published : Tree
+  abbrev pub published : Rooted
   published = with_published f.sheet.tree f.place f.word
 
-  abbrev pub progress : IsProgress b s f.end.book w
+  abbrev pub progress : IsProgress b s f.book w
   progress = f.may.progress
 
   -- ---- what the rows are now
 
-  pub rows_same : s.rows ≡ b.sheet.tree.rows
-  rows_same = ap (λ (x : Sheet). x.tree.rows) progress.rest
+  pub rows_same : s.tree.rows ≡ b.sheet.tree.rows
+  rows_same = ap (λ (t : Rooted). t.rows) progress.tree
+
+  pub width_same : s.tree.table.width ≡ b.sheet.tree.table.width
+  width_same = ap (λ (t : Rooted). t.table.width) progress.tree
+
+  pub root_same : s.tree.root ≡ b.sheet.tree.root
+  root_same = ap (λ (t : Rooted). t.root) progress.tree
 
   was_is : words_of start.tree ≡ b.sheet.tree
-  was_is = ap words_of f.may.was.tree
+  was_is = ap words_of f.may.case.was.tree
 
   pub tree_is : s.tree ≡ words_of (now start w)
-  tree_is =
-      let width : s.tree.table.width ≡ start.tree.table.width = progress.width ∙ sym (ap (λ (t : laws.Tree). t.table.width) f.may.was.tree) in
-      let root : s.tree.root ≡ start.tree.root = progress.root ∙ sym (ap (λ (t : laws.Tree). t.root) f.may.was.tree) in
-      λ i. record { table = record { width = width i; words = progress.words i }; root = root i }
+  tree_is = sym (ap words_of (now_is f.may.case.was progress))
 
-  pub as_tree : tree_as b.kind s.rows s.tree ≡ now start w
-  as_tree =
-      (λ i. tree_as b.kind (rows_same i) (tree_is i))
-      ∙ sym (λ i. record { rows = (f.may.was.tree i).rows; kind = (f.may.was.tree i).kind; table = record { width = start.tree.table.width; words = w.words }; root = start.tree.root })
+  pub stands_was : StandsAs start.tree f.may.old
+  stands_was = was_stands start w f.may.old f.may.holds
 
-  pub stands_was : StandsAs start.tree f.end.old
-  stands_was = was_stands start w f.end.old f.may.holds
+  pub stands_now : StandsAs (now start w) f.may.old
+  stands_now = now_stands start w f.may.old f.may.holds
 
-  pub stands_now : StandsAs (now start w) f.end.old
-  stands_now = now_stands start w f.end.old f.may.holds
-
-  pub stands_later : StandsAs later f.end.new
+  pub stands_later : StandsAs later f.may.new
   stands_later = f.may.replaced.stands
 
   -- ---- how often a row is reached
 
   abbrev pub old_count : ℕ → ℕ
-  old_count row = count_in (is_row_of row) f.end.start.tree f.end.old
+  old_count row = count_in (is_row_of row) f.start.tree f.may.old
 
   abbrev pub new_count : ℕ → ℕ
-  new_count row = count_in (is_row_of row) (tree_as f.end.before.kind (with_published f.sheet.tree f.place f.word)) f.end.new
+  new_count row = count_in (is_row_of row) (tree_as f.before.kind (with_published f.sheet.tree f.place f.word)) f.may.new
 
   abbrev pub taken_count : ℕ → ℕ
-  taken_count row = passing (is_row_of row) f.end.work.taken
+  taken_count row = passing (is_row_of row) f.may.work.taken
 
   abbrev pub gone_count : ℕ → ℕ
-  gone_count row = passing (is_row_of row) f.end.work.gone
+  gone_count row = passing (is_row_of row) f.may.work.gone
 
   pub counts : (row : ℕ) → Counts (old_count row) (taken_count row) (new_count row) (gone_count row)
   counts row = record {
     sum = f.may.replaced.rows (is_row_of row);
     were = f.may.replaced.were (is_row_of row);
-    fresh = taken_new start w f.end.old row f.may.holds;
-    once = count_once start.tree f.end.old row stands_was;
+    fresh = taken_new start w f.may.old row f.may.holds;
+    once = count_once start.tree f.may.old row stands_was;
   }
 
   pub was_reached : (row : ℕ) → is_reached b.sheet.tree row ≡ true → 1 ≤ old_count row
-  was_reached row is = reached_count start.tree f.end.old row stands_was (ap (λ (t : Tree). is_reached t row) was_is ∙ is)
+  was_reached row is = reached_count start.tree f.may.old row stands_was (ap (λ (t : Rooted). is_reached t row) was_is ∙ is)
 
   pub reached_was : (row : ℕ) → 1 ≤ old_count row → is_reached b.sheet.tree row ≡ true
-  reached_was row some = ap (λ (t : Tree). is_reached t row) (sym was_is) ∙ count_reached start.tree f.end.old row stands_was some
+  reached_was row some = ap (λ (t : Rooted). is_reached t row) (sym was_is) ∙ count_reached start.tree f.may.old row stands_was some
 
   pub was_unreached : (row : ℕ) → is_reached b.sheet.tree row ≡ false → old_count row ≡ 0
-  was_unreached row is = unreached_count start.tree f.end.old row stands_was (ap (λ (t : Tree). is_reached t row) was_is ∙ is)
+  was_unreached row is = unreached_count start.tree f.may.old row stands_was (ap (λ (t : Rooted). is_reached t row) was_is ∙ is)
 
   pub now_reached : (row : ℕ) → is_reached s.tree row ≡ true → 1 ≤ old_count row
   now_reached row is =
-      let some = reached_count (now start w) f.end.old row stands_now (ap (λ (t : Tree). is_reached t row) (sym tree_is) ∙ is) in
-      let same = now_count start w f.end.old (is_row_of row) f.may.holds in
+      let some = reached_count (now start w) f.may.old row stands_now (ap (λ (t : Rooted). is_reached t row) (sym tree_is) ∙ is) in
+      let same = now_count start w f.may.old (is_row_of row) f.may.holds in
       omega arith
 
   pub reached_now : (row : ℕ) → 1 ≤ old_count row → is_reached s.tree row ≡ true
   reached_now row some =
-      let same = now_count start w f.end.old (is_row_of row) f.may.holds in
-      ap (λ (t : Tree). is_reached t row) tree_is ∙ count_reached (now start w) f.end.old row stands_now (omega arith)
+      let same = now_count start w f.may.old (is_row_of row) f.may.holds in
+      ap (λ (t : Rooted). is_reached t row) tree_is ∙ count_reached (now start w) f.may.old row stands_now (omega arith)
 
   pub later_reached : (row : ℕ) → is_reached published row ≡ true → 1 ≤ new_count row
-  later_reached row is = reached_count later f.end.new row stands_later is
+  later_reached row is = reached_count later f.may.new row stands_later is
 
   pub reached_later : (row : ℕ) → 1 ≤ new_count row → is_reached published row ≡ true
-  reached_later row some = count_reached later f.end.new row stands_later some
+  reached_later row some = count_reached later f.may.new row stands_later some
 
   pub later_unreached : (row : ℕ) → is_reached published row ≡ false → new_count row ≡ 0
-  later_unreached row is = unreached_count later f.end.new row stands_later is
+  later_unreached row is = unreached_count later f.may.new row stands_later is
 
   pub unreached_later : (row : ℕ) → new_count row ≡ 0 → is_reached published row ≡ false
-  unreached_later row none = count_unreached later f.end.new row stands_later none
+  unreached_later row none = count_unreached later f.may.new row stands_later none
 
   pub was_number : (row : ℕ) → 1 ≤ old_count row → (first_row ≤ row) × (row < first_row + b.sheet.tree.rows)
   was_number row some =
-      let number = count_number start.tree f.end.old row stands_was some in
-      (number.0, subst (λ (n : ℕ). row < first_row + n) (ap (λ (t : laws.Tree). t.rows) f.may.was.tree) number.1)
+      let number = count_number start.tree f.may.old row stands_was some in
+      (number.0, subst (λ (n : ℕ). row < first_row + n) (ap (λ (t : laws.Tree). t.rows) f.may.case.was.tree) number.1)
 
   pub later_number : (row : ℕ) → 1 ≤ new_count row → (first_row ≤ row) × (row < first_row + b.sheet.tree.rows)
-  later_number row some = count_number later f.end.new row stands_later some
+  later_number row some =
+      let number = count_number later f.may.new row stands_later some in
+      (number.0, subst (λ (n : ℕ). row < first_row + n) (published_rows s.tree f.place f.word ∙ rows_same) number.1)
 
   -- ---- rows taken and gone
 
@@ -238,13 +253,13 @@ module _ (f : Finish) where
   pub old_is_live : (row : ℕ) → 1 ≤ old_count row → life_of s.lives row ≡ Live
   old_is_live row was =
       let number = was_number row was in
-      life_kept row number.0 number.1 (old_is_not_taken row was) ∙ (f.may.was.live row number.0 number.1).1 (reached_was row was)
+      life_kept row number.0 number.1 (old_is_not_taken row was) ∙ (f.may.case.was.kept.live row number.0 number.1).1 (reached_was row was)
 
   live : LiveAreReached s.tree s.lives
   live row first last = (
     (λ alive. elim (cases_Bool (is_taken w row)) [
       | inl taken ↦ (let draft = life_taken row first (in_table) taken in let both : Draft ≡ Live = sym draft ∙ alive in absurd (cc))
-      | inr not ↦ reached_now row (was_reached row ((f.may.was.live row first in_table).0 (sym (life_kept row first in_table not) ∙ alive)))
+      | inr not ↦ reached_now row (was_reached row ((f.may.case.was.kept.live row first in_table).0 (sym (life_kept row first in_table not) ∙ alive)))
     ]),
     (λ is. old_is_live row (now_reached row is)),
   )
@@ -254,25 +269,16 @@ module _ (f : Finish) where
 
   -- ---- the place
 
-  pub of_kind : AreOfKind s.kind s.tree.table.width b.kind
-  of_kind = record {
-    told = subst (λ (k : Option Kind). IfSome k (λ (k : Kind). k ≡ b.kind)) (sym (ap (λ (x : Sheet). x.kind) progress.rest)) f.may.lawful.of_kind.told;
-    width = progress.width ∙ f.may.lawful.of_kind.width;
-  }
+  pub words_now : HasWords (now start w)
+  words_now = has_words f.may.case.was progress
 
-  pub has_words : HasWords (now start w)
-  has_words =
-      let long = progress.whole.words in
-      let tree : laws.Tree = tree_as b.kind s.rows s.tree in
-      subst HasWords as_tree long
-
-  place_in : (o : Option ℕ) (place : Place) → StandsAs (now start w) o → IsEndPlace start w o place → ((row : ℕ) → 1 ≤ count_in (is_row_of row) (now start w) o → (first_row ≤ row) × (row < first_row + s.rows) × (life_of s.lives row ≡ Live)) → IsPlaceToPublish s place
+  place_in : (o : Option ℕ) (place : Place) → StandsAs (now start w) o → IsEndPlace start w o place → ((row : ℕ) → 1 ≤ count_in (is_row_of row) (now start w) o → (first_row ≤ row) × (row < first_row + s.tree.rows) × (life_of s.lives row ≡ Live)) → IsPlaceToPublish s place
   place_in o Root stands at known = tt
   place_in None (Slot row col) stands at known = absurd at
   place_in (Some h) (Slot row col) stands at known =
       let t : laws.Tree = now start w in
       let place : IsChildSlot t h row col = at.0 in
-      let on = at_on_level t h row col has_words stands place 0 in
+      let on = at_on_level t h row col words_now stands place 0 in
       let law = reached.on_level_law t h stands (suc place.low) place.at on in
       let here = known (row_in place.at.word) (reached.on_level_reached t h stands (suc place.low) place.at on) in
       let used = slice_get_within (spans_in t.table place.at) place.slot place.child place.here.holds in
@@ -282,16 +288,16 @@ module _ (f : Finish) where
           first = here.0;
           last = here.1;
           column = subst (λ (c : ℕ). c < columns s.tree.table.width) (sym place.column)
-              (subst (λ (v : Width). slot_column (slots_of t.table.width (kind_at t.kind (suc place.low))) place.slot < columns v) (sym (ap (λ (v : Tree). v.table.width) tree_is))
-              (slot_inside t.table.width (kind_at t.kind (suc place.low)) place.slot (omega arith)));
+              (subst (λ (v : Width). slot_column (slots_of t.table.width (kind_at t.kind (suc place.low))) place.slot < columns v) (sym (ap (λ (v : Rooted). v.table.width) tree_is))
+              (slot_within t.table.width (kind_at t.kind (suc place.low)) place.slot (omega arith)));
         },
         here.2,
-        subst (λ (v : Tree). IsSlotOf v (row_in place.at.word) col) (sym tree_is) (record {
+        subst (λ (v : Rooted). IsSlotOf v (row_in place.at.word) col) (sym tree_is) (record {
           depth = place.depth;
           at = place.at;
           kind = kind_at t.kind (suc place.low);
           slot = place.slot;
-          reached = reached.below_root t h stands place.depth (suc place.low) place.at place.levels (at_one t h row col has_words stands place 0);
+          reached = reached.below_root t h stands place.depth (suc place.low) place.at place.levels (at_one t h row col words_now stands place 0);
           named = law.name.named;
           number = refl;
           used = used;
@@ -300,29 +306,29 @@ module _ (f : Finish) where
       )
 
   pub place_is : IsPlaceToPublish s f.place
-  place_is = place_in f.end.old f.place stands_now f.may.at (λ row some.
-      let same = now_count start w f.end.old (is_row_of row) f.may.holds in
+  place_is = place_in f.may.old f.place stands_now f.may.at (λ row some.
+      let same = now_count start w f.may.old (is_row_of row) f.may.holds in
       let was : 1 ≤ old_count row = omega arith in
       let number = was_number row was in
       (number.0, subst (λ (n : ℕ). row < first_row + n) (sym rows_same) number.1, old_is_live row was))
 
   -- ---- the map
 
-  pub map_was : map_by b.sheet.tree ≡ map_as start.tree f.end.old
-  map_was = ap map_by (sym was_is) ∙ map_is start.tree f.end.old stands_was
+  pub map_was : map_by b.sheet.tree ≡ map_as start.tree f.may.old
+  map_was = ap map_by (sym was_is) ∙ map_is start.tree f.may.old stands_was
 
   pub map_now : map_by s.tree ≡ map_by b.sheet.tree
-  map_now = ap map_by tree_is ∙ (map_is (now start w) f.end.old stands_now ∙ (now_map start w f.end.old f.may.holds ∙ sym map_was))
+  map_now = ap map_by tree_is ∙ (map_is (now start w) f.may.old stands_now ∙ (now_map start w f.may.old f.may.holds ∙ sym map_was))
 
   pub map_later : map_by published ≡ start.map
-  map_later = map_is later f.end.new stands_later ∙ f.may.replaced.ranges
+  map_later = map_is later f.may.new stands_later ∙ f.may.replaced.ranges
 
   answer : acted b.kind (map_by s.tree) f.call ≡ (map_by published, f.reply)
   answer = ap (λ (m : List Range). acted b.kind m f.call) map_now ∙ (f.may.answer ∙ (λ i. (sym map_later i, f.reply)))
 
   -- ---- what becomes of rows
 
-  known : (row : ℕ) → IsReached published row → IsKnown s row
+  known : (row : ℕ) → IsReached published row → IsKnown s.tree s.lives row
   known row is =
       let some = later_reached row is in
       let c = counts row in let sum = c.sum in
@@ -348,39 +354,39 @@ module _ (f : Finish) where
 
   pub keeps_span : (k k' : ℕ) (x x' : Span) → StandsAt (words_of (now start w)) k x → StandsAt published k' x' → row_in x.word ≡ row_in x'.word → (k' ≡ k) × (x'.first ≡ x.first) × (x'.last ≡ x.last) × (x'.word ≡ x.word)
   keeps_span k k' x x' at at' same =
-      let now_same = now_count start w f.end.old (is_row_of (row_in x.word)) f.may.holds in
-      let was = placed_count (now start w) f.end.old k x stands_now at in
-      let is : 1 ≤ new_count (row_in x.word) = subst (λ (r : ℕ). 1 ≤ new_count r) (sym same) (placed_count later f.end.new k' x' stands_later at') in
-      stays (now start w) later f.end.old f.end.new (λ p. passing p w.taken) (λ p. passing p w.gone) k k' x x' stands_now stands_later
-      (λ p. ap (λ (n : ℕ). n + passing p w.taken) (now_count start w f.end.old p f.may.holds) ∙ f.may.replaced.rows p) at at' same
+      let now_same = now_count start w f.may.old (is_row_of (row_in x.word)) f.may.holds in
+      let was = placed_count (now start w) f.may.old k x stands_now at in
+      let is : 1 ≤ new_count (row_in x.word) = subst (λ (r : ℕ). 1 ≤ new_count r) (sym same) (placed_count later f.may.new k' x' stands_later at') in
+      stays (now start w) later f.may.old f.may.new (λ p. passing p w.taken) (λ p. passing p w.gone) k k' x x' stands_now stands_later
+      (λ p. ap (λ (n : ℕ). n + passing p w.taken) (now_count start w f.may.old p f.may.holds) ∙ f.may.replaced.rows p) at at' same
       (stays_even (row_in x.word) (omega arith) is)
 
-  pub word_is_some : (h : ℕ) → f.end.new ≡ Some h → f.word ≢ 0
+  pub word_is_some : (h : ℕ) → f.may.new ≡ Some h → f.word ≢ 0
   word_is_some h is zero_word =
-      let taken : is_taken w (row_in f.word) ≡ true = subst (λ (o : Option ℕ). IsTop w f.end.old o f.word) is f.may.top in
+      let taken : is_taken w (row_in f.word) ≡ true = subst (λ (o : Option ℕ). IsTop w f.may.old o f.word) is f.may.top in
       let number = later_number (row_in f.word) (taken_later (row_in f.word) (taken_some (row_in f.word) taken)) in
       let first = number.0 in
       let low : row_in f.word ≡ 0 = ap row_in zero_word in
       absurd (omega arith)
 
-  holes_in : (o o' : Option ℕ) (place : Place) (k k' : ℕ) (x x' : Span) → StandsAs (now start w) o → IsEndPlace start w o place → f.end.new ≡ o' → StandsAs later o' → StandsAt (words_of (now start w)) k x → StandsAt published k' x'
+  holes_in : (o o' : Option ℕ) (place : Place) (k k' : ℕ) (x x' : Span) → StandsAs (now start w) o → IsEndPlace start w o place → f.may.new ≡ o' → StandsAs later o' → StandsAt (words_of (now start w)) k x → StandsAt published k' x'
       → SameHoles (spans_in (now start w).table x) (spans_in (with_published (words_of (now start w)) place f.word).table x)
   holes_in o o' Root k k' x x' stands at is stands' stood stood' = refl
   holes_in None o' (Slot row col) k k' x x' stands at is stands' stood stood' = absurd at
   holes_in (Some h) None (Slot row col) k k' x x' stands at is stands' stood stood' = absurd (let some = placed_count later None k' x' stands' stood' in omega arith)
-  holes_in (Some h) (Some h') (Slot row col) k k' x x' stands at is stands' stood stood' = slot_holes (now start w) h row col has_words stands at.0 f.word (word_is_some h' is) k x stood
+  holes_in (Some h) (Some h') (Slot row col) k k' x x' stands at is stands' stood stood' = slot_holes (now start w) h row col words_now stands at.0 f.word (word_is_some h' is) k x stood
 
   stay : (k k' : ℕ) (x x' : Span) → StandsAt s.tree k x → StandsAt published k' x' → row_in x.word ≡ row_in x'.word → KeepsPlace s.tree published k k' x x'
   stay k k' x x' stood stood' same =
-      let at = subst (λ (t : Tree). StandsAt t k x) tree_is stood in
+      let at = subst (λ (t : Rooted). StandsAt t k x) tree_is stood in
       let place = keeps_span k k' x x' at stood' same in
       record {
         height = place.0;
         first = place.1;
         last = place.2;
         holes = subst (SameHoles (spans_in s.tree.table x)) (sym (same_place_spans published.table x x' place.1 place.2 place.3))
-            (subst (λ (t : Tree). SameHoles (spans_in t.table x) (spans_in (with_published t f.place f.word).table x)) (sym tree_is)
-            (holes_in f.end.old f.end.new f.place k k' x x' stands_now f.may.at refl stands_later at stood'));
+            (subst (λ (t : Rooted). SameHoles (spans_in t.table x) (spans_in (with_published t f.place f.word).table x)) (sym tree_is)
+            (holes_in f.may.old f.may.new f.place k k' x x' stands_now f.may.at refl stands_later at stood'));
       }
 
   pub buried_gone : (row : ℕ) → first_row ≤ row → row < first_row + b.sheet.tree.rows → is_buried s.buried row ≡ true → 1 ≤ gone_count row
@@ -411,12 +417,13 @@ module _ (f : Finish) where
 
   pub may_publish : MayPublish b.kind s f.place f.word f.call f.reply
   may_publish = record {
-    in_flight = ap (λ (x : Sheet). x.in_flight) progress.rest ∙ f.may.in_flight;
-    before = ap (λ (x : Sheet). x.published) progress.rest ∙ f.may.unpublished;
+    in_flight = ap (λ (x : Sheet). x.in_flight) progress.rest ∙ f.may.case.unpublished.in_flight;
+    before = ap (λ (x : Sheet). x.published) progress.rest ∙ f.may.case.unpublished.before;
+    told = subst (λ (k : Option Kind). IsTold k b.kind) (sym (ap (λ (x : Sheet). x.kind) progress.rest)) f.may.case.told;
     at = place_is;
     live = live;
-    tree = record { of_kind = of_kind; words = subst laws.IsTree (sym as_tree) (is_tree (now start w) f.end.old stands_now) };
+    tree = record { width = width_same ∙ f.may.case.was.kept.lawful.width; words = subst laws.IsTree (now_is f.may.case.was progress) (is_tree (now start w) f.may.old stands_now) };
     answer = answer;
-    after = subst (λ (n : ℕ). laws.IsTree (tree_as b.kind n published)) (sym rows_same) (is_tree later f.end.new stands_later);
+    after = is_tree later f.may.new stands_later;
     rows = changes;
   }

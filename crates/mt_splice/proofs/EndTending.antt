@@ -4,23 +4,25 @@ use Rattle.std.specs.Prelude.{false, slice_index_or, slice_set}
 use Rattle.std.specs.List.{slice_get}
 use Rattle.std.proofs.lemmas.Option.{slice_get_within}
 use Rattle.mt_base.specs.declared.widths.Width.{Width}
-use Rattle.mt_base.specs.declared.widths.Width.TheVariants.{Long}
 use Rattle.mt_base.specs.Width.{columns}
 use Rattle.mt_layout.specs.declared.names.RowKind.{RowKind}
-use Rattle.mt_layout.specs.declared.names.RowKind.TheVariants.{Leaf, Inner, Gapped}
-use Rattle.mt_layout.specs.Rows.{row_in, named_row, parent_at, dead_mark}
+use Rattle.mt_layout.specs.declared.names.RowKind.TheVariants.{Inner}
+use Rattle.mt_layout.specs.Rows.{row_in, named_row, parent_at}
 use Rattle.mt_layout.specs.Columns.{slot_column}
 use Rattle.mt_rows.specs.declared.rows.Life.{Life}
 use Rattle.mt_rows.specs.declared.rows.Life.TheVariants.{New}
 use Rattle.mt_rows.specs.declared.rows.Place.{Place}
 use Rattle.mt_rows.specs.declared.rows.Place.TheVariants.{Root, Slot}
+use Rattle.mt_layout.specs.Sizes.{first_row, slots_of}
+use Rattle.mt_layout.proofs.RowSizes.{some_columns, slot_above, slot_within}
 use Rattle.mt_rows.specs.Spans.{column}
-use Rattle.mt_layout.specs.Sizes.{slots_of}
-use Rattle.mt_rows.specs.Sheet.{Sheet, IsWhole, IsPlace, MayTend, life_of, is_buried, tended}
+use Rattle.mt_rows.specs.Sheet.{Rooted, Sheet, IsWhole, IsPlace, MayTend, life_of, is_buried, tended}
 use Rattle.mt_splice.specs.declared.writes.NewRow.{NewRow}
+use Rattle.mt_splice.specs.Work.{with_words}
 use Rattle.mt_splice.specs.Writes.{child_word, child_row, IsChild, AreChildren, AreTended}
 use Rattle.mt_splice.specs.Ends.{OnlyParents, MayTendRows, AreRowsTended, MayTendTop, MayTendTopAt, IsTopTended, IsTopTendedAt}
 use Rattle.mt_splice.proofs.Drafts.{equal_or_not, other_row, other_column, same_column}
+use Rattle.mt_splice.proofs.Tending.{own_parent}
 
 -- of the rows the first ones are tended
 pub record AreRowsTendedUpTo (s s' : Sheet) (kind : RowKind) (new_inner_rows : List NewRow) (done : ℕ) : Type 0 where
@@ -28,23 +30,27 @@ pub record AreRowsTendedUpTo (s s' : Sheet) (kind : RowKind) (new_inner_rows : L
   pub children : (i : ℕ) (n : NewRow) (slot : ℕ) → i < done → slice_get new_inner_rows i ≡ Some n → slot < n.count → column s'.tree.table (child_row s.tree.table kind n.row slot) 0 ≡ parent_at n.row slot
   pub others : (r : ℕ) → ((i : ℕ) (n : NewRow) (slot : ℕ) → i < done → slice_get new_inner_rows i ≡ Some n → slot < n.count → child_row s.tree.table kind n.row slot ≢ r) → column s'.tree.table r 0 ≡ column s.tree.table r 0
 
+pub only_rows : (s s' : Sheet) → OnlyParents s s' → s'.tree.rows ≡ s.tree.rows
+only_rows s s' only = ap (λ (v : Rooted). v.rows) only.tree
+
+pub only_width : (s s' : Sheet) → OnlyParents s s' → s'.tree.table.width ≡ s.tree.table.width
+only_width s s' only = ap (λ (v : Rooted). v.table.width) only.tree
+
 pub only_none : (s : Sheet) → OnlyParents s s
-only_none s = record { rest = refl; root = refl; width = refl; size = refl; kept = λ r c above within. refl }
+only_none s = record { rest = refl; tree = refl; size = refl; kept = λ r c above within. refl }
 
 pub only_more : (s s' s″ : Sheet) → OnlyParents s s' → OnlyParents s' s″ → OnlyParents s s″
 only_more s s' s″ first more = record {
   rest = ap (λ (x : Sheet). record x { tree = s.tree; reads = s.reads }) more.rest ∙ first.rest;
-  root = more.root ∙ first.root;
-  width = more.width ∙ first.width;
+  tree = more.tree ∙ ap (λ (v : Rooted). with_words v s″.tree.table.words) first.tree;
   size = more.size ∙ first.size;
-  kept = λ r c above within. more.kept r c above (subst (λ (w : Width). c < columns w) (sym first.width) within) ∙ first.kept r c above within;
+  kept = λ r c above within. more.kept r c above (subst (λ (w : Width). c < columns w) (sym (only_width s s' first)) within) ∙ first.kept r c above within;
 }
 
 pub only_tended : (s s' : Sheet) (kind : RowKind) (row count : ℕ) → AreTended s s' kind row count → OnlyParents s s'
 only_tended s s' kind row count done = record {
   rest = done.rest;
-  root = done.root;
-  width = done.width;
+  tree = done.tree;
   size = done.size;
   kept = λ r c above within. done.others r c within (λ none. absurd (omega arith));
 }
@@ -56,32 +62,19 @@ no_rows_tended s kind new_inner_rows = record {
   others = λ r none. refl;
 }
 
-slot_above : (w : Width) (kind : RowKind) (i : ℕ) → 0 < slot_column (slots_of w kind) i
-slot_above Long Leaf i = omega arith
-slot_above Long Inner i = omega arith
-slot_above Long Gapped i = omega arith
-
-slot_within : (w : Width) (kind : RowKind) (i : ℕ) → i < slots_of w kind → slot_column (slots_of w kind) i < columns w
-slot_within Long Leaf i within = omega arith
-slot_within Long Inner i within = omega arith
-slot_within Long Gapped i within = omega arith
-
-some_columns : (w : Width) → 0 < columns w
-some_columns Long = omega arith
-
 -- words in slots stay while only parent words are written
 pub word_stays : (s t : Sheet) (kind : RowKind) (row slot : ℕ) → OnlyParents s t → slot < slots_of s.tree.table.width kind → child_word t.tree.table kind row slot ≡ child_word s.tree.table kind row slot
 word_stays s t kind row slot only within =
-    ap (λ (w : Width). column t.tree.table row (slot_column (slots_of w kind) slot)) only.width
+    ap (λ (w : Width). column t.tree.table row (slot_column (slots_of w kind) slot)) (only_width s t only)
     ∙ only.kept row (slot_column (slots_of s.tree.table.width kind) slot) (slot_above s.tree.table.width kind slot) (slot_within s.tree.table.width kind slot within)
 
 pub children_stay : (s t : Sheet) (kind : RowKind) (row count : ℕ) → OnlyParents s t → AreChildren s kind row count → AreChildren t kind row count
 children_stay s t kind row count only are =
-    let rows : s.tree.rows ≡ t.tree.rows = sym (ap (λ (x : Sheet). x.tree.rows) only.rest) in
+    let rows : s.tree.rows ≡ t.tree.rows = sym (only_rows s t only) in
     record {
       first = are.first;
       last = subst (λ (n : ℕ). row < first_row + n) rows are.last;
-      slots = subst (λ (w : Width). count ≤ slots_of w kind) (sym only.width) are.slots;
+      slots = subst (λ (w : Width). count ≤ slots_of w kind) (sym (only_width s t only)) are.slots;
       each = λ slot below. child slot below;
       apart = λ i j low_i low_j same. are.apart i j low_i low_j (sym (row_stays i low_i) ∙ (same ∙ row_stays j low_j));
     }
@@ -94,7 +87,7 @@ children_stay s t kind row count only are =
         let slots = are.slots in
         let each = are.each slot below in
         let same = row_stays slot below in
-        let rows : s.tree.rows ≡ t.tree.rows = sym (ap (λ (x : Sheet). x.tree.rows) only.rest) in
+        let rows : s.tree.rows ≡ t.tree.rows = sym (only_rows s t only) in
         let lives : s.lives ≡ t.lives = sym (ap (λ (x : Sheet). x.lives) only.rest) in
         let buried : s.buried ≡ t.buried = sym (ap (λ (x : Sheet). x.buried) only.rest) in
         record {
@@ -177,14 +170,6 @@ pub top_kept : (s s' : Sheet) (place : Place) (word r : ℕ) → IsTopTendedAt s
 top_kept s s' Root word r is other = ap (λ (x : Sheet). column x.tree.table r 0) is
 top_kept s s' (Slot row col) word r done other = done.others r (other row col refl)
 
--- the slot of a column of an inner row
-few_slots : (w : Width) (col : ℕ) → slots_of w Inner ≤ col → col < columns w → col - slots_of w Inner < 256
-few_slots Long col above within = omega arith
-
--- a parent word that is a dead mark is that of the row itself
-own_parent : (child row slot : ℕ) → slot < 256 → parent_at row slot ≡ dead_mark child → child ≡ row
-own_parent child row slot few dead = omega arith
-
 pub top_is : (word top : ℕ) → named_row word ≡ Some (row_in word) → Some top ≡ named_row word → top ≡ row_in word
 top_is word top named found = let same : Some top ≡ Some (row_in word) = found ∙ named in cc
 
@@ -195,8 +180,7 @@ may_tend_top s row col word slots top may wide found =
       live = may.live;
       kept = may.kept;
       column = inl refl;
-      alive = λ _ dead. may.other (own_parent (row_in word) row (col - slots)
-          (subst (λ (n : ℕ). col - n < 256) (sym wide) (few_slots s.tree.table.width col may.slot may.within)) dead);
+      alive = λ _ dead. may.other (own_parent s.tree.table.width (row_in word) row (col - slots) (let within = may.within in omega arith) dead);
     })
 
 pub top_tended : (s : Sheet) (row col word slots top : ℕ) → IsWhole s → MayTendTop s row col word → slots ≡ slots_of s.tree.table.width Inner → Some top ≡ named_row word
@@ -205,12 +189,11 @@ top_tended s row col word slots top whole may wide found =
     subst (λ (n : ℕ). IsTopTended s (tended s n 0 (parent_at row (col - slots))) row col word) (sym (top_is word top may.named found)) (record {
       only = record {
         rest = refl;
-        root = refl;
-        width = refl;
+        tree = refl;
         size = length-set s.tree.table.words (columns s.tree.table.width * row_in word + 0) (parent_at row (col - slots));
         kept = λ r c above within. kept_column s.tree.table.width s.tree.table.words (row_in word) 0 (parent_at row (col - slots)) r c within (some_columns s.tree.table.width) (λ none. absurd (omega arith));
       };
-      here = same_column s.tree.table.width s.tree.table.words (row_in word) (16 + s.tree.rows) 0 (parent_at row (col - slots)) (some_columns s.tree.table.width) may.at.last whole.words
+      here = same_column s.tree.table.width s.tree.table.words (row_in word) (first_row + s.tree.rows) 0 (parent_at row (col - slots)) (some_columns s.tree.table.width) may.at.last whole.words
           ∙ ap (λ (n : ℕ). parent_at row (col - n)) wide;
       others = λ r other. other_row s.tree.table.width s.tree.table.words (row_in word) 0 (parent_at row (col - slots)) r 0 other (some_columns s.tree.table.width) (some_columns s.tree.table.width);
     })
@@ -219,7 +202,7 @@ top_tended s row col word slots top whole may wide found =
 pub top_still : (s t : Sheet) (place : Place) (word : ℕ) → OnlyParents s t → MayTendTopAt s place word → MayTendTopAt t place word
 top_still s t Root word only may = tt
 top_still s t (Slot row col) word only may =
-    let rows : s.tree.rows ≡ t.tree.rows = sym (ap (λ (x : Sheet). x.tree.rows) only.rest) in
+    let rows : s.tree.rows ≡ t.tree.rows = sym (only_rows s t only) in
     let lives : s.lives ≡ t.lives = sym (ap (λ (x : Sheet). x.lives) only.rest) in
     let buried : s.buried ≡ t.buried = sym (ap (λ (x : Sheet). x.buried) only.rest) in
     record {
@@ -228,6 +211,6 @@ top_still s t (Slot row col) word only may =
       live = ap (λ (l : List Life). slice_index_or l (row_in word) New) (sym lives) ∙ may.live;
       kept = ap (λ (l : List Bool). slice_index_or l (row_in word) false) (sym buried) ∙ may.kept;
       other = may.other;
-      slot = subst (λ (w : Width). slots_of w Inner ≤ col) (sym only.width) may.slot;
-      within = subst (λ (w : Width). col < columns w) (sym only.width) may.within;
+      slot = subst (λ (w : Width). slots_of w Inner ≤ col) (sym (only_width s t only)) may.slot;
+      within = subst (λ (w : Width). col < columns w) (sym (only_width s t only)) may.within;
     }

@@ -3,25 +3,22 @@ use Rattle.std.proofs.Common.{◌≡◌, ◌⊎◌, ℕ, zero, suc, ◌+◌, ◌
 use Rattle.std.proofs.lemmas.Bool.{cases_Bool}
 use Rattle.mt_layout.specs.Rows.{row_in}
 use Rattle.mt_layout.specs.declared.spans.Span.{Span}
+use Rattle.mt_base.specs.Width.{deepest}
+use Rattle.mt_layout.specs.Sizes.{first_row}
 use Rattle.mt_rows.specs.Spans.{Table, root_span}
 use Rattle.mt_rows.specs.Levels.{is_row_of}
 use Rattle.mt_rows.specs.Trees.{map_in, height_in}
-use Rattle.mt_base.specs.Width.{deepest}
 use Rattle.mt_rows.specs.Laws.{Tree, IsTree}
-use Rattle.mt_rows.specs.Sheet as sheet
 use Rattle.mt_rows.specs.Publish.{is_reached, StandsAt}
 use Rattle.mt_rows.proofs.Depth.{ranges_by_depth}
 use Rattle.mt_rows.proofs.Reached as reached
 use Rattle.mt_rows.proofs.Settled.{Implies, stays_in_place}
-use Rattle.mt_splice.specs.Ends.{StandsAs, count_in, map_as}
-
--- the words and the root word of a tree
-abbrev pub words_of : Tree → sheet.Tree
-words_of t = record { table = t.table; root = t.root }
+use Rattle.mt_splice.specs.Replaced.{StandsAs, count_in, map_as}
+use Rattle.mt_splice.specs.Endings.{words_of}
 
 -- ---- the empty tree
 
-none_reached : (t : Table) (row : ℕ) → is_reached (record { table = t; root = 0 }) row ≡ false
+none_reached : (t : Tree) (row : ℕ) → is_reached (record { rows = t.rows; table = t.table; root = 0 }) row ≡ false
 none_reached t row = refl
 
 none_high : (t : Table) → height_in t 0 ≡ 0
@@ -31,7 +28,7 @@ none_held : (t : Table) → map_in t 0 ≡ []
 none_held t = refl
 
 empty_reaches : (t : Tree) (row : ℕ) → t.root ≡ 0 → is_reached (words_of t) row ≡ false
-empty_reaches t row empty = ap (λ (root : ℕ). is_reached (record { table = t.table; root = root }) row) empty ∙ none_reached t.table row
+empty_reaches t row empty = ap (λ (root : ℕ). is_reached (record { rows = t.rows; table = t.table; root = root }) row) empty ∙ none_reached t row
 
 stands_nowhere : (t : Tree) (k : ℕ) (x : Span) → t.root ≡ 0 → StandsAt (words_of t) k x → ⊥
 stands_nowhere t k x empty at = let none = ap (height_in t.table) empty ∙ none_high t.table in let levels = at.levels in omega arith

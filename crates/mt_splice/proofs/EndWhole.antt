@@ -39,42 +39,42 @@ may_publish_end e s new_inner_rows place word call reply may = ends.may_publish 
 
 -- ---- where nothing is left, no row was taken
 
-none_new : (f : ends.Finish) (row : ℕ) → f.end.new ≡ None → ends.new_count f row ≡ 0
-none_new f row none = ap (count_in (is_row_of row) (tree_as f.end.before.kind f.end.before.sheet.tree.rows (ends.published f))) none
+none_new : (f : ends.Finish) (row : ℕ) → f.may.new ≡ None → ends.new_count f row ≡ 0
+none_new f row none = ap (count_in (is_row_of row) (tree_as f.before.kind (ends.published f))) none
 
-none_made : (f : ends.Finish) (n : NewRow) → f.end.new ≡ None → reached.IsOneOf n f.new_inner_rows → ⊥
+none_made : (f : ends.Finish) (n : NewRow) → f.may.new ≡ None → reached.IsOneOf n f.inner → ⊥
 none_made f n none one =
-    let found = made_seen f.sheet.tree.table f.end.work.taken n (subst (reached.IsOneOf n) f.may.inner one) in
-    let some = ends.taken_later f (row_seen found.0) (seen_some f.end.work.taken found.0 found.1) in
+    let found = made_seen f.sheet.tree.table f.may.work.taken n (subst (reached.IsOneOf n) f.may.inner_rows one) in
+    let some = ends.taken_later f (row_seen found.0) (seen_some f.may.work.taken found.0 found.1) in
     let never = none_new f (row_seen found.0) none in
     absurd (omega arith)
 
-none_in_slot : (f : ends.Finish) (old : Option ℕ) (row col : ℕ) → f.end.old ≡ old → f.end.new ≡ None → IsEndPlace f.end.start f.end.work old (Slot row col) → ⊥
+none_in_slot : (f : ends.Finish) (old : Option ℕ) (row col : ℕ) → f.may.old ≡ old → f.may.new ≡ None → IsEndPlace f.start f.may.work old (Slot row col) → ⊥
 none_in_slot f None row col is_old none at = absurd at
 none_in_slot f (Some h) row col is_old none at =
-    let t : laws.Tree = now f.end.start f.end.work in
+    let t : laws.Tree = now f.start f.may.work in
     let stands : laws.Stands t h = subst (StandsAs t) is_old (ends.stands_now f) in
     let place = at.0 in
     let some : 1 ≤ count_in (is_row_of (row_in place.at.word)) t (Some h) = reached.on_level_reached t h stands (suc place.low) place.at (at_on_level t h row col (ends.has_words f) stands place 0) in
-    let here : 1 ≤ count_in (is_row_of (row_in place.at.word)) t f.end.old = subst (λ (old : Option ℕ). 1 ≤ count_in (is_row_of (row_in place.at.word)) t old) (sym is_old) some in
-    let same = ends.now_count f.end.start f.end.work f.end.old (is_row_of (row_in place.at.word)) f.may.holds in
-    let gone : passing (is_row_of (row_in place.at.word)) f.end.work.gone ≡ 0 = subst (λ (n : ℕ). passing (is_row_of n) f.end.work.gone ≡ 0) (sym place.number) at.1 in
+    let here : 1 ≤ count_in (is_row_of (row_in place.at.word)) t f.may.old = subst (λ (old : Option ℕ). 1 ≤ count_in (is_row_of (row_in place.at.word)) t old) (sym is_old) some in
+    let same = ends.now_count f.start f.may.work f.may.old (is_row_of (row_in place.at.word)) f.may.holds in
+    let gone : passing (is_row_of (row_in place.at.word)) f.may.work.gone ≡ 0 = subst (λ (n : ℕ). passing (is_row_of n) f.may.work.gone ≡ 0) (sym place.number) at.1 in
     let c = ends.counts f (row_in place.at.word) in let sum = c.sum in
     let never = none_new f (row_in place.at.word) none in
     absurd (omega arith)
 
 -- ---- what may be tended
 
-tend_rows_by : (f : ends.Finish) (s₁ : Sheet) (new : Option ℕ) → f.end.new ≡ new → Published f.sheet s₁ f.place f.word f.call f.reply → MayTendRows s₁ Inner f.new_inner_rows
+tend_rows_by : (f : ends.Finish) (s₁ : Sheet) (new : Option ℕ) → f.may.new ≡ new → Published f.sheet s₁ f.place f.word f.call f.reply → MayTendRows s₁ Inner f.inner
 tend_rows_by f s₁ None is done = record {
-  each = λ i n at. absurd (none_made f n is (reached.one_of_get f.new_inner_rows i n at));
-  apart = λ i j n m slot slot' lt at_n at_m low low' same. absurd (none_made f n is (reached.one_of_get f.new_inner_rows i n at_n));
+  each = λ i n at. absurd (none_made f n is (reached.one_of_get f.inner i n at));
+  apart = λ i j n m slot slot' lt at_n at_m low low' same. absurd (none_made f n is (reached.one_of_get f.inner i n at_n));
 }
 tend_rows_by f s₁ (Some h) is done = may_tend_some f h is s₁ done
 
-tend_top_by : (f : ends.Finish) (s₁ : Sheet) (new : Option ℕ) (place : Place) → f.end.new ≡ new → f.place ≡ place → IsEndPlace f.end.start f.end.work f.end.old place → Published f.sheet s₁ f.place f.word f.call f.reply → MayTendTopAt s₁ place f.word
+tend_top_by : (f : ends.Finish) (s₁ : Sheet) (new : Option ℕ) (place : Place) → f.may.new ≡ new → f.place ≡ place → IsEndPlace f.start f.may.work f.may.old place → Published f.sheet s₁ f.place f.word f.call f.reply → MayTendTopAt s₁ place f.word
 tend_top_by f s₁ new Root is is_place at done = tt
-tend_top_by f s₁ None (Slot row col) is is_place at done = absurd (none_in_slot f f.end.old row col refl is at)
+tend_top_by f s₁ None (Slot row col) is is_place at done = absurd (none_in_slot f f.may.old row col refl is at)
 tend_top_by f s₁ (Some h) (Slot row col) is is_place at done = may_tend_place f h is s₁ done (Slot row col) is_place
 
 pub may_tend_rows : (e : End) (s s₁ : Sheet) (new_inner_rows : List NewRow) (place : Place) (word : ℕ) (call : Call) (reply : Reply) → MayEnd e s new_inner_rows place word call reply → Published s s₁ place word call reply → MayTendRows s₁ Inner new_inner_rows
@@ -87,33 +87,33 @@ may_tend_top_now e s s₁ s₂ new_inner_rows place word call reply may done ten
 
 -- ---- all is done
 
-parents_by : (f : ends.Finish) (s₁ s₂ s₃ : Sheet) (new : Option ℕ) → f.end.new ≡ new → Published f.sheet s₁ f.place f.word f.call f.reply → AreRowsTended s₁ s₂ Inner f.new_inner_rows → IsTopTendedAt s₂ s₃ f.place f.word
-    → StandsAs (tree_as f.end.before.kind s₃.tree) new → HasParents (tree_as f.end.before.kind s₃.tree)
+parents_by : (f : ends.Finish) (s₁ s₂ s₃ : Sheet) (new : Option ℕ) → f.may.new ≡ new → Published f.sheet s₁ f.place f.word f.call f.reply → AreRowsTended s₁ s₂ Inner f.inner → IsTopTendedAt s₂ s₃ f.place f.word
+    → StandsAs (tree_as f.before.kind s₃.tree) new → HasParents (tree_as f.before.kind s₃.tree)
 parents_by f s₁ s₂ s₃ None is done tended top stands = inl stands
 parents_by f s₁ s₂ s₃ (Some h) is done tended top stands = has_parents f h is s₁ done s₂ s₃ tended top stands
 
 -- a row that is gone keeps its dead mark, since only live rows are tended
-module _ (f : ends.Finish) (s₁ s₂ s₃ : Sheet) (done : Published f.sheet s₁ f.place f.word f.call f.reply) (may : MayTendRows s₁ Inner f.new_inner_rows) (tended : AreRowsTended s₁ s₂ Inner f.new_inner_rows) (may_top : MayTendTopAt s₂ f.place f.word)
+module _ (f : ends.Finish) (s₁ s₂ s₃ : Sheet) (done : Published f.sheet s₁ f.place f.word f.call f.reply) (may : MayTendRows s₁ Inner f.inner) (tended : AreRowsTended s₁ s₂ Inner f.inner) (may_top : MayTendTopAt s₂ f.place f.word)
     (top : IsTopTendedAt s₂ s₃ f.place f.word) where
-  dead_now : (row : ℕ) → is_reached f.end.before.sheet.tree row ≡ true → ends.new_count f row ≡ 0 → life_of s₁.lives row ≡ Dead (f.sheet.ended + 1)
+  dead_now : (row : ℕ) → is_reached f.before.sheet.tree row ≡ true → ends.new_count f row ≡ 0 → life_of s₁.lives row ≡ Dead (f.sheet.ended + 1)
   dead_now row was none =
       let some = ends.was_reached f row was in
       let number = ends.was_number f row some in
       done.lives row number.0 (subst (λ (n : ℕ). row < first_row + n) (sym (ends.rows_same f)) number.1)
       ∙ life_if_buried f.sheet (ends.published f) row (ends.unreached_later f row none) ((ends.progress f).buried row number.0 number.1 ∙ ends.some_gone f row (ends.was_gone f row some none))
 
-  not_live : (row child : ℕ) → is_reached f.end.before.sheet.tree row ≡ true → ends.new_count f row ≡ 0 → life_of s₁.lives child ≡ Live → child ≢ row
+  not_live : (row child : ℕ) → is_reached f.before.sheet.tree row ≡ true → ends.new_count f row ≡ 0 → life_of s₁.lives child ≡ Live → child ≢ row
   not_live row child was none live same =
       let both : Live ≡ Dead (f.sheet.ended + 1) = sym live ∙ (ap (life_of s₁.lives) same ∙ dead_now row was none) in
       absurd (cc)
 
-  top_other : (place : Place) → MayTendTopAt s₂ place f.word → (row : ℕ) → is_reached f.end.before.sheet.tree row ≡ true → ends.new_count f row ≡ 0 → (r c : ℕ) → place ≡ Slot r c → row ≢ row_in f.word
+  top_other : (place : Place) → MayTendTopAt s₂ place f.word → (row : ℕ) → is_reached f.before.sheet.tree row ≡ true → ends.new_count f row ≡ 0 → (r c : ℕ) → place ≡ Slot r c → row ≢ row_in f.word
   top_other Root at row was none r c is = absurd (cc)
   top_other (Slot r' c') at row was none r c is =
       let lives : s₂.lives ≡ s₁.lives = ap (λ (x : Sheet). x.lives) tended.only.rest in
       λ same. not_live row (row_in f.word) was none (ap (λ (l : List Life). slice_index_or l (row_in f.word) New) (sym lives) ∙ at.live) (sym same)
 
-  marked_end : (row : ℕ) → is_reached f.end.before.sheet.tree row ≡ true → ends.new_count f row ≡ 0 → word_at s₃.tree row 0 ≡ dead_mark row
+  marked_end : (row : ℕ) → is_reached f.before.sheet.tree row ≡ true → ends.new_count f row ≡ 0 → word_at s₃.tree row 0 ≡ dead_mark row
   marked_end row was none =
       let some = ends.was_reached f row was in
       top_kept s₂ s₃ f.place f.word row top (top_other f.place may_top row was none)

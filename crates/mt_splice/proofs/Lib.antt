@@ -4,7 +4,6 @@ pub mod Beginnings
 pub mod BetweenCalls
 pub mod Buried
 pub mod Clearing
-pub mod Conditions
 pub mod Counting
 pub mod Counts
 pub mod Drafts
@@ -22,7 +21,6 @@ pub mod EndTrees
 pub mod EndWhole
 pub mod EndWords
 pub mod Fresh
-pub mod Gapless
 pub mod Gathering
 pub mod LeafRegions
 pub mod LevelBuries
@@ -45,7 +43,6 @@ pub mod Regions
 pub mod Rises
 pub mod RootEndings
 pub mod Runs
-pub mod Settled
 pub mod Sizes
 pub mod SlotEnding
 pub mod SpliceBegins

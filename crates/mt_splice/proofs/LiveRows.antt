@@ -6,6 +6,7 @@ use Rattle.std.proofs.lemmas.List.{length-map}
 use Rattle.std.proofs.lemmas.List.Elements.{All-map, All-append, All-contains, Contains-append_left, Contains-append_right, Contains-append_cases}
 use Rattle.mt_base.specs.declared.kinds.Kind.{Kind}
 use Rattle.mt_free.specs.Book.{Book, Held, IsOut, IsRowOf, held_rows, live_count}
+use Rattle.mt_layout.specs.Sizes.{first_row}
 use Rattle.mt_rows.specs.Trees.{reached_in}
 use Rattle.mt_rows.specs.Sheet.{Sheet}
 use Rattle.mt_rows.specs.Publish.{tree_as, IsTreeOf, IsReached}
@@ -81,7 +82,7 @@ module _ (s : Sheet) (kind : Kind) (book : Book) (number : ℕ) (tree : IsTreeOf
 
   pub live_is_reached : live_count book ≡ length reached
   live_is_reached =
-      let all = span_length 16 book.rows (inside ++ reached) all_inside each_once in
+      let all = span_length first_row book.rows (inside ++ reached) all_inside each_once in
       let outer = length-append inside reached in
       let inner = length-append book.free (held_rows book) in
       let held = length-map book.held (λ (h : Held). h.row) in

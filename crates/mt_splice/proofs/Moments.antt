@@ -21,7 +21,8 @@ use Rattle.mt_base.specs.Width.{deepest}
 use Rattle.std.specs.Prelude.{nat_lt}
 use Rattle.mt_splice.specs.Seen.{Seen, passing}
 use Rattle.mt_splice.specs.Work.{Start, Work, table_with, tree_with, now, rows_at, times_in, IsUsed, KeepsWords, Keeps, Holds}
-use Rattle.mt_splice.specs.Replaced.{IsHalfReplaced, IsReplaced}
+use Rattle.mt_splice.specs.Replaced.{IsHalfReplaced}
+use Rattle.mt_splice.specs.Endings.{words_of}
 
 -- ---- words that stay
 
@@ -107,7 +108,7 @@ module _ (start : Start) (s : Work) (holds : Holds start s) where
   pub old_level : (depth k : ℕ) → start.height ≡ depth + k → rows_at (now start s) depth ≡ rows_at start.tree depth
   old_level depth k height = level_shared start.tree.table (now start s).table depth k (root_of start.tree) (levels_upper (Shared start.tree.table (now start s).table) start.tree.table depth k start.height (root_of start.tree) height old_shared)
 
-  pub old_reached : (row : ℕ) → is_reached (record { table = (now start s).table; root = start.tree.root }) row ≡ is_reached (record { table = start.tree.table; root = start.tree.root }) row
+  pub old_reached : (row : ℕ) → is_reached (words_of (now start s)) row ≡ is_reached (words_of start.tree) row
   old_reached row =
       ap (nat_lt 0) (tally_reached (now start s) start.height old_stands row ∙ (old_times (is_row_of row) ∙ sym (tally_reached start.tree start.height holds.stands row)))
 
@@ -115,15 +116,6 @@ module _ (start : Start) (s : Work) (holds : Holds start s) where
   old_ranges =
       ranges_by_depth (now start s) deepest start.height (root_span start.tree.table start.tree.root) holds.stands.low old_stands.rows
       ∙ (old_map ∙ sym (ranges_by_depth start.tree deepest start.height (root_span start.tree.table start.tree.root) holds.stands.low holds.stands.rows))
-
-  -- what stands in place of it stands in place of it by the words now
-  pub replaced_now : (t' : Tree) (map : List Range) (taken gone : List Seen) (h' : ℕ) → IsReplaced start.tree t' map taken gone start.height h' → IsReplaced (now start s) t' map taken gone start.height h'
-  replaced_now t' map taken gone h' replaced = record {
-    stands = replaced.stands;
-    ranges = replaced.ranges;
-    rows = λ p. let all = replaced.rows p in let same = old_times p in omega arith;
-    were = λ p. let all = replaced.were p in let same = old_times p in omega arith;
-  }
 
 -- ---- which rows are in use
 
@@ -140,7 +132,7 @@ levels_each P t (suc h) xs each = (here xs (λ x one. each 0 (suc h) x (omega ar
     here (y ∷ ys) each = (each y (inl refl), here ys (λ x one. each x (inr one)))
 
 -- those of the tree are, where all that are reached are
-pub reached_are_used : (start : Start) (s : Work) → Stands start.tree start.height → ((row : ℕ) → is_reached (record { table = start.tree.table; root = start.tree.root }) row ≡ true → s.used row ≡ true)
+pub reached_are_used : (start : Start) (s : Work) → Stands start.tree start.height → ((row : ℕ) → is_reached (words_of start.tree) row ≡ true → s.used row ≡ true)
     → Levels (IsUsed s) start.tree.table start.height (root_of start.tree)
 reached_are_used start s stands used =
     levels_each (IsUsed s) start.tree.table start.height (root_of start.tree)

@@ -4,34 +4,30 @@ use Rattle.std.specs.List.{AllByRecursion, flat_map}
 use Rattle.std.proofs.lemmas.Grind.{flat_map-append}
 use Rattle.mt_base.specs.declared.ranges.Range.{Range}
 use Rattle.mt_base.specs.Entry.{reserved}
+use Rattle.mt_base.proofs.Lists.{all_join}
 use Rattle.mt_layout.specs.declared.spans.Span.{Span}
 use Rattle.mt_layout.specs.Spans.{leaf_range, Fills}
+use Rattle.mt_layout.proofs.SpanLists.{fills-append, fills_split}
 use Rattle.mt_rows.specs.Spans.{spans_in}
 use Rattle.mt_rows.specs.Levels.{expand}
 use Rattle.mt_rows.specs.Laws.{Tree, IsRow, Stands, top_of, kind_at}
-use Rattle.mt_rows.proofs.Lists.{all_join, fills-append, expand-append}
+use Rattle.mt_rows.proofs.Lists.{expand-append}
 use Rattle.mt_leaf.specs.Edits.{joined}
 use Rattle.mt_leaf.proofs.Joined.{ranges_joined, fills_joined, apart_joined}
-use Rattle.mt_leaf.proofs.Counts.{no_gaps-append, no_gaps-joined}
 use Rattle.mt_path.specs.declared.paths.PathStep.{PathStep}
 use Rattle.mt_path.specs.Paths.{step_in, step_at, path_in}
-use Rattle.mt_path.proofs.Places.{fills_split}
 use Rattle.mt_path.proofs.TreePaths.{row_of, place, next_row, row_before}
 use Rattle.mt_splice.specs.Work.{Start, Work, now}
 use Rattle.mt_splice.specs.Stretches.{ArePaths, spans_on}
-use Rattle.mt_splice.specs.Climbs.{begin_of, behind_of, Gapless, MayBeIn, beside, MayStandIn, Gathered}
-use Rattle.mt_splice.proofs.Gapless.{all_joined}
-use Rattle.mt_splice.proofs.Rises.{step_here, row_is_lawful, spans_here, gapless_here}
+use Rattle.mt_splice.specs.Climbs.{begin_of, behind_of, MayBeIn, beside, MayStandIn, Gathered}
+use Rattle.mt_splice.proofs.Regions.{all_joined}
+use Rattle.mt_splice.proofs.Rises.{step_here, row_is_lawful, spans_here}
 
 -- ---- spans beside each other
 
 pub beside_fills : (height lo middle hi : ℕ) (xs ys : List Span) → Fills lo middle xs → Fills middle hi ys → Fills lo hi (beside height xs ys)
 beside_fills zero lo middle hi xs ys front back = fills_joined lo hi (xs ++ ys) (fills-append lo middle hi xs ys front back)
 beside_fills (suc height) lo middle hi xs ys front back = fills-append lo middle hi xs ys front back
-
-pub beside_gapless : (height : ℕ) (xs ys : List Span) → Gapless xs → Gapless ys → Gapless (beside height xs ys)
-beside_gapless zero xs ys front back = no_gaps-joined (xs ++ ys) (no_gaps-append xs ys front back)
-beside_gapless (suc height) xs ys front back = no_gaps-append xs ys front back
 
 abbrev IsFree : Span → Type 0
 IsFree x = reserved x.word ≡ false
@@ -149,7 +145,6 @@ module _ (start : Start) (s : Work) (left right right' : List PathStep) (depth h
       after = subst (λ (lo : ℕ). Fills lo (top_of t + 1) found.0) ends_then fills_behind.2;
     };
     fills = beside_fills height (begin_of left depth) behind (behind_of right' depth) run spans_behind gathered.fills spans_fill;
-    gapless = beside_gapless height run spans_behind gathered.gapless (gapless_here start s gathered.holds right' behind behind_within is_right depth height gathered.levels);
     fit = beside_fit height run spans_behind (run_free height run gathered.fit) (row_free t height row_behind spans_behind row_then spans_are);
     level = beside_stands start s depth height (expand t.table gathered.front) run spans_behind (expand t.table found.0)
         (moved start s depth height (expand t.table gathered.front ++ (run ++ expand t.table gathered.back)) (expand t.table gathered.front ++ ((run ++ spans_behind) ++ expand t.table found.0))
@@ -242,7 +237,6 @@ module _ (start : Start) (s : Work) (left right left' : List PathStep) (depth he
       after = gathered.stretch.after;
     };
     fills = beside_fills height (begin_of left' depth) (begin_of left depth) (behind_of right depth) spans_ahead run spans_ahead_fill gathered.fills;
-    gapless = beside_gapless height spans_ahead run (gapless_here start s gathered.holds left' ahead ahead_within is_left depth height gathered.levels) gathered.gapless;
     fit = beside_fit height spans_ahead run (row_free old_tree height row_ahead spans_ahead row_first spans_ahead_are) (run_free height run gathered.fit);
     level = beside_stands start s depth height (expand old_tree.table found_ahead.0) spans_ahead run (expand old_tree.table gathered.back)
         (moved start s depth height (expand old_tree.table gathered.front ++ (run ++ expand old_tree.table gathered.back)) (expand old_tree.table found_ahead.0 ++ ((spans_ahead ++ run) ++ expand old_tree.table gathered.back))

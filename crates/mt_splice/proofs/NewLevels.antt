@@ -6,7 +6,9 @@ use Rattle.mt_layout.specs.Spans.{leaf_range, Fills}
 use Rattle.mt_rows.specs.Levels.{expand, map_of, Levels, tally, times, SameSpans}
 use Rattle.mt_rows.specs.Laws.{IsRow, top_of}
 use Rattle.mt_rows.specs.Replacement.{root_of}
-use Rattle.mt_rows.proofs.Lists.{all_map, all_front, all_back, all_join, tally-append, expand-append, fills-append}
+use Rattle.mt_base.proofs.Lists.{all_map, all_front, all_back, all_join}
+use Rattle.mt_layout.proofs.SpanLists.{fills-append}
+use Rattle.mt_rows.proofs.Lists.{tally-append, expand-append}
 use Rattle.mt_rows.proofs.Joins.{expand_shared}
 use Rattle.mt_rows.proofs.Frames.{same_spans}
 use Rattle.mt_rows.proofs.Heights.{level_next, level_rows}

@@ -3,15 +3,17 @@ use Rattle.std.proofs.Common.{◌≡◌, ℕ, suc, ◌+◌, ◌<◌, ◌≤◌, 
 use Rattle.std.specs.List.{AllByRecursion}
 use Rattle.std.proofs.lemmas.Bool.{cases_lt}
 use Rattle.std.proofs.Math.Seq.{take-append_seam, drop-append-add}
+use Rattle.mt_base.proofs.Lists.{all_map, all_front}
 use Rattle.mt_layout.specs.declared.names.RowKind.{RowKind}
 use Rattle.mt_layout.specs.Rows.{named_kind}
 use Rattle.mt_layout.specs.declared.spans.Span.{Span}
 use Rattle.mt_layout.specs.Spans.{Fills}
+use Rattle.mt_layout.proofs.SpanLists.{fills-append, fills_le}
 use Rattle.mt_rows.specs.Spans.{Table, spans_by, spans_in}
 use Rattle.mt_rows.specs.Levels.{expand}
 use Rattle.mt_rows.specs.Laws.{Tree, IsRow, Stands, top_of}
 use Rattle.mt_rows.specs.Replacement.{root_of}
-use Rattle.mt_rows.proofs.Lists.{all_map, all_front, Filled, expand_fills, expand-append, fills-append, fills_le}
+use Rattle.mt_rows.proofs.Lists.{Filled, expand_fills, expand-append}
 use Rattle.mt_rows.proofs.Heights.{level_next, level_rows}
 use Rattle.mt_path.specs.declared.paths.PathStep.{PathStep}
 use Rattle.mt_path.specs.Paths.{step_in, At}

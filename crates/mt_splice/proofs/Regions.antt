@@ -1,20 +1,24 @@
 -- The spans of the leaves at a store's ends after the store: those of all leaves from the one to the other.
-use Rattle.std.proofs.Common.{◌≡◌, ℕ, ◌+◌, ◌-◌, ◌≤◌, ◌==◌, List, [], ◌∷◌, ◌++◌, Bool, true, false, length, nat_lt, refl, sym, ap, ◌∙◌, subst, inl, inr, arith, append-nil, append_assoc}
+use Rattle.std.proofs.Common.{◌≡◌, ℕ, ◌+◌, ◌-◌, ◌≤◌, ◌==◌, ◌&&◌, List, [], ◌∷◌, ◌++◌, Bool, true, false, length, nat_lt, refl, sym, ap, ◌∙◌, subst, inl, inr, arith, append-nil, append_assoc}
 use Rattle.std.specs.Prelude.{if◌then◌else◌}
 use Rattle.std.specs.List.{AllByRecursion}
 use Rattle.std.proofs.lemmas.Bool.{cases_Bool, eqb-true, eqb-false}
+use Rattle.mt_base.proofs.Lists.{all_map, all_front, all_back, all_join}
 use Rattle.mt_layout.specs.declared.names.RowKind.TheVariants.{Leaf}
 use Rattle.mt_layout.specs.declared.spans.Span.{Span}
 use Rattle.mt_layout.specs.Rows.{row_in}
 use Rattle.mt_layout.specs.Spans.{Fills}
+use Rattle.mt_layout.specs.Sizes.{slots_of}
+use Rattle.mt_layout.proofs.RowSizes.{sizes}
+use Rattle.mt_layout.proofs.SpanLists.{fills-append, fills_le}
 use Rattle.mt_rows.specs.Spans.{Table, spans_in}
 use Rattle.mt_rows.specs.Levels.{expand}
 use Rattle.mt_rows.specs.Laws.{Tree, IsRow, Stands, top_of}
 use Rattle.mt_rows.specs.Replacement.{root_of}
-use Rattle.mt_rows.proofs.Lists.{all_map, all_front, all_back, all_join, Filled, expand_fills, expand-append, fills-append, fills_le}
+use Rattle.mt_rows.proofs.Lists.{Filled, expand_fills, expand-append}
 use Rattle.mt_rows.proofs.Heights.{level_rows}
 use Rattle.mt_rows.proofs.Reached.{one_of_parts, one_place}
-use Rattle.mt_leaf.specs.Edits.{spans_below, spans_above, span_stored, stored, joined, edited, starting}
+use Rattle.mt_leaf.specs.Edits.{spans_below, spans_above, span_stored, stored, join, joined, edited, starting}
 use Rattle.mt_leaf.proofs.Stored.{length_edited, stored_between}
 use Rattle.mt_leaf.proofs.Counts.{two_short, two_to_a_hole}
 use Rattle.mt_path.specs.declared.paths.PathStep.{PathStep}
@@ -25,16 +29,24 @@ use Rattle.mt_path.specs.Handles.{last_step, leaf_spans}
 use Rattle.mt_splice.specs.Work.{rows_at}
 use Rattle.mt_splice.specs.Stretches.{IsStretch}
 use Rattle.mt_splice.specs.Runs.{IsLeafRun}
-use Rattle.mt_splice.proofs.Sizes.{leaf_slots}
 use Rattle.mt_splice.proofs.Splits.{split_more}
 use Rattle.mt_splice.proofs.PathRows.{rows_in_order, spans_of_step}
-use Rattle.mt_splice.proofs.Gapless.{all_joined}
 
 -- ---- what holds of each span of leaves
 
 pub all_expand : (P : Span → Type 0) (t : Table) (xs : List Span) → AllByRecursion (λ (x : Span). AllByRecursion P (spans_in t x)) xs → AllByRecursion P (expand t xs)
 all_expand P t [] each = tt
 all_expand P t (x ∷ xs) each = all_join P (spans_in t x) (expand t xs) each.0 (all_expand P t xs each.1)
+
+-- what holds of a span whatever its ends holds of those that are joined
+module _ (P : Span → Type 0) (ends : (x : Span) (last : ℕ) → P x → P (record x { last = last })) where
+  all_joining : (x : Span) (xs : List Span) → P x → AllByRecursion P xs → AllByRecursion P (join x xs)
+  all_joining x [] here each = (here, tt)
+  all_joining x (y ∷ ys) here each = elim (cases_Bool ((x.word == 0) && (y.word == 0))) [ inl t ↦ rw t (ends x y.last here, each.1) | inr f ↦ rw f (here, each) ]
+
+  pub all_joined : (xs : List Span) → AllByRecursion P xs → AllByRecursion P (joined xs)
+  all_joined [] each = tt
+  all_joined (x ∷ xs) each = all_joining x (joined xs) each.0 (all_joined xs each.1)
 
 module _ (P : Span → Type 0) (ends : (x : Span) (last : ℕ) → P x → P (record x { last = last })) (begins : (x : Span) (first : ℕ) → P x → P (record x { first = first })) where
   all_below : (xs : List Span) (first : ℕ) → AllByRecursion P xs → AllByRecursion P (spans_below xs first)
@@ -86,8 +98,11 @@ module _ (t : Tree) (h : ℕ) (stands : Stands t h) (first last : ℕ) (order : 
   leaf_law : (index : ℕ) → index ≤ top_of t → IsRow t 0 (row_of t h index)
   leaf_law index inside = lawful t h stands index h 0 inside (omega arith)
 
-  leaf_most : (index : ℕ) → index ≤ top_of t → length (spans_in t.table (row_of t h index)) ≤ 16
-  leaf_most index inside = subst (λ (n : ℕ). length (spans_in t.table (row_of t h index)) ≤ n) (leaf_slots t.table.width) (leaf_law index inside).count.most
+  abbrev slots : ℕ
+  slots = slots_of t.table.width Leaf
+
+  leaf_most : (index : ℕ) → index ≤ top_of t → length (spans_in t.table (row_of t h index)) ≤ slots
+  leaf_most index inside = (leaf_law index inside).count.most
 
   one_leaf : (entry : ℕ) → left_leaf ≡ right_leaf → Leaves entry (spans_in t.table left_leaf)
   one_leaf entry same = record {
@@ -100,7 +115,7 @@ module _ (t : Tree) (h : ℕ) (stands : Stands t h) (first last : ℕ) (order : 
     run =
         (let count = length_edited left_leaf.first (left_leaf.last + 1) first last entry (spans_in t.table left_leaf) (leaf_law first from_within).pivots.fills order in
         let most = leaf_most first from_within in
-        let slots = leaf_slots t.table.width in
+        let enough = sizes t.table.width Leaf in
         record { few = omega arith; ends = λ more hole. omega arith });
   }
 
@@ -144,14 +159,14 @@ module _ (t : Tree) (h : ℕ) (stands : Stands t h) (first last : ℕ) (order : 
             ∙ ap (λ (l : List Span). stored (spans_in t.table left_leaf ++ l) first last entry) (sym (expand-append t.table middle.0 (right_leaf ∷ []) ∙ ap (λ (l : List Span). expand t.table middle.0 ++ l) (append-nil (spans_in t.table right_leaf)))));
         run =
             (let most = leaf_most first from_within in let most' = leaf_most last within in
-            let slots = leaf_slots t.table.width in
+            let enough = sizes t.table.width Leaf in
             let apart = fills_le (left_leaf.last + 1) right_leaf.first middle.0 middle.2 in
-            let count = two_short left_leaf.first (left_leaf.last + 1) right_leaf.first (right_leaf.last + 1) first last entry 16 (spans_in t.table left_leaf) (spans_in t.table right_leaf)
+            let count = two_short left_leaf.first (left_leaf.last + 1) right_leaf.first (right_leaf.last + 1) first last entry slots (spans_in t.table left_leaf) (spans_in t.table right_leaf)
             own.0.pivots.fills right_row.pivots.fills (omega arith) apart from' (omega arith) most most' in
             record {
               few = omega arith;
               ends = λ more hole.
-                  (let count = two_to_a_hole left_leaf.first (left_leaf.last + 1) right_leaf.first (right_leaf.last + 1) first last entry 16 (spans_in t.table left_leaf) (spans_in t.table right_leaf)
+                  (let count = two_to_a_hole left_leaf.first (left_leaf.last + 1) right_leaf.first (right_leaf.last + 1) first last entry slots (spans_in t.table left_leaf) (spans_in t.table right_leaf)
                   own.0.pivots.fills right_row.pivots.fills (omega arith) apart from' (omega arith) most most' hole (right_row.holes.ends more) in
                   omega arith);
             });

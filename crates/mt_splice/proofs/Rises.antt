@@ -1,14 +1,15 @@
 -- A level is left: what stands beside the replaced rows in the rows above them is gathered with the new ones.
 use Rattle.std.proofs.Common.{◌≡◌, ℕ, suc, ◌+◌, ◌≤◌, List, ◌∷◌, ◌++◌, take, drop, sym, ap, ◌∙◌, subst, arith, append_assoc}
 use Rattle.std.specs.List.{AllByRecursion}
+use Rattle.mt_base.proofs.Lists.{all_back}
 use Rattle.mt_layout.specs.declared.spans.Span.{Span}
 use Rattle.mt_layout.specs.Rows.{row_in}
 use Rattle.mt_layout.specs.Spans.{Fills}
+use Rattle.mt_layout.proofs.SpanLists.{fills-append}
 use Rattle.mt_rows.specs.Spans.{spans_in}
 use Rattle.mt_rows.specs.Levels.{expand, Levels}
 use Rattle.mt_rows.specs.Laws.{Tree, IsRow, Stands, top_of, kind_at}
 use Rattle.mt_rows.specs.Replacement.{root_of}
-use Rattle.mt_rows.proofs.Lists.{all_back, all_join, fills-append}
 use Rattle.mt_rows.proofs.Frames.{same_spans}
 use Rattle.mt_rows.proofs.Heights.{level_rows}
 use Rattle.mt_path.specs.declared.paths.PathStep.{PathStep}
@@ -17,9 +18,8 @@ use Rattle.mt_path.proofs.TreePaths.{row_of, step, place, lawful, child}
 use Rattle.mt_splice.specs.Work.{Start, Work, now, rows_at, IsUsed, KeepsWords, Holds}
 use Rattle.mt_splice.specs.Replaced.{IsHalfReplaced}
 use Rattle.mt_splice.specs.Stretches.{IsStretch, spans_on}
-use Rattle.mt_splice.specs.Climbs.{begin_of, behind_of, Gapless, Gathered, Climbed}
+use Rattle.mt_splice.specs.Climbs.{begin_of, behind_of, Gathered, Climbed}
 use Rattle.mt_splice.proofs.Moments.{RowsKeep}
-use Rattle.mt_splice.proofs.Gapless.{all_take, all_drop, gapless_row}
 use Rattle.mt_splice.proofs.PathRows.{stretch_between, front_below, back_below, spans_of_step, take_slot, drop_slot}
 
 -- ---- a row of the tree, by the words now
@@ -47,9 +47,6 @@ module _ (start : Start) (s : Work) (holds : Holds start s) (path : List PathSte
   spans_here =
       spans_of_step start.tree.table row_here (kind_at start.tree.kind k) (step_at path d) i row_is_lawful.name.named step_here (now start s).table
       ∙ same_spans start.tree.table (now start s).table row_here row_keeps_words
-
-  pub gapless_here : Gapless (spans_on (now start s).table (kind_at start.tree.kind k) (step_at path d))
-  gapless_here = subst Gapless (sym spans_here) (gapless_row start.tree k row_here holds.range row_is_lawful)
 
 -- ---- one level up
 
@@ -157,6 +154,15 @@ module _ (start : Start) (s : Work) (left right : List PathStep) (depth height :
       (spans_here start s climbed.holds right j to_within climbed.paths.is_right depth (suc height) levels ∙ right_at.parts)
       (ap (λ (z : PathStep). z.slot) right_step ∙ sym right_at.slot)
 
+  -- what stands in the two rows before the left slot, and behind the right one
+  pub fills_ahead : Fills (begin_of left depth) (begin_of left (suc depth)) (take (step_at left depth).slot left_spans)
+  fills_ahead =
+      subst (λ (p : (ℕ × ℕ) × List Span). Fills p.0.0 p.0.1 p.1) (λ k. ((sym (ap (λ (z : PathStep). z.min) left_step) k, sym left_below k), sym taken k)) left_at.before
+
+  pub fills_behind : Fills (behind_of right (suc depth)) (behind_of right depth) (drop ((step_at right depth).slot + 1) right_spans)
+  fills_behind =
+      subst (λ (p : (ℕ × ℕ) × List Span). Fills p.0.0 p.0.1 p.1) (λ k. ((sym right_below k, sym (ap (λ (z : PathStep). z.max + 1) right_step) k), sym dropped k)) right_at.after
+
   pub level_left : (run : List Span) → run ≡ take (step_at left depth).slot left_spans ++ (new ++ drop ((step_at right depth).slot + 1) right_spans) → Gathered start s left right depth (suc height) run
   level_left run is_run =
       let run_is : run ≡ left_at.front ++ (new ++ right_at.back) = is_run ∙ (λ k. taken k ++ (new ++ dropped k)) in
@@ -170,11 +176,6 @@ module _ (start : Start) (s : Work) (left right : List PathStep) (depth height :
         back = back;
         stretch = stretch_above.1;
         fills = subst (Fills (begin_of left depth) (behind_of right depth)) (sym run_is) fills_above;
-        gapless = subst Gapless (sym is_run)
-            (all_join (λ (x : Span). x.gap ≡ 0) (take (step_at left depth).slot left_spans) (new ++ drop ((step_at right depth).slot + 1) right_spans)
-            (all_take (λ (x : Span). x.gap ≡ 0) (step_at left depth).slot left_spans (gapless_here start s climbed.holds left i from_within climbed.paths.is_left depth (suc height) levels))
-            (all_join (λ (x : Span). x.gap ≡ 0) new (drop ((step_at right depth).slot + 1) right_spans) climbed.gapless
-            (all_drop (λ (x : Span). x.gap ≡ 0) ((step_at right depth).slot + 1) right_spans (gapless_here start s climbed.holds right j to_within climbed.paths.is_right depth (suc height) levels))));
         fit = tt;
         level = (
           subst (IsHalfReplaced t s.words start.map s.taken s.gone height (rows_at t (suc depth))) level climbed.half,

@@ -1,11 +1,11 @@
 -- A replacement ends at the root: by one row that covers all, by a root above several rows, or with no row at all.
-use Rattle.std.proofs.Common.{◌≡◌, ℕ, suc, ◌+◌, ◌<◌, ◌≤◌, List, [], ◌∷◌, ◌++◌, Bool, refl, sym, ap, ◌∙◌, subst, arith, append-nil}
+use Rattle.std.proofs.Common.{◌≡◌, ℕ, suc, ◌+◌, ◌<◌, ◌≤◌, List, [], ◌∷◌, ◌++◌, Some, Bool, refl, sym, ap, ◌∙◌, subst, arith, append-nil}
 use Rattle.std.specs.List.{flat_map}
 use Rattle.mt_layout.specs.declared.spans.Span.{Span}
 use Rattle.mt_layout.specs.Spans.{leaf_range, Fills}
 use Rattle.mt_rows.specs.Spans.{root_span}
 use Rattle.mt_rows.specs.Levels.{expand, map_of, Levels, tally, times}
-use Rattle.mt_base.specs.Width.{deepest}
+use Rattle.mt_base.specs.Width.{deepest, most_rows}
 use Rattle.mt_rows.specs.Laws.{Tree, IsRow, Stands, top_of}
 use Rattle.mt_rows.specs.Replacement.{root_of}
 use Rattle.mt_rows.proofs.Lists.{levels_map}
@@ -29,17 +29,17 @@ use Rattle.mt_splice.proofs.Rises.{step_here}
 reroot : (t : Tree) (root : ℕ) (h : ℕ) (xs : List Span) → Levels (IsRow t) t.table h xs → Levels (IsRow (with_root t root)) t.table h xs
 reroot t root h xs rows = levels_map (IsRow t) (IsRow (with_root t root)) t.table (λ k x row. row_keeps t t.table.words root k x (λ c above within. refl) row) h xs rows
 
--- a span that covers all, and has no gap, is that of a root
-root_is : (t : Tree) (x : Span) → x.first ≡ 0 → x.last ≡ top_of t → x.gap ≡ 0 → x ≡ root_span t.table x.word
-root_is t x first last gap = λ i. record { first = first i; last = last i; word = x.word }
+-- a span that covers all is that of a root
+root_is : (t : Tree) (x : Span) → x.first ≡ 0 → x.last ≡ top_of t → x ≡ root_span t.table x.word
+root_is t x first last = λ i. record { first = first i; last = last i; word = x.word }
 
 -- the rows of one level stand in place of the whole tree
-module _ (start : Start) (s : Work) (x : Span) (first : x.first ≡ 0) (last : x.last ≡ top_of start.tree) (gap : x.gap ≡ 0) where
+module _ (start : Start) (s : Work) (x : Span) (first : x.first ≡ 0) (last : x.last ≡ top_of start.tree) where
   abbrev t' : Tree
   t' = with_root (now start s) x.word
 
   at_root : x ∷ [] ≡ root_of t'
-  at_root = ap (λ (y : Span). y ∷ []) (root_is start.tree x first last gap)
+  at_root = ap (λ (y : Span). y ∷ []) (root_is start.tree x first last)
 
   root_rows : (k : ℕ) → Levels (IsRow (now start s)) (now start s).table k (x ∷ []) → Levels (IsRow t') t'.table k (root_of t')
   root_rows k rows = subst (Levels (IsRow t') t'.table k) at_root (reroot (now start s) x.word k (x ∷ []) rows)
@@ -67,12 +67,12 @@ module _ (start : Start) (s s' : Work) (left right : List PathStep) (depth heigh
       (subst (Levels (IsUsed s) (now start s).table height) alone climbed.used)
       (subst (IsHalfReplaced start.tree s.words start.map s.taken s.gone height (rows_at start.tree depth)) alone climbed.half)
 
-  pub ends_at_root : IsReplaced start.tree (with_root (now start s') x.word) start.map s'.taken s'.gone start.height height
+  pub ends_at_root : IsReplaced start.tree (with_root (now start s') x.word) start.map s'.taken s'.gone (Some start.height) (Some height)
   ends_at_root =
       let low : height < deepest = (let all = climbed.levels in let deep = climbed.holds.stands.low in omega arith) in
-      let root = at_root start s' x first last climbed.gapless.0 in
+      let root = at_root start s' x first last in
       record {
-        stands = root_stands start s' x first last climbed.gapless.0 height low half_now.stands;
+        stands = root_stands start s' x first last height low half_now.stands;
         ranges = ap (map_of (now start s').table height) (sym root) ∙ half_now.ranges;
         rows = λ p.
             let half = half_now.rows p in
@@ -95,7 +95,7 @@ path_begins start s holds path i within is =
     (ap (λ (z : PathStep). z.min) step, ap (λ (z : PathStep). z.max + 1) step)
 
 module _ (start : Start) (s s' : Work) (left right : List PathStep) (height : ℕ) (new : List Span) (x : Span) (climbed : Climbed start s left right 0 height new)
-    (written : AreWritten start s s' (suc height) new (x ∷ [])) (few : start.tree.rows ≤ 65504) where
+    (written : AreWritten start s s' (suc height) new (x ∷ [])) (few : start.tree.rows ≤ most_rows) where
   begins : begin_of left 0 ≡ 0
   begins = (path_begins start s climbed.holds left climbed.paths.from (let order = climbed.paths.order in let within = climbed.paths.within in omega arith) climbed.paths.is_left).0
 
@@ -120,15 +120,15 @@ module _ (start : Start) (s s' : Work) (left right : List PathStep) (height : �
       (subst (Levels (IsUsed s) (now start s).table height) all_new climbed.used)
       (subst (IsHalfReplaced start.tree s.words start.map s.taken s.gone height (root_of start.tree)) all_new climbed.half)
 
-  pub ends_grown : IsReplaced start.tree (with_root (now start s') x.word) start.map s'.taken s'.gone start.height (suc start.height)
+  pub ends_grown : IsReplaced start.tree (with_root (now start s') x.word) start.map s'.taken s'.gone (Some start.height) (Some (suc start.height))
   ends_grown =
       let same : height ≡ start.height = (let all = climbed.levels in omega arith) in
-      let root = at_root start s' x whole.0 x_last written.gapless.0 in
+      let root = at_root start s' x whole.0 x_last in
       let rows : Levels (IsRow (now start s')) (now start s').table (suc height) (x ∷ []) = (written.lawful, subst (Levels (IsRow (now start s')) (now start s').table height) (sym written.hold) half_new.stands) in
-      let low = nine_levels (with_root (now start s') x.word) (suc height) few (root_rows start s' x whole.0 x_last written.gapless.0 (suc height) rows) in
-      subst (λ (h : ℕ). IsReplaced start.tree (with_root (now start s') x.word) start.map s'.taken s'.gone start.height (suc h)) same
+      let low = nine_levels (with_root (now start s') x.word) (suc height) few (root_rows start s' x whole.0 x_last (suc height) rows) in
+      subst (λ (h : ℕ). IsReplaced start.tree (with_root (now start s') x.word) start.map s'.taken s'.gone (Some start.height) (Some (suc h))) same
       (record {
-        stands = root_stands start s' x whole.0 x_last written.gapless.0 (suc height) low rows;
+        stands = root_stands start s' x whole.0 x_last (suc height) low rows;
         ranges = ap (map_of (now start s').table (suc height)) (sym root) ∙ (ap (map_of (now start s').table height) written.hold ∙ half_new.ranges);
         rows = λ p.
             let half = half_new.rows p in
@@ -185,8 +185,8 @@ pub first_leaf : (start : Start) (s s' : Work) (run : List Span) (x : Span) → 
 first_leaf start s s' run x written fills stands =
     let whole = written.fills 0 (top_of start.tree + 1) fills in
     let last : x.last ≡ top_of start.tree = (let end = whole.2 in omega arith) in
-    let root = at_root start s' x whole.0 last written.gapless.0 in (
-      root_stands start s' x whole.0 last written.gapless.0 0 (omega arith) written.lawful,
+    let root = at_root start s' x whole.0 last in (
+      root_stands start s' x whole.0 last 0 (omega arith) written.lawful,
       ap (map_of (now start s').table 0) (sym root) ∙ (ap (flat_map leaf_range) written.hold ∙ stands),
       (are_taken start s s' 0 run (x ∷ []) written).0,
     )

@@ -3,20 +3,20 @@ use Rattle.std.proofs.Common.{◌≡◌, ◌≢◌, ℕ, zero, suc, ◌+◌, ◌
 use Rattle.std.specs.Prelude.{if◌then◌else◌}
 use Rattle.std.specs.List.{flat_map}
 use Rattle.std.proofs.lemmas.Bool.{cases_lt}
-use Rattle.mt_base.specs.declared.kinds.Kind.{Kind}
-use Rattle.mt_base.specs.declared.kinds.Kind.TheVariants as trees
 use Rattle.mt_base.specs.declared.ranges.Range.{Range}
 use Rattle.mt_base.specs.Entry.{reserved}
 use Rattle.mt_base.specs.Map.{over}
+use Rattle.mt_layout.specs.declared.names.RowKind.TheVariants.{Leaf}
 use Rattle.mt_layout.specs.declared.spans.Span.{Span}
+use Rattle.mt_layout.specs.Sizes.{slots_of, least_items}
 use Rattle.mt_layout.specs.Spans.{leaf_range, Fills, Apart, EndsFull}
+use Rattle.mt_layout.proofs.RowSizes.{sizes}
+use Rattle.mt_layout.proofs.SpanLists.{some_filled, full-append, two_hold_an_entry}
 use Rattle.mt_rows.specs.Spans.{spans_in}
-use Rattle.mt_layout.specs.Sizes.{slots_of}
 use Rattle.mt_rows.specs.Laws.{Tree, IsRow, top_of, kind_at, covers_all, least_of_root, least_of}
-use Rattle.mt_layout.specs.Sizes.{least_items}
-use Rattle.mt_leaf.specs.Edits.{stored, edited, ends_with_hole}
+use Rattle.mt_leaf.specs.Edits.{stored, joined, edited, ends_with_hole}
 use Rattle.mt_leaf.proofs.Stored.{ranges_edited, fills_edited, length_edited}
-use Rattle.mt_leaf.proofs.Counts.{no_gaps-edited}
+use Rattle.mt_leaf.proofs.Holes.{ends_joined, full_unless_hole, no_hole_ends}
 use Rattle.mt_leaf.proofs.Joined.{length_joined, length_joins, apart_joined}
 use Rattle.mt_path.specs.declared.paths.PathStep.{PathStep}
 use Rattle.mt_path.specs.Paths.{step_in, step_at, path_in, At}
@@ -26,31 +26,15 @@ use Rattle.mt_splice.specs.Splice.{region_of}
 use Rattle.mt_splice.specs.Stretches.{ArePaths, spans_on}
 use Rattle.mt_splice.specs.Climbs.{begin_of, behind_of, MayBeIn, beside, Gathered, Climbed}
 use Rattle.mt_splice.specs.Runs.{most_items, most_in_three, span_to, MayBeCut}
-use Rattle.mt_splice.proofs.Sizes.{leaf_slots, range_slots, tree_slots}
-use Rattle.mt_splice.proofs.Counts.{full_unless_hole, full_join, full_joined, two_hold_an_entry}
 use Rattle.mt_splice.proofs.Regions.{all_edited}
 use Rattle.mt_splice.proofs.PathRows.{rows_in_order}
 use Rattle.mt_splice.proofs.Neighbours.{takes_right, takes_left}
 use Rattle.mt_splice.proofs.Rises.{at_here, step_here, row_is_lawful, spans_here, level_left}
 
--- ---- rows of a tree of ranges
+-- ---- rows that are not the root
 
-range_least : (h : ℕ) → least_items (kind_at trees.Range h) ≡ 6
-range_least zero = refl
-range_least (suc h) = refl
-
-pub tree_least : (t : Tree) (h : ℕ) → t.kind ≡ trees.Range → least_items (kind_at t.kind h) ≡ 6
-tree_least t h range = ap (λ (kind : Kind). least_items (kind_at kind h)) range ∙ range_least h
-
-row_most : (t : Tree) (h : ℕ) (x : Span) → t.kind ≡ trees.Range → IsRow t h x → length (spans_in t.table x) ≤ 16
-row_most t h x range row =
-    subst (λ (n : ℕ). length (spans_in t.table x) ≤ n) (range_slots t.table.width h)
-    (subst (λ (kind : Kind). length (spans_in t.table x) ≤ slots_of t.table.width (kind_at kind h)) range row.count.most)
-
-part_least : (t : Tree) (h : ℕ) (x : Span) → t.kind ≡ trees.Range → covers_all t x ≡ false → IsRow t h x → 6 ≤ length (spans_in t.table x)
-part_least t h x range part row =
-    let least : least_items (kind_at t.kind h) ≤ length (spans_in t.table x) = subst (λ (b : Bool). (if b then least_of_root h else least_items (kind_at t.kind h)) ≤ length (spans_in t.table x)) part row.count.least in
-    subst (λ (n : ℕ). n ≤ length (spans_in t.table x)) (range_least h) (subst (λ (kind : Kind). least_items (kind_at kind h) ≤ length (spans_in t.table x)) range least)
+part_least : (t : Tree) (h : ℕ) (x : Span) → covers_all t x ≡ false → IsRow t h x → least_items t.table.width (kind_at t.kind h) ≤ length (spans_in t.table x)
+part_least t h x part row = subst (λ (b : Bool). (if b then least_of_root h else least_items t.table.width (kind_at t.kind h)) ≤ length (spans_in t.table x)) part row.count.least
 
 late_part : (t : Tree) (x : Span) → 0 < x.first → covers_all t x ≡ false
 late_part t x late = let not : (x.first == 0) ≡ false = ne_eqb x.first 0 (λ none. omega arith) in rw not refl
@@ -63,10 +47,6 @@ early_part t x early = let not : (x.last == top_of t) ≡ false = ne_eqb x.last 
     both false not = refl
 
 -- ---- some are gathered
-
-some_filled : (lo hi : ℕ) (xs : List Span) → lo < hi → Fills lo hi xs → 1 ≤ length xs
-some_filled lo hi [] less fills = absurd (omega arith)
-some_filled lo hi (x ∷ xs) less fills = omega arith
 
 -- the rows between the paths cover something
 some_between : (start : Start) (s : Work) (left right : List PathStep) (depth height : ℕ) → ArePaths start left right → Holds start s → start.height ≡ depth + height → begin_of left depth < behind_of right depth
@@ -82,11 +62,11 @@ some_between start s left right depth height paths holds levels =
 
 pub some_gathered : (start : Start) (s : Work) (left right : List PathStep) (depth height : ℕ) (run : List Span) → Gathered start s left right depth height run → 1 ≤ length run
 some_gathered start s left right depth height run gathered =
-    some_filled (begin_of left depth) (behind_of right depth) run (some_between start s left right depth height gathered.paths gathered.holds gathered.levels) gathered.fills
+    some_filled (begin_of left depth) (behind_of right depth) run gathered.fills (some_between start s left right depth height gathered.paths gathered.holds gathered.levels)
 
 pub some_climbed : (start : Start) (s : Work) (left right : List PathStep) (depth height : ℕ) (new : List Span) → Climbed start s left right depth height new → 1 ≤ length new
 some_climbed start s left right depth height new climbed =
-    some_filled (begin_of left depth) (behind_of right depth) new (some_between start s left right depth height climbed.paths climbed.holds climbed.levels) climbed.fills
+    some_filled (begin_of left depth) (behind_of right depth) new climbed.fills (some_between start s left right depth height climbed.paths climbed.holds climbed.levels)
 
 -- ---- spans beside each other
 
@@ -118,8 +98,8 @@ leaf_full t zero x xs leaf row is more = subst EndsFull (sym is) (row.holes.ends
 leaf_full t (suc height) x xs leaf row is more = absurd (omega arith)
 
 beside_full : (height : ℕ) (xs ys : List Span) → 1 ≤ length ys → EndsFull ys → EndsFull (beside height xs ys)
-beside_full zero xs ys some full = full_joined (xs ++ ys) (full_join xs ys some full)
-beside_full (suc height) xs ys some full = full_join xs ys some full
+beside_full zero xs ys some full = full_unless_hole (joined (xs ++ ys)) (ends_joined (xs ++ ys) ∙ no_hole_ends (xs ++ ys) (full-append xs ys some full))
+beside_full (suc height) xs ys some full = full-append xs ys some full
 
 leaf_entry : (height : ℕ) (run : List Span) → height ≡ 0 → MayBeIn height run → 2 ≤ length run → flat_map leaf_range run ≢ []
 leaf_entry zero run leaf fit two = two_hold_an_entry run fit.0 two
@@ -127,17 +107,17 @@ leaf_entry (suc height) run leaf fit two = absurd (omega arith)
 
 -- ---- as they are
 
--- six are enough for every row
-six_enough : (t : Tree) (height lo hi : ℕ) (run : List Span) → t.kind ≡ trees.Range → 6 ≤ length run → least_of t height (span_to lo hi) ≤ length run
-six_enough t height lo hi run range six = by (covers_all t (span_to lo hi))
+-- the least number of items of other rows is enough for the root
+least_enough : (t : Tree) (height lo hi : ℕ) (run : List Span) → least_items t.table.width (kind_at t.kind height) ≤ length run → least_of t height (span_to lo hi) ≤ length run
+least_enough t height lo hi run enough = by (covers_all t (span_to lo hi))
   where
-    root_least : (height : ℕ) → least_of_root height ≤ 6
+    root_least : (height : ℕ) → least_of_root height ≤ 2
     root_least zero = omega arith
     root_least (suc height) = omega arith
 
-    by : (b : Bool) → (if b then least_of_root height else least_items (kind_at t.kind height)) ≤ length run
-    by true = let least = root_least height in omega arith
-    by false = let least = tree_least t height range in omega arith
+    by : (b : Bool) → (if b then least_of_root height else least_items t.table.width (kind_at t.kind height)) ≤ length run
+    by true = let two = root_least height in let some = (sizes t.table.width (kind_at t.kind height)).some in omega arith
+    by false = enough
 
 all_enough : (t : Tree) (height lo hi : ℕ) (run : List Span) → lo ≡ 0 → hi ≡ top_of t + 1 → least_of_root height ≤ length run → least_of t height (span_to lo hi) ≤ length run
 all_enough t height lo hi run first last least =
@@ -157,17 +137,15 @@ leaves_hold_an_entry start s left right depth run gathered not_hole = by run (so
     by (x ∷ y ∷ ys) some apart not_hole = two_hold_an_entry (x ∷ y ∷ ys) apart (omega arith)
 
 -- enough spans, which end with an entry or with the greatest index
-pub cut_alone : (start : Start) (s : Work) (left right : List PathStep) (depth height : ℕ) (run : List Span) → Gathered start s left right depth height run → length run ≤ most_items start.tree.table.width (kind_at start.tree.kind height) → least_items (kind_at start.tree.kind height) ≤ length run
-    → (height ≡ 0 → (step_at right depth).max < top_of start.tree → ends_with_hole run ≡ false) → MayBeCut start.tree height (begin_of left depth) (behind_of right depth) run
+pub cut_alone : (start : Start) (s : Work) (left right : List PathStep) (depth height : ℕ) (run : List Span) → Gathered start s left right depth height run → length run ≤ most_items start.tree.table.width (kind_at start.tree.kind height)
+    → least_items start.tree.table.width (kind_at start.tree.kind height) ≤ length run → (height ≡ 0 → (step_at right depth).max < top_of start.tree → ends_with_hole run ≡ false) → MayBeCut start.tree height (begin_of left depth) (behind_of right depth) run
 cut_alone start s left right depth height run gathered few least ends =
-    let six : 6 ≤ length run = (let is = tree_least start.tree height gathered.holds.range in omega arith) in
-    let slots = tree_slots start.tree height gathered.holds.range in
+    let enough = sizes start.tree.table.width (kind_at start.tree.kind height) in
     record {
       fills = gathered.fills;
       some = omega arith;
       few = omega arith;
-      least = six_enough start.tree height (begin_of left depth) (behind_of right depth) run gathered.holds.range six;
-      gapless = gathered.gapless;
+      least = least_enough start.tree height (begin_of left depth) (behind_of right depth) run least;
       fit = gathered.fit;
       leaves = λ leaf. record { ends = λ more. full_unless_hole run (ends leaf (omega arith)); some = leaf_entry height run leaf gathered.fit (omega arith) };
     }
@@ -179,9 +157,8 @@ pub cut_whole : (start : Start) (s : Work) (left right : List PathStep) (depth h
 cut_whole start s left right depth height run gathered few first last least some = record {
   fills = gathered.fills;
   some = some_gathered start s left right depth height run gathered;
-  few = let slots = tree_slots start.tree height gathered.holds.range in omega arith;
+  few = let enough = sizes start.tree.table.width (kind_at start.tree.kind height) in omega arith;
   least = all_enough start.tree height (begin_of left depth) (behind_of right depth) run first (let same = last in omega arith) least;
-  gapless = gathered.gapless;
   fit = gathered.fit;
   leaves = λ leaf. record { ends = λ more. absurd (omega arith); some = some leaf };
 }
@@ -196,13 +173,12 @@ empty_run t right first last entry order within free some =
     let fills = fills_edited 0 (top_of t + 1) first last entry (hole ∷ []) whole (omega arith) order (omega arith) in
     let count = length_edited 0 (top_of t + 1) first last entry (hole ∷ []) whole order in
     let ranges = ranges_edited (hole ∷ []) first last entry in
-    let one = some_filled 0 (top_of t + 1) (edited (hole ∷ []) first last entry) (omega arith) fills in (
+    let one = some_filled 0 (top_of t + 1) (edited (hole ∷ []) first last entry) fills (omega arith) in (
       record {
         fills = fills;
         some = one;
-        few = let slots = leaf_slots t.table.width in omega arith;
+        few = let enough = sizes t.table.width Leaf in omega arith;
         least = all_enough t 0 0 (top_of t + 1) (edited (hole ∷ []) first last entry) refl refl one;
-        gapless = no_gaps-edited (hole ∷ []) first last entry (refl, tt);
         fit = (
           apart_joined (stored (hole ∷ []) first last entry),
           all_edited (λ (x : Span). reserved x.word ≡ false) (λ x last free. free) (λ x first free. free) (hole ∷ []) first last entry free (refl, tt),
@@ -252,13 +228,19 @@ module _ (start : Start) (s : Work) (left right right' : List PathStep) (depth h
       let same = ap (λ (k : ℕ). (row_of t depth (k + 1)).first) end in
       omega arith
 
-  counts : (6 ≤ length spans_behind) × (length spans_behind ≤ 16)
-  counts = subst (λ (xs : List Span). (6 ≤ length xs) × (length xs ≤ 16)) (sym spans_are) (part_least t height row_behind gathered.holds.range (late_part t row_behind starts_late) law_behind, row_most t height row_behind gathered.holds.range law_behind)
+  abbrev least_behind : ℕ
+  least_behind = least_items t.table.width (kind_at t.kind height)
+
+  abbrev slots_behind : ℕ
+  slots_behind = slots_of t.table.width (kind_at t.kind height)
+
+  counts : (least_behind ≤ length spans_behind) × (length spans_behind ≤ slots_behind)
+  counts = subst (λ (xs : List Span). (least_behind ≤ length xs) × (length xs ≤ slots_behind)) (sym spans_are) (part_least t height row_behind (late_part t row_behind starts_late) law_behind, law_behind.count.most)
 
   pub cut_with_right : MayBeCut t height (begin_of left depth) (behind_of right' depth) (beside height run spans_behind)
   cut_with_right =
       let some = some_gathered start s left right depth height run gathered in
-      let slots = tree_slots t height gathered.holds.range in
+      let enough = sizes t.table.width (kind_at t.kind height) in
       let least = counts.0 in let most = counts.1 in
       let few_all = beside_few height run spans_behind in
       let many_all = beside_many height run spans_behind (run_apart height run gathered.fit) (row_apart t height row_behind spans_behind law_behind spans_are) in
@@ -268,8 +250,7 @@ module _ (start : Start) (s : Work) (left right right' : List PathStep) (depth h
         fills = taken.fills;
         some = omega arith;
         few = omega arith;
-        least = six_enough t height (begin_of left depth) (behind_of right' depth) (beside height run spans_behind) gathered.holds.range (omega arith);
-        gapless = taken.gapless;
+        least = least_enough t height (begin_of left depth) (behind_of right' depth) (beside height run spans_behind) (omega arith);
         fit = taken.fit;
         leaves = λ leaf. record {
           ends = λ inside. beside_full height run spans_behind (omega arith) (leaf_full t height row_behind spans_behind leaf law_behind spans_are (omega arith));
@@ -320,13 +301,19 @@ module _ (start : Start) (s : Work) (left right left' : List PathStep) (depth he
       let from = at.from in let within = from_within in
       omega arith
 
-  counts_ahead : (6 ≤ length spans_ahead) × (length spans_ahead ≤ 16)
-  counts_ahead = subst (λ (xs : List Span). (6 ≤ length xs) × (length xs ≤ 16)) (sym ahead_are) (part_least old height row_ahead gathered.holds.range (early_part old row_ahead ends_early) law_ahead, row_most old height row_ahead gathered.holds.range law_ahead)
+  abbrev least_ahead : ℕ
+  least_ahead = least_items old.table.width (kind_at old.kind height)
+
+  abbrev slots_ahead : ℕ
+  slots_ahead = slots_of old.table.width (kind_at old.kind height)
+
+  counts_ahead : (least_ahead ≤ length spans_ahead) × (length spans_ahead ≤ slots_ahead)
+  counts_ahead = subst (λ (xs : List Span). (least_ahead ≤ length xs) × (length xs ≤ slots_ahead)) (sym ahead_are) (part_least old height row_ahead (early_part old row_ahead ends_early) law_ahead, law_ahead.count.most)
 
   pub cut_with_left : MayBeCut old height (begin_of left' depth) (behind_of right depth) (beside height spans_ahead run)
   cut_with_left =
       let some = some_gathered start s left right depth height run gathered in
-      let slots = tree_slots old height gathered.holds.range in
+      let enough = sizes old.table.width (kind_at old.kind height) in
       let least = counts_ahead.0 in let most = counts_ahead.1 in
       let few_all = beside_few height spans_ahead run in
       let many_all = beside_many height spans_ahead run (row_apart old height row_ahead spans_ahead law_ahead ahead_are) (run_apart height run gathered.fit) in
@@ -335,8 +322,7 @@ module _ (start : Start) (s : Work) (left right left' : List PathStep) (depth he
         fills = taken.fills;
         some = omega arith;
         few = omega arith;
-        least = six_enough old height (begin_of left' depth) (behind_of right depth) (beside height spans_ahead run) gathered.holds.range (omega arith);
-        gapless = taken.gapless;
+        least = least_enough old height (begin_of left' depth) (behind_of right depth) (beside height spans_ahead run) (omega arith);
         fit = taken.fit;
         leaves = λ leaf. record {
           ends = λ inside. absurd (omega arith);
@@ -362,15 +348,18 @@ module _ (start : Start) (s : Work) (left right : List PathStep) (depth height :
   left_within : climbed.paths.from ≤ top_of start.tree
   left_within = let order = climbed.paths.order in let within = climbed.paths.within in omega arith
 
-  pub left_few : length left_spans ≤ 16
-  left_few =
-      subst (λ (xs : List Span). length xs ≤ 16) (sym (spans_here start s climbed.holds left climbed.paths.from left_within climbed.paths.is_left depth here levels))
-      (row_most start.tree here (row_of start.tree depth climbed.paths.from) climbed.holds.range (row_is_lawful start s climbed.holds left climbed.paths.from left_within climbed.paths.is_left depth here levels))
+  abbrev slots_here : ℕ
+  slots_here = slots_of start.tree.table.width (kind_at start.tree.kind here)
 
-  right_few : length right_spans ≤ 16
+  pub left_few : length left_spans ≤ slots_here
+  left_few =
+      subst (λ (xs : List Span). length xs ≤ slots_here) (sym (spans_here start s climbed.holds left climbed.paths.from left_within climbed.paths.is_left depth here levels))
+      (row_is_lawful start s climbed.holds left climbed.paths.from left_within climbed.paths.is_left depth here levels).count.most
+
+  right_few : length right_spans ≤ slots_here
   right_few =
-      subst (λ (xs : List Span). length xs ≤ 16) (sym (spans_here start s climbed.holds right climbed.paths.to climbed.paths.within climbed.paths.is_right depth here levels))
-      (row_most start.tree here (row_of start.tree depth climbed.paths.to) climbed.holds.range (row_is_lawful start s climbed.holds right climbed.paths.to climbed.paths.within climbed.paths.is_right depth here levels))
+      subst (λ (xs : List Span). length xs ≤ slots_here) (sym (spans_here start s climbed.holds right climbed.paths.to climbed.paths.within climbed.paths.is_right depth here levels))
+      (row_is_lawful start s climbed.holds right climbed.paths.to climbed.paths.within climbed.paths.is_right depth here levels).count.most
 
   left_at : At (row_of start.tree depth climbed.paths.from).first ((row_of start.tree depth climbed.paths.from).last + 1) (spans_in start.tree.table (row_of start.tree depth climbed.paths.from)) climbed.paths.from (row_of start.tree (suc depth) climbed.paths.from)
   left_at = child start.tree start.height climbed.holds.stands climbed.paths.from depth left_within (let low = levels in omega arith)
@@ -390,7 +379,6 @@ module _ (start : Start) (s : Work) (left right : List PathStep) (depth height :
         left_few,
         right_few,
         slot_used,
-        tree_slots start.tree here climbed.holds.range,
         length-append (take (step_at left depth).slot left_spans) (new ++ drop ((step_at right depth).slot + 1) right_spans),
         length-append new (drop ((step_at right depth).slot + 1) right_spans),
         length-take (step_at left depth).slot left_spans,

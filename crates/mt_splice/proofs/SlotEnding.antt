@@ -1,6 +1,6 @@
 -- A replacement ends in place: one new row stands where one old row stood, by one store in the row above.
 use Rattle.std.proofs.Common.{◌≡◌, ℕ, suc, ◌+◌, ◌≤◌, ◌==◌, List, [], ◌∷◌, ◌++◌, Bool, false, Some, map, refl, ne_eqb, sym, ap, ◌∙◌, subst, ⊎_elim, arith}
-use Rattle.std.specs.List.{AllByRecursion, slice_get}
+use Rattle.std.specs.List.{slice_get}
 use Rattle.std.proofs.lemmas.Bool.{cases_eq}
 use Rattle.mt_base.specs.declared.ranges.Range.{Range}
 use Rattle.mt_layout.specs.declared.spans.Span.{Span}
@@ -8,13 +8,14 @@ use Rattle.mt_layout.specs.declared.names.RowKind.{RowKind}
 use Rattle.mt_layout.specs.Rows.{row_in, named_kind}
 use Rattle.mt_layout.specs.Columns.{slot_column}
 use Rattle.mt_layout.specs.Spans.{Fills}
+use Rattle.mt_base.proofs.Lists.{none_or_some}
 use Rattle.mt_rows.specs.Spans.{Table, spans_in}
 use Rattle.mt_layout.specs.Sizes.{slots_of}
 use Rattle.mt_rows.specs.Levels.{map_of, Levels, tally, times, is_row_of}
 use Rattle.mt_rows.specs.Laws.{Tree, HasWords, IsRow, top_of, kind_at}
 use Rattle.mt_rows.specs.Publish.{StandsAt, SameHoles, IsSlotOf}
 use Rattle.mt_rows.specs.Replacement.{root_of, IsSlotAt, with_slot, with_child, ReplacesChild}
-use Rattle.mt_rows.proofs.Lists.{all_back, tally-append, levels_map, levels_here}
+use Rattle.mt_rows.proofs.Lists.{tally-append, levels_map, levels_here}
 use Rattle.mt_rows.proofs.Joins.{Shared, map_of-append, times-append, levels_front, levels_back, map_of_shared, times_shared, levels_shared}
 use Rattle.mt_rows.proofs.Frames.{same_spans}
 use Rattle.mt_rows.proofs.Once.{times_nowhere}
@@ -35,9 +36,8 @@ use Rattle.mt_splice.specs.Climbs.{begin_of, behind_of, Climbed}
 use Rattle.mt_splice.specs.Endings.{words_of, with_step, IsStepIn, IsPublished}
 use Rattle.mt_splice.proofs.Splits.{split_same}
 use Rattle.mt_splice.proofs.Moments.{old_shared, old_stands, old_times, old_level}
-use Rattle.mt_splice.proofs.Gapless.{gapless_row}
 use Rattle.mt_splice.proofs.PathRows.{before_it, behind_it, lower_parts, lower_before, front_below, back_below}
-use Rattle.mt_splice.proofs.Written.{none_or_some, counts_itself}
+use Rattle.mt_splice.proofs.Written.{counts_itself}
 use Rattle.mt_splice.proofs.Rises.{at_here, step_here, row_is_lawful, row_keeps_words}
 
 three_times : (p : ℕ → Span → Bool) (t : Table) (k : ℕ) (front : List Span) (x : Span) (back : List Span) → times p t k (front ++ (x ∷ back)) ≡ times p t k front + (times p t k (x ∷ []) + times p t k back)
@@ -115,8 +115,6 @@ module _ (start : Start) (s : Work) (left right : List PathStep) (depth height :
       let fills = climbed.fills in
       let first : x.first ≡ replaced.first = fills.0 ∙ begins in
       let last : x.last ≡ replaced.last = (let end = fills.2 in let same = ends in omega arith) in
-      let gapless = subst (AllByRecursion (λ (y : Span). y.gap ≡ 0)) child_at.parts (gapless_row old (suc height) parent holds.range (row_is_lawful start s holds left i within climbed.paths.is_left depth (suc height) levels)) in
-      let gap : x.gap ≡ replaced.gap = climbed.gapless.0 ∙ sym (all_back (λ (y : Span). y.gap ≡ 0) child_at.front (replaced ∷ child_at.back) gapless).0 in
       λ k. record { first = first k; last = last k; word = x.word }
 
   half : IsHalfReplaced old s.words start.map s.taken s.gone height (rows_at old (suc depth)) (front ++ (x ∷ back))
@@ -191,7 +189,7 @@ module _ (start : Start) (s : Work) (left right : List PathStep) (depth height :
   map_same : map_of t'.table height (with_child replaced x.word ∷ []) ≡ map_of t.table height (x ∷ [])
   map_same = ap (λ (y : Span). map_of t'.table height (y ∷ [])) (sym child_is) ∙ map_of_shared t.table t'.table height (x ∷ []) new_shared
 
-  ends_in_place : IsReplaced old t' start.map s.taken s.gone h h
+  ends_in_place : IsReplaced old t' start.map s.taken s.gone (Some h) (Some h)
   ends_in_place = record {
     stands = replaces.stands;
     ranges =
@@ -270,8 +268,8 @@ module _ (start : Start) (s : Work) (left right : List PathStep) (depth height :
   left_step : step_at left depth ≡ step_in old.table parent i
   left_step = step_here start s holds left i within climbed.paths.is_left depth (suc height) levels
 
-  pub ends_at_step : IsReplaced old (with_step t (kind_at t.kind (suc height)) (step_at left depth) x.word) start.map s.taken s.gone h h
-  ends_at_step = subst (λ (z : PathStep). IsReplaced old (with_step t (kind_at t.kind (suc height)) z x.word) start.map s.taken s.gone h h) (sym left_step) ends_in_place
+  pub ends_at_step : IsReplaced old (with_step t (kind_at t.kind (suc height)) (step_at left depth) x.word) start.map s.taken s.gone (Some h) (Some h)
+  ends_at_step = subst (λ (z : PathStep). IsReplaced old (with_step t (kind_at t.kind (suc height)) z x.word) start.map s.taken s.gone (Some h) (Some h)) (sym left_step) ends_in_place
 
   -- the row of that step stays
   pub step_stays : IsStepIn t depth (step_at left depth) × (passing (is_row_of (step_at left depth).row) s.gone ≡ 0)

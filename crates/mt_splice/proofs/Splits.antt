@@ -2,7 +2,7 @@
 use Rattle.std.proofs.Common.{◌≡◌, ℕ, ◌+◌, ◌≤◌, List, [], ◌∷◌, ◌++◌, refl, sym, ap, ◌∙◌, subst, arith, append-nil}
 use Rattle.mt_layout.specs.declared.spans.Span.{Span}
 use Rattle.mt_layout.specs.Spans.{Fills}
-use Rattle.mt_rows.proofs.Lists.{fills_le}
+use Rattle.mt_layout.proofs.SpanLists.{fills_le}
 
 -- of two ways to part a list, the one that goes further has a middle
 pub split_more : (lo end end' : ℕ) (xs ys xs' ys' : List Span) → xs ++ ys ≡ xs' ++ ys' → Fills lo end xs → Fills lo end' xs' → end ≤ end'

@@ -1,18 +1,19 @@
 -- The parent words of a row's children written one by one.
 use Rattle.std.proofs.Common.{◌≡◌, ◌≢◌, ℕ, ◌+◌, ◌*◌, ◌<◌, List, length, refl, sym, ap, ◌∙◌, subst, inl, ⊎_elim, arith, length-set}
-use Rattle.std.specs.Prelude.{Some, Bool, false, slice_index_or}
+use Rattle.std.specs.Prelude.{Some, Bool, false, slice_index_or, slice_set}
 use Rattle.mt_rows.specs.declared.rows.Life.{Life}
 use Rattle.mt_rows.specs.declared.rows.Life.TheVariants.{New}
 use Rattle.mt_base.specs.declared.widths.Width.{Width}
 use Rattle.mt_base.specs.declared.widths.Width.TheVariants.{Long}
 use Rattle.mt_base.specs.Width.{columns}
 use Rattle.mt_layout.specs.declared.names.RowKind.{RowKind}
-use Rattle.mt_layout.specs.declared.names.RowKind.TheVariants.{Leaf, Inner, Gapped}
 use Rattle.mt_layout.specs.Rows.{named_row, parent_at, dead_mark}
 use Rattle.mt_layout.specs.Columns.{slot_column}
-use Rattle.mt_rows.specs.Spans.{Table, column}
-use Rattle.mt_layout.specs.Sizes.{slots_of}
-use Rattle.mt_rows.specs.Sheet.{Sheet, IsWhole, MayTend, loaded, tended}
+use Rattle.mt_layout.specs.Sizes.{first_row, slots_of}
+use Rattle.mt_layout.proofs.RowSizes.{some_columns, slot_above, slot_within}
+use Rattle.mt_rows.specs.Spans.{Table, base_of, column}
+use Rattle.mt_rows.specs.Sheet.{Rooted, Sheet, IsWhole, MayTend, loaded, tended}
+use Rattle.mt_splice.specs.Work.{with_words}
 use Rattle.mt_splice.specs.Writes.{child_word, child_row, AreChildren, AreTended}
 use Rattle.mt_splice.proofs.Drafts.{equal_or_not, wrote, plain, other_row, other_column, same_column}
 
@@ -25,8 +26,7 @@ pub none_tended : (s : Sheet) (kind : RowKind) (row count : ℕ) → AreTendedUp
 none_tended s kind row count = record {
   tended = record {
     rest = refl;
-    root = refl;
-    width = refl;
+    tree = refl;
     size = refl;
     children = λ slot below. absurd (omega arith);
     others = λ r c within none. refl;
@@ -34,28 +34,13 @@ none_tended s kind row count = record {
   word = λ i below. refl;
 }
 
--- a slot column is not that of the parent word
-some_slot : (w : Width) (kind : RowKind) (i : ℕ) → slot_column (slots_of w kind) i ≢ 0
-some_slot Long Leaf i is = absurd (omega arith)
-some_slot Long Inner i is = absurd (omega arith)
-some_slot Long Gapped i is = absurd (omega arith)
-
-slot_within : (w : Width) (kind : RowKind) (i : ℕ) → i < slots_of w kind → slot_column (slots_of w kind) i < columns w
-slot_within Long Leaf i within = omega arith
-slot_within Long Inner i within = omega arith
-slot_within Long Gapped i within = omega arith
-
-few_slots : (w : Width) (kind : RowKind) (i : ℕ) → i < slots_of w kind → i < 256
-few_slots Long Leaf i within = omega arith
-few_slots Long Inner i within = omega arith
-few_slots Long Gapped i within = omega arith
+-- a slot is named in a parent word
+few_columns : (w : Width) (c : ℕ) → c < columns w → c < 256
+few_columns Long c within = omega arith
 
 -- a parent word that is a dead mark is that of the row itself
-own_parent : (child row slot : ℕ) → slot < 256 → parent_at row slot ≡ dead_mark child → child ≡ row
-own_parent child row slot few dead = omega arith
-
-some_columns : (w : Width) → 0 < columns w
-some_columns Long = omega arith
+pub own_parent : (w : Width) (child row slot : ℕ) → slot < columns w → parent_at row slot ≡ dead_mark child → child ≡ row
+own_parent w child row slot within dead = let few = few_columns w slot within in omega arith
 
 -- the parent word of a row is written: every other word is as before
 parent_wrote : (w : Width) (words : List ℕ) (child word r c : ℕ) → c < columns w → (c ≡ 0 → child ≢ r) → column (wrote w words child 0 word) r c ≡ column (plain w words) r c
@@ -70,15 +55,18 @@ module _ (s t : Sheet) (kind : RowKind) (row count slot : ℕ) (whole : IsWhole 
   abbrev written : Table
   written = wrote t.tree.table.width t.tree.table.words child 0 (parent_at row slot)
 
-  size_now : length t.tree.table.words ≡ columns t.tree.table.width * (16 + s.tree.rows)
-  size_now = rw (done.tended.size, done.tended.width) whole.words
+  width_now : t.tree.table.width ≡ s.tree.table.width
+  width_now = ap (λ (v : Rooted). v.table.width) done.tended.tree
+
+  size_now : length t.tree.table.words ≡ columns t.tree.table.width * (first_row + s.tree.rows)
+  size_now = rw (done.tended.size, width_now) whole.words
 
   kept_now : (r c : ℕ) → c < columns s.tree.table.width → (c ≡ 0 → child ≢ r) → column written r c ≡ column t.tree.table r c
-  kept_now r c within other = parent_wrote t.tree.table.width t.tree.table.words child (parent_at row slot) r c (rw done.tended.width within) other
+  kept_now r c within other = parent_wrote t.tree.table.width t.tree.table.words child (parent_at row slot) r c (rw width_now within) other
 
   children_now : (i : ℕ) → i < slot + 1 → column written (child_row s.tree.table kind row i) 0 ≡ parent_at row i
   children_now i low = ⊎_elim (λ (at : i ≡ slot). subst (λ (k : ℕ). column written (child_row s.tree.table kind row k) 0 ≡ parent_at row k) (sym at)
-      (same_column t.tree.table.width t.tree.table.words child (16 + s.tree.rows) 0 (parent_at row slot) (some_columns t.tree.table.width) (are.each slot below).at.last size_now))
+      (same_column t.tree.table.width t.tree.table.words child (first_row + s.tree.rows) 0 (parent_at row slot) (some_columns t.tree.table.width) (are.each slot below).at.last size_now))
       (λ (off : i ≢ slot). kept_now (child_row s.tree.table kind row i) 0 (some_columns s.tree.table.width) (λ _ same. off (sym (are.apart slot i below (omega arith) same)))
       ∙ done.tended.children i (omega (arith, off))) (equal_or_not i slot)
 
@@ -89,9 +77,9 @@ module _ (s t : Sheet) (kind : RowKind) (row count slot : ℕ) (whole : IsWhole 
   word_now i low =
       let slots = are.slots in
       let within : slot_column (slots_of s.tree.table.width kind) i < columns s.tree.table.width = slot_within s.tree.table.width kind i (omega arith) in
-      let same : slot_column (slots_of t.tree.table.width kind) i ≡ slot_column (slots_of s.tree.table.width kind) i = ap (λ (w : Width). slot_column (slots_of w kind) i) done.tended.width in
+      let same : slot_column (slots_of t.tree.table.width kind) i ≡ slot_column (slots_of s.tree.table.width kind) i = ap (λ (w : Width). slot_column (slots_of w kind) i) width_now in
       let here : column written row (slot_column (slots_of t.tree.table.width kind) i) ≡ column t.tree.table row (slot_column (slots_of t.tree.table.width kind) i) =
-      kept_now row (slot_column (slots_of t.tree.table.width kind) i) (rw same within) (λ zero. absurd (some_slot t.tree.table.width kind i zero)) in
+      kept_now row (slot_column (slots_of t.tree.table.width kind) i) (rw same within) (λ zero. (let above = slot_above t.tree.table.width kind i in absurd (omega arith))) in
       here ∙ done.word i low
 
   same_child : (found : ℕ) → Some found ≡ named_row (child_word t.tree.table kind row slot) → found ≡ child
@@ -108,14 +96,14 @@ module _ (s t : Sheet) (kind : RowKind) (row count slot : ℕ) (whole : IsWhole 
   at_tendable =
       let lives : t.lives ≡ s.lives = ap (λ (x : Sheet). x.lives) done.tended.rest in
       let buried : t.buried ≡ s.buried = ap (λ (x : Sheet). x.buried) done.tended.rest in
-      let rows : t.tree.rows ≡ s.tree.rows = ap (λ (x : Sheet). x.tree.rows) done.tended.rest in
+      let rows : t.tree.rows ≡ s.tree.rows = ap (λ (v : Rooted). v.rows) done.tended.tree in
       let each = are.each slot below in
       record {
-        at = record { first = each.at.first; last = rw rows each.at.last; column = rw done.tended.width each.at.column };
+        at = record { first = each.at.first; last = rw rows each.at.last; column = rw width_now each.at.column };
         live = ap (λ (l : List Life). slice_index_or l child New) lives ∙ each.live;
         kept = ap (λ (l : List Bool). slice_index_or l child false) buried ∙ each.kept;
         column = inl refl;
-        alive = λ _ dead. each.other (own_parent child row slot (let slots = are.slots in few_slots s.tree.table.width kind slot (omega arith)) dead);
+        alive = λ _ dead. each.other (own_parent s.tree.table.width child row slot (let slots = are.slots in let within = slot_within s.tree.table.width kind slot (omega arith) in omega arith) dead);
       }
 
   pub may_tend : (read : Sheet) → read ≡ loaded t → (found : ℕ) → Some found ≡ named_row (child_word t.tree.table kind row slot) → MayTend read found 0 (parent_at row slot)
@@ -126,8 +114,7 @@ module _ (s t : Sheet) (kind : RowKind) (row count slot : ℕ) (whole : IsWhole 
   at_child = record {
     tended = record {
       rest = done.tended.rest;
-      root = done.tended.root;
-      width = done.tended.width;
+      tree = ap (λ (v : Rooted). with_words v (slice_set t.tree.table.words (base_of t.tree.table child + 0) (parent_at row slot))) done.tended.tree;
       size = length-set t.tree.table.words (columns t.tree.table.width * child + 0) (parent_at row slot) ∙ done.tended.size;
       children = children_now;
       others = others_now;

@@ -1,80 +1,65 @@
 -- The row beside the gathered items is taken in.
 use Rattle.std.proofs.Common.{◌≡◌, ◌⊎◌, ℕ, zero, suc, ◌+◌, ◌-◌, ◌<◌, ◌≤◌, List, Bool, true, false, ◌||◌, length, refl, sym, ap, ◌∙◌, subst, inl, inr, ⊎_elim, arith}
-use Rattle.mt_base.specs.Width.{greatest}
+use Rattle.std.specs.Prelude.{◌↔◌}
 use Rattle.std.proofs.lemmas.Bool.{ltb-true, ltb-false, cases_lt, cases_Bool}
 use Rattle.mt_base.specs.declared.kinds.Kind.{Kind}
 use Rattle.mt_base.specs.declared.kinds.Kind.TheVariants as trees
+use Rattle.mt_base.specs.declared.widths.Width.{Width}
+use Rattle.mt_base.specs.Width.{greatest}
 use Rattle.mt_layout.specs.declared.items.Item.{Item}
 use Rattle.mt_layout.specs.declared.names.RowKind.{RowKind}
 use Rattle.mt_layout.specs.declared.names.RowKind.TheVariants.{Leaf, Inner, Gapped}
 use Rattle.mt_layout.specs.declared.spans.Span.{Span}
 use Rattle.mt_layout.specs.Rows.{row_in}
+use Rattle.mt_layout.specs.Sizes.{first_row, slots_of, least_items, run_room}
 use Rattle.mt_layout.specs.Spans.{spans_from, Fills, EndsFull}
 use Rattle.mt_layout.proofs.NameLaws.{Names-named_kind}
+use Rattle.mt_layout.proofs.RowSizes.{sizes}
+use Rattle.mt_layout.proofs.SpanLists.{length-spans_from}
 use Rattle.mt_leaf.specs.Edits.{ends_with_hole}
+use Rattle.mt_leaf.proofs.Holes.{no_hole_ends}
 use Rattle.mt_rows.specs.Spans.{Table, spans_in}
-use Rattle.mt_layout.specs.Sizes.{slots_of}
-use Rattle.mt_rows.specs.Laws as laws
-use Rattle.mt_rows.specs.Laws.{Tree, Stands, top_of, kind_at, covers_all, least_of}
-use Rattle.mt_layout.specs.Sizes.{least_items}
-use Rattle.mt_rows.specs.Sheet as sheet
-use Rattle.mt_rows.specs.Sheet.{Sheet, OnlyReads}
+use Rattle.mt_rows.specs.Laws.{Tree, IsTree, IsRow, top_of, kind_at, covers_all, least_of}
+use Rattle.mt_rows.specs.Sheet.{Rooted}
 use Rattle.mt_rows.specs.Publish.{tree_as, IsTreeOf}
 use Rattle.mt_path.specs.declared.paths.PathStep.{PathStep}
 use Rattle.mt_path.specs.Paths.{step_at, path_in}
 use Rattle.mt_path.proofs.Places.{at_within}
 use Rattle.mt_path.proofs.TreePaths.{row_of, levels, right_begins, left_ends}
-use Rattle.mt_rows.proofs.SlotWords.{length-spans_from}
 use Rattle.mt_splice.specs.Work.{Start, Work, now, rows_at, Holds}
 use Rattle.mt_splice.specs.Stretches.{spans_on}
 use Rattle.mt_splice.specs.Climbs.{begin_of, behind_of, MayBeIn, beside, Gathered}
-use Rattle.mt_splice.specs.Runs.{most_before_hole, most_in_three, span_to, MayBeCut}
+use Rattle.mt_splice.specs.Runs.{most_in_three, span_to, MayBeCut}
 use Rattle.mt_splice.specs.Writes.{items_of_row}
 use Rattle.mt_splice.specs.TakingIn.{short_run, holed_run, beside_items, IsNow, MayTakeIn, IsTakenIn}
-use Rattle.mt_splice.proofs.Sizes.{leaf_slots, tree_slots}
 use Rattle.mt_splice.proofs.Moments.{old_stands}
 use Rattle.mt_splice.proofs.Rises.{step_here, row_is_lawful, spans_here, at_here}
 use Rattle.mt_splice.proofs.Neighbours.{takes_right, takes_left}
-use Rattle.mt_splice.proofs.Runs.{tree_least, cut_alone, cut_with_right, cut_with_left}
-use Rattle.mt_splice.proofs.TakenIn.{ends_from, ends_at_last, no_hole_ends, beside_spans}
+use Rattle.mt_splice.proofs.Runs.{cut_alone, cut_with_right, cut_with_left}
+use Rattle.mt_splice.proofs.TakenIn.{ends_from, ends_at_last, beside_spans}
 use Rattle.mt_splice.proofs.PathsNow.{path_now}
-
--- ---- what is read changes nothing
-
-pub now_read : (start : Start) (w : Work) (s s' : Sheet) → OnlyReads s s' → IsNow start w s.tree → IsNow start w s'.tree
-now_read start w s s' reads is = subst (IsNow start w) (sym reads) (record { rows = is.rows; words = is.words; of_kind = record { told = is.of_kind.told; width = is.of_kind.width } })
-
-pub widen_read : (start : Start) (w : Work) (s s' : Sheet) (kind : RowKind) (left right : List PathStep) (depth height : ℕ) (items : List Item) → OnlyReads s s' → MayTakeIn start w s.tree kind left right depth height items
-    → MayTakeIn start w s'.tree kind left right depth height items
-widen_read start w s s' kind left right depth height items reads may = record {
-  is_now = now_read start w s s' reads may.is_now;
-  of_kind = may.of_kind;
-  gathered = may.gathered;
-  few = may.few;
-  ends = may.ends;
-  two = may.two;
-}
 
 -- ---- the rows as they are now are a tree
 
-module _ (start : Start) (w : Work) (s : Sheet) (is : IsNow start w s.tree) (holds : Holds start w) where
-  same_tree : tree_as start.tree.kind s.tree ≡ now start w
-  same_tree = λ j. record { rows = is.rows j; kind = start.tree.kind; table = (is.words j).table; root = (is.words j).root }
+module _ {start : Start} {w : Work} {t : Rooted} (is : IsNow start w t) where
+  pub table_now : t.table ≡ (now start w).table
+  table_now = ap (λ (x : Rooted). x.table) is.words
 
-  pub tree_now : (kind : Kind) × IsTreeOf s.tree kind
-  tree_now = (start.tree.kind, record { of_kind = is.of_kind; words = subst laws.IsTree (sym same_tree) (inr (start.height, old_stands start w holds)) })
+  pub top_now : greatest t.table.width ≡ top_of start.tree
+  top_now = ap (λ (x : Table). greatest x.width) table_now
 
-  pub table_now : s.tree.table ≡ (now start w).table
-  table_now = ap (λ (t : sheet.Tree). t.table) is.words
+  pub slots_now : {kind : RowKind} {height : ℕ} → kind ≡ kind_at start.tree.kind height → slots_of t.table.width kind ≡ slots_of start.tree.table.width (kind_at start.tree.kind height)
+  slots_now of_kind = λ i. slots_of (table_now i).width (of_kind i)
 
-  pub root_now : s.tree.root ≡ start.tree.root
-  root_now = ap (λ (t : sheet.Tree). t.root) is.words
+  pub row_now : {row : ℕ} → (first_row ≤ row) × (row < first_row + start.tree.rows) → (first_row ≤ row) × (row < first_row + t.rows)
+  row_now {row} number = subst (λ (rows : ℕ). (first_row ≤ row) × (row < first_row + rows)) (sym (ap (λ (x : Rooted). x.rows) is.words)) number
 
-  pub top_now : greatest s.tree.table.width ≡ top_of start.tree
-  top_now = ap (λ (t : Table). greatest t.width) table_now
+  module _ (holds : Holds start w) where
+    pub tree_now : (kind : Kind) × IsTreeOf t kind
+    tree_now = (start.tree.kind, record { width = is.width; words = subst (λ (x : Rooted). IsTree (tree_as start.tree.kind x)) (sym is.words) (inr (start.height, old_stands start w holds)) })
 
-  pub paths_same : (index : ℕ) → index ≤ top_of start.tree → path_in s.tree.table s.tree.root index ≡ path_in start.tree.table start.tree.root index
-  paths_same index within = (λ j. path_in (table_now j) (root_now j) index) ∙ path_now start w holds index within
+    pub paths_now : (index : ℕ) → index ≤ top_of start.tree → path_in t.table t.root index ≡ path_in start.tree.table start.tree.root index
+    paths_now index within = ap (λ (x : Rooted). path_in x.table x.root index) is.words ∙ path_now start w holds index within
 
 -- ---- a path's row
 
@@ -117,52 +102,62 @@ module _ (start : Start) (w : Work) (holds : Holds start w) (path : List PathSte
   pub fit_here : MayBeIn k (spans_on (now start w).table (kind_at start.tree.kind k) (step_at path d))
   fit_here = subst (MayBeIn k) (sym (spans_here start w holds path i within is_path d k high)) (row_fit k (row_is_lawful start w holds path i within is_path d k high))
     where
-      row_fit : (k : ℕ) → laws.IsRow start.tree k (row_of start.tree d i) → MayBeIn k (spans_in start.tree.table (row_of start.tree d i))
+      row_fit : (k : ℕ) → IsRow start.tree k (row_of start.tree d i) → MayBeIn k (spans_in start.tree.table (row_of start.tree d i))
       row_fit zero law = (law.holes.apart, law.entries)
       row_fit (suc k) law = tt
 
 -- ---- two items in inner rows
 
-two_least : (t : Tree) (h : ℕ) (x : Span) → t.kind ≡ trees.Range → 2 ≤ least_of t (suc h) x
-two_least t h x range = elim (cases_Bool (covers_all t x)) [
+two_least : (t : Tree) (h : ℕ) (x : Span) → 2 ≤ least_of t (suc h) x
+two_least t h x = elim (cases_Bool (covers_all t x)) [
   | inl all ↦ rw all (omega arith)
-  | inr part ↦ let six : least_items (kind_at t.kind (suc h)) ≡ 6 = ap (λ (k : Kind). least_items (kind_at k (suc h))) range in rw part (omega arith)
+  | inr part ↦ let some = (sizes t.table.width (kind_at t.kind (suc h))).some in rw part some
 ]
 
-two_enough : (start : Start) (lo hi h height : ℕ) (items : List Item) → start.tree.kind ≡ trees.Range → height ≡ suc h → MayBeCut start.tree height lo hi (spans_from lo items) → 2 ≤ length items
-two_enough start lo hi h height items range high cut =
+two_enough : (start : Start) (lo hi h height : ℕ) (items : List Item) → height ≡ suc h → MayBeCut start.tree height lo hi (spans_from lo items) → 2 ≤ length items
+two_enough start lo hi h height items high cut =
     let same = length-spans_from lo items in
     let least = subst (λ (n : ℕ). least_of start.tree n (span_to lo hi) ≤ length (spans_from lo items)) high cut.least in
-    let two = two_least start.tree h (span_to lo hi) range in
+    let two = two_least start.tree h (span_to lo hi) in
     omega arith
 
 -- ---- taken in or not
 
-module _ (start : Start) (w : Work) (s : Sheet) (kind : RowKind) (left right : List PathStep) (depth height : ℕ) (items : List Item) (may : MayTakeIn start w s.tree kind left right depth height items) where
+-- the most items beside which those of another row are taken in
+abbrev pub most_beside : Width → RowKind → ℕ
+most_beside width kind = slots_of width kind + 2
+
+module _ {start : Start} {w : Work} {t : Rooted} {kind : RowKind} {left right : List PathStep} {depth height : ℕ} {items : List Item} (may : MayTakeIn start w t kind left right depth height items) where
   abbrev gathered : Gathered start w left right depth height (spans_from (begin_of left depth) items)
   gathered = may.gathered
 
   abbrev holds : Holds start w
   holds = may.gathered.holds
 
+  abbrev least : ℕ
+  least = least_items start.tree.table.width (kind_at start.tree.kind height)
+
+  abbrev most : ℕ
+  most = most_beside start.tree.table.width (kind_at start.tree.kind height)
+
   from_within : gathered.paths.from ≤ top_of start.tree
   from_within = let order = gathered.paths.order in let within = gathered.paths.within in omega arith
 
-  pub kind_of_tree : (kind : Kind) × IsTreeOf s.tree kind
-  kind_of_tree = tree_now start w s may.is_now holds
+  pub is_tree : (kind : Kind) × IsTreeOf t kind
+  is_tree = tree_now may.is_now holds
 
-  pub is_right_path : (i : ℕ) × (i ≤ greatest s.tree.table.width) × (right ≡ path_in s.tree.table s.tree.root i)
-  is_right_path = (
+  pub right_leads : (i : ℕ) × (i ≤ greatest t.table.width) × (right ≡ path_in t.table t.root i)
+  right_leads = (
     gathered.paths.to,
-    (let top = top_now start w s may.is_now holds in let within = gathered.paths.within in omega arith),
-    gathered.paths.is_right ∙ sym (paths_same start w s may.is_now holds gathered.paths.to gathered.paths.within),
+    (let top = top_now may.is_now in let within = gathered.paths.within in omega arith),
+    gathered.paths.is_right ∙ sym (paths_now may.is_now holds gathered.paths.to gathered.paths.within),
   )
 
-  pub is_left_path : (i : ℕ) × (i ≤ greatest s.tree.table.width) × (left ≡ path_in s.tree.table s.tree.root i)
-  is_left_path = (
+  pub left_leads : (i : ℕ) × (i ≤ greatest t.table.width) × (left ≡ path_in t.table t.root i)
+  left_leads = (
     gathered.paths.from,
-    (let top = top_now start w s may.is_now holds in let within = from_within in omega arith),
-    gathered.paths.is_left ∙ sym (paths_same start w s may.is_now holds gathered.paths.from from_within),
+    (let top = top_now may.is_now in let within = from_within in omega arith),
+    gathered.paths.is_left ∙ sym (paths_now may.is_now holds gathered.paths.from from_within),
   )
 
   pub right_deep : depth < length right
@@ -178,53 +173,61 @@ module _ (start : Start) (w : Work) (s : Sheet) (kind : RowKind) (left right : L
       let low = (at_within 0 (top_of start.tree + 1) (rows_at start.tree depth) gathered.paths.to (row_of start.tree depth gathered.paths.to) at).1 in
       omega arith
 
-  pub right_more : ((step_at right depth).max ≡ greatest s.tree.table.width → ⊥) → (step_at right depth).max < top_of start.tree
-  right_more other =
-      let low = right_low in
+  -- a row stands behind, or none does
+  pub stands_behind : {b : Bool} → (b ≡ false) ↔ ((step_at right depth).max ≡ greatest t.table.width) → b ≡ true → (step_at right depth).max < top_of start.tree
+  stands_behind {b} none goes =
+      let low = right_low in let top = top_now may.is_now in
       ⊎_elim (λ (less : (step_at right depth).max < top_of start.tree). less)
-      (λ (past : top_of start.tree ≤ (step_at right depth).max). absurd (other (let top = top_now start w s may.is_now holds in omega arith))) (cases_lt (step_at right depth).max (top_of start.tree))
+      (λ (past : top_of start.tree ≤ (step_at right depth).max). let stays : b ≡ false = none.1 (omega arith) in let clash : true ≡ false = sym goes ∙ stays in absurd (cc)) (cases_lt (step_at right depth).max (top_of start.tree))
 
-  pub right_last : (step_at right depth).max ≡ greatest s.tree.table.width → (step_at right depth).max ≡ top_of start.tree
-  right_last last = last ∙ top_now start w s may.is_now holds
+  pub none_behind : {b : Bool} → (b ≡ false) ↔ ((step_at right depth).max ≡ greatest t.table.width) → b ≡ false → (step_at right depth).max ≡ top_of start.tree
+  none_behind none stays = none.0 stays ∙ top_now may.is_now
+
+  -- a row stands before, or none does
+  pub stands_before : {b : Bool} → (b ≡ false) ↔ ((step_at left depth).min ≡ 0) → b ≡ true → 0 < (step_at left depth).min
+  stands_before {b} none goes =
+      ⊎_elim (λ (some : 0 < (step_at left depth).min). some)
+      (λ (first : (step_at left depth).min ≤ 0). let stays : b ≡ false = none.1 (omega arith) in let clash : true ≡ false = sym goes ∙ stays in absurd (cc)) (cases_lt 0 (step_at left depth).min)
 
   -- as they are
-  pub stays_wide : (6 ≤ length items) ⊎ ((begin_of left depth ≡ 0) × ((step_at right depth).max ≡ top_of start.tree))
+  stays_as_it_is : (least ≤ length items) ⊎ ((begin_of left depth ≡ 0) × ((step_at right depth).max ≡ top_of start.tree))
       → (height ≡ 0 → (step_at right depth).max < top_of start.tree → ends_with_hole (spans_from 0 items) ≡ false) → IsTakenIn start w left right depth height items
-  stays_wide enough ends = record {
+  stays_as_it_is enough ends = record {
     gathered = gathered;
     cut = ⊎_elim
-        (λ (six : 6 ≤ length items). inl (cut_alone start w left right depth height (spans_from (begin_of left depth) items) gathered
+        (λ (many : least ≤ length items). inl (cut_alone start w left right depth height (spans_from (begin_of left depth) items) gathered
         (let few = may.few in let same = length-spans_from (begin_of left depth) items in omega arith)
-        (let least = tree_least start.tree height holds.range in let same = length-spans_from (begin_of left depth) items in omega arith)
+        (let same = length-spans_from (begin_of left depth) items in omega arith)
         (λ leaf more. ends_from (begin_of left depth) 0 items ∙ ends leaf more)))
         (λ (whole : (begin_of left depth ≡ 0) × ((step_at right depth).max ≡ top_of start.tree)). inr (whole.0, whole.1, may.few)) enough;
     two = may.two;
   }
 
   -- few enough for a row beside them
-  row_beside : length items ≤ most_before_hole start.tree.table.width
+  row_fits : length items ≤ most
       → length (spans_from (begin_of left depth) items) + slots_of start.tree.table.width (kind_at start.tree.kind height) ≤ most_in_three start.tree.table.width (kind_at start.tree.kind height)
-  row_beside few =
-      let same = length-spans_from (begin_of left depth) items in
-      omega (arith, few, same, leaf_slots start.tree.table.width, tree_slots start.tree height holds.range)
+  row_fits few = let same = length-spans_from (begin_of left depth) items in let enough = sizes start.tree.table.width (kind_at start.tree.kind height) in omega arith
+
+  pub room_beside : length items ≤ most → length items + slots_of t.table.width kind ≤ run_room
+  room_beside few = let slots = slots_now may.is_now may.of_kind in let enough = sizes start.tree.table.width (kind_at start.tree.kind height) in omega arith
 
   -- ---- the row behind
 
-  module _ (right' : List PathStep) (more : (step_at right depth).max < top_of start.tree) (is_right : right' ≡ path_in s.tree.table s.tree.root ((step_at right depth).max + 1)) where
+  module _ {right' : List PathStep} (more : (step_at right depth).max < top_of start.tree) (is_right : right' ≡ path_in t.table t.root ((step_at right depth).max + 1)) where
     abbrev behind : ℕ
     behind = (step_at right depth).max + 1
 
     behind_within : behind ≤ top_of start.tree
     behind_within = omega arith
 
-    pub is_right_then : right' ≡ path_in start.tree.table start.tree.root behind
-    is_right_then = is_right ∙ paths_same start w s may.is_now holds behind behind_within
+    is_right_then : right' ≡ path_in start.tree.table start.tree.root behind
+    is_right_then = is_right ∙ paths_now may.is_now holds behind behind_within
 
-    pub right_row : (depth < length right') × (first_row ≤ (step_at right' depth).row) × ((step_at right' depth).row < first_row + s.tree.rows)
-    right_row =
-        let number = row_number start w holds right' behind behind_within is_right_then depth height gathered.levels in
-        let rows = may.is_now.rows in
-        (deep_enough start w holds right' behind behind_within is_right_then depth height gathered.levels, number.0, (let below = number.1 in omega arith))
+    pub deep_behind : depth < length right'
+    deep_behind = deep_enough start w holds right' behind behind_within is_right_then depth height gathered.levels
+
+    pub row_behind : (first_row ≤ (step_at right' depth).row) × ((step_at right' depth).row < first_row + t.rows)
+    row_behind = row_now may.is_now (row_number start w holds right' behind behind_within is_right_then depth height gathered.levels)
 
     begins_behind : (step_at right' depth).min ≡ behind_of right depth
     begins_behind =
@@ -237,31 +240,27 @@ module _ (start : Start) (w : Work) (s : Sheet) (kind : RowKind) (left right : L
         let same = ap (λ (k : ℕ). (row_of start.tree depth (k + 1)).first) last in
         omega arith
 
-    pub widens_right : (t : Table) (row : List Item) → t ≡ s.tree.table → row ≡ items_of_row t kind (step_at right' depth).row (step_at right' depth).max → length items ≤ most_before_hole start.tree.table.width
+    pub taken_behind : {t' : Rooted} {row : List Item} → t' ≡ t → row ≡ items_of_row t'.table kind (step_at right' depth).row (step_at right' depth).max → length items ≤ most
         → IsTakenIn start w left right' depth height (beside_items kind items row)
-    widens_right t row same is few =
-        let spans = spans_by_items start w holds right' behind behind_within is_right_then depth height gathered.levels t kind row (same ∙ table_now start w s may.is_now holds) may.of_kind is in
+    taken_behind {t'} {row} same is few =
+        let spans = spans_by_items start w holds right' behind behind_within is_right_then depth height gathered.levels t'.table kind row (ap (λ (x : Rooted). x.table) same ∙ table_now may.is_now) may.of_kind is in
         let spans_behind = spans ∙ ap (λ (k : ℕ). spans_from k row) begins_behind in
-        let filled = subst (λ (xs : List Span). Fills (step_at right' depth).min ((step_at right' depth).max + 1) xs) spans_behind
-        (spans_fill start w holds right' behind behind_within is_right_then depth height gathered.levels) in
-        let fills : Fills (behind_of right depth) ((step_at right' depth).max + 1) (spans_from (behind_of right depth) row) =
-        subst (λ (k : ℕ). Fills k ((step_at right' depth).max + 1) (spans_from (behind_of right depth) row)) begins_behind filled in
         let both : spans_from (begin_of left depth) (beside_items kind items row) ≡ beside height (spans_from (begin_of left depth) items) (spans_from (behind_of right depth) row) =
         ap (λ (k : RowKind). spans_from (begin_of left depth) (beside_items k items row)) may.of_kind
-        ∙ beside_spans (begin_of left depth) (behind_of right depth) ((step_at right' depth).max + 1) items row gathered.fills fills start.tree.kind height gathered.fit in
+        ∙ beside_spans (begin_of left depth) (behind_of right depth) items row gathered.fills start.tree.kind height gathered.fit in
         let all : beside height (spans_from (begin_of left depth) items) (spans_on (now start w).table (kind_at start.tree.kind height) (step_at right' depth)) ≡ spans_from (begin_of left depth) (beside_items kind items row) =
         ap (beside height (spans_from (begin_of left depth) items)) spans_behind ∙ sym both in
         let cut = subst (MayBeCut start.tree height (begin_of left depth) (behind_of right' depth)) all
-        (cut_with_right start w left right right' depth height (spans_from (begin_of left depth) items) gathered more is_right_then (row_beside few)) in
+        (cut_with_right start w left right right' depth height (spans_from (begin_of left depth) items) gathered more is_right_then (row_fits few)) in
         record {
           gathered = subst (Gathered start w left right' depth height) all (takes_right start w left right right' depth height (spans_from (begin_of left depth) items) gathered more is_right_then);
           cut = inl cut;
-          two = λ h high first last. two_enough start (begin_of left depth) (behind_of right' depth) h height (beside_items kind items row) holds.range high cut;
+          two = λ h high first last. two_enough start (begin_of left depth) (behind_of right' depth) h height (beside_items kind items row) high cut;
         }
 
   -- ---- the row before, where none stands behind
 
-  module _ (left' : List PathStep) (more : 0 < (step_at left depth).min) (is_left : left' ≡ path_in s.tree.table s.tree.root ((step_at left depth).min - 1)) where
+  module _ {left' : List PathStep} (some : 0 < (step_at left depth).min) (is_left : left' ≡ path_in t.table t.root ((step_at left depth).min - 1)) where
     abbrev ahead : ℕ
     ahead = (step_at left depth).min - 1
 
@@ -272,14 +271,14 @@ module _ (start : Start) (w : Work) (s : Sheet) (kind : RowKind) (left right : L
         let from = at.from in let within = from_within in
         omega arith
 
-    pub is_left_then : left' ≡ path_in start.tree.table start.tree.root ahead
-    is_left_then = is_left ∙ paths_same start w s may.is_now holds ahead ahead_within
+    is_left_then : left' ≡ path_in start.tree.table start.tree.root ahead
+    is_left_then = is_left ∙ paths_now may.is_now holds ahead ahead_within
 
-    pub left_row : (depth < length left') × (first_row ≤ (step_at left' depth).row) × ((step_at left' depth).row < first_row + s.tree.rows)
-    left_row =
-        let number = row_number start w holds left' ahead ahead_within is_left_then depth height gathered.levels in
-        let rows = may.is_now.rows in
-        (deep_enough start w holds left' ahead ahead_within is_left_then depth height gathered.levels, number.0, (let below = number.1 in omega arith))
+    pub deep_before : depth < length left'
+    deep_before = deep_enough start w holds left' ahead ahead_within is_left_then depth height gathered.levels
+
+    pub row_before : (first_row ≤ (step_at left' depth).row) × ((step_at left' depth).row < first_row + t.rows)
+    row_before = row_now may.is_now (row_number start w holds left' ahead ahead_within is_left_then depth height gathered.levels)
 
     ends_ahead : (step_at left' depth).max + 1 ≡ begin_of left depth
     ends_ahead =
@@ -292,25 +291,25 @@ module _ (start : Start) (w : Work) (s : Sheet) (kind : RowKind) (left right : L
         let same = ap (λ (k : ℕ). (row_of start.tree depth (k - 1)).last) first in
         omega arith
 
-    pub widens_left : (t : Table) (row : List Item) → t ≡ s.tree.table → row ≡ items_of_row t kind (step_at left' depth).row (step_at left' depth).max → (step_at right depth).max ≡ top_of start.tree → length items ≤ most_before_hole start.tree.table.width
+    pub taken_before : {t' : Rooted} {row : List Item} → t' ≡ t → row ≡ items_of_row t'.table kind (step_at left' depth).row (step_at left' depth).max → (step_at right depth).max ≡ top_of start.tree → length items ≤ most
         → IsTakenIn start w left' right depth height (beside_items kind row items)
-    widens_left t row same is last few =
-        let spans = spans_by_items start w holds left' ahead ahead_within is_left_then depth height gathered.levels t kind row (same ∙ table_now start w s may.is_now holds) may.of_kind is in
+    taken_before {t'} {row} same is last few =
+        let spans = spans_by_items start w holds left' ahead ahead_within is_left_then depth height gathered.levels t'.table kind row (ap (λ (x : Rooted). x.table) same ∙ table_now may.is_now) may.of_kind is in
         let fills : Fills (begin_of left' depth) (begin_of left depth) (spans_from (begin_of left' depth) row) =
         subst (λ (hi : ℕ). Fills (begin_of left' depth) hi (spans_from (begin_of left' depth) row)) ends_ahead
         (subst (Fills (step_at left' depth).min ((step_at left' depth).max + 1)) spans (spans_fill start w holds left' ahead ahead_within is_left_then depth height gathered.levels)) in
         let fit = subst (MayBeIn height) spans (fit_here start w holds left' ahead ahead_within is_left_then depth height gathered.levels) in
         let both : spans_from (begin_of left' depth) (beside_items kind row items) ≡ beside height (spans_from (begin_of left' depth) row) (spans_from (begin_of left depth) items) =
         ap (λ (k : RowKind). spans_from (begin_of left' depth) (beside_items k row items)) may.of_kind
-        ∙ beside_spans (begin_of left' depth) (begin_of left depth) (behind_of right depth) row items fills gathered.fills start.tree.kind height fit in
+        ∙ beside_spans (begin_of left' depth) (begin_of left depth) row items fills start.tree.kind height fit in
         let all : beside height (spans_on (now start w).table (kind_at start.tree.kind height) (step_at left' depth)) (spans_from (begin_of left depth) items) ≡ spans_from (begin_of left' depth) (beside_items kind row items) =
         ap (λ (xs : List Span). beside height xs (spans_from (begin_of left depth) items)) spans ∙ sym both in
         let cut = subst (MayBeCut start.tree height (begin_of left' depth) (behind_of right depth)) all
-        (cut_with_left start w left right left' depth height (spans_from (begin_of left depth) items) gathered more is_left_then last (row_beside few)) in
+        (cut_with_left start w left right left' depth height (spans_from (begin_of left depth) items) gathered some is_left_then last (row_fits few)) in
         record {
-          gathered = subst (Gathered start w left' right depth height) all (takes_left start w left right left' depth height (spans_from (begin_of left depth) items) gathered more is_left_then);
+          gathered = subst (Gathered start w left' right depth height) all (takes_left start w left right left' depth height (spans_from (begin_of left depth) items) gathered some is_left_then);
           cut = inl cut;
-          two = λ h high first last. two_enough start (begin_of left' depth) (behind_of right depth) h height (beside_items kind row items) holds.range high cut;
+          two = λ h high first last. two_enough start (begin_of left' depth) (behind_of right depth) h height (beside_items kind row items) high cut;
         }
 
 -- ---- what is wanted
@@ -322,13 +321,6 @@ or_true false b is = inr is
 or_false : (a b : Bool) → (a || b) ≡ false → (a ≡ false) × (b ≡ false)
 or_false true b is = absurd (cc)
 or_false false b is = (refl, is)
-
-least_six : (start : Start) (w : Work) (kind : RowKind) (height : ℕ) → Holds start w → kind ≡ kind_at start.tree.kind height → least_items kind ≡ 6
-least_six start w kind height holds of_kind = ap least_items (of_kind ∙ ap (λ (k : Kind). kind_at k height) holds.range) ∙ six height
-  where
-    six : (height : ℕ) → least_items (kind_at trees.Range height) ≡ 6
-    six zero = refl
-    six (suc height) = refl
 
 holed_leaf : (kind : RowKind) (items : List Item) → holed_run kind items ≡ true → ends_with_hole (spans_from 0 items) ≡ true
 holed_leaf Leaf items holed = ends_at_last 0 items ∙ holed
@@ -350,39 +342,44 @@ not_holed start kind height items of_kind leaf no_hole =
     let is : kind ≡ Leaf = of_kind ∙ ap (kind_at start.tree.kind) leaf in
     ends_at_last 0 items ∙ (sym (ap (λ (k : RowKind). holed_run k items) is) ∙ no_hole)
 
-module _ (start : Start) (w : Work) (s : Sheet) (kind : RowKind) (left right : List PathStep) (depth height : ℕ) (items : List Item) (may : MayTakeIn start w s.tree kind left right depth height items) where
-  six_of : short_run kind items ≡ false → 6 ≤ length items
-  six_of not = let many = ltb-false (length items) (least_items kind) not in let six = least_six start w kind height may.gathered.holds may.of_kind in omega arith
+module _ {start : Start} {w : Work} {t : Rooted} {kind : RowKind} {left right : List PathStep} {depth height : ℕ} {items : List Item} (may : MayTakeIn start w t kind left right depth height items) where
+  abbrev wanted : Bool
+  wanted = short_run t.table.width kind items || holed_run kind items
 
-  few_of : short_run kind items ≡ true → length items ≤ most_before_hole start.tree.table.width
-  few_of short = let few = ltb-true (length items) (least_items kind) short in let six = least_six start w kind height may.gathered.holds may.of_kind in let slots = leaf_slots start.tree.table.width in omega arith
+  least_is : least_items t.table.width kind ≡ least_items start.tree.table.width (kind_at start.tree.kind height)
+  least_is = λ i. least_items (table_now may.is_now i).width (may.of_kind i)
+
+  many_of : short_run t.table.width kind items ≡ false → least_items start.tree.table.width (kind_at start.tree.kind height) ≤ length items
+  many_of not = let many = ltb-false (length items) (least_items t.table.width kind) not in let least = least_is in omega arith
+
+  pub few_if_short : short_run t.table.width kind items ≡ true → length items ≤ most_beside start.tree.table.width (kind_at start.tree.kind height)
+  few_if_short short =
+      let few = ltb-true (length items) (least_items t.table.width kind) short in
+      let least = least_is in let enough = sizes start.tree.table.width (kind_at start.tree.kind height) in omega arith
 
   -- nothing is wanted
-  pub wide_already : (short_run kind items || holed_run kind items) ≡ false → IsTakenIn start w left right depth height items
-  wide_already not =
-      let both = or_false (short_run kind items) (holed_run kind items) not in
-      stays_wide start w s kind left right depth height items may (inl (six_of both.0)) (λ leaf more. not_holed start kind height items may.of_kind leaf both.1)
+  pub wants_none : wanted ≡ false → IsTakenIn start w left right depth height items
+  wants_none not =
+      let both = or_false (short_run t.table.width kind items) (holed_run kind items) not in
+      stays_as_it_is may (inl (many_of both.0)) (λ leaf more. not_holed start kind height items may.of_kind leaf both.1)
 
   -- few enough to take in the row behind
-  pub few_behind : (short_run kind items || holed_run kind items) ≡ true → (step_at right depth).max < top_of start.tree → length items ≤ most_before_hole start.tree.table.width
-  few_behind wanting more =
-      ⊎_elim few_of
+  pub few_if_wanted : wanted ≡ true → (step_at right depth).max < top_of start.tree → length items ≤ most_beside start.tree.table.width (kind_at start.tree.kind height)
+  few_if_wanted wanting more =
+      ⊎_elim few_if_short
       (λ (holed : holed_run kind items ≡ true).
       let leaf = leaf_height start.tree.kind height (sym may.of_kind ∙ is_leaf kind items holed) in
-      ⊎_elim (λ (few : length items ≤ most_before_hole start.tree.table.width). few)
+      ⊎_elim (λ (few : length items ≤ slots_of start.tree.table.width Leaf + 2). subst (λ (h : ℕ). length items ≤ most_beside start.tree.table.width (kind_at start.tree.kind h)) (sym leaf) few)
       (λ (full : EndsFull (spans_from (begin_of left depth) items)).
       let no_hole = no_hole_ends (spans_from (begin_of left depth) items) full in
       let hole = ends_from (begin_of left depth) 0 items ∙ holed_leaf kind items holed in
       let clash : true ≡ false = sym hole ∙ no_hole in absurd (cc))
-      (may.ends leaf more)) (or_true (short_run kind items) (holed_run kind items) wanting)
+      (may.ends leaf more)) (or_true (short_run t.table.width kind items) (holed_run kind items) wanting)
 
   -- none stands behind, and the items are enough
-  pub last_and_enough : (step_at right depth).max ≡ top_of start.tree → short_run kind items ≡ false → IsTakenIn start w left right depth height items
-  last_and_enough last not = stays_wide start w s kind left right depth height items may (inl (six_of not)) (λ leaf more. absurd (omega arith))
-
-  pub few_ahead : short_run kind items ≡ true → length items ≤ most_before_hole start.tree.table.width
-  few_ahead short = few_of short
+  pub enough_at_end : (step_at right depth).max ≡ top_of start.tree → short_run t.table.width kind items ≡ false → IsTakenIn start w left right depth height items
+  enough_at_end last not = stays_as_it_is may (inl (many_of not)) (λ leaf more. absurd (omega arith))
 
   -- none stands behind nor before
-  pub alone : (step_at right depth).max ≡ top_of start.tree → (step_at left depth).min ≡ 0 → IsTakenIn start w left right depth height items
-  alone last first = stays_wide start w s kind left right depth height items may (inr (first, last)) (λ leaf more. absurd (omega arith))
+  pub all_there_is : (step_at right depth).max ≡ top_of start.tree → (step_at left depth).min ≡ 0 → IsTakenIn start w left right depth height items
+  all_there_is last first = stays_as_it_is may (inr (first, last)) (λ leaf more. absurd (omega arith))

@@ -7,7 +7,8 @@ use Rattle.mt_layout.specs.Rows.{row_in}
 use Rattle.mt_rows.specs.Levels.{expand, Levels, one_if, tally, is_row_of, SameSpans}
 use Rattle.mt_rows.specs.Laws.{Tree, IsRow}
 use Rattle.mt_rows.specs.Replacement.{root_of}
-use Rattle.mt_rows.proofs.Lists.{all_map, all_front, all_back, all_join, levels_map}
+use Rattle.mt_base.proofs.Lists.{none_or_some, all_map, all_front, all_back, all_join}
+use Rattle.mt_rows.proofs.Lists.{levels_map}
 use Rattle.mt_rows.proofs.Joins.{expand_shared}
 use Rattle.mt_rows.proofs.Frames.{same_spans}
 use Rattle.mt_rows.proofs.Once.{times_none}
@@ -37,10 +38,6 @@ unused_nowhere start s row holds unused =
       | inl same ↦ let clash : true ≡ false = sym used ∙ (ap s.used (eqb-true (row_in x.word) row same) ∙ unused) in absurd (cc)
       | inr not ↦ not
     ]
-
-pub none_or_some : (n : ℕ) → (n ≡ 0) ⊎ (1 ≤ n)
-none_or_some zero = inl refl
-none_or_some (suc n) = inr (omega arith)
 
 pub holds_written : (start : Start) (s s' : Work) (height : ℕ) (spans rows : List Span) → Holds start s → AreWritten start s s' height spans rows → Holds start s'
 holds_written start s s' height spans rows holds written =
@@ -182,7 +179,6 @@ level_replaced start s s₁ s₂ left right depth height run rows gathered writt
       back = gathered.back;
       stretch = gathered.stretch;
       fills = written.fills (begin_of left depth) (behind_of right depth) gathered.fills;
-      gapless = written.gapless;
       taken = subst (λ (seen : List Seen). AllByRecursion (λ (x : Span). 1 ≤ passing (is_row_of (row_in x.word)) seen) rows) (sym buried.taken) (are_taken start s s₁ height run rows written);
       half = half_then start s s₁ s₂ left right depth height run rows (gathered, written, buried);
       used = used_then start s s₁ s₂ left right depth height run rows (gathered, written, buried)

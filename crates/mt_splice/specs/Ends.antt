@@ -1,9 +1,8 @@
 -- What is known when all new rows are written and all old rows are buried, and what a store that publishes them is followed by.
 -- Source: this project's own; the kernel's lib/maple_tree.c, mas_wmb_replace and mas_adopt_children, which set the parents
 -- of children that have moved.
-use Rattle.std.specs.Prelude.{◌≡◌, ◌≢◌, ℕ, suc, ◌+◌, ◌-◌, ◌*◌, ◌<◌, ◌≤◌, true, false, Bool, List, [], Option, Some, None, length}
+use Rattle.std.specs.Prelude.{◌≡◌, ◌≢◌, ℕ, suc, ◌+◌, ◌-◌, ◌*◌, ◌<◌, ◌≤◌, true, false, List, Option, Some, None, length}
 use Rattle.std.specs.List.{slice_get}
-use Rattle.mt_base.specs.declared.ranges.Range.{Range}
 use Rattle.mt_base.specs.declared.calls.Call.{Call}
 use Rattle.mt_base.specs.declared.replies.Reply.{Reply}
 use Rattle.mt_base.specs.Call.{acted}
@@ -13,50 +12,31 @@ use Rattle.mt_layout.specs.declared.names.RowKind.TheVariants.{Inner}
 use Rattle.mt_layout.specs.declared.spans.Span.{Span}
 use Rattle.mt_layout.specs.Rows.{row_in, named_row, parent_at}
 use Rattle.mt_layout.specs.Columns.{slot_column}
-use Rattle.mt_free.specs.Book.{Book, IsBook}
+use Rattle.mt_free.specs.Book.{Book}
 use Rattle.mt_rows.specs.declared.rows.Life.TheVariants.{Live}
 use Rattle.mt_rows.specs.declared.rows.Place.{Place}
 use Rattle.mt_rows.specs.declared.rows.Place.TheVariants.{Root, Slot}
 use Rattle.mt_rows.specs.Spans.{column}
-use Rattle.mt_rows.specs.Levels.{map_of, is_row_of}
+use Rattle.mt_rows.specs.Levels.{is_row_of}
 use Rattle.mt_rows.specs.Trees.{height_in}
-use Rattle.mt_rows.specs.Laws.{Tree, Stands, kind_at}
+use Rattle.mt_rows.specs.Laws.{Tree, kind_at}
 use Rattle.mt_rows.specs.Sheet.{Sheet, IsPlace, life_of, is_buried}
 use Rattle.mt_rows.specs.Publish.{tree_as, map_by, with_published}
-use Rattle.mt_rows.specs.Replacement.{root_of, IsSlotAt}
+use Rattle.mt_rows.specs.Replacement.{IsSlotAt}
 use Rattle.mt_splice.specs.declared.writes.NewRow.{NewRow}
-use Rattle.mt_splice.specs.Seen.{Seen, passing}
-use Rattle.mt_splice.specs.Work.{Start, Work, now, times_in, Holds}
+use Rattle.mt_splice.specs.Seen.{passing}
+use Rattle.mt_splice.specs.Work.{Start, Work, with_words, now, Holds}
+use Rattle.mt_splice.specs.Replaced.{IsReplaced}
 use Rattle.mt_splice.specs.Writes.{child_row, AreChildren}
 use Rattle.mt_splice.specs.Progress.{Before, IsCase, IsProgress, is_taken, new_rows_of}
 use Rattle.mt_layout.specs.Sizes.{slots_of}
 
--- ---- a tree of a height, or the empty tree, which has none
+-- ---- the end
 
-abbrev pub StandsAs : Tree → Option ℕ → Type 0
-StandsAs t None = t.root ≡ 0
-StandsAs t (Some h) = Stands t h
-
-abbrev pub count_in : (ℕ → Span → Bool) → Tree → Option ℕ → ℕ
-count_in p t None = 0
-count_in p t (Some h) = times_in p t h
-
-abbrev pub map_as : Tree → Option ℕ → List Range
-map_as t None = []
-map_as t (Some h) = map_of t.table h (root_of t)
-
--- The tree t' stands for the map in place of t, where either may be the empty tree.
-pub record IsReplacedAs (t t' : Tree) (map : List Range) (taken gone : List Seen) (old new : Option ℕ) : Type 0 where
-  pub stands : StandsAs t' new
-  pub ranges : map_as t' new ≡ map
-  pub rows : (p : ℕ → Span → Bool) → count_in p t old + passing p taken ≡ count_in p t' new + passing p gone
-  pub were : (p : ℕ → Span → Bool) → passing p gone ≤ count_in p t old
-
+-- the tree was the empty one, or it stands as it was
 abbrev pub HoldsAs : Start → Work → Option ℕ → Type 0
 HoldsAs start w None = start.tree.root ≡ 0
 HoldsAs start w (Some h) = (start.height ≡ h) × Holds start w
-
--- ---- the end
 
 -- the column is that of an item of an inner row, which stands so many levels below the root
 pub record IsChildSlot (t : Tree) (height row col : ℕ) : Type 0 where
@@ -93,7 +73,7 @@ pub record MayPublishEnd (b : Before) (start : Start) (s : Sheet) (book : Book) 
   pub few : length work.taken ≤ 3 * height_in b.sheet.tree.table b.sheet.tree.root + 1
   pub answer : acted b.kind (map_by b.sheet.tree) call ≡ (start.map, reply)
   pub holds : HoldsAs start work old
-  pub replaced : IsReplacedAs start.tree (tree_as b.kind (with_published s.tree place word)) start.map work.taken work.gone old new
+  pub replaced : IsReplaced start.tree (tree_as b.kind (with_published s.tree place word)) start.map work.taken work.gone old new
   pub at : IsEndPlace start work old place
   pub top : IsTop work old new word
   pub inner_rows : inner ≡ new_rows_of s.tree.table work.taken
@@ -103,8 +83,7 @@ pub record MayPublishEnd (b : Before) (start : Start) (s : Sheet) (book : Book) 
 -- nothing but parent words and the number of loads has changed
 pub record OnlyParents (s s' : Sheet) : Type 0 where
   pub rest : record s' { tree = s.tree; reads = s.reads } ≡ s
-  pub root : s'.tree.root ≡ s.tree.root
-  pub width : s'.tree.table.width ≡ s.tree.table.width
+  pub tree : s'.tree ≡ with_words s.tree s'.tree.table.words
   pub size : length s'.tree.table.words ≡ length s.tree.table.words
   pub kept : (r c : ℕ) → 0 < c → c < columns s.tree.table.width → column s'.tree.table r c ≡ column s.tree.table r c
 

@@ -23,9 +23,9 @@ before_of kind s book number = record { sheet = s; book = book; kind = kind; num
 abbrev pub start_of : Kind → Sheet → Call → Start
 start_of kind s call = record { tree = tree_as kind s.tree; height = length (path_in s.tree.table s.tree.root 0) - 1; map = (acted kind (map_by s.tree) call).0 }
 
-pub record IsBegunBy (b : Before) (start : Start) (kind : Kind) (s : Sheet) (book : Book) (number : ℕ) (call : Call) : Type 0 where
+pub record IsBegunBy (b : Before) (begin : Start) (kind : Kind) (s : Sheet) (book : Book) (number : ℕ) (call : Call) : Type 0 where
   pub before : b ≡ before_of kind s book number
-  pub start : start ≡ start_of kind s call
+  pub start : begin ≡ start_of kind s call
 
 -- a store of an entry into the empty tree, where these are the items after it
 pub record IsFirst (b : Before) (start : Start) (s : Sheet) (book : Book) (items : List Item) (call : Call) (reply : Reply) : Type 0 where

@@ -40,7 +40,7 @@ pub record IsKept (kind : Kind) (t : Rooted) (lives : List Life) (buried : List 
   pub booked : IsBookOf t lives cleared book number
 
 -- the call of this number is in flight and has published nothing
-pub record IsUnpublished (in_flight published : Bool) (ended number : ℕ) : Type 0 where
-  pub in_flight : in_flight ≡ true
+pub record IsUnpublished (flies published : Bool) (ended number : ℕ) : Type 0 where
+  pub in_flight : flies ≡ true
   pub before : published ≡ false
   pub numbered : number ≡ ended + 1

@@ -9,7 +9,6 @@ pub mod Entries
 pub mod Kept
 pub mod Levels
 pub mod Progress
-pub mod Publishing
 pub mod Regions
 pub mod Replaced
 pub mod Replacing

@@ -12,7 +12,7 @@ use Rattle.mt_rows.specs.Sheet.{Sheet, IsWhole, life_of, is_buried}
 use Rattle.mt_rows.specs.Publish.{tree_as, IsTold, is_reached}
 use Rattle.mt_splice.specs.declared.writes.NewRow.{NewRow}
 use Rattle.mt_splice.specs.Seen.{Seen, passing}
-use Rattle.mt_splice.specs.Work.{Start, Work}
+use Rattle.mt_splice.specs.Work.{Start, Work, with_words}
 use Rattle.mt_splice.specs.Writes.{no_parent}
 use Rattle.mt_splice.specs.Kept.{MayBeReplaced, IsKept, IsUnpublished}
 use Rattle.mt_layout.specs.Sizes.{first_row}
@@ -57,9 +57,7 @@ in_use b w row = is_reached b.sheet.tree row || is_taken w row
 -- row is as it was.
 pub record IsProgress (b : Before) (s : Sheet) (book : Book) (w : Work) : Type 0 where
   pub rest : record s { tree = b.sheet.tree; lives = b.sheet.lives; buried = b.sheet.buried; reads = b.sheet.reads } ≡ b.sheet
-  pub root : s.tree.root ≡ b.sheet.tree.root
-  pub width : s.tree.table.width ≡ b.sheet.tree.table.width
-  pub words : s.tree.table.words ≡ w.words
+  pub tree : s.tree ≡ with_words b.sheet.tree w.words
   pub whole : IsWhole s
   pub used : (row : ℕ) → w.used row ≡ in_use b w row
   pub free : b.book.free ≡ book.free ++ map row_seen w.taken

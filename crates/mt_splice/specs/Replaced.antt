@@ -1,6 +1,6 @@
 -- What stands after a replacement, and half-way, when all rows up to a height are replaced.
 -- Source: this project's own.
-use Rattle.std.specs.Prelude.{◌≡◌, ℕ, ◌+◌, ◌≤◌, Bool, List}
+use Rattle.std.specs.Prelude.{◌≡◌, ℕ, ◌+◌, ◌≤◌, Bool, List, [], Option, Some, None}
 use Rattle.mt_base.specs.declared.ranges.Range.{Range}
 use Rattle.mt_layout.specs.declared.spans.Span.{Span}
 use Rattle.mt_layout.specs.Spans.{Fills}
@@ -19,9 +19,23 @@ pub record IsHalfReplaced (t : Tree) (words : List ℕ) (map : List Range) (take
   pub rows : (p : ℕ → Span → Bool) → times p t.table h xs + passing p taken ≡ times p (tree_with t words).table h ys + passing p gone
   pub were : (p : ℕ → Span → Bool) → passing p gone ≤ times p t.table h xs
 
--- The tree t', of the height h', stands for the map in place of t, of the height h.
-pub record IsReplaced (t t' : Tree) (map : List Range) (taken gone : List Seen) (h h' : ℕ) : Type 0 where
-  pub stands : Stands t' h'
-  pub ranges : map_of t'.table h' (root_of t') ≡ map
-  pub rows : (p : ℕ → Span → Bool) → times_in p t h + passing p taken ≡ times_in p t' h' + passing p gone
-  pub were : (p : ℕ → Span → Bool) → passing p gone ≤ times_in p t h
+-- ---- a tree of a height, or the empty tree, which has none
+
+abbrev pub StandsAs : Tree → Option ℕ → Type 0
+StandsAs t None = t.root ≡ 0
+StandsAs t (Some h) = Stands t h
+
+abbrev pub count_in : (ℕ → Span → Bool) → Tree → Option ℕ → ℕ
+count_in p t None = 0
+count_in p t (Some h) = times_in p t h
+
+abbrev pub map_as : Tree → Option ℕ → List Range
+map_as t None = []
+map_as t (Some h) = map_of t.table h (root_of t)
+
+-- The tree t' stands for the map in place of t, where either may be the empty tree.
+pub record IsReplaced (t t' : Tree) (map : List Range) (taken gone : List Seen) (old new : Option ℕ) : Type 0 where
+  pub stands : StandsAs t' new
+  pub ranges : map_as t' new ≡ map
+  pub rows : (p : ℕ → Span → Bool) → count_in p t old + passing p taken ≡ count_in p t' new + passing p gone
+  pub were : (p : ℕ → Span → Bool) → passing p gone ≤ count_in p t old

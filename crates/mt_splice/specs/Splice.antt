@@ -114,6 +114,7 @@ pub record IsBooked (s s' : Sheet) (book book' : Book) (number most : ℕ) : Typ
 -- their parent words.
 pub record IsSpliced (kind : Kind) (s s' : Sheet) (book book' : Book) (number : ℕ) (call : Call) (reply : Reply) (place : Place) : Type 0 where
   pub rest : s' ≡ record s { tree = s'.tree; published = true; lives = s'.lives; buried = s'.buried; records = with_record s call reply; reads = s'.reads }
+  pub rows : s'.tree.rows ≡ s.tree.rows
   pub tree : IsTreeOf s'.tree kind
   pub parents : HasParents (tree_as kind s'.tree)
   pub map : map_by s'.tree ≡ (acted kind (map_by s.tree) call).0

@@ -9,6 +9,7 @@ use Rattle.mt_rows.specs.Spans.{Table}
 use Rattle.mt_rows.specs.Levels.{level, Levels, times, is_row_of, SameColumns}
 use Rattle.mt_rows.specs.Laws.{Tree, Stands}
 use Rattle.mt_rows.specs.Replacement.{root_of}
+use Rattle.mt_rows.specs.Sheet.{Rooted}
 use Rattle.mt_splice.specs.Seen.{Seen, passing}
 use Rattle.mt_splice.specs.Kept.{MayBeReplaced}
 
@@ -25,13 +26,16 @@ pub record Work : Type 0 where
   pub taken : List Seen
   pub gone : List Seen
 
--- ---- the tree with other words
+-- ---- a tree with other words
 
 abbrev pub table_with : Table → List ℕ → Table
 table_with t words = record { width = t.width; words = words }
 
 abbrev pub tree_with : Tree → List ℕ → Tree
 tree_with t words = record { rows = t.rows; kind = t.kind; table = table_with t.table words; root = t.root }
+
+abbrev pub with_words : Rooted → List ℕ → Rooted
+with_words t words = record { rows = t.rows; table = table_with t.table words; root = t.root }
 
 -- the tree by the words now
 abbrev pub now : Start → Work → Tree

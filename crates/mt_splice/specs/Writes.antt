@@ -11,12 +11,12 @@ use Rattle.mt_rows.specs.declared.rows.Life.TheVariants.{Draft, Live}
 use Rattle.mt_rows.specs.Spans.{Table, base_of, column}
 use Rattle.mt_rows.specs.Sheet.{Sheet, IsPlace, life_of, is_buried}
 use Rattle.mt_layout.specs.Sizes.{first_row, slots_of, gaps_of}
+use Rattle.mt_splice.specs.Work.{with_words}
 
 -- the first columns of a row are these words, and every other row is as before
 pub record AreDrafted (s s' : Sheet) (row : ℕ) (words : List ℕ) : Type 0 where
   pub rest : record s' { tree = s.tree; lives = s.lives } ≡ s
-  pub root : s'.tree.root ≡ s.tree.root
-  pub width : s'.tree.table.width ≡ s.tree.table.width
+  pub tree : s'.tree ≡ with_words s.tree s'.tree.table.words
   pub size : length s'.tree.table.words ≡ length s.tree.table.words
   pub own : (c : ℕ) → c < length words → column s'.tree.table row c ≡ slice_index words c
   pub others : (r c : ℕ) → r ≢ row → c < columns s.tree.table.width → column s'.tree.table r c ≡ column s.tree.table r c
@@ -72,8 +72,7 @@ pub record AreChildren (s : Sheet) (kind : RowKind) (row count : ℕ) : Type 0 w
 -- the parent words of the children in the first slots name this row and the slot, and every other word is as before
 pub record AreTended (s s' : Sheet) (kind : RowKind) (row count : ℕ) : Type 0 where
   pub rest : record s' { tree = s.tree; reads = s.reads } ≡ s
-  pub root : s'.tree.root ≡ s.tree.root
-  pub width : s'.tree.table.width ≡ s.tree.table.width
+  pub tree : s'.tree ≡ with_words s.tree s'.tree.table.words
   pub size : length s'.tree.table.words ≡ length s.tree.table.words
   pub children : (slot : ℕ) → slot < count → column s'.tree.table (child_row s.tree.table kind row slot) 0 ≡ parent_at row slot
   pub others : (r c : ℕ) → c < columns s.tree.table.width → (c ≡ 0 → (slot : ℕ) → slot < count → child_row s.tree.table kind row slot ≢ r) → column s'.tree.table r c ≡ column s.tree.table r c

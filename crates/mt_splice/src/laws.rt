@@ -2,11 +2,10 @@
 
 ghost use Rattle.std.specs.Prelude.{◌≡◌, ◌≢◌, ℕ, zero, suc, ◌+◌, ◌-◌, ◌<◌, ◌≤◌, Bool, true, false, List, [], ◌∷◌, ◌++◌, length, take, drop};
 ghost use Rattle.std.specs.List.{flat_map};
-ghost use Rattle.mt_base.specs.declared.calls.Call.{Call};
 ghost use Rattle.mt_base.specs.declared.kinds.Kind.{Kind};
-ghost use Rattle.mt_base.specs.declared.replies.Reply.{Reply};
 ghost use Rattle.mt_base.specs.Entry.{reserved};
 ghost use Rattle.mt_base.specs.Map.{over};
+ghost use Rattle.mt_base.specs.Width.{most_rows};
 ghost use Rattle.mt_free.specs.Book.{Book, live_count};
 ghost use Rattle.mt_layout.specs.Rows.{row_in};
 ghost use Rattle.mt_layout.specs.Spans.{leaf_range, Fills};
@@ -14,20 +13,18 @@ ghost use Rattle.mt_layout.specs.declared.spans.Span.{Span};
 ghost use Rattle.mt_leaf.specs.Edits.{edited, ends_with_hole};
 ghost use Rattle.mt_path.specs.Paths.{path_in, row_on, step_at};
 ghost use Rattle.mt_path.specs.declared.paths.PathStep.{PathStep};
-ghost use Rattle.mt_rows.specs.Laws.{HasWords, Stands, Tree, kind_at, least_items, least_of_root, top_of};
+ghost use Rattle.mt_rows.specs.Laws.{HasWords, Stands, Tree, kind_at, least_of_root, top_of};
 ghost use Rattle.mt_rows.specs.Levels.{Levels, is_row_of, map_of, tally};
-ghost use Rattle.mt_rows.specs.Publish.{IsTreeOf, MayPublish, is_reached, tree_as};
+ghost use Rattle.mt_rows.specs.Publish.{IsTreeOf, is_reached};
 ghost use Rattle.mt_rows.specs.Replacement.{root_of};
 ghost use Rattle.mt_rows.specs.Sheet.{Sheet};
 ghost use Rattle.mt_rows.specs.Spans.{root_span};
-ghost use Rattle.mt_layout.specs.Sizes.{slots_of};
+ghost use Rattle.mt_layout.specs.Sizes.{least_items, slots_of};
 ghost use Rattle.mt_rows.specs.Trees.{map_in, reached_in};
-ghost use Rattle.mt_rows.specs.declared.rows.Place.TheVariants.{Root, Slot};
 ghost use Rattle.mt_splice.specs.Beginnings.{Begins};
 ghost use Rattle.mt_splice.specs.Burying.{AreBuried, AreLevelsBuried};
 ghost use Rattle.mt_splice.specs.Climbs.{AreWritten, Climbed, Gathered, IsPathAhead, IsPathBehind, begin_of, beside, between_slots, behind_of, spans_now};
-ghost use Rattle.mt_splice.specs.Endings.{IsPublished, IsStepIn, column_of, with_root, with_step, words_of};
-ghost use Rattle.mt_splice.specs.Publishing.{IsReady};
+ghost use Rattle.mt_splice.specs.Endings.{IsPublished, IsStepIn, with_root, with_step, words_of};
 ghost use Rattle.mt_splice.specs.Replaced.{IsReplaced};
 ghost use Rattle.mt_splice.specs.Runs.{IsLeafRun, MayBeCut, most_in_three, most_items};
 ghost use Rattle.mt_splice.specs.Seen.{Adds, passing};
@@ -69,7 +66,7 @@ pub fn the_row_beside_is_taken_in()
 pub fn gathered_spans_may_be_cut()
     ensures some { (start : Start) (s : Work) (left right : List PathStep) (depth height : ℕ) (run : List Span) → Gathered start s left right depth height run → 1 ≤ length run }
     ensures entry { (start : Start) (s : Work) (left right : List PathStep) (depth : ℕ) (run : List Span) → Gathered start s left right depth 0 run → ((x : Span) → run ≡ x ∷ [] → x.word ≢ 0) → flat_map leaf_range run ≢ [] }
-    ensures alone { (start : Start) (s : Work) (left right : List PathStep) (depth height : ℕ) (run : List Span) → Gathered start s left right depth height run → length run ≤ most_items start.tree.table.width (kind_at start.tree.kind height) → least_items (kind_at start.tree.kind height) ≤ length run
+    ensures alone { (start : Start) (s : Work) (left right : List PathStep) (depth height : ℕ) (run : List Span) → Gathered start s left right depth height run → length run ≤ most_items start.tree.table.width (kind_at start.tree.kind height) → least_items start.tree.table.width (kind_at start.tree.kind height) ≤ length run
         → (height ≡ 0 → (step_at right depth).max < top_of start.tree → ends_with_hole run ≡ false) → MayBeCut start.tree height (begin_of left depth) (behind_of right depth) run }
     ensures whole { (start : Start) (s : Work) (left right : List PathStep) (depth height : ℕ) (run : List Span) → Gathered start s left right depth height run → length run ≤ most_items start.tree.table.width (kind_at start.tree.kind height)
         → begin_of left depth ≡ 0 → (step_at right depth).max ≡ top_of start.tree → least_of_root height ≤ length run → (height ≡ 0 → flat_map leaf_range run ≢ [])
@@ -132,20 +129,20 @@ pub fn old_levels_are_buried()
 /// A new row that covers every index becomes the root, when all levels above it are buried.
 pub fn one_row_becomes_the_root()
     ensures { (start : Start) (s s' : Work) (left right : List PathStep) (depth height : ℕ) (x : Span) → Climbed start s left right depth height (x ∷ []) → x.first ≡ 0 → x.last ≡ top_of start.tree
-        → AreLevelsBuried start s s' depth height 0 start.height → IsReplaced start.tree (with_root (now start s') x.word) start.map s'.taken s'.gone start.height height }
+        → AreLevelsBuried start s s' depth height 0 start.height → IsReplaced start.tree (with_root (now start s') x.word) start.map s'.taken s'.gone (Some start.height) (Some height) }
 {}
 
 /// The rows that replace the root stand in a new root, and the tree is one level higher.
 pub fn a_root_stands_above_the_new_rows()
     ensures { (start : Start) (s s' : Work) (left right : List PathStep) (height : ℕ) (new : List Span) (x : Span) → Climbed start s left right 0 height new → AreWritten start s s' (suc height) new (x ∷ [])
-        → start.tree.rows ≤ 65504 → IsReplaced start.tree (with_root (now start s') x.word) start.map s'.taken s'.gone start.height (suc start.height) }
+        → start.tree.rows ≤ most_rows → IsReplaced start.tree (with_root (now start s') x.word) start.map s'.taken s'.gone (Some start.height) (Some (suc start.height)) }
 {}
 
 /// One new row takes the place of one old row by one store in the row above, which stays.
 pub fn one_row_takes_the_place_of_one()
     ensures replaced { (start : Start) (s : Work) (left right : List PathStep) (depth height : ℕ) (x : Span) → Climbed start s left right (suc depth) height (x ∷ []) → begin_of left (suc depth) ≡ begin_of right (suc depth)
         → HasWords (now start s)
-        → IsReplaced start.tree (with_step (now start s) (kind_at start.tree.kind (suc height)) (step_at left depth) x.word) start.map s.taken s.gone start.height start.height }
+        → IsReplaced start.tree (with_step (now start s) (kind_at start.tree.kind (suc height)) (step_at left depth) x.word) start.map s.taken s.gone (Some start.height) (Some start.height) }
     ensures published { (start : Start) (s : Work) (left right : List PathStep) (depth height : ℕ) (x : Span) → Climbed start s left right (suc depth) height (x ∷ []) → begin_of left (suc depth) ≡ begin_of right (suc depth)
         → HasWords (now start s) → IsPublished (now start s) (kind_at start.tree.kind (suc height)) (step_at left depth) x.word }
     ensures stays { (start : Start) (s : Work) (left right : List PathStep) (depth height : ℕ) (x : Span) → Climbed start s left right (suc depth) height (x ∷ []) → begin_of left (suc depth) ≡ begin_of right (suc depth)
@@ -161,20 +158,6 @@ pub fn nothing_is_left_of_the_tree()
         → begin_of left start.height ≡ 0 → behind_of right start.height ≡ top_of start.tree + 1
         → AreBuried start s s₁ start.height 0 0 (top_of start.tree + 1) → AreLevelsBuried start s₁ s₂ start.height 0 0 start.height
         → (p : ℕ → Span → Bool) → passing p s₂.gone ≡ times_in p start.tree start.height }
-{}
-
-/// The one store that ends a replacement may be published.
-pub fn the_end_may_be_published()
-    ensures root { (start : Start) (w : Work) → Holds start w → (kind : Kind) (s : Sheet) → now start w ≡ tree_as kind s.tree → (call : Call) (reply : Reply) → IsReady kind s start.map w.taken w.gone call reply
-        → (h' word : ℕ) → IsReplaced start.tree (with_root (now start w) word) start.map w.taken w.gone start.height h' → MayPublish kind s Root word call reply }
-    ensures slot { (start : Start) (w : Work) → Holds start w → (kind : Kind) (s : Sheet) → now start w ≡ tree_as kind s.tree → (call : Call) (reply : Reply) → IsReady kind s start.map w.taken w.gone call reply
-        → (k word : ℕ) (step : PathStep) → IsReplaced start.tree (with_step (now start w) (kind_at start.tree.kind k) step word) start.map w.taken w.gone start.height start.height
-        → IsPublished (now start w) (kind_at start.tree.kind k) step word → MayPublish kind s (Slot step.row (column_of (tree_as kind s.tree) (kind_at kind k) step)) word call reply }
-    ensures emptied { (start : Start) (w : Work) → Holds start w → (kind : Kind) (s : Sheet) → now start w ≡ tree_as kind s.tree → (call : Call) (reply : Reply) → IsReady kind s start.map w.taken w.gone call reply
-        → start.map ≡ [] → ((p : ℕ → Span → Bool) → passing p w.gone ≡ times_in p start.tree start.height) → MayPublish kind s Root 0 call reply }
-    ensures first { (start : Start) (w : Work) (kind : Kind) (s : Sheet) (word : ℕ) (call : Call) (reply : Reply) → now start w ≡ tree_as kind s.tree → s.tree.root ≡ 0 → w.gone ≡ []
-        → IsReady kind s start.map w.taken w.gone call reply → Stands (with_root (now start w) word) 0 → map_of (now start w).table 0 (root_of (with_root (now start w) word)) ≡ start.map
-        → 1 ≤ passing (is_row_of (row_in word)) w.taken → MayPublish kind s Root word call reply }
 {}
 
 /// While rows are written and buried, the tree stands as it was by the words now.

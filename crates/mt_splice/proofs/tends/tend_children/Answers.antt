@@ -3,6 +3,7 @@ use Rattle.std.specs.Prelude.{Some}
 use Rattle.mt_base.specs.declared.widths.Width.{Width}
 use Rattle.mt_layout.specs.Rows.{named_row}
 use Rattle.mt_rows.specs.Spans.{column}
+use Rattle.mt_rows.specs.Sheet.{Rooted}
 use Rattle.mt_layout.specs.Sizes.{slots_of}
 use Rattle.mt_splice.specs.Writes.{child_word}
 use Rattle.mt_splice.proofs.Tending.{one_more_tended}
@@ -11,7 +12,7 @@ use Rattle.mt_splice.proofs.tends.tend_children.Goals as goal
 pub loop-slot-preserved : goal.loop-slot-preserved
 loop-slot-preserved g c =
     let now = (g.R.Rows.sheet c.loop-slot.rows).tree.table in
-    let slots : c.slots-slots.result ≡ slots_of now.width c.args.kind = c.slots-slots.ensures ∙ ap (λ (w : Width). slots_of w c.args.kind) (c.width.ensures ∙ sym c.loop-slot.invariant.tended.width) in
+    let slots : c.slots-slots.result ≡ slots_of now.width c.args.kind = c.slots-slots.ensures ∙ ap (λ (w : Width). slots_of w c.args.kind) (c.width.ensures ∙ sym (ap (λ (v : Rooted). v.table.width) c.loop-slot.invariant.tended.tree)) in
     let word : c.load-word.result ≡ child_word now c.args.kind c.args.row c.loop-slot.slot = c.load-word.ensures.word ∙ ap (λ (n : ℕ). column now c.args.row (n + c.loop-slot.slot)) slots in
     let named : Some c.in-Some.child ≡ named_row (child_word now c.args.kind c.args.row c.loop-slot.slot) = c.in-Some.ensures.row ∙ ap named_row word in
     rw (c.tend.ensures, c.parent_word.ensures)
