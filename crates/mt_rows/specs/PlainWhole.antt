@@ -6,9 +6,11 @@ use Rattle.mt_rows.specs.declared.rows.Life.TheVariants as lives
 use Rattle.mt_rows.specs.declared.plain.Fate.{Fate}
 use Rattle.mt_rows.specs.declared.plain.Fate.TheVariants.{New, Draft, Live, Buried}
 use Rattle.mt_rows.specs.declared.plain.State.{State}
+use Rattle.mt_rows.specs.declared.plain.PlainRows.{PlainRows}
 use Rattle.mt_rows.specs.Levels.{one_if}
 use Rattle.mt_rows.specs.Sheet.{HasDied, IsWhole}
 use Rattle.mt_rows.specs.Plain.{life_in, buried_in, past_of, fate_of, sheet_of, IsPlain}
+use Rattle.mt_rows.specs.Memory.{sheet_in}
 
 pub life_at : (past : ℕ) (fates : List Fate) (row : ℕ) → slice_index_or (map (life_in past) fates) row lives.New ≡ life_in past (slice_index_or fates row New)
 life_at past [] row = refl
@@ -20,7 +22,7 @@ buried_died : (ended call : ℕ) (in_flight dead : Bool) → 1 ≤ call → call
 buried_died ended call in_flight true some low = (some, low)
 buried_died ended call in_flight false some low = tt
 
-pub plain_whole : (p : State) → IsPlain p → IsWhole (sheet_of p)
+plain_whole : (p : State) → IsPlain p → IsWhole (sheet_of p)
 plain_whole p plain = record {
   few = plain.few;
   words = plain.words;
@@ -36,3 +38,6 @@ plain_whole p plain = record {
     died row Draft at = tt
     died row Live at = tt
     died row (Buried call) at = let known = plain.buried row call at in buried_died p.ended call p.in_flight (nat_le call (past_of p)) known.1 known.2
+
+pub rows_whole : (rows : PlainRows) → IsWhole (sheet_in rows)
+rows_whole rows = plain_whole rows.state rows.plain

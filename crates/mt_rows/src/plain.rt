@@ -226,11 +226,11 @@ impl Rows for PlainRows {
     ghost use Rattle.std.specs.Prelude.{◌≡◌, ◌≤◌, None, min};
     ghost use Rattle.mt_rows.specs.Sheet.{scanned};
     ghost use Rattle.mt_rows.specs.Memory.{sheet_in};
-    ghost use Rattle.mt_rows.specs.PlainWhole.{plain_whole};
+    ghost use Rattle.mt_rows.specs.PlainWhole.{rows_whole};
 
     ghost sheet = { sheet_in };
 
-    ghost whole = { λ p. plain_whole p.state p.plain };
+    ghost whole = { rows_whole };
 
     fn size(&self) -> u64 {
         self.state.rows
