@@ -1,18 +1,18 @@
 -- What a replacement leaves in lives and in the book, and where it published.
-use Rattle.std.proofs.Common.{◌≡◌, ◌≢◌, ℕ, zero, suc, ◌+◌, ◌*◌, ◌<◌, ◌≤◌, List, ◌++◌, Option, Some, None, IfSome, Bool, true, false, map, refl, sym, ap, ◌∙◌, subst, inl, inr, arith, append_assoc}
+use Rattle.std.proofs.Common.{◌≡◌, ◌≢◌, ℕ, zero, suc, ◌+◌, ◌*◌, ◌<◌, ◌≤◌, List, ◌++◌, Option, Some, None, Bool, true, false, map, refl, sym, ap, ◌∙◌, subst, inl, inr, arith, append_assoc}
 use Rattle.std.specs.Prelude.{if◌then◌else◌}
 use Rattle.std.specs.List.{All, AllPairs, Contains}
 use Rattle.std.proofs.lemmas.Bool.{cases_Bool}
 use Rattle.std.proofs.lemmas.List.{length-map, map-append}
 use Rattle.std.proofs.lemmas.List.Elements.{All-weaker, All-append, All-contains, Contains-append_left, Contains-append_right, Contains-append_cases}
-use Rattle.mt_base.specs.declared.kinds.Kind.{Kind}
 use Rattle.mt_base.specs.declared.ranges.Range.{Range}
 use Rattle.mt_base.specs.declared.replies.Reply.{Reply}
 use Rattle.mt_base.specs.declared.widths.Width.{Width}
 use Rattle.mt_base.specs.Call.{acted}
 use Rattle.mt_base.specs.Width.{columns}
 use Rattle.mt_layout.specs.Rows.{row_in, dead_mark}
-use Rattle.mt_free.specs.Book.{Book, Held, IsOut, held_rows}
+use Rattle.mt_free.specs.Book.{Book, Held, IsBook, IsOut, held_rows}
+use Rattle.mt_layout.specs.Sizes.{first_row}
 use Rattle.mt_rows.specs.declared.rows.Life.{Life}
 use Rattle.mt_rows.specs.declared.rows.Life.TheVariants.{New, Draft, Live, Dead}
 use Rattle.mt_rows.specs.declared.rows.Place.{Place}
@@ -21,7 +21,7 @@ use Rattle.mt_rows.specs.Spans.{column, root_span}
 use Rattle.mt_rows.specs.Levels.{is_row_of}
 use Rattle.mt_rows.specs.Trees.{height_in}
 use Rattle.mt_rows.specs.Laws as laws
-use Rattle.mt_rows.specs.Sheet.{Sheet, Tree, life_of, is_buried, word_at}
+use Rattle.mt_rows.specs.Sheet.{Rooted, Sheet, life_of, is_buried, word_at}
 use Rattle.mt_rows.specs.Publish.{tree_as, IsTreeOf, LiveAreReached, NoneBuried, is_reached, IsReached, map_by, with_published, life_after, IsPlaceToPublish}
 use Rattle.mt_rows.proofs.Reached as reached
 use Rattle.mt_splice.specs.Seen.{passing}
@@ -29,24 +29,26 @@ use Rattle.mt_splice.specs.Work.{Work, now}
 use Rattle.mt_splice.specs.Progress.{Before, is_taken, row_seen, stamped}
 use Rattle.mt_splice.specs.Splice.{WasPublishedAt, IsBooked, HasParents, IsSpliced}
 use Rattle.mt_splice.specs.Kept.{IsSpare, IsBookOf}
-use Rattle.mt_splice.specs.Ends.{StandsAs, count_in, IsChildSlot, IsEndPlace, IsTop}
+use Rattle.mt_splice.specs.Replaced.{StandsAs, count_in}
+use Rattle.mt_splice.specs.Ends.{IsChildSlot, IsEndPlace, IsTop}
 use Rattle.mt_splice.proofs.Drafts.{equal_or_not, other_row, other_column}
 use Rattle.mt_splice.proofs.EndTrees.{is_tree, none_or_some}
 use Rattle.mt_splice.proofs.EndHoles.{name_some, at_on_level, child_on_level}
-use Rattle.mt_splice.proofs.EndLists.{all_ones, map_one, one_contains, apart_ends, seen_contains, contains_seen, stamped_rows, rows_stamped}
+use Rattle.mt_splice.proofs.EndLists.{all_ones, map_one, one_contains, apart_ends, seen_some, seen_contains, contains_seen, stamped_rows, rows_stamped}
 use Rattle.mt_splice.proofs.EndWords.{slot_word}
+use Rattle.mt_splice.proofs.EndBooks.{taken_leave_book, retired_leave_book}
 use Rattle.mt_splice.proofs.EndAfter.{Outcome, above_in}
 use Rattle.mt_splice.proofs.EndPublish as ends
 
-pub life_if_reached : (s : Sheet) (t : Tree) (row : ℕ) → is_reached t row ≡ true → life_after s t row ≡ Live
+pub life_if_reached : (s : Sheet) (t : Rooted) (row : ℕ) → is_reached t row ≡ true → life_after s t row ≡ Live
 life_if_reached s t row is = ap (λ (c : Bool). if c then Live else (if is_buried s.buried row then Dead (s.ended + 1) else life_of s.lives row)) is
 
-pub life_if_buried : (s : Sheet) (t : Tree) (row : ℕ) → is_reached t row ≡ false → is_buried s.buried row ≡ true → life_after s t row ≡ Dead (s.ended + 1)
+pub life_if_buried : (s : Sheet) (t : Rooted) (row : ℕ) → is_reached t row ≡ false → is_buried s.buried row ≡ true → life_after s t row ≡ Dead (s.ended + 1)
 life_if_buried s t row not is =
     ap (λ (c : Bool). if c then Live else (if is_buried s.buried row then Dead (s.ended + 1) else life_of s.lives row)) not
     ∙ ap (λ (c : Bool). if c then Dead (s.ended + 1) else life_of s.lives row) is
 
-life_if_kept : (s : Sheet) (t : Tree) (row : ℕ) → is_reached t row ≡ false → is_buried s.buried row ≡ false → life_after s t row ≡ life_of s.lives row
+life_if_kept : (s : Sheet) (t : Rooted) (row : ℕ) → is_reached t row ≡ false → is_buried s.buried row ≡ false → life_after s t row ≡ life_of s.lives row
 life_if_kept s t row not none =
     ap (λ (c : Bool). if c then Live else (if is_buried s.buried row then Dead (s.ended + 1) else life_of s.lives row)) not
     ∙ ap (λ (c : Bool). if c then Dead (s.ended + 1) else life_of s.lives row) none
@@ -79,20 +81,11 @@ module _ (f : ends.Finish) (s' : Sheet) (o : Outcome f s') where
   abbrev book : Book
   book = f.book
 
-  rows' : s'.tree.rows ≡ b.sheet.tree.rows
-  rows' = ap (λ (x : Sheet). x.tree.rows) o.rest
-
   low' : (row : ℕ) → row < first_row + s'.tree.rows → row < first_row + b.sheet.tree.rows
-  low' row last = subst (λ (n : ℕ). row < first_row + n) rows' last
+  low' row last = subst (λ (n : ℕ). row < first_row + n) o.rows last
 
   tree : IsTreeOf s'.tree b.kind
-  tree = record {
-    of_kind = record {
-      told = subst (λ (k : Option Kind). IfSome k (λ (k : Kind). k ≡ b.kind)) (sym (ap (λ (x : Sheet). x.kind) o.rest)) f.may.case.was.kept.lawful.of_kind.told;
-      width = o.width ∙ f.may.case.was.kept.lawful.of_kind.width;
-    };
-    words = subst (λ (n : ℕ). laws.IsTree (tree_as b.kind n s'.tree)) (sym rows') (is_tree (tree_as b.kind s'.tree) f.may.new o.stands);
-  }
+  tree = record { width = o.width ∙ f.may.case.was.kept.lawful.width; words = is_tree (tree_as b.kind s'.tree) f.may.new o.stands }
 
   map_is : map_by s'.tree ≡ (acted b.kind (map_by b.sheet.tree) f.call).0
   map_is = o.map ∙ sym (ap (λ (r : List Range × Reply). r.0) f.may.answer)
@@ -292,10 +285,23 @@ module _ (f : ends.Finish) (s' : Sheet) (o : Outcome f s') where
       (let at = map_one (stamped b.number) w.gone h one in
       subst (λ (g : Held). g.stamp < b.number + 1) at.2 (omega arith)))))
 
+  -- the book of these rows, of which some are taken and others retired
+  sound : IsBook book
+  sound =
+      let was = f.may.case.was.kept.booked in
+      let free : IsBook (record { rows = b.book.rows; free = book.free ++ taken; held = b.book.held }) = subst (λ (l : List ℕ). IsBook (record { rows = b.book.rows; free = l; held = b.book.held })) (ends.progress f).free was.sound in
+      let held = retired_leave_book (record { rows = b.book.rows; free = book.free; held = b.book.held }) b.number w.gone (taken_leave_book b.book.rows book.free taken b.book.held free)
+      (All-weaker (λ (h : Held). h.stamp < b.number) (λ (h : Held). h.stamp ≤ b.number) (λ h low. omega arith) b.book.held was.stamps)
+      (λ row. (let c = ends.counts f row in let were = c.were in let once = c.once in omega arith))
+      (λ seen one.
+      (let out = was_out (row_seen seen) (ends.gone_was f (row_seen seen) (seen_some w.gone seen one)).0 in
+      record { here = out.here; not_free = λ has. out.not_free (still_free (row_seen seen) has); not_held = out.not_held })) in
+      subst IsBook (λ i. record { rows = sym (ends.progress f).rows i; free = book.free; held = sym (ends.progress f).held i }) held
+
   booked : IsBookOf s'.tree s'.lives s'.cleared book (b.number + 1)
   booked = record {
-    sound = f.may.sound;
-    rows = (ends.progress f).rows ∙ (f.may.case.was.kept.booked.rows ∙ sym rows');
+    sound = sound;
+    rows = (ends.progress f).rows ∙ (f.may.case.was.kept.booked.rows ∙ sym o.rows);
     out = out_is;
     reached = is_out;
     spare = spare;
@@ -334,16 +340,16 @@ module _ (f : ends.Finish) (s' : Sheet) (o : Outcome f s') where
 
     row_was : 1 ≤ ends.old_count f row
     row_was = subst (λ (r : ℕ). 1 ≤ ends.old_count f r) place.number
-        (counted_now (row_in place.at.word) (reached.on_level_reached t h stands (suc place.low) place.at (at_on_level t h row col (ends.has_words f) stands place 0)))
+        (counted_now (row_in place.at.word) (reached.on_level_reached t h stands (suc place.low) place.at (at_on_level t h row col (ends.words_now f) stands place 0)))
 
     child_was : 1 ≤ ends.old_count f (row_in place.child.word)
-    child_was = counted_now (row_in place.child.word) (reached.on_level_reached t h stands place.low place.child (child_on_level t h row col (ends.has_words f) stands place 0))
+    child_was = counted_now (row_in place.child.word) (reached.on_level_reached t h stands place.low place.child (child_on_level t h row col (ends.words_now f) stands place 0))
 
     child_named : place.child.word ≢ 0
-    child_named = name_some place.child.word (laws.kind_at t.kind place.low) (reached.on_level_law t h stands place.low place.child (child_on_level t h row col (ends.has_words f) stands place 0)).name.named
+    child_named = name_some place.child.word (laws.kind_at t.kind place.low) (reached.on_level_law t h stands place.low place.child (child_on_level t h row col (ends.words_now f) stands place 0)).name.named
 
     row_law : laws.IsRow t (suc place.low) place.at
-    row_law = reached.on_level_law t h stands (suc place.low) place.at (at_on_level t h row col (ends.has_words f) stands place 0)
+    row_law = reached.on_level_law t h stands (suc place.low) place.at (at_on_level t h row col (ends.words_now f) stands place 0)
 
     word_now : column t.table row col ≡ place.child.word
     word_now =
@@ -353,7 +359,7 @@ module _ (f : ends.Finish) (s' : Sheet) (o : Outcome f s') where
     word_was : (0 < col) × (col < columns b.sheet.tree.table.width) → word_at b.sheet.tree row col ≡ place.child.word
     word_was within =
         sym ((ends.progress f).kept row col (ends.old_is_not_taken f row row_was) within.0 within.1)
-        ∙ (ap (λ (v : Tree). column v.table row col) (ends.tree_is f) ∙ word_now)
+        ∙ (ap (λ (v : Rooted). column v.table row col) (ends.tree_is f) ∙ word_now)
 
     not_child : (new : Option ℕ) → IsTop w (Some h) new f.word → f.word ≢ place.child.word
     not_child None top same = child_named (sym same ∙ top)
@@ -367,8 +373,8 @@ module _ (f : ends.Finish) (s' : Sheet) (o : Outcome f s') where
         let number = ends.was_number f row row_was in
         let c = ends.counts f row in let sum = c.sum in
         let alive = is_reached_later row (let was = row_was in omega arith) in
-        let low : (0 < col) × (col < columns b.sheet.tree.table.width) = subst (λ (v : Width). (0 < col) × (col < columns v)) (ends.progress f).width (above_in s f.place (ends.place_is f) row col is_place) in (
-          o.root ∙ (ap (λ (p : Place). (with_published s.tree p f.word).root) is_place ∙ (ends.progress f).root),
+        let low : (0 < col) × (col < columns b.sheet.tree.table.width) = subst (λ (v : Width). (0 < col) × (col < columns v)) (ends.width_same f) (above_in s f.place (ends.place_is f) row col is_place) in (
+          o.root ∙ (ap (λ (p : Place). (with_published s.tree p f.word).root) is_place ∙ ends.root_same f),
           (f.may.case.was.kept.live row number.0 number.1).1 (ends.reached_was f row row_was),
           o.lives row number.0 number.1 ∙ life_if_reached s (ends.published f) row (sym (o.reached row) ∙ alive),
           (λ same. not_child new top (sym (o.at row col is_place) ∙ (same ∙ word_was low))),
@@ -406,13 +412,14 @@ module _ (f : ends.Finish) (s' : Sheet) (o : Outcome f s') where
   kept : (row col : ℕ) → (IsReached s'.tree row → IsReached b.sheet.tree row) → 0 < col → col < columns b.sheet.tree.table.width → f.place ≢ Slot row col → word_at s'.tree row col ≡ word_at b.sheet.tree row col
   kept row col old above within other =
       o.kept row col above within
-      ∙ (stored_kept f.place (ends.place_is f) row col (subst (λ (v : Width). col < columns v) (sym (ends.progress f).width) within) other
+      ∙ (stored_kept f.place (ends.place_is f) row col (subst (λ (v : Width). col < columns v) (sym (ends.width_same f)) within) other
       ∙ (ends.progress f).kept row col (not_taken_of row old) above within)
 
   -- all is done but for the parent words
   pub spliced : HasParents (tree_as b.kind s'.tree) → ((row : ℕ) → IsReached b.sheet.tree row → is_reached s'.tree row ≡ false → word_at s'.tree row 0 ≡ dead_mark row) → IsSpliced b.kind b.sheet s' b.book book b.number f.call f.reply f.place
   spliced parents marked = record {
     rest = o.rest;
+    rows = o.rows;
     tree = tree;
     parents = parents;
     map = map_is;

@@ -5,7 +5,6 @@ use Rattle.std.specs.List.{slice_get}
 use Rattle.std.proofs.lemmas.Bool.{cases_Bool}
 use Rattle.std.proofs.lemmas.Option.{slice_get_within}
 use Rattle.mt_base.specs.declared.widths.Width.{Width}
-use Rattle.mt_base.specs.declared.widths.Width.TheVariants.{Long}
 use Rattle.mt_base.specs.Width.{columns}
 use Rattle.mt_layout.specs.declared.names.RowKind.{RowKind}
 use Rattle.mt_layout.specs.declared.names.RowKind.TheVariants.{Inner}
@@ -16,10 +15,11 @@ use Rattle.mt_rows.specs.declared.rows.Life.TheVariants.{Draft, Live}
 use Rattle.mt_rows.specs.declared.rows.Place.{Place}
 use Rattle.mt_rows.specs.declared.rows.Place.TheVariants.{Root, Slot}
 use Rattle.mt_rows.specs.Spans.{Table, column, inner_kind, spans_in, root_span}
-use Rattle.mt_layout.specs.Sizes.{slots_of}
+use Rattle.mt_layout.specs.Sizes.{first_row, slots_of}
+use Rattle.mt_layout.proofs.RowSizes.{some_columns}
 use Rattle.mt_rows.specs.Levels.{Levels, is_row_of}
 use Rattle.mt_rows.specs.Laws as laws
-use Rattle.mt_rows.specs.Sheet.{Sheet, Tree, IsPlace, life_of, is_buried}
+use Rattle.mt_rows.specs.Sheet.{Rooted, Sheet, IsPlace, life_of, is_buried}
 use Rattle.mt_rows.specs.Publish.{tree_as, with_published, Published, IsPlaceToPublish}
 use Rattle.mt_rows.specs.Replacement.{root_of}
 use Rattle.mt_rows.proofs.Frames.{same_spans}
@@ -31,11 +31,13 @@ use Rattle.mt_splice.specs.Work.{Work, now}
 use Rattle.mt_splice.specs.Writes.{child_word, child_row, AreChildren}
 use Rattle.mt_splice.specs.Progress.{Before, is_taken, row_seen}
 use Rattle.mt_splice.specs.Splice.{HasParents}
-use Rattle.mt_splice.specs.Ends.{StandsAs, count_in, HoldsAs, IsEndPlace, IsTop, OnlyParents, MayTendRows, AreRowsTended, MayTendTop, MayTendTopAt, IsTopTendedAt}
+use Rattle.mt_splice.specs.Replaced.{StandsAs, count_in}
+use Rattle.mt_splice.specs.Endings.{words_of}
+use Rattle.mt_splice.specs.Ends.{HoldsAs, IsEndPlace, IsTop, OnlyParents, MayTendRows, AreRowsTended, MayTendTop, MayTendTopAt, IsTopTendedAt}
 use Rattle.mt_splice.proofs.Drafts.{other_row}
-use Rattle.mt_splice.proofs.EndTending.{kept_column, only_more, top_only, top_kept}
+use Rattle.mt_splice.proofs.EndTending.{only_width, kept_column, only_more, top_only, top_kept}
 use Rattle.mt_splice.proofs.Moments.{old_shared, old_level}
-use Rattle.mt_splice.proofs.EndTrees.{words_of, none_or_some, count_once}
+use Rattle.mt_splice.proofs.EndTrees.{none_or_some, count_once}
 use Rattle.mt_splice.proofs.EndHoles.{same_place_spans, at_on_level, top_span, top_get, slot_get}
 use Rattle.mt_splice.proofs.EndLists.{some_seen, seen_some}
 use Rattle.mt_splice.proofs.EndLevels.{is_here, here_itself, here_is, here_row, levels_at, levels_each, parents_from, parents_at, child_on, unique_parent, not_own_child}
@@ -46,9 +48,6 @@ use Rattle.mt_splice.proofs.EndFacts.{life_if_reached, root_counts, root_named}
 use Rattle.mt_splice.proofs.EndPublish as ends
 
 -- ---- the end of a replacement
-
-some_columns : (w : Width) → 0 < columns w
-some_columns Long = omega arith
 
 module _ (f : ends.Finish) where
   abbrev b : Before
@@ -276,9 +275,8 @@ module _ (f : ends.Finish) where
       pub column_is : col ≡ slot_column (slots_of later.table.width Inner) slot
       pub old : is_taken w row ≡ false
 
-    width_later : (place : Place) → (with_published s.tree place f.word).table.width ≡ s.tree.table.width
-    width_later Root = refl
-    width_later (Slot r c) = refl
+    width_later : later.table.width ≡ s.tree.table.width
+    width_later = ends.published_width s.tree f.place f.word
 
     top_in : (old : Option ℕ) (place : Place) (row col : ℕ) → f.may.old ≡ old → f.place ≡ place → place ≡ Slot row col → IsEndPlace f.start w old place → TopAt row col
     top_in old Root row col is_old is_place is at = absurd (cc)
@@ -288,7 +286,7 @@ module _ (f : ends.Finish) where
         let t : laws.Tree = now f.start w in
         let stood = stands_old h₀ is_old in
         let place = at.0 in
-        let on = at_on_level t h₀ r c (ends.has_words f) stood place 0 in
+        let on = at_on_level t h₀ r c (ends.words_now f) stood place 0 in
         let was = old_counted h₀ is_old (row_in place.at.word) (reached.on_level_reached t h₀ stood (suc place.low) place.at on) in
         let gone : passing (is_row_of (row_in place.at.word)) w.gone ≡ 0 = subst (λ (n : ℕ). passing (is_row_of n) w.gone ≡ 0) (sym place.number) at.1 in
         let c₀ = ends.counts f (row_in place.at.word) in let sum = c₀.sum in
@@ -300,16 +298,16 @@ module _ (f : ends.Finish) where
           low = place.low;
           slot = place.slot;
           at = found.1;
-          top = top_span t h₀ r c (ends.has_words f) stood place f.word;
+          top = top_span t h₀ r c (ends.words_now f) stood place f.word;
           on = subst (λ (k : ℕ). reached.OnLevel later.table h (root_of later) k found.1) same.0 found.2;
           number = found.3 ∙ (place.number ∙ rows);
           get =
               ap (λ (xs : List Span). slice_get xs place.slot) (same_place_spans later.table place.at found.1 same.1 same.2 same.3)
               ∙ ((λ i. slice_get (spans_in (with_published (ends.tree_is f i) (is_place i) f.word).table place.at) place.slot)
-              ∙ top_get t h₀ r c (ends.has_words f) stood place f.word);
+              ∙ top_get t h₀ r c (ends.words_now f) stood place f.word);
           word = refl;
           column_is = sym cols ∙ (place.column
-              ∙ (λ i. slot_column (slots_of (sym (width_later f.place ∙ ap (λ (v : Tree). v.table.width) (ends.tree_is f)) i) (kind_here place.low i)) place.slot));
+              ∙ (λ i. slot_column (slots_of (sym (width_later ∙ ap (λ (v : Rooted). v.table.width) (ends.tree_is f)) i) (kind_here place.low i)) place.slot));
           old = subst (λ (n : ℕ). is_taken w n ≡ false) (place.number ∙ rows) (ends.old_is_not_taken f (row_in place.at.word) was);
         }
       where
@@ -362,7 +360,7 @@ module _ (f : ends.Finish) where
         by h₀ is_old Root is_place at x₀ on₀ row here = inl (old_child h₀ is_old x₀ on₀ row here)
         by h₀ is_old (Slot r c) is_place at x₀ on₀ row here =
             let place = at.0 in
-            elim (slot_get (now f.start w) h₀ r c (ends.has_words f) (stands_old h₀ is_old) place f.word (suc k) x₀ y i on₀ here) [
+            elim (slot_get (now f.start w) h₀ r c (ends.words_now f) (stands_old h₀ is_old) place f.word (suc k) x₀ y i on₀ here) [
               | inl old ↦ inl (old_child h₀ is_old x₀ on₀ row old)
               | inr top ↦ inr (
                 r,
@@ -370,7 +368,7 @@ module _ (f : ends.Finish) where
                 is_place,
                 sym row ∙ top.0,
                 place.column
-                    ∙ ((λ j. slot_column (slots_of (sym (width_later f.place ∙ ap (λ (v : Tree). v.table.width) (ends.tree_is f)) j) (kind_here place.low j)) place.slot)
+                    ∙ ((λ j. slot_column (slots_of (sym (width_later ∙ ap (λ (v : Rooted). v.table.width) (ends.tree_is f)) j) (kind_here place.low j)) place.slot)
                     ∙ ap (slot_column (slots_of later.table.width Inner)) (sym top.1)),
                 ap (λ (v : Span). v.word) top.2,
               )
@@ -389,10 +387,10 @@ module _ (f : ends.Finish) where
       tree₁ = ap (λ (x : Sheet). x.tree) done.rest
 
       table₁ : s₁.tree.table ≡ later.table
-      table₁ = ap (λ (t : Tree). t.table) tree₁
+      table₁ = ap (λ (t : Rooted). t.table) tree₁
 
       rows₁ : s₁.tree.rows ≡ b.sheet.tree.rows
-      rows₁ = ap (λ (x : Sheet). x.tree.rows) done.rest ∙ ends.rows_same f
+      rows₁ = ap (λ (t : Rooted). t.rows) tree₁ ∙ (ends.published_rows s.tree f.place f.word ∙ ends.rows_same f)
 
       -- a row that is reached may be tended
       record IsReady (word : ℕ) : Type 0 where
@@ -473,7 +471,7 @@ module _ (f : ends.Finish) where
           let here = ready top.low top.top on in
           let word = top.word in
           let within = above_in f.sheet f.place (ends.place_is f) row col is in
-          let width : f.sheet.tree.table.width ≡ s₁.tree.table.width = sym (ap (λ (v : Tree). v.table.width) tree₁ ∙ width_later f.place) in
+          let width : f.sheet.tree.table.width ≡ s₁.tree.table.width = sym (ap (λ (v : Rooted). v.table.width) tree₁ ∙ width_later) in
           record {
             named = subst (λ (v : ℕ). named_row v ≡ Some (row_in v)) word here.named;
             at = subst (λ (v : ℕ). IsPlace s₁.tree (row_in v) 0) word here.at;
@@ -552,7 +550,7 @@ module _ (f : ends.Finish) where
             at_top : IsTopChild x i y → column s₃.tree.table (row_in y.word) 0 ≡ parent_at (row_in x.word) i
             at_top (row, col, is, number, column_is, word) =
                 let t : IsTopTendedAt s₂ s₃ (Slot row col) f.word = subst (λ (p : Place). IsTopTendedAt s₂ s₃ p f.word) is top in
-                let wide : slots_of s₂.tree.table.width Inner ≡ slots_of later.table.width Inner = ap (λ (v : Width). slots_of v Inner) (tended.only.width ∙ ap (λ (t : Table). t.width) table₁) in
+                let wide : slots_of s₂.tree.table.width Inner ≡ slots_of later.table.width Inner = ap (λ (v : Width). slots_of v Inner) (only_width s₁ s₂ tended.only ∙ ap (λ (t : Table). t.width) table₁) in
                 let slot : col - slots_of s₂.tree.table.width Inner ≡ i = omega arith in
                 ap (λ (v : ℕ). column s₃.tree.table (row_in v) 0) word ∙ (t.here ∙ (λ j. parent_at (sym number j) (slot j)))
 
@@ -583,8 +581,8 @@ module _ (f : ends.Finish) where
             (ends.progress f).new_parents (row_in later.root) (subst (λ (v : ℕ). is_taken w (row_in v) ≡ true) word top_taken)
         root_in None (Slot row col) is_old is at = absurd at
         root_in (Some h₀) (Slot row col) is_old is at =
-            let root : later.root ≡ b.sheet.tree.root = ap (λ (p : Place). (with_published s.tree p f.word).root) is ∙ (ends.progress f).root in
-            let before : later.root ≡ (now f.start w).root = ap (λ (p : Place). (with_published s.tree p f.word).root) is ∙ ap (λ (v : Tree). v.root) (ends.tree_is f) in
+            let root : later.root ≡ b.sheet.tree.root = ap (λ (p : Place). (with_published s.tree p f.word).root) is ∙ ends.root_same f in
+            let before : later.root ≡ (now f.start w).root = ap (λ (p : Place). (with_published s.tree p f.word).root) is ∙ ap (λ (v : Rooted). v.root) (ends.tree_is f) in
             let was = old_counted h₀ is_old (row_in (now f.start w).root) (root_counts (now f.start w) h₀ (stands_old h₀ is_old)) in
             parent_was (row_in later.root) (subst (λ (v : ℕ). 1 ≤ ends.old_count f (row_in v)) (sym before) was) (place_counted h (root_span later.table later.root) root_on)
             ∙ (ap (λ (v : ℕ). column b.sheet.tree.table (row_in v) 0) root ∙ (was_lawful h₀ is_old).root)
@@ -607,10 +605,10 @@ module _ (f : ends.Finish) where
             child_parent k i x y on (ap (λ (xs : List Span). slice_get xs i) (sym (spans₃ x)) ∙ get) ∙ ap (parent_at (row_in x.word)) first)
 
         root₃ : s₃.tree.root ≡ later.root
-        root₃ = only₃.root ∙ ap (λ (v : Tree). v.root) tree₁
+        root₃ = ap (λ (v : Rooted). v.root) only₃.tree ∙ ap (λ (v : Rooted). v.root) tree₁
 
         roots : root_of later ≡ root_of final
-        roots = λ i. root_span (record { width = sym (only₃.width ∙ ap (λ (t : Table). t.width) table₁) i; words = later.table.words }) (sym root₃ i) ∷ []
+        roots = λ i. root_span (record { width = sym (only_width s₁ s₃ only₃ ∙ ap (λ (t : Table). t.width) table₁) i; words = later.table.words }) (sym root₃ i) ∷ []
 
         pub has_parents : laws.Stands final h → HasParents final
         has_parents stood = inr (

@@ -1,5 +1,5 @@
 -- When all new rows are written and all old rows are buried, one store may publish them.
-use Rattle.std.proofs.Common.{◌≡◌, ◌≢◌, ℕ, suc, ◌+◌, ◌<◌, ◌≤◌, List, [], ◌∷◌, Option, Some, None, IfSome, Bool, true, false, nat_lt, refl, sym, ap, ◌∙◌, subst, inl, inr, arith, lt-ltb}
+use Rattle.std.proofs.Common.{◌≡◌, ◌≢◌, ℕ, suc, ◌+◌, ◌<◌, ◌≤◌, List, [], ◌∷◌, Option, Some, None, Bool, true, false, nat_lt, refl, sym, ap, ◌∙◌, subst, inl, inr, arith, lt-ltb}
 use Rattle.std.specs.Prelude.{if◌then◌else◌}
 use Rattle.std.proofs.lemmas.Bool.{cases_Bool, ltb-true}
 use Rattle.mt_base.specs.declared.kinds.Kind.{Kind}

@@ -5,6 +5,8 @@ use Rattle.mt_base.specs.declared.calls.Call.{Call}
 use Rattle.mt_base.specs.declared.replies.Reply.{Reply}
 use Rattle.mt_layout.specs.declared.names.RowKind.TheVariants.{Inner}
 use Rattle.mt_layout.specs.Rows.{row_in, dead_mark}
+use Rattle.mt_layout.specs.Sizes.{first_row}
+use Rattle.mt_free.specs.Book.{Book}
 use Rattle.mt_rows.specs.declared.rows.Life.{Life}
 use Rattle.mt_rows.specs.declared.rows.Life.TheVariants.{New, Live, Dead}
 use Rattle.mt_rows.specs.declared.rows.Place.{Place}
@@ -17,11 +19,12 @@ use Rattle.mt_rows.specs.Publish.{tree_as, is_reached, MayPublish, Published}
 use Rattle.mt_rows.proofs.Reached as reached
 use Rattle.mt_splice.specs.declared.writes.NewRow.{NewRow}
 use Rattle.mt_splice.specs.Seen.{passing}
-use Rattle.mt_splice.specs.Work.{now}
+use Rattle.mt_splice.specs.Work.{Start, now}
 use Rattle.mt_splice.specs.Writes.{child_row}
-use Rattle.mt_splice.specs.Progress.{row_seen}
+use Rattle.mt_splice.specs.Progress.{Before, row_seen}
 use Rattle.mt_splice.specs.Splice.{HasParents, IsSpliced}
-use Rattle.mt_splice.specs.Ends.{StandsAs, count_in, IsEndPlace, End, MayEnd, MayTendRows, AreRowsTended, MayTendTopAt, IsTopTendedAt}
+use Rattle.mt_splice.specs.Replaced.{StandsAs, count_in}
+use Rattle.mt_splice.specs.Ends.{IsEndPlace, MayPublishEnd, MayTendRows, AreRowsTended, MayTendTopAt, IsTopTendedAt}
 use Rattle.mt_splice.proofs.EndHoles.{at_on_level}
 use Rattle.mt_splice.proofs.EndLists.{seen_some}
 use Rattle.mt_splice.proofs.EndMade.{made_seen}
@@ -30,12 +33,6 @@ use Rattle.mt_splice.proofs.EndFacts.{life_if_buried, spliced}
 use Rattle.mt_splice.proofs.EndTending.{only_more, top_only, top_kept, top_still}
 use Rattle.mt_splice.proofs.EndParents.{parent_stays, may_tend_some, may_tend_place, has_parents}
 use Rattle.mt_splice.proofs.EndPublish as ends
-
-abbrev finish : (e : End) (s : Sheet) (new_inner_rows : List NewRow) (place : Place) (word : ℕ) (call : Call) (reply : Reply) → MayEnd e s new_inner_rows place word call reply → ends.Finish
-finish e s new_inner_rows place word call reply may = record { end = e; sheet = s; new_inner_rows = new_inner_rows; place = place; word = word; call = call; reply = reply; may = may }
-
-pub may_publish_end : (e : End) (s : Sheet) (new_inner_rows : List NewRow) (place : Place) (word : ℕ) (call : Call) (reply : Reply) → MayEnd e s new_inner_rows place word call reply → MayPublish e.before.kind s place word call reply
-may_publish_end e s new_inner_rows place word call reply may = ends.may_publish (finish e s new_inner_rows place word call reply may)
 
 -- ---- where nothing is left, no row was taken
 
@@ -55,7 +52,7 @@ none_in_slot f (Some h) row col is_old none at =
     let t : laws.Tree = now f.start f.may.work in
     let stands : laws.Stands t h = subst (StandsAs t) is_old (ends.stands_now f) in
     let place = at.0 in
-    let some : 1 ≤ count_in (is_row_of (row_in place.at.word)) t (Some h) = reached.on_level_reached t h stands (suc place.low) place.at (at_on_level t h row col (ends.has_words f) stands place 0) in
+    let some : 1 ≤ count_in (is_row_of (row_in place.at.word)) t (Some h) = reached.on_level_reached t h stands (suc place.low) place.at (at_on_level t h row col (ends.words_now f) stands place 0) in
     let here : 1 ≤ count_in (is_row_of (row_in place.at.word)) t f.may.old = subst (λ (old : Option ℕ). 1 ≤ count_in (is_row_of (row_in place.at.word)) t old) (sym is_old) some in
     let same = ends.now_count f.start f.may.work f.may.old (is_row_of (row_in place.at.word)) f.may.holds in
     let gone : passing (is_row_of (row_in place.at.word)) f.may.work.gone ≡ 0 = subst (λ (n : ℕ). passing (is_row_of n) f.may.work.gone ≡ 0) (sym place.number) at.1 in
@@ -76,14 +73,6 @@ tend_top_by : (f : ends.Finish) (s₁ : Sheet) (new : Option ℕ) (place : Place
 tend_top_by f s₁ new Root is is_place at done = tt
 tend_top_by f s₁ None (Slot row col) is is_place at done = absurd (none_in_slot f f.may.old row col refl is at)
 tend_top_by f s₁ (Some h) (Slot row col) is is_place at done = may_tend_place f h is s₁ done (Slot row col) is_place
-
-pub may_tend_rows : (e : End) (s s₁ : Sheet) (new_inner_rows : List NewRow) (place : Place) (word : ℕ) (call : Call) (reply : Reply) → MayEnd e s new_inner_rows place word call reply → Published s s₁ place word call reply → MayTendRows s₁ Inner new_inner_rows
-may_tend_rows e s s₁ new_inner_rows place word call reply may done = tend_rows_by (finish e s new_inner_rows place word call reply may) s₁ e.new refl done
-
-pub may_tend_top_now : (e : End) (s s₁ s₂ : Sheet) (new_inner_rows : List NewRow) (place : Place) (word : ℕ) (call : Call) (reply : Reply) → MayEnd e s new_inner_rows place word call reply → Published s s₁ place word call reply
-    → AreRowsTended s₁ s₂ Inner new_inner_rows → MayTendTopAt s₂ place word
-may_tend_top_now e s s₁ s₂ new_inner_rows place word call reply may done tended =
-    top_still s₁ s₂ place word tended.only (tend_top_by (finish e s new_inner_rows place word call reply may) s₁ e.new place refl refl may.at done)
 
 -- ---- all is done
 
@@ -121,15 +110,23 @@ module _ (f : ends.Finish) (s₁ s₂ s₃ : Sheet) (done : Published f.sheet s�
       ∙ (ap (λ (x : Sheet). column x.tree.table row 0) done.rest
       ∙ (parent_stays f row ∙ (ends.progress f).marks row was (ends.some_gone f row (ends.was_gone f row some none)))))
 
-pub spliced_end : (e : End) (s s₁ s₂ s₃ : Sheet) (new_inner_rows : List NewRow) (place : Place) (word : ℕ) (call : Call) (reply : Reply) → MayEnd e s new_inner_rows place word call reply → Published s s₁ place word call reply
-    → AreRowsTended s₁ s₂ Inner new_inner_rows → IsTopTendedAt s₂ s₃ place word → IsSpliced e.before.kind e.before.sheet s₃ e.before.book e.book e.before.number call reply place
-spliced_end e s s₁ s₂ s₃ new_inner_rows place word call reply may done tended top =
-    let f = finish e s new_inner_rows place word call reply may in
-    let only = only_more s₁ s₂ s₃ tended.only (top_only s₂ s₃ place word top) in
-    let o = outcome (finish e s new_inner_rows place word call reply may) s₁ s₃ done only in
-    let rows : e.before.sheet.tree.rows ≡ s₃.tree.rows = sym (ap (λ (x : Sheet). x.tree.rows) o.rest) in
-    spliced (finish e s new_inner_rows place word call reply may) s₃ o
-    (parents_by (finish e s new_inner_rows place word call reply may) s₁ s₂ s₃ e.new refl done tended top (subst (λ (n : ℕ). StandsAs (tree_as e.before.kind n s₃.tree) e.new) rows o.stands))
-    (λ row was not.
-    marked_end f s₁ s₂ s₃ done (may_tend_rows e s s₁ new_inner_rows place word call reply may done) tended (may_tend_top_now e s s₁ s₂ new_inner_rows place word call reply may done tended) top
-    row was (ends.later_unreached f row (sym (o.reached row) ∙ not)))
+-- ---- from what was asked to what is left
+
+module _ {b : Before} {start : Start} {s : Sheet} {book : Book} {inner : List NewRow} {place : Place} {word : ℕ} {call : Call} {reply : Reply} (may : MayPublishEnd b start s book inner place word call reply) where
+  abbrev f : ends.Finish
+  f = record { before = b; start = start; sheet = s; book = book; inner = inner; place = place; word = word; call = call; reply = reply; may = may }
+
+  pub may_publish_end : MayPublish b.kind s place word call reply
+  may_publish_end = ends.may_publish f
+
+  pub may_tend_rows : {s₁ : Sheet} → Published s s₁ place word call reply → MayTendRows s₁ Inner inner
+  may_tend_rows {s₁} done = tend_rows_by f s₁ may.new refl done
+
+  pub may_tend_top_now : {s₁ s₂ : Sheet} → Published s s₁ place word call reply → AreRowsTended s₁ s₂ Inner inner → MayTendTopAt s₂ place word
+  may_tend_top_now {s₁} {s₂} done tended = top_still s₁ s₂ place word tended.only (tend_top_by f s₁ may.new place refl refl may.at done)
+
+  pub spliced_end : {s₁ s₂ s₃ : Sheet} → Published s s₁ place word call reply → AreRowsTended s₁ s₂ Inner inner → IsTopTendedAt s₂ s₃ place word → IsSpliced b.kind b.sheet s₃ b.book book b.number call reply place
+  spliced_end {s₁} {s₂} {s₃} done tended top =
+      let o = outcome f s₁ s₃ done (only_more s₁ s₂ s₃ tended.only (top_only s₂ s₃ place word top)) in
+      spliced f s₃ o (parents_by f s₁ s₂ s₃ may.new refl done tended top o.stands)
+      (λ row was not. marked_end f s₁ s₂ s₃ done (may_tend_rows done) tended (may_tend_top_now done tended) top row was (ends.later_unreached f row (sym (o.reached row) ∙ not)))

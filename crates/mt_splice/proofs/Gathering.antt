@@ -20,7 +20,7 @@ module _ (slots gaps : ℕ) (w : List ℕ) (base max : ℕ) where
     | inr more ↦ let rest = few_items (suc left) (i + 1) in rw more (omega arith)
   ]
 
-  drop_from : (k left i : ℕ) → k < length (items_from slots gaps w base max left i) → drop k (items_from slots gaps w base max left i) ≡ items_from slots gaps w base max (left - k) (i + k)
+  pub drop_from : (k left i : ℕ) → k < length (items_from slots gaps w base max left i) → drop k (items_from slots gaps w base max left i) ≡ items_from slots gaps w base max (left - k) (i + k)
   drop_from zero left i below = let same : i + 0 ≡ i = omega arith in let all : left - 0 ≡ left = omega arith in rw (same, all) refl
   drop_from (suc k) zero i below = absurd (omega arith)
   drop_from (suc k) (suc zero) i below = absurd (omega arith)

@@ -1,100 +1,110 @@
--- The leaves at a store's ends, and their items one behind the other.
-use Rattle.std.proofs.Common.{◌≡◌, ℕ, ◌+◌, ◌*◌, ◌-◌, ◌<◌, ◌≤◌, ◌==◌, ◌++◌, List, [], ◌∷◌, Bool, true, false, length, nat_lt, refl, sym, ap, ◌∙◌, subst, inl, inr, arith, length-append}
-use Rattle.std.specs.Prelude.{if◌then◌else◌}
+-- The leaves at a store's ends: where they stand, and what is made of what stands in them below the store and above it.
+use Rattle.std.proofs.Common.{◌≡◌, ◌≢◌, ℕ, suc, ◌+◌, ◌*◌, ◌-◌, ◌<◌, ◌≤◌, ◌==◌, ◌++◌, List, [], ◌∷◌, Bool, true, false, length, nat_lt, take, drop, fold, refl, sym, ap, ◌∙◌, subst, inl, inr, arith}
+use Rattle.std.specs.Prelude.{slice_index, if◌then◌else◌}
 use Rattle.std.proofs.lemmas.Bool.{cases_Bool, eqb-true, eqb-false, ltb-true, ltb-false}
-use Rattle.mt_base.specs.declared.kinds.Kind.TheVariants as trees
+use Rattle.std.proofs.lemmas.List.Folds.{length-prefix_len}
+use Rattle.mt_base.specs.declared.kinds.Kind.{Kind}
+use Rattle.mt_base.specs.Width.{deepest}
 use Rattle.mt_layout.specs.declared.items.Item.{Item}
 use Rattle.mt_layout.specs.declared.names.RowKind.TheVariants.{Leaf}
 use Rattle.mt_layout.specs.declared.spans.Span.{Span}
 use Rattle.mt_layout.specs.Rows.{row_in, named_kind}
-use Rattle.mt_layout.specs.Columns.{end_of}
-use Rattle.mt_layout.specs.Spans.{Fills, spans_from}
+use Rattle.mt_layout.specs.Columns.{RiseFrom, slot_column, gap_at, item_at}
+use Rattle.mt_layout.specs.Sizes.{first_row, slots_of, gaps_of, run_room}
+use Rattle.mt_layout.specs.Spans.{Fills, spans_from, Apart}
 use Rattle.mt_layout.proofs.NameLaws.{Names-named_kind}
-use Rattle.mt_leaf.specs.Edits.{starting}
-use Rattle.mt_leaf.proofs.Spans.{spans_from-append}
-use Rattle.mt_rows.specs.Spans.{root_span, base_of}
-use Rattle.mt_layout.specs.Sizes.{slots_of, gaps_of}
-use Rattle.mt_base.specs.Width.{deepest}
+use Rattle.mt_layout.proofs.RowSizes.{sizes}
+use Rattle.mt_layout.proofs.SpanLists.{after, after_some, fills_after, fills_rise, length-spans_from, spans-append}
+use Rattle.mt_leaf.specs.Edits.{spans_below, spans_above, span_stored, stored, joined, edited, starting}
+use Rattle.mt_leaf.specs.Places.{slot_reaching, slot_above, first_of, with_joined, items_below}
+use Rattle.mt_leaf.proofs.Counts.{stored_two}
+use Rattle.mt_leaf.proofs.EditSteps.{item_stored, items_below-spans, after-items_below, items_above-spans}
+use Rattle.mt_leaf.proofs.Pushes.{pushed_onto}
+use Rattle.mt_rows.specs.Spans.{Table, root_span, base_of, spans_in}
 use Rattle.mt_rows.specs.Laws.{Tree, IsTree, IsRow, Stands, top_of}
-use Rattle.mt_rows.specs.Sheet.{Sheet}
+use Rattle.mt_rows.specs.Sheet.{Rooted, Sheet, word_at}
 use Rattle.mt_rows.specs.Publish.{tree_as}
-use Rattle.mt_rows.proofs.Lists.{fills-append}
 use Rattle.mt_rows.proofs.Reached.{one_of_parts, one_place}
 use Rattle.mt_path.specs.declared.paths.PathStep.{PathStep}
-use Rattle.mt_path.specs.Paths.{path_in, step_at, step_in, At}
-use Rattle.mt_path.proofs.Places.{at_once}
-use Rattle.mt_path.proofs.Entering.{path_of_none}
-use Rattle.mt_path.proofs.TreePaths.{row_of, rows_at, step, place, lawful, levels, rows_fill, right_begins}
-use Rattle.mt_splice.specs.Splice.{region_of}
+use Rattle.mt_path.specs.Paths.{slot_for, path_in, step_at, step_in, At}
 use Rattle.mt_path.specs.Handles.{last_step, leaf_spans}
-use Rattle.mt_splice.specs.Regions.{AreEnds, IsRunOver, leaf_items, leaves_items}
-use Rattle.mt_splice.proofs.Sizes.{leaf_slots}
-use Rattle.mt_splice.proofs.Gathering.{few_items}
-use Rattle.mt_splice.proofs.LevelRows.{fills_end, fills_rise}
+use Rattle.mt_path.proofs.Places.{at_once}
+use Rattle.mt_path.proofs.Steps.{path_of_none}
+use Rattle.mt_path.proofs.TreePaths.{row_of, rows_at, step_of, step, place, lawful, levels, slot_used, rows_fill, right_begins}
+use Rattle.mt_splice.specs.Splice.{region_of}
+use Rattle.mt_splice.specs.Regions.{AreEnds, IsLeafStep, leaf_items}
+use Rattle.mt_splice.proofs.Gathering.{few_items, drop_from}
+use Rattle.mt_splice.proofs.LeafItems.{leaf_gaps, spans-prefix, first_of-take, first_reaching, length-items_below, apart_below, whole_below, part_below, item_in}
 use Rattle.mt_splice.proofs.PathRows.{rows_in_order, spans_of_step}
 
--- ---- the leaves at a store's ends
-
-some_filled : (lo hi begin : ℕ) (items : List Item) → lo < hi → Fills lo hi (spans_from begin items) → 1 ≤ length items
-some_filled lo hi begin [] wide fills = let same : lo ≡ hi = fills in absurd (omega arith)
-some_filled lo hi begin (x ∷ items) wide fills = omega arith
-
-fill_later : (lo lo' hi : ℕ) (items : List Item) → lo' ≤ lo → lo < hi → Fills lo hi (spans_from lo items) → Fills lo' hi (spans_from lo' items)
-fill_later lo lo' hi [] below wide fills = let same : lo ≡ hi = fills in absurd (omega arith)
-fill_later lo lo' hi (x ∷ items) below wide fills = let from = fills.1 in (refl, omega arith, fills.2)
-
-later_starts : (lo begin : ℕ) (items : List Item) → spans_from lo items ≡ starting lo (spans_from begin items)
-later_starts lo begin [] = refl
-later_starts lo begin (x ∷ items) = refl
+-- ---- the leaf of an index
 
 module _ (t : Tree) (h : ℕ) (stands : Stands t h) where
-  module _ (path : List PathStep) (index : ℕ) (inside : index ≤ top_of t) (is : path ≡ path_in t.table t.root index) where
-    abbrev leaf : Span
-    leaf = row_of t h index
+  module _ (leaf : PathStep) (index : ℕ) (inside : index ≤ top_of t) (is : leaf ≡ last_step (path_in t.table t.root index)) where
+    abbrev x : Span
+    x = row_of t h index
 
-    abbrev end : PathStep
-    end = last_step path
+    abbrev items : List Item
+    items = leaf_items t.table leaf
 
-    law : IsRow t 0 leaf
+    law : IsRow t 0 x
     law = lawful t h stands index h 0 inside (omega arith)
 
-    end_is : end ≡ step_in t.table leaf index
-    end_is =
-        let long : length path - 1 ≡ h = (let all = ap length is in let many = levels t h stands index inside in omega arith) in
-        ap (step_at path) long ∙ (ap (λ (l : List PathStep). step_at l h) is ∙ step t h stands index h inside (omega arith))
+    at_end : leaf ≡ step_of t h index
+    at_end = let long : length (path_in t.table t.root index) - 1 ≡ h = (let many = levels t h stands index inside in omega arith) in is ∙ ap (step_at (path_in t.table t.root index)) long
 
-    long_path : 1 ≤ length path
-    long_path = let all = ap length is in let many = levels t h stands index inside in omega arith
+    end_is : leaf ≡ step_in t.table x index
+    end_is = at_end ∙ step t h stands index h inside (omega arith)
 
-    end_row : (first_row ≤ end.row) × (end.row < first_row + t.rows)
-    end_row = subst (λ (s : PathStep). (first_row ≤ s.row) × (s.row < first_row + t.rows)) (sym end_is) ((Names-named_kind leaf.word Leaf law.name.named).0.0, law.name.in_table)
+    spans_are : leaf_spans t.table leaf ≡ spans_in t.table x
+    spans_are = spans_of_step t.table x Leaf leaf index law.name.named end_is t.table
 
-    end_at : At 0 (top_of t + 1) (rows_at t h) index leaf
+    end_at : At 0 (top_of t + 1) (rows_at t h) index x
     end_at = place t h stands index h inside (omega arith)
 
-    end_fills : Fills end.min (end.max + 1) (spans_from end.min (leaf_items t.table end))
-    end_fills =
-        subst (λ (s : PathStep). Fills s.min (s.max + 1) (leaf_spans t.table s)) (sym end_is)
-        (subst (Fills leaf.first (leaf.last + 1)) (sym (spans_of_step t.table leaf Leaf (step_in t.table leaf index) index law.name.named refl t.table)) law.pivots.fills)
+    end_row : (first_row ≤ leaf.row) × (leaf.row < first_row + t.rows)
+    end_row = subst (λ (s : PathStep). (first_row ≤ s.row) × (s.row < first_row + t.rows)) (sym end_is) ((Names-named_kind x.word Leaf law.name.named).0.0, law.name.in_table)
 
-    end_min : end.min ≡ leaf.first
+    end_min : leaf.min ≡ x.first
     end_min = ap (λ (s : PathStep). s.min) end_is
 
-    end_max : end.max ≡ leaf.last
+    end_max : leaf.max ≡ x.last
     end_max = ap (λ (s : PathStep). s.max) end_is
 
-    few_at_end : length (leaf_items t.table end) ≤ 16
-    few_at_end = subst (λ (n : ℕ). length (leaf_items t.table end) ≤ n) (leaf_slots t.table.width) (few_items (slots_of t.table.width Leaf) (gaps_of t.table.width Leaf) t.table.words (base_of t.table end.row) end.max (slots_of t.table.width Leaf) 0)
+    end_holds : (leaf.min ≤ index) × (index ≤ leaf.max)
+    end_holds = let min = end_min in let max = end_max in let from = end_at.from in let to = end_at.to in (omega arith, omega arith)
 
-  module _ (left right : List PathStep) (first last : ℕ) (order : first ≤ last) (within : last ≤ top_of t) (is_left : left ≡ path_in t.table t.root first) (is_right : right ≡ path_in t.table t.root last) where
+    end_fills : Fills leaf.min (leaf.max + 1) (spans_from leaf.min items)
+    end_fills =
+        subst (λ (ends : ℕ × ℕ). Fills ends.0 ends.1 (leaf_spans t.table leaf)) (λ k. (sym end_min k, sym end_max k + 1)) (subst (Fills x.first (x.last + 1)) (sym spans_are) law.pivots.fills)
+
+    end_rise : RiseFrom leaf.min items
+    end_rise = fills_rise leaf.min (leaf.max + 1) items end_fills
+
+    end_apart : Apart (spans_from leaf.min items)
+    end_apart = subst Apart (sym spans_are) law.holes.apart
+
+    end_few : length items ≤ slots_of t.table.width Leaf
+    end_few = few_items (slots_of t.table.width Leaf) (gaps_of t.table.width Leaf) t.table.words (base_of t.table leaf.row) leaf.max (slots_of t.table.width Leaf) 0
+
+    end_slot : leaf.slot ≡ slot_reaching items index
+    end_slot =
+        ap (λ (s : PathStep). s.slot) end_is
+        ∙ (ap (λ (xs : List Span). slot_for xs index) (sym spans_are)
+        ∙ (length-prefix_len (λ (y : Span). nat_lt y.last index) (spans_from leaf.min items) ∙ spans-prefix (λ (last : ℕ). nat_lt last index) leaf.min items))
+
+    end_used : leaf.slot < length items
+    end_used =
+        let used = slot_used t h stands index h inside (omega arith) in
+        let slot = ap (λ (s : PathStep). s.slot) at_end in
+        let many = ap length spans_are in let same = length-spans_from leaf.min items in
+        omega arith
+
+  -- ---- the leaves at the ends of a store
+
+  module _ (l r : PathStep) (first last : ℕ) (order : first ≤ last) (within : last ≤ top_of t) (is_left : l ≡ last_step (path_in t.table t.root first)) (is_right : r ≡ last_step (path_in t.table t.root last)) where
     abbrev from_within : first ≤ top_of t
     from_within = omega arith
-
-    abbrev l : PathStep
-    l = last_step left
-
-    abbrev r : PathStep
-    r = last_step right
 
     abbrev left_leaf : Span
     left_leaf = row_of t h first
@@ -103,11 +113,12 @@ module _ (t : Tree) (h : ℕ) (stands : Stands t h) where
     right_leaf = row_of t h last
 
     abbrev left_at : At 0 (top_of t + 1) (rows_at t h) first left_leaf
-    left_at = end_at left first from_within is_left
+    left_at = end_at l first from_within is_left
 
     abbrev right_at : At 0 (top_of t + 1) (rows_at t h) last right_leaf
-    right_at = end_at right last within is_right
+    right_at = end_at r last within is_right
 
+    -- one row number is one leaf
     same_leaf : row_in left_leaf.word ≡ row_in right_leaf.word → left_leaf ≡ right_leaf
     same_leaf same =
         (one_place t h stands 0 0 left_leaf right_leaf
@@ -127,101 +138,166 @@ module _ (t : Tree) (h : ℕ) (stands : Stands t h) where
           absurd (apart (sym (at_once 0 (top_of t + 1) (rows_at t h) last right_leaf right_at left_at.front left_leaf left_at.back (rows_fill t h stands h (omega arith)) left_at.parts (omega arith) (omega arith)).1)))
     ]
 
-    run_over : (run : List Item) (hi : ℕ) → Fills l.min hi (spans_from l.min run) → last < hi → length run ≤ 2 * slots_of t.table.width Leaf → IsRunOver t.table.width l.min run first last
-    run_over run hi fills to few =
-        let from = left_at.from in let min = end_min left first from_within is_left in
-        let some = some_filled l.min hi l.min run (omega arith) fills in
-        let end = fills_end l.min l.min hi 0 run some fills in
-        record { some = some; few = few; rise = fills_rise l.min hi run fills; from = omega arith; to = omega arith }
-
-    few_left : length (leaf_items t.table l) ≤ 16
-    few_left = few_at_end left first from_within is_left
-
-    few_right : length (leaf_items t.table r) ≤ 16
-    few_right = few_at_end right last within is_right
-
-    two_leaves : (left_leaf ≡ right_leaf → ⊥)
-        → (spans_from l.min (leaf_items t.table l ++ leaf_items t.table r) ≡ leaf_spans t.table l ++ starting (l.max + 1) (leaf_spans t.table r)) × IsRunOver t.table.width l.min (leaf_items t.table l ++ leaf_items t.table r) first last
-    two_leaves apart =
-        let sorted = in_order apart in
-        let from = left_at.from in let to = left_at.to in let from' = right_at.from in let to' = right_at.to in
-        let min = end_min left first from_within is_left in let max = end_max left first from_within is_left in
-        let min' = end_min right last within is_right in let max' = end_max right last within is_right in
-        let own = end_fills left first from_within is_left in
-        let some = some_filled l.min (l.max + 1) l.min (leaf_items t.table l) (omega arith) own in
-        let end : l.max + 1 ≡ end_of 0 (leaf_items t.table l) + 1 = fills_end l.min l.min (l.max + 1) 0 (leaf_items t.table l) some own in
-        let behind = fill_later r.min (l.max + 1) (r.max + 1) (leaf_items t.table r) (omega arith) (omega arith) (end_fills right last within is_right) in
-        let joined = spans_from-append l.min (leaf_items t.table l) (leaf_items t.table r) some ∙ ap (λ (n : ℕ). leaf_spans t.table l ++ spans_from n (leaf_items t.table r)) (sym end) in
-        let all = fills-append l.min (l.max + 1) (r.max + 1) (leaf_spans t.table l) (spans_from (l.max + 1) (leaf_items t.table r)) own behind in
-        let count = length-append (leaf_items t.table l) (leaf_items t.table r) in
-        let few = few_left in let few' = few_right in let slots = leaf_slots t.table.width in (
-          joined ∙ ap (λ (xs : List Span). leaf_spans t.table l ++ xs) (later_starts (l.max + 1) r.min (leaf_items t.table r)),
-          run_over (leaf_items t.table l ++ leaf_items t.table r) (r.max + 1) (subst (Fills l.min (r.max + 1)) (sym joined) all) (omega arith) (omega arith),
-        )
-
-    one_leaf : left_leaf ≡ right_leaf → IsRunOver t.table.width l.min (leaf_items t.table l) first last
-    one_leaf same =
-        let lasts = ap (λ (x : Span). x.last) same in
-        let max = end_max left first from_within is_left in
-        let to = right_at.to in
-        let few = few_left in let slots = leaf_slots t.table.width in
-        run_over (leaf_items t.table l) (l.max + 1) (end_fills left first from_within is_left) (omega arith) (omega arith)
-
     row_left : l.row ≡ row_in left_leaf.word
-    row_left = ap (λ (s : PathStep). s.row) (end_is left first from_within is_left)
+    row_left = ap (λ (s : PathStep). s.row) (end_is l first from_within is_left)
 
     row_right : r.row ≡ row_in right_leaf.word
-    row_right = ap (λ (s : PathStep). s.row) (end_is right last within is_right)
+    row_right = ap (λ (s : PathStep). s.row) (end_is r last within is_right)
 
-    spans_by_case : (b : Bool) → (l.row == r.row) ≡ b
-        → (spans_from l.min (if b then leaf_items t.table l else leaf_items t.table l ++ leaf_items t.table r) ≡ (if b then leaf_spans t.table l else leaf_spans t.table l ++ starting (l.max + 1) (leaf_spans t.table r)))
-        × IsRunOver t.table.width l.min (if b then leaf_items t.table l else leaf_items t.table l ++ leaf_items t.table r) first last
-    spans_by_case true same = (refl, one_leaf (same_leaf (sym row_left ∙ (eqb-true l.row r.row same ∙ row_right))))
-    spans_by_case false other = two_leaves (λ same. eqb-false l.row r.row other (row_left ∙ (ap (λ (x : Span). row_in x.word) same ∙ sym row_right)))
+    abbrev left_spans : List Span
+    left_spans = leaf_spans t.table l
 
-    region_of_some : (path : List PathStep) → 1 ≤ length path → region_of t.table path right ≡ (if (last_step path).row == r.row then leaf_spans t.table (last_step path) else leaf_spans t.table (last_step path) ++ starting ((last_step path).max + 1) (leaf_spans t.table r))
-    region_of_some [] some = absurd (omega arith)
-    region_of_some (s ∷ path) some = refl
+    abbrev right_spans : List Span
+    right_spans = leaf_spans t.table r
 
-    pub spans_are : (spans_from l.min (leaves_items t.table l r) ≡ region_of t.table left right) × IsRunOver t.table.width l.min (leaves_items t.table l r) first last
-    spans_are =
-        let both = spans_by_case (l.row == r.row) refl in
-        (both.0 ∙ sym (region_of_some left (long_path left first from_within is_left)), both.1)
+    -- the spans of the region
+    abbrev region : Bool → List Span
+    region b = if b then left_spans else left_spans ++ starting (l.max + 1) right_spans
 
--- ---- as the paths are told
+    stored_there : (entry : ℕ) (b : Bool) → (l.row == r.row) ≡ b → spans_below left_spans first ++ (span_stored first last entry ∷ spans_above right_spans last) ≡ stored (region b) first last entry
+    stored_there entry true same =
+        let one = same_leaf (sym row_left ∙ (eqb-true l.row r.row same ∙ row_right)) in
+        let spans : right_spans ≡ left_spans = spans_are r last within is_right ∙ (ap (spans_in t.table) (sym one) ∙ sym (spans_are l first from_within is_left)) in
+        ap (λ (xs : List Span). spans_below left_spans first ++ (span_stored first last entry ∷ spans_above xs last)) spans
+    stored_there entry false other =
+        let apart = in_order (λ same. eqb-false l.row r.row other (row_left ∙ (ap (λ (y : Span). row_in y.word) same ∙ sym row_right))) in
+        let min = end_min r last within is_right in let max = end_max l first from_within is_left in
+        let holds = end_holds l first from_within is_left in let holds' = end_holds r last within is_right in
+        let low = holds.1 in let from = holds'.0 in let to = holds'.1 in
+        sym
+        (stored_two l.min (l.max + 1) r.min (r.max + 1) first last entry left_spans right_spans (end_fills l first from_within is_left) (end_fills r last within is_right) (omega arith) (omega arith) from
+        (omega arith))
 
-pub some_path : (path : List PathStep) → (length path == 0) ≡ false → 1 ≤ length path
-some_path path some = let other = eqb-false (length path) 0 some in omega (arith, other)
+    -- what stands below the store, its item, and what stands above it, pushed one behind the other
+    module _ (entry : ℕ) (below above made : List Item) (is_below : below ≡ items_below l.min (leaf_items t.table l) first) (is_above : above ≡ drop (slot_above (leaf_items t.table r) last) (leaf_items t.table r))
+        (is_made : made ≡ fold with_joined (with_joined below (item_stored last entry)) above) where
+      abbrev item : Item
+      item = item_stored last entry
 
-pub no_path : (path : List PathStep) → (length path == 0) ≡ true → path ≡ []
-no_path [] none = refl
-no_path (x ∷ path) none = let zero' = eqb-true (length (x ∷ path)) 0 none in absurd (omega arith)
+      below_ends : after l.min below ≡ first
+      below_ends =
+          let holds = end_holds l first from_within is_left in
+          let from = holds.0 in let to = holds.1 in
+          let end = fills_after l.min (l.max + 1) (leaf_items t.table l) (end_fills l first from_within is_left) in
+          ap (after l.min) is_below ∙ after-items_below l.min first (leaf_items t.table l) (end_rise l first from_within is_left) from (omega arith)
 
-stands_on : (s : Sheet) (left right : List PathStep) (first last : ℕ) → AreEnds s left right first last → 1 ≤ length left → (h : ℕ) × Stands (tree_as trees.Range s.tree) h
-stands_on s left right first last ends some = by ends.tree.words
-  where
-    by : IsTree (tree_as trees.Range s.tree) → (h : ℕ) × Stands (tree_as trees.Range s.tree) h
-    by (inl empty) = let none = ap length (ends.left_path ∙ path_of_none s.tree.table deepest (root_span s.tree.table s.tree.root) first (ap named_kind empty)) in absurd (omega arith)
-    by (inr stands) = stands
+      spans_of_below : spans_from l.min below ≡ spans_below left_spans first
+      spans_of_below = ap (spans_from l.min) is_below ∙ items_below-spans l.min first (leaf_items t.table l) (end_rise l first from_within is_left)
 
--- what is known where the left path has a step
-pub record AreLeaves (s : Sheet) (left right : List PathStep) (first last : ℕ) : Type 0 where
-  pub some : 1 ≤ length right
-  pub left_row : (first_row ≤ (last_step left).row) × ((last_step left).row < first_row + s.tree.rows)
-  pub right_row : (first_row ≤ (last_step right).row) × ((last_step right).row < first_row + s.tree.rows)
-  pub spans : spans_from (last_step left).min (leaves_items s.tree.table (last_step left) (last_step right)) ≡ region_of s.tree.table left right
-  pub fit : IsRunOver s.tree.table.width (last_step left).min (leaves_items s.tree.table (last_step left) (last_step right)) first last
+      spans_of_above : spans_from (last + 1) above ≡ spans_above right_spans last
+      spans_of_above =
+          let from = (end_holds r last within is_right).0 in
+          ap (spans_from (last + 1)) is_above ∙ items_above-spans r.min last (leaf_items t.table r) (end_rise r last within is_right) (omega arith)
 
-pub leaves_are : (s : Sheet) (left right : List PathStep) (first last : ℕ) → AreEnds s left right first last → (length left == 0) ≡ false → AreLeaves s left right first last
-leaves_are s left right first last ends some =
-    let t = tree_as trees.Range s.tree in
-    let tree = stands_on s left right first last ends (some_path left some) in
-    let order = ends.order in let within = ends.within in
-    let all = spans_are t tree.0 tree.1 left right first last ends.order ends.within ends.left_path ends.right_path in
-    record {
-      some = long_path t tree.0 tree.1 right last ends.within ends.right_path;
-      left_row = end_row t tree.0 tree.1 left first (omega arith) ends.left_path;
-      right_row = end_row t tree.0 tree.1 right last ends.within ends.right_path;
-      spans = all.0;
-      fit = all.1;
+      all_spans : spans_from l.min (below ++ (item ∷ above)) ≡ stored (region (l.row == r.row)) first last entry
+      all_spans =
+          spans-append l.min below (item ∷ above) ∙ ((λ k. spans_of_below k ++ (span_stored (below_ends k) last entry ∷ spans_of_above k)) ∙ stored_there entry (l.row == r.row) refl)
+
+      made_spans : spans_from l.min made ≡ edited (region (l.row == r.row)) first last entry
+      made_spans =
+          let apart = subst (λ (xs : List Item). Apart (spans_from l.min xs)) (sym is_below) (apart_below l.min first (leaf_items t.table l) (end_apart l first from_within is_left)) in
+          ap (spans_from l.min) is_made ∙ (pushed_onto l.min below (item ∷ above) apart ∙ ap joined all_spans)
+
+-- ---- a step that is told to be a leaf's
+
+stands_as : (t : Rooted) (kind : Kind) → t.root ≢ 0 → IsTree (tree_as kind t) → (h : ℕ) × Stands (tree_as kind t) h
+stands_as t kind some (inl empty) = absurd (some empty)
+stands_as t kind some (inr stands) = stands
+
+module _ {t : Rooted} {leaf : PathStep} {index : ℕ} (is : IsLeafStep t leaf index) where
+  abbrev tree : Tree
+  tree = tree_as is.kind t
+
+  abbrev items_there : List Item
+  items_there = leaf_items t.table leaf
+
+  abbrev slots : ℕ
+  slots = slots_of t.table.width Leaf
+
+  there : (h : ℕ) × Stands tree h
+  there = stands_as t is.kind is.some is.tree.words
+
+  pub leaf_row : (first_row ≤ leaf.row) × (leaf.row < first_row + t.rows)
+  leaf_row = end_row tree there.0 there.1 leaf index is.within is.is
+
+  pub leaf_slot : leaf.slot ≡ slot_reaching items_there index
+  leaf_slot = end_slot tree there.0 there.1 leaf index is.within is.is
+
+  pub leaf_used : leaf.slot < length items_there
+  leaf_used = end_used tree there.0 there.1 leaf index is.within is.is
+
+  pub leaf_few : length items_there ≤ slots
+  leaf_few = end_few tree there.0 there.1 leaf index is.within is.is
+
+  pub leaf_rise : RiseFrom leaf.min items_there
+  leaf_rise = end_rise tree there.0 there.1 leaf index is.within is.is
+
+  leaf_from : leaf.min ≤ index
+  leaf_from = (end_holds tree there.0 there.1 leaf index is.within is.is).0
+
+  pub slot_fits : leaf.slot < slots
+  slot_fits = let used = leaf_used in let few = leaf_few in omega arith
+
+  -- the items before the slot are read
+  module _ {run : List Item} (read : run ≡ take leaf.slot items_there) where
+    pub first_there : first_of leaf.min run leaf.slot ≡ first_of leaf.min items_there (slot_reaching items_there index)
+    first_there = ap (λ (xs : List Item). first_of leaf.min xs leaf.slot) read ∙ (first_of-take leaf.min leaf.slot items_there ∙ ap (first_of leaf.min items_there) leaf_slot)
+
+    pub first_low : first_of leaf.min run leaf.slot ≤ index
+    first_low = let low = first_reaching leaf.min index items_there leaf_from in let same = first_there in omega arith
+
+    pub read_whole : index ≤ first_of leaf.min run leaf.slot → run ≡ items_below leaf.min items_there index
+    read_whole from = read ∙ (ap (λ (k : ℕ). take k items_there) leaf_slot ∙ whole_below leaf.min index items_there (let same = first_there in omega arith))
+
+    -- and the word of the slot
+    pub read_part : {run' : List Item} {word : ℕ} → first_of leaf.min run leaf.slot < index → word ≡ word_at t leaf.row (slot_column slots leaf.slot) → run' ≡ run ++ (record { last = index - 1; word = word; gap = 0 } ∷ [])
+        → run' ≡ items_below leaf.min items_there index
+    read_part {run'} {word} from is_word pushed =
+        let left : 1 ≤ slots - leaf.slot = (let fits = slot_fits in omega arith) in
+        let gaps = gaps_of t.table.width Leaf in
+        let here = item_in slots gaps t.table.words (base_of t.table leaf.row) leaf.max (slots - leaf.slot) (0 + leaf.slot) left in
+        let slot : 0 + leaf.slot ≡ leaf.slot = omega arith in
+        let parts = drop_from slots gaps t.table.words (base_of t.table leaf.row) leaf.max leaf.slot slots 0 leaf_used ∙ here.2 in
+        let none : gap_at slots gaps t.table.words (base_of t.table leaf.row) (0 + leaf.slot) ≡ 0 =
+        ap (λ (n : ℕ). gap_at slots n t.table.words (base_of t.table leaf.row) (0 + leaf.slot)) (leaf_gaps t.table.width) in
+        let words : word ≡ slice_index t.table.words (base_of t.table leaf.row + slot_column slots (0 + leaf.slot)) = is_word ∙ ap (λ (k : ℕ). slice_index t.table.words (base_of t.table leaf.row + slot_column slots k)) (sym slot) in
+        pushed
+        ∙ ((λ k. read k ++ (record { last = index - 1; word = words k; gap = sym none k } ∷ []))
+        ∙ (ap (λ (n : ℕ). take n items_there ++ (record (item_at slots gaps t.table.words (base_of t.table leaf.row) (0 + leaf.slot) here.0) { last = index - 1 } ∷ [])) leaf_slot
+        ∙ part_below leaf.min index items_there here.1 (item_at slots gaps t.table.words (base_of t.table leaf.row) (0 + leaf.slot) here.0) (let same = first_there in omega arith)
+        (subst (λ (n : ℕ). drop n items_there ≡ item_at slots gaps t.table.words (base_of t.table leaf.row) (0 + leaf.slot) here.0 ∷ here.1) leaf_slot parts)))
+
+-- ---- the ends of a store
+
+module _ {kind : Kind} {t : Rooted} {left right : List PathStep} {first last : ℕ} (ends : AreEnds kind t left right first last) where
+  -- no path leads into the empty tree
+  no_path : t.root ≡ 0 → (index : ℕ) → path_in t.table t.root index ≡ []
+  no_path empty index = path_of_none t.table deepest (root_span t.table t.root) index (ap named_kind empty)
+
+  module _ (some : left ≢ []) where
+    pub root_there : t.root ≢ 0
+    root_there = λ empty. some (ends.left_path ∙ no_path empty first)
+
+    pub left_leaf_step : {l : PathStep} → l ≡ last_step left → IsLeafStep t l first
+    left_leaf_step is = record {
+      kind = kind;
+      tree = ends.tree;
+      some = root_there;
+      within = (let order = ends.order in let within = ends.within in omega arith);
+      is = is ∙ ap last_step ends.left_path;
     }
+
+    pub right_leaf_step : {r : PathStep} → r ≡ last_step right → IsLeafStep t r last
+    right_leaf_step is = record { kind = kind; tree = ends.tree; some = root_there; within = ends.within; is = is ∙ ap last_step ends.right_path }
+
+  region_of_some : (path : List PathStep) → path ≢ [] → region_of t.table path right ≡ (if (last_step path).row == (last_step right).row then leaf_spans t.table (last_step path) else leaf_spans t.table (last_step path) ++ starting ((last_step path).max + 1) (leaf_spans t.table (last_step right)))
+  region_of_some [] some = absurd (some refl)
+  region_of_some (s ∷ path) some = refl
+
+  pub leaves_edited : left ≢ [] → {l r : PathStep} {entry : ℕ} {below above made : List Item} → l ≡ last_step left → r ≡ last_step right → below ≡ items_below l.min (leaf_items t.table l) first
+      → above ≡ drop (slot_above (leaf_items t.table r) last) (leaf_items t.table r) → made ≡ fold with_joined (with_joined below (item_stored last entry)) above → spans_from l.min made ≡ edited (region_of t.table left right) first last entry
+  leaves_edited some {l} {r} {entry} {below} {above} {made} is_left is_right is_below is_above is_made =
+      let at = stands_as t kind (root_there some) ends.tree.words in
+      made_spans (tree_as kind t) at.0 at.1 l r first last ends.order ends.within (is_left ∙ ap last_step ends.left_path) (is_right ∙ ap last_step ends.right_path) entry below above made is_below is_above is_made
+      ∙ ap (λ (xs : List Span). edited xs first last entry)
+      ((λ k. if (is_left k).row == (is_right k).row then leaf_spans t.table (is_left k) else leaf_spans t.table (is_left k) ++ starting ((is_left k).max + 1) (leaf_spans t.table (is_right k))) ∙ sym (region_of_some left some))

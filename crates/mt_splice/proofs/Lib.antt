@@ -8,6 +8,7 @@ pub mod Counting
 pub mod Counts
 pub mod Drafts
 pub mod EndAfter
+pub mod EndBooks
 pub mod EndFacts
 pub mod EndForms
 pub mod EndHoles
@@ -22,6 +23,8 @@ pub mod EndWhole
 pub mod EndWords
 pub mod Fresh
 pub mod Gathering
+pub mod LeafAbove
+pub mod LeafItems
 pub mod LeafRegions
 pub mod LevelBuries
 pub mod LevelDone

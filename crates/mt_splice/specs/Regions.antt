@@ -1,6 +1,6 @@
 -- The leaves at the ends of a store, and their items.
 -- Source: the kernel's lib/maple_tree.c, mas_wr_spanning_store, which takes the two end nodes of a store.
-use Rattle.std.specs.Prelude.{◌≡◌, ◌≢◌, ◌≤◌, ◌==◌, ◌++◌, ℕ, List, if◌then◌else◌}
+use Rattle.std.specs.Prelude.{◌≡◌, ◌≢◌, ◌≤◌, ℕ, List}
 use Rattle.mt_base.specs.declared.kinds.Kind.{Kind}
 use Rattle.mt_base.specs.Width.{greatest}
 use Rattle.mt_layout.specs.declared.items.Item.{Item}
@@ -29,9 +29,6 @@ pub record IsLeafStep (t : Rooted) (leaf : PathStep) (index : ℕ) : Type 0 wher
   pub within : index ≤ greatest t.table.width
   pub is : leaf ≡ last_step (path_in t.table t.root index)
 
--- the items of two leaves, one behind the other, or those of one
+-- the items of a leaf
 abbrev pub leaf_items : Table → PathStep → List Item
 leaf_items t s = items_of_row t Leaf s.row s.max
-
-abbrev pub leaves_items : Table → PathStep → PathStep → List Item
-leaves_items t l r = if l.row == r.row then leaf_items t l else leaf_items t l ++ leaf_items t r

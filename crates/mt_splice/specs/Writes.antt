@@ -1,11 +1,12 @@
 -- A row written anew, and the items of a row read.
 -- Source: the kernel's lib/maple_tree.c, mab_mas_cp and mas_mab_cp: a node's slots are copied out and written into a new node.
-use Rattle.std.specs.Prelude.{◌≡◌, ◌≢◌, ℕ, ◌+◌, ◌-◌, ◌<◌, ◌≤◌, false, Some, List, [], ◌∷◌, ◌++◌, length, take, drop, slice_index, slice_set}
+use Rattle.std.specs.Prelude.{◌≡◌, ◌≢◌, ℕ, ◌+◌, ◌-◌, ◌*◌, ◌<◌, ◌≤◌, false, Some, List, [], ◌∷◌, ◌++◌, length, take, drop, slice_index, slice_set}
+use Rattle.mt_base.specs.declared.widths.Width.{Width}
 use Rattle.mt_base.specs.Width.{columns}
 use Rattle.mt_layout.specs.declared.items.Item.{Item}
 use Rattle.mt_layout.specs.declared.names.RowKind.{RowKind}
 use Rattle.mt_layout.specs.Rows.{name_at, row_in, named_row, parent_at}
-use Rattle.mt_layout.specs.Columns.{row_words, items_at, slot_column}
+use Rattle.mt_layout.specs.Columns.{row_words, items_at, pivot_column, slot_column, gap_column}
 use Rattle.mt_free.specs.Book.{Book}
 use Rattle.mt_rows.specs.declared.rows.Life.TheVariants.{Draft, Live}
 use Rattle.mt_rows.specs.Spans.{Table, base_of, column}
@@ -13,13 +14,37 @@ use Rattle.mt_rows.specs.Sheet.{Sheet, IsPlace, life_of, is_buried}
 use Rattle.mt_layout.specs.Sizes.{first_row, slots_of, gaps_of}
 use Rattle.mt_splice.specs.Work.{with_words}
 
--- the first columns of a row are these words, and every other row is as before
-pub record AreDrafted (s s' : Sheet) (row : ℕ) (words : List ℕ) : Type 0 where
+-- ---- rows
+
+-- Only a row was written: it is a draft then, and every other row is as before.
+pub record OnlyDrafts (s s' : Sheet) (row : ℕ) : Type 0 where
   pub rest : record s' { tree = s.tree; lives = s.lives } ≡ s
   pub tree : s'.tree ≡ with_words s.tree s'.tree.table.words
   pub size : length s'.tree.table.words ≡ length s.tree.table.words
-  pub own : (c : ℕ) → c < length words → column s'.tree.table row c ≡ slice_index words c
+  pub lives : s'.lives ≡ slice_set s.lives row Draft
   pub others : (r c : ℕ) → r ≢ row → c < columns s.tree.table.width → column s'.tree.table r c ≡ column s.tree.table r c
+
+-- An item was written into a slot: into the columns of its pivot, its word and its gap, as far as the row has these.
+pub record IsItemPut (width : Width) (t t' : Table) (row : ℕ) (kind : RowKind) (slot : ℕ) (item : Item) : Type 0 where
+  pub pivot : slot + 1 < slots_of width kind → column t' row (pivot_column slot) ≡ item.last
+  pub word : column t' row (slot_column (slots_of width kind) slot) ≡ item.word
+  pub gap : 0 < gaps_of width kind → column t' row (gap_column (slots_of width kind) slot) ≡ item.gap
+  pub kept : (c : ℕ) → (slot + 1 < slots_of width kind → c ≢ pivot_column slot) → c ≢ slot_column (slots_of width kind) slot → (0 < gaps_of width kind → c ≢ gap_column (slots_of width kind) slot)
+      → column t' row c ≡ column t row c
+
+pub record IsItemDrafted (s s' : Sheet) (row : ℕ) (kind : RowKind) (slot : ℕ) (item : Item) : Type 0 where
+  pub only : OnlyDrafts s s' row
+  pub put : IsItemPut s.tree.table.width s.tree.table s'.tree.table row kind slot item
+
+-- how many columns of a row its parent word and its items use
+abbrev pub used_columns : Width → RowKind → ℕ
+used_columns width kind = 2 * slots_of width kind + gaps_of width kind
+
+-- Zeros were written into the columns that no item uses.
+pub record IsRestDrafted (s s' : Sheet) (row : ℕ) (kind : RowKind) : Type 0 where
+  pub only : OnlyDrafts s s' row
+  pub zeros : (c : ℕ) → used_columns s.tree.table.width kind ≤ c → c < columns s.tree.table.width → column s'.tree.table row c ≡ 0
+  pub kept : (c : ℕ) → c < used_columns s.tree.table.width kind → column s'.tree.table row c ≡ column s.tree.table row c
 
 -- the parent word of a row that has no parent yet: the root's
 abbrev pub no_parent : ℕ
@@ -29,13 +54,19 @@ no_parent = 1
 abbrev pub new_words : Table → RowKind → List Item → List ℕ
 new_words t kind items = row_words (columns t.width) (slots_of t.width kind) (gaps_of t.width kind) no_parent items
 
+-- All words of a row were written: those of a new row with these items.
+pub record IsRowDrafted (s s' : Sheet) (row : ℕ) (kind : RowKind) (items : List Item) : Type 0 where
+  pub only : OnlyDrafts s s' row
+  pub own : (c : ℕ) → c < columns s.tree.table.width → column s'.tree.table row c ≡ slice_index (new_words s.tree.table kind items) c
+
 -- A row was taken from the book and holds the items, a draft; the word names it.
 pub record IsRowWritten (s s' : Sheet) (book book' : Book) (kind : RowKind) (items : List Item) (word : ℕ) : Type 0 where
   pub row : ℕ
   pub taken : book ≡ record book' { free = book'.free ++ row ∷ [] }
   pub named : word ≡ name_at row kind
-  pub drafted : AreDrafted s s' row (new_words s.tree.table kind items)
-  pub lives : s'.lives ≡ slice_set s.lives row Draft
+  pub drafted : IsRowDrafted s s' row kind items
+
+-- ---- items
 
 -- the items of a row that covers the indexes up to `max`
 abbrev pub items_of_row : Table → RowKind → ℕ → ℕ → List Item

@@ -123,7 +123,13 @@ pub fn take_in_beside<R: Rows, B: Begun>(
     }
     if step_right(rows, &mut region.right, depth) {
         take_behind(rows, region, depth, kind);
-    } else if is_short(width, &region.run, kind) && step_left(rows, &mut region.left, depth) {
-        take_before(rows, region, depth, kind);
+        return;
     }
+    if !is_short(width, &region.run, kind) {
+        return;
+    }
+    if !step_left(rows, &mut region.left, depth) {
+        return;
+    }
+    take_before(rows, region, depth, kind);
 }

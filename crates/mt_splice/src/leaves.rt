@@ -1,12 +1,13 @@
 //! What stands in the leaves at the ends of a store, after it.
 
-ghost use Rattle.std.specs.Prelude.{◌≡◌, ◌≢◌, ◌<◌, ◌≤◌, ◌+◌, [], ◌∷◌, ℕ, fold, drop, length};
+ghost use Rattle.std.specs.Prelude.{◌≡◌, ◌≢◌, ◌<◌, ◌≤◌, ◌+◌, ◌^◌, [], ◌∷◌, ℕ, fold, drop, length};
 ghost use Rattle.mt_base.specs.declared.kinds.Kind.{Kind};
 ghost use Rattle.mt_base.specs.Width.{greatest};
-ghost use Rattle.mt_layout.specs.Sizes.{first_row, run_room, slots_of};
+ghost use Rattle.mt_layout.specs.declared.names.RowKind.TheVariants.{Leaf};
+ghost use Rattle.mt_layout.specs.Sizes.{run_room, slots_of};
 ghost use Rattle.mt_layout.specs.Spans.{spans_from};
 ghost use Rattle.mt_leaf.specs.Edits.{edited};
-ghost use Rattle.mt_leaf.specs.Places.{items_below, slot_above, with_joined};
+ghost use Rattle.mt_leaf.specs.Places.{first_of, items_below, slot_above, with_joined};
 ghost use Rattle.mt_path.specs.Handles.{last_step};
 ghost use Rattle.mt_rows.specs.Sheet.{OnlyReads};
 ghost use Rattle.mt_splice.specs.Regions.{AreEnds, IsLeafStep, leaf_items};
@@ -20,6 +21,18 @@ use mt_leaf::{Towards, edit_into, push_joined};
 use mt_path::PathStep;
 use mt_rows::Rows;
 
+/// The first index of the slot that a leaf's path takes, where the items before it are these.
+fn first_in_slot(leaf: &PathStep, before: &Run) -> u64
+    requires slot { leaf.now.slot ≤ length before.now.items }
+    requires within { first_of leaf.now.min before.now.items leaf.now.slot < 2 ^ 64 }
+    ensures { result ≡ first_of leaf.now.min before.now.items leaf.now.slot }
+{
+    if leaf.slot == 0 {
+        return leaf.min;
+    }
+    before[leaf.slot as usize - 1].last + 1
+}
+
 /// Fills an empty run with what stands in a leaf below `first`, which the path's slot there holds.
 fn push_below<R: Rows>(rows: &mut R, leaf: &PathStep, first: u64, run: &mut Run)
     requires leaf { IsLeafStep (R.sheet rows.old).tree leaf.now first }
@@ -28,28 +41,41 @@ fn push_below<R: Rows>(rows: &mut R, leaf: &PathStep, first: u64, run: &mut Run)
     ensures rest { OnlyReads (R.sheet rows.old) (R.sheet rows.new) }
 {
     push_items(rows, RowKind::Leaf, leaf.row, leaf.max, 0, leaf.slot, run);
-    let begin = run.last().map_or(leaf.min, |item| item.last + 1);
-    if begin < first {
-        let item = load_item(rows, RowKind::Leaf, leaf.row, leaf.max, leaf.slot);
-        run.push(Item {
-            last: first - 1,
-            ..item
-        });
+    if first <= first_in_slot(leaf, run) {
+        return;
+    }
+    let slots = slots(rows.width(), RowKind::Leaf);
+    let word = rows.load(leaf.row, slots + leaf.slot);
+    run.push(Item {
+        last: first - 1,
+        word,
+        gap: 0,
+    });
+}
+
+/// Appends an item that ends above `last`, as one with the item before where both are holes.
+fn push_if_above(run: &mut Run, item: Item, last: u64)
+    requires { length run.old.items < run_room }
+    ensures above { last < item.last → run.new.items ≡ with_joined run.old.items item }
+    ensures below { item.last ≤ last → run.new.items ≡ run.old.items }
+    ensures count { length run.new.items ≤ length run.old.items + 1 }
+{
+    if last < item.last {
+        push_joined(run, item);
     }
 }
 
 /// Appends what stands in a leaf above `last`, which the path's slot there holds; two holes that meet are one.
 fn push_above<R: Rows>(rows: &mut R, leaf: &PathStep, last: u64, run: &mut Run)
     requires leaf { IsLeafStep (R.sheet rows.old).tree leaf.now last }
-    requires room { length run.old.items + slots_of (R.sheet rows.old).tree.table.width RowKind.Leaf ≤ run_room }
+    requires room { length run.old.items + slots_of (R.sheet rows.old).tree.table.width Leaf ≤ run_room }
     ensures items { run.new.items ≡ fold with_joined run.old.items (drop (slot_above (leaf_items (R.sheet rows.old).tree.table leaf.now) last) (leaf_items (R.sheet rows.old).tree.table leaf.now)) }
     ensures rest { OnlyReads (R.sheet rows.old) (R.sheet rows.new) }
 {
-    for slot in leaf.slot..slots(rows.width(), RowKind::Leaf) {
+    let slots = slots(rows.width(), RowKind::Leaf);
+    for slot in leaf.slot..slots {
         let item = load_item(rows, RowKind::Leaf, leaf.row, leaf.max, slot);
-        if last < item.last {
-            push_joined(run, item);
-        }
+        push_if_above(run, item, last);
         if leaf.max <= item.last {
             return;
         }
@@ -133,12 +159,12 @@ pub fn fill_leaves<R: Rows>(
     ensures right { region.new.right ≡ region.old.right }
     ensures rest { OnlyReads (R.sheet rows.old) (R.sheet rows.new) }
 {
-    let ends = (
-        region.left.last().copied(),
-        region.right.last().copied(),
-    );
-    match ends {
-        (Some(left), Some(right)) => push_edited(rows, region, &left, &right, first, last, entry),
-        _ => push_first(rows.width(), first, last, entry, &mut region.run),
-    }
+    let Some(left) = region.left.last().copied() else {
+        push_first(rows.width(), first, last, entry, &mut region.run);
+        return;
+    };
+    let Some(right) = region.right.last().copied() else {
+        unreachable!()
+    };
+    push_edited(rows, region, &left, &right, first, last, entry);
 }

@@ -1,12 +1,11 @@
 //! Rows written anew.
 
-ghost use Rattle.std.specs.Prelude.{◌≡◌, ◌≢◌, ◌<◌, ◌≤◌, ◌+◌, ◌*◌, ℕ, All, length, slice_set};
-ghost use Rattle.mt_base.specs.Width.{columns};
+ghost use Rattle.std.specs.Prelude.{◌≡◌, ◌<◌, ◌≤◌, All, true, length, if◌then◌else◌};
 ghost use Rattle.mt_layout.specs.Rows.{IsRowNumber};
-ghost use Rattle.mt_layout.specs.Sizes.{first_row, slots_of, gaps_of};
+ghost use Rattle.mt_layout.specs.Sizes.{slots_of};
 ghost use Rattle.mt_rows.specs.declared.rows.Life.TheVariants.{Draft};
-ghost use Rattle.mt_rows.specs.Sheet.{IsPlace, IsFree, life_of};
-ghost use Rattle.mt_splice.specs.Writes.{AreDrafted, new_words, IsRowWritten};
+ghost use Rattle.mt_rows.specs.Sheet.{IsWhole, IsPlace, IsFree, life_of, drafted};
+ghost use Rattle.mt_splice.specs.Writes.{IsItemDrafted, IsRestDrafted, IsRowDrafted, IsRowWritten};
 
 use mt_base::cols;
 use mt_free::RowBook;
@@ -23,26 +22,39 @@ pub struct NewRow {
     pub count: u32,
 }
 
-/// Writes an item into a slot of a row that may be written anew.
-fn draft_item<R: Rows>(rows: &mut R, row: u32, kind: RowKind, slot: u32, item: Item)
-    requires place { IsPlace (R.sheet rows.old).tree row 0 }
+/// Writes a column of a row that may be written anew, where the row has this column.
+fn draft_if<R: Rows>(rows: &mut R, has: bool, row: u32, col: u32, word: u64)
+    requires place { has ≡ true → IsPlace (R.sheet rows.old).tree row col }
     requires free { IsFree (R.sheet rows.old).cleared (life_of (R.sheet rows.old).lives row) }
-    requires slot { slot < slots_of (R.sheet rows.old).tree.table.width kind }
-    -- exactly the columns of the item are written, and the row is a draft then
+    ensures { R.sheet rows.new ≡ (if has then drafted (R.sheet rows.old) row col word else R.sheet rows.old) }
 {
-    let width = rows.width();
-    let slots = slots(width, kind);
-    if slot + 1 < slots {
-        rows.draft(row, 1 + slot, item.last);
-    }
-    rows.draft(row, slots + slot, item.word);
-    if gaps(width, kind) > 0 {
-        rows.draft(row, 2 * slots + slot, item.gap);
+    if has {
+        rows.draft(row, col, word);
     }
 }
 
-/// Writes 0 into the columns of a row that no item of this kind of row uses.
+/// Writes an item into a slot of a row that may be written anew.
+fn draft_item<R: Rows>(rows: &mut R, row: u32, kind: RowKind, slot: u32, item: Item)
+    requires whole { IsWhole (R.sheet rows.old) }
+    requires place { IsPlace (R.sheet rows.old).tree row 0 }
+    requires free { IsFree (R.sheet rows.old).cleared (life_of (R.sheet rows.old).lives row) }
+    requires slot { slot < slots_of (R.sheet rows.old).tree.table.width kind }
+    ensures { IsItemDrafted (R.sheet rows.old) (R.sheet rows.new) row kind slot item }
+{
+    let width = rows.width();
+    let slots = slots(width, kind);
+    let gaps = gaps(width, kind);
+    rows.draft(row, slots + slot, item.word);
+    draft_if(rows, slot + 1 < slots, row, 1 + slot, item.last);
+    draft_if(rows, gaps > 0, row, 2 * slots + slot, item.gap);
+}
+
+/// Writes 0 into the columns of a draft that no item of this kind of row uses.
 fn draft_unused<R: Rows>(rows: &mut R, row: u32, kind: RowKind)
+    requires whole { IsWhole (R.sheet rows.old) }
+    requires place { IsPlace (R.sheet rows.old).tree row 0 }
+    requires draft { life_of (R.sheet rows.old).lives row ≡ Draft }
+    ensures { IsRestDrafted (R.sheet rows.old) (R.sheet rows.new) row kind }
 {
     let width = rows.width();
     for col in 2 * slots(width, kind) + gaps(width, kind)..cols(width) {
@@ -55,9 +67,11 @@ fn draft_row<R: Rows>(rows: &mut R, row: u32, kind: RowKind, items: &[Item])
     requires place { IsPlace (R.sheet rows.old).tree row 0 }
     requires free { IsFree (R.sheet rows.old).cleared (life_of (R.sheet rows.old).lives row) }
     requires fit { length items.now ≤ slots_of (R.sheet rows.old).tree.table.width kind }
-    ensures words { AreDrafted (R.sheet rows.old) (R.sheet rows.new) row (new_words (R.sheet rows.old).tree.table kind items.now) }
-    ensures life { (R.sheet rows.new).lives ≡ slice_set (R.sheet rows.old).lives row Draft }
+    ensures row { IsRowDrafted (R.sheet rows.old) (R.sheet rows.new) row kind items.now }
+    ensures number { IsRowNumber row }
 {
+    // Every table has few enough rows for each to be named.
+    rows.size();
     rows.draft(row, 0, NO_PARENT);
     for slot in 0..slots(rows.width(), kind) {
         let item = items.get(slot as usize).copied().unwrap_or_default();
