@@ -3,18 +3,17 @@ use Rattle.std.proofs.Common.{◌≡◌, ℕ, ◌+◌, ◌^◌, ◌<◌, ◌≤�
 use Rattle.mt_base.specs.declared.kinds.Kind.{Kind}
 use Rattle.mt_base.specs.declared.widths.Width.{Width}
 use Rattle.mt_base.specs.declared.widths.Width.TheVariants.{Long}
-use Rattle.mt_base.specs.Width.{greatest}
+use Rattle.mt_base.specs.Width.{greatest, deepest}
 use Rattle.mt_layout.specs.Rows.{named_kind}
 use Rattle.mt_rows.specs.Spans.{root_span}
-use Rattle.mt_rows.specs.Trees.{deepest}
 use Rattle.mt_rows.specs.Laws as laws
-use Rattle.mt_rows.specs.Sheet.{Sheet}
+use Rattle.mt_rows.specs.Sheet.{Rooted}
 use Rattle.mt_rows.specs.Publish.{IsTreeOf, tree_as}
 use Rattle.mt_path.specs.declared.paths.PathStep.{PathStep}
 use Rattle.mt_path.specs.Paths.{path_in, step_at}
 use Rattle.mt_path.proofs.Places.{at_within}
+use Rattle.mt_path.proofs.Steps.{path_of_none}
 use Rattle.mt_path.proofs.TreePaths.{rows_at, row_of, step_of, levels, step, place}
-use Rattle.mt_path.proofs.Entering.{path_of_none}
 
 -- the last index of a step and the first
 pub record Inside (top : ℕ) (s : PathStep) : Type 0 where
@@ -34,11 +33,11 @@ inside_by t index level (inr (h, stands)) within low =
     let end = ends.1 in
     subst (Inside (laws.top_of t)) (sym (step t h stands index level within below)) (record { min = omega arith; max = omega arith })
 
-pub inside : (s : Sheet) (kind : Kind) (index level : ℕ) (steps : List PathStep) → IsTreeOf s.tree kind → index ≤ greatest s.tree.table.width → steps ≡ path_in s.tree.table s.tree.root index → level < length steps
-    → Inside (greatest s.tree.table.width) (step_at steps level)
-inside s kind index level steps tree within is low =
-    subst (λ (l : List PathStep). Inside (greatest s.tree.table.width) (step_at l level)) (sym is)
-    (inside_by (tree_as kind s.tree) index level tree.words within (subst (λ (l : List PathStep). level < length l) is low))
+pub inside : (t : Rooted) (kind : Kind) (index level : ℕ) (steps : List PathStep) → IsTreeOf t kind → index ≤ greatest t.table.width → steps ≡ path_in t.table t.root index → level < length steps
+    → Inside (greatest t.table.width) (step_at steps level)
+inside t kind index level steps tree within is low =
+    subst (λ (l : List PathStep). Inside (greatest t.table.width) (step_at l level)) (sym is)
+    (inside_by (tree_as kind t) index level tree.words within (subst (λ (l : List PathStep). level < length l) is low))
 
 pub greatest_fits : (width : Width) → greatest width < 2 ^ 64
 greatest_fits Long = lit< tt

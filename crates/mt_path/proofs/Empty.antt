@@ -4,22 +4,22 @@ use Rattle.std.specs.Prelude.{◌↔◌}
 use Rattle.std.specs.List.{flat_map}
 use Rattle.std.proofs.lemmas.Grind.{flat_map-append}
 use Rattle.mt_base.specs.declared.kinds.Kind.{Kind}
-use Rattle.mt_base.specs.Width.{greatest}
+use Rattle.mt_base.specs.Width.{greatest, deepest}
 use Rattle.mt_layout.specs.Rows.{named_kind}
 use Rattle.mt_layout.specs.declared.spans.Span.{Span}
 use Rattle.mt_layout.specs.Spans.{leaf_range, Fills}
 use Rattle.mt_rows.specs.Spans.{spans_in, root_span}
 use Rattle.mt_rows.specs.Levels.{expand, map_of, Levels}
-use Rattle.mt_rows.specs.Trees.{map_in, deepest}
+use Rattle.mt_rows.specs.Trees.{map_in}
 use Rattle.mt_rows.specs.Laws as laws
-use Rattle.mt_rows.specs.Sheet.{Sheet}
+use Rattle.mt_rows.specs.Sheet.{Rooted}
 use Rattle.mt_rows.specs.Publish.{IsTreeOf, tree_as}
 use Rattle.mt_rows.proofs.Lists.{all_map, Filled, expand_fills}
 use Rattle.mt_rows.proofs.Depth.{ranges_by_depth}
 use Rattle.mt_path.specs.declared.paths.PathStep.{PathStep}
 use Rattle.mt_path.specs.Paths.{path_in}
+use Rattle.mt_path.proofs.Steps.{path_of_none}
 use Rattle.mt_path.proofs.TreePaths.{levels}
-use Rattle.mt_path.proofs.Entering.{path_of_none}
 
 front_none : {A : Type 0} (xs ys : List A) → xs ++ ys ≡ [] → xs ≡ []
 front_none [] ys none = refl
@@ -43,8 +43,8 @@ empty_by t index (inr (h, stands)) within = (
       (sym (ranges_by_depth t deepest h (root_span t.table t.root) stands.low stands.rows) ∙ none))),
 )
 
-pub empty_together : (s : Sheet) (kind : Kind) (index : ℕ) (steps : List PathStep) → IsTreeOf s.tree kind → index ≤ greatest s.tree.table.width → steps ≡ path_in s.tree.table s.tree.root index
-    → (steps ≡ []) ↔ (map_in s.tree.table s.tree.root ≡ [])
-empty_together s kind index steps tree within is =
-    let both = empty_by (tree_as kind s.tree) index tree.words within in
+pub empty_together : (t : Rooted) (kind : Kind) (index : ℕ) (steps : List PathStep) → IsTreeOf t kind → index ≤ greatest t.table.width → steps ≡ path_in t.table t.root index
+    → (steps ≡ []) ↔ (map_in t.table t.root ≡ [])
+empty_together t kind index steps tree within is =
+    let both = empty_by (tree_as kind t) index tree.words within in
     ((λ none. both.0 (sym is ∙ none)), (λ none. is ∙ both.1 none))

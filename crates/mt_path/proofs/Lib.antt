@@ -3,7 +3,11 @@ pub mod Steps
 pub mod TreePaths
 pub mod Loads
 pub mod Searches
-pub mod Entering
-pub mod Walking
+pub mod Ways
+pub mod Descents
+pub mod Onward
+pub mod LeafSlots
+pub mod LeafSteps
+pub mod HandleSteps
 pub mod Empty
 pub mod Bounds

@@ -1,36 +1,43 @@
 -- What loads leave as it was, and how many they are together.
-use Rattle.std.proofs.Common.{◌≡◌, ℕ, ◌+◌, ◌<◌, ◌≤◌, Option, Some, None, refl, sym, ap, ◌∙◌, subst, arith}
+use Rattle.std.proofs.Common.{◌≡◌, ℕ, ◌+◌, ◌-◌, ◌<◌, ◌≤◌, List, [], ◌∷◌, ◌++◌, Option, Some, None, length, take, drop, map, sum, refl, sym, ap, ◌∙◌, subst, arith}
+use Rattle.std.specs.Option.{option_map}
+use Rattle.std.proofs.lemmas.List.{map-append, take-append-drop}
+use Rattle.std.proofs.lemmas.List.Sums.{sum_by-append}
 use Rattle.mt_base.specs.declared.kinds.Kind.{Kind}
 use Rattle.mt_base.specs.declared.widths.Width.{Width}
-use Rattle.mt_base.specs.declared.widths.Width.TheVariants.{Long}
 use Rattle.mt_base.specs.Width.{columns}
 use Rattle.mt_layout.specs.declared.names.RowKind.{RowKind}
-use Rattle.mt_layout.specs.declared.names.RowKind.TheVariants.{Leaf, Inner, Gapped}
 use Rattle.mt_layout.specs.Columns.{pivot_column, slot_column}
-use Rattle.mt_rows.specs.Spans.{column, slots_of}
-use Rattle.mt_rows.specs.Sheet.{Tree, Sheet, IsPlace, word_at, loaded, one_more, RoseUpTo, ReadsUpTo}
+use Rattle.mt_layout.specs.Sizes.{slots_of}
+use Rattle.mt_layout.proofs.RowSizes.{slots_of-columns}
+use Rattle.mt_rows.specs.Sheet.{Rooted, Sheet, IsPlace, word_at, loaded, one_more, OnlyReads, RoseUpTo, ReadsUpTo}
 use Rattle.mt_rows.specs.Publish.{IsTreeOf}
-use Rattle.std.specs.Option.{option_map}
+use Rattle.mt_path.specs.declared.paths.PathStep.{PathStep}
+use Rattle.mt_path.specs.Paths.{loads_in}
+
+-- ---- what stays
+
+pub same_tree : (s s' : Sheet) → OnlyReads s s' → s'.tree ≡ s.tree
+same_tree s s' only = ap (λ (r : Sheet). r.tree) only
 
 pub tree_kept : (n : ℕ) (s s' : Sheet) → ReadsUpTo n s s' → s'.tree ≡ s.tree
-tree_kept n s s' reads = ap (λ (r : Sheet). r.tree) reads.rest
+tree_kept n s s' reads = same_tree s s' reads.rest
+
+pub is_tree_kept : (s s' : Sheet) (kind : Kind) → OnlyReads s s' → IsTreeOf s.tree kind → IsTreeOf s'.tree kind
+is_tree_kept s s' kind only tree = subst (λ (t : Rooted). IsTreeOf t kind) (sym (same_tree s s' only)) tree
+
+pub place_at : (t : Rooted) (row col : ℕ) → IsPlace t row 0 → col < columns t.table.width → IsPlace t row col
+place_at t row col place within = record { first = place.first; last = place.last; column = within }
 
 pub place_kept : (n : ℕ) (s s' : Sheet) (row col : ℕ) → ReadsUpTo n s s' → IsPlace s.tree row 0 → col < columns s.tree.table.width → IsPlace s'.tree row col
-place_kept n s s' row col reads place within =
-    let same = ap (λ (r : Sheet). r.tree.rows) reads.rest in
-    let last = place.last in
-    record { first = place.first; last = omega arith; column = subst (λ (t : Tree). col < columns t.table.width) (sym (tree_kept n s s' reads)) within }
+place_kept n s s' row col reads place within = subst (λ (t : Rooted). IsPlace t row col) (sym (tree_kept n s s' reads)) (place_at s.tree row col place within)
+
+pub word_kept : (n : ℕ) (s s' : Sheet) (row col word : ℕ) → ReadsUpTo n s s' → word ≡ word_at s'.tree row col → word ≡ word_at s.tree row col
+word_kept n s s' row col word reads is = is ∙ ap (λ (t : Rooted). word_at t row col) (tree_kept n s s' reads)
 
 -- a row has columns for its pivots and its slots
 pub columns_hold : (width : Width) (kind : RowKind) (i : ℕ) → i < slots_of width kind → (pivot_column i < columns width) × (slot_column (slots_of width kind) i < columns width)
-columns_hold Long Leaf i within = (omega arith, omega arith)
-columns_hold Long Inner i within = (omega arith, omega arith)
-columns_hold Long Gapped i within = (omega arith, omega arith)
-
-pub some_slot : (width : Width) (kind : RowKind) → 0 < slots_of width kind
-some_slot Long Leaf = omega arith
-some_slot Long Inner = omega arith
-some_slot Long Gapped = omega arith
+columns_hold width kind i within = let fit = slots_of-columns width kind in (omega arith, omega arith)
 
 -- ---- counts
 
@@ -78,13 +85,22 @@ one_read s s' is = record {
 pub reads_next : (n : ℕ) (s s' s'' : Sheet) → ReadsUpTo n s s' → s'' ≡ loaded s' → ReadsUpTo (n + 1) s s''
 reads_next n s s' s'' reads is = reads_more n 1 s s' s'' reads (one_read s' s'' is)
 
-pub word_kept : (n : ℕ) (s s' : Sheet) (row col word : ℕ) → ReadsUpTo n s s' → word ≡ word_at s'.tree row col → word ≡ word_at s.tree row col
-word_kept n s s' row col word reads is = is ∙ ap (λ (t : Tree). column t.table row col) (tree_kept n s s' reads)
+-- ---- the loads of a walk
 
--- ---- the tree of the words
+pub loads_in-append : (xs ys : List PathStep) → loads_in (xs ++ ys) ≡ loads_in xs + loads_in ys
+loads_in-append xs ys =
+    ap sum (map-append (λ (s : PathStep). s.slot + 2) xs ys)
+    ∙ sum_by-append (λ (n : ℕ). n) (map (λ (s : PathStep). s.slot + 2) xs) (map (λ (s : PathStep). s.slot + 2) ys)
 
-loaded_tree : (s : Sheet) (kind : Kind) (reads : Option ℕ) → IsTreeOf s.tree kind → IsTreeOf (record s { reads = reads }).tree kind
-loaded_tree s kind reads tree = record { of_kind = record { told = tree.of_kind.told; width = tree.of_kind.width }; words = tree.words }
+pub loads_in-push : (steps : List PathStep) (s : PathStep) → loads_in (steps ++ (s ∷ [])) ≡ loads_in steps + (s.slot + 2)
+loads_in-push steps s = let both = loads_in-append steps (s ∷ []) in omega arith
 
-pub is_tree_kept : (n : ℕ) (s s' : Sheet) (kind : Kind) → ReadsUpTo n s s' → IsTreeOf s.tree kind → IsTreeOf s'.tree kind
-is_tree_kept n s s' kind reads tree = subst (λ (r : Sheet). IsTreeOf r.tree kind) (sym reads.rest) (loaded_tree s kind s'.reads tree)
+pub loads_in-parts : (n : ℕ) (steps : List PathStep) → loads_in steps ≡ loads_in (take n steps) + loads_in (drop n steps)
+loads_in-parts n steps = ap loads_in (sym (take-append-drop n steps)) ∙ loads_in-append (take n steps) (drop n steps)
+
+pub loads_in-take : (n : ℕ) (steps : List PathStep) → loads_in (take n steps) ≤ loads_in steps
+loads_in-take n steps = let parts = loads_in-parts n steps in omega arith
+
+pub loads_in-some : (steps : List PathStep) → 0 < length steps → 2 ≤ loads_in steps
+loads_in-some [] some = absurd (omega arith)
+loads_in-some (s ∷ steps) some = let both = loads_in-append (s ∷ []) steps in omega arith

@@ -7,8 +7,11 @@ use Rattle.mt_layout.specs.Columns.{pivot_column, slot_column, item_at, items_fr
 use Rattle.mt_layout.specs.declared.spans.Span.{Span}
 use Rattle.mt_layout.specs.Spans.{spans_from}
 use Rattle.mt_layout.proofs.Reading.{IsItem, ends, goes_on}
-use Rattle.mt_rows.specs.Spans.{Table, base_of, column, slots_of, gaps_of}
-use Rattle.mt_path.specs.declared.walks.Row.{Row}
+use Rattle.mt_layout.specs.Sizes.{slots_of, gaps_of}
+use Rattle.mt_rows.specs.Spans.{Table, base_of, column}
+use Rattle.mt_path.specs.declared.paths.PathStep.{PathStep}
+use Rattle.mt_path.specs.declared.rows.Row.{Row}
+use Rattle.mt_path.specs.declared.rows.Found.{Found}
 use Rattle.mt_path.specs.Paths.{slot_for, span_at}
 use Rattle.mt_path.specs.Walks.{IsFound}
 use Rattle.mt_path.proofs.Places.{slot_here, slot_behind}
@@ -111,6 +114,10 @@ module _ (slots gaps : ℕ) (w : List ℕ) (base max : ℕ) where
 
 -- ---- in a row of a table
 
+-- the step in a slot of a row, and the first and the last index of what stands there
+abbrev pub found_of : Row → ℕ → ℕ → ℕ → Found
+found_of row slot first last = record { step = record { row = row.number; slot = slot; min = row.min; max = row.max }; first = first; last = last }
+
 module _ (t : Table) (row : Row) (index : ℕ) where
   abbrev slots : ℕ
   slots = slots_of t.width row.kind
@@ -119,17 +126,23 @@ module _ (t : Table) (row : Row) (index : ℕ) where
   abbrev pub PassedIn : ℕ → ℕ → Type 0
   PassedIn i first = Passed slots (gaps_of t.width row.kind) t.words (base_of t row.number) row.max row.min index i first
 
-  found_by : (i first last : ℕ) → i < slots → Ends slots (gaps_of t.width row.kind) t.words (base_of t row.number) row.max row.min index i first last → IsFound t row index (record { slot = i; first = first; last = last })
-  found_by i first last used ends = record { slot = ends.slot; used = used; first = ends.from; last = ends.to; word = ends.word }
+  found_by : (i first last : ℕ) (found : Found) → i < slots → Ends slots (gaps_of t.width row.kind) t.words (base_of t row.number) row.max row.min index i first last → found ≡ found_of row i first last → IsFound t row index found
+  found_by i first last found used ends is =
+      subst (IsFound t row index) (sym is)
+      (record { step = ap with_slot ends.slot; used = used; span = λ j. record { first = ends.from j; last = ends.to j; word = ends.word j } })
+    where
+      with_slot : ℕ → PathStep
+      with_slot slot = record { row = row.number; slot = slot; min = row.min; max = row.max }
 
-  pub found_at_pivot : (i first pivot : ℕ) → i + 1 < slots → pivot ≡ column t row.number (1 + i) → index ≤ pivot → PassedIn i first → IsFound t row index (record { slot = i; first = first; last = pivot })
-  found_at_pivot i first pivot inner is within passed =
-      subst (λ (k : ℕ). IsFound t row index (record { slot = i; first = first; last = k })) (sym is)
-      (found_by i first (column t row.number (1 + i)) (omega arith) (ends_at_pivot slots (gaps_of t.width row.kind) t.words (base_of t row.number) row.max row.min index i first inner (omega (arith, is)) passed))
+  pub found_at_pivot : (i first pivot : ℕ) (found : Found) → i + 1 < slots → pivot ≡ column t row.number (1 + i) → index ≤ pivot → PassedIn i first → found ≡ found_of row i first pivot → IsFound t row index found
+  found_at_pivot i first pivot found inner is within passed built =
+      found_by i first (column t row.number (1 + i)) found (omega arith)
+      (ends_at_pivot slots (gaps_of t.width row.kind) t.words (base_of t row.number) row.max row.min index i first inner (omega (arith, is)) passed)
+      (built ∙ ap (found_of row i first) is)
 
-  pub found_at_last : (i first : ℕ) → i + 1 ≡ slots → index ≤ row.max → PassedIn i first → IsFound t row index (record { slot = i; first = first; last = row.max })
-  found_at_last i first last within passed =
-      found_by i first row.max (omega arith) (ends_at_last slots (gaps_of t.width row.kind) t.words (base_of t row.number) row.max row.min index i first last within passed)
+  pub found_at_last : (i first : ℕ) (found : Found) → i + 1 ≡ slots → index ≤ row.max → PassedIn i first → found ≡ found_of row i first row.max → IsFound t row index found
+  found_at_last i first found last within passed built =
+      found_by i first row.max found (omega arith) (ends_at_last slots (gaps_of t.width row.kind) t.words (base_of t row.number) row.max row.min index i first last within passed) built
 
   pub pass : (i first pivot : ℕ) → i + 1 < slots → pivot ≡ column t row.number (1 + i) → pivot < index → index ≤ row.max → PassedIn i first → PassedIn (i + 1) (pivot + 1)
   pass i first pivot inner is past within passed =

@@ -1,5 +1,5 @@
 -- The rows on the path to an index, level by level.
-use Rattle.std.proofs.Common.{◌≡◌, ◌≢◌, ℕ, zero, suc, ◌+◌, ◌<◌, ◌≤◌, List, [], ◌∷◌, ◌++◌, Option, Some, length, refl, sym, ap, ◌∙◌, subst, arith, append-nil, append_assoc}
+use Rattle.std.proofs.Common.{◌≡◌, ◌≢◌, ℕ, zero, suc, ◌+◌, ◌<◌, ◌≤◌, List, [], ◌∷◌, ◌++◌, Option, Some, None, length, refl, sym, ap, ◌∙◌, subst, arith, append-nil, append_assoc}
 use Rattle.mt_base.specs.declared.kinds.Kind.{Kind}
 use Rattle.mt_base.specs.declared.kinds.Kind.TheVariants as trees
 use Rattle.mt_layout.specs.declared.names.RowKind.{RowKind}
@@ -19,7 +19,7 @@ use Rattle.mt_path.proofs.Places.{at_slot, at_parts, at_get, at_within, slot_is}
 
 -- ---- one step
 
-is_inner : (tree : Kind) → inner_kind tree ≢ Leaf
+pub is_inner : (tree : Kind) → inner_kind tree ≢ Leaf
 is_inner trees.Range = λ e. cc
 is_inner trees.Alloc = λ e. cc
 
@@ -27,6 +27,11 @@ by_inner : {A : Type 0} (kind : RowKind) (leaf inner : List A) → kind ≢ Leaf
 by_inner Leaf leaf inner other = absurd (other refl)
 by_inner Inner leaf inner other = refl
 by_inner Gapped leaf inner other = refl
+
+pub path_of_none : (t : Table) (depth : ℕ) (x : Span) (index : ℕ) → named_kind x.word ≡ None → path_of t depth x index ≡ []
+unfolding path_of
+path_of_none t zero x index none = refl
+path_of_none t (suc depth) x index none = ap (λ (k : Option RowKind). by_kind k (step_in t x index ∷ []) (step_in t x index ∷ path_of t depth (below t x index) index)) none
 
 pub path_of_leaf : (t : Table) (depth : ℕ) (x : Span) (index : ℕ) → named_kind x.word ≡ Some Leaf → path_of t (suc depth) x index ≡ step_in t x index ∷ []
 unfolding path_of

@@ -1,15 +1,17 @@
 -- Paths from the root of a tree: how many steps, where each row stands, what two paths share, and the rows beside.
 use Rattle.std.proofs.Common.{◌≡◌, ℕ, suc, ◌+◌, ◌-◌, ◌<◌, ◌≤◌, List, [], ◌∷◌, ◌++◌, length, refl, sym, ap, ◌∙◌, subst, arith, append_assoc}
 use Rattle.std.proofs.lemmas.Option.{slice_get_within}
+use Rattle.mt_base.specs.Width.{deepest}
 use Rattle.mt_layout.specs.Rows.{row_in}
+use Rattle.mt_layout.specs.Sizes.{slots_of}
 use Rattle.mt_layout.specs.Columns.{slot_column}
 use Rattle.mt_layout.specs.declared.spans.Span.{Span}
 use Rattle.mt_layout.specs.Spans.{Fills}
-use Rattle.mt_rows.specs.Spans.{spans_in, root_span, slots_of}
+use Rattle.mt_rows.specs.Spans.{spans_in, root_span}
 use Rattle.mt_rows.specs.Levels.{level, IsBelow}
-use Rattle.mt_rows.specs.Trees.{deepest}
 use Rattle.mt_rows.specs.Laws.{Tree, IsRow, Stands, top_of, kind_at}
 use Rattle.mt_rows.specs.Publish.{IsSlotOf}
+use Rattle.mt_rows.specs.Sheet.{Rooted}
 use Rattle.mt_path.specs.declared.paths.PathStep.{PathStep}
 use Rattle.mt_path.specs.Paths.{slot_for, span_at, step_in, below, path_in, step_at, row_on, At}
 use Rattle.mt_path.proofs.Places.{at_slot, at_once, at_get, first_behind, last_before, fills_split}
@@ -18,6 +20,10 @@ use Rattle.mt_path.proofs.Steps.{Leads, row_here, child_at, path_length, path_st
 -- the span of the root
 abbrev pub top_row : Tree → Span
 top_row t = root_span t.table t.root
+
+-- the words of the tree
+abbrev pub rooted : Tree → Rooted
+rooted t = record { rows = t.rows; table = t.table; root = t.root }
 
 -- the rows of a level, from the left
 abbrev pub rows_at : Tree → ℕ → List Span
@@ -83,7 +89,7 @@ module _ (t : Tree) (h : ℕ) (stands : Stands t h) where
       subst (λ (s : PathStep). s.slot < length (spans_in t.table row)) (sym (step index d within low)) used
 
   pub is_slot : (index d k : ℕ) → index ≤ top_of t → h ≡ d + k
-      → IsSlotOf (record { table = t.table; root = t.root }) (step_of t d index).row (slot_column (slots_of t.table.width (kind_at t.kind k)) (step_of t d index).slot)
+      → IsSlotOf (rooted t) (step_of t d index).row (slot_column (slots_of t.table.width (kind_at t.kind k)) (step_of t d index).slot)
   is_slot index d k within high = record {
     depth = d;
     at = row_of t d index;
@@ -99,7 +105,7 @@ module _ (t : Tree) (h : ℕ) (stands : Stands t h) where
   -- ---- two paths
 
   -- of an index and of one inside its row
-  inside_agree : (i j d : ℕ) → i ≤ top_of t → d ≤ h → (row_of t d i).first ≤ j → j ≤ (row_of t d i).last → (row_of t d j ≡ row_of t d i) × ((e : ℕ) → e < d → step_of t e j ≡ step_of t e i)
+  pub inside_agree : (i j d : ℕ) → i ≤ top_of t → d ≤ h → (row_of t d i).first ≤ j → j ≤ (row_of t d i).last → (row_of t d j ≡ row_of t d i) × ((e : ℕ) → e < d → step_of t e j ≡ step_of t e i)
   inside_agree i j d within low from to = (
     rows_agree t d h (top_row t) i j low (root_leads i within) from to,
     (λ e above. steps_agree t deepest d h e (top_row t) i j stands.low above low (root_leads i within) from to),

@@ -1,11 +1,13 @@
 -- The way down from the root of a tree to the leaf that covers an index, and the slot there.
 -- Source: the kernel's lib/maple_tree.c, mas_walk, mas_next_node and mas_prev_node.
-use Rattle.std.specs.Prelude.{◌≡◌, ℕ, zero, suc, ◌+◌, ◌≤◌, List, [], ◌∷◌, ◌++◌, length, take_while, nat_lt, slice_index_or, sum, map}
+use Rattle.std.specs.Prelude.{◌≡◌, ℕ, zero, suc, ◌+◌, ◌<◌, ◌≤◌, List, [], ◌∷◌, ◌++◌, drop, length, take_while, nat_lt, slice_index_or, sum, map}
+use Rattle.std.specs.List.{AllByRecursion}
 use Rattle.mt_base.specs.Width.{deepest}
 use Rattle.mt_layout.specs.declared.spans.Span.{Span}
 use Rattle.mt_layout.specs.Rows.{row_in, named_kind}
 use Rattle.mt_layout.specs.Spans.{Fills}
 use Rattle.mt_rows.specs.Spans.{Table, spans_in, root_span}
+use Rattle.mt_rows.specs.Sheet.{Sheet, ReadsUpTo}
 use Rattle.mt_rows.specs.Trees.{by_kind}
 use Rattle.mt_path.specs.declared.paths.PathStep.{PathStep}
 
@@ -44,9 +46,30 @@ no_step = record { row = 0; slot = 0; min = 0; max = 0 }
 abbrev pub step_at : List PathStep → ℕ → PathStep
 step_at path level = slice_index_or path level no_step
 
--- how many words a walk loads: the root word, and in each row its pivots up to the index and one slot
+-- how many words a walk loads: in each row its pivots up to the index and one slot, and before them the root word
+abbrev pub loads_in : List PathStep → ℕ
+loads_in steps = sum (map (λ s. s.slot + 2) steps)
+
 abbrev pub loads_on : List PathStep → ℕ
-loads_on path = 1 + sum (map (λ s. s.slot + 2) path)
+loads_on path = 1 + loads_in path
+
+-- ---- a path that goes on to another index
+
+-- the row covers the index
+abbrev pub Covers : PathStep → ℕ → Type 0
+Covers s index = (s.min ≤ index) × (index ≤ s.max)
+
+-- of a path's steps, the deepest whose row covers an index, and those above it
+pub record IsDeepestOver (steps above : List PathStep) (index : ℕ) (step : PathStep) : Type 0 where
+  pub behind : List PathStep
+  pub parts : steps ≡ above ++ (step ∷ behind)
+  pub over : Covers step index
+  pub none_deeper : AllByRecursion (λ s. Covers s index → ⊥) behind
+
+-- No row is loaded that stands above one which covered the index before: but for the root word, the loads are no more than
+-- those in the rows from there on.
+abbrev pub ReadsBelow : List PathStep → List PathStep → ℕ → Sheet → Sheet → Type 0
+ReadsBelow old new index s s' = (level : ℕ) → level < length old → Covers (step_at old level) index → ReadsUpTo (loads_on (drop level new)) s s'
 
 -- ---- where the rows of a path stand
 

@@ -1,34 +1,52 @@
--- What a walk finds in a row, and what of its path is still to come.
+-- What a walk finds in a row, and which row it is in.
 -- Source: the kernel's lib/maple_tree.c, mtree_range_walk.
-use Rattle.std.specs.Prelude.{◌≡◌, ℕ, ◌<◌, List, [], Option, Some, None}
+use Rattle.std.specs.Prelude.{◌≡◌, ℕ, ◌<◌, List, length, Option, Some}
 use Rattle.std.specs.Option.{option_map}
 use Rattle.mt_layout.specs.declared.names.RowKind.{RowKind}
+use Rattle.mt_layout.specs.declared.names.RowKind.TheVariants.{Leaf}
 use Rattle.mt_layout.specs.declared.spans.Span.{Span}
 use Rattle.mt_layout.specs.Rows.{row_in, named_kind}
 use Rattle.mt_layout.specs.Sizes.{slots_of}
 use Rattle.mt_layout.specs.Columns.{slot_column}
-use Rattle.mt_rows.specs.Spans.{Table, column, row_spans}
-use Rattle.mt_path.specs.declared.paths.PathStep.{PathStep}
-use Rattle.mt_path.specs.declared.walks.Row.{Row}
-use Rattle.mt_path.specs.declared.walks.Found.{Found}
-use Rattle.mt_path.specs.Paths.{slot_for, span_at, path_of}
+use Rattle.mt_rows.specs.Sheet.{Rooted, IsPlace}
+use Rattle.mt_rows.specs.Spans.{Table, column, row_spans, root_span}
+use Rattle.mt_path.specs.declared.handles.Handle.{Handle}
+use Rattle.mt_path.specs.declared.rows.Row.{Row}
+use Rattle.mt_path.specs.declared.rows.Found.{Found}
+use Rattle.mt_path.specs.Handles.{handle_in}
+use Rattle.mt_path.specs.Paths.{slot_for, span_at, path_in, row_on}
 
--- the row that a span names
+-- the row of this kind that a span names
+abbrev pub row_as : Span → RowKind → Row
+row_as x kind = record { number = row_in x.word; kind = kind; min = x.first; max = x.last }
+
 abbrev pub row_for : Span → Option Row
-row_for x = option_map (λ (kind : RowKind). record { number = row_in x.word; kind = kind; min = x.first; max = x.last }) (named_kind x.word)
+row_for x = option_map (row_as x) (named_kind x.word)
 
 abbrev pub spans_of : Table → Row → List Span
 spans_of t row = row_spans t row.number row.kind row.min row.max
 
--- the slot of a row that holds an index, and the span there; its word stands in the slot's column
-pub record IsFound (t : Table) (row : Row) (index : ℕ) (found : Found) : Type 0 where
-  pub slot : found.slot ≡ slot_for (spans_of t row) index
-  pub used : found.slot < slots_of t.width row.kind
-  pub first : found.first ≡ (span_at (spans_of t row) found.slot).first
-  pub last : found.last ≡ (span_at (spans_of t row) found.slot).last
-  pub word : column t row.number (slot_column (slots_of t.width row.kind) found.slot) ≡ (span_at (spans_of t row) found.slot).word
+-- the word in a slot of a row
+abbrev pub slot_word : Table → RowKind → ℕ → ℕ → ℕ
+slot_word t kind row slot = column t row (slot_column (slots_of t.width kind) slot)
 
--- the steps that are still to come, at most so many: none behind a leaf
-abbrev pub rest_of : Table → ℕ → Option Span → ℕ → List PathStep
-rest_of t depth None index = []
-rest_of t depth (Some x) index = path_of t depth x index
+-- what stands where an index was found
+abbrev pub found_span : Table → RowKind → Found → Span
+found_span t kind found = record { first = found.first; last = found.last; word = slot_word t kind found.step.row found.step.slot }
+
+-- the step of an index in a row, and what stands in its slot
+pub record IsFound (t : Table) (row : Row) (index : ℕ) (found : Found) : Type 0 where
+  pub step : found.step ≡ record { row = row.number; slot = slot_for (spans_of t row) index; min = row.min; max = row.max }
+  pub used : found.step.slot < slots_of t.width row.kind
+  pub span : found_span t row.kind found ≡ span_at (spans_of t row) found.step.slot
+
+-- the row that the path to an index enters so many levels below the root
+pub record IsOnWay (t : Rooted) (index depth : ℕ) (row : Row) : Type 0 where
+  pub low : depth < length (path_in t.table t.root index)
+  pub named : Some row ≡ row_for (row_on t.table depth (root_span t.table t.root) index)
+
+-- the step of an index in its leaf, and what stands in its slot
+pub record IsAtEnd (t : Rooted) (index : ℕ) (found : Found) : Type 0 where
+  pub place : IsPlace t found.step.row 0
+  pub used : found.step.slot < slots_of t.table.width Leaf
+  pub handle : record { leaf = found.step; span = found_span t.table Leaf found } ≡ handle_in t index

@@ -1,13 +1,16 @@
-//! Ways through a tree of rows: to the leaf of an index, and to the row beside another.
+//! Ways through a tree of rows: to the leaf of an index, to the row beside another, and what stands where an index stands.
 #![tactic(auto)]
 
+mod handles;
 pub mod laws;
 mod neighbours;
 mod paths;
+mod rows;
 #[cfg(test)]
 mod tests;
 mod walks;
 
-pub use neighbours::{left_at, right_at};
-pub use paths::{Path, PathStep};
-pub use walks::walk;
+pub use handles::{Handle, before, behind, handle_at, load_span, walk_to};
+pub use neighbours::{left_at, right_at, step_left, step_right};
+pub use paths::{Path, PathStep, copy_of};
+pub use walks::{walk, walk_on};

@@ -1,14 +1,61 @@
-ghost use Rattle.std.specs.Prelude.{◌≡◌, ◌≤◌, ◌<◌, ◌+◌, ◌-◌, ◌↔◌, ℕ, IsNone, IfNone, IfSome, length};
+//! The rows beside a row of a path.
+
+ghost use Rattle.std.specs.Prelude.{◌≡◌, ◌≤◌, ◌<◌, ◌+◌, ◌-◌, ◌↔◌, ℕ, true, false, IsTrue, IsNone, IfNone, IfSome, length};
+ghost use Rattle.std.specs.Bool.{OnTrue, OnFalse};
 ghost use Rattle.mt_base.specs.declared.kinds.Kind.{Kind};
 ghost use Rattle.mt_base.specs.Width.{greatest};
 ghost use Rattle.mt_rows.specs.Sheet.{OnlyReads, ReadsUpTo};
 ghost use Rattle.mt_rows.specs.Publish.{IsTreeOf};
-ghost use Rattle.mt_path.specs.Paths.{path_in, step_at, loads_on};
+ghost use Rattle.mt_path.specs.Paths.{path_in, step_at, loads_on, ReadsBelow};
 
-use crate::paths::Path;
-use crate::walks::walk;
+use crate::paths::{Path, copy_of};
+use crate::walks::walk_on;
 use mt_base::top;
 use mt_rows::Rows;
+
+/// A path goes, in place, to the row that stands right of its own at this level, and from there to the first leaf. Where its
+/// row is the last of the level there is none, and the path stays.
+pub fn step_right<R: Rows>(rows: &mut R, path: &mut Path, level: u32) -> bool
+    requires tree { (kind : Kind) × IsTreeOf (R.sheet rows.old).tree kind }
+    requires path { (index : ℕ) × (index ≤ greatest (R.sheet rows.old).tree.table.width) × (path.old.items ≡ path_in (R.sheet rows.old).tree.table (R.sheet rows.old).tree.root index) }
+    requires level { level < length path.old.items }
+    ensures none { (result ≡ false) ↔ ((step_at path.old.items level).max ≡ greatest (R.sheet rows.old).tree.table.width) }
+    ensures some { OnTrue result (path.new.items ≡ path_in (R.sheet rows.old).tree.table (R.sheet rows.old).tree.root ((step_at path.old.items level).max + 1)) }
+    ensures stays { OnFalse result (path.new ≡ path.old) }
+    ensures rest { OnlyReads (R.sheet rows.old) (R.sheet rows.new) }
+    ensures reads { OnTrue result (ReadsUpTo (loads_on path.new.items) (R.sheet rows.old) (R.sheet rows.new)) }
+    ensures near { OnTrue result (ReadsBelow path.old.items path.new.items ((step_at path.old.items level).max + 1) (R.sheet rows.old) (R.sheet rows.new)) }
+    ensures unread { OnFalse result (R.sheet rows.new ≡ R.sheet rows.old) }
+{
+    let last = path[level as usize].max;
+    if last == top(rows.width()) {
+        return false;
+    }
+    walk_on(rows, path, last + 1);
+    true
+}
+
+/// A path goes, in place, to the row that stands left of its own at this level, and from there to the last leaf. Where its
+/// row is the first of the level there is none, and the path stays.
+pub fn step_left<R: Rows>(rows: &mut R, path: &mut Path, level: u32) -> bool
+    requires tree { (kind : Kind) × IsTreeOf (R.sheet rows.old).tree kind }
+    requires path { (index : ℕ) × (index ≤ greatest (R.sheet rows.old).tree.table.width) × (path.old.items ≡ path_in (R.sheet rows.old).tree.table (R.sheet rows.old).tree.root index) }
+    requires level { level < length path.old.items }
+    ensures none { (result ≡ false) ↔ ((step_at path.old.items level).min ≡ 0) }
+    ensures some { OnTrue result (path.new.items ≡ path_in (R.sheet rows.old).tree.table (R.sheet rows.old).tree.root ((step_at path.old.items level).min - 1)) }
+    ensures stays { OnFalse result (path.new ≡ path.old) }
+    ensures rest { OnlyReads (R.sheet rows.old) (R.sheet rows.new) }
+    ensures reads { OnTrue result (ReadsUpTo (loads_on path.new.items) (R.sheet rows.old) (R.sheet rows.new)) }
+    ensures near { OnTrue result (ReadsBelow path.old.items path.new.items ((step_at path.old.items level).min - 1) (R.sheet rows.old) (R.sheet rows.new)) }
+    ensures unread { OnFalse result (R.sheet rows.new ≡ R.sheet rows.old) }
+{
+    let first = path[level as usize].min;
+    if first == 0 {
+        return false;
+    }
+    walk_on(rows, path, first - 1);
+    true
+}
 
 /// The way to the row that stands right of the path's at this level, and from there to its first leaf; none where the
 /// path's row is the last of the level.
@@ -26,7 +73,9 @@ pub fn right_at<R: Rows>(rows: &mut R, path: &Path, level: u32) -> Option<Path>
     if last == top(rows.width()) {
         return None;
     }
-    Some(walk(rows, last + 1))
+    let mut right = copy_of(path);
+    walk_on(rows, &mut right, last + 1);
+    Some(right)
 }
 
 /// The way to the row that stands left of the path's at this level, and from there to its last leaf; none where the
@@ -45,5 +94,7 @@ pub fn left_at<R: Rows>(rows: &mut R, path: &Path, level: u32) -> Option<Path>
     if first == 0 {
         return None;
     }
-    Some(walk(rows, first - 1))
+    let mut left = copy_of(path);
+    walk_on(rows, &mut left, first - 1);
+    Some(left)
 }

@@ -1,4 +1,11 @@
+//! Ways from the root to a leaf, as lists of steps.
+
+ghost use Rattle.std.specs.Prelude.{◌≡◌, ◌↔◌, [], IsTrue, IfSome, IfNone};
+ghost use Rattle.std.specs.List.{AllByRecursion};
+ghost use Rattle.mt_path.specs.Paths.{Covers, IsDeepestOver};
+
 use arrayvec::ArrayVec;
+use mt_base::DEEPEST;
 
 /// A row on the way to an index: its number, the slot that the way takes, and the first and the last index that the row
 /// covers.
@@ -11,4 +18,36 @@ pub struct PathStep {
 }
 
 /// The way from the root, which is its first step, to a leaf.
-pub type Path = ArrayVec<PathStep, 9>;
+pub type Path = ArrayVec<PathStep, DEEPEST>;
+
+/// A path with the same steps.
+pub fn copy_of(path: &Path) -> Path
+    ensures { result.items ≡ path.now.items }
+{
+    match Path::try_from(path.as_slice()) {
+        Ok(copy) => copy,
+        Err(_) => unreachable!(),
+    }
+}
+
+/// Whether the row of a step covers an index.
+fn covers(step: PathStep, index: u64) -> bool
+    ensures { IsTrue result ↔ Covers step index }
+{
+    step.min <= index && index <= step.max
+}
+
+/// Takes off the steps from the deepest on whose row covers an index, and gives that one. Where there is none, all are
+/// taken off.
+pub(crate) fn pop_to(path: &mut Path, index: u64) -> Option<PathStep>
+    ensures some { IfSome result (λ step. IsDeepestOver path.old.items path.new.items index step) }
+    ensures none { IfNone result (AllByRecursion (λ s. Covers s index → ⊥) path.old.items) }
+    ensures emptied { IfNone result (path.new.items ≡ []) }
+{
+    while let Some(step) = path.pop() {
+        if covers(step, index) {
+            return Some(step);
+        }
+    }
+    None
+}

@@ -4,8 +4,12 @@ ghost use Rattle.mt_base.specs.declared.kinds.Kind.TheVariants as trees;
 ghost use Rattle.mt_rows.specs.Publish.{IsTreeOf};
 ghost use Rattle.mt_rows.specs.Sheet.{IsPlace, IsFree, life_of, drafted};
 
-use crate::{Path, PathStep, left_at, right_at, walk};
+use crate::{
+    Handle, Path, PathStep, before, behind, handle_at, left_at, load_span, right_at, step_left,
+    step_right, walk, walk_on, walk_to,
+};
 use mt_base::NoMemory;
+use mt_layout::Span;
 use mt_rows::{PlainRows, Rows};
 use std::alloc::Global;
 use std::process::Abort;
@@ -83,9 +87,9 @@ fn in_right(slot: u32) -> [PathStep; 2] {
     [step(16, 1, 0, TOP), step(18, slot, 12, TOP)]
 }
 
-#[test]
-fn paths_to_indexes(rt: HostRuntime) -> Result<(), Fail> {
-    for (index, path) in [
+/// Indexes of the tree, and the path to each.
+fn ways() -> [(u64, [PathStep; 2]); 8] {
+    [
         (0, in_left(0)),
         (4, in_left(4)),
         (5, in_left(5)),
@@ -94,7 +98,12 @@ fn paths_to_indexes(rt: HostRuntime) -> Result<(), Fail> {
         (16, in_right(4)),
         (17, in_right(5)),
         (TOP, in_right(5)),
-    ] {
+    ]
+}
+
+#[test]
+fn paths_to_indexes(rt: HostRuntime) -> Result<(), Fail> {
+    for (index, path) in ways() {
         let mut rows = two_leaves(rt.alloc())?;
         assert_eq!(rt;
             walk(&mut rows, index).as_slice(),
@@ -105,11 +114,46 @@ fn paths_to_indexes(rt: HostRuntime) -> Result<(), Fail> {
     Ok(())
 }
 
+/// The path to an index, gone on to from the path to another.
+fn gone_on(alloc: Global, from: u64, to: u64) -> Result<Path, NoMemory> {
+    let mut rows = two_leaves(alloc)?;
+    let mut path = walk(&mut rows, from);
+    walk_on(&mut rows, &mut path, to);
+    Ok(path)
+}
+
 #[test]
-fn paths_in_an_empty_tree(rt: HostRuntime) -> Result<(), Fail> {
+fn paths_that_go_on(rt: HostRuntime) -> Result<(), Fail> {
+    for (from, _) in ways() {
+        for (to, path) in ways() {
+            assert_eq!(rt;
+                gone_on(rt.alloc(), from, to)?.as_slice(),
+                path.as_slice(),
+                "the path from {from} on to {to}"
+            );
+        }
+    }
+    Ok(())
+}
+
+#[test]
+fn ways_in_an_empty_tree(rt: HostRuntime) -> Result<(), Fail> {
     for index in [0, 5, TOP] {
         let mut rows = PlainRows::new(rt.alloc(), 3)?;
-        assert!(rt; walk(&mut rows, index).is_empty(), "the path to {index}");
+        let mut path = walk(&mut rows, index);
+        assert!(rt; path.is_empty(), "the path to {index}");
+        let mut rows = PlainRows::new(rt.alloc(), 3)?;
+        walk_on(&mut rows, &mut path, index);
+        assert!(rt; path.is_empty(), "the path on to {index}");
+        let mut rows = PlainRows::new(rt.alloc(), 3)?;
+        assert_eq!(rt;
+            walk_to(&mut rows, index, &mut path),
+            None,
+            "at the end of the path to {index}"
+        );
+        assert!(rt; path.is_empty(), "the path to {index} and its end");
+        let mut rows = PlainRows::new(rt.alloc(), 3)?;
+        assert_eq!(rt; handle_at(&mut rows, index), None, "at {index}");
     }
     Ok(())
 }
@@ -127,6 +171,40 @@ fn rows_beside(
     let right = right_at(&mut rows, &path, level);
     let left = left_at(&mut rows, &path, level);
     Ok((right, left))
+}
+
+/// The path to the row right of the one at this level of the path to an index, gone to in place.
+fn stepped_right(
+    rt: &impl Abort,
+    alloc: Global,
+    index: u64,
+    level: u32,
+) -> Result<Option<Path>, NoMemory> {
+    let mut rows = two_leaves(alloc)?;
+    let mut path = walk(&mut rows, index);
+    assert!(rt; (level as usize) < path.len());
+    if step_right(&mut rows, &mut path, level) {
+        Ok(Some(path))
+    } else {
+        Ok(None)
+    }
+}
+
+/// The path to the row left of the one at this level of the path to an index, gone to in place.
+fn stepped_left(
+    rt: &impl Abort,
+    alloc: Global,
+    index: u64,
+    level: u32,
+) -> Result<Option<Path>, NoMemory> {
+    let mut rows = two_leaves(alloc)?;
+    let mut path = walk(&mut rows, index);
+    assert!(rt; (level as usize) < path.len());
+    if step_left(&mut rows, &mut path, level) {
+        Ok(Some(path))
+    } else {
+        Ok(None)
+    }
 }
 
 /// Whether a path has these steps, or neither is there.
@@ -158,6 +236,127 @@ fn paths_to_rows_beside(rt: HostRuntime) -> Result<(), Fail> {
         assert!(rt;
             is_path(&beside.1, &left),
             "left at level {level} from {index}"
+        );
+        assert!(rt;
+            is_path(&stepped_right(&rt, rt.alloc(), index, level)?, &right),
+            "a step right at level {level} from {index}"
+        );
+        assert!(rt;
+            is_path(&stepped_left(&rt, rt.alloc(), index, level)?, &left),
+            "a step left at level {level} from {index}"
+        );
+    }
+    Ok(())
+}
+
+fn handle(leaf: PathStep, first: u64, last: u64, word: u64) -> Handle {
+    Handle {
+        leaf,
+        span: Span { first, last, word },
+    }
+}
+
+/// What stands in the leaf 17, at this slot.
+fn held_left(slot: u32, first: u64, last: u64) -> Handle {
+    handle(step(17, slot, 0, 11), first, last, 4096)
+}
+
+/// What stands in the leaf 18, at this slot.
+fn held_right(slot: u32, first: u64, last: u64, word: u64) -> Handle {
+    handle(step(18, slot, 12, TOP), first, last, word)
+}
+
+#[test]
+fn handles_of_indexes(rt: HostRuntime) -> Result<(), Fail> {
+    for (index, there) in [
+        (0, held_left(0, 0, 0)),
+        (4, held_left(4, 4, 4)),
+        (5, held_left(5, 5, 11)),
+        (11, held_left(5, 5, 11)),
+        (12, held_right(0, 12, 12, 4096)),
+        (16, held_right(4, 16, 16, 4096)),
+        (17, held_right(5, 17, TOP, 0)),
+        (TOP, held_right(5, 17, TOP, 0)),
+    ] {
+        let mut rows = two_leaves(rt.alloc())?;
+        assert_eq!(rt; handle_at(&mut rows, index), Some(there), "at {index}");
+        let mut rows = two_leaves(rt.alloc())?;
+        let mut path = Path::new();
+        assert_eq!(rt;
+            walk_to(&mut rows, index, &mut path),
+            Some(there),
+            "at the end of the path to {index}"
+        );
+        assert_eq!(rt;
+            path.as_slice().last().copied(),
+            Some(there.leaf),
+            "the path to {index}"
+        );
+    }
+    Ok(())
+}
+
+/// What stands at an index, loaded once more, and what stands behind it and before it.
+#[derive(Debug, PartialEq, Drop)]
+struct Around {
+    span: Span,
+    behind: Option<Handle>,
+    before: Option<Handle>,
+}
+
+fn handles_around(alloc: Global, index: u64) -> Result<Option<Around>, NoMemory> {
+    let mut rows = two_leaves(alloc)?;
+    let Some(here) = handle_at(&mut rows, index) else {
+        return Ok(None);
+    };
+    let span = load_span(&mut rows, here.leaf);
+    let behind = behind(&mut rows, &here);
+    let before = before(&mut rows, &here);
+    Ok(Some(Around {
+        span,
+        behind,
+        before,
+    }))
+}
+
+#[test]
+fn handles_beside(rt: HostRuntime) -> Result<(), Fail> {
+    for (index, here, behind, before) in [
+        (0, held_left(0, 0, 0), Some(held_left(1, 1, 1)), None),
+        (
+            11,
+            held_left(5, 5, 11),
+            Some(held_right(0, 12, 12, 4096)),
+            Some(held_left(4, 4, 4)),
+        ),
+        (
+            12,
+            held_right(0, 12, 12, 4096),
+            Some(held_right(1, 13, 13, 4096)),
+            Some(held_left(5, 5, 11)),
+        ),
+        (
+            16,
+            held_right(4, 16, 16, 4096),
+            Some(held_right(5, 17, TOP, 0)),
+            Some(held_right(3, 15, 15, 4096)),
+        ),
+        (
+            TOP,
+            held_right(5, 17, TOP, 0),
+            None,
+            Some(held_right(4, 16, 16, 4096)),
+        ),
+    ] {
+        let span = here.span;
+        assert_eq!(rt;
+            handles_around(rt.alloc(), index)?,
+            Some(Around {
+                span,
+                behind,
+                before,
+            }),
+            "beside {index}"
         );
     }
     Ok(())

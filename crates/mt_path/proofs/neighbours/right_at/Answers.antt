@@ -7,18 +7,18 @@ use Rattle.mt_path.proofs.neighbours.right_at.Goals as goal
 
 pub overflow_add-last : goal.overflow_add-last
 overflow_add-last g c =
-    let sheet = g.R.Rows.sheet c.args.rows.now in
+    let t = (g.R.Rows.sheet c.args.rows.now).tree in
     let path = c.requires.path in
-    let ends = inside sheet c.requires.tree.0 path.0 c.args.level c.args.path.now.items c.requires.tree.1 path.1 path.2 c.requires.level in
-    let end = subst (λ (l : List PathStep). (step_at l c.args.level).max ≤ greatest sheet.tree.table.width) (sym c.deref.ensures.0) ends.max in
+    let ends = inside t c.requires.tree.0 path.0 c.args.level c.args.path.now.items c.requires.tree.1 path.1 path.2 c.requires.level in
+    let end = subst (λ (l : List PathStep). (step_at l c.args.level).max ≤ greatest t.table.width) (sym c.deref.ensures.0) ends.max in
     let top = c.top.ensures ∙ ap greatest c.width.ensures in
-    omega (arith, end, top, c.if-last-top.false, greatest_fits sheet.tree.table.width)
+    omega (arith, end, top, c.if-last-top.false, greatest_fits t.table.width)
 
-pub walk-requires-clause-index : goal.walk-requires-clause-index
-walk-requires-clause-index g c =
-    let sheet = g.R.Rows.sheet c.args.rows.now in
+pub walk_on-requires-clause-index : goal.walk_on-requires-clause-index
+walk_on-requires-clause-index g c =
+    let t = (g.R.Rows.sheet c.args.rows.now).tree in
     let path = c.requires.path in
-    let ends = inside sheet c.requires.tree.0 path.0 c.args.level c.args.path.now.items c.requires.tree.1 path.1 path.2 c.requires.level in
-    let end = subst (λ (l : List PathStep). (step_at l c.args.level).max ≤ greatest sheet.tree.table.width) (sym c.deref.ensures.0) ends.max in
+    let ends = inside t c.requires.tree.0 path.0 c.args.level c.args.path.now.items c.requires.tree.1 path.1 path.2 c.requires.level in
+    let end = subst (λ (l : List PathStep). (step_at l c.args.level).max ≤ greatest t.table.width) (sym c.deref.ensures.0) ends.max in
     let top = c.top.ensures ∙ ap greatest c.width.ensures in
     omega (arith, end, top, c.if-last-top.false)

@@ -1,6 +1,6 @@
 use Rattle.mt_rows.specs.Sheet.{ReadsUpTo}
 use Rattle.mt_path.proofs.Searches.{PassedIn}
-use Rattle.mt_path.proofs.walks.find_slot.Given as goal
+use Rattle.mt_path.proofs.rows.find_slot.Given as goal
 
 abbrev pub invariant-loop-slot : goal.invariant-loop-slot
 invariant-loop-slot g l =

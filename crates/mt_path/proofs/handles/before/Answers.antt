@@ -1,0 +1,15 @@
+use Rattle.std.proofs.Common.{◌-◌, ap, ◌∙◌}
+use Rattle.mt_path.specs.declared.paths.PathStep.{PathStep}
+use Rattle.mt_rows.specs.Sheet.{Rooted}
+use Rattle.mt_path.proofs.HandleSteps.{handle_before}
+use Rattle.mt_path.proofs.LeafSteps.{here_in}
+use Rattle.mt_path.proofs.Loads.{same_tree}
+use Rattle.mt_path.proofs.handles.before.Goals as goal
+
+pub returns-clause-some : goal.returns-clause-some
+returns-clause-some g c =
+    let s = g.R.Rows.sheet c.args.rows.now in
+    let leaf : PathStep = record c.args.here.now.leaf { slot = c.args.here.now.leaf.slot - 1 } in
+    let same = same_tree s (g.R.Rows.sheet c.load_first-begin.new.rows) c.load_first-begin.ensures.reads.rest in
+    handle_before s.tree c.requires.tree.0 c.requires.tree.1 c.args.here.now c.requires.here c.if-here-eq0.false c.load_first-begin.result c.load_word-word.result c.load_first-begin.ensures.first
+    (c.load_word-word.ensures.word ∙ ap (λ (t : Rooted). (here_in t.table leaf).word) same)

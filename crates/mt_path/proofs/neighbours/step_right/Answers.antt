@@ -1,0 +1,24 @@
+use Rattle.std.proofs.Common.{◌≤◌, List, ap, ◌∙◌, subst, sym, arith}
+use Rattle.mt_base.specs.Width.{greatest}
+use Rattle.mt_path.specs.declared.paths.PathStep.{PathStep}
+use Rattle.mt_path.specs.Paths.{step_at}
+use Rattle.mt_path.proofs.Bounds.{inside, greatest_fits}
+use Rattle.mt_path.proofs.neighbours.step_right.Goals as goal
+
+pub overflow_add-last : goal.overflow_add-last
+overflow_add-last g c =
+    let t = (g.R.Rows.sheet c.args.rows.now).tree in
+    let path = c.requires.path in
+    let ends = inside t c.requires.tree.0 path.0 c.args.level c.args.path.now.items c.requires.tree.1 path.1 path.2 c.requires.level in
+    let end = subst (λ (l : List PathStep). (step_at l c.args.level).max ≤ greatest t.table.width) (sym c.deref.ensures.0) ends.max in
+    let top = c.top.ensures ∙ ap greatest c.width.ensures in
+    omega (arith, end, top, c.if-last-top.false, greatest_fits t.table.width)
+
+pub walk_on-requires-clause-index : goal.walk_on-requires-clause-index
+walk_on-requires-clause-index g c =
+    let t = (g.R.Rows.sheet c.args.rows.now).tree in
+    let path = c.requires.path in
+    let ends = inside t c.requires.tree.0 path.0 c.args.level c.args.path.now.items c.requires.tree.1 path.1 path.2 c.requires.level in
+    let end = subst (λ (l : List PathStep). (step_at l c.args.level).max ≤ greatest t.table.width) (sym c.deref.ensures.0) ends.max in
+    let top = c.top.ensures ∙ ap greatest c.width.ensures in
+    omega (arith, end, top, c.if-last-top.false)

@@ -1,0 +1,189 @@
+//! Where an index stands in a tree, and what stands there.
+
+ghost use Rattle.std.specs.Prelude.{◌≡◌, ◌≢◌, ◌+◌, ◌-◌, ◌≤◌, ◌↔◌, ℕ, [], IsNone, IfSome};
+ghost use Rattle.mt_base.specs.declared.kinds.Kind.{Kind};
+ghost use Rattle.mt_base.specs.Width.{greatest};
+ghost use Rattle.mt_rows.specs.Publish.{IsTreeOf};
+ghost use Rattle.mt_rows.specs.Sheet.{OnlyReads, ReadsUpTo, loaded};
+ghost use Rattle.mt_path.specs.Handles.{leaf_spans, handle_in, IsHandleOf, IsStepOfLeaf};
+ghost use Rattle.mt_path.specs.Paths.{path_in, span_at, loads_on};
+
+use crate::paths::{Path, PathStep};
+use crate::rows::{child_for, find_slot, load_found, root_row};
+use crate::walks::descend;
+use mt_base::{DEEPEST, top};
+use mt_layout::{RowKind, Span, slots};
+use mt_rows::Rows;
+
+/// A slot of a leaf, and what stands there: a range, or a hole, whose word is 0.
+#[derive(Clone, Copy, Debug, PartialEq, Eq)]
+pub struct Handle {
+    pub leaf: PathStep,
+    pub span: Span,
+}
+
+// ---- of an index
+
+/// The slot of the leaf that holds an index, and what stands there; none in the empty tree. No path is kept.
+pub fn handle_at<R: Rows>(rows: &mut R, index: u64) -> Option<Handle>
+    requires tree { (kind : Kind) × IsTreeOf (R.sheet rows.old).tree kind }
+    requires index { index ≤ greatest (R.sheet rows.old).tree.table.width }
+    ensures none { IsNone result ↔ ((R.sheet rows.old).tree.root ≡ 0) }
+    ensures some { IfSome result (λ handle. handle ≡ handle_in (R.sheet rows.old).tree index) }
+    ensures rest { OnlyReads (R.sheet rows.old) (R.sheet rows.new) }
+    ensures reads { ReadsUpTo (loads_on (path_in (R.sheet rows.old).tree.table (R.sheet rows.old).tree.root index)) (R.sheet rows.old) (R.sheet rows.new) }
+{
+    let mut row = root_row(rows)?;
+    for _ in 0..DEEPEST {
+        let found = find_slot(rows, row, index);
+        let span = load_found(rows, row.kind, found);
+        if row.kind == RowKind::Leaf {
+            return Some(Handle {
+                leaf: found.step,
+                span,
+            });
+        }
+        row = child_for(span);
+    }
+    unreachable!()
+}
+
+/// The way to an index, into an empty path, and the slot at its end and what stands there; none in the empty tree.
+pub fn walk_to<R: Rows>(rows: &mut R, index: u64, path: &mut Path) -> Option<Handle>
+    requires tree { (kind : Kind) × IsTreeOf (R.sheet rows.old).tree kind }
+    requires index { index ≤ greatest (R.sheet rows.old).tree.table.width }
+    requires empty { path.old.items ≡ [] }
+    ensures path { path.new.items ≡ path_in (R.sheet rows.old).tree.table (R.sheet rows.old).tree.root index }
+    ensures none { IsNone result ↔ ((R.sheet rows.old).tree.root ≡ 0) }
+    ensures some { IfSome result (λ handle. handle ≡ handle_in (R.sheet rows.old).tree index) }
+    ensures rest { OnlyReads (R.sheet rows.old) (R.sheet rows.new) }
+    ensures reads { ReadsUpTo (loads_on path.new.items) (R.sheet rows.old) (R.sheet rows.new) }
+{
+    let row = root_row(rows)?;
+    let found = descend(rows, row, index, path);
+    Some(Handle {
+        leaf: found.step,
+        span: load_found(rows, RowKind::Leaf, found),
+    })
+}
+
+// ---- of a slot of a leaf
+
+/// The first index of what stands in the slot of a leaf.
+fn load_first<R: Rows>(rows: &mut R, leaf: PathStep) -> u64
+    requires tree { (kind : Kind) × IsTreeOf (R.sheet rows.old).tree kind }
+    requires leaf { IsStepOfLeaf (R.sheet rows.old).tree leaf }
+    ensures first { result ≡ (span_at (leaf_spans (R.sheet rows.old).tree.table leaf) leaf.slot).first }
+    ensures reads { ReadsUpTo 1 (R.sheet rows.old) (R.sheet rows.new) }
+{
+    if leaf.slot == 0 {
+        return leaf.min;
+    }
+    rows.load(leaf.row, leaf.slot) + 1
+}
+
+/// The last index of what stands in the slot of a leaf.
+fn load_last<R: Rows>(rows: &mut R, leaf: PathStep) -> u64
+    requires tree { (kind : Kind) × IsTreeOf (R.sheet rows.old).tree kind }
+    requires leaf { IsStepOfLeaf (R.sheet rows.old).tree leaf }
+    ensures last { result ≡ (span_at (leaf_spans (R.sheet rows.old).tree.table leaf) leaf.slot).last }
+    ensures reads { ReadsUpTo 1 (R.sheet rows.old) (R.sheet rows.new) }
+{
+    if leaf.slot + 1 < slots(rows.width(), RowKind::Leaf) {
+        return rows.load(leaf.row, 1 + leaf.slot);
+    }
+    leaf.max
+}
+
+/// The word in the slot of a leaf: an entry, or 0 for a hole.
+fn load_word<R: Rows>(rows: &mut R, leaf: PathStep) -> u64
+    requires tree { (kind : Kind) × IsTreeOf (R.sheet rows.old).tree kind }
+    requires leaf { IsStepOfLeaf (R.sheet rows.old).tree leaf }
+    ensures word { result ≡ (span_at (leaf_spans (R.sheet rows.old).tree.table leaf) leaf.slot).word }
+    ensures rest { R.sheet rows.new ≡ loaded (R.sheet rows.old) }
+{
+    let column = slots(rows.width(), RowKind::Leaf) + leaf.slot;
+    rows.load(leaf.row, column)
+}
+
+/// What stands in the slot of a leaf.
+pub fn load_span<R: Rows>(rows: &mut R, leaf: PathStep) -> Span
+    requires tree { (kind : Kind) × IsTreeOf (R.sheet rows.old).tree kind }
+    requires leaf { IsStepOfLeaf (R.sheet rows.old).tree leaf }
+    ensures span { result ≡ span_at (leaf_spans (R.sheet rows.old).tree.table leaf) leaf.slot }
+    ensures rest { OnlyReads (R.sheet rows.old) (R.sheet rows.new) }
+    ensures reads { ReadsUpTo 3 (R.sheet rows.old) (R.sheet rows.new) }
+{
+    let first = load_first(rows, leaf);
+    let last = load_last(rows, leaf);
+    let word = load_word(rows, leaf);
+    Span { first, last, word }
+}
+
+/// What stands behind a handle: in the next slot of its leaf, or in the first slot of the leaf behind. There is none where
+/// the handle's span ends at the greatest index.
+pub fn behind<R: Rows>(rows: &mut R, here: &Handle) -> Option<Handle>
+    requires tree { (kind : Kind) × IsTreeOf (R.sheet rows.old).tree kind }
+    requires here { IsHandleOf (R.sheet rows.old).tree here.now }
+    ensures none { IsNone result ↔ (here.now.span.last ≡ greatest (R.sheet rows.old).tree.table.width) }
+    ensures some { IfSome result (λ handle. handle ≡ handle_in (R.sheet rows.old).tree (here.now.span.last + 1)) }
+    ensures rest { OnlyReads (R.sheet rows.old) (R.sheet rows.new) }
+    ensures near { here.now.span.last ≢ here.now.leaf.max → ReadsUpTo 2 (R.sheet rows.old) (R.sheet rows.new) }
+    ensures far { here.now.span.last ≡ here.now.leaf.max → ReadsUpTo (loads_on (path_in (R.sheet rows.old).tree.table (R.sheet rows.old).tree.root (here.now.span.last + 1))) (R.sheet rows.old) (R.sheet rows.new) }
+{
+    let last = here.span.last;
+    if last == top(rows.width()) {
+        return None;
+    }
+    if last == here.leaf.max {
+        return handle_at(rows, last + 1);
+    }
+    let leaf = PathStep {
+        slot: here.leaf.slot + 1,
+        ..here.leaf
+    };
+    let end = load_last(rows, leaf);
+    let word = load_word(rows, leaf);
+    Some(Handle {
+        leaf,
+        span: Span {
+            first: last + 1,
+            last: end,
+            word,
+        },
+    })
+}
+
+/// What stands before a handle: in the slot before it in its leaf, or in the last slot of the leaf before. There is none
+/// where the handle's span begins at 0.
+pub fn before<R: Rows>(rows: &mut R, here: &Handle) -> Option<Handle>
+    requires tree { (kind : Kind) × IsTreeOf (R.sheet rows.old).tree kind }
+    requires here { IsHandleOf (R.sheet rows.old).tree here.now }
+    ensures none { IsNone result ↔ (here.now.span.first ≡ 0) }
+    ensures some { IfSome result (λ handle. handle ≡ handle_in (R.sheet rows.old).tree (here.now.span.first - 1)) }
+    ensures rest { OnlyReads (R.sheet rows.old) (R.sheet rows.new) }
+    ensures near { here.now.leaf.slot ≢ 0 → ReadsUpTo 2 (R.sheet rows.old) (R.sheet rows.new) }
+    ensures far { here.now.leaf.slot ≡ 0 → ReadsUpTo (loads_on (path_in (R.sheet rows.old).tree.table (R.sheet rows.old).tree.root (here.now.span.first - 1))) (R.sheet rows.old) (R.sheet rows.new) }
+{
+    let first = here.span.first;
+    if first == 0 {
+        return None;
+    }
+    if here.leaf.slot == 0 {
+        return handle_at(rows, first - 1);
+    }
+    let leaf = PathStep {
+        slot: here.leaf.slot - 1,
+        ..here.leaf
+    };
+    let begin = load_first(rows, leaf);
+    let word = load_word(rows, leaf);
+    Some(Handle {
+        leaf,
+        span: Span {
+            first: begin,
+            last: first - 1,
+            word,
+        },
+    })
+}

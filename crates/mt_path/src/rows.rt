@@ -1,0 +1,122 @@
+//! The rows on the way to an index: what names them, and where the index stands in one.
+
+ghost use Rattle.std.specs.Prelude.{◌≡◌, ◌+◌, ◌<◌, ◌≤◌, ◌↔◌, ℕ, Some, IsNone, IsSome, IfSome};
+ghost use Rattle.mt_base.specs.declared.kinds.Kind.{Kind};
+ghost use Rattle.mt_base.specs.Width.{greatest};
+ghost use Rattle.mt_layout.specs.Rows.{named_kind};
+ghost use Rattle.mt_layout.specs.Sizes.{slots_of};
+ghost use Rattle.mt_rows.specs.Publish.{IsTreeOf};
+ghost use Rattle.mt_rows.specs.Sheet.{IsPlace, ReadsUpTo, loaded};
+ghost use Rattle.mt_path.specs.Walks.{row_for, found_span, IsFound, IsOnWay};
+
+use crate::paths::PathStep;
+use mt_base::top;
+use mt_layout::{RowKind, Span, kind_of, row_of, slots};
+use mt_rows::Rows;
+
+/// A row that a walk enters: its number and its kind, and the first and the last index that it covers.
+#[derive(Clone, Copy)]
+pub(crate) struct Row {
+    pub(crate) number: u32,
+    pub(crate) kind: RowKind,
+    pub(crate) min: u64,
+    pub(crate) max: u64,
+}
+
+/// Where an index stands in a row: the step there, and the first and the last index of what stands in its slot.
+#[derive(Clone, Copy)]
+pub(crate) struct Found {
+    pub(crate) step: PathStep,
+    pub(crate) first: u64,
+    pub(crate) last: u64,
+}
+
+/// The row that a span names, or none where its word is no name.
+fn row_for(span: Span) -> Option<Row>
+    ensures { result ≡ row_for span }
+{
+    let number = row_of(span.word)?;
+    let kind = kind_of(span.word)?;
+    Some(Row {
+        number,
+        kind,
+        min: span.first,
+        max: span.last,
+    })
+}
+
+/// The row that a span names, which stands below another.
+pub(crate) fn child_for(span: Span) -> Row
+    requires { IsSome (named_kind span.word) }
+    ensures { Some result ≡ row_for span }
+{
+    match row_for(span) {
+        Some(row) => row,
+        None => unreachable!(),
+    }
+}
+
+/// The root, or none where the tree is empty.
+pub(crate) fn root_row<R: Rows>(rows: &mut R) -> Option<Row>
+    requires tree { (kind : Kind) × IsTreeOf (R.sheet rows.old).tree kind }
+    ensures none { IsNone result ↔ ((R.sheet rows.old).tree.root ≡ 0) }
+    ensures some { IfSome result (λ row. (index : ℕ) → index ≤ greatest (R.sheet rows.old).tree.table.width → IsOnWay (R.sheet rows.old).tree index 0 row) }
+    ensures rest { R.sheet rows.new ≡ loaded (R.sheet rows.old) }
+{
+    let last = top(rows.width());
+    row_for(Span {
+        first: 0,
+        last,
+        word: rows.root(),
+    })
+}
+
+/// The step in this slot of a row, and the first and the last index of what stands there.
+fn found_in(row: Row, slot: u32, first: u64, last: u64) -> Found
+    ensures { result ≡ record { step = record { row = row.number; slot = slot; min = row.min; max = row.max }; first = first; last = last } }
+{
+    Found {
+        step: PathStep {
+            row: row.number,
+            slot,
+            min: row.min,
+            max: row.max,
+        },
+        first,
+        last,
+    }
+}
+
+/// The slot of a row that holds an index: the first whose pivot is not below it. No pivot behind that is loaded.
+pub(crate) fn find_slot<R: Rows>(rows: &mut R, row: Row, index: u64) -> Found
+    requires row { IsPlace (R.sheet rows.old).tree row.number 0 }
+    requires index { index ≤ row.max }
+    ensures found { IsFound (R.sheet rows.old).tree.table row index result }
+    ensures reads { ReadsUpTo (result.step.slot + 1) (R.sheet rows.old) (R.sheet rows.new) }
+{
+    let last_slot = slots(rows.width(), row.kind) - 1;
+    let mut first = row.min;
+    for slot in 0..last_slot {
+        let pivot = rows.load(row.number, 1 + slot);
+        if index <= pivot {
+            return found_in(row, slot, first, pivot);
+        }
+        first = pivot + 1;
+    }
+    found_in(row, last_slot, first, row.max)
+}
+
+/// What stands in the slot where an index was found.
+pub(crate) fn load_found<R: Rows>(rows: &mut R, kind: RowKind, found: Found) -> Span
+    requires row { IsPlace (R.sheet rows.old).tree found.step.row 0 }
+    requires slot { found.step.slot < slots_of (R.sheet rows.old).tree.table.width kind }
+    ensures span { result ≡ found_span (R.sheet rows.old).tree.table kind found }
+    ensures rest { R.sheet rows.new ≡ loaded (R.sheet rows.old) }
+{
+    let column = slots(rows.width(), kind) + found.step.slot;
+    Span {
+        first: found.first,
+        last: found.last,
+        word: rows.load(found.step.row, column),
+    }
+}
