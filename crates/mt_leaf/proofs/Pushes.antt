@@ -50,11 +50,6 @@ pushed (x ∷ z ∷ xs) y apart =
     let behind = rw inner at apart in
     ap (λ (rest : List Item). x ∷ rest) (pushed (z ∷ xs) y (λ is hole. behind is (omega arith, hole.1)))
 
-pub length-with_joined : (xs : List Item) (y : Item) → length (with_joined xs y) ≤ length xs + 1
-length-with_joined [] y = omega arith
-length-with_joined (x ∷ []) y = elim (cases_Bool ((x.word == 0) && (y.word == 0))) [ inl t ↦ rw t (omega arith) | inr n ↦ rw n (omega arith) ]
-length-with_joined (x ∷ z ∷ xs) y = let behind = length-with_joined (z ∷ xs) y in omega arith
-
 -- ---- items pushed one behind the other are their spans joined
 
 -- `with_joined`, of spans

@@ -58,7 +58,8 @@ half_place count = (count + 1) / 2
 abbrev pub last_place : ℕ → ℕ → ℕ → ℕ
 last_place least most count = min most (count - least)
 
--- Two rows meet there: at that place, or in a leaf at the next one further inside, where the first row would end with a hole.
+-- Two rows meet there: at the place that is asked for, or in a leaf one item beside it, where the first row would end with a
+-- hole: behind the first place, before the half and the last.
 abbrev pub MeetAt : Towards → Bool → ℕ → ℕ → List Item → ℕ → Type 0
 MeetAt towards.First leaf least most items to = IsLaterEnd leaf items (first_place least most (length items)) to
 MeetAt towards.Middle leaf least most items to = IsEnd leaf items (half_place (length items)) to
