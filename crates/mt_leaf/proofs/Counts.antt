@@ -53,7 +53,7 @@ pub one_to_a_hole : (lo hi first last entry n : ℕ) (xs : List Span) → Fills 
 one_to_a_hole lo hi first last entry n xs fills begins order ends few hole full =
     omega (arith, few_to_a_hole lo hi last (span_stored first last entry) (spans_below xs first) xs fills full hole, length_below xs first)
 
-stored_two : (lo middle behind hi first last entry : ℕ) (left right : List Span) → Fills lo middle left → Fills behind hi right → first < middle → middle ≤ behind → behind ≤ last → last < hi
+pub stored_two : (lo middle behind hi first last entry : ℕ) (left right : List Span) → Fills lo middle left → Fills behind hi right → first < middle → middle ≤ behind → behind ≤ last → last < hi
     → stored (left ++ starting middle right) first last entry ≡ spans_below left first ++ (span_stored first last entry ∷ spans_above right last)
 stored_two lo middle behind hi first last entry left right f g begins order ends inside =
     let below = below-append first left (starting middle right)

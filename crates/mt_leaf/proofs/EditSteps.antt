@@ -15,7 +15,7 @@ use Rattle.mt_leaf.specs.Places.{slot_reaching, slot_above, first_of, with_joine
 use Rattle.mt_leaf.proofs.Stored.{none_below, all_above}
 use Rattle.mt_leaf.proofs.Pushes.{all_pushed, no_gaps-with_joined, no_gaps-pushed}
 
-items_below-spans : (lo first : ℕ) (items : List Item) → RiseFrom lo items → spans_from lo (items_below lo items first) ≡ spans_below (spans_from lo items) first
+pub items_below-spans : (lo first : ℕ) (items : List Item) → RiseFrom lo items → spans_from lo (items_below lo items first) ≡ spans_below (spans_from lo items) first
 items_below-spans lo first [] rise = refl
 items_below-spans lo first (x ∷ items) rise = elim (cases_Bool (nat_lt x.last first)) [
   | inl t ↦
@@ -34,7 +34,7 @@ items_below-spans lo first (x ∷ items) rise = elim (cases_Bool (nat_lt x.last 
 ]
 
 -- what stands below ends in front of `first`
-after-items_below : (lo first : ℕ) (items : List Item) → RiseFrom lo items → lo ≤ first → first ≤ after lo items → after lo (items_below lo items first) ≡ first
+pub after-items_below : (lo first : ℕ) (items : List Item) → RiseFrom lo items → lo ≤ first → first ≤ after lo items → after lo (items_below lo items first) ≡ first
 after-items_below lo first [] rise from to = omega arith
 after-items_below lo first (x ∷ items) rise from to = elim (cases_Bool (nat_lt x.last first)) [
   | inl t ↦
@@ -47,7 +47,7 @@ after-items_below lo first (x ∷ items) rise from to = elim (cases_Bool (nat_lt
   ]
 ]
 
-items_above-spans : (lo last : ℕ) (items : List Item) → RiseFrom lo items → lo ≤ last + 1 → spans_from (last + 1) (drop (slot_above items last) items) ≡ spans_above (spans_from lo items) last
+pub items_above-spans : (lo last : ℕ) (items : List Item) → RiseFrom lo items → lo ≤ last + 1 → spans_from (last + 1) (drop (slot_above items last) items) ≡ spans_above (spans_from lo items) last
 items_above-spans lo last [] rise from = refl
 items_above-spans lo last (x ∷ items) rise from = elim (cases_Bool (nat_le x.last last)) [
   | inl t ↦

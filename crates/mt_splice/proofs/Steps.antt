@@ -1,41 +1,34 @@
 -- One step of a replacement: a row is written, or is buried and retired, or words are loaded.
-use Rattle.std.proofs.Common.{◌≡◌, ◌≢◌, ℕ, ◌+◌, ◌*◌, ◌<◌, ◌≤◌, List, [], ◌∷◌, ◌++◌, Bool, true, false, Option, length, map, refl, sym, ap, ◌∙◌, subst, ⊎_elim, arith, get_or, get_or-set_same, get_or-set_other, set, length-set, append_assoc, length-append}
+use Rattle.std.proofs.Common.{◌≡◌, ◌≢◌, ℕ, ◌+◌, ◌<◌, ◌≤◌, List, [], ◌∷◌, ◌++◌, Bool, true, false, Option, length, map, refl, sym, ap, ◌∙◌, subst, ⊎_elim, arith, get_or, get_or-set_same, get_or-set_other, set, length-set, append_assoc, length-append}
 use Rattle.std.specs.Prelude.{◌||◌, Contains, All, slice_index_or, if◌then◌else◌}
-use Rattle.std.proofs.lemmas.Bool.{cases_Bool}
+use Rattle.std.proofs.lemmas.Bool.{cases_Bool, cases_eq}
 use Rattle.std.proofs.lemmas.List.{map_push, map-append, get_or_append_left, get_or-append-add, get_or_default}
 use Rattle.std.proofs.lemmas.List.Elements.{All-contains, All-append, All-map, Contains-append_left, Contains-append_right, Contains-append_cases}
 use Rattle.mt_base.specs.declared.widths.Width.{Width}
-use Rattle.mt_base.specs.declared.widths.Width.TheVariants.{Long}
 use Rattle.mt_base.specs.Width.{columns}
 use Rattle.mt_layout.specs.declared.items.Item.{Item}
 use Rattle.mt_layout.specs.declared.names.RowKind.{RowKind}
-use Rattle.mt_layout.specs.declared.names.RowKind.TheVariants.{Leaf, Inner, Gapped}
-use Rattle.mt_layout.specs.Rows.{row_in, name_at, dead_mark}
+use Rattle.mt_layout.specs.Rows.{row_in, dead_mark}
+use Rattle.mt_layout.specs.Sizes.{first_row}
+use Rattle.mt_layout.proofs.NameLaws.{row_in-name_at}
+use Rattle.mt_layout.proofs.RowSizes.{some_columns}
 use Rattle.mt_free.specs.Book.{Book, Held, IsRowOf, IsOut, held_rows, after_retire}
 use Rattle.mt_free.proofs.Rows.{AreApart}
 use Rattle.mt_rows.specs.declared.rows.Life.{Life}
 use Rattle.mt_rows.specs.declared.rows.Life.TheVariants.{New, Draft, Live, Dead}
 use Rattle.mt_rows.specs.Spans.{Table, column, base_of}
-use Rattle.mt_rows.specs.Sheet.{Sheet, IsWhole, IsFree, MayBury, OnlyReads, life_of, is_buried, after_bury}
+use Rattle.mt_rows.specs.Sheet.{Rooted, Sheet, IsFree, MayBury, OnlyReads, life_of, is_buried, after_bury}
 use Rattle.mt_rows.specs.Publish.{is_reached}
-use Rattle.mt_rows.specs.Laws as laws
+use Rattle.mt_rows.specs.Laws.{Tree}
 use Rattle.mt_splice.specs.Seen.{Seen}
-use Rattle.mt_splice.specs.Work.{Start, Work, table_with, Keeps}
+use Rattle.mt_splice.specs.Work.{Start, Work, table_with, with_words, Keeps}
 use Rattle.mt_splice.specs.Writes.{IsRowWritten, no_parent}
-use Rattle.mt_splice.specs.Kept.{IsSpare}
+use Rattle.mt_splice.specs.Kept.{IsSpare, IsUnpublished}
 use Rattle.mt_splice.specs.Progress.{Before, IsBefore, IsProgress, row_seen, is_taken, is_gone, stamped}
-use Rattle.mt_splice.proofs.Drafts.{equal_or_not, other_row, other_column, same_column}
+use Rattle.mt_splice.proofs.Drafts.{other_row, other_column, same_column, is_draft, other_life, whole_then}
 use Rattle.mt_splice.proofs.StepSeen.{was_seen, not_both, seen_here, seen_other, seen_before, seen_not_here, seen_more, seen_last, seen_not_last, seen_front, seen_front_not_last, listed_seen, not_listed}
 
--- ---- what is true of numbers, lists and lives
-
-pub row_named : (row : ℕ) (kind : RowKind) → row_in (name_at row kind) ≡ row
-row_named row Leaf = omega arith
-row_named row Inner = omega arith
-row_named row Gapped = omega arith
-
-some_columns : (w : Width) → 0 < columns w
-some_columns Long = omega arith
+-- ---- what is true of lists and lives
 
 -- no row stands both in front and behind
 apart_sides : (xs ys : List ℕ) (x : ℕ) → AreApart (xs ++ ys) → Contains xs x → Contains ys x → ⊥
@@ -61,34 +54,42 @@ rows_stamped number (s ∷ gone) = ap (λ (l : List ℕ). row_seen s ∷ l) (row
 
 -- ---- one moment
 
-module _ (b : Before) (start : Start) (s : Sheet) (book : Book) (w : Work) (before : IsBefore b start) (progress : IsProgress b s book w) where
+module _ {b : Before} {start : Start} {s : Sheet} {book : Book} {w : Work} (before : IsBefore b start) (progress : IsProgress b s book w) where
   pub table_now : table_with start.tree.table w.words ≡ s.tree.table
-  table_now = λ i. record { width = (ap (λ (t : laws.Tree). t.table.width) before.tree ∙ sym progress.width) i; words = sym progress.words i }
+  table_now = ap (λ (t : Tree). table_with t.table w.words) before.tree ∙ sym (ap (λ (t : Rooted). t.table) progress.tree)
+
+  pub width_now : s.tree.table.width ≡ b.sheet.tree.table.width
+  width_now = ap (λ (t : Rooted). t.table.width) progress.tree
 
   pub rows_now : s.tree.rows ≡ b.sheet.tree.rows
-  rows_now = ap (λ (k : Sheet). k.tree.rows) progress.rest
+  rows_now = ap (λ (t : Rooted). t.rows) progress.tree
 
-  pub cleared_now : s.cleared ≡ b.sheet.cleared
+  cleared_now : s.cleared ≡ b.sheet.cleared
   cleared_now = ap (λ (k : Sheet). k.cleared) progress.rest
+
+  -- the book is of the rows that there are
+  pub rows_booked : book.rows ≡ s.tree.rows
+  rows_booked = progress.rows ∙ (before.kept.booked.rows ∙ sym rows_now)
 
   was_free : (row : ℕ) → Contains book.free row → Contains b.book.free row
   was_free row here = subst (λ (l : List ℕ). Contains l row) (sym progress.free) (Contains-append_left book.free (map row_seen w.taken) row here)
 
   -- rows that are free now
 
-  pub free_number : (row : ℕ) → Contains book.free row → IsRowOf b.book row
-  free_number row here = All-contains (IsRowOf b.book) b.book.free row before.book.sound.free_rows (was_free row here)
+  free_number : (row : ℕ) → Contains book.free row → IsRowOf b.book row
+  free_number row here = All-contains (IsRowOf b.book) b.book.free row before.kept.booked.sound.free_rows (was_free row here)
 
   free_unreached : (row : ℕ) → Contains book.free row → is_reached b.sheet.tree row ≡ false
-  free_unreached row here = ⊎_elim (λ (is : is_reached b.sheet.tree row ≡ true). absurd ((before.book.reached row is).not_free (was_free row here))) (λ (not : is_reached b.sheet.tree row ≡ false). not) (cases_Bool (is_reached b.sheet.tree row))
+  free_unreached row here =
+      ⊎_elim (λ (is : is_reached b.sheet.tree row ≡ true). absurd ((before.kept.booked.reached row is).not_free (was_free row here))) (λ (not : is_reached b.sheet.tree row ≡ false). not) (cases_Bool (is_reached b.sheet.tree row))
 
   apart_now : AreApart (book.free ++ (map row_seen w.taken ++ held_rows b.book))
-  apart_now = subst AreApart (ap (λ (l : List ℕ). l ++ held_rows b.book) progress.free ∙ append_assoc book.free (map row_seen w.taken) (held_rows b.book)) before.book.sound.once
+  apart_now = subst AreApart (ap (λ (l : List ℕ). l ++ held_rows b.book) progress.free ∙ append_assoc book.free (map row_seen w.taken) (held_rows b.book)) before.kept.booked.sound.once
 
   free_untaken : (row : ℕ) → Contains book.free row → is_taken w row ≡ false
   free_untaken row here = not_listed w.taken row (λ taken. apart_sides book.free (map row_seen w.taken ++ held_rows b.book) row apart_now here (Contains-append_left (map row_seen w.taken) (held_rows b.book) row taken))
 
-  pub free_unused : (row : ℕ) → Contains book.free row → w.used row ≡ false
+  free_unused : (row : ℕ) → Contains book.free row → w.used row ≡ false
   free_unused row here = progress.used row ∙ or_none (is_reached b.sheet.tree row) (is_taken w row) (free_unreached row here) (free_untaken row here)
 
   life_untaken : (row : ℕ) → first_row ≤ row → row < first_row + b.sheet.tree.rows → is_taken w row ≡ false → life_of s.lives row ≡ life_of b.sheet.lives row
@@ -97,8 +98,8 @@ module _ (b : Before) (start : Start) (s : Sheet) (book : Book) (w : Work) (befo
   free_is_free : (row : ℕ) → Contains book.free row → IsFree s.cleared (life_of s.lives row)
   free_is_free row here =
       let at = free_number row here in
-      let spare = All-contains (λ (row : ℕ). IsSpare b.sheet.cleared (life_of b.sheet.lives row)) b.book.free row before.book.spare (was_free row here) in
-      let same = life_untaken row at.0 (subst (λ (n : ℕ). row < first_row + n) before.book.rows at.1) (free_untaken row here) in
+      let spare = All-contains (λ (row : ℕ). IsSpare b.sheet.cleared (life_of b.sheet.lives row)) b.book.free row before.kept.booked.spare (was_free row here) in
+      let same = life_untaken row at.0 (subst (λ (n : ℕ). row < first_row + n) before.kept.booked.rows at.1) (free_untaken row here) in
       subst (λ (life : Life). IsFree s.cleared life) (sym same) (subst (λ (n : ℕ). IsFree n (life_of b.sheet.lives row)) (sym cleared_now) (spare_is_free b.sheet.cleared (life_of b.sheet.lives row) spare))
 
   -- each row that is free may be written anew
@@ -107,30 +108,28 @@ module _ (b : Before) (start : Start) (s : Sheet) (book : Book) (w : Work) (befo
 
   -- rows that were reached
 
-  reached_out : (row : ℕ) → is_reached b.sheet.tree row ≡ true → IsOut b.book row
-  reached_out row reached = before.book.reached row reached
-
   pub reached_untaken : (row : ℕ) → is_reached b.sheet.tree row ≡ true → is_taken w row ≡ false
-  reached_untaken row reached = not_listed w.taken row (λ taken. (reached_out row reached).not_free (subst (λ (l : List ℕ). Contains l row) (sym progress.free) (Contains-append_right book.free (map row_seen w.taken) row taken)))
+  reached_untaken row reached =
+      not_listed w.taken row (λ taken. (before.kept.booked.reached row reached).not_free (subst (λ (l : List ℕ). Contains l row) (sym progress.free) (Contains-append_right book.free (map row_seen w.taken) row taken)))
 
-  pub reached_number : (row : ℕ) → is_reached b.sheet.tree row ≡ true → (first_row ≤ row) × (row < first_row + b.sheet.tree.rows)
-  reached_number row reached = let at = (reached_out row reached).here in (at.0, subst (λ (n : ℕ). row < first_row + n) before.book.rows at.1)
+  reached_number : (row : ℕ) → is_reached b.sheet.tree row ≡ true → (first_row ≤ row) × (row < first_row + b.sheet.tree.rows)
+  reached_number row reached = let at = (before.kept.booked.reached row reached).here in (at.0, subst (λ (n : ℕ). row < first_row + n) before.kept.booked.rows at.1)
 
-  pub reached_live : (row : ℕ) → is_reached b.sheet.tree row ≡ true → life_of s.lives row ≡ Live
+  reached_live : (row : ℕ) → is_reached b.sheet.tree row ≡ true → life_of s.lives row ≡ Live
   reached_live row reached =
       let at = reached_number row reached in
-      life_untaken row at.0 at.1 (reached_untaken row reached) ∙ (before.live row at.0 at.1).1 reached
+      life_untaken row at.0 at.1 (reached_untaken row reached) ∙ (before.kept.live row at.0 at.1).1 reached
 
 -- ---- two moments
 
 -- rows in use stay so, and keep their words
-keeps_by : (b : Before) (start : Start) (s s' : Sheet) (book book' : Book) (w w' : Work) → IsBefore b start → IsProgress b s book w → IsProgress b s' book' w'
+keeps_by : {b : Before} {start : Start} {s s' : Sheet} {book book' : Book} {w w' : Work} → IsBefore b start → IsProgress b s book w → IsProgress b s' book' w'
     → ((row : ℕ) → is_taken w row ≡ true → is_taken w' row ≡ true)
     → ((row c : ℕ) → w.used row ≡ true → 0 < c → c < columns s.tree.table.width → column s'.tree.table row c ≡ column s.tree.table row c) → Keeps start w w'
-keeps_by b start s s' book book' w w' before progress progress' more same = record {
+keeps_by {b} {start} {s} {s'} {book} {book'} {w} {w'} before progress progress' more same = record {
   used = λ row used. progress'.used row ∙ or_more (is_reached b.sheet.tree row) (is_taken w row) (is_taken w' row) (more row) (sym (progress.used row) ∙ used);
   words = λ row used c above within.
-      let now = table_now b start s book w before progress in let later = table_now b start s' book' w' before progress' in
+      let now = table_now before progress in let later = table_now before progress' in
       ap (λ (t : Table). column t row c) later ∙ (same row c used above (subst (λ (t : Table). c < columns t.width) now within) ∙ sym (ap (λ (t : Table). column t row c) now));
 }
 
@@ -140,13 +139,13 @@ keeps_by b start s s' book book' w w' before progress progress' more same = reco
 abbrev pub with_taken : Before → List ℕ → Work → Seen → Work
 with_taken b words w seen = record { words = words; used = λ row. is_reached b.sheet.tree row || was_seen (seen ∷ w.taken) row; taken = seen ∷ w.taken; gone = w.gone }
 
-module _ (b : Before) (start : Start) (s s' : Sheet) (book book' : Book) (w : Work) (kind : RowKind) (items : List Item) (seen : Seen) (before : IsBefore b start) (progress : IsProgress b s book w)
+module _ {b : Before} {start : Start} {s s' : Sheet} {book book' : Book} {w : Work} {kind : RowKind} {items : List Item} (seen : Seen) (before : IsBefore b start) (progress : IsProgress b s book w)
     (written : IsRowWritten s s' book book' kind items seen.at.word) where
   abbrev pub then_taken : Work
   then_taken = with_taken b s'.tree.table.words w seen
 
-  pub seen_row : row_seen seen ≡ written.row
-  seen_row = ap row_in written.named ∙ row_named written.row kind
+  seen_row : row_seen seen ≡ written.row
+  seen_row = ap row_in written.named ∙ row_in-name_at written.row kind
 
   free_before : book.free ≡ book'.free ++ written.row ∷ []
   free_before = ap (λ (k : Book). k.free) written.taken
@@ -156,71 +155,54 @@ module _ (b : Before) (start : Start) (s s' : Sheet) (book book' : Book) (w : Wo
 
   pub row_number : (first_row ≤ written.row) × (written.row < first_row + s.tree.rows)
   row_number =
-      let at = free_number b start s book w before progress written.row row_here in
-      (at.0, subst (λ (n : ℕ). written.row < first_row + n) (before.book.rows ∙ sym (rows_now b start s book w before progress)) at.1)
+      let at = free_number before progress written.row row_here in
+      (at.0, subst (λ (n : ℕ). written.row < first_row + n) (before.kept.booked.rows ∙ sym (rows_now before progress)) at.1)
 
   pub row_was_unused : w.used (row_seen seen) ≡ false
-  row_was_unused = ap w.used seen_row ∙ free_unused b start s book w before progress written.row row_here
+  row_was_unused = ap w.used seen_row ∙ free_unused before progress written.row row_here
 
   other_than : (row : ℕ) → row_seen seen ≢ row → row ≢ written.row
   other_than row other same = other (seen_row ∙ sym same)
 
-  same_rows : s'.tree.rows ≡ s.tree.rows
-  same_rows = ap (λ (k : Sheet). k.tree.rows) written.drafted.rest
-
-  whole_then : IsWhole s'
-  whole_then = record {
-    few = subst (λ (n : ℕ). n ≤ 65504) (sym same_rows) progress.whole.few;
-    words = written.drafted.size ∙ (progress.whole.words ∙ sym (λ i. columns (written.drafted.width i) * (16 + same_rows i)));
-    lives = ap length written.lives ∙ (length-set s.lives written.row Draft ∙ (progress.whole.lives ∙ sym (ap (λ (n : ℕ). 16 + n) same_rows)));
-    buried = ap (λ (k : Sheet). length k.buried) written.drafted.rest ∙ (progress.whole.buried ∙ sym (ap (λ (n : ℕ). 16 + n) same_rows));
-    cleared = subst (λ (k : Sheet). k.cleared ≤ k.ended) (sym written.drafted.rest) progress.whole.cleared;
-  }
-
   life_same : (row : ℕ) → row_seen seen ≡ row → life_of s'.lives row ≡ (if is_taken then_taken row then Draft else life_of b.sheet.lives row)
   life_same row same =
-      ap (λ (l : List Life). slice_index_or l row New) written.lives
-      ∙ (ap (λ (r : ℕ). slice_index_or (set s.lives written.row Draft) r New) (sym same ∙ seen_row)
-      ∙ (get_or-set_same s.lives written.row Draft New (subst (λ (n : ℕ). written.row < n) (sym progress.whole.lives) row_number.1)
-      ∙ sym (ap (λ (t : Bool). if t then Draft else life_of b.sheet.lives row) (seen_here seen w.taken row same))))
+      ap (life_of s'.lives) (sym same ∙ seen_row)
+      ∙ (is_draft written.drafted.only progress.whole row_number.1 ∙ sym (ap (λ (t : Bool). if t then Draft else life_of b.sheet.lives row) (seen_here seen w.taken row same)))
 
   life_other : (row : ℕ) → row_seen seen ≢ row → first_row ≤ row → row < first_row + b.sheet.tree.rows → life_of s'.lives row ≡ (if is_taken then_taken row then Draft else life_of b.sheet.lives row)
   life_other row other low high =
-      ap (λ (l : List Life). slice_index_or l row New) written.lives
-      ∙ (get_or-set_other s.lives written.row row Draft New (other_than row other)
-      ∙ (progress.lives row low high ∙ sym (ap (λ (t : Bool). if t then Draft else life_of b.sheet.lives row) (seen_other seen w.taken row other))))
+      other_life written.drafted.only row (other_than row other)
+      ∙ (progress.lives row low high ∙ sym (ap (λ (t : Bool). if t then Draft else life_of b.sheet.lives row) (seen_other seen w.taken row other)))
 
   column_other : (row c : ℕ) → row_seen seen ≢ row → c < columns s.tree.table.width → column s'.tree.table row c ≡ column s.tree.table row c
-  column_other row c other within = written.drafted.others row c (other_than row other) within
+  column_other row c other within = written.drafted.only.others row c (other_than row other) within
 
   within_now : (c : ℕ) → c < columns b.sheet.tree.table.width → c < columns s.tree.table.width
-  within_now c within = subst (λ (v : Width). c < columns v) (sym progress.width) within
+  within_now c within = subst (λ (v : Width). c < columns v) (sym (width_now before progress)) within
 
   parent_new : (row : ℕ) → is_taken then_taken row ≡ true → column s'.tree.table row 0 ≡ no_parent
   parent_new row taken =
-      ⊎_elim (λ (same : row_seen seen ≡ row). ap (λ (r : ℕ). column s'.tree.table r 0) (sym same ∙ seen_row) ∙ written.drafted.own 0 (omega arith))
+      ⊎_elim (λ (same : row_seen seen ≡ row). ap (λ (r : ℕ). column s'.tree.table r 0) (sym same ∙ seen_row) ∙ written.drafted.own 0 (some_columns s.tree.table.width))
       (λ (other : row_seen seen ≢ row). column_other row 0 other (some_columns s.tree.table.width) ∙ progress.new_parents row (sym (seen_other seen w.taken row other) ∙ taken))
-      (equal_or_not (row_seen seen) row)
+      (cases_eq (row_seen seen) row)
 
   -- a row that was reached is not the one that is written
   mark_stays : (row : ℕ) → is_reached b.sheet.tree row ≡ true → is_gone w row ≡ true → column s'.tree.table row 0 ≡ dead_mark row
   mark_stays row reached gone =
-      column_other row 0 (λ same. not_both (is_reached b.sheet.tree row) reached (ap (is_reached b.sheet.tree) (sym same ∙ seen_row) ∙ free_unreached b start s book w before progress written.row row_here)) (some_columns s.tree.table.width)
+      column_other row 0 (λ same. not_both (is_reached b.sheet.tree row) reached (ap (is_reached b.sheet.tree) (sym same ∙ seen_row) ∙ free_unreached before progress written.row row_here)) (some_columns s.tree.table.width)
       ∙ progress.marks row reached gone
 
   pub progress_taken : IsProgress b s' book' then_taken
   progress_taken = record {
-    rest = ap (λ (k : Sheet). record k { tree = b.sheet.tree; lives = b.sheet.lives; buried = b.sheet.buried; reads = b.sheet.reads }) written.drafted.rest ∙ progress.rest;
-    root = written.drafted.root ∙ progress.root;
-    width = written.drafted.width ∙ progress.width;
-    words = refl;
-    whole = whole_then;
+    rest = ap (λ (k : Sheet). record k { tree = b.sheet.tree; lives = b.sheet.lives; buried = b.sheet.buried; reads = b.sheet.reads }) written.drafted.only.rest ∙ progress.rest;
+    tree = written.drafted.only.tree ∙ ap (λ (t : Rooted). with_words t s'.tree.table.words) progress.tree;
+    whole = whole_then written.drafted.only progress.whole row_number.1;
     used = λ row. refl;
     free = progress.free ∙ (ap (λ (l : List ℕ). l ++ map row_seen w.taken) free_before ∙ (append_assoc book'.free (written.row ∷ []) (map row_seen w.taken) ∙ ap (λ (r : ℕ). book'.free ++ r ∷ map row_seen w.taken) (sym seen_row)));
     held = sym (ap (λ (k : Book). k.held) written.taken) ∙ progress.held;
-    rows = sym (ap (λ (k : Book). k.tree.rows) written.taken) ∙ progress.rows;
-    lives = λ row low high. ⊎_elim (λ (same : row_seen seen ≡ row). life_same row same) (λ (other : row_seen seen ≢ row). life_other row other low high) (equal_or_not (row_seen seen) row);
-    buried = λ row low high. ap (λ (k : Sheet). is_buried k.buried row) written.drafted.rest ∙ progress.buried row low high;
+    rows = sym (ap (λ (k : Book). k.rows) written.taken) ∙ progress.rows;
+    lives = λ row low high. ⊎_elim (λ (same : row_seen seen ≡ row). life_same row same) (λ (other : row_seen seen ≢ row). life_other row other low high) (cases_eq (row_seen seen) row);
+    buried = λ row low high. ap (λ (k : Sheet). is_buried k.buried row) written.drafted.only.rest ∙ progress.buried row low high;
     kept = λ row c untaken above within.
         column_other row c (seen_not_here seen w.taken row untaken) (within_now c within) ∙ progress.kept row c (seen_before seen w.taken row untaken) above within;
     parents = λ row untaken stays.
@@ -230,7 +212,7 @@ module _ (b : Before) (start : Start) (s s' : Sheet) (book book' : Book) (w : Wo
   }
 
   pub keeps_taken : Keeps start w then_taken
-  keeps_taken = keeps_by b start s s' book book' w then_taken before progress progress_taken (λ row taken. seen_more seen w.taken row taken)
+  keeps_taken = keeps_by before progress progress_taken (λ row taken. seen_more seen w.taken row taken)
       (λ row c used above within. column_other row c (λ same. not_both (w.used row) used (ap w.used (sym same) ∙ row_was_unused)) within)
 
 -- ---- a row is buried and retired
@@ -239,7 +221,7 @@ module _ (b : Before) (start : Start) (s s' : Sheet) (book book' : Book) (w : Wo
 abbrev pub with_gone : List ℕ → Work → Seen → Work
 with_gone words w seen = record { words = words; used = w.used; taken = w.taken; gone = w.gone ++ seen ∷ [] }
 
-module _ (b : Before) (start : Start) (s : Sheet) (book : Book) (w : Work) (seen : Seen) (before : IsBefore b start) (progress : IsProgress b s book w)
+module _ {b : Before} {start : Start} {s : Sheet} {book : Book} {w : Work} (seen : Seen) (before : IsBefore b start) (progress : IsProgress b s book w)
     (reached : is_reached b.sheet.tree (row_seen seen) ≡ true) (stays : is_gone w (row_seen seen) ≡ false) where
   abbrev row : ℕ
   row = row_seen seen
@@ -255,36 +237,31 @@ module _ (b : Before) (start : Start) (s : Sheet) (book : Book) (w : Work) (seen
 
   at_row : (first_row ≤ row) × (row < first_row + s.tree.rows)
   at_row =
-      let at = reached_number b start s book w before progress row reached in
-      (at.0, subst (λ (n : ℕ). row < first_row + n) (sym (rows_now b start s book w before progress)) at.1)
+      let at = reached_number before progress row reached in
+      (at.0, subst (λ (n : ℕ). row < first_row + n) (sym (rows_now before progress)) at.1)
 
-  pub may_bury : b.sheet.in_flight ≡ true → b.sheet.published ≡ false → MayBury s row
-  may_bury in_flight unpublished = record {
-    in_flight = ap (λ (k : Sheet). k.in_flight) progress.rest ∙ in_flight;
-    before = ap (λ (k : Sheet). k.published) progress.rest ∙ unpublished;
+  pub may_bury : IsUnpublished b.sheet.in_flight b.sheet.published b.sheet.ended b.number → MayBury s row
+  may_bury unpublished = record {
+    in_flight = ap (λ (k : Sheet). k.in_flight) progress.rest ∙ unpublished.in_flight;
+    before = ap (λ (k : Sheet). k.published) progress.rest ∙ unpublished.before;
     at = record { first = at_row.0; last = at_row.1; column = some_columns s.tree.table.width };
-    live = reached_live b start s book w before progress row reached;
+    live = reached_live before progress row reached;
   }
 
   not_held_now : ¬ Contains (held_rows book) row
   not_held_now here =
       let listed : Contains (held_rows b.book ++ map row_seen w.gone) row = subst (λ (l : List ℕ). Contains l row)
       (ap (map (λ (h : Held). h.row)) progress.held ∙ (map-append (λ (h : Held). h.row) b.book.held (map (stamped b.number) w.gone) ∙ ap (λ (l : List ℕ). held_rows b.book ++ l) (rows_stamped b.number w.gone))) here in
-      ⊎_elim (λ (held : Contains (held_rows b.book) row). (before.book.reached row reached).not_held held)
+      ⊎_elim (λ (held : Contains (held_rows b.book) row). (before.kept.booked.reached row reached).not_held held)
       (λ (gone : Contains (map row_seen w.gone) row). not_both (is_gone w row) (listed_seen w.gone row gone) stays)
       (Contains-append_cases (held_rows b.book) (map row_seen w.gone) row listed)
 
   pub is_out : IsOut book row
   is_out = record {
-    here = let at = (before.book.reached row reached).here in (at.0, subst (λ (n : ℕ). row < first_row + n) (sym progress.rows) at.1);
-    not_free = λ here. (before.book.reached row reached).not_free (subst (λ (l : List ℕ). Contains l row) (sym progress.free) (Contains-append_left book.free (map row_seen w.taken) row here));
+    here = let at = (before.kept.booked.reached row reached).here in (at.0, subst (λ (n : ℕ). row < first_row + n) (sym progress.rows) at.1);
+    not_free = λ here. (before.kept.booked.reached row reached).not_free (subst (λ (l : List ℕ). Contains l row) (sym progress.free) (Contains-append_left book.free (map row_seen w.taken) row here));
     not_held = not_held_now;
   }
-
-  pub in_order : All (λ (h : Held). h.stamp ≤ b.number) book.held
-  in_order = subst (All (λ (h : Held). h.stamp ≤ b.number)) (sym progress.held)
-      (All-append (λ (h : Held). h.stamp ≤ b.number) b.book.held (map (stamped b.number) w.gone) (λ k d within. let below = before.book.stamps k d within in omega arith)
-      (All-map (λ (h : Held). h.stamp ≤ b.number) (stamped b.number) w.gone (λ k d within. omega arith)))
 
   column_stays : (r c : ℕ) → 0 < c → c < columns s.tree.table.width → column sheet_buried.tree.table r c ≡ column s.tree.table r c
   column_stays r c above within =
@@ -292,7 +269,7 @@ module _ (b : Before) (start : Start) (s : Sheet) (book : Book) (w : Work) (seen
       (λ (same : r ≡ row). subst (λ (k : ℕ). column sheet_buried.tree.table k c ≡ column s.tree.table k c) (sym same)
       (other_column s.tree.table.width s.tree.table.words row 0 (dead_mark row) c (λ none. absurd (omega arith))))
       (λ (other : r ≢ row). other_row s.tree.table.width s.tree.table.words row 0 (dead_mark row) r c other (some_columns s.tree.table.width) within)
-      (equal_or_not r row)
+      (cases_eq r row)
 
   parent_stays : (r : ℕ) → r ≢ row → column sheet_buried.tree.table r 0 ≡ column s.tree.table r 0
   parent_stays r other = other_row s.tree.table.width s.tree.table.words row 0 (dead_mark row) r 0 other (some_columns s.tree.table.width) (some_columns s.tree.table.width)
@@ -303,28 +280,28 @@ module _ (b : Before) (start : Start) (s : Sheet) (book : Book) (w : Work) (seen
       (λ (same : row ≡ r). ap (λ (k : ℕ). slice_index_or (set s.buried row true) k false) (sym same)
       ∙ (get_or-set_same s.buried row true false (subst (λ (n : ℕ). row < n) (sym progress.whole.buried) at_row.1) ∙ sym (seen_last w.gone seen r same)))
       (λ (other : row ≢ r). get_or-set_other s.buried row r true false (λ same. other (sym same)) ∙ (progress.buried r low high ∙ sym (seen_not_last w.gone seen r other)))
-      (equal_or_not row r)
+      (cases_eq row r)
 
   marked_then : (r : ℕ) → is_reached b.sheet.tree r ≡ true → is_gone then_gone r ≡ true → column sheet_buried.tree.table r 0 ≡ dead_mark r
   marked_then r was gone =
       ⊎_elim
       (λ (same : row ≡ r). subst (λ (k : ℕ). column sheet_buried.tree.table k 0 ≡ dead_mark k) same
-      (same_column s.tree.table.width s.tree.table.words row (16 + s.tree.rows) 0 (dead_mark row) (some_columns s.tree.table.width) at_row.1 progress.whole.words))
+      (same_column s.tree.table.width s.tree.table.words row (first_row + s.tree.rows) 0 (dead_mark row) (some_columns s.tree.table.width) at_row.1 progress.whole.words))
       (λ (other : row ≢ r). parent_stays r (λ same. other (sym same)) ∙ progress.marks r was (sym (seen_not_last w.gone seen r other) ∙ gone))
-      (equal_or_not row r)
+      (cases_eq row r)
 
   pub progress_gone : IsProgress b sheet_buried book_retired then_gone
   progress_gone = record {
     rest = progress.rest;
-    root = progress.root;
-    width = progress.width;
-    words = refl;
+    tree = ap (λ (t : Rooted). with_words t sheet_buried.tree.table.words) progress.tree;
     whole = record {
       few = progress.whole.few;
       words = length-set s.tree.table.words (base_of s.tree.table row + 0) (dead_mark row) ∙ progress.whole.words;
       lives = progress.whole.lives;
       buried = length-set s.buried row true ∙ progress.whole.buried;
       cleared = progress.whole.cleared;
+      scans = progress.whole.scans;
+      dead = progress.whole.dead;
     };
     used = progress.used;
     free = progress.free;
@@ -333,25 +310,28 @@ module _ (b : Before) (start : Start) (s : Sheet) (book : Book) (w : Work) (seen
     rows = progress.rows;
     lives = progress.lives;
     buried = buried_then;
-    kept = λ r c untaken above within. column_stays r c above (subst (λ (v : Width). c < columns v) (sym progress.width) within) ∙ progress.kept r c untaken above within;
+    kept = λ r c untaken above within. column_stays r c above (subst (λ (v : Width). c < columns v) (sym (width_now before progress)) within) ∙ progress.kept r c untaken above within;
     parents = λ r untaken stay. parent_stays r (λ same. seen_front_not_last w.gone seen r stay (sym same)) ∙ progress.parents r untaken (seen_front w.gone seen r stay);
-    new_parents = λ r taken.
-        parent_stays r (λ same. not_both (is_taken w r) taken (ap (is_taken w) same ∙ reached_untaken b start s book w before progress row reached)) ∙ progress.new_parents r taken;
+    new_parents = λ r taken. parent_stays r (λ same. not_both (is_taken w r) taken (ap (is_taken w) same ∙ reached_untaken before progress row reached)) ∙ progress.new_parents r taken;
     marks = marked_then;
   }
 
   pub keeps_gone : Keeps start w then_gone
-  keeps_gone = keeps_by b start s sheet_buried book book_retired w then_gone before progress progress_gone (λ r taken. taken) (λ r c used above within. column_stays r c above within)
+  keeps_gone = keeps_by before progress progress_gone (λ r taken. taken) (λ r c used above within. column_stays r c above within)
+
+-- the stamps of the rows that are held do not fall
+pub in_order : {b : Before} {start : Start} {s : Sheet} {book : Book} {w : Work} → IsBefore b start → IsProgress b s book w → All (λ (h : Held). h.stamp ≤ b.number) book.held
+in_order {b} {start} {s} {book} {w} before progress = subst (All (λ (h : Held). h.stamp ≤ b.number)) (sym progress.held)
+    (All-append (λ (h : Held). h.stamp ≤ b.number) b.book.held (map (stamped b.number) w.gone) (λ k d within. let below = before.kept.booked.stamps k d within in omega arith)
+    (All-map (λ (h : Held). h.stamp ≤ b.number) (stamped b.number) w.gone (λ k d within. omega arith)))
 
 -- ---- words are loaded
 
 progress_read : (b : Before) (s : Sheet) (book : Book) (w : Work) (reads : Option ℕ) → IsProgress b s book w → IsProgress b (record s { reads = reads }) book w
 progress_read b s book w reads progress = record {
   rest = progress.rest;
-  root = progress.root;
-  width = progress.width;
-  words = progress.words;
-  whole = record { few = progress.whole.few; words = progress.whole.words; lives = progress.whole.lives; buried = progress.whole.buried; cleared = progress.whole.cleared };
+  tree = progress.tree;
+  whole = record { few = progress.whole.few; words = progress.whole.words; lives = progress.whole.lives; buried = progress.whole.buried; cleared = progress.whole.cleared; scans = progress.whole.scans; dead = progress.whole.dead };
   used = progress.used;
   free = progress.free;
   held = progress.held;
@@ -364,5 +344,5 @@ progress_read b s book w reads progress = record {
   marks = progress.marks;
 }
 
-pub progress_reads : (b : Before) (s s' : Sheet) (book : Book) (w : Work) → OnlyReads s s' → IsProgress b s book w → IsProgress b s' book w
-progress_reads b s s' book w reads progress = subst (λ (k : Sheet). IsProgress b k book w) (sym reads) (progress_read b s book w s'.reads progress)
+pub progress_reads : {b : Before} {s s' : Sheet} {book : Book} {w : Work} → OnlyReads s s' → IsProgress b s book w → IsProgress b s' book w
+progress_reads {b} {s} {s'} {book} {w} reads progress = subst (λ (k : Sheet). IsProgress b k book w) (sym reads) (progress_read b s book w s'.reads progress)

@@ -35,7 +35,6 @@ fn tend_top<R: Rows>(rows: &mut R, place: Place, word: u64)
     let Some(top) = row_of(word) else {
         unreachable!()
     };
-    rows.size();
     let slots = slots(rows.width(), RowKind::Inner);
     rows.tend(top, 0, parent_word(row, col - slots));
 }

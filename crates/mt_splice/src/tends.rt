@@ -11,7 +11,6 @@ pub fn tend_children<R: Rows>(rows: &mut R, kind: RowKind, row: u32, count: u32)
     requires { AreChildren (R.sheet rows.old) kind row count }
     ensures { AreTended (R.sheet rows.old) (R.sheet rows.new) kind row count }
 {
-    rows.size();
     let slots = slots(rows.width(), kind);
     for slot in 0..count {
         let word = rows.load(row, slots + slot);

@@ -4,7 +4,7 @@ ghost use Rattle.std.specs.Prelude.{◌≡◌, ◌<◌, ◌≤◌, All, true, le
 ghost use Rattle.mt_layout.specs.Rows.{IsRowNumber};
 ghost use Rattle.mt_layout.specs.Sizes.{slots_of};
 ghost use Rattle.mt_rows.specs.declared.rows.Life.TheVariants.{Draft};
-ghost use Rattle.mt_rows.specs.Sheet.{IsWhole, IsPlace, IsFree, life_of, drafted};
+ghost use Rattle.mt_rows.specs.Sheet.{IsPlace, IsFree, life_of, drafted};
 ghost use Rattle.mt_splice.specs.Writes.{IsItemDrafted, IsRestDrafted, IsRowDrafted, IsRowWritten};
 
 use mt_base::cols;
@@ -35,7 +35,6 @@ fn draft_if<R: Rows>(rows: &mut R, has: bool, row: u32, col: u32, word: u64)
 
 /// Writes an item into a slot of a row that may be written anew.
 fn draft_item<R: Rows>(rows: &mut R, row: u32, kind: RowKind, slot: u32, item: Item)
-    requires whole { IsWhole (R.sheet rows.old) }
     requires place { IsPlace (R.sheet rows.old).tree row 0 }
     requires free { IsFree (R.sheet rows.old).cleared (life_of (R.sheet rows.old).lives row) }
     requires slot { slot < slots_of (R.sheet rows.old).tree.table.width kind }
@@ -51,7 +50,6 @@ fn draft_item<R: Rows>(rows: &mut R, row: u32, kind: RowKind, slot: u32, item: I
 
 /// Writes 0 into the columns of a draft that no item of this kind of row uses.
 fn draft_unused<R: Rows>(rows: &mut R, row: u32, kind: RowKind)
-    requires whole { IsWhole (R.sheet rows.old) }
     requires place { IsPlace (R.sheet rows.old).tree row 0 }
     requires draft { life_of (R.sheet rows.old).lives row ≡ Draft }
     ensures { IsRestDrafted (R.sheet rows.old) (R.sheet rows.new) row kind }
@@ -70,8 +68,6 @@ fn draft_row<R: Rows>(rows: &mut R, row: u32, kind: RowKind, items: &[Item])
     ensures row { IsRowDrafted (R.sheet rows.old) (R.sheet rows.new) row kind items.now }
     ensures number { IsRowNumber row }
 {
-    // Every table has few enough rows for each to be named.
-    rows.size();
     rows.draft(row, 0, NO_PARENT);
     for slot in 0..slots(rows.width(), kind) {
         let item = items.get(slot as usize).copied().unwrap_or_default();

@@ -16,5 +16,5 @@ loop-slot-preserved g c =
     let word : c.load-word.result ≡ child_word now c.args.kind c.args.row c.loop-slot.slot = c.load-word.ensures.word ∙ ap (λ (n : ℕ). column now c.args.row (n + c.loop-slot.slot)) slots in
     let named : Some c.in-Some.child ≡ named_row (child_word now c.args.kind c.args.row c.loop-slot.slot) = c.in-Some.ensures.row ∙ ap named_row word in
     rw (c.tend.ensures, c.parent_word.ensures)
-    (one_more_tended (g.R.Rows.sheet c.args.rows.now) (g.R.Rows.sheet c.loop-slot.rows) c.args.kind c.args.row c.args.count c.loop-slot.slot c.size.ensures.whole c.requires c.loop-slot-test.true c.loop-slot.invariant
+    (one_more_tended (g.R.Rows.sheet c.args.rows.now) (g.R.Rows.sheet c.loop-slot.rows) c.args.kind c.args.row c.args.count c.loop-slot.slot (g.met.R.Rows.whole c.args.rows.now) c.requires c.loop-slot-test.true c.loop-slot.invariant
     (g.R.Rows.sheet c.load-word.new.self) c.load-word.ensures.rest c.in-Some.child named)
