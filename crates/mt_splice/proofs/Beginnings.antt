@@ -31,7 +31,7 @@ use Rattle.mt_splice.specs.Stretches.{IsStretch, ArePaths}
 use Rattle.mt_splice.specs.Runs.{IsLeafRun}
 use Rattle.mt_splice.specs.Climbs.{Gathered}
 use Rattle.mt_splice.proofs.Moments.{RowsKeep}
-use Rattle.mt_splice.proofs.Regions.{all_expand, all_edited, Leaves, region_leaves}
+use Rattle.mt_splice.proofs.EditedRegions.{all_expand, all_edited, Leaves, region_leaves}
 use Rattle.mt_splice.proofs.Rises.{step_here}
 
 -- the old tree stands as it was where nothing was done yet

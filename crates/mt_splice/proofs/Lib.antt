@@ -7,6 +7,7 @@ pub mod Clearing
 pub mod Counting
 pub mod Counts
 pub mod Drafts
+pub mod EditedRegions
 pub mod EndAfter
 pub mod EndBooks
 pub mod EndFacts
@@ -42,7 +43,6 @@ pub mod NewLevels
 pub mod PathRows
 pub mod PathsNow
 pub mod Readings
-pub mod Regions
 pub mod Rises
 pub mod RootEndings
 pub mod Runs

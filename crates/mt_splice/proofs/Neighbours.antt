@@ -20,7 +20,7 @@ use Rattle.mt_path.proofs.TreePaths.{row_of, place, next_row, row_before}
 use Rattle.mt_splice.specs.Work.{Start, Work, now}
 use Rattle.mt_splice.specs.Stretches.{ArePaths, spans_on}
 use Rattle.mt_splice.specs.Climbs.{begin_of, behind_of, MayBeIn, beside, MayStandIn, Gathered}
-use Rattle.mt_splice.proofs.Regions.{all_joined}
+use Rattle.mt_splice.proofs.EditedRegions.{all_joined}
 use Rattle.mt_splice.proofs.Rises.{step_here, row_is_lawful, spans_here}
 
 -- ---- spans beside each other

@@ -26,7 +26,7 @@ use Rattle.mt_splice.specs.Splice.{region_of}
 use Rattle.mt_splice.specs.Stretches.{ArePaths, spans_on}
 use Rattle.mt_splice.specs.Climbs.{begin_of, behind_of, MayBeIn, beside, Gathered, Climbed}
 use Rattle.mt_splice.specs.Runs.{most_items, most_in_three, span_to, MayBeCut}
-use Rattle.mt_splice.proofs.Regions.{all_edited}
+use Rattle.mt_splice.proofs.EditedRegions.{all_edited}
 use Rattle.mt_splice.proofs.PathRows.{rows_in_order}
 use Rattle.mt_splice.proofs.Neighbours.{takes_right, takes_left}
 use Rattle.mt_splice.proofs.Rises.{at_here, step_here, row_is_lawful, spans_here, level_left}

@@ -1,4 +1,5 @@
 pub mod Beginnings
+pub mod Begun
 pub mod Between
 pub mod Burying
 pub mod Climbs

@@ -12,3 +12,11 @@ pub trait Begun {
     ghost use Rattle.mt_splice.specs.Progress.{Before};
     ghost use Rattle.mt_splice.specs.Work.{Start};
 }
+
+impl Begun for Brand {
+    ghost use Rattle.mt_splice.specs.Begun.{no_before, no_start};
+
+    ghost before = { no_before };
+
+    ghost start = { no_start };
+}
