@@ -43,13 +43,13 @@ module _ {s t u : Sheet} {leaf : PathStep} {last slot : ℕ} {run before pushed 
   -- the last item is read
   pub last_pushed : leaf.max ≤ item.last → pushed ≡ fold with_joined run (ending_above last (unread_there s.tree.table leaf leaf.slot))
   last_pushed end =
-      let all = unread_ends slots (gaps_of t.tree.table.width Leaf) t.tree.table.words (base_of t.tree.table leaf.row) leaf.max slot item.last item is ends slots within within end in
+      let all = unread_ends slots (gaps_of t.tree.table.width Leaf) t.tree.table.words (base_of t.tree.table leaf.row) leaf.max slot item (is, ends) slots within within end in
       one ∙ (ap (λ (xs : List Item). fold with_joined before (ending_above last xs)) (sym all) ∙ done.items)
 
   pub one_more_pushed : item.last < leaf.max → length pushed ≤ length before + 1 → ArePushedUpTo s u leaf last (slot + 1) run pushed
   one_more_pushed more count =
       let rest = unread_there t.tree.table leaf (slot + 1) in
-      let all = unread_goes_on slots (gaps_of t.tree.table.width Leaf) t.tree.table.words (base_of t.tree.table leaf.row) leaf.max slot item.last item is ends slots within within more in
+      let all = unread_goes_on slots (gaps_of t.tree.table.width Leaf) t.tree.table.words (base_of t.tree.table leaf.row) leaf.max slot item (is, ends) slots within within more in
       let still : (λ (x : Sheet). unread_there x.tree.table leaf (slot + 1)) u ≡ rest = ap (λ (x : Sheet). unread_there x.tree.table leaf (slot + 1)) reads in
       record {
         rest = reads ∙ ap (λ (x : Sheet). record x { reads = u.reads }) done.rest;

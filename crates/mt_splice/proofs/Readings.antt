@@ -1,59 +1,30 @@
 -- The items of a row that are still to be read, from a slot on.
-use Rattle.std.proofs.Common.{◌≡◌, ℕ, zero, suc, ◌+◌, ◌-◌, ◌<◌, ◌≤◌, List, [], ◌∷◌, ◌++◌, Bool, true, false, length, take, nat_lt, nat_le, sym, ap, ◌∙◌, arith, append_assoc, append-nil, length-append, ◌⊎◌, ⊎_elim}
-use Rattle.std.specs.Prelude.{slice_index, if◌then◌else◌}
-use Rattle.std.proofs.lemmas.Bool.{lt-ltb, le-ltb, le-leb, lt-leb}
+use Rattle.std.proofs.Common.{◌≡◌, ℕ, suc, ◌+◌, ◌-◌, ◌<◌, ◌≤◌, List, [], ◌∷◌, ◌++◌, length, take, nat_lt, sym, ap, ◌∙◌, arith, append_assoc, append-nil, length-append, ◌⊎◌, ⊎_elim}
+use Rattle.std.specs.Prelude.{if◌then◌else◌}
 use Rattle.std.proofs.Math.Seq.{take-nil}
 use Rattle.mt_layout.specs.declared.items.Item.{Item}
 use Rattle.mt_layout.specs.declared.names.RowKind.{RowKind}
 use Rattle.mt_layout.specs.Columns.{item_at, items_from, pivot_column}
-use Rattle.mt_rows.specs.Spans.{Table, base_of}
-use Rattle.mt_layout.specs.Sizes.{slots_of, gaps_of}
+use Rattle.mt_layout.specs.Sizes.{slots_of, gaps_of, run_room}
+use Rattle.mt_layout.proofs.Reading.{IsItem, ends, goes_on}
+use Rattle.mt_rows.specs.Spans.{Table, base_of, column}
 use Rattle.mt_rows.specs.Sheet.{Sheet, OnlyReads}
-use Rattle.mt_layout.specs.Sizes.{run_room}
 
 abbrev pub unread : ℕ → ℕ → List ℕ → ℕ → ℕ → ℕ → ℕ → List Item
 unread slots gaps w base max to i = take (to - i) (items_from slots gaps w base max (slots - i) i)
 
--- the greatest index of the item in a slot
-abbrev last_in : ℕ → List ℕ → ℕ → ℕ → ℕ → ℕ
-last_in slots w base max i = if nat_lt (i + 1) slots then slice_index w (base + pivot_column i) else max
-
-module _ (slots gaps : ℕ) (w : List ℕ) (base max i last : ℕ) (item : Item) (is : item ≡ item_at slots gaps w base i last) (ends : last ≡ last_in slots w base max i) where
-  last_slot : slots ≡ i + 1 → last ≡ max
-  last_slot at = ends ∙ ap (λ (b : Bool). if b then slice_index w (base + pivot_column i) else max) (le-ltb (i + 1) slots (omega arith))
-
-  other_slot : i + 1 < slots → last ≡ slice_index w (base + pivot_column i)
-  other_slot below = ends ∙ ap (λ (b : Bool). if b then slice_index w (base + pivot_column i) else max) (lt-ltb (i + 1) slots below)
-
-  goes_on : (left n : ℕ) → slots ≡ i + suc left → last < max → take (suc n) (items_from slots gaps w base max (suc left) i) ≡ item ∷ take n (items_from slots gaps w base max left (i + 1))
-  goes_on zero n at more = absurd (let e = last_slot (omega arith) in omega arith)
-  goes_on (suc left) n at more =
-      let pivot = other_slot (omega arith) in
-      let test : nat_le max (slice_index w (base + pivot_column i)) ≡ false = lt-leb max (slice_index w (base + pivot_column i)) (omega (arith, pivot)) in
-      let same : item_at slots gaps w base i (slice_index w (base + pivot_column i)) ≡ item = ap (item_at slots gaps w base i) (sym pivot) ∙ sym is in
-      rw test (ap (λ (x : Item). x ∷ take n (items_from slots gaps w base max (suc left) (i + 1))) same)
-
-  ends_here : (left n : ℕ) → slots ≡ i + suc left → max ≤ last → take (suc n) (items_from slots gaps w base max (suc left) i) ≡ item ∷ []
-  ends_here zero n at done =
-      let same : item_at slots gaps w base i max ≡ item = ap (item_at slots gaps w base i) (sym (last_slot (omega arith))) ∙ sym is in
-      λ j. same j ∷ take-nil n j
-  ends_here (suc left) n at done =
-      let pivot = other_slot (omega arith) in
-      let test : nat_le max (slice_index w (base + pivot_column i)) ≡ true = le-leb max (slice_index w (base + pivot_column i)) (omega (arith, pivot)) in
-      let same : item_at slots gaps w base i (slice_index w (base + pivot_column i)) ≡ item = ap (item_at slots gaps w base i) (sym pivot) ∙ sym is in
-      rw test (λ j. same j ∷ take-nil n j)
-
-  pub unread_goes_on : (to : ℕ) → i < to → i < slots → last < max → unread slots gaps w base max to i ≡ item ∷ unread slots gaps w base max to (i + 1)
+module _ (slots gaps : ℕ) (w : List ℕ) (base max i : ℕ) (item : Item) (is : IsItem slots gaps w base max i item) where
+  pub unread_goes_on : (to : ℕ) → i < to → i < slots → item.last < max → unread slots gaps w base max to i ≡ item ∷ unread slots gaps w base max to (i + 1)
   unread_goes_on to within slot more =
       let n : to - i ≡ suc (to - (i + 1)) = omega arith in
       let left : slots - i ≡ suc (slots - (i + 1)) = omega arith in
-      (λ j. take (n j) (items_from slots gaps w base max (left j) i)) ∙ goes_on (slots - (i + 1)) (to - (i + 1)) (omega arith) more
+      (λ j. take (n j) (items_from slots gaps w base max (left j) i)) ∙ ap (take (suc (to - (i + 1)))) (goes_on slots gaps w base max (slots - (i + 1)) i item (omega arith) is more)
 
-  pub unread_ends : (to : ℕ) → i < to → i < slots → max ≤ last → unread slots gaps w base max to i ≡ item ∷ []
+  pub unread_ends : (to : ℕ) → i < to → i < slots → max ≤ item.last → unread slots gaps w base max to i ≡ item ∷ []
   unread_ends to within slot done =
       let n : to - i ≡ suc (to - (i + 1)) = omega arith in
-      let left : slots - i ≡ suc (slots - (i + 1)) = omega arith in
-      (λ j. take (n j) (items_from slots gaps w base max (left j) i)) ∙ ends_here (slots - (i + 1)) (to - (i + 1)) (omega arith) done
+      (λ j. take (n j) (items_from slots gaps w base max (slots - i) i))
+      ∙ (ap (take (suc (to - (i + 1)))) (ends slots gaps w base max (slots - i) i item (omega arith) (omega arith) is done) ∙ ap (λ (l : List Item). item ∷ l) (take-nil (to - (i + 1))))
 
 pub unread_none : (slots gaps : ℕ) (w : List ℕ) (base max to i : ℕ) → to ≤ i → unread slots gaps w base max to i ≡ []
 unread_none slots gaps w base max to i past = let n : to - i ≡ 0 = omega arith in ap (λ (k : ℕ). take k (items_from slots gaps w base max (slots - i) i)) n
@@ -76,13 +47,13 @@ pub record AreReadUpTo (s s' : Sheet) (kind : RowKind) (row max from to slot : �
 
 module _ (s t u : Sheet) (kind : RowKind) (row max from to slot : ℕ) (run before after : List Item) (item : Item) (done : AreReadUpTo s t kind row max from to slot run before) (reads : OnlyReads t u)
     (is : item ≡ item_at (slots_of t.tree.table.width kind) (gaps_of t.tree.table.width kind) t.tree.table.words (base_of t.tree.table row) slot item.last)
-    (ends : item.last ≡ last_in (slots_of t.tree.table.width kind) t.tree.table.words (base_of t.tree.table row) max slot)
+    (ends_at : item.last ≡ (if nat_lt (slot + 1) (slots_of t.tree.table.width kind) then column t.tree.table row (pivot_column slot) else max))
     (within : slot < to) (slots : slot < slots_of t.tree.table.width kind) (pushed : after ≡ before ++ item ∷ []) where
   pub one_more_read : item.last < max → AreReadUpTo s u kind row max from to (slot + 1) run after
   one_more_read more = record {
     rest = reads ∙ ap (λ (x : Sheet). record x { reads = u.reads }) done.rest;
     items =
-        let rest = unread_goes_on (slots_of t.tree.table.width kind) (gaps_of t.tree.table.width kind) t.tree.table.words (base_of t.tree.table row) max slot item.last item is ends to within slots more in
+        let rest = unread_goes_on (slots_of t.tree.table.width kind) (gaps_of t.tree.table.width kind) t.tree.table.words (base_of t.tree.table row) max slot item (is, ends_at) to within slots more in
         let now : unread_in u.tree.table kind row max to (slot + 1) ≡ unread_in t.tree.table kind row max to (slot + 1) = ap (λ (x : Sheet). unread_in x.tree.table kind row max to (slot + 1)) reads in
         (λ j. pushed j ++ now j) ∙ append_assoc before (item ∷ []) (unread_in t.tree.table kind row max to (slot + 1)) ∙ ap (λ (l : List Item). before ++ l) (sym rest) ∙ done.items;
     room = let room = done.room in rw (pushed, length-append before (item ∷ [])) (omega arith);
@@ -90,7 +61,7 @@ module _ (s t u : Sheet) (kind : RowKind) (row max from to slot : ℕ) (run befo
 
   pub last_read : max ≤ item.last → after ≡ run ++ unread_in s.tree.table kind row max to from
   last_read last =
-      let rest = unread_ends (slots_of t.tree.table.width kind) (gaps_of t.tree.table.width kind) t.tree.table.words (base_of t.tree.table row) max slot item.last item is ends to within slots last in
+      let rest = unread_ends (slots_of t.tree.table.width kind) (gaps_of t.tree.table.width kind) t.tree.table.words (base_of t.tree.table row) max slot item (is, ends_at) to within slots last in
       pushed ∙ ap (λ (l : List Item). before ++ l) (sym rest) ∙ done.items
 
 pub all_read : (s t : Sheet) (kind : RowKind) (row max from to slot : ℕ) (run before : List Item) → AreReadUpTo s t kind row max from to slot run before → (to ≤ slot) ⊎ (slots_of t.tree.table.width kind ≤ slot)

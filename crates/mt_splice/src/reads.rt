@@ -1,13 +1,12 @@
 //! The items of a row read from the rows of a tree.
 
-ghost use Rattle.std.specs.Prelude.{◌≡◌, ◌≢◌, ◌<◌, ◌≤◌, ◌+◌, ◌-◌, [], ◌∷◌, ◌++◌, nat_lt, length, take, if◌then◌else◌};
+ghost use Rattle.std.specs.Prelude.{◌≡◌, ◌<◌, ◌≤◌, ◌+◌, ◌-◌, ◌++◌, nat_lt, length, take, if◌then◌else◌};
 ghost use Rattle.mt_layout.specs.Columns.{item_at, items_from, pivot_column};
 ghost use Rattle.mt_rows.specs.Spans.{base_of, column};
-ghost use Rattle.mt_layout.specs.Sizes.{slots_of, gaps_of};
+ghost use Rattle.mt_layout.specs.Sizes.{first_row, slots_of, gaps_of, run_room};
 ghost use Rattle.mt_rows.specs.Sheet.{OnlyReads};
-ghost use Rattle.mt_layout.specs.Sizes.{run_room};
 
-use mt_layout::{Item, RowKind, Run, slots};
+use mt_layout::{Item, RowKind, Run, gaps, slots};
 use mt_rows::Rows;
 use std::ops::Range;
 
@@ -20,16 +19,18 @@ pub fn load_item<R: Rows>(rows: &mut R, kind: RowKind, row: u32, max: u64, slot:
     ensures last { let t = (R.sheet rows.old).tree.table in result.last ≡ (if nat_lt (slot + 1) (slots_of t.width kind) then column t row (pivot_column slot) else max) }
     ensures rest { OnlyReads (R.sheet rows.old) (R.sheet rows.new) }
 {
-    let slots = slots(rows.width(), kind);
+    let width = rows.width();
+    let slots = slots(width, kind);
     let last = if slot + 1 < slots {
         rows.load(row, 1 + slot)
     } else {
         max
     };
     let word = rows.load(row, slots + slot);
-    let gap = match kind {
-        RowKind::Leaf | RowKind::Inner => 0,
-        RowKind::Gapped => rows.load(row, 2 * slots + slot),
+    let gap = if gaps(width, kind) == 0 {
+        0
+    } else {
+        rows.load(row, 2 * slots + slot)
     };
     Item { last, word, gap }
 }
