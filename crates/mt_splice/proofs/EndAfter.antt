@@ -42,7 +42,7 @@ levels_all P t each (suc h) xs = (all_here (suc h) xs, levels_all P t each h (ex
     all_here h (x ∷ xs) = (each h x, all_here h xs)
 
 -- every row of the two tables has the same columns but for the parent word
-abbrev pub AllKeep : Table → Table → Type 0
+abbrev AllKeep : Table → Table → Type 0
 AllKeep t t' = (r c : ℕ) → 0 < c → c < columns t.width → column t' r c ≡ column t r c
 
 abbrev high : Option ℕ → ℕ
@@ -73,16 +73,16 @@ module _ (t : Tree) (words : List ℕ) (o : Option ℕ) (range : MayBeReplaced t
   abbrev other : Tree
   other = tree_with t words
 
-  pub other_stands : StandsAs other o
+  other_stands : StandsAs other o
   other_stands = now_stands (first_moment t o) (later_moment words) o (all_hold t words o range keep stands)
 
-  pub other_count : (p : ℕ → Span → Bool) → count_in p other o ≡ count_in p t o
+  other_count : (p : ℕ → Span → Bool) → count_in p other o ≡ count_in p t o
   other_count p = now_count (first_moment t o) (later_moment words) o p (all_hold t words o range keep stands)
 
-  pub other_map : map_by (words_of other) ≡ map_by (words_of t)
+  other_map : map_by (words_of other) ≡ map_by (words_of t)
   other_map = map_is other o other_stands ∙ (now_map (first_moment t o) (later_moment words) o (all_hold t words o range keep stands) ∙ sym (map_is t o stands))
 
-  pub other_reached : (row : ℕ) → is_reached (words_of other) row ≡ is_reached (words_of t) row
+  other_reached : (row : ℕ) → is_reached (words_of other) row ≡ is_reached (words_of t) row
   other_reached row =
       let same = other_count (is_row_of row) in
       elim (cases_Bool (is_reached (words_of t) row)) [

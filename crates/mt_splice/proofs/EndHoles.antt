@@ -63,7 +63,7 @@ module _ (t : Tree) (h row col : ℕ) (has : HasWords t) (stands : Stands t h) (
   child_some = name_some place.child.word (kind_at t.kind place.low) (reached.on_level_law t h stands place.low place.child child_on_level).name.named
 
   -- what is stored is the tree with another child
-  pub is_store : with_published (words_of t) (Slot row col) word ≡ words_of (store.after_store st)
+  is_store : with_published (words_of t) (Slot row col) word ≡ words_of (store.after_store st)
   is_store = (λ i. with_published (words_of t) (Slot (sym place.number i) (place.column i)) word)
 
   -- the span that stands in the slot then

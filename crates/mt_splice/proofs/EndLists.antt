@@ -27,7 +27,7 @@ contains_at (y ∷ ys) x (suc k) within is = inr (contains_at ys x k (omega arit
 pub contains_one : {A : Type 0} (xs : List A) (x : A) → Contains xs x → IsOneOf x xs
 contains_one xs x at = contains_at xs x at.0 at.1 at.2
 
-pub one_map : {A B : Type 0} (f : A → B) (xs : List A) (x : A) → IsOneOf x xs → IsOneOf (f x) (map f xs)
+one_map : {A B : Type 0} (f : A → B) (xs : List A) (x : A) → IsOneOf x xs → IsOneOf (f x) (map f xs)
 one_map f [] x one = absurd one
 one_map f (y ∷ ys) x (inl same) = inl (ap f same)
 one_map f (y ∷ ys) x (inr behind) = inr (one_map f ys x behind)

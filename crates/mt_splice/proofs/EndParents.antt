@@ -96,7 +96,7 @@ module _ (f : ends.Finish) where
       (above_in s (Slot r c) at r c refl).1 within)
 
   -- a row that was taken holds what was written in it
-  pub taken_spans : (x : Span) → is_taken w (row_in x.word) ≡ true → spans_in later.table x ≡ spans_in s.tree.table x
+  taken_spans : (x : Span) → is_taken w (row_in x.word) ≡ true → spans_in later.table x ≡ spans_in s.tree.table x
   taken_spans x taken = stored_spans f.place (ends.place_is f) (place_old f.place (ends.place_is f)) x taken
 
   pub inner : (k : ℕ) → laws.kind_at b.kind (suc k) ≡ Inner
@@ -109,7 +109,7 @@ module _ (f : ends.Finish) where
     counted : (r : ℕ) → 1 ≤ count_in (is_row_of r) later (Some h) → 1 ≤ ends.new_count f r
     counted r some = subst (λ (new : Option ℕ). 1 ≤ count_in (is_row_of r) later new) (sym is_new) some
 
-    pub place_counted : (k : ℕ) (x : Span) → reached.OnLevel later.table h (root_of later) k x → 1 ≤ ends.new_count f (row_in x.word)
+    place_counted : (k : ℕ) (x : Span) → reached.OnLevel later.table h (root_of later) k x → 1 ≤ ends.new_count f (row_in x.word)
     place_counted k x on = counted (row_in x.word) (reached.on_level_reached later h stands k x on)
 
     -- ---- rows that were taken
@@ -314,7 +314,7 @@ module _ (f : ends.Finish) where
         kind_here : (low : ℕ) → laws.kind_at (now f.start w).kind (suc low) ≡ Inner
         kind_here low = ap (λ (t : laws.Tree). laws.kind_at t.kind (suc low)) f.may.case.was.tree ∙ inner low
 
-    pub top_at : (row col : ℕ) → f.place ≡ Slot row col → TopAt row col
+    top_at : (row col : ℕ) → f.place ≡ Slot row col → TopAt row col
     top_at row col is = top_in f.may.old f.place row col refl refl is f.may.at
 
     -- ---- what stands in a row that was not taken

@@ -41,7 +41,7 @@ use Rattle.mt_splice.proofs.EndHoles.{same_place_spans, at_one, at_on_level, slo
 
 -- ---- the tree as it was, by the words then and now
 
-pub was_stands : (start : Start) (w : Work) (o : Option ℕ) → HoldsAs start w o → StandsAs start.tree o
+was_stands : (start : Start) (w : Work) (o : Option ℕ) → HoldsAs start w o → StandsAs start.tree o
 was_stands start w None holds = holds
 was_stands start w (Some h) holds = subst (Stands start.tree) holds.0 holds.1.stands
 
@@ -57,7 +57,7 @@ pub now_map : (start : Start) (w : Work) (o : Option ℕ) → HoldsAs start w o 
 now_map start w None holds = refl
 now_map start w (Some h) holds = subst (λ (n : ℕ). map_as (now start w) (Some n) ≡ map_as start.tree (Some n)) holds.0 (old_map start w holds.1)
 
-pub taken_new : (start : Start) (w : Work) (o : Option ℕ) (row : ℕ) → HoldsAs start w o → 1 ≤ passing (is_row_of row) w.taken → count_in (is_row_of row) start.tree o ≡ 0
+taken_new : (start : Start) (w : Work) (o : Option ℕ) (row : ℕ) → HoldsAs start w o → 1 ≤ passing (is_row_of row) w.taken → count_in (is_row_of row) start.tree o ≡ 0
 taken_new start w None row holds some = refl
 taken_new start w (Some h) row holds some = subst (λ (n : ℕ). times_in (is_row_of row) start.tree n ≡ 0) holds.0 (holds.1.taken row some)
 
@@ -185,7 +185,7 @@ module _ (f : Finish) where
   pub was_unreached : (row : ℕ) → is_reached b.sheet.tree row ≡ false → old_count row ≡ 0
   was_unreached row is = unreached_count start.tree f.may.old row stands_was (ap (λ (t : Rooted). is_reached t row) was_is ∙ is)
 
-  pub now_reached : (row : ℕ) → is_reached s.tree row ≡ true → 1 ≤ old_count row
+  now_reached : (row : ℕ) → is_reached s.tree row ≡ true → 1 ≤ old_count row
   now_reached row is =
       let some = reached_count (now start w) f.may.old row stands_now (ap (λ (t : Rooted). is_reached t row) (sym tree_is) ∙ is) in
       let same = now_count start w f.may.old (is_row_of row) f.may.holds in
@@ -232,7 +232,7 @@ module _ (f : Finish) where
   pub old_is_not_taken : (row : ℕ) → 1 ≤ old_count row → is_taken w row ≡ false
   old_is_not_taken row was = not_taken row (old_not_taken (old_count row) (taken_count row) (new_count row) (gone_count row) (counts row) was)
 
-  pub gone_some : (row : ℕ) → is_gone w row ≡ true → 1 ≤ gone_count row
+  gone_some : (row : ℕ) → is_gone w row ≡ true → 1 ≤ gone_count row
   gone_some row is = let some = ltb-true 0 (gone_count row) is in omega arith
 
   pub some_gone : (row : ℕ) → 1 ≤ gone_count row → is_gone w row ≡ true
@@ -250,7 +250,7 @@ module _ (f : Finish) where
   pub life_kept : (row : ℕ) → first_row ≤ row → row < first_row + b.sheet.tree.rows → is_taken w row ≡ false → life_of s.lives row ≡ life_of b.sheet.lives row
   life_kept row first last not = progress.lives row first last ∙ ap (λ (c : Bool). if c then Draft else life_of b.sheet.lives row) not
 
-  pub old_is_live : (row : ℕ) → 1 ≤ old_count row → life_of s.lives row ≡ Live
+  old_is_live : (row : ℕ) → 1 ≤ old_count row → life_of s.lives row ≡ Live
   old_is_live row was =
       let number = was_number row was in
       life_kept row number.0 number.1 (old_is_not_taken row was) ∙ (f.may.case.was.kept.live row number.0 number.1).1 (reached_was row was)
@@ -314,10 +314,10 @@ module _ (f : Finish) where
 
   -- ---- the map
 
-  pub map_was : map_by b.sheet.tree ≡ map_as start.tree f.may.old
+  map_was : map_by b.sheet.tree ≡ map_as start.tree f.may.old
   map_was = ap map_by (sym was_is) ∙ map_is start.tree f.may.old stands_was
 
-  pub map_now : map_by s.tree ≡ map_by b.sheet.tree
+  map_now : map_by s.tree ≡ map_by b.sheet.tree
   map_now = ap map_by tree_is ∙ (map_is (now start w) f.may.old stands_now ∙ (now_map start w f.may.old f.may.holds ∙ sym map_was))
 
   pub map_later : map_by published ≡ start.map
@@ -344,7 +344,7 @@ module _ (f : Finish) where
       ]
 
   -- of a row that is reached before and after none is taken or gone
-  pub stays_even : (row : ℕ) → 1 ≤ old_count row → 1 ≤ new_count row → (p : ℕ → Span → Bool) → Implies p (is_row_of row) → passing p w.taken ≡ passing p w.gone
+  stays_even : (row : ℕ) → 1 ≤ old_count row → 1 ≤ new_count row → (p : ℕ → Span → Bool) → Implies p (is_row_of row) → passing p w.taken ≡ passing p w.gone
   stays_even row was is p within =
       let c = counts row in let sum = c.sum in let once = c.once in
       let none = old_not_taken (old_count row) (taken_count row) (new_count row) (gone_count row) c was in

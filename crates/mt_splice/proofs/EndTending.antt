@@ -36,7 +36,7 @@ only_rows s s' only = ap (λ (v : Rooted). v.rows) only.tree
 pub only_width : (s s' : Sheet) → OnlyParents s s' → s'.tree.table.width ≡ s.tree.table.width
 only_width s s' only = ap (λ (v : Rooted). v.table.width) only.tree
 
-pub only_none : (s : Sheet) → OnlyParents s s
+only_none : (s : Sheet) → OnlyParents s s
 only_none s = record { rest = refl; tree = refl; size = refl; kept = λ r c above within. refl }
 
 pub only_more : (s s' s″ : Sheet) → OnlyParents s s' → OnlyParents s' s″ → OnlyParents s s″
@@ -47,7 +47,7 @@ only_more s s' s″ first more = record {
   kept = λ r c above within. more.kept r c above (subst (λ (w : Width). c < columns w) (sym (only_width s s' first)) within) ∙ first.kept r c above within;
 }
 
-pub only_tended : (s s' : Sheet) (kind : RowKind) (row count : ℕ) → AreTended s s' kind row count → OnlyParents s s'
+only_tended : (s s' : Sheet) (kind : RowKind) (row count : ℕ) → AreTended s s' kind row count → OnlyParents s s'
 only_tended s s' kind row count done = record {
   rest = done.rest;
   tree = done.tree;
@@ -63,12 +63,12 @@ no_rows_tended s kind new_inner_rows = record {
 }
 
 -- words in slots stay while only parent words are written
-pub word_stays : (s t : Sheet) (kind : RowKind) (row slot : ℕ) → OnlyParents s t → slot < slots_of s.tree.table.width kind → child_word t.tree.table kind row slot ≡ child_word s.tree.table kind row slot
+word_stays : (s t : Sheet) (kind : RowKind) (row slot : ℕ) → OnlyParents s t → slot < slots_of s.tree.table.width kind → child_word t.tree.table kind row slot ≡ child_word s.tree.table kind row slot
 word_stays s t kind row slot only within =
     ap (λ (w : Width). column t.tree.table row (slot_column (slots_of w kind) slot)) (only_width s t only)
     ∙ only.kept row (slot_column (slots_of s.tree.table.width kind) slot) (slot_above s.tree.table.width kind slot) (slot_within s.tree.table.width kind slot within)
 
-pub children_stay : (s t : Sheet) (kind : RowKind) (row count : ℕ) → OnlyParents s t → AreChildren s kind row count → AreChildren t kind row count
+children_stay : (s t : Sheet) (kind : RowKind) (row count : ℕ) → OnlyParents s t → AreChildren s kind row count → AreChildren t kind row count
 children_stay s t kind row count only are =
     let rows : s.tree.rows ≡ t.tree.rows = sym (only_rows s t only) in
     record {

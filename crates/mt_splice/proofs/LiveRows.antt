@@ -16,7 +16,7 @@ use Rattle.mt_splice.specs.Kept.{IsBookOf}
 use Rattle.mt_splice.proofs.Counting.{times_of, contains_times, times_contains, apart_once, span_length}
 
 -- no row is reached twice, also where the tree is empty
-pub reached_once : (s : Sheet) (kind : Kind) → IsTreeOf s.tree kind → (row : ℕ) → times_of row (reached_in s.tree.table s.tree.root) ≤ 1
+reached_once : (s : Sheet) (kind : Kind) → IsTreeOf s.tree kind → (row : ℕ) → times_of row (reached_in s.tree.table s.tree.root) ≤ 1
 reached_once s kind tree row = elim tree.words [
   | inl empty ↦ let none : times_of row (reached_in s.tree.table s.tree.root) ≡ 0 = ap (λ (root : ℕ). times_of row (reached_in s.tree.table root)) empty in omega arith
   | inr stands ↦ once_in (tree_as kind s.tree) stands.0 row stands.1
