@@ -1,85 +1,23 @@
 -- The items of a level by their parts, each of which stands in a row.
-use Rattle.std.proofs.Common.{◌≡◌, ◌≢◌, ◌⊎◌, ℕ, zero, suc, ◌+◌, ◌-◌, ◌<◌, ◌≤◌, ◌==◌, List, [], ◌∷◌, ◌++◌, Bool, true, false, length, map, take, drop, get_or, refl, sym, ap, ◌∙◌, subst, inl, inr, ⊎_elim, arith, append-nil, length-append, take-append-drop, length-take-le, length-drop}
+use Rattle.std.proofs.Common.{◌≡◌, ◌≢◌, ◌⊎◌, ℕ, zero, suc, ◌+◌, ◌-◌, ◌<◌, ◌≤◌, List, [], ◌∷◌, ◌++◌, Bool, true, false, length, map, take, drop, get_or, refl, sym, ap, ◌∙◌, subst, inl, inr, ⊎_elim, arith, append-nil, length-append, take-append-drop, length-take-le, length-drop}
 use Rattle.std.specs.Prelude.{if◌then◌else◌}
-use Rattle.std.specs.List.{AllByRecursion, flat_map}
-use Rattle.std.proofs.lemmas.Bool.{cases_Bool, eqb-true}
+use Rattle.std.specs.List.{AllByRecursion}
+use Rattle.std.proofs.lemmas.Bool.{cases_lt}
 use Rattle.std.proofs.lemmas.List.{take_all, take-take, drop-take, drop-drop, take-map, drop-map, get_or-take, get_or-drop}
-use Rattle.mt_base.specs.declared.ranges.Range.{Range}
+use Rattle.mt_base.proofs.Lists.{all_front, all_back}
 use Rattle.mt_layout.specs.declared.items.Item.{Item}
 use Rattle.mt_layout.specs.declared.spans.Span.{Span}
 use Rattle.mt_layout.specs.declared.names.RowKind.{RowKind}
-use Rattle.mt_layout.specs.declared.names.RowKind.TheVariants.{Leaf, Inner, Gapped}
-use Rattle.mt_layout.specs.Spans.{spans_from, leaf_range, Fills, Apart, BeginsFull, EndsFull}
-use Rattle.mt_leaf.specs.Cuts.{word_of, IsPiece, ArePieces, IsCut}
+use Rattle.mt_layout.specs.declared.names.RowKind.TheVariants.{Leaf}
+use Rattle.mt_layout.specs.Sizes.{slots_of, least_items}
+use Rattle.mt_layout.specs.Spans.{spans_from, Fills, Apart, EndsFull}
+use Rattle.mt_layout.proofs.RowSizes.{some_least}
+use Rattle.mt_layout.proofs.SpanLists.{length-spans_from, after, after-append, spans-append, fills_after, fills_items, apart_front, apart_back, full_back, two_hold_an_entry}
+use Rattle.mt_leaf.specs.Cuts.{word_of, IsPiece, ArePieces}
 use Rattle.mt_rows.specs.Laws.{Tree, top_of, kind_at, least_of, least_of_root, covers_all}
-use Rattle.mt_layout.specs.Sizes.{least_items}
-use Rattle.mt_rows.proofs.Lists.{all_front, all_back}
-use Rattle.mt_rows.proofs.SlotWords.{length-spans_from}
 use Rattle.mt_splice.specs.Climbs.{MayBeIn}
+use Rattle.mt_splice.specs.Levels.{IsCutOf}
 use Rattle.mt_splice.specs.Runs.{most_in_three, MayBeLeaves, span_to, MayBeCut}
-
--- ---- items one behind the other
-
--- the index behind the last item
-abbrev pub after : ℕ → List Item → ℕ
-after lo [] = lo
-after lo (x ∷ items) = after (x.last + 1) items
-
-pub after-append : (lo : ℕ) (xs ys : List Item) → after lo (xs ++ ys) ≡ after (after lo xs) ys
-after-append lo [] ys = refl
-after-append lo (x ∷ xs) ys = after-append (x.last + 1) xs ys
-
-pub spans-append : (lo : ℕ) (xs ys : List Item) → spans_from lo (xs ++ ys) ≡ spans_from lo xs ++ spans_from (after lo xs) ys
-spans-append lo [] ys = refl
-spans-append lo (x ∷ xs) ys = ap (λ (l : List Span). record { first = lo; last = x.last; word = x.word } ∷ l) (spans-append (x.last + 1) xs ys)
-
-fills_split : (lo hi : ℕ) (xs ys : List Item) → Fills lo hi (spans_from lo (xs ++ ys)) → Fills lo (after lo xs) (spans_from lo xs) × Fills (after lo xs) hi (spans_from (after lo xs) ys)
-fills_split lo hi [] ys fills = (refl, fills)
-fills_split lo hi (x ∷ xs) ys fills = let rest = fills_split (x.last + 1) hi xs ys fills.2 in ((refl, fills.1, rest.0), rest.1)
-
-pub fills_after : (lo hi : ℕ) (xs : List Item) → Fills lo hi (spans_from lo xs) → hi ≡ after lo xs
-fills_after lo hi [] fills = sym fills
-fills_after lo hi (x ∷ xs) fills = fills_after (x.last + 1) hi xs fills.2
-
--- ---- holes in parts
-
-apart_back : (xs ys : List Span) → Apart (xs ++ ys) → Apart ys
-apart_back [] ys apart = apart
-apart_back (x ∷ xs) ys apart = apart_back xs ys apart.1
-
-apart_front : (xs ys : List Span) → Apart (xs ++ ys) → Apart xs
-apart_front [] ys apart = tt
-apart_front (x ∷ xs) ys apart = (λ hole. begins xs (apart.0 hole), apart_front xs ys apart.1)
-  where
-    begins : (xs : List Span) → BeginsFull (xs ++ ys) → BeginsFull xs
-    begins [] full = tt
-    begins (y ∷ xs) full = full
-
--- holes do not depend on where the items begin
-pub apart_anywhere : (lo begin : ℕ) (xs : List Item) → Apart (spans_from lo xs) → Apart (spans_from begin xs)
-apart_anywhere lo begin [] apart = tt
-apart_anywhere lo begin (x ∷ xs) apart = (λ hole. begins xs (apart.0 hole), apart_anywhere (x.last + 1) (x.last + 1) xs apart.1)
-  where
-    begins : (xs : List Item) → BeginsFull (spans_from (x.last + 1) xs) → BeginsFull (spans_from (x.last + 1) xs)
-    begins xs full = full
-
--- two items that are no two holes hold an entry
-has_entry : (xs : List Span) → Apart xs → 2 ≤ length xs → flat_map leaf_range xs ≢ []
-has_entry [] apart two = absurd (omega arith)
-has_entry (x ∷ []) apart two = absurd (omega arith)
-has_entry (x ∷ y ∷ ys) apart two = elim (cases_Bool (x.word == 0)) [
-  | inl hole ↦ elim (cases_Bool (y.word == 0)) [ inl other ↦ absurd (apart.0 (eqb-true x.word 0 hole) (eqb-true y.word 0 other)) | inr entry ↦ rw (hole, entry) (λ none. filled y (flat_map leaf_range ys) none) ]
-  | inr entry ↦ rw entry (λ none. filled x (flat_map leaf_range (y ∷ ys)) none)
-]
-  where
-    filled : (z : Span) (rs : List Range) → record { first = z.first; last = z.last; entry = z.word } ∷ rs ≡ [] → ⊥
-    filled z rs none = cc
-
-ends_back : (xs ys : List Span) → 1 ≤ length ys → EndsFull (xs ++ ys) → EndsFull ys
-ends_back [] ys some full = full
-ends_back (x ∷ []) [] some full = absurd (omega arith)
-ends_back (x ∷ []) (y ∷ ys) some full = full
-ends_back (x ∷ z ∷ xs) ys some full = ends_back (z ∷ xs) ys some full
 
 ends_full : (lo k : ℕ) (xs : List Item) → k + 1 ≡ length xs → get_or (map (λ (x : Item). x.word) xs) k 0 ≢ 0 → EndsFull (spans_from lo xs)
 ends_full lo k [] at full = tt
@@ -93,21 +31,28 @@ ends_full lo (suc k) (x ∷ y ∷ xs) at full = ends_full (x.last + 1) k (y ∷ 
 abbrev pub IsRun : Tree → ℕ → ℕ → ℕ → List Item → Type 0
 IsRun t height lo hi items = MayBeCut t height lo hi (spans_from lo items)
 
-pub some_items : (t : Tree) (height lo hi : ℕ) (items : List Item) → IsRun t height lo hi items → 1 ≤ length items
-some_items t height lo hi items run = subst (λ (n : ℕ). 1 ≤ n) (length-spans_from lo items) run.some
+pub some_items : {t : Tree} {height lo hi : ℕ} (items : List Item) → IsRun t height lo hi items → 1 ≤ length items
+some_items {t} {height} {lo} {hi} items run = subst (λ (n : ℕ). 1 ≤ n) (length-spans_from lo items) run.some
 
-least_is_few : (t : Tree) (height n : ℕ) (x : Span) → least_items (kind_at t.kind height) ≤ n → 2 ≤ n → least_of t height x ≤ n
+-- the kind of the rows of a height, and how many items these have
+abbrev pub least_in : Tree → ℕ → ℕ
+least_in t height = least_items t.table.width (kind_at t.kind height)
+
+abbrev pub most_in : Tree → ℕ → ℕ
+most_in t height = slots_of t.table.width (kind_at t.kind height)
+
+least_is_few : (t : Tree) (height n : ℕ) (x : Span) → least_in t height ≤ n → 2 ≤ n → least_of t height x ≤ n
 least_is_few t height n x least two = by (covers_all t x) (of_root height)
   where
     of_root : (height : ℕ) → least_of_root height ≤ 2
     of_root zero = omega arith
     of_root (suc height) = omega arith
 
-    by : (c : Bool) → least_of_root height ≤ 2 → (if c then least_of_root height else least_items (kind_at t.kind height)) ≤ n
+    by : (c : Bool) → least_of_root height ≤ 2 → (if c then least_of_root height else least_in t height) ≤ n
     by true few = omega arith
     by false few = least
 
-module _ (t : Tree) (height lo hi : ℕ) (front part back : List Item) (run : IsRun t height lo hi (front ++ (part ++ back))) (two : 2 ≤ length part) (least : least_items (kind_at t.kind height) ≤ length part)
+module _ {t : Tree} {height lo hi : ℕ} (front part back : List Item) (run : IsRun t height lo hi (front ++ (part ++ back))) (least : least_in t height ≤ length part)
     (full : height ≡ 0 → 1 ≤ length back → EndsFull (spans_from (after lo front) part)) where
   abbrev begin : ℕ
   begin = after lo front
@@ -115,8 +60,11 @@ module _ (t : Tree) (height lo hi : ℕ) (front part back : List Item) (run : Is
   abbrev end : ℕ
   end = after begin part
 
+  two : 2 ≤ length part
+  two = omega (arith, some_least t.table.width (kind_at t.kind height), least)
+
   fills_all : Fills begin end (spans_from begin part) × Fills end hi (spans_from end back)
-  fills_all = fills_split begin hi part back (fills_split lo hi front (part ++ back) run.fills).1
+  fills_all = fills_items begin hi part back (fills_items lo hi front (part ++ back) run.fills).1
 
   parts_are : spans_from lo (front ++ (part ++ back)) ≡ spans_from lo front ++ (spans_from begin part ++ spans_from end back)
   parts_are = spans-append lo front (part ++ back) ∙ ap (λ (l : List Span). spans_from lo front ++ l) (spans-append begin part back)
@@ -135,7 +83,7 @@ module _ (t : Tree) (height lo hi : ℕ) (front part back : List Item) (run : Is
       let hi_is : end ≡ hi = subst (λ (l : List Item). Fills end hi (spans_from end l)) none fills_all.1 in
       let all : EndsFull (spans_from lo front ++ (spans_from begin part ++ spans_from end back)) = subst EndsFull parts_are (ends (omega arith)) in
       let nothing : spans_from begin part ++ spans_from end back ≡ spans_from begin part = ap (λ (l : List Item). spans_from begin part ++ spans_from end l) none ∙ append-nil (spans_from begin part) in
-      ends_back (spans_from lo front) (spans_from begin part) (let l = long in omega arith) (subst (λ (l : List Span). EndsFull (spans_from lo front ++ l)) nothing all)
+      full_back (spans_from lo front) (spans_from begin part) (let l = long in omega arith) (subst (λ (l : List Span). EndsFull (spans_from lo front ++ l)) nothing all)
   ends_part is (x ∷ rest) some ends below = full is (let more = ap length some in omega arith)
 
   fit_part : (h : ℕ) → MayBeIn h (spans_from lo (front ++ (part ++ back))) → MayBeIn h (spans_from begin part)
@@ -151,16 +99,15 @@ module _ (t : Tree) (height lo hi : ℕ) (front part back : List Item) (run : Is
   leaves_part : height ≡ 0 → MayBeLeaves t end (spans_from begin part)
   leaves_part is = record {
     ends = ends_part is back refl (run.leaves is).ends;
-    some = has_entry (spans_from begin part) (subst (λ (h : ℕ). MayBeIn h (spans_from begin part)) is (fit_part height run.fit)).0 long;
+    some = two_hold_an_entry (spans_from begin part) (subst (λ (h : ℕ). MayBeIn h (spans_from begin part)) is (fit_part height run.fit)).0 long;
   }
 
-  pub part_is_run : IsRun t height begin end part
+  part_is_run : IsRun t height begin end part
   part_is_run = record {
     fills = fills_all.0;
     some = let l = long in omega arith;
     few = few_in_part;
     least = subst (λ (n : ℕ). least_of t height (span_to begin end) ≤ n) (sym (length-spans_from begin part)) (least_is_few t height (length part) (span_to begin end) least two);
-    gapless = of_part (λ (x : Span). x.gap ≡ 0) run.gapless;
     fit = fit_part height run.fit;
     leaves = leaves_part;
   }
@@ -172,15 +119,15 @@ abbrev pub part_of : List Item → ℕ → ℕ → List Item
 part_of items from to = take (to - from) (drop from items)
 
 -- they begin at `at`, and can stand in one row
-pub record IsPart (t : Tree) (height most at : ℕ) (items : List Item) (from to : ℕ) : Type 0 where
+pub record IsPart (t : Tree) (height at : ℕ) (items : List Item) (from to : ℕ) : Type 0 where
   pub some : from < to
   pub within : to ≤ length items
-  pub fit : to ≤ from + most
+  pub fit : to ≤ from + most_in t height
   pub run : IsRun t height at (after at (part_of items from to)) (part_of items from to)
 
-abbrev pub AreParts : Tree → ℕ → ℕ → ℕ → List Item → ℕ → List ℕ → Type 0
-AreParts t height most at items from [] = from ≡ length items
-AreParts t height most at items from (to ∷ ends) = IsPart t height most at items from to × AreParts t height most (after at (part_of items from to)) items to ends
+abbrev pub AreParts : Tree → ℕ → ℕ → List Item → ℕ → List ℕ → Type 0
+AreParts t height at items from [] = from ≡ length items
+AreParts t height at items from (to ∷ ends) = IsPart t height at items from to × AreParts t height (after at (part_of items from to)) items to ends
 
 pub take_part : (items : List Item) (from to : ℕ) → from ≤ to → take to items ≡ take from items ++ part_of items from to
 take_part items from to order =
@@ -206,24 +153,15 @@ word_in_part items from to some =
     ap (λ (l : List ℕ). get_or l (to - from - 1) 0) (sym (take-map (λ (x : Item). x.word) (to - from) (drop from items)) ∙ ap (take (to - from)) (sym (drop-map (λ (x : Item). x.word) from items)))
     ∙ (get_or-take (to - from) (drop from words) (to - from - 1) 0 (omega arith) ∙ (get_or-drop from words (to - from - 1) 0 ∙ ap (λ (n : ℕ). get_or words n 0) at))
 
-module _ (t : Tree) (height lo hi : ℕ) (items : List Item) (leaf : Bool) (most : ℕ) (run : IsRun t height lo hi items) (is_leaf : height ≡ 0 → leaf ≡ true) where
-  abbrev least : ℕ
-  least = least_items (kind_at t.kind height)
-
-  some_least : (kind : RowKind) → 4 ≤ least_items kind
-  some_least Leaf = omega arith
-  some_least Inner = omega arith
-  some_least Gapped = omega arith
-
-  pieces_within : (from : ℕ) (ends : List ℕ) → ArePieces leaf least most items from ends → from ≤ length items
+module _ {t : Tree} {height lo hi : ℕ} (items : List Item) (leaf : Bool) (run : IsRun t height lo hi items) (is_leaf : height ≡ 0 → leaf ≡ true) where
+  pieces_within : (from : ℕ) (ends : List ℕ) → ArePieces leaf (least_in t height) (most_in t height) items from ends → from ≤ length items
   pieces_within from [] pieces = omega arith
   pieces_within from (to ∷ ends) pieces = let below = pieces_within to ends pieces.1 in let some = pieces.0.some in omega arith
 
-  piece_is_part : (from to at : ℕ) → at ≡ after lo (take from items) → IsPiece leaf least most items from to → to ≤ length items → IsPart t height most at items from to
+  piece_is_part : (from to at : ℕ) → at ≡ after lo (take from items) → IsPiece leaf (least_in t height) (most_in t height) items from to → to ≤ length items → IsPart t height at items from to
   piece_is_part from to at begins piece within =
       let some = piece.some in let many = piece.many in
       let long : length (part_of items from to) ≡ to - from = length-part items from to within in
-      let low = some_least (kind_at t.kind height) in
       let all = subst (IsRun t height lo hi) (all_parts items from to (omega arith)) run in
       let full : height ≡ 0 → 1 ≤ length (drop to items) → EndsFull (spans_from (after lo (take from items)) (part_of items from to)) = λ zero behind.
       let rest = length-drop to items in
@@ -233,10 +171,10 @@ module _ (t : Tree) (height lo hi : ℕ) (items : List Item) (leaf : Bool) (most
         within = within;
         fit = piece.few;
         run = subst (λ (n : ℕ). IsRun t height n (after n (part_of items from to)) (part_of items from to)) (sym begins)
-            (part_is_run t height lo hi (take from items) (part_of items from to) (drop to items) all (omega arith) (omega arith) full);
+            (part_is_run (take from items) (part_of items from to) (drop to items) all (omega arith) full);
       }
 
-  pieces_are_parts : (from at : ℕ) (ends : List ℕ) → at ≡ after lo (take from items) → ArePieces leaf least most items from ends → AreParts t height most at items from ends
+  pieces_are_parts : (from at : ℕ) (ends : List ℕ) → at ≡ after lo (take from items) → ArePieces leaf (least_in t height) (most_in t height) items from ends → AreParts t height at items from ends
   pieces_are_parts from at [] begins pieces = pieces
   pieces_are_parts from at (to ∷ ends) begins pieces =
       let order : from ≤ to = let some = pieces.0.some in omega arith in (
@@ -245,10 +183,10 @@ module _ (t : Tree) (height lo hi : ℕ) (items : List Item) (leaf : Bool) (most
             (ap (λ (n : ℕ). after n (part_of items from to)) begins ∙ (sym (after-append lo (take from items) (part_of items from to)) ∙ ap (after lo) (sym (take_part items from to order)))) pieces.1,
       )
 
-  one_part : length items ≤ most → AreParts t height most lo items 0 (length items ∷ [])
+  one_part : length items ≤ most_in t height → AreParts t height lo items 0 (length items ∷ [])
   one_part few =
       let whole : items ≡ part_of items 0 (length items) = sym (take_all (length items - 0) items (omega arith)) in
-      let some = some_items t height lo hi items run in (
+      let some = some_items items run in (
         record {
           some = omega arith;
           within = omega arith;
@@ -258,14 +196,11 @@ module _ (t : Tree) (height lo hi : ℕ) (items : List Item) (leaf : Bool) (most
         refl,
       )
 
-  -- a cut makes parts of the items
-  pub cut_makes_parts : (ends : List ℕ) → IsCut leaf least most items ends → AreParts t height most lo items 0 ends
-  cut_makes_parts ends cut =
-      ⊎_elim (λ (few : length items ≤ most). subst (AreParts t height most lo items 0) (sym (cut.one few)) (one_part few))
-      (λ (many : most < length items). pieces_are_parts 0 lo ends refl (cut.more many).pieces)
-      (le_or_lt (length items) most)
-    where
-      le_or_lt : (a b : ℕ) → (a ≤ b) ⊎ (b < a)
-      le_or_lt zero b = inl (omega arith)
-      le_or_lt (suc a) zero = inr (omega arith)
-      le_or_lt (suc a) (suc b) = elim (le_or_lt a b) [ inl le ↦ inl (omega arith) | inr lt ↦ inr (omega arith) ]
+-- a cut makes parts of the items
+pub cut_makes_parts : {t : Tree} {height lo hi : ℕ} {ends : List ℕ} (items : List Item) → IsRun t height lo hi items → IsCutOf t.table.width (kind_at t.kind height) items ends → AreParts t height lo items 0 ends
+cut_makes_parts {t} {height} {lo} {hi} {ends} items run cut =
+    let leaf_is : height ≡ 0 → cut.leaf ≡ true = λ zero. cut.of_leaf (ap (kind_at t.kind) zero) in
+    ⊎_elim
+    (λ (many : most_in t height < length items). pieces_are_parts items cut.leaf run leaf_is 0 lo ends refl (cut.cut.more many).pieces)
+    (λ (few : length items ≤ most_in t height). subst (AreParts t height lo items 0) (sym (cut.cut.one few)) (one_part items cut.leaf run leaf_is few))
+    (cases_lt (most_in t height) (length items))
