@@ -8,7 +8,8 @@ use Rattle.mt_base.specs.declared.kinds.Kind.{Kind}
 use Rattle.mt_free.specs.Book.{Book, Held, IsOut, IsRowOf, held_rows, live_count}
 use Rattle.mt_layout.specs.Sizes.{first_row}
 use Rattle.mt_rows.specs.Trees.{reached_in}
-use Rattle.mt_rows.specs.Sheet.{Sheet}
+use Rattle.mt_rows.specs.declared.rows.Life.{Life}
+use Rattle.mt_rows.specs.Sheet.{Rooted}
 use Rattle.mt_rows.specs.Publish.{tree_as, IsTreeOf, IsReached}
 use Rattle.mt_rows.proofs.Lists.{tally-append}
 use Rattle.mt_rows.proofs.Once.{once_in}
@@ -16,24 +17,24 @@ use Rattle.mt_splice.specs.Kept.{IsBookOf}
 use Rattle.mt_splice.proofs.Counting.{times_of, contains_times, times_contains, apart_once, span_length}
 
 -- no row is reached twice, also where the tree is empty
-reached_once : (s : Sheet) (kind : Kind) → IsTreeOf s.tree kind → (row : ℕ) → times_of row (reached_in s.tree.table s.tree.root) ≤ 1
-reached_once s kind tree row = elim tree.words [
-  | inl empty ↦ let none : times_of row (reached_in s.tree.table s.tree.root) ≡ 0 = ap (λ (root : ℕ). times_of row (reached_in s.tree.table root)) empty in omega arith
-  | inr stands ↦ once_in (tree_as kind s.tree) stands.0 row stands.1
+reached_once : (t : Rooted) (kind : Kind) → IsTreeOf t kind → (row : ℕ) → times_of row (reached_in t.table t.root) ≤ 1
+reached_once t kind tree row = elim tree.words [
+  | inl empty ↦ let none : times_of row (reached_in t.table t.root) ≡ 0 = ap (λ (root : ℕ). times_of row (reached_in t.table root)) empty in omega arith
+  | inr stands ↦ once_in (tree_as kind t) stands.0 row stands.1
 ]
 
-module _ (s : Sheet) (kind : Kind) (book : Book) (number : ℕ) (tree : IsTreeOf s.tree kind) (of : IsBookOf s.tree s.lives s.cleared book number) where
+module _ (t : Rooted) (lives : List Life) (cleared : ℕ) (kind : Kind) (book : Book) (number : ℕ) (tree : IsTreeOf t kind) (of : IsBookOf t lives cleared book number) where
   abbrev reached : List ℕ
-  reached = reached_in s.tree.table s.tree.root
+  reached = reached_in t.table t.root
 
   -- the rows that are not out
   abbrev inside : List ℕ
   inside = book.free ++ held_rows book
 
-  reached_times : (row : ℕ) → IsReached s.tree row → 1 ≤ times_of row reached
+  reached_times : (row : ℕ) → IsReached t row → 1 ≤ times_of row reached
   reached_times row is = let some = ltb-true 0 (times_of row reached) is in omega arith
 
-  times_reached : (row : ℕ) → 1 ≤ times_of row reached → IsReached s.tree row
+  times_reached : (row : ℕ) → 1 ≤ times_of row reached → IsReached t row
   times_reached row some = lt-ltb 0 (times_of row reached) (omega arith)
 
   inside_rows : All (IsRowOf book) inside
@@ -72,7 +73,7 @@ module _ (s : Sheet) (kind : Kind) (book : Book) (number : ℕ) (tree : IsTreeOf
       either zero none =
           let parts = tally-append (λ (r : ℕ). r == row) inside reached in
           let some = others_reached row from below none in
-          let most = reached_once s kind tree row in
+          let most = reached_once t kind tree row in
           omega arith
       either (suc n) some =
           let parts = tally-append (λ (r : ℕ). r == row) inside reached in

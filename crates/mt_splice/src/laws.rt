@@ -17,10 +17,11 @@ ghost use Rattle.mt_rows.specs.Laws.{HasWords, Stands, Tree, kind_at, least_of_r
 ghost use Rattle.mt_rows.specs.Levels.{Levels, is_row_of, map_of, tally};
 ghost use Rattle.mt_rows.specs.Publish.{IsTreeOf, is_reached};
 ghost use Rattle.mt_rows.specs.Replacement.{root_of};
-ghost use Rattle.mt_rows.specs.Sheet.{Sheet};
+ghost use Rattle.mt_rows.specs.Sheet.{Rooted};
 ghost use Rattle.mt_rows.specs.Spans.{root_span};
 ghost use Rattle.mt_layout.specs.Sizes.{least_items, slots_of};
 ghost use Rattle.mt_rows.specs.Trees.{map_in, reached_in};
+ghost use Rattle.mt_rows.specs.declared.rows.Life.{Life};
 ghost use Rattle.mt_splice.specs.Beginnings.{Begins};
 ghost use Rattle.mt_splice.specs.Burying.{AreBuried, AreLevelsBuried};
 ghost use Rattle.mt_splice.specs.Climbs.{AreWritten, Climbed, Gathered, IsPathAhead, IsPathBehind, begin_of, beside, between_slots, behind_of, spans_now};
@@ -174,5 +175,5 @@ pub fn the_tree_stands_as_it_was()
 
 /// A book of a tree's rows counts as live just the rows that are reached.
 pub fn a_book_counts_the_rows_reached()
-    ensures { (s : Sheet) (kind : Kind) (book : Book) (number : ℕ) → IsTreeOf s.tree kind → IsBookOf s.tree s.lives s.cleared book number → live_count book ≡ length (reached_in s.tree.table s.tree.root) }
+    ensures { (t : Rooted) (lives : List Life) (cleared : ℕ) (kind : Kind) (book : Book) (number : ℕ) → IsTreeOf t kind → IsBookOf t lives cleared book number → live_count book ≡ length (reached_in t.table t.root) }
 {}
