@@ -1,52 +1,60 @@
--- What one lane plays, step after step over one tree, is a run of the log.
-use Rattle.std.proofs.Common.{◌≡◌, ℕ, suc, ◌+◌, ◌<◌, ◌≤◌, List, [], ◌∷◌, ◌++◌, Option, Some, Result, Ok, Err, IfOk, length, map, fold, take, get_or, slice_get, zero, arith, ap, sym, ◌∙◌, refl, subst, append_assoc, length-append}
-use Rattle.std.specs.List.{All, AllPairs, AllByRecursion, filter_map, enumerate_from, zip}
-use Rattle.std.specs.List.Sorted.{IsPermutation}
-use Rattle.std.proofs.lemmas.List.{take-append-le, take_all, append-nil, map-append, length-map}
-use Rattle.std.proofs.lemmas.List.Elements.{filter_map-append, All-push, All-head, All-map, All-tail}
+-- What one lane plays, line after line over one tree, is what came of the lines.
+use Rattle.std.proofs.Common.{◌≡◌, ℕ, suc, ◌+◌, ◌<◌, ◌≤◌, List, [], ◌∷◌, ◌++◌, Option, Some, None, length, map, fold, take, get_or, arith, ap, sym, ◌∙◌, refl, subst, append_assoc, length-append}
+use Rattle.std.specs.List.{filter_map, enumerate_from}
+use Rattle.std.proofs.lemmas.List.{take-append-le, take_all, append-nil, map-append}
+use Rattle.std.proofs.lemmas.List.Elements.{filter_map-append, All-push}
 use Rattle.std.proofs.lemmas.List.Quantifiers.{all_pairs_push}
-use Rattle.std.proofs.lemmas.List.Sorted.{IsPermutation-refl}
-use Rattle.std.proofs.lemmas.Option.{slice_get_within}
+use Rattle.std.proofs.lemmas.List.Sums.{fold-append}
 use Rattle.mt_base.specs.declared.ranges.Range.{Range}
+use Rattle.mt_base.specs.declared.kinds.Kind.{Kind}
 use Rattle.mt_base.specs.declared.kinds.Kind.TheVariants as kinds
 use Rattle.mt_base.specs.declared.calls.Call.{Call}
 use Rattle.mt_base.specs.declared.calls.Query.{Query}
 use Rattle.mt_base.specs.declared.replies.Reply.{Reply}
-use Rattle.mt_base.specs.Call.{acted, answer}
-use Rattle.mt_base.specs.History.{Record, History, AreLegalFrom, IsLegal, map_after, last_map}
+use Rattle.mt_base.specs.Call.{answer}
+use Rattle.mt_base.specs.History.{Record, AreLegalFrom, IsAnswered, limits_after, map_after, last_map}
+use Rattle.mt_base.specs.Nodes.{Limits, IsMade}
 use Rattle.mt_log.specs.declared.lines.Item.{Item}
 use Rattle.mt_log.specs.declared.lines.Item.TheVariants.{Tree, Write, Ask}
 use Rattle.mt_log.specs.declared.lines.Line.{Line}
-use Rattle.mt_log.specs.declared.lines.Log.{Log}
-use Rattle.mt_log.specs.declared.transcripts.Transcript.{Transcript}
-use Rattle.mt_log.specs.Trees.{Declared, NamesBelow, AreNamedFrom, IsReadable, declared_in, trees_of}
-use Rattle.mt_log.specs.Run.{Step, Outcome, Called, Looked, Follows, InOrder, IsTrueOf, StandsIn, IsRun, steps_of, asked_in, asked_by, numbered_on, opening_of, at_opening, listing_of}
-use Rattle.mtreplay.specs.Playing.{Played, nothing_played, history_of, step_done, called, looked, after_item, played, listings_of, transcript_of}
+use Rattle.mt_log.specs.declared.transcripts.Entry.{Entry}
+use Rattle.mt_log.specs.Trees.{NamesBelow}
+use Rattle.mt_log.specs.Run.{Asked, Step, Outcome, Called, Looked, Follows, InOrder, IsTrueOf, AreDone, asked_from, steps_of, entry_of, holder_in, numbered_on}
+use Rattle.mtreplay.specs.Playing.{Held, Calls, Asks, Does, AreLimits, HasRows, IsFresh, IsPlayed, IsPlayedBy, TellsUpTo, history_of}
+use Rattle.mtreplay.proofs.Answered.{IsInHistory, limits_more, made_is_in_history, record_made}
 
--- no number that a step tells is above n
-abbrev TellsUpTo : ℕ → Outcome → Type 0
-TellsUpTo n (Called number call reply) = number ≤ n
-TellsUpTo n (Looked lo hi k query value) = (lo ≤ n) × (hi ≤ n) × (k ≤ n)
+-- ---- the steps that a line asks for
 
--- what one lane keeps from step to step, where so many trees are declared
-record IsSound (count : ℕ) (p : Played) : Type 0 where
-  named : All (λ (s : Step). s.tree < count) p.steps
-  once : enumerate_from 1 p.records ≡ filter_map (numbered_on 0) p.steps
-  legal : IsLegal (history_of p.records)
-  order : AllPairs InOrder p.steps
-  within : All (λ (s : Step). TellsUpTo (length p.records) s.outcome) p.steps
-  reads : All (λ (s : Step). IsTrueOf (history_of p.records) s.outcome) p.steps
+-- a line behind these lines is asked in the lane and the phase in which they began, since no line ends either
+asked_behind : (number : ℕ) (item : Item) (lines more : List Line) (lane phase : ℕ) → asked_from lane phase (lines ++ more) ≡ asked_from lane phase lines ++ asked_from lane phase more
+    → asked_from lane phase ((record { number = number; item = item } ∷ lines) ++ more) ≡ asked_from lane phase (record { number = number; item = item } ∷ lines) ++ asked_from lane phase more
+asked_behind number (Tree name kind) lines more lane phase behind = behind
+asked_behind number (Write tree call) lines more lane phase behind = ap (λ z. record { line = number; lane = lane; phase = phase; item = Write tree call } ∷ z) behind
+asked_behind number (Ask tree query) lines more lane phase behind = ap (λ z. record { line = number; lane = lane; phase = phase; item = Ask tree query } ∷ z) behind
 
--- nothing was played yet
-nothing_is_sound : (count : ℕ) → IsSound count nothing_played
-nothing_is_sound count = record {
-  named = λ k d l. absurd (omega arith);
-  once = refl;
-  legal = tt;
-  order = λ i j d h l. absurd (omega arith);
-  within = λ k d l. absurd (omega arith);
-  reads = λ k d l. absurd (omega arith);
-}
+asked_more : (lines more : List Line) (lane phase : ℕ) → asked_from lane phase (lines ++ more) ≡ asked_from lane phase lines ++ asked_from lane phase more
+asked_more [] more lane phase = refl
+asked_more (line ∷ lines) more lane phase = asked_behind line.number line.item lines more lane phase (asked_more lines more lane phase)
+
+-- steps that came of lines, and behind them those that came of others
+done_behind : (asked others : List Asked) (steps more : List Step) → AreDone asked steps → AreDone others more → AreDone (asked ++ others) (steps ++ more)
+done_behind [] others steps more done rest = rw done rest
+done_behind (a ∷ asked) others steps more done rest = (
+  done.0,
+  done.1 ++ more,
+  ap (λ z. z ++ more) done.2 ∙ append_assoc done.0 done.1 more,
+  done.3,
+  done_behind asked others done.1 more done.4 rest,
+)
+
+done_more : (lines : List Line) (line : Line) (steps more : List Step) → AreDone (steps_of lines) steps → AreDone (steps_of (line ∷ [])) more → AreDone (steps_of (lines ++ line ∷ [])) (steps ++ more)
+done_more lines line steps more done rest = rw (asked_more lines (line ∷ []) 0 0) (done_behind (steps_of lines) (steps_of (line ∷ [])) steps more done rest)
+
+-- a step of lane 0, in phase 0
+abbrev step_done : ℕ → ℕ → Outcome → Step
+step_done line tree outcome = record { line = line; lane = 0; phase = 0; tree = tree; outcome = outcome }
+
+-- ---- one more call, or one more read
 
 -- one more item is numbered next
 enumerate_push : {X : Type 0} (n : ℕ) (xs : List X) (x : X) → enumerate_from n (xs ++ x ∷ []) ≡ enumerate_from n xs ++ (n + length xs, x) ∷ []
@@ -55,19 +63,22 @@ enumerate_push n (y ∷ ys) x =
     let e : n + suc (length ys) ≡ n + 1 + length ys = omega arith in
     rw e (ap (λ z. (n, y) ∷ z) (enumerate_push (n + 1) ys x))
 
--- one more call keeps a history legal, where the map after the others answers it so
-legal_push : (m : List Range) (records : List Record) (r : Record) → AreLegalFrom kinds.Range m records → r.reply ≡ (acted kinds.Range (fold (map_after kinds.Range) m records) r.call).1 → AreLegalFrom kinds.Range m (records ++ r ∷ [])
-legal_push m [] r legal said = (said, tt)
-legal_push m (q ∷ records) r legal said = (legal.0, legal_push (map_after kinds.Range m q) records r legal.1 said)
+-- one more call keeps a history legal, where it is answered by the map and the limits after the others
+legal_push : (rows : ℕ) (some others : List Record) (n : ℕ) (m : List Range) (records : List Record) (r : Record) → AreLegalFrom (history_of rows some) n m records
+    → IsAnswered kinds.Range (limits_after (history_of rows others) (n + length records)) (fold (map_after kinds.Range) m records) r → AreLegalFrom (history_of rows others) n m (records ++ r ∷ [])
+legal_push rows some others n m [] r legal said = let e : n + 0 ≡ n = omega arith in (rw e at said, tt)
+legal_push rows some others n m (q ∷ records) r legal said =
+    let e : n + suc (length records) ≡ n + 1 + length records = omega arith in
+    (legal.0, legal_push rows some others (n + 1) (map_after kinds.Range m q) records r legal.1 (rw e at said))
 
 within_more : (n : ℕ) (outcome : Outcome) → TellsUpTo n outcome → TellsUpTo (n + 1) outcome
 within_more n (Called number call reply) h = omega arith
 within_more n (Looked lo hi k query value) h = (omega arith, omega arith, omega arith)
 
 -- a call adds to the history behind what a read has seen
-true_more : (records : List Record) (r : Record) (outcome : Outcome) → IsTrueOf (history_of records) outcome → IsTrueOf (history_of (records ++ r ∷ [])) outcome
-true_more records r (Called number call reply) t = tt
-true_more records r (Looked lo hi k query value) t =
+true_more : (rows : ℕ) (records : List Record) (r : Record) (outcome : Outcome) → IsTrueOf (history_of rows records) outcome → IsTrueOf (history_of rows (records ++ r ∷ [])) outcome
+true_more rows records r (Called number call reply) t = tt
+true_more rows records r (Looked lo hi k query value) t =
     let kept : take k (records ++ r ∷ []) ≡ take k records = take-append-le k records (r ∷ []) t.0.made in
     let longer : length (records ++ r ∷ []) ≡ length records + 1 = omega (arith, length-append records (r ∷ [])) in (
       record {
@@ -88,157 +99,151 @@ read_follows : (n : ℕ) (outcome : Outcome) (query : Query) (value : Option Ran
 read_follows n (Called number c r) query value h = (h, h)
 read_follows n (Looked lo hi k q v) query value h = (h.2, h.0, omega (arith, h.2))
 
--- the calls of the one tree are numbered on
-once_called : (p : Played) (line tree : ℕ) (call : Call) → tree ≡ 0 → enumerate_from 1 p.records ≡ filter_map (numbered_on 0) p.steps → enumerate_from 1 (called p line tree call).records ≡ filter_map (numbered_on 0) (called p line tree call).steps
-once_called p line tree call only once =
-    let reply : Reply = (acted kinds.Range (last_map (history_of p.records)) call).1 in
-    let r : Record = record { pass = 0; call = call; reply = reply } in
-    let step : Step = step_done line tree (Called (length p.records + 1) call reply) in
-    let next : 1 + length p.records ≡ length p.records + 1 = omega arith in
-    let numbered : filter_map (numbered_on 0) (step ∷ []) ≡ (length p.records + 1, r) ∷ [] = rw only refl in
-    enumerate_push 1 p.records r ∙ rw (once, next) (rw (filter_map-append (numbered_on 0) p.steps (step ∷ []), numbered) refl)
+-- one more entry tells one more step
+told_more : (steps : List Step) (s : Step) (before after : List Entry) → before ≡ map entry_of steps → after ≡ before ++ entry_of s ∷ [] → after ≡ map entry_of (steps ++ s ∷ [])
+told_more steps s before after told more = more ∙ (ap (λ z. z ++ entry_of s ∷ []) told ∙ sym (map-append entry_of steps (s ∷ [])))
 
-call_is_sound : (count : ℕ) (p : Played) (line tree : ℕ) (call : Call) → count < 2 → tree < count → IsSound count p → IsSound count (called p line tree call)
-call_is_sound count p line tree call few named sound =
-    let n : ℕ = length p.records in
-    let reply : Reply = (acted kinds.Range (last_map (history_of p.records)) call).1 in
-    let r : Record = record { pass = 0; call = call; reply = reply } in
-    let step : Step = step_done line tree (Called (n + 1) call reply) in
-    let longer : length (p.records ++ r ∷ []) ≡ n + 1 = omega (arith, length-append p.records (r ∷ [])) in
-    record {
-      named = All-push (λ (s : Step). s.tree < count) p.steps step sound.named named;
-      once = once_called p line tree call (omega arith) sound.once;
-      legal = legal_push [] p.records r sound.legal refl;
-      order = all_pairs_push InOrder p.steps step sound.order (λ k d l same knows. call_follows n (get_or p.steps k d).outcome call reply (sound.within k d l));
-      within = rw longer (All-push (λ (s : Step). TellsUpTo (n + 1) s.outcome) p.steps step (λ k d l. within_more n (get_or p.steps k d).outcome (sound.within k d l)) (omega arith));
-      reads = All-push (λ (s : Step). IsTrueOf (history_of (p.records ++ r ∷ [])) s.outcome) p.steps step (λ k d l. true_more p.records r (get_or p.steps k d).outcome (sound.reads k d l)) tt;
-    }
+-- the calls of the one tree are numbered on
+once_called : (steps : List Step) (records : List Record) (line tree : ℕ) (call : Call) (reply : Reply) → tree ≡ 0 → enumerate_from 1 records ≡ filter_map (numbered_on 0) steps
+    → enumerate_from 1 (records ++ record_made call reply ∷ []) ≡ filter_map (numbered_on 0) (steps ++ step_done line tree (Called (length records + 1) call reply) ∷ [])
+once_called steps records line tree call reply only once =
+    let r : Record = record_made call reply in
+    let step : Step = step_done line tree (Called (length records + 1) call reply) in
+    let next : 1 + length records ≡ length records + 1 = omega arith in
+    let numbered : filter_map (numbered_on 0) (step ∷ []) ≡ (length records + 1, r) ∷ [] = rw only refl in
+    enumerate_push 1 records r ∙ rw (once, next) (rw (filter_map-append (numbered_on 0) steps (step ∷ []), numbered) refl)
 
 -- a read adds no call
-once_looked : (p : Played) (line tree : ℕ) (query : Query) → tree ≡ 0 → enumerate_from 1 p.records ≡ filter_map (numbered_on 0) p.steps → enumerate_from 1 p.records ≡ filter_map (numbered_on 0) (looked p line tree query).steps
-once_looked p line tree query only once =
-    let n : ℕ = length p.records in
-    let step : Step = step_done line tree (Looked n n n query (answer (last_map (history_of p.records)) query)) in
+once_looked : (steps : List Step) (records : List Record) (line tree lo hi k : ℕ) (query : Query) (value : Option Range) → tree ≡ 0 → enumerate_from 1 records ≡ filter_map (numbered_on 0) steps
+    → enumerate_from 1 records ≡ filter_map (numbered_on 0) (steps ++ step_done line tree (Looked lo hi k query value) ∷ [])
+once_looked steps records line tree lo hi k query value only once =
+    let step : Step = step_done line tree (Looked lo hi k query value) in
     let numbered : filter_map (numbered_on 0) (step ∷ []) ≡ [] = rw only refl in
-    rw (filter_map-append (numbered_on 0) p.steps (step ∷ []), numbered, append-nil (filter_map (numbered_on 0) p.steps)) once
+    rw (filter_map-append (numbered_on 0) steps (step ∷ []), numbered, append-nil (filter_map (numbered_on 0) steps)) once
 
-read_is_sound : (count : ℕ) (p : Played) (line tree : ℕ) (query : Query) → count < 2 → tree < count → IsSound count p → IsSound count (looked p line tree query)
-read_is_sound count p line tree query few named sound =
-    let n : ℕ = length p.records in
-    let value : Option Range = answer (last_map (history_of p.records)) query in
-    let step : Step = step_done line tree (Looked n n n query value) in
-    let whole : take n p.records ≡ p.records = take_all n p.records (omega arith) in
+-- the map after one more call
+last_more : (rows : ℕ) (records : List Record) (r : Record) → last_map (history_of rows (records ++ r ∷ [])) ≡ map_after kinds.Range (last_map (history_of rows records)) r
+last_more rows records r = fold-append (map_after kinds.Range) [] records (r ∷ [])
+
+-- ---- one more line
+
+tree_played : (count rows : ℕ) (old new : Held) (lines : List Line) (line : Line) (steps : List Step) (records : List Record) → new ≡ old → AreDone (steps_of (line ∷ [])) [] → IsPlayedBy count rows old lines steps records
+    → IsPlayedBy count rows new (lines ++ line ∷ []) steps records
+tree_played count rows old new lines line steps records same none h = subst (λ (player : Held). IsPlayedBy count rows player (lines ++ line ∷ []) steps records) (sym same) (record {
+  kind = h.kind;
+  ranges = h.ranges;
+  limits = h.limits;
+  calls = h.calls;
+  told = h.told;
+  done = let all : steps ++ [] ≡ steps = append-nil steps in rw all at (done_more lines line steps [] h.done none);
+  named = h.named;
+  once = h.once;
+  legal = h.legal;
+  order = h.order;
+  within = h.within;
+  reads = h.reads;
+  unheld = h.unheld;
+})
+
+-- a call that was made is one of the history's
+call_in_history : (count rows : ℕ) (old new : Held) (lines : List Line) (number : ℕ) (call : Call) (reply : Reply) (steps : List Step) (records : List Record) → IsPlayedBy count rows old lines steps records → Calls old new number call reply
+    → IsInHistory rows (length records) (last_map (history_of rows records)) call new.ranges reply
+call_in_history count rows old new lines number call reply steps records h c =
+    let of_kind : IsMade kinds.Range old.limits old.ranges call new.ranges reply = subst (λ (kind : Kind). IsMade kind old.limits old.ranges call new.ranges reply) h.kind c.made in
+    let made : IsMade kinds.Range old.limits (last_map (history_of rows records)) call new.ranges reply = subst (λ (m : List Range). IsMade kinds.Range old.limits m call new.ranges reply) h.ranges of_kind in
+    made_is_in_history rows (length records) old.limits (last_map (history_of rows records)) call new.ranges reply (subst (λ (n : ℕ). AreLimits rows n old.limits) h.calls h.limits) made
+
+call_played : (count rows : ℕ) (old new : Held) (lines : List Line) (number tree : ℕ) (call : Call) (reply : Reply) (steps : List Step) (records : List Record) → count < 2 → tree < count → Calls old new number call reply → IsPlayedBy count rows old lines steps records
+    → IsPlayedBy count rows new (lines ++ record { number = number; item = Write tree call } ∷ []) (steps ++ step_done number tree (Called (length records + 1) call reply) ∷ []) (records ++ record_made call reply ∷ [])
+call_played count rows old new lines number tree call reply steps records few among c h =
+    let n : ℕ = length records in
+    let r : Record = record_made call reply in
+    let s : Step = step_done number tree (Called (n + 1) call reply) in
+    let longer : length (records ++ r ∷ []) ≡ n + 1 = omega (arith, length-append records (r ∷ [])) in
+    let entered : IsInHistory rows n (last_map (history_of rows records)) call new.ranges reply = call_in_history count rows old new lines number call reply steps records h c in
+    let limits : AreLimits rows (old.calls + 1) new.limits = subst (λ (l : Option Limits). AreLimits rows (old.calls + 1) l) (sym c.limits) (limits_more rows old.calls old.limits h.limits) in
     record {
-      named = All-push (λ (s : Step). s.tree < count) p.steps step sound.named named;
-      once = once_looked p line tree query (omega arith) sound.once;
-      legal = sound.legal;
-      order = all_pairs_push InOrder p.steps step sound.order (λ k d l same knows. read_follows n (get_or p.steps k d).outcome query value (sound.within k d l));
-      within = All-push (λ (s : Step). TellsUpTo n s.outcome) p.steps step sound.within (omega arith, omega arith, omega arith);
-      reads = All-push (λ (s : Step). IsTrueOf (history_of p.records) s.outcome) p.steps step sound.reads (record { from = omega arith; to = omega arith; made = omega arith; answered = ap (λ records. answer (last_map (history_of records)) query) (sym whole) }, omega arith);
+      kind = c.kind ∙ h.kind;
+      ranges = entered.moved ∙ sym (last_more rows records r);
+      limits = subst (λ (k : ℕ). AreLimits rows k new.limits) (sym c.calls) limits;
+      calls = omega (arith, c.calls, h.calls, longer);
+      told = told_more steps s old.entries new.entries h.told (rw h.calls at c.told);
+      done = done_more lines (record { number = number; item = Write tree call }) steps (s ∷ []) h.done (s ∷ [], [], refl, (n + 1, reply, refl), refl);
+      named = All-push (λ (s : Step). s.tree < count) steps s h.named among;
+      once = once_called steps records number tree call reply (omega arith) h.once;
+      legal = legal_push rows records (records ++ r ∷ []) 0 [] records r h.legal (let e : 0 + n ≡ n = omega arith in rw e entered.answered);
+      order = all_pairs_push InOrder steps s h.order (λ k d l same knows. call_follows n (get_or steps k d).outcome call reply (h.within k d l));
+      within = rw longer (All-push (λ (s : Step). TellsUpTo (n + 1) s.outcome) steps s (λ k d l. within_more n (get_or steps k d).outcome (h.within k d l)) (omega arith));
+      reads = All-push (λ (s : Step). IsTrueOf (history_of rows (records ++ r ∷ [])) s.outcome) steps s (λ k d l. true_more rows records r (get_or steps k d).outcome (h.reads k d l)) tt;
+      unheld = All-push (λ (s : Step). holder_in s.outcome ≡ None) steps s h.unheld entered.unheld;
     }
 
-item_is_sound : (count : ℕ) (p : Played) (line : ℕ) (item : Item) → count < 2 → NamesBelow count item → IsSound count p → IsSound count (after_item p line item)
-item_is_sound count p line (Tree name kind) few named sound = sound
-item_is_sound count p line (Write tree call) few named sound = call_is_sound count p line tree call few named sound
-item_is_sound count p line (Ask tree query) few named sound = read_is_sound count p line tree query few named sound
+read_played : (count rows : ℕ) (old new : Held) (lines : List Line) (number tree : ℕ) (query : Query) (steps : List Step) (records : List Record) → count < 2 → tree < count → Asks old new number query → IsPlayedBy count rows old lines steps records
+    → IsPlayedBy count rows new (lines ++ record { number = number; item = Ask tree query } ∷ []) (steps ++ step_done number tree (Looked (length records) (length records) (length records) query (answer (last_map (history_of rows records)) query)) ∷ []) records
+read_played count rows old new lines number tree query steps records few among asks h =
+    let n : ℕ = length records in
+    let value : Option Range = answer (last_map (history_of rows records)) query in
+    let s : Step = step_done number tree (Looked n n n query value) in
+    let whole : take n records ≡ records = take_all n records (omega arith) in
+    let told : new.entries ≡ old.entries ++ entry_of s ∷ [] = rw (h.calls, h.ranges) at (ap (λ (player : Held). player.entries) asks) in
+    record {
+      kind = ap (λ (player : Held). player.kind) asks ∙ h.kind;
+      ranges = ap (λ (player : Held). player.ranges) asks ∙ h.ranges;
+      limits = rw asks h.limits;
+      calls = ap (λ (player : Held). player.calls) asks ∙ h.calls;
+      told = told_more steps s old.entries new.entries h.told told;
+      done = done_more lines (record { number = number; item = Ask tree query }) steps (s ∷ []) h.done (s ∷ [], [], refl, (n, n, n, value, refl), refl);
+      named = All-push (λ (s : Step). s.tree < count) steps s h.named among;
+      once = once_looked steps records number tree n n n query value (omega arith) h.once;
+      legal = h.legal;
+      order = all_pairs_push InOrder steps s h.order (λ k d l same knows. read_follows n (get_or steps k d).outcome query value (h.within k d l));
+      within = All-push (λ (s : Step). TellsUpTo n s.outcome) steps s h.within (omega arith, omega arith, omega arith);
+      reads = All-push (λ (s : Step). IsTrueOf (history_of rows records) s.outcome) steps s h.reads (record { from = omega arith; to = omega arith; made = omega arith; answered = ap (λ records. answer (last_map (history_of rows records)) query) (sym whole) }, omega arith);
+      unheld = All-push (λ (s : Step). holder_in s.outcome ≡ None) steps s h.unheld refl;
+    }
 
-lines_are_sound : (count : ℕ) (lines : List Line) (p : Played) → count < 2 → AllByRecursion (λ (line : Line). NamesBelow count line.item) lines → IsSound count p → IsSound count (fold (λ p line. after_item p line.number line.item) p lines)
-lines_are_sound count [] p few named sound = sound
-lines_are_sound count (line ∷ lines) p few named sound = lines_are_sound count lines (after_item p line.number line.item) few named.1 (item_is_sound count p line.number line.item few named.0 sound)
-
--- each step names one of the trees that are declared in all
-names_within : (count total : ℕ) (item : Item) → count ≤ total → NamesBelow count item → NamesBelow total item
-names_within count total (Tree name kind) l named = tt
-names_within count total (Write tree call) l named = omega arith
-names_within count total (Ask tree query) l named = omega arith
-
-named_within : (count total : ℕ) (lines : List Line) → count + length (trees_of lines) ≤ total → AreNamedFrom count lines → AllByRecursion (λ (line : Line). NamesBelow total line.item) lines
-named_within count total [] l named = tt
-named_within count total (line ∷ lines) l named =
-    let declared : trees_of (line ∷ lines) ≡ trees_of (line ∷ []) ++ trees_of lines = filter_map-append (λ (line : Line). declared_in line.item) (line ∷ []) lines in
-    let split : length (trees_of (line ∷ lines)) ≡ length (trees_of (line ∷ [])) + length (trees_of lines) = ap length declared ∙ length-append (trees_of (line ∷ [])) (trees_of lines) in (
-      names_within count total line.item (omega arith) named.0,
-      named_within (count + length (trees_of (line ∷ []))) total lines (omega arith) named.1,
-    )
-
--- the steps that were done are those of the log
-item_is_asked : (p : Played) (line : ℕ) (item : Item) → map asked_by (after_item p line item).steps ≡ map asked_by p.steps ++ steps_of (record { number = line; item = item } ∷ [])
-item_is_asked p line (Tree name kind) = sym (append-nil (map asked_by p.steps))
-item_is_asked p line (Write tree call) = map-append asked_by p.steps _
-item_is_asked p line (Ask tree query) = map-append asked_by p.steps _
-
-steps_are_asked : (lines : List Line) (p : Played) → map asked_by (fold (λ p line. after_item p line.number line.item) p lines).steps ≡ map asked_by p.steps ++ steps_of lines
-steps_are_asked [] p = sym (append-nil (map asked_by p.steps))
-steps_are_asked (line ∷ lines) p =
-    steps_are_asked lines (after_item p line.number line.item) ∙ ap (λ z. z ++ steps_of lines) (item_is_asked p line.number line.item)
-    ∙ append_assoc (map asked_by p.steps) (steps_of (line ∷ [])) (steps_of lines)
-    ∙ ap (λ z. map asked_by p.steps ++ z) (sym (filter_map-append (λ (line : Line). asked_in line.number line.item) (line ∷ []) lines))
-
--- each declared tree has this history
-abbrev histories_of : List Declared → List Record → List History
-histories_of trees records = map (λ d. history_of records) trees
-
--- each opens as its tree is declared
-histories_are_opened : (trees : List Declared) (records : List Record) → All (λ (d : Declared). d.kind ≡ kinds.Range) trees → map opening_of trees ≡ map at_opening (histories_of trees records)
-histories_are_opened [] records h = refl
-histories_are_opened (d ∷ trees) records h =
-    let IsForRanges : Declared → Type 0 = λ d. d.kind ≡ kinds.Range in
-    let opened : opening_of d ≡ at_opening (history_of records) = ap (λ kind. record { kind = kind; opening = []; records = [] }) (All-head IsForRanges d trees h) in
-    let rest : map opening_of trees ≡ map at_opening (histories_of trees records) = histories_are_opened trees records (All-tail IsForRanges d trees h) in
-    cc
-
-history_at : (trees : List Declared) (records : List Record) (tree : ℕ) → tree < length trees → slice_get (histories_of trees records) tree ≡ Some (history_of records)
-history_at [] records tree l = absurd (omega arith)
-history_at (d ∷ trees) records zero l = refl
-history_at (d ∷ trees) records (suc tree) l = history_at trees records tree (omega arith)
-
--- so each tree's calls are the records of its history, in the order of their numbers
-calls_stand_once : (trees : List Declared) (p : Played) (tree : ℕ) (h : History) → length trees < 2 → IsSound (length trees) p → slice_get (histories_of trees p.records) tree ≡ Some h → IsPermutation (enumerate_from 1 h.records) (filter_map (numbered_on tree) p.steps)
-calls_stand_once trees p tree h few sound is =
-    let among : tree < length trees = omega (arith, slice_get_within (histories_of trees p.records) tree h is, length-map trees (λ (d : Declared). history_of p.records)) in
-    let only : tree ≡ 0 = omega arith in
-    let at : slice_get (histories_of trees p.records) tree ≡ Some (history_of p.records) = history_at trees p.records tree among in
-    let same : h ≡ history_of p.records = cc in
-    rw (same, only, ← sound.once) (IsPermutation-refl (enumerate_from 1 p.records))
-
--- each step stands in the history of the tree that it names
-reads_are_true : (trees : List Declared) (p : Played) → IsSound (length trees) p → All (StandsIn (histories_of trees p.records)) p.steps
-reads_are_true trees p sound k d l = (
-  history_of p.records,
-  history_at trees p.records (get_or p.steps k d).tree (sound.named k d l),
-  sound.reads k d l,
+pub line_played : (count rows : ℕ) (old new : Held) (lines : List Line) (number : ℕ) (item : Item) → count < 2 → NamesBelow count item → Does old new number item → IsPlayed count rows old lines → IsPlayed count rows new (lines ++ record { number = number; item = item } ∷ [])
+line_played count rows old new lines number (Tree name kind) few named does (steps, records, h) = (steps, records, tree_played count rows old new lines (record { number = number; item = Tree name kind }) steps records does refl h)
+line_played count rows old new lines number (Write tree call) few named does (steps, records, h) = (
+  steps ++ step_done number tree (Called (length records + 1) call does.0) ∷ [],
+  records ++ record_made call does.0 ∷ [],
+  call_played count rows old new lines number tree call does.0 steps records few named does.1 h,
+)
+line_played count rows old new lines number (Ask tree query) few named does (steps, records, h) = (
+  steps ++ step_done number tree (Looked (length records) (length records) (length records) query (answer (last_map (history_of rows records)) query)) ∷ [],
+  records,
+  read_played count rows old new lines number tree query steps records few named does h,
 )
 
--- the listings are the trees with what their history makes of them
-listed_more : (line : ℕ) (item : Item) (rest : List Line) (records : List Record) → listings_of rest (last_map (history_of records)) ≡ map listing_of (zip (trees_of rest) (histories_of (trees_of rest) records)) → listings_of (record { number = line; item = item } ∷ rest) (last_map (history_of records)) ≡ map listing_of (zip (trees_of (record { number = line; item = item } ∷ rest)) (histories_of (trees_of (record { number = line; item = item } ∷ rest)) records))
-listed_more line (Tree name kind) rest records h = ap (λ z. record { name = name; kind = kind; ranges = last_map (history_of records) } ∷ z) h
-listed_more line (Write tree call) rest records h = h
-listed_more line (Ask tree query) rest records h = h
+-- a line counts one call at the most, and uses no more room than it counts
+pub counts_on : (old new : Held) (number : ℕ) (item : Item) → Does old new number item → (new.calls ≤ old.calls + 1) × (new.used + old.calls ≤ old.used + new.calls)
+counts_on old new number (Tree name kind) does = rw does (omega arith, omega arith)
+counts_on old new number (Write tree call) does = (omega (arith, does.1.calls), omega (arith, does.1.calls, does.1.used))
+counts_on old new number (Ask tree query) does = rw does (omega arith, omega arith)
 
-trees_are_listed : (lines : List Line) (records : List Record) → listings_of lines (last_map (history_of records)) ≡ map listing_of (zip (trees_of lines) (histories_of (trees_of lines) records))
-trees_are_listed [] records = refl
-trees_are_listed (line ∷ lines) records = listed_more line.number line.item lines records (trees_are_listed lines records)
+-- ---- before the first line
 
--- what one lane makes of a log that can be read is a run of it
-log_is_run : (log : Log) → IsReadable log.lines → IsRun log (transcript_of log)
-log_is_run log readable =
-    let trees : List Declared = trees_of log.lines in
-    let p : Played = played log.lines in
-    let sound : IsSound (length trees) p = lines_are_sound (length trees) log.lines nothing_played readable.one_tree (named_within 0 (length trees) log.lines (omega arith) readable.named) (nothing_is_sound (length trees)) in (
-      p.steps,
-      histories_of trees p.records,
-      record {
-        asked = sym (steps_are_asked log.lines nothing_played);
-        told = refl;
-        opened = histories_are_opened trees p.records readable.for_ranges;
-        once = λ tree h is. calls_stand_once trees p tree h readable.one_tree sound is;
-        legal = All-map IsLegal (λ (d : Declared). history_of p.records) trees (λ k d l. sound.legal);
-        order = sound.order;
-        reads = reads_are_true trees p sound;
-        lists = trees_are_listed log.lines p.records;
-      },
-    )
+fresh_limits : (rows : ℕ) (limits : Option Limits) → IsFresh limits → HasRows rows limits → AreLimits rows 0 limits
+fresh_limits rows None fresh size = tt
+fresh_limits rows (Some l) fresh size = record { size = size; opened = fresh.0; ended = omega (arith, fresh.1); alone = fresh.2 }
 
-pub played_is_run : {E : Type 0} (log : Log) (r : Result Transcript E) → IsReadable log.lines → IfOk r (λ t. t ≡ transcript_of log) → IfOk r (IsRun log)
-played_is_run log (Ok t) readable same = let P : Transcript → Type 0 = IsRun log in subst P (sym same) (log_is_run log readable)
-played_is_run log (Err e) readable same = same
+pub nothing_played : (count rows : ℕ) (player : Held) → player.kind ≡ kinds.Range → player.ranges ≡ [] → player.calls ≡ 0 → player.entries ≡ [] → IsFresh player.limits → HasRows rows player.limits → IsPlayed count rows player []
+nothing_played count rows player kind ranges calls entries fresh size = (
+  [],
+  [],
+  record {
+    kind = kind;
+    ranges = ranges;
+    limits = rw calls (fresh_limits rows player.limits fresh size);
+    calls = calls;
+    told = entries;
+    done = refl;
+    named = λ k d l. absurd (omega arith);
+    once = refl;
+    legal = tt;
+    order = λ i j d h l. absurd (omega arith);
+    within = λ k d l. absurd (omega arith);
+    reads = λ k d l. absurd (omega arith);
+    unheld = λ k d l. absurd (omega arith);
+  },
+)

@@ -1,9 +1,9 @@
 -- What was read and written so far, piece by piece.
-use Rattle.std.proofs.Common.{◌≡◌, Result, Ok, Err, IfErr, IsErrAnd, ◌≤◌, ◌+◌, ℕ, List, [], ◌++◌, Option, length, take, drop, append_assoc, take-append-drop, sym, ap, subst, append-nil, ◌∙◌, refl}
+use Rattle.std.proofs.Common.{◌≡◌, Result, Ok, Err, IfErr, IsErrAnd, ◌≤◌, ◌+◌, ℕ, List, [], ◌++◌, Option, length, take, drop, append_assoc, take-append-drop, sym, ap, subst, append-nil, ◌∙◌, refl, arith, length-append}
 use Rattle.std.specs.Io.KnownBytes.{Appends, Consumes, IsAtEnd, Keeps}
 use Rattle.std.proofs.KnownBytes.{Appends-nil, Appends-trans, Appends-kept, Consumes-nil, Consumes-trans, Consumes-kept}
 use Rattle.std.proofs.lemmas.List.{take_rest}
-use Rattle.mtreplay.specs.Ending.{ReadsTooMany, ReadsWithin}
+use Rattle.mtreplay.specs.Ending.{ReadsNoFurther, ReadsTooMany, ReadsWithin}
 use Rattle.mt_io.specs.Faults.{Rose}
 use Rattle.mtreplay.specs.Input.{ReadsAll, ReadFails}
 use Rattle.mtreplay.specs.declared.streams.ReadError.{ReadError}
@@ -34,7 +34,19 @@ pub fault_fails : {T : Type 0} (result : Result T ReadError) (left rest : Option
 fault_fails (Ok x) left rest before after is within rose = tt
 fault_fails (Err e) left rest before after is within rose = let P : ReadError → Type 0 = λ x. ReadFails x left rest before after in subst P (sym is) (within, rose)
 
-pub ruleset reading = (Consumes-nil, read_more, read_all, read_within, read_too_many)
+-- nothing was read
+pub reads_none : (left : Option (List ℕ)) → ReadsNoFurther left left
+reads_none left = ([], Consumes-nil left, omega arith)
+
+-- so many bytes were read and kept, and then as many more as had room
+pub reads_no_further : (before now after : Option (List ℕ)) (bytes piece : List ℕ) → Consumes before now bytes → Consumes now after piece → length bytes + length piece ≤ LONGEST + 1 → ReadsNoFurther before after
+reads_no_further before now after bytes piece so_far more room = (bytes ++ piece, Consumes-trans before now after bytes piece so_far more, omega (arith, length-append bytes piece))
+
+-- a read failed
+pub fails_no_further : (before now after : Option (List ℕ)) (bytes : List ℕ) → Consumes before now bytes → Keeps now after → length bytes ≤ LONGEST → ReadsNoFurther before after
+fails_no_further before now after bytes so_far kept within = (bytes, Consumes-kept before now after bytes so_far kept, omega arith)
+
+pub ruleset reading = (Consumes-nil, read_more, read_all, read_within, read_too_many, reads_none, reads_no_further, fails_no_further)
 
 -- of these bytes the first were appended, and the rest was not
 pub record HasAppended (before now : Option (List ℕ)) (bytes rest : List ℕ) : Type 0 where

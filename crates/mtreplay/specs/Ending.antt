@@ -53,3 +53,7 @@ ReadsTooMany left rest = (bytes : List ℕ) × Consumes left rest bytes × (leng
 
 abbrev pub ReadsWithin : Option (List ℕ) → Option (List ℕ) → Type 0
 ReadsWithin left rest = (bytes : List ℕ) × Consumes left rest bytes × (length bytes ≤ LONGEST)
+
+-- never more bytes are read than one more than an input may have
+abbrev pub ReadsNoFurther : Option (List ℕ) → Option (List ℕ) → Type 0
+ReadsNoFurther left rest = (bytes : List ℕ) × Consumes left rest bytes × (length bytes ≤ LONGEST + 1)

@@ -6,9 +6,10 @@ use Rattle.mt_log.specs.Reading.{log_of}
 use Rattle.mt_log.specs.Run.{IsRun}
 use Rattle.mt_log.specs.Text.{text_of}
 
--- this is the text of a transcript that is a run of the log
+-- This is the text of a transcript that is a run of the log over trees of any number of rows. No shortage can be one for
+-- two numbers of rows, so this says that no call was refused for want of them.
 abbrev pub TellsRun : Log → List ℕ → Type 0
-TellsRun log text = (t : Transcript) × IsRun log t × (text ≡ text_of t)
+TellsRun log text = (t : Transcript) × ((rows : ℕ) → IsRun log rows t) × (text ≡ text_of log.version t)
 
 -- of the log that these bytes are
 abbrev pub IsTextOfRun : List ℕ → List ℕ → Type 0

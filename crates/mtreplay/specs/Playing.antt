@@ -1,63 +1,110 @@
 -- What one lane makes of the lines of a log, one after another, over one tree.
-use Rattle.std.specs.Prelude.{◌≡◌, ℕ, List, [], ◌∷◌, ◌++◌, ◌+◌, ◌≤◌, length, map, fold}
-use Rattle.std.specs.List.{flat_map}
+use Rattle.std.specs.Prelude.{◌≡◌, ℕ, List, [], ◌∷◌, ◌++◌, Option, Some, None, ◌+◌, ◌<◌, ◌≤◌, false, length, map, All, AllPairs}
+use Rattle.std.specs.List.{enumerate_from, filter_map, flat_map}
 use Rattle.mt_base.specs.declared.kinds.Kind.{Kind}
 use Rattle.mt_base.specs.declared.kinds.Kind.TheVariants as kinds
 use Rattle.mt_base.specs.declared.ranges.Range.{Range}
 use Rattle.mt_base.specs.declared.calls.Call.{Call}
 use Rattle.mt_base.specs.declared.calls.Query.{Query}
-use Rattle.mt_base.specs.Call.{acted, answer}
-use Rattle.mt_base.specs.History.{Record, History, last_map}
+use Rattle.mt_base.specs.declared.replies.Reply.{Reply}
+use Rattle.mt_base.specs.Call.{answer}
+use Rattle.mt_base.specs.History.{Record, History, IsLegal, last_map}
+use Rattle.mt_base.specs.Nodes.{Limits, IsMade, one_call_more}
 use Rattle.mt_log.specs.declared.lines.Item.{Item}
 use Rattle.mt_log.specs.declared.lines.Item.TheVariants.{Tree, Write, Ask}
 use Rattle.mt_log.specs.declared.lines.Line.{Line}
-use Rattle.mt_log.specs.declared.lines.Log.{Log}
 use Rattle.mt_log.specs.declared.transcripts.Entry.{Entry}
 use Rattle.mt_log.specs.declared.transcripts.Listing.{Listing}
-use Rattle.mt_log.specs.declared.transcripts.Transcript.{Transcript}
-use Rattle.mt_log.specs.Run.{Step, Outcome, Called, Looked, entry_of}
+use Rattle.mt_log.specs.declared.transcripts.Said.TheVariants as said
+use Rattle.mt_log.specs.Run.{Step, Outcome, Called, Looked, InOrder, IsTrueOf, AreDone, entry_of, holder_in, numbered_on, shown, steps_of}
 
--- the steps that were done, and the records of the tree's history
-pub record Played : Type 0 where
-  pub steps : List Step
-  pub records : List Record
+-- ---- what a line does
 
-abbrev pub nothing_played : Played
-nothing_played = record { steps = []; records = [] }
+-- what a player holds: its map (the kind, the ranges, how much of its room for calls is used, and what its rows are limited
+-- by), how many calls it made, and the entries that it told
+pub record Held : Type 0 where
+  pub kind : Kind
+  pub ranges : List Range
+  pub used : ℕ
+  pub limits : Option Limits
+  pub calls : ℕ
+  pub entries : List Entry
+
+-- a call was made, got the next number, and was told with its reply
+pub record Calls (old new : Held) (line : ℕ) (call : Call) (reply : Reply) : Type 0 where
+  pub made : IsMade old.kind old.limits old.ranges call new.ranges reply
+  pub kind : new.kind ≡ old.kind
+  pub used : new.used ≤ old.used + 1
+  pub limits : new.limits ≡ one_call_more old.limits
+  pub calls : new.calls ≡ old.calls + 1
+  pub told : new.entries ≡ old.entries ++ record { line = line; said = said.Wrote (old.calls + 1) reply } ∷ []
+
+-- a query was answered by the map as it stands, and told; its window is the number of calls so far
+abbrev pub Asks : Held → Held → ℕ → Query → Type 0
+Asks old new line query = new ≡ record old { entries = old.entries ++ record { line = line; said = said.Got old.calls old.calls (shown query (answer old.ranges query)) } ∷ [] }
+
+-- what the line of this number asks for was done
+abbrev pub Does : Held → Held → ℕ → Item → Type 0
+Does old new line (Tree name kind) = new ≡ old
+Does old new line (Write tree call) = (reply : Reply) × Calls old new line call reply
+Does old new line (Ask tree query) = Asks old new line query
+
+-- ---- what came of the lines so far
 
 -- the history of the one tree, which is for ranges and opened empty
-abbrev pub history_of : List Record → History
-history_of records = record { kind = kinds.Range; opening = []; records = records }
+abbrev pub history_of : ℕ → List Record → History
+history_of rows records = record { kind = kinds.Range; rows = rows; opening = []; records = records }
 
--- a step of lane 0, in phase 0
-abbrev pub step_done : ℕ → ℕ → Outcome → Step
-step_done line tree outcome = record { line = line; lane = 0; phase = 0; tree = tree; outcome = outcome }
+-- no limits, or those of a tree that opened empty, before its first call, and of which nobody else holds rows
+abbrev pub IsFresh : Option Limits → Type 0
+IsFresh None = Unit {0}
+IsFresh (Some l) = (l.opened ≤ 2) × (l.ended ≡ 0) × (l.may_hold ≡ false)
 
--- a call gets the next number, and the reply of the map as it stands
-abbrev pub called : Played → ℕ → ℕ → Call → Played
-called p line tree call =
-    let reply = (acted kinds.Range (last_map (history_of p.records)) call).1 in
-    record {
-      steps = p.steps ++ step_done line tree (Called (length p.records + 1) call reply) ∷ [];
-      records = p.records ++ record { pass = 0; call = call; reply = reply } ∷ [];
-    }
+-- a tree without limits serves for one of any number of rows
+abbrev pub HasRows : ℕ → Option Limits → Type 0
+HasRows rows None = Unit {0}
+HasRows rows (Some l) = l.rows ≡ rows
 
--- a read is answered by the map as it stands, after all calls so far
-abbrev pub looked : Played → ℕ → ℕ → Query → Played
-looked p line tree query =
-    let k = length p.records in
-    let value = answer (last_map (history_of p.records)) query in
-    record { steps = p.steps ++ step_done line tree (Looked k k k query value) ∷ []; records = p.records }
+-- the limits of such a tree after so many calls
+pub record IsLimited (rows calls : ℕ) (l : Limits) : Type 0 where
+  pub size : l.rows ≡ rows
+  pub opened : l.opened ≤ 2
+  pub ended : l.ended ≤ calls
+  pub alone : l.may_hold ≡ false
 
--- a line that declares a tree is no step
-abbrev pub after_item : Played → ℕ → Item → Played
-after_item p line (Tree name kind) = p
-after_item p line (Write tree call) = called p line tree call
-after_item p line (Ask tree query) = looked p line tree query
+abbrev pub AreLimits : ℕ → ℕ → Option Limits → Type 0
+AreLimits rows calls None = Unit {0}
+AreLimits rows calls (Some l) = IsLimited rows calls l
 
--- all lines, in order
-abbrev pub played : List Line → Played
-played lines = fold (λ p line. after_item p line.number line.item) nothing_played lines
+-- no number that a step tells is above n
+abbrev pub TellsUpTo : ℕ → Outcome → Type 0
+TellsUpTo n (Called number call reply) = number ≤ n
+TellsUpTo n (Looked lo hi k query value) = (lo ≤ n) × (hi ≤ n) × (k ≤ n)
+
+-- these steps are what came of the lines, and these are the calls among them, where so many trees are declared and have
+-- so many rows
+pub record IsPlayedBy (count rows : ℕ) (player : Held) (lines : List Line) (steps : List Step) (records : List Record) : Type 0 where
+  -- the player holds the tree after these calls, and told the steps
+  pub kind : player.kind ≡ kinds.Range
+  pub ranges : player.ranges ≡ last_map (history_of rows records)
+  pub limits : AreLimits rows player.calls player.limits
+  pub calls : player.calls ≡ length records
+  pub told : player.entries ≡ map entry_of steps
+  -- the steps are those of the lines
+  pub done : AreDone (steps_of lines) steps
+  pub named : All (λ (s : Step). s.tree < count) steps
+  -- and keep what a run keeps
+  pub once : enumerate_from 1 records ≡ filter_map (numbered_on 0) steps
+  pub legal : IsLegal (history_of rows records)
+  pub order : AllPairs InOrder steps
+  pub within : All (λ (s : Step). TellsUpTo (length records) s.outcome) steps
+  pub reads : All (λ (s : Step). IsTrueOf (history_of rows records) s.outcome) steps
+  pub unheld : All (λ (s : Step). holder_in s.outcome ≡ None) steps
+
+abbrev pub IsPlayed : ℕ → ℕ → Held → List Line → Type 0
+IsPlayed count rows player lines = (steps : List Step) × (records : List Record) × IsPlayedBy count rows player lines steps records
+
+-- ---- the listings
 
 -- the tree that a line declares, with these ranges
 abbrev pub listed_by : Item → List Range → List Listing
@@ -65,28 +112,5 @@ listed_by (Tree name kind) ranges = record { name = name; kind = kind; ranges = 
 listed_by (Write tree call) ranges = []
 listed_by (Ask tree query) ranges = []
 
-abbrev pub listings_of : List Line → List Range → List Listing
-listings_of lines ranges = flat_map (λ line. listed_by line.item ranges) lines
-
--- what one lane makes of a log
-abbrev pub transcript_of : Log → Transcript
-transcript_of log =
-    let p = played log.lines in
-    record { entries = map entry_of p.steps; lists = listings_of log.lines (last_map (history_of p.records)) }
-
--- what a player holds: its map (the kind, the ranges, and how much of its room for calls is used), how many calls it
--- made, and the entries that it told
-pub record Held : Type 0 where
-  pub kind : Kind
-  pub ranges : List Range
-  pub used : ℕ
-  pub calls : ℕ
-  pub entries : List Entry
-
--- it has played these steps
-pub record Shows (player : Held) (p : Played) : Type 0 where
-  pub kind : player.kind ≡ kinds.Range
-  pub ranges : player.ranges ≡ last_map (history_of p.records)
-  pub used : player.used ≤ player.calls
-  pub calls : player.calls ≡ length p.records
-  pub entries : player.entries ≡ map entry_of p.steps
+abbrev pub lists_of : List Line → List Range → List Listing
+lists_of lines ranges = flat_map (λ line. listed_by line.item ranges) lines

@@ -1,8 +1,8 @@
-ghost use Rattle.std.specs.Prelude.{◌≡◌, ◌<◌, ◌-◌, ◌^◌, [], ◌++◌, length, IfOk, OnOk};
+ghost use Rattle.std.specs.Prelude.{◌≡◌, ◌<◌, ◌-◌, ◌^◌, ℕ, [], ◌++◌, length, IfOk, OnOk};
 ghost use Rattle.mt_base.specs.declared.kinds.Kind.TheVariants as kinds;
 ghost use Rattle.mt_log.specs.Run.{IsRun, shown_range};
-ghost use Rattle.mt_log.specs.Trees.{IsReadable};
-ghost use Rattle.mtreplay.specs.Playing.{Shows, played, listed_by, listings_of, transcript_of};
+ghost use Rattle.mt_log.specs.Trees.{IsReadable, trees_of};
+ghost use Rattle.mtreplay.specs.Playing.{IsFresh, HasRows, IsPlayed, listed_by, lists_of};
 
 use mt_base::{Call, NoMemory, Query, Range};
 use mt_list::Ranges;
@@ -25,19 +25,19 @@ impl<M: Ranges> Model for Player<M> {
 
     ghost Value = { Held };
 
-    ghost view = { λ p. record { kind = M.kind p.map; ranges = M.map p.map; used = M.used p.map; calls = p.calls; entries = p.entries.items } };
+    ghost view = { λ p. record { kind = M.kind p.map; ranges = M.map p.map; used = M.used p.map; limits = M.limits p.map; calls = p.calls; entries = p.entries.items } };
 }
 
 impl<M: Ranges> Player<M> {
-    ghost use Rattle.std.specs.Prelude.{◌≡◌, ℕ, ◌∷◌, ◌++◌, ◌+◌, ◌-◌, ◌<◌, ◌≤◌, ◌^◌, [], OnOk};
-    ghost use Rattle.mtreplay.specs.Playing.{Played, Shows, called, looked, after_item};
+    ghost use Rattle.std.specs.Prelude.{◌≡◌, ◌∷◌, ◌++◌, ◌+◌, ◌-◌, ◌<◌, ◌≤◌, ◌^◌, [], OnOk};
+    ghost use Rattle.mt_base.specs.declared.replies.Reply.{Reply};
+    ghost use Rattle.mtreplay.specs.Playing.{Asks, Calls, Does};
 
     /// Does what a line asks for.
     fn line(&mut self, line: &Line) -> Result<(), NoMemory>
         requires used { self.old.used < 2 ^ 62 - 1 }
         requires calls { self.old.calls < u64.MAX }
-        ensures shows { OnOk result ((p : Played) → Shows self.old p → Shows self.new (after_item p line.now.number line.now.item)) }
-        ensures calls { OnOk result (self.new.calls ≤ self.old.calls + 1) }
+        ensures { OnOk result (Does self.old self.new line.now.number line.now.item) }
     {
         match line.item {
             Item::Tree { .. } => {}
@@ -51,8 +51,7 @@ impl<M: Ranges> Player<M> {
     fn write(&mut self, line: u64, call: &Call) -> Result<(), NoMemory>
         requires used { self.old.used < 2 ^ 62 - 1 }
         requires calls { self.old.calls < u64.MAX }
-        ensures shows { OnOk result ((tree : ℕ) (p : Played) → Shows self.old p → Shows self.new (called p line tree call.now)) }
-        ensures calls { OnOk result (self.new.calls ≡ self.old.calls + 1) }
+        ensures { OnOk result ((reply : Reply) × Calls self.old self.new line call.now reply) }
     {
         let reply = self.map.act(call)?;
         self.calls += 1;
@@ -65,8 +64,7 @@ impl<M: Ranges> Player<M> {
 
     /// Tells the answer of the map as it stands. The window is the number of calls so far.
     fn ask(&mut self, line: u64, query: &Query) -> Result<(), NoMemory>
-        ensures shows { OnOk result ((tree : ℕ) (p : Played) → Shows self.old p → Shows self.new (looked p line tree query.now)) }
-        ensures calls { OnOk result (self.new.calls ≡ self.old.calls) }
+        ensures { OnOk result (Asks self.old self.new line query.now) }
     {
         let value = match self.map.ask(query) {
             Some(range) => told_of(query, range),
@@ -110,8 +108,10 @@ fn play_lines<M: Ranges + Drop>(
     requires empty { M.map map ≡ [] }
     requires kind { M.kind map ≡ kinds.Range }
     requires unused { M.used map ≡ 0 }
+    requires fresh { IsFresh (M.limits map) }
+    requires readable { IsReadable lines.now }
     requires count { length lines.now < 2 ^ 62 - 1 }
-    ensures { IfOk result (λ p. Shows p (played lines.now)) }
+    ensures { IfOk result (λ p. (rows : ℕ) → HasRows rows (M.limits map) → IsPlayed (length (trees_of lines.now)) rows p lines.now) }
 {
     let mut player = Player {
         map,
@@ -122,21 +122,6 @@ fn play_lines<M: Ranges + Drop>(
         player.line(line)?;
     }
     Ok(player)
-}
-
-/// Lists the trees that the lines declare.
-fn list_trees<M: Ranges>(
-    alloc: Global,
-    map: &mut M,
-    lines: &[Line],
-) -> Result<Vec<Listing>, NoMemory>
-    ensures { IfOk result (λ v. v.items ≡ listings_of lines.now (M.map map.old)) }
-{
-    let mut lists = Vec::new(alloc);
-    for line in lines {
-        list_tree(alloc, map, line, &mut lists)?;
-    }
-    Ok(lists)
 }
 
 /// Adds the listing of the tree that a line declares.
@@ -156,13 +141,34 @@ fn list_tree<M: Ranges>(
     Ok(())
 }
 
-/// Plays the lines in order, and lists the trees that they declare.
-fn played<M: Ranges + Drop>(alloc: Global, log: &Log, map: M) -> Result<Transcript, NoMemory>
+/// Lists the trees that the lines declare.
+fn list_trees<M: Ranges>(
+    alloc: Global,
+    map: &mut M,
+    lines: &[Line],
+) -> Result<Vec<Listing>, NoMemory>
+    ensures { IfOk result (λ v. v.items ≡ lists_of lines.now (M.map map.old)) }
+{
+    let mut lists = Vec::new(alloc);
+    for line in lines {
+        list_tree(alloc, map, line, &mut lists)?;
+    }
+    Ok(lists)
+}
+
+/// Plays the lines of a log in order over an empty map, and lists the trees.
+///
+/// # Errors
+///
+/// `NoMemory` where memory ran out.
+pub fn play<M: Ranges + Drop>(alloc: Global, log: &Log, map: M) -> Result<Transcript, NoMemory>
     requires empty { M.map map ≡ [] }
     requires kind { M.kind map ≡ kinds.Range }
     requires unused { M.used map ≡ 0 }
+    requires fresh { IsFresh (M.limits map) }
+    requires readable { IsReadable log.now.lines }
     requires count { length log.now.lines < 2 ^ 62 - 1 }
-    ensures { IfOk result (λ t. t ≡ transcript_of log.now) }
+    ensures { IfOk result (λ t. (rows : ℕ) → HasRows rows (M.limits map) → IsRun log.now rows t) }
 {
     let lines = log.lines.as_slice();
     let mut player = play_lines(alloc, lines, map)?;
@@ -171,21 +177,4 @@ fn played<M: Ranges + Drop>(alloc: Global, log: &Log, map: M) -> Result<Transcri
         entries: Entries::new(player.entries),
         lists: Listings::new(lists),
     })
-}
-
-/// Plays the lines of a log in order over an empty map, and lists the trees.
-///
-/// # Errors
-///
-/// `NoMemory` where memory ran out.
-#[tactic(auto, using(crate::proofs::OneLane::played_is_run))]
-pub fn play<M: Ranges + Drop>(alloc: Global, log: &Log, map: M) -> Result<Transcript, NoMemory>
-    requires empty { M.map map ≡ [] }
-    requires kind { M.kind map ≡ kinds.Range }
-    requires unused { M.used map ≡ 0 }
-    requires readable { IsReadable log.now.lines }
-    requires count { length log.now.lines < 2 ^ 62 - 1 }
-    ensures { IfOk result (λ t. IsRun log.now t) }
-{
-    played(alloc, log, map)
 }

@@ -1,11 +1,11 @@
-ghost use Rattle.std.specs.Prelude.{◌≡◌, ◌≢◌, ◌↔◌, ◌⊎◌, ◌<◌, ◌≤◌, ℕ, List, Some, true, false, IsErr, IfOk, IfErr, IfSome, length, map, string_bytes};
+ghost use Rattle.std.specs.Prelude.{◌≡◌, ◌≢◌, ◌↔◌, ◌⊎◌, ◌<◌, ◌≤◌, ℕ, List, Some, true, false, IsOk, IsErr, IfOk, IfErr, IfSome, length, map, string_bytes};
 ghost use Rattle.std.specs.Io.KnownBytes.{IsAtEnd};
 ghost use Rattle.mt_io.specs.Faults.{Rose};
 ghost use Rattle.mt_log.specs.Reading.{log_of};
 ghost use Rattle.mt_log.specs.Trees.{IsReadable};
 ghost use Rattle.mtreplay.specs.Causes.{ReadsLog, FailsToRead, Ends, streams};
 ghost use Rattle.mtreplay.specs.Command.{is_replay};
-ghost use Rattle.mtreplay.specs.Ending.{TellsStatus, status_due, ReadsTooMany, ReadsWithin};
+ghost use Rattle.mtreplay.specs.Ending.{TellsStatus, status_due, ReadsNoFurther, ReadsTooMany, ReadsWithin};
 ghost use Rattle.mtreplay.specs.Headline.{Replays, ReplaysPart, TellsRun};
 
 use crate::failures::{Failure, report};
@@ -35,6 +35,7 @@ fn read<S: Source>(alloc: Global, src: &mut S) -> Result<Log, Failure>
     ensures readable { IfOk result (λ log. IsReadable log.lines) }
     ensures count { IfOk result (λ log. length log.lines ≤ LONGEST) }
     ensures fails { IfErr result (λ e. FailsToRead e (S.left src.old) (S.left src.new) (S.faults src.old) (S.faults src.new)) }
+    ensures reach { ReadsNoFurther (S.left src.old) (S.left src.new) }
     ensures in_time { S.faults src.old ≡ 0 → S.late src.old ≡ 0 → S.late src.new ≡ 0 }
 {
     let bytes = read_input(alloc, src)?;
@@ -48,13 +49,14 @@ fn answers(alloc: Global, log: &Log) -> Result<Vec<u8>, NoMemory>
     ensures { IfOk result (λ text. TellsRun log.now text.items) }
 {
     let transcript = play(alloc, log, ListMap::new(alloc, Kind::Range))?;
-    render(alloc, &transcript)
+    render(alloc, log.version, &transcript)
 }
 
 /// Reads a log, plays its lines and writes what they were answered.
 fn replay<S: Source, O: Sink>(alloc: Global, src: &mut S, out: &mut O) -> Result<(), Failure>
     ensures ends { Ends true result (streams (S.left src.old) (S.faults src.old) (O.written out.old) (O.faults out.old))
         (streams (S.left src.new) (S.faults src.new) (O.written out.new) (O.faults out.new)) }
+    ensures reach { ReadsNoFurther (S.left src.old) (S.left src.new) }
     ensures out_kept { IfErr result (λ e. e ≢ Failure.WriteFault → out.new ≡ out.old) }
     ensures src_in_time { S.faults src.old ≡ 0 → S.late src.old ≡ 0 → S.late src.new ≡ 0 }
     ensures out_in_time { O.faults out.old ≡ 0 → O.late out.old ≡ 0 → O.late out.new ≡ 0 }
@@ -65,6 +67,7 @@ fn replay<S: Source, O: Sink>(alloc: Global, src: &mut S, out: &mut O) -> Result
 }
 
 /// Does what the words say.
+#[tactic(auto, using(crate::proofs::Pieces::reads_none))]
 fn run<S: Source, O: Sink>(
     alloc: Global,
     words: &[String],
@@ -74,6 +77,7 @@ fn run<S: Source, O: Sink>(
     ensures ends { Ends (is_replay (map string_bytes words.now)) result
         (streams (S.left src.old) (S.faults src.old) (O.written out.old) (O.faults out.old))
         (streams (S.left src.new) (S.faults src.new) (O.written out.new) (O.faults out.new)) }
+    ensures reach { ReadsNoFurther (S.left src.old) (S.left src.new) }
     ensures unread { IfErr result (λ e. e ≡ Failure.Usage → src.new ≡ src.old) }
     ensures out_kept { IfErr result (λ e. e ≢ Failure.WriteFault → out.new ≡ out.old) }
     ensures src_in_time { S.faults src.old ≡ 0 → S.late src.old ≡ 0 → S.late src.new ≡ 0 }
@@ -102,10 +106,12 @@ pub fn mtreplay<R: Threads + Wait + Sync, S: Source, O: Sink, E: Sink, G: Gate +
     ensures replays { result ≡ 0 → Replays (S.left src.old) (O.written out.old) (O.written out.new) }
 
     // Each status has its cause.
+    ensures good_log { result ≡ 0 → IfSome (S.left src.old) (λ bytes. IsOk (log_of bytes)) }
     ensures bad_log { result ≡ 1 → IfSome (S.left src.old) (λ bytes. IsErr (log_of bytes)) }
     ensures usage { (result ≡ 2) ↔ (is_replay (map string_bytes words.now) ≡ false) }
     ensures read_fault { result ≡ 3 → Rose (S.faults src.old) (S.faults src.new) }
     ensures write_fault { result ≡ 4 → Rose (O.faults out.old) (O.faults out.new) }
+    ensures good_log_too { result ≡ 4 → IfSome (S.left src.old) (λ bytes. IsOk (log_of bytes)) }
     ensures part { result ≡ 4 → ReplaysPart (S.left src.old) (O.written out.old) (O.written out.new) }
     ensures too_long { result ≡ 6 → ReadsTooMany (S.left src.old) (S.left src.new) }
     ensures within { result ≤ 6 }
@@ -117,6 +123,8 @@ pub fn mtreplay<R: Threads + Wait + Sync, S: Source, O: Sink, E: Sink, G: Gate +
 
     // The input is read to its end, and no further than an input may reach.
     ensures at_end { result < 2 → IsAtEnd (S.left src.new) }
+    ensures at_end_too { result ≡ 4 → IsAtEnd (S.left src.new) }
+    ensures reach { ReadsNoFurther (S.left src.old) (S.left src.new) }
     ensures limit { result ≢ 5 → result ≢ 6 → ReadsWithin (S.left src.old) (S.left src.new) }
     ensures unread { result ≡ 2 → src.new ≡ src.old }
 

@@ -1,7 +1,7 @@
 ghost use Rattle.std.specs.Prelude.{◌≡◌, vec_len, OnOk, OnErr, IfOk, IfErr};
 ghost use Rattle.std.specs.Io.KnownBytes.{Appends};
 ghost use Rattle.mt_io.specs.Faults.{Rose};
-ghost use Rattle.mtreplay.specs.Ending.{Tells};
+ghost use Rattle.mtreplay.specs.Ending.{ReadsNoFurther, Tells};
 ghost use Rattle.mtreplay.specs.Input.{ReadsAll, ReadFails};
 
 use mt_io::{Failed, Sink, Source};
@@ -62,6 +62,7 @@ pub fn read_input<S: Source>(alloc: Global, src: &mut S) -> Result<Vec<u8>, Read
     ensures all { IfOk result (λ v. ReadsAll (S.left src.old) (S.left src.new) v.items) }
     ensures quiet { OnOk result (S.faults src.new ≡ S.faults src.old) }
     ensures fails { IfErr result (λ e. ReadFails e (S.left src.old) (S.left src.new) (S.faults src.old) (S.faults src.new)) }
+    ensures reach { ReadsNoFurther (S.left src.old) (S.left src.new) }
     ensures in_time { S.faults src.old ≡ 0 → S.late src.old ≡ 0 → S.late src.new ≡ 0 }
 {
     let mut storage = new_buffer(alloc)?;

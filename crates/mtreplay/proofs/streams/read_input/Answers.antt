@@ -1,6 +1,6 @@
 use Rattle.std.proofs.Common.{◌∙◌, arith}
 use Rattle.std.proofs.lemmas.Grind.{common_steps}
-use Rattle.mtreplay.proofs.Pieces.{read_more, read_within, fault_fails}
+use Rattle.mtreplay.proofs.Pieces.{read_more, read_within, reads_no_further, fault_fails}
 use Rattle.mtreplay.proofs.streams.read_input.Goals as goal
 
 pub returns-in_err-count-clause-fails : goal.returns-in_err-count-clause-fails
@@ -19,3 +19,14 @@ loop-turn-preserved g c =
       read.cause.ok ∙ quiet,
       λ no_fault none_late. read.late.in_time (quiet ∙ no_fault) ∙ in_time no_fault none_late,
     )
+
+-- what was read last was not kept
+pub returns-in_err-extend_from_slice-clause-reach : goal.returns-in_err-extend_from_slice-clause-reach
+returns-in_err-extend_from_slice-clause-reach g c =
+    let (_, within, taken, _, _) = c.loop-turn.invariant in
+    reads_no_further _ _ _ _ _ taken c.in_ok-count.ensures.bytes.0 (grind (arith, common_steps))
+
+pub returns-then-len-gt-LONGEST-clause-reach : goal.returns-then-len-gt-LONGEST-clause-reach
+returns-then-len-gt-LONGEST-clause-reach g c =
+    let (_, within, taken, _, _) = c.loop-turn.invariant in
+    reads_no_further _ _ _ _ _ taken c.in_ok-count.ensures.bytes.0 (grind (arith, common_steps))
