@@ -1,7 +1,7 @@
 -- What is known in a walk before it enters a row, and what it leaves: its steps so far, and how many words were loaded.
 use Rattle.std.proofs.Common.{◌≡◌, ◌≢◌, ℕ, ◌+◌, ◌-◌, ◌<◌, ◌≤◌, List, [], ◌∷◌, ◌++◌, Some, length, take, refl, sym, ap, ◌∙◌, subst, arith}
 use Rattle.std.specs.Prelude.{IsSome}
-use Rattle.std.proofs.lemmas.List.{length-take-le, length_push, take_more, take_all}
+use Rattle.std.proofs.lemmas.List.{length_push, take_more, take_all}
 use Rattle.mt_base.specs.declared.kinds.Kind.{Kind}
 use Rattle.mt_base.specs.Width.{greatest, deepest}
 use Rattle.mt_layout.specs.declared.names.RowKind.{RowKind}

@@ -5,6 +5,7 @@ use Rattle.std.specs.List.{flat_map}
 use Rattle.std.proofs.lemmas.Grind.{flat_map-append}
 use Rattle.mt_base.specs.declared.kinds.Kind.{Kind}
 use Rattle.mt_base.specs.Width.{greatest, deepest}
+use Rattle.mt_base.proofs.Lists.{all_map}
 use Rattle.mt_layout.specs.Rows.{named_kind}
 use Rattle.mt_layout.specs.declared.spans.Span.{Span}
 use Rattle.mt_layout.specs.Spans.{leaf_range, Fills}
@@ -14,7 +15,7 @@ use Rattle.mt_rows.specs.Trees.{map_in}
 use Rattle.mt_rows.specs.Laws as laws
 use Rattle.mt_rows.specs.Sheet.{Rooted}
 use Rattle.mt_rows.specs.Publish.{IsTreeOf, tree_as}
-use Rattle.mt_rows.proofs.Lists.{all_map, Filled, expand_fills}
+use Rattle.mt_rows.proofs.Lists.{Filled, expand_fills}
 use Rattle.mt_rows.proofs.Depth.{ranges_by_depth}
 use Rattle.mt_path.specs.declared.paths.PathStep.{PathStep}
 use Rattle.mt_path.specs.Paths.{path_in}

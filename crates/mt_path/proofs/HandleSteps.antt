@@ -1,5 +1,6 @@
 -- The slots before and behind an index's in its leaf, and what stands there.
-use Rattle.std.proofs.Common.{◌≡◌, ◌≢◌, ℕ, suc, ◌+◌, ◌-◌, ◌<◌, ◌≤◌, List, length, refl, sym, ap, ◌∙◌, subst, arith}
+use Rattle.std.proofs.Common.{◌≡◌, ◌≢◌, ℕ, suc, ◌+◌, ◌-◌, ◌<◌, ◌≤◌, List, Some, true, false, length, refl, sym, ap, ◌∙◌, subst, arith}
+use Rattle.std.specs.Prelude.{◌↔◌, IsNone}
 use Rattle.mt_base.specs.declared.kinds.Kind.{Kind}
 use Rattle.mt_base.specs.Width.{greatest}
 use Rattle.mt_layout.specs.declared.names.RowKind.TheVariants.{Leaf}
@@ -18,6 +19,10 @@ use Rattle.mt_path.proofs.LeafSteps.{IsStepTo, step_to, leaf_of_other, here_in, 
 record IsBeside (t : Rooted) (step : PathStep) (other : ℕ) : Type 0 where
   pub step_of_leaf : IsStepOfLeaf t step
   pub leaf : leaf_in t other ≡ step
+
+-- what is found at an index is its handle
+pub is_handle : (t : Rooted) (index : ℕ) (handle : Handle) → index ≤ greatest t.table.width → IsNone (Some handle) ↔ (t.root ≡ 0) → handle ≡ handle_in t index → IsHandleOf t handle
+is_handle t index handle within none is = record { some = (λ empty. let clash : true ≡ false = none.1 empty in absurd (cc)); index = index; within = within; is = is }
 
 module _ (t : Rooted) (kind : Kind) (tree : IsTreeOf t kind) where
   pub step_of_index : (index : ℕ) → t.root ≢ 0 → index ≤ greatest t.table.width → IsStepOfLeaf t (leaf_in t index)
@@ -99,6 +104,10 @@ module _ (t : Rooted) (kind : Kind) (tree : IsTreeOf t kind) where
 
     pub slot_fits : handle.leaf.slot < slots_of t.table.width Leaf
     slot_fits = subst (λ (x : PathStep). x.slot < slots_of t.table.width Leaf) (sym leaf_is) (slot_low t kind leaf_of_is tree (step_of_index is.index is.some is.within))
+
+    -- its leaf is one of the tree's
+    pub leaf_of_handle : IsStepOfLeaf t handle.leaf
+    leaf_of_handle = subst (IsStepOfLeaf t) (sym leaf_is) (step_of_index is.index is.some is.within)
 
     -- ---- the slot behind
 

@@ -5,7 +5,7 @@ use Rattle.std.proofs.lemmas.Bool.{cases_Bool}
 use Rattle.mt_layout.specs.declared.spans.Span.{Span}
 use Rattle.mt_layout.specs.Columns.{pivot_column, slot_column, items_from}
 use Rattle.mt_layout.specs.Spans.{Fills, spans_from}
-use Rattle.mt_rows.proofs.Lists.{fills_le}
+use Rattle.mt_layout.proofs.SpanLists.{fills_le}
 use Rattle.mt_path.specs.Paths.{slot_for, span_at}
 use Rattle.mt_path.proofs.Places.{slot_here, slot_behind}
 

@@ -1,5 +1,5 @@
 -- The leaf of an index: where it stands, what it holds, and what it shares with the leaf of another index.
-use Rattle.std.proofs.Common.{◌≡◌, ◌≢◌, ℕ, zero, suc, ◌+◌, ◌-◌, ◌^◌, ◌<◌, ◌≤◌, List, Option, Some, Bool, length, nat_lt, true, false, refl, sym, ap, ◌∙◌, subst, inl, inr, arith, lt-ltb, le-ltb}
+use Rattle.std.proofs.Common.{◌≡◌, ◌≢◌, ℕ, zero, suc, ◌+◌, ◌-◌, ◌^◌, ◌<◌, ◌≤◌, List, Option, Some, Bool, length, nat_lt, true, false, refl, sym, ap, ◌∙◌, subst, arith, lt-ltb, le-ltb}
 use Rattle.std.specs.Prelude.{if◌then◌else◌}
 use Rattle.std.proofs.lemmas.Option.{slice_get_within}
 use Rattle.mt_base.specs.declared.kinds.Kind.{Kind}
@@ -8,17 +8,17 @@ use Rattle.mt_layout.specs.declared.names.RowKind.{RowKind}
 use Rattle.mt_layout.specs.declared.names.RowKind.TheVariants.{Leaf}
 use Rattle.mt_layout.specs.declared.spans.Span.{Span}
 use Rattle.mt_layout.specs.declared.items.Item.{Item}
-use Rattle.mt_layout.specs.Columns.{slot_column, items_at}
+use Rattle.mt_layout.specs.Columns.{items_at}
 use Rattle.mt_layout.specs.Rows.{named_kind}
 use Rattle.mt_layout.specs.Sizes.{first_row, slots_of, gaps_of}
 use Rattle.mt_layout.specs.Spans.{Fills}
 use Rattle.mt_layout.proofs.NameLaws.{Names-named_kind}
 use Rattle.mt_layout.proofs.RowSizes.{slots_of-columns}
+use Rattle.mt_layout.proofs.SpanLists.{length-spans_from}
 use Rattle.mt_rows.specs.Spans.{Table, base_of, column, spans_by, spans_in}
 use Rattle.mt_rows.specs.Laws as laws
 use Rattle.mt_rows.specs.Publish.{IsTreeOf, tree_as}
 use Rattle.mt_rows.specs.Sheet.{Rooted, IsPlace, word_at}
-use Rattle.mt_rows.proofs.SlotWords.{length-spans_from}
 use Rattle.mt_path.specs.declared.paths.PathStep.{PathStep}
 use Rattle.mt_path.specs.Handles.{leaf_spans, leaf_in, IsStepOfLeaf}
 use Rattle.mt_path.specs.Paths.{slot_for, span_at, step_in, path_in, step_at, At}

@@ -1,5 +1,5 @@
 -- What loads leave as it was, and how many they are together.
-use Rattle.std.proofs.Common.{◌≡◌, ℕ, ◌+◌, ◌-◌, ◌<◌, ◌≤◌, List, [], ◌∷◌, ◌++◌, Option, Some, None, length, take, drop, map, sum, refl, sym, ap, ◌∙◌, subst, arith}
+use Rattle.std.proofs.Common.{◌≡◌, ℕ, ◌+◌, ◌<◌, ◌≤◌, List, [], ◌∷◌, ◌++◌, Option, Some, None, length, take, drop, map, sum, refl, sym, ap, ◌∙◌, subst, arith}
 use Rattle.std.specs.Option.{option_map}
 use Rattle.std.proofs.lemmas.List.{map-append, take-append-drop}
 use Rattle.std.proofs.lemmas.List.Sums.{sum_by-append}
@@ -12,8 +12,10 @@ use Rattle.mt_layout.specs.Sizes.{slots_of}
 use Rattle.mt_layout.proofs.RowSizes.{slots_of-columns}
 use Rattle.mt_rows.specs.Sheet.{Rooted, Sheet, IsPlace, word_at, loaded, one_more, OnlyReads, RoseUpTo, ReadsUpTo}
 use Rattle.mt_rows.specs.Publish.{IsTreeOf}
+use Rattle.mt_path.specs.declared.handles.Handle.{Handle}
 use Rattle.mt_path.specs.declared.paths.PathStep.{PathStep}
-use Rattle.mt_path.specs.Paths.{loads_in}
+use Rattle.mt_path.specs.Handles.{IsHandleOf, IsStepOfLeaf}
+use Rattle.mt_path.specs.Paths.{path_in, loads_in}
 
 -- ---- what stays
 
@@ -25,6 +27,18 @@ tree_kept n s s' reads = same_tree s s' reads.rest
 
 pub is_tree_kept : (s s' : Sheet) (kind : Kind) → OnlyReads s s' → IsTreeOf s.tree kind → IsTreeOf s'.tree kind
 is_tree_kept s s' kind only tree = subst (λ (t : Rooted). IsTreeOf t kind) (sym (same_tree s s' only)) tree
+
+pub reads_on : (a b c : Sheet) → OnlyReads a b → OnlyReads b c → OnlyReads a c
+reads_on a b c before behind = behind ∙ ap (λ (s : Sheet). record s { reads = c.reads }) before
+
+pub path_kept : (s s' : Sheet) (steps : List PathStep) (index : ℕ) → OnlyReads s s' → steps ≡ path_in s.tree.table s.tree.root index → steps ≡ path_in s'.tree.table s'.tree.root index
+path_kept s s' steps index only path = path ∙ ap (λ (t : Rooted). path_in t.table t.root index) (sym (same_tree s s' only))
+
+pub handle_kept : (s s' : Sheet) (handle : Handle) → OnlyReads s s' → IsHandleOf s.tree handle → IsHandleOf s'.tree handle
+handle_kept s s' handle only is = subst (λ (t : Rooted). IsHandleOf t handle) (sym (same_tree s s' only)) is
+
+pub step_kept : (s s' : Sheet) (leaf : PathStep) → OnlyReads s s' → IsStepOfLeaf s.tree leaf → IsStepOfLeaf s'.tree leaf
+step_kept s s' leaf only is = subst (λ (t : Rooted). IsStepOfLeaf t leaf) (sym (same_tree s s' only)) is
 
 pub place_at : (t : Rooted) (row col : ℕ) → IsPlace t row 0 → col < columns t.table.width → IsPlace t row col
 place_at t row col place within = record { first = place.first; last = place.last; column = within }

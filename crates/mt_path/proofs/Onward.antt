@@ -14,7 +14,6 @@ use Rattle.mt_rows.specs.Laws as laws
 use Rattle.mt_rows.specs.Publish.{IsTreeOf, tree_as}
 use Rattle.mt_rows.specs.Sheet.{Rooted, Sheet, ReadsUpTo}
 use Rattle.mt_path.specs.declared.paths.PathStep.{PathStep}
-use Rattle.mt_path.specs.declared.rows.Row.{Row}
 use Rattle.mt_path.specs.Paths.{step_in, path_in, step_at, no_step, loads_in, loads_on, Covers, IsDeepestOver, ReadsBelow}
 use Rattle.mt_path.specs.Walks.{row_as, row_for, IsOnWay}
 use Rattle.mt_path.proofs.Loads.{tree_kept, reads_more, reads_up, loads_in-parts, loads_in-take}

@@ -5,7 +5,7 @@ use Rattle.std.proofs.lemmas.List.Sums.{take_while-cons}
 use Rattle.std.proofs.lemmas.Bool.{cases_lt}
 use Rattle.mt_layout.specs.declared.spans.Span.{Span}
 use Rattle.mt_layout.specs.Spans.{Fills}
-use Rattle.mt_rows.proofs.Lists.{fills_le}
+use Rattle.mt_layout.proofs.SpanLists.{fills_le, fills_split}
 use Rattle.mt_path.specs.Paths.{slot_for, span_at, At}
 
 abbrev ends_below : ℕ → Span → Bool
@@ -21,10 +21,6 @@ pub slot_behind : (x : Span) (xs : List Span) (index : ℕ) → x.last < index �
 slot_behind x xs index past = slot_by true x xs index (lt-ltb x.last index past)
 
 -- ---- the span that holds an index
-
-pub fills_split : (lo hi : ℕ) (xs : List Span) (y : Span) (ys : List Span) → Fills lo hi (xs ++ (y ∷ ys)) → Fills lo y.first xs × (y.first ≤ y.last) × Fills (y.last + 1) hi ys
-fills_split lo hi [] y ys fills = (sym fills.0, (let begins = fills.0 in let ends = fills.1 in omega arith), fills.2)
-fills_split lo hi (x ∷ xs) y ys fills = let behind = fills_split (x.last + 1) hi xs y ys fills.2 in ((fills.0, fills.1, behind.0), behind.1, behind.2)
 
 at_here : (lo hi : ℕ) (x : Span) (xs : List Span) (index : ℕ) → Fills lo hi (x ∷ xs) → lo ≤ index → index ≤ x.last → At lo hi (x ∷ xs) index (span_at (x ∷ xs) 0)
 at_here lo hi x xs index fills from to = record {

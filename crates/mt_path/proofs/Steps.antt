@@ -2,6 +2,7 @@
 use Rattle.std.proofs.Common.{◌≡◌, ◌≢◌, ℕ, zero, suc, ◌+◌, ◌<◌, ◌≤◌, List, [], ◌∷◌, ◌++◌, Option, Some, None, length, refl, sym, ap, ◌∙◌, subst, arith, append-nil, append_assoc}
 use Rattle.mt_base.specs.declared.kinds.Kind.{Kind}
 use Rattle.mt_base.specs.declared.kinds.Kind.TheVariants as trees
+use Rattle.mt_base.proofs.Lists.{all_map}
 use Rattle.mt_layout.specs.declared.names.RowKind.{RowKind}
 use Rattle.mt_layout.specs.declared.names.RowKind.TheVariants.{Leaf, Inner, Gapped}
 use Rattle.mt_layout.specs.Rows.{named_kind}
@@ -11,7 +12,7 @@ use Rattle.mt_rows.specs.Spans.{Table, spans_in, inner_kind}
 use Rattle.mt_rows.specs.Levels.{expand, level, Levels, IsBelow}
 use Rattle.mt_rows.specs.Trees.{by_kind}
 use Rattle.mt_rows.specs.Laws.{Tree, IsRow}
-use Rattle.mt_rows.proofs.Lists.{all_map, Filled, expand_fills, levels_here}
+use Rattle.mt_rows.proofs.Lists.{Filled, expand_fills, levels_here}
 use Rattle.mt_rows.proofs.Joins.{level-append, levels_front, levels_back}
 use Rattle.mt_path.specs.declared.paths.PathStep.{PathStep}
 use Rattle.mt_path.specs.Paths.{slot_for, span_at, step_in, below, path_of, step_at, row_on, At}

@@ -7,6 +7,7 @@ use Rattle.mt_layout.specs.Sizes.{slots_of}
 use Rattle.mt_layout.specs.Columns.{slot_column}
 use Rattle.mt_layout.specs.declared.spans.Span.{Span}
 use Rattle.mt_layout.specs.Spans.{Fills}
+use Rattle.mt_layout.proofs.SpanLists.{fills_split}
 use Rattle.mt_rows.specs.Spans.{spans_in, root_span}
 use Rattle.mt_rows.specs.Levels.{level, IsBelow}
 use Rattle.mt_rows.specs.Laws.{Tree, IsRow, Stands, top_of, kind_at}
@@ -14,7 +15,7 @@ use Rattle.mt_rows.specs.Publish.{IsSlotOf}
 use Rattle.mt_rows.specs.Sheet.{Rooted}
 use Rattle.mt_path.specs.declared.paths.PathStep.{PathStep}
 use Rattle.mt_path.specs.Paths.{slot_for, span_at, step_in, below, path_in, step_at, row_on, At}
-use Rattle.mt_path.proofs.Places.{at_slot, at_once, at_get, first_behind, last_before, fills_split}
+use Rattle.mt_path.proofs.Places.{at_slot, at_once, at_get, first_behind, last_before}
 use Rattle.mt_path.proofs.Steps.{Leads, row_here, child_at, path_length, path_step, row_leads, level_fills, row_at, row_next, row_below, rows_agree, steps_agree}
 
 -- the span of the root

@@ -10,7 +10,7 @@ use Rattle.mt_layout.specs.declared.names.RowKind.{RowKind}
 use Rattle.mt_layout.specs.declared.names.RowKind.TheVariants.{Leaf}
 use Rattle.mt_layout.specs.declared.spans.Span.{Span}
 use Rattle.mt_layout.specs.Rows.{row_in, named_kind}
-use Rattle.mt_layout.specs.Sizes.{first_row, slots_of}
+use Rattle.mt_layout.specs.Sizes.{slots_of}
 use Rattle.mt_layout.proofs.NameLaws.{Names-named_kind}
 use Rattle.mt_rows.specs.Laws as laws
 use Rattle.mt_rows.specs.Publish.{IsTreeOf, tree_as}
@@ -19,11 +19,11 @@ use Rattle.mt_rows.specs.Spans.{Table, row_spans, spans_by, spans_in, root_span}
 use Rattle.mt_path.specs.declared.paths.PathStep.{PathStep}
 use Rattle.mt_path.specs.declared.rows.Row.{Row}
 use Rattle.mt_path.specs.declared.rows.Found.{Found}
-use Rattle.mt_path.specs.Handles.{leaf_spans, leaf_in, handle_in}
+use Rattle.mt_path.specs.Handles.{leaf_spans, leaf_in}
 use Rattle.mt_path.specs.Paths.{slot_for, span_at, step_in, below, path_in, step_at, row_on}
 use Rattle.mt_path.specs.Walks.{row_as, row_for, spans_of, found_span, IsFound, IsOnWay, IsAtEnd}
 use Rattle.mt_path.proofs.Steps.{is_inner, path_of_none, row_next}
-use Rattle.mt_path.proofs.TreePaths.{rooted, top_row, row_of, step_of, levels, step, place as place_of_row, lawful}
+use Rattle.mt_path.proofs.TreePaths.{rooted, top_row, row_of, levels, step, place as place_of_row, lawful}
 
 -- ---- the row that a span names
 

@@ -10,7 +10,6 @@ use Rattle.mt_layout.specs.Sizes.{slots_of}
 use Rattle.mt_layout.specs.Columns.{slot_column}
 use Rattle.mt_rows.specs.Sheet.{Rooted, IsPlace}
 use Rattle.mt_rows.specs.Spans.{Table, column, row_spans, root_span}
-use Rattle.mt_path.specs.declared.handles.Handle.{Handle}
 use Rattle.mt_path.specs.declared.rows.Row.{Row}
 use Rattle.mt_path.specs.declared.rows.Found.{Found}
 use Rattle.mt_path.specs.Handles.{handle_in}

@@ -27,11 +27,11 @@ pub fn step_right<R: Rows>(rows: &mut R, path: &mut Path, level: u32) -> bool
     ensures near { OnTrue result (ReadsBelow path.old.items path.new.items ((step_at path.old.items level).max + 1) (R.sheet rows.old) (R.sheet rows.new)) }
     ensures unread { OnFalse result (R.sheet rows.new ≡ R.sheet rows.old) }
 {
-    let last = path[level as usize].max;
-    if last == top(rows.width()) {
+    let end = path[level as usize].max;
+    if end == top(rows.width()) {
         return false;
     }
-    walk_on(rows, path, last + 1);
+    walk_on(rows, path, end + 1);
     true
 }
 
@@ -49,11 +49,11 @@ pub fn step_left<R: Rows>(rows: &mut R, path: &mut Path, level: u32) -> bool
     ensures near { OnTrue result (ReadsBelow path.old.items path.new.items ((step_at path.old.items level).min - 1) (R.sheet rows.old) (R.sheet rows.new)) }
     ensures unread { OnFalse result (R.sheet rows.new ≡ R.sheet rows.old) }
 {
-    let first = path[level as usize].min;
-    if first == 0 {
+    let begin = path[level as usize].min;
+    if begin == 0 {
         return false;
     }
-    walk_on(rows, path, first - 1);
+    walk_on(rows, path, begin - 1);
     true
 }
 

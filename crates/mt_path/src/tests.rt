@@ -1,8 +1,11 @@
-ghost use Rattle.std.specs.Prelude.{◌≡◌, IfOk, slice_index};
+ghost use Rattle.std.specs.Prelude.{◌≡◌, IfOk, IfSome, slice_index};
 ghost use Rattle.std.specs.List.{fold, range_with_len};
 ghost use Rattle.mt_base.specs.declared.kinds.Kind.TheVariants as trees;
+ghost use Rattle.mt_rows.specs.Memory.{sheet_in};
 ghost use Rattle.mt_rows.specs.Publish.{IsTreeOf};
 ghost use Rattle.mt_rows.specs.Sheet.{IsPlace, IsFree, life_of, drafted};
+ghost use Rattle.mt_path.specs.Handles.{IsHandleOf};
+ghost use Rattle.mt_path.specs.Paths.{path_in};
 
 use crate::{
     Handle, Path, PathStep, before, behind, handle_at, left_at, load_span, right_at, step_left,
@@ -47,9 +50,9 @@ const RIGHT: [u64; 32] = [
 
 /// Drafts each column of a row.
 fn draft_row(rows: &mut PlainRows, row: u32, words: &[u64; 32])
-    requires place { IsPlace rows.old.tree row 0 }
-    requires free { IsFree rows.old.cleared (life_of rows.old.lives row) }
-    ensures { rows.new ≡ fold (λ s col. drafted s row col (slice_index words.now col)) rows.old (range_with_len 0 32) }
+    requires place { IsPlace (sheet_in rows.old).tree row 0 }
+    requires free { IsFree (sheet_in rows.old).cleared (life_of (sheet_in rows.old).lives row) }
+    ensures { sheet_in rows.new ≡ fold (λ s col. drafted s row col (slice_index words.now col)) (sheet_in rows.old) (range_with_len 0 32) }
 {
     for col in 0..32 {
         rows.draft(row, col, words[col as usize]);
@@ -58,7 +61,7 @@ fn draft_row(rows: &mut PlainRows, row: u32, words: &[u64; 32])
 
 /// An allocation tree: the row 16 with the leaves 17 and 18.
 fn two_leaves(alloc: Global) -> Result<PlainRows, NoMemory>
-    ensures { IfOk result (λ rows. IsTreeOf rows.tree trees.Alloc) }
+    ensures { IfOk result (λ rows. IsTreeOf (sheet_in rows).tree trees.Alloc) }
 {
     let mut rows = PlainRows::new(alloc, 3)?;
     draft_row(&mut rows, 16, &INNER);
@@ -114,10 +117,19 @@ fn paths_to_indexes(rt: HostRuntime) -> Result<(), Fail> {
     Ok(())
 }
 
+/// The tree of two leaves, and the path to an index in it.
+fn on_the_way(alloc: Global, index: u64) -> Result<(PlainRows, Path), NoMemory>
+    ensures tree { IfOk result (λ r. IsTreeOf (sheet_in r.0).tree trees.Alloc) }
+    ensures path { IfOk result (λ r. r.1.items ≡ path_in (sheet_in r.0).tree.table (sheet_in r.0).tree.root index) }
+{
+    let mut rows = two_leaves(alloc)?;
+    let path = walk(&mut rows, index);
+    Ok((rows, path))
+}
+
 /// The path to an index, gone on to from the path to another.
 fn gone_on(alloc: Global, from: u64, to: u64) -> Result<Path, NoMemory> {
-    let mut rows = two_leaves(alloc)?;
-    let mut path = walk(&mut rows, from);
+    let (mut rows, mut path) = on_the_way(alloc, from)?;
     walk_on(&mut rows, &mut path, to);
     Ok(path)
 }
@@ -136,16 +148,25 @@ fn paths_that_go_on(rt: HostRuntime) -> Result<(), Fail> {
     Ok(())
 }
 
+/// The path to an index of the empty tree, gone on to from that to another.
+fn gone_on_in_none(alloc: Global, index: u64) -> Result<Path, NoMemory> {
+    let mut rows = PlainRows::new(alloc, 3)?;
+    let mut path = Path::new();
+    walk_on(&mut rows, &mut path, index);
+    Ok(path)
+}
+
 #[test]
 fn ways_in_an_empty_tree(rt: HostRuntime) -> Result<(), Fail> {
     for index in [0, 5, TOP] {
         let mut rows = PlainRows::new(rt.alloc(), 3)?;
-        let mut path = walk(&mut rows, index);
-        assert!(rt; path.is_empty(), "the path to {index}");
+        assert!(rt; walk(&mut rows, index).is_empty(), "the path to {index}");
+        assert!(rt;
+            gone_on_in_none(rt.alloc(), index)?.is_empty(),
+            "the path on to {index}"
+        );
         let mut rows = PlainRows::new(rt.alloc(), 3)?;
-        walk_on(&mut rows, &mut path, index);
-        assert!(rt; path.is_empty(), "the path on to {index}");
-        let mut rows = PlainRows::new(rt.alloc(), 3)?;
+        let mut path = Path::new();
         assert_eq!(rt;
             walk_to(&mut rows, index, &mut path),
             None,
@@ -165,10 +186,11 @@ fn rows_beside(
     index: u64,
     level: u32,
 ) -> Result<(Option<Path>, Option<Path>), NoMemory> {
-    let mut rows = two_leaves(alloc)?;
-    let path = walk(&mut rows, index);
+    let (mut rows, path) = on_the_way(alloc, index)?;
     assert!(rt; (level as usize) < path.len());
     let right = right_at(&mut rows, &path, level);
+    let (mut rows, path) = on_the_way(alloc, index)?;
+    assert!(rt; (level as usize) < path.len());
     let left = left_at(&mut rows, &path, level);
     Ok((right, left))
 }
@@ -180,8 +202,7 @@ fn stepped_right(
     index: u64,
     level: u32,
 ) -> Result<Option<Path>, NoMemory> {
-    let mut rows = two_leaves(alloc)?;
-    let mut path = walk(&mut rows, index);
+    let (mut rows, mut path) = on_the_way(alloc, index)?;
     assert!(rt; (level as usize) < path.len());
     if step_right(&mut rows, &mut path, level) {
         Ok(Some(path))
@@ -197,8 +218,7 @@ fn stepped_left(
     index: u64,
     level: u32,
 ) -> Result<Option<Path>, NoMemory> {
-    let mut rows = two_leaves(alloc)?;
-    let mut path = walk(&mut rows, index);
+    let (mut rows, mut path) = on_the_way(alloc, index)?;
     assert!(rt; (level as usize) < path.len());
     if step_left(&mut rows, &mut path, level) {
         Ok(Some(path))
@@ -296,27 +316,38 @@ fn handles_of_indexes(rt: HostRuntime) -> Result<(), Fail> {
     Ok(())
 }
 
-/// What stands at an index, loaded once more, and what stands behind it and before it.
-#[derive(Debug, PartialEq, Drop)]
-struct Around {
-    span: Span,
-    behind: Option<Handle>,
-    before: Option<Handle>,
+/// The tree of two leaves, and what stands at an index in it.
+fn held_at(alloc: Global, index: u64) -> Result<Option<(PlainRows, Handle)>, NoMemory>
+    ensures tree { IfOk result (λ o. IfSome o (λ r. IsTreeOf (sheet_in r.0).tree trees.Alloc)) }
+    ensures handle { IfOk result (λ o. IfSome o (λ r. IsHandleOf (sheet_in r.0).tree r.1)) }
+{
+    let mut rows = two_leaves(alloc)?;
+    match handle_at(&mut rows, index) {
+        Some(here) => Ok(Some((rows, here))),
+        None => Ok(None),
+    }
 }
 
-fn handles_around(alloc: Global, index: u64) -> Result<Option<Around>, NoMemory> {
-    let mut rows = two_leaves(alloc)?;
-    let Some(here) = handle_at(&mut rows, index) else {
-        return Ok(None);
-    };
-    let span = load_span(&mut rows, here.leaf);
-    let behind = behind(&mut rows, &here);
-    let before = before(&mut rows, &here);
-    Ok(Some(Around {
-        span,
-        behind,
-        before,
-    }))
+fn behind_index(alloc: Global, index: u64) -> Result<Option<Handle>, NoMemory> {
+    match held_at(alloc, index)? {
+        Some((mut rows, here)) => Ok(behind(&mut rows, &here)),
+        None => Ok(None),
+    }
+}
+
+fn before_index(alloc: Global, index: u64) -> Result<Option<Handle>, NoMemory> {
+    match held_at(alloc, index)? {
+        Some((mut rows, here)) => Ok(before(&mut rows, &here)),
+        None => Ok(None),
+    }
+}
+
+/// What stands at an index, loaded once more.
+fn span_of_index(alloc: Global, index: u64) -> Result<Option<Span>, NoMemory> {
+    match held_at(alloc, index)? {
+        Some((mut rows, here)) => Ok(Some(load_span(&mut rows, here.leaf))),
+        None => Ok(None),
+    }
 }
 
 #[test]
@@ -348,16 +379,13 @@ fn handles_beside(rt: HostRuntime) -> Result<(), Fail> {
             Some(held_right(4, 16, 16, 4096)),
         ),
     ] {
-        let span = here.span;
         assert_eq!(rt;
-            handles_around(rt.alloc(), index)?,
-            Some(Around {
-                span,
-                behind,
-                before,
-            }),
-            "beside {index}"
+            span_of_index(rt.alloc(), index)?,
+            Some(here.span),
+            "at {index}"
         );
+        assert_eq!(rt; behind_index(rt.alloc(), index)?, behind, "behind {index}");
+        assert_eq!(rt; before_index(rt.alloc(), index)?, before, "before {index}");
     }
     Ok(())
 }

@@ -20,7 +20,7 @@ use Rattle.mt_log.specs.declared.lines.Line.{Line}
 use Rattle.mt_log.specs.declared.transcripts.Entry.{Entry}
 use Rattle.mt_log.specs.Trees.{NamesBelow}
 use Rattle.mt_log.specs.Run.{Asked, Step, Outcome, Called, Looked, Follows, InOrder, IsTrueOf, AreDone, asked_from, steps_of, entry_of, holder_in, numbered_on}
-use Rattle.mtreplay.specs.Playing.{Held, Calls, Asks, Does, AreLimits, HasRows, IsFresh, IsPlayed, IsPlayedBy, TellsUpTo, history_of}
+use Rattle.mtreplay.specs.Playing.{PlayerState, Calls, Asks, Does, AreLimits, HasRows, IsFresh, IsPlayed, IsPlayedBy, TellsUpTo, history_of}
 use Rattle.mtreplay.proofs.Answered.{IsInHistory, limits_more, made_is_in_history, record_made}
 
 -- ---- the steps that a line asks for
@@ -127,9 +127,9 @@ last_more rows records r = fold-append (map_after kinds.Range) [] records (r ∷
 
 -- ---- one more line
 
-tree_played : (count rows : ℕ) (old new : Held) (lines : List Line) (line : Line) (steps : List Step) (records : List Record) → new ≡ old → AreDone (steps_of (line ∷ [])) [] → IsPlayedBy count rows old lines steps records
+tree_played : (count rows : ℕ) (old new : PlayerState) (lines : List Line) (line : Line) (steps : List Step) (records : List Record) → new ≡ old → AreDone (steps_of (line ∷ [])) [] → IsPlayedBy count rows old lines steps records
     → IsPlayedBy count rows new (lines ++ line ∷ []) steps records
-tree_played count rows old new lines line steps records same none h = subst (λ (player : Held). IsPlayedBy count rows player (lines ++ line ∷ []) steps records) (sym same) (record {
+tree_played count rows old new lines line steps records same none h = subst (λ (player : PlayerState). IsPlayedBy count rows player (lines ++ line ∷ []) steps records) (sym same) (record {
   kind = h.kind;
   ranges = h.ranges;
   limits = h.limits;
@@ -146,14 +146,14 @@ tree_played count rows old new lines line steps records same none h = subst (λ 
 })
 
 -- a call that was made is one of the history's
-call_in_history : (count rows : ℕ) (old new : Held) (lines : List Line) (number : ℕ) (call : Call) (reply : Reply) (steps : List Step) (records : List Record) → IsPlayedBy count rows old lines steps records → Calls old new number call reply
+call_in_history : (count rows : ℕ) (old new : PlayerState) (lines : List Line) (number : ℕ) (call : Call) (reply : Reply) (steps : List Step) (records : List Record) → IsPlayedBy count rows old lines steps records → Calls old new number call reply
     → IsInHistory rows (length records) (last_map (history_of rows records)) call new.ranges reply
 call_in_history count rows old new lines number call reply steps records h c =
     let of_kind : IsMade kinds.Range old.limits old.ranges call new.ranges reply = subst (λ (kind : Kind). IsMade kind old.limits old.ranges call new.ranges reply) h.kind c.made in
     let made : IsMade kinds.Range old.limits (last_map (history_of rows records)) call new.ranges reply = subst (λ (m : List Range). IsMade kinds.Range old.limits m call new.ranges reply) h.ranges of_kind in
     made_is_in_history rows (length records) old.limits (last_map (history_of rows records)) call new.ranges reply (subst (λ (n : ℕ). AreLimits rows n old.limits) h.calls h.limits) made
 
-call_played : (count rows : ℕ) (old new : Held) (lines : List Line) (number tree : ℕ) (call : Call) (reply : Reply) (steps : List Step) (records : List Record) → count < 2 → tree < count → Calls old new number call reply → IsPlayedBy count rows old lines steps records
+call_played : (count rows : ℕ) (old new : PlayerState) (lines : List Line) (number tree : ℕ) (call : Call) (reply : Reply) (steps : List Step) (records : List Record) → count < 2 → tree < count → Calls old new number call reply → IsPlayedBy count rows old lines steps records
     → IsPlayedBy count rows new (lines ++ record { number = number; item = Write tree call } ∷ []) (steps ++ step_done number tree (Called (length records + 1) call reply) ∷ []) (records ++ record_made call reply ∷ [])
 call_played count rows old new lines number tree call reply steps records few among c h =
     let n : ℕ = length records in
@@ -178,19 +178,19 @@ call_played count rows old new lines number tree call reply steps records few am
       unheld = All-push (λ (s : Step). holder_in s.outcome ≡ None) steps s h.unheld entered.unheld;
     }
 
-read_played : (count rows : ℕ) (old new : Held) (lines : List Line) (number tree : ℕ) (query : Query) (steps : List Step) (records : List Record) → count < 2 → tree < count → Asks old new number query → IsPlayedBy count rows old lines steps records
+read_played : (count rows : ℕ) (old new : PlayerState) (lines : List Line) (number tree : ℕ) (query : Query) (steps : List Step) (records : List Record) → count < 2 → tree < count → Asks old new number query → IsPlayedBy count rows old lines steps records
     → IsPlayedBy count rows new (lines ++ record { number = number; item = Ask tree query } ∷ []) (steps ++ step_done number tree (Looked (length records) (length records) (length records) query (answer (last_map (history_of rows records)) query)) ∷ []) records
 read_played count rows old new lines number tree query steps records few among asks h =
     let n : ℕ = length records in
     let value : Option Range = answer (last_map (history_of rows records)) query in
     let s : Step = step_done number tree (Looked n n n query value) in
     let whole : take n records ≡ records = take_all n records (omega arith) in
-    let told : new.entries ≡ old.entries ++ entry_of s ∷ [] = rw (h.calls, h.ranges) at (ap (λ (player : Held). player.entries) asks) in
+    let told : new.entries ≡ old.entries ++ entry_of s ∷ [] = rw (h.calls, h.ranges) at (ap (λ (player : PlayerState). player.entries) asks) in
     record {
-      kind = ap (λ (player : Held). player.kind) asks ∙ h.kind;
-      ranges = ap (λ (player : Held). player.ranges) asks ∙ h.ranges;
+      kind = ap (λ (player : PlayerState). player.kind) asks ∙ h.kind;
+      ranges = ap (λ (player : PlayerState). player.ranges) asks ∙ h.ranges;
       limits = rw asks h.limits;
-      calls = ap (λ (player : Held). player.calls) asks ∙ h.calls;
+      calls = ap (λ (player : PlayerState). player.calls) asks ∙ h.calls;
       told = told_more steps s old.entries new.entries h.told told;
       done = done_more lines (record { number = number; item = Ask tree query }) steps (s ∷ []) h.done (s ∷ [], [], refl, (n, n, n, value, refl), refl);
       named = All-push (λ (s : Step). s.tree < count) steps s h.named among;
@@ -202,7 +202,7 @@ read_played count rows old new lines number tree query steps records few among a
       unheld = All-push (λ (s : Step). holder_in s.outcome ≡ None) steps s h.unheld refl;
     }
 
-pub line_played : (count rows : ℕ) (old new : Held) (lines : List Line) (number : ℕ) (item : Item) → count < 2 → NamesBelow count item → Does old new number item → IsPlayed count rows old lines → IsPlayed count rows new (lines ++ record { number = number; item = item } ∷ [])
+pub line_played : (count rows : ℕ) (old new : PlayerState) (lines : List Line) (number : ℕ) (item : Item) → count < 2 → NamesBelow count item → Does old new number item → IsPlayed count rows old lines → IsPlayed count rows new (lines ++ record { number = number; item = item } ∷ [])
 line_played count rows old new lines number (Tree name kind) few named does (steps, records, h) = (steps, records, tree_played count rows old new lines (record { number = number; item = Tree name kind }) steps records does refl h)
 line_played count rows old new lines number (Write tree call) few named does (steps, records, h) = (
   steps ++ step_done number tree (Called (length records + 1) call does.0) ∷ [],
@@ -216,7 +216,7 @@ line_played count rows old new lines number (Ask tree query) few named does (ste
 )
 
 -- a line counts one call at the most, and uses no more room than it counts
-pub counts_on : (old new : Held) (number : ℕ) (item : Item) → Does old new number item → (new.calls ≤ old.calls + 1) × (new.used + old.calls ≤ old.used + new.calls)
+pub counts_on : (old new : PlayerState) (number : ℕ) (item : Item) → Does old new number item → (new.calls ≤ old.calls + 1) × (new.used + old.calls ≤ old.used + new.calls)
 counts_on old new number (Tree name kind) does = rw does (omega arith, omega arith)
 counts_on old new number (Write tree call) does = (omega (arith, does.1.calls), omega (arith, does.1.calls, does.1.used))
 counts_on old new number (Ask tree query) does = rw does (omega arith, omega arith)
@@ -227,7 +227,7 @@ fresh_limits : (rows : ℕ) (limits : Option Limits) → IsFresh limits → HasR
 fresh_limits rows None fresh size = tt
 fresh_limits rows (Some l) fresh size = record { size = size; opened = fresh.0; ended = omega (arith, fresh.1); alone = fresh.2 }
 
-pub nothing_played : (count rows : ℕ) (player : Held) → player.kind ≡ kinds.Range → player.ranges ≡ [] → player.calls ≡ 0 → player.entries ≡ [] → IsFresh player.limits → HasRows rows player.limits → IsPlayed count rows player []
+pub nothing_played : (count rows : ℕ) (player : PlayerState) → player.kind ≡ kinds.Range → player.ranges ≡ [] → player.calls ≡ 0 → player.entries ≡ [] → IsFresh player.limits → HasRows rows player.limits → IsPlayed count rows player []
 nothing_played count rows player kind ranges calls entries fresh size = (
   [],
   [],

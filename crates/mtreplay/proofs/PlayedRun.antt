@@ -18,7 +18,7 @@ use Rattle.mt_log.specs.declared.transcripts.Listing.{Listing}
 use Rattle.mt_log.specs.declared.transcripts.Transcript.{Transcript}
 use Rattle.mt_log.specs.Trees.{Declared, Opening, Empty, AreNamedFrom, IsReadable, NamesBelow, count_after, declared_by, opening_by, phase_after, trees_from, trees_of}
 use Rattle.mt_log.specs.Run.{Step, IsRun, Opens, OpensAs, listings_of, numbered_on}
-use Rattle.mtreplay.specs.Playing.{Held, IsPlayed, IsPlayedBy, history_of, listed_by, lists_of}
+use Rattle.mtreplay.specs.Playing.{PlayerState, IsPlayed, IsPlayedBy, history_of, listed_by, lists_of}
 
 -- ---- the steps of a log name its trees
 
@@ -111,7 +111,7 @@ trees_are_listed h lines = sym (listings_are h (trees_of lines) ∙ shown_more h
 
 -- ---- so it is a run
 
-run_by : (rows : ℕ) (log : Log) (player : Held) (t : Transcript) (steps : List Step) (records : List Record) → IsReadable log.lines → IsPlayedBy (length (trees_of log.lines)) rows player log.lines steps records → t.entries ≡ player.entries → t.lists ≡ lists_of log.lines player.ranges → IsRun log rows t
+run_by : (rows : ℕ) (log : Log) (player : PlayerState) (t : Transcript) (steps : List Step) (records : List Record) → IsReadable log.lines → IsPlayedBy (length (trees_of log.lines)) rows player log.lines steps records → t.entries ≡ player.entries → t.lists ≡ lists_of log.lines player.ranges → IsRun log rows t
 run_by rows log player t steps records readable h entries lists =
     let declared : List Declared = trees_of log.lines in
     let one : History = history_of rows records in
@@ -134,5 +134,5 @@ run_by rows log player t steps records readable h entries lists =
     )
 
 -- what a player made of a log that can be read is a run of it
-pub run_of : (rows : ℕ) (log : Log) (player : Held) (t : Transcript) → IsReadable log.lines → IsPlayed (length (trees_of log.lines)) rows player log.lines → t.entries ≡ player.entries → t.lists ≡ lists_of log.lines player.ranges → IsRun log rows t
+pub run_of : (rows : ℕ) (log : Log) (player : PlayerState) (t : Transcript) → IsReadable log.lines → IsPlayed (length (trees_of log.lines)) rows player log.lines → t.entries ≡ player.entries → t.lists ≡ lists_of log.lines player.ranges → IsRun log rows t
 run_of rows log player t readable (steps, records, h) entries lists = run_by rows log player t steps records readable h entries lists

@@ -22,7 +22,7 @@ use Rattle.mt_log.specs.Run.{Step, Outcome, Called, Looked, InOrder, IsTrueOf, A
 
 -- what a player holds: its map (the kind, the ranges, how much of its room for calls is used, and what its rows are limited
 -- by), how many calls it made, and the entries that it told
-pub record Held : Type 0 where
+pub record PlayerState : Type 0 where
   pub kind : Kind
   pub ranges : List Range
   pub used : ℕ
@@ -31,7 +31,7 @@ pub record Held : Type 0 where
   pub entries : List Entry
 
 -- a call was made, got the next number, and was told with its reply
-pub record Calls (old new : Held) (line : ℕ) (call : Call) (reply : Reply) : Type 0 where
+pub record Calls (old new : PlayerState) (line : ℕ) (call : Call) (reply : Reply) : Type 0 where
   pub made : IsMade old.kind old.limits old.ranges call new.ranges reply
   pub kind : new.kind ≡ old.kind
   pub used : new.used ≤ old.used + 1
@@ -40,11 +40,11 @@ pub record Calls (old new : Held) (line : ℕ) (call : Call) (reply : Reply) : T
   pub told : new.entries ≡ old.entries ++ record { line = line; said = said.Wrote (old.calls + 1) reply } ∷ []
 
 -- a query was answered by the map as it stands, and told; its window is the number of calls so far
-abbrev pub Asks : Held → Held → ℕ → Query → Type 0
+abbrev pub Asks : PlayerState → PlayerState → ℕ → Query → Type 0
 Asks old new line query = new ≡ record old { entries = old.entries ++ record { line = line; said = said.Got old.calls old.calls (shown query (answer old.ranges query)) } ∷ [] }
 
 -- what the line of this number asks for was done
-abbrev pub Does : Held → Held → ℕ → Item → Type 0
+abbrev pub Does : PlayerState → PlayerState → ℕ → Item → Type 0
 Does old new line (Tree name kind) = new ≡ old
 Does old new line (Write tree call) = (reply : Reply) × Calls old new line call reply
 Does old new line (Ask tree query) = Asks old new line query
@@ -83,7 +83,7 @@ TellsUpTo n (Looked lo hi k query value) = (lo ≤ n) × (hi ≤ n) × (k ≤ n)
 
 -- these steps are what came of the lines, and these are the calls among them, where so many trees are declared and have
 -- so many rows
-pub record IsPlayedBy (count rows : ℕ) (player : Held) (lines : List Line) (steps : List Step) (records : List Record) : Type 0 where
+pub record IsPlayedBy (count rows : ℕ) (player : PlayerState) (lines : List Line) (steps : List Step) (records : List Record) : Type 0 where
   -- the player holds the tree after these calls, and told the steps
   pub kind : player.kind ≡ kinds.Range
   pub ranges : player.ranges ≡ last_map (history_of rows records)
@@ -101,7 +101,7 @@ pub record IsPlayedBy (count rows : ℕ) (player : Held) (lines : List Line) (st
   pub reads : All (λ (s : Step). IsTrueOf (history_of rows records) s.outcome) steps
   pub unheld : All (λ (s : Step). holder_in s.outcome ≡ None) steps
 
-abbrev pub IsPlayed : ℕ → ℕ → Held → List Line → Type 0
+abbrev pub IsPlayed : ℕ → ℕ → PlayerState → List Line → Type 0
 IsPlayed count rows player lines = (steps : List Step) × (records : List Record) × IsPlayedBy count rows player lines steps records
 
 -- ---- the listings

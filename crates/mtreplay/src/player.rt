@@ -21,9 +21,9 @@ struct Player<M: Ranges> {
 }
 
 impl<M: Ranges> Model for Player<M> {
-    ghost use Rattle.mtreplay.specs.Playing.{Held};
+    ghost use Rattle.mtreplay.specs.Playing.{PlayerState};
 
-    ghost Value = { Held };
+    ghost Value = { PlayerState };
 
     ghost view = { λ p. record { kind = M.kind p.map; ranges = M.map p.map; used = M.used p.map; limits = M.limits p.map; calls = p.calls; entries = p.entries.items } };
 }

@@ -115,37 +115,22 @@ fn a_log_is_answered_line_by_line(rt: HostRuntime) -> Result<(), Fail> {
 
 #[test]
 fn neighbours_are_found_up_and_down(rt: HostRuntime) -> Result<(), Fail> {
-    let rows = [
-        ("next a 5 max", "range 20 29 5"),
-        ("next a 10 max", "range 20 29 5"),
-        ("next a 0 20", "range 20 29 5"),
-        ("next a 0 19", "none"),
-        ("prev a 25 0", "range 0 9 1"),
-        ("prev a 20 0", "range 0 9 1"),
-        ("prev a 0 0", "none"),
-        ("next a max max", "none"),
-        ("rfind a 15 0", "range 0 9 1"),
-        ("rfind a 15 10", "none"),
-        (
-            "rfind a max 0",
-            "range 18446744073709551615 18446744073709551615 3",
-        ),
-        ("prev a 15 10", "none"),
-    ];
-    for (line, answer) in rows {
-        let alloc = rt.alloc();
-        let lines = format!(in alloc;
-            "store a 0 9 1\nstore a 20 29 5\nstore a max max 3\n{line}\n"
-        )?;
-        let log = steps(alloc, &lines)?;
-        let mut src = source(alloc, &log, NEVER)?;
-        let ending = run(&rt, &["replay"], &mut src, 256, 256)?;
-        let text = format!(in alloc;
-            "3 1 ok\n4 2 ok\n5 3 ok\n6 3 3 {answer}\ntree a range 3\n0 9 1\n20 29 5\n18446744073709551615 18446744073709551615 3\n"
-        )?;
-        assert_eq!(rt; ending.status, 0, "{line}");
-        assert_eq!(rt; ending.out.bytes(), text.as_bytes(), "{line}");
-    }
+    let log = steps(
+        rt.alloc(),
+        "store a 0 9 1\nstore a 20 29 5\nstore a max max 3\n\
+         next a 5 max\nnext a 10 max\nnext a 0 20\nnext a 0 19\n\
+         prev a 25 0\nprev a 20 0\nprev a 0 0\nnext a max max\n\
+         rfind a 15 0\nrfind a 15 10\nrfind a max 0\nprev a 15 10\n",
+    )?;
+    let text = "3 1 ok\n4 2 ok\n5 3 ok\n\
+         6 3 3 range 20 29 5\n7 3 3 range 20 29 5\n8 3 3 range 20 29 5\n9 3 3 none\n\
+         10 3 3 range 0 9 1\n11 3 3 range 0 9 1\n12 3 3 none\n13 3 3 none\n\
+         14 3 3 range 0 9 1\n15 3 3 none\n16 3 3 range 18446744073709551615 18446744073709551615 3\n17 3 3 none\n\
+         tree a range 3\n0 9 1\n20 29 5\n18446744073709551615 18446744073709551615 3\n";
+    let mut src = source(rt.alloc(), &log, NEVER)?;
+    let ending = run(&rt, &["replay"], &mut src, 1024, 256)?;
+    assert_eq!(rt; ending.status, 0);
+    assert_eq!(rt; ending.out.bytes(), text.as_bytes());
     Ok(())
 }
 

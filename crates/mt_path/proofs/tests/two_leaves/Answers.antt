@@ -11,6 +11,7 @@ use Rattle.mt_rows.specs.Laws as laws
 use Rattle.mt_rows.specs.Publish.{MayPlant, Planted, IsTreeOf}
 use Rattle.mt_rows.specs.Plain.{new_sheet}
 use Rattle.mt_rows.specs.declared.rows.Life.TheVariants as lives
+use Rattle.mt_rows.specs.Memory.{sheet_in}
 use Rattle.mt_rows.specs.Sheet.{Sheet}
 use Rattle.mt_rows.proofs.PlainExamples.{with_columns, column_in}
 use Rattle.mt_path.specs.declared.tests.TheConstants.{INNER, LEFT, RIGHT}
@@ -20,7 +21,7 @@ abbrev all_words : List ℕ
 all_words = replicate 512 0 ++ (INNER ++ (LEFT ++ RIGHT))
 
 abbrev ready_to_plant : Sheet
-ready_to_plant = record (new_sheet 3) { tree = record { table = record { width = Long; words = all_words }; root = 0 }; lives = replicate 16 lives.New ++ (lives.Draft ∷ lives.Draft ∷ lives.Draft ∷ []) }
+ready_to_plant = record (new_sheet 3) { tree = record { rows = 3; table = record { width = Long; words = all_words }; root = 0 }; lives = replicate 16 lives.New ++ (lives.Draft ∷ lives.Draft ∷ lives.Draft ∷ []) }
 
 is_ready : with_columns (with_columns (with_columns (new_sheet 3) 16 INNER 32) 17 LEFT 32) 18 RIGHT 32 ≡ ready_to_plant
 is_ready = refl
@@ -98,7 +99,7 @@ lawful = inr (
 )
 
 may_plant : MayPlant Alloc ready_to_plant 4124
-may_plant = record { idle = refl; first = refl; empty = refl; of_kind = record { told = tt; width = refl }; lawful = lawful }
+may_plant = record { idle = refl; first = refl; empty = refl; told = tt; lawful = record { width = refl; words = lawful } }
 
 -- ---- three rows drafted one after the other
 
@@ -113,12 +114,13 @@ module _ (s s₁ s₂ s₃ : Sheet) (new : s ≡ new_sheet 3) (first : s₁ ≡ 
   leaves_are_tree : (s₄ : Sheet) → Planted s₃ s₄ 4124 → IsTreeOf s₄.tree Alloc
   leaves_are_tree s₄ planted =
       let done : Planted ready_to_plant s₄ 4124 = subst (λ (s : Sheet). Planted s s₄ 4124) leaves_are planted in
-      subst (λ (s : Sheet). IsTreeOf s.tree Alloc) (sym done.rest) (record { of_kind = record { told = tt; width = refl }; words = inr (1, stands) })
+      subst (λ (s : Sheet). IsTreeOf s.tree Alloc) (sym done.rest) (record { width = refl; words = inr (1, stands) })
 
 pub plant-requires : goal.plant-requires
-plant-requires c = leaves_may_plant c.in_ok-rows.rows c.draft_row.new.rows c.draft_row-2.new.rows c.draft_row-3.new.rows c.in_ok-rows.ensures c.draft_row.ensures c.draft_row-2.ensures c.draft_row-3.ensures
+plant-requires c =
+    leaves_may_plant (sheet_in c.in_ok-rows.rows) (sheet_in c.draft_row.new.rows) (sheet_in c.draft_row-2.new.rows) (sheet_in c.draft_row-3.new.rows) c.in_ok-rows.ensures c.draft_row.ensures c.draft_row-2.ensures c.draft_row-3.ensures
 
 pub returns : goal.returns
 returns c =
-    leaves_are_tree c.in_ok-rows.rows c.draft_row.new.rows c.draft_row-2.new.rows c.draft_row-3.new.rows c.in_ok-rows.ensures c.draft_row.ensures c.draft_row-2.ensures c.draft_row-3.ensures
-    c.plant.new.self c.plant.ensures
+    leaves_are_tree (sheet_in c.in_ok-rows.rows) (sheet_in c.draft_row.new.rows) (sheet_in c.draft_row-2.new.rows) (sheet_in c.draft_row-3.new.rows) c.in_ok-rows.ensures c.draft_row.ensures c.draft_row-2.ensures c.draft_row-3.ensures
+    (sheet_in c.plant.new.self) c.plant.ensures
