@@ -89,7 +89,7 @@ module _ {start : Start} {w : Work} {t : Rooted} {left right : List PathStep} {d
   left_slot =
       let few = left_few start w left right depth height new_spans climbed in
       let used = slot_used start w left right depth height new_spans climbed in
-      let slots = slots_now may.is_now kind_here in
+      let slots = slots_now may.is_now (suc height) kind_here in
       omega arith
 
   -- ---- their items

@@ -3,7 +3,12 @@ use Rattle.std.proofs.Common.{◌≡◌, ℕ, zero, suc, ◌+◌, ◌-◌, ◌<�
 use Rattle.std.specs.Prelude.{Contains, slice_index_or}
 use Rattle.std.proofs.lemmas.Bool.{cases_lt}
 use Rattle.std.proofs.lemmas.List.Elements.{All-nil}
+use Rattle.mt_base.specs.declared.kinds.Kind.{Kind}
+use Rattle.mt_base.specs.declared.kinds.Kind.TheVariants as kinds
+use Rattle.mt_base.specs.declared.widths.Width.TheVariants.{Long}
+use Rattle.mt_base.specs.Width.{kind_width}
 use Rattle.mt_free.specs.Book.{Held, rows_down, IsBook, new_book}
+use Rattle.mt_layout.specs.Sizes.{first_row}
 use Rattle.mt_rows.specs.declared.rows.Life.TheVariants as lives
 use Rattle.mt_rows.specs.Plain.{new_sheet}
 use Rattle.mt_splice.specs.Kept.{IsSpare}
@@ -15,24 +20,31 @@ same_anywhere (suc n) zero x = refl
 same_anywhere (suc n) (suc i) x = same_anywhere n i x
 
 -- each row of a new book is free
-in_down : (n m : ℕ) → m < n → Contains (rows_down n) (16 + m)
+in_down : (n m : ℕ) → m < n → Contains (rows_down n) (first_row + m)
 in_down zero m low = absurd (omega arith)
 in_down (suc n) m low =
     ⊎_elim (λ (less : m < n). let here = in_down n m less in (suc here.0, let below = here.1 in omega arith, here.2))
-    (λ (last : n ≤ m). (0, omega arith, let same : n ≡ m = omega arith in subst (λ (k : ℕ). 16 + n ≡ 16 + k) same refl)) (cases_lt m n)
+    (λ (last : n ≤ m). (0, omega arith, let same : n ≡ m = omega arith in subst (λ (k : ℕ). first_row + n ≡ first_row + k) same refl)) (cases_lt m n)
 
-pub fresh_is_ready : (n : ℕ) → IsBook (new_book n) → IsBetweenCalls (new_sheet n) (new_book n)
-fresh_is_ready n sound = record {
+wide_words : (kind : Kind) → Long ≡ kind_width kind
+wide_words kinds.Range = refl
+wide_words kinds.Alloc = refl
+
+pub fresh_is_ready : (kind : Kind) (n : ℕ) → IsBook (new_book n) → IsBetweenCalls kind (new_sheet n) (new_book n)
+fresh_is_ready kind n sound = record {
   idle = refl;
-  lawful = record { of_kind = record { told = tt; width = refl }; words = inl refl };
-  live = λ row low high. ((λ is. let none = same_anywhere (16 + n) row lives.New in absurd (cc)), (λ is. absurd (cc)));
-  none_buried = λ row low high. same_anywhere (16 + n) row false;
-  booked = record {
-    sound = sound;
-    rows = refl;
-    out = λ row low high is. absurd (is.not_free (let m : row ≡ 16 + (row - 16) = omega arith in subst (Contains (rows_down n)) (sym m) (in_down n (row - 16) (omega arith))));
-    reached = λ row is. absurd (cc);
-    spare = λ k d within. subst (IsSpare 0) (sym (same_anywhere (16 + n) (slice_index_or (rows_down n) k d) lives.New)) tt;
-    stamps = All-nil (λ (h : Held). h.stamp < 1);
+  told = tt;
+  kept = record {
+    lawful = record { width = wide_words kind; words = inl refl };
+    live = λ row low high. ((λ is. let none = same_anywhere (first_row + n) row lives.New in absurd (cc)), (λ is. absurd (cc)));
+    none_buried = λ row low high. same_anywhere (first_row + n) row false;
+    booked = record {
+      sound = sound;
+      rows = refl;
+      out = λ row low high is. absurd (is.not_free (let m : row ≡ first_row + (row - first_row) = omega arith in subst (Contains (rows_down n)) (sym m) (in_down n (row - first_row) (omega arith))));
+      reached = λ row is. absurd (cc);
+      spare = λ k d within. subst (IsSpare 0) (sym (same_anywhere (first_row + n) (slice_index_or (rows_down n) k d) lives.New)) tt;
+      stamps = All-nil (λ (h : Held). h.stamp < 1);
+    };
   };
 }

@@ -4,6 +4,7 @@ use Rattle.std.specs.Prelude.{if◌then◌else◌}
 use Rattle.std.specs.List.{AllByRecursion}
 use Rattle.std.proofs.lemmas.Bool.{cases_lt}
 use Rattle.std.proofs.lemmas.List.{take_all, take-take, drop-take, drop-drop, take-map, drop-map, get_or-take, get_or-drop}
+use Rattle.mt_base.specs.declared.widths.Width.{Width}
 use Rattle.mt_base.proofs.Lists.{all_front, all_back}
 use Rattle.mt_layout.specs.declared.items.Item.{Item}
 use Rattle.mt_layout.specs.declared.spans.Span.{Span}
@@ -204,3 +205,15 @@ cut_makes_parts {t} {height} {lo} {hi} {ends} items run cut =
     (λ (many : most_in t height < length items). pieces_are_parts items cut.leaf run leaf_is 0 lo ends refl (cut.cut.more many).pieces)
     (λ (few : length items ≤ most_in t height). subst (AreParts t height lo items 0) (sym (cut.cut.one few)) (one_part items cut.leaf run leaf_is few))
     (cases_lt (most_in t height) (length items))
+
+-- it makes one row at the least
+pub some_ends : {width : Width} {kind : RowKind} {items : List Item} {ends : List ℕ} → IsCutOf width kind items ends → 1 ≤ length items → 1 ≤ length ends
+some_ends {width} {kind} {items} {ends} cut some =
+    ⊎_elim
+    (λ (many : slots_of width kind < length items). by ends (cut.cut.more many).pieces)
+    (λ (few : length items ≤ slots_of width kind). let one = ap length (cut.cut.one few) in omega arith)
+    (cases_lt (slots_of width kind) (length items))
+  where
+    by : (ends : List ℕ) → ArePieces cut.leaf (least_items width kind) (slots_of width kind) items 0 ends → 1 ≤ length ends
+    by [] pieces = let none : 0 ≡ length items = pieces in absurd (omega arith)
+    by (to ∷ ends) pieces = omega arith

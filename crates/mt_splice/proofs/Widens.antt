@@ -48,8 +48,8 @@ module _ {start : Start} {w : Work} {t : Rooted} (is : IsNow start w t) where
   pub top_now : greatest t.table.width ≡ top_of start.tree
   top_now = ap (λ (x : Table). greatest x.width) table_now
 
-  pub slots_now : {kind : RowKind} {height : ℕ} → kind ≡ kind_at start.tree.kind height → slots_of t.table.width kind ≡ slots_of start.tree.table.width (kind_at start.tree.kind height)
-  slots_now of_kind = λ i. slots_of (table_now i).width (of_kind i)
+  pub slots_now : {kind : RowKind} (height : ℕ) → kind ≡ kind_at start.tree.kind height → slots_of t.table.width kind ≡ slots_of start.tree.table.width (kind_at start.tree.kind height)
+  slots_now height of_kind = λ i. slots_of (table_now i).width (of_kind i)
 
   pub row_now : {row : ℕ} → (first_row ≤ row) × (row < first_row + start.tree.rows) → (first_row ≤ row) × (row < first_row + t.rows)
   row_now {row} number = subst (λ (rows : ℕ). (first_row ≤ row) × (row < first_row + rows)) (sym (ap (λ (x : Rooted). x.rows) is.words)) number
@@ -189,6 +189,13 @@ module _ {start : Start} {w : Work} {t : Rooted} {kind : RowKind} {left right : 
       ⊎_elim (λ (some : 0 < (step_at left depth).min). some)
       (λ (first : (step_at left depth).min ≤ 0). let stays : b ≡ false = none.1 (omega arith) in let clash : true ≡ false = sym goes ∙ stays in absurd (cc)) (cases_lt 0 (step_at left depth).min)
 
+  pub none_before : {b : Bool} → (b ≡ false) ↔ ((step_at left depth).min ≡ 0) → b ≡ false → (step_at left depth).min ≡ 0
+  none_before none stays = none.0 stays
+
+  -- loads change nothing of it
+  pub may_read : {t' : Rooted} → t' ≡ t → MayTakeIn start w t' kind left right depth height items
+  may_read same = subst (λ (x : Rooted). MayTakeIn start w x kind left right depth height items) (sym same) may
+
   -- as they are
   stays_as_it_is : (least ≤ length items) ⊎ ((begin_of left depth ≡ 0) × ((step_at right depth).max ≡ top_of start.tree))
       → (height ≡ 0 → (step_at right depth).max < top_of start.tree → ends_with_hole (spans_from 0 items) ≡ false) → IsTakenIn start w left right depth height items
@@ -209,7 +216,7 @@ module _ {start : Start} {w : Work} {t : Rooted} {kind : RowKind} {left right : 
   row_fits few = let same = length-spans_from (begin_of left depth) items in let enough = sizes start.tree.table.width (kind_at start.tree.kind height) in omega arith
 
   pub room_beside : length items ≤ most → length items + slots_of t.table.width kind ≤ run_room
-  room_beside few = let slots = slots_now may.is_now may.of_kind in let enough = sizes start.tree.table.width (kind_at start.tree.kind height) in omega arith
+  room_beside few = let slots = slots_now may.is_now height may.of_kind in let enough = sizes start.tree.table.width (kind_at start.tree.kind height) in omega arith
 
   -- ---- the row behind
 
@@ -356,6 +363,13 @@ module _ {start : Start} {w : Work} {t : Rooted} {kind : RowKind} {left right : 
   few_if_short short =
       let few = ltb-true (length items) (least_items t.table.width kind) short in
       let least = least_is in let enough = sizes start.tree.table.width (kind_at start.tree.kind height) in omega arith
+
+  -- as the width is told
+  pub short_is : {width : Width} {b : Bool} → width ≡ t.table.width → b ≡ short_run width kind items → short_run t.table.width kind items ≡ b
+  short_is is test = ap (λ (width : Width). short_run width kind items) (sym is) ∙ sym test
+
+  pub wanted_is : {width : Width} {b : Bool} → width ≡ t.table.width → b ≡ (short_run width kind items || holed_run kind items) → wanted ≡ b
+  wanted_is is test = ap (λ (width : Width). short_run width kind items || holed_run kind items) (sym is) ∙ sym test
 
   -- nothing is wanted
   pub wants_none : wanted ≡ false → IsTakenIn start w left right depth height items

@@ -1,58 +1,122 @@
--- What stands in a row that was written, and which laws of rows it keeps.
-use Rattle.std.proofs.Common.{◌≡◌, ℕ, ◌+◌, ◌*◌, ◌<◌, List, Option, Some, sym, ap, ◌∙◌, arith, zero-add}
+-- What stands in a row that was written: its items, and the words that they make.
+use Rattle.std.proofs.Common.{◌≡◌, ℕ, zero, suc, ◌+◌, ◌*◌, ◌<◌, ◌≤◌, List, [], ◌∷◌, ◌++◌, Option, Some, length, map, take, ◌-◌, refl, sym, ap, ◌∙◌, subst, arith, zero-add}
 use Rattle.std.specs.Prelude.{slice_index}
-use Rattle.std.proofs.lemmas.Grind.{common_steps}
 use Rattle.mt_base.specs.declared.widths.Width.{Width}
-use Rattle.mt_base.specs.declared.widths.Width.TheVariants.{Long}
 use Rattle.mt_base.specs.Width.{columns}
 use Rattle.mt_layout.specs.declared.items.Item.{Item}
 use Rattle.mt_layout.specs.declared.spans.Span.{Span}
 use Rattle.mt_layout.specs.declared.names.RowKind.{RowKind}
 use Rattle.mt_layout.specs.Rows.{IsRowNumber, name_at, named_kind, row_in}
-use Rattle.mt_layout.specs.Columns.{FitRow, end_of, row_words, items_at}
-use Rattle.mt_layout.specs.Spans.{spans_from}
-use Rattle.mt_layout.proofs.NameLaws.{named_kind-name_at}
-use Rattle.mt_layout.proofs.OwnColumns.{same_items}
-use Rattle.mt_layout.proofs.ReadBack.{reads_back, row_words-hold}
-use Rattle.mt_rows.specs.Spans.{Table, column, spans_by, spans_in}
+use Rattle.mt_layout.specs.Columns.{FitRow, NoGaps, RiseFrom, end_of, padded_to, row_words, items_at}
 use Rattle.mt_layout.specs.Sizes.{slots_of, gaps_of}
-use Rattle.mt_rows.specs.Laws.{items_in, item_words}
-use Rattle.mt_rows.proofs.Frames.{is_layout}
+use Rattle.mt_layout.specs.Spans.{spans_from}
+use Rattle.mt_layout.proofs.Gapless.{no_gaps-cons}
+use Rattle.mt_layout.proofs.NameLaws.{named_kind-name_at, row_in-name_at}
+use Rattle.mt_layout.proofs.OwnColumns.{same_items}
+use Rattle.mt_layout.proofs.ReadBack.{Holds, reads_back, row_words-hold}
+use Rattle.mt_layout.proofs.RowSizes.{layout_of, some_columns}
+use Rattle.mt_rows.specs.Spans.{Table, column, spans_by, spans_in}
+use Rattle.mt_rows.specs.Laws.{items_in, words_in}
 use Rattle.mt_splice.specs.Writes.{no_parent, new_words}
+
+-- ---- items as a row holds them that has so many columns of gaps
+
+abbrev as_held : ℕ → List Item → List Item
+as_held zero items = map (λ (x : Item). record x { gap = 0 }) items
+as_held (suc gaps) items = items
+
+held_fields : {A : Type 0} (f : Item → A) → ((x : Item) → f (record x { gap = 0 }) ≡ f x) → (items : List Item) → map f (map (λ (x : Item). record x { gap = 0 }) items) ≡ map f items
+held_fields f same [] = refl
+held_fields f same (x ∷ items) = λ i. same x i ∷ held_fields f same items i
+
+held_no_gaps : (items : List Item) → NoGaps (map (λ (x : Item). record x { gap = 0 }) items)
+held_no_gaps [] = refl
+held_no_gaps (x ∷ items) = no_gaps-cons (record x { gap = 0 }) (map (λ (y : Item). record y { gap = 0 }) items) refl (held_no_gaps items)
+
+held_length : (gaps : ℕ) (items : List Item) → length (as_held gaps items) ≡ length items
+held_length zero [] = refl
+held_length zero (x ∷ items) = ap suc (held_length zero items)
+held_length (suc gaps) items = refl
+
+held_rise : (gaps min : ℕ) (items : List Item) → RiseFrom min items → RiseFrom min (as_held gaps items)
+held_rise zero min [] rise = tt
+held_rise zero min (x ∷ items) rise = (rise.0, held_rise zero (x.last + 1) items rise.1)
+held_rise (suc gaps) min items rise = rise
+
+held_end : (gaps d : ℕ) (items : List Item) → end_of d (as_held gaps items) ≡ end_of d items
+held_end zero d [] = refl
+held_end zero d (x ∷ items) = held_end zero x.last items
+held_end (suc gaps) d items = refl
+
+held_spans : (gaps first : ℕ) (items : List Item) → spans_from first (as_held gaps items) ≡ spans_from first items
+held_spans zero first [] = refl
+held_spans zero first (x ∷ items) = ap (λ (l : List Span). record { first = first; last = x.last; word = x.word } ∷ l) (held_spans zero (x.last + 1) items)
+held_spans (suc gaps) first items = refl
+
+held_words : (all slots gaps parent : ℕ) (items : List Item) → row_words all slots gaps parent (as_held gaps items) ≡ row_words all slots gaps parent items
+held_words all slots zero parent items =
+    let lasts = held_fields (λ (x : Item). x.last) (λ x. refl) items in let words = held_fields (λ (x : Item). x.word) (λ x. refl) items in
+    λ i. padded_to all (parent ∷ padded_to (slots - 1) (take (slots - 1) (lasts i)) ++ padded_to slots (words i) ++ [])
+held_words all slots (suc gaps) parent items = refl
+
+held_fit : (slots gaps : ℕ) (items : List Item) → 1 ≤ length items → length items ≤ slots → RiseFrom 0 items → FitRow slots gaps (as_held gaps items)
+held_fit slots gaps items some fit rise =
+    let same = held_length gaps items in
+    record { some = omega arith; fit = omega arith; rise = held_rise gaps 0 items rise; no_gaps = none gaps }
+  where
+    none : (gaps : ℕ) → gaps ≡ 0 → NoGaps (as_held gaps items)
+    none zero is = held_no_gaps items
+    none (suc gaps) is = absurd (omega arith)
+
+-- ---- the row
 
 -- the row's columns are the words of a new row with these items
 pub record IsNewRow (t : Table) (kind : RowKind) (row : ℕ) (items : List Item) : Type 0 where
   pub number : IsRowNumber row
-  pub fit : FitRow (slots_of t.width kind) (gaps_of t.width kind) items
+  pub some : 1 ≤ length items
+  pub fit : length items ≤ slots_of t.width kind
+  pub rise : RiseFrom 0 items
   pub own : (c : ℕ) → c < columns t.width → column t row c ≡ slice_index (new_words t kind items) c
 
-items_read : (w : Width) (words : List ℕ) (kind : RowKind) (row : ℕ) (items : List Item) → FitRow (slots_of w kind) (gaps_of w kind) items
-    → ((c : ℕ) → c < columns w → slice_index words (columns w * row + c) ≡ slice_index (row_words (columns w) (slots_of w kind) (gaps_of w kind) no_parent items) c)
-    → items_at (slots_of w kind) (gaps_of w kind) words (columns w * row) (end_of 0 items) ≡ items
-items_read Long words kind row items fit own =
-    let new = row_words 32 (slots_of Long kind) (gaps_of Long kind) no_parent items in
-    same_items (slots_of Long kind) (gaps_of Long kind) (32 * row) 0 words new (is_layout Long kind)
-    (λ c some within. own c within ∙ ap (slice_index new) (sym (zero-add c))) (end_of 0 items)
-    ∙ reads_back (slots_of Long kind) (gaps_of Long kind) new 0 items fit.fit fit.rise (row_words-hold 32 (slots_of Long kind) (gaps_of Long kind) no_parent items (is_layout Long kind) fit) fit.some
-
 module _ (t : Table) (kind : RowKind) (row : ℕ) (items : List Item) (new : IsNewRow t kind row items) where
-  abbrev pub new_span : ℕ → ℕ → Span
-  new_span first gap = record { first = first; last = end_of 0 items; word = name_at row kind }
+  abbrev slots : ℕ
+  slots = slots_of t.width kind
 
-  pub new_number : row_in (name_at row kind) ≡ row
-  new_number = let n = new.number in grind (arith, common_steps)
+  abbrev gaps : ℕ
+  gaps = gaps_of t.width kind
+
+  abbrev held : List Item
+  held = as_held gaps items
+
+  abbrev words : List ℕ
+  words = new_words t kind items
+
+  fits : FitRow slots gaps held
+  fits = held_fit slots gaps items new.some new.fit new.rise
+
+  holds : Holds slots gaps words 0 held
+  holds = subst (λ (l : List ℕ). Holds slots gaps l 0 held) (held_words (columns t.width) slots gaps no_parent items) (row_words-hold (columns t.width) slots gaps no_parent held (layout_of t.width kind) fits)
+
+  items_read : items_at slots gaps t.words (columns t.width * row) (end_of 0 items) ≡ held
+  items_read =
+      same_items (columns t.width) slots gaps (columns t.width * row) 0 t.words words (layout_of t.width kind) (λ c some within. new.own c within ∙ ap (slice_index words) (sym (zero-add c))) (end_of 0 items)
+      ∙ (ap (items_at slots gaps words 0) (sym (held_end gaps 0 items)) ∙ reads_back slots gaps words 0 held fits.fit fits.rise holds fits.some)
+
+  abbrev pub new_span : ℕ → Span
+  new_span first = record { first = first; last = end_of 0 items; word = name_at row kind }
 
   pub new_named : named_kind (name_at row kind) ≡ Some kind
   new_named = named_kind-name_at row kind new.number
 
-  pub new_items : (first gap : ℕ) → items_in t kind (new_span first gap) ≡ items
-  new_items first gap = rw new_number (items_read t.width t.words kind row items new.fit new.own)
+  new_items : (first : ℕ) → items_in t kind (new_span first) ≡ held
+  new_items first = ap (λ (r : ℕ). items_at slots gaps t.words (columns t.width * r) (end_of 0 items)) (row_in-name_at row kind) ∙ items_read
 
-  pub new_spans : (first gap : ℕ) → spans_in t (new_span first gap) ≡ spans_from first items
-  new_spans first gap = ap (λ (k : Option RowKind). spans_by t k (new_span first gap)) new_named ∙ ap (spans_from first) (new_items first gap)
+  pub new_spans : (first : ℕ) → spans_in t (new_span first) ≡ spans_from first items
+  new_spans first = ap (λ (k : Option RowKind). spans_by t k (new_span first)) new_named ∙ (ap (spans_from first) (new_items first) ∙ held_spans gaps first items)
 
-  pub new_unused : (first gap c : ℕ) → c < columns t.width → column t (row_in (name_at row kind)) c ≡ slice_index (item_words t kind (new_span first gap)) c
-  new_unused first gap c within =
-      let parent : column t (row_in (name_at row kind)) 0 ≡ no_parent = ap (λ (r : ℕ). column t r 0) new_number ∙ new.own 0 (omega arith) in
-      ap (λ (r : ℕ). column t r c) new_number ∙ new.own c within
-      ∙ sym (λ j. slice_index (row_words (columns t.width) (slots_of t.width kind) (gaps_of t.width kind) (parent j) (new_items first gap j)) c)
+  pub new_unused : (first c : ℕ) → c < columns t.width → column t (row_in (name_at row kind)) c ≡ slice_index (words_in t kind (new_span first)) c
+  new_unused first c within =
+      let number = row_in-name_at row kind in
+      let parent : column t (row_in (name_at row kind)) 0 ≡ no_parent = ap (λ (r : ℕ). column t r 0) number ∙ new.own 0 (some_columns t.width) in
+      ap (λ (r : ℕ). column t r c) number ∙ (new.own c within
+      ∙ sym ((λ j. slice_index (row_words (columns t.width) slots gaps (parent j) (new_items first j)) c) ∙ ap (λ (l : List ℕ). slice_index l c) (held_words (columns t.width) slots gaps no_parent items)))

@@ -1,6 +1,6 @@
 -- The items of a level that are to stand in rows of a height, and what is known once these rows are written.
 -- Source: this project's own; the kernel's mab_mas_cp writes a big node's items into one, two or three nodes.
-use Rattle.std.specs.Prelude.{◌≡◌, ℕ, ◌+◌, ◌<◌, ◌≤◌, Bool, true, false, List, [], ◌∷◌, length}
+use Rattle.std.specs.Prelude.{◌≡◌, ℕ, ◌+◌, ◌<◌, ◌≤◌, Bool, true, List, [], ◌∷◌, All, length}
 use Rattle.mt_base.specs.declared.widths.Width.{Width}
 use Rattle.mt_layout.specs.declared.items.Item.{Item}
 use Rattle.mt_layout.specs.declared.names.RowKind.{RowKind}
@@ -8,10 +8,10 @@ use Rattle.mt_layout.specs.declared.names.RowKind.TheVariants.{Leaf, Inner, Gapp
 use Rattle.mt_layout.specs.declared.spans.Span.{Span}
 use Rattle.mt_layout.specs.Rows.{row_in}
 use Rattle.mt_layout.specs.Spans.{spans_from}
-use Rattle.mt_free.specs.Book.{Book}
+use Rattle.mt_free.specs.Book.{Book, Held, IsOut}
 use Rattle.mt_rows.specs.Levels.{tally}
 use Rattle.mt_rows.specs.Laws.{kind_at}
-use Rattle.mt_rows.specs.Sheet.{Sheet}
+use Rattle.mt_rows.specs.Sheet.{Sheet, MayBury}
 use Rattle.mt_leaf.specs.Cuts.{IsCut}
 use Rattle.mt_path.specs.declared.paths.PathStep.{PathStep}
 use Rattle.mt_path.specs.Paths.{path_in, step_at}
@@ -24,7 +24,6 @@ use Rattle.mt_splice.specs.Burying.{AreBuried}
 use Rattle.mt_splice.specs.Climbs.{begin_of, behind_of, AreWritten}
 use Rattle.mt_splice.specs.Runs.{MayBeCut}
 use Rattle.mt_splice.specs.Progress.{Before, IsBefore, IsCase, IsProgress, new_rows_of}
-use Rattle.mt_splice.specs.Kept.{MayBeReplaced}
 use Rattle.mt_layout.specs.Sizes.{slots_of, least_items}
 
 -- ---- one row
@@ -77,7 +76,6 @@ pub record IsCutOf (width : Width) (kind : RowKind) (items : List Item) (ends : 
 pub record MayWriteRows (b : Before) (start : Start) (s : Sheet) (book : Book) (w : Work) (kind : RowKind) (height lo hi : ℕ) (items : List Item) (ends : List ℕ) (inner : List NewRow) : Type 0 where
   pub before : IsBefore b start
   pub progress : IsProgress b s book w
-  pub range : MayBeReplaced start.tree.kind
   pub of_kind : kind ≡ kind_at start.tree.kind height
   pub free : 3 ≤ length book.free
   pub run : MayBeCut start.tree height lo hi (spans_from lo items)
@@ -104,6 +102,12 @@ pub record AreRowsAdded (b : Before) (start : Start) (s s' : Sheet) (book book' 
   pub each : {w : Work} {height lo hi : ℕ} → MayWriteRows b start s book w kind height lo hi items ends inner → (w' : Work) × AreRowsWritten b start s' book book' w w' height lo items ends inner' new
 
 -- ---- the rows that are replaced
+
+-- a live row that is out may be buried, and retired with this number
+pub record MayBeBuried (s : Sheet) (book : Book) (row number : ℕ) : Type 0 where
+  pub live : MayBury s row
+  pub out : IsOut book row
+  pub in_order : All (λ (h : Held). h.stamp ≤ number) book.held
 
 -- The call in flight, of this number, may bury the rows of a depth and a height from the left path's to the right path's: the
 -- tree stands by the words now, and none of these rows is gone.

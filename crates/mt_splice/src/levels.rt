@@ -1,17 +1,17 @@
 //! The rows of a level: the new ones are written, and the old ones buried.
 
-ghost use Rattle.std.specs.Prelude.{◌≡◌, ◌<◌, ◌≤◌, ◌+◌, ◌*◌, ◌++◌, ℕ, true, Some, All, length};
+ghost use Rattle.std.specs.Prelude.{◌≡◌, ◌<◌, ◌≤◌, ◌+◌, ◌*◌, ◌++◌, ℕ, Some, length};
 ghost use Rattle.mt_base.specs.declared.kinds.Kind.{Kind};
 ghost use Rattle.mt_base.specs.Width.{greatest, most_taken};
-ghost use Rattle.mt_free.specs.Book.{IsOut, after_retire};
+ghost use Rattle.mt_free.specs.Book.{after_retire};
 ghost use Rattle.mt_layout.specs.declared.names.RowKind.TheVariants.{Leaf};
 ghost use Rattle.mt_layout.specs.Rows.{row_in, named_row};
 ghost use Rattle.mt_layout.specs.Sizes.{slots_of};
 ghost use Rattle.mt_layout.specs.Spans.{spans_from, Apart};
 ghost use Rattle.mt_path.specs.Paths.{path_in, step_at};
 ghost use Rattle.mt_rows.specs.Publish.{IsTreeOf};
-ghost use Rattle.mt_rows.specs.Sheet.{MayBury, after_bury, OnlyReads};
-ghost use Rattle.mt_splice.specs.Levels.{MayAddRow, IsRowAdded, noted, IsCutOf, MayAddRows, AreRowsAdded, MayBuryLevel, IsLevelBuried, IsRowBehind};
+ghost use Rattle.mt_rows.specs.Sheet.{after_bury, OnlyReads};
+ghost use Rattle.mt_splice.specs.Levels.{MayAddRow, IsRowAdded, noted, IsCutOf, MayAddRows, AreRowsAdded, MayBeBuried, MayBuryLevel, IsLevelBuried, IsRowBehind};
 
 use crate::begun::Begun;
 use crate::regions::{Region, step_on};
@@ -112,9 +112,7 @@ pub fn write_rows<R: Rows, B: Begun>(
 
 /// Buries a live row that is out, and retires it with the call's number.
 fn bury_row<R: Rows>(rows: &mut R, book: &mut RowBook, row: u32, number: u64)
-    requires live { MayBury (R.sheet rows.old) row }
-    requires out { IsOut book.old row }
-    requires in_order { All (λ h. h.stamp ≤ number) book.old.held }
+    requires { MayBeBuried (R.sheet rows.old) book.old row number }
     ensures rows { R.sheet rows.new ≡ after_bury (R.sheet rows.old) row }
     ensures book { book.new ≡ after_retire book.old row number }
 {

@@ -1,77 +1,92 @@
-use Rattle.std.proofs.Common.{◌≡◌, ◌<◌, ℕ, true, false, refl, sym, ap, ◌∙◌, arith}
+use Rattle.std.proofs.Common.{◌≡◌, refl, ap, ◌∙◌}
 use Rattle.mt_rows.specs.Sheet.{Sheet}
-use Rattle.mt_path.specs.Paths.{step_at}
-use Rattle.mt_splice.specs.Writes.{items_of_row}
-use Rattle.mt_splice.proofs.Widens.{widen_read, kind_of_tree, is_right_path, is_left_path, right_deep, left_deep, right_more, right_last, right_row, left_row, widens_right, widens_left, wide_already, few_behind, few_ahead, last_and_enough}
+use Rattle.mt_splice.proofs.Widens.{is_tree, right_leads, left_leads, right_deep, left_deep, stands_behind, none_behind, stands_before, none_before, may_read, room_beside, deep_behind, row_behind, taken_behind, deep_before, row_before, taken_before, short_is, wanted_is, wants_none, few_if_wanted, few_if_short, enough_at_end, all_there_is}
 use Rattle.mt_splice.proofs.beside.take_in_beside.Goals as goal
 
-not_both : true ≡ false → ⊥
-not_both e = cc
-
-some_above : (n : ℕ) → (n ≡ 0 → ⊥) → 0 < n
-some_above n not = omega (arith, not)
-
 pub returns-then-not-wants_row-clause-level : goal.returns-then-not-wants_row-clause-level
-returns-then-not-wants_row-clause-level g c =
-    λ start w height may. wide_already start w (g.R.Rows.sheet c.args.rows.now) c.args.kind c.args.region.left.items c.args.region.right.items c.args.depth height c.args.region.run.items may (sym c.wants_row.ensures ∙ c.if-not-wants_row.true)
+returns-then-not-wants_row-clause-level g c = record { each = λ may. wants_none may (wanted_is may c.width-width.ensures c.wants_row.ensures ∙ c.if-not-wants_row.true) }
 
-pub right_at-requires-clause-tree : goal.right_at-requires-clause-tree
-right_at-requires-clause-tree g c =
-    kind_of_tree c.requires.level.0 c.requires.level.1 (g.R.Rows.sheet c.args.rows.now) c.args.kind c.args.region.left.items c.args.region.right.items c.args.depth c.requires.level.2 c.args.region.run.items c.requires.level.3
+-- ---- the row behind
 
-pub right_at-requires-clause-path : goal.right_at-requires-clause-path
-right_at-requires-clause-path g c =
-    is_right_path c.requires.level.0 c.requires.level.1 (g.R.Rows.sheet c.args.rows.now) c.args.kind c.args.region.left.items c.args.region.right.items c.args.depth c.requires.level.2 c.args.region.run.items c.requires.level.3
+pub step_right-requires-clause-tree : goal.step_right-requires-clause-tree
+step_right-requires-clause-tree g c = is_tree c.requires.may
 
-pub right_at-requires-clause-level : goal.right_at-requires-clause-level
-right_at-requires-clause-level g c =
-    right_deep c.requires.level.0 c.requires.level.1 (g.R.Rows.sheet c.args.rows.now) c.args.kind c.args.region.left.items c.args.region.right.items c.args.depth c.requires.level.2 c.args.region.run.items c.requires.level.3
+pub step_right-requires-clause-path : goal.step_right-requires-clause-path
+step_right-requires-clause-path g c = right_leads c.requires.may
 
-pub take_right-requires-clause-depth : goal.take_right-requires-clause-depth
-take_right-requires-clause-depth g c =
-    (right_row c.requires.level.0 c.requires.level.1 (g.R.Rows.sheet c.args.rows.now) c.args.kind c.args.region.left.items c.args.region.right.items c.args.depth c.requires.level.2 c.args.region.run.items c.requires.level.3 c.in-Some.right.items (right_more c.requires.level.0 c.requires.level.1 (g.R.Rows.sheet c.args.rows.now) c.args.kind c.args.region.left.items c.args.region.right.items c.args.depth c.requires.level.2 c.args.region.run.items c.requires.level.3 (λ e. not_both (c.in-Some.ensures.none.1 e))) c.in-Some.ensures.some).0
+pub step_right-requires-clause-level : goal.step_right-requires-clause-level
+step_right-requires-clause-level g c = right_deep c.requires.may
 
-pub take_right-requires-clause-row : goal.take_right-requires-clause-row
-take_right-requires-clause-row g c =
-    let row = right_row c.requires.level.0 c.requires.level.1 (g.R.Rows.sheet c.args.rows.now) c.args.kind c.args.region.left.items c.args.region.right.items c.args.depth c.requires.level.2 c.args.region.run.items c.requires.level.3 c.in-Some.right.items (right_more c.requires.level.0 c.requires.level.1 (g.R.Rows.sheet c.args.rows.now) c.args.kind c.args.region.left.items c.args.region.right.items c.args.depth c.requires.level.2 c.args.region.run.items c.requires.level.3 (λ e. not_both (c.in-Some.ensures.none.1 e))) c.in-Some.ensures.some in let rows = ap (λ (s : Sheet). s.tree.rows) c.right_at.ensures.rest in (row.1, (let below = row.2 in omega arith))
+pub take_behind-requires-clause-depth : goal.take_behind-requires-clause-depth
+take_behind-requires-clause-depth g c = deep_behind c.requires.may (stands_behind c.requires.may c.step_right.ensures.none c.if-step_right.true) c.if-step_right.ensures.some
 
-pub returns-in-Some-clause-level : goal.returns-in-Some-clause-level
-returns-in-Some-clause-level g c =
-    λ start w height may.
-    let few = few_behind start w (g.R.Rows.sheet c.args.rows.now) c.args.kind c.args.region.left.items c.args.region.right.items c.args.depth height c.args.region.run.items may (sym c.wants_row.ensures ∙ c.if-not-wants_row.false) (right_more start w (g.R.Rows.sheet c.args.rows.now) c.args.kind c.args.region.left.items c.args.region.right.items c.args.depth height c.args.region.run.items may (λ e. not_both (c.in-Some.ensures.none.1 e))) in
-    rw (c.take_right.ensures.left, c.take_right.ensures.right, c.take_right.ensures.run)
-    (widens_right start w (g.R.Rows.sheet c.args.rows.now) c.args.kind c.args.region.left.items c.args.region.right.items c.args.depth height c.args.region.run.items may c.in-Some.right.items (right_more start w (g.R.Rows.sheet c.args.rows.now) c.args.kind c.args.region.left.items c.args.region.right.items c.args.depth height c.args.region.run.items may (λ e. not_both (c.in-Some.ensures.none.1 e))) c.in-Some.ensures.some (g.R.Rows.sheet c.right_at.new.rows).tree.table
-    (items_of_row (g.R.Rows.sheet c.right_at.new.rows).tree.table c.args.kind (step_at c.in-Some.right.items c.args.depth).row (step_at c.in-Some.right.items c.args.depth).max) (ap (λ (s : Sheet). s.tree.table) c.right_at.ensures.rest) refl few)
+pub take_behind-requires-clause-row : goal.take_behind-requires-clause-row
+take_behind-requires-clause-row g c =
+    let same = ap (λ (s : Sheet). s.tree) c.step_right.ensures.rest in
+    rw same (row_behind c.requires.may (stands_behind c.requires.may c.step_right.ensures.none c.if-step_right.true) c.if-step_right.ensures.some)
+
+pub take_behind-requires-clause-room : goal.take_behind-requires-clause-room
+take_behind-requires-clause-room g c =
+    let more = stands_behind c.requires.may c.step_right.ensures.none c.if-step_right.true in
+    room_beside (may_read c.requires.may (ap (λ (s : Sheet). s.tree) c.step_right.ensures.rest)) (few_if_wanted c.requires.may (wanted_is c.requires.may c.width-width.ensures c.wants_row.ensures ∙ c.if-not-wants_row.false) more)
+
+pub returns-then-step_right-clause-level : goal.returns-then-step_right-clause-level
+returns-then-step_right-clause-level g c =
+    rw (c.take_behind.ensures.left, c.take_behind.ensures.right, c.take_behind.ensures.run)
+    (record {
+      each = λ may.
+          let more = stands_behind may c.step_right.ensures.none c.if-step_right.true in
+          taken_behind may more c.if-step_right.ensures.some (ap (λ (s : Sheet). s.tree) c.step_right.ensures.rest) refl
+          (few_if_wanted may (wanted_is may c.width-width.ensures c.wants_row.ensures ∙ c.if-not-wants_row.false) more);
+    })
+
+-- ---- none stands behind
 
 pub returns-then-not-is_short-clause-level : goal.returns-then-not-is_short-clause-level
 returns-then-not-is_short-clause-level g c =
-    λ start w height may. last_and_enough start w (g.R.Rows.sheet c.args.rows.now) c.args.kind c.args.region.left.items c.args.region.right.items c.args.depth height c.args.region.run.items may (right_last start w (g.R.Rows.sheet c.args.rows.now) c.args.kind c.args.region.left.items c.args.region.right.items c.args.depth height c.args.region.run.items may (c.in_default.ensures.none.0 refl)) (sym c.is_short.ensures ∙ c.if-not-is_short.true)
+    rw c.if-step_right.ensures.stays
+    (record { each = λ may. enough_at_end may (none_behind may c.step_right.ensures.none c.if-step_right.false) (short_is may c.width-width.ensures c.is_short.ensures ∙ c.if-not-is_short.true) })
 
-pub left_at-requires-clause-tree : goal.left_at-requires-clause-tree
-left_at-requires-clause-tree g c =
-    kind_of_tree c.requires.level.0 c.requires.level.1 (g.R.Rows.sheet c.right_at.new.rows) c.args.kind c.args.region.left.items c.args.region.right.items c.args.depth c.requires.level.2 c.args.region.run.items (widen_read c.requires.level.0 c.requires.level.1 (g.R.Rows.sheet c.args.rows.now) (g.R.Rows.sheet c.right_at.new.rows) c.args.kind c.args.region.left.items c.args.region.right.items c.args.depth c.requires.level.2 c.args.region.run.items c.right_at.ensures.rest c.requires.level.3)
+-- ---- the row before
 
-pub left_at-requires-clause-path : goal.left_at-requires-clause-path
-left_at-requires-clause-path g c =
-    is_left_path c.requires.level.0 c.requires.level.1 (g.R.Rows.sheet c.right_at.new.rows) c.args.kind c.args.region.left.items c.args.region.right.items c.args.depth c.requires.level.2 c.args.region.run.items (widen_read c.requires.level.0 c.requires.level.1 (g.R.Rows.sheet c.args.rows.now) (g.R.Rows.sheet c.right_at.new.rows) c.args.kind c.args.region.left.items c.args.region.right.items c.args.depth c.requires.level.2 c.args.region.run.items c.right_at.ensures.rest c.requires.level.3)
+pub step_left-requires-clause-tree : goal.step_left-requires-clause-tree
+step_left-requires-clause-tree g c = is_tree (may_read c.requires.may (ap (λ (s : Sheet). s.tree) c.step_right.ensures.rest))
 
-pub left_at-requires-clause-level : goal.left_at-requires-clause-level
-left_at-requires-clause-level g c =
-    left_deep c.requires.level.0 c.requires.level.1 (g.R.Rows.sheet c.right_at.new.rows) c.args.kind c.args.region.left.items c.args.region.right.items c.args.depth c.requires.level.2 c.args.region.run.items (widen_read c.requires.level.0 c.requires.level.1 (g.R.Rows.sheet c.args.rows.now) (g.R.Rows.sheet c.right_at.new.rows) c.args.kind c.args.region.left.items c.args.region.right.items c.args.depth c.requires.level.2 c.args.region.run.items c.right_at.ensures.rest c.requires.level.3)
+pub step_left-requires-clause-path : goal.step_left-requires-clause-path
+step_left-requires-clause-path g c = left_leads (may_read c.requires.may (ap (λ (s : Sheet). s.tree) c.step_right.ensures.rest))
 
-pub take_left-requires-clause-depth : goal.take_left-requires-clause-depth
-take_left-requires-clause-depth g c =
-    (left_row c.requires.level.0 c.requires.level.1 (g.R.Rows.sheet c.right_at.new.rows) c.args.kind c.args.region.left.items c.args.region.right.items c.args.depth c.requires.level.2 c.args.region.run.items (widen_read c.requires.level.0 c.requires.level.1 (g.R.Rows.sheet c.args.rows.now) (g.R.Rows.sheet c.right_at.new.rows) c.args.kind c.args.region.left.items c.args.region.right.items c.args.depth c.requires.level.2 c.args.region.run.items c.right_at.ensures.rest c.requires.level.3) c.in-Some-left_at.left.items (some_above (step_at c.args.region.left.items c.args.depth).min (λ e. not_both (c.in-Some-left_at.ensures.none.1 e))) c.in-Some-left_at.ensures.some).0
+pub step_left-requires-clause-level : goal.step_left-requires-clause-level
+step_left-requires-clause-level g c = left_deep c.requires.may
 
-pub take_left-requires-clause-row : goal.take_left-requires-clause-row
-take_left-requires-clause-row g c =
-    let row = left_row c.requires.level.0 c.requires.level.1 (g.R.Rows.sheet c.right_at.new.rows) c.args.kind c.args.region.left.items c.args.region.right.items c.args.depth c.requires.level.2 c.args.region.run.items (widen_read c.requires.level.0 c.requires.level.1 (g.R.Rows.sheet c.args.rows.now) (g.R.Rows.sheet c.right_at.new.rows) c.args.kind c.args.region.left.items c.args.region.right.items c.args.depth c.requires.level.2 c.args.region.run.items c.right_at.ensures.rest c.requires.level.3) c.in-Some-left_at.left.items (some_above (step_at c.args.region.left.items c.args.depth).min (λ e. not_both (c.in-Some-left_at.ensures.none.1 e))) c.in-Some-left_at.ensures.some in let rows = ap (λ (s : Sheet). s.tree.rows) c.left_at.ensures.rest in (row.1, (let below = row.2 in omega arith))
+pub returns-then-not-step_left-clause-level : goal.returns-then-not-step_left-clause-level
+returns-then-not-step_left-clause-level g c =
+    rw (c.if-step_right.ensures.stays, c.if-not-step_left.ensures.stays)
+    (record { each = λ may. all_there_is may (none_behind may c.step_right.ensures.none c.if-step_right.false) (none_before may c.step_left.ensures.none c.if-not-step_left.true) })
 
-pub returns-in-Some-left_at-clause-level : goal.returns-in-Some-left_at-clause-level
-returns-in-Some-left_at-clause-level g c =
-    λ start w height may.
-    let few = few_ahead start w (g.R.Rows.sheet c.args.rows.now) c.args.kind c.args.region.left.items c.args.region.right.items c.args.depth height c.args.region.run.items may (sym c.is_short.ensures ∙ c.if-not-is_short.false) in
-    rw (c.take_left.ensures.left, c.take_left.ensures.right, c.take_left.ensures.run)
-    (widens_left start w (g.R.Rows.sheet c.right_at.new.rows) c.args.kind c.args.region.left.items c.args.region.right.items c.args.depth height c.args.region.run.items (widen_read start w (g.R.Rows.sheet c.args.rows.now) (g.R.Rows.sheet c.right_at.new.rows) c.args.kind c.args.region.left.items c.args.region.right.items c.args.depth height c.args.region.run.items c.right_at.ensures.rest may) c.in-Some-left_at.left.items (some_above (step_at c.args.region.left.items c.args.depth).min (λ e. not_both (c.in-Some-left_at.ensures.none.1 e))) c.in-Some-left_at.ensures.some (g.R.Rows.sheet c.left_at.new.rows).tree.table
-    (items_of_row (g.R.Rows.sheet c.left_at.new.rows).tree.table c.args.kind (step_at c.in-Some-left_at.left.items c.args.depth).row (step_at c.in-Some-left_at.left.items c.args.depth).max) (ap (λ (s : Sheet). s.tree.table) c.left_at.ensures.rest) refl
-    (right_last start w (g.R.Rows.sheet c.args.rows.now) c.args.kind c.args.region.left.items c.args.region.right.items c.args.depth height c.args.region.run.items may (c.in_default.ensures.none.0 refl)) few)
+pub take_before-requires-clause-depth : goal.take_before-requires-clause-depth
+take_before-requires-clause-depth g c =
+    let same = ap (λ (s : Sheet). s.tree) c.step_right.ensures.rest in
+    deep_before (may_read c.requires.may same) (stands_before (may_read c.requires.may same) c.step_left.ensures.none c.if-not-step_left.false) c.if-not-step_left.ensures.some
+
+pub take_before-requires-clause-row : goal.take_before-requires-clause-row
+take_before-requires-clause-row g c =
+    let same = ap (λ (s : Sheet). s.tree) c.step_right.ensures.rest in
+    let then = ap (λ (s : Sheet). s.tree) c.step_left.ensures.rest in
+    rw then (row_before (may_read c.requires.may same) (stands_before (may_read c.requires.may same) c.step_left.ensures.none c.if-not-step_left.false) c.if-not-step_left.ensures.some)
+
+pub take_before-requires-clause-room : goal.take_before-requires-clause-room
+take_before-requires-clause-room g c =
+    let same = ap (λ (s : Sheet). s.tree) c.step_right.ensures.rest in
+    let then = ap (λ (s : Sheet). s.tree) c.step_left.ensures.rest in
+    room_beside (may_read c.requires.may (then ∙ same)) (few_if_short c.requires.may (short_is c.requires.may c.width-width.ensures c.is_short.ensures ∙ c.if-not-is_short.false))
+
+pub returns-clause-level : goal.returns-clause-level
+returns-clause-level g c =
+    let same = ap (λ (s : Sheet). s.tree) c.step_right.ensures.rest in
+    let then = ap (λ (s : Sheet). s.tree) c.step_left.ensures.rest in
+    rw (c.take_before.ensures.left, c.take_before.ensures.right, c.take_before.ensures.run, c.if-step_right.ensures.stays)
+    (record {
+      each = λ may.
+          taken_before (may_read may same) (stands_before may c.step_left.ensures.none c.if-not-step_left.false) c.if-not-step_left.ensures.some then refl (none_behind may c.step_right.ensures.none c.if-step_right.false)
+          (few_if_short may (short_is may c.width-width.ensures c.is_short.ensures ∙ c.if-not-is_short.false));
+    })
