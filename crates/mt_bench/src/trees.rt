@@ -1,0 +1,101 @@
+//! The trees that works are done on.
+
+use mt_base::{Call, Kind, MOST_ROWS, NoMemory, Query, Range, Reply};
+use mt_engine::Engine;
+use mt_free::RowBook;
+use mt_rows::PlainRows;
+use std::alloc::Global;
+use std::marker::Model;
+
+/// So many calls are made on one tree at the most.
+const MOST_CALLS: u64 = 1 << 60;
+
+/// What a work asks of a tree.
+pub trait Tree {
+    /// Makes a call.
+    fn act(&mut self, call: &Call) -> Reply;
+
+    /// The entry at an index, or 0.
+    fn load(&mut self, index: u64) -> u64;
+
+    /// Visits all ranges in order.
+    fn visit(&mut self) -> Visit;
+}
+
+/// All ranges, visited once: how many there are, and the sum of their entries and first indexes.
+#[derive(Clone, Copy, Debug, Default, PartialEq, Eq)]
+pub struct Visit {
+    pub count: u64,
+    pub sum: u64,
+}
+
+impl Visit {
+    /// One range more.
+    pub fn take(&mut self, range: &Range) {
+        self.count = self.count.wrapping_add(1);
+        self.sum = self.sum.wrapping_add(range.entry).wrapping_add(range.first);
+    }
+}
+
+/// A tree of nodes, and how many calls were made on it.
+#[derive(Drop)]
+pub struct Nodes {
+    engine: Engine<PlainRows>,
+    calls: u64,
+}
+
+impl Model for Nodes {
+    ghost use Rattle.std.specs.Prelude.{◌≡◌, ℕ};
+
+    ghost Value = { ℕ };
+
+    ghost view = { λ n. n.calls };
+
+    ghost invariant = { λ n. n.engine.sheet.ended ≡ n.calls };
+}
+
+impl Nodes {
+    /// An empty tree.
+    pub fn new(alloc: Global) -> Result<Self, NoMemory> {
+        let rows = PlainRows::new(alloc, MOST_ROWS)?;
+        let book = RowBook::new(alloc, MOST_ROWS)?;
+        Ok(Nodes {
+            engine: Engine::new(rows, book, Kind::Range),
+            calls: 0,
+        })
+    }
+
+    /// How many nodes the tree has.
+    pub fn live(self) -> u64 {
+        let (_rows, book) = self.engine.parts();
+        book.live()
+    }
+}
+
+impl Tree for Nodes {
+    fn act(&mut self, call: &Call) -> Reply {
+        if self.calls >= MOST_CALLS {
+            return Reply::Invalid;
+        }
+        self.calls += 1;
+        self.engine.apply(call)
+    }
+
+    fn load(&mut self, index: u64) -> u64 {
+        self.engine
+            .ask(&Query::Load { index })
+            .map_or(0, |range| range.entry)
+    }
+
+    fn visit(&mut self) -> Visit {
+        let mut visit = Visit::default();
+        let mut walk = self.engine.walk_from(0);
+        for _ in 0..u64::MAX {
+            let Some(range) = self.engine.next_range(&mut walk) else {
+                break;
+            };
+            visit.take(&range);
+        }
+        visit
+    }
+}
