@@ -36,7 +36,7 @@ row_behind lo hi begin k items fills =
     sym is ∙ begin_there lo hi (after begin (take k items)) (drop k items) (subst (Fills lo hi) (sym is) fills)
 
 -- new items between those before a slot and those behind one
-pub spans_between : (lo first last hi begin i k : ℕ) (xs new ys : List Item) → Fills lo first (take i (spans_from lo xs)) → Fills first last (spans_from first new) → Fills last hi (drop k (spans_from begin ys))
+spans_between : (lo first last hi begin i k : ℕ) (xs new ys : List Item) → Fills lo first (take i (spans_from lo xs)) → Fills first last (spans_from first new) → Fills last hi (drop k (spans_from begin ys))
     → spans_from lo (take i xs ++ (new ++ drop k ys)) ≡ take i (spans_from lo xs) ++ (spans_from first new ++ drop k (spans_from begin ys))
 spans_between lo first last hi begin i k xs new ys front here back =
     let ahead = spans-take i lo xs in

@@ -1,6 +1,6 @@
 -- A row drafted item by item.
 use Rattle.std.proofs.Common.{◌≡◌, ◌≢◌, ◌⊎◌, ℕ, zero, suc, ◌+◌, ◌-◌, ◌*◌, ◌<◌, ◌≤◌, Bool, true, false, List, [], ◌∷◌, length, get_or, refl, sym, ap, ◌∙◌, arith, subst, ⊎_elim, get_or-set_other, get_or-set_same, set, length-set}
-use Rattle.std.specs.Prelude.{nat_lt, slice_index, slice_index_or, slice_set, if◌then◌else◌}
+use Rattle.std.specs.Prelude.{nat_lt, slice_index, slice_set, if◌then◌else◌}
 use Rattle.std.proofs.lemmas.Bool.{cases_eq, cases_lt, ltb-true, lt-ltb}
 use Rattle.std.proofs.lemmas.List.{get_or_past}
 use Rattle.mt_base.specs.declared.widths.Width.{Width}
@@ -15,7 +15,7 @@ use Rattle.mt_layout.proofs.RowWords.{item_or, used, length-used, used-pivot, us
 use Rattle.mt_rows.specs.declared.rows.Life.{Life}
 use Rattle.mt_rows.specs.declared.rows.Life.TheVariants.{Draft, New}
 use Rattle.mt_rows.specs.Spans.{Table, base_of, column}
-use Rattle.mt_rows.specs.Sheet.{Sheet, Rooted, IsWhole, IsPlace, IsFree, HasDied, life_of, drafted}
+use Rattle.mt_rows.specs.Sheet.{Sheet, Rooted, IsWhole, IsPlace, HasDied, life_of, drafted}
 use Rattle.mt_splice.specs.Work.{with_words}
 use Rattle.mt_splice.specs.Writes.{OnlyDrafts, IsItemPut, IsItemDrafted, used_columns, IsRestDrafted, no_parent, IsRowDrafted}
 
@@ -52,18 +52,7 @@ set_twice [] i x = refl
 set_twice (y ∷ l) zero x = refl
 set_twice (y ∷ l) (suc i) x = ap (λ (t : List Life). y ∷ t) (set_twice l i x)
 
-set_again : (l : List Life) (i : ℕ) (x : Life) → life_of l i ≡ x → l ≡ set l i x
-set_again [] i x is = refl
-set_again (y ∷ l) zero x is = ap (λ (z : Life). z ∷ l) is
-set_again (y ∷ l) (suc i) x is = ap (λ (t : List Life). y ∷ t) (set_again l i x is)
-
--- a row that is written may be written again
-pub free_again : (cleared : ℕ) (lives : List Life) (row : ℕ) → IsFree cleared (life_of lives row) → IsFree cleared (life_of (slice_set lives row Draft) row)
-free_again cleared [] row free = free
-free_again cleared (l ∷ lives) zero free = tt
-free_again cleared (l ∷ lives) (suc row) free = free_again cleared lives row free
-
-pub only_drafted : (s : Sheet) (row col word : ℕ) → col < columns s.tree.table.width → OnlyDrafts s (drafted s row col word) row
+only_drafted : (s : Sheet) (row col word : ℕ) → col < columns s.tree.table.width → OnlyDrafts s (drafted s row col word) row
 only_drafted s row col word within = record {
   rest = refl;
   tree = refl;
@@ -72,13 +61,10 @@ only_drafted s row col word within = record {
   others = λ r c other c_within. other_row s.tree.table.width s.tree.table.words row col word r c other within c_within;
 }
 
-still_draft : (s : Sheet) (row : ℕ) → life_of s.lives row ≡ Draft → OnlyDrafts s s row
-still_draft s row draft = record { rest = refl; tree = refl; size = refl; lives = set_again s.lives row Draft draft; others = λ r c other within. refl }
-
-pub width_stays : {s s' : Sheet} {row : ℕ} → OnlyDrafts s s' row → s'.tree.table.width ≡ s.tree.table.width
+width_stays : {s s' : Sheet} {row : ℕ} → OnlyDrafts s s' row → s'.tree.table.width ≡ s.tree.table.width
 width_stays only = ap (λ (t : Rooted). t.table.width) only.tree
 
-pub only_more : {s t u : Sheet} {row : ℕ} → OnlyDrafts s t row → OnlyDrafts t u row → OnlyDrafts s u row
+only_more : {s t u : Sheet} {row : ℕ} → OnlyDrafts s t row → OnlyDrafts t u row → OnlyDrafts s u row
 only_more {s} {t} {u} {row} first next = record {
   rest = ap (λ (k : Sheet). record k { tree = s.tree; lives = s.lives }) next.rest ∙ first.rest;
   tree = next.tree ∙ ap (λ (k : Rooted). with_words k u.tree.table.words) first.tree;
@@ -200,25 +186,6 @@ pub record AreZerosUpTo (s s' : Sheet) (row : ℕ) (kind : RowKind) (col : ℕ) 
   pub zeros : (c : ℕ) → used_columns s.tree.table.width kind ≤ c → c < col → column s'.tree.table row c ≡ 0
   pub kept : (c : ℕ) → c < used_columns s.tree.table.width kind → column s'.tree.table row c ≡ column s.tree.table row c
 
-pub no_zeros : (s : Sheet) (row : ℕ) (kind : RowKind) (col : ℕ) → life_of s.lives row ≡ Draft → col ≤ used_columns s.tree.table.width kind → AreZerosUpTo s s row kind col
-no_zeros s row kind col draft low = record { only = still_draft s row draft; zeros = λ c above below. absurd (omega arith); kept = λ c below. refl }
-
-pub one_more_zero : {s t : Sheet} {row : ℕ} {kind : RowKind} {col : ℕ} → IsWhole s → row < first_row + s.tree.rows → used_columns s.tree.table.width kind ≤ col → col < columns s.tree.table.width → AreZerosUpTo s t row kind col
-    → AreZerosUpTo s (drafted t row col 0) row kind (col + 1)
-one_more_zero {s} {t} {row} {kind} {col} whole below low within far =
-    let within_now : col < columns t.tree.table.width = subst (λ (w : Width). col < columns w) (sym (width_stays far.only)) within in
-    record {
-      only = only_more far.only (only_drafted t row col 0 within_now);
-      zeros = λ c above less. ⊎_elim
-          (λ (same : c ≡ col). subst (λ (k : ℕ). column (drafted t row col 0).tree.table row k ≡ 0) (sym same) (same_column t.tree.table.width t.tree.table.words row (first_row + s.tree.rows) col 0 within_now below (words_then far.only whole)))
-          (λ (other : c ≢ col). other_column t.tree.table.width t.tree.table.words row col 0 c other ∙ far.zeros c above (omega (arith, other)))
-          (cases_eq c col);
-      kept = λ c less. other_column t.tree.table.width t.tree.table.words row col 0 c (λ same. omega arith) ∙ far.kept c less;
-    }
-
-pub all_zeros : {s t : Sheet} {row : ℕ} {kind : RowKind} {col : ℕ} → columns s.tree.table.width ≤ col → AreZerosUpTo s t row kind col → IsRestDrafted s t row kind
-all_zeros end far = record { only = far.only; zeros = λ c above below. far.zeros c above (omega arith); kept = far.kept }
-
 -- ---- the words of a new row
 
 module _ (w : Width) (kind : RowKind) (items : List Item) (fit : length items ≤ slots_of w kind) where
@@ -274,15 +241,6 @@ pub record AreItemsDrafted (s s' : Sheet) (row : ℕ) (kind : RowKind) (items : 
   pub pivots : (k : ℕ) → k < n → k + 1 < slots_of s.tree.table.width kind → column s'.tree.table row (pivot_column k) ≡ (item_or items k).last
   pub words : (k : ℕ) → k < n → column s'.tree.table row (slot_column (slots_of s.tree.table.width kind) k) ≡ (item_or items k).word
   pub gaps : (k : ℕ) → k < n → 0 < gaps_of s.tree.table.width kind → column s'.tree.table row (gap_column (slots_of s.tree.table.width kind) k) ≡ (item_or items k).gap
-
-pub no_items : (s : Sheet) (row : ℕ) (kind : RowKind) (items : List Item) → IsWhole s → IsPlace s.tree row 0 → AreItemsDrafted s (drafted s row 0 no_parent) row kind items 0
-no_items s row kind items whole place = record {
-  only = only_drafted s row 0 no_parent place.column;
-  parent = same_column s.tree.table.width s.tree.table.words row (first_row + s.tree.rows) 0 no_parent place.column place.last whole.words;
-  pivots = λ k below more. absurd (omega arith);
-  words = λ k below. absurd (omega arith);
-  gaps = λ k below some. absurd (omega arith);
-}
 
 pub one_more_item : {s t u : Sheet} {row : ℕ} {kind : RowKind} {items : List Item} {n : ℕ} → n < slots_of s.tree.table.width kind → AreItemsDrafted s t row kind items n → IsItemDrafted t u row kind n (item_or items n)
     → AreItemsDrafted s u row kind items (n + 1)

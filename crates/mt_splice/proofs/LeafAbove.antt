@@ -1,15 +1,15 @@
 -- The items of a leaf that end above an index are pushed, from the slot on that holds it.
 use Rattle.std.proofs.Common.{◌≡◌, ℕ, ◌+◌, ◌-◌, ◌<◌, ◌≤◌, List, [], ◌∷◌, length, nat_lt, drop, fold, sym, ap, ◌∙◌, inl, inr, arith}
-use Rattle.std.specs.Prelude.{slice_index, if◌then◌else◌}
+use Rattle.std.specs.Prelude.{if◌then◌else◌}
 use Rattle.std.proofs.lemmas.Bool.{cases_Bool, ltb-true, ltb-false}
 use Rattle.mt_layout.specs.declared.items.Item.{Item}
 use Rattle.mt_layout.specs.declared.names.RowKind.TheVariants.{Leaf}
 use Rattle.mt_layout.specs.Columns.{item_at, pivot_column}
 use Rattle.mt_layout.specs.Sizes.{slots_of, gaps_of, run_room}
-use Rattle.mt_leaf.specs.Places.{slot_reaching, slot_above, with_joined}
+use Rattle.mt_leaf.specs.Places.{slot_above, with_joined}
 use Rattle.mt_path.specs.declared.paths.PathStep.{PathStep}
 use Rattle.mt_rows.specs.Spans.{Table, base_of, column}
-use Rattle.mt_rows.specs.Sheet.{Sheet, OnlyReads}
+use Rattle.mt_rows.specs.Sheet.{Rooted, Sheet, OnlyReads}
 use Rattle.mt_splice.specs.Regions.{IsLeafStep, leaf_items}
 use Rattle.mt_splice.proofs.Gathering.{items_behind}
 use Rattle.mt_splice.proofs.LeafItems.{ending_above, above_slot, one_above}
@@ -27,8 +27,8 @@ pub record ArePushedUpTo (s s' : Sheet) (leaf : PathStep) (last slot : ℕ) (run
   pub room : length run' + (slots_of s'.tree.table.width Leaf - slot) ≤ run_room
 
 -- an item that ends above the index is pushed, and no other
-pub one_pushed : {last : ℕ} {run run' : List Item} {item : Item} → (last < item.last → run' ≡ with_joined run item) → (item.last ≤ last → run' ≡ run) → run' ≡ fold with_joined run (ending_above last (item ∷ []))
-one_pushed {last} {run} {run'} {item} above below = elim (cases_Bool (nat_lt last item.last)) [
+pub one_pushed : (last : ℕ) (run run' : List Item) (item : Item) → (last < item.last → run' ≡ with_joined run item) → (item.last ≤ last → run' ≡ run) → run' ≡ fold with_joined run (ending_above last (item ∷ []))
+one_pushed last run run' item above below = elim (cases_Bool (nat_lt last item.last)) [
   | inl t ↦ let is = above (ltb-true last item.last t) in rw t is
   | inr n ↦ let is = below (ltb-false last item.last n) in rw n is
 ]
@@ -67,8 +67,8 @@ all_pushed_above {s} {t} {leaf} {last} {slot} {run} {before} done past =
     ap (λ (xs : List Item). fold with_joined before (ending_above last xs)) (sym none) ∙ done.items
 
 -- the items from the leaf's slot on that end above the index
-pub from_slot : {s : Sheet} {leaf : PathStep} {last : ℕ} → IsLeafStep s.tree leaf last → ending_above last (unread_there s.tree.table leaf leaf.slot) ≡ drop (slot_above (leaf_items s.tree.table leaf) last) (leaf_items s.tree.table leaf)
-from_slot {s} {leaf} {last} is =
-    let slots = slots_of s.tree.table.width Leaf in
-    let all = items_behind slots (gaps_of s.tree.table.width Leaf) s.tree.table.words (base_of s.tree.table leaf.row) leaf.max leaf.slot (slots - leaf.slot) (leaf_used is) (omega arith) in
-    ap (ending_above last) (all ∙ ap (λ (k : ℕ). drop k (leaf_items s.tree.table leaf)) (leaf_slot is)) ∙ above_slot leaf.min last (leaf_items s.tree.table leaf) (leaf_rise is)
+pub from_slot : {t : Rooted} {leaf : PathStep} {last : ℕ} → IsLeafStep t leaf last → ending_above last (unread_there t.table leaf leaf.slot) ≡ drop (slot_above (leaf_items t.table leaf) last) (leaf_items t.table leaf)
+from_slot {t} {leaf} {last} is =
+    let slots = slots_of t.table.width Leaf in
+    let all = items_behind slots (gaps_of t.table.width Leaf) t.table.words (base_of t.table leaf.row) leaf.max leaf.slot (slots - leaf.slot) (leaf_used is) (omega arith) in
+    ap (ending_above last) (all ∙ ap (λ (k : ℕ). drop k (leaf_items t.table leaf)) (leaf_slot is)) ∙ above_slot leaf.min last (leaf_items t.table leaf) (leaf_rise is)

@@ -1,5 +1,5 @@
 -- Items of a leaf below an index and above one, by the slot that holds it.
-use Rattle.std.proofs.Common.{◌≡◌, ℕ, zero, suc, ◌+◌, ◌-◌, ◌<◌, ◌≤◌, List, [], ◌∷◌, ◌++◌, Bool, cond, length, nat_lt, nat_le, take, drop, fold, refl, sym, ap, ◌∙◌, subst, inl, inr, arith, append-nil}
+use Rattle.std.proofs.Common.{◌≡◌, ℕ, zero, suc, ◌+◌, ◌-◌, ◌<◌, ◌≤◌, List, [], ◌∷◌, ◌++◌, Bool, cond, length, nat_lt, nat_le, take, drop, fold, refl, sym, ap, ◌∙◌, inl, inr, arith, append-nil}
 use Rattle.std.specs.Prelude.{slice_index}
 use Rattle.std.specs.List.{prefix_len, filter}
 use Rattle.std.proofs.lemmas.Bool.{cases_Bool, ltb-true, ltb-false, lt-ltb, le-ltb, lt-leb, le-leb}
@@ -125,7 +125,7 @@ above_slot lo last (x ∷ items) rise = elim (cases_Bool (nat_lt x.last last)) [
 
 -- one item more
 pub one_above : (last : ℕ) (run rest : List Item) (x : Item) → fold with_joined run (ending_above last (x ∷ rest)) ≡ fold with_joined (fold with_joined run (ending_above last (x ∷ []))) (ending_above last rest)
-one_above last run rest x = elim (cases_Bool (nat_lt last x.last)) [ inl t ↦ rw t (rw t refl) | inr n ↦ rw n (rw n refl) ]
+one_above last run rest x = elim (cases_Bool (nat_lt last x.last)) [ inl t ↦ rw t refl | inr n ↦ rw n refl ]
 
 -- ---- the item in a slot
 

@@ -1,28 +1,30 @@
 -- The leaves at a store's ends: where they stand, and what is made of what stands in them below the store and above it.
-use Rattle.std.proofs.Common.{◌≡◌, ◌≢◌, ℕ, suc, ◌+◌, ◌*◌, ◌-◌, ◌<◌, ◌≤◌, ◌==◌, ◌++◌, List, [], ◌∷◌, Bool, true, false, length, nat_lt, take, drop, fold, refl, sym, ap, ◌∙◌, subst, inl, inr, arith}
+use Rattle.std.proofs.Common.{◌≡◌, ◌≢◌, ℕ, suc, ◌+◌, ◌-◌, ◌<◌, ◌≤◌, ◌==◌, ◌&&◌, ◌++◌, List, [], ◌∷◌, Some, None, Bool, true, false, length, nat_lt, take, drop, fold, refl, sym, ap, ◌∙◌, subst, inl, inr, arith, length-take}
 use Rattle.std.specs.Prelude.{slice_index, if◌then◌else◌}
+use Rattle.std.specs.List.{slice_get}
 use Rattle.std.proofs.lemmas.Bool.{cases_Bool, eqb-true, eqb-false, ltb-true, ltb-false}
 use Rattle.std.proofs.lemmas.List.Folds.{length-prefix_len}
 use Rattle.mt_base.specs.declared.kinds.Kind.{Kind}
+use Rattle.mt_base.specs.declared.widths.Width.{Width}
 use Rattle.mt_base.specs.Width.{deepest}
 use Rattle.mt_layout.specs.declared.items.Item.{Item}
 use Rattle.mt_layout.specs.declared.names.RowKind.TheVariants.{Leaf}
 use Rattle.mt_layout.specs.declared.spans.Span.{Span}
 use Rattle.mt_layout.specs.Rows.{row_in, named_kind}
-use Rattle.mt_layout.specs.Columns.{RiseFrom, slot_column, gap_at, item_at}
+use Rattle.mt_layout.specs.Columns.{RiseFrom, slot_column, gap_at, item_at, items_from}
 use Rattle.mt_layout.specs.Sizes.{first_row, slots_of, gaps_of, run_room}
 use Rattle.mt_layout.specs.Spans.{Fills, spans_from, Apart}
 use Rattle.mt_layout.proofs.NameLaws.{Names-named_kind}
 use Rattle.mt_layout.proofs.RowSizes.{sizes}
-use Rattle.mt_layout.proofs.SpanLists.{after, after_some, fills_after, fills_rise, length-spans_from, spans-append}
+use Rattle.mt_layout.proofs.SpanLists.{after, fills_after, fills_rise, length-spans_from, spans-append}
 use Rattle.mt_leaf.specs.Edits.{spans_below, spans_above, span_stored, stored, joined, edited, starting}
 use Rattle.mt_leaf.specs.Places.{slot_reaching, slot_above, first_of, with_joined, items_below}
 use Rattle.mt_leaf.proofs.Counts.{stored_two}
 use Rattle.mt_leaf.proofs.EditSteps.{item_stored, items_below-spans, after-items_below, items_above-spans}
 use Rattle.mt_leaf.proofs.Pushes.{pushed_onto}
-use Rattle.mt_rows.specs.Spans.{Table, root_span, base_of, spans_in}
+use Rattle.mt_rows.specs.Spans.{root_span, base_of, spans_in}
 use Rattle.mt_rows.specs.Laws.{Tree, IsTree, IsRow, Stands, top_of}
-use Rattle.mt_rows.specs.Sheet.{Rooted, Sheet, word_at}
+use Rattle.mt_rows.specs.Sheet.{Rooted, IsPlace, word_at}
 use Rattle.mt_rows.specs.Publish.{tree_as}
 use Rattle.mt_rows.proofs.Reached.{one_of_parts, one_place}
 use Rattle.mt_path.specs.declared.paths.PathStep.{PathStep}
@@ -226,7 +228,7 @@ module _ {t : Rooted} {leaf : PathStep} {index : ℕ} (is : IsLeafStep t leaf in
   pub leaf_used : leaf.slot < length items_there
   leaf_used = end_used tree there.0 there.1 leaf index is.within is.is
 
-  pub leaf_few : length items_there ≤ slots
+  leaf_few : length items_there ≤ slots
   leaf_few = end_few tree there.0 there.1 leaf index is.within is.is
 
   pub leaf_rise : RiseFrom leaf.min items_there
@@ -238,13 +240,53 @@ module _ {t : Rooted} {leaf : PathStep} {index : ℕ} (is : IsLeafStep t leaf in
   pub slot_fits : leaf.slot < slots
   slot_fits = let used = leaf_used in let few = leaf_few in omega arith
 
+  -- the same of the rows after loads
+  pub leaf_read : {t' : Rooted} → t' ≡ t → IsLeafStep t' leaf index
+  leaf_read same = subst (λ (r : Rooted). IsLeafStep r leaf index) (sym same) is
+
+  -- the column of the slot
+  pub slot_place : {width : Width} {n : ℕ} → width ≡ t.table.width → n ≡ slots_of width Leaf → IsPlace t leaf.row (n + leaf.slot)
+  slot_place {width} {n} is_width is_n =
+      let row = leaf_row in let fits = slot_fits in
+      let same : n ≡ slots = is_n ∙ ap (λ (w : Width). slots_of w Leaf) is_width in
+      let enough = sizes t.table.width Leaf in
+      record { first = row.0; last = row.1; column = omega arith }
+
+  pub slot_small : {width : Width} {n : ℕ} → width ≡ t.table.width → n ≡ slots_of width Leaf → n + leaf.slot ≤ run_room
+  slot_small {width} {n} is_width is_n =
+      let fits = slot_fits in
+      let same : n ≡ slots = is_n ∙ ap (λ (w : Width). slots_of w Leaf) is_width in
+      let enough = sizes t.table.width Leaf in
+      omega arith
+
+  pub slot_word : {width : Width} {n word : ℕ} → width ≡ t.table.width → n ≡ slots_of width Leaf → word ≡ word_at t leaf.row (n + leaf.slot) → word ≡ word_at t leaf.row (slot_column slots leaf.slot)
+  slot_word is_width is_n is_word = is_word ∙ ap (λ (k : ℕ). word_at t leaf.row (k + leaf.slot)) (is_n ∙ ap (λ (w : Width). slots_of w Leaf) is_width)
+
+  -- there is room for what stands there below, the item stored, and another leaf
+  pub room_below : {run : List Item} → run ≡ items_below leaf.min items_there index → length run + (slots + 8) ≤ run_room
+  room_below is_below =
+      let few = leaf_few in let count = length-items_below leaf.min index items_there in let same = ap length is_below in
+      let enough = sizes t.table.width Leaf in
+      omega arith
+
+  pub room_first : {run : List Item} → run ≡ [] → length run + (leaf.slot - 0) ≤ run_room
+  room_first empty = let none = ap length empty in let fits = slot_fits in let enough = sizes t.table.width Leaf in omega arith
+
+  pub read_first : {run run' : List Item} → run ≡ [] → run' ≡ run ++ take (leaf.slot - 0) (items_from slots (gaps_of t.table.width Leaf) t.table.words (base_of t.table leaf.row) leaf.max (slots - 0) 0) → run' ≡ take leaf.slot items_there
+  read_first empty is_run =
+      let slot : leaf.slot - 0 ≡ leaf.slot = omega arith in let all : slots - 0 ≡ slots = omega arith in
+      is_run ∙ (λ k. empty k ++ take (slot k) (items_from slots (gaps_of t.table.width Leaf) t.table.words (base_of t.table leaf.row) leaf.max (all k) 0))
+
   -- the items before the slot are read
   module _ {run : List Item} (read : run ≡ take leaf.slot items_there) where
-    pub first_there : first_of leaf.min run leaf.slot ≡ first_of leaf.min items_there (slot_reaching items_there index)
+    first_there : first_of leaf.min run leaf.slot ≡ first_of leaf.min items_there (slot_reaching items_there index)
     first_there = ap (λ (xs : List Item). first_of leaf.min xs leaf.slot) read ∙ (first_of-take leaf.min leaf.slot items_there ∙ ap (first_of leaf.min items_there) leaf_slot)
 
     pub first_low : first_of leaf.min run leaf.slot ≤ index
     first_low = let low = first_reaching leaf.min index items_there leaf_from in let same = first_there in omega arith
+
+    pub read_many : leaf.slot ≤ length run
+    read_many = let used = leaf_used in let same = ap length read ∙ length-take leaf.slot items_there in omega arith
 
     pub read_whole : index ≤ first_of leaf.min run leaf.slot → run ≡ items_below leaf.min items_there index
     read_whole from = read ∙ (ap (λ (k : ℕ). take k items_there) leaf_slot ∙ whole_below leaf.min index items_there (let same = first_there in omega arith))
@@ -269,13 +311,18 @@ module _ {t : Rooted} {leaf : PathStep} {index : ℕ} (is : IsLeafStep t leaf in
 
 -- ---- the ends of a store
 
+last_there : (path : List PathStep) → 1 ≤ length path → slice_get path (length path - 1) ≡ None → ⊥
+last_there [] some none = absurd (omega arith)
+last_there (s ∷ []) some none = let no : Some s ≡ None = none in cc
+last_there (s ∷ r ∷ path) some none = let inner : length (s ∷ r ∷ path) - 1 ≡ suc (length (r ∷ path) - 1) = omega arith in last_there (r ∷ path) (omega arith) (rw inner at none)
+
 module _ {kind : Kind} {t : Rooted} {left right : List PathStep} {first last : ℕ} (ends : AreEnds kind t left right first last) where
   -- no path leads into the empty tree
   no_path : t.root ≡ 0 → (index : ℕ) → path_in t.table t.root index ≡ []
   no_path empty index = path_of_none t.table deepest (root_span t.table t.root) index (ap named_kind empty)
 
   module _ (some : left ≢ []) where
-    pub root_there : t.root ≢ 0
+    root_there : t.root ≢ 0
     root_there = λ empty. some (ends.left_path ∙ no_path empty first)
 
     pub left_leaf_step : {l : PathStep} → l ≡ last_step left → IsLeafStep t l first
@@ -294,10 +341,27 @@ module _ {kind : Kind} {t : Rooted} {left right : List PathStep} {first last : �
   region_of_some [] some = absurd (some refl)
   region_of_some (s ∷ path) some = refl
 
-  pub leaves_edited : left ≢ [] → {l r : PathStep} {entry : ℕ} {below above made : List Item} → l ≡ last_step left → r ≡ last_step right → below ≡ items_below l.min (leaf_items t.table l) first
+  pub leaves_edited : left ≢ [] → (entry : ℕ) {l r : PathStep} {below above made : List Item} → l ≡ last_step left → r ≡ last_step right → below ≡ items_below l.min (leaf_items t.table l) first
       → above ≡ drop (slot_above (leaf_items t.table r) last) (leaf_items t.table r) → made ≡ fold with_joined (with_joined below (item_stored last entry)) above → spans_from l.min made ≡ edited (region_of t.table left right) first last entry
-  leaves_edited some {l} {r} {entry} {below} {above} {made} is_left is_right is_below is_above is_made =
+  leaves_edited some entry {l} {r} {below} {above} {made} is_left is_right is_below is_above is_made =
       let at = stands_as t kind (root_there some) ends.tree.words in
       made_spans (tree_as kind t) at.0 at.1 l r first last ends.order ends.within (is_left ∙ ap last_step ends.left_path) (is_right ∙ ap last_step ends.right_path) entry below above made is_below is_above is_made
       ∙ ap (λ (xs : List Span). edited xs first last entry)
       ((λ k. if (is_left k).row == (is_right k).row then leaf_spans t.table (is_left k) else leaf_spans t.table (is_left k) ++ starting ((is_left k).max + 1) (leaf_spans t.table (is_right k))) ∙ sym (region_of_some left some))
+
+  -- both paths lead somewhere or neither does
+  pub ends_agree : {x : PathStep} → slice_get left (length left - 1) ≡ Some x → slice_get right (length right - 1) ≡ None → ⊥
+  ends_agree {x} one none = by ends.tree.words
+    where
+      by : IsTree (tree_as kind t) → ⊥
+      by (inl empty) = let no : None ≡ Some x = ap (λ (path : List PathStep). slice_get path (length path - 1)) (sym (ends.left_path ∙ no_path empty first)) ∙ one in cc
+      by (inr stands) =
+          let many = ap length ends.right_path ∙ levels (tree_as kind t) stands.0 stands.1 last ends.within in
+          last_there right (omega arith) none
+
+-- ---- what is pushed
+
+pub some_with_joined : (items : List Item) (x : Item) → 1 ≤ length (with_joined items x)
+some_with_joined [] x = omega arith
+some_with_joined (y ∷ []) x = elim (cases_Bool ((y.word == 0) && (x.word == 0))) [ inl t ↦ rw t (omega arith) | inr n ↦ rw n (omega arith) ]
+some_with_joined (y ∷ z ∷ items) x = omega arith

@@ -1,68 +1,40 @@
--- The rows of a level replaced, with room for them, and what is still under way.
-use Rattle.std.proofs.Common.{◌≡◌, ℕ, ◌+◌, ◌≤◌, List, length, map, ap, ◌∙◌, arith, length-append}
-use Rattle.std.proofs.lemmas.List.{length-map}
+-- There is room to note the inner rows that a call writes.
+use Rattle.std.proofs.Common.{◌≡◌, ℕ, zero, suc, ◌+◌, ◌*◌, ◌≤◌, List, [], ◌∷◌, length, ap, arith, length-append}
+use Rattle.mt_base.specs.Width.{most_taken}
 use Rattle.mt_layout.specs.declared.items.Item.{Item}
 use Rattle.mt_layout.specs.declared.names.RowKind.{RowKind}
-use Rattle.mt_layout.specs.Spans.{spans_from}
 use Rattle.mt_free.specs.Book.{Book}
+use Rattle.mt_rows.specs.Spans.{Table}
 use Rattle.mt_rows.specs.Sheet.{Sheet}
 use Rattle.mt_path.specs.declared.paths.PathStep.{PathStep}
-use Rattle.mt_rows.proofs.SlotWords.{length-spans_from}
 use Rattle.mt_splice.specs.declared.writes.NewRow.{NewRow}
+use Rattle.mt_splice.specs.Seen.{Seen}
 use Rattle.mt_splice.specs.Work.{Start, Work}
-use Rattle.mt_splice.specs.Climbs.{begin_of}
-use Rattle.mt_splice.specs.Progress.{Before, row_seen}
-use Rattle.mt_splice.specs.Levels.{MayRewriteLevel, IsLevelRewritten}
-use Rattle.mt_splice.specs.Replacing.{MayReplaceRows, AreRowsReplaced}
-use Rattle.mt_splice.proofs.LevelEnds.{notes_few}
-use Rattle.mt_splice.proofs.Runs.{some_climbed}
+use Rattle.mt_splice.specs.Progress.{Before, new_row_by, new_rows_of}
+use Rattle.mt_splice.specs.Replacing.{IsUnderWay, MayReplaceLevelRows}
 
-module _ (b : Before) (start : Start) (s : Sheet) (book : Book) (w : Work) (new_inner_rows : List NewRow) (kind : RowKind) (left right : List PathStep) (depth height : ℕ) (items : List Item) (number : ℕ)
-    (may : MayReplaceRows b start s book w new_inner_rows kind left right depth height items number) where
-  -- there is room to note three rows
-  pub room_for_three : length new_inner_rows + 3 ≤ 28
-  room_for_three =
-      let noted = ap length may.under.inner in
-      let few = notes_few s.tree.table w.taken in
-      let taken = may.under.few in
-      let low = may.under.holds.stands.low in
-      omega arith
+notes_by : (h : ℕ) (t : Table) (s : Seen) → length (new_row_by h t s) ≤ 1
+notes_by zero t s = omega arith
+notes_by (suc h) t s = omega arith
 
-  free_is : length b.book.free ≡ length book.free + length w.taken
-  free_is = ap length may.under.progress.free ∙ (length-append book.free (map row_seen w.taken) ∙ ap (λ (n : ℕ). length book.free + n) (length-map w.taken row_seen))
+-- of each row that was taken one is noted at the most
+notes_few : (t : Table) (seen : List Seen) → length (new_rows_of t seen) ≤ length seen
+notes_few t [] = omega arith
+notes_few t (s ∷ seen) =
+    let behind = notes_few t seen in
+    let here = notes_by s.height t s in
+    let both = length-append (new_rows_of t seen) (new_row_by s.height t s) in
+    omega arith
 
-  pub may_rewrite : MayRewriteLevel b start s book w kind left right depth height number items new_inner_rows
-  may_rewrite = record {
-    before = may.under.case.was;
-    progress = may.under.progress;
-    gathered = may.gathered;
-    cut = may.cut;
-    of_kind = may.of_kind;
-    free = let room = may.under.room in let few = may.under.few in let free = free_is in omega arith;
-    known = may.under.inner;
-    told = may.under.case.lawful.of_kind;
-    in_flight = may.under.case.in_flight;
-    unpublished = may.under.case.unpublished;
-    call = may.in_call;
-  }
+-- three for each level that is to come, and one
+pub room_to_note : {b : Before} {start : Start} {s : Sheet} {book : Book} {w : Work} {inner : List NewRow} {levels : ℕ} → IsUnderWay b start s book w inner levels → length inner + 3 * levels + 1 ≤ most_taken
+room_to_note {s = s} {w = w} under =
+    let noted = ap length under.inner_rows in
+    let few = notes_few s.tree.table w.taken in
+    let taken = under.few in
+    let low = under.holds.stands.low in
+    omega arith
 
-  pub rows_replaced : (s' : Sheet) (book' : Book) (w' : Work) (new_inner_rows' : List NewRow) (new : List Item) → length new ≤ 3 → IsLevelRewritten b start s' book book' w' left right depth height new_inner_rows' new
-      → AreRowsReplaced b start s' book' w' new_inner_rows' left right depth height new
-  rows_replaced s' book' w' new_inner_rows' new few done = record {
-    under = record {
-      case = may.under.case;
-      progress = done.progress;
-      holds = done.climbed.holds;
-      inner = done.known;
-      room = may.under.room;
-      few =
-          let was = may.under.few in
-          let free = free_is in
-          let free' = ap length done.progress.free ∙ (length-append book'.free (map row_seen w'.taken) ∙ ap (λ (n : ℕ). length book'.free + n) (length-map w'.taken row_seen)) in
-          let less = done.free in
-          omega arith;
-    };
-    climbed = done.climbed;
-    some = let some = some_climbed start w' left right depth height (spans_from (begin_of left depth) new) done.climbed in let same = length-spans_from (begin_of left depth) new in omega arith;
-    few = few;
-  }
+pub room_for_three : {b : Before} {start : Start} {s : Sheet} {book : Book} {inner : List NewRow} {kind : RowKind} {left right : List PathStep} {depth number : ℕ} {items : List Item} {ends : List ℕ}
+    → MayReplaceLevelRows b start s book inner kind left right depth items ends number → length inner + 3 ≤ most_taken
+room_for_three asked = let room = room_to_note asked.may.under in omega arith

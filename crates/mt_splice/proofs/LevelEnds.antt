@@ -1,366 +1,322 @@
 -- The three ways in which a level ends a replacement: by a row that stands for every index, by a root above several rows, or in place.
-use Rattle.std.proofs.Common.{◌≡◌, ◌≢◌, ◌⊎◌, ℕ, zero, suc, ◌+◌, ◌-◌, ◌*◌, ◌<◌, ◌≤◌, ◌&&◌, List, [], ◌∷◌, Option, Some, None, Bool, true, length, map, refl, sym, ap, ◌∙◌, subst, inl, inr, arith, eq-eqb, lt-ltb, length-append}
+use Rattle.std.proofs.Common.{◌≡◌, ℕ, suc, ◌+◌, ◌-◌, ◌*◌, ◌<◌, ◌≤◌, ◌&&◌, List, [], ◌∷◌, ◌++◌, Option, Some, Bool, true, length, refl, sym, ap, ◌∙◌, subst, arith, eq-eqb, lt-ltb, length-append}
 use Rattle.std.specs.Prelude.{slice_index_or, if◌then◌else◌}
-use Rattle.std.specs.List.{slice_get}
-use Rattle.std.proofs.lemmas.List.{length-map}
 use Rattle.mt_base.specs.declared.calls.Call.{Call}
 use Rattle.mt_base.specs.declared.replies.Reply.{Reply}
 use Rattle.mt_base.specs.declared.widths.Width.{Width}
-use Rattle.mt_base.specs.declared.widths.Width.TheVariants.{Long}
-use Rattle.mt_base.specs.Width.{columns, greatest}
+use Rattle.mt_base.specs.Width.{greatest, most_rows, most_taken}
 use Rattle.mt_layout.specs.declared.items.Item.{Item}
 use Rattle.mt_layout.specs.declared.names.RowKind.{RowKind}
-use Rattle.mt_layout.specs.declared.names.RowKind.TheVariants.{Leaf, Inner, Gapped}
+use Rattle.mt_layout.specs.declared.names.RowKind.TheVariants.{Inner}
 use Rattle.mt_layout.specs.declared.spans.Span.{Span}
-use Rattle.mt_layout.specs.Columns.{slot_column, items_at}
-use Rattle.mt_layout.specs.Rows.{row_in, named_kind}
+use Rattle.mt_layout.specs.Columns.{slot_column}
+use Rattle.mt_layout.specs.Rows.{row_in}
+use Rattle.mt_layout.specs.Sizes.{slots_of, least_items, run_room}
 use Rattle.mt_layout.specs.Spans.{spans_from}
-use Rattle.mt_free.specs.Book.{Book, IsBook}
+use Rattle.mt_layout.proofs.RowSizes.{sizes}
+use Rattle.mt_layout.proofs.SpanLists.{length-spans_from}
+use Rattle.mt_free.specs.Book.{Book}
 use Rattle.mt_rows.specs.declared.rows.Place.{Place}
 use Rattle.mt_rows.specs.declared.rows.Place.TheVariants.{Root, Slot}
-use Rattle.mt_rows.specs.Spans.{Table, base_of, inner_kind, spans_by, spans_in}
-use Rattle.mt_layout.specs.Sizes.{slots_of, gaps_of}
+use Rattle.mt_rows.specs.Spans.{inner_kind, spans_in}
 use Rattle.mt_rows.specs.Levels.{is_row_of}
 use Rattle.mt_rows.specs.Trees.{height_in}
-use Rattle.mt_rows.specs.Laws.{Tree, HasWords, top_of, kind_at, covers_all}
-use Rattle.mt_layout.specs.Sizes.{least_items}
+use Rattle.mt_rows.specs.Laws.{Tree, top_of, kind_at, covers_all}
 use Rattle.mt_rows.specs.Sheet.{Sheet}
 use Rattle.mt_rows.specs.Publish.{tree_as, with_published}
 use Rattle.mt_rows.proofs.Reached.{height_is}
 use Rattle.mt_path.specs.declared.paths.PathStep.{PathStep}
 use Rattle.mt_path.specs.Paths.{step_at}
 use Rattle.mt_path.proofs.TreePaths as paths
-use Rattle.mt_rows.proofs.SlotWords.{length-spans_from}
 use Rattle.mt_splice.specs.declared.writes.NewRow.{NewRow}
 use Rattle.mt_splice.specs.Seen.{Seen, passing}
 use Rattle.mt_splice.specs.Work.{Start, Work, now, Holds}
-use Rattle.mt_splice.specs.Stretches.{ArePaths}
 use Rattle.mt_splice.specs.Climbs.{begin_of, behind_of, Climbed}
+use Rattle.mt_splice.specs.Replaced.{IsReplaced}
 use Rattle.mt_splice.specs.Runs.{span_to}
-use Rattle.mt_splice.specs.Progress.{Before, IsProgress, row_seen, new_row_by, new_rows_of}
-use Rattle.mt_splice.specs.Levels.{MayWriteRow, IsOneWritten}
-use Rattle.mt_splice.specs.Endings.{IsStepIn, column_of}
-use Rattle.mt_splice.specs.Ends.{End, MayEnd, IsReplacedAs, IsEndPlace}
-use Rattle.mt_splice.specs.Replacing.{IsAnswer, IsUnderWay, AreRowsReplaced, MayBuryAbove, AreAboveBuried, EndsHere, MayEndLevel, MayEndAtRoot, MayEndAbove, MayEndInPlace}
-use Rattle.mt_splice.specs.Progress.{IsCase}
-use Rattle.mt_splice.proofs.Sizes.{inner_slots, tree_slots}
-use Rattle.mt_splice.proofs.Steps.{rows_now}
-use Rattle.mt_splice.proofs.Written.{holds_written, are_taken}
-use Rattle.mt_splice.proofs.Gathering.{few_items}
+use Rattle.mt_splice.specs.Progress.{Before, IsBefore, IsProgress}
+use Rattle.mt_splice.specs.Levels.{MayWriteRow, IsOneWritten, MayAddRow, IsRowAdded}
+use Rattle.mt_splice.specs.Endings.{column_of}
+use Rattle.mt_splice.specs.Ends.{IsEndPlace, MayPublishEnd}
+use Rattle.mt_splice.specs.Replacing.{IsAnswer, IsBurying, IsUnderWay, AreRowsReplaced, MayReplaceLevelRows, AreLevelRowsReplaced, MayBuryAbove, AreAboveBuried, MayBuryLevels, AreLevelsDone, MayEnd, MayEndAtRoot, MayEndAbove, MayEndInSlot}
 use Rattle.mt_splice.proofs.AboveNothing.{burying}
 use Rattle.mt_splice.proofs.EndForms as forms
+use Rattle.mt_splice.proofs.LevelDone.{room_to_note}
+use Rattle.mt_splice.proofs.LevelLinks.{free_and_taken}
+use Rattle.mt_splice.proofs.Rises.{step_here, row_is_lawful}
 use Rattle.mt_splice.proofs.RootEndings as roots
 use Rattle.mt_splice.proofs.SlotEnding as slots
+use Rattle.mt_splice.proofs.Steps.{width_now}
+use Rattle.mt_splice.proofs.Written.{holds_written, are_taken}
 
--- ---- lists and numbers of slots
+-- ---- lists and widths
 
 only_item : (new : List Item) (d : Item) → length new ≡ 1 → new ≡ slice_index_or new 0 d ∷ []
 only_item [] d one = absurd (omega arith)
 only_item (x ∷ []) d one = refl
 only_item (x ∷ y ∷ new) d one = absurd (omega arith)
 
-get_below : {A : Type 0} (xs : List A) (i : ℕ) (x : A) → slice_get xs i ≡ Some x → i < length xs
-get_below [] i x at = absurd (cc)
-get_below (y ∷ xs) zero x at = omega arith
-get_below (y ∷ xs) (suc i) x at = let below = get_below xs i x at in omega arith
+-- the rows have the tree's width
+pub tree_width : {b : Before} {start : Start} {s : Sheet} {book : Book} {w : Work} → IsBefore b start → IsProgress b s book w → s.tree.table.width ≡ start.tree.table.width
+tree_width was progress = width_now was progress ∙ sym (ap (λ (t : Tree). t.table.width) was.tree)
 
-one_or_more : (n : ℕ) → 1 ≤ n → (n ≡ 1) ⊎ (2 ≤ n)
-one_or_more zero some = absurd (omega arith)
-one_or_more (suc zero) some = inl refl
-one_or_more (suc (suc n)) some = inr (omega arith)
-
-slots_few : (w : Width) (kind : RowKind) → slots_of w kind ≤ 16
-slots_few Long Leaf = omega arith
-slots_few Long Inner = omega arith
-slots_few Long Gapped = omega arith
-
-spans_few : (t : Table) (kind : Option RowKind) (x : Span) → length (spans_by t kind x) ≤ 16
-spans_few t None x = omega arith
-spans_few t (Some kind) x =
-    let most = few_items (slots_of t.width kind) (gaps_of t.width kind) t.words (base_of t (row_in x.word)) x.last (slots_of t.width kind) 0 in
-    let few = slots_few t.width kind in
-    let long = length-spans_from x.first (items_at (slots_of t.width kind) (gaps_of t.width kind) t.words (base_of t (row_in x.word)) x.last) in
-    omega arith
-
-notes_by : (h : ℕ) (t : Table) (s : Seen) → length (new_row_by h t s) ≤ 1
-notes_by zero t s = omega arith
-notes_by (suc h) t s = omega arith
-
-pub notes_few : (t : Table) (seen : List Seen) → length (new_rows_of t seen) ≤ length seen
-notes_few t [] = omega arith
-notes_few t (s ∷ seen) =
-    let behind = notes_few t seen in
-    let here = notes_by s.height t s in
-    let both = length-append (new_rows_of t seen) (new_row_by s.height t s) in
-    omega arith
+inner_is : (start : Start) (w : Work) (h : ℕ) → Holds start w → Inner ≡ kind_at start.tree.kind (suc h)
+inner_is start w h holds = sym (ap inner_kind holds.range)
 
 -- ---- what all ends have in common
 
-abbrev pub end_with : Before → Start → Work → Book → ℕ → End
-end_with b start w book h = record { before = b; start = start; work = w; book = book; old = Some start.height; new = Some h }
-
-module _ (b : Before) (start : Start) (s : Sheet) (book : Book) (w : Work) (new_inner_rows : List NewRow) (call : Call) (reply : Reply) (case : IsCase b start) (progress : IsProgress b s book w) (holds : Holds start w)
-    (inner : new_inner_rows ≡ new_rows_of s.tree.table w.taken) (few : length w.taken ≤ 3 * (start.height + 1) + 1) (answer : IsAnswer b start call reply) (sound : IsBook book) where
+module _ {b : Before} {start : Start} {s : Sheet} {book : Book} {w : Work} {inner : List NewRow} (call : Call) (reply : Reply) (under : IsBurying b start s book w inner) (few : length w.taken ≤ 3 * (start.height + 1) + 1) (answer : IsAnswer b start call reply) where
   tall : height_in b.sheet.tree.table b.sheet.tree.root ≡ start.height + 1
-  tall = ap (λ (t : Tree). height_in t.table t.root) (sym case.was.tree) ∙ height_is start.tree start.height holds.stands
+  tall = ap (λ (t : Tree). height_in t.table t.root) (sym under.case.was.tree) ∙ height_is start.tree start.height under.holds.stands
 
-  may_end : (h : ℕ) (place : Place) (word : ℕ) → IsReplacedAs start.tree (tree_as b.kind (with_published s.tree place word)) start.map w.taken w.gone (Some start.height) (Some h)
-      → IsEndPlace start w (Some start.height) place → 1 ≤ passing (is_row_of (row_in word)) w.taken → MayEnd (end_with b start w book h) s new_inner_rows place word call reply
-  may_end h place word replaced at taken = record {
-    range = case.range;
-    in_flight = case.in_flight;
-    unpublished = case.unpublished;
-    numbered = case.numbered;
-    was = case.was;
-    lawful = case.lawful;
-    progress = progress;
-    sound = sound;
-    few = subst (λ (n : ℕ). length w.taken ≤ 3 * n + 1) (sym tall) few;
+  may_publish : (h : ℕ) (place : Place) (word : ℕ) {inner' : List NewRow} → inner' ≡ inner → IsReplaced start.tree (tree_as b.kind (with_published s.tree place word)) start.map w.taken w.gone (Some start.height) (Some h)
+      → IsEndPlace start w (Some start.height) place → 1 ≤ passing (is_row_of (row_in word)) w.taken → MayPublishEnd b start s book inner' place word call reply
+  may_publish h place word same replaced at taken = record {
+    work = w;
+    old = Some start.height;
+    new = Some h;
+    case = under.case;
+    progress = under.progress;
+    few = let high = tall in omega arith;
     answer = answer;
-    holds = (refl, holds);
+    holds = (refl, under.holds);
     replaced = replaced;
     at = at;
     top = lt-ltb 0 (passing (is_row_of (row_in word)) w.taken) taken;
-    inner = inner;
+    inner_rows = same ∙ under.inner_rows;
   }
 
--- the span of the one row
+-- ---- the rows of the level
+
 abbrev one_span : List PathStep → ℕ → Item → Span
 one_span left depth x = record { first = begin_of left depth; last = x.last; word = x.word }
 
-one_climbed : (b : Before) (start : Start) (s : Sheet) (book : Book) (w : Work) (new_inner_rows : List NewRow) (left right : List PathStep) (depth height : ℕ) (new : List Item) (d : Item)
-    → AreRowsReplaced b start s book w new_inner_rows left right depth height new → length new ≡ 1 → Climbed start w left right depth height (one_span left depth (slice_index_or new 0 d) ∷ [])
-one_climbed b start s book w new_inner_rows left right depth height new d rows one =
-    subst (λ (l : List Item). Climbed start w left right depth height (spans_from (begin_of left depth) l)) (only_item new d one) rows.climbed
+module _ {b : Before} {start : Start} {s : Sheet} {book : Book} {inner : List NewRow} {kind : RowKind} {left right : List PathStep} {depth : ℕ} {items : List Item} {ends : List ℕ} {number : ℕ} {call : Call} {reply : Reply}
+    (end : MayEnd b start s book inner kind left right depth items ends number call reply) where
+  pub rows_asked : MayReplaceLevelRows b start s book inner kind left right depth items ends number
+  rows_asked = record { work = end.work; height = end.height; may = end.may }
 
--- ---- the paths reach down to the level
+  from_within : end.may.gathered.paths.from ≤ top_of start.tree
+  from_within = let order = end.may.gathered.paths.order in let within = end.may.gathered.paths.within in omega arith
 
-module _ (start : Start) (w : Work) (left right : List PathStep) (depth height : ℕ) (new : List Item) (holds : Holds start w) (climbed : Climbed start w left right depth height (spans_from (begin_of left depth) new)) where
-  from_within : climbed.paths.from ≤ top_of start.tree
-  from_within = let order = climbed.paths.order in let within = climbed.paths.within in omega arith
-
+  -- the left path goes through a row of the level
   left_deep : depth < length left
-  left_deep = let long = ap length climbed.paths.is_left ∙ paths.levels start.tree start.height holds.stands climbed.paths.from from_within in let deep = climbed.levels in omega arith
+  left_deep =
+      let long = ap length end.may.gathered.paths.is_left ∙ paths.levels start.tree start.height end.may.under.holds.stands end.may.gathered.paths.from from_within in
+      let deep = end.may.gathered.levels in
+      omega arith
 
-  right_deep : depth < length right
-  right_deep = let long = ap length climbed.paths.is_right ∙ paths.levels start.tree start.height holds.stands climbed.paths.to climbed.paths.within in let deep = climbed.levels in omega arith
+  module _ {s₁ : Sheet} {book₁ : Book} {inner₁ : List NewRow} {new : List Item} (done : AreLevelRowsReplaced b start s s₁ book book₁ inner inner₁ kind left right depth items ends number new) where
+    abbrev here : (w₁ : Work) × AreRowsReplaced b start s₁ book₁ w₁ inner₁ left right depth end.height ends new
+    here = done.each end.may
 
--- the root's level is that of every index
-at_the_root : (start : Start) (w : Work) (left right : List PathStep) (height : ℕ) (new : List Item) → Holds start w → Climbed start w left right 0 height (spans_from (begin_of left 0) new)
-    → (begin_of left 0 ≡ 0) × (behind_of right 0 ≡ top_of start.tree + 1)
-at_the_root start w left right height new holds climbed = (
-  (roots.path_begins start w holds left climbed.paths.from (from_within start w left right 0 height new holds climbed) climbed.paths.is_left).0,
-  (roots.path_begins start w holds right climbed.paths.to climbed.paths.within climbed.paths.is_right).1,
-)
+    few_taken : length here.0.taken + 3 * depth ≤ 3 * (start.height + 1)
+    few_taken = here.1.under.few
+
+    pub new_some : 1 ≤ length new
+    new_some = here.1.some
+
+    one_climbed : (d : Item) → length ends ≡ 1 → Climbed start here.0 left right depth end.height (one_span left depth (slice_index_or new 0 d) ∷ [])
+    one_climbed d one = subst (λ (l : List Item). Climbed start here.0 left right depth end.height (spans_from (begin_of left depth) l)) (only_item new d (here.1.many ∙ one)) here.1.climbed
 
 -- ---- a row that stands for every index
 
-module _ (b : Before) (start : Start) (s : Sheet) (book : Book) (w : Work) (new_inner_rows : List NewRow) (left right : List PathStep) (depth height : ℕ) (new : List Item) (number : ℕ) (call : Call) (reply : Reply)
-    (may : MayEndAtRoot b start s book w new_inner_rows left right depth height new number call reply) where
-  pub root_buries : MayBuryAbove b start s book w new_inner_rows left right depth height number
-  root_buries = record {
-    under = burying b start s book w new_inner_rows depth may.rows.under;
-    levels = may.rows.climbed.levels;
-    paths = may.rows.climbed.paths;
-    first = may.first;
-    last = ap (λ (n : ℕ). n + 1) may.last;
-    were = may.rows.climbed.half.were;
-    in_call = may.in_call;
+module _ {b : Before} {start : Start} {s : Sheet} {book : Book} {inner : List NewRow} {kind : RowKind} {left right : List PathStep} {depth : ℕ} {items : List Item} {ends : List ℕ} {number : ℕ} {call : Call} {reply : Reply}
+    (may : MayEndAtRoot b start s book inner kind left right depth items ends number call reply) {s₁ : Sheet} {book₁ : Book} {inner₁ : List NewRow} {new : List Item}
+    (done : AreLevelRowsReplaced b start s s₁ book book₁ inner inner₁ kind left right depth items ends number new) where
+  abbrev level : (w₁ : Work) × AreRowsReplaced b start s₁ book₁ w₁ inner₁ left right depth may.end.height ends new
+  level = done.each may.end.may
+
+  last_is_top : (step_at right depth).max ≡ top_of start.tree
+  last_is_top = may.all.last ∙ ap greatest (tree_width may.end.may.under.case.was may.end.may.under.progress)
+
+  above : MayBuryAbove b start s₁ book₁ level.0 inner₁ left right depth may.end.height number
+  above = record {
+    under = burying level.1.under;
+    levels = level.1.climbed.levels;
+    paths = level.1.climbed.paths;
+    first = may.all.first;
+    last = ap (λ (n : ℕ). n + 1) last_is_top;
+    were = level.1.climbed.half.were;
+    in_call = may.end.may.in_call;
   }
 
-  pub root_ends : (d : Item) (s' : Sheet) (book' : Book) (w' : Work) → AreAboveBuried b start s' book' w w' new_inner_rows depth height → IsBook book'
-      → MayEnd (end_with b start w' book' height) s' new_inner_rows Root (slice_index_or new 0 d).word call reply
-  root_ends d s' book' w' above sound =
-      let word = (slice_index_or new 0 d).word in
-      let climbed = one_climbed b start s book w new_inner_rows left right depth height new d may.rows may.one in
-      let under = above.under in
-      let last : (slice_index_or new 0 d).last ≡ top_of start.tree = (let ends = climbed.fills.2 in let right_end = may.last in omega arith) in
-      may_end b start s' book' w' new_inner_rows call reply under.case under.progress under.holds under.inner (let few = may.rows.under.few in let same = ap length above.buried.taken in omega arith) may.answer sound height Root word
-      (forms.ends_at_root b start s' book' w' under.case.was under.progress height word
-      (roots.ends_at_root start w w' left right depth height (one_span left depth (slice_index_or new 0 d)) climbed may.first last above.buried))
-      tt (subst (λ (seen : List Seen). 1 ≤ passing (is_row_of (row_in word)) seen) (sym above.buried.taken) climbed.taken.0)
+  pub root_buries : MayBuryLevels b start s₁ book₁ inner₁ left right depth number
+  root_buries = record { work = level.0; height = may.end.height; may = above }
+
+  module _ {s₂ : Sheet} {book₂ : Book} (buried : AreLevelsDone b start s₁ s₂ book₁ book₂ inner₁ left right depth number) where
+    abbrev all : (w₂ : Work) × AreAboveBuried b start s₂ book₂ level.0 w₂ inner₁ depth may.end.height
+    all = buried.each above
+
+    pub root_is_published : (d : Item) {inner' : List NewRow} → inner' ≡ inner₁ → MayPublishEnd b start s₂ book₂ inner' Root (slice_index_or new 0 d).word call reply
+    root_is_published d same =
+        let x : Span = one_span left depth (slice_index_or new 0 d) in
+        let climbed = one_climbed may.end done d may.one in
+        let last : x.last ≡ top_of start.tree = (let ends = climbed.fills.2 in let right_end = last_is_top in omega arith) in
+        may_publish call reply all.1.under (let few = few_taken may.end done in let same = ap length all.1.buried.taken in omega arith) may.end.answer may.end.height Root x.word same
+        (forms.ends_at_root all.1.under.case.was all.1.under.progress (Some start.height) (Some may.end.height) x.word (roots.ends_at_root start level.0 all.0 left right depth may.end.height x climbed may.all.first last all.1.buried))
+        tt (subst (λ (seen : List Seen). 1 ≤ passing (is_row_of (row_in x.word)) seen) (sym all.1.buried.taken) climbed.taken.0)
 
 -- ---- a root above several rows
 
-module _ (b : Before) (start : Start) (s : Sheet) (book : Book) (w : Work) (new_inner_rows : List NewRow) (left right : List PathStep) (height : ℕ) (new : List Item) (call : Call) (reply : Reply)
-    (may : MayEndAbove b start s book w new_inner_rows left right height new call reply) where
+module _ {b : Before} {start : Start} {s : Sheet} {book : Book} {inner : List NewRow} {kind : RowKind} {left right : List PathStep} {items : List Item} {ends : List ℕ} {number : ℕ} {call : Call} {reply : Reply}
+    (end : MayEnd b start s book inner kind left right 0 items ends number call reply) (several : 2 ≤ length ends) {s₁ : Sheet} {book₁ : Book} {inner₁ : List NewRow} {new : List Item}
+    (done : AreLevelRowsReplaced b start s s₁ book book₁ inner inner₁ kind left right 0 items ends number new) where
+  abbrev rows : (w₁ : Work) × AreRowsReplaced b start s₁ book₁ w₁ inner₁ left right 0 end.height ends new
+  rows = done.each end.may
+
   abbrev from : ℕ
   from = begin_of left 0
 
   abbrev to : ℕ
   to = behind_of right 0
 
-  begins : from ≡ 0
-  begins = (at_the_root start w left right height new may.rows.under.holds may.rows.climbed).0
+  abbrev holds : Holds start rows.0
+  holds = rows.1.under.holds
 
-  ends : to ≡ top_of start.tree + 1
-  ends = (at_the_root start w left right height new may.rows.under.holds may.rows.climbed).1
-
-  pub above_room : length new_inner_rows < 28
-  above_room =
-      let notes = notes_few s.tree.table w.taken in
-      let same = ap length may.rows.under.inner in
-      let few = may.rows.under.few in
-      let low = may.rows.climbed.holds.stands.low in
-      omega arith
-
-  free_left : 0 < length book.free
-  free_left =
-      let room = may.rows.under.room in
-      let few = may.rows.under.few in
-      let free = ap length may.rows.under.progress.free in
-      let parts = length-append book.free (map row_seen w.taken) in
-      omega (arith, length-map w.taken row_seen)
+  whole_index : (from ≡ 0) × (to ≡ top_of start.tree + 1)
+  whole_index =
+      let paths = rows.1.climbed.paths in (
+        (roots.path_begins start rows.0 holds left paths.from (let order = paths.order in let within = paths.within in omega arith) paths.is_left).0,
+        (roots.path_begins start rows.0 holds right paths.to paths.within paths.is_right).1,
+      )
 
   covers : covers_all start.tree (span_to from to) ≡ true
-  covers = let end : to - 1 ≡ top_of start.tree = (let at = ends in omega arith) in λ i. eq-eqb from 0 begins i && eq-eqb (to - 1) (top_of start.tree) end i
+  covers = let end : to - 1 ≡ top_of start.tree = (let at = whole_index.1 in omega arith) in λ i. eq-eqb from 0 whole_index.0 i && eq-eqb (to - 1) (top_of start.tree) end i
 
-  pub root_may_be_written : MayWriteRow b start s book w Inner (suc height) from to new new_inner_rows
-  root_may_be_written = record {
-    before = may.rows.under.case.was;
-    progress = may.rows.under.progress;
-    of_kind = ap inner_kind (sym may.rows.under.holds.range);
-    free = free_left;
+  new_root : MayWriteRow b start s₁ book₁ rows.0 Inner (suc end.height) from to new inner₁
+  new_root = record {
+    before = rows.1.under.case.was;
+    progress = rows.1.under.progress;
+    of_kind = inner_is start rows.0 end.height holds;
+    free = let room = rows.1.under.room in let few = rows.1.under.few in let free = free_and_taken rows.1.under.progress in omega arith;
     run = record {
-      fills = may.rows.climbed.fills;
-      some = let some = may.rows.some in let same = length-spans_from from new in omega arith;
-      few = let few = may.rows.few in let slots = tree_slots start.tree (suc height) may.rows.under.holds.range in let same = length-spans_from from new in omega arith;
-      least = let is = ap (λ (c : Bool). if c then 2 else least_items (kind_at start.tree.kind (suc height))) covers in let two = may.two in let same = length-spans_from from new in omega arith;
-      gapless = may.rows.climbed.gapless;
+      fills = rows.1.climbed.fills;
+      some = let some = rows.1.some in let same = length-spans_from from new in omega arith;
+      few = let few = rows.1.few in let size = sizes start.tree.table.width (kind_at start.tree.kind (suc end.height)) in let same = length-spans_from from new in omega (arith, size.least, size.some);
+      least = let is = ap (λ (c : Bool). if c then 2 else least_items start.tree.table.width (kind_at start.tree.kind (suc end.height))) covers in let many = rows.1.many in let same = length-spans_from from new in omega arith;
       fit = tt;
       leaves = λ none. absurd (omega arith);
     };
-    fit = let few = may.rows.few in let most = inner_slots s.tree.table.width in omega arith;
-    known = may.rows.under.inner;
+    fit = let few = rows.1.few in let size = sizes s₁.tree.table.width Inner in omega (arith, size.least, size.some);
+    known = rows.1.under.inner_rows;
   }
 
-  pub above_written : (s' : Sheet) (book' : Book) (items : List Item) (new_inner_rows' : List NewRow) (item : Item) → items ≡ new
-      → ((b : Before) (start : Start) (w : Work) (height lo hi : ℕ) → MayWriteRow b start s book w Inner height lo hi items new_inner_rows → (w' : Work) × IsOneWritten b start s' book book' w w' height lo hi items new_inner_rows' item)
-      → (w' : Work) × IsOneWritten b start s' book book' w w' (suc height) from to new new_inner_rows' item
-  above_written s' book' items new_inner_rows' item same one =
-      subst (λ (l : List Item). (w' : Work) × IsOneWritten b start s' book book' w w' (suc height) from to l new_inner_rows' item) same
-      (one b start w (suc height) from to (subst (λ (l : List Item). MayWriteRow b start s book w Inner (suc height) from to l new_inner_rows) (sym same) root_may_be_written))
+  root_added : MayAddRow b start s₁ book₁ Inner new inner₁
+  root_added = record { work = rows.0; height = suc end.height; lo = from; hi = to; may = new_root }
 
-  pub above_ends : (s' : Sheet) (book' : Book) (w' : Work) (new_inner_rows' : List NewRow) (item : Item) → IsOneWritten b start s' book book' w w' (suc height) from to new new_inner_rows' item → IsBook book'
-      → MayEnd (end_with b start w' book' (suc start.height)) s' new_inner_rows' Root item.word call reply
-  above_ends s' book' w' new_inner_rows' item one sound =
-      let under = may.rows.under in
-      let spans = spans_from from new in
-      let top = one_span left 0 item in
-      let few_rows : start.tree.rows ≤ 65504 = subst (λ (t : Tree). t.rows ≤ 65504) (sym under.case.was.tree) under.case.was.whole.few in
-      may_end b start s' book' w' new_inner_rows' call reply under.case one.progress (holds_written start w w' (suc height) spans (top ∷ []) under.holds one.written) one.new_inner_rows taken_few may.answer sound (suc start.height) Root item.word
-      (forms.ends_at_root b start s' book' w' under.case.was one.progress (suc start.height) item.word (roots.ends_grown start w w' left right height spans top may.rows.climbed one.written few_rows))
-      tt (are_taken start w w' (suc height) spans (top ∷ []) one.written).0
-    where
-      taken_few : length w'.taken ≤ 3 * (start.height + 1) + 1
-      taken_few =
-          let few = may.rows.under.few in
-          let free = ap length may.rows.under.progress.free in
-          let parts = length-append book.free (map row_seen w.taken) in
-          let free' = ap length one.progress.free in
-          let parts' = length-append book'.free (map row_seen w'.taken) in
-          let less = one.free in
-          omega (arith, length-map w.taken row_seen, length-map w'.taken row_seen)
+  module _ {s₂ : Sheet} {book₂ : Book} {inner₂ : List NewRow} {root : Item} (added : IsRowAdded b start s₁ s₂ book₁ book₂ Inner new inner₁ inner₂ root) where
+    abbrev one : (w₂ : Work) × IsOneWritten b start s₂ book₁ book₂ rows.0 w₂ (suc end.height) from to new inner₂ root
+    one = added.each new_root
 
--- ---- in place
+    root_ends : {inner' : List NewRow} → inner' ≡ inner₂ → MayPublishEnd b start s₂ book₂ inner' Root root.word call reply
+    root_ends same =
+        let case = rows.1.under.case in
+        let spans = spans_from from new in
+        let top : Span = one_span left 0 root in
+        let few_rows : start.tree.rows ≤ most_rows = subst (λ (t : Tree). t.rows ≤ most_rows) (sym case.was.tree) case.was.whole.few in
+        let under : IsBurying b start s₂ book₂ one.0 inner₂ = record { case = case; progress = one.1.progress; holds = holds_written start rows.0 one.0 (suc end.height) spans (top ∷ []) holds one.1.written; inner_rows = one.1.inner } in
+        may_publish call reply under
+        (let few = rows.1.under.few in let earlier = free_and_taken rows.1.under.progress in let later = free_and_taken one.1.progress in let less = one.1.free in omega arith)
+        end.answer (suc start.height) Root root.word same
+        (forms.ends_at_root case.was one.1.progress (Some start.height) (Some (suc start.height)) root.word (roots.ends_grown start rows.0 one.0 left right end.height spans top rows.1.climbed one.1.written few_rows))
+        tt (are_taken start rows.0 one.0 (suc end.height) spans (top ∷ []) one.1.written).0
 
-module _ (b : Before) (start : Start) (s : Sheet) (book : Book) (w : Work) (new_inner_rows : List NewRow) (left right : List PathStep) (depth height : ℕ) (new : List Item) (call : Call) (reply : Reply)
-    (may : MayEndInPlace b start s book w new_inner_rows left right depth height new call reply) where
-  abbrev under : IsUnderWay b start s book w new_inner_rows (suc depth)
-  under = may.rows.under
+-- the same, at the level that the code names
+module _ {b : Before} {start : Start} {s : Sheet} {book : Book} {inner : List NewRow} {kind : RowKind} {left right : List PathStep} {depth : ℕ} {items : List Item} {ends : List ℕ} {number : ℕ} {call : Call} {reply : Reply}
+    (may : MayEndAbove b start s book inner kind left right depth items ends number call reply) {s₁ : Sheet} {book₁ : Book} {inner₁ : List NewRow} {new : List Item}
+    (done : AreLevelRowsReplaced b start s s₁ book book₁ inner inner₁ kind left right depth items ends number new) where
+  end₀ : MayEnd b start s book inner kind left right 0 items ends number call reply
+  end₀ = subst (λ (d : ℕ). MayEnd b start s book inner kind left right d items ends number call reply) may.root may.end
 
+  done₀ : AreLevelRowsReplaced b start s s₁ book book₁ inner inner₁ kind left right 0 items ends number new
+  done₀ = subst (λ (d : ℕ). AreLevelRowsReplaced b start s s₁ book book₁ inner inner₁ kind left right d items ends number new) may.root done
+
+  pub above_room : length inner₁ < most_taken
+  above_room = let room = room_to_note (done₀.each end₀.may).1.under in omega arith
+
+  pub root_may_be_added : {new' : List Item} → new' ≡ new → MayAddRow b start s₁ book₁ Inner new' inner₁
+  root_may_be_added same = subst (λ (l : List Item). MayAddRow b start s₁ book₁ Inner l inner₁) (sym same) (root_added end₀ may.two done₀)
+
+  pub above_is_published : {s₂ : Sheet} {book₂ : Book} {inner₂ inner' : List NewRow} {new' : List Item} {root : Item} → new' ≡ new → IsRowAdded b start s₁ s₂ book₁ book₂ Inner new' inner₁ inner₂ root → inner' ≡ inner₂
+      → MayPublishEnd b start s₂ book₂ inner' Root root.word call reply
+  above_is_published {s₂ = s₂} {book₂ = book₂} {inner₂ = inner₂} {root = root} same added noted =
+      root_ends end₀ may.two done₀ (subst (λ (l : List Item). IsRowAdded b start s₁ s₂ book₁ book₂ Inner l inner₁ inner₂ root) same added) noted
+
+-- ---- in the slot of the row above
+
+module _ {b : Before} {start : Start} {s : Sheet} {book : Book} {inner : List NewRow} {kind : RowKind} {left right : List PathStep} {depth : ℕ} {items : List Item} {ends : List ℕ} {number : ℕ} {call : Call} {reply : Reply}
+    (end : MayEnd b start s book inner kind left right (suc depth) items ends number call reply) (one : length ends ≡ 1) (same : begin_of left (suc depth) ≡ begin_of right (suc depth)) where
   abbrev step : PathStep
   step = step_at left depth
 
-  pub place_is_deep : depth < length left
-  place_is_deep = let low = left_deep start w left right (suc depth) height new under.holds may.rows.climbed in omega arith
+  levels : start.height ≡ depth + suc end.height
+  levels = let below = end.may.gathered.levels in omega arith
 
-  has : HasWords (now start w)
-  has =
-      subst HasWords (sym (forms.now_is b start s book w under.case.was under.progress))
-      (subst (λ (n : ℕ). length s.tree.table.words ≡ columns s.tree.table.width * (16 + n)) (rows_now b start s book w under.case.was under.progress) under.progress.whole.words)
-
-  climbed_one : (d : Item) → Climbed start w left right (suc depth) height (one_span left (suc depth) (slice_index_or new 0 d) ∷ [])
-  climbed_one d = one_climbed b start s book w new_inner_rows left right (suc depth) height new d may.rows may.one
-
-  abbrev no_item : Item
-  no_item = record { last = 0; word = 0; gap = 0 }
-
-  stays : IsStepIn (now start w) depth step × (passing (is_row_of step.row) w.gone ≡ 0)
-  stays = slots.step_stays start w left right depth height (one_span left (suc depth) (slice_index_or new 0 no_item)) (climbed_one no_item) may.same has
-
-  pub slot_fits : step.slot < 16
-  slot_fits =
-      let below = get_below (spans_in (now start w).table stays.0.row) step.slot stays.0.child stays.0.at.holds in
-      let few = spans_few (now start w).table (named_kind stays.0.row.word) stays.0.row in
+  -- the slot is one of the row above
+  slot_below : step.slot < slots_of start.tree.table.width Inner
+  slot_below =
+      let w = end.work in
+      let holds = end.may.under.holds in
+      let i = end.may.gathered.paths.from in
+      let within = from_within end in
+      let is_left = end.may.gathered.paths.is_left in
+      let row = paths.row_of start.tree depth i in
+      let at = paths.child start.tree start.height holds.stands i depth within (omega (arith, levels)) in
+      let here = ap (λ (z : PathStep). z.slot) (step_here start w holds left i within is_left depth (suc end.height) levels) in
+      let most = (row_is_lawful start w holds left i within is_left depth (suc end.height) levels).count.most in
+      let parts = ap length at.parts in
+      let both = length-append at.front (paths.row_of start.tree (suc depth) i ∷ at.back) in
+      let slot = at.slot in
+      let kind = ap (slots_of start.tree.table.width) (inner_is start w end.height holds) in
       omega arith
 
-  width_now : start.tree.table.width ≡ s.tree.table.width
-  width_now = ap (λ (t : Tree). t.table.width) under.case.was.tree ∙ sym under.progress.width
+  module _ {s₁ : Sheet} {book₁ : Book} {inner₁ : List NewRow} {new : List Item} (done : AreLevelRowsReplaced b start s s₁ book book₁ inner inner₁ kind left right (suc depth) items ends number new) where
+    abbrev one_level : (w₁ : Work) × AreRowsReplaced b start s₁ book₁ w₁ inner₁ left right (suc depth) end.height ends new
+    one_level = done.each end.may
 
-  column_is : column_of (now start w) (kind_at start.tree.kind (suc height)) step ≡ slot_column (slots_of s.tree.table.width Inner) step.slot
-  column_is =
-      (λ i. slot_column (slots_of start.tree.table.width (inner_kind (under.holds.range i))) step.slot)
-      ∙ ap (λ (width : Width). slot_column (slots_of width Inner) step.slot) width_now
+    in_place : (d : Item) {n : ℕ} {inner' : List NewRow} → inner' ≡ inner₁ → n ≡ slots_of start.tree.table.width Inner → MayPublishEnd b start s₁ book₁ inner' (Slot step.row (n + step.slot)) (slice_index_or new 0 d).word call reply
+    in_place d {n = n} {inner' = inner'} noted many =
+        let w = one_level.0 in
+        let under = one_level.1.under in
+        let was = under.case.was in
+        let x : Span = one_span left (suc depth) (slice_index_or new 0 d) in
+        let climbed = one_climbed end done d one in
+        let has = forms.has_words was under.progress in
+        let stays = slots.step_stays start w left right depth end.height x climbed same has in
+        let ends = forms.ends_in_slot was under.progress depth end.height x.word step levels stays.0 stays.1 (slots.ends_at_step start w left right depth end.height x climbed same has) in
+        let column : column_of (now start w) (kind_at start.tree.kind (suc end.height)) step ≡ n + step.slot =
+        ap (λ (k : ℕ). slot_column k step.slot) (sym (many ∙ ap (slots_of start.tree.table.width) (inner_is start w end.height under.holds))) in
+        subst (λ (col : ℕ). MayPublishEnd b start s₁ book₁ inner' (Slot step.row col) x.word call reply) column
+        (may_publish call reply (burying under) (let few = under.few in omega arith) end.answer start.height (Slot step.row (column_of (now start w) (kind_at start.tree.kind (suc end.height)) step)) x.word noted ends.0 ends.1 climbed.taken.0)
 
-  pub place_ends : (n : ℕ) → n ≡ slots_of s.tree.table.width Inner → (d : Item) → IsBook book → MayEnd (end_with b start w book start.height) s new_inner_rows (Slot step.row (n + step.slot)) (slice_index_or new 0 d).word call reply
-  place_ends n is d sound =
-      let word = (slice_index_or new 0 d).word in
-      let climbed = climbed_one d in
-      let x = one_span left (suc depth) (slice_index_or new 0 d) in
-      let levels : start.height ≡ depth + suc height = (let below = climbed.levels in omega arith) in
-      let end = forms.ends_in_slot b start s book w under.case.was under.progress depth height word step levels stays.0 stays.1 (slots.ends_at_step start w left right depth height x climbed may.same has) in
-      subst (λ (col : ℕ). MayEnd (end_with b start w book start.height) s new_inner_rows (Slot step.row col) word call reply) (column_is ∙ ap (λ (k : ℕ). slot_column k step.slot) (sym is))
-      (may_end b start s book w new_inner_rows call reply under.case under.progress under.holds under.inner (let few = under.few in omega arith) may.answer sound start.height
-      (Slot step.row (column_of (now start w) (kind_at start.tree.kind (suc height)) step)) word end.0 end.1 climbed.taken.0)
+-- the same, at the level that the code names
+module _ {b : Before} {start : Start} {s : Sheet} {book : Book} {inner : List NewRow} {kind : RowKind} {left right : List PathStep} {depth : ℕ} {items : List Item} {ends : List ℕ} {number : ℕ} {call : Call} {reply : Reply}
+    (may : MayEndInSlot b start s book inner kind left right depth items ends number call reply) where
+  deeper : depth ≡ suc (depth - 1)
+  deeper = let below = may.below in omega arith
 
--- ---- which of them it is
+  end₁ : MayEnd b start s book inner kind left right (suc (depth - 1)) items ends number call reply
+  end₁ = subst (λ (d : ℕ). MayEnd b start s book inner kind left right d items ends number call reply) deeper may.end
 
-module _ (b : Before) (start : Start) (s : Sheet) (book : Book) (w : Work) (new_inner_rows : List NewRow) (left right : List PathStep) (depth height : ℕ) (new : List Item) (number : ℕ) (call : Call) (reply : Reply)
-    (may : MayEndLevel b start s book w new_inner_rows left right depth height new number call reply) where
-  abbrev its_paths : ArePaths start left right
-  its_paths = may.rows.climbed.paths
+  same₁ : begin_of left (suc (depth - 1)) ≡ begin_of right (suc (depth - 1))
+  same₁ = subst (λ (d : ℕ). begin_of left d ≡ begin_of right d) deeper may.same
 
-  pub end_left_deep : depth < length left
-  end_left_deep = left_deep start w left right depth height new may.rows.under.holds may.rows.climbed
+  pub parent_is_deep : depth - 1 < length left
+  parent_is_deep = let deep = left_deep may.end in omega arith
 
-  pub end_right_deep : depth < length right
-  end_right_deep = right_deep start w left right depth height new may.rows.under.holds may.rows.climbed
+  pub slot_fits : {step : PathStep} → step ≡ step_at left (depth - 1) → (2 * slots_of start.tree.table.width Inner + 8 ≤ run_room) × (step.slot < slots_of start.tree.table.width Inner)
+  slot_fits is = ((sizes start.tree.table.width Inner).room, subst (λ (z : PathStep). z.slot < slots_of start.tree.table.width Inner) (sym is) (slot_below end₁ may.one same₁))
 
-  top_now : (width : Width) → width ≡ s.tree.table.width → top_of start.tree ≡ greatest width
-  top_now width is = ap greatest (ap (λ (t : Tree). t.table.width) may.rows.under.case.was.tree ∙ (sym may.rows.under.progress.width ∙ sym is))
+  module _ {s₁ : Sheet} {book₁ : Book} {inner₁ : List NewRow} {new : List Item} (done : AreLevelRowsReplaced b start s s₁ book book₁ inner inner₁ kind left right depth items ends number new) where
+    done₁ : AreLevelRowsReplaced b start s s₁ book book₁ inner inner₁ kind left right (suc (depth - 1)) items ends number new
+    done₁ = subst (λ (d : ℕ). AreLevelRowsReplaced b start s s₁ book book₁ inner inner₁ kind left right d items ends number new) deeper done
 
-  pub ends_as_root : (width : Width) → width ≡ s.tree.table.width → length new ≡ 1 → begin_of left depth ≡ 0 → (step_at right depth).max ≡ greatest width → MayEndAtRoot b start s book w new_inner_rows left right depth height new number call reply
-  ends_as_root width is one first last = record { rows = may.rows; one = one; first = first; last = last ∙ sym (top_now width is); in_call = may.in_call; answer = may.answer }
+    -- the rows have the slots of the tree
+    pub slots_same : {width : Width} {n : ℕ} → width ≡ s₁.tree.table.width → n ≡ slots_of width Inner → n ≡ slots_of start.tree.table.width Inner
+    slots_same is many = let under = (done₁.each end₁.may).1.under in many ∙ ap (λ (v : Width). slots_of v Inner) (is ∙ tree_width under.case.was under.progress)
 
-  pub ends_above : (width : Width) → width ≡ s.tree.table.width → (length new ≡ 1 → begin_of left depth ≡ 0 → (step_at right depth).max ≡ greatest width → ⊥) → depth ≡ 0 → MayEndAbove b start s book w new_inner_rows left right height new call reply
-  ends_above width is not top =
-      let rows : AreRowsReplaced b start s book w new_inner_rows left right 0 height new = subst (λ (n : ℕ). AreRowsReplaced b start s book w new_inner_rows left right n height new) top may.rows in
-      let both = at_the_root start w left right height new rows.under.holds rows.climbed in
-      let ends = both.1 in
-      let last : (step_at right 0).max ≡ top_of start.tree = omega arith in
-      let several : length new ≢ 1 = λ one. not one (ap (begin_of left) top ∙ both.0) (ap (λ (n : ℕ). (step_at right n).max) top ∙ (last ∙ top_now width is)) in
-      record { rows = rows; two = two rows.some several; answer = may.answer }
-    where
-      two : 1 ≤ length new → length new ≢ 1 → 2 ≤ length new
-      two some other = elim (one_or_more (length new) some) [ inl one ↦ absurd (other one) | inr more ↦ more ]
-
-  pub ends_in_place : (width : Width) → width ≡ s.tree.table.width → (length new ≡ 1 → begin_of left depth ≡ 0 → (step_at right depth).max ≡ greatest width → ⊥) → (depth ≡ 0 → ⊥) → MayEndInPlace b start s book w new_inner_rows left right (depth - 1) height new call reply
-  ends_in_place width is not low = by_end may.here
-    where
-      next : (n : ℕ) → (n ≡ 0 → ⊥) → n ≡ suc (n - 1)
-      next zero some = absurd (some refl)
-      next (suc n) some = omega arith
-
-      deeper : depth ≡ suc (depth - 1)
-      deeper = next depth low
-
-      by_end : EndsHere start left right depth (length new) → MayEndInPlace b start s book w new_inner_rows left right (depth - 1) height new call reply
-      by_end (inl top) = absurd (low top)
-      by_end (inr (one, inl same)) = record {
-        rows = subst (λ (n : ℕ). AreRowsReplaced b start s book w new_inner_rows left right n height new) deeper may.rows;
-        one = one;
-        same = subst (λ (n : ℕ). begin_of left n ≡ begin_of right n) deeper same;
-        answer = may.answer;
-      }
-      by_end (inr (one, inr (first, last))) = absurd (not one first (last ∙ top_now width is))
+    pub slot_is_published : (d : Item) {step : PathStep} {n : ℕ} {inner' : List NewRow} → step ≡ step_at left (depth - 1) → inner' ≡ inner₁ → n ≡ slots_of start.tree.table.width Inner
+        → MayPublishEnd b start s₁ book₁ inner' (Slot step.row (n + step.slot)) (slice_index_or new 0 d).word call reply
+    slot_is_published d {n = n} {inner' = inner'} is noted many =
+        subst (λ (z : PathStep). MayPublishEnd b start s₁ book₁ inner' (Slot z.row (n + z.slot)) (slice_index_or new 0 d).word call reply) (sym is) (in_place end₁ may.one same₁ done₁ d noted many)

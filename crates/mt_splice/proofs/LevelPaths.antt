@@ -1,5 +1,5 @@
 -- Paths through the tree while it is replaced: they are those through the tree as it was; and the row behind another.
-use Rattle.std.proofs.Common.{◌≡◌, ◌≢◌, ℕ, ◌+◌, ◌-◌, ◌<◌, ◌≤◌, List, length, sym, ap, ◌∙◌, subst, inr, arith}
+use Rattle.std.proofs.Common.{◌≡◌, ℕ, ◌+◌, ◌<◌, ◌≤◌, List, length, sym, ap, ◌∙◌, subst, inr, arith}
 use Rattle.mt_base.specs.declared.kinds.Kind.{Kind}
 use Rattle.mt_base.specs.Width.{greatest}
 use Rattle.mt_layout.specs.declared.spans.Span.{Span}
@@ -9,10 +9,10 @@ use Rattle.mt_rows.specs.Laws.{Tree, Stands, top_of}
 use Rattle.mt_rows.specs.Sheet.{Rooted, Sheet}
 use Rattle.mt_rows.specs.Publish.{tree_as, IsTreeOf}
 use Rattle.mt_path.specs.declared.paths.PathStep.{PathStep}
-use Rattle.mt_path.specs.Paths.{step_in, step_at, path_in}
+use Rattle.mt_path.specs.Paths.{step_at, path_in}
 use Rattle.mt_path.proofs.TreePaths.{row_of, levels, step, place, inside_agree}
 use Rattle.mt_path.proofs.Ways.{some_root, some_tree}
-use Rattle.mt_splice.specs.Work.{Start, Work, now, Holds}
+use Rattle.mt_splice.specs.Work.{Start, Work, Holds}
 use Rattle.mt_splice.specs.Levels.{IsRowBehind}
 use Rattle.mt_splice.specs.Progress.{Before, IsBefore, IsProgress}
 use Rattle.mt_splice.proofs.EndForms.{now_is}

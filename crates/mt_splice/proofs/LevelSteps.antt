@@ -1,5 +1,5 @@
 -- The rows of a level written one by one.
-use Rattle.std.proofs.Common.{◌≡◌, ℕ, ◌+◌, ◌<◌, ◌≤◌, List, [], ◌∷◌, ◌++◌, Bool, true, false, length, take, drop, get_or, refl, sym, ap, ◌∙◌, subst, ⊎_elim, arith, length-append}
+use Rattle.std.proofs.Common.{◌≡◌, ℕ, ◌+◌, ◌<◌, ◌≤◌, List, [], ◌∷◌, ◌++◌, true, false, length, take, drop, get_or, refl, sym, ap, ◌∙◌, subst, ⊎_elim, arith, length-append}
 use Rattle.std.proofs.lemmas.Bool.{cases_Bool}
 use Rattle.std.proofs.lemmas.List.{take_all, drop_more, drop_all}
 use Rattle.mt_base.specs.declared.widths.Width.{Width}
@@ -19,7 +19,7 @@ use Rattle.mt_splice.specs.declared.writes.NewRow.{NewRow}
 use Rattle.mt_splice.specs.Work.{Start, Work, now, IsUsed}
 use Rattle.mt_splice.specs.Climbs.{AreWritten}
 use Rattle.mt_splice.specs.Progress.{Before, IsBefore, IsProgress, new_rows_of}
-use Rattle.mt_splice.specs.Levels.{IsCutOf, MayWriteRow, IsOneWritten, MayAddRow, IsRowAdded, MayWriteRows, AreRowsWritten, MayAddRows, AreRowsAdded}
+use Rattle.mt_splice.specs.Levels.{IsCutOf, MayWriteRow, IsOneWritten, MayAddRow, IsRowAdded, MayWriteRows, MayAddRows, AreRowsAdded}
 use Rattle.mt_splice.proofs.Moments.{keeps_none, keeps_more}
 use Rattle.mt_splice.proofs.Written.{still_hold, still_lawful, still_in_use}
 use Rattle.mt_splice.proofs.StepSeen.{not_both}
@@ -147,12 +147,6 @@ module _ {b : Before} {start : Start} {s s' : Sheet} {book book' : Book} {kind :
       let so = far.each may in
       (so.0, subst (AreRowsSoFar b start s' book book' w so.0 height lo items inner' new from) (drop_more ends index 0 inside) so.1)
 
-  pub order_now : MayAddRows b start s book kind items ends inner → from ≤ to_now
-  order_now asked = let some = (so_now asked.may).1.parts.0.some in omega arith
-
-  pub within_now : MayAddRows b start s book kind items ends inner → to_now ≤ length items
-  within_now asked = (so_now asked.may).1.parts.0.within
-
   next_may : {w : Work} {height lo hi : ℕ} (may : MayWriteRows b start s book w kind height lo hi items ends inner)
       → MayWriteRow b start s' book' (so_now may).0 kind height (after lo new) (after (after lo new) (part_of items from to_now)) (part_of items from to_now) inner'
   next_may may =
@@ -182,12 +176,14 @@ pub all_rows : {b : Before} {start : Start} {s s' : Sheet} {book book' : Book} {
 all_rows {b} {start} {s} {s'} {book} {book'} {kind} {items} {ends} {inner} {inner'} {new} {from} {index} far done = record {
   each = λ {w} {height} {lo} {hi} may.
       let so = far.each may in
-      let all = subst (AreRowsSoFar b start s' book book' w so.0 height lo items inner' new from) (drop_all index ends (omega arith)) so.1 in
-      (so.0, record {
-        progress = all.progress;
-        written = subst (λ (l : List Item). AreWritten start w so.0 height (spans_from lo l) (spans_from lo new)) (take_all from items (let end = all.parts in omega arith)) all.written;
-        inner = all.inner;
-        free = all.free;
-        many = far.count ∙ done;
-      });
+      let all = subst (AreRowsSoFar b start s' book book' w so.0 height lo items inner' new from) (drop_all index ends (omega arith)) so.1 in (
+        so.0,
+        record {
+          progress = all.progress;
+          written = subst (λ (l : List Item). AreWritten start w so.0 height (spans_from lo l) (spans_from lo new)) (take_all from items (let end = all.parts in omega arith)) all.written;
+          inner = all.inner;
+          free = all.free;
+          many = far.count ∙ done;
+        },
+      );
 }

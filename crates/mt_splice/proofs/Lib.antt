@@ -5,7 +5,6 @@ pub mod BetweenCalls
 pub mod Buried
 pub mod Clearing
 pub mod Counting
-pub mod Counts
 pub mod Drafts
 pub mod EditedRegions
 pub mod EndAfter

@@ -25,7 +25,7 @@ use Rattle.mt_splice.proofs.Rises.{step_here, row_is_lawful, spans_here}
 
 -- ---- spans beside each other
 
-pub beside_fills : (height lo middle hi : ℕ) (xs ys : List Span) → Fills lo middle xs → Fills middle hi ys → Fills lo hi (beside height xs ys)
+beside_fills : (height lo middle hi : ℕ) (xs ys : List Span) → Fills lo middle xs → Fills middle hi ys → Fills lo hi (beside height xs ys)
 beside_fills zero lo middle hi xs ys front back = fills_joined lo hi (xs ++ ys) (fills-append lo middle hi xs ys front back)
 beside_fills (suc height) lo middle hi xs ys front back = fills-append lo middle hi xs ys front back
 
@@ -33,21 +33,21 @@ abbrev IsFree : Span → Type 0
 IsFree x = reserved x.word ≡ false
 
 -- the entries of leaves are not reserved
-pub AreFree : ℕ → List Span → Type 0
+AreFree : ℕ → List Span → Type 0
 AreFree zero xs = AllByRecursion IsFree xs
 AreFree (suc height) xs = Unit {0}
 
-pub beside_fit : (height : ℕ) (xs ys : List Span) → AreFree height xs → AreFree height ys → MayBeIn height (beside height xs ys)
+beside_fit : (height : ℕ) (xs ys : List Span) → AreFree height xs → AreFree height ys → MayBeIn height (beside height xs ys)
 unfolding AreFree
 beside_fit zero xs ys front back = (apart_joined (xs ++ ys), all_joined IsFree (λ x last free. free) (xs ++ ys) (all_join IsFree xs ys front back))
 beside_fit (suc height) xs ys front back = tt
 
-pub run_free : (height : ℕ) (run : List Span) → MayBeIn height run → AreFree height run
+run_free : (height : ℕ) (run : List Span) → MayBeIn height run → AreFree height run
 unfolding AreFree
 run_free zero run fit = fit.1
 run_free (suc height) run fit = tt
 
-pub row_free : (t : Tree) (height : ℕ) (x : Span) (xs : List Span) → IsRow t height x → xs ≡ spans_in t.table x → AreFree height xs
+row_free : (t : Tree) (height : ℕ) (x : Span) (xs : List Span) → IsRow t height x → xs ≡ spans_in t.table x → AreFree height xs
 unfolding AreFree
 row_free t zero x xs row is = subst (AllByRecursion IsFree) (sym is) row.entries
 row_free t (suc height) x xs row is = tt

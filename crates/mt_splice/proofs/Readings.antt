@@ -26,7 +26,7 @@ module _ (slots gaps : ℕ) (w : List ℕ) (base max i : ℕ) (item : Item) (is 
       (λ j. take (n j) (items_from slots gaps w base max (slots - i) i))
       ∙ (ap (take (suc (to - (i + 1)))) (ends slots gaps w base max (slots - i) i item (omega arith) (omega arith) is done) ∙ ap (λ (l : List Item). item ∷ l) (take-nil (to - (i + 1))))
 
-pub unread_none : (slots gaps : ℕ) (w : List ℕ) (base max to i : ℕ) → to ≤ i → unread slots gaps w base max to i ≡ []
+unread_none : (slots gaps : ℕ) (w : List ℕ) (base max to i : ℕ) → to ≤ i → unread slots gaps w base max to i ≡ []
 unread_none slots gaps w base max to i past = let n : to - i ≡ 0 = omega arith in ap (λ (k : ℕ). take k (items_from slots gaps w base max (slots - i) i)) n
 
 pub unread_no_slot : (slots gaps : ℕ) (w : List ℕ) (base max to i : ℕ) → slots ≤ i → unread slots gaps w base max to i ≡ []

@@ -1,5 +1,5 @@
 -- A replacement begins: nothing was done yet, and the leaves' items are to stand in the tree, or in the first leaf of all.
-use Rattle.std.proofs.Common.{◌≡◌, ℕ, suc, ◌+◌, ◌-◌, ◌≤◌, ◌==◌, List, [], ◌∷◌, ◌++◌, Some, None, Bool, true, false, length, map, refl, sym, ap, ◌∙◌, subst, inl, inr, ⊎_elim, arith, append-nil, lt-ltb, length-append}
+use Rattle.std.proofs.Common.{◌≡◌, ◌≢◌, ℕ, suc, ◌+◌, ◌-◌, ◌<◌, ◌≤◌, ◌==◌, List, [], ◌∷◌, ◌++◌, Some, None, Bool, true, false, length, map, refl, sym, ap, ◌∙◌, subst, inl, inr, ⊎_elim, arith, append-nil, lt-ltb, length-append}
 use Rattle.std.specs.Prelude.{◌||◌}
 use Rattle.std.specs.List.{flat_map}
 use Rattle.std.proofs.lemmas.Bool.{cases_Bool, eqb-true, eqb-false}
@@ -8,259 +8,266 @@ use Rattle.mt_base.specs.declared.kinds.Kind.{Kind}
 use Rattle.mt_base.specs.declared.ranges.Range.{Range}
 use Rattle.mt_base.specs.declared.calls.Call.{Call}
 use Rattle.mt_base.specs.declared.replies.Reply.{Reply}
-use Rattle.mt_base.specs.declared.widths.Width.{Width}
-use Rattle.mt_base.specs.declared.widths.Width.TheVariants.{Long}
+use Rattle.mt_base.specs.Call.{acted}
 use Rattle.mt_base.specs.Map.{over}
+use Rattle.mt_base.specs.Width.{deepest}
 use Rattle.mt_layout.specs.declared.items.Item.{Item}
 use Rattle.mt_layout.specs.declared.names.RowKind.TheVariants.{Leaf}
 use Rattle.mt_layout.specs.declared.spans.Span.{Span}
 use Rattle.mt_layout.specs.Rows.{row_in, named_kind}
 use Rattle.mt_layout.specs.Spans.{leaf_range, spans_from}
+use Rattle.mt_layout.proofs.RowSizes.{sizes}
+use Rattle.mt_layout.proofs.SpanLists.{length-spans_from}
 use Rattle.mt_leaf.specs.Edits.{edited, ends_with_hole}
-use Rattle.mt_free.specs.Book.{Book, IsBook}
+use Rattle.mt_leaf.proofs.Holes.{full_unless_hole}
+use Rattle.mt_free.specs.Book.{Book}
 use Rattle.mt_rows.specs.declared.rows.Place.TheVariants.{Root}
 use Rattle.mt_rows.specs.Spans.{Table, root_span}
-use Rattle.mt_layout.specs.Sizes.{slots_of}
 use Rattle.mt_rows.specs.Levels.{map_of, tally, is_row_of}
-use Rattle.mt_base.specs.Width.{deepest}
 use Rattle.mt_rows.specs.Laws.{Tree, Stands, IsLawful, top_of}
 use Rattle.mt_rows.specs.Replacement.{root_of}
 use Rattle.mt_rows.specs.Sheet.{Sheet, IsWhole}
-use Rattle.mt_rows.specs.Publish.{tree_as, map_by, is_reached, NoneBuried}
+use Rattle.mt_rows.specs.Publish.{tree_as, IsTold, map_by, is_reached}
 use Rattle.mt_rows.proofs.Depth.{ranges_by_depth, height_by_depth}
-use Rattle.mt_rows.proofs.SlotWords.{length-spans_from}
 use Rattle.mt_path.specs.declared.paths.PathStep.{PathStep}
 use Rattle.mt_path.specs.Paths.{path_in, step_at}
+use Rattle.mt_path.proofs.Steps.{path_of_none}
 use Rattle.mt_path.proofs.TreePaths as paths
-use Rattle.mt_path.proofs.Entering.{path_of_none}
 use Rattle.mt_splice.specs.declared.writes.NewRow.{NewRow}
 use Rattle.mt_splice.specs.Seen.{Seen, passing}
 use Rattle.mt_splice.specs.Work.{Start, Work, now}
+use Rattle.mt_splice.specs.Kept.{MayBeReplaced, IsKept, IsUnpublished}
 use Rattle.mt_splice.specs.Splice.{MaySplice, region_of}
+use Rattle.mt_splice.specs.Entries.{before_of, start_of, IsBegunBy, IsFirst}
 use Rattle.mt_splice.specs.Beginnings.{Begins}
 use Rattle.mt_splice.specs.Climbs.{Gathered}
+use Rattle.mt_splice.specs.Replaced.{IsReplaced}
 use Rattle.mt_splice.specs.Runs.{IsLeafRun, MayBeCut}
 use Rattle.mt_splice.specs.Endings.{with_root}
-use Rattle.mt_splice.specs.Ends.{End, MayEnd, IsReplacedAs}
-use Rattle.mt_splice.specs.Progress.{Before, IsBefore, IsProgress, row_seen}
-use Rattle.mt_splice.specs.Levels.{MayWriteRow, IsOneWritten}
+use Rattle.mt_splice.specs.Ends.{MayPublishEnd}
+use Rattle.mt_splice.specs.Progress.{Before, IsBefore, IsCase, IsProgress, row_seen, new_rows_of}
+use Rattle.mt_splice.specs.Levels.{MayWriteRow, IsOneWritten, MayAddRow, IsRowAdded}
 use Rattle.mt_splice.specs.TakingIn.{MayTakeIn}
 use Rattle.mt_splice.specs.Replacing.{IsUnderWay, MayReplaceLevel}
-use Rattle.mt_splice.specs.Progress.{IsCase}
 use Rattle.mt_splice.proofs.Beginnings.{holds_first, leaves_gathered, leaves_run}
-use Rattle.mt_splice.proofs.Counts.{full_unless_hole}
-use Rattle.mt_splice.proofs.EndForms.{now_is}
+use Rattle.mt_splice.proofs.EndForms.{ends_at_root}
 use Rattle.mt_splice.proofs.EndTrees.{map_is}
 use Rattle.mt_splice.proofs.Moments.{reached_are_used}
 use Rattle.mt_splice.proofs.RootEndings.{first_leaf}
 use Rattle.mt_splice.proofs.Runs.{empty_run}
 use Rattle.mt_splice.proofs.StepSeen.{not_both}
 
+-- ---- what is asked for, of lists that are the same
+
+pub asked_so : {kind : Kind} {s : Sheet} {book : Book} {left left' right right' : List PathStep} {items items' : List Item} {number : ℕ} {call : Call} {reply : Reply} → left' ≡ left → right' ≡ right → items' ≡ items
+    → MaySplice kind s book left right items number call reply → MaySplice kind s book left' right' items' number call reply
+asked_so {kind = kind} {s = s} {book = book} {number = number} {call = call} {reply = reply} is_left is_right is may =
+    subst (λ (l : List PathStep × List PathStep × List Item). MaySplice kind s book l.0 l.1 l.2 number call reply) (λ i. (sym is_left i, sym is_right i, sym is i)) may
+
+-- ---- the height of a tree is that of its paths
+
 no_path : (t : Table) (root i : ℕ) → root ≡ 0 → path_in t root i ≡ []
 no_path t root i empty = path_of_none t deepest (root_span t root) i (ap named_kind empty)
 
-pub stands_of : (t : Tree) → IsLawful t → (t.root ≡ 0 → ⊥) → (h : ℕ) × Stands t h
-stands_of t (inl empty) not = absurd (not empty)
-stands_of t (inr (h, stands, parent, tended)) not = (h, stands)
+pub stands_at_start : (t : Tree) → IsLawful t → t.root ≢ 0 → Stands t (length (path_in t.table t.root 0) - 1)
+stands_at_start t (inl empty) some = absurd (some empty)
+stands_at_start t (inr (h, stands, parent, tended)) some =
+    let long = paths.levels t h stands 0 (omega arith) in
+    let same : h ≡ length (path_in t.table t.root 0) - 1 = omega arith in
+    subst (Stands t) same stands
 
 empty_of : (t : Tree) → IsLawful t → ((h : ℕ) → Stands t h → ⊥) → t.root ≡ 0
 empty_of t (inl empty) not = empty
 empty_of t (inr (h, stands, parent, tended)) not = absurd (not h stands)
 
-slots_many : (w : Width) → 3 ≤ slots_of w Leaf
-slots_many Long = omega arith
-
 -- ---- nothing was done yet
-
-abbrev pub before_of : Kind → Sheet → Book → ℕ → Before
-before_of kind s book number = record { sheet = s; book = book; kind = kind; number = number }
-
-abbrev pub start_of : Kind → Sheet → ℕ → List Range → Start
-start_of kind s height map = record { tree = tree_as kind s.tree; height = height; map = map }
 
 abbrev pub work_of : Sheet → Work
 work_of s = record { words = s.tree.table.words; used = λ row. is_reached s.tree row || false; taken = []; gone = [] }
 
-pub nothing_done : (kind : Kind) (s : Sheet) (book : Book) (number : ℕ) → IsWhole s → NoneBuried s.tree.rows s.buried → IsProgress (before_of kind s book number) s book (work_of s)
-nothing_done kind s book number whole none_buried = record {
-  rest = refl;
-  root = refl;
-  width = refl;
-  words = refl;
-  whole = whole;
-  used = λ row. refl;
-  free = sym (append-nil book.free);
-  held = sym (append-nil book.held);
-  rows = refl;
-  lives = λ row low high. refl;
-  buried = none_buried;
-  kept = λ row c untaken above within. refl;
-  parents = λ row untaken kept. refl;
-  new_parents = λ row taken. absurd (not_both false taken refl);
-  marks = λ row reached gone. absurd (not_both false gone refl);
-}
+module _ {kind : Kind} {s : Sheet} {book : Book} {number : ℕ} (whole : IsWhole s) (kept : IsKept kind s.tree s.lives s.buried s.cleared book number) where
+  pub nothing_done : IsProgress (before_of kind s book number) s book (work_of s)
+  nothing_done = record {
+    rest = refl;
+    tree = refl;
+    whole = whole;
+    used = λ row. refl;
+    free = sym (append-nil book.free);
+    held = sym (append-nil book.held);
+    rows = refl;
+    lives = λ row low high. refl;
+    buried = kept.none_buried;
+    kept = λ row c untaken above within. refl;
+    parents = λ row untaken kept. refl;
+    new_parents = λ row taken. absurd (not_both false taken refl);
+    marks = λ row reached gone. absurd (not_both false gone refl);
+  }
 
--- the end of what begins with the empty tree
-abbrev pub first_end : Before → Start → Work → Book → End
-first_end b start w book = record { before = b; start = start; work = w; book = book; old = None; new = Some 0 }
+  pub case_of : (start : Start) → start.tree ≡ tree_as kind s.tree → MayBeReplaced kind → IsTold s.kind kind → IsUnpublished s.in_flight s.published s.ended number → IsCase (before_of kind s book number) start
+  case_of start is range told unpublished = record { range = range; told = told; unpublished = unpublished; was = record { whole = whole; tree = is; kept = kept } }
 
-module _ (kind : Kind) (s : Sheet) (book : Book) (left right : List PathStep) (items : List Item) (number : ℕ) (call : Call) (reply : Reply) (may : MaySplice kind s book left right items number call reply) (whole : IsWhole s) where
+-- ---- a tree stands
+
+module _ {kind : Kind} {s : Sheet} {book : Book} {left right : List PathStep} {items : List Item} {number : ℕ} {call : Call} {reply : Reply} (may : MaySplice kind s book left right items number call reply) (whole : IsWhole s) where
+  abbrev t : Tree
+  t = tree_as kind s.tree
+
+  abbrev start : Start
+  start = start_of kind s call
+
   abbrev b : Before
   b = before_of kind s book number
 
-  abbrev new_map : List Range
-  new_map = over (map_by s.tree) may.first may.last may.entry
+  first_within : may.first ≤ top_of t
+  first_within = let order = may.store.order in let within = may.store.within in omega arith
 
-  abbrev pub start_at : ℕ → Start
-  start_at h = start_of kind s h new_map
+  the_case : IsCase b start
+  the_case = case_of whole may.kept start refl may.range may.told may.unpublished
 
-  before_splice : (h : ℕ) → IsBefore b (start_at h)
-  before_splice h = record { whole = whole; tree = refl; live = may.live; none_buried = may.none_buried; book = may.booked }
+  the_answer : acted kind (map_by s.tree) call ≡ (start.map, reply)
+  the_answer = ap (λ (r : Reply). (start.map, r)) (ap (λ (a : List Range × Reply). a.1) may.store.acts)
 
-  none_done : IsProgress b s book (work_of s)
-  none_done = nothing_done kind s book number whole may.none_buried
-
-  -- ---- a tree stands
-
-  module _ (h : ℕ) (stands : Stands (tree_as kind s.tree) h) where
-    begins : Begins (start_at h) (work_of s) left right may.first may.last may.entry
+  module _ (stands : Stands t start.height) where
+    begins : Begins start (work_of s) left right may.first may.last may.entry
     begins = record {
       range = may.range;
       stands = stands;
-      map = ap (λ (m : List Range). over m may.first may.last may.entry) (ranges_by_depth (tree_as kind s.tree) deepest h (root_span s.tree.table s.tree.root) stands.low stands.rows);
+      map = ap (λ (a : List Range × Reply). a.0) may.store.acts ∙ ap (λ (m : List Range). over m may.first may.last may.entry) (ranges_by_depth t deepest start.height (root_span s.tree.table s.tree.root) stands.low stands.rows);
       order = may.store.order;
       within = may.store.within;
       free = may.store.lawful;
       is_left = may.left_path;
       is_right = may.right_path;
       words = refl;
-      used = reached_are_used (start_at h) (work_of s) stands (λ row reached. ap (λ (a : Bool). a || false) reached);
+      used = reached_are_used start (work_of s) stands (λ row reached. ap (λ (a : Bool). a || false) reached);
       taken = refl;
       gone = refl;
     }
 
-    left_levels : length left ≡ h + 1
-    left_levels = ap length may.left_path ∙ paths.levels (tree_as kind s.tree) h stands may.first (let order = may.store.order in let within = may.store.within in omega arith)
+    left_levels : length left ≡ start.height + 1
+    left_levels = ap length may.left_path ∙ paths.levels t start.height stands may.first first_within
 
-    run_is : spans_from (step_at left h).min items ≡ edited (region_of s.tree.table left right) may.first may.last may.entry
+    abbrev run : List Span
+    run = spans_from (step_at left start.height).min items
+
+    run_is : run ≡ edited (region_of s.tree.table left right) may.first may.last may.entry
     run_is = subst (λ (d : ℕ). spans_from (step_at left d).min items ≡ edited (region_of s.tree.table left right) may.first may.last may.entry) (let all = left_levels in omega arith) may.edits
 
-    run_gathered : Gathered (start_at h) (work_of s) left right h 0 (spans_from (step_at left h).min items)
-    run_gathered = leaves_gathered (start_at h) (work_of s) left right may.first may.last may.entry begins (spans_from (step_at left h).min items) run_is
+    run_gathered : Gathered start (work_of s) left right start.height 0 run
+    run_gathered = leaves_gathered start (work_of s) left right may.first may.last may.entry begins run run_is
 
-    run_few : IsLeafRun (tree_as kind s.tree) (step_at right h).max (spans_from (step_at left h).min items)
-    run_few = leaves_run (start_at h) (work_of s) left right may.first may.last may.entry begins (spans_from (step_at left h).min items) run_is
+    run_few : IsLeafRun t (step_at right start.height).max run
+    run_few = leaves_run start (work_of s) left right may.first may.last may.entry begins run run_is
 
-    case_is : IsCase b (start_at h)
-    case_is = record {
-      range = may.range;
-      in_flight = may.in_flight;
-      unpublished = may.before;
-      numbered = may.numbered;
-      was = before_splice h;
-      lawful = may.lawful;
-    }
-
-    under_way : IsUnderWay b (start_at h) s book (work_of s) [] (suc h)
+    under_way : IsUnderWay b start s book (work_of s) [] (suc start.height)
     under_way = record {
-      case = case_is;
-      progress = none_done;
-      holds = holds_first (start_at h) (work_of s) left right may.first may.last may.entry begins;
-      inner = refl;
-      room = let room = may.room in let high = height_by_depth (tree_as kind s.tree) deepest h (root_span s.tree.table s.tree.root) stands.low stands.rows in omega arith;
+      case = the_case;
+      progress = nothing_done whole may.kept;
+      holds = holds_first start (work_of s) left right may.first may.last may.entry begins;
+      inner_rows = refl;
+      room = let room = may.room in let high = height_by_depth t deepest start.height (root_span s.tree.table s.tree.root) stands.low stands.rows in omega arith;
       few = omega arith;
     }
 
-    widens : MayTakeIn (start_at h) (work_of s) s.tree Leaf left right h 0 items
-    widens = record {
-      is_now = record { rows = refl; words = refl; of_kind = may.lawful.of_kind };
+    takes_in : MayTakeIn start (work_of s) s.tree Leaf left right start.height 0 items
+    takes_in = record {
+      is_now = record { words = refl; width = may.kept.lawful.width };
       of_kind = refl;
       gathered = run_gathered;
-      few = let few = run_few.few in let same = length-spans_from (step_at left h).min items in omega arith;
+      few = let few = run_few.few in let same = length-spans_from (step_at left start.height).min items in omega arith;
       ends = λ leaf more.
-          let same = length-spans_from (step_at left h).min items in
-          ⊎_elim (λ (hole : ends_with_hole (spans_from (step_at left h).min items) ≡ true). inl (let few = run_few.ends more hole in omega arith))
-          (λ (full : ends_with_hole (spans_from (step_at left h).min items) ≡ false). inr (full_unless_hole (spans_from (step_at left h).min items) full))
-          (cases_Bool (ends_with_hole (spans_from (step_at left h).min items)));
+          let same = length-spans_from (step_at left start.height).min items in
+          ⊎_elim (λ (hole : ends_with_hole run ≡ true). inl (let few = run_few.ends more hole in omega arith))
+          (λ (full : ends_with_hole run ≡ false). inr (full_unless_hole run full)) (cases_Bool (ends_with_hole run));
       two = λ k inner. absurd (omega arith);
     }
 
-    may_replace : MayReplaceLevel b (start_at h) s book (work_of s) [] Leaf left right h 0 items number call reply
-    may_replace = record { under = under_way; may = widens; in_call = refl; answer = may.store.acts }
+    at_height : MayReplaceLevel b start s book [] Leaf left right start.height items number call reply
+    at_height = record { work = work_of s; height = 0; under = under_way; may = takes_in; in_call = refl; answer = the_answer }
 
   -- the leaves' level may be replaced first
-  pub leaves_may_be_replaced : (depth : ℕ) → depth + 1 ≡ length left → MayReplaceLevel b (start_at depth) s book (work_of s) [] Leaf left right depth 0 items number call reply
-  leaves_may_be_replaced depth deep =
-      let tree = stands_of (tree_as kind s.tree) may.lawful.words (λ empty. let none = ap length (may.left_path ∙ no_path s.tree.table s.tree.root may.first empty) in omega arith) in
-      let same : tree.0 ≡ depth = (let all = left_levels tree.0 tree.1 in omega arith) in
-      subst (λ (h : ℕ). MayReplaceLevel b (start_at h) s book (work_of s) [] Leaf left right h 0 items number call reply) same (may_replace tree.0 tree.1)
+  at_leaves : (depth : ℕ) (inner : List NewRow) → depth + 1 ≡ length left → inner ≡ [] → MayReplaceLevel b start s book inner Leaf left right depth items number call reply
+  at_leaves depth inner deep none =
+      let stands : Stands t start.height = stands_at_start t may.kept.lawful.words (λ empty. let none = ap length (may.left_path ∙ no_path s.tree.table s.tree.root may.first empty) in omega arith) in
+      let same : start.height ≡ depth = (let all = left_levels stands in omega arith) in
+      subst (λ (x : ℕ × List NewRow). MayReplaceLevel b start s book x.1 Leaf left right x.0 items number call reply) (λ i. (same i, sym none i)) (at_height stands)
 
-  -- the same, of the lists as they are passed
-  pub level_may_be_replaced : (depth : ℕ) (left' right' : List PathStep) (items' : List Item) (new_inner_rows : List NewRow) → depth + 1 ≡ length left → left' ≡ left → right' ≡ right → items' ≡ items → new_inner_rows ≡ []
-      → MayReplaceLevel b (start_at depth) s book (work_of s) new_inner_rows Leaf left' right' depth 0 items' number call reply
-  level_may_be_replaced depth left' right' items' new_inner_rows deep is_left is_right is none =
-      subst (λ (l : List PathStep × List PathStep × List Item × List NewRow). MayReplaceLevel b (start_at depth) s book (work_of s) l.3 Leaf l.0 l.1 depth 0 l.2 number call reply)
-      (λ i. (sym is_left i, sym is_right i, sym is i, sym none i)) (leaves_may_be_replaced depth deep)
+-- ---- what the entry does
 
-pub no_steps : (path : List PathStep) → (length path == 0) ≡ true → path ≡ []
+no_steps : (path : List PathStep) → (length path == 0) ≡ true → path ≡ []
 no_steps [] none = refl
 no_steps (x ∷ path) none = let zero' = eqb-true (length (x ∷ path)) 0 none in absurd (omega arith)
 
-pub some_steps : (path : List PathStep) (n : ℕ) → n ≡ length path → (length path == 0) ≡ false → n - 1 + 1 ≡ length path
-some_steps path n is some = let other = eqb-false (length path) 0 some in omega (arith, other)
+pub some_steps : (path : List PathStep) {n : ℕ} → n ≡ length path → (length path == 0) ≡ false → n - 1 + 1 ≡ length path
+some_steps path is some = let other = eqb-false (length path) 0 some in omega (arith, other)
+
+module _ {b : Before} {start : Start} {kind : Kind} {s : Sheet} {book : Book} {left right : List PathStep} {items : List Item} {number : ℕ} {call : Call} {reply : Reply} (begun : IsBegunBy b start kind s book number call)
+    (may : MaySplice kind s book left right items number call reply) where
+  pub leaves_may_be_replaced : (whole : IsWhole s) {depth : ℕ} {inner : List NewRow} → depth + 1 ≡ length left → inner ≡ [] → MayReplaceLevel b start s book inner Leaf left right depth items number call reply
+  leaves_may_be_replaced whole {depth = depth} {inner = inner} deep none =
+      subst (λ (x : Before × Start). MayReplaceLevel x.0 x.1 s book inner Leaf left right depth items number call reply) (λ i. (sym begun.before i, sym begun.start i)) (at_leaves may whole depth inner deep none)
+
+  pub first_may_begin : {items' : List Item} → (length left == 0) ≡ true → items' ≡ items → IsFirst b start s book items' call reply
+  first_may_begin {items' = items'} none is =
+      subst (λ (x : Before). IsFirst x start s book items' call reply) (sym begun.before)
+      (record { right = right; begun = record { before = refl; start = begun.start }; may = asked_so (sym (no_steps left none)) refl is may })
 
 -- ---- the empty tree
 
--- a span that covers all, and has no gap, is that of a root
-root_is : (t : Tree) (x : Span) → x.first ≡ 0 → x.last ≡ top_of t → x.gap ≡ 0 → x ≡ root_span t.table x.word
-root_is t x first last gap = λ i. record { first = first i; last = last i; word = x.word }
+-- a span that covers all is that of a root
+root_is : (t : Tree) (x : Span) → x.first ≡ 0 → x.last ≡ top_of t → x ≡ root_span t.table x.word
+root_is t x first last = λ i. record { first = first i; last = last i; word = x.word }
 
 one_counted : (seen : List Seen) (free free' : List ℕ) → free ≡ free' ++ map row_seen seen → length free ≡ length free' + 1 → length seen ≡ 1
 one_counted seen free free' is one = let all = ap length is ∙ length-append free' (map row_seen seen) in let same = length-map seen row_seen in omega arith
 
-module _ (kind : Kind) (s : Sheet) (book : Book) (right : List PathStep) (items : List Item) (number : ℕ) (call : Call) (reply : Reply) (may : MaySplice kind s book [] right items number call reply) (whole : IsWhole s) where
-  abbrev b₀ : Before
-  b₀ = before_of kind s book number
-
-  abbrev start₀ : Start
-  start₀ = start_at kind s book [] right items number call reply may whole 0
-
+module _ {kind : Kind} {s : Sheet} {book : Book} {right : List PathStep} {items : List Item} {number : ℕ} {call : Call} {reply : Reply} (may : MaySplice kind s book [] right items number call reply) (whole : IsWhole s) where
   abbrev tree₀ : Tree
   tree₀ = tree_as kind s.tree
+
+  abbrev start₀ : Start
+  start₀ = start_of kind s call
+
+  abbrev b₀ : Before
+  b₀ = before_of kind s book number
 
   abbrev hi : ℕ
   hi = top_of tree₀ + 1
 
   no_tree : s.tree.root ≡ 0
-  no_tree = empty_of tree₀ may.lawful.words (λ h stands. let none = ap length may.left_path ∙ paths.levels tree₀ h stands may.first (let order = may.store.order in let within = may.store.within in omega arith) in omega arith)
+  no_tree = empty_of tree₀ may.kept.lawful.words (λ h stands. let none = ap length may.left_path ∙ paths.levels tree₀ h stands may.first (first_within may whole) in omega arith)
 
-  empty_cut : MayBeCut tree₀ 0 0 hi (edited (region_of s.tree.table [] right) may.first may.last may.entry) × (flat_map leaf_range (edited (region_of s.tree.table [] right) may.first may.last may.entry) ≡ over [] may.first may.last may.entry)
-      × (length (edited (region_of s.tree.table [] right) may.first may.last may.entry) ≤ 3)
+  abbrev store : List Span
+  store = edited (region_of s.tree.table [] right) may.first may.last may.entry
+
+  empty_cut : MayBeCut tree₀ 0 0 hi store × (flat_map leaf_range store ≡ over [] may.first may.last may.entry) × (length store ≤ 3)
   empty_cut = empty_run tree₀ right may.first may.last may.entry may.store.order may.store.within may.store.lawful (may.some no_tree)
 
   cut : MayBeCut tree₀ 0 0 hi (spans_from 0 items)
   cut = subst (MayBeCut tree₀ 0 0 hi) (sym may.edits) empty_cut.0
 
   stand : flat_map leaf_range (spans_from 0 items) ≡ start₀.map
-  stand = ap (flat_map leaf_range) may.edits ∙ (empty_cut.1 ∙ ap (λ (m : List Range). over m may.first may.last may.entry) (sym (map_is tree₀ None no_tree)))
-
-  run : MayBeCut tree₀ 0 0 hi (spans_from 0 items)
-  run = cut
+  stand =
+      ap (flat_map leaf_range) may.edits
+      ∙ (empty_cut.1 ∙ (ap (λ (m : List Range). over m may.first may.last may.entry) (sym (map_is tree₀ None no_tree)) ∙ sym (ap (λ (a : List Range × Reply). a.0) may.store.acts)))
 
   -- the first leaf may be written
-  pub first_may_be_written : MayWriteRow b₀ start₀ s book (work_of s) Leaf 0 0 hi items []
-  first_may_be_written = record {
-    before = before_splice kind s book [] right items number call reply may whole 0;
-    progress = none_done kind s book [] right items number call reply may whole;
+  first_written : MayWriteRow b₀ start₀ s book (work_of s) Leaf 0 0 hi items []
+  first_written = record {
+    before = (the_case may whole).was;
+    progress = nothing_done whole may.kept;
     of_kind = refl;
     free = let room = may.room in omega arith;
-    run = run;
-    fit = let few = ap length may.edits in let most = empty_cut.2 in let same = length-spans_from 0 items in let wide = slots_many s.tree.table.width in omega arith;
+    run = cut;
+    fit = let few = ap length may.edits in let most = empty_cut.2 in let same = length-spans_from 0 items in let wide = sizes s.tree.table.width Leaf in omega (arith, wide.least, wide.some);
     known = refl;
   }
 
+  first_added : {inner : List NewRow} → inner ≡ [] → MayAddRow b₀ start₀ s book Leaf items inner
+  first_added {inner = inner} none = record { work = work_of s; height = 0; lo = 0; hi = hi; may = subst (MayWriteRow b₀ start₀ s book (work_of s) Leaf 0 0 hi items) (sym none) first_written }
+
   -- and then published
-  module _ (s' : Sheet) (book' : Book) (w' : Work) (new_inner_rows : List NewRow) (item : Item) (one : IsOneWritten b₀ start₀ s' book book' (work_of s) w' 0 0 hi items new_inner_rows item) (sound : IsBook book') where
+  module _ {s' : Sheet} {book' : Book} {w' : Work} {inner' : List NewRow} {item : Item} (one : IsOneWritten b₀ start₀ s' book book' (work_of s) w' 0 0 hi items inner' item) where
     abbrev leaf : Span
     leaf = record { first = 0; last = item.last; word = item.word }
 
@@ -270,48 +277,42 @@ module _ (kind : Kind) (s : Sheet) (book : Book) (right : List PathStep) (items 
     leaf_stands : Stands (with_root (now start₀ w') item.word) 0 × (map_of (now start₀ w').table 0 (root_of (with_root (now start₀ w') item.word)) ≡ start₀.map) × (1 ≤ passing (is_row_of (row_in item.word)) w'.taken)
     leaf_stands = first_leaf start₀ (work_of s) w' (spans_from 0 items) leaf one.written cut.fills stand
 
-    leaf_replaces : IsReplacedAs start₀.tree (with_root (now start₀ w') item.word) start₀.map w'.taken w'.gone None (Some 0)
+    leaf_replaces : IsReplaced start₀.tree (with_root (now start₀ w') item.word) start₀.map w'.taken w'.gone None (Some 0)
     leaf_replaces = record {
       stands = leaf_stands.0;
       ranges = leaf_stands.1;
       rows = λ p.
           let taken = one.written.taken p in
           let gone = ap (passing p) one.written.gone in
-          let root = ap (λ (x : Span). tally (p 0) (x ∷ [])) (root_is tree₀ leaf refl leaf_last one.written.gapless.0) in
+          let root = ap (λ (x : Span). tally (p 0) (x ∷ [])) (root_is tree₀ leaf refl leaf_last) in
           omega arith;
       were = λ p. (let gone = ap (passing p) one.written.gone in omega arith);
     }
 
-    pub first_may_end : MayEnd (first_end b₀ start₀ w' book') s' new_inner_rows Root item.word call reply
-    first_may_end = record {
-      range = may.range;
-      in_flight = may.in_flight;
-      unpublished = may.before;
-      numbered = may.numbered;
-      was = before_splice kind s book [] right items number call reply may whole 0;
-      lawful = may.lawful;
+    first_ends : MayPublishEnd b₀ start₀ s' book' inner' Root item.word call reply
+    first_ends = record {
+      work = w';
+      old = None;
+      new = Some 0;
+      case = the_case may whole;
       progress = one.progress;
-      sound = sound;
       few = let one = one_counted w'.taken book.free book'.free one.progress.free one.free in omega arith;
-      answer = may.store.acts;
+      answer = the_answer may whole;
       holds = no_tree;
-      replaced = subst (λ (t : Tree). IsReplacedAs start₀.tree t start₀.map w'.taken w'.gone None (Some 0))
-          (ap (λ (t : Tree). with_root t item.word) (now_is b₀ start₀ s' book' w' (before_splice kind s book [] right items number call reply may whole 0) one.progress)) leaf_replaces;
+      replaced = ends_at_root (the_case may whole).was one.progress None (Some 0) item.word leaf_replaces;
       at = tt;
       top = lt-ltb 0 (passing (is_row_of (row_in item.word)) w'.taken) leaf_stands.2;
-      inner = one.new_inner_rows;
+      inner_rows = one.inner;
     }
 
-  -- the same, of the lists as they are passed
-  pub piece_may_be_written : (items' : List Item) (new_inner_rows : List NewRow) → items' ≡ items → new_inner_rows ≡ [] → MayWriteRow b₀ start₀ s book (work_of s) Leaf 0 0 hi items' new_inner_rows
-  piece_may_be_written items' new_inner_rows is none = subst (λ (l : List Item × List NewRow). MayWriteRow b₀ start₀ s book (work_of s) Leaf 0 0 hi l.0 l.1) (λ i. (sym is i, sym none i)) first_may_be_written
+module _ {b : Before} {start : Start} {s : Sheet} {book : Book} {items : List Item} {call : Call} {reply : Reply} (first : IsFirst b start s book items call reply) (whole : IsWhole s) where
+  pub leaf_may_be_added : {inner : List NewRow} → inner ≡ [] → MayAddRow b start s book Leaf items inner
+  leaf_may_be_added {inner = inner} none = subst (λ (x : Before × Start). MayAddRow x.0 x.1 s book Leaf items inner) (λ i. (sym first.begun.before i, sym first.begun.start i)) (first_added first.may whole none)
 
-  pub piece_may_end : (s' : Sheet) (book' : Book) (item : Item) (items' : List Item) (new_inner_rows new_inner_rows' new_inner_rows″ : List NewRow) → items' ≡ items → new_inner_rows ≡ [] → new_inner_rows″ ≡ new_inner_rows' → IsBook book'
-      → ((b : Before) (start : Start) (w : Work) (height lo hi : ℕ) → MayWriteRow b start s book w Leaf height lo hi items' new_inner_rows → (w' : Work) × IsOneWritten b start s' book book' w w' height lo hi items' new_inner_rows' item)
-      → (w' : Work) × MayEnd (first_end b₀ start₀ w' book') s' new_inner_rows″ Root item.word call reply
-  piece_may_end s' book' item items' new_inner_rows new_inner_rows' new_inner_rows″ is none same sound written =
-      let one = written b₀ start₀ (work_of s) 0 0 hi (piece_may_be_written items' new_inner_rows is none) in (
-        one.0,
-        subst (λ (l : List NewRow). MayEnd (first_end b₀ start₀ one.0 book') s' l Root item.word call reply) (sym same)
-            (first_may_end s' book' one.0 new_inner_rows' item (subst (λ (l : List Item). IsOneWritten b₀ start₀ s' book book' (work_of s) one.0 0 0 hi l new_inner_rows' item) is one.1) sound),
-      )
+  pub leaf_may_be_root : {s' : Sheet} {book' : Book} {inner inner' inner″ : List NewRow} {item : Item} → inner ≡ [] → IsRowAdded b start s s' book book' Leaf items inner inner' item → inner″ ≡ inner'
+      → MayPublishEnd b start s' book' inner″ Root item.word call reply
+  leaf_may_be_root {s' = s'} {book' = book'} {inner = inner} {inner' = inner'} {inner″ = inner″} {item = item} none added same =
+      let here : IsRowAdded (before_of b.kind s book b.number) (start_of b.kind s call) s s' book book' Leaf items [] inner' item =
+      subst (λ (x : Before × Start × List NewRow). IsRowAdded x.0 x.1 s s' book book' Leaf items x.2 inner' item) (λ i. (first.begun.before i, first.begun.start i, none i)) added in
+      let one = here.each (first_written first.may whole) in
+      subst (λ (x : Before × Start × List NewRow). MayPublishEnd x.0 x.1 s' book' x.2 Root item.word call reply) (λ i. (sym first.begun.before i, sym first.begun.start i, sym same i)) (first_ends first.may whole one.1)

@@ -58,7 +58,7 @@ seen_front_not_last seen s row none same = not_both (was_seen (seen ++ s ∷ [])
 
 -- ---- by the list of their numbers
 
-pub seen_listed : (seen : List Seen) (row : ℕ) → was_seen seen row ≡ true → Contains (map row_seen seen) row
+seen_listed : (seen : List Seen) (row : ℕ) → was_seen seen row ≡ true → Contains (map row_seen seen) row
 seen_listed [] row some = let none = ltb-true 0 0 some in absurd (omega arith)
 seen_listed (s ∷ seen) row some =
     ⊎_elim (λ (same : (row_seen s == row) ≡ true). (0, omega arith, eqb-true (row_seen s) row same))

@@ -67,10 +67,6 @@ module _ {b : Before} {start : Start} {s : Sheet} {book : Book} {w : Work} (befo
   cleared_now : s.cleared ≡ b.sheet.cleared
   cleared_now = ap (λ (k : Sheet). k.cleared) progress.rest
 
-  -- the book is of the rows that there are
-  pub rows_booked : book.rows ≡ s.tree.rows
-  rows_booked = progress.rows ∙ (before.kept.booked.rows ∙ sym rows_now)
-
   was_free : (row : ℕ) → Contains book.free row → Contains b.book.free row
   was_free row here = subst (λ (l : List ℕ). Contains l row) (sym progress.free) (Contains-append_left book.free (map row_seen w.taken) row here)
 
@@ -108,7 +104,7 @@ module _ {b : Before} {start : Start} {s : Sheet} {book : Book} {w : Work} (befo
 
   -- rows that were reached
 
-  pub reached_untaken : (row : ℕ) → is_reached b.sheet.tree row ≡ true → is_taken w row ≡ false
+  reached_untaken : (row : ℕ) → is_reached b.sheet.tree row ≡ true → is_taken w row ≡ false
   reached_untaken row reached =
       not_listed w.taken row (λ taken. (before.kept.booked.reached row reached).not_free (subst (λ (l : List ℕ). Contains l row) (sym progress.free) (Contains-append_right book.free (map row_seen w.taken) row taken)))
 
@@ -141,7 +137,7 @@ with_taken b words w seen = record { words = words; used = λ row. is_reached b.
 
 module _ {b : Before} {start : Start} {s s' : Sheet} {book book' : Book} {w : Work} {kind : RowKind} {items : List Item} (seen : Seen) (before : IsBefore b start) (progress : IsProgress b s book w)
     (written : IsRowWritten s s' book book' kind items seen.at.word) where
-  abbrev pub then_taken : Work
+  abbrev then_taken : Work
   then_taken = with_taken b s'.tree.table.words w seen
 
   seen_row : row_seen seen ≡ written.row
@@ -226,13 +222,13 @@ module _ {b : Before} {start : Start} {s : Sheet} {book : Book} {w : Work} (seen
   abbrev row : ℕ
   row = row_seen seen
 
-  abbrev pub sheet_buried : Sheet
+  abbrev sheet_buried : Sheet
   sheet_buried = after_bury s row
 
-  abbrev pub book_retired : Book
+  abbrev book_retired : Book
   book_retired = after_retire book row b.number
 
-  abbrev pub then_gone : Work
+  abbrev then_gone : Work
   then_gone = with_gone sheet_buried.tree.table.words w seen
 
   at_row : (first_row ≤ row) × (row < first_row + s.tree.rows)

@@ -55,10 +55,10 @@ module _ {start : Start} {w : Work} {t : Rooted} (is : IsNow start w t) where
   row_now {row} number = subst (λ (rows : ℕ). (first_row ≤ row) × (row < first_row + rows)) (sym (ap (λ (x : Rooted). x.rows) is.words)) number
 
   module _ (holds : Holds start w) where
-    pub tree_now : (kind : Kind) × IsTreeOf t kind
+    tree_now : (kind : Kind) × IsTreeOf t kind
     tree_now = (start.tree.kind, record { width = is.width; words = subst (λ (x : Rooted). IsTree (tree_as start.tree.kind x)) (sym is.words) (inr (start.height, old_stands start w holds)) })
 
-    pub paths_now : (index : ℕ) → index ≤ top_of start.tree → path_in t.table t.root index ≡ path_in start.tree.table start.tree.root index
+    paths_now : (index : ℕ) → index ≤ top_of start.tree → path_in t.table t.root index ≡ path_in start.tree.table start.tree.root index
     paths_now index within = ap (λ (x : Rooted). path_in x.table x.root index) is.words ∙ path_now start w holds index within
 
 -- ---- a path's row
@@ -99,7 +99,7 @@ module _ (start : Start) (w : Work) (holds : Holds start w) (path : List PathSte
       (λ j. (sym (ap (λ (z : PathStep). z.min) step) j, sym (ap (λ (z : PathStep). z.max) step) j))
       (subst (Fills x.first (x.last + 1)) (sym spans) law.pivots.fills)
 
-  pub fit_here : MayBeIn k (spans_on (now start w).table (kind_at start.tree.kind k) (step_at path d))
+  fit_here : MayBeIn k (spans_on (now start w).table (kind_at start.tree.kind k) (step_at path d))
   fit_here = subst (MayBeIn k) (sym (spans_here start w holds path i within is_path d k high)) (row_fit k (row_is_lawful start w holds path i within is_path d k high))
     where
       row_fit : (k : ℕ) → IsRow start.tree k (row_of start.tree d i) → MayBeIn k (spans_in start.tree.table (row_of start.tree d i))

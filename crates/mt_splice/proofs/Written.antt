@@ -1,5 +1,5 @@
 -- One level of a replacement: the gathered spans are written in rows, and the rows that these replace are buried.
-use Rattle.std.proofs.Common.{◌≡◌, ◌⊎◌, ℕ, zero, suc, ◌+◌, ◌≤◌, ◌==◌, List, [], ◌∷◌, ◌++◌, Bool, true, false, refl, sym, ap, ◌∙◌, subst, inl, inr, ⊎_elim, arith, eq-eqb}
+use Rattle.std.proofs.Common.{◌≡◌, ℕ, zero, suc, ◌+◌, ◌≤◌, ◌==◌, List, [], ◌∷◌, ◌++◌, Bool, true, false, refl, sym, ap, ◌∙◌, subst, inl, inr, ⊎_elim, arith, eq-eqb}
 use Rattle.std.specs.List.{AllByRecursion}
 use Rattle.std.proofs.lemmas.Bool.{cases_Bool, eqb-true}
 use Rattle.mt_layout.specs.declared.spans.Span.{Span}
@@ -28,7 +28,7 @@ use Rattle.mt_splice.proofs.Moments.{row_stays, keeps_more, still_used, still_ha
 -- ---- rows that were taken are new
 
 -- a row that is not in use is no row of the tree
-pub unused_nowhere : (start : Start) (s : Work) (row : ℕ) → Holds start s → s.used row ≡ false → times_in (is_row_of row) start.tree start.height ≡ 0
+unused_nowhere : (start : Start) (s : Work) (row : ℕ) → Holds start s → s.used row ≡ false → times_in (is_row_of row) start.tree start.height ≡ 0
 unused_nowhere start s row holds unused =
     times_none (is_row_of row) start.tree.table start.height (root_of start.tree)
     (levels_map (IsUsed s) (λ (h : ℕ) (x : Span). is_row_of row h x ≡ false) start.tree.table (λ _ x used. other x used) start.height (root_of start.tree) holds.used)
@@ -57,7 +57,7 @@ holds_written start s s' height spans rows holds written =
 -- ---- stretches
 
 -- there is one stretch between two indexes
-pub stretch_once : (t : Tree) (depth lo hi : ℕ) (front old back front' old' back' : List Span) → IsStretch t depth lo hi front old back → IsStretch t depth lo hi front' old' back'
+stretch_once : (t : Tree) (depth lo hi : ℕ) (front old back front' old' back' : List Span) → IsStretch t depth lo hi front old back → IsStretch t depth lo hi front' old' back'
     → (front ≡ front') × (old ≡ old') × (back ≡ back')
 stretch_once t depth lo hi front old back front' old' back' one other =
     let fronts = split_same 0 lo front (old ++ back) front' (old' ++ back') (sym one.parts ∙ other.parts) one.before other.before in

@@ -1,6 +1,6 @@
 -- How a replacement goes on at a level.
 -- Source: the kernel's lib/maple_tree.c, mas_spanning_rebalance, which goes up until one node takes the place of one.
-use Rattle.std.specs.Prelude.{◌≡◌, ◌≢◌, ◌⊎◌, ℕ, ◌<◌, ◌≤◌, List, [], ◌∷◌, map}
+use Rattle.std.specs.Prelude.{◌≡◌, ◌⊎◌, ℕ, ◌<◌, List, [], ◌∷◌, map}
 use Rattle.mt_base.specs.declared.widths.Width.{Width}
 use Rattle.mt_base.specs.Width.{greatest}
 use Rattle.mt_layout.specs.declared.items.Item.{Item}

@@ -25,6 +25,14 @@ pub fn begin_tree<R: Rows, B: Begun>(
 {
     let mut inner = NewRows::new();
     let leaf = write_piece::<R, B>(rows, book, RowKind::Leaf, items, &mut inner);
-    publish_at::<R, B>(rows, book, Place::Root, leaf.word, inner.as_slice(), call, reply);
+    publish_at::<R, B>(
+        rows,
+        book,
+        Place::Root,
+        leaf.word,
+        inner.as_slice(),
+        call,
+        reply,
+    );
     Place::Root
 }

@@ -36,7 +36,9 @@ fn clear_as<R: Rows, B: Begun>(
     walk_on(rows, &mut right, last);
     let inner = NewRows::new();
     let depth = left.len() as u32 - 1;
-    end_empty::<R, B>(rows, book, &inner, &left, &right, depth, number, call, reply);
+    end_empty::<R, B>(
+        rows, book, &inner, &left, &right, depth, number, call, reply,
+    );
 }
 
 /// Empties a tree: publishes 0 at the root word, by one store, and retires every row with the call's number. It takes no

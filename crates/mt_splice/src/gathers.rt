@@ -57,15 +57,7 @@ fn gather<R: Rows>(
     ensures rest { OnlyReads (R.sheet rows.old) (R.sheet rows.new) }
 {
     run.clear();
-    push_items(
-        rows,
-        RowKind::Inner,
-        left.row,
-        left.max,
-        0,
-        left.slot,
-        run,
-    );
+    push_items(rows, RowKind::Inner, left.row, left.max, 0, left.slot, run);
     push_all(run, new);
     if last < right.max {
         push_behind(rows, right, run);
@@ -85,12 +77,7 @@ fn towards_of(left: &PathStep, last: u64, right: &PathStep) -> Towards {
 
 /// Fills a region with what is to stand in the rows of a level: the new rows of the level below, and what stands beside
 /// them.
-pub fn parent_items<R: Rows, B: Begun>(
-    rows: &mut R,
-    region: &mut Region,
-    new: &[Item],
-    depth: u32,
-)
+pub fn parent_items<R: Rows, B: Begun>(rows: &mut R, region: &mut Region, new: &[Item], depth: u32)
     requires { MayGather B.start (R.sheet rows.old).tree region.old.left.items region.old.right.items depth new.now }
     ensures level { IsGathered B.start (R.sheet rows.old).tree region.old.left.items region.old.right.items depth new.now region.new.run.items }
     ensures left { region.new.left ≡ region.old.left }

@@ -1,6 +1,6 @@
 //! What stands in the leaves at the ends of a store, after it.
 
-ghost use Rattle.std.specs.Prelude.{◌≡◌, ◌≢◌, ◌<◌, ◌≤◌, ◌+◌, ◌^◌, [], ◌∷◌, ℕ, fold, drop, length};
+ghost use Rattle.std.specs.Prelude.{◌≡◌, ◌≢◌, ◌<◌, ◌≤◌, ◌+◌, ◌^◌, [], ◌∷◌, fold, drop, length};
 ghost use Rattle.mt_base.specs.declared.kinds.Kind.{Kind};
 ghost use Rattle.mt_base.specs.Width.{greatest};
 ghost use Rattle.mt_layout.specs.declared.names.RowKind.TheVariants.{Leaf};
@@ -84,7 +84,7 @@ fn push_above<R: Rows>(rows: &mut R, leaf: &PathStep, last: u64, run: &mut Run)
 
 /// Where the change stands among the items: the one that was stored is at `at`.
 fn towards_of(at: usize, count: usize) -> Towards {
-    if count <= at + 2 {
+    if count.saturating_sub(at) <= 2 {
         Towards::Last
     } else if at <= 1 {
         Towards::First
@@ -145,13 +145,7 @@ fn push_first(width: Width, first: u64, last: u64, entry: u64, run: &mut Run)
 
 /// Fills a region's run, which is empty, with what is to stand in the leaves from its left path's to its right path's after
 /// a store.
-pub fn fill_leaves<R: Rows>(
-    rows: &mut R,
-    region: &mut Region,
-    first: u64,
-    last: u64,
-    entry: u64,
-)
+pub fn fill_leaves<R: Rows>(rows: &mut R, region: &mut Region, first: u64, last: u64, entry: u64)
     requires ends { (kind : Kind) × AreEnds kind (R.sheet rows.old).tree region.old.left.items region.old.right.items first last }
     requires empty { region.old.run.items ≡ [] }
     ensures run { spans_from (last_step region.old.left.items).min region.new.run.items ≡ edited (region_of (R.sheet rows.old).tree.table region.old.left.items region.old.right.items) first last entry }

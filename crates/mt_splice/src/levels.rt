@@ -17,15 +17,15 @@ use crate::begun::Begun;
 use crate::regions::{Region, step_on};
 use crate::writes::{NewRow, write_row};
 use arrayvec::ArrayVec;
-use mt_base::Width;
+use mt_base::{MOST_TAKEN, Width};
 use mt_free::RowBook;
 use mt_layout::{Item, RowKind, least_items, row_of, slots};
 use mt_leaf::cut_towards;
 use mt_path::{Path, PathStep, walk};
 use mt_rows::Rows;
 
-/// The inner rows that a call has written: 28 rows are the most that a call takes.
-pub type NewRows = ArrayVec<NewRow, 28>;
+/// The inner rows that a call has written.
+pub type NewRows = ArrayVec<NewRow, MOST_TAKEN>;
 
 /// The places at which a region's items are cut into the fewest rows of this kind.
 pub fn ends_of(width: Width, region: &Region, kind: RowKind) -> ArrayVec<u32, 3>

@@ -100,8 +100,24 @@ fn end_at_root<R: Rows, B: Begun>(
     ensures { IsSpliced B.before.kind B.before.sheet (R.sheet rows.new) B.before.book book.new B.before.number call.now reply.now result }
 {
     let new = replace_rows::<R, B>(rows, book, inner, region, ends, depth, kind, number);
-    bury_above::<R, B>(rows, book, inner, &region.left, &region.right, depth, number);
-    publish_at::<R, B>(rows, book, Place::Root, new[0].word, inner.as_slice(), call, reply);
+    bury_above::<R, B>(
+        rows,
+        book,
+        inner,
+        &region.left,
+        &region.right,
+        depth,
+        number,
+    );
+    publish_at::<R, B>(
+        rows,
+        book,
+        Place::Root,
+        new[0].word,
+        inner.as_slice(),
+        call,
+        reply,
+    );
     Place::Root
 }
 
@@ -123,7 +139,15 @@ fn end_above<R: Rows, B: Begun>(
 {
     let new = replace_rows::<R, B>(rows, book, inner, region, ends, depth, kind, number);
     let root = write_piece::<R, B>(rows, book, RowKind::Inner, new.as_slice(), inner);
-    publish_at::<R, B>(rows, book, Place::Root, root.word, inner.as_slice(), call, reply);
+    publish_at::<R, B>(
+        rows,
+        book,
+        Place::Root,
+        root.word,
+        inner.as_slice(),
+        call,
+        reply,
+    );
     Place::Root
 }
 
@@ -149,7 +173,15 @@ fn end_in_slot<R: Rows, B: Begun>(
         row: parent.row,
         col: slots(rows.width(), RowKind::Inner) + parent.slot,
     };
-    publish_at::<R, B>(rows, book, place, new[0].word, inner.as_slice(), call, reply);
+    publish_at::<R, B>(
+        rows,
+        book,
+        place,
+        new[0].word,
+        inner.as_slice(),
+        call,
+        reply,
+    );
     place
 }
 

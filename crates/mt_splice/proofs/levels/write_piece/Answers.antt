@@ -1,5 +1,9 @@
+use Rattle.mt_splice.proofs.Steps.{all_free}
 use Rattle.mt_splice.proofs.LevelRows.{row_added, word_is_named}
 use Rattle.mt_splice.proofs.levels.write_piece.Goals as goal
+
+pub write_row-word-requires-clause-spare : goal.write_row-word-requires-clause-spare
+write_row-word-requires-clause-spare g c = all_free c.requires.row.may.before c.requires.row.may.progress
 
 pub note_row-requires-clause-named : goal.note_row-requires-clause-named
 note_row-requires-clause-named g c = word_is_named c.requires.row.may c.write_row-word.ensures

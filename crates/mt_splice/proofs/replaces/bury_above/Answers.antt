@@ -1,28 +1,14 @@
-use Rattle.std.proofs.Common.{◌≡◌, ◌<◌, ◌≤◌, ◌-◌, ℕ, suc, arith}
-use Rattle.mt_splice.proofs.AboveNothing.{level_may_be_buried, level_is_buried, all_above}
+use Rattle.mt_splice.proofs.AboveNothing.{none_above, next_may_be_buried, next_is_buried, all_above}
 use Rattle.mt_splice.proofs.replaces.bury_above.Goals as goal
 
-one_more : (n : ℕ) → 0 < n → n ≡ suc (n - 1)
-one_more n some = omega (arith, some)
-
-no_more : (n : ℕ) → n ≤ 0 → n ≡ 0
-no_more n none = omega (arith, none)
+pub loop-upper-init : goal.loop-upper-init
+loop-upper-init g c = none_above
 
 pub bury_rows-requires : goal.bury_rows-requires
-bury_rows-requires g c =
-    record {
-      rows = level_may_be_buried (g.R.Rows.sheet c.args.rows.now) (g.R.Rows.sheet c.loop-upper.rows) c.args.book.now c.loop-upper.book c.args.left.now.items c.args.right.now.items c.args.depth c.args.number c.loop-upper.upper (c.loop-upper.upper - 1)
-          c.loop-upper.invariant (one_more c.loop-upper.upper c.loop-upper-test.true) c.requires.levels;
-    }
+bury_rows-requires g c = next_may_be_buried c.loop-upper.invariant c.loop-upper-test.true c.requires
 
 pub loop-upper-preserved : goal.loop-upper-preserved
-loop-upper-preserved g c =
-    level_is_buried (g.R.Rows.sheet c.args.rows.now) (g.R.Rows.sheet c.loop-upper.rows) (g.R.Rows.sheet c.bury_rows.new.rows) c.args.book.now c.loop-upper.book c.bury_rows.new.book c.args.left.now.items c.args.right.now.items c.args.depth c.args.number
-    c.loop-upper.upper (c.loop-upper.upper - 1) c.loop-upper.invariant (one_more c.loop-upper.upper c.loop-upper-test.true) c.bury_rows.ensures.rows
+loop-upper-preserved g c = next_is_buried c.loop-upper.invariant c.loop-upper-test.true c.bury_rows.ensures
 
 pub returns : goal.returns
-returns g c =
-    record {
-      levels = all_above (g.R.Rows.sheet c.args.rows.now) (g.R.Rows.sheet c.loop-upper.rows) c.args.book.now c.loop-upper.book c.args.left.now.items c.args.right.now.items c.args.depth c.args.number c.loop-upper.upper
-          c.loop-upper.invariant (no_more c.loop-upper.upper c.loop-upper-test.false);
-    }
+returns g c = all_above c.loop-upper.invariant c.loop-upper-test.false
