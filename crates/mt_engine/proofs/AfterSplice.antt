@@ -117,7 +117,7 @@ module _ (s s' : Sheet) (book book' : Book) (number : ℕ) (call : Call) (reply 
     kept = λ before. absurd (let is = published_is in cc);
   }
 
-  pub told : done.records ≡ with_record s call reply
+  pub told : done.records ≡ with_record s.told call reply
   told = rw published_is (ap (λ (x : Sheet). x.records) spliced.rest)
 
   pub rest_is : s' ≡ record s { tree = s'.tree; published = s'.published; lives = s'.lives; buried = s'.buried; cleared = s'.cleared; scan = s'.scan; scans = s'.scans; reads = s'.reads; records = s'.records }

@@ -88,7 +88,7 @@ module _ (s s₁ s₂ s' : Sheet) (book book₂ book' : Book) (number : ℕ) (ca
     may = may_finish s₂ s' book₂ book' number call reply place scanned.in_call.state is_number spliced scanned.in_call.in_flight;
     idle = idle_after s₂ s' book₂ book' number call reply place scanned.in_call.state is_number spliced;
     answer = inl (record { acts = acts_by (acted trees.Range (map_by s.tree) call) (map_by s'.tree) reply map_is replies; kept = λ refused. absurd (not_both (is_refusal reply) refused success); room = λ needs. had_room room; took = took_rows need });
-    record_told = told s₂ s' book₂ book' number call reply place scanned.in_call.state is_number spliced ∙ ap (λ (x : Sheet). with_record x call reply) scans;
+    record_told = told s₂ s' book₂ book' number call reply place scanned.in_call.state is_number spliced ∙ ap (λ (x : Sheet). with_record x.told call reply) scans;
     rest = then_changes s s₂ s' (scans_change s s₂ scans) (rest_is s₂ s' book₂ book' number call reply place scanned.in_call.state is_number spliced);
   }
 

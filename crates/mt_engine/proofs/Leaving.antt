@@ -51,7 +51,7 @@ module _ (s : Sheet) (reads : Option ℕ) (scan : Scan) (scans cleared : ℕ) wh
       };
     }
 
-    told : (finished seen call reply).records ≡ with_record s call reply
+    told : (finished seen call reply).records ≡ with_record s.told call reply
     told = rw is.before refl
 
     done : StaysBy s call reply → next ≡ book → IsDone s seen book next call reply

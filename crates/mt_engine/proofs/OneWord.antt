@@ -190,7 +190,7 @@ module _ (s : Sheet) (book : Book) (after : Tree) (lives : List Life) (buried : 
     (width : after.table.width ≡ s.tree.table.width) (lawful : laws.IsLawful (tree_as trees.Range s.tree.rows after)) (acts : acted trees.Range (map_by s.tree) call ≡ (map_by after, reply))
     (no_rows : NeedsRows trees.Range (map_by s.tree) call → ⊥) (success : is_refusal reply ≡ false) where
   abbrev later : Sheet
-  later = record s { tree = after; published = true; lives = lives; buried = buried; records = with_record s call reply }
+  later = record s { tree = after; published = true; lives = lives; buried = buried; told = with_record s.told call reply }
 
   abbrev ended : Sheet
   ended = finished later call reply

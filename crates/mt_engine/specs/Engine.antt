@@ -90,7 +90,7 @@ pub record IsAnswered (s s' : Sheet) (book book' : Book) (call : Call) (reply : 
   pub may : MayFinish trees.Range s' call reply
   pub idle : IsIdle (finished s' call reply) book'
   pub answer : IsDone s s' book book' call reply ⊎ (IsRefused trees.Range s' call reply × (s'.tree ≡ s.tree))
-  pub record_told : (finished s' call reply).records ≡ with_record s call reply
+  pub record_told : (finished s' call reply).records ≡ with_record s.told call reply
   pub rest : s' ≡ record s { tree = s'.tree; published = s'.published; lives = s'.lives; buried = s'.buried; cleared = s'.cleared; scan = s'.scan; scans = s'.scans; reads = s'.reads; records = s'.records }
 
 -- the same by one word in a slot of a leaf, which needs no row: the book stays
@@ -115,7 +115,7 @@ pub record IsApplied (s s' : Sheet) (book book' : Book) (call : Call) (reply : R
   pub idle : IsIdle s' book'
   pub ended : s'.ended ≡ s.ended + 1
   pub answer : IsDone s s' book book' call reply ⊎ (IsShortFor s s' call reply × (s'.tree ≡ s.tree))
-  pub record_told : s'.records ≡ with_record s call reply
+  pub record_told : s'.records ≡ with_record s.told call reply
   pub opened : s'.opened ≡ s.opened
   pub caller : s'.caller ≡ s.caller
   pub rows : s'.tree.rows ≡ s.tree.rows

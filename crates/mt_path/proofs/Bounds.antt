@@ -1,4 +1,4 @@
--- The rows on a path end at the greatest index or below.
+-- The rows on a path end at the greatest index or below. For the proofs of the crates above, too.
 use Rattle.std.proofs.Common.{◌≡◌, ℕ, ◌+◌, ◌^◌, ◌<◌, ◌≤◌, List, length, sym, ap, subst, inl, inr, arith, lit<}
 use Rattle.mt_base.specs.declared.kinds.Kind.{Kind}
 use Rattle.mt_base.specs.declared.widths.Width.{Width}

@@ -8,7 +8,6 @@ use Rattle.mt_layout.specs.declared.names.RowKind.{RowKind}
 use Rattle.mt_layout.specs.declared.names.RowKind.TheVariants.{Leaf}
 use Rattle.mt_layout.specs.declared.spans.Span.{Span}
 use Rattle.mt_layout.specs.Rows.{named_kind}
-use Rattle.mt_layout.specs.Sizes.{slots_of}
 use Rattle.mt_rows.specs.Publish.{IsTreeOf}
 use Rattle.mt_rows.specs.Sheet.{Rooted, Sheet, IsPlace, loaded, ReadsUpTo}
 use Rattle.mt_path.specs.declared.paths.PathStep.{PathStep}
@@ -17,7 +16,8 @@ use Rattle.mt_path.specs.declared.rows.Found.{Found}
 use Rattle.mt_path.specs.Handles.{handle_in}
 use Rattle.mt_path.specs.Paths.{path_in, step_at, no_step, loads_in, loads_on}
 use Rattle.mt_path.specs.Walks.{row_for, found_span, IsFound, IsOnWay, IsAtEnd}
-use Rattle.mt_path.proofs.Loads.{tree_kept, no_reads, one_read, reads_more, reads_up, reads_next, loads_in-push, loads_in-some}
+use Rattle.mt_path.proofs.Kept.{tree_kept}
+use Rattle.mt_path.proofs.Loads.{one_read, reads_more, reads_up, reads_next, loads_in-push, loads_in-some}
 use Rattle.mt_path.proofs.Ways as ways
 
 -- the steps so far are the front of the path, and the row is the next on it
@@ -32,19 +32,6 @@ pub record Descends (s s' : Sheet) (index entered : ℕ) (begun steps : List Pat
 pub record Passes (s s' : Sheet) (index entered : ℕ) (row : Row) : Type 0 where
   pub way : IsOnWay s.tree index entered row
   pub reads : ReadsUpTo (loads_on (take entered (path_in s.tree.table s.tree.root index))) s s'
-
-pub descent_begins : (s : Sheet) (index : ℕ) (steps : List PathStep) (row : Row) → steps ≡ take (length steps) (path_in s.tree.table s.tree.root index) → IsOnWay s.tree index (length steps) row
-    → Descends s s index 0 steps steps row
-descent_begins s index steps row front way = record {
-  front = front;
-  way = way;
-  deep = omega arith;
-  more = omega arith;
-  reads = reads_up 0 (loads_in steps - loads_in steps) s s (omega arith) (no_reads s);
-}
-
-pub passage_begins : (s s' : Sheet) (index : ℕ) (row : Row) → IsOnWay s.tree index 0 row → ReadsUpTo 1 s s' → Passes s s' index 0 row
-passage_begins s s' index row way reads = record { way = way; reads = reads_up 1 (loads_on (take 0 (path_in s.tree.table s.tree.root index))) s s' (omega arith) reads }
 
 -- ---- one row
 
@@ -77,9 +64,6 @@ module _ (s s' : Sheet) (kind : Kind) (tree : IsTreeOf s.tree kind) (index : ℕ
         let number : row.number ≡ found.step.row = sym (ap (λ (p : PathStep). p.row) there.step) in
         let at_row : IsPlace s.tree found.step.row 0 = subst (λ (r : ℕ). IsPlace s.tree r 0) number (ways.place s.tree kind tree index within depth row way) in
         subst (λ (t : Rooted). IsPlace t found.step.row 0) (sym same₁) at_row
-
-    pub slot_used : found.step.slot < slots_of s₁.tree.table.width row.kind
-    slot_used = subst (λ (t : Rooted). found.step.slot < slots_of t.table.width row.kind) (sym same₁) there.used
 
     -- the steps with the row's own
     pub steps_more : (steps : List PathStep) → length steps ≡ depth → steps ≡ take (length steps) (path_in s.tree.table s.tree.root index)

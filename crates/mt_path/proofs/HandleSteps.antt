@@ -1,4 +1,4 @@
--- The slots before and behind an index's in its leaf, and what stands there.
+-- The slots before and behind an index's in its leaf, and what stands there. For the proofs of the crates above, too.
 use Rattle.std.proofs.Common.{◌≡◌, ◌≢◌, ℕ, suc, ◌+◌, ◌-◌, ◌<◌, ◌≤◌, List, Some, true, false, length, refl, sym, ap, ◌∙◌, subst, arith}
 use Rattle.std.specs.Prelude.{◌↔◌, IsNone}
 use Rattle.mt_base.specs.declared.kinds.Kind.{Kind}
@@ -145,9 +145,6 @@ module _ (t : Rooted) (kind : Kind) (tree : IsTreeOf t kind) where
 
       previous_is : previous ≡ record leaf_of_is { slot = leaf_of_is.slot - 1 }
       previous_is = ap (λ (x : PathStep). record x { slot = x.slot - 1 }) leaf_is
-
-      pub step_before : IsStepOfLeaf t previous
-      step_before = subst (IsStepOfLeaf t) (sym previous_is) (before_slot not_first).step_of_leaf
 
       pub handle_before : (first word : ℕ) → first ≡ (here_in t.table previous).first → word ≡ (here_in t.table previous).word
           → record { leaf = previous; span = record { first = first; last = handle.span.first - 1; word = word } } ≡ handle_in t (handle.span.first - 1)

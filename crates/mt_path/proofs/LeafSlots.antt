@@ -1,4 +1,4 @@
--- What stands in the slots of a row, and spans that fill a row's indexes slot by slot.
+-- What stands in the slots of a row, and spans that fill a row's indexes slot by slot. For the proofs of the crates above, too.
 use Rattle.std.proofs.Common.{◌≡◌, ◌≢◌, ℕ, zero, suc, ◌+◌, ◌<◌, ◌≤◌, List, [], ◌∷◌, length, nat_lt, nat_le, true, false, refl, ap, ◌∙◌, subst, inl, inr, arith, lt-ltb, le-ltb}
 use Rattle.std.specs.Prelude.{slice_index, if◌then◌else◌}
 use Rattle.std.proofs.lemmas.Bool.{cases_Bool}

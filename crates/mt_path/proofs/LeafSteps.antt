@@ -1,4 +1,4 @@
--- The leaf of an index: where it stands, what it holds, and what it shares with the leaf of another index.
+-- The leaf of an index: where it stands, what it holds, and what it shares with the leaf of another index. For the proofs of the crates above, too.
 use Rattle.std.proofs.Common.{◌≡◌, ◌≢◌, ℕ, zero, suc, ◌+◌, ◌-◌, ◌^◌, ◌<◌, ◌≤◌, List, Option, Some, Bool, length, nat_lt, true, false, refl, sym, ap, ◌∙◌, subst, arith, lt-ltb, le-ltb}
 use Rattle.std.specs.Prelude.{if◌then◌else◌}
 use Rattle.std.proofs.lemmas.Option.{slice_get_within}
@@ -26,8 +26,9 @@ use Rattle.mt_path.proofs.Places.{at_get, at_within}
 use Rattle.mt_path.proofs.Bounds.{greatest_fits}
 use Rattle.mt_path.proofs.Steps.{rows_agree}
 use Rattle.mt_path.proofs.TreePaths.{rooted, top_row, rows_at, row_of, levels, step, place as place_at, lawful, holds, root_leads}
-use Rattle.mt_path.proofs.LeafSlots.{StandsIn, stands_in, fills_within, fills_first, fills_next}
+use Rattle.mt_path.proofs.LeafSlots.{StandsIn, stands_in, fills_within, fills_next}
 use Rattle.mt_path.proofs.Ways.{some_tree}
+use Rattle.mt_rows.proofs.FewSpans.{row_most}
 
 -- ---- a leaf of a tree
 
@@ -79,7 +80,7 @@ module _ (t : laws.Tree) (h : ℕ) (stands : laws.Stands t h) (index : ℕ) (ins
         first = (Names-named_kind row.word Leaf law.name.named).0.0;
         row = law.name.in_table;
         fills = subst (Fills row.first (row.last + 1)) (sym spans_here) law.pivots.fills;
-        few = subst (λ (l : List Span). length l ≤ slots_of t.table.width Leaf) (sym spans_here) law.count.most;
+        few = subst (λ (l : List Span). length l ≤ slots_of t.table.width Leaf) (sym spans_here) (row_most law.name);
         within = omega arith;
       }
 
@@ -131,7 +132,7 @@ module _ (t : Rooted) (kind : Kind) where
 
   -- ---- one of a leaf's slots
 
-  pub leaf_of_step : (leaf : PathStep) → IsTreeOf t kind → IsStepOfLeaf t leaf → IsLeaf t leaf
+  leaf_of_step : (leaf : PathStep) → IsTreeOf t kind → IsStepOfLeaf t leaf → IsLeaf t leaf
   leaf_of_step leaf tree step =
       let facts = (step_to step.index tree step.some step.within).leaf in
       subst (IsLeaf t) (sym step.leaf) (record { first = facts.first; row = facts.row; fills = facts.fills; few = facts.few; within = facts.within })
@@ -169,11 +170,6 @@ begins_behind t leaf (suc slot) fills few used other =
     let pivot = ends_at_pivot t leaf slot (omega arith) (omega arith) in
     ap (λ (n : ℕ). n + 1) (ap (column t leaf.row) same ∙ pivot) ∙ sym next
 
-begins_at_min : (t : Table) (leaf : PathStep) (slot : ℕ) → Fills leaf.min (leaf.max + 1) (leaf_spans t leaf) → slot < length (leaf_spans t leaf) → slot ≡ 0
-    → leaf.min ≡ (span_at (leaf_spans t leaf) slot).first
-begins_at_min t leaf zero fills used none = sym (fills_first leaf.min (leaf.max + 1) (leaf_spans t leaf) fills used)
-begins_at_min t leaf (suc slot) fills used none = absurd (omega arith)
-
 module _ (t : Rooted) (kind : Kind) (leaf : PathStep) (tree : IsTreeOf t kind) (step : IsStepOfLeaf t leaf) where
   facts : IsLeaf t leaf
   facts = leaf_of_step t kind leaf tree step
@@ -193,9 +189,6 @@ module _ (t : Rooted) (kind : Kind) (leaf : PathStep) (tree : IsTreeOf t kind) (
 
   pub slot_place : IsPlace t leaf.row (slots_of t.table.width Leaf + leaf.slot)
   slot_place = let low = slot_low in let fit = slots_of-columns t.table.width Leaf in place (slots_of t.table.width Leaf + leaf.slot) (omega arith)
-
-  pub first_is_min : leaf.slot ≡ 0 → leaf.min ≡ (here_in t.table leaf).first
-  first_is_min none = begins_at_min t.table leaf leaf.slot facts.fills step.used none
 
   pub first_is_behind : leaf.slot ≢ 0 → word_at t leaf.row leaf.slot + 1 ≡ (here_in t.table leaf).first
   first_is_behind other = begins_behind t.table leaf leaf.slot facts.fills facts.few step.used other

@@ -1,6 +1,7 @@
 pub mod Places
 pub mod Steps
 pub mod TreePaths
+pub mod Kept
 pub mod Loads
 pub mod Searches
 pub mod Ways

@@ -1,57 +1,11 @@
--- What loads leave as it was, and how many they are together.
+-- How many words were loaded. For the proofs of the crates above, too.
 use Rattle.std.proofs.Common.{◌≡◌, ℕ, ◌+◌, ◌<◌, ◌≤◌, List, [], ◌∷◌, ◌++◌, Option, Some, None, length, take, drop, map, sum, refl, sym, ap, ◌∙◌, subst, arith}
 use Rattle.std.specs.Option.{option_map}
 use Rattle.std.proofs.lemmas.List.{map-append, take-append-drop}
 use Rattle.std.proofs.lemmas.List.Sums.{sum_by-append}
-use Rattle.mt_base.specs.declared.kinds.Kind.{Kind}
-use Rattle.mt_base.specs.declared.widths.Width.{Width}
-use Rattle.mt_base.specs.Width.{columns}
-use Rattle.mt_layout.specs.declared.names.RowKind.{RowKind}
-use Rattle.mt_layout.specs.Columns.{pivot_column, slot_column}
-use Rattle.mt_layout.specs.Sizes.{slots_of}
-use Rattle.mt_layout.proofs.RowSizes.{slots_of-columns}
-use Rattle.mt_rows.specs.Sheet.{Rooted, Sheet, IsPlace, word_at, loaded, one_more, OnlyReads, RoseUpTo, ReadsUpTo}
-use Rattle.mt_rows.specs.Publish.{IsTreeOf}
-use Rattle.mt_path.specs.declared.handles.Handle.{Handle}
+use Rattle.mt_rows.specs.Sheet.{Sheet, loaded, one_more, RoseUpTo, ReadsUpTo}
 use Rattle.mt_path.specs.declared.paths.PathStep.{PathStep}
-use Rattle.mt_path.specs.Handles.{IsHandleOf, IsStepOfLeaf}
-use Rattle.mt_path.specs.Paths.{path_in, loads_in}
-
--- ---- what stays
-
-pub same_tree : (s s' : Sheet) → OnlyReads s s' → s'.tree ≡ s.tree
-same_tree s s' only = ap (λ (r : Sheet). r.tree) only
-
-pub tree_kept : (n : ℕ) (s s' : Sheet) → ReadsUpTo n s s' → s'.tree ≡ s.tree
-tree_kept n s s' reads = same_tree s s' reads.rest
-
-pub is_tree_kept : (s s' : Sheet) (kind : Kind) → OnlyReads s s' → IsTreeOf s.tree kind → IsTreeOf s'.tree kind
-is_tree_kept s s' kind only tree = subst (λ (t : Rooted). IsTreeOf t kind) (sym (same_tree s s' only)) tree
-
-pub reads_on : (a b c : Sheet) → OnlyReads a b → OnlyReads b c → OnlyReads a c
-reads_on a b c before behind = behind ∙ ap (λ (s : Sheet). record s { reads = c.reads }) before
-
-pub path_kept : (s s' : Sheet) (steps : List PathStep) (index : ℕ) → OnlyReads s s' → steps ≡ path_in s.tree.table s.tree.root index → steps ≡ path_in s'.tree.table s'.tree.root index
-path_kept s s' steps index only path = path ∙ ap (λ (t : Rooted). path_in t.table t.root index) (sym (same_tree s s' only))
-
-pub handle_kept : (s s' : Sheet) (handle : Handle) → OnlyReads s s' → IsHandleOf s.tree handle → IsHandleOf s'.tree handle
-handle_kept s s' handle only is = subst (λ (t : Rooted). IsHandleOf t handle) (sym (same_tree s s' only)) is
-
-pub step_kept : (s s' : Sheet) (leaf : PathStep) → OnlyReads s s' → IsStepOfLeaf s.tree leaf → IsStepOfLeaf s'.tree leaf
-step_kept s s' leaf only is = subst (λ (t : Rooted). IsStepOfLeaf t leaf) (sym (same_tree s s' only)) is
-
-pub place_at : (t : Rooted) (row col : ℕ) → IsPlace t row 0 → col < columns t.table.width → IsPlace t row col
-place_at t row col place within = record { first = place.first; last = place.last; column = within }
-
-pub place_kept : (n : ℕ) (s s' : Sheet) (row col : ℕ) → ReadsUpTo n s s' → IsPlace s.tree row 0 → col < columns s.tree.table.width → IsPlace s'.tree row col
-place_kept n s s' row col reads place within = subst (λ (t : Rooted). IsPlace t row col) (sym (tree_kept n s s' reads)) (place_at s.tree row col place within)
-
-pub word_kept : (n : ℕ) (s s' : Sheet) (row col word : ℕ) → ReadsUpTo n s s' → word ≡ word_at s'.tree row col → word ≡ word_at s.tree row col
-word_kept n s s' row col word reads is = is ∙ ap (λ (t : Rooted). word_at t row col) (tree_kept n s s' reads)
-
--- a row has columns for its pivots and its slots
-pub columns_hold : (width : Width) (kind : RowKind) (i : ℕ) → i < slots_of width kind → (pivot_column i < columns width) × (slot_column (slots_of width kind) i < columns width)
-columns_hold width kind i within = let fit = slots_of-columns width kind in (omega arith, omega arith)
+use Rattle.mt_path.specs.Paths.{loads_in}
 
 -- ---- counts
 

@@ -1,5 +1,5 @@
 -- A path that goes on to another index from a row which covers both.
-use Rattle.std.proofs.Common.{◌≡◌, ◌≢◌, ◌==◌, ℕ, zero, suc, ◌+◌, ◌-◌, ◌<◌, ◌≤◌, List, [], ◌∷◌, ◌++◌, Some, Bool, true, false, length, take, drop, get_or, refl, sym, ap, ◌∙◌, subst, inl, inr, arith, append-nil, append_assoc, length-append, eq-eqb, ne_eqb}
+use Rattle.std.proofs.Common.{◌≡◌, ◌≢◌, ◌==◌, ℕ, zero, suc, ◌+◌, ◌-◌, ◌<◌, ◌≤◌, List, [], ◌∷◌, ◌++◌, Some, Bool, true, false, length, take, drop, get_or, refl, sym, ap, ◌∙◌, subst, inl, inr, arith, length-append, eq-eqb, ne_eqb}
 use Rattle.std.specs.Prelude.{IsSome, is_some}
 use Rattle.std.specs.List.{AllByRecursion}
 use Rattle.std.proofs.lemmas.Bool.{cases_lt}
@@ -16,7 +16,8 @@ use Rattle.mt_rows.specs.Sheet.{Rooted, Sheet, ReadsUpTo}
 use Rattle.mt_path.specs.declared.paths.PathStep.{PathStep}
 use Rattle.mt_path.specs.Paths.{step_in, path_in, step_at, no_step, loads_in, loads_on, Covers, IsDeepestOver, ReadsBelow}
 use Rattle.mt_path.specs.Walks.{row_as, row_for, IsOnWay}
-use Rattle.mt_path.proofs.Loads.{tree_kept, reads_more, reads_up, loads_in-parts, loads_in-take}
+use Rattle.mt_path.proofs.Kept.{tree_kept}
+use Rattle.mt_path.proofs.Loads.{reads_more, reads_up, loads_in-parts, loads_in-take}
 use Rattle.mt_path.proofs.TreePaths.{rooted, top_row, row_of, step_of, levels, step, lawful, inside_agree}
 use Rattle.mt_path.proofs.Ways.{row_on_top, row_named, some_root, some_tree, root_named, empty_path}
 
@@ -27,26 +28,11 @@ all_at P [] k d each below = absurd (omega arith)
 all_at P (x ∷ xs) zero d each below = each.0
 all_at P (x ∷ xs) (suc k) d each below = all_at P xs k d each.1 (omega arith)
 
--- so many steps were taken off, and no row of theirs covers the index
+-- steps were taken off, and no row of theirs covers the index
 pub record IsPopped (old now : List PathStep) (index : ℕ) : Type 0 where
   pub behind : List PathStep
   pub parts : old ≡ now ++ behind
   pub none : AllByRecursion (λ (p : PathStep). Covers p index → ⊥) behind
-
-pub popped_none : (old : List PathStep) (index : ℕ) → IsPopped old old index
-popped_none old index = record { behind = []; parts = sym (append-nil old); none = tt }
-
-popped_parts : (old now now' : List PathStep) (index : ℕ) (p : PathStep) (popped : IsPopped old now index) → now ≡ now' ++ (p ∷ []) → old ≡ now' ++ (p ∷ popped.behind)
-popped_parts old now now' index p popped pop = popped.parts ∙ (ap (λ (l : List PathStep). l ++ popped.behind) pop ∙ append_assoc now' (p ∷ []) popped.behind)
-
-pub popped_more : (old now now' : List PathStep) (index : ℕ) (p : PathStep) → IsPopped old now index → now ≡ now' ++ (p ∷ []) → (Covers p index → ⊥) → IsPopped old now' index
-popped_more old now now' index p popped pop miss = record { behind = p ∷ popped.behind; parts = popped_parts old now now' index p popped pop; none = (miss, popped.none) }
-
-pub popped_found : (old now now' : List PathStep) (index : ℕ) (p : PathStep) → IsPopped old now index → now ≡ now' ++ (p ∷ []) → Covers p index → IsDeepestOver old now' index p
-popped_found old now now' index p popped pop over = record { behind = popped.behind; parts = popped_parts old now now' index p popped pop; over = over; none_deeper = popped.none }
-
-pub popped_all : (old now : List PathStep) (index : ℕ) → IsPopped old now index → now ≡ [] → AllByRecursion (λ (p : PathStep). Covers p index → ⊥) old
-popped_all old now index popped none = subst (AllByRecursion (λ (p : PathStep). Covers p index → ⊥)) (sym (popped.parts ∙ ap (λ (l : List PathStep). l ++ popped.behind) none)) popped.none
 
 -- no deeper step than the deepest that covers the index does
 no_deeper : (old above : List PathStep) (index : ℕ) (s : PathStep) → IsDeepestOver old above index s → (level : ℕ) → level < length old → Covers (step_at old level) index → level ≤ length above

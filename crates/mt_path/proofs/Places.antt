@@ -1,4 +1,4 @@
--- Where the span that holds an index stands among spans end to end.
+-- Where the span that holds an index stands among spans end to end. For the proofs of the crates above, too.
 use Rattle.std.proofs.Common.{◌≡◌, ℕ, suc, ◌+◌, ◌<◌, ◌≤◌, List, [], ◌∷◌, ◌++◌, Bool, true, false, cond, length, nat_lt, refl, sym, ap, ◌∙◌, subst, ⊎_elim, arith, ◌-◌, append_assoc, Some, lt-ltb, le-ltb}
 use Rattle.std.specs.List.{take_while, slice_get}
 use Rattle.std.proofs.lemmas.List.Sums.{take_while-cons}

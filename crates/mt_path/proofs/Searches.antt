@@ -32,18 +32,6 @@ module _ (slots gaps : ℕ) (w : List ℕ) (base max : ℕ) where
     pub slot : slot_for (all_spans min) index ≡ i + slot_for (spans_behind i first) index
     pub span : (k : ℕ) → span_at (all_spans min) (i + k) ≡ span_at (spans_behind i first) k
 
-  pub passed_none : (min index : ℕ) → Passed min index 0 min
-  passed_none min index =
-      let all : slots ≡ slots - 0 = omega arith in
-      let same = ap (λ (n : ℕ). spans_from min (items_from slots gaps w base max n 0)) all in
-      record {
-        slot = (let here = ap (λ (l : List Span). slot_for l index) same in omega arith);
-        span = λ k. (λ i. span_at (same i) (from k i));
-      }
-    where
-      from : (k : ℕ) → 0 + k ≡ k
-      from k = omega arith
-
   inner_item : (i : ℕ) → i + 1 < slots → IsItem slots gaps w base max i (item_at slots gaps w base i (pivot i))
   inner_item i inner = (refl, (let test : nat_lt (i + 1) slots ≡ true = lt-ltb (i + 1) slots inner in rw test refl))
 

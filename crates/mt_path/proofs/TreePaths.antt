@@ -1,8 +1,8 @@
--- Paths from the root of a tree: how many steps, where each row stands, what two paths share, and the rows beside.
+-- Paths from the root of a tree: how many steps, where each row stands, what two paths share, and the rows beside. For the
+-- proofs of the crates above, too.
 use Rattle.std.proofs.Common.{◌≡◌, ℕ, suc, ◌+◌, ◌-◌, ◌<◌, ◌≤◌, List, [], ◌∷◌, ◌++◌, length, refl, sym, ap, ◌∙◌, subst, arith, append_assoc}
 use Rattle.std.proofs.lemmas.Option.{slice_get_within}
 use Rattle.mt_base.specs.Width.{deepest}
-use Rattle.mt_layout.specs.Rows.{row_in}
 use Rattle.mt_layout.specs.Sizes.{slots_of}
 use Rattle.mt_layout.specs.Columns.{slot_column}
 use Rattle.mt_layout.specs.declared.spans.Span.{Span}
@@ -36,14 +36,6 @@ row_of t d index = row_on t.table d (top_row t) index
 
 abbrev pub step_of : Tree → ℕ → ℕ → PathStep
 step_of t d index = step_at (path_in t.table t.root index) d
-
--- Two paths go through one row of a level, and take the same slots above it.
-pub record Agree (t : Tree) (d i j : ℕ) : Type 0 where
-  pub span : row_of t d i ≡ row_of t d j
-  pub row : (step_of t d i).row ≡ (step_of t d j).row
-  pub min : (step_of t d i).min ≡ (step_of t d j).min
-  pub max : (step_of t d i).max ≡ (step_of t d j).max
-  pub above : (e : ℕ) → e < d → step_of t e i ≡ step_of t e j
 
 module _ (t : Tree) (h : ℕ) (stands : Stands t h) where
   pub root_leads : (index : ℕ) → index ≤ top_of t → Leads t h (top_row t) index
@@ -121,35 +113,6 @@ module _ (t : Tree) (h : ℕ) (stands : Stands t h) where
       let one = inside_agree i k d within low (omega arith) (omega arith) in
       let other = inside_agree j k d within' low (omega arith) (omega arith) in
       sym one.0 ∙ other.0
-
-  -- and take the same slots above it
-  pub same_steps : (i j d e : ℕ) → i ≤ top_of t → j ≤ top_of t → d ≤ h → e < d → (row_of t d i).first ≡ (row_of t d j).first → step_of t e i ≡ step_of t e j
-  same_steps i j d e within within' low above same =
-      let first = place i d within low in let second = place j d within' low in
-      let from = first.from in let to = first.to in let from' = second.from in let to' = second.to in
-      let k = (row_of t d i).first in
-      let one = inside_agree i k d within low (omega arith) (omega arith) in
-      let other = inside_agree j k d within' low (omega arith) (omega arith) in
-      sym (one.1 e above) ∙ other.1 e above
-
-  -- of two indexes whose rows begin at the same index
-  pub same_min : (i j d : ℕ) → i ≤ top_of t → j ≤ top_of t → d ≤ h → (step_of t d i).min ≡ (step_of t d j).min → Agree t d i j
-  same_min i j d within within' low same =
-      let here = step i d within low in let there = step j d within' low in
-      let first = ap (λ (s : PathStep). s.min) here in let second = ap (λ (s : PathStep). s.min) there in
-      let place_i = place i d within low in let place_j = place j d within' low in
-      let from = place_i.from in let to = place_i.to in let from' = place_j.from in let to' = place_j.to in
-      let k = (row_of t d i).first in
-      let one = inside_agree i k d within low (omega arith) (omega arith) in
-      let other = inside_agree j k d within' low (omega arith) (omega arith) in
-      let span = sym one.0 ∙ other.0 in
-      record {
-        span = span;
-        row = ap (λ (s : PathStep). s.row) here ∙ (ap (λ (x : Span). row_in x.word) span ∙ sym (ap (λ (s : PathStep). s.row) there));
-        min = same;
-        max = ap (λ (s : PathStep). s.max) here ∙ (ap (λ (x : Span). x.last) span ∙ sym (ap (λ (s : PathStep). s.max) there));
-        above = λ e above. sym (one.1 e above) ∙ other.1 e above;
-      }
 
   -- ---- the rows beside
 

@@ -1,10 +1,9 @@
--- The rows on the way to an index: the root, the row below each, and the leaf at the end.
+-- The rows on the way to an index: the root, the row below each, and the leaf at the end. For the proofs of the crates above, too.
 use Rattle.std.proofs.Common.{◌≡◌, ◌≢◌, ℕ, zero, suc, ◌+◌, ◌-◌, ◌<◌, ◌≤◌, List, [], Option, Some, None, true, false, length, refl, sym, ap, ◌∙◌, subst, inl, inr, arith}
 use Rattle.std.specs.Prelude.{◌↔◌, IsSome, IsNone, IfSome, is_some}
 use Rattle.std.specs.Option.{option_map}
 use Rattle.mt_base.specs.declared.kinds.Kind.{Kind}
 use Rattle.mt_base.specs.declared.widths.Width.{Width}
-use Rattle.mt_base.specs.declared.widths.Width.TheVariants.{Long}
 use Rattle.mt_base.specs.Width.{greatest, columns, deepest}
 use Rattle.mt_layout.specs.declared.names.RowKind.{RowKind}
 use Rattle.mt_layout.specs.declared.names.RowKind.TheVariants.{Leaf}
@@ -12,6 +11,7 @@ use Rattle.mt_layout.specs.declared.spans.Span.{Span}
 use Rattle.mt_layout.specs.Rows.{row_in, named_kind}
 use Rattle.mt_layout.specs.Sizes.{slots_of}
 use Rattle.mt_layout.proofs.NameLaws.{Names-named_kind}
+use Rattle.mt_layout.proofs.RowSizes.{some_slots_of, slots_of-columns}
 use Rattle.mt_rows.specs.Laws as laws
 use Rattle.mt_rows.specs.Publish.{IsTreeOf, tree_as}
 use Rattle.mt_rows.specs.Sheet.{Rooted, IsPlace}
@@ -116,7 +116,7 @@ begins_if t kind tree (Some row) is = λ index within. begins t kind tree row is
 -- ---- a row on the way
 
 some_columns : (width : Width) → 0 < columns width
-some_columns Long = omega arith
+some_columns width = omega (arith, some_slots_of width Leaf, slots_of-columns width Leaf)
 
 module _ (t : laws.Tree) (h : ℕ) (stands : laws.Stands t h) (index : ℕ) (within : index ≤ laws.top_of t) (depth : ℕ) (row : Row) (way : IsOnWay (rooted t) index depth row) where
   abbrev x : Span

@@ -3,6 +3,7 @@ pub mod Deeper
 pub mod Depth
 pub mod ExactStore
 pub mod FewRows
+pub mod FewSpans
 pub mod Frames
 pub mod Heights
 pub mod Joins

@@ -93,7 +93,7 @@ root_law : laws.IsRow tree 1 root
 root_law = record {
   name = record { named = refl; in_table = omega arith };
   pivots = record { fills = (refl, omega arith, (refl, omega arith, refl)); unused = column_in two_leaves 512 32 (laws.words_in tree.table Gapped root) refl };
-  count = record { least = omega arith; most = omega arith };
+  count = record { least = omega arith };
   entries = tt;
   holes = tt;
 }
@@ -111,7 +111,7 @@ left_law = record {
     fills = (refl, omega arith, (refl, omega arith, (refl, omega arith, (refl, omega arith, (refl, omega arith, (refl, omega arith, refl))))));
     unused = column_in two_leaves 544 32 (laws.words_in tree.table Leaf left_leaf) refl;
   };
-  count = record { least = omega arith; most = omega arith };
+  count = record { least = omega arith };
   entries = (refl, (refl, (refl, (refl, (refl, (refl, tt))))));
   holes = record {
     apart = (not_hole, (not_hole, (not_hole, (not_hole, (not_hole, (not_hole, tt))))));
@@ -127,7 +127,7 @@ right_law = record {
     fills = (refl, omega arith, (refl, omega arith, (refl, omega arith, (refl, omega arith, (refl, omega arith, (refl, omega arith, refl))))));
     unused = column_in two_leaves 576 32 (laws.words_in tree.table Leaf right_leaf) refl;
   };
-  count = record { least = omega arith; most = omega arith };
+  count = record { least = omega arith };
   entries = (refl, (refl, (refl, (refl, (refl, (refl, tt))))));
   holes = record {
     apart = (not_hole, (not_hole, (not_hole, (not_hole, (not_hole, ((λ hole. tt), tt))))));

@@ -24,6 +24,7 @@ use Rattle.mt_rows.specs.Spans.{column, spans_by, spans_in, inner_kind}
 use Rattle.mt_rows.specs.Laws.{Tree, HasWords, IsRow, kind_at, items_in}
 use Rattle.mt_rows.specs.Plain.{names_of}
 use Rattle.mt_rows.proofs.RowLaws.{slot_inside}
+use Rattle.mt_rows.proofs.FewSpans.{row_most}
 
 -- the word of an item is in its slot
 slot_of_words : (all slots gaps parent : ℕ) (items : List Item) → IsLayout all slots gaps → length items ≤ slots → (i : ℕ) → i < slots → slice_index (row_words all slots gaps parent items) (slot_column slots i) ≡ (item_or items i).word
@@ -79,7 +80,7 @@ names_are t h x has row =
     let items = items_in t.table (inner_kind t.kind) x in
     let n = slots_of t.table.width (inner_kind t.kind) - length items in
     let spans : spans_in t.table x ≡ spans_from x.first items = ap (λ (k : Option RowKind). spans_by t.table k x) row.name.named in
-    let fit : length items ≤ slots_of t.table.width (inner_kind t.kind) = omega (arith, row.count.most, ap length spans, length-spans_from x.first items) in
+    let fit : length items ≤ slots_of t.table.width (inner_kind t.kind) = omega (arith, (row_most row.name), ap length spans, length-spans_from x.first items) in
     let read = read_names t.table.width t.kind t.table.words (row_in x.word) (column t.table (row_in x.word) 0) items fit (omega (arith, has, row_inside t.table.width (row_in x.word) t.rows row.name.in_table)) row.pivots.unused in
     (n, read ∙ ap (λ (l : List ℕ). l ++ replicate n 0) (sym (ap (map (λ (y : Span). y.word)) spans ∙ spans-words x.first items)))
 
@@ -100,7 +101,7 @@ slot_read t h slot x y row at =
     let layout = layout_of t.table.width kind in
     let spans : spans_in t.table x ≡ spans_from x.first items = ap (λ (k : Option RowKind). spans_by t.table k x) row.name.named in
     let used_slot = slice_get_within (spans_in t.table x) slot y at in
-    let most = row.count.most in
+    let most = (row_most row.name) in
     let fit : length items ≤ slots = omega (arith, ap length spans, length-spans_from x.first items) in
     span_word x.first items slot y (sym (ap (λ (l : List Span). slice_get l slot) spans) ∙ at)
     ∙ (sym (slot_of_words (columns t.table.width) slots gaps parent items layout fit slot (omega arith)) ∙ sym (row.pivots.unused (slot_column slots slot) (slot_inside t.table.width kind slot (omega arith))))

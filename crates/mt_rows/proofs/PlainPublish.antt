@@ -163,7 +163,7 @@ module _ (p q : State) (s : Sheet) (kind : Kind) (place : Place) (word levels : 
 
   pub published_is : Published s (sheet_of (published p q)) place word call reply
   published_is = record {
-    rest = λ i. record (is i) { published = true; lives = (sheet_of (published p q)).lives; buried = (sheet_of (published p q)).buried; records = with_record (is i) call reply };
+    rest = λ i. record (is i) { published = true; lives = (sheet_of (published p q)).lives; buried = (sheet_of (published p q)).buried; told = with_record (is i).told call reply };
     lives = λ row first within. life_told (published p q) row ∙ lives_after row;
     buried = λ row first within. buried_told (published p q) row ∙ none_buried p.ended (fate_at q.fates.items row) (fate_low row);
   }

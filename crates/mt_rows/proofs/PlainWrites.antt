@@ -142,7 +142,7 @@ module _ (parent a b : ℕ) (apart : a ≡ 0 → b ≢ 0) (entry : b ≢ 0) (fre
     law_16 = record {
       name = record { named = refl; in_table = omega arith };
       pivots = record { fills = (refl, omega arith, (refl, omega arith, (refl, omega arith, refl))); unused = column_in tree_16.table.words 512 32 (laws.words_in tree_16.table Leaf (root_span tree_16.table 4108)) refl };
-      count = record { least = omega arith; most = omega arith };
+      count = record { least = omega arith };
       entries = (free_a, (free_b, (refl, tt)));
       holes = holes tree_16 (root_span tree_16.table 4108) some refl (λ low. omega arith);
     }
@@ -156,7 +156,7 @@ module _ (parent a b : ℕ) (apart : a ≡ 0 → b ≢ 0) (entry : b ≢ 0) (fre
     law_17 = record {
       name = record { named = refl; in_table = omega arith };
       pivots = record { fills = (refl, omega arith, (refl, omega arith, (refl, omega arith, refl))); unused = column_in tree_17.table.words 544 32 (laws.words_in tree_17.table Leaf (root_span tree_17.table 4364)) refl };
-      count = record { least = omega arith; most = omega arith };
+      count = record { least = omega arith };
       entries = (free_a, (free_b, (refl, tt)));
       holes = holes tree_17 (root_span tree_17.table 4364) some refl (λ low. omega arith);
     }
@@ -208,8 +208,8 @@ module _ (s : Sheet) (tree : Rooted) (ended : ℕ) (in_flight published : Bool) 
       let told : Published (known s tree ended in_flight published) s' place word call reply = subst (λ (s : Sheet). Published s s' place word call reply) k.is done in
       record {
         is =
-            let new : s' ≡ record (known s tree' ended in_flight published) { published = true; lives = s'.lives; buried = s'.buried; records = with_record (known s tree ended in_flight published) call reply } =
-            told.rest ∙ (λ i. record (known s (is_tree i) ended in_flight published) { published = true; lives = s'.lives; buried = s'.buried; records = with_record (known s tree ended in_flight published) call reply }) in
+            let new : s' ≡ record (known s tree' ended in_flight published) { published = true; lives = s'.lives; buried = s'.buried; told = with_record (known s tree ended in_flight published).told call reply } =
+            told.rest ∙ (λ i. record (known s (is_tree i) ended in_flight published) { published = true; lives = s'.lives; buried = s'.buried; told = with_record (known s tree ended in_flight published).told call reply }) in
             subst (λ (z : Sheet). z ≡ known z tree' ended in_flight true) (sym new) refl;
         two = two';
         life_16 = told.lives 16 (omega arith) (let two = k.two in omega arith) ∙ (ap (λ (t : Rooted). life_after (known s tree ended in_flight published) t 16) is_tree ∙ is_f);

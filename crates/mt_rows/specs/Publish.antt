@@ -1,7 +1,7 @@
 -- What a publishing store and the end of a call are asked for, and what they leave.
 -- Source: this project's own; the kernel's mas_replace_node publishes a subtree by one store of its parent's slot.
 use Rattle.std.specs.Prelude.{◌≡◌, ◌≢◌, ◌⊎◌, ℕ, ◌+◌, ◌-◌, ◌*◌, ◌^◌, ◌<◌, ◌≤◌, ◌==◌, Bool, true, false, List, [], ◌∷◌, ◌++◌, All, AllPairs, Option, Some, None, IfSome, length, map, nat_lt, if◌then◌else◌}
-use Rattle.std.specs.Option.{option_map, option_and_then}
+use Rattle.std.specs.Option.{option_map}
 use Rattle.mt_base.specs.declared.kinds.Kind.{Kind}
 use Rattle.mt_base.specs.declared.ranges.Range.{Range}
 use Rattle.mt_base.specs.declared.calls.Call.{Call}
@@ -24,7 +24,7 @@ use Rattle.mt_rows.specs.Spans.{spans_in, root_span}
 use Rattle.mt_rows.specs.Levels.{IsBelow, tally}
 use Rattle.mt_rows.specs.Trees.{map_in, reached_in, height_in}
 use Rattle.mt_rows.specs.Laws.{Tree, IsTree, IsLawful}
-use Rattle.mt_rows.specs.Sheet.{Caller, Rooted, Sheet, IsPlace, life_of, is_buried, word_at, with_word, limits_of}
+use Rattle.mt_rows.specs.Sheet.{Told, Rooted, Sheet, IsPlace, life_of, is_buried, word_at, with_word, limits_of}
 
 -- ---- the tree that words are
 
@@ -125,15 +125,15 @@ pub record MayPublish (kind : Kind) (s : Sheet) (place : Place) (word : ℕ) (ca
   pub rows : Changes s (with_published s.tree place word)
 
 -- where records are told, one more: the caller's
-abbrev pub with_record : Sheet → Call → Reply → Option (List Record)
-with_record s call reply = option_and_then (λ (c : Caller). option_map (λ (rs : List Record). rs ++ (record { pass = c.pass; call = call; reply = reply } ∷ [])) s.records) s.caller
+abbrev pub with_record : Option Told → Call → Reply → Option Told
+with_record told call reply = option_map (λ (t : Told). record t { records = t.records ++ (record { pass = t.caller.pass; call = call; reply = reply } ∷ []) }) told
 
 -- The drafts that are reached are live then, and the buried rows are dead by this call.
 abbrev pub life_after : Sheet → Rooted → ℕ → Life
 life_after s t' row = if is_reached t' row then Live else (if is_buried s.buried row then Dead (s.ended + 1) else life_of s.lives row)
 
 pub record Published (s s' : Sheet) (place : Place) (word : ℕ) (call : Call) (reply : Reply) : Type 0 where
-  pub rest : s' ≡ record s { tree = with_published s.tree place word; published = true; lives = s'.lives; buried = s'.buried; records = with_record s call reply }
+  pub rest : s' ≡ record s { tree = with_published s.tree place word; published = true; lives = s'.lives; buried = s'.buried; told = with_record s.told call reply }
   pub lives : (row : ℕ) → first_row ≤ row → row < first_row + s.tree.rows → life_of s'.lives row ≡ life_after s (with_published s.tree place word) row
   pub buried : (row : ℕ) → first_row ≤ row → row < first_row + s.tree.rows → is_buried s'.buried row ≡ false
 
@@ -182,7 +182,7 @@ pub record MayFinish (kind : Kind) (s : Sheet) (call : Call) (reply : Reply) : T
   pub kept : s.published ≡ false → LeavesMap kind s call reply
 
 abbrev pub finished : Sheet → Call → Reply → Sheet
-finished s call reply = record s { ended = s.ended + 1; in_flight = false; published = false; records = if s.published then s.records else with_record s call reply }
+finished s call reply = record s { ended = s.ended + 1; in_flight = false; published = false; told = if s.published then s.told else with_record s.told call reply }
 
 -- ---- plant
 

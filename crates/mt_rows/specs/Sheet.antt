@@ -28,6 +28,11 @@ pub record Caller : Type 0 where
   pub standing : Option ℕ
   pub begun : ℕ
 
+-- who calls, and the records of the tree's history
+pub record Told : Type 0 where
+  pub caller : Caller
+  pub records : List Record
+
 -- how many rows there are, their words, and the root word
 pub record Rooted : Type 0 where
   pub rows : ℕ
@@ -53,11 +58,10 @@ pub record Sheet : Type 0 where
   pub scan : Scan
   pub scans : ℕ
   pub scans_at_begin : ℕ
-  -- where they are told: how many loads, the tree's kind, the history's records, and the caller
+  -- where they are told: how many loads, the tree's kind, and who calls, with the history's records
   pub reads : Option ℕ
   pub kind : Option Kind
-  pub records : Option (List Record)
-  pub caller : Option Caller
+  pub told : Option Told
 
 -- a count of 64 bits after one more, which stands still at its last value
 abbrev pub one_more : ℕ → ℕ
@@ -122,10 +126,10 @@ begun s = record s { in_flight = true; published = false; scans_at_begin = s.sca
 -- What a scan may answer. The least epoch is that of the holder that is told; it is the greatest number where no section
 -- stands open. The holder is one of the table's passes, and not the caller where the caller has no section open. Where
 -- nobody else may read there is none.
-pub record IsScan (shared : Bool) (caller : Option Caller) (answer : Scan) : Type 0 where
+pub record IsScan (shared : Bool) (told : Option Told) (answer : Scan) : Type 0 where
   pub least : ((answer.by ≡ None) × (answer.least ≡ 2 ^ 64 - 1)) ⊎ ((holder : Holder) × (answer.by ≡ Some holder) × (answer.least ≡ holder.epoch))
   pub alone : shared ≡ false → answer.by ≡ None
-  pub pass : (c : Caller) (holder : Holder) → caller ≡ Some c → answer.by ≡ Some holder → (holder.pass < c.passes) × (c.standing ≡ None → holder.pass ≢ c.pass)
+  pub pass : (t : Told) (holder : Holder) → told ≡ Some t → answer.by ≡ Some holder → (holder.pass < t.caller.passes) × (t.caller.standing ≡ None → holder.pass ≢ t.caller.pass)
 
 -- after a scan with this answer; `cleared` may rise
 abbrev pub scanned : Sheet → Scan → ℕ → Sheet

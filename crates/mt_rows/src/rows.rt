@@ -65,7 +65,7 @@ pub trait Rows {
 
     /// Loads every section word, and raises `cleared` by what was found. Where nobody else reads, no section is open.
     fn scan(&mut self) -> Scan
-        ensures answer { IsScan (sheet self.old).shared (sheet self.old).caller result }
+        ensures answer { IsScan (sheet self.old).shared (sheet self.old).told result }
         ensures rest { sheet self.new ≡ scanned (sheet self.old) result (sheet self.new).cleared }
         ensures kept { (sheet self.old).cleared ≤ (sheet self.new).cleared }
         ensures cleared { min result.least (sheet self.old).ended ≤ (sheet self.new).cleared };

@@ -31,6 +31,7 @@ use Rattle.mt_splice.specs.Stretches.{IsStretch}
 use Rattle.mt_splice.specs.Runs.{IsLeafRun}
 use Rattle.mt_splice.proofs.Splits.{split_more}
 use Rattle.mt_splice.proofs.PathRows.{rows_in_order, spans_of_step}
+use Rattle.mt_rows.proofs.FewSpans.{row_most}
 
 -- ---- what holds of each span of leaves
 
@@ -102,7 +103,7 @@ module _ (t : Tree) (h : ℕ) (stands : Stands t h) (first last : ℕ) (order : 
   slots = slots_of t.table.width Leaf
 
   leaf_most : (index : ℕ) → index ≤ top_of t → length (spans_in t.table (row_of t h index)) ≤ slots
-  leaf_most index inside = (leaf_law index inside).count.most
+  leaf_most index inside = (row_most (leaf_law index inside).name)
 
   one_leaf : (entry : ℕ) → left_leaf ≡ right_leaf → Leaves entry (spans_in t.table left_leaf)
   one_leaf entry same = record {

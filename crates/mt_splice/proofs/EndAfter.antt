@@ -94,7 +94,7 @@ module _ (t : Tree) (words : List ℕ) (o : Option ℕ) (range : MayBeReplaced t
 
 -- what has become of the rows and the words when the word is published, and parent words are written
 pub record Outcome (f : Finish) (s' : Sheet) : Type 0 where
-  pub rest : s' ≡ record f.before.sheet { tree = s'.tree; published = true; lives = s'.lives; buried = s'.buried; records = with_record f.before.sheet f.call f.reply; reads = s'.reads }
+  pub rest : s' ≡ record f.before.sheet { tree = s'.tree; published = true; lives = s'.lives; buried = s'.buried; told = with_record f.before.sheet.told f.call f.reply; reads = s'.reads }
   pub stands : StandsAs (tree_as f.before.kind s'.tree) f.may.new
   pub rows : s'.tree.rows ≡ f.before.sheet.tree.rows
   pub width : s'.tree.table.width ≡ f.before.sheet.tree.table.width
@@ -139,22 +139,22 @@ module _ (f : Finish) (s₁ s₂ : Sheet) (done : Published f.sheet s₁ f.place
   before_is : f.sheet ≡ record f.before.sheet { tree = f.sheet.tree; lives = f.sheet.lives; buried = f.sheet.buried; reads = f.sheet.reads }
   before_is = ap (λ (x : Sheet). record x { tree = f.sheet.tree; lives = f.sheet.lives; buried = f.sheet.buried; reads = f.sheet.reads }) (progress f).rest
 
-  published_is : s₁ ≡ record f.before.sheet { tree = s₁.tree; published = true; lives = s₁.lives; buried = s₁.buried; records = with_record f.before.sheet f.call f.reply; reads = s₁.reads }
+  published_is : s₁ ≡ record f.before.sheet { tree = s₁.tree; published = true; lives = s₁.lives; buried = s₁.buried; told = with_record f.before.sheet.told f.call f.reply; reads = s₁.reads }
   published_is =
-      let all = done.rest ∙ ap (λ (x : Sheet). record x { tree = published f; published = true; lives = s₁.lives; buried = s₁.buried; records = with_record x f.call f.reply }) before_is in
+      let all = done.rest ∙ ap (λ (x : Sheet). record x { tree = published f; published = true; lives = s₁.lives; buried = s₁.buried; told = with_record x.told f.call f.reply }) before_is in
       let reads : f.sheet.reads ≡ s₁.reads = sym (ap (λ (x : Sheet). x.reads) done.rest) in
-      all ∙ (λ i. record f.before.sheet { tree = sym tree₁ i; published = true; lives = s₁.lives; buried = s₁.buried; records = with_record f.before.sheet f.call f.reply; reads = reads i })
+      all ∙ (λ i. record f.before.sheet { tree = sym tree₁ i; published = true; lives = s₁.lives; buried = s₁.buried; told = with_record f.before.sheet.told f.call f.reply; reads = reads i })
 
   later_is : s₂ ≡ record s₁ { tree = s₂.tree; reads = s₂.reads }
   later_is = ap (λ (x : Sheet). record x { tree = s₂.tree; reads = s₂.reads }) only.rest
 
-  rest₂ : s₂ ≡ record f.before.sheet { tree = s₂.tree; published = true; lives = s₂.lives; buried = s₂.buried; records = with_record f.before.sheet f.call f.reply; reads = s₂.reads }
+  rest₂ : s₂ ≡ record f.before.sheet { tree = s₂.tree; published = true; lives = s₂.lives; buried = s₂.buried; told = with_record f.before.sheet.told f.call f.reply; reads = s₂.reads }
   rest₂ =
       let lives : s₁.lives ≡ s₂.lives = sym (ap (λ (x : Sheet). x.lives) only.rest) in
       let buried : s₁.buried ≡ s₂.buried = sym (ap (λ (x : Sheet). x.buried) only.rest) in
       later_is
       ∙ (ap (λ (x : Sheet). record x { tree = s₂.tree; reads = s₂.reads }) published_is
-      ∙ (λ i. record f.before.sheet { tree = s₂.tree; published = true; lives = lives i; buried = buried i; records = with_record f.before.sheet f.call f.reply; reads = s₂.reads }))
+      ∙ (λ i. record f.before.sheet { tree = s₂.tree; published = true; lives = lives i; buried = buried i; told = with_record f.before.sheet.told f.call f.reply; reads = s₂.reads }))
 
   word_in : (place : Place) → IsPlaceToPublish f.sheet place → (row col : ℕ) → place ≡ Slot row col → word_at (with_published f.sheet.tree place f.word) row col ≡ f.word
   word_in Root at row col is = absurd (cc)

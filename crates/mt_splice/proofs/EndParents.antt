@@ -46,6 +46,7 @@ use Rattle.mt_splice.proofs.EndWords.{slot_word}
 use Rattle.mt_splice.proofs.EndAfter.{above_in}
 use Rattle.mt_splice.proofs.EndFacts.{life_if_reached, root_counts, root_named}
 use Rattle.mt_splice.proofs.EndPublish as ends
+use Rattle.mt_rows.proofs.FewSpans.{row_most}
 
 -- ---- the end of a replacement
 
@@ -433,7 +434,7 @@ module _ (f : ends.Finish) where
             last = subst (λ (r : ℕ). n.row < first_row + r) (sym rows₁) number.1;
             slots = subst (λ (c : ℕ). c ≤ slots_of s₁.tree.table.width Inner) (sym m.count)
                 (subst (λ (kind : RowKind). length (spans_in later.table m.at) ≤ slots_of s₁.tree.table.width kind) (inner m.low)
-                (subst (λ (t : Table). length (spans_in later.table m.at) ≤ slots_of t.width (laws.kind_at b.kind (suc m.low))) (sym table₁) law.count.most));
+                (subst (λ (t : Table). length (spans_in later.table m.at) ≤ slots_of t.width (laws.kind_at b.kind (suc m.low))) (sym table₁) (row_most law.name)));
             each = λ slot low.
                 (let c = made_child n slot one low in
                 let on = child_on_level n slot c in

@@ -38,6 +38,7 @@ use Rattle.mt_splice.proofs.Moments.{old_stands, old_times, old_map}
 use Rattle.mt_splice.proofs.EndForms.{now_is, has_words}
 use Rattle.mt_splice.proofs.EndTrees.{is_tree, map_is, count_once, reached_count, count_reached, unreached_count, count_unreached, count_number, none_or_some, placed_count, stays}
 use Rattle.mt_splice.proofs.EndHoles.{same_place_spans, at_one, at_on_level, slot_holes}
+use Rattle.mt_rows.proofs.FewSpans.{row_most}
 
 -- ---- the tree as it was, by the words then and now
 
@@ -282,7 +283,7 @@ module _ (f : Finish) where
       let law = reached.on_level_law t h stands (suc place.low) place.at on in
       let here = known (row_in place.at.word) (reached.on_level_reached t h stands (suc place.low) place.at on) in
       let used = slice_get_within (spans_in t.table place.at) place.slot place.child place.here.holds in
-      let most = law.count.most in
+      let most = (row_most law.name) in
       subst (λ (r : ℕ). IsPlaceToPublish s (Slot r col)) place.number (
         record {
           first = here.0;

@@ -99,7 +99,6 @@ module _ (t : Tree) (height lo hi : ℕ) (kind : RowKind) (row : ℕ) (items : L
     count = record {
       least = subst (λ (n : ℕ). least_of t height (record { first = lo; last = n; word = 0 }) ≤ length (spans_in t.table at)) last_is
           (subst (λ (n : ℕ). least_of t height (span_to lo hi) ≤ n) (sym (ap length spans)) run.least);
-      most = subst (λ (k : RowKind). length (spans_in t.table at) ≤ slots_of t.table.width k) is (subst (λ (n : ℕ). n ≤ slots_of t.table.width kind) (sym length_is) new.fit);
     };
     entries = entries height run.fit;
     holes = holes height run.fit run.leaves;

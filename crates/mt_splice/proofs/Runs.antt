@@ -30,6 +30,7 @@ use Rattle.mt_splice.proofs.EditedRegions.{all_edited}
 use Rattle.mt_splice.proofs.PathRows.{rows_in_order}
 use Rattle.mt_splice.proofs.Neighbours.{takes_right, takes_left}
 use Rattle.mt_splice.proofs.Rises.{at_here, step_here, row_is_lawful, spans_here, level_left}
+use Rattle.mt_rows.proofs.FewSpans.{row_most}
 
 -- ---- rows that are not the root
 
@@ -235,7 +236,7 @@ module _ (start : Start) (s : Work) (left right right' : List PathStep) (depth h
   slots_behind = slots_of t.table.width (kind_at t.kind height)
 
   counts : (least_behind ≤ length spans_behind) × (length spans_behind ≤ slots_behind)
-  counts = subst (λ (xs : List Span). (least_behind ≤ length xs) × (length xs ≤ slots_behind)) (sym spans_are) (part_least t height row_behind (late_part t row_behind starts_late) law_behind, law_behind.count.most)
+  counts = subst (λ (xs : List Span). (least_behind ≤ length xs) × (length xs ≤ slots_behind)) (sym spans_are) (part_least t height row_behind (late_part t row_behind starts_late) law_behind, (row_most law_behind.name))
 
   pub cut_with_right : MayBeCut t height (begin_of left depth) (behind_of right' depth) (beside height run spans_behind)
   cut_with_right =
@@ -308,7 +309,7 @@ module _ (start : Start) (s : Work) (left right left' : List PathStep) (depth he
   slots_ahead = slots_of old.table.width (kind_at old.kind height)
 
   counts_ahead : (least_ahead ≤ length spans_ahead) × (length spans_ahead ≤ slots_ahead)
-  counts_ahead = subst (λ (xs : List Span). (least_ahead ≤ length xs) × (length xs ≤ slots_ahead)) (sym ahead_are) (part_least old height row_ahead (early_part old row_ahead ends_early) law_ahead, law_ahead.count.most)
+  counts_ahead = subst (λ (xs : List Span). (least_ahead ≤ length xs) × (length xs ≤ slots_ahead)) (sym ahead_are) (part_least old height row_ahead (early_part old row_ahead ends_early) law_ahead, (row_most law_ahead.name))
 
   pub cut_with_left : MayBeCut old height (begin_of left' depth) (behind_of right depth) (beside height spans_ahead run)
   cut_with_left =
@@ -354,12 +355,12 @@ module _ (start : Start) (s : Work) (left right : List PathStep) (depth height :
   pub left_few : length left_spans ≤ slots_here
   left_few =
       subst (λ (xs : List Span). length xs ≤ slots_here) (sym (spans_here start s climbed.holds left climbed.paths.from left_within climbed.paths.is_left depth here levels))
-      (row_is_lawful start s climbed.holds left climbed.paths.from left_within climbed.paths.is_left depth here levels).count.most
+      (row_most (row_is_lawful start s climbed.holds left climbed.paths.from left_within climbed.paths.is_left depth here levels).name)
 
   right_few : length right_spans ≤ slots_here
   right_few =
       subst (λ (xs : List Span). length xs ≤ slots_here) (sym (spans_here start s climbed.holds right climbed.paths.to climbed.paths.within climbed.paths.is_right depth here levels))
-      (row_is_lawful start s climbed.holds right climbed.paths.to climbed.paths.within climbed.paths.is_right depth here levels).count.most
+      (row_most (row_is_lawful start s climbed.holds right climbed.paths.to climbed.paths.within climbed.paths.is_right depth here levels).name)
 
   left_at : At (row_of start.tree depth climbed.paths.from).first ((row_of start.tree depth climbed.paths.from).last + 1) (spans_in start.tree.table (row_of start.tree depth climbed.paths.from)) climbed.paths.from (row_of start.tree (suc depth) climbed.paths.from)
   left_at = child start.tree start.height climbed.holds.stands climbed.paths.from depth left_within (let low = levels in omega arith)

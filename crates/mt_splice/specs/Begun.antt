@@ -27,8 +27,7 @@ no_sheet = record {
   scans_at_begin = 0;
   reads = None;
   kind = None;
-  records = None;
-  caller = None;
+  told = None;
 }
 
 abbrev pub no_before : Before

@@ -113,7 +113,7 @@ pub record IsBooked (s s' : Sheet) (book book' : Book) (number most : ℕ) : Typ
 -- The tree stands for the map after the call by one store at the place; rows that were not taken keep every other word but
 -- their parent words.
 pub record IsSpliced (kind : Kind) (s s' : Sheet) (book book' : Book) (number : ℕ) (call : Call) (reply : Reply) (place : Place) : Type 0 where
-  pub rest : s' ≡ record s { tree = s'.tree; published = true; lives = s'.lives; buried = s'.buried; records = with_record s call reply; reads = s'.reads }
+  pub rest : s' ≡ record s { tree = s'.tree; published = true; lives = s'.lives; buried = s'.buried; told = with_record s.told call reply; reads = s'.reads }
   pub rows : s'.tree.rows ≡ s.tree.rows
   pub tree : IsTreeOf s'.tree kind
   pub parents : HasParents (tree_as kind s'.tree)

@@ -2,7 +2,8 @@ use Rattle.std.proofs.Common.{◌≡◌, ℕ, ◌+◌, ◌-◌, ◌<◌, ap, ◌
 use Rattle.mt_base.specs.declared.widths.Width.{Width}
 use Rattle.mt_layout.specs.Sizes.{slots_of}
 use Rattle.mt_layout.proofs.RowSizes.{some_slots_of}
-use Rattle.mt_path.proofs.Loads.{reads_next, word_kept}
+use Rattle.mt_path.proofs.Kept.{word_kept}
+use Rattle.mt_path.proofs.Loads.{reads_next}
 use Rattle.mt_path.proofs.Searches.{found_of, found_at_pivot, found_at_last, pass}
 use Rattle.mt_path.proofs.rows.find_slot.Goals as goal
 

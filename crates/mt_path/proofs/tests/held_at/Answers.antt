@@ -4,7 +4,7 @@ use Rattle.mt_base.specs.declared.widths.Width.{Width}
 use Rattle.mt_base.specs.Width.{greatest}
 use Rattle.mt_rows.specs.Memory.{sheet_in}
 use Rattle.mt_path.proofs.HandleSteps.{is_handle}
-use Rattle.mt_path.proofs.Loads.{is_tree_kept, handle_kept}
+use Rattle.mt_path.proofs.Kept.{is_tree_kept, handle_kept}
 use Rattle.mt_path.proofs.tests.held_at.Goals as goal
 
 pub returns-in-Some-clause-tree : goal.returns-in-Some-clause-tree

@@ -1,6 +1,6 @@
 use Rattle.mt_base.specs.declared.kinds.Kind.TheVariants.{Alloc}
 use Rattle.mt_rows.specs.Memory.{sheet_in}
-use Rattle.mt_path.proofs.Loads.{is_tree_kept, path_kept}
+use Rattle.mt_path.proofs.Kept.{is_tree_kept, path_kept}
 use Rattle.mt_path.proofs.tests.on_the_way.Goals as goal
 
 pub returns-clause-tree : goal.returns-clause-tree

@@ -3,7 +3,7 @@ use Rattle.mt_rows.specs.Sheet.{Rooted}
 use Rattle.mt_path.specs.declared.rows.Row.{Row}
 use Rattle.mt_path.specs.Paths.{path_in}
 use Rattle.mt_path.specs.Walks.{IsOnWay}
-use Rattle.mt_path.proofs.Loads.{tree_kept}
+use Rattle.mt_path.proofs.Kept.{tree_kept}
 use Rattle.mt_path.proofs.Onward.{no_rows, named_root, onward_front, onward_way, onward_near}
 use Rattle.mt_path.proofs.walks.walk_on.Goals as goal
 

@@ -27,4 +27,4 @@ returns c =
     let p = c.args.self.now.state in
     let lives = finished_lives p (sheet_in c.args.self.now) c.requires.0 c.args._call.now c.args._reply.now c.args.self.now.plain refl c.requires.1 in
     let buried = finished_buried p (sheet_in c.args.self.now) c.requires.0 c.args._call.now c.args._reply.now c.args.self.now.plain refl c.requires.1 in
-    λ i. record (sheet_of p) { ended = p.ended + 1; in_flight = false; published = false; lives = lives i; buried = buried i; records = either_same p.published (sheet_of p).records i }
+    λ i. record (sheet_of p) { ended = p.ended + 1; in_flight = false; published = false; lives = lives i; buried = buried i; told = either_same p.published (sheet_of p).told i }

@@ -1,0 +1,36 @@
+-- What stays where rows were only read. For the proofs of the crates above, too.
+use Rattle.std.proofs.Common.{◌≡◌, ℕ, List, sym, ap, ◌∙◌, subst}
+use Rattle.mt_base.specs.declared.kinds.Kind.{Kind}
+use Rattle.mt_rows.specs.Sheet.{Rooted, Sheet, IsPlace, word_at, OnlyReads, ReadsUpTo}
+use Rattle.mt_rows.specs.Publish.{IsTreeOf}
+use Rattle.mt_path.specs.declared.handles.Handle.{Handle}
+use Rattle.mt_path.specs.declared.paths.PathStep.{PathStep}
+use Rattle.mt_path.specs.Handles.{IsHandleOf, IsStepOfLeaf}
+use Rattle.mt_path.specs.Paths.{path_in}
+
+pub reads_on : (a b c : Sheet) → OnlyReads a b → OnlyReads b c → OnlyReads a c
+reads_on a b c before behind = behind ∙ ap (λ (s : Sheet). record s { reads = c.reads }) before
+
+pub same_tree : (s s' : Sheet) → OnlyReads s s' → s'.tree ≡ s.tree
+same_tree s s' only = ap (λ (r : Sheet). r.tree) only
+
+pub tree_kept : (n : ℕ) (s s' : Sheet) → ReadsUpTo n s s' → s'.tree ≡ s.tree
+tree_kept n s s' reads = same_tree s s' reads.rest
+
+pub is_tree_kept : (s s' : Sheet) (kind : Kind) → OnlyReads s s' → IsTreeOf s.tree kind → IsTreeOf s'.tree kind
+is_tree_kept s s' kind only tree = subst (λ (t : Rooted). IsTreeOf t kind) (sym (same_tree s s' only)) tree
+
+pub path_kept : (s s' : Sheet) (steps : List PathStep) (index : ℕ) → OnlyReads s s' → steps ≡ path_in s.tree.table s.tree.root index → steps ≡ path_in s'.tree.table s'.tree.root index
+path_kept s s' steps index only path = path ∙ ap (λ (t : Rooted). path_in t.table t.root index) (sym (same_tree s s' only))
+
+pub handle_kept : (s s' : Sheet) (handle : Handle) → OnlyReads s s' → IsHandleOf s.tree handle → IsHandleOf s'.tree handle
+handle_kept s s' handle only is = subst (λ (t : Rooted). IsHandleOf t handle) (sym (same_tree s s' only)) is
+
+pub step_kept : (s s' : Sheet) (leaf : PathStep) → OnlyReads s s' → IsStepOfLeaf s.tree leaf → IsStepOfLeaf s'.tree leaf
+step_kept s s' leaf only is = subst (λ (t : Rooted). IsStepOfLeaf t leaf) (sym (same_tree s s' only)) is
+
+pub place_kept : (s s' : Sheet) (row col : ℕ) → OnlyReads s s' → IsPlace s.tree row col → IsPlace s'.tree row col
+place_kept s s' row col only place = subst (λ (t : Rooted). IsPlace t row col) (sym (same_tree s s' only)) place
+
+pub word_kept : (n : ℕ) (s s' : Sheet) (row col word : ℕ) → ReadsUpTo n s s' → word ≡ word_at s'.tree row col → word ≡ word_at s.tree row col
+word_kept n s s' row col word reads is = is ∙ ap (λ (t : Rooted). word_at t row col) (tree_kept n s s' reads)
