@@ -1,5 +1,5 @@
 -- A row drafted item by item.
-use Rattle.std.proofs.Common.{◌≡◌, ◌≢◌, ◌⊎◌, ℕ, zero, suc, ◌+◌, ◌-◌, ◌*◌, ◌<◌, ◌≤◌, Bool, true, false, List, [], ◌∷◌, length, get_or, refl, sym, ap, ◌∙◌, arith, subst, ⊎_elim, get_or-set_other, get_or-set_same, set, length-set}
+use Rattle.std.proofs.Common.{◌≡◌, ◌≢◌, ℕ, zero, suc, ◌+◌, ◌-◌, ◌*◌, ◌<◌, ◌≤◌, Bool, true, false, List, [], ◌∷◌, length, get_or, refl, sym, ap, ◌∙◌, arith, subst, ⊎_elim, get_or-set_other, get_or-set_same, set, length-set}
 use Rattle.std.specs.Prelude.{nat_lt, slice_index, slice_set, if◌then◌else◌}
 use Rattle.std.proofs.lemmas.Bool.{cases_eq, cases_lt, ltb-true, lt-ltb}
 use Rattle.std.proofs.lemmas.List.{get_or_past}
@@ -18,9 +18,6 @@ use Rattle.mt_rows.specs.Spans.{Table, base_of, column}
 use Rattle.mt_rows.specs.Sheet.{Sheet, Rooted, IsWhole, IsPlace, HasDied, life_of, drafted}
 use Rattle.mt_splice.specs.Work.{with_words}
 use Rattle.mt_splice.specs.Writes.{OnlyDrafts, IsItemPut, IsItemDrafted, used_columns, IsRestDrafted, no_parent, IsRowDrafted}
-
-pub equal_or_not : (a b : ℕ) → (a ≡ b) ⊎ (a ≢ b)
-equal_or_not a b = cases_eq a b
 
 -- ---- one word is written
 

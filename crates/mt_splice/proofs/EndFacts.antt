@@ -2,7 +2,7 @@
 use Rattle.std.proofs.Common.{◌≡◌, ◌≢◌, ℕ, zero, suc, ◌+◌, ◌*◌, ◌<◌, ◌≤◌, List, ◌++◌, Option, Some, None, Bool, true, false, map, refl, sym, ap, ◌∙◌, subst, inl, inr, arith, append_assoc}
 use Rattle.std.specs.Prelude.{if◌then◌else◌}
 use Rattle.std.specs.List.{All, AllPairs, Contains}
-use Rattle.std.proofs.lemmas.Bool.{cases_Bool}
+use Rattle.std.proofs.lemmas.Bool.{cases_Bool, cases_eq}
 use Rattle.std.proofs.lemmas.List.{length-map, map-append}
 use Rattle.std.proofs.lemmas.List.Elements.{All-weaker, All-append, All-contains, Contains-append_left, Contains-append_right, Contains-append_cases}
 use Rattle.mt_base.specs.declared.ranges.Range.{Range}
@@ -31,7 +31,7 @@ use Rattle.mt_splice.specs.Splice.{WasPublishedAt, IsBooked, HasParents, IsSplic
 use Rattle.mt_splice.specs.Kept.{IsSpare, IsBookOf}
 use Rattle.mt_splice.specs.Replaced.{StandsAs, count_in}
 use Rattle.mt_splice.specs.Ends.{IsChildSlot, IsEndPlace, IsTop}
-use Rattle.mt_splice.proofs.Drafts.{equal_or_not, other_row, other_column}
+use Rattle.mt_splice.proofs.Drafts.{other_row, other_column}
 use Rattle.mt_splice.proofs.EndTrees.{is_tree, none_or_some}
 use Rattle.mt_splice.proofs.EndHoles.{name_some, at_on_level, child_on_level}
 use Rattle.mt_splice.proofs.EndLists.{all_ones, map_one, one_contains, apart_ends, seen_some, seen_contains, contains_seen, stamped_rows, rows_stamped}
@@ -393,7 +393,7 @@ module _ (f : ends.Finish) (s' : Sheet) (o : Outcome f s') where
   stored_kept Root at row col within other = refl
   stored_kept (Slot r c) at row col within other =
       let inside = (above_in s (Slot r c) at r c refl).1 in
-      elim (equal_or_not row r) [
+      elim (cases_eq row r) [
         | inr off ↦ other_row s.tree.table.width s.tree.table.words r c f.word row col off inside within
         | inl same ↦
             subst (λ (n : ℕ). column (with_published s.tree (Slot r c) f.word).table n col ≡ column s.tree.table n col) (sym same)

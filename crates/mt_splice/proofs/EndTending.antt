@@ -3,6 +3,7 @@ use Rattle.std.proofs.Common.{◌≡◌, ◌≢◌, ℕ, zero, suc, ◌+◌, ◌
 use Rattle.std.specs.Prelude.{false, slice_index_or, slice_set}
 use Rattle.std.specs.List.{slice_get}
 use Rattle.std.proofs.lemmas.Option.{slice_get_within}
+use Rattle.std.proofs.lemmas.Bool.{cases_eq}
 use Rattle.mt_base.specs.declared.widths.Width.{Width}
 use Rattle.mt_base.specs.Width.{columns}
 use Rattle.mt_layout.specs.declared.names.RowKind.{RowKind}
@@ -21,7 +22,7 @@ use Rattle.mt_splice.specs.declared.writes.NewRow.{NewRow}
 use Rattle.mt_splice.specs.Work.{with_words}
 use Rattle.mt_splice.specs.Writes.{child_word, child_row, IsChild, AreChildren, AreTended}
 use Rattle.mt_splice.specs.Ends.{OnlyParents, MayTendRows, AreRowsTended, MayTendTop, MayTendTopAt, IsTopTended, IsTopTendedAt}
-use Rattle.mt_splice.proofs.Drafts.{equal_or_not, other_row, other_column, same_column}
+use Rattle.mt_splice.proofs.Drafts.{other_row, other_column, same_column}
 use Rattle.mt_splice.proofs.Tending.{own_parent}
 
 -- of the rows the first ones are tended
@@ -128,7 +129,7 @@ module _ (s t t' : Sheet) (kind : RowKind) (new_inner_rows : List NewRow) (i : �
       (λ slot below. ap (λ (r : ℕ). column t'.tree.table r 0) (sym (row_now slot below)) ∙ tended.children slot below) slot below)
       (λ (off : j ≢ i). let before : j < i = omega (arith, off) in
       kept_now (child_row s.tree.table kind m.row slot) (λ other low_other same. may.apart j i m n slot other before at_m at below low_other (sym same))
-      ∙ done.children j m slot before at_m below) (equal_or_not j i)
+      ∙ done.children j m slot before at_m below) (cases_eq j i)
     where
       one_item : {a c : NewRow} → Some a ≡ Some c → a ≡ c
       one_item same = cc
@@ -158,7 +159,7 @@ pub kept_column : (w : Width) (words : List ℕ) (row col word r c : ℕ) → c 
 kept_column w words row col word r c within inside other =
     ⊎_elim (λ (same : r ≡ row). subst (λ (n : ℕ). column (record { width = w; words = slice_set words (columns w * row + col) word }) n c ≡ column (record { width = w; words = words }) n c) (sym same)
     (other_column w words row col word c other))
-    (λ (off : r ≢ row). other_row w words row col word r c off inside within) (equal_or_not r row)
+    (λ (off : r ≢ row). other_row w words row col word r c off inside within) (cases_eq r row)
 
 -- ---- the row that was published in a slot
 

@@ -1,6 +1,7 @@
 -- The parent words of a row's children written one by one.
 use Rattle.std.proofs.Common.{◌≡◌, ◌≢◌, ℕ, ◌+◌, ◌*◌, ◌<◌, List, length, refl, sym, ap, ◌∙◌, subst, inl, ⊎_elim, arith, length-set}
 use Rattle.std.specs.Prelude.{Some, Bool, false, slice_index_or, slice_set}
+use Rattle.std.proofs.lemmas.Bool.{cases_eq}
 use Rattle.mt_rows.specs.declared.rows.Life.{Life}
 use Rattle.mt_rows.specs.declared.rows.Life.TheVariants.{New}
 use Rattle.mt_base.specs.declared.widths.Width.{Width}
@@ -15,7 +16,7 @@ use Rattle.mt_rows.specs.Spans.{Table, base_of, column}
 use Rattle.mt_rows.specs.Sheet.{Rooted, Sheet, IsWhole, MayTend, loaded, tended}
 use Rattle.mt_splice.specs.Work.{with_words}
 use Rattle.mt_splice.specs.Writes.{child_word, child_row, AreChildren, AreTended}
-use Rattle.mt_splice.proofs.Drafts.{equal_or_not, wrote, plain, other_row, other_column, same_column}
+use Rattle.mt_splice.proofs.Drafts.{wrote, plain, other_row, other_column, same_column}
 
 -- of the children the first ones are tended
 pub record AreTendedUpTo (s s' : Sheet) (kind : RowKind) (row count slot : ℕ) : Type 0 where
@@ -46,7 +47,7 @@ own_parent w child row slot within dead = let few = few_columns w slot within in
 parent_wrote : (w : Width) (words : List ℕ) (child word r c : ℕ) → c < columns w → (c ≡ 0 → child ≢ r) → column (wrote w words child 0 word) r c ≡ column (plain w words) r c
 parent_wrote w words child word r c within other =
     ⊎_elim (λ (at : r ≡ child). subst (λ (k : ℕ). column (wrote w words child 0 word) k c ≡ column (plain w words) k c) (sym at) (other_column w words child 0 word c (λ zero. other zero (sym at))))
-    (λ (off : r ≢ child). other_row w words child 0 word r c off (some_columns w) within) (equal_or_not r child)
+    (λ (off : r ≢ child). other_row w words child 0 word r c off (some_columns w) within) (cases_eq r child)
 
 module _ (s t : Sheet) (kind : RowKind) (row count slot : ℕ) (whole : IsWhole s) (are : AreChildren s kind row count) (below : slot < count) (done : AreTendedUpTo s t kind row count slot) where
   abbrev child : ℕ
@@ -68,7 +69,7 @@ module _ (s t : Sheet) (kind : RowKind) (row count slot : ℕ) (whole : IsWhole 
   children_now i low = ⊎_elim (λ (at : i ≡ slot). subst (λ (k : ℕ). column written (child_row s.tree.table kind row k) 0 ≡ parent_at row k) (sym at)
       (same_column t.tree.table.width t.tree.table.words child (first_row + s.tree.rows) 0 (parent_at row slot) (some_columns t.tree.table.width) (are.each slot below).at.last size_now))
       (λ (off : i ≢ slot). kept_now (child_row s.tree.table kind row i) 0 (some_columns s.tree.table.width) (λ _ same. off (sym (are.apart slot i below (omega arith) same)))
-      ∙ done.tended.children i (omega (arith, off))) (equal_or_not i slot)
+      ∙ done.tended.children i (omega (arith, off))) (cases_eq i slot)
 
   others_now : (r c : ℕ) → c < columns s.tree.table.width → (c ≡ 0 → (i : ℕ) → i < slot + 1 → child_row s.tree.table kind row i ≢ r) → column written r c ≡ column s.tree.table r c
   others_now r c within other = kept_now r c within (λ zero. other zero slot (omega arith)) ∙ done.tended.others r c within (λ zero i low. other zero i (omega arith))

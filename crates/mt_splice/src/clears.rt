@@ -8,11 +8,10 @@ ghost use Rattle.mt_splice.specs.Splice.{MayClear, IsSpliced};
 
 use crate::begun::Begun;
 use crate::levels::NewRows;
-use crate::regions::copy_path;
 use crate::replaces::end_empty;
 use mt_base::{Call, Kind, Reply, top};
 use mt_free::RowBook;
-use mt_path::{walk, walk_on};
+use mt_path::{copy_of, walk, walk_on};
 use mt_rows::Rows;
 use std::marker::Brand;
 
@@ -31,7 +30,7 @@ fn clear_as<R: Rows, B: Begun>(
     ensures none_taken { book.new.free ≡ book.old.free }
 {
     let left = walk(rows, 0);
-    let mut right = copy_path(&left);
+    let mut right = copy_of(&left);
     let last = top(rows.width());
     walk_on(rows, &mut right, last);
     let inner = NewRows::new();

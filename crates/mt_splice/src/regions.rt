@@ -18,17 +18,6 @@ pub struct Region {
     pub towards: Towards,
 }
 
-/// The same path once more.
-pub fn copy_path(path: &Path) -> Path
-    ensures { result.items ≡ path.now.items }
-{
-    let mut copy = Path::new();
-    match copy.try_extend_from_slice(path.as_slice()) {
-        Ok(()) => copy,
-        Err(_) => unreachable!(),
-    }
-}
-
 /// Appends items, for which there is room.
 pub fn push_all(run: &mut Run, items: &[Item])
     requires { length run.old.items + length items.now ≤ run_room }

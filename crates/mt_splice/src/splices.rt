@@ -8,13 +8,13 @@ use crate::begins::begin_tree;
 use crate::begun::Begun;
 use crate::leaves::fill_leaves;
 use crate::levels::NewRows;
-use crate::regions::{Region, copy_path, push_all};
+use crate::regions::{Region, push_all};
 use crate::replaces::replace_level;
 use mt_base::{Call, Kind, Reply};
 use mt_free::RowBook;
 use mt_layout::{RowKind, Run};
 use mt_leaf::Towards;
-use mt_path::{Path, walk_on};
+use mt_path::{Path, copy_of, walk_on};
 use mt_rows::{Place, Rows};
 use std::marker::Brand;
 
@@ -97,7 +97,7 @@ pub fn splice<R: Rows>(
     requires { MaySplice kind (R.sheet rows.old) book.old left.now.items right.now.items items.now.items number call.now reply.now }
     ensures { IsSpliced kind (R.sheet rows.old) (R.sheet rows.new) book.old book.new number call.now reply.now result }
 {
-    let mut region = empty_region(copy_path(left), copy_path(right));
+    let mut region = empty_region(copy_of(left), copy_of(right));
     push_all(&mut region.run, items.as_slice());
     splice_region(rows, book, kind, &mut region, number, call, reply)
 }
@@ -119,7 +119,7 @@ pub fn replace_range<R: Rows>(
     requires { MayReplace kind (R.sheet rows.old) book.old left.items first last entry number call.now reply.now }
     ensures { IsSpliced kind (R.sheet rows.old) (R.sheet rows.new) book.old book.new number call.now reply.now result }
 {
-    let mut right = copy_path(&left);
+    let mut right = copy_of(&left);
     walk_on(rows, &mut right, last);
     let mut region = empty_region(left, right);
     fill_leaves(rows, &mut region, first, last, entry);

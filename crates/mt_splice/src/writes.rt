@@ -1,7 +1,6 @@
 //! Rows written anew.
 
 ghost use Rattle.std.specs.Prelude.{◌≡◌, ◌<◌, ◌≤◌, All, true, length, if◌then◌else◌};
-ghost use Rattle.mt_layout.specs.Rows.{IsRowNumber};
 ghost use Rattle.mt_layout.specs.Sizes.{slots_of};
 ghost use Rattle.mt_rows.specs.declared.rows.Life.TheVariants.{Draft};
 ghost use Rattle.mt_rows.specs.Sheet.{IsPlace, IsFree, life_of, drafted};
@@ -65,8 +64,7 @@ fn draft_row<R: Rows>(rows: &mut R, row: u32, kind: RowKind, items: &[Item])
     requires place { IsPlace (R.sheet rows.old).tree row 0 }
     requires free { IsFree (R.sheet rows.old).cleared (life_of (R.sheet rows.old).lives row) }
     requires fit { length items.now ≤ slots_of (R.sheet rows.old).tree.table.width kind }
-    ensures row { IsRowDrafted (R.sheet rows.old) (R.sheet rows.new) row kind items.now }
-    ensures number { IsRowNumber row }
+    ensures { IsRowDrafted (R.sheet rows.old) (R.sheet rows.new) row kind items.now }
 {
     rows.draft(row, 0, NO_PARENT);
     for slot in 0..slots(rows.width(), kind) {

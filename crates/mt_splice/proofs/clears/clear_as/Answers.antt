@@ -9,7 +9,7 @@ pub walk_on-requires-clause-tree : goal.walk_on-requires-clause-tree
 walk_on-requires-clause-tree g c = tree_still c.requires.may c.walk-left.ensures.reads.rest
 
 pub walk_on-requires-clause-path : goal.walk_on-requires-clause-path
-walk_on-requires-clause-path g c = path_still c.requires.may c.walk-left.ensures.reads.rest c.copy_path-right.ensures c.walk-left.ensures.path
+walk_on-requires-clause-path g c = path_still c.requires.may c.walk-left.ensures.reads.rest c.copy_of-right.ensures c.walk-left.ensures.path
 
 pub overflow_sub-depth : goal.overflow_sub-depth
 overflow_sub-depth g c = let levels = left_levels c.requires.may c.walk-left.ensures.path in let same = c.len.ensures.value in omega arith

@@ -6,7 +6,7 @@ pub walk_on-requires-clause-tree : goal.walk_on-requires-clause-tree
 walk_on-requires-clause-tree g c = tree_to_replace c.requires
 
 pub walk_on-requires-clause-path : goal.walk_on-requires-clause-path
-walk_on-requires-clause-path g c = path_to_first c.requires c.copy_path-right.ensures
+walk_on-requires-clause-path g c = path_to_first c.requires c.copy_of-right.ensures
 
 pub walk_on-requires-clause-index : goal.walk_on-requires-clause-index
 walk_on-requires-clause-index g c = c.requires.store.within

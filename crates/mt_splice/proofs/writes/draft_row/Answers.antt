@@ -15,7 +15,7 @@ loop-slot-preserved g c =
     one_more_item (subst (λ (n : ℕ). c.loop-slot.slot < n) end c.loop-slot-test.true) c.loop-slot.invariant
     (subst (λ (x : Item). IsItemDrafted (g.R.Rows.sheet c.loop-slot.rows) (g.R.Rows.sheet c.draft_item.new.rows) c.args.row c.args.kind c.loop-slot.slot x) item c.draft_item.ensures)
 
-pub returns-clause-row : goal.returns-clause-row
-returns-clause-row g c =
+pub returns : goal.returns
+returns g c =
     let end : c.slots-slot-end.result ≡ slots_of (g.R.Rows.sheet c.args.rows.now).tree.table.width c.args.kind = c.slots-slot-end.ensures ∙ ap (λ (w : Width). slots_of w c.args.kind) (c.width.ensures ∙ ap (λ (k : Sheet). k.tree.table.width) c.draft.ensures) in
     row_drafted c.requires.fit (subst (λ (n : ℕ). n ≤ c.loop-slot.slot) end c.loop-slot-test.false) c.loop-slot.invariant c.draft_unused.ensures
