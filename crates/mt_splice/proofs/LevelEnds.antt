@@ -48,6 +48,7 @@ use Rattle.mt_splice.proofs.RootEndings as roots
 use Rattle.mt_splice.proofs.SlotEnding as slots
 use Rattle.mt_splice.proofs.Steps.{width_now}
 use Rattle.mt_splice.proofs.Written.{holds_written, are_taken}
+use Rattle.mt_rows.proofs.FewSpans.{row_most}
 
 -- ---- lists and widths
 
@@ -264,7 +265,7 @@ module _ {b : Before} {start : Start} {s : Sheet} {book : Book} {inner : List Ne
       let row = paths.row_of start.tree depth i in
       let at = paths.child start.tree start.height holds.stands i depth within (omega (arith, levels)) in
       let here = ap (λ (z : PathStep). z.slot) (step_here start w holds left i within is_left depth (suc end.height) levels) in
-      let most = (row_is_lawful start w holds left i within is_left depth (suc end.height) levels).count.most in
+      let most = (row_most (row_is_lawful start w holds left i within is_left depth (suc end.height) levels).name) in
       let parts = ap length at.parts in
       let both = length-append at.front (paths.row_of start.tree (suc depth) i ∷ at.back) in
       let slot = at.slot in
