@@ -117,9 +117,9 @@ pub may_end_empty : {b : Before} {start : Start} {kind : Kind} {s s₁ s₂ : Sh
     → depth + 1 ≡ length left → inner ≡ [] → MayEndEmpty b start s₂ book inner left right depth number call reply
 may_end_empty {b = b} {start = start} {kind = kind} {s = s} {s₁ = s₁} {s₂ = s₂} {book = book} {number = number} {call = call} {reply = reply} {left = left} {right = right} {width = width} {index = index} {depth = depth} {inner = inner}
     begun may whole reads₁ reads₂ is_left is_width is_top is_right deep none =
-        let words = tree_read s s₁ reads₁ in
-        let last : index ≡ greatest s.tree.table.width = is_top ∙ ap greatest (is_width ∙ ap (λ (t : Rooted). t.table.width) words) in
-        let right_now : right ≡ path_in s.tree.table s.tree.root (greatest s.tree.table.width) = is_right ∙ (ap (λ (t : Rooted). path_in t.table t.root index) words ∙ ap (path_in s.tree.table s.tree.root) last) in
-        let high : (start_of kind s call).height ≡ depth = (let levels = left_levels may is_left in omega arith) in
-        subst (λ (x : Before × Start × List NewRow × ℕ). MayEndEmpty x.0 x.1 s₂ book x.2 left right x.3 number call reply) (λ i. (sym begun.before i, sym begun.start i, sym none i, high i))
-        (ends_empty may whole is_left right_now (reads_on s s₁ s₂ reads₁ reads₂))
+    let words = tree_read s s₁ reads₁ in
+    let last : index ≡ greatest s.tree.table.width = is_top ∙ ap greatest (is_width ∙ ap (λ (t : Rooted). t.table.width) words) in
+    let right_now : right ≡ path_in s.tree.table s.tree.root (greatest s.tree.table.width) = is_right ∙ (ap (λ (t : Rooted). path_in t.table t.root index) words ∙ ap (path_in s.tree.table s.tree.root) last) in
+    let high : (start_of kind s call).height ≡ depth = (let levels = left_levels may is_left in omega arith) in
+    subst (λ (x : Before × Start × List NewRow × ℕ). MayEndEmpty x.0 x.1 s₂ book x.2 left right x.3 number call reply) (λ i. (sym begun.before i, sym begun.start i, sym none i, high i))
+    (ends_empty may whole is_left right_now (reads_on s s₁ s₂ reads₁ reads₂))

@@ -7,19 +7,12 @@ use Rattle.std.proofs.Math.ListN.{drop_of_length-le}
 use Rattle.mt_layout.specs.declared.items.Item.{Item}
 use Rattle.mt_layout.specs.declared.names.RowKind.TheVariants.{Inner}
 use Rattle.mt_layout.specs.Columns.{items_from, pivot_column}
+use Rattle.mt_layout.proofs.Reading.{few_items}
 use Rattle.mt_rows.specs.Spans.{Table, base_of}
 use Rattle.mt_layout.specs.Sizes.{slots_of, gaps_of}
 use Rattle.mt_splice.specs.Writes.{items_of_row}
 
 module _ (slots gaps : ℕ) (w : List ℕ) (base max : ℕ) where
-  pub few_items : (left i : ℕ) → length (items_from slots gaps w base max left i) ≤ left
-  few_items zero i = omega arith
-  few_items (suc zero) i = omega arith
-  few_items (suc (suc left)) i = elim (cases_Bool (nat_le max (slice_index w (base + pivot_column i)))) [
-    | inl last ↦ rw last (omega arith)
-    | inr more ↦ let rest = few_items (suc left) (i + 1) in rw more (omega arith)
-  ]
-
   pub drop_from : (k left i : ℕ) → k < length (items_from slots gaps w base max left i) → drop k (items_from slots gaps w base max left i) ≡ items_from slots gaps w base max (left - k) (i + k)
   drop_from zero left i below = let same : i + 0 ≡ i = omega arith in let all : left - 0 ≡ left = omega arith in rw (same, all) refl
   drop_from (suc k) zero i below = absurd (omega arith)
@@ -36,7 +29,7 @@ module _ (slots gaps : ℕ) (w : List ℕ) (base max : ℕ) where
   pub items_behind : (k n : ℕ) → k < length (items_from slots gaps w base max slots 0) → slots ≤ n + k
       → take n (items_from slots gaps w base max (slots - k) k) ≡ drop k (items_from slots gaps w base max slots 0)
   items_behind k n below all =
-      let few = few_items (slots - k) k in
+      let few = few_items slots gaps w base max (slots - k) k in
       let place : k ≡ 0 + k = omega arith in
       take_all n (items_from slots gaps w base max (slots - k) k) (omega arith)
       ∙ (ap (items_from slots gaps w base max (slots - k)) place ∙ sym (drop_from k slots 0 below))

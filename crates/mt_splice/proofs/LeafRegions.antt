@@ -15,6 +15,7 @@ use Rattle.mt_layout.specs.Columns.{RiseFrom, slot_column, gap_at, item_at, item
 use Rattle.mt_layout.specs.Sizes.{first_row, slots_of, gaps_of, run_room}
 use Rattle.mt_layout.specs.Spans.{Fills, spans_from, Apart}
 use Rattle.mt_layout.proofs.NameLaws.{Names-named_kind}
+use Rattle.mt_layout.proofs.Reading.{few_items}
 use Rattle.mt_layout.proofs.RowSizes.{sizes}
 use Rattle.mt_layout.proofs.SpanLists.{after, fills_after, fills_rise, length-spans_from, spans-append}
 use Rattle.mt_leaf.specs.Edits.{spans_below, spans_above, span_stored, stored, joined, edited, starting}
@@ -35,7 +36,7 @@ use Rattle.mt_path.proofs.Steps.{path_of_none}
 use Rattle.mt_path.proofs.TreePaths.{row_of, rows_at, step_of, step, place, lawful, levels, slot_used, rows_fill, right_begins}
 use Rattle.mt_splice.specs.Splice.{region_of}
 use Rattle.mt_splice.specs.Regions.{AreEnds, IsLeafStep, leaf_items}
-use Rattle.mt_splice.proofs.Gathering.{few_items, drop_from}
+use Rattle.mt_splice.proofs.Gathering.{drop_from}
 use Rattle.mt_splice.proofs.LeafItems.{leaf_gaps, spans-prefix, first_of-take, first_reaching, length-items_below, apart_below, whole_below, part_below, item_in}
 use Rattle.mt_splice.proofs.PathRows.{rows_in_order, spans_of_step}
 

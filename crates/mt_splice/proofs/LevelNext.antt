@@ -1,158 +1,244 @@
 -- A level of a replacement: what its steps hand on to each other, and to the next level.
-use Rattle.std.proofs.Common.{◌≡◌, ◌⊎◌, ℕ, zero, suc, ◌+◌, ◌-◌, ◌<◌, ◌≤◌, List, [], ◌∷◌, length, map, refl, sym, ap, ◌∙◌, subst, inl, inr, ⊎_elim, arith}
+use Rattle.std.proofs.Common.{◌≡◌, ◌⊎◌, ℕ, zero, suc, ◌+◌, ◌-◌, ◌*◌, ◌<◌, ◌≤◌, List, [], ◌∷◌, length, map, refl, sym, ap, ◌∙◌, subst, inl, inr, ⊎_elim, arith}
 use Rattle.std.specs.List.{flat_map}
 use Rattle.mt_base.specs.declared.calls.Call.{Call}
 use Rattle.mt_base.specs.declared.replies.Reply.{Reply}
 use Rattle.mt_base.specs.declared.widths.Width.{Width}
-use Rattle.mt_base.specs.Width.{greatest}
+use Rattle.mt_base.specs.Width.{greatest, kind_width}
 use Rattle.mt_layout.specs.declared.items.Item.{Item}
 use Rattle.mt_layout.specs.declared.names.RowKind.{RowKind}
 use Rattle.mt_layout.specs.declared.names.RowKind.TheVariants.{Leaf, Inner}
 use Rattle.mt_layout.specs.declared.spans.Span.{Span}
-use Rattle.mt_layout.specs.Spans.{spans_from, leaf_range}
+use Rattle.mt_layout.specs.Sizes.{slots_of}
+use Rattle.mt_layout.specs.Spans.{spans_from, leaf_range, Apart}
+use Rattle.mt_layout.proofs.RowSizes.{sizes}
+use Rattle.mt_layout.proofs.SpanLists.{length-spans_from, apart_anywhere}
 use Rattle.mt_free.specs.Book.{Book}
 use Rattle.mt_rows.specs.Laws.{Tree, top_of, kind_at, least_of_root}
-use Rattle.mt_rows.specs.Sheet as sheet
-use Rattle.mt_rows.specs.Publish.{AreOfKind}
+use Rattle.mt_rows.specs.Sheet.{Rooted, Sheet, OnlyReads}
 use Rattle.mt_path.specs.declared.paths.PathStep.{PathStep}
-use Rattle.mt_path.specs.Paths.{step_at}
-use Rattle.mt_rows.proofs.SlotWords.{length-spans_from}
+use Rattle.mt_path.specs.Paths.{step_at, path_in}
+use Rattle.mt_path.proofs.TreePaths as paths
 use Rattle.mt_splice.specs.declared.writes.NewRow.{NewRow}
-use Rattle.mt_splice.specs.Work.{Start, Work}
-use Rattle.mt_splice.specs.Climbs.{begin_of, behind_of, Gathered, Climbed}
+use Rattle.mt_splice.specs.Work.{Start, Work, Holds}
+use Rattle.mt_splice.specs.Climbs.{begin_of, behind_of, MayBeIn, Gathered, Climbed}
 use Rattle.mt_splice.specs.Runs.{most_items, MayBeCut}
-use Rattle.mt_splice.specs.Progress.{Before, new_rows_of}
+use Rattle.mt_splice.specs.Progress.{Before, IsBefore, IsProgress, new_rows_of}
 use Rattle.mt_splice.specs.Endings.{words_of}
 use Rattle.mt_splice.specs.TakingIn.{IsNow, MayTakeIn, IsTakenIn}
-use Rattle.mt_splice.specs.Replacing.{IsUnderWay, MayReplaceRows, AreRowsReplaced, MayGoUp, MayReplaceLevel, MayEndEmpty, MayEndLevel, EndsHere, item_words}
+use Rattle.mt_splice.specs.Decisions.{item_words, StandForAll, IsNothing, EndsHere}
+use Rattle.mt_splice.specs.Levels.{IsCutOf}
+use Rattle.mt_splice.specs.Replacing.{IsUnderWay, MayLookBeside, IsTakenBeside, MayReplaceRows, AreRowsReplaced, MayReplaceLevelRows, AreLevelRowsReplaced, MayGoUp, MayGather, IsGathered, MayReplaceLevel, MayEndEmpty, MayEnd, MayEndAtRoot, MayEndAbove, MayEndInSlot}
 use Rattle.mt_splice.proofs.AboveNothing.{ends_with_hole}
+use Rattle.mt_splice.proofs.BetweenCalls.{tree_read}
 use Rattle.mt_splice.proofs.EndForms.{now_is}
-use Rattle.mt_splice.proofs.LevelPaths.{is_tree_now}
+use Rattle.mt_splice.proofs.LevelEnds.{tree_width}
+use Rattle.mt_splice.proofs.RootEndings as roots
 use Rattle.mt_splice.proofs.Runs.{some_gathered, leaves_hold_an_entry, cut_whole}
-use Rattle.mt_splice.proofs.Steps.{rows_now, progress_reads}
-use Rattle.mt_splice.proofs.Widens.{leaf_height, deep_enough}
+use Rattle.mt_splice.proofs.Steps.{progress_reads, width_now}
+use Rattle.mt_splice.proofs.Widens.{leaf_height}
+
+-- ---- rows that were only read, and the tree's words
 
 -- loads change nothing of what is under way
-pub under_read : (b : Before) (start : Start) (s s' : sheet.Sheet) (book : Book) (w : Work) (new_inner_rows : List NewRow) (levels : ℕ) → sheet.OnlyReads s s' → IsUnderWay b start s book w new_inner_rows levels → IsUnderWay b start s' book w new_inner_rows levels
-under_read b start s s' book w new_inner_rows levels reads under = record {
+under_read : {b : Before} {start : Start} {s s' : Sheet} {book : Book} {w : Work} {inner : List NewRow} {levels : ℕ} → OnlyReads s s' → IsUnderWay b start s book w inner levels → IsUnderWay b start s' book w inner levels
+under_read {s = s} {s' = s'} {w = w} reads under = record {
   case = under.case;
-  progress = progress_reads b s s' book w reads under.progress;
+  progress = progress_reads reads under.progress;
   holds = under.holds;
-  inner = under.inner ∙ ap (λ (k : sheet.Sheet). new_rows_of k.tree.table w.taken) (sym reads);
+  inner_rows = under.inner_rows ∙ ap (λ (t : Rooted). new_rows_of t.table w.taken) (sym (tree_read s s' reads));
   room = under.room;
   few = under.few;
 }
 
 -- the rows have the tree's words as they are
-pub rows_are_now : (b : Before) (start : Start) (s : sheet.Sheet) (book : Book) (w : Work) (new_inner_rows : List NewRow) (levels : ℕ) → IsUnderWay b start s book w new_inner_rows levels → IsNow start w s.tree
-rows_are_now b start s book w new_inner_rows levels under = record {
-  rows = rows_now b start s book w under.case.was under.progress ∙ sym (ap (λ (t : Tree). t.rows) under.case.was.tree);
-  words = ap words_of (sym (now_is b start s book w under.case.was under.progress));
-  of_kind = subst (AreOfKind s.kind s.tree.table.width) (sym (ap (λ (t : Tree). t.kind) under.case.was.tree)) (is_tree_now b start s book w under.case.was under.progress under.holds under.case.lawful.of_kind).of_kind;
+words_are_now : {b : Before} {start : Start} {s : Sheet} {book : Book} {w : Work} → IsBefore b start → IsProgress b s book w → IsNow start w s.tree
+words_are_now was progress = record {
+  words = ap words_of (sym (now_is was progress));
+  width = width_now was progress ∙ (was.kept.lawful.width ∙ sym (ap (λ (t : Tree). kind_width t.kind) was.tree));
 }
-
--- the greatest index, by the rows' width
-pub top_by_width : (b : Before) (start : Start) (s : sheet.Sheet) (book : Book) (w : Work) (new_inner_rows : List NewRow) (levels : ℕ) (width : Width) → IsUnderWay b start s book w new_inner_rows levels → width ≡ s.tree.table.width → greatest width ≡ top_of start.tree
-top_by_width b start s book w new_inner_rows levels width under is = ap greatest (is ∙ ap (λ (t : sheet.Tree). t.table.width) (rows_are_now b start s book w new_inner_rows levels under).words)
 
 -- the words of items are those of their spans
 words_by_spans : (lo : ℕ) (items : List Item) → item_words items ≡ map (λ (x : Span). x.word) (spans_from lo items)
 words_by_spans lo [] = refl
 words_by_spans lo (x ∷ items) = ap (λ (words : List ℕ). x.word ∷ words) (words_by_spans (x.last + 1) items)
 
-module _ (b : Before) (start : Start) (s : sheet.Sheet) (book : Book) (w : Work) (new_inner_rows : List NewRow) (kind : RowKind) (left right : List PathStep) (depth height : ℕ) (items : List Item) (number : ℕ) (call : Call) (reply : Reply)
-    (may : MayReplaceLevel b start s book w new_inner_rows kind left right depth height items number call reply) (s₁ : sheet.Sheet) (left₁ right₁ : List PathStep) (items₁ : List Item) (reads : sheet.OnlyReads s s₁)
-    (wide : IsTakenIn start w left₁ right₁ depth height items₁) where
-  abbrev spans : List Span
-  spans = spans_from (begin_of left₁ depth) items₁
+apart_at : (h lo : ℕ) (items : List Item) → h ≡ 0 → MayBeIn h (spans_from lo items) → Apart (spans_from 0 items)
+apart_at zero lo items leaf fit = apart_anywhere lo 0 items fit.0
+apart_at (suc h) lo items leaf fit = absurd (omega arith)
 
-  under : IsUnderWay b start s₁ book w new_inner_rows (suc depth)
-  under = under_read b start s s₁ book w new_inner_rows (suc depth) reads may.under
+several : {n : ℕ} → 1 ≤ n → (n ≡ 1 → ⊥) → 2 ≤ n
+several {n = zero} some not = absurd (omega arith)
+several {n = suc zero} some not = absurd (not refl)
+several {n = suc (suc n)} some not = omega arith
 
-  from_within : wide.gathered.paths.from ≤ top_of start.tree
-  from_within = let order = wide.gathered.paths.order in let within = wide.gathered.paths.within in omega arith
+deep : {n : ℕ} → (n ≡ 0 → ⊥) → n ≡ suc (n - 1)
+deep {n = zero} some = absurd (some refl)
+deep {n = suc n} some = omega arith
 
-  pub left_is_deep : depth < length left₁
-  left_is_deep = deep_enough start w wide.gathered.holds left₁ wide.gathered.paths.from from_within wide.gathered.paths.is_left depth height wide.gathered.levels
+-- ---- what is to stand in the rows
 
-  pub right_is_deep : depth < length right₁
-  right_is_deep = deep_enough start w wide.gathered.holds right₁ wide.gathered.paths.to wide.gathered.paths.within wide.gathered.paths.is_right depth height wide.gathered.levels
+module _ {b : Before} {start : Start} {s : Sheet} {book : Book} {inner : List NewRow} {kind : RowKind} {left right : List PathStep} {depth : ℕ} {items : List Item} {number : ℕ} {call : Call} {reply : Reply}
+    (may : MayReplaceLevel b start s book inner kind left right depth items number call reply) where
+  pub beside_asked : MayLookBeside start s.tree kind left right depth items
+  beside_asked = record { work = may.work; height = may.height; may = may.may }
 
-  module _ (width : Width) (is_width : width ≡ s₁.tree.table.width) where
-    top_is : greatest width ≡ top_of start.tree
-    top_is = top_by_width b start s₁ book w new_inner_rows (suc depth) width under is_width
+  module _ {s₁ : Sheet} {left₁ right₁ : List PathStep} {items₁ : List Item} {width : Width} (taken : IsTakenBeside start s.tree kind left right depth items left₁ right₁ items₁) (reads : OnlyReads s s₁) (is_width : width ≡ s₁.tree.table.width) where
+    abbrev wide : IsTakenIn start may.work left₁ right₁ depth may.height items₁
+    wide = taken.each may.may
 
-    -- nothing is left
-    pub ends_with_none : kind ≡ Leaf → begin_of left₁ depth ≡ 0 → (step_at right₁ depth).max ≡ greatest width → item_words items₁ ≡ 0 ∷ [] → MayEndEmpty b start s₁ book w new_inner_rows left₁ right₁ depth number call reply
-    ends_with_none leaf first last hole =
-        ends_with_hole b start s₁ book w new_inner_rows left₁ right₁ depth height items₁ number call reply under wide.gathered (leaf_height start.tree.kind height (sym may.may.of_kind ∙ leaf)) first
-        (ap (λ (n : ℕ). n + 1) (last ∙ top_is)) hole may.in_call may.answer
+    abbrev spans : List Span
+    spans = spans_from (begin_of left₁ depth) items₁
 
-    -- something is left
-    module _ (not : kind ≡ Leaf → begin_of left₁ depth ≡ 0 → (step_at right₁ depth).max ≡ greatest width → item_words items₁ ≡ 0 ∷ [] → ⊥) where
-      enough : begin_of left₁ depth ≡ 0 → (step_at right₁ depth).max ≡ top_of start.tree → (n : ℕ) → height ≡ n → least_of_root n ≤ length spans
-      enough first last zero is = some_gathered start w left₁ right₁ depth height spans wide.gathered
-      enough first last (suc h) is = let two = wide.two h is first last in let same = length-spans_from (begin_of left₁ depth) items₁ in omega arith
+    under : IsUnderWay b start s₁ book may.work inner (suc depth)
+    under = under_read reads may.under
 
-      some_entry : begin_of left₁ depth ≡ 0 → (step_at right₁ depth).max ≡ top_of start.tree → height ≡ 0 → flat_map leaf_range spans ≡ [] → ⊥
+    same_width : width ≡ start.tree.table.width
+    same_width = is_width ∙ tree_width under.case.was under.progress
+
+    same_slots : slots_of width kind ≡ slots_of start.tree.table.width (kind_at start.tree.kind may.height)
+    same_slots = λ i. slots_of (same_width i) (may.may.of_kind i)
+
+    from_within : wide.gathered.paths.from ≤ top_of start.tree
+    from_within = let order = wide.gathered.paths.order in let within = wide.gathered.paths.within in omega arith
+
+    leaf_is : kind ≡ Leaf → may.height ≡ 0
+    leaf_is leaf = leaf_height start.tree.kind may.height (sym may.may.of_kind ∙ leaf)
+
+    pub left_is_deep : depth < length left₁
+    left_is_deep =
+        let long = ap length wide.gathered.paths.is_left ∙ paths.levels start.tree start.height wide.gathered.holds.stands wide.gathered.paths.from from_within in
+        let deep = wide.gathered.levels in
+        omega arith
+
+    pub right_is_deep : depth < length right₁
+    right_is_deep =
+        let long = ap length wide.gathered.paths.is_right ∙ paths.levels start.tree start.height wide.gathered.holds.stands wide.gathered.paths.to wide.gathered.paths.within in
+        let deep = wide.gathered.levels in
+        omega arith
+
+    some_spans : 1 ≤ length spans
+    some_spans = some_gathered start may.work left₁ right₁ depth may.height spans wide.gathered
+
+    pub some_items : 1 ≤ length items₁
+    some_items = let some = some_spans in let same = length-spans_from (begin_of left₁ depth) items₁ in omega arith
+
+    pub few_items : length items₁ + 3 ≤ 3 * slots_of width kind
+    few_items =
+        let size = sizes start.tree.table.width (kind_at start.tree.kind may.height) in
+        let slots = same_slots in
+        let same = length-spans_from (begin_of left₁ depth) items₁ in
+        ⊎_elim (λ (cut : MayBeCut start.tree may.height (begin_of left₁ depth) (behind_of right₁ depth) spans). let few = cut.few in omega (arith, size.least, size.some))
+        (λ (whole : (begin_of left₁ depth ≡ 0) × ((step_at right₁ depth).max ≡ top_of start.tree) × (length items₁ ≤ most_items start.tree.table.width (kind_at start.tree.kind may.height))).
+        let few = whole.2 in omega (arith, size.least, size.some)) wide.cut
+
+    pub apart_items : kind ≡ Leaf → Apart (spans_from 0 items₁)
+    apart_items leaf = apart_at may.height (begin_of left₁ depth) items₁ (leaf_is leaf) wide.gathered.fit
+
+    -- ---- nothing is left
+
+    pub none_is_left : IsNothing width left₁ right₁ depth kind items₁ → MayEndEmpty b start s₁ book inner left₁ right₁ depth number call reply
+    none_is_left nothing =
+        ends_with_hole items₁ call reply under wide.gathered (leaf_is nothing.leaf) nothing.all.first (ap (λ (n : ℕ). n + 1) (nothing.all.last ∙ ap greatest same_width)) nothing.hole may.in_call may.answer
+
+    -- ---- something is left
+
+    module _ (not : IsNothing width left₁ right₁ depth kind items₁ → ⊥) where
+      enough : (n : ℕ) → may.height ≡ n → begin_of left₁ depth ≡ 0 → (step_at right₁ depth).max ≡ top_of start.tree → least_of_root n ≤ length spans
+      enough zero is first last = some_spans
+      enough (suc h) is first last = let two = wide.two h is first last in let same = length-spans_from (begin_of left₁ depth) items₁ in omega arith
+
+      some_entry : begin_of left₁ depth ≡ 0 → (step_at right₁ depth).max ≡ top_of start.tree → may.height ≡ 0 → flat_map leaf_range spans ≡ [] → ⊥
       some_entry first last leaf =
-          leaves_hold_an_entry start w left₁ right₁ depth spans (subst (λ (n : ℕ). Gathered start w left₁ right₁ depth n spans) leaf wide.gathered)
-          (λ x one hole. not (may.may.of_kind ∙ ap (kind_at start.tree.kind) leaf) first (last ∙ sym top_is)
-          (words_by_spans (begin_of left₁ depth) items₁ ∙ (ap (map (λ (x : Span). x.word)) one ∙ ap (λ (word : ℕ). word ∷ []) hole)))
+          leaves_hold_an_entry start may.work left₁ right₁ depth spans (subst (λ (n : ℕ). Gathered start may.work left₁ right₁ depth n spans) leaf wide.gathered)
+          (λ x one hole. not (record {
+            leaf = may.may.of_kind ∙ ap (kind_at start.tree.kind) leaf;
+            all = record { first = first; last = last ∙ sym (ap greatest same_width) };
+            hole = words_by_spans (begin_of left₁ depth) items₁ ∙ (ap (map (λ (x : Span). x.word)) one ∙ ap (λ (word : ℕ). word ∷ []) hole);
+          }))
 
-      cut : MayBeCut start.tree height (begin_of left₁ depth) (behind_of right₁ depth) spans
-      cut =
-          ⊎_elim (λ (cut : MayBeCut start.tree height (begin_of left₁ depth) (behind_of right₁ depth) spans). cut)
-          (λ (whole : (begin_of left₁ depth ≡ 0) × ((step_at right₁ depth).max ≡ top_of start.tree) × (length items₁ ≤ most_items start.tree.table.width (kind_at start.tree.kind height))).
-          let few : length spans ≤ most_items start.tree.table.width (kind_at start.tree.kind height) = (let few = whole.2 in let same = length-spans_from (begin_of left₁ depth) items₁ in omega arith) in
-          cut_whole start w left₁ right₁ depth height spans wide.gathered few whole.0 whole.1 (enough whole.0 whole.1 height refl) (some_entry whole.0 whole.1)) wide.cut
+      run : MayBeCut start.tree may.height (begin_of left₁ depth) (behind_of right₁ depth) spans
+      run =
+          ⊎_elim (λ (cut : MayBeCut start.tree may.height (begin_of left₁ depth) (behind_of right₁ depth) spans). cut)
+          (λ (whole : (begin_of left₁ depth ≡ 0) × ((step_at right₁ depth).max ≡ top_of start.tree) × (length items₁ ≤ most_items start.tree.table.width (kind_at start.tree.kind may.height))).
+          cut_whole start may.work left₁ right₁ depth may.height spans wide.gathered (let few = whole.2 in let same = length-spans_from (begin_of left₁ depth) items₁ in omega arith) whole.0 whole.1 (enough may.height refl whole.0 whole.1) (some_entry whole.0 whole.1)) wide.cut
 
-      pub rows_may_be_replaced : MayReplaceRows b start s₁ book w new_inner_rows kind left₁ right₁ depth height items₁ number
-      rows_may_be_replaced = record { under = under; of_kind = may.may.of_kind; gathered = wide.gathered; cut = cut; in_call = may.in_call }
+      module _ {cut ends : List ℕ} (is_cut : IsCutOf width kind items₁ cut) (few : length cut ≤ 3) (same_ends : ends ≡ cut) where
+        replaces : MayReplaceRows b start s₁ book may.work inner kind left₁ right₁ depth may.height items₁ ends number
+        replaces = record {
+          under = under;
+          of_kind = may.may.of_kind;
+          gathered = wide.gathered;
+          run = run;
+          cut = subst (λ (x : Width × List ℕ). IsCutOf x.0 kind items₁ x.1) (λ i. (is_width i, sym same_ends i)) is_cut;
+          few = let same = ap length same_ends in omega arith;
+          in_call = may.in_call;
+        }
 
-  module _ (s₂ : sheet.Sheet) (book₂ : Book) (w₂ : Work) (made₂ : List NewRow) (new : List Item) (width : Width) (done : AreRowsReplaced b start s₂ book₂ w₂ made₂ left₁ right₁ depth height new) (is_width : width ≡ s₂.tree.table.width) where
-    top₂ : greatest width ≡ top_of start.tree
-    top₂ = top_by_width b start s₂ book₂ w₂ made₂ depth width done.under is_width
+        pub rows_may_be_replaced : MayReplaceLevelRows b start s₁ book inner kind left₁ right₁ depth items₁ ends number
+        rows_may_be_replaced = record { work = may.work; height = may.height; may = replaces }
 
-    -- the replacement ends here
-    pub may_end_here : (depth ≡ 0) ⊎ ((length new ≡ 1) × ((begin_of left₁ depth ≡ begin_of right₁ depth) ⊎ ((begin_of left₁ depth ≡ 0) × ((step_at right₁ depth).max ≡ greatest width))))
-        → MayEndLevel b start s₂ book₂ w₂ made₂ left₁ right₁ depth height new number call reply
-    may_end_here here = record {
-      rows = done;
-      here = subst (λ (top : ℕ). (depth ≡ 0) ⊎ ((length new ≡ 1) × ((begin_of left₁ depth ≡ begin_of right₁ depth) ⊎ ((begin_of left₁ depth ≡ 0) × ((step_at right₁ depth).max ≡ top))))) top₂ here;
-      in_call = may.in_call;
-      answer = may.answer;
-    }
+        it_ends : MayEnd b start s₁ book inner kind left₁ right₁ depth items₁ ends number call reply
+        it_ends = record { work = may.work; height = may.height; may = replaces; answer = may.answer }
 
-    -- it goes on
-    module _ (not_root : depth ≡ 0 → ⊥) (not_one : length new ≡ 1 → begin_of left₁ depth ≡ begin_of right₁ depth → ⊥)
-        (not_all : length new ≡ 1 → begin_of left₁ depth ≡ 0 → (step_at right₁ depth).max ≡ greatest width → ⊥) where
-      next : (n : ℕ) → (n ≡ 0 → ⊥) → n ≡ suc (n - 1)
-      next zero some = absurd (some refl)
-      next (suc n) some = omega arith
+        for_all : StandForAll width left₁ right₁ depth → StandForAll s₁.tree.table.width left₁ right₁ depth
+        for_all all = record { first = all.first; last = all.last ∙ ap greatest is_width }
 
-      pub deeper : depth ≡ suc (depth - 1)
-      deeper = next depth not_root
+        -- one row stands for every index
+        pub ends_at_root : {pieces : ℕ} → pieces ≡ length ends → pieces ≡ 1 → StandForAll width left₁ right₁ depth → MayEndAtRoot b start s₁ book inner kind left₁ right₁ depth items₁ ends number call reply
+        ends_at_root many one all = record { end = it_ends; one = sym many ∙ one; all = for_all all }
 
-      not_here : EndsHere start left₁ right₁ depth (length new) → ⊥
-      not_here (inl top) = not_root top
-      not_here (inr (one, inl same)) = not_one one same
-      not_here (inr (one, inr (first, last))) = not_all one first (last ∙ sym top₂)
+        -- several rows stand in the place of the root
+        root_is_all : depth ≡ 0 → StandForAll width left₁ right₁ depth
+        root_is_all root = record {
+          first = ap (begin_of left₁) root ∙ (roots.path_begins start may.work wide.gathered.holds left₁ wide.gathered.paths.from from_within wide.gathered.paths.is_left).0;
+          last =
+              let here = ap (behind_of right₁) root ∙ (roots.path_begins start may.work wide.gathered.holds right₁ wide.gathered.paths.to wide.gathered.paths.within wide.gathered.paths.is_right).1 in
+              let top = ap greatest same_width in
+              omega arith;
+        }
 
-      pub may_rise : MayGoUp start w₂ s₂.tree left₁ right₁ (depth - 1) height new
-      may_rise = record {
-        is_now = rows_are_now b start s₂ book₂ w₂ made₂ depth done.under;
-        climbed = subst (λ (n : ℕ). Climbed start w₂ left₁ right₁ n height (spans_from (begin_of left₁ n) new)) deeper done.climbed;
-        some = done.some;
-        few = done.few;
-        goes_on = subst (λ (n : ℕ). EndsHere start left₁ right₁ n (length new) → ⊥) deeper not_here;
-      }
+        pub ends_above : {pieces : ℕ} → 1 ≤ pieces → pieces ≡ length ends → depth ≡ 0 → (pieces ≡ 1 → StandForAll width left₁ right₁ depth → ⊥) → MayEndAbove b start s₁ book inner kind left₁ right₁ depth items₁ ends number call reply
+        ends_above some many root more = record { end = it_ends; root = root; two = let two = several some (λ one. more one (root_is_all root)) in omega arith }
 
-      pub next_level : (s₃ : sheet.Sheet) (left₃ right₃ : List PathStep) (items₃ : List Item) → sheet.OnlyReads s₂ s₃ → MayTakeIn start w₂ s₃.tree Inner left₃ right₃ (depth - 1) (suc height) items₃
-          → MayReplaceLevel b start s₃ book₂ w₂ made₂ Inner left₃ right₃ (depth - 1) (suc height) items₃ number call reply
-      next_level s₃ left₃ right₃ items₃ reads₃ widens = record {
-        under = subst (λ (n : ℕ). IsUnderWay b start s₃ book₂ w₂ made₂ n) deeper (under_read b start s₂ s₃ book₂ w₂ made₂ depth reads₃ done.under);
-        may = widens;
-        in_call = may.in_call;
-        answer = may.answer;
-      }
+        -- one row takes the place of one
+        pub ends_in_slot : {pieces : ℕ} → pieces ≡ length ends → 0 < depth → pieces ≡ 1 → begin_of left₁ depth ≡ begin_of right₁ depth → MayEndInSlot b start s₁ book inner kind left₁ right₁ depth items₁ ends number call reply
+        ends_in_slot many below one same = record { end = it_ends; below = below; one = sym many ∙ one; same = same }
+
+        -- ---- the rows above must change too
+
+        module _ {pieces : ℕ} (many : pieces ≡ length ends) (goes_on : EndsHere width left₁ right₁ depth pieces → ⊥) where
+          pub deeper : depth ≡ suc (depth - 1)
+          deeper = deep (λ root. goes_on (inl root))
+
+          module _ {s₂ : Sheet} {book₂ : Book} {inner₂ : List NewRow} {new : List Item} (done : AreLevelRowsReplaced b start s₁ s₂ book book₂ inner inner₂ kind left₁ right₁ depth items₁ ends number new) where
+            abbrev rows : (w₂ : Work) × AreRowsReplaced b start s₂ book₂ w₂ inner₂ left₁ right₁ depth may.height ends new
+            rows = done.each replaces
+
+            width₂ : width ≡ s₂.tree.table.width
+            width₂ = same_width ∙ sym (tree_width rows.1.under.case.was rows.1.under.progress)
+
+            goes_up : MayGoUp start rows.0 s₂.tree left₁ right₁ (depth - 1) may.height new
+            goes_up = record {
+              is_now = words_are_now rows.1.under.case.was rows.1.under.progress;
+              climbed = subst (λ (n : ℕ). Climbed start rows.0 left₁ right₁ n may.height (spans_from (begin_of left₁ n) new)) deeper rows.1.climbed;
+              some = rows.1.some;
+              few = rows.1.few;
+              goes_on = subst (λ (x : Width × ℕ × ℕ). EndsHere x.0 left₁ right₁ x.1 x.2 → ⊥) (λ i. (width₂ i, deeper i, (many ∙ sym rows.1.many) i)) goes_on;
+            }
+
+            pub items_may_be_gathered : {new' : List Item} → new' ≡ new → MayGather start s₂.tree left₁ right₁ (depth - 1) new'
+            items_may_be_gathered same = subst (MayGather start s₂.tree left₁ right₁ (depth - 1)) (sym same) (record { work = rows.0; height = may.height; may = goes_up })
+
+            pub next_level : {s₃ : Sheet} {left₃ right₃ : List PathStep} {items₃ new' : List Item} → new' ≡ new → IsGathered start s₂.tree left₁ right₁ (depth - 1) new' items₃ → OnlyReads s₂ s₃ → left₃ ≡ left₁ → right₃ ≡ right₁
+                → MayReplaceLevel b start s₃ book₂ inner₂ Inner left₃ right₃ (depth - 1) items₃ number call reply
+            next_level {s₃ = s₃} {left₃ = left₃} {right₃ = right₃} {items₃ = items₃} same gathered reads₃ is_left is_right = record {
+              work = rows.0;
+              height = suc may.height;
+              under = subst (IsUnderWay b start s₃ book₂ rows.0 inner₂) deeper (under_read reads₃ rows.1.under);
+              may =
+                  let here : IsGathered start s₂.tree left₁ right₁ (depth - 1) new items₃ = subst (λ (l : List Item). IsGathered start s₂.tree left₁ right₁ (depth - 1) l items₃) same gathered in
+                  subst (λ (x : Rooted × List PathStep × List PathStep). MayTakeIn start rows.0 x.0 Inner x.1 x.2 (depth - 1) (suc may.height) items₃) (λ i. (sym (tree_read s₂ s₃ reads₃) i, sym is_left i, sym is_right i)) (here.each goes_up);
+              in_call = may.in_call;
+              answer = may.answer;
+            }

@@ -45,7 +45,6 @@ pub mod Readings
 pub mod Rises
 pub mod RootEndings
 pub mod Runs
-pub mod Sizes
 pub mod SlotEnding
 pub mod SpliceBegins
 pub mod Splits

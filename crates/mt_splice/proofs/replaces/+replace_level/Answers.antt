@@ -1,71 +1,55 @@
-use Rattle.mt_splice.proofs.StepSeen.{not_both}
+use Rattle.std.proofs.Common.{◌≡◌, ◌≤◌, length, refl, ap, arith}
 use Rattle.mt_splice.proofs.LevelNext as next
 use Rattle.mt_splice.proofs.replaces.+replace_level.Goals as goal
-use Rattle.std.proofs.Common.{suc, arith}
 
-pub is_nothing-requires-clause-left : goal.is_nothing-requires-clause-left
-is_nothing-requires-clause-left g t c =
-    let r = c.requires.level in
-    next.left_is_deep r.0 r.1 (g.R.Rows.sheet c.args.rows.now) c.args.book.now r.2 c.args.new_inner_rows.now.items c.args.kind c.args.region.left.items c.args.region.right.items c.args.depth r.3 c.args.region.run.items c.args.number c.args.call.now c.args.reply.now r.4 (g.R.Rows.sheet c.take_in_beside-region.new.rows) c.take_in_beside-region.result.left.items c.take_in_beside-region.result.right.items c.take_in_beside-region.result.run.items c.take_in_beside-region.ensures.rest (c.take_in_beside-region.ensures.level r.1 r.2 r.3 r.4.may)
+pub take_in_beside-requires : goal.take_in_beside-requires
+take_in_beside-requires g t c = next.beside_asked c.requires
 
-pub is_nothing-requires-clause-right : goal.is_nothing-requires-clause-right
-is_nothing-requires-clause-right g t c =
-    let r = c.requires.level in
-    next.right_is_deep r.0 r.1 (g.R.Rows.sheet c.args.rows.now) c.args.book.now r.2 c.args.new_inner_rows.now.items c.args.kind c.args.region.left.items c.args.region.right.items c.args.depth r.3 c.args.region.run.items c.args.number c.args.call.now c.args.reply.now r.4 (g.R.Rows.sheet c.take_in_beside-region.new.rows) c.take_in_beside-region.result.left.items c.take_in_beside-region.result.right.items c.take_in_beside-region.result.run.items c.take_in_beside-region.ensures.rest (c.take_in_beside-region.ensures.level r.1 r.2 r.3 r.4.may)
+pub ends_of-ends-requires-clause-some : goal.ends_of-ends-requires-clause-some
+ends_of-ends-requires-clause-some g t c = next.some_items c.requires c.take_in_beside.ensures.level c.take_in_beside.ensures.rest c.width-width.ensures
+
+pub ends_of-ends-requires-clause-few : goal.ends_of-ends-requires-clause-few
+ends_of-ends-requires-clause-few g t c = next.few_items c.requires c.take_in_beside.ensures.level c.take_in_beside.ensures.rest c.width-width.ensures
+
+pub ends_of-ends-requires-clause-apart : goal.ends_of-ends-requires-clause-apart
+ends_of-ends-requires-clause-apart g t c = next.apart_items c.requires c.take_in_beside.ensures.level c.take_in_beside.ensures.rest c.width-width.ensures
+
+pub next_of-requires-clause-left : goal.next_of-requires-clause-left
+next_of-requires-clause-left g t c = next.left_is_deep c.requires c.take_in_beside.ensures.level c.take_in_beside.ensures.rest c.width-width.ensures
+
+pub next_of-requires-clause-right : goal.next_of-requires-clause-right
+next_of-requires-clause-right g t c = next.right_is_deep c.requires c.take_in_beside.ensures.level c.take_in_beside.ensures.rest c.width-width.ensures
 
 pub end_empty-requires : goal.end_empty-requires
-end_empty-requires g t c =
-    let r = c.requires.level in
-    record { level = (r.0, r.1, r.2, next.ends_with_none r.0 r.1 (g.R.Rows.sheet c.args.rows.now) c.args.book.now r.2 c.args.new_inner_rows.now.items c.args.kind c.args.region.left.items c.args.region.right.items c.args.depth r.3 c.args.region.run.items c.args.number c.args.call.now c.args.reply.now r.4 (g.R.Rows.sheet c.take_in_beside-region.new.rows) c.take_in_beside-region.result.left.items c.take_in_beside-region.result.right.items c.take_in_beside-region.result.run.items c.take_in_beside-region.ensures.rest (c.take_in_beside-region.ensures.level r.1 r.2 r.3 r.4.may) c.width.result c.width.ensures (c.is_nothing.ensures.leaf c.if-is_nothing.true) (c.is_nothing.ensures.first c.if-is_nothing.true) (c.is_nothing.ensures.last c.if-is_nothing.true) (c.is_nothing.ensures.hole c.if-is_nothing.true)) }
+end_empty-requires g t c = next.none_is_left c.requires c.take_in_beside.ensures.level c.take_in_beside.ensures.rest c.width-width.ensures c.in-Empty.ensures
 
-pub returns-then-is_nothing : goal.returns-then-is_nothing
-returns-then-is_nothing g t c = record {
-  level = λ b start w height may. c.end_empty.ensures.level b start w (next.ends_with_none b start (g.R.Rows.sheet c.args.rows.now) c.args.book.now w c.args.new_inner_rows.now.items c.args.kind c.args.region.left.items c.args.region.right.items c.args.depth height c.args.region.run.items c.args.number c.args.call.now c.args.reply.now may (g.R.Rows.sheet c.take_in_beside-region.new.rows) c.take_in_beside-region.result.left.items c.take_in_beside-region.result.right.items c.take_in_beside-region.result.run.items c.take_in_beside-region.ensures.rest (c.take_in_beside-region.ensures.level start w height may.may) c.width.result c.width.ensures (c.is_nothing.ensures.leaf c.if-is_nothing.true) (c.is_nothing.ensures.first c.if-is_nothing.true) (c.is_nothing.ensures.last c.if-is_nothing.true) (c.is_nothing.ensures.hole c.if-is_nothing.true));
-}
+pub end_at_root-requires : goal.end_at_root-requires
+end_at_root-requires g t c = next.ends_at_root c.requires c.take_in_beside.ensures.level c.take_in_beside.ensures.rest c.width-width.ensures c.in-Root.ensures.0 c.ends_of-ends.ensures.cut c.ends_of-ends.ensures.few c.as_slice-ends.ensures.value refl c.in-Root.ensures.1 c.in-Root.ensures.2
+
+pub end_above-requires : goal.end_above-requires
+end_above-requires g t c =
+    let some : 1 ≤ length c.as_slice-ends.result.now = (let some = c.ends_of-ends.ensures.some in let same = ap length c.as_slice-ends.ensures.value in omega arith) in
+    next.ends_above c.requires c.take_in_beside.ensures.level c.take_in_beside.ensures.rest c.width-width.ensures c.in-RootAbove.ensures.0 c.ends_of-ends.ensures.cut c.ends_of-ends.ensures.few c.as_slice-ends.ensures.value some refl c.in-RootAbove.ensures.1 c.in-RootAbove.ensures.2
+
+pub end_in_slot-requires : goal.end_in_slot-requires
+end_in_slot-requires g t c = next.ends_in_slot c.requires c.take_in_beside.ensures.level c.take_in_beside.ensures.rest c.width-width.ensures c.in-Slot.ensures.0 c.ends_of-ends.ensures.cut c.ends_of-ends.ensures.few c.as_slice-ends.ensures.value refl c.in-Slot.ensures.1 c.in-Slot.ensures.2 c.in-Slot.ensures.3
 
 pub replace_rows-new-requires : goal.replace_rows-new-requires
-replace_rows-new-requires g t c =
-    let r = c.requires.level in
-    record { level = (r.0, r.1, r.2, r.3, next.rows_may_be_replaced r.0 r.1 (g.R.Rows.sheet c.args.rows.now) c.args.book.now r.2 c.args.new_inner_rows.now.items c.args.kind c.args.region.left.items c.args.region.right.items c.args.depth r.3 c.args.region.run.items c.args.number c.args.call.now c.args.reply.now r.4 (g.R.Rows.sheet c.take_in_beside-region.new.rows) c.take_in_beside-region.result.left.items c.take_in_beside-region.result.right.items c.take_in_beside-region.result.run.items c.take_in_beside-region.ensures.rest (c.take_in_beside-region.ensures.level r.1 r.2 r.3 r.4.may) c.width.result c.width.ensures (λ leaf first last hole. not_both c.is_nothing.result (c.is_nothing.ensures.other leaf first last hole) c.if-is_nothing.false)) }
+replace_rows-new-requires g t c = next.rows_may_be_replaced c.requires c.take_in_beside.ensures.level c.take_in_beside.ensures.rest c.width-width.ensures c.in-Up.ensures.0 c.ends_of-ends.ensures.cut c.ends_of-ends.ensures.few c.as_slice-ends.ensures.value
 
-pub ends_here-requires-clause-left : goal.ends_here-requires-clause-left
-ends_here-requires-clause-left g t c =
-    let r = c.requires.level in
-    next.left_is_deep r.0 r.1 (g.R.Rows.sheet c.args.rows.now) c.args.book.now r.2 c.args.new_inner_rows.now.items c.args.kind c.args.region.left.items c.args.region.right.items c.args.depth r.3 c.args.region.run.items c.args.number c.args.call.now c.args.reply.now r.4 (g.R.Rows.sheet c.take_in_beside-region.new.rows) c.take_in_beside-region.result.left.items c.take_in_beside-region.result.right.items c.take_in_beside-region.result.run.items c.take_in_beside-region.ensures.rest (c.take_in_beside-region.ensures.level r.1 r.2 r.3 r.4.may)
+pub overflow_sub-depth : goal.overflow_sub-depth
+overflow_sub-depth g t c = let deeper = next.deeper c.requires c.take_in_beside.ensures.level c.take_in_beside.ensures.rest c.width-width.ensures c.in-Up.ensures.0 c.ends_of-ends.ensures.cut c.ends_of-ends.ensures.few c.as_slice-ends.ensures.value refl c.in-Up.ensures.1 in omega arith
 
-pub ends_here-requires-clause-right : goal.ends_here-requires-clause-right
-ends_here-requires-clause-right g t c =
-    let r = c.requires.level in
-    next.right_is_deep r.0 r.1 (g.R.Rows.sheet c.args.rows.now) c.args.book.now r.2 c.args.new_inner_rows.now.items c.args.kind c.args.region.left.items c.args.region.right.items c.args.depth r.3 c.args.region.run.items c.args.number c.args.call.now c.args.reply.now r.4 (g.R.Rows.sheet c.take_in_beside-region.new.rows) c.take_in_beside-region.result.left.items c.take_in_beside-region.result.right.items c.take_in_beside-region.result.run.items c.take_in_beside-region.ensures.rest (c.take_in_beside-region.ensures.level r.1 r.2 r.3 r.4.may)
+pub parent_items-requires : goal.parent_items-requires
+parent_items-requires g t c = next.items_may_be_gathered c.requires c.take_in_beside.ensures.level c.take_in_beside.ensures.rest c.width-width.ensures c.in-Up.ensures.0 c.ends_of-ends.ensures.cut c.ends_of-ends.ensures.few c.as_slice-ends.ensures.value refl c.in-Up.ensures.1 c.replace_rows-new.ensures.level c.as_slice.ensures.value
 
-pub end_level-requires : goal.end_level-requires
-end_level-requires g t c =
-    let r = c.requires.level in
-    let done = c.replace_rows-new.ensures.level r.0 r.1 r.2 r.3 (next.rows_may_be_replaced r.0 r.1 (g.R.Rows.sheet c.args.rows.now) c.args.book.now r.2 c.args.new_inner_rows.now.items c.args.kind c.args.region.left.items c.args.region.right.items c.args.depth r.3 c.args.region.run.items c.args.number c.args.call.now c.args.reply.now r.4 (g.R.Rows.sheet c.take_in_beside-region.new.rows) c.take_in_beside-region.result.left.items c.take_in_beside-region.result.right.items c.take_in_beside-region.result.run.items c.take_in_beside-region.ensures.rest (c.take_in_beside-region.ensures.level r.1 r.2 r.3 r.4.may) c.width.result c.width.ensures (λ leaf first last hole. not_both c.is_nothing.result (c.is_nothing.ensures.other leaf first last hole) c.if-is_nothing.false)) in
-    record { level = (r.0, r.1, done.0, r.3, next.may_end_here r.0 r.1 (g.R.Rows.sheet c.args.rows.now) c.args.book.now r.2 c.args.new_inner_rows.now.items c.args.kind c.args.region.left.items c.args.region.right.items c.args.depth r.3 c.args.region.run.items c.args.number c.args.call.now c.args.reply.now r.4 (g.R.Rows.sheet c.take_in_beside-region.new.rows) c.take_in_beside-region.result.left.items c.take_in_beside-region.result.right.items c.take_in_beside-region.result.run.items c.take_in_beside-region.ensures.rest (c.take_in_beside-region.ensures.level r.1 r.2 r.3 r.4.may) (g.R.Rows.sheet c.replace_rows-new.new.rows) c.replace_rows-new.new.book done.0 c.replace_rows-new.new.new_inner_rows.items c.replace_rows-new.result.items c.width-2.result done.1 c.width-2.ensures (c.ends_here.ensures.here c.if-ends_here.true)) }
-
-pub returns-then-ends_here : goal.returns-then-ends_here
-returns-then-ends_here g t c = record {
-  level = λ b start w height may.
-      let done = c.replace_rows-new.ensures.level b start w height (next.rows_may_be_replaced b start (g.R.Rows.sheet c.args.rows.now) c.args.book.now w c.args.new_inner_rows.now.items c.args.kind c.args.region.left.items c.args.region.right.items c.args.depth height c.args.region.run.items c.args.number c.args.call.now c.args.reply.now may (g.R.Rows.sheet c.take_in_beside-region.new.rows) c.take_in_beside-region.result.left.items c.take_in_beside-region.result.right.items c.take_in_beside-region.result.run.items c.take_in_beside-region.ensures.rest (c.take_in_beside-region.ensures.level start w height may.may) c.width.result c.width.ensures (λ leaf first last hole. not_both c.is_nothing.result (c.is_nothing.ensures.other leaf first last hole) c.if-is_nothing.false)) in
-      c.end_level.ensures.level b start done.0 height (next.may_end_here b start (g.R.Rows.sheet c.args.rows.now) c.args.book.now w c.args.new_inner_rows.now.items c.args.kind c.args.region.left.items c.args.region.right.items c.args.depth height c.args.region.run.items c.args.number c.args.call.now c.args.reply.now may (g.R.Rows.sheet c.take_in_beside-region.new.rows) c.take_in_beside-region.result.left.items c.take_in_beside-region.result.right.items c.take_in_beside-region.result.run.items c.take_in_beside-region.ensures.rest (c.take_in_beside-region.ensures.level start w height may.may) (g.R.Rows.sheet c.replace_rows-new.new.rows) c.replace_rows-new.new.book done.0 c.replace_rows-new.new.new_inner_rows.items c.replace_rows-new.result.items c.width-2.result done.1 c.width-2.ensures (c.ends_here.ensures.here c.if-ends_here.true));
-}
-
-pub parent_items-region-requires : goal.parent_items-region-requires
-parent_items-region-requires g t c =
-    let r = c.requires.level in
-    let done = c.replace_rows-new.ensures.level r.0 r.1 r.2 r.3 (next.rows_may_be_replaced r.0 r.1 (g.R.Rows.sheet c.args.rows.now) c.args.book.now r.2 c.args.new_inner_rows.now.items c.args.kind c.args.region.left.items c.args.region.right.items c.args.depth r.3 c.args.region.run.items c.args.number c.args.call.now c.args.reply.now r.4 (g.R.Rows.sheet c.take_in_beside-region.new.rows) c.take_in_beside-region.result.left.items c.take_in_beside-region.result.right.items c.take_in_beside-region.result.run.items c.take_in_beside-region.ensures.rest (c.take_in_beside-region.ensures.level r.1 r.2 r.3 r.4.may) c.width.result c.width.ensures (λ leaf first last hole. not_both c.is_nothing.result (c.is_nothing.ensures.other leaf first last hole) c.if-is_nothing.false)) in
-    record { level = (r.1, done.0, r.3, next.may_rise r.0 r.1 (g.R.Rows.sheet c.args.rows.now) c.args.book.now r.2 c.args.new_inner_rows.now.items c.args.kind c.args.region.left.items c.args.region.right.items c.args.depth r.3 c.args.region.run.items c.args.number c.args.call.now c.args.reply.now r.4 (g.R.Rows.sheet c.take_in_beside-region.new.rows) c.take_in_beside-region.result.left.items c.take_in_beside-region.result.right.items c.take_in_beside-region.result.run.items c.take_in_beside-region.ensures.rest (c.take_in_beside-region.ensures.level r.1 r.2 r.3 r.4.may) (g.R.Rows.sheet c.replace_rows-new.new.rows) c.replace_rows-new.new.book done.0 c.replace_rows-new.new.new_inner_rows.items c.replace_rows-new.result.items c.width-2.result done.1 c.width-2.ensures (λ root. not_both c.ends_here.result (c.ends_here.ensures.root root) c.if-ends_here.false) (λ one same. not_both c.ends_here.result (c.ends_here.ensures.one one same) c.if-ends_here.false) (λ one first last. not_both c.ends_here.result (c.ends_here.ensures.all one first last) c.if-ends_here.false)) }
+pub overflow_sub-depth-in-Up : goal.overflow_sub-depth-in-Up
+overflow_sub-depth-in-Up g t c = let deeper = next.deeper c.requires c.take_in_beside.ensures.level c.take_in_beside.ensures.rest c.width-width.ensures c.in-Up.ensures.0 c.ends_of-ends.ensures.cut c.ends_of-ends.ensures.few c.as_slice-ends.ensures.value refl c.in-Up.ensures.1 in omega arith
 
 pub replace_level-requires : goal.replace_level-requires
 replace_level-requires g t c κs within =
-    let r = c.requires.level in
-    let done = c.replace_rows-new.ensures.level r.0 r.1 r.2 r.3 (next.rows_may_be_replaced r.0 r.1 (g.R.Rows.sheet c.args.rows.now) c.args.book.now r.2 c.args.new_inner_rows.now.items c.args.kind c.args.region.left.items c.args.region.right.items c.args.depth r.3 c.args.region.run.items c.args.number c.args.call.now c.args.reply.now r.4 (g.R.Rows.sheet c.take_in_beside-region.new.rows) c.take_in_beside-region.result.left.items c.take_in_beside-region.result.right.items c.take_in_beside-region.result.run.items c.take_in_beside-region.ensures.rest (c.take_in_beside-region.ensures.level r.1 r.2 r.3 r.4.may) c.width.result c.width.ensures (λ leaf first last hole. not_both c.is_nothing.result (c.is_nothing.ensures.other leaf first last hole) c.if-is_nothing.false)) in
-    (let depth = c.decreases in let deeper = next.deeper r.0 r.1 (g.R.Rows.sheet c.args.rows.now) c.args.book.now r.2 c.args.new_inner_rows.now.items c.args.kind c.args.region.left.items c.args.region.right.items c.args.depth r.3 c.args.region.run.items c.args.number c.args.call.now c.args.reply.now r.4 (g.R.Rows.sheet c.take_in_beside-region.new.rows) c.take_in_beside-region.result.left.items c.take_in_beside-region.result.right.items c.take_in_beside-region.result.run.items c.take_in_beside-region.ensures.rest (c.take_in_beside-region.ensures.level r.1 r.2 r.3 r.4.may) (g.R.Rows.sheet c.replace_rows-new.new.rows) c.replace_rows-new.new.book done.0 c.replace_rows-new.new.new_inner_rows.items c.replace_rows-new.result.items c.width-2.result done.1 c.width-2.ensures (λ root. not_both c.ends_here.result (c.ends_here.ensures.root root) c.if-ends_here.false) (λ one same. not_both c.ends_here.result (c.ends_here.ensures.one one same) c.if-ends_here.false) (λ one first last. not_both c.ends_here.result (c.ends_here.ensures.all one first last) c.if-ends_here.false) in omega arith, (within, (r.0, r.1, done.0, suc r.3, next.next_level r.0 r.1 (g.R.Rows.sheet c.args.rows.now) c.args.book.now r.2 c.args.new_inner_rows.now.items c.args.kind c.args.region.left.items c.args.region.right.items c.args.depth r.3 c.args.region.run.items c.args.number c.args.call.now c.args.reply.now r.4 (g.R.Rows.sheet c.take_in_beside-region.new.rows) c.take_in_beside-region.result.left.items c.take_in_beside-region.result.right.items c.take_in_beside-region.result.run.items c.take_in_beside-region.ensures.rest (c.take_in_beside-region.ensures.level r.1 r.2 r.3 r.4.may) (g.R.Rows.sheet c.replace_rows-new.new.rows) c.replace_rows-new.new.book done.0 c.replace_rows-new.new.new_inner_rows.items c.replace_rows-new.result.items c.width-2.result done.1 c.width-2.ensures (λ root. not_both c.ends_here.result (c.ends_here.ensures.root root) c.if-ends_here.false) (λ one same. not_both c.ends_here.result (c.ends_here.ensures.one one same) c.if-ends_here.false) (λ one first last. not_both c.ends_here.result (c.ends_here.ensures.all one first last) c.if-ends_here.false) (g.R.Rows.sheet c.parent_items-region.new.rows) c.parent_items-region.result.left.items c.parent_items-region.result.right.items c.parent_items-region.result.run.items c.parent_items-region.ensures.rest (c.parent_items-region.ensures.level r.1 done.0 r.3 (next.may_rise r.0 r.1 (g.R.Rows.sheet c.args.rows.now) c.args.book.now r.2 c.args.new_inner_rows.now.items c.args.kind c.args.region.left.items c.args.region.right.items c.args.depth r.3 c.args.region.run.items c.args.number c.args.call.now c.args.reply.now r.4 (g.R.Rows.sheet c.take_in_beside-region.new.rows) c.take_in_beside-region.result.left.items c.take_in_beside-region.result.right.items c.take_in_beside-region.result.run.items c.take_in_beside-region.ensures.rest (c.take_in_beside-region.ensures.level r.1 r.2 r.3 r.4.may) (g.R.Rows.sheet c.replace_rows-new.new.rows) c.replace_rows-new.new.book done.0 c.replace_rows-new.new.new_inner_rows.items c.replace_rows-new.result.items c.width-2.result done.1 c.width-2.ensures (λ root. not_both c.ends_here.result (c.ends_here.ensures.root root) c.if-ends_here.false) (λ one same. not_both c.ends_here.result (c.ends_here.ensures.one one same) c.if-ends_here.false) (λ one first last. not_both c.ends_here.result (c.ends_here.ensures.all one first last) c.if-ends_here.false))))))
-
-pub returns : goal.returns
-returns g t c = record {
-  level = λ b start w height may.
-      let done = c.replace_rows-new.ensures.level b start w height (next.rows_may_be_replaced b start (g.R.Rows.sheet c.args.rows.now) c.args.book.now w c.args.new_inner_rows.now.items c.args.kind c.args.region.left.items c.args.region.right.items c.args.depth height c.args.region.run.items c.args.number c.args.call.now c.args.reply.now may (g.R.Rows.sheet c.take_in_beside-region.new.rows) c.take_in_beside-region.result.left.items c.take_in_beside-region.result.right.items c.take_in_beside-region.result.run.items c.take_in_beside-region.ensures.rest (c.take_in_beside-region.ensures.level start w height may.may) c.width.result c.width.ensures (λ leaf first last hole. not_both c.is_nothing.result (c.is_nothing.ensures.other leaf first last hole) c.if-is_nothing.false)) in
-      c.replace_level.ensures.level b start done.0 (suc height) (next.next_level b start (g.R.Rows.sheet c.args.rows.now) c.args.book.now w c.args.new_inner_rows.now.items c.args.kind c.args.region.left.items c.args.region.right.items c.args.depth height c.args.region.run.items c.args.number c.args.call.now c.args.reply.now may (g.R.Rows.sheet c.take_in_beside-region.new.rows) c.take_in_beside-region.result.left.items c.take_in_beside-region.result.right.items c.take_in_beside-region.result.run.items c.take_in_beside-region.ensures.rest (c.take_in_beside-region.ensures.level start w height may.may) (g.R.Rows.sheet c.replace_rows-new.new.rows) c.replace_rows-new.new.book done.0 c.replace_rows-new.new.new_inner_rows.items c.replace_rows-new.result.items c.width-2.result done.1 c.width-2.ensures (λ root. not_both c.ends_here.result (c.ends_here.ensures.root root) c.if-ends_here.false) (λ one same. not_both c.ends_here.result (c.ends_here.ensures.one one same) c.if-ends_here.false) (λ one first last. not_both c.ends_here.result (c.ends_here.ensures.all one first last) c.if-ends_here.false) (g.R.Rows.sheet c.parent_items-region.new.rows) c.parent_items-region.result.left.items c.parent_items-region.result.right.items c.parent_items-region.result.run.items c.parent_items-region.ensures.rest (c.parent_items-region.ensures.level start done.0 height (next.may_rise b start (g.R.Rows.sheet c.args.rows.now) c.args.book.now w c.args.new_inner_rows.now.items c.args.kind c.args.region.left.items c.args.region.right.items c.args.depth height c.args.region.run.items c.args.number c.args.call.now c.args.reply.now may (g.R.Rows.sheet c.take_in_beside-region.new.rows) c.take_in_beside-region.result.left.items c.take_in_beside-region.result.right.items c.take_in_beside-region.result.run.items c.take_in_beside-region.ensures.rest (c.take_in_beside-region.ensures.level start w height may.may) (g.R.Rows.sheet c.replace_rows-new.new.rows) c.replace_rows-new.new.book done.0 c.replace_rows-new.new.new_inner_rows.items c.replace_rows-new.result.items c.width-2.result done.1 c.width-2.ensures (λ root. not_both c.ends_here.result (c.ends_here.ensures.root root) c.if-ends_here.false) (λ one same. not_both c.ends_here.result (c.ends_here.ensures.one one same) c.if-ends_here.false) (λ one first last. not_both c.ends_here.result (c.ends_here.ensures.all one first last) c.if-ends_here.false))));
-}
+    let deeper = next.deeper c.requires c.take_in_beside.ensures.level c.take_in_beside.ensures.rest c.width-width.ensures c.in-Up.ensures.0 c.ends_of-ends.ensures.cut c.ends_of-ends.ensures.few c.as_slice-ends.ensures.value refl c.in-Up.ensures.1 in
+    let depth = c.decreases in
+    let left : c.parent_items.new.region.left.items ≡ c.take_in_beside.new.region.left.items = λ i. (c.parent_items.ensures.left i).items in
+    let right : c.parent_items.new.region.right.items ≡ c.take_in_beside.new.region.right.items = λ i. (c.parent_items.ensures.right i).items in
+    (omega arith, (within.0, (within.1, next.next_level c.requires c.take_in_beside.ensures.level c.take_in_beside.ensures.rest c.width-width.ensures c.in-Up.ensures.0 c.ends_of-ends.ensures.cut c.ends_of-ends.ensures.few c.as_slice-ends.ensures.value refl c.in-Up.ensures.1 c.replace_rows-new.ensures.level c.as_slice.ensures.value c.parent_items.ensures.level c.parent_items.ensures.rest left right)))
