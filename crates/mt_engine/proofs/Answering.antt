@@ -1,104 +1,141 @@
--- What a call has come to, by the way in which it was carried out.
-use Rattle.std.proofs.Common.{◌≡◌, ℕ, ◌+◌, ◌*◌, ◌≤◌, List, length, refl, sym, ap, ◌∙◌, subst, inl, inr, false}
+-- What a call has come to by the replacement of rows, or by the end of all ranges.
+use Rattle.std.proofs.Common.{◌≡◌, ◌≢◌, ℕ, ◌+◌, ◌*◌, ◌≤◌, List, Bool, Option, true, false, length, refl, sym, ap, ◌∙◌, subst, inl, inr, arith}
 use Rattle.mt_base.specs.declared.ranges.Range.{Range}
 use Rattle.mt_base.specs.declared.calls.Call.{Call}
 use Rattle.mt_base.specs.declared.calls.Call.TheVariants.{Clear}
-use Rattle.mt_base.specs.declared.kinds.Kind.TheVariants as trees
+use Rattle.mt_base.specs.declared.kinds.Kind.{Kind}
 use Rattle.mt_base.specs.declared.replies.Reply.{Reply}
 use Rattle.mt_base.specs.declared.replies.Reply.TheVariants as reply
 use Rattle.mt_base.specs.Call.{acted}
-use Rattle.mt_base.specs.Nodes.{NeedsRows, is_exact_store}
-use Rattle.mt_base.specs.Width.{greatest}
+use Rattle.mt_base.specs.Nodes.{Wants}
 use Rattle.mt_free.specs.Book.{Book, after_reclaim}
-use Rattle.mt_rows.specs.Trees.{height_in}
-use Rattle.mt_rows.specs.declared.rows.Scan.{Scan}
+use Rattle.mt_rows.specs.declared.rows.Life.{Life}
 use Rattle.mt_rows.specs.declared.rows.Place.{Place}
 use Rattle.mt_rows.specs.declared.rows.Place.TheVariants.{Root}
-use Rattle.mt_rows.specs.Sheet.{Tree, Sheet, OnlyReads}
-use Rattle.mt_rows.specs.Publish.{map_by, with_record}
-use Rattle.mt_splice.specs.Splice.{IsStoreBy, IsSpliced}
-use Rattle.mt_engine.specs.Engine.{IsInCall, IsAnswered, HadRoom, TookRows, is_refusal}
-use Rattle.mt_rows.specs.Publish.{WasScanned}
+use Rattle.mt_rows.specs.declared.rows.Scan.{Scan}
+use Rattle.mt_rows.specs.Trees.{height_in}
+use Rattle.mt_rows.specs.Sheet.{Rooted, Sheet, IsWhole, OnlyReads, scanned}
+use Rattle.mt_rows.specs.Publish.{map_by}
+use Rattle.mt_splice.specs.Splice.{MayClear, IsSpliced}
+use Rattle.mt_engine.specs.Engine.{IsEngineState, IsInCall, IsAnswered, is_refusal}
 use Rattle.mt_engine.specs.Rooms.{IsScanned, HasRoom}
-use Rattle.mt_engine.proofs.AfterSplice.{not_both, acts_by, may_finish, idle_after, told, rest_is, answered_by}
+use Rattle.mt_engine.proofs.AfterSplice.{replaced, idle_after, may_finish}
+use Rattle.mt_engine.proofs.Moments.{in_call_if_read, answered_after_reads}
+use Rattle.mt_engine.proofs.Scanned.{was_scanned}
 
--- ---- what was read and scanned before
+pub not_both : (b : Bool) → b ≡ true → b ≡ false → ⊥
+not_both b is not = absurd (cc)
 
--- what a call may change of a sheet, and did
-abbrev MayChange : Sheet → Sheet → Type 0
-MayChange a b = b ≡ record a { tree = b.tree; published = b.published; lives = b.lives; buried = b.buried; cleared = b.cleared; scan = b.scan; scans = b.scans; reads = b.reads; records = b.records }
-
-then_changes : (a b c : Sheet) → MayChange a b → MayChange b c → MayChange a c
-then_changes a b c before behind =
-    behind ∙ ap (λ (x : Sheet). record x { tree = c.tree; published = c.published; lives = c.lives; buried = c.buried; cleared = c.cleared; scan = c.scan; scans = c.scans; reads = c.reads; records = c.records }) before
-
--- rows were read and scanned, and nothing else was done
-abbrev OnlyScans : Sheet → Sheet → Type 0
-OnlyScans s s₂ = s₂ ≡ record s { reads = s₂.reads; scan = s₂.scan; scans = s₂.scans; cleared = s₂.cleared }
-
-reads_and_scans : (s s₁ s₂ : Sheet) → OnlyReads s s₁ → s₂ ≡ record s₁ { scan = s₂.scan; scans = s₂.scans; cleared = s₂.cleared } → OnlyScans s s₂
-reads_and_scans s s₁ s₂ reads scans =
-    let both : s₂ ≡ record s { reads = s₁.reads; scan = s₂.scan; scans = s₂.scans; cleared = s₂.cleared } = scans ∙ ap (λ (x : Sheet). record x { scan = s₂.scan; scans = s₂.scans; cleared = s₂.cleared }) reads in
-    both ∙ ap (λ (n : _). record s { reads = n; scan = s₂.scan; scans = s₂.scans; cleared = s₂.cleared }) (sym (ap (λ (x : Sheet). x.reads) both))
-
-scans_change : (s s₂ : Sheet) → OnlyScans s s₂ → MayChange s s₂
-scans_change s s₂ scans =
-    subst (λ (x : Sheet). MayChange s x) (sym scans) refl
+-- a map and a reply, each by itself
+acts_by : (was : List Range × Reply) (m : List Range) (reply : Reply) → m ≡ was.0 → was.1 ≡ reply → was ≡ (m, reply)
+acts_by was m reply is replies = ap (λ (l : List Range). (l, was.1)) (sym is) ∙ ap (λ (r : Reply). (m, r)) replies
 
 -- ---- by new rows, after a scan that found room
 
-module _ (s s₁ s₂ s' : Sheet) (book book₂ book' : Book) (number : ℕ) (call : Call) (reply : Reply) (place : Place) (reads : OnlyReads s s₁) (scanned : IsScanned s₁ s₂ book book₂) (is : number ≡ s.ended + 1) (spliced : IsSpliced trees.Range s₂ s' book₂ book' number call reply place) where
-  scans : OnlyScans s s₂
-  scans = reads_and_scans s s₁ s₂ reads scanned.rest
+module _ (kind : Kind) (s : Sheet) (answer : Scan) (cleared : ℕ) (t : Rooted) (lives : List Life) (buried : List Bool) (reads : Option ℕ) (book freed book' : Book) (call : Call) (reply : Reply) (place : Place) where
+  abbrev found : Sheet
+  found = scanned s answer cleared
 
-  tree_is : s₂.tree ≡ s.tree
-  tree_is = ap (λ (x : Sheet). x.tree) scans
+  abbrev after : Sheet
+  after = replaced found t lives buried reads call reply
 
-  is_number : number ≡ s₂.ended + 1
-  is_number = is ∙ ap (λ (x : Sheet). x.ended + 1) (sym scans)
-
-  had_room : HasRoom s₂ book₂ → HadRoom s s' book
-  had_room room =
-      let scan_is : s'.scan ≡ s₂.scan = ap (λ (x : Sheet). x.scan) spliced.rest in
-      let freed : book₂ ≡ after_reclaim book s'.scan.least = scanned.freed ∙ ap (λ (x : Scan). after_reclaim book x.least) (sym scan_is) in
-      record {
-        scanned = subst (λ (x : Sheet). WasScanned x) (sym spliced.rest) scanned.scanned;
-        room =
-            subst (λ (t : Tree). 3 * height_in t.table t.root + 1 ≤ length (after_reclaim book s'.scan.least).free) tree_is
-            (subst (λ (b : Book). 3 * height_in s₂.tree.table s₂.tree.root + 1 ≤ length b.free) freed room);
-      }
-
-  map_is : map_by s'.tree ≡ (acted trees.Range (map_by s.tree) call).0
-  map_is = spliced.map ∙ ap (λ (t : Tree). (acted trees.Range (map_by t) call).0) tree_is
-
-  took_rows : NeedsRows trees.Range (map_by s.tree) call → TookRows s s' book book' call
-  took_rows needs =
-      let scan_is : s'.scan ≡ s₂.scan = ap (λ (x : Sheet). x.scan) spliced.rest in
-      record {
-        freed = book₂;
-        is = inr (scanned.freed ∙ ap (λ (x : Scan). after_reclaim book x.least) (sym scan_is));
-        taken = spliced.moved.taken;
-        free = spliced.moved.free;
-        few = subst (λ (t : Tree). length spliced.moved.taken ≤ 3 * height_in t.table t.root + 1) tree_is spliced.moved.few;
-        exact = λ exact. absurd (not_both (is_exact_store (map_by s.tree) call) exact needs.more);
-      }
-
-  by_rows : HasRoom s₂ book₂ → NeedsRows trees.Range (map_by s.tree) call → is_refusal reply ≡ false → (acted trees.Range (map_by s.tree) call).1 ≡ reply → IsAnswered s s' book book' call reply
-  by_rows room need success replies = record {
-    may = may_finish s₂ s' book₂ book' number call reply place scanned.in_call.state is_number spliced scanned.in_call.in_flight;
-    idle = idle_after s₂ s' book₂ book' number call reply place scanned.in_call.state is_number spliced;
-    answer = inl (record { acts = acts_by (acted trees.Range (map_by s.tree) call) (map_by s'.tree) reply map_is replies; kept = λ refused. absurd (not_both (is_refusal reply) refused success); room = λ needs. had_room room; took = took_rows need });
-    record_told = told s₂ s' book₂ book' number call reply place scanned.in_call.state is_number spliced ∙ ap (λ (x : Sheet). with_record x.told call reply) scans;
-    rest = then_changes s s₂ s' (scans_change s s₂ scans) (rest_is s₂ s' book₂ book' number call reply place scanned.in_call.state is_number spliced);
+  replaces_by : IsWhole s → s.in_flight ≡ true → s.cleared ≤ cleared → freed ≡ after_reclaim book answer.least → IsEngineState kind found freed → HasRoom s.tree freed → Wants kind (map_by s.tree) call → is_refusal reply ≡ false → (acted kind (map_by s.tree) call).1 ≡ reply
+      → IsSpliced kind found after freed book' (s.ended + 1) call reply place → IsAnswered kind s after book book' call reply
+  replaces_by whole flies rises is_freed state room wants success replies spliced = record {
+    may = may_finish kind found t lives buried reads freed book' call reply place state spliced flies;
+    applied = record {
+      idle = idle_after kind found t lives buried reads freed book' call reply place state spliced;
+      answer =
+          inl (record {
+            acts = acts_by (acted kind (map_by s.tree) call) (map_by t) reply spliced.map replies;
+            kept = λ refused. absurd (not_both (is_refusal reply) refused success);
+            room = λ _. record { scanned = was_scanned s answer cleared whole; room = subst (λ (b : Book). 3 * height_in s.tree.table s.tree.root + 1 ≤ length b.free) is_freed room };
+            took = λ _. record { taken = spliced.moved.taken; free = ap (λ (b : Book). b.free) (sym is_freed) ∙ spliced.moved.free; few = spliced.moved.few };
+            calm = λ calm. absurd (calm wants);
+          });
+      ended = refl;
+      record_told = refl;
+      cleared = rises;
+      scans = inr refl;
+      rows = spliced.rows;
+      opened = refl;
+      shared = refl;
+      known = refl;
+    };
   }
 
-pub replaces : (s s₁ s₂ s' : Sheet) (book book₂ book' : Book) (first last entry number : ℕ) (call : Call) (reply : Reply) (place : Place) → IsInCall s book → OnlyReads s s₁ → IsScanned s₁ s₂ book book₂ → HasRoom s₂ book₂ → NeedsRows trees.Range (map_by s.tree) call → is_refusal reply ≡ false → number ≡ s.ended + 1
-    → IsStoreBy trees.Range (greatest s.tree.table.width) (map_by s.tree) call reply first last entry → IsSpliced trees.Range s₂ s' book₂ book' number call reply place → IsAnswered s s' book book' call reply
-replaces s s₁ s₂ s' book book₂ book' first last entry number call reply place in_call reads scanned room needs success is store spliced =
-    by_rows s s₁ s₂ s' book book₂ book' number call reply place reads scanned is spliced room needs success (ap (λ (was : List Range × Reply). was.1) store.acts)
+pub replaces : (kind : Kind) (s s₂ s' : Sheet) (book book₂ book' : Book) (number : ℕ) (call : Call) (reply : Reply) (place : Place) → IsWhole s → IsInCall kind s book → number ≡ s.ended + 1 → IsScanned kind s s₂ book book₂ → HasRoom s₂.tree book₂ → Wants kind (map_by s.tree) call → is_refusal reply ≡ false
+    → (acted kind (map_by s.tree) call).1 ≡ reply → IsSpliced kind s₂ s' book₂ book' number call reply place → IsAnswered kind s s' book book' call reply
+replaces kind s s₂ s' book book₂ book' number call reply place whole in_call is found room wants success replies spliced =
+    let of_scan : Sheet = scanned s s₂.scan s₂.cleared in
+    let numbered : IsSpliced kind s₂ s' book₂ book' (s.ended + 1) call reply place = subst (λ (n : ℕ). IsSpliced kind s₂ s' book₂ book' n call reply place) is spliced in
+    let begun : IsSpliced kind of_scan s' book₂ book' (s.ended + 1) call reply place = subst (λ (x : Sheet). IsSpliced kind x s' book₂ book' (s.ended + 1) call reply place) found.rest numbered in
+    subst (λ (x : Sheet). IsAnswered kind s x book book' call reply) (sym begun.rest)
+    (replaces_by kind s s₂.scan s₂.cleared s'.tree s'.lives s'.buried s'.reads book book₂ book' call reply place whole in_call.in_flight found.rises found.freed (subst (λ (x : Sheet). IsEngineState kind x book₂) found.rest found.state) (subst (λ (x : Sheet). HasRoom x.tree book₂) found.rest room)
+    wants success replies (subst (λ (x : Sheet). IsSpliced kind of_scan x book₂ book' (s.ended + 1) call reply place) begun.rest begun))
 
 -- ---- by the end of all ranges
 
-pub clears : (s s' : Sheet) (book book' : Book) (number : ℕ) → IsInCall s book → number ≡ s.ended + 1 → IsSpliced trees.Range s s' book book' number Clear reply.Ok Root → IsAnswered s s' book book' Clear reply.Ok
-clears s s' book book' number in_call is spliced =
-    answered_by s s' book book' number Clear reply.Ok Root in_call.state is spliced in_call.in_flight refl (λ needs. absurd (needs.not_clear refl)) refl refl
+module _ (kind : Kind) (s : Sheet) (t : Rooted) (lives : List Life) (buried : List Bool) (reads : Option ℕ) (book book' : Book) where
+  abbrev emptied : Sheet
+  emptied = replaced s t lives buried reads Clear reply.Ok
+
+  clears_by : IsInCall kind s book → IsSpliced kind s emptied book book' (s.ended + 1) Clear reply.Ok Root → book'.free ≡ book.free → IsAnswered kind s emptied book book' Clear reply.Ok
+  clears_by in_call spliced none_taken = record {
+    may = may_finish kind s t lives buried reads book book' Clear reply.Ok Root in_call.state spliced in_call.in_flight;
+    applied = record {
+      idle = idle_after kind s t lives buried reads book book' Clear reply.Ok Root in_call.state spliced;
+      answer =
+          inl (record {
+            acts = acts_by (acted kind (map_by s.tree) Clear) (map_by t) reply.Ok spliced.map refl;
+            kept = λ refused. absurd (not_both false refused refl);
+            room = λ wants. absurd wants;
+            took = λ wants. absurd wants;
+            calm = λ _. (refl, refl, none_taken);
+          });
+      ended = refl;
+      record_told = refl;
+      cleared = omega arith;
+      scans = inl refl;
+      rows = spliced.rows;
+      opened = refl;
+      shared = refl;
+      known = refl;
+    };
+  }
+
+clears : (kind : Kind) (s s' : Sheet) (book book' : Book) → IsInCall kind s book → IsSpliced kind s s' book book' (s.ended + 1) Clear reply.Ok Root → book'.free ≡ book.free → IsAnswered kind s s' book book' Clear reply.Ok
+clears kind s s' book book' in_call spliced none_taken =
+    subst (λ (x : Sheet). IsAnswered kind s x book book' Clear reply.Ok) (sym spliced.rest)
+    (clears_by kind s s'.tree s'.lives s'.buried s'.reads book book' in_call (subst (λ (x : Sheet). IsSpliced kind s x book book' (s.ended + 1) Clear reply.Ok Root) spliced.rest spliced) none_taken)
+
+-- ---- after the plan was made
+
+may_clear_in : (kind : Kind) (s : Sheet) (book : Book) → IsInCall kind s book → s.tree.root ≢ 0 → MayClear kind s book (s.ended + 1) Clear reply.Ok
+may_clear_in kind s book in_call some = record {
+  range = in_call.state.range;
+  told = in_call.state.told;
+  kept = in_call.state.kept;
+  unpublished = record { in_flight = in_call.in_flight; before = in_call.before; numbered = refl };
+  some = some;
+  answer = refl;
+}
+
+module _ (kind : Kind) (s s₁ : Sheet) (book : Book) (number : ℕ) (call : Call) (in_call : IsInCall kind s book) (reads : OnlyReads s s₁) (is : number ≡ s.ended + 1) (plan : (call ≡ Clear) × (s.tree.root ≢ 0)) where
+  now : IsInCall kind s₁ book
+  now = in_call_if_read kind s s₁ book reads in_call
+
+  number_now : number ≡ s₁.ended + 1
+  number_now = is ∙ ap (λ (x : Sheet). x.ended + 1) (sym reads)
+
+  some : s₁.tree.root ≢ 0
+  some = subst (λ (x : Sheet). x.tree.root ≢ 0) (sym reads) plan.1
+
+  pub may_clear_now : MayClear kind s₁ book number call reply.Ok
+  may_clear_now = subst (λ (c : Call). MayClear kind s₁ book number c reply.Ok) (sym plan.0) (subst (λ (n : ℕ). MayClear kind s₁ book n Clear reply.Ok) (sym number_now) (may_clear_in kind s₁ book now some))
+
+  pub cleared_now : (s' : Sheet) (book' : Book) → IsSpliced kind s₁ s' book book' number call reply.Ok Root → book'.free ≡ book.free → IsAnswered kind s s' book book' call reply.Ok
+  cleared_now s' book' spliced none_taken =
+      let as_clear : IsSpliced kind s₁ s' book book' number Clear reply.Ok Root = subst (λ (c : Call). IsSpliced kind s₁ s' book book' number c reply.Ok Root) plan.0 spliced in
+      let numbered : IsSpliced kind s₁ s' book book' (s₁.ended + 1) Clear reply.Ok Root = subst (λ (n : ℕ). IsSpliced kind s₁ s' book book' n Clear reply.Ok Root) number_now as_clear in
+      answered_after_reads kind s s₁ s' book book' call reply.Ok reads (subst (λ (c : Call). IsAnswered kind s₁ s' book book' c reply.Ok) (sym plan.0) (clears kind s₁ s' book book' now numbered none_taken))

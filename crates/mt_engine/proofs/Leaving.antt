@@ -1,96 +1,137 @@
 -- A call that publishes nothing: it leaves the map, or is refused for want of rows.
-use Rattle.std.proofs.Common.{◌≡◌, ℕ, List, [], Option, append-nil, refl, sym, ap, ◌∙◌, subst, inl, inr, arith}
+use Rattle.std.proofs.Common.{◌≡◌, ℕ, ◌+◌, ◌≤◌, Option, refl, sym, ap, subst, inl, inr, arith}
 use Rattle.std.specs.Prelude.{◌⊎◌}
 use Rattle.mt_base.specs.declared.calls.Call.{Call}
-use Rattle.mt_base.specs.declared.kinds.Kind.TheVariants as trees
-use Rattle.mt_base.specs.declared.ranges.Range.{Range}
+use Rattle.mt_base.specs.declared.kinds.Kind.{Kind}
 use Rattle.mt_base.specs.declared.replies.Reply.{Reply}
 use Rattle.mt_base.specs.declared.replies.Reply.TheVariants.{NoNodes}
 use Rattle.mt_base.specs.declared.replies.Shortage.{Shortage}
 use Rattle.mt_base.specs.Call.{acted}
-use Rattle.mt_base.specs.Nodes.{NeedsRows}
-use Rattle.mt_free.specs.Book.{Book}
+use Rattle.mt_base.specs.Nodes.{Wants, IsRefused}
+use Rattle.mt_free.specs.Book.{Book, after_reclaim}
 use Rattle.mt_rows.specs.declared.rows.Scan.{Scan}
-use Rattle.mt_rows.specs.Sheet.{Sheet, OnlyReads}
-use Rattle.mt_rows.specs.Publish.{AreOfKind, IsRefused, finished, map_by, with_record}
-use Rattle.mt_engine.specs.Engine.{IsIdle, IsInCall, IsAnswered, IsDone}
+use Rattle.mt_rows.specs.Sheet.{Sheet, OnlyReads, IsWhole, limits_of, one_more, scanned}
+use Rattle.mt_rows.specs.Publish.{MayFinish, IsFoundShort, IsCounted, WasScanned, finished, map_by, with_record}
+use Rattle.mt_splice.specs.Kept.{IsKept}
+use Rattle.mt_engine.specs.Engine.{IsEngineState, IsIdle, IsInCall, IsDone, IsShortFor, TellsBook, IsApplied, IsAnswered}
 use Rattle.mt_engine.specs.Rooms.{IsScanned, IsShortOf}
-use Rattle.mt_engine.proofs.InCalls.{in_call_with}
+use Rattle.mt_engine.proofs.Scanned.{was_scanned}
+use Rattle.mt_engine.proofs.Wanting.{stays_wants_none}
 
 -- the call's reply leaves the map
-abbrev StaysBy : Sheet → Call → Reply → Type 0
-StaysBy s call reply = acted trees.Range (map_by s.tree) call ≡ (map_by s.tree, reply)
+abbrev StaysBy : Kind → Sheet → Call → Reply → Type 0
+StaysBy kind s call reply = acted kind (map_by s.tree) call ≡ (map_by s.tree, reply)
 
--- ---- rows that were read and scanned
+-- ---- rows that were read, or scanned
 
-module _ (s : Sheet) (reads : Option ℕ) (scan : Scan) (scans cleared : ℕ) where
+module _ (kind : Kind) (s : Sheet) (reads : Option ℕ) (scan : Scan) (scans cleared : ℕ) (next : Book) (call : Call) (reply : Reply) where
   abbrev seen : Sheet
   seen = record s { reads = reads; scan = scan; scans = scans; cleared = cleared }
 
-  module _ (book next : Book) (call : Call) (reply : Reply) (is : IsInCall seen next) where
-    of_kind : AreOfKind seen.kind seen.tree.table.width trees.Range
-    of_kind = record { told = is.state.lawful.of_kind.told; width = is.state.lawful.of_kind.width }
+  abbrev done : Sheet
+  done = finished seen call reply
 
-    ended : IsIdle (finished seen call reply) next
-    ended = record {
-      idle = refl;
-      state = record {
-        lawful = record { of_kind = record { told = is.state.lawful.of_kind.told; width = is.state.lawful.of_kind.width }; words = is.state.lawful.words };
-        live = is.state.live;
-        none_buried = is.state.none_buried;
-        booked = record {
-          sound = is.state.booked.sound;
-          rows = is.state.booked.rows;
-          out = is.state.booked.out;
-          reached = is.state.booked.reached;
-          spare = is.state.booked.spare;
-          stamps = λ k d within. (let below = is.state.booked.stamps k d within in omega (arith, below));
-        };
-        held = is.state.held;
-        grown = (let grown = is.state.grown in omega (arith, grown));
-      };
+  module _ (is : IsInCall kind seen next) where
+    ends_idle : IsIdle kind done next
+    ends_idle =
+        let state = is.state in
+        record {
+          idle = refl;
+          state = record {
+            told = state.told;
+            range = state.range;
+            kept = record {
+              lawful = state.kept.lawful;
+              live = state.kept.live;
+              none_buried = state.kept.none_buried;
+              booked = record {
+                sound = state.kept.booked.sound;
+                rows = state.kept.booked.rows;
+                out = state.kept.booked.out;
+                reached = state.kept.booked.reached;
+                spare = state.kept.booked.spare;
+                stamps = λ k d within. (let below = state.kept.booked.stamps k d within in omega (arith, below));
+              };
+            };
+            held = state.held;
+            grown = (let grown = state.grown in omega (arith, grown));
+          };
+        }
+
+    may_end : StaysBy kind seen call reply ⊎ IsFoundShort kind seen call reply → MayFinish kind seen call reply
+    may_end answer = record {
+      in_flight = is.in_flight;
+      kept = λ _. record { none_buried = is.state.kept.none_buried; told = is.state.told; width = is.state.kept.lawful.width; answer = answer };
     }
 
-    told : (finished seen call reply).records ≡ with_record s.told call reply
-    told = rw is.before refl
+    record_is : done.told ≡ with_record s.told call reply
+    record_is = rw is.before refl
 
-    done : StaysBy s call reply → next ≡ book → IsDone s seen book next call reply
-    done stays same = record {
-      acts = stays;
-      kept = λ refused. refl;
-      room = λ needs. absurd (needs.changes (ap (λ (p : List Range × Reply). p.0) stays));
-      took = record { freed = book; is = inl refl; taken = []; free = ap (λ (b : Book). b.free) (sym same) ∙ sym (append-nil next.free); few = omega arith; exact = λ exact. refl };
+    ends_applied : (book : Book) → IsDone kind s done book next call reply ⊎ IsShortFor kind s done book next call reply → s.cleared ≤ cleared → (scans ≡ s.scans) ⊎ (scans ≡ one_more s.scans) → IsApplied kind s done book next call reply
+    ends_applied book answer rises counts = record {
+      idle = ends_idle;
+      answer = elim answer [ inl does ↦ inl does | inr short ↦ inr (short, refl) ];
+      ended = refl;
+      record_told = record_is;
+      cleared = rises;
+      scans = counts;
+      rows = refl;
+      opened = refl;
+      shared = refl;
+      known = refl;
     }
 
-    pub answered : (StaysBy s call reply × (next ≡ book)) ⊎ IsRefused trees.Range seen call reply → IsAnswered s seen book next call reply
-    answered by = record {
-      may = record { in_flight = is.in_flight; kept = λ _. record { none_buried = is.state.none_buried; of_kind = of_kind; answer = elim by [ inl stays ↦ inl stays.0 | inr refused ↦ inr refused ] } };
-      idle = ended;
-      answer = elim by [ inl stays ↦ inl (done stays.0 stays.1) | inr refused ↦ inr (refused, refl) ];
-      record_told = told;
-      rest = refl;
-    }
+-- ---- the map stays
 
--- rows were only read, and the map stays
-pub leaves : (s s' : Sheet) (book : Book) (call : Call) (reply : Reply) → IsInCall s book → OnlyReads s s' → acted trees.Range (map_by s.tree) call ≡ (map_by s.tree, reply) → IsAnswered s s' book book call reply
-leaves s s' book call reply is reads stays =
-    subst (λ (t : Sheet). IsAnswered s t book book call reply) (sym reads) (answered s s'.reads s.scan s.scans s.cleared book book call reply (in_call_with s book s'.reads is) (inl (stays, refl)))
-
--- a scan found too few free rows
-pub refuses : (s s₁ s' : Sheet) (book book' : Book) (call : Call) (shortage : Shortage) → IsInCall s book → OnlyReads s s₁ → IsScanned s₁ s' book book' → IsShortOf s' shortage → NeedsRows trees.Range (map_by s.tree) call
-    → IsAnswered s s' book book' call (NoNodes shortage)
-refuses s s₁ s' book book' call shortage is reads found short needs =
-    subst (λ (t : Sheet). IsAnswered s t book book' call (NoNodes shortage)) (sym same)
-    (answered s s₁.reads s'.scan s'.scans s'.cleared book book' call (NoNodes shortage) (subst (λ (t : Sheet). IsInCall t book') same found.in_call) (inr (subst (λ (t : Sheet). IsRefused trees.Range t call (NoNodes shortage)) same refused)))
+pub leaves : (kind : Kind) (s : Sheet) (book : Book) (call : Call) (reply : Reply) → IsInCall kind s book → StaysBy kind s call reply → IsAnswered kind s s book book call reply
+leaves kind s book call reply is stays = record {
+  may = may_end kind s s.reads s.scan s.scans s.cleared book call reply is (inl stays);
+  applied = ends_applied kind s s.reads s.scan s.scans s.cleared book call reply is book (inl does) (omega arith) (inl refl);
+}
   where
-    same : s' ≡ record s { reads = s₁.reads; scan = s'.scan; scans = s'.scans; cleared = s'.cleared }
-    same = found.rest ∙ ap (λ (t : Sheet). record t { scan = s'.scan; scans = s'.scans; cleared = s'.cleared }) reads
-
-    refused : IsRefused trees.Range s' call (NoNodes shortage)
-    refused = record {
-      shortage = shortage;
-      answer = refl;
-      needs = subst (λ (t : Sheet). NeedsRows trees.Range (map_by t.tree) call) (sym same) needs;
-      short = short.short;
-      counted = short.counted;
+    does : IsDone kind s (finished s call reply) book book call reply
+    does = record {
+      acts = stays;
+      kept = λ _. refl;
+      room = λ wants. absurd (stays_wants_none kind (map_by s.tree) call reply stays wants);
+      took = λ wants. absurd (stays_wants_none kind (map_by s.tree) call reply stays wants);
+      calm = λ _. (refl, refl, refl);
     }
+
+-- ---- a scan found too few free rows
+
+counted_end : (s : Sheet) (call : Call) (reply : Reply) (shortage : Shortage) → IsCounted s shortage → IsCounted (finished s call reply) shortage
+counted_end s call reply shortage counted = record {
+  need = counted.need;
+  live = counted.live;
+  rows = counted.rows;
+  many = counted.many;
+  apart = counted.apart;
+  held = counted.held;
+  by = counted.by;
+}
+
+module _ (kind : Kind) (s : Sheet) (scan : Scan) (cleared : ℕ) (book next : Book) (call : Call) (shortage : Shortage) where
+  abbrev after : Sheet
+  after = scanned s scan cleared
+
+  refuses_by : IsWhole s → IsInCall kind s book → s.cleared ≤ cleared → next ≡ after_reclaim book scan.least → IsEngineState kind after next → IsShortOf after next shortage → Wants kind (map_by s.tree) call
+      → IsAnswered kind s after book next call (NoNodes shortage)
+  refuses_by whole is rises freed state short wants = record {
+    may = may_end kind s s.reads scan (one_more s.scans) cleared next call (NoNodes shortage) now (inr (record { refused = refused; counted = short.counted; scanned = was_scanned s scan cleared whole }));
+    applied =
+        ends_applied kind s s.reads scan (one_more s.scans) cleared next call (NoNodes shortage) now book
+        (inr (record { refused = refused; counted = counted_end after call (NoNodes shortage) shortage short.counted; scanned = was_scanned s scan cleared whole; freed = freed; tells = short.tells })) rises (inr refl);
+  }
+    where
+      now : IsInCall kind after next
+      now = record { in_flight = is.in_flight; before = is.before; state = state }
+
+      refused : IsRefused kind (limits_of s) (map_by s.tree) call (NoNodes shortage)
+      refused = record { shortage = shortage; told = refl; wants = wants; short = short.short }
+
+pub refuses : (kind : Kind) (s s' : Sheet) (book next : Book) (call : Call) (shortage : Shortage) → IsWhole s → IsInCall kind s book → IsScanned kind s s' book next → IsShortOf s' next shortage → Wants kind (map_by s.tree) call
+    → IsAnswered kind s s' book next call (NoNodes shortage)
+refuses kind s s' book next call shortage whole is found short wants =
+    subst (λ (x : Sheet). IsAnswered kind s x book next call (NoNodes shortage)) (sym found.rest)
+    (refuses_by kind s s'.scan s'.cleared book next call shortage whole is found.rises found.freed (subst (λ (x : Sheet). IsEngineState kind x next) found.rest found.state) (subst (λ (x : Sheet). IsShortOf x next shortage) found.rest short) wants)

@@ -5,10 +5,10 @@ use Rattle.std.specs.List.{AllByRecursion, slice_get, prefix_len}
 use Rattle.std.proofs.lemmas.Bool.{cases_Bool, cases_lt, or_parts, and_parts, ltb-true, leb-true, lt-ltb, le-ltb, lt-leb, le-leb}
 use Rattle.std.proofs.lemmas.Option.{cond_some}
 use Rattle.mt_base.specs.declared.ranges.Range.{Range}
-use Rattle.mt_base.specs.Map.{IsMapFrom, IsMap, holds, holding, overlaps, is_held}
+use Rattle.mt_base.specs.Map.{IsMapFrom, holds, holding, overlaps, is_held}
 use Rattle.mt_list.specs.Places.{place_below, place_above, last_of, up_to}
 use Rattle.mt_list.proofs.HoldingAtPlace.{holding_at_place}
-use Rattle.mt_rows.proofs.Lists.{all_map}
+use Rattle.mt_base.proofs.Lists.{all_map}
 
 -- ---- the ranges beside a span
 
@@ -149,8 +149,8 @@ range_there None index r held = absurd (cc)
 range_there (Some s) index r held = ap Some (cond_some (nat_le s.first index) s r held).1
 
 -- the range that holds an index is the first that ends there or above
-pub first_held : (m : List Range) (index : ℕ) (r : Range) → IsMap m → holding m index ≡ Some r → slice_get m (place_below m index) ≡ Some r
-first_held m index r map held = range_there (slice_get m (place_below m index)) index r (sym (holding_at_place m index map) ∙ held)
+pub first_held : (m : List Range) (index : ℕ) (r : Range) → IsMapFrom 0 m → holding m index ≡ Some r → slice_get m (place_below m index) ≡ Some r
+first_held m index r rise held = range_there (slice_get m (place_below m index)) index r (sym (holding_at_place m index rise) ∙ held)
 
 last_of_more : (s r : Range) (m : List Range) → last_of m ≡ Some r → last_of (s ∷ m) ≡ Some r
 last_of_more s r [] last = absurd (cc)
@@ -182,8 +182,8 @@ last_held_from (s ∷ m) low index r ordered held = elim (cases_Bool (holds inde
     ]
 
 -- and the last that begins there or below
-pub last_held : (m : List Range) (index : ℕ) (r : Range) → IsMap m → holding m index ≡ Some r → last_of (take (place_above m index) m) ≡ Some r
-last_held m index r map held = last_held_from m 0 index r map held
+pub last_held : (m : List Range) (index : ℕ) (r : Range) → IsMapFrom 0 m → holding m index ≡ Some r → last_of (take (place_above m index) m) ≡ Some r
+last_held m index r rise held = last_held_from m 0 index r rise held
 
 -- ---- at the ends of all indexes
 
@@ -206,9 +206,10 @@ pub none_before_hole : (m : List Range) (b index : ℕ) → index ≤ b → AllB
 none_before_hole [] b index to each = refl
 none_before_hole (r ∷ m) b index to each = rw (lt-leb r.first index (begins_above b index r to each.0)) refl
 
--- where each range ends below an index, none ends there or above
-pub none_behind : (m : List Range) (hi : ℕ) → AllByRecursion (λ (r : Range). r.last < hi) m → slice_get m (place_below m hi) ≡ None
-none_behind [] hi each = refl
-none_behind (r ∷ m) hi each =
-    let one : place_below (r ∷ m) hi ≡ suc (place_below m hi) = rw (lt-ltb r.last hi each.0) (omega arith) in
-    ap (slice_get (r ∷ m)) one ∙ none_behind m hi each.1
+-- where no range ends above an index, none ends behind it
+pub none_behind : (m : List Range) (top : ℕ) → AllByRecursion (λ (r : Range). r.last ≤ top) m → slice_get m (place_below m (top + 1)) ≡ None
+none_behind [] top each = refl
+none_behind (r ∷ m) top each =
+    let ends = each.0 in
+    let one : place_below (r ∷ m) (top + 1) ≡ suc (place_below m (top + 1)) = rw (lt-ltb r.last (top + 1) (omega arith)) (omega arith) in
+    ap (slice_get (r ∷ m)) one ∙ none_behind m top each.1

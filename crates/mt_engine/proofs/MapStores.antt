@@ -1,7 +1,6 @@
 -- What a store makes of the ranges beside it, and of the range that it covers exactly.
 use Rattle.std.proofs.Common.{◌≡◌, ◌≢◌, ℕ, ◌+◌, ◌-◌, ◌<◌, ◌≤◌, ◌==◌, List, [], ◌∷◌, ◌++◌, Some, min, max, map, nat_lt, refl, sym, ap, ◌∙◌, subst, inl, inr, arith}
 use Rattle.std.specs.List.{AllByRecursion}
-use Rattle.std.specs.Option.{option_map}
 use Rattle.std.proofs.lemmas.Bool.{cases_Bool, cond_both, lt-ltb, le-ltb, ltb-true, eqb-true, le-leb}
 use Rattle.mt_base.specs.declared.ranges.Range.{Range}
 use Rattle.mt_base.specs.Map.{IsMapFrom, holds, holding, over, without, parts_below, parts_above, part_stored, cut_below, cut_above}
@@ -98,40 +97,8 @@ without_is_store (s ∷ m) low index r ordered held = elim (cases_Bool (holds in
     any [] = tt
     any (x ∷ l) = (tt, any l)
 
--- the indexes of a range, whatever its entry
-abbrev pub extent : Range → Range
-extent r = record { first = r.first; last = r.last; entry = 0 }
-
 pub stored_some : (first last entry : ℕ) → entry ≢ 0 → part_stored first last entry ≡ record { first = first; last = last; entry = entry } ∷ []
 stored_some first last entry some = elim (cases_Bool (entry == 0)) [ inl none ↦ absurd (some (eqb-true entry 0 none)) | inr other ↦ rw other refl ]
-
--- a store of an entry over exactly one range leaves every range its indexes
-pub exact_extents : (m : List Range) (low entry index : ℕ) (r : Range) → IsMapFrom low m → holding m r.first ≡ Some r → entry ≢ 0 → option_map extent (holding (over m r.first r.last entry) index) ≡ option_map extent (holding m index)
-exact_extents [] low entry index r ordered held some = absurd (cc)
-exact_extents (s ∷ m) low entry index r ordered held some = elim (cases_Bool (holds r.first s)) [
-  | inl here ↦
-      (let same : s ≡ r = (let at = rw here at held in cc) in
-      let stored : over (s ∷ m) s.first s.last entry ≡ record { first = s.first; last = s.last; entry = entry } ∷ m = store_exact s m low entry ordered ∙ ap (λ (l : List Range). l ++ m) (stored_some s.first s.last entry some) in
-      subst (λ (x : Range). option_map extent (holding (over (s ∷ m) x.first x.last entry) index) ≡ option_map extent (holding (s ∷ m) index)) same
-      (ap (λ (l : List Range). option_map extent (holding l index)) stored ∙ other_entry s m index entry))
-  | inr behind ↦
-      (let at = rw behind at held in
-      let begins = held_from m (s.last + 1) r.first r ordered.3 at in
-      let lies = held_each (λ (x : Range). x.first ≤ x.last) m r.first r (orders m (s.last + 1) ordered.3) at in
-      let to = lies.0 in
-      ap (λ (l : List Range). option_map extent (holding l index)) (store_behind s m r.first r.last entry ordered.1 (omega arith) (omega arith))
-      ∙ same_behind s (over m r.first r.last entry) m index (exact_extents m (s.last + 1) entry index r ordered.3 at some))
-]
-  where
-    orders : (l : List Range) (low : ℕ) → IsMapFrom low l → AllByRecursion (λ (x : Range). x.first ≤ x.last) l
-    orders [] low ordered = tt
-    orders (x ∷ l) low ordered = (ordered.1, orders l (x.last + 1) ordered.3)
-
-    other_entry : (x : Range) (l : List Range) (index entry : ℕ) → option_map extent (holding (record { first = x.first; last = x.last; entry = entry } ∷ l) index) ≡ option_map extent (holding (x ∷ l) index)
-    other_entry x l index entry = elim (cases_Bool (holds index x)) [ inl here ↦ rw here refl | inr behind ↦ rw behind refl ]
-
-    same_behind : (x : Range) (l k : List Range) (index : ℕ) → option_map extent (holding l index) ≡ option_map extent (holding k index) → option_map extent (holding (x ∷ l) index) ≡ option_map extent (holding (x ∷ k) index)
-    same_behind x l k index same = elim (cases_Bool (holds index x)) [ inl here ↦ rw here refl | inr behind ↦ rw behind same ]
 
 -- ---- what holds the first index after a store
 

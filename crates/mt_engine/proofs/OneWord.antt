@@ -1,60 +1,55 @@
 -- Another entry of one range, published by one word in the slot of its leaf: the rows stay as they are.
-use Rattle.std.proofs.Common.{◌≡◌, ◌≢◌, ℕ, zero, suc, ◌+◌, ◌*◌, ◌<◌, ◌≤◌, List, [], ◌∷◌, Bool, true, false, All, nat_lt, refl, sym, ap, ◌∙◌, subst, inl, inr, arith, get_or-set_other, ◌++◌, Some, append-nil}
+use Rattle.std.proofs.Common.{◌≡◌, ◌≢◌, ℕ, zero, suc, ◌+◌, ◌*◌, ◌<◌, ◌≤◌, List, [], ◌∷◌, Bool, true, false, All, Option, nat_lt, refl, sym, ap, ◌∙◌, subst, inl, inr, arith, get_or-set_other, Some, le-ltb}
 use Rattle.std.specs.Prelude.{slice_index, slice_set, slice_index_or}
 use Rattle.std.specs.List.{AllByRecursion, Contains}
 use Rattle.std.proofs.lemmas.Bool.{cases_Bool}
 use Rattle.std.proofs.lemmas.List.Elements.{All-weaker, All-contains, All-contains_itself}
 use Rattle.mt_base.specs.declared.widths.Width.{Width}
 use Rattle.mt_base.specs.declared.widths.Width.TheVariants.{Long}
+use Rattle.mt_base.specs.declared.kinds.Kind.{Kind}
 use Rattle.mt_base.specs.declared.kinds.Kind.TheVariants as trees
 use Rattle.mt_base.specs.declared.ranges.Range.{Range}
 use Rattle.mt_base.specs.declared.calls.Call.{Call}
+use Rattle.mt_base.specs.declared.calls.Call.TheVariants.{Store}
 use Rattle.mt_base.specs.declared.replies.Reply.{Reply}
+use Rattle.mt_base.specs.declared.replies.Reply.TheVariants as reply
 use Rattle.mt_base.specs.Call.{acted}
 use Rattle.mt_base.specs.Entry.{reserved}
-use Rattle.mt_base.specs.Nodes.{NeedsRows}
-use Rattle.mt_base.specs.Width.{columns, greatest}
-use Rattle.mt_base.specs.Map.{holding, over}
+use Rattle.mt_base.specs.Map.{over}
+use Rattle.mt_base.specs.Nodes.{Wants}
+use Rattle.mt_base.specs.Width.{columns, greatest, greatest_of}
+use Rattle.mt_free.specs.Book.{Book, Held, IsRowOf}
 use Rattle.mt_layout.specs.declared.names.RowKind.TheVariants.{Leaf}
 use Rattle.mt_layout.specs.declared.spans.Span.{Span}
 use Rattle.mt_layout.specs.Columns.{slot_column}
 use Rattle.mt_layout.specs.Rows.{row_in}
-use Rattle.mt_free.specs.Book.{Book, Held, IsRowOf}
+use Rattle.mt_layout.specs.Sizes.{first_row, slots_of}
 use Rattle.mt_rows.specs.declared.rows.Life.{Life}
 use Rattle.mt_rows.specs.declared.rows.Life.TheVariants.{New, Dead}
 use Rattle.mt_rows.specs.declared.rows.Place.{Place}
 use Rattle.mt_rows.specs.declared.rows.Place.TheVariants.{Slot}
 use Rattle.mt_rows.specs.Spans.{Table, column, spans_in}
-use Rattle.mt_layout.specs.Sizes.{slots_of}
-use Rattle.mt_rows.specs.Levels.{Levels, is_row_of, map_of}
+use Rattle.mt_rows.specs.Levels.{Levels, is_row_of}
 use Rattle.mt_rows.specs.Laws as laws
-use Rattle.mt_rows.specs.Sheet.{Sheet, Tree, IsWhole, life_of, with_word}
-use Rattle.mt_rows.specs.Publish.{tree_as, AreOfKind, map_by, is_reached, LiveAreReached, NoneBuried, MayPublish, Published, with_record, life_after, finished}
+use Rattle.mt_rows.specs.Sheet.{Rooted, Sheet, IsWhole, life_of, with_word}
+use Rattle.mt_rows.specs.Publish.{IsTold, tree_as, map_by, is_reached, MayPublish, Published, with_record, life_after, finished}
 use Rattle.mt_rows.specs.Replacement.{root_of, IsSlotAt, ReplacesEntry}
-use Rattle.mt_base.specs.Width.{deepest}
 use Rattle.mt_rows.proofs.ExactStore.{may_publish}
 use Rattle.mt_rows.proofs.Heights.{levels_upper, levels_both, upper_both, upper_shared}
 use Rattle.mt_rows.proofs.Reached as reached
 use Rattle.mt_rows.proofs.SlotEntry as exact
 use Rattle.mt_rows.proofs.SlotStore as store
-use Rattle.mt_rows.proofs.Depth.{ranges_by_depth}
-use Rattle.mt_rows.proofs.Ranges.{tree_map}
-use Rattle.mt_path.specs.Paths.{slot_for, below, step_in}
-use Rattle.mt_path.specs.declared.paths.PathStep.{PathStep}
-use Rattle.mt_path.proofs.Places.{at_get}
-use Rattle.mt_path.proofs.TreePaths.{row_of, place, holds, top_row}
-use Rattle.mt_splice.specs.Splice.{IsStoreBy}
-use Rattle.mt_splice.specs.Kept.{IsBookOf, IsSpare}
-use Rattle.mt_splice.proofs.BetweenCalls.{acts_so}
 use Rattle.mt_path.specs.declared.handles.Handle.{Handle}
+use Rattle.mt_path.specs.declared.paths.PathStep.{PathStep}
 use Rattle.mt_path.specs.Handles.{IsHandleOf}
-use Rattle.mt_engine.specs.Engine.{IsInCall, IsEngineState, IsAnswered, IsAnsweredByOneWord, is_refusal}
-use Rattle.mt_engine.proofs.AfterSplice.{not_both}
-use Rattle.mt_engine.specs.MapSpans.{range_of}
-use Rattle.mt_engine.proofs.LeafSteps.{leaf_slots}
-use Rattle.mt_engine.proofs.Slots.{end_is, slot_holds, map_is_all, stands_in_all}
-use Rattle.mt_engine.proofs.SpanLists.{ranges, holding_behind, held_at_entry}
-use Rattle.mt_engine.proofs.ExactChanges.{exact_needs_no_rows}
+use Rattle.mt_path.specs.Paths.{slot_for, below, step_in}
+use Rattle.mt_path.proofs.Places.{at_get}
+use Rattle.mt_path.proofs.TreePaths.{row_of, place, holds}
+use Rattle.mt_splice.specs.Kept.{MayBeReplaced, IsBookOf, IsSpare}
+use Rattle.mt_splice.specs.Splice.{IsStoreBy}
+use Rattle.mt_engine.specs.Engine.{IsEngineState, IsInCall, IsIdle, IsAnswered, is_refusal}
+use Rattle.mt_engine.proofs.Answering.{not_both}
+use Rattle.mt_engine.proofs.Slots.{end_is, slot_holds}
 
 -- ---- the parent words beside a slot of a leaf
 
@@ -79,23 +74,23 @@ leaves_tended t (x ∷ xs) = (record { parent = tt; gaps = tt }, leaves_tended t
 
 -- ---- the store
 
-module _ (s : Sheet) (h index entry : ℕ) (whole : IsWhole s) (stands : laws.Stands (tree_as trees.Range s.tree) h) (inside : index ≤ greatest s.tree.table.width) where
+module _ (kind : Kind) (s : Sheet) (h index entry : ℕ) (range : MayBeReplaced kind) (whole : IsWhole s) (stands : laws.Stands (tree_as kind s.tree) h) (inside : index ≤ greatest s.tree.table.width) where
   abbrev pub t : laws.Tree
-  t = tree_as trees.Range s.tree
+  t = tree_as kind s.tree
 
   abbrev pub leaf : Span
-  leaf = row_of (tree_as trees.Range s.tree) h index
+  leaf = row_of (tree_as kind s.tree) h index
 
   abbrev pub slot : ℕ
-  slot = slot_for (spans_in s.tree.table (row_of (tree_as trees.Range s.tree) h index)) index
+  slot = slot_for (spans_in s.tree.table (row_of (tree_as kind s.tree) h index)) index
 
   abbrev pub item : Span
-  item = below s.tree.table (row_of (tree_as trees.Range s.tree) h index) index
+  item = below s.tree.table (row_of (tree_as kind s.tree) h index) index
 
   abbrev pub where_published : Place
   where_published = Slot (row_in leaf.word) (slot_column (slots_of s.tree.table.width Leaf) slot)
 
-  abbrev pub written : Tree
+  abbrev pub written : Rooted
   written = with_word s.tree (row_in leaf.word) (slot_column (slots_of s.tree.table.width Leaf) slot) entry
 
   at : IsSlotAt t h leaf slot item
@@ -109,12 +104,12 @@ module _ (s : Sheet) (h index entry : ℕ) (whole : IsWhole s) (stands : laws.St
     st = exact.entry_store t h slot entry leaf item whole.words stands at old new free
 
     abbrev t' : laws.Tree
-    t' = tree_as trees.Range s.tree.rows written
+    t' = tree_as kind written
 
     replaced : ReplacesEntry t t' h item entry
     replaced = exact.replaces_entry t h slot entry leaf item whole.words stands at old new free
 
-    pub slot_low : slot < slots_of s.tree.table.width Leaf
+    slot_low : slot < slots_of s.tree.table.width Leaf
     slot_low = let used = store.used st in let most = (store.row_law st).count.most in omega arith
 
     -- ---- which rows are reached
@@ -131,7 +126,7 @@ module _ (s : Sheet) (h index entry : ℕ) (whole : IsWhole s) (stands : laws.St
     IsOther n y = is_row_of (row_in leaf.word) n y ≡ false
 
     keeps : (n : ℕ) (y : Span) → IsOther n y → laws.IsTended t n y → laws.IsTended t' n y
-    keeps n y other tended = tended_stays t t' n y refl parent_same (store.others_same st n y other) tended
+    keeps n y other tended = tended_stays t t' n y range parent_same (store.others_same st n y other) tended
 
     tended_after : Levels (laws.IsTended t) t.table h (root_of t) → Levels (laws.IsTended t') t'.table h (root_of t')
     tended_after tended =
@@ -143,39 +138,25 @@ module _ (s : Sheet) (h index entry : ℕ) (whole : IsWhole s) (stands : laws.St
     pub lawful_after : column t.table (row_in t.root) 0 ≡ 1 → Levels (laws.IsTended t) t.table h (root_of t) → laws.IsLawful t'
     lawful_after parent tended = inr (h, replaced.stands, parent_same (row_in t.root) ∙ parent, tended_after tended)
 
-    -- ---- it needs no rows, whichever call makes it
-
-    held_first : holding (map_by s.tree) item.first ≡ Some (range_of item)
-    held_first =
-        let one = stands_in_all t h stands index inside in
-        let from = one.from in let to = one.to in
-        ap (λ (m : List Range). holding m item.first) (map_is_all t h stands ∙ ap ranges one.parts)
-        ∙ (holding_behind 0 item.first item.first one.front (item ∷ one.back) one.before (omega arith) ∙ held_at_entry item one.back item.first old (omega arith) (omega arith))
-
-    same_map : entry ≡ item.word → over (map_by s.tree) item.first item.last entry ≡ map_by s.tree
-    same_map same =
-        let by_levels : map_by s.tree ≡ map_of t.table h (root_of t) = ranges_by_depth t deepest h (top_row t) stands.low stands.rows in
-        ap (λ (m : List Range). over m item.first item.last entry) by_levels
-        ∙ (exact.is_over t h slot entry leaf item whole.words stands at old new free
-        ∙ (replaced.after ∙ (ap (λ (e : ℕ). replaced.front ++ (record { first = item.first; last = item.last; entry = e } ∷ replaced.back)) same ∙ (sym replaced.before ∙ sym by_levels))))
-
-    pub no_rows : (call : Call) (reply : Reply) → IsStoreBy trees.Range (greatest s.tree.table.width) (map_by s.tree) call reply item.first item.last entry → NeedsRows trees.Range (map_by s.tree) call → ⊥
-    no_rows call reply stores = exact_needs_no_rows (map_by s.tree) item.first item.last item.word entry call reply (tree_map t h stands) held_first stores.order new same_map stores.acts
-
     -- ---- it may be published, by whichever call
 
-    pub may_as : (call : Call) (reply : Reply) → s.in_flight ≡ true → s.published ≡ false → LiveAreReached s.tree s.lives → NoneBuried s.tree.rows s.buried → AreOfKind s.kind s.tree.table.width trees.Range
-        → IsStoreBy trees.Range (greatest s.tree.table.width) (map_by s.tree) call reply item.first item.last entry → MayPublish trees.Range s where_published entry call reply
-    may_as call reply in_flight before live none_buried of_kind stores =
-        let may = may_publish trees.Range s h slot entry leaf item whole live none_buried of_kind stands at old new free in_flight before in
-        let exactly = acts_so (map_by s.tree) item.first item.last entry stores.order free in
+    stores_so : (m : List Range) → item.first ≤ item.last → item.last ≤ greatest_of kind → acted kind m (Store item.first item.last entry) ≡ (over m item.first item.last entry, reply.Ok)
+    stores_so m order within = rw (le-ltb item.last item.first order, le-ltb (greatest_of kind) item.last within, free) refl
+
+    pub may_as : (call : Call) (reply : Reply) (book : Book) → IsInCall kind s book → IsStoreBy kind (greatest s.tree.table.width) (map_by s.tree) call reply item.first item.last entry → MayPublish kind s where_published entry call reply
+    may_as call answer book in_call stores =
+        let state = in_call.state in
+        let width = state.kept.lawful.width in
+        let may = may_publish kind s h slot entry leaf item whole state.kept.live state.kept.none_buried state.told width stands at old new free in_call.in_flight in_call.before in
+        let exactly = stores_so (map_by s.tree) stores.order (subst (λ (w : Width). item.last ≤ greatest w) width stores.within) in
         record {
           in_flight = may.in_flight;
           before = may.before;
+          told = may.told;
           at = may.at;
           live = may.live;
           tree = may.tree;
-          answer = stores.acts ∙ ap (λ (m : List Range). (m, reply)) (ap (λ (r : List Range × Reply). r.0) (sym exactly ∙ may.answer));
+          answer = stores.acts ∙ ap (λ (m : List Range). (m, answer)) (ap (λ (r : List Range × Reply). r.0) (sym exactly ∙ may.answer));
           after = may.after;
           rows = may.rows;
         }
@@ -185,73 +166,90 @@ module _ (s : Sheet) (h index entry : ℕ) (whole : IsWhole s) (stands : laws.St
 all_with : {X : Type 0} (P Q R : X → Type 0) → ((x : X) → P x → Q x → R x) → (xs : List X) → All P xs → All Q xs → All R xs
 all_with {X} P Q R f xs ps qs = All-weaker (Contains xs) R (λ x one. f x (All-contains P xs x ps one) (All-contains Q xs x qs one)) xs (All-contains_itself xs)
 
-module _ (s : Sheet) (book : Book) (after : Tree) (lives : List Life) (buried : List Bool) (call : Call) (reply : Reply) (in_call : IsInCall s book) (reached_same : (row : ℕ) → is_reached after row ≡ is_reached s.tree row)
+module _ (kind : Kind) (s : Sheet) (book : Book) (after : Rooted) (lives : List Life) (buried : List Bool) (call : Call) (reply : Reply) (in_call : IsInCall kind s book) (rows : after.rows ≡ s.tree.rows) (reached_same : (row : ℕ) → is_reached after row ≡ is_reached s.tree row)
     (alive : (row : ℕ) → first_row ≤ row → row < first_row + s.tree.rows → slice_index_or lives row New ≡ life_after s after row) (kept : (row : ℕ) → first_row ≤ row → row < first_row + s.tree.rows → slice_index_or buried row false ≡ false)
-    (width : after.table.width ≡ s.tree.table.width) (lawful : laws.IsLawful (tree_as trees.Range s.tree.rows after)) (acts : acted trees.Range (map_by s.tree) call ≡ (map_by after, reply))
-    (no_rows : NeedsRows trees.Range (map_by s.tree) call → ⊥) (success : is_refusal reply ≡ false) where
+    (width : after.table.width ≡ s.tree.table.width) (lawful : laws.IsLawful (tree_as kind after)) (acts : acted kind (map_by s.tree) call ≡ (map_by after, reply)) (calm : Wants kind (map_by s.tree) call → ⊥) (success : is_refusal reply ≡ false) where
   abbrev later : Sheet
   later = record s { tree = after; published = true; lives = lives; buried = buried; told = with_record s.told call reply }
 
   abbrev ended : Sheet
   ended = finished later call reply
 
-  same_life : (row : ℕ) → first_row ≤ row → row < first_row + s.tree.rows → life_of later.lives row ≡ life_of s.lives row
+  same_life : (row : ℕ) → first_row ≤ row → row < first_row + s.tree.rows → life_of lives row ≡ life_of s.lives row
   same_life row low high =
       alive row low high
       ∙ elim (cases_Bool (is_reached after row)) [
-        | inl is ↦ rw is (sym ((in_call.state.live row low high).1 (sym (reached_same row) ∙ is)))
-        | inr not ↦ rw (not, in_call.state.none_buried row low high) refl
+        | inl is ↦ rw is (sym ((in_call.state.kept.live row low high).1 (sym (reached_same row) ∙ is)))
+        | inr not ↦ rw (not, in_call.state.kept.none_buried row low high) refl
       ]
 
-  same_of_book : (row : ℕ) → IsRowOf book row → life_of later.lives row ≡ life_of s.lives row
-  same_of_book row is = let rows = in_call.state.booked.rows in let high = is.1 in same_life row is.0 (omega arith)
+  same_of_book : (row : ℕ) → IsRowOf book row → life_of lives row ≡ life_of s.lives row
+  same_of_book row is = let rows = in_call.state.kept.booked.rows in let low = is.0 in let high = is.1 in same_life row (omega arith) (omega arith)
 
-  booked : IsBookOf ended.tree ended.lives ended.cleared book (s.ended + 1 + 1)
+  booked : IsBookOf after lives s.cleared book (s.ended + 1 + 1)
   booked =
-      let was = in_call.state.booked in
+      let was = in_call.state.kept.booked in
       record {
         sound = was.sound;
-        rows = was.rows;
-        out = λ row low high out. reached_same row ∙ was.out row low high out;
+        rows = was.rows ∙ sym rows;
+        out = λ row low high out. reached_same row ∙ was.out row low (subst (λ (n : ℕ). row < first_row + n) rows high) out;
         reached = λ row is. was.reached row (sym (reached_same row) ∙ is);
-        spare = all_with (IsRowOf book) (λ row. IsSpare s.cleared (life_of s.lives row)) (λ row. IsSpare s.cleared (life_of later.lives row)) (λ row is spare. subst (IsSpare s.cleared) (sym (same_of_book row is)) spare) book.free was.sound.free_rows was.spare;
+        spare = all_with (IsRowOf book) (λ row. IsSpare s.cleared (life_of s.lives row)) (λ row. IsSpare s.cleared (life_of lives row)) (λ row is spare. subst (IsSpare s.cleared) (sym (same_of_book row is)) spare) book.free was.sound.free_rows was.spare;
         stamps = All-weaker (λ (h : Held). h.stamp < s.ended + 1) (λ (h : Held). h.stamp < s.ended + 1 + 1) (λ h below. omega arith) book.held was.stamps;
       }
 
-  state : IsEngineState ended book
-  state = record {
-    lawful = record { of_kind = record { told = in_call.state.lawful.of_kind.told; width = width ∙ in_call.state.lawful.of_kind.width }; words = lawful };
-    live = λ row low high.
-        let was = in_call.state.live row low high in let same = same_life row low high in let stay = reached_same row in
-        ((λ is. stay ∙ was.0 (sym same ∙ is)), (λ is. same ∙ was.1 (sym stay ∙ is)));
-    none_buried = kept;
-    booked = booked;
-    held = all_with (λ (h : Held). IsRowOf book h.row) (λ (h : Held). life_of s.lives h.row ≡ Dead h.stamp) (λ (h : Held). life_of later.lives h.row ≡ Dead h.stamp) (λ h is dead. same_of_book h.row is ∙ dead) book.held in_call.state.booked.sound.waiting_rows
-        in_call.state.held;
-    grown = let grown = in_call.state.grown in omega arith;
-  }
+  rested : IsIdle kind ended book
+  rested =
+      let state = in_call.state in
+      record {
+        idle = refl;
+        state = record {
+          told = state.told;
+          range = state.range;
+          kept = record {
+            lawful = record { width = width ∙ state.kept.lawful.width; words = lawful };
+            live = λ row low below.
+                let high : row < first_row + s.tree.rows = subst (λ (n : ℕ). row < first_row + n) rows below in
+                let was = state.kept.live row low high in let same = same_life row low high in let stay = reached_same row in
+                ((λ is. stay ∙ was.0 (sym same ∙ is)), (λ is. same ∙ was.1 (sym stay ∙ is)));
+            none_buried = λ row low below. kept row low (subst (λ (n : ℕ). row < first_row + n) rows below);
+            booked = booked;
+          };
+          held = all_with (λ (h : Held). IsRowOf book h.row) (λ (h : Held). life_of s.lives h.row ≡ Dead h.stamp) (λ (h : Held). life_of lives h.row ≡ Dead h.stamp) (λ h is dead. same_of_book h.row is ∙ dead) book.held state.kept.booked.sound.waiting_rows state.held;
+          grown = let grown = state.grown in omega arith;
+        };
+      }
 
-  pub is_answered : IsAnswered s later book book call reply
+  pub is_answered : IsAnswered kind s later book book call reply
   is_answered = record {
     may = record { in_flight = in_call.in_flight; kept = λ not. absurd (cc) };
-    idle = record { idle = refl; state = state };
-    answer =
-        inl (record {
-          acts = acts;
-          kept = λ refused. absurd (not_both (is_refusal reply) refused success);
-          room = λ needs. absurd (no_rows needs);
-          took = record { freed = book; is = inl refl; taken = []; free = sym (append-nil book.free); few = omega arith; exact = λ exact. refl };
-        });
-    record_told = refl;
-    rest = refl;
+    applied = record {
+      idle = rested;
+      answer =
+          inl (record {
+            acts = acts;
+            kept = λ refused. absurd (not_both (is_refusal reply) refused success);
+            room = λ wants. absurd (calm wants);
+            took = λ wants. absurd (calm wants);
+            calm = λ _. (refl, refl, refl);
+          });
+      ended = refl;
+      record_told = refl;
+      cleared = omega arith;
+      scans = inl refl;
+      rows = rows;
+      opened = refl;
+      shared = refl;
+      known = refl;
+    };
   }
 
 -- ---- by a handle
 
-module _ (s : Sheet) (book : Book) (handle : Handle) (entry : ℕ) (call : Call) (reply : Reply) (whole : IsWhole s) (in_call : IsInCall s book) (is : IsHandleOf s.tree handle) (range : handle.span.word ≢ 0) (new : entry ≢ 0)
-    (stores : IsStoreBy trees.Range (greatest s.tree.table.width) (map_by s.tree) call reply handle.span.first handle.span.last entry) (slots : ℕ) (are_slots : slots ≡ slots_of s.tree.table.width Leaf) where
+module _ (kind : Kind) (s : Sheet) (book : Book) (handle : Handle) (entry : ℕ) (call : Call) (reply : Reply) (whole : IsWhole s) (in_call : IsInCall kind s book) (is : IsHandleOf s.tree handle) (held : handle.span.word ≢ 0) (new : entry ≢ 0)
+    (stores : IsStoreBy kind (greatest s.tree.table.width) (map_by s.tree) call reply handle.span.first handle.span.last entry) where
   abbrev words : laws.Tree
-  words = tree_as trees.Range s.tree
+  words = tree_as kind s.tree
 
   abbrev Stood : Type 0
   Stood = (h : ℕ) × laws.Stands words h × (column words.table (row_in words.root) 0 ≡ 1) × Levels (laws.IsTended words) words.table h (root_of words)
@@ -261,7 +259,7 @@ module _ (s : Sheet) (book : Book) (handle : Handle) (entry : ℕ) (call : Call)
   stood_by (inr stood) = stood
 
   stood : Stood
-  stood = stood_by in_call.state.lawful.words
+  stood = stood_by in_call.state.kept.lawful.words
 
   abbrev here : Span
   here = row_of words stood.0 is.index
@@ -272,42 +270,27 @@ module _ (s : Sheet) (book : Book) (handle : Handle) (entry : ℕ) (call : Call)
   leaf_is : handle.leaf ≡ step_in s.tree.table here is.index
   leaf_is = ap (λ (x : Handle). x.leaf) is.is ∙ end_is words stood.0 stood.1 is.index is.within
 
-  place_is : Slot handle.leaf.row (slots + handle.leaf.slot) ≡ where_published s stood.0 is.index entry whole stood.1 is.within
-  place_is = λ i. Slot (leaf_is i).row (are_slots i + (leaf_is i).slot)
+  place_is : Slot handle.leaf.row (slot_column (slots_of s.tree.table.width Leaf) handle.leaf.slot) ≡ where_published kind s stood.0 is.index entry in_call.state.range whole stood.1 is.within
+  place_is = λ i. Slot (leaf_is i).row (slot_column (slots_of s.tree.table.width Leaf) (leaf_is i).slot)
 
   full : (below s.tree.table here is.index).word ≢ 0
-  full = subst (λ (x : Span). x.word ≢ 0) span_is range
+  full = subst (λ (x : Span). x.word ≢ 0) span_is held
 
-  pub column_low : slots + handle.leaf.slot < 32
-  column_low =
-      let low = slot_low s stood.0 is.index entry whole stood.1 is.within full new stores.lawful in
-      let same = ap (λ (x : PathStep). x.slot) leaf_is in
-      let all = leaf_slots s.tree.table.width in
-      omega arith
+  stores_there : IsStoreBy kind (greatest s.tree.table.width) (map_by s.tree) call reply (below s.tree.table here is.index).first (below s.tree.table here is.index).last entry
+  stores_there = subst (λ (x : Span). IsStoreBy kind (greatest s.tree.table.width) (map_by s.tree) call reply x.first x.last entry) span_is stores
 
-  stores_there : IsStoreBy trees.Range (greatest s.tree.table.width) (map_by s.tree) call reply (below s.tree.table here is.index).first (below s.tree.table here is.index).last entry
-  stores_there = subst (λ (x : Span). IsStoreBy trees.Range (greatest s.tree.table.width) (map_by s.tree) call reply x.first x.last entry) span_is stores
+  may_there : MayPublish kind s (where_published kind s stood.0 is.index entry in_call.state.range whole stood.1 is.within) entry call reply
+  may_there = may_as kind s stood.0 is.index entry in_call.state.range whole stood.1 is.within full new stores.lawful call reply book in_call stores_there
 
-  may_there : MayPublish trees.Range s (where_published s stood.0 is.index entry whole stood.1 is.within) entry call reply
-  may_there =
-      may_as s stood.0 is.index entry whole stood.1 is.within full new stores.lawful call reply in_call.in_flight in_call.before in_call.state.live in_call.state.none_buried in_call.state.lawful.of_kind
-      stores_there
+  pub may_publish_entry : MayPublish kind s (Slot handle.leaf.row (slot_column (slots_of s.tree.table.width Leaf) handle.leaf.slot)) entry call reply
+  may_publish_entry = subst (λ (p : Place). MayPublish kind s p entry call reply) (sym place_is) may_there
 
-  pub may_publish_entry : MayPublish trees.Range s (Slot handle.leaf.row (slots + handle.leaf.slot)) entry call reply
-  may_publish_entry = subst (λ (p : Place). MayPublish trees.Range s p entry call reply) (sym place_is) may_there
+  answered_there : (s' : Sheet) → (Wants kind (map_by s.tree) call → ⊥) → is_refusal reply ≡ false → Published s s' (where_published kind s stood.0 is.index entry in_call.state.range whole stood.1 is.within) entry call reply → IsAnswered kind s s' book book call reply
+  answered_there s' calm success done =
+      subst (λ (x : Sheet). IsAnswered kind s x book book call reply) (sym done.rest)
+      (is_answered kind s book (written kind s stood.0 is.index entry in_call.state.range whole stood.1 is.within) s'.lives s'.buried call reply in_call refl
+      (reached_stay kind s stood.0 is.index entry in_call.state.range whole stood.1 is.within full new stores.lawful) done.lives done.buried refl
+      (lawful_after kind s stood.0 is.index entry in_call.state.range whole stood.1 is.within full new stores.lawful stood.2 stood.3) may_there.answer calm success)
 
-  no_rows_there : NeedsRows trees.Range (map_by s.tree) call → ⊥
-  no_rows_there = no_rows s stood.0 is.index entry whole stood.1 is.within full new stores.lawful call reply stores_there
-
-  answered_there : (s' : Sheet) → is_refusal reply ≡ false → Published s s' (where_published s stood.0 is.index entry whole stood.1 is.within) entry call reply → IsAnsweredByOneWord s s' book call reply
-  answered_there s' success done =
-      subst (λ (x : Sheet). IsAnsweredByOneWord s x book call reply) (sym done.rest)
-      (record {
-        answered =
-            is_answered s book (written s stood.0 is.index entry whole stood.1 is.within) s'.lives s'.buried call reply in_call (reached_stay s stood.0 is.index entry whole stood.1 is.within full new stores.lawful) done.lives done.buried refl
-            (lawful_after s stood.0 is.index entry whole stood.1 is.within full new stores.lawful stood.2 stood.3) may_there.answer no_rows_there success;
-        root = refl;
-      })
-
-  pub entry_published : (s' : Sheet) → is_refusal reply ≡ false → Published s s' (Slot handle.leaf.row (slots + handle.leaf.slot)) entry call reply → IsAnsweredByOneWord s s' book call reply
-  entry_published s' success done = answered_there s' success (subst (λ (p : Place). Published s s' p entry call reply) place_is done)
+  pub entry_published : (s' : Sheet) → (Wants kind (map_by s.tree) call → ⊥) → is_refusal reply ≡ false → Published s s' (Slot handle.leaf.row (slot_column (slots_of s.tree.table.width Leaf) handle.leaf.slot)) entry call reply → IsAnswered kind s s' book book call reply
+  entry_published s' calm success done = answered_there s' calm success (subst (λ (p : Place). Published s s' p entry call reply) place_is done)

@@ -1,84 +1,142 @@
--- What each call comes to on the map of a tree.
-use Rattle.std.proofs.Common.{◌≡◌, ◌≢◌, ℕ, ◌+◌, ◌-◌, ◌^◌, ◌<◌, ◌≤◌, ◌==◌, ◌||◌, true, false, List, [], Option, Some, length, slice_get, nat_lt, refl, sym, ap, ◌∙◌, inl, inr, arith}
-use Rattle.std.specs.Prelude.{is_some}
+-- What each call comes to on a tree.
+use Rattle.std.proofs.Common.{◌≡◌, ◌≢◌, ℕ, ◌+◌, ◌^◌, ◌<◌, ◌≤◌, ◌==◌, ◌||◌, true, false, not, List, Option, Some, None, nat_lt, refl, sym, ap, ◌∙◌, subst, inl, inr, arith, ne_eqb}
+use Rattle.std.specs.Prelude.{◌↔◌, IsSome, IsNone, IfSome}
 use Rattle.std.specs.List.{AllByRecursion}
-use Rattle.std.proofs.lemmas.Bool.{cases_Bool, eqb-true, or_parts, ltb-false, le-ltb}
+use Rattle.std.proofs.lemmas.Bool.{cases_Bool, cases_lt, eqb-true, eqb-false, lt-ltb, le-ltb, or_parts}
 use Rattle.mt_base.specs.declared.kinds.Kind.{Kind}
-use Rattle.mt_base.specs.declared.kinds.Kind.TheVariants as trees
 use Rattle.mt_base.specs.declared.widths.Width.{Width}
 use Rattle.mt_base.specs.declared.widths.Width.TheVariants.{Long}
 use Rattle.mt_base.specs.declared.ranges.Range.{Range}
-use Rattle.mt_base.specs.declared.calls.Call.TheVariants.{Insert, Erase}
-use Rattle.mt_base.specs.declared.calls.Query.TheVariants.{Find}
+use Rattle.mt_base.specs.declared.calls.Call.TheVariants.{Store, Insert, Erase}
 use Rattle.mt_base.specs.declared.replies.Reply.TheVariants as reply
-use Rattle.mt_base.specs.Call.{acted, erased, is_invalid, answer}
-use Rattle.mt_base.specs.Entry.{reserved}
-use Rattle.mt_base.specs.Map.{IsMap, holding, is_held}
+use Rattle.mt_base.specs.Call.{acted, erased, is_invalid}
+use Rattle.mt_base.specs.Map.{IsMapFrom, holding, is_held}
 use Rattle.mt_base.specs.Width.{greatest}
-use Rattle.mt_list.proofs.QueriesAtPlaces.{is_held_where_found}
+use Rattle.mt_base.proofs.CallsKeepOrder.{valid_order, valid_within, valid_entry}
 use Rattle.mt_rows.specs.Publish.{IsTreeOf, map_by}
-use Rattle.mt_rows.specs.Sheet.{Sheet}
-use Rattle.mt_path.specs.Paths.{path_in}
-use Rattle.mt_path.proofs.Empty.{empty_together}
+use Rattle.mt_rows.specs.Sheet.{Rooted}
+use Rattle.mt_path.specs.declared.handles.Handle.{Handle}
 use Rattle.mt_path.specs.declared.paths.PathStep.{PathStep}
+use Rattle.mt_path.specs.Handles.{last_step, handle_of, handle_in}
+use Rattle.mt_path.specs.Paths.{path_in}
 use Rattle.mt_splice.specs.Splice.{IsStoreBy}
-use Rattle.mt_engine.proofs.HandleSteps.{root_if_no_end}
+use Rattle.mt_engine.specs.Here.{IsHereAt}
+use Rattle.mt_engine.specs.MapSpans.{range_of, IsSpanAt}
+use Rattle.mt_engine.specs.Plans.{IsStorePlan, is_taken}
+use Rattle.mt_engine.proofs.MapQueries.{load_hole}
 use Rattle.mt_engine.proofs.MapStores.{held_each, without_is_store}
-
--- ---- clear
-
--- a tree that has a root has a range
-pub some_range : (s : Sheet) (kind : Kind) → IsTreeOf s.tree kind → s.tree.root ≢ 0 → map_by s.tree ≢ []
-some_range s kind tree some none =
-    let steps = path_in s.tree.table s.tree.root 0 in
-    let empty = (empty_together s kind 0 steps tree (omega arith) refl).1 none in
-    some (root_if_no_end s kind tree 0 (omega arith) steps refl (ap (λ (l : List PathStep). slice_get l (length l - 1)) empty))
-
--- ---- erase
-
-pub erase_is_store : (m : List Range) (top index : ℕ) (r : Range) → IsMap m → AllByRecursion (λ (x : Range). x.last < top + 1) m → holding m index ≡ Some r → IsStoreBy trees.Range top m (Erase index) (reply.Was r.entry) r.first r.last 0
-erase_is_store m top index r map ends held =
-    let lies = held_each (λ (x : Range). x.last < top + 1) m index r ends held in
-    let within = lies.0 in let from = lies.1 in let to = lies.2 in
-    let less = without_is_store m 0 index r map held in
-    record {
-      acts = ap (erased m index) held ∙ (λ i. (less i, reply.Was r.entry));
-      order = omega arith;
-      within = omega arith;
-      lawful = refl;
-    }
-
--- ---- insert
-
--- what is found from the first index to the last is what is held there
-held_if_found : (m : List Range) (first last : ℕ) (found : Option Range) → first ≤ last → found ≡ answer m (Find first last) → is_held m first last ≡ is_some found
-held_if_found m first last found order is =
-    let order_test : nat_lt last first ≡ false = le-ltb last first order in
-    is_held_where_found m first last ∙ ap is_some (sym (rw order_test at is))
-
-both_false : (first last entry : ℕ) → is_invalid first last entry ≡ false → entry ≢ 0 → (is_invalid first last entry || (entry == 0)) ≡ false
-both_false first last entry valid some = elim (cases_Bool (entry == 0)) [ inl none ↦ absurd (some (eqb-true entry 0 none)) | inr other ↦ rw (valid, other) refl ]
-
-valid_order : (first last entry : ℕ) → is_invalid first last entry ≡ false → first ≤ last
-valid_order first last entry valid = ltb-false last first (or_parts (nat_lt last first) (reserved entry) valid).0
-
-module _ (m : List Range) (first last entry : ℕ) (valid : is_invalid first last entry ≡ false) (some : entry ≢ 0) (found : Option Range) (is : found ≡ answer m (Find first last)) where
-  held_is : is_held m first last ≡ is_some found
-  held_is = held_if_found m first last found (valid_order first last entry valid) is
-
-  pub insert_exists : is_some found ≡ true → acted trees.Range m (Insert first last entry) ≡ (m, reply.Exists)
-  insert_exists held = let lawful = both_false first last entry valid some in let there = held_is ∙ held in rw (lawful, there) refl
-
-  pub insert_is_store : (top : ℕ) → last ≤ top → is_some found ≡ false → IsStoreBy trees.Range top m (Insert first last entry) reply.Ok first last entry
-  insert_is_store top within free =
-      let lawful = both_false first last entry valid some in
-      let clear = held_is ∙ free in
-      record {
-        acts = rw (lawful, clear) refl;
-        order = valid_order first last entry valid;
-        within = within;
-        lawful = (or_parts (nat_lt last first) (reserved entry) valid).1;
-      }
+use Rattle.mt_engine.proofs.SameWay.{same_way}
+use Rattle.mt_engine.proofs.SlotQueries.{not_none}
+use Rattle.mt_engine.proofs.Slots.{none_at_root, tree_map, tree_within, slot_tells}
+use Rattle.mt_engine.proofs.Wanting.{held_around, none_in_hole}
 
 pub within_all : (width : Width) (index : ℕ) → index < 2 ^ 64 → index ≤ greatest width
 within_all Long index fits = omega arith
+
+module _ (t : Rooted) (kind : Kind) (tree : IsTreeOf t kind) where
+  abbrev m : List Range
+  m = map_by t
+
+  abbrev top : ℕ
+  top = greatest t.table.width
+
+  -- ---- what stands at an index
+
+  pub span_at_handle : (index : ℕ) (handle : Handle) → index ≤ top → IsHereAt t index (Some handle) → IsSpanAt m top index handle.span
+  span_at_handle index handle within here =
+      subst (λ (h : Handle). IsSpanAt m top index h.span) (sym here.some) (slot_tells t kind index tree (λ empty. not_none handle (t.root ≡ 0) here.none empty) within)
+
+  rise : IsMapFrom 0 m
+  rise = (tree_map t kind tree).rise
+
+  -- ---- store
+
+  module _ (first last entry : ℕ) (valid : is_invalid kind first last entry ≡ false) where
+    order : first ≤ last
+    order = valid_order kind first last entry valid
+
+    within : last ≤ top
+    within = subst (λ (w : Width). last ≤ greatest w) (sym tree.width) (valid_within kind first last entry valid)
+
+    pub first_within : first ≤ top
+    first_within = let le = order in let most = within in omega arith
+
+    pub store_plan : (path : List PathStep) (here : Option Handle) → path ≡ path_in t.table t.root first → IsHereAt t first here → IsStorePlan kind t (Store first last entry) path first last entry reply.Ok here
+    store_plan path here way stands = record {
+      store = record { acts = rw valid refl; order = order; within = within; lawful = valid_entry kind first last entry valid };
+      own = (refl, refl, refl);
+      success = refl;
+      way = way;
+      stands = stands;
+    }
+
+    -- ---- insert
+
+    -- a range holds an index of the store's where one stands in the slot of the first, or right behind a hole there
+    taken_is : (here : Option Handle) → IsHereAt t first here → is_held m first last ≡ is_taken here last
+    taken_is None stands = ap (λ (l : List Range). is_held l first last) (none_at_root t (stands.none.0 refl))
+    taken_is (Some handle) stands =
+        let at = span_at_handle first handle first_within stands in
+        elim (cases_Bool (handle.span.word == 0)) [
+          | inr word ↦ rw word (held_around m first last first (range_of handle.span) (omega arith) order (at.held (eqb-false handle.span.word 0 word)))
+          | inl hole ↦
+              (let no_word = eqb-true handle.span.word 0 hole in
+              elim (cases_lt handle.span.last last) [
+                | inl more ↦
+                    (let to = at.to in let most = within in
+                    let found = some_range (holding m (handle.span.last + 1)) (at.behind no_word (omega arith)) in
+                    rw (hole, lt-ltb handle.span.last last more) (held_around m first last (handle.span.last + 1) found.0 (omega arith) (omega arith) found.1))
+                | inr over ↦ rw (hole, le-ltb handle.span.last last over) (none_in_hole m top first last handle.span rise at no_word over)
+              ])
+        ]
+      where
+        some_range : (o : Option Range) → IsSome o → (r : Range) × (o ≡ Some r)
+        some_range None some = absurd (cc)
+        some_range (Some r) some = (r, refl)
+
+    good : entry ≢ 0 → (is_invalid kind first last entry || (entry == 0)) ≡ false
+    good some = rw (valid, ne_eqb entry 0 some) refl
+
+    pub insert_exists : (here : Option Handle) → entry ≢ 0 → IsHereAt t first here → is_taken here last ≡ true → acted kind m (Insert first last entry) ≡ (m, reply.Exists)
+    insert_exists here some stands taken = rw (good some, taken_is here stands ∙ taken) refl
+
+    pub insert_plan : (path : List PathStep) (here : Option Handle) → entry ≢ 0 → path ≡ path_in t.table t.root first → IsHereAt t first here → is_taken here last ≡ false → IsStorePlan kind t (Insert first last entry) path first last entry reply.Ok here
+    insert_plan path here some way stands free = record {
+      store = record { acts = rw (good some, taken_is here stands ∙ free) refl; order = order; within = within; lawful = valid_entry kind first last entry valid };
+      own = (refl, refl, refl);
+      success = refl;
+      way = way;
+      stands = stands;
+    }
+
+  -- ---- erase
+
+  module _ (index : ℕ) (inside : index ≤ top) where
+    pub erase_nothing : t.root ≡ 0 → acted kind m (Erase index) ≡ (m, reply.None)
+    erase_nothing none = let empty = none_at_root t none in ap (erased m index) (ap (λ (l : List Range). holding l index) empty)
+
+    module _ (handle : Handle) (stands : IsHereAt t index (Some handle)) where
+      at : IsSpanAt m top index handle.span
+      at = span_at_handle index handle inside stands
+
+      pub erase_hole : handle.span.word ≡ 0 → acted kind m (Erase index) ≡ (m, reply.None)
+      erase_hole hole = ap (erased m index) (sym (load_hole m top index handle.span rise at hole))
+
+      some : t.root ≢ 0
+      some empty = not_none handle (t.root ≡ 0) stands.none empty
+
+      same : path_in t.table t.root handle.span.first ≡ path_in t.table t.root index
+      same = ap (λ (h : Handle). path_in t.table t.root h.span.first) stands.some ∙ same_way t kind index tree some inside
+
+      pub erase_plan : (path : List PathStep) → handle.span.word ≢ 0 → path ≡ path_in t.table t.root index → IsStorePlan kind t (Erase index) path handle.span.first handle.span.last 0 (reply.Was handle.span.word) (Some handle)
+      erase_plan path word way =
+          let held = at.held word in
+          let from = at.from in let to = at.to in
+          let less = without_is_store m 0 index (range_of handle.span) rise held in
+          record {
+            store = record { acts = ap (erased m index) held ∙ (λ i. (less i, reply.Was handle.span.word)); order = omega arith; within = at.within; lawful = refl };
+            own = refl;
+            success = refl;
+            way = way ∙ sym same;
+            stands = record { none = stands.none; some = stands.some ∙ ap (λ (p : List PathStep). handle_of t.table (last_step p)) (sym same) };
+          }

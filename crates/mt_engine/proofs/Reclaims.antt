@@ -8,23 +8,23 @@ use Rattle.mt_free.specs.Book.{Held, Book, IsBook, IsOut, kept, after_reclaim}
 use Rattle.mt_free.proofs.Books.{book, reclaim_leaves_book, first_due, none_due}
 use Rattle.mt_rows.specs.declared.rows.Life.{Life}
 use Rattle.mt_rows.specs.declared.rows.Life.TheVariants.{New, Draft, Live, Dead}
-use Rattle.mt_rows.specs.Sheet.{Sheet, life_of}
+use Rattle.mt_rows.specs.Sheet.{life_of}
 use Rattle.mt_splice.specs.Kept.{IsSpare}
 
 -- the held row died by the call that the book tells, which has ended
-pub record DiedBy (s : Sheet) (h : Held) : Type 0 where
-  pub dead : life_of s.lives h.row ≡ Dead h.stamp
-  pub ended : h.stamp ≤ s.ended
+pub record DiedBy (lives : List Life) (all : ℕ) (h : Held) : Type 0 where
+  pub dead : life_of lives h.row ≡ Dead h.stamp
+  pub ended : h.stamp ≤ all
 
--- what is kept while one held row after another is freed
-pub record Kept (s : Sheet) (cleared : ℕ) (was b : Book) : Type 0 where
+-- what holds on while one held row after another is freed
+pub record Freed (lives : List Life) (all cleared : ℕ) (was b : Book) : Type 0 where
   pub sound : IsBook b
   pub rows : b.rows ≡ was.rows
   pub counted : length b.free + length b.held ≡ length was.free + length was.held
   pub fewer : length b.held ≤ length was.held
   pub out : (row : ℕ) → IsOut b row → IsOut was row
-  pub spare : All (λ row. IsSpare cleared (life_of s.lives row)) b.free
-  pub dead : All (DiedBy s) b.held
+  pub spare : All (λ row. IsSpare cleared (life_of lives row)) b.free
+  pub dead : All (DiedBy lives all) b.held
 
 pub spare_rises : (was cleared : ℕ) (life : Life) → was ≤ cleared → IsSpare was life → IsSpare cleared life
 spare_rises was cleared New rises spare = tt
@@ -42,32 +42,32 @@ out_before rows free h held row out = record {
   ];
 }
 
-module _ (s : Sheet) (cleared least : ℕ) (reach : min least s.ended ≤ cleared) (was : Book) where
-  one_freed : (rows : ℕ) (free : List ℕ) (h : Held) (held : List Held) → h.stamp ≤ least → Kept s cleared was (book rows free (h ∷ held)) → Kept s cleared was (book rows (free ++ h.row ∷ []) held)
+module _ (lives : List Life) (all cleared least : ℕ) (reach : min least all ≤ cleared) (was : Book) where
+  one_freed : (rows : ℕ) (free : List ℕ) (h : Held) (held : List Held) → h.stamp ≤ least → Freed lives all cleared was (book rows free (h ∷ held)) → Freed lives all cleared was (book rows (free ++ h.row ∷ []) held)
   one_freed rows free h held due k =
-      let first : DiedBy s h = All-head (DiedBy s) h held k.dead in
+      let first : DiedBy lives all h = All-head (DiedBy lives all) h held k.dead in
       record {
         sound = reclaim_leaves_book rows free h held k.sound;
         rows = k.rows;
         counted = omega (arith, k.counted, length-append free (h.row ∷ []));
         fewer = (let more = k.fewer in omega arith);
         out = λ row out. k.out row (out_before rows free h held row out);
-        spare = All-push (λ row. IsSpare cleared (life_of s.lives row)) free h.row k.spare (subst (λ (l : Life). IsSpare cleared l) (sym first.dead) (let ended = first.ended in omega (arith, ended, due, reach)));
-        dead = All-tail (DiedBy s) h held k.dead;
+        spare = All-push (λ row. IsSpare cleared (life_of lives row)) free h.row k.spare (subst (λ (l : Life). IsSpare cleared l) (sym first.dead) (let ended = first.ended in omega (arith, ended, due, reach)));
+        dead = All-tail (DiedBy lives all) h held k.dead;
       }
 
-  by_recursion : (rows : ℕ) (free : List ℕ) (held : List Held) → Kept s cleared was (book rows free held) → Kept s cleared was (after_reclaim (book rows free held) least)
+  by_recursion : (rows : ℕ) (free : List ℕ) (held : List Held) → Freed lives all cleared was (book rows free held) → Freed lives all cleared was (after_reclaim (book rows free held) least)
   by_recursion rows free [] k = rw append-nil k
   by_recursion rows free (h ∷ held) k = elim (cases_Bool (nat_le h.stamp least)) [
     | inl is_due ↦
         let due : h.stamp ≤ least = leb-true h.stamp least is_due in
-        subst (λ (b : Book). Kept s cleared was b) (first_due rows free h held least due) (by_recursion rows (free ++ h.row ∷ []) held (one_freed rows free h held due k))
+        subst (λ (b : Book). Freed lives all cleared was b) (first_due rows free h held least due) (by_recursion rows (free ++ h.row ∷ []) held (one_freed rows free h held due k))
     | inr not_due ↦
         let later : least < h.stamp = leb-false h.stamp least not_due in
-        subst (λ (b : Book). Kept s cleared was b) (sym (none_due (book rows free (h ∷ held)) least k.sound later).1) k
+        subst (λ (b : Book). Freed lives all cleared was b) (sym (none_due (book rows free (h ∷ held)) least k.sound later).1) k
   ]
 
-  pub reclaimed : Kept s cleared was was → Kept s cleared was (after_reclaim was least)
+  pub reclaimed : Freed lives all cleared was was → Freed lives all cleared was (after_reclaim was least)
   reclaimed k = by_recursion was.rows was.free was.held k
 
 -- the held rows left were replaced later

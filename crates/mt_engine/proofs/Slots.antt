@@ -2,30 +2,32 @@
 use Rattle.std.proofs.Common.{◌≡◌, ◌≢◌, ℕ, ◌+◌, ◌-◌, ◌≤◌, List, [], ◌∷◌, ◌++◌, length, refl, sym, ap, ◌∙◌, subst, inl, inr, arith, append-nil, append_assoc}
 use Rattle.std.specs.List.{AllByRecursion}
 use Rattle.mt_base.specs.declared.kinds.Kind.{Kind}
+use Rattle.mt_base.specs.declared.ranges.Range.{Range}
+use Rattle.mt_base.specs.declared.widths.Width.{Width}
 use Rattle.mt_base.specs.Map.{IsMap}
-use Rattle.mt_base.specs.Width.{greatest}
+use Rattle.mt_base.specs.Width.{greatest, deepest}
+use Rattle.mt_base.proofs.Lists.{all_map}
 use Rattle.mt_layout.specs.declared.names.RowKind.TheVariants.{Leaf}
 use Rattle.mt_layout.specs.declared.spans.Span.{Span}
 use Rattle.mt_layout.specs.Spans.{Fills, Apart}
+use Rattle.mt_layout.proofs.SpanLists.{fills_le, apart-append}
 use Rattle.mt_rows.specs.Spans.{spans_in}
 use Rattle.mt_rows.specs.Levels.{expand}
-use Rattle.mt_base.specs.Width.{deepest}
+use Rattle.mt_rows.specs.Trees.{map_in}
 use Rattle.mt_rows.specs.Laws.{Tree, IsTree, IsRow, Stands, top_of}
 use Rattle.mt_rows.specs.Publish.{IsTreeOf, tree_as, map_by}
-use Rattle.mt_rows.specs.Sheet.{Sheet}
+use Rattle.mt_rows.specs.Sheet.{Rooted}
 use Rattle.mt_rows.proofs.Depth.{ranges_by_depth}
 use Rattle.mt_rows.proofs.Heights.{level_rows, map_of_split}
-use Rattle.mt_rows.proofs.Lists.{all_map, Filled, expand_fills, expand-append, fills_le}
+use Rattle.mt_rows.proofs.Lists.{Filled, expand_fills, expand-append}
 use Rattle.mt_rows.proofs.Ranges as maps
 use Rattle.mt_path.specs.declared.paths.PathStep.{PathStep}
 use Rattle.mt_path.specs.Paths.{slot_for, span_at, step_in, below, path_in, step_at, At}
+use Rattle.mt_path.specs.Handles.{last_step, leaf_spans, handle_in}
 use Rattle.mt_path.proofs.Places.{at_parts}
 use Rattle.mt_path.proofs.TreePaths.{top_row, rows_at, row_of, levels, step, place, rows_fill, lawful, holds}
-use Rattle.mt_path.specs.Handles.{last_step, leaf_spans}
-use Rattle.mt_splice.proofs.PathRows.{spans_of_step}
-use Rattle.mt_path.specs.Handles.{handle_in}
 use Rattle.mt_engine.specs.MapSpans.{IsSpanAt}
-use Rattle.mt_engine.proofs.SpanLists.{ranges, apart_join, span_tells}
+use Rattle.mt_engine.proofs.SpanLists.{ranges, span_tells}
 
 -- ---- what stands in the leaves
 
@@ -40,19 +42,19 @@ leaves_apart t lo hi (x ∷ []) within fills rows = rw append-nil rows.0.holes.a
 leaves_apart t lo hi (x ∷ y ∷ xs) within fills rows =
     let begins = fills.2.0 in let order = fills.2.1 in
     let less = fills_le (y.last + 1) hi xs fills.2.2 in
-    apart_join (spans_in t.table x) (expand t.table (y ∷ xs)) rows.0.holes.apart (rows.0.holes.ends (omega arith)) (leaves_apart t (x.last + 1) hi (y ∷ xs) within fills.2 rows.1)
+    apart-append (spans_in t.table x) (expand t.table (y ∷ xs)) rows.0.holes.apart (rows.0.holes.ends (omega arith)) (leaves_apart t (x.last + 1) hi (y ∷ xs) within fills.2 rows.1)
 
 module _ (t : Tree) (h : ℕ) (stands : Stands t h) where
   leaf_rows : AllByRecursion (IsRow t 0) (rows_at t h)
   leaf_rows = level_rows (IsRow t) t.table h 0 h (top_row t ∷ []) (omega arith) stands.rows
 
-  pub all_fill : Fills 0 (top_of t + 1) (all_spans t h)
+  all_fill : Fills 0 (top_of t + 1) (all_spans t h)
   all_fill = expand_fills t.table 0 (top_of t + 1) (rows_at t h) (all_map (IsRow t 0) (Filled t.table) (λ x row. row.pivots.fills) (rows_at t h) leaf_rows) (rows_fill t h stands h (omega arith))
 
-  pub all_apart : Apart (all_spans t h)
+  all_apart : Apart (all_spans t h)
   all_apart = leaves_apart t 0 (top_of t + 1) (rows_at t h) (omega arith) (rows_fill t h stands h (omega arith)) leaf_rows
 
-  pub map_is_all : map_by (record { table = t.table; root = t.root }) ≡ ranges (all_spans t h)
+  pub map_is_all : map_in t.table t.root ≡ ranges (all_spans t h)
   map_is_all = ranges_by_depth t deepest h (top_row t) stands.low stands.rows ∙ map_of_split t.table h 0 h (top_row t ∷ []) (omega arith)
 
   -- ---- at an index
@@ -71,10 +73,13 @@ module _ (t : Tree) (h : ℕ) (stands : Stands t h) where
         let last : length (path_in t.table t.root index) - 1 ≡ h = omega arith in
         ap (step_at (path_in t.table t.root index)) last ∙ step t h stands index h within (omega arith)
 
+    leaf_spans_are : leaf_spans t.table (step_in t.table leaf index) ≡ spans_in t.table leaf
+    leaf_spans_are = let named = (lawful t h stands index h 0 within (omega arith)).name.named in rw named refl
+
     pub slot_holds : span_at (leaf_spans t.table (last_step (path_in t.table t.root index))) (last_step (path_in t.table t.root index)).slot ≡ held
     slot_holds =
         ap (λ (s : PathStep). span_at (leaf_spans t.table s) s.slot) end_is
-        ∙ ap (λ (l : List Span). span_at l (slot_for (spans_in t.table leaf) index)) (spans_of_step t.table leaf Leaf (step_in t.table leaf index) index (lawful t h stands index h 0 within (omega arith)).name.named refl t.table)
+        ∙ ap (λ (l : List Span). span_at l (slot_for (spans_in t.table leaf) index)) leaf_spans_are
 
     pub stands_in_all : At 0 (top_of t + 1) (all_spans t h) index held
     stands_in_all =
@@ -90,25 +95,30 @@ module _ (t : Tree) (h : ℕ) (stands : Stands t h) where
         regroup : (a b : List Span) (x : Span) (c e : List Span) → a ++ ((b ++ (x ∷ c)) ++ e) ≡ (a ++ b) ++ (x ∷ (c ++ e))
         regroup a b x c e = simp append_assoc
 
-    pub tells : IsSpanAt (map_by (record { table = t.table; root = t.root })) (top_of t) index (span_at (leaf_spans t.table (last_step (path_in t.table t.root index))) (last_step (path_in t.table t.root index)).slot)
+    tells : IsSpanAt (map_in t.table t.root) (top_of t) index (span_at (leaf_spans t.table (last_step (path_in t.table t.root index))) (last_step (path_in t.table t.root index)).slot)
     tells =
-        subst (λ (x : Span). IsSpanAt (map_by (record { table = t.table; root = t.root })) (top_of t) index x) (sym slot_holds)
-        (subst (λ (m : _). IsSpanAt m (top_of t) index held) (sym map_is_all) (span_tells (top_of t) index (all_spans t h) held stands_in_all all_apart))
+        subst (λ (x : Span). IsSpanAt (map_in t.table t.root) (top_of t) index x) (sym slot_holds)
+        (subst (λ (m : List Range). IsSpanAt m (top_of t) index held) (sym map_is_all) (span_tells (top_of t) index (all_spans t h) held stands_in_all all_apart))
 
 -- ---- of a tree
 
-map_by_words : (t : Tree) → IsTree t → IsMap (map_by (record { table = t.table; root = t.root }))
-map_by_words t (inl empty) = let none = ap (λ (root : ℕ). map_by (record { table = t.table; root = root })) empty in subst IsMap (sym none) tt
-map_by_words t (inr (h, stands)) = maps.tree_map t h stands
+pub none_at_root : (t : Rooted) → t.root ≡ 0 → map_by t ≡ []
+none_at_root t empty = ap (map_in t.table) empty
 
-pub tree_map : (s : Sheet) (kind : Kind) → IsTreeOf s.tree kind → IsMap (map_by s.tree)
-tree_map s kind tree = map_by_words (tree_as kind s.tree) tree.words
+pub tree_map : (t : Rooted) (kind : Kind) → IsTreeOf t kind → IsMap kind (map_by t)
+tree_map t kind tree = by tree.words
+  where
+    by : IsTree (tree_as kind t) → IsMap kind (map_by t)
+    by (inl empty) = subst (IsMap kind) (sym (none_at_root t empty)) (record { rise = tt; within = tt })
+    by (inr (h, stands)) = maps.tree_map (tree_as kind t) h stands tree.width
 
-tells_by_words : (t : Tree) (index : ℕ) → IsTree t → t.root ≢ 0 → index ≤ top_of t
-    → IsSpanAt (map_by (record { table = t.table; root = t.root })) (top_of t) index (handle_in (record { table = t.table; root = t.root }) index).span
-tells_by_words t index (inl empty) some within = absurd (some empty)
-tells_by_words t index (inr (h, stands)) some within = tells t h stands index within
+-- its ranges, by the width of the words
+pub tree_within : (t : Rooted) (kind : Kind) → IsTreeOf t kind → AllByRecursion (λ (r : Range). r.last ≤ greatest t.table.width) (map_by t)
+tree_within t kind tree = subst (λ (w : Width). AllByRecursion (λ (r : Range). r.last ≤ greatest w) (map_by t)) (sym tree.width) (tree_map t kind tree).within
 
-pub slot_tells : (s : Sheet) (kind : Kind) (index : ℕ) → IsTreeOf s.tree kind → s.tree.root ≢ 0 → index ≤ greatest s.tree.table.width
-    → IsSpanAt (map_by s.tree) (greatest s.tree.table.width) index (handle_in s.tree index).span
-slot_tells s kind index tree some within = tells_by_words (tree_as kind s.tree) index tree.words some within
+pub slot_tells : (t : Rooted) (kind : Kind) (index : ℕ) → IsTreeOf t kind → t.root ≢ 0 → index ≤ greatest t.table.width → IsSpanAt (map_by t) (greatest t.table.width) index (handle_in t index).span
+slot_tells t kind index tree some within = by tree.words
+  where
+    by : IsTree (tree_as kind t) → IsSpanAt (map_by t) (greatest t.table.width) index (handle_in t index).span
+    by (inl empty) = absurd (some empty)
+    by (inr (h, stands)) = tells (tree_as kind t) h stands index within

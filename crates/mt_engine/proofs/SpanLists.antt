@@ -4,27 +4,16 @@ use Rattle.std.specs.Prelude.{IsSome, is_some}
 use Rattle.std.specs.List.{flat_map}
 use Rattle.std.proofs.lemmas.Bool.{cases_Bool, and_left, and_right, eqb-false, eqb-true, lt-leb, le-leb}
 use Rattle.mt_base.specs.declared.ranges.Range.{Range}
-use Rattle.mt_base.specs.Map.{IsMapFrom, holds, holding, overlaps, is_held}
-use Rattle.mt_base.proofs.StoredOrder.{IsMapFrom-lower}
+use Rattle.mt_base.specs.Map.{holds, holding, overlaps, is_held}
 use Rattle.mt_layout.specs.declared.spans.Span.{Span}
 use Rattle.mt_layout.specs.Spans.{leaf_range, Fills, BeginsFull, Apart, EndsFull}
-use Rattle.mt_rows.proofs.Lists.{fills_le}
+use Rattle.mt_layout.proofs.SpanLists.{fills_le, full_before_hole, full_behind_hole}
 use Rattle.mt_path.specs.Paths.{At}
 use Rattle.mt_engine.specs.MapSpans.{range_of, IsSpanAt}
 
 -- the ranges of spans, which are the map that they stand for
 abbrev pub ranges : List Span → List Range
 ranges xs = flat_map leaf_range xs
-
-pub spans_map : (lo hi : ℕ) (xs : List Span) → Fills lo hi xs → IsMapFrom lo (ranges xs)
-spans_map lo hi [] fills = tt
-spans_map lo hi (x ∷ xs) fills =
-    let begins = fills.0 in let ends = fills.1 in
-    let behind = spans_map (x.last + 1) hi xs fills.2 in
-    elim (cases_Bool (x.word == 0)) [
-      | inl hole ↦ rw hole (IsMapFrom-lower (ranges xs) lo (x.last + 1) (omega arith) behind)
-      | inr entry ↦ rw entry (omega arith, omega arith, omega (arith, eqb-false x.word 0 entry), behind)
-    ]
 
 -- ---- one range
 
@@ -43,14 +32,14 @@ lies_below r first last lt = and_right (nat_le r.first last) (nat_le first r.las
 -- ---- at an index
 
 -- a hole gives no range, and an entry one
-pub ranges_hole : (x : Span) (xs : List Span) → x.word ≡ 0 → ranges (x ∷ xs) ≡ ranges xs
+ranges_hole : (x : Span) (xs : List Span) → x.word ≡ 0 → ranges (x ∷ xs) ≡ ranges xs
 ranges_hole x xs hole = rw hole refl
 
-pub ranges_entry : (x : Span) (xs : List Span) → x.word ≢ 0 → ranges (x ∷ xs) ≡ range_of x ∷ ranges xs
+ranges_entry : (x : Span) (xs : List Span) → x.word ≢ 0 → ranges (x ∷ xs) ≡ range_of x ∷ ranges xs
 ranges_entry x xs entry = elim (cases_Bool (x.word == 0)) [ inl hole ↦ absurd (entry (eqb-true x.word 0 hole)) | inr some ↦ rw some refl ]
 
 -- spans above an index hold it not, nor do spans below it
-pub none_above : (lo hi index : ℕ) (xs : List Span) → Fills lo hi xs → index < lo → holding (ranges xs) index ≡ None
+none_above : (lo hi index : ℕ) (xs : List Span) → Fills lo hi xs → index < lo → holding (ranges xs) index ≡ None
 none_above lo hi index [] fills above = refl
 none_above lo hi index (x ∷ xs) fills above =
     let begins = fills.0 in let ends = fills.1 in
@@ -70,14 +59,14 @@ held_at_entry x xs index entry from to = rw (ranges_entry x xs entry, le-leb x.f
 
 -- ---- over a hole
 
-pub unheld_above : (lo hi first last : ℕ) (xs : List Span) → Fills lo hi xs → last < lo → is_held (ranges xs) first last ≡ false
+unheld_above : (lo hi first last : ℕ) (xs : List Span) → Fills lo hi xs → last < lo → is_held (ranges xs) first last ≡ false
 unheld_above lo hi first last [] fills above = refl
 unheld_above lo hi first last (x ∷ xs) fills above =
     let begins = fills.0 in let ends = fills.1 in
     let behind = unheld_above (x.last + 1) hi first last xs fills.2 (omega arith) in
     elim (cases_Bool (x.word == 0)) [ inl hole ↦ rw hole behind | inr entry ↦ rw (entry, lies_above (range_of x) first last (omega arith)) behind ]
 
-pub held_behind : (lo mid first last : ℕ) (front back : List Span) → Fills lo mid front → mid ≤ first → is_held (ranges (front ++ back)) first last ≡ is_held (ranges back) first last
+held_behind : (lo mid first last : ℕ) (front back : List Span) → Fills lo mid front → mid ≤ first → is_held (ranges (front ++ back)) first last ≡ is_held (ranges back) first last
 held_behind lo mid first last [] back fills below = refl
 held_behind lo mid first last (x ∷ front) back fills below =
     let less = fills_le (x.last + 1) mid front fills.2 in
@@ -86,23 +75,8 @@ held_behind lo mid first last (x ∷ front) back fills below =
 
 -- ---- beside a hole
 
--- where a list ends with an entry, no two holes meet there
-pub apart_join : (xs ys : List Span) → Apart xs → EndsFull xs → Apart ys → Apart (xs ++ ys)
-apart_join [] ys front full back = back
-apart_join (x ∷ []) ys front full back = ((λ hole. absurd (full hole)), back)
-apart_join (x ∷ y ∷ xs) ys front full back = (front.0, apart_join (y ∷ xs) ys front.1 full back)
-
-pub full_before : (front : List Span) (x : Span) (back : List Span) → Apart (front ++ (x ∷ back)) → x.word ≡ 0 → EndsFull front
-full_before [] x back apart hole = tt
-full_before (y ∷ []) x back apart hole = λ other. apart.0 other hole
-full_before (y ∷ z ∷ front) x back apart hole = full_before (z ∷ front) x back apart.1 hole
-
-pub full_behind : (front : List Span) (x : Span) (back : List Span) → Apart (front ++ (x ∷ back)) → x.word ≡ 0 → BeginsFull back
-full_behind [] x back apart hole = apart.0 hole
-full_behind (y ∷ front) x back apart hole = full_behind front x back apart.1 hole
-
 -- the last index of spans that end with an entry is held
-pub held_at_end : (lo mid : ℕ) (front back : List Span) → Fills lo mid front → lo < mid → EndsFull front → IsSome (holding (ranges (front ++ back)) (mid - 1))
+held_at_end : (lo mid : ℕ) (front back : List Span) → Fills lo mid front → lo < mid → EndsFull front → IsSome (holding (ranges (front ++ back)) (mid - 1))
 held_at_end lo mid [] back fills some full = absurd (omega arith)
 held_at_end lo mid (x ∷ []) back fills some full =
     let begins = fills.0 in let within = fills.1 in let ends = fills.2 in
@@ -114,7 +88,7 @@ held_at_end lo mid (x ∷ y ∷ front) back fills some full =
     ap is_some (holding_behind lo (x.last + 1) (mid - 1) (x ∷ []) ((y ∷ front) ++ back) (fills.0, fills.1, refl) (omega arith)) ∙ behind
 
 -- and so is the first index of spans that begin with one
-pub held_at_begin : (mid hi : ℕ) (back : List Span) → Fills mid hi back → mid < hi → BeginsFull back → IsSome (holding (ranges back) mid)
+held_at_begin : (mid hi : ℕ) (back : List Span) → Fills mid hi back → mid < hi → BeginsFull back → IsSome (holding (ranges back) mid)
 held_at_begin mid hi [] fills some full = absurd (omega arith)
 held_at_begin mid hi (x ∷ back) fills some full =
     let begins = fills.0 in let within = fills.1 in
@@ -141,17 +115,9 @@ span_tells top index all x at apart =
           ∙ (ap (λ (m : List Range). is_held m x.first x.last) (ranges_hole x at.back hole) ∙ unheld_above (x.last + 1) (top + 1) x.first x.last at.back at.after (omega arith)));
       before = λ hole some.
           ap (λ (l : List Span). is_some (holding (ranges l) (x.first - 1))) parts
-          ∙ held_at_end 0 x.first at.front (x ∷ at.back) at.before some (full_before at.front x at.back whole hole);
+          ∙ held_at_end 0 x.first at.front (x ∷ at.back) at.before some (full_before_hole at.front x at.back whole hole);
       behind = λ hole more.
           ap (λ (l : List Span). is_some (holding (ranges l) (x.last + 1))) parts
           ∙ (ap is_some (holding_behind 0 x.first (x.last + 1) at.front (x ∷ at.back) at.before (omega arith) ∙ ap (λ (m : List Range). holding m (x.last + 1)) (ranges_hole x at.back hole))
-          ∙ held_at_begin (x.last + 1) (top + 1) at.back at.after (omega arith) (full_behind at.front x at.back whole hole));
+          ∙ held_at_begin (x.last + 1) (top + 1) at.back at.after (omega arith) (full_behind_hole at.front x at.back whole hole));
     }
-
--- no index of a hole is held
-pub hole_holds_none : (top index : ℕ) (all : List Span) (x : Span) → At 0 (top + 1) all index x → x.word ≡ 0 → holding (ranges all) index ≡ None
-hole_holds_none top index all x at hole =
-    let from = at.from in let to = at.to in
-    ap (λ (l : List Span). holding (ranges l) index) at.parts
-    ∙ (holding_behind 0 x.first index at.front (x ∷ at.back) at.before from
-    ∙ (ap (λ (m : List Range). holding m index) (ranges_hole x at.back hole) ∙ none_above (x.last + 1) (top + 1) index at.back at.after (omega arith)))

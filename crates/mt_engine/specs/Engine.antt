@@ -1,31 +1,21 @@
--- The rows of a tree and the book of them: between two calls of an engine, and within a call that has published nothing.
+-- The rows of a tree and the book of them, between two calls of an engine and within one; and what a call does to them.
 -- Source: this project's own.
-use Rattle.std.specs.Prelude.{◌≡◌, ◌⊎◌, ◌+◌, ◌-◌, ◌*◌, ◌^◌, ◌<◌, ◌≤◌, true, false, All, length, Bool, List, [], ◌++◌, ℕ}
+use Rattle.std.specs.Prelude.{◌≡◌, ◌⊎◌, ℕ, ◌+◌, ◌*◌, ◌≤◌, Bool, true, false, List, ◌++◌, All, Option, length}
 use Rattle.mt_base.specs.declared.calls.Call.{Call}
 use Rattle.mt_base.specs.declared.kinds.Kind.{Kind}
-use Rattle.mt_base.specs.declared.kinds.Kind.TheVariants as trees
 use Rattle.mt_base.specs.declared.replies.Reply.{Reply}
-use Rattle.mt_base.specs.Call.{acted}
 use Rattle.mt_base.specs.declared.replies.Reply.TheVariants as answers
-use Rattle.mt_base.specs.declared.replies.Reply.TheVariants.{NoNodes}
 use Rattle.mt_base.specs.declared.replies.Shortage.{Shortage}
-use Rattle.mt_base.specs.Nodes.{NeedsRows, is_exact_store, IsShort}
+use Rattle.mt_base.specs.Call.{acted}
+use Rattle.mt_base.specs.Nodes.{Wants, IsRefused}
+use Rattle.mt_base.specs.Width.{most_taken}
 use Rattle.mt_free.specs.Book.{Book, Held, live_count, after_reclaim}
+use Rattle.mt_rows.specs.declared.rows.Life.{Life}
 use Rattle.mt_rows.specs.declared.rows.Life.TheVariants.{Dead}
 use Rattle.mt_rows.specs.Trees.{height_in}
-use Rattle.mt_rows.specs.Sheet.{Sheet, life_of}
-use Rattle.mt_rows.specs.Publish.{IsLawfulOf, LiveAreReached, NoneBuried, MayFinish, IsRefused, IsCounted, finished, map_by, with_record}
-use Rattle.mt_splice.specs.Kept.{IsBookOf}
-
--- What holds of the rows and the book whether or not a call is in flight: lawful words of a tree of ranges, live rows that
--- are reached, and a book of these rows whose held rows died by the calls that it tells. A call takes 28 rows at the most.
-pub record IsEngineState (s : Sheet) (book : Book) : Type 0 where
-  pub lawful : IsLawfulOf s.tree trees.Range
-  pub live : LiveAreReached s.tree s.lives
-  pub none_buried : NoneBuried s.tree.rows s.buried
-  pub booked : IsBookOf s.tree s.lives s.cleared book (s.ended + 1)
-  pub held : All (λ (h : Held). life_of s.lives h.row ≡ Dead h.stamp) book.held
-  pub grown : length book.held + live_count book ≤ s.opened + 28 * s.ended
+use Rattle.mt_rows.specs.Sheet.{Rooted, Sheet, life_of, limits_of, one_more}
+use Rattle.mt_rows.specs.Publish.{IsTold, MayFinish, IsCounted, WasScanned, finished, map_by, with_record}
+use Rattle.mt_splice.specs.Kept.{MayBeReplaced, IsKept}
 
 -- what an engine stands for
 pub record Parts : Type 0 where
@@ -33,40 +23,49 @@ pub record Parts : Type 0 where
   pub book : Book
   pub kind : Kind
 
--- between two calls
-pub record IsIdle (s : Sheet) (book : Book) : Type 0 where
-  pub idle : s.in_flight ≡ false
-  pub state : IsEngineState s book
+-- ---- the state
 
--- the count of scans has not fallen in this call, or stands at its last value
-abbrev pub CountsScans : Sheet → Type 0
-CountsScans s = (s.scans_at_begin ≤ s.scans) ⊎ (s.scans ≡ 2 ^ 64 - 1)
+-- What holds of the rows and the book whether or not a call is in flight: the tree is kept, its held rows died by the calls
+-- that the book tells, and no call has taken more rows than it may.
+pub record IsState (kind : Kind) (known : Option Kind) (t : Rooted) (lives : List Life) (buried : List Bool) (cleared ended opened : ℕ) (book : Book) : Type 0 where
+  pub told : IsTold known kind
+  pub range : MayBeReplaced kind
+  pub kept : IsKept kind t lives buried cleared book (ended + 1)
+  pub held : All (λ (h : Held). life_of lives h.row ≡ Dead h.stamp) book.held
+  pub grown : length book.held + live_count book ≤ opened + most_taken * ended
+
+abbrev pub IsEngineState : Kind → Sheet → Book → Type 0
+IsEngineState kind s book = IsState kind s.kind s.tree s.lives s.buried s.cleared s.ended s.opened book
+
+-- between two calls
+pub record IsResting (kind : Kind) (known : Option Kind) (t : Rooted) (lives : List Life) (buried : List Bool) (cleared ended opened : ℕ) (flying : Bool) (book : Book) : Type 0 where
+  pub idle : flying ≡ false
+  pub state : IsState kind known t lives buried cleared ended opened book
+
+abbrev pub IsIdle : Kind → Sheet → Book → Type 0
+IsIdle kind s book = IsResting kind s.kind s.tree s.lives s.buried s.cleared s.ended s.opened s.in_flight book
 
 -- within a call that has published nothing
-pub record IsInCall (s : Sheet) (book : Book) : Type 0 where
-  pub in_flight : s.in_flight ≡ true
-  pub before : s.published ≡ false
-  pub state : IsEngineState s book
-  pub scans : CountsScans s
+pub record IsCalling (kind : Kind) (known : Option Kind) (t : Rooted) (lives : List Life) (buried : List Bool) (cleared ended opened : ℕ) (flying published : Bool) (book : Book) : Type 0 where
+  pub in_flight : flying ≡ true
+  pub before : published ≡ false
+  pub state : IsState kind known t lives buried cleared ended opened book
 
--- a scan was made in this call
-abbrev pub WasScanned : Sheet → Type 0
-WasScanned s = (s.scans_at_begin < s.scans) ⊎ (s.scans ≡ 2 ^ 64 - 1)
+abbrev pub IsInCall : Kind → Sheet → Book → Type 0
+IsInCall kind s book = IsCalling kind s.kind s.tree s.lives s.buried s.cleared s.ended s.opened s.in_flight s.published book
 
--- a call that needed rows found three for each level, and one, when held rows that no section holds were free
+-- ---- what a call did
+
+-- a call that wants rows found three free for each level, and one, when held rows that no section holds were free
 pub record HadRoom (s s' : Sheet) (book : Book) : Type 0 where
   pub scanned : WasScanned s'
   pub room : 3 * height_in s.tree.table s.tree.root + 1 ≤ length (after_reclaim book s'.scan.least).free
 
--- The rows that a call took, of those that were free, or that were free when held rows that no section holds were freed: at
--- most three for each level and one, and none for the store of an entry over exactly one range.
-pub record TookRows (s s' : Sheet) (book book' : Book) (call : Call) : Type 0 where
-  pub freed : Book
-  pub is : (freed ≡ book) ⊎ (freed ≡ after_reclaim book s'.scan.least)
+-- of these it took so many at the most
+pub record TookRows (s s' : Sheet) (book book' : Book) : Type 0 where
   pub taken : List ℕ
-  pub free : freed.free ≡ book'.free ++ taken
+  pub free : (after_reclaim book s'.scan.least).free ≡ book'.free ++ taken
   pub few : length taken ≤ 3 * height_in s.tree.table s.tree.root + 1
-  pub exact : is_exact_store (map_by s.tree) call ≡ true → taken ≡ []
 
 -- a reply that says that nothing was changed
 abbrev pub is_refusal : Reply → Bool
@@ -77,45 +76,45 @@ is_refusal answers.Exists = true
 is_refusal answers.Invalid = true
 is_refusal (answers.NoNodes shortage) = true
 
--- The call did what it says: the words stand for the map after it, and a refusal left every word.
-pub record IsDone (s s' : Sheet) (book book' : Book) (call : Call) (reply : Reply) : Type 0 where
-  pub acts : acted trees.Range (map_by s.tree) call ≡ (map_by s'.tree, reply)
+-- The call did what it says: the words stand for the map after it, and a refusal left every word. One that wants no rows made
+-- no scan and took none.
+pub record IsDone (kind : Kind) (s s' : Sheet) (book book' : Book) (call : Call) (reply : Reply) : Type 0 where
+  pub acts : acted kind (map_by s.tree) call ≡ (map_by s'.tree, reply)
   pub kept : is_refusal reply ≡ true → s'.tree ≡ s.tree
-  pub room : NeedsRows trees.Range (map_by s.tree) call → HadRoom s s' book
-  pub took : TookRows s s' book book' call
+  pub room : Wants kind (map_by s.tree) call → HadRoom s s' book
+  pub took : Wants kind (map_by s.tree) call → TookRows s s' book book'
+  pub calm : (Wants kind (map_by s.tree) call → ⊥) → (s'.scans ≡ s.scans) × (s'.scan ≡ s.scan) × (book'.free ≡ book.free)
 
--- What a call has come to when it may end with this reply: it did what it says, or it was refused for want of rows and
--- left every word. The rows are then as between two calls.
-pub record IsAnswered (s s' : Sheet) (book book' : Book) (call : Call) (reply : Reply) : Type 0 where
-  pub may : MayFinish trees.Range s' call reply
-  pub idle : IsIdle (finished s' call reply) book'
-  pub answer : IsDone s s' book book' call reply ⊎ (IsRefused trees.Range s' call reply × (s'.tree ≡ s.tree))
-  pub record_told : (finished s' call reply).records ≡ with_record s.told call reply
-  pub rest : s' ≡ record s { tree = s'.tree; published = s'.published; lives = s'.lives; buried = s'.buried; cleared = s'.cleared; scan = s'.scan; scans = s'.scans; reads = s'.reads; records = s'.records }
+-- so many rows of the book are free, live and held
+pub record TellsBook (book : Book) (short : Shortage) : Type 0 where
+  pub free : short.free ≡ length book.free
+  pub live : short.live ≡ live_count book
+  pub held : short.held ≡ length book.held
 
--- the same by one word in a slot of a leaf, which needs no row: the book stays
-pub record IsAnsweredByOneWord (s s' : Sheet) (book : Book) (call : Call) (reply : Reply) : Type 0 where
-  pub answered : IsAnswered s s' book book call reply
-  pub root : s'.tree.root ≡ s.tree.root
+-- The call wants rows, and a scan of it found fewer free than three for each level and one, when the held rows were free that
+-- no section holds. The shortage tells the height, the book as it is then, and whose section holds rows back.
+pub record IsShortFor (kind : Kind) (s s' : Sheet) (book book' : Book) (call : Call) (reply : Reply) : Type 0 where
+  pub refused : IsRefused kind (limits_of s) (map_by s.tree) call reply
+  pub counted : IsCounted s' refused.shortage
+  pub scanned : WasScanned s'
+  pub freed : book' ≡ after_reclaim book s'.scan.least
+  pub tells : TellsBook book' refused.shortage
 
--- ---- a whole call
-
--- The call needed rows, and a scan of it found fewer free than three for each level and one; the shortage tells the height,
--- the book, and whose section holds rows back.
-pub record IsShortFor (s s' : Sheet) (call : Call) (reply : Reply) : Type 0 where
-  pub shortage : Shortage
-  pub answer : reply ≡ NoNodes shortage
-  pub needs : NeedsRows trees.Range (map_by s.tree) call
-  pub short : IsShort s.tree.rows s.opened s.ended (map_by s.tree) shortage
-  pub counted : IsCounted s' shortage
-
--- It did what it says, with rows enough where it needed some; or it was refused for want of rows, which left every word.
--- The rows are between two calls again, one more call has ended, and it is told where records are.
-pub record IsApplied (s s' : Sheet) (book book' : Book) (call : Call) (reply : Reply) : Type 0 where
-  pub idle : IsIdle s' book'
+-- It did what it says, with rows enough where it wanted some; or it was refused for want of rows, which left every word. The
+-- rows are between two calls again, one more call has ended, and it is told where records are, of the same caller. There was one scan at the most.
+pub record IsApplied (kind : Kind) (s s' : Sheet) (book book' : Book) (call : Call) (reply : Reply) : Type 0 where
+  pub idle : IsIdle kind s' book'
+  pub answer : IsDone kind s s' book book' call reply ⊎ (IsShortFor kind s s' book book' call reply × (s'.tree ≡ s.tree))
   pub ended : s'.ended ≡ s.ended + 1
-  pub answer : IsDone s s' book book' call reply ⊎ (IsShortFor s s' call reply × (s'.tree ≡ s.tree))
-  pub record_told : s'.records ≡ with_record s.told call reply
-  pub opened : s'.opened ≡ s.opened
-  pub caller : s'.caller ≡ s.caller
+  pub record_told : s'.told ≡ with_record s.told call reply
+  pub cleared : s.cleared ≤ s'.cleared
+  pub scans : (s'.scans ≡ s.scans) ⊎ (s'.scans ≡ one_more s.scans)
   pub rows : s'.tree.rows ≡ s.tree.rows
+  pub opened : s'.opened ≡ s.opened
+  pub shared : s'.shared ≡ s.shared
+  pub known : s'.kind ≡ s.kind
+
+-- What a call in flight has come to when it may end with this reply: by its end it is such a call.
+pub record IsAnswered (kind : Kind) (s s' : Sheet) (book book' : Book) (call : Call) (reply : Reply) : Type 0 where
+  pub may : MayFinish kind s' call reply
+  pub applied : IsApplied kind s (finished s' call reply) book book' call reply

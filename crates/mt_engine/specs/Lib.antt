@@ -1,7 +1,8 @@
 pub mod Engine
-pub mod Listing
+pub mod Here
 pub mod MapSpans
 pub mod Nearest
 pub mod Plans
+pub mod RangeWalks
 pub mod Rooms
-pub mod Ways
+pub mod StoreBy

@@ -6,9 +6,9 @@ use Rattle.mt_base.specs.declared.ranges.Range.{Range}
 use Rattle.mt_list.specs.Places.{place_below, place_above, last_of}
 
 -- the first range that ends at the index or above
-abbrev pub first_from : List Range → ℕ → Option Range
-first_from m index = slice_get m (place_below m index)
+abbrev pub nearest_from : List Range → ℕ → Option Range
+nearest_from m index = slice_get m (place_below m index)
 
 -- the last range that begins at the index or below
-abbrev pub last_up_to : List Range → ℕ → Option Range
-last_up_to m index = last_of (take (place_above m index) m)
+abbrev pub nearest_up_to : List Range → ℕ → Option Range
+nearest_up_to m index = last_of (take (place_above m index) m)

@@ -3,46 +3,52 @@
 ghost use Rattle.std.specs.Prelude.{◌≡◌, ◌+◌, ◌-◌, ◌^◌, ◌<◌};
 ghost use Rattle.mt_engine.specs.Engine.{IsIdle, IsInCall, IsAnswered, IsApplied};
 
-use crate::changes::change;
 use crate::plans::{Plan, plan_of};
+use crate::stores::store;
 use mt_base::{Call, Kind, Reply};
 use mt_free::RowBook;
+use mt_path::Path;
 use mt_rows::Rows;
 use mt_splice::clear;
 
 /// Carries out the call of this number, which was begun, and gives the reply that it may end with.
-fn perform<R: Rows>(rows: &mut R, book: &mut RowBook, number: u64, call: &Call) -> Reply
-    requires in_call { IsInCall (R.sheet rows.old) book.old }
+fn perform<R: Rows>(rows: &mut R, book: &mut RowBook, kind: Kind, number: u64, call: &Call) -> Reply
+    requires in_call { IsInCall kind (R.sheet rows.old) book.old }
     requires number { number ≡ (R.sheet rows.old).ended + 1 }
     requires few { (R.sheet rows.old).ended < 2 ^ 62 - 1 }
-    ensures { IsAnswered (R.sheet rows.old) (R.sheet rows.new) book.old book.new call.now result }
+    ensures { IsAnswered kind (R.sheet rows.old) (R.sheet rows.new) book.old book.new call.now result }
 {
-    match plan_of(rows, call) {
-        Plan::Leave { reply } => reply,
+    let mut path = Path::new();
+    match plan_of(rows, kind, call, &mut path) {
+        Plan::Nothing { reply } => reply,
         Plan::Empty => {
-            clear(rows, book, Kind::Range, number, call, &Reply::Ok);
+            clear(rows, book, kind, number, call, &Reply::Ok);
             Reply::Ok
         }
-        Plan::Change {
+        Plan::Store {
             first,
             last,
             entry,
             reply,
-        } => match change(rows, book, first, last, entry, number, call, &reply) {
+            here,
+        } => match store(
+            rows, book, kind, path, here, first, last, entry, number, call, &reply,
+        ) {
             Ok(()) => reply,
             Err(shortage) => Reply::NoNodes(shortage),
         },
     }
 }
 
-/// Makes one call: it does what the call says and answers so, or it refuses for want of rows and leaves every word.
-pub fn apply<R: Rows>(rows: &mut R, book: &mut RowBook, call: &Call) -> Reply
-    requires idle { IsIdle (R.sheet rows.old) book.old }
+/// Makes one call on a tree of this kind: it does what the call says and answers so, or it refuses for want of rows and
+/// leaves every word.
+pub fn apply<R: Rows>(rows: &mut R, book: &mut RowBook, kind: Kind, call: &Call) -> Reply
+    requires idle { IsIdle kind (R.sheet rows.old) book.old }
     requires few { (R.sheet rows.old).ended < 2 ^ 62 - 1 }
-    ensures { IsApplied (R.sheet rows.old) (R.sheet rows.new) book.old book.new call.now result }
+    ensures { IsApplied kind (R.sheet rows.old) (R.sheet rows.new) book.old book.new call.now result }
 {
     let number = rows.begin();
-    let reply = perform(rows, book, number, call);
+    let reply = perform(rows, book, kind, number, call);
     rows.finish(call, &reply);
     reply
 }

@@ -1,21 +1,24 @@
 //! A tree on one thread.
 
-ghost use Rattle.std.specs.Prelude.{◌≡◌, ◌≢◌, ◌+◌, ◌-◌, ◌^◌, ◌<◌, IfOk};
-ghost use Rattle.mt_base.specs.declared.kinds.Kind.TheVariants as trees;
+ghost use Rattle.std.specs.Prelude.{◌≡◌, ◌+◌, ◌-◌, ◌^◌, ◌<◌, Some, IfOk};
 ghost use Rattle.mt_base.specs.Call.{answer};
+ghost use Rattle.mt_base.specs.Width.{greatest};
 ghost use Rattle.mt_rows.specs.Publish.{map_by};
-ghost use Rattle.mt_rows.specs.Sheet.{OnlyReads};
+ghost use Rattle.mt_rows.specs.Sheet.{OnlyReads, limits_of};
 ghost use Rattle.mt_engine.specs.Engine.{IsIdle, IsApplied};
+ghost use Rattle.mt_engine.specs.RangeWalks.{found_from, index_behind, WalksFrom};
 
+use crate::range_walk::{RangeWalk, next_range};
 use crate::{calls, lists, queries};
 use mt_base::{Call, Kind, NoMemory, Query, Range, Reply};
 use mt_free::RowBook;
+use mt_list::Ranges;
 use mt_rows::Rows;
 use std::alloc::Global;
 use std::marker::Model;
 
-/// A tree on one thread: its rows, the book of them, and its kind, which is a tree of ranges. Its meaning is what the rows
-/// and the book mean. Between two calls the words are lawful and the book is of these rows.
+/// A tree on one thread: its rows, the book of them, and its kind. Its meaning is what the rows and the book mean. Between two
+/// calls the words are lawful and the book is of these rows.
 #[derive(Drop)]
 pub struct Engine<R: Rows> {
     rows: R,
@@ -24,22 +27,19 @@ pub struct Engine<R: Rows> {
 }
 
 impl<R: Rows> Model for Engine<R> {
-    ghost use Rattle.std.specs.Prelude.{◌≡◌};
-    ghost use Rattle.mt_base.specs.declared.kinds.Kind.TheVariants as trees;
     ghost use Rattle.mt_engine.specs.Engine.{Parts, IsIdle};
 
     ghost Value = { Parts };
 
     ghost view = { λ e. record { sheet = R.sheet e.rows; book = e.book; kind = e.kind } };
 
-    ghost invariant = { λ e. IsIdle (R.sheet e.rows) e.book × (e.kind ≡ trees.Range) };
+    ghost invariant = { λ e. IsIdle e.kind (R.sheet e.rows) e.book };
 }
 
 impl<R: Rows> Engine<R> {
     /// An engine over rows that are between two calls, with the book of them.
     pub fn new(rows: R, book: RowBook, kind: Kind) -> Self
-        requires range { kind ≡ trees.Range }
-        requires idle { IsIdle (R.sheet rows) book }
+        requires { IsIdle kind (R.sheet rows) book }
         ensures sheet { result.sheet ≡ R.sheet rows }
         ensures book { result.book ≡ book }
         ensures kind { result.kind ≡ kind }
@@ -47,11 +47,11 @@ impl<R: Rows> Engine<R> {
         Engine { rows, book, kind }
     }
 
-    /// The rows and the book, from which an engine can be made again.
+    /// The rows and the book, from which an engine of the same kind can be made again.
     pub fn parts(self) -> (R, RowBook)
         ensures rows { R.sheet result.0 ≡ self.sheet }
         ensures book { result.1 ≡ self.book }
-        ensures idle { IsIdle (R.sheet result.0) result.1 }
+        ensures idle { IsIdle self.kind (R.sheet result.0) result.1 }
     {
         (self.rows, self.book)
     }
@@ -60,10 +60,10 @@ impl<R: Rows> Engine<R> {
     /// word.
     pub fn apply(&mut self, call: &Call) -> Reply
         requires { self.old.sheet.ended < 2 ^ 62 - 1 }
-        ensures applied { IsApplied self.old.sheet self.new.sheet self.old.book self.new.book call.now result }
+        ensures applied { IsApplied self.old.kind self.old.sheet self.new.sheet self.old.book self.new.book call.now result }
         ensures kind { self.new.kind ≡ self.old.kind }
     {
-        calls::apply(&mut self.rows, &mut self.book, call)
+        calls::apply(&mut self.rows, &mut self.book, self.kind, call)
     }
 
     /// Answers one query.
@@ -76,6 +76,30 @@ impl<R: Rows> Engine<R> {
         queries::ask(&mut self.rows, query)
     }
 
+    /// A walk over the ranges from an index on. It loads nothing.
+    pub fn walk_from(&self, index: u64) -> RangeWalk
+        ensures walk { WalksFrom self.now.sheet.tree result }
+        ensures next { result.next ≡ Some index }
+    {
+        RangeWalk::from_index(index)
+    }
+
+    /// The first range at a walk's index or above, from behind which the walk goes on then. The walk is one of the tree as it
+    /// stands.
+    pub fn next_range(&mut self, walk: &mut RangeWalk) -> Option<Range>
+        requires { WalksFrom self.old.sheet.tree walk.old }
+        ensures range { result ≡ found_from (map_by self.old.sheet.tree) (greatest self.old.sheet.tree.table.width) walk.old.next }
+        ensures next { walk.new.next ≡ index_behind (greatest self.old.sheet.tree.table.width) result }
+        ensures walk { WalksFrom self.new.sheet.tree walk.new }
+
+        // The engine is only read.
+        ensures rest { OnlyReads self.old.sheet self.new.sheet }
+        ensures book { self.new.book ≡ self.old.book }
+        ensures kind { self.new.kind ≡ self.old.kind }
+    {
+        next_range(&mut self.rows, walk)
+    }
+
     /// Copies the ranges out, in rising order.
     pub fn list(&mut self, alloc: Global) -> Result<Vec<Range>, NoMemory>
         ensures items { IfOk result (λ ranges. ranges.items ≡ map_by self.old.sheet.tree) }
@@ -84,5 +108,27 @@ impl<R: Rows> Engine<R> {
         ensures kind { self.new.kind ≡ self.old.kind }
     {
         lists::list(&mut self.rows, alloc)
+    }
+}
+
+impl<R: Rows> Ranges for Engine<R> {
+    ghost map = { λ e. map_by e.sheet.tree };
+
+    ghost kind = { λ e. e.kind };
+
+    ghost used = { λ e. e.sheet.ended };
+
+    ghost limits = { λ e. Some (limits_of e.sheet) };
+
+    fn act(&mut self, call: &Call) -> Result<Reply, NoMemory> {
+        Ok(self.apply(call))
+    }
+
+    fn ask(&mut self, query: &Query) -> Option<Range> {
+        Engine::ask(self, query)
+    }
+
+    fn list(&mut self, alloc: Global) -> Result<Vec<Range>, NoMemory> {
+        Engine::list(self, alloc)
     }
 }

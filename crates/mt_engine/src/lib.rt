@@ -2,16 +2,17 @@
 #![tactic(auto)]
 
 mod calls;
-mod changes;
 mod engine;
-mod handles;
 pub mod laws;
 mod lists;
 mod plans;
 mod queries;
+mod range_walk;
 mod rooms;
+mod store_by;
+mod stores;
 #[cfg(test)]
 mod tests;
-mod ways;
 
 pub use engine::Engine;
+pub use range_walk::RangeWalk;

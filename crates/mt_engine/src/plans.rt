@@ -1,124 +1,155 @@
-//! What a call comes to on the map as it stands.
+//! What a call comes to on the tree as it stands.
 
-ghost use Rattle.std.specs.Prelude.{◌≡◌};
-ghost use Rattle.mt_base.specs.declared.kinds.Kind.TheVariants as trees;
+ghost use Rattle.std.specs.Prelude.{◌≡◌, List, []};
+ghost use Rattle.mt_base.specs.declared.kinds.Kind.{Kind};
 ghost use Rattle.mt_base.specs.declared.calls.Call.TheVariants.{Store, Insert, Erase, Clear};
-ghost use Rattle.mt_base.specs.Call.{is_invalid};
-ghost use Rattle.mt_base.specs.Width.{greatest};
-ghost use Rattle.mt_rows.specs.Publish.{IsTreeOf, map_by};
+ghost use Rattle.mt_rows.specs.Publish.{IsTreeOf};
 ghost use Rattle.mt_rows.specs.Sheet.{OnlyReads};
-ghost use Rattle.mt_engine.specs.Plans.{IsPlan};
+ghost use Rattle.mt_path.specs.declared.paths.PathStep.{PathStep};
+ghost use Rattle.mt_engine.specs.Plans.{IsPlan, is_taken};
 
-use crate::queries::{find, load};
-use mt_base::{Call, Reply, is_reserved};
+use mt_base::{Call, Kind, Reply, is_invalid};
+use mt_path::{Handle, Path, walk_to};
 use mt_rows::Rows;
 
-/// What a call is to do to a map.
+/// What a call is to do to a tree.
 #[derive(Clone, Copy, Debug, PartialEq, Eq)]
 pub enum Plan {
     /// Nothing: it is answered, and the map stays as it is.
-    Leave {
+    Nothing {
         reply: Reply,
     },
-    /// The store of `entry`, or of a hole where it is 0, over `first` to `last`.
-    Change {
+    /// The store of `entry`, or of a hole where it is 0, over `first` to `last`, at whose first index this stands.
+    Store {
         first: u64,
         last: u64,
         entry: u64,
         reply: Reply,
+        here: Option<Handle>,
     },
     /// The end of all ranges, of which there are some.
     Empty,
 }
 
-/// Whether a call that stores cannot mean this.
-fn is_invalid(first: u64, last: u64, entry: u64) -> bool
-    ensures { result ≡ is_invalid first last entry }
+/// What a store comes to, with the path to its first index.
+fn plan_store<R: Rows>(
+    rows: &mut R,
+    kind: Kind,
+    first: u64,
+    last: u64,
+    entry: u64,
+    path: &mut Path,
+) -> Plan
+    requires tree { IsTreeOf (R.sheet rows.old).tree kind }
+    requires empty { path.old.items ≡ [] }
+    ensures plan { IsPlan kind (R.sheet rows.old).tree (Store first last entry) path.new.items result }
+    ensures rest { OnlyReads (R.sheet rows.old) (R.sheet rows.new) }
 {
-    first > last || is_reserved(entry)
-}
-
-/// What a store comes to.
-fn plan_store<R: Rows>(rows: &R, first: u64, last: u64, entry: u64) -> Plan
-    requires tree { IsTreeOf (R.sheet rows.now).tree trees.Range }
-    ensures { IsPlan (greatest (R.sheet rows.now).tree.table.width) (map_by (R.sheet rows.now).tree) (Store first last entry) result }
-{
-    if is_invalid(first, last, entry) {
-        return Plan::Leave {
+    if is_invalid(kind, first, last, entry) {
+        return Plan::Nothing {
             reply: Reply::Invalid,
         };
     }
-    Plan::Change {
+    let here = walk_to(rows, first, path);
+    Plan::Store {
         first,
         last,
         entry,
         reply: Reply::Ok,
+        here,
     }
 }
 
-/// What an insert comes to.
-fn plan_insert<R: Rows>(rows: &mut R, first: u64, last: u64, entry: u64) -> Plan
-    requires tree { IsTreeOf (R.sheet rows.old).tree trees.Range }
-    ensures plan { IsPlan (greatest (R.sheet rows.old).tree.table.width) (map_by (R.sheet rows.old).tree) (Insert first last entry) result }
+/// Whether a range holds an index from that of a slot up to `last`: one stands in the slot, or right behind the hole there.
+fn is_taken(here: &Option<Handle>, last: u64) -> bool
+    ensures { result ≡ is_taken here.now last }
+{
+    match here {
+        Some(handle) => handle.span.word != 0 || handle.span.last < last,
+        None => false,
+    }
+}
+
+/// What an insert comes to, with the path to its first index.
+fn plan_insert<R: Rows>(
+    rows: &mut R,
+    kind: Kind,
+    first: u64,
+    last: u64,
+    entry: u64,
+    path: &mut Path,
+) -> Plan
+    requires tree { IsTreeOf (R.sheet rows.old).tree kind }
+    requires empty { path.old.items ≡ [] }
+    ensures plan { IsPlan kind (R.sheet rows.old).tree (Insert first last entry) path.new.items result }
     ensures rest { OnlyReads (R.sheet rows.old) (R.sheet rows.new) }
 {
-    if is_invalid(first, last, entry) || entry == 0 {
-        return Plan::Leave {
+    if is_invalid(kind, first, last, entry) || entry == 0 {
+        return Plan::Nothing {
             reply: Reply::Invalid,
         };
     }
-    if find(rows, first, last).is_some() {
-        return Plan::Leave {
+    let here = walk_to(rows, first, path);
+    if is_taken(&here, last) {
+        return Plan::Nothing {
             reply: Reply::Exists,
         };
     }
-    Plan::Change {
+    Plan::Store {
         first,
         last,
         entry,
         reply: Reply::Ok,
+        here,
     }
 }
 
-/// What an erase comes to: a hole over the whole range that holds the index.
-fn plan_erase<R: Rows>(rows: &mut R, index: u64) -> Plan
-    requires tree { IsTreeOf (R.sheet rows.old).tree trees.Range }
-    ensures plan { IsPlan (greatest (R.sheet rows.old).tree.table.width) (map_by (R.sheet rows.old).tree) (Erase index) result }
+/// What an erase comes to, with the path to its index: a hole over the whole range that holds it, to whose first index the
+/// path leads as well.
+fn plan_erase<R: Rows>(rows: &mut R, kind: Kind, index: u64, path: &mut Path) -> Plan
+    requires tree { IsTreeOf (R.sheet rows.old).tree kind }
+    requires empty { path.old.items ≡ [] }
+    ensures plan { IsPlan kind (R.sheet rows.old).tree (Erase index) path.new.items result }
     ensures rest { OnlyReads (R.sheet rows.old) (R.sheet rows.new) }
 {
-    let Some(range) = load(rows, index) else {
-        return Plan::Leave { reply: Reply::None };
+    let Some(handle) = walk_to(rows, index, path) else {
+        return Plan::Nothing { reply: Reply::None };
     };
-    Plan::Change {
-        first: range.first,
-        last: range.last,
+    let span = handle.span;
+    if span.word == 0 {
+        return Plan::Nothing { reply: Reply::None };
+    }
+    Plan::Store {
+        first: span.first,
+        last: span.last,
         entry: 0,
-        reply: Reply::Was(range.entry),
+        reply: Reply::Was(span.word),
+        here: Some(handle),
     }
 }
 
 /// What a clear comes to.
 fn plan_clear<R: Rows>(rows: &mut R) -> Plan
-    requires tree { IsTreeOf (R.sheet rows.old).tree trees.Range }
-    ensures plan { IsPlan (greatest (R.sheet rows.old).tree.table.width) (map_by (R.sheet rows.old).tree) Clear result }
+    ensures plan { (kind : Kind) (path : List PathStep) → IsPlan kind (R.sheet rows.old).tree Clear path result }
     ensures rest { OnlyReads (R.sheet rows.old) (R.sheet rows.new) }
 {
     if rows.root() == 0 {
-        return Plan::Leave { reply: Reply::Ok };
+        return Plan::Nothing { reply: Reply::Ok };
     }
     Plan::Empty
 }
 
-/// What a call comes to.
-pub fn plan_of<R: Rows>(rows: &mut R, call: &Call) -> Plan
-    requires tree { IsTreeOf (R.sheet rows.old).tree trees.Range }
-    ensures plan { IsPlan (greatest (R.sheet rows.old).tree.table.width) (map_by (R.sheet rows.old).tree) call.now result }
+/// What a call comes to. Where that is a store, the path to its first index is left in `path`.
+pub fn plan_of<R: Rows>(rows: &mut R, kind: Kind, call: &Call, path: &mut Path) -> Plan
+    requires tree { IsTreeOf (R.sheet rows.old).tree kind }
+    requires empty { path.old.items ≡ [] }
+    ensures plan { IsPlan kind (R.sheet rows.old).tree call.now path.new.items result }
     ensures rest { OnlyReads (R.sheet rows.old) (R.sheet rows.new) }
 {
     match *call {
-        Call::Store { first, last, entry } => plan_store(rows, first, last, entry),
-        Call::Insert { first, last, entry } => plan_insert(rows, first, last, entry),
-        Call::Erase { index } => plan_erase(rows, index),
+        Call::Store { first, last, entry } => plan_store(rows, kind, first, last, entry, path),
+        Call::Insert { first, last, entry } => plan_insert(rows, kind, first, last, entry, path),
+        Call::Erase { index } => plan_erase(rows, kind, index, path),
         Call::Clear => plan_clear(rows),
     }
 }

@@ -1,6 +1,6 @@
 //! The queries of a map, answered by the words of a tree.
 
-ghost use Rattle.std.specs.Prelude.{◌≡◌, ℕ, ◌≤◌};
+ghost use Rattle.std.specs.Prelude.{◌≡◌, ℕ, ◌≤◌, IfSome};
 ghost use Rattle.mt_base.specs.declared.kinds.Kind.{Kind};
 ghost use Rattle.mt_base.specs.declared.calls.Query.TheVariants.{Load, Find, Next, Prev, Rfind};
 ghost use Rattle.mt_base.specs.Call.{answer};
@@ -10,15 +10,16 @@ ghost use Rattle.mt_rows.specs.Publish.{IsTreeOf, map_by};
 ghost use Rattle.mt_rows.specs.Sheet.{OnlyReads};
 ghost use Rattle.mt_path.specs.Handles.{handle_in, IsHandleOf};
 ghost use Rattle.mt_engine.specs.MapSpans.{range_of};
-ghost use Rattle.mt_engine.specs.Nearest.{first_from, last_up_to};
+ghost use Rattle.mt_engine.specs.Nearest.{nearest_from, nearest_up_to};
+ghost use Rattle.mt_engine.specs.RangeWalks.{range_at};
 
-use crate::handles::{Handle, before, behind, handle_at};
 use mt_base::{Query, Range};
 use mt_layout::Span;
+use mt_path::{Handle, before, behind, handle_at};
 use mt_rows::Rows;
 
 /// The range of a span that is no hole.
-fn range_in(span: Span) -> Range
+pub fn range_in(span: Span) -> Range
     ensures { result ≡ range_of span }
 {
     Range {
@@ -26,20 +27,6 @@ fn range_in(span: Span) -> Range
         last: span.last,
         entry: span.word,
     }
-}
-
-/// The range that holds an index.
-pub fn load<R: Rows>(rows: &mut R, index: u64) -> Option<Range>
-    requires tree { (kind : Kind) × IsTreeOf (R.sheet rows.old).tree kind }
-    requires index { index ≤ greatest (R.sheet rows.old).tree.table.width }
-    ensures answer { result ≡ answer (map_by (R.sheet rows.old).tree) (Load index) }
-    ensures rest { OnlyReads (R.sheet rows.old) (R.sheet rows.new) }
-{
-    let here = handle_at(rows, index)?;
-    if here.span.word == 0 {
-        return None;
-    }
-    Some(range_in(here.span))
 }
 
 /// The range, where it begins at `max` or below.
@@ -56,25 +43,37 @@ fn down_to(range: Option<Range>, min: u64) -> Option<Range>
     range.filter(|r| r.last >= min)
 }
 
-/// The first range that ends at an index of a slot or above: the range in the slot, or the one right behind the hole there.
-fn first_from<R: Rows>(rows: &mut R, here: &Handle) -> Option<Range>
+/// The slot of the first range that ends at an index of a slot or above: the slot itself, or the one right behind the hole
+/// there.
+pub fn slot_from<R: Rows>(rows: &mut R, here: &Handle) -> Option<Handle>
     requires tree { (kind : Kind) × IsTreeOf (R.sheet rows.old).tree kind }
     requires here { IsHandleOf (R.sheet rows.old).tree here.now }
-    ensures range { (index : ℕ) → index ≤ greatest (R.sheet rows.old).tree.table.width → here.now ≡ handle_in (R.sheet rows.old).tree index → result ≡ first_from (map_by (R.sheet rows.old).tree) index }
+    ensures handle { IfSome result (IsHandleOf (R.sheet rows.old).tree) }
+    ensures range { (index : ℕ) → index ≤ greatest (R.sheet rows.old).tree.table.width → here.now ≡ handle_in (R.sheet rows.old).tree index → range_at result ≡ nearest_from (map_by (R.sheet rows.old).tree) index }
     ensures rest { OnlyReads (R.sheet rows.old) (R.sheet rows.new) }
 {
     if here.span.word != 0 {
-        return Some(range_in(here.span));
+        return Some(*here);
     }
-    let found = behind(rows, here)?;
+    behind(rows, here)
+}
+
+/// The first range that ends at an index of a slot or above.
+fn nearest_from<R: Rows>(rows: &mut R, here: &Handle) -> Option<Range>
+    requires tree { (kind : Kind) × IsTreeOf (R.sheet rows.old).tree kind }
+    requires here { IsHandleOf (R.sheet rows.old).tree here.now }
+    ensures range { (index : ℕ) → index ≤ greatest (R.sheet rows.old).tree.table.width → here.now ≡ handle_in (R.sheet rows.old).tree index → result ≡ nearest_from (map_by (R.sheet rows.old).tree) index }
+    ensures rest { OnlyReads (R.sheet rows.old) (R.sheet rows.new) }
+{
+    let found = slot_from(rows, here)?;
     Some(range_in(found.span))
 }
 
 /// The last range that begins at an index of a slot or below: the range in the slot, or the one right before the hole there.
-fn last_up_to<R: Rows>(rows: &mut R, here: &Handle) -> Option<Range>
+fn nearest_up_to<R: Rows>(rows: &mut R, here: &Handle) -> Option<Range>
     requires tree { (kind : Kind) × IsTreeOf (R.sheet rows.old).tree kind }
     requires here { IsHandleOf (R.sheet rows.old).tree here.now }
-    ensures range { (index : ℕ) → index ≤ greatest (R.sheet rows.old).tree.table.width → here.now ≡ handle_in (R.sheet rows.old).tree index → result ≡ last_up_to (map_by (R.sheet rows.old).tree) index }
+    ensures range { (index : ℕ) → index ≤ greatest (R.sheet rows.old).tree.table.width → here.now ≡ handle_in (R.sheet rows.old).tree index → result ≡ nearest_up_to (map_by (R.sheet rows.old).tree) index }
     ensures rest { OnlyReads (R.sheet rows.old) (R.sheet rows.new) }
 {
     if here.span.word != 0 {
@@ -84,8 +83,22 @@ fn last_up_to<R: Rows>(rows: &mut R, here: &Handle) -> Option<Range>
     Some(range_in(found.span))
 }
 
+/// The range that holds an index.
+fn load<R: Rows>(rows: &mut R, index: u64) -> Option<Range>
+    requires tree { (kind : Kind) × IsTreeOf (R.sheet rows.old).tree kind }
+    requires index { index ≤ greatest (R.sheet rows.old).tree.table.width }
+    ensures answer { result ≡ answer (map_by (R.sheet rows.old).tree) (Load index) }
+    ensures rest { OnlyReads (R.sheet rows.old) (R.sheet rows.new) }
+{
+    let here = handle_at(rows, index)?;
+    if here.span.word == 0 {
+        return None;
+    }
+    Some(range_in(here.span))
+}
+
 /// The first range that ends at `index` or above and begins at `max` or below, where `index` is at most `max`.
-pub fn find<R: Rows>(rows: &mut R, index: u64, max: u64) -> Option<Range>
+fn find<R: Rows>(rows: &mut R, index: u64, max: u64) -> Option<Range>
     requires tree { (kind : Kind) × IsTreeOf (R.sheet rows.old).tree kind }
     requires index { index ≤ greatest (R.sheet rows.old).tree.table.width }
     ensures answer { result ≡ answer (map_by (R.sheet rows.old).tree) (Find index max) }
@@ -95,7 +108,7 @@ pub fn find<R: Rows>(rows: &mut R, index: u64, max: u64) -> Option<Range>
         return None;
     }
     let here = handle_at(rows, index)?;
-    up_to(first_from(rows, &here), max)
+    up_to(nearest_from(rows, &here), max)
 }
 
 /// The first range that begins above `index`, and at `max` or below.
@@ -107,7 +120,7 @@ fn next<R: Rows>(rows: &mut R, index: u64, max: u64) -> Option<Range>
 {
     let here = handle_at(rows, index)?;
     let above = behind(rows, &here)?;
-    up_to(first_from(rows, &above), max)
+    up_to(nearest_from(rows, &above), max)
 }
 
 /// The last range that ends below `index`, and at `min` or above.
@@ -119,7 +132,7 @@ fn prev<R: Rows>(rows: &mut R, index: u64, min: u64) -> Option<Range>
 {
     let here = handle_at(rows, index)?;
     let below = before(rows, &here)?;
-    down_to(last_up_to(rows, &below), min)
+    down_to(nearest_up_to(rows, &below), min)
 }
 
 /// The last range that begins at `index` or below and ends at `min` or above, where `index` is at least `min`.
@@ -133,7 +146,7 @@ fn rfind<R: Rows>(rows: &mut R, index: u64, min: u64) -> Option<Range>
         return None;
     }
     let here = handle_at(rows, index)?;
-    down_to(last_up_to(rows, &here), min)
+    down_to(nearest_up_to(rows, &here), min)
 }
 
 /// Answers a query as the map answers it that the words stand for.

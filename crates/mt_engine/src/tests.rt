@@ -1,7 +1,11 @@
 ghost use Rattle.std.specs.Prelude.{◌≡◌, ◌<◌, ◌+◌, ◌-◌, ◌^◌, ◌≤◌, IfOk};
+ghost use Rattle.mt_base.specs.Width.{most_rows};
+
+mod watched;
 
 use crate::Engine;
-use mt_base::{Call, Kind, NoMemory, Query, Reply, Shortage, errno};
+use crate::tests::watched::{HOLDER, Watched};
+use mt_base::{Call, Kind, NoMemory, Query, Range, Reply, Shortage, errno};
 use mt_free::RowBook;
 use mt_list::{ListMap, Ranges};
 use mt_rows::PlainRows;
@@ -14,11 +18,20 @@ const TOP: u64 = u64::MAX;
 
 /// An engine of an empty tree over so many rows in memory.
 fn fresh(alloc: Global, rows: u64) -> Result<Engine<PlainRows>, NoMemory>
-    requires { rows ≤ 65504 }
+    requires { rows ≤ most_rows }
     ensures { IfOk result (λ engine. engine.sheet.ended ≡ 0) }
 {
     let book = RowBook::new(alloc, rows)?;
     Ok(Engine::new(PlainRows::new(alloc, rows)?, book, Kind::Range))
+}
+
+/// The same over rows of which a section stands open.
+fn fresh_watched(alloc: Global, rows: u64) -> Result<Engine<Watched>, NoMemory>
+    requires { rows ≤ most_rows }
+    ensures { IfOk result (λ engine. engine.sheet.ended ≡ 0) }
+{
+    let book = RowBook::new(alloc, rows)?;
+    Ok(Engine::new(Watched::new(alloc, rows)?, book, Kind::Range))
 }
 
 fn store(first: u64, last: u64, entry: u64) -> Call {
@@ -55,7 +68,19 @@ fn expect_answers(
     }
 }
 
-/// Makes a call on the engine and on the list, which answer the same and then hold the same ranges.
+/// A walk from an index gives these ranges, and no more.
+fn expect_walk(rt: &impl Abort, engine: &mut Engine<PlainRows>, index: u64, ranges: &[Range])
+    ensures { engine.new.sheet.ended ≡ engine.old.sheet.ended }
+{
+    let mut walk = engine.walk_from(index);
+    for range in ranges {
+        assert_eq!(rt; engine.next_range(&mut walk), Some(*range), "from {index}");
+    }
+    assert_eq!(rt; engine.next_range(&mut walk), None, "from {index}");
+    assert_eq!(rt; walk.next, None);
+}
+
+/// Makes a call on the engine and on the list, which answer the same and then hold the same ranges, by a list and by a walk.
 fn expect_same(
     rt: &impl Abort,
     alloc: Global,
@@ -74,6 +99,7 @@ fn expect_same(
         list.list(alloc)?.as_slice(),
         "after {call:?}"
     );
+    expect_walk(rt, engine, 0, ranges.as_slice());
     expect_answers(rt, engine, list, 15, TOP);
     expect_answers(rt, engine, list, 30, 12);
     Ok(())
@@ -94,6 +120,7 @@ fn answers_as_a_list_does(rt: HostRuntime) -> Result<(), Fail> {
         store(1, 1, 2),
         insert(2, 2, 0),
         insert(19, 25, 9),
+        insert(2, 10, 9),
         insert(20, 25, 9),
         store(0, TOP, 4),
         store(TOP, TOP, 6),
@@ -125,6 +152,29 @@ fn answers_as_a_list_does(rt: HostRuntime) -> Result<(), Fail> {
 }
 
 #[test]
+fn walks_from_within(rt: HostRuntime) -> Result<(), Fail> {
+    let mut engine = fresh(rt.alloc(), 8)?;
+    expect_walk(&rt, &mut engine, 3, &[]);
+    engine.apply(&store(10, 19, 5));
+    engine.apply(&store(30, TOP, 6));
+    let ten = Range {
+        first: 10,
+        last: 19,
+        entry: 5,
+    };
+    let thirty = Range {
+        first: 30,
+        last: TOP,
+        entry: 6,
+    };
+    expect_walk(&rt, &mut engine, 0, &[ten, thirty]);
+    expect_walk(&rt, &mut engine, 12, &[ten, thirty]);
+    expect_walk(&rt, &mut engine, 20, &[thirty]);
+    expect_walk(&rt, &mut engine, TOP, &[thirty]);
+    Ok(())
+}
+
+#[test]
 fn tells_that_too_few_rows_are_free(rt: HostRuntime) -> Result<(), Fail> {
     let mut engine = fresh(rt.alloc(), 4)?;
     let shortage = Shortage {
@@ -148,5 +198,38 @@ fn tells_that_too_few_rows_are_free(rt: HostRuntime) -> Result<(), Fail> {
         assert_eq!(&rt; errno(&reply), number, "at {call:?}");
     }
     assert_eq!(&rt; engine.list(rt.alloc())?.len(), 0);
+    Ok(())
+}
+
+#[test]
+fn tells_who_holds_rows_back(rt: HostRuntime) -> Result<(), Fail> {
+    let mut engine = fresh_watched(rt.alloc(), 8)?;
+    let shortage = Shortage {
+        need: 4,
+        free: 3,
+        live: 1,
+        held: 4,
+        by: Some(HOLDER),
+    };
+    // The row of each store but the first is held, since the section opened before it.
+    let calls = [
+        (store(10, 10, 5), Reply::Ok, None),
+        (store(20, 20, 5), Reply::Ok, None),
+        (store(30, 30, 5), Reply::Ok, None),
+        (store(40, 40, 5), Reply::Ok, None),
+        (store(50, 50, 5), Reply::Ok, None),
+        (store(60, 60, 5), Reply::NoNodes(shortage), Some(12)),
+        (erase(30), Reply::NoNodes(shortage), Some(12)),
+        (store(30, 30, 9), Reply::Ok, None),
+        (store(60, 69, 0), Reply::Ok, None),
+        (Call::Clear, Reply::Ok, None),
+        (store(60, 60, 5), Reply::Ok, None),
+    ];
+    for (call, want, number) in calls {
+        let reply = engine.apply(&call);
+        assert_eq!(&rt; reply, want, "at {call:?}");
+        assert_eq!(&rt; errno(&reply), number, "at {call:?}");
+    }
+    assert_eq!(&rt; engine.list(rt.alloc())?.len(), 1);
     Ok(())
 }

@@ -1,16 +1,23 @@
-use Rattle.std.proofs.Common.{refl, sym}
-use Rattle.mt_base.specs.declared.kinds.Kind.TheVariants as trees
-use Rattle.mt_base.specs.Width.{greatest}
-use Rattle.mt_rows.specs.Publish.{map_by}
-use Rattle.mt_engine.proofs.Planning.{erase_is_store}
-use Rattle.mt_engine.proofs.SlotQueries.{ranges_end_within}
-use Rattle.mt_engine.proofs.Slots.{tree_map}
+use Rattle.std.proofs.Common.{ap}
+use Rattle.std.specs.Prelude.{is_some}
+use Rattle.mt_engine.proofs.Planning.{within_all, erase_nothing, erase_hole, erase_plan}
 use Rattle.mt_engine.proofs.plans.plan_erase.Goals as goal
+
+pub walk_to-requires-clause-index : goal.walk_to-requires-clause-index
+walk_to-requires-clause-index g c = within_all (g.R.Rows.sheet c.args.rows.now).tree.table.width c.args.index c.ranges.index.fits
+
+pub returns-in_default-clause-plan : goal.returns-in_default-clause-plan
+returns-in_default-clause-plan g c =
+    let t = (g.R.Rows.sheet c.args.rows.now).tree in
+    erase_nothing t c.args.kind c.requires.tree c.args.index (within_all t.table.width c.args.index c.ranges.index.fits) (c.walk_to.ensures.none.0 (ap is_some c.in_default.is))
+
+pub returns-then-span-eq0-clause-plan : goal.returns-then-span-eq0-clause-plan
+returns-then-span-eq0-clause-plan g c =
+    let t = (g.R.Rows.sheet c.args.rows.now).tree in
+    erase_hole t c.args.kind c.requires.tree c.args.index (within_all t.table.width c.args.index c.ranges.index.fits) c.in-Some.handle (record { none = c.in-Some.ensures.none; some = c.in-Some.ensures.some }) c.if-span-eq0.true
 
 pub returns-clause-plan : goal.returns-clause-plan
 returns-clause-plan g c =
-    let s = g.R.Rows.sheet c.args.rows.now in (
-      erase_is_store (map_by s.tree) (greatest s.tree.table.width) c.args.index c.in-Some.range (tree_map s trees.Range c.requires.tree) (ranges_end_within s (trees.Range, c.requires.tree)) (sym c.in-Some.ensures.answer),
-      λ clash. absurd (cc),
-      refl,
-    )
+    let t = (g.R.Rows.sheet c.args.rows.now).tree in
+    erase_plan t c.args.kind c.requires.tree c.args.index (within_all t.table.width c.args.index c.ranges.index.fits) c.in-Some.handle (record { none = c.in-Some.ensures.none; some = c.in-Some.ensures.some }) c.walk_to.new.path.items c.if-span-eq0.false
+    c.in-Some.ensures.path

@@ -1,19 +1,16 @@
-use Rattle.std.proofs.Common.{refl, sym, ◌∙◌}
-use Rattle.mt_base.specs.Width.{greatest}
-use Rattle.mt_rows.specs.Publish.{map_by}
-use Rattle.mt_engine.proofs.Planning.{insert_exists, insert_is_store, within_all}
+use Rattle.std.proofs.Common.{sym, ◌∙◌}
+use Rattle.mt_engine.proofs.Planning.{first_within, insert_exists, insert_plan}
 use Rattle.mt_engine.proofs.plans.plan_insert.Goals as goal
 
-pub returns-then-is_some-clause-plan : goal.returns-then-is_some-clause-plan
-returns-then-is_some-clause-plan g c =
-    let s = g.R.Rows.sheet c.args.rows.now in
-    insert_exists (map_by s.tree) c.args.first c.args.last c.args.entry (sym c.is_invalid.ensures ∙ c.if-is_invalid.false) c.if-entry-eq0.false c.find.result c.find.ensures.answer (sym c.is_some.ensures ∙ c.if-is_some.true)
+pub walk_to-here-requires-clause-index : goal.walk_to-here-requires-clause-index
+walk_to-here-requires-clause-index g c = first_within _ c.args.kind c.requires.tree c.args.first c.args.last c.args.entry (sym c.is_invalid.ensures ∙ c.if-is_invalid.false)
+
+pub returns-then-is_taken-clause-plan : goal.returns-then-is_taken-clause-plan
+returns-then-is_taken-clause-plan g c =
+    insert_exists _ c.args.kind c.requires.tree c.args.first c.args.last c.args.entry (sym c.is_invalid.ensures ∙ c.if-is_invalid.false) c.walk_to-here.result c.if-entry-eq0.false
+    (record { none = c.walk_to-here.ensures.none; some = c.walk_to-here.ensures.some }) (sym c.is_taken.ensures ∙ c.if-is_taken.true)
 
 pub returns-clause-plan : goal.returns-clause-plan
 returns-clause-plan g c =
-    let s = g.R.Rows.sheet c.args.rows.now in (
-      insert_is_store (map_by s.tree) c.args.first c.args.last c.args.entry (sym c.is_invalid.ensures ∙ c.if-is_invalid.false) c.if-entry-eq0.false c.find.result c.find.ensures.answer
-          (greatest s.tree.table.width) (within_all s.tree.table.width c.args.last c.ranges.last.fits) (sym c.is_some.ensures ∙ c.if-is_some.false),
-      λ clash. absurd (cc),
-      refl,
-    )
+    insert_plan _ c.args.kind c.requires.tree c.args.first c.args.last c.args.entry (sym c.is_invalid.ensures ∙ c.if-is_invalid.false) c.walk_to-here.new.path.items c.walk_to-here.result c.if-entry-eq0.false c.walk_to-here.ensures.path
+    (record { none = c.walk_to-here.ensures.none; some = c.walk_to-here.ensures.some }) (sym c.is_taken.ensures ∙ c.if-is_taken.false)

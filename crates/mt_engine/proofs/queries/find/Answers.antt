@@ -2,8 +2,8 @@ use Rattle.std.proofs.Common.{◌∙◌}
 use Rattle.mt_engine.proofs.SlotQueries.{handle_of, handle_kept, find_found}
 use Rattle.mt_engine.proofs.queries.find.Goals as goal
 
-pub first_from-requires-clause-here : goal.first_from-requires-clause-here
-first_from-requires-clause-here g c =
+pub nearest_from-requires-clause-here : goal.nearest_from-requires-clause-here
+nearest_from-requires-clause-here g c =
     let ok = c.in_ok-here in
     handle_kept (g.R.Rows.sheet c.args.rows.now) (g.R.Rows.sheet c.handle_at.new.rows) c.args.index _ ok.ensures.rest (handle_of _ _ _ c.requires.index ok.ensures.none ok.ensures.some)
 
@@ -12,4 +12,4 @@ returns-clause-answer g c =
     let ok = c.in_ok-here in
     c.up_to.ensures
     ∙ find_found (g.R.Rows.sheet c.args.rows.now) (g.R.Rows.sheet c.handle_at.new.rows) c.requires.tree c.args.index _ (handle_of _ _ _ c.requires.index ok.ensures.none ok.ensures.some) ok.ensures.rest
-    c.args.max c.first_from.result c.if-index-max.false c.first_from.ensures.range
+    c.args.max c.nearest_from.result c.if-index-max.false c.nearest_from.ensures.range

@@ -14,8 +14,8 @@ returns-in_err-above-clause-answer g c =
     ∙ next_none (g.R.Rows.sheet c.args.rows.now) (g.R.Rows.sheet c.handle_at.new.rows) c.requires.tree c.args.index _ (handle_of _ _ _ c.requires.index ok.ensures.none ok.ensures.some) ok.ensures.rest
     c.args.max (c.in_err-above.ensures.none.0 refl)
 
-pub first_from-requires-clause-here : goal.first_from-requires-clause-here
-first_from-requires-clause-here g c =
+pub nearest_from-requires-clause-here : goal.nearest_from-requires-clause-here
+nearest_from-requires-clause-here g c =
     let ok = c.in_ok-here in
     let up = c.in_ok-above in
     above_kept (g.R.Rows.sheet c.args.rows.now) (g.R.Rows.sheet c.handle_at.new.rows) c.requires.tree c.args.index _ (handle_of _ _ _ c.requires.index ok.ensures.none ok.ensures.some) ok.ensures.rest
@@ -27,4 +27,4 @@ returns-clause-answer g c =
     let up = c.in_ok-above in
     c.up_to.ensures
     ∙ next_found (g.R.Rows.sheet c.args.rows.now) (g.R.Rows.sheet c.handle_at.new.rows) c.requires.tree c.args.index _ (handle_of _ _ _ c.requires.index ok.ensures.none ok.ensures.some) ok.ensures.rest
-    (g.R.Rows.sheet c.behind.new.rows) up.above up.ensures.rest (not_none up.above _ up.ensures.none) up.ensures.some c.args.max c.first_from.result c.first_from.ensures.range
+    (g.R.Rows.sheet c.behind.new.rows) up.above up.ensures.rest (not_none up.above _ up.ensures.none) up.ensures.some c.args.max c.nearest_from.result c.nearest_from.ensures.range

@@ -11,11 +11,11 @@ pub returns-in_err-below-clause-answer : goal.returns-in_err-below-clause-answer
 returns-in_err-below-clause-answer g c =
     let ok = c.in_ok-here in
     c.from_residual-in_err-below.ensures
-    ∙ prev_none (g.R.Rows.sheet c.args.rows.now) c.requires.tree c.args.index _ (handle_of _ _ _ c.requires.index ok.ensures.none ok.ensures.some)
+    ∙ prev_none (g.R.Rows.sheet c.args.rows.now).tree c.requires.tree c.args.index _ (handle_of _ _ _ c.requires.index ok.ensures.none ok.ensures.some)
     c.args.min (c.in_err-below.ensures.none.0 refl)
 
-pub last_up_to-requires-clause-here : goal.last_up_to-requires-clause-here
-last_up_to-requires-clause-here g c =
+pub nearest_up_to-requires-clause-here : goal.nearest_up_to-requires-clause-here
+nearest_up_to-requires-clause-here g c =
     let ok = c.in_ok-here in
     let down = c.in_ok-below in
     below_kept (g.R.Rows.sheet c.args.rows.now) (g.R.Rows.sheet c.handle_at.new.rows) c.requires.tree c.args.index _ (handle_of _ _ _ c.requires.index ok.ensures.none ok.ensures.some) ok.ensures.rest
@@ -27,4 +27,4 @@ returns-clause-answer g c =
     let down = c.in_ok-below in
     c.down_to.ensures
     ∙ prev_found (g.R.Rows.sheet c.args.rows.now) (g.R.Rows.sheet c.handle_at.new.rows) c.requires.tree c.args.index _ (handle_of _ _ _ c.requires.index ok.ensures.none ok.ensures.some) ok.ensures.rest
-    (g.R.Rows.sheet c.before-2.new.rows) down.below down.ensures.rest (not_none down.below _ down.ensures.none) down.ensures.some c.args.min c.last_up_to.result c.last_up_to.ensures.range
+    (g.R.Rows.sheet c.before-2.new.rows) down.below down.ensures.rest (not_none down.below _ down.ensures.none) down.ensures.some c.args.min c.nearest_up_to.result c.nearest_up_to.ensures.range

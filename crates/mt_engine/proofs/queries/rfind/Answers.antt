@@ -2,8 +2,8 @@ use Rattle.std.proofs.Common.{◌∙◌}
 use Rattle.mt_engine.proofs.SlotQueries.{handle_of, handle_kept, rfind_found}
 use Rattle.mt_engine.proofs.queries.rfind.Goals as goal
 
-pub last_up_to-requires-clause-here : goal.last_up_to-requires-clause-here
-last_up_to-requires-clause-here g c =
+pub nearest_up_to-requires-clause-here : goal.nearest_up_to-requires-clause-here
+nearest_up_to-requires-clause-here g c =
     let ok = c.in_ok-here in
     handle_kept (g.R.Rows.sheet c.args.rows.now) (g.R.Rows.sheet c.handle_at.new.rows) c.args.index _ ok.ensures.rest (handle_of _ _ _ c.requires.index ok.ensures.none ok.ensures.some)
 
@@ -12,4 +12,4 @@ returns-clause-answer g c =
     let ok = c.in_ok-here in
     c.down_to.ensures
     ∙ rfind_found (g.R.Rows.sheet c.args.rows.now) (g.R.Rows.sheet c.handle_at.new.rows) c.requires.tree c.args.index _ (handle_of _ _ _ c.requires.index ok.ensures.none ok.ensures.some) ok.ensures.rest
-    c.args.min c.last_up_to.result c.if-index-min.false c.last_up_to.ensures.range
+    c.args.min c.nearest_up_to.result c.if-index-min.false c.nearest_up_to.ensures.range

@@ -5,7 +5,7 @@ abbrev pub invariant-loop-call : goal.invariant-loop-call
 invariant-loop-call g l = record { ended : l.engine.sheet.ended ≡ l.call-index }
 
 abbrev pub invariant-loop-n : goal.invariant-loop-n
-invariant-loop-n g l = record { ended : l.engine.sheet.ended ≡ 20 + l.n }
+invariant-loop-n g l = record { ended : l.engine.sheet.ended ≡ 21 + l.n }
 
 abbrev pub invariant-loop-n-2 : goal.invariant-loop-n-2
-invariant-loop-n-2 g l = record { ended : l.engine.sheet.ended ≡ 100 + l.n }
+invariant-loop-n-2 g l = record { ended : l.engine.sheet.ended ≡ 101 + l.n }

@@ -2,11 +2,11 @@ use Rattle.std.proofs.Common.{ap, ◌∙◌}
 use Rattle.mt_base.specs.Call.{answer}
 use Rattle.mt_rows.specs.Publish.{map_by}
 use Rattle.mt_engine.specs.Engine.{Parts}
-use Rattle.mt_engine.proofs.InCalls.{idle_if_read}
+use Rattle.mt_engine.proofs.Moments.{tree_idle, idle_if_read}
 use Rattle.mt_engine.proofs.engine.Engine.ask.Goals as goal
 
 pub invariant_of-self : goal.invariant_of-self
-invariant_of-self g c = (idle_if_read (g.R.Rows.sheet c.self.inside.rows) (g.R.Rows.sheet c.ask.new.rows) c.self.inside.book c.ask.ensures.rest c.self.invariant.0, c.self.invariant.1)
+invariant_of-self g c = idle_if_read c.self.inside.kind (g.R.Rows.sheet c.self.inside.rows) (g.R.Rows.sheet c.ask.new.rows) c.self.inside.book c.ask.ensures.rest c.self.invariant
 
 pub returns-clause-answer : goal.returns-clause-answer
 returns-clause-answer g c = c.ask.ensures.answer ∙ ap (λ (e : Parts). answer (map_by e.sheet.tree) c.args.query.now) c.self.view_is

@@ -1,0 +1,97 @@
+-- What holds of the rows and the book from the begin of a call on, and of a call whose rows were read before.
+use Rattle.std.proofs.Common.{◌≡◌, ℕ, ◌+◌, Bool, Option, Some, refl, sym, ap, subst, inl, inr, ⊎_elim}
+use Rattle.mt_base.specs.declared.calls.Call.{Call}
+use Rattle.mt_base.specs.declared.kinds.Kind.{Kind}
+use Rattle.mt_base.specs.declared.replies.Reply.{Reply}
+use Rattle.mt_base.specs.Nodes.{IsMade}
+use Rattle.mt_free.specs.Book.{Book}
+use Rattle.mt_rows.specs.Laws.{Tree, IsLawful, IsTree}
+use Rattle.mt_rows.specs.Publish.{IsLawfulOf, IsTreeOf, tree_as, map_by, finished}
+use Rattle.mt_rows.specs.Sheet.{Rooted, Sheet, OnlyReads, begun, limits_of}
+use Rattle.mt_engine.specs.Engine.{IsEngineState, IsIdle, IsInCall, IsDone, IsShortFor, IsApplied, IsAnswered}
+
+-- ---- the state
+
+is_tree : (t : Tree) → IsLawful t → IsTree t
+is_tree t (inl empty) = inl empty
+is_tree t (inr (h, stands, parent, tended)) = inr (h, stands)
+
+pub tree_if_lawful : (t : Rooted) (kind : Kind) → IsLawfulOf t kind → IsTreeOf t kind
+tree_if_lawful t kind lawful = record { width = lawful.width; words = is_tree (tree_as kind t) lawful.words }
+
+pub tree_in_call : (kind : Kind) (s : Sheet) (book : Book) → IsInCall kind s book → IsTreeOf s.tree kind
+tree_in_call kind s book in_call = tree_if_lawful s.tree kind in_call.state.kept.lawful
+
+pub tree_idle : (kind : Kind) (s : Sheet) (book : Book) → IsIdle kind s book → IsTreeOf s.tree kind
+tree_idle kind s book idle = tree_if_lawful s.tree kind idle.state.kept.lawful
+
+pub in_call_begun : (kind : Kind) (s s' : Sheet) (book : Book) → s' ≡ begun s → IsIdle kind s book → IsInCall kind s' book
+in_call_begun kind s s' book begins idle = subst (λ (x : Sheet). IsInCall kind x book) (sym begins) (record { in_flight = refl; before = refl; state = idle.state })
+
+pub in_call_if_read : (kind : Kind) (s s' : Sheet) (book : Book) → OnlyReads s s' → IsInCall kind s book → IsInCall kind s' book
+in_call_if_read kind s s' book reads in_call = subst (λ (x : Sheet). IsInCall kind x book) (sym reads) in_call
+
+pub idle_if_read : (kind : Kind) (s s' : Sheet) (book : Book) → OnlyReads s s' → IsIdle kind s book → IsIdle kind s' book
+idle_if_read kind s s' book reads idle = subst (λ (x : Sheet). IsIdle kind x book) (sym reads) idle
+
+-- ---- a call is told from its begin on
+
+module _ (kind : Kind) (s s' : Sheet) (book book' : Book) (call : Call) (reply : Reply) (flies out : Bool) (scans : ℕ) (reads : Option ℕ) where
+  abbrev was : Sheet
+  was = record s { in_flight = flies; published = out; scans_at_begin = scans; reads = reads }
+
+  done_from : IsDone kind was s' book book' call reply → IsDone kind s s' book book' call reply
+  done_from done = record {
+    acts = done.acts;
+    kept = done.kept;
+    room = λ wants. (let had = done.room wants in record { scanned = had.scanned; room = had.room });
+    took = λ wants. (let took = done.took wants in record { taken = took.taken; free = took.free; few = took.few });
+    calm = done.calm;
+  }
+
+  short_from : IsShortFor kind was s' book book' call reply → IsShortFor kind s s' book book' call reply
+  short_from short = record { refused = short.refused; counted = short.counted; scanned = short.scanned; freed = short.freed; tells = short.tells }
+
+  applied_from : IsApplied kind was s' book book' call reply → IsApplied kind s s' book book' call reply
+  applied_from applied = record {
+    idle = applied.idle;
+    answer =
+        ⊎_elim
+        (λ (done : IsDone kind was s' book book' call reply). inl (done_from done))
+        (λ (short : IsShortFor kind was s' book book' call reply × (s'.tree ≡ s.tree)). inr (short_from short.0, short.1)) applied.answer;
+    ended = applied.ended;
+    record_told = applied.record_told;
+    cleared = applied.cleared;
+    scans = applied.scans;
+    rows = applied.rows;
+    opened = applied.opened;
+    shared = applied.shared;
+    known = applied.known;
+  }
+
+-- where rows were only read before
+pub answered_after_reads : (kind : Kind) (s s₁ s' : Sheet) (book book' : Book) (call : Call) (reply : Reply) → OnlyReads s s₁ → IsAnswered kind s₁ s' book book' call reply → IsAnswered kind s s' book book' call reply
+answered_after_reads kind s s₁ s' book book' call reply reads answered = record {
+  may = answered.may;
+  applied =
+      applied_from kind s (finished s' call reply) book book' call reply s.in_flight s.published s.scans_at_begin s₁.reads
+      (subst (λ (x : Sheet). IsApplied kind x (finished s' call reply) book book' call reply) reads answered.applied);
+}
+
+-- the end of a call
+pub applied_by : (kind : Kind) (s s₁ s' s″ : Sheet) (book book' : Book) (call : Call) (reply : Reply) → s₁ ≡ begun s → IsAnswered kind s₁ s' book book' call reply → s″ ≡ finished s' call reply → IsApplied kind s s″ book book' call reply
+applied_by kind s s₁ s' s″ book book' call reply begins answered ends =
+    subst (λ (x : Sheet). IsApplied kind s x book book' call reply) (sym ends)
+    (applied_from kind s (finished s' call reply) book book' call reply (begun s).in_flight (begun s).published (begun s).scans_at_begin s.reads
+    (subst (λ (x : Sheet). IsApplied kind x (finished s' call reply) book book' call reply) begins answered.applied))
+
+-- ---- as a map of ranges tells it
+
+pub made_by : (kind : Kind) (s s' : Sheet) (book book' : Book) (call : Call) (reply : Reply) → IsApplied kind s s' book book' call reply → IsMade kind (Some (limits_of s)) (map_by s.tree) call (map_by s'.tree) reply
+made_by kind s s' book book' call reply applied =
+    ⊎_elim
+    (λ (done : IsDone kind s s' book book' call reply). inl done.acts)
+    (λ (short : IsShortFor kind s s' book book' call reply × (s'.tree ≡ s.tree)). inr (short.0.refused, ap (λ (t : Rooted). map_by t) short.1)) applied.answer
+
+pub limits_by : (kind : Kind) (s s' : Sheet) (book book' : Book) (call : Call) (reply : Reply) → IsApplied kind s s' book book' call reply → limits_of s' ≡ record (limits_of s) { ended = s.ended + 1 }
+limits_by kind s s' book book' call reply applied = λ i. record { rows = applied.rows i; opened = applied.opened i; ended = applied.ended i; may_hold = applied.shared i }

@@ -1,0 +1,8 @@
+use Rattle.std.proofs.Common.{sym, subst}
+use Rattle.mt_base.specs.declared.calls.Call.{Call}
+use Rattle.mt_engine.specs.Plans.{IsPlan}
+use Rattle.mt_engine.proofs.plans.plan_of.Goals as goal
+
+pub returns-in-Clear-clause-plan : goal.returns-in-Clear-clause-plan
+returns-in-Clear-clause-plan g c =
+    subst (λ (x : Call). IsPlan c.args.kind (g.R.Rows.sheet c.args.rows.now).tree x c.args.path.now.items c.plan_clear.result) (sym c.in-Clear.is) (c.plan_clear.ensures.plan c.args.kind c.args.path.now.items)

@@ -1,0 +1,11 @@
+use Rattle.std.proofs.Common.{sym, ◌∙◌}
+use Rattle.mt_engine.proofs.Planning.{first_within, store_plan}
+use Rattle.mt_engine.proofs.plans.plan_store.Goals as goal
+
+pub walk_to-here-requires-clause-index : goal.walk_to-here-requires-clause-index
+walk_to-here-requires-clause-index g c = first_within _ c.args.kind c.requires.tree c.args.first c.args.last c.args.entry (sym c.is_invalid.ensures ∙ c.if-is_invalid.false)
+
+pub returns-clause-plan : goal.returns-clause-plan
+returns-clause-plan g c =
+    store_plan _ c.args.kind c.requires.tree c.args.first c.args.last c.args.entry (sym c.is_invalid.ensures ∙ c.if-is_invalid.false) c.walk_to-here.new.path.items c.walk_to-here.result c.walk_to-here.ensures.path
+    (record { none = c.walk_to-here.ensures.none; some = c.walk_to-here.ensures.some })

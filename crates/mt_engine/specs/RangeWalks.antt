@@ -1,0 +1,32 @@
+-- A walk over the ranges of a tree, in rising order: which range comes next, and where the walk stands then.
+-- Source: the kernel's include/linux/maple_tree.h, mas_for_each, whose mas_find goes on in the leaf where it stands.
+use Rattle.std.specs.Prelude.{◌≡◌, ◌==◌, ℕ, ◌+◌, ◌≤◌, List, Option, Some, None, IfSome, if◌then◌else◌}
+use Rattle.std.specs.Option.{option_map}
+use Rattle.mt_base.specs.declared.ranges.Range.{Range}
+use Rattle.mt_base.specs.declared.calls.Query.TheVariants.{Find}
+use Rattle.mt_base.specs.Call.{answer}
+use Rattle.mt_base.specs.Width.{greatest}
+use Rattle.mt_rows.specs.Sheet.{Rooted}
+use Rattle.mt_path.specs.declared.handles.Handle.{Handle}
+use Rattle.mt_path.specs.Handles.{IsHandleOf}
+use Rattle.mt_engine.specs.MapSpans.{range_of}
+use Rattle.mt_engine.specs.declared.range_walk.RangeWalk.{RangeWalk}
+
+-- the range that comes next where a walk goes on from an index: what a find answers from there on; none at the end
+abbrev pub found_from : List Range → ℕ → Option ℕ → Option Range
+found_from m top None = None
+found_from m top (Some index) = answer m (Find index top)
+
+-- the index behind a range, where there is one
+abbrev pub index_behind : ℕ → Option Range → Option ℕ
+index_behind top None = None
+index_behind top (Some r) = if r.last == top then None else Some (r.last + 1)
+
+-- the range in a slot
+abbrev pub range_at : Option Handle → Option Range
+range_at here = option_map (λ (h : Handle). range_of h.span) here
+
+-- The walk is one of this tree as it stands: it goes on from an index, which stands right behind the slot that it gave last.
+pub record WalksFrom (t : Rooted) (walk : RangeWalk) : Type 0 where
+  pub within : IfSome walk.next (λ index. index ≤ greatest t.table.width)
+  pub given : IfSome walk.last (λ handle. IsHandleOf t handle × IfSome walk.next (λ index. index ≡ handle.span.last + 1))

@@ -1,0 +1,27 @@
+-- By what a store can be carried out, as what stands at its first index tells.
+-- Source: the kernel's lib/maple_tree.c, mas_wr_store_entry, which tells a store that changes one slot from others.
+use Rattle.std.specs.Prelude.{◌≡◌, ◌≢◌, ℕ, ◌≤◌, Option, Some, None}
+use Rattle.mt_path.specs.declared.handles.Handle.{Handle}
+use Rattle.mt_engine.specs.declared.store_by.StoreBy.{StoreBy}
+use Rattle.mt_engine.specs.declared.store_by.StoreBy.TheVariants.{NoWord, OneWord, NewRows}
+
+-- a hole is to be stored where a hole stands already
+pub record IsHoleOver (handle : Handle) (last entry : ℕ) : Type 0 where
+  pub no_entry : entry ≡ 0
+  pub hole : handle.span.word ≡ 0
+  pub over : last ≤ handle.span.last
+
+-- an entry is to be stored over just the indexes of one range
+pub record IsExactly (handle : Handle) (first last entry : ℕ) : Type 0 where
+  pub some_entry : entry ≢ 0
+  pub range : handle.span.word ≢ 0
+  pub from : handle.span.first ≡ first
+  pub to : handle.span.last ≡ last
+
+abbrev pub IsDoneBy : Option Handle → ℕ → ℕ → ℕ → StoreBy → Type 0
+IsDoneBy None first last entry NoWord = entry ≡ 0
+IsDoneBy (Some handle) first last entry NoWord = IsHoleOver handle last entry
+IsDoneBy None first last entry (OneWord at) = ⊥
+IsDoneBy (Some handle) first last entry (OneWord at) = (at ≡ handle) × IsExactly handle first last entry
+IsDoneBy None first last entry NewRows = entry ≢ 0
+IsDoneBy (Some handle) first last entry NewRows = (IsHoleOver handle last entry → ⊥) × (IsExactly handle first last entry → ⊥)

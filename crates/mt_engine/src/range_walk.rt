@@ -1,0 +1,94 @@
+//! A walk over the ranges of a tree, which steps within a leaf.
+
+ghost use Rattle.std.specs.Prelude.{◌≡◌, ◌≤◌, Some, None, IfSome};
+ghost use Rattle.mt_base.specs.declared.kinds.Kind.{Kind};
+ghost use Rattle.mt_base.specs.Width.{greatest};
+ghost use Rattle.mt_rows.specs.Publish.{IsTreeOf, map_by};
+ghost use Rattle.mt_rows.specs.Sheet.{OnlyReads};
+ghost use Rattle.mt_path.specs.Handles.{IsHandleOf};
+ghost use Rattle.mt_engine.specs.Here.{IsHereIf};
+ghost use Rattle.mt_engine.specs.RangeWalks.{found_from, index_behind, range_at, WalksFrom};
+
+use crate::queries::{range_in, slot_from};
+use mt_base::{Range, Width, top};
+use mt_path::{Handle, behind, handle_at};
+use mt_rows::Rows;
+
+/// A place among the ranges of a tree, from which they are given in rising order: the index to go on from, and the slot that
+/// was given last. A call that changes the tree ends the walk: one is begun anew, from the index that comes next.
+#[derive(Clone, Copy, Debug, PartialEq, Eq)]
+pub struct RangeWalk {
+    pub next: Option<u64>,
+    pub last: Option<Handle>,
+}
+
+impl RangeWalk {
+    /// A walk from an index.
+    pub fn from_index(index: u64) -> Self
+        ensures next { result.next ≡ Some index }
+        ensures last { result.last ≡ None }
+    {
+        RangeWalk {
+            next: Some(index),
+            last: None,
+        }
+    }
+}
+
+/// What stands at the index that a walk goes on from: in the slot behind the one that it gave last, or by a way from the
+/// root.
+fn slot_next<R: Rows>(rows: &mut R, walk: &RangeWalk) -> Option<Handle>
+    requires tree { (kind : Kind) × IsTreeOf (R.sheet rows.old).tree kind }
+    requires walk { WalksFrom (R.sheet rows.old).tree walk.now }
+    ensures here { IsHereIf (R.sheet rows.old).tree walk.now.next result }
+    ensures rest { OnlyReads (R.sheet rows.old) (R.sheet rows.new) }
+{
+    let index = walk.next?;
+    match walk.last {
+        Some(last) => behind(rows, &last),
+        None => handle_at(rows, index),
+    }
+}
+
+/// The slot of the range that comes next.
+fn slot_found<R: Rows>(rows: &mut R, walk: &RangeWalk) -> Option<Handle>
+    requires tree { (kind : Kind) × IsTreeOf (R.sheet rows.old).tree kind }
+    requires walk { WalksFrom (R.sheet rows.old).tree walk.now }
+    ensures handle { IfSome result (IsHandleOf (R.sheet rows.old).tree) }
+    ensures range { range_at result ≡ found_from (map_by (R.sheet rows.old).tree) (greatest (R.sheet rows.old).tree.table.width) walk.now.next }
+    ensures rest { OnlyReads (R.sheet rows.old) (R.sheet rows.new) }
+{
+    let here = slot_next(rows, walk)?;
+    slot_from(rows, &here)
+}
+
+/// The index behind a slot, or none at the end.
+fn index_behind(width: Width, given: &Handle) -> Option<u64>
+    requires { given.now.span.last ≤ greatest width }
+    ensures { result ≡ index_behind (greatest width) (range_at (Some given.now)) }
+{
+    let last = given.span.last;
+    if last == top(width) {
+        return None;
+    }
+    Some(last + 1)
+}
+
+/// The first range at the walk's index or above, from behind which the walk goes on then. A slot of a leaf is loaded once,
+/// and a leaf is walked to once.
+pub fn next_range<R: Rows>(rows: &mut R, walk: &mut RangeWalk) -> Option<Range>
+    requires tree { (kind : Kind) × IsTreeOf (R.sheet rows.old).tree kind }
+    requires walk { WalksFrom (R.sheet rows.old).tree walk.old }
+    ensures range { result ≡ found_from (map_by (R.sheet rows.old).tree) (greatest (R.sheet rows.old).tree.table.width) walk.old.next }
+    ensures next { walk.new.next ≡ index_behind (greatest (R.sheet rows.old).tree.table.width) result }
+    ensures walk { WalksFrom (R.sheet rows.old).tree walk.new }
+    ensures rest { OnlyReads (R.sheet rows.old) (R.sheet rows.new) }
+{
+    let Some(given) = slot_found(rows, walk) else {
+        walk.next = None;
+        return None;
+    };
+    walk.next = index_behind(rows.width(), &given);
+    walk.last = Some(given);
+    Some(range_in(given.span))
+}

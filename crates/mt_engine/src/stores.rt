@@ -1,0 +1,73 @@
+//! Stores into a tree: by no word, by one word, or by new rows.
+
+ghost use Rattle.std.specs.Prelude.{◌≡◌, ◌≢◌, ◌+◌, ◌-◌, ◌^◌, ◌<◌, IfOk, IfErr};
+ghost use Rattle.mt_base.specs.declared.kinds.Kind.{Kind};
+ghost use Rattle.mt_base.specs.declared.replies.Reply.TheVariants.{NoNodes};
+ghost use Rattle.mt_layout.specs.declared.names.RowKind.TheVariants.{Leaf};
+ghost use Rattle.mt_layout.specs.Columns.{slot_column};
+ghost use Rattle.mt_layout.specs.Sizes.{slots_of};
+ghost use Rattle.mt_rows.specs.declared.rows.Place.TheVariants.{Slot};
+ghost use Rattle.mt_rows.specs.Publish.{IsTreeOf};
+ghost use Rattle.mt_path.specs.Handles.{IsHandleOf};
+ghost use Rattle.mt_engine.specs.Engine.{IsInCall, IsAnswered};
+ghost use Rattle.mt_engine.specs.Plans.{IsStorePlan};
+
+use crate::rooms::make_room;
+use crate::store_by::{StoreBy, store_by};
+use mt_base::{Call, Kind, Reply, Shortage};
+use mt_free::RowBook;
+use mt_layout::{RowKind, slots};
+use mt_path::{Handle, Path};
+use mt_rows::{Place, Rows};
+use mt_splice::replace_range;
+
+/// Where the word of a leaf's slot is published.
+fn place_of<R: Rows>(rows: &R, at: &Handle) -> Place
+    requires tree { (kind : Kind) × IsTreeOf (R.sheet rows.now).tree kind }
+    requires at { IsHandleOf (R.sheet rows.now).tree at.now }
+    ensures { result ≡ Slot at.now.leaf.row (slot_column (slots_of (R.sheet rows.now).tree.table.width Leaf) at.now.leaf.slot) }
+{
+    Place::Slot {
+        row: at.leaf.row,
+        col: slots(rows.width(), RowKind::Leaf) + at.leaf.slot,
+    }
+}
+
+/// Stores `entry`, or a hole where it is 0, over `first` to `last`, to whose first index the path leads and where this
+/// stands: by no word where that leaves the map, by one where `first` to `last` is one range, else by new rows.
+pub fn store<R: Rows>(
+    rows: &mut R,
+    book: &mut RowBook,
+    kind: Kind,
+    path: Path,
+    here: Option<Handle>,
+    first: u64,
+    last: u64,
+    entry: u64,
+    number: u64,
+    call: &Call,
+    reply: &Reply,
+) -> Result<(), Shortage>
+    requires in_call { IsInCall kind (R.sheet rows.old) book.old }
+    requires number { number ≡ (R.sheet rows.old).ended + 1 }
+    requires few { (R.sheet rows.old).ended < 2 ^ 62 - 1 }
+    requires plan { IsStorePlan kind (R.sheet rows.old).tree call.now path.items first last entry reply.now here }
+    ensures done { IfOk result (λ _. IsAnswered kind (R.sheet rows.old) (R.sheet rows.new) book.old book.new call.now reply.now) }
+    ensures short { IfErr result (λ shortage. IsAnswered kind (R.sheet rows.old) (R.sheet rows.new) book.old book.new call.now (NoNodes shortage)) }
+{
+    match store_by(here, first, last, entry) {
+        StoreBy::NoWord => Ok(()),
+        StoreBy::OneWord { at } => {
+            let place = place_of(rows, &at);
+            rows.publish(place, entry, call, reply);
+            Ok(())
+        }
+        StoreBy::NewRows => {
+            make_room(rows, book, path.len() as u64)?;
+            replace_range(
+                rows, book, kind, path, first, last, entry, number, call, reply,
+            );
+            Ok(())
+        }
+    }
+}
