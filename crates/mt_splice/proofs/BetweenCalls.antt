@@ -1,5 +1,5 @@
 -- A store within a call: the call begins, rows are only read, then replaced, and the rows are ready once more when it ends.
-use Rattle.std.proofs.Common.{◌≡◌, ◌≢◌, ℕ, zero, suc, ◌+◌, ◌*◌, ◌^◌, ◌<◌, ◌≤◌, List, Option, false, length, refl, sym, ap, ◌∙◌, subst, inl, inr, arith}
+use Rattle.std.proofs.Common.{◌≡◌, ◌≢◌, ℕ, zero, suc, ◌+◌, ◌*◌, ◌^◌, ◌<◌, ◌≤◌, List, Option, true, false, length, refl, sym, ap, ◌∙◌, subst, inl, inr, arith}
 use Rattle.std.proofs.lemmas.Bool.{le-ltb}
 use Rattle.mt_base.specs.declared.kinds.Kind.{Kind}
 use Rattle.mt_base.specs.declared.kinds.Kind.TheVariants as trees
@@ -22,7 +22,7 @@ use Rattle.mt_rows.specs.Trees.{height_in}
 use Rattle.mt_rows.specs.Laws.{Tree, IsLawful, IsTree, ParentLaw, IsTended}
 use Rattle.mt_rows.specs.Replacement.{root_of}
 use Rattle.mt_rows.specs.Sheet.{Rooted, Sheet, OnlyReads, begun}
-use Rattle.mt_rows.specs.Publish.{tree_as, IsTold, IsTreeOf, IsLawfulOf, map_by, finished}
+use Rattle.mt_rows.specs.Publish.{tree_as, IsTold, IsTreeOf, IsLawfulOf, map_by, MayFinish, finished}
 use Rattle.mt_rows.specs.declared.rows.Place.{Place}
 use Rattle.mt_rows.specs.declared.rows.Place.TheVariants.{Root, Slot}
 use Rattle.mt_rows.proofs.Depth.{height_by_depth}
@@ -157,10 +157,6 @@ spliced_after_reads {kind = kind} {s = s} {s₁ = s₁} {s₂ = s₂} {s' = s'} 
 
 -- ---- a call begins
 
--- the number of a call that has begun
-pub number_now : (s₀ s₁ s₂ : Sheet) {number : ℕ} → s₁ ≡ begun s₀ → OnlyReads s₁ s₂ → number ≡ s₀.ended + 1 → number ≡ s₂.ended + 1
-number_now s₀ s₁ s₂ begins reads is = is ∙ (ap (λ (x : Sheet). x.ended + 1) (sym begins) ∙ ap (λ (x : Sheet). x.ended + 1) (sym reads))
-
 begun_may : {kind : Kind} {s : Sheet} {book : Book} {left : List PathStep} {first last entry number : ℕ} {call : Call} {reply : Reply} (reads : Option ℕ) → MayBeReplaced kind → IsBetweenCalls kind s book → number ≡ s.ended + 1
     → 3 * height_in s.tree.table s.tree.root + 1 ≤ length book.free → IsStoreBy kind (greatest s.tree.table.width) (map_by s.tree) call reply first last entry → (s.tree.root ≡ 0 → entry ≢ 0)
     → left ≡ path_in s.tree.table s.tree.root first → MayReplace kind (record (begun s) { reads = reads }) book left first last entry number call reply
@@ -196,6 +192,18 @@ stores_so {kind = kind} {t = t} {first = first} {last = last} {entry = entry} la
   lawful = free;
 }
 
+-- a store of an entry or a hole, with room for any tree
+pub store_begins : {kind : Kind} {s₀ s₁ s₂ : Sheet} {book : Book} {left : List PathStep} {first last entry number : ℕ} → MayBeReplaced kind → IsBetweenCalls kind s₀ book → s₁ ≡ begun s₀ → OnlyReads s₁ s₂ → number ≡ s₀.ended + 1 → most_taken ≤ length book.free
+    → first ≤ last → last ≤ greatest_of kind → reserved entry ≡ false → (s₀.tree.root ≡ 0 → entry ≢ 0) → left ≡ path_in s₁.tree.table s₁.tree.root first → MayReplace kind s₂ book left first last entry number (Store first last entry) reply.Ok
+store_begins {book = book} range ready begins reads is many order within free some path = may_replace range ready begins reads is (room_enough book ready.kept.lawful many) (stores_so ready.kept.lawful order within free) some path
+
+-- the tree of a call that has begun
+pub begun_tree : {kind : Kind} {s s' : Sheet} {book : Book} → IsBetweenCalls kind s book → s' ≡ begun s → (k : Kind) × IsTreeOf s'.tree k
+begun_tree {kind = kind} ready begins = (kind, subst (λ (x : Sheet). IsTreeOf x.tree kind) (sym begins) (lawful_tree ready.kept.lawful))
+
+pub begun_within : {kind : Kind} {s s' : Sheet} {book : Book} {index : ℕ} → IsBetweenCalls kind s book → s' ≡ begun s → index ≤ greatest_of kind → index ≤ greatest s'.tree.table.width
+begun_within ready begins within = let same = ap (λ (x : Sheet). greatest x.tree.table.width) begins ∙ ap greatest ready.kept.lawful.width in omega arith
+
 -- a tree that is not empty may be emptied
 pub may_clear : {kind : Kind} {s s' : Sheet} {book : Book} {number : ℕ} → MayBeReplaced kind → IsBetweenCalls kind s book → s' ≡ begun s → number ≡ s.ended + 1 → s.tree.root ≢ 0 → MayClear kind s' book number Clear reply.Ok
 may_clear {kind = kind} {s = s} {s' = s'} {book = book} {number = number} range ready begins is some = subst (λ (x : Sheet). MayClear kind x book number Clear reply.Ok) (sym begins)
@@ -209,6 +217,12 @@ may_clear {kind = kind} {s = s} {s' = s'} {book = book} {number = number} range 
     })
 
 -- ---- the call ends
+
+pub may_finish : {kind : Kind} {s s' : Sheet} {book book' : Book} {number : ℕ} {call : Call} {reply : Reply} {place : Place} → IsSpliced kind s s' book book' number call reply place → s.in_flight ≡ true → (k : Kind) × MayFinish k s' call reply
+may_finish {kind = kind} spliced flies = (
+  kind,
+  record { in_flight = ap (λ (x : Sheet). x.in_flight) spliced.rest ∙ flies; kept = λ not. let is = ap (λ (x : Sheet). x.published) spliced.rest in absurd (cc) },
+)
 
 module _ {kind : Kind} {s s' s″ : Sheet} {book book' : Book} {number : ℕ} {call : Call} {reply : Reply} {place : Place} (range : MayBeReplaced kind) (told : IsTold s.kind kind) (same_end : number ≡ s.ended + 1)
     (spliced : IsSpliced kind s s' book book' number call reply place) (ends : s″ ≡ finished s' call reply) where

@@ -342,11 +342,14 @@ module _ {kind : Kind} {t : Rooted} {left right : List PathStep} {first last : �
   region_of_some [] some = absurd (some refl)
   region_of_some (s ∷ path) some = refl
 
-  pub leaves_edited : left ≢ [] → (entry : ℕ) {l r : PathStep} {below above made : List Item} → l ≡ last_step left → r ≡ last_step right → below ≡ items_below l.min (leaf_items t.table l) first
-      → above ≡ drop (slot_above (leaf_items t.table r) last) (leaf_items t.table r) → made ≡ fold with_joined (with_joined below (item_stored last entry)) above → spans_from l.min made ≡ edited (region_of t.table left right) first last entry
-  leaves_edited some entry {l} {r} {below} {above} {made} is_left is_right is_below is_above is_made =
+  -- what stands above is read after a few loads
+  pub leaves_edited : left ≢ [] → (entry : ℕ) {l r : PathStep} {below run made : List Item} {t' : Rooted} → l ≡ last_step left → r ≡ last_step right → below ≡ items_below l.min (leaf_items t.table l) first
+      → run ≡ with_joined below (item_stored last entry) → t' ≡ t → made ≡ fold with_joined run (drop (slot_above (leaf_items t'.table r) last) (leaf_items t'.table r)) → spans_from l.min made ≡ edited (region_of t.table left right) first last entry
+  leaves_edited some entry {l} {r} {below} {run} {made} {t'} is_left is_right is_below is_run same is_made =
       let at = stands_as t kind (root_there some) ends.tree.words in
-      made_spans (tree_as kind t) at.0 at.1 l r first last ends.order ends.within (is_left ∙ ap last_step ends.left_path) (is_right ∙ ap last_step ends.right_path) entry below above made is_below is_above is_made
+      let above : List Item = drop (slot_above (leaf_items t.table r) last) (leaf_items t.table r) in
+      let is_all : made ≡ fold with_joined (with_joined below (item_stored last entry)) above = is_made ∙ (λ k. fold with_joined (is_run k) (drop (slot_above (leaf_items (same k).table r) last) (leaf_items (same k).table r))) in
+      made_spans (tree_as kind t) at.0 at.1 l r first last ends.order ends.within (is_left ∙ ap last_step ends.left_path) (is_right ∙ ap last_step ends.right_path) entry below above made is_below refl is_all
       ∙ ap (λ (xs : List Span). edited xs first last entry)
       ((λ k. if (is_left k).row == (is_right k).row then leaf_spans t.table (is_left k) else leaf_spans t.table (is_left k) ++ starting ((is_left k).max + 1) (leaf_spans t.table (is_right k))) ∙ sym (region_of_some left some))
 

@@ -1,13 +1,16 @@
 ghost use Rattle.std.specs.Prelude.{◌≡◌, ◌≢◌, false, ◌<◌, ◌≤◌, ◌+◌, ◌-◌, ◌^◌, IfOk, length};
 ghost use Rattle.mt_base.specs.Entry.{reserved};
 ghost use Rattle.mt_base.specs.Map.{over};
+ghost use Rattle.mt_base.specs.Width.{most_taken};
+ghost use Rattle.mt_rows.specs.Memory.{sheet_in};
 ghost use Rattle.mt_rows.specs.Publish.{map_by};
 ghost use Rattle.mt_rows.specs.Sheet.{IsPlace, OnlyReads};
 ghost use Rattle.mt_splice.specs.Between.{IsBetweenCalls};
 
 use crate::{clear, replace_range};
-use mt_base::{Call, Kind, NoMemory, Range, Reply, is_reserved};
+use mt_base::{Call, Kind, MOST_TAKEN, NoMemory, Range, Reply, cols, is_reserved};
 use mt_free::RowBook;
+use mt_layout::FIRST_ROW;
 use mt_list::{ListMap, Ranges};
 use mt_path::walk;
 use mt_rows::plain_trees::{height_in, map_in, reached_in};
@@ -24,10 +27,10 @@ const ROWS: u64 = 400;
 
 /// Appends the words of a row.
 fn push_row(rows: &mut PlainRows, row: u32, words: &mut Vec<u64>) -> Result<(), NoMemory>
-    requires { IsPlace rows.old.tree row 0 }
-    ensures { OnlyReads rows.old rows.new }
+    requires { IsPlace (sheet_in rows.old).tree row 0 }
+    ensures { OnlyReads (sheet_in rows.old) (sheet_in rows.new) }
 {
-    for col in 0..32 {
+    for col in 0..cols(rows.width()) {
         words.push(rows.load(row, col))?;
     }
     Ok(())
@@ -35,35 +38,35 @@ fn push_row(rows: &mut PlainRows, row: u32, words: &mut Vec<u64>) -> Result<(), 
 
 /// All words of the rows, with those of the numbers below the first row's.
 fn words_of(rows: &mut PlainRows, alloc: Global) -> Result<Vec<u64>, NoMemory>
-    ensures { OnlyReads rows.old rows.new }
+    ensures { OnlyReads (sheet_in rows.old) (sheet_in rows.new) }
 {
-    let mut words = vec![in alloc; 0; 512]?;
+    let mut words = vec![in alloc; 0; FIRST_ROW as usize * cols(rows.width()) as usize]?;
     let count = rows.size();
     for n in 0..count {
-        push_row(rows, 16 + n as u32, &mut words)?;
+        push_row(rows, FIRST_ROW + n as u32, &mut words)?;
     }
     Ok(words)
 }
 
 /// The root word.
 fn root_of(rows: &mut PlainRows) -> u64
-    ensures word { result ≡ rows.old.tree.root }
-    ensures rest { OnlyReads rows.old rows.new }
+    ensures word { result ≡ (sheet_in rows.old).tree.root }
+    ensures rest { OnlyReads (sheet_in rows.old) (sheet_in rows.new) }
 {
     rows.root()
 }
 
 /// A whole store as one call: of an entry, or of a hole into a tree that is not empty.
 fn store(rows: &mut PlainRows, book: &mut RowBook, first: u64, last: u64, entry: u64) -> Place
-    requires ready { IsBetweenCalls rows.old book.old }
+    requires ready { IsBetweenCalls Kind.Range (sheet_in rows.old) book.old }
     requires order { first ≤ last }
-    requires some { rows.old.tree.root ≡ 0 → entry ≢ 0 }
+    requires some { (sheet_in rows.old).tree.root ≡ 0 → entry ≢ 0 }
     requires lawful { reserved entry ≡ false }
-    requires free { 28 ≤ length book.old.free }
-    requires room { rows.old.ended < 2 ^ 62 - 1 }
-    ensures ready { IsBetweenCalls rows.new book.new }
-    ensures ended { rows.new.ended ≡ rows.old.ended + 1 }
-    ensures map { map_by rows.new.tree ≡ over (map_by rows.old.tree) first last entry }
+    requires free { most_taken ≤ length book.old.free }
+    requires room { (sheet_in rows.old).ended < 2 ^ 62 - 1 }
+    ensures ready { IsBetweenCalls Kind.Range (sheet_in rows.new) book.new }
+    ensures ended { (sheet_in rows.new).ended ≡ (sheet_in rows.old).ended + 1 }
+    ensures map { map_by (sheet_in rows.new).tree ≡ over (map_by (sheet_in rows.old).tree) first last entry }
 {
     let call = Call::Store { first, last, entry };
     let number = rows.begin();
@@ -72,7 +75,7 @@ fn store(rows: &mut PlainRows, book: &mut RowBook, first: u64, last: u64, entry:
         rows,
         book,
         Kind::Range,
-        &left,
+        left,
         first,
         last,
         entry,
@@ -86,13 +89,13 @@ fn store(rows: &mut PlainRows, book: &mut RowBook, first: u64, last: u64, entry:
 
 /// The emptying of a tree that is not empty, as one call.
 fn empty(rows: &mut PlainRows, book: &mut RowBook)
-    requires ready { IsBetweenCalls rows.old book.old }
-    requires some { rows.old.tree.root ≢ 0 }
-    requires room { rows.old.ended < 2 ^ 62 - 1 }
-    ensures ready { IsBetweenCalls rows.new book.new }
-    ensures ended { rows.new.ended ≡ rows.old.ended + 1 }
+    requires ready { IsBetweenCalls Kind.Range (sheet_in rows.old) book.old }
+    requires some { (sheet_in rows.old).tree.root ≢ 0 }
+    requires room { (sheet_in rows.old).ended < 2 ^ 62 - 1 }
+    ensures ready { IsBetweenCalls Kind.Range (sheet_in rows.new) book.new }
+    ensures ended { (sheet_in rows.new).ended ≡ (sheet_in rows.old).ended + 1 }
     ensures none_taken { book.new.free ≡ book.old.free }
-    ensures root { rows.new.tree.root ≡ 0 }
+    ensures root { (sheet_in rows.new).tree.root ≡ 0 }
 {
     let number = rows.begin();
     clear(rows, book, Kind::Range, number, &Call::Clear, &Reply::Ok);
@@ -121,8 +124,8 @@ struct Shape {
 impl Tree {
     /// The empty tree.
     fn new(alloc: Global) -> Result<Tree, NoMemory>
-        ensures ready { IfOk result (λ t. IsBetweenCalls t.rows t.book) }
-        ensures ended { IfOk result (λ t. t.rows.ended ≡ 0) }
+        ensures ready { IfOk result (λ t. IsBetweenCalls Kind.Range (sheet_in t.rows) t.book) }
+        ensures ended { IfOk result (λ t. (sheet_in t.rows).ended ≡ 0) }
     {
         let rows = PlainRows::new(alloc, ROWS)?;
         let book = RowBook::new(alloc, ROWS)?;
@@ -132,23 +135,23 @@ impl Tree {
 
     /// Stores into the nodes.
     fn store_in_nodes(&mut self, rt: &impl Abort, range: Range) -> Place
-        requires ready { IsBetweenCalls self.old.rows self.old.book }
-        requires room { self.old.rows.ended < 2 ^ 62 - 1 }
-        ensures ready { IsBetweenCalls self.new.rows self.new.book }
-        ensures ended { self.new.rows.ended ≡ self.old.rows.ended + 1 }
+        requires ready { IsBetweenCalls Kind.Range (sheet_in self.old.rows) self.old.book }
+        requires room { (sheet_in self.old.rows).ended < 2 ^ 62 - 1 }
+        ensures ready { IsBetweenCalls Kind.Range (sheet_in self.new.rows) self.new.book }
+        ensures ended { (sheet_in self.new.rows).ended ≡ (sheet_in self.old.rows).ended + 1 }
     {
         let Range { first, last, entry } = range;
         let root = root_of(&mut self.rows);
         assert!(rt; first <= last);
         assert!(rt; !is_reserved(entry));
         assert!(rt; root != 0 || entry != 0);
-        assert!(rt; self.book.free() >= 28);
+        assert!(rt; self.book.free() >= MOST_TAKEN as u64);
         store(&mut self.rows, &mut self.book, first, last, entry)
     }
 
     /// By the plain program the nodes stand for the ranges of the list, and as many rows are reached as are live.
     fn expect_same(&mut self, rt: &impl Abort, alloc: Global, last: Range) -> Result<(), NoMemory>
-        ensures rows { OnlyReads self.old.rows self.new.rows }
+        ensures rows { OnlyReads (sheet_in self.old.rows) (sheet_in self.new.rows) }
         ensures book { self.new.book ≡ self.old.book }
     {
         let root = root_of(&mut self.rows);
@@ -166,10 +169,10 @@ impl Tree {
 
     /// Stores into the nodes and into the list, which then are the same.
     fn store(&mut self, rt: &impl Abort, alloc: Global, range: Range) -> Result<Place, NoMemory>
-        requires ready { IsBetweenCalls self.old.rows self.old.book }
-        requires room { self.old.rows.ended < 2 ^ 62 - 1 }
-        ensures ready { IsBetweenCalls self.new.rows self.new.book }
-        ensures ended { self.new.rows.ended ≡ self.old.rows.ended + 1 }
+        requires ready { IsBetweenCalls Kind.Range (sheet_in self.old.rows) self.old.book }
+        requires room { (sheet_in self.old.rows).ended < 2 ^ 62 - 1 }
+        ensures ready { IsBetweenCalls Kind.Range (sheet_in self.new.rows) self.new.book }
+        ensures ended { (sheet_in self.new.rows).ended ≡ (sheet_in self.old.rows).ended + 1 }
     {
         let place = self.store_in_nodes(rt, range);
         let Range { first, last, entry } = range;
@@ -180,10 +183,10 @@ impl Tree {
 
     /// Empties the nodes and the list.
     fn clear(&mut self, rt: &impl Abort, alloc: Global) -> Result<(), NoMemory>
-        requires ready { IsBetweenCalls self.old.rows self.old.book }
-        requires room { self.old.rows.ended < 2 ^ 62 - 1 }
-        ensures ready { IsBetweenCalls self.new.rows self.new.book }
-        ensures ended { self.new.rows.ended ≡ self.old.rows.ended + 1 }
+        requires ready { IsBetweenCalls Kind.Range (sheet_in self.old.rows) self.old.book }
+        requires room { (sheet_in self.old.rows).ended < 2 ^ 62 - 1 }
+        ensures ready { IsBetweenCalls Kind.Range (sheet_in self.new.rows) self.new.book }
+        ensures ended { (sheet_in self.new.rows).ended ≡ (sheet_in self.old.rows).ended + 1 }
     {
         let root = root_of(&mut self.rows);
         assert!(rt; root != 0);
@@ -199,10 +202,10 @@ impl Tree {
         alloc: Global,
         ranges: &[Range],
     ) -> Result<(), NoMemory>
-        requires ready { IsBetweenCalls self.old.rows self.old.book }
-        requires room { self.old.rows.ended + length ranges.now < 2 ^ 62 }
-        ensures ready { IsBetweenCalls self.new.rows self.new.book }
-        ensures ended { self.new.rows.ended ≤ self.old.rows.ended + length ranges.now }
+        requires ready { IsBetweenCalls Kind.Range (sheet_in self.old.rows) self.old.book }
+        requires room { (sheet_in self.old.rows).ended + length ranges.now < 2 ^ 62 }
+        ensures ready { IsBetweenCalls Kind.Range (sheet_in self.new.rows) self.new.book }
+        ensures ended { (sheet_in self.new.rows).ended ≤ (sheet_in self.old.rows).ended + length ranges.now }
     {
         for range in ranges {
             self.store(rt, alloc, *range)?;
@@ -212,7 +215,7 @@ impl Tree {
 
     /// The number of its levels.
     fn height(&mut self, alloc: Global) -> Result<u32, NoMemory>
-        ensures rows { OnlyReads self.old.rows self.new.rows }
+        ensures rows { OnlyReads (sheet_in self.old.rows) (sheet_in self.new.rows) }
         ensures book { self.new.book ≡ self.old.book }
     {
         let root = root_of(&mut self.rows);
@@ -227,8 +230,8 @@ impl Tree {
         alloc: Global,
         range: Range,
     ) -> Result<Shape, NoMemory>
-        requires ready { IsBetweenCalls self.old.rows self.old.book }
-        requires room { self.old.rows.ended < 2 ^ 62 - 1 }
+        requires ready { IsBetweenCalls Kind.Range (sheet_in self.old.rows) self.old.book }
+        requires room { (sheet_in self.old.rows).ended < 2 ^ 62 - 1 }
     {
         let (free, held) = (self.book.free(), self.book.held());
         let place = self.store(rt, alloc, range)?;

@@ -1,5 +1,6 @@
 use Rattle.std.proofs.Common.{◌+◌, ap, ◌∙◌, arith}
-use Rattle.mt_rows.specs.Sheet.{Rooted, Sheet, word_at}
+use Rattle.mt_rows.specs.Sheet.{Rooted, word_at}
+use Rattle.mt_path.proofs.Loads.{same_tree}
 use Rattle.mt_splice.proofs.LeafRegions.{leaf_row, leaf_read, room_first, read_first, read_many, first_low, read_whole, read_part, slot_small, slot_place, slot_word}
 use Rattle.mt_splice.proofs.leaves.push_below.Goals as goal
 
@@ -25,16 +26,16 @@ returns-then-first-first_in_slot-clause-items g c =
 
 pub overflow_add-slots : goal.overflow_add-slots
 overflow_add-slots g c =
-    let same = ap (λ (s : Sheet). s.tree) c.push_items.ensures.rest in
+    let same = same_tree (g.R.Rows.sheet c.args.rows.now) (g.R.Rows.sheet c.push_items.new.rows) c.push_items.ensures.rest in
     let small = slot_small (leaf_read c.requires.leaf same) c.width.ensures c.slots-slots.ensures in
     omega arith
 
 pub load-word-requires : goal.load-word-requires
-load-word-requires g c = let same = ap (λ (s : Sheet). s.tree) c.push_items.ensures.rest in slot_place (leaf_read c.requires.leaf same) c.width.ensures c.slots-slots.ensures
+load-word-requires g c = let same = same_tree (g.R.Rows.sheet c.args.rows.now) (g.R.Rows.sheet c.push_items.new.rows) c.push_items.ensures.rest in slot_place (leaf_read c.requires.leaf same) c.width.ensures c.slots-slots.ensures
 
 pub returns-clause-items : goal.returns-clause-items
 returns-clause-items g c =
-    let same = ap (λ (s : Sheet). s.tree) c.push_items.ensures.rest in
+    let same = same_tree (g.R.Rows.sheet c.args.rows.now) (g.R.Rows.sheet c.push_items.new.rows) c.push_items.ensures.rest in
     let begins = c.first_in_slot.ensures in let from = c.if-first-first_in_slot.false in
     let width = c.width.ensures ∙ ap (λ (t : Rooted). t.table.width) same in
     let word = c.load-word.ensures.word ∙ ap (λ (t : Rooted). word_at t c.args.leaf.now.row (c.slots-slots.result + c.args.leaf.now.slot)) same in

@@ -1,10 +1,8 @@
-use Rattle.std.proofs.Common.{List, length, drop, fold, ap, ◌∙◌, arith}
-use Rattle.mt_layout.specs.declared.items.Item.{Item}
+use Rattle.std.proofs.Common.{length, ap, arith}
 use Rattle.mt_layout.specs.declared.names.RowKind.TheVariants.{Leaf}
 use Rattle.mt_layout.specs.Sizes.{slots_of}
-use Rattle.mt_leaf.specs.Places.{slot_above, with_joined}
-use Rattle.mt_rows.specs.Sheet.{Rooted, Sheet}
-use Rattle.mt_splice.specs.Regions.{leaf_items}
+use Rattle.mt_rows.specs.Sheet.{Rooted}
+use Rattle.mt_path.proofs.Loads.{same_tree}
 use Rattle.mt_splice.proofs.LeafRegions.{left_leaf_step, right_leaf_step, leaf_read, room_below, some_with_joined, leaves_edited}
 use Rattle.mt_splice.proofs.leaves.push_edited.Goals as goal
 
@@ -21,20 +19,16 @@ overflow_sub-at g c =
     omega arith
 
 pub push_above-requires-clause-leaf : goal.push_above-requires-clause-leaf
-push_above-requires-clause-leaf g c = leaf_read (right_leaf_step c.requires.ends.1 c.requires.some c.requires.right) (ap (λ (s : Sheet). s.tree) c.push_below.ensures.rest)
+push_above-requires-clause-leaf g c = leaf_read (right_leaf_step c.requires.ends.1 c.requires.some c.requires.right) (same_tree (g.R.Rows.sheet c.args.rows.now) (g.R.Rows.sheet c.push_below.new.rows) c.push_below.ensures.rest)
 
 pub push_above-requires-clause-room : goal.push_above-requires-clause-room
 push_above-requires-clause-room g c =
     let room = room_below (left_leaf_step c.requires.ends.1 c.requires.some c.requires.left) c.push_below.ensures.items in
-    let slots = ap (λ (s : Sheet). slots_of s.tree.table.width Leaf) c.push_below.ensures.rest in
+    let slots = ap (λ (t : Rooted). slots_of t.table.width Leaf) (same_tree (g.R.Rows.sheet c.args.rows.now) (g.R.Rows.sheet c.push_below.new.rows) c.push_below.ensures.rest) in
     let count = c.push_joined.ensures.count in
     omega arith
 
 pub returns-clause-run : goal.returns-clause-run
 returns-clause-run g c =
-    let same = ap (λ (s : Sheet). s.tree) c.push_below.ensures.rest in
-    leaves_edited c.requires.ends.1 c.requires.some c.args.entry c.requires.left c.requires.right c.push_below.ensures.items
-    (ap (λ (t : Rooted). drop (slot_above (leaf_items t.table c.args.right.now) c.args.last) (leaf_items t.table c.args.right.now)) same)
-    (c.push_above.ensures.items
-    ∙ ap (λ (xs : List Item). fold with_joined xs (drop (slot_above (leaf_items (g.R.Rows.sheet c.push_below.new.rows).tree.table c.args.right.now) c.args.last) (leaf_items (g.R.Rows.sheet c.push_below.new.rows).tree.table c.args.right.now)))
-    c.push_joined.ensures.items)
+    leaves_edited c.requires.ends.1 c.requires.some c.args.entry c.requires.left c.requires.right c.push_below.ensures.items c.push_joined.ensures.items
+    (same_tree (g.R.Rows.sheet c.args.rows.now) (g.R.Rows.sheet c.push_below.new.rows) c.push_below.ensures.rest) c.push_above.ensures.items
