@@ -15,7 +15,7 @@ length-rows_down (suc n) = ap suc (length-rows_down n)
 
 pub fresh_is_idle : (n : ℕ) → IsBook (new_book n) → IsIdle trees.Range (new_sheet n) (new_book n)
 fresh_is_idle n sound =
-    let ready = fresh_is_ready n sound in
+    let ready = fresh_is_ready trees.Range n sound in
     record {
       idle = refl;
       state = record {

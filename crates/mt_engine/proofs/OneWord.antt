@@ -50,6 +50,7 @@ use Rattle.mt_splice.specs.Splice.{IsStoreBy}
 use Rattle.mt_engine.specs.Engine.{IsEngineState, IsInCall, IsIdle, IsAnswered, is_refusal}
 use Rattle.mt_engine.proofs.Answering.{not_both}
 use Rattle.mt_engine.proofs.Slots.{end_is, slot_holds}
+use Rattle.mt_rows.proofs.FewSpans.{row_most}
 
 -- ---- the parent words beside a slot of a leaf
 
@@ -110,7 +111,7 @@ module _ (kind : Kind) (s : Sheet) (h index entry : ℕ) (range : MayBeReplaced 
     replaced = exact.replaces_entry t h slot entry leaf item whole.words stands at old new free
 
     slot_low : slot < slots_of s.tree.table.width Leaf
-    slot_low = let used = store.used st in let most = (store.row_law st).count.most in omega arith
+    slot_low = let used = store.used st in let most = row_most (store.row_law st).name in omega arith
 
     -- ---- which rows are reached
 

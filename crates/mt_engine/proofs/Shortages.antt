@@ -76,7 +76,7 @@ back_apart xs ys apart i j d lt within is =
 module _ (kind : Kind) (s : Sheet) (book : Book) (shortage : Shortage) (is : IsEngineState kind s book) (scan : IsScan s.shared s.told s.scan) (few : s.ended < 2 ^ 62 - 1) (later : All (λ (h : Held). s.scan.least < h.stamp) book.held) (tells : TellsBook book shortage)
     (need : shortage.need ≡ 3 * height_in s.tree.table s.tree.root + 1) (by : shortage.by ≡ (if nat_lt 0 shortage.held then s.scan.by else None)) (less : shortage.free < shortage.need) where
   live : shortage.live ≡ length (reached_in s.tree.table s.tree.root)
-  live = tells.live ∙ live_is_reached s kind book (s.ended + 1) (tree_if_lawful s.tree kind is.kept.lawful) is.kept.booked
+  live = tells.live ∙ live_is_reached s.tree s.lives s.cleared kind book (s.ended + 1) (tree_if_lawful s.tree kind is.kept.lawful) is.kept.booked
 
   levels : Levelled (height_in s.tree.table s.tree.root) shortage.live (map_by s.tree)
   levels = subst (λ (n : ℕ). Levelled (height_in s.tree.table s.tree.root) n (map_by s.tree)) (sym live) (levelled s.tree kind (tree_if_lawful s.tree kind is.kept.lawful))
