@@ -1,5 +1,7 @@
 //! What the words ask for.
 
+use std::fmt;
+
 /// What is timed.
 #[derive(Clone, Copy, Debug, PartialEq, Eq)]
 pub enum Work {
@@ -13,6 +15,22 @@ pub enum Work {
     NodesRand,
 }
 
+impl fmt::Display for Work {
+    fn fmt<W: fmt::Write>(&self, f: &mut fmt::Formatter<W>) -> fmt::Result {
+        let word = match self {
+            Work::StoreSeq => "rstore_seq",
+            Work::StoreRand => "rstore_rand",
+            Work::Overwrite => "roverwrite",
+            Work::Load => "rload",
+            Work::Iter => "riter",
+            Work::Erase => "rerase",
+            Work::NodesSeq => "rnodes_seq",
+            Work::NodesRand => "rnodes_rand",
+        };
+        write!(f, "{word}")
+    }
+}
+
 /// A work on a tree of so many ranges.
 #[derive(Clone, Copy, Debug, PartialEq, Eq)]
 pub struct Command {
@@ -23,7 +41,7 @@ pub struct Command {
 /// More ranges than the rows hold are not asked for.
 const MOST_RANGES: u32 = 200_000;
 
-pub fn work_of(word: &str) -> Option<Work> {
+fn work_of(word: &str) -> Option<Work> {
     match word {
         "rstore_seq" => Some(Work::StoreSeq),
         "rstore_rand" => Some(Work::StoreRand),

@@ -29,7 +29,8 @@ pub fn shuffled(alloc: Global, count: u32) -> Result<Vec<u32>, AllocError> {
     let mut order: Vec<u32> = (0..count).collect(alloc)?;
     let mut draws = Draws::new(42);
     for k in (1..order.len()).rev() {
-        let other = draws.below(k as u32 + 1) as usize;
+        let bound = u32::try_from(k + 1).unwrap_or(u32::MAX);
+        let other = draws.below(bound) as usize;
         order.swap(k, other.min(k));
     }
     Ok(order)

@@ -8,14 +8,15 @@ mod rounds;
 mod trees;
 mod works;
 
-use crate::command::command_of;
+use crate::command::{Command, command_of};
 use crate::rounds::run;
 use std::process::ExitCode;
 use std::rt::{Clock, Env};
 use std::{env, io};
 
 /// What is written where the words are no command.
-const USAGE: &str = "usage: mt_bench rload|riter|rstore_seq|rstore_rand|roverwrite|rerase|rnodes_seq|rnodes_rand N";
+const USAGE: &str =
+    "usage: mt_bench rload|riter|rstore_seq|rstore_rand|roverwrite|rerase|rnodes_seq|rnodes_rand N";
 
 /// The words after the program's name.
 fn words_of(rt: &(impl Env + AllocGlobal)) -> io::Result<Vec<String>> {
@@ -32,8 +33,8 @@ fn main(rt: HostRuntime) -> io::Result<ExitCode> {
         eprintln!(rt; "mt_bench: a call was not done")?;
         return Ok(ExitCode::from(1));
     };
-    let (work, count) = (words[0].as_str(), command.ranges);
-    println!(rt; "{work} {count} {figure}")?;
+    let Command { work, ranges } = command;
+    println!(rt; "{work} {ranges} {figure}")?;
     Ok(ExitCode::from(0))
 }
 

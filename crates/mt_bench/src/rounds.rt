@@ -5,11 +5,10 @@ use crate::draws::shuffled;
 use crate::trees::Nodes;
 use crate::works::{erase_all, load, overwrite, store_all, visit};
 use std::alloc::Global;
-use std::fmt;
-use std::io;
 use std::io::ErrorKind;
 use std::rt::Clock;
 use std::time::Instant;
+use std::{fmt, io};
 
 /// Works that do not change the number of ranges are done so often at the least.
 const TIMES: u64 = 1_000_000;
@@ -47,9 +46,7 @@ fn nodes_for(alloc: Global, order: &[u32]) -> io::Result<Option<Figure>> {
         return Ok(None);
     }
     let ranges = (order.len() as u64).max(1);
-    Ok(Some(Figure::TenThousandths(
-        tree.live().saturating_mul(10_000) / ranges,
-    )))
+    Ok(Some(Figure::TenThousandths(tree.live().saturating_mul(10_000) / ranges)))
 }
 
 /// Does a work once, and gives a number that is the same each time.
@@ -65,7 +62,10 @@ fn work_once(tree: &mut Nodes, command: Command, order: &[u32], times: u64) -> u
 
 /// Whether a work begins with all ranges stored.
 fn begins_full(work: Work) -> bool {
-    matches!(work, Work::Load | Work::Iter | Work::Overwrite | Work::Erase)
+    matches!(
+        work,
+        Work::Load | Work::Iter | Work::Overwrite | Work::Erase
+    )
 }
 
 /// Whether a work is done once for each range.
@@ -89,7 +89,8 @@ fn round(
     let start = Instant::now(rt)?;
     let number = work_once(&mut tree, command, order, times);
     let took = start.elapsed(rt)?;
-    Ok((took.as_nanos() as u64, number))
+    let nanos = u64::try_from(took.as_nanos()).unwrap_or(u64::MAX);
+    Ok((nanos, number))
 }
 
 /// The mean time of an operation, over all rounds but the first. There is none where a call was not done, or where a round

@@ -1,5 +1,7 @@
 //! The trees that works are done on.
 
+ghost use Rattle.mt_rows.specs.Sheet.{OnlyReads};
+
 use mt_base::{Call, Kind, MOST_ROWS, NoMemory, Query, Range, Reply};
 use mt_engine::Engine;
 use mt_free::RowBook;
@@ -88,14 +90,21 @@ impl Tree for Nodes {
     }
 
     fn visit(&mut self) -> Visit {
-        let mut visit = Visit::default();
-        let mut walk = self.engine.walk_from(0);
-        for _ in 0..u64::MAX {
-            let Some(range) = self.engine.next_range(&mut walk) else {
-                break;
-            };
-            visit.take(&range);
-        }
-        visit
+        visit_all(&mut self.engine)
     }
+}
+
+/// Visits all ranges of an engine's map in order.
+fn visit_all(engine: &mut Engine<PlainRows>) -> Visit
+    ensures { OnlyReads engine.old.sheet engine.new.sheet }
+{
+    let mut visit = Visit::default();
+    let mut walk = engine.walk_from(0);
+    for _ in 0..u64::MAX {
+        let Some(range) = engine.next_range(&mut walk) else {
+            break;
+        };
+        visit.take(&range);
+    }
+    visit
 }
