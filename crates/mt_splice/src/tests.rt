@@ -316,7 +316,7 @@ fn stores_of_single_indexes(rt: HostRuntime) -> Result<(), Fail> {
     tree.store_all(&rt, rt.alloc(), ranges.as_slice())?;
     assert_eq!(&rt; tree.list.list(rt.alloc())?.as_slice(), ranges.as_slice());
     let shape = tree.shape_after(&rt, rt.alloc(), range(0, TOP, 8))?;
-    assert_eq!(&rt; shape, at_root(1, 1, 1, 5));
+    assert_eq!(&rt; shape, at_root(1, 1, 1, 4));
     Ok(())
 }
 
@@ -342,69 +342,71 @@ fn replaces_no_leaf_and_one(rt: HostRuntime) -> Result<(), Fail> {
 
 #[test]
 fn replaces_leaves_below_a_root(rt: HostRuntime) -> Result<(), Fail> {
-    // leaves of 9, 8, 8 and 15 items
+    // leaves of 11, 10, 10 and 15 items, which end at 10, 20 and 30
     let cases = [
         // in place
         (range(0, 0, 9), in_slot(2, 5, 1, 1)),
         // the last leaf is split in two
-        (range(40, 40, 1), at_root(2, 6, 3, 2)),
+        (range(46, 46, 1), at_root(2, 6, 3, 2)),
         // the first leaf has too few items, and takes those of the leaf behind
         (range(0, 7, 3), at_root(2, 4, 2, 3)),
         // the last leaf has too few items, and takes those of the leaf before
-        (range(30, 39, 0), at_root(2, 4, 2, 3)),
-        // the first leaf would end with a hole
-        (range(8, 8, 0), at_root(2, 4, 2, 3)),
-        // two leaves go, and the leaf behind is taken in: two new ones
-        (range(9, 23, 0), at_root(2, 4, 3, 4)),
+        (range(32, 44, 0), at_root(2, 4, 2, 3)),
+        // the first leaf would end with a hole: with the leaf behind these are two new ones
+        (range(10, 10, 0), at_root(2, 5, 3, 3)),
+        // two leaves go, and the leaf behind is taken in
+        (range(11, 30, 0), at_root(2, 3, 2, 4)),
+        // three leaves go, and the leaf behind is taken in: two new ones
+        (range(9, 30, 0), at_root(2, 3, 3, 5)),
         // one leaf is left, and is the root
-        (range(5, 30, 7), at_root(1, 1, 1, 5)),
+        (range(5, 36, 7), at_root(1, 1, 1, 5)),
         (range(0, TOP, 0), at_root(0, 0, 0, 5)),
         (range(0, TOP, 8), at_root(1, 1, 1, 5)),
     ];
-    expect_each(&rt, rt.alloc(), singles(rt.alloc(), 20)?.as_slice(), &cases)?;
+    expect_each(&rt, rt.alloc(), singles(rt.alloc(), 23)?.as_slice(), &cases)?;
     // a root of 16 leaves, of which the last has 15 items
-    let grown = [(range(136, 136, 1), at_root(3, 20, 5, 2))];
-    expect_each(&rt, rt.alloc(), singles(rt.alloc(), 68)?.as_slice(), &grown)?;
+    let grown = [(range(166, 166, 1), at_root(3, 20, 5, 2))];
+    expect_each(&rt, rt.alloc(), singles(rt.alloc(), 83)?.as_slice(), &grown)?;
     Ok(())
 }
 
 #[test]
 fn splits_two_leaves_in_three(rt: HostRuntime) -> Result<(), Fail> {
-    // leaves of 16, 16 and 9 items, without a hole but the last; the first ends at 89
-    let mut before = tens(rt.alloc(), 24)?;
-    for at in [5, 15, 25, 30, 95, 105, 115, 125, 130] {
+    // leaves of 16, 16 and 9 items, without a hole but the last; the first ends at 109
+    let mut before = tens(rt.alloc(), 30)?;
+    for at in [5, 15, 20, 115, 125, 130] {
         before.push(range(at, at, 1))?;
     }
-    let cases = [(range(89, 90, 9), at_root(2, 5, 4, 3))];
+    let cases = [(range(109, 110, 9), at_root(2, 5, 4, 3))];
     expect_each(&rt, rt.alloc(), before.as_slice(), &cases)?;
     Ok(())
 }
 
 #[test]
 fn replaces_rows_of_three_levels(rt: HostRuntime) -> Result<(), Fail> {
-    // two inner rows, of 9 leaves and of 15
+    // two inner rows, of 11 leaves and of 12; the last leaf has 15 items
     let cases = [
         // in place
-        (range(0, 0, 9), in_slot(3, 27, 1, 1)),
+        (range(0, 0, 9), in_slot(3, 26, 1, 1)),
         // the last leaf is split in two, below the same root
-        (range(200, 200, 1), in_slot(3, 28, 3, 2)),
+        (range(236, 236, 1), in_slot(3, 27, 3, 2)),
         // the second leaf goes, and the first takes the items of the third
-        (range(2, 12, 0), in_slot(3, 25, 2, 4)),
+        (range(2, 20, 0), in_slot(3, 24, 2, 4)),
         // the first inner row has too few leaves, and takes those of the row behind: two new ones
-        (range(0, 47, 3), at_root(3, 21, 4, 10)),
+        (range(0, 64, 3), at_root(3, 20, 4, 10)),
         // the second inner row has too few leaves, and takes those of the row before: one, which is the root
-        (range(100, 190, 0), at_root(2, 14, 2, 15)),
+        (range(130, 210, 0), at_root(2, 16, 3, 13)),
         // leaves of both inner rows go: two levels are left
-        (range(8, 160, 5), at_root(2, 6, 2, 23)),
+        (range(8, 160, 5), at_root(2, 9, 2, 19)),
         // two levels are lost
-        (range(1, 196, 0), at_root(1, 1, 1, 27)),
-        (range(0, TOP, 0), at_root(0, 0, 0, 27)),
-        (range(0, TOP, 8), at_root(1, 1, 1, 27)),
+        (range(1, 234, 0), at_root(1, 1, 1, 26)),
+        (range(0, TOP, 0), at_root(0, 0, 0, 26)),
+        (range(0, TOP, 8), at_root(1, 1, 1, 26)),
     ];
     expect_each(
         &rt,
         rt.alloc(),
-        singles(rt.alloc(), 100)?.as_slice(),
+        singles(rt.alloc(), 118)?.as_slice(),
         &cases,
     )?;
     Ok(())
@@ -412,7 +414,7 @@ fn replaces_rows_of_three_levels(rt: HostRuntime) -> Result<(), Fail> {
 
 #[test]
 fn empties_whole_trees(rt: HostRuntime) -> Result<(), Fail> {
-    for (count, live) in [(8, 1), (20, 5), (100, 27)] {
+    for (count, live) in [(8, 1), (23, 5), (118, 26)] {
         let ranges = singles(rt.alloc(), count)?;
         assert!(&rt; ranges.len() < 1000);
         let mut tree = Tree::new(rt.alloc())?;
