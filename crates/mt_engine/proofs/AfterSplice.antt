@@ -5,7 +5,6 @@ use Rattle.std.proofs.lemmas.Bool.{cases_Bool}
 use Rattle.std.proofs.lemmas.List.{get_or-map, get_or_append_left, length-map}
 use Rattle.std.proofs.lemmas.List.Elements.{All-append, All-map}
 use Rattle.mt_base.specs.declared.kinds.Kind.{Kind}
-use Rattle.mt_base.specs.declared.kinds.Kind.TheVariants as trees
 use Rattle.mt_base.specs.declared.calls.Call.{Call}
 use Rattle.mt_base.specs.declared.replies.Reply.{Reply}
 use Rattle.mt_base.specs.Width.{deepest, most_taken}
@@ -20,7 +19,7 @@ use Rattle.mt_rows.specs.Replacement.{root_of}
 use Rattle.mt_rows.specs.Sheet.{Rooted, Sheet, life_of}
 use Rattle.mt_rows.specs.Publish.{MayFinish, tree_as, is_reached, finished, with_record}
 use Rattle.mt_rows.proofs.Lists.{levels_map}
-use Rattle.mt_splice.specs.Kept.{IsBookOf, IsKept}
+use Rattle.mt_splice.specs.Kept.{MayBeReplaced, IsBookOf, IsKept}
 use Rattle.mt_splice.specs.Splice.{HasParents, IsSpliced}
 use Rattle.mt_engine.specs.Engine.{IsEngineState, IsIdle, IsInCall}
 use Rattle.mt_engine.proofs.Levelled.{levelled}
@@ -28,11 +27,11 @@ use Rattle.mt_engine.proofs.Moments.{tree_if_lawful}
 
 -- ---- a tree without gaps is lawful with its parents
 
-tended_by : (t : Tree) → t.kind ≡ trees.Range → (h : ℕ) (x : Span) → ParentLaw t h x → IsTended t h x
+tended_by : (t : Tree) → MayBeReplaced t.kind → (h : ℕ) (x : Span) → ParentLaw t h x → IsTended t h x
 tended_by t range zero x parent = record { parent = parent; gaps = tt }
 tended_by t range (suc h) x parent = record { parent = parent; gaps = rw range tt }
 
-lawful_by : (t : Tree) → t.kind ≡ trees.Range → HasParents t → IsLawful t
+lawful_by : (t : Tree) → MayBeReplaced t.kind → HasParents t → IsLawful t
 lawful_by t range (inl empty) = inl empty
 lawful_by t range (inr (h, stands, parent, levels)) = inr (h, stands, parent, levels_map (ParentLaw t) (IsTended t) t.table (tended_by t range) h (root_of t) levels)
 

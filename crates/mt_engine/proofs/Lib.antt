@@ -1,6 +1,7 @@
 pub mod AfterSplice
 pub mod Answering
 pub mod FreshEngine
+pub mod LeafEnds
 pub mod Leaving
 pub mod Levelled
 pub mod MapPlaces

@@ -7,7 +7,6 @@ use Rattle.std.proofs.lemmas.List.Elements.{All-weaker, All-contains, All-contai
 use Rattle.mt_base.specs.declared.widths.Width.{Width}
 use Rattle.mt_base.specs.declared.widths.Width.TheVariants.{Long}
 use Rattle.mt_base.specs.declared.kinds.Kind.{Kind}
-use Rattle.mt_base.specs.declared.kinds.Kind.TheVariants as trees
 use Rattle.mt_base.specs.declared.ranges.Range.{Range}
 use Rattle.mt_base.specs.declared.calls.Call.{Call}
 use Rattle.mt_base.specs.declared.calls.Call.TheVariants.{Store}
@@ -62,7 +61,7 @@ parents_stay : (t t' : Table) (row slot : ℕ) (xs : List Span) → ((r : ℕ) �
 parents_stay t t' row slot [] same parents = tt
 parents_stay t t' row slot (x ∷ xs) same parents = (same (row_in x.word) ∙ parents.0, parents_stay t t' row (slot + 1) xs same parents.1)
 
-tended_stays : (t t' : laws.Tree) (n : ℕ) (x : Span) → t'.kind ≡ trees.Range → ((r : ℕ) → column t'.table r 0 ≡ column t.table r 0) → spans_in t'.table x ≡ spans_in t.table x → laws.IsTended t n x → laws.IsTended t' n x
+tended_stays : (t t' : laws.Tree) (n : ℕ) (x : Span) → MayBeReplaced t'.kind → ((r : ℕ) → column t'.table r 0 ≡ column t.table r 0) → spans_in t'.table x ≡ spans_in t.table x → laws.IsTended t n x → laws.IsTended t' n x
 tended_stays t t' zero x range same spans tended = record { parent = tt; gaps = tt }
 tended_stays t t' (suc n) x range same spans tended = record {
   parent = subst (laws.ParentsFrom t'.table (row_in x.word) 0) (sym spans) (parents_stay t.table t'.table (row_in x.word) 0 (spans_in t.table x) same tended.parent);

@@ -1,5 +1,5 @@
 -- A walk over the ranges of a tree: what it still gives, and where it stands after a range.
-use Rattle.std.proofs.Common.{◌≡◌, ℕ, zero, suc, ◌+◌, ◌<◌, ◌≤◌, ◌==◌, ◌&&◌, Bool, true, false, List, [], ◌∷◌, ◌++◌, Option, Some, None, nat_le, nat_lt, length, refl, sym, ap, ◌∙◌, subst, inl, inr, arith, append-nil, append_assoc}
+use Rattle.std.proofs.Common.{◌≡◌, ◌≢◌, ℕ, zero, suc, ◌+◌, ◌<◌, ◌≤◌, ◌==◌, ◌&&◌, Bool, true, false, List, [], ◌∷◌, ◌++◌, Option, Some, None, nat_le, nat_lt, length, refl, sym, ap, ◌∙◌, subst, inl, inr, arith, append-nil, append_assoc}
 use Rattle.std.specs.Prelude.{◌↔◌, IsNone, IfSome, filter, if◌then◌else◌}
 use Rattle.std.specs.List.{All, AllByRecursion, slice_get}
 use Rattle.std.proofs.lemmas.Bool.{cases_Bool, eqb-true, eqb-false, leb-true, leb-false, le-leb, lt-leb, le-ltb}
@@ -14,16 +14,18 @@ use Rattle.mt_base.specs.Width.{greatest}
 use Rattle.mt_list.specs.Places.{place_below, up_to}
 use Rattle.mt_list.proofs.QueriesAtPlaces.{first_from_place}
 use Rattle.mt_rows.specs.Publish.{IsTreeOf, map_by}
-use Rattle.mt_rows.specs.Sheet.{Rooted, Sheet, OnlyReads}
+use Rattle.mt_rows.specs.Sheet.{Rooted, Sheet, OnlyReads, ReadsUpTo}
 use Rattle.mt_path.specs.declared.handles.Handle.{Handle}
 use Rattle.mt_path.specs.Handles.{handle_in, IsHandleOf}
 use Rattle.mt_path.proofs.HandleSteps.{handle_within}
+use Rattle.mt_path.proofs.Loads.{no_reads, reads_up, reads_more}
 use Rattle.mt_engine.specs.declared.range_walk.RangeWalk.{RangeWalk}
 use Rattle.mt_engine.specs.Here.{IsHereAt, IsHereIf}
 use Rattle.mt_engine.specs.MapSpans.{range_of}
 use Rattle.mt_engine.specs.Nearest.{nearest_from}
-use Rattle.mt_engine.specs.RangeWalks.{found_from, index_behind, range_at, WalksFrom}
-use Rattle.mt_engine.proofs.SlotQueries.{tree_same, reads_on}
+use Rattle.mt_engine.specs.RangeWalks.{found_from, index_behind, range_at, StepsWithin, WalksFrom}
+use Rattle.mt_engine.proofs.LeafEnds.{hole_ends}
+use Rattle.mt_engine.proofs.SlotQueries.{IsNearest, tree_same, reads_on, first_none}
 use Rattle.mt_engine.proofs.Slots.{none_at_root, tree_map, tree_within}
 
 -- ---- the ranges of a map from an index on
@@ -100,9 +102,9 @@ module _ (m : List Range) (top : ℕ) (rise : IsMapFrom 0 m) (within : AllByRecu
   first_some [] r is = absurd (cc)
   first_some (x ∷ xs) r is = (xs, let same : x ≡ r = cc in ap (λ (y : Range). y ∷ xs) same)
 
-  first_none : (xs : List Range) → first_range xs ≡ None → xs ≡ []
-  first_none [] is = refl
-  first_none (x ∷ xs) is = absurd (cc)
+  first_range_none : (xs : List Range) → first_range xs ≡ None → xs ≡ []
+  first_range_none [] is = refl
+  first_range_none (x ∷ xs) is = absurd (cc)
 
   rest_behind : (r : Range) (rest : List Range) → from_on (r.last + 1) m ≡ rest → ranges_from m (index_behind top (Some r)) ≡ rest
   rest_behind r rest is = elim (cases_Bool (r.last == top)) [
@@ -118,7 +120,7 @@ module _ (m : List Range) (top : ℕ) (rise : IsMapFrom 0 m) (within : AllByRecu
 
   pub none_given : (next : Option ℕ) → IfSome next (λ index. index ≤ top) → None ≡ found_from m top next → ranges_from m next ≡ []
   none_given None low found = refl
-  none_given (Some index) low found = first_none (from_on index m) (sym (find_first index low) ∙ sym found)
+  none_given (Some index) low found = first_range_none (from_on index m) (sym (find_first index low) ∙ sym found)
 
 -- ---- what stands at a walk's index
 
@@ -212,6 +214,47 @@ module _ (t : Rooted) (kind : Kind) (tree : IsTreeOf t kind) where
           (let other = eqb-false given.span.last top more in let most = given_within in
           rw more (record { within = omega arith; given = (is, refl) }))
     ]
+
+-- ---- how many words are loaded
+
+abbrev Near : ℕ → RangeWalk → Sheet → Sheet → Type 0
+Near n walk s s' = IfSome walk.last (λ given. given.span.last ≢ given.leaf.max → ReadsUpTo n s s')
+
+pub none_read : (walk : RangeWalk) (s : Sheet) → Near 2 walk s s
+none_read walk s = by walk.last
+  where
+    by : (o : Option Handle) → IfSome o (λ given. given.span.last ≢ given.leaf.max → ReadsUpTo 2 s s)
+    by None = tt
+    by (Some given) = λ _. reads_up 0 2 s s (omega arith) (no_reads s)
+
+-- what stands behind a slot within a leaf is in that leaf, and so is a range behind a hole there
+module _ (s s₁ s₂ : Sheet) (kind : Kind) (tree : IsTreeOf s.tree kind) (walk : RangeWalk) (here : Handle) (found : Option Handle) (is : IsHandleOf s.tree here) (reads : OnlyReads s s₁) (near : Near 2 walk s s₁) (unread : here.span.word ≢ 0 → s₂ ≡ s₁)
+    (near₂ : here.span.last ≢ here.leaf.max → ReadsUpTo 2 s₁ s₂) (range : IsNearest nearest_from s₁.tree here (range_at found)) where
+  none_at_end : here.span.word ≡ 0 → here.span.last ≡ here.leaf.max → None ≡ range_at found
+  none_at_end hole end =
+      let top = hole_ends s.tree kind here tree is hole end in
+      first_none s.tree (kind, tree) is.index here (record { some = is.some; within = is.within; is = is.is }) hole top
+      ∙ sym (subst (λ (t : Rooted). IsNearest nearest_from t here (range_at found)) (tree_same s s₁ reads) range is.index is.within is.is)
+
+  second : (o : Option Handle) → found ≡ o → IfSome o (λ _. ReadsUpTo 2 s₁ s₂)
+  second None same = tt
+  second (Some h) same = elim (cases_Bool (here.span.word == 0)) [
+    | inr word ↦ subst (λ (x : Sheet). ReadsUpTo 2 s₁ x) (sym (unread (eqb-false here.span.word 0 word))) (reads_up 0 2 s₁ s₁ (omega arith) (no_reads s₁))
+    | inl hole ↦ elim (cases_Bool (here.span.last == here.leaf.max)) [
+      | inr more ↦ near₂ (eqb-false here.span.last here.leaf.max more)
+      | inl end ↦
+          (let clash : None ≡ Some (range_of h.span) = none_at_end (eqb-true here.span.word 0 hole) (eqb-true here.span.last here.leaf.max end) ∙ ap range_at same in
+          absurd (cc))
+    ]
+  ]
+
+  both : (o last : Option Handle) → IfSome o (λ _. ReadsUpTo 2 s₁ s₂) → IfSome last (λ given. given.span.last ≢ given.leaf.max → ReadsUpTo 2 s s₁) → IfSome o (λ _. IfSome last (λ given. given.span.last ≢ given.leaf.max → ReadsUpTo 4 s s₂))
+  both None last two one = tt
+  both (Some h) None two one = tt
+  both (Some h) (Some given) two one = λ within. reads_more 2 2 s s₁ s₂ (one within) two
+
+  pub steps_within : IfSome found (λ _. StepsWithin walk s s₂)
+  steps_within = both found walk.last (second found refl) near
 
 -- ---- a list of all ranges
 

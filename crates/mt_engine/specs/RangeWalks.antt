@@ -1,12 +1,12 @@
 -- A walk over the ranges of a tree, in rising order: which range comes next, and where the walk stands then.
 -- Source: the kernel's include/linux/maple_tree.h, mas_for_each, whose mas_find goes on in the leaf where it stands.
-use Rattle.std.specs.Prelude.{◌≡◌, ◌==◌, ℕ, ◌+◌, ◌≤◌, List, Option, Some, None, IfSome, if◌then◌else◌}
+use Rattle.std.specs.Prelude.{◌≡◌, ◌≢◌, ◌==◌, ℕ, ◌+◌, ◌≤◌, List, Option, Some, None, IfSome, if◌then◌else◌}
 use Rattle.std.specs.Option.{option_map}
 use Rattle.mt_base.specs.declared.ranges.Range.{Range}
 use Rattle.mt_base.specs.declared.calls.Query.TheVariants.{Find}
 use Rattle.mt_base.specs.Call.{answer}
 use Rattle.mt_base.specs.Width.{greatest}
-use Rattle.mt_rows.specs.Sheet.{Rooted}
+use Rattle.mt_rows.specs.Sheet.{Rooted, Sheet, ReadsUpTo}
 use Rattle.mt_path.specs.declared.handles.Handle.{Handle}
 use Rattle.mt_path.specs.Handles.{IsHandleOf}
 use Rattle.mt_engine.specs.MapSpans.{range_of}
@@ -25,6 +25,11 @@ index_behind top (Some r) = if r.last == top then None else Some (r.last + 1)
 -- the range in a slot
 abbrev pub range_at : Option Handle → Option Range
 range_at here = option_map (λ (h : Handle). range_of h.span) here
+
+-- Where the slot that was given last does not end its leaf, so many words were loaded at the most: the pivots and the slots of
+-- two.
+abbrev pub StepsWithin : RangeWalk → Sheet → Sheet → Type 0
+StepsWithin walk s s' = IfSome walk.last (λ handle. handle.span.last ≢ handle.leaf.max → ReadsUpTo 4 s s')
 
 -- The walk is one of this tree as it stands: it goes on from an index, which stands right behind the slot that it gave last.
 pub record WalksFrom (t : Rooted) (walk : RangeWalk) : Type 0 where

@@ -1,12 +1,12 @@
 //! A tree on one thread.
 
-ghost use Rattle.std.specs.Prelude.{◌≡◌, ◌+◌, ◌-◌, ◌^◌, ◌<◌, Some, IfOk};
+ghost use Rattle.std.specs.Prelude.{◌≡◌, ◌+◌, ◌-◌, ◌^◌, ◌<◌, Some, IfOk, IfSome};
 ghost use Rattle.mt_base.specs.Call.{answer};
 ghost use Rattle.mt_base.specs.Width.{greatest};
 ghost use Rattle.mt_rows.specs.Publish.{map_by};
 ghost use Rattle.mt_rows.specs.Sheet.{OnlyReads, limits_of};
 ghost use Rattle.mt_engine.specs.Engine.{IsIdle, IsApplied};
-ghost use Rattle.mt_engine.specs.RangeWalks.{found_from, index_behind, WalksFrom};
+ghost use Rattle.mt_engine.specs.RangeWalks.{found_from, index_behind, StepsWithin, WalksFrom};
 
 use crate::range_walk::{RangeWalk, next_range};
 use crate::{calls, lists, queries};
@@ -92,7 +92,8 @@ impl<R: Rows> Engine<R> {
         ensures next { walk.new.next ≡ index_behind (greatest self.old.sheet.tree.table.width) result }
         ensures walk { WalksFrom self.new.sheet.tree walk.new }
 
-        // The engine is only read.
+        // The engine is only read, and within a leaf no way from the root is loaded.
+        ensures near { IfSome result (λ _. StepsWithin walk.old self.old.sheet self.new.sheet) }
         ensures rest { OnlyReads self.old.sheet self.new.sheet }
         ensures book { self.new.book ≡ self.old.book }
         ensures kind { self.new.kind ≡ self.old.kind }

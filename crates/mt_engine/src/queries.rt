@@ -1,13 +1,13 @@
 //! The queries of a map, answered by the words of a tree.
 
-ghost use Rattle.std.specs.Prelude.{◌≡◌, ℕ, ◌≤◌, IfSome};
+ghost use Rattle.std.specs.Prelude.{◌≡◌, ◌≢◌, ℕ, ◌≤◌, IfSome};
 ghost use Rattle.mt_base.specs.declared.kinds.Kind.{Kind};
 ghost use Rattle.mt_base.specs.declared.calls.Query.TheVariants.{Load, Find, Next, Prev, Rfind};
 ghost use Rattle.mt_base.specs.Call.{answer};
 ghost use Rattle.mt_base.specs.Width.{greatest};
 ghost use Rattle.mt_list.specs.Places.{up_to, down_to};
 ghost use Rattle.mt_rows.specs.Publish.{IsTreeOf, map_by};
-ghost use Rattle.mt_rows.specs.Sheet.{OnlyReads};
+ghost use Rattle.mt_rows.specs.Sheet.{OnlyReads, ReadsUpTo};
 ghost use Rattle.mt_path.specs.Handles.{handle_in, IsHandleOf};
 ghost use Rattle.mt_engine.specs.MapSpans.{range_of};
 ghost use Rattle.mt_engine.specs.Nearest.{nearest_from, nearest_up_to};
@@ -49,6 +49,8 @@ pub fn slot_from<R: Rows>(rows: &mut R, here: &Handle) -> Option<Handle>
     requires tree { (kind : Kind) × IsTreeOf (R.sheet rows.old).tree kind }
     requires here { IsHandleOf (R.sheet rows.old).tree here.now }
     ensures handle { IfSome result (IsHandleOf (R.sheet rows.old).tree) }
+    ensures unread { here.now.span.word ≢ 0 → R.sheet rows.new ≡ R.sheet rows.old }
+    ensures near { here.now.span.last ≢ here.now.leaf.max → ReadsUpTo 2 (R.sheet rows.old) (R.sheet rows.new) }
     ensures range { (index : ℕ) → index ≤ greatest (R.sheet rows.old).tree.table.width → here.now ≡ handle_in (R.sheet rows.old).tree index → range_at result ≡ nearest_from (map_by (R.sheet rows.old).tree) index }
     ensures rest { OnlyReads (R.sheet rows.old) (R.sheet rows.new) }
 {

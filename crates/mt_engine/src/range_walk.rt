@@ -1,13 +1,13 @@
 //! A walk over the ranges of a tree, which steps within a leaf.
 
-ghost use Rattle.std.specs.Prelude.{◌≡◌, ◌≤◌, Some, None, IfSome};
+ghost use Rattle.std.specs.Prelude.{◌≡◌, ◌≢◌, ◌≤◌, Some, None, IfSome};
 ghost use Rattle.mt_base.specs.declared.kinds.Kind.{Kind};
 ghost use Rattle.mt_base.specs.Width.{greatest};
 ghost use Rattle.mt_rows.specs.Publish.{IsTreeOf, map_by};
-ghost use Rattle.mt_rows.specs.Sheet.{OnlyReads};
+ghost use Rattle.mt_rows.specs.Sheet.{OnlyReads, ReadsUpTo};
 ghost use Rattle.mt_path.specs.Handles.{IsHandleOf};
 ghost use Rattle.mt_engine.specs.Here.{IsHereIf};
-ghost use Rattle.mt_engine.specs.RangeWalks.{found_from, index_behind, range_at, WalksFrom};
+ghost use Rattle.mt_engine.specs.RangeWalks.{found_from, index_behind, range_at, StepsWithin, WalksFrom};
 
 use crate::queries::{range_in, slot_from};
 use mt_base::{Range, Width, top};
@@ -41,6 +41,7 @@ fn slot_next<R: Rows>(rows: &mut R, walk: &RangeWalk) -> Option<Handle>
     requires tree { (kind : Kind) × IsTreeOf (R.sheet rows.old).tree kind }
     requires walk { WalksFrom (R.sheet rows.old).tree walk.now }
     ensures here { IsHereIf (R.sheet rows.old).tree walk.now.next result }
+    ensures near { IfSome walk.now.last (λ given. given.span.last ≢ given.leaf.max → ReadsUpTo 2 (R.sheet rows.old) (R.sheet rows.new)) }
     ensures rest { OnlyReads (R.sheet rows.old) (R.sheet rows.new) }
 {
     let index = walk.next?;
@@ -56,6 +57,7 @@ fn slot_found<R: Rows>(rows: &mut R, walk: &RangeWalk) -> Option<Handle>
     requires walk { WalksFrom (R.sheet rows.old).tree walk.now }
     ensures handle { IfSome result (IsHandleOf (R.sheet rows.old).tree) }
     ensures range { range_at result ≡ found_from (map_by (R.sheet rows.old).tree) (greatest (R.sheet rows.old).tree.table.width) walk.now.next }
+    ensures near { IfSome result (λ _. StepsWithin walk.now (R.sheet rows.old) (R.sheet rows.new)) }
     ensures rest { OnlyReads (R.sheet rows.old) (R.sheet rows.new) }
 {
     let here = slot_next(rows, walk)?;
@@ -75,13 +77,14 @@ fn index_behind(width: Width, given: &Handle) -> Option<u64>
 }
 
 /// The first range at the walk's index or above, from behind which the walk goes on then. A slot of a leaf is loaded once,
-/// and a leaf is walked to once.
+/// and a leaf is walked to once: a range in the leaf where the walk stands is found by the loads of two slots.
 pub fn next_range<R: Rows>(rows: &mut R, walk: &mut RangeWalk) -> Option<Range>
     requires tree { (kind : Kind) × IsTreeOf (R.sheet rows.old).tree kind }
     requires walk { WalksFrom (R.sheet rows.old).tree walk.old }
     ensures range { result ≡ found_from (map_by (R.sheet rows.old).tree) (greatest (R.sheet rows.old).tree.table.width) walk.old.next }
     ensures next { walk.new.next ≡ index_behind (greatest (R.sheet rows.old).tree.table.width) result }
     ensures walk { WalksFrom (R.sheet rows.old).tree walk.new }
+    ensures near { IfSome result (λ _. StepsWithin walk.old (R.sheet rows.old) (R.sheet rows.new)) }
     ensures rest { OnlyReads (R.sheet rows.old) (R.sheet rows.new) }
 {
     let Some(given) = slot_found(rows, walk) else {

@@ -1,6 +1,9 @@
-use Rattle.std.proofs.Common.{sym, subst}
+use Rattle.std.proofs.Common.{◌≡◌, ◌≢◌, Option, sym, subst}
+use Rattle.std.specs.Prelude.{IfSome}
+use Rattle.mt_path.specs.declared.handles.Handle.{Handle}
+use Rattle.mt_rows.specs.Sheet.{ReadsUpTo}
 use Rattle.mt_engine.specs.Here.{IsHereIf}
-use Rattle.mt_engine.proofs.Walking.{none_here, next_within, last_is, here_behind, here_at}
+use Rattle.mt_engine.proofs.Walking.{none_here, next_within, last_is, here_behind, here_at, none_read}
 use Rattle.mt_engine.proofs.range_walk.slot_next.Goals as goal
 
 pub returns-in_err-index-clause-here : goal.returns-in_err-index-clause-here
@@ -20,3 +23,14 @@ returns-in-Some-clause-here g c =
 pub returns-in-None-clause-here : goal.returns-in-None-clause-here
 returns-in-None-clause-here g c =
     here_at _ c.requires.tree.0 c.requires.tree.1 c.args.walk.now c.requires.walk c.in_ok-index.index c.handle_at.result c.in_ok-index.was c.handle_at.ensures.none c.handle_at.ensures.some
+
+pub returns-in_err-index-clause-near : goal.returns-in_err-index-clause-near
+returns-in_err-index-clause-near g c = none_read c.args.walk.now (g.R.Rows.sheet c.args.rows.now)
+
+pub returns-in-Some-clause-near : goal.returns-in-Some-clause-near
+returns-in-Some-clause-near g c =
+    subst (λ (o : Option Handle). IfSome o (λ given. given.span.last ≢ given.leaf.max → ReadsUpTo 2 (g.R.Rows.sheet c.args.rows.now) (g.R.Rows.sheet c.behind.new.rows))) (sym c.in-Some.is) c.behind.ensures.near
+
+pub returns-in-None-clause-near : goal.returns-in-None-clause-near
+returns-in-None-clause-near g c =
+    subst (λ (o : Option Handle). IfSome o (λ given. given.span.last ≢ given.leaf.max → ReadsUpTo 2 (g.R.Rows.sheet c.args.rows.now) (g.R.Rows.sheet c.handle_at.new.rows))) (sym c.in-None.is) tt
