@@ -1,6 +1,7 @@
 -- The book of a tree's rows. A row is free, or out (live), or held: replaced by a call, and not yet free again.
 -- Source: this project's own; the kernel frees nodes by read-copy-update, after a grace period.
 use Rattle.std.specs.Prelude.{◌≢◌, ℕ, zero, suc, ◌+◌, ◌-◌, ◌<◌, ◌≤◌, List, [], ◌∷◌, ◌++◌, All, AllPairs, Contains, length, map, filter, nat_lt, nat_le}
+use Rattle.mt_base.specs.Width.{most_rows}
 
 -- a held row, and the number of the call that replaced it
 pub record Held : Type 0 where
@@ -36,7 +37,7 @@ live_count b = b.rows - (length b.free + length b.held)
 
 -- what a book keeps: no row stands in it twice, and stamps do not fall
 pub record IsBook (b : Book) : Type 0 where
-  pub few : b.rows ≤ 65504
+  pub few : b.rows ≤ most_rows
   pub counted : length b.free + length b.held ≤ b.rows
   pub free_rows : All (IsRowOf b) b.free
   pub waiting_rows : All (λ h. IsRowOf b h.row) b.held

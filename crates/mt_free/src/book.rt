@@ -1,4 +1,5 @@
 ghost use Rattle.std.specs.Prelude.{◌≡◌, ◌<◌, ◌≤◌, ◌+◌, [], ◌∷◌, ◌++◌, All, length, vec_len, IfOk};
+ghost use Rattle.mt_base.specs.Width.{most_rows};
 ghost use Rattle.std.specs.Vec.{vec_capacity};
 ghost use Rattle.mt_free.specs.Book.{rows_down, new_book, IsBook, IsOut, live_count, after_retire, after_reclaim, due};
 
@@ -48,7 +49,7 @@ fn push_free(free: &mut Vec<u32>, row: u32)
 
 /// Every row, the first on top.
 fn all_rows(alloc: Global, rows: u64) -> Result<Vec<u32>, NoMemory>
-    requires { rows ≤ 65504 }
+    requires { rows ≤ most_rows }
     ensures items { IfOk result (λ v. v.items ≡ rows_down rows) }
     ensures capacity { IfOk result (λ v. rows ≤ vec_capacity v) }
 {
@@ -62,7 +63,7 @@ fn all_rows(alloc: Global, rows: u64) -> Result<Vec<u32>, NoMemory>
 impl RowBook {
     /// A book of `rows` rows, all free. Only want of memory fails.
     pub fn new(alloc: Global, rows: u64) -> Result<RowBook, NoMemory>
-        requires { rows ≤ 65504 }
+        requires { rows ≤ most_rows }
         ensures { IfOk result (λ b. b ≡ new_book rows) }
     {
         Ok(RowBook {
