@@ -1,5 +1,5 @@
 -- All levels above a level that stands for every index are buried; and where nothing is left of the leaves, all levels are.
-use Rattle.std.proofs.Common.{◌≡◌, ℕ, suc, ◌+◌, ◌-◌, ◌*◌, ◌<◌, ◌≤◌, List, [], ◌∷◌, ◌++◌, Some, None, length, map, refl, sym, ap, ◌∙◌, subst, arith, append-nil}
+use Rattle.std.proofs.Common.{◌≡◌, ℕ, suc, ◌+◌, ◌-◌, ◌<◌, ◌≤◌, List, [], ◌∷◌, ◌++◌, Some, None, length, map, refl, sym, ap, ◌∙◌, subst, arith, append-nil}
 use Rattle.mt_base.specs.declared.calls.Call.{Call}
 use Rattle.mt_base.specs.declared.replies.Reply.{Reply}
 use Rattle.mt_layout.specs.declared.items.Item.{Item}
@@ -21,7 +21,7 @@ use Rattle.mt_splice.specs.Work.{Start, Work, rows_at, times_in, Holds}
 use Rattle.mt_splice.specs.Burying.{AreBuried, AreLevelsBuried}
 use Rattle.mt_splice.specs.Climbs.{begin_of, behind_of, Gathered}
 use Rattle.mt_splice.specs.Decisions.{item_words}
-use Rattle.mt_splice.specs.Progress.{Before, IsProgress, row_seen, new_rows_of}
+use Rattle.mt_splice.specs.Progress.{Before, row_seen, new_rows_of}
 use Rattle.mt_splice.specs.Ends.{MayPublishEnd}
 use Rattle.mt_splice.specs.Levels.{MayBuryRows, AreRowsBuried, MayBuryLevel, IsLevelBuried}
 use Rattle.mt_splice.specs.Replacing.{IsAnswer, IsBurying, IsUnderWay, MayBuryAbove, AreAboveBuried, MayBuryLevels, AreLevelsDone, MayEndEmpty}

@@ -1,5 +1,5 @@
 -- A store within a call: the call begins, rows are only read, then replaced, and the rows are ready once more when it ends.
-use Rattle.std.proofs.Common.{◌≡◌, ◌≢◌, ℕ, zero, suc, ◌+◌, ◌*◌, ◌^◌, ◌<◌, ◌≤◌, List, Option, true, false, length, refl, sym, ap, ◌∙◌, subst, inl, inr, arith}
+use Rattle.std.proofs.Common.{◌≡◌, ◌≢◌, ℕ, zero, suc, ◌+◌, ◌*◌, ◌≤◌, List, Option, true, false, length, refl, sym, ap, ◌∙◌, subst, inl, inr, arith}
 use Rattle.std.proofs.lemmas.Bool.{le-ltb}
 use Rattle.mt_base.specs.declared.kinds.Kind.{Kind}
 use Rattle.mt_base.specs.declared.kinds.Kind.TheVariants as trees
@@ -17,7 +17,7 @@ use Rattle.mt_layout.specs.declared.items.Item.{Item}
 use Rattle.mt_layout.specs.declared.spans.Span.{Span}
 use Rattle.mt_layout.specs.Spans.{spans_from}
 use Rattle.mt_leaf.specs.Edits.{edited}
-use Rattle.mt_rows.specs.Spans.{Table, root_span}
+use Rattle.mt_rows.specs.Spans.{root_span}
 use Rattle.mt_rows.specs.Trees.{height_in}
 use Rattle.mt_rows.specs.Laws.{Tree, IsLawful, IsTree, ParentLaw, IsTended}
 use Rattle.mt_rows.specs.Replacement.{root_of}
@@ -53,14 +53,14 @@ lawful_by_parents : (t : Tree) → MayBeReplaced t.kind → HasParents t → IsL
 lawful_by_parents t range (inl empty) = inl empty
 lawful_by_parents t range (inr (h, stands, parent, levels)) = inr (h, stands, parent, levels_map (ParentLaw t) (IsTended t) t.table (tended_if_replaced t range) h (root_of t) levels)
 
-pub low_tree : (t : Tree) → IsLawful t → height_in t.table t.root ≤ deepest
+low_tree : (t : Tree) → IsLawful t → height_in t.table t.root ≤ deepest
 low_tree t (inl empty) = let none : height_in t.table t.root ≡ 0 = ap (height_in t.table) empty in omega arith
 low_tree t (inr (h, stands, parent, tended)) =
     let high = height_by_depth t deepest h (root_span t.table t.root) stands.low stands.rows in
     let low = stands.low in omega arith
 
 -- what a call takes at the most is enough for any tree
-pub room_enough : {t : Rooted} {kind : Kind} (book : Book) → IsLawfulOf t kind → most_taken ≤ length book.free → 3 * height_in t.table t.root + 1 ≤ length book.free
+room_enough : {t : Rooted} {kind : Kind} (book : Book) → IsLawfulOf t kind → most_taken ≤ length book.free → 3 * height_in t.table t.root + 1 ≤ length book.free
 room_enough {t = t} {kind = kind} book lawful many = let low = low_tree (tree_as kind t) lawful.words in omega arith
 
 -- ---- rows that were only read
@@ -172,7 +172,7 @@ begun_may {kind = kind} {s = s} {book = book} reads range ready is room store so
 }
 
 -- rows between two calls, when a call has begun and they were only read since, may be replaced
-pub may_replace : {kind : Kind} {s₀ s₁ s₂ : Sheet} {book : Book} {left : List PathStep} {first last entry number : ℕ} {call : Call} {reply : Reply} → MayBeReplaced kind → IsBetweenCalls kind s₀ book → s₁ ≡ begun s₀ → OnlyReads s₁ s₂
+may_replace : {kind : Kind} {s₀ s₁ s₂ : Sheet} {book : Book} {left : List PathStep} {first last entry number : ℕ} {call : Call} {reply : Reply} → MayBeReplaced kind → IsBetweenCalls kind s₀ book → s₁ ≡ begun s₀ → OnlyReads s₁ s₂
     → number ≡ s₀.ended + 1 → 3 * height_in s₀.tree.table s₀.tree.root + 1 ≤ length book.free → IsStoreBy kind (greatest s₀.tree.table.width) (map_by s₀.tree) call reply first last entry → (s₀.tree.root ≡ 0 → entry ≢ 0)
     → left ≡ path_in s₁.tree.table s₁.tree.root first → MayReplace kind s₂ book left first last entry number call reply
 may_replace {kind = kind} {s₀ = s₀} {s₂ = s₂} {book = book} {left = left} {first = first} {last = last} {entry = entry} {number = number} {call = call} {reply = reply} range ready begins reads is room store some path =
@@ -181,10 +181,10 @@ may_replace {kind = kind} {s₀ = s₀} {s₂ = s₂} {book = book} {left = left
     (begun_may s₂.reads range ready is room store some (path ∙ ap (λ (x : Sheet). path_in x.tree.table x.tree.root first) begins))
 
 -- a store of an entry that is not reserved
-pub acts_so : (kind : Kind) (m : List Range) (first last entry : ℕ) → first ≤ last → last ≤ greatest_of kind → reserved entry ≡ false → acted kind m (Store first last entry) ≡ (over m first last entry, reply.Ok)
+acts_so : (kind : Kind) (m : List Range) (first last entry : ℕ) → first ≤ last → last ≤ greatest_of kind → reserved entry ≡ false → acted kind m (Store first last entry) ≡ (over m first last entry, reply.Ok)
 acts_so kind m first last entry order within free = rw (le-ltb last first order, le-ltb (greatest_of kind) last within, free) refl
 
-pub stores_so : {kind : Kind} {t : Rooted} {first last entry : ℕ} → IsLawfulOf t kind → first ≤ last → last ≤ greatest_of kind → reserved entry ≡ false → IsStoreBy kind (greatest t.table.width) (map_by t) (Store first last entry) reply.Ok first last entry
+stores_so : {kind : Kind} {t : Rooted} {first last entry : ℕ} → IsLawfulOf t kind → first ≤ last → last ≤ greatest_of kind → reserved entry ≡ false → IsStoreBy kind (greatest t.table.width) (map_by t) (Store first last entry) reply.Ok first last entry
 stores_so {kind = kind} {t = t} {first = first} {last = last} {entry = entry} lawful order within free = record {
   acts = acts_so kind (map_by t) first last entry order within free;
   order = order;
@@ -243,9 +243,6 @@ module _ {kind : Kind} {s s' s″ : Sheet} {book book' : Book} {number : ℕ} {c
 
   pub ready_again : IsBetweenCalls kind s″ book'
   ready_again = subst (λ (x : Sheet). IsBetweenCalls kind x book') (sym ends) done_ready
-
-  pub one_more_ended : s″.ended ≡ s.ended + 1
-  one_more_ended = let is = ap (λ (x : Sheet). x.ended) ends in let same = ended_is in omega arith
 
   pub map_after_call : map_by s″.tree ≡ (acted kind (map_by s.tree) call).0
   map_after_call = ap (λ (x : Sheet). map_by x.tree) ends ∙ spliced.map

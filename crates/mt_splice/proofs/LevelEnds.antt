@@ -1,5 +1,5 @@
 -- The three ways in which a level ends a replacement: by a row that stands for every index, by a root above several rows, or in place.
-use Rattle.std.proofs.Common.{◌≡◌, ℕ, suc, ◌+◌, ◌-◌, ◌*◌, ◌<◌, ◌≤◌, ◌&&◌, List, [], ◌∷◌, ◌++◌, Option, Some, Bool, true, length, refl, sym, ap, ◌∙◌, subst, arith, eq-eqb, lt-ltb, length-append}
+use Rattle.std.proofs.Common.{◌≡◌, ℕ, suc, ◌+◌, ◌-◌, ◌*◌, ◌<◌, ◌≤◌, ◌&&◌, List, [], ◌∷◌, Some, Bool, true, length, refl, sym, ap, ◌∙◌, subst, arith, eq-eqb, lt-ltb, length-append}
 use Rattle.std.specs.Prelude.{slice_index_or, if◌then◌else◌}
 use Rattle.mt_base.specs.declared.calls.Call.{Call}
 use Rattle.mt_base.specs.declared.replies.Reply.{Reply}
@@ -18,7 +18,7 @@ use Rattle.mt_layout.proofs.SpanLists.{length-spans_from}
 use Rattle.mt_free.specs.Book.{Book}
 use Rattle.mt_rows.specs.declared.rows.Place.{Place}
 use Rattle.mt_rows.specs.declared.rows.Place.TheVariants.{Root, Slot}
-use Rattle.mt_rows.specs.Spans.{inner_kind, spans_in}
+use Rattle.mt_rows.specs.Spans.{inner_kind}
 use Rattle.mt_rows.specs.Levels.{is_row_of}
 use Rattle.mt_rows.specs.Trees.{height_in}
 use Rattle.mt_rows.specs.Laws.{Tree, top_of, kind_at, covers_all}
@@ -38,7 +38,7 @@ use Rattle.mt_splice.specs.Progress.{Before, IsBefore, IsProgress}
 use Rattle.mt_splice.specs.Levels.{MayWriteRow, IsOneWritten, MayAddRow, IsRowAdded}
 use Rattle.mt_splice.specs.Endings.{column_of}
 use Rattle.mt_splice.specs.Ends.{IsEndPlace, MayPublishEnd}
-use Rattle.mt_splice.specs.Replacing.{IsAnswer, IsBurying, IsUnderWay, AreRowsReplaced, MayReplaceLevelRows, AreLevelRowsReplaced, MayBuryAbove, AreAboveBuried, MayBuryLevels, AreLevelsDone, MayEnd, MayEndAtRoot, MayEndAbove, MayEndInSlot}
+use Rattle.mt_splice.specs.Replacing.{IsAnswer, IsBurying, AreRowsReplaced, MayReplaceLevelRows, AreLevelRowsReplaced, MayBuryAbove, AreAboveBuried, MayBuryLevels, AreLevelsDone, MayEnd, MayEndAtRoot, MayEndAbove, MayEndInSlot}
 use Rattle.mt_splice.proofs.AboveNothing.{burying}
 use Rattle.mt_splice.proofs.EndForms as forms
 use Rattle.mt_splice.proofs.LevelDone.{room_to_note}

@@ -1,5 +1,5 @@
 -- A level of a replacement: what its steps hand on to each other, and to the next level.
-use Rattle.std.proofs.Common.{◌≡◌, ◌⊎◌, ℕ, zero, suc, ◌+◌, ◌-◌, ◌*◌, ◌<◌, ◌≤◌, List, [], ◌∷◌, length, map, refl, sym, ap, ◌∙◌, subst, inl, inr, ⊎_elim, arith}
+use Rattle.std.proofs.Common.{◌≡◌, ℕ, zero, suc, ◌+◌, ◌-◌, ◌*◌, ◌<◌, ◌≤◌, List, [], ◌∷◌, length, map, refl, sym, ap, ◌∙◌, subst, inl, ⊎_elim, arith}
 use Rattle.std.specs.List.{flat_map}
 use Rattle.mt_base.specs.declared.calls.Call.{Call}
 use Rattle.mt_base.specs.declared.replies.Reply.{Reply}
@@ -17,10 +17,10 @@ use Rattle.mt_free.specs.Book.{Book}
 use Rattle.mt_rows.specs.Laws.{Tree, top_of, kind_at, least_of_root}
 use Rattle.mt_rows.specs.Sheet.{Rooted, Sheet, OnlyReads}
 use Rattle.mt_path.specs.declared.paths.PathStep.{PathStep}
-use Rattle.mt_path.specs.Paths.{step_at, path_in}
+use Rattle.mt_path.specs.Paths.{step_at}
 use Rattle.mt_path.proofs.TreePaths as paths
 use Rattle.mt_splice.specs.declared.writes.NewRow.{NewRow}
-use Rattle.mt_splice.specs.Work.{Start, Work, Holds}
+use Rattle.mt_splice.specs.Work.{Start, Work}
 use Rattle.mt_splice.specs.Climbs.{begin_of, behind_of, MayBeIn, Gathered, Climbed}
 use Rattle.mt_splice.specs.Runs.{most_items, MayBeCut}
 use Rattle.mt_splice.specs.Progress.{Before, IsBefore, IsProgress, new_rows_of}

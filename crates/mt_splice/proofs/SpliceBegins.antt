@@ -1,5 +1,5 @@
 -- A replacement begins: nothing was done yet, and the leaves' items are to stand in the tree, or in the first leaf of all.
-use Rattle.std.proofs.Common.{◌≡◌, ◌≢◌, ℕ, suc, ◌+◌, ◌-◌, ◌<◌, ◌≤◌, ◌==◌, List, [], ◌∷◌, ◌++◌, Some, None, Bool, true, false, length, map, refl, sym, ap, ◌∙◌, subst, inl, inr, ⊎_elim, arith, append-nil, lt-ltb, length-append}
+use Rattle.std.proofs.Common.{◌≡◌, ◌≢◌, ℕ, suc, ◌+◌, ◌-◌, ◌≤◌, ◌==◌, List, [], ◌∷◌, ◌++◌, Some, None, Bool, true, false, length, map, refl, sym, ap, ◌∙◌, subst, inl, inr, ⊎_elim, arith, append-nil, lt-ltb, length-append}
 use Rattle.std.specs.Prelude.{◌||◌}
 use Rattle.std.specs.List.{flat_map}
 use Rattle.std.proofs.lemmas.Bool.{cases_Bool, eqb-true, eqb-false}
@@ -45,7 +45,7 @@ use Rattle.mt_splice.specs.Replaced.{IsReplaced}
 use Rattle.mt_splice.specs.Runs.{IsLeafRun, MayBeCut}
 use Rattle.mt_splice.specs.Endings.{with_root}
 use Rattle.mt_splice.specs.Ends.{MayPublishEnd}
-use Rattle.mt_splice.specs.Progress.{Before, IsBefore, IsCase, IsProgress, row_seen, new_rows_of}
+use Rattle.mt_splice.specs.Progress.{Before, IsCase, IsProgress, row_seen}
 use Rattle.mt_splice.specs.Levels.{MayWriteRow, IsOneWritten, MayAddRow, IsRowAdded}
 use Rattle.mt_splice.specs.TakingIn.{MayTakeIn}
 use Rattle.mt_splice.specs.Replacing.{IsUnderWay, MayReplaceLevel}

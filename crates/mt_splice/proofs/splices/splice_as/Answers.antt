@@ -1,4 +1,4 @@
-use Rattle.std.proofs.Common.{sym, ◌∙◌, arith}
+use Rattle.std.proofs.Common.{sym, ◌∙◌}
 use Rattle.mt_splice.proofs.SpliceBegins.{some_steps, first_may_begin, leaves_may_be_replaced}
 use Rattle.mt_splice.proofs.splices.splice_as.Goals as goal
 
