@@ -19,9 +19,9 @@ use Rattle.mt_rows.specs.Replacement.{root_of}
 use Rattle.mt_rows.specs.Sheet.{Rooted, Sheet, life_of}
 use Rattle.mt_rows.specs.Publish.{MayFinish, tree_as, is_reached, finished, with_record}
 use Rattle.mt_rows.proofs.Lists.{levels_map}
-use Rattle.mt_splice.specs.Kept.{MayBeReplaced, IsBookOf, IsKept}
+use Rattle.mt_splice.specs.Kept.{MayBeReplaced, IsBookOf}
 use Rattle.mt_splice.specs.Splice.{HasParents, IsSpliced}
-use Rattle.mt_engine.specs.Engine.{IsEngineState, IsIdle, IsInCall}
+use Rattle.mt_engine.specs.Engine.{IsEngineState, IsIdle}
 use Rattle.mt_engine.proofs.Levelled.{levelled}
 use Rattle.mt_engine.proofs.Moments.{tree_if_lawful}
 

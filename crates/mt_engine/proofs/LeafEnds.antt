@@ -1,5 +1,5 @@
 -- A hole that ends a leaf ends at the greatest index.
-use Rattle.std.proofs.Common.{◌≡◌, ◌≢◌, ℕ, zero, suc, ◌+◌, ◌<◌, ◌≤◌, List, [], ◌∷◌, length, sym, ap, ◌∙◌, subst, inl, inr, arith}
+use Rattle.std.proofs.Common.{◌≡◌, ◌≢◌, ℕ, zero, suc, ◌+◌, ◌<◌, ◌≤◌, List, [], ◌∷◌, length, sym, ap, ◌∙◌, inl, inr, arith}
 use Rattle.std.proofs.lemmas.Bool.{cases_lt}
 use Rattle.std.proofs.lemmas.Option.{slice_get_within}
 use Rattle.mt_base.specs.declared.kinds.Kind.{Kind}
@@ -13,7 +13,7 @@ use Rattle.mt_rows.specs.Publish.{IsTreeOf, tree_as}
 use Rattle.mt_rows.specs.Sheet.{Rooted}
 use Rattle.mt_path.specs.declared.handles.Handle.{Handle}
 use Rattle.mt_path.specs.declared.paths.PathStep.{PathStep}
-use Rattle.mt_path.specs.Handles.{handle_in, IsHandleOf}
+use Rattle.mt_path.specs.Handles.{IsHandleOf}
 use Rattle.mt_path.specs.Paths.{slot_for, span_at, below}
 use Rattle.mt_path.proofs.Places.{at_get, at_within}
 use Rattle.mt_path.proofs.TreePaths.{row_of, place, lawful, holds}

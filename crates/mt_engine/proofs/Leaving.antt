@@ -1,5 +1,5 @@
 -- A call that publishes nothing: it leaves the map, or is refused for want of rows.
-use Rattle.std.proofs.Common.{◌≡◌, ℕ, ◌+◌, ◌≤◌, Option, refl, sym, ap, subst, inl, inr, arith}
+use Rattle.std.proofs.Common.{◌≡◌, ℕ, ◌≤◌, Option, refl, sym, subst, inl, inr, arith}
 use Rattle.std.specs.Prelude.{◌⊎◌}
 use Rattle.mt_base.specs.declared.calls.Call.{Call}
 use Rattle.mt_base.specs.declared.kinds.Kind.{Kind}
@@ -10,10 +10,9 @@ use Rattle.mt_base.specs.Call.{acted}
 use Rattle.mt_base.specs.Nodes.{Wants, IsRefused}
 use Rattle.mt_free.specs.Book.{Book, after_reclaim}
 use Rattle.mt_rows.specs.declared.rows.Scan.{Scan}
-use Rattle.mt_rows.specs.Sheet.{Sheet, OnlyReads, IsWhole, limits_of, one_more, scanned}
-use Rattle.mt_rows.specs.Publish.{MayFinish, IsFoundShort, IsCounted, WasScanned, finished, map_by, with_record}
-use Rattle.mt_splice.specs.Kept.{IsKept}
-use Rattle.mt_engine.specs.Engine.{IsEngineState, IsIdle, IsInCall, IsDone, IsShortFor, TellsBook, IsApplied, IsAnswered}
+use Rattle.mt_rows.specs.Sheet.{Sheet, IsWhole, limits_of, one_more, scanned}
+use Rattle.mt_rows.specs.Publish.{MayFinish, IsFoundShort, IsCounted, finished, map_by, with_record}
+use Rattle.mt_engine.specs.Engine.{IsEngineState, IsIdle, IsInCall, IsDone, IsShortFor, IsApplied, IsAnswered}
 use Rattle.mt_engine.specs.Rooms.{IsScanned, IsShortOf}
 use Rattle.mt_engine.proofs.Scanned.{was_scanned}
 use Rattle.mt_engine.proofs.Wanting.{stays_wants_none}

@@ -7,7 +7,7 @@ use Rattle.mt_base.specs.declared.ranges.Range.{Range}
 use Rattle.mt_base.specs.Width.{deepest}
 use Rattle.mt_rows.specs.Spans.{root_span}
 use Rattle.mt_rows.specs.Trees.{map_in, reached_in, height_in}
-use Rattle.mt_rows.specs.Laws.{Tree, IsTree, Stands}
+use Rattle.mt_rows.specs.Laws.{IsTree}
 use Rattle.mt_rows.specs.Sheet.{Rooted}
 use Rattle.mt_rows.specs.Publish.{tree_as, IsTreeOf, map_by}
 use Rattle.mt_rows.proofs.Depth.{height_by_depth}

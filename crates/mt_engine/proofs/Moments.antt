@@ -8,7 +8,7 @@ use Rattle.mt_free.specs.Book.{Book}
 use Rattle.mt_rows.specs.Laws.{Tree, IsLawful, IsTree}
 use Rattle.mt_rows.specs.Publish.{IsLawfulOf, IsTreeOf, tree_as, map_by, finished}
 use Rattle.mt_rows.specs.Sheet.{Rooted, Sheet, OnlyReads, begun, limits_of}
-use Rattle.mt_engine.specs.Engine.{IsEngineState, IsIdle, IsInCall, IsDone, IsShortFor, IsApplied, IsAnswered}
+use Rattle.mt_engine.specs.Engine.{IsIdle, IsInCall, IsDone, IsShortFor, IsApplied, IsAnswered}
 
 -- ---- the state
 
@@ -21,9 +21,6 @@ tree_if_lawful t kind lawful = record { width = lawful.width; words = is_tree (t
 
 pub tree_in_call : (kind : Kind) (s : Sheet) (book : Book) → IsInCall kind s book → IsTreeOf s.tree kind
 tree_in_call kind s book in_call = tree_if_lawful s.tree kind in_call.state.kept.lawful
-
-pub tree_idle : (kind : Kind) (s : Sheet) (book : Book) → IsIdle kind s book → IsTreeOf s.tree kind
-tree_idle kind s book idle = tree_if_lawful s.tree kind idle.state.kept.lawful
 
 pub in_call_begun : (kind : Kind) (s s' : Sheet) (book : Book) → s' ≡ begun s → IsIdle kind s book → IsInCall kind s' book
 in_call_begun kind s s' book begins idle = subst (λ (x : Sheet). IsInCall kind x book) (sym begins) (record { in_flight = refl; before = refl; state = idle.state })

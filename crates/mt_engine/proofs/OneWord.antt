@@ -1,5 +1,5 @@
 -- Another entry of one range, published by one word in the slot of its leaf: the rows stay as they are.
-use Rattle.std.proofs.Common.{◌≡◌, ◌≢◌, ℕ, zero, suc, ◌+◌, ◌*◌, ◌<◌, ◌≤◌, List, [], ◌∷◌, Bool, true, false, All, Option, nat_lt, refl, sym, ap, ◌∙◌, subst, inl, inr, arith, get_or-set_other, Some, le-ltb}
+use Rattle.std.proofs.Common.{◌≡◌, ◌≢◌, ℕ, zero, suc, ◌+◌, ◌*◌, ◌<◌, ◌≤◌, List, [], ◌∷◌, Bool, true, false, All, nat_lt, refl, sym, ap, ◌∙◌, subst, inl, inr, arith, get_or-set_other, le-ltb}
 use Rattle.std.specs.Prelude.{slice_index, slice_set, slice_index_or}
 use Rattle.std.specs.List.{AllByRecursion, Contains}
 use Rattle.std.proofs.lemmas.Bool.{cases_Bool}
@@ -31,7 +31,7 @@ use Rattle.mt_rows.specs.Spans.{Table, column, spans_in}
 use Rattle.mt_rows.specs.Levels.{Levels, is_row_of}
 use Rattle.mt_rows.specs.Laws as laws
 use Rattle.mt_rows.specs.Sheet.{Rooted, Sheet, IsWhole, life_of, with_word}
-use Rattle.mt_rows.specs.Publish.{IsTold, tree_as, map_by, is_reached, MayPublish, Published, with_record, life_after, finished}
+use Rattle.mt_rows.specs.Publish.{tree_as, map_by, is_reached, MayPublish, Published, with_record, life_after, finished}
 use Rattle.mt_rows.specs.Replacement.{root_of, IsSlotAt, ReplacesEntry}
 use Rattle.mt_rows.proofs.ExactStore.{may_publish}
 use Rattle.mt_rows.proofs.Heights.{levels_upper, levels_both, upper_both, upper_shared}
@@ -39,14 +39,13 @@ use Rattle.mt_rows.proofs.Reached as reached
 use Rattle.mt_rows.proofs.SlotEntry as exact
 use Rattle.mt_rows.proofs.SlotStore as store
 use Rattle.mt_path.specs.declared.handles.Handle.{Handle}
-use Rattle.mt_path.specs.declared.paths.PathStep.{PathStep}
 use Rattle.mt_path.specs.Handles.{IsHandleOf}
 use Rattle.mt_path.specs.Paths.{slot_for, below, step_in}
 use Rattle.mt_path.proofs.Places.{at_get}
 use Rattle.mt_path.proofs.TreePaths.{row_of, place, holds}
 use Rattle.mt_splice.specs.Kept.{MayBeReplaced, IsBookOf, IsSpare}
 use Rattle.mt_splice.specs.Splice.{IsStoreBy}
-use Rattle.mt_engine.specs.Engine.{IsEngineState, IsInCall, IsIdle, IsAnswered, is_refusal}
+use Rattle.mt_engine.specs.Engine.{IsInCall, IsIdle, IsAnswered, is_refusal}
 use Rattle.mt_engine.proofs.Answering.{not_both}
 use Rattle.mt_engine.proofs.Slots.{end_is, slot_holds}
 use Rattle.mt_rows.proofs.FewSpans.{row_most}

@@ -1,8 +1,7 @@
 -- What each call comes to on a tree.
-use Rattle.std.proofs.Common.{◌≡◌, ◌≢◌, ℕ, ◌+◌, ◌^◌, ◌<◌, ◌≤◌, ◌==◌, ◌||◌, true, false, not, List, Option, Some, None, nat_lt, refl, sym, ap, ◌∙◌, subst, inl, inr, arith, ne_eqb}
-use Rattle.std.specs.Prelude.{◌↔◌, IsSome, IsNone, IfSome}
-use Rattle.std.specs.List.{AllByRecursion}
-use Rattle.std.proofs.lemmas.Bool.{cases_Bool, cases_lt, eqb-true, eqb-false, lt-ltb, le-ltb, or_parts}
+use Rattle.std.proofs.Common.{◌≡◌, ◌≢◌, ℕ, ◌+◌, ◌^◌, ◌<◌, ◌≤◌, ◌==◌, ◌||◌, true, false, List, Option, Some, None, refl, sym, ap, ◌∙◌, subst, inl, inr, arith, ne_eqb}
+use Rattle.std.specs.Prelude.{IsSome}
+use Rattle.std.proofs.lemmas.Bool.{cases_Bool, cases_lt, eqb-true, eqb-false, lt-ltb, le-ltb}
 use Rattle.mt_base.specs.declared.kinds.Kind.{Kind}
 use Rattle.mt_base.specs.declared.widths.Width.{Width}
 use Rattle.mt_base.specs.declared.widths.Width.TheVariants.{Long}
@@ -17,17 +16,16 @@ use Rattle.mt_rows.specs.Publish.{IsTreeOf, map_by}
 use Rattle.mt_rows.specs.Sheet.{Rooted}
 use Rattle.mt_path.specs.declared.handles.Handle.{Handle}
 use Rattle.mt_path.specs.declared.paths.PathStep.{PathStep}
-use Rattle.mt_path.specs.Handles.{last_step, handle_of, handle_in}
+use Rattle.mt_path.specs.Handles.{last_step, handle_of}
 use Rattle.mt_path.specs.Paths.{path_in}
-use Rattle.mt_splice.specs.Splice.{IsStoreBy}
 use Rattle.mt_engine.specs.Here.{IsHereAt}
 use Rattle.mt_engine.specs.MapSpans.{range_of, IsSpanAt}
 use Rattle.mt_engine.specs.Plans.{IsStorePlan, is_taken}
 use Rattle.mt_engine.proofs.MapQueries.{load_hole}
-use Rattle.mt_engine.proofs.MapStores.{held_each, without_is_store}
+use Rattle.mt_engine.proofs.MapStores.{without_is_store}
 use Rattle.mt_engine.proofs.SameWay.{same_way}
 use Rattle.mt_engine.proofs.SlotQueries.{not_none}
-use Rattle.mt_engine.proofs.Slots.{none_at_root, tree_map, tree_within, slot_tells}
+use Rattle.mt_engine.proofs.Slots.{none_at_root, tree_map, slot_tells}
 use Rattle.mt_engine.proofs.Wanting.{held_around, none_in_hole}
 
 pub within_all : (width : Width) (index : ℕ) → index < 2 ^ 64 → index ≤ greatest width

@@ -1,5 +1,5 @@
 -- The way to the first index of what stands in a slot is the way to each of its indexes.
-use Rattle.std.proofs.Common.{◌≡◌, ◌≢◌, ℕ, ◌+◌, ◌-◌, ◌<◌, ◌≤◌, List, ◌∷◌, ◌++◌, length, refl, sym, ap, ◌∙◌, subst, inl, inr, arith}
+use Rattle.std.proofs.Common.{◌≡◌, ◌≢◌, ℕ, ◌+◌, ◌<◌, ◌≤◌, List, sym, ap, ◌∙◌, subst, inl, inr, arith}
 use Rattle.std.proofs.lemmas.Bool.{cases_lt}
 use Rattle.std.proofs.lemmas.List.{ext_get_or}
 use Rattle.mt_base.specs.declared.kinds.Kind.{Kind}
@@ -10,7 +10,6 @@ use Rattle.mt_rows.specs.Spans.{spans_in}
 use Rattle.mt_rows.specs.Laws.{Tree, IsTree, Stands, top_of}
 use Rattle.mt_rows.specs.Publish.{IsTreeOf, tree_as}
 use Rattle.mt_rows.specs.Sheet.{Rooted}
-use Rattle.mt_path.specs.declared.paths.PathStep.{PathStep}
 use Rattle.mt_path.specs.Handles.{handle_in}
 use Rattle.mt_path.specs.Paths.{slot_for, step_in, below, path_in, no_step, At}
 use Rattle.mt_path.proofs.Places.{slot_is, at_within}

@@ -1,5 +1,5 @@
 -- What is true of a tree in which too few rows are free, when the rows that no section holds were freed.
-use Rattle.std.proofs.Common.{◌≡◌, ◌≢◌, ℕ, zero, suc, ◌+◌, ◌-◌, ◌*◌, ◌^◌, ◌<◌, ◌≤◌, List, [], ◌∷◌, ◌++◌, Bool, false, Option, Some, None, length, get_or, refl, sym, ap, ◌∙◌, subst, inl, inr, arith, length-append, nat_lt}
+use Rattle.std.proofs.Common.{◌≡◌, ◌≢◌, ℕ, zero, suc, ◌+◌, ◌-◌, ◌*◌, ◌^◌, ◌<◌, ◌≤◌, List, [], ◌∷◌, ◌++◌, Bool, false, Option, Some, None, length, get_or, refl, sym, ◌∙◌, subst, inl, inr, arith, length-append, nat_lt}
 use Rattle.std.specs.Prelude.{◌↔◌, IsSome, IfSome, if◌then◌else◌}
 use Rattle.std.specs.List.{All, AllPairs}
 use Rattle.std.proofs.lemmas.Bool.{false≢true, lt-ltb}
@@ -10,10 +10,10 @@ use Rattle.mt_base.specs.declared.replies.Holder.{Holder}
 use Rattle.mt_base.specs.declared.replies.Shortage.{Shortage}
 use Rattle.mt_base.specs.Nodes.{IsShort}
 use Rattle.mt_base.specs.Width.{deepest}
-use Rattle.mt_free.specs.Book.{Held, Book, live_count, held_rows}
+use Rattle.mt_free.specs.Book.{Held, Book, held_rows}
 use Rattle.mt_rows.specs.declared.rows.Scan.{Scan}
 use Rattle.mt_rows.specs.Trees.{reached_in, height_in}
-use Rattle.mt_rows.specs.Sheet.{Told, Rooted, Sheet, IsScan, scanned, limits_of}
+use Rattle.mt_rows.specs.Sheet.{Told, Sheet, IsScan, scanned, limits_of}
 use Rattle.mt_rows.specs.Publish.{IsHeldBack, IsCounted, map_by}
 use Rattle.mt_splice.proofs.LiveRows.{live_is_reached}
 use Rattle.mt_engine.specs.Engine.{IsEngineState, TellsBook}

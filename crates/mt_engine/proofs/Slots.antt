@@ -7,7 +7,6 @@ use Rattle.mt_base.specs.declared.widths.Width.{Width}
 use Rattle.mt_base.specs.Map.{IsMap}
 use Rattle.mt_base.specs.Width.{greatest, deepest}
 use Rattle.mt_base.proofs.Lists.{all_map}
-use Rattle.mt_layout.specs.declared.names.RowKind.TheVariants.{Leaf}
 use Rattle.mt_layout.specs.declared.spans.Span.{Span}
 use Rattle.mt_layout.specs.Spans.{Fills, Apart}
 use Rattle.mt_layout.proofs.SpanLists.{fills_le, apart-append}

@@ -2,7 +2,7 @@
 use Rattle.std.proofs.Common.{◌≡◌, ◌≢◌, ℕ, ◌+◌, ◌-◌, ◌<◌, ◌≤◌, ◌==◌, List, [], ◌∷◌, ◌++◌, Some, None, false, nat_le, refl, ap, ◌∙◌, subst, inl, inr, arith}
 use Rattle.std.specs.Prelude.{IsSome, is_some}
 use Rattle.std.specs.List.{flat_map}
-use Rattle.std.proofs.lemmas.Bool.{cases_Bool, and_left, and_right, eqb-false, eqb-true, lt-leb, le-leb}
+use Rattle.std.proofs.lemmas.Bool.{cases_Bool, and_left, and_right, eqb-true, lt-leb, le-leb}
 use Rattle.mt_base.specs.declared.ranges.Range.{Range}
 use Rattle.mt_base.specs.Map.{holds, holding, overlaps, is_held}
 use Rattle.mt_layout.specs.declared.spans.Span.{Span}

@@ -22,15 +22,14 @@ use Rattle.mt_path.specs.declared.paths.PathStep.{PathStep}
 use Rattle.mt_path.specs.Handles.{IsHandleOf}
 use Rattle.mt_path.proofs.Steps.{path_of_none}
 use Rattle.mt_path.proofs.TreePaths.{levels}
-use Rattle.mt_splice.specs.Kept.{IsKept}
 use Rattle.mt_splice.specs.Splice.{IsStoreBy, MayReplace}
 use Rattle.mt_engine.specs.declared.store_by.StoreBy.TheVariants.{NoWord, OneWord, NewRows}
 use Rattle.mt_engine.specs.Engine.{IsEngineState, IsInCall}
 use Rattle.mt_engine.specs.Here.{IsHereAt}
-use Rattle.mt_engine.specs.MapSpans.{range_of, IsSpanAt}
+use Rattle.mt_engine.specs.MapSpans.{range_of}
 use Rattle.mt_engine.specs.Plans.{IsStorePlan}
 use Rattle.mt_engine.specs.Rooms.{IsScanned, HasRoom}
-use Rattle.mt_engine.specs.StoreBy.{IsHoleOver, IsExactly, IsDoneBy}
+use Rattle.mt_engine.specs.StoreBy.{IsExactly, IsDoneBy}
 use Rattle.mt_engine.proofs.Planning.{span_at_handle}
 use Rattle.mt_engine.proofs.SlotQueries.{not_none}
 use Rattle.mt_engine.proofs.Slots.{none_at_root, tree_map}

@@ -5,7 +5,6 @@ use Rattle.std.specs.List.{All, AllByRecursion, slice_get}
 use Rattle.std.proofs.lemmas.Bool.{cases_Bool, eqb-true, eqb-false, leb-true, leb-false, le-leb, lt-leb, le-ltb}
 use Rattle.std.proofs.lemmas.List.Elements.{All-head, filter_passes}
 use Rattle.mt_base.specs.declared.kinds.Kind.{Kind}
-use Rattle.mt_base.specs.declared.widths.Width.{Width}
 use Rattle.mt_base.specs.declared.ranges.Range.{Range}
 use Rattle.mt_base.specs.declared.calls.Query.TheVariants.{Find}
 use Rattle.mt_base.specs.Call.{answer}
@@ -17,10 +16,9 @@ use Rattle.mt_rows.specs.Publish.{IsTreeOf, map_by}
 use Rattle.mt_rows.specs.Sheet.{Rooted, Sheet, OnlyReads, ReadsUpTo}
 use Rattle.mt_path.specs.declared.handles.Handle.{Handle}
 use Rattle.mt_path.specs.Handles.{handle_in, IsHandleOf}
-use Rattle.mt_path.proofs.HandleSteps.{handle_within}
 use Rattle.mt_path.proofs.Loads.{no_reads, reads_up, reads_more}
 use Rattle.mt_engine.specs.declared.range_walk.RangeWalk.{RangeWalk}
-use Rattle.mt_engine.specs.Here.{IsHereAt, IsHereIf}
+use Rattle.mt_engine.specs.Here.{IsHereIf}
 use Rattle.mt_engine.specs.MapSpans.{range_of}
 use Rattle.mt_engine.specs.Nearest.{nearest_from}
 use Rattle.mt_engine.specs.RangeWalks.{found_from, index_behind, range_at, StepsWithin, WalksFrom}
@@ -194,27 +192,6 @@ module _ (t : Rooted) (kind : Kind) (tree : IsTreeOf t kind) where
     pub nearest_found : (here : Handle) (found : Option Range) → IsHereIf t walk.next (Some here) → ((index : ℕ) → index ≤ top → here ≡ handle_in t index → found ≡ nearest_from m index) → found ≡ found_from m top walk.next
     nearest_found here found stands nearest = found_if walk.next here found walks.within stands nearest
 
-    -- ---- where it stands then
-
-    given_if : (last : Option Handle) → IfSome last (λ h. IsHandleOf t h × IfSome walk.next (λ i. i ≡ h.span.last + 1)) → IfSome last (λ h. IsHandleOf t h × Unit {0})
-    given_if None given = tt
-    given_if (Some h) given = (given.0, tt)
-
-    pub walk_ended : WalksFrom t (record walk { next = None })
-    walk_ended = record { within = tt; given = given_if walk.last walks.given }
-
-  module _ (given : Handle) (is : IsHandleOf t given) where
-    pub given_within : given.span.last ≤ top
-    given_within = (handle_within t kind tree given is).1
-
-    pub walk_behind : WalksFrom t (record { next = index_behind top (range_at (Some given)); last = Some given })
-    walk_behind = elim (cases_Bool (given.span.last == top)) [
-      | inl end ↦ rw end (record { within = tt; given = (is, tt) })
-      | inr more ↦
-          (let other = eqb-false given.span.last top more in let most = given_within in
-          rw more (record { within = omega arith; given = (is, refl) }))
-    ]
-
 -- ---- how many words are loaded
 
 abbrev Near : ℕ → RangeWalk → Sheet → Sheet → Type 0
@@ -280,9 +257,6 @@ module _ (s s' : Sheet) (kind : Kind) (tree : IsTreeOf s.tree kind) (walk : Rang
 
   same : s'.tree ≡ s.tree
   same = tree_same s s' listed.rest
-
-  pub still_walks : WalksFrom s'.tree walk
-  still_walks = subst (λ (t : Rooted). WalksFrom t walk) (sym same) listed.walks
 
   found_here : (o : Option Range) → o ≡ found_from (map_by s'.tree) (greatest s'.tree.table.width) walk.next → o ≡ found_from (map_by here) (greatest here.table.width) walk.next
   found_here o found = found ∙ ap (λ (t : Rooted). found_from (map_by t) (greatest t.table.width) walk.next) same

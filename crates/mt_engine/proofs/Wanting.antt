@@ -1,5 +1,5 @@
 -- Which stores want rows.
-use Rattle.std.proofs.Common.{◌≡◌, ◌≢◌, ℕ, ◌+◌, ◌<◌, ◌≤◌, ◌==◌, ◌&&◌, ◌||◌, true, false, not, List, [], ◌∷◌, ◌++◌, Option, Some, None, nat_le, refl, sym, ap, ◌∙◌, subst, inl, inr, arith, ne_eqb, eq-eqb}
+use Rattle.std.proofs.Common.{◌≡◌, ◌≢◌, ℕ, ◌+◌, ◌<◌, ◌≤◌, ◌==◌, ◌&&◌, ◌||◌, true, false, not, List, [], ◌∷◌, ◌++◌, Option, Some, None, nat_le, refl, sym, ap, ◌∙◌, inl, inr, arith, ne_eqb, eq-eqb}
 use Rattle.std.specs.Prelude.{◌⊎◌, IsSome, if◌then◌else◌}
 use Rattle.std.specs.List.{AllByRecursion}
 use Rattle.std.specs.Option.{option_map}
@@ -11,7 +11,7 @@ use Rattle.mt_base.specs.declared.ranges.Range.{Range}
 use Rattle.mt_base.specs.declared.replies.Reply.{Reply}
 use Rattle.mt_base.specs.Call.{acted, is_invalid}
 use Rattle.mt_base.specs.Map.{IsMapFrom, holds, holding, overlaps, is_held, over}
-use Rattle.mt_base.specs.Nodes.{Wants, is_exactly, is_exact_store}
+use Rattle.mt_base.specs.Nodes.{Wants, is_exact_store}
 use Rattle.mt_base.proofs.ReadingAfterStore.{entry_inside}
 use Rattle.mt_layout.specs.declared.spans.Span.{Span}
 use Rattle.mt_base.proofs.Lists.{all_map}

@@ -123,7 +123,7 @@ fn answers_as_a_list_does(rt: HostRuntime) -> Result<(), Fail> {
         insert(2, 10, 9),
         insert(20, 25, 9),
         store(0, TOP, 4),
-        store(TOP, TOP, 6),
+        store(TOP, TOP, 3),
         store(7, 7, 0),
         erase(7),
         erase(8),
@@ -155,8 +155,8 @@ fn answers_as_a_list_does(rt: HostRuntime) -> Result<(), Fail> {
 fn walks_from_within(rt: HostRuntime) -> Result<(), Fail> {
     let mut engine = fresh(rt.alloc(), 8)?;
     expect_walk(&rt, &mut engine, 3, &[]);
-    engine.apply(&store(10, 19, 5));
-    engine.apply(&store(30, TOP, 6));
+    assert_eq!(&rt; engine.apply(&store(10, 19, 5)), Reply::Ok);
+    assert_eq!(&rt; engine.apply(&store(30, TOP, 7)), Reply::Ok);
     let ten = Range {
         first: 10,
         last: 19,
@@ -165,7 +165,7 @@ fn walks_from_within(rt: HostRuntime) -> Result<(), Fail> {
     let thirty = Range {
         first: 30,
         last: TOP,
-        entry: 6,
+        entry: 7,
     };
     expect_walk(&rt, &mut engine, 0, &[ten, thirty]);
     expect_walk(&rt, &mut engine, 12, &[ten, thirty]);

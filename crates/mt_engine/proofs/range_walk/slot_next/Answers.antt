@@ -1,4 +1,4 @@
-use Rattle.std.proofs.Common.{◌≡◌, ◌≢◌, Option, sym, subst}
+use Rattle.std.proofs.Common.{◌≢◌, Option, sym, subst}
 use Rattle.std.specs.Prelude.{IfSome}
 use Rattle.mt_path.specs.declared.handles.Handle.{Handle}
 use Rattle.mt_rows.specs.Sheet.{ReadsUpTo}

@@ -2,7 +2,7 @@ use Rattle.std.proofs.Common.{ap, ◌∙◌}
 use Rattle.mt_base.specs.Call.{answer}
 use Rattle.mt_rows.specs.Publish.{map_by}
 use Rattle.mt_engine.specs.Engine.{Parts}
-use Rattle.mt_engine.proofs.Moments.{tree_idle, idle_if_read}
+use Rattle.mt_engine.proofs.Moments.{idle_if_read}
 use Rattle.mt_engine.proofs.engine.Engine.ask.Goals as goal
 
 pub invariant_of-self : goal.invariant_of-self

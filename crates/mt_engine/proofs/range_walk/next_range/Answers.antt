@@ -1,1 +1,0 @@
-use Rattle.mt_engine.proofs.range_walk.next_range.Goals as goal
