@@ -16,15 +16,15 @@ use Rattle.mt_path.specs.Paths.{path_in}
 use Rattle.mt_path.proofs.Places.{at_within}
 use Rattle.mt_path.proofs.TreePaths.{row_of, child}
 use Rattle.mt_splice.specs.declared.writes.NewRow.{NewRow}
-use Rattle.mt_splice.specs.Seen.{Seen, passing}
-use Rattle.mt_splice.specs.Work.{Start, Work, rows_at, times_in, Holds}
-use Rattle.mt_splice.specs.Burying.{AreBuried, AreLevelsBuried}
-use Rattle.mt_splice.specs.Climbs.{begin_of, behind_of, Gathered}
-use Rattle.mt_splice.specs.Decisions.{item_words}
-use Rattle.mt_splice.specs.Progress.{Before, row_seen, new_rows_of}
-use Rattle.mt_splice.specs.Ends.{MayPublishEnd}
-use Rattle.mt_splice.specs.Levels.{MayBuryRows, AreRowsBuried, MayBuryLevel, IsLevelBuried}
-use Rattle.mt_splice.specs.Replacing.{IsAnswer, IsBurying, IsUnderWay, MayBuryAbove, AreAboveBuried, MayBuryLevels, AreLevelsDone, MayEndEmpty}
+use Rattle.mt_splice.specs.steps.Seen.{Seen, passing}
+use Rattle.mt_splice.specs.steps.Work.{Start, Work, rows_at, times_in, Holds}
+use Rattle.mt_splice.specs.steps.Burying.{AreBuried, AreLevelsBuried}
+use Rattle.mt_splice.specs.steps.Climbs.{begin_of, behind_of, Gathered}
+use Rattle.mt_splice.specs.steps.Decisions.{item_words}
+use Rattle.mt_splice.specs.steps.Progress.{Before, row_seen, new_rows_of}
+use Rattle.mt_splice.specs.steps.Ends.{MayPublishEnd}
+use Rattle.mt_splice.specs.steps.Levels.{MayBuryRows, AreRowsBuried, MayBuryLevel, IsLevelBuried}
+use Rattle.mt_splice.specs.steps.Replacing.{IsAnswer, IsBurying, IsUnderWay, MayBuryAbove, AreAboveBuried, MayBuryLevels, AreLevelsDone, MayEndEmpty}
 use Rattle.mt_splice.proofs.Moments.{holds_later}
 use Rattle.mt_splice.proofs.Rises.{step_here, at_here}
 use Rattle.mt_splice.proofs.Buried.{no_level_buried, one_more_level, gone_below, none_gone}

@@ -11,12 +11,12 @@ use Rattle.mt_rows.specs.Laws.{top_of, kind_at}
 use Rattle.mt_rows.specs.Sheet.{Rooted}
 use Rattle.mt_path.specs.declared.paths.PathStep.{PathStep}
 use Rattle.mt_path.specs.Paths.{step_at}
-use Rattle.mt_splice.specs.Work.{Start, Work, now, Holds}
-use Rattle.mt_splice.specs.Stretches.{spans_on}
-use Rattle.mt_splice.specs.Climbs.{begin_of, behind_of, Climbed}
-use Rattle.mt_splice.specs.Writes.{items_of_row}
-use Rattle.mt_splice.specs.TakingIn.{MayTakeIn}
-use Rattle.mt_splice.specs.Replacing.{MayGoUp}
+use Rattle.mt_splice.specs.steps.Work.{Start, Work, now, Holds}
+use Rattle.mt_splice.specs.steps.Stretches.{spans_on}
+use Rattle.mt_splice.specs.steps.Climbs.{begin_of, behind_of, Climbed}
+use Rattle.mt_splice.specs.steps.Writes.{items_of_row}
+use Rattle.mt_splice.specs.steps.TakingIn.{MayTakeIn}
+use Rattle.mt_splice.specs.steps.Replacing.{MayGoUp}
 use Rattle.mt_splice.proofs.Rises.{fills_ahead, fills_behind, level_left}
 use Rattle.mt_splice.proofs.Runs.{left_few, slot_used, few_gathered, two_gathered}
 use Rattle.mt_splice.proofs.TakenIn.{spans_behind}

@@ -22,14 +22,14 @@ use Rattle.mt_leaf.proofs.Stored.{ranges_edited, fills_edited}
 use Rattle.mt_path.specs.declared.paths.PathStep.{PathStep}
 use Rattle.mt_path.specs.Paths.{step_in, step_at}
 use Rattle.mt_path.proofs.TreePaths.{row_of, place}
-use Rattle.mt_splice.specs.Seen.{passing}
+use Rattle.mt_splice.specs.steps.Seen.{passing}
 use Rattle.mt_splice.specs.Kept.{MayBeReplaced}
 use Rattle.mt_splice.specs.Splice.{region_of}
-use Rattle.mt_splice.specs.Work.{Start, Work, KeepsWords, IsUsed, Holds}
-use Rattle.mt_splice.specs.Beginnings.{Begins}
-use Rattle.mt_splice.specs.Stretches.{IsStretch, ArePaths}
-use Rattle.mt_splice.specs.Runs.{IsLeafRun}
-use Rattle.mt_splice.specs.Climbs.{Gathered}
+use Rattle.mt_splice.specs.steps.Work.{Start, Work, KeepsWords, IsUsed, Holds}
+use Rattle.mt_splice.specs.steps.Beginnings.{Begins}
+use Rattle.mt_splice.specs.steps.Stretches.{IsStretch, ArePaths}
+use Rattle.mt_splice.specs.steps.Runs.{IsLeafRun}
+use Rattle.mt_splice.specs.steps.Climbs.{Gathered}
 use Rattle.mt_splice.proofs.Moments.{RowsKeep}
 use Rattle.mt_splice.proofs.EditedRegions.{all_expand, all_edited, Leaves, region_leaves}
 use Rattle.mt_splice.proofs.Rises.{step_here}

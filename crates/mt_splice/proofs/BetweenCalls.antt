@@ -33,7 +33,7 @@ use Rattle.mt_path.specs.Handles.{last_step}
 use Rattle.mt_splice.specs.Splice.{IsStoreBy, IsSpliced, HasParents, WasPublishedAt, MaySplice, MayReplace, MayClear, region_of}
 use Rattle.mt_splice.specs.Kept.{MayBeReplaced, IsKept, IsBookOf}
 use Rattle.mt_splice.specs.Between.{IsBetweenCalls}
-use Rattle.mt_splice.specs.Regions.{AreEnds}
+use Rattle.mt_splice.specs.steps.Regions.{AreEnds}
 
 -- ---- laws before and after
 

@@ -18,12 +18,12 @@ use Rattle.mt_path.proofs.Empty.{empty_together}
 use Rattle.mt_path.proofs.Places.{at_within}
 use Rattle.mt_path.proofs.TreePaths as paths
 use Rattle.mt_splice.specs.declared.writes.NewRow.{NewRow}
-use Rattle.mt_splice.specs.Work.{Start, rows_at, Holds}
+use Rattle.mt_splice.specs.steps.Work.{Start, rows_at, Holds}
 use Rattle.mt_splice.specs.Splice.{MayClear, IsSpliced}
-use Rattle.mt_splice.specs.Climbs.{begin_of, behind_of}
-use Rattle.mt_splice.specs.Entries.{before_of, start_of, IsBegunBy}
-use Rattle.mt_splice.specs.Progress.{Before}
-use Rattle.mt_splice.specs.Replacing.{MayEndEmpty}
+use Rattle.mt_splice.specs.steps.Climbs.{begin_of, behind_of}
+use Rattle.mt_splice.specs.steps.Entries.{before_of, start_of, IsBegunBy}
+use Rattle.mt_splice.specs.steps.Progress.{Before}
+use Rattle.mt_splice.specs.steps.Replacing.{MayEndEmpty}
 use Rattle.mt_splice.proofs.Beginnings.{holds_at_first}
 use Rattle.mt_splice.proofs.BetweenCalls.{lawful_tree, tree_read, reads_on}
 use Rattle.mt_splice.proofs.Moments.{reached_are_used}

@@ -16,8 +16,8 @@ use Rattle.mt_rows.specs.declared.rows.Life.{Life}
 use Rattle.mt_rows.specs.declared.rows.Life.TheVariants.{Draft, New}
 use Rattle.mt_rows.specs.Spans.{Table, base_of, column}
 use Rattle.mt_rows.specs.Sheet.{Sheet, Rooted, IsWhole, IsPlace, HasDied, life_of, drafted}
-use Rattle.mt_splice.specs.Work.{with_words}
-use Rattle.mt_splice.specs.Writes.{OnlyDrafts, IsItemPut, IsItemDrafted, used_columns, IsRestDrafted, no_parent, IsRowDrafted}
+use Rattle.mt_splice.specs.steps.Work.{with_words}
+use Rattle.mt_splice.specs.steps.Writes.{OnlyDrafts, IsItemPut, IsItemDrafted, used_columns, IsRestDrafted, no_parent, IsRowDrafted}
 
 -- ---- one word is written
 

@@ -26,9 +26,9 @@ use Rattle.mt_path.specs.Paths.{step_in, step_at, path_in, At}
 use Rattle.mt_path.proofs.TreePaths.{row_of, step, place, lawful, levels}
 use Rattle.mt_splice.specs.Splice.{region_of}
 use Rattle.mt_path.specs.Handles.{last_step, leaf_spans}
-use Rattle.mt_splice.specs.Work.{rows_at}
-use Rattle.mt_splice.specs.Stretches.{IsStretch}
-use Rattle.mt_splice.specs.Runs.{IsLeafRun}
+use Rattle.mt_splice.specs.steps.Work.{rows_at}
+use Rattle.mt_splice.specs.steps.Stretches.{IsStretch}
+use Rattle.mt_splice.specs.steps.Runs.{IsLeafRun}
 use Rattle.mt_splice.proofs.Splits.{split_more}
 use Rattle.mt_splice.proofs.PathRows.{rows_in_order, spans_of_step}
 use Rattle.mt_rows.proofs.FewSpans.{row_most}

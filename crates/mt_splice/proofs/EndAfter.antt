@@ -17,11 +17,11 @@ use Rattle.mt_rows.specs.Laws.{Tree}
 use Rattle.mt_rows.specs.Sheet.{Rooted, Sheet, life_of, is_buried, word_at}
 use Rattle.mt_rows.specs.Publish.{tree_as, is_reached, map_by, with_record, with_published, life_after, Published, IsPlaceToPublish}
 use Rattle.mt_rows.specs.Replacement.{root_of}
-use Rattle.mt_splice.specs.Work.{Start, Work, tree_with, KeepsWords}
+use Rattle.mt_splice.specs.steps.Work.{Start, Work, tree_with, KeepsWords}
 use Rattle.mt_splice.specs.Kept.{MayBeReplaced}
-use Rattle.mt_splice.specs.Replaced.{StandsAs, count_in}
-use Rattle.mt_splice.specs.Endings.{words_of}
-use Rattle.mt_splice.specs.Ends.{HoldsAs, OnlyParents}
+use Rattle.mt_splice.specs.steps.Replaced.{StandsAs, count_in}
+use Rattle.mt_splice.specs.steps.Endings.{words_of}
+use Rattle.mt_splice.specs.steps.Ends.{HoldsAs, OnlyParents}
 use Rattle.mt_splice.proofs.Drafts.{same_column}
 use Rattle.mt_splice.proofs.EndTrees.{map_is, reached_count, count_reached, unreached_count, count_unreached}
 use Rattle.mt_splice.proofs.EndPublish.{now_stands, now_count, now_map, Finish, published_rows, published_width, published, rows_same, width_same, stands_later, map_later, progress, place_is}

@@ -8,8 +8,8 @@ use Rattle.mt_free.proofs.Books.{book, take_leaves_book, retire_leaves_book}
 use Rattle.mt_free.proofs.StillOut.{out_after_retire}
 use Rattle.mt_rows.specs.Levels.{one_if, is_row_of}
 use Rattle.mt_rows.proofs.Reached.{IsOneOf}
-use Rattle.mt_splice.specs.Seen.{Seen, passing}
-use Rattle.mt_splice.specs.Progress.{row_seen, stamped}
+use Rattle.mt_splice.specs.steps.Seen.{Seen, passing}
+use Rattle.mt_splice.specs.steps.Progress.{row_seen, stamped}
 use Rattle.mt_splice.proofs.EndLists.{seen_some}
 
 pub taken_leave_book : (rows : ℕ) (free taken : List ℕ) (held : List Held) → IsBook (book rows (free ++ taken) held) → IsBook (book rows free held)

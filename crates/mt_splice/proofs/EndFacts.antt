@@ -24,13 +24,13 @@ use Rattle.mt_rows.specs.Laws as laws
 use Rattle.mt_rows.specs.Sheet.{Rooted, Sheet, life_of, is_buried, word_at}
 use Rattle.mt_rows.specs.Publish.{tree_as, IsTreeOf, LiveAreReached, NoneBuried, is_reached, IsReached, map_by, with_published, life_after, IsPlaceToPublish}
 use Rattle.mt_rows.proofs.Reached as reached
-use Rattle.mt_splice.specs.Seen.{passing}
-use Rattle.mt_splice.specs.Work.{Work, now}
-use Rattle.mt_splice.specs.Progress.{Before, is_taken, row_seen, stamped}
+use Rattle.mt_splice.specs.steps.Seen.{passing}
+use Rattle.mt_splice.specs.steps.Work.{Work, now}
+use Rattle.mt_splice.specs.steps.Progress.{Before, is_taken, row_seen, stamped}
 use Rattle.mt_splice.specs.Splice.{WasPublishedAt, IsBooked, HasParents, IsSpliced}
 use Rattle.mt_splice.specs.Kept.{IsSpare, IsBookOf}
-use Rattle.mt_splice.specs.Replaced.{StandsAs, count_in}
-use Rattle.mt_splice.specs.Ends.{IsChildSlot, IsEndPlace, IsTop}
+use Rattle.mt_splice.specs.steps.Replaced.{StandsAs, count_in}
+use Rattle.mt_splice.specs.steps.Ends.{IsChildSlot, IsEndPlace, IsTop}
 use Rattle.mt_splice.proofs.Drafts.{other_row, other_column}
 use Rattle.mt_splice.proofs.EndTrees.{is_tree, none_or_some}
 use Rattle.mt_splice.proofs.EndHoles.{name_some, at_on_level, child_on_level}

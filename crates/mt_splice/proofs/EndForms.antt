@@ -8,12 +8,12 @@ use Rattle.mt_rows.specs.Laws.{Tree, HasWords, kind_at}
 use Rattle.mt_rows.specs.Sheet.{Sheet}
 use Rattle.mt_rows.specs.Publish.{tree_as, with_published}
 use Rattle.mt_path.specs.declared.paths.PathStep.{PathStep}
-use Rattle.mt_splice.specs.Seen.{passing}
-use Rattle.mt_splice.specs.Work.{Start, Work, tree_with, now, times_in}
-use Rattle.mt_splice.specs.Progress.{Before, IsBefore, IsProgress}
-use Rattle.mt_splice.specs.Replaced.{IsReplaced}
-use Rattle.mt_splice.specs.Endings.{words_of, with_root, with_step, column_of, IsStepIn}
-use Rattle.mt_splice.specs.Ends.{IsEndPlace}
+use Rattle.mt_splice.specs.steps.Seen.{passing}
+use Rattle.mt_splice.specs.steps.Work.{Start, Work, tree_with, now, times_in}
+use Rattle.mt_splice.specs.steps.Progress.{Before, IsBefore, IsProgress}
+use Rattle.mt_splice.specs.steps.Replaced.{IsReplaced}
+use Rattle.mt_splice.specs.steps.Endings.{words_of, with_root, with_step, column_of, IsStepIn}
+use Rattle.mt_splice.specs.steps.Ends.{IsEndPlace}
 
 -- the tree by the words now is the sheet's
 pub now_is : {b : Before} {start : Start} {s : Sheet} {book : Book} {w : Work} → IsBefore b start → IsProgress b s book w → now start w ≡ tree_as b.kind s.tree

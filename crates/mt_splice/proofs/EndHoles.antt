@@ -16,8 +16,8 @@ use Rattle.mt_rows.specs.Replacement.{root_of}
 use Rattle.mt_rows.proofs.Heights.{level_next}
 use Rattle.mt_rows.proofs.SlotStore as store
 use Rattle.mt_rows.proofs.Reached as reached
-use Rattle.mt_splice.specs.Ends.{IsChildSlot}
-use Rattle.mt_splice.specs.Endings.{words_of}
+use Rattle.mt_splice.specs.steps.Ends.{IsChildSlot}
+use Rattle.mt_splice.specs.steps.Endings.{words_of}
 
 -- spans of the same row with the same ends hold the same
 pub same_place_spans : (t : Table) (x y : Span) → y.first ≡ x.first → y.last ≡ x.last → y.word ≡ x.word → spans_in t y ≡ spans_in t x

@@ -9,8 +9,8 @@ use Rattle.mt_layout.specs.Rows.{row_in}
 use Rattle.mt_free.specs.Book.{Held}
 use Rattle.mt_rows.specs.Levels.{is_row_of}
 use Rattle.mt_rows.proofs.Reached.{IsOneOf, tally_some, tally_place}
-use Rattle.mt_splice.specs.Seen.{Seen, passing}
-use Rattle.mt_splice.specs.Progress.{row_seen, stamped}
+use Rattle.mt_splice.specs.steps.Seen.{Seen, passing}
+use Rattle.mt_splice.specs.steps.Progress.{row_seen, stamped}
 
 -- ---- one of a list
 

@@ -6,8 +6,8 @@ use Rattle.mt_rows.specs.Levels.{tally, is_row_of}
 use Rattle.mt_rows.proofs.Lists.{tally-append}
 use Rattle.mt_rows.proofs.Reached.{IsOneOf, one_of_left, one_of_right, one_of_either}
 use Rattle.mt_splice.specs.declared.writes.NewRow.{NewRow}
-use Rattle.mt_splice.specs.Seen.{Seen, passing}
-use Rattle.mt_splice.specs.Progress.{row_seen, new_row_by, new_rows_of}
+use Rattle.mt_splice.specs.steps.Seen.{Seen, passing}
+use Rattle.mt_splice.specs.steps.Progress.{row_seen, new_row_by, new_rows_of}
 use Rattle.mt_splice.proofs.EndLevels.{get_once}
 
 abbrev pub new_row : Table → Seen → NewRow

@@ -26,14 +26,14 @@ use Rattle.mt_rows.proofs.Frames.{same_spans}
 use Rattle.mt_rows.proofs.Joins.{Shared, levels_shared}
 use Rattle.mt_rows.proofs.Reached as reached
 use Rattle.mt_splice.specs.declared.writes.NewRow.{NewRow}
-use Rattle.mt_splice.specs.Seen.{Seen, passing}
-use Rattle.mt_splice.specs.Work.{Work, now}
-use Rattle.mt_splice.specs.Writes.{child_word, child_row, AreChildren}
-use Rattle.mt_splice.specs.Progress.{Before, is_taken, row_seen}
+use Rattle.mt_splice.specs.steps.Seen.{Seen, passing}
+use Rattle.mt_splice.specs.steps.Work.{Work, now}
+use Rattle.mt_splice.specs.steps.Writes.{child_word, child_row, AreChildren}
+use Rattle.mt_splice.specs.steps.Progress.{Before, is_taken, row_seen}
 use Rattle.mt_splice.specs.Splice.{HasParents}
-use Rattle.mt_splice.specs.Replaced.{StandsAs, count_in}
-use Rattle.mt_splice.specs.Endings.{words_of}
-use Rattle.mt_splice.specs.Ends.{HoldsAs, IsEndPlace, IsTop, OnlyParents, MayTendRows, AreRowsTended, MayTendTop, MayTendTopAt, IsTopTendedAt}
+use Rattle.mt_splice.specs.steps.Replaced.{StandsAs, count_in}
+use Rattle.mt_splice.specs.steps.Endings.{words_of}
+use Rattle.mt_splice.specs.steps.Ends.{HoldsAs, IsEndPlace, IsTop, OnlyParents, MayTendRows, AreRowsTended, MayTendTop, MayTendTopAt, IsTopTendedAt}
 use Rattle.mt_splice.proofs.Drafts.{other_row}
 use Rattle.mt_splice.proofs.EndTending.{only_width, kept_column, only_more, top_only, top_kept}
 use Rattle.mt_splice.proofs.Moments.{old_shared, old_level}

@@ -28,12 +28,12 @@ use Rattle.mt_rows.specs.Publish.{tree_as, IsTold, LiveAreReached, is_reached, I
 use Rattle.mt_rows.proofs.Reached as reached
 use Rattle.mt_rows.proofs.Settled.{Implies}
 use Rattle.mt_splice.specs.declared.writes.NewRow.{NewRow}
-use Rattle.mt_splice.specs.Seen.{Seen, passing}
-use Rattle.mt_splice.specs.Work.{Start, Work, now, times_in}
-use Rattle.mt_splice.specs.Progress.{Before, IsProgress, is_taken, is_gone}
-use Rattle.mt_splice.specs.Replaced.{StandsAs, count_in, map_as}
-use Rattle.mt_splice.specs.Endings.{words_of}
-use Rattle.mt_splice.specs.Ends.{HoldsAs, IsChildSlot, IsEndPlace, IsTop, MayPublishEnd}
+use Rattle.mt_splice.specs.steps.Seen.{Seen, passing}
+use Rattle.mt_splice.specs.steps.Work.{Start, Work, now, times_in}
+use Rattle.mt_splice.specs.steps.Progress.{Before, IsProgress, is_taken, is_gone}
+use Rattle.mt_splice.specs.steps.Replaced.{StandsAs, count_in, map_as}
+use Rattle.mt_splice.specs.steps.Endings.{words_of}
+use Rattle.mt_splice.specs.steps.Ends.{HoldsAs, IsChildSlot, IsEndPlace, IsTop, MayPublishEnd}
 use Rattle.mt_splice.proofs.Moments.{old_stands, old_times, old_map}
 use Rattle.mt_splice.proofs.EndForms.{now_is, has_words}
 use Rattle.mt_splice.proofs.EndTrees.{is_tree, map_is, count_once, reached_count, count_reached, unreached_count, count_unreached, count_number, none_or_some, placed_count, stays}

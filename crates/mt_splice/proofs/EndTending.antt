@@ -19,9 +19,9 @@ use Rattle.mt_layout.proofs.RowSizes.{some_columns, slot_above, slot_within}
 use Rattle.mt_rows.specs.Spans.{column}
 use Rattle.mt_rows.specs.Sheet.{Rooted, Sheet, IsWhole, IsPlace, MayTend, life_of, is_buried, tended}
 use Rattle.mt_splice.specs.declared.writes.NewRow.{NewRow}
-use Rattle.mt_splice.specs.Work.{with_words}
-use Rattle.mt_splice.specs.Writes.{child_word, child_row, IsChild, AreChildren, AreTended}
-use Rattle.mt_splice.specs.Ends.{OnlyParents, MayTendRows, AreRowsTended, MayTendTop, MayTendTopAt, IsTopTended, IsTopTendedAt}
+use Rattle.mt_splice.specs.steps.Work.{with_words}
+use Rattle.mt_splice.specs.steps.Writes.{child_word, child_row, IsChild, AreChildren, AreTended}
+use Rattle.mt_splice.specs.steps.Ends.{OnlyParents, MayTendRows, AreRowsTended, MayTendTop, MayTendTopAt, IsTopTended, IsTopTendedAt}
 use Rattle.mt_splice.proofs.Drafts.{other_row, other_column, same_column}
 use Rattle.mt_splice.proofs.Tending.{own_parent}
 

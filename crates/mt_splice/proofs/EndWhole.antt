@@ -18,13 +18,13 @@ use Rattle.mt_rows.specs.Sheet.{Sheet, life_of, word_at}
 use Rattle.mt_rows.specs.Publish.{tree_as, is_reached, MayPublish, Published}
 use Rattle.mt_rows.proofs.Reached as reached
 use Rattle.mt_splice.specs.declared.writes.NewRow.{NewRow}
-use Rattle.mt_splice.specs.Seen.{passing}
-use Rattle.mt_splice.specs.Work.{Start, now}
-use Rattle.mt_splice.specs.Writes.{child_row}
-use Rattle.mt_splice.specs.Progress.{Before, row_seen}
+use Rattle.mt_splice.specs.steps.Seen.{passing}
+use Rattle.mt_splice.specs.steps.Work.{Start, now}
+use Rattle.mt_splice.specs.steps.Writes.{child_row}
+use Rattle.mt_splice.specs.steps.Progress.{Before, row_seen}
 use Rattle.mt_splice.specs.Splice.{HasParents, IsSpliced}
-use Rattle.mt_splice.specs.Replaced.{StandsAs, count_in}
-use Rattle.mt_splice.specs.Ends.{IsEndPlace, MayPublishEnd, MayTendRows, AreRowsTended, MayTendTopAt, IsTopTendedAt}
+use Rattle.mt_splice.specs.steps.Replaced.{StandsAs, count_in}
+use Rattle.mt_splice.specs.steps.Ends.{IsEndPlace, MayPublishEnd, MayTendRows, AreRowsTended, MayTendTopAt, IsTopTendedAt}
 use Rattle.mt_splice.proofs.EndHoles.{at_on_level}
 use Rattle.mt_splice.proofs.EndLists.{seen_some}
 use Rattle.mt_splice.proofs.EndMade.{made_seen}

@@ -10,7 +10,7 @@ use Rattle.mt_layout.specs.Columns.{items_from, pivot_column}
 use Rattle.mt_layout.proofs.Reading.{few_items}
 use Rattle.mt_rows.specs.Spans.{Table, base_of}
 use Rattle.mt_layout.specs.Sizes.{slots_of, gaps_of}
-use Rattle.mt_splice.specs.Writes.{items_of_row}
+use Rattle.mt_splice.specs.steps.Writes.{items_of_row}
 
 module _ (slots gaps : ℕ) (w : List ℕ) (base max : ℕ) where
   pub drop_from : (k left i : ℕ) → k < length (items_from slots gaps w base max left i) → drop k (items_from slots gaps w base max left i) ≡ items_from slots gaps w base max (left - k) (i + k)

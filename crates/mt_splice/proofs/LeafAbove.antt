@@ -10,7 +10,7 @@ use Rattle.mt_leaf.specs.Places.{slot_above, with_joined}
 use Rattle.mt_path.specs.declared.paths.PathStep.{PathStep}
 use Rattle.mt_rows.specs.Spans.{Table, base_of, column}
 use Rattle.mt_rows.specs.Sheet.{Rooted, Sheet, OnlyReads}
-use Rattle.mt_splice.specs.Regions.{IsLeafStep, leaf_items}
+use Rattle.mt_splice.specs.steps.Regions.{IsLeafStep, leaf_items}
 use Rattle.mt_splice.proofs.Gathering.{items_behind}
 use Rattle.mt_splice.proofs.LeafItems.{ending_above, above_slot, one_above}
 use Rattle.mt_splice.proofs.LeafRegions.{leaf_slot, leaf_used, leaf_rise}

@@ -35,7 +35,7 @@ use Rattle.mt_path.proofs.Places.{at_once}
 use Rattle.mt_path.proofs.Steps.{path_of_none}
 use Rattle.mt_path.proofs.TreePaths.{row_of, rows_at, step_of, step, place, lawful, levels, slot_used, rows_fill, right_begins}
 use Rattle.mt_splice.specs.Splice.{region_of}
-use Rattle.mt_splice.specs.Regions.{AreEnds, IsLeafStep, leaf_items}
+use Rattle.mt_splice.specs.steps.Regions.{AreEnds, IsLeafStep, leaf_items}
 use Rattle.mt_splice.proofs.Gathering.{drop_from}
 use Rattle.mt_splice.proofs.LeafItems.{leaf_gaps, spans-prefix, first_of-take, first_reaching, length-items_below, apart_below, whole_below, part_below, item_in}
 use Rattle.mt_splice.proofs.PathRows.{rows_in_order, spans_of_step}

@@ -17,13 +17,13 @@ use Rattle.mt_rows.proofs.Reached.{times_reached}
 use Rattle.mt_path.specs.declared.paths.PathStep.{PathStep}
 use Rattle.mt_path.specs.Paths.{step_in, step_at, path_in}
 use Rattle.mt_path.proofs.TreePaths.{row_of, inside_agree, place, step, next_row, levels}
-use Rattle.mt_splice.specs.Seen.{Seen}
-use Rattle.mt_splice.specs.Work.{Start, Work, times_in, Holds}
-use Rattle.mt_splice.specs.Burying.{AreBuried}
-use Rattle.mt_splice.specs.Climbs.{begin_of, behind_of}
-use Rattle.mt_splice.specs.Endings.{words_of}
-use Rattle.mt_splice.specs.Progress.{Before, IsProgress, row_seen, is_gone}
-use Rattle.mt_splice.specs.Levels.{MayBuryRows, MayBeBuried, MayBuryLevel, IsLevelBuried, IsRowBehind}
+use Rattle.mt_splice.specs.steps.Seen.{Seen}
+use Rattle.mt_splice.specs.steps.Work.{Start, Work, times_in, Holds}
+use Rattle.mt_splice.specs.steps.Burying.{AreBuried}
+use Rattle.mt_splice.specs.steps.Climbs.{begin_of, behind_of}
+use Rattle.mt_splice.specs.steps.Endings.{words_of}
+use Rattle.mt_splice.specs.steps.Progress.{Before, IsProgress, row_seen, is_gone}
+use Rattle.mt_splice.specs.steps.Levels.{MayBuryRows, MayBeBuried, MayBuryLevel, IsLevelBuried, IsRowBehind}
 use Rattle.mt_splice.proofs.Moments.{holds_later}
 use Rattle.mt_splice.proofs.Buried.{none_buried, one_more_buried, not_buried_yet, path_row_is_reached}
 use Rattle.mt_splice.proofs.Steps.{width_now, with_gone, may_bury, is_out, in_order, progress_gone, keeps_gone, progress_reads}

@@ -8,10 +8,10 @@ use Rattle.mt_rows.specs.Spans.{Table}
 use Rattle.mt_rows.specs.Sheet.{Sheet}
 use Rattle.mt_path.specs.declared.paths.PathStep.{PathStep}
 use Rattle.mt_splice.specs.declared.writes.NewRow.{NewRow}
-use Rattle.mt_splice.specs.Seen.{Seen}
-use Rattle.mt_splice.specs.Work.{Start, Work}
-use Rattle.mt_splice.specs.Progress.{Before, new_row_by, new_rows_of}
-use Rattle.mt_splice.specs.Replacing.{IsUnderWay, MayReplaceLevelRows}
+use Rattle.mt_splice.specs.steps.Seen.{Seen}
+use Rattle.mt_splice.specs.steps.Work.{Start, Work}
+use Rattle.mt_splice.specs.steps.Progress.{Before, new_row_by, new_rows_of}
+use Rattle.mt_splice.specs.steps.Replacing.{IsUnderWay, MayReplaceLevelRows}
 
 notes_by : (h : ℕ) (t : Table) (s : Seen) → length (new_row_by h t s) ≤ 1
 notes_by zero t s = omega arith

@@ -29,16 +29,16 @@ use Rattle.mt_path.specs.declared.paths.PathStep.{PathStep}
 use Rattle.mt_path.specs.Paths.{step_at}
 use Rattle.mt_path.proofs.TreePaths as paths
 use Rattle.mt_splice.specs.declared.writes.NewRow.{NewRow}
-use Rattle.mt_splice.specs.Seen.{Seen, passing}
-use Rattle.mt_splice.specs.Work.{Start, Work, now, Holds}
-use Rattle.mt_splice.specs.Climbs.{begin_of, behind_of, Climbed}
-use Rattle.mt_splice.specs.Replaced.{IsReplaced}
-use Rattle.mt_splice.specs.Runs.{span_to}
-use Rattle.mt_splice.specs.Progress.{Before, IsBefore, IsProgress}
-use Rattle.mt_splice.specs.Levels.{MayWriteRow, IsOneWritten, MayAddRow, IsRowAdded}
-use Rattle.mt_splice.specs.Endings.{column_of}
-use Rattle.mt_splice.specs.Ends.{IsEndPlace, MayPublishEnd}
-use Rattle.mt_splice.specs.Replacing.{IsAnswer, IsBurying, AreRowsReplaced, MayReplaceLevelRows, AreLevelRowsReplaced, MayBuryAbove, AreAboveBuried, MayBuryLevels, AreLevelsDone, MayEnd, MayEndAtRoot, MayEndAbove, MayEndInSlot}
+use Rattle.mt_splice.specs.steps.Seen.{Seen, passing}
+use Rattle.mt_splice.specs.steps.Work.{Start, Work, now, Holds}
+use Rattle.mt_splice.specs.steps.Climbs.{begin_of, behind_of, Climbed}
+use Rattle.mt_splice.specs.steps.Replaced.{IsReplaced}
+use Rattle.mt_splice.specs.steps.Runs.{span_to}
+use Rattle.mt_splice.specs.steps.Progress.{Before, IsBefore, IsProgress}
+use Rattle.mt_splice.specs.steps.Levels.{MayWriteRow, IsOneWritten, MayAddRow, IsRowAdded}
+use Rattle.mt_splice.specs.steps.Endings.{column_of}
+use Rattle.mt_splice.specs.steps.Ends.{IsEndPlace, MayPublishEnd}
+use Rattle.mt_splice.specs.steps.Replacing.{IsAnswer, IsBurying, AreRowsReplaced, MayReplaceLevelRows, AreLevelRowsReplaced, MayBuryAbove, AreAboveBuried, MayBuryLevels, AreLevelsDone, MayEnd, MayEndAtRoot, MayEndAbove, MayEndInSlot}
 use Rattle.mt_splice.proofs.AboveNothing.{burying}
 use Rattle.mt_splice.proofs.EndForms as forms
 use Rattle.mt_splice.proofs.LevelDone.{room_to_note}

@@ -9,12 +9,12 @@ use Rattle.mt_rows.specs.Levels.{tally}
 use Rattle.mt_rows.specs.Sheet.{Sheet}
 use Rattle.mt_path.specs.declared.paths.PathStep.{PathStep}
 use Rattle.mt_splice.specs.declared.writes.NewRow.{NewRow}
-use Rattle.mt_splice.specs.Seen.{Seen, passing}
-use Rattle.mt_splice.specs.Work.{Start, Work, rows_at, times_in}
-use Rattle.mt_splice.specs.Climbs.{begin_of, behind_of}
-use Rattle.mt_splice.specs.Levels.{MayWriteRows, AreRowsWritten, MayAddRows, AreRowsAdded, MayBuryRows, AreRowsBuried, MayBuryLevel, IsLevelBuried}
-use Rattle.mt_splice.specs.Progress.{Before, IsProgress, row_seen, new_rows_of}
-use Rattle.mt_splice.specs.Replacing.{MayReplaceRows, AreRowsReplaced, MayReplaceLevelRows, AreLevelRowsReplaced}
+use Rattle.mt_splice.specs.steps.Seen.{Seen, passing}
+use Rattle.mt_splice.specs.steps.Work.{Start, Work, rows_at, times_in}
+use Rattle.mt_splice.specs.steps.Climbs.{begin_of, behind_of}
+use Rattle.mt_splice.specs.steps.Levels.{MayWriteRows, AreRowsWritten, MayAddRows, AreRowsAdded, MayBuryRows, AreRowsBuried, MayBuryLevel, IsLevelBuried}
+use Rattle.mt_splice.specs.steps.Progress.{Before, IsProgress, row_seen, new_rows_of}
+use Rattle.mt_splice.specs.steps.Replacing.{MayReplaceRows, AreRowsReplaced, MayReplaceLevelRows, AreLevelRowsReplaced}
 use Rattle.mt_splice.proofs.Moments.{holds_later}
 use Rattle.mt_splice.proofs.Written.{holds_written, level_replaced}
 use Rattle.mt_splice.proofs.Buried.{gathered_others}

@@ -20,15 +20,15 @@ use Rattle.mt_path.specs.declared.paths.PathStep.{PathStep}
 use Rattle.mt_path.specs.Paths.{step_at}
 use Rattle.mt_path.proofs.TreePaths as paths
 use Rattle.mt_splice.specs.declared.writes.NewRow.{NewRow}
-use Rattle.mt_splice.specs.Work.{Start, Work}
-use Rattle.mt_splice.specs.Climbs.{begin_of, behind_of, MayBeIn, Gathered, Climbed}
-use Rattle.mt_splice.specs.Runs.{most_items, MayBeCut}
-use Rattle.mt_splice.specs.Progress.{Before, IsBefore, IsProgress, new_rows_of}
-use Rattle.mt_splice.specs.Endings.{words_of}
-use Rattle.mt_splice.specs.TakingIn.{IsNow, MayTakeIn, IsTakenIn}
-use Rattle.mt_splice.specs.Decisions.{item_words, StandForAll, IsNothing, EndsHere}
-use Rattle.mt_splice.specs.Levels.{IsCutOf}
-use Rattle.mt_splice.specs.Replacing.{IsUnderWay, MayLookBeside, IsTakenBeside, MayReplaceRows, AreRowsReplaced, MayReplaceLevelRows, AreLevelRowsReplaced, MayGoUp, MayGather, IsGathered, MayReplaceLevel, MayEndEmpty, MayEnd, MayEndAtRoot, MayEndAbove, MayEndInSlot}
+use Rattle.mt_splice.specs.steps.Work.{Start, Work}
+use Rattle.mt_splice.specs.steps.Climbs.{begin_of, behind_of, MayBeIn, Gathered, Climbed}
+use Rattle.mt_splice.specs.steps.Runs.{most_items, MayBeCut}
+use Rattle.mt_splice.specs.steps.Progress.{Before, IsBefore, IsProgress, new_rows_of}
+use Rattle.mt_splice.specs.steps.Endings.{words_of}
+use Rattle.mt_splice.specs.steps.TakingIn.{IsNow, MayTakeIn, IsTakenIn}
+use Rattle.mt_splice.specs.steps.Decisions.{item_words, StandForAll, IsNothing, EndsHere}
+use Rattle.mt_splice.specs.steps.Levels.{IsCutOf}
+use Rattle.mt_splice.specs.steps.Replacing.{IsUnderWay, MayLookBeside, IsTakenBeside, MayReplaceRows, AreRowsReplaced, MayReplaceLevelRows, AreLevelRowsReplaced, MayGoUp, MayGather, IsGathered, MayReplaceLevel, MayEndEmpty, MayEnd, MayEndAtRoot, MayEndAbove, MayEndInSlot}
 use Rattle.mt_splice.proofs.AboveNothing.{ends_with_hole}
 use Rattle.mt_splice.proofs.BetweenCalls.{tree_read}
 use Rattle.mt_splice.proofs.EndForms.{now_is}

@@ -12,9 +12,9 @@ use Rattle.mt_path.specs.declared.paths.PathStep.{PathStep}
 use Rattle.mt_path.specs.Paths.{step_at, path_in}
 use Rattle.mt_path.proofs.TreePaths.{row_of, levels, step, place, inside_agree}
 use Rattle.mt_path.proofs.Ways.{some_root, some_tree}
-use Rattle.mt_splice.specs.Work.{Start, Work, Holds}
-use Rattle.mt_splice.specs.Levels.{IsRowBehind}
-use Rattle.mt_splice.specs.Progress.{Before, IsBefore, IsProgress}
+use Rattle.mt_splice.specs.steps.Work.{Start, Work, Holds}
+use Rattle.mt_splice.specs.steps.Levels.{IsRowBehind}
+use Rattle.mt_splice.specs.steps.Progress.{Before, IsBefore, IsProgress}
 use Rattle.mt_splice.proofs.EndForms.{now_is}
 use Rattle.mt_splice.proofs.Moments.{old_stands}
 use Rattle.mt_splice.proofs.PathsNow.{path_now}

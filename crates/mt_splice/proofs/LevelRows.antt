@@ -24,13 +24,13 @@ use Rattle.mt_rows.specs.Sheet.{Rooted, Sheet}
 use Rattle.mt_rows.specs.Publish.{is_reached}
 use Rattle.mt_rows.proofs.Frames.{same_spans}
 use Rattle.mt_splice.specs.declared.writes.NewRow.{NewRow}
-use Rattle.mt_splice.specs.Seen.{Seen}
-use Rattle.mt_splice.specs.Work.{Start, Work, now, Keeps}
-use Rattle.mt_splice.specs.Writes.{IsRowWritten, no_parent}
-use Rattle.mt_splice.specs.Progress.{Before, IsBefore, IsProgress, row_seen, is_taken, new_row_by, new_rows_of}
-use Rattle.mt_splice.specs.Climbs.{AreWritten, MayBeIn}
-use Rattle.mt_splice.specs.Runs.{MayBeLeaves, span_to}
-use Rattle.mt_splice.specs.Levels.{MayWriteRow, IsOneWritten, IsRowAdded, noted}
+use Rattle.mt_splice.specs.steps.Seen.{Seen}
+use Rattle.mt_splice.specs.steps.Work.{Start, Work, now, Keeps}
+use Rattle.mt_splice.specs.steps.Writes.{IsRowWritten, no_parent}
+use Rattle.mt_splice.specs.steps.Progress.{Before, IsBefore, IsProgress, row_seen, is_taken, new_row_by, new_rows_of}
+use Rattle.mt_splice.specs.steps.Climbs.{AreWritten, MayBeIn}
+use Rattle.mt_splice.specs.steps.Runs.{MayBeLeaves, span_to}
+use Rattle.mt_splice.specs.steps.Levels.{MayWriteRow, IsOneWritten, IsRowAdded, noted}
 use Rattle.mt_splice.proofs.LevelRuns.{IsRun, some_items}
 use Rattle.mt_splice.proofs.WrittenRows.{IsNewRow, new_named, new_spans, new_unused}
 use Rattle.mt_splice.proofs.StepSeen.{was_seen, seen_here, seen_more}

@@ -16,10 +16,10 @@ use Rattle.mt_rows.specs.Laws.{Tree, IsRow, kind_at}
 use Rattle.mt_rows.specs.Sheet.{Rooted, Sheet}
 use Rattle.mt_rows.proofs.Lists.{tally-append, expand-append}
 use Rattle.mt_splice.specs.declared.writes.NewRow.{NewRow}
-use Rattle.mt_splice.specs.Work.{Start, Work, now, IsUsed}
-use Rattle.mt_splice.specs.Climbs.{AreWritten}
-use Rattle.mt_splice.specs.Progress.{Before, IsBefore, IsProgress, new_rows_of}
-use Rattle.mt_splice.specs.Levels.{IsCutOf, MayWriteRow, IsOneWritten, MayAddRow, IsRowAdded, MayWriteRows, MayAddRows, AreRowsAdded}
+use Rattle.mt_splice.specs.steps.Work.{Start, Work, now, IsUsed}
+use Rattle.mt_splice.specs.steps.Climbs.{AreWritten}
+use Rattle.mt_splice.specs.steps.Progress.{Before, IsBefore, IsProgress, new_rows_of}
+use Rattle.mt_splice.specs.steps.Levels.{IsCutOf, MayWriteRow, IsOneWritten, MayAddRow, IsRowAdded, MayWriteRows, MayAddRows, AreRowsAdded}
 use Rattle.mt_splice.proofs.Moments.{keeps_none, keeps_more}
 use Rattle.mt_splice.proofs.Written.{still_hold, still_lawful, still_in_use}
 use Rattle.mt_splice.proofs.StepSeen.{not_both}

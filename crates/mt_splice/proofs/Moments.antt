@@ -19,10 +19,10 @@ use Rattle.mt_rows.proofs.Depth.{ranges_by_depth}
 use Rattle.mt_rows.specs.Trees.{map_in}
 use Rattle.mt_base.specs.Width.{deepest}
 use Rattle.std.specs.Prelude.{nat_lt}
-use Rattle.mt_splice.specs.Seen.{Seen, passing}
-use Rattle.mt_splice.specs.Work.{Start, Work, table_with, tree_with, now, rows_at, times_in, IsUsed, KeepsWords, Keeps, Holds}
-use Rattle.mt_splice.specs.Replaced.{IsHalfReplaced}
-use Rattle.mt_splice.specs.Endings.{words_of}
+use Rattle.mt_splice.specs.steps.Seen.{Seen, passing}
+use Rattle.mt_splice.specs.steps.Work.{Start, Work, table_with, tree_with, now, rows_at, times_in, IsUsed, KeepsWords, Keeps, Holds}
+use Rattle.mt_splice.specs.steps.Replaced.{IsHalfReplaced}
+use Rattle.mt_splice.specs.steps.Endings.{words_of}
 
 -- ---- words that stay
 

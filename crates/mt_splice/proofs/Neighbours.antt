@@ -17,9 +17,9 @@ use Rattle.mt_leaf.proofs.Joined.{ranges_joined, fills_joined, apart_joined}
 use Rattle.mt_path.specs.declared.paths.PathStep.{PathStep}
 use Rattle.mt_path.specs.Paths.{step_in, step_at, path_in}
 use Rattle.mt_path.proofs.TreePaths.{row_of, place, next_row, row_before}
-use Rattle.mt_splice.specs.Work.{Start, Work, now}
-use Rattle.mt_splice.specs.Stretches.{ArePaths, spans_on}
-use Rattle.mt_splice.specs.Climbs.{begin_of, behind_of, MayBeIn, beside, MayStandIn, Gathered}
+use Rattle.mt_splice.specs.steps.Work.{Start, Work, now}
+use Rattle.mt_splice.specs.steps.Stretches.{ArePaths, spans_on}
+use Rattle.mt_splice.specs.steps.Climbs.{begin_of, behind_of, MayBeIn, beside, MayStandIn, Gathered}
 use Rattle.mt_splice.proofs.EditedRegions.{all_joined}
 use Rattle.mt_splice.proofs.Rises.{step_here, row_is_lawful, spans_here}
 

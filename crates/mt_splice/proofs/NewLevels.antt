@@ -12,10 +12,10 @@ use Rattle.mt_rows.proofs.Lists.{tally-append, expand-append}
 use Rattle.mt_rows.proofs.Joins.{expand_shared}
 use Rattle.mt_rows.proofs.Frames.{same_spans}
 use Rattle.mt_rows.proofs.Heights.{level_next, level_rows}
-use Rattle.mt_splice.specs.Seen.{Seen, passing, Adds}
-use Rattle.mt_splice.specs.Work.{Start, Work, now, rows_at, Holds}
-use Rattle.mt_splice.specs.Replaced.{IsHalfReplaced}
-use Rattle.mt_splice.specs.Stretches.{IsStretch}
+use Rattle.mt_splice.specs.steps.Seen.{Seen, passing, Adds}
+use Rattle.mt_splice.specs.steps.Work.{Start, Work, now, rows_at, Holds}
+use Rattle.mt_splice.specs.steps.Replaced.{IsHalfReplaced}
+use Rattle.mt_splice.specs.steps.Stretches.{IsStretch}
 use Rattle.mt_splice.proofs.Moments.{RowsKeep, row_stays}
 
 -- The rows of a stretch are to be replaced by new ones, which hold the spans of `run`.

@@ -12,7 +12,7 @@ use Rattle.mt_path.specs.declared.paths.PathStep.{PathStep}
 use Rattle.mt_path.specs.Paths.{slot_for, span_at, step_in, below, path_of, path_in}
 use Rattle.mt_path.proofs.Steps.{Leads, is_inner, path_of_leaf, path_of_inner, child_at, child_leads, row_here}
 use Rattle.mt_path.proofs.TreePaths.{root_leads, top_row}
-use Rattle.mt_splice.specs.Work.{Start, Work, now, Holds}
+use Rattle.mt_splice.specs.steps.Work.{Start, Work, now, Holds}
 use Rattle.mt_splice.proofs.Moments.{old_shared}
 
 module _ (t : Tree) (t' : Table) where

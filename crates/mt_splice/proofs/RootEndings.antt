@@ -13,12 +13,12 @@ use Rattle.mt_rows.proofs.RowLaws.{row_keeps}
 use Rattle.mt_rows.proofs.NineLevels.{nine_levels}
 use Rattle.mt_path.specs.declared.paths.PathStep.{PathStep}
 use Rattle.mt_path.specs.Paths.{path_in, row_on}
-use Rattle.mt_splice.specs.Seen.{passing}
-use Rattle.mt_splice.specs.Work.{Start, Work, now, rows_at, times_in, IsUsed, IsTaken, Holds}
-use Rattle.mt_splice.specs.Replaced.{IsHalfReplaced, IsReplaced}
-use Rattle.mt_splice.specs.Burying.{AreBuried, AreLevelsBuried}
-use Rattle.mt_splice.specs.Climbs.{begin_of, behind_of, Gathered, AreWritten, Climbed}
-use Rattle.mt_splice.specs.Endings.{with_root}
+use Rattle.mt_splice.specs.steps.Seen.{passing}
+use Rattle.mt_splice.specs.steps.Work.{Start, Work, now, rows_at, times_in, IsUsed, IsTaken, Holds}
+use Rattle.mt_splice.specs.steps.Replaced.{IsHalfReplaced, IsReplaced}
+use Rattle.mt_splice.specs.steps.Burying.{AreBuried, AreLevelsBuried}
+use Rattle.mt_splice.specs.steps.Climbs.{begin_of, behind_of, Gathered, AreWritten, Climbed}
+use Rattle.mt_splice.specs.steps.Endings.{with_root}
 use Rattle.mt_splice.proofs.Splits.{fills_none}
 use Rattle.mt_splice.proofs.Moments.{still_half}
 use Rattle.mt_splice.proofs.Written.{are_taken}

@@ -28,12 +28,12 @@ use Rattle.mt_path.specs.declared.paths.PathStep.{PathStep}
 use Rattle.mt_path.specs.Paths.{slot_for, step_in, step_at, At}
 use Rattle.mt_path.proofs.Places.{at_get}
 use Rattle.mt_path.proofs.TreePaths.{row_of, child, rows_fill, same_row}
-use Rattle.mt_splice.specs.Seen.{passing}
-use Rattle.mt_splice.specs.Work.{Start, Work, now, rows_at, Holds}
-use Rattle.mt_splice.specs.Replaced.{IsHalfReplaced, IsReplaced}
-use Rattle.mt_splice.specs.Stretches.{IsStretch}
-use Rattle.mt_splice.specs.Climbs.{begin_of, behind_of, Climbed}
-use Rattle.mt_splice.specs.Endings.{words_of, with_step, IsStepIn, IsPublished}
+use Rattle.mt_splice.specs.steps.Seen.{passing}
+use Rattle.mt_splice.specs.steps.Work.{Start, Work, now, rows_at, Holds}
+use Rattle.mt_splice.specs.steps.Replaced.{IsHalfReplaced, IsReplaced}
+use Rattle.mt_splice.specs.steps.Stretches.{IsStretch}
+use Rattle.mt_splice.specs.steps.Climbs.{begin_of, behind_of, Climbed}
+use Rattle.mt_splice.specs.steps.Endings.{words_of, with_step, IsStepIn, IsPublished}
 use Rattle.mt_splice.proofs.Splits.{split_same}
 use Rattle.mt_splice.proofs.Moments.{old_shared, old_stands, old_times, old_level}
 use Rattle.mt_splice.proofs.PathRows.{before_it, behind_it, lower_parts, lower_before, front_below, back_below}

@@ -34,21 +34,21 @@ use Rattle.mt_path.specs.Paths.{path_in, step_at}
 use Rattle.mt_path.proofs.Steps.{path_of_none}
 use Rattle.mt_path.proofs.TreePaths as paths
 use Rattle.mt_splice.specs.declared.writes.NewRow.{NewRow}
-use Rattle.mt_splice.specs.Seen.{Seen, passing}
-use Rattle.mt_splice.specs.Work.{Start, Work, now}
+use Rattle.mt_splice.specs.steps.Seen.{Seen, passing}
+use Rattle.mt_splice.specs.steps.Work.{Start, Work, now}
 use Rattle.mt_splice.specs.Kept.{MayBeReplaced, IsKept, IsUnpublished}
 use Rattle.mt_splice.specs.Splice.{MaySplice, region_of}
-use Rattle.mt_splice.specs.Entries.{before_of, start_of, IsBegunBy, IsFirst}
-use Rattle.mt_splice.specs.Beginnings.{Begins}
-use Rattle.mt_splice.specs.Climbs.{Gathered}
-use Rattle.mt_splice.specs.Replaced.{IsReplaced}
-use Rattle.mt_splice.specs.Runs.{IsLeafRun, MayBeCut}
-use Rattle.mt_splice.specs.Endings.{with_root}
-use Rattle.mt_splice.specs.Ends.{MayPublishEnd}
-use Rattle.mt_splice.specs.Progress.{Before, IsCase, IsProgress, row_seen}
-use Rattle.mt_splice.specs.Levels.{MayWriteRow, IsOneWritten, MayAddRow, IsRowAdded}
-use Rattle.mt_splice.specs.TakingIn.{MayTakeIn}
-use Rattle.mt_splice.specs.Replacing.{IsUnderWay, MayReplaceLevel}
+use Rattle.mt_splice.specs.steps.Entries.{before_of, start_of, IsBegunBy, IsFirst}
+use Rattle.mt_splice.specs.steps.Beginnings.{Begins}
+use Rattle.mt_splice.specs.steps.Climbs.{Gathered}
+use Rattle.mt_splice.specs.steps.Replaced.{IsReplaced}
+use Rattle.mt_splice.specs.steps.Runs.{IsLeafRun, MayBeCut}
+use Rattle.mt_splice.specs.steps.Endings.{with_root}
+use Rattle.mt_splice.specs.steps.Ends.{MayPublishEnd}
+use Rattle.mt_splice.specs.steps.Progress.{Before, IsCase, IsProgress, row_seen}
+use Rattle.mt_splice.specs.steps.Levels.{MayWriteRow, IsOneWritten, MayAddRow, IsRowAdded}
+use Rattle.mt_splice.specs.steps.TakingIn.{MayTakeIn}
+use Rattle.mt_splice.specs.steps.Replacing.{IsUnderWay, MayReplaceLevel}
 use Rattle.mt_splice.proofs.Beginnings.{holds_first, leaves_gathered, leaves_run}
 use Rattle.mt_splice.proofs.EndForms.{ends_at_root}
 use Rattle.mt_splice.proofs.EndTrees.{map_is}

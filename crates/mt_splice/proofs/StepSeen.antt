@@ -4,8 +4,8 @@ use Rattle.std.specs.Prelude.{nat_lt, Contains}
 use Rattle.std.proofs.lemmas.Bool.{cases_Bool, eqb-true, eqb-false, ne_eqb, ltb-true, ltb-false, le-ltb}
 use Rattle.mt_rows.specs.Levels.{one_if, is_row_of}
 use Rattle.mt_rows.proofs.Lists.{tally-append}
-use Rattle.mt_splice.specs.Seen.{Seen, passing}
-use Rattle.mt_splice.specs.Progress.{row_seen}
+use Rattle.mt_splice.specs.steps.Seen.{Seen, passing}
+use Rattle.mt_splice.specs.steps.Progress.{row_seen}
 
 -- a row of this number was seen
 abbrev pub was_seen : List Seen → ℕ → Bool

@@ -20,11 +20,11 @@ use Rattle.mt_rows.specs.Spans.{Table, column, base_of}
 use Rattle.mt_rows.specs.Sheet.{Rooted, Sheet, IsFree, MayBury, OnlyReads, life_of, is_buried, after_bury}
 use Rattle.mt_rows.specs.Publish.{is_reached}
 use Rattle.mt_rows.specs.Laws.{Tree}
-use Rattle.mt_splice.specs.Seen.{Seen}
-use Rattle.mt_splice.specs.Work.{Start, Work, table_with, with_words, Keeps}
-use Rattle.mt_splice.specs.Writes.{IsRowWritten, no_parent}
+use Rattle.mt_splice.specs.steps.Seen.{Seen}
+use Rattle.mt_splice.specs.steps.Work.{Start, Work, table_with, with_words, Keeps}
+use Rattle.mt_splice.specs.steps.Writes.{IsRowWritten, no_parent}
 use Rattle.mt_splice.specs.Kept.{IsSpare, IsUnpublished}
-use Rattle.mt_splice.specs.Progress.{Before, IsBefore, IsProgress, row_seen, is_taken, is_gone, stamped}
+use Rattle.mt_splice.specs.steps.Progress.{Before, IsBefore, IsProgress, row_seen, is_taken, is_gone, stamped}
 use Rattle.mt_splice.proofs.Drafts.{other_row, other_column, same_column, is_draft, other_life, whole_then}
 use Rattle.mt_splice.proofs.StepSeen.{was_seen, not_both, seen_here, seen_other, seen_before, seen_not_here, seen_more, seen_last, seen_not_last, seen_front, seen_front_not_last, listed_seen, not_listed}
 

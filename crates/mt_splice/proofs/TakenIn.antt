@@ -8,8 +8,8 @@ use Rattle.mt_layout.proofs.SpanLists.{fills_after, spans-append}
 use Rattle.mt_leaf.specs.Edits.{joined, ends_with_hole}
 use Rattle.mt_leaf.proofs.Pushes.{pushed_onto}
 use Rattle.mt_rows.specs.Laws.{kind_at}
-use Rattle.mt_splice.specs.Climbs.{MayBeIn, beside}
-use Rattle.mt_splice.specs.TakingIn.{is_hole_at, beside_items}
+use Rattle.mt_splice.specs.steps.Climbs.{MayBeIn, beside}
+use Rattle.mt_splice.specs.steps.TakingIn.{is_hole_at, beside_items}
 
 -- what spans end with does not depend on where they begin
 pub ends_from : (first first' : ℕ) (items : List Item) → ends_with_hole (spans_from first items) ≡ ends_with_hole (spans_from first' items)

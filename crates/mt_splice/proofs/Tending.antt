@@ -14,8 +14,8 @@ use Rattle.mt_layout.specs.Sizes.{first_row, slots_of}
 use Rattle.mt_layout.proofs.RowSizes.{some_columns, slot_above, slot_within}
 use Rattle.mt_rows.specs.Spans.{Table, base_of, column}
 use Rattle.mt_rows.specs.Sheet.{Rooted, Sheet, IsWhole, MayTend, loaded, tended}
-use Rattle.mt_splice.specs.Work.{with_words}
-use Rattle.mt_splice.specs.Writes.{child_word, child_row, AreChildren, AreTended}
+use Rattle.mt_splice.specs.steps.Work.{with_words}
+use Rattle.mt_splice.specs.steps.Writes.{child_word, child_row, AreChildren, AreTended}
 use Rattle.mt_splice.proofs.Drafts.{wrote, plain, other_row, other_column, same_column}
 
 -- of the children the first ones are tended

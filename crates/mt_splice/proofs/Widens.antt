@@ -26,12 +26,12 @@ use Rattle.mt_path.specs.declared.paths.PathStep.{PathStep}
 use Rattle.mt_path.specs.Paths.{step_at, path_in}
 use Rattle.mt_path.proofs.Places.{at_within}
 use Rattle.mt_path.proofs.TreePaths.{row_of, levels, right_begins, left_ends}
-use Rattle.mt_splice.specs.Work.{Start, Work, now, rows_at, Holds}
-use Rattle.mt_splice.specs.Stretches.{spans_on}
-use Rattle.mt_splice.specs.Climbs.{begin_of, behind_of, MayBeIn, beside, Gathered}
-use Rattle.mt_splice.specs.Runs.{most_in_three, span_to, MayBeCut}
-use Rattle.mt_splice.specs.Writes.{items_of_row}
-use Rattle.mt_splice.specs.TakingIn.{short_run, holed_run, beside_items, IsNow, MayTakeIn, IsTakenIn}
+use Rattle.mt_splice.specs.steps.Work.{Start, Work, now, rows_at, Holds}
+use Rattle.mt_splice.specs.steps.Stretches.{spans_on}
+use Rattle.mt_splice.specs.steps.Climbs.{begin_of, behind_of, MayBeIn, beside, Gathered}
+use Rattle.mt_splice.specs.steps.Runs.{most_in_three, span_to, MayBeCut}
+use Rattle.mt_splice.specs.steps.Writes.{items_of_row}
+use Rattle.mt_splice.specs.steps.TakingIn.{short_run, holed_run, beside_items, IsNow, MayTakeIn, IsTakenIn}
 use Rattle.mt_splice.proofs.Moments.{old_stands}
 use Rattle.mt_splice.proofs.Rises.{step_here, row_is_lawful, spans_here, at_here}
 use Rattle.mt_splice.proofs.Neighbours.{takes_right, takes_left}

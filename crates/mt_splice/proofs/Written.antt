@@ -15,12 +15,12 @@ use Rattle.mt_rows.proofs.Once.{times_none}
 use Rattle.mt_rows.proofs.Heights.{level_rows}
 use Rattle.mt_rows.proofs.Reached.{all_one_of, tally_place}
 use Rattle.mt_path.specs.declared.paths.PathStep.{PathStep}
-use Rattle.mt_splice.specs.Seen.{Seen, passing, Adds}
-use Rattle.mt_splice.specs.Work.{Start, Work, now, rows_at, times_in, IsUsed, IsTaken, KeepsWords, Keeps, Holds}
-use Rattle.mt_splice.specs.Replaced.{IsHalfReplaced}
-use Rattle.mt_splice.specs.Stretches.{IsStretch}
-use Rattle.mt_splice.specs.Burying.{AreBuried}
-use Rattle.mt_splice.specs.Climbs.{begin_of, behind_of, Gathered, AreWritten, Climbed}
+use Rattle.mt_splice.specs.steps.Seen.{Seen, passing, Adds}
+use Rattle.mt_splice.specs.steps.Work.{Start, Work, now, rows_at, times_in, IsUsed, IsTaken, KeepsWords, Keeps, Holds}
+use Rattle.mt_splice.specs.steps.Replaced.{IsHalfReplaced}
+use Rattle.mt_splice.specs.steps.Stretches.{IsStretch}
+use Rattle.mt_splice.specs.steps.Burying.{AreBuried}
+use Rattle.mt_splice.specs.steps.Climbs.{begin_of, behind_of, Gathered, AreWritten, Climbed}
 use Rattle.mt_splice.proofs.Splits.{split_same}
 use Rattle.mt_splice.proofs.NewLevels.{NewLevel, run_between, level_holds, half_up, half_leaves}
 use Rattle.mt_splice.proofs.Moments.{row_stays, keeps_more, still_used, still_half, holds_later}

@@ -16,7 +16,7 @@ use Rattle.mt_layout.proofs.ReadBack.{Holds, reads_back, row_words-hold}
 use Rattle.mt_layout.proofs.RowSizes.{layout_of, some_columns}
 use Rattle.mt_rows.specs.Spans.{Table, column, spans_by, spans_in}
 use Rattle.mt_rows.specs.Laws.{items_in, words_in}
-use Rattle.mt_splice.specs.Writes.{no_parent, new_words}
+use Rattle.mt_splice.specs.steps.Writes.{no_parent, new_words}
 
 -- ---- items as a row holds them that has so many columns of gaps
 

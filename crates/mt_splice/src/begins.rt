@@ -1,7 +1,7 @@
 //! The first leaf of an empty tree.
 
 ghost use Rattle.std.specs.Prelude.{◌≡◌, [], List};
-ghost use Rattle.mt_splice.specs.Entries.{IsFirst};
+ghost use Rattle.mt_splice.specs.steps.Entries.{IsFirst};
 ghost use Rattle.mt_splice.specs.Splice.{IsSpliced};
 
 use crate::begun::Begun;

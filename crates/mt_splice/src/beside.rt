@@ -4,9 +4,9 @@ ghost use Rattle.std.specs.Prelude.{◌≡◌, ◌<◌, ◌≤◌, ◌+◌, ◌-
 ghost use Rattle.mt_layout.specs.Sizes.{first_row, run_room, slots_of};
 ghost use Rattle.mt_path.specs.Paths.{step_at};
 ghost use Rattle.mt_rows.specs.Sheet.{OnlyReads};
-ghost use Rattle.mt_splice.specs.Replacing.{MayLookBeside, IsTakenBeside};
-ghost use Rattle.mt_splice.specs.TakingIn.{is_hole_at, short_run, holed_run, beside_items};
-ghost use Rattle.mt_splice.specs.Writes.{items_of_row};
+ghost use Rattle.mt_splice.specs.steps.Replacing.{MayLookBeside, IsTakenBeside};
+ghost use Rattle.mt_splice.specs.steps.TakingIn.{is_hole_at, short_run, holed_run, beside_items};
+ghost use Rattle.mt_splice.specs.steps.Writes.{items_of_row};
 
 use crate::begun::Begun;
 use crate::reads::push_items;

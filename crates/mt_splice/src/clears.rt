@@ -3,7 +3,7 @@
 ghost use Rattle.std.specs.Prelude.{◌≡◌, []};
 ghost use Rattle.mt_rows.specs.declared.rows.Place.TheVariants.{Root};
 ghost use Rattle.mt_rows.specs.Publish.{map_by};
-ghost use Rattle.mt_splice.specs.Entries.{IsBegunBy};
+ghost use Rattle.mt_splice.specs.steps.Entries.{IsBegunBy};
 ghost use Rattle.mt_splice.specs.Splice.{MayClear, IsSpliced};
 
 use crate::begun::Begun;

@@ -2,7 +2,7 @@
 
 ghost use Rattle.std.specs.Prelude.{◌≡◌, ◌<◌, ◌≤◌, true, [], ◌∷◌, length};
 ghost use Rattle.mt_layout.specs.declared.names.RowKind.TheVariants.{Leaf};
-ghost use Rattle.mt_splice.specs.Decisions.{IsNext, item_words};
+ghost use Rattle.mt_splice.specs.steps.Decisions.{IsNext, item_words};
 
 use crate::regions::{Region, step_on};
 use mt_base::{Width, top};

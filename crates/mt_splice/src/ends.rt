@@ -2,7 +2,7 @@
 
 ghost use Rattle.mt_layout.specs.declared.names.RowKind.TheVariants.{Inner};
 ghost use Rattle.mt_splice.specs.Splice.{IsSpliced};
-ghost use Rattle.mt_splice.specs.Ends.{MayPublishEnd, MayTendRows, AreRowsTended, MayTendTopAt, IsTopTendedAt};
+ghost use Rattle.mt_splice.specs.steps.Ends.{MayPublishEnd, MayTendRows, AreRowsTended, MayTendTopAt, IsTopTendedAt};
 
 use crate::begun::Begun;
 use crate::tends::tend_children;

@@ -4,8 +4,8 @@ ghost use Rattle.std.specs.Prelude.{◌≡◌, ◌<◌, ◌≤◌, ◌+◌, ◌+
 ghost use Rattle.mt_layout.specs.declared.names.RowKind.TheVariants.{Inner};
 ghost use Rattle.mt_layout.specs.Sizes.{first_row, run_room, slots_of};
 ghost use Rattle.mt_rows.specs.Sheet.{OnlyReads};
-ghost use Rattle.mt_splice.specs.Replacing.{MayGather, IsGathered};
-ghost use Rattle.mt_splice.specs.Writes.{items_of_row};
+ghost use Rattle.mt_splice.specs.steps.Replacing.{MayGather, IsGathered};
+ghost use Rattle.mt_splice.specs.steps.Writes.{items_of_row};
 
 use crate::begun::Begun;
 use crate::reads::push_items;

@@ -22,16 +22,16 @@ ghost use Rattle.mt_rows.specs.Spans.{root_span};
 ghost use Rattle.mt_layout.specs.Sizes.{least_items, slots_of};
 ghost use Rattle.mt_rows.specs.Trees.{map_in, reached_in};
 ghost use Rattle.mt_rows.specs.declared.rows.Life.{Life};
-ghost use Rattle.mt_splice.specs.Beginnings.{Begins};
-ghost use Rattle.mt_splice.specs.Burying.{AreBuried, AreLevelsBuried};
-ghost use Rattle.mt_splice.specs.Climbs.{AreWritten, Climbed, Gathered, IsPathAhead, IsPathBehind, begin_of, beside, between_slots, behind_of, spans_now};
-ghost use Rattle.mt_splice.specs.Endings.{IsPublished, IsStepIn, with_root, with_step, words_of};
-ghost use Rattle.mt_splice.specs.Replaced.{IsReplaced};
-ghost use Rattle.mt_splice.specs.Runs.{IsLeafRun, MayBeCut, most_in_three, most_items};
-ghost use Rattle.mt_splice.specs.Seen.{Adds, passing};
+ghost use Rattle.mt_splice.specs.steps.Beginnings.{Begins};
+ghost use Rattle.mt_splice.specs.steps.Burying.{AreBuried, AreLevelsBuried};
+ghost use Rattle.mt_splice.specs.steps.Climbs.{AreWritten, Climbed, Gathered, IsPathAhead, IsPathBehind, begin_of, beside, between_slots, behind_of, spans_now};
+ghost use Rattle.mt_splice.specs.steps.Endings.{IsPublished, IsStepIn, with_root, with_step, words_of};
+ghost use Rattle.mt_splice.specs.steps.Replaced.{IsReplaced};
+ghost use Rattle.mt_splice.specs.steps.Runs.{IsLeafRun, MayBeCut, most_in_three, most_items};
+ghost use Rattle.mt_splice.specs.steps.Seen.{Adds, passing};
 ghost use Rattle.mt_splice.specs.Splice.{region_of};
 ghost use Rattle.mt_splice.specs.Kept.{IsBookOf};
-ghost use Rattle.mt_splice.specs.Work.{Holds, IsTaken, IsUsed, Keeps, Start, Work, now, rows_at, times_in};
+ghost use Rattle.mt_splice.specs.steps.Work.{Holds, IsTaken, IsUsed, Keeps, Start, Work, now, rows_at, times_in};
 
 /// At the beginning the spans of the leaves at the store's ends, after the store, are gathered.
 pub fn a_replacement_begins()

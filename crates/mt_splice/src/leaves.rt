@@ -10,7 +10,7 @@ ghost use Rattle.mt_leaf.specs.Edits.{edited};
 ghost use Rattle.mt_leaf.specs.Places.{first_of, items_below, slot_above, with_joined};
 ghost use Rattle.mt_path.specs.Handles.{last_step};
 ghost use Rattle.mt_rows.specs.Sheet.{OnlyReads};
-ghost use Rattle.mt_splice.specs.Regions.{AreEnds, IsLeafStep, leaf_items};
+ghost use Rattle.mt_splice.specs.steps.Regions.{AreEnds, IsLeafStep, leaf_items};
 ghost use Rattle.mt_splice.specs.Splice.{region_of};
 
 use crate::reads::{load_item, push_items};

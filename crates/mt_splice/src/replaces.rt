@@ -3,7 +3,7 @@
 ghost use Rattle.std.specs.Prelude.{◌≡◌, ◌<◌, ◌≤◌, ◌+◌, ◌*◌, ℕ, length};
 ghost use Rattle.mt_base.specs.Width.{most_taken};
 ghost use Rattle.mt_rows.specs.declared.rows.Place.TheVariants.{Root};
-ghost use Rattle.mt_splice.specs.Replacing.{MayReplaceLevelRows, AreLevelRowsReplaced, MayBuryLevels, AreLevelsDone, MayReplaceLevel, MayEndEmpty, MayEndAtRoot, MayEndAbove, MayEndInSlot};
+ghost use Rattle.mt_splice.specs.steps.Replacing.{MayReplaceLevelRows, AreLevelRowsReplaced, MayBuryLevels, AreLevelsDone, MayReplaceLevel, MayEndEmpty, MayEndAtRoot, MayEndAbove, MayEndInSlot};
 ghost use Rattle.mt_splice.specs.Splice.{IsSpliced};
 
 use crate::begun::Begun;

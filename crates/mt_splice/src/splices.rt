@@ -1,7 +1,7 @@
 //! The entries: stores that replace nodes.
 
 ghost use Rattle.std.specs.Prelude.{◌≡◌, []};
-ghost use Rattle.mt_splice.specs.Entries.{IsBegunBy};
+ghost use Rattle.mt_splice.specs.steps.Entries.{IsBegunBy};
 ghost use Rattle.mt_splice.specs.Splice.{MaySplice, MayReplace, IsSpliced};
 
 use crate::begins::begin_tree;

@@ -1,6 +1,6 @@
 //! Parent words of rows that have moved.
 
-ghost use Rattle.mt_splice.specs.Writes.{AreChildren, AreTended};
+ghost use Rattle.mt_splice.specs.steps.Writes.{AreChildren, AreTended};
 
 use mt_layout::{RowKind, parent_word, row_of, slots};
 use mt_rows::Rows;

@@ -4,7 +4,7 @@ ghost use Rattle.std.specs.Prelude.{◌≡◌, ◌<◌, ◌≤◌, All, true, le
 ghost use Rattle.mt_layout.specs.Sizes.{slots_of};
 ghost use Rattle.mt_rows.specs.declared.rows.Life.TheVariants.{Draft};
 ghost use Rattle.mt_rows.specs.Sheet.{IsPlace, IsFree, life_of, drafted};
-ghost use Rattle.mt_splice.specs.Writes.{IsItemDrafted, IsRestDrafted, IsRowDrafted, IsRowWritten};
+ghost use Rattle.mt_splice.specs.steps.Writes.{IsItemDrafted, IsRestDrafted, IsRowDrafted, IsRowWritten};
 
 use mt_base::cols;
 use mt_free::RowBook;

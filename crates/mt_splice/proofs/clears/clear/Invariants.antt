@@ -1,4 +1,4 @@
-use Rattle.mt_splice.specs.Entries.{before_of, start_of}
+use Rattle.mt_splice.specs.steps.Entries.{before_of, start_of}
 use Rattle.mt_splice.proofs.clears.clear.Given as goal
 
 abbrev pub ghosts-clear_as : goal.ghosts-clear_as

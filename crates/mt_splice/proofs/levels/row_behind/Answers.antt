@@ -1,6 +1,6 @@
 use Rattle.std.proofs.Common.{◌<◌, ◌+◌, List, length, ap, sym, ◌∙◌, subst, arith}
 use Rattle.mt_path.specs.declared.paths.PathStep.{PathStep}
-use Rattle.mt_splice.specs.Levels.{IsRowBehind}
+use Rattle.mt_splice.specs.steps.Levels.{IsRowBehind}
 use Rattle.mt_splice.proofs.LevelPaths.{is_deep, row_behind_is}
 use Rattle.mt_splice.proofs.levels.row_behind.Goals as goal
 

@@ -1,4 +1,4 @@
-use Rattle.mt_splice.specs.Entries.{before_of, start_of}
+use Rattle.mt_splice.specs.steps.Entries.{before_of, start_of}
 use Rattle.mt_splice.proofs.splices.splice_region.Given as goal
 
 abbrev pub ghosts-splice_as : goal.ghosts-splice_as

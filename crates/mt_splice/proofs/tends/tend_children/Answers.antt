@@ -5,7 +5,7 @@ use Rattle.mt_layout.specs.Rows.{named_row}
 use Rattle.mt_rows.specs.Spans.{column}
 use Rattle.mt_rows.specs.Sheet.{Rooted}
 use Rattle.mt_layout.specs.Sizes.{slots_of}
-use Rattle.mt_splice.specs.Writes.{child_word}
+use Rattle.mt_splice.specs.steps.Writes.{child_word}
 use Rattle.mt_splice.proofs.Tending.{one_more_tended}
 use Rattle.mt_splice.proofs.tends.tend_children.Goals as goal
 

@@ -4,7 +4,7 @@ use Rattle.mt_layout.specs.declared.items.Item.{Item}
 use Rattle.mt_layout.specs.Sizes.{slots_of}
 use Rattle.mt_layout.proofs.RowWords.{item_or}
 use Rattle.mt_rows.specs.Sheet.{Sheet}
-use Rattle.mt_splice.specs.Writes.{IsItemDrafted}
+use Rattle.mt_splice.specs.steps.Writes.{IsItemDrafted}
 use Rattle.mt_splice.proofs.Drafts.{one_more_item, row_drafted}
 use Rattle.mt_splice.proofs.writes.draft_row.Goals as goal
 

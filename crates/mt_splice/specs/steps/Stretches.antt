@@ -8,7 +8,7 @@ use Rattle.mt_rows.specs.Spans.{Table, row_spans}
 use Rattle.mt_rows.specs.Laws.{Tree, top_of}
 use Rattle.mt_path.specs.declared.paths.PathStep.{PathStep}
 use Rattle.mt_path.specs.Paths.{path_in}
-use Rattle.mt_splice.specs.Work.{Start, rows_at}
+use Rattle.mt_splice.specs.steps.Work.{Start, rows_at}
 
 -- of the rows of a level, those that cover the indexes from lo up to, but without, hi
 pub record IsStretch (t : Tree) (depth lo hi : ℕ) (front old back : List Span) : Type 0 where

@@ -11,9 +11,9 @@ use Rattle.mt_rows.specs.Publish.{map_by, tree_as}
 use Rattle.mt_base.specs.declared.replies.Reply.{Reply}
 use Rattle.mt_layout.specs.declared.items.Item.{Item}
 use Rattle.mt_path.specs.declared.paths.PathStep.{PathStep}
-use Rattle.mt_splice.specs.Progress.{Before}
+use Rattle.mt_splice.specs.steps.Progress.{Before}
 use Rattle.mt_splice.specs.Splice.{MaySplice}
-use Rattle.mt_splice.specs.Work.{Start}
+use Rattle.mt_splice.specs.steps.Work.{Start}
 
 -- the rows and the book as they are now
 abbrev pub before_of : Kind → Sheet → Book → ℕ → Before

@@ -11,7 +11,7 @@ use Rattle.mt_rows.specs.Sheet.{Rooted}
 use Rattle.mt_rows.specs.Publish.{StandsAt, SameHoles, IsSlotOf}
 use Rattle.mt_rows.specs.Replacement.{IsSlotAt}
 use Rattle.mt_path.specs.declared.paths.PathStep.{PathStep}
-use Rattle.mt_splice.specs.Work.{tree_with}
+use Rattle.mt_splice.specs.steps.Work.{tree_with}
 use Rattle.mt_layout.specs.Sizes.{slots_of}
 
 -- the tree with another root word

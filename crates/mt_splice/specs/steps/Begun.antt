@@ -5,8 +5,8 @@ use Rattle.mt_base.specs.declared.kinds.Kind.TheVariants as trees
 use Rattle.mt_base.specs.Width.{kind_width}
 use Rattle.mt_rows.specs.Sheet.{Rooted, Sheet}
 use Rattle.mt_rows.specs.Publish.{tree_as}
-use Rattle.mt_splice.specs.Progress.{Before}
-use Rattle.mt_splice.specs.Work.{Start}
+use Rattle.mt_splice.specs.steps.Progress.{Before}
+use Rattle.mt_splice.specs.steps.Work.{Start}
 
 abbrev pub no_tree : Rooted
 no_tree = record { rows = 0; table = record { width = kind_width trees.Range; words = [] }; root = 0 }

@@ -17,13 +17,13 @@ use Rattle.mt_path.specs.declared.paths.PathStep.{PathStep}
 use Rattle.mt_path.specs.Paths.{path_in, step_at}
 use Rattle.mt_rows.specs.Spans.{Table}
 use Rattle.mt_splice.specs.declared.writes.NewRow.{NewRow}
-use Rattle.mt_splice.specs.Seen.{passing}
-use Rattle.mt_splice.specs.Work.{Start, Work, rows_at, times_in, Holds}
-use Rattle.mt_splice.specs.Stretches.{ArePaths}
-use Rattle.mt_splice.specs.Burying.{AreBuried}
-use Rattle.mt_splice.specs.Climbs.{begin_of, behind_of, AreWritten}
-use Rattle.mt_splice.specs.Runs.{MayBeCut}
-use Rattle.mt_splice.specs.Progress.{Before, IsBefore, IsCase, IsProgress, new_rows_of}
+use Rattle.mt_splice.specs.steps.Seen.{passing}
+use Rattle.mt_splice.specs.steps.Work.{Start, Work, rows_at, times_in, Holds}
+use Rattle.mt_splice.specs.steps.Stretches.{ArePaths}
+use Rattle.mt_splice.specs.steps.Burying.{AreBuried}
+use Rattle.mt_splice.specs.steps.Climbs.{begin_of, behind_of, AreWritten}
+use Rattle.mt_splice.specs.steps.Runs.{MayBeCut}
+use Rattle.mt_splice.specs.steps.Progress.{Before, IsBefore, IsCase, IsProgress, new_rows_of}
 use Rattle.mt_layout.specs.Sizes.{slots_of, least_items}
 
 -- ---- one row

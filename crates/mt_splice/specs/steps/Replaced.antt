@@ -7,8 +7,8 @@ use Rattle.mt_layout.specs.Spans.{Fills}
 use Rattle.mt_rows.specs.Levels.{map_of, Levels, times}
 use Rattle.mt_rows.specs.Laws.{Tree, IsRow, Stands, top_of}
 use Rattle.mt_rows.specs.Replacement.{root_of}
-use Rattle.mt_splice.specs.Seen.{Seen, passing}
-use Rattle.mt_splice.specs.Work.{tree_with, times_in}
+use Rattle.mt_splice.specs.steps.Seen.{Seen, passing}
+use Rattle.mt_splice.specs.steps.Work.{tree_with, times_in}
 
 -- By the words, the rows ys of a height stand for the map in place of the tree's rows xs. What is reached from either
 -- differs by just the rows taken and the rows gone, and those gone were reached.

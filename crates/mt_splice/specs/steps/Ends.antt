@@ -24,11 +24,11 @@ use Rattle.mt_rows.specs.Sheet.{Sheet, IsPlace, life_of, is_buried}
 use Rattle.mt_rows.specs.Publish.{tree_as, map_by, with_published}
 use Rattle.mt_rows.specs.Replacement.{IsSlotAt}
 use Rattle.mt_splice.specs.declared.writes.NewRow.{NewRow}
-use Rattle.mt_splice.specs.Seen.{passing}
-use Rattle.mt_splice.specs.Work.{Start, Work, with_words, now, Holds}
-use Rattle.mt_splice.specs.Replaced.{IsReplaced}
-use Rattle.mt_splice.specs.Writes.{child_row, AreChildren}
-use Rattle.mt_splice.specs.Progress.{Before, IsCase, IsProgress, is_taken, new_rows_of}
+use Rattle.mt_splice.specs.steps.Seen.{passing}
+use Rattle.mt_splice.specs.steps.Work.{Start, Work, with_words, now, Holds}
+use Rattle.mt_splice.specs.steps.Replaced.{IsReplaced}
+use Rattle.mt_splice.specs.steps.Writes.{child_row, AreChildren}
+use Rattle.mt_splice.specs.steps.Progress.{Before, IsCase, IsProgress, is_taken, new_rows_of}
 use Rattle.mt_layout.specs.Sizes.{slots_of}
 
 -- ---- the end

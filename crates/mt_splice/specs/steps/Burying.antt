@@ -3,9 +3,9 @@
 use Rattle.std.specs.Prelude.{◌≡◌, ℕ, ◌+◌, Bool, List}
 use Rattle.mt_layout.specs.declared.spans.Span.{Span}
 use Rattle.mt_rows.specs.Levels.{times}
-use Rattle.mt_splice.specs.Seen.{passing, Adds}
-use Rattle.mt_splice.specs.Work.{Start, Work, rows_at, Keeps}
-use Rattle.mt_splice.specs.Stretches.{IsStretch}
+use Rattle.mt_splice.specs.steps.Seen.{passing, Adds}
+use Rattle.mt_splice.specs.steps.Work.{Start, Work, rows_at, Keeps}
+use Rattle.mt_splice.specs.steps.Stretches.{IsStretch}
 
 -- the rows of a depth and a height that cover the indexes from lo up to, but without, hi
 pub record AreBuried (start : Start) (s s' : Work) (depth height lo hi : ℕ) : Type 0 where

@@ -13,10 +13,10 @@ use Rattle.mt_rows.specs.Laws.{top_of, kind_at}
 use Rattle.mt_rows.specs.Sheet.{Rooted}
 use Rattle.mt_path.specs.declared.paths.PathStep.{PathStep}
 use Rattle.mt_path.specs.Paths.{step_at}
-use Rattle.mt_splice.specs.Work.{Start, Work, now}
-use Rattle.mt_splice.specs.Climbs.{begin_of, behind_of, Gathered}
-use Rattle.mt_splice.specs.Endings.{words_of}
-use Rattle.mt_splice.specs.Runs.{most_items, most_before_hole, MayBeCut}
+use Rattle.mt_splice.specs.steps.Work.{Start, Work, now}
+use Rattle.mt_splice.specs.steps.Climbs.{begin_of, behind_of, Gathered}
+use Rattle.mt_splice.specs.steps.Endings.{words_of}
+use Rattle.mt_splice.specs.steps.Runs.{most_items, most_before_hole, MayBeCut}
 use Rattle.mt_layout.specs.Sizes.{least_items}
 
 abbrev pub is_hole_at : List Item → ℕ → Bool

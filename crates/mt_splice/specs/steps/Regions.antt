@@ -11,7 +11,7 @@ use Rattle.mt_rows.specs.Publish.{IsTreeOf}
 use Rattle.mt_path.specs.declared.paths.PathStep.{PathStep}
 use Rattle.mt_path.specs.Paths.{path_in}
 use Rattle.mt_path.specs.Handles.{last_step}
-use Rattle.mt_splice.specs.Writes.{items_of_row}
+use Rattle.mt_splice.specs.steps.Writes.{items_of_row}
 
 -- the paths to the ends of a store
 pub record AreEnds (kind : Kind) (t : Rooted) (left right : List PathStep) (first last : ℕ) : Type 0 where

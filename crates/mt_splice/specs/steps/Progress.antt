@@ -11,9 +11,9 @@ use Rattle.mt_rows.specs.Levels.{is_row_of}
 use Rattle.mt_rows.specs.Sheet.{Sheet, IsWhole, life_of, is_buried}
 use Rattle.mt_rows.specs.Publish.{tree_as, IsTold, is_reached}
 use Rattle.mt_splice.specs.declared.writes.NewRow.{NewRow}
-use Rattle.mt_splice.specs.Seen.{Seen, passing}
-use Rattle.mt_splice.specs.Work.{Start, Work, with_words}
-use Rattle.mt_splice.specs.Writes.{no_parent}
+use Rattle.mt_splice.specs.steps.Seen.{Seen, passing}
+use Rattle.mt_splice.specs.steps.Work.{Start, Work, with_words}
+use Rattle.mt_splice.specs.steps.Writes.{no_parent}
 use Rattle.mt_splice.specs.Kept.{MayBeReplaced, IsKept, IsUnpublished}
 use Rattle.mt_layout.specs.Sizes.{first_row}
 

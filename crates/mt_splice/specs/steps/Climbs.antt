@@ -11,10 +11,10 @@ use Rattle.mt_rows.specs.Laws.{IsRow, kind_at}
 use Rattle.mt_leaf.specs.Edits.{joined}
 use Rattle.mt_path.specs.declared.paths.PathStep.{PathStep}
 use Rattle.mt_path.specs.Paths.{path_in, step_at}
-use Rattle.mt_splice.specs.Seen.{Adds}
-use Rattle.mt_splice.specs.Work.{Start, Work, now, rows_at, IsUsed, IsTaken, Keeps, Holds}
-use Rattle.mt_splice.specs.Replaced.{IsHalfReplaced}
-use Rattle.mt_splice.specs.Stretches.{IsStretch, ArePaths, spans_on}
+use Rattle.mt_splice.specs.steps.Seen.{Adds}
+use Rattle.mt_splice.specs.steps.Work.{Start, Work, now, rows_at, IsUsed, IsTaken, Keeps, Holds}
+use Rattle.mt_splice.specs.steps.Replaced.{IsHalfReplaced}
+use Rattle.mt_splice.specs.steps.Stretches.{IsStretch, ArePaths, spans_on}
 
 -- where the left path's row of a depth begins, and behind what the right path's row ends
 abbrev pub begin_of : List PathStep → ℕ → ℕ

@@ -16,16 +16,16 @@ use Rattle.mt_rows.specs.Sheet.{Rooted, Sheet}
 use Rattle.mt_rows.specs.Publish.{map_by}
 use Rattle.mt_path.specs.declared.paths.PathStep.{PathStep}
 use Rattle.mt_splice.specs.declared.writes.NewRow.{NewRow}
-use Rattle.mt_splice.specs.Seen.{passing}
-use Rattle.mt_splice.specs.Work.{Start, Work, rows_at, Holds}
-use Rattle.mt_splice.specs.Stretches.{ArePaths}
-use Rattle.mt_splice.specs.Burying.{AreLevelsBuried}
-use Rattle.mt_splice.specs.Climbs.{begin_of, behind_of, Gathered, Climbed}
-use Rattle.mt_splice.specs.Runs.{MayBeCut}
-use Rattle.mt_splice.specs.Levels.{IsCutOf}
-use Rattle.mt_splice.specs.Progress.{Before, IsCase, IsProgress, new_rows_of}
-use Rattle.mt_splice.specs.Decisions.{StandForAll, EndsHere}
-use Rattle.mt_splice.specs.TakingIn.{IsNow, MayTakeIn, IsTakenIn}
+use Rattle.mt_splice.specs.steps.Seen.{passing}
+use Rattle.mt_splice.specs.steps.Work.{Start, Work, rows_at, Holds}
+use Rattle.mt_splice.specs.steps.Stretches.{ArePaths}
+use Rattle.mt_splice.specs.steps.Burying.{AreLevelsBuried}
+use Rattle.mt_splice.specs.steps.Climbs.{begin_of, behind_of, Gathered, Climbed}
+use Rattle.mt_splice.specs.steps.Runs.{MayBeCut}
+use Rattle.mt_splice.specs.steps.Levels.{IsCutOf}
+use Rattle.mt_splice.specs.steps.Progress.{Before, IsCase, IsProgress, new_rows_of}
+use Rattle.mt_splice.specs.steps.Decisions.{StandForAll, EndsHere}
+use Rattle.mt_splice.specs.steps.TakingIn.{IsNow, MayTakeIn, IsTakenIn}
 
 -- the call makes this map, and is answered so
 abbrev pub IsAnswer : Before → Start → Call → Reply → Type 0

@@ -10,7 +10,7 @@ use Rattle.mt_layout.specs.declared.spans.Span.{Span}
 use Rattle.mt_layout.specs.Spans.{leaf_range, Fills, EndsFull}
 use Rattle.mt_rows.specs.Laws.{Tree, top_of, kind_at, least_of}
 use Rattle.mt_leaf.specs.Edits.{ends_with_hole}
-use Rattle.mt_splice.specs.Climbs.{MayBeIn}
+use Rattle.mt_splice.specs.steps.Climbs.{MayBeIn}
 use Rattle.mt_layout.specs.Sizes.{slots_of}
 
 -- The most items that are to stand in the rows of a level: those of two full rows but one of each, and three in the place

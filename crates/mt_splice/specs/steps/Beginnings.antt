@@ -8,7 +8,7 @@ use Rattle.mt_rows.specs.Laws.{Stands, top_of}
 use Rattle.mt_rows.specs.Replacement.{root_of}
 use Rattle.mt_path.specs.declared.paths.PathStep.{PathStep}
 use Rattle.mt_path.specs.Paths.{path_in}
-use Rattle.mt_splice.specs.Work.{Start, Work, IsUsed}
+use Rattle.mt_splice.specs.steps.Work.{Start, Work, IsUsed}
 use Rattle.mt_splice.specs.Kept.{MayBeReplaced}
 
 -- The map that is to be is that after the store; the paths lead to the store's ends; nothing was done yet.

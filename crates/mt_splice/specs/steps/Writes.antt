@@ -12,7 +12,7 @@ use Rattle.mt_rows.specs.declared.rows.Life.TheVariants.{Draft, Live}
 use Rattle.mt_rows.specs.Spans.{Table, base_of, column}
 use Rattle.mt_rows.specs.Sheet.{Sheet, IsPlace, life_of, is_buried}
 use Rattle.mt_layout.specs.Sizes.{first_row, slots_of, gaps_of}
-use Rattle.mt_splice.specs.Work.{with_words}
+use Rattle.mt_splice.specs.steps.Work.{with_words}
 
 -- ---- rows
 

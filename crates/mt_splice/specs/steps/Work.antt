@@ -10,7 +10,7 @@ use Rattle.mt_rows.specs.Levels.{level, Levels, times, is_row_of, SameColumns}
 use Rattle.mt_rows.specs.Laws.{Tree, Stands}
 use Rattle.mt_rows.specs.Replacement.{root_of}
 use Rattle.mt_rows.specs.Sheet.{Rooted}
-use Rattle.mt_splice.specs.Seen.{Seen, passing}
+use Rattle.mt_splice.specs.steps.Seen.{Seen, passing}
 use Rattle.mt_splice.specs.Kept.{MayBeReplaced}
 
 -- the tree as it was, its height, and the map that is to be

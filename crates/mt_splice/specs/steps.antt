@@ -1,0 +1,20 @@
+-- The steps of a replacement: what holds between them. Callers read `Splice` and `Kept` alone.
+pub mod Beginnings
+pub mod Begun
+pub mod Burying
+pub mod Climbs
+pub mod Decisions
+pub mod Endings
+pub mod Ends
+pub mod Entries
+pub mod Levels
+pub mod Progress
+pub mod Regions
+pub mod Replaced
+pub mod Replacing
+pub mod Runs
+pub mod Seen
+pub mod Stretches
+pub mod TakingIn
+pub mod Work
+pub mod Writes
