@@ -1,15 +1,15 @@
 -- What the program promises: what it prints is the text of a run of the log that it read.
 use Rattle.std.specs.Prelude.{◌≡◌, ℕ, List, ◌++◌, Option, Some, Ok}
+use Rattle.mt_base.specs.Width.{most_rows}
 use Rattle.mt_log.specs.declared.lines.Log.{Log}
 use Rattle.mt_log.specs.declared.transcripts.Transcript.{Transcript}
 use Rattle.mt_log.specs.Reading.{log_of}
 use Rattle.mt_log.specs.Run.{IsRun}
 use Rattle.mt_log.specs.Text.{text_of}
 
--- This is the text of a transcript that is a run of the log over trees of any number of rows. No shortage can be one for
--- two numbers of rows, so this says that no call was refused for want of them.
+-- this is the text of a transcript that is a run of the log, over trees of as many rows as a tree may have
 abbrev pub TellsRun : Log → List ℕ → Type 0
-TellsRun log text = (t : Transcript) × ((rows : ℕ) → IsRun log rows t) × (text ≡ text_of log.version t)
+TellsRun log text = (t : Transcript) × IsRun log most_rows t × (text ≡ text_of log.version t)
 
 -- of the log that these bytes are
 abbrev pub IsTextOfRun : List ℕ → List ℕ → Type 0

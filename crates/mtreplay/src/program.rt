@@ -1,8 +1,11 @@
-ghost use Rattle.std.specs.Prelude.{◌≡◌, ◌≢◌, ◌↔◌, ◌⊎◌, ◌<◌, ◌≤◌, ℕ, List, Some, true, false, IsOk, IsErr, IfOk, IfErr, IfSome, length, map, string_bytes};
+ghost use Rattle.std.specs.Prelude.{◌≡◌, ◌≢◌, ◌↔◌, ◌⊎◌, ◌<◌, ◌≤◌, ℕ, List, Some, true, false, IsOk, IsErr, IfOk, IfErr, IfSome, [], length, map, string_bytes};
 ghost use Rattle.std.specs.Io.KnownBytes.{IsAtEnd};
+ghost use Rattle.mt_base.specs.Width.{most_rows};
 ghost use Rattle.mt_io.specs.Faults.{Rose};
 ghost use Rattle.mt_log.specs.Reading.{log_of};
 ghost use Rattle.mt_log.specs.Trees.{IsReadable};
+ghost use Rattle.mt_rows.specs.Publish.{map_by};
+ghost use Rattle.mt_rows.specs.Sheet.{limits_of};
 ghost use Rattle.mtreplay.specs.Causes.{ReadsLog, FailsToRead, Ends, streams};
 ghost use Rattle.mtreplay.specs.Command.{is_replay};
 ghost use Rattle.mtreplay.specs.Ending.{TellsStatus, status_due, ReadsNoFurther, ReadsTooMany, ReadsWithin};
@@ -11,10 +14,12 @@ ghost use Rattle.mtreplay.specs.Headline.{Replays, ReplaysPart, TellsRun};
 use crate::failures::{Failure, report};
 use crate::player::play;
 use crate::streams::{LONGEST, read_input, write_output};
-use mt_base::{Kind, NoMemory};
+use mt_base::{Kind, MOST_ROWS, NoMemory};
+use mt_engine::Engine;
+use mt_free::RowBook;
 use mt_io::{Gate, Sink, Source};
-use mt_list::ListMap;
 use mt_log::{Log, read_log, render};
+use mt_rows::PlainRows;
 use std::alloc::Global;
 use std::sync::Wait;
 use std::thread::Threads;
@@ -42,13 +47,24 @@ fn read<S: Source>(alloc: Global, src: &mut S) -> Result<Log, Failure>
     Ok(read_log(alloc, &bytes)?)
 }
 
+/// An empty tree of nodes, of as many rows as a tree may have.
+fn empty_tree(alloc: Global) -> Result<Engine<PlainRows>, NoMemory>
+    ensures empty { IfOk result (λ tree. map_by tree.sheet.tree ≡ []) }
+    ensures kind { IfOk result (λ tree. tree.kind ≡ Kind.Range) }
+    ensures limits { IfOk result (λ tree. limits_of tree.sheet ≡ record { rows = most_rows; opened = 0; ended = 0; may_hold = false }) }
+{
+    let rows = PlainRows::new(alloc, MOST_ROWS)?;
+    let book = RowBook::new(alloc, MOST_ROWS)?;
+    Ok(Engine::new(rows, book, Kind::Range))
+}
+
 /// The text of what the lines of a log were answered.
 fn answers(alloc: Global, log: &Log) -> Result<Vec<u8>, NoMemory>
     requires readable { IsReadable log.now.lines }
     requires count { length log.now.lines ≤ LONGEST }
     ensures { IfOk result (λ text. TellsRun log.now text.items) }
 {
-    let transcript = play(alloc, log, ListMap::new(alloc, Kind::Range))?;
+    let transcript = play(alloc, log, empty_tree(alloc)?)?;
     render(alloc, log.version, &transcript)
 }
 
