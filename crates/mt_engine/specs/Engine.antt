@@ -101,7 +101,8 @@ pub record IsShortFor (kind : Kind) (s s' : Sheet) (book book' : Book) (call : C
   pub tells : TellsBook book' refused.shortage
 
 -- It did what it says, with rows enough where it wanted some; or it was refused for want of rows, which left every word. The
--- rows are between two calls again, one more call has ended, and it is told where records are, of the same caller. There was one scan at the most.
+-- rows are between two calls again, one more call has ended, and it is told where records are, of the same caller. There was
+-- one scan at the most.
 pub record IsApplied (kind : Kind) (s s' : Sheet) (book book' : Book) (call : Call) (reply : Reply) : Type 0 where
   pub idle : IsIdle kind s' book'
   pub answer : IsDone kind s s' book book' call reply ⊎ (IsShortFor kind s s' book book' call reply × (s'.tree ≡ s.tree))
