@@ -136,6 +136,7 @@ spliced_with {s = s} {s' = s'} {place = place} reads spliced = record {
   tree = spliced.tree;
   parents = spliced.parents;
   map = spliced.map;
+  fewest = spliced.fewest;
   published = published_with s s' reads place spliced.published;
   kept = spliced.kept;
   none_buried = spliced.none_buried;

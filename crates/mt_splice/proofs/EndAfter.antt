@@ -19,9 +19,13 @@ use Rattle.mt_rows.specs.Publish.{tree_as, is_reached, map_by, with_record, with
 use Rattle.mt_rows.specs.Replacement.{root_of}
 use Rattle.mt_splice.specs.steps.Work.{Start, Work, tree_with, KeepsWords}
 use Rattle.mt_splice.specs.Kept.{MayBeReplaced}
-use Rattle.mt_splice.specs.steps.Replaced.{StandsAs, count_in}
+use Rattle.mt_splice.specs.steps.Progress.{is_taken}
+use Rattle.mt_splice.specs.steps.Replaced.{StandsAs, FewestAs, count_in}
 use Rattle.mt_splice.specs.steps.Endings.{words_of}
 use Rattle.mt_splice.specs.steps.Ends.{HoldsAs, OnlyParents}
+use Rattle.mt_rows.proofs.Frames.{same_spans}
+use Rattle.mt_rows.proofs.Joins.{Shared}
+use Rattle.mt_splice.proofs.FewestRows.{SameNews, fewest_later}
 use Rattle.mt_splice.proofs.Drafts.{same_column}
 use Rattle.mt_splice.proofs.EndTrees.{map_is, reached_count, count_reached, unreached_count, count_unreached}
 use Rattle.mt_splice.proofs.EndPublish.{now_stands, now_count, now_map, Finish, published_rows, published_width, published, rows_same, width_same, stands_later, map_later, progress, place_is}
@@ -29,7 +33,7 @@ use Rattle.mt_splice.proofs.EndTending.{only_rows, only_width}
 
 -- ---- a tree whose parent words have changed
 
-levels_all : (P : ℕ → Span → Type 0) (t : Table) → ((h : ℕ) (x : Span) → P h x) → (h : ℕ) (xs : List Span) → Levels P t h xs
+pub levels_all : (P : ℕ → Span → Type 0) (t : Table) → ((h : ℕ) (x : Span) → P h x) → (h : ℕ) (xs : List Span) → Levels P t h xs
 levels_all P t each zero xs = all_here zero xs
   where
     all_here : (h : ℕ) (xs : List Span) → AllByRecursion (P h) xs
@@ -69,6 +73,15 @@ all_hold t words (Some h) range keep stands = (
   },
 )
 
+-- the new rows stay the fewest
+fewest_kept : (is_new : ℕ → Bool) (t : Tree) (words : List ℕ) (o : Option ℕ) → AllKeep t.table (record { width = t.table.width; words = words }) → FewestAs is_new t o → FewestAs is_new (tree_with t words) o
+fewest_kept is_new t words None keep few = few
+fewest_kept is_new t words (Some h) keep few =
+    let t' = tree_with t words in
+    fewest_later is_new is_new t.kind t.table t'.table refl h (root_of t)
+    (levels_all (Shared t.table t'.table) t.table (λ _ x. same_spans t.table t'.table x (keep (row_in x.word))) h (root_of t))
+    (levels_all (SameNews is_new is_new) t.table (λ _ x. refl) h (root_of t)) few
+
 module _ (t : Tree) (words : List ℕ) (o : Option ℕ) (range : MayBeReplaced t.kind) (keep : AllKeep t.table (record { width = t.table.width; words = words })) (stands : StandsAs t o) where
   abbrev other : Tree
   other = tree_with t words
@@ -96,6 +109,7 @@ module _ (t : Tree) (words : List ℕ) (o : Option ℕ) (range : MayBeReplaced t
 pub record Outcome (f : Finish) (s' : Sheet) : Type 0 where
   pub rest : s' ≡ record f.before.sheet { tree = s'.tree; published = true; lives = s'.lives; buried = s'.buried; told = with_record f.before.sheet.told f.call f.reply; reads = s'.reads }
   pub stands : StandsAs (tree_as f.before.kind s'.tree) f.may.new
+  pub fewest : FewestAs (is_taken f.may.work) (tree_as f.before.kind s'.tree) f.may.new
   pub rows : s'.tree.rows ≡ f.before.sheet.tree.rows
   pub width : s'.tree.table.width ≡ f.before.sheet.tree.table.width
   pub root : s'.tree.root ≡ (published f).root
@@ -135,6 +149,9 @@ module _ (f : Finish) (s₁ s₂ : Sheet) (done : Published f.sheet s₁ f.place
   stands₁ : StandsAs t₁ f.may.new
   stands₁ = subst (λ (v : Rooted). StandsAs (tree_as f.before.kind v) f.may.new) (sym tree₁) (stands_later f)
 
+  fewest₁ : FewestAs (is_taken f.may.work) t₁ f.may.new
+  fewest₁ = subst (λ (v : Rooted). FewestAs (is_taken f.may.work) (tree_as f.before.kind v) f.may.new) (sym tree₁) f.may.replaced.fewest
+
   -- the sheet at the start, but for what the writes have changed
   before_is : f.sheet ≡ record f.before.sheet { tree = f.sheet.tree; lives = f.sheet.lives; buried = f.sheet.buried; reads = f.sheet.reads }
   before_is = ap (λ (x : Sheet). record x { tree = f.sheet.tree; lives = f.sheet.lives; buried = f.sheet.buried; reads = f.sheet.reads }) (progress f).rest
@@ -167,6 +184,7 @@ module _ (f : Finish) (s₁ s₂ : Sheet) (done : Published f.sheet s₁ f.place
   outcome = record {
     rest = rest₂;
     stands = subst (λ (v : Rooted). StandsAs (tree_as f.before.kind v) f.may.new) (sym only.tree) (other_stands t₁ s₂.tree.table.words f.may.new f.may.case.range keep stands₁);
+    fewest = subst (λ (v : Rooted). FewestAs (is_taken f.may.work) (tree_as f.before.kind v) f.may.new) (sym only.tree) (fewest_kept (is_taken f.may.work) t₁ s₂.tree.table.words f.may.new keep fewest₁);
     rows = only_rows s₁ s₂ only ∙ (ap (λ (v : Rooted). v.rows) tree₁ ∙ (published_rows f.sheet.tree f.place f.word ∙ rows_same f));
     width = only_width s₁ s₂ only ∙ (width₁ ∙ width_same f);
     root = ap (λ (v : Rooted). v.root) only.tree ∙ ap (λ (v : Rooted). v.root) tree₁;

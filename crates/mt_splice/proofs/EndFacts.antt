@@ -27,17 +27,21 @@ use Rattle.mt_rows.proofs.Reached as reached
 use Rattle.mt_splice.specs.steps.Seen.{passing}
 use Rattle.mt_splice.specs.steps.Work.{Work, now}
 use Rattle.mt_splice.specs.steps.Progress.{Before, is_taken, row_seen, stamped}
-use Rattle.mt_splice.specs.Splice.{WasPublishedAt, IsBooked, HasParents, IsSpliced}
+use Rattle.mt_rows.specs.Replacement.{root_of}
+use Rattle.mt_rows.proofs.Joins.{Shared}
+use Rattle.mt_rows.proofs.PlainReached.{levels_from}
+use Rattle.mt_splice.specs.Splice.{WasPublishedAt, IsBooked, HasParents, HasFewest, IsSpliced, is_unreached}
+use Rattle.mt_splice.proofs.FewestRows.{SameNews, fewest_later}
 use Rattle.mt_splice.specs.Kept.{IsSpare, IsBookOf}
-use Rattle.mt_splice.specs.steps.Replaced.{StandsAs, count_in}
+use Rattle.mt_splice.specs.steps.Replaced.{StandsAs, FewestAs, count_in}
 use Rattle.mt_splice.specs.steps.Ends.{IsChildSlot, IsEndPlace, IsTop}
 use Rattle.mt_splice.proofs.Drafts.{other_row, other_column}
-use Rattle.mt_splice.proofs.EndTrees.{is_tree, none_or_some}
+use Rattle.mt_splice.proofs.EndTrees.{is_tree, none_or_some, count_reached}
 use Rattle.mt_splice.proofs.EndHoles.{name_some, at_on_level, child_on_level}
 use Rattle.mt_splice.proofs.EndLists.{all_ones, map_one, one_contains, apart_ends, seen_some, seen_contains, contains_seen, stamped_rows, rows_stamped}
 use Rattle.mt_splice.proofs.EndWords.{slot_word}
 use Rattle.mt_splice.proofs.EndBooks.{taken_leave_book, retired_leave_book}
-use Rattle.mt_splice.proofs.EndAfter.{Outcome, above_in}
+use Rattle.mt_splice.proofs.EndAfter.{Outcome, above_in, levels_all}
 use Rattle.mt_splice.proofs.EndPublish as ends
 
 pub life_if_reached : (s : Sheet) (t : Rooted) (row : ℕ) → is_reached t row ≡ true → life_after s t row ≡ Live
@@ -415,6 +419,35 @@ module _ (f : ends.Finish) (s' : Sheet) (o : Outcome f s') where
       ∙ (stored_kept f.place (ends.place_is f) row col (subst (λ (v : Width). col < columns v) (sym (ends.width_same f)) within) other
       ∙ (ends.progress f).kept row col (not_taken_of row old) above within)
 
+  -- a row of the tree now is one that was taken, or one of the tree before
+  new_is_taken : (row : ℕ) → is_reached s'.tree row ≡ true → is_unreached b.sheet.tree row ≡ is_taken w row
+  new_is_taken row is =
+      let c = ends.counts f row in let sum = c.sum in let now = reached_later row is in
+      elim (none_or_some (ends.taken_count f row)) [
+        | inl none ↦ ap (λ (v : Bool). if v then false else true) (ends.reached_was f row (omega arith)) ∙ sym (ends.not_taken f row none)
+        | inr taken ↦ ap (λ (v : Bool). if v then false else true) (not_before row (c.fresh taken)) ∙ sym (ends.some_taken f row taken)
+      ]
+    where
+      not_before : (row : ℕ) → ends.old_count f row ≡ 0 → is_reached b.sheet.tree row ≡ false
+      not_before row none = elim (cases_Bool (is_reached b.sheet.tree row)) [
+        | inl was ↦ let some = ends.was_reached f row was in absurd (omega arith)
+        | inr not ↦ not
+      ]
+
+  abbrev tree_now : laws.Tree
+  tree_now = tree_as b.kind s'.tree
+
+  fewest_as : (new : Option ℕ) → StandsAs tree_now new → FewestAs (is_taken w) tree_now new → HasFewest (is_unreached b.sheet.tree) tree_now
+  fewest_as None none few = inl none
+  fewest_as (Some h) standing few = inr (
+    h,
+    standing,
+    fewest_later (is_taken w) (is_unreached b.sheet.tree) b.kind s'.tree.table s'.tree.table refl h (root_of tree_now)
+        (levels_all (Shared s'.tree.table s'.tree.table) s'.tree.table (λ _ x. refl) h (root_of tree_now))
+        (levels_from (SameNews (is_taken w) (is_unreached b.sheet.tree)) s'.tree.table h (root_of tree_now) h 0 (omega arith)
+        (λ k x _ on. new_is_taken (row_in x.word) (count_reached tree_now (Some h) (row_in x.word) standing (reached.on_level_reached tree_now h standing k x on)))) few,
+  )
+
   -- all is done but for the parent words
   pub spliced : HasParents (tree_as b.kind s'.tree) → ((row : ℕ) → IsReached b.sheet.tree row → is_reached s'.tree row ≡ false → word_at s'.tree row 0 ≡ dead_mark row) → IsSpliced b.kind b.sheet s' b.book book b.number f.call f.reply f.place
   spliced parents marked = record {
@@ -423,6 +456,7 @@ module _ (f : ends.Finish) (s' : Sheet) (o : Outcome f s') where
     tree = tree;
     parents = parents;
     map = map_is;
+    fewest = fewest_as f.may.new o.stands o.fewest;
     published = published_in f.may.old f.may.new f.place refl refl refl (ends.stands_was f) f.may.at f.may.top;
     kept = kept;
     none_buried = none_buried;

@@ -49,4 +49,5 @@ module _ {b : Before} {start : Start} {s : Sheet} {book : Book} {w : Work} (was 
     ranges = sym empty;
     rows = λ p. (let taken = ap (passing p) none in let gone = all p in omega arith);
     were = λ p. (let gone = all p in omega arith);
+    fewest = tt;
   }

@@ -220,7 +220,8 @@ module _ {b : Before} {start : Start} {s : Sheet} {book : Book} {inner : List Ne
         may_publish call reply under
         (let few = rows.1.under.few in let earlier = free_and_taken rows.1.under.progress in let later = free_and_taken one.1.progress in let less = one.1.free in omega arith)
         end.answer (suc start.height) Root root.word same
-        (forms.ends_at_root case.was one.1.progress (Some start.height) (Some (suc start.height)) root.word (roots.ends_grown start rows.0 one.0 left right end.height spans top rows.1.climbed one.1.written few_rows))
+        (forms.ends_at_root case.was one.1.progress (Some start.height) (Some (suc start.height)) root.word (roots.ends_grown start rows.0 one.0 left right end.height spans top rows.1.climbed one.1.written few_rows from new refl
+        (let few = rows.1.few in let size = sizes start.tree.table.width (kind_at start.tree.kind (suc end.height)) in omega (arith, size.least, size.some))))
         tt (are_taken start rows.0 one.0 (suc end.height) spans (top ∷ []) one.1.written).0
 
 -- the same, at the level that the code names

@@ -1,23 +1,28 @@
 -- From gathered spans to replaced rows: what stands between the steps of a level.
-use Rattle.std.proofs.Common.{◌≡◌, ℕ, ◌+◌, ◌≤◌, List, length, map, sym, ap, ◌∙◌, subst, arith, length-append}
+use Rattle.std.proofs.Common.{◌≡◌, ℕ, ◌+◌, ◌≤◌, List, length, map, refl, sym, ap, ◌∙◌, subst, arith, length-append}
 use Rattle.std.proofs.lemmas.List.{length-map}
+use Rattle.mt_base.specs.declared.widths.Width.{Width}
 use Rattle.mt_layout.specs.declared.items.Item.{Item}
 use Rattle.mt_layout.specs.declared.names.RowKind.{RowKind}
 use Rattle.mt_layout.specs.Spans.{spans_from}
+use Rattle.mt_layout.proofs.SpanLists.{length-spans_from}
 use Rattle.mt_free.specs.Book.{Book}
 use Rattle.mt_rows.specs.Levels.{tally}
+use Rattle.mt_rows.specs.Laws.{Tree, kind_at}
 use Rattle.mt_rows.specs.Sheet.{Sheet}
 use Rattle.mt_path.specs.declared.paths.PathStep.{PathStep}
 use Rattle.mt_splice.specs.declared.writes.NewRow.{NewRow}
 use Rattle.mt_splice.specs.steps.Seen.{Seen, passing}
 use Rattle.mt_splice.specs.steps.Work.{Start, Work, rows_at, times_in}
 use Rattle.mt_splice.specs.steps.Climbs.{begin_of, behind_of}
+use Rattle.mt_splice.specs.Fewest.{IsCutOf}
 use Rattle.mt_splice.specs.steps.Levels.{MayWriteRows, AreRowsWritten, MayAddRows, AreRowsAdded, MayBuryRows, AreRowsBuried, MayBuryLevel, IsLevelBuried}
 use Rattle.mt_splice.specs.steps.Progress.{Before, IsProgress, row_seen, new_rows_of}
 use Rattle.mt_splice.specs.steps.Replacing.{MayReplaceRows, AreRowsReplaced, MayReplaceLevelRows, AreLevelRowsReplaced}
 use Rattle.mt_splice.proofs.Moments.{holds_later}
 use Rattle.mt_splice.proofs.Written.{holds_written, level_replaced}
 use Rattle.mt_splice.proofs.Buried.{gathered_others}
+use Rattle.mt_splice.proofs.Steps.{width_now}
 use Rattle.mt_splice.proofs.LevelRows.{inner_rows_stay}
 use Rattle.mt_splice.proofs.LevelRuns.{some_items, some_ends}
 
@@ -53,6 +58,12 @@ module _ {b : Before} {start : Start} {s : Sheet} {book : Book} {w : Work} {inne
       call = may.in_call;
     }
 
+    width_is : s.tree.table.width ≡ start.tree.table.width
+    width_is = width_now may.under.case.was may.under.progress ∙ sym (ap (λ (t : Tree). t.table.width) may.under.case.was.tree)
+
+    cut_here : IsCutOf start.tree.table.width (kind_at start.tree.kind height) items ends
+    cut_here = subst (λ (x : Width × RowKind). IsCutOf x.0 x.1 items ends) (λ i. (width_is i, may.of_kind i)) may.cut
+
     -- and once these are buried the level is replaced
     rows_are_replaced : {s₂ : Sheet} {book₂ : Book} {w₂ : Work} → AreRowsBuried b start s₂ book₂ w₁ w₂ depth height (begin_of left depth) (behind_of right depth)
         → AreRowsReplaced b start s₂ book₂ w₂ inner₁ left right depth height ends new
@@ -68,7 +79,7 @@ module _ {b : Before} {start : Start} {s : Sheet} {book : Book} {w : Work} {inne
             let same = ap length buried.buried.taken in let many = written.many in let three = may.few in let few = may.under.few in
             omega arith;
       };
-      climbed = level_replaced start w w₁ w₂ left right depth height (spans_from (begin_of left depth) items) (spans_from (begin_of left depth) new) may.gathered written.written buried.buried;
+      climbed = level_replaced start w w₁ w₂ left right depth height (spans_from (begin_of left depth) items) (spans_from (begin_of left depth) new) may.gathered written.written buried.buried (begin_of left depth) items ends refl cut_here (length-spans_from (begin_of left depth) new ∙ written.many);
       some = let many = written.many in let some = some_ends may.cut (some_items items may.run) in omega arith;
       few = let many = written.many in let three = may.few in omega arith;
       many = written.many;

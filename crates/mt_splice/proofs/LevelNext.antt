@@ -27,7 +27,7 @@ use Rattle.mt_splice.specs.steps.Progress.{Before, IsBefore, IsProgress, new_row
 use Rattle.mt_splice.specs.steps.Endings.{words_of}
 use Rattle.mt_splice.specs.steps.TakingIn.{IsNow, MayTakeIn, IsTakenIn}
 use Rattle.mt_splice.specs.steps.Decisions.{item_words, StandForAll, IsNothing, EndsHere}
-use Rattle.mt_splice.specs.steps.Levels.{IsCutOf}
+use Rattle.mt_splice.specs.Fewest.{IsCutOf}
 use Rattle.mt_splice.specs.steps.Replacing.{IsUnderWay, MayLookBeside, IsTakenBeside, MayReplaceRows, AreRowsReplaced, MayReplaceLevelRows, AreLevelRowsReplaced, MayGoUp, MayGather, IsGathered, MayReplaceLevel, MayEndEmpty, MayEnd, MayEndAtRoot, MayEndAbove, MayEndInSlot}
 use Rattle.mt_splice.proofs.AboveNothing.{ends_with_hole}
 use Rattle.mt_splice.proofs.BetweenCalls.{tree_read}

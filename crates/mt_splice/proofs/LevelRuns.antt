@@ -16,7 +16,7 @@ use Rattle.mt_layout.proofs.SpanLists.{length-spans_from, after, after-append, s
 use Rattle.mt_leaf.specs.Cuts.{word_of, IsPiece, ArePieces}
 use Rattle.mt_rows.specs.Laws.{Tree, top_of, kind_at, least_of, least_of_root, covers_all}
 use Rattle.mt_splice.specs.steps.Climbs.{MayBeIn}
-use Rattle.mt_splice.specs.steps.Levels.{IsCutOf}
+use Rattle.mt_splice.specs.Fewest.{IsCutOf}
 use Rattle.mt_splice.specs.steps.Runs.{most_in_three, MayBeLeaves, span_to, MayBeCut}
 
 ends_full : (lo k : ℕ) (xs : List Item) → k + 1 ≡ length xs → get_or (map (λ (x : Item). x.word) xs) k 0 ≢ 0 → EndsFull (spans_from lo xs)

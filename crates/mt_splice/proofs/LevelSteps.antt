@@ -19,7 +19,8 @@ use Rattle.mt_splice.specs.declared.writes.NewRow.{NewRow}
 use Rattle.mt_splice.specs.steps.Work.{Start, Work, now, IsUsed}
 use Rattle.mt_splice.specs.steps.Climbs.{AreWritten}
 use Rattle.mt_splice.specs.steps.Progress.{Before, IsBefore, IsProgress, new_rows_of}
-use Rattle.mt_splice.specs.steps.Levels.{IsCutOf, MayWriteRow, IsOneWritten, MayAddRow, IsRowAdded, MayWriteRows, MayAddRows, AreRowsAdded}
+use Rattle.mt_splice.specs.steps.Levels.{MayWriteRow, IsOneWritten, MayAddRow, IsRowAdded, MayWriteRows, MayAddRows, AreRowsAdded}
+use Rattle.mt_splice.specs.Fewest.{IsCutOf}
 use Rattle.mt_splice.proofs.Moments.{keeps_none, keeps_more}
 use Rattle.mt_splice.proofs.Written.{still_hold, still_lawful, still_in_use}
 use Rattle.mt_splice.proofs.StepSeen.{not_both}

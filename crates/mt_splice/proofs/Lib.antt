@@ -21,6 +21,7 @@ pub mod EndTending
 pub mod EndTrees
 pub mod EndWhole
 pub mod EndWords
+pub mod FewestRows
 pub mod Fresh
 pub mod Gathering
 pub mod LeafAbove

@@ -16,6 +16,8 @@ use Rattle.mt_path.specs.declared.paths.PathStep.{PathStep}
 use Rattle.mt_path.specs.Paths.{step_in, step_at, path_in, At}
 use Rattle.mt_path.proofs.TreePaths.{row_of, step, place, lawful, child}
 use Rattle.mt_splice.specs.steps.Work.{Start, Work, now, rows_at, IsUsed, KeepsWords, Holds}
+use Rattle.mt_splice.specs.Fewest.{FewestBelow}
+use Rattle.mt_splice.specs.steps.Progress.{is_taken}
 use Rattle.mt_splice.specs.steps.Replaced.{IsHalfReplaced}
 use Rattle.mt_splice.specs.steps.Stretches.{IsStretch, spans_on}
 use Rattle.mt_splice.specs.steps.Climbs.{begin_of, behind_of, Gathered, Climbed}
@@ -180,5 +182,6 @@ module _ (start : Start) (s : Work) (left right : List PathStep) (depth height :
         level = (
           subst (IsHalfReplaced t s.words start.map s.taken s.gone height (rows_at t (suc depth))) level climbed.half,
           subst (Levels (IsUsed s) (now start s).table height) level climbed.used,
+          subst (FewestBelow (is_taken s) t.kind (now start s).table height) level climbed.fewest,
         );
       }

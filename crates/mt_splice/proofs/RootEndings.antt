@@ -1,19 +1,29 @@
 -- A replacement ends at the root: by one row that covers all, by a root above several rows, or with no row at all.
-use Rattle.std.proofs.Common.{◌≡◌, ℕ, suc, ◌+◌, ◌<◌, ◌≤◌, List, [], ◌∷◌, ◌++◌, Some, Bool, refl, sym, ap, ◌∙◌, subst, arith, append-nil}
+use Rattle.std.proofs.Common.{◌≡◌, ℕ, suc, ◌+◌, ◌<◌, ◌≤◌, ◌==◌, List, [], ◌∷◌, ◌++◌, Some, Bool, true, false, length, ⊎_elim, refl, sym, ap, ◌∙◌, subst, arith, append-nil}
+use Rattle.mt_layout.specs.Rows.{row_in}
+use Rattle.mt_rows.proofs.Frames.{same_spans}
+use Rattle.mt_rows.proofs.Joins.{Shared}
+use Rattle.mt_splice.proofs.FewestRows.{SameNews, fewest_later, one_new}
+use Rattle.mt_splice.specs.steps.Progress.{is_taken}
+use Rattle.mt_splice.specs.Fewest.{FewestBelow}
+use Rattle.std.specs.Prelude.{nat_lt}
 use Rattle.std.specs.List.{flat_map}
+use Rattle.std.proofs.lemmas.Bool.{cases_Bool, eqb-true, lt-ltb}
+use Rattle.mt_layout.specs.declared.items.Item.{Item}
+use Rattle.mt_layout.specs.Sizes.{slots_of}
 use Rattle.mt_layout.specs.declared.spans.Span.{Span}
-use Rattle.mt_layout.specs.Spans.{leaf_range, Fills}
+use Rattle.mt_layout.specs.Spans.{leaf_range, spans_from, Fills}
 use Rattle.mt_rows.specs.Spans.{root_span}
-use Rattle.mt_rows.specs.Levels.{expand, map_of, Levels, tally, times}
+use Rattle.mt_rows.specs.Levels.{expand, map_of, Levels, tally, times, is_row_of, one_if}
 use Rattle.mt_base.specs.Width.{deepest, most_rows}
-use Rattle.mt_rows.specs.Laws.{Tree, IsRow, Stands, top_of}
+use Rattle.mt_rows.specs.Laws.{Tree, IsRow, Stands, top_of, kind_at}
 use Rattle.mt_rows.specs.Replacement.{root_of}
 use Rattle.mt_rows.proofs.Lists.{levels_map}
 use Rattle.mt_rows.proofs.RowLaws.{row_keeps}
 use Rattle.mt_rows.proofs.NineLevels.{nine_levels}
 use Rattle.mt_path.specs.declared.paths.PathStep.{PathStep}
 use Rattle.mt_path.specs.Paths.{path_in, row_on}
-use Rattle.mt_splice.specs.steps.Seen.{passing}
+use Rattle.mt_splice.specs.steps.Seen.{passing, Seen}
 use Rattle.mt_splice.specs.steps.Work.{Start, Work, now, rows_at, times_in, IsUsed, IsTaken, Holds}
 use Rattle.mt_splice.specs.steps.Replaced.{IsHalfReplaced, IsReplaced}
 use Rattle.mt_splice.specs.steps.Burying.{AreBuried, AreLevelsBuried}
@@ -38,7 +48,7 @@ module _ (start : Start) (s : Work) (x : Span) (first : x.first ≡ 0) (last : x
   abbrev t' : Tree
   t' = with_root (now start s) x.word
 
-  at_root : x ∷ [] ≡ root_of t'
+  pub at_root : x ∷ [] ≡ root_of t'
   at_root = ap (λ (y : Span). y ∷ []) (root_is start.tree x first last)
 
   root_rows : (k : ℕ) → Levels (IsRow (now start s)) (now start s).table k (x ∷ []) → Levels (IsRow t') t'.table k (root_of t')
@@ -67,6 +77,16 @@ module _ (start : Start) (s s' : Work) (left right : List PathStep) (depth heigh
       (subst (Levels (IsUsed s) (now start s).table height) alone climbed.used)
       (subst (IsHalfReplaced start.tree s.words start.map s.taken s.gone height (rows_at start.tree depth)) alone climbed.half)
 
+  -- on each level of the tree, the new rows are the fewest
+  pub fewest_at_root : FewestBelow (is_taken s') start.tree.kind (now start s').table height (root_of (with_root (now start s') x.word))
+  fewest_at_root =
+      let used = subst (Levels (IsUsed s) (now start s).table height) alone climbed.used in
+      subst (FewestBelow (is_taken s') start.tree.kind (now start s').table height) (at_root start s' x first last)
+      (fewest_later (is_taken s) (is_taken s') start.tree.kind (now start s).table (now start s').table refl height (x ∷ [])
+      (levels_map (IsUsed s) (Shared (now start s).table (now start s').table) (now start s).table (λ _ y u. same_spans (now start s).table (now start s').table y (levels.keeps.words (row_in y.word) u)) height (x ∷ []) used)
+      (levels_map (IsUsed s) (SameNews (is_taken s) (is_taken s')) (now start s).table (λ _ y u. ap (λ (seen : List Seen). nat_lt 0 (passing (is_row_of (row_in y.word)) seen)) levels.taken) height (x ∷ []) used)
+      (subst (FewestBelow (is_taken s) start.tree.kind (now start s).table height) alone climbed.fewest))
+
   pub ends_at_root : IsReplaced start.tree (with_root (now start s') x.word) start.map s'.taken s'.gone (Some start.height) (Some height)
   ends_at_root =
       let low : height < deepest = (let all = climbed.levels in let deep = climbed.holds.stands.low in omega arith) in
@@ -84,6 +104,7 @@ module _ (start : Start) (s s' : Work) (left right : List PathStep) (depth heigh
             let half = half_now.were p in
             let gone = levels.gone p in
             omega arith;
+        fewest = fewest_at_root;
       }
 
 -- ---- a root above several rows
@@ -120,8 +141,35 @@ module _ (start : Start) (s s' : Work) (left right : List PathStep) (height : �
       (subst (Levels (IsUsed s) (now start s).table height) all_new climbed.used)
       (subst (IsHalfReplaced start.tree s.words start.map s.taken s.gone height (root_of start.tree)) all_new climbed.half)
 
-  pub ends_grown : IsReplaced start.tree (with_root (now start s') x.word) start.map s'.taken s'.gone (Some start.height) (Some (suc start.height))
-  ends_grown =
+  -- a row that was in use is new as it was
+  news_same : (y : Span) → s.used (row_in y.word) ≡ true → is_taken s' (row_in y.word) ≡ is_taken s (row_in y.word)
+  news_same y used =
+      ⊎_elim (λ (one : (row_in x.word == row_in y.word) ≡ true).
+      let clash : true ≡ false = sym used ∙ (ap s.used (sym (eqb-true (row_in x.word) (row_in y.word) one)) ∙ written.were_free.0) in absurd (cc))
+      (λ (other : (row_in x.word == row_in y.word) ≡ false).
+      let all = written.taken (is_row_of (row_in y.word)) in
+      let none = ap one_if other in
+      let same : passing (is_row_of (row_in y.word)) s'.taken ≡ passing (is_row_of (row_in y.word)) s.taken = omega arith in
+      ap (nat_lt 0) same)
+      (cases_Bool (row_in x.word == row_in y.word))
+
+  -- the new rows stay the fewest, and the root is one row
+  fewest_grown : (lo : ℕ) (items : List Item) → new ≡ spans_from lo items → length items ≤ slots_of start.tree.table.width (kind_at start.tree.kind (suc height))
+      → FewestBelow (is_taken s') start.tree.kind (now start s').table (suc height) (root_of (with_root (now start s') x.word))
+  fewest_grown lo items is_new few =
+      let used = subst (Levels (IsUsed s) (now start s).table height) all_new climbed.used in
+      subst (FewestBelow (is_taken s') start.tree.kind (now start s').table (suc height)) (at_root start s' x whole.0 x_last) (
+        one_new (is_taken s') (now start s').table (kind_at start.tree.kind (suc height)) x lo items (lt-ltb 0 (passing (is_row_of (row_in x.word)) s'.taken) (are_taken start s s' (suc height) new (x ∷ []) written).0) (written.hold ∙ is_new) few,
+        subst (FewestBelow (is_taken s') start.tree.kind (now start s').table height) (sym written.hold)
+            (fewest_later (is_taken s) (is_taken s') start.tree.kind (now start s).table (now start s').table refl height new
+            (levels_map (IsUsed s) (Shared (now start s).table (now start s').table) (now start s).table (λ _ y u. same_spans (now start s).table (now start s').table y (written.keeps.words (row_in y.word) u)) height new used)
+            (levels_map (IsUsed s) (SameNews (is_taken s) (is_taken s')) (now start s).table (λ _ y u. news_same y u) height new used)
+            (subst (FewestBelow (is_taken s) start.tree.kind (now start s).table height) all_new climbed.fewest)),
+      )
+
+  pub ends_grown : (lo : ℕ) (items : List Item) → new ≡ spans_from lo items → length items ≤ slots_of start.tree.table.width (kind_at start.tree.kind (suc height))
+      → IsReplaced start.tree (with_root (now start s') x.word) start.map s'.taken s'.gone (Some start.height) (Some (suc start.height))
+  ends_grown lo items is_new fit =
       let same : height ≡ start.height = (let all = climbed.levels in omega arith) in
       let root = at_root start s' x whole.0 x_last in
       let rows : Levels (IsRow (now start s')) (now start s').table (suc height) (x ∷ []) = (written.lawful, subst (Levels (IsRow (now start s')) (now start s').table height) (sym written.hold) half_new.stands) in
@@ -143,6 +191,7 @@ module _ (start : Start) (s s' : Work) (left right : List PathStep) (height : �
             let gone = ap (passing p) written.gone in
             let height_is = ap (λ (h : ℕ). times p start.tree.table h (root_of start.tree)) same in
             omega arith;
+        fewest = fewest_grown lo items is_new fit;
       })
 
 -- ---- no row at all

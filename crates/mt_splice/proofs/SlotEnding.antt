@@ -1,17 +1,21 @@
 -- A replacement ends in place: one new row stands where one old row stood, by one store in the row above.
-use Rattle.std.proofs.Common.{◌≡◌, ℕ, suc, ◌+◌, ◌≤◌, ◌==◌, List, [], ◌∷◌, ◌++◌, Bool, false, Some, map, refl, ne_eqb, sym, ap, ◌∙◌, subst, ⊎_elim, arith}
+use Rattle.std.proofs.Common.{◌≡◌, ℕ, suc, ◌+◌, ◌≤◌, ◌==◌, List, [], ◌∷◌, ◌++◌, Bool, false, Some, map, refl, ne_eqb, sym, ap, ◌∙◌, subst, ⊎_elim, arith, zero, true, inl, inr}
+use Rattle.mt_base.specs.declared.kinds.Kind.{Kind}
+use Rattle.mt_splice.proofs.FewestRows.{SameNews, fewest_later, none_new}
+use Rattle.mt_splice.specs.steps.Progress.{is_taken}
+use Rattle.mt_splice.specs.Fewest.{FewestBelow}
 use Rattle.std.specs.List.{slice_get}
-use Rattle.std.proofs.lemmas.Bool.{cases_eq}
+use Rattle.std.proofs.lemmas.Bool.{cases_eq, cases_Bool, ltb-true}
 use Rattle.mt_base.specs.declared.ranges.Range.{Range}
 use Rattle.mt_layout.specs.declared.spans.Span.{Span}
 use Rattle.mt_layout.specs.declared.names.RowKind.{RowKind}
 use Rattle.mt_layout.specs.Rows.{row_in, named_kind}
 use Rattle.mt_layout.specs.Columns.{slot_column}
 use Rattle.mt_layout.specs.Spans.{Fills}
-use Rattle.mt_base.proofs.Lists.{none_or_some}
+use Rattle.mt_base.proofs.Lists.{none_or_some, all_map}
 use Rattle.mt_rows.specs.Spans.{Table, spans_in}
 use Rattle.mt_layout.specs.Sizes.{slots_of}
-use Rattle.mt_rows.specs.Levels.{map_of, Levels, tally, times, is_row_of}
+use Rattle.mt_rows.specs.Levels.{map_of, Levels, tally, times, is_row_of, level, expand}
 use Rattle.mt_rows.specs.Laws.{Tree, HasWords, IsRow, top_of, kind_at}
 use Rattle.mt_rows.specs.Publish.{StandsAt, SameHoles, IsSlotOf}
 use Rattle.mt_rows.specs.Replacement.{root_of, IsSlotAt, with_slot, with_child, ReplacesChild}
@@ -37,8 +41,29 @@ use Rattle.mt_splice.specs.steps.Endings.{words_of, with_step, IsStepIn, IsPubli
 use Rattle.mt_splice.proofs.Splits.{split_same}
 use Rattle.mt_splice.proofs.Moments.{old_shared, old_stands, old_times, old_level}
 use Rattle.mt_splice.proofs.PathRows.{before_it, behind_it, lower_parts, lower_before, front_below, back_below}
-use Rattle.mt_splice.proofs.Written.{counts_itself}
+use Rattle.mt_splice.proofs.Written.{counts_itself, each_counted}
 use Rattle.mt_splice.proofs.Rises.{at_here, step_here, row_is_lawful, row_keeps_words}
+
+-- Where each row stands once, and the new ones stand at a level or below it, none stands above.
+fewest_from : (is_new : ℕ → Bool) (kind : Kind) (t : Table) (d k h : ℕ) (xs : List Span) → h ≡ d + k → ((row : ℕ) → times (is_row_of row) t h xs ≤ 1) → ((row : ℕ) → is_new row ≡ true → 1 ≤ times (is_row_of row) t k (level t d xs))
+    → FewestBelow is_new kind t k (level t d xs) → FewestBelow is_new kind t h xs
+fewest_from is_new kind t zero k h xs height once here below = let same : k ≡ h = omega arith in subst (λ (n : ℕ). FewestBelow is_new kind t n xs) same below
+fewest_from is_new kind t (suc d) k zero xs height once here below = absurd (omega arith)
+fewest_from is_new kind t (suc d) k (suc h) xs height once here below = (
+  none_new is_new t (kind_at kind (suc h)) xs
+      (all_map (λ (x : Span). 1 ≤ tally (is_row_of (row_in x.word) (suc h)) xs) (λ (x : Span). is_new (row_in x.word) ≡ false) old_here xs (each_counted (suc h) xs xs (λ p. omega arith))),
+  fewest_from is_new kind t d k h (expand t xs) (omega arith) (λ row. let all = once row in omega arith) here below,
+)
+  where
+    old_here : (x : Span) → 1 ≤ tally (is_row_of (row_in x.word) (suc h)) xs → is_new (row_in x.word) ≡ false
+    old_here x some = elim (cases_Bool (is_new (row_in x.word))) [
+      | inl new ↦
+          let all = once (row_in x.word) in
+          let low = here (row_in x.word) new in
+          let split = times_split (is_row_of (row_in x.word)) t d k h (expand t xs) (omega arith) in
+          absurd (omega arith)
+      | inr not ↦ not
+    ]
 
 three_times : (p : ℕ → Span → Bool) (t : Table) (k : ℕ) (front : List Span) (x : Span) (back : List Span) → times p t k (front ++ (x ∷ back)) ≡ times p t k front + (times p t k (x ∷ []) + times p t k back)
 three_times p t k front x back = times-append p t k front (x ∷ back) ∙ ap (λ (n : ℕ). times p t k front + n) (times-append p t k (x ∷ []) back)
@@ -189,6 +214,45 @@ module _ (start : Start) (s : Work) (left right : List PathStep) (depth height :
   map_same : map_of t'.table height (with_child replaced x.word ∷ []) ≡ map_of t.table height (x ∷ [])
   map_same = ap (λ (y : Span). map_of t'.table height (y ∷ [])) (sym child_is) ∙ map_of_shared t.table t'.table height (x ∷ []) new_shared
 
+  -- on the level of the new row and on each below it, the new rows are the fewest
+  not_beside : times is_parent t.table height (front ++ (x ∷ back)) ≡ 0
+  not_beside =
+      let new = not_below.0 in
+      let once = times_in_once old h holds.stands (row_in parent.word) in
+      let split = times_split is_parent old.table depth (suc height) h (root_of old) levels in
+      let parts = ap (tally (is_parent (suc height))) parent_at.parts ∙ tally-append (is_parent (suc height)) parent_at.front (parent ∷ parent_at.back) in
+      let itself = counts_itself (suc height) parent in
+      let next = ap (times is_parent old.table height) (level_next old.table depth (root_of old)) in
+      let all = half.rows is_parent in
+      ⊎_elim (λ (none : passing is_parent s.taken ≡ 0). omega arith)
+      (λ (some : 1 ≤ passing is_parent s.taken). let clash = holds.taken (row_in parent.word) some in absurd (omega arith)) (none_or_some (passing is_parent s.taken))
+
+  level_shared_then : Levels (Shared t.table t'.table) t.table height (front ++ (x ∷ back))
+  level_shared_then = levels_map (store.IsOther its_store) (Shared t.table t'.table) t.table (store.others_same its_store) height (front ++ (x ∷ back)) (times_nowhere is_parent t.table height (front ++ (x ∷ back)) not_beside)
+
+  pub fewest_in_place : FewestBelow (is_taken s) old.kind t'.table height (rows_at t' (suc depth))
+  fewest_in_place =
+      subst (FewestBelow (is_taken s) old.kind t'.table height) (sym (replaces.after ∙ (λ k. beside.0 k ++ (sym child_is k ∷ back_same k))))
+      (fewest_later (is_taken s) (is_taken s) old.kind t.table t'.table refl height (front ++ (x ∷ back)) level_shared_then
+      (levels_map (Shared t.table t'.table) (SameNews (is_taken s) (is_taken s)) t.table (λ _ y same. refl) height (front ++ (x ∷ back)) level_shared_then)
+      (subst (FewestBelow (is_taken s) old.kind t.table height) (λ k. front_is k ++ (x ∷ back_is k)) climbed.fewest))
+
+  -- and no new row stands above that level
+  fewest_at_step : FewestBelow (is_taken s) old.kind t'.table h (root_of t')
+  fewest_at_step = fewest_from (is_taken s) old.kind t'.table (suc depth) height h (root_of t') climbed.levels (λ row. times_in_once t' h replaces.stands row) new_here fewest_in_place
+    where
+      new_here : (row : ℕ) → is_taken s row ≡ true → 1 ≤ times (is_row_of row) t'.table height (rows_at t' (suc depth))
+      new_here row taken =
+          let some = ltb-true 0 (passing (is_row_of row) s.taken) taken in
+          let none = holds.taken row some in
+          let all = half.rows (is_row_of row) in
+          let were = half.were (is_row_of row) in
+          let split = times_split (is_row_of row) old.table (suc depth) height h (root_of old) climbed.levels in
+          let same = times_shared (is_row_of row) t.table t'.table height (front ++ (x ∷ back)) level_shared_then in
+          let after : rows_at t' (suc depth) ≡ front ++ (x ∷ back) = replaces.after ∙ (λ k. beside.0 k ++ (sym child_is k ∷ back_same k)) in
+          let there = ap (times (is_row_of row) t'.table height) after in
+          omega arith
+
   ends_in_place : IsReplaced old t' start.map s.taken s.gone (Some h) (Some h)
   ends_in_place = record {
     stands = replaces.stands;
@@ -214,6 +278,7 @@ module _ (start : Start) (s : Work) (left right : List PathStep) (depth height :
         let were = half.were p in
         let split = times_split p old.table (suc depth) height h (root_of old) climbed.levels in
         omega arith;
+    fewest = fewest_at_step;
   }
 
   -- ---- where it is published

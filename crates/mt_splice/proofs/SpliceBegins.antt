@@ -41,11 +41,12 @@ use Rattle.mt_splice.specs.Splice.{MaySplice, region_of}
 use Rattle.mt_splice.specs.steps.Entries.{before_of, start_of, IsBegunBy, IsFirst}
 use Rattle.mt_splice.specs.steps.Beginnings.{Begins}
 use Rattle.mt_splice.specs.steps.Climbs.{Gathered}
+use Rattle.mt_splice.specs.Fewest.{FewestBelow}
 use Rattle.mt_splice.specs.steps.Replaced.{IsReplaced}
 use Rattle.mt_splice.specs.steps.Runs.{IsLeafRun, MayBeCut}
 use Rattle.mt_splice.specs.steps.Endings.{with_root}
 use Rattle.mt_splice.specs.steps.Ends.{MayPublishEnd}
-use Rattle.mt_splice.specs.steps.Progress.{Before, IsCase, IsProgress, row_seen}
+use Rattle.mt_splice.specs.steps.Progress.{Before, IsCase, IsProgress, is_taken, row_seen}
 use Rattle.mt_splice.specs.steps.Levels.{MayWriteRow, IsOneWritten, MayAddRow, IsRowAdded}
 use Rattle.mt_splice.specs.steps.TakingIn.{MayTakeIn}
 use Rattle.mt_splice.specs.steps.Replacing.{IsUnderWay, MayReplaceLevel}
@@ -53,7 +54,8 @@ use Rattle.mt_splice.proofs.Beginnings.{holds_first, leaves_gathered, leaves_run
 use Rattle.mt_splice.proofs.EndForms.{ends_at_root}
 use Rattle.mt_splice.proofs.EndTrees.{map_is}
 use Rattle.mt_splice.proofs.Moments.{reached_are_used}
-use Rattle.mt_splice.proofs.RootEndings.{first_leaf}
+use Rattle.mt_splice.proofs.FewestRows.{one_new}
+use Rattle.mt_splice.proofs.RootEndings.{first_leaf, at_root}
 use Rattle.mt_splice.proofs.Runs.{empty_run}
 use Rattle.mt_splice.proofs.StepSeen.{not_both}
 
@@ -287,6 +289,9 @@ module _ {kind : Kind} {s : Sheet} {book : Book} {right : List PathStep} {items 
           let root = ap (λ (x : Span). tally (p 0) (x ∷ [])) (root_is tree₀ leaf refl leaf_last) in
           omega arith;
       were = λ p. (let gone = ap (passing p) one.written.gone in omega arith);
+      fewest = subst (FewestBelow (is_taken w') tree₀.kind (now start₀ w').table 0) (at_root start₀ w' leaf refl leaf_last)
+          (one_new (is_taken w') (now start₀ w').table Leaf leaf 0 items (lt-ltb 0 (passing (is_row_of (row_in item.word)) w'.taken) leaf_stands.2) one.written.hold
+          (let few = ap length may.edits in let most = empty_cut.2 in let same = length-spans_from 0 items in let wide = sizes s.tree.table.width Leaf in omega (arith, wide.least, wide.some)));
     }
 
     first_ends : MayPublishEnd b₀ start₀ s' book' inner' Root item.word call reply

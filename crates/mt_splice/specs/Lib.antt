@@ -1,4 +1,5 @@
 pub mod Between
+pub mod Fewest
 pub mod Kept
 pub mod Splice
 pub mod steps

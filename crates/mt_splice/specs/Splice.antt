@@ -1,7 +1,7 @@
 -- What a replacement of nodes is asked for, and what it leaves.
 -- Source: the kernel's lib/maple_tree.c, mas_wr_spanning_store, mas_split and mas_rebalance; that every such store is
 -- published by one store of one word is this project's.
-use Rattle.std.specs.Prelude.{◌≡◌, ◌≢◌, ◌⊎◌, ℕ, ◌+◌, ◌*◌, ◌<◌, ◌≤◌, ◌==◌, true, false, List, [], ◌∷◌, ◌++◌, All, Contains, length, map, if◌then◌else◌}
+use Rattle.std.specs.Prelude.{◌≡◌, ◌≢◌, ◌⊎◌, ℕ, ◌+◌, ◌*◌, ◌<◌, ◌≤◌, ◌==◌, Bool, true, false, List, [], ◌∷◌, ◌++◌, All, Contains, length, map, if◌then◌else◌}
 use Rattle.mt_base.specs.declared.kinds.Kind.{Kind}
 use Rattle.mt_base.specs.declared.ranges.Range.{Range}
 use Rattle.mt_base.specs.declared.calls.Call.{Call}
@@ -23,13 +23,14 @@ use Rattle.mt_rows.specs.Spans.{Table, column}
 use Rattle.mt_rows.specs.Levels.{Levels}
 use Rattle.mt_rows.specs.Trees.{height_in}
 use Rattle.mt_rows.specs.Laws.{Tree, Stands, ParentLaw}
-use Rattle.mt_rows.specs.Sheet.{Sheet, life_of, word_at}
+use Rattle.mt_rows.specs.Sheet.{Rooted, Sheet, life_of, word_at}
 use Rattle.mt_rows.specs.Publish.{tree_as, IsTold, IsTreeOf, map_by, is_reached, IsReached, LiveAreReached, NoneBuried, with_record}
 use Rattle.mt_rows.specs.Replacement.{root_of}
 use Rattle.mt_leaf.specs.Edits.{edited, starting}
 use Rattle.mt_path.specs.declared.paths.PathStep.{PathStep}
 use Rattle.mt_path.specs.Paths.{path_in}
 use Rattle.mt_path.specs.Handles.{last_step, leaf_spans}
+use Rattle.mt_splice.specs.Fewest.{FewestBelow}
 use Rattle.mt_splice.specs.Kept.{MayBeReplaced, IsBookOf, IsKept, IsUnpublished}
 
 -- ---- the store
@@ -93,6 +94,14 @@ pub record MayClear (kind : Kind) (s : Sheet) (book : Book) (number : ℕ) (call
 abbrev pub HasParents : Tree → Type 0
 HasParents t = (t.root ≡ 0) ⊎ ((h : ℕ) × Stands t h × (column t.table (row_in t.root) 0 ≡ 1) × Levels (ParentLaw t) t.table h (root_of t))
 
+-- a row that the tree does not reach
+abbrev pub is_unreached : Rooted → ℕ → Bool
+is_unreached t row = if is_reached t row then false else true
+
+-- on each level of the tree, the new rows stand side by side and are the fewest that what stands in them can be cut into
+abbrev pub HasFewest : (ℕ → Bool) → Tree → Type 0
+HasFewest is_new t = (t.root ≡ 0) ⊎ ((h : ℕ) × Stands t h × FewestBelow is_new t.kind t.table h (root_of t))
+
 -- the one store that published was at this place
 abbrev pub WasPublishedAt : Sheet → Sheet → Place → Type 0
 WasPublishedAt s s' Root = s'.tree.root ≢ s.tree.root
@@ -118,6 +127,7 @@ pub record IsSpliced (kind : Kind) (s s' : Sheet) (book book' : Book) (number : 
   pub tree : IsTreeOf s'.tree kind
   pub parents : HasParents (tree_as kind s'.tree)
   pub map : map_by s'.tree ≡ (acted kind (map_by s.tree) call).0
+  pub fewest : HasFewest (is_unreached s.tree) (tree_as kind s'.tree)
   pub published : WasPublishedAt s s' place
   pub kept : (row col : ℕ) → (IsReached s'.tree row → IsReached s.tree row) → 0 < col → col < columns s.tree.table.width → place ≢ Slot row col → word_at s'.tree row col ≡ word_at s.tree row col
   pub none_buried : NoneBuried s'.tree.rows s'.buried

@@ -8,7 +8,8 @@ ghost use Rattle.mt_base.specs.Map.{over};
 ghost use Rattle.mt_base.specs.Width.{most_rows};
 ghost use Rattle.mt_free.specs.Book.{Book, live_count};
 ghost use Rattle.mt_layout.specs.Rows.{row_in};
-ghost use Rattle.mt_layout.specs.Spans.{leaf_range, Fills};
+ghost use Rattle.mt_layout.specs.Spans.{leaf_range, spans_from, Fills};
+ghost use Rattle.mt_layout.specs.declared.items.Item.{Item};
 ghost use Rattle.mt_layout.specs.declared.spans.Span.{Span};
 ghost use Rattle.mt_leaf.specs.Edits.{edited, ends_with_hole};
 ghost use Rattle.mt_path.specs.Paths.{path_in, row_on, step_at};
@@ -26,6 +27,7 @@ ghost use Rattle.mt_splice.specs.steps.Beginnings.{Begins};
 ghost use Rattle.mt_splice.specs.steps.Burying.{AreBuried, AreLevelsBuried};
 ghost use Rattle.mt_splice.specs.steps.Climbs.{AreWritten, Climbed, Gathered, IsPathAhead, IsPathBehind, begin_of, beside, between_slots, behind_of, spans_now};
 ghost use Rattle.mt_splice.specs.steps.Endings.{IsPublished, IsStepIn, with_root, with_step, words_of};
+ghost use Rattle.mt_splice.specs.Fewest.{IsCutOf};
 ghost use Rattle.mt_splice.specs.steps.Replaced.{IsReplaced};
 ghost use Rattle.mt_splice.specs.steps.Runs.{IsLeafRun, MayBeCut, most_in_three, most_items};
 ghost use Rattle.mt_splice.specs.steps.Seen.{Adds, passing};
@@ -83,7 +85,8 @@ pub fn gathered_spans_may_be_cut()
 /// When the gathered spans are written and the rows that these replace are buried, the level is replaced.
 pub fn a_level_is_replaced()
     ensures { (start : Start) (s s₁ s₂ : Work) (left right : List PathStep) (depth height : ℕ) (run rows : List Span) → Gathered start s left right depth height run → AreWritten start s s₁ height run rows
-        → AreBuried start s₁ s₂ depth height (begin_of left depth) (behind_of right depth) → Climbed start s₂ left right depth height rows }
+        → AreBuried start s₁ s₂ depth height (begin_of left depth) (behind_of right depth) → (lo : ℕ) (items : List Item) (ends : List ℕ) → run ≡ spans_from lo items
+        → IsCutOf start.tree.table.width (kind_at start.tree.kind height) items ends → length rows ≡ length ends → Climbed start s₂ left right depth height rows }
 {}
 
 /// When a level is left, what stands beside the replaced rows in the rows above them is gathered with the new ones; it is
@@ -136,7 +139,8 @@ pub fn one_row_becomes_the_root()
 /// The rows that replace the root stand in a new root, and the tree is one level higher.
 pub fn a_root_stands_above_the_new_rows()
     ensures { (start : Start) (s s' : Work) (left right : List PathStep) (height : ℕ) (new : List Span) (x : Span) → Climbed start s left right 0 height new → AreWritten start s s' (suc height) new (x ∷ [])
-        → start.tree.rows ≤ most_rows → IsReplaced start.tree (with_root (now start s') x.word) start.map s'.taken s'.gone (Some start.height) (Some (suc start.height)) }
+        → start.tree.rows ≤ most_rows → (lo : ℕ) (items : List Item) → new ≡ spans_from lo items → length items ≤ slots_of start.tree.table.width (kind_at start.tree.kind (suc height))
+        → IsReplaced start.tree (with_root (now start s') x.word) start.map s'.taken s'.gone (Some start.height) (Some (suc start.height)) }
 {}
 
 /// One new row takes the place of one old row by one store in the row above, which stays.

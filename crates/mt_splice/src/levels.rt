@@ -11,7 +11,8 @@ ghost use Rattle.mt_layout.specs.Spans.{spans_from, Apart};
 ghost use Rattle.mt_path.specs.Paths.{path_in, step_at};
 ghost use Rattle.mt_rows.specs.Publish.{IsTreeOf};
 ghost use Rattle.mt_rows.specs.Sheet.{after_bury, OnlyReads};
-ghost use Rattle.mt_splice.specs.steps.Levels.{MayAddRow, IsRowAdded, noted, IsCutOf, MayAddRows, AreRowsAdded, MayBeBuried, MayBuryLevel, IsLevelBuried, IsRowBehind};
+ghost use Rattle.mt_splice.specs.steps.Levels.{MayAddRow, IsRowAdded, noted, MayAddRows, AreRowsAdded, MayBeBuried, MayBuryLevel, IsLevelBuried, IsRowBehind};
+ghost use Rattle.mt_splice.specs.Fewest.{IsCutOf};
 
 use crate::begun::Begun;
 use crate::regions::{Region, step_on};

@@ -11,6 +11,8 @@ use Rattle.mt_rows.specs.Laws.{IsRow, kind_at}
 use Rattle.mt_leaf.specs.Edits.{joined}
 use Rattle.mt_path.specs.declared.paths.PathStep.{PathStep}
 use Rattle.mt_path.specs.Paths.{path_in, step_at}
+use Rattle.mt_splice.specs.Fewest.{FewestBelow}
+use Rattle.mt_splice.specs.steps.Progress.{is_taken}
 use Rattle.mt_splice.specs.steps.Seen.{Adds}
 use Rattle.mt_splice.specs.steps.Work.{Start, Work, now, rows_at, IsUsed, IsTaken, Keeps, Holds}
 use Rattle.mt_splice.specs.steps.Replaced.{IsHalfReplaced}
@@ -50,10 +52,10 @@ beside zero xs ys = joined (xs ++ ys)
 beside (suc h) xs ys = xs ++ ys
 
 -- The spans are to stand in the rows of a depth and a height. In leaves they stand for the map, and nothing was done yet;
--- in inner rows they are the rows of the level below, of which all are replaced.
+-- in inner rows they are the rows of the level below, of which all are replaced, and of which the new ones are the fewest.
 abbrev pub MayStandIn : Start → Work → ℕ → ℕ → List Span → Type 0
 MayStandIn start s depth zero ys = (flat_map leaf_range ys ≡ start.map) × (s.taken ≡ []) × (s.gone ≡ [])
-MayStandIn start s depth (suc h) ys = IsHalfReplaced start.tree s.words start.map s.taken s.gone h (rows_at start.tree (suc depth)) ys × Levels (IsUsed s) (now start s).table h ys
+MayStandIn start s depth (suc h) ys = IsHalfReplaced start.tree s.words start.map s.taken s.gone h (rows_at start.tree (suc depth)) ys × Levels (IsUsed s) (now start s).table h ys × FewestBelow (is_taken s) start.tree.kind (now start s).table h ys
 
 -- The spans are gathered that replace what stands in the rows of this depth from the left path's to the right path's.
 pub record Gathered (start : Start) (s : Work) (left right : List PathStep) (depth height : ℕ) (run : List Span) : Type 0 where
@@ -92,3 +94,4 @@ pub record Climbed (start : Start) (s : Work) (left right : List PathStep) (dept
   pub taken : AllByRecursion (IsTaken s height) new
   pub half : IsHalfReplaced start.tree s.words start.map s.taken s.gone height (rows_at start.tree depth) (front ++ (new ++ back))
   pub used : Levels (IsUsed s) (now start s).table height (front ++ (new ++ back))
+  pub fewest : FewestBelow (is_taken s) start.tree.kind (now start s).table height (front ++ (new ++ back))

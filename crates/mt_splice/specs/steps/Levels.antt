@@ -1,7 +1,6 @@
 -- The items of a level that are to stand in rows of a height, and what is known once these rows are written.
 -- Source: this project's own; the kernel's mab_mas_cp writes a big node's items into one, two or three nodes.
-use Rattle.std.specs.Prelude.{◌≡◌, ℕ, ◌+◌, ◌<◌, ◌≤◌, Bool, true, List, [], ◌∷◌, All, length}
-use Rattle.mt_base.specs.declared.widths.Width.{Width}
+use Rattle.std.specs.Prelude.{◌≡◌, ℕ, ◌+◌, ◌<◌, ◌≤◌, Bool, List, [], ◌∷◌, All, length}
 use Rattle.mt_layout.specs.declared.items.Item.{Item}
 use Rattle.mt_layout.specs.declared.names.RowKind.{RowKind}
 use Rattle.mt_layout.specs.declared.names.RowKind.TheVariants.{Leaf, Inner, Gapped}
@@ -12,7 +11,6 @@ use Rattle.mt_free.specs.Book.{Book, Held, IsOut}
 use Rattle.mt_rows.specs.Levels.{tally}
 use Rattle.mt_rows.specs.Laws.{kind_at}
 use Rattle.mt_rows.specs.Sheet.{Sheet, MayBury}
-use Rattle.mt_leaf.specs.Cuts.{IsCut}
 use Rattle.mt_path.specs.declared.paths.PathStep.{PathStep}
 use Rattle.mt_path.specs.Paths.{path_in, step_at}
 use Rattle.mt_rows.specs.Spans.{Table}
@@ -23,8 +21,9 @@ use Rattle.mt_splice.specs.steps.Stretches.{ArePaths}
 use Rattle.mt_splice.specs.steps.Burying.{AreBuried}
 use Rattle.mt_splice.specs.steps.Climbs.{begin_of, behind_of, AreWritten}
 use Rattle.mt_splice.specs.steps.Runs.{MayBeCut}
+use Rattle.mt_splice.specs.Fewest.{IsCutOf}
 use Rattle.mt_splice.specs.steps.Progress.{Before, IsBefore, IsCase, IsProgress, new_rows_of}
-use Rattle.mt_layout.specs.Sizes.{slots_of, least_items}
+use Rattle.mt_layout.specs.Sizes.{slots_of}
 
 -- ---- one row
 
@@ -64,13 +63,6 @@ noted Inner word count = record { row = row_in word; count = count } ∷ []
 noted Gapped word count = record { row = row_in word; count = count } ∷ []
 
 -- ---- the rows of a level
-
--- the items are cut into the fewest rows of a kind at these places
-pub record IsCutOf (width : Width) (kind : RowKind) (items : List Item) (ends : List ℕ) : Type 0 where
-  pub leaf : Bool
-  pub is_leaf : leaf ≡ true → kind ≡ Leaf
-  pub of_leaf : kind ≡ Leaf → leaf ≡ true
-  pub cut : IsCut leaf (least_items width kind) (slots_of width kind) items ends
 
 -- the items can stand in rows of the height that end at these places, and which are written in rows that are free
 pub record MayWriteRows (b : Before) (start : Start) (s : Sheet) (book : Book) (w : Work) (kind : RowKind) (height lo hi : ℕ) (items : List Item) (ends : List ℕ) (inner : List NewRow) : Type 0 where

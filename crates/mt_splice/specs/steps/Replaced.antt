@@ -1,12 +1,13 @@
 -- What stands after a replacement, and half-way, when all rows up to a height are replaced.
 -- Source: this project's own.
-use Rattle.std.specs.Prelude.{◌≡◌, ℕ, ◌+◌, ◌≤◌, Bool, List, [], Option, Some, None}
+use Rattle.std.specs.Prelude.{◌≡◌, ℕ, ◌+◌, ◌≤◌, Bool, List, [], Option, Some, None, nat_lt}
 use Rattle.mt_base.specs.declared.ranges.Range.{Range}
 use Rattle.mt_layout.specs.declared.spans.Span.{Span}
 use Rattle.mt_layout.specs.Spans.{Fills}
-use Rattle.mt_rows.specs.Levels.{map_of, Levels, times}
+use Rattle.mt_rows.specs.Levels.{map_of, Levels, times, is_row_of}
 use Rattle.mt_rows.specs.Laws.{Tree, IsRow, Stands, top_of}
 use Rattle.mt_rows.specs.Replacement.{root_of}
+use Rattle.mt_splice.specs.Fewest.{FewestBelow}
 use Rattle.mt_splice.specs.steps.Seen.{Seen, passing}
 use Rattle.mt_splice.specs.steps.Work.{tree_with, times_in}
 
@@ -33,9 +34,15 @@ abbrev pub map_as : Tree → Option ℕ → List Range
 map_as t None = []
 map_as t (Some h) = map_of t.table h (root_of t)
 
+-- in a tree, or in the empty tree, the new rows of each level are the fewest
+abbrev pub FewestAs : (ℕ → Bool) → Tree → Option ℕ → Type 0
+FewestAs is_new t None = Unit {0}
+FewestAs is_new t (Some h) = FewestBelow is_new t.kind t.table h (root_of t)
+
 -- The tree t' stands for the map in place of t, where either may be the empty tree.
 pub record IsReplaced (t t' : Tree) (map : List Range) (taken gone : List Seen) (old new : Option ℕ) : Type 0 where
   pub stands : StandsAs t' new
   pub ranges : map_as t' new ≡ map
   pub rows : (p : ℕ → Span → Bool) → count_in p t old + passing p taken ≡ count_in p t' new + passing p gone
   pub were : (p : ℕ → Span → Bool) → passing p gone ≤ count_in p t old
+  pub fewest : FewestAs (λ row. nat_lt 0 (passing (is_row_of row) taken)) t' new

@@ -22,7 +22,7 @@ use Rattle.mt_splice.specs.steps.Stretches.{ArePaths}
 use Rattle.mt_splice.specs.steps.Burying.{AreLevelsBuried}
 use Rattle.mt_splice.specs.steps.Climbs.{begin_of, behind_of, Gathered, Climbed}
 use Rattle.mt_splice.specs.steps.Runs.{MayBeCut}
-use Rattle.mt_splice.specs.steps.Levels.{IsCutOf}
+use Rattle.mt_splice.specs.Fewest.{IsCutOf}
 use Rattle.mt_splice.specs.steps.Progress.{Before, IsCase, IsProgress, new_rows_of}
 use Rattle.mt_splice.specs.steps.Decisions.{StandForAll, EndsHere}
 use Rattle.mt_splice.specs.steps.TakingIn.{IsNow, MayTakeIn, IsTakenIn}

@@ -1,0 +1,43 @@
+-- That the rows of a level are the fewest that their items can be cut into.
+-- Source: this project's own; the kernel's mab_calc_split cuts a big node's items into two nodes, or three.
+use Rattle.std.specs.Prelude.{◌≡◌, ◌≢◌, ℕ, zero, suc, Bool, true, false, List, [], ◌++◌, length}
+use Rattle.std.specs.List.{AllByRecursion}
+use Rattle.mt_base.specs.declared.kinds.Kind.{Kind}
+use Rattle.mt_base.specs.declared.widths.Width.{Width}
+use Rattle.mt_layout.specs.declared.items.Item.{Item}
+use Rattle.mt_layout.specs.declared.names.RowKind.{RowKind}
+use Rattle.mt_layout.specs.declared.names.RowKind.TheVariants.{Leaf}
+use Rattle.mt_layout.specs.declared.spans.Span.{Span}
+use Rattle.mt_layout.specs.Rows.{row_in}
+use Rattle.mt_layout.specs.Sizes.{slots_of, least_items}
+use Rattle.mt_layout.specs.Spans.{spans_from}
+use Rattle.mt_rows.specs.Spans.{Table}
+use Rattle.mt_rows.specs.Levels.{expand}
+use Rattle.mt_rows.specs.Laws.{kind_at}
+use Rattle.mt_leaf.specs.Cuts.{IsCut}
+
+-- the items are cut into the fewest rows of a kind at these places
+pub record IsCutOf (width : Width) (kind : RowKind) (items : List Item) (ends : List ℕ) : Type 0 where
+  pub leaf : Bool
+  pub is_leaf : leaf ≡ true → kind ≡ Leaf
+  pub of_leaf : kind ≡ Leaf → leaf ≡ true
+  pub cut : IsCut leaf (least_items width kind) (slots_of width kind) items ends
+
+-- Of rows of a kind, those that are new stand side by side, and are the fewest that what stands in them can be cut into.
+pub record AreFewestOf (is_new : ℕ → Bool) (t : Table) (kind : RowKind) (rows : List Span) : Type 0 where
+  pub front : List Span
+  pub new : List Span
+  pub back : List Span
+  pub parts : rows ≡ front ++ (new ++ back)
+  pub new_rows : AllByRecursion (λ (x : Span). is_new (row_in x.word) ≡ true) new
+  pub ahead : AllByRecursion (λ (x : Span). is_new (row_in x.word) ≡ false) front
+  pub behind : AllByRecursion (λ (x : Span). is_new (row_in x.word) ≡ false) back
+  pub first : ℕ
+  pub items : List Item
+  pub hold : expand t new ≡ spans_from first items
+  pub fewest : new ≢ [] → (ends : List ℕ) × IsCutOf t.width kind items ends × (length new ≡ length ends)
+
+-- so it is of rows of a height, and on each level below them
+abbrev pub FewestBelow : (ℕ → Bool) → Kind → Table → ℕ → List Span → Type 0
+FewestBelow is_new kind t zero xs = AreFewestOf is_new t (kind_at kind zero) xs
+FewestBelow is_new kind t (suc h) xs = AreFewestOf is_new t (kind_at kind (suc h)) xs × FewestBelow is_new kind t h (expand t xs)
