@@ -1,6 +1,6 @@
 -- How wide the words of a tree's rows are, and how large a tree can be.
--- Source: the kernel's include/linux/maple_tree.h, for machines of 64 bits; that rows are numbered in 16 bits, and how many
--- of them a call takes, are this project's.
+-- Source: the kernel's include/linux/maple_tree.h, for machines of 64 bits; that rows are numbered in 16 bits, from which
+-- number on, and how many of them a call takes, are this project's.
 use Rattle.std.specs.Prelude.{ℕ, ◌+◌, ◌-◌, ◌*◌, ◌^◌}
 use Rattle.mt_base.specs.declared.kinds.Kind.{Kind}
 use Rattle.mt_base.specs.declared.kinds.Kind.TheVariants as kinds
@@ -22,6 +22,10 @@ greatest_of kind = greatest (kind_width kind)
 -- how many words a row has
 abbrev pub columns : Width → ℕ
 columns Long = 32
+
+-- rows are numbered from here
+abbrev pub first_row : ℕ
+first_row = 16
 
 -- a tree has so many rows at the most
 abbrev pub most_rows : ℕ

@@ -14,4 +14,4 @@ pub use kinds::Kind;
 pub use memory::NoMemory;
 pub use ranges::Range;
 pub use replies::{Holder, Reply, Shortage, errno};
-pub use widths::{DEEPEST, MOST_ROWS, MOST_TAKEN, Width, cols, top, width_of};
+pub use widths::{DEEPEST, FIRST_ROW, MOST_ROWS, MOST_TAKEN, Width, cols, top, width_of};

@@ -3,6 +3,9 @@ ghost use Rattle.mt_base.specs.Width.{columns, greatest, kind_width};
 
 use crate::kinds::Kind;
 
+/// Rows are numbered from here.
+pub const FIRST_ROW: u32 = 16;
+
 /// A tree has so many rows at the most.
 pub const MOST_ROWS: u64 = 65_504;
 

@@ -16,13 +16,13 @@ use Rattle.mt_base.specs.Call.{acted}
 use Rattle.mt_base.specs.Entry.{reserved}
 use Rattle.mt_base.specs.Map.{over}
 use Rattle.mt_base.specs.Nodes.{Wants}
-use Rattle.mt_base.specs.Width.{columns, greatest, greatest_of}
+use Rattle.mt_base.specs.Width.{columns, greatest, greatest_of, first_row}
 use Rattle.mt_free.specs.Book.{Book, Held, IsRowOf}
 use Rattle.mt_layout.specs.declared.names.RowKind.TheVariants.{Leaf}
 use Rattle.mt_layout.specs.declared.spans.Span.{Span}
 use Rattle.mt_layout.specs.Columns.{slot_column}
 use Rattle.mt_layout.specs.Rows.{row_in}
-use Rattle.mt_layout.specs.Sizes.{first_row, slots_of}
+use Rattle.mt_layout.specs.Sizes.{slots_of}
 use Rattle.mt_rows.specs.declared.rows.Life.{Life}
 use Rattle.mt_rows.specs.declared.rows.Life.TheVariants.{New, Dead}
 use Rattle.mt_rows.specs.declared.rows.Place.{Place}

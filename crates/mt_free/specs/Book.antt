@@ -1,7 +1,7 @@
 -- The book of a tree's rows. A row is free, or out (live), or held: replaced by a call, and not yet free again.
 -- Source: this project's own; the kernel frees nodes by read-copy-update, after a grace period.
 use Rattle.std.specs.Prelude.{◌≢◌, ℕ, zero, suc, ◌+◌, ◌-◌, ◌<◌, ◌≤◌, List, [], ◌∷◌, ◌++◌, All, AllPairs, Contains, length, map, filter, nat_lt, nat_le}
-use Rattle.mt_base.specs.Width.{most_rows}
+use Rattle.mt_base.specs.Width.{first_row, most_rows}
 
 -- a held row, and the number of the call that replaced it
 pub record Held : Type 0 where
@@ -14,13 +14,13 @@ pub record Book : Type 0 where
   pub free : List ℕ
   pub held : List Held
 
--- rows are numbered from 16; so many of them, from the last down
+-- so many rows, from the last down
 abbrev pub rows_down : ℕ → List ℕ
 rows_down zero = []
-rows_down (suc n) = (16 + n) ∷ rows_down n
+rows_down (suc n) = (first_row + n) ∷ rows_down n
 
 abbrev pub IsRowOf : Book → ℕ → Type 0
-IsRowOf b row = (16 ≤ row) × (row < 16 + b.rows)
+IsRowOf b row = (first_row ≤ row) × (row < first_row + b.rows)
 
 abbrev pub held_rows : Book → List ℕ
 held_rows b = map (λ h. h.row) b.held

@@ -5,12 +5,9 @@ ghost use Rattle.mt_free.specs.Book.{rows_down, new_book, IsBook, IsOut, live_co
 
 use crate::held::{HeldRow, pop_due, push_held};
 use circular_buffer::HeapCircularBuffer;
-use mt_base::NoMemory;
+use mt_base::{FIRST_ROW, NoMemory};
 use std::alloc::Global;
 use std::marker::Model;
-
-/// The number of the first row.
-const FIRST_ROW: u32 = 16;
 
 /// The book of a tree's rows: which are free, which are out, and which were replaced and wait.
 ///

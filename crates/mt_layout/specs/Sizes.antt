@@ -1,16 +1,12 @@
 -- How large rows and lists of items are: each number once.
--- Source: the kernel's include/linux/maple_tree.h, MAPLE_RANGE64_SLOTS and MAPLE_ARANGE64_SLOTS; the least numbers of items, the
--- first row and the rooms are this project's.
+-- Source: the kernel's include/linux/maple_tree.h, MAPLE_RANGE64_SLOTS and MAPLE_ARANGE64_SLOTS; the least numbers of items and
+-- the rooms are this project's.
 use Rattle.std.specs.Prelude.{◌≡◌, ◌⊎◌, ℕ, ◌+◌, ◌*◌, ◌≤◌}
 use Rattle.mt_base.specs.declared.widths.Width.{Width}
 use Rattle.mt_base.specs.declared.widths.Width.TheVariants.{Long}
 use Rattle.mt_base.specs.Width.{columns}
 use Rattle.mt_layout.specs.declared.names.RowKind.{RowKind}
 use Rattle.mt_layout.specs.declared.names.RowKind.TheVariants as kinds
-
--- rows are numbered from here
-abbrev pub first_row : ℕ
-first_row = 16
 
 -- how many slots and gaps a row of a kind has
 abbrev pub slots_of : Width → RowKind → ℕ

@@ -2,8 +2,7 @@ ghost use Rattle.std.specs.Prelude.{◌≡◌, ◌↔◌, ℕ, IsTrue, IsSome, I
 ghost use Rattle.mt_layout.specs.declared.names.RowKind.{RowKind};
 ghost use Rattle.mt_layout.specs.Rows.{IsRowNumber, Names, name_at, row_in, named_row, named_kind, parent_at, dead_mark};
 
-use crate::sizes::FIRST_ROW;
-use mt_base::MOST_ROWS;
+use mt_base::{FIRST_ROW, MOST_ROWS};
 use std::marker::Model;
 
 /// A row's address is its number times this: as many bytes as a row has.

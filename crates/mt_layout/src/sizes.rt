@@ -6,9 +6,6 @@ ghost use Rattle.mt_layout.specs.Sizes.{slots_of, gaps_of, least_items};
 use crate::names::RowKind;
 use mt_base::Width;
 
-/// Rows are numbered from here.
-pub const FIRST_ROW: u32 = 16;
-
 /// How many items a `Run` has room for.
 pub const RUN_ROOM: usize = 72;
 

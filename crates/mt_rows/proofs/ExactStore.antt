@@ -10,12 +10,12 @@ use Rattle.mt_base.specs.declared.replies.Reply.TheVariants as reply
 use Rattle.mt_base.specs.Entry.{reserved}
 use Rattle.mt_base.specs.Map.{over}
 use Rattle.mt_base.specs.Call.{acted}
-use Rattle.mt_base.specs.Width.{kind_width, greatest, greatest_of, deepest}
+use Rattle.mt_base.specs.Width.{kind_width, greatest, greatest_of, deepest, first_row}
 use Rattle.mt_layout.specs.Rows.{row_in}
 use Rattle.mt_layout.specs.Columns.{slot_column}
 use Rattle.mt_layout.specs.declared.names.RowKind.TheVariants.{Leaf}
 use Rattle.mt_layout.specs.declared.spans.Span.{Span}
-use Rattle.mt_layout.specs.Sizes.{slots_of, first_row}
+use Rattle.mt_layout.specs.Sizes.{slots_of}
 use Rattle.mt_rows.specs.declared.rows.Place.TheVariants.{Slot}
 use Rattle.mt_rows.specs.Spans.{spans_in, root_span}
 use Rattle.mt_rows.specs.Levels.{level, map_of}

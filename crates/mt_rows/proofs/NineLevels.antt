@@ -4,7 +4,7 @@ use Rattle.std.proofs.Common.{◌≡◌, ℕ, zero, suc, ◌+◌, ◌-◌, ◌*�
 use Rattle.std.specs.Prelude.{if◌then◌else◌}
 use Rattle.std.specs.List.{AllByRecursion}
 use Rattle.std.proofs.lemmas.Bool.{cases_Bool, cases_lt, lt-ltb, ltb-true, ltb-false, le-ltb, eqb-false}
-use Rattle.mt_base.specs.Width.{deepest, most_rows}
+use Rattle.mt_base.specs.Width.{deepest, most_rows, first_row}
 use Rattle.mt_base.specs.declared.widths.Width.{Width}
 use Rattle.mt_base.specs.declared.widths.Width.TheVariants.{Long}
 use Rattle.mt_base.proofs.Lists.{all_map}
@@ -14,7 +14,7 @@ use Rattle.mt_layout.specs.Rows.{row_in}
 use Rattle.mt_layout.proofs.NameLaws.{Names-named_kind}
 use Rattle.mt_layout.specs.declared.spans.Span.{Span}
 use Rattle.mt_layout.specs.Spans.{Fills}
-use Rattle.mt_layout.specs.Sizes.{least_items, first_row}
+use Rattle.mt_layout.specs.Sizes.{least_items}
 use Rattle.mt_rows.specs.Spans.{Table, spans_in, root_span}
 use Rattle.mt_rows.specs.Levels.{expand, level, Levels, tally, times, is_row_of}
 use Rattle.mt_rows.specs.Laws.{Tree, IsRow, top_of, kind_at, least_of_root}

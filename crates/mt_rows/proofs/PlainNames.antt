@@ -8,7 +8,7 @@ use Rattle.mt_base.specs.declared.kinds.Kind.{Kind}
 use Rattle.mt_base.specs.declared.kinds.Kind.TheVariants as trees
 use Rattle.mt_base.specs.declared.widths.Width.{Width}
 use Rattle.mt_base.specs.declared.widths.Width.TheVariants.{Long}
-use Rattle.mt_base.specs.Width.{columns}
+use Rattle.mt_base.specs.Width.{columns, first_row}
 use Rattle.mt_layout.specs.declared.names.RowKind.{RowKind}
 use Rattle.mt_layout.specs.declared.names.RowKind.TheVariants.{Inner, Gapped}
 use Rattle.mt_layout.specs.declared.items.Item.{Item}
@@ -17,7 +17,7 @@ use Rattle.mt_layout.specs.Rows.{row_in}
 use Rattle.mt_layout.specs.declared.spans.Span.{Span}
 use Rattle.mt_layout.specs.Spans.{spans_from}
 use Rattle.mt_layout.proofs.RowWords.{item_or, get_or-padded, get_or-field, used, used-slot}
-use Rattle.mt_layout.specs.Sizes.{slots_of, gaps_of, first_row}
+use Rattle.mt_layout.specs.Sizes.{slots_of, gaps_of}
 use Rattle.mt_layout.proofs.RowSizes.{layout_of, some_slots, slots-fit}
 use Rattle.mt_layout.proofs.SpanLists.{length-spans_from, spans-words}
 use Rattle.mt_rows.specs.Spans.{column, spans_by, spans_in, inner_kind}

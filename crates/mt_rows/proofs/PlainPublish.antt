@@ -6,8 +6,7 @@ use Rattle.std.proofs.lemmas.List.{get_or_past}
 use Rattle.mt_base.specs.declared.kinds.Kind.{Kind}
 use Rattle.mt_base.specs.declared.calls.Call.{Call}
 use Rattle.mt_base.specs.declared.replies.Reply.{Reply}
-use Rattle.mt_base.specs.Width.{columns, deepest}
-use Rattle.mt_layout.specs.Sizes.{first_row}
+use Rattle.mt_base.specs.Width.{columns, deepest, first_row}
 use Rattle.mt_rows.specs.declared.rows.Place.{Place}
 use Rattle.mt_rows.specs.declared.rows.Place.TheVariants.{Root, Slot}
 use Rattle.mt_rows.specs.declared.rows.Life.TheVariants as lives

@@ -4,14 +4,14 @@ use Rattle.std.specs.Prelude.{slice_index_or, slice_set, is_some, if◌then◌el
 use Rattle.std.proofs.lemmas.Bool.{cases_Bool}
 use Rattle.std.proofs.lemmas.List.{set-get_or}
 use Rattle.std.proofs.lemmas.Option.{slice_get-get_or}
-use Rattle.mt_base.specs.Width.{deepest}
+use Rattle.mt_base.specs.Width.{deepest, first_row}
 use Rattle.mt_layout.specs.declared.names.RowKind.{RowKind}
 use Rattle.mt_layout.specs.Columns.{slot_column}
 use Rattle.mt_layout.specs.Rows.{row_in, named_kind, named_row, name_at}
 use Rattle.mt_layout.specs.declared.spans.Span.{Span}
 use Rattle.mt_layout.specs.Spans.{Fills}
 use Rattle.mt_layout.proofs.NameLaws.{Names-named_kind}
-use Rattle.mt_layout.specs.Sizes.{slots_of, first_row}
+use Rattle.mt_layout.specs.Sizes.{slots_of}
 use Rattle.mt_rows.specs.declared.plain.Fate.TheVariants.{Live}
 use Rattle.mt_rows.specs.Spans.{base_of, spans_in, root_span}
 use Rattle.mt_rows.specs.Levels.{level, Levels, tally, times, is_row_of, IsBelow, SameSpans}

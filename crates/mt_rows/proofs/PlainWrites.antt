@@ -11,13 +11,12 @@ use Rattle.mt_base.specs.declared.replies.Reply.{Reply}
 use Rattle.mt_base.specs.declared.replies.Reply.TheVariants as reply
 use Rattle.mt_base.specs.declared.widths.Width.{Width}
 use Rattle.mt_base.specs.declared.widths.Width.TheVariants.{Long}
-use Rattle.mt_base.specs.Width.{columns}
+use Rattle.mt_base.specs.Width.{columns, first_row}
 use Rattle.mt_layout.specs.declared.names.RowKind.TheVariants.{Leaf}
 use Rattle.mt_layout.specs.Rows.{row_in, named_kind}
 use Rattle.mt_layout.specs.declared.spans.Span.{Span}
 use Rattle.mt_layout.specs.Spans.{leaf_range, Apart}
 use Rattle.mt_base.specs.Entry.{reserved}
-use Rattle.mt_layout.specs.Sizes.{first_row}
 use Rattle.mt_rows.specs.declared.rows.Life.{Life}
 use Rattle.mt_rows.specs.declared.rows.Life.TheVariants as lives
 use Rattle.mt_rows.specs.declared.rows.Place.{Place}

@@ -4,12 +4,11 @@ use Rattle.std.specs.List.{AllByRecursion, slice_get}
 use Rattle.std.proofs.lemmas.Bool.{cases_Bool, eqb-true, ltb-true, ltb-false}
 use Rattle.mt_base.specs.declared.kinds.Kind.{Kind}
 use Rattle.mt_base.specs.declared.kinds.Kind.TheVariants as trees
-use Rattle.mt_base.specs.Width.{deepest}
+use Rattle.mt_base.specs.Width.{deepest, first_row}
 use Rattle.mt_layout.specs.declared.names.RowKind.TheVariants.{Leaf}
 use Rattle.mt_layout.specs.Rows.{row_in, named_kind}
 use Rattle.mt_layout.proofs.NameLaws.{Names-named_kind}
 use Rattle.mt_layout.specs.declared.spans.Span.{Span}
-use Rattle.mt_layout.specs.Sizes.{first_row}
 use Rattle.mt_rows.specs.Spans.{Table, spans_in, inner_kind, root_span}
 use Rattle.mt_rows.specs.Levels.{expand, level, Levels, one_if, tally, times, is_row_of, IsBelow}
 use Rattle.mt_rows.specs.Trees.{reached_in, height_in}

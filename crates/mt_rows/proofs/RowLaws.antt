@@ -5,7 +5,7 @@ use Rattle.std.specs.List.{AllByRecursion, flat_map}
 use Rattle.std.proofs.lemmas.Bool.{cases_eq}
 use Rattle.mt_base.specs.declared.widths.Width.{Width}
 use Rattle.mt_base.specs.declared.widths.Width.TheVariants.{Long}
-use Rattle.mt_base.specs.Width.{columns}
+use Rattle.mt_base.specs.Width.{columns, first_row}
 use Rattle.mt_base.specs.Entry.{reserved}
 use Rattle.mt_layout.specs.declared.names.RowKind.{RowKind}
 use Rattle.mt_layout.specs.Rows.{row_in}
@@ -14,7 +14,7 @@ use Rattle.mt_layout.proofs.OwnColumns.{same_items}
 use Rattle.mt_layout.specs.declared.items.Item.{Item}
 use Rattle.mt_layout.specs.declared.spans.Span.{Span}
 use Rattle.mt_layout.specs.Spans.{spans_from, leaf_range, Fills, BeginsFull, Apart, EndsFull}
-use Rattle.mt_layout.specs.Sizes.{slots_of, gaps_of, first_row}
+use Rattle.mt_layout.specs.Sizes.{slots_of, gaps_of}
 use Rattle.mt_layout.proofs.RowSizes.{layout_of, some_slots_of, slots_of-columns}
 use Rattle.mt_layout.proofs.SpanLists.{length-spans_from}
 use Rattle.mt_rows.specs.Spans.{base_of, column, spans_by, spans_in}

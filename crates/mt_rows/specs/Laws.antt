@@ -5,11 +5,11 @@ use Rattle.std.specs.Prelude.{◌≡◌, ◌≢◌, ◌⊎◌, ℕ, zero, suc, �
 use Rattle.std.specs.List.{AllByRecursion, flat_map}
 use Rattle.mt_base.specs.declared.kinds.Kind.{Kind}
 use Rattle.mt_base.specs.Entry.{reserved}
-use Rattle.mt_base.specs.Width.{columns, greatest, deepest}
+use Rattle.mt_base.specs.Width.{columns, greatest, deepest, first_row}
 use Rattle.mt_layout.specs.declared.names.RowKind.{RowKind}
 use Rattle.mt_layout.specs.declared.names.RowKind.TheVariants.{Leaf, Inner, Gapped}
 use Rattle.mt_layout.specs.declared.items.Item.{Item}
-use Rattle.mt_layout.specs.Sizes.{first_row, slots_of, gaps_of, least_items}
+use Rattle.mt_layout.specs.Sizes.{slots_of, gaps_of, least_items}
 use Rattle.mt_layout.specs.Columns.{items_at, row_words, gap_column}
 use Rattle.mt_layout.specs.Rows.{row_in, named_kind, parent_at}
 use Rattle.mt_layout.specs.declared.spans.Span.{Span}

@@ -7,14 +7,14 @@ use Rattle.mt_base.specs.declared.ranges.Range.{Range}
 use Rattle.mt_base.specs.declared.calls.Call.{Call}
 use Rattle.mt_base.specs.declared.replies.Reply.{Reply}
 use Rattle.mt_base.specs.declared.replies.Shortage.{Shortage}
-use Rattle.mt_base.specs.Width.{kind_width}
+use Rattle.mt_base.specs.Width.{kind_width, first_row}
 use Rattle.mt_base.specs.Call.{acted}
 use Rattle.mt_base.specs.History.{Record}
 use Rattle.mt_base.specs.Nodes.{IsRefused}
 use Rattle.mt_layout.specs.declared.names.RowKind.{RowKind}
 use Rattle.mt_layout.specs.declared.spans.Span.{Span}
 use Rattle.mt_layout.specs.Rows.{row_in, named_kind, dead_mark}
-use Rattle.mt_layout.specs.Sizes.{first_row, slots_of}
+use Rattle.mt_layout.specs.Sizes.{slots_of}
 use Rattle.mt_layout.specs.Columns.{slot_column}
 use Rattle.mt_rows.specs.declared.rows.Life.{Life}
 use Rattle.mt_rows.specs.declared.rows.Life.TheVariants.{Draft, Live, Dead}

@@ -1,8 +1,7 @@
 ghost use Rattle.std.specs.Prelude.{◌≡◌, ◌+◌, ◌*◌, ◌<◌, ◌≤◌, IfOk, length, slice_index_or, slice_set, if◌then◌else◌};
 ghost use Rattle.std.specs.List.{fold};
 ghost use Rattle.mt_base.specs.declared.widths.Width.TheVariants.{Long};
-ghost use Rattle.mt_base.specs.Width.{columns, deepest, most_rows};
-ghost use Rattle.mt_layout.specs.Sizes.{first_row};
+ghost use Rattle.mt_base.specs.Width.{columns, deepest, most_rows, first_row};
 ghost use Rattle.mt_layout.specs.Rows.{named_row};
 ghost use Rattle.mt_rows.specs.Trees.{rows_of};
 ghost use Rattle.mt_rows.specs.Plain as defined;
@@ -10,8 +9,8 @@ ghost use Rattle.mt_rows.specs.Plain.{IsPlain, names_of, enlivened, names_buried
 
 use crate::plain_trees::spans_in;
 use crate::rows::{Place, Rows, Scan};
-use mt_base::{Call, DEEPEST, NoMemory, Reply, Width, cols, top};
-use mt_layout::{FIRST_ROW, RowKind, Span, kind_of, parent_word, row_of, slots};
+use mt_base::{Call, DEEPEST, FIRST_ROW, NoMemory, Reply, Width, cols, top};
+use mt_layout::{RowKind, Span, kind_of, parent_word, row_of, slots};
 use std::alloc::Global;
 
 /// What has become of a row.

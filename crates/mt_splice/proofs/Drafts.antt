@@ -5,11 +5,11 @@ use Rattle.std.proofs.lemmas.Bool.{cases_eq, cases_lt, ltb-true, lt-ltb}
 use Rattle.std.proofs.lemmas.List.{get_or_past}
 use Rattle.mt_base.specs.declared.widths.Width.{Width}
 use Rattle.mt_base.specs.declared.widths.Width.TheVariants.{Long}
-use Rattle.mt_base.specs.Width.{columns, most_rows}
+use Rattle.mt_base.specs.Width.{columns, most_rows, first_row}
 use Rattle.mt_layout.specs.declared.items.Item.{Item}
 use Rattle.mt_layout.specs.declared.names.RowKind.{RowKind}
 use Rattle.mt_layout.specs.Columns.{pivot_column, slot_column, gap_column, row_words}
-use Rattle.mt_layout.specs.Sizes.{first_row, slots_of, gaps_of}
+use Rattle.mt_layout.specs.Sizes.{slots_of, gaps_of}
 use Rattle.mt_layout.proofs.RowSizes.{sizes, some_slots_of, layout_of, all_gaps}
 use Rattle.mt_layout.proofs.RowWords.{item_or, used, length-used, used-pivot, used-slot, used-gap, get_or-padded}
 use Rattle.mt_rows.specs.declared.rows.Life.{Life}

@@ -3,11 +3,11 @@ use Rattle.std.proofs.Common.{◌≡◌, ℕ, zero, suc, ◌+◌, ◌<◌, ◌�
 use Rattle.std.specs.List.{AllByRecursion}
 use Rattle.std.proofs.lemmas.Bool.{cases_Bool}
 use Rattle.mt_base.specs.declared.widths.Width.{Width}
-use Rattle.mt_base.specs.Width.{columns}
+use Rattle.mt_base.specs.Width.{columns, first_row}
 use Rattle.mt_layout.specs.declared.spans.Span.{Span}
 use Rattle.mt_layout.specs.Rows.{row_in}
 use Rattle.mt_layout.specs.Columns.{slot_column}
-use Rattle.mt_layout.specs.Sizes.{first_row, slots_of}
+use Rattle.mt_layout.specs.Sizes.{slots_of}
 use Rattle.mt_layout.proofs.RowSizes.{slot_above}
 use Rattle.mt_rows.specs.declared.rows.Place.{Place}
 use Rattle.mt_rows.specs.declared.rows.Place.TheVariants.{Root, Slot}

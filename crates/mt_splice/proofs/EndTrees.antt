@@ -3,8 +3,7 @@ use Rattle.std.proofs.Common.{◌≡◌, ◌⊎◌, ℕ, zero, suc, ◌+◌, ◌
 use Rattle.std.proofs.lemmas.Bool.{cases_Bool}
 use Rattle.mt_layout.specs.Rows.{row_in}
 use Rattle.mt_layout.specs.declared.spans.Span.{Span}
-use Rattle.mt_base.specs.Width.{deepest}
-use Rattle.mt_layout.specs.Sizes.{first_row}
+use Rattle.mt_base.specs.Width.{deepest, first_row}
 use Rattle.mt_rows.specs.Spans.{Table, root_span}
 use Rattle.mt_rows.specs.Levels.{is_row_of}
 use Rattle.mt_rows.specs.Trees.{map_in, height_in}

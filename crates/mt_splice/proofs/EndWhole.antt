@@ -3,9 +3,9 @@ use Rattle.std.proofs.Common.{◌≡◌, ◌≢◌, ℕ, suc, inl, ◌+◌, ◌<
 use Rattle.std.specs.Prelude.{slice_index_or}
 use Rattle.mt_base.specs.declared.calls.Call.{Call}
 use Rattle.mt_base.specs.declared.replies.Reply.{Reply}
+use Rattle.mt_base.specs.Width.{first_row}
 use Rattle.mt_layout.specs.declared.names.RowKind.TheVariants.{Inner}
 use Rattle.mt_layout.specs.Rows.{row_in, dead_mark}
-use Rattle.mt_layout.specs.Sizes.{first_row}
 use Rattle.mt_free.specs.Book.{Book}
 use Rattle.mt_rows.specs.declared.rows.Life.{Life}
 use Rattle.mt_rows.specs.declared.rows.Life.TheVariants.{New, Live, Dead}

@@ -6,9 +6,8 @@ use Rattle.std.proofs.lemmas.List.Elements.{All-nil}
 use Rattle.mt_base.specs.declared.kinds.Kind.{Kind}
 use Rattle.mt_base.specs.declared.kinds.Kind.TheVariants as kinds
 use Rattle.mt_base.specs.declared.widths.Width.TheVariants.{Long}
-use Rattle.mt_base.specs.Width.{kind_width}
+use Rattle.mt_base.specs.Width.{kind_width, first_row}
 use Rattle.mt_free.specs.Book.{Held, rows_down, IsBook, new_book}
-use Rattle.mt_layout.specs.Sizes.{first_row}
 use Rattle.mt_rows.specs.declared.rows.Life.TheVariants as lives
 use Rattle.mt_rows.specs.Plain.{new_sheet}
 use Rattle.mt_splice.specs.Kept.{IsSpare}

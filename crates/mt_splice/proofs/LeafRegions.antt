@@ -6,13 +6,13 @@ use Rattle.std.proofs.lemmas.Bool.{cases_Bool, eqb-true, eqb-false, ltb-true, lt
 use Rattle.std.proofs.lemmas.List.Folds.{length-prefix_len}
 use Rattle.mt_base.specs.declared.kinds.Kind.{Kind}
 use Rattle.mt_base.specs.declared.widths.Width.{Width}
-use Rattle.mt_base.specs.Width.{deepest}
+use Rattle.mt_base.specs.Width.{deepest, first_row}
 use Rattle.mt_layout.specs.declared.items.Item.{Item}
 use Rattle.mt_layout.specs.declared.names.RowKind.TheVariants.{Leaf}
 use Rattle.mt_layout.specs.declared.spans.Span.{Span}
 use Rattle.mt_layout.specs.Rows.{row_in, named_kind}
 use Rattle.mt_layout.specs.Columns.{RiseFrom, slot_column, gap_at, item_at, items_from}
-use Rattle.mt_layout.specs.Sizes.{first_row, slots_of, gaps_of, run_room}
+use Rattle.mt_layout.specs.Sizes.{slots_of, gaps_of, run_room}
 use Rattle.mt_layout.specs.Spans.{Fills, spans_from, Apart}
 use Rattle.mt_layout.proofs.NameLaws.{Names-named_kind}
 use Rattle.mt_layout.proofs.Reading.{few_items}

@@ -6,13 +6,13 @@ use Rattle.mt_base.specs.declared.kinds.Kind.{Kind}
 use Rattle.mt_base.specs.declared.kinds.Kind.TheVariants.{Range, Alloc}
 use Rattle.mt_base.specs.declared.widths.Width.{Width}
 use Rattle.mt_base.specs.Entry.{reserved}
-use Rattle.mt_base.specs.Width.{columns}
+use Rattle.mt_base.specs.Width.{columns, first_row}
 use Rattle.mt_layout.specs.declared.items.Item.{Item}
 use Rattle.mt_layout.specs.declared.spans.Span.{Span}
 use Rattle.mt_layout.specs.declared.names.RowKind.{RowKind}
 use Rattle.mt_layout.specs.Rows.{IsRowNumber, row_in, name_at, named_row}
 use Rattle.mt_layout.specs.Columns.{end_of, row_words}
-use Rattle.mt_layout.specs.Sizes.{first_row, slots_of, gaps_of}
+use Rattle.mt_layout.specs.Sizes.{slots_of, gaps_of}
 use Rattle.mt_layout.specs.Spans.{spans_from, leaf_range, Fills, Apart, EndsFull}
 use Rattle.mt_layout.proofs.NameLaws.{named_row-name_at, row_in-name_at}
 use Rattle.mt_layout.proofs.SpanLists.{fills_le, length-spans_from, fills_end, fills_rise, rise_from_zero, last_ends}

@@ -5,8 +5,8 @@ use Rattle.std.proofs.lemmas.Bool.{ltb-true, lt-ltb}
 use Rattle.std.proofs.lemmas.List.{length-map}
 use Rattle.std.proofs.lemmas.List.Elements.{All-map, All-append, All-contains, Contains-append_left, Contains-append_right, Contains-append_cases}
 use Rattle.mt_base.specs.declared.kinds.Kind.{Kind}
+use Rattle.mt_base.specs.Width.{first_row}
 use Rattle.mt_free.specs.Book.{Book, Held, IsOut, IsRowOf, held_rows, live_count}
-use Rattle.mt_layout.specs.Sizes.{first_row}
 use Rattle.mt_rows.specs.Trees.{reached_in}
 use Rattle.mt_rows.specs.declared.rows.Life.{Life}
 use Rattle.mt_rows.specs.Sheet.{Rooted}

@@ -5,11 +5,10 @@ use Rattle.std.proofs.lemmas.Bool.{cases_Bool, cases_eq}
 use Rattle.std.proofs.lemmas.List.{map_push, map-append, get_or_append_left, get_or-append-add, get_or_default}
 use Rattle.std.proofs.lemmas.List.Elements.{All-contains, All-append, All-map, Contains-append_left, Contains-append_right, Contains-append_cases}
 use Rattle.mt_base.specs.declared.widths.Width.{Width}
-use Rattle.mt_base.specs.Width.{columns}
+use Rattle.mt_base.specs.Width.{columns, first_row}
 use Rattle.mt_layout.specs.declared.items.Item.{Item}
 use Rattle.mt_layout.specs.declared.names.RowKind.{RowKind}
 use Rattle.mt_layout.specs.Rows.{row_in, dead_mark}
-use Rattle.mt_layout.specs.Sizes.{first_row}
 use Rattle.mt_layout.proofs.NameLaws.{row_in-name_at}
 use Rattle.mt_layout.proofs.RowSizes.{some_columns}
 use Rattle.mt_free.specs.Book.{Book, Held, IsRowOf, IsOut, held_rows, after_retire}

@@ -6,11 +6,11 @@ use Rattle.mt_rows.specs.declared.rows.Life.{Life}
 use Rattle.mt_rows.specs.declared.rows.Life.TheVariants.{New}
 use Rattle.mt_base.specs.declared.widths.Width.{Width}
 use Rattle.mt_base.specs.declared.widths.Width.TheVariants.{Long}
-use Rattle.mt_base.specs.Width.{columns}
+use Rattle.mt_base.specs.Width.{columns, first_row}
 use Rattle.mt_layout.specs.declared.names.RowKind.{RowKind}
 use Rattle.mt_layout.specs.Rows.{named_row, parent_at, dead_mark}
 use Rattle.mt_layout.specs.Columns.{slot_column}
-use Rattle.mt_layout.specs.Sizes.{first_row, slots_of}
+use Rattle.mt_layout.specs.Sizes.{slots_of}
 use Rattle.mt_layout.proofs.RowSizes.{some_columns, slot_above, slot_within}
 use Rattle.mt_rows.specs.Spans.{Table, base_of, column}
 use Rattle.mt_rows.specs.Sheet.{Rooted, Sheet, IsWhole, MayTend, loaded, tended}

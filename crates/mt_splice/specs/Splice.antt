@@ -9,10 +9,9 @@ use Rattle.mt_base.specs.declared.replies.Reply.{Reply}
 use Rattle.mt_base.specs.Entry.{reserved}
 use Rattle.mt_base.specs.Map.{over}
 use Rattle.mt_base.specs.Call.{acted}
-use Rattle.mt_base.specs.Width.{columns, greatest}
+use Rattle.mt_base.specs.Width.{columns, greatest, first_row}
 use Rattle.mt_layout.specs.declared.items.Item.{Item}
 use Rattle.mt_layout.specs.declared.spans.Span.{Span}
-use Rattle.mt_layout.specs.Sizes.{first_row}
 use Rattle.mt_layout.specs.Rows.{row_in, dead_mark}
 use Rattle.mt_layout.specs.Spans.{spans_from}
 use Rattle.mt_free.specs.Book.{Book}

@@ -1,7 +1,8 @@
 //! The row beside what is to stand in the rows of a level.
 
 ghost use Rattle.std.specs.Prelude.{◌≡◌, ◌<◌, ◌≤◌, ◌+◌, ◌-◌, ◌||◌, false, length};
-ghost use Rattle.mt_layout.specs.Sizes.{first_row, run_room, slots_of};
+ghost use Rattle.mt_base.specs.Width.{first_row};
+ghost use Rattle.mt_layout.specs.Sizes.{run_room, slots_of};
 ghost use Rattle.mt_path.specs.Paths.{step_at};
 ghost use Rattle.mt_rows.specs.Sheet.{OnlyReads};
 ghost use Rattle.mt_splice.specs.steps.Replacing.{MayLookBeside, IsTakenBeside};

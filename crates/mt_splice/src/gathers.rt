@@ -1,8 +1,9 @@
 //! What is to stand in the rows of the next level, gathered.
 
 ghost use Rattle.std.specs.Prelude.{◌≡◌, ◌<◌, ◌≤◌, ◌+◌, ◌++◌, length, take, drop};
+ghost use Rattle.mt_base.specs.Width.{first_row};
 ghost use Rattle.mt_layout.specs.declared.names.RowKind.TheVariants.{Inner};
-ghost use Rattle.mt_layout.specs.Sizes.{first_row, run_room, slots_of};
+ghost use Rattle.mt_layout.specs.Sizes.{run_room, slots_of};
 ghost use Rattle.mt_rows.specs.Sheet.{OnlyReads};
 ghost use Rattle.mt_splice.specs.steps.Replacing.{MayGather, IsGathered};
 ghost use Rattle.mt_splice.specs.steps.Writes.{items_of_row};

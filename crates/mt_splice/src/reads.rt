@@ -1,9 +1,10 @@
 //! The items of a row read from the rows of a tree.
 
 ghost use Rattle.std.specs.Prelude.{◌≡◌, ◌<◌, ◌≤◌, ◌+◌, ◌-◌, ◌++◌, nat_lt, length, take, if◌then◌else◌};
+ghost use Rattle.mt_base.specs.Width.{first_row};
 ghost use Rattle.mt_layout.specs.Columns.{item_at, items_from, pivot_column};
 ghost use Rattle.mt_rows.specs.Spans.{base_of, column};
-ghost use Rattle.mt_layout.specs.Sizes.{first_row, slots_of, gaps_of, run_room};
+ghost use Rattle.mt_layout.specs.Sizes.{slots_of, gaps_of, run_room};
 ghost use Rattle.mt_rows.specs.Sheet.{OnlyReads};
 
 use mt_layout::{Item, RowKind, Run, gaps, slots};

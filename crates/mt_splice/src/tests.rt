@@ -8,9 +8,8 @@ ghost use Rattle.mt_rows.specs.Sheet.{IsPlace, OnlyReads};
 ghost use Rattle.mt_splice.specs.Between.{IsBetweenCalls};
 
 use crate::{clear, replace_range};
-use mt_base::{Call, Kind, MOST_TAKEN, NoMemory, Range, Reply, cols, is_reserved};
+use mt_base::{Call, FIRST_ROW, Kind, MOST_TAKEN, NoMemory, Range, Reply, cols, is_reserved};
 use mt_free::RowBook;
-use mt_layout::FIRST_ROW;
 use mt_list::{ListMap, Ranges};
 use mt_path::walk;
 use mt_rows::plain_trees::{height_in, map_in, reached_in};

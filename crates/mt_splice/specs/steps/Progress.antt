@@ -2,7 +2,7 @@
 -- Source: this project's own.
 use Rattle.std.specs.Prelude.{◌≡◌, ℕ, zero, suc, ◌+◌, ◌<◌, ◌≤◌, ◌||◌, Bool, true, false, List, [], ◌∷◌, ◌++◌, length, map, nat_lt, if◌then◌else◌}
 use Rattle.mt_base.specs.declared.kinds.Kind.{Kind}
-use Rattle.mt_base.specs.Width.{columns}
+use Rattle.mt_base.specs.Width.{columns, first_row}
 use Rattle.mt_layout.specs.Rows.{row_in, dead_mark}
 use Rattle.mt_free.specs.Book.{Book, Held}
 use Rattle.mt_rows.specs.declared.rows.Life.TheVariants.{Draft}
@@ -15,7 +15,6 @@ use Rattle.mt_splice.specs.steps.Seen.{Seen, passing}
 use Rattle.mt_splice.specs.steps.Work.{Start, Work, with_words}
 use Rattle.mt_splice.specs.steps.Writes.{no_parent}
 use Rattle.mt_splice.specs.Kept.{MayBeReplaced, IsKept, IsUnpublished}
-use Rattle.mt_layout.specs.Sizes.{first_row}
 
 -- the rows and the book as they were, and the number of the call
 pub record Before : Type 0 where

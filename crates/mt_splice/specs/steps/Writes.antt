@@ -2,7 +2,7 @@
 -- Source: the kernel's lib/maple_tree.c, mab_mas_cp and mas_mab_cp: a node's slots are copied out and written into a new node.
 use Rattle.std.specs.Prelude.{◌≡◌, ◌≢◌, ℕ, ◌+◌, ◌-◌, ◌*◌, ◌<◌, ◌≤◌, false, Some, List, [], ◌∷◌, ◌++◌, length, take, drop, slice_index, slice_set}
 use Rattle.mt_base.specs.declared.widths.Width.{Width}
-use Rattle.mt_base.specs.Width.{columns}
+use Rattle.mt_base.specs.Width.{columns, first_row}
 use Rattle.mt_layout.specs.declared.items.Item.{Item}
 use Rattle.mt_layout.specs.declared.names.RowKind.{RowKind}
 use Rattle.mt_layout.specs.Rows.{name_at, row_in, named_row, parent_at}
@@ -11,7 +11,7 @@ use Rattle.mt_free.specs.Book.{Book}
 use Rattle.mt_rows.specs.declared.rows.Life.TheVariants.{Draft, Live}
 use Rattle.mt_rows.specs.Spans.{Table, base_of, column}
 use Rattle.mt_rows.specs.Sheet.{Sheet, IsPlace, life_of, is_buried}
-use Rattle.mt_layout.specs.Sizes.{first_row, slots_of, gaps_of}
+use Rattle.mt_layout.specs.Sizes.{slots_of, gaps_of}
 use Rattle.mt_splice.specs.steps.Work.{with_words}
 
 -- ---- rows

@@ -1,8 +1,7 @@
 use Rattle.std.proofs.Common.{◌≡◌, ◌+◌, ◌*◌, ◌∙◌, ap, rules, map}
 use Rattle.std.specs.Prelude.{replicate}
 use Rattle.mt_base.specs.declared.widths.Width.TheVariants.{Long}
-use Rattle.mt_base.specs.Width.{columns}
-use Rattle.mt_layout.specs.Sizes.{first_row}
+use Rattle.mt_base.specs.Width.{columns, first_row}
 use Rattle.mt_rows.specs.Plain.{new_sheet, life_in, buried_in}
 use Rattle.mt_rows.specs.declared.plain.Fate.TheVariants.{New}
 use Rattle.mt_rows.proofs.PlainFates.{map-replicate}
