@@ -2,6 +2,7 @@ pub mod Call
 pub mod Entry
 pub mod Errno
 pub mod History
+pub mod Holes
 pub mod Map
 pub mod Nodes
 pub mod Text

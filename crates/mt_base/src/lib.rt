@@ -7,6 +7,7 @@ pub mod laws;
 mod memory;
 mod ranges;
 mod replies;
+mod steps;
 mod widths;
 
 pub use calls::{Call, Query, is_invalid, is_reserved};
@@ -14,4 +15,5 @@ pub use kinds::Kind;
 pub use memory::NoMemory;
 pub use ranges::Range;
 pub use replies::{Holder, Reply, Shortage, errno};
+pub use steps::Steps;
 pub use widths::{DEEPEST, FIRST_ROW, MOST_ROWS, MOST_TAKEN, Width, cols, top, width_of};

@@ -1,3 +1,4 @@
+pub mod Gaps
 pub mod Laws
 pub mod Levels
 pub mod Memory

@@ -1,0 +1,52 @@
+-- The holes of a map, and where room for so many indexes is found in a window.
+-- Source: the kernel's lib/maple_tree.c, mas_empty_area and mas_empty_area_rev.
+use Rattle.std.specs.Prelude.{ℕ, Bool, List, [], ◌∷◌, ◌++◌, Option, ◌+◌, ◌-◌, nat_lt, nat_le, min, max, map, filter, length, slice_get, if◌then◌else◌}
+use Rattle.std.specs.Option.{option_map}
+use Rattle.mt_base.specs.declared.kinds.Kind.{Kind}
+use Rattle.mt_base.specs.declared.ranges.Range.{Range}
+use Rattle.mt_base.specs.Width.{greatest_of}
+
+-- indexes that no range holds, from the first to the last
+pub record Hole : Type 0 where
+  pub first : ℕ
+  pub last : ℕ
+
+-- the indexes from `lo` up to, but without, `hi`, where there are any
+abbrev pub hole_between : ℕ → ℕ → List Hole
+hole_between lo hi = if nat_lt lo hi then record { first = lo; last = hi - 1 } ∷ [] else []
+
+-- the holes between the ranges from `lo` up to, but without, `hi`
+abbrev pub holes_from : ℕ → ℕ → List Range → List Hole
+holes_from lo hi [] = hole_between lo hi
+holes_from lo hi (r ∷ m) = hole_between lo r.first ++ holes_from (r.last + 1) hi m
+
+-- the holes of a map of a tree of this kind, each as long as it can be
+abbrev pub holes : Kind → List Range → List Hole
+holes kind m = holes_from 0 (greatest_of kind + 1) m
+
+-- the part of a hole in a window; where it has none, the part ends before it begins
+abbrev pub clip : ℕ → ℕ → Hole → Hole
+clip lo hi x = record { first = max lo x.first; last = min hi x.last }
+
+-- so many indexes fit in
+abbrev pub fits : ℕ → Hole → Bool
+fits n x = nat_le (x.first + n) (x.last + 1)
+
+-- the parts of holes in a window that have so many indexes
+abbrev pub kept : ℕ → ℕ → ℕ → List Hole → List Hole
+kept n lo hi xs = filter (fits n) (map (clip lo hi) xs)
+
+-- the start of the first of them
+abbrev pub lowest_in : List Hole → Option ℕ
+lowest_in xs = option_map (λ x. x.first) (slice_get xs 0)
+
+-- the greatest start of so many indexes in the last of them
+abbrev pub highest_in : ℕ → List Hole → Option ℕ
+highest_in n xs = option_map (λ x. x.last + 1 - n) (slice_get xs (length xs - 1))
+
+-- the lowest and the highest start of so many indexes that lie in one hole and in the window
+abbrev pub low : Kind → List Range → ℕ → ℕ → ℕ → Option ℕ
+low kind m n lo hi = lowest_in (kept n lo hi (holes kind m))
+
+abbrev pub high : Kind → List Range → ℕ → ℕ → ℕ → Option ℕ
+high kind m n lo hi = highest_in n (kept n lo hi (holes kind m))
