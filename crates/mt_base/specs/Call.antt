@@ -1,16 +1,19 @@
 -- What each call does to a map and answers, and what each query answers.
--- Source: the kernel's documentation of the maple tree, its normal API; the refusals of reserved entries are this project's.
-use Rattle.std.specs.Prelude.{ℕ, Bool, List, [], Option, Some, None, ◌==◌, ◌||◌, ◌&&◌, nat_lt, nat_le, filter, if◌then◌else◌}
+-- Source: the kernel's documentation of the maple tree, its normal API; the refusals of reserved entries, and of 0 where room
+-- is sought for an entry, are this project's.
+use Rattle.std.specs.Prelude.{ℕ, Bool, true, false, not, ◌+◌, ◌-◌, List, [], Option, Some, None, ◌==◌, ◌||◌, ◌&&◌, nat_lt, nat_le, filter, if◌then◌else◌}
 use Rattle.mt_base.specs.declared.ranges.Range.{Range}
 use Rattle.mt_base.specs.declared.kinds.Kind.{Kind}
+use Rattle.mt_base.specs.declared.kinds.Kind.TheVariants as kinds
 use Rattle.mt_base.specs.declared.calls.Call.{Call}
-use Rattle.mt_base.specs.declared.calls.Call.TheVariants.{Store, Insert, Erase, Clear}
+use Rattle.mt_base.specs.declared.calls.Call.TheVariants.{Store, Insert, Erase, Alloc, Ralloc, Gap, Rgap, Clear}
 use Rattle.mt_base.specs.declared.calls.Query.{Query}
 use Rattle.mt_base.specs.declared.calls.Query.TheVariants.{Load, Find, Next, Prev, Rfind}
 use Rattle.mt_base.specs.declared.replies.Reply.{Reply}
 use Rattle.mt_base.specs.declared.replies.Reply.TheVariants as reply
 use Rattle.mt_base.specs.Entry.{reserved}
 use Rattle.mt_base.specs.Width.{greatest_of}
+use Rattle.mt_base.specs.Holes.{low, high}
 use Rattle.mt_base.specs.Map.{over, holding, is_held, without, first_range, last_range}
 
 -- what a call that stores cannot mean: a range that ends before it begins, or above the greatest index, or a reserved entry
@@ -22,6 +25,30 @@ abbrev pub erased : List Range → ℕ → Option Range → List Range × Reply
 erased m index None = (m, reply.None)
 erased m index (Some r) = (without m index, reply.Was r.entry)
 
+-- a tree whose holes are searched
+abbrev pub finds_room : Kind → Bool
+finds_room kinds.Range = false
+finds_room kinds.Alloc = true
+
+-- what a search for so many indexes in a window cannot mean: one in a tree whose holes are not searched; or for no index; or
+-- in a window that ends before it begins, or above the greatest index, or that has fewer indexes
+abbrev pub is_no_area : Kind → ℕ → ℕ → ℕ → Bool
+is_no_area kind size lo hi = not (finds_room kind) || (nat_lt hi lo || (nat_lt (greatest_of kind) hi || ((size == 0) || nat_lt (hi - lo) (size - 1))))
+
+-- what a call that stores there cannot mean: nor may the entry be reserved, or 0
+abbrev pub is_bad_area : Kind → ℕ → ℕ → ℕ → ℕ → Bool
+is_bad_area kind size lo hi entry = is_no_area kind size lo hi || (reserved entry || (entry == 0))
+
+-- the map and the reply after an entry was stored over so many indexes at a start that was found
+abbrev pub placed : List Range → ℕ → ℕ → Option ℕ → List Range × Reply
+placed m size entry None = (m, reply.Busy)
+placed m size entry (Some start) = (over m start (start + size - 1) entry, reply.Start start)
+
+-- what a start that was found, or none, is answered
+abbrev pub found : Option ℕ → Reply
+found None = reply.Busy
+found (Some start) = reply.Start start
+
 -- the map and the reply after a call on a tree of this kind
 abbrev pub acted : Kind → List Range → Call → List Range × Reply
 acted kind m (Store first last entry) = if is_invalid kind first last entry then (m, reply.Invalid) else (over m first last entry, reply.Ok)
@@ -30,6 +57,10 @@ acted kind m (Insert first last entry) =
     else (if is_held m first last then (m, reply.Exists)
     else (over m first last entry, reply.Ok))
 acted kind m (Erase index) = erased m index (holding m index)
+acted kind m (Alloc size min max entry) = if is_bad_area kind size min max entry then (m, reply.Invalid) else placed m size entry (low kind m size min max)
+acted kind m (Ralloc size min max entry) = if is_bad_area kind size min max entry then (m, reply.Invalid) else placed m size entry (high kind m size min max)
+acted kind m (Gap size min max) = (m, if is_no_area kind size min max then reply.Invalid else found (low kind m size min max))
+acted kind m (Rgap size min max) = (m, if is_no_area kind size min max then reply.Invalid else found (high kind m size min max))
 acted kind m Clear = ([], reply.Ok)
 
 -- the range that answers a query

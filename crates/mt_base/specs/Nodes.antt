@@ -5,7 +5,7 @@ use Rattle.std.specs.Option.{option_map}
 use Rattle.mt_base.specs.declared.ranges.Range.{Range}
 use Rattle.mt_base.specs.declared.kinds.Kind.{Kind}
 use Rattle.mt_base.specs.declared.calls.Call.{Call}
-use Rattle.mt_base.specs.declared.calls.Call.TheVariants.{Store, Insert, Erase, Clear}
+use Rattle.mt_base.specs.declared.calls.Call.TheVariants.{Store, Insert, Erase, Alloc, Ralloc, Gap, Rgap, Clear}
 use Rattle.mt_base.specs.declared.replies.Reply.{Reply}
 use Rattle.mt_base.specs.declared.replies.Reply.TheVariants.{NoNodes}
 use Rattle.mt_base.specs.declared.replies.Shortage.{Shortage}
@@ -26,11 +26,15 @@ is_exact_store m first last entry = not (entry == 0) && is_exactly first last (h
 abbrev pub Changes : Kind → List Range → Call → Type 0
 Changes kind m call = (acted kind m call).0 ≢ m
 
--- The call wants rows: it changes the map, and by more than one range's entry. A clear wants none.
+-- The call wants rows: it changes the map, and by more than one range's entry. A clear wants none, nor does a search alone.
 abbrev pub Wants : Kind → List Range → Call → Type 0
 Wants kind m (Store first last entry) = Changes kind m (Store first last entry) × (is_exact_store m first last entry ≡ false)
 Wants kind m (Insert first last entry) = Changes kind m (Insert first last entry)
 Wants kind m (Erase index) = Changes kind m (Erase index)
+Wants kind m (Alloc size min max entry) = Changes kind m (Alloc size min max entry)
+Wants kind m (Ralloc size min max entry) = Changes kind m (Ralloc size min max entry)
+Wants kind m (Gap size min max) = ⊥
+Wants kind m (Rgap size min max) = ⊥
 Wants kind m Clear = ⊥
 
 -- What the rows of a tree are limited by: how many there are, how many the tree had before its first call, how many calls

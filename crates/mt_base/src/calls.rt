@@ -1,6 +1,6 @@
 ghost use Rattle.std.specs.Prelude.{◌≡◌};
 ghost use Rattle.mt_base.specs.Entry.{reserved};
-ghost use Rattle.mt_base.specs.Call.{is_invalid};
+ghost use Rattle.mt_base.specs.Call.{is_invalid, finds_room, is_no_area, is_bad_area};
 
 use crate::kinds::Kind;
 use crate::widths::{top, width_of};
@@ -9,11 +9,48 @@ use crate::widths::{top, width_of};
 #[derive(Clone, Copy, Debug, PartialEq, Eq)]
 pub enum Call {
     /// Stores `entry` over `first` to `last`, or makes a hole there where `entry` is 0.
-    Store { first: u64, last: u64, entry: u64 },
+    Store {
+        first: u64,
+        last: u64,
+        entry: u64,
+    },
     /// Stores `entry` over `first` to `last` where no range holds any of these indexes.
-    Insert { first: u64, last: u64, entry: u64 },
+    Insert {
+        first: u64,
+        last: u64,
+        entry: u64,
+    },
     /// Removes the whole range that holds `index`.
-    Erase { index: u64 },
+    Erase {
+        index: u64,
+    },
+    /// Stores `entry` over `size` indexes at the lowest start at which they lie in one hole, from `min` to `max`. The tree has
+    /// to be one for allocation.
+    Alloc {
+        size: u64,
+        min: u64,
+        max: u64,
+        entry: u64,
+    },
+    /// The same at the highest start.
+    Ralloc {
+        size: u64,
+        min: u64,
+        max: u64,
+        entry: u64,
+    },
+    /// Tells the lowest start, and stores nothing.
+    Gap {
+        size: u64,
+        min: u64,
+        max: u64,
+    },
+    /// Tells the highest start, and stores nothing.
+    Rgap {
+        size: u64,
+        min: u64,
+        max: u64,
+    },
     /// Removes every range.
     Clear,
 }
@@ -45,4 +82,28 @@ pub fn is_invalid(kind: Kind, first: u64, last: u64, entry: u64) -> bool
     ensures { result ≡ is_invalid kind first last entry }
 {
     first > last || last > top(width_of(kind)) || is_reserved(entry)
+}
+
+/// Whether the holes of a tree of this kind are searched.
+fn finds_room(kind: Kind) -> bool
+    ensures { result ≡ finds_room kind }
+{
+    match kind {
+        Kind::Range => false,
+        Kind::Alloc => true,
+    }
+}
+
+/// Whether a search for `size` indexes from `min` to `max` in a tree of this kind is refused as invalid.
+pub fn is_no_area(kind: Kind, size: u64, min: u64, max: u64) -> bool
+    ensures { result ≡ is_no_area kind size min max }
+{
+    !finds_room(kind) || min > max || max > top(width_of(kind)) || size == 0 || max - min < size - 1
+}
+
+/// Whether a call that stores `entry` over an area that is found so is refused as invalid.
+pub fn is_bad_area(kind: Kind, size: u64, min: u64, max: u64, entry: u64) -> bool
+    ensures { result ≡ is_bad_area kind size min max entry }
+{
+    is_no_area(kind, size, min, max) || is_reserved(entry) || entry == 0
 }

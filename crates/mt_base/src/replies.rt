@@ -6,14 +6,19 @@ ghost use Rattle.mt_base.specs.Errno.{errno_of};
 pub enum Reply {
     /// The call was done.
     Ok,
+    /// The area that was sought begins here.
+    Start(u64),
     /// The range that held the index is removed, and this was its entry.
     Was(u64),
     /// No range held the index. Nothing was changed.
     None,
     /// Some index of the call's range is held already. Nothing was changed.
     Exists,
-    /// The call's range ends before it begins, or its entry is reserved, or is 0 in an insert. Nothing was changed.
+    /// The call's range ends before it begins, or its entry is reserved, or is 0 where that may not be; or room is sought in a
+    /// tree of ranges, or for no index, or in a window that has fewer. Nothing was changed.
     Invalid,
+    /// No hole has room for the area in the window. Nothing was changed.
+    Busy,
     /// Too few rows are free. Nothing was changed.
     NoNodes(Shortage),
 }
@@ -36,15 +41,16 @@ pub struct Holder {
     pub epoch: u64,
 }
 
-/// The error number of a refusal, as the kernel has it: 12 (`ENOMEM`), 17 (`EEXIST`) or 22 (`EINVAL`); none of another
-/// reply.
+/// The error number of a refusal, as the kernel has it: 12 (`ENOMEM`), 16 (`EBUSY`), 17 (`EEXIST`) or 22 (`EINVAL`); none
+/// of another reply.
 pub fn errno(reply: &Reply) -> Option<u32>
     ensures { result ≡ errno_of reply.now }
 {
     match reply {
         Reply::NoNodes(_) => Some(12),
+        Reply::Busy => Some(16),
         Reply::Exists => Some(17),
         Reply::Invalid => Some(22),
-        Reply::Ok | Reply::Was(_) | Reply::None => None,
+        Reply::Ok | Reply::Start(_) | Reply::Was(_) | Reply::None => None,
     }
 }
