@@ -1,16 +1,18 @@
 -- Every call keeps a map a map.
-use Rattle.std.proofs.Common.{◌≡◌, ℕ, ◌+◌, ◌≤◌, List, [], ◌∷◌, Option, Some, None, arith, nat_lt, false, not, ◌==◌, ◌||◌}
-use Rattle.std.proofs.lemmas.Bool.{cond_both, ltb-false, or_parts}
+use Rattle.std.proofs.Common.{◌≡◌, ℕ, ◌+◌, ◌-◌, ◌≤◌, Bool, true, List, [], ◌∷◌, Option, Some, None, arith, nat_lt, false, not, ◌==◌, ◌||◌, refl}
+use Rattle.std.proofs.lemmas.Bool.{cond_both, ltb-false, eqb-false, or_parts}
 use Rattle.std.specs.List.{AllByRecursion}
 use Rattle.mt_base.specs.declared.kinds.Kind.{Kind}
 use Rattle.mt_base.specs.Width.{greatest_of}
 use Rattle.mt_base.specs.declared.ranges.Range.{Range}
 use Rattle.mt_base.specs.declared.calls.Call.{Call}
-use Rattle.mt_base.specs.declared.calls.Call.TheVariants.{Store, Insert, Erase, Clear}
+use Rattle.mt_base.specs.declared.calls.Call.TheVariants.{Store, Insert, Erase, Alloc, Ralloc, Gap, Rgap, Clear}
 use Rattle.mt_base.specs.declared.replies.Reply.{Reply}
-use Rattle.mt_base.specs.Call.{acted, erased, is_invalid}
+use Rattle.mt_base.specs.Call.{acted, erased, placed, is_invalid, finds_room, is_no_area, is_bad_area}
 use Rattle.mt_base.specs.Entry.{reserved}
+use Rattle.mt_base.specs.Holes.{IsRoom, low, high}
 use Rattle.mt_base.specs.Map.{IsMapFrom, IsMap, holds, holding, is_held, without, over}
+use Rattle.mt_base.proofs.FreeAreas.{low_is_room, high_is_room}
 use Rattle.mt_base.proofs.StoredOrder.{IsMapFrom-lower, over_is_map}
 
 IsMapFrom-without : (m : List Range) (low index : ℕ) → IsMapFrom low m → IsMapFrom low (without m index)
@@ -50,6 +52,42 @@ valid_entry kind first last entry valid = (or_parts (nat_lt (greatest_of kind) l
 stored_is_map : (kind : Kind) (m : List Range) (first last entry : ℕ) → is_invalid kind first last entry ≡ false → IsMap kind m → IsMap kind (over m first last entry)
 stored_is_map kind m first last entry valid ordered = over_is_map kind m first last entry (valid_order kind first last entry valid) (valid_within kind first last entry valid) ordered
 
+-- what a search that is not invalid is given
+pub record IsArea (kind : Kind) (size lo hi : ℕ) : Type 0 where
+  pub finds : finds_room kind ≡ true
+  pub order : lo ≤ hi
+  pub within : hi ≤ greatest_of kind
+  pub some : 1 ≤ size
+  pub fits : size - 1 ≤ hi - lo
+
+pub is_area : (kind : Kind) (size lo hi : ℕ) → is_no_area kind size lo hi ≡ false → IsArea kind size lo hi
+is_area kind size lo hi valid =
+    let kinds = or_parts (not (finds_room kind)) _ valid in
+    let orders = or_parts (nat_lt hi lo) _ kinds.1 in
+    let ends = or_parts (nat_lt (greatest_of kind) hi) _ orders.1 in
+    let sizes = or_parts (size == 0) (nat_lt (hi - lo) (size - 1)) ends.1 in
+    record {
+      finds = not_not (finds_room kind) kinds.0;
+      order = ltb-false hi lo orders.0;
+      within = ltb-false (greatest_of kind) hi ends.0;
+      some = omega (arith, eqb-false size 0 sizes.0);
+      fits = ltb-false (hi - lo) (size - 1) sizes.1;
+    }
+  where
+    not_not : (b : Bool) → not b ≡ false → b ≡ true
+    not_not true is = refl
+    not_not false is = absurd (cc)
+
+pub stored_area : (kind : Kind) (size lo hi entry : ℕ) → is_bad_area kind size lo hi entry ≡ false → IsArea kind size lo hi
+stored_area kind size lo hi entry valid = is_area kind size lo hi (or_parts (is_no_area kind size lo hi) (reserved entry || (entry == 0)) valid).0
+
+-- an entry stored where there is room
+placed_is_map : (kind : Kind) (m : List Range) (size lo hi entry : ℕ) (start : Option ℕ) → is_bad_area kind size lo hi entry ≡ false → IsMap kind m → ((s : ℕ) → start ≡ Some s → IsRoom m size lo hi s) → IsMap kind (placed m size entry start).0
+placed_is_map kind m size lo hi entry None valid ordered room = ordered
+placed_is_map kind m size lo hi entry (Some s) valid ordered room =
+    let area = stored_area kind size lo hi entry valid in
+    over_is_map kind m s (s + size - 1) entry (omega (arith, area.some)) (omega (arith, area.some, area.within, (room s refl).to)) ordered
+
 -- every call keeps a map a map
 pub acted_is_map : (kind : Kind) (m : List Range) (call : Call) → IsMap kind m → IsMap kind (acted kind m call).0
 acted_is_map kind m (Store first last entry) ordered =
@@ -63,4 +101,14 @@ acted_is_map kind m (Insert first last entry) ordered =
     (λ held. ordered)
     (λ free. stored_is_map kind m first last entry (or_parts (is_invalid kind first last entry) (entry == 0) valid).0 ordered))
 acted_is_map kind m (Erase index) ordered = erased_is_map kind m index (holding m index) ordered
+acted_is_map kind m (Alloc size lo hi entry) ordered =
+    cond_both (is_bad_area kind size lo hi entry) _ _ (λ (after : List Range × Reply). IsMap kind after.0)
+    (λ invalid. ordered)
+    (λ valid. placed_is_map kind m size lo hi entry (low kind m size lo hi) valid ordered (λ s. low_is_room kind m size lo hi s ordered (stored_area kind size lo hi entry valid).some))
+acted_is_map kind m (Ralloc size lo hi entry) ordered =
+    cond_both (is_bad_area kind size lo hi entry) _ _ (λ (after : List Range × Reply). IsMap kind after.0)
+    (λ invalid. ordered)
+    (λ valid. placed_is_map kind m size lo hi entry (high kind m size lo hi) valid ordered (λ s. high_is_room kind m size lo hi s ordered (stored_area kind size lo hi entry valid).some))
+acted_is_map kind m (Gap size lo hi) ordered = ordered
+acted_is_map kind m (Rgap size lo hi) ordered = ordered
 acted_is_map kind m Clear ordered = record { rise = tt; within = tt }

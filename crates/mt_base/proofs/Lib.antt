@@ -1,4 +1,5 @@
 pub mod CallsKeepOrder
+pub mod FreeAreas
 pub mod Lists
 pub mod OneRange
 pub mod ReadingAfterStore

@@ -1,10 +1,11 @@
 -- The holes of a map, and where room for so many indexes is found in a window.
 -- Source: the kernel's lib/maple_tree.c, mas_empty_area and mas_empty_area_rev.
-use Rattle.std.specs.Prelude.{ℕ, Bool, List, [], ◌∷◌, ◌++◌, Option, ◌+◌, ◌-◌, nat_lt, nat_le, min, max, map, filter, length, slice_get, if◌then◌else◌}
+use Rattle.std.specs.Prelude.{◌≡◌, ℕ, Bool, false, List, [], ◌∷◌, ◌++◌, Option, ◌+◌, ◌-◌, ◌≤◌, nat_lt, nat_le, min, max, map, filter, length, slice_get, if◌then◌else◌}
 use Rattle.std.specs.Option.{option_map}
 use Rattle.mt_base.specs.declared.kinds.Kind.{Kind}
 use Rattle.mt_base.specs.declared.ranges.Range.{Range}
 use Rattle.mt_base.specs.Width.{greatest_of}
+use Rattle.mt_base.specs.Map.{is_held}
 
 -- indexes that no range holds, from the first to the last
 pub record Hole : Type 0 where
@@ -50,3 +51,9 @@ low kind m n lo hi = lowest_in (kept n lo hi (holes kind m))
 
 abbrev pub high : Kind → List Range → ℕ → ℕ → ℕ → Option ℕ
 high kind m n lo hi = highest_in n (kept n lo hi (holes kind m))
+
+-- so many indexes from a start lie in the window, and no range holds one of them
+pub record IsRoom (m : List Range) (n lo hi start : ℕ) : Type 0 where
+  pub from : lo ≤ start
+  pub to : start + n ≤ hi + 1
+  pub free : is_held m start (start + n - 1) ≡ false
