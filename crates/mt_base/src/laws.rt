@@ -1,14 +1,18 @@
 //! What holds of every map of ranges. Each law is the contract of a function that does nothing.
 
-ghost use Rattle.std.specs.Prelude.{◌≡◌, ◌<◌, ◌≤◌, ◌-◌, ◌^◌, ◌==◌, ℕ, Bool, true, List, [], ◌∷◌, option_map, slice_get, IsTrue, if◌then◌else◌};
+ghost use Rattle.std.specs.Prelude.{◌≡◌, ◌↔◌, ◌<◌, ◌≤◌, ◌+◌, ◌-◌, ◌*◌, ◌/◌, ◌^◌, ◌==◌, ℕ, Bool, true, List, [], ◌∷◌, length, option_map, slice_get, IsTrue, if◌then◌else◌};
 ghost use Rattle.mt_base.specs.declared.kinds.Kind.{Kind};
+ghost use Rattle.mt_base.specs.declared.kinds.Kind.TheVariants as kinds;
 ghost use Rattle.mt_base.specs.declared.ranges.Range.{Range};
 ghost use Rattle.mt_base.specs.declared.calls.Call.{Call};
+ghost use Rattle.mt_base.specs.declared.replies.Reply.{Reply};
 ghost use Rattle.mt_base.specs.declared.replies.Shortage.{Shortage};
 ghost use Rattle.mt_base.specs.Call.{acted};
+ghost use Rattle.mt_base.specs.History.{Record, History, IsLegal, map_at, limits_after};
+ghost use Rattle.mt_base.specs.Holes.{IsRoom, low, high};
 ghost use Rattle.mt_base.specs.Map.{IsMap, holds, holding, over};
-ghost use Rattle.mt_base.specs.Nodes.{IsShort};
-ghost use Rattle.mt_base.specs.Width.{greatest_of};
+ghost use Rattle.mt_base.specs.Nodes.{Limits, IsShort, Wants};
+ghost use Rattle.mt_base.specs.Width.{greatest_of, most_rows, most_taken};
 
 /// A store keeps a map a map.
 pub fn store_keeps_map()
@@ -44,6 +48,35 @@ pub fn worked_stores()
         ≡ record { first = 0; last = 2 ^ 64 - 2; entry = 7 } ∷ record { first = 2 ^ 64 - 1; last = 2 ^ 64 - 1; entry = 9 } ∷ [] }
 {}
 
+/// Where a search finds a start, so many indexes from there lie in the window, and no range holds one of them.
+pub fn room_is_in_the_window_and_free()
+    ensures lowest { (kind : Kind) (m : List Range) (n lo hi s : ℕ) → IsMap kind m → 1 ≤ n → low kind m n lo hi ≡ Some s → IsRoom m n lo hi s }
+    ensures highest { (kind : Kind) (m : List Range) (n lo hi s : ℕ) → IsMap kind m → 1 ≤ n → high kind m n lo hi ≡ Some s → IsRoom m n lo hi s }
+{}
+
+/// Worked searches: room between two ranges, at the greatest index, in no hole of a window, up to a range that ends a
+/// window, below a range, behind all of them, in none, and in the empty map.
+pub fn worked_searches()
+    ensures between { low kinds.Alloc (record { first = 0; last = 9; entry = 1 } ∷ record { first = 20; last = 29; entry = 1 } ∷ []) 10 0 (2 ^ 64 - 1) ≡ Some 10 }
+    ensures greatest { high kinds.Alloc (record { first = 0; last = 9; entry = 1 } ∷ record { first = 10; last = 19; entry = 3 } ∷ record { first = 20; last = 29; entry = 1 } ∷ []) 10 0 (2 ^ 64 - 1) ≡ Some 18446744073709551606 }
+    ensures clipped { low kinds.Alloc (record { first = 0; last = 9; entry = 1 } ∷ record { first = 20; last = 29; entry = 1 } ∷ []) 11 5 25 ≡ None }
+    ensures short { high kinds.Alloc (record { first = 0; last = 9; entry = 1 } ∷ record { first = 20; last = 29; entry = 1 } ∷ []) 4 5 25 ≡ Some 16 }
+    ensures below { high kinds.Alloc (record { first = 4194304; last = 4202495; entry = 8192 } ∷ record { first = 2147479552; last = 2147483647; entry = 8196 } ∷ []) 12288 65536 2147483647 ≡ Some 2147467264 }
+    ensures behind { low kinds.Alloc (record { first = 0; last = 16; entry = 4096 } ∷ []) 1 0 (2 ^ 64 - 1) ≡ Some 17 }
+    ensures full { low kinds.Alloc (record { first = 0; last = 16; entry = 4096 } ∷ []) 1 0 16 ≡ None }
+    ensures high { high kinds.Alloc (record { first = 0; last = 16; entry = 4096 } ∷ []) 4 0 (2 ^ 64 - 1) ≡ Some 18446744073709551612 }
+    ensures empty { low kinds.Alloc [] 1 0 (2 ^ 64 - 1) ≡ Some 0 }
+{}
+
+/// A call that stores an entry where it finds room wants rows exactly where it finds some.
+#[tactic(auto, using(crate::proofs::AreasWant::alloc_wants, crate::proofs::AreasWant::ralloc_wants))]
+pub fn an_area_wants_rows_where_it_is_not_refused()
+    ensures lowest { (kind : Kind) (m : List Range) (size lo hi entry : ℕ) → IsMap kind m
+        → Wants kind m (Call.Alloc size lo hi entry) ↔ ((s : ℕ) × ((acted kind m (Call.Alloc size lo hi entry)).1 ≡ Reply.Start s)) }
+    ensures highest { (kind : Kind) (m : List Range) (size lo hi entry : ℕ) → IsMap kind m
+        → Wants kind m (Call.Ralloc size lo hi entry) ↔ ((s : ℕ) × ((acted kind m (Call.Ralloc size lo hi entry)).1 ≡ Reply.Start s)) }
+{}
+
 /// Where rows are short, they are short of limits that allow more: a tree that opened with more, or more calls that have
 /// ended, or readers that may hold rows back.
 #[tactic(auto, using(crate::proofs::Shortages::still_short))]
@@ -51,4 +84,15 @@ pub fn a_shortage_stays_one()
     ensures { (rows opened opened' ended ended' : ℕ) (may_hold : Bool) (m : List Range) (s : Shortage) → opened ≤ opened' → ended ≤ ended'
         → IsShort (record { rows = rows; opened = opened; ended = ended; may_hold = may_hold }) m s
         → IsShort (record { rows = rows; opened = opened'; ended = ended'; may_hold = true }) m s }
+{}
+
+/// Where rows are short, the tree has few: fewer, where none is held, than its levels and its ranges ask for; and always
+/// fewer than the calls so far, this one too, may have taken, and it opened with. So of a tree that opens empty and has as
+/// many rows as a tree may have, none of the first 2,339 calls is refused for want of rows.
+#[tactic(auto, using(crate::proofs::Shortages::few_unheld, crate::proofs::Shortages::few_taken, crate::proofs::Shortages::first_short, crate::proofs::Shortages::first_calls_answered))]
+pub fn a_shortage_has_few_rows()
+    ensures unheld { (l : Limits) (m : List Range) (s : Shortage) → (short : IsShort l m s) → s.held ≡ 0 → l.rows < 3 * short.levels + 1 + length m / 2 + 2 }
+    ensures taken { (l : Limits) (m : List Range) (s : Shortage) → IsShort l m s → l.rows < most_taken * (l.ended + 1) + l.opened }
+    ensures many { (h : History) (ended : ℕ) (m : List Range) (s : Shortage) → h.rows ≡ most_rows → h.opening ≡ [] → IsShort (limits_after h ended) m s → 2339 ≤ ended }
+    ensures answered { (h : History) (k : ℕ) (r : Record) → h.rows ≡ most_rows → h.opening ≡ [] → IsLegal h → k < 2339 → slice_get h.records k ≡ Some r → r.reply ≡ (acted h.kind (map_at h k) r.call).1 }
 {}
