@@ -1,5 +1,6 @@
 pub mod EraseAtPlace
 pub mod HoldingAtPlace
+pub mod HolesSought
 pub mod MapsKept
 pub mod QueriesAtPlaces
 pub mod Replaced

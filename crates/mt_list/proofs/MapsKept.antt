@@ -1,11 +1,14 @@
 -- What a call leaves is a map of the same kind.
-use Rattle.std.proofs.Common.{◌≡◌, ℕ, false, List, Option, Some, None, OnSome, IfNone, sym, subst}
+use Rattle.std.proofs.Common.{◌≡◌, ℕ, ◌+◌, ◌-◌, ◌≤◌, false, List, Option, Some, None, OnSome, IfSome, IfNone, arith, sym, subst}
 use Rattle.mt_base.specs.declared.kinds.Kind.{Kind}
 use Rattle.mt_base.specs.declared.ranges.Range.{Range}
-use Rattle.mt_base.specs.Call.{is_invalid}
+use Rattle.mt_base.specs.Width.{greatest_of}
+use Rattle.mt_base.specs.Holes.{low, high}
+use Rattle.mt_base.specs.Call.{is_invalid, is_bad_area}
 use Rattle.mt_base.specs.Map.{IsMap, over, without}
 use Rattle.mt_base.proofs.StoredOrder.{over_is_map}
-use Rattle.mt_base.proofs.CallsKeepOrder.{without_is_map, valid_order, valid_within}
+use Rattle.mt_base.proofs.CallsKeepOrder.{without_is_map, valid_order, valid_within, stored_area}
+use Rattle.mt_base.proofs.FreeAreas.{low_is_room, high_is_room}
 
 -- after a store that is not invalid
 pub stored_is_map : (kind : Kind) (m after : List Range) (first last entry : ℕ) → is_invalid kind first last entry ≡ false → IsMap kind m → after ≡ over m first last entry → IsMap kind after
@@ -16,3 +19,23 @@ stored_is_map kind m after first last entry valid ordered is =
 pub erased_is_map : (kind : Kind) (m after : List Range) (index : ℕ) (erased : Option Range) → IsMap kind m → OnSome erased (after ≡ without m index) → IfNone erased (after ≡ m) → IsMap kind after
 erased_is_map kind m after index None ordered some none = subst (IsMap kind) (sym none) ordered
 erased_is_map kind m after index (Some r) ordered some none = subst (IsMap kind) (sym some) (without_is_map kind m index ordered)
+
+-- after an entry was stored at a start
+pub placed_is_map : (kind : Kind) (m after : List Range) (start : Option ℕ) (first size entry : ℕ) → 1 ≤ size → IfSome start (λ s. s + size ≤ greatest_of kind + 1) → start ≡ Some first → IsMap kind m → after ≡ over m first (first + (size - 1)) entry → IsMap kind after
+placed_is_map kind m after None first size entry some within at ordered is = absurd (cc)
+placed_is_map kind m after (Some s) first size entry some within at ordered is =
+    let same : s ≡ first = cc in
+    subst (IsMap kind) (sym is) (over_is_map kind m first (first + (size - 1)) entry (omega arith) (omega (arith, same)) ordered)
+
+-- an area at a start that a search found ends at the greatest index or below
+pub low_fits : (kind : Kind) (m : List Range) (size lo hi entry : ℕ) (start : Option ℕ) → is_bad_area kind size lo hi entry ≡ false → IsMap kind m → start ≡ low kind m size lo hi → IfSome start (λ s. s + size ≤ greatest_of kind + 1)
+low_fits kind m size lo hi entry None valid ordered is = tt
+low_fits kind m size lo hi entry (Some s) valid ordered is =
+    let area = stored_area kind size lo hi entry valid in
+    omega (arith, area.within, (low_is_room kind m size lo hi s ordered area.some (sym is)).to)
+
+pub high_fits : (kind : Kind) (m : List Range) (size lo hi entry : ℕ) (start : Option ℕ) → is_bad_area kind size lo hi entry ≡ false → IsMap kind m → start ≡ high kind m size lo hi → IfSome start (λ s. s + size ≤ greatest_of kind + 1)
+high_fits kind m size lo hi entry None valid ordered is = tt
+high_fits kind m size lo hi entry (Some s) valid ordered is =
+    let area = stored_area kind size lo hi entry valid in
+    omega (arith, area.within, (high_is_room kind m size lo hi s ordered area.some (sym is)).to)

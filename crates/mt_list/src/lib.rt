@@ -1,6 +1,7 @@
 //! A map of ranges as a sorted list: the first engine, and later the one to compare with.
 #![tactic(auto)]
 
+mod areas;
 mod edits;
 mod list_map;
 mod pieces;

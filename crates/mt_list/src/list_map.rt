@@ -1,9 +1,10 @@
-ghost use Rattle.std.specs.Prelude.{◌≡◌, [], None};
+ghost use Rattle.std.specs.Prelude.{None};
 
+use crate::areas::{Window, highest, lowest, reply_of};
 use crate::edits::{erase, store};
 use crate::ranges::Ranges;
 use crate::searches::{first_above, first_from, is_held, last_below, last_up_to, range_holding};
-use mt_base::{Call, Kind, NoMemory, Query, Range, Reply, is_invalid};
+use mt_base::{Call, Kind, NoMemory, Query, Range, Reply, is_bad_area, is_invalid, is_no_area};
 use std::alloc::Global;
 use std::marker::Model;
 
@@ -26,6 +27,10 @@ impl Model for ListMap {
 }
 
 impl ListMap {
+    ghost use Rattle.std.specs.Prelude.{◌≡◌, ◌+◌, ◌≤◌, [], IfOk, OnErr, IfSome};
+    ghost use Rattle.mt_base.specs.Call.{acted, placed};
+    ghost use Rattle.mt_base.specs.Width.{greatest_of};
+
     /// The empty map.
     pub fn new(alloc: Global, kind: Kind) -> Self
         ensures kind { result.kind ≡ kind }
@@ -35,6 +40,116 @@ impl ListMap {
             kind,
             ranges: Vec::new(alloc),
         }
+    }
+
+    /// Stores `entry` over `first` to `last`.
+    fn store(&mut self, first: u64, last: u64, entry: u64) -> Result<Reply, NoMemory>
+        ensures acts { IfOk result (λ reply. acted self.old.kind self.old.ranges (Call.Store first last entry) ≡ (self.new.ranges, reply)) }
+        ensures err { OnErr result (self.new ≡ self.old) }
+        ensures kind { self.new.kind ≡ self.old.kind }
+    {
+        if is_invalid(self.kind, first, last, entry) {
+            return Ok(Reply::Invalid);
+        }
+        store(&mut self.ranges, first, last, entry)?;
+        Ok(Reply::Ok)
+    }
+
+    /// The same, where no range holds any of these indexes.
+    fn insert(&mut self, first: u64, last: u64, entry: u64) -> Result<Reply, NoMemory>
+        ensures acts { IfOk result (λ reply. acted self.old.kind self.old.ranges (Call.Insert first last entry) ≡ (self.new.ranges, reply)) }
+        ensures err { OnErr result (self.new ≡ self.old) }
+        ensures kind { self.new.kind ≡ self.old.kind }
+    {
+        if is_invalid(self.kind, first, last, entry) || entry == 0 {
+            return Ok(Reply::Invalid);
+        }
+        if is_held(&self.ranges, first, last) {
+            return Ok(Reply::Exists);
+        }
+        store(&mut self.ranges, first, last, entry)?;
+        Ok(Reply::Ok)
+    }
+
+    /// Removes the range that holds `index`.
+    fn erase(&mut self, index: u64) -> Reply
+        ensures acts { acted self.old.kind self.old.ranges (Call.Erase index) ≡ (self.new.ranges, result) }
+        ensures kind { self.new.kind ≡ self.old.kind }
+    {
+        match erase(&mut self.ranges, index) {
+            Some(range) => Reply::Was(range.entry),
+            None => Reply::None,
+        }
+    }
+
+    /// Stores `entry` at the lowest start of room in the window.
+    fn alloc(&mut self, window: Window, entry: u64) -> Result<Reply, NoMemory>
+        ensures acts { IfOk result (λ reply. acted self.old.kind self.old.ranges (Call.Alloc window.size window.min window.max entry) ≡ (self.new.ranges, reply)) }
+        ensures err { OnErr result (self.new ≡ self.old) }
+        ensures kind { self.new.kind ≡ self.old.kind }
+    {
+        if is_bad_area(self.kind, window.size, window.min, window.max, entry) {
+            return Ok(Reply::Invalid);
+        }
+        let start = lowest(self.kind, &self.ranges, window);
+        self.place(start, window.size, entry)
+    }
+
+    /// Stores `entry` at the highest start.
+    fn ralloc(&mut self, window: Window, entry: u64) -> Result<Reply, NoMemory>
+        ensures acts { IfOk result (λ reply. acted self.old.kind self.old.ranges (Call.Ralloc window.size window.min window.max entry) ≡ (self.new.ranges, reply)) }
+        ensures err { OnErr result (self.new ≡ self.old) }
+        ensures kind { self.new.kind ≡ self.old.kind }
+    {
+        if is_bad_area(self.kind, window.size, window.min, window.max, entry) {
+            return Ok(Reply::Invalid);
+        }
+        let start = highest(self.kind, &self.ranges, window);
+        self.place(start, window.size, entry)
+    }
+
+    /// Stores `entry` over `size` indexes at a start that was found.
+    fn place(&mut self, start: Option<u64>, size: u64, entry: u64) -> Result<Reply, NoMemory>
+        requires size { 1 ≤ size }
+        requires within { IfSome start (λ s. s + size ≤ greatest_of self.old.kind + 1) }
+        ensures acts { IfOk result (λ reply. placed self.old.ranges size entry start ≡ (self.new.ranges, reply)) }
+        ensures err { OnErr result (self.new ≡ self.old) }
+        ensures kind { self.new.kind ≡ self.old.kind }
+    {
+        let Some(first) = start else {
+            return Ok(Reply::Busy);
+        };
+        store(&mut self.ranges, first, first + (size - 1), entry)?;
+        Ok(Reply::Start(first))
+    }
+
+    /// Tells the lowest start.
+    fn gap(&self, window: Window) -> Reply
+        ensures { acted self.now.kind self.now.ranges (Call.Gap window.size window.min window.max) ≡ (self.now.ranges, result) }
+    {
+        if is_no_area(self.kind, window.size, window.min, window.max) {
+            return Reply::Invalid;
+        }
+        reply_of(lowest(self.kind, &self.ranges, window))
+    }
+
+    /// Tells the highest start.
+    fn rgap(&self, window: Window) -> Reply
+        ensures { acted self.now.kind self.now.ranges (Call.Rgap window.size window.min window.max) ≡ (self.now.ranges, result) }
+    {
+        if is_no_area(self.kind, window.size, window.min, window.max) {
+            return Reply::Invalid;
+        }
+        reply_of(highest(self.kind, &self.ranges, window))
+    }
+
+    /// Removes every range.
+    fn clear(&mut self) -> Reply
+        ensures acts { acted self.old.kind self.old.ranges Call.Clear ≡ (self.new.ranges, result) }
+        ensures kind { self.new.kind ≡ self.old.kind }
+    {
+        self.ranges.clear();
+        Reply::Ok
     }
 }
 
@@ -49,31 +164,24 @@ impl Ranges for ListMap {
 
     fn act(&mut self, call: &Call) -> Result<Reply, NoMemory> {
         match *call {
-            Call::Store { first, last, entry } => {
-                if is_invalid(self.kind, first, last, entry) {
-                    return Ok(Reply::Invalid);
-                }
-                store(&mut self.ranges, first, last, entry)?;
-                Ok(Reply::Ok)
-            }
-            Call::Insert { first, last, entry } => {
-                if is_invalid(self.kind, first, last, entry) || entry == 0 {
-                    return Ok(Reply::Invalid);
-                }
-                if is_held(&self.ranges, first, last) {
-                    return Ok(Reply::Exists);
-                }
-                store(&mut self.ranges, first, last, entry)?;
-                Ok(Reply::Ok)
-            }
-            Call::Erase { index } => match erase(&mut self.ranges, index) {
-                Some(range) => Ok(Reply::Was(range.entry)),
-                None => Ok(Reply::None),
-            },
-            Call::Clear => {
-                self.ranges.clear();
-                Ok(Reply::Ok)
-            }
+            Call::Store { first, last, entry } => self.store(first, last, entry),
+            Call::Insert { first, last, entry } => self.insert(first, last, entry),
+            Call::Erase { index } => Ok(self.erase(index)),
+            Call::Alloc {
+                size,
+                min,
+                max,
+                entry,
+            } => self.alloc(Window { size, min, max }, entry),
+            Call::Ralloc {
+                size,
+                min,
+                max,
+                entry,
+            } => self.ralloc(Window { size, min, max }, entry),
+            Call::Gap { size, min, max } => Ok(self.gap(Window { size, min, max })),
+            Call::Rgap { size, min, max } => Ok(self.rgap(Window { size, min, max })),
+            Call::Clear => Ok(self.clear()),
         }
     }
 

@@ -1,0 +1,6 @@
+use Rattle.std.proofs.Common.{drop}
+use Rattle.mt_list.proofs.HolesSought.{IsSoughtUp}
+use Rattle.mt_list.proofs.areas.lowest.Given as goal
+
+abbrev pub invariant-loop-range : goal.invariant-loop-range
+invariant-loop-range l = IsSoughtUp l.kind l.fn.ranges (drop l.range-index l.fn.ranges) l.window.size l.window.min l.window.max l.first
