@@ -2,6 +2,7 @@ pub mod EraseAtPlace
 pub mod HoldingAtPlace
 pub mod HolesSought
 pub mod MapsKept
+pub mod PlainHoles
 pub mod QueriesAtPlaces
 pub mod Replaced
 pub mod RisingRanges

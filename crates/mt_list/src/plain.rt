@@ -1,10 +1,13 @@
 //! The definitions as a plain, slow program: what the ranges hold, become and answer, by going over all of them.
 
-ghost use Rattle.std.specs.Prelude.{◌≡◌, ◌&&◌, IfOk, filter, nat_lt, nat_le};
-ghost use Rattle.mt_base.specs.Call.{acted, answer};
+ghost use Rattle.std.specs.Prelude.{◌≡◌, ◌+◌, ◌≤◌, ◌^◌, ◌&&◌, IfOk, IfSome, max, min, map, filter, nat_lt, nat_le};
+ghost use Rattle.mt_base.specs.Call.{acted, found, placed, answer};
+ghost use Rattle.mt_base.specs.Holes.{holes, kept, low, high, lowest_in, highest_in};
 ghost use Rattle.mt_base.specs.Map.{over, holds, holding, overlaps, is_held, without, parts_below, parts_above, first_range, last_range};
 
-use mt_base::{Call, Kind, Query, Range, Reply, is_invalid};
+use mt_base::{
+    Call, Kind, Query, Range, Reply, is_bad_area, is_invalid, is_no_area, top, width_of,
+};
 use std::alloc::{AllocError, Global};
 
 fn holds(range: &Range, index: u64) -> bool
@@ -84,6 +87,158 @@ fn over(alloc: Global, ranges: &[Range], stored: Range) -> Result<Vec<Range>, Al
     Ok(after)
 }
 
+/// Indexes that no range holds, from the first to the last.
+#[derive(Clone, Copy, Debug)]
+struct Hole {
+    first: u64,
+    last: u64,
+}
+
+/// The holes of a tree of this kind.
+fn holes(alloc: Global, kind: Kind, ranges: &[Range]) -> Result<Vec<Hole>, AllocError>
+    ensures { IfOk result (λ found. map (λ x. record { first = x.first; last = x.last }) found.items ≡ holes kind ranges.now) }
+{
+    let mut holes = Vec::new(alloc);
+    let mut first = 0;
+    for range in ranges {
+        if first < u128::from(range.first) {
+            holes.push(Hole {
+                first: first as u64,
+                last: range.first - 1,
+            })?;
+        }
+        first = u128::from(range.last) + 1;
+    }
+    let last = top(width_of(kind));
+    if first <= u128::from(last) {
+        holes.push(Hole {
+            first: first as u64,
+            last,
+        })?;
+    }
+    Ok(holes)
+}
+
+/// The parts of the holes from `lo` to `hi` that have `size` indexes.
+fn kept(alloc: Global, holes: &[Hole], size: u64, lo: u64, hi: u64) -> Result<Vec<Hole>, AllocError>
+    ensures { IfOk result (λ parts. parts.items ≡ filter (λ x. nat_le (x.first + size) (x.last + 1)) (map (λ x. record { first = max lo x.first; last = min hi x.last }) holes.now)) }
+{
+    holes
+        .iter()
+        .map(|x| Hole {
+            first: lo.max(x.first),
+            last: hi.min(x.last),
+        })
+        .filter(|x| u128::from(x.first) + u128::from(size) <= u128::from(x.last) + 1)
+        .collect(alloc)
+}
+
+/// The parts of all holes of a tree of this kind from `lo` to `hi` that have `size` indexes.
+fn room(
+    alloc: Global,
+    kind: Kind,
+    ranges: &[Range],
+    size: u64,
+    lo: u64,
+    hi: u64,
+) -> Result<Vec<Hole>, AllocError>
+    ensures { IfOk result (λ parts. map (λ x. record { first = x.first; last = x.last }) parts.items ≡ kept size lo hi (holes kind ranges.now)) }
+{
+    kept(alloc, &holes(alloc, kind, ranges)?, size, lo, hi)
+}
+
+/// The start of the first of these parts.
+#[tactic(auto, using(crate::proofs::PlainHoles::part_at))]
+fn lowest_in(parts: &[Hole]) -> Option<u64>
+    ensures { result ≡ lowest_in (map (λ x. record { first = x.first; last = x.last }) parts.now) }
+{
+    let part = parts.first()?;
+    Some(part.first)
+}
+
+/// The greatest start of `size` indexes in the last of them.
+#[tactic(auto, using(crate::proofs::PlainHoles::part_at))]
+fn highest_in(size: u64, parts: &[Hole]) -> Option<u64>
+    requires { 1 ≤ size }
+    ensures { result ≡ highest_in size (map (λ x. record { first = x.first; last = x.last }) parts.now) }
+{
+    let part = parts.last()?;
+    Some(part.last.saturating_sub(size - 1))
+}
+
+/// The lowest start of `size` indexes that lie in one hole and from `lo` to `hi`.
+fn low(
+    alloc: Global,
+    kind: Kind,
+    ranges: &[Range],
+    size: u64,
+    lo: u64,
+    hi: u64,
+) -> Result<Option<u64>, AllocError>
+    ensures start { IfOk result (λ start. start ≡ low kind ranges.now size lo hi) }
+    ensures fits { IfOk result (λ start. IfSome start (λ s. s + size ≤ 2 ^ 64)) }
+{
+    let parts = room(alloc, kind, ranges, size, lo, hi)?;
+    Ok(lowest_in(&parts))
+}
+
+/// The highest start.
+fn high(
+    alloc: Global,
+    kind: Kind,
+    ranges: &[Range],
+    size: u64,
+    lo: u64,
+    hi: u64,
+) -> Result<Option<u64>, AllocError>
+    requires { 1 ≤ size }
+    ensures start { IfOk result (λ start. start ≡ high kind ranges.now size lo hi) }
+    ensures fits { IfOk result (λ start. IfSome start (λ s. s + size ≤ 2 ^ 64)) }
+{
+    let parts = room(alloc, kind, ranges, size, lo, hi)?;
+    Ok(highest_in(size, &parts))
+}
+
+/// The ranges after `entry` was stored over `size` indexes at a start that was found, and the reply.
+fn placed(
+    alloc: Global,
+    ranges: &[Range],
+    size: u64,
+    entry: u64,
+    start: Option<u64>,
+) -> Result<(Vec<Range>, Reply), AllocError>
+    requires size { 1 ≤ size }
+    requires within { IfSome start (λ s. s + size ≤ 2 ^ 64) }
+    ensures { IfOk result (λ after. (after.0.items, after.1) ≡ placed ranges.now size entry start) }
+{
+    let Some(first) = start else {
+        return unchanged(alloc, ranges, Reply::Busy);
+    };
+    let last = first + (size - 1);
+    Ok((
+        over(alloc, ranges, Range { first, last, entry })?,
+        Reply::Start(first),
+    ))
+}
+
+/// What a start that was found, or none, is answered.
+fn found(start: Option<u64>) -> Reply
+    ensures { result ≡ found start }
+{
+    start.map_or(Reply::Busy, Reply::Start)
+}
+
+/// The ranges as they were, and the reply.
+fn unchanged(
+    alloc: Global,
+    ranges: &[Range],
+    reply: Reply,
+) -> Result<(Vec<Range>, Reply), AllocError>
+    ensures { IfOk result (λ after. (after.0.items ≡ ranges.now) × (after.1 ≡ reply)) }
+{
+    Ok((Vec::from_slice(alloc, ranges)?, reply))
+}
+
 /// The ranges of a tree of this kind after a call, and its reply.
 pub fn acted(
     alloc: Global,
@@ -96,29 +251,63 @@ pub fn acted(
     match *call {
         Call::Store { first, last, entry } => {
             if is_invalid(kind, first, last, entry) {
-                return Ok((Vec::from_slice(alloc, ranges)?, Reply::Invalid));
+                return unchanged(alloc, ranges, Reply::Invalid);
             }
-            Ok((
-                over(alloc, ranges, Range { first, last, entry })?,
-                Reply::Ok,
-            ))
+            let after = over(alloc, ranges, Range { first, last, entry })?;
+            Ok((after, Reply::Ok))
         }
         Call::Insert { first, last, entry } => {
             if is_invalid(kind, first, last, entry) || entry == 0 {
-                return Ok((Vec::from_slice(alloc, ranges)?, Reply::Invalid));
+                return unchanged(alloc, ranges, Reply::Invalid);
             }
             if is_held(ranges, first, last) {
-                return Ok((Vec::from_slice(alloc, ranges)?, Reply::Exists));
+                return unchanged(alloc, ranges, Reply::Exists);
             }
-            Ok((
-                over(alloc, ranges, Range { first, last, entry })?,
-                Reply::Ok,
-            ))
+            let after = over(alloc, ranges, Range { first, last, entry })?;
+            Ok((after, Reply::Ok))
         }
         Call::Erase { index } => match holding(ranges, index) {
             Some(range) => Ok((without(alloc, ranges, index)?, Reply::Was(range.entry))),
-            None => Ok((Vec::from_slice(alloc, ranges)?, Reply::None)),
+            None => unchanged(alloc, ranges, Reply::None),
         },
+        Call::Alloc {
+            size,
+            min,
+            max,
+            entry,
+        } => {
+            if is_bad_area(kind, size, min, max, entry) {
+                return unchanged(alloc, ranges, Reply::Invalid);
+            }
+            let start = low(alloc, kind, ranges, size, min, max)?;
+            placed(alloc, ranges, size, entry, start)
+        }
+        Call::Ralloc {
+            size,
+            min,
+            max,
+            entry,
+        } => {
+            if is_bad_area(kind, size, min, max, entry) {
+                return unchanged(alloc, ranges, Reply::Invalid);
+            }
+            let start = high(alloc, kind, ranges, size, min, max)?;
+            placed(alloc, ranges, size, entry, start)
+        }
+        Call::Gap { size, min, max } => {
+            if is_no_area(kind, size, min, max) {
+                return unchanged(alloc, ranges, Reply::Invalid);
+            }
+            let start = low(alloc, kind, ranges, size, min, max)?;
+            unchanged(alloc, ranges, found(start))
+        }
+        Call::Rgap { size, min, max } => {
+            if is_no_area(kind, size, min, max) {
+                return unchanged(alloc, ranges, Reply::Invalid);
+            }
+            let start = high(alloc, kind, ranges, size, min, max)?;
+            unchanged(alloc, ranges, found(start))
+        }
         Call::Clear => Ok((Vec::new(alloc), Reply::Ok)),
     }
 }

@@ -1,25 +1,54 @@
+mod draws;
+
+use crate::tests::draws::Draws;
 use crate::{ListMap, Ranges, plain};
 use mt_base::{Call, Kind, NoMemory, Query, Range, Reply};
 use std::alloc::Global;
 use std::process::Abort;
 use std::test::Fail;
 
-const TOP: u64 = u64::MAX;
+pub const TOP: u64 = u64::MAX;
 
 fn range(first: u64, last: u64, entry: u64) -> Range {
     Range { first, last, entry }
 }
 
-fn store(first: u64, last: u64, entry: u64) -> Call {
+pub fn store(first: u64, last: u64, entry: u64) -> Call {
     Call::Store { first, last, entry }
 }
 
-fn insert(first: u64, last: u64, entry: u64) -> Call {
+pub fn insert(first: u64, last: u64, entry: u64) -> Call {
     Call::Insert { first, last, entry }
 }
 
-fn erase(index: u64) -> Call {
+pub fn erase(index: u64) -> Call {
     Call::Erase { index }
+}
+
+pub fn alloc(size: u64, min: u64, max: u64, entry: u64) -> Call {
+    Call::Alloc {
+        size,
+        min,
+        max,
+        entry,
+    }
+}
+
+pub fn ralloc(size: u64, min: u64, max: u64, entry: u64) -> Call {
+    Call::Ralloc {
+        size,
+        min,
+        max,
+        entry,
+    }
+}
+
+pub fn gap(size: u64, min: u64, max: u64) -> Call {
+    Call::Gap { size, min, max }
+}
+
+pub fn rgap(size: u64, min: u64, max: u64) -> Call {
+    Call::Rgap { size, min, max }
 }
 
 fn load(index: u64) -> Query {
@@ -42,17 +71,18 @@ fn rfind(index: u64, min: u64) -> Query {
     Query::Rfind { index, min }
 }
 
-/// Plays the calls on a new map and by the plain program; the replies and the ranges in the end are as wanted.
-fn map_after(
+/// Plays the calls on a new map of this kind and by the plain program; the replies and the ranges in the end are as wanted.
+fn map_of_kind(
     rt: &impl Abort,
     alloc: Global,
+    kind: Kind,
     calls: &[(Call, Reply)],
     want: &[Range],
 ) -> Result<ListMap, NoMemory> {
-    let mut map = ListMap::new(alloc, Kind::Range);
+    let mut map = ListMap::new(alloc, kind);
     let mut ranges = Vec::new(alloc);
     for (call, reply) in calls {
-        let (after, answered) = plain::acted(alloc, Kind::Range, &ranges, call)?;
+        let (after, answered) = plain::acted(alloc, kind, &ranges, call)?;
         ranges = after;
         assert_eq!(rt; answered, *reply, "the plain program at {call:?}");
         assert_eq!(rt; map.act(call)?, *reply, "at {call:?}");
@@ -60,6 +90,26 @@ fn map_after(
     assert_eq!(rt; ranges.as_slice(), want);
     assert_eq!(rt; map.list(alloc)?.as_slice(), want);
     Ok(map)
+}
+
+/// The same on a map of ranges.
+fn map_after(
+    rt: &impl Abort,
+    alloc: Global,
+    calls: &[(Call, Reply)],
+    want: &[Range],
+) -> Result<ListMap, NoMemory> {
+    map_of_kind(rt, alloc, Kind::Range, calls, want)
+}
+
+/// The same on a map in which room is sought.
+fn areas_after(
+    rt: &impl Abort,
+    alloc: Global,
+    calls: &[(Call, Reply)],
+    want: &[Range],
+) -> Result<ListMap, NoMemory> {
+    map_of_kind(rt, alloc, Kind::Alloc, calls, want)
 }
 
 fn expect_answers(rt: &impl Abort, map: &mut ListMap, queries: &[(Query, Option<Range>)]) {
@@ -194,6 +244,81 @@ fn walks_over_single_indexes(rt: HostRuntime) -> Result<(), Fail> {
     Ok(())
 }
 
+#[test]
+fn stores_at_the_lowest_and_the_highest_start(rt: HostRuntime) -> Result<(), Fail> {
+    const HIGH: u64 = 18_446_744_073_709_551_606;
+    let calls = [
+        (store(0, 9, 1), Reply::Ok),
+        (store(20, 29, 1), Reply::Ok),
+        (alloc(10, 0, TOP, 3), Reply::Start(10)),
+        (ralloc(10, 0, TOP, 4), Reply::Start(HIGH)),
+    ];
+    let want = [
+        range(0, 9, 1),
+        range(10, 19, 3),
+        range(20, 29, 1),
+        range(HIGH, TOP, 4),
+    ];
+    areas_after(&rt, rt.alloc(), &calls, &want)?;
+    Ok(())
+}
+
+#[test]
+fn finds_room_in_windows(rt: HostRuntime) -> Result<(), Fail> {
+    let calls = [
+        (store(0, 9, 1), Reply::Ok),
+        (store(20, 29, 1), Reply::Ok),
+        (gap(11, 5, 25), Reply::Busy),
+        (gap(0, 0, 9), Reply::Invalid),
+        (gap(11, 0, 9), Reply::Invalid),
+        (gap(1, 9, 8), Reply::Invalid),
+        (rgap(4, 5, 25), Reply::Start(16)),
+    ];
+    let want = [range(0, 9, 1), range(20, 29, 1)];
+    areas_after(&rt, rt.alloc(), &calls, &want)?;
+    Ok(())
+}
+
+#[test]
+fn finds_no_room_in_a_full_tree_and_seeks_none_in_a_tree_of_ranges(
+    rt: HostRuntime,
+) -> Result<(), Fail> {
+    let calls = [
+        (store(0, TOP, 1), Reply::Ok),
+        (alloc(1, 0, TOP, 3), Reply::Busy),
+    ];
+    areas_after(&rt, rt.alloc(), &calls, &[range(0, TOP, 1)])?;
+    let calls = [
+        (alloc(1, 0, TOP, 3), Reply::Invalid),
+        (rgap(1, 0, 0), Reply::Invalid),
+    ];
+    map_after(&rt, rt.alloc(), &calls, &[])?;
+    Ok(())
+}
+
+#[test]
+fn maps_addresses(rt: HostRuntime) -> Result<(), Fail> {
+    let mapped = range(2_147_467_264, 2_147_479_551, 8200);
+    let stack = range(2_147_479_552, 2_147_483_647, 8196);
+    let calls = [
+        (store(0x40_0000, 0x40_1fff, 8192), Reply::Ok),
+        (store(0x7fff_f000, 0x7fff_ffff, 8196), Reply::Ok),
+        (
+            ralloc(0x3000, 0x1_0000, 0x7fff_ffff, 8200),
+            Reply::Start(2_147_467_264),
+        ),
+    ];
+    let want = [range(0x40_0000, 0x40_1fff, 8192), mapped, stack];
+    let mut map = areas_after(&rt, rt.alloc(), &calls, &want)?;
+    expect_answers(&rt, &mut map, &[(next(0x40_0000, TOP), Some(mapped))]);
+    assert_eq!(rt; map.act(&erase(0x40_0010))?, Reply::Was(8192));
+    assert_eq!(rt;
+        map.list(rt.alloc())?.as_slice(),
+        [mapped, stack].as_slice()
+    );
+    Ok(())
+}
+
 /// Linux 6.12 answers these otherwise, by a fault of its own.
 #[test]
 fn is_right_where_linux_is_not(rt: HostRuntime) -> Result<(), Fail> {
@@ -205,6 +330,17 @@ fn is_right_where_linux_is_not(rt: HostRuntime) -> Result<(), Fail> {
     let lowest = range(0, 0, 5);
     let mut map = map_after(&rt, rt.alloc(), &[(store(0, 0, 5), Reply::Ok)], &[lowest])?;
     expect_answers(&rt, &mut map, &[(prev(9, 1), None), (rfind(9, 1), None)]);
+    let calls = [
+        (store(10, TOP, 1), Reply::Ok),
+        (rgap(1, 0, TOP), Reply::Start(9)),
+    ];
+    areas_after(&rt, rt.alloc(), &calls, &[range(10, TOP, 1)])?;
+    let calls = [
+        (store(0, TOP, 7), Reply::Ok),
+        (erase(3), Reply::Was(7)),
+        (gap(1, 0, TOP), Reply::Start(0)),
+    ];
+    areas_after(&rt, rt.alloc(), &calls, &[])?;
     Ok(())
 }
 
@@ -265,6 +401,28 @@ fn agrees_with_the_plain_program(rt: HostRuntime) -> Result<(), Fail> {
                     assert_eq!(rt; map.ask(&query), answer, "at {query:?} after {call:?}");
                 }
             }
+        }
+    }
+    Ok(())
+}
+
+#[test]
+fn agrees_with_the_plain_program_on_random_calls(rt: HostRuntime) -> Result<(), Fail> {
+    let alloc = rt.alloc();
+    for kind in [Kind::Alloc, Kind::Range] {
+        let mut draws = Draws::new(1);
+        let mut map = ListMap::new(alloc, kind);
+        let mut ranges = Vec::new(alloc);
+        for _ in 0..3000 {
+            let call = draws.call();
+            let (after, reply) = plain::acted(alloc, kind, &ranges, &call)?;
+            ranges = after;
+            assert_eq!(rt; map.act(&call)?, reply, "at {call:?}");
+            assert_eq!(rt;
+                map.list(alloc)?.as_slice(),
+                ranges.as_slice(),
+                "after {call:?}"
+            );
         }
     }
     Ok(())
