@@ -3,6 +3,7 @@
 
 mod areas;
 mod edits;
+pub mod laws;
 mod list_map;
 mod pieces;
 mod places;
