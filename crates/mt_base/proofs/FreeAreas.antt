@@ -37,8 +37,8 @@ free_below (r ∷ m) low first last lt ordered = rw (lt-leb r.first last (omega 
 -- ---- holes
 
 -- a hole lies from `lo` on, and no range of the map holds one of its indexes
-record IsFreeHole (m : List Range) (lo : ℕ) (x : Hole) : Type 0 where
-  from : lo ≤ x.first
+pub record IsFreeHole (m : List Range) (lo : ℕ) (x : Hole) : Type 0 where
+  pub from : lo ≤ x.first
   free : is_held m x.first x.last ≡ false
 
 -- a hole behind a range
@@ -48,7 +48,7 @@ behind_range r m lo x from order hole = record {
   free = rw (and_right (nat_le r.first x.last) (nat_le x.first r.last) (lt-leb x.first r.last (omega (arith, hole.from)))) hole.free;
 }
 
-holes_are_free : (m : List Range) (lo hi : ℕ) → IsMapFrom lo m → AllByRecursion (IsFreeHole m lo) (holes_from lo hi m)
+pub holes_are_free : (m : List Range) (lo hi : ℕ) → IsMapFrom lo m → AllByRecursion (IsFreeHole m lo) (holes_from lo hi m)
 holes_are_free [] lo hi ordered =
     cond_both (nat_lt lo hi) _ _ (λ hole. AllByRecursion (IsFreeHole [] lo) hole) (λ some. (record { from = omega arith; free = refl }, tt)) (λ none. tt)
 holes_are_free (r ∷ m) lo hi ordered =

@@ -4,5 +4,6 @@ pub mod FreeAreas
 pub mod Lists
 pub mod OneRange
 pub mod ReadingAfterStore
+pub mod SearchesWhole
 pub mod Shortages
 pub mod StoredOrder

@@ -54,6 +54,13 @@ pub fn room_is_in_the_window_and_free()
     ensures highest { (kind : Kind) (m : List Range) (n lo hi s : ℕ) → IsMap kind m → 1 ≤ n → high kind m n lo hi ≡ Some s → IsRoom m n lo hi s }
 {}
 
+/// Where so many indexes are free in a window, a search finds a start, and from below none that is higher, from above none
+/// that is lower.
+pub fn a_search_finds_the_lowest_or_the_highest()
+    ensures lowest { (kind : Kind) (m : List Range) (n lo hi s : ℕ) → IsMap kind m → 1 ≤ n → hi ≤ greatest_of kind → IsRoom m n lo hi s → (t : ℕ) × ((low kind m n lo hi ≡ Some t) × (t ≤ s)) }
+    ensures highest { (kind : Kind) (m : List Range) (n lo hi s : ℕ) → IsMap kind m → 1 ≤ n → hi ≤ greatest_of kind → IsRoom m n lo hi s → (t : ℕ) × ((high kind m n lo hi ≡ Some t) × (s ≤ t)) }
+{}
+
 /// Worked searches: room between two ranges, at the greatest index, in no hole of a window, up to a range that ends a
 /// window, below a range, behind all of them, in none, and in the empty map.
 pub fn worked_searches()
