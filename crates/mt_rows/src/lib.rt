@@ -1,11 +1,13 @@
 //! The words of a tree's rows: what they stand for, and the trait through which they are read and written.
 #![tactic(auto)]
 
+mod kinds;
 pub mod laws;
 mod plain;
 pub mod plain_trees;
 mod rows;
 
+pub use kinds::inner_kind;
 pub use plain::PlainRows;
 pub use rows::{Life, Place, Rows, Scan};
 

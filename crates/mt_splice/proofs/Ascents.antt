@@ -1,13 +1,12 @@
 -- Up to the next level: the items gathered there, as spans.
 use Rattle.std.proofs.Common.{◌≡◌, ℕ, suc, ◌+◌, ◌-◌, ◌<◌, ◌≤◌, List, [], ◌∷◌, ◌++◌, length, take, drop, slice_index_or, refl, sym, ap, ◌∙◌, subst, inr, arith, length-drop}
-use Rattle.mt_base.specs.declared.kinds.Kind.{Kind}
 use Rattle.mt_base.specs.Width.{first_row}
 use Rattle.mt_layout.specs.declared.items.Item.{Item}
-use Rattle.mt_layout.specs.declared.names.RowKind.TheVariants.{Inner}
 use Rattle.mt_layout.specs.declared.spans.Span.{Span}
 use Rattle.mt_layout.specs.Sizes.{slots_of}
 use Rattle.mt_layout.specs.Spans.{spans_from, Fills}
 use Rattle.mt_layout.proofs.SpanLists.{after, some_filled, none_filled, length-spans_from, spans-take, spans-drop, fills_end, last_ends}
+use Rattle.mt_rows.specs.Spans.{inner_kind}
 use Rattle.mt_rows.specs.Laws.{top_of, kind_at}
 use Rattle.mt_rows.specs.Sheet.{Rooted}
 use Rattle.mt_path.specs.declared.paths.PathStep.{PathStep}
@@ -71,8 +70,8 @@ module _ {start : Start} {w : Work} {t : Rooted} {left right : List PathStep} {d
   from_within : from ≤ top_of start.tree
   from_within = let order = climbed.paths.order in let within = climbed.paths.within in omega arith
 
-  kind_here : Inner ≡ kind_at start.tree.kind (suc height)
-  kind_here = sym (ap (λ (kind : Kind). kind_at kind (suc height)) holds.range)
+  kind_here : inner_kind start.tree.kind ≡ kind_at start.tree.kind (suc height)
+  kind_here = refl
 
   pub left_deep : depth < length left
   left_deep = deep_enough start w holds left from from_within climbed.paths.is_left depth (suc height) levels_here
@@ -86,7 +85,7 @@ module _ {start : Start} {w : Work} {t : Rooted} {left right : List PathStep} {d
   pub right_number : (first_row ≤ (step_at right depth).row) × ((step_at right depth).row < first_row + t.rows)
   right_number = row_now may.is_now (row_number start w holds right to climbed.paths.within climbed.paths.is_right depth (suc height) levels_here)
 
-  pub left_slot : (step_at left depth).slot ≤ slots_of t.table.width Inner
+  pub left_slot : (step_at left depth).slot ≤ slots_of t.table.width (inner_kind start.tree.kind)
   left_slot =
       let few = left_few start w left right depth height new_spans climbed in
       let used = slot_used start w left right depth height new_spans climbed in
@@ -96,10 +95,10 @@ module _ {start : Start} {w : Work} {t : Rooted} {left right : List PathStep} {d
   -- ---- their items
 
   abbrev left_items : List Item
-  left_items = items_of_row t.table Inner (step_at left depth).row (step_at left depth).max
+  left_items = items_of_row t.table (inner_kind start.tree.kind) (step_at left depth).row (step_at left depth).max
 
   abbrev right_items : List Item
-  right_items = items_of_row t.table Inner (step_at right depth).row (step_at right depth).max
+  right_items = items_of_row t.table (inner_kind start.tree.kind) (step_at right depth).row (step_at right depth).max
 
   abbrev left_spans : List Span
   left_spans = spans_on (now start w).table (kind_at start.tree.kind (suc height)) (step_at left depth)
@@ -108,10 +107,10 @@ module _ {start : Start} {w : Work} {t : Rooted} {left right : List PathStep} {d
   right_spans = spans_on (now start w).table (kind_at start.tree.kind (suc height)) (step_at right depth)
 
   left_are : left_spans ≡ spans_from (step_at left depth).min left_items
-  left_are = spans_by_items start w holds left from from_within climbed.paths.is_left depth (suc height) levels_here t.table Inner left_items (table_now may.is_now) kind_here refl
+  left_are = spans_by_items start w holds left from from_within climbed.paths.is_left depth (suc height) levels_here t.table (inner_kind start.tree.kind) left_items (table_now may.is_now) kind_here refl
 
   right_are : right_spans ≡ spans_from (step_at right depth).min right_items
-  right_are = spans_by_items start w holds right to climbed.paths.within climbed.paths.is_right depth (suc height) levels_here t.table Inner right_items (table_now may.is_now) kind_here refl
+  right_are = spans_by_items start w holds right to climbed.paths.within climbed.paths.is_right depth (suc height) levels_here t.table (inner_kind start.tree.kind) right_items (table_now may.is_now) kind_here refl
 
   -- ---- what stands behind the right path's slot
 
@@ -172,7 +171,7 @@ module _ {start : Start} {w : Work} {t : Rooted} {left right : List PathStep} {d
     count_run : length run ≡ length gathered_spans
     count_run = sym (length-spans_from (begin_of left depth) run) ∙ ap length spans_are
 
-    pub goes_up : MayTakeIn start w t Inner left right depth (suc height) run
+    pub goes_up : MayTakeIn start w t (inner_kind start.tree.kind) left right depth (suc height) run
     goes_up = record {
       is_now = may.is_now;
       of_kind = kind_here;

@@ -23,7 +23,6 @@ use Rattle.mt_path.specs.declared.paths.PathStep.{PathStep}
 use Rattle.mt_path.specs.Paths.{step_in, step_at}
 use Rattle.mt_path.proofs.TreePaths.{row_of, place}
 use Rattle.mt_splice.specs.steps.Seen.{passing}
-use Rattle.mt_splice.specs.Kept.{MayBeReplaced}
 use Rattle.mt_splice.specs.Splice.{region_of}
 use Rattle.mt_splice.specs.steps.Work.{Start, Work, KeepsWords, IsUsed, Holds}
 use Rattle.mt_splice.specs.steps.Beginnings.{Begins}
@@ -35,10 +34,9 @@ use Rattle.mt_splice.proofs.EditedRegions.{all_expand, all_edited, Leaves, regio
 use Rattle.mt_splice.proofs.Rises.{step_here}
 
 -- the old tree stands as it was where nothing was done yet
-pub holds_at_first : (start : Start) (s : Work) → MayBeReplaced start.tree.kind → Stands start.tree start.height → s.words ≡ start.tree.table.words
+pub holds_at_first : (start : Start) (s : Work) → Stands start.tree start.height → s.words ≡ start.tree.table.words
     → Levels (IsUsed s) start.tree.table start.height (root_of start.tree) → s.taken ≡ [] → Holds start s
-holds_at_first start s range stands words used taken = record {
-  range = range;
+holds_at_first start s stands words used taken = record {
   stands = stands;
   used = used;
   words =
@@ -55,7 +53,7 @@ module _ (start : Start) (s : Work) (left right : List PathStep) (first last ent
   h = start.height
 
   pub holds_first : Holds start s
-  holds_first = holds_at_first start s begins.range begins.stands begins.words begins.used begins.taken
+  holds_first = holds_at_first start s begins.stands begins.words begins.used begins.taken
 
   paths_first : ArePaths start left right
   paths_first = record { from = first; to = last; order = begins.order; within = begins.within; is_left = begins.is_left; is_right = begins.is_right }

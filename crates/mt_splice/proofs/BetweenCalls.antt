@@ -19,19 +19,23 @@ use Rattle.mt_layout.specs.Spans.{spans_from}
 use Rattle.mt_leaf.specs.Edits.{edited}
 use Rattle.mt_rows.specs.Spans.{root_span}
 use Rattle.mt_rows.specs.Trees.{height_in}
-use Rattle.mt_rows.specs.Laws.{Tree, IsLawful, IsTree, ParentLaw, IsTended}
+use Rattle.mt_rows.specs.Laws.{Tree, IsLawful, IsTree, ParentLaw, GapLaw, IsTended}
 use Rattle.mt_rows.specs.Replacement.{root_of}
 use Rattle.mt_rows.specs.Sheet.{Rooted, Sheet, OnlyReads, begun}
 use Rattle.mt_rows.specs.Publish.{tree_as, IsTold, IsTreeOf, IsLawfulOf, map_by, MayFinish, finished}
 use Rattle.mt_rows.specs.declared.rows.Place.{Place}
 use Rattle.mt_rows.specs.declared.rows.Place.TheVariants.{Root, Slot}
 use Rattle.mt_rows.proofs.Depth.{height_by_depth}
-use Rattle.mt_rows.proofs.Lists.{levels_map}
+use Rattle.mt_rows.proofs.Heights.{levels_pair}
+use Rattle.mt_splice.proofs.EndAfter.{levels_all}
+use Rattle.mt_rows.proofs.Reached.{height_is}
+use Rattle.mt_rows.specs.Gaps.{HasGaps}
+use Rattle.mt_rows.specs.Levels.{Levels}
 use Rattle.mt_path.specs.declared.paths.PathStep.{PathStep}
 use Rattle.mt_path.specs.Paths.{path_in}
 use Rattle.mt_path.specs.Handles.{last_step}
 use Rattle.mt_splice.specs.Splice.{IsStoreBy, IsSpliced, HasParents, WasPublishedAt, MaySplice, MayReplace, MayClear, region_of}
-use Rattle.mt_splice.specs.Kept.{MayBeReplaced, IsKept, IsBookOf}
+use Rattle.mt_splice.specs.Kept.{IsKept, IsBookOf}
 use Rattle.mt_splice.specs.Between.{IsBetweenCalls}
 use Rattle.mt_splice.specs.steps.Regions.{AreEnds}
 
@@ -45,13 +49,25 @@ tree_if_lawful t (inr (h, stands, parent, tended)) = inr (h, stands)
 pub lawful_tree : {t : Rooted} {kind : Kind} → IsLawfulOf t kind → IsTreeOf t kind
 lawful_tree {t = t} {kind = kind} lawful = record { width = lawful.width; words = tree_if_lawful (tree_as kind t) lawful.words }
 
-tended_if_replaced : (t : Tree) → MayBeReplaced t.kind → (h : ℕ) (x : Span) → ParentLaw t h x → IsTended t h x
-tended_if_replaced t range zero x parent = record { parent = parent; gaps = tt }
-tended_if_replaced t range (suc h) x parent = let is : t.kind ≡ trees.Range = range in record { parent = parent; gaps = rw is tt }
+tended_by : (t : Tree) (h : ℕ) (xs : List Span) → Levels (ParentLaw t) t.table h xs → Levels (GapLaw t) t.table h xs → Levels (IsTended t) t.table h xs
+tended_by t h xs parents gaps = levels_pair (ParentLaw t) (GapLaw t) (IsTended t) t.table (λ _ x parent gap. record { parent = parent; gaps = gap }) h xs parents gaps
 
-lawful_by_parents : (t : Tree) → MayBeReplaced t.kind → HasParents t → IsLawful t
-lawful_by_parents t range (inl empty) = inl empty
-lawful_by_parents t range (inr (h, stands, parent, levels)) = inr (h, stands, parent, levels_map (ParentLaw t) (IsTended t) t.table (tended_if_replaced t range) h (root_of t) levels)
+-- parents and gaps are the laws that a tree lacks to be lawful
+lawful_by : (t : Tree) → HasParents t → HasGaps t → IsLawful t
+lawful_by t (inl empty) gaps = inl empty
+lawful_by t (inr (h, stands, parent, levels)) (inl empty) = inl empty
+lawful_by t (inr (h, stands, parent, levels)) (inr (k, stood, gaps)) =
+    let same : k ≡ h = (let one = height_is t k stood in let two = height_is t h stands in omega arith) in
+    inr (h, stands, parent, tended_by t h (root_of t) levels (subst (λ (j : ℕ). Levels (GapLaw t) t.table j (root_of t)) same gaps))
+
+gapless : (t : Tree) → t.kind ≡ trees.Range → (h : ℕ) (x : Span) → GapLaw t h x
+gapless t is zero x = tt
+gapless t is (suc h) x = rw is tt
+
+-- a tree of ranges has no gap words
+pub has_no_gaps : (t : Tree) → t.kind ≡ trees.Range → HasParents t → HasGaps t
+has_no_gaps t is (inl empty) = inl empty
+has_no_gaps t is (inr (h, stands, parent, levels)) = inr (h, stands, levels_all (GapLaw t) t.table (gapless t is) h (root_of t))
 
 low_tree : (t : Tree) → IsLawful t → height_in t.table t.root ≤ deepest
 low_tree t (inl empty) = let none : height_in t.table t.root ≡ 0 = ap (height_in t.table) empty in omega arith
@@ -104,7 +120,6 @@ module _ {kind : Kind} {s : Sheet} {book : Book} {left : List PathStep} {first l
   may_splice {s₁ = s₁} {s₂ = s₂} {left₁ = left₁} {right₁ = right₁} {left₂ = left₂} {right₂ = right₂} {items = items} reads₁ reads₂ is_left is_right left_same right_same is_edited =
       subst (λ (x : Sheet). MaySplice kind x book left₂ right₂ items number call reply) (sym (reads_on s s₁ s₂ reads₁ reads₂))
       (record {
-        range = may.range;
         told = may.told;
         kept = may.kept;
         unpublished = may.unpublished;
@@ -158,11 +173,10 @@ spliced_after_reads {kind = kind} {s = s} {s₁ = s₁} {s₂ = s₂} {s' = s'} 
 
 -- ---- a call begins
 
-begun_may : {kind : Kind} {s : Sheet} {book : Book} {left : List PathStep} {first last entry number : ℕ} {call : Call} {reply : Reply} (reads : Option ℕ) → MayBeReplaced kind → IsBetweenCalls kind s book → number ≡ s.ended + 1
+begun_may : {kind : Kind} {s : Sheet} {book : Book} {left : List PathStep} {first last entry number : ℕ} {call : Call} {reply : Reply} (reads : Option ℕ) → IsBetweenCalls kind s book → number ≡ s.ended + 1
     → 3 * height_in s.tree.table s.tree.root + 1 ≤ length book.free → IsStoreBy kind (greatest s.tree.table.width) (map_by s.tree) call reply first last entry → (s.tree.root ≡ 0 → entry ≢ 0)
     → left ≡ path_in s.tree.table s.tree.root first → MayReplace kind (record (begun s) { reads = reads }) book left first last entry number call reply
-begun_may {kind = kind} {s = s} {book = book} reads range ready is room store some path = record {
-  range = range;
+begun_may {kind = kind} {s = s} {book = book} reads ready is room store some path = record {
   told = ready.told;
   kept = subst (IsKept kind s.tree s.lives s.buried s.cleared book) (sym is) ready.kept;
   unpublished = record { in_flight = refl; before = refl; numbered = is };
@@ -173,13 +187,13 @@ begun_may {kind = kind} {s = s} {book = book} reads range ready is room store so
 }
 
 -- rows between two calls, when a call has begun and they were only read since, may be replaced
-may_replace : {kind : Kind} {s₀ s₁ s₂ : Sheet} {book : Book} {left : List PathStep} {first last entry number : ℕ} {call : Call} {reply : Reply} → MayBeReplaced kind → IsBetweenCalls kind s₀ book → s₁ ≡ begun s₀ → OnlyReads s₁ s₂
+may_replace : {kind : Kind} {s₀ s₁ s₂ : Sheet} {book : Book} {left : List PathStep} {first last entry number : ℕ} {call : Call} {reply : Reply} → IsBetweenCalls kind s₀ book → s₁ ≡ begun s₀ → OnlyReads s₁ s₂
     → number ≡ s₀.ended + 1 → 3 * height_in s₀.tree.table s₀.tree.root + 1 ≤ length book.free → IsStoreBy kind (greatest s₀.tree.table.width) (map_by s₀.tree) call reply first last entry → (s₀.tree.root ≡ 0 → entry ≢ 0)
     → left ≡ path_in s₁.tree.table s₁.tree.root first → MayReplace kind s₂ book left first last entry number call reply
-may_replace {kind = kind} {s₀ = s₀} {s₂ = s₂} {book = book} {left = left} {first = first} {last = last} {entry = entry} {number = number} {call = call} {reply = reply} range ready begins reads is room store some path =
+may_replace {kind = kind} {s₀ = s₀} {s₂ = s₂} {book = book} {left = left} {first = first} {last = last} {entry = entry} {number = number} {call = call} {reply = reply} ready begins reads is room store some path =
     let open' : s₂ ≡ record (begun s₀) { reads = s₂.reads } = reads ∙ ap (λ (x : Sheet). record x { reads = s₂.reads }) begins in
     subst (λ (x : Sheet). MayReplace kind x book left first last entry number call reply) (sym open')
-    (begun_may s₂.reads range ready is room store some (path ∙ ap (λ (x : Sheet). path_in x.tree.table x.tree.root first) begins))
+    (begun_may s₂.reads ready is room store some (path ∙ ap (λ (x : Sheet). path_in x.tree.table x.tree.root first) begins))
 
 -- a store of an entry that is not reserved
 acts_so : (kind : Kind) (m : List Range) (first last entry : ℕ) → first ≤ last → last ≤ greatest_of kind → reserved entry ≡ false → acted kind m (Store first last entry) ≡ (over m first last entry, reply.Ok)
@@ -194,9 +208,9 @@ stores_so {kind = kind} {t = t} {first = first} {last = last} {entry = entry} la
 }
 
 -- a store of an entry or a hole, with room for any tree
-pub store_begins : {kind : Kind} {s₀ s₁ s₂ : Sheet} {book : Book} {left : List PathStep} {first last entry number : ℕ} → MayBeReplaced kind → IsBetweenCalls kind s₀ book → s₁ ≡ begun s₀ → OnlyReads s₁ s₂ → number ≡ s₀.ended + 1 → most_taken ≤ length book.free
+pub store_begins : {kind : Kind} {s₀ s₁ s₂ : Sheet} {book : Book} {left : List PathStep} {first last entry number : ℕ} → IsBetweenCalls kind s₀ book → s₁ ≡ begun s₀ → OnlyReads s₁ s₂ → number ≡ s₀.ended + 1 → most_taken ≤ length book.free
     → first ≤ last → last ≤ greatest_of kind → reserved entry ≡ false → (s₀.tree.root ≡ 0 → entry ≢ 0) → left ≡ path_in s₁.tree.table s₁.tree.root first → MayReplace kind s₂ book left first last entry number (Store first last entry) reply.Ok
-store_begins {book = book} range ready begins reads is many order within free some path = may_replace range ready begins reads is (room_enough book ready.kept.lawful many) (stores_so ready.kept.lawful order within free) some path
+store_begins {book = book} ready begins reads is many order within free some path = may_replace ready begins reads is (room_enough book ready.kept.lawful many) (stores_so ready.kept.lawful order within free) some path
 
 -- the tree of a call that has begun
 pub begun_tree : {kind : Kind} {s s' : Sheet} {book : Book} → IsBetweenCalls kind s book → s' ≡ begun s → (k : Kind) × IsTreeOf s'.tree k
@@ -206,10 +220,9 @@ pub begun_within : {kind : Kind} {s s' : Sheet} {book : Book} {index : ℕ} → 
 begun_within ready begins within = let same = ap (λ (x : Sheet). greatest x.tree.table.width) begins ∙ ap greatest ready.kept.lawful.width in omega arith
 
 -- a tree that is not empty may be emptied
-pub may_clear : {kind : Kind} {s s' : Sheet} {book : Book} {number : ℕ} → MayBeReplaced kind → IsBetweenCalls kind s book → s' ≡ begun s → number ≡ s.ended + 1 → s.tree.root ≢ 0 → MayClear kind s' book number Clear reply.Ok
-may_clear {kind = kind} {s = s} {s' = s'} {book = book} {number = number} range ready begins is some = subst (λ (x : Sheet). MayClear kind x book number Clear reply.Ok) (sym begins)
+pub may_clear : {kind : Kind} {s s' : Sheet} {book : Book} {number : ℕ} → IsBetweenCalls kind s book → s' ≡ begun s → number ≡ s.ended + 1 → s.tree.root ≢ 0 → MayClear kind s' book number Clear reply.Ok
+may_clear {kind = kind} {s = s} {s' = s'} {book = book} {number = number} ready begins is some = subst (λ (x : Sheet). MayClear kind x book number Clear reply.Ok) (sym begins)
     (record {
-      range = range;
       told = ready.told;
       kept = subst (IsKept kind s.tree s.lives s.buried s.cleared book) (sym is) ready.kept;
       unpublished = record { in_flight = refl; before = refl; numbered = is };
@@ -225,25 +238,26 @@ may_finish {kind = kind} spliced flies = (
   record { in_flight = ap (λ (x : Sheet). x.in_flight) spliced.rest ∙ flies; kept = λ not. let is = ap (λ (x : Sheet). x.published) spliced.rest in absurd (cc) },
 )
 
-module _ {kind : Kind} {s s' s″ : Sheet} {book book' : Book} {number : ℕ} {call : Call} {reply : Reply} {place : Place} (range : MayBeReplaced kind) (told : IsTold s.kind kind) (same_end : number ≡ s.ended + 1)
+module _ {kind : Kind} {s s' s″ : Sheet} {book book' : Book} {number : ℕ} {call : Call} {reply : Reply} {place : Place} (told : IsTold s.kind kind) (same_end : number ≡ s.ended + 1)
     (spliced : IsSpliced kind s s' book book' number call reply place) (ends : s″ ≡ finished s' call reply) where
   ended_is : s'.ended ≡ s.ended
   ended_is = ap (λ (x : Sheet). x.ended) spliced.rest
 
-  done_ready : IsBetweenCalls kind (finished s' call reply) book'
-  done_ready = record {
+  -- in a tree of ranges
+  done_ready : kind ≡ trees.Range → IsBetweenCalls kind (finished s' call reply) book'
+  done_ready range = record {
     idle = refl;
     told = subst (λ (k : Option Kind). IsTold k kind) (sym (ap (λ (x : Sheet). x.kind) spliced.rest)) told;
     kept = record {
-      lawful = record { width = spliced.tree.width; words = lawful_by_parents (tree_as kind s'.tree) range spliced.parents };
+      lawful = record { width = spliced.tree.width; words = lawful_by (tree_as kind s'.tree) spliced.parents (has_no_gaps (tree_as kind s'.tree) range spliced.parents) };
       live = spliced.live;
       none_buried = spliced.none_buried;
       booked = subst (IsBookOf s'.tree s'.lives s'.cleared book') (let same = ended_is in omega arith) spliced.booked;
     };
   }
 
-  pub ready_again : IsBetweenCalls kind s″ book'
-  ready_again = subst (λ (x : Sheet). IsBetweenCalls kind x book') (sym ends) done_ready
+  pub ready_again : kind ≡ trees.Range → IsBetweenCalls kind s″ book'
+  ready_again range = subst (λ (x : Sheet). IsBetweenCalls kind x book') (sym ends) (done_ready range)
 
   pub map_after_call : map_by s″.tree ≡ (acted kind (map_by s.tree) call).0
   map_after_call = ap (λ (x : Sheet). map_by x.tree) ends ∙ spliced.map

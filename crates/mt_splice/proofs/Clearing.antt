@@ -59,7 +59,7 @@ module _ {kind : Kind} {s : Sheet} {book : Book} {number : ℕ} {call : Call} {r
 
   module _ (whole : IsWhole s) {left right : List PathStep} (is_left : left ≡ path_in s.tree.table s.tree.root 0) (is_right : right ≡ path_in s.tree.table s.tree.root (top_of t)) where
     holds : Holds start (work_of s)
-    holds = holds_at_first start (work_of s) may.range stands refl (reached_are_used start (work_of s) stands (λ row reached. ap (λ (a : Bool). a || false) reached)) refl
+    holds = holds_at_first start (work_of s) stands refl (reached_are_used start (work_of s) stands (λ row reached. ap (λ (a : Bool). a || false) reached)) refl
 
     begins : begin_of left start.height ≡ 0
     begins =
@@ -79,7 +79,7 @@ module _ {kind : Kind} {s : Sheet} {book : Book} {number : ℕ} {call : Call} {r
     ends_empty {s' = s'} reads = record {
       work = work_of s;
       under = record {
-        case = case_of whole may.kept start refl may.range may.told may.unpublished;
+        case = case_of whole may.kept start refl may.told may.unpublished;
         progress = progress_reads reads (nothing_done whole may.kept);
         holds = holds;
         inner_rows = refl;

@@ -18,7 +18,6 @@ use Rattle.mt_rows.specs.Sheet.{Rooted, Sheet, life_of, is_buried, word_at}
 use Rattle.mt_rows.specs.Publish.{tree_as, is_reached, map_by, with_record, with_published, life_after, Published, IsPlaceToPublish}
 use Rattle.mt_rows.specs.Replacement.{root_of}
 use Rattle.mt_splice.specs.steps.Work.{Start, Work, tree_with, KeepsWords}
-use Rattle.mt_splice.specs.Kept.{MayBeReplaced}
 use Rattle.mt_splice.specs.steps.Progress.{is_taken}
 use Rattle.mt_splice.specs.steps.Replaced.{StandsAs, FewestAs, count_in}
 use Rattle.mt_splice.specs.steps.Endings.{words_of}
@@ -60,12 +59,11 @@ first_moment t o = record { tree = t; height = high o; map = [] }
 abbrev later_moment : List ℕ → Work
 later_moment words = record { words = words; used = (λ (row : ℕ). true); taken = []; gone = [] }
 
-all_hold : (t : Tree) (words : List ℕ) (o : Option ℕ) → MayBeReplaced t.kind → AllKeep t.table (record { width = t.table.width; words = words }) → StandsAs t o → HoldsAs (first_moment t o) (later_moment words) o
-all_hold t words None range keep stands = stands
-all_hold t words (Some h) range keep stands = (
+all_hold : (t : Tree) (words : List ℕ) (o : Option ℕ) → AllKeep t.table (record { width = t.table.width; words = words }) → StandsAs t o → HoldsAs (first_moment t o) (later_moment words) o
+all_hold t words None keep stands = stands
+all_hold t words (Some h) keep stands = (
   refl,
   record {
-    range = range;
     stands = stands;
     used = levels_all (λ (_ : ℕ) (x : Span). true ≡ true) t.table (λ _ x. refl) h (root_of t);
     words = levels_all (λ (_ : ℕ) (x : Span). KeepsWords t t.table.words words (row_in x.word)) t.table (λ _ x. keep (row_in x.word)) h (root_of t);
@@ -82,18 +80,18 @@ fewest_kept is_new t words (Some h) keep few =
     (levels_all (Shared t.table t'.table) t.table (λ _ x. same_spans t.table t'.table x (keep (row_in x.word))) h (root_of t))
     (levels_all (SameNews is_new is_new) t.table (λ _ x. refl) h (root_of t)) few
 
-module _ (t : Tree) (words : List ℕ) (o : Option ℕ) (range : MayBeReplaced t.kind) (keep : AllKeep t.table (record { width = t.table.width; words = words })) (stands : StandsAs t o) where
+module _ (t : Tree) (words : List ℕ) (o : Option ℕ) (keep : AllKeep t.table (record { width = t.table.width; words = words })) (stands : StandsAs t o) where
   abbrev other : Tree
   other = tree_with t words
 
   other_stands : StandsAs other o
-  other_stands = now_stands (first_moment t o) (later_moment words) o (all_hold t words o range keep stands)
+  other_stands = now_stands (first_moment t o) (later_moment words) o (all_hold t words o keep stands)
 
   other_count : (p : ℕ → Span → Bool) → count_in p other o ≡ count_in p t o
-  other_count p = now_count (first_moment t o) (later_moment words) o p (all_hold t words o range keep stands)
+  other_count p = now_count (first_moment t o) (later_moment words) o p (all_hold t words o keep stands)
 
   other_map : map_by (words_of other) ≡ map_by (words_of t)
-  other_map = map_is other o other_stands ∙ (now_map (first_moment t o) (later_moment words) o (all_hold t words o range keep stands) ∙ sym (map_is t o stands))
+  other_map = map_is other o other_stands ∙ (now_map (first_moment t o) (later_moment words) o (all_hold t words o keep stands) ∙ sym (map_is t o stands))
 
   other_reached : (row : ℕ) → is_reached (words_of other) row ≡ is_reached (words_of t) row
   other_reached row =
@@ -183,14 +181,14 @@ module _ (f : Finish) (s₁ s₂ : Sheet) (done : Published f.sheet s₁ f.place
   pub outcome : Outcome f s₂
   outcome = record {
     rest = rest₂;
-    stands = subst (λ (v : Rooted). StandsAs (tree_as f.before.kind v) f.may.new) (sym only.tree) (other_stands t₁ s₂.tree.table.words f.may.new f.may.case.range keep stands₁);
+    stands = subst (λ (v : Rooted). StandsAs (tree_as f.before.kind v) f.may.new) (sym only.tree) (other_stands t₁ s₂.tree.table.words f.may.new keep stands₁);
     fewest = subst (λ (v : Rooted). FewestAs (is_taken f.may.work) (tree_as f.before.kind v) f.may.new) (sym only.tree) (fewest_kept (is_taken f.may.work) t₁ s₂.tree.table.words f.may.new keep fewest₁);
     rows = only_rows s₁ s₂ only ∙ (ap (λ (v : Rooted). v.rows) tree₁ ∙ (published_rows f.sheet.tree f.place f.word ∙ rows_same f));
     width = only_width s₁ s₂ only ∙ (width₁ ∙ width_same f);
     root = ap (λ (v : Rooted). v.root) only.tree ∙ ap (λ (v : Rooted). v.root) tree₁;
-    map = ap map_by only.tree ∙ (other_map t₁ s₂.tree.table.words f.may.new f.may.case.range keep stands₁ ∙ (ap map_by tree₁ ∙ map_later f));
+    map = ap map_by only.tree ∙ (other_map t₁ s₂.tree.table.words f.may.new keep stands₁ ∙ (ap map_by tree₁ ∙ map_later f));
     reached = λ row.
-        ap (λ (v : Rooted). is_reached v row) only.tree ∙ (other_reached t₁ s₂.tree.table.words f.may.new f.may.case.range keep stands₁ row ∙ ap (λ (v : Rooted). is_reached v row) tree₁);
+        ap (λ (v : Rooted). is_reached v row) only.tree ∙ (other_reached t₁ s₂.tree.table.words f.may.new keep stands₁ row ∙ ap (λ (v : Rooted). is_reached v row) tree₁);
     lives = λ row first last.
         ap (λ (x : Sheet). life_of x.lives row) later_is ∙ done.lives row first (subst (λ (n : ℕ). row < first_row + n) (sym (rows_same f)) last);
     buried = λ row first last.

@@ -7,7 +7,6 @@ use Rattle.std.proofs.lemmas.Option.{slice_get_within}
 use Rattle.mt_base.specs.declared.widths.Width.{Width}
 use Rattle.mt_base.specs.Width.{columns, first_row}
 use Rattle.mt_layout.specs.declared.names.RowKind.{RowKind}
-use Rattle.mt_layout.specs.declared.names.RowKind.TheVariants.{Inner}
 use Rattle.mt_layout.specs.declared.spans.Span.{Span}
 use Rattle.mt_layout.specs.Rows.{row_in, named_kind, named_row, parent_at}
 use Rattle.mt_layout.specs.Columns.{slot_column}
@@ -100,8 +99,8 @@ module _ (f : ends.Finish) where
   taken_spans : (x : Span) → is_taken w (row_in x.word) ≡ true → spans_in later.table x ≡ spans_in s.tree.table x
   taken_spans x taken = stored_spans f.place (ends.place_is f) (place_old f.place (ends.place_is f)) x taken
 
-  pub inner : (k : ℕ) → laws.kind_at b.kind (suc k) ≡ Inner
-  inner k = ap inner_kind f.may.case.range
+  pub inner : (k : ℕ) → laws.kind_at b.kind (suc k) ≡ inner_kind b.kind
+  inner k = refl
 
   module _ (h : ℕ) (is_new : f.may.new ≡ Some h) where
     pub stands : laws.Stands later h
@@ -171,14 +170,14 @@ module _ (f : ends.Finish) where
       pub row : MadeRow n
       pub child : Span
       pub get : slice_get (spans_in later.table row.at) slot ≡ Some child
-      pub word : child_word later.table Inner n.row slot ≡ child.word
+      pub word : child_word later.table (inner_kind b.kind) n.row slot ≡ child.word
 
     get_some : (xs : List Span) (i : ℕ) → i < length xs → (y : Span) × (slice_get xs i ≡ Some y)
     get_some [] i within = absurd (omega arith)
     get_some (x ∷ xs) zero within = (x, refl)
     get_some (x ∷ xs) (suc i) within = get_some xs i (omega arith)
 
-    named_inner : (k : ℕ) (x : Span) → reached.OnLevel later.table h (root_of later) (suc k) x → named_kind x.word ≡ Some Inner
+    named_inner : (k : ℕ) (x : Span) → reached.OnLevel later.table h (root_of later) (suc k) x → named_kind x.word ≡ Some (inner_kind b.kind)
     named_inner k x on = (reached.on_level_law later h stands (suc k) x on).name.named ∙ ap (λ (kind : RowKind). Some kind) (inner k)
 
     made_child : (n : NewRow) (slot : ℕ) → reached.IsOneOf n f.inner → slot < n.count → MadeChild n slot
@@ -189,7 +188,7 @@ module _ (f : ends.Finish) where
           row = m;
           child = at.0;
           get = at.1;
-          word = ap (λ (r : ℕ). column later.table r (slot_column (slots_of later.table.width Inner) slot)) (sym m.row) ∙ slot_word later.table Inner m.at at.0 slot (named_inner m.low m.at m.on) at.1;
+          word = ap (λ (r : ℕ). column later.table r (slot_column (slots_of later.table.width (inner_kind b.kind)) slot)) (sym m.row) ∙ slot_word later.table (inner_kind b.kind) m.at at.0 slot (named_inner m.low m.at m.on) at.1;
         }
 
     child_on_level : (n : NewRow) (slot : ℕ) (c : MadeChild n slot) → reached.OnLevel later.table h (root_of later) c.row.low c.child
@@ -273,7 +272,7 @@ module _ (f : ends.Finish) where
       pub number : row_in at.word ≡ row
       pub get : slice_get (spans_in later.table at) slot ≡ Some top
       pub word : top.word ≡ f.word
-      pub column_is : col ≡ slot_column (slots_of later.table.width Inner) slot
+      pub column_is : col ≡ slot_column (slots_of later.table.width (inner_kind b.kind)) slot
       pub old : is_taken w row ≡ false
 
     width_later : later.table.width ≡ s.tree.table.width
@@ -312,7 +311,7 @@ module _ (f : ends.Finish) where
           old = subst (λ (n : ℕ). is_taken w n ≡ false) (place.number ∙ rows) (ends.old_is_not_taken f (row_in place.at.word) was);
         }
       where
-        kind_here : (low : ℕ) → laws.kind_at (now f.start w).kind (suc low) ≡ Inner
+        kind_here : (low : ℕ) → laws.kind_at (now f.start w).kind (suc low) ≡ (inner_kind b.kind)
         kind_here low = ap (λ (t : laws.Tree). laws.kind_at t.kind (suc low)) f.may.case.was.tree ∙ inner low
 
     top_at : (row col : ℕ) → f.place ≡ Slot row col → TopAt row col
@@ -325,7 +324,7 @@ module _ (f : ends.Finish) where
     IsOldChild x i y = (column b.sheet.tree.table (row_in y.word) 0 ≡ parent_at (row_in x.word) i) × (1 ≤ ends.old_count f (row_in y.word))
 
     abbrev IsTopChild : Span → ℕ → Span → Type 0
-    IsTopChild x i y = (row : ℕ) × (col : ℕ) × (f.place ≡ Slot row col) × (row_in x.word ≡ row) × (col ≡ slot_column (slots_of later.table.width Inner) i) × (y.word ≡ f.word)
+    IsTopChild x i y = (row : ℕ) × (col : ℕ) × (f.place ≡ Slot row col) × (row_in x.word ≡ row) × (col ≡ slot_column (slots_of later.table.width (inner_kind b.kind)) i) × (y.word ≡ f.word)
 
     kept_in : (old : Option ℕ) (place : Place) (k i : ℕ) (x y : Span) → f.may.old ≡ old → f.place ≡ place → IsEndPlace f.start w old place → reached.OnLevel later.table h (root_of later) (suc k) x → ends.taken_count f (row_in x.word) ≡ 0
         → slice_get (spans_in later.table x) i ≡ Some y → IsOldChild x i y ⊎ IsTopChild x i y
@@ -370,12 +369,12 @@ module _ (f : ends.Finish) where
                 sym row ∙ top.0,
                 place.column
                     ∙ ((λ j. slot_column (slots_of (sym (width_later ∙ ap (λ (v : Rooted). v.table.width) (ends.tree_is f)) j) (kind_here place.low j)) place.slot)
-                    ∙ ap (slot_column (slots_of later.table.width Inner)) (sym top.1)),
+                    ∙ ap (slot_column (slots_of later.table.width (inner_kind b.kind))) (sym top.1)),
                 ap (λ (v : Span). v.word) top.2,
               )
             ]
           where
-            kind_here : (low : ℕ) → laws.kind_at (now f.start w).kind (suc low) ≡ Inner
+            kind_here : (low : ℕ) → laws.kind_at (now f.start w).kind (suc low) ≡ (inner_kind b.kind)
             kind_here low = ap (λ (t : laws.Tree). laws.kind_at t.kind (suc low)) f.may.case.was.tree ∙ inner low
 
     kept_children : (k i : ℕ) (x y : Span) → reached.OnLevel later.table h (root_of later) (suc k) x → ends.taken_count f (row_in x.word) ≡ 0 → slice_get (spans_in later.table x) i ≡ Some y → IsOldChild x i y ⊎ IsTopChild x i y
@@ -412,11 +411,11 @@ module _ (f : ends.Finish) where
             kept = done.buried (row_in x.word) number.0 last;
           }
 
-      child_word₁ : (n : NewRow) (slot : ℕ) (c : MadeChild n slot) → child_word s₁.tree.table Inner n.row slot ≡ c.child.word
-      child_word₁ n slot c = ap (λ (t : Table). child_word t Inner n.row slot) table₁ ∙ c.word
+      child_word₁ : (n : NewRow) (slot : ℕ) (c : MadeChild n slot) → child_word s₁.tree.table (inner_kind b.kind) n.row slot ≡ c.child.word
+      child_word₁ n slot c = ap (λ (t : Table). child_word t (inner_kind b.kind) n.row slot) table₁ ∙ c.word
 
       -- the children of two rows in the list are others
-      same_parent : (n m : NewRow) (i j : ℕ) → reached.IsOneOf n f.inner → reached.IsOneOf m f.inner → i < n.count → j < m.count → child_row s₁.tree.table Inner n.row i ≡ child_row s₁.tree.table Inner m.row j → (n.row ≡ m.row) × (i ≡ j)
+      same_parent : (n m : NewRow) (i j : ℕ) → reached.IsOneOf n f.inner → reached.IsOneOf m f.inner → i < n.count → j < m.count → child_row s₁.tree.table (inner_kind b.kind) n.row i ≡ child_row s₁.tree.table (inner_kind b.kind) m.row j → (n.row ≡ m.row) × (i ≡ j)
       same_parent n m i j one_n one_m low_i low_j same =
           let c = made_child n i one_n low_i in
           let d = made_child m j one_m low_j in
@@ -424,7 +423,7 @@ module _ (f : ends.Finish) where
           (ap row_in (sym (child_word₁ n i c)) ∙ (same ∙ ap row_in (child_word₁ m j d))) in
           (sym c.row.row ∙ (ap (λ (v : Span). row_in v.word) both.0 ∙ d.row.row), both.1)
 
-      are_children : (n : NewRow) → reached.IsOneOf n f.inner → AreChildren s₁ Inner n.row n.count
+      are_children : (n : NewRow) → reached.IsOneOf n f.inner → AreChildren s₁ (inner_kind b.kind) n.row n.count
       are_children n one =
           let m = made_row n one in
           let number = ends.later_number f n.row (ends.taken_later f n.row (ends.taken_some f n.row m.taken)) in
@@ -432,7 +431,7 @@ module _ (f : ends.Finish) where
           record {
             first = number.0;
             last = subst (λ (r : ℕ). n.row < first_row + r) (sym rows₁) number.1;
-            slots = subst (λ (c : ℕ). c ≤ slots_of s₁.tree.table.width Inner) (sym m.count)
+            slots = subst (λ (c : ℕ). c ≤ slots_of s₁.tree.table.width (inner_kind b.kind)) (sym m.count)
                 (subst (λ (kind : RowKind). length (spans_in later.table m.at) ≤ slots_of s₁.tree.table.width kind) (inner m.low)
                 (subst (λ (t : Table). length (spans_in later.table m.at) ≤ slots_of t.width (laws.kind_at b.kind (suc m.low))) (sym table₁) (row_most law.name)));
             each = λ slot low.
@@ -450,7 +449,7 @@ module _ (f : ends.Finish) where
             apart = λ i j low_i low_j same. (same_parent n n i j one one low_i low_j same).1;
           }
 
-      pub may_tend_some : MayTendRows s₁ Inner f.inner
+      pub may_tend_some : MayTendRows s₁ (inner_kind b.kind) f.inner
       may_tend_some = record {
         each = λ i n at. are_children n (reached.one_of_get f.inner i n at);
         apart = λ i j n m slot slot' lt at_n at_m low low' same.
@@ -465,7 +464,7 @@ module _ (f : ends.Finish) where
             omega arith);
       }
 
-      may_tend_slot : (row col : ℕ) → f.place ≡ Slot row col → MayTendTop s₁ row col f.word
+      may_tend_slot : (row col : ℕ) → f.place ≡ Slot row col → MayTendTop s₁ (inner_kind b.kind) row col f.word
       may_tend_slot row col is =
           let top = top_at row col is in
           let on = child_on later h stands top.low top.slot top.at top.top top.on top.get in
@@ -481,22 +480,22 @@ module _ (f : ends.Finish) where
             other = λ same. not_own_child later h stands top.low top.slot top.at top.top top.on top.get (ap row_in word ∙ (same ∙ sym top.number));
             slot =
                 (let column_is = top.column_is in
-                let wide : slots_of later.table.width Inner ≡ slots_of s₁.tree.table.width Inner = ap (λ (t : Table). slots_of t.width Inner) (sym table₁) in
+                let wide : slots_of later.table.width (inner_kind b.kind) ≡ slots_of s₁.tree.table.width (inner_kind b.kind) = ap (λ (t : Table). slots_of t.width (inner_kind b.kind)) (sym table₁) in
                 omega arith);
             within = subst (λ (v : Width). col < columns v) width within.1;
           }
 
-      pub may_tend_place : (place : Place) → f.place ≡ place → MayTendTopAt s₁ place f.word
+      pub may_tend_place : (place : Place) → f.place ≡ place → MayTendTopAt s₁ (inner_kind b.kind) place f.word
       may_tend_place Root is = tt
       may_tend_place (Slot row col) is = may_tend_slot row col is
 
       -- ---- the parent words when all is tended
 
-      module _ (s₂ s₃ : Sheet) (tended : AreRowsTended s₁ s₂ Inner f.inner) (top : IsTopTendedAt s₂ s₃ f.place f.word) where
+      module _ (s₂ s₃ : Sheet) (tended : AreRowsTended s₁ s₂ (inner_kind b.kind) f.inner) (top : IsTopTendedAt s₂ s₃ (inner_kind b.kind) f.place f.word) where
         -- a row that is neither the top row nor a child of a row in the list keeps its parent word
         untended : (r : ℕ) → ((n : NewRow) (slot : ℕ) (c : MadeChild n slot) → row_in c.child.word ≢ r) → ((row col : ℕ) → f.place ≡ Slot row col → r ≢ row_in f.word) → column s₃.tree.table r 0 ≡ column s.tree.table r 0
         untended r not_made not_top =
-            top_kept s₂ s₃ f.place f.word r top not_top
+            top_kept s₂ s₃ (inner_kind b.kind) f.place f.word r top not_top
             ∙ (tended.others r (λ i n slot at low same.
             (let c = made_child n slot (reached.one_of_get f.inner i n at) low in
             not_made n slot c (ap row_in (sym (child_word₁ n slot c)) ∙ same)))
@@ -519,9 +518,9 @@ module _ (f : ends.Finish) where
             let n : NewRow = record { row = row_in x.word; count = length (spans_in later.table x) } in
             let at = reached.get_one_of f.inner (record { row = row_in x.word; count = length (spans_in later.table x) }) (row_made k x on taken) in
             let low = slice_get_within (spans_in later.table x) i y get in
-            let word : child_word s₁.tree.table Inner (row_in x.word) i ≡ y.word =
-            ap (λ (t : Table). child_word t Inner (row_in x.word) i) table₁ ∙ slot_word later.table Inner x y i (named_inner k x on) get in
-            top_kept s₂ s₃ f.place f.word (row_in y.word) top (λ row col is same.
+            let word : child_word s₁.tree.table (inner_kind b.kind) (row_in x.word) i ≡ y.word =
+            ap (λ (t : Table). child_word t (inner_kind b.kind) (row_in x.word) i) table₁ ∙ slot_word later.table (inner_kind b.kind) x y i (named_inner k x on) get in
+            top_kept s₂ s₃ (inner_kind b.kind) f.place f.word (row_in y.word) top (λ row col is same.
             (let t = top_at row col is in
             let both = unique_parent later h stands k t.low i t.slot x t.at y t.top on t.on get t.get (same ∙ ap row_in (sym t.word)) in
             let old = t.old in
@@ -550,9 +549,9 @@ module _ (f : ends.Finish) where
           where
             at_top : IsTopChild x i y → column s₃.tree.table (row_in y.word) 0 ≡ parent_at (row_in x.word) i
             at_top (row, col, is, number, column_is, word) =
-                let t : IsTopTendedAt s₂ s₃ (Slot row col) f.word = subst (λ (p : Place). IsTopTendedAt s₂ s₃ p f.word) is top in
-                let wide : slots_of s₂.tree.table.width Inner ≡ slots_of later.table.width Inner = ap (λ (v : Width). slots_of v Inner) (only_width s₁ s₂ tended.only ∙ ap (λ (t : Table). t.width) table₁) in
-                let slot : col - slots_of s₂.tree.table.width Inner ≡ i = omega arith in
+                let t : IsTopTendedAt s₂ s₃ (inner_kind b.kind) (Slot row col) f.word = subst (λ (p : Place). IsTopTendedAt s₂ s₃ (inner_kind b.kind) p f.word) is top in
+                let wide : slots_of s₂.tree.table.width (inner_kind b.kind) ≡ slots_of later.table.width (inner_kind b.kind) = ap (λ (v : Width). slots_of v (inner_kind b.kind)) (only_width s₁ s₂ tended.only ∙ ap (λ (t : Table). t.width) table₁) in
+                let slot : col - slots_of s₂.tree.table.width (inner_kind b.kind) ≡ i = omega arith in
                 ap (λ (v : ℕ). column s₃.tree.table (row_in v) 0) word ∙ (t.here ∙ (λ j. parent_at (sym number j) (slot j)))
 
         child_parent : (k i : ℕ) (x y : Span) → reached.OnLevel later.table h (root_of later) (suc k) x → slice_get (spans_in later.table x) i ≡ Some y → column s₃.tree.table (row_in y.word) 0 ≡ parent_at (row_in x.word) i
@@ -591,7 +590,7 @@ module _ (f : ends.Finish) where
         -- ---- all of them
 
         only₃ : OnlyParents s₁ s₃
-        only₃ = only_more s₁ s₂ s₃ tended.only (top_only s₂ s₃ f.place f.word top)
+        only₃ = only_more s₁ s₂ s₃ tended.only (top_only s₂ s₃ (inner_kind b.kind) f.place f.word top)
 
         spans₃ : (x : Span) → spans_in s₃.tree.table x ≡ spans_in later.table x
         spans₃ x = same_spans s₁.tree.table s₃.tree.table x (λ c above within. only₃.kept (row_in x.word) c above within) ∙ ap (λ (t : Table). spans_in t x) table₁

@@ -7,7 +7,6 @@ use Rattle.std.proofs.lemmas.Bool.{cases_eq}
 use Rattle.mt_base.specs.declared.widths.Width.{Width}
 use Rattle.mt_base.specs.Width.{columns, first_row}
 use Rattle.mt_layout.specs.declared.names.RowKind.{RowKind}
-use Rattle.mt_layout.specs.declared.names.RowKind.TheVariants.{Inner}
 use Rattle.mt_layout.specs.Rows.{row_in, named_row, parent_at}
 use Rattle.mt_layout.specs.Columns.{slot_column}
 use Rattle.mt_rows.specs.declared.rows.Life.{Life}
@@ -163,19 +162,19 @@ kept_column w words row col word r c within inside other =
 
 -- ---- the row that was published in a slot
 
-pub top_only : (s s' : Sheet) (place : Place) (word : ℕ) → IsTopTendedAt s s' place word → OnlyParents s s'
-top_only s s' Root word is = subst (OnlyParents s) (sym is) (only_none s)
-top_only s s' (Slot row col) word done = done.only
+pub top_only : (s s' : Sheet) (kind : RowKind) (place : Place) (word : ℕ) → IsTopTendedAt s s' kind place word → OnlyParents s s'
+top_only s s' kind Root word is = subst (OnlyParents s) (sym is) (only_none s)
+top_only s s' kind (Slot row col) word done = done.only
 
-pub top_kept : (s s' : Sheet) (place : Place) (word r : ℕ) → IsTopTendedAt s s' place word → ((row col : ℕ) → place ≡ Slot row col → r ≢ row_in word) → column s'.tree.table r 0 ≡ column s.tree.table r 0
-top_kept s s' Root word r is other = ap (λ (x : Sheet). column x.tree.table r 0) is
-top_kept s s' (Slot row col) word r done other = done.others r (other row col refl)
+pub top_kept : (s s' : Sheet) (kind : RowKind) (place : Place) (word r : ℕ) → IsTopTendedAt s s' kind place word → ((row col : ℕ) → place ≡ Slot row col → r ≢ row_in word) → column s'.tree.table r 0 ≡ column s.tree.table r 0
+top_kept s s' kind Root word r is other = ap (λ (x : Sheet). column x.tree.table r 0) is
+top_kept s s' kind (Slot row col) word r done other = done.others r (other row col refl)
 
 pub top_is : (word top : ℕ) → named_row word ≡ Some (row_in word) → Some top ≡ named_row word → top ≡ row_in word
 top_is word top named found = let same : Some top ≡ Some (row_in word) = found ∙ named in cc
 
-pub may_tend_top : (s : Sheet) (row col word slots top : ℕ) → MayTendTop s row col word → slots ≡ slots_of s.tree.table.width Inner → Some top ≡ named_row word → MayTend s top 0 (parent_at row (col - slots))
-may_tend_top s row col word slots top may wide found =
+pub may_tend_top : (s : Sheet) (kind : RowKind) (row col word slots top : ℕ) → MayTendTop s kind row col word → slots ≡ slots_of s.tree.table.width kind → Some top ≡ named_row word → MayTend s top 0 (parent_at row (col - slots))
+may_tend_top s kind row col word slots top may wide found =
     subst (λ (n : ℕ). MayTend s n 0 (parent_at row (col - slots))) (sym (top_is word top may.named found)) (record {
       at = may.at;
       live = may.live;
@@ -184,10 +183,10 @@ may_tend_top s row col word slots top may wide found =
       alive = λ _ dead. may.other (own_parent s.tree.table.width (row_in word) row (col - slots) (let within = may.within in omega arith) dead);
     })
 
-pub top_tended : (s : Sheet) (row col word slots top : ℕ) → IsWhole s → MayTendTop s row col word → slots ≡ slots_of s.tree.table.width Inner → Some top ≡ named_row word
-    → IsTopTended s (tended s top 0 (parent_at row (col - slots))) row col word
-top_tended s row col word slots top whole may wide found =
-    subst (λ (n : ℕ). IsTopTended s (tended s n 0 (parent_at row (col - slots))) row col word) (sym (top_is word top may.named found)) (record {
+pub top_tended : (s : Sheet) (kind : RowKind) (row col word slots top : ℕ) → IsWhole s → MayTendTop s kind row col word → slots ≡ slots_of s.tree.table.width kind → Some top ≡ named_row word
+    → IsTopTended s (tended s top 0 (parent_at row (col - slots))) kind row col word
+top_tended s kind row col word slots top whole may wide found =
+    subst (λ (n : ℕ). IsTopTended s (tended s n 0 (parent_at row (col - slots))) kind row col word) (sym (top_is word top may.named found)) (record {
       only = record {
         rest = refl;
         tree = refl;
@@ -200,9 +199,9 @@ top_tended s row col word slots top whole may wide found =
     })
 
 -- a row that may be tended still may when other parent words were written
-pub top_still : (s t : Sheet) (place : Place) (word : ℕ) → OnlyParents s t → MayTendTopAt s place word → MayTendTopAt t place word
-top_still s t Root word only may = tt
-top_still s t (Slot row col) word only may =
+pub top_still : (s t : Sheet) (kind : RowKind) (place : Place) (word : ℕ) → OnlyParents s t → MayTendTopAt s kind place word → MayTendTopAt t kind place word
+top_still s t kind Root word only may = tt
+top_still s t kind (Slot row col) word only may =
     let rows : s.tree.rows ≡ t.tree.rows = sym (only_rows s t only) in
     let lives : s.lives ≡ t.lives = sym (ap (λ (x : Sheet). x.lives) only.rest) in
     let buried : s.buried ≡ t.buried = sym (ap (λ (x : Sheet). x.buried) only.rest) in
@@ -212,6 +211,6 @@ top_still s t (Slot row col) word only may =
       live = ap (λ (l : List Life). slice_index_or l (row_in word) New) (sym lives) ∙ may.live;
       kept = ap (λ (l : List Bool). slice_index_or l (row_in word) false) (sym buried) ∙ may.kept;
       other = may.other;
-      slot = subst (λ (w : Width). slots_of w Inner ≤ col) (sym (only_width s t only)) may.slot;
+      slot = subst (λ (w : Width). slots_of w kind ≤ col) (sym (only_width s t only)) may.slot;
       within = subst (λ (w : Width). col < columns w) (sym (only_width s t only)) may.within;
     }

@@ -4,14 +4,15 @@ use Rattle.std.specs.Prelude.{slice_index_or}
 use Rattle.mt_base.specs.declared.calls.Call.{Call}
 use Rattle.mt_base.specs.declared.replies.Reply.{Reply}
 use Rattle.mt_base.specs.Width.{first_row}
-use Rattle.mt_layout.specs.declared.names.RowKind.TheVariants.{Inner}
+use Rattle.mt_layout.specs.declared.names.RowKind.{RowKind}
 use Rattle.mt_layout.specs.Rows.{row_in, dead_mark}
 use Rattle.mt_free.specs.Book.{Book}
+use Rattle.mt_rows.specs.Laws.{Tree}
 use Rattle.mt_rows.specs.declared.rows.Life.{Life}
 use Rattle.mt_rows.specs.declared.rows.Life.TheVariants.{New, Live, Dead}
 use Rattle.mt_rows.specs.declared.rows.Place.{Place}
 use Rattle.mt_rows.specs.declared.rows.Place.TheVariants.{Root, Slot}
-use Rattle.mt_rows.specs.Spans.{column}
+use Rattle.mt_rows.specs.Spans.{column, inner_kind}
 use Rattle.mt_rows.specs.Levels.{is_row_of}
 use Rattle.mt_rows.specs.Laws as laws
 use Rattle.mt_rows.specs.Sheet.{Sheet, life_of, word_at}
@@ -62,28 +63,28 @@ none_in_slot f (Some h) row col is_old none at =
 
 -- ---- what may be tended
 
-tend_rows_by : (f : ends.Finish) (s₁ : Sheet) (new : Option ℕ) → f.may.new ≡ new → Published f.sheet s₁ f.place f.word f.call f.reply → MayTendRows s₁ Inner f.inner
+tend_rows_by : (f : ends.Finish) (s₁ : Sheet) (new : Option ℕ) → f.may.new ≡ new → Published f.sheet s₁ f.place f.word f.call f.reply → MayTendRows s₁ (inner_kind f.before.kind) f.inner
 tend_rows_by f s₁ None is done = record {
   each = λ i n at. absurd (none_made f n is (reached.one_of_get f.inner i n at));
   apart = λ i j n m slot slot' lt at_n at_m low low' same. absurd (none_made f n is (reached.one_of_get f.inner i n at_n));
 }
 tend_rows_by f s₁ (Some h) is done = may_tend_some f h is s₁ done
 
-tend_top_by : (f : ends.Finish) (s₁ : Sheet) (new : Option ℕ) (place : Place) → f.may.new ≡ new → f.place ≡ place → IsEndPlace f.start f.may.work f.may.old place → Published f.sheet s₁ f.place f.word f.call f.reply → MayTendTopAt s₁ place f.word
+tend_top_by : (f : ends.Finish) (s₁ : Sheet) (new : Option ℕ) (place : Place) → f.may.new ≡ new → f.place ≡ place → IsEndPlace f.start f.may.work f.may.old place → Published f.sheet s₁ f.place f.word f.call f.reply → MayTendTopAt s₁ (inner_kind f.before.kind) place f.word
 tend_top_by f s₁ new Root is is_place at done = tt
 tend_top_by f s₁ None (Slot row col) is is_place at done = absurd (none_in_slot f f.may.old row col refl is at)
 tend_top_by f s₁ (Some h) (Slot row col) is is_place at done = may_tend_place f h is s₁ done (Slot row col) is_place
 
 -- ---- all is done
 
-parents_by : (f : ends.Finish) (s₁ s₂ s₃ : Sheet) (new : Option ℕ) → f.may.new ≡ new → Published f.sheet s₁ f.place f.word f.call f.reply → AreRowsTended s₁ s₂ Inner f.inner → IsTopTendedAt s₂ s₃ f.place f.word
+parents_by : (f : ends.Finish) (s₁ s₂ s₃ : Sheet) (new : Option ℕ) → f.may.new ≡ new → Published f.sheet s₁ f.place f.word f.call f.reply → AreRowsTended s₁ s₂ (inner_kind f.before.kind) f.inner → IsTopTendedAt s₂ s₃ (inner_kind f.before.kind) f.place f.word
     → StandsAs (tree_as f.before.kind s₃.tree) new → HasParents (tree_as f.before.kind s₃.tree)
 parents_by f s₁ s₂ s₃ None is done tended top stands = inl stands
 parents_by f s₁ s₂ s₃ (Some h) is done tended top stands = has_parents f h is s₁ done s₂ s₃ tended top stands
 
 -- a row that is gone keeps its dead mark, since only live rows are tended
-module _ (f : ends.Finish) (s₁ s₂ s₃ : Sheet) (done : Published f.sheet s₁ f.place f.word f.call f.reply) (may : MayTendRows s₁ Inner f.inner) (tended : AreRowsTended s₁ s₂ Inner f.inner) (may_top : MayTendTopAt s₂ f.place f.word)
-    (top : IsTopTendedAt s₂ s₃ f.place f.word) where
+module _ (f : ends.Finish) (s₁ s₂ s₃ : Sheet) (done : Published f.sheet s₁ f.place f.word f.call f.reply) (may : MayTendRows s₁ (inner_kind f.before.kind) f.inner) (tended : AreRowsTended s₁ s₂ (inner_kind f.before.kind) f.inner) (may_top : MayTendTopAt s₂ (inner_kind f.before.kind) f.place f.word)
+    (top : IsTopTendedAt s₂ s₃ (inner_kind f.before.kind) f.place f.word) where
   dead_now : (row : ℕ) → is_reached f.before.sheet.tree row ≡ true → ends.new_count f row ≡ 0 → life_of s₁.lives row ≡ Dead (f.sheet.ended + 1)
   dead_now row was none =
       let some = ends.was_reached f row was in
@@ -96,7 +97,7 @@ module _ (f : ends.Finish) (s₁ s₂ s₃ : Sheet) (done : Published f.sheet s�
       let both : Live ≡ Dead (f.sheet.ended + 1) = sym live ∙ (ap (life_of s₁.lives) same ∙ dead_now row was none) in
       absurd (cc)
 
-  top_other : (place : Place) → MayTendTopAt s₂ place f.word → (row : ℕ) → is_reached f.before.sheet.tree row ≡ true → ends.new_count f row ≡ 0 → (r c : ℕ) → place ≡ Slot r c → row ≢ row_in f.word
+  top_other : (place : Place) → MayTendTopAt s₂ (inner_kind f.before.kind) place f.word → (row : ℕ) → is_reached f.before.sheet.tree row ≡ true → ends.new_count f row ≡ 0 → (r c : ℕ) → place ≡ Slot r c → row ≢ row_in f.word
   top_other Root at row was none r c is = absurd (cc)
   top_other (Slot r' c') at row was none r c is =
       let lives : s₂.lives ≡ s₁.lives = ap (λ (x : Sheet). x.lives) tended.only.rest in
@@ -105,8 +106,8 @@ module _ (f : ends.Finish) (s₁ s₂ s₃ : Sheet) (done : Published f.sheet s�
   marked_end : (row : ℕ) → is_reached f.before.sheet.tree row ≡ true → ends.new_count f row ≡ 0 → word_at s₃.tree row 0 ≡ dead_mark row
   marked_end row was none =
       let some = ends.was_reached f row was in
-      top_kept s₂ s₃ f.place f.word row top (top_other f.place may_top row was none)
-      ∙ (tended.others row (λ i n slot at below. not_live row (child_row s₁.tree.table Inner n.row slot) was none ((may.each i n at).each slot below).live)
+      top_kept s₂ s₃ (inner_kind f.before.kind) f.place f.word row top (top_other f.place may_top row was none)
+      ∙ (tended.others row (λ i n slot at below. not_live row (child_row s₁.tree.table (inner_kind f.before.kind) n.row slot) was none ((may.each i n at).each slot below).live)
       ∙ (ap (λ (x : Sheet). column x.tree.table row 0) done.rest
       ∙ (parent_stays f row ∙ (ends.progress f).marks row was (ends.some_gone f row (ends.was_gone f row some none)))))
 
@@ -119,14 +120,23 @@ module _ {b : Before} {start : Start} {s : Sheet} {book : Book} {inner : List Ne
   pub may_publish_end : MayPublish b.kind s place word call reply
   may_publish_end = ends.may_publish f
 
-  pub may_tend_rows : {s₁ : Sheet} → Published s s₁ place word call reply → MayTendRows s₁ Inner inner
-  may_tend_rows {s₁} done = tend_rows_by f s₁ may.new refl done
+  -- the kind of the inner rows, as the caller names it
+  module _ {kind : RowKind} (is : kind ≡ inner_kind start.tree.kind) where
+    is_inner : inner_kind b.kind ≡ kind
+    is_inner = sym (is ∙ ap (λ (t : Tree). inner_kind t.kind) may.case.was.tree)
 
-  pub may_tend_top_now : {s₁ s₂ : Sheet} → Published s s₁ place word call reply → AreRowsTended s₁ s₂ Inner inner → MayTendTopAt s₂ place word
-  may_tend_top_now {s₁} {s₂} done tended = top_still s₁ s₂ place word tended.only (tend_top_by f s₁ may.new place refl refl may.at done)
+    pub may_tend_rows : {s₁ : Sheet} → Published s s₁ place word call reply → MayTendRows s₁ kind inner
+    may_tend_rows {s₁} done = subst (λ (k : RowKind). MayTendRows s₁ k inner) is_inner (tend_rows_by f s₁ may.new refl done)
 
-  pub spliced_end : {s₁ s₂ s₃ : Sheet} → Published s s₁ place word call reply → AreRowsTended s₁ s₂ Inner inner → IsTopTendedAt s₂ s₃ place word → IsSpliced b.kind b.sheet s₃ b.book book b.number call reply place
-  spliced_end {s₁} {s₂} {s₃} done tended top =
-      let o = outcome f s₁ s₃ done (only_more s₁ s₂ s₃ tended.only (top_only s₂ s₃ place word top)) in
-      spliced f s₃ o (parents_by f s₁ s₂ s₃ may.new refl done tended top o.stands)
-      (λ row was not. marked_end f s₁ s₂ s₃ done (may_tend_rows done) tended (may_tend_top_now done tended) top row was (ends.later_unreached f row (sym (o.reached row) ∙ not)))
+    pub may_tend_top_now : {s₁ s₂ : Sheet} → Published s s₁ place word call reply → AreRowsTended s₁ s₂ kind inner → MayTendTopAt s₂ kind place word
+    may_tend_top_now {s₁} {s₂} done tended = top_still s₁ s₂ kind place word tended.only (subst (λ (k : RowKind). MayTendTopAt s₁ k place word) is_inner (tend_top_by f s₁ may.new place refl refl may.at done))
+
+    pub spliced_end : {s₁ s₂ s₃ : Sheet} → Published s s₁ place word call reply → AreRowsTended s₁ s₂ kind inner → IsTopTendedAt s₂ s₃ kind place word → IsSpliced b.kind b.sheet s₃ b.book book b.number call reply place
+    spliced_end {s₁} {s₂} {s₃} done tended top =
+        let o = outcome f s₁ s₃ done (only_more s₁ s₂ s₃ tended.only (top_only s₂ s₃ kind place word top)) in
+        let rows_tended = subst (λ (k : RowKind). AreRowsTended s₁ s₂ k inner) (sym is_inner) tended in
+        let top_tended = subst (λ (k : RowKind). IsTopTendedAt s₂ s₃ k place word) (sym is_inner) top in
+        let may_rows = tend_rows_by f s₁ may.new refl done in
+        let may_top = subst (λ (k : RowKind). MayTendTopAt s₂ k place word) (sym is_inner) (may_tend_top_now done tended) in
+        spliced f s₃ o (parents_by f s₁ s₂ s₃ may.new refl done rows_tended top_tended o.stands)
+        (λ row was not. marked_end f s₁ s₂ s₃ done may_rows rows_tended may_top top_tended row was (ends.later_unreached f row (sym (o.reached row) ∙ not)))

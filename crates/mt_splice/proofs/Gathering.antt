@@ -5,7 +5,7 @@ use Rattle.std.proofs.lemmas.Bool.{cases_Bool}
 use Rattle.std.proofs.lemmas.List.{take_all, length-take}
 use Rattle.std.proofs.Math.ListN.{drop_of_length-le}
 use Rattle.mt_layout.specs.declared.items.Item.{Item}
-use Rattle.mt_layout.specs.declared.names.RowKind.TheVariants.{Inner}
+use Rattle.mt_layout.specs.declared.names.RowKind.{RowKind}
 use Rattle.mt_layout.specs.Columns.{items_from, pivot_column}
 use Rattle.mt_layout.proofs.Reading.{few_items}
 use Rattle.mt_rows.specs.Spans.{Table, base_of}
@@ -40,11 +40,11 @@ items_ahead k xs = let n = length-take k xs in omega arith
 
 -- ---- of a row of a table
 
-pub behind_slot : (t : Table) (row max k : ℕ) → k < length (items_of_row t Inner row max)
-    → take (slots_of t.width Inner - k) (items_from (slots_of t.width Inner) (gaps_of t.width Inner) t.words (base_of t row) max (slots_of t.width Inner - k) k) ≡ drop k (items_of_row t Inner row max)
-behind_slot t row max k below =
-    let few = few_items (slots_of t.width Inner) (gaps_of t.width Inner) t.words (base_of t row) max (slots_of t.width Inner) 0 in
-    items_behind (slots_of t.width Inner) (gaps_of t.width Inner) t.words (base_of t row) max k (slots_of t.width Inner - k) below (omega arith)
+pub behind_slot : (t : Table) (kind : RowKind) (row max k : ℕ) → k < length (items_of_row t kind row max)
+    → take (slots_of t.width kind - k) (items_from (slots_of t.width kind) (gaps_of t.width kind) t.words (base_of t row) max (slots_of t.width kind - k) k) ≡ drop k (items_of_row t kind row max)
+behind_slot t kind row max k below =
+    let few = few_items (slots_of t.width kind) (gaps_of t.width kind) t.words (base_of t row) max (slots_of t.width kind) 0 in
+    items_behind (slots_of t.width kind) (gaps_of t.width kind) t.words (base_of t row) max k (slots_of t.width kind - k) below (omega arith)
 
 pub none_behind : (k : ℕ) (xs : List Item) → length xs ≤ k → drop k xs ≡ []
 none_behind k xs past = drop_of_length-le xs past

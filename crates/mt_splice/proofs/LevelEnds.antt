@@ -7,7 +7,6 @@ use Rattle.mt_base.specs.declared.widths.Width.{Width}
 use Rattle.mt_base.specs.Width.{greatest, most_rows, most_taken}
 use Rattle.mt_layout.specs.declared.items.Item.{Item}
 use Rattle.mt_layout.specs.declared.names.RowKind.{RowKind}
-use Rattle.mt_layout.specs.declared.names.RowKind.TheVariants.{Inner}
 use Rattle.mt_layout.specs.declared.spans.Span.{Span}
 use Rattle.mt_layout.specs.Columns.{slot_column}
 use Rattle.mt_layout.specs.Rows.{row_in}
@@ -61,8 +60,8 @@ only_item (x ∷ y ∷ new) d one = absurd (omega arith)
 pub tree_width : {b : Before} {start : Start} {s : Sheet} {book : Book} {w : Work} → IsBefore b start → IsProgress b s book w → s.tree.table.width ≡ start.tree.table.width
 tree_width was progress = width_now was progress ∙ sym (ap (λ (t : Tree). t.table.width) was.tree)
 
-inner_is : (start : Start) (w : Work) (h : ℕ) → Holds start w → Inner ≡ kind_at start.tree.kind (suc h)
-inner_is start w h holds = sym (ap inner_kind holds.range)
+inner_is : (start : Start) (w : Work) (h : ℕ) → Holds start w → inner_kind start.tree.kind ≡ kind_at start.tree.kind (suc h)
+inner_is start w h holds = refl
 
 -- ---- what all ends have in common
 
@@ -185,7 +184,7 @@ module _ {b : Before} {start : Start} {s : Sheet} {book : Book} {inner : List Ne
   covers : covers_all start.tree (span_to from to) ≡ true
   covers = let end : to - 1 ≡ top_of start.tree = (let at = whole_index.1 in omega arith) in λ i. eq-eqb from 0 whole_index.0 i && eq-eqb (to - 1) (top_of start.tree) end i
 
-  new_root : MayWriteRow b start s₁ book₁ rows.0 Inner (suc end.height) from to new inner₁
+  new_root : MayWriteRow b start s₁ book₁ rows.0 (inner_kind start.tree.kind) (suc end.height) from to new inner₁
   new_root = record {
     before = rows.1.under.case.was;
     progress = rows.1.under.progress;
@@ -199,14 +198,14 @@ module _ {b : Before} {start : Start} {s : Sheet} {book : Book} {inner : List Ne
       fit = tt;
       leaves = λ none. absurd (omega arith);
     };
-    fit = let few = rows.1.few in let size = sizes s₁.tree.table.width Inner in omega (arith, size.least, size.some);
+    fit = let few = rows.1.few in let size = sizes s₁.tree.table.width (inner_kind start.tree.kind) in omega (arith, size.least, size.some);
     known = rows.1.under.inner_rows;
   }
 
-  root_added : MayAddRow b start s₁ book₁ Inner new inner₁
+  root_added : MayAddRow b start s₁ book₁ (inner_kind start.tree.kind) new inner₁
   root_added = record { work = rows.0; height = suc end.height; lo = from; hi = to; may = new_root }
 
-  module _ {s₂ : Sheet} {book₂ : Book} {inner₂ : List NewRow} {root : Item} (added : IsRowAdded b start s₁ s₂ book₁ book₂ Inner new inner₁ inner₂ root) where
+  module _ {s₂ : Sheet} {book₂ : Book} {inner₂ : List NewRow} {root : Item} (added : IsRowAdded b start s₁ s₂ book₁ book₂ (inner_kind start.tree.kind) new inner₁ inner₂ root) where
     abbrev one : (w₂ : Work) × IsOneWritten b start s₂ book₁ book₂ rows.0 w₂ (suc end.height) from to new inner₂ root
     one = added.each new_root
 
@@ -237,13 +236,13 @@ module _ {b : Before} {start : Start} {s : Sheet} {book : Book} {inner : List Ne
   pub above_room : length inner₁ < most_taken
   above_room = let room = room_to_note (done₀.each end₀.may).1.under in omega arith
 
-  pub root_may_be_added : {new' : List Item} → new' ≡ new → MayAddRow b start s₁ book₁ Inner new' inner₁
-  root_may_be_added same = subst (λ (l : List Item). MayAddRow b start s₁ book₁ Inner l inner₁) (sym same) (root_added end₀ may.two done₀)
+  pub root_may_be_added : {new' : List Item} → new' ≡ new → MayAddRow b start s₁ book₁ (inner_kind start.tree.kind) new' inner₁
+  root_may_be_added same = subst (λ (l : List Item). MayAddRow b start s₁ book₁ (inner_kind start.tree.kind) l inner₁) (sym same) (root_added end₀ may.two done₀)
 
-  pub above_is_published : {s₂ : Sheet} {book₂ : Book} {inner₂ inner' : List NewRow} {new' : List Item} {root : Item} → new' ≡ new → IsRowAdded b start s₁ s₂ book₁ book₂ Inner new' inner₁ inner₂ root → inner' ≡ inner₂
+  pub above_is_published : {s₂ : Sheet} {book₂ : Book} {inner₂ inner' : List NewRow} {new' : List Item} {root : Item} → new' ≡ new → IsRowAdded b start s₁ s₂ book₁ book₂ (inner_kind start.tree.kind) new' inner₁ inner₂ root → inner' ≡ inner₂
       → MayPublishEnd b start s₂ book₂ inner' Root root.word call reply
   above_is_published {s₂ = s₂} {book₂ = book₂} {inner₂ = inner₂} {root = root} same added noted =
-      root_ends end₀ may.two done₀ (subst (λ (l : List Item). IsRowAdded b start s₁ s₂ book₁ book₂ Inner l inner₁ inner₂ root) same added) noted
+      root_ends end₀ may.two done₀ (subst (λ (l : List Item). IsRowAdded b start s₁ s₂ book₁ book₂ (inner_kind start.tree.kind) l inner₁ inner₂ root) same added) noted
 
 -- ---- in the slot of the row above
 
@@ -256,7 +255,7 @@ module _ {b : Before} {start : Start} {s : Sheet} {book : Book} {inner : List Ne
   levels = let below = end.may.gathered.levels in omega arith
 
   -- the slot is one of the row above
-  slot_below : step.slot < slots_of start.tree.table.width Inner
+  slot_below : step.slot < slots_of start.tree.table.width (inner_kind start.tree.kind)
   slot_below =
       let w = end.work in
       let holds = end.may.under.holds in
@@ -277,7 +276,7 @@ module _ {b : Before} {start : Start} {s : Sheet} {book : Book} {inner : List Ne
     abbrev one_level : (w₁ : Work) × AreRowsReplaced b start s₁ book₁ w₁ inner₁ left right (suc depth) end.height ends new
     one_level = done.each end.may
 
-    in_place : (d : Item) {n : ℕ} {inner' : List NewRow} → inner' ≡ inner₁ → n ≡ slots_of start.tree.table.width Inner → MayPublishEnd b start s₁ book₁ inner' (Slot step.row (n + step.slot)) (slice_index_or new 0 d).word call reply
+    in_place : (d : Item) {n : ℕ} {inner' : List NewRow} → inner' ≡ inner₁ → n ≡ slots_of start.tree.table.width (inner_kind start.tree.kind) → MayPublishEnd b start s₁ book₁ inner' (Slot step.row (n + step.slot)) (slice_index_or new 0 d).word call reply
     in_place d {n = n} {inner' = inner'} noted many =
         let w = one_level.0 in
         let under = one_level.1.under in
@@ -307,18 +306,18 @@ module _ {b : Before} {start : Start} {s : Sheet} {book : Book} {inner : List Ne
   pub parent_is_deep : depth - 1 < length left
   parent_is_deep = let deep = left_deep may.end in omega arith
 
-  pub slot_fits : {step : PathStep} → step ≡ step_at left (depth - 1) → (2 * slots_of start.tree.table.width Inner + 8 ≤ run_room) × (step.slot < slots_of start.tree.table.width Inner)
-  slot_fits is = ((sizes start.tree.table.width Inner).room, subst (λ (z : PathStep). z.slot < slots_of start.tree.table.width Inner) (sym is) (slot_below end₁ may.one same₁))
+  pub slot_fits : {step : PathStep} → step ≡ step_at left (depth - 1) → (2 * slots_of start.tree.table.width (inner_kind start.tree.kind) + 8 ≤ run_room) × (step.slot < slots_of start.tree.table.width (inner_kind start.tree.kind))
+  slot_fits is = ((sizes start.tree.table.width (inner_kind start.tree.kind)).room, subst (λ (z : PathStep). z.slot < slots_of start.tree.table.width (inner_kind start.tree.kind)) (sym is) (slot_below end₁ may.one same₁))
 
   module _ {s₁ : Sheet} {book₁ : Book} {inner₁ : List NewRow} {new : List Item} (done : AreLevelRowsReplaced b start s s₁ book book₁ inner inner₁ kind left right depth items ends number new) where
     done₁ : AreLevelRowsReplaced b start s s₁ book book₁ inner inner₁ kind left right (suc (depth - 1)) items ends number new
     done₁ = subst (λ (d : ℕ). AreLevelRowsReplaced b start s s₁ book book₁ inner inner₁ kind left right d items ends number new) deeper done
 
     -- the rows have the slots of the tree
-    pub slots_same : {width : Width} {n : ℕ} → width ≡ s₁.tree.table.width → n ≡ slots_of width Inner → n ≡ slots_of start.tree.table.width Inner
-    slots_same is many = let under = (done₁.each end₁.may).1.under in many ∙ ap (λ (v : Width). slots_of v Inner) (is ∙ tree_width under.case.was under.progress)
+    pub slots_same : {width : Width} {n : ℕ} → width ≡ s₁.tree.table.width → n ≡ slots_of width (inner_kind start.tree.kind) → n ≡ slots_of start.tree.table.width (inner_kind start.tree.kind)
+    slots_same is many = let under = (done₁.each end₁.may).1.under in many ∙ ap (λ (v : Width). slots_of v (inner_kind start.tree.kind)) (is ∙ tree_width under.case.was under.progress)
 
-    pub slot_is_published : (d : Item) {step : PathStep} {n : ℕ} {inner' : List NewRow} → step ≡ step_at left (depth - 1) → inner' ≡ inner₁ → n ≡ slots_of start.tree.table.width Inner
+    pub slot_is_published : (d : Item) {step : PathStep} {n : ℕ} {inner' : List NewRow} → step ≡ step_at left (depth - 1) → inner' ≡ inner₁ → n ≡ slots_of start.tree.table.width (inner_kind start.tree.kind)
         → MayPublishEnd b start s₁ book₁ inner' (Slot step.row (n + step.slot)) (slice_index_or new 0 d).word call reply
     slot_is_published d {n = n} {inner' = inner'} is noted many =
         subst (λ (z : PathStep). MayPublishEnd b start s₁ book₁ inner' (Slot z.row (n + z.slot)) (slice_index_or new 0 d).word call reply) (sym is) (in_place end₁ may.one same₁ done₁ d noted many)

@@ -7,13 +7,14 @@ use Rattle.mt_base.specs.declared.widths.Width.{Width}
 use Rattle.mt_base.specs.Width.{greatest, kind_width}
 use Rattle.mt_layout.specs.declared.items.Item.{Item}
 use Rattle.mt_layout.specs.declared.names.RowKind.{RowKind}
-use Rattle.mt_layout.specs.declared.names.RowKind.TheVariants.{Leaf, Inner}
+use Rattle.mt_layout.specs.declared.names.RowKind.TheVariants.{Leaf}
 use Rattle.mt_layout.specs.declared.spans.Span.{Span}
 use Rattle.mt_layout.specs.Sizes.{slots_of}
 use Rattle.mt_layout.specs.Spans.{spans_from, leaf_range, Apart}
 use Rattle.mt_layout.proofs.RowSizes.{sizes}
 use Rattle.mt_layout.proofs.SpanLists.{length-spans_from, apart_anywhere}
 use Rattle.mt_free.specs.Book.{Book}
+use Rattle.mt_rows.specs.Spans.{inner_kind}
 use Rattle.mt_rows.specs.Laws.{Tree, top_of, kind_at, least_of_root}
 use Rattle.mt_rows.specs.Sheet.{Rooted, Sheet, OnlyReads}
 use Rattle.mt_path.specs.declared.paths.PathStep.{PathStep}
@@ -231,14 +232,14 @@ module _ {b : Before} {start : Start} {s : Sheet} {book : Book} {inner : List Ne
             items_may_be_gathered same = subst (MayGather start s₂.tree left₁ right₁ (depth - 1)) (sym same) (record { work = rows.0; height = may.height; may = goes_up })
 
             pub next_level : {s₃ : Sheet} {left₃ right₃ : List PathStep} {items₃ new' : List Item} → new' ≡ new → IsGathered start s₂.tree left₁ right₁ (depth - 1) new' items₃ → OnlyReads s₂ s₃ → left₃ ≡ left₁ → right₃ ≡ right₁
-                → MayReplaceLevel b start s₃ book₂ inner₂ Inner left₃ right₃ (depth - 1) items₃ number call reply
+                → MayReplaceLevel b start s₃ book₂ inner₂ (inner_kind start.tree.kind) left₃ right₃ (depth - 1) items₃ number call reply
             next_level {s₃ = s₃} {left₃ = left₃} {right₃ = right₃} {items₃ = items₃} same gathered reads₃ is_left is_right = record {
               work = rows.0;
               height = suc may.height;
               under = subst (IsUnderWay b start s₃ book₂ rows.0 inner₂) deeper (under_read reads₃ rows.1.under);
               may =
                   let here : IsGathered start s₂.tree left₁ right₁ (depth - 1) new items₃ = subst (λ (l : List Item). IsGathered start s₂.tree left₁ right₁ (depth - 1) l items₃) same gathered in
-                  subst (λ (x : Rooted × List PathStep × List PathStep). MayTakeIn start rows.0 x.0 Inner x.1 x.2 (depth - 1) (suc may.height) items₃) (λ i. (sym (tree_read s₂ s₃ reads₃) i, sym is_left i, sym is_right i)) (here.each goes_up);
+                  subst (λ (x : Rooted × List PathStep × List PathStep). MayTakeIn start rows.0 x.0 (inner_kind start.tree.kind) x.1 x.2 (depth - 1) (suc may.height) items₃) (λ i. (sym (tree_read s₂ s₃ reads₃) i, sym is_left i, sym is_right i)) (here.each goes_up);
               in_call = may.in_call;
               answer = may.answer;
             }

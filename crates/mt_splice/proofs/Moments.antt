@@ -82,7 +82,6 @@ still_half start s s' map taken gone h xs ys keeps used half =
 
 pub holds_later : (start : Start) (s s' : Work) → Keeps start s s' → s'.taken ≡ s.taken → Holds start s → Holds start s'
 holds_later start s s' keeps taken holds = record {
-  range = holds.range;
   stands = holds.stands;
   used = levels_map (IsUsed s) (IsUsed s') start.tree.table (λ _ x u. keeps.used (row_in x.word) u) start.height (root_of start.tree) holds.used;
   words = levels_pair (IsUsed s) (RowsKeep start.tree start.tree.table.words s.words) (RowsKeep start.tree start.tree.table.words s'.words) start.tree.table

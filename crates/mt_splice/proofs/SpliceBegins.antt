@@ -36,7 +36,7 @@ use Rattle.mt_path.proofs.TreePaths as paths
 use Rattle.mt_splice.specs.declared.writes.NewRow.{NewRow}
 use Rattle.mt_splice.specs.steps.Seen.{Seen, passing}
 use Rattle.mt_splice.specs.steps.Work.{Start, Work, now}
-use Rattle.mt_splice.specs.Kept.{MayBeReplaced, IsKept, IsUnpublished}
+use Rattle.mt_splice.specs.Kept.{IsKept, IsUnpublished}
 use Rattle.mt_splice.specs.Splice.{MaySplice, region_of}
 use Rattle.mt_splice.specs.steps.Entries.{before_of, start_of, IsBegunBy, IsFirst}
 use Rattle.mt_splice.specs.steps.Beginnings.{Begins}
@@ -105,8 +105,8 @@ module _ {kind : Kind} {s : Sheet} {book : Book} {number : ℕ} (whole : IsWhole
     marks = λ row reached gone. absurd (not_both false gone refl);
   }
 
-  pub case_of : (start : Start) → start.tree ≡ tree_as kind s.tree → MayBeReplaced kind → IsTold s.kind kind → IsUnpublished s.in_flight s.published s.ended number → IsCase (before_of kind s book number) start
-  case_of start is range told unpublished = record { range = range; told = told; unpublished = unpublished; was = record { whole = whole; tree = is; kept = kept } }
+  pub case_of : (start : Start) → start.tree ≡ tree_as kind s.tree → IsTold s.kind kind → IsUnpublished s.in_flight s.published s.ended number → IsCase (before_of kind s book number) start
+  case_of start is told unpublished = record { told = told; unpublished = unpublished; was = record { whole = whole; tree = is; kept = kept } }
 
 -- ---- a tree stands
 
@@ -124,7 +124,7 @@ module _ {kind : Kind} {s : Sheet} {book : Book} {left right : List PathStep} {i
   first_within = let order = may.store.order in let within = may.store.within in omega arith
 
   the_case : IsCase b start
-  the_case = case_of whole may.kept start refl may.range may.told may.unpublished
+  the_case = case_of whole may.kept start refl may.told may.unpublished
 
   the_answer : acted kind (map_by s.tree) call ≡ (start.map, reply)
   the_answer = ap (λ (r : Reply). (start.map, r)) (ap (λ (a : List Range × Reply). a.1) may.store.acts)
@@ -132,7 +132,6 @@ module _ {kind : Kind} {s : Sheet} {book : Book} {left right : List PathStep} {i
   module _ (stands : Stands t start.height) where
     begins : Begins start (work_of s) left right may.first may.last may.entry
     begins = record {
-      range = may.range;
       stands = stands;
       map = ap (λ (a : List Range × Reply). a.0) may.store.acts ∙ ap (λ (m : List Range). over m may.first may.last may.entry) (ranges_by_depth t deepest start.height (root_span s.tree.table s.tree.root) stands.low stands.rows);
       order = may.store.order;

@@ -48,7 +48,7 @@ unused_nowhere start s row holds unused =
 pub holds_written : (start : Start) (s s' : Work) (height : ℕ) (spans rows : List Span) → Holds start s → AreWritten start s s' height spans rows → Holds start s'
 holds_written start s s' height spans rows holds written =
     let later = holds_later start s (record s' { taken = s.taken }) (record { used = written.keeps.used; words = written.keeps.words }) refl holds in
-    record { range = later.range; stands = later.stands; used = later.used; words = later.words; taken = new }
+    record { stands = later.stands; used = later.used; words = later.words; taken = new }
   where
     new : (row : ℕ) → 1 ≤ passing (is_row_of row) s'.taken → times_in (is_row_of row) start.tree start.height ≡ 0
     new row some =

@@ -2,17 +2,12 @@
 -- Source: this project's own; the kernel's writers hold the tree's lock, and free nodes after a grace period.
 use Rattle.std.specs.Prelude.{◌≡◌, ◌+◌, ◌<◌, ◌≤◌, ℕ, Bool, true, false, List, All}
 use Rattle.mt_base.specs.declared.kinds.Kind.{Kind}
-use Rattle.mt_base.specs.declared.kinds.Kind.TheVariants as trees
 use Rattle.mt_base.specs.Width.{first_row}
 use Rattle.mt_free.specs.Book.{Book, Held, IsBook, IsOut}
 use Rattle.mt_rows.specs.declared.rows.Life.{Life}
 use Rattle.mt_rows.specs.declared.rows.Life.TheVariants.{New, Draft, Live, Dead}
 use Rattle.mt_rows.specs.Sheet.{Rooted, life_of}
 use Rattle.mt_rows.specs.Publish.{IsLawfulOf, IsReached, LiveAreReached, NoneBuried}
-
--- trees of this kind are replaced: those without gaps
-abbrev pub MayBeReplaced : Kind → Type 0
-MayBeReplaced kind = kind ≡ trees.Range
 
 -- a row that no reader can hold: it was never used, or its death is cleared
 abbrev pub IsSpare : ℕ → Life → Type 0

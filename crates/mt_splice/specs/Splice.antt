@@ -30,7 +30,7 @@ use Rattle.mt_path.specs.declared.paths.PathStep.{PathStep}
 use Rattle.mt_path.specs.Paths.{path_in}
 use Rattle.mt_path.specs.Handles.{last_step, leaf_spans}
 use Rattle.mt_splice.specs.Fewest.{FewestBelow}
-use Rattle.mt_splice.specs.Kept.{MayBeReplaced, IsBookOf, IsKept, IsUnpublished}
+use Rattle.mt_splice.specs.Kept.{IsBookOf, IsKept, IsUnpublished}
 
 -- ---- the store
 
@@ -53,7 +53,6 @@ region_of t (s ∷ left) right =
 -- A call of a tree of this kind is in flight and has published nothing. It changes the map by a store; the paths lead to the
 -- store's ends, and the items are what stands in the leaves there after it. For each level three rows are free, and one more.
 pub record MaySplice (kind : Kind) (s : Sheet) (book : Book) (left right : List PathStep) (items : List Item) (number : ℕ) (call : Call) (reply : Reply) : Type 0 where
-  pub range : MayBeReplaced kind
   pub told : IsTold s.kind kind
   pub kept : IsKept kind s.tree s.lives s.buried s.cleared book number
   pub unpublished : IsUnpublished s.in_flight s.published s.ended number
@@ -69,7 +68,6 @@ pub record MaySplice (kind : Kind) (s : Sheet) (book : Book) (left right : List 
 
 -- the same of a store whose leaves are still to be read
 pub record MayReplace (kind : Kind) (s : Sheet) (book : Book) (left : List PathStep) (first last entry : ℕ) (number : ℕ) (call : Call) (reply : Reply) : Type 0 where
-  pub range : MayBeReplaced kind
   pub told : IsTold s.kind kind
   pub kept : IsKept kind s.tree s.lives s.buried s.cleared book number
   pub unpublished : IsUnpublished s.in_flight s.published s.ended number
@@ -80,7 +78,6 @@ pub record MayReplace (kind : Kind) (s : Sheet) (book : Book) (left : List PathS
 
 -- what the emptying of a tree that is not empty is asked for: no row need be free
 pub record MayClear (kind : Kind) (s : Sheet) (book : Book) (number : ℕ) (call : Call) (reply : Reply) : Type 0 where
-  pub range : MayBeReplaced kind
   pub told : IsTold s.kind kind
   pub kept : IsKept kind s.tree s.lives s.buried s.cleared book number
   pub unpublished : IsUnpublished s.in_flight s.published s.ended number

@@ -1,6 +1,7 @@
 //! The first leaf of an empty tree.
 
 ghost use Rattle.std.specs.Prelude.{◌≡◌, [], List};
+ghost use Rattle.mt_rows.specs.Spans.{inner_kind};
 ghost use Rattle.mt_splice.specs.steps.Entries.{IsFirst};
 ghost use Rattle.mt_splice.specs.Splice.{IsSpliced};
 
@@ -12,15 +13,17 @@ use mt_free::RowBook;
 use mt_layout::{Item, RowKind};
 use mt_rows::{Place, Rows};
 
-/// Writes the items in one leaf, and publishes it as the root of the empty tree.
+/// Writes the items in one leaf, and publishes it as the root of the empty tree, whose inner rows are to be of this kind.
 pub fn begin_tree<R: Rows, B: Begun>(
     rows: &mut R,
     book: &mut RowBook,
+    kind: RowKind,
     items: &[Item],
     call: &Call,
     reply: &Reply,
 ) -> Place
-    requires { IsFirst B.before B.start (R.sheet rows.old) book.old items.now call.now reply.now }
+    requires kind { kind ≡ inner_kind B.start.tree.kind }
+    requires first { IsFirst B.before B.start (R.sheet rows.old) book.old items.now call.now reply.now }
     ensures { IsSpliced B.before.kind B.before.sheet (R.sheet rows.new) B.before.book book.new B.before.number call.now reply.now result }
 {
     let mut inner = NewRows::new();
@@ -28,6 +31,7 @@ pub fn begin_tree<R: Rows, B: Begun>(
     publish_at::<R, B>(
         rows,
         book,
+        kind,
         Place::Root,
         leaf.word,
         inner.as_slice(),

@@ -79,6 +79,7 @@ fn take_behind<R: Rows>(rows: &mut R, region: &mut Region, depth: u32, kind: Row
     requires room { length region.old.run.items + slots_of (R.sheet rows.old).tree.table.width kind ≤ run_room }
     ensures left { region.new.left ≡ region.old.left }
     ensures right { region.new.right ≡ region.old.right }
+    ensures inner { region.new.inner ≡ region.old.inner }
     ensures run { let step = step_at region.old.right.items depth in region.new.run.items ≡ beside_items kind region.old.run.items (items_of_row (R.sheet rows.old).tree.table kind step.row step.max) }
     ensures rest { OnlyReads (R.sheet rows.old) (R.sheet rows.new) }
 {
@@ -95,6 +96,7 @@ fn take_before<R: Rows>(rows: &mut R, region: &mut Region, depth: u32, kind: Row
     requires room { length region.old.run.items + slots_of (R.sheet rows.old).tree.table.width kind ≤ run_room }
     ensures left { region.new.left ≡ region.old.left }
     ensures right { region.new.right ≡ region.old.right }
+    ensures inner { region.new.inner ≡ region.old.inner }
     ensures run { let step = step_at region.old.left.items depth in region.new.run.items ≡ beside_items kind (items_of_row (R.sheet rows.old).tree.table kind step.row step.max) region.old.run.items }
     ensures rest { OnlyReads (R.sheet rows.old) (R.sheet rows.new) }
 {
@@ -115,6 +117,7 @@ pub fn take_in_beside<R: Rows, B: Begun>(
 )
     requires { MayLookBeside B.start (R.sheet rows.old).tree kind region.old.left.items region.old.right.items depth region.old.run.items }
     ensures level { IsTakenBeside B.start (R.sheet rows.old).tree kind region.old.left.items region.old.right.items depth region.old.run.items region.new.left.items region.new.right.items region.new.run.items }
+    ensures inner { region.new.inner ≡ region.old.inner }
     ensures as_it_is { (short_run (R.sheet rows.old).tree.table.width kind region.old.run.items || holed_run kind region.old.run.items) ≡ false → region.new ≡ region.old }
     ensures rest { OnlyReads (R.sheet rows.old) (R.sheet rows.new) }
 {

@@ -12,7 +12,7 @@ use crate::replaces::end_empty;
 use mt_base::{Call, Kind, Reply, top};
 use mt_free::RowBook;
 use mt_path::{copy_of, walk, walk_on};
-use mt_rows::Rows;
+use mt_rows::{Rows, inner_kind};
 use std::marker::Brand;
 
 /// The same, where what it begins with has a name.
@@ -36,7 +36,16 @@ fn clear_as<R: Rows, B: Begun>(
     let inner = NewRows::new();
     let depth = left.len() as u32 - 1;
     end_empty::<R, B>(
-        rows, book, &inner, &left, &right, depth, number, call, reply,
+        rows,
+        book,
+        inner_kind(kind),
+        &inner,
+        &left,
+        &right,
+        depth,
+        number,
+        call,
+        reply,
     );
 }
 

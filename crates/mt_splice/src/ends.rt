@@ -1,6 +1,7 @@
 //! The end of a replacement: one word is published, and the children of rows that are new are tended.
 
-ghost use Rattle.mt_layout.specs.declared.names.RowKind.TheVariants.{Inner};
+ghost use Rattle.std.specs.Prelude.{◌≡◌};
+ghost use Rattle.mt_rows.specs.Spans.{inner_kind};
 ghost use Rattle.mt_splice.specs.Splice.{IsSpliced};
 ghost use Rattle.mt_splice.specs.steps.Ends.{MayPublishEnd, MayTendRows, AreRowsTended, MayTendTopAt, IsTopTendedAt};
 
@@ -23,11 +24,11 @@ fn tend_rows<R: Rows>(rows: &mut R, kind: RowKind, new_inner_rows: &[NewRow])
     }
 }
 
-/// Writes the parent word of the row that was published in a slot.
+/// Writes the parent word of the row that was published in a slot of a row of this kind.
 #[tactic(auto, using(crate::proofs::EndTending::may_tend_top, crate::proofs::EndTending::top_tended))]
-fn tend_top<R: Rows>(rows: &mut R, place: Place, word: u64)
-    requires { MayTendTopAt (R.sheet rows.old) place word }
-    ensures { IsTopTendedAt (R.sheet rows.old) (R.sheet rows.new) place word }
+fn tend_top<R: Rows>(rows: &mut R, kind: RowKind, place: Place, word: u64)
+    requires { MayTendTopAt (R.sheet rows.old) kind place word }
+    ensures { IsTopTendedAt (R.sheet rows.old) (R.sheet rows.new) kind place word }
 {
     let Place::Slot { row, col } = place else {
         return;
@@ -35,25 +36,27 @@ fn tend_top<R: Rows>(rows: &mut R, place: Place, word: u64)
     let Some(top) = row_of(word) else {
         unreachable!()
     };
-    let slots = slots(rows.width(), RowKind::Inner);
+    let slots = slots(rows.width(), kind);
     rows.tend(top, 0, parent_word(row, col - slots));
 }
 
-/// Publishes the replacement by one store, and writes the parent words of all rows that have another parent then. The book
-/// is as it is then.
+/// Publishes the replacement by one store, and writes the parent words of all rows that have another parent then. The tree's
+/// inner rows are of this kind, and the book is as it is then.
 pub fn publish_at<R: Rows, B: Begun>(
     rows: &mut R,
     book: &RowBook,
+    kind: RowKind,
     place: Place,
     word: u64,
     inner: &[NewRow],
     call: &Call,
     reply: &Reply,
 )
-    requires { MayPublishEnd B.before B.start (R.sheet rows.old) book.now inner.now place word call.now reply.now }
+    requires kind { kind ≡ inner_kind B.start.tree.kind }
+    requires end { MayPublishEnd B.before B.start (R.sheet rows.old) book.now inner.now place word call.now reply.now }
     ensures { IsSpliced B.before.kind B.before.sheet (R.sheet rows.new) B.before.book book.now B.before.number call.now reply.now place }
 {
     rows.publish(place, word, call, reply);
-    tend_rows(rows, RowKind::Inner, inner);
-    tend_top(rows, place, word);
+    tend_rows(rows, kind, inner);
+    tend_top(rows, kind, place, word);
 }

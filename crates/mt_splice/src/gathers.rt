@@ -2,9 +2,9 @@
 
 ghost use Rattle.std.specs.Prelude.{◌≡◌, ◌<◌, ◌≤◌, ◌+◌, ◌++◌, length, take, drop};
 ghost use Rattle.mt_base.specs.Width.{first_row};
-ghost use Rattle.mt_layout.specs.declared.names.RowKind.TheVariants.{Inner};
 ghost use Rattle.mt_layout.specs.Sizes.{run_room, slots_of};
 ghost use Rattle.mt_rows.specs.Sheet.{OnlyReads};
+ghost use Rattle.mt_rows.specs.Spans.{inner_kind};
 ghost use Rattle.mt_splice.specs.steps.Replacing.{MayGather, IsGathered};
 ghost use Rattle.mt_splice.specs.steps.Writes.{items_of_row};
 
@@ -16,32 +16,25 @@ use mt_leaf::Towards;
 use mt_path::PathStep;
 use mt_rows::Rows;
 
-/// Appends the items of an inner row of a path that stand behind its slot.
+/// Appends the items of a row of this kind of a path that stand behind its slot.
 #[tactic(auto, using(crate::proofs::Gathering::behind_slot))]
-fn push_behind<R: Rows>(rows: &mut R, step: &PathStep, run: &mut Run)
+fn push_behind<R: Rows>(rows: &mut R, kind: RowKind, step: &PathStep, run: &mut Run)
     requires row { (first_row ≤ step.now.row) × (step.now.row < first_row + (R.sheet rows.old).tree.rows) }
-    requires slot { step.now.slot + 1 < length (items_of_row (R.sheet rows.old).tree.table Inner step.now.row step.now.max) }
-    requires room { length run.old.items + slots_of (R.sheet rows.old).tree.table.width Inner ≤ run_room }
-    ensures items { run.new.items ≡ run.old.items ++ drop (step.now.slot + 1) (items_of_row (R.sheet rows.old).tree.table Inner step.now.row step.now.max) }
+    requires slot { step.now.slot + 1 < length (items_of_row (R.sheet rows.old).tree.table kind step.now.row step.now.max) }
+    requires room { length run.old.items + slots_of (R.sheet rows.old).tree.table.width kind ≤ run_room }
+    ensures items { run.new.items ≡ run.old.items ++ drop (step.now.slot + 1) (items_of_row (R.sheet rows.old).tree.table kind step.now.row step.now.max) }
     ensures rest { OnlyReads (R.sheet rows.old) (R.sheet rows.new) }
 {
-    let slots = slots(rows.width(), RowKind::Inner);
-    push_items(
-        rows,
-        RowKind::Inner,
-        step.row,
-        step.max,
-        step.slot + 1,
-        slots,
-        run,
-    );
+    let slots = slots(rows.width(), kind);
+    push_items(rows, kind, step.row, step.max, step.slot + 1, slots, run);
 }
 
-/// Fills a run, which may hold other items, with those left of the left path's slot, the new ones, which end at `last`, and
+/// Fills a run, which may hold other items, from rows of this kind with those left of the left path's slot, the new ones, which end at `last`, and
 /// those right of the right path's slot.
 #[tactic(auto, using(crate::proofs::Gathering::items_ahead, crate::proofs::Gathering::none_behind))]
 fn gather<R: Rows>(
     rows: &mut R,
+    kind: RowKind,
     left: &PathStep,
     new: &[Item],
     last: u64,
@@ -50,18 +43,18 @@ fn gather<R: Rows>(
 )
     requires left_row { (first_row ≤ left.now.row) × (left.now.row < first_row + (R.sheet rows.old).tree.rows) }
     requires right_row { (first_row ≤ right.now.row) × (right.now.row < first_row + (R.sheet rows.old).tree.rows) }
-    requires left_slot { left.now.slot ≤ slots_of (R.sheet rows.old).tree.table.width Inner }
+    requires left_slot { left.now.slot ≤ slots_of (R.sheet rows.old).tree.table.width kind }
     requires few { length new.now ≤ 3 }
-    requires more { last < right.now.max → right.now.slot + 1 < length (items_of_row (R.sheet rows.old).tree.table Inner right.now.row right.now.max) }
-    requires none { right.now.max ≤ last → length (items_of_row (R.sheet rows.old).tree.table Inner right.now.row right.now.max) ≤ right.now.slot + 1 }
-    ensures items { let t = (R.sheet rows.old).tree.table in run.new.items ≡ take left.now.slot (items_of_row t Inner left.now.row left.now.max) ++ (new.now ++ drop (right.now.slot + 1) (items_of_row t Inner right.now.row right.now.max)) }
+    requires more { last < right.now.max → right.now.slot + 1 < length (items_of_row (R.sheet rows.old).tree.table kind right.now.row right.now.max) }
+    requires none { right.now.max ≤ last → length (items_of_row (R.sheet rows.old).tree.table kind right.now.row right.now.max) ≤ right.now.slot + 1 }
+    ensures items { let t = (R.sheet rows.old).tree.table in run.new.items ≡ take left.now.slot (items_of_row t kind left.now.row left.now.max) ++ (new.now ++ drop (right.now.slot + 1) (items_of_row t kind right.now.row right.now.max)) }
     ensures rest { OnlyReads (R.sheet rows.old) (R.sheet rows.new) }
 {
     run.clear();
-    push_items(rows, RowKind::Inner, left.row, left.max, 0, left.slot, run);
+    push_items(rows, kind, left.row, left.max, 0, left.slot, run);
     push_all(run, new);
     if last < right.max {
-        push_behind(rows, right, run);
+        push_behind(rows, kind, right, run);
     }
 }
 
@@ -79,15 +72,25 @@ fn towards_of(left: &PathStep, last: u64, right: &PathStep) -> Towards {
 /// Fills a region with what is to stand in the rows of a level: the new rows of the level below, and what stands beside
 /// them.
 pub fn parent_items<R: Rows, B: Begun>(rows: &mut R, region: &mut Region, new: &[Item], depth: u32)
-    requires { MayGather B.start (R.sheet rows.old).tree region.old.left.items region.old.right.items depth new.now }
+    requires inner { region.old.inner ≡ inner_kind B.start.tree.kind }
+    requires level { MayGather B.start (R.sheet rows.old).tree region.old.left.items region.old.right.items depth new.now }
     ensures level { IsGathered B.start (R.sheet rows.old).tree region.old.left.items region.old.right.items depth new.now region.new.run.items }
     ensures left { region.new.left ≡ region.old.left }
     ensures right { region.new.right ≡ region.old.right }
+    ensures inner { region.new.inner ≡ region.old.inner }
     ensures rest { OnlyReads (R.sheet rows.old) (R.sheet rows.new) }
 {
     let left = step_on(&region.left, depth);
     let right = step_on(&region.right, depth);
     let last = new[new.len() - 1].last;
-    gather(rows, &left, new, last, &right, &mut region.run);
+    gather(
+        rows,
+        region.inner,
+        &left,
+        new,
+        last,
+        &right,
+        &mut region.run,
+    );
     region.towards = towards_of(&left, last, &right);
 }

@@ -112,6 +112,7 @@ fn push_edited<R: Rows>(
     ensures run { spans_from left.now.min region.new.run.items ≡ edited (region_of (R.sheet rows.old).tree.table region.old.left.items region.old.right.items) first last entry }
     ensures left { region.new.left ≡ region.old.left }
     ensures right { region.new.right ≡ region.old.right }
+    ensures inner { region.new.inner ≡ region.old.inner }
     ensures rest { OnlyReads (R.sheet rows.old) (R.sheet rows.new) }
 {
     push_below(rows, left, first, &mut region.run);
@@ -151,6 +152,7 @@ pub fn fill_leaves<R: Rows>(rows: &mut R, region: &mut Region, first: u64, last:
     ensures run { spans_from (last_step region.old.left.items).min region.new.run.items ≡ edited (region_of (R.sheet rows.old).tree.table region.old.left.items region.old.right.items) first last entry }
     ensures left { region.new.left ≡ region.old.left }
     ensures right { region.new.right ≡ region.old.right }
+    ensures inner { region.new.inner ≡ region.old.inner }
     ensures rest { OnlyReads (R.sheet rows.old) (R.sheet rows.new) }
 {
     let Some(left) = region.left.last().copied() else {

@@ -4,18 +4,19 @@ ghost use Rattle.std.specs.Prelude.{◌≡◌, ◌<◌, ◌≤◌, ◌+◌, ◌+
 ghost use Rattle.mt_layout.specs.Sizes.{run_room};
 ghost use Rattle.mt_path.specs.Paths.{step_at};
 
-use mt_layout::{Item, Run};
+use mt_layout::{Item, RowKind, Run};
 use mt_leaf::Towards;
 use mt_path::{Path, PathStep};
 
-/// The paths to the first and to the last row of a level that are replaced, the items that are to stand in their place, and
-/// where among these the change stands.
+/// The paths to the first and to the last row of a level that are replaced, the items that are to stand in their place, where
+/// among these the change stands, and the kind of the tree's inner rows.
 #[derive(Drop)]
 pub struct Region {
     pub left: Path,
     pub right: Path,
     pub run: Run,
     pub towards: Towards,
+    pub inner: RowKind,
 }
 
 /// Appends items, for which there is room.

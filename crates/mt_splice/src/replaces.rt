@@ -3,6 +3,7 @@
 ghost use Rattle.std.specs.Prelude.{◌≡◌, ◌<◌, ◌≤◌, ◌+◌, ◌*◌, ℕ, length};
 ghost use Rattle.mt_base.specs.Width.{most_taken};
 ghost use Rattle.mt_rows.specs.declared.rows.Place.TheVariants.{Root};
+ghost use Rattle.mt_rows.specs.Spans.{inner_kind};
 ghost use Rattle.mt_splice.specs.steps.Replacing.{MayReplaceLevelRows, AreLevelRowsReplaced, MayBuryLevels, AreLevelsDone, MayReplaceLevel, MayEndEmpty, MayEndAtRoot, MayEndAbove, MayEndInSlot};
 ghost use Rattle.mt_splice.specs.Splice.{IsSpliced};
 
@@ -60,10 +61,12 @@ fn bury_above<R: Rows, B: Begun>(
     }
 }
 
-/// Ends a replacement of which nothing is left: all rows are buried, and the root word is 0. That takes no row.
+/// Ends a replacement of which nothing is left: all rows are buried, and the root word is 0. That takes no row. The tree's
+/// inner rows are of this kind.
 pub fn end_empty<R: Rows, B: Begun>(
     rows: &mut R,
     book: &mut RowBook,
+    kind: RowKind,
     inner: &NewRows,
     left: &Path,
     right: &Path,
@@ -72,14 +75,16 @@ pub fn end_empty<R: Rows, B: Begun>(
     call: &Call,
     reply: &Reply,
 ) -> Place
-    requires { MayEndEmpty B.before B.start (R.sheet rows.old) book.old inner.now.items left.now.items right.now.items depth number call.now reply.now }
+    requires kind { kind ≡ inner_kind B.start.tree.kind }
+    requires end { MayEndEmpty B.before B.start (R.sheet rows.old) book.old inner.now.items left.now.items right.now.items depth number call.now reply.now }
     ensures spliced { IsSpliced B.before.kind B.before.sheet (R.sheet rows.new) B.before.book book.new B.before.number call.now reply.now result }
     ensures root { result ≡ Root }
     ensures none_taken { book.new.free ≡ book.old.free }
 {
     bury_rows::<R, B>(rows, book, left, right, depth, number);
     bury_above::<R, B>(rows, book, inner, left, right, depth, number);
-    publish_at::<R, B>(rows, book, Place::Root, 0, inner.as_slice(), call, reply);
+    let new = inner.as_slice();
+    publish_at::<R, B>(rows, book, kind, Place::Root, 0, new, call, reply);
     Place::Root
 }
 
@@ -96,7 +101,8 @@ fn end_at_root<R: Rows, B: Begun>(
     call: &Call,
     reply: &Reply,
 ) -> Place
-    requires { MayEndAtRoot B.before B.start (R.sheet rows.old) book.old inner.old.items kind region.now.left.items region.now.right.items depth region.now.run.items ends.now number call.now reply.now }
+    requires inner { region.now.inner ≡ inner_kind B.start.tree.kind }
+    requires end { MayEndAtRoot B.before B.start (R.sheet rows.old) book.old inner.old.items kind region.now.left.items region.now.right.items depth region.now.run.items ends.now number call.now reply.now }
     ensures { IsSpliced B.before.kind B.before.sheet (R.sheet rows.new) B.before.book book.new B.before.number call.now reply.now result }
 {
     let new = replace_rows::<R, B>(rows, book, inner, region, ends, depth, kind, number);
@@ -112,6 +118,7 @@ fn end_at_root<R: Rows, B: Begun>(
     publish_at::<R, B>(
         rows,
         book,
+        region.inner,
         Place::Root,
         new[0].word,
         inner.as_slice(),
@@ -134,14 +141,16 @@ fn end_above<R: Rows, B: Begun>(
     call: &Call,
     reply: &Reply,
 ) -> Place
-    requires { MayEndAbove B.before B.start (R.sheet rows.old) book.old inner.old.items kind region.now.left.items region.now.right.items depth region.now.run.items ends.now number call.now reply.now }
+    requires inner { region.now.inner ≡ inner_kind B.start.tree.kind }
+    requires end { MayEndAbove B.before B.start (R.sheet rows.old) book.old inner.old.items kind region.now.left.items region.now.right.items depth region.now.run.items ends.now number call.now reply.now }
     ensures { IsSpliced B.before.kind B.before.sheet (R.sheet rows.new) B.before.book book.new B.before.number call.now reply.now result }
 {
     let new = replace_rows::<R, B>(rows, book, inner, region, ends, depth, kind, number);
-    let root = write_piece::<R, B>(rows, book, RowKind::Inner, new.as_slice(), inner);
+    let root = write_piece::<R, B>(rows, book, region.inner, new.as_slice(), inner);
     publish_at::<R, B>(
         rows,
         book,
+        region.inner,
         Place::Root,
         root.word,
         inner.as_slice(),
@@ -164,18 +173,20 @@ fn end_in_slot<R: Rows, B: Begun>(
     call: &Call,
     reply: &Reply,
 ) -> Place
-    requires { MayEndInSlot B.before B.start (R.sheet rows.old) book.old inner.old.items kind region.now.left.items region.now.right.items depth region.now.run.items ends.now number call.now reply.now }
+    requires inner { region.now.inner ≡ inner_kind B.start.tree.kind }
+    requires end { MayEndInSlot B.before B.start (R.sheet rows.old) book.old inner.old.items kind region.now.left.items region.now.right.items depth region.now.run.items ends.now number call.now reply.now }
     ensures { IsSpliced B.before.kind B.before.sheet (R.sheet rows.new) B.before.book book.new B.before.number call.now reply.now result }
 {
     let new = replace_rows::<R, B>(rows, book, inner, region, ends, depth, kind, number);
     let parent = step_on(&region.left, depth - 1);
     let place = Place::Slot {
         row: parent.row,
-        col: slots(rows.width(), RowKind::Inner) + parent.slot,
+        col: slots(rows.width(), region.inner) + parent.slot,
     };
     publish_at::<R, B>(
         rows,
         book,
+        region.inner,
         place,
         new[0].word,
         inner.as_slice(),
@@ -197,7 +208,8 @@ pub fn replace_level<R: Rows, B: Begun>(
     call: &Call,
     reply: &Reply,
 ) -> Place
-    requires { MayReplaceLevel B.before B.start (R.sheet rows.old) book.old inner.old.items kind region.old.left.items region.old.right.items depth region.old.run.items number call.now reply.now }
+    requires inner { region.old.inner ≡ inner_kind B.start.tree.kind }
+    requires level { MayReplaceLevel B.before B.start (R.sheet rows.old) book.old inner.old.items kind region.old.left.items region.old.right.items depth region.old.run.items number call.now reply.now }
     ensures { IsSpliced B.before.kind B.before.sheet (R.sheet rows.new) B.before.book book.new B.before.number call.now reply.now result }
 {
     take_in_beside::<R, B>(rows, region, depth, kind);
@@ -207,7 +219,18 @@ pub fn replace_level<R: Rows, B: Begun>(
     match next_of(width, region, depth, kind, ends.len()) {
         Next::Empty => {
             let (left, right) = (&region.left, &region.right);
-            end_empty::<R, B>(rows, book, inner, left, right, depth, number, call, reply)
+            end_empty::<R, B>(
+                rows,
+                book,
+                region.inner,
+                inner,
+                left,
+                right,
+                depth,
+                number,
+                call,
+                reply,
+            )
         }
         Next::Root => end_at_root::<R, B>(
             rows, book, inner, region, ends, depth, kind, number, call, reply,
@@ -227,7 +250,7 @@ pub fn replace_level<R: Rows, B: Begun>(
                 inner,
                 region,
                 depth - 1,
-                RowKind::Inner,
+                region.inner,
                 number,
                 call,
                 reply,

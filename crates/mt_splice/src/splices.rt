@@ -1,6 +1,7 @@
 //! The entries: stores that replace nodes.
 
 ghost use Rattle.std.specs.Prelude.{◌≡◌, []};
+ghost use Rattle.mt_rows.specs.Spans.{inner_kind};
 ghost use Rattle.mt_splice.specs.steps.Entries.{IsBegunBy};
 ghost use Rattle.mt_splice.specs.Splice.{MaySplice, MayReplace, IsSpliced};
 
@@ -15,20 +16,22 @@ use mt_free::RowBook;
 use mt_layout::{RowKind, Run};
 use mt_leaf::Towards;
 use mt_path::{Path, copy_of, walk_on};
-use mt_rows::{Place, Rows};
+use mt_rows::{Place, Rows, inner_kind};
 use std::marker::Brand;
 
-/// A region of these paths, in which no item stands yet.
-fn empty_region(left: Path, right: Path) -> Region
+/// A region of these paths, in which no item stands yet, in a tree with inner rows of this kind.
+fn empty_region(inner: RowKind, left: Path, right: Path) -> Region
     ensures left { result.left ≡ left }
     ensures right { result.right ≡ right }
     ensures run { result.run.items ≡ [] }
+    ensures inner { result.inner ≡ inner }
 {
     Region {
         left,
         right,
         run: Run::new(),
         towards: Towards::Middle,
+        inner,
     }
 }
 
@@ -44,10 +47,11 @@ fn splice_as<R: Rows, B: Begun>(
 ) -> Place
     requires begun { IsBegunBy B.before B.start kind (R.sheet rows.old) book.old number call.now }
     requires may { MaySplice kind (R.sheet rows.old) book.old region.old.left.items region.old.right.items region.old.run.items number call.now reply.now }
+    requires inner { region.old.inner ≡ inner_kind kind }
     ensures { IsSpliced B.before.kind B.before.sheet (R.sheet rows.new) B.before.book book.new B.before.number call.now reply.now result }
 {
     if region.left.is_empty() {
-        return begin_tree::<R, B>(rows, book, region.run.as_slice(), call, reply);
+        return begin_tree::<R, B>(rows, book, region.inner, region.run.as_slice(), call, reply);
     }
     let mut inner = NewRows::new();
     let depth = region.left.len() as u32 - 1;
@@ -75,7 +79,8 @@ fn splice_region<R: Rows>(
     call: &Call,
     reply: &Reply,
 ) -> Place
-    requires { MaySplice kind (R.sheet rows.old) book.old region.old.left.items region.old.right.items region.old.run.items number call.now reply.now }
+    requires may { MaySplice kind (R.sheet rows.old) book.old region.old.left.items region.old.right.items region.old.run.items number call.now reply.now }
+    requires inner { region.old.inner ≡ inner_kind kind }
     ensures { IsSpliced kind (R.sheet rows.old) (R.sheet rows.new) book.old book.new number call.now reply.now result }
 {
     splice_as::<R, Brand>(rows, book, kind, region, number, call, reply)
@@ -97,7 +102,7 @@ pub fn splice<R: Rows>(
     requires { MaySplice kind (R.sheet rows.old) book.old left.now.items right.now.items items.now.items number call.now reply.now }
     ensures { IsSpliced kind (R.sheet rows.old) (R.sheet rows.new) book.old book.new number call.now reply.now result }
 {
-    let mut region = empty_region(copy_of(left), copy_of(right));
+    let mut region = empty_region(inner_kind(kind), copy_of(left), copy_of(right));
     push_all(&mut region.run, items.as_slice());
     splice_region(rows, book, kind, &mut region, number, call, reply)
 }
@@ -121,7 +126,7 @@ pub fn replace_range<R: Rows>(
 {
     let mut right = copy_of(&left);
     walk_on(rows, &mut right, last);
-    let mut region = empty_region(left, right);
+    let mut region = empty_region(inner_kind(kind), left, right);
     fill_leaves(rows, &mut region, first, last, entry);
     splice_region(rows, book, kind, &mut region, number, call, reply)
 }

@@ -9,11 +9,9 @@ use Rattle.mt_rows.specs.Replacement.{root_of}
 use Rattle.mt_path.specs.declared.paths.PathStep.{PathStep}
 use Rattle.mt_path.specs.Paths.{path_in}
 use Rattle.mt_splice.specs.steps.Work.{Start, Work, IsUsed}
-use Rattle.mt_splice.specs.Kept.{MayBeReplaced}
 
 -- The map that is to be is that after the store; the paths lead to the store's ends; nothing was done yet.
 pub record Begins (start : Start) (s : Work) (left right : List PathStep) (first last entry : ℕ) : Type 0 where
-  pub range : MayBeReplaced start.tree.kind
   pub stands : Stands start.tree start.height
   pub map : start.map ≡ over (map_of start.tree.table start.height (root_of start.tree)) first last entry
   pub order : first ≤ last

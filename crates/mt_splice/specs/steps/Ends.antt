@@ -8,7 +8,6 @@ use Rattle.mt_base.specs.declared.replies.Reply.{Reply}
 use Rattle.mt_base.specs.Call.{acted}
 use Rattle.mt_base.specs.Width.{columns}
 use Rattle.mt_layout.specs.declared.names.RowKind.{RowKind}
-use Rattle.mt_layout.specs.declared.names.RowKind.TheVariants.{Inner}
 use Rattle.mt_layout.specs.declared.spans.Span.{Span}
 use Rattle.mt_layout.specs.Rows.{row_in, named_row, parent_at}
 use Rattle.mt_layout.specs.Columns.{slot_column}
@@ -99,26 +98,26 @@ pub record AreRowsTended (s s' : Sheet) (kind : RowKind) (new_inner_rows : List 
   pub children : (i : ℕ) (n : NewRow) (slot : ℕ) → slice_get new_inner_rows i ≡ Some n → slot < n.count → column s'.tree.table (child_row s.tree.table kind n.row slot) 0 ≡ parent_at n.row slot
   pub others : (r : ℕ) → ((i : ℕ) (n : NewRow) (slot : ℕ) → slice_get new_inner_rows i ≡ Some n → slot < n.count → child_row s.tree.table kind n.row slot ≢ r) → column s'.tree.table r 0 ≡ column s.tree.table r 0
 
--- the row that was published in a slot may be tended
-pub record MayTendTop (s : Sheet) (row col word : ℕ) : Type 0 where
+-- the row that was published in a slot of a row of this kind may be tended
+pub record MayTendTop (s : Sheet) (kind : RowKind) (row col word : ℕ) : Type 0 where
   pub named : named_row word ≡ Some (row_in word)
   pub at : IsPlace s.tree (row_in word) 0
   pub live : life_of s.lives (row_in word) ≡ Live
   pub kept : is_buried s.buried (row_in word) ≡ false
   pub other : row_in word ≢ row
-  pub slot : slots_of s.tree.table.width Inner ≤ col
+  pub slot : slots_of s.tree.table.width kind ≤ col
   pub within : col < columns s.tree.table.width
 
-abbrev pub MayTendTopAt : Sheet → Place → ℕ → Type 0
-MayTendTopAt s Root word = Unit {0}
-MayTendTopAt s (Slot row col) word = MayTendTop s row col word
+abbrev pub MayTendTopAt : Sheet → RowKind → Place → ℕ → Type 0
+MayTendTopAt s kind Root word = Unit {0}
+MayTendTopAt s kind (Slot row col) word = MayTendTop s kind row col word
 
 -- its parent word names the row and the slot, and nothing else has changed
-pub record IsTopTended (s s' : Sheet) (row col word : ℕ) : Type 0 where
+pub record IsTopTended (s s' : Sheet) (kind : RowKind) (row col word : ℕ) : Type 0 where
   pub only : OnlyParents s s'
-  pub here : column s'.tree.table (row_in word) 0 ≡ parent_at row (col - slots_of s.tree.table.width Inner)
+  pub here : column s'.tree.table (row_in word) 0 ≡ parent_at row (col - slots_of s.tree.table.width kind)
   pub others : (r : ℕ) → r ≢ row_in word → column s'.tree.table r 0 ≡ column s.tree.table r 0
 
-abbrev pub IsTopTendedAt : Sheet → Sheet → Place → ℕ → Type 0
-IsTopTendedAt s s' Root word = s' ≡ s
-IsTopTendedAt s s' (Slot row col) word = IsTopTended s s' row col word
+abbrev pub IsTopTendedAt : Sheet → Sheet → RowKind → Place → ℕ → Type 0
+IsTopTendedAt s s' kind Root word = s' ≡ s
+IsTopTendedAt s s' kind (Slot row col) word = IsTopTended s s' kind row col word

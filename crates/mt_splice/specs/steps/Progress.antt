@@ -14,7 +14,7 @@ use Rattle.mt_splice.specs.declared.writes.NewRow.{NewRow}
 use Rattle.mt_splice.specs.steps.Seen.{Seen, passing}
 use Rattle.mt_splice.specs.steps.Work.{Start, Work, with_words}
 use Rattle.mt_splice.specs.steps.Writes.{no_parent}
-use Rattle.mt_splice.specs.Kept.{MayBeReplaced, IsKept, IsUnpublished}
+use Rattle.mt_splice.specs.Kept.{IsKept, IsUnpublished}
 
 -- the rows and the book as they were, and the number of the call
 pub record Before : Type 0 where
@@ -31,7 +31,6 @@ pub record IsBefore (b : Before) (start : Start) : Type 0 where
 
 -- a call on them is in flight and has published nothing
 pub record IsCase (b : Before) (start : Start) : Type 0 where
-  pub range : MayBeReplaced b.kind
   pub told : IsTold b.sheet.kind b.kind
   pub unpublished : IsUnpublished b.sheet.in_flight b.sheet.published b.sheet.ended b.number
   pub was : IsBefore b start

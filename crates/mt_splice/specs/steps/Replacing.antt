@@ -6,11 +6,11 @@ use Rattle.mt_base.specs.declared.replies.Reply.{Reply}
 use Rattle.mt_base.specs.Call.{acted}
 use Rattle.mt_layout.specs.declared.items.Item.{Item}
 use Rattle.mt_layout.specs.declared.names.RowKind.{RowKind}
-use Rattle.mt_layout.specs.declared.names.RowKind.TheVariants.{Inner}
 use Rattle.mt_layout.specs.declared.spans.Span.{Span}
 use Rattle.mt_layout.specs.Spans.{spans_from}
 use Rattle.mt_free.specs.Book.{Book}
 use Rattle.mt_rows.specs.Levels.{times}
+use Rattle.mt_rows.specs.Spans.{inner_kind}
 use Rattle.mt_rows.specs.Laws.{kind_at, top_of}
 use Rattle.mt_rows.specs.Sheet.{Rooted, Sheet}
 use Rattle.mt_rows.specs.Publish.{map_by}
@@ -102,7 +102,7 @@ pub record MayGather (start : Start) (t : Rooted) (left right : List PathStep) (
 
 -- what is to stand in the rows of the next level is gathered
 pub record IsGathered (start : Start) (t : Rooted) (left right : List PathStep) (depth : ℕ) (new items : List Item) : Type 0 where
-  pub each : {w : Work} {height : ℕ} → MayGoUp start w t left right depth height new → MayTakeIn start w t Inner left right depth (suc height) items
+  pub each : {w : Work} {height : ℕ} → MayGoUp start w t left right depth height new → MayTakeIn start w t (inner_kind start.tree.kind) left right depth (suc height) items
 
 -- ---- the levels above
 

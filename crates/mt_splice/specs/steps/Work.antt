@@ -11,7 +11,6 @@ use Rattle.mt_rows.specs.Laws.{Tree, Stands}
 use Rattle.mt_rows.specs.Replacement.{root_of}
 use Rattle.mt_rows.specs.Sheet.{Rooted}
 use Rattle.mt_splice.specs.steps.Seen.{Seen, passing}
-use Rattle.mt_splice.specs.Kept.{MayBeReplaced}
 
 -- the tree as it was, its height, and the map that is to be
 pub record Start : Type 0 where
@@ -66,9 +65,8 @@ pub record Keeps (start : Start) (s s' : Work) : Type 0 where
   pub used : (row : ℕ) → s.used row ≡ true → s'.used row ≡ true
   pub words : (row : ℕ) → s.used row ≡ true → KeepsWords start.tree s.words s'.words row
 
--- The tree is one of ranges. Its rows are in use and have the words that they had, and the rows taken are others.
+-- The tree's rows are in use and have the words that they had, and the rows taken are others.
 pub record Holds (start : Start) (s : Work) : Type 0 where
-  pub range : MayBeReplaced start.tree.kind
   pub stands : Stands start.tree start.height
   pub used : Levels (IsUsed s) start.tree.table start.height (root_of start.tree)
   pub words : Levels (λ (_ : ℕ) (x : Span). KeepsWords start.tree start.tree.table.words s.words (row_in x.word)) start.tree.table start.height (root_of start.tree)

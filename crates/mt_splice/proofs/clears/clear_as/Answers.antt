@@ -14,7 +14,7 @@ walk_on-requires-clause-path g c = path_still c.requires.may c.walk-left.ensures
 pub overflow_sub-depth : goal.overflow_sub-depth
 overflow_sub-depth g c = let levels = left_levels c.requires.may c.walk-left.ensures.path in let same = c.len.ensures.value in omega arith
 
-pub end_empty-requires : goal.end_empty-requires
-end_empty-requires g c =
+pub end_empty-requires-clause-end : goal.end_empty-requires-clause-end
+end_empty-requires-clause-end g c =
     let deep : c.len.result - 1 + 1 ≡ length c.walk-left.result.items = (let levels = left_levels c.requires.may c.walk-left.ensures.path in let same = c.len.ensures.value in omega arith) in
     may_end_empty c.requires.begun c.requires.may (g.met.R.Rows.whole c.args.rows.now) c.walk-left.ensures.reads.rest c.walk_on.ensures.reads.rest c.walk-left.ensures.path c.width.ensures c.top-last.ensures c.walk_on.ensures.path deep c.new-inner.ensures

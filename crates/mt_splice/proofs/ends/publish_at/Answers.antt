@@ -2,13 +2,13 @@ use Rattle.mt_splice.proofs.EndWhole.{may_publish_end, may_tend_rows, may_tend_t
 use Rattle.mt_splice.proofs.ends.publish_at.Goals as goal
 
 pub publish-requires : goal.publish-requires
-publish-requires g c = (g.B.Begun.before.kind, may_publish_end c.requires)
+publish-requires g c = (g.B.Begun.before.kind, may_publish_end c.requires.end)
 
 pub tend_rows-requires : goal.tend_rows-requires
-tend_rows-requires g c = may_tend_rows c.requires c.publish.ensures
+tend_rows-requires g c = may_tend_rows c.requires.end c.requires.kind c.publish.ensures
 
 pub tend_top-requires : goal.tend_top-requires
-tend_top-requires g c = may_tend_top_now c.requires c.publish.ensures c.tend_rows.ensures
+tend_top-requires g c = may_tend_top_now c.requires.end c.requires.kind c.publish.ensures c.tend_rows.ensures
 
 pub returns : goal.returns
-returns g c = spliced_end c.requires c.publish.ensures c.tend_rows.ensures c.tend_top.ensures
+returns g c = spliced_end c.requires.end c.requires.kind c.publish.ensures c.tend_rows.ensures c.tend_top.ensures

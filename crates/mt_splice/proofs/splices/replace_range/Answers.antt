@@ -17,8 +17,8 @@ fill_leaves-requires-clause-ends g c =
     let right : c.empty_region-region.result.right.items ≡ c.walk_on.new.path.items = λ i. (c.empty_region-region.ensures.right i).items in
     ends_are c.requires c.walk_on.ensures.reads.rest left (right ∙ c.walk_on.ensures.path)
 
-pub splice_region-requires : goal.splice_region-requires
-splice_region-requires g c =
+pub splice_region-requires-clause-may : goal.splice_region-requires-clause-may
+splice_region-requires-clause-may g c =
     let left : c.empty_region-region.result.left.items ≡ c.args.left.items = λ i. (c.empty_region-region.ensures.left i).items in
     let right : c.empty_region-region.result.right.items ≡ c.walk_on.new.path.items = λ i. (c.empty_region-region.ensures.right i).items in
     let left_same : c.fill_leaves.new.region.left.items ≡ c.empty_region-region.result.left.items = λ i. (c.fill_leaves.ensures.left i).items in

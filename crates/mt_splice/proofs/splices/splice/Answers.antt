@@ -3,8 +3,8 @@ use Rattle.mt_layout.specs.declared.items.Item.{Item}
 use Rattle.mt_splice.proofs.SpliceBegins.{asked_so}
 use Rattle.mt_splice.proofs.splices.splice.Goals as goal
 
-pub splice_region-requires : goal.splice_region-requires
-splice_region-requires g c =
+pub splice_region-requires-clause-may : goal.splice_region-requires-clause-may
+splice_region-requires-clause-may g c =
     let left : c.empty_region-region.result.left.items ≡ c.copy_of.result.items = λ i. (c.empty_region-region.ensures.left i).items in
     let right : c.empty_region-region.result.right.items ≡ c.copy_of-2.result.items = λ i. (c.empty_region-region.ensures.right i).items in
     let items = c.push_all.ensures ∙ (ap (λ (l : List Item). l ++ c.as_slice.result.now) c.empty_region-region.ensures.run ∙ c.as_slice.ensures.value) in
