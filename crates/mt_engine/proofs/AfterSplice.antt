@@ -19,19 +19,19 @@ use Rattle.mt_rows.specs.Replacement.{root_of}
 use Rattle.mt_rows.specs.Sheet.{Rooted, Sheet, life_of}
 use Rattle.mt_rows.specs.Publish.{MayFinish, tree_as, is_reached, finished, with_record}
 use Rattle.mt_rows.proofs.Lists.{levels_map}
-use Rattle.mt_splice.specs.Kept.{MayBeReplaced, IsBookOf}
+use Rattle.mt_splice.specs.Kept.{IsBookOf}
 use Rattle.mt_splice.specs.Splice.{HasParents, IsSpliced}
-use Rattle.mt_engine.specs.Engine.{IsEngineState, IsIdle}
+use Rattle.mt_engine.specs.Engine.{IsOfRanges, IsEngineState, IsIdle}
 use Rattle.mt_engine.proofs.Levelled.{levelled}
 use Rattle.mt_engine.proofs.Moments.{tree_if_lawful}
 
 -- ---- a tree without gaps is lawful with its parents
 
-tended_by : (t : Tree) → MayBeReplaced t.kind → (h : ℕ) (x : Span) → ParentLaw t h x → IsTended t h x
+tended_by : (t : Tree) → IsOfRanges t.kind → (h : ℕ) (x : Span) → ParentLaw t h x → IsTended t h x
 tended_by t range zero x parent = record { parent = parent; gaps = tt }
 tended_by t range (suc h) x parent = record { parent = parent; gaps = rw range tt }
 
-lawful_by : (t : Tree) → MayBeReplaced t.kind → HasParents t → IsLawful t
+lawful_by : (t : Tree) → IsOfRanges t.kind → HasParents t → IsLawful t
 lawful_by t range (inl empty) = inl empty
 lawful_by t range (inr (h, stands, parent, levels)) = inr (h, stands, parent, levels_map (ParentLaw t) (IsTended t) t.table (tended_by t range) h (root_of t) levels)
 

@@ -113,7 +113,6 @@ clears kind s s' book book' in_call spliced none_taken =
 
 may_clear_in : (kind : Kind) (s : Sheet) (book : Book) → IsInCall kind s book → s.tree.root ≢ 0 → MayClear kind s book (s.ended + 1) Clear reply.Ok
 may_clear_in kind s book in_call some = record {
-  range = in_call.state.range;
   told = in_call.state.told;
   kept = in_call.state.kept;
   unpublished = record { in_flight = in_call.in_flight; before = in_call.before; numbered = refl };

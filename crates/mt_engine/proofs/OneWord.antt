@@ -43,9 +43,9 @@ use Rattle.mt_path.specs.Handles.{IsHandleOf}
 use Rattle.mt_path.specs.Paths.{slot_for, below, step_in}
 use Rattle.mt_path.proofs.Places.{at_get}
 use Rattle.mt_path.proofs.TreePaths.{row_of, place, holds}
-use Rattle.mt_splice.specs.Kept.{MayBeReplaced, IsBookOf, IsSpare}
+use Rattle.mt_splice.specs.Kept.{IsBookOf, IsSpare}
 use Rattle.mt_splice.specs.Splice.{IsStoreBy}
-use Rattle.mt_engine.specs.Engine.{IsInCall, IsIdle, IsAnswered, is_refusal}
+use Rattle.mt_engine.specs.Engine.{IsOfRanges, IsInCall, IsIdle, IsAnswered, is_refusal}
 use Rattle.mt_engine.proofs.Answering.{not_both}
 use Rattle.mt_engine.proofs.Slots.{end_is, slot_holds}
 use Rattle.mt_rows.proofs.FewSpans.{row_most}
@@ -60,7 +60,7 @@ parents_stay : (t t' : Table) (row slot : ℕ) (xs : List Span) → ((r : ℕ) �
 parents_stay t t' row slot [] same parents = tt
 parents_stay t t' row slot (x ∷ xs) same parents = (same (row_in x.word) ∙ parents.0, parents_stay t t' row (slot + 1) xs same parents.1)
 
-tended_stays : (t t' : laws.Tree) (n : ℕ) (x : Span) → MayBeReplaced t'.kind → ((r : ℕ) → column t'.table r 0 ≡ column t.table r 0) → spans_in t'.table x ≡ spans_in t.table x → laws.IsTended t n x → laws.IsTended t' n x
+tended_stays : (t t' : laws.Tree) (n : ℕ) (x : Span) → IsOfRanges t'.kind → ((r : ℕ) → column t'.table r 0 ≡ column t.table r 0) → spans_in t'.table x ≡ spans_in t.table x → laws.IsTended t n x → laws.IsTended t' n x
 tended_stays t t' zero x range same spans tended = record { parent = tt; gaps = tt }
 tended_stays t t' (suc n) x range same spans tended = record {
   parent = subst (laws.ParentsFrom t'.table (row_in x.word) 0) (sym spans) (parents_stay t.table t'.table (row_in x.word) 0 (spans_in t.table x) same tended.parent);
@@ -73,7 +73,7 @@ leaves_tended t (x ∷ xs) = (record { parent = tt; gaps = tt }, leaves_tended t
 
 -- ---- the store
 
-module _ (kind : Kind) (s : Sheet) (h index entry : ℕ) (range : MayBeReplaced kind) (whole : IsWhole s) (stands : laws.Stands (tree_as kind s.tree) h) (inside : index ≤ greatest s.tree.table.width) where
+module _ (kind : Kind) (s : Sheet) (h index entry : ℕ) (range : IsOfRanges kind) (whole : IsWhole s) (stands : laws.Stands (tree_as kind s.tree) h) (inside : index ≤ greatest s.tree.table.width) where
   abbrev pub t : laws.Tree
   t = tree_as kind s.tree
 

@@ -119,7 +119,6 @@ module _ (kind : Kind) (t : Rooted) (tree : IsTreeOf t kind) (call : Call) (path
 may_by : (kind : Kind) (s : Sheet) (answer : Scan) (cleared : ℕ) (book book' : Book) (path : List PathStep) (first last entry : ℕ) (call : Call) (reply : Reply) (here : Option Handle) → IsTreeOf s.tree kind → IsInCall kind s book
     → IsStorePlan kind s.tree call path first last entry reply here → IsDoneBy here first last entry NewRows → IsEngineState kind (scanned s answer cleared) book' → HasRoom s.tree book' → MayReplace kind (scanned s answer cleared) book' path first last entry (s.ended + 1) call reply
 may_by kind s answer cleared book book' path first last entry call reply here tree in_call plan by state room = record {
-  range = state.range;
   told = state.told;
   kept = state.kept;
   unpublished = record { in_flight = in_call.in_flight; before = in_call.before; numbered = refl };

@@ -5,7 +5,7 @@ use Rattle.std.specs.List.{AllByRecursion}
 use Rattle.std.specs.Option.{option_map}
 use Rattle.std.proofs.lemmas.Bool.{cases_Bool, cases_lt, and_left, and_right, and_parts, eqb-true, eqb-false, leb-true, lt-leb, le-leb}
 use Rattle.mt_base.specs.declared.calls.Call.{Call}
-use Rattle.mt_base.specs.declared.calls.Call.TheVariants.{Store, Insert, Erase, Clear}
+use Rattle.mt_base.specs.declared.calls.Call.TheVariants.{Store, Insert, Erase, Alloc, Ralloc, Gap, Rgap, Clear}
 use Rattle.mt_base.specs.declared.kinds.Kind.{Kind}
 use Rattle.mt_base.specs.declared.ranges.Range.{Range}
 use Rattle.mt_base.specs.declared.replies.Reply.{Reply}
@@ -27,6 +27,10 @@ pub wants_changes : (kind : Kind) (m : List Range) (call : Call) → Wants kind 
 wants_changes kind m (Store first last entry) wants = wants.0
 wants_changes kind m (Insert first last entry) wants = wants
 wants_changes kind m (Erase index) wants = wants
+wants_changes kind m (Alloc size lo hi entry) wants = wants
+wants_changes kind m (Ralloc size lo hi entry) wants = wants
+wants_changes kind m (Gap size lo hi) wants = absurd wants
+wants_changes kind m (Rgap size lo hi) wants = absurd wants
 wants_changes kind m Clear wants = absurd wants
 
 pub stays_wants_none : (kind : Kind) (m : List Range) (call : Call) (reply : Reply) → acted kind m call ≡ (m, reply) → Wants kind m call → ⊥
@@ -87,6 +91,10 @@ exact_wants_none kind m first last entry (Insert f l e) r held begins ends order
     let taken : is_held m f l ≡ true = (λ i. is_held m (own.0 i) (own.1 i)) ∙ held_around m first last first r (omega arith) order held in
     wants (elim (cases_Bool (is_invalid kind f l e || (e == 0))) [ inl bad ↦ rw bad refl | inr good ↦ rw (good, taken) refl ])
 exact_wants_none kind m first last entry (Erase index) r held begins ends order some own wants = some own
+exact_wants_none kind m first last entry (Alloc size lo hi e) r held begins ends order some own wants = own
+exact_wants_none kind m first last entry (Ralloc size lo hi e) r held begins ends order some own wants = own
+exact_wants_none kind m first last entry (Gap size lo hi) r held begins ends order some own wants = own
+exact_wants_none kind m first last entry (Rgap size lo hi) r held begins ends order some own wants = own
 exact_wants_none kind m first last entry Clear r held begins ends order some own wants = own
 
 -- ---- a store by new rows
@@ -155,6 +163,10 @@ wants_by : (kind : Kind) (m : List Range) (first last entry : ℕ) (call : Call)
 wants_by kind m first last entry (Store f l e) leaves other own = (leaves, (λ i. is_exact_store m (own.0 i) (own.1 i) (own.2 i)) ∙ other)
 wants_by kind m first last entry (Insert f l e) leaves other own = leaves
 wants_by kind m first last entry (Erase index) leaves other own = leaves
+wants_by kind m first last entry (Alloc size lo hi e) leaves other own = absurd own
+wants_by kind m first last entry (Ralloc size lo hi e) leaves other own = absurd own
+wants_by kind m first last entry (Gap size lo hi) leaves other own = absurd own
+wants_by kind m first last entry (Rgap size lo hi) leaves other own = absurd own
 wants_by kind m first last entry Clear leaves other own = absurd own
 
 pub store_wants_rows : (kind : Kind) (m : List Range) (top first last entry : ℕ) (call : Call) (reply : Reply) (x : Span) → IsMapFrom 0 m → IsStoreBy kind top m call reply first last entry → IsStoreOf call first last entry → IsSpanAt m top first x

@@ -3,6 +3,7 @@
 use Rattle.std.specs.Prelude.{◌≡◌, ◌⊎◌, ℕ, ◌+◌, ◌*◌, ◌≤◌, Bool, true, false, List, ◌++◌, All, Option, length}
 use Rattle.mt_base.specs.declared.calls.Call.{Call}
 use Rattle.mt_base.specs.declared.kinds.Kind.{Kind}
+use Rattle.mt_base.specs.declared.kinds.Kind.TheVariants as trees
 use Rattle.mt_base.specs.declared.replies.Reply.{Reply}
 use Rattle.mt_base.specs.declared.replies.Reply.TheVariants as answers
 use Rattle.mt_base.specs.declared.replies.Shortage.{Shortage}
@@ -15,7 +16,7 @@ use Rattle.mt_rows.specs.declared.rows.Life.TheVariants.{Dead}
 use Rattle.mt_rows.specs.Trees.{height_in}
 use Rattle.mt_rows.specs.Sheet.{Rooted, Sheet, life_of, limits_of, one_more}
 use Rattle.mt_rows.specs.Publish.{IsTold, MayFinish, IsCounted, WasScanned, finished, map_by, with_record}
-use Rattle.mt_splice.specs.Kept.{MayBeReplaced, IsKept}
+use Rattle.mt_splice.specs.Kept.{IsKept}
 
 -- what an engine stands for
 pub record Parts : Type 0 where
@@ -25,11 +26,15 @@ pub record Parts : Type 0 where
 
 -- ---- the state
 
+-- engines of ranges alone are made yet: gap words are not mended behind a store
+abbrev pub IsOfRanges : Kind → Type 0
+IsOfRanges kind = kind ≡ trees.Range
+
 -- What holds of the rows and the book whether or not a call is in flight: the tree is kept, its held rows died by the calls
 -- that the book tells, and no call has taken more rows than it may.
 pub record IsState (kind : Kind) (known : Option Kind) (t : Rooted) (lives : List Life) (buried : List Bool) (cleared ended opened : ℕ) (book : Book) : Type 0 where
   pub told : IsTold known kind
-  pub range : MayBeReplaced kind
+  pub range : IsOfRanges kind
   pub kept : IsKept kind t lives buried cleared book (ended + 1)
   pub held : All (λ (h : Held). life_of lives h.row ≡ Dead h.stamp) book.held
   pub grown : length book.held + live_count book ≤ opened + most_taken * ended
@@ -70,10 +75,12 @@ pub record TookRows (s s' : Sheet) (book book' : Book) : Type 0 where
 -- a reply that says that nothing was changed
 abbrev pub is_refusal : Reply → Bool
 is_refusal answers.Ok = false
+is_refusal (answers.Start start) = false
 is_refusal (answers.Was entry) = false
 is_refusal answers.None = true
 is_refusal answers.Exists = true
 is_refusal answers.Invalid = true
+is_refusal answers.Busy = true
 is_refusal (answers.NoNodes shortage) = true
 
 -- The call did what it says: the words stand for the map after it, and a refusal left every word. One that wants no rows made

@@ -2,7 +2,7 @@
 -- Source: the kernel's documentation of the maple tree; an erase is a store of no entry over the range.
 use Rattle.std.specs.Prelude.{◌≡◌, ◌≢◌, ◌||◌, ◌==◌, not, ℕ, Bool, false, List, Option, Some, None, nat_lt}
 use Rattle.mt_base.specs.declared.calls.Call.{Call}
-use Rattle.mt_base.specs.declared.calls.Call.TheVariants.{Store, Insert, Erase, Clear}
+use Rattle.mt_base.specs.declared.calls.Call.TheVariants.{Store, Insert, Erase, Alloc, Ralloc, Gap, Rgap, Clear}
 use Rattle.mt_base.specs.declared.kinds.Kind.{Kind}
 use Rattle.mt_base.specs.declared.replies.Reply.{Reply}
 use Rattle.mt_base.specs.Call.{acted}
@@ -23,6 +23,10 @@ abbrev pub IsStoreOf : Call → ℕ → ℕ → ℕ → Type 0
 IsStoreOf (Store f l e) first last entry = (f ≡ first) × (l ≡ last) × (e ≡ entry)
 IsStoreOf (Insert f l e) first last entry = (f ≡ first) × (l ≡ last) × (e ≡ entry)
 IsStoreOf (Erase index) first last entry = entry ≡ 0
+IsStoreOf (Alloc size min max e) first last entry = ⊥
+IsStoreOf (Ralloc size min max e) first last entry = ⊥
+IsStoreOf (Gap size min max) first last entry = ⊥
+IsStoreOf (Rgap size min max) first last entry = ⊥
 IsStoreOf Clear first last entry = ⊥
 
 -- The call is done by this store; the path leads to the store's first index, and this stands there.

@@ -6,6 +6,7 @@ ghost use Rattle.mt_base.specs.declared.calls.Call.TheVariants.{Store, Insert, E
 ghost use Rattle.mt_rows.specs.Publish.{IsTreeOf};
 ghost use Rattle.mt_rows.specs.Sheet.{OnlyReads};
 ghost use Rattle.mt_path.specs.declared.paths.PathStep.{PathStep};
+ghost use Rattle.mt_engine.specs.Engine.{IsOfRanges};
 ghost use Rattle.mt_engine.specs.Plans.{IsPlan, is_taken};
 
 use mt_base::{Call, Kind, Reply, is_invalid};
@@ -139,8 +140,10 @@ fn plan_clear<R: Rows>(rows: &mut R) -> Plan
     Plan::Empty
 }
 
-/// What a call comes to. Where that is a store, the path to its first index is left in `path`.
+/// What a call comes to. Where that is a store, the path to its first index is left in `path`. A tree of ranges finds no
+/// room.
 pub fn plan_of<R: Rows>(rows: &mut R, kind: Kind, call: &Call, path: &mut Path) -> Plan
+    requires range { IsOfRanges kind }
     requires tree { IsTreeOf (R.sheet rows.old).tree kind }
     requires empty { path.old.items ≡ [] }
     ensures plan { IsPlan kind (R.sheet rows.old).tree call.now path.new.items result }
@@ -150,6 +153,11 @@ pub fn plan_of<R: Rows>(rows: &mut R, kind: Kind, call: &Call, path: &mut Path) 
         Call::Store { first, last, entry } => plan_store(rows, kind, first, last, entry, path),
         Call::Insert { first, last, entry } => plan_insert(rows, kind, first, last, entry, path),
         Call::Erase { index } => plan_erase(rows, kind, index, path),
+        Call::Alloc { .. } | Call::Ralloc { .. } | Call::Gap { .. } | Call::Rgap { .. } => {
+            Plan::Nothing {
+                reply: Reply::Invalid,
+            }
+        }
         Call::Clear => plan_clear(rows),
     }
 }
