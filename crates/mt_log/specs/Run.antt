@@ -159,10 +159,12 @@ StandsIn trees s = (h : History) × (slice_get trees s.tree ≡ Some h) × IsTru
 abbrev pub holder_of : Reply → Option Holder
 holder_of (replies.NoNodes shortage) = shortage.by
 holder_of replies.Ok = None
+holder_of (replies.Start start) = None
 holder_of (replies.Was entry) = None
 holder_of replies.None = None
 holder_of replies.Exists = None
 holder_of replies.Invalid = None
+holder_of replies.Busy = None
 
 abbrev pub holder_in : Outcome → Option Holder
 holder_in (Called number call reply) = holder_of reply

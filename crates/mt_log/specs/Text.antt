@@ -17,10 +17,12 @@ use Rattle.mt_log.specs.declared.transcripts.Transcript.{Transcript}
 -- a reply: there is one version yet
 abbrev pub reply_text : ℕ → Reply → List ℕ
 reply_text version replies.Ok = codes "ok"
+reply_text version (replies.Start start) = codes "start " ++ decimal start
 reply_text version (replies.Was entry) = codes "was " ++ decimal entry
 reply_text version replies.None = codes "none"
 reply_text version replies.Exists = codes "exists"
 reply_text version replies.Invalid = codes "invalid"
+reply_text version replies.Busy = codes "busy"
 reply_text version (replies.NoNodes s) = codes "nomem " ++ (decimal s.need ++ (codes " " ++ (decimal s.free ++ (codes " " ++ (decimal s.live ++ (codes " " ++ decimal s.held))))))
 
 abbrev pub answer_text : Answer → List ℕ

@@ -38,10 +38,12 @@ impl fmt::Display for Printed {
     fn fmt<W: fmt::Write>(&self, f: &mut fmt::Formatter<W>) -> fmt::Result {
         match self.reply {
             Reply::Ok => write!(f, "ok"),
+            Reply::Start(start) => write!(f, "start {start}"),
             Reply::Was(entry) => write!(f, "was {entry}"),
             Reply::None => write!(f, "none"),
             Reply::Exists => write!(f, "exists"),
             Reply::Invalid => write!(f, "invalid"),
+            Reply::Busy => write!(f, "busy"),
             Reply::NoNodes(s) => write!(f, "nomem {} {} {} {}", s.need, s.free, s.live, s.held),
         }
     }

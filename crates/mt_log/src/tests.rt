@@ -248,6 +248,8 @@ fn a_transcript_is_printed_line_by_line(rt: HostRuntime) -> Result<(), Fail> {
         wrote(6, 4, Reply::Exists),
         wrote(7, 5, Reply::Invalid),
         wrote(8, 6, Reply::NoNodes(short)),
+        wrote(9, 7, Reply::Start(18446744073709551606)),
+        wrote(10, 8, Reply::Busy),
         got(50, 1, 2, Answer::None),
         got(51, 2, 2, Answer::Entry(18446744073709551615)),
         got(52, 0, 5, Answer::Range(high)),
@@ -275,6 +277,8 @@ fn a_transcript_is_printed_line_by_line(rt: HostRuntime) -> Result<(), Fail> {
 6 4 exists
 7 5 invalid
 8 6 nomem 7 6 4 20
+9 7 start 18446744073709551606
+10 8 busy
 50 1 2 none
 51 2 2 entry 18446744073709551615
 52 0 5 range 10 18446744073709551615 20
