@@ -1,4 +1,4 @@
-ghost use Rattle.std.specs.Prelude.{◌≡◌, ◌≤◌, ◌<◌, ℕ, List, length, IfOk};
+ghost use Rattle.std.specs.Prelude.{◌≡◌, ◌≤◌, ◌<◌, ⊤, ℕ, List, length, IfOk};
 ghost use Rattle.std.specs.declared.option.Option.{Option};
 ghost use Rattle.std.specs.Io.KnownBytes.{ReadConsumes, WriteAppends};
 ghost use Rattle.mt_io.specs.Faults.{HasCause, CountsLate};
@@ -56,8 +56,14 @@ pub trait Sink {
 /// Where a lane can be held between its steps.
 ///
 /// A lane calls `turn(lane, 2s)` before its step s and `turn(lane, 2s + 1)` after it, s counted from 0 in the phase.
+///
+/// Its meaning is `passed`, that a lane came through a turn. A gate need not say more of it; a function over any gate can
+/// show it only by taking the turn, and so can promise which turns it took.
 pub trait Gate {
-    fn turn(&self, lane: u32, number: u64);
+    ghost passed: { Self → ℕ → ℕ → Type 0 } = { λ _ _ _. ⊤ };
+
+    fn turn(&self, lane: u32, number: u64)
+        ensures { passed self.now lane number };
 }
 
 /// Holds nobody.

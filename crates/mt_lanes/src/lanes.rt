@@ -18,7 +18,7 @@ pub struct Lane<D> {
 #[tactic(auto, using(crate::proofs::Chains::chain_more))]
 fn run_lane<D: Desk, G: Gate>(lane: &mut Lane<D>, gate: &G)
     requires { CanRun D.count D.awaits lane.old }
-    ensures { Ran D.did lane.old lane.new }
+    ensures { Ran D.did (G.passed gate.now) lane.old lane.new }
 {
     for step in 0..lane.steps {
         gate.turn(lane.lane, 2 * step);
@@ -36,8 +36,8 @@ pub fn run_lanes<R: Threads + Sync, D: Desk + Send, G: Gate + Sync>(
     lanes: &mut [Lane<D>],
     gate: &G,
 )
-    requires { All (λ lane. CanRun D.count D.awaits lane) lanes.old }
-    ensures { EachPlace (λ before after. Ran D.did before after) lanes.old lanes.new }
+    requires { All (CanRun D.count D.awaits) lanes.old }
+    ensures { EachPlace (Ran D.did (G.passed gate.now)) lanes.old lanes.new }
 {
     let threads = lanes.len().max(1);
     thread::for_each_mut(rt, lanes, threads, &|_, lane| run_lane(lane, gate));

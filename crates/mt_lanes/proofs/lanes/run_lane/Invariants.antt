@@ -1,4 +1,4 @@
-use Rattle.std.proofs.Common.{◌≡◌, ◌<◌}
+use Rattle.std.proofs.Common.{◌≡◌, ◌<◌, ◌*◌, ℕ}
 use Rattle.mt_lanes.specs.Lanes.{Chain}
 use Rattle.mt_lanes.proofs.lanes.run_lane.Given as goal
 
@@ -9,3 +9,4 @@ invariant-loop-step g l =
     × (l.lane.steps ≡ l.initial.lane.steps)
     × (g.D.Desk.count l.lane.desk ≡ g.D.Desk.count l.initial.lane.desk)
     × (l.step < l.step-end → g.D.Desk.awaits l.lane.desk l.step)
+    × ((number : ℕ) → number < 2 * l.step → g.G.Gate.passed l.fn.gate l.initial.lane.lane number)
