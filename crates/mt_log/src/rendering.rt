@@ -1,26 +1,13 @@
-ghost use Rattle.std.specs.Prelude.{◌≡◌, ◌++◌, IfOk, OnOk, string_bytes};
+ghost use Rattle.std.specs.Prelude.{◌≡◌, ◌++◌, ◌∷◌, [], codes, IfOk, OnOk, string_bytes};
+ghost use Rattle.std.specs.Fmt.{decimal};
 ghost use Rattle.std.specs.List.{flat_map};
-ghost use Rattle.mt_log.specs.Text.{entry_text, range_line, listing_text, text_of};
+ghost use Rattle.mt_log.specs.Text.{answer_text, entry_text, range_line, listing_text, text_of};
 
 use crate::transcripts::{Answer, Entry, Listing, Said, Transcript};
+use itoa::Buffer;
 use mt_base::{Kind, NoMemory, Range, Reply};
 use std::alloc::{AllocError, Global};
 use std::fmt;
-
-impl fmt::Display for Answer {
-    ghost use Rattle.std.specs.Prelude.{Some};
-    ghost use Rattle.mt_log.specs.Text.{answer_text};
-
-    ghost output = { λ a. Some (answer_text a) };
-
-    fn fmt<W: fmt::Write>(&self, f: &mut fmt::Formatter<W>) -> fmt::Result {
-        match self {
-            Answer::None => write!(f, "none"),
-            Answer::Entry(entry) => write!(f, "entry {entry}"),
-            Answer::Range(range) => write!(f, "range {range}"),
-        }
-    }
-}
 
 /// A reply, as a log of this version has it printed. There is one version yet.
 #[derive(Clone, Copy)]
@@ -49,8 +36,60 @@ impl fmt::Display for Printed {
     }
 }
 
+/// Adds a number.
+fn push_number(text: &mut String, digits: &mut Buffer, number: u64) -> Result<(), AllocError>
+    ensures { OnOk result (string_bytes text.new ≡ string_bytes text.old ++ decimal number) }
+{
+    text.push_str(digits.format(number))
+}
+
+/// Adds a number and a space.
+fn push_field(text: &mut String, digits: &mut Buffer, number: u64) -> Result<(), AllocError>
+    ensures { OnOk result (string_bytes text.new ≡ string_bytes text.old ++ (decimal number ++ codes " ")) }
+{
+    push_number(text, digits, number)?;
+    text.push_str(" ")
+}
+
+/// Adds an answer.
+fn push_answer(text: &mut String, digits: &mut Buffer, value: Answer) -> Result<(), AllocError>
+    ensures { OnOk result (string_bytes text.new ≡ string_bytes text.old ++ answer_text value) }
+{
+    match value {
+        Answer::None => text.push_str("none"),
+        Answer::Entry(entry) => {
+            text.push_str("entry ")?;
+            push_number(text, digits, entry)
+        }
+        Answer::Range(range) => write!(text, "range {range}"),
+    }
+}
+
+/// Adds the line of a read. There are many in a log, so the text is put together without a format.
+fn push_got(
+    text: &mut String,
+    digits: &mut Buffer,
+    line: u64,
+    lo: u64,
+    hi: u64,
+    value: Answer,
+) -> Result<(), AllocError>
+    ensures { OnOk result (string_bytes text.new ≡ string_bytes text.old ++ (decimal line ++ (codes " " ++ (decimal lo ++ (codes " " ++ (decimal hi ++ (codes " " ++ (answer_text value ++ 10 ∷ [])))))))) }
+{
+    push_field(text, digits, line)?;
+    push_field(text, digits, lo)?;
+    push_field(text, digits, hi)?;
+    push_answer(text, digits, value)?;
+    text.push_str("\n")
+}
+
 /// Adds the line of an entry.
-fn push_entry(text: &mut String, version: u32, entry: &Entry) -> Result<(), AllocError>
+fn push_entry(
+    text: &mut String,
+    digits: &mut Buffer,
+    version: u32,
+    entry: &Entry,
+) -> Result<(), AllocError>
     ensures { OnOk result (string_bytes text.new ≡ string_bytes text.old ++ entry_text version entry.now) }
 {
     let line = entry.line;
@@ -59,7 +98,7 @@ fn push_entry(text: &mut String, version: u32, entry: &Entry) -> Result<(), Allo
             let reply = Printed { version, reply };
             writeln!(text, "{line} {call} {reply}")
         }
-        Said::Got { lo, hi, value } => writeln!(text, "{line} {lo} {hi} {value}"),
+        Said::Got { lo, hi, value } => push_got(text, digits, line, lo, hi, value),
     }
 }
 
@@ -92,8 +131,9 @@ fn push_listing(text: &mut String, listing: &Listing) -> Result<(), AllocError>
 fn push_entries(text: &mut String, version: u32, entries: &[Entry]) -> Result<(), AllocError>
     ensures { OnOk result (string_bytes text.new ≡ string_bytes text.old ++ flat_map (entry_text version) entries.now) }
 {
+    let mut digits = Buffer::new();
     for entry in entries {
-        push_entry(text, version, entry)?;
+        push_entry(text, &mut digits, version, entry)?;
     }
     Ok(())
 }

@@ -3,6 +3,7 @@ ghost use Rattle.std.specs.Io.KnownBytes.{IsAtEnd};
 ghost use Rattle.mt_base.specs.Width.{most_rows};
 ghost use Rattle.mt_io.specs.Faults.{Rose};
 ghost use Rattle.mt_log.specs.Reading.{log_of};
+ghost use Rattle.mt_log.specs.Run.{IsRun};
 ghost use Rattle.mt_log.specs.Trees.{IsReadable};
 ghost use Rattle.mt_rows.specs.Publish.{map_by};
 ghost use Rattle.mt_rows.specs.Sheet.{limits_of};
@@ -18,7 +19,7 @@ use mt_base::{Kind, MOST_ROWS, NoMemory};
 use mt_engine::Engine;
 use mt_free::RowBook;
 use mt_io::{Gate, Sink, Source};
-use mt_log::{Log, read_log, render};
+use mt_log::{Log, Transcript, read_log, render};
 use mt_rows::PlainRows;
 use std::alloc::Global;
 use std::sync::Wait;
@@ -58,14 +59,24 @@ fn empty_tree(alloc: Global) -> Result<Engine<PlainRows>, NoMemory>
     Ok(Engine::new(rows, book, Kind::Range))
 }
 
-/// The text of what the lines of a log were answered.
-fn answers(alloc: Global, log: &Log) -> Result<Vec<u8>, NoMemory>
-    requires readable { IsReadable log.now.lines }
-    requires count { length log.now.lines ≤ LONGEST }
-    ensures { IfOk result (λ text. TellsRun log.now text.items) }
+/// What the lines of a log were answered. Their memory is given back.
+fn played(alloc: Global, log: Log) -> Result<Transcript, NoMemory>
+    requires readable { IsReadable log.lines }
+    requires count { length log.lines ≤ LONGEST }
+    ensures { IfOk result (λ t. IsRun log most_rows t) }
 {
-    let transcript = play(alloc, log, empty_tree(alloc)?)?;
-    render(alloc, log.version, &transcript)
+    play(alloc, &log, empty_tree(alloc)?)
+}
+
+/// The text of what the lines of a log were answered.
+fn answers(alloc: Global, log: Log) -> Result<Vec<u8>, NoMemory>
+    requires readable { IsReadable log.lines }
+    requires count { length log.lines ≤ LONGEST }
+    ensures { IfOk result (λ text. TellsRun log text.items) }
+{
+    let version = log.version;
+    let transcript = played(alloc, log)?;
+    render(alloc, version, &transcript)
 }
 
 /// Reads a log, plays its lines and writes what they were answered.
@@ -78,7 +89,7 @@ fn replay<S: Source, O: Sink>(alloc: Global, src: &mut S, out: &mut O) -> Result
     ensures out_in_time { O.faults out.old ≡ 0 → O.late out.old ≡ 0 → O.late out.new ≡ 0 }
 {
     let log = read(alloc, src)?;
-    let text = answers(alloc, &log)?;
+    let text = answers(alloc, log)?;
     write_output(out, &text).map_err(|_| Failure::WriteFault)
 }
 
