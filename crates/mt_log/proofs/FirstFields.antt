@@ -3,13 +3,13 @@ use Rattle.std.proofs.lemmas.List.{take_at}
 use Rattle.mt_log.specs.declared.faults.Why.{Why}
 use Rattle.mt_log.specs.declared.faults.Why.TheVariants as why
 use Rattle.mt_log.specs.declared.keywords.Keyword.{Keyword}
-use Rattle.mt_log.specs.declared.keywords.Keyword.TheVariants.{Tree, Store, Insert, Erase, Clear, Load, Find, Next, Prev, Rfind}
+use Rattle.mt_log.specs.declared.keywords.Keyword.TheVariants.{Tree, Store, Insert, Erase, Clear, Load, Find, Next, Prev, Rfind, Scan}
 use Rattle.mt_log.specs.Fault.{◌>>=◌}
-use Rattle.mt_log.specs.Reading.{Read, item_of, item_by, keyword_of, tree_item, range_item, index_item, bound_item, whole_item}
+use Rattle.mt_log.specs.Reading.{Read, item_of, item_by, keyword_of, tree_item, range_item, index_item, bound_item, scan_item, whole_item}
 
 -- no word takes five fields or more
 too_many : (k : Keyword) (r : Read) (a b c d e : List ℕ) (more : List (List ℕ)) → item_by k r (a ∷ b ∷ c ∷ d ∷ e ∷ more) ≡ Err why.Fields
-unfolding item_by tree_item range_item index_item bound_item whole_item
+unfolding item_by tree_item range_item index_item bound_item scan_item whole_item
 too_many Tree r a b c d e more = refl
 too_many Store r a b c d e more = refl
 too_many Insert r a b c d e more = refl
@@ -20,6 +20,7 @@ too_many Find r a b c d e more = refl
 too_many Next r a b c d e more = refl
 too_many Prev r a b c d e more = refl
 too_many Rfind r a b c d e more = refl
+too_many Scan r a b c d e more = refl
 
 either_way : (word : Result Keyword Why) (r : Read) (a b c d e : List ℕ) (more others : List (List ℕ)) → (word >>= λ k. item_by k r (a ∷ b ∷ c ∷ d ∷ e ∷ more)) ≡ (word >>= λ k. item_by k r (a ∷ b ∷ c ∷ d ∷ e ∷ others))
 either_way (Ok k) r a b c d e more others = rw (too_many k r a b c d e more, too_many k r a b c d e others) refl

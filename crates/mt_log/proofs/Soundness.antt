@@ -6,7 +6,7 @@ use Rattle.std.proofs.lemmas.List.{append-nil, map-append, length-map}
 use Rattle.std.proofs.lemmas.List.Elements.{All-append, All-push}
 use Rattle.mt_base.specs.declared.kinds.Kind.TheVariants as kinds
 use Rattle.mt_log.specs.declared.lines.Item.{Item}
-use Rattle.mt_log.specs.declared.lines.Item.TheVariants.{Tree, Write, Ask}
+use Rattle.mt_log.specs.declared.lines.Item.TheVariants.{Tree, Write, Ask, Scan}
 use Rattle.mt_log.specs.declared.lines.Line.{Line}
 use Rattle.mt_log.specs.declared.trees.KnownTree.{KnownTree}
 use Rattle.mt_log.specs.Reader.{IsSound}
@@ -48,6 +48,7 @@ counted : (trees : List KnownTree) (item : Item) → length (known_after trees i
 counted trees (Tree name kind) = length-append trees (record { name = name; kind = kind } ∷ [])
 counted trees (Write tree call) = ap length (append-nil trees)
 counted trees (Ask tree query) = ap length (append-nil trees)
+counted trees (Scan tree index max count) = ap length (append-nil trees)
 
 counts : (lines : List Line) (trees : List Declared) (phase : ℕ) → length (trees_from trees phase lines) ≡ count_from (length trees) lines
 counts [] trees phase = refl
@@ -97,3 +98,4 @@ sound_more read (Tree name kind) h follows = with_line read (Tree name kind) h t
     (All-push IsForRanges [] (record { tree = record { name = name; kind = kind }; opening = opening_by (phase_from 0 read.lines) (Tree name kind) }) (λ k d h. absurd (omega arith)) follows.1)
 sound_more read (Write tree call) h follows = with_line read (Write tree call) h follows (omega (arith, known_long read h, h.readable.one_tree)) (λ k d h. absurd (omega arith))
 sound_more read (Ask tree query) h follows = with_line read (Ask tree query) h follows (omega (arith, known_long read h, h.readable.one_tree)) (λ k d h. absurd (omega arith))
+sound_more read (Scan tree index max count) h follows = with_line read (Scan tree index max count) h follows (omega (arith, known_long read h, h.readable.one_tree)) (λ k d h. absurd (omega arith))

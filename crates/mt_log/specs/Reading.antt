@@ -21,7 +21,7 @@ use Rattle.mt_log.specs.declared.faults.Why.TheVariants as why
 use Rattle.mt_log.specs.declared.keywords.Keyword.{Keyword}
 use Rattle.mt_log.specs.declared.keywords.Keyword.TheVariants as keyword
 use Rattle.mt_log.specs.declared.lines.Item.{Item}
-use Rattle.mt_log.specs.declared.lines.Item.TheVariants.{Tree, Write, Ask}
+use Rattle.mt_log.specs.declared.lines.Item.TheVariants.{Tree, Write, Ask, Scan}
 use Rattle.mt_log.specs.declared.lines.Line.{Line}
 use Rattle.mt_log.specs.declared.lines.Log.{Log}
 use Rattle.mt_log.specs.declared.trees.KnownTree.{KnownTree}
@@ -49,6 +49,14 @@ index_of kind field = number_of (greatest_of kind) field
 unfoldable pub entry_number_of : List ℕ → Result ℕ Why
 entry_number_of field = number_of (2 ^ 64 - 1) field
 
+-- the count of a scan: a number from 1 to 65,536
+abbrev pub as_count : Result ℕ Why → Result ℕ Why
+as_count (Ok n) = if nat_le 1 n && nat_le n 65536 then Ok n else Err why.Count
+as_count (Err other) = Err why.Count
+
+unfoldable pub count_of : List ℕ → Result ℕ Why
+count_of field = as_count (number_of (2 ^ 64 - 1) field)
+
 -- where the tree of this name stands, where these are declared
 abbrev pub place_of : List KnownTree → List ℕ → Option ℕ
 place_of trees name = position (λ tree. bytes_eq tree.name name) trees
@@ -74,11 +82,12 @@ kind_of field =
     else (if bytes_eq field (codes "alloc") then Err why.NotYet
     else Err why.BadKind)
 
--- what was read so far: the declared trees, whether a step of this phase stands there, the lines that say
--- something, and the number of the next line
+-- what was read so far: the declared trees, whether a step of this phase stands there, the sum of the counts of all
+-- scans, the lines that say something, and the number of the next line
 pub record Read : Type 0 where
   pub trees : List KnownTree
   pub stepped : Bool
+  pub scanned : ℕ
   pub lines : List Line
   pub next : ℕ
 
@@ -86,7 +95,7 @@ pub record Read : Type 0 where
 
 -- the words of what is not built yet
 abbrev pub unbuilt_words : List (List ℕ)
-unbuilt_words = codes "scan" ∷ codes "alloc" ∷ codes "ralloc" ∷ codes "gap" ∷ codes "rgap" ∷ codes "join" ∷ codes "dup" ∷ codes "check" ∷ codes "pstore" ∷ codes "lane" ∷ []
+unbuilt_words = codes "alloc" ∷ codes "ralloc" ∷ codes "gap" ∷ codes "rgap" ∷ codes "join" ∷ codes "dup" ∷ codes "check" ∷ codes "pstore" ∷ codes "lane" ∷ []
 
 unfoldable pub unbuilt_of : List ℕ → Result Keyword Why
 unbuilt_of word = if list_any (bytes_eq word) unbuilt_words then Err why.NotYet else Err why.Unknown
@@ -103,7 +112,8 @@ keyword_of word =
     else (if bytes_eq word (codes "next") then Ok keyword.Next
     else (if bytes_eq word (codes "prev") then Ok keyword.Prev
     else (if bytes_eq word (codes "rfind") then Ok keyword.Rfind
-    else unbuilt_of word)))))))))
+    else (if bytes_eq word (codes "scan") then Ok keyword.Scan
+    else unbuilt_of word))))))))))
 
 -- ---- the fields behind a line's word, tested one by one from the left, where their number is right
 
@@ -114,6 +124,13 @@ before_steps r = if r.stepped then Err why.Order else Ok tt
 -- a second tree is not built yet
 unfoldable pub room_for_tree : Read → Result (Unit {0}) Why
 room_for_tree r = if length r.trees == 0 then Ok tt else Err why.NotYet
+
+-- all scans of a log have so many steps at the most, by their counts
+abbrev pub most_scan_steps : ℕ
+most_scan_steps = 1000000
+
+unfoldable pub room_for_scan : Read → ℕ → Result (Unit {0}) Why
+room_for_scan r count = if nat_le (r.scanned + count) most_scan_steps then Ok tt else Err why.Scans
 
 -- T and a kind
 unfoldable pub tree_item : Read → List (List ℕ) → Result Item Why
@@ -152,6 +169,17 @@ bound_item query trees (name ∷ index ∷ bound ∷ []) = do
   Ok (Ask tree.number (query i b))
 bound_item query trees fields = Err why.Fields
 
+-- T I MAX N: an index, a bound up from it, and how many steps at the most
+unfoldable pub scan_item : Read → List (List ℕ) → Result Item Why
+scan_item r (name ∷ index ∷ max ∷ count ∷ []) = do
+  tree ← tree_of r.trees name
+  i ← index_of tree.kind index
+  m ← index_of tree.kind max
+  n ← count_of count
+  room ← room_for_scan r n
+  Ok (Scan tree.number i m n)
+scan_item r fields = Err why.Fields
+
 -- T: the whole tree
 unfoldable pub whole_item : (ℕ → Item) → List KnownTree → List (List ℕ) → Result Item Why
 whole_item item trees (name ∷ []) = do
@@ -170,6 +198,7 @@ item_by keyword.Find r fields = bound_item Find r.trees fields
 item_by keyword.Next r fields = bound_item Next r.trees fields
 item_by keyword.Prev r fields = bound_item Prev r.trees fields
 item_by keyword.Rfind r fields = bound_item Rfind r.trees fields
+item_by keyword.Scan r fields = scan_item r fields
 
 -- what the fields of a line say, behind what was read
 unfoldable pub item_of : Read → List (List ℕ) → Result Item Why
@@ -181,16 +210,24 @@ fields_of line = slice_split (λ b. b == 32) line
 
 -- behind the first line
 abbrev pub nothing_read : Read
-nothing_read = record { trees = []; stepped = false; lines = []; next = 2 }
+nothing_read = record { trees = []; stepped = false; scanned = 0; lines = []; next = 2 }
 
--- a call or a query is a step; a line that declares a tree is none
+-- a call, a query or a scan is a step; a line that declares a tree is none
 abbrev pub is_step : Item → Bool
 is_step (Tree name kind) = false
 is_step (Write tree call) = true
 is_step (Ask tree query) = true
+is_step (Scan tree index max count) = true
+
+-- how many steps it has by its count, where it is a scan
+abbrev pub scan_steps_of : Item → ℕ
+scan_steps_of (Tree name kind) = 0
+scan_steps_of (Write tree call) = 0
+scan_steps_of (Ask tree query) = 0
+scan_steps_of (Scan tree index max count) = count
 
 abbrev pub after_item : Read → Item → Read
-after_item r item = record { trees = known_after r.trees item; stepped = r.stepped || is_step item; lines = r.lines ++ record { number = r.next; item = item } ∷ []; next = r.next + 1 }
+after_item r item = record { trees = known_after r.trees item; stepped = r.stepped || is_step item; scanned = r.scanned + scan_steps_of item; lines = r.lines ++ record { number = r.next; item = item } ∷ []; next = r.next + 1 }
 
 -- a line that is empty or begins with `#` is skipped
 abbrev pub is_skipped : List ℕ → Bool
@@ -198,7 +235,7 @@ is_skipped [] = true
 is_skipped (b ∷ bytes) = b == 35
 
 abbrev pub after_skipped : Read → Read
-after_skipped r = record { trees = r.trees; stepped = r.stepped; lines = r.lines; next = r.next + 1 }
+after_skipped r = record r { next = r.next + 1 }
 
 abbrev pub after_line : Read → List ℕ → Result Read Fault
 after_line r line =

@@ -1,6 +1,6 @@
 -- When a transcript is a run of a log over trees of so many rows: its steps are those of the log, each tree has one legal
 -- history in which the tree's calls stand in the order of their numbers, and each read is true of that history.
-use Rattle.std.specs.Prelude.{◌≡◌, ◌≢◌, ◌⊎◌, ℕ, Bool, true, false, List, [], ◌∷◌, ◌++◌, Option, Some, None, IfSome, ◌+◌, ◌==◌, ◌<◌, ◌≤◌, ◌&&◌, nat_le, length, map, slice_get, All, AllPairs, IsPermutation, if◌then◌else◌}
+use Rattle.std.specs.Prelude.{◌≡◌, ◌≢◌, ◌⊎◌, ℕ, zero, suc, Bool, true, false, List, [], ◌∷◌, ◌++◌, Option, Some, None, IfSome, ◌+◌, ◌==◌, ◌<◌, ◌≤◌, ◌&&◌, nat_lt, nat_le, length, map, slice_get, All, AllPairs, IsPermutation, if◌then◌else◌}
 use Rattle.std.specs.List.{filter_map, enumerate_from, list_any}
 use Rattle.mt_base.specs.declared.ranges.Range.{Range}
 use Rattle.mt_base.specs.declared.calls.Call.{Call}
@@ -11,7 +11,7 @@ use Rattle.mt_base.specs.declared.replies.Reply.{Reply}
 use Rattle.mt_base.specs.declared.replies.Reply.TheVariants as replies
 use Rattle.mt_base.specs.History.{Record, History, IsLegal, IsTrueRead, last_map}
 use Rattle.mt_log.specs.declared.lines.Item.{Item}
-use Rattle.mt_log.specs.declared.lines.Item.TheVariants.{Tree, Write, Ask}
+use Rattle.mt_log.specs.declared.lines.Item.TheVariants.{Tree, Write, Ask, Scan}
 use Rattle.mt_log.specs.declared.lines.Line.{Line}
 use Rattle.mt_log.specs.declared.lines.Log.{Log}
 use Rattle.mt_log.specs.declared.transcripts.Answer.{Answer}
@@ -37,18 +37,21 @@ abbrev pub lane_after : ℕ → Item → ℕ
 lane_after lane (Tree name kind) = lane
 lane_after lane (Write tree call) = lane
 lane_after lane (Ask tree query) = lane
+lane_after lane (Scan tree index max count) = lane
 
 -- the lane that does what a line asks for: a step is done by the lane in which the log stands
 abbrev pub lane_of : ℕ → Item → ℕ
 lane_of lane (Tree name kind) = 0
 lane_of lane (Write tree call) = lane
 lane_of lane (Ask tree query) = lane
+lane_of lane (Scan tree index max count) = lane
 
 -- all lines are answered but those that declare an empty tree
 abbrev pub is_answered : Item → Bool
 is_answered (Tree name kind) = false
 is_answered (Write tree call) = true
 is_answered (Ask tree query) = true
+is_answered (Scan tree index max count) = true
 
 -- the lines that are answered, from here on, where the log stands in this lane and this phase
 abbrev pub asked_from : ℕ → ℕ → List Line → List Asked
@@ -77,11 +80,34 @@ pub record Step : Type 0 where
 abbrev pub step_of : Asked → ℕ → Outcome → Step
 step_of a tree outcome = record { line = a.line; lane = a.lane; phase = a.phase; tree = tree; outcome = outcome }
 
+-- where a scan begins, and where it goes on behind a range, if anywhere
+abbrev pub place_within : ℕ → ℕ → Option ℕ
+place_within index max = if nat_le index max then Some index else None
+
+abbrev pub place_behind : ℕ → Range → Option ℕ
+place_behind max r = if nat_lt r.last max then Some (r.last + 1) else None
+
+-- each step of a scan is a find from its place on; a find that begins nowhere is one that finds nothing
+abbrev pub find_at : Option ℕ → ℕ → Query
+find_at (Some index) max = Find index max
+find_at None max = Find 1 0
+
+-- behind a range the scan goes on, and else it ends
+abbrev pub GoesOn : (Option ℕ → List Step → Type 0) → ℕ → Option Range → List Step → Type 0
+GoesOn scans max None steps = steps ≡ []
+GoesOn scans max (Some r) steps = scans (place_behind max r) steps
+
+-- these steps are what came of a scan from this place on, so many at the most
+abbrev pub IsScan : Asked → ℕ → ℕ → ℕ → Option ℕ → List Step → Type 0
+IsScan a tree max zero at steps = steps ≡ []
+IsScan a tree max (suc count) at steps = (lo hi k : ℕ) × (value : Option Range) × (rest : List Step) × (steps ≡ step_of a tree (Looked lo hi k (find_at at max) value) ∷ rest) × GoesOn (IsScan a tree max count) max value rest
+
 -- these steps are what came of a line
 abbrev pub IsDone : Asked → Item → List Step → Type 0
 IsDone a (Tree name kind) steps = steps ≡ []
 IsDone a (Write tree call) steps = (number : ℕ) × (reply : Reply) × (steps ≡ step_of a tree (Called number call reply) ∷ [])
 IsDone a (Ask tree query) steps = (lo hi k : ℕ) × (value : Option Range) × (steps ≡ step_of a tree (Looked lo hi k query value) ∷ [])
+IsDone a (Scan tree index max count) steps = IsScan a tree max count (place_within index max) steps
 
 -- these are what came of the lines, in order
 abbrev pub AreDone : List Asked → List Step → Type 0

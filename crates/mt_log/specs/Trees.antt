@@ -3,7 +3,7 @@ use Rattle.std.specs.Prelude.{◌≡◌, ℕ, All, List, [], ◌∷◌, ◌++◌
 use Rattle.std.specs.Option.{option_map, option_to_list}
 use Rattle.mt_base.specs.declared.kinds.Kind.TheVariants as kinds
 use Rattle.mt_log.specs.declared.lines.Item.{Item}
-use Rattle.mt_log.specs.declared.lines.Item.TheVariants.{Tree, Write, Ask}
+use Rattle.mt_log.specs.declared.lines.Item.TheVariants.{Tree, Write, Ask, Scan}
 use Rattle.mt_log.specs.declared.lines.Line.{Line}
 use Rattle.mt_log.specs.declared.trees.KnownTree.{KnownTree}
 
@@ -12,12 +12,14 @@ abbrev pub phase_after : ℕ → Item → ℕ
 phase_after phase (Tree name kind) = phase
 phase_after phase (Write tree call) = phase
 phase_after phase (Ask tree query) = phase
+phase_after phase (Scan tree index max count) = phase
 
 -- the tree that a line declares, where these are known before it
 abbrev pub known_by : List KnownTree → Item → Option KnownTree
 known_by trees (Tree name kind) = Some (record { name = name; kind = kind })
 known_by trees (Write tree call) = None
 known_by trees (Ask tree query) = None
+known_by trees (Scan tree index max count) = None
 
 abbrev pub known_after : List KnownTree → Item → List KnownTree
 known_after trees item = trees ++ option_to_list (known_by trees item)
@@ -52,12 +54,14 @@ abbrev pub NamesBelow : ℕ → Item → Type 0
 NamesBelow count (Tree name kind) = Unit {0}
 NamesBelow count (Write tree call) = tree < count
 NamesBelow count (Ask tree query) = tree < count
+NamesBelow count (Scan tree index max steps) = tree < count
 
 -- how many trees are declared after a line, where so many were before it
 abbrev pub count_after : ℕ → Item → ℕ
 count_after count (Tree name kind) = count + 1
 count_after count (Write tree call) = count
 count_after count (Ask tree query) = count
+count_after count (Scan tree index max steps) = count
 
 -- each step names a tree that is declared at an earlier line, where so many were before these lines
 abbrev pub AreNamedFrom : ℕ → List Line → Type 0
@@ -69,6 +73,7 @@ abbrev pub MayFollow : ℕ → Item → Type 0
 MayFollow count (Tree name kind) = (count < 1) × (kind ≡ kinds.Range)
 MayFollow count (Write tree call) = tree < count
 MayFollow count (Ask tree query) = tree < count
+MayFollow count (Scan tree index max steps) = tree < count
 
 -- what every log keeps that can be read: its steps name declared trees, and it declares one tree at the most, for ranges
 pub record IsReadable (lines : List Line) : Type 0 where

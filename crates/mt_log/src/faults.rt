@@ -22,8 +22,12 @@ pub enum Why {
     BadKind,
     /// A field is no number.
     Number,
+    /// The count of a scan is no number, or is 0 or too large.
+    Count,
     /// The line stands behind a step of its phase, and has to stand before it.
     Order,
+    /// With this line the scans have too many steps.
+    Scans,
     /// The line is of the language, and of what is not built yet.
     NotYet,
 }
@@ -47,7 +51,9 @@ impl Why {
             Why::Twice => "tree declared twice",
             Why::BadKind => "bad kind",
             Why::Number => "bad number",
+            Why::Count => "bad count",
             Why::Order => "not between phases",
+            Why::Scans => "too many scan steps",
             Why::NotYet => "not yet",
         }
     }

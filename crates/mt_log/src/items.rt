@@ -4,14 +4,15 @@ ghost use Rattle.mt_base.specs.declared.calls.Call.{Call};
 ghost use Rattle.mt_base.specs.declared.calls.Query.{Query};
 ghost use Rattle.mt_log.specs.declared.lines.Item.{Item};
 ghost use Rattle.mt_log.specs.declared.lines.Item.TheVariants as items;
-ghost use Rattle.mt_log.specs.Reading.{tree_item, range_item, index_item, bound_item, whole_item, item_by, item_of};
+ghost use Rattle.mt_log.specs.Reading.{tree_item, range_item, index_item, bound_item, scan_item, whole_item, item_by, item_of};
+ghost use Rattle.mt_log.specs.Reader.{HasScanRoom};
 ghost use Rattle.mt_log.specs.Trees.{MayFollow};
 
 use crate::faults::Why;
 use crate::fields::{kind_of, new_name_of, tree_of};
 use crate::keywords::{Keyword, keyword_of, words};
 use crate::lines::Item;
-use crate::numbers::{entry_number_of, index_of};
+use crate::numbers::{count_of, entry_number_of, index_of};
 use crate::reader::Reader;
 use crate::trees::KnownTree;
 use mt_base::{Call, Query, Range};
@@ -20,6 +21,7 @@ use mt_base::{Call, Query, Range};
 fn declaration(reader: &Reader, name: &[u8], kind: &[u8]) -> Result<Item, Why>
     ensures item { result ≡ tree_item reader.now (name.now ∷ kind.now ∷ []) }
     ensures follows { IfOk result (MayFollow (length reader.now.trees)) }
+    ensures room { IfOk result (HasScanRoom reader.now) }
 {
     let name = new_name_of(reader.trees(), name)?;
     let kind = kind_of(kind)?;
@@ -33,6 +35,7 @@ fn declaration(reader: &Reader, name: &[u8], kind: &[u8]) -> Result<Item, Why>
 fn tree_item(reader: &Reader, fields: &[&[u8]]) -> Result<Item, Why>
     ensures item { result ≡ tree_item reader.now (map (λ f. f.now) fields.now) }
     ensures follows { IfOk result (MayFollow (length reader.now.trees)) }
+    ensures room { IfOk result (HasScanRoom reader.now) }
 {
     match fields {
         &[name, kind] => declaration(reader, name, kind),
@@ -126,6 +129,46 @@ fn tree_and_bound(trees: &[KnownTree], fields: &[&[u8]]) -> Result<(u32, u64, u6
     }
 }
 
+#[tactic(auto, unfolding(crate::specs::Reading::scan_item))]
+fn scan_in(
+    reader: &Reader,
+    name: &[u8],
+    index: &[u8],
+    max: &[u8],
+    count: &[u8],
+) -> Result<Item, Why>
+    requires { length reader.now.trees < 2 ^ 32 }
+    ensures item { result ≡ scan_item reader.now (name.now ∷ index.now ∷ max.now ∷ count.now ∷ []) }
+    ensures follows { IfOk result (MayFollow (length reader.now.trees)) }
+    ensures room { IfOk result (HasScanRoom reader.now) }
+{
+    let tree = tree_of(reader.trees(), name)?;
+    let index = index_of(index, tree.kind)?;
+    let max = index_of(max, tree.kind)?;
+    let count = count_of(count)?;
+    reader.room_for_scan(count)?;
+    Ok(Item::Scan {
+        tree: tree.number,
+        index,
+        max,
+        count,
+    })
+}
+
+/// A scan.
+#[tactic(auto, unfolding(crate::specs::Reading::scan_item))]
+fn scan_item(reader: &Reader, fields: &[&[u8]]) -> Result<Item, Why>
+    requires { length reader.now.trees < 2 ^ 32 }
+    ensures item { result ≡ scan_item reader.now (map (λ f. f.now) fields.now) }
+    ensures follows { IfOk result (MayFollow (length reader.now.trees)) }
+    ensures room { IfOk result (HasScanRoom reader.now) }
+{
+    match fields {
+        &[name, index, max, count] => scan_in(reader, name, index, max, count),
+        _ => Err(Why::Fields),
+    }
+}
+
 #[tactic(auto, unfolding(crate::specs::Reading::whole_item))]
 fn whole_in(trees: &[KnownTree], name: &[u8]) -> Result<u32, Why>
     requires { length trees.now < 2 ^ 32 }
@@ -179,6 +222,9 @@ macro_rules! said_as {
         let query = Query::$query { index, $bound };
         Ok(Item::Ask { tree, query })
     }};
+    (scan; $reader:ident, $trees:ident, $fields:ident) => {
+        scan_item($reader, $fields)
+    };
 }
 
 /// What a line says, by the row of its keyword in the table of words.
@@ -195,6 +241,7 @@ fn item_by(keyword: Keyword, reader: &Reader, fields: &[&[u8]]) -> Result<Item, 
     requires { length reader.now.trees < 2 ^ 32 }
     ensures item { result ≡ item_by keyword reader.now (map (λ f. f.now) fields.now) }
     ensures follows { IfOk result (MayFollow (length reader.now.trees)) }
+    ensures room { IfOk result (HasScanRoom reader.now) }
 {
     let trees = reader.trees();
     words!(item_in, keyword, reader, trees, fields)
@@ -206,6 +253,7 @@ pub fn item_of(reader: &Reader, fields: &[&[u8]]) -> Result<Item, Why>
     requires { length reader.now.trees < 2 ^ 32 }
     ensures item { result ≡ item_of reader.now (map (λ f. f.now) fields.now) }
     ensures follows { IfOk result (MayFollow (length reader.now.trees)) }
+    ensures room { IfOk result (HasScanRoom reader.now) }
 {
     let [word, fields @ ..] = fields else {
         return Err(Why::Unknown);

@@ -18,6 +18,7 @@ pub enum Keyword {
     Next,
     Prev,
     Rfind,
+    Scan,
 }
 
 /// The words of the language, each beside its keyword and what its line says: the form of its fields, and what is made of
@@ -34,7 +35,8 @@ macro_rules! words {
             "find" Find bound_query(Find max),
             "next" Next bound_query(Next max),
             "prev" Prev bound_query(Prev min),
-            "rfind" Rfind bound_query(Rfind min))
+            "rfind" Rfind bound_query(Rfind min),
+            "scan" Scan scan())
     };
 }
 
@@ -62,7 +64,7 @@ fn is_unbuilt(word: &[u8]) -> bool
     ensures { result ≡ list_any (bytes_eq word.now) unbuilt_words }
 {
     is_one_of!(
-        word, "scan", "alloc", "ralloc", "gap", "rgap", "join", "dup", "check", "pstore", "lane"
+        word, "alloc", "ralloc", "gap", "rgap", "join", "dup", "check", "pstore", "lane"
     )
 }
 

@@ -6,15 +6,30 @@ use std::marker::Model;
 /// What a line of a log says.
 #[derive(Clone, Copy)]
 pub enum Item {
-    Tree { name: Word, kind: Kind },
-    Write { tree: u32, call: Call },
-    Ask { tree: u32, query: Query },
+    Tree {
+        name: Word,
+        kind: Kind,
+    },
+    Write {
+        tree: u32,
+        call: Call,
+    },
+    Ask {
+        tree: u32,
+        query: Query,
+    },
+    Scan {
+        tree: u32,
+        index: u64,
+        max: u64,
+        count: u32,
+    },
 }
 
 impl Item {
     ghost use Rattle.std.specs.Prelude.{◌≡◌, List};
     ghost use Rattle.mt_log.specs.declared.trees.KnownTree.{KnownTree};
-    ghost use Rattle.mt_log.specs.Reading.{is_step};
+    ghost use Rattle.mt_log.specs.Reading.{is_step, scan_steps_of};
     ghost use Rattle.mt_log.specs.Trees.{known_by};
 
     /// The tree that it declares, whichever trees are known.
@@ -26,17 +41,27 @@ impl Item {
                 name: *name,
                 kind: *kind,
             }),
-            Item::Write { .. } | Item::Ask { .. } => None,
+            Item::Write { .. } | Item::Ask { .. } | Item::Scan { .. } => None,
         }
     }
 
-    /// Whether it is a call or a query.
+    /// Whether it is a call, a query or a scan.
     pub fn is_step(&self) -> bool
         ensures { result ≡ is_step self.now }
     {
         match self {
             Item::Tree { .. } => false,
-            Item::Write { .. } | Item::Ask { .. } => true,
+            Item::Write { .. } | Item::Ask { .. } | Item::Scan { .. } => true,
+        }
+    }
+
+    /// How many steps it has by its count, where it is a scan.
+    pub fn scan_steps(&self) -> u32
+        ensures { result ≡ scan_steps_of self.now }
+    {
+        match self {
+            Item::Scan { count, .. } => *count,
+            Item::Tree { .. } | Item::Write { .. } | Item::Ask { .. } => 0,
         }
     }
 }

@@ -1,10 +1,13 @@
 ghost use Rattle.std.specs.Prelude.{◌≡◌, ◌<◌, ◌≤◌, ◌+◌, ◌*◌, ◌^◌, SomeIff};
 ghost use Rattle.std.specs.Char.{digit_value};
 ghost use Rattle.std.specs.Str.Parse.{AllDigits, digits_value};
-ghost use Rattle.mt_log.specs.Reading.{decimal_of, hexadecimal_of, number_of, index_of, entry_number_of};
+ghost use Rattle.mt_log.specs.Reading.{decimal_of, hexadecimal_of, number_of, index_of, entry_number_of, count_of};
 
 use crate::faults::Why;
 use mt_base::{Kind, top, width_of};
+
+/// The most steps of one scan.
+const LONGEST_SCAN: u64 = 65_536;
 
 /// The value of digits and one more, if this byte is a digit in the radix and the value is below 2^64.
 fn with_digit(value: u64, radix: u32, byte: u8) -> Option<u64>
@@ -82,4 +85,15 @@ pub fn entry_number_of(field: &[u8]) -> Result<u64, Why>
     ensures { result ≡ entry_number_of field.now }
 {
     number_of(field, u64::MAX)
+}
+
+/// The count of a scan that a field writes.
+#[tactic(auto, unfolding(crate::specs::Reading::count_of))]
+pub fn count_of(field: &[u8]) -> Result<u32, Why>
+    ensures { result ≡ count_of field.now }
+{
+    match number_of(field, u64::MAX) {
+        Ok(count @ 1..=LONGEST_SCAN) => Ok(count as u32),
+        Ok(_) | Err(_) => Err(Why::Count),
+    }
 }

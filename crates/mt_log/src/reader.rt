@@ -4,11 +4,15 @@ use crate::trees::KnownTree;
 use std::alloc::{AllocError, Global};
 use std::marker::Model;
 
+/// The most steps that all scans of a log have, by their counts.
+const MOST_SCAN_STEPS: u64 = 1_000_000;
+
 /// What was read so far.
 #[derive(Drop)]
 pub struct Reader {
     trees: Vec<KnownTree>,
     stepped: bool,
+    scanned: u64,
     lines: Vec<Line>,
     next: u64,
 }
@@ -18,12 +22,13 @@ impl Model for Reader {
 
     ghost Value = { Read };
 
-    ghost view = { λ r. record { trees = r.trees.items; stepped = r.stepped; lines = r.lines.items; next = r.next } };
+    ghost view = { λ r. record { trees = r.trees.items; stepped = r.stepped; scanned = r.scanned; lines = r.lines.items; next = r.next } };
 }
 
 impl Reader {
-    ghost use Rattle.std.specs.Prelude.{◌≡◌, ◌<◌, ◌-◌, ◌^◌, OnOk, IfOk, length};
-    ghost use Rattle.mt_log.specs.Reading.{nothing_read, after_item, after_skipped, before_steps, room_for_tree};
+    ghost use Rattle.std.specs.Prelude.{◌≡◌, ◌<◌, ◌≤◌, ◌+◌, ◌-◌, ◌^◌, OnOk, IfOk, length};
+    ghost use Rattle.mt_log.specs.Reading.{nothing_read, after_item, after_skipped, before_steps, room_for_tree, room_for_scan, most_scan_steps};
+    ghost use Rattle.mt_log.specs.Reader.{HasScanRoom};
     ghost use Rattle.mt_log.specs.Trees.{known_by};
 
     /// A reader behind the first line, with room for so many lines that say something.
@@ -33,6 +38,7 @@ impl Reader {
         Ok(Reader {
             trees: Vec::new(alloc),
             stepped: false,
+            scanned: 0,
             lines: Vec::with_capacity(alloc, room)?,
             next: 2,
         })
@@ -81,6 +87,18 @@ impl Reader {
         Ok(())
     }
 
+    /// Whether a scan of so many steps may be asked for.
+    #[tactic(auto, unfolding(crate::specs::Reading::room_for_scan))]
+    pub fn room_for_scan(&self, count: u32) -> Result<(), Why>
+        ensures room { result ≡ room_for_scan self.now count }
+        ensures within { OnOk result (self.now.scanned + count ≤ most_scan_steps) }
+    {
+        if self.scanned.saturating_add(u64::from(count)) > MOST_SCAN_STEPS {
+            return Err(Why::Scans);
+        }
+        Ok(())
+    }
+
     /// The tree that a line declares.
     fn declared_by(&self, item: &Item) -> Option<KnownTree>
         ensures { result ≡ known_by self.now.trees item.now }
@@ -91,6 +109,7 @@ impl Reader {
     /// Goes past a line that says this.
     pub fn add(&mut self, item: Item) -> Result<(), AllocError>
         requires next { self.old.next < 2 ^ 64 - 1 }
+        requires room { HasScanRoom self.old item }
         ensures { OnOk result (self.new ≡ after_item self.old item) }
     {
         if let Some(tree) = self.declared_by(&item) {
@@ -101,6 +120,7 @@ impl Reader {
             item,
         })?;
         self.stepped = self.stepped || item.is_step();
+        self.scanned += u64::from(item.scan_steps());
         self.next += 1;
         Ok(())
     }

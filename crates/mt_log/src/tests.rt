@@ -11,6 +11,17 @@ fn push_meaning(text: &mut String, line: &Line) -> Result<(), AllocError> {
         Item::Tree { name, kind } => writeln!(text, "{number}: declares {name} for {kind}"),
         Item::Write { tree, call } => writeln!(text, "{number}: tree {tree}, {call:?}"),
         Item::Ask { tree, query } => writeln!(text, "{number}: tree {tree}, {query:?}"),
+        Item::Scan {
+            tree,
+            index,
+            max,
+            count,
+        } => {
+            writeln!(
+                text,
+                "{number}: tree {tree}, {count} steps from {index} to {max}"
+            )
+        }
     }
 }
 
@@ -49,6 +60,7 @@ find abcdefghijklm_16 1 2
 next abcdefghijklm_16 3 4
 prev abcdefghijklm_16 6 5
 rfind abcdefghijklm_16 8 7
+scan abcdefghijklm_16 5 0x9 6
 ";
     let want = "4: declares abcdefghijklm_16 for range
 5: tree 0, Store { first: 10, last: 19, entry: 5 }
@@ -60,6 +72,7 @@ rfind abcdefghijklm_16 8 7
 12: tree 0, Next { index: 3, max: 4 }
 13: tree 0, Prev { index: 6, min: 5 }
 14: tree 0, Rfind { index: 8, min: 7 }
+15: tree 0, 6 steps from 5 to 9
 ";
     expect(&rt, rt.alloc(), log, want)?;
     Ok(())
@@ -102,6 +115,11 @@ fn each_test_of_a_line_refuses_it(rt: HostRuntime) -> Result<(), Fail> {
             "mtlog 1\ntree a range\nload a 1\ntree b range\n",
             "4 not between phases",
         ),
+        (
+            "mtlog 1\ntree a range\nscan a 0 9 1\ntree b range\n",
+            "4 not between phases",
+        ),
+        ("mtlog 1\ntree a range\nscan a 0 9 0\n", "3 bad count"),
         ("mtlog 1\ntree a range\ntree b range\n", "3 not yet"),
         ("mtlog 1\ntree a alloc\n", "2 not yet"),
     ];
@@ -134,7 +152,12 @@ fn a_line_is_refused_by_its_first_failed_test(rt: HostRuntime) -> Result<(), Fai
         ("tree b heap", "5 bad kind"),
         ("tree b alloc", "5 not yet"),
         ("tree b range", "5 not between phases"),
-        ("scan", "5 not yet"),
+        ("scan", "5 wrong number of fields"),
+        ("scan A x x 0", "5 bad name"),
+        ("scan b x x 0", "5 unknown tree"),
+        ("scan a x 9 0", "5 bad number"),
+        ("scan a 1 x 0", "5 bad number"),
+        ("scan a 1 9 0", "5 bad count"),
         ("alloc a 1 2 3 4 5 6 7 8 9", "5 not yet"),
         ("ralloc A", "5 not yet"),
         ("gap ", "5 not yet"),
@@ -207,6 +230,61 @@ fn numbers_are_read_up_to_the_greatest(rt: HostRuntime) -> Result<(), Fail> {
     for (number, want) in cases {
         let line = format!(in rt.alloc(); "load a {number}")?;
         assert_eq!(rt; loaded_index(rt.alloc(), &line)?, want, "at {number}");
+    }
+    Ok(())
+}
+
+#[test]
+fn a_scan_has_from_1_to_65536_steps(rt: HostRuntime) -> Result<(), Fail> {
+    let cases = [
+        ("1", Some(1)),
+        ("65536", Some(65536)),
+        ("0x10000", Some(65536)),
+        ("00000000000000000007", Some(7)),
+        ("0", None),
+        ("65537", None),
+        ("4294967297", None),
+        ("max", None),
+        ("x", None),
+        ("000000000000000000007", None),
+        ("", None),
+    ];
+    for (count, steps) in cases {
+        let log = format!(in rt.alloc(); "mtlog 1\ntree a range\nscan a 0 max {count}\n")?;
+        let want = match steps {
+            Some(steps) => format!(in rt.alloc();
+                "2: declares a for range\n3: tree 0, {steps} steps from 0 to 18446744073709551615\n"
+            )?,
+            None => format!(in rt.alloc(); "3 bad count")?,
+        };
+        expect(&rt, rt.alloc(), &log, &want)?;
+    }
+    Ok(())
+}
+
+#[test]
+fn all_scans_have_a_million_steps_at_the_most(rt: HostRuntime) -> Result<(), Fail> {
+    // A good line leaves the last line, which lacks its end, as the first bad one.
+    let cases = [
+        (16, 62500, "load a 1", "20 no newline"),
+        (16, 62500, "scan a 0 9 1", "19 too many scan steps"),
+        (16, 62500, "scan a 0 9 65536", "19 too many scan steps"),
+        (16, 62500, "scan a 0 9 65537", "19 bad count"),
+        (16, 62500, "scan a 0 9 0", "19 bad count"),
+        (16, 62500, "scan a x 9 1", "19 bad number"),
+        (16, 62500, "scan b 0 9 1", "19 unknown tree"),
+        (16, 62500, "scan a 0 9", "19 wrong number of fields"),
+        (15, 65536, "scan a 0 max 16960", "19 no newline"),
+        (15, 65536, "scan a 0 max 16961", "18 too many scan steps"),
+        (15, 65536, "scan a 0 max 65536", "18 too many scan steps"),
+    ];
+    for (scans, count, line, want) in cases {
+        let mut log = String::from_str(rt.alloc(), "mtlog 1\ntree a range\n")?;
+        for _scan in 0..scans {
+            writeln!(log, "scan a 0 9 {count}")?;
+        }
+        write!(log, "{line}\nload a 2")?;
+        expect(&rt, rt.alloc(), &log, want)?;
     }
     Ok(())
 }
