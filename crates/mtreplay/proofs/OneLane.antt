@@ -1,5 +1,5 @@
 -- What one lane plays, line after line over one tree, is what came of the lines.
-use Rattle.std.proofs.Common.{◌≡◌, ℕ, suc, ◌+◌, ◌<◌, ◌≤◌, List, [], ◌∷◌, ◌++◌, Option, Some, None, length, map, fold, take, get_or, arith, ap, sym, ◌∙◌, refl, subst, append_assoc, length-append}
+use Rattle.std.proofs.Common.{◌≡◌, ℕ, zero, suc, ◌+◌, ◌<◌, ◌≤◌, List, [], ◌∷◌, ◌++◌, Option, Some, None, length, map, fold, take, get_or, arith, ap, sym, ◌∙◌, refl, subst, append_assoc, length-append}
 use Rattle.std.specs.List.{filter_map, enumerate_from}
 use Rattle.std.proofs.lemmas.List.{take-append-le, take_all, append-nil, map-append}
 use Rattle.std.proofs.lemmas.List.Elements.{filter_map-append, All-push}
@@ -15,12 +15,12 @@ use Rattle.mt_base.specs.Call.{answer}
 use Rattle.mt_base.specs.History.{Record, AreLegalFrom, IsAnswered, limits_after, map_after, last_map}
 use Rattle.mt_base.specs.Nodes.{Limits, IsMade}
 use Rattle.mt_log.specs.declared.lines.Item.{Item}
-use Rattle.mt_log.specs.declared.lines.Item.TheVariants.{Tree, Write, Ask}
+use Rattle.mt_log.specs.declared.lines.Item.TheVariants.{Tree, Write, Ask, Scan}
 use Rattle.mt_log.specs.declared.lines.Line.{Line}
 use Rattle.mt_log.specs.declared.transcripts.Entry.{Entry}
 use Rattle.mt_log.specs.Trees.{NamesBelow}
-use Rattle.mt_log.specs.Run.{Asked, Step, Outcome, Called, Looked, Follows, InOrder, IsTrueOf, AreDone, asked_from, steps_of, entry_of, holder_in, numbered_on}
-use Rattle.mtreplay.specs.Playing.{PlayerState, Calls, Asks, Does, AreLimits, HasRows, IsFresh, IsPlayed, IsPlayedBy, TellsUpTo, history_of}
+use Rattle.mt_log.specs.Run.{Asked, Step, Outcome, Called, Looked, Follows, InOrder, IsTrueOf, GoesOn, IsScan, AreDone, asked_from, steps_of, entry_of, find_at, holder_in, numbered_on, place_behind, place_within}
+use Rattle.mtreplay.specs.Playing.{PlayerState, Calls, Asks, Does, Scans, AreLimits, HasRows, IsFresh, IsPlayed, IsPlayedBy, TellsUpTo, entries_behind, history_of, read_entry, scan_entries}
 use Rattle.mtreplay.proofs.Answered.{IsInHistory, limits_more, made_is_in_history, record_made}
 
 -- ---- the steps that a line asks for
@@ -31,6 +31,7 @@ asked_behind : (number : ℕ) (item : Item) (lines more : List Line) (lane phase
 asked_behind number (Tree name kind) lines more lane phase behind = behind
 asked_behind number (Write tree call) lines more lane phase behind = ap (λ z. record { line = number; lane = lane; phase = phase; item = Write tree call } ∷ z) behind
 asked_behind number (Ask tree query) lines more lane phase behind = ap (λ z. record { line = number; lane = lane; phase = phase; item = Ask tree query } ∷ z) behind
+asked_behind number (Scan tree index max count) lines more lane phase behind = ap (λ z. record { line = number; lane = lane; phase = phase; item = Scan tree index max count } ∷ z) behind
 
 asked_more : (lines more : List Line) (lane phase : ℕ) → asked_from lane phase (lines ++ more) ≡ asked_from lane phase lines ++ asked_from lane phase more
 asked_more [] more lane phase = refl
@@ -50,7 +51,10 @@ done_behind (a ∷ asked) others steps more done rest = (
 done_more : (lines : List Line) (line : Line) (steps more : List Step) → AreDone (steps_of lines) steps → AreDone (steps_of (line ∷ [])) more → AreDone (steps_of (lines ++ line ∷ [])) (steps ++ more)
 done_more lines line steps more done rest = rw (asked_more lines (line ∷ []) 0 0) (done_behind (steps_of lines) (steps_of (line ∷ [])) steps more done rest)
 
--- a step of lane 0, in phase 0
+-- a line of lane 0, in phase 0, and a step of it
+abbrev asked_so : ℕ → Item → Asked
+asked_so number item = record { line = number; lane = 0; phase = 0; item = item }
+
 abbrev step_done : ℕ → ℕ → Outcome → Step
 step_done line tree outcome = record { line = line; lane = 0; phase = 0; tree = tree; outcome = outcome }
 
@@ -125,42 +129,24 @@ once_looked steps records line tree lo hi k query value only once =
 last_more : (rows : ℕ) (records : List Record) (r : Record) → last_map (history_of rows (records ++ r ∷ [])) ≡ map_after kinds.Range (last_map (history_of rows records)) r
 last_more rows records r = fold-append (map_after kinds.Range) [] records (r ∷ [])
 
--- ---- one more line
-
-tree_played : (count rows : ℕ) (old new : PlayerState) (lines : List Line) (line : Line) (steps : List Step) (records : List Record) → new ≡ old → AreDone (steps_of (line ∷ [])) [] → IsPlayedBy count rows old lines steps records
-    → IsPlayedBy count rows new (lines ++ line ∷ []) steps records
-tree_played count rows old new lines line steps records same none h = subst (λ (player : PlayerState). IsPlayedBy count rows player (lines ++ line ∷ []) steps records) (sym same) (record {
-  kind = h.kind;
-  ranges = h.ranges;
-  limits = h.limits;
-  calls = h.calls;
-  told = h.told;
-  done = let all : steps ++ [] ≡ steps = append-nil steps in rw all at (done_more lines line steps [] h.done none);
-  named = h.named;
-  once = h.once;
-  legal = h.legal;
-  order = h.order;
-  within = h.within;
-  reads = h.reads;
-  unheld = h.unheld;
-})
+-- ---- one more call, read or scan
 
 -- a call that was made is one of the history's
-call_in_history : (count rows : ℕ) (old new : PlayerState) (lines : List Line) (number : ℕ) (call : Call) (reply : Reply) (steps : List Step) (records : List Record) → IsPlayedBy count rows old lines steps records → Calls old new number call reply
+call_in_history : (count rows : ℕ) (old new : PlayerState) (number : ℕ) (call : Call) (reply : Reply) (steps : List Step) (records : List Record) → IsPlayedBy count rows old steps records → Calls old new number call reply
     → IsInHistory rows (length records) (last_map (history_of rows records)) call new.ranges reply
-call_in_history count rows old new lines number call reply steps records h c =
+call_in_history count rows old new number call reply steps records h c =
     let of_kind : IsMade kinds.Range old.limits old.ranges call new.ranges reply = subst (λ (kind : Kind). IsMade kind old.limits old.ranges call new.ranges reply) h.kind c.made in
     let made : IsMade kinds.Range old.limits (last_map (history_of rows records)) call new.ranges reply = subst (λ (m : List Range). IsMade kinds.Range old.limits m call new.ranges reply) h.ranges of_kind in
     made_is_in_history rows (length records) old.limits (last_map (history_of rows records)) call new.ranges reply (subst (λ (n : ℕ). AreLimits rows n old.limits) h.calls h.limits) made
 
-call_played : (count rows : ℕ) (old new : PlayerState) (lines : List Line) (number tree : ℕ) (call : Call) (reply : Reply) (steps : List Step) (records : List Record) → count < 2 → tree < count → Calls old new number call reply → IsPlayedBy count rows old lines steps records
-    → IsPlayedBy count rows new (lines ++ record { number = number; item = Write tree call } ∷ []) (steps ++ step_done number tree (Called (length records + 1) call reply) ∷ []) (records ++ record_made call reply ∷ [])
-call_played count rows old new lines number tree call reply steps records few among c h =
+call_played : (count rows : ℕ) (old new : PlayerState) (number tree : ℕ) (call : Call) (reply : Reply) (steps : List Step) (records : List Record) → count < 2 → tree < count → Calls old new number call reply → IsPlayedBy count rows old steps records
+    → IsPlayedBy count rows new (steps ++ step_done number tree (Called (length records + 1) call reply) ∷ []) (records ++ record_made call reply ∷ [])
+call_played count rows old new number tree call reply steps records few among c h =
     let n : ℕ = length records in
     let r : Record = record_made call reply in
     let s : Step = step_done number tree (Called (n + 1) call reply) in
     let longer : length (records ++ r ∷ []) ≡ n + 1 = omega (arith, length-append records (r ∷ [])) in
-    let entered : IsInHistory rows n (last_map (history_of rows records)) call new.ranges reply = call_in_history count rows old new lines number call reply steps records h c in
+    let entered : IsInHistory rows n (last_map (history_of rows records)) call new.ranges reply = call_in_history count rows old new number call reply steps records h c in
     let limits : AreLimits rows (old.calls + 1) new.limits = subst (λ (l : Option Limits). AreLimits rows (old.calls + 1) l) (sym c.limits) (limits_more rows old.calls old.limits h.limits) in
     record {
       kind = c.kind ∙ h.kind;
@@ -168,7 +154,6 @@ call_played count rows old new lines number tree call reply steps records few am
       limits = subst (λ (k : ℕ). AreLimits rows k new.limits) (sym c.calls) limits;
       calls = omega (arith, c.calls, h.calls, longer);
       told = told_more steps s old.entries new.entries h.told (rw h.calls at c.told);
-      done = done_more lines (record { number = number; item = Write tree call }) steps (s ∷ []) h.done (s ∷ [], [], refl, (n + 1, reply, refl), refl);
       named = All-push (λ (s : Step). s.tree < count) steps s h.named among;
       once = once_called steps records number tree call reply (omega arith) h.once;
       legal = legal_push rows records (records ++ r ∷ []) 0 [] records r h.legal (let e : 0 + n ≡ n = omega arith in rw e entered.answered);
@@ -178,48 +163,112 @@ call_played count rows old new lines number tree call reply steps records few am
       unheld = All-push (λ (s : Step). holder_in s.outcome ≡ None) steps s h.unheld entered.unheld;
     }
 
-read_played : (count rows : ℕ) (old new : PlayerState) (lines : List Line) (number tree : ℕ) (query : Query) (steps : List Step) (records : List Record) → count < 2 → tree < count → Asks old new number query → IsPlayedBy count rows old lines steps records
-    → IsPlayedBy count rows new (lines ++ record { number = number; item = Ask tree query } ∷ []) (steps ++ step_done number tree (Looked (length records) (length records) (length records) query (answer (last_map (history_of rows records)) query)) ∷ []) records
-read_played count rows old new lines number tree query steps records few among asks h =
+-- a read that is answered by the map as it stands
+abbrev read_of : ℕ → ℕ → PlayerState → Query → Step
+read_of number tree player query = step_done number tree (Looked player.calls player.calls player.calls query (answer player.ranges query))
+
+read_played : (count rows : ℕ) (old new : PlayerState) (number tree : ℕ) (query : Query) (steps : List Step) (records : List Record) → count < 2 → tree < count → Asks old new number query → IsPlayedBy count rows old steps records
+    → IsPlayedBy count rows new (steps ++ read_of number tree old query ∷ []) records
+read_played count rows old new number tree query steps records few among asks h =
     let n : ℕ = length records in
-    let value : Option Range = answer (last_map (history_of rows records)) query in
-    let s : Step = step_done number tree (Looked n n n query value) in
+    let value : Option Range = answer old.ranges query in
+    let s : Step = read_of number tree old query in
     let whole : take n records ≡ records = take_all n records (omega arith) in
-    let told : new.entries ≡ old.entries ++ entry_of s ∷ [] = rw (h.calls, h.ranges) at (ap (λ (player : PlayerState). player.entries) asks) in
     record {
       kind = ap (λ (player : PlayerState). player.kind) asks ∙ h.kind;
       ranges = ap (λ (player : PlayerState). player.ranges) asks ∙ h.ranges;
       limits = rw asks h.limits;
       calls = ap (λ (player : PlayerState). player.calls) asks ∙ h.calls;
-      told = told_more steps s old.entries new.entries h.told told;
-      done = done_more lines (record { number = number; item = Ask tree query }) steps (s ∷ []) h.done (s ∷ [], [], refl, (n, n, n, value, refl), refl);
+      told = told_more steps s old.entries new.entries h.told (ap (λ (player : PlayerState). player.entries) asks);
       named = All-push (λ (s : Step). s.tree < count) steps s h.named among;
-      once = once_looked steps records number tree n n n query value (omega arith) h.once;
+      once = once_looked steps records number tree old.calls old.calls old.calls query value (omega arith) h.once;
       legal = h.legal;
-      order = all_pairs_push InOrder steps s h.order (λ k d l same knows. read_follows n (get_or steps k d).outcome query value (h.within k d l));
-      within = All-push (λ (s : Step). TellsUpTo n s.outcome) steps s h.within (omega arith, omega arith, omega arith);
-      reads = All-push (λ (s : Step). IsTrueOf (history_of rows records) s.outcome) steps s h.reads (record { from = omega arith; to = omega arith; made = omega arith; answered = ap (λ records. answer (last_map (history_of rows records)) query) (sym whole) }, omega arith);
+      order = all_pairs_push InOrder steps s h.order (λ k d l same knows. rw h.calls (read_follows n (get_or steps k d).outcome query value (h.within k d l)));
+      within = All-push (λ (s : Step). TellsUpTo n s.outcome) steps s h.within (omega (arith, h.calls), omega (arith, h.calls), omega (arith, h.calls));
+      reads = All-push (λ (s : Step). IsTrueOf (history_of rows records) s.outcome) steps s h.reads (rw (h.calls, h.ranges) (record { from = omega arith; to = omega arith; made = omega arith; answered = ap (λ records. answer (last_map (history_of rows records)) query) (sym whole) }, omega arith));
       unheld = All-push (λ (s : Step). holder_in s.outcome ≡ None) steps s h.unheld refl;
     }
 
+-- what a scan came to from this place on, of so many steps at the most: some more steps
+record HasScanned (count rows number : ℕ) (item : Item) (tree max left : ℕ) (at : Option ℕ) (player : PlayerState) (steps : List Step) (records : List Record) : Type 0 where
+  more : List Step
+  scan : IsScan (asked_so number item) tree max left at more
+  played : IsPlayedBy count rows player (steps ++ more) records
+
+-- and behind a step that was answered so
+record HasGoneOn (count rows number : ℕ) (item : Item) (tree max left : ℕ) (value : Option Range) (player : PlayerState) (steps : List Step) (records : List Record) : Type 0 where
+  more : List Step
+  goes : GoesOn (IsScan (asked_so number item) tree max left) max value more
+  played : IsPlayedBy count rows player (steps ++ more) records
+
+nothing_more : (count rows : ℕ) (old new : PlayerState) (steps : List Step) (records : List Record) → new ≡ record old { entries = old.entries ++ [] } → IsPlayedBy count rows old steps records → IsPlayedBy count rows new (steps ++ []) records
+nothing_more count rows old new steps records same h = rw (same, append-nil old.entries, append-nil steps) h
+
+goes_on : (count rows number : ℕ) (item : Item) (tree max left : ℕ) (old new : PlayerState) (value : Option Range) (steps : List Step) (records : List Record)
+    → ((at : Option ℕ) → Scans old new number max left at → HasScanned count rows number item tree max left at new steps records)
+    → new ≡ record old { entries = old.entries ++ entries_behind (scan_entries number old.calls old.ranges max left) max value } → IsPlayedBy count rows old steps records
+    → HasGoneOn count rows number item tree max left value new steps records
+goes_on count rows number item tree max left old new None steps records scan told h = record { more = []; goes = refl; played = nothing_more count rows old new steps records told h }
+goes_on count rows number item tree max left old new (Some r) steps records scan told h =
+    let rest = scan (place_behind max r) told in
+    record { more = rest.more; goes = rest.scan; played = rest.played }
+
+scan_played : (left count rows number : ℕ) (item : Item) (tree max : ℕ) (at : Option ℕ) (old new : PlayerState) (steps : List Step) (records : List Record) → count < 2 → tree < count → Scans old new number max left at → IsPlayedBy count rows old steps records
+    → HasScanned count rows number item tree max left at new steps records
+scan_played zero count rows number item tree max at old new steps records few among told h = record { more = []; scan = refl; played = nothing_more count rows old new steps records told h }
+scan_played (suc left) count rows number item tree max at old new steps records few among told h =
+    let query : Query = find_at at max in
+    let value : Option Range = answer old.ranges query in
+    let first : Entry = read_entry number old.calls old.ranges query in
+    let others : List Entry = entries_behind (scan_entries number old.calls old.ranges max left) max value in
+    let s : Step = read_of number tree old query in
+    let seen : PlayerState = record old { entries = old.entries ++ first ∷ [] } in
+    let played : IsPlayedBy count rows seen (steps ++ s ∷ []) records = read_played count rows old seen number tree query steps records few among refl h in
+    let behind : new ≡ record seen { entries = seen.entries ++ others } = told ∙ ap (λ (entries : List Entry). record old { entries = entries }) (sym (append_assoc old.entries (first ∷ []) others)) in
+    let rest = goes_on count rows number item tree max left seen new value (steps ++ s ∷ []) records (λ place scans. scan_played left count rows number item tree max place seen new (steps ++ s ∷ []) records few among scans played) behind played in
+    record {
+      more = s ∷ rest.more;
+      scan = (old.calls, old.calls, old.calls, value, rest.more, refl, rest.goes);
+      played = rw (← append_assoc steps (s ∷ []) rest.more) rest.played;
+    }
+
+-- ---- one more line
+
 pub line_played : (count rows : ℕ) (old new : PlayerState) (lines : List Line) (number : ℕ) (item : Item) → count < 2 → NamesBelow count item → Does old new number item → IsPlayed count rows old lines → IsPlayed count rows new (lines ++ record { number = number; item = item } ∷ [])
-line_played count rows old new lines number (Tree name kind) few named does (steps, records, h) = (steps, records, tree_played count rows old new lines (record { number = number; item = Tree name kind }) steps records does refl h)
-line_played count rows old new lines number (Write tree call) few named does (steps, records, h) = (
-  steps ++ step_done number tree (Called (length records + 1) call does.0) ∷ [],
-  records ++ record_made call does.0 ∷ [],
-  call_played count rows old new lines number tree call does.0 steps records few named does.1 h,
-)
-line_played count rows old new lines number (Ask tree query) few named does (steps, records, h) = (
-  steps ++ step_done number tree (Looked (length records) (length records) (length records) query (answer (last_map (history_of rows records)) query)) ∷ [],
+line_played count rows old new lines number (Tree name kind) few named does (steps, records, h, done) = (
+  steps,
   records,
-  read_played count rows old new lines number tree query steps records few named does h,
+  rw does h,
+  let all : steps ++ [] ≡ steps = append-nil steps in rw all at (done_more lines (record { number = number; item = Tree name kind }) steps [] done refl),
 )
+line_played count rows old new lines number (Write tree call) few named does (steps, records, h, done) =
+    let s : Step = step_done number tree (Called (length records + 1) call does.0) in (
+      steps ++ s ∷ [],
+      records ++ record_made call does.0 ∷ [],
+      call_played count rows old new number tree call does.0 steps records few named does.1 h,
+      done_more lines (record { number = number; item = Write tree call }) steps (s ∷ []) done (s ∷ [], [], refl, (length records + 1, does.0, refl), refl),
+    )
+line_played count rows old new lines number (Ask tree query) few named does (steps, records, h, done) =
+    let s : Step = read_of number tree old query in (
+      steps ++ s ∷ [],
+      records,
+      read_played count rows old new number tree query steps records few named does h,
+      done_more lines (record { number = number; item = Ask tree query }) steps (s ∷ []) done (s ∷ [], [], refl, (old.calls, old.calls, old.calls, answer old.ranges query, refl), refl),
+    )
+line_played count rows old new lines number (Scan tree index max left) few named does (steps, records, h, done) =
+    let scanned = scan_played left count rows number (Scan tree index max left) tree max (place_within index max) old new steps records few named does h in (
+      steps ++ scanned.more,
+      records,
+      scanned.played,
+      done_more lines (record { number = number; item = Scan tree index max left }) steps scanned.more done (scanned.more, [], sym (append-nil scanned.more), scanned.scan, refl),
+    )
 
 -- a line counts one call at the most, and uses no more room than it counts
 pub counts_on : (old new : PlayerState) (number : ℕ) (item : Item) → Does old new number item → (new.calls ≤ old.calls + 1) × (new.used + old.calls ≤ old.used + new.calls)
 counts_on old new number (Tree name kind) does = rw does (omega arith, omega arith)
 counts_on old new number (Write tree call) does = (omega (arith, does.1.calls), omega (arith, does.1.calls, does.1.used))
 counts_on old new number (Ask tree query) does = rw does (omega arith, omega arith)
+counts_on old new number (Scan tree index max count) does = rw does (omega arith, omega arith)
 
 -- ---- before the first line
 
@@ -237,7 +286,6 @@ nothing_played count rows player kind ranges calls entries fresh size = (
     limits = rw calls (fresh_limits rows player.limits fresh size);
     calls = calls;
     told = entries;
-    done = refl;
     named = λ k d l. absurd (omega arith);
     once = refl;
     legal = tt;
@@ -246,4 +294,5 @@ nothing_played count rows player kind ranges calls entries fresh size = (
     reads = λ k d l. absurd (omega arith);
     unheld = λ k d l. absurd (omega arith);
   },
+  refl,
 )

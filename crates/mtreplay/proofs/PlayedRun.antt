@@ -11,13 +11,13 @@ use Rattle.mt_base.specs.declared.kinds.Kind.TheVariants as kinds
 use Rattle.mt_base.specs.declared.ranges.Range.{Range}
 use Rattle.mt_base.specs.History.{Record, History, IsLegal, last_map}
 use Rattle.mt_log.specs.declared.lines.Item.{Item}
-use Rattle.mt_log.specs.declared.lines.Item.TheVariants.{Tree, Write, Ask}
+use Rattle.mt_log.specs.declared.lines.Item.TheVariants.{Tree, Write, Ask, Scan}
 use Rattle.mt_log.specs.declared.lines.Line.{Line}
 use Rattle.mt_log.specs.declared.lines.Log.{Log}
 use Rattle.mt_log.specs.declared.transcripts.Listing.{Listing}
 use Rattle.mt_log.specs.declared.transcripts.Transcript.{Transcript}
 use Rattle.mt_log.specs.Trees.{Declared, Opening, Empty, AreNamedFrom, IsReadable, NamesBelow, count_after, declared_by, opening_by, phase_after, trees_from, trees_of}
-use Rattle.mt_log.specs.Run.{Step, IsRun, Opens, OpensAs, listings_of, numbered_on}
+use Rattle.mt_log.specs.Run.{Step, AreDone, IsRun, Opens, OpensAs, listings_of, numbered_on, steps_of}
 use Rattle.mtreplay.specs.Playing.{PlayerState, IsPlayed, IsPlayedBy, history_of, listed_by, lists_of}
 
 -- ---- the steps of a log name its trees
@@ -26,6 +26,7 @@ declared_long : (trees : List Declared) (phase : ℕ) (item : Item) → length (
 declared_long trees phase (Tree name kind) = length-append trees (record { tree = record { name = name; kind = kind }; opening = opening_by phase (Tree name kind) } ∷ [])
 declared_long trees phase (Write tree call) = ap length (append-nil trees)
 declared_long trees phase (Ask tree query) = ap length (append-nil trees)
+declared_long trees phase (Scan tree index max count) = ap length (append-nil trees)
 
 trees_grow : (lines : List Line) (trees : List Declared) (phase : ℕ) → length trees ≤ length (trees_from trees phase lines)
 trees_grow [] trees phase = omega arith
@@ -37,6 +38,7 @@ names_within : (count total : ℕ) (item : Item) → count ≤ total → NamesBe
 names_within count total (Tree name kind) l named = tt
 names_within count total (Write tree call) l named = omega arith
 names_within count total (Ask tree query) l named = omega arith
+names_within count total (Scan tree index max steps) l named = omega arith
 
 named_within : (lines : List Line) (trees : List Declared) (phase : ℕ) → AreNamedFrom (length trees) lines → AllByRecursion (λ (line : Line). NamesBelow (length (trees_from trees phase lines)) line.item) lines
 named_within [] trees phase named = tt
@@ -97,6 +99,7 @@ listed : (h : History) (trees : List Declared) (phase : ℕ) (item : Item) → m
 listed h trees phase (Tree name kind) = refl
 listed h trees phase (Write tree call) = refl
 listed h trees phase (Ask tree query) = refl
+listed h trees phase (Scan tree index max count) = refl
 
 shown_more : (h : History) (lines : List Line) (trees : List Declared) (phase : ℕ) → map (shown_as h) (trees_from trees phase lines) ≡ map (shown_as h) trees ++ lists_of lines (last_map h)
 shown_more h [] trees phase = sym (append-nil (map (shown_as h) trees))
@@ -111,15 +114,15 @@ trees_are_listed h lines = sym (listings_are h (trees_of lines) ∙ shown_more h
 
 -- ---- so it is a run
 
-run_by : (rows : ℕ) (log : Log) (player : PlayerState) (t : Transcript) (steps : List Step) (records : List Record) → IsReadable log.lines → IsPlayedBy (length (trees_of log.lines)) rows player log.lines steps records → t.entries ≡ player.entries → t.lists ≡ lists_of log.lines player.ranges → IsRun log rows t
-run_by rows log player t steps records readable h entries lists =
+run_by : (rows : ℕ) (log : Log) (player : PlayerState) (t : Transcript) (steps : List Step) (records : List Record) → IsReadable log.lines → IsPlayedBy (length (trees_of log.lines)) rows player steps records → AreDone (steps_of log.lines) steps → t.entries ≡ player.entries → t.lists ≡ lists_of log.lines player.ranges → IsRun log rows t
+run_by rows log player t steps records readable h done entries lists =
     let declared : List Declared = trees_of log.lines in
     let one : History = history_of rows records in
     let trees : List History = histories_of declared one in (
       steps,
       trees,
       record {
-        asked = h.done;
+        asked = done;
         told = entries ∙ h.told;
         count = length-map declared (λ (d : Declared). one);
         opened = λ tree d h at is. tree_opens rows declared records steps trees tree d h readable.for_ranges at (only_history declared one h tree is).1;
@@ -135,4 +138,4 @@ run_by rows log player t steps records readable h entries lists =
 
 -- what a player made of a log that can be read is a run of it
 pub run_of : (rows : ℕ) (log : Log) (player : PlayerState) (t : Transcript) → IsReadable log.lines → IsPlayed (length (trees_of log.lines)) rows player log.lines → t.entries ≡ player.entries → t.lists ≡ lists_of log.lines player.ranges → IsRun log rows t
-run_of rows log player t readable (steps, records, h) entries lists = run_by rows log player t steps records readable h entries lists
+run_of rows log player t readable (steps, records, h, done) entries lists = run_by rows log player t steps records readable h done entries lists

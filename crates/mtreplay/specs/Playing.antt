@@ -1,5 +1,5 @@
 -- What one lane makes of the lines of a log, one after another, over one tree.
-use Rattle.std.specs.Prelude.{◌≡◌, ℕ, List, [], ◌∷◌, ◌++◌, Option, Some, None, ◌+◌, ◌<◌, ◌≤◌, false, length, map, All, AllPairs}
+use Rattle.std.specs.Prelude.{◌≡◌, ℕ, zero, suc, List, [], ◌∷◌, ◌++◌, Option, Some, None, ◌+◌, ◌<◌, ◌≤◌, false, length, map, All, AllPairs}
 use Rattle.std.specs.List.{enumerate_from, filter_map, flat_map}
 use Rattle.mt_base.specs.declared.kinds.Kind.{Kind}
 use Rattle.mt_base.specs.declared.kinds.Kind.TheVariants as kinds
@@ -11,12 +11,12 @@ use Rattle.mt_base.specs.Call.{answer}
 use Rattle.mt_base.specs.History.{Record, History, IsLegal, last_map}
 use Rattle.mt_base.specs.Nodes.{Limits, IsMade, one_call_more}
 use Rattle.mt_log.specs.declared.lines.Item.{Item}
-use Rattle.mt_log.specs.declared.lines.Item.TheVariants.{Tree, Write, Ask}
+use Rattle.mt_log.specs.declared.lines.Item.TheVariants.{Tree, Write, Ask, Scan}
 use Rattle.mt_log.specs.declared.lines.Line.{Line}
 use Rattle.mt_log.specs.declared.transcripts.Entry.{Entry}
 use Rattle.mt_log.specs.declared.transcripts.Listing.{Listing}
 use Rattle.mt_log.specs.declared.transcripts.Said.TheVariants as said
-use Rattle.mt_log.specs.Run.{Step, Outcome, Called, Looked, InOrder, IsTrueOf, AreDone, entry_of, holder_in, numbered_on, shown, steps_of}
+use Rattle.mt_log.specs.Run.{Step, Outcome, Called, Looked, InOrder, IsTrueOf, AreDone, entry_of, holder_in, find_at, numbered_on, place_behind, place_within, shown, steps_of}
 
 -- ---- what a line does
 
@@ -39,15 +39,34 @@ pub record Calls (old new : PlayerState) (line : ℕ) (call : Call) (reply : Rep
   pub calls : new.calls ≡ old.calls + 1
   pub told : new.entries ≡ old.entries ++ record { line = line; said = said.Wrote (old.calls + 1) reply } ∷ []
 
--- a query was answered by the map as it stands, and told; its window is the number of calls so far
+-- what is told of a query on a map, after so many calls, which are its window
+abbrev pub read_entry : ℕ → ℕ → List Range → Query → Entry
+read_entry line calls ranges query = record { line = line; said = said.Got calls calls (shown query (answer ranges query)) }
+
+-- a query was answered by the map as it stands, and told
 abbrev pub Asks : PlayerState → PlayerState → ℕ → Query → Type 0
-Asks old new line query = new ≡ record old { entries = old.entries ++ record { line = line; said = said.Got old.calls old.calls (shown query (answer old.ranges query)) } ∷ [] }
+Asks old new line query = new ≡ record old { entries = old.entries ++ read_entry line old.calls old.ranges query ∷ [] }
+
+-- behind a range a scan goes on, and else it ends
+abbrev pub entries_behind : (Option ℕ → List Entry) → ℕ → Option Range → List Entry
+entries_behind entries max None = []
+entries_behind entries max (Some r) = entries (place_behind max r)
+
+-- what is told of a scan from this place on, of so many steps at the most
+abbrev pub scan_entries : ℕ → ℕ → List Range → ℕ → ℕ → Option ℕ → List Entry
+scan_entries line calls ranges max zero at = []
+scan_entries line calls ranges max (suc count) at = read_entry line calls ranges (find_at at max) ∷ entries_behind (scan_entries line calls ranges max count) max (answer ranges (find_at at max))
+
+-- each step of a scan was answered by the map as it stands, and told
+abbrev pub Scans : PlayerState → PlayerState → ℕ → ℕ → ℕ → Option ℕ → Type 0
+Scans old new line max count at = new ≡ record old { entries = old.entries ++ scan_entries line old.calls old.ranges max count at }
 
 -- what the line of this number asks for was done
 abbrev pub Does : PlayerState → PlayerState → ℕ → Item → Type 0
 Does old new line (Tree name kind) = new ≡ old
 Does old new line (Write tree call) = (reply : Reply) × Calls old new line call reply
 Does old new line (Ask tree query) = Asks old new line query
+Does old new line (Scan tree index max count) = Scans old new line max count (place_within index max)
 
 -- ---- what came of the lines so far
 
@@ -81,17 +100,16 @@ abbrev pub TellsUpTo : ℕ → Outcome → Type 0
 TellsUpTo n (Called number call reply) = number ≤ n
 TellsUpTo n (Looked lo hi k query value) = (lo ≤ n) × (hi ≤ n) × (k ≤ n)
 
--- these steps are what came of the lines, and these are the calls among them, where so many trees are declared and have
--- so many rows
-pub record IsPlayedBy (count rows : ℕ) (player : PlayerState) (lines : List Line) (steps : List Step) (records : List Record) : Type 0 where
+-- these steps are what a player did, and these are the calls among them, where so many trees are declared and have so
+-- many rows
+pub record IsPlayedBy (count rows : ℕ) (player : PlayerState) (steps : List Step) (records : List Record) : Type 0 where
   -- the player holds the tree after these calls, and told the steps
   pub kind : player.kind ≡ kinds.Range
   pub ranges : player.ranges ≡ last_map (history_of rows records)
   pub limits : AreLimits rows player.calls player.limits
   pub calls : player.calls ≡ length records
   pub told : player.entries ≡ map entry_of steps
-  -- the steps are those of the lines
-  pub done : AreDone (steps_of lines) steps
+  -- the steps name declared trees
   pub named : All (λ (s : Step). s.tree < count) steps
   -- and keep what a run keeps
   pub once : enumerate_from 1 records ≡ filter_map (numbered_on 0) steps
@@ -101,8 +119,9 @@ pub record IsPlayedBy (count rows : ℕ) (player : PlayerState) (lines : List Li
   pub reads : All (λ (s : Step). IsTrueOf (history_of rows records) s.outcome) steps
   pub unheld : All (λ (s : Step). holder_in s.outcome ≡ None) steps
 
+-- the steps are those of the lines
 abbrev pub IsPlayed : ℕ → ℕ → PlayerState → List Line → Type 0
-IsPlayed count rows player lines = (steps : List Step) × (records : List Record) × IsPlayedBy count rows player lines steps records
+IsPlayed count rows player lines = (steps : List Step) × (records : List Record) × IsPlayedBy count rows player steps records × AreDone (steps_of lines) steps
 
 -- ---- the listings
 
@@ -111,6 +130,7 @@ abbrev pub listed_by : Item → List Range → List Listing
 listed_by (Tree name kind) ranges = record { name = name; kind = kind; ranges = ranges } ∷ []
 listed_by (Write tree call) ranges = []
 listed_by (Ask tree query) ranges = []
+listed_by (Scan tree index max count) ranges = []
 
 abbrev pub lists_of : List Line → List Range → List Listing
 lists_of lines ranges = flat_map (λ line. listed_by line.item ranges) lines

@@ -4,6 +4,7 @@ ghost use Rattle.mt_log.specs.Run.{IsRun, shown_range};
 ghost use Rattle.mt_log.specs.Trees.{IsReadable, trees_of};
 ghost use Rattle.mtreplay.specs.Playing.{IsFresh, HasRows, IsPlayed, listed_by, lists_of};
 
+use crate::scans::{find_at, place_behind, place_within};
 use mt_base::{Call, NoMemory, Query, Range};
 use mt_list::Ranges;
 use mt_log::{
@@ -29,9 +30,11 @@ impl<M: Ranges> Model for Player<M> {
 }
 
 impl<M: Ranges> Player<M> {
-    ghost use Rattle.std.specs.Prelude.{◌≡◌, ◌∷◌, ◌++◌, ◌+◌, ◌-◌, ◌<◌, ◌≤◌, ◌^◌, [], OnOk};
+    ghost use Rattle.std.specs.Prelude.{◌≡◌, ◌∷◌, ◌++◌, ◌+◌, ◌-◌, ◌<◌, ◌≤◌, ◌^◌, [], IfOk, OnOk};
+    ghost use Rattle.mt_base.specs.Call.{answer};
     ghost use Rattle.mt_base.specs.declared.replies.Reply.{Reply};
-    ghost use Rattle.mtreplay.specs.Playing.{Asks, Calls, Does};
+    ghost use Rattle.mt_log.specs.Run.{place_within};
+    ghost use Rattle.mtreplay.specs.Playing.{Asks, Calls, Does, Scans};
 
     /// Does what a line asks for.
     fn line(&mut self, line: &Line) -> Result<(), NoMemory>
@@ -42,7 +45,15 @@ impl<M: Ranges> Player<M> {
         match line.item {
             Item::Tree { .. } => {}
             Item::Write { call, .. } => self.write(line.number, &call)?,
-            Item::Ask { query, .. } => self.ask(line.number, &query)?,
+            Item::Ask { query, .. } => {
+                self.ask(line.number, &query)?;
+            }
+            Item::Scan {
+                index,
+                max,
+                count,
+                ..
+            } => self.scan(line.number, index, max, count)?,
         }
         Ok(())
     }
@@ -62,11 +73,13 @@ impl<M: Ranges> Player<M> {
         self.tell(Entry { line, said })
     }
 
-    /// Tells the answer of the map as it stands. The window is the number of calls so far.
-    fn ask(&mut self, line: u64, query: &Query) -> Result<(), NoMemory>
-        ensures { OnOk result (Asks self.old self.new line query.now) }
+    /// Tells the answer of the map as it stands, and gives it. The window is the number of calls so far.
+    fn ask(&mut self, line: u64, query: &Query) -> Result<Option<Range>, NoMemory>
+        ensures value { IfOk result (λ value. value ≡ answer self.old.ranges query.now) }
+        ensures told { OnOk result (Asks self.old self.new line query.now) }
     {
-        let value = match self.map.ask(query) {
+        let found = self.map.ask(query);
+        let value = match found {
             Some(range) => told_of(query, range),
             None => Answer::None,
         };
@@ -75,7 +88,23 @@ impl<M: Ranges> Player<M> {
             hi: self.calls,
             value,
         };
-        self.tell(Entry { line, said })
+        self.tell(Entry { line, said })?;
+        Ok(found)
+    }
+
+    /// Finds range after range from `index` to `max`, and tells each step by itself: so many at the most, and none behind
+    /// the first that finds nothing.
+    fn scan(&mut self, line: u64, index: u64, max: u64, count: u32) -> Result<(), NoMemory>
+        ensures { OnOk result (Scans self.old self.new line max count (place_within index max)) }
+    {
+        let mut at = place_within(index, max);
+        for _step in 0..count {
+            match self.ask(line, &find_at(at, max))? {
+                Some(range) => at = place_behind(max, &range),
+                None => return Ok(()),
+            }
+        }
+        Ok(())
     }
 
     /// Adds an entry.

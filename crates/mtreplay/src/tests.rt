@@ -99,6 +99,10 @@ fn a_log_is_answered_line_by_line(rt: HostRuntime) -> Result<(), Fail> {
             "store a 0 0 5\nprev a 9 1\nrfind a 9 1\n",
             "3 1 ok\n4 1 1 none\n5 1 1 none\ntree a range 1\n0 0 5\n",
         ),
+        (
+            "store a 0 9 1\nstore a 20 29 5\nscan a 5 max 5\nscan a 0 5 3\nscan a 5 25 1\n",
+            "3 1 ok\n4 2 ok\n5 2 2 range 0 9 1\n5 2 2 range 20 29 5\n5 2 2 none\n6 2 2 range 0 9 1\n6 2 2 none\n7 2 2 range 0 9 1\ntree a range 2\n0 9 1\n20 29 5\n",
+        ),
     ];
     for (lines, text) in rows {
         let log = steps(rt.alloc(), lines)?;
@@ -129,6 +133,29 @@ fn neighbours_are_found_up_and_down(rt: HostRuntime) -> Result<(), Fail> {
          tree a range 3\n0 9 1\n20 29 5\n18446744073709551615 18446744073709551615 3\n";
     let mut src = source(rt.alloc(), &log, NEVER)?;
     let ending = run(&rt, &["replay"], &mut src, 1024, 256)?;
+    assert_eq!(rt; ending.status, 0);
+    assert_eq!(rt; ending.out.bytes(), text.as_bytes());
+    Ok(())
+}
+
+#[test]
+fn a_scan_goes_on_behind_each_range_and_ends_with_none(rt: HostRuntime) -> Result<(), Fail> {
+    let log = steps(
+        rt.alloc(),
+        "store a 0 9 1\nstore a 10 10 3\n\
+         scan a 0 9 2\nscan a 9 10 4\nscan a 0 10 2\nscan a 4 3 3\n\
+         erase a 0\nscan a 0 max 9\nstore a 10 max 7\nscan a 0 max 65536\n",
+    )?;
+    let text = "3 1 ok\n4 2 ok\n\
+         5 2 2 range 0 9 1\n5 2 2 none\n\
+         6 2 2 range 0 9 1\n6 2 2 range 10 10 3\n6 2 2 none\n\
+         7 2 2 range 0 9 1\n7 2 2 range 10 10 3\n\
+         8 2 2 none\n\
+         9 3 was 1\n10 3 3 range 10 10 3\n10 3 3 none\n\
+         11 4 ok\n12 4 4 range 10 18446744073709551615 7\n12 4 4 none\n\
+         tree a range 1\n10 18446744073709551615 7\n";
+    let mut src = source(rt.alloc(), &log, NEVER)?;
+    let ending = run(&rt, &["replay"], &mut src, 512, 256)?;
     assert_eq!(rt; ending.status, 0);
     assert_eq!(rt; ending.out.bytes(), text.as_bytes());
     Ok(())
@@ -193,6 +220,11 @@ fn a_bad_log_is_told_by_its_line(rt: HostRuntime) -> Result<(), Fail> {
             "mtlog 1\ntree a range\nstore a 1 1\n",
             256,
             "mtreplay: line 3: wrong number of fields\n",
+        ),
+        (
+            "mtlog 1\ntree a range\nscan a 0 9 0\n",
+            256,
+            "mtreplay: line 3: bad count\n",
         ),
         (
             "mtlog 1\n\n#\ntree a range\nload a 1\njoin\n",
