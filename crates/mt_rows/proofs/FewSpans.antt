@@ -1,7 +1,6 @@
 -- No more spans stand in a row than it has slots, whatever its words are.
-use Rattle.std.proofs.Common.{◌≡◌, ℕ, ◌≤◌, Some, length, sym, ap, ◌∙◌, subst}
+use Rattle.std.proofs.Common.{◌≡◌, ℕ, ◌≤◌, length, sym, ap, ◌∙◌, subst}
 use Rattle.mt_layout.specs.declared.spans.Span.{Span}
-use Rattle.mt_layout.specs.declared.names.RowKind.{RowKind}
 use Rattle.mt_layout.specs.Rows.{row_in}
 use Rattle.mt_layout.specs.Sizes.{slots_of, gaps_of}
 use Rattle.mt_layout.proofs.Reading.{few_items}

@@ -9,7 +9,6 @@ use Rattle.mt_base.specs.declared.replies.Reply.{Reply}
 use Rattle.mt_base.specs.declared.replies.Shortage.{Shortage}
 use Rattle.mt_base.specs.Width.{kind_width, first_row}
 use Rattle.mt_base.specs.Call.{acted}
-use Rattle.mt_base.specs.History.{Record}
 use Rattle.mt_base.specs.Nodes.{IsRefused}
 use Rattle.mt_layout.specs.declared.names.RowKind.{RowKind}
 use Rattle.mt_layout.specs.declared.spans.Span.{Span}
