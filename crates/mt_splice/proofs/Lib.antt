@@ -23,6 +23,7 @@ pub mod EndWhole
 pub mod EndWords
 pub mod FewestRows
 pub mod Fresh
+pub mod GapRows
 pub mod Gathering
 pub mod LeafAbove
 pub mod LeafItems
@@ -47,6 +48,7 @@ pub mod Rises
 pub mod RootEndings
 pub mod Runs
 pub mod SlotEnding
+pub mod SlotGaps
 pub mod SpliceBegins
 pub mod Splits
 pub mod StepSeen

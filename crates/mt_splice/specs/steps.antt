@@ -16,5 +16,6 @@ pub mod Runs
 pub mod Seen
 pub mod Stretches
 pub mod TakingIn
+pub mod Told
 pub mod Work
 pub mod Writes

@@ -1,0 +1,182 @@
+-- The gaps of items, and the law of gaps of a row by its items.
+use Rattle.std.proofs.Common.{◌≡◌, ℕ, zero, suc, ◌+◌, ◌*◌, List, [], ◌∷◌, ◌++◌, Option, Some, fold, map, max, nat_le, refl, sym, ap, ◌∙◌, subst, inl, inr, arith, append-nil}
+use Rattle.std.specs.List.{AllByRecursion}
+use Rattle.std.specs.Prelude.{slice_index}
+use Rattle.std.proofs.lemmas.Bool.{cases_Bool}
+use Rattle.mt_base.specs.declared.widths.Width.{Width}
+use Rattle.mt_base.specs.declared.widths.Width.TheVariants.{Long}
+use Rattle.mt_base.specs.Width.{columns}
+use Rattle.mt_layout.specs.declared.items.Item.{Item}
+use Rattle.mt_layout.specs.declared.names.RowKind.{RowKind}
+use Rattle.mt_layout.specs.declared.names.RowKind.TheVariants.{Leaf, Inner, Gapped}
+use Rattle.mt_layout.specs.declared.spans.Span.{Span}
+use Rattle.mt_layout.specs.Rows.{row_in, named_kind}
+use Rattle.mt_layout.specs.Columns.{gap_column, pivot_column, items_from, longest_hole}
+use Rattle.mt_layout.specs.Sizes.{slots_of, gaps_of}
+use Rattle.mt_layout.specs.Spans.{spans_from, hole_length, longest_in}
+use Rattle.mt_layout.proofs.Reading.{gap_at-some}
+use Rattle.mt_layout.proofs.OwnColumns.{same_items}
+use Rattle.mt_layout.proofs.RowSizes.{layout_of}
+use Rattle.mt_rows.specs.Spans.{Table, column, inner_kind, spans_by, spans_in}
+use Rattle.mt_rows.specs.Levels.{expand, Levels, SameColumns}
+use Rattle.mt_rows.specs.Laws.{Tree, IsRow, GapLaw, GapLawBy, GapsFrom, items_in, longest_below}
+use Rattle.mt_rows.proofs.Joins.{Shared, expand_shared, levels_front, levels_back}
+use Rattle.mt_rows.proofs.Frames.{same_spans}
+use Rattle.mt_rows.proofs.Lists.{levels_map, expand-append}
+use Rattle.mt_splice.specs.steps.Told.{longest_holes, TellGaps}
+use Rattle.mt_splice.specs.steps.Work.{table_with, tree_with}
+
+-- ---- the longest hole below rows
+
+pub longest_shared : (t t' : Table) (h : ℕ) (xs : List Span) → Levels (Shared t t') t h xs → longest_below t' h xs ≡ longest_below t h xs
+longest_shared t t' zero xs same = ap longest_in (expand_shared t t' xs same)
+longest_shared t t' (suc h) xs same = ap (longest_below t' h) (expand_shared t t' xs same.0) ∙ longest_shared t t' h (expand t xs) same.1
+
+pub holes_shared : (t t' : Table) (h : ℕ) (xs : List Span) → Levels (Shared t t') t h xs → longest_holes t' h xs ≡ longest_holes t h xs
+holes_shared t t' h [] same = refl
+holes_shared t t' h (x ∷ xs) same =
+    let here = longest_shared t t' h (x ∷ []) (levels_front (Shared t t') t h (x ∷ []) xs same) in
+    let behind = holes_shared t t' h xs (levels_back (Shared t t') t h (x ∷ []) xs same) in
+    λ i. here i ∷ behind i
+
+-- ---- the law of gaps of a row by its items
+
+-- the gaps of items are in the gap columns of a row, from a slot on
+abbrev pub AreGapsAt : Table → ℕ → ℕ → List Item → Type 0
+AreGapsAt t row slot [] = Unit {0}
+AreGapsAt t row slot (x ∷ items) = (x.gap ≡ column t row (gap_column (slots_of t.width Gapped) slot)) × AreGapsAt t row (slot + 1) items
+
+some_gaps : (width : Width) → gaps_of width Gapped ≡ 0 → ⊥
+some_gaps Long none = absurd (omega arith)
+
+pub gaps_read : (width : Width) (w : List ℕ) (row max left i : ℕ) → AreGapsAt (record { width = width; words = w }) row i (items_from (slots_of width Gapped) (gaps_of width Gapped) w (columns width * row) max left i)
+gaps_read width w row max zero i = tt
+gaps_read width w row max (suc zero) i = (gap_at-some (slots_of width Gapped) (gaps_of width Gapped) w (columns width * row) i (some_gaps width), tt)
+gaps_read width w row max (suc (suc left)) i = elim (cases_Bool (nat_le max (slice_index w (columns width * row + pivot_column i)))) [
+  | inl last ↦ rw last (gap_at-some (slots_of width Gapped) (gaps_of width Gapped) w (columns width * row) i (some_gaps width), tt)
+  | inr more ↦ rw more (gap_at-some (slots_of width Gapped) (gaps_of width Gapped) w (columns width * row) i (some_gaps width), gaps_read width w row max (suc left) (i + 1))
+]
+
+law_tells : (t : Table) (h row slot first : ℕ) (items : List Item) → AreGapsAt t row slot items → GapsFrom t h row slot (spans_from first items) → TellGaps Gapped t h first items
+law_tells t h row slot first [] at law = refl
+law_tells t h row slot first (x ∷ items) at law =
+    let here = at.0 ∙ law.0 in
+    let behind = law_tells t h row (slot + 1) (x.last + 1) items at.1 law.1 in
+    λ i. here i ∷ behind i
+
+tells_law : (t : Table) (h row slot first : ℕ) (items : List Item) → AreGapsAt t row slot items → TellGaps Gapped t h first items → GapsFrom t h row slot (spans_from first items)
+tells_law t h row slot first [] at told = tt
+tells_law t h row slot first (x ∷ items) at told =
+    let here : x.gap ≡ longest_below t h (record { first = first; last = x.last; word = x.word } ∷ []) = cc in
+    let behind : TellGaps Gapped t h (x.last + 1) items = cc in
+    (sym at.0 ∙ here, tells_law t h row (slot + 1) (x.last + 1) items at.1 behind)
+
+-- a row of this kind keeps the law just where its items tell their gaps
+pub row_tells : (kind : RowKind) (t : Table) (h : ℕ) (x : Span) → named_kind x.word ≡ Some kind → GapLawBy kind t h x → TellGaps kind t h x.first (items_in t kind x)
+row_tells Leaf t h x named law = tt
+row_tells Inner t h x named law = tt
+row_tells Gapped t h x named law =
+    law_tells t h (row_in x.word) 0 x.first (items_in t Gapped x) (gaps_read t.width t.words (row_in x.word) x.last (slots_of t.width Gapped) 0)
+    (subst (λ (k : Option RowKind). GapsFrom t h (row_in x.word) 0 (spans_by t k x)) named law)
+
+pub row_keeps_gaps : (kind : RowKind) (t : Table) (h : ℕ) (x : Span) → named_kind x.word ≡ Some kind → TellGaps kind t h x.first (items_in t kind x) → GapLawBy kind t h x
+row_keeps_gaps Leaf t h x named told = tt
+row_keeps_gaps Inner t h x named told = tt
+row_keeps_gaps Gapped t h x named told =
+    subst (λ (k : Option RowKind). GapsFrom t h (row_in x.word) 0 (spans_by t k x)) (sym named)
+    (tells_law t h (row_in x.word) 0 x.first (items_in t Gapped x) (gaps_read t.width t.words (row_in x.word) x.last (slots_of t.width Gapped) 0) told)
+
+-- ---- the law stays while the columns of a row and what stands below it stay
+
+pub tells_later : (kind : RowKind) (t t' : Table) (h first : ℕ) (items : List Item) → Levels (Shared t t') t h (spans_from first items) → TellGaps kind t h first items → TellGaps kind t' h first items
+tells_later Leaf t t' h first items same told = tt
+tells_later Inner t t' h first items same told = tt
+tells_later Gapped t t' h first items same told = told ∙ sym (holes_shared t t' h (spans_from first items) same)
+
+pub items_same : (width : Width) (w w' : List ℕ) (kind : RowKind) (x : Span) → SameColumns (record { width = width; words = w }) (record { width = width; words = w' }) (columns width) (row_in x.word)
+    → items_in (record { width = width; words = w' }) kind x ≡ items_in (record { width = width; words = w }) kind x
+items_same width w w' kind x same = same_items (columns width) (slots_of width kind) (gaps_of width kind) (columns width * row_in x.word) (columns width * row_in x.word) w' w (layout_of width kind) same x.last
+
+law_stays : (kind : RowKind) (t : Table) (words : List ℕ) (h : ℕ) (x : Span) → named_kind x.word ≡ Some kind → SameColumns t (table_with t words) (columns t.width) (row_in x.word)
+    → Levels (Shared t (table_with t words)) t h (spans_in t x) → GapLawBy kind t h x → GapLawBy kind (table_with t words) h x
+law_stays kind t words h x named same below law =
+    let below_it = subst (λ (k : Option RowKind). Levels (Shared t (table_with t words)) t h (spans_by t k x)) named below in
+    row_keeps_gaps kind (table_with t words) h x named
+    (subst (TellGaps kind (table_with t words) h x.first) (sym (items_same t.width t.words words kind x same))
+    (tells_later kind t (table_with t words) h x.first (items_in t kind x) below_it (row_tells kind t h x named law)))
+
+module _ (t : Tree) (words : List ℕ) where
+  abbrev t' : Tree
+  t' = tree_with t words
+
+  abbrev pub Kept : ℕ → Span → Type 0
+  Kept h x = SameColumns t.table t'.table (columns t.table.width) (row_in x.word)
+
+  kept_shared : (h : ℕ) (xs : List Span) → Levels Kept t.table h xs → Levels (Shared t.table t'.table) t.table h xs
+  kept_shared h xs kept = levels_map Kept (Shared t.table t'.table) t.table (λ _ x same. same_spans t.table t'.table x same) h xs kept
+
+  -- one row
+  pub gap_law_stays : (h : ℕ) (x : Span) → IsRow t (suc h) x → Kept (suc h) x → Levels Kept t.table h (spans_in t.table x) → GapLaw t (suc h) x → GapLaw t' (suc h) x
+  gap_law_stays h x row same below law = law_stays (inner_kind t.kind) t.table words h x row.name.named same (kept_shared h (spans_in t.table x) below) law
+
+  -- the rows of a height and all below
+  pub gap_laws_stay : (h : ℕ) (xs : List Span) → Levels Kept t.table h xs → Levels (IsRow t) t.table h xs → Levels (GapLaw t) t.table h xs → Levels (GapLaw t') t'.table h xs
+  gap_laws_stay zero xs kept rows laws = none xs
+    where
+      none : (ys : List Span) → AllByRecursion (GapLaw t' zero) ys
+      none [] = tt
+      none (y ∷ ys) = (tt, none ys)
+  gap_laws_stay (suc h) xs kept rows laws = (
+    each xs kept.0 kept.1 rows.0 laws.0,
+    subst (Levels (GapLaw t') t'.table h) (sym (expand_shared t.table t'.table xs (kept_shared (suc h) xs kept).0)) (gap_laws_stay h (expand t.table xs) kept.1 rows.1 laws.1),
+  )
+    where
+      each : (ys : List Span) → AllByRecursion (Kept (suc h)) ys → Levels Kept t.table h (expand t.table ys) → AllByRecursion (IsRow t (suc h)) ys → AllByRecursion (GapLaw t (suc h)) ys → AllByRecursion (GapLaw t' (suc h)) ys
+      each [] kept below rows laws = tt
+      each (y ∷ ys) kept below rows laws = (
+        gap_law_stays h y rows.0 kept.0 (levels_front Kept t.table h (spans_in t.table y) (expand t.table ys) below) laws.0,
+        each ys kept.1 (levels_back Kept t.table h (spans_in t.table y) (expand t.table ys) below) rows.1 laws.1,
+      )
+
+-- ---- what a row tells the row above
+
+abbrev greatest : List ℕ → ℕ
+greatest [] = 0
+greatest (n ∷ ns) = max n (greatest ns)
+
+greatest_so_far : (n : ℕ) (items : List Item) → fold (λ (g : ℕ) (x : Item). max g x.gap) n items ≡ max n (greatest (map (λ (x : Item). x.gap) items))
+greatest_so_far n [] = omega arith
+greatest_so_far n (x ∷ items) = greatest_so_far (max n x.gap) items ∙ regroup n x.gap (greatest (map (λ (y : Item). y.gap) items))
+  where
+    regroup : (a b c : ℕ) → max (max a b) c ≡ max a (max b c)
+    regroup a b c = omega arith
+
+longest_in-append : (xs ys : List Span) → longest_in (xs ++ ys) ≡ max (longest_in xs) (longest_in ys)
+longest_in-append [] ys = omega arith
+longest_in-append (x ∷ xs) ys = ap (λ (k : ℕ). max (hole_length x) k) (longest_in-append xs ys) ∙ regroup (hole_length x) (longest_in xs) (longest_in ys)
+  where
+    regroup : (a b c : ℕ) → max a (max b c) ≡ max (max a b) c
+    regroup a b c = omega arith
+
+longest_below-append : (t : Table) (h : ℕ) (xs ys : List Span) → longest_below t h (xs ++ ys) ≡ max (longest_below t h xs) (longest_below t h ys)
+longest_below-append t zero xs ys = ap longest_in (expand-append t xs ys) ∙ longest_in-append (expand t xs) (expand t ys)
+longest_below-append t (suc h) xs ys = ap (longest_below t h) (expand-append t xs ys) ∙ longest_below-append t h (expand t xs) (expand t ys)
+
+longest_none : (t : Table) (h : ℕ) → longest_below t h [] ≡ 0
+longest_none t zero = refl
+longest_none t (suc h) = longest_none t h
+
+longest_is_greatest : (t : Table) (h : ℕ) (xs : List Span) → longest_below t h xs ≡ greatest (longest_holes t h xs)
+longest_is_greatest t h [] = longest_none t h
+longest_is_greatest t h (x ∷ xs) = longest_below-append t h (x ∷ []) xs ∙ ap (λ (k : ℕ). max (longest_below t h (x ∷ [])) k) (longest_is_greatest t h xs)
+
+-- below a leaf it is the longest hole among its items, and below another row with gaps the greatest of these
+pub leaf_longest : (t : Table) (x : Span) (first : ℕ) (items : List Item) → spans_in t x ≡ spans_from first items → longest_hole first items ≡ longest_below t 0 (x ∷ [])
+leaf_longest t x first items is = sym (ap longest_in (append-nil (spans_in t x) ∙ is))
+
+pub inner_longest : (t : Table) (h : ℕ) (x : Span) (first : ℕ) (items : List Item) → spans_in t x ≡ spans_from first items → TellGaps Gapped t h first items
+    → fold (λ (g : ℕ) (y : Item). max g y.gap) 0 items ≡ longest_below t (suc h) (x ∷ [])
+inner_longest t h x first items is told =
+    let so_far = greatest_so_far 0 items in
+    let all : fold (λ (g : ℕ) (y : Item). max g y.gap) 0 items ≡ greatest (map (λ (y : Item). y.gap) items) = omega arith in
+    all ∙ (ap greatest told ∙ (sym (longest_is_greatest t h (spans_from first items)) ∙ sym (ap (longest_below t h) (append-nil (spans_in t x) ∙ is))))

@@ -1,0 +1,54 @@
+-- Items whose gaps are told, and the law of gaps while a tree is replaced.
+-- Source: the kernel's lib/maple_tree.c, mas_leaf_max_gap and ma_max_gap, by which a node's gap is told to its parent.
+use Rattle.std.specs.Prelude.{◌≡◌, ℕ, zero, suc, Bool, List, [], ◌∷◌, Option, Some, None, map}
+use Rattle.mt_layout.specs.declared.items.Item.{Item}
+use Rattle.mt_layout.specs.declared.names.RowKind.{RowKind}
+use Rattle.mt_layout.specs.declared.names.RowKind.TheVariants.{Leaf, Inner, Gapped}
+use Rattle.mt_layout.specs.declared.spans.Span.{Span}
+use Rattle.mt_layout.specs.Spans.{spans_from}
+use Rattle.mt_rows.specs.Spans.{Table, inner_kind}
+use Rattle.mt_rows.specs.Levels.{Levels}
+use Rattle.mt_rows.specs.Laws.{Tree, IsRow, GapLaw, longest_below}
+use Rattle.mt_rows.specs.Gaps.{KeepsGaps}
+use Rattle.mt_rows.specs.Replacement.{root_of}
+use Rattle.mt_splice.specs.steps.Work.{Start, Work, now, IsUsed}
+
+-- ---- the gaps of items
+
+-- the longest hole below each of some rows of a height
+abbrev pub longest_holes : Table → ℕ → List Span → List ℕ
+longest_holes t h xs = map (λ (x : Span). longest_below t h (x ∷ [])) xs
+
+-- in rows with gaps, the gap of each item is the longest hole below it
+abbrev pub TellGaps : RowKind → Table → ℕ → ℕ → List Item → Type 0
+TellGaps Leaf t h first items = Unit {0}
+TellGaps Inner t h first items = Unit {0}
+TellGaps Gapped t h first items = map (λ (x : Item). x.gap) items ≡ longest_holes t h (spans_from first items)
+
+-- a row in use that keeps the laws, that of gaps too
+pub record IsGoodRow (start : Start) (w : Work) (h : ℕ) (x : Span) : Type 0 where
+  pub used : IsUsed w h x
+  pub row : IsRow (now start w) h x
+  pub gaps : GapLaw (now start w) h x
+
+-- Items of inner rows, the first of which begins at `first`, name rows of a height: these, and all below them, are good, and
+-- the items tell their gaps.
+pub record AreTold (start : Start) (w : Work) (h first : ℕ) (items : List Item) : Type 0 where
+  pub rows : Levels (IsGoodRow start w) (now start w).table h (spans_from first items)
+  pub gaps : TellGaps (inner_kind start.tree.kind) (now start w).table h first items
+
+-- items that are to stand in rows of a height: those of leaves tell nothing
+abbrev pub AreToldIn : Start → Work → ℕ → ℕ → List Item → Type 0
+AreToldIn start w zero first items = Unit {0}
+AreToldIn start w (suc h) first items = AreTold start w h first items
+
+-- ---- the law of gaps
+
+-- each row of the tree as it was keeps the law
+abbrev pub HadGaps : Start → Type 0
+HadGaps start = Levels (GapLaw start.tree) start.tree.table start.height (root_of start.tree)
+
+-- in a tree, or in the empty tree, the new rows keep the law, and all rows but for the slot that covers the index
+abbrev pub GapsAs : (ℕ → Bool) → ℕ → Tree → Option ℕ → Type 0
+GapsAs is_new index t None = Unit {0}
+GapsAs is_new index t (Some h) = Levels (KeepsGaps is_new index t) t.table h (root_of t)
