@@ -55,6 +55,7 @@ pub mod StepSeen
 pub mod Steps
 pub mod TakenIn
 pub mod Tending
+pub mod ToldRows
 pub mod Widens
 pub mod Written
 pub mod WrittenRows

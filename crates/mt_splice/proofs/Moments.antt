@@ -32,7 +32,7 @@ RowsKeep t words words' h x = KeepsWords t words words' (row_in x.word)
 words_more : (t : Tree) (words words' words″ : List ℕ) (row : ℕ) → KeepsWords t words words' row → KeepsWords t words' words″ row → KeepsWords t words words″ row
 words_more t words words' words″ row first then c above within = then c above within ∙ first c above within
 
-rows_shared : (t : Tree) (words words' : List ℕ) (h : ℕ) (xs : List Span) → Levels (RowsKeep t words words') (table_with t.table words) h xs
+pub rows_shared : (t : Tree) (words words' : List ℕ) (h : ℕ) (xs : List Span) → Levels (RowsKeep t words words') (table_with t.table words) h xs
     → Levels (Shared (table_with t.table words) (table_with t.table words')) (table_with t.table words) h xs
 rows_shared t words words' h xs keep =
     levels_map (RowsKeep t words words') (Shared (table_with t.table words) (table_with t.table words')) (table_with t.table words)
@@ -41,7 +41,7 @@ rows_shared t words words' h xs keep =
 pub row_stays : (t : Tree) (words words' : List ℕ) (h : ℕ) (x : Span) → KeepsWords t words words' (row_in x.word) → IsRow (tree_with t words) h x → IsRow (tree_with t words') h x
 row_stays t words words' h x same row = row_keeps (tree_with t words) words' t.root h x same row
 
-rows_stay : (t : Tree) (words words' : List ℕ) (h : ℕ) (xs : List Span) → Levels (RowsKeep t words words') (table_with t.table words) h xs
+pub rows_stay : (t : Tree) (words words' : List ℕ) (h : ℕ) (xs : List Span) → Levels (RowsKeep t words words') (table_with t.table words) h xs
     → Levels (IsRow (tree_with t words)) (table_with t.table words) h xs → Levels (IsRow (tree_with t words')) (table_with t.table words') h xs
 rows_stay t words words' h xs keep rows =
     levels_shared (IsRow (tree_with t words')) (table_with t.table words) (table_with t.table words') h xs (rows_shared t words words' h xs keep)
@@ -58,7 +58,7 @@ keeps_more start s s' s″ first then = record {
   words = λ row used. words_more start.tree s.words s'.words s″.words row (first.words row used) (then.words row (first.used row used));
 }
 
-used_stay : (start : Start) (s s' : Work) (h : ℕ) (xs : List Span) → Keeps start s s' → Levels (IsUsed s) (now start s).table h xs → Levels (RowsKeep start.tree s.words s'.words) (now start s).table h xs
+pub used_stay : (start : Start) (s s' : Work) (h : ℕ) (xs : List Span) → Keeps start s s' → Levels (IsUsed s) (now start s).table h xs → Levels (RowsKeep start.tree s.words s'.words) (now start s).table h xs
 used_stay start s s' h xs keeps used = levels_map (IsUsed s) (RowsKeep start.tree s.words s'.words) (now start s).table (λ _ x u. keeps.words (row_in x.word) u) h xs used
 
 pub still_used : (start : Start) (s s' : Work) (h : ℕ) (xs : List Span) → Keeps start s s' → Levels (IsUsed s) (now start s).table h xs → Levels (IsUsed s') (now start s').table h xs
