@@ -258,6 +258,7 @@ module _ {b : Before} {start : Start} {s : Sheet} {book : Book} {inner : List Ne
         few = let none = ap length none_taken in omega arith;
         answer = may.answer;
         holds = (refl, two.1.under.holds);
+        gaps = λ _ _ _. tt;
         replaced = form.ends_empty may.under.case.was two.1.under.progress may.none none_taken (root.all_gone start may.work one.0 depth may.none_gone all_leaves two.0 two.1.buried);
         at = tt;
         top = refl;

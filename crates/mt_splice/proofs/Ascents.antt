@@ -6,11 +6,11 @@ use Rattle.mt_layout.specs.declared.spans.Span.{Span}
 use Rattle.mt_layout.specs.Sizes.{slots_of}
 use Rattle.mt_layout.specs.Spans.{spans_from, Fills}
 use Rattle.mt_layout.proofs.SpanLists.{after, some_filled, none_filled, length-spans_from, spans-take, spans-drop, fills_end, last_ends}
-use Rattle.mt_rows.specs.Spans.{inner_kind}
+use Rattle.mt_rows.specs.Spans.{Table, inner_kind}
 use Rattle.mt_rows.specs.Laws.{top_of, kind_at}
 use Rattle.mt_rows.specs.Sheet.{Rooted}
 use Rattle.mt_path.specs.declared.paths.PathStep.{PathStep}
-use Rattle.mt_path.specs.Paths.{step_at}
+use Rattle.mt_path.specs.Paths.{path_in, step_at}
 use Rattle.mt_splice.specs.steps.Work.{Start, Work, now, Holds}
 use Rattle.mt_splice.specs.steps.Stretches.{spans_on}
 use Rattle.mt_splice.specs.steps.Climbs.{begin_of, behind_of, Climbed}
@@ -19,7 +19,9 @@ use Rattle.mt_splice.specs.steps.TakingIn.{MayTakeIn}
 use Rattle.mt_splice.specs.steps.Replacing.{MayGoUp}
 use Rattle.mt_splice.proofs.Rises.{fills_ahead, fills_behind, level_left}
 use Rattle.mt_splice.proofs.Runs.{left_few, slot_used, few_gathered, two_gathered}
+use Rattle.mt_splice.specs.steps.Told.{AreTold}
 use Rattle.mt_splice.proofs.TakenIn.{spans_behind}
+use Rattle.mt_splice.proofs.ToldRows.{row_told, told_append, told_take, told_drop}
 use Rattle.mt_splice.proofs.Widens.{table_now, top_now, slots_now, row_now, row_number, deep_enough, spans_by_items}
 
 -- ---- items and their spans
@@ -42,6 +44,13 @@ spans_between lo first last hi begin i k xs new ys front here back =
     let ahead = spans-take i lo xs in
     spans_behind lo first (take i xs) (new ++ drop k ys) (subst (Fills lo first) (sym ahead) front)
     ∙ (λ j. ahead j ++ (spans_behind first last new (drop k ys) here ∙ ap (λ (l : List Span). spans_from first new ++ l) (sym (row_behind last hi begin k ys back))) j)
+
+-- which tell their gaps where they all do
+told_between : (start : Start) (w : Work) (h lo first last hi begin i k : ℕ) (xs new ys : List Item) → Fills lo first (take i (spans_from lo xs)) → Fills first last (spans_from first new) → Fills last hi (drop k (spans_from begin ys))
+    → AreTold start w h lo xs → AreTold start w h first new → AreTold start w h begin ys → AreTold start w h lo (take i xs ++ (new ++ drop k ys))
+told_between start w h lo first last hi begin i k xs new ys front here back ahead between behind =
+    told_append start w h lo first (take i xs) (new ++ drop k ys) (spans_behind lo first (take i xs) (new ++ drop k ys) (subst (Fills lo first) (sym (spans-take i lo xs)) front)) (told_take start w h lo i xs ahead)
+    (told_append start w h first last new (drop k ys) (spans_behind first last new (drop k ys) here) between (told_drop start w h begin last k ys (sym (row_behind last hi begin k ys back)) behind))
 
 -- ---- the rows of the level above
 
@@ -158,14 +167,29 @@ module _ {start : Start} {w : Work} {t : Rooted} {left right : List PathStep} {d
       let begins = fills.0 in let ends = fills.2 in let top = top_now may.is_now in
       may.goes_on (inr (count, inr (record { first = omega arith; last = omega arith })))
 
+  -- what stands in the two rows, and is told
+  fills_left : Fills (begin_of left depth) (begin_of left (suc depth)) (take (step_at left depth).slot (spans_from (begin_of left depth) left_items))
+  fills_left = subst (λ (xs : List Span). Fills (begin_of left depth) (begin_of left (suc depth)) (take (step_at left depth).slot xs)) left_are (fills_ahead start w left right depth height new_spans climbed)
+
+  fills_behind_it : Fills (behind_of right (suc depth)) (behind_of right depth) (drop ((step_at right depth).slot + 1) (spans_from (step_at right depth).min right_items))
+  fills_behind_it = subst (λ (xs : List Span). Fills (behind_of right (suc depth)) (behind_of right depth) (drop ((step_at right depth).slot + 1) xs)) right_are fills_right
+
+  row_is_told : (path : List PathStep) (i : ℕ) → i ≤ top_of start.tree → path ≡ path_in start.tree.table start.tree.root i → AreTold start w height (step_at path depth).min (items_of_row t.table (inner_kind start.tree.kind) (step_at path depth).row (step_at path depth).max)
+  row_is_told path i within is_path =
+      subst (λ (table : Table). AreTold start w height (step_at path depth).min (items_of_row table (inner_kind start.tree.kind) (step_at path depth).row (step_at path depth).max)) (sym (table_now may.is_now))
+      (row_told start w holds may.had_gaps path i within is_path depth (suc height) levels_here)
+
+  run_told : AreTold start w height (begin_of left depth) (take (step_at left depth).slot left_items ++ (new ++ drop ((step_at right depth).slot + 1) right_items))
+  run_told =
+      told_between start w height (begin_of left depth) (begin_of left (suc depth)) (behind_of right (suc depth)) (behind_of right depth) (step_at right depth).min (step_at left depth).slot ((step_at right depth).slot + 1) left_items new right_items
+      fills_left climbed.fills fills_behind_it (row_is_told left from from_within climbed.paths.is_left) may.told (row_is_told right to climbed.paths.within climbed.paths.is_right)
+
   module _ {run : List Item} (is_run : run ≡ take (step_at left depth).slot left_items ++ (new ++ drop ((step_at right depth).slot + 1) right_items)) where
     spans_are : spans_from (begin_of left depth) run ≡ gathered_spans
     spans_are =
-        let front = subst (λ (xs : List Span). Fills (begin_of left depth) (begin_of left (suc depth)) (take (step_at left depth).slot xs)) left_are (fills_ahead start w left right depth height new_spans climbed) in
-        let back = subst (λ (xs : List Span). Fills (behind_of right (suc depth)) (behind_of right depth) (drop ((step_at right depth).slot + 1) xs)) right_are fills_right in
         ap (spans_from (begin_of left depth)) is_run
         ∙ (spans_between (begin_of left depth) (begin_of left (suc depth)) (behind_of right (suc depth)) (behind_of right depth) (step_at right depth).min (step_at left depth).slot ((step_at right depth).slot + 1) left_items new right_items
-        front climbed.fills back
+        fills_left climbed.fills fills_behind_it
         ∙ (λ j. take (step_at left depth).slot (sym left_are j) ++ (new_spans ++ drop ((step_at right depth).slot + 1) (sym right_are j))))
 
     count_run : length run ≡ length gathered_spans
@@ -183,4 +207,6 @@ module _ {start : Start} {w : Work} {t : Rooted} {left right : List PathStep} {d
       two = λ h high first last.
           let two = two_gathered start w left right depth height new_spans climbed first last not_one in
           let same = count_run in omega arith;
+      told = subst (AreTold start w height (begin_of left depth)) (sym is_run) run_told;
+      had_gaps = may.had_gaps;
     }

@@ -132,6 +132,7 @@ module _ (start : Start) (s : Work) (left right : List PathStep) (first last ent
   items_gathered : Gathered start s left right h 0 items
   items_gathered = record {
     paths = paths_first;
+    around = begins.around;
     holds = holds_first;
     levels = omega arith;
     front = leaves.front;

@@ -27,7 +27,7 @@ use Rattle.mt_rows.specs.declared.rows.Place.{Place}
 use Rattle.mt_rows.specs.declared.rows.Place.TheVariants.{Root, Slot}
 use Rattle.mt_rows.proofs.Depth.{height_by_depth}
 use Rattle.mt_rows.proofs.Heights.{levels_pair}
-use Rattle.mt_splice.proofs.EndAfter.{levels_all}
+use Rattle.mt_splice.proofs.EndGaps.{levels_all}
 use Rattle.mt_rows.proofs.Reached.{height_is}
 use Rattle.mt_rows.specs.Gaps.{HasGaps}
 use Rattle.mt_rows.specs.Levels.{Levels}
@@ -143,8 +143,8 @@ published_with : (s s' : Sheet) (reads : Option ℕ) (place : Place) → WasPubl
 published_with s s' reads Root was = was
 published_with s s' reads (Slot row col) was = was
 
-spliced_with : {kind : Kind} {s s' : Sheet} {book book' : Book} {number : ℕ} {call : Call} {reply : Reply} {place : Place} (reads : Option ℕ)
-    → IsSpliced kind (record s { reads = reads }) s' book book' number call reply place → IsSpliced kind s s' book book' number call reply place
+spliced_with : {kind : Kind} {s s' : Sheet} {book book' : Book} {number : ℕ} {call : Call} {reply : Reply} {place : Place} {first last : ℕ} (reads : Option ℕ)
+    → IsSpliced kind (record s { reads = reads }) s' book book' number call reply place first last → IsSpliced kind s s' book book' number call reply place first last
 spliced_with {s = s} {s' = s'} {place = place} reads spliced = record {
   rest = spliced.rest;
   rows = spliced.rows;
@@ -152,6 +152,7 @@ spliced_with {s = s} {s' = s'} {place = place} reads spliced = record {
   parents = spliced.parents;
   map = spliced.map;
   fewest = spliced.fewest;
+  gaps = spliced.gaps;
   published = published_with s s' reads place spliced.published;
   kept = spliced.kept;
   none_buried = spliced.none_buried;
@@ -166,10 +167,10 @@ spliced_with {s = s} {s' = s'} {place = place} reads spliced = record {
 }
 
 -- a replacement of rows that were only read before is one of the rows as they were
-pub spliced_after_reads : {kind : Kind} {s s₁ s₂ s' : Sheet} {book book' : Book} {number : ℕ} {call : Call} {reply : Reply} {place : Place} → OnlyReads s s₁ → OnlyReads s₁ s₂
-    → IsSpliced kind s₂ s' book book' number call reply place → IsSpliced kind s s' book book' number call reply place
-spliced_after_reads {kind = kind} {s = s} {s₁ = s₁} {s₂ = s₂} {s' = s'} {book = book} {book' = book'} {number = number} {call = call} {reply = reply} {place = place} reads₁ reads₂ spliced =
-    spliced_with {s = s} s₂.reads (subst (λ (x : Sheet). IsSpliced kind x s' book book' number call reply place) (reads_on s s₁ s₂ reads₁ reads₂) spliced)
+pub spliced_after_reads : {kind : Kind} {s s₁ s₂ s' : Sheet} {book book' : Book} {number : ℕ} {call : Call} {reply : Reply} {place : Place} {first last : ℕ} → OnlyReads s s₁ → OnlyReads s₁ s₂
+    → IsSpliced kind s₂ s' book book' number call reply place first last → IsSpliced kind s s' book book' number call reply place first last
+spliced_after_reads {kind = kind} {s = s} {s₁ = s₁} {s₂ = s₂} {s' = s'} {book = book} {book' = book'} {number = number} {call = call} {reply = reply} {place = place} {first = first} {last = last} reads₁ reads₂ spliced =
+    spliced_with {s = s} s₂.reads (subst (λ (x : Sheet). IsSpliced kind x s' book book' number call reply place first last) (reads_on s s₁ s₂ reads₁ reads₂) spliced)
 
 -- ---- a call begins
 
@@ -232,14 +233,14 @@ may_clear {kind = kind} {s = s} {s' = s'} {book = book} {number = number} ready 
 
 -- ---- the call ends
 
-pub may_finish : {kind : Kind} {s s' : Sheet} {book book' : Book} {number : ℕ} {call : Call} {reply : Reply} {place : Place} → IsSpliced kind s s' book book' number call reply place → s.in_flight ≡ true → (k : Kind) × MayFinish k s' call reply
+pub may_finish : {kind : Kind} {s s' : Sheet} {book book' : Book} {number : ℕ} {call : Call} {reply : Reply} {place : Place} {first last : ℕ} → IsSpliced kind s s' book book' number call reply place first last → s.in_flight ≡ true → (k : Kind) × MayFinish k s' call reply
 may_finish {kind = kind} spliced flies = (
   kind,
   record { in_flight = ap (λ (x : Sheet). x.in_flight) spliced.rest ∙ flies; kept = λ not. let is = ap (λ (x : Sheet). x.published) spliced.rest in absurd (cc) },
 )
 
-module _ {kind : Kind} {s s' s″ : Sheet} {book book' : Book} {number : ℕ} {call : Call} {reply : Reply} {place : Place} (told : IsTold s.kind kind) (same_end : number ≡ s.ended + 1)
-    (spliced : IsSpliced kind s s' book book' number call reply place) (ends : s″ ≡ finished s' call reply) where
+module _ {kind : Kind} {s s' s″ : Sheet} {book book' : Book} {number : ℕ} {call : Call} {reply : Reply} {place : Place} {first last : ℕ} (told : IsTold s.kind kind) (same_end : number ≡ s.ended + 1)
+    (spliced : IsSpliced kind s s' book book' number call reply place first last) (ends : s″ ≡ finished s' call reply) where
   ended_is : s'.ended ≡ s.ended
   ended_is = ap (λ (x : Sheet). x.ended) spliced.rest
 

@@ -36,7 +36,7 @@ module _ {kind : Kind} {s : Sheet} {book : Book} {number : ℕ} {call : Call} {r
   t = tree_as kind s.tree
 
   abbrev start : Start
-  start = start_of kind s call
+  start = start_of kind s call 0 (greatest s.tree.table.width)
 
   stands : Stands t start.height
   stands = stands_at_start t may.kept.lawful.words may.some
@@ -97,10 +97,10 @@ module _ {kind : Kind} {s : Sheet} {book : Book} {number : ℕ} {call : Call} {r
 
   -- ---- the tree is empty
 
-  pub map_is_empty : {s' : Sheet} {book' : Book} → IsSpliced kind s s' book book' number call reply Root → map_by s'.tree ≡ []
+  pub map_is_empty : {s' : Sheet} {book' : Book} → {first last : ℕ} → IsSpliced kind s s' book book' number call reply Root first last → map_by s'.tree ≡ []
   map_is_empty spliced = spliced.map ∙ ap (λ (a : List Range × Reply). a.0) may.answer
 
-  pub root_is_0 : {s' : Sheet} {book' : Book} → IsSpliced kind s s' book book' number call reply Root → s'.tree.root ≡ 0
+  pub root_is_0 : {s' : Sheet} {book' : Book} → {first last : ℕ} → IsSpliced kind s s' book book' number call reply Root first last → s'.tree.root ≡ 0
   root_is_0 {s' = s'} spliced = by spliced.tree.words
     where
       by : IsTree (tree_as kind s'.tree) → s'.tree.root ≡ 0
@@ -112,7 +112,7 @@ module _ {kind : Kind} {s : Sheet} {book : Book} {number : ℕ} {call : Call} {r
           absurd (omega arith)
 
 -- the paths as they were walked, and the list as it is passed
-pub may_end_empty : {b : Before} {start : Start} {kind : Kind} {s s₁ s₂ : Sheet} {book : Book} {number : ℕ} {call : Call} {reply : Reply} {left right : List PathStep} {width : Width} {index depth : ℕ} {inner : List NewRow} → IsBegunBy b start kind s book number call
+pub may_end_empty : {b : Before} {start : Start} {kind : Kind} {s s₁ s₂ : Sheet} {book : Book} {number : ℕ} {call : Call} {reply : Reply} {left right : List PathStep} {width : Width} {index depth : ℕ} {inner : List NewRow} → IsBegunBy b start kind s book number call 0 (greatest s.tree.table.width)
     → MayClear kind s book number call reply → IsWhole s → OnlyReads s s₁ → OnlyReads s₁ s₂ → left ≡ path_in s.tree.table s.tree.root 0 → width ≡ s₁.tree.table.width → index ≡ greatest width → right ≡ path_in s₁.tree.table s₁.tree.root index
     → depth + 1 ≡ length left → inner ≡ [] → MayEndEmpty b start s₂ book inner left right depth number call reply
 may_end_empty {b = b} {start = start} {kind = kind} {s = s} {s₁ = s₁} {s₂ = s₂} {book = book} {number = number} {call = call} {reply = reply} {left = left} {right = right} {width = width} {index = index} {depth = depth} {inner = inner}
@@ -120,6 +120,6 @@ may_end_empty {b = b} {start = start} {kind = kind} {s = s} {s₁ = s₁} {s₂ 
     let words = tree_read s s₁ reads₁ in
     let last : index ≡ greatest s.tree.table.width = is_top ∙ ap greatest (is_width ∙ ap (λ (t : Rooted). t.table.width) words) in
     let right_now : right ≡ path_in s.tree.table s.tree.root (greatest s.tree.table.width) = is_right ∙ (ap (λ (t : Rooted). path_in t.table t.root index) words ∙ ap (path_in s.tree.table s.tree.root) last) in
-    let high : (start_of kind s call).height ≡ depth = (let levels = left_levels may is_left in omega arith) in
+    let high : (start_of kind s call 0 (greatest s.tree.table.width)).height ≡ depth = (let levels = left_levels may is_left in omega arith) in
     subst (λ (x : Before × Start × List NewRow × ℕ). MayEndEmpty x.0 x.1 s₂ book x.2 left right x.3 number call reply) (λ i. (sym begun.before i, sym begun.start i, sym none i, high i))
     (ends_empty may whole is_left right_now (reads_on s s₁ s₂ reads₁ reads₂))

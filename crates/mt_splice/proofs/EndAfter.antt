@@ -1,6 +1,5 @@
 -- What stands after the store that publishes, and after parent words were written.
-use Rattle.std.proofs.Common.{◌≡◌, ℕ, zero, suc, ◌+◌, ◌<◌, ◌≤◌, List, [], ◌∷◌, Option, Some, None, Bool, true, false, refl, sym, ap, ◌∙◌, subst, inl, inr, arith}
-use Rattle.std.specs.List.{AllByRecursion}
+use Rattle.std.proofs.Common.{◌≡◌, ℕ, ◌+◌, ◌<◌, ◌≤◌, List, [], Option, Some, None, Bool, true, false, refl, sym, ap, ◌∙◌, subst, inl, inr, arith}
 use Rattle.std.proofs.lemmas.Bool.{cases_Bool}
 use Rattle.mt_base.specs.declared.widths.Width.{Width}
 use Rattle.mt_base.specs.Width.{columns, first_row}
@@ -11,8 +10,8 @@ use Rattle.mt_layout.specs.Sizes.{slots_of}
 use Rattle.mt_layout.proofs.RowSizes.{slot_above}
 use Rattle.mt_rows.specs.declared.rows.Place.{Place}
 use Rattle.mt_rows.specs.declared.rows.Place.TheVariants.{Root, Slot}
-use Rattle.mt_rows.specs.Spans.{Table, column}
-use Rattle.mt_rows.specs.Levels.{expand, Levels, is_row_of}
+use Rattle.mt_rows.specs.Spans.{column}
+use Rattle.mt_rows.specs.Levels.{is_row_of}
 use Rattle.mt_rows.specs.Laws.{Tree}
 use Rattle.mt_rows.specs.Sheet.{Rooted, Sheet, life_of, is_buried, word_at}
 use Rattle.mt_rows.specs.Publish.{tree_as, is_reached, map_by, with_record, with_published, life_after, Published, IsPlaceToPublish}
@@ -24,6 +23,8 @@ use Rattle.mt_splice.specs.steps.Endings.{words_of}
 use Rattle.mt_splice.specs.steps.Ends.{HoldsAs, OnlyParents}
 use Rattle.mt_rows.proofs.Frames.{same_spans}
 use Rattle.mt_rows.proofs.Joins.{Shared}
+use Rattle.mt_splice.specs.steps.Told.{GapsBeside}
+use Rattle.mt_splice.proofs.EndGaps.{AllKeep, levels_all, gaps_kept}
 use Rattle.mt_splice.proofs.FewestRows.{SameNews, fewest_later}
 use Rattle.mt_splice.proofs.Drafts.{same_column}
 use Rattle.mt_splice.proofs.EndTrees.{map_is, reached_count, count_reached, unreached_count, count_unreached}
@@ -32,29 +33,13 @@ use Rattle.mt_splice.proofs.EndTending.{only_rows, only_width}
 
 -- ---- a tree whose parent words have changed
 
-pub levels_all : (P : ℕ → Span → Type 0) (t : Table) → ((h : ℕ) (x : Span) → P h x) → (h : ℕ) (xs : List Span) → Levels P t h xs
-levels_all P t each zero xs = all_here zero xs
-  where
-    all_here : (h : ℕ) (xs : List Span) → AllByRecursion (P h) xs
-    all_here h [] = tt
-    all_here h (x ∷ xs) = (each h x, all_here h xs)
-levels_all P t each (suc h) xs = (all_here (suc h) xs, levels_all P t each h (expand t xs))
-  where
-    all_here : (h : ℕ) (xs : List Span) → AllByRecursion (P h) xs
-    all_here h [] = tt
-    all_here h (x ∷ xs) = (each h x, all_here h xs)
-
--- every row of the two tables has the same columns but for the parent word
-abbrev AllKeep : Table → Table → Type 0
-AllKeep t t' = (r c : ℕ) → 0 < c → c < columns t.width → column t' r c ≡ column t r c
-
 abbrev high : Option ℕ → ℕ
 high None = 0
 high (Some h) = h
 
 -- the same tree by other words, as a moment of a replacement that takes nothing
 abbrev first_moment : Tree → Option ℕ → Start
-first_moment t o = record { tree = t; height = high o; map = [] }
+first_moment t o = record { tree = t; height = high o; map = []; first = 0; last = 0 }
 
 abbrev later_moment : List ℕ → Work
 later_moment words = record { words = words; used = (λ (row : ℕ). true); taken = []; gone = [] }
@@ -79,6 +64,11 @@ fewest_kept is_new t words (Some h) keep few =
     fewest_later is_new is_new t.kind t.table t'.table refl h (root_of t)
     (levels_all (Shared t.table t'.table) t.table (λ _ x. same_spans t.table t'.table x (keep (row_in x.word))) h (root_of t))
     (levels_all (SameNews is_new is_new) t.table (λ _ x. refl) h (root_of t)) few
+
+-- and the gap words stay right where they were
+gaps_stay : (start : Start) (is_new : ℕ → Bool) (t : Tree) (words : List ℕ) (o : Option ℕ) → AllKeep t.table (record { width = t.table.width; words = words }) → StandsAs t o → GapsBeside start is_new t o → GapsBeside start is_new (tree_with t words) o
+gaps_stay start is_new t words None keep stands gaps = λ _ _ _. tt
+gaps_stay start is_new t words (Some h) keep stands gaps = λ index from to. gaps_kept is_new index t words keep h (root_of t) stands.rows (gaps index from to)
 
 module _ (t : Tree) (words : List ℕ) (o : Option ℕ) (keep : AllKeep t.table (record { width = t.table.width; words = words })) (stands : StandsAs t o) where
   abbrev other : Tree
@@ -108,6 +98,7 @@ pub record Outcome (f : Finish) (s' : Sheet) : Type 0 where
   pub rest : s' ≡ record f.before.sheet { tree = s'.tree; published = true; lives = s'.lives; buried = s'.buried; told = with_record f.before.sheet.told f.call f.reply; reads = s'.reads }
   pub stands : StandsAs (tree_as f.before.kind s'.tree) f.may.new
   pub fewest : FewestAs (is_taken f.may.work) (tree_as f.before.kind s'.tree) f.may.new
+  pub gaps : GapsBeside f.start (is_taken f.may.work) (tree_as f.before.kind s'.tree) f.may.new
   pub rows : s'.tree.rows ≡ f.before.sheet.tree.rows
   pub width : s'.tree.table.width ≡ f.before.sheet.tree.table.width
   pub root : s'.tree.root ≡ (published f).root
@@ -150,6 +141,9 @@ module _ (f : Finish) (s₁ s₂ : Sheet) (done : Published f.sheet s₁ f.place
   fewest₁ : FewestAs (is_taken f.may.work) t₁ f.may.new
   fewest₁ = subst (λ (v : Rooted). FewestAs (is_taken f.may.work) (tree_as f.before.kind v) f.may.new) (sym tree₁) f.may.replaced.fewest
 
+  gaps₁ : GapsBeside f.start (is_taken f.may.work) t₁ f.may.new
+  gaps₁ = subst (λ (v : Rooted). GapsBeside f.start (is_taken f.may.work) (tree_as f.before.kind v) f.may.new) (sym tree₁) f.may.gaps
+
   -- the sheet at the start, but for what the writes have changed
   before_is : f.sheet ≡ record f.before.sheet { tree = f.sheet.tree; lives = f.sheet.lives; buried = f.sheet.buried; reads = f.sheet.reads }
   before_is = ap (λ (x : Sheet). record x { tree = f.sheet.tree; lives = f.sheet.lives; buried = f.sheet.buried; reads = f.sheet.reads }) (progress f).rest
@@ -183,6 +177,7 @@ module _ (f : Finish) (s₁ s₂ : Sheet) (done : Published f.sheet s₁ f.place
     rest = rest₂;
     stands = subst (λ (v : Rooted). StandsAs (tree_as f.before.kind v) f.may.new) (sym only.tree) (other_stands t₁ s₂.tree.table.words f.may.new keep stands₁);
     fewest = subst (λ (v : Rooted). FewestAs (is_taken f.may.work) (tree_as f.before.kind v) f.may.new) (sym only.tree) (fewest_kept (is_taken f.may.work) t₁ s₂.tree.table.words f.may.new keep fewest₁);
+    gaps = subst (λ (v : Rooted). GapsBeside f.start (is_taken f.may.work) (tree_as f.before.kind v) f.may.new) (sym only.tree) (gaps_stay f.start (is_taken f.may.work) t₁ s₂.tree.table.words f.may.new keep stands₁ gaps₁);
     rows = only_rows s₁ s₂ only ∙ (ap (λ (v : Rooted). v.rows) tree₁ ∙ (published_rows f.sheet.tree f.place f.word ∙ rows_same f));
     width = only_width s₁ s₂ only ∙ (width₁ ∙ width_same f);
     root = ap (λ (v : Rooted). v.root) only.tree ∙ ap (λ (v : Rooted). v.root) tree₁;

@@ -17,7 +17,10 @@ use Rattle.mt_rows.specs.declared.rows.Life.TheVariants.{New, Draft, Live, Dead}
 use Rattle.mt_rows.specs.declared.rows.Place.{Place}
 use Rattle.mt_rows.specs.declared.rows.Place.TheVariants.{Root, Slot}
 use Rattle.mt_rows.specs.Spans.{column, root_span}
-use Rattle.mt_rows.specs.Levels.{is_row_of}
+use Rattle.mt_layout.specs.declared.spans.Span.{Span}
+use Rattle.mt_rows.specs.Gaps.{KeepsGaps, HasGapsBut}
+use Rattle.mt_rows.specs.Levels.{Levels, is_row_of}
+use Rattle.mt_rows.proofs.Heights.{levels_pair}
 use Rattle.mt_rows.specs.Trees.{height_in}
 use Rattle.mt_rows.specs.Laws as laws
 use Rattle.mt_rows.specs.Sheet.{Rooted, Sheet, life_of, is_buried, word_at}
@@ -30,6 +33,7 @@ use Rattle.mt_rows.specs.Replacement.{root_of}
 use Rattle.mt_rows.proofs.Joins.{Shared}
 use Rattle.mt_rows.proofs.PlainReached.{levels_from}
 use Rattle.mt_splice.specs.Splice.{WasPublishedAt, IsBooked, HasParents, HasFewest, IsSpliced, is_unreached}
+use Rattle.mt_splice.specs.steps.Told.{GapsBeside}
 use Rattle.mt_splice.proofs.FewestRows.{SameNews, fewest_later}
 use Rattle.mt_splice.specs.Kept.{IsSpare, IsBookOf}
 use Rattle.mt_splice.specs.steps.Replaced.{StandsAs, FewestAs, count_in}
@@ -40,7 +44,8 @@ use Rattle.mt_splice.proofs.EndHoles.{name_some, at_on_level, child_on_level}
 use Rattle.mt_splice.proofs.EndLists.{all_ones, map_one, one_contains, apart_ends, seen_some, seen_contains, contains_seen, stamped_rows, rows_stamped}
 use Rattle.mt_splice.proofs.EndWords.{slot_word}
 use Rattle.mt_splice.proofs.EndBooks.{taken_leave_book, retired_leave_book}
-use Rattle.mt_splice.proofs.EndAfter.{Outcome, above_in, levels_all}
+use Rattle.mt_splice.proofs.EndAfter.{Outcome, above_in}
+use Rattle.mt_splice.proofs.EndGaps.{levels_all}
 use Rattle.mt_splice.proofs.EndPublish as ends
 
 pub life_if_reached : (s : Sheet) (t : Rooted) (row : ℕ) → is_reached t row ≡ true → life_after s t row ≡ Live
@@ -447,8 +452,26 @@ module _ (f : ends.Finish) (s' : Sheet) (o : Outcome f s') where
         (λ k x _ on. new_is_taken (row_in x.word) (count_reached tree_now (Some h) (row_in x.word) standing (reached.on_level_reached tree_now h standing k x on)))) few,
   )
 
+  -- a row of the tree keeps the law of gaps as it did
+  gaps_of : (index h : ℕ) → StandsAs tree_now (Some h) → Levels (KeepsGaps (is_taken w) index tree_now) s'.tree.table h (root_of tree_now) → Levels (KeepsGaps (is_unreached b.sheet.tree) index tree_now) s'.tree.table h (root_of tree_now)
+  gaps_of index h standing gaps = levels_pair SameNew (KeepsGaps (is_taken w) index tree_now) (KeepsGaps (is_unreached b.sheet.tree) index tree_now) s'.tree.table one h (root_of tree_now) news gaps
+    where
+      SameNew : ℕ → Span → Type 0
+      SameNew k x = is_unreached b.sheet.tree (row_in x.word) ≡ is_taken w (row_in x.word)
+
+      news : Levels SameNew s'.tree.table h (root_of tree_now)
+      news = levels_from SameNew s'.tree.table h (root_of tree_now) h 0 (omega arith)
+          (λ k x _ on. new_is_taken (row_in x.word) (count_reached tree_now (Some h) (row_in x.word) standing (reached.on_level_reached tree_now h standing k x on)))
+
+      one : (k : ℕ) (x : Span) → SameNew k x → KeepsGaps (is_taken w) index tree_now k x → KeepsGaps (is_unreached b.sheet.tree) index tree_now k x
+      one k x same keeps = record { beside = keeps.beside; new = λ is. keeps.new (sym same ∙ is) }
+
+  gaps_as : (new : Option ℕ) → StandsAs tree_now new → GapsBeside f.start (is_taken w) tree_now new → (index : ℕ) → f.start.first ≤ index → index ≤ f.start.last → HasGapsBut (is_unreached b.sheet.tree) index tree_now
+  gaps_as None none gaps index from to = inl none
+  gaps_as (Some h) standing gaps index from to = inr (h, standing, gaps_of index h standing (gaps index from to))
+
   -- all is done but for the parent words
-  pub spliced : HasParents (tree_as b.kind s'.tree) → ((row : ℕ) → IsReached b.sheet.tree row → is_reached s'.tree row ≡ false → word_at s'.tree row 0 ≡ dead_mark row) → IsSpliced b.kind b.sheet s' b.book book b.number f.call f.reply f.place
+  pub spliced : HasParents (tree_as b.kind s'.tree) → ((row : ℕ) → IsReached b.sheet.tree row → is_reached s'.tree row ≡ false → word_at s'.tree row 0 ≡ dead_mark row) → IsSpliced b.kind b.sheet s' b.book book b.number f.call f.reply f.place f.start.first f.start.last
   spliced parents marked = record {
     rest = o.rest;
     rows = o.rows;
@@ -456,6 +479,7 @@ module _ (f : ends.Finish) (s' : Sheet) (o : Outcome f s') where
     parents = parents;
     map = map_is;
     fewest = fewest_as f.may.new o.stands o.fewest;
+    gaps = gaps_as f.may.new o.stands o.gaps;
     published = published_in f.may.old f.may.new f.place refl refl refl (ends.stands_was f) f.may.at f.may.top;
     kept = kept;
     none_buried = none_buried;

@@ -14,6 +14,7 @@ use Rattle.mt_splice.specs.steps.Progress.{Before, IsBefore, IsProgress}
 use Rattle.mt_splice.specs.steps.Replaced.{IsReplaced}
 use Rattle.mt_splice.specs.steps.Endings.{words_of, with_root, with_step, column_of, IsStepIn}
 use Rattle.mt_splice.specs.steps.Ends.{IsEndPlace}
+use Rattle.mt_splice.specs.steps.Told.{GapsBeside}
 
 -- the tree by the words now is the sheet's
 pub now_is : {b : Before} {start : Start} {s : Sheet} {book : Book} {w : Work} → IsBefore b start → IsProgress b s book w → now start w ≡ tree_as b.kind s.tree
@@ -40,6 +41,15 @@ module _ {b : Before} {start : Start} {s : Sheet} {book : Book} {w : Work} (was 
         (now_is was progress) replaced,
     (record { depth = depth; low = low; slot = step.slot; at = at.row; child = at.child; levels = levels; here = at.at; number = at.number; column = refl }, kept),
   )
+
+  -- the law of gaps
+  pub gaps_at_root : (is_new : ℕ → Bool) (new : Option ℕ) (word : ℕ) → GapsBeside start is_new (with_root (now start w) word) new → GapsBeside start is_new (tree_as b.kind (with_published s.tree Root word)) new
+  gaps_at_root is_new new word gaps = subst (λ (t : Tree). GapsBeside start is_new (with_root t word) new) (now_is was progress) gaps
+
+  pub gaps_in_slot : (is_new : ℕ → Bool) (low word : ℕ) (step : PathStep) (new : Option ℕ) → GapsBeside start is_new (with_step (now start w) (kind_at start.tree.kind (suc low)) step word) new
+      → GapsBeside start is_new (tree_as b.kind (with_published s.tree (Slot step.row (column_of (now start w) (kind_at start.tree.kind (suc low)) step)) word)) new
+  gaps_in_slot is_new low word step new gaps =
+      subst (λ (t : Tree). GapsBeside start is_new (tree_as t.kind (with_published (words_of t) (Slot step.row (column_of (now start w) (kind_at start.tree.kind (suc low)) step)) word)) new) (now_is was progress) gaps
 
   -- nothing is left
   pub ends_empty : start.map ≡ [] → w.taken ≡ [] → ((p : ℕ → Span → Bool) → passing p w.gone ≡ times_in p start.tree start.height)

@@ -131,7 +131,7 @@ module _ {b : Before} {start : Start} {s : Sheet} {book : Book} {inner : List Ne
     pub may_tend_top_now : {s₁ s₂ : Sheet} → Published s s₁ place word call reply → AreRowsTended s₁ s₂ kind inner → MayTendTopAt s₂ kind place word
     may_tend_top_now {s₁} {s₂} done tended = top_still s₁ s₂ kind place word tended.only (subst (λ (k : RowKind). MayTendTopAt s₁ k place word) is_inner (tend_top_by f s₁ may.new place refl refl may.at done))
 
-    pub spliced_end : {s₁ s₂ s₃ : Sheet} → Published s s₁ place word call reply → AreRowsTended s₁ s₂ kind inner → IsTopTendedAt s₂ s₃ kind place word → IsSpliced b.kind b.sheet s₃ b.book book b.number call reply place
+    pub spliced_end : {s₁ s₂ s₃ : Sheet} → Published s s₁ place word call reply → AreRowsTended s₁ s₂ kind inner → IsTopTendedAt s₂ s₃ kind place word → IsSpliced b.kind b.sheet s₃ b.book book b.number call reply place start.first start.last
     spliced_end {s₁} {s₂} {s₃} done tended top =
         let o = outcome f s₁ s₃ done (only_more s₁ s₂ s₃ tended.only (top_only s₂ s₃ kind place word top)) in
         let rows_tended = subst (λ (k : RowKind). AreRowsTended s₁ s₂ k inner) (sym is_inner) tended in

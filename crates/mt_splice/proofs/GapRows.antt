@@ -46,7 +46,7 @@ abbrev pub AreGapsAt : Table → ℕ → ℕ → List Item → Type 0
 AreGapsAt t row slot [] = Unit {0}
 AreGapsAt t row slot (x ∷ items) = (x.gap ≡ column t row (gap_column (slots_of t.width Gapped) slot)) × AreGapsAt t row (slot + 1) items
 
-some_gaps : (width : Width) → gaps_of width Gapped ≡ 0 → ⊥
+pub some_gaps : (width : Width) → gaps_of width Gapped ≡ 0 → ⊥
 some_gaps Long none = absurd (omega arith)
 
 pub gaps_read : (width : Width) (w : List ℕ) (row max left i : ℕ) → AreGapsAt (record { width = width; words = w }) row i (items_from (slots_of width Gapped) (gaps_of width Gapped) w (columns width * row) max left i)

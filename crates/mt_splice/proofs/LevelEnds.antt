@@ -18,7 +18,7 @@ use Rattle.mt_free.specs.Book.{Book}
 use Rattle.mt_rows.specs.declared.rows.Place.{Place}
 use Rattle.mt_rows.specs.declared.rows.Place.TheVariants.{Root, Slot}
 use Rattle.mt_rows.specs.Spans.{inner_kind}
-use Rattle.mt_rows.specs.Levels.{is_row_of}
+use Rattle.mt_rows.specs.Levels.{Levels, is_row_of}
 use Rattle.mt_rows.specs.Trees.{height_in}
 use Rattle.mt_rows.specs.Laws.{Tree, top_of, kind_at, covers_all}
 use Rattle.mt_rows.specs.Sheet.{Sheet}
@@ -33,19 +33,22 @@ use Rattle.mt_splice.specs.steps.Work.{Start, Work, now, Holds}
 use Rattle.mt_splice.specs.steps.Climbs.{begin_of, behind_of, Climbed}
 use Rattle.mt_splice.specs.steps.Replaced.{IsReplaced}
 use Rattle.mt_splice.specs.steps.Runs.{span_to}
-use Rattle.mt_splice.specs.steps.Progress.{Before, IsBefore, IsProgress}
+use Rattle.mt_splice.specs.steps.Progress.{Before, IsBefore, IsProgress, is_taken}
 use Rattle.mt_splice.specs.steps.Levels.{MayWriteRow, IsOneWritten, MayAddRow, IsRowAdded}
-use Rattle.mt_splice.specs.steps.Endings.{column_of}
+use Rattle.mt_splice.specs.steps.Endings.{column_of, with_root}
+use Rattle.mt_splice.specs.steps.Told.{IsGoodRow, AreTold, GapsAs, GapsBeside}
 use Rattle.mt_splice.specs.steps.Ends.{IsEndPlace, MayPublishEnd}
 use Rattle.mt_splice.specs.steps.Replacing.{IsAnswer, IsBurying, AreRowsReplaced, MayReplaceLevelRows, AreLevelRowsReplaced, MayBuryAbove, AreAboveBuried, MayBuryLevels, AreLevelsDone, MayEnd, MayEndAtRoot, MayEndAbove, MayEndInSlot}
 use Rattle.mt_splice.proofs.AboveNothing.{burying}
 use Rattle.mt_splice.proofs.EndForms as forms
+use Rattle.mt_splice.proofs.EndGaps.{root_gaps}
 use Rattle.mt_splice.proofs.LevelDone.{room_to_note}
 use Rattle.mt_splice.proofs.LevelLinks.{free_and_taken}
 use Rattle.mt_splice.proofs.Rises.{step_here, row_is_lawful}
 use Rattle.mt_splice.proofs.RootEndings as roots
 use Rattle.mt_splice.proofs.SlotEnding as slots
 use Rattle.mt_splice.proofs.Steps.{width_now}
+use Rattle.mt_splice.proofs.ToldRows.{good_later, gaps_were}
 use Rattle.mt_splice.proofs.Written.{holds_written, are_taken}
 use Rattle.mt_rows.proofs.FewSpans.{row_most}
 
@@ -70,8 +73,9 @@ module _ {b : Before} {start : Start} {s : Sheet} {book : Book} {w : Work} {inne
   tall = ap (λ (t : Tree). height_in t.table t.root) (sym under.case.was.tree) ∙ height_is start.tree start.height under.holds.stands
 
   may_publish : (h : ℕ) (place : Place) (word : ℕ) {inner' : List NewRow} → inner' ≡ inner → IsReplaced start.tree (tree_as b.kind (with_published s.tree place word)) start.map w.taken w.gone (Some start.height) (Some h)
+      → GapsBeside start (is_taken w) (tree_as b.kind (with_published s.tree place word)) (Some h)
       → IsEndPlace start w (Some start.height) place → 1 ≤ passing (is_row_of (row_in word)) w.taken → MayPublishEnd b start s book inner' place word call reply
-  may_publish h place word same replaced at taken = record {
+  may_publish h place word same replaced gaps at taken = record {
     work = w;
     old = Some start.height;
     new = Some h;
@@ -81,6 +85,7 @@ module _ {b : Before} {start : Start} {s : Sheet} {book : Book} {w : Work} {inne
     answer = answer;
     holds = (refl, under.holds);
     replaced = replaced;
+    gaps = gaps;
     at = at;
     top = lt-ltb 0 (passing (is_row_of (row_in word)) w.taken) taken;
     inner_rows = same ∙ under.inner_rows;
@@ -119,6 +124,10 @@ module _ {b : Before} {start : Start} {s : Sheet} {book : Book} {inner : List Ne
     one_climbed : (d : Item) → length ends ≡ 1 → Climbed start here.0 left right depth end.height (one_span left depth (slice_index_or new 0 d) ∷ [])
     one_climbed d one = subst (λ (l : List Item). Climbed start here.0 left right depth end.height (spans_from (begin_of left depth) l)) (only_item new d (here.1.many ∙ one)) here.1.climbed
 
+    -- the row, and all below it, keep the law of gaps
+    one_good : (d : Item) → length ends ≡ 1 → Levels (IsGoodRow start here.0) (now start here.0).table end.height (one_span left depth (slice_index_or new 0 d) ∷ [])
+    one_good d one = (subst (AreTold start here.0 end.height (begin_of left depth)) (only_item new d (here.1.many ∙ one)) here.1.told).rows
+
 -- ---- a row that stands for every index
 
 module _ {b : Before} {start : Start} {s : Sheet} {book : Book} {inner : List NewRow} {kind : RowKind} {left right : List PathStep} {depth : ℕ} {items : List Item} {ends : List ℕ} {number : ℕ} {call : Call} {reply : Reply}
@@ -155,6 +164,8 @@ module _ {b : Before} {start : Start} {s : Sheet} {book : Book} {inner : List Ne
         let last : x.last ≡ top_of start.tree = (let ends = climbed.fills.2 in let right_end = last_is_top in omega arith) in
         may_publish call reply all.1.under (let few = few_taken may.end done in let same = ap length all.1.buried.taken in omega arith) may.end.answer may.end.height Root x.word same
         (forms.ends_at_root all.1.under.case.was all.1.under.progress (Some start.height) (Some may.end.height) x.word (roots.ends_at_root start level.0 all.0 left right depth may.end.height x climbed may.all.first last all.1.buried))
+        (forms.gaps_at_root all.1.under.case.was all.1.under.progress (is_taken all.0) (Some may.end.height) x.word
+        (λ index _ _. root_gaps (is_taken all.0) index start all.0 may.end.height x may.all.first last (good_later start level.0 all.0 all.1.buried.keeps may.end.height (x ∷ []) (one_good may.end done d may.one))))
         tt (subst (λ (seen : List Seen). 1 ≤ passing (is_row_of (row_in x.word)) seen) (sym all.1.buried.taken) climbed.taken.0)
 
 -- ---- a root above several rows
@@ -199,15 +210,24 @@ module _ {b : Before} {start : Start} {s : Sheet} {book : Book} {inner : List Ne
       leaves = λ none. absurd (omega arith);
     };
     fit = let few = rows.1.few in let size = sizes s₁.tree.table.width (inner_kind start.tree.kind) in omega (arith, size.least, size.some);
+    told = rows.1.told;
     known = rows.1.under.inner_rows;
   }
 
-  root_added : MayAddRow b start s₁ book₁ (inner_kind start.tree.kind) new inner₁
-  root_added = record { work = rows.0; height = suc end.height; lo = from; hi = to; may = new_root }
+  root_added : MayAddRow b start s₁ book₁ (inner_kind start.tree.kind) 0 new inner₁
+  root_added = subst (λ (n : ℕ). MayAddRow b start s₁ book₁ (inner_kind start.tree.kind) n new inner₁) whole_index.0 (record { work = rows.0; height = suc end.height; hi = to; may = new_root })
 
-  module _ {s₂ : Sheet} {book₂ : Book} {inner₂ : List NewRow} {root : Item} (added : IsRowAdded b start s₁ s₂ book₁ book₂ (inner_kind start.tree.kind) new inner₁ inner₂ root) where
-    abbrev one : (w₂ : Work) × IsOneWritten b start s₂ book₁ book₂ rows.0 w₂ (suc end.height) from to new inner₂ root
-    one = added.each new_root
+  module _ {s₂ : Sheet} {book₂ : Book} {inner₂ : List NewRow} {root : Item} (added : IsRowAdded b start s₁ s₂ book₁ book₂ (inner_kind start.tree.kind) 0 new inner₁ inner₂ root) where
+    one : (w₂ : Work) × IsOneWritten b start s₂ book₁ book₂ rows.0 w₂ (suc end.height) from to new inner₂ root
+    one = (subst (λ (n : ℕ). IsRowAdded b start s₁ s₂ book₁ book₂ (inner_kind start.tree.kind) n new inner₁ inner₂ root) (sym whole_index.0) added).each new_root
+
+    -- the root, and all below it, keep the law of gaps
+    grown_gaps : GapsBeside start (is_taken one.0) (with_root (now start one.0) root.word) (Some (suc start.height))
+    grown_gaps index _ _ =
+        let top : Span = one_span left 0 root in
+        let last : top.last ≡ top_of start.tree = (let end = one.1.last in let whole = whole_index.1 in omega arith) in
+        let high : suc end.height ≡ suc start.height = (let all = rows.1.climbed.levels in omega arith) in
+        subst (λ (h : ℕ). GapsAs (is_taken one.0) index (with_root (now start one.0) root.word) (Some h)) high (root_gaps (is_taken one.0) index start one.0 (suc end.height) top whole_index.0 last one.1.told.rows)
 
     root_ends : {inner' : List NewRow} → inner' ≡ inner₂ → MayPublishEnd b start s₂ book₂ inner' Root root.word call reply
     root_ends same =
@@ -221,6 +241,7 @@ module _ {b : Before} {start : Start} {s : Sheet} {book : Book} {inner : List Ne
         end.answer (suc start.height) Root root.word same
         (forms.ends_at_root case.was one.1.progress (Some start.height) (Some (suc start.height)) root.word (roots.ends_grown start rows.0 one.0 left right end.height spans top rows.1.climbed one.1.written few_rows from new refl
         (let few = rows.1.few in let size = sizes start.tree.table.width (kind_at start.tree.kind (suc end.height)) in omega (arith, size.least, size.some))))
+        (forms.gaps_at_root case.was one.1.progress (is_taken one.0) (Some (suc start.height)) root.word grown_gaps)
         tt (are_taken start rows.0 one.0 (suc end.height) spans (top ∷ []) one.1.written).0
 
 -- the same, at the level that the code names
@@ -236,13 +257,13 @@ module _ {b : Before} {start : Start} {s : Sheet} {book : Book} {inner : List Ne
   pub above_room : length inner₁ < most_taken
   above_room = let room = room_to_note (done₀.each end₀.may).1.under in omega arith
 
-  pub root_may_be_added : {new' : List Item} → new' ≡ new → MayAddRow b start s₁ book₁ (inner_kind start.tree.kind) new' inner₁
-  root_may_be_added same = subst (λ (l : List Item). MayAddRow b start s₁ book₁ (inner_kind start.tree.kind) l inner₁) (sym same) (root_added end₀ may.two done₀)
+  pub root_may_be_added : {new' : List Item} → new' ≡ new → MayAddRow b start s₁ book₁ (inner_kind start.tree.kind) 0 new' inner₁
+  root_may_be_added same = subst (λ (l : List Item). MayAddRow b start s₁ book₁ (inner_kind start.tree.kind) 0 l inner₁) (sym same) (root_added end₀ may.two done₀)
 
-  pub above_is_published : {s₂ : Sheet} {book₂ : Book} {inner₂ inner' : List NewRow} {new' : List Item} {root : Item} → new' ≡ new → IsRowAdded b start s₁ s₂ book₁ book₂ (inner_kind start.tree.kind) new' inner₁ inner₂ root → inner' ≡ inner₂
+  pub above_is_published : {s₂ : Sheet} {book₂ : Book} {inner₂ inner' : List NewRow} {new' : List Item} {root : Item} → new' ≡ new → IsRowAdded b start s₁ s₂ book₁ book₂ (inner_kind start.tree.kind) 0 new' inner₁ inner₂ root → inner' ≡ inner₂
       → MayPublishEnd b start s₂ book₂ inner' Root root.word call reply
   above_is_published {s₂ = s₂} {book₂ = book₂} {inner₂ = inner₂} {root = root} same added noted =
-      root_ends end₀ may.two done₀ (subst (λ (l : List Item). IsRowAdded b start s₁ s₂ book₁ book₂ (inner_kind start.tree.kind) l inner₁ inner₂ root) same added) noted
+      root_ends end₀ may.two done₀ (subst (λ (l : List Item). IsRowAdded b start s₁ s₂ book₁ book₂ (inner_kind start.tree.kind) 0 l inner₁ inner₂ root) same added) noted
 
 -- ---- in the slot of the row above
 
@@ -289,7 +310,9 @@ module _ {b : Before} {start : Start} {s : Sheet} {book : Book} {inner : List Ne
         let column : column_of (now start w) (kind_at start.tree.kind (suc end.height)) step ≡ n + step.slot =
         ap (λ (k : ℕ). slot_column k step.slot) (sym (many ∙ ap (slots_of start.tree.table.width) (inner_is start w end.height under.holds))) in
         subst (λ (col : ℕ). MayPublishEnd b start s₁ book₁ inner' (Slot step.row col) x.word call reply) column
-        (may_publish call reply (burying under) (let few = under.few in omega arith) end.answer start.height (Slot step.row (column_of (now start w) (kind_at start.tree.kind (suc end.height)) step)) x.word noted ends.0 ends.1 climbed.taken.0)
+        (may_publish call reply (burying under) (let few = under.few in omega arith) end.answer start.height (Slot step.row (column_of (now start w) (kind_at start.tree.kind (suc end.height)) step)) x.word noted ends.0
+        (forms.gaps_in_slot was under.progress (is_taken w) end.height x.word step (Some start.height)
+        (λ index from to. slots.gaps_at_step start w left right depth end.height x climbed same has (one_good end done d one) (gaps_were was under.holds.stands) index from to)) ends.1 climbed.taken.0)
 
 -- the same, at the level that the code names
 module _ {b : Before} {start : Start} {s : Sheet} {book : Book} {inner : List NewRow} {kind : RowKind} {left right : List PathStep} {depth : ℕ} {items : List Item} {ends : List ℕ} {number : ℕ} {call : Call} {reply : Reply}

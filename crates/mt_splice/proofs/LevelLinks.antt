@@ -1,16 +1,17 @@
 -- From gathered spans to replaced rows: what stands between the steps of a level.
-use Rattle.std.proofs.Common.{◌≡◌, ℕ, ◌+◌, ◌≤◌, List, length, map, refl, sym, ap, ◌∙◌, subst, arith, length-append}
+use Rattle.std.proofs.Common.{◌≡◌, ℕ, suc, ◌+◌, ◌<◌, ◌≤◌, List, length, map, refl, sym, ap, ◌∙◌, subst, arith, length-append}
 use Rattle.std.proofs.lemmas.List.{length-map}
 use Rattle.mt_base.specs.declared.widths.Width.{Width}
 use Rattle.mt_layout.specs.declared.items.Item.{Item}
 use Rattle.mt_layout.specs.declared.names.RowKind.{RowKind}
 use Rattle.mt_layout.specs.Spans.{spans_from}
-use Rattle.mt_layout.proofs.SpanLists.{length-spans_from}
+use Rattle.mt_layout.proofs.SpanLists.{fills_le, length-spans_from}
 use Rattle.mt_free.specs.Book.{Book}
 use Rattle.mt_rows.specs.Levels.{tally}
-use Rattle.mt_rows.specs.Laws.{Tree, kind_at}
+use Rattle.mt_rows.specs.Laws.{Tree, kind_at, top_of}
 use Rattle.mt_rows.specs.Sheet.{Sheet}
 use Rattle.mt_path.specs.declared.paths.PathStep.{PathStep}
+use Rattle.mt_path.proofs.TreePaths.{levels}
 use Rattle.mt_splice.specs.declared.writes.NewRow.{NewRow}
 use Rattle.mt_splice.specs.steps.Seen.{Seen, passing}
 use Rattle.mt_splice.specs.steps.Work.{Start, Work, rows_at, times_in}
@@ -25,6 +26,7 @@ use Rattle.mt_splice.proofs.Buried.{gathered_others}
 use Rattle.mt_splice.proofs.Steps.{width_now}
 use Rattle.mt_splice.proofs.LevelRows.{inner_rows_stay}
 use Rattle.mt_splice.proofs.LevelRuns.{some_items, some_ends}
+use Rattle.mt_splice.proofs.ToldRows.{told_later}
 
 -- the rows that are free and those that were taken are always as many
 pub free_and_taken : {b : Before} {s : Sheet} {book : Book} {w : Work} → IsProgress b s book w → length b.book.free ≡ length book.free + length w.taken
@@ -39,8 +41,10 @@ module _ {b : Before} {start : Start} {s : Sheet} {book : Book} {w : Work} {inne
     of_kind = may.of_kind;
     free = let all = free_and_taken may.under.progress in let room = may.under.room in let few = may.under.few in omega arith;
     run = may.run;
+    within = fills_le (behind_of right depth) (top_of start.tree + 1) may.gathered.back may.gathered.stretch.after;
     cut = may.cut;
     few = may.few;
+    told = may.told;
     known = may.under.inner_rows;
   }
 
@@ -83,32 +87,46 @@ module _ {b : Before} {start : Start} {s : Sheet} {book : Book} {w : Work} {inne
       some = let many = written.many in let some = some_ends may.cut (some_items items may.run) in omega arith;
       few = let many = written.many in let three = may.few in omega arith;
       many = written.many;
+      told = told_later start w₁ w₂ buried.buried.keeps (suc height) (begin_of left depth) new written.told;
     }
 
 -- ---- by what the steps are asked for
 
-pub rows_may_be_added : {b : Before} {start : Start} {s : Sheet} {book : Book} {inner : List NewRow} {kind : RowKind} {left right : List PathStep} {depth number : ℕ} {items : List Item} {ends : List ℕ}
-    → MayReplaceLevelRows b start s book inner kind left right depth items ends number → MayAddRows b start s book kind items ends inner
-rows_may_be_added {left = left} {right = right} {depth = depth} asked = record {
-  work = asked.work;
-  height = asked.height;
-  lo = begin_of left depth;
-  hi = behind_of right depth;
-  may = rows_may_be_written asked.may;
-}
+-- the left path goes through a row of the level
+pub left_is_deep : {b : Before} {start : Start} {s : Sheet} {book : Book} {inner : List NewRow} {kind : RowKind} {left right : List PathStep} {depth number : ℕ} {items : List Item} {ends : List ℕ}
+    → MayReplaceLevelRows b start s book inner kind left right depth items ends number → depth < length left
+left_is_deep {start = start} asked =
+    let paths = asked.may.gathered.paths in
+    let order = paths.order in let within = paths.within in let high = asked.may.gathered.levels in
+    let long = ap length paths.is_left ∙ levels start.tree start.height asked.may.under.holds.stands paths.from (omega arith) in
+    omega arith
 
-pub level_may_be_buried : {b : Before} {start : Start} {s s₁ : Sheet} {book book₁ : Book} {inner inner₁ : List NewRow} {kind : RowKind} {left right : List PathStep} {depth number : ℕ} {items : List Item} {ends : List ℕ} {new : List Item}
-    → MayReplaceLevelRows b start s book inner kind left right depth items ends number → AreRowsAdded b start s s₁ book book₁ kind items ends inner inner₁ new → MayBuryLevel b start s₁ book₁ left right depth number
-level_may_be_buried asked added =
-    let written = added.each (rows_may_be_written asked.may) in
+pub rows_may_be_added : {b : Before} {start : Start} {s : Sheet} {book : Book} {inner : List NewRow} {kind : RowKind} {left right : List PathStep} {depth number first : ℕ} {items : List Item} {ends : List ℕ}
+    → first ≡ begin_of left depth → MayReplaceLevelRows b start s book inner kind left right depth items ends number → MayAddRows b start s book kind first items ends inner
+rows_may_be_added {b} {start} {s} {book} {inner} {kind} {left} {right} {depth} {number} {first} {items} {ends} begins asked =
+    subst (λ (n : ℕ). MayAddRows b start s book kind n items ends inner) (sym begins) (record {
+      work = asked.work;
+      height = asked.height;
+      hi = behind_of right depth;
+      may = rows_may_be_written asked.may;
+    })
+
+added_there : {b : Before} {start : Start} {s s₁ : Sheet} {book book₁ : Book} {inner inner₁ : List NewRow} {kind : RowKind} {first begin : ℕ} {items : List Item} {ends : List ℕ} {new : List Item}
+    → first ≡ begin → AreRowsAdded b start s s₁ book book₁ kind first items ends inner inner₁ new → AreRowsAdded b start s s₁ book book₁ kind begin items ends inner inner₁ new
+added_there {b} {start} {s} {s₁} {book} {book₁} {inner} {inner₁} {kind} {first} {begin} {items} {ends} {new} begins added = subst (λ (n : ℕ). AreRowsAdded b start s s₁ book book₁ kind n items ends inner inner₁ new) begins added
+
+pub level_may_be_buried : {b : Before} {start : Start} {s s₁ : Sheet} {book book₁ : Book} {inner inner₁ : List NewRow} {kind : RowKind} {left right : List PathStep} {depth number first : ℕ} {items : List Item} {ends : List ℕ} {new : List Item}
+    → first ≡ begin_of left depth → AreRowsAdded b start s s₁ book book₁ kind first items ends inner inner₁ new → MayReplaceLevelRows b start s book inner kind left right depth items ends number → MayBuryLevel b start s₁ book₁ left right depth number
+level_may_be_buried begins added asked =
+    let written = (added_there begins added).each (rows_may_be_written asked.may) in
     record { work = written.0; height = asked.height; may = rows_may_be_buried asked.may written.1 }
 
-pub level_rows_are_replaced : {b : Before} {start : Start} {s s₁ s₂ : Sheet} {book book₁ book₂ : Book} {inner inner₁ : List NewRow} {kind : RowKind} {left right : List PathStep} {depth number : ℕ} {items : List Item} {ends : List ℕ} {new : List Item}
-    → AreRowsAdded b start s s₁ book book₁ kind items ends inner inner₁ new → IsLevelBuried b start s₁ s₂ book₁ book₂ left right depth number
+pub level_rows_are_replaced : {b : Before} {start : Start} {s s₁ s₂ : Sheet} {book book₁ book₂ : Book} {inner inner₁ : List NewRow} {kind : RowKind} {left right : List PathStep} {depth number first : ℕ} {items : List Item} {ends : List ℕ} {new : List Item}
+    → first ≡ begin_of left depth → AreRowsAdded b start s s₁ book book₁ kind first items ends inner inner₁ new → IsLevelBuried b start s₁ s₂ book₁ book₂ left right depth number
     → AreLevelRowsReplaced b start s s₂ book book₂ inner inner₁ kind left right depth items ends number new
-level_rows_are_replaced added buried = record {
+level_rows_are_replaced begins added buried = record {
   each = λ {w} {height} may.
-      let written = added.each (rows_may_be_written may) in
+      let written = (added_there begins added).each (rows_may_be_written may) in
       let gone = buried.each (rows_may_be_buried may written.1) in
       (gone.0, rows_are_replaced may written.1 gone.1);
 }

@@ -27,6 +27,7 @@ use Rattle.mt_splice.specs.steps.Runs.{most_items, MayBeCut}
 use Rattle.mt_splice.specs.steps.Progress.{Before, IsBefore, IsProgress, new_rows_of}
 use Rattle.mt_splice.specs.steps.Endings.{words_of}
 use Rattle.mt_splice.specs.steps.TakingIn.{IsNow, MayTakeIn, IsTakenIn}
+use Rattle.mt_splice.specs.steps.Told.{AreTold}
 use Rattle.mt_splice.specs.steps.Decisions.{item_words, StandForAll, IsNothing, EndsHere}
 use Rattle.mt_splice.specs.Fewest.{IsCutOf}
 use Rattle.mt_splice.specs.steps.Replacing.{IsUnderWay, MayLookBeside, IsTakenBeside, MayReplaceRows, AreRowsReplaced, MayReplaceLevelRows, AreLevelRowsReplaced, MayGoUp, MayGather, IsGathered, MayReplaceLevel, MayEndEmpty, MayEnd, MayEndAtRoot, MayEndAbove, MayEndInSlot}
@@ -173,6 +174,7 @@ module _ {b : Before} {start : Start} {s : Sheet} {book : Book} {inner : List Ne
           run = run;
           cut = subst (λ (x : Width × List ℕ). IsCutOf x.0 kind items₁ x.1) (λ i. (is_width i, sym same_ends i)) is_cut;
           few = let same = ap length same_ends in omega arith;
+          told = wide.told;
           in_call = may.in_call;
         }
 
@@ -226,6 +228,8 @@ module _ {b : Before} {start : Start} {s : Sheet} {book : Book} {inner : List Ne
               some = rows.1.some;
               few = rows.1.few;
               goes_on = subst (λ (x : Width × ℕ × ℕ). EndsHere x.0 left₁ right₁ x.1 x.2 → ⊥) (λ i. (width₂ i, deeper i, (many ∙ sym rows.1.many) i)) goes_on;
+              told = subst (λ (n : ℕ). AreTold start rows.0 may.height (begin_of left₁ n) new) deeper rows.1.told;
+              had_gaps = may.may.had_gaps;
             }
 
             pub items_may_be_gathered : {new' : List Item} → new' ≡ new → MayGather start s₂.tree left₁ right₁ (depth - 1) new'

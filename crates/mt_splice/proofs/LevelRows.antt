@@ -1,6 +1,7 @@
 -- A row that was written keeps the laws of rows, and holds its items.
-use Rattle.std.proofs.Common.{◌≡◌, ◌≢◌, ℕ, zero, suc, ◌+◌, ◌-◌, ◌<◌, ◌≤◌, List, [], ◌∷◌, ◌++◌, Bool, true, false, Some, length, refl, sym, ap, ◌∙◌, subst, arith, append-nil, length-append}
-use Rattle.std.specs.Prelude.{slice_index, slice_index_or, ◌||◌}
+use Rattle.std.proofs.Common.{◌≡◌, ◌≢◌, ℕ, zero, suc, ◌+◌, ◌-◌, ◌<◌, ◌≤◌, ◌==◌, List, [], ◌∷◌, ◌++◌, Bool, true, false, Some, inl, inr, length, refl, sym, ap, ◌∙◌, subst, arith, append-nil, length-append}
+use Rattle.std.specs.Prelude.{Any, slice_index, slice_index_or, ◌||◌}
+use Rattle.std.proofs.lemmas.Bool.{cases_Bool, eqb-false}
 use Rattle.std.specs.List.{AllByRecursion, flat_map}
 use Rattle.mt_base.specs.declared.kinds.Kind.{Kind}
 use Rattle.mt_base.specs.declared.kinds.Kind.TheVariants.{Range, Alloc}
@@ -10,8 +11,9 @@ use Rattle.mt_base.specs.Width.{columns, first_row}
 use Rattle.mt_layout.specs.declared.items.Item.{Item}
 use Rattle.mt_layout.specs.declared.spans.Span.{Span}
 use Rattle.mt_layout.specs.declared.names.RowKind.{RowKind}
+use Rattle.mt_layout.specs.declared.names.RowKind.TheVariants.{Leaf}
 use Rattle.mt_layout.specs.Rows.{IsRowNumber, row_in, name_at, named_row}
-use Rattle.mt_layout.specs.Columns.{end_of, row_words}
+use Rattle.mt_layout.specs.Columns.{RiseFrom, end_of, row_words}
 use Rattle.mt_layout.specs.Sizes.{slots_of, gaps_of}
 use Rattle.mt_layout.specs.Spans.{spans_from, leaf_range, Fills, Apart, EndsFull}
 use Rattle.mt_layout.proofs.NameLaws.{named_row-name_at, row_in-name_at}
@@ -19,7 +21,7 @@ use Rattle.mt_layout.proofs.SpanLists.{fills_le, length-spans_from, fills_end, f
 use Rattle.mt_free.specs.Book.{Book}
 use Rattle.mt_rows.specs.Spans.{Table, inner_kind, spans_in}
 use Rattle.mt_rows.specs.Levels.{SameColumns, SameSpans}
-use Rattle.mt_rows.specs.Laws.{Tree, IsRow, EntryLaw, HoleLaw, kind_at, least_of, words_in}
+use Rattle.mt_rows.specs.Laws.{Tree, IsRow, EntryLaw, HoleLaw, kind_at, least_of, items_in, words_in}
 use Rattle.mt_rows.specs.Sheet.{Rooted, Sheet}
 use Rattle.mt_rows.specs.Publish.{is_reached}
 use Rattle.mt_rows.proofs.Frames.{same_spans}
@@ -30,9 +32,13 @@ use Rattle.mt_splice.specs.steps.Writes.{IsRowWritten, no_parent}
 use Rattle.mt_splice.specs.steps.Progress.{Before, IsBefore, IsProgress, row_seen, is_taken, new_row_by, new_rows_of}
 use Rattle.mt_splice.specs.steps.Climbs.{AreWritten, MayBeIn}
 use Rattle.mt_splice.specs.steps.Runs.{MayBeLeaves, span_to}
-use Rattle.mt_splice.specs.steps.Levels.{MayWriteRow, IsOneWritten, IsRowAdded, noted}
+use Rattle.mt_splice.specs.steps.Levels.{MayWriteRow, IsOneWritten, MayAddRow, IsRowAdded, noted}
+use Rattle.mt_splice.specs.steps.Told.{told_gap, AreTold}
 use Rattle.mt_splice.proofs.LevelRuns.{IsRun, some_items}
-use Rattle.mt_splice.proofs.WrittenRows.{IsNewRow, new_named, new_spans, new_unused}
+use Rattle.mt_splice.proofs.WrittenRows.{IsNewRow, as_held, new_items, new_named, new_spans, new_unused}
+use Rattle.mt_splice.proofs.NewTold.{item_up, new_told}
+use Rattle.mt_splice.proofs.ToldRows.{told_later}
+use Rattle.mt_splice.proofs.Widens.{leaf_height}
 use Rattle.mt_splice.proofs.StepSeen.{was_seen, seen_here, seen_more}
 use Rattle.mt_splice.proofs.Steps.{table_now, with_taken, row_number, row_was_unused, progress_taken, keeps_taken}
 
@@ -205,22 +211,55 @@ module _ {b : Before} {start : Start} {s s' : Sheet} {book book' : Book} {w : Wo
   pub word_is_named : named_row word ≡ Some (row_in word)
   word_is_named = ap named_row written.named ∙ (named_row-name_at written.row kind number_then ∙ ap (λ (r : ℕ). Some r) (sym (ap row_in written.named ∙ row_in-name_at written.row kind)))
 
-  one_more_written : (inner' : List NewRow) (item : Item) → inner' ≡ inner ++ noted kind word (length items) → item ≡ record { last = end_of 0 items; word = word; gap = 0 } → IsOneWritten b start s' book book' w work_then height lo hi items inner' item
+  -- the row keeps the law of gaps, and tells its gap
+  items_then : items_in (now start work_then).table (kind_at start.tree.kind height) new_at ≡ as_held (gaps_of (now start work_then).table.width (kind_at start.tree.kind height)) items
+  items_then = subst (λ (n : ℕ). items_in (now start work_then).table (kind_at start.tree.kind height) (record { first = lo; last = end_of 0 items; word = n }) ≡ as_held (gaps_of (now start work_then).table.width (kind_at start.tree.kind height)) items) (sym written.named)
+      (subst (λ (k : RowKind). items_in (now start work_then).table k (record { first = lo; last = end_of 0 items; word = name_at written.row kind }) ≡ as_held (gaps_of (now start work_then).table.width k) items) may.of_kind
+      (new_items (now start work_then).table kind written.row items (subst (λ (t : Table). IsNewRow t kind written.row items) (sym table_then) new_then) lo))
+
+  told_then : AreTold start work_then height lo (item_up (inner_kind start.tree.kind) kind new_at items ∷ [])
+  told_then = subst (λ (k : RowKind). AreTold start work_then height lo (item_up (inner_kind start.tree.kind) k new_at items ∷ [])) (sym may.of_kind)
+      (new_told start work_then new_at items height
+      (record { used = one_written.used.0; row = lawful_then; spans = sym (append-nil (spans_in (now start work_then).table new_at)) ∙ one_written.hold; items_are = items_then })
+      (told_later start w work_then keeps_then height lo items may.told))
+
+  one_more_written : (inner' : List NewRow) (item : Item) → inner' ≡ inner ++ noted kind word (length items) → item ≡ item_up (inner_kind start.tree.kind) kind new_at items → IsOneWritten b start s' book book' w work_then height lo hi items inner' item
   one_more_written inner' item made_is item_is = record {
     progress = progress_then;
     written = subst (λ (x : Item). AreWritten start w work_then height (spans_from lo items) (spans_from lo (x ∷ []))) (sym item_is) one_written;
+    told = subst (λ (x : Item). AreTold start work_then height lo (x ∷ [])) (sym item_is) told_then;
     inner = made_is ∙ (λ i. (may.known ∙ sym (inner_rows_stay may.before may.progress progress_then keeps_then)) i ++ noted_is height kind may.of_kind i);
     last = ap (λ (x : Item). x.last + 1) item_is ∙ sym (fills_end lo lo hi 0 items (some_items items may.run) may.run.fills);
     free = ap (λ (k : Book). length k.free) written.taken ∙ length-append book'.free (written.row ∷ []);
   }
 
 -- what stands of the row that was written, one level up
-pub row_added : {b : Before} {start : Start} {s s' : Sheet} {book book' : Book} {kind : RowKind} {items : List Item} {inner inner' : List NewRow} {word : ℕ} (d : Item)
-    → IsRowWritten s s' book book' kind items word → inner' ≡ inner ++ noted kind word (length items)
-    → IsRowAdded b start s s' book book' kind items inner inner' (record { last = (slice_index_or items (length items - 1) d).last; word = word; gap = 0 })
-row_added {b} {start} {s} {s'} {book} {book'} {kind} {items} {inner} {inner'} {word} d written made_is = record {
-  each = λ {w} {height} {lo} {hi} may.
+pub row_added : {b : Before} {start : Start} {s s' : Sheet} {book book' : Book} {above kind : RowKind} {lo gap : ℕ} {items : List Item} {inner inner' : List NewRow} {word : ℕ} (d : Item)
+    → IsRowWritten s s' book book' kind items word → inner' ≡ inner ++ noted kind word (length items) → above ≡ inner_kind start.tree.kind → gap ≡ told_gap above kind lo items
+    → IsRowAdded b start s s' book book' kind lo items inner inner' (record { last = (slice_index_or items (length items - 1) d).last; word = word; gap = gap })
+row_added {b} {start} {s} {s'} {book} {book'} {above} {kind} {lo} {gap} {items} {inner} {inner'} {word} d written made_is above_is gap_is = record {
+  each = λ {w} {height} {hi} may.
       let some = some_items items may.run in
       let last = last_ends d (length items - 1) 0 items (omega arith) in
-      (work_then may written, one_more_written may written inner' (record { last = (slice_index_or items (length items - 1) d).last; word = word; gap = 0 }) made_is (ap (λ (n : ℕ). record { last = n; word = word; gap = 0 }) last));
+      (
+        work_then may written,
+        one_more_written may written inner' (record { last = (slice_index_or items (length items - 1) d).last; word = word; gap = gap }) made_is
+            (λ i. record { last = last i; word = word; gap = (gap_is ∙ ap (λ (k : RowKind). told_gap k kind lo items) above_is) i }),
+      );
 }
+
+some_entry : (lo : ℕ) (items : List Item) → flat_map leaf_range (spans_from lo items) ≢ [] → Any (λ (x : Item). x.word ≢ 0) items
+some_entry lo [] some = absurd (some refl)
+some_entry lo (x ∷ items) some = elim (cases_Bool (x.word == 0)) [
+  | inl hole ↦ let behind = some_entry (x.last + 1) items (λ none. some (rw hole none)) in (suc behind.0, behind.1, (let within = behind.2 in omega arith), behind.3, behind.4)
+  | inr entry ↦ (0, x, omega arith, refl, eqb-false x.word 0 entry)
+]
+
+-- the items rise, and those of a leaf hold an entry
+pub items_rise : {b : Before} {start : Start} {s : Sheet} {book : Book} {kind : RowKind} {lo : ℕ} {items : List Item} {inner : List NewRow} → MayAddRow b start s book kind lo items inner → RiseFrom lo items
+items_rise {lo = lo} {items = items} asked = fills_rise lo asked.hi items asked.may.run.fills
+
+pub leaf_has_entry : {b : Before} {start : Start} {s : Sheet} {book : Book} {kind : RowKind} {lo : ℕ} {items : List Item} {inner : List NewRow} → MayAddRow b start s book kind lo items inner → kind ≡ Leaf → Any (λ (x : Item). x.word ≢ 0) items
+leaf_has_entry {start = start} {lo = lo} {items = items} asked leaf =
+    let low = leaf_height start.tree.kind asked.height (sym asked.may.of_kind ∙ leaf) in
+    some_entry lo items (asked.may.run.leaves low).some

@@ -11,6 +11,7 @@ pub mod EndAfter
 pub mod EndBooks
 pub mod EndFacts
 pub mod EndForms
+pub mod EndGaps
 pub mod EndHoles
 pub mod EndLevels
 pub mod EndLists
@@ -41,6 +42,7 @@ pub mod LiveRows
 pub mod Moments
 pub mod Neighbours
 pub mod NewLevels
+pub mod NewTold
 pub mod PathRows
 pub mod PathsNow
 pub mod Readings
@@ -50,6 +52,7 @@ pub mod Runs
 pub mod SlotEnding
 pub mod SlotGaps
 pub mod SpliceBegins
+pub mod SplicedWithin
 pub mod Splits
 pub mod StepSeen
 pub mod Steps

@@ -7,7 +7,7 @@ use Rattle.mt_base.specs.Entry.{reserved}
 use Rattle.mt_base.proofs.Lists.{all_join}
 use Rattle.mt_layout.specs.declared.spans.Span.{Span}
 use Rattle.mt_layout.specs.Spans.{leaf_range, Fills}
-use Rattle.mt_layout.proofs.SpanLists.{fills-append, fills_split}
+use Rattle.mt_layout.proofs.SpanLists.{fills-append, fills_le, fills_split}
 use Rattle.mt_rows.specs.Spans.{spans_in}
 use Rattle.mt_rows.specs.Levels.{expand}
 use Rattle.mt_rows.specs.Laws.{Tree, IsRow, Stands, top_of, kind_at}
@@ -133,6 +133,7 @@ module _ (start : Start) (s : Work) (left right right' : List PathStep) (depth h
   pub takes_right : Gathered start s left right' depth height (beside height run spans_behind)
   takes_right = record {
     paths = paths_then;
+    around = record { first = gathered.around.first; last = let last = gathered.around.last in let behind = fills_le behind (behind_of right' depth) spans_behind spans_fill in omega arith };
     holds = gathered.holds;
     levels = gathered.levels;
     front = gathered.front;
@@ -225,6 +226,7 @@ module _ (start : Start) (s : Work) (left right left' : List PathStep) (depth he
   pub takes_left : Gathered start s left' right depth height (beside height spans_ahead run)
   takes_left = record {
     paths = paths_from;
+    around = record { first = let first = gathered.around.first in let ahead = fills_le (begin_of left' depth) (begin_of left depth) spans_ahead spans_ahead_fill in omega arith; last = gathered.around.last };
     holds = gathered.holds;
     levels = gathered.levels;
     front = found_ahead.0;

@@ -5,7 +5,7 @@ use Rattle.mt_base.proofs.Lists.{all_back}
 use Rattle.mt_layout.specs.declared.spans.Span.{Span}
 use Rattle.mt_layout.specs.Rows.{row_in}
 use Rattle.mt_layout.specs.Spans.{Fills}
-use Rattle.mt_layout.proofs.SpanLists.{fills-append}
+use Rattle.mt_layout.proofs.SpanLists.{fills-append, fills_le}
 use Rattle.mt_rows.specs.Spans.{spans_in}
 use Rattle.mt_rows.specs.Levels.{expand, Levels}
 use Rattle.mt_rows.specs.Laws.{Tree, IsRow, Stands, top_of, kind_at}
@@ -171,6 +171,10 @@ module _ (start : Start) (s : Work) (left right : List PathStep) (depth height :
       let level : climbed.front ++ (new ++ climbed.back) ≡ expand t.table front ++ (run ++ expand t.table back) = level_is ∙ ap (λ (l : List Span). expand t.table front ++ (l ++ expand t.table back)) (sym run_is) in
       record {
         paths = climbed.paths;
+        around = record {
+          first = let first = climbed.around.first in let ahead = fills_le (begin_of left depth) (begin_of left (suc depth)) (take (step_at left depth).slot left_spans) fills_ahead in omega arith;
+          last = let last = climbed.around.last in let behind = fills_le (behind_of right (suc depth)) (behind_of right depth) (drop ((step_at right depth).slot + 1) right_spans) fills_behind in omega arith;
+        };
         holds = climbed.holds;
         levels = levels;
         front = front;

@@ -5,7 +5,8 @@ use Rattle.mt_splice.proofs.FewestRows.{SameNews, fewest_later, none_new}
 use Rattle.mt_splice.specs.steps.Progress.{is_taken}
 use Rattle.mt_splice.specs.Fewest.{FewestBelow}
 use Rattle.std.specs.List.{slice_get}
-use Rattle.std.proofs.lemmas.Bool.{cases_eq, cases_Bool, ltb-true}
+use Rattle.std.specs.Prelude.{nat_lt}
+use Rattle.std.proofs.lemmas.Bool.{cases_eq, cases_Bool, eqb-false, ltb-true}
 use Rattle.mt_base.specs.declared.ranges.Range.{Range}
 use Rattle.mt_layout.specs.declared.spans.Span.{Span}
 use Rattle.mt_layout.specs.declared.names.RowKind.{RowKind}
@@ -16,16 +17,18 @@ use Rattle.mt_base.proofs.Lists.{none_or_some, all_map}
 use Rattle.mt_rows.specs.Spans.{Table, spans_in}
 use Rattle.mt_layout.specs.Sizes.{slots_of}
 use Rattle.mt_rows.specs.Levels.{map_of, Levels, tally, times, is_row_of, level, expand}
-use Rattle.mt_rows.specs.Laws.{Tree, HasWords, IsRow, top_of, kind_at}
+use Rattle.mt_rows.specs.Laws.{Tree, HasWords, IsRow, GapLaw, top_of, kind_at}
 use Rattle.mt_rows.specs.Publish.{StandsAt, SameHoles, IsSlotOf}
 use Rattle.mt_rows.specs.Replacement.{root_of, IsSlotAt, with_slot, with_child, ReplacesChild}
 use Rattle.mt_rows.proofs.Lists.{tally-append, levels_map, levels_here}
-use Rattle.mt_rows.proofs.Joins.{Shared, map_of-append, times-append, levels_front, levels_back, map_of_shared, times_shared, levels_shared}
+use Rattle.mt_rows.proofs.Joins.{Shared, map_of-append, times-append, levels_front, levels_back, levels_join, map_of_shared, times_shared, levels_shared}
 use Rattle.mt_rows.proofs.Frames.{same_spans}
 use Rattle.mt_rows.proofs.Once.{times_nowhere}
 use Rattle.mt_rows.proofs.Between.{fills_split}
 use Rattle.mt_rows.proofs.Heights.{level_next, times_split, levels_lower, levels_pair}
-use Rattle.mt_rows.proofs.Reached.{OnLevel, one_of_parts, times_in_once, below_root, on_level, one_place}
+use Rattle.mt_rows.proofs.Reached.{OnLevel, one_of_parts, on_level_reached, times_in_once, below_root, on_level, one_place}
+use Rattle.mt_rows.proofs.PlainReached.{levels_from}
+use Rattle.mt_rows.proofs.RowLaws.{others_keep}
 use Rattle.mt_rows.proofs.SlotStore as store
 use Rattle.mt_rows.proofs.SlotChild.{replaces_child}
 use Rattle.mt_path.specs.declared.paths.PathStep.{PathStep}
@@ -38,9 +41,13 @@ use Rattle.mt_splice.specs.steps.Replaced.{IsHalfReplaced, IsReplaced}
 use Rattle.mt_splice.specs.steps.Stretches.{IsStretch}
 use Rattle.mt_splice.specs.steps.Climbs.{begin_of, behind_of, Climbed}
 use Rattle.mt_splice.specs.steps.Endings.{words_of, with_step, IsStepIn, IsPublished}
+use Rattle.mt_splice.specs.steps.Told.{IsGoodRow, HadGaps, GapsAs}
+use Rattle.mt_splice.proofs.GapRows.{Kept, gap_laws_stay}
+use Rattle.mt_splice.proofs.SlotGaps.{gaps_after}
 use Rattle.mt_splice.proofs.Splits.{split_same}
 use Rattle.mt_splice.proofs.Moments.{old_shared, old_stands, old_times, old_level}
 use Rattle.mt_splice.proofs.PathRows.{before_it, behind_it, lower_parts, lower_before, front_below, back_below}
+use Rattle.mt_splice.proofs.ToldRows.{good_laws, were_good}
 use Rattle.mt_splice.proofs.Written.{counts_itself, each_counted}
 use Rattle.mt_splice.proofs.Rises.{at_here, step_here, row_is_lawful, row_keeps_words}
 
@@ -342,3 +349,45 @@ module _ (start : Start) (s : Work) (left right : List PathStep) (depth height :
 
   pub published_at_step : IsPublished t (kind_at t.kind (suc height)) (step_at left depth) x.word
   published_at_step = subst (λ (z : PathStep). IsPublished t (kind_at t.kind (suc height)) z x.word) (sym left_step) (record { slot = slot_used; holes = holes_stay })
+
+  -- ---- the law of gaps
+
+  module _ (told : Levels (IsGoodRow start s) t.table height (x ∷ [])) (had : HadGaps start) (index : ℕ) (from_first : start.first ≤ index) (to_last : index ≤ start.last) where
+    old_laws : Levels (GapLaw t) t.table h (root_of t)
+    old_laws = good_laws start s h (root_of t) (were_good start s holds had)
+
+    -- no row of the tree as it was is new
+    olds : Levels (λ (_ : ℕ) (y : Span). is_taken s (row_in y.word) ≡ false) t.table h (root_of t)
+    olds = levels_from (λ (_ : ℕ) (y : Span). is_taken s (row_in y.word) ≡ false) t.table h (root_of t) h 0 (omega arith) (λ m y _ on. old y m on)
+      where
+        old : (y : Span) (m : ℕ) → OnLevel t.table h (root_of t) m y → is_taken s (row_in y.word) ≡ false
+        old y m on =
+            let here = on_level_reached t h (old_stands start s holds) m y on in
+            let was = old_times start s holds (is_row_of (row_in y.word)) in
+            ⊎_elim (λ (none : passing (is_row_of (row_in y.word)) s.taken ≡ 0). ap (nat_lt 0) none)
+            (λ (some : 1 ≤ passing (is_row_of (row_in y.word)) s.taken). let none = holds.taken (row_in y.word) some in absurd (omega arith)) (none_or_some (passing (is_row_of (row_in y.word)) s.taken))
+
+    -- the rows of the level and all below keep it, before the store and after it
+    level_laws : Levels (GapLaw t) t.table height (front ++ (x ∷ back))
+    level_laws =
+        let all = subst (Levels (GapLaw t) t.table height) level_same (levels_lower (GapLaw t) t.table (suc depth) height h (root_of t) climbed.levels old_laws) in
+        levels_join (GapLaw t) t.table height front (x ∷ back) (levels_front (GapLaw t) t.table height front (replaced ∷ back) all)
+        (levels_join (GapLaw t) t.table height (x ∷ []) back (good_laws start s height (x ∷ []) told)
+        (levels_back (GapLaw t) t.table height (replaced ∷ []) back (levels_back (GapLaw t) t.table height front (replaced ∷ back) all)))
+
+    laws_then : Levels (GapLaw t') t'.table height (rows_at t' (suc depth))
+    laws_then =
+        subst (Levels (GapLaw t') t'.table height) (sym (replaces.after ∙ (λ k. beside.0 k ++ (sym child_is k ∷ back_same k))))
+        (gap_laws_stay t t'.table.words height (front ++ (x ∷ back))
+        (levels_map (store.IsOther its_store) (Kept t t'.table.words) t.table
+        (λ _ y other. others_keep t (suc height) slot x.word parent has (store.row_law its_store) (store.used its_store) y (eqb-false (row_in y.word) (row_in parent.word) other)) height (front ++ (x ∷ back))
+        (times_nowhere is_parent t.table height (front ++ (x ∷ back)) not_beside))
+        half.stands level_laws)
+
+    gaps_in_place : GapsAs (is_taken s) index t' (Some h)
+    gaps_in_place =
+        let begin = begins in let end = ends in let around = climbed.around in
+        gaps_after t h height depth slot x.word index parent replaced has (old_stands start s holds) levels is_slot (omega (arith, around.first)) (omega (arith, around.last)) (is_taken s) old_laws olds laws_then
+
+    pub gaps_at_step : GapsAs (is_taken s) index (with_step t (kind_at t.kind (suc height)) (step_at left depth) x.word) (Some h)
+    gaps_at_step = subst (λ (z : PathStep). GapsAs (is_taken s) index (with_step t (kind_at t.kind (suc height)) z x.word) (Some h)) (sym left_step) gaps_in_place

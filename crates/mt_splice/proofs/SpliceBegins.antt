@@ -40,6 +40,7 @@ use Rattle.mt_splice.specs.Kept.{IsKept, IsUnpublished}
 use Rattle.mt_splice.specs.Splice.{MaySplice, region_of}
 use Rattle.mt_splice.specs.steps.Entries.{before_of, start_of, IsBegunBy, IsFirst}
 use Rattle.mt_splice.specs.steps.Beginnings.{Begins}
+use Rattle.mt_path.specs.Handles.{last_step}
 use Rattle.mt_splice.specs.steps.Climbs.{Gathered}
 use Rattle.mt_splice.specs.Fewest.{FewestBelow}
 use Rattle.mt_splice.specs.steps.Replaced.{IsReplaced}
@@ -51,7 +52,9 @@ use Rattle.mt_splice.specs.steps.Levels.{MayWriteRow, IsOneWritten, MayAddRow, I
 use Rattle.mt_splice.specs.steps.TakingIn.{MayTakeIn}
 use Rattle.mt_splice.specs.steps.Replacing.{IsUnderWay, MayReplaceLevel}
 use Rattle.mt_splice.proofs.Beginnings.{holds_first, leaves_gathered, leaves_run}
-use Rattle.mt_splice.proofs.EndForms.{ends_at_root}
+use Rattle.mt_splice.proofs.EndForms.{ends_at_root, gaps_at_root}
+use Rattle.mt_splice.proofs.EndGaps.{root_gaps}
+use Rattle.mt_splice.proofs.ToldRows.{gaps_were}
 use Rattle.mt_splice.proofs.EndTrees.{map_is}
 use Rattle.mt_splice.proofs.Moments.{reached_are_used}
 use Rattle.mt_splice.proofs.FewestRows.{one_new}
@@ -68,7 +71,7 @@ asked_so {kind = kind} {s = s} {book = book} {number = number} {call = call} {re
 
 -- ---- the height of a tree is that of its paths
 
-no_path : (t : Table) (root i : ℕ) → root ≡ 0 → path_in t root i ≡ []
+pub no_path : (t : Table) (root i : ℕ) → root ≡ 0 → path_in t root i ≡ []
 no_path t root i empty = path_of_none t deepest (root_span t root) i (ap named_kind empty)
 
 pub stands_at_start : (t : Tree) → IsLawful t → t.root ≢ 0 → Stands t (length (path_in t.table t.root 0) - 1)
@@ -114,8 +117,9 @@ module _ {kind : Kind} {s : Sheet} {book : Book} {left right : List PathStep} {i
   abbrev t : Tree
   t = tree_as kind s.tree
 
+  -- the indexes from the left leaf's first to the right leaf's last may change
   abbrev start : Start
-  start = start_of kind s call
+  start = start_of kind s call (last_step left).min (last_step right).max
 
   abbrev b : Before
   b = before_of kind s book number
@@ -130,6 +134,12 @@ module _ {kind : Kind} {s : Sheet} {book : Book} {left right : List PathStep} {i
   the_answer = ap (λ (r : Reply). (start.map, r)) (ap (λ (a : List Range × Reply). a.1) may.store.acts)
 
   module _ (stands : Stands t start.height) where
+    left_levels : length left ≡ start.height + 1
+    left_levels = ap length may.left_path ∙ paths.levels t start.height stands may.first first_within
+
+    right_levels : length right ≡ start.height + 1
+    right_levels = ap length may.right_path ∙ paths.levels t start.height stands may.last may.store.within
+
     begins : Begins start (work_of s) left right may.first may.last may.entry
     begins = record {
       stands = stands;
@@ -139,14 +149,19 @@ module _ {kind : Kind} {s : Sheet} {book : Book} {left right : List PathStep} {i
       free = may.store.lawful;
       is_left = may.left_path;
       is_right = may.right_path;
+      around = record {
+        first =
+            let at : start.height ≡ length left - 1 = (let all = left_levels in omega arith) in
+            let same = ap (λ (d : ℕ). (step_at left d).min) at in omega arith;
+        last =
+            let at : start.height ≡ length right - 1 = (let all = right_levels in omega arith) in
+            let same = ap (λ (d : ℕ). (step_at right d).max) at in omega arith;
+      };
       words = refl;
       used = reached_are_used start (work_of s) stands (λ row reached. ap (λ (a : Bool). a || false) reached);
       taken = refl;
       gone = refl;
     }
-
-    left_levels : length left ≡ start.height + 1
-    left_levels = ap length may.left_path ∙ paths.levels t start.height stands may.first first_within
 
     abbrev run : List Span
     run = spans_from (step_at left start.height).min items
@@ -181,6 +196,8 @@ module _ {kind : Kind} {s : Sheet} {book : Book} {left right : List PathStep} {i
           ⊎_elim (λ (hole : ends_with_hole run ≡ true). inl (let few = run_few.ends more hole in omega arith))
           (λ (full : ends_with_hole run ≡ false). inr (full_unless_hole run full)) (cases_Bool (ends_with_hole run));
       two = λ k inner. absurd (omega arith);
+      told = tt;
+      had_gaps = gaps_were the_case.was stands;
     }
 
     at_height : MayReplaceLevel b start s book [] Leaf left right start.height items number call reply
@@ -202,7 +219,7 @@ no_steps (x ∷ path) none = let zero' = eqb-true (length (x ∷ path)) 0 none i
 pub some_steps : (path : List PathStep) {n : ℕ} → n ≡ length path → (length path == 0) ≡ false → n - 1 + 1 ≡ length path
 some_steps path is some = let other = eqb-false (length path) 0 some in omega (arith, other)
 
-module _ {b : Before} {start : Start} {kind : Kind} {s : Sheet} {book : Book} {left right : List PathStep} {items : List Item} {number : ℕ} {call : Call} {reply : Reply} (begun : IsBegunBy b start kind s book number call)
+module _ {b : Before} {start : Start} {kind : Kind} {s : Sheet} {book : Book} {left right : List PathStep} {items : List Item} {number : ℕ} {call : Call} {reply : Reply} (begun : IsBegunBy b start kind s book number call (last_step left).min (last_step right).max)
     (may : MaySplice kind s book left right items number call reply) where
   pub leaves_may_be_replaced : (whole : IsWhole s) {depth : ℕ} {inner : List NewRow} → depth + 1 ≡ length left → inner ≡ [] → MayReplaceLevel b start s book inner Leaf left right depth items number call reply
   leaves_may_be_replaced whole {depth = depth} {inner = inner} deep none =
@@ -211,7 +228,7 @@ module _ {b : Before} {start : Start} {kind : Kind} {s : Sheet} {book : Book} {l
   pub first_may_begin : {items' : List Item} → (length left == 0) ≡ true → items' ≡ items → IsFirst b start s book items' call reply
   first_may_begin {items' = items'} none is =
       subst (λ (x : Before). IsFirst x start s book items' call reply) (sym begun.before)
-      (record { right = right; begun = record { before = refl; start = begun.start }; may = asked_so (sym (no_steps left none)) refl is may })
+      (record { right = right; begun = record { before = refl; start = begun.start ∙ (λ i. start_of kind s call (sym begun.start i).first (sym begun.start i).last) }; may = asked_so (sym (no_steps left none)) refl is may })
 
 -- ---- the empty tree
 
@@ -225,9 +242,6 @@ one_counted seen free free' is one = let all = ap length is ∙ length-append fr
 module _ {kind : Kind} {s : Sheet} {book : Book} {right : List PathStep} {items : List Item} {number : ℕ} {call : Call} {reply : Reply} (may : MaySplice kind s book [] right items number call reply) (whole : IsWhole s) where
   abbrev tree₀ : Tree
   tree₀ = tree_as kind s.tree
-
-  abbrev start₀ : Start
-  start₀ = start_of kind s call
 
   abbrev b₀ : Before
   b₀ = before_of kind s book number
@@ -247,76 +261,85 @@ module _ {kind : Kind} {s : Sheet} {book : Book} {right : List PathStep} {items 
   cut : MayBeCut tree₀ 0 0 hi (spans_from 0 items)
   cut = subst (MayBeCut tree₀ 0 0 hi) (sym may.edits) empty_cut.0
 
-  stand : flat_map leaf_range (spans_from 0 items) ≡ start₀.map
+  stand : flat_map leaf_range (spans_from 0 items) ≡ (acted kind (map_by s.tree) call).0
   stand =
       ap (flat_map leaf_range) may.edits
       ∙ (empty_cut.1 ∙ (ap (λ (m : List Range). over m may.first may.last may.entry) (sym (map_is tree₀ None no_tree)) ∙ sym (ap (λ (a : List Range × Reply). a.0) may.store.acts)))
 
-  -- the first leaf may be written
-  first_written : MayWriteRow b₀ start₀ s book (work_of s) Leaf 0 0 hi items []
-  first_written = record {
-    before = (the_case may whole).was;
-    progress = nothing_done whole may.kept;
-    of_kind = refl;
-    free = let room = may.room in omega arith;
-    run = cut;
-    fit = let few = ap length may.edits in let most = empty_cut.2 in let same = length-spans_from 0 items in let wide = sizes s.tree.table.width Leaf in omega (arith, wide.least, wide.some);
-    known = refl;
-  }
+  module _ (from to : ℕ) where
+    abbrev start₀ : Start
+    start₀ = start_of kind s call from to
 
-  first_added : {inner : List NewRow} → inner ≡ [] → MayAddRow b₀ start₀ s book Leaf items inner
-  first_added {inner = inner} none = record { work = work_of s; height = 0; lo = 0; hi = hi; may = subst (MayWriteRow b₀ start₀ s book (work_of s) Leaf 0 0 hi items) (sym none) first_written }
+    case₀ : IsCase b₀ start₀
+    case₀ = case_of whole may.kept start₀ refl may.told may.unpublished
 
-  -- and then published
-  module _ {s' : Sheet} {book' : Book} {w' : Work} {inner' : List NewRow} {item : Item} (one : IsOneWritten b₀ start₀ s' book book' (work_of s) w' 0 0 hi items inner' item) where
-    abbrev leaf : Span
-    leaf = record { first = 0; last = item.last; word = item.word }
-
-    leaf_last : item.last ≡ top_of tree₀
-    leaf_last = let last = one.last in omega arith
-
-    leaf_stands : Stands (with_root (now start₀ w') item.word) 0 × (map_of (now start₀ w').table 0 (root_of (with_root (now start₀ w') item.word)) ≡ start₀.map) × (1 ≤ passing (is_row_of (row_in item.word)) w'.taken)
-    leaf_stands = first_leaf start₀ (work_of s) w' (spans_from 0 items) leaf one.written cut.fills stand
-
-    leaf_replaces : IsReplaced start₀.tree (with_root (now start₀ w') item.word) start₀.map w'.taken w'.gone None (Some 0)
-    leaf_replaces = record {
-      stands = leaf_stands.0;
-      ranges = leaf_stands.1;
-      rows = λ p.
-          let taken = one.written.taken p in
-          let gone = ap (passing p) one.written.gone in
-          let root = ap (λ (x : Span). tally (p 0) (x ∷ [])) (root_is tree₀ leaf refl leaf_last) in
-          omega arith;
-      were = λ p. (let gone = ap (passing p) one.written.gone in omega arith);
-      fewest = subst (FewestBelow (is_taken w') tree₀.kind (now start₀ w').table 0) (at_root start₀ w' leaf refl leaf_last)
-          (one_new (is_taken w') (now start₀ w').table Leaf leaf 0 items (lt-ltb 0 (passing (is_row_of (row_in item.word)) w'.taken) leaf_stands.2) one.written.hold
-          (let few = ap length may.edits in let most = empty_cut.2 in let same = length-spans_from 0 items in let wide = sizes s.tree.table.width Leaf in omega (arith, wide.least, wide.some)));
+    -- the first leaf may be written
+    first_written : MayWriteRow b₀ start₀ s book (work_of s) Leaf 0 0 hi items []
+    first_written = record {
+      before = case₀.was;
+      progress = nothing_done whole may.kept;
+      of_kind = refl;
+      free = let room = may.room in omega arith;
+      run = cut;
+      fit = let few = ap length may.edits in let most = empty_cut.2 in let same = length-spans_from 0 items in let wide = sizes s.tree.table.width Leaf in omega (arith, wide.least, wide.some);
+      told = tt;
+      known = refl;
     }
 
-    first_ends : MayPublishEnd b₀ start₀ s' book' inner' Root item.word call reply
-    first_ends = record {
-      work = w';
-      old = None;
-      new = Some 0;
-      case = the_case may whole;
-      progress = one.progress;
-      few = let one = one_counted w'.taken book.free book'.free one.progress.free one.free in omega arith;
-      answer = the_answer may whole;
-      holds = no_tree;
-      replaced = ends_at_root (the_case may whole).was one.progress None (Some 0) item.word leaf_replaces;
-      at = tt;
-      top = lt-ltb 0 (passing (is_row_of (row_in item.word)) w'.taken) leaf_stands.2;
-      inner_rows = one.inner;
-    }
+    first_added : {inner : List NewRow} → inner ≡ [] → MayAddRow b₀ start₀ s book Leaf 0 items inner
+    first_added {inner = inner} none = record { work = work_of s; height = 0; hi = hi; may = subst (MayWriteRow b₀ start₀ s book (work_of s) Leaf 0 0 hi items) (sym none) first_written }
+
+    -- and then published
+    module _ {s' : Sheet} {book' : Book} {w' : Work} {inner' : List NewRow} {item : Item} (one : IsOneWritten b₀ start₀ s' book book' (work_of s) w' 0 0 hi items inner' item) where
+      abbrev leaf : Span
+      leaf = record { first = 0; last = item.last; word = item.word }
+
+      leaf_last : item.last ≡ top_of tree₀
+      leaf_last = let last = one.last in omega arith
+
+      leaf_stands : Stands (with_root (now start₀ w') item.word) 0 × (map_of (now start₀ w').table 0 (root_of (with_root (now start₀ w') item.word)) ≡ start₀.map) × (1 ≤ passing (is_row_of (row_in item.word)) w'.taken)
+      leaf_stands = first_leaf start₀ (work_of s) w' (spans_from 0 items) leaf one.written cut.fills stand
+
+      leaf_replaces : IsReplaced start₀.tree (with_root (now start₀ w') item.word) start₀.map w'.taken w'.gone None (Some 0)
+      leaf_replaces = record {
+        stands = leaf_stands.0;
+        ranges = leaf_stands.1;
+        rows = λ p.
+            let taken = one.written.taken p in
+            let gone = ap (passing p) one.written.gone in
+            let root = ap (λ (x : Span). tally (p 0) (x ∷ [])) (root_is tree₀ leaf refl leaf_last) in
+            omega arith;
+        were = λ p. (let gone = ap (passing p) one.written.gone in omega arith);
+        fewest = subst (FewestBelow (is_taken w') tree₀.kind (now start₀ w').table 0) (at_root start₀ w' leaf refl leaf_last)
+            (one_new (is_taken w') (now start₀ w').table Leaf leaf 0 items (lt-ltb 0 (passing (is_row_of (row_in item.word)) w'.taken) leaf_stands.2) one.written.hold
+            (let few = ap length may.edits in let most = empty_cut.2 in let same = length-spans_from 0 items in let wide = sizes s.tree.table.width Leaf in omega (arith, wide.least, wide.some)));
+      }
+
+      first_ends : MayPublishEnd b₀ start₀ s' book' inner' Root item.word call reply
+      first_ends = record {
+        work = w';
+        old = None;
+        new = Some 0;
+        case = case₀;
+        progress = one.progress;
+        few = let one = one_counted w'.taken book.free book'.free one.progress.free one.free in omega arith;
+        answer = the_answer may whole;
+        holds = no_tree;
+        replaced = ends_at_root case₀.was one.progress None (Some 0) item.word leaf_replaces;
+        gaps = gaps_at_root case₀.was one.progress (is_taken w') (Some 0) item.word (λ index _ _. root_gaps (is_taken w') index start₀ w' 0 leaf refl leaf_last one.told.rows);
+        at = tt;
+        top = lt-ltb 0 (passing (is_row_of (row_in item.word)) w'.taken) leaf_stands.2;
+        inner_rows = one.inner;
+      }
 
 module _ {b : Before} {start : Start} {s : Sheet} {book : Book} {items : List Item} {call : Call} {reply : Reply} (first : IsFirst b start s book items call reply) (whole : IsWhole s) where
-  pub leaf_may_be_added : {inner : List NewRow} → inner ≡ [] → MayAddRow b start s book Leaf items inner
-  leaf_may_be_added {inner = inner} none = subst (λ (x : Before × Start). MayAddRow x.0 x.1 s book Leaf items inner) (λ i. (sym first.begun.before i, sym first.begun.start i)) (first_added first.may whole none)
+  pub leaf_may_be_added : {inner : List NewRow} → inner ≡ [] → MayAddRow b start s book Leaf 0 items inner
+  leaf_may_be_added {inner = inner} none = subst (λ (x : Before × Start). MayAddRow x.0 x.1 s book Leaf 0 items inner) (λ i. (sym first.begun.before i, sym first.begun.start i)) (first_added first.may whole start.first start.last none)
 
-  pub leaf_may_be_root : {s' : Sheet} {book' : Book} {inner inner' inner″ : List NewRow} {item : Item} → inner ≡ [] → IsRowAdded b start s s' book book' Leaf items inner inner' item → inner″ ≡ inner'
+  pub leaf_may_be_root : {s' : Sheet} {book' : Book} {inner inner' inner″ : List NewRow} {item : Item} → inner ≡ [] → IsRowAdded b start s s' book book' Leaf 0 items inner inner' item → inner″ ≡ inner'
       → MayPublishEnd b start s' book' inner″ Root item.word call reply
   leaf_may_be_root {s' = s'} {book' = book'} {inner = inner} {inner' = inner'} {inner″ = inner″} {item = item} none added same =
-      let here : IsRowAdded (before_of b.kind s book b.number) (start_of b.kind s call) s s' book book' Leaf items [] inner' item =
-      subst (λ (x : Before × Start × List NewRow). IsRowAdded x.0 x.1 s s' book book' Leaf items x.2 inner' item) (λ i. (first.begun.before i, first.begun.start i, none i)) added in
-      let one = here.each (first_written first.may whole) in
-      subst (λ (x : Before × Start × List NewRow). MayPublishEnd x.0 x.1 s' book' x.2 Root item.word call reply) (λ i. (sym first.begun.before i, sym first.begun.start i, sym same i)) (first_ends first.may whole one.1)
+      let here : IsRowAdded (before_of b.kind s book b.number) (start_of b.kind s call start.first start.last) s s' book book' Leaf 0 items [] inner' item =
+      subst (λ (x : Before × Start × List NewRow). IsRowAdded x.0 x.1 s s' book book' Leaf 0 items x.2 inner' item) (λ i. (first.begun.before i, first.begun.start i, none i)) added in
+      let one = here.each (first_written first.may whole start.first start.last) in
+      subst (λ (x : Before × Start × List NewRow). MayPublishEnd x.0 x.1 s' book' x.2 Root item.word call reply) (λ i. (sym first.begun.before i, sym first.begun.start i, sym same i)) (first_ends first.may whole start.first start.last one.1)

@@ -1,29 +1,36 @@
 -- Items that tell their gaps: at a later moment, side by side, and in the rows of the tree as it was.
-use Rattle.std.proofs.Common.{◌≡◌, ℕ, zero, suc, ◌+◌, ◌≤◌, List, [], ◌∷◌, ◌++◌, take, drop, sym, ap, ◌∙◌, subst, append-nil, take-append-drop}
+use Rattle.std.proofs.Common.{refl, ◌≡◌, ℕ, zero, suc, ◌+◌, ◌≤◌, List, [], ◌∷◌, ◌++◌, take, drop, sym, ap, ◌∙◌, subst, append-nil, take-append-drop, inl, inr, arith}
 use Rattle.std.proofs.lemmas.List.{map-append, take-map, drop-map}
+use Rattle.mt_base.specs.declared.kinds.Kind.{Kind}
+use Rattle.mt_base.specs.declared.kinds.Kind.TheVariants as trees
 use Rattle.mt_layout.specs.declared.items.Item.{Item}
 use Rattle.mt_layout.specs.declared.names.RowKind.{RowKind}
 use Rattle.mt_layout.specs.declared.names.RowKind.TheVariants.{Leaf, Inner, Gapped}
 use Rattle.mt_layout.specs.declared.spans.Span.{Span}
-use Rattle.mt_layout.specs.Spans.{spans_from}
+use Rattle.mt_layout.specs.Spans.{spans_from, Fills}
 use Rattle.mt_layout.proofs.SpanLists.{spans-take}
 use Rattle.mt_rows.specs.Spans.{Table, inner_kind, spans_in}
 use Rattle.mt_rows.specs.Levels.{Levels}
-use Rattle.mt_rows.specs.Laws.{IsRow, GapLaw, top_of, kind_at, longest_below}
+use Rattle.mt_rows.specs.Laws.{Tree, IsRow, IsLawful, IsTended, Stands, GapLaw, top_of, kind_at, longest_below}
 use Rattle.mt_rows.specs.Replacement.{root_of}
 use Rattle.mt_rows.proofs.Lists.{levels_map}
 use Rattle.mt_rows.proofs.Joins.{levels_front, levels_back, levels_join, levels_shared}
+use Rattle.mt_rows.specs.Trees.{height_in}
 use Rattle.mt_rows.proofs.Heights.{levels_lower, levels_pair}
+use Rattle.mt_rows.proofs.Reached.{height_is}
 use Rattle.mt_path.specs.declared.paths.PathStep.{PathStep}
 use Rattle.mt_path.specs.Paths.{step_at, path_in}
 use Rattle.mt_splice.specs.steps.Work.{Start, Work, now, IsUsed, Keeps, Holds}
 use Rattle.mt_splice.specs.steps.Stretches.{spans_on}
 use Rattle.mt_splice.specs.steps.Writes.{items_of_row}
+use Rattle.mt_splice.specs.steps.Progress.{Before, IsBefore}
+use Rattle.mt_splice.specs.steps.TakingIn.{beside_items}
 use Rattle.mt_splice.specs.steps.Told.{longest_holes, TellGaps, IsGoodRow, AreTold, AreToldIn, HadGaps}
 use Rattle.mt_splice.proofs.GapRows.{tells_later, gap_laws_stay, row_tells}
 use Rattle.mt_splice.proofs.Moments.{RowsKeep, rows_stay, used_stay, still_used, old_shared, old_stands, old_level, rows_shared}
 use Rattle.mt_splice.proofs.PathRows.{spans_of_step}
 use Rattle.mt_splice.proofs.Rises.{row_here, at_here, step_here, row_is_lawful}
+use Rattle.mt_splice.proofs.TakenIn.{spans_behind}
 
 -- ---- good rows
 
@@ -150,3 +157,31 @@ module _ (start : Start) (w : Work) (holds : Holds start w) (had : HadGaps start
           gaps = subst (λ (z : PathStep). TellGaps (inner_kind start.tree.kind) (now start w).table k z.min (items_of_row (now start w).table (kind_at start.tree.kind (suc k)) z.row z.max)) (sym step)
               (row_tells (inner_kind start.tree.kind) (now start w).table k x law.name.named good_here.0.0.gaps);
         }
+
+  pub row_told : (path : List PathStep) (i : ℕ) → i ≤ top_of start.tree → path ≡ path_in start.tree.table start.tree.root i → (d height : ℕ) → start.height ≡ d + height
+      → AreToldIn start w height (step_at path d).min (items_of_row (now start w).table (kind_at start.tree.kind height) (step_at path d).row (step_at path d).max)
+  row_told path i within is_path d zero levels = tt
+  row_told path i within is_path d (suc k) levels = old_told path i within is_path d k levels
+
+-- ---- those of two rows
+
+inner_beside : (tree : Kind) (xs ys : List Item) → beside_items (inner_kind tree) xs ys ≡ xs ++ ys
+inner_beside trees.Range xs ys = refl
+inner_beside trees.Alloc xs ys = refl
+
+pub told_beside : (start : Start) (w : Work) (height lo mid : ℕ) (xs ys : List Item) → Fills lo mid (spans_from lo xs) → AreToldIn start w height lo xs → AreToldIn start w height mid ys
+    → AreToldIn start w height lo (beside_items (kind_at start.tree.kind height) xs ys)
+told_beside start w zero lo mid xs ys fills front back = tt
+told_beside start w (suc h) lo mid xs ys fills front back =
+    subst (AreTold start w h lo) (sym (inner_beside start.tree.kind xs ys)) (told_append start w h lo mid xs ys (spans_behind lo mid xs ys fills) front back)
+
+-- ---- between two calls all rows keep the law of gaps
+
+pub gaps_were : {b : Before} {start : Start} → IsBefore b start → Stands start.tree start.height → HadGaps start
+gaps_were {b} {start} was stands = by start.tree (subst IsLawful (sym was.tree) was.kept.lawful.words) stands
+  where
+    by : (t : Tree) {h : ℕ} → IsLawful t → Stands t h → Levels (GapLaw t) t.table h (root_of t)
+    by t {h} (inl empty) stands = let none : height_in t.table t.root ≡ 0 = ap (height_in t.table) empty in let some = height_is t h stands in absurd (omega arith)
+    by t {h} (inr (k, stood, parent, tended)) stands =
+        let same : k ≡ h = (let one = height_is t k stood in let two = height_is t h stands in omega arith) in
+        subst (λ (j : ℕ). Levels (GapLaw t) t.table j (root_of t)) same (levels_map (IsTended t) (GapLaw t) t.table (λ _ x both. both.gaps) k (root_of t) tended)

@@ -31,6 +31,7 @@ use Rattle.mt_splice.specs.steps.Stretches.{spans_on}
 use Rattle.mt_splice.specs.steps.Climbs.{begin_of, behind_of, MayBeIn, beside, Gathered}
 use Rattle.mt_splice.specs.steps.Runs.{most_in_three, span_to, MayBeCut}
 use Rattle.mt_splice.specs.steps.Writes.{items_of_row}
+use Rattle.mt_splice.specs.steps.Told.{AreToldIn}
 use Rattle.mt_splice.specs.steps.TakingIn.{short_run, holed_run, beside_items, IsNow, MayTakeIn, IsTakenIn}
 use Rattle.mt_splice.proofs.Moments.{old_stands}
 use Rattle.mt_splice.proofs.Rises.{step_here, row_is_lawful, spans_here, at_here}
@@ -38,6 +39,7 @@ use Rattle.mt_splice.proofs.Neighbours.{takes_right, takes_left}
 use Rattle.mt_splice.proofs.Runs.{cut_alone, cut_with_right, cut_with_left}
 use Rattle.mt_splice.proofs.TakenIn.{ends_from, ends_at_last, beside_spans}
 use Rattle.mt_splice.proofs.PathsNow.{path_now}
+use Rattle.mt_splice.proofs.ToldRows.{row_told, told_beside}
 
 -- ---- the rows as they are now are a tree
 
@@ -208,6 +210,7 @@ module _ {start : Start} {w : Work} {t : Rooted} {kind : RowKind} {left right : 
         (λ leaf more. ends_from (begin_of left depth) 0 items ∙ ends leaf more)))
         (λ (whole : (begin_of left depth ≡ 0) × ((step_at right depth).max ≡ top_of start.tree)). inr (whole.0, whole.1, may.few)) enough;
     two = may.two;
+    told = may.told;
   }
 
   -- few enough for a row beside them
@@ -217,6 +220,14 @@ module _ {start : Start} {w : Work} {t : Rooted} {kind : RowKind} {left right : 
 
   pub room_beside : length items ≤ most → length items + slots_of t.table.width kind ≤ run_room
   room_beside few = let slots = slots_now may.is_now height may.of_kind in let enough = sizes start.tree.table.width (kind_at start.tree.kind height) in omega arith
+
+  -- the items of a path's row tell their gaps
+  row_is_told : (path : List PathStep) (i : ℕ) → i ≤ top_of start.tree → path ≡ path_in start.tree.table start.tree.root i → {t' : Table} {row : List Item} → t' ≡ t.table
+      → row ≡ items_of_row t' kind (step_at path depth).row (step_at path depth).max → AreToldIn start w height (step_at path depth).min row
+  row_is_told path i within is_path {t'} {row} same is =
+      let items : row ≡ items_of_row (now start w).table (kind_at start.tree.kind height) (step_at path depth).row (step_at path depth).max =
+      is ∙ (λ j. items_of_row ((same ∙ table_now may.is_now) j) (may.of_kind j) (step_at path depth).row (step_at path depth).max) in
+      subst (AreToldIn start w height (step_at path depth).min) (sym items) (row_told start w holds may.had_gaps path i within is_path depth height gathered.levels)
 
   -- ---- the row behind
 
@@ -263,6 +274,10 @@ module _ {start : Start} {w : Work} {t : Rooted} {kind : RowKind} {left right : 
           gathered = subst (Gathered start w left right' depth height) all (takes_right start w left right right' depth height (spans_from (begin_of left depth) items) gathered more is_right_then);
           cut = inl cut;
           two = λ h high first last. two_enough start (begin_of left depth) (behind_of right' depth) h height (beside_items kind items row) high cut;
+          told = subst (λ (k : RowKind). AreToldIn start w height (begin_of left depth) (beside_items k items row)) (sym may.of_kind)
+              (told_beside start w height (begin_of left depth) (behind_of right depth) items row gathered.fills may.told
+              (subst (λ (n : ℕ). AreToldIn start w height n row) begins_behind
+              (row_is_told right' behind behind_within is_right_then (ap (λ (x : Rooted). x.table) same) is)));
         }
 
   -- ---- the row before, where none stands behind
@@ -317,6 +332,8 @@ module _ {start : Start} {w : Work} {t : Rooted} {kind : RowKind} {left right : 
           gathered = subst (Gathered start w left' right depth height) all (takes_left start w left right left' depth height (spans_from (begin_of left depth) items) gathered some is_left_then);
           cut = inl cut;
           two = λ h high first last. two_enough start (begin_of left' depth) (behind_of right depth) h height (beside_items kind row items) high cut;
+          told = subst (λ (k : RowKind). AreToldIn start w height (begin_of left' depth) (beside_items k row items)) (sym may.of_kind)
+              (told_beside start w height (begin_of left' depth) (begin_of left depth) row items fills (row_is_told left' ahead ahead_within is_left_then (ap (λ (x : Rooted). x.table) same) is) may.told);
         }
 
 -- ---- what is wanted

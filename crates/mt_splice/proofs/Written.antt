@@ -241,6 +241,7 @@ level_replaced start s s₁ s₂ left right depth height run rows gathered writt
     (level_rows (IsUsed s₂) start.tree.table depth height start.height (root_of start.tree) gathered.levels holds.used) in
     record {
       paths = gathered.paths;
+      around = gathered.around;
       holds = holds;
       levels = gathered.levels;
       front = gathered.front;

@@ -20,7 +20,7 @@ use Rattle.mt_splice.specs.steps.Writes.{no_parent, new_words}
 
 -- ---- items as a row holds them that has so many columns of gaps
 
-abbrev as_held : ℕ → List Item → List Item
+abbrev pub as_held : ℕ → List Item → List Item
 as_held zero items = map (λ (x : Item). record x { gap = 0 }) items
 as_held (suc gaps) items = items
 
@@ -107,7 +107,7 @@ module _ (t : Table) (kind : RowKind) (row : ℕ) (items : List Item) (new : IsN
   pub new_named : named_kind (name_at row kind) ≡ Some kind
   new_named = named_kind-name_at row kind new.number
 
-  new_items : (first : ℕ) → items_in t kind (new_span first) ≡ held
+  pub new_items : (first : ℕ) → items_in t kind (new_span first) ≡ held
   new_items first = ap (λ (r : ℕ). items_at slots gaps t.words (columns t.width * r) (end_of 0 items)) (row_in-name_at row kind) ∙ items_read
 
   pub new_spans : (first : ℕ) → spans_in t (new_span first) ≡ spans_from first items

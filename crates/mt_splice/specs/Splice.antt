@@ -19,6 +19,7 @@ use Rattle.mt_rows.specs.declared.rows.Life.TheVariants.{Live, Dead}
 use Rattle.mt_rows.specs.declared.rows.Place.{Place}
 use Rattle.mt_rows.specs.declared.rows.Place.TheVariants.{Root, Slot}
 use Rattle.mt_rows.specs.Spans.{Table, column}
+use Rattle.mt_rows.specs.Gaps.{HasGapsBut}
 use Rattle.mt_rows.specs.Levels.{Levels}
 use Rattle.mt_rows.specs.Trees.{height_in}
 use Rattle.mt_rows.specs.Laws.{Tree, Stands, ParentLaw}
@@ -116,14 +117,16 @@ pub record IsBooked (s s' : Sheet) (book book' : Book) (number most : ℕ) : Typ
   pub all : (row : ℕ) → IsReached s.tree row → is_reached s'.tree row ≡ false → Contains gone row
 
 -- The tree stands for the map after the call by one store at the place; rows that were not taken keep every other word but
--- their parent words.
-pub record IsSpliced (kind : Kind) (s s' : Sheet) (book book' : Book) (number : ℕ) (call : Call) (reply : Reply) (place : Place) : Type 0 where
+-- their parent words. What was to change are the indexes from the first to the last: in rows that were not taken, the gap
+-- words of the slots that cover them may be wrong then.
+pub record IsSpliced (kind : Kind) (s s' : Sheet) (book book' : Book) (number : ℕ) (call : Call) (reply : Reply) (place : Place) (first last : ℕ) : Type 0 where
   pub rest : s' ≡ record s { tree = s'.tree; published = true; lives = s'.lives; buried = s'.buried; told = with_record s.told call reply; reads = s'.reads }
   pub rows : s'.tree.rows ≡ s.tree.rows
   pub tree : IsTreeOf s'.tree kind
   pub parents : HasParents (tree_as kind s'.tree)
   pub map : map_by s'.tree ≡ (acted kind (map_by s.tree) call).0
   pub fewest : HasFewest (is_unreached s.tree) (tree_as kind s'.tree)
+  pub gaps : (index : ℕ) → first ≤ index → index ≤ last → HasGapsBut (is_unreached s.tree) index (tree_as kind s'.tree)
   pub published : WasPublishedAt s s' place
   pub kept : (row col : ℕ) → (IsReached s'.tree row → IsReached s.tree row) → 0 < col → col < columns s.tree.table.width → place ≢ Slot row col → word_at s'.tree row col ≡ word_at s.tree row col
   pub none_buried : NoneBuried s'.tree.rows s'.buried

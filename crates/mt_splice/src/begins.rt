@@ -24,10 +24,10 @@ pub fn begin_tree<R: Rows, B: Begun>(
 ) -> Place
     requires kind { kind ≡ inner_kind B.start.tree.kind }
     requires first { IsFirst B.before B.start (R.sheet rows.old) book.old items.now call.now reply.now }
-    ensures { IsSpliced B.before.kind B.before.sheet (R.sheet rows.new) B.before.book book.new B.before.number call.now reply.now result }
+    ensures { IsSpliced B.before.kind B.before.sheet (R.sheet rows.new) B.before.book book.new B.before.number call.now reply.now result B.start.first B.start.last }
 {
     let mut inner = NewRows::new();
-    let leaf = write_piece::<R, B>(rows, book, RowKind::Leaf, items, &mut inner);
+    let leaf = write_piece::<R, B>(rows, book, kind, RowKind::Leaf, 0, items, &mut inner);
     publish_at::<R, B>(
         rows,
         book,

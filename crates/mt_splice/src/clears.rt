@@ -1,6 +1,7 @@
 //! The end of a whole tree.
 
 ghost use Rattle.std.specs.Prelude.{◌≡◌, []};
+ghost use Rattle.mt_base.specs.Width.{greatest};
 ghost use Rattle.mt_rows.specs.declared.rows.Place.TheVariants.{Root};
 ghost use Rattle.mt_rows.specs.Publish.{map_by};
 ghost use Rattle.mt_splice.specs.steps.Entries.{IsBegunBy};
@@ -24,9 +25,9 @@ fn clear_as<R: Rows, B: Begun>(
     call: &Call,
     reply: &Reply,
 )
-    requires begun { IsBegunBy B.before B.start kind (R.sheet rows.old) book.old number call.now }
+    requires begun { IsBegunBy B.before B.start kind (R.sheet rows.old) book.old number call.now 0 (greatest (R.sheet rows.old).tree.table.width) }
     requires may { MayClear kind (R.sheet rows.old) book.old number call.now reply.now }
-    ensures spliced { IsSpliced B.before.kind B.before.sheet (R.sheet rows.new) B.before.book book.new B.before.number call.now reply.now Root }
+    ensures spliced { IsSpliced B.before.kind B.before.sheet (R.sheet rows.new) B.before.book book.new B.before.number call.now reply.now Root B.start.first B.start.last }
     ensures none_taken { book.new.free ≡ book.old.free }
 {
     let left = walk(rows, 0);
@@ -60,7 +61,7 @@ pub fn clear<R: Rows>(
     reply: &Reply,
 )
     requires { MayClear kind (R.sheet rows.old) book.old number call.now reply.now }
-    ensures spliced { IsSpliced kind (R.sheet rows.old) (R.sheet rows.new) book.old book.new number call.now reply.now Root }
+    ensures spliced { IsSpliced kind (R.sheet rows.old) (R.sheet rows.new) book.old book.new number call.now reply.now Root 0 (greatest (R.sheet rows.old).tree.table.width) }
     ensures none_taken { book.new.free ≡ book.old.free }
     ensures root { (R.sheet rows.new).tree.root ≡ 0 }
     ensures map { map_by (R.sheet rows.new).tree ≡ [] }

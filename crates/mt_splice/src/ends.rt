@@ -54,7 +54,7 @@ pub fn publish_at<R: Rows, B: Begun>(
 )
     requires kind { kind ≡ inner_kind B.start.tree.kind }
     requires end { MayPublishEnd B.before B.start (R.sheet rows.old) book.now inner.now place word call.now reply.now }
-    ensures { IsSpliced B.before.kind B.before.sheet (R.sheet rows.new) B.before.book book.now B.before.number call.now reply.now place }
+    ensures { IsSpliced B.before.kind B.before.sheet (R.sheet rows.new) B.before.book book.now B.before.number call.now reply.now place B.start.first B.start.last }
 {
     rows.publish(place, word, call, reply);
     tend_rows(rows, kind, inner);

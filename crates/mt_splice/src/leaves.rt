@@ -7,31 +7,19 @@ ghost use Rattle.mt_layout.specs.declared.names.RowKind.TheVariants.{Leaf};
 ghost use Rattle.mt_layout.specs.Sizes.{run_room, slots_of};
 ghost use Rattle.mt_layout.specs.Spans.{spans_from};
 ghost use Rattle.mt_leaf.specs.Edits.{edited};
-ghost use Rattle.mt_leaf.specs.Places.{first_of, items_below, slot_above, with_joined};
+ghost use Rattle.mt_leaf.specs.Places.{items_below, slot_above, with_joined};
 ghost use Rattle.mt_path.specs.Handles.{last_step};
 ghost use Rattle.mt_rows.specs.Sheet.{OnlyReads};
 ghost use Rattle.mt_splice.specs.steps.Regions.{AreEnds, IsLeafStep, leaf_items};
 ghost use Rattle.mt_splice.specs.Splice.{region_of};
 
-use crate::reads::{load_item, push_items};
+use crate::reads::{first_in, load_item, push_items};
 use crate::regions::Region;
 use mt_base::{Width, top};
 use mt_layout::{Item, RowKind, Run, slots};
 use mt_leaf::{Towards, edit_into, push_joined};
 use mt_path::PathStep;
 use mt_rows::Rows;
-
-/// The first index of the slot that a leaf's path takes, where the items before it are these.
-fn first_in_slot(leaf: &PathStep, before: &Run) -> u64
-    requires slot { leaf.now.slot ≤ length before.now.items }
-    requires within { first_of leaf.now.min before.now.items leaf.now.slot < 2 ^ 64 }
-    ensures { result ≡ first_of leaf.now.min before.now.items leaf.now.slot }
-{
-    if leaf.slot == 0 {
-        return leaf.min;
-    }
-    before[leaf.slot as usize - 1].last + 1
-}
 
 /// Fills an empty run with what stands in a leaf below `first`, which the path's slot there holds.
 fn push_below<R: Rows>(rows: &mut R, leaf: &PathStep, first: u64, run: &mut Run)
@@ -41,7 +29,7 @@ fn push_below<R: Rows>(rows: &mut R, leaf: &PathStep, first: u64, run: &mut Run)
     ensures rest { OnlyReads (R.sheet rows.old) (R.sheet rows.new) }
 {
     push_items(rows, RowKind::Leaf, leaf.row, leaf.max, 0, leaf.slot, run);
-    if first <= first_in_slot(leaf, run) {
+    if first <= first_in(leaf.min, run.as_slice(), leaf.slot as usize) {
         return;
     }
     let slots = slots(rows.width(), RowKind::Leaf);

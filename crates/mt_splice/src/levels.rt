@@ -1,26 +1,30 @@
 //! The rows of a level: the new ones are written, and the old ones buried.
 
-ghost use Rattle.std.specs.Prelude.{◌≡◌, ◌<◌, ◌≤◌, ◌+◌, ◌*◌, ◌++◌, ℕ, Some, length};
+ghost use Rattle.std.specs.Prelude.{◌≡◌, ◌≢◌, ◌<◌, ◌≤◌, ◌+◌, ◌*◌, ◌++◌, ℕ, Any, Some, length};
 ghost use Rattle.mt_base.specs.declared.kinds.Kind.{Kind};
 ghost use Rattle.mt_base.specs.Width.{greatest, most_taken};
 ghost use Rattle.mt_free.specs.Book.{after_retire};
 ghost use Rattle.mt_layout.specs.declared.names.RowKind.TheVariants.{Leaf};
+ghost use Rattle.mt_layout.specs.Columns.{RiseFrom};
 ghost use Rattle.mt_layout.specs.Rows.{row_in, named_row};
 ghost use Rattle.mt_layout.specs.Sizes.{slots_of};
 ghost use Rattle.mt_layout.specs.Spans.{spans_from, Apart};
 ghost use Rattle.mt_path.specs.Paths.{path_in, step_at};
 ghost use Rattle.mt_rows.specs.Publish.{IsTreeOf};
+ghost use Rattle.mt_rows.specs.Spans.{inner_kind};
 ghost use Rattle.mt_rows.specs.Sheet.{after_bury, OnlyReads};
 ghost use Rattle.mt_splice.specs.steps.Levels.{MayAddRow, IsRowAdded, noted, MayAddRows, AreRowsAdded, MayBeBuried, MayBuryLevel, IsLevelBuried, IsRowBehind};
+ghost use Rattle.mt_splice.specs.steps.Told.{greatest_gap, told_gap};
 ghost use Rattle.mt_splice.specs.Fewest.{IsCutOf};
 
 use crate::begun::Begun;
+use crate::reads::first_in;
 use crate::regions::{Region, step_on};
 use crate::writes::{NewRow, write_row};
 use arrayvec::ArrayVec;
 use mt_base::{MOST_TAKEN, Width};
 use mt_free::RowBook;
-use mt_layout::{Item, RowKind, least_items, row_of, slots};
+use mt_layout::{Item, RowKind, gap_of, least_items, row_of, slots};
 use mt_leaf::cut_towards;
 use mt_path::{Path, PathStep, walk};
 use mt_rows::Rows;
@@ -62,17 +66,42 @@ fn note_row(inner: &mut NewRows, kind: RowKind, word: u64, count: u32)
     }
 }
 
-/// Writes one row with these items, and gives the item that it is one level up.
+/// The greatest gap of the items of a row.
+fn greatest_gap(items: &[Item]) -> u64
+    ensures { result ≡ greatest_gap items.now }
+{
+    items.iter().fold(0, |gap, item| gap.max(item.gap))
+}
+
+/// What a row with these items, the first of which begins at `first`, tells the row above: the longest hole below it, where
+/// rows above have gaps.
+fn told_gap(above: RowKind, kind: RowKind, first: u64, items: &[Item]) -> u64
+    requires rise { RiseFrom first items.now }
+    requires entry { kind ≡ Leaf → Any (λ x. x.word ≢ 0) items.now }
+    ensures { result ≡ told_gap above kind first items.now }
+{
+    match (above, kind) {
+        (RowKind::Leaf | RowKind::Inner, _) => 0,
+        (RowKind::Gapped, RowKind::Leaf) => gap_of(items, first),
+        (RowKind::Gapped, RowKind::Inner | RowKind::Gapped) => greatest_gap(items),
+    }
+}
+
+/// Writes one row with these items, the first of which begins at `first`, and gives the item that it is one level up, in a
+/// row of the kind `above`.
 pub fn write_piece<R: Rows, B: Begun>(
     rows: &mut R,
     book: &mut RowBook,
+    above: RowKind,
     kind: RowKind,
+    first: u64,
     items: &[Item],
     inner: &mut NewRows,
 ) -> Item
     requires room { length inner.old.items < most_taken }
-    requires row { MayAddRow B.before B.start (R.sheet rows.old) book.old kind items.now inner.old.items }
-    ensures row { IsRowAdded B.before B.start (R.sheet rows.old) (R.sheet rows.new) book.old book.new kind items.now inner.old.items inner.new.items result }
+    requires above { above ≡ inner_kind B.start.tree.kind }
+    requires row { MayAddRow B.before B.start (R.sheet rows.old) book.old kind first items.now inner.old.items }
+    ensures row { IsRowAdded B.before B.start (R.sheet rows.old) (R.sheet rows.new) book.old book.new kind first items.now inner.old.items inner.new.items result }
     ensures few { length inner.new.items ≤ length inner.old.items + 1 }
 {
     let word = write_row(rows, book, kind, items);
@@ -80,23 +109,26 @@ pub fn write_piece<R: Rows, B: Begun>(
     Item {
         last: items[items.len() - 1].last,
         word,
-        gap: 0,
+        gap: told_gap(above, kind, first, items),
     }
 }
 
-/// Writes the items of a level in rows that end at these places, and gives the items that these are one level up. Of inner
-/// rows it notes how many children they have.
+/// Writes the items of a level, the first of which begins at `first`, in rows that end at these places, and gives the items
+/// that these are one level up, in rows of the kind `above`. Of inner rows it notes how many children they have.
 pub fn write_rows<R: Rows, B: Begun>(
     rows: &mut R,
     book: &mut RowBook,
+    above: RowKind,
     kind: RowKind,
+    first: u64,
     items: &[Item],
     ends: &[u32],
     inner: &mut NewRows,
 ) -> ArrayVec<Item, 3>
     requires room { length inner.old.items + 3 ≤ most_taken }
-    requires rows { MayAddRows B.before B.start (R.sheet rows.old) book.old kind items.now ends.now inner.old.items }
-    ensures rows { AreRowsAdded B.before B.start (R.sheet rows.old) (R.sheet rows.new) book.old book.new kind items.now ends.now inner.old.items inner.new.items result.items }
+    requires above { above ≡ inner_kind B.start.tree.kind }
+    requires rows { MayAddRows B.before B.start (R.sheet rows.old) book.old kind first items.now ends.now inner.old.items }
+    ensures rows { AreRowsAdded B.before B.start (R.sheet rows.old) (R.sheet rows.new) book.old book.new kind first items.now ends.now inner.old.items inner.new.items result.items }
     ensures made { length inner.new.items ≤ length inner.old.items + 3 }
     ensures few { length result.items ≤ 3 }
 {
@@ -104,7 +136,9 @@ pub fn write_rows<R: Rows, B: Begun>(
     let mut from = 0;
     for end in ends {
         let to = *end as usize;
-        let item = write_piece::<R, B>(rows, book, kind, &items[from..to], inner);
+        let begin = first_in(first, items, from);
+        let part = &items[from..to];
+        let item = write_piece::<R, B>(rows, book, above, kind, begin, part, inner);
         new.push(item);
         from = to;
     }

@@ -1,8 +1,9 @@
 //! The items of a row read from the rows of a tree.
 
-ghost use Rattle.std.specs.Prelude.{◌≡◌, ◌<◌, ◌≤◌, ◌+◌, ◌-◌, ◌++◌, nat_lt, length, take, if◌then◌else◌};
+ghost use Rattle.std.specs.Prelude.{◌≡◌, ◌<◌, ◌≤◌, ◌+◌, ◌-◌, ◌^◌, ◌++◌, nat_lt, length, take, if◌then◌else◌};
 ghost use Rattle.mt_base.specs.Width.{first_row};
 ghost use Rattle.mt_layout.specs.Columns.{item_at, items_from, pivot_column};
+ghost use Rattle.mt_leaf.specs.Places.{first_of};
 ghost use Rattle.mt_rows.specs.Spans.{base_of, column};
 ghost use Rattle.mt_layout.specs.Sizes.{slots_of, gaps_of, run_room};
 ghost use Rattle.mt_rows.specs.Sheet.{OnlyReads};
@@ -10,6 +11,19 @@ ghost use Rattle.mt_rows.specs.Sheet.{OnlyReads};
 use mt_layout::{Item, RowKind, Run, gaps, slots};
 use mt_rows::Rows;
 use std::ops::Range;
+
+/// The first index of the item in a slot, where the first item begins at `first`.
+#[tactic(auto, using(mt_leaf::proofs::Slots::slots))]
+pub fn first_in(first: u64, items: &[Item], slot: usize) -> u64
+    requires slot { slot ≤ length items.now }
+    requires within { first_of first items.now slot < 2 ^ 64 }
+    ensures { result ≡ first_of first items.now slot }
+{
+    if slot == 0 {
+        return first;
+    }
+    items[slot - 1].last + 1
+}
 
 /// The item in a slot of a row that covers the indexes up to `max`.
 pub fn load_item<R: Rows>(rows: &mut R, kind: RowKind, row: u32, max: u64, slot: u32) -> Item

@@ -32,11 +32,14 @@ fn replace_rows<R: Rows, B: Begun>(
     kind: RowKind,
     number: u64,
 ) -> ArrayVec<Item, 3>
-    requires { MayReplaceLevelRows B.before B.start (R.sheet rows.old) book.old inner.old.items kind region.now.left.items region.now.right.items depth region.now.run.items ends.now number }
+    requires inner { region.now.inner ≡ inner_kind B.start.tree.kind }
+    requires level { MayReplaceLevelRows B.before B.start (R.sheet rows.old) book.old inner.old.items kind region.now.left.items region.now.right.items depth region.now.run.items ends.now number }
     ensures level { AreLevelRowsReplaced B.before B.start (R.sheet rows.old) (R.sheet rows.new) book.old book.new inner.old.items inner.new.items kind region.now.left.items region.now.right.items depth region.now.run.items ends.now number result.items }
     ensures few { length result.items ≤ 3 }
 {
-    let new = write_rows::<R, B>(rows, book, kind, region.run.as_slice(), ends, inner);
+    let first = step_on(&region.left, depth).min;
+    let items = region.run.as_slice();
+    let new = write_rows::<R, B>(rows, book, region.inner, kind, first, items, ends, inner);
     bury_rows::<R, B>(rows, book, &region.left, &region.right, depth, number);
     new
 }
@@ -77,7 +80,7 @@ pub fn end_empty<R: Rows, B: Begun>(
 ) -> Place
     requires kind { kind ≡ inner_kind B.start.tree.kind }
     requires end { MayEndEmpty B.before B.start (R.sheet rows.old) book.old inner.now.items left.now.items right.now.items depth number call.now reply.now }
-    ensures spliced { IsSpliced B.before.kind B.before.sheet (R.sheet rows.new) B.before.book book.new B.before.number call.now reply.now result }
+    ensures spliced { IsSpliced B.before.kind B.before.sheet (R.sheet rows.new) B.before.book book.new B.before.number call.now reply.now result B.start.first B.start.last }
     ensures root { result ≡ Root }
     ensures none_taken { book.new.free ≡ book.old.free }
 {
@@ -103,7 +106,7 @@ fn end_at_root<R: Rows, B: Begun>(
 ) -> Place
     requires inner { region.now.inner ≡ inner_kind B.start.tree.kind }
     requires end { MayEndAtRoot B.before B.start (R.sheet rows.old) book.old inner.old.items kind region.now.left.items region.now.right.items depth region.now.run.items ends.now number call.now reply.now }
-    ensures { IsSpliced B.before.kind B.before.sheet (R.sheet rows.new) B.before.book book.new B.before.number call.now reply.now result }
+    ensures { IsSpliced B.before.kind B.before.sheet (R.sheet rows.new) B.before.book book.new B.before.number call.now reply.now result B.start.first B.start.last }
 {
     let new = replace_rows::<R, B>(rows, book, inner, region, ends, depth, kind, number);
     bury_above::<R, B>(
@@ -143,10 +146,12 @@ fn end_above<R: Rows, B: Begun>(
 ) -> Place
     requires inner { region.now.inner ≡ inner_kind B.start.tree.kind }
     requires end { MayEndAbove B.before B.start (R.sheet rows.old) book.old inner.old.items kind region.now.left.items region.now.right.items depth region.now.run.items ends.now number call.now reply.now }
-    ensures { IsSpliced B.before.kind B.before.sheet (R.sheet rows.new) B.before.book book.new B.before.number call.now reply.now result }
+    ensures { IsSpliced B.before.kind B.before.sheet (R.sheet rows.new) B.before.book book.new B.before.number call.now reply.now result B.start.first B.start.last }
 {
     let new = replace_rows::<R, B>(rows, book, inner, region, ends, depth, kind, number);
-    let root = write_piece::<R, B>(rows, book, region.inner, new.as_slice(), inner);
+    let kind = region.inner;
+    let items = new.as_slice();
+    let root = write_piece::<R, B>(rows, book, kind, kind, 0, items, inner);
     publish_at::<R, B>(
         rows,
         book,
@@ -175,7 +180,7 @@ fn end_in_slot<R: Rows, B: Begun>(
 ) -> Place
     requires inner { region.now.inner ≡ inner_kind B.start.tree.kind }
     requires end { MayEndInSlot B.before B.start (R.sheet rows.old) book.old inner.old.items kind region.now.left.items region.now.right.items depth region.now.run.items ends.now number call.now reply.now }
-    ensures { IsSpliced B.before.kind B.before.sheet (R.sheet rows.new) B.before.book book.new B.before.number call.now reply.now result }
+    ensures { IsSpliced B.before.kind B.before.sheet (R.sheet rows.new) B.before.book book.new B.before.number call.now reply.now result B.start.first B.start.last }
 {
     let new = replace_rows::<R, B>(rows, book, inner, region, ends, depth, kind, number);
     let parent = step_on(&region.left, depth - 1);
@@ -210,7 +215,7 @@ pub fn replace_level<R: Rows, B: Begun>(
 ) -> Place
     requires inner { region.old.inner ≡ inner_kind B.start.tree.kind }
     requires level { MayReplaceLevel B.before B.start (R.sheet rows.old) book.old inner.old.items kind region.old.left.items region.old.right.items depth region.old.run.items number call.now reply.now }
-    ensures { IsSpliced B.before.kind B.before.sheet (R.sheet rows.new) B.before.book book.new B.before.number call.now reply.now result }
+    ensures { IsSpliced B.before.kind B.before.sheet (R.sheet rows.new) B.before.book book.new B.before.number call.now reply.now result B.start.first B.start.last }
 {
     take_in_beside::<R, B>(rows, region, depth, kind);
     let width = rows.width();

@@ -2,6 +2,7 @@
 
 ghost use Rattle.std.specs.Prelude.{◌≡◌, []};
 ghost use Rattle.mt_rows.specs.Spans.{inner_kind};
+ghost use Rattle.mt_path.specs.Handles.{last_step};
 ghost use Rattle.mt_splice.specs.steps.Entries.{IsBegunBy};
 ghost use Rattle.mt_splice.specs.Splice.{MaySplice, MayReplace, IsSpliced};
 
@@ -45,10 +46,10 @@ fn splice_as<R: Rows, B: Begun>(
     call: &Call,
     reply: &Reply,
 ) -> Place
-    requires begun { IsBegunBy B.before B.start kind (R.sheet rows.old) book.old number call.now }
+    requires begun { IsBegunBy B.before B.start kind (R.sheet rows.old) book.old number call.now (last_step region.old.left.items).min (last_step region.old.right.items).max }
     requires may { MaySplice kind (R.sheet rows.old) book.old region.old.left.items region.old.right.items region.old.run.items number call.now reply.now }
     requires inner { region.old.inner ≡ inner_kind kind }
-    ensures { IsSpliced B.before.kind B.before.sheet (R.sheet rows.new) B.before.book book.new B.before.number call.now reply.now result }
+    ensures { IsSpliced B.before.kind B.before.sheet (R.sheet rows.new) B.before.book book.new B.before.number call.now reply.now result B.start.first B.start.last }
 {
     if region.left.is_empty() {
         return begin_tree::<R, B>(rows, book, region.inner, region.run.as_slice(), call, reply);
@@ -81,7 +82,7 @@ fn splice_region<R: Rows>(
 ) -> Place
     requires may { MaySplice kind (R.sheet rows.old) book.old region.old.left.items region.old.right.items region.old.run.items number call.now reply.now }
     requires inner { region.old.inner ≡ inner_kind kind }
-    ensures { IsSpliced kind (R.sheet rows.old) (R.sheet rows.new) book.old book.new number call.now reply.now result }
+    ensures { IsSpliced kind (R.sheet rows.old) (R.sheet rows.new) book.old book.new number call.now reply.now result (last_step region.old.left.items).min (last_step region.old.right.items).max }
 {
     splice_as::<R, Brand>(rows, book, kind, region, number, call, reply)
 }
@@ -100,7 +101,7 @@ pub fn splice<R: Rows>(
     reply: &Reply,
 ) -> Place
     requires { MaySplice kind (R.sheet rows.old) book.old left.now.items right.now.items items.now.items number call.now reply.now }
-    ensures { IsSpliced kind (R.sheet rows.old) (R.sheet rows.new) book.old book.new number call.now reply.now result }
+    ensures { IsSpliced kind (R.sheet rows.old) (R.sheet rows.new) book.old book.new number call.now reply.now result (last_step left.now.items).min (last_step right.now.items).max }
 {
     let mut region = empty_region(inner_kind(kind), copy_of(left), copy_of(right));
     push_all(&mut region.run, items.as_slice());
@@ -122,7 +123,7 @@ pub fn replace_range<R: Rows>(
     reply: &Reply,
 ) -> Place
     requires { MayReplace kind (R.sheet rows.old) book.old left.items first last entry number call.now reply.now }
-    ensures { IsSpliced kind (R.sheet rows.old) (R.sheet rows.new) book.old book.new number call.now reply.now result }
+    ensures { IsSpliced kind (R.sheet rows.old) (R.sheet rows.new) book.old book.new number call.now reply.now result first last }
 {
     let mut right = copy_of(&left);
     walk_on(rows, &mut right, last);

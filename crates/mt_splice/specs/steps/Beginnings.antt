@@ -8,6 +8,7 @@ use Rattle.mt_rows.specs.Laws.{Stands, top_of}
 use Rattle.mt_rows.specs.Replacement.{root_of}
 use Rattle.mt_path.specs.declared.paths.PathStep.{PathStep}
 use Rattle.mt_path.specs.Paths.{path_in}
+use Rattle.mt_splice.specs.steps.Climbs.{IsAround}
 use Rattle.mt_splice.specs.steps.Work.{Start, Work, IsUsed}
 
 -- The map that is to be is that after the store; the paths lead to the store's ends; nothing was done yet.
@@ -19,6 +20,7 @@ pub record Begins (start : Start) (s : Work) (left right : List PathStep) (first
   pub free : reserved entry ≡ false
   pub is_left : left ≡ path_in start.tree.table start.tree.root first
   pub is_right : right ≡ path_in start.tree.table start.tree.root last
+  pub around : IsAround start left right start.height
   pub words : s.words ≡ start.tree.table.words
   pub used : Levels (IsUsed s) start.tree.table start.height (root_of start.tree)
   pub taken : s.taken ≡ []

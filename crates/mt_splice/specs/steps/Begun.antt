@@ -34,4 +34,4 @@ abbrev pub no_before : Before
 no_before = record { sheet = no_sheet; book = record { rows = 0; free = []; held = [] }; kind = trees.Range; number = 0 }
 
 abbrev pub no_start : Start
-no_start = record { tree = tree_as trees.Range no_tree; height = 0; map = [] }
+no_start = record { tree = tree_as trees.Range no_tree; height = 0; map = []; first = 0; last = 0 }

@@ -1,6 +1,6 @@
 -- A replacement level by level: spans are gathered, and written in new rows.
 -- Source: this project's own; the kernel's lib/maple_tree.c climbs in mas_spanning_rebalance.
-use Rattle.std.specs.Prelude.{◌≡◌, ℕ, zero, suc, ◌+◌, ◌-◌, false, List, [], ◌++◌, take, drop}
+use Rattle.std.specs.Prelude.{◌≡◌, ℕ, zero, suc, ◌+◌, ◌-◌, ◌<◌, ◌≤◌, false, List, [], ◌++◌, take, drop}
 use Rattle.std.specs.List.{AllByRecursion, flat_map}
 use Rattle.mt_base.specs.Entry.{reserved}
 use Rattle.mt_layout.specs.declared.spans.Span.{Span}
@@ -24,6 +24,11 @@ begin_of left depth = (step_at left depth).min
 
 abbrev pub behind_of : List PathStep → ℕ → ℕ
 behind_of right depth = (step_at right depth).max + 1
+
+-- what is to change lies in the rows of a depth from the left path's to the right path's
+pub record IsAround (start : Start) (left right : List PathStep) (depth : ℕ) : Type 0 where
+  pub first : begin_of left depth ≤ start.first
+  pub last : start.last < behind_of right depth
 
 -- what stands now in a path's row of a depth and a height
 abbrev pub spans_now : Start → Work → List PathStep → ℕ → ℕ → List Span
@@ -60,6 +65,7 @@ MayStandIn start s depth (suc h) ys = IsHalfReplaced start.tree s.words start.ma
 -- The spans are gathered that replace what stands in the rows of this depth from the left path's to the right path's.
 pub record Gathered (start : Start) (s : Work) (left right : List PathStep) (depth height : ℕ) (run : List Span) : Type 0 where
   pub paths : ArePaths start left right
+  pub around : IsAround start left right depth
   pub holds : Holds start s
   pub levels : start.height ≡ depth + height
   pub front : List Span
@@ -84,6 +90,7 @@ pub record AreWritten (start : Start) (s s' : Work) (height : ℕ) (spans rows :
 -- The rows of this depth from the left path's to the right path's, and those below them that had to, are replaced.
 pub record Climbed (start : Start) (s : Work) (left right : List PathStep) (depth height : ℕ) (new : List Span) : Type 0 where
   pub paths : ArePaths start left right
+  pub around : IsAround start left right depth
   pub holds : Holds start s
   pub levels : start.height ≡ depth + height
   pub front : List Span

@@ -26,6 +26,7 @@ use Rattle.mt_splice.specs.declared.writes.NewRow.{NewRow}
 use Rattle.mt_splice.specs.steps.Seen.{passing}
 use Rattle.mt_splice.specs.steps.Work.{Start, Work, with_words, now, Holds}
 use Rattle.mt_splice.specs.steps.Replaced.{IsReplaced}
+use Rattle.mt_splice.specs.steps.Told.{GapsBeside}
 use Rattle.mt_splice.specs.steps.Writes.{child_row, AreChildren}
 use Rattle.mt_splice.specs.steps.Progress.{Before, IsCase, IsProgress, is_taken, new_rows_of}
 use Rattle.mt_layout.specs.Sizes.{slots_of}
@@ -73,6 +74,7 @@ pub record MayPublishEnd (b : Before) (start : Start) (s : Sheet) (book : Book) 
   pub answer : acted b.kind (map_by b.sheet.tree) call ≡ (start.map, reply)
   pub holds : HoldsAs start work old
   pub replaced : IsReplaced start.tree (tree_as b.kind (with_published s.tree place word)) start.map work.taken work.gone old new
+  pub gaps : GapsBeside start (is_taken work) (tree_as b.kind (with_published s.tree place word)) new
   pub at : IsEndPlace start work old place
   pub top : IsTop work old new word
   pub inner_rows : inner ≡ new_rows_of s.tree.table work.taken

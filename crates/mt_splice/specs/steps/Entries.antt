@@ -19,16 +19,22 @@ use Rattle.mt_splice.specs.steps.Work.{Start}
 abbrev pub before_of : Kind → Sheet → Book → ℕ → Before
 before_of kind s book number = record { sheet = s; book = book; kind = kind; number = number }
 
--- the tree as it is now, with the map that the call makes
-abbrev pub start_of : Kind → Sheet → Call → Start
-start_of kind s call = record { tree = tree_as kind s.tree; height = length (path_in s.tree.table s.tree.root 0) - 1; map = (acted kind (map_by s.tree) call).0 }
+-- the tree as it is now, with the map that the call makes, and the indexes of what it changes
+abbrev pub start_of : Kind → Sheet → Call → ℕ → ℕ → Start
+start_of kind s call first last = record {
+  tree = tree_as kind s.tree;
+  height = length (path_in s.tree.table s.tree.root 0) - 1;
+  map = (acted kind (map_by s.tree) call).0;
+  first = first;
+  last = last;
+}
 
-pub record IsBegunBy (b : Before) (begin : Start) (kind : Kind) (s : Sheet) (book : Book) (number : ℕ) (call : Call) : Type 0 where
+pub record IsBegunBy (b : Before) (begin : Start) (kind : Kind) (s : Sheet) (book : Book) (number : ℕ) (call : Call) (first last : ℕ) : Type 0 where
   pub before : b ≡ before_of kind s book number
-  pub start : begin ≡ start_of kind s call
+  pub start : begin ≡ start_of kind s call first last
 
 -- a store of an entry into the empty tree, where these are the items after it
 pub record IsFirst (b : Before) (start : Start) (s : Sheet) (book : Book) (items : List Item) (call : Call) (reply : Reply) : Type 0 where
   pub right : List PathStep
-  pub begun : IsBegunBy b start b.kind s book b.number call
+  pub begun : IsBegunBy b start b.kind s book b.number call start.first start.last
   pub may : MaySplice b.kind s book [] right items b.number call reply

@@ -9,7 +9,7 @@ use Rattle.mt_layout.specs.Rows.{row_in}
 use Rattle.mt_layout.specs.Spans.{spans_from}
 use Rattle.mt_free.specs.Book.{Book, Held, IsOut}
 use Rattle.mt_rows.specs.Levels.{tally}
-use Rattle.mt_rows.specs.Laws.{kind_at}
+use Rattle.mt_rows.specs.Laws.{kind_at, top_of}
 use Rattle.mt_rows.specs.Sheet.{Sheet, MayBury}
 use Rattle.mt_path.specs.declared.paths.PathStep.{PathStep}
 use Rattle.mt_path.specs.Paths.{path_in, step_at}
@@ -21,6 +21,7 @@ use Rattle.mt_splice.specs.steps.Stretches.{ArePaths}
 use Rattle.mt_splice.specs.steps.Burying.{AreBuried}
 use Rattle.mt_splice.specs.steps.Climbs.{begin_of, behind_of, AreWritten}
 use Rattle.mt_splice.specs.steps.Runs.{MayBeCut}
+use Rattle.mt_splice.specs.steps.Told.{AreTold, AreToldIn}
 use Rattle.mt_splice.specs.Fewest.{IsCutOf}
 use Rattle.mt_splice.specs.steps.Progress.{Before, IsBefore, IsCase, IsProgress, new_rows_of}
 use Rattle.mt_layout.specs.Sizes.{slots_of}
@@ -35,26 +36,27 @@ pub record MayWriteRow (b : Before) (start : Start) (s : Sheet) (book : Book) (w
   pub free : 0 < length book.free
   pub run : MayBeCut start.tree height lo hi (spans_from lo items)
   pub fit : length items ≤ slots_of s.tree.table.width kind
+  pub told : AreToldIn start w height lo items
   pub known : inner ≡ new_rows_of s.tree.table w.taken
 
--- One more row was written: it holds the items, and stands as `item` one level up.
+-- One more row was written: it holds the items, and stands as `item`, which tells its gap, one level up.
 pub record IsOneWritten (b : Before) (start : Start) (s' : Sheet) (book book' : Book) (w w' : Work) (height lo hi : ℕ) (items : List Item) (inner' : List NewRow) (item : Item) : Type 0 where
   pub progress : IsProgress b s' book' w'
   pub written : AreWritten start w w' height (spans_from lo items) (spans_from lo (item ∷ []))
+  pub told : AreTold start w' height lo (item ∷ [])
   pub inner : inner' ≡ new_rows_of s'.tree.table w'.taken
   pub last : item.last + 1 ≡ hi
   pub free : length book.free ≡ length book'.free + 1
 
--- a row may be written at some height, and what is written then at every such height
-pub record MayAddRow (b : Before) (start : Start) (s : Sheet) (book : Book) (kind : RowKind) (items : List Item) (inner : List NewRow) : Type 0 where
+-- a row that begins at `lo` may be written at some height, and what is written then at every such height
+pub record MayAddRow (b : Before) (start : Start) (s : Sheet) (book : Book) (kind : RowKind) (lo : ℕ) (items : List Item) (inner : List NewRow) : Type 0 where
   pub work : Work
   pub height : ℕ
-  pub lo : ℕ
   pub hi : ℕ
   pub may : MayWriteRow b start s book work kind height lo hi items inner
 
-pub record IsRowAdded (b : Before) (start : Start) (s s' : Sheet) (book book' : Book) (kind : RowKind) (items : List Item) (inner inner' : List NewRow) (item : Item) : Type 0 where
-  pub each : {w : Work} {height lo hi : ℕ} → MayWriteRow b start s book w kind height lo hi items inner → (w' : Work) × IsOneWritten b start s' book book' w w' height lo hi items inner' item
+pub record IsRowAdded (b : Before) (start : Start) (s s' : Sheet) (book book' : Book) (kind : RowKind) (lo : ℕ) (items : List Item) (inner inner' : List NewRow) (item : Item) : Type 0 where
+  pub each : {w : Work} {height hi : ℕ} → MayWriteRow b start s book w kind height lo hi items inner → (w' : Work) × IsOneWritten b start s' book book' w w' height lo hi items inner' item
 
 -- an inner row that was written, by its name
 abbrev pub noted : RowKind → ℕ → ℕ → List NewRow
@@ -70,28 +72,30 @@ pub record MayWriteRows (b : Before) (start : Start) (s : Sheet) (book : Book) (
   pub progress : IsProgress b s book w
   pub of_kind : kind ≡ kind_at start.tree.kind height
   pub free : 3 ≤ length book.free
+  pub within : hi ≤ top_of start.tree + 1
   pub run : MayBeCut start.tree height lo hi (spans_from lo items)
   pub cut : IsCutOf s.tree.table.width kind items ends
   pub few : length ends ≤ 3
+  pub told : AreToldIn start w height lo items
   pub known : inner ≡ new_rows_of s.tree.table w.taken
 
--- The items were written in rows, three at the most, which stand as `new` one level up.
+-- The items were written in rows, three at the most, which stand as `new`, which tell their gaps, one level up.
 pub record AreRowsWritten (b : Before) (start : Start) (s' : Sheet) (book book' : Book) (w w' : Work) (height lo : ℕ) (items : List Item) (ends : List ℕ) (inner' : List NewRow) (new : List Item) : Type 0 where
   pub progress : IsProgress b s' book' w'
   pub written : AreWritten start w w' height (spans_from lo items) (spans_from lo new)
+  pub told : AreTold start w' height lo new
   pub inner : inner' ≡ new_rows_of s'.tree.table w'.taken
   pub free : length book.free ≡ length book'.free + length new
   pub many : length new ≡ length ends
 
-pub record MayAddRows (b : Before) (start : Start) (s : Sheet) (book : Book) (kind : RowKind) (items : List Item) (ends : List ℕ) (inner : List NewRow) : Type 0 where
+pub record MayAddRows (b : Before) (start : Start) (s : Sheet) (book : Book) (kind : RowKind) (lo : ℕ) (items : List Item) (ends : List ℕ) (inner : List NewRow) : Type 0 where
   pub work : Work
   pub height : ℕ
-  pub lo : ℕ
   pub hi : ℕ
   pub may : MayWriteRows b start s book work kind height lo hi items ends inner
 
-pub record AreRowsAdded (b : Before) (start : Start) (s s' : Sheet) (book book' : Book) (kind : RowKind) (items : List Item) (ends : List ℕ) (inner inner' : List NewRow) (new : List Item) : Type 0 where
-  pub each : {w : Work} {height lo hi : ℕ} → MayWriteRows b start s book w kind height lo hi items ends inner → (w' : Work) × AreRowsWritten b start s' book book' w w' height lo items ends inner' new
+pub record AreRowsAdded (b : Before) (start : Start) (s s' : Sheet) (book book' : Book) (kind : RowKind) (lo : ℕ) (items : List Item) (ends : List ℕ) (inner inner' : List NewRow) (new : List Item) : Type 0 where
+  pub each : {w : Work} {height hi : ℕ} → MayWriteRows b start s book w kind height lo hi items ends inner → (w' : Work) × AreRowsWritten b start s' book book' w w' height lo items ends inner' new
 
 -- ---- the rows that are replaced
 

@@ -26,6 +26,7 @@ use Rattle.mt_splice.specs.Fewest.{IsCutOf}
 use Rattle.mt_splice.specs.steps.Progress.{Before, IsCase, IsProgress, new_rows_of}
 use Rattle.mt_splice.specs.steps.Decisions.{StandForAll, EndsHere}
 use Rattle.mt_splice.specs.steps.TakingIn.{IsNow, MayTakeIn, IsTakenIn}
+use Rattle.mt_splice.specs.steps.Told.{AreTold, AreToldIn, HadGaps}
 
 -- the call makes this map, and is answered so
 abbrev pub IsAnswer : Before → Start → Call → Reply → Type 0
@@ -67,6 +68,7 @@ pub record MayReplaceRows (b : Before) (start : Start) (s : Sheet) (book : Book)
   pub run : MayBeCut start.tree height (begin_of left depth) (behind_of right depth) (spans_from (begin_of left depth) items)
   pub cut : IsCutOf s.tree.table.width kind items ends
   pub few : length ends ≤ 3
+  pub told : AreToldIn start w height (begin_of left depth) items
   pub in_call : number ≡ b.number
 
 -- they stand in new rows, and the old rows are buried
@@ -76,6 +78,7 @@ pub record AreRowsReplaced (b : Before) (start : Start) (s : Sheet) (book : Book
   pub some : 1 ≤ length new
   pub few : length new ≤ 3
   pub many : length new ≡ length ends
+  pub told : AreTold start w height (begin_of left depth) new
 
 pub record MayReplaceLevelRows (b : Before) (start : Start) (s : Sheet) (book : Book) (inner : List NewRow) (kind : RowKind) (left right : List PathStep) (depth : ℕ) (items : List Item) (ends : List ℕ) (number : ℕ) : Type 0 where
   pub work : Work
@@ -94,6 +97,8 @@ pub record MayGoUp (start : Start) (w : Work) (t : Rooted) (left right : List Pa
   pub some : 1 ≤ length new
   pub few : length new ≤ 3
   pub goes_on : EndsHere t.table.width left right (suc depth) (length new) → ⊥
+  pub told : AreTold start w height (begin_of left (suc depth)) new
+  pub had_gaps : HadGaps start
 
 pub record MayGather (start : Start) (t : Rooted) (left right : List PathStep) (depth : ℕ) (new : List Item) : Type 0 where
   pub work : Work

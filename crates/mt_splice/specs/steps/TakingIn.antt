@@ -17,6 +17,7 @@ use Rattle.mt_splice.specs.steps.Work.{Start, Work, now}
 use Rattle.mt_splice.specs.steps.Climbs.{begin_of, behind_of, Gathered}
 use Rattle.mt_splice.specs.steps.Endings.{words_of}
 use Rattle.mt_splice.specs.steps.Runs.{most_items, most_before_hole, MayBeCut}
+use Rattle.mt_splice.specs.steps.Told.{AreToldIn, HadGaps}
 use Rattle.mt_layout.specs.Sizes.{least_items}
 
 abbrev pub is_hole_at : List Item → ℕ → Bool
@@ -44,7 +45,7 @@ pub record IsNow (start : Start) (w : Work) (t : Rooted) : Type 0 where
   pub width : t.table.width ≡ kind_width start.tree.kind
 
 -- Few enough items to take in a row beside them, fewer where a leaf may end with a hole; and in inner rows two at the
--- least where they stand for every index.
+-- least where they stand for every index. They tell their gaps, as the tree's rows did.
 pub record MayTakeIn (start : Start) (w : Work) (t : Rooted) (kind : RowKind) (left right : List PathStep) (depth height : ℕ) (items : List Item) : Type 0 where
   pub is_now : IsNow start w t
   pub of_kind : kind ≡ kind_at start.tree.kind height
@@ -52,6 +53,8 @@ pub record MayTakeIn (start : Start) (w : Work) (t : Rooted) (kind : RowKind) (l
   pub few : length items ≤ most_items start.tree.table.width (kind_at start.tree.kind height)
   pub ends : height ≡ 0 → (step_at right depth).max < top_of start.tree → (length items ≤ most_before_hole start.tree.table.width) ⊎ EndsFull (spans_from (begin_of left depth) items)
   pub two : (h : ℕ) → height ≡ suc h → begin_of left depth ≡ 0 → (step_at right depth).max ≡ top_of start.tree → 2 ≤ length items
+  pub told : AreToldIn start w height (begin_of left depth) items
+  pub had_gaps : HadGaps start
 
 -- The items are gathered, and may be cut into rows or stand for every index.
 pub record IsTakenIn (start : Start) (w : Work) (left right : List PathStep) (depth height : ℕ) (items : List Item) : Type 0 where
@@ -59,3 +62,4 @@ pub record IsTakenIn (start : Start) (w : Work) (left right : List PathStep) (de
   pub cut : MayBeCut start.tree height (begin_of left depth) (behind_of right depth) (spans_from (begin_of left depth) items)
       ⊎ ((begin_of left depth ≡ 0) × ((step_at right depth).max ≡ top_of start.tree) × (length items ≤ most_items start.tree.table.width (kind_at start.tree.kind height)))
   pub two : (h : ℕ) → height ≡ suc h → begin_of left depth ≡ 0 → (step_at right depth).max ≡ top_of start.tree → 2 ≤ length items
+  pub told : AreToldIn start w height (begin_of left depth) items

@@ -1,10 +1,11 @@
 -- Items whose gaps are told, and the law of gaps while a tree is replaced.
 -- Source: the kernel's lib/maple_tree.c, mas_leaf_max_gap and ma_max_gap, by which a node's gap is told to its parent.
-use Rattle.std.specs.Prelude.{◌≡◌, ℕ, zero, suc, Bool, List, [], ◌∷◌, Option, Some, None, map}
+use Rattle.std.specs.Prelude.{◌≡◌, ◌≤◌, ℕ, zero, suc, Bool, List, [], ◌∷◌, Option, Some, None, fold, map, max}
 use Rattle.mt_layout.specs.declared.items.Item.{Item}
 use Rattle.mt_layout.specs.declared.names.RowKind.{RowKind}
 use Rattle.mt_layout.specs.declared.names.RowKind.TheVariants.{Leaf, Inner, Gapped}
 use Rattle.mt_layout.specs.declared.spans.Span.{Span}
+use Rattle.mt_layout.specs.Columns.{longest_hole}
 use Rattle.mt_layout.specs.Spans.{spans_from}
 use Rattle.mt_rows.specs.Spans.{Table, inner_kind}
 use Rattle.mt_rows.specs.Levels.{Levels}
@@ -24,6 +25,19 @@ abbrev pub TellGaps : RowKind → Table → ℕ → ℕ → List Item → Type 0
 TellGaps Leaf t h first items = Unit {0}
 TellGaps Inner t h first items = Unit {0}
 TellGaps Gapped t h first items = map (λ (x : Item). x.gap) items ≡ longest_holes t h (spans_from first items)
+
+-- the greatest gap of items
+abbrev pub greatest_gap : List Item → ℕ
+greatest_gap items = fold (λ (gap : ℕ) (x : Item). max gap x.gap) 0 items
+
+-- What a row of this kind tells the row above, where the rows above are of the kind `above`: its longest hole, where these
+-- have gaps. Its first item begins at `first`.
+abbrev pub told_gap : RowKind → RowKind → ℕ → List Item → ℕ
+told_gap Leaf kind first items = 0
+told_gap Inner kind first items = 0
+told_gap Gapped Leaf first items = longest_hole first items
+told_gap Gapped Inner first items = greatest_gap items
+told_gap Gapped Gapped first items = greatest_gap items
 
 -- a row in use that keeps the laws, that of gaps too
 pub record IsGoodRow (start : Start) (w : Work) (h : ℕ) (x : Span) : Type 0 where
@@ -52,3 +66,7 @@ HadGaps start = Levels (GapLaw start.tree) start.tree.table start.height (root_o
 abbrev pub GapsAs : (ℕ → Bool) → ℕ → Tree → Option ℕ → Type 0
 GapsAs is_new index t None = Unit {0}
 GapsAs is_new index t (Some h) = Levels (KeepsGaps is_new index t) t.table h (root_of t)
+
+-- so it is for each index of what changes
+abbrev pub GapsBeside : Start → (ℕ → Bool) → Tree → Option ℕ → Type 0
+GapsBeside start is_new t new = (index : ℕ) → start.first ≤ index → index ≤ start.last → GapsAs is_new index t new

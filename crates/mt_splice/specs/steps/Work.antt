@@ -12,11 +12,13 @@ use Rattle.mt_rows.specs.Replacement.{root_of}
 use Rattle.mt_rows.specs.Sheet.{Rooted}
 use Rattle.mt_splice.specs.steps.Seen.{Seen, passing}
 
--- the tree as it was, its height, and the map that is to be
+-- the tree as it was, its height, the map that is to be, and the first and the last index of what is to change
 pub record Start : Type 0 where
   pub tree : Tree
   pub height : ℕ
   pub map : List Range
+  pub first : ℕ
+  pub last : ℕ
 
 -- the words now, which rows are in use, and the rows that were taken and those that are gone
 pub record Work : Type 0 where

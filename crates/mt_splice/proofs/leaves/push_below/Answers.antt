@@ -1,4 +1,6 @@
-use Rattle.std.proofs.Common.{◌+◌, ap, ◌∙◌, arith}
+use Rattle.std.proofs.Common.{◌+◌, List, ap, ◌∙◌, arith}
+use Rattle.mt_layout.specs.declared.items.Item.{Item}
+use Rattle.mt_leaf.specs.Places.{first_of}
 use Rattle.mt_rows.specs.Sheet.{Rooted, word_at}
 use Rattle.mt_path.proofs.Kept.{same_tree}
 use Rattle.mt_splice.proofs.LeafRegions.{leaf_row, leaf_read, room_first, read_first, read_many, first_low, read_whole, read_part, slot_small, slot_place, slot_word}
@@ -13,15 +15,18 @@ push_items-requires-clause-last g c = (leaf_row c.requires.leaf).1
 pub push_items-requires-clause-room : goal.push_items-requires-clause-room
 push_items-requires-clause-room g c = room_first c.requires.leaf c.requires.empty
 
-pub first_in_slot-requires-clause-slot : goal.first_in_slot-requires-clause-slot
-first_in_slot-requires-clause-slot g c = read_many c.requires.leaf (read_first c.requires.leaf c.requires.empty c.push_items.ensures.items)
+pub first_in-requires-clause-slot : goal.first_in-requires-clause-slot
+first_in-requires-clause-slot g c = rw c.as_slice.ensures.value (read_many c.requires.leaf (read_first c.requires.leaf c.requires.empty c.push_items.ensures.items))
 
-pub first_in_slot-requires-clause-within : goal.first_in_slot-requires-clause-within
-first_in_slot-requires-clause-within g c = let low = first_low c.requires.leaf (read_first c.requires.leaf c.requires.empty c.push_items.ensures.items) in let fits = c.ranges.first in omega arith
+pub first_in-requires-clause-within : goal.first_in-requires-clause-within
+first_in-requires-clause-within g c = let low = first_low c.requires.leaf (read_first c.requires.leaf c.requires.empty c.push_items.ensures.items) in let fits = c.ranges.first in
+    let same = ap (λ (items : List Item). first_of c.args.leaf.now.min items c.args.leaf.now.slot) c.as_slice.ensures.value in
+    omega arith
 
-pub returns-then-first-first_in_slot-clause-items : goal.returns-then-first-first_in_slot-clause-items
-returns-then-first-first_in_slot-clause-items g c =
-    let begins = c.first_in_slot.ensures in let from = c.if-first-first_in_slot.true in
+pub returns-then-first-first_in-clause-items : goal.returns-then-first-first_in-clause-items
+returns-then-first-first_in-clause-items g c =
+    let begins = c.first_in.ensures ∙ ap (λ (items : List Item). first_of c.args.leaf.now.min items c.args.leaf.now.slot) c.as_slice.ensures.value in
+    let from = c.if-first-first_in.true in
     read_whole c.requires.leaf (read_first c.requires.leaf c.requires.empty c.push_items.ensures.items) (omega arith)
 
 pub overflow_add-slots : goal.overflow_add-slots
@@ -36,7 +41,8 @@ load-word-requires g c = let same = same_tree (g.R.Rows.sheet c.args.rows.now) (
 pub returns-clause-items : goal.returns-clause-items
 returns-clause-items g c =
     let same = same_tree (g.R.Rows.sheet c.args.rows.now) (g.R.Rows.sheet c.push_items.new.rows) c.push_items.ensures.rest in
-    let begins = c.first_in_slot.ensures in let from = c.if-first-first_in_slot.false in
+    let begins = c.first_in.ensures ∙ ap (λ (items : List Item). first_of c.args.leaf.now.min items c.args.leaf.now.slot) c.as_slice.ensures.value in
+    let from = c.if-first-first_in.false in
     let width = c.width.ensures ∙ ap (λ (t : Rooted). t.table.width) same in
     let word = c.load-word.ensures.word ∙ ap (λ (t : Rooted). word_at t c.args.leaf.now.row (c.slots-slots.result + c.args.leaf.now.slot)) same in
     read_part c.requires.leaf (read_first c.requires.leaf c.requires.empty c.push_items.ensures.items) (omega arith) (slot_word c.requires.leaf width c.slots-slots.ensures word) c.push.ensures.items

@@ -34,8 +34,8 @@ end_above-requires-clause-end g t c =
 pub end_in_slot-requires-clause-end : goal.end_in_slot-requires-clause-end
 end_in_slot-requires-clause-end g t c = next.ends_in_slot c.requires.level c.take_in_beside.ensures.level c.take_in_beside.ensures.rest c.width-width.ensures c.in-Slot.ensures.0 c.ends_of-ends.ensures.cut c.ends_of-ends.ensures.few c.as_slice-ends.ensures.value refl c.in-Slot.ensures.1 c.in-Slot.ensures.2 c.in-Slot.ensures.3
 
-pub replace_rows-new-requires : goal.replace_rows-new-requires
-replace_rows-new-requires g t c = next.rows_may_be_replaced c.requires.level c.take_in_beside.ensures.level c.take_in_beside.ensures.rest c.width-width.ensures c.in-Up.ensures.0 c.ends_of-ends.ensures.cut c.ends_of-ends.ensures.few c.as_slice-ends.ensures.value
+pub replace_rows-new-requires-clause-level : goal.replace_rows-new-requires-clause-level
+replace_rows-new-requires-clause-level g t c = next.rows_may_be_replaced c.requires.level c.take_in_beside.ensures.level c.take_in_beside.ensures.rest c.width-width.ensures c.in-Up.ensures.0 c.ends_of-ends.ensures.cut c.ends_of-ends.ensures.few c.as_slice-ends.ensures.value
 
 pub overflow_sub-depth : goal.overflow_sub-depth
 overflow_sub-depth g t c = let deeper = next.deeper c.requires.level c.take_in_beside.ensures.level c.take_in_beside.ensures.rest c.width-width.ensures c.in-Up.ensures.0 c.ends_of-ends.ensures.cut c.ends_of-ends.ensures.few c.as_slice-ends.ensures.value refl c.in-Up.ensures.1 in omega arith

@@ -2,8 +2,8 @@ use Rattle.std.proofs.Common.{length, ap, rules}
 use Rattle.mt_splice.proofs.LevelEnds.{rows_asked, new_some, root_buries, root_is_published}
 use Rattle.mt_splice.proofs.replaces.end_at_root.Goals as goal
 
-pub replace_rows-new-requires : goal.replace_rows-new-requires
-replace_rows-new-requires g c = rows_asked c.requires.end.end
+pub replace_rows-new-requires-clause-level : goal.replace_rows-new-requires-clause-level
+replace_rows-new-requires-clause-level g c = rows_asked c.requires.end.end
 
 pub bury_above-requires : goal.bury_above-requires
 bury_above-requires g c = root_buries c.requires.end c.replace_rows-new.ensures.level

@@ -2,8 +2,8 @@ use Rattle.std.proofs.Common.{length, ap, rules, arith}
 use Rattle.mt_splice.proofs.LevelEnds.{rows_asked, new_some, parent_is_deep, slot_fits, slots_same, slot_is_published}
 use Rattle.mt_splice.proofs.replaces.end_in_slot.Goals as goal
 
-pub replace_rows-new-requires : goal.replace_rows-new-requires
-replace_rows-new-requires g c = rows_asked c.requires.end.end
+pub replace_rows-new-requires-clause-level : goal.replace_rows-new-requires-clause-level
+replace_rows-new-requires-clause-level g c = rows_asked c.requires.end.end
 
 pub step_on-parent-requires : goal.step_on-parent-requires
 step_on-parent-requires g c = parent_is_deep c.requires.end

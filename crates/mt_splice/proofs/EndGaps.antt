@@ -1,0 +1,102 @@
+-- The law of gaps at the end of a replacement: at a new root, and after parent words were written.
+use Rattle.std.proofs.Common.{◌≡◌, ℕ, zero, suc, ◌+◌, ◌<◌, ◌≤◌, List, [], ◌∷◌, Some, Bool, length, refl, sym, ap, ◌∙◌, subst, inl, inr, arith}
+use Rattle.std.specs.List.{AllByRecursion}
+use Rattle.std.specs.Prelude.{◌⊎◌}
+use Rattle.mt_base.specs.declared.widths.Width.{Width}
+use Rattle.mt_base.specs.Width.{columns}
+use Rattle.mt_layout.specs.declared.names.RowKind.{RowKind}
+use Rattle.mt_layout.specs.declared.names.RowKind.TheVariants.{Leaf, Inner, Gapped}
+use Rattle.mt_layout.specs.declared.spans.Span.{Span}
+use Rattle.mt_layout.specs.Rows.{row_in}
+use Rattle.mt_layout.specs.Columns.{gap_column}
+use Rattle.mt_layout.specs.Sizes.{slots_of, gaps_of}
+use Rattle.mt_layout.proofs.RowSizes.{sizes}
+use Rattle.mt_rows.specs.Spans.{Table, column, inner_kind, spans_in}
+use Rattle.mt_rows.specs.Levels.{expand, Levels}
+use Rattle.mt_rows.specs.Laws.{Tree, IsRow, GapLaw, top_of}
+use Rattle.mt_rows.specs.Gaps.{GapsFromBut, GapLawButBy, KeepsGaps}
+use Rattle.mt_rows.proofs.FewSpans.{row_most}
+use Rattle.mt_rows.proofs.Frames.{same_spans}
+use Rattle.mt_rows.proofs.Joins.{Shared, levels_shared}
+use Rattle.mt_rows.proofs.Lists.{levels_map}
+use Rattle.mt_rows.proofs.Heights.{levels_pair}
+use Rattle.mt_splice.specs.steps.Work.{Start, Work, now, table_with, tree_with}
+use Rattle.mt_splice.specs.steps.Endings.{with_root}
+use Rattle.mt_splice.specs.steps.Told.{IsGoodRow, GapsAs}
+use Rattle.mt_splice.proofs.GapRows.{Kept, gap_law_stays, longest_shared, some_gaps}
+use Rattle.mt_splice.proofs.RootEndings.{at_root}
+use Rattle.mt_splice.proofs.SlotGaps.{weaker}
+use Rattle.mt_splice.proofs.ToldRows.{good_laws}
+
+-- ---- at a new root all rows keep the law
+
+same_law : (t : Tree) (root h : ℕ) (x : Span) → GapLaw t h x → GapLaw (with_root t root) h x
+same_law t root zero x law = tt
+same_law t root (suc h) x law = law
+
+pub root_gaps : (is_new : ℕ → Bool) (index : ℕ) (start : Start) (w : Work) (h : ℕ) (x : Span) → x.first ≡ 0 → x.last ≡ top_of start.tree → Levels (IsGoodRow start w) (now start w).table h (x ∷ [])
+    → GapsAs is_new index (with_root (now start w) x.word) (Some h)
+root_gaps is_new index start w h x first last good =
+    let t' = with_root (now start w) x.word in
+    subst (Levels (KeepsGaps is_new index t') t'.table h) (at_root start w x first last)
+    (levels_map (GapLaw (now start w)) (KeepsGaps is_new index t') t'.table (λ j y law. record { beside = weaker index t' j y (same_law (now start w) x.word j y law); new = λ _. same_law (now start w) x.word j y law }) h (x ∷ [])
+    (good_laws start w h (x ∷ []) good))
+
+-- ---- every row keeps its columns but for the parent word
+
+abbrev pub AllKeep : Table → Table → Type 0
+AllKeep t t' = (r c : ℕ) → 0 < c → c < columns t.width → column t' r c ≡ column t r c
+
+pub levels_all : (P : ℕ → Span → Type 0) (t : Table) → ((h : ℕ) (x : Span) → P h x) → (h : ℕ) (xs : List Span) → Levels P t h xs
+levels_all P t each zero xs = all_here zero xs
+  where
+    all_here : (h : ℕ) (xs : List Span) → AllByRecursion (P h) xs
+    all_here h [] = tt
+    all_here h (x ∷ xs) = (each h x, all_here h xs)
+levels_all P t each (suc h) xs = (all_here (suc h) xs, levels_all P t each h (expand t xs))
+  where
+    all_here : (h : ℕ) (xs : List Span) → AllByRecursion (P h) xs
+    all_here h [] = tt
+    all_here h (x ∷ xs) = (each h x, all_here h xs)
+
+gap_within : (width : Width) (slot : ℕ) → slot < slots_of width Gapped → (0 < gap_column (slots_of width Gapped) slot) × (gap_column (slots_of width Gapped) slot < columns width)
+gap_within width slot used = by (sizes width Gapped).gaps
+  where
+    by : (gaps_of width Gapped ≡ 0) ⊎ (gaps_of width Gapped ≡ slots_of width Gapped) → (0 < gap_column (slots_of width Gapped) slot) × (gap_column (slots_of width Gapped) slot < columns width)
+    by (inl none) = absurd (some_gaps width none)
+    by (inr all) = let fit = (sizes width Gapped).columns_fit in (omega arith, omega arith)
+
+module _ (is_new : ℕ → Bool) (index : ℕ) (t : Tree) (words : List ℕ) (keep : AllKeep t.table (table_with t.table words)) where
+  abbrev t' : Tree
+  t' = tree_with t words
+
+  all_shared : (h : ℕ) (xs : List Span) → Levels (Shared t.table t'.table) t.table h xs
+  all_shared h xs = levels_all (Shared t.table t'.table) t.table (λ _ x. same_spans t.table t'.table x (keep (row_in x.word))) h xs
+
+  from_but : (h row slot : ℕ) (xs : List Span) → slot + length xs ≤ slots_of t.table.width Gapped → GapsFromBut index t.table h row slot xs → GapsFromBut index t'.table h row slot xs
+  from_but h row slot [] few law = tt
+  from_but h row slot (x ∷ xs) few law =
+      let inside = gap_within t.table.width slot (omega arith) in (
+        (λ off. keep row (gap_column (slots_of t.table.width Gapped) slot) inside.0 inside.1 ∙ (law.0 off ∙ sym (longest_shared t.table t'.table h (x ∷ []) (all_shared h (x ∷ []))))),
+        from_but h row (slot + 1) xs (omega arith) law.1,
+      )
+
+  but_of_kind : (kind : RowKind) (h : ℕ) (x : Span) → kind ≡ inner_kind t.kind → IsRow t (suc h) x → GapLawButBy index kind t.table h x → GapLawButBy index kind t'.table h x
+  but_of_kind Leaf h x is row law = tt
+  but_of_kind Inner h x is row law = tt
+  but_of_kind Gapped h x is row law =
+      let most = row_most row.name in
+      let slots = ap (slots_of t.table.width) is in
+      subst (GapsFromBut index t'.table h (row_in x.word) 0) (sym (same_spans t.table t'.table x (keep (row_in x.word)))) (from_but h (row_in x.word) 0 (spans_in t.table x) (omega arith) law)
+
+  keeps_then : (h : ℕ) (x : Span) → IsRow t h x → KeepsGaps is_new index t h x → KeepsGaps is_new index t' h x
+  keeps_then zero x row keeps = record { beside = tt; new = λ _. tt }
+  keeps_then (suc h) x row keeps = record {
+    beside = but_of_kind (inner_kind t.kind) h x refl row keeps.beside;
+    new = λ is. gap_law_stays t words h x row (keep (row_in x.word)) (levels_all (Kept t words) t.table (λ _ y. keep (row_in y.word)) h (spans_in t.table x)) (keeps.new is);
+  }
+
+  pub gaps_kept : (h : ℕ) (xs : List Span) → Levels (IsRow t) t.table h xs → Levels (KeepsGaps is_new index t) t.table h xs → Levels (KeepsGaps is_new index t') t'.table h xs
+  gaps_kept h xs rows keeps =
+      levels_shared (KeepsGaps is_new index t') t.table t'.table h xs (all_shared h xs)
+      (levels_pair (IsRow t) (KeepsGaps is_new index t) (KeepsGaps is_new index t') t.table keeps_then h xs rows keeps)
