@@ -240,8 +240,7 @@ pub row_added : {b : Before} {start : Start} {s s' : Sheet} {book book' : Book} 
 row_added {b} {start} {s} {s'} {book} {book'} {above} {kind} {lo} {gap} {items} {inner} {inner'} {word} d written made_is above_is gap_is = record {
   each = λ {w} {height} {hi} may.
       let some = some_items items may.run in
-      let last = last_ends d (length items - 1) 0 items (omega arith) in
-      (
+      let last = last_ends d (length items - 1) 0 items (omega arith) in (
         work_then may written,
         one_more_written may written inner' (record { last = (slice_index_or items (length items - 1) d).last; word = word; gap = gap }) made_is
             (λ i. record { last = last i; word = word; gap = (gap_is ∙ ap (λ (k : RowKind). told_gap k kind lo items) above_is) i }),

@@ -119,6 +119,7 @@ weaker index t (suc h) x law = by_kind (inner_kind t.kind) law
     from : (row slot : ℕ) (xs : List Span) → GapsFrom t.table h row slot xs → GapsFromBut index t.table h row slot xs
     from row slot [] law = tt
     from row slot (y ∷ ys) law = ((λ off. law.0), from row (slot + 1) ys law.1)
+
     by_kind : (kind : RowKind) → GapLawBy kind t.table h x → GapLawButBy index kind t.table h x
     by_kind Leaf law = tt
     by_kind Inner law = tt
@@ -279,7 +280,8 @@ module _ (t : Tree) (h k depth slot word index : ℕ) (row child : Span) (has : 
         (upper_both (store.IsOther s) WasRow Keeps t.table other_keeps depth (suc k) (root_of t) (store.upper_other s) (levels_upper WasRow t.table depth (suc k) h (root_of t) height were)))
         (subst (AllByRecursion (Keeps (suc k))) (sym (store.level_same s ∙ at.stands))
         (all_join (Keeps (suc k)) at.front (row ∷ at.back)
-        (all_both (store.IsOther s (suc k)) (WasRow (suc k)) (Keeps (suc k)) (other_keeps (suc k)) at.front (store.front_other s) (all_front (WasRow (suc k)) at.front (row ∷ at.back) level_here))
-        (written_keeps (all_back (WasRow (suc k)) at.front (row ∷ at.back) level_here).0,
-        all_both (store.IsOther s (suc k)) (WasRow (suc k)) (Keeps (suc k)) (other_keeps (suc k)) at.back (store.back_other s) (all_back (WasRow (suc k)) at.front (row ∷ at.back) level_here).1))))
+        (all_both (store.IsOther s (suc k)) (WasRow (suc k)) (Keeps (suc k)) (other_keeps (suc k)) at.front (store.front_other s) (all_front (WasRow (suc k)) at.front (row ∷ at.back) level_here)) (
+          written_keeps (all_back (WasRow (suc k)) at.front (row ∷ at.back) level_here).0,
+          all_both (store.IsOther s (suc k)) (WasRow (suc k)) (Keeps (suc k)) (other_keeps (suc k)) at.back (store.back_other s) (all_back (WasRow (suc k)) at.front (row ∷ at.back) level_here).1,
+        ))))
         (levels_map (GapLaw t') Keeps t'.table (λ j x law. record { beside = weaker index t' j x law; new = λ _. law }) k (level t'.table (suc depth) (root_of t')) lower)

@@ -30,7 +30,11 @@ ghost use Rattle.mt_splice.specs.steps.Endings.{IsPublished, IsStepIn, with_root
 ghost use Rattle.mt_splice.specs.Fewest.{IsCutOf};
 ghost use Rattle.mt_splice.specs.steps.Replaced.{IsReplaced};
 ghost use Rattle.mt_splice.specs.steps.Runs.{IsLeafRun, MayBeCut, most_in_three, most_items};
+ghost use Rattle.mt_splice.specs.steps.Progress.{is_taken};
 ghost use Rattle.mt_splice.specs.steps.Seen.{Adds, passing};
+ghost use Rattle.mt_splice.specs.steps.TakingIn.{beside_items};
+ghost use Rattle.mt_splice.specs.steps.Told.{IsGoodRow, AreToldIn, HadGaps, GapsAs};
+ghost use Rattle.mt_splice.specs.steps.Writes.{items_of_row};
 ghost use Rattle.mt_splice.specs.Splice.{region_of};
 ghost use Rattle.mt_splice.specs.Kept.{IsBookOf};
 ghost use Rattle.mt_splice.specs.steps.Work.{Holds, IsTaken, IsUsed, Keeps, Start, Work, now, rows_at, times_in};
@@ -180,4 +184,24 @@ pub fn the_tree_stands_as_it_was()
 /// A book of a tree's rows counts as live just the rows that are reached.
 pub fn a_book_counts_the_rows_reached()
     ensures { (t : Rooted) (lives : List Life) (cleared : ℕ) (kind : Kind) (book : Book) (number : ℕ) → IsTreeOf t kind → IsBookOf t lives cleared book number → live_count book ≡ length (reached_in t.table t.root) }
+{}
+
+/// Items that tell their gaps tell them later too. Those of the tree's rows as they were tell them, and where those of two
+/// rows that stand side by side do, all do.
+pub fn items_tell_their_gaps()
+    ensures later { (start : Start) (s s' : Work) → Keeps start s s' → (height first : ℕ) (items : List Item) → AreToldIn start s height first items → AreToldIn start s' height first items }
+    ensures were { (start : Start) (s : Work) → Holds start s → HadGaps start → (path : List PathStep) (i : ℕ) → i ≤ top_of start.tree → path ≡ path_in start.tree.table start.tree.root i → (depth height : ℕ) → start.height ≡ depth + height
+        → AreToldIn start s height (step_at path depth).min (items_of_row (now start s).table (kind_at start.tree.kind height) (step_at path depth).row (step_at path depth).max) }
+    ensures beside { (start : Start) (s : Work) (height lo mid : ℕ) (xs ys : List Item) → Fills lo mid (spans_from lo xs) → AreToldIn start s height lo xs → AreToldIn start s height mid ys
+        → AreToldIn start s height lo (beside_items (kind_at start.tree.kind height) xs ys) }
+{}
+
+/// When a replacement has ended in place, the law of gaps holds but in the slots that cover what changes: of new rows in
+/// all. Where a new row is the root it holds in all.
+pub fn gap_words_are_right_beside_what_changes()
+    ensures slot { (start : Start) (s : Work) (left right : List PathStep) (depth height : ℕ) (x : Span) → Climbed start s left right (suc depth) height (x ∷ []) → begin_of left (suc depth) ≡ begin_of right (suc depth)
+        → HasWords (now start s) → Levels (IsGoodRow start s) (now start s).table height (x ∷ []) → HadGaps start → (index : ℕ) → start.first ≤ index → index ≤ start.last
+        → GapsAs (is_taken s) index (with_step (now start s) (kind_at start.tree.kind (suc height)) (step_at left depth) x.word) (Some start.height) }
+    ensures root { (is_new : ℕ → Bool) (index : ℕ) (start : Start) (s : Work) (height : ℕ) (x : Span) → x.first ≡ 0 → x.last ≡ top_of start.tree → Levels (IsGoodRow start s) (now start s).table height (x ∷ [])
+        → GapsAs is_new index (with_root (now start s) x.word) (Some height) }
 {}
