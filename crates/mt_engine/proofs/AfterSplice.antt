@@ -66,8 +66,8 @@ grows rows free free' taken held held' height opened ended frees few low counted
 abbrev pub replaced : Sheet → Rooted → List Life → List Bool → Option ℕ → Call → Reply → Sheet
 replaced s t lives buried reads call reply = record s { tree = t; published = true; lives = lives; buried = buried; told = with_record s.told call reply; reads = reads }
 
-module _ (kind : Kind) (s : Sheet) (t : Rooted) (lives : List Life) (buried : List Bool) (reads : Option ℕ) (book book' : Book) (call : Call) (reply : Reply) (place : Place)
-    (state : IsEngineState kind s book) (spliced : IsSpliced kind s (replaced s t lives buried reads call reply) book book' (s.ended + 1) call reply place) where
+module _ (kind : Kind) (s : Sheet) (t : Rooted) (lives : List Life) (buried : List Bool) (reads : Option ℕ) (book book' : Book) (call : Call) (reply : Reply) (place : Place) {first last : ℕ}
+    (state : IsEngineState kind s book) (spliced : IsSpliced kind s (replaced s t lives buried reads call reply) book book' (s.ended + 1) call reply place first last) where
   abbrev pub after : Sheet
   after = replaced s t lives buried reads call reply
 

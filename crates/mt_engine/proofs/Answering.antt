@@ -39,8 +39,8 @@ module _ (kind : Kind) (s : Sheet) (answer : Scan) (cleared : ℕ) (t : Rooted) 
   abbrev after : Sheet
   after = replaced found t lives buried reads call reply
 
-  replaces_by : IsWhole s → s.in_flight ≡ true → s.cleared ≤ cleared → freed ≡ after_reclaim book answer.least → IsEngineState kind found freed → HasRoom s.tree freed → Wants kind (map_by s.tree) call → is_refusal reply ≡ false → (acted kind (map_by s.tree) call).1 ≡ reply
-      → IsSpliced kind found after freed book' (s.ended + 1) call reply place → IsAnswered kind s after book book' call reply
+  replaces_by : {first last : ℕ} → IsWhole s → s.in_flight ≡ true → s.cleared ≤ cleared → freed ≡ after_reclaim book answer.least → IsEngineState kind found freed → HasRoom s.tree freed → Wants kind (map_by s.tree) call → is_refusal reply ≡ false → (acted kind (map_by s.tree) call).1 ≡ reply
+      → IsSpliced kind found after freed book' (s.ended + 1) call reply place first last → IsAnswered kind s after book book' call reply
   replaces_by whole flies rises is_freed state room wants success replies spliced = record {
     may = may_finish kind found t lives buried reads freed book' call reply place state spliced flies;
     applied = record {
@@ -64,15 +64,15 @@ module _ (kind : Kind) (s : Sheet) (answer : Scan) (cleared : ℕ) (t : Rooted) 
     };
   }
 
-pub replaces : (kind : Kind) (s s₂ s' : Sheet) (book book₂ book' : Book) (number : ℕ) (call : Call) (reply : Reply) (place : Place) → IsWhole s → IsInCall kind s book → number ≡ s.ended + 1 → IsScanned kind s s₂ book book₂ → HasRoom s₂.tree book₂ → Wants kind (map_by s.tree) call → is_refusal reply ≡ false
-    → (acted kind (map_by s.tree) call).1 ≡ reply → IsSpliced kind s₂ s' book₂ book' number call reply place → IsAnswered kind s s' book book' call reply
-replaces kind s s₂ s' book book₂ book' number call reply place whole in_call is found room wants success replies spliced =
+pub replaces : (kind : Kind) (s s₂ s' : Sheet) (book book₂ book' : Book) (number : ℕ) (call : Call) (reply : Reply) (place : Place) {first last : ℕ} → IsWhole s → IsInCall kind s book → number ≡ s.ended + 1 → IsScanned kind s s₂ book book₂ → HasRoom s₂.tree book₂ → Wants kind (map_by s.tree) call → is_refusal reply ≡ false
+    → (acted kind (map_by s.tree) call).1 ≡ reply → IsSpliced kind s₂ s' book₂ book' number call reply place first last → IsAnswered kind s s' book book' call reply
+replaces kind s s₂ s' book book₂ book' number call reply place {first = first} {last = last} whole in_call is found room wants success replies spliced =
     let of_scan : Sheet = scanned s s₂.scan s₂.cleared in
-    let numbered : IsSpliced kind s₂ s' book₂ book' (s.ended + 1) call reply place = subst (λ (n : ℕ). IsSpliced kind s₂ s' book₂ book' n call reply place) is spliced in
-    let begun : IsSpliced kind of_scan s' book₂ book' (s.ended + 1) call reply place = subst (λ (x : Sheet). IsSpliced kind x s' book₂ book' (s.ended + 1) call reply place) found.rest numbered in
+    let numbered : IsSpliced kind s₂ s' book₂ book' (s.ended + 1) call reply place first last = subst (λ (n : ℕ). IsSpliced kind s₂ s' book₂ book' n call reply place first last) is spliced in
+    let begun : IsSpliced kind of_scan s' book₂ book' (s.ended + 1) call reply place first last = subst (λ (x : Sheet). IsSpliced kind x s' book₂ book' (s.ended + 1) call reply place first last) found.rest numbered in
     subst (λ (x : Sheet). IsAnswered kind s x book book' call reply) (sym begun.rest)
     (replaces_by kind s s₂.scan s₂.cleared s'.tree s'.lives s'.buried s'.reads book book₂ book' call reply place whole in_call.in_flight found.rises found.freed (subst (λ (x : Sheet). IsEngineState kind x book₂) found.rest found.state) (subst (λ (x : Sheet). HasRoom x.tree book₂) found.rest room)
-    wants success replies (subst (λ (x : Sheet). IsSpliced kind of_scan x book₂ book' (s.ended + 1) call reply place) begun.rest begun))
+    wants success replies (subst (λ (x : Sheet). IsSpliced kind of_scan x book₂ book' (s.ended + 1) call reply place first last) begun.rest begun))
 
 -- ---- by the end of all ranges
 
@@ -80,7 +80,7 @@ module _ (kind : Kind) (s : Sheet) (t : Rooted) (lives : List Life) (buried : Li
   abbrev emptied : Sheet
   emptied = replaced s t lives buried reads Clear reply.Ok
 
-  clears_by : IsInCall kind s book → IsSpliced kind s emptied book book' (s.ended + 1) Clear reply.Ok Root → book'.free ≡ book.free → IsAnswered kind s emptied book book' Clear reply.Ok
+  clears_by : {first last : ℕ} → IsInCall kind s book → IsSpliced kind s emptied book book' (s.ended + 1) Clear reply.Ok Root first last → book'.free ≡ book.free → IsAnswered kind s emptied book book' Clear reply.Ok
   clears_by in_call spliced none_taken = record {
     may = may_finish kind s t lives buried reads book book' Clear reply.Ok Root in_call.state spliced in_call.in_flight;
     applied = record {
@@ -104,10 +104,10 @@ module _ (kind : Kind) (s : Sheet) (t : Rooted) (lives : List Life) (buried : Li
     };
   }
 
-clears : (kind : Kind) (s s' : Sheet) (book book' : Book) → IsInCall kind s book → IsSpliced kind s s' book book' (s.ended + 1) Clear reply.Ok Root → book'.free ≡ book.free → IsAnswered kind s s' book book' Clear reply.Ok
-clears kind s s' book book' in_call spliced none_taken =
+clears : (kind : Kind) (s s' : Sheet) (book book' : Book) {first last : ℕ} → IsInCall kind s book → IsSpliced kind s s' book book' (s.ended + 1) Clear reply.Ok Root first last → book'.free ≡ book.free → IsAnswered kind s s' book book' Clear reply.Ok
+clears kind s s' book book' {first = first} {last = last} in_call spliced none_taken =
     subst (λ (x : Sheet). IsAnswered kind s x book book' Clear reply.Ok) (sym spliced.rest)
-    (clears_by kind s s'.tree s'.lives s'.buried s'.reads book book' in_call (subst (λ (x : Sheet). IsSpliced kind s x book book' (s.ended + 1) Clear reply.Ok Root) spliced.rest spliced) none_taken)
+    (clears_by kind s s'.tree s'.lives s'.buried s'.reads book book' in_call (subst (λ (x : Sheet). IsSpliced kind s x book book' (s.ended + 1) Clear reply.Ok Root first last) spliced.rest spliced) none_taken)
 
 -- ---- after the plan was made
 
@@ -133,8 +133,8 @@ module _ (kind : Kind) (s s₁ : Sheet) (book : Book) (number : ℕ) (call : Cal
   pub may_clear_now : MayClear kind s₁ book number call reply.Ok
   may_clear_now = subst (λ (c : Call). MayClear kind s₁ book number c reply.Ok) (sym plan.0) (subst (λ (n : ℕ). MayClear kind s₁ book n Clear reply.Ok) (sym number_now) (may_clear_in kind s₁ book now some))
 
-  pub cleared_now : (s' : Sheet) (book' : Book) → IsSpliced kind s₁ s' book book' number call reply.Ok Root → book'.free ≡ book.free → IsAnswered kind s s' book book' call reply.Ok
-  cleared_now s' book' spliced none_taken =
-      let as_clear : IsSpliced kind s₁ s' book book' number Clear reply.Ok Root = subst (λ (c : Call). IsSpliced kind s₁ s' book book' number c reply.Ok Root) plan.0 spliced in
-      let numbered : IsSpliced kind s₁ s' book book' (s₁.ended + 1) Clear reply.Ok Root = subst (λ (n : ℕ). IsSpliced kind s₁ s' book book' n Clear reply.Ok Root) number_now as_clear in
+  pub cleared_now : (s' : Sheet) (book' : Book) {first last : ℕ} → IsSpliced kind s₁ s' book book' number call reply.Ok Root first last → book'.free ≡ book.free → IsAnswered kind s s' book book' call reply.Ok
+  cleared_now s' book' {first = first} {last = last} spliced none_taken =
+      let as_clear : IsSpliced kind s₁ s' book book' number Clear reply.Ok Root first last = subst (λ (c : Call). IsSpliced kind s₁ s' book book' number c reply.Ok Root first last) plan.0 spliced in
+      let numbered : IsSpliced kind s₁ s' book book' (s₁.ended + 1) Clear reply.Ok Root first last = subst (λ (n : ℕ). IsSpliced kind s₁ s' book book' n Clear reply.Ok Root first last) number_now as_clear in
       answered_after_reads kind s s₁ s' book book' call reply.Ok reads (subst (λ (c : Call). IsAnswered kind s₁ s' book book' c reply.Ok) (sym plan.0) (clears kind s₁ s' book book' now numbered none_taken))
