@@ -1,3 +1,7 @@
+mod drawn;
+mod played;
+mod short;
+
 use crate::program::mtreplay;
 use mt_io::{Failed, MemSink, MemSource, NoGate, Source};
 use std::alloc::{AllocError, Global};

@@ -1,0 +1,93 @@
+ghost use Rattle.std.specs.Prelude.{◌≡◌, ◌≤◌, [], false, IfOk};
+ghost use Rattle.mt_base.specs.declared.kinds.Kind.{Kind};
+ghost use Rattle.mt_base.specs.Width.{most_rows};
+ghost use Rattle.mt_rows.specs.Publish.{map_by};
+ghost use Rattle.mt_rows.specs.Sheet.{limits_of};
+
+use crate::tests::played::text_over;
+use crate::tests::steps;
+use mt_base::{Kind, NoMemory};
+use mt_engine::Engine;
+use mt_free::RowBook;
+use mt_rows::PlainRows;
+use std::alloc::{AllocError, Global};
+use std::test::Fail;
+
+/// An empty tree of nodes, of so many rows.
+fn tree_of(alloc: Global, rows: u64) -> Result<Engine<PlainRows>, NoMemory>
+    requires { rows ≤ most_rows }
+    ensures empty { IfOk result (λ tree. map_by tree.sheet.tree ≡ []) }
+    ensures kind { IfOk result (λ tree. tree.kind ≡ Kind.Range) }
+    ensures limits { IfOk result (λ tree. limits_of tree.sheet ≡ record { rows = rows; opened = 0; ended = 0; may_hold = false }) }
+{
+    let book = RowBook::new(alloc, rows)?;
+    Ok(Engine::new(PlainRows::new(alloc, rows)?, book, Kind::Range))
+}
+
+#[test]
+fn a_tree_of_four_rows_has_no_room_for_a_second_range(rt: HostRuntime) -> Result<(), Fail> {
+    let log = steps(
+        rt.alloc(),
+        "store a 10 10 5\nstore a 20 20 7\nstore a 10 10 4\nerase a 10\nclear a\nstore a 1 1 9\n",
+    )?;
+    let want = "3 1 ok\n4 2 nomem 4 3 1 0\n5 3 ok\n6 4 nomem 4 3 1 0\n7 5 ok\n8 6 ok\n\
+         tree a range 1\n1 1 9\n";
+    let text = text_over(&rt, rt.alloc(), log.as_str(), tree_of(rt.alloc(), 4)?)?;
+    assert_eq!(rt; text.as_slice(), want.as_bytes());
+    Ok(())
+}
+
+/// So many stores, each behind the one before, and then one more, a load of it, a store by one word and an erase.
+fn growing_log(alloc: Global, stores: u32) -> Result<String, AllocError> {
+    let mut log = steps(alloc, "")?;
+    for n in 0..stores {
+        let index = 2 * u64::from(n);
+        writeln!(log, "store a {index} {index} 1")?;
+    }
+    let index = 2 * u64::from(stores);
+    writeln!(log, "store a {index} {index} 1")?;
+    writeln!(log, "load a {index}")?;
+    writeln!(log, "store a 0 0 3")?;
+    writeln!(log, "erase a 0")?;
+    Ok(log)
+}
+
+/// Its text where the rows run short behind these stores, with these numbers.
+fn short_text(alloc: Global, stores: u32, short: &str) -> Result<String, AllocError> {
+    let calls = u64::from(stores);
+    let mut text = String::new(alloc);
+    for n in 0..calls {
+        writeln!(text, "{} {} ok", n + 3, n + 1)?;
+    }
+    writeln!(text, "{} {} nomem {short}", calls + 3, calls + 1)?;
+    writeln!(text, "{} {} {} none", calls + 4, calls + 1, calls + 1)?;
+    writeln!(text, "{} {} ok", calls + 5, calls + 2)?;
+    writeln!(text, "{} {} nomem {short}", calls + 6, calls + 3)?;
+    writeln!(text, "tree a range {calls}\n0 0 3")?;
+    for n in 1..calls {
+        writeln!(text, "{} {} 1", 2 * n, 2 * n)?;
+    }
+    Ok(text)
+}
+
+#[test]
+fn a_tree_grows_until_its_rows_are_short(rt: HostRuntime) -> Result<(), Fail> {
+    // Each store adds an entry and a hole. A leaf of 18 items is cut behind 11 of them, and each later one, which begins
+    // with a hole, behind 10 of 17: so leaf 2 comes with store 9, and one more with every fifth store after it. An inner
+    // row of 17 is cut behind 11. With n leaves the tree has n rows and a root from 2 leaves on, two rows more from 17
+    // on, and one more from 28 on.
+    let rows = [
+        (4, 1, "4 3 1 0"),
+        (5, 9, "7 2 3 0"),
+        (12, 24, "7 6 6 0"),
+        (28, 84, "10 8 20 0"),
+        (40, 139, "10 8 32 0"),
+    ];
+    for (rows, stores, short) in rows {
+        let log = growing_log(rt.alloc(), stores)?;
+        let want = short_text(rt.alloc(), stores, short)?;
+        let text = text_over(&rt, rt.alloc(), log.as_str(), tree_of(rt.alloc(), rows)?)?;
+        assert_eq!(rt; text.as_slice(), want.as_bytes(), "{rows}");
+    }
+    Ok(())
+}
