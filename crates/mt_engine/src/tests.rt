@@ -1,6 +1,8 @@
 ghost use Rattle.std.specs.Prelude.{◌≡◌, ◌<◌, ◌+◌, ◌-◌, ◌^◌, ◌≤◌, IfOk};
 ghost use Rattle.mt_base.specs.Width.{most_rows};
+ghost use Rattle.mt_base.specs.declared.kinds.Kind.TheVariants as kinds;
 
+mod drawn;
 mod watched;
 
 use crate::Engine;
@@ -19,7 +21,8 @@ const TOP: u64 = u64::MAX;
 /// An engine of an empty tree over so many rows in memory.
 fn fresh(alloc: Global, rows: u64) -> Result<Engine<PlainRows>, NoMemory>
     requires { rows ≤ most_rows }
-    ensures { IfOk result (λ engine. engine.sheet.ended ≡ 0) }
+    ensures ended { IfOk result (λ engine. engine.sheet.ended ≡ 0) }
+    ensures kind { IfOk result (λ engine. engine.kind ≡ kinds.Range) }
 {
     let book = RowBook::new(alloc, rows)?;
     Ok(Engine::new(PlainRows::new(alloc, rows)?, book, Kind::Range))
@@ -54,7 +57,8 @@ fn expect_answers(
     index: u64,
     bound: u64,
 )
-    ensures { engine.new.sheet.ended ≡ engine.old.sheet.ended }
+    ensures ended { engine.new.sheet.ended ≡ engine.old.sheet.ended }
+    ensures kind { engine.new.kind ≡ engine.old.kind }
 {
     let queries = [
         Query::Load { index },
