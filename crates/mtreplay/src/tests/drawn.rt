@@ -52,12 +52,7 @@ fn a_mebibyte_of_stores_is_answered_as_by_a_list(rt: HostRuntime) -> Result<(), 
     let alloc = rt.alloc();
     let log = drawn_log(alloc)?;
     assert!(rt; log.len() >= 1 << 20);
-    let want = text_over(
-        &rt,
-        alloc,
-        log.as_str(),
-        ListMap::new(alloc, Kind::Range),
-    )?;
+    let want = text_over(&rt, alloc, log.as_str(), ListMap::new(alloc, Kind::Range))?;
     let bytes = Vec::from_slice(alloc, log.as_bytes())?;
     let mut src = MemSource::new(bytes, usize::MAX, Vec::new(alloc));
     let ending = run(&rt, &["replay"], &mut src, 1 << 21, 256)?;
