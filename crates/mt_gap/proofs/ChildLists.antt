@@ -1,0 +1,92 @@
+-- Children of rows: the spans that they are, and the gap words of a row that keeps the law of gaps.
+use Rattle.std.proofs.Common.{◌≡◌, ℕ, zero, suc, ◌+◌, ◌*◌, List, [], ◌∷◌, ◌++◌, Option, Some, None, nat_le, refl, sym, ap, ◌∙◌, subst, inl, inr, arith}
+use Rattle.std.specs.List.{AllByRecursion, flat_map}
+use Rattle.std.specs.Prelude.{slice_index}
+use Rattle.std.proofs.lemmas.Bool.{cases_Bool}
+use Rattle.mt_base.specs.declared.widths.Width.{Width}
+use Rattle.mt_base.specs.declared.widths.Width.TheVariants.{Long}
+use Rattle.mt_base.specs.declared.kinds.Kind.{Kind}
+use Rattle.mt_base.specs.declared.kinds.Kind.TheVariants as trees
+use Rattle.mt_base.specs.Holes.{Hole}
+use Rattle.mt_base.specs.Width.{columns}
+use Rattle.mt_base.proofs.Lists.{all_join}
+use Rattle.mt_layout.specs.declared.items.Item.{Item}
+use Rattle.mt_layout.specs.declared.names.RowKind.{RowKind}
+use Rattle.mt_layout.specs.declared.names.RowKind.TheVariants.{Gapped}
+use Rattle.mt_layout.specs.declared.spans.Span.{Span}
+use Rattle.mt_layout.specs.Columns.{gap_column, pivot_column, items_from}
+use Rattle.mt_layout.specs.Rows.{row_in, named_kind}
+use Rattle.mt_layout.specs.Sizes.{slots_of, gaps_of}
+use Rattle.mt_layout.specs.Spans.{spans_from}
+use Rattle.mt_layout.proofs.Reading.{gap_at-some}
+use Rattle.mt_rows.specs.Spans.{Table, column, inner_kind, spans_by, spans_in}
+use Rattle.mt_rows.specs.Levels.{expand}
+use Rattle.mt_rows.specs.Laws.{Tree, IsRow, IsTended, GapsFrom, GapLawBy, longest_below}
+use Rattle.mt_gap.specs.declared.children.Child.{Child}
+use Rattle.mt_gap.specs.Below.{leaf_hole, child_hole}
+use Rattle.mt_gap.specs.Children.{children_from, children_by, children_in, spans, children_below}
+
+-- ---- their spans
+
+pub spans-append : (xs ys : List Child) → spans (xs ++ ys) ≡ spans xs ++ spans ys
+spans-append [] ys = refl
+spans-append (x ∷ xs) ys = ap (λ (l : List Span). x.span ∷ l) (spans-append xs ys)
+
+spans_are : (first : ℕ) (items : List Item) → spans (children_from first items) ≡ spans_from first items
+spans_are first [] = refl
+spans_are first (x ∷ items) = ap (λ (l : List Span). record { first = first; last = x.last; word = x.word } ∷ l) (spans_are (x.last + 1) items)
+
+pub spans_of_row : (t : Table) (x : Span) → spans (children_in t x) ≡ spans_in t x
+spans_of_row t x = by_kind (named_kind x.word)
+  where
+    by_kind : (k : Option RowKind) → spans (children_by t k x) ≡ spans_by t k x
+    by_kind None = refl
+    by_kind (Some kind) = spans_are x.first _
+
+pub spans_below : (t : Table) (xs : List Child) → spans (children_below t xs) ≡ expand t (spans xs)
+spans_below t [] = refl
+spans_below t (x ∷ xs) = spans-append (children_in t x.span) (children_below t xs) ∙ (λ i. spans_of_row t x.span i ++ spans_below t xs i)
+
+pub holes_of_children : (xs : List Child) → flat_map child_hole xs ≡ flat_map leaf_hole (spans xs)
+holes_of_children [] = refl
+holes_of_children (x ∷ xs) = ap (λ (l : List Hole). leaf_hole x.span ++ l) (holes_of_children xs)
+
+-- ---- their gap words
+
+-- the child's gap word is the longest hole below it
+abbrev pub GapIs : Table → ℕ → Child → Type 0
+GapIs t h x = x.gap ≡ longest_below t h (x.span ∷ [])
+
+-- the gaps of items are in the gap columns of a row, from a slot on
+abbrev pub AreGapsAt : Table → ℕ → ℕ → List Item → Type 0
+AreGapsAt t row slot [] = Unit {0}
+AreGapsAt t row slot (x ∷ items) = (x.gap ≡ column t row (gap_column (slots_of t.width Gapped) slot)) × AreGapsAt t row (slot + 1) items
+
+some_gaps : (width : Width) → gaps_of width Gapped ≡ 0 → ⊥
+some_gaps Long none = absurd (omega arith)
+
+pub gaps_read : (width : Width) (w : List ℕ) (row max left i : ℕ) → AreGapsAt (record { width = width; words = w }) row i (items_from (slots_of width Gapped) (gaps_of width Gapped) w (columns width * row) max left i)
+gaps_read width w row max zero i = tt
+gaps_read width w row max (suc zero) i = (gap_at-some (slots_of width Gapped) (gaps_of width Gapped) w (columns width * row) i (some_gaps width), tt)
+gaps_read width w row max (suc (suc left)) i = elim (cases_Bool (nat_le max (slice_index w (columns width * row + pivot_column i)))) [
+  | inl last ↦ rw last (gap_at-some (slots_of width Gapped) (gaps_of width Gapped) w (columns width * row) i (some_gaps width), tt)
+  | inr more ↦ rw more (gap_at-some (slots_of width Gapped) (gaps_of width Gapped) w (columns width * row) i (some_gaps width), gaps_read width w row max (suc left) (i + 1))
+]
+
+law_tells : (t : Table) (h row slot first : ℕ) (items : List Item) → AreGapsAt t row slot items → GapsFrom t h row slot (spans_from first items) → AllByRecursion (GapIs t h) (children_from first items)
+law_tells t h row slot first [] at law = tt
+law_tells t h row slot first (x ∷ items) at law = (at.0 ∙ law.0, law_tells t h row (slot + 1) (x.last + 1) items at.1 law.1)
+
+pub row_gaps : (t : Table) (h : ℕ) (x : Span) → named_kind x.word ≡ Some Gapped → GapLawBy Gapped t h x → AllByRecursion (GapIs t h) (children_in t x)
+row_gaps t h x named law =
+    subst (λ (k : Option RowKind). AllByRecursion (GapIs t h) (children_by t k x)) (sym named)
+    (law_tells t h (row_in x.word) 0 x.first _ (gaps_read t.width t.words (row_in x.word) x.last (slots_of t.width Gapped) 0)
+    (subst (λ (k : Option RowKind). GapsFrom t h (row_in x.word) 0 (spans_by t k x)) named law))
+
+-- in the rows of an allocation tree the gap words are those of the children one level lower
+pub gaps_below : (t : Tree) (h : ℕ) (xs : List Child) → t.kind ≡ trees.Alloc → AllByRecursion (IsRow t (suc h)) (spans xs) → AllByRecursion (IsTended t (suc h)) (spans xs) → AllByRecursion (GapIs t.table h) (children_below t.table xs)
+gaps_below t h [] kind rows each = tt
+gaps_below t h (x ∷ xs) kind rows each =
+    all_join (GapIs t.table h) (children_in t.table x.span) (children_below t.table xs)
+    (row_gaps t.table h x.span (rows.0.name.named ∙ ap (λ (k : Kind). Some (inner_kind k)) kind) (subst (λ (k : Kind). GapLawBy (inner_kind k) t.table h x.span) kind each.0.gaps))
+    (gaps_below t h xs kind rows.1 each.1)

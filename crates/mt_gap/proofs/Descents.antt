@@ -1,0 +1,344 @@
+-- A search from level to level: what it asks keeps the answer, and at most two rows of a level are asked.
+use Rattle.std.proofs.Common.{◌≡◌, ◌≢◌, ℕ, zero, suc, ◌+◌, ◌*◌, ◌<◌, ◌≤◌, All, List, [], ◌∷◌, Option, Some, length, take, refl, sym, ap, ◌∙◌, subst, inl, inr, arith}
+use Rattle.std.specs.List.{AllByRecursion, flat_map}
+use Rattle.std.proofs.lemmas.Bool.{cases_Bool}
+use Rattle.std.proofs.lemmas.List.Elements.{All-nil, All-cons}
+use Rattle.mt_base.specs.declared.kinds.Kind.{Kind}
+use Rattle.mt_base.specs.declared.kinds.Kind.TheVariants as trees
+use Rattle.mt_base.specs.declared.widths.Width.{Width}
+use Rattle.mt_base.specs.declared.widths.Width.TheVariants.{Long}
+use Rattle.mt_base.specs.Holes.{Hole, low, high, lowest_in, highest_in, holes, holes_from}
+use Rattle.mt_base.specs.Width.{columns, deepest, greatest}
+use Rattle.mt_layout.specs.declared.names.RowKind.TheVariants.{Leaf}
+use Rattle.mt_layout.specs.declared.spans.Span.{Span}
+use Rattle.mt_layout.proofs.NameLaws.{Names-named_kind}
+use Rattle.mt_rows.specs.Spans.{Table, root_span}
+use Rattle.mt_rows.specs.Levels.{map_of, Levels}
+use Rattle.mt_rows.specs.Laws.{Tree, IsRow, IsTended, Stands, kind_at}
+use Rattle.mt_rows.specs.Publish.{tree_as, IsLawfulOf, map_by}
+use Rattle.mt_rows.specs.Sheet.{Rooted, Sheet, ReadsUpTo, loaded}
+use Rattle.mt_rows.specs.Trees.{map_in, height_in}
+use Rattle.mt_rows.proofs.Depth.{ranges_by_depth, height_by_depth}
+use Rattle.mt_rows.proofs.Joins.{levels_join, levels_front, levels_back}
+use Rattle.mt_rows.proofs.Lists.{levels_here}
+use Rattle.mt_path.proofs.Kept.{tree_kept}
+use Rattle.mt_path.proofs.Loads.{no_reads, one_read, reads_more, reads_up}
+use Rattle.mt_gap.specs.declared.children.Child.{Child}
+use Rattle.mt_gap.specs.declared.windows.Window.{Window}
+use Rattle.mt_gap.specs.Below.{holes_below, leaf_hole, child_hole}
+use Rattle.mt_gap.specs.Children.{spans, children_below, root_child}
+use Rattle.mt_gap.specs.Descents.{MayLoad, picked, place_in, Asks, Visited, Arrives, AreLeaves}
+use Rattle.mt_gap.specs.Narrow.{may_have, inside, narrow, narrow_up, Rising}
+use Rattle.mt_gap.proofs.ChildLists.{spans_below, gaps_below, holes_of_children}
+use Rattle.mt_gap.proofs.HolesBelow.{rows_filled, holes_are}
+use Rattle.mt_gap.proofs.Narrowed.{narrow_keeps, narrow_two, rising_narrow, rising_expand}
+use Rattle.mt_gap.proofs.NarrowedUp.{levels_up, levels_none, rising_up, up_two, up_keeps}
+
+-- ---- rows of the table
+
+some_columns : (width : Width) → 0 < columns width
+some_columns Long = omega arith
+
+row_may_load : (kind : Kind) (t : Rooted) (h : ℕ) (x : Span) → IsRow (tree_as kind t) h x → MayLoad t x
+row_may_load kind t h x row = λ k named. record { first = (Names-named_kind x.word k named).0.0; last = row.name.in_table; column = some_columns t.table.width }
+
+rows_may_load : (kind : Kind) (t : Rooted) (h : ℕ) (xs : List Child) → AllByRecursion (IsRow (tree_as kind t) h) (spans xs) → All (λ (x : Child). MayLoad t x.span) xs
+rows_may_load kind t h [] rows = All-nil (λ (x : Child). MayLoad t x.span)
+rows_may_load kind t h (x ∷ xs) rows = All-cons (λ (y : Child). MayLoad t y.span) x xs (row_may_load kind t h x.span rows.0) (rows_may_load kind t h xs rows.1)
+
+-- ---- one level lower
+
+levels_narrow : (P : ℕ → Span → Type 0) (t : Table) (n lo hi h : ℕ) (xs : List Child) → Levels P t h (spans xs) → Levels P t h (spans (narrow n lo hi xs))
+levels_narrow P t n lo hi h [] rows = rows
+levels_narrow P t n lo hi h (x ∷ xs) rows =
+    let here = levels_front P t h (x.span ∷ []) (spans xs) rows in
+    let behind = levels_narrow P t n lo hi h xs (levels_back P t h (x.span ∷ []) (spans xs) rows) in
+    elim (cases_Bool (may_have n lo hi x)) [
+      | inl may ↦ rw may (elim (cases_Bool (inside lo hi x)) [ inl in_it ↦ rw in_it here | inr over ↦ rw over (levels_join P t h (x.span ∷ []) (spans (narrow n lo hi xs)) here behind) ])
+      | inr not ↦ rw not behind
+    ]
+
+-- rows that are no leaves stand above others
+inner_rows : (t : Tree) (left : ℕ) (xs : List Child) → AllByRecursion (IsRow t left) (spans xs) → (AreLeaves xs → ⊥) → ((k : ℕ) × (left ≡ suc k))
+inner_rows t zero [] rows not = absurd (not tt)
+inner_rows t zero (x ∷ xs) rows not = absurd (not rows.0.name.named)
+inner_rows t (suc k) xs rows not = (k, refl)
+
+record IsInner (t : Tree) (pick : List Hole → Option ℕ) (w : Window) (answer : Option ℕ) (level : ℕ) (xs : List Child) : Type 0 where
+  pub k : ℕ
+  pub rows : Levels (IsRow t) t.table (suc k) (spans xs)
+  pub tended : Levels (IsTended t) t.table (suc k) (spans xs)
+  pub height : level + suc k + 1 ≡ height_in t.table t.root
+  pub low : level + suc k < deepest
+  pub found : picked pick w (holes_below t.table (suc k) (spans xs)) ≡ answer
+
+module _ (t : Tree) (w : Window) (kind : t.kind ≡ trees.Alloc) (some : 1 ≤ w.size) (xs : List Child) where
+  abbrev children : List Child
+  children = children_below t.table xs
+
+  module _ (k : ℕ) (rows : Levels (IsRow t) t.table (suc k) (spans xs)) (tended : Levels (IsTended t) t.table (suc k) (spans xs)) (rising : Rising 0 (spans xs)) where
+    rows_there : Levels (IsRow t) t.table k (spans children)
+    rows_there = subst (Levels (IsRow t) t.table k) (sym (spans_below t.table xs)) rows.1
+
+    tended_there : Levels (IsTended t) t.table k (spans children)
+    tended_there = subst (Levels (IsTended t) t.table k) (sym (spans_below t.table xs)) tended.1
+
+    rising_there : Rising 0 (spans children)
+    rising_there = subst (Rising 0) (sym (spans_below t.table xs)) (rising_expand t.table 0 (spans xs) (rows_filled t (suc k) (spans xs) rows.0) rising)
+
+    low_there : picked lowest_in w (holes_below t.table k (spans (narrow w.size w.lo w.hi children))) ≡ picked lowest_in w (holes_below t.table (suc k) (spans xs))
+    low_there = narrow_keeps t w.size w.lo w.hi some k 0 children rows_there rising_there (gaps_below t k xs kind rows.0 tended.0)
+        ∙ ap (λ (l : List Span). picked lowest_in w (holes_below t.table k l)) (spans_below t.table xs)
+
+    high_there : picked (highest_in w.size) w (holes_below t.table k (spans (narrow_up w.size w.lo w.hi [] children))) ≡ picked (highest_in w.size) w (holes_below t.table (suc k) (spans xs))
+    high_there = up_keeps t w.size w.lo w.hi some k 0 [] children rows_there rising_there (gaps_below t k xs kind rows.0 tended.0)
+        ∙ ap (λ (l : List Span). picked (highest_in w.size) w (holes_below t.table k l)) (spans_below t.table xs)
+
+  module _ (answer : Option ℕ) (level : ℕ) where
+    inner : (pick : List Hole → Option ℕ) → Asks t pick w answer level xs → (AreLeaves xs → ⊥) → IsInner t pick w answer level xs
+    inner pick asks not =
+        let is = inner_rows t asks.left xs (levels_here (IsRow t) t.table asks.left (spans xs) asks.rows) not in
+        record {
+          k = is.0;
+          rows = subst (λ (h : ℕ). Levels (IsRow t) t.table h (spans xs)) is.1 asks.rows;
+          tended = subst (λ (h : ℕ). Levels (IsTended t) t.table h (spans xs)) is.1 asks.tended;
+          height = subst (λ (h : ℕ). level + h + 1 ≡ height_in t.table t.root) is.1 asks.height;
+          low = subst (λ (h : ℕ). level + h < deepest) is.1 asks.low;
+          found = subst (λ (h : ℕ). picked pick w (holes_below t.table h (spans xs)) ≡ answer) is.1 asks.found;
+        }
+
+    pub low_next : Asks t lowest_in w answer level xs → (AreLeaves xs → ⊥) → Asks t lowest_in w answer (level + 1) (narrow w.size w.lo w.hi children)
+    low_next asks not =
+        let is = inner lowest_in asks not in
+        let height = is.height in let low = is.low in
+        record {
+          left = is.k;
+          height = omega arith;
+          low = omega arith;
+          rows = levels_narrow (IsRow t) t.table w.size w.lo w.hi is.k children (rows_there is.k is.rows is.tended asks.rising);
+          tended = levels_narrow (IsTended t) t.table w.size w.lo w.hi is.k children (tended_there is.k is.rows is.tended asks.rising);
+          rising = rising_narrow w.size w.lo w.hi 0 children (rising_there is.k is.rows is.tended asks.rising);
+          few = narrow_two w.size w.lo w.hi 0 children (rising_there is.k is.rows is.tended asks.rising);
+          found = low_there is.k is.rows is.tended asks.rising ∙ is.found;
+        }
+
+    pub high_next : Asks t (highest_in w.size) w answer level xs → (AreLeaves xs → ⊥) → Asks t (highest_in w.size) w answer (level + 1) (narrow_up w.size w.lo w.hi [] children)
+    high_next asks not =
+        let is = inner (highest_in w.size) asks not in
+        let height = is.height in let low = is.low in
+        record {
+          left = is.k;
+          height = omega arith;
+          low = omega arith;
+          rows = levels_up w.size w.lo w.hi (IsRow t) t.table is.k [] children (levels_none w.size w.lo w.hi (IsRow t) t.table is.k) (rows_there is.k is.rows is.tended asks.rising);
+          tended = levels_up w.size w.lo w.hi (IsTended t) t.table is.k [] children (levels_none w.size w.lo w.hi (IsTended t) t.table is.k) (tended_there is.k is.rows is.tended asks.rising);
+          rising = rising_up w.size w.lo w.hi 0 [] children (rising_there is.k is.rows is.tended asks.rising);
+          few = up_two w.size w.lo w.hi 0 children (rising_there is.k is.rows is.tended asks.rising);
+          found = high_there is.k is.rows is.tended asks.rising ∙ is.found;
+        }
+
+    pub low_few : (pick : List Hole → Option ℕ) → Asks t pick w answer level xs → (AreLeaves xs → ⊥) → length (narrow w.size w.lo w.hi children) ≤ 3
+    low_few pick asks not =
+        let is = inner pick asks not in
+        let few = narrow_two w.size w.lo w.hi 0 children (rising_there is.k is.rows is.tended asks.rising) in omega arith
+
+    pub high_few : (pick : List Hole → Option ℕ) → Asks t pick w answer level xs → (AreLeaves xs → ⊥) → (k : ℕ) → length (narrow_up w.size w.lo w.hi [] (take k children)) ≤ 3
+    high_few pick asks not k =
+        let is = inner pick asks not in
+        let few = up_two w.size w.lo w.hi 0 (take k children) (rising_take 0 children k (rising_there is.k is.rows is.tended asks.rising)) in omega arith
+      where
+        rising_take : (a : ℕ) (ys : List Child) (k : ℕ) → Rising a (spans ys) → Rising a (spans (take k ys))
+        rising_take a [] zero rising = tt
+        rising_take a [] (suc k) rising = tt
+        rising_take a (y ∷ ys) zero rising = tt
+        rising_take a (y ∷ ys) (suc k) rising = (rising.0, rising.1, rising_take (y.span.last + 1) ys k rising.2)
+
+-- ---- at the root
+
+module _ (s : Rooted) (tree : IsLawfulOf s trees.Alloc) (root : s.root ≢ 0) (w : Window) (pick : List Hole → Option ℕ) where
+  abbrev whole : Tree
+  whole = tree_as trees.Alloc s
+
+  begins : (h : ℕ) → Stands whole h → Levels (IsTended whole) s.table h (root_span s.table s.root ∷ []) → Asks whole pick w (picked pick w (holes trees.Alloc (map_by s))) 0 (root_child s.table s.root ∷ [])
+  begins h stands tended = record {
+    left = h;
+    height = (let tall = height_by_depth whole deepest h (root_span s.table s.root) stands.low stands.rows in omega arith);
+    low = (let low = stands.low in omega arith);
+    rows = stands.rows;
+    tended = tended;
+    rising = (omega arith, omega arith, tt);
+    few = omega arith;
+    found = ap (picked pick w) (sym (holes_are whole h 0 (root_span s.table s.root ∷ []) stands.rows (refl, omega arith, refl)) ∙ (λ i. holes_from 0 (greatest (tree.width i) + 1) (by_levels i)));
+  }
+    where
+      by_levels : map_of s.table h (root_span s.table s.root ∷ []) ≡ map_in s.table s.root
+      by_levels = sym (ranges_by_depth whole deepest h (root_span s.table s.root) stands.low stands.rows)
+
+  pub asks_root : Asks whole pick w (picked pick w (holes trees.Alloc (map_by s))) 0 (root_child s.table s.root ∷ [])
+  asks_root = elim tree.words [ inl empty ↦ absurd (root empty) | inr full ↦ begins full.0 full.1 full.3 ]
+
+-- ---- at the leaves
+
+-- where nothing is asked nothing is found on any level
+no_holes : (t : Table) (left : ℕ) → holes_below t left [] ≡ []
+no_holes t zero = refl
+no_holes t (suc left) = no_holes t left
+
+leaves_have : (t : Tree) (pick : List Hole → Option ℕ) (w : Window) (answer : Option ℕ) (left : ℕ) (xs : List Child) → AreLeaves xs → Levels (IsRow t) t.table left (spans xs)
+    → picked pick w (holes_below t.table left (spans xs)) ≡ answer → picked pick w (flat_map child_hole (children_below t.table xs)) ≡ answer
+leaves_have t pick w answer left [] leaves rows found = ap (picked pick w) (sym (no_holes t.table left)) ∙ found
+leaves_have t pick w answer zero (x ∷ xs) leaves rows found =
+    ap (picked pick w) (holes_of_children (children_below t.table (x ∷ xs)) ∙ ap (flat_map leaf_hole) (spans_below t.table (x ∷ xs))) ∙ found
+leaves_have t pick w answer (suc left) (x ∷ xs) leaves rows found = absurd (not_inner t.kind (sym rows.0.0.name.named ∙ leaves))
+  where
+    not_inner : (kind : Kind) → Some (kind_at kind (suc left)) ≡ Some Leaf → ⊥
+    not_inner trees.Range same = absurd (cc)
+    not_inner trees.Alloc same = absurd (cc)
+
+-- ---- the whole way
+
+more_columns : (a b c : ℕ) → b ≤ c → a * b ≤ a * c
+more_columns a b c low = grind (arith, low)
+
+-- the rows that a search has come to
+pub record HasCome (s s' : Sheet) (pick : List Hole → Option ℕ) (w : Window) (answer : Option ℕ) (old new level : ℕ) (asked : List Child) : Type 0 where
+  pub asks : Asks (tree_as trees.Alloc s.tree) pick w answer level asked
+  pub visited : Visited s s' old new level asked
+
+module _ (s s' : Sheet) (pick : List Hole → Option ℕ) (w : Window) (answer : Option ℕ) (old new level : ℕ) (asked : List Child) (come : HasCome s s' pick w answer old new level asked) where
+  pub same_there : s'.tree ≡ s.tree
+  same_there = tree_kept (columns s.tree.table.width * come.visited.count) s s' come.visited.reads
+
+  pub all_may_load : All (λ (x : Child). MayLoad s'.tree x.span) asked
+  all_may_load = subst (λ (t : Rooted). All (λ (x : Child). MayLoad t x.span) asked) (sym same_there)
+      (rows_may_load trees.Alloc s.tree come.asks.left asked (levels_here (IsRow (tree_as trees.Alloc s.tree)) s.tree.table come.asks.left (spans asked) come.asks.rows))
+
+  pub not_so_deep : level < deepest
+  not_so_deep = let low = come.asks.low in omega arith
+
+  pub arrives : AreLeaves asked → Arrives s s' pick w answer old new asked
+  arrives leaves = record {
+    rows = rows_may_load trees.Alloc s.tree come.asks.left asked (levels_here (IsRow (tree_as trees.Alloc s.tree)) s.tree.table come.asks.left (spans asked) come.asks.rows);
+    found = leaves_have (tree_as trees.Alloc s.tree) pick w answer come.asks.left asked leaves come.asks.rows come.asks.found;
+    level = level;
+    height = (let height = come.asks.height in omega arith);
+    visited = come.visited;
+  }
+
+  visited_next : (s'' : Sheet) (newer : ℕ) (next : List Child) → newer ≤ new + length asked → ReadsUpTo (columns s'.tree.table.width * length asked) s' s'' → length next ≤ 2 → Visited s s'' old newer (level + 1) next
+  visited_next s'' newer next steps reads few =
+      let before = come.visited.few in
+      let taken = come.visited.steps in
+      record {
+        count = come.visited.count + length asked;
+        few = omega arith;
+        steps = omega arith;
+        reads = reads_up (columns s.tree.table.width * come.visited.count + columns s.tree.table.width * length asked) (columns s.tree.table.width * (come.visited.count + length asked)) s s''
+            (sums (columns s.tree.table.width) come.visited.count (length asked))
+            (reads_more (columns s.tree.table.width * come.visited.count) (columns s.tree.table.width * length asked) s s' s'' come.visited.reads
+            (subst (λ (t : Rooted). ReadsUpTo (columns t.table.width * length asked) s' s'') same_there reads));
+      }
+    where
+      sums : (a b c : ℕ) → a * b + a * c ≤ a * (b + c)
+      sums a b c = grind arith
+
+pub low_come : (s s' s'' : Sheet) (w : Window) (answer : Option ℕ) (old new newer level : ℕ) (asked next : List Child) → 1 ≤ w.size → HasCome s s' lowest_in w answer old new level asked → (AreLeaves asked → ⊥)
+    → next ≡ narrow w.size w.lo w.hi (children_below s'.tree.table asked) → newer ≤ new + length asked → ReadsUpTo (columns s'.tree.table.width * length asked) s' s''
+    → HasCome s s'' lowest_in w answer old newer (level + 1) next
+low_come s s' s'' w answer old new newer level asked next some come not is steps reads =
+    let there = is ∙ ap (λ (t : Rooted). narrow w.size w.lo w.hi (children_below t.table asked)) (same_there s s' lowest_in w answer old new level asked come) in
+    let asks = subst (Asks (tree_as trees.Alloc s.tree) lowest_in w answer (level + 1)) (sym there) (low_next (tree_as trees.Alloc s.tree) w refl some asked answer level come.asks not) in
+    record { asks = asks; visited = visited_next s s' lowest_in w answer old new level asked come s'' newer next steps reads asks.few }
+
+pub high_come : (s s' s'' : Sheet) (w : Window) (answer : Option ℕ) (old new newer level : ℕ) (asked next : List Child) → 1 ≤ w.size → HasCome s s' (highest_in w.size) w answer old new level asked → (AreLeaves asked → ⊥)
+    → next ≡ narrow_up w.size w.lo w.hi [] (children_below s'.tree.table asked) → newer ≤ new + length asked → ReadsUpTo (columns s'.tree.table.width * length asked) s' s''
+    → HasCome s s'' (highest_in w.size) w answer old newer (level + 1) next
+high_come s s' s'' w answer old new newer level asked next some come not is steps reads =
+    let there = is ∙ ap (λ (t : Rooted). narrow_up w.size w.lo w.hi [] (children_below t.table asked)) (same_there s s' (highest_in w.size) w answer old new level asked come) in
+    let asks = subst (Asks (tree_as trees.Alloc s.tree) (highest_in w.size) w answer (level + 1)) (sym there) (high_next (tree_as trees.Alloc s.tree) w refl some asked answer level come.asks not) in
+    record { asks = asks; visited = visited_next s s' (highest_in w.size) w answer old new level asked come s'' newer next steps reads asks.few }
+
+pub come_low_few : (s s' : Sheet) (w : Window) (answer : Option ℕ) (old new level : ℕ) (asked : List Child) → 1 ≤ w.size → HasCome s s' lowest_in w answer old new level asked → (AreLeaves asked → ⊥)
+    → length (narrow w.size w.lo w.hi (children_below s'.tree.table asked)) ≤ 3
+come_low_few s s' w answer old new level asked some come not =
+    subst (λ (t : Rooted). length (narrow w.size w.lo w.hi (children_below t.table asked)) ≤ 3) (sym (same_there s s' lowest_in w answer old new level asked come))
+    (low_few (tree_as trees.Alloc s.tree) w refl some asked answer level lowest_in come.asks not)
+
+pub come_high_few : (s s' : Sheet) (w : Window) (answer : Option ℕ) (old new level : ℕ) (asked : List Child) → 1 ≤ w.size → HasCome s s' (highest_in w.size) w answer old new level asked → (AreLeaves asked → ⊥)
+    → (k : ℕ) → length (narrow_up w.size w.lo w.hi [] (take k (children_below s'.tree.table asked))) ≤ 3
+come_high_few s s' w answer old new level asked some come not k =
+    subst (λ (t : Rooted). length (narrow_up w.size w.lo w.hi [] (take k (children_below t.table asked))) ≤ 3) (sym (same_there s s' (highest_in w.size) w answer old new level asked come))
+    (high_few (tree_as trees.Alloc s.tree) w refl some asked answer level (highest_in w.size) come.asks not k)
+
+pub come_root : (s : Sheet) (w : Window) (pick : List Hole → Option ℕ) (steps : ℕ) (asked : List Child) → IsLawfulOf s.tree trees.Alloc → s.tree.root ≢ 0 → asked ≡ root_child s.tree.table s.tree.root ∷ []
+    → HasCome s s pick w (place_in pick w s.tree) steps steps 0 asked
+unfolding place_in
+come_root s w pick steps asked tree root is =
+    subst (HasCome s s pick w (picked pick w (holes trees.Alloc (map_by s.tree))) steps steps 0) (sym is) (record {
+      asks = asks_root s.tree tree root w pick;
+      visited = record { count = 0; few = omega arith; steps = omega arith; reads = reads_up 0 (columns s.tree.table.width * 0) s s (omega arith) (no_reads s) };
+    })
+
+-- ---- the search
+
+pub low_in_tree : (w : Window) (t : Rooted) → place_in lowest_in w t ≡ low trees.Alloc (map_by t) w.size w.lo w.hi
+unfolding place_in
+low_in_tree w t = refl
+
+pub high_in_tree : (w : Window) (t : Rooted) → place_in (highest_in w.size) w t ≡ high trees.Alloc (map_by t) w.size w.lo w.hi
+unfolding place_in
+high_in_tree w t = refl
+
+module _ (s s₀ s₁ : Sheet) (pick : List Hole → Option ℕ) (w : Window) (answer : Option ℕ) (old middle : ℕ) (leaves : List Child) (load : s₀ ≡ loaded s) (there : Arrives s₀ s₁ pick w answer old middle leaves) where
+  same_after : s₁.tree ≡ s₀.tree
+  same_after = tree_kept (columns s₀.tree.table.width * there.visited.count) s₀ s₁ there.visited.reads
+
+  pub same_before : s₀.tree ≡ s.tree
+  same_before = ap (λ (r : Sheet). r.tree) load
+
+  pub leaves_may_load : All (λ (x : Child). MayLoad s₁.tree x.span) leaves
+  leaves_may_load = subst (λ (t : Rooted). All (λ (x : Child). MayLoad t x.span) leaves) (sym same_after) there.rows
+
+  pub place_found : (found : Option ℕ) → found ≡ picked pick w (flat_map child_hole (children_below s₁.tree.table leaves)) → found ≡ answer
+  place_found found is = is ∙ (ap (λ (t : Rooted). picked pick w (flat_map child_hole (children_below t.table leaves))) same_after ∙ there.found)
+
+  few_visits : there.visited.count + length leaves ≤ 3 * height_in s.tree.table s.tree.root
+  few_visits =
+      let few = there.visited.few in
+      let height = subst (λ (t : Rooted). there.level + 1 ≤ height_in t.table t.root) same_before there.height in
+      omega arith
+
+  pub few_steps : (new : ℕ) → new ≤ middle + length leaves → new ≤ old + 3 * height_in s.tree.table s.tree.root
+  few_steps new more =
+      let few = few_visits in
+      let steps = there.visited.steps in
+      omega arith
+
+  pub few_reads : (s₂ : Sheet) → ReadsUpTo (columns s₁.tree.table.width * length leaves) s₁ s₂ → ReadsUpTo (3 * height_in s.tree.table s.tree.root * columns s.tree.table.width + 1) s s₂
+  few_reads s₂ reads =
+      let c = columns s₀.tree.table.width in
+      let c' = columns s.tree.table.width in
+      let wide : columns s₀.tree.table.width ≡ columns s.tree.table.width = ap (λ (t : Rooted). columns t.table.width) same_before in
+      let here = reads_more (c * there.visited.count) (c * length leaves) s₀ s₁ s₂ there.visited.reads (subst (λ (t : Rooted). ReadsUpTo (columns t.table.width * length leaves) s₁ s₂) same_after reads) in
+      reads_up (1 + (c * there.visited.count + c * length leaves)) (3 * height_in s.tree.table s.tree.root * c' + 1) s s₂
+      (let low = at_most c there.visited.count (length leaves) (3 * height_in s.tree.table s.tree.root) few_visits in
+      let same : 3 * height_in s.tree.table s.tree.root * c ≡ 3 * height_in s.tree.table s.tree.root * c' = ap (λ (k : ℕ). 3 * height_in s.tree.table s.tree.root * k) wide in
+      omega (arith, low, same))
+      (reads_more 1 (c * there.visited.count + c * length leaves) s s₀ s₂ (one_read s s₀ load) here)
+    where
+      at_most : (a b c n : ℕ) → b + c ≤ n → a * b + a * c ≤ n * a
+      at_most a b c n few = let low = more_columns a (b + c) n few in sums a b c n low
+        where
+          sums : (a b c n : ℕ) → a * (b + c) ≤ a * n → a * b + a * c ≤ n * a
+          sums a b c n low = grind (arith, low)
+
+-- the empty tree is one hole
+pub low_empty : (t : Rooted) (w : Window) → IsLawfulOf t trees.Alloc → t.root ≡ 0
+    → picked lowest_in w (flat_map child_hole (record { span = record { first = 0; last = greatest t.table.width; word = 0 }; gap = 0 } ∷ [])) ≡ low trees.Alloc (map_by t) w.size w.lo w.hi
+low_empty t w tree empty = (λ i. picked lowest_in w (flat_map child_hole (record { span = record { first = 0; last = greatest (tree.width i); word = 0 }; gap = 0 } ∷ [])))
+    ∙ ap (λ (root : ℕ). low trees.Alloc (map_in t.table root) w.size w.lo w.hi) (sym empty)
+
+pub high_empty : (t : Rooted) (w : Window) → IsLawfulOf t trees.Alloc → t.root ≡ 0
+    → picked (highest_in w.size) w (flat_map child_hole (record { span = record { first = 0; last = greatest t.table.width; word = 0 }; gap = 0 } ∷ [])) ≡ high trees.Alloc (map_by t) w.size w.lo w.hi
+high_empty t w tree empty = (λ i. picked (highest_in w.size) w (flat_map child_hole (record { span = record { first = 0; last = greatest (tree.width i); word = 0 }; gap = 0 } ∷ [])))
+    ∙ ap (λ (root : ℕ). high trees.Alloc (map_in t.table root) w.size w.lo w.hi) (sym empty)

@@ -1,0 +1,10 @@
+pub mod HolesBelow
+pub mod Kept
+pub mod ChildLists
+pub mod Narrowed
+pub mod NarrowedUp
+pub mod RowLoops
+pub mod Readings
+pub mod RowReads
+pub mod LevelLoops
+pub mod Descents

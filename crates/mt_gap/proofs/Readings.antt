@@ -1,0 +1,13 @@
+-- Loads of a row's words, counted.
+use Rattle.std.proofs.Common.{◌≡◌, ℕ, ◌≤◌, arith}
+use Rattle.mt_rows.specs.Sheet.{Sheet, loaded, ReadsUpTo}
+use Rattle.mt_path.proofs.Loads.{one_read, reads_more, reads_up}
+
+pub one_load : (n : ℕ) (s t : Sheet) → 1 ≤ n → t ≡ loaded s → ReadsUpTo n s t
+one_load n s t low is = reads_up 1 n s t low (one_read s t is)
+
+pub two_loads : (n : ℕ) (s t u : Sheet) → 2 ≤ n → t ≡ loaded s → u ≡ loaded t → ReadsUpTo n s u
+two_loads n s t u low first second = reads_up 2 n s u low (reads_more 1 1 s t u (one_read s t first) (one_read t u second))
+
+pub three_loads : (n : ℕ) (s t u v : Sheet) → 3 ≤ n → t ≡ loaded s → u ≡ loaded t → v ≡ loaded u → ReadsUpTo n s v
+three_loads n s t u v low first second third = reads_up 3 n s v low (reads_more 2 1 s u v (two_loads 2 s t u (omega arith) first second) (one_read u v third))

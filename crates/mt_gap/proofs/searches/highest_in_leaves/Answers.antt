@@ -1,0 +1,24 @@
+use Rattle.std.proofs.Common.{sym, ap, ◌∙◌, subst, ◌+◌}
+use Rattle.std.specs.Prelude.{slice_index_or}
+use Rattle.std.specs.List.{flat_map}
+use Rattle.mt_base.specs.Holes.{highest_in}
+use Rattle.mt_rows.specs.Sheet.{Rooted}
+use Rattle.mt_gap.specs.Below.{child_hole}
+use Rattle.mt_gap.specs.Children.{children_in, no_child}
+use Rattle.mt_gap.specs.Descents.{picked}
+use Rattle.mt_gap.proofs.LevelLoops.{FoundHigh, tree_loaded, loaded_next, high_one}
+use Rattle.mt_gap.proofs.searches.highest_in_leaves.Goals as goal
+
+pub loop-leaf-preserved : goal.loop-leaf-preserved
+loop-leaf-preserved g c =
+    let s = g.R.Rows.sheet c.args.rows.now in
+    let t = g.R.Rows.sheet c.loop-leaf.rows in
+    let w = c.args.window in
+    let done = c.loop-leaf.invariant in
+    let same = tree_loaded s t c.args.steps.now c.loop-leaf.steps c.loop-leaf.leaf-index done.0 in
+    let leaf = (slice_index_or c.args.leaves.now c.loop-leaf.leaf-index no_child).span in (
+      loaded_next s t (g.R.Rows.sheet c.highest_in_leaf.new.rows) c.args.steps.now c.loop-leaf.steps c.tick.new.self c.loop-leaf.leaf-index done.0 c.tick.ensures c.highest_in_leaf.ensures.reads,
+      subst (FoundHigh w s.tree.table c.args.leaves.now (c.loop-leaf.leaf-index + 1)) (sym c.or-found.ensures)
+          (high_one w s.tree.table c.args.leaves.now c.loop-leaf.leaf-index no_child c.loop-leaf-test.true c.loop-leaf.found c.highest_in_leaf.result done.1
+          (c.highest_in_leaf.ensures.place ∙ ap (λ (r : Rooted). picked (highest_in w.size) w (flat_map child_hole (children_in r.table leaf))) same)),
+    )

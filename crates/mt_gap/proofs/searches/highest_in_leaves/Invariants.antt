@@ -1,0 +1,5 @@
+use Rattle.mt_gap.proofs.LevelLoops.{WereLoaded, FoundHigh}
+use Rattle.mt_gap.proofs.searches.highest_in_leaves.Given as goal
+
+abbrev pub invariant-loop-leaf : goal.invariant-loop-leaf
+invariant-loop-leaf g l = WereLoaded (g.R.Rows.sheet l.fn.rows) (g.R.Rows.sheet l.rows) l.fn.steps l.steps l.leaf-index × FoundHigh l.window (g.R.Rows.sheet l.fn.rows).tree.table l.leaves l.leaf-index l.found

@@ -1,0 +1,34 @@
+use Rattle.std.proofs.Common.{sym, ap, ◌∙◌}
+use Rattle.std.specs.Prelude.{slice_index_or}
+use Rattle.std.specs.List.{flat_map}
+use Rattle.mt_base.specs.Holes.{lowest_in}
+use Rattle.mt_rows.specs.Sheet.{Rooted}
+use Rattle.mt_gap.specs.Below.{child_hole}
+use Rattle.mt_gap.specs.Children.{children_in, no_child}
+use Rattle.mt_gap.specs.Descents.{picked}
+use Rattle.mt_gap.proofs.LevelLoops.{tree_loaded, loaded_next, low_found, low_not_found}
+use Rattle.mt_gap.proofs.searches.lowest_in_leaves.Goals as goal
+
+pub returns-then-is_some-clause-place : goal.returns-then-is_some-clause-place
+returns-then-is_some-clause-place g c =
+    let s = g.R.Rows.sheet c.args.rows.now in
+    let t = g.R.Rows.sheet c.loop-leaf.rows in
+    let w = c.args.window in
+    let done = c.loop-leaf.invariant in
+    let same = tree_loaded s t c.args.steps.now c.loop-leaf.steps c.loop-leaf.leaf-index done.0 in
+    let leaf = (slice_index_or c.args.leaves.now c.loop-leaf.leaf-index no_child).span in
+    low_found w s.tree.table c.args.leaves.now c.loop-leaf.leaf-index no_child c.loop-leaf-test.true c.lowest_in_leaf-found.result done.1
+    (c.lowest_in_leaf-found.ensures.place ∙ ap (λ (r : Rooted). picked lowest_in w (flat_map child_hole (children_in r.table leaf))) same) (sym c.is_some.ensures ∙ c.if-is_some.true)
+
+pub loop-leaf-preserved : goal.loop-leaf-preserved
+loop-leaf-preserved g c =
+    let s = g.R.Rows.sheet c.args.rows.now in
+    let t = g.R.Rows.sheet c.loop-leaf.rows in
+    let w = c.args.window in
+    let done = c.loop-leaf.invariant in
+    let same = tree_loaded s t c.args.steps.now c.loop-leaf.steps c.loop-leaf.leaf-index done.0 in
+    let leaf = (slice_index_or c.args.leaves.now c.loop-leaf.leaf-index no_child).span in (
+      loaded_next s t (g.R.Rows.sheet c.lowest_in_leaf-found.new.rows) c.args.steps.now c.loop-leaf.steps c.tick.new.self c.loop-leaf.leaf-index done.0 c.tick.ensures c.lowest_in_leaf-found.ensures.reads,
+      low_not_found w s.tree.table c.args.leaves.now c.loop-leaf.leaf-index no_child c.loop-leaf-test.true c.lowest_in_leaf-found.result done.1
+          (c.lowest_in_leaf-found.ensures.place ∙ ap (λ (r : Rooted). picked lowest_in w (flat_map child_hole (children_in r.table leaf))) same) (sym c.is_some.ensures ∙ c.if-is_some.false),
+    )

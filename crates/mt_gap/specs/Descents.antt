@@ -1,0 +1,64 @@
+-- How far a search has come: the rows of a level that it goes into, what is found below them, and what they cost.
+-- Source: this project's own.
+use Rattle.std.specs.Prelude.{◌≡◌, ℕ, ◌+◌, ◌*◌, ◌<◌, ◌≤◌, All, List, [], ◌∷◌, Option, Some, length}
+use Rattle.std.specs.List.{flat_map}
+use Rattle.mt_base.specs.Holes.{Hole, kept, holes}
+use Rattle.mt_base.specs.declared.kinds.Kind.TheVariants as trees
+use Rattle.mt_base.specs.Width.{columns, deepest}
+use Rattle.mt_layout.specs.declared.names.RowKind.{RowKind}
+use Rattle.mt_layout.specs.declared.names.RowKind.TheVariants.{Leaf}
+use Rattle.mt_layout.specs.declared.spans.Span.{Span}
+use Rattle.mt_layout.specs.Rows.{row_in, named_kind}
+use Rattle.mt_rows.specs.Levels.{Levels}
+use Rattle.mt_rows.specs.Laws.{Tree, IsRow, IsTended}
+use Rattle.mt_rows.specs.Publish.{map_by}
+use Rattle.mt_rows.specs.Sheet.{Sheet, Rooted, IsPlace, ReadsUpTo}
+use Rattle.mt_rows.specs.Trees.{height_in}
+use Rattle.mt_gap.specs.declared.children.Child.{Child}
+use Rattle.mt_gap.specs.declared.windows.Window.{Window}
+use Rattle.mt_gap.specs.Below.{holes_below, child_hole}
+use Rattle.mt_gap.specs.Children.{spans, children_below}
+use Rattle.mt_gap.specs.Narrow.{Rising}
+
+-- what the span names, if it is a row, is a row of the table
+abbrev pub MayLoad : Rooted → Span → Type 0
+MayLoad t x = (kind : RowKind) → named_kind x.word ≡ Some kind → IsPlace t (row_in x.word) 0
+
+-- What a search picks of the holes below some rows: those that have room in its window.
+abbrev pub picked : (List Hole → Option ℕ) → Window → List Hole → Option ℕ
+picked pick w xs = pick (kept w.size w.lo w.hi xs)
+
+-- where a search that picks so finds room in a tree
+unfoldable pub place_in : (List Hole → Option ℕ) → Window → Rooted → Option ℕ
+place_in pick w t = picked pick w (holes trees.Alloc (map_by t))
+
+-- The rows that are asked so many levels below the root, and the answer that is found below them.
+pub record Asks (t : Tree) (pick : List Hole → Option ℕ) (w : Window) (answer : Option ℕ) (level : ℕ) (asked : List Child) : Type 0 where
+  pub left : ℕ
+  pub height : level + left + 1 ≡ height_in t.table t.root
+  pub low : level + left < deepest
+  pub rows : Levels (IsRow t) t.table left (spans asked)
+  pub tended : Levels (IsTended t) t.table left (spans asked)
+  pub rising : Rising 0 (spans asked)
+  pub few : length asked ≤ 2
+  pub found : picked pick w (holes_below t.table left (spans asked)) ≡ answer
+
+-- How many rows were loaded before these: each is a step, and its words are loaded once at the most.
+pub record Visited (s s' : Sheet) (old new level : ℕ) (asked : List Child) : Type 0 where
+  pub count : ℕ
+  pub few : count + length asked ≤ 2 * level + 1
+  pub steps : new ≤ old + count
+  pub reads : ReadsUpTo (columns s.tree.table.width * count) s s'
+
+-- the leaves that a search comes to, and the answer that is found in them
+pub record Arrives (s s' : Sheet) (pick : List Hole → Option ℕ) (w : Window) (answer : Option ℕ) (old new : ℕ) (leaves : List Child) : Type 0 where
+  pub rows : All (λ (x : Child). MayLoad s.tree x.span) leaves
+  pub found : picked pick w (flat_map child_hole (children_below s.tree.table leaves)) ≡ answer
+  pub level : ℕ
+  pub height : level + 1 ≤ height_in s.tree.table s.tree.root
+  pub visited : Visited s s' old new level leaves
+
+-- the rows asked are leaves, or there are none
+abbrev pub AreLeaves : List Child → Type 0
+AreLeaves [] = Unit {0}
+AreLeaves (x ∷ xs) = named_kind x.span.word ≡ Some Leaf

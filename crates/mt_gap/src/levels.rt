@@ -1,0 +1,85 @@
+//! From level to level: the rows that a search goes into one level lower.
+
+ghost use Rattle.std.specs.Prelude.{◌≡◌, ◌+◌, ◌*◌, ◌≤◌, ◌++◌, ℕ, All, [], length, take};
+ghost use Rattle.mt_base.specs.Width.{columns};
+ghost use Rattle.mt_rows.specs.Sheet.{ReadsUpTo};
+ghost use Rattle.mt_gap.specs.declared.children.Child.{Child};
+ghost use Rattle.mt_gap.specs.Children.{children_in, children_below};
+ghost use Rattle.mt_gap.specs.Descents.{MayLoad};
+ghost use Rattle.mt_gap.specs.Narrow.{narrow, narrow_up, has_sure};
+
+use crate::children::{Child, children_of};
+use crate::windows::{Asked, Window, narrow_into, narrow_up_into};
+use mt_base::Steps;
+use mt_layout::Span;
+use mt_rows::Rows;
+use std::sync::ledger::Ledger;
+
+/// Adds what is to be asked below one row, and tells whether nothing behind it is.
+fn ask_lower<R: Rows>(rows: &mut R, row: Span, window: Window, next: &mut Asked) -> bool
+    requires row { MayLoad (R.sheet rows.old).tree row }
+    requires room { length next.old.items + length (narrow window.size window.lo window.hi (children_in (R.sheet rows.old).tree.table row)) ≤ 3 }
+    ensures items { next.new.items ≡ next.old.items ++ narrow window.size window.lo window.hi (children_in (R.sheet rows.old).tree.table row) }
+    ensures found { result ≡ has_sure window.size window.lo window.hi (children_in (R.sheet rows.old).tree.table row) }
+    ensures reads { ReadsUpTo (columns (R.sheet rows.old).tree.table.width) (R.sheet rows.old) (R.sheet rows.new) }
+{
+    let children = children_of(rows, row);
+    narrow_into(&children, window, next)
+}
+
+/// The rows to be asked one level below these, for the lowest place. Each of these is a step.
+#[tactic(auto, using(crate::proofs::LevelLoops::lower_all, crate::proofs::LevelLoops::loaded_none))]
+pub(crate) fn next_lower<R: Rows, L: Ledger>(
+    rows: &mut R,
+    asked: &[Child],
+    window: Window,
+    steps: &mut Steps<L>,
+) -> Asked
+    requires rows { All (λ (x : Child). MayLoad (R.sheet rows.old).tree x.span) asked.now }
+    requires few { length (narrow window.size window.lo window.hi (children_below (R.sheet rows.old).tree.table asked.now)) ≤ 3 }
+    ensures items { result.items ≡ narrow window.size window.lo window.hi (children_below (R.sheet rows.old).tree.table asked.now) }
+    ensures steps { steps.new ≤ steps.old + length asked.now }
+    ensures reads { ReadsUpTo (columns (R.sheet rows.old).tree.table.width * length asked.now) (R.sheet rows.old) (R.sheet rows.new) }
+{
+    let mut next = Asked::new();
+    for row in asked {
+        steps.tick();
+        if ask_lower(rows, row.span, window, &mut next) {
+            return next;
+        }
+    }
+    next
+}
+
+/// Takes what is to be asked below one row more.
+fn ask_higher<R: Rows>(rows: &mut R, row: Span, window: Window, next: &mut Asked)
+    requires row { MayLoad (R.sheet rows.old).tree row }
+    requires room { (k : ℕ) → length (narrow_up window.size window.lo window.hi next.old.items (take k (children_in (R.sheet rows.old).tree.table row))) ≤ 3 }
+    ensures items { next.new.items ≡ narrow_up window.size window.lo window.hi next.old.items (children_in (R.sheet rows.old).tree.table row) }
+    ensures reads { ReadsUpTo (columns (R.sheet rows.old).tree.table.width) (R.sheet rows.old) (R.sheet rows.new) }
+{
+    let children = children_of(rows, row);
+    narrow_up_into(&children, window, next);
+}
+
+/// The rows to be asked one level below these, for the highest place. Each of these is a step.
+#[tactic(auto, using(crate::proofs::LevelLoops::higher_all, crate::proofs::LevelLoops::loaded_none))]
+pub(crate) fn next_higher<R: Rows, L: Ledger>(
+    rows: &mut R,
+    asked: &[Child],
+    window: Window,
+    steps: &mut Steps<L>,
+) -> Asked
+    requires rows { All (λ (x : Child). MayLoad (R.sheet rows.old).tree x.span) asked.now }
+    requires few { (k : ℕ) → length (narrow_up window.size window.lo window.hi [] (take k (children_below (R.sheet rows.old).tree.table asked.now))) ≤ 3 }
+    ensures items { result.items ≡ narrow_up window.size window.lo window.hi [] (children_below (R.sheet rows.old).tree.table asked.now) }
+    ensures steps { steps.new ≤ steps.old + length asked.now }
+    ensures reads { ReadsUpTo (columns (R.sheet rows.old).tree.table.width * length asked.now) (R.sheet rows.old) (R.sheet rows.new) }
+{
+    let mut next = Asked::new();
+    for row in asked {
+        steps.tick();
+        ask_higher(rows, row.span, window, &mut next);
+    }
+    next
+}

@@ -1,0 +1,9 @@
+//! Searches for room between the entries of a map, by the gap words of its tree; and how these are mended.
+#![tactic(auto)]
+
+mod children;
+mod levels;
+mod searches;
+mod windows;
+
+pub use searches::{highest, lowest};

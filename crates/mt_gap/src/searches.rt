@@ -1,0 +1,212 @@
+//! The lowest and the highest place with room for so many indexes.
+
+ghost use Rattle.std.specs.Prelude.{◌≡◌, ◌≢◌, ◌↔◌, ◌+◌, ◌*◌, ◌≤◌, ℕ, All, IsTrue, [], ◌∷◌, length};
+ghost use Rattle.std.specs.List.{flat_map};
+ghost use Rattle.mt_base.specs.declared.kinds.Kind.TheVariants as trees;
+ghost use Rattle.mt_base.specs.Holes.{low, high, lowest_in, highest_in};
+ghost use Rattle.mt_base.specs.Width.{columns, greatest};
+ghost use Rattle.mt_rows.specs.Publish.{IsLawfulOf, map_by};
+ghost use Rattle.mt_rows.specs.Sheet.{ReadsUpTo};
+ghost use Rattle.mt_rows.specs.Trees.{height_in};
+ghost use Rattle.mt_gap.specs.declared.children.Child.{Child};
+ghost use Rattle.mt_gap.specs.Below.{child_hole};
+ghost use Rattle.mt_gap.specs.Children.{children_in, children_below, root_child};
+ghost use Rattle.mt_gap.specs.Descents.{MayLoad, picked, place_in, Arrives, AreLeaves};
+
+use crate::children::{Child, children_of};
+use crate::levels::{next_higher, next_lower};
+use crate::windows::{Asked, Window, highest_of, lowest_of};
+use mt_base::{DEEPEST, Steps, Width, top};
+use mt_layout::{RowKind, Span, kind_of};
+use mt_rows::Rows;
+use std::sync::ledger::Ledger;
+
+/// What covers every index.
+fn whole(width: Width, word: u64) -> Child
+    ensures { result ≡ record { span = record { first = 0; last = greatest width; word = word }; gap = 0 } }
+{
+    Child {
+        span: Span {
+            first: 0,
+            last: top(width),
+            word,
+        },
+        gap: 0,
+    }
+}
+
+/// Whether these rows of a level are leaves. Where there are none they are.
+fn are_leaves(asked: &[Child]) -> bool
+    ensures { IsTrue result ↔ AreLeaves asked.now }
+{
+    match asked.first() {
+        Some(row) => kind_of(row.span.word) == Some(RowKind::Leaf),
+        None => true,
+    }
+}
+
+/// Goes down from the root to the leaves that have the lowest place, if there is one.
+fn to_lowest<R: Rows, L: Ledger>(
+    rows: &mut R,
+    root: Child,
+    window: Window,
+    steps: &mut Steps<L>,
+) -> Asked
+    requires tree { IsLawfulOf (R.sheet rows.old).tree trees.Alloc }
+    requires some { (R.sheet rows.old).tree.root ≢ 0 }
+    requires root { root ≡ root_child (R.sheet rows.old).tree.table (R.sheet rows.old).tree.root }
+    requires size { 1 ≤ window.size }
+    ensures { Arrives (R.sheet rows.old) (R.sheet rows.new) lowest_in window (place_in lowest_in window (R.sheet rows.old).tree) steps.old steps.new result.items }
+{
+    let mut asked = Asked::new();
+    asked.push(root);
+    for _ in 0..DEEPEST {
+        if are_leaves(&asked) {
+            return asked;
+        }
+        asked = next_lower(rows, &asked, window, steps);
+    }
+    unreachable!()
+}
+
+/// Goes down from the root to the leaves that have the highest place, if there is one.
+fn to_highest<R: Rows, L: Ledger>(
+    rows: &mut R,
+    root: Child,
+    window: Window,
+    steps: &mut Steps<L>,
+) -> Asked
+    requires tree { IsLawfulOf (R.sheet rows.old).tree trees.Alloc }
+    requires some { (R.sheet rows.old).tree.root ≢ 0 }
+    requires root { root ≡ root_child (R.sheet rows.old).tree.table (R.sheet rows.old).tree.root }
+    requires size { 1 ≤ window.size }
+    ensures { Arrives (R.sheet rows.old) (R.sheet rows.new) (highest_in window.size) window (place_in (highest_in window.size) window (R.sheet rows.old).tree) steps.old steps.new result.items }
+{
+    let mut asked = Asked::new();
+    asked.push(root);
+    for _ in 0..DEEPEST {
+        if are_leaves(&asked) {
+            return asked;
+        }
+        asked = next_higher(rows, &asked, window, steps);
+    }
+    unreachable!()
+}
+
+/// The lowest place in a leaf of the table.
+fn lowest_in_leaf<R: Rows>(rows: &mut R, leaf: Span, window: Window) -> Option<u64>
+    requires row { MayLoad (R.sheet rows.old).tree leaf }
+    requires size { 1 ≤ window.size }
+    ensures place { result ≡ picked lowest_in window (flat_map child_hole (children_in (R.sheet rows.old).tree.table leaf)) }
+    ensures reads { ReadsUpTo (columns (R.sheet rows.old).tree.table.width) (R.sheet rows.old) (R.sheet rows.new) }
+{
+    let children = children_of(rows, leaf);
+    lowest_of(&children, window)
+}
+
+/// The lowest place in leaves side by side. Each that is loaded is a step.
+#[tactic(auto, using(crate::proofs::LevelLoops::loaded_none, crate::proofs::LevelLoops::low_nowhere))]
+fn lowest_in_leaves<R: Rows, L: Ledger>(
+    rows: &mut R,
+    leaves: &[Child],
+    window: Window,
+    steps: &mut Steps<L>,
+) -> Option<u64>
+    requires rows { All (λ (x : Child). MayLoad (R.sheet rows.old).tree x.span) leaves.now }
+    requires size { 1 ≤ window.size }
+    ensures place { result ≡ picked lowest_in window (flat_map child_hole (children_below (R.sheet rows.old).tree.table leaves.now)) }
+    ensures steps { steps.new ≤ steps.old + length leaves.now }
+    ensures reads { ReadsUpTo (columns (R.sheet rows.old).tree.table.width * length leaves.now) (R.sheet rows.old) (R.sheet rows.new) }
+{
+    for leaf in leaves {
+        steps.tick();
+        let found = lowest_in_leaf(rows, leaf.span, window);
+        if found.is_some() {
+            return found;
+        }
+    }
+    None
+}
+
+/// The highest place in a leaf of the table.
+fn highest_in_leaf<R: Rows>(rows: &mut R, leaf: Span, window: Window) -> Option<u64>
+    requires row { MayLoad (R.sheet rows.old).tree leaf }
+    requires size { 1 ≤ window.size }
+    ensures place { result ≡ picked (highest_in window.size) window (flat_map child_hole (children_in (R.sheet rows.old).tree.table leaf)) }
+    ensures reads { ReadsUpTo (columns (R.sheet rows.old).tree.table.width) (R.sheet rows.old) (R.sheet rows.new) }
+{
+    let children = children_of(rows, leaf);
+    highest_of(&children, window)
+}
+
+/// The highest place in leaves side by side. Each is a step.
+#[tactic(auto, using(crate::proofs::LevelLoops::loaded_none, crate::proofs::LevelLoops::high_all))]
+fn highest_in_leaves<R: Rows, L: Ledger>(
+    rows: &mut R,
+    leaves: &[Child],
+    window: Window,
+    steps: &mut Steps<L>,
+) -> Option<u64>
+    requires rows { All (λ (x : Child). MayLoad (R.sheet rows.old).tree x.span) leaves.now }
+    requires size { 1 ≤ window.size }
+    ensures place { result ≡ picked (highest_in window.size) window (flat_map child_hole (children_below (R.sheet rows.old).tree.table leaves.now)) }
+    ensures steps { steps.new ≤ steps.old + length leaves.now }
+    ensures reads { ReadsUpTo (columns (R.sheet rows.old).tree.table.width * length leaves.now) (R.sheet rows.old) (R.sheet rows.new) }
+{
+    let mut found = None;
+    for leaf in leaves {
+        steps.tick();
+        found = highest_in_leaf(rows, leaf.span, window).or(found);
+    }
+    found
+}
+
+/// The lowest start of so many indexes that lie in one hole and in the window `lo` to `hi`. Each row that is loaded is a
+/// step.
+pub fn lowest<R: Rows, L: Ledger>(
+    rows: &mut R,
+    size: u64,
+    lo: u64,
+    hi: u64,
+    steps: &mut Steps<L>,
+) -> Option<u64>
+    requires tree { IsLawfulOf (R.sheet rows.old).tree trees.Alloc }
+    requires size { 1 ≤ size }
+    ensures place { result ≡ low trees.Alloc (map_by (R.sheet rows.old).tree) size lo hi }
+    ensures steps { steps.new ≤ steps.old + 3 * height_in (R.sheet rows.old).tree.table (R.sheet rows.old).tree.root }
+    ensures reads { ReadsUpTo (3 * height_in (R.sheet rows.old).tree.table (R.sheet rows.old).tree.root * columns (R.sheet rows.old).tree.table.width + 1) (R.sheet rows.old) (R.sheet rows.new) }
+{
+    let window = Window { size, lo, hi };
+    let word = rows.root();
+    let root = whole(rows.width(), word);
+    if word == 0 {
+        return lowest_of(&[root], window);
+    }
+    let leaves = to_lowest(rows, root, window, steps);
+    lowest_in_leaves(rows, &leaves, window, steps)
+}
+
+/// The highest start of so many indexes that lie in one hole and in the window `lo` to `hi`. Each row that is loaded is a
+/// step.
+pub fn highest<R: Rows, L: Ledger>(
+    rows: &mut R,
+    size: u64,
+    lo: u64,
+    hi: u64,
+    steps: &mut Steps<L>,
+) -> Option<u64>
+    requires tree { IsLawfulOf (R.sheet rows.old).tree trees.Alloc }
+    requires size { 1 ≤ size }
+    ensures place { result ≡ high trees.Alloc (map_by (R.sheet rows.old).tree) size lo hi }
+    ensures steps { steps.new ≤ steps.old + 3 * height_in (R.sheet rows.old).tree.table (R.sheet rows.old).tree.root }
+    ensures reads { ReadsUpTo (3 * height_in (R.sheet rows.old).tree.table (R.sheet rows.old).tree.root * columns (R.sheet rows.old).tree.table.width + 1) (R.sheet rows.old) (R.sheet rows.new) }
+{
+    let window = Window { size, lo, hi };
+    let word = rows.root();
+    let root = whole(rows.width(), word);
+    if word == 0 {
+        return highest_of(&[root], window);
+    }
+    let leaves = to_highest(rows, root, window, steps);
+    highest_in_leaves(rows, &leaves, window, steps)
+}
