@@ -1,0 +1,85 @@
+-- Lawful words have no faults.
+use Rattle.std.proofs.Common.{◌≡◌, ℕ, zero, suc, ◌+◌, ◌<◌, ◌≤◌, ◌==◌, List, [], ◌∷◌, ◌++◌, true, refl, ap, ◌∙◌, subst, inl, inr, arith, append-nil}
+use Rattle.std.specs.Prelude.{nat_le}
+use Rattle.std.specs.List.{AllByRecursion}
+use Rattle.std.proofs.lemmas.Bool.{cases_Bool, and_from, le-leb, eq-eqb}
+use Rattle.mt_base.specs.declared.kinds.Kind.{Kind}
+use Rattle.mt_base.specs.declared.kinds.Kind.TheVariants as trees
+use Rattle.mt_base.specs.Width.{deepest}
+use Rattle.mt_layout.specs.declared.spans.Span.{Span}
+use Rattle.mt_layout.specs.Rows.{row_in, named_kind, parent_at}
+use Rattle.mt_rows.specs.Spans.{column, inner_kind, spans_in, root_span}
+use Rattle.mt_rows.specs.Levels.{Levels}
+use Rattle.mt_rows.specs.Trees.{by_kind}
+use Rattle.mt_rows.specs.Laws.{Tree, IsRow, IsTended, IsLawful, ParentsFrom, GapLaw, GapLawBy, kind_at}
+use Rattle.mt_rows.proofs.Depth.{by_leaf, by_inner, height_by_depth}
+use Rattle.mt_rows.proofs.Joins.{levels_front, levels_back}
+use Rattle.mt_check.specs.declared.faults.Fault.{Fault}
+use Rattle.mt_check.specs.declared.faults.Law.TheVariants as law
+use Rattle.mt_check.specs.RowTests.{depth_at, has_depth, longest_at, has_gaps}
+use Rattle.mt_check.specs.Check.{Way, at_row, own_faults, gaps_by, faults_below, faults_at, root_way, faults_in}
+use Rattle.mt_check.proofs.Lists.{both_none, holds}
+use Rattle.mt_check.proofs.OneRow.{told_gaps}
+use Rattle.mt_check.proofs.Longest.{each_longest}
+use Rattle.mt_check.proofs.Passes.{passes_none, row_passes}
+use Rattle.mt_check.proofs.Placed.{Placed, root_placed, children_placed}
+use Rattle.mt_check.proofs.Sound.{height, height_fits}
+
+module _ (t : Tree) where
+  abbrev Complete : ℕ → ℕ → Type 0
+  Complete left h = (way : Way) (x : Span) → Placed t left x → Levels (IsRow t) t.table h (x ∷ []) → column t.table (row_in x.word) 0 ≡ way.parent → Levels (IsTended t) t.table h (x ∷ []) → faults_at t left way x ≡ []
+
+  complete_below : (left h : ℕ) → Complete left h → (row slot : ℕ) (xs : List Span) → AllByRecursion (Placed t left) xs → Levels (IsRow t) t.table h xs → ParentsFrom t.table row slot xs → Levels (IsTended t) t.table h xs
+      → faults_below (faults_at t left) row slot xs ≡ []
+  complete_below left h complete row slot [] placed rows parents tended = refl
+  complete_below left h complete row slot (x ∷ xs) placed rows parents tended =
+      let way : Way = record { from = row; parent = parent_at row slot } in
+      both_none (faults_at t left way x) (faults_below (faults_at t left) row (slot + 1) xs)
+      (complete way x placed.0 (levels_front (IsRow t) t.table h (x ∷ []) xs rows) parents.0 (levels_front (IsTended t) t.table h (x ∷ []) xs tended))
+      (complete_below left h complete row (slot + 1) xs placed.1 (levels_back (IsRow t) t.table h (x ∷ []) xs rows) parents.1 (levels_back (IsTended t) t.table h (x ∷ []) xs tended))
+
+  -- a row of a height stands at its depth
+  deep_enough : (left h : ℕ) → left ≤ deepest → depth_at left + h ≡ height t → has_depth (height t) left (kind_at t.kind h) ≡ true
+  deep_enough left zero low deep =
+      let fits = height_fits t in
+      and_from (nat_le (depth_at left) deepest) (depth_at left == height t) (le-leb (depth_at left) deepest (omega arith)) (eq-eqb (depth_at left) (height t) (omega arith))
+  deep_enough left (suc h) low deep = by t.kind
+    where
+      by : (kind : Kind) → has_depth (height t) left (inner_kind kind) ≡ true
+      by trees.Range = le-leb (depth_at left) deepest (let fits = height_fits t in omega arith)
+      by trees.Alloc = le-leb (depth_at left) deepest (let fits = height_fits t in omega arith)
+
+  gap_test : (left h : ℕ) (x : Span) → h < left → Levels (IsRow t) t.table h (spans_in t.table x) → GapLaw t (suc h) x → has_gaps (longest_at t.table left) t.table (inner_kind t.kind) x ≡ true
+  gap_test left h x low rows law = by t.kind law
+    where
+      by : (kind : Kind) → GapLawBy (inner_kind kind) t.table h x → has_gaps (longest_at t.table left) t.table (inner_kind kind) x ≡ true
+      by trees.Range law = refl
+      by trees.Alloc law = told_gaps (longest_at t.table left) t.table h (row_in x.word) 0 (spans_in t.table x) (each_longest t left h (spans_in t.table x) low rows) law
+
+  complete_at : (left h : ℕ) → left ≤ deepest → depth_at left + h ≡ height t → Complete left h
+  unfolding faults_at
+  complete_at zero h low deep way x placed rows parent tended = let fits = height_fits t in absurd (omega arith)
+  complete_at (suc left) zero low deep way x placed rows parent tended =
+      let own = passes_none t (suc left) way x (row_passes t (suc left) zero way x placed.root rows.0 (deep_enough (suc left) zero low deep) parent) in
+      both_none (own_faults t (suc left) way x) _ own (by_leaf (named_kind x.word) [] _ rows.0.name.named)
+  complete_at (suc left) (suc h) low deep way x placed rows parent tended =
+      let named = rows.0.0.name.named in
+      let own = passes_none t (suc left) way x (row_passes t (suc left) (suc h) way x placed.root rows.0.0 (deep_enough (suc left) (suc h) low deep) parent) in
+      let children : List Fault = faults_below (faults_at t left) (row_in x.word) 0 (spans_in t.table x) in
+      let gaps : List Fault = at_row (row_in x.word) (gaps_by (longest_at t.table left) t x (named_kind x.word)) in
+      let fits = height_fits t in
+      let rows_below = subst (Levels (IsRow t) t.table h) (append-nil (spans_in t.table x)) rows.1 in
+      let tended_below = subst (Levels (IsTended t) t.table h) (append-nil (spans_in t.table x)) tended.1 in
+      let first : children ≡ [] = complete_below left h (complete_at left h (omega arith) (omega arith)) (row_in x.word) 0 (spans_in t.table x) (children_placed t left h x (omega arith) placed rows.0.0) rows_below tended.0.0.parent tended_below in
+      let last : gaps ≡ [] = ap (at_row (row_in x.word)) (ap (gaps_by (longest_at t.table left) t x) named ∙ holds (has_gaps (longest_at t.table left) t.table (inner_kind t.kind) x) law.Gaps (gap_test left h x (omega arith) rows_below tended.0.0.gaps)) in
+      both_none (own_faults t (suc left) way x) (by_kind (named_kind x.word) [] (children ++ gaps)) own (by_inner t.kind (named_kind x.word) [] (children ++ gaps) named ∙ both_none children gaps first last)
+
+  pub complete : IsLawful t → faults_in t ≡ []
+  unfolding faults_in
+  complete (inl empty) = rw empty refl
+  complete (inr tree) = elim (cases_Bool (t.root == 0)) [
+    | inl empty ↦ rw empty refl
+    | inr some ↦
+        let tall = height_by_depth t deepest tree.0 (root_span t.table t.root) tree.1.low tree.1.rows in
+        rw some (complete_at deepest tree.0 (omega arith) (omega arith) root_way (root_span t.table t.root) (root_placed t) tree.1.rows tree.2 tree.3)
+  ]

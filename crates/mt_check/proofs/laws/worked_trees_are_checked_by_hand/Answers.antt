@@ -1,0 +1,40 @@
+use Rattle.std.proofs.Common.{refl}
+use Rattle.mt_check.specs.Check.{faults_at, faults_in}
+use Rattle.mt_check.specs.RowTests.{longest_at}
+use Rattle.mt_check.proofs.laws.worked_trees_are_checked_by_hand.Goals as goal
+
+pub returns-clause-leaf : goal.returns-clause-leaf
+unfolding faults_at faults_in longest_at
+returns-clause-leaf c = refl
+
+pub returns-clause-leaves : goal.returns-clause-leaves
+unfolding faults_at faults_in longest_at
+returns-clause-leaves c = refl
+
+pub returns-clause-name : goal.returns-clause-name
+unfolding faults_at faults_in longest_at
+returns-clause-name c = refl
+
+pub returns-clause-parent : goal.returns-clause-parent
+unfolding faults_at faults_in longest_at
+returns-clause-parent c = refl
+
+pub returns-clause-pivots : goal.returns-clause-pivots
+unfolding faults_at faults_in longest_at
+returns-clause-pivots c = refl
+
+pub returns-clause-count : goal.returns-clause-count
+unfolding faults_at faults_in longest_at
+returns-clause-count c = refl
+
+pub returns-clause-entries : goal.returns-clause-entries
+unfolding faults_at faults_in longest_at
+returns-clause-entries c = refl
+
+pub returns-clause-holes : goal.returns-clause-holes
+unfolding faults_at faults_in longest_at
+returns-clause-holes c = refl
+
+pub returns-clause-gaps : goal.returns-clause-gaps
+unfolding faults_at faults_in longest_at
+returns-clause-gaps c = refl

@@ -1,0 +1,42 @@
+-- Trees worked by hand: a leaf with one range, an allocation tree of three rows, and what becomes of them by one changed word.
+-- Source: this project's own.
+use Rattle.std.specs.Prelude.{ℕ, ◌+◌, ◌*◌, List, [], ◌∷◌, ◌++◌, replicate, slice_set}
+use Rattle.mt_base.specs.declared.kinds.Kind.{Kind}
+use Rattle.mt_base.specs.declared.kinds.Kind.TheVariants.{Range, Alloc}
+use Rattle.mt_base.specs.declared.widths.Width.TheVariants.{Long}
+use Rattle.mt_base.specs.Width.{columns, first_row, greatest}
+use Rattle.mt_rows.specs.Laws.{Tree}
+
+abbrev top : ℕ
+top = greatest Long
+
+-- the words of rows from the first on, with as many zeros before them as rows have that are none
+abbrev pub tree_of : Kind → ℕ → ℕ → List ℕ → Tree
+tree_of kind root rows words = record { rows = rows; kind = kind; table = record { width = Long; words = replicate (columns Long * first_row) 0 ++ words }; root = root }
+
+-- the tree after one word was changed
+abbrev pub with_column : Tree → ℕ → ℕ → ℕ → Tree
+with_column t row col word = record t { table = record { width = Long; words = slice_set t.table.words (columns Long * row + col) word } }
+
+abbrev pub unused_row : List ℕ
+unused_row = replicate (columns Long) 0
+
+-- the range 10 to 19 with the entry 5, in two rows
+abbrev pub one_leaf : Tree
+one_leaf = tree_of Range 4108 2
+    ((1 ∷ 9 ∷ 19 ∷ top ∷ [] ++ replicate 12 0)
+    ++ (0 ∷ 5 ∷ [] ++ replicate 14 0)
+    ++ unused_row)
+
+-- a row with one child, which no root may be
+abbrev pub one_child : Tree
+one_child = tree_of Range 4116 2 ((1 ∷ top ∷ [] ++ replicate 14 0) ++ (4364 ∷ [] ++ replicate 15 0) ++ unused_row)
+
+-- eleven ranges with the entry 4096, in two leaves below a root
+abbrev pub two_leaves : Tree
+two_leaves = tree_of Alloc 4124 3
+    ((1 ∷ 11 ∷ top ∷ [] ++ replicate 7 0)
+    ++ (4364 ∷ 4620 ∷ [] ++ replicate 8 0)
+    ++ (0 ∷ 18446744073709551599 ∷ [] ++ replicate 10 0)
+    ++ ((4096 ∷ 0 ∷ 1 ∷ 2 ∷ 3 ∷ 4 ∷ 11 ∷ [] ++ replicate 9 0) ++ (replicate 6 4096 ++ replicate 10 0))
+    ++ ((4097 ∷ 12 ∷ 13 ∷ 14 ∷ 15 ∷ 16 ∷ top ∷ [] ++ replicate 9 0) ++ (replicate 5 4096 ++ replicate 11 0)))

@@ -1,0 +1,7 @@
+//! Whether the words of a tree are lawful, and which law they break first.
+#![tactic(auto)]
+
+mod faults;
+pub mod laws;
+
+pub use faults::{Fault, Form, Law};
