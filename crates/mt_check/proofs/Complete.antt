@@ -19,7 +19,7 @@ use Rattle.mt_check.specs.declared.faults.Law.TheVariants as law
 use Rattle.mt_check.specs.RowTests.{depth_at, has_depth, longest_at, has_gaps}
 use Rattle.mt_check.specs.Check.{Way, at_row, own_faults, gaps_by, faults_below, faults_at, root_way, faults_in}
 use Rattle.mt_check.proofs.Lists.{both_none, holds}
-use Rattle.mt_check.proofs.OneRow.{told_gaps}
+use Rattle.mt_check.proofs.OneRow.{told_gaps, none_told}
 use Rattle.mt_check.proofs.Longest.{each_longest}
 use Rattle.mt_check.proofs.Passes.{passes_none, row_passes}
 use Rattle.mt_check.proofs.Placed.{Placed, root_placed, children_placed}
@@ -53,8 +53,8 @@ module _ (t : Tree) where
   gap_test left h x low rows law = by t.kind law
     where
       by : (kind : Kind) → GapLawBy (inner_kind kind) t.table h x → has_gaps (longest_at t.table left) t.table (inner_kind kind) x ≡ true
-      by trees.Range law = refl
-      by trees.Alloc law = told_gaps (longest_at t.table left) t.table h (row_in x.word) 0 (spans_in t.table x) (each_longest t left h (spans_in t.table x) low rows) law
+      by trees.Range law = none_told (longest_at t.table left) t.table (row_in x.word) 0 (spans_in t.table x)
+      by trees.Alloc law = told_gaps (longest_at t.table left) t.table (row_in x.word) h 0 (spans_in t.table x) (each_longest t left h (spans_in t.table x) low rows) law
 
   complete_at : (left h : ℕ) → left ≤ deepest → depth_at left + h ≡ height t → Complete left h
   unfolding faults_at

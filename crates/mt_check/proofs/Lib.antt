@@ -5,3 +5,9 @@ pub mod OneRow
 pub mod Passes
 pub mod Placed
 pub mod Sound
+pub mod Loaded
+pub mod Slots
+pub mod Layouts
+pub mod Entering
+pub mod Counts
+pub mod Onward

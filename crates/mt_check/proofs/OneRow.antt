@@ -12,6 +12,7 @@ use Rattle.mt_base.specs.declared.ranges.Range.{Range}
 use Rattle.mt_base.specs.Entry.{reserved}
 use Rattle.mt_base.specs.Width.{columns}
 use Rattle.mt_layout.specs.declared.names.RowKind.{RowKind}
+use Rattle.mt_layout.specs.declared.names.RowKind.TheVariants.{Inner, Gapped}
 use Rattle.mt_layout.specs.declared.items.Item.{Item}
 use Rattle.mt_layout.specs.declared.spans.Span.{Span}
 use Rattle.mt_layout.specs.Rows.{row_in, named_kind}
@@ -24,7 +25,7 @@ use Rattle.mt_layout.proofs.RowSizes.{some_slots_of, layout_of}
 use Rattle.mt_layout.proofs.RowWords.{length-row_words}
 use Rattle.mt_rows.specs.Spans.{Table, base_of, column, spans_by, spans_in}
 use Rattle.mt_rows.specs.Laws.{items_in, words_in, GapsFrom, longest_below}
-use Rattle.mt_check.specs.RowTests.{rise_to, words_of, are_apart, tell_gaps}
+use Rattle.mt_check.specs.RowTests.{rise_to, words_of, are_apart, has_gaps_from}
 
 -- ---- what stands in a row of a kind
 
@@ -178,14 +179,25 @@ ranges_any first (x ∷ items) some = elim (cases_Bool (x.word == 0)) [
 
 -- ---- gaps
 
-pub gaps_told : (longest : Span → ℕ) (t : Table) (h row slot : ℕ) (xs : List Span) → AllByRecursion (λ (x : Span). longest x ≡ longest_below t h (x ∷ [])) xs → tell_gaps longest t row slot xs ≡ true → GapsFrom t h row slot xs
-gaps_told longest t h row slot [] same told = tt
-gaps_told longest t h row slot (x ∷ xs) same told =
-    let parts = and_parts (column t row (gap_column (slots_of t.width RowKind.Gapped) slot) == longest x) (tell_gaps longest t row (slot + 1) xs) told in
-    (eqb-true (column t row (gap_column (slots_of t.width RowKind.Gapped) slot)) (longest x) parts.0 ∙ same.0, gaps_told longest t h row (slot + 1) xs same.1 parts.1)
+module _ (longest : Span → ℕ) (t : Table) (row : ℕ) where
+  -- the longest holes below the spans are those of their height
+  abbrev AreLongest : ℕ → List Span → Type 0
+  AreLongest h xs = AllByRecursion (λ (x : Span). longest x ≡ longest_below t h (x ∷ [])) xs
 
-pub told_gaps : (longest : Span → ℕ) (t : Table) (h row slot : ℕ) (xs : List Span) → AllByRecursion (λ (x : Span). longest x ≡ longest_below t h (x ∷ [])) xs → GapsFrom t h row slot xs → tell_gaps longest t row slot xs ≡ true
-told_gaps longest t h row slot [] same gaps = refl
-told_gaps longest t h row slot (x ∷ xs) same gaps =
-    and_from (column t row (gap_column (slots_of t.width RowKind.Gapped) slot) == longest x) (tell_gaps longest t row (slot + 1) xs)
-    (eq-eqb (column t row (gap_column (slots_of t.width RowKind.Gapped) slot)) (longest x) (gaps.0 ∙ sym same.0)) (told_gaps longest t h row (slot + 1) xs same.1 gaps.1)
+  abbrev gap_word : ℕ → ℕ
+  gap_word slot = column t row (gap_column (slots_of t.width Gapped) slot)
+
+  pub gaps_told : (h slot : ℕ) (xs : List Span) → AreLongest h xs → has_gaps_from longest t Gapped row slot xs ≡ true → GapsFrom t h row slot xs
+  gaps_told h slot [] same told = tt
+  gaps_told h slot (x ∷ xs) same told =
+      let parts = and_parts (gap_word slot == longest x) (has_gaps_from longest t Gapped row (slot + 1) xs) told in
+      (eqb-true (gap_word slot) (longest x) parts.0 ∙ same.0, gaps_told h (slot + 1) xs same.1 parts.1)
+
+  pub told_gaps : (h slot : ℕ) (xs : List Span) → AreLongest h xs → GapsFrom t h row slot xs → has_gaps_from longest t Gapped row slot xs ≡ true
+  told_gaps h slot [] same gaps = refl
+  told_gaps h slot (x ∷ xs) same gaps =
+      and_from (gap_word slot == longest x) (has_gaps_from longest t Gapped row (slot + 1) xs) (eq-eqb (gap_word slot) (longest x) (gaps.0 ∙ sym same.0)) (told_gaps h (slot + 1) xs same.1 gaps.1)
+
+  pub none_told : (slot : ℕ) (xs : List Span) → has_gaps_from longest t Inner row slot xs ≡ true
+  none_told slot [] = refl
+  none_told slot (x ∷ xs) = none_told (slot + 1) xs

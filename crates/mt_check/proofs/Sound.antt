@@ -92,7 +92,7 @@ module _ (t : Tree) where
     where
       by : (kind : Kind) → has_gaps (longest_at t.table left) t.table (inner_kind kind) x ≡ true → GapLawBy (inner_kind kind) t.table h x
       by trees.Range told = tt
-      by trees.Alloc told = gaps_told (longest_at t.table left) t.table h (row_in x.word) 0 (spans_in t.table x) (each_longest t left h (spans_in t.table x) low rows) told
+      by trees.Alloc told = gaps_told (longest_at t.table left) t.table (row_in x.word) h 0 (spans_in t.table x) (each_longest t left h (spans_in t.table x) low rows) told
 
   -- ---- one row
 

@@ -1,3 +1,5 @@
 pub mod Check
 pub mod Examples
+pub mod Reads
 pub mod RowTests
+pub mod Walks

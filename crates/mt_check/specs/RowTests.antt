@@ -106,12 +106,16 @@ unfoldable pub longest_at : Table → ℕ → Span → ℕ
 longest_at t zero x = 0
 longest_at t (suc left) x = longest_by (named_kind x.word) (longest_in (spans_in t x)) (longest_of (longest_at t left) (spans_in t x))
 
--- from a slot on
-abbrev pub tell_gaps : (Span → ℕ) → Table → ℕ → ℕ → List Span → Bool
-tell_gaps longest t row slot [] = true
-tell_gaps longest t row slot (x ∷ xs) = (column t row (gap_column (slots_of t.width Gapped) slot) == longest x) && tell_gaps longest t row (slot + 1) xs
+-- the gap word tells it, in a row with gaps
+abbrev pub tells_gap : RowKind → ℕ → ℕ → Bool
+tells_gap Leaf gap longest = true
+tells_gap Inner gap longest = true
+tells_gap Gapped gap longest = gap == longest
+
+-- from a slot of the row on
+abbrev pub has_gaps_from : (Span → ℕ) → Table → RowKind → ℕ → ℕ → List Span → Bool
+has_gaps_from longest t kind row slot [] = true
+has_gaps_from longest t kind row slot (x ∷ xs) = tells_gap kind (column t row (gap_column (slots_of t.width kind) slot)) (longest x) && has_gaps_from longest t kind row (slot + 1) xs
 
 abbrev pub has_gaps : (Span → ℕ) → Table → RowKind → Span → Bool
-has_gaps longest t Leaf x = true
-has_gaps longest t Inner x = true
-has_gaps longest t Gapped x = tell_gaps longest t (row_in x.word) 0 (spans_in t x)
+has_gaps longest t kind x = has_gaps_from longest t kind (row_in x.word) 0 (spans_in t x)

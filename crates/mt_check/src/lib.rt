@@ -3,5 +3,8 @@
 
 mod faults;
 pub mod laws;
+mod reads;
+mod row_laws;
+mod walks;
 
 pub use faults::{Fault, Form, Law};

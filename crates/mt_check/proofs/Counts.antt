@@ -1,0 +1,73 @@
+-- How much stands below a row at the most, and what stands in a leaf.
+use Rattle.std.proofs.Common.{◌≡◌, ◌≢◌, ℕ, zero, suc, ◌+◌, ◌*◌, ◌^◌, ◌<◌, ◌≤◌, ◌==◌, List, [], ◌∷◌, ◌++◌, Option, Some, None, Bool, true, not, length, filter, refl, sym, ap, ◌∙◌, subst, inl, inr, arith, length-append}
+use Rattle.std.specs.Prelude.{Any}
+use Rattle.std.specs.List.{flat_map, list_any}
+use Rattle.std.proofs.lemmas.Bool.{cases_Bool}
+use Rattle.std.proofs.Math.Nat.{pow-succ', pow-le-pow_right, one-le-pow, mul-le-mul_right}
+use Rattle.mt_base.specs.declared.ranges.Range.{Range}
+use Rattle.mt_base.specs.declared.widths.Width.{Width}
+use Rattle.mt_base.specs.declared.widths.Width.TheVariants.{Long}
+use Rattle.mt_base.specs.Width.{columns, deepest}
+use Rattle.mt_layout.specs.declared.names.RowKind.{RowKind}
+use Rattle.mt_layout.specs.declared.names.RowKind.TheVariants.{Leaf, Inner, Gapped}
+use Rattle.mt_layout.specs.declared.items.Item.{Item}
+use Rattle.mt_layout.specs.declared.spans.Span.{Span}
+use Rattle.mt_layout.specs.Rows.{named_kind}
+use Rattle.mt_layout.specs.Spans.{spans_from, leaf_range}
+use Rattle.mt_layout.proofs.RowSizes.{slots_of-columns, some_columns}
+use Rattle.mt_layout.proofs.SpanLists.{length-spans_from}
+use Rattle.mt_rows.specs.Spans.{Table, spans_by, spans_in}
+use Rattle.mt_rows.specs.Trees.{by_kind, ranges_of}
+use Rattle.mt_rows.specs.Laws.{items_in}
+use Rattle.mt_check.proofs.OneRow.{few_in}
+
+-- ---- ranges below a row
+
+children_few : (t : Table) (x : Span) → length (spans_in t x) ≤ columns t.width
+children_few t x = by (named_kind x.word)
+  where
+    by : (kind : Option RowKind) → length (spans_by t kind x) ≤ columns t.width
+    by None = omega arith
+    by (Some kind) = omega (arith, length-spans_from x.first (items_in t kind x), few_in t kind x, slots_of-columns t.width kind)
+
+each_few : (f : Span → List Range) (most : ℕ) (xs : List Span) → ((x : Span) → length (f x) ≤ most) → length (flat_map f xs) ≤ length xs * most
+each_few f most [] few = omega arith
+each_few f most (x ∷ xs) few = let first = few x in let rest = each_few f most xs few in let both = length-append (f x) (flat_map f xs) in omega arith
+
+one_range : (x : Span) → length (leaf_range x) ≤ 1
+one_range x = elim (cases_Bool (x.word == 0)) [ inl hole ↦ rw hole (omega arith) | inr entry ↦ rw entry (omega arith) ]
+
+either_few : (kind : Option RowKind) (leaf inner : List Range) (most : ℕ) → length leaf ≤ most → length inner ≤ most → length (by_kind kind leaf inner) ≤ most
+either_few None leaf inner most few_leaf few_inner = omega arith
+either_few (Some Leaf) leaf inner most few_leaf few_inner = few_leaf
+either_few (Some Inner) leaf inner most few_leaf few_inner = few_inner
+either_few (Some Gapped) leaf inner most few_leaf few_inner = few_inner
+
+ranges_few : (t : Table) (depth : ℕ) (x : Span) → length (ranges_of t depth x) ≤ columns t.width ^ depth
+ranges_few t zero x = omega arith
+ranges_few t (suc depth) x =
+    let most = columns t.width ^ depth in
+    let some = one-le-pow depth (columns t.width) (some_columns t.width) in
+    let next = pow-succ' (columns t.width) depth in
+    let wide = mul-le-mul_right most (children_few t x) in
+    let least = mul-le-mul_right (columns t.width) some in
+    let leaf = each_few leaf_range 1 (spans_in t x) one_range in
+    let inner = each_few (ranges_of t depth) most (spans_in t x) (ranges_few t depth) in
+    either_few (named_kind x.word) (flat_map leaf_range (spans_in t x)) (flat_map (ranges_of t depth) (spans_in t x)) (columns t.width ^ suc depth) (omega (arith, children_few t x)) (omega arith)
+
+deepest_fits : (width : Width) → columns width ^ deepest < 2 ^ 64
+deepest_fits Long = omega arith
+
+pub ranges_fit : (t : Table) (depth : ℕ) (x : Span) → depth ≤ deepest → length (ranges_of t depth x) < 2 ^ 64
+ranges_fit t depth x low =
+    let few = ranges_few t depth x in
+    let most : columns t.width ^ depth ≤ columns t.width ^ deepest = pow-le-pow_right (some_columns t.width) low in
+    omega (arith, few, most, deepest_fits t.width)
+
+-- ---- entries of a leaf
+
+pub entries_counted : (first : ℕ) (items : List Item) → length (filter (λ (x : Item). not (x.word == 0)) items) ≡ length (flat_map leaf_range (spans_from first items))
+entries_counted first [] = refl
+entries_counted first (x ∷ items) =
+    let behind = entries_counted (x.last + 1) items in
+    elim (cases_Bool (x.word == 0)) [ inl hole ↦ rw hole behind | inr entry ↦ rw entry (ap suc behind) ]

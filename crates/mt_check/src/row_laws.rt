@@ -1,0 +1,142 @@
+//! The laws that a row's own words keep or break.
+
+ghost use Rattle.std.specs.Prelude.{◌≡◌, ◌==◌, ◌↔◌, true, false, not, [], Some, IsSome, IfSome, IfOk, IfErr, OnOk, length, slice_get};
+ghost use Rattle.std.specs.List.{list_all, list_any};
+ghost use Rattle.mt_base.specs.Entry.{reserved};
+ghost use Rattle.mt_base.specs.Width.{columns};
+ghost use Rattle.mt_layout.specs.Rows.{row_in, named_kind};
+ghost use Rattle.mt_layout.specs.Columns.{items_at};
+ghost use Rattle.mt_layout.specs.Sizes.{slots_of, gaps_of};
+ghost use Rattle.mt_check.specs.RowTests as tests;
+ghost use Rattle.mt_check.specs.Reads.{broken_words};
+
+use crate::faults::Law;
+use crate::reads::{Items, items_in};
+use mt_base::{DEEPEST, FIRST_ROW, Kind, Width, is_reserved, top};
+use mt_layout::{Item, RowKind, Span, kind_of, least_items, row_of};
+
+/// Whether no entry among these items is reserved.
+fn none_reserved(items: &[Item]) -> bool
+    ensures { result ≡ list_all (λ x. not (reserved x.word)) items.now }
+{
+    items.iter().all(|item| !is_reserved(item.word))
+}
+
+/// Whether a row has no reserved entry.
+fn has_entries(kind: RowKind, items: &[Item]) -> bool
+    ensures { result ≡ tests.has_entries kind items.now }
+{
+    match kind {
+        RowKind::Leaf => none_reserved(items),
+        RowKind::Inner | RowKind::Gapped => true,
+    }
+}
+
+/// Whether no two holes follow each other, and none is last, unless it may be.
+fn are_apart(items: &[Item], may_end: bool) -> bool
+    ensures { result ≡ tests.are_apart false may_end items.now }
+{
+    let mut after_hole = false;
+    for item in items {
+        let is_hole = item.word == 0;
+        if after_hole && is_hole {
+            return false;
+        }
+        after_hole = is_hole;
+    }
+    may_end || !after_hole
+}
+
+/// Whether one of these items is an entry.
+fn some_entry(items: &[Item]) -> bool
+    ensures { result ≡ list_any (λ x. not (x.word == 0)) items.now }
+{
+    items.iter().any(|item| item.word != 0)
+}
+
+/// Whether the holes of a leaf stand apart, some item is an entry, and none ends it, unless it may.
+fn has_holes(kind: RowKind, items: &[Item], may_end: bool) -> bool
+    ensures { result ≡ tests.has_holes may_end kind items.now }
+{
+    match kind {
+        RowKind::Leaf => are_apart(items, may_end) && some_entry(items),
+        RowKind::Inner | RowKind::Gapped => true,
+    }
+}
+
+/// The least number of items of a row below which so many levels may stand, itself counted.
+fn least_at(width: Width, left: u32, kind: RowKind) -> u32
+    ensures { result ≡ tests.least_at width left kind }
+{
+    if left != DEEPEST as u32 {
+        return least_items(width, kind);
+    }
+    match kind {
+        RowKind::Leaf => 1,
+        RowKind::Inner | RowKind::Gapped => 2,
+    }
+}
+
+/// A row and its kind.
+#[derive(Clone, Copy)]
+pub(crate) struct Named {
+    pub(crate) row: u32,
+    pub(crate) kind: RowKind,
+}
+
+/// Whether a row of this kind may stand in a tree of that kind.
+fn may_stand(tree: Kind, kind: RowKind) -> bool
+    ensures { result ≡ tests.may_stand tree kind }
+{
+    match kind {
+        RowKind::Leaf => true,
+        RowKind::Inner => matches!(tree, Kind::Range),
+        RowKind::Gapped => matches!(tree, Kind::Alloc),
+    }
+}
+
+/// The row that a word names, where it is one of so many rows and may stand in a tree of this kind.
+pub(crate) fn row_named(tree: Kind, rows: u64, word: u64) -> Option<Named>
+    ensures is { IsSome result ↔ (tests.names_row tree rows word ≡ true) }
+    ensures row { IfSome result (λ n. n.row ≡ row_in word) }
+    ensures kind { IfSome result (λ n. Some n.kind ≡ named_kind word) }
+{
+    let row = row_of(word)?;
+    let kind = kind_of(word)?;
+    if !may_stand(tree, kind) || u64::from(row) - u64::from(FIRST_ROW) >= rows {
+        return None;
+    }
+    Some(Named { row, kind })
+}
+
+/// The items of a row with these words, or the first law that they break. From the row on down so many levels may stand.
+pub(crate) fn check_words(
+    width: Width,
+    kind: RowKind,
+    words: &[u64],
+    left: u32,
+    parent: u64,
+    span: Span,
+) -> Result<Items, Law>
+    requires { length words.now ≡ columns width }
+    ensures items { IfOk result (λ items. items.items ≡ items_at (slots_of width kind) (gaps_of width kind) words.now 0 span.last) }
+    ensures kept { OnOk result (broken_words width kind words.now left parent span ≡ []) }
+    ensures broken { IfErr result (λ law. slice_get (broken_words width kind words.now left parent span) 0 ≡ Some law) }
+{
+    if words[0] != parent {
+        return Err(Law::Parent);
+    }
+    let Some(items) = items_in(width, kind, words, span.first, span.last) else {
+        return Err(Law::Pivots);
+    };
+    if items.len() < least_at(width, left, kind) as usize {
+        return Err(Law::Count);
+    }
+    if !has_entries(kind, items.as_slice()) {
+        return Err(Law::Entries);
+    }
+    if !has_holes(kind, items.as_slice(), top(width) <= span.last) {
+        return Err(Law::Holes);
+    }
+    Ok(items)
+}
