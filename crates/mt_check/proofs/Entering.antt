@@ -98,14 +98,13 @@ module _ (t : Tree) (walk : Walk) (visit : Visit) (number : ℕ) (kind : RowKind
   broken_here =
       (λ i. broken_words (wide i) kind ((words ∙ ap (words_of t.table) numbered) i) visit.left visit.parent visit.span) ∙ same_broken t visit.left visit.parent visit.span kind
 
-  pub entered : (walk' : Walk) (row : Row) → row.number ≡ number → row.kind ≡ kind → walk' ≡ record walk { leaf_depth = depth_known walk.leaf_depth visit.left kind } → row.items.items ≡ items_at (slots_of width kind) (gaps_of width kind) w 0 visit.span.last
-      → broken_words width kind w visit.left visit.parent visit.span ≡ [] → IsEntered t walk walk' visit row
-  entered walk' row same like known items none = record {
+  pub entered : (row : Row) → row.number ≡ number → row.kind ≡ kind → row.items.items ≡ items_at (slots_of width kind) (gaps_of width kind) w 0 visit.span.last
+      → broken_words width kind w visit.left visit.parent visit.span ≡ [] → IsEntered t visit row
+  entered row same like items none = record {
     named = sym named ∙ ap (λ (k : RowKind). Some k) (sym like);
     number = same ∙ numbered;
     items = items ∙ ((λ i. read_items (wide i) kind ((words ∙ ap (words_of t.table) numbered) i) visit.span.last) ∙ (read_here t.table kind visit.span ∙ ap (λ (k : RowKind). items_in t.table k visit.span) (sym like)));
     kept = own_here ∙ ap (at_row (row_in visit.span.word)) (sym broken_here ∙ none);
-    known = known ∙ ap (λ (k : RowKind). record walk { leaf_depth = depth_known walk.leaf_depth visit.left k }) (sym like);
   }
 
   pub first_broken : (law : Law) → slice_get (broken_words width kind w visit.left visit.parent visit.span) 0 ≡ Some law → slice_get (own_faults t visit.left (way_of visit) visit.span) 0 ≡ Some (record { row = number; law = law })

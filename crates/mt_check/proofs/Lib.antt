@@ -11,3 +11,5 @@ pub mod Layouts
 pub mod Entering
 pub mod Counts
 pub mod Onward
+pub mod Descending
+pub mod Children

@@ -81,7 +81,7 @@ module _ (t : Tree) where
       }
 
   -- no row stands too deep
-  too_deep : (kind : RowKind) → has_depth height 0 kind ≡ true → ⊥
+  pub too_deep : (kind : RowKind) → has_depth height 0 kind ≡ true → ⊥
   too_deep Leaf deep = cc
   too_deep Inner deep = cc
   too_deep Gapped deep = cc

@@ -53,12 +53,11 @@ abbrev pub no_item : Item
 no_item = record { last = 0; word = 0; gap = 0 }
 
 -- the row keeps all laws that its own words tell
-pub record IsEntered (t : Tree) (walk walk' : Walk) (visit : Visit) (row : Row) : Type 0 where
+pub record IsEntered (t : Tree) (visit : Visit) (row : Row) : Type 0 where
   pub named : named_kind visit.span.word ≡ Some row.kind
   pub number : row.number ≡ row_in visit.span.word
   pub items : row.items.items ≡ items_in t.table row.kind visit.span
   pub kept : own_faults t visit.left (way_of visit) visit.span ≡ []
-  pub known : walk' ≡ record walk { leaf_depth = depth_known walk.leaf_depth visit.left row.kind }
 
 -- what stands below a row, itself counted
 abbrev pub below_at : Tree → ℕ → Span → Below

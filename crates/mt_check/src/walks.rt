@@ -140,7 +140,8 @@ impl Walk {
     fn enter<R: Rows>(&mut self, rows: &mut R, visit: Visit) -> Result<Row, Fault>
         requires left { visit.left ≤ deepest }
         requires depth { let t = tree_from self.old (R.sheet rows.old).tree in LeadsTo (height_from t) (depth_from t visit.left visit.span) self.old.leaf_depth }
-        ensures ok { let t = tree_from self.old (R.sheet rows.old).tree in IfOk result (λ row. IsEntered t self.old self.new visit row) }
+        ensures ok { let t = tree_from self.old (R.sheet rows.old).tree in IfOk result (λ row. IsEntered t visit row) }
+        ensures known { IfOk result (λ row. self.new ≡ record self.old { leaf_depth = depth_known self.old.leaf_depth visit.left row.kind }) }
         ensures err { let t = tree_from self.old (R.sheet rows.old).tree in IfErr result (λ fault. slice_get (own_faults t visit.left (way_of visit) visit.span) 0 ≡ Some fault) }
         ensures walk { self.new ≡ record self.old { leaf_depth = self.new.leaf_depth } }
         ensures rest { OnlyReads (R.sheet rows.old) (R.sheet rows.new) }
@@ -207,7 +208,7 @@ impl Walk {
     ) -> Result<Below, Fault>
         requires left { visit.left ≤ deepest }
         requires depth { let t = tree_from self.old (R.sheet rows.old).tree in LeadsTo (height_from t) (depth_from t visit.left visit.span) self.old.leaf_depth }
-        requires row { IsEntered (tree_from self.old (R.sheet rows.old).tree) self.old self.old visit row.now }
+        requires row { IsEntered (tree_from self.old (R.sheet rows.old).tree) visit row.now }
         requires inner { row.now.kind ≢ kinds.Leaf }
         ensures answer { IsAnswerAt (tree_from self.old (R.sheet rows.old).tree) visit result }
         ensures depth { OnOk result (self.new.leaf_depth ≡ Some (height_from (tree_from self.old (R.sheet rows.old).tree))) }
@@ -222,7 +223,7 @@ impl Walk {
         let mut gaps_hold = true;
         for slot in 0..row.items.len() {
             let child = self.check_row(rows, row.child(visit, slot))?;
-            gaps_hold = gaps_hold && row.tells_gap(slot, child.longest);
+            gaps_hold &= row.tells_gap(slot, child.longest);
             below = below.plus(child);
         }
         if !gaps_hold {

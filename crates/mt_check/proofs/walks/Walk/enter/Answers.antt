@@ -20,7 +20,7 @@ returns-in-Ok-clause-ok g c =
     let deep : has_depth (unwrap_or c.args.self.now.leaf_depth (depth_at visit.left)) visit.left named.kind ≡ true = search rules in
     let wide = c.width.ensures ∙ ap (λ (t : Rooted). t.table.width) (same_tree s (g.R.Rows.sheet c.load_words-words.new.rows) c.load_words-words.ensures.rest) in
     entered t c.args.self.now visit named.row named.kind c.width.result c.as_slice.result.now c.requires.left c.requires.depth c.in-Some.ensures.row c.in-Some.ensures.kind names deep wide
-    (c.as_slice.ensures.value ∙ c.load_words-words.ensures.words) c.has_depth.new.self row refl refl c.has_depth.ensures.known c.in-Ok.ensures.items c.in-Ok.ensures.kept
+    (c.as_slice.ensures.value ∙ c.load_words-words.ensures.words) row refl refl c.in-Ok.ensures.items c.in-Ok.ensures.kept
 
 pub returns-in-Err-clause-err : goal.returns-in-Err-clause-err
 returns-in-Err-clause-err g c =
