@@ -1,5 +1,5 @@
 -- The walk through the children of a row: what each call of it is asked for and leaves.
-use Rattle.std.proofs.Common.{◌≡◌, ◌≢◌, ◌⊎◌, inl, inr, ℕ, zero, suc, ◌+◌, ◌-◌, ◌*◌, ◌^◌, ◌<◌, ◌≤◌, ◌&&◌, List, [], ◌∷◌, Option, Some, Bool, true, false, length, get_or, refl, sym, ap, ◌∙◌, subst, arith}
+use Rattle.std.proofs.Common.{◌≡◌, ◌≢◌, ◌⊎◌, inl, inr, ℕ, zero, suc, ◌+◌, ◌-◌, ◌*◌, ◌^◌, ◌<◌, ◌≤◌, ◌&&◌, List, Option, Some, Bool, true, false, length, refl, sym, ap, ◌∙◌, subst, arith}
 use Rattle.std.specs.Prelude.{Result, Ok, Err, OnOk, max, slice_index_or}
 use Rattle.std.specs.List.{slice_get}
 use Rattle.std.proofs.lemmas.Option.{slice_get_within}
@@ -7,8 +7,7 @@ use Rattle.mt_base.specs.Width.{deepest}
 use Rattle.mt_layout.specs.declared.names.RowKind.{RowKind}
 use Rattle.mt_layout.specs.declared.names.RowKind.TheVariants.{Leaf, Inner, Gapped}
 use Rattle.mt_layout.specs.declared.items.Item.{Item}
-use Rattle.mt_layout.specs.declared.spans.Span.{Span}
-use Rattle.mt_layout.specs.Rows.{row_in, parent_at}
+use Rattle.mt_layout.specs.Rows.{parent_at}
 use Rattle.mt_layout.specs.Spans.{spans_from}
 use Rattle.mt_layout.specs.Columns.{gap_column}
 use Rattle.mt_layout.specs.Sizes.{slots_of}
@@ -22,11 +21,11 @@ use Rattle.mt_check.specs.declared.walks.Visit.{Visit}
 use Rattle.mt_check.specs.declared.walks.Row.{Row}
 use Rattle.mt_check.specs.declared.walks.Below.{Below}
 use Rattle.mt_check.specs.RowTests.{tells_gap}
-use Rattle.mt_check.specs.Check.{Way, own_faults, faults_at}
+use Rattle.mt_check.specs.Check.{own_faults, faults_at}
 use Rattle.mt_check.specs.Walks.{no_item, tree_from, way_of, height_from, LeadsTo, depth_from, depth_known, IsEntered, IsAnswerAt, below_at}
 use Rattle.mt_check.proofs.Loaded.{none_read, reads_more, same_tree}
 use Rattle.mt_check.proofs.Onward.{first_front, Onward, onward_begins, onward_next}
-use Rattle.mt_check.proofs.Descending.{tree_stays, gap_told, some_left, some_here, many_here, child_span, child_leads, child_fault, gap_fault, all_answer, all_depth, rows_add, ranges_add}
+use Rattle.mt_check.proofs.Descending.{tree_stays, gap_told, some_left, many_here, child_span, child_leads, child_fault, gap_fault, all_answer, all_depth, rows_add, ranges_add}
 
 -- the walk through a row's children, up to a slot
 pub record Goes (s s' : Sheet) (walk walk' : Walk) (visit : Visit) (row : Row) (slot : ℕ) (below : Below) (gaps : Bool) : Type 0 where
@@ -96,7 +95,7 @@ module _ (s s' : Sheet) (walk walk' : Walk) (visit : Visit) (row : Row) (slot : 
       told : tells_gap row.kind (slice_index_or row.items.items slot no_item).gap child.longest ≡ tells_gap row.kind (column t.table row.number (gap_column (slots_of t.table.width row.kind) slot)) child.longest
       told =
           let within : slot < length (items_in t.table row.kind visit.span) =
-              (let inside = slice_get_within (spans_in s.tree.table visit.span) slot v.span (sym here) in let many = many_here t visit row entered in let same = ap (λ (l : List Item). length l) entered.items in omega arith) in
+          (let inside = slice_get_within (spans_in s.tree.table visit.span) slot v.span (sym here) in let many = many_here t visit row entered in let same = ap (λ (l : List Item). length l) entered.items in omega arith) in
           ap (λ (l : List Item). tells_gap row.kind (slice_index_or l slot no_item).gap child.longest) entered.items
           ∙ (gap_told t.table row.kind visit.span slot child.longest within
           ∙ ap (λ (r : ℕ). tells_gap row.kind (column t.table r (gap_column (slots_of t.table.width row.kind) slot)) child.longest) (sym entered.number))

@@ -1,6 +1,6 @@
 -- From a row that was entered to its children and back.
-use Rattle.std.proofs.Common.{◌≡◌, ◌≢◌, ◌⊎◌, ℕ, zero, suc, ◌+◌, ◌-◌, ◌^◌, ◌<◌, ◌≤◌, ◌==◌, List, [], ◌∷◌, ◌++◌, Option, Some, None, Bool, true, false, length, get_or, refl, sym, ap, ◌∙◌, subst, inl, inr, arith, append-nil}
-use Rattle.std.specs.Prelude.{nat_eq, nat_le, slice_index, filter, not, Any, Result, Ok, Err}
+use Rattle.std.proofs.Common.{◌≡◌, ◌≢◌, ℕ, zero, suc, ◌+◌, ◌-◌, ◌^◌, ◌<◌, ◌≤◌, ◌==◌, List, [], ◌∷◌, ◌++◌, Option, Some, None, Bool, true, false, length, get_or, refl, sym, ap, ◌∙◌, subst, inl, inr, arith}
+use Rattle.std.specs.Prelude.{nat_eq, nat_le, slice_index, filter, not, Any, Ok, Err}
 use Rattle.std.specs.List.{slice_get, flat_map, list_any}
 use Rattle.std.specs.Cmp.Lexicographic.{pointwise}
 use Rattle.std.proofs.lemmas.Bool.{cases_Bool, and_parts, eqb-true, eqb-false, not-true}
@@ -9,7 +9,7 @@ use Rattle.mt_base.specs.declared.ranges.Range.{Range}
 use Rattle.mt_base.proofs.Lists.{none_or_some}
 use Rattle.mt_base.specs.declared.widths.Width.{Width}
 use Rattle.mt_base.specs.declared.widths.Width.TheVariants.{Long}
-use Rattle.mt_base.specs.Width.{deepest, first_row}
+use Rattle.mt_base.specs.Width.{deepest}
 use Rattle.mt_layout.specs.declared.names.RowKind.{RowKind}
 use Rattle.mt_layout.specs.declared.names.RowKind.TheVariants.{Leaf, Inner, Gapped}
 use Rattle.mt_layout.specs.declared.items.Item.{Item}
@@ -21,10 +21,10 @@ use Rattle.mt_layout.specs.Spans.{spans_from, leaf_range, longest_in}
 use Rattle.mt_layout.proofs.Reading.{gap_at-some}
 use Rattle.mt_layout.proofs.SpanLists.{fills_rise, length-spans_from}
 use Rattle.mt_rows.specs.Spans.{Table, base_of, column, spans_in}
-use Rattle.mt_rows.specs.Trees.{by_kind, levels_by, of_first, height_of, rows_of, ranges_of}
+use Rattle.mt_rows.specs.Trees.{by_kind, height_of, rows_of, ranges_of}
 use Rattle.mt_rows.specs.Laws.{Tree, top_of, items_in, words_in}
-use Rattle.mt_rows.specs.Sheet.{Sheet, Rooted, OnlyReads}
-use Rattle.mt_rows.proofs.Deeper.{height_of_deeper, ranges_of_deeper, rows_of_deeper, height_of_inner, ranges_of_inner, rows_of_inner, of_first_at}
+use Rattle.mt_rows.specs.Sheet.{Sheet, OnlyReads}
+use Rattle.mt_rows.proofs.Deeper.{ranges_of_deeper, rows_of_deeper, height_of_inner, ranges_of_inner, rows_of_inner, of_first_at}
 use Rattle.mt_rows.proofs.Depth.{by_leaf}
 use Rattle.mt_rows.proofs.PlainPlant.{rows_fit}
 use Rattle.mt_check.specs.declared.faults.Fault.{Fault}
@@ -38,7 +38,7 @@ use Rattle.mt_check.specs.Check.{Way, unless, at_row, own_faults, gaps_by, fault
 use Rattle.mt_check.specs.Walks.{no_item, tree_from, way_of, height_from, LeadsTo, depth_from, depth_known, IsEntered, IsAnswerAt, below_at}
 use Rattle.mt_check.proofs.Lists.{both_none}
 use Rattle.mt_check.proofs.Loaded.{same_tree}
-use Rattle.mt_check.proofs.OneRow.{spans_are, some_in, rising_fills, any_ranges}
+use Rattle.mt_check.proofs.OneRow.{spans_are, some_in, rising_fills}
 use Rattle.mt_check.proofs.Passes.{Passes, none_passes}
 use Rattle.mt_check.proofs.Counts.{ranges_fit, entries_counted}
 use Rattle.mt_check.proofs.Sound.{too_deep}

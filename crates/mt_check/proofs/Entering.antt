@@ -1,14 +1,13 @@
 -- What a row's loaded words tell is what its table tells.
-use Rattle.std.proofs.Common.{◌≡◌, ◌≢◌, ℕ, zero, suc, ◌+◌, ◌-◌, ◌<◌, ◌≤◌, ◌==◌, ◌&&◌, List, [], ◌∷◌, ◌++◌, Option, Some, None, Bool, true, false, length, map, refl, sym, ap, ◌∙◌, subst, inl, inr, arith}
+use Rattle.std.proofs.Common.{◌≡◌, ℕ, zero, suc, ◌+◌, ◌<◌, ◌≤◌, ◌==◌, ◌&&◌, List, [], ◌∷◌, ◌++◌, Option, Some, None, Bool, true, length, refl, sym, ap, ◌∙◌, arith}
 use Rattle.std.specs.Prelude.{nat_eq, nat_le, slice_index, unwrap_or}
-use Rattle.std.specs.List.{slice_get, range_with_len}
+use Rattle.std.specs.List.{slice_get}
 use Rattle.std.specs.Cmp.Lexicographic.{pointwise}
 use Rattle.std.proofs.lemmas.List.FromFn.{length-map-range_with_len}
 use Rattle.mt_base.specs.declared.widths.Width.{Width}
-use Rattle.mt_base.specs.Width.{columns, greatest, deepest}
+use Rattle.mt_base.specs.Width.{columns, deepest}
 use Rattle.mt_layout.specs.declared.names.RowKind.{RowKind}
 use Rattle.mt_layout.specs.declared.names.RowKind.TheVariants.{Leaf, Inner, Gapped}
-use Rattle.mt_layout.specs.declared.items.Item.{Item}
 use Rattle.mt_layout.specs.declared.spans.Span.{Span}
 use Rattle.mt_layout.specs.Rows.{row_in, named_kind}
 use Rattle.mt_layout.specs.Columns.{items_at, row_words}
@@ -17,7 +16,7 @@ use Rattle.mt_layout.proofs.OwnColumns.{same_items}
 use Rattle.mt_layout.proofs.RowSizes.{layout_of, some_columns}
 use Rattle.mt_rows.specs.Spans.{Table, base_of, column, spans_in}
 use Rattle.mt_rows.specs.Trees.{levels_by, of_first, height_of}
-use Rattle.mt_rows.specs.Laws.{Tree, top_of, items_in, words_in}
+use Rattle.mt_rows.specs.Laws.{Tree, top_of, items_in}
 use Rattle.mt_check.specs.declared.faults.Law.{Law}
 use Rattle.mt_check.specs.declared.faults.Law.TheVariants as law
 use Rattle.mt_check.specs.declared.faults.Fault.{Fault}
@@ -27,7 +26,7 @@ use Rattle.mt_check.specs.declared.walks.Row.{Row}
 use Rattle.mt_check.specs.RowTests.{names_row, depth_at, has_depth, rise_to, words_of, has_pivots, least_at, has_entries, has_holes}
 use Rattle.mt_check.specs.Reads.{holds_items, read_items, broken_words}
 use Rattle.mt_check.specs.Check.{unless, broken_in, broken_by, at_row, own_faults}
-use Rattle.mt_check.specs.Walks.{way_of, height_from, LeadsTo, depth_from, depth_known, IsEntered}
+use Rattle.mt_check.specs.Walks.{way_of, height_from, LeadsTo, depth_from, IsEntered}
 use Rattle.mt_check.proofs.OneRow.{word_in}
 
 -- ---- the depth

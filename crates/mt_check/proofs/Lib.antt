@@ -13,3 +13,4 @@ pub mod Counts
 pub mod Onward
 pub mod Descending
 pub mod Children
+pub mod Whole

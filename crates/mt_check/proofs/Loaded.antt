@@ -1,14 +1,12 @@
 -- Rows of which words were only read.
 use Rattle.std.proofs.Common.{◌≡◌, ℕ, ◌+◌, ◌<◌, ◌≤◌, List, [], ◌∷◌, ◌++◌, Option, map, refl, sym, ap, ◌∙◌, subst, arith}
 use Rattle.std.specs.List.{range_with_len}
-use Rattle.std.specs.Option.{option_map}
 use Rattle.std.proofs.lemmas.List.FromFn.{map-range_with_len_more}
 use Rattle.mt_base.specs.declared.widths.Width.{Width}
 use Rattle.mt_base.specs.declared.widths.Width.TheVariants.{Long}
 use Rattle.mt_base.specs.Width.{columns}
 use Rattle.mt_rows.specs.Spans.{column}
-use Rattle.mt_rows.specs.Sheet.{Sheet, Rooted, IsPlace, word_at, one_more, loaded, OnlyReads}
-use Rattle.mt_check.specs.RowTests.{words_of}
+use Rattle.mt_rows.specs.Sheet.{Sheet, Rooted, IsPlace, word_at, loaded, OnlyReads}
 
 pub columns_few : (width : Width) → columns width ≤ 32
 columns_few Long = omega arith

@@ -1,30 +1,22 @@
 -- The walk through the children of a row, from a slot on.
-use Rattle.std.proofs.Common.{◌≡◌, ◌≢◌, ◌⊎◌, ℕ, zero, suc, ◌+◌, ◌-◌, ◌^◌, ◌<◌, ◌≤◌, ◌==◌, ◌&&◌, List, [], ◌∷◌, ◌++◌, Option, Some, None, Bool, true, false, drop, length, get_or, refl, sym, ap, ◌∙◌, subst, inl, inr, arith, length-append, append-nil}
-use Rattle.std.specs.Prelude.{max, nat_le, slice_index}
+use Rattle.std.proofs.Common.{◌≡◌, ℕ, zero, suc, ◌+◌, ◌<◌, ◌≤◌, ◌&&◌, List, [], ◌∷◌, ◌++◌, Option, Some, Bool, true, false, drop, length, refl, sym, ap, ◌∙◌, arith, length-append}
+use Rattle.std.specs.Prelude.{max}
 use Rattle.std.specs.List.{slice_get, flat_map}
-use Rattle.std.proofs.lemmas.Bool.{cases_Bool}
 use Rattle.std.proofs.lemmas.List.{drop_all}
 use Rattle.std.proofs.Math.Bool.{and-true}
-use Rattle.mt_base.specs.Width.{deepest}
 use Rattle.mt_layout.specs.declared.names.RowKind.{RowKind}
-use Rattle.mt_layout.specs.declared.names.RowKind.TheVariants.{Leaf, Inner, Gapped}
-use Rattle.mt_layout.specs.declared.items.Item.{Item}
 use Rattle.mt_layout.specs.declared.spans.Span.{Span}
-use Rattle.mt_layout.specs.Rows.{row_in, named_kind, parent_at}
-use Rattle.mt_layout.specs.Columns.{pivot_column, gap_column, gap_at, items_from}
+use Rattle.mt_layout.specs.Rows.{parent_at}
+use Rattle.mt_layout.specs.Columns.{gap_column}
 use Rattle.mt_layout.specs.Sizes.{slots_of}
-use Rattle.mt_rows.specs.Spans.{Table, column, spans_in}
-use Rattle.mt_rows.specs.Trees.{of_first, height_of, rows_of, ranges_of}
-use Rattle.mt_rows.specs.Laws.{Tree, items_in}
-use Rattle.mt_rows.specs.Sheet.{Sheet, OnlyReads}
+use Rattle.mt_rows.specs.Spans.{column}
+use Rattle.mt_rows.specs.Trees.{rows_of, ranges_of}
+use Rattle.mt_rows.specs.Laws.{Tree}
 use Rattle.mt_check.specs.declared.faults.Fault.{Fault}
-use Rattle.mt_check.specs.declared.walks.Walk.{Walk}
-use Rattle.mt_check.specs.declared.walks.Visit.{Visit}
-use Rattle.mt_check.specs.declared.walks.Row.{Row}
 use Rattle.mt_check.specs.declared.walks.Below.{Below}
 use Rattle.mt_check.specs.RowTests.{longest_of, longest_at, tells_gap, has_gaps_from}
 use Rattle.mt_check.specs.Check.{Way, faults_below, faults_at}
-use Rattle.mt_check.specs.Walks.{no_item, height_from, below_at}
+use Rattle.mt_check.specs.Walks.{height_from, below_at}
 
 drop_at : {A : Type 0} (xs : List A) (i : ℕ) (x : A) → Some x ≡ slice_get xs i → drop i xs ≡ x ∷ drop (i + 1) xs
 drop_at [] i x at = absurd (cc)

@@ -1,10 +1,12 @@
 //! Whether the words of a tree are lawful, and which law they break first.
 #![tactic(auto)]
 
+mod checks;
 mod faults;
 pub mod laws;
 mod reads;
 mod row_laws;
 mod walks;
 
+pub use checks::check;
 pub use faults::{Fault, Form, Law};

@@ -20,6 +20,7 @@ use mt_layout::{Item, RowKind, Span, gap_of, parent_word};
 use mt_rows::Rows;
 
 /// A walk through a tree of this kind with this root word.
+#[derive(Drop)]
 pub(crate) struct Walk {
     pub(crate) kind: Kind,
     pub(crate) root: u64,
@@ -179,11 +180,7 @@ impl Walk {
 
     /// Walks through a row and what stands below it: tells the first law that is broken, or what is there.
     #[cycle(walk)]
-    pub(crate) fn check_row<R: Rows>(
-        &mut self,
-        rows: &mut R,
-        visit: Visit,
-    ) -> Result<Below, Fault>
+    pub(crate) fn check_row<R: Rows>(&mut self, rows: &mut R, visit: Visit) -> Result<Below, Fault>
         requires left { visit.left ≤ deepest }
         requires depth { let t = tree_from self.old (R.sheet rows.old).tree in LeadsTo (height_from t) (depth_from t visit.left visit.span) self.old.leaf_depth }
         ensures answer { IsAnswerAt (tree_from self.old (R.sheet rows.old).tree) visit result }

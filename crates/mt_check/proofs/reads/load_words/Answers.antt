@@ -1,8 +1,5 @@
-use Rattle.std.proofs.Common.{◌≡◌, ◌<◌, ℕ, length, map, ap, ◌∙◌, lit<, arith}
-use Rattle.std.specs.List.{range_with_len}
+use Rattle.std.proofs.Common.{length, ap, ◌∙◌, lit<, arith}
 use Rattle.std.proofs.lemmas.List.FromFn.{length-map-range_with_len}
-use Rattle.mt_base.specs.declared.widths.Width.{Width}
-use Rattle.mt_base.specs.Width.{columns}
 use Rattle.mt_rows.specs.Spans.{column}
 use Rattle.mt_check.proofs.Loaded.{columns_few, load_more}
 use Rattle.mt_check.proofs.reads.load_words.Goals as goal

@@ -1,14 +1,13 @@
-use Rattle.std.proofs.Common.{◌≡◌, ◌≢◌, ◌≤◌, ◌==◌, ◌&&◌, List, Some, length, filter, not, refl, sym, ap, ◌∙◌, subst, rules, arith}
+use Rattle.std.proofs.Common.{◌≢◌, ◌≤◌, ◌==◌, ◌&&◌, List, length, filter, not, sym, ap, ◌∙◌, subst, rules, arith}
 use Rattle.std.specs.Prelude.{Ok, Any}
 use Rattle.std.proofs.lemmas.Result.{err_from_is_err_and}
 use Rattle.mt_layout.specs.declared.items.Item.{Item}
-use Rattle.mt_layout.specs.declared.names.RowKind.TheVariants.{Leaf}
 use Rattle.mt_layout.specs.Columns.{RiseFrom, longest_hole}
 use Rattle.mt_check.specs.declared.walks.Below.{Below}
 use Rattle.mt_check.specs.Walks.{tree_from, IsAnswerAt}
 use Rattle.mt_check.proofs.Loaded.{reads_more}
 use Rattle.mt_check.proofs.Descending.{risen, leaf_entry, leaf_answer, leaf_depth}
-use Rattle.mt_check.proofs.Children.{child_low, child_falls, child_depth, child_answer, rows_fit_in, ranges_fit_in, goes_next, gaps_answer, last_answer, last_depth, inner_walk, still_leads, still_entered, answer_back, depth_back, walk_back, own_first, not_leaf}
+use Rattle.mt_check.proofs.Children.{child_low, child_falls, child_depth, child_answer, rows_fit_in, ranges_fit_in, goes_next, gaps_answer, last_answer, inner_walk, still_leads, still_entered, answer_back, depth_back, walk_back, own_first, not_leaf}
 use Rattle.mt_check.proofs.walks.Walk.+walk.Goals as goal
 
 pub check_children-child-requires-clause-rise : goal.check_children-child-requires-clause-rise
@@ -65,13 +64,18 @@ check_row-check_children-requires g t c κs within =
     let s' = g.R.Rows.sheet c.enter.new.rows in
     let inner = not_leaf c.in_ok-row.row.kind c.in-Inner.is in
     let same = inner_walk c.args.self.now c.enter.new.self c.args.visit.left c.in_ok-row.row.kind inner c.in_ok-row.ensures.known in
-    let depth = c.decreases in
-    (
+    let depth = c.decreases in (
       omega arith,
-      (within,
-      (c.requires.left,
-      (still_leads s s' c.args.self.now c.enter.new.self c.args.visit c.in_ok-row.row c.enter.ensures.rest same c.requires.depth,
-      (still_entered s s' c.args.self.now c.enter.new.self c.args.visit c.in_ok-row.row c.enter.ensures.rest same c.in_ok-row.ensures.ok, inner)))),
+      (
+        within,
+        (
+          c.requires.left,
+          (
+            still_leads s s' c.args.self.now c.enter.new.self c.args.visit c.in_ok-row.row c.enter.ensures.rest same c.requires.depth,
+            (still_entered s s' c.args.self.now c.enter.new.self c.args.visit c.in_ok-row.row c.enter.ensures.rest same c.in_ok-row.ensures.ok, inner),
+          ),
+        ),
+      ),
     )
 
 pub check_row-returns-in-Leaf-clause-answer : goal.check_row-returns-in-Leaf-clause-answer

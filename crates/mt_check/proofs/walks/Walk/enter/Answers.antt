@@ -1,6 +1,5 @@
 use Rattle.std.proofs.Common.{◌≡◌, true, refl, ◌∙◌, ap, rules}
 use Rattle.std.specs.Prelude.{unwrap_or}
-use Rattle.mt_layout.specs.declared.spans.Span.{Span}
 use Rattle.mt_rows.specs.Sheet.{Rooted}
 use Rattle.mt_check.specs.declared.walks.Row.{Row}
 use Rattle.mt_check.specs.RowTests.{names_row, depth_at, has_depth}
