@@ -28,3 +28,4 @@ pub mod SlotChild
 pub mod SlotEntry
 pub mod SlotStore
 pub mod SlotWords
+pub mod PlainMade

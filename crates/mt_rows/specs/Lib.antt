@@ -2,6 +2,7 @@ pub mod Gaps
 pub mod Laws
 pub mod Levels
 pub mod Memory
+pub mod OfWords
 pub mod Plain
 pub mod PlainWhole
 pub mod Publish

@@ -1,9 +1,11 @@
-ghost use Rattle.std.specs.Prelude.{◌≡◌, ◌+◌, ◌*◌, ◌<◌, ◌≤◌, IfOk, length, slice_index_or, slice_set, if◌then◌else◌};
+ghost use Rattle.std.specs.Prelude.{◌≡◌, ◌+◌, ◌*◌, ◌<◌, ◌≤◌, ◌++◌, IfOk, length, map, filter, take, slice_index_or, slice_set, if◌then◌else◌};
 ghost use Rattle.std.specs.List.{fold};
 ghost use Rattle.mt_base.specs.declared.widths.Width.TheVariants.{Long};
 ghost use Rattle.mt_base.specs.Width.{columns, deepest, most_rows, first_row};
 ghost use Rattle.mt_layout.specs.Rows.{named_row};
 ghost use Rattle.mt_rows.specs.Trees.{rows_of};
+ghost use Rattle.mt_rows.specs.OfWords as made;
+ghost use Rattle.mt_rows.specs.OfWords.{is_live, walked_fates};
 ghost use Rattle.mt_rows.specs.Plain as defined;
 ghost use Rattle.mt_rows.specs.Plain.{IsPlain, names_of, enlivened, names_buried};
 
@@ -145,10 +147,63 @@ fn levels_in_place_of(fates: &[Fate], past: u64, old: u64) -> u32
     }
 }
 
+/// Writes these words over the last ones.
+fn put_last(all: &mut [u64], from: usize, words: &[u64])
+    requires { from + length words.now ≡ length all.old }
+    ensures { all.new ≡ take from all.old ++ words.now }
+{
+    all[from..].copy_from_slice(words);
+}
+
+/// How many rows are live.
+fn count_live(fates: &[Fate]) -> u64
+    ensures { result ≡ length (filter is_live fates.now) }
+{
+    fates
+        .iter()
+        .filter(|fate| matches!(fate, Fate::Live))
+        .count() as u64
+}
+
+/// A draft is new again.
+fn renewed(fate: Fate) -> Fate
+    ensures { result ≡ made.renewed fate }
+{
+    match fate {
+        Fate::Draft => Fate::New,
+        Fate::New | Fate::Live | Fate::Buried(_) => fate,
+    }
+}
+
+/// Makes the drafts new.
+fn renew(fates: &mut [Fate])
+    ensures { fates.new ≡ map made.renewed fates.old }
+{
+    for fate in fates.iter_mut() {
+        *fate = renewed(*fate);
+    }
+}
+
+/// Makes the rows live that are reached from the root word, and all others new, and counts the live ones. No row is entered
+/// twice, whatever the words.
+fn enliven_all(words: &[u64], root: u64, fates: &mut [Fate]) -> u64
+    requires { length words.now ≡ columns Long * length fates.old }
+    ensures fates { fates.new ≡ map made.renewed (walked_fates words.now root (length fates.old)) }
+    ensures count { result ≡ length (filter is_live (walked_fates words.now root (length fates.old))) }
+{
+    fates.fill(Fate::Draft);
+    enliven(words, DEEPEST as u32, root, fates);
+    let count = count_live(fates);
+    renew(fates);
+    count
+}
+
 impl PlainRows {
-    ghost use Rattle.std.specs.Prelude.{◌≡◌, ◌≤◌, IfOk, true, false, if◌then◌else◌};
+    ghost use Rattle.std.specs.Prelude.{◌≡◌, ℕ, ◌*◌, ◌≤◌, IfOk, true, false, length, if◌then◌else◌};
     ghost use Rattle.mt_base.specs.declared.kinds.Kind.{Kind};
-    ghost use Rattle.mt_base.specs.Width.{deepest, most_rows};
+    ghost use Rattle.mt_base.specs.declared.widths.Width.TheVariants.{Long};
+    ghost use Rattle.mt_base.specs.Width.{columns, deepest, most_rows};
+    ghost use Rattle.mt_rows.specs.OfWords.{IsMadeOf};
     ghost use Rattle.mt_rows.specs.Plain.{new_sheet, IsPlaceIn, opens};
     ghost use Rattle.mt_rows.specs.Memory.{sheet_in};
     ghost use Rattle.mt_rows.specs.Publish.{MayPlant, Planted, with_published};
@@ -177,6 +232,37 @@ impl PlainRows {
             reads: 0,
         };
         Ok(PlainRows { state })
+    }
+
+    /// Rows with these words, and this root word. Where the words are lawful, the rows that are reached are live.
+    pub fn of_words(
+        alloc: Global,
+        width: Width,
+        root: u64,
+        words: &[u64],
+    ) -> Result<PlainRows, NoMemory>
+        requires { (rows : ℕ) × (rows ≤ most_rows) × (length words.now ≡ columns width * rows) }
+        ensures { IfOk result (λ p. IsMadeOf width root words.now (sheet_in p)) }
+    {
+        let rows = words.len() / cols(width) as usize;
+        let mut made = PlainRows::new(alloc, rows as u64)?;
+        made.put_words(root, words);
+        Ok(made)
+    }
+
+    /// Puts words over all rows of a new table, and a root word.
+    fn put_words(&mut self, root: u64, words: &[u64])
+        requires { (rows : ℕ) × (length words.now ≡ columns Long * rows) × (sheet_in self.old ≡ new_sheet rows) }
+        ensures { IsMadeOf Long root words.now (sheet_in self.new) }
+    {
+        let before = cols(Width::Long) as usize * FIRST_ROW as usize;
+        put_last(self.state.words.as_mut_slice(), before, words);
+        self.state.root = root;
+        self.state.opened = enliven_all(
+            self.state.words.as_slice(),
+            root,
+            self.state.fates.as_mut_slice(),
+        );
     }
 
     /// Sets the root word before the first call. The rows that are reached from it are live then.

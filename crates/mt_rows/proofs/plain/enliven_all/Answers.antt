@@ -1,0 +1,20 @@
+use Rattle.std.proofs.Common.{◌≡◌, List, length, map, filter, ◌∙◌, ap, rules}
+use Rattle.std.specs.Prelude.{replicate}
+use Rattle.mt_base.specs.Width.{deepest}
+use Rattle.mt_rows.specs.declared.plain.Fate.{Fate}
+use Rattle.mt_rows.specs.declared.plain.Fate.TheVariants.{Draft}
+use Rattle.mt_rows.specs.OfWords.{is_live, renewed, walked_fates}
+use Rattle.mt_rows.specs.Plain.{enlivened}
+use Rattle.mt_rows.proofs.plain.enliven_all.Goals as goal
+
+pub returns-clause-fates : goal.returns-clause-fates
+unfolding walked_fates
+returns-clause-fates c =
+    let filled : c.fill.new.self ≡ replicate (length c.args.fates.now) Draft = c.fill.ensures.after (search rules) in
+    c.renew.ensures ∙ ap (map renewed) (c.enliven.ensures ∙ ap (enlivened c.args.words.now deepest c.args.root) filled)
+
+pub returns-clause-count : goal.returns-clause-count
+unfolding walked_fates
+returns-clause-count c =
+    let filled : c.fill.new.self ≡ replicate (length c.args.fates.now) Draft = c.fill.ensures.after (search rules) in
+    c.count_live-count.ensures ∙ ap (λ (fs : List Fate). length (filter is_live fs)) (c.enliven.ensures ∙ ap (enlivened c.args.words.now deepest c.args.root) filled)

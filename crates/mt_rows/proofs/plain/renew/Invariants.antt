@@ -1,0 +1,6 @@
+use Rattle.std.proofs.Common.{◌≡◌, ◌++◌, map, take, drop}
+use Rattle.mt_rows.specs.OfWords.{renewed}
+use Rattle.mt_rows.proofs.plain.renew.Given as goal
+
+abbrev pub invariant-loop-fate : goal.invariant-loop-fate
+invariant-loop-fate l = l.fates ≡ map renewed (take l.fate-index l.initial.fates) ++ drop l.fate-index l.initial.fates

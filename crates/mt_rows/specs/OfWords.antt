@@ -1,0 +1,48 @@
+-- Rows in memory that are made of given words.
+-- Source: this project's own.
+use Rattle.std.specs.Prelude.{◌≡◌, ℕ, ◌+◌, ◌*◌, ◌/◌, ◌<◌, ◌≤◌, List, ◌++◌, Bool, true, false, length, replicate, if◌then◌else◌}
+use Rattle.mt_base.specs.declared.kinds.Kind.{Kind}
+use Rattle.mt_base.specs.declared.widths.Width.{Width}
+use Rattle.mt_base.specs.Width.{columns, deepest, first_row}
+use Rattle.mt_rows.specs.declared.rows.Life.TheVariants as lives
+use Rattle.mt_rows.specs.declared.plain.Fate.{Fate}
+use Rattle.mt_rows.specs.declared.plain.Fate.TheVariants.{New, Draft, Live, Buried}
+use Rattle.mt_rows.specs.Trees.{reached_in}
+use Rattle.mt_rows.specs.Sheet.{Sheet, Rooted, life_of}
+use Rattle.mt_rows.specs.Publish.{IsLawfulOf, is_reached}
+use Rattle.mt_rows.specs.Plain.{new_sheet, enlivened}
+
+-- ---- fates
+
+abbrev pub is_live : Fate → Bool
+is_live New = false
+is_live Draft = false
+is_live Live = true
+is_live (Buried call) = false
+
+-- a draft is new again
+abbrev pub renewed : Fate → Fate
+renewed New = New
+renewed Draft = New
+renewed Live = Live
+renewed (Buried call) = Buried call
+
+-- of so many rows, those that are reached from the root word are live; to be walked, all are drafts
+unfoldable pub walked_fates : List ℕ → ℕ → ℕ → List Fate
+walked_fates w root many = enlivened w deepest root (replicate many Draft)
+
+-- ---- the rows
+
+abbrev pub tree_made : Width → ℕ → List ℕ → Rooted
+tree_made width root words = record {
+  rows = length words / columns width;
+  table = record { width = width; words = replicate (columns width * first_row) 0 ++ words };
+  root = root;
+}
+
+-- The rows hold these words from the first on, and no call was begun. Where the words are lawful, the rows that are reached
+-- from the root word are live, and all others are new.
+pub record IsMadeOf (width : Width) (root : ℕ) (words : List ℕ) (s : Sheet) : Type 0 where
+  pub rest : s ≡ record (new_sheet (length words / columns width)) { tree = tree_made width root words; lives = s.lives; opened = s.opened }
+  pub lives : (kind : Kind) → IsLawfulOf s.tree kind → (row : ℕ) → first_row ≤ row → row < first_row + s.tree.rows → life_of s.lives row ≡ (if is_reached s.tree row then lives.Live else lives.New)
+  pub opened : (kind : Kind) → IsLawfulOf s.tree kind → s.opened ≡ length (reached_in s.tree.table s.tree.root)
