@@ -10,3 +10,6 @@ mod walks;
 
 pub use checks::check;
 pub use faults::{Fault, Form, Law};
+
+#[cfg(test)]
+mod tests;

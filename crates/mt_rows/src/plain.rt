@@ -199,7 +199,7 @@ fn enliven_all(words: &[u64], root: u64, fates: &mut [Fate]) -> u64
 }
 
 impl PlainRows {
-    ghost use Rattle.std.specs.Prelude.{◌≡◌, ℕ, ◌*◌, ◌≤◌, IfOk, true, false, length, if◌then◌else◌};
+    ghost use Rattle.std.specs.Prelude.{◌≡◌, ◌/◌, ◌%◌, ◌≤◌, IfOk, true, false, length, if◌then◌else◌};
     ghost use Rattle.mt_base.specs.declared.kinds.Kind.{Kind};
     ghost use Rattle.mt_base.specs.declared.widths.Width.TheVariants.{Long};
     ghost use Rattle.mt_base.specs.Width.{columns, deepest, most_rows};
@@ -241,7 +241,8 @@ impl PlainRows {
         root: u64,
         words: &[u64],
     ) -> Result<PlainRows, NoMemory>
-        requires { (rows : ℕ) × (rows ≤ most_rows) × (length words.now ≡ columns width * rows) }
+        requires whole { length words.now % columns width ≡ 0 }
+        requires few { length words.now / columns width ≤ most_rows }
         ensures { IfOk result (λ p. IsMadeOf width root words.now (sheet_in p)) }
     {
         let rows = words.len() / cols(width) as usize;
@@ -252,7 +253,8 @@ impl PlainRows {
 
     /// Puts words over all rows of a new table, and a root word.
     fn put_words(&mut self, root: u64, words: &[u64])
-        requires { (rows : ℕ) × (length words.now ≡ columns Long * rows) × (sheet_in self.old ≡ new_sheet rows) }
+        requires whole { length words.now % columns Long ≡ 0 }
+        requires new { sheet_in self.old ≡ new_sheet (length words.now / columns Long) }
         ensures { IsMadeOf Long root words.now (sheet_in self.new) }
     {
         let before = cols(Width::Long) as usize * FIRST_ROW as usize;

@@ -1,4 +1,4 @@
-use Rattle.std.proofs.Common.{◌≡◌, ◌*◌, ◌++◌, length, map, filter, take, ◌∙◌}
+use Rattle.std.proofs.Common.{◌≡◌, ◌*◌, ◌/◌, ◌++◌, length, map, filter, take, ◌∙◌, arith}
 use Rattle.std.specs.Vec.{with_items}
 use Rattle.std.proofs.lemmas.List.{with_items_is}
 use Rattle.mt_base.specs.declared.widths.Width.TheVariants.{Long}
@@ -17,7 +17,7 @@ invariant_of-self c =
     let put : q.words.items ≡ take (columns Long * first_row) p.words.items ++ c.args.words.now = words ∙ (c.put_last.ensures ∙ (λ i. take (c.cols.ensures i * first_row) (c.as_mut_slice.ensures.value i) ++ c.args.words.now)) in
     let walks = fates ∙ (c.enliven_all-self.ensures.fates ∙ (λ i. map renewed (walked_fates (c.as_slice.ensures.value i) c.args.root (length (c.as_mut_slice-2.ensures.value i))))) in
     let counts = c.enliven_all-self.ensures.count ∙ (λ i. length (filter is_live (walked_fates (c.as_slice.ensures.value i) c.args.root (length (c.as_mut_slice-2.ensures.value i))))) in
-    record { plain = made_plain p q c.requires.0 c.args.root c.enliven_all-self.result c.args.words.now c.args.self.now.plain c.requires.2 c.requires.1 put walks counts }
+    record { plain = made_plain p q (length c.args.words.now / columns Long) c.args.root c.enliven_all-self.result c.args.words.now c.args.self.now.plain c.requires.new (let whole = c.requires.whole in omega arith) put walks counts }
 
 pub returns : goal.returns
 returns c =
@@ -28,4 +28,4 @@ returns c =
     let put : q.words.items ≡ take (columns Long * first_row) p.words.items ++ c.args.words.now = words ∙ (c.put_last.ensures ∙ (λ i. take (c.cols.ensures i * first_row) (c.as_mut_slice.ensures.value i) ++ c.args.words.now)) in
     let walks = fates ∙ (c.enliven_all-self.ensures.fates ∙ (λ i. map renewed (walked_fates (c.as_slice.ensures.value i) c.args.root (length (c.as_mut_slice-2.ensures.value i))))) in
     let counts = c.enliven_all-self.ensures.count ∙ (λ i. length (filter is_live (walked_fates (c.as_slice.ensures.value i) c.args.root (length (c.as_mut_slice-2.ensures.value i))))) in
-    made_is p q c.requires.0 c.args.root c.enliven_all-self.result c.args.words.now c.args.self.now.plain c.requires.2 c.requires.1 put walks counts
+    made_is p q (length c.args.words.now / columns Long) c.args.root c.enliven_all-self.result c.args.words.now c.args.self.now.plain c.requires.new (let whole = c.requires.whole in omega arith) put walks counts
