@@ -8,3 +8,4 @@ pub mod Readings
 pub mod RowReads
 pub mod LevelLoops
 pub mod Descents
+pub mod SlotMended

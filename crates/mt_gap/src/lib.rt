@@ -4,6 +4,8 @@
 mod children;
 mod levels;
 mod searches;
+#[cfg(test)]
+mod tests;
 mod windows;
 
 pub use searches::{highest, lowest};

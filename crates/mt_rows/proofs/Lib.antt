@@ -5,13 +5,17 @@ pub mod ExactStore
 pub mod FewRows
 pub mod FewSpans
 pub mod Frames
+pub mod GapStore
+pub mod GapWords
 pub mod Heights
 pub mod Joins
 pub mod Lists
+pub mod Longest
 pub mod NineLevels
 pub mod Once
 pub mod PlainExamples
 pub mod PlainFates
+pub mod PlainMade
 pub mod PlainNames
 pub mod PlainPlant
 pub mod PlainPublish
@@ -28,4 +32,3 @@ pub mod SlotChild
 pub mod SlotEntry
 pub mod SlotStore
 pub mod SlotWords
-pub mod PlainMade
