@@ -9,3 +9,4 @@ pub mod RowReads
 pub mod LevelLoops
 pub mod Descents
 pub mod SlotMended
+pub mod Mending
