@@ -32,7 +32,7 @@ pub spans-append : (xs ys : List Child) → spans (xs ++ ys) ≡ spans xs ++ spa
 spans-append [] ys = refl
 spans-append (x ∷ xs) ys = ap (λ (l : List Span). x.span ∷ l) (spans-append xs ys)
 
-spans_are : (first : ℕ) (items : List Item) → spans (children_from first items) ≡ spans_from first items
+pub spans_are : (first : ℕ) (items : List Item) → spans (children_from first items) ≡ spans_from first items
 spans_are first [] = refl
 spans_are first (x ∷ items) = ap (λ (l : List Span). record { first = first; last = x.last; word = x.word } ∷ l) (spans_are (x.last + 1) items)
 

@@ -10,3 +10,5 @@ pub mod LevelLoops
 pub mod Descents
 pub mod SlotMended
 pub mod Mending
+pub mod Tells
+pub mod MendWay

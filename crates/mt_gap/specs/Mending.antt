@@ -1,8 +1,9 @@
 -- Gap words set upwards: what a row tells the row above, and what is left alone.
 -- Source: the kernel's lib/maple_tree.c, mas_parent_gap and mas_update_gap.
-use Rattle.std.specs.Prelude.{◌≡◌, ◌⊎◌, ℕ, ◌+◌, ◌<◌, ◌≤◌, true, List, [], ◌∷◌, length, max}
+use Rattle.std.specs.Prelude.{◌≡◌, ◌⊎◌, ℕ, ◌+◌, ◌^◌, ◌<◌, ◌≤◌, Bool, true, List, [], ◌∷◌, length, max}
+use Rattle.std.specs.List.{AllByRecursion}
 use Rattle.mt_base.specs.declared.kinds.Kind.{Kind}
-use Rattle.mt_base.specs.Width.{columns}
+use Rattle.mt_base.specs.Width.{columns, greatest}
 use Rattle.mt_layout.specs.declared.names.RowKind.{RowKind}
 use Rattle.mt_layout.specs.declared.names.RowKind.TheVariants.{Leaf, Inner, Gapped}
 use Rattle.mt_layout.specs.declared.spans.Span.{Span}
@@ -10,11 +11,12 @@ use Rattle.mt_layout.specs.Columns.{gap_column}
 use Rattle.mt_layout.specs.Sizes.{slots_of}
 use Rattle.mt_layout.specs.Spans.{longest_in}
 use Rattle.mt_path.specs.declared.paths.PathStep.{PathStep}
-use Rattle.mt_path.specs.Paths.{step_at}
-use Rattle.mt_rows.specs.Gaps.{covers, GapLawBut}
+use Rattle.mt_path.specs.Paths.{step_at, path_in}
+use Rattle.mt_rows.specs.Gaps.{covers, GapLawBut, HasGapsBut}
 use Rattle.mt_rows.specs.Laws.{Tree, GapLaw}
+use Rattle.mt_rows.specs.Publish.{tree_as, LiveAreReached, NoneBuried}
 use Rattle.mt_rows.specs.Spans.{Table, row_spans}
-use Rattle.mt_rows.specs.Sheet.{Sheet, Rooted, word_at}
+use Rattle.mt_rows.specs.Sheet.{Sheet, Rooted, IsPlace, MayTend, word_at, with_word}
 use Rattle.mt_gap.specs.declared.children.Child.{Child}
 use Rattle.mt_gap.specs.Children.{row_children}
 
@@ -47,3 +49,31 @@ KeepsWords t t' path = (row col : ℕ) → col < columns t.table.width → (word
 -- nothing else has changed than words of rows, and how many were loaded
 abbrev pub OnlyWords : Sheet → Sheet → Type 0
 OnlyWords s s' = s' ≡ record s { tree = record { rows = s.tree.rows; table = record { width = s.tree.table.width; words = s'.tree.table.words }; root = s.tree.root }; reads = s'.reads }
+
+-- A way on which gap words are mended: the law of gaps may fail in the slots on the way to an index alone, the rows that are
+-- reached are live, and none is buried.
+pub record IsWay (kind : Kind) (s : Sheet) (path : List PathStep) : Type 0 where
+  pub is_new : ℕ → Bool
+  pub index : ℕ
+  pub within : index ≤ greatest s.tree.table.width
+  pub gaps : HasGapsBut is_new index (tree_as kind s.tree)
+  pub steps : path ≡ path_in s.tree.table s.tree.root index
+  pub live : LiveAreReached s.tree s.lives
+  pub none_buried : NoneBuried s.tree.rows s.buried
+
+-- a row can tell its longest hole: that of a leaf is a word
+abbrev pub MayTell : RowKind → Table → PathStep → Type 0
+MayTell Leaf t s = (longest_in (row_spans t s.row Leaf s.min s.max) < 2 ^ 64) × AllByRecursion (λ (x : Span). x.first ≤ x.last) (row_spans t s.row Leaf s.min s.max)
+MayTell Inner t s = Unit {0}
+MayTell Gapped t s = Unit {0}
+
+-- the gap word of the slot of a step may be tended, and the row below may tell it
+pub record MayMend (s : Sheet) (kind : RowKind) (above below : PathStep) : Type 0 where
+  pub place : IsPlace s.tree below.row 0
+  pub tells : MayTell kind s.tree.table below
+  pub slot : above.slot < slots_of s.tree.table.width Gapped
+  pub tend : (gap : ℕ) → MayTend s above.row (gap_column (slots_of s.tree.table.width Gapped) above.slot) gap
+
+-- it is what the row below tells, and nothing else has changed
+abbrev pub IsMended : Sheet → Sheet → RowKind → PathStep → PathStep → Type 0
+IsMended s s' kind above below = s' ≡ record s { tree = with_word s.tree above.row (gap_column (slots_of s.tree.table.width Gapped) above.slot) (told_by kind s.tree.table below); reads = s'.reads }

@@ -3,9 +3,11 @@
 
 mod children;
 mod levels;
+mod mends;
 mod searches;
 #[cfg(test)]
 mod tests;
 mod windows;
 
+pub use mends::mend_way;
 pub use searches::{highest, lowest};

@@ -1,0 +1,424 @@
+-- Gap words mended on the way to an index: what holds from one row to the next.
+use Rattle.std.proofs.Common.{◌≡◌, ◌≢◌, ℕ, zero, suc, ◌+◌, ◌-◌, ◌*◌, ◌^◌, ◌<◌, ◌≤◌, ◌==◌, List, [], ◌∷◌, ◌++◌, Bool, true, false, Option, Some, None, max, length, refl, sym, ap, ◌∙◌, subst, ⊎_elim, inl, inr, arith, append-nil, get_or-set_other}
+use Rattle.std.specs.Prelude.{◌⊎◌, slice_index, slice_set}
+use Rattle.std.specs.List.{AllByRecursion, flat_map}
+use Rattle.std.proofs.lemmas.Bool.{cases_Bool, cases_eq}
+use Rattle.mt_base.specs.declared.kinds.Kind.{Kind}
+use Rattle.mt_base.specs.declared.kinds.Kind.TheVariants as trees
+use Rattle.mt_base.specs.declared.ranges.Range.{Range}
+use Rattle.mt_base.specs.declared.widths.Width.{Width}
+use Rattle.mt_base.specs.declared.widths.Width.TheVariants.{Long}
+use Rattle.mt_base.specs.Width.{columns, deepest, greatest, first_row}
+use Rattle.mt_layout.specs.declared.names.RowKind.{RowKind}
+use Rattle.mt_layout.specs.declared.names.RowKind.TheVariants.{Leaf, Inner, Gapped}
+use Rattle.mt_layout.specs.declared.spans.Span.{Span}
+use Rattle.mt_layout.specs.Columns.{gap_column}
+use Rattle.mt_layout.specs.Rows.{row_in, named_kind}
+use Rattle.mt_layout.specs.Sizes.{slots_of}
+use Rattle.mt_layout.specs.Spans.{Fills, hole_length, leaf_range, longest_in}
+use Rattle.mt_layout.proofs.NameLaws.{Names-named_kind}
+use Rattle.mt_layout.proofs.RowSizes.{some_columns, some_slots_of}
+use Rattle.mt_layout.proofs.SpanLists.{fills_le}
+use Rattle.mt_path.specs.declared.paths.PathStep.{PathStep}
+use Rattle.mt_path.specs.Paths.{At, step_in, slot_for, step_at, span_at, path_in, path_of, below}
+use Rattle.mt_path.proofs.Steps.{Leads, is_inner, path_of_leaf, path_of_inner, row_here, child_at, child_leads}
+use Rattle.mt_path.proofs.TreePaths.{top_row, row_of, step_of, levels, step, place, lawful, reached, root_leads}
+use Rattle.mt_rows.specs.Gaps.{HasGapsBut, HasGaps}
+use Rattle.mt_rows.specs.Laws.{Tree, HasWords, IsRow, Stands, GapLaw, kind_at, longest_below, top_of}
+use Rattle.mt_rows.specs.Levels.{expand, Levels, SameSpans, times, is_row_of}
+use Rattle.mt_rows.specs.Publish.{tree_as, IsReached, LiveAreReached, NoneBuried}
+use Rattle.mt_rows.specs.Replacement.{root_of}
+use Rattle.mt_rows.specs.Sheet.{Rooted, Sheet, IsPlace, IsGapOf, MayTend, IsWhole, ReadsUpTo, OnlyReads, life_of, is_buried, with_word, word_at, loaded}
+use Rattle.mt_rows.specs.Spans.{Table, base_of, root_span, spans_in, spans_by, row_spans}
+use Rattle.mt_rows.proofs.FewSpans.{row_most}
+use Rattle.mt_rows.proofs.GapStore.{gap_inside, all_spans_stay, still_stands}
+use Rattle.mt_rows.proofs.Depth.{height_by_depth}
+use Rattle.mt_rows.proofs.Lists.{levels_here, levels_map}
+use Rattle.mt_rows.proofs.Joins.{Shared, expand_shared, levels_front, levels_back, times_shared}
+use Rattle.mt_rows.proofs.Reached.{OnLevel, on_level_reached, times_reached, reached_number}
+use Rattle.mt_rows.specs.declared.rows.Life.{Life}
+use Rattle.mt_rows.specs.declared.rows.Life.TheVariants.{Live}
+use Rattle.mt_gap.specs.Mending.{told_by, IsMendedUpTo, IsGapOn, KeepsWords, OnlyWords, IsWay, MayTell, MayMend, IsMended}
+use Rattle.mt_gap.proofs.Mending.{on, is_step, is_used, told, mended_next, begun_mending, all_mended}
+
+-- ---- paths by two tables that share their spans
+
+module _ (t t' : Tree) (index : ℕ) where
+  below_shared : (x : Span) (k : ℕ) → Leads t (suc k) x index → Levels (Shared t.table t'.table) t.table k (spans_in t.table x) → Levels (Shared t.table t'.table) t.table k (below t.table x index ∷ [])
+  below_shared x k leads rows =
+      let at = child_at t (suc k) x index leads in
+      levels_front (Shared t.table t'.table) t.table k (below t.table x index ∷ []) at.back
+        (levels_back (Shared t.table t'.table) t.table k at.front (below t.table x index ∷ at.back) (subst (Levels (Shared t.table t'.table) t.table k) at.parts rows))
+
+  pub paths_shared : (depth k : ℕ) (x : Span) → k < depth → Leads t k x index → Levels (Shared t.table t'.table) t.table k (x ∷ []) → path_of t'.table depth x index ≡ path_of t.table depth x index
+  paths_shared zero k x deep leads rows = absurd (omega arith)
+  paths_shared (suc depth) zero x deep leads rows =
+      let named = (row_here t zero x index leads).name.named in
+      path_of_leaf t'.table depth x index named
+      ∙ (ap (λ (l : List Span). record { row = row_in x.word; slot = slot_for l index; min = x.first; max = x.last } ∷ []) rows.0 ∙ sym (path_of_leaf t.table depth x index named))
+  paths_shared (suc depth) (suc k) x deep leads rows =
+      let named = (row_here t (suc k) x index leads).name.named in
+      let below_same : below t'.table x index ≡ below t.table x index = ap (λ (l : List Span). span_at l (slot_for l index)) rows.0.0 in
+      path_of_inner t'.table depth x index (kind_at t.kind (suc k)) named (is_inner t.kind)
+      ∙ ((λ i. record { row = row_in x.word; slot = slot_for (rows.0.0 i) index; min = x.first; max = x.last } ∷ path_of t'.table depth (below_same i) index)
+      ∙ (ap (λ (l : List PathStep). step_in t.table x index ∷ l)
+          (paths_shared depth k (below t.table x index) (omega arith) (child_leads t k x index leads) (below_shared x k leads (subst (Levels (Shared t.table t'.table) t.table k) (append-nil (spans_in t.table x)) rows.1)))
+      ∙ sym (path_of_inner t.table depth x index (kind_at t.kind (suc k)) named (is_inner t.kind))))
+
+-- ---- two stores one after the other
+
+shared_twice : (t t' t'' : Table) (h : ℕ) (xs : List Span) → Levels (Shared t t') t h xs → Levels (Shared t' t'') t' h xs → Levels (Shared t t'') t h xs
+shared_twice t t' t'' zero xs first second = both xs first second
+  where
+    both : (ys : List Span) → AllByRecursion (SameSpans t t') ys → AllByRecursion (SameSpans t' t'') ys → AllByRecursion (SameSpans t t'') ys
+    both [] first second = tt
+    both (y ∷ ys) first second = (second.0 ∙ first.0, both ys first.1 second.1)
+shared_twice t t' t'' (suc h) xs first second = (both xs first.0 second.0, shared_twice t t' t'' h (expand t xs) first.1 (subst (Levels (Shared t' t'') t' h) (expand_shared t t' xs first.0) second.1))
+  where
+    both : (ys : List Span) → AllByRecursion (SameSpans t t') ys → AllByRecursion (SameSpans t' t'') ys → AllByRecursion (SameSpans t t'') ys
+    both [] first second = tt
+    both (y ∷ ys) first second = (second.0 ∙ first.0, both ys first.1 second.1)
+
+only_next : (s s' s'' : Sheet) (row col word : ℕ) → OnlyWords s s' → s'' ≡ record s' { tree = with_word s'.tree row col word; reads = s''.reads } → OnlyWords s s''
+only_next s s' s'' row col word only stored =
+    let words = slice_set s'.tree.table.words (base_of s'.tree.table row + col) word in
+    stored
+    ∙ ((λ i. record (only i) { tree = record { rows = (only i).tree.rows; table = record { width = (only i).tree.table.width; words = words }; root = (only i).tree.root }; reads = s''.reads })
+    ∙ ap (λ (ws : List ℕ). record s { tree = record { rows = s.tree.rows; table = record { width = s.tree.table.width; words = ws }; root = s.tree.root }; reads = s''.reads }) (sym (ap (λ (r : Sheet). r.tree.table.words) stored)))
+
+other_word : (width : Width) (words : List ℕ) (row col arow acol word : ℕ) → col < columns width → acol < columns width → (row ≡ arow → col ≡ acol → ⊥)
+    → slice_index (slice_set words (columns width * arow + acol) word) (columns width * row + col) ≡ slice_index words (columns width * row + col)
+other_word Long words row col arow acol word low alow other = get_or-set_other words (32 * arow + acol) (32 * row + col) word 0 (λ e. (let same : row ≡ arow = omega arith in let at : col ≡ acol = omega arith in other same at))
+
+-- ---- what a leaf may tell
+
+longest_low : (lo hi : ℕ) (xs : List Span) → Fills lo hi xs → longest_in xs ≤ hi - lo
+longest_low lo hi [] fills = omega arith
+longest_low lo hi (x ∷ xs) fills =
+    let begins = fills.0 in let order = fills.1 in
+    let rest = longest_low (x.last + 1) hi xs fills.2 in
+    let end = fills_le (x.last + 1) hi xs fills.2 in
+    elim (cases_Bool (x.word == 0)) [ inl hole ↦ rw hole (omega arith) | inr entry ↦ rw entry (omega arith) ]
+
+-- where an entry stands no hole covers all
+longest_less : (lo hi : ℕ) (xs : List Span) → Fills lo hi xs → flat_map leaf_range xs ≢ [] → longest_in xs < hi - lo
+longest_less lo hi [] fills some = absurd (some refl)
+longest_less lo hi (x ∷ xs) fills some =
+    let begins = fills.0 in let order = fills.1 in
+    let rest = longest_low (x.last + 1) hi xs fills.2 in
+    let end = fills_le (x.last + 1) hi xs fills.2 in
+    elim (cases_Bool (x.word == 0)) [
+      | inl hole ↦ (let behind = longest_less (x.last + 1) hi xs fills.2 (rw hole at some) in rw hole (omega arith))
+      | inr entry ↦ rw entry (omega arith)
+    ]
+
+all_rise : (lo hi : ℕ) (xs : List Span) → Fills lo hi xs → AllByRecursion (λ (x : Span). x.first ≤ x.last) xs
+all_rise lo hi [] fills = tt
+all_rise lo hi (x ∷ xs) fills = let begins = fills.0 in let order = fills.1 in (omega arith, all_rise (x.last + 1) hi xs fills.2)
+
+greatest_fits : (width : Width) → greatest width < 2 ^ 64
+greatest_fits Long = omega arith
+
+row_may_tell : (r : Rooted) (k index : ℕ) (c : Span) → IsRow (tree_as trees.Alloc r) k c → c.last ≤ greatest r.table.width → MayTell (kind_at trees.Alloc k) r.table (step_in r.table c index)
+row_may_tell r zero index c row low =
+    let is : spans_in r.table c ≡ row_spans r.table (row_in c.word) Leaf c.first c.last = ap (λ k. spans_by r.table k c) row.name.named in
+    let less = longest_less c.first (c.last + 1) (spans_in r.table c) row.pivots.fills row.holes.some in
+    let fits = greatest_fits r.table.width in
+    subst (λ (l : List Span). (longest_in l < 2 ^ 64) × AllByRecursion (λ (x : Span). x.first ≤ x.last) l) is (omega arith, all_rise c.first (c.last + 1) (spans_in r.table c) row.pivots.fills)
+row_may_tell r (suc k) index c row low = tt
+
+-- ---- from row to row
+
+pub record HasMended (s s' : Sheet) (path : List PathStep) (kind : RowKind) (level : ℕ) : Type 0 where
+  pub index : ℕ
+  pub height : ℕ
+  pub done : ℕ
+  pub within : index ≤ greatest s.tree.table.width
+  pub low : 1 ≤ level
+  pub levels_are : done + level ≡ height + 1
+  pub kind_is : kind ≡ kind_at trees.Alloc done
+  pub stood : Stands (tree_as trees.Alloc s.tree) height
+  pub stands : Stands (tree_as trees.Alloc s'.tree) height
+  pub steps : path ≡ path_in s'.tree.table s'.tree.root index
+  pub mended : Levels (IsMendedUpTo index done (tree_as trees.Alloc s'.tree)) s'.tree.table height (root_of (tree_as trees.Alloc s'.tree))
+  pub only : OnlyWords s s'
+  pub words : KeepsWords s.tree s'.tree path
+  pub spans : Levels (Shared s.tree.table s'.tree.table) s.tree.table height (root_of (tree_as trees.Alloc s.tree))
+  pub live : LiveAreReached s.tree s.lives
+  pub none_buried : NoneBuried s.tree.rows s.buried
+
+module _ (s s' : Sheet) (path : List PathStep) (kind : RowKind) (d : ℕ) (m : HasMended s s' path kind (d + 2)) (whole : IsWhole s') where
+  abbrev r : Rooted
+  r = s'.tree
+
+  abbrev t : Tree
+  t = tree_as trees.Alloc s'.tree
+
+  abbrev x : Span
+  x = row_of t d m.index
+
+  abbrev y : Span
+  y = row_of t (suc d) m.index
+
+  abbrev above : PathStep
+  above = step_at path d
+
+  abbrev low_step : PathStep
+  low_step = step_at path (d + 1)
+
+  width_same : s'.tree.table.width ≡ s.tree.table.width
+  width_same = ap (λ (v : Sheet). v.tree.table.width) m.only
+
+  within' : m.index ≤ top_of t
+  within' = subst (λ (w : Width). m.index ≤ greatest w) (sym width_same) m.within
+
+  high : m.height ≡ d + suc m.done
+  high = let levels = m.levels_are in omega arith
+
+  above_is : step_at path d ≡ step_in r.table x m.index
+  above_is = ap (λ (l : List PathStep). step_at l d) m.steps ∙ is_step r m.height whole.words m.stands m.index d m.done within' high
+
+  low_is : step_at path (d + 1) ≡ step_in r.table y m.index
+  low_is =
+      let at : d + 1 ≡ suc d = omega arith in
+      ap (λ (l : List PathStep). step_at l (d + 1)) m.steps ∙ (ap (λ (n : ℕ). step_of t n m.index) at ∙ step t m.height m.stands m.index (suc d) within' (let h = high in omega arith))
+
+  y_row : IsRow t m.done y
+  y_row = lawful t m.height m.stands m.index (suc d) m.done within' (let h = high in omega arith)
+
+  x_row : IsRow t (suc m.done) x
+  x_row = lawful t m.height m.stands m.index d (suc m.done) within' high
+
+  y_low : y.last ≤ top_of t
+  y_low = let at = place t m.height m.stands m.index (suc d) within' (let h = high in omega arith) in let end = fills_le (y.last + 1) (top_of t + 1) at.back at.after in omega arith
+
+  abbrev slot : ℕ
+  slot = slot_for (spans_in r.table x) m.index
+
+  used : slot < length (spans_in r.table x)
+  used = is_used r m.height whole.words m.stands m.index d m.done within' high
+
+  slot_low : slot < slots_of r.table.width Gapped
+  slot_low = let few = row_most x_row.name in let u = used in omega arith
+
+  x_live : life_of s'.lives (row_in x.word) ≡ Live
+  x_live =
+      let times' = on_level_reached t m.height m.stands (suc m.done) x (on r m.height whole.words m.stands m.index d m.done within' high) in
+      let same = times_shared (is_row_of (row_in x.word)) s.tree.table s'.tree.table m.height (root_of (tree_as trees.Alloc s.tree)) m.spans in
+      let root_same : root_of t ≡ root_of (tree_as trees.Alloc s.tree) = (λ i. root_span (m.only i).tree.table (m.only i).tree.root ∷ []) in
+      let times₀ : 1 ≤ times (is_row_of (row_in x.word)) s.tree.table m.height (root_of (tree_as trees.Alloc s.tree)) =
+          subst (λ (n : ℕ). 1 ≤ n) (ap (times (is_row_of (row_in x.word)) s'.tree.table m.height) root_same ∙ same) times' in
+      let number = reached_number (tree_as trees.Alloc s.tree) m.height m.stood (row_in x.word) times₀ in
+      ap (λ (v : Sheet). life_of v.lives (row_in x.word)) m.only
+      ∙ (m.live (row_in x.word) number.0 number.1).1 (times_reached (tree_as trees.Alloc s.tree) m.height m.stood (row_in x.word) times₀)
+
+  x_kept : is_buried s'.buried (row_in x.word) ≡ false
+  x_kept =
+      ap (λ (v : Sheet). is_buried v.buried (row_in x.word)) m.only
+      ∙ m.none_buried (row_in x.word) (Names-named_kind x.word (kind_at trees.Alloc (suc m.done)) x_row.name.named).0.0
+        (subst (λ (n : ℕ). row_in x.word < first_row + n) (ap (λ (v : Sheet). v.tree.rows) m.only) x_row.name.in_table)
+
+  may_tend_it : (gap : ℕ) → MayTend s' (row_in x.word) (gap_column (slots_of r.table.width Gapped) slot) gap
+  may_tend_it gap = record {
+    at = record { first = (Names-named_kind x.word (kind_at trees.Alloc (suc m.done)) x_row.name.named).0.0; last = x_row.name.in_table; column = gap_inside r.table.width slot slot_low };
+    live = x_live;
+    kept = x_kept;
+    column = inr (record { depth = d; at = x; slot = slot; reached = reached t m.height m.stands m.index d within' (let h = high in omega arith); gapped = x_row.name.named; number = refl; used = used; column = refl });
+    alive = λ none. absurd (let some = some_slots_of r.table.width Gapped in omega arith);
+  }
+
+  pub may_mend : MayMend s' kind (step_at path d) (step_at path (d + 1))
+  may_mend =
+      subst (λ (p : PathStep × PathStep). MayMend s' kind p.0 p.1) (λ i. (sym above_is i, sym low_is i)) (record {
+        place = record { first = (Names-named_kind y.word (kind_at trees.Alloc m.done) y_row.name.named).0.0; last = y_row.name.in_table; column = some_columns r.table.width };
+        tells = subst (λ (k : RowKind). MayTell k r.table (step_in r.table y m.index)) (sym m.kind_is) (row_may_tell r m.done m.index y y_row y_low);
+        slot = slot_low;
+        tend = may_tend_it;
+      })
+
+  module _ (s'' : Sheet) (mended : IsMended s' s'' kind (step_at path d) (step_at path (d + 1))) where
+    abbrev gap : ℕ
+    gap = told_by kind r.table (step_at path (d + 1))
+
+    abbrev r' : Rooted
+    r' = with_word r (row_in x.word) (gap_column (slots_of r.table.width Gapped) slot) gap
+
+    stored : s'' ≡ record s' { tree = r'; reads = s''.reads }
+    stored = mended ∙ (λ i. record s' { tree = with_word r (above_is i).row (gap_column (slots_of r.table.width Gapped) (above_is i).slot) gap; reads = s''.reads })
+
+    tree_then : s''.tree ≡ r'
+    tree_then = ap (λ (v : Sheet). v.tree) stored
+
+    gap_is : gap ≡ longest_below r.table m.done (y ∷ [])
+    gap_is =
+        let at : d + 1 ≡ suc d = omega arith in
+        ap (λ (k : RowKind). told_by k r.table (step_at path (d + 1))) m.kind_is
+        ∙ (ap (told_by (kind_at trees.Alloc m.done) r.table) (ap (λ (l : List PathStep). step_at l (d + 1)) m.steps ∙ ap (λ (n : ℕ). step_of t n m.index) at)
+        ∙ told r m.height whole.words m.stands m.index d m.done within' high m.mended)
+
+    at_row : OnLevel r.table m.height (root_of t) (suc m.done) x
+    at_row = on r m.height whole.words m.stands m.index d m.done within' high
+
+    shared_then : Levels (Shared r.table r'.table) r.table m.height (root_of t)
+    shared_then = all_spans_stay r m.height m.done slot gap x whole.words m.stands at_row used
+
+    keeps : KeepsWords s.tree r' path
+    keeps row col low = ⊎_elim
+        (λ (same_row : row ≡ row_in x.word). ⊎_elim
+          (λ (same_col : col ≡ gap_column (slots_of r.table.width Gapped) slot). inr (record {
+            level = d;
+            above = (let many = ap length m.steps ∙ levels t m.height m.stands m.index within' in let h = high in omega arith);
+            row_is = same_row ∙ sym (ap (λ (p : PathStep). p.row) above_is);
+            col_is = same_col ∙ (λ i. gap_column (slots_of (width_same i) Gapped) (sym above_is i).slot);
+          }))
+          (λ (other : col ≡ gap_column (slots_of r.table.width Gapped) slot → ⊥). unchanged (λ e e'. other e'))
+          (cases_eq col (gap_column (slots_of r.table.width Gapped) slot)))
+        (λ (other : row ≡ row_in x.word → ⊥). unchanged (λ e e'. other e))
+        (cases_eq row (row_in x.word))
+      where
+        unchanged : (row ≡ row_in x.word → col ≡ gap_column (slots_of r.table.width Gapped) slot → ⊥) → (word_at r' row col ≡ word_at s.tree row col) ⊎ IsGapOn s.tree path row col
+        unchanged other = subst (λ (n : ℕ). (n ≡ word_at s.tree row col) ⊎ IsGapOn s.tree path row col)
+            (sym (other_word r.table.width r.table.words row col (row_in x.word) (gap_column (slots_of r.table.width Gapped) slot) gap (subst (λ (w : Width). col < columns w) (sym width_same) low) (gap_inside r.table.width slot slot_low) other))
+            (m.words row col low)
+
+    root_of_s : root_of t ≡ root_of (tree_as trees.Alloc s.tree)
+    root_of_s = λ i. root_span (m.only i).tree.table (m.only i).tree.root ∷ []
+
+    pub mended_one : HasMended s s'' path Gapped (d + 1)
+    mended_one = record {
+      index = m.index;
+      height = m.height;
+      done = suc m.done;
+      within = m.within;
+      low = omega arith;
+      levels_are = (let levels = m.levels_are in omega arith);
+      kind_is = refl;
+      stood = m.stood;
+      stands = subst (λ (v : Rooted). Stands (tree_as trees.Alloc v) m.height) (sym tree_then) (still_stands r m.height m.done slot gap x whole.words m.stands at_row used);
+      steps = subst (λ (v : Rooted). path ≡ path_in v.table v.root m.index) (sym tree_then)
+          (m.steps ∙ sym (paths_shared t (tree_as trees.Alloc r') m.index deepest m.height (top_row t) m.stands.low (root_leads t m.height m.stands m.index within') shared_then));
+      mended = subst (λ (v : Rooted). Levels (IsMendedUpTo m.index (suc m.done) (tree_as trees.Alloc v)) v.table m.height (root_of (tree_as trees.Alloc v))) (sym tree_then)
+          (mended_next r m.height whole.words m.stands m.index d m.done within' high m.mended gap gap_is);
+      only = only_next s s' s'' (row_in x.word) (gap_column (slots_of r.table.width Gapped) slot) gap m.only stored;
+      words = subst (λ (v : Rooted). KeepsWords s.tree v path) (sym tree_then) keeps;
+      spans = subst (λ (v : Rooted). Levels (Shared s.tree.table v.table) s.tree.table m.height (root_of (tree_as trees.Alloc s.tree))) (sym tree_then)
+          (shared_twice s.tree.table r.table r'.table m.height (root_of (tree_as trees.Alloc s.tree)) m.spans (subst (Levels (Shared r.table r'.table) r.table m.height) root_of_s shared_then));
+      live = m.live;
+      none_buried = m.none_buried;
+    }
+
+-- ---- the first and the last
+
+abbrev RootIs : Sheet → RowKind → Type 0
+RootIs s kind = named_kind s.tree.root ≡ Some kind
+
+not_gapped : (h : ℕ) → Some (kind_at trees.Range h) ≡ Some Gapped → ⊥
+not_gapped zero same = absurd (cc)
+not_gapped (suc h) same = absurd (cc)
+
+root_named : (kind : Kind) (s : Sheet) (h : ℕ) → Stands (tree_as kind s.tree) h → RootIs s (kind_at kind h)
+root_named kind s h stands = (levels_here (IsRow (tree_as kind s.tree)) s.tree.table h (root_of (tree_as kind s.tree)) stands.rows).0.name.named
+
+no_root : (s : Sheet) → s.tree.root ≡ 0 → RootIs s Gapped → ⊥
+no_root s empty gapped = let none : named_kind 0 ≡ Some Gapped = subst (λ (w : ℕ). named_kind w ≡ Some Gapped) empty gapped in absurd (cc)
+
+pub no_range : (s : Sheet) (path : List PathStep) → IsWay trees.Range s path → RootIs s Gapped → ⊥
+no_range s path way gapped = elim way.gaps [ inl empty ↦ no_root s empty gapped | inr full ↦ not_gapped full.0 (sym (root_named trees.Range s full.0 full.1) ∙ gapped) ]
+
+pub only_loaded : (s s' : Sheet) → s' ≡ loaded s → OnlyWords s s'
+only_loaded s s' is = subst (OnlyWords s) (sym is) refl
+
+pub words_loaded : (s s' : Sheet) (path : List PathStep) → s' ≡ loaded s → KeepsWords s.tree s'.tree path
+words_loaded s s' path is = λ row col low. inl (ap (λ (v : Sheet). word_at v.tree row col) is)
+
+shared_self : (kind : Kind) (s : Sheet) (h : ℕ) → Stands (tree_as kind s.tree) h → Levels (Shared s.tree.table s.tree.table) s.tree.table h (root_of (tree_as kind s.tree))
+shared_self kind s h stands = levels_map (IsRow (tree_as kind s.tree)) (Shared s.tree.table s.tree.table) s.tree.table (λ h x row. refl) h (root_of (tree_as kind s.tree)) stands.rows
+
+pub spans_loaded : (s s' : Sheet) (kind : Kind) (h : ℕ) → s' ≡ loaded s → Stands (tree_as kind s.tree) h → Levels (Shared s.tree.table s'.tree.table) s.tree.table h (root_of (tree_as kind s.tree))
+spans_loaded s s' kind h is stands = subst (λ (v : Sheet). Levels (Shared s.tree.table v.tree.table) s.tree.table h (root_of (tree_as kind s.tree))) (sym is) (shared_self kind s h stands)
+
+begin_alloc : (s s' : Sheet) (path : List PathStep) → IsWay trees.Alloc s path → RootIs s Gapped → s' ≡ loaded s → HasMended s s' path Leaf (length path)
+begin_alloc s s' path way gapped is = elim way.gaps [
+  | inl empty ↦ absurd (no_root s empty gapped)
+  | inr full ↦ (let many = ap length way.steps ∙ levels (tree_as trees.Alloc s.tree) full.0 full.1 way.index way.within in record {
+      index = way.index;
+      height = full.0;
+      done = 0;
+      within = way.within;
+      low = omega arith;
+      levels_are = omega arith;
+      kind_is = refl;
+      stood = full.1;
+      stands = subst (λ (v : Sheet). Stands (tree_as trees.Alloc v.tree) full.0) (sym is) full.1;
+      steps = subst (λ (v : Sheet). path ≡ path_in v.tree.table v.tree.root way.index) (sym is) way.steps;
+      mended = subst (λ (v : Sheet). Levels (IsMendedUpTo way.index 0 (tree_as trees.Alloc v.tree)) v.tree.table full.0 (root_of (tree_as trees.Alloc v.tree))) (sym is)
+          (begun_mending way.is_new way.index full.0 (tree_as trees.Alloc s.tree) full.2);
+      only = only_loaded s s' is;
+      words = words_loaded s s' path is;
+      spans = spans_loaded s s' trees.Alloc full.0 is full.1;
+      live = way.live;
+      none_buried = way.none_buried;
+    })
+]
+
+pub begin_way : (kind : Kind) (s s' : Sheet) (path : List PathStep) → IsWay kind s path → RootIs s Gapped → s' ≡ loaded s → HasMended s s' path Leaf (length path)
+begin_way trees.Range s s' path way gapped is = absurd (no_range s path way gapped)
+begin_way trees.Alloc s s' path way gapped is = begin_alloc s s' path way gapped is
+
+pub end_way : (kind : Kind) (s s' : Sheet) (path : List PathStep) (k : RowKind) (level : ℕ) → IsWay kind s path → RootIs s Gapped → HasMended s s' path k level → level ≤ 1 → HasGaps (tree_as kind s'.tree)
+end_way trees.Range s s' path k level way gapped m last = absurd (no_range s path way gapped)
+end_way trees.Alloc s s' path k level way gapped m last =
+    let low = m.low in let levels = m.levels_are in
+    let all : m.done ≡ m.height = omega arith in
+    all_mended s'.tree m.index m.height m.stands (subst (λ (n : ℕ). Levels (IsMendedUpTo m.index n (tree_as trees.Alloc s'.tree)) s'.tree.table m.height (root_of (tree_as trees.Alloc s'.tree))) all m.mended)
+
+pub end_spans : (kind : Kind) (s s' : Sheet) (path : List PathStep) (k : RowKind) (level h : ℕ) → HasMended s s' path k level → Stands (tree_as kind s.tree) h → Levels (Shared s.tree.table s'.tree.table) s.tree.table h (root_of (tree_as kind s.tree))
+end_spans kind s s' path k level h m stands =
+    let tall = height_by_depth (tree_as trees.Alloc s.tree) deepest m.height (root_span s.tree.table s.tree.root) m.stood.low m.stood.rows in
+    let tall' = height_by_depth (tree_as kind s.tree) deepest h (root_span s.tree.table s.tree.root) stands.low stands.rows in
+    let same : m.height ≡ h = omega arith in
+    subst (λ (n : ℕ). Levels (Shared s.tree.table s'.tree.table) s.tree.table n (root_of (tree_as kind s.tree))) same m.spans
+
+-- where the root has no gaps there is nothing to be mended
+range_law : (s : Sheet) (h : ℕ) (x : Span) → GapLaw (tree_as trees.Range s.tree) h x
+range_law s zero x = tt
+range_law s (suc h) x = tt
+
+plain_law : (kind : Kind) (s : Sheet) (h : ℕ) → Stands (tree_as kind s.tree) h → (RootIs s Gapped → ⊥) → Levels (GapLaw (tree_as kind s.tree)) s.tree.table h (root_of (tree_as kind s.tree))
+plain_law trees.Range s h stands plain = levels_map (IsRow (tree_as trees.Range s.tree)) (GapLaw (tree_as trees.Range s.tree)) s.tree.table (λ l x row. range_law s l x) h (root_of (tree_as trees.Range s.tree)) stands.rows
+plain_law trees.Alloc s zero stands plain = (tt, tt)
+plain_law trees.Alloc s (suc h) stands plain = absurd (plain (root_named trees.Alloc s (suc h) stands))
+
+pub nothing_to_mend : (kind : Kind) (s s' : Sheet) (path : List PathStep) → IsWay kind s path → (RootIs s Gapped → ⊥) → s' ≡ loaded s → HasGaps (tree_as kind s'.tree)
+nothing_to_mend kind s s' path way plain is = subst (λ (v : Sheet). HasGaps (tree_as kind v.tree)) (sym is) (elim way.gaps [
+  | inl empty ↦ inl empty
+  | inr full ↦ inr (full.0, full.1, plain_law kind s full.0 full.1 plain)
+])
+
+-- ---- by the number of rows that are left
+
+module _ (s s' : Sheet) (path : List PathStep) (kind : RowKind) (level : ℕ) (m : HasMended s s' path kind level) where
+  pub level_low : level ≤ length path
+  level_low =
+      let width : s'.tree.table.width ≡ s.tree.table.width = ap (λ (v : Sheet). v.tree.table.width) m.only in
+      let many = ap length m.steps ∙ levels (tree_as trees.Alloc s'.tree) m.height m.stands m.index (subst (λ (w : Width). m.index ≤ greatest w) (sym width) m.within) in
+      let levels = m.levels_are in
+      omega arith
+
+  module _ (more : 2 ≤ level) where
+    left : level ≡ level - 1 - 1 + 2
+    left = omega arith
+
+    lower : level - 1 - 1 + 1 ≡ level - 1
+    lower = omega arith
+
+    there : HasMended s s' path kind (level - 1 - 1 + 2)
+    there = subst (HasMended s s' path kind) left m
+
+    pub may_mend_at : IsWhole s' → MayMend s' kind (step_at path (level - 1 - 1)) (step_at path (level - 1))
+    may_mend_at whole = subst (λ (n : ℕ). MayMend s' kind (step_at path (level - 1 - 1)) (step_at path n)) lower (may_mend s s' path kind (level - 1 - 1) there whole)
+
+    pub mended_at : IsWhole s' → (s'' : Sheet) → IsMended s' s'' kind (step_at path (level - 1 - 1)) (step_at path (level - 1)) → HasMended s s'' path Gapped (level - 1)
+    mended_at whole s'' mended =
+        subst (HasMended s s'' path Gapped) lower
+        (mended_one s s' path kind (level - 1 - 1) there whole s'' (subst (λ (n : ℕ). IsMended s' s'' kind (step_at path (level - 1 - 1)) (step_at path n)) (sym lower) mended))

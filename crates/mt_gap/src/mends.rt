@@ -1,0 +1,118 @@
+//! Gap words mended on the way to an index.
+
+ghost use Rattle.std.specs.Prelude.{◌≡◌, ◌↔◌, ◌^◌, ◌<◌, ◌≤◌, ℕ, IsTrue, Some};
+ghost use Rattle.std.specs.List.{AllByRecursion};
+ghost use Rattle.mt_base.specs.declared.kinds.Kind.{Kind};
+ghost use Rattle.mt_base.specs.Width.{columns};
+ghost use Rattle.mt_layout.specs.declared.names.RowKind.{RowKind};
+ghost use Rattle.mt_layout.specs.declared.spans.Span.{Span};
+ghost use Rattle.mt_layout.specs.Rows.{named_kind};
+ghost use Rattle.mt_layout.specs.Spans.{hole_length, longest_in};
+ghost use Rattle.mt_rows.specs.Gaps.{HasGaps};
+ghost use Rattle.mt_rows.specs.Laws.{Stands};
+ghost use Rattle.mt_rows.specs.Levels.{Levels, SameSpans};
+ghost use Rattle.mt_rows.specs.Publish.{tree_as};
+ghost use Rattle.mt_rows.specs.Replacement.{root_of};
+ghost use Rattle.mt_rows.specs.Sheet.{IsPlace, ReadsUpTo, loaded};
+ghost use Rattle.mt_gap.specs.Children.{spans};
+ghost use Rattle.mt_gap.specs.Mending.{longest_gap, told_by, KeepsWords, OnlyWords, IsWay, MayTell, MayMend, IsMended};
+
+use crate::children::{Child, load_children};
+use mt_layout::{RowKind, Span, kind_of, slots};
+use mt_path::{Path, PathStep};
+use mt_rows::Rows;
+
+/// The number of indexes of a leaf's hole, and 0 of an entry.
+fn hole_length(span: Span) -> u64
+    requires order { span.first ≤ span.last }
+    requires fits { hole_length span < 2 ^ 64 }
+    ensures { result ≡ hole_length span }
+{
+    if span.word == 0 {
+        span.last - span.first + 1
+    } else {
+        0
+    }
+}
+
+/// The longest hole among a leaf's children.
+#[tactic(auto, using(crate::proofs::Tells::hole_next, crate::proofs::Tells::hole_fits, crate::proofs::Tells::no_more_holes, crate::proofs::Tells::child_rises))]
+fn longest_of(children: &[Child]) -> u64
+    requires fits { longest_in (spans children.now) < 2 ^ 64 }
+    requires rise { AllByRecursion (λ (x : Span). x.first ≤ x.last) (spans children.now) }
+    ensures { result ≡ longest_in (spans children.now) }
+{
+    let mut longest = 0;
+    for child in children {
+        longest = longest.max(hole_length(child.span));
+    }
+    longest
+}
+
+/// The greatest gap word among children.
+#[tactic(auto, using(crate::proofs::Tells::gap_next, crate::proofs::Tells::no_more_gaps))]
+fn greatest_of(children: &[Child]) -> u64
+    ensures { result ≡ longest_gap children.now }
+{
+    let mut greatest = 0;
+    for child in children {
+        greatest = greatest.max(child.gap);
+    }
+    greatest
+}
+
+/// What a row of a path tells the row above.
+#[tactic(auto, using(crate::proofs::Tells::leaf_fits, crate::proofs::Tells::leaf_rises, crate::proofs::Tells::leaf_tells))]
+fn told_by<R: Rows>(rows: &mut R, kind: RowKind, row: PathStep) -> u64
+    requires place { IsPlace (R.sheet rows.old).tree row.row 0 }
+    requires tells { MayTell kind (R.sheet rows.old).tree.table row }
+    ensures told { result ≡ told_by kind (R.sheet rows.old).tree.table row }
+    ensures reads { ReadsUpTo (columns (R.sheet rows.old).tree.table.width) (R.sheet rows.old) (R.sheet rows.new) }
+{
+    let children = load_children(rows, kind, row.row, row.min, row.max);
+    match kind {
+        RowKind::Leaf => longest_of(&children),
+        RowKind::Inner | RowKind::Gapped => greatest_of(&children),
+    }
+}
+
+/// Tends the gap word of the slot that a path takes in a row, by what the row below tells.
+#[tactic(auto, using(crate::proofs::Tells::may_tend, crate::proofs::Tells::is_mended))]
+fn mend_slot<R: Rows>(rows: &mut R, kind: RowKind, above: PathStep, below: PathStep)
+    requires { MayMend (R.sheet rows.old) kind above below }
+    ensures { IsMended (R.sheet rows.old) (R.sheet rows.new) kind above below }
+{
+    let gap = told_by(rows, kind, below);
+    let column = 2 * slots(rows.width(), RowKind::Gapped) + above.slot;
+    rows.tend(above.row, column, gap);
+}
+
+/// Whether the root is a row with gaps.
+fn has_gaps<R: Rows>(rows: &mut R) -> bool
+    ensures gapped { IsTrue result ↔ (named_kind (R.sheet rows.old).tree.root ≡ Some RowKind.Gapped) }
+    ensures rest { R.sheet rows.new ≡ loaded (R.sheet rows.old) }
+{
+    kind_of(rows.root()) == Some(RowKind::Gapped)
+}
+
+/// Mends the gap words on the way to an index, where all others are right: from the leaf's parent up to the root each is
+/// tended by what the row below tells. In a tree without gaps no row is loaded.
+pub fn mend_way<R: Rows>(rows: &mut R, path: &Path)
+    requires way { (kind : Kind) × IsWay kind (R.sheet rows.old) path.now.items }
+    ensures gaps { (kind : Kind) → IsWay kind (R.sheet rows.old) path.now.items → HasGaps (tree_as kind (R.sheet rows.new).tree) }
+    ensures rest { OnlyWords (R.sheet rows.old) (R.sheet rows.new) }
+    ensures words { KeepsWords (R.sheet rows.old).tree (R.sheet rows.new).tree path.now.items }
+    ensures spans { (kind : Kind) (h : ℕ) → Stands (tree_as kind (R.sheet rows.old).tree) h
+        → Levels (λ (_ : ℕ) (x : Span). SameSpans (R.sheet rows.old).tree.table (R.sheet rows.new).tree.table x) (R.sheet rows.old).tree.table h (root_of (tree_as kind (R.sheet rows.old).tree)) }
+{
+    if !has_gaps(rows) {
+        return;
+    }
+    let mut kind = RowKind::Leaf;
+    let mut level = path.len();
+    while 2 <= level {
+        level -= 1;
+        mend_slot(rows, kind, path[level - 1], path[level]);
+        kind = RowKind::Gapped;
+    }
+}
