@@ -48,7 +48,7 @@ module _ (t t' : Tree) (index : ℕ) where
   below_shared x k leads rows =
       let at = child_at t (suc k) x index leads in
       levels_front (Shared t.table t'.table) t.table k (below t.table x index ∷ []) at.back
-        (levels_back (Shared t.table t'.table) t.table k at.front (below t.table x index ∷ at.back) (subst (Levels (Shared t.table t'.table) t.table k) at.parts rows))
+      (levels_back (Shared t.table t'.table) t.table k at.front (below t.table x index ∷ at.back) (subst (Levels (Shared t.table t'.table) t.table k) at.parts rows))
 
   pub paths_shared : (depth k : ℕ) (x : Span) → k < depth → Leads t k x index → Levels (Shared t.table t'.table) t.table k (x ∷ []) → path_of t'.table depth x index ≡ path_of t.table depth x index
   paths_shared zero k x deep leads rows = absurd (omega arith)
@@ -62,7 +62,7 @@ module _ (t t' : Tree) (index : ℕ) where
       path_of_inner t'.table depth x index (kind_at t.kind (suc k)) named (is_inner t.kind)
       ∙ ((λ i. record { row = row_in x.word; slot = slot_for (rows.0.0 i) index; min = x.first; max = x.last } ∷ path_of t'.table depth (below_same i) index)
       ∙ (ap (λ (l : List PathStep). step_in t.table x index ∷ l)
-          (paths_shared depth k (below t.table x index) (omega arith) (child_leads t k x index leads) (below_shared x k leads (subst (Levels (Shared t.table t'.table) t.table k) (append-nil (spans_in t.table x)) rows.1)))
+      (paths_shared depth k (below t.table x index) (omega arith) (child_leads t k x index leads) (below_shared x k leads (subst (Levels (Shared t.table t'.table) t.table k) (append-nil (spans_in t.table x)) rows.1)))
       ∙ sym (path_of_inner t.table depth x index (kind_at t.kind (suc k)) named (is_inner t.kind))))
 
 -- ---- two stores one after the other
@@ -207,7 +207,7 @@ module _ (s s' : Sheet) (path : List PathStep) (kind : RowKind) (d : ℕ) (m : H
       let same = times_shared (is_row_of (row_in x.word)) s.tree.table s'.tree.table m.height (root_of (tree_as trees.Alloc s.tree)) m.spans in
       let root_same : root_of t ≡ root_of (tree_as trees.Alloc s.tree) = (λ i. root_span (m.only i).tree.table (m.only i).tree.root ∷ []) in
       let times₀ : 1 ≤ times (is_row_of (row_in x.word)) s.tree.table m.height (root_of (tree_as trees.Alloc s.tree)) =
-          subst (λ (n : ℕ). 1 ≤ n) (ap (times (is_row_of (row_in x.word)) s'.tree.table m.height) root_same ∙ same) times' in
+      subst (λ (n : ℕ). 1 ≤ n) (ap (times (is_row_of (row_in x.word)) s'.tree.table m.height) root_same ∙ same) times' in
       let number = reached_number (tree_as trees.Alloc s.tree) m.height m.stood (row_in x.word) times₀ in
       ap (λ (v : Sheet). life_of v.lives (row_in x.word)) m.only
       ∙ (m.live (row_in x.word) number.0 number.1).1 (times_reached (tree_as trees.Alloc s.tree) m.height m.stood (row_in x.word) times₀)
@@ -216,7 +216,7 @@ module _ (s s' : Sheet) (path : List PathStep) (kind : RowKind) (d : ℕ) (m : H
   x_kept =
       ap (λ (v : Sheet). is_buried v.buried (row_in x.word)) m.only
       ∙ m.none_buried (row_in x.word) (Names-named_kind x.word (kind_at trees.Alloc (suc m.done)) x_row.name.named).0.0
-        (subst (λ (n : ℕ). row_in x.word < first_row + n) (ap (λ (v : Sheet). v.tree.rows) m.only) x_row.name.in_table)
+      (subst (λ (n : ℕ). row_in x.word < first_row + n) (ap (λ (v : Sheet). v.tree.rows) m.only) x_row.name.in_table)
 
   may_tend_it : (gap : ℕ) → MayTend s' (row_in x.word) (gap_column (slots_of r.table.width Gapped) slot) gap
   may_tend_it gap = record {
@@ -265,14 +265,14 @@ module _ (s s' : Sheet) (path : List PathStep) (kind : RowKind) (d : ℕ) (m : H
     keeps : KeepsWords s.tree r' path
     keeps row col low = ⊎_elim
         (λ (same_row : row ≡ row_in x.word). ⊎_elim
-          (λ (same_col : col ≡ gap_column (slots_of r.table.width Gapped) slot). inr (record {
-            level = d;
-            above = (let many = ap length m.steps ∙ levels t m.height m.stands m.index within' in let h = high in omega arith);
-            row_is = same_row ∙ sym (ap (λ (p : PathStep). p.row) above_is);
-            col_is = same_col ∙ (λ i. gap_column (slots_of (width_same i) Gapped) (sym above_is i).slot);
-          }))
-          (λ (other : col ≡ gap_column (slots_of r.table.width Gapped) slot → ⊥). unchanged (λ e e'. other e'))
-          (cases_eq col (gap_column (slots_of r.table.width Gapped) slot)))
+        (λ (same_col : col ≡ gap_column (slots_of r.table.width Gapped) slot). inr (record {
+          level = d;
+          above = (let many = ap length m.steps ∙ levels t m.height m.stands m.index within' in let h = high in omega arith);
+          row_is = same_row ∙ sym (ap (λ (p : PathStep). p.row) above_is);
+          col_is = same_col ∙ (λ i. gap_column (slots_of (width_same i) Gapped) (sym above_is i).slot);
+        }))
+        (λ (other : col ≡ gap_column (slots_of r.table.width Gapped) slot → ⊥). unchanged (λ e e'. other e'))
+        (cases_eq col (gap_column (slots_of r.table.width Gapped) slot)))
         (λ (other : row ≡ row_in x.word → ⊥). unchanged (λ e e'. other e))
         (cases_eq row (row_in x.word))
       where
@@ -341,24 +341,24 @@ begin_alloc : (s s' : Sheet) (path : List PathStep) → IsWay trees.Alloc s path
 begin_alloc s s' path way gapped is = elim way.gaps [
   | inl empty ↦ absurd (no_root s empty gapped)
   | inr full ↦ (let many = ap length way.steps ∙ levels (tree_as trees.Alloc s.tree) full.0 full.1 way.index way.within in record {
-      index = way.index;
-      height = full.0;
-      done = 0;
-      within = way.within;
-      low = omega arith;
-      levels_are = omega arith;
-      kind_is = refl;
-      stood = full.1;
-      stands = subst (λ (v : Sheet). Stands (tree_as trees.Alloc v.tree) full.0) (sym is) full.1;
-      steps = subst (λ (v : Sheet). path ≡ path_in v.tree.table v.tree.root way.index) (sym is) way.steps;
-      mended = subst (λ (v : Sheet). Levels (IsMendedUpTo way.index 0 (tree_as trees.Alloc v.tree)) v.tree.table full.0 (root_of (tree_as trees.Alloc v.tree))) (sym is)
-          (begun_mending way.is_new way.index full.0 (tree_as trees.Alloc s.tree) full.2);
-      only = only_loaded s s' is;
-      words = words_loaded s s' path is;
-      spans = spans_loaded s s' trees.Alloc full.0 is full.1;
-      live = way.live;
-      none_buried = way.none_buried;
-    })
+    index = way.index;
+    height = full.0;
+    done = 0;
+    within = way.within;
+    low = omega arith;
+    levels_are = omega arith;
+    kind_is = refl;
+    stood = full.1;
+    stands = subst (λ (v : Sheet). Stands (tree_as trees.Alloc v.tree) full.0) (sym is) full.1;
+    steps = subst (λ (v : Sheet). path ≡ path_in v.tree.table v.tree.root way.index) (sym is) way.steps;
+    mended = subst (λ (v : Sheet). Levels (IsMendedUpTo way.index 0 (tree_as trees.Alloc v.tree)) v.tree.table full.0 (root_of (tree_as trees.Alloc v.tree))) (sym is)
+        (begun_mending way.is_new way.index full.0 (tree_as trees.Alloc s.tree) full.2);
+    only = only_loaded s s' is;
+    words = words_loaded s s' path is;
+    spans = spans_loaded s s' trees.Alloc full.0 is full.1;
+    live = way.live;
+    none_buried = way.none_buried;
+  })
 ]
 
 pub begin_way : (kind : Kind) (s s' : Sheet) (path : List PathStep) → IsWay kind s path → RootIs s Gapped → s' ≡ loaded s → HasMended s s' path Leaf (length path)

@@ -165,7 +165,7 @@ module _ (r : Rooted) (h : ℕ) (has : HasWords (tree_as trees.Alloc r)) (stands
     told =
         ap (told_by (kind_at trees.Alloc k) r.table) (step t h stands index (suc d) within (omega arith))
         ∙ child_tells r k index below_x (lawful t h stands index (suc d) k within (omega arith))
-          ((levels_at (IsMendedUpTo index k t) r.table h k (root_of t) below_x mended child_on).done_there (covers_it index below_x child_over.0 child_over.1) (omega arith))
+        ((levels_at (IsMendedUpTo index k t) r.table h k (root_of t) below_x mended child_on).done_there (covers_it index below_x child_over.0 child_over.1) (omega arith))
 
     module _ (gap : ℕ) (is : gap ≡ longest_below r.table k (below_x ∷ [])) where
       abbrev r' : Rooted
@@ -184,10 +184,10 @@ module _ (r : Rooted) (h : ℕ) (has : HasWords (tree_as trees.Alloc r)) (stands
       x_law =
           let at = child t h stands index d within (omega arith) in
           slot_mended r.table r'.table.words k index (row_in x.word) x.first (x.last + 1) (spans_in r.table x) below_x slot at at.slot
-            (λ j other. other_gap r k slot gap x has x_row is_used (gap_column (slots_of r.table.width Gapped) j) (λ e. other (omega arith)))
-            (this_gap r k slot gap x has x_row is_used ∙ is)
-            (levels_below (Shared r.table r'.table) r.table h k (root_of t) x shared on)
-            (levels_at (IsMendedUpTo index k t) r.table h (suc k) (root_of t) x mended on).beside
+          (λ j other. other_gap r k slot gap x has x_row is_used (gap_column (slots_of r.table.width Gapped) j) (λ e. other (omega arith)))
+          (this_gap r k slot gap x has x_row is_used ∙ is)
+          (levels_below (Shared r.table r'.table) r.table h k (root_of t) x shared on)
+          (levels_at (IsMendedUpTo index k t) r.table h (suc k) (root_of t) x mended on).beside
 
       x_mended : IsMendedUpTo index (suc k) t' (suc k) x
       x_mended =
@@ -205,18 +205,18 @@ module _ (r : Rooted) (h : ℕ) (has : HasWords (tree_as trees.Alloc r)) (stands
           let few = row_most (on_level_law t h stands (suc l) y at).name in
           let columns_stay = others_keep r k slot gap x has x_row is_used y other in
           let gaps_stay : (j : ℕ) → 0 ≤ j → j < 0 + length (spans_in r.table y) → column r'.table (row_in y.word) (gap_column (slots_of r.table.width Gapped) j) ≡ column r.table (row_in y.word) (gap_column (slots_of r.table.width Gapped) j)
-              = λ j from to. columns_stay (gap_column (slots_of r.table.width Gapped) j) (omega arith) (gap_inside r.table.width j (omega arith)) in
+          = λ j from to. columns_stay (gap_column (slots_of r.table.width Gapped) j) (omega arith) (gap_inside r.table.width j (omega arith)) in
           record {
             beside = subst (GapsFromBut index r'.table l (row_in y.word) 0) (sym same) (but_stays r.table r'.table.words l index (row_in y.word) 0 (spans_in r.table y) gaps_stay below_y was.beside);
             done_there = λ over low. subst (GapsFrom r'.table l (row_in y.word) 0) (sym same) (law_stays r.table r'.table.words l index (row_in y.word) 0 (spans_in r.table y) gaps_stay below_y
-              (was.done_there over (lower l y at other over low)));
+                (was.done_there over (lower l y at other over low)));
           }
         where
           lower : (l : ℕ) (y : Span) → OnLevel r.table h (root_of t) (suc l) y → row_in y.word ≢ row_in x.word → covers index y ≡ true → suc l ≤ suc k → suc l ≤ k
           lower l y at other over low = ⊎_elim
               (λ (same : l ≡ k). absurd (other (ap (λ (s : Span). row_in s.word) (one_over 0 (top_of t + 1) index (rows_at t d) y x (rows_fill t h stands d (omega arith))
-                (let height = at.height in let depth : at.depth ≡ d = omega arith in subst (λ (e : ℕ). IsOneOf y (rows_at t e)) depth at.one) on.one
-                (covers_is index y over).0 (covers_is index y over).1 x_over.0 x_over.1))))
+              (let height = at.height in let depth : at.depth ≡ d = omega arith in subst (λ (e : ℕ). IsOneOf y (rows_at t e)) depth at.one) on.one
+              (covers_is index y over).0 (covers_is index y over).1 x_over.0 x_over.1))))
               (λ (differs : l ≡ k → ⊥). below_it l differs low)
               (cases_eq l k)
             where
@@ -226,7 +226,7 @@ module _ (r : Rooted) (h : ℕ) (has : HasWords (tree_as trees.Alloc r)) (stands
       mended_each : (l : ℕ) (y : Span) → OnLevel r.table h (root_of t) l y → IsMendedUpTo index (suc k) t' l y
       mended_each l y at = ⊎_elim
           (λ (same : row_in y.word ≡ row_in x.word). (let one = one_place t h stands l (suc k) y x at on same in
-            subst (λ (p : ℕ × Span). IsMendedUpTo index (suc k) t' p.0 p.1) (λ i. (sym one.0 i, sym one.1 i)) x_mended))
+          subst (λ (p : ℕ × Span). IsMendedUpTo index (suc k) t' p.0 p.1) (λ i. (sym one.0 i, sym one.1 i)) x_mended))
           (λ (other : row_in y.word ≡ row_in x.word → ⊥). other_mended l y at other)
           (cases_eq (row_in y.word) (row_in x.word))
 

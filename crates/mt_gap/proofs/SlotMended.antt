@@ -94,12 +94,11 @@ module _ (t : Table) (words : List ℕ) (k index row : ℕ) where
       let from = at.from in let to = at.to in
       let behind = levels_back (Shared t t') t k at.front (child ∷ at.back) split in
       subst (GapsFrom t' k row 0) (sym parts) (gaps_join 0 slot at.front (child ∷ at.back) (omega arith)
-        (uncovered 0 at.front (none_before index lo child.first at.front at.before from) (λ j above below. others j (λ e. omega arith)) (levels_front (Shared t t') t k at.front (child ∷ at.back) split) (but_front 0 at.front (child ∷ at.back) but_all))
-        (
-          mended ∙ sym (longest_shared t t' k (child ∷ []) (levels_front (Shared t t') t k (child ∷ []) at.back behind)),
-          uncovered (slot + 1) at.back (none_behind index (child.last + 1) hi at.back at.after (omega arith)) (λ j above below. others j (λ e. omega arith)) (levels_back (Shared t t') t k (child ∷ []) at.back behind)
+      (uncovered 0 at.front (none_before index lo child.first at.front at.before from) (λ j above below. others j (λ e. omega arith)) (levels_front (Shared t t') t k at.front (child ∷ at.back) split) (but_front 0 at.front (child ∷ at.back) but_all)) (
+        mended ∙ sym (longest_shared t t' k (child ∷ []) (levels_front (Shared t t') t k (child ∷ []) at.back behind)),
+        uncovered (slot + 1) at.back (none_behind index (child.last + 1) hi at.back at.after (omega arith)) (λ j above below. others j (λ e. omega arith)) (levels_back (Shared t t') t k (child ∷ []) at.back behind)
             (but_back 0 slot at.front (child ∷ at.back) (omega arith) but_all).1,
-        ))
+      ))
 
 -- a row that does not cover the index has no slot that does
 pub law_beside : (t : Table) (k index row lo hi : ℕ) (xs : List Span) → Fills lo hi xs → ((hi ≤ index) ⊎ (index < lo)) → GapsFromBut index t k row 0 xs → GapsFrom t k row 0 xs

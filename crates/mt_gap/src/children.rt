@@ -52,7 +52,13 @@ fn load_item<R: Rows>(rows: &mut R, kind: RowKind, row: u32, max: u64, slot: u32
 }
 
 /// The children of a row of this kind that covers the indexes from `first` to `max`.
-pub(crate) fn load_children<R: Rows>(rows: &mut R, kind: RowKind, row: u32, first: u64, max: u64) -> Children
+pub(crate) fn load_children<R: Rows>(
+    rows: &mut R,
+    kind: RowKind,
+    row: u32,
+    first: u64,
+    max: u64,
+) -> Children
     requires row { IsPlace (R.sheet rows.old).tree row 0 }
     ensures items { result.items ≡ row_children (R.sheet rows.old).tree.table row kind first max }
     ensures reads { ReadsUpTo (columns (R.sheet rows.old).tree.table.width) (R.sheet rows.old) (R.sheet rows.new) }

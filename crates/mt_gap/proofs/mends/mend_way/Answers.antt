@@ -10,7 +10,7 @@ use Rattle.mt_gap.proofs.mends.mend_way.Goals as goal
 pub returns-then-not-has_gaps-clause-gaps : goal.returns-then-not-has_gaps-clause-gaps
 returns-then-not-has_gaps-clause-gaps g c kind way =
     nothing_to_mend kind (g.R.Rows.sheet c.args.rows.now) (g.R.Rows.sheet c.has_gaps.new.rows) c.args.path.now.items way
-      (λ gapped. let is : IsTrue c.has_gaps.result = c.has_gaps.ensures.gapped.1 gapped in absurd (search rules)) c.has_gaps.ensures.rest
+    (λ gapped. let is : IsTrue c.has_gaps.result = c.has_gaps.ensures.gapped.1 gapped in absurd (search rules)) c.has_gaps.ensures.rest
 
 pub returns-then-not-has_gaps-clause-spans : goal.returns-then-not-has_gaps-clause-spans
 returns-then-not-has_gaps-clause-spans g c kind h stands = spans_loaded (g.R.Rows.sheet c.args.rows.now) (g.R.Rows.sheet c.has_gaps.new.rows) kind h c.has_gaps.ensures.rest stands
@@ -36,14 +36,14 @@ bounds-deref-level-in-loop-level g c =
 pub mend_slot-requires : goal.mend_slot-requires
 mend_slot-requires g c =
     subst (λ (p : List PathStep × List PathStep). MayMend (g.R.Rows.sheet c.loop-level.rows) c.loop-level.kind (step_at p.0 (c.loop-level.level - 1 - 1)) (step_at p.1 (c.loop-level.level - 1)))
-      (λ i. (sym c.deref.ensures.0 i, sym c.deref-in-loop-level.ensures.0 i))
-      (may_mend_at (g.R.Rows.sheet c.args.rows.now) (g.R.Rows.sheet c.loop-level.rows) c.args.path.now.items c.loop-level.kind c.loop-level.level c.loop-level.invariant c.loop-level-test.true (g.met.R.Rows.whole c.loop-level.rows))
+    (λ i. (sym c.deref.ensures.0 i, sym c.deref-in-loop-level.ensures.0 i))
+    (may_mend_at (g.R.Rows.sheet c.args.rows.now) (g.R.Rows.sheet c.loop-level.rows) c.args.path.now.items c.loop-level.kind c.loop-level.level c.loop-level.invariant c.loop-level-test.true (g.met.R.Rows.whole c.loop-level.rows))
 
 pub loop-level-preserved : goal.loop-level-preserved
 loop-level-preserved g c =
     mended_at (g.R.Rows.sheet c.args.rows.now) (g.R.Rows.sheet c.loop-level.rows) c.args.path.now.items c.loop-level.kind c.loop-level.level c.loop-level.invariant c.loop-level-test.true (g.met.R.Rows.whole c.loop-level.rows) (g.R.Rows.sheet c.mend_slot.new.rows)
-      (subst (λ (p : List PathStep × List PathStep). IsMended (g.R.Rows.sheet c.loop-level.rows) (g.R.Rows.sheet c.mend_slot.new.rows) c.loop-level.kind (step_at p.0 (c.loop-level.level - 1 - 1)) (step_at p.1 (c.loop-level.level - 1)))
-        (λ i. (c.deref.ensures.0 i, c.deref-in-loop-level.ensures.0 i)) c.mend_slot.ensures)
+    (subst (λ (p : List PathStep × List PathStep). IsMended (g.R.Rows.sheet c.loop-level.rows) (g.R.Rows.sheet c.mend_slot.new.rows) c.loop-level.kind (step_at p.0 (c.loop-level.level - 1 - 1)) (step_at p.1 (c.loop-level.level - 1)))
+    (λ i. (c.deref.ensures.0 i, c.deref-in-loop-level.ensures.0 i)) c.mend_slot.ensures)
 
 pub returns-clause-gaps : goal.returns-clause-gaps
 returns-clause-gaps g c kind way =
