@@ -6,7 +6,7 @@ use Rattle.mt_base.specs.declared.kinds.Kind.{Kind}
 use Rattle.mt_base.specs.Width.{greatest_of}
 use Rattle.mt_base.specs.declared.ranges.Range.{Range}
 use Rattle.mt_base.specs.declared.calls.Call.{Call}
-use Rattle.mt_base.specs.declared.calls.Call.TheVariants.{Store, Insert, Erase, Alloc, Ralloc, Gap, Rgap, Clear}
+use Rattle.mt_base.specs.declared.calls.Call.TheVariants.{Store, StorePre, Insert, Erase, Alloc, Ralloc, Gap, Rgap, Clear}
 use Rattle.mt_base.specs.declared.replies.Reply.{Reply}
 use Rattle.mt_base.specs.Call.{acted, erased, placed, is_invalid, finds_room, is_no_area, is_bad_area}
 use Rattle.mt_base.specs.Entry.{reserved}
@@ -91,6 +91,10 @@ placed_is_map kind m size lo hi entry (Some s) valid ordered room =
 -- every call keeps a map a map
 pub acted_is_map : (kind : Kind) (m : List Range) (call : Call) → IsMap kind m → IsMap kind (acted kind m call).0
 acted_is_map kind m (Store first last entry) ordered =
+    cond_both (is_invalid kind first last entry) _ _ (λ (after : List Range × Reply). IsMap kind after.0)
+    (λ invalid. ordered)
+    (λ valid. stored_is_map kind m first last entry valid ordered)
+acted_is_map kind m (StorePre first last entry) ordered =
     cond_both (is_invalid kind first last entry) _ _ (λ (after : List Range × Reply). IsMap kind after.0)
     (λ invalid. ordered)
     (λ valid. stored_is_map kind m first last entry valid ordered)

@@ -1,9 +1,11 @@
 pub mod AreasWant
 pub mod CallsKeepOrder
 pub mod FreeAreas
+pub mod Goings
 pub mod Lists
 pub mod OneRange
 pub mod ReadingAfterStore
 pub mod SearchesWhole
+pub mod SharedCalls
 pub mod Shortages
 pub mod StoredOrder

@@ -6,7 +6,7 @@ use Rattle.mt_base.specs.declared.ranges.Range.{Range}
 use Rattle.mt_base.specs.declared.kinds.Kind.{Kind}
 use Rattle.mt_base.specs.declared.kinds.Kind.TheVariants as kinds
 use Rattle.mt_base.specs.declared.calls.Call.{Call}
-use Rattle.mt_base.specs.declared.calls.Call.TheVariants.{Store, Insert, Erase, Alloc, Ralloc, Gap, Rgap, Clear}
+use Rattle.mt_base.specs.declared.calls.Call.TheVariants.{Store, StorePre, Insert, Erase, Alloc, Ralloc, Gap, Rgap, Clear}
 use Rattle.mt_base.specs.declared.calls.Query.{Query}
 use Rattle.mt_base.specs.declared.calls.Query.TheVariants.{Load, Find, Next, Prev, Rfind}
 use Rattle.mt_base.specs.declared.replies.Reply.{Reply}
@@ -52,6 +52,7 @@ found (Some start) = reply.Start start
 -- the map and the reply after a call on a tree of this kind
 abbrev pub acted : Kind → List Range → Call → List Range × Reply
 acted kind m (Store first last entry) = if is_invalid kind first last entry then (m, reply.Invalid) else (over m first last entry, reply.Ok)
+acted kind m (StorePre first last entry) = if is_invalid kind first last entry then (m, reply.Invalid) else (over m first last entry, reply.Ok)
 acted kind m (Insert first last entry) =
     if is_invalid kind first last entry || (entry == 0) then (m, reply.Invalid)
     else (if is_held m first last then (m, reply.Exists)

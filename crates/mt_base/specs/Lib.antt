@@ -5,5 +5,6 @@ pub mod History
 pub mod Holes
 pub mod Map
 pub mod Nodes
+pub mod Passes
 pub mod Text
 pub mod Width

@@ -5,13 +5,13 @@ use Rattle.std.specs.Option.{option_map}
 use Rattle.mt_base.specs.declared.ranges.Range.{Range}
 use Rattle.mt_base.specs.declared.kinds.Kind.{Kind}
 use Rattle.mt_base.specs.declared.calls.Call.{Call}
-use Rattle.mt_base.specs.declared.calls.Call.TheVariants.{Store, Insert, Erase, Alloc, Ralloc, Gap, Rgap, Clear}
+use Rattle.mt_base.specs.declared.calls.Call.TheVariants.{Store, StorePre, Insert, Erase, Alloc, Ralloc, Gap, Rgap, Clear}
 use Rattle.mt_base.specs.declared.replies.Reply.{Reply}
 use Rattle.mt_base.specs.declared.replies.Reply.TheVariants.{NoNodes}
 use Rattle.mt_base.specs.declared.replies.Shortage.{Shortage}
 use Rattle.mt_base.specs.Map.{holding}
 use Rattle.mt_base.specs.Width.{deepest, most_taken}
-use Rattle.mt_base.specs.Call.{acted}
+use Rattle.mt_base.specs.Call.{acted, is_invalid}
 
 -- the range is of exactly these indexes
 abbrev pub is_exactly : ℕ → ℕ → Option Range → Bool
@@ -26,9 +26,11 @@ is_exact_store m first last entry = not (entry == 0) && is_exactly first last (h
 abbrev pub Changes : Kind → List Range → Call → Type 0
 Changes kind m call = (acted kind m call).0 ≢ m
 
--- The call wants rows: it changes the map, and by more than one range's entry. A clear wants none, nor does a search alone.
+-- The call wants rows: it changes the map, and by more than one range's entry. A clear wants none, nor does a search alone. A
+-- store that is to have its rows at hand wants them whatever it changes, where it is not invalid.
 abbrev pub Wants : Kind → List Range → Call → Type 0
 Wants kind m (Store first last entry) = Changes kind m (Store first last entry) × (is_exact_store m first last entry ≡ false)
+Wants kind m (StorePre first last entry) = is_invalid kind first last entry ≡ false
 Wants kind m (Insert first last entry) = Changes kind m (Insert first last entry)
 Wants kind m (Erase index) = Changes kind m (Erase index)
 Wants kind m (Alloc size min max entry) = Changes kind m (Alloc size min max entry)

@@ -14,6 +14,13 @@ pub enum Call {
         last: u64,
         entry: u64,
     },
+    /// Stores as [`Call::Store`] does. It wants the rows of a store that changes nodes, whatever it comes to, so that a caller
+    /// can have them at hand before.
+    StorePre {
+        first: u64,
+        last: u64,
+        entry: u64,
+    },
     /// Stores `entry` over `first` to `last` where no range holds any of these indexes.
     Insert {
         first: u64,

@@ -1,10 +1,12 @@
 //! What holds of every map of ranges. Each law is the contract of a function that does nothing.
 
-ghost use Rattle.std.specs.Prelude.{◌≡◌, ◌↔◌, ◌<◌, ◌≤◌, ◌+◌, ◌-◌, ◌*◌, ◌/◌, ◌^◌, ◌==◌, ℕ, Bool, true, List, [], ◌∷◌, length, option_map, slice_get, IsTrue, if◌then◌else◌};
+ghost use Rattle.std.specs.Prelude.{◌≡◌, ◌↔◌, ◌<◌, ◌≤◌, ◌+◌, ◌-◌, ◌*◌, ◌/◌, ◌^◌, ◌==◌, ℕ, Bool, Option, true, List, [], ◌∷◌, length, option_map, slice_get, IsPermutation, IsTrue, flat_map, if◌then◌else◌};
+ghost use Rattle.std.specs.List.{range_with_len};
 ghost use Rattle.mt_base.specs.declared.kinds.Kind.{Kind};
 ghost use Rattle.mt_base.specs.declared.kinds.Kind.TheVariants as kinds;
 ghost use Rattle.mt_base.specs.declared.ranges.Range.{Range};
 ghost use Rattle.mt_base.specs.declared.calls.Call.{Call};
+ghost use Rattle.mt_base.specs.declared.calls.Query.{Query};
 ghost use Rattle.mt_base.specs.declared.replies.Reply.{Reply};
 ghost use Rattle.mt_base.specs.declared.replies.Shortage.{Shortage};
 ghost use Rattle.mt_base.specs.Call.{acted};
@@ -12,6 +14,7 @@ ghost use Rattle.mt_base.specs.History.{Record, History, IsLegal, map_at, limits
 ghost use Rattle.mt_base.specs.Holes.{IsRoom, low, high};
 ghost use Rattle.mt_base.specs.Map.{IsMap, holds, holding, over};
 ghost use Rattle.mt_base.specs.Nodes.{Limits, IsShort, Wants};
+ghost use Rattle.mt_base.specs.Passes.{Pass, Grows, IsSettled, Learned, Read, Saw, Wrote};
 ghost use Rattle.mt_base.specs.Width.{greatest_of, most_rows, most_taken};
 
 /// A store keeps a map a map.
@@ -102,4 +105,26 @@ pub fn a_shortage_has_few_rows()
     ensures taken { (l : Limits) (m : List Range) (s : Shortage) → IsShort l m s → l.rows < most_taken * (l.ended + 1) + l.opened }
     ensures many { (h : History) (ended : ℕ) (m : List Range) (s : Shortage) → h.rows ≡ most_rows → h.opening ≡ [] → IsShort (limits_after h ended) m s → 2339 ≤ ended }
     ensures answered { (h : History) (k : ℕ) (r : Record) → h.rows ≡ most_rows → h.opening ≡ [] → IsLegal h → k < 2339 → slice_get h.records k ≡ Some r → r.reply ≡ (acted h.kind (map_at h k) r.call).1 }
+{}
+
+/// The numbers of the calls of passes that are settled are those of the tree's calls, each once.
+#[tactic(auto, using(crate::proofs::SharedCalls::each_once))]
+pub fn settled_passes_share_the_calls()
+    ensures { (tree : History) (passes : List Pass) → IsSettled tree passes → IsPermutation (range_with_len 1 (length tree.records)) (flat_map (λ q. q.mine) passes) }
+{}
+
+/// A pass that is told of others, by the lock or by a note, makes no call by that.
+#[tactic(auto, using(crate::proofs::Goings::saw_grows, crate::proofs::Goings::learned_grows, crate::proofs::Goings::grows_on))]
+pub fn a_pass_that_is_told_of_others_makes_no_call()
+    ensures saw { (tree : History) (p q : Pass) → Saw tree p q → Grows p q }
+    ensures learned { (tree : History) (p : Pass) (told : List Record) (q : Pass) → Learned tree p told q → Grows p q }
+    ensures on { (p q r : Pass) → Grows p q → Grows q r → Grows p r }
+{}
+
+/// A pass that sees the whole history and then makes a call has made this call from where it was before; and so a read, whatever
+/// it came to know before.
+#[tactic(auto, using(crate::proofs::Goings::saw_wrote, crate::proofs::Goings::grew_read))]
+pub fn what_a_pass_saw_before_is_part_of_a_call()
+    ensures wrote { (tree : History) (p q : Pass) (number : ℕ) (call : Call) (reply : Reply) (r : Pass) → Saw tree p q → Wrote tree q number call reply r → Wrote tree p number call reply r }
+    ensures read { (tree : History) (p q : Pass) (lo hi k : ℕ) (query : Query) (value : Option Range) (r : Pass) → Grows p q → Read tree q lo hi k query value r → Read tree p lo hi k query value r }
 {}
