@@ -12,18 +12,12 @@ ghost use Rattle.mt_check.specs.Reads.{holds_items};
 
 use arrayvec::ArrayVec;
 use mt_base::{Width, cols};
-use mt_layout::{Item, Layout, RowKind, Span};
+use mt_layout::{Item, Layout, MOST_SLOTS, MOST_WORDS, RowKind, Span};
 use mt_rows::Rows;
-
-/// A row has so many words at the most.
-const MOST_WORDS: usize = 32;
-
-/// A row has so many items at the most.
-const MOST_ITEMS: usize = 16;
 
 pub(crate) type Words = ArrayVec<u64, MOST_WORDS>;
 
-pub(crate) type Items = ArrayVec<Item, MOST_ITEMS>;
+pub(crate) type Items = ArrayVec<Item, MOST_SLOTS>;
 
 /// The words of a row.
 pub(crate) fn load_words<R: Rows>(rows: &mut R, row: u32) -> Words

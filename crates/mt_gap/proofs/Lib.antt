@@ -12,3 +12,6 @@ pub mod SlotMended
 pub mod Mending
 pub mod Tells
 pub mod MendWay
+pub mod SlotsRight
+pub mod MendGaps
+pub mod TestTrees

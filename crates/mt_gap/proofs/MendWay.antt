@@ -1,34 +1,33 @@
 -- Gap words mended on the way to an index: what holds from one row to the next.
-use Rattle.std.proofs.Common.{◌≡◌, ◌≢◌, ℕ, zero, suc, ◌+◌, ◌-◌, ◌*◌, ◌^◌, ◌<◌, ◌≤◌, ◌==◌, List, [], ◌∷◌, ◌++◌, Bool, true, false, Option, Some, None, max, length, refl, sym, ap, ◌∙◌, subst, ⊎_elim, inl, inr, arith, append-nil, get_or-set_other}
+use Rattle.std.proofs.Common.{◌≡◌, ◌≢◌, ℕ, zero, suc, ◌+◌, ◌-◌, ◌*◌, ◌^◌, ◌<◌, ◌≤◌, ◌==◌, List, [], ◌∷◌, false, Some, length, refl, sym, ap, ◌∙◌, subst, ⊎_elim, inl, inr, arith, append-nil, get_or-set_other}
 use Rattle.std.specs.Prelude.{◌⊎◌, slice_index, slice_set}
 use Rattle.std.specs.List.{AllByRecursion, flat_map}
 use Rattle.std.proofs.lemmas.Bool.{cases_Bool, cases_eq}
 use Rattle.mt_base.specs.declared.kinds.Kind.{Kind}
 use Rattle.mt_base.specs.declared.kinds.Kind.TheVariants as trees
-use Rattle.mt_base.specs.declared.ranges.Range.{Range}
 use Rattle.mt_base.specs.declared.widths.Width.{Width}
 use Rattle.mt_base.specs.declared.widths.Width.TheVariants.{Long}
 use Rattle.mt_base.specs.Width.{columns, deepest, greatest, first_row}
 use Rattle.mt_layout.specs.declared.names.RowKind.{RowKind}
-use Rattle.mt_layout.specs.declared.names.RowKind.TheVariants.{Leaf, Inner, Gapped}
+use Rattle.mt_layout.specs.declared.names.RowKind.TheVariants.{Leaf, Gapped}
 use Rattle.mt_layout.specs.declared.spans.Span.{Span}
 use Rattle.mt_layout.specs.Columns.{gap_column}
 use Rattle.mt_layout.specs.Rows.{row_in, named_kind}
 use Rattle.mt_layout.specs.Sizes.{slots_of}
-use Rattle.mt_layout.specs.Spans.{Fills, hole_length, leaf_range, longest_in}
+use Rattle.mt_layout.specs.Spans.{Fills, leaf_range, longest_in}
 use Rattle.mt_layout.proofs.NameLaws.{Names-named_kind}
 use Rattle.mt_layout.proofs.RowSizes.{some_columns, some_slots_of}
 use Rattle.mt_layout.proofs.SpanLists.{fills_le}
 use Rattle.mt_path.specs.declared.paths.PathStep.{PathStep}
-use Rattle.mt_path.specs.Paths.{At, step_in, slot_for, step_at, span_at, path_in, path_of, below}
+use Rattle.mt_path.specs.Paths.{step_in, slot_for, step_at, span_at, path_in, path_of, below}
 use Rattle.mt_path.proofs.Steps.{Leads, is_inner, path_of_leaf, path_of_inner, row_here, child_at, child_leads}
 use Rattle.mt_path.proofs.TreePaths.{top_row, row_of, step_of, levels, step, place, lawful, reached, root_leads}
-use Rattle.mt_rows.specs.Gaps.{HasGapsBut, HasGaps}
-use Rattle.mt_rows.specs.Laws.{Tree, HasWords, IsRow, Stands, GapLaw, kind_at, longest_below, top_of}
+use Rattle.mt_rows.specs.Gaps.{HasGaps}
+use Rattle.mt_rows.specs.Laws.{Tree, IsRow, Stands, GapLaw, kind_at, longest_below, top_of}
 use Rattle.mt_rows.specs.Levels.{expand, Levels, SameSpans, times, is_row_of}
-use Rattle.mt_rows.specs.Publish.{tree_as, IsReached, LiveAreReached, NoneBuried}
+use Rattle.mt_rows.specs.Publish.{tree_as, LiveAreReached, NoneBuried}
 use Rattle.mt_rows.specs.Replacement.{root_of}
-use Rattle.mt_rows.specs.Sheet.{Rooted, Sheet, IsPlace, IsGapOf, MayTend, IsWhole, ReadsUpTo, OnlyReads, life_of, is_buried, with_word, word_at, loaded}
+use Rattle.mt_rows.specs.Sheet.{Rooted, Sheet, MayTend, IsWhole, life_of, is_buried, with_word, word_at, loaded}
 use Rattle.mt_rows.specs.Spans.{Table, base_of, root_span, spans_in, spans_by, row_spans}
 use Rattle.mt_rows.proofs.FewSpans.{row_most}
 use Rattle.mt_rows.proofs.GapStore.{gap_inside, all_spans_stay, still_stands}
@@ -36,7 +35,6 @@ use Rattle.mt_rows.proofs.Depth.{height_by_depth}
 use Rattle.mt_rows.proofs.Lists.{levels_here, levels_map}
 use Rattle.mt_rows.proofs.Joins.{Shared, expand_shared, levels_front, levels_back, times_shared}
 use Rattle.mt_rows.proofs.Reached.{OnLevel, on_level_reached, times_reached, reached_number}
-use Rattle.mt_rows.specs.declared.rows.Life.{Life}
 use Rattle.mt_rows.specs.declared.rows.Life.TheVariants.{Live}
 use Rattle.mt_gap.specs.Mending.{told_by, IsMendedUpTo, IsGapOn, KeepsWords, OnlyWords, IsWay, MayTell, MayMend, IsMended}
 use Rattle.mt_gap.proofs.Mending.{on, is_step, is_used, told, mended_next, begun_mending, all_mended}
@@ -67,7 +65,7 @@ module _ (t t' : Tree) (index : ℕ) where
 
 -- ---- two stores one after the other
 
-shared_twice : (t t' t'' : Table) (h : ℕ) (xs : List Span) → Levels (Shared t t') t h xs → Levels (Shared t' t'') t' h xs → Levels (Shared t t'') t h xs
+pub shared_twice : (t t' t'' : Table) (h : ℕ) (xs : List Span) → Levels (Shared t t') t h xs → Levels (Shared t' t'') t' h xs → Levels (Shared t t'') t h xs
 shared_twice t t' t'' zero xs first second = both xs first second
   where
     both : (ys : List Span) → AllByRecursion (SameSpans t t') ys → AllByRecursion (SameSpans t' t'') ys → AllByRecursion (SameSpans t t'') ys
@@ -79,14 +77,14 @@ shared_twice t t' t'' (suc h) xs first second = (both xs first.0 second.0, share
     both [] first second = tt
     both (y ∷ ys) first second = (second.0 ∙ first.0, both ys first.1 second.1)
 
-only_next : (s s' s'' : Sheet) (row col word : ℕ) → OnlyWords s s' → s'' ≡ record s' { tree = with_word s'.tree row col word; reads = s''.reads } → OnlyWords s s''
+pub only_next : (s s' s'' : Sheet) (row col word : ℕ) → OnlyWords s s' → s'' ≡ record s' { tree = with_word s'.tree row col word; reads = s''.reads } → OnlyWords s s''
 only_next s s' s'' row col word only stored =
     let words = slice_set s'.tree.table.words (base_of s'.tree.table row + col) word in
     stored
     ∙ ((λ i. record (only i) { tree = record { rows = (only i).tree.rows; table = record { width = (only i).tree.table.width; words = words }; root = (only i).tree.root }; reads = s''.reads })
     ∙ ap (λ (ws : List ℕ). record s { tree = record { rows = s.tree.rows; table = record { width = s.tree.table.width; words = ws }; root = s.tree.root }; reads = s''.reads }) (sym (ap (λ (r : Sheet). r.tree.table.words) stored)))
 
-other_word : (width : Width) (words : List ℕ) (row col arow acol word : ℕ) → col < columns width → acol < columns width → (row ≡ arow → col ≡ acol → ⊥)
+pub other_word : (width : Width) (words : List ℕ) (row col arow acol word : ℕ) → col < columns width → acol < columns width → (row ≡ arow → col ≡ acol → ⊥)
     → slice_index (slice_set words (columns width * arow + acol) word) (columns width * row + col) ≡ slice_index words (columns width * row + col)
 other_word Long words row col arow acol word low alow other = get_or-set_other words (32 * arow + acol) (32 * row + col) word 0 (λ e. (let same : row ≡ arow = omega arith in let at : col ≡ acol = omega arith in other same at))
 
@@ -119,7 +117,7 @@ all_rise lo hi (x ∷ xs) fills = let begins = fills.0 in let order = fills.1 in
 greatest_fits : (width : Width) → greatest width < 2 ^ 64
 greatest_fits Long = omega arith
 
-row_may_tell : (r : Rooted) (k index : ℕ) (c : Span) → IsRow (tree_as trees.Alloc r) k c → c.last ≤ greatest r.table.width → MayTell (kind_at trees.Alloc k) r.table (step_in r.table c index)
+pub row_may_tell : (r : Rooted) (k index : ℕ) (c : Span) → IsRow (tree_as trees.Alloc r) k c → c.last ≤ greatest r.table.width → MayTell (kind_at trees.Alloc k) r.table (step_in r.table c index)
 row_may_tell r zero index c row low =
     let is : spans_in r.table c ≡ row_spans r.table (row_in c.word) Leaf c.first c.last = ap (λ k. spans_by r.table k c) row.name.named in
     let less = longest_less c.first (c.last + 1) (spans_in r.table c) row.pivots.fills row.holes.some in
@@ -309,17 +307,17 @@ module _ (s s' : Sheet) (path : List PathStep) (kind : RowKind) (d : ℕ) (m : H
 
 -- ---- the first and the last
 
-abbrev RootIs : Sheet → RowKind → Type 0
+abbrev pub RootIs : Sheet → RowKind → Type 0
 RootIs s kind = named_kind s.tree.root ≡ Some kind
 
-not_gapped : (h : ℕ) → Some (kind_at trees.Range h) ≡ Some Gapped → ⊥
+pub not_gapped : (h : ℕ) → Some (kind_at trees.Range h) ≡ Some Gapped → ⊥
 not_gapped zero same = absurd (cc)
 not_gapped (suc h) same = absurd (cc)
 
-root_named : (kind : Kind) (s : Sheet) (h : ℕ) → Stands (tree_as kind s.tree) h → RootIs s (kind_at kind h)
+pub root_named : (kind : Kind) (s : Sheet) (h : ℕ) → Stands (tree_as kind s.tree) h → RootIs s (kind_at kind h)
 root_named kind s h stands = (levels_here (IsRow (tree_as kind s.tree)) s.tree.table h (root_of (tree_as kind s.tree)) stands.rows).0.name.named
 
-no_root : (s : Sheet) → s.tree.root ≡ 0 → RootIs s Gapped → ⊥
+pub no_root : (s : Sheet) → s.tree.root ≡ 0 → RootIs s Gapped → ⊥
 no_root s empty gapped = let none : named_kind 0 ≡ Some Gapped = subst (λ (w : ℕ). named_kind w ≡ Some Gapped) empty gapped in absurd (cc)
 
 pub no_range : (s : Sheet) (path : List PathStep) → IsWay trees.Range s path → RootIs s Gapped → ⊥
@@ -331,7 +329,7 @@ only_loaded s s' is = subst (OnlyWords s) (sym is) refl
 pub words_loaded : (s s' : Sheet) (path : List PathStep) → s' ≡ loaded s → KeepsWords s.tree s'.tree path
 words_loaded s s' path is = λ row col low. inl (ap (λ (v : Sheet). word_at v.tree row col) is)
 
-shared_self : (kind : Kind) (s : Sheet) (h : ℕ) → Stands (tree_as kind s.tree) h → Levels (Shared s.tree.table s.tree.table) s.tree.table h (root_of (tree_as kind s.tree))
+pub shared_self : (kind : Kind) (s : Sheet) (h : ℕ) → Stands (tree_as kind s.tree) h → Levels (Shared s.tree.table s.tree.table) s.tree.table h (root_of (tree_as kind s.tree))
 shared_self kind s h stands = levels_map (IsRow (tree_as kind s.tree)) (Shared s.tree.table s.tree.table) s.tree.table (λ h x row. refl) h (root_of (tree_as kind s.tree)) stands.rows
 
 pub spans_loaded : (s s' : Sheet) (kind : Kind) (h : ℕ) → s' ≡ loaded s → Stands (tree_as kind s.tree) h → Levels (Shared s.tree.table s'.tree.table) s.tree.table h (root_of (tree_as kind s.tree))
@@ -380,11 +378,11 @@ end_spans kind s s' path k level h m stands =
     subst (λ (n : ℕ). Levels (Shared s.tree.table s'.tree.table) s.tree.table n (root_of (tree_as kind s.tree))) same m.spans
 
 -- where the root has no gaps there is nothing to be mended
-range_law : (s : Sheet) (h : ℕ) (x : Span) → GapLaw (tree_as trees.Range s.tree) h x
+pub range_law : (s : Sheet) (h : ℕ) (x : Span) → GapLaw (tree_as trees.Range s.tree) h x
 range_law s zero x = tt
 range_law s (suc h) x = tt
 
-plain_law : (kind : Kind) (s : Sheet) (h : ℕ) → Stands (tree_as kind s.tree) h → (RootIs s Gapped → ⊥) → Levels (GapLaw (tree_as kind s.tree)) s.tree.table h (root_of (tree_as kind s.tree))
+pub plain_law : (kind : Kind) (s : Sheet) (h : ℕ) → Stands (tree_as kind s.tree) h → (RootIs s Gapped → ⊥) → Levels (GapLaw (tree_as kind s.tree)) s.tree.table h (root_of (tree_as kind s.tree))
 plain_law trees.Range s h stands plain = levels_map (IsRow (tree_as trees.Range s.tree)) (GapLaw (tree_as trees.Range s.tree)) s.tree.table (λ l x row. range_law s l x) h (root_of (tree_as trees.Range s.tree)) stands.rows
 plain_law trees.Alloc s zero stands plain = (tt, tt)
 plain_law trees.Alloc s (suc h) stands plain = absurd (plain (root_named trees.Alloc s (suc h) stands))

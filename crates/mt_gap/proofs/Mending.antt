@@ -1,31 +1,28 @@
 -- Gap words mended from the leaf of an index upwards, one row a level.
-use Rattle.std.proofs.Common.{◌≡◌, ◌≢◌, ℕ, zero, suc, ◌+◌, ◌-◌, ◌<◌, ◌≤◌, List, [], ◌∷◌, ◌++◌, Bool, true, false, Some, nat_le, max, length, refl, sym, ap, ◌∙◌, subst, ⊎_elim, inl, inr, arith, append-nil}
-use Rattle.std.specs.Prelude.{slice_index, ◌⊎◌}
+use Rattle.std.proofs.Common.{◌≡◌, ◌≢◌, ℕ, zero, suc, ◌+◌, ◌<◌, ◌≤◌, List, [], ◌∷◌, ◌++◌, Bool, true, false, nat_le, max, length, refl, sym, ap, ◌∙◌, subst, ⊎_elim, inl, inr, arith, append-nil}
+use Rattle.std.specs.Prelude.{◌⊎◌}
 use Rattle.std.specs.List.{AllByRecursion}
 use Rattle.std.proofs.lemmas.Bool.{cases_Bool, cases_eq, leb-false, leb-true, le-leb}
-use Rattle.mt_base.specs.declared.kinds.Kind.{Kind}
 use Rattle.mt_base.specs.declared.kinds.Kind.TheVariants as trees
-use Rattle.mt_base.specs.Width.{columns}
-use Rattle.mt_layout.specs.declared.names.RowKind.{RowKind}
-use Rattle.mt_layout.specs.declared.names.RowKind.TheVariants.{Leaf, Gapped}
+use Rattle.mt_layout.specs.declared.names.RowKind.TheVariants.{Gapped}
 use Rattle.mt_layout.specs.declared.spans.Span.{Span}
 use Rattle.mt_layout.specs.Columns.{gap_column}
-use Rattle.mt_layout.specs.Rows.{row_in, named_kind}
+use Rattle.mt_layout.specs.Rows.{row_in}
 use Rattle.mt_layout.specs.Sizes.{slots_of}
 use Rattle.mt_layout.specs.Spans.{Fills, longest_in}
 use Rattle.mt_layout.proofs.SpanLists.{fills_le}
 use Rattle.mt_path.specs.declared.paths.PathStep.{PathStep}
-use Rattle.mt_path.specs.Paths.{At, step_in, slot_for, step_at, path_in, below}
-use Rattle.mt_path.proofs.TreePaths.{top_row, rows_at, row_of, step_of, levels, step, place, lawful, reached, child, slot_used, rows_fill}
-use Rattle.mt_rows.specs.Gaps.{covers, GapsFromBut, GapLawBut, KeepsGaps, HasGapsBut, HasGaps}
+use Rattle.mt_path.specs.Paths.{step_in, slot_for}
+use Rattle.mt_path.proofs.TreePaths.{rows_at, row_of, step_of, step, place, lawful, child, slot_used, rows_fill}
+use Rattle.mt_rows.specs.Gaps.{covers, GapsFromBut, KeepsGaps, HasGaps}
 use Rattle.mt_rows.specs.Laws.{Tree, HasWords, IsRow, Stands, GapLaw, GapsFrom, kind_at, longest_below, top_of}
-use Rattle.mt_rows.specs.Levels.{expand, level, Levels, SameSpans, SameColumns}
+use Rattle.mt_rows.specs.Levels.{expand, level, Levels}
 use Rattle.mt_rows.specs.Publish.{tree_as}
 use Rattle.mt_rows.specs.Replacement.{root_of}
 use Rattle.mt_rows.specs.Sheet.{Rooted, with_word}
 use Rattle.mt_rows.specs.Spans.{Table, column, spans_in, spans_by}
 use Rattle.mt_rows.proofs.FewSpans.{row_most}
-use Rattle.mt_rows.proofs.GapStore.{gap_inside, others_keep, other_gap, this_gap, all_spans_stay, still_stands}
+use Rattle.mt_rows.proofs.GapStore.{gap_inside, others_keep, other_gap, this_gap, all_spans_stay}
 use Rattle.mt_rows.proofs.Heights.{levels_lower, level_rows}
 use Rattle.mt_rows.proofs.Joins.{Shared, levels_front, levels_back, levels_shared}
 use Rattle.mt_rows.proofs.Lists.{levels_map}
@@ -54,7 +51,7 @@ child_tells r (suc k) index c row law =
 
 -- ---- rows of a level
 
-begins_at : (lo hi : ℕ) (xs : List Span) (y : Span) → Fills lo hi xs → IsOneOf y xs → (lo ≤ y.first) × (y.last < hi)
+pub begins_at : (lo hi : ℕ) (xs : List Span) (y : Span) → Fills lo hi xs → IsOneOf y xs → (lo ≤ y.first) × (y.last < hi)
 begins_at lo hi [] y fills one = absurd one
 begins_at lo hi (x ∷ xs) y fills (inl same) =
     let first : y.first ≡ x.first = ap (λ (z : Span). z.first) same in
@@ -63,7 +60,7 @@ begins_at lo hi (x ∷ xs) y fills (inl same) =
 begins_at lo hi (x ∷ xs) y fills (inr behind) = let rest = begins_at (x.last + 1) hi xs y fills.2 behind in let from = rest.0 in let order = fills.1 in (omega arith, rest.1)
 
 -- no two rows of a level cover an index
-one_over : (lo hi index : ℕ) (xs : List Span) (x y : Span) → Fills lo hi xs → IsOneOf x xs → IsOneOf y xs → x.first ≤ index → index ≤ x.last → y.first ≤ index → index ≤ y.last → x ≡ y
+pub one_over : (lo hi index : ℕ) (xs : List Span) (x y : Span) → Fills lo hi xs → IsOneOf x xs → IsOneOf y xs → x.first ≤ index → index ≤ x.last → y.first ≤ index → index ≤ y.last → x ≡ y
 one_over lo hi index [] x y fills one_x one_y from_x to_x from_y to_y = absurd one_x
 one_over lo hi index (z ∷ xs) x y fills (inl same_x) (inl same_y) from_x to_x from_y to_y = same_x ∙ sym same_y
 one_over lo hi index (z ∷ xs) x y fills (inl same_x) (inr behind_y) from_x to_x from_y to_y =
@@ -72,7 +69,7 @@ one_over lo hi index (z ∷ xs) x y fills (inr behind_x) (inl same_y) from_x to_
     let last : y.last ≡ z.last = ap (λ (s : Span). s.last) same_y in let after = (begins_at (z.last + 1) hi xs x fills.2 behind_x).0 in absurd (omega arith)
 one_over lo hi index (z ∷ xs) x y fills (inr behind_x) (inr behind_y) from_x to_x from_y to_y = one_over (z.last + 1) hi index xs x y fills.2 behind_x behind_y from_x to_x from_y to_y
 
-covers_is : (index : ℕ) (y : Span) → covers index y ≡ true → (y.first ≤ index) × (index ≤ y.last)
+pub covers_is : (index : ℕ) (y : Span) → covers index y ≡ true → (y.first ≤ index) × (index ≤ y.last)
 covers_is index y is = elim (cases_Bool (nat_le y.first index)) [
   | inl from ↦ (leb-true y.first index from, leb-true index y.last (let rest : nat_le index y.last ≡ true = (rw (← is, from) refl) in rest))
   | inr not ↦ absurd (let no : false ≡ true = (rw (← is, not) refl) in cc)
@@ -84,12 +81,12 @@ covers_not index y is = elim (cases_Bool (nat_le y.first index)) [
   | inr not ↦ inr (leb-false y.first index not)
 ]
 
-covers_it : (index : ℕ) (y : Span) → y.first ≤ index → index ≤ y.last → covers index y ≡ true
+pub covers_it : (index : ℕ) (y : Span) → y.first ≤ index → index ≤ y.last → covers index y ≡ true
 covers_it index y from to = let test : nat_le y.first index ≡ true = le-leb y.first index from in let test' : nat_le index y.last ≡ true = le-leb index y.last to in rw (test, test') refl
 
 -- ---- what holds of all rows, at one and below one
 
-levels_at : (P : ℕ → Span → Type 0) (t : Table) (h k : ℕ) (xs : List Span) (x : Span) → Levels P t h xs → OnLevel t h xs k x → P k x
+pub levels_at : (P : ℕ → Span → Type 0) (t : Table) (h k : ℕ) (xs : List Span) (x : Span) → Levels P t h xs → OnLevel t h xs k x → P k x
 levels_at P t h k xs x rows on = all_one_of (P k) (level t on.depth xs) x (level_rows P t on.depth k h xs on.height rows) on.one
 
 of_one : (P : ℕ → Span → Type 0) (t : Table) (k : ℕ) (ys : List Span) (y : Span) → IsOneOf y ys → Levels P t k (expand t ys) → Levels P t k (spans_in t y)
@@ -97,7 +94,7 @@ of_one P t k [] y one rows = absurd one
 of_one P t k (z ∷ ys) y (inl same) rows = subst (λ (s : Span). Levels P t k (spans_in t s)) (sym same) (levels_front P t k (spans_in t z) (expand t ys) rows)
 of_one P t k (z ∷ ys) y (inr behind) rows = of_one P t k ys y behind (levels_back P t k (spans_in t z) (expand t ys) rows)
 
-levels_below : (P : ℕ → Span → Type 0) (t : Table) (h k : ℕ) (xs : List Span) (y : Span) → Levels P t h xs → OnLevel t h xs (suc k) y → Levels P t k (spans_in t y)
+pub levels_below : (P : ℕ → Span → Type 0) (t : Table) (h k : ℕ) (xs : List Span) (y : Span) → Levels P t h xs → OnLevel t h xs (suc k) y → Levels P t k (spans_in t y)
 levels_below P t h k xs y rows on = of_one P t k (level t on.depth xs) y on.one (levels_lower P t on.depth (suc k) h xs on.height rows).1
 
 weaker : (index : ℕ) (t : Table) (k row slot : ℕ) (xs : List Span) → GapsFrom t k row slot xs → GapsFromBut index t k row slot xs

@@ -1,16 +1,15 @@
 -- What a row tells, read off its children one after another.
-use Rattle.std.proofs.Common.{◌≡◌, ℕ, zero, suc, ◌+◌, ◌-◌, ◌*◌, ◌^◌, ◌<◌, ◌≤◌, ◌==◌, List, [], ◌∷◌, ◌++◌, max, length, drop, Option, refl, sym, ap, ◌∙◌, subst, inl, inr, arith, rules, eq-eqb, ne_eqb}
-use Rattle.std.specs.Prelude.{slice_index_or, if◌then◌else◌}
+use Rattle.std.proofs.Common.{◌≡◌, ℕ, zero, suc, ◌+◌, ◌^◌, ◌<◌, ◌≤◌, List, [], ◌∷◌, max, length, drop, Option, refl, sym, ap, ◌∙◌, subst, arith}
+use Rattle.std.specs.Prelude.{slice_index_or}
 use Rattle.std.specs.List.{AllByRecursion}
-use Rattle.mt_layout.specs.declared.items.Item.{Item}
 use Rattle.mt_layout.specs.declared.names.RowKind.{RowKind}
 use Rattle.mt_layout.specs.declared.names.RowKind.TheVariants.{Leaf, Gapped}
 use Rattle.mt_layout.specs.declared.spans.Span.{Span}
 use Rattle.mt_layout.specs.Columns.{gap_column}
 use Rattle.mt_layout.specs.Sizes.{slots_of}
-use Rattle.mt_layout.specs.Spans.{hole_length, longest_in, spans_from}
+use Rattle.mt_layout.specs.Spans.{hole_length, longest_in}
 use Rattle.mt_path.specs.declared.paths.PathStep.{PathStep}
-use Rattle.mt_rows.specs.Sheet.{Sheet, Rooted, MayTend, ReadsUpTo, tended}
+use Rattle.mt_rows.specs.Sheet.{Sheet, MayTend, ReadsUpTo, tended}
 use Rattle.mt_rows.specs.Spans.{Table, row_spans}
 use Rattle.mt_gap.specs.declared.children.Child.{Child}
 use Rattle.mt_gap.specs.Children.{spans, row_children}
@@ -64,7 +63,7 @@ no_more_gaps xs i so_far done all = let none : longest_gap (drop i xs) ≡ 0 = a
 
 -- ---- a leaf
 
-row_spans_are : (t : Table) (kind : RowKind) (s : PathStep) → spans (row_children t s.row kind s.min s.max) ≡ row_spans t s.row kind s.min s.max
+pub row_spans_are : (t : Table) (kind : RowKind) (s : PathStep) → spans (row_children t s.row kind s.min s.max) ≡ row_spans t s.row kind s.min s.max
 row_spans_are t kind s = spans_are s.min _
 
 pub leaf_fits : (t : Table) (s : PathStep) (xs : List Child) → xs ≡ row_children t s.row Leaf s.min s.max → MayTell Leaf t s → longest_in (spans xs) < 2 ^ 64

@@ -1,6 +1,6 @@
 -- Gap words set upwards: what a row tells the row above, and what is left alone.
 -- Source: the kernel's lib/maple_tree.c, mas_parent_gap and mas_update_gap.
-use Rattle.std.specs.Prelude.{◌≡◌, ◌⊎◌, ℕ, ◌+◌, ◌^◌, ◌<◌, ◌≤◌, Bool, true, List, [], ◌∷◌, length, max}
+use Rattle.std.specs.Prelude.{◌≡◌, ◌⊎◌, ℕ, ◌+◌, ◌^◌, ◌<◌, ◌≤◌, Bool, true, false, List, [], ◌∷◌, length, max}
 use Rattle.std.specs.List.{AllByRecursion}
 use Rattle.mt_base.specs.declared.kinds.Kind.{Kind}
 use Rattle.mt_base.specs.Width.{columns, greatest}
@@ -13,10 +13,13 @@ use Rattle.mt_layout.specs.Spans.{longest_in}
 use Rattle.mt_path.specs.declared.paths.PathStep.{PathStep}
 use Rattle.mt_path.specs.Paths.{step_at, path_in}
 use Rattle.mt_rows.specs.Gaps.{covers, GapLawBut, HasGapsBut}
-use Rattle.mt_rows.specs.Laws.{Tree, GapLaw}
+use Rattle.mt_rows.specs.Laws.{Tree, Stands, GapLaw}
+use Rattle.mt_rows.specs.Levels.{Levels}
 use Rattle.mt_rows.specs.Publish.{tree_as, LiveAreReached, NoneBuried}
+use Rattle.mt_rows.specs.Replacement.{root_of}
 use Rattle.mt_rows.specs.Spans.{Table, row_spans}
-use Rattle.mt_rows.specs.Sheet.{Sheet, Rooted, IsPlace, MayTend, word_at, with_word}
+use Rattle.mt_rows.specs.Sheet.{Sheet, Rooted, IsPlace, MayTend, life_of, is_buried, word_at, with_word}
+use Rattle.mt_rows.specs.declared.rows.Life.TheVariants.{Live}
 use Rattle.mt_gap.specs.declared.children.Child.{Child}
 use Rattle.mt_gap.specs.Children.{row_children}
 
@@ -77,3 +80,38 @@ pub record MayMend (s : Sheet) (kind : RowKind) (above below : PathStep) : Type 
 -- it is what the row below tells, and nothing else has changed
 abbrev pub IsMended : Sheet → Sheet → RowKind → PathStep → PathStep → Type 0
 IsMended s s' kind above below = s' ≡ record s { tree = with_word s.tree above.row (gap_column (slots_of s.tree.table.width Gapped) above.slot) (told_by kind s.tree.table below); reads = s'.reads }
+
+-- ---- all slots of a path's rows
+
+-- a row that does not cover the index keeps the law of gaps
+abbrev pub GapLawBeside : ℕ → Tree → ℕ → Span → Type 0
+GapLawBeside index t h x = covers index x ≡ false → GapLaw t h x
+
+-- so does each such row of the tree; the others are the rows on the way to the index, and may break it in every slot
+abbrev pub HasGapsBeside : ℕ → Tree → Type 0
+HasGapsBeside index t = (t.root ≡ 0) ⊎ ((h : ℕ) × Stands t h × Levels (GapLawBeside index t) t.table h (root_of t))
+
+-- the row of a step is live, and not buried
+abbrev pub IsKept : Sheet → PathStep → Type 0
+IsKept s step = (life_of s.lives step.row ≡ Live) × (is_buried s.buried step.row ≡ false)
+
+-- A path of whose rows all gap words may be wrong, but none of other rows; its rows are live, and none is buried.
+pub record MayMendGaps (kind : Kind) (s : Sheet) (path : List PathStep) : Type 0 where
+  pub index : ℕ
+  pub within : index ≤ greatest s.tree.table.width
+  pub gaps : HasGapsBeside index (tree_as kind s.tree)
+  pub steps : path ≡ path_in s.tree.table s.tree.root index
+  pub kept : AllByRecursion (IsKept s) path
+
+-- the gap column of a slot of one of a path's rows, but its leaf
+pub record IsGapIn (t : Rooted) (path : List PathStep) (row col : ℕ) : Type 0 where
+  pub level : ℕ
+  pub slot : ℕ
+  pub above : level + 1 < length path
+  pub within : slot < slots_of t.table.width Gapped
+  pub row_is : row ≡ (step_at path level).row
+  pub col_is : col ≡ gap_column (slots_of t.table.width Gapped) slot
+
+-- every word is as before, but for these
+abbrev pub KeepsOtherWords : Rooted → Rooted → List PathStep → Type 0
+KeepsOtherWords t t' path = (row col : ℕ) → col < columns t.table.width → (word_at t' row col ≡ word_at t row col) ⊎ IsGapIn t path row col

@@ -12,11 +12,8 @@ ghost use Rattle.mt_gap.specs.Children.{row_children, children_in};
 ghost use Rattle.mt_gap.specs.Reading.{loads_for};
 
 use arrayvec::ArrayVec;
-use mt_layout::{Item, RowKind, Span, kind_of, row_of, slots};
+use mt_layout::{Item, MOST_SLOTS, RowKind, Span, kind_of, row_of, slots};
 use mt_rows::Rows;
-
-/// How many children a row of any kind has at the most.
-const MOST_CHILDREN: usize = 16;
 
 /// What stands in a slot of a row, and the slot's gap word.
 #[derive(Clone, Copy, Debug, Default)]
@@ -26,7 +23,7 @@ pub(crate) struct Child {
 }
 
 /// What stands in a row.
-pub(crate) type Children = ArrayVec<Child, MOST_CHILDREN>;
+pub(crate) type Children = ArrayVec<Child, MOST_SLOTS>;
 
 /// The item in a slot of a row that covers the indexes up to `max`.
 #[tactic(auto, using(crate::proofs::Readings::two_loads, crate::proofs::Readings::one_load, crate::proofs::Readings::three_loads))]

@@ -9,5 +9,5 @@ mod searches;
 mod tests;
 mod windows;
 
-pub use mends::mend_way;
+pub use mends::{mend_gaps, mend_way};
 pub use searches::{highest, lowest};

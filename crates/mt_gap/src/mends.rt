@@ -1,24 +1,25 @@
-//! Gap words mended on the way to an index.
+//! Gap words mended on the way to an index: in the slots on the way, or in all slots of the rows there.
 
-ghost use Rattle.std.specs.Prelude.{◌≡◌, ◌↔◌, ◌^◌, ◌<◌, ◌≤◌, ℕ, IsTrue, Some};
+ghost use Rattle.std.specs.Prelude.{◌≡◌, ◌≢◌, ◌↔◌, ◌+◌, ◌^◌, ◌<◌, ◌≤◌, ℕ, IsTrue, None, Some};
 ghost use Rattle.std.specs.List.{AllByRecursion};
 ghost use Rattle.mt_base.specs.declared.kinds.Kind.{Kind};
 ghost use Rattle.mt_base.specs.Width.{columns};
 ghost use Rattle.mt_layout.specs.declared.names.RowKind.{RowKind};
 ghost use Rattle.mt_layout.specs.declared.spans.Span.{Span};
-ghost use Rattle.mt_layout.specs.Rows.{named_kind};
+ghost use Rattle.mt_layout.specs.Rows.{row_in, named_kind};
 ghost use Rattle.mt_layout.specs.Spans.{hole_length, longest_in};
 ghost use Rattle.mt_rows.specs.Gaps.{HasGaps};
 ghost use Rattle.mt_rows.specs.Laws.{Stands};
 ghost use Rattle.mt_rows.specs.Levels.{Levels, SameSpans};
 ghost use Rattle.mt_rows.specs.Publish.{tree_as};
 ghost use Rattle.mt_rows.specs.Replacement.{root_of};
-ghost use Rattle.mt_rows.specs.Sheet.{IsPlace, ReadsUpTo, loaded};
+ghost use Rattle.mt_rows.specs.Sheet.{Sheet, IsPlace, ReadsUpTo, loaded};
 ghost use Rattle.mt_gap.specs.Children.{spans};
-ghost use Rattle.mt_gap.specs.Mending.{longest_gap, told_by, KeepsWords, OnlyWords, IsWay, MayTell, MayMend, IsMended};
+ghost use Rattle.mt_gap.specs.Mending.{longest_gap, told_by, KeepsWords, OnlyWords, KeepsOtherWords, IsWay, MayTell, MayMend, MayMendGaps, IsMended};
+ghost use Rattle.mt_gap.specs.Mended.{HasMendedRows};
 
 use crate::children::{Child, load_children};
-use mt_layout::{RowKind, Span, kind_of, slots};
+use mt_layout::{RowKind, Span, kind_of, row_of, slots};
 use mt_path::{Path, PathStep};
 use mt_rows::Rows;
 
@@ -95,8 +96,8 @@ fn has_gaps<R: Rows>(rows: &mut R) -> bool
     kind_of(rows.root()) == Some(RowKind::Gapped)
 }
 
-/// Mends the gap words on the way to an index, where all others are right: from the leaf's parent up to the root each is
-/// tended by what the row below tells. In a tree without gaps no row is loaded.
+/// Mends the gap words on the way to an index, where all others are right: from the leaf's parent up to the root each
+/// is tended by what the row below tells. In a tree without gaps no row is loaded.
 pub fn mend_way<R: Rows>(rows: &mut R, path: &Path)
     requires way { (kind : Kind) × IsWay kind (R.sheet rows.old) path.now.items }
     ensures gaps { (kind : Kind) → IsWay kind (R.sheet rows.old) path.now.items → HasGaps (tree_as kind (R.sheet rows.new).tree) }
@@ -113,6 +114,62 @@ pub fn mend_way<R: Rows>(rows: &mut R, path: &Path)
     while 2 <= level {
         level -= 1;
         mend_slot(rows, kind, path[level - 1], path[level]);
+        kind = RowKind::Gapped;
+    }
+}
+
+/// The step into the row that a child names.
+fn step_into(child: Span) -> PathStep
+    requires named { named_kind child.word ≢ None }
+    ensures { result ≡ record { row = row_in child.word; slot = 0; min = child.first; max = child.last } }
+{
+    match row_of(child.word) {
+        Some(row) => PathStep {
+            row,
+            slot: 0,
+            min: child.first,
+            max: child.last,
+        },
+        None => unreachable!(),
+    }
+}
+
+/// Tends the gap words of all slots of a row of a path, each by what the row there tells.
+fn mend_row<R: Rows>(rows: &mut R, kind: RowKind, path: &Path, level: usize)
+    requires mends { (before : Sheet) × HasMendedRows before (R.sheet rows.old) path.now.items kind (level + 2) 0 }
+    ensures mends { (before : Sheet) → HasMendedRows before (R.sheet rows.old) path.now.items kind (level + 2) 0
+        → HasMendedRows before (R.sheet rows.new) path.now.items RowKind.Gapped (level + 1) 0 }
+{
+    let above = path[level];
+    let children = load_children(rows, RowKind::Gapped, above.row, above.min, above.max);
+    for slot in 0..children.len() {
+        let at = PathStep {
+            slot: slot as u32,
+            ..above
+        };
+        mend_slot(rows, kind, at, step_into(children[slot].span));
+    }
+}
+
+/// Mends all gap words of the rows of a path, where those of all other rows are right: from the leaf's parent up to the
+/// root the gap word of each slot is tended by what the row there tells. In a tree without gaps no row is loaded.
+pub fn mend_gaps<R: Rows>(rows: &mut R, path: &Path)
+    requires may { (kind : Kind) × MayMendGaps kind (R.sheet rows.old) path.now.items }
+    ensures gaps { (kind : Kind) → MayMendGaps kind (R.sheet rows.old) path.now.items → HasGaps (tree_as kind (R.sheet rows.new).tree) }
+    ensures rest { OnlyWords (R.sheet rows.old) (R.sheet rows.new) }
+    ensures words { KeepsOtherWords (R.sheet rows.old).tree (R.sheet rows.new).tree path.now.items }
+    ensures plain { named_kind (R.sheet rows.old).tree.root ≢ Some RowKind.Gapped → R.sheet rows.new ≡ loaded (R.sheet rows.old) }
+    ensures spans { (kind : Kind) (h : ℕ) → Stands (tree_as kind (R.sheet rows.old).tree) h
+        → Levels (λ (_ : ℕ) (x : Span). SameSpans (R.sheet rows.old).tree.table (R.sheet rows.new).tree.table x) (R.sheet rows.old).tree.table h (root_of (tree_as kind (R.sheet rows.old).tree)) }
+{
+    if !has_gaps(rows) {
+        return;
+    }
+    let mut kind = RowKind::Leaf;
+    let mut level = path.len();
+    while 2 <= level {
+        level -= 1;
+        mend_row(rows, kind, path, level - 1);
         kind = RowKind::Gapped;
     }
 }

@@ -161,8 +161,8 @@ fn highest_in_leaves<R: Rows, L: Ledger>(
     found
 }
 
-/// The lowest start of so many indexes that lie in one hole and in the window `lo` to `hi`. Each row that is loaded is a
-/// step.
+/// The lowest start of so many indexes that lie in one hole and in the window `lo` to `hi`. Each row that is loaded is
+/// a step.
 pub fn lowest<R: Rows, L: Ledger>(
     rows: &mut R,
     size: u64,
@@ -186,8 +186,8 @@ pub fn lowest<R: Rows, L: Ledger>(
     lowest_in_leaves(rows, &leaves, window, steps)
 }
 
-/// The highest start of so many indexes that lie in one hole and in the window `lo` to `hi`. Each row that is loaded is a
-/// step.
+/// The highest start of so many indexes that lie in one hole and in the window `lo` to `hi`. Each row that is loaded is
+/// a step.
 pub fn highest<R: Rows, L: Ledger>(
     rows: &mut R,
     size: u64,

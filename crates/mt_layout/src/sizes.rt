@@ -9,6 +9,12 @@ use mt_base::Width;
 /// How many items a `Run` has room for.
 pub const RUN_ROOM: usize = 72;
 
+/// A row of any width and kind has so many words at the most.
+pub const MOST_WORDS: usize = 32;
+
+/// A row of any width and kind has so many slots at the most.
+pub const MOST_SLOTS: usize = 16;
+
 /// How many slots a row of this kind has. They stand in the columns from that number on, behind the parent word and the
 /// pivots.
 pub fn slots(width: Width, kind: RowKind) -> u32

@@ -27,7 +27,7 @@ impl Model for ListMap {
 }
 
 impl ListMap {
-    ghost use Rattle.std.specs.Prelude.{◌≡◌, ◌+◌, ◌≤◌, [], IfOk, OnErr, IfSome};
+    ghost use Rattle.std.specs.Prelude.{◌≡◌, ◌+◌, ◌≤◌, [], IfOk, OnErr, IfSome, length};
     ghost use Rattle.mt_base.specs.Call.{acted, placed};
     ghost use Rattle.mt_base.specs.Width.{greatest_of};
 
@@ -40,6 +40,23 @@ impl ListMap {
             kind,
             ranges: Vec::new(alloc),
         }
+    }
+
+    /// How many ranges there are.
+    pub fn count(&self) -> u64
+        ensures { result ≡ length self.now.ranges }
+    {
+        self.ranges.len() as u64
+    }
+
+    /// Another map of the same ranges.
+    pub fn copied(&self, alloc: Global) -> Result<Self, NoMemory>
+        ensures { IfOk result (λ copy. copy ≡ self.now) }
+    {
+        Ok(ListMap {
+            kind: self.kind,
+            ranges: Vec::from_slice(alloc, &self.ranges)?,
+        })
     }
 
     /// Stores `entry` over `first` to `last`.
@@ -164,7 +181,9 @@ impl Ranges for ListMap {
 
     fn act(&mut self, call: &Call) -> Result<Reply, NoMemory> {
         match *call {
-            Call::Store { first, last, entry } => self.store(first, last, entry),
+            Call::Store { first, last, entry } | Call::StorePre { first, last, entry } => {
+                self.store(first, last, entry)
+            }
             Call::Insert { first, last, entry } => self.insert(first, last, entry),
             Call::Erase { index } => Ok(self.erase(index)),
             Call::Alloc {

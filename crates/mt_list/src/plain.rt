@@ -249,7 +249,7 @@ pub fn acted(
     ensures { IfOk result (λ after. (after.0.items, after.1) ≡ acted kind ranges.now call.now) }
 {
     match *call {
-        Call::Store { first, last, entry } => {
+        Call::Store { first, last, entry } | Call::StorePre { first, last, entry } => {
             if is_invalid(kind, first, last, entry) {
                 return unchanged(alloc, ranges, Reply::Invalid);
             }

@@ -1,4 +1,4 @@
-use Rattle.std.proofs.Common.{◌≡◌, ◌≤◌, ◌<◌, ◌-◌, IsTrue, List, Some, length, sym, ap, ◌∙◌, subst, rules, arith}
+use Rattle.std.proofs.Common.{◌≡◌, ◌<◌, ◌-◌, IsTrue, List, Some, length, sym, subst, rules, arith}
 use Rattle.mt_layout.specs.declared.names.RowKind.TheVariants.{Gapped}
 use Rattle.mt_layout.specs.Rows.{named_kind}
 use Rattle.mt_path.specs.declared.paths.PathStep.{PathStep}

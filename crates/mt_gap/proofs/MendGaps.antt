@@ -1,0 +1,467 @@
+-- All gap words of a path's rows mended: what holds from one slot to the next, and from one row to the next.
+use Rattle.std.proofs.Common.{◌≡◌, ◌≢◌, ℕ, zero, suc, ◌+◌, ◌-◌, ◌<◌, ◌≤◌, List, [], ◌∷◌, true, Some, None, length, refl, sym, ap, ◌∙◌, subst, ⊎_elim, inl, inr, arith}
+use Rattle.std.specs.Prelude.{◌⊎◌, slice_index_or}
+use Rattle.std.specs.List.{AllByRecursion}
+use Rattle.std.proofs.lemmas.Bool.{cases_Bool, cases_eq}
+use Rattle.mt_base.specs.declared.kinds.Kind.{Kind}
+use Rattle.mt_base.specs.declared.kinds.Kind.TheVariants as trees
+use Rattle.mt_base.specs.declared.widths.Width.{Width}
+use Rattle.mt_base.specs.Width.{columns, deepest, greatest}
+use Rattle.mt_layout.specs.declared.names.RowKind.{RowKind}
+use Rattle.mt_layout.specs.declared.names.RowKind.TheVariants.{Leaf, Inner, Gapped}
+use Rattle.mt_layout.specs.declared.spans.Span.{Span}
+use Rattle.mt_layout.specs.Columns.{gap_column}
+use Rattle.mt_layout.specs.Rows.{row_in, named_kind}
+use Rattle.mt_layout.specs.Sizes.{slots_of}
+use Rattle.mt_layout.proofs.NameLaws.{Names-named_kind}
+use Rattle.mt_layout.proofs.RowSizes.{some_columns, some_slots_of}
+use Rattle.mt_layout.proofs.SpanLists.{fills_le}
+use Rattle.mt_path.specs.declared.paths.PathStep.{PathStep}
+use Rattle.mt_path.specs.Paths.{step_in, span_at, step_at, path_in}
+use Rattle.mt_path.proofs.TreePaths.{top_row, rows_at, row_of, levels, step, place, lawful, reached, root_leads, rows_fill, step_of}
+use Rattle.mt_rows.specs.Gaps.{covers, HasGaps}
+use Rattle.mt_rows.specs.Laws.{Tree, IsRow, Stands, GapLaw, kind_at, longest_below, top_of}
+use Rattle.mt_rows.specs.Levels.{Levels}
+use Rattle.mt_rows.specs.Publish.{tree_as, LiveAreReached, NoneBuried}
+use Rattle.mt_rows.specs.Replacement.{root_of}
+use Rattle.mt_rows.specs.Sheet.{Rooted, Sheet, IsPlace, OnlyReads, MayTend, IsWhole, life_of, is_buried, with_word, word_at, loaded}
+use Rattle.mt_rows.specs.Spans.{Table, root_span, spans_in, spans_by, row_spans}
+use Rattle.mt_rows.proofs.Depth.{height_by_depth}
+use Rattle.mt_rows.proofs.FewSpans.{row_most}
+use Rattle.mt_rows.proofs.GapStore.{gap_inside, all_spans_stay, still_stands}
+use Rattle.mt_rows.proofs.Joins.{Shared}
+use Rattle.mt_rows.proofs.Lists.{levels_here, levels_map}
+use Rattle.mt_rows.proofs.PlainReached.{levels_from}
+use Rattle.mt_rows.proofs.Reached.{IsOneOf, OnLevel, on_level_reached, one_of_parts, reached_number, times_reached}
+use Rattle.mt_gap.specs.declared.children.Child.{Child}
+use Rattle.mt_gap.specs.Children.{spans, no_child, row_children}
+use Rattle.mt_gap.specs.Mended.{AreRight, IsDone, HasMendedRows}
+use Rattle.mt_gap.specs.Mending.{told_by, GapLawBeside, IsKept, IsGapIn, KeepsOtherWords, MayMendGaps, MayTell, MayMend, IsMended}
+use Rattle.mt_gap.proofs.Mending.{begins_at, child_tells, covers_is, levels_at, levels_below, one_over}
+use Rattle.mt_gap.proofs.MendWay.{RootIs, no_root, not_gapped, only_loaded, only_next, other_word, paths_shared, plain_law, root_named, row_may_tell, shared_self, shared_twice}
+use Rattle.mt_gap.proofs.Tells.{row_spans_are}
+use Rattle.mt_gap.proofs.SlotsRight.{are_right, law_of_right, levels_slot, right_then, slot_one}
+
+-- ---- what a row tells, whatever slot a step takes in it
+
+abbrev pub step_to : Span → PathStep
+step_to c = record { row = row_in c.word; slot = 0; min = c.first; max = c.last }
+
+tells_same : (kind : RowKind) (t : Table) (c : Span) (index : ℕ) → told_by kind t (step_to c) ≡ told_by kind t (step_in t c index)
+tells_same Leaf t c index = refl
+tells_same Inner t c index = refl
+tells_same Gapped t c index = refl
+
+may_same : (kind : RowKind) (t : Table) (c : Span) (index : ℕ) → MayTell kind t (step_in t c index) → MayTell kind t (step_to c)
+may_same Leaf t c index may = may
+may_same Inner t c index may = may
+may_same Gapped t c index may = may
+
+pub kept_at : (s : Sheet) (path : List PathStep) (d : ℕ) → AllByRecursion (IsKept s) path → d < length path → IsKept s (step_at path d)
+kept_at s [] d kept within = absurd (omega arith)
+kept_at s (p ∷ path) zero kept within = kept.0
+kept_at s (p ∷ path) (suc d) kept within = kept_at s path d kept.1 (omega arith)
+
+-- ---- the row above those that are mended
+
+module _ (s s' : Sheet) (path : List PathStep) (kind : RowKind) (d slots : ℕ) (m : HasMendedRows s s' path kind (d + 2) slots) (whole : IsWhole s') where
+  abbrev r : Rooted
+  r = s'.tree
+
+  abbrev t : Tree
+  t = tree_as trees.Alloc s'.tree
+
+  abbrev pub x : Span
+  x = row_of t d m.index
+
+  width_same : s'.tree.table.width ≡ s.tree.table.width
+  width_same = ap (λ (v : Sheet). v.tree.table.width) m.only
+
+  within' : m.index ≤ top_of t
+  within' = subst (λ (w : Width). m.index ≤ greatest w) (sym width_same) m.within
+
+  high : m.height ≡ d + suc m.done
+  high = let levels = m.levels_are in omega arith
+
+  many : length path ≡ m.height + 1
+  many = ap length m.steps ∙ levels t m.height m.stands m.index within'
+
+  pub above : d + 1 < length path
+  above = let n = many in let h = high in omega arith
+
+  pub above_is : step_at path d ≡ step_in r.table x m.index
+  above_is = ap (λ (l : List PathStep). step_at l d) m.steps ∙ step t m.height m.stands m.index d within' (let h = high in omega arith)
+
+  on : OnLevel r.table m.height (root_of t) (suc m.done) x
+  on = record { depth = d; height = high; one = (let at = place t m.height m.stands m.index d within' (let h = high in omega arith) in one_of_parts (rows_at t d) at.front at.back x at.parts) }
+
+  x_row : IsRow t (suc m.done) x
+  x_row = lawful t m.height m.stands m.index d (suc m.done) within' high
+
+  x_low : x.last ≤ top_of t
+  x_low = let at = place t m.height m.stands m.index d within' (let h = high in omega arith) in let end = fills_le (x.last + 1) (top_of t + 1) at.back at.after in omega arith
+
+  x_over : (x.first ≤ m.index) × (m.index ≤ x.last)
+  x_over = let at = place t m.height m.stands m.index d within' (let h = high in omega arith) in (at.from, at.to)
+
+  pub above_place : IsPlace s'.tree (step_at path d).row 0
+  above_place = subst (λ (p : PathStep). IsPlace s'.tree p.row 0) (sym above_is)
+      (record { first = (Names-named_kind x.word (kind_at trees.Alloc (suc m.done)) x_row.name.named).0.0; last = x_row.name.in_table; column = some_columns r.table.width })
+
+  pub x_spans : row_spans r.table (step_at path d).row Gapped (step_at path d).min (step_at path d).max ≡ spans_in r.table x
+  x_spans = (λ i. row_spans r.table (above_is i).row Gapped (above_is i).min (above_is i).max) ∙ sym (ap (λ k. spans_by r.table k x) x_row.name.named)
+
+  -- a row of that level that covers the index is this one
+  only_x : (y : Span) → OnLevel r.table m.height (root_of t) (suc m.done) y → covers m.index y ≡ true → y ≡ x
+  unfolding on
+  only_x y at over = one_over 0 (top_of t + 1) m.index (rows_at t d) y x (rows_fill t m.height m.stands d (let h = high in omega arith))
+      (let height = at.height in let h = high in let depth : at.depth ≡ d = omega arith in subst (λ (e : ℕ). IsOneOf y (rows_at t e)) depth at.one) on.one
+      (covers_is m.index y over).0 (covers_is m.index y over).1 x_over.0 x_over.1
+
+  -- ---- its next slot
+
+  module _ (used : slots < length (spans_in r.table x)) where
+    abbrev pub c : Span
+    c = span_at (spans_in r.table x) slots
+
+    c_row : IsRow t m.done c
+    c_row = (levels_here (IsRow t) r.table m.done (c ∷ []) (levels_slot (IsRow t) r.table m.done (spans_in r.table x) slots used (levels_below (IsRow t) r.table m.height m.done (root_of t) x m.stands.rows on))).0
+
+    c_right : AreRight (IsDone m.index m.done slots) t m.done c
+    c_right = (levels_here (AreRight (IsDone m.index m.done slots) t) r.table m.done (c ∷ [])
+        (levels_slot (AreRight (IsDone m.index m.done slots) t) r.table m.done (spans_in r.table x) slots used (levels_below (AreRight (IsDone m.index m.done slots) t) r.table m.height m.done (root_of t) x m.right on))).0
+
+    c_low : c.last ≤ top_of t
+    c_low = let end = begins_at x.first (x.last + 1) (spans_in r.table x) c x_row.pivots.fills (slot_one (spans_in r.table x) slots used) in let low = x_low in let to = end.1 in omega arith
+
+    pub c_named : named_kind c.word ≢ None
+    c_named = λ none. (let no : Some (kind_at trees.Alloc m.done) ≡ None = sym c_row.name.named ∙ none in absurd (cc))
+
+    pub slot_low : slots < slots_of r.table.width Gapped
+    slot_low = let few = row_most x_row.name in let u = used in omega arith
+
+    x_kept : IsKept s (step_in r.table x m.index)
+    x_kept = subst (IsKept s) above_is (kept_at s path d m.kept (let a = above in omega arith))
+
+    may_tend_it : (gap : ℕ) → MayTend s' (row_in x.word) (gap_column (slots_of r.table.width Gapped) slots) gap
+    may_tend_it gap = record {
+      at = record { first = (Names-named_kind x.word (kind_at trees.Alloc (suc m.done)) x_row.name.named).0.0; last = x_row.name.in_table; column = gap_inside r.table.width slots slot_low };
+      live = ap (λ (v : Sheet). life_of v.lives (row_in x.word)) m.only ∙ x_kept.0;
+      kept = ap (λ (v : Sheet). is_buried v.buried (row_in x.word)) m.only ∙ x_kept.1;
+      column = inr (record { depth = d; at = x; slot = slots; reached = reached t m.height m.stands m.index d within' (let h = high in omega arith); gapped = x_row.name.named; number = refl; used = used; column = refl });
+      alive = λ none. absurd (let some = some_slots_of r.table.width Gapped in omega arith);
+    }
+
+    abbrev pub at_slot : PathStep → PathStep
+    at_slot p = record { row = p.row; slot = slots; min = p.min; max = p.max }
+
+    pub may_mend_it : MayMend s' kind (at_slot (step_at path d)) (step_to c)
+    may_mend_it = subst (λ (p : PathStep). MayMend s' kind (at_slot p) (step_to c)) (sym above_is) (record {
+      place = record { first = (Names-named_kind c.word (kind_at trees.Alloc m.done) c_row.name.named).0.0; last = c_row.name.in_table; column = some_columns r.table.width };
+      tells = subst (λ (k : RowKind). MayTell k r.table (step_to c)) (sym m.kind_is) (may_same (kind_at trees.Alloc m.done) r.table c m.index (row_may_tell r m.done m.index c c_row c_low));
+      slot = slot_low;
+      tend = may_tend_it;
+    })
+
+    module _ (s'' : Sheet) (mended : IsMended s' s'' kind (at_slot (step_at path d)) (step_to c)) where
+      abbrev gap : ℕ
+      gap = told_by kind r.table (step_to c)
+
+      abbrev r' : Rooted
+      r' = with_word r (row_in x.word) (gap_column (slots_of r.table.width Gapped) slots) gap
+
+      stored : s'' ≡ record s' { tree = r'; reads = s''.reads }
+      stored = mended ∙ (λ i. record s' { tree = with_word r (above_is i).row (gap_column (slots_of r.table.width Gapped) slots) gap; reads = s''.reads })
+
+      tree_then : s''.tree ≡ r'
+      tree_then = ap (λ (v : Sheet). v.tree) stored
+
+      gap_is : gap ≡ longest_below r.table m.done (c ∷ [])
+      gap_is =
+          ap (λ (k : RowKind). told_by k r.table (step_to c)) m.kind_is
+          ∙ (tells_same (kind_at trees.Alloc m.done) r.table c m.index
+          ∙ child_tells r m.done m.index c c_row (law_of_right (IsDone m.index m.done slots) r m.done c c_right (λ i within. inr (inl (omega arith)))))
+
+      shared_then : Levels (Shared r.table r'.table) r.table m.height (root_of t)
+      shared_then = all_spans_stay r m.height m.done slots gap x whole.words m.stands on used
+
+      more : (l : ℕ) (y : Span) (i : ℕ) → OnLevel r.table m.height (root_of t) l y → IsDone m.index m.done (slots + 1) l y i → IsDone m.index m.done slots l y i ⊎ ((y ≡ x) × (i ≡ slots))
+      more l y i at (inl beside) = inl (inl beside)
+      more l y i at (inr (inl low)) = inl (inr (inl low))
+      more l y i at (inr (inr next)) = ⊎_elim
+          (λ (e : i ≡ slots). elim (cases_Bool (covers m.index y)) [
+            | inl over ↦ inr (only_x y (subst (λ (n : ℕ). OnLevel r.table m.height (root_of t) n y) next.0 at) over, e)
+            | inr beside ↦ inl (inl beside)
+          ])
+          (λ (other : i ≡ slots → ⊥). inl (inr (inr (next.0, before i other next.1))))
+          (cases_eq i slots)
+        where
+          before : (i : ℕ) → (i ≡ slots → ⊥) → i < slots + 1 → i < slots
+          before i other low = omega (arith, other)
+
+      keeps : KeepsOtherWords s.tree r' path
+      keeps row col low = ⊎_elim
+          (λ (same_row : row ≡ row_in x.word). ⊎_elim
+          (λ (same_col : col ≡ gap_column (slots_of r.table.width Gapped) slots). inr (record {
+            level = d;
+            slot = slots;
+            above = above;
+            within = subst (λ (w : Width). slots < slots_of w Gapped) width_same slot_low;
+            row_is = same_row ∙ sym (ap (λ (p : PathStep). p.row) above_is);
+            col_is = same_col ∙ ap (λ (w : Width). gap_column (slots_of w Gapped) slots) width_same;
+          }))
+          (λ (other : col ≡ gap_column (slots_of r.table.width Gapped) slots → ⊥). unchanged (λ e e'. other e'))
+          (cases_eq col (gap_column (slots_of r.table.width Gapped) slots)))
+          (λ (other : row ≡ row_in x.word → ⊥). unchanged (λ e e'. other e))
+          (cases_eq row (row_in x.word))
+        where
+          unchanged : (row ≡ row_in x.word → col ≡ gap_column (slots_of r.table.width Gapped) slots → ⊥) → (word_at r' row col ≡ word_at s.tree row col) ⊎ IsGapIn s.tree path row col
+          unchanged other = subst (λ (n : ℕ). (n ≡ word_at s.tree row col) ⊎ IsGapIn s.tree path row col)
+              (sym (other_word r.table.width r.table.words row col (row_in x.word) (gap_column (slots_of r.table.width Gapped) slots) gap (subst (λ (w : Width). col < columns w) (sym width_same) low) (gap_inside r.table.width slots slot_low) other))
+              (m.words row col low)
+
+      root_of_s : root_of t ≡ root_of (tree_as trees.Alloc s.tree)
+      root_of_s = λ i. root_span (m.only i).tree.table (m.only i).tree.root ∷ []
+
+      pub mended_one : HasMendedRows s s'' path kind (d + 2) (slots + 1)
+      mended_one = record {
+        index = m.index;
+        height = m.height;
+        done = m.done;
+        within = m.within;
+        low = m.low;
+        levels_are = m.levels_are;
+        kind_is = m.kind_is;
+        stood = m.stood;
+        stands = subst (λ (v : Rooted). Stands (tree_as trees.Alloc v) m.height) (sym tree_then) (still_stands r m.height m.done slots gap x whole.words m.stands on used);
+        steps = subst (λ (v : Rooted). path ≡ path_in v.table v.root m.index) (sym tree_then)
+            (m.steps ∙ sym (paths_shared t (tree_as trees.Alloc r') m.index deepest m.height (top_row t) m.stands.low (root_leads t m.height m.stands m.index within') shared_then));
+        right = subst (λ (v : Rooted). Levels (AreRight (IsDone m.index m.done (slots + 1)) (tree_as trees.Alloc v)) v.table m.height (root_of (tree_as trees.Alloc v))) (sym tree_then)
+            (right_then r m.height m.done slots gap x whole.words m.stands on used gap_is (IsDone m.index m.done slots) (IsDone m.index m.done (slots + 1)) m.right more);
+        only = only_next s s' s'' (row_in x.word) (gap_column (slots_of r.table.width Gapped) slots) gap m.only stored;
+        words = subst (λ (v : Rooted). KeepsOtherWords s.tree v path) (sym tree_then) keeps;
+        spans = subst (λ (v : Rooted). Levels (Shared s.tree.table v.table) s.tree.table m.height (root_of (tree_as trees.Alloc s.tree))) (sym tree_then)
+            (shared_twice s.tree.table r.table r'.table m.height (root_of (tree_as trees.Alloc s.tree)) m.spans (subst (Levels (Shared r.table r'.table) r.table m.height) root_of_s shared_then));
+        kept = m.kept;
+      }
+
+      -- the row's items are those that were there
+      pub items_stay : row_spans s''.tree.table (step_at path d).row Gapped (step_at path d).min (step_at path d).max ≡ row_spans s'.tree.table (step_at path d).row Gapped (step_at path d).min (step_at path d).max
+      items_stay =
+          (λ i. row_spans (tree_then i).table (above_is i).row Gapped (above_is i).min (above_is i).max)
+          ∙ (sym (ap (λ k. spans_by r'.table k x) x_row.name.named)
+          ∙ (levels_at (Shared r.table r'.table) r.table m.height (suc m.done) (root_of t) x shared_then on
+          ∙ sym x_spans))
+
+  -- ---- all its slots are mended
+
+  all_of : (l : ℕ) (y : Span) (i : ℕ) → length (spans_in r.table x) ≤ slots → OnLevel r.table m.height (root_of t) l y → i < length (spans_in r.table y)
+      → IsDone m.index (suc m.done) 0 l y i → IsDone m.index m.done slots l y i
+  all_of l y i all at within (inl beside) = inl beside
+  all_of l y i all at within (inr (inr next)) = absurd (omega (arith, next.1))
+  all_of l y i all at within (inr (inl low)) = ⊎_elim
+      (λ (e : l ≡ suc m.done). elim (cases_Bool (covers m.index y)) [
+        | inl over ↦ (let same : y ≡ x = only_x y (subst (λ (n : ℕ). OnLevel r.table m.height (root_of t) n y) e at) over in
+            let few : i < length (spans_in r.table x) = subst (λ (z : Span). i < length (spans_in r.table z)) same within in
+            inr (inr (e, omega arith)))
+        | inr beside ↦ inl beside
+      ])
+      (λ (other : l ≡ suc m.done → ⊥). inr (inl (lower l other low)))
+      (cases_eq l (suc m.done))
+    where
+      lower : (l : ℕ) → (l ≡ suc m.done → ⊥) → l ≤ suc m.done → l ≤ m.done
+      lower l other low = omega (arith, other)
+
+  pub mended_row : length (spans_in r.table x) ≤ slots → HasMendedRows s s' path Gapped (d + 1) 0
+  mended_row all = record {
+    index = m.index;
+    height = m.height;
+    done = suc m.done;
+    within = m.within;
+    low = omega arith;
+    levels_are = (let levels = m.levels_are in omega arith);
+    kind_is = refl;
+    stood = m.stood;
+    stands = m.stands;
+    steps = m.steps;
+    right = levels_from (AreRight (IsDone m.index (suc m.done) 0) t) r.table m.height (root_of t) m.height 0 (omega arith)
+        (λ l y low at i within is. levels_at (AreRight (IsDone m.index m.done slots) t) r.table m.height l (root_of t) y m.right at i within (all_of l y i all at within is));
+    only = m.only;
+    words = m.words;
+    spans = m.spans;
+    kept = m.kept;
+  }
+
+-- ---- as the code reads a row
+
+-- loads change nothing
+pub still_mended : (before s s' : Sheet) (path : List PathStep) (kind : RowKind) (left slots : ℕ) → OnlyReads s s' → HasMendedRows before s path kind left slots → HasMendedRows before s' path kind left slots
+still_mended before s s' path kind left slots rest m = subst (λ (v : Sheet). HasMendedRows before v path kind left slots) (sym rest) (record {
+  index = m.index;
+  height = m.height;
+  done = m.done;
+  within = m.within;
+  low = m.low;
+  levels_are = m.levels_are;
+  kind_is = m.kind_is;
+  stood = m.stood;
+  stands = m.stands;
+  steps = m.steps;
+  right = m.right;
+  only = ap (λ (v : Sheet). record v { reads = s'.reads }) m.only;
+  words = m.words;
+  spans = m.spans;
+  kept = m.kept;
+})
+
+pub children_are : (s s' : Sheet) (step : PathStep) (xs : List Child) → OnlyReads s s' → xs ≡ row_children s.tree.table step.row Gapped step.min step.max
+    → spans xs ≡ row_spans s'.tree.table step.row Gapped step.min step.max
+children_are s s' step xs rest is = ap spans is ∙ (row_spans_are s.tree.table Gapped step ∙ sym (ap (λ (v : Sheet). row_spans v.tree.table step.row Gapped step.min step.max) rest))
+
+span_of_child : (xs : List Child) (i : ℕ) → (slice_index_or xs i no_child).span ≡ span_at (spans xs) i
+span_of_child [] zero = refl
+span_of_child [] (suc i) = refl
+span_of_child (x ∷ xs) zero = refl
+span_of_child (x ∷ xs) (suc i) = span_of_child xs i
+
+length-spans : (xs : List Child) → length (spans xs) ≡ length xs
+length-spans [] = refl
+length-spans (x ∷ xs) = ap suc (length-spans xs)
+
+module _ (s s' : Sheet) (path : List PathStep) (kind : RowKind) (d slots : ℕ) (m : HasMendedRows s s' path kind (d + 2) slots) (whole : IsWhole s') (xs : List Child)
+    (is : spans xs ≡ row_spans s'.tree.table (step_at path d).row Gapped (step_at path d).min (step_at path d).max) where
+  abbrev row : Span
+  row = x s s' path kind d slots m whole
+
+  spans_are : spans xs ≡ spans_in s'.tree.table row
+  spans_are = is ∙ x_spans s s' path kind d slots m whole
+
+  as_many : length xs ≡ length (spans_in s'.tree.table row)
+  as_many = sym (length-spans xs) ∙ ap length spans_are
+
+  module _ (more : slots < length xs) where
+    used : slots < length (spans_in s'.tree.table row)
+    used = let many = as_many in omega arith
+
+    abbrev child : Span
+    child = (slice_index_or xs slots no_child).span
+
+    child_is : child ≡ c s s' path kind d slots m whole used
+    child_is = span_of_child xs slots ∙ ap (λ (ys : List Span). span_at ys slots) spans_are
+
+    pub child_named : named_kind child.word ≢ None
+    child_named = subst (λ (y : Span). named_kind y.word ≢ None) (sym child_is) (c_named s s' path kind d slots m whole used)
+
+    pub may_mend_child : MayMend s' kind (record { row = (step_at path d).row; slot = slots; min = (step_at path d).min; max = (step_at path d).max }) (step_to child)
+    may_mend_child = subst (λ (y : Span). MayMend s' kind (record { row = (step_at path d).row; slot = slots; min = (step_at path d).min; max = (step_at path d).max }) (step_to y)) (sym child_is)
+        (may_mend_it s s' path kind d slots m whole used)
+
+    module _ (s'' : Sheet) (mended : IsMended s' s'' kind (record { row = (step_at path d).row; slot = slots; min = (step_at path d).min; max = (step_at path d).max }) (step_to child)) where
+      mended_c : IsMended s' s'' kind (record { row = (step_at path d).row; slot = slots; min = (step_at path d).min; max = (step_at path d).max }) (step_to (c s s' path kind d slots m whole used))
+      mended_c = subst (λ (y : Span). IsMended s' s'' kind (record { row = (step_at path d).row; slot = slots; min = (step_at path d).min; max = (step_at path d).max }) (step_to y)) child_is mended
+
+      pub child_mended : HasMendedRows s s'' path kind (d + 2) (slots + 1)
+      child_mended = mended_one s s' path kind d slots m whole used s'' mended_c
+
+      pub children_stay : spans xs ≡ row_spans s''.tree.table (step_at path d).row Gapped (step_at path d).min (step_at path d).max
+      children_stay = is ∙ sym (items_stay s s' path kind d slots m whole used s'' mended_c)
+
+  pub children_mended : length xs ≤ slots → HasMendedRows s s' path Gapped (d + 1) 0
+  children_mended all = mended_row s s' path kind d slots m whole (let many = as_many in omega arith)
+
+-- ---- a path whose rows are all live
+
+kept_each : (P : PathStep → Type 0) (path : List PathStep) → ((d : ℕ) → d < length path → P (step_at path d)) → AllByRecursion P path
+kept_each P [] each = tt
+kept_each P (p ∷ path) each = (each 0 (omega arith), kept_each P path (λ d within. each (suc d) (omega arith)))
+
+-- where the rows that are reached are live, and none is buried, the rows of a path are so
+pub kept_if_live : (kind : Kind) (s : Sheet) (h index : ℕ) → Stands (tree_as kind s.tree) h → LiveAreReached s.tree s.lives → NoneBuried s.tree.rows s.buried → index ≤ greatest s.tree.table.width
+    → AllByRecursion (IsKept s) (path_in s.tree.table s.tree.root index)
+kept_if_live kind s h index stands live none within = kept_each (IsKept s) (path_in s.tree.table s.tree.root index) (λ d deep. at d (omega (arith, levels (tree_as kind s.tree) h stands index within)))
+  where
+    at : (d : ℕ) → d ≤ h → IsKept s (step_of (tree_as kind s.tree) d index)
+    at d low =
+        let t = tree_as kind s.tree in
+        let y = row_of t d index in
+        let here = place t h stands index d within low in
+        let on : OnLevel t.table h (root_of t) (h - d) y = record { depth = d; height = omega arith; one = one_of_parts (rows_at t d) here.front here.back y here.parts } in
+        let some = on_level_reached t h stands (h - d) y on in
+        let number = reached_number t h stands (row_in y.word) some in
+        subst (IsKept s) (sym (step t h stands index d within low)) ((live (row_in y.word) number.0 number.1).1 (times_reached t h stands (row_in y.word) some), none (row_in y.word) number.0 number.1)
+
+-- ---- the first and the last
+
+no_range : (s : Sheet) (path : List PathStep) → MayMendGaps trees.Range s path → RootIs s Gapped → ⊥
+no_range s path may gapped = elim may.gaps [ inl empty ↦ no_root s empty gapped | inr full ↦ not_gapped full.0 (sym (root_named trees.Range s full.0 full.1) ∙ gapped) ]
+
+begun_rows : (r : Rooted) (index l : ℕ) (y : Span) → GapLawBeside index (tree_as trees.Alloc r) l y → AreRight (IsDone index 0 0) (tree_as trees.Alloc r) l y
+begun_rows r index l y law i within (inl beside) = are_right (IsDone index 0 0) r l y (law beside) i within (inl beside)
+begun_rows r index zero y law i within (inr (inl low)) = tt
+begun_rows r index (suc l) y law i within (inr (inl low)) = absurd (omega arith)
+begun_rows r index l y law i within (inr (inr next)) = absurd (omega (arith, next.1))
+
+begin_alloc : (s s' : Sheet) (path : List PathStep) → MayMendGaps trees.Alloc s path → RootIs s Gapped → s' ≡ loaded s → HasMendedRows s s' path Leaf (length path) 0
+begin_alloc s s' path may gapped is = elim may.gaps [
+  | inl empty ↦ absurd (no_root s empty gapped)
+  | inr full ↦ (let many = ap length may.steps ∙ levels (tree_as trees.Alloc s.tree) full.0 full.1 may.index may.within in record {
+    index = may.index;
+    height = full.0;
+    done = 0;
+    within = may.within;
+    low = omega arith;
+    levels_are = omega arith;
+    kind_is = refl;
+    stood = full.1;
+    stands = subst (λ (v : Sheet). Stands (tree_as trees.Alloc v.tree) full.0) (sym is) full.1;
+    steps = subst (λ (v : Sheet). path ≡ path_in v.tree.table v.tree.root may.index) (sym is) may.steps;
+    right = subst (λ (v : Sheet). Levels (AreRight (IsDone may.index 0 0) (tree_as trees.Alloc v.tree)) v.tree.table full.0 (root_of (tree_as trees.Alloc v.tree))) (sym is)
+        (levels_map (GapLawBeside may.index (tree_as trees.Alloc s.tree)) (AreRight (IsDone may.index 0 0) (tree_as trees.Alloc s.tree)) s.tree.table (λ l y law. begun_rows s.tree may.index l y law) full.0 (root_of (tree_as trees.Alloc s.tree)) full.2);
+    only = only_loaded s s' is;
+    words = (λ row col low. inl (ap (λ (v : Sheet). word_at v.tree row col) is));
+    spans = subst (λ (v : Sheet). Levels (Shared s.tree.table v.tree.table) s.tree.table full.0 (root_of (tree_as trees.Alloc s.tree))) (sym is) (shared_self trees.Alloc s full.0 full.1);
+    kept = may.kept;
+  })
+]
+
+pub begin_rows : (kind : Kind) (s s' : Sheet) (path : List PathStep) → MayMendGaps kind s path → RootIs s Gapped → s' ≡ loaded s → HasMendedRows s s' path Leaf (length path) 0
+begin_rows trees.Range s s' path may gapped is = absurd (no_range s path may gapped)
+begin_rows trees.Alloc s s' path may gapped is = begin_alloc s s' path may gapped is
+
+pub end_rows : (kind : Kind) (s s' : Sheet) (path : List PathStep) (k : RowKind) (left : ℕ) → MayMendGaps kind s path → RootIs s Gapped → HasMendedRows s s' path k left 0 → left ≤ 1 → HasGaps (tree_as kind s'.tree)
+end_rows trees.Range s s' path k left may gapped m last = absurd (no_range s path may gapped)
+end_rows trees.Alloc s s' path k left may gapped m last =
+    let low = m.low in let levels = m.levels_are in
+    let all : m.done ≡ m.height = omega arith in
+    inr (
+      m.height,
+      m.stands,
+      levels_from (GapLaw (tree_as trees.Alloc s'.tree)) s'.tree.table m.height (root_of (tree_as trees.Alloc s'.tree)) m.height 0 (omega arith)
+          (λ l y below at. law_of_right (IsDone m.index m.done 0) s'.tree l y (levels_at (AreRight (IsDone m.index m.done 0) (tree_as trees.Alloc s'.tree)) s'.tree.table m.height l (root_of (tree_as trees.Alloc s'.tree)) y m.right at)
+          (λ i within. inr (inl (omega arith)))),
+    )
+
+pub end_row_spans : (kind : Kind) (s s' : Sheet) (path : List PathStep) (k : RowKind) (left h : ℕ) → HasMendedRows s s' path k left 0 → Stands (tree_as kind s.tree) h → Levels (Shared s.tree.table s'.tree.table) s.tree.table h (root_of (tree_as kind s.tree))
+end_row_spans kind s s' path k left h m stands =
+    let tall = height_by_depth (tree_as trees.Alloc s.tree) deepest m.height (root_span s.tree.table s.tree.root) m.stood.low m.stood.rows in
+    let tall' = height_by_depth (tree_as kind s.tree) deepest h (root_span s.tree.table s.tree.root) stands.low stands.rows in
+    let same : m.height ≡ h = omega arith in
+    subst (λ (n : ℕ). Levels (Shared s.tree.table s'.tree.table) s.tree.table n (root_of (tree_as kind s.tree))) same m.spans
+
+pub no_rows_to_mend : (kind : Kind) (s s' : Sheet) (path : List PathStep) → MayMendGaps kind s path → (RootIs s Gapped → ⊥) → s' ≡ loaded s → HasGaps (tree_as kind s'.tree)
+no_rows_to_mend kind s s' path may plain is = subst (λ (v : Sheet). HasGaps (tree_as kind v.tree)) (sym is) (elim may.gaps [
+  | inl empty ↦ inl empty
+  | inr full ↦ inr (full.0, full.1, plain_law kind s full.0 full.1 plain)
+])
+
+-- ---- by the number of rows that are left
+
+pub mended_below : (s s' s'' : Sheet) (path : List PathStep) (kind : RowKind) (left : ℕ) → HasMendedRows s s' path kind left 0 → 2 ≤ left
+    → (HasMendedRows s s' path kind (left - 1 - 1 + 2) 0 → HasMendedRows s s'' path Gapped (left - 1 - 1 + 1) 0) → HasMendedRows s s'' path Gapped (left - 1) 0
+mended_below s s' s'' path kind left m more next =
+    let here : left ≡ left - 1 - 1 + 2 = omega arith in
+    let there : left - 1 - 1 + 1 ≡ left - 1 = omega arith in
+    subst (λ (n : ℕ). HasMendedRows s s'' path Gapped n 0) there (next (subst (λ (n : ℕ). HasMendedRows s s' path kind n 0) here m))
+
+pub may_go_on : (s s' : Sheet) (path : List PathStep) (kind : RowKind) (left : ℕ) → HasMendedRows s s' path kind left 0 → 2 ≤ left → HasMendedRows s s' path kind (left - 1 - 1 + 2) 0
+may_go_on s s' path kind left m more = let here : left ≡ left - 1 - 1 + 2 = omega arith in subst (λ (n : ℕ). HasMendedRows s s' path kind n 0) here m

@@ -1,0 +1,55 @@
+-- How far the gap words of a path's rows are mended: those of the rows up to a height, and of the next row some from the left.
+-- Source: this project's own.
+use Rattle.std.specs.Prelude.{◌≡◌, ◌⊎◌, ℕ, zero, suc, ◌+◌, ◌<◌, ◌≤◌, false, List, [], ◌∷◌, length}
+use Rattle.std.specs.List.{AllByRecursion}
+use Rattle.mt_base.specs.declared.kinds.Kind.TheVariants as trees
+use Rattle.mt_base.specs.Width.{greatest}
+use Rattle.mt_layout.specs.declared.names.RowKind.{RowKind}
+use Rattle.mt_layout.specs.declared.names.RowKind.TheVariants.{Gapped}
+use Rattle.mt_layout.specs.declared.spans.Span.{Span}
+use Rattle.mt_layout.specs.Columns.{gap_column}
+use Rattle.mt_layout.specs.Rows.{row_in}
+use Rattle.mt_layout.specs.Sizes.{slots_of}
+use Rattle.mt_path.specs.declared.paths.PathStep.{PathStep}
+use Rattle.mt_path.specs.Paths.{span_at, path_in}
+use Rattle.mt_rows.specs.Gaps.{covers}
+use Rattle.mt_rows.specs.Laws.{Tree, Stands, longest_below, kind_at}
+use Rattle.mt_rows.specs.Levels.{Levels, SameSpans}
+use Rattle.mt_rows.specs.Publish.{tree_as}
+use Rattle.mt_rows.specs.Replacement.{root_of}
+use Rattle.mt_rows.specs.Sheet.{Sheet}
+use Rattle.mt_rows.specs.Spans.{column, spans_in}
+use Rattle.mt_gap.specs.Mending.{OnlyWords, KeepsOtherWords, IsKept}
+
+-- the gap word of a slot is the longest hole below it; a leaf has no gap words
+abbrev pub IsRight : Tree → ℕ → Span → ℕ → Type 0
+IsRight t zero x slot = Unit {0}
+IsRight t (suc h) x slot = column t.table (row_in x.word) (gap_column (slots_of t.table.width Gapped) slot) ≡ longest_below t.table h (span_at (spans_in t.table x) slot ∷ [])
+
+-- in each slot of a row that is said to be so
+abbrev pub AreRight : (ℕ → Span → ℕ → Type 0) → Tree → ℕ → Span → Type 0
+AreRight done t h x = (slot : ℕ) → slot < length (spans_in t.table x) → done h x slot → IsRight t h x slot
+
+-- The slot needed no mending, or is mended: in a row beside the way to the index, in a row up to a height, or in the row
+-- above these among so many slots from the left.
+abbrev pub IsDone : ℕ → ℕ → ℕ → ℕ → Span → ℕ → Type 0
+IsDone index height slots h x slot = (covers index x ≡ false) ⊎ ((h ≤ height) ⊎ ((h ≡ suc height) × (slot < slots)))
+
+-- The rows of a path are mended from its last up to the one at the level below `left`, which is of this kind, and in the row
+-- above that so many slots; nothing else has changed since `before`.
+pub record HasMendedRows (before s : Sheet) (path : List PathStep) (kind : RowKind) (left slots : ℕ) : Type 0 where
+  pub index : ℕ
+  pub height : ℕ
+  pub done : ℕ
+  pub within : index ≤ greatest before.tree.table.width
+  pub low : 1 ≤ left
+  pub levels_are : done + left ≡ height + 1
+  pub kind_is : kind ≡ kind_at trees.Alloc done
+  pub stood : Stands (tree_as trees.Alloc before.tree) height
+  pub stands : Stands (tree_as trees.Alloc s.tree) height
+  pub steps : path ≡ path_in s.tree.table s.tree.root index
+  pub right : Levels (AreRight (IsDone index done slots) (tree_as trees.Alloc s.tree)) s.tree.table height (root_of (tree_as trees.Alloc s.tree))
+  pub only : OnlyWords before s
+  pub words : KeepsOtherWords before.tree s.tree path
+  pub spans : Levels (λ (_ : ℕ) (x : Span). SameSpans before.tree.table s.tree.table x) before.tree.table height (root_of (tree_as trees.Alloc before.tree))
+  pub kept : AllByRecursion (IsKept before) path
