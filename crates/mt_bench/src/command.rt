@@ -1,10 +1,11 @@
 //! What the words ask for.
 
+use mt_base::Kind;
 use std::fmt;
 
-/// What is timed.
+/// What is done.
 #[derive(Clone, Copy, Debug, PartialEq, Eq)]
-pub enum Work {
+pub enum Job {
     StoreSeq,
     StoreRand,
     Overwrite,
@@ -13,21 +14,45 @@ pub enum Work {
     Erase,
     NodesSeq,
     NodesRand,
+    Alloc,
+    Ralloc,
+    Holes,
+    Churn,
+}
+
+impl fmt::Display for Job {
+    fn fmt<W: fmt::Write>(&self, f: &mut fmt::Formatter<W>) -> fmt::Result {
+        let word = match self {
+            Job::StoreSeq => "store_seq",
+            Job::StoreRand => "store_rand",
+            Job::Overwrite => "overwrite",
+            Job::Load => "load",
+            Job::Iter => "iter",
+            Job::Erase => "erase",
+            Job::NodesSeq => "nodes_seq",
+            Job::NodesRand => "nodes_rand",
+            Job::Alloc => "alloc",
+            Job::Ralloc => "ralloc",
+            Job::Holes => "holes",
+            Job::Churn => "churn",
+        };
+        write!(f, "{word}")
+    }
+}
+
+/// What is timed: a job on a tree of this kind.
+#[derive(Clone, Copy, Debug, PartialEq, Eq)]
+pub struct Work {
+    pub kind: Kind,
+    pub job: Job,
 }
 
 impl fmt::Display for Work {
     fn fmt<W: fmt::Write>(&self, f: &mut fmt::Formatter<W>) -> fmt::Result {
-        let word = match self {
-            Work::StoreSeq => "rstore_seq",
-            Work::StoreRand => "rstore_rand",
-            Work::Overwrite => "roverwrite",
-            Work::Load => "rload",
-            Work::Iter => "riter",
-            Work::Erase => "rerase",
-            Work::NodesSeq => "rnodes_seq",
-            Work::NodesRand => "rnodes_rand",
-        };
-        write!(f, "{word}")
+        match self.kind {
+            Kind::Range => write!(f, "r{}", self.job),
+            Kind::Alloc => write!(f, "a{}", self.job),
+        }
     }
 }
 
@@ -41,18 +66,40 @@ pub struct Command {
 /// More ranges than the rows hold are not asked for.
 const MOST_RANGES: u32 = 200_000;
 
-fn work_of(word: &str) -> Option<Work> {
+/// The job of a word, on a tree of either kind.
+fn job_of(word: &str) -> Option<Job> {
     match word {
-        "rstore_seq" => Some(Work::StoreSeq),
-        "rstore_rand" => Some(Work::StoreRand),
-        "roverwrite" => Some(Work::Overwrite),
-        "rload" => Some(Work::Load),
-        "riter" => Some(Work::Iter),
-        "rerase" => Some(Work::Erase),
-        "rnodes_seq" => Some(Work::NodesSeq),
-        "rnodes_rand" => Some(Work::NodesRand),
+        "store_seq" => Some(Job::StoreSeq),
+        "store_rand" => Some(Job::StoreRand),
+        "overwrite" => Some(Job::Overwrite),
+        "load" => Some(Job::Load),
+        "iter" => Some(Job::Iter),
+        "erase" => Some(Job::Erase),
+        "nodes_seq" => Some(Job::NodesSeq),
+        "nodes_rand" => Some(Job::NodesRand),
         _ => None,
     }
+}
+
+/// The job of a word, on a tree for allocation.
+fn area_job_of(word: &str) -> Option<Job> {
+    match word {
+        "alloc" => Some(Job::Alloc),
+        "ralloc" => Some(Job::Ralloc),
+        "holes" => Some(Job::Holes),
+        "churn" => Some(Job::Churn),
+        _ => job_of(word),
+    }
+}
+
+/// The work of a word: its first letter is the kind of the tree.
+fn work_of(word: &str) -> Option<Work> {
+    if let Some(rest) = word.strip_prefix("r") {
+        let kind = Kind::Range;
+        return job_of(rest).map(|job| Work { kind, job });
+    }
+    let kind = Kind::Alloc;
+    area_job_of(word.strip_prefix("a")?).map(|job| Work { kind, job })
 }
 
 /// The command that the words are: a work, and how many ranges.

@@ -1,5 +1,6 @@
 //! Times works on the engine: `mt_bench WORK N` prints `WORK N NANOSECONDS`, the time of one operation on a tree of N ranges,
-//! or for `rnodes_seq` and `rnodes_rand` how many nodes the tree has for each range.
+//! or for `rnodes_seq` and its like how many nodes the tree has for each range. The first letter of a work is the kind of the
+//! tree: `r` for ranges, `a` for allocation.
 #![tactic(auto)]
 
 mod command;
@@ -16,7 +17,7 @@ use std::{env, io};
 
 /// What is written where the words are no command.
 const USAGE: &str =
-    "usage: mt_bench rload|riter|rstore_seq|rstore_rand|roverwrite|rerase|rnodes_seq|rnodes_rand N";
+    "usage: mt_bench [ra]{load,iter,store_seq,store_rand,overwrite,erase,nodes_seq,nodes_rand} N, a{alloc,ralloc,holes,churn} N";
 
 /// The words after the program's name.
 fn words_of(rt: &(impl Env + AllocGlobal)) -> io::Result<Vec<String>> {

@@ -1,10 +1,13 @@
 //! How often a work is done, and what one operation of it takes.
 
-use crate::command::{Command, Work};
+use crate::command::{Command, Job, Work};
 use crate::draws::shuffled;
 use crate::trees::Nodes;
-use crate::works::{erase_all, load, overwrite, store_all, visit};
-use std::alloc::Global;
+use crate::works::{
+    End, allocate_all, churn, erase_all, fill_holes, load, overwrite, store_all, visit,
+};
+use mt_base::Kind;
+use std::alloc::{AllocError, Global};
 use std::io::ErrorKind;
 use std::rt::Clock;
 use std::time::Instant;
@@ -34,14 +37,32 @@ impl fmt::Display for Figure {
     }
 }
 
+/// The numbers that works go by: those of the ranges, in rising order and in one that looks random, and where the areas begin
+/// that were allocated.
+#[derive(Drop)]
+struct Numbers {
+    seq: Vec<u32>,
+    rand: Vec<u32>,
+    starts: Vec<u64>,
+}
+
+/// The numbers for so many ranges.
+fn numbers_for(alloc: Global, ranges: u32) -> Result<Numbers, AllocError> {
+    Ok(Numbers {
+        seq: (0..ranges).collect(alloc)?,
+        rand: shuffled(alloc, ranges)?,
+        starts: vec![in alloc; 0; ranges as usize]?,
+    })
+}
+
 /// An empty tree.
-fn fresh(alloc: Global) -> io::Result<Nodes> {
-    Nodes::new(alloc).map_err(|_| io::Error::from(ErrorKind::OutOfMemory))
+fn fresh(alloc: Global, kind: Kind) -> io::Result<Nodes> {
+    Nodes::new(alloc, kind).map_err(|_| io::Error::from(ErrorKind::OutOfMemory))
 }
 
 /// How many nodes a tree has for each range, when the ranges of these numbers were stored in this order.
-fn nodes_for(alloc: Global, order: &[u32]) -> io::Result<Option<Figure>> {
-    let mut tree = fresh(alloc)?;
+fn nodes_for(alloc: Global, kind: Kind, order: &[u32]) -> io::Result<Option<Figure>> {
+    let mut tree = fresh(alloc, kind)?;
     if !store_all(&mut tree, order) {
         return Ok(None);
     }
@@ -49,45 +70,57 @@ fn nodes_for(alloc: Global, order: &[u32]) -> io::Result<Option<Figure>> {
     Ok(Some(Figure::TenThousandths(tree.live().saturating_mul(10_000) / ranges)))
 }
 
-/// Does a work once, and gives a number that is the same each time.
-fn work_once(tree: &mut Nodes, command: Command, order: &[u32], times: u64) -> u64 {
-    match command.work {
-        Work::Load => load(tree, command.ranges, times),
-        Work::Iter => visit(tree, times).sum,
-        Work::Overwrite => u64::from(overwrite(tree, command.ranges, times)),
-        Work::Erase => u64::from(erase_all(tree, order)),
-        _ => u64::from(store_all(tree, order)),
+/// Does what stands before a job, untimed; whether all of it was done.
+fn prepare(tree: &mut Nodes, job: Job, numbers: &mut Numbers) -> bool {
+    match job {
+        Job::Load | Job::Iter | Job::Overwrite | Job::Erase => store_all(tree, &numbers.rand),
+        Job::Holes => store_all(tree, &numbers.seq),
+        Job::Churn => allocate_all(tree, End::Lowest, &mut numbers.starts),
+        Job::StoreSeq
+        | Job::StoreRand
+        | Job::NodesSeq
+        | Job::NodesRand
+        | Job::Alloc
+        | Job::Ralloc => true,
     }
 }
 
-/// Whether a work begins with all ranges stored.
-fn begins_full(work: Work) -> bool {
-    matches!(
-        work,
-        Work::Load | Work::Iter | Work::Overwrite | Work::Erase
-    )
+/// Does a job once, and gives a number that is the same each time.
+fn job_once(tree: &mut Nodes, command: Command, numbers: &mut Numbers, times: u64) -> u64 {
+    let Command { work, ranges } = command;
+    match work.job {
+        Job::Load => load(tree, ranges, times),
+        Job::Iter => visit(tree, times).sum,
+        Job::Overwrite => u64::from(overwrite(tree, ranges, times)),
+        Job::Erase => u64::from(erase_all(tree, &numbers.rand)),
+        Job::StoreSeq | Job::NodesSeq => u64::from(store_all(tree, &numbers.seq)),
+        Job::StoreRand | Job::NodesRand => u64::from(store_all(tree, &numbers.rand)),
+        Job::Alloc => u64::from(allocate_all(tree, End::Lowest, &mut numbers.starts)),
+        Job::Ralloc => u64::from(allocate_all(tree, End::Highest, &mut numbers.starts)),
+        Job::Holes => u64::from(fill_holes(tree, ranges)),
+        Job::Churn => u64::from(churn(tree, &mut numbers.starts, times)),
+    }
 }
 
-/// Whether a work is done once for each range.
-fn is_for_each_range(work: Work) -> bool {
-    matches!(work, Work::StoreSeq | Work::StoreRand | Work::Erase)
+/// Whether a job is done once for each range.
+fn is_for_each_range(job: Job) -> bool {
+    !matches!(job, Job::Load | Job::Iter | Job::Overwrite | Job::Churn)
 }
 
-/// One round: the nanoseconds that the work took, and its number.
+/// One round: the nanoseconds that the job took, and its number.
 fn round(
     rt: &impl Clock,
     alloc: Global,
     command: Command,
-    rand: &[u32],
-    order: &[u32],
+    numbers: &mut Numbers,
     times: u64,
 ) -> io::Result<(u64, u64)> {
-    let mut tree = fresh(alloc)?;
-    if begins_full(command.work) && !store_all(&mut tree, rand) {
+    let mut tree = fresh(alloc, command.work.kind)?;
+    if !prepare(&mut tree, command.work.job, numbers) {
         return Ok((0, 0));
     }
     let start = Instant::now(rt)?;
-    let number = work_once(&mut tree, command, order, times);
+    let number = job_once(&mut tree, command, numbers, times);
     let took = start.elapsed(rt)?;
     let nanos = u64::try_from(took.as_nanos()).unwrap_or(u64::MAX);
     Ok((nanos, number))
@@ -99,23 +132,22 @@ fn time_of(
     rt: &impl Clock,
     alloc: Global,
     command: Command,
-    rand: &[u32],
-    order: &[u32],
+    numbers: &mut Numbers,
 ) -> io::Result<Option<Figure>> {
-    let each = is_for_each_range(command.work);
+    let each = is_for_each_range(command.work.job);
     let rounds = if each {
         u64::from((RANGES / command.ranges.max(1)).max(1))
     } else {
         1
     };
     let times = TIMES.max(u64::from(command.ranges));
-    let first = round(rt, alloc, command, rand, order, times)?.1;
+    let first = round(rt, alloc, command, numbers, times)?.1;
     if first == 0 {
         return Ok(None);
     }
     let mut nanos: u64 = 0;
     for _ in 0..rounds {
-        let (took, number) = round(rt, alloc, command, rand, order, times)?;
+        let (took, number) = round(rt, alloc, command, numbers, times)?;
         if number != first {
             return Ok(None);
         }
@@ -132,12 +164,11 @@ fn time_of(
 
 /// The figure that a command asks for, or none where a call was not done.
 pub fn run(rt: &impl Clock, alloc: Global, command: Command) -> io::Result<Option<Figure>> {
-    let seq: Vec<u32> = (0..command.ranges).collect(alloc)?;
-    let rand = shuffled(alloc, command.ranges)?;
-    match command.work {
-        Work::NodesSeq => nodes_for(alloc, &seq),
-        Work::NodesRand => nodes_for(alloc, &rand),
-        Work::StoreSeq => time_of(rt, alloc, command, &rand, &seq),
-        _ => time_of(rt, alloc, command, &rand, &rand),
+    let mut numbers = numbers_for(alloc, command.ranges)?;
+    let Work { kind, job } = command.work;
+    match job {
+        Job::NodesSeq => nodes_for(alloc, kind, &numbers.seq),
+        Job::NodesRand => nodes_for(alloc, kind, &numbers.rand),
+        _ => time_of(rt, alloc, command, &mut numbers),
     }
 }

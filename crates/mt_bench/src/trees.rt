@@ -57,12 +57,12 @@ impl Model for Nodes {
 }
 
 impl Nodes {
-    /// An empty tree.
-    pub fn new(alloc: Global) -> Result<Self, NoMemory> {
+    /// An empty tree of this kind.
+    pub fn new(alloc: Global, kind: Kind) -> Result<Self, NoMemory> {
         let rows = PlainRows::new(alloc, MOST_ROWS)?;
         let book = RowBook::new(alloc, MOST_ROWS)?;
         Ok(Nodes {
-            engine: Engine::new(rows, book, Kind::Range),
+            engine: Engine::new(rows, book, kind),
             calls: 0,
         })
     }

@@ -4,6 +4,19 @@ use crate::draws::Draws;
 use crate::trees::{Tree, Visit};
 use mt_base::{Call, Reply};
 
+/// Allocations lie below 2^48.
+const HIGHEST: u64 = (1 << 48) - 1;
+
+/// The entry that every allocation stores.
+const ALLOCATED: u64 = 4096;
+
+/// At which end room is sought.
+#[derive(Clone, Copy, Debug, PartialEq, Eq)]
+pub enum End {
+    Lowest,
+    Highest,
+}
+
 /// The store of range number `i`: 10 indexes, with 6 to the next range.
 fn store(tree: &mut impl Tree, i: u32, entry: u64) -> bool {
     let first = 16 * u64::from(i);
@@ -74,6 +87,85 @@ pub fn erase_all(tree: &mut impl Tree, order: &[u32]) -> bool {
             index: 16 * u64::from(*i) + 5,
         };
         done &= matches!(tree.act(&call), Reply::Was(_));
+    }
+    done
+}
+
+/// Allocates so many indexes, and tells where they begin.
+fn allocate(tree: &mut impl Tree, size: u64, end: End) -> Option<u64> {
+    let (min, max, entry) = (0, HIGHEST, ALLOCATED);
+    let call = match end {
+        End::Lowest => Call::Alloc {
+            size,
+            min,
+            max,
+            entry,
+        },
+        End::Highest => Call::Ralloc {
+            size,
+            min,
+            max,
+            entry,
+        },
+    };
+    match tree.act(&call) {
+        Reply::Start(start) => Some(start),
+        _ => None,
+    }
+}
+
+/// A size from 1 to `most`.
+fn drawn_size(draws: &mut Draws, most: u32) -> u64 {
+    1 + u64::from(draws.below(most))
+}
+
+/// Allocates areas of 1 to 64 indexes, and notes where each begins; whether each was found.
+pub fn allocate_all(tree: &mut impl Tree, end: End, starts: &mut [u64]) -> bool {
+    let mut draws = Draws::new(7);
+    let mut done = true;
+    for start in starts {
+        match allocate(tree, drawn_size(&mut draws, 64), end) {
+            Some(found) => *start = found,
+            None => done = false,
+        }
+    }
+    done
+}
+
+/// Allocates so many areas of 1 to 6 indexes; whether each was found.
+pub fn fill_holes(tree: &mut impl Tree, areas: u32) -> bool {
+    let mut draws = Draws::new(7);
+    let mut done = true;
+    for _ in 0..areas {
+        done &= allocate(tree, drawn_size(&mut draws, 6), End::Lowest).is_some();
+    }
+    done
+}
+
+/// Erases the area at a start and allocates one of so many indexes, whose start is noted; whether both were done.
+fn reallocate(tree: &mut impl Tree, start: &mut u64, size: u64) -> bool {
+    let erased = matches!(tree.act(&Call::Erase { index: *start }), Reply::Was(_));
+    match allocate(tree, size, End::Lowest) {
+        Some(found) => {
+            *start = found;
+            erased
+        }
+        None => false,
+    }
+}
+
+/// Erases an area and allocates another of 1 to 64 indexes, `times` times; whether all were done.
+pub fn churn(tree: &mut impl Tree, starts: &mut [u64], times: u64) -> bool {
+    let mut draws = Draws::new(8);
+    let areas = u32::try_from(starts.len()).unwrap_or(u32::MAX);
+    let mut done = true;
+    for _ in 0..times {
+        let k = draws.below(areas) as usize;
+        let size = drawn_size(&mut draws, 64);
+        done &= match starts.get_mut(k) {
+            Some(start) => reallocate(tree, start, size),
+            None => false,
+        };
     }
     done
 }

@@ -1,5 +1,5 @@
 -- A call that has replaced rows: the rows and the book by its end.
-use Rattle.std.proofs.Common.{◌≡◌, ℕ, zero, suc, ◌+◌, ◌*◌, ◌-◌, ◌<◌, ◌≤◌, ◌++◌, List, Bool, Option, true, false, length, map, get_or, refl, sym, ap, ◌∙◌, subst, inl, inr, arith, length-append}
+use Rattle.std.proofs.Common.{◌≡◌, ℕ, ◌+◌, ◌*◌, ◌-◌, ◌<◌, ◌≤◌, ◌++◌, List, Bool, Option, true, false, length, map, get_or, refl, sym, ap, ◌∙◌, subst, inl, inr, arith, length-append}
 use Rattle.std.specs.List.{All, Contains}
 use Rattle.std.proofs.lemmas.Bool.{cases_Bool}
 use Rattle.std.proofs.lemmas.List.{get_or-map, get_or_append_left, length-map}
@@ -7,33 +7,26 @@ use Rattle.std.proofs.lemmas.List.Elements.{All-append, All-map}
 use Rattle.mt_base.specs.declared.kinds.Kind.{Kind}
 use Rattle.mt_base.specs.declared.calls.Call.{Call}
 use Rattle.mt_base.specs.declared.replies.Reply.{Reply}
-use Rattle.mt_base.specs.Width.{deepest, most_taken}
+use Rattle.mt_base.specs.declared.ranges.Range.{Range}
+use Rattle.mt_base.specs.Call.{acted}
+use Rattle.mt_base.specs.Width.{deepest, most_taken, first_row}
 use Rattle.mt_free.specs.Book.{Book, Held, IsRowOf, held_rows, live_count}
-use Rattle.mt_layout.specs.declared.spans.Span.{Span}
 use Rattle.mt_rows.specs.declared.rows.Life.{Life}
 use Rattle.mt_rows.specs.declared.rows.Life.TheVariants.{Dead}
 use Rattle.mt_rows.specs.declared.rows.Place.{Place}
 use Rattle.mt_rows.specs.Trees.{height_in}
-use Rattle.mt_rows.specs.Laws.{Tree, IsLawful, ParentLaw, IsTended}
-use Rattle.mt_rows.specs.Replacement.{root_of}
 use Rattle.mt_rows.specs.Sheet.{Rooted, Sheet, life_of}
-use Rattle.mt_rows.specs.Publish.{MayFinish, tree_as, is_reached, finished, with_record}
-use Rattle.mt_rows.proofs.Lists.{levels_map}
+use Rattle.mt_rows.specs.Publish.{IsLawfulOf, LiveAreReached, is_reached, finished, map_by, with_record}
 use Rattle.mt_splice.specs.Kept.{IsBookOf}
-use Rattle.mt_splice.specs.Splice.{HasParents, IsSpliced}
-use Rattle.mt_engine.specs.Engine.{IsOfRanges, IsEngineState, IsIdle}
+use Rattle.mt_splice.specs.Splice.{IsSpliced}
+use Rattle.mt_engine.specs.Engine.{IsEngineState, IsIdle, TookRows}
+use Rattle.mt_engine.specs.Stores.{IsStored}
 use Rattle.mt_engine.proofs.Levelled.{levelled}
 use Rattle.mt_engine.proofs.Moments.{tree_if_lawful}
 
--- ---- a tree without gaps is lawful with its parents
-
-tended_by : (t : Tree) → IsOfRanges t.kind → (h : ℕ) (x : Span) → ParentLaw t h x → IsTended t h x
-tended_by t range zero x parent = record { parent = parent; gaps = tt }
-tended_by t range (suc h) x parent = record { parent = parent; gaps = rw range tt }
-
-lawful_by : (t : Tree) → IsOfRanges t.kind → HasParents t → IsLawful t
-lawful_by t range (inl empty) = inl empty
-lawful_by t range (inr (h, stands, parent, levels)) = inr (h, stands, parent, levels_map (ParentLaw t) (IsTended t) t.table (tended_by t range) h (root_of t) levels)
+-- a map and a reply, each by itself
+acts_by : (was : List Range × Reply) (m : List Range) (reply : Reply) → m ≡ was.0 → was.1 ≡ reply → was ≡ (m, reply)
+acts_by was m reply is replies = ap (λ (l : List Range). (l, was.1)) (sym is) ∙ ap (λ (r : Reply). (m, r)) replies
 
 -- ---- held rows
 
@@ -66,13 +59,9 @@ grows rows free free' taken held held' height opened ended frees few low counted
 abbrev pub replaced : Sheet → Rooted → List Life → List Bool → Option ℕ → Call → Reply → Sheet
 replaced s t lives buried reads call reply = record s { tree = t; published = true; lives = lives; buried = buried; told = with_record s.told call reply; reads = reads }
 
-module _ (kind : Kind) (s : Sheet) (t : Rooted) (lives : List Life) (buried : List Bool) (reads : Option ℕ) (book book' : Book) (call : Call) (reply : Reply) (place : Place) {first last : ℕ}
-    (state : IsEngineState kind s book) (spliced : IsSpliced kind s (replaced s t lives buried reads call reply) book book' (s.ended + 1) call reply place first last) where
-  abbrev pub after : Sheet
-  after = replaced s t lives buried reads call reply
-
-  abbrev pub done : Sheet
-  done = finished after call reply
+module _ (kind : Kind) (s s₁ : Sheet) (book book' : Book) (call : Call) (reply : Reply) (place : Place) {first last : ℕ} (state : IsEngineState kind s book) (spliced : IsSpliced kind s s₁ book book' (s.ended + 1) call reply place first last) where
+  abbrev lives : List Life
+  lives = s₁.lives
 
   -- an old held row keeps its life: it was not reached, and is not
   old_held : All (λ (h : Held). life_of lives h.row ≡ Dead h.stamp) book.held
@@ -84,7 +73,7 @@ module _ (kind : Kind) (s : Sheet) (t : Rooted) (lives : List Life) (buried : Li
       let at : IsRowOf book row = state.kept.booked.sound.waiting_rows k d within in
       let from = at.0 in let below = at.1 in
       let rows = state.kept.booked.rows in
-      spliced.others row (omega arith) (omega arith) (not_reached s.tree s.lives s.cleared book (s.ended + 1) row state.kept.booked here) (not_reached t lives s.cleared book' (s.ended + 1 + 1) row spliced.booked there) ∙ state.held k d within)
+      spliced.others row (omega arith) (omega arith) (not_reached s.tree s.lives s.cleared book (s.ended + 1) row state.kept.booked here) (not_reached s₁.tree lives s₁.cleared book' (s.ended + 1 + 1) row spliced.booked there) ∙ state.held k d within)
 
   -- a row that went died by this call
   new_held : All (λ (h : Held). life_of lives h.row ≡ Dead h.stamp) (map (λ (r : ℕ). record { row = r; stamp = s.ended + 1 }) spliced.moved.gone)
@@ -108,22 +97,69 @@ module _ (kind : Kind) (s : Sheet) (t : Rooted) (lives : List Life) (buried : Li
       (grows book.rows (length book.free) (length book'.free) (length spliced.moved.taken) (length book.held) (length book'.held) (height_in s.tree.table s.tree.root) s.opened s.ended frees spliced.moved.few low state.kept.booked.sound.counted
       (subst (λ (n : ℕ). length book'.free + length book'.held ≤ n) rows spliced.booked.sound.counted) state.grown)
 
-  pub idle_after : IsIdle kind done book'
-  idle_after = record {
-    idle = refl;
-    state = record {
-      told = state.told;
-      range = state.range;
-      kept = record {
-        lawful = record { width = spliced.tree.width; words = lawful_by (tree_as kind t) state.range spliced.parents };
-        live = spliced.live;
-        none_buried = spliced.none_buried;
-        booked = spliced.booked;
-      };
-      held = held_after;
-      grown = grown_after;
-    };
-  }
+  cleared_is : s₁.cleared ≡ s.cleared
+  cleared_is = ap (λ (x : Sheet). x.cleared) spliced.rest
 
-  pub may_finish : s.in_flight ≡ true → MayFinish kind after call reply
-  may_finish flies = record { in_flight = flies; kept = λ before. absurd (cc) }
+  -- ---- the words are lawful then, and reach the same rows
+
+  module _ (t : Rooted) (reads : Option ℕ) (lawful : IsLawfulOf t kind) (rows : t.rows ≡ s₁.tree.rows) (same : (row : ℕ) → is_reached t row ≡ is_reached s₁.tree row) where
+    abbrev after : Sheet
+    after = replaced s t s₁.lives s₁.buried reads call reply
+
+    live_after : LiveAreReached t s₁.lives
+    live_after row low below =
+        let was = spliced.live row low (subst (λ (n : ℕ). row < first_row + n) rows below) in
+        ((λ is. same row ∙ was.0 is), (λ is. was.1 (sym (same row) ∙ is)))
+
+    booked_after : IsBookOf t s₁.lives s.cleared book' (s.ended + 1 + 1)
+    booked_after =
+        let was = subst (λ (n : ℕ). IsBookOf s₁.tree s₁.lives n book' (s.ended + 1 + 1)) cleared_is spliced.booked in
+        record {
+          sound = was.sound;
+          rows = was.rows ∙ sym rows;
+          out = λ row low below out. same row ∙ was.out row low (subst (λ (n : ℕ). row < first_row + n) rows below) out;
+          reached = λ row is. was.reached row (sym (same row) ∙ is);
+          spare = was.spare;
+          stamps = was.stamps;
+        }
+
+    idle_after : IsIdle kind (finished after call reply) book'
+    idle_after = record {
+      idle = refl;
+      state = record {
+        told = state.told;
+        kept = record {
+          lawful = lawful;
+          live = live_after;
+          none_buried = λ row low below. spliced.none_buried row low (subst (λ (n : ℕ). row < first_row + n) rows below);
+          booked = booked_after;
+        };
+        held = held_after;
+        grown = grown_after;
+      };
+    }
+
+    -- what such a store is, when it took rows so
+    stored_after : s.in_flight ≡ true → map_by t ≡ map_by s₁.tree → (acted kind (map_by s.tree) call).1 ≡ reply → TookRows kind s book.free book' call → IsStored kind s after book book' call reply
+    stored_after flies map replies took = record {
+      may = record { in_flight = flies; kept = λ before. absurd (cc) };
+      ended = record {
+        idle = idle_after;
+        ended = refl;
+        record_told = refl;
+        cleared = omega arith;
+        scans = inl refl;
+        rows = rows ∙ spliced.rows;
+        opened = refl;
+        shared = refl;
+        known = refl;
+      };
+      acts = acts_by (acted kind (map_by s.tree) call) (map_by t) reply (map ∙ spliced.map) replies;
+      unscanned = record { scans = refl; scan = refl; at_begin = refl };
+      took = took;
+    }
+
+  pub stored_by : (s' : Sheet) → s' ≡ replaced s s'.tree s₁.lives s₁.buried s'.reads call reply → IsLawfulOf s'.tree kind → s'.tree.rows ≡ s₁.tree.rows → ((row : ℕ) → is_reached s'.tree row ≡ is_reached s₁.tree row) → s.in_flight ≡ true → map_by s'.tree ≡ map_by s₁.tree
+      → (acted kind (map_by s.tree) call).1 ≡ reply → TookRows kind s book.free book' call → IsStored kind s s' book book' call reply
+  stored_by s' is lawful rows same flies map replies took =
+      subst (λ (x : Sheet). IsStored kind s x book book' call reply) (sym is) (stored_after s'.tree s'.reads lawful rows same flies map replies took)

@@ -1,6 +1,6 @@
--- What a call has come to by the replacement of rows, or by the end of all ranges.
-use Rattle.std.proofs.Common.{◌≡◌, ◌≢◌, ℕ, ◌+◌, ◌*◌, ◌≤◌, List, Bool, Option, true, false, length, refl, sym, ap, ◌∙◌, subst, inl, inr, arith}
-use Rattle.mt_base.specs.declared.ranges.Range.{Range}
+-- What a call has come to by a store, at once or after a scan, and by the end of all ranges.
+use Rattle.std.proofs.Common.{◌≡◌, ◌≢◌, ℕ, ◌+◌, ◌*◌, ◌≤◌, ◌<◌, ◌++◌, ◌^◌, ◌-◌, List, [], Bool, true, false, length, refl, sym, ap, ◌∙◌, subst, inl, inr, arith, append-nil}
+use Rattle.std.specs.Prelude.{◌⊎◌}
 use Rattle.mt_base.specs.declared.calls.Call.{Call}
 use Rattle.mt_base.specs.declared.calls.Call.TheVariants.{Clear}
 use Rattle.mt_base.specs.declared.kinds.Kind.{Kind}
@@ -8,106 +8,130 @@ use Rattle.mt_base.specs.declared.replies.Reply.{Reply}
 use Rattle.mt_base.specs.declared.replies.Reply.TheVariants as reply
 use Rattle.mt_base.specs.Call.{acted}
 use Rattle.mt_base.specs.Nodes.{Wants}
+use Rattle.mt_base.specs.Width.{greatest}
+use Rattle.mt_base.specs.declared.widths.Width.{Width}
 use Rattle.mt_free.specs.Book.{Book, after_reclaim}
-use Rattle.mt_rows.specs.declared.rows.Life.{Life}
 use Rattle.mt_rows.specs.declared.rows.Place.{Place}
 use Rattle.mt_rows.specs.declared.rows.Place.TheVariants.{Root}
 use Rattle.mt_rows.specs.declared.rows.Scan.{Scan}
 use Rattle.mt_rows.specs.Trees.{height_in}
-use Rattle.mt_rows.specs.Sheet.{Rooted, Sheet, IsWhole, OnlyReads, scanned}
-use Rattle.mt_rows.specs.Publish.{map_by}
+use Rattle.mt_rows.specs.Sheet.{Sheet, IsWhole, OnlyReads, scanned}
+use Rattle.mt_rows.specs.Publish.{WasScanned, map_by, finished}
 use Rattle.mt_splice.specs.Splice.{MayClear, IsSpliced}
-use Rattle.mt_engine.specs.Engine.{IsEngineState, IsInCall, IsAnswered, is_refusal}
+use Rattle.mt_engine.specs.Engine.{IsInCall, IsAnswered, IsEnded, Replaces, is_refusal}
+use Rattle.mt_engine.specs.Mends.{MayMendAt, IsMendedAt}
 use Rattle.mt_engine.specs.Rooms.{IsScanned, HasRoom}
-use Rattle.mt_engine.proofs.AfterSplice.{replaced, idle_after, may_finish}
+use Rattle.mt_engine.specs.Stores.{IsStored}
+use Rattle.mt_engine.proofs.AfterSplice.{replaced, stored_by}
 use Rattle.mt_engine.proofs.Moments.{in_call_if_read, answered_after_reads}
 use Rattle.mt_engine.proofs.Scanned.{was_scanned}
 
 pub not_both : (b : Bool) → b ≡ true → b ≡ false → ⊥
 not_both b is not = absurd (cc)
 
--- a map and a reply, each by itself
-acts_by : (was : List Range × Reply) (m : List Range) (reply : Reply) → m ≡ was.0 → was.1 ≡ reply → was ≡ (m, reply)
-acts_by was m reply is replies = ap (λ (l : List Range). (l, was.1)) (sym is) ∙ ap (λ (r : Reply). (m, r)) replies
+-- ---- a store at once
 
--- ---- by new rows, after a scan that found room
+pub at_once : (kind : Kind) (s s' : Sheet) (book book' : Book) (call : Call) (reply : Reply) → is_refusal reply ≡ false → (Wants kind (map_by s.tree) call → ⊥) → (Replaces kind (map_by s.tree) call → ⊥) → IsStored kind s s' book book' call reply → IsAnswered kind s s' book book' call reply
+at_once kind s s' book book' call reply success calm none stored = record {
+  may = stored.may;
+  ended = stored.ended;
+  answer =
+      inl (record {
+        acts = stored.acts;
+        kept = λ refused. absurd (not_both (is_refusal reply) refused success);
+        room = λ wants. absurd (calm wants);
+        took = λ wants. absurd (calm wants);
+        calm = λ _. (stored.unscanned.scans, stored.unscanned.scan, sym (stored.took.free_were ∙ (ap (λ (l : List ℕ). book'.free ++ l) (stored.took.none none) ∙ append-nil book'.free)));
+      });
+}
 
-module _ (kind : Kind) (s : Sheet) (answer : Scan) (cleared : ℕ) (t : Rooted) (lives : List Life) (buried : List Bool) (reads : Option ℕ) (book freed book' : Book) (call : Call) (reply : Reply) (place : Place) where
+-- ---- a store after a scan that found room
+
+module _ (kind : Kind) (s : Sheet) (answer : Scan) (cleared : ℕ) (s' : Sheet) (book freed book' : Book) (call : Call) (reply : Reply) where
   abbrev found : Sheet
   found = scanned s answer cleared
 
-  abbrev after : Sheet
-  after = replaced found t lives buried reads call reply
+  abbrev done : Sheet
+  done = finished s' call reply
 
-  replaces_by : {first last : ℕ} → IsWhole s → s.in_flight ≡ true → s.cleared ≤ cleared → freed ≡ after_reclaim book answer.least → IsEngineState kind found freed → HasRoom s.tree freed → Wants kind (map_by s.tree) call → is_refusal reply ≡ false → (acted kind (map_by s.tree) call).1 ≡ reply
-      → IsSpliced kind found after freed book' (s.ended + 1) call reply place first last → IsAnswered kind s after book book' call reply
-  replaces_by whole flies rises is_freed state room wants success replies spliced = record {
-    may = may_finish kind found t lives buried reads freed book' call reply place state spliced flies;
-    applied = record {
-      idle = idle_after kind found t lives buried reads freed book' call reply place state spliced;
-      answer =
-          inl (record {
-            acts = acts_by (acted kind (map_by s.tree) call) (map_by t) reply spliced.map replies;
-            kept = λ refused. absurd (not_both (is_refusal reply) refused success);
-            room = λ _. record { scanned = was_scanned s answer cleared whole; room = subst (λ (b : Book). 3 * height_in s.tree.table s.tree.root + 1 ≤ length b.free) is_freed room };
-            took = λ _. record { taken = spliced.moved.taken; free = ap (λ (b : Book). b.free) (sym is_freed) ∙ spliced.moved.free; few = spliced.moved.few };
-            calm = λ calm. absurd (calm wants);
-          });
-      ended = refl;
-      record_told = refl;
-      cleared = rises;
-      scans = inr refl;
-      rows = spliced.rows;
-      opened = refl;
-      shared = refl;
-      known = refl;
-    };
+  ended_then : s.cleared ≤ cleared → IsStored kind found s' freed book' call reply → IsEnded kind s done book' call reply
+  ended_then rises stored =
+      let is = stored.ended in
+      record {
+        idle = is.idle;
+        ended = is.ended;
+        record_told = is.record_told;
+        cleared = (let more = is.cleared in omega arith);
+        scans = inr stored.unscanned.scans;
+        rows = is.rows;
+        opened = is.opened;
+        shared = is.shared;
+        known = is.known;
+      }
+
+  was_scanned_then : IsWhole s → IsStored kind found s' freed book' call reply → WasScanned done
+  was_scanned_then whole stored =
+      let was : WasScanned found = was_scanned s answer cleared whole in
+      subst (λ (p : ℕ × ℕ). (p.0 < p.1) ⊎ (p.1 ≡ 2 ^ 64 - 1)) (λ i. (sym stored.unscanned.at_begin i, sym stored.unscanned.scans i)) was
+
+  least_is : IsStored kind found s' freed book' call reply → freed ≡ after_reclaim book answer.least → after_reclaim book done.scan.least ≡ freed
+  least_is stored is = ap (λ (a : Scan). after_reclaim book a.least) stored.unscanned.scan ∙ sym is
+
+  after_scan_by : IsWhole s → s.cleared ≤ cleared → freed ≡ after_reclaim book answer.least → HasRoom s.tree freed → Wants kind (map_by s.tree) call → is_refusal reply ≡ false → IsStored kind found s' freed book' call reply → IsAnswered kind s s' book book' call reply
+  after_scan_by whole rises is room wants success stored = record {
+    may = stored.may;
+    ended = ended_then rises stored;
+    answer =
+        inl (record {
+          acts = stored.acts;
+          kept = λ refused. absurd (not_both (is_refusal reply) refused success);
+          room = λ _. record { scanned = was_scanned_then whole stored; room = subst (λ (b : Book). 3 * height_in s.tree.table s.tree.root + 1 ≤ length b.free) (sym (least_is stored is)) room };
+          took = λ _.
+              (let took = stored.took in
+              record { taken = took.taken; free_were = ap (λ (b : Book). b.free) (least_is stored is) ∙ took.free_were; few = took.few; none = took.none });
+          calm = λ calm. absurd (calm wants);
+        });
   }
 
-pub replaces : (kind : Kind) (s s₂ s' : Sheet) (book book₂ book' : Book) (number : ℕ) (call : Call) (reply : Reply) (place : Place) {first last : ℕ} → IsWhole s → IsInCall kind s book → number ≡ s.ended + 1 → IsScanned kind s s₂ book book₂ → HasRoom s₂.tree book₂ → Wants kind (map_by s.tree) call → is_refusal reply ≡ false
-    → (acted kind (map_by s.tree) call).1 ≡ reply → IsSpliced kind s₂ s' book₂ book' number call reply place first last → IsAnswered kind s s' book book' call reply
-replaces kind s s₂ s' book book₂ book' number call reply place {first = first} {last = last} whole in_call is found room wants success replies spliced =
-    let of_scan : Sheet = scanned s s₂.scan s₂.cleared in
-    let numbered : IsSpliced kind s₂ s' book₂ book' (s.ended + 1) call reply place first last = subst (λ (n : ℕ). IsSpliced kind s₂ s' book₂ book' n call reply place first last) is spliced in
-    let begun : IsSpliced kind of_scan s' book₂ book' (s.ended + 1) call reply place first last = subst (λ (x : Sheet). IsSpliced kind x s' book₂ book' (s.ended + 1) call reply place first last) found.rest numbered in
-    subst (λ (x : Sheet). IsAnswered kind s x book book' call reply) (sym begun.rest)
-    (replaces_by kind s s₂.scan s₂.cleared s'.tree s'.lives s'.buried s'.reads book book₂ book' call reply place whole in_call.in_flight found.rises found.freed (subst (λ (x : Sheet). IsEngineState kind x book₂) found.rest found.state) (subst (λ (x : Sheet). HasRoom x.tree book₂) found.rest room)
-    wants success replies (subst (λ (x : Sheet). IsSpliced kind of_scan x book₂ book' (s.ended + 1) call reply place first last) begun.rest begun))
+pub after_scan : (kind : Kind) (s s₂ s' : Sheet) (book book₂ book' : Book) (call : Call) (reply : Reply) → IsWhole s → IsScanned kind s s₂ book book₂ → HasRoom s₂.tree book₂ → Wants kind (map_by s.tree) call → is_refusal reply ≡ false → IsStored kind s₂ s' book₂ book' call reply → IsAnswered kind s s' book book' call reply
+after_scan kind s s₂ s' book book₂ book' call reply whole is room wants success stored =
+    after_scan_by kind s s₂.scan s₂.cleared s' book book₂ book' call reply whole is.rises is.freed (subst (λ (x : Sheet). HasRoom x.tree book₂) is.rest room) wants success
+    (subst (λ (x : Sheet). IsStored kind x s' book₂ book' call reply) is.rest stored)
+
+-- ---- by new rows
+
+-- the gap words may be mended on the way to the first index
+pub may_mend : (kind : Kind) (s s₁ : Sheet) (book book' : Book) (number : ℕ) (call : Call) (reply : Reply) (place : Place) (first last : ℕ) → IsInCall kind s book → first ≤ last → last ≤ greatest s.tree.table.width → IsSpliced kind s s₁ book book' number call reply place first last → MayMendAt kind s₁ first
+may_mend kind s s₁ book book' number call reply place first last in_call order within spliced = record {
+  within = (let most : last ≤ greatest s₁.tree.table.width = subst (λ (w : Width). last ≤ greatest w) (in_call.state.kept.lawful.width ∙ sym spliced.tree.width) within in omega arith);
+  tree = spliced.tree;
+  parents = spliced.parents;
+  is_new = _;
+  gaps = spliced.gaps first (omega arith) order;
+  live = spliced.live;
+  none_buried = spliced.none_buried;
+}
+
+replaced_then : (kind : Kind) (s s₁ s₂ : Sheet) (book book' : Book) (number : ℕ) (call : Call) (reply : Reply) (place : Place) (first last : ℕ) → IsSpliced kind s s₁ book book' number call reply place first last → IsMendedAt kind s₁ s₂ → s₂ ≡ replaced s s₂.tree s₁.lives s₁.buried s₂.reads call reply
+replaced_then kind s s₁ s₂ book book' number call reply place first last spliced mended =
+    let words = mended.rest in
+    let as_tree : s₂ ≡ record s₁ { tree = s₂.tree; reads = s₂.reads } = words ∙ (λ i. record s₁ { tree = sym (ap (λ (x : Sheet). x.tree) words) i; reads = s₂.reads }) in
+    as_tree ∙ ap (λ (x : Sheet). record x { tree = s₂.tree; reads = s₂.reads }) spliced.rest
+
+pub rows_stored : (kind : Kind) (s s₁ s₂ : Sheet) (book book' : Book) (number : ℕ) (call : Call) (reply : Reply) (place : Place) (first last : ℕ) → IsInCall kind s book → number ≡ s.ended + 1 → Replaces kind (map_by s.tree) call → (acted kind (map_by s.tree) call).1 ≡ reply
+    → IsSpliced kind s s₁ book book' number call reply place first last → IsMendedAt kind s₁ s₂ → IsStored kind s s₂ book book' call reply
+rows_stored kind s s₁ s₂ book book' number call reply place first last in_call is replaces replies spliced mended =
+    stored_by kind s s₁ book book' call reply place in_call.state (subst (λ (n : ℕ). IsSpliced kind s s₁ book book' n call reply place first last) is spliced) s₂ (replaced_then kind s s₁ s₂ book book' number call reply place first last spliced mended) mended.lawful
+    (ap (λ (x : Sheet). x.tree.rows) mended.rest) mended.reached in_call.in_flight mended.map replies
+    (record { taken = spliced.moved.taken; free_were = spliced.moved.free; few = spliced.moved.few; none = λ not. absurd (not replaces) })
 
 -- ---- by the end of all ranges
 
-module _ (kind : Kind) (s : Sheet) (t : Rooted) (lives : List Life) (buried : List Bool) (reads : Option ℕ) (book book' : Book) where
-  abbrev emptied : Sheet
-  emptied = replaced s t lives buried reads Clear reply.Ok
-
-  clears_by : {first last : ℕ} → IsInCall kind s book → IsSpliced kind s emptied book book' (s.ended + 1) Clear reply.Ok Root first last → book'.free ≡ book.free → IsAnswered kind s emptied book book' Clear reply.Ok
-  clears_by in_call spliced none_taken = record {
-    may = may_finish kind s t lives buried reads book book' Clear reply.Ok Root in_call.state spliced in_call.in_flight;
-    applied = record {
-      idle = idle_after kind s t lives buried reads book book' Clear reply.Ok Root in_call.state spliced;
-      answer =
-          inl (record {
-            acts = acts_by (acted kind (map_by s.tree) Clear) (map_by t) reply.Ok spliced.map refl;
-            kept = λ refused. absurd (not_both false refused refl);
-            room = λ wants. absurd wants;
-            took = λ wants. absurd wants;
-            calm = λ _. (refl, refl, none_taken);
-          });
-      ended = refl;
-      record_told = refl;
-      cleared = omega arith;
-      scans = inl refl;
-      rows = spliced.rows;
-      opened = refl;
-      shared = refl;
-      known = refl;
-    };
-  }
-
-clears : (kind : Kind) (s s' : Sheet) (book book' : Book) {first last : ℕ} → IsInCall kind s book → IsSpliced kind s s' book book' (s.ended + 1) Clear reply.Ok Root first last → book'.free ≡ book.free → IsAnswered kind s s' book book' Clear reply.Ok
-clears kind s s' book book' {first = first} {last = last} in_call spliced none_taken =
-    subst (λ (x : Sheet). IsAnswered kind s x book book' Clear reply.Ok) (sym spliced.rest)
-    (clears_by kind s s'.tree s'.lives s'.buried s'.reads book book' in_call (subst (λ (x : Sheet). IsSpliced kind s x book book' (s.ended + 1) Clear reply.Ok Root first last) spliced.rest spliced) none_taken)
+clears : (kind : Kind) (s s' : Sheet) (book book' : Book) {first last : ℕ} → IsInCall kind s book → IsSpliced kind s s' book book' (s.ended + 1) Clear reply.Ok Root first last → book'.free ≡ book.free → s'.tree.root ≡ 0 → IsAnswered kind s s' book book' Clear reply.Ok
+clears kind s s' book book' in_call spliced none_taken empty =
+    at_once kind s s' book book' Clear reply.Ok refl (λ wants. wants) (λ replaces. replaces)
+    (stored_by kind s s' book book' Clear reply.Ok Root in_call.state spliced s' spliced.rest (record { width = spliced.tree.width; words = inl empty }) refl (λ row. refl) in_call.in_flight refl refl
+    (record { taken = []; free_were = sym none_taken ∙ sym (append-nil book'.free); few = omega arith; none = λ _. refl }))
 
 -- ---- after the plan was made
 
@@ -133,8 +157,8 @@ module _ (kind : Kind) (s s₁ : Sheet) (book : Book) (number : ℕ) (call : Cal
   pub may_clear_now : MayClear kind s₁ book number call reply.Ok
   may_clear_now = subst (λ (c : Call). MayClear kind s₁ book number c reply.Ok) (sym plan.0) (subst (λ (n : ℕ). MayClear kind s₁ book n Clear reply.Ok) (sym number_now) (may_clear_in kind s₁ book now some))
 
-  pub cleared_now : (s' : Sheet) (book' : Book) {first last : ℕ} → IsSpliced kind s₁ s' book book' number call reply.Ok Root first last → book'.free ≡ book.free → IsAnswered kind s s' book book' call reply.Ok
-  cleared_now s' book' {first = first} {last = last} spliced none_taken =
+  pub cleared_now : (s' : Sheet) (book' : Book) {first last : ℕ} → IsSpliced kind s₁ s' book book' number call reply.Ok Root first last → book'.free ≡ book.free → s'.tree.root ≡ 0 → IsAnswered kind s s' book book' call reply.Ok
+  cleared_now s' book' {first = first} {last = last} spliced none_taken empty =
       let as_clear : IsSpliced kind s₁ s' book book' number Clear reply.Ok Root first last = subst (λ (c : Call). IsSpliced kind s₁ s' book book' number c reply.Ok Root first last) plan.0 spliced in
       let numbered : IsSpliced kind s₁ s' book book' (s₁.ended + 1) Clear reply.Ok Root first last = subst (λ (n : ℕ). IsSpliced kind s₁ s' book book' n Clear reply.Ok Root first last) number_now as_clear in
-      answered_after_reads kind s s₁ s' book book' call reply.Ok reads (subst (λ (c : Call). IsAnswered kind s₁ s' book book' c reply.Ok) (sym plan.0) (clears kind s₁ s' book book' now numbered none_taken))
+      answered_after_reads kind s s₁ s' book book' call reply.Ok reads (subst (λ (c : Call). IsAnswered kind s₁ s' book book' c reply.Ok) (sym plan.0) (clears kind s₁ s' book book' now numbered none_taken empty))

@@ -1,5 +1,5 @@
 -- A call that publishes nothing: it leaves the map, or is refused for want of rows.
-use Rattle.std.proofs.Common.{◌≡◌, ℕ, ◌≤◌, Option, refl, sym, subst, inl, inr, arith}
+use Rattle.std.proofs.Common.{◌≡◌, ℕ, ◌≤◌, Option, [], refl, sym, subst, inl, inr, arith, append-nil}
 use Rattle.std.specs.Prelude.{◌⊎◌}
 use Rattle.mt_base.specs.declared.calls.Call.{Call}
 use Rattle.mt_base.specs.declared.kinds.Kind.{Kind}
@@ -10,12 +10,12 @@ use Rattle.mt_base.specs.Call.{acted}
 use Rattle.mt_base.specs.Nodes.{Wants, IsRefused}
 use Rattle.mt_free.specs.Book.{Book, after_reclaim}
 use Rattle.mt_rows.specs.declared.rows.Scan.{Scan}
-use Rattle.mt_rows.specs.Sheet.{Sheet, IsWhole, limits_of, one_more, scanned}
+use Rattle.mt_rows.specs.Sheet.{Sheet, IsScan, IsWhole, limits_of, one_more, scanned}
 use Rattle.mt_rows.specs.Publish.{MayFinish, IsFoundShort, IsCounted, finished, map_by, with_record}
-use Rattle.mt_engine.specs.Engine.{IsEngineState, IsIdle, IsInCall, IsDone, IsShortFor, IsApplied, IsAnswered}
+use Rattle.mt_engine.specs.Engine.{IsEngineState, IsIdle, IsInCall, IsEnded, IsAnswered}
 use Rattle.mt_engine.specs.Rooms.{IsScanned, IsShortOf}
+use Rattle.mt_engine.specs.Stores.{IsStored}
 use Rattle.mt_engine.proofs.Scanned.{was_scanned}
-use Rattle.mt_engine.proofs.Wanting.{stays_wants_none}
 
 -- the call's reply leaves the map
 abbrev StaysBy : Kind → Sheet → Call → Reply → Type 0
@@ -38,7 +38,6 @@ module _ (kind : Kind) (s : Sheet) (reads : Option ℕ) (scan : Scan) (scans cle
           idle = refl;
           state = record {
             told = state.told;
-            range = state.range;
             kept = record {
               lawful = state.kept.lawful;
               live = state.kept.live;
@@ -66,10 +65,9 @@ module _ (kind : Kind) (s : Sheet) (reads : Option ℕ) (scan : Scan) (scans cle
     record_is : done.told ≡ with_record s.told call reply
     record_is = rw is.before refl
 
-    ends_applied : (book : Book) → IsDone kind s done book next call reply ⊎ IsShortFor kind s done book next call reply → s.cleared ≤ cleared → (scans ≡ s.scans) ⊎ (scans ≡ one_more s.scans) → IsApplied kind s done book next call reply
-    ends_applied book answer rises counts = record {
+    ends : s.cleared ≤ cleared → (scans ≡ s.scans) ⊎ (scans ≡ one_more s.scans) → IsEnded kind s done next call reply
+    ends rises counts = record {
       idle = ends_idle;
-      answer = elim answer [ inl does ↦ inl does | inr short ↦ inr (short, refl) ];
       ended = refl;
       record_told = record_is;
       cleared = rises;
@@ -82,20 +80,29 @@ module _ (kind : Kind) (s : Sheet) (reads : Option ℕ) (scan : Scan) (scans cle
 
 -- ---- the map stays
 
-pub leaves : (kind : Kind) (s : Sheet) (book : Book) (call : Call) (reply : Reply) → IsInCall kind s book → StaysBy kind s call reply → IsAnswered kind s s book book call reply
-leaves kind s book call reply is stays = record {
+pub leaves : (kind : Kind) (s : Sheet) (book : Book) (call : Call) (reply : Reply) → IsInCall kind s book → StaysBy kind s call reply → (Wants kind (map_by s.tree) call → ⊥) → IsAnswered kind s s book book call reply
+leaves kind s book call reply is stays calm = record {
   may = may_end kind s s.reads s.scan s.scans s.cleared book call reply is (inl stays);
-  applied = ends_applied kind s s.reads s.scan s.scans s.cleared book call reply is book (inl does) (omega arith) (inl refl);
+  ended = ends kind s s.reads s.scan s.scans s.cleared book call reply is (omega arith) (inl refl);
+  answer =
+      inl (record {
+        acts = stays;
+        kept = λ _. refl;
+        room = λ wants. absurd (calm wants);
+        took = λ wants. absurd (calm wants);
+        calm = λ _. (refl, refl, refl);
+      });
 }
-  where
-    does : IsDone kind s (finished s call reply) book book call reply
-    does = record {
-      acts = stays;
-      kept = λ _. refl;
-      room = λ wants. absurd (stays_wants_none kind (map_by s.tree) call reply stays wants);
-      took = λ wants. absurd (stays_wants_none kind (map_by s.tree) call reply stays wants);
-      calm = λ _. (refl, refl, refl);
-    }
+
+-- the same of a store with rows at hand
+pub stays_stored : (kind : Kind) (s : Sheet) (book : Book) (call : Call) (reply : Reply) → IsInCall kind s book → StaysBy kind s call reply → IsStored kind s s book book call reply
+stays_stored kind s book call reply is stays = record {
+  may = may_end kind s s.reads s.scan s.scans s.cleared book call reply is (inl stays);
+  ended = ends kind s s.reads s.scan s.scans s.cleared book call reply is (omega arith) (inl refl);
+  acts = stays;
+  unscanned = record { scans = refl; scan = refl; at_begin = refl };
+  took = record { taken = []; free_were = sym (append-nil book.free); few = omega arith; none = λ _. refl };
+}
 
 -- ---- a scan found too few free rows
 
@@ -114,13 +121,12 @@ module _ (kind : Kind) (s : Sheet) (scan : Scan) (cleared : ℕ) (book next : Bo
   abbrev after : Sheet
   after = scanned s scan cleared
 
-  refuses_by : IsWhole s → IsInCall kind s book → s.cleared ≤ cleared → next ≡ after_reclaim book scan.least → IsEngineState kind after next → IsShortOf after next shortage → Wants kind (map_by s.tree) call
+  refuses_by : IsWhole s → IsInCall kind s book → IsScan s.shared s.told scan → s.cleared ≤ cleared → next ≡ after_reclaim book scan.least → IsEngineState kind after next → IsShortOf after next shortage → Wants kind (map_by s.tree) call
       → IsAnswered kind s after book next call (NoNodes shortage)
-  refuses_by whole is rises freed state short wants = record {
+  refuses_by whole is answers rises freed state short wants = record {
     may = may_end kind s s.reads scan (one_more s.scans) cleared next call (NoNodes shortage) now (inr (record { refused = refused; counted = short.counted; scanned = was_scanned s scan cleared whole }));
-    applied =
-        ends_applied kind s s.reads scan (one_more s.scans) cleared next call (NoNodes shortage) now book
-        (inr (record { refused = refused; counted = counted_end after call (NoNodes shortage) shortage short.counted; scanned = was_scanned s scan cleared whole; freed = freed; tells = short.tells })) rises (inr refl);
+    ended = ends kind s s.reads scan (one_more s.scans) cleared next call (NoNodes shortage) now rises (inr refl);
+    answer = inr (record { refused = refused; counted = counted_end after call (NoNodes shortage) shortage short.counted; scanned = was_scanned s scan cleared whole; answer = answers; freed = freed; tells = short.tells }, refl);
   }
     where
       now : IsInCall kind after next
@@ -133,4 +139,4 @@ pub refuses : (kind : Kind) (s s' : Sheet) (book next : Book) (call : Call) (sho
     → IsAnswered kind s s' book next call (NoNodes shortage)
 refuses kind s s' book next call shortage whole is found short wants =
     subst (λ (x : Sheet). IsAnswered kind s x book next call (NoNodes shortage)) (sym found.rest)
-    (refuses_by kind s s'.scan s'.cleared book next call shortage whole is found.rises found.freed (subst (λ (x : Sheet). IsEngineState kind x next) found.rest found.state) (subst (λ (x : Sheet). IsShortOf x next shortage) found.rest short) wants)
+    (refuses_by kind s s'.scan s'.cleared book next call shortage whole is found.answer found.rises found.freed (subst (λ (x : Sheet). IsEngineState kind x next) found.rest found.state) (subst (λ (x : Sheet). IsShortOf x next shortage) found.rest short) wants)

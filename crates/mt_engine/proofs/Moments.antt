@@ -8,7 +8,7 @@ use Rattle.mt_free.specs.Book.{Book}
 use Rattle.mt_rows.specs.Laws.{Tree, IsLawful, IsTree}
 use Rattle.mt_rows.specs.Publish.{IsLawfulOf, IsTreeOf, tree_as, map_by, finished}
 use Rattle.mt_rows.specs.Sheet.{Rooted, Sheet, OnlyReads, begun, limits_of}
-use Rattle.mt_engine.specs.Engine.{IsIdle, IsInCall, IsDone, IsShortFor, IsApplied, IsAnswered}
+use Rattle.mt_engine.specs.Engine.{IsIdle, IsInCall, IsDone, IsShortFor, IsEnded, DidOrLacked, IsApplied, IsAnswered, OnlySearches, OnlySought}
 
 -- ---- the state
 
@@ -42,45 +42,56 @@ module _ (kind : Kind) (s s' : Sheet) (book book' : Book) (call : Call) (reply :
     acts = done.acts;
     kept = done.kept;
     room = λ wants. (let had = done.room wants in record { scanned = had.scanned; room = had.room });
-    took = λ wants. (let took = done.took wants in record { taken = took.taken; free = took.free; few = took.few });
+    took = λ wants. (let took = done.took wants in record { taken = took.taken; free_were = took.free_were; few = took.few; none = took.none });
     calm = done.calm;
   }
 
   short_from : IsShortFor kind was s' book book' call reply → IsShortFor kind s s' book book' call reply
-  short_from short = record { refused = short.refused; counted = short.counted; scanned = short.scanned; freed = short.freed; tells = short.tells }
+  short_from short = record { refused = short.refused; counted = short.counted; scanned = short.scanned; answer = short.answer; freed = short.freed; tells = short.tells }
 
-  applied_from : IsApplied kind was s' book book' call reply → IsApplied kind s s' book book' call reply
-  applied_from applied = record {
-    idle = applied.idle;
-    answer =
-        ⊎_elim
-        (λ (done : IsDone kind was s' book book' call reply). inl (done_from done))
-        (λ (short : IsShortFor kind was s' book book' call reply × (s'.tree ≡ s.tree)). inr (short_from short.0, short.1)) applied.answer;
-    ended = applied.ended;
-    record_told = applied.record_told;
-    cleared = applied.cleared;
-    scans = applied.scans;
-    rows = applied.rows;
-    opened = applied.opened;
-    shared = applied.shared;
-    known = applied.known;
+  answer_from : DidOrLacked kind was s' book book' call reply → DidOrLacked kind s s' book book' call reply
+  answer_from answer =
+      ⊎_elim
+      (λ (done : IsDone kind was s' book book' call reply). inl (done_from done))
+      (λ (short : IsShortFor kind was s' book book' call reply × (s'.tree ≡ s.tree)). inr (short_from short.0, short.1)) answer
+
+  ended_from : IsEnded kind was s' book' call reply → IsEnded kind s s' book' call reply
+  ended_from is = record {
+    idle = is.idle;
+    ended = is.ended;
+    record_told = is.record_told;
+    cleared = is.cleared;
+    scans = is.scans;
+    rows = is.rows;
+    opened = is.opened;
+    shared = is.shared;
+    known = is.known;
   }
 
 -- where rows were only read before
 pub answered_after_reads : (kind : Kind) (s s₁ s' : Sheet) (book book' : Book) (call : Call) (reply : Reply) → OnlyReads s s₁ → IsAnswered kind s₁ s' book book' call reply → IsAnswered kind s s' book book' call reply
 answered_after_reads kind s s₁ s' book book' call reply reads answered = record {
   may = answered.may;
-  applied =
-      applied_from kind s (finished s' call reply) book book' call reply s.in_flight s.published s.scans_at_begin s₁.reads
-      (subst (λ (x : Sheet). IsApplied kind x (finished s' call reply) book book' call reply) reads answered.applied);
+  ended =
+      ended_from kind s (finished s' call reply) book book' call reply s.in_flight s.published s.scans_at_begin s₁.reads
+      (subst (λ (x : Sheet). IsEnded kind x (finished s' call reply) book' call reply) reads answered.ended);
+  answer =
+      answer_from kind s (finished s' call reply) book book' call reply s.in_flight s.published s.scans_at_begin s₁.reads
+      (subst (λ (x : Sheet). DidOrLacked kind x (finished s' call reply) book book' call reply) reads answered.answer);
 }
 
 -- the end of a call
-pub applied_by : (kind : Kind) (s s₁ s' s″ : Sheet) (book book' : Book) (call : Call) (reply : Reply) → s₁ ≡ begun s → IsAnswered kind s₁ s' book book' call reply → s″ ≡ finished s' call reply → IsApplied kind s s″ book book' call reply
-applied_by kind s s₁ s' s″ book book' call reply begins answered ends =
-    subst (λ (x : Sheet). IsApplied kind s x book book' call reply) (sym ends)
-    (applied_from kind s (finished s' call reply) book book' call reply (begun s).in_flight (begun s).published (begun s).scans_at_begin s.reads
-    (subst (λ (x : Sheet). IsApplied kind x (finished s' call reply) book book' call reply) begins answered.applied))
+pub applied_by : (kind : Kind) (s s₁ s' s″ : Sheet) (book book' : Book) (call : Call) (reply : Reply) → s₁ ≡ begun s → IsAnswered kind s₁ s' book book' call reply → (OnlySearches call reply → OnlySought s₁ s' book book') → s″ ≡ finished s' call reply → IsApplied kind s s″ book book' call reply
+applied_by kind s s₁ s' s″ book book' call reply begins answered search ends =
+    subst (λ (x : Sheet). IsApplied kind s x book book' call reply) (sym ends) (record {
+      ended =
+          ended_from kind s (finished s' call reply) book book' call reply (begun s).in_flight (begun s).published (begun s).scans_at_begin s.reads
+          (subst (λ (x : Sheet). IsEnded kind x (finished s' call reply) book' call reply) begins answered.ended);
+      answer =
+          answer_from kind s (finished s' call reply) book book' call reply (begun s).in_flight (begun s).published (begun s).scans_at_begin s.reads
+          (subst (λ (x : Sheet). DidOrLacked kind x (finished s' call reply) book book' call reply) begins answered.answer);
+      search = λ only. (let sought = subst (λ (x : Sheet). OnlySought x s' book book') begins (search only) in record { tree = sought.tree; same_book = sought.same_book; reads = sought.reads });
+    })
 
 -- ---- as a map of ranges tells it
 
@@ -91,4 +102,4 @@ made_by kind s s' book book' call reply applied =
     (λ (short : IsShortFor kind s s' book book' call reply × (s'.tree ≡ s.tree)). inr (short.0.refused, ap (λ (t : Rooted). map_by t) short.1)) applied.answer
 
 pub limits_by : (kind : Kind) (s s' : Sheet) (book book' : Book) (call : Call) (reply : Reply) → IsApplied kind s s' book book' call reply → limits_of s' ≡ record (limits_of s) { ended = s.ended + 1 }
-limits_by kind s s' book book' call reply applied = λ i. record { rows = applied.rows i; opened = applied.opened i; ended = applied.ended i; may_hold = applied.shared i }
+limits_by kind s s' book book' call reply applied = λ i. record { rows = applied.ended.rows i; opened = applied.ended.opened i; ended = applied.ended.ended i; may_hold = applied.ended.shared i }

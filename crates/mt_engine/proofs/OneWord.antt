@@ -1,12 +1,13 @@
 -- Another entry of one range, published by one word in the slot of its leaf: the rows stay as they are.
-use Rattle.std.proofs.Common.{◌≡◌, ◌≢◌, ℕ, zero, suc, ◌+◌, ◌*◌, ◌<◌, ◌≤◌, List, [], ◌∷◌, Bool, true, false, All, nat_lt, refl, sym, ap, ◌∙◌, subst, inl, inr, arith, get_or-set_other, le-ltb}
+use Rattle.std.proofs.Common.{◌≡◌, ◌≢◌, ℕ, zero, suc, ◌+◌, ◌*◌, ◌<◌, ◌≤◌, ◌==◌, ◌++◌, List, [], ◌∷◌, Bool, true, false, All, nat_lt, length, max, refl, sym, ap, ◌∙◌, subst, inl, inr, arith, append-nil, get_or-set_other, le-ltb, ne_eqb}
 use Rattle.std.specs.Prelude.{slice_index, slice_set, slice_index_or}
 use Rattle.std.specs.List.{AllByRecursion, Contains}
-use Rattle.std.proofs.lemmas.Bool.{cases_Bool}
+use Rattle.std.proofs.lemmas.Bool.{cases_Bool, eqb-false}
 use Rattle.std.proofs.lemmas.List.Elements.{All-weaker, All-contains, All-contains_itself}
 use Rattle.mt_base.specs.declared.widths.Width.{Width}
 use Rattle.mt_base.specs.declared.widths.Width.TheVariants.{Long}
 use Rattle.mt_base.specs.declared.kinds.Kind.{Kind}
+use Rattle.mt_base.specs.declared.kinds.Kind.TheVariants as trees
 use Rattle.mt_base.specs.declared.ranges.Range.{Range}
 use Rattle.mt_base.specs.declared.calls.Call.{Call}
 use Rattle.mt_base.specs.declared.calls.Call.TheVariants.{Store}
@@ -15,14 +16,15 @@ use Rattle.mt_base.specs.declared.replies.Reply.TheVariants as reply
 use Rattle.mt_base.specs.Call.{acted}
 use Rattle.mt_base.specs.Entry.{reserved}
 use Rattle.mt_base.specs.Map.{over}
-use Rattle.mt_base.specs.Nodes.{Wants}
+use Rattle.mt_base.proofs.Lists.{all_front, all_back, all_join}
 use Rattle.mt_base.specs.Width.{columns, greatest, greatest_of, first_row}
 use Rattle.mt_free.specs.Book.{Book, Held, IsRowOf}
-use Rattle.mt_layout.specs.declared.names.RowKind.TheVariants.{Leaf}
+use Rattle.mt_layout.specs.declared.names.RowKind.TheVariants.{Leaf, Gapped}
 use Rattle.mt_layout.specs.declared.spans.Span.{Span}
-use Rattle.mt_layout.specs.Columns.{slot_column}
+use Rattle.mt_layout.specs.Columns.{slot_column, gap_column}
 use Rattle.mt_layout.specs.Rows.{row_in}
 use Rattle.mt_layout.specs.Sizes.{slots_of}
+use Rattle.mt_layout.specs.Spans.{hole_length, longest_in}
 use Rattle.mt_rows.specs.declared.rows.Life.{Life}
 use Rattle.mt_rows.specs.declared.rows.Life.TheVariants.{New, Dead}
 use Rattle.mt_rows.specs.declared.rows.Place.{Place}
@@ -30,11 +32,13 @@ use Rattle.mt_rows.specs.declared.rows.Place.TheVariants.{Slot}
 use Rattle.mt_rows.specs.Spans.{Table, column, spans_in}
 use Rattle.mt_rows.specs.Levels.{Levels, is_row_of}
 use Rattle.mt_rows.specs.Laws as laws
+use Rattle.mt_rows.specs.Trees.{height_in}
 use Rattle.mt_rows.specs.Sheet.{Rooted, Sheet, IsWhole, life_of, with_word}
 use Rattle.mt_rows.specs.Publish.{tree_as, map_by, is_reached, MayPublish, Published, with_record, life_after, finished}
 use Rattle.mt_rows.specs.Replacement.{root_of, IsSlotAt, ReplacesEntry}
 use Rattle.mt_rows.proofs.ExactStore.{may_publish}
-use Rattle.mt_rows.proofs.Heights.{levels_upper, levels_both, upper_both, upper_shared}
+use Rattle.mt_rows.proofs.Heights.{levels_upper, levels_both, levels_pair, level_rows, all_both, upper_both, upper_shared}
+use Rattle.mt_rows.proofs.Lists.{levels_map}
 use Rattle.mt_rows.proofs.Reached as reached
 use Rattle.mt_rows.proofs.SlotEntry as exact
 use Rattle.mt_rows.proofs.SlotStore as store
@@ -45,8 +49,10 @@ use Rattle.mt_path.proofs.Places.{at_get}
 use Rattle.mt_path.proofs.TreePaths.{row_of, place, holds}
 use Rattle.mt_splice.specs.Kept.{IsBookOf, IsSpare}
 use Rattle.mt_splice.specs.Splice.{IsStoreBy}
-use Rattle.mt_engine.specs.Engine.{IsOfRanges, IsInCall, IsIdle, IsAnswered, is_refusal}
-use Rattle.mt_engine.proofs.Answering.{not_both}
+use Rattle.mt_engine.specs.Heights.{SameHeight}
+use Rattle.mt_engine.specs.Engine.{IsInCall, IsIdle}
+use Rattle.mt_engine.specs.Stores.{IsStored}
+use Rattle.mt_engine.proofs.GapsStay.{SameGaps, longest_in-append, gaps_stay, no_gaps_in_leaves}
 use Rattle.mt_engine.proofs.Slots.{end_is, slot_holds}
 use Rattle.mt_rows.proofs.FewSpans.{row_most}
 
@@ -60,20 +66,32 @@ parents_stay : (t t' : Table) (row slot : ℕ) (xs : List Span) → ((r : ℕ) �
 parents_stay t t' row slot [] same parents = tt
 parents_stay t t' row slot (x ∷ xs) same parents = (same (row_in x.word) ∙ parents.0, parents_stay t t' row (slot + 1) xs same parents.1)
 
-tended_stays : (t t' : laws.Tree) (n : ℕ) (x : Span) → IsOfRanges t'.kind → ((r : ℕ) → column t'.table r 0 ≡ column t.table r 0) → spans_in t'.table x ≡ spans_in t.table x → laws.IsTended t n x → laws.IsTended t' n x
-tended_stays t t' zero x range same spans tended = record { parent = tt; gaps = tt }
-tended_stays t t' (suc n) x range same spans tended = record {
-  parent = subst (laws.ParentsFrom t'.table (row_in x.word) 0) (sym spans) (parents_stay t.table t'.table (row_in x.word) 0 (spans_in t.table x) same tended.parent);
-  gaps = rw range tt;
-}
+pub parent_stays_in : (t t' : laws.Tree) (n : ℕ) (x : Span) → ((r : ℕ) → column t'.table r 0 ≡ column t.table r 0) → spans_in t'.table x ≡ spans_in t.table x → laws.ParentLaw t n x → laws.ParentLaw t' n x
+parent_stays_in t t' zero x same spans parent = tt
+parent_stays_in t t' (suc n) x same spans parent = subst (laws.ParentsFrom t'.table (row_in x.word) 0) (sym spans) (parents_stay t.table t'.table (row_in x.word) 0 (spans_in t.table x) same parent)
 
-leaves_tended : (t : laws.Tree) (xs : List Span) → AllByRecursion (laws.IsTended t zero) xs
-leaves_tended t [] = tt
-leaves_tended t (x ∷ xs) = (record { parent = tt; gaps = tt }, leaves_tended t xs)
+no_parents_in_leaves : (t : laws.Tree) (xs : List Span) → AllByRecursion (laws.ParentLaw t zero) xs
+no_parents_in_leaves t [] = tt
+no_parents_in_leaves t (x ∷ xs) = (tt, no_parents_in_leaves t xs)
+
+-- ---- the gap words beside a slot of a leaf
+
+gap_stays : (width : Width) (words : List ℕ) (row slot word r c : ℕ) → slot < slots_of width Leaf → c < slots_of width Gapped → (r ≡ row → ⊥)
+    → slice_index (slice_set words (columns width * row + slot_column (slots_of width Leaf) slot) word) (columns width * r + gap_column (slots_of width Gapped) c) ≡ slice_index words (columns width * r + gap_column (slots_of width Gapped) c)
+gap_stays Long words row slot word r c low in_row other = get_or-set_other words (32 * row + (16 + slot)) (32 * r + (20 + c)) word 0 (λ e. other (omega arith))
+
+-- an entry is no hole, whichever it is
+no_hole : (x : Span) → x.word ≢ 0 → hole_length x ≡ 0
+no_hole x full = let some : (x.word == 0) ≡ false = ne_eqb x.word 0 full in rw some refl
+
+entry_longest : (front back : List Span) (x y : Span) → x.word ≢ 0 → y.word ≢ 0 → longest_in (front ++ (y ∷ back)) ≡ longest_in (front ++ (x ∷ back))
+entry_longest front back x y full new =
+    longest_in-append front (y ∷ back)
+    ∙ (ap (λ (k : ℕ). max (longest_in front) (max k (longest_in back))) (no_hole y new ∙ sym (no_hole x full)) ∙ sym (longest_in-append front (x ∷ back)))
 
 -- ---- the store
 
-module _ (kind : Kind) (s : Sheet) (h index entry : ℕ) (range : IsOfRanges kind) (whole : IsWhole s) (stands : laws.Stands (tree_as kind s.tree) h) (inside : index ≤ greatest s.tree.table.width) where
+module _ (kind : Kind) (s : Sheet) (h index entry : ℕ) (whole : IsWhole s) (stands : laws.Stands (tree_as kind s.tree) h) (inside : index ≤ greatest s.tree.table.width) where
   abbrev pub t : laws.Tree
   t = tree_as kind s.tree
 
@@ -124,18 +142,67 @@ module _ (kind : Kind) (s : Sheet) (h index entry : ℕ) (range : IsOfRanges kin
     abbrev IsOther : ℕ → Span → Type 0
     IsOther n y = is_row_of (row_in leaf.word) n y ≡ false
 
-    keeps : (n : ℕ) (y : Span) → IsOther n y → laws.IsTended t n y → laws.IsTended t' n y
-    keeps n y other tended = tended_stays t t' n y range parent_same (store.others_same st n y other) tended
+    abbrev root : List Span
+    root = root_of (tree_as kind s.tree)
 
-    tended_after : Levels (laws.IsTended t) t.table h (root_of t) → Levels (laws.IsTended t') t'.table h (root_of t')
+    keeps_parents : (n : ℕ) (y : Span) → IsOther n y → laws.ParentLaw t n y → laws.ParentLaw t' n y
+    keeps_parents n y other parent = parent_stays_in t t' n y parent_same (store.others_same st n y other) parent
+
+    parents_after : Levels (laws.ParentLaw t) t.table h root → Levels (laws.ParentLaw t') t'.table h root
+    parents_after parents =
+        levels_both (laws.ParentLaw t') t'.table h zero h root (omega arith)
+        (upper_shared (laws.ParentLaw t') t.table t'.table h zero root (store.upper_same st)
+        (upper_both IsOther (laws.ParentLaw t) (laws.ParentLaw t') t.table keeps_parents h zero root (store.upper_other st) (levels_upper (laws.ParentLaw t) t.table h zero h root (omega arith) parents)))
+        (no_parents_in_leaves t' _)
+
+    -- each row but the one that is written is the same, and that one has as long a hole as before
+    abbrev Same : ℕ → Span → Type 0
+    Same = SameGaps kind s.tree.table written.table
+
+    gap_same : (n : ℕ) (y : Span) → IsOther (suc n) y → laws.IsRow t (suc n) y → kind ≡ trees.Alloc → (c : ℕ) → c < length (spans_in s.tree.table y) → column written.table (row_in y.word) (gap_column (slots_of s.tree.table.width Gapped) c) ≡ column s.tree.table (row_in y.word) (gap_column (slots_of s.tree.table.width Gapped) c)
+    gap_same n y other row is c within =
+        let most : length (spans_in s.tree.table y) ≤ slots_of s.tree.table.width Gapped = subst (λ (k : Kind). length (spans_in s.tree.table y) ≤ slots_of s.tree.table.width (laws.kind_at k (suc n))) is (row_most row.name) in
+        gap_stays s.tree.table.width s.tree.table.words (row_in leaf.word) slot entry (row_in y.word) c slot_low (omega arith) (eqb-false (row_in y.word) (row_in leaf.word) other)
+
+    same_here : (n : ℕ) (y : Span) → IsOther n y → laws.IsRow t n y → Same n y
+    same_here zero y other row = ap longest_in (store.others_same st zero y other)
+    same_here (suc n) y other row = record { spans = store.others_same st (suc n) y other; gaps = gap_same n y other row }
+
+    leaf_same : Same zero leaf
+    leaf_same =
+        let parts = store.parts st in
+        ap longest_in (store.row_after st) ∙ (entry_longest parts.0 parts.1 item (record { first = item.first; last = item.last; word = entry }) old new ∙ sym (ap longest_in (store.row_before st)))
+
+    same_levels : Levels Same s.tree.table h root
+    same_levels =
+        let laws_here = level_rows (laws.IsRow t) t.table h zero h root (omega arith) stands.rows in
+        let split = subst (AllByRecursion (laws.IsRow t zero)) at.stands laws_here in
+        levels_both Same t.table h zero h root (omega arith)
+        (upper_both IsOther (laws.IsRow t) Same t.table same_here h zero root (store.upper_other st) (levels_upper (laws.IsRow t) t.table h zero h root (omega arith) stands.rows))
+        (subst (AllByRecursion (Same zero)) (sym at.stands)
+        (all_join (Same zero) at.front (leaf ∷ at.back)
+        (all_both (IsOther zero) (laws.IsRow t zero) (Same zero) (same_here zero) at.front (store.front_other st) (all_front (laws.IsRow t zero) at.front (leaf ∷ at.back) split))
+        (leaf_same, all_both (IsOther zero) (laws.IsRow t zero) (Same zero) (same_here zero) at.back (store.back_other st) (all_back (laws.IsRow t zero) at.front (leaf ∷ at.back) split).1)))
+
+    gaps_after : Levels (laws.GapLaw t) t.table h root → Levels (laws.GapLaw t') t'.table h root
+    gaps_after gaps =
+        let stay = gaps_stay kind s.tree.table.width s.tree.table.words written.table.words s.tree.rows s.tree.root h root same_levels gaps in
+        levels_both (laws.GapLaw t') t'.table h zero h root (omega arith)
+        (upper_shared (laws.GapLaw t') t.table t'.table h zero root (store.upper_same st) (levels_upper (laws.GapLaw t') t.table h zero h root (omega arith) stay))
+        (no_gaps_in_leaves kind s.tree.table.width s.tree.table.words written.table.words s.tree.rows s.tree.root _)
+
+    tended_after : Levels (laws.IsTended t) t.table h root → Levels (laws.IsTended t') t'.table h root
     tended_after tended =
-        levels_both (laws.IsTended t') t'.table h zero h (root_of t') (omega arith)
-        (upper_shared (laws.IsTended t') t.table t'.table h zero (root_of t) (store.upper_same st)
-        (upper_both IsOther (laws.IsTended t) (laws.IsTended t') t.table keeps h zero (root_of t) (store.upper_other st) (levels_upper (laws.IsTended t) t.table h zero h (root_of t) (omega arith) tended)))
-        (leaves_tended t' _)
+        levels_pair (laws.ParentLaw t') (laws.GapLaw t') (laws.IsTended t') t'.table (λ n x parent gaps. record { parent = parent; gaps = gaps }) h root
+        (parents_after (levels_map (laws.IsTended t) (laws.ParentLaw t) t.table (λ n x is. is.parent) h root tended))
+        (gaps_after (levels_map (laws.IsTended t) (laws.GapLaw t) t.table (λ n x is. is.gaps) h root tended))
 
     pub lawful_after : column t.table (row_in t.root) 0 ≡ 1 → Levels (laws.IsTended t) t.table h (root_of t) → laws.IsLawful t'
     lawful_after parent tended = inr (h, replaced.stands, parent_same (row_in t.root) ∙ parent, tended_after tended)
+
+    -- the height stays
+    pub height_kept : SameHeight s.tree written
+    height_kept = reached.height_is t' h replaced.stands ∙ sym (reached.height_is t h stands)
 
     -- ---- it may be published, by whichever call
 
@@ -167,7 +234,7 @@ all_with {X} P Q R f xs ps qs = All-weaker (Contains xs) R (λ x one. f x (All-c
 
 module _ (kind : Kind) (s : Sheet) (book : Book) (after : Rooted) (lives : List Life) (buried : List Bool) (call : Call) (reply : Reply) (in_call : IsInCall kind s book) (rows : after.rows ≡ s.tree.rows) (reached_same : (row : ℕ) → is_reached after row ≡ is_reached s.tree row)
     (alive : (row : ℕ) → first_row ≤ row → row < first_row + s.tree.rows → slice_index_or lives row New ≡ life_after s after row) (kept : (row : ℕ) → first_row ≤ row → row < first_row + s.tree.rows → slice_index_or buried row false ≡ false)
-    (width : after.table.width ≡ s.tree.table.width) (lawful : laws.IsLawful (tree_as kind after)) (acts : acted kind (map_by s.tree) call ≡ (map_by after, reply)) (calm : Wants kind (map_by s.tree) call → ⊥) (success : is_refusal reply ≡ false) where
+    (width : after.table.width ≡ s.tree.table.width) (lawful : laws.IsLawful (tree_as kind after)) (acts : acted kind (map_by s.tree) call ≡ (map_by after, reply)) where
   abbrev later : Sheet
   later = record s { tree = after; published = true; lives = lives; buried = buried; told = with_record s.told call reply }
 
@@ -204,7 +271,6 @@ module _ (kind : Kind) (s : Sheet) (book : Book) (after : Rooted) (lives : List 
         idle = refl;
         state = record {
           told = state.told;
-          range = state.range;
           kept = record {
             lawful = record { width = width ∙ state.kept.lawful.width; words = lawful };
             live = λ row low below.
@@ -219,19 +285,11 @@ module _ (kind : Kind) (s : Sheet) (book : Book) (after : Rooted) (lives : List 
         };
       }
 
-  pub is_answered : IsAnswered kind s later book book call reply
-  is_answered = record {
+  pub is_stored : IsStored kind s later book book call reply
+  is_stored = record {
     may = record { in_flight = in_call.in_flight; kept = λ not. absurd (cc) };
-    applied = record {
+    ended = record {
       idle = rested;
-      answer =
-          inl (record {
-            acts = acts;
-            kept = λ refused. absurd (not_both (is_refusal reply) refused success);
-            room = λ wants. absurd (calm wants);
-            took = λ wants. absurd (calm wants);
-            calm = λ _. (refl, refl, refl);
-          });
       ended = refl;
       record_told = refl;
       cleared = omega arith;
@@ -241,6 +299,9 @@ module _ (kind : Kind) (s : Sheet) (book : Book) (after : Rooted) (lives : List 
       shared = refl;
       known = refl;
     };
+    acts = acts;
+    unscanned = record { scans = refl; scan = refl; at_begin = refl };
+    took = record { taken = []; free_were = sym (append-nil book.free); few = omega arith; none = λ _. refl };
   }
 
 -- ---- by a handle
@@ -269,7 +330,7 @@ module _ (kind : Kind) (s : Sheet) (book : Book) (handle : Handle) (entry : ℕ)
   leaf_is : handle.leaf ≡ step_in s.tree.table here is.index
   leaf_is = ap (λ (x : Handle). x.leaf) is.is ∙ end_is words stood.0 stood.1 is.index is.within
 
-  place_is : Slot handle.leaf.row (slot_column (slots_of s.tree.table.width Leaf) handle.leaf.slot) ≡ where_published kind s stood.0 is.index entry in_call.state.range whole stood.1 is.within
+  place_is : Slot handle.leaf.row (slot_column (slots_of s.tree.table.width Leaf) handle.leaf.slot) ≡ where_published kind s stood.0 is.index entry whole stood.1 is.within
   place_is = λ i. Slot (leaf_is i).row (slot_column (slots_of s.tree.table.width Leaf) (leaf_is i).slot)
 
   full : (below s.tree.table here is.index).word ≢ 0
@@ -278,18 +339,24 @@ module _ (kind : Kind) (s : Sheet) (book : Book) (handle : Handle) (entry : ℕ)
   stores_there : IsStoreBy kind (greatest s.tree.table.width) (map_by s.tree) call reply (below s.tree.table here is.index).first (below s.tree.table here is.index).last entry
   stores_there = subst (λ (x : Span). IsStoreBy kind (greatest s.tree.table.width) (map_by s.tree) call reply x.first x.last entry) span_is stores
 
-  may_there : MayPublish kind s (where_published kind s stood.0 is.index entry in_call.state.range whole stood.1 is.within) entry call reply
-  may_there = may_as kind s stood.0 is.index entry in_call.state.range whole stood.1 is.within full new stores.lawful call reply book in_call stores_there
+  may_there : MayPublish kind s (where_published kind s stood.0 is.index entry whole stood.1 is.within) entry call reply
+  may_there = may_as kind s stood.0 is.index entry whole stood.1 is.within full new stores.lawful call reply book in_call stores_there
 
   pub may_publish_entry : MayPublish kind s (Slot handle.leaf.row (slot_column (slots_of s.tree.table.width Leaf) handle.leaf.slot)) entry call reply
   may_publish_entry = subst (λ (p : Place). MayPublish kind s p entry call reply) (sym place_is) may_there
 
-  answered_there : (s' : Sheet) → (Wants kind (map_by s.tree) call → ⊥) → is_refusal reply ≡ false → Published s s' (where_published kind s stood.0 is.index entry in_call.state.range whole stood.1 is.within) entry call reply → IsAnswered kind s s' book book call reply
-  answered_there s' calm success done =
-      subst (λ (x : Sheet). IsAnswered kind s x book book call reply) (sym done.rest)
-      (is_answered kind s book (written kind s stood.0 is.index entry in_call.state.range whole stood.1 is.within) s'.lives s'.buried call reply in_call refl
-      (reached_stay kind s stood.0 is.index entry in_call.state.range whole stood.1 is.within full new stores.lawful) done.lives done.buried refl
-      (lawful_after kind s stood.0 is.index entry in_call.state.range whole stood.1 is.within full new stores.lawful stood.2 stood.3) may_there.answer calm success)
+  stored_there : (s' : Sheet) → Published s s' (where_published kind s stood.0 is.index entry whole stood.1 is.within) entry call reply → IsStored kind s s' book book call reply
+  stored_there s' done =
+      subst (λ (x : Sheet). IsStored kind s x book book call reply) (sym done.rest)
+      (is_stored kind s book (written kind s stood.0 is.index entry whole stood.1 is.within) s'.lives s'.buried call reply in_call refl
+      (reached_stay kind s stood.0 is.index entry whole stood.1 is.within full new stores.lawful) done.lives done.buried refl
+      (lawful_after kind s stood.0 is.index entry whole stood.1 is.within full new stores.lawful stood.2 stood.3) may_there.answer)
 
-  pub entry_published : (s' : Sheet) → (Wants kind (map_by s.tree) call → ⊥) → is_refusal reply ≡ false → Published s s' (Slot handle.leaf.row (slot_column (slots_of s.tree.table.width Leaf) handle.leaf.slot)) entry call reply → IsAnswered kind s s' book book call reply
-  entry_published s' calm success done = answered_there s' calm success (subst (λ (p : Place). Published s s' p entry call reply) place_is done)
+  pub entry_stored : (s' : Sheet) → Published s s' (Slot handle.leaf.row (slot_column (slots_of s.tree.table.width Leaf) handle.leaf.slot)) entry call reply → IsStored kind s s' book book call reply
+  entry_stored s' done = stored_there s' (subst (λ (p : Place). Published s s' p entry call reply) place_is done)
+
+  height_there : (s' : Sheet) → Published s s' (where_published kind s stood.0 is.index entry whole stood.1 is.within) entry call reply → SameHeight s.tree s'.tree
+  height_there s' done = ap (λ (x : Sheet). height_in x.tree.table x.tree.root) done.rest ∙ height_kept kind s stood.0 is.index entry whole stood.1 is.within full new stores.lawful
+
+  pub entry_height : (s' : Sheet) → Published s s' (Slot handle.leaf.row (slot_column (slots_of s.tree.table.width Leaf) handle.leaf.slot)) entry call reply → SameHeight s.tree s'.tree
+  entry_height s' done = height_there s' (subst (λ (p : Place). Published s s' p entry call reply) place_is done)

@@ -6,10 +6,13 @@ use Rattle.mt_base.specs.declared.kinds.Kind.{Kind}
 use Rattle.mt_base.specs.declared.widths.Width.{Width}
 use Rattle.mt_base.specs.declared.widths.Width.TheVariants.{Long}
 use Rattle.mt_base.specs.declared.ranges.Range.{Range}
-use Rattle.mt_base.specs.declared.calls.Call.TheVariants.{Store, Insert, Erase}
+use Rattle.mt_base.specs.declared.calls.Call.{Call}
+use Rattle.mt_base.specs.declared.calls.Call.TheVariants.{Store, StorePre, Insert, Erase}
+use Rattle.mt_base.specs.declared.replies.Reply.{Reply}
 use Rattle.mt_base.specs.declared.replies.Reply.TheVariants as reply
 use Rattle.mt_base.specs.Call.{acted, erased, is_invalid}
 use Rattle.mt_base.specs.Map.{IsMapFrom, holding, is_held}
+use Rattle.mt_base.specs.Nodes.{Wants}
 use Rattle.mt_base.specs.Width.{greatest}
 use Rattle.mt_base.proofs.CallsKeepOrder.{valid_order, valid_within, valid_entry}
 use Rattle.mt_rows.specs.Publish.{IsTreeOf, map_by}
@@ -26,7 +29,27 @@ use Rattle.mt_engine.proofs.MapStores.{without_is_store}
 use Rattle.mt_engine.proofs.SameWay.{same_way}
 use Rattle.mt_engine.proofs.SlotQueries.{not_none}
 use Rattle.mt_engine.proofs.Slots.{none_at_root, tree_map, slot_tells}
-use Rattle.mt_engine.proofs.Wanting.{held_around, none_in_hole}
+use Rattle.mt_engine.proofs.Wanting.{held_around, none_in_hole, stays_replaces_none}
+
+-- the call leaves the map, and wants no rows
+abbrev pub ComesToNothing : Kind → List Range → Call → Reply → Type 0
+ComesToNothing kind m call answer = (acted kind m call ≡ (m, answer)) × (Wants kind m call → ⊥)
+
+-- ---- what is refused as invalid
+
+module _ (kind : Kind) (m : List Range) (first last entry : ℕ) where
+  pub store_invalid : is_invalid kind first last entry ≡ true → ComesToNothing kind m (Store first last entry) reply.Invalid
+  store_invalid bad =
+      let acts : acted kind m (Store first last entry) ≡ (m, reply.Invalid) = rw bad refl in
+      (acts, stays_replaces_none kind m (Store first last entry) reply.Invalid acts)
+
+  pub store_pre_invalid : is_invalid kind first last entry ≡ true → ComesToNothing kind m (StorePre first last entry) reply.Invalid
+  store_pre_invalid bad = (rw bad refl, λ good. absurd (cc))
+
+  pub insert_invalid : (is_invalid kind first last entry || (entry == 0)) ≡ true → ComesToNothing kind m (Insert first last entry) reply.Invalid
+  insert_invalid bad =
+      let acts : acted kind m (Insert first last entry) ≡ (m, reply.Invalid) = rw bad refl in
+      (acts, stays_replaces_none kind m (Insert first last entry) reply.Invalid acts)
 
 pub within_all : (width : Width) (index : ℕ) → index < 2 ^ 64 → index ≤ greatest width
 within_all Long index fits = omega arith
@@ -68,6 +91,16 @@ module _ (t : Rooted) (kind : Kind) (tree : IsTreeOf t kind) where
       stands = stands;
     }
 
+    -- the same of a store that is to have its rows at hand
+    pub store_pre_plan : (path : List PathStep) (here : Option Handle) → path ≡ path_in t.table t.root first → IsHereAt t first here → IsStorePlan kind t (StorePre first last entry) path first last entry reply.Ok here
+    store_pre_plan path here way stands = record {
+      store = record { acts = rw valid refl; order = order; within = within; lawful = valid_entry kind first last entry valid };
+      own = (refl, refl, refl);
+      success = refl;
+      way = way;
+      stands = stands;
+    }
+
     -- ---- insert
 
     -- a range holds an index of the store's where one stands in the slot of the first, or right behind a hole there
@@ -95,8 +128,10 @@ module _ (t : Rooted) (kind : Kind) (tree : IsTreeOf t kind) where
     good : entry ≢ 0 → (is_invalid kind first last entry || (entry == 0)) ≡ false
     good some = rw (valid, ne_eqb entry 0 some) refl
 
-    pub insert_exists : (here : Option Handle) → entry ≢ 0 → IsHereAt t first here → is_taken here last ≡ true → acted kind m (Insert first last entry) ≡ (m, reply.Exists)
-    insert_exists here some stands taken = rw (good some, taken_is here stands ∙ taken) refl
+    pub insert_exists : (here : Option Handle) → entry ≢ 0 → IsHereAt t first here → is_taken here last ≡ true → ComesToNothing kind m (Insert first last entry) reply.Exists
+    insert_exists here some stands taken =
+        let acts : acted kind m (Insert first last entry) ≡ (m, reply.Exists) = rw (good some, taken_is here stands ∙ taken) refl in
+        (acts, stays_replaces_none kind m (Insert first last entry) reply.Exists acts)
 
     pub insert_plan : (path : List PathStep) (here : Option Handle) → entry ≢ 0 → path ≡ path_in t.table t.root first → IsHereAt t first here → is_taken here last ≡ false → IsStorePlan kind t (Insert first last entry) path first last entry reply.Ok here
     insert_plan path here some way stands free = record {
@@ -110,15 +145,18 @@ module _ (t : Rooted) (kind : Kind) (tree : IsTreeOf t kind) where
   -- ---- erase
 
   module _ (index : ℕ) (inside : index ≤ top) where
-    pub erase_nothing : t.root ≡ 0 → acted kind m (Erase index) ≡ (m, reply.None)
-    erase_nothing none = let empty = none_at_root t none in ap (erased m index) (ap (λ (l : List Range). holding l index) empty)
+    erases_none : acted kind m (Erase index) ≡ (m, reply.None) → ComesToNothing kind m (Erase index) reply.None
+    erases_none acts = (acts, stays_replaces_none kind m (Erase index) reply.None acts)
+
+    pub erase_nothing : t.root ≡ 0 → ComesToNothing kind m (Erase index) reply.None
+    erase_nothing none = let empty = none_at_root t none in erases_none (ap (erased m index) (ap (λ (l : List Range). holding l index) empty))
 
     module _ (handle : Handle) (stands : IsHereAt t index (Some handle)) where
       at : IsSpanAt m top index handle.span
       at = span_at_handle index handle inside stands
 
-      pub erase_hole : handle.span.word ≡ 0 → acted kind m (Erase index) ≡ (m, reply.None)
-      erase_hole hole = ap (erased m index) (sym (load_hole m top index handle.span rise at hole))
+      pub erase_hole : handle.span.word ≡ 0 → ComesToNothing kind m (Erase index) reply.None
+      erase_hole hole = erases_none (ap (erased m index) (sym (load_hole m top index handle.span rise at hole)))
 
       some : t.root ≢ 0
       some empty = not_none handle (t.root ≡ 0) stands.none empty

@@ -7,7 +7,7 @@ use Rattle.mt_base.specs.declared.kinds.Kind.{Kind}
 use Rattle.mt_free.specs.Book.{Book, after_reclaim}
 use Rattle.mt_free.proofs.StillOut.{out_after_reclaim}
 use Rattle.mt_rows.specs.declared.rows.Scan.{Scan}
-use Rattle.mt_rows.specs.Sheet.{Sheet, IsWhole, life_of, scanned, one_more}
+use Rattle.mt_rows.specs.Sheet.{Sheet, IsScan, IsWhole, life_of, scanned, one_more}
 use Rattle.mt_rows.specs.Publish.{WasScanned}
 use Rattle.mt_splice.specs.Kept.{IsBookOf, IsSpare}
 use Rattle.mt_engine.specs.Engine.{IsEngineState}
@@ -58,15 +58,15 @@ module _ (kind : Kind) (s : Sheet) (answer : Scan) (cleared : ℕ) (book : Book)
   state_after : IsEngineState kind after freed
   state_after = record {
     told = is.told;
-    range = is.range;
     kept = record { lawful = is.kept.lawful; live = is.kept.live; none_buried = is.kept.none_buried; booked = booked };
     held = λ k d within. (all_freed.dead k d within).dead;
     grown = (let grown = is.grown in let counted = all_freed.counted in let fewer = all_freed.fewer in let most = is.kept.booked.sound.counted in omega (arith, grown, counted, fewer, most));
   }
 
-pub is_scanned : (kind : Kind) (s s' : Sheet) (answer : Scan) (book next : Book) → IsEngineState kind s book → s' ≡ scanned s answer s'.cleared → s.cleared ≤ s'.cleared → min answer.least s.ended ≤ s'.cleared → next ≡ after_reclaim book answer.least → IsScanned kind s s' book next
-is_scanned kind s s' answer book next is rest rises reach freed = record {
+pub is_scanned : (kind : Kind) (s s' : Sheet) (answer : Scan) (book next : Book) → IsEngineState kind s book → s' ≡ scanned s answer s'.cleared → IsScan s.shared s.told answer → s.cleared ≤ s'.cleared → min answer.least s.ended ≤ s'.cleared → next ≡ after_reclaim book answer.least → IsScanned kind s s' book next
+is_scanned kind s s' answer book next is rest found rises reach freed = record {
   rest = rest ∙ ap (λ (a : Scan). scanned s a s'.cleared) (sym same);
+  answer = subst (IsScan s.shared s.told) (sym same) found;
   rises = rises;
   freed = freed ∙ ap (λ (a : Scan). after_reclaim book a.least) (sym same);
   state =

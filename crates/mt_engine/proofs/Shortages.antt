@@ -31,7 +31,7 @@ record HolderTold (by : Option Holder) (held ended : ℕ) : Type 0 where
   holder : IsSome by ↔ (0 < held)
   epoch : IfSome by (λ (h : Holder). h.epoch ≤ ended)
 
-module _ (shared : Bool) (told : Option Told) (scan : Scan) (is : IsScan shared told scan) (held ended : ℕ) (later : 0 < held → scan.least < ended) (few : ended < 2 ^ 62 - 1) where
+module _ (shared : Bool) (told : Option Told) (scan : Scan) (is : IsScan shared told scan) (held ended : ℕ) (later : 0 < held → scan.least < ended) (few : ended < 2 ^ 64) where
   -- where some rows are held, a section was found that holds them
   holder_of : 0 < held → HolderTold scan.by held ended
   holder_of some = elim is.least [
@@ -73,7 +73,7 @@ back_apart xs ys apart i j d lt within is =
 
 -- ---- a shortage
 
-module _ (kind : Kind) (s : Sheet) (book : Book) (shortage : Shortage) (is : IsEngineState kind s book) (scan : IsScan s.shared s.told s.scan) (few : s.ended < 2 ^ 62 - 1) (later : All (λ (h : Held). s.scan.least < h.stamp) book.held) (tells : TellsBook book shortage)
+module _ (kind : Kind) (s : Sheet) (book : Book) (shortage : Shortage) (is : IsEngineState kind s book) (scan : IsScan s.shared s.told s.scan) (few : s.ended < 2 ^ 64) (later : All (λ (h : Held). s.scan.least < h.stamp) book.held) (tells : TellsBook book shortage)
     (need : shortage.need ≡ 3 * height_in s.tree.table s.tree.root + 1) (by : shortage.by ≡ (if nat_lt 0 shortage.held then s.scan.by else None)) (less : shortage.free < shortage.need) where
   live : shortage.live ≡ length (reached_in s.tree.table s.tree.root)
   live = tells.live ∙ live_is_reached s.tree s.lives s.cleared kind book (s.ended + 1) (tree_if_lawful s.tree kind is.kept.lawful) is.kept.booked
@@ -124,10 +124,10 @@ module _ (kind : Kind) (s : Sheet) (book : Book) (shortage : Shortage) (is : IsE
   short_of = record { short = is_short; counted = counted; tells = tells }
 
 -- after the scan
-pub short_after : (kind : Kind) (s s' : Sheet) (answer : Scan) (book book' : Book) (shortage : Shortage) → IsScanned kind s s' book book' → s' ≡ scanned s answer s'.cleared → IsScan s.shared s.told answer → s.ended < 2 ^ 62 - 1
+pub short_after : (kind : Kind) (s s' : Sheet) (answer : Scan) (book book' : Book) (shortage : Shortage) → IsScanned kind s s' book book' → s' ≡ scanned s answer s'.cleared → IsScan s.shared s.told answer → s.ended < 2 ^ 64
     → TellsBook book' shortage → shortage.need ≡ 3 * height_in s.tree.table s.tree.root + 1 → shortage.by ≡ (if nat_lt 0 shortage.held then answer.by else None) → shortage.free < shortage.need → IsShortOf s' book' shortage
 short_after kind s s' answer book book' shortage is rest scan few tells need by less =
-    short_of kind s' book' shortage is.state (subst (λ (x : Sheet). IsScan x.shared x.told x.scan) (sym rest) scan) (subst (λ (x : Sheet). x.ended < 2 ^ 62 - 1) (sym rest) few)
+    short_of kind s' book' shortage is.state (subst (λ (x : Sheet). IsScan x.shared x.told x.scan) (sym rest) scan) (subst (λ (x : Sheet). x.ended < 2 ^ 64) (sym rest) few)
     (subst (λ (b : Book). All (λ (h : Held). s'.scan.least < h.stamp) b.held) (sym is.freed) (left_later s'.scan.least book.held)) tells
     (subst (λ (x : Sheet). shortage.need ≡ 3 * height_in x.tree.table x.tree.root + 1) (sym rest) need)
     (subst (λ (x : Sheet). shortage.by ≡ (if nat_lt 0 shortage.held then x.scan.by else None)) (sym rest) by) less

@@ -1,6 +1,7 @@
 -- By what a store is carried out, and what is known then.
-use Rattle.std.proofs.Common.{◌≡◌, ◌≢◌, ℕ, ◌+◌, ◌≤◌, List, Some, None, Option, length, refl, sym, ap, ◌∙◌, subst, inl, inr, arith}
+use Rattle.std.proofs.Common.{◌≡◌, ◌≢◌, ℕ, ◌+◌, ◌≤◌, List, Some, None, Option, true, false, length, refl, sym, ap, ◌∙◌, subst, inl, inr, arith}
 use Rattle.mt_base.specs.declared.calls.Call.{Call}
+use Rattle.mt_base.specs.declared.calls.Call.TheVariants.{Store, StorePre, Insert, Erase, Alloc, Ralloc, Gap, Rgap, Clear}
 use Rattle.mt_base.specs.declared.kinds.Kind.{Kind}
 use Rattle.mt_base.specs.declared.ranges.Range.{Range}
 use Rattle.mt_base.specs.declared.replies.Reply.{Reply}
@@ -10,11 +11,10 @@ use Rattle.mt_base.specs.Nodes.{Wants}
 use Rattle.mt_base.specs.Width.{greatest, deepest}
 use Rattle.mt_free.specs.Book.{Book}
 use Rattle.mt_layout.specs.Rows.{named_kind}
-use Rattle.mt_rows.specs.declared.rows.Scan.{Scan}
 use Rattle.mt_rows.specs.Spans.{root_span}
 use Rattle.mt_rows.specs.Trees.{height_in}
 use Rattle.mt_rows.specs.Laws.{IsTree}
-use Rattle.mt_rows.specs.Sheet.{Rooted, Sheet, scanned}
+use Rattle.mt_rows.specs.Sheet.{Rooted, Sheet}
 use Rattle.mt_rows.specs.Publish.{IsTreeOf, tree_as, map_by}
 use Rattle.mt_rows.proofs.Depth.{height_by_depth}
 use Rattle.mt_path.specs.declared.handles.Handle.{Handle}
@@ -23,17 +23,19 @@ use Rattle.mt_path.specs.Handles.{IsHandleOf}
 use Rattle.mt_path.proofs.Steps.{path_of_none}
 use Rattle.mt_path.proofs.TreePaths.{levels}
 use Rattle.mt_splice.specs.Splice.{IsStoreBy, MayReplace}
+use Rattle.mt_engine.specs.declared.store_by.StoreBy.{StoreBy}
 use Rattle.mt_engine.specs.declared.store_by.StoreBy.TheVariants.{NoWord, OneWord, NewRows}
-use Rattle.mt_engine.specs.Engine.{IsEngineState, IsInCall}
+use Rattle.mt_engine.specs.Engine.{IsInCall, Replaces}
 use Rattle.mt_engine.specs.Here.{IsHereAt}
 use Rattle.mt_engine.specs.MapSpans.{range_of}
-use Rattle.mt_engine.specs.Plans.{IsStorePlan}
-use Rattle.mt_engine.specs.Rooms.{IsScanned, HasRoom}
+use Rattle.mt_engine.specs.Plans.{IsStoreOf, IsStorePlan}
+use Rattle.mt_engine.specs.Rooms.{HasRoom}
+use Rattle.mt_engine.specs.Stores.{is_by_rows, wants_by}
 use Rattle.mt_engine.specs.StoreBy.{IsExactly, IsDoneBy}
 use Rattle.mt_engine.proofs.Planning.{span_at_handle}
 use Rattle.mt_engine.proofs.SlotQueries.{not_none}
 use Rattle.mt_engine.proofs.Slots.{none_at_root, tree_map}
-use Rattle.mt_engine.proofs.Wanting.{hole_over_hole, exact_wants_none, store_wants_rows, first_store_wants_rows}
+use Rattle.mt_engine.proofs.Wanting.{unwanted, wanted, hole_over_hole, stays_replaces_none, exact_replaces_none, store_replaces, first_store_replaces}
 
 module _ (kind : Kind) (t : Rooted) (tree : IsTreeOf t kind) (call : Call) (path : List PathStep) (first last entry : ℕ) (reply : Reply) (here : Option Handle) (plan : IsStorePlan kind t call path first last entry reply here) where
   abbrev m : List Range
@@ -77,26 +79,58 @@ module _ (kind : Kind) (t : Rooted) (tree : IsTreeOf t kind) (call : Call) (path
     pub one_store : IsStoreBy kind top m call reply at.span.first at.span.last entry
     one_store = subst (λ (q : ℕ × ℕ). IsStoreBy kind top m call reply q.0 q.1 entry) (λ i. (sym one_exact.from i, sym one_exact.to i)) plan.store
 
-    -- it wants no rows
-    pub one_wants_none : Wants kind m call → ⊥
-    one_wants_none =
+    -- it replaces no rows
+    pub one_replaces_none : Replaces kind m call → ⊥
+    one_replaces_none =
         let there = span_at_handle t kind tree first at within one_stands in
-        exact_wants_none kind m first last entry call (range_of at.span) (there.held one_exact.range) one_exact.from one_exact.to plan.store.order one_exact.some_entry plan.own
+        exact_replaces_none kind m first last entry call (range_of at.span) (there.held one_exact.range) one_exact.from one_exact.to plan.store.order one_exact.some_entry plan.own
 
   -- ---- by new rows
 
-  wants_by : (o : Option Handle) → IsHereAt t first o → IsDoneBy o first last entry NewRows → Wants kind m call
-  wants_by None stands some =
+  replaces_by : (o : Option Handle) → IsHereAt t first o → IsDoneBy o first last entry NewRows → Replaces kind m call
+  replaces_by None stands some =
       let empty = none_at_root t (stands.none.0 refl) in
-      subst (λ (x : List Range). Wants kind x call) (sym empty)
-      (first_store_wants_rows kind top first last entry call reply (subst (λ (x : List Range). IsStoreBy kind top x call reply first last entry) empty plan.store) plan.own some)
-  wants_by (Some handle) stands by =
-      store_wants_rows kind m top first last entry call reply handle.span rise plan.store plan.own (span_at_handle t kind tree first handle within stands)
+      subst (λ (x : List Range). Replaces kind x call) (sym empty)
+      (first_store_replaces kind top first last entry call reply (subst (λ (x : List Range). IsStoreBy kind top x call reply first last entry) empty plan.store) (subst (λ (x : List Range). IsStoreOf x call first last entry) empty plan.own) some)
+  replaces_by (Some handle) stands by =
+      store_replaces kind m top first last entry call reply handle.span rise plan.store plan.own (span_at_handle t kind tree first handle within stands)
       (λ hole. by.0 (record { no_entry = hole.0; hole = hole.1; over = hole.2 }))
       (λ exact. by.1 (record { some_entry = exact.0; range = exact.1; from = exact.2; to = exact.3 }))
 
-  pub new_rows_wanted : IsDoneBy here first last entry NewRows → Wants kind m call
-  new_rows_wanted by = wants_by here plan.stands by
+  pub new_rows_replace : IsDoneBy here first last entry NewRows → Replaces kind m call
+  new_rows_replace by = replaces_by here plan.stands by
+
+  -- ---- which want some
+
+  by_rows : (by : StoreBy) → IsDoneBy here first last entry by → is_by_rows by ≡ true → Replaces kind m call
+  by_rows NoWord done is = absurd (cc)
+  by_rows (OneWord at) done is = absurd (cc)
+  by_rows NewRows done is = new_rows_replace done
+
+  by_none : (by : StoreBy) → IsDoneBy here first last entry by → is_by_rows by ≡ false → Replaces kind m call → ⊥
+  by_none NoWord done is = stays_replaces_none kind m call reply (no_word_acts done)
+  by_none (OneWord at) done is = one_replaces_none at done
+  by_none NewRows done is = absurd (cc)
+
+  not_by_rows : (c : Call) (by : StoreBy) → wants_by c by ≡ false → is_by_rows by ≡ false
+  not_by_rows (Store f l e) by not = not
+  not_by_rows (StorePre f l e) by not = absurd (cc)
+  not_by_rows (Insert f l e) by not = not
+  not_by_rows (Erase index) by not = not
+  not_by_rows (Alloc size lo hi e) by not = not
+  not_by_rows (Ralloc size lo hi e) by not = not
+  not_by_rows (Gap size lo hi) by not = not
+  not_by_rows (Rgap size lo hi) by not = not
+  not_by_rows Clear by not = not
+
+  pub store_wants : (by : StoreBy) → IsDoneBy here first last entry by → wants_by call by ≡ true → Wants kind m call
+  store_wants by done is = wanted kind m (over m first last entry) call reply by plan.store.acts plan.success is (by_rows by done)
+
+  pub store_replaces_none : (by : StoreBy) → IsDoneBy here first last entry by → wants_by call by ≡ false → Replaces kind m call → ⊥
+  store_replaces_none by done not = by_none by done (not_by_rows call by not)
+
+  pub store_wants_none : (by : StoreBy) → IsDoneBy here first last entry by → wants_by call by ≡ false → Wants kind m call → ⊥
+  store_wants_none by done not = unwanted kind m call by not (store_replaces_none by done not)
 
   some_by : (o : Option Handle) → IsHereAt t first o → IsDoneBy o first last entry NewRows → t.root ≡ 0 → entry ≢ 0
   some_by None stands some empty = some
@@ -116,21 +150,15 @@ module _ (kind : Kind) (t : Rooted) (tree : IsTreeOf t kind) (call : Call) (path
 
 -- ---- rows that have room may be replaced
 
-may_by : (kind : Kind) (s : Sheet) (answer : Scan) (cleared : ℕ) (book book' : Book) (path : List PathStep) (first last entry : ℕ) (call : Call) (reply : Reply) (here : Option Handle) → IsTreeOf s.tree kind → IsInCall kind s book
-    → IsStorePlan kind s.tree call path first last entry reply here → IsDoneBy here first last entry NewRows → IsEngineState kind (scanned s answer cleared) book' → HasRoom s.tree book' → MayReplace kind (scanned s answer cleared) book' path first last entry (s.ended + 1) call reply
-may_by kind s answer cleared book book' path first last entry call reply here tree in_call plan by state room = record {
-  told = state.told;
-  kept = state.kept;
-  unpublished = record { in_flight = in_call.in_flight; before = in_call.before; numbered = refl };
-  room = room;
-  store = plan.store;
-  some = some_entry kind s.tree tree call path first last entry reply here plan by;
-  left_path = plan.way;
-}
-
-pub may_replace_now : (kind : Kind) (s s' : Sheet) (book book' : Book) (path : List PathStep) (first last entry number : ℕ) (call : Call) (reply : Reply) (here : Option Handle) → IsTreeOf s.tree kind → IsInCall kind s book
-    → IsStorePlan kind s.tree call path first last entry reply here → IsDoneBy here first last entry NewRows → IsScanned kind s s' book book' → HasRoom s'.tree book' → number ≡ s.ended + 1 → MayReplace kind s' book' path first last entry number call reply
-may_replace_now kind s s' book book' path first last entry number call reply here tree in_call plan by found room is =
-    subst (λ (n : ℕ). MayReplace kind s' book' path first last entry n call reply) (sym is)
-    (subst (λ (x : Sheet). MayReplace kind x book' path first last entry (s.ended + 1) call reply) (sym found.rest)
-    (may_by kind s s'.scan s'.cleared book book' path first last entry call reply here tree in_call plan by (subst (λ (x : Sheet). IsEngineState kind x book') found.rest found.state) (subst (λ (x : Sheet). HasRoom x.tree book') found.rest room)))
+pub may_replace_now : (kind : Kind) (s : Sheet) (book : Book) (path : List PathStep) (first last entry number : ℕ) (call : Call) (reply : Reply) (here : Option Handle) → IsTreeOf s.tree kind → IsInCall kind s book
+    → IsStorePlan kind s.tree call path first last entry reply here → IsDoneBy here first last entry NewRows → HasRoom s.tree book → number ≡ s.ended + 1 → MayReplace kind s book path first last entry number call reply
+may_replace_now kind s book path first last entry number call reply here tree in_call plan by room is =
+    subst (λ (n : ℕ). MayReplace kind s book path first last entry n call reply) (sym is) (record {
+      told = in_call.state.told;
+      kept = in_call.state.kept;
+      unpublished = record { in_flight = in_call.in_flight; before = in_call.before; numbered = refl };
+      room = room;
+      store = plan.store;
+      some = some_entry kind s.tree tree call path first last entry reply here plan by;
+      left_path = plan.way;
+    })

@@ -1,14 +1,15 @@
--- Which stores want rows.
+-- Which stores replace rows, and which calls want some.
 use Rattle.std.proofs.Common.{◌≡◌, ◌≢◌, ℕ, ◌+◌, ◌<◌, ◌≤◌, ◌==◌, ◌&&◌, ◌||◌, true, false, not, List, [], ◌∷◌, ◌++◌, Option, Some, None, nat_le, refl, sym, ap, ◌∙◌, inl, inr, arith, ne_eqb, eq-eqb}
 use Rattle.std.specs.Prelude.{◌⊎◌, IsSome, if◌then◌else◌}
 use Rattle.std.specs.List.{AllByRecursion}
 use Rattle.std.specs.Option.{option_map}
 use Rattle.std.proofs.lemmas.Bool.{cases_Bool, cases_lt, and_left, and_right, and_parts, eqb-true, eqb-false, leb-true, lt-leb, le-leb}
 use Rattle.mt_base.specs.declared.calls.Call.{Call}
-use Rattle.mt_base.specs.declared.calls.Call.TheVariants.{Store, Insert, Erase, Alloc, Ralloc, Gap, Rgap, Clear}
+use Rattle.mt_base.specs.declared.calls.Call.TheVariants.{Store, StorePre, Insert, Erase, Alloc, Ralloc, Gap, Rgap, Clear}
 use Rattle.mt_base.specs.declared.kinds.Kind.{Kind}
 use Rattle.mt_base.specs.declared.ranges.Range.{Range}
 use Rattle.mt_base.specs.declared.replies.Reply.{Reply}
+use Rattle.mt_base.specs.declared.replies.Reply.TheVariants as answers
 use Rattle.mt_base.specs.Call.{acted, is_invalid}
 use Rattle.mt_base.specs.Map.{IsMapFrom, holds, holding, overlaps, is_held, over}
 use Rattle.mt_base.specs.Nodes.{Wants, is_exact_store}
@@ -16,25 +17,59 @@ use Rattle.mt_base.proofs.ReadingAfterStore.{entry_inside}
 use Rattle.mt_layout.specs.declared.spans.Span.{Span}
 use Rattle.mt_base.proofs.Lists.{all_map}
 use Rattle.mt_splice.specs.Splice.{IsStoreBy}
+use Rattle.mt_engine.specs.declared.store_by.StoreBy.{StoreBy}
+use Rattle.mt_engine.specs.Engine.{Replaces, is_refusal}
 use Rattle.mt_engine.specs.MapSpans.{range_of, IsSpanAt}
 use Rattle.mt_engine.specs.Plans.{IsStoreOf}
+use Rattle.mt_engine.specs.Stores.{is_by_rows, wants_by}
 use Rattle.mt_engine.proofs.MapPlaces.{Outside, outside_hole}
 use Rattle.mt_engine.proofs.MapQueries.{load_hole}
 use Rattle.mt_engine.proofs.MapStores.{store_none_beside, stored_holds, stored_some}
 
--- a call that wants rows changes the map
-pub wants_changes : (kind : Kind) (m : List Range) (call : Call) → Wants kind m call → (acted kind m call).0 ≢ m
-wants_changes kind m (Store first last entry) wants = wants.0
-wants_changes kind m (Insert first last entry) wants = wants
-wants_changes kind m (Erase index) wants = wants
-wants_changes kind m (Alloc size lo hi entry) wants = wants
-wants_changes kind m (Ralloc size lo hi entry) wants = wants
-wants_changes kind m (Gap size lo hi) wants = absurd wants
-wants_changes kind m (Rgap size lo hi) wants = absurd wants
-wants_changes kind m Clear wants = absurd wants
+-- a call that replaces rows changes the map
+pub replaces_changes : (kind : Kind) (m : List Range) (call : Call) → Replaces kind m call → (acted kind m call).0 ≢ m
+replaces_changes kind m (Store first last entry) replaces = replaces.0
+replaces_changes kind m (StorePre first last entry) replaces = replaces.0
+replaces_changes kind m (Insert first last entry) replaces = replaces
+replaces_changes kind m (Erase index) replaces = replaces
+replaces_changes kind m (Alloc size lo hi entry) replaces = replaces
+replaces_changes kind m (Ralloc size lo hi entry) replaces = replaces
+replaces_changes kind m (Gap size lo hi) replaces = absurd replaces
+replaces_changes kind m (Rgap size lo hi) replaces = absurd replaces
+replaces_changes kind m Clear replaces = absurd replaces
 
-pub stays_wants_none : (kind : Kind) (m : List Range) (call : Call) (reply : Reply) → acted kind m call ≡ (m, reply) → Wants kind m call → ⊥
-stays_wants_none kind m call reply stays wants = wants_changes kind m call wants (ap (λ (p : List Range × Reply). p.0) stays)
+pub stays_replaces_none : (kind : Kind) (m : List Range) (call : Call) (reply : Reply) → acted kind m call ≡ (m, reply) → Replaces kind m call → ⊥
+stays_replaces_none kind m call reply stays replaces = replaces_changes kind m call replaces (ap (λ (p : List Range × Reply). p.0) stays)
+
+-- a call that replaces none wants some only where it is to have them at hand
+pub unwanted : (kind : Kind) (m : List Range) (call : Call) (by : StoreBy) → wants_by call by ≡ false → (Replaces kind m call → ⊥) → Wants kind m call → ⊥
+unwanted kind m (Store first last entry) by not none wants = none wants
+unwanted kind m (StorePre first last entry) by not none wants = absurd (cc)
+unwanted kind m (Insert first last entry) by not none wants = none wants
+unwanted kind m (Erase index) by not none wants = none wants
+unwanted kind m (Alloc size lo hi entry) by not none wants = none wants
+unwanted kind m (Ralloc size lo hi entry) by not none wants = none wants
+unwanted kind m (Gap size lo hi) by not none wants = wants
+unwanted kind m (Rgap size lo hi) by not none wants = wants
+unwanted kind m Clear by not none wants = wants
+
+-- a store by new rows wants them, and one that is to have them at hand wants them where it is not refused
+pub wanted : (kind : Kind) (m m' : List Range) (call : Call) (reply : Reply) (by : StoreBy) → acted kind m call ≡ (m', reply) → is_refusal reply ≡ false → wants_by call by ≡ true → (is_by_rows by ≡ true → Replaces kind m call) → Wants kind m call
+wanted kind m m' (Store first last entry) reply by acts success is replaces = replaces is
+wanted kind m m' (StorePre first last entry) reply by acts success is replaces = elim (cases_Bool (is_invalid kind first last entry)) [
+  | inl bad ↦
+      (let told : acted kind m (Store first last entry) ≡ (m, answers.Invalid) = rw bad refl in
+      let refused : is_refusal reply ≡ true = sym (ap (λ (p : List Range × Reply). is_refusal p.1) acts) ∙ ap (λ (p : List Range × Reply). is_refusal p.1) told in
+      absurd (cc))
+  | inr good ↦ good
+]
+wanted kind m m' (Insert first last entry) reply by acts success is replaces = replaces is
+wanted kind m m' (Erase index) reply by acts success is replaces = replaces is
+wanted kind m m' (Alloc size lo hi entry) reply by acts success is replaces = replaces is
+wanted kind m m' (Ralloc size lo hi entry) reply by acts success is replaces = replaces is
+wanted kind m m' (Gap size lo hi) reply by acts success is replaces = replaces is
+wanted kind m m' (Rgap size lo hi) reply by acts success is replaces = replaces is
+wanted kind m m' Clear reply by acts success is replaces = replaces is
 
 -- ---- what is held
 
@@ -81,21 +116,28 @@ hole_over_hole m top first last x rise at hole order within =
 
 -- ---- a store by one word
 
--- a store of an entry over exactly one range wants no rows, whichever call makes it
-pub exact_wants_none : (kind : Kind) (m : List Range) (first last entry : ℕ) (call : Call) (r : Range) → holding m first ≡ Some r → r.first ≡ first → r.last ≡ last → first ≤ last → entry ≢ 0 → IsStoreOf call first last entry → Wants kind m call → ⊥
-exact_wants_none kind m first last entry (Store f l e) r held begins ends order some own wants =
+-- a store of an entry over exactly one range replaces no rows, whichever call makes it
+exact_stays : (kind : Kind) (m : List Range) (first last entry f l e : ℕ) (r : Range) → holding m first ≡ Some r → r.first ≡ first → r.last ≡ last → entry ≢ 0 → (f ≡ first) × (l ≡ last) × (e ≡ entry) → Wants kind m (Store f l e) → ⊥
+exact_stays kind m first last entry f l e r held begins ends some own wants =
     let exact : is_exact_store m first last entry ≡ true = rw (ne_eqb entry 0 some, held, eq-eqb r.first first begins, eq-eqb r.last last ends) refl in
     let clash : true ≡ false = sym exact ∙ ((λ i. is_exact_store m (sym own.0 i) (sym own.1 i) (sym own.2 i)) ∙ wants.1) in
     absurd (cc)
-exact_wants_none kind m first last entry (Insert f l e) r held begins ends order some own wants =
+
+not_taken : (m : List Range) (first last : ℕ) → is_held m first last ≡ true → is_held m first last ≡ false → ⊥
+not_taken m first last taken free = absurd (cc)
+
+pub exact_replaces_none : (kind : Kind) (m : List Range) (first last entry : ℕ) (call : Call) (r : Range) → holding m first ≡ Some r → r.first ≡ first → r.last ≡ last → first ≤ last → entry ≢ 0 → IsStoreOf m call first last entry → Replaces kind m call → ⊥
+exact_replaces_none kind m first last entry (Store f l e) r held begins ends order some own wants = exact_stays kind m first last entry f l e r held begins ends some own wants
+exact_replaces_none kind m first last entry (StorePre f l e) r held begins ends order some own wants = exact_stays kind m first last entry f l e r held begins ends some own wants
+exact_replaces_none kind m first last entry (Insert f l e) r held begins ends order some own wants =
     let taken : is_held m f l ≡ true = (λ i. is_held m (own.0 i) (own.1 i)) ∙ held_around m first last first r (omega arith) order held in
     wants (elim (cases_Bool (is_invalid kind f l e || (e == 0))) [ inl bad ↦ rw bad refl | inr good ↦ rw (good, taken) refl ])
-exact_wants_none kind m first last entry (Erase index) r held begins ends order some own wants = some own
-exact_wants_none kind m first last entry (Alloc size lo hi e) r held begins ends order some own wants = own
-exact_wants_none kind m first last entry (Ralloc size lo hi e) r held begins ends order some own wants = own
-exact_wants_none kind m first last entry (Gap size lo hi) r held begins ends order some own wants = own
-exact_wants_none kind m first last entry (Rgap size lo hi) r held begins ends order some own wants = own
-exact_wants_none kind m first last entry Clear r held begins ends order some own wants = own
+exact_replaces_none kind m first last entry (Erase index) r held begins ends order some own wants = some own
+exact_replaces_none kind m first last entry (Alloc size lo hi e) r held begins ends order some own wants = not_taken m first last (held_around m first last first r (omega arith) order held) own.free
+exact_replaces_none kind m first last entry (Ralloc size lo hi e) r held begins ends order some own wants = not_taken m first last (held_around m first last first r (omega arith) order held) own.free
+exact_replaces_none kind m first last entry (Gap size lo hi) r held begins ends order some own wants = own
+exact_replaces_none kind m first last entry (Rgap size lo hi) r held begins ends order some own wants = own
+exact_replaces_none kind m first last entry Clear r held begins ends order some own wants = own
 
 -- ---- a store by new rows
 
@@ -159,26 +201,27 @@ module _ (m : List Range) (top first last entry : ℕ) (x : Span) (rise : IsMapF
     ]
   ]
 
-wants_by : (kind : Kind) (m : List Range) (first last entry : ℕ) (call : Call) → (acted kind m call).0 ≢ m → is_exact_store m first last entry ≡ false → IsStoreOf call first last entry → Wants kind m call
-wants_by kind m first last entry (Store f l e) leaves other own = (leaves, (λ i. is_exact_store m (own.0 i) (own.1 i) (own.2 i)) ∙ other)
-wants_by kind m first last entry (Insert f l e) leaves other own = leaves
-wants_by kind m first last entry (Erase index) leaves other own = leaves
-wants_by kind m first last entry (Alloc size lo hi e) leaves other own = absurd own
-wants_by kind m first last entry (Ralloc size lo hi e) leaves other own = absurd own
-wants_by kind m first last entry (Gap size lo hi) leaves other own = absurd own
-wants_by kind m first last entry (Rgap size lo hi) leaves other own = absurd own
-wants_by kind m first last entry Clear leaves other own = absurd own
+replaces_by : (kind : Kind) (m : List Range) (first last entry : ℕ) (call : Call) → (acted kind m call).0 ≢ m → is_exact_store m first last entry ≡ false → IsStoreOf m call first last entry → Replaces kind m call
+replaces_by kind m first last entry (Store f l e) leaves other own = (leaves, (λ i. is_exact_store m (own.0 i) (own.1 i) (own.2 i)) ∙ other)
+replaces_by kind m first last entry (StorePre f l e) leaves other own = (leaves, (λ i. is_exact_store m (own.0 i) (own.1 i) (own.2 i)) ∙ other)
+replaces_by kind m first last entry (Insert f l e) leaves other own = leaves
+replaces_by kind m first last entry (Erase index) leaves other own = leaves
+replaces_by kind m first last entry (Alloc size lo hi e) leaves other own = leaves
+replaces_by kind m first last entry (Ralloc size lo hi e) leaves other own = leaves
+replaces_by kind m first last entry (Gap size lo hi) leaves other own = own
+replaces_by kind m first last entry (Rgap size lo hi) leaves other own = own
+replaces_by kind m first last entry Clear leaves other own = own
 
-pub store_wants_rows : (kind : Kind) (m : List Range) (top first last entry : ℕ) (call : Call) (reply : Reply) (x : Span) → IsMapFrom 0 m → IsStoreBy kind top m call reply first last entry → IsStoreOf call first last entry → IsSpanAt m top first x
-    → ((entry ≡ 0) × (x.word ≡ 0) × (last ≤ x.last) → ⊥) → ((entry ≢ 0) × (x.word ≢ 0) × (x.first ≡ first) × (x.last ≡ last) → ⊥) → Wants kind m call
-store_wants_rows kind m top first last entry call reply x rise store own at no_hole not_exact =
-    wants_by kind m first last entry call
+pub store_replaces : (kind : Kind) (m : List Range) (top first last entry : ℕ) (call : Call) (reply : Reply) (x : Span) → IsMapFrom 0 m → IsStoreBy kind top m call reply first last entry → IsStoreOf m call first last entry → IsSpanAt m top first x
+    → ((entry ≡ 0) × (x.word ≡ 0) × (last ≤ x.last) → ⊥) → ((entry ≢ 0) × (x.word ≢ 0) × (x.first ≡ first) × (x.last ≡ last) → ⊥) → Replaces kind m call
+store_replaces kind m top first last entry call reply x rise store own at no_hole not_exact =
+    replaces_by kind m first last entry call
     (λ same. changes m top first last entry x rise at store.order store.within no_hole not_exact (sym (ap (λ (p : List Range × Reply). p.0) store.acts) ∙ same))
     (inexact m top first last entry x rise at store.order store.within no_hole not_exact) own
 
 -- a store of an entry into the empty map
-pub first_store_wants_rows : (kind : Kind) (top first last entry : ℕ) (call : Call) (reply : Reply) → IsStoreBy kind top [] call reply first last entry → IsStoreOf call first last entry → entry ≢ 0 → Wants kind [] call
-first_store_wants_rows kind top first last entry call reply store own some = wants_by kind [] first last entry call leaves (and_right (not (entry == 0)) false refl) own
+pub first_store_replaces : (kind : Kind) (top first last entry : ℕ) (call : Call) (reply : Reply) → IsStoreBy kind top [] call reply first last entry → IsStoreOf [] call first last entry → entry ≢ 0 → Replaces kind [] call
+first_store_replaces kind top first last entry call reply store own some = replaces_by kind [] first last entry call leaves (and_right (not (entry == 0)) false refl) own
   where
     leaves : (acted kind [] call).0 ≢ []
     leaves same =

@@ -1,20 +1,21 @@
 -- The rows of a tree and the book of them, between two calls of an engine and within one; and what a call does to them.
 -- Source: this project's own.
-use Rattle.std.specs.Prelude.{◌≡◌, ◌⊎◌, ℕ, ◌+◌, ◌*◌, ◌≤◌, Bool, true, false, List, ◌++◌, All, Option, length}
+use Rattle.std.specs.Prelude.{◌≡◌, ◌⊎◌, ℕ, ◌+◌, ◌*◌, ◌≤◌, Bool, true, false, List, [], ◌++◌, All, Option, length}
 use Rattle.mt_base.specs.declared.calls.Call.{Call}
+use Rattle.mt_base.specs.declared.calls.Call.TheVariants.{Store, StorePre, Insert, Erase, Alloc, Ralloc, Gap, Rgap, Clear}
 use Rattle.mt_base.specs.declared.kinds.Kind.{Kind}
-use Rattle.mt_base.specs.declared.kinds.Kind.TheVariants as trees
+use Rattle.mt_base.specs.declared.ranges.Range.{Range}
 use Rattle.mt_base.specs.declared.replies.Reply.{Reply}
 use Rattle.mt_base.specs.declared.replies.Reply.TheVariants as answers
 use Rattle.mt_base.specs.declared.replies.Shortage.{Shortage}
 use Rattle.mt_base.specs.Call.{acted}
 use Rattle.mt_base.specs.Nodes.{Wants, IsRefused}
-use Rattle.mt_base.specs.Width.{most_taken}
+use Rattle.mt_base.specs.Width.{columns, most_taken}
 use Rattle.mt_free.specs.Book.{Book, Held, live_count, after_reclaim}
 use Rattle.mt_rows.specs.declared.rows.Life.{Life}
 use Rattle.mt_rows.specs.declared.rows.Life.TheVariants.{Dead}
 use Rattle.mt_rows.specs.Trees.{height_in}
-use Rattle.mt_rows.specs.Sheet.{Rooted, Sheet, life_of, limits_of, one_more}
+use Rattle.mt_rows.specs.Sheet.{Rooted, Sheet, IsScan, RoseUpTo, life_of, limits_of, one_more}
 use Rattle.mt_rows.specs.Publish.{IsTold, MayFinish, IsCounted, WasScanned, finished, map_by, with_record}
 use Rattle.mt_splice.specs.Kept.{IsKept}
 
@@ -26,15 +27,10 @@ pub record Parts : Type 0 where
 
 -- ---- the state
 
--- engines of ranges alone are made yet: gap words are not mended behind a store
-abbrev pub IsOfRanges : Kind → Type 0
-IsOfRanges kind = kind ≡ trees.Range
-
 -- What holds of the rows and the book whether or not a call is in flight: the tree is kept, its held rows died by the calls
 -- that the book tells, and no call has taken more rows than it may.
 pub record IsState (kind : Kind) (known : Option Kind) (t : Rooted) (lives : List Life) (buried : List Bool) (cleared ended opened : ℕ) (book : Book) : Type 0 where
   pub told : IsTold known kind
-  pub range : IsOfRanges kind
   pub kept : IsKept kind t lives buried cleared book (ended + 1)
   pub held : All (λ (h : Held). life_of lives h.row ≡ Dead h.stamp) book.held
   pub grown : length book.held + live_count book ≤ opened + most_taken * ended
@@ -66,11 +62,25 @@ pub record HadRoom (s s' : Sheet) (book : Book) : Type 0 where
   pub scanned : WasScanned s'
   pub room : 3 * height_in s.tree.table s.tree.root + 1 ≤ length (after_reclaim book s'.scan.least).free
 
--- of these it took so many at the most
-pub record TookRows (s s' : Sheet) (book book' : Book) : Type 0 where
+-- The call replaces rows: where it wants some it needs them as well, but for a store that is to have them at hand, which needs
+-- them where the same store would want them.
+abbrev pub Replaces : Kind → List Range → Call → Type 0
+Replaces kind m (Store first last entry) = Wants kind m (Store first last entry)
+Replaces kind m (StorePre first last entry) = Wants kind m (Store first last entry)
+Replaces kind m (Insert first last entry) = Wants kind m (Insert first last entry)
+Replaces kind m (Erase index) = Wants kind m (Erase index)
+Replaces kind m (Alloc size min max entry) = Wants kind m (Alloc size min max entry)
+Replaces kind m (Ralloc size min max entry) = Wants kind m (Ralloc size min max entry)
+Replaces kind m (Gap size min max) = ⊥
+Replaces kind m (Rgap size min max) = ⊥
+Replaces kind m Clear = ⊥
+
+-- of free rows it took so many at the most, and none where it replaces none
+pub record TookRows (kind : Kind) (s : Sheet) (free : List ℕ) (book' : Book) (call : Call) : Type 0 where
   pub taken : List ℕ
-  pub free : (after_reclaim book s'.scan.least).free ≡ book'.free ++ taken
+  pub free_were : free ≡ book'.free ++ taken
   pub few : length taken ≤ 3 * height_in s.tree.table s.tree.root + 1
+  pub none : (Replaces kind (map_by s.tree) call → ⊥) → taken ≡ []
 
 -- a reply that says that nothing was changed
 abbrev pub is_refusal : Reply → Bool
@@ -89,7 +99,7 @@ pub record IsDone (kind : Kind) (s s' : Sheet) (book book' : Book) (call : Call)
   pub acts : acted kind (map_by s.tree) call ≡ (map_by s'.tree, reply)
   pub kept : is_refusal reply ≡ true → s'.tree ≡ s.tree
   pub room : Wants kind (map_by s.tree) call → HadRoom s s' book
-  pub took : Wants kind (map_by s.tree) call → TookRows s s' book book'
+  pub took : Wants kind (map_by s.tree) call → TookRows kind s (after_reclaim book s'.scan.least).free book' call
   pub calm : (Wants kind (map_by s.tree) call → ⊥) → (s'.scans ≡ s.scans) × (s'.scan ≡ s.scan) × (book'.free ≡ book.free)
 
 -- so many rows of the book are free, live and held
@@ -104,15 +114,18 @@ pub record IsShortFor (kind : Kind) (s s' : Sheet) (book book' : Book) (call : C
   pub refused : IsRefused kind (limits_of s) (map_by s.tree) call reply
   pub counted : IsCounted s' refused.shortage
   pub scanned : WasScanned s'
+  pub answer : IsScan s.shared s.told s'.scan
   pub freed : book' ≡ after_reclaim book s'.scan.least
   pub tells : TellsBook book' refused.shortage
 
--- It did what it says, with rows enough where it wanted some; or it was refused for want of rows, which left every word. The
--- rows are between two calls again, one more call has ended, and it is told where records are, of the same caller. There was
--- one scan at the most.
-pub record IsApplied (kind : Kind) (s s' : Sheet) (book book' : Book) (call : Call) (reply : Reply) : Type 0 where
+-- It did what it says, with rows enough where it wanted some; or it was refused for want of rows, which left every word.
+abbrev pub DidOrLacked : Kind → Sheet → Sheet → Book → Book → Call → Reply → Type 0
+DidOrLacked kind s s' book book' call reply = IsDone kind s s' book book' call reply ⊎ (IsShortFor kind s s' book book' call reply × (s'.tree ≡ s.tree))
+
+-- What every call leaves: the rows are between two calls again, one more call has ended, and it is told where records are, of
+-- the same caller. There was one scan at the most.
+pub record IsEnded (kind : Kind) (s s' : Sheet) (book' : Book) (call : Call) (reply : Reply) : Type 0 where
   pub idle : IsIdle kind s' book'
-  pub answer : IsDone kind s s' book book' call reply ⊎ (IsShortFor kind s s' book book' call reply × (s'.tree ≡ s.tree))
   pub ended : s'.ended ≡ s.ended + 1
   pub record_told : s'.told ≡ with_record s.told call reply
   pub cleared : s.cleared ≤ s'.cleared
@@ -122,7 +135,36 @@ pub record IsApplied (kind : Kind) (s s' : Sheet) (book book' : Book) (call : Ca
   pub shared : s'.shared ≡ s.shared
   pub known : s'.kind ≡ s.kind
 
--- What a call in flight has come to when it may end with this reply: by its end it is such a call.
+-- the call does no more than search, or it allocates and found no room
+abbrev pub OnlySearches : Call → Reply → Type 0
+OnlySearches (Store first last entry) reply = ⊥
+OnlySearches (StorePre first last entry) reply = ⊥
+OnlySearches (Insert first last entry) reply = ⊥
+OnlySearches (Erase index) reply = ⊥
+OnlySearches (Alloc size min max entry) reply = reply ≡ answers.Busy
+OnlySearches (Ralloc size min max entry) reply = reply ≡ answers.Busy
+OnlySearches (Gap size min max) reply = Unit {0}
+OnlySearches (Rgap size min max) reply = Unit {0}
+OnlySearches Clear reply = ⊥
+
+-- as many words as a search may load: twice those of three rows for each level, and the root word
+abbrev pub most_searched : Rooted → ℕ
+most_searched t = 2 * (3 * height_in t.table t.root * columns t.table.width + 1)
+
+-- What a search leaves: every word, and the book; and it loaded so many words at the most.
+pub record OnlySought (s s' : Sheet) (book book' : Book) : Type 0 where
+  pub tree : s'.tree ≡ s.tree
+  pub same_book : book' ≡ book
+  pub reads : RoseUpTo (most_searched s.tree) s.reads s'.reads
+
+-- What a call is and leaves.
+pub record IsApplied (kind : Kind) (s s' : Sheet) (book book' : Book) (call : Call) (reply : Reply) : Type 0 where
+  pub ended : IsEnded kind s s' book' call reply
+  pub answer : DidOrLacked kind s s' book book' call reply
+  pub search : OnlySearches call reply → OnlySought s s' book book'
+
+-- What a call in flight has come to when it may end with this reply: what it leaves by its end, and what it did.
 pub record IsAnswered (kind : Kind) (s s' : Sheet) (book book' : Book) (call : Call) (reply : Reply) : Type 0 where
   pub may : MayFinish kind s' call reply
-  pub applied : IsApplied kind s (finished s' call reply) book book' call reply
+  pub ended : IsEnded kind s (finished s' call reply) book' call reply
+  pub answer : DidOrLacked kind s (finished s' call reply) book book' call reply

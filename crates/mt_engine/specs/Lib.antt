@@ -1,8 +1,13 @@
+pub mod Areas
 pub mod Engine
+pub mod Heights
 pub mod Here
 pub mod MapSpans
+pub mod Mends
 pub mod Nearest
 pub mod Plans
+pub mod Prepared
 pub mod RangeWalks
 pub mod Rooms
 pub mod StoreBy
+pub mod Stores

@@ -2,45 +2,61 @@
 -- Source: the kernel's documentation of the maple tree; an erase is a store of no entry over the range.
 use Rattle.std.specs.Prelude.{◌≡◌, ◌≢◌, ◌||◌, ◌==◌, not, ℕ, Bool, false, List, Option, Some, None, nat_lt}
 use Rattle.mt_base.specs.declared.calls.Call.{Call}
-use Rattle.mt_base.specs.declared.calls.Call.TheVariants.{Store, Insert, Erase, Alloc, Ralloc, Gap, Rgap, Clear}
+use Rattle.mt_base.specs.declared.calls.Call.TheVariants.{Store, StorePre, Insert, Erase, Alloc, Ralloc, Gap, Rgap, Clear}
 use Rattle.mt_base.specs.declared.kinds.Kind.{Kind}
+use Rattle.mt_base.specs.declared.ranges.Range.{Range}
 use Rattle.mt_base.specs.declared.replies.Reply.{Reply}
 use Rattle.mt_base.specs.Call.{acted}
+use Rattle.mt_base.specs.Map.{is_held}
+use Rattle.mt_base.specs.Nodes.{Wants}
 use Rattle.mt_base.specs.Width.{greatest}
-use Rattle.mt_rows.specs.Sheet.{Rooted}
+use Rattle.mt_rows.specs.Sheet.{Rooted, Sheet, RoseUpTo}
 use Rattle.mt_rows.specs.Publish.{map_by}
 use Rattle.mt_path.specs.declared.handles.Handle.{Handle}
 use Rattle.mt_path.specs.declared.paths.PathStep.{PathStep}
 use Rattle.mt_path.specs.Paths.{path_in}
 use Rattle.mt_splice.specs.Splice.{IsStoreBy}
-use Rattle.mt_engine.specs.Engine.{is_refusal}
+use Rattle.mt_engine.specs.Engine.{is_refusal, OnlySearches, most_searched}
 use Rattle.mt_engine.specs.Here.{IsHereAt}
 use Rattle.mt_engine.specs.declared.plans.Plan.{Plan}
 use Rattle.mt_engine.specs.declared.plans.Plan.TheVariants as plans
 
--- the store is the call's own, or makes a hole of the range that the call erases
-abbrev pub IsStoreOf : Call → ℕ → ℕ → ℕ → Type 0
-IsStoreOf (Store f l e) first last entry = (f ≡ first) × (l ≡ last) × (e ≡ entry)
-IsStoreOf (Insert f l e) first last entry = (f ≡ first) × (l ≡ last) × (e ≡ entry)
-IsStoreOf (Erase index) first last entry = entry ≡ 0
-IsStoreOf (Alloc size min max e) first last entry = ⊥
-IsStoreOf (Ralloc size min max e) first last entry = ⊥
-IsStoreOf (Gap size min max) first last entry = ⊥
-IsStoreOf (Rgap size min max) first last entry = ⊥
-IsStoreOf Clear first last entry = ⊥
+-- an entry is stored where no range holds an index
+pub record IsPlacing (m : List Range) (own first last entry : ℕ) : Type 0 where
+  pub entry_is : own ≡ entry
+  pub some : entry ≢ 0
+  pub free : is_held m first last ≡ false
+
+-- the store is the call's own, or makes a hole of the range that the call erases, or fills a place that was found
+abbrev pub IsStoreOf : List Range → Call → ℕ → ℕ → ℕ → Type 0
+IsStoreOf m (Store f l e) first last entry = (f ≡ first) × (l ≡ last) × (e ≡ entry)
+IsStoreOf m (StorePre f l e) first last entry = (f ≡ first) × (l ≡ last) × (e ≡ entry)
+IsStoreOf m (Insert f l e) first last entry = (f ≡ first) × (l ≡ last) × (e ≡ entry)
+IsStoreOf m (Erase index) first last entry = entry ≡ 0
+IsStoreOf m (Alloc size min max e) first last entry = IsPlacing m e first last entry
+IsStoreOf m (Ralloc size min max e) first last entry = IsPlacing m e first last entry
+IsStoreOf m (Gap size min max) first last entry = ⊥
+IsStoreOf m (Rgap size min max) first last entry = ⊥
+IsStoreOf m Clear first last entry = ⊥
 
 -- The call is done by this store; the path leads to the store's first index, and this stands there.
 pub record IsStorePlan (kind : Kind) (t : Rooted) (call : Call) (path : List PathStep) (first last entry : ℕ) (reply : Reply) (here : Option Handle) : Type 0 where
   pub store : IsStoreBy kind (greatest t.table.width) (map_by t) call reply first last entry
-  pub own : IsStoreOf call first last entry
+  pub own : IsStoreOf (map_by t) call first last entry
   pub success : is_refusal reply ≡ false
   pub way : path ≡ path_in t.table t.root first
   pub stands : IsHereAt t first here
 
 abbrev pub IsPlan : Kind → Rooted → Call → List PathStep → Plan → Type 0
-IsPlan kind t call path (plans.Nothing reply) = acted kind (map_by t) call ≡ (map_by t, reply)
+IsPlan kind t call path (plans.Nothing reply) = (acted kind (map_by t) call ≡ (map_by t, reply)) × (Wants kind (map_by t) call → ⊥)
 IsPlan kind t call path (plans.Store first last entry reply here) = IsStorePlan kind t call path first last entry reply here
 IsPlan kind t call path plans.Empty = (call ≡ Clear) × (t.root ≢ 0)
+
+-- a call that comes to nothing and only searched has loaded few words
+abbrev pub IsSearched : Sheet → Sheet → Call → Plan → Type 0
+IsSearched s s' call (plans.Nothing reply) = OnlySearches call reply → RoseUpTo (most_searched s.tree) s.reads s'.reads
+IsSearched s s' call (plans.Store first last entry reply here) = Unit {0}
+IsSearched s s' call plans.Empty = Unit {0}
 
 -- A range holds an index from that of a slot up to `last`: one stands in the slot, or right behind a hole there that ends
 -- before `last`.

@@ -6,13 +6,14 @@ use Rattle.mt_base.specs.declared.replies.Shortage.{Shortage}
 use Rattle.mt_base.specs.Nodes.{IsShort}
 use Rattle.mt_free.specs.Book.{Book, after_reclaim}
 use Rattle.mt_rows.specs.Trees.{height_in}
-use Rattle.mt_rows.specs.Sheet.{Rooted, Sheet, limits_of, scanned}
+use Rattle.mt_rows.specs.Sheet.{Rooted, Sheet, IsScan, limits_of, scanned}
 use Rattle.mt_rows.specs.Publish.{IsCounted, map_by}
 use Rattle.mt_engine.specs.Engine.{IsEngineState, TellsBook}
 
--- the rows were scanned, and those that no section holds are free
+-- the rows were scanned, with an answer that a scan may give, and those that no section holds are free
 pub record IsScanned (kind : Kind) (s s' : Sheet) (book book' : Book) : Type 0 where
   pub rest : s' ≡ scanned s s'.scan s'.cleared
+  pub answer : IsScan s.shared s.told s'.scan
   pub rises : s.cleared ≤ s'.cleared
   pub freed : book' ≡ after_reclaim book s'.scan.least
   pub state : IsEngineState kind s' book'

@@ -1,8 +1,10 @@
 //! The calls that write, each by one publishing store at the most.
 
 ghost use Rattle.std.specs.Prelude.{◌≡◌, ◌+◌, ◌-◌, ◌^◌, ◌<◌};
-ghost use Rattle.mt_engine.specs.Engine.{IsIdle, IsInCall, IsAnswered, IsApplied};
+ghost use Rattle.mt_engine.specs.Engine.{IsInCall, IsAnswered, IsApplied, OnlySearches, OnlySought};
+ghost use Rattle.mt_engine.specs.Heights.{HasHeight, IsMeasured};
 
+use crate::heights::height_after;
 use crate::plans::{Plan, plan_of};
 use crate::stores::store;
 use mt_base::{Call, Kind, Reply};
@@ -12,17 +14,28 @@ use mt_rows::Rows;
 use mt_splice::clear;
 
 /// Carries out the call of this number, which was begun, and gives the reply that it may end with.
-fn perform<R: Rows>(rows: &mut R, book: &mut RowBook, kind: Kind, number: u64, call: &Call) -> Reply
+fn perform<R: Rows>(
+    rows: &mut R,
+    book: &mut RowBook,
+    kind: Kind,
+    height: &mut u64,
+    number: u64,
+    call: &Call,
+) -> Reply
     requires in_call { IsInCall kind (R.sheet rows.old) book.old }
     requires number { number ≡ (R.sheet rows.old).ended + 1 }
     requires few { (R.sheet rows.old).ended < 2 ^ 62 - 1 }
-    ensures { IsAnswered kind (R.sheet rows.old) (R.sheet rows.new) book.old book.new call.now result }
+    requires height { HasHeight (R.sheet rows.old).tree height.old }
+    ensures height { HasHeight (R.sheet rows.new).tree height.new }
+    ensures answered { IsAnswered kind (R.sheet rows.old) (R.sheet rows.new) book.old book.new call.now result }
+    ensures search { OnlySearches call.now result → OnlySought (R.sheet rows.old) (R.sheet rows.new) book.old book.new }
 {
     let mut path = Path::new();
     match plan_of(rows, kind, call, &mut path) {
         Plan::Nothing { reply } => reply,
         Plan::Empty => {
             clear(rows, book, kind, number, call, &Reply::Ok);
+            *height = 0;
             Reply::Ok
         }
         Plan::Store {
@@ -34,7 +47,10 @@ fn perform<R: Rows>(rows: &mut R, book: &mut RowBook, kind: Kind, number: u64, c
         } => match store(
             rows, book, kind, path, here, first, last, entry, number, call, &reply,
         ) {
-            Ok(()) => reply,
+            Ok(is_new_root) => {
+                *height = height_after(rows, is_new_root, *height);
+                reply
+            }
             Err(shortage) => Reply::NoNodes(shortage),
         },
     }
@@ -42,13 +58,20 @@ fn perform<R: Rows>(rows: &mut R, book: &mut RowBook, kind: Kind, number: u64, c
 
 /// Makes one call on a tree of this kind: it does what the call says and answers so, or it refuses for want of rows and
 /// leaves every word.
-pub fn apply<R: Rows>(rows: &mut R, book: &mut RowBook, kind: Kind, call: &Call) -> Reply
-    requires idle { IsIdle kind (R.sheet rows.old) book.old }
+pub fn apply<R: Rows>(
+    rows: &mut R,
+    book: &mut RowBook,
+    kind: Kind,
+    height: &mut u64,
+    call: &Call,
+) -> Reply
+    requires measured { IsMeasured kind (R.sheet rows.old) book.old height.old }
     requires few { (R.sheet rows.old).ended < 2 ^ 62 - 1 }
-    ensures { IsApplied kind (R.sheet rows.old) (R.sheet rows.new) book.old book.new call.now result }
+    ensures applied { IsApplied kind (R.sheet rows.old) (R.sheet rows.new) book.old book.new call.now result }
+    ensures measured { IsMeasured kind (R.sheet rows.new) book.new height.new }
 {
     let number = rows.begin();
-    let reply = perform(rows, book, kind, number, call);
+    let reply = perform(rows, book, kind, height, number, call);
     rows.finish(call, &reply);
     reply
 }

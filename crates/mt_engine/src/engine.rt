@@ -1,50 +1,66 @@
 //! A tree on one thread.
 
-ghost use Rattle.std.specs.Prelude.{◌≡◌, ◌+◌, ◌-◌, ◌^◌, ◌<◌, Some, IfOk, IfSome};
+ghost use Rattle.std.specs.Prelude.{◌≡◌, ◌↔◌, ◌+◌, ◌-◌, ◌*◌, ◌^◌, ◌<◌, Some, IsTrue, IsOk, IfOk, IfErr, IfSome};
+ghost use Rattle.mt_base.specs.declared.calls.Call.TheVariants.{StorePre};
 ghost use Rattle.mt_base.specs.Call.{answer};
 ghost use Rattle.mt_base.specs.Width.{greatest};
 ghost use Rattle.mt_rows.specs.Publish.{map_by};
-ghost use Rattle.mt_rows.specs.Sheet.{OnlyReads, limits_of};
+ghost use Rattle.mt_rows.specs.Sheet.{OnlyReads, ReadsUpTo, limits_of};
+ghost use Rattle.mt_rows.specs.Trees.{height_in};
 ghost use Rattle.mt_engine.specs.Engine.{IsIdle, IsApplied};
+ghost use Rattle.mt_engine.specs.Prepared.{IsPrestored};
+ghost use Rattle.mt_engine.specs.Rooms.{HasRoom, IsScanned, IsShortOf};
 ghost use Rattle.mt_engine.specs.RangeWalks.{found_from, index_behind, StepsWithin, WalksFrom};
 
+use crate::heights::height_of;
+use crate::prepared::store_prepared;
 use crate::range_walk::{RangeWalk, next_range};
+use crate::rooms::{has_room, make_room};
 use crate::{calls, lists, queries};
-use mt_base::{Call, Kind, NoMemory, Query, Range, Reply};
+use mt_base::{Call, Kind, NoMemory, Query, Range, Reply, Shortage};
 use mt_free::RowBook;
 use mt_list::Ranges;
 use mt_rows::Rows;
 use std::alloc::Global;
 use std::marker::Model;
 
-/// A tree on one thread: its rows, the book of them, and its kind. Its meaning is what the rows and the book mean. Between two
-/// calls the words are lawful and the book is of these rows.
+/// A tree on one thread: its rows, the book of them, its kind, and how many levels it has. Its meaning is what the rows and
+/// the book mean. Between two calls the words are lawful and the book is of these rows.
 #[derive(Drop)]
 pub struct Engine<R: Rows> {
     rows: R,
     book: RowBook,
     kind: Kind,
+    height: u64,
 }
 
 impl<R: Rows> Model for Engine<R> {
-    ghost use Rattle.mt_engine.specs.Engine.{Parts, IsIdle};
+    ghost use Rattle.mt_engine.specs.Engine.{Parts};
+    ghost use Rattle.mt_engine.specs.Heights.{IsMeasured};
 
     ghost Value = { Parts };
 
     ghost view = { λ e. record { sheet = R.sheet e.rows; book = e.book; kind = e.kind } };
 
-    ghost invariant = { λ e. IsIdle e.kind (R.sheet e.rows) e.book };
+    ghost invariant = { λ e. IsMeasured e.kind (R.sheet e.rows) e.book e.height };
 }
 
 impl<R: Rows> Engine<R> {
-    /// An engine over rows that are between two calls, with the book of them.
+    /// An engine over rows that are between two calls, with the book of them. The height of the tree is found by a way down.
     pub fn new(rows: R, book: RowBook, kind: Kind) -> Self
         requires { IsIdle kind (R.sheet rows) book }
-        ensures sheet { result.sheet ≡ R.sheet rows }
+        ensures sheet { ReadsUpTo (2 * height_in (R.sheet rows).tree.table (R.sheet rows).tree.root + 1) (R.sheet rows) result.sheet }
         ensures book { result.book ≡ book }
         ensures kind { result.kind ≡ kind }
     {
-        Engine { rows, book, kind }
+        let mut rows = rows;
+        let height = height_of(&mut rows);
+        Engine {
+            rows,
+            book,
+            kind,
+            height,
+        }
     }
 
     /// The rows and the book, from which an engine of the same kind can be made again.
@@ -63,7 +79,52 @@ impl<R: Rows> Engine<R> {
         ensures applied { IsApplied self.old.kind self.old.sheet self.new.sheet self.old.book self.new.book call.now result }
         ensures kind { self.new.kind ≡ self.old.kind }
     {
-        calls::apply(&mut self.rows, &mut self.book, self.kind, call)
+        calls::apply(
+            &mut self.rows,
+            &mut self.book,
+            self.kind,
+            &mut self.height,
+            call,
+        )
+    }
+
+    /// Whether a store may be made by `store_prealloc`: three rows for each level, and one, are free. Only `apply` and
+    /// `store_prealloc` take rows.
+    pub fn ready(&self) -> bool
+        ensures { IsTrue result ↔ HasRoom self.now.sheet.tree self.now.book }
+    {
+        has_room(&self.book, self.height)
+    }
+
+    /// Makes it ready for a store: scans, and frees the rows that no section holds. Where fewer than three rows for each level
+    /// and one are free then, the shortage tells so. All else stays, and no call is made.
+    pub fn preallocate(&mut self) -> Result<(), Shortage>
+        requires { self.old.sheet.ended < 2 ^ 64 }
+        ensures scanned { IsScanned self.old.kind self.old.sheet self.new.sheet self.old.book self.new.book }
+        ensures ready { IsOk result ↔ HasRoom self.new.sheet.tree self.new.book }
+        ensures short { IfErr result (λ shortage. IsShortOf self.new.sheet self.new.book shortage) }
+        ensures kind { self.new.kind ≡ self.old.kind }
+    {
+        make_room(&mut self.rows, &mut self.book, self.height)
+    }
+
+    /// Makes one store for which it is ready: it does what a `StorePre` says and answers so. It makes no scan, and is never
+    /// refused for want of rows.
+    pub fn store_prealloc(&mut self, first: u64, last: u64, entry: u64) -> Reply
+        requires ready { HasRoom self.old.sheet.tree self.old.book }
+        requires few { self.old.sheet.ended < 2 ^ 62 - 1 }
+        ensures stored { IsPrestored self.old.kind self.old.sheet self.new.sheet self.old.book self.new.book (StorePre first last entry) result }
+        ensures kind { self.new.kind ≡ self.old.kind }
+    {
+        store_prepared(
+            &mut self.rows,
+            &mut self.book,
+            self.kind,
+            &mut self.height,
+            first,
+            last,
+            entry,
+        )
     }
 
     /// Answers one query.

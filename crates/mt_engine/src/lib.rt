@@ -1,11 +1,15 @@
 //! The tree on one thread: what its words answer to the queries of a map of ranges, and the calls that change it.
 #![tactic(auto)]
 
+mod areas;
 mod calls;
 mod engine;
+mod heights;
 pub mod laws;
 mod lists;
+mod mends;
 mod plans;
+mod prepared;
 mod queries;
 mod range_walk;
 mod rooms;

@@ -2,13 +2,13 @@
 
 ghost use Rattle.std.specs.Prelude.{◌≡◌, List, []};
 ghost use Rattle.mt_base.specs.declared.kinds.Kind.{Kind};
-ghost use Rattle.mt_base.specs.declared.calls.Call.TheVariants.{Store, Insert, Erase, Clear};
-ghost use Rattle.mt_rows.specs.Publish.{IsTreeOf};
+ghost use Rattle.mt_base.specs.declared.calls.Call.TheVariants.{Store, StorePre, Insert, Erase, Clear};
+ghost use Rattle.mt_rows.specs.Publish.{IsTreeOf, IsLawfulOf};
 ghost use Rattle.mt_rows.specs.Sheet.{OnlyReads};
 ghost use Rattle.mt_path.specs.declared.paths.PathStep.{PathStep};
-ghost use Rattle.mt_engine.specs.Engine.{IsOfRanges};
-ghost use Rattle.mt_engine.specs.Plans.{IsPlan, is_taken};
+ghost use Rattle.mt_engine.specs.Plans.{IsPlan, IsSearched, is_taken};
 
+use crate::areas::{Sought, plan_allocation, plan_search};
 use mt_base::{Call, Kind, Reply, is_invalid};
 use mt_path::{Handle, Path, walk_to};
 use mt_rows::Rows;
@@ -33,7 +33,7 @@ pub enum Plan {
 }
 
 /// What a store comes to, with the path to its first index.
-fn plan_store<R: Rows>(
+pub fn plan_store<R: Rows>(
     rows: &mut R,
     kind: Kind,
     first: u64,
@@ -44,6 +44,7 @@ fn plan_store<R: Rows>(
     requires tree { IsTreeOf (R.sheet rows.old).tree kind }
     requires empty { path.old.items ≡ [] }
     ensures plan { IsPlan kind (R.sheet rows.old).tree (Store first last entry) path.new.items result }
+    ensures at_hand { IsPlan kind (R.sheet rows.old).tree (StorePre first last entry) path.new.items result }
     ensures rest { OnlyReads (R.sheet rows.old) (R.sheet rows.new) }
 {
     if is_invalid(kind, first, last, entry) {
@@ -140,24 +141,33 @@ fn plan_clear<R: Rows>(rows: &mut R) -> Plan
     Plan::Empty
 }
 
-/// What a call comes to. Where that is a store, the path to its first index is left in `path`. A tree of ranges finds no
-/// room.
+/// What a call comes to. Where that is a store, the path to its first index is left in `path`.
 pub fn plan_of<R: Rows>(rows: &mut R, kind: Kind, call: &Call, path: &mut Path) -> Plan
-    requires range { IsOfRanges kind }
-    requires tree { IsTreeOf (R.sheet rows.old).tree kind }
+    requires tree { IsLawfulOf (R.sheet rows.old).tree kind }
     requires empty { path.old.items ≡ [] }
     ensures plan { IsPlan kind (R.sheet rows.old).tree call.now path.new.items result }
+    ensures search { IsSearched (R.sheet rows.old) (R.sheet rows.new) call.now result }
     ensures rest { OnlyReads (R.sheet rows.old) (R.sheet rows.new) }
 {
     match *call {
         Call::Store { first, last, entry } => plan_store(rows, kind, first, last, entry, path),
+        Call::StorePre { first, last, entry } => plan_store(rows, kind, first, last, entry, path),
         Call::Insert { first, last, entry } => plan_insert(rows, kind, first, last, entry, path),
         Call::Erase { index } => plan_erase(rows, kind, index, path),
-        Call::Alloc { .. } | Call::Ralloc { .. } | Call::Gap { .. } | Call::Rgap { .. } => {
-            Plan::Nothing {
-                reply: Reply::Invalid,
-            }
-        }
+        Call::Alloc {
+            size,
+            min,
+            max,
+            entry,
+        } => plan_allocation(rows, kind, Sought::Lowest, size, min, max, entry, path),
+        Call::Ralloc {
+            size,
+            min,
+            max,
+            entry,
+        } => plan_allocation(rows, kind, Sought::Highest, size, min, max, entry, path),
+        Call::Gap { size, min, max } => plan_search(rows, kind, Sought::Lowest, size, min, max),
+        Call::Rgap { size, min, max } => plan_search(rows, kind, Sought::Highest, size, min, max),
         Call::Clear => plan_clear(rows),
     }
 }

@@ -1,6 +1,7 @@
 //! Room for the rows that a call may take.
 
-ghost use Rattle.std.specs.Prelude.{◌≡◌, ◌-◌, ◌^◌, ◌<◌, IfOk, IfErr};
+ghost use Rattle.std.specs.Prelude.{◌≡◌, ◌↔◌, ◌+◌, ◌*◌, ◌^◌, ◌<◌, ◌≤◌, IsTrue, IfOk, IfErr, length};
+ghost use Rattle.mt_base.specs.Width.{deepest};
 ghost use Rattle.mt_base.specs.declared.kinds.Kind.{Kind};
 ghost use Rattle.mt_rows.specs.Trees.{height_in};
 ghost use Rattle.mt_engine.specs.Engine.{IsEngineState};
@@ -10,12 +11,20 @@ use mt_base::Shortage;
 use mt_free::RowBook;
 use mt_rows::Rows;
 
+/// Whether three rows for each level, and one, are free.
+pub fn has_room(book: &RowBook, height: u64) -> bool
+    requires { height ≤ deepest }
+    ensures { IsTrue result ↔ (3 * height + 1 ≤ length book.now.free) }
+{
+    3 * height + 1 <= book.free()
+}
+
 /// Scans, frees the rows that no section holds, and tells the shortage where fewer than three rows for each level and one
 /// are free then. No call need be in flight.
 pub fn make_room<R: Rows>(rows: &mut R, book: &mut RowBook, height: u64) -> Result<(), Shortage>
     requires state { (kind : Kind) × IsEngineState kind (R.sheet rows.old) book.old }
     requires height { height ≡ height_in (R.sheet rows.old).tree.table (R.sheet rows.old).tree.root }
-    requires few { (R.sheet rows.old).ended < 2 ^ 62 - 1 }
+    requires few { (R.sheet rows.old).ended < 2 ^ 64 }
     ensures scanned { (kind : Kind) → IsEngineState kind (R.sheet rows.old) book.old → IsScanned kind (R.sheet rows.old) (R.sheet rows.new) book.old book.new }
     ensures room { IfOk result (λ _. HasRoom (R.sheet rows.new).tree book.new) }
     ensures short { IfErr result (λ shortage. IsShortOf (R.sheet rows.new) book.new shortage) }

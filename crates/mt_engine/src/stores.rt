@@ -1,6 +1,6 @@
 //! Stores into a tree: by no word, by one word, or by new rows.
 
-ghost use Rattle.std.specs.Prelude.{◌≡◌, ◌≢◌, ◌+◌, ◌-◌, ◌^◌, ◌<◌, IfOk, IfErr};
+ghost use Rattle.std.specs.Prelude.{◌≡◌, ◌≢◌, ◌+◌, ◌-◌, ◌^◌, ◌<◌, IfOk, IfErr, false};
 ghost use Rattle.mt_base.specs.declared.kinds.Kind.{Kind};
 ghost use Rattle.mt_base.specs.declared.replies.Reply.TheVariants.{NoNodes};
 ghost use Rattle.mt_layout.specs.declared.names.RowKind.TheVariants.{Leaf};
@@ -10,8 +10,12 @@ ghost use Rattle.mt_rows.specs.declared.rows.Place.TheVariants.{Slot};
 ghost use Rattle.mt_rows.specs.Publish.{IsTreeOf};
 ghost use Rattle.mt_path.specs.Handles.{IsHandleOf};
 ghost use Rattle.mt_engine.specs.Engine.{IsInCall, IsAnswered};
+ghost use Rattle.mt_engine.specs.Heights.{SameHeight};
 ghost use Rattle.mt_engine.specs.Plans.{IsStorePlan};
+ghost use Rattle.mt_engine.specs.Stores.{HasRoomFor, IsStored, wants_by};
 
+use crate::heights::is_root;
+use crate::mends::mend_at;
 use crate::rooms::make_room;
 use crate::store_by::{StoreBy, store_by};
 use mt_base::{Call, Kind, Reply, Shortage};
@@ -33,8 +37,57 @@ fn place_of<R: Rows>(rows: &R, at: &Handle) -> Place
     }
 }
 
+/// Whether a call wants rows whose store is carried out so.
+fn wants_by(call: &Call, by: &StoreBy) -> bool
+    ensures { result ≡ wants_by call.now by.now }
+{
+    match call {
+        Call::StorePre { .. } => true,
+        _ => matches!(by, StoreBy::NewRows),
+    }
+}
+
 /// Stores `entry`, or a hole where it is 0, over `first` to `last`, to whose first index the path leads and where this
-/// stands: by no word where that leaves the map, by one where `first` to `last` is one range, else by new rows.
+/// stands: by no word where that leaves the map, by one where `first` to `last` is one range, else by new rows, which are at
+/// hand. It makes no scan. It tells whether the root is new, and so whether the tree may have another height.
+pub fn store_at_hand<R: Rows>(
+    rows: &mut R,
+    book: &mut RowBook,
+    kind: Kind,
+    path: Path,
+    here: Option<Handle>,
+    first: u64,
+    last: u64,
+    entry: u64,
+    number: u64,
+    call: &Call,
+    reply: &Reply,
+) -> bool
+    requires in_call { IsInCall kind (R.sheet rows.old) book.old }
+    requires number { number ≡ (R.sheet rows.old).ended + 1 }
+    requires plan { IsStorePlan kind (R.sheet rows.old).tree call.now path.items first last entry reply.now here }
+    requires room { HasRoomFor kind (R.sheet rows.old) book.old call.now }
+    ensures stored { IsStored kind (R.sheet rows.old) (R.sheet rows.new) book.old book.new call.now reply.now }
+    ensures height { result ≡ false → SameHeight (R.sheet rows.old).tree (R.sheet rows.new).tree }
+{
+    match store_by(here, first, last, entry) {
+        StoreBy::NoWord => false,
+        StoreBy::OneWord { at } => {
+            let place = place_of(rows, &at);
+            rows.publish(place, entry, call, reply);
+            false
+        }
+        StoreBy::NewRows => {
+            let place = replace_range(
+                rows, book, kind, path, first, last, entry, number, call, reply,
+            );
+            mend_at(rows, kind, first);
+            is_root(&place)
+        }
+    }
+}
+
+/// The same, where rows are made free first if the call wants some; it tells the shortage where too few are.
 pub fn store<R: Rows>(
     rows: &mut R,
     book: &mut RowBook,
@@ -47,27 +100,19 @@ pub fn store<R: Rows>(
     number: u64,
     call: &Call,
     reply: &Reply,
-) -> Result<(), Shortage>
+) -> Result<bool, Shortage>
     requires in_call { IsInCall kind (R.sheet rows.old) book.old }
     requires number { number ≡ (R.sheet rows.old).ended + 1 }
     requires few { (R.sheet rows.old).ended < 2 ^ 62 - 1 }
     requires plan { IsStorePlan kind (R.sheet rows.old).tree call.now path.items first last entry reply.now here }
     ensures done { IfOk result (λ _. IsAnswered kind (R.sheet rows.old) (R.sheet rows.new) book.old book.new call.now reply.now) }
+    ensures height { IfOk result (λ is_new_root. is_new_root ≡ false → SameHeight (R.sheet rows.old).tree (R.sheet rows.new).tree) }
     ensures short { IfErr result (λ shortage. IsAnswered kind (R.sheet rows.old) (R.sheet rows.new) book.old book.new call.now (NoNodes shortage)) }
 {
-    match store_by(here, first, last, entry) {
-        StoreBy::NoWord => Ok(()),
-        StoreBy::OneWord { at } => {
-            let place = place_of(rows, &at);
-            rows.publish(place, entry, call, reply);
-            Ok(())
-        }
-        StoreBy::NewRows => {
-            make_room(rows, book, path.len() as u64)?;
-            replace_range(
-                rows, book, kind, path, first, last, entry, number, call, reply,
-            );
-            Ok(())
-        }
+    if wants_by(call, &store_by(here, first, last, entry)) {
+        make_room(rows, book, path.len() as u64)?;
     }
+    Ok(store_at_hand(
+        rows, book, kind, path, here, first, last, entry, number, call, reply,
+    ))
 }

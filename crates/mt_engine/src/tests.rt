@@ -2,7 +2,10 @@ ghost use Rattle.std.specs.Prelude.{◌≡◌, ◌<◌, ◌+◌, ◌-◌, ◌^�
 ghost use Rattle.mt_base.specs.Width.{most_rows};
 ghost use Rattle.mt_base.specs.declared.kinds.Kind.TheVariants as kinds;
 
+mod areas;
 mod drawn;
+mod gapped;
+mod prepared;
 mod watched;
 
 use crate::Engine;
@@ -18,14 +21,23 @@ use std::test::Fail;
 /// The last index.
 const TOP: u64 = u64::MAX;
 
-/// An engine of an empty tree over so many rows in memory.
+/// An engine of an empty tree of ranges over so many rows in memory.
 fn fresh(alloc: Global, rows: u64) -> Result<Engine<PlainRows>, NoMemory>
     requires { rows ≤ most_rows }
     ensures ended { IfOk result (λ engine. engine.sheet.ended ≡ 0) }
     ensures kind { IfOk result (λ engine. engine.kind ≡ kinds.Range) }
 {
+    fresh_of(alloc, Kind::Range, rows)
+}
+
+/// The same of a tree of this kind.
+fn fresh_of(alloc: Global, kind: Kind, rows: u64) -> Result<Engine<PlainRows>, NoMemory>
+    requires { rows ≤ most_rows }
+    ensures ended { IfOk result (λ engine. engine.sheet.ended ≡ 0) }
+    ensures kind { IfOk result (λ engine. engine.kind ≡ kind) }
+{
     let book = RowBook::new(alloc, rows)?;
-    Ok(Engine::new(PlainRows::new(alloc, rows)?, book, Kind::Range))
+    Ok(Engine::new(PlainRows::new(alloc, rows)?, book, kind))
 }
 
 /// The same over rows of which a section stands open.
@@ -39,6 +51,10 @@ fn fresh_watched(alloc: Global, rows: u64) -> Result<Engine<Watched>, NoMemory>
 
 fn store(first: u64, last: u64, entry: u64) -> Call {
     Call::Store { first, last, entry }
+}
+
+fn store_pre(first: u64, last: u64, entry: u64) -> Call {
+    Call::StorePre { first, last, entry }
 }
 
 fn insert(first: u64, last: u64, entry: u64) -> Call {
@@ -192,6 +208,8 @@ fn tells_that_too_few_rows_are_free(rt: HostRuntime) -> Result<(), Fail> {
         (store(10, 10, 5), Reply::Ok, None),
         (store(20, 20, 7), Reply::NoNodes(shortage), Some(12)),
         (store(10, 10, 9), Reply::Ok, None),
+        (store_pre(10, 10, 8), Reply::NoNodes(shortage), Some(12)),
+        (store_pre(12, 11, 8), Reply::Invalid, Some(22)),
         (insert(10, 12, 9), Reply::Exists, Some(17)),
         (store(10, 10, 2), Reply::Invalid, Some(22)),
         (Call::Clear, Reply::Ok, None),

@@ -2,7 +2,7 @@ ghost use Rattle.std.specs.Prelude.{◌≡◌, ◌<◌, ◌+◌, ◌-◌, ◌^�
 ghost use Rattle.mt_base.specs.declared.kinds.Kind.TheVariants as kinds;
 
 use crate::Engine;
-use crate::tests::{TOP, erase, expect_answers, fresh, insert, store};
+use crate::tests::{TOP, erase, expect_answers, fresh, fresh_of, insert, store, store_pre};
 use mt_base::{Call, Kind, MOST_ROWS, NoMemory, Query};
 use mt_list::{ListMap, Ranges};
 use mt_rows::PlainRows;
@@ -51,15 +51,45 @@ impl Draws {
         u64::from(self.below(6))
     }
 
+    /// A call that seeks room, mostly in a window of some ranges; room for no index is refused.
+    fn search(&mut self) -> Call {
+        let size = u64::from(self.below(14));
+        let min = self.index();
+        let max = if self.below(4) == 0 {
+            TOP
+        } else {
+            min.saturating_add(u64::from(self.below(200)))
+        };
+        let entry = self.entry();
+        match self.below(4) {
+            0 => Call::Alloc {
+                size,
+                min,
+                max,
+                entry,
+            },
+            1 => Call::Ralloc {
+                size,
+                min,
+                max,
+                entry,
+            },
+            2 => Call::Gap { size, min, max },
+            _ => Call::Rgap { size, min, max },
+        }
+    }
+
     fn call(&mut self, list: &mut ListMap) -> Call {
         let first = self.index();
         let last = self.last_from(first);
         let entry = self.entry();
         match self.below(4000) {
             0 => Call::Clear,
-            1..1500 => store(first, last, entry),
-            1500..2000 => exact_store(list, first, entry),
-            2000..3000 => insert(first, last, entry),
+            1..1200 => store(first, last, entry),
+            1200..1600 => exact_store(list, first, entry),
+            1600..1800 => store_pre(first, last, entry),
+            1800..2400 => insert(first, last, entry),
+            2400..3200 => self.search(),
             _ => erase(first),
         }
     }
@@ -118,6 +148,32 @@ fn a_hundred_thousand_calls_are_answered_as_by_a_list(rt: HostRuntime) -> Result
     let mut list = ListMap::new(rt.alloc(), Kind::Range);
     let mut draws = Draws { state: 1 };
     for _ in 0..100_u64 {
+        expect_calls(&rt, rt.alloc(), &mut engine, &mut list, &mut draws)?;
+    }
+    Ok(())
+}
+
+/// Stores a thousand ranges of ten indexes, each behind a hole of ten.
+fn fill(engine: &mut Engine<PlainRows>, list: &mut ListMap) -> Result<(), NoMemory>
+    requires few { engine.old.sheet.ended + 1000 < 2 ^ 62 }
+    ensures ended { OnOk result (engine.new.sheet.ended ≡ engine.old.sheet.ended + 1000) }
+    ensures kind { engine.new.kind ≡ engine.old.kind }
+{
+    for n in 0..1000_u64 {
+        let call = store(20 * n + 10, 20 * n + 19, 1);
+        engine.apply(&call);
+        list.act(&call)?;
+    }
+    Ok(())
+}
+
+#[test]
+fn ten_thousand_calls_on_areas_are_answered_as_by_a_list(rt: HostRuntime) -> Result<(), Fail> {
+    let mut engine = fresh_of(rt.alloc(), Kind::Alloc, MOST_ROWS)?;
+    let mut list = ListMap::new(rt.alloc(), Kind::Alloc);
+    let mut draws = Draws { state: 3 };
+    fill(&mut engine, &mut list)?;
+    for _ in 0..10_u64 {
         expect_calls(&rt, rt.alloc(), &mut engine, &mut list, &mut draws)?;
     }
     Ok(())

@@ -1,16 +1,25 @@
-use Rattle.std.proofs.Common.{sym, subst}
+use Rattle.std.proofs.Common.{refl, sym, ap, ◌∙◌, subst}
+use Rattle.mt_base.specs.declared.calls.Call.{Call}
 use Rattle.mt_base.specs.declared.replies.Reply.TheVariants.{NoNodes}
+use Rattle.mt_base.specs.declared.replies.Reply.TheVariants as reply
+use Rattle.mt_rows.specs.Publish.{map_by}
 use Rattle.mt_rows.specs.Sheet.{Rooted}
+use Rattle.mt_rows.specs.Trees.{height_in}
 use Rattle.mt_engine.specs.declared.plans.Plan.TheVariants.{Nothing}
-use Rattle.mt_engine.specs.Plans.{IsPlan, IsStorePlan}
+use Rattle.mt_engine.specs.Engine.{OnlySearches}
+use Rattle.mt_engine.specs.Heights.{HasHeight}
+use Rattle.mt_engine.specs.Plans.{IsPlan, IsSearched, IsStorePlan}
 use Rattle.mt_engine.proofs.Answering.{may_clear_now, cleared_now}
+use Rattle.mt_engine.proofs.Finding.{store_is_no_search, success_is_not_busy, shortage_is_not_busy}
 use Rattle.mt_engine.proofs.Leaving.{leaves}
-use Rattle.mt_engine.proofs.Moments.{tree_in_call, in_call_if_read, answered_after_reads}
+use Rattle.mt_engine.proofs.Measured.{empty_height}
+use Rattle.mt_engine.proofs.Moments.{in_call_if_read, answered_after_reads, tree_if_lawful}
+use Rattle.mt_engine.proofs.ReadAfter.{answered_before_reads, refusal_stays}
 use Rattle.mt_engine.proofs.SlotQueries.{tree_same}
 use Rattle.mt_engine.proofs.calls.perform.Goals as goal
 
 pub plan_of-requires-clause-tree : goal.plan_of-requires-clause-tree
-plan_of-requires-clause-tree g c = tree_in_call c.args.kind (g.R.Rows.sheet c.args.rows.now) c.args.book.now c.requires.in_call
+plan_of-requires-clause-tree g c = c.requires.in_call.state.kept.lawful
 
 pub clear-requires : goal.clear-requires
 clear-requires g c =
@@ -32,20 +41,59 @@ returns-in-Nothing g c =
     let s = g.R.Rows.sheet c.args.rows.now in
     let s₁ = g.R.Rows.sheet c.plan_of.new.rows in
     let plan = subst (IsPlan c.args.kind s.tree c.args.call.now c.plan_of.new.path.items) c.in-Nothing.is c.plan_of.ensures.plan in
-    answered_after_reads c.args.kind s s₁ s₁ c.args.book.now c.args.book.now c.args.call.now c.in-Nothing.reply c.plan_of.ensures.rest
-    (leaves c.args.kind s₁ c.args.book.now c.args.call.now c.in-Nothing.reply (in_call_if_read c.args.kind s s₁ c.args.book.now c.plan_of.ensures.rest c.requires.in_call)
-    (subst (λ (t : Rooted). IsPlan c.args.kind t c.args.call.now c.plan_of.new.path.items (Nothing c.in-Nothing.reply)) (sym (tree_same s s₁ c.plan_of.ensures.rest)) plan))
+    let plan₁ = subst (λ (t : Rooted). IsPlan c.args.kind t c.args.call.now c.plan_of.new.path.items (Nothing c.in-Nothing.reply)) (sym (tree_same s s₁ c.plan_of.ensures.rest)) plan in
+    record {
+      height = subst (λ (t : Rooted). HasHeight t c.args.height.now) (sym (tree_same s s₁ c.plan_of.ensures.rest)) c.requires.height;
+      answered =
+          answered_after_reads c.args.kind s s₁ s₁ c.args.book.now c.args.book.now c.args.call.now c.in-Nothing.reply c.plan_of.ensures.rest
+          (leaves c.args.kind s₁ c.args.book.now c.args.call.now c.in-Nothing.reply (in_call_if_read c.args.kind s s₁ c.args.book.now c.plan_of.ensures.rest c.requires.in_call) plan₁.0 plan₁.1);
+      search = λ only. record { tree = tree_same s s₁ c.plan_of.ensures.rest; same_book = refl; reads = (subst (IsSearched s s₁ c.args.call.now) c.in-Nothing.is c.plan_of.ensures.search) only };
+    }
 
 pub returns-in-Empty : goal.returns-in-Empty
 returns-in-Empty g c =
     let s = g.R.Rows.sheet c.args.rows.now in
-    cleared_now c.args.kind s (g.R.Rows.sheet c.plan_of.new.rows) c.args.book.now c.args.number c.args.call.now c.requires.in_call c.plan_of.ensures.rest c.requires.number
-    (subst (IsPlan c.args.kind s.tree c.args.call.now c.plan_of.new.path.items) c.in-Empty.is c.plan_of.ensures.plan) (g.R.Rows.sheet c.clear.new.rows) c.clear.new.book c.clear.ensures.spliced c.clear.ensures.none_taken
+    let plan = subst (IsPlan c.args.kind s.tree c.args.call.now c.plan_of.new.path.items) c.in-Empty.is c.plan_of.ensures.plan in
+    record {
+      height = empty_height (g.R.Rows.sheet c.clear.new.rows).tree c.clear.ensures.root;
+      answered = cleared_now c.args.kind s (g.R.Rows.sheet c.plan_of.new.rows) c.args.book.now c.args.number c.args.call.now c.requires.in_call c.plan_of.ensures.rest c.requires.number plan (g.R.Rows.sheet c.clear.new.rows) c.clear.new.book c.clear.ensures.spliced c.clear.ensures.none_taken c.clear.ensures.root;
+      search = λ only. absurd (subst (λ (x : Call). OnlySearches x reply.Ok) plan.0 only);
+    }
 
 pub returns-in-Ok : goal.returns-in-Ok
 returns-in-Ok g c =
-    answered_after_reads c.args.kind (g.R.Rows.sheet c.args.rows.now) (g.R.Rows.sheet c.plan_of.new.rows) (g.R.Rows.sheet c.store.new.rows) c.args.book.now c.store.new.book c.args.call.now c.in-Store.reply c.plan_of.ensures.rest c.in-Ok.ensures.done
+    let s = g.R.Rows.sheet c.args.rows.now in
+    let plan = subst (IsPlan c.args.kind s.tree c.args.call.now c.plan_of.new.path.items) c.in-Store.is c.plan_of.ensures.plan in
+    record {
+      height =
+          c.height_after.ensures.height
+          ∙ sym (ap (λ (t : Rooted). height_in t.table t.root) (tree_same (g.R.Rows.sheet c.store.new.rows) (g.R.Rows.sheet c.height_after.new.rows) c.height_after.ensures.rest));
+      answered =
+          answered_after_reads c.args.kind s (g.R.Rows.sheet c.plan_of.new.rows) (g.R.Rows.sheet c.height_after.new.rows) c.args.book.now c.store.new.book c.args.call.now c.in-Store.reply c.plan_of.ensures.rest
+          (answered_before_reads c.args.kind (g.R.Rows.sheet c.plan_of.new.rows) (g.R.Rows.sheet c.store.new.rows) (g.R.Rows.sheet c.height_after.new.rows) c.args.book.now c.store.new.book c.args.call.now c.in-Store.reply c.height_after.ensures.rest c.in-Ok.ensures.done);
+      search = λ only. absurd (store_is_no_search (map_by s.tree) c.args.call.now c.in-Store.first c.in-Store.last c.in-Store.entry c.in-Store.reply plan.own (success_is_not_busy c.in-Store.reply plan.success) only);
+    }
 
 pub returns-in-Err : goal.returns-in-Err
 returns-in-Err g c =
-    answered_after_reads c.args.kind (g.R.Rows.sheet c.args.rows.now) (g.R.Rows.sheet c.plan_of.new.rows) (g.R.Rows.sheet c.store.new.rows) c.args.book.now c.store.new.book c.args.call.now (NoNodes c.in-Err.shortage) c.plan_of.ensures.rest c.in-Err.ensures.short
+    let s = g.R.Rows.sheet c.args.rows.now in
+    let plan = subst (IsPlan c.args.kind s.tree c.args.call.now c.plan_of.new.path.items) c.in-Store.is c.plan_of.ensures.plan in
+    record {
+      height =
+          subst (λ (t : Rooted). HasHeight t c.args.height.now)
+          (sym (refusal_stays c.args.kind (g.R.Rows.sheet c.plan_of.new.rows) (g.R.Rows.sheet c.store.new.rows) c.args.book.now c.store.new.book c.args.call.now (NoNodes c.in-Err.shortage) refl c.in-Err.ensures.short.answer ∙ tree_same s (g.R.Rows.sheet c.plan_of.new.rows) c.plan_of.ensures.rest)) c.requires.height;
+      answered = answered_after_reads c.args.kind s (g.R.Rows.sheet c.plan_of.new.rows) (g.R.Rows.sheet c.store.new.rows) c.args.book.now c.store.new.book c.args.call.now (NoNodes c.in-Err.shortage) c.plan_of.ensures.rest c.in-Err.ensures.short;
+      search = λ only. absurd (store_is_no_search (map_by s.tree) c.args.call.now c.in-Store.first c.in-Store.last c.in-Store.entry (NoNodes c.in-Err.shortage) plan.own (shortage_is_not_busy c.in-Err.shortage) only);
+    }
+
+-- ---- the height behind a store
+
+pub height_after-requires-clause-tree : goal.height_after-requires-clause-tree
+height_after-requires-clause-tree g c = (c.args.kind, tree_if_lawful (g.R.Rows.sheet c.store.new.rows).tree c.args.kind c.in-Ok.ensures.done.ended.idle.state.kept.lawful)
+
+pub height_after-requires-clause-stays : goal.height_after-requires-clause-stays
+height_after-requires-clause-stays g c =
+    λ old.
+    c.requires.height
+    ∙ (sym (ap (λ (t : Rooted). height_in t.table t.root) (tree_same (g.R.Rows.sheet c.args.rows.now) (g.R.Rows.sheet c.plan_of.new.rows) c.plan_of.ensures.rest))
+    ∙ sym (c.in-Ok.ensures.height old))

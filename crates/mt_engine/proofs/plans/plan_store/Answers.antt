@@ -1,11 +1,22 @@
 use Rattle.std.proofs.Common.{sym, ◌∙◌}
-use Rattle.mt_engine.proofs.Planning.{first_within, store_plan}
+use Rattle.mt_engine.proofs.Planning.{first_within, store_invalid, store_pre_invalid, store_plan, store_pre_plan}
 use Rattle.mt_engine.proofs.plans.plan_store.Goals as goal
 
 pub walk_to-here-requires-clause-index : goal.walk_to-here-requires-clause-index
 walk_to-here-requires-clause-index g c = first_within _ c.args.kind c.requires.tree c.args.first c.args.last c.args.entry (sym c.is_invalid.ensures ∙ c.if-is_invalid.false)
 
+pub returns-then-is_invalid-clause-plan : goal.returns-then-is_invalid-clause-plan
+returns-then-is_invalid-clause-plan g c = store_invalid c.args.kind _ c.args.first c.args.last c.args.entry (sym c.is_invalid.ensures ∙ c.if-is_invalid.true)
+
+pub returns-then-is_invalid-clause-at_hand : goal.returns-then-is_invalid-clause-at_hand
+returns-then-is_invalid-clause-at_hand g c = store_pre_invalid c.args.kind _ c.args.first c.args.last c.args.entry (sym c.is_invalid.ensures ∙ c.if-is_invalid.true)
+
 pub returns-clause-plan : goal.returns-clause-plan
 returns-clause-plan g c =
     store_plan _ c.args.kind c.requires.tree c.args.first c.args.last c.args.entry (sym c.is_invalid.ensures ∙ c.if-is_invalid.false) c.walk_to-here.new.path.items c.walk_to-here.result c.walk_to-here.ensures.path
+    (record { none = c.walk_to-here.ensures.none; some = c.walk_to-here.ensures.some })
+
+pub returns-clause-at_hand : goal.returns-clause-at_hand
+returns-clause-at_hand g c =
+    store_pre_plan _ c.args.kind c.requires.tree c.args.first c.args.last c.args.entry (sym c.is_invalid.ensures ∙ c.if-is_invalid.false) c.walk_to-here.new.path.items c.walk_to-here.result c.walk_to-here.ensures.path
     (record { none = c.walk_to-here.ensures.none; some = c.walk_to-here.ensures.some })

@@ -1,57 +1,18 @@
-use Rattle.std.proofs.Common.{List, sym, ap, ◌∙◌, subst}
+use Rattle.std.proofs.Common.{sym, ap, ◌∙◌, subst}
 use Rattle.std.proofs.lemmas.Result.{err_from_is_err_and}
-use Rattle.mt_base.specs.declared.ranges.Range.{Range}
-use Rattle.mt_base.specs.declared.replies.Reply.{Reply}
-use Rattle.mt_rows.specs.declared.rows.Place.{Place}
-use Rattle.mt_rows.specs.Publish.{MayPublish, Published}
-use Rattle.mt_engine.specs.StoreBy.{IsDoneBy}
-use Rattle.mt_engine.proofs.Answering.{replaces}
-use Rattle.mt_engine.proofs.Leaving.{leaves, refuses}
+use Rattle.mt_free.specs.Book.{Book}
+use Rattle.mt_rows.specs.Publish.{map_by}
+use Rattle.mt_rows.specs.Sheet.{Sheet}
+use Rattle.mt_rows.specs.Trees.{height_in}
+use Rattle.mt_engine.specs.Engine.{Replaces}
+use Rattle.mt_engine.specs.Rooms.{HasRoom}
+use Rattle.mt_engine.specs.Stores.{IsStored}
+use Rattle.mt_engine.proofs.Answering.{at_once, after_scan}
+use Rattle.mt_engine.proofs.Leaving.{refuses}
 use Rattle.mt_engine.proofs.Moments.{tree_in_call}
-use Rattle.mt_engine.proofs.OneWord.{may_publish_entry, entry_published}
-use Rattle.mt_engine.proofs.Storing.{no_word_acts, one_exact, one_handle, one_store, one_wants_none, new_rows_wanted, path_height, may_replace_now}
+use Rattle.mt_engine.proofs.Storing.{path_height, store_wants, store_wants_none, store_replaces_none}
+use Rattle.mt_engine.proofs.stores.store.Goals.{then-wants_by+in_ok-make_room, else-wants_by}
 use Rattle.mt_engine.proofs.stores.store.Goals as goal
-
--- ---- by no word
-
-pub returns-in-NoWord-clause-done : goal.returns-in-NoWord-clause-done
-returns-in-NoWord-clause-done g c =
-    let s = g.R.Rows.sheet c.args.rows.now in
-    let tree = tree_in_call c.args.kind s c.args.book.now c.requires.in_call in
-    let by = subst (IsDoneBy c.args.here c.args.first c.args.last c.args.entry) c.in-NoWord.is c.store_by.ensures in
-    leaves c.args.kind s c.args.book.now c.args.call.now c.args.reply.now c.requires.in_call (no_word_acts c.args.kind s.tree tree c.args.call.now c.args.path.items c.args.first c.args.last c.args.entry c.args.reply.now c.args.here c.requires.plan by)
-
--- ---- by one word
-
-pub place_of-place-requires-clause-at : goal.place_of-place-requires-clause-at
-place_of-place-requires-clause-at g c =
-    let s = g.R.Rows.sheet c.args.rows.now in
-    let tree = tree_in_call c.args.kind s c.args.book.now c.requires.in_call in
-    let by = subst (IsDoneBy c.args.here c.args.first c.args.last c.args.entry) c.in-OneWord.is c.store_by.ensures in
-    one_handle c.args.kind s.tree tree c.args.call.now c.args.path.items c.args.first c.args.last c.args.entry c.args.reply.now c.args.here c.requires.plan c.in-OneWord.at by
-
-pub publish-requires : goal.publish-requires
-publish-requires g c =
-    let s = g.R.Rows.sheet c.args.rows.now in
-    let tree = tree_in_call c.args.kind s c.args.book.now c.requires.in_call in
-    let by = subst (IsDoneBy c.args.here c.args.first c.args.last c.args.entry) c.in-OneWord.is c.store_by.ensures in
-    let exact = one_exact c.args.kind s.tree tree c.args.call.now c.args.path.items c.args.first c.args.last c.args.entry c.args.reply.now c.args.here c.requires.plan c.in-OneWord.at by in (
-      c.args.kind,
-      subst (λ (p : Place). MayPublish c.args.kind s p c.args.entry c.args.call.now c.args.reply.now) (sym c.place_of-place.ensures)
-          (may_publish_entry c.args.kind s c.args.book.now c.in-OneWord.at c.args.entry c.args.call.now c.args.reply.now (g.met.R.Rows.whole c.args.rows.now) c.requires.in_call (one_handle c.args.kind s.tree tree c.args.call.now c.args.path.items c.args.first c.args.last c.args.entry c.args.reply.now c.args.here c.requires.plan c.in-OneWord.at by) exact.range exact.some_entry (one_store c.args.kind s.tree tree c.args.call.now c.args.path.items c.args.first c.args.last c.args.entry c.args.reply.now c.args.here c.requires.plan c.in-OneWord.at by)),
-    )
-
-pub returns-in-OneWord-clause-done : goal.returns-in-OneWord-clause-done
-returns-in-OneWord-clause-done g c =
-    let s = g.R.Rows.sheet c.args.rows.now in
-    let tree = tree_in_call c.args.kind s c.args.book.now c.requires.in_call in
-    let by = subst (IsDoneBy c.args.here c.args.first c.args.last c.args.entry) c.in-OneWord.is c.store_by.ensures in
-    let exact = one_exact c.args.kind s.tree tree c.args.call.now c.args.path.items c.args.first c.args.last c.args.entry c.args.reply.now c.args.here c.requires.plan c.in-OneWord.at by in
-    let s' = g.R.Rows.sheet c.publish.new.self in
-    entry_published c.args.kind s c.args.book.now c.in-OneWord.at c.args.entry c.args.call.now c.args.reply.now (g.met.R.Rows.whole c.args.rows.now) c.requires.in_call (one_handle c.args.kind s.tree tree c.args.call.now c.args.path.items c.args.first c.args.last c.args.entry c.args.reply.now c.args.here c.requires.plan c.in-OneWord.at by) exact.range exact.some_entry
-    (one_store c.args.kind s.tree tree c.args.call.now c.args.path.items c.args.first c.args.last c.args.entry c.args.reply.now c.args.here c.requires.plan c.in-OneWord.at by) s' (one_wants_none c.args.kind s.tree tree c.args.call.now c.args.path.items c.args.first c.args.last c.args.entry c.args.reply.now c.args.here c.requires.plan c.in-OneWord.at by) c.requires.plan.success (subst (λ (p : Place). Published s s' p c.args.entry c.args.call.now c.args.reply.now) c.place_of-place.ensures c.publish.ensures)
-
--- ---- by new rows
 
 pub make_room-requires-clause-height : goal.make_room-requires-clause-height
 make_room-requires-clause-height g c =
@@ -59,30 +20,59 @@ make_room-requires-clause-height g c =
     let tree = tree_in_call c.args.kind s c.args.book.now c.requires.in_call in
     c.len.ensures.value ∙ path_height c.args.kind s.tree tree c.args.call.now c.args.path.items c.args.first c.args.last c.args.entry c.args.reply.now c.args.here c.requires.plan
 
-pub returns-in_err-make_room-in-NewRows-clause-short : goal.returns-in_err-make_room-in-NewRows-clause-short
-returns-in_err-make_room-in-NewRows-clause-short g c =
+pub returns-in_err-make_room-clause-short : goal.returns-in_err-make_room-clause-short
+returns-in_err-make_room-clause-short g c =
     let s = g.R.Rows.sheet c.args.rows.now in
     let tree = tree_in_call c.args.kind s c.args.book.now c.requires.in_call in
-    let by = subst (IsDoneBy c.args.here c.args.first c.args.last c.args.entry) c.in-NewRows.is c.store_by.ensures in
-    let wants = new_rows_wanted c.args.kind s.tree tree c.args.call.now c.args.path.items c.args.first c.args.last c.args.entry c.args.reply.now c.args.here c.requires.plan by in
+    let wants = store_wants c.args.kind s.tree tree c.args.call.now c.args.path.items c.args.first c.args.last c.args.entry c.args.reply.now c.args.here c.requires.plan c.store_by.result c.store_by.ensures (sym c.wants_by.ensures ∙ c.if-wants_by.true) in
     let exit = err_from_is_err_and c.from_residual.result c.from_residual.ensures.1 in
     rw (exit.1, exit.2)
-    (refuses c.args.kind s (g.R.Rows.sheet c.make_room.new.rows) c.args.book.now c.make_room.new.book c.args.call.now c.in_err-make_room-in-NewRows.field-0.0 (g.met.R.Rows.whole c.args.rows.now) c.requires.in_call (c.make_room.ensures.scanned c.args.kind c.requires.in_call.state)
-    c.in_err-make_room-in-NewRows.ensures.short wants)
+    (refuses c.args.kind s (g.R.Rows.sheet c.make_room.new.rows) c.args.book.now c.make_room.new.book c.args.call.now c.in_err-make_room.field-0.0 (g.met.R.Rows.whole c.args.rows.now) c.requires.in_call (c.make_room.ensures.scanned c.args.kind c.requires.in_call.state)
+    c.in_err-make_room.ensures.short wants)
 
-pub replace_range-requires : goal.replace_range-requires
-replace_range-requires g c =
+pub store_at_hand-requires-clause-room : goal.store_at_hand-requires-clause-room
+store_at_hand-requires-clause-room g c =
     let s = g.R.Rows.sheet c.args.rows.now in
+    let s₁ = g.R.Rows.sheet c.if-wants_by.rows in
     let tree = tree_in_call c.args.kind s c.args.book.now c.requires.in_call in
-    let by = subst (IsDoneBy c.args.here c.args.first c.args.last c.args.entry) c.in-NewRows.is c.store_by.ensures in
-    may_replace_now c.args.kind s (g.R.Rows.sheet c.make_room.new.rows) c.args.book.now c.make_room.new.book c.args.path.items c.args.first c.args.last c.args.entry c.args.number c.args.call.now c.args.reply.now c.args.here tree c.requires.in_call
-    c.requires.plan by (c.make_room.ensures.scanned c.args.kind c.requires.in_call.state) c.in_ok-make_room-in-NewRows.ensures.room c.requires.number
+    elim c.if-wants_by.branch [
+      | then-wants_by+in_ok-make_room w ↦
+          (λ replaces. subst (λ (b : Book). HasRoom s₁.tree b) (sym w.book-is)
+          (subst (λ (x : Sheet). HasRoom x.tree w.make_room.new.book) (sym (ap g.R.Rows.sheet w.rows-is)) w.in_ok-make_room.ensures.room))
+      | else-wants_by w ↦
+          (λ replaces. absurd (store_replaces_none c.args.kind s.tree tree c.args.call.now c.args.path.items c.args.first c.args.last c.args.entry c.args.reply.now c.args.here c.requires.plan c.store_by.result c.store_by.ensures (sym c.wants_by.ensures ∙ w.if-wants_by.false)
+          (subst (λ (x : Sheet). Replaces c.args.kind (map_by x.tree) c.args.call.now) (ap g.R.Rows.sheet w.rows-is) replaces)))
+    ]
 
-pub returns-in_ok-make_room-in-NewRows-clause-done : goal.returns-in_ok-make_room-in-NewRows-clause-done
-returns-in_ok-make_room-in-NewRows-clause-done g c =
+pub returns-clause-done : goal.returns-clause-done
+returns-clause-done g c =
     let s = g.R.Rows.sheet c.args.rows.now in
+    let s' = g.R.Rows.sheet c.store_at_hand.new.rows in
+    let book' = c.store_at_hand.new.book in
     let tree = tree_in_call c.args.kind s c.args.book.now c.requires.in_call in
-    let by = subst (IsDoneBy c.args.here c.args.first c.args.last c.args.entry) c.in-NewRows.is c.store_by.ensures in
-    replaces c.args.kind s (g.R.Rows.sheet c.make_room.new.rows) (g.R.Rows.sheet c.replace_range.new.rows) c.args.book.now c.make_room.new.book c.replace_range.new.book c.args.number c.args.call.now c.args.reply.now c.replace_range.result
-    (g.met.R.Rows.whole c.args.rows.now) c.requires.in_call c.requires.number (c.make_room.ensures.scanned c.args.kind c.requires.in_call.state) c.in_ok-make_room-in-NewRows.ensures.room (new_rows_wanted c.args.kind s.tree tree c.args.call.now c.args.path.items c.args.first c.args.last c.args.entry c.args.reply.now c.args.here c.requires.plan by) c.requires.plan.success
-    (ap (λ (was : List Range × Reply). was.1) c.requires.plan.store.acts) c.replace_range.ensures
+    elim c.if-wants_by.branch [
+      | then-wants_by+in_ok-make_room w ↦
+          (let wants = store_wants c.args.kind s.tree tree c.args.call.now c.args.path.items c.args.first c.args.last c.args.entry c.args.reply.now c.args.here c.requires.plan c.store_by.result c.store_by.ensures (sym c.wants_by.ensures ∙ w.if-wants_by.true) in
+          after_scan c.args.kind s (g.R.Rows.sheet w.make_room.new.rows) s' c.args.book.now w.make_room.new.book book' c.args.call.now c.args.reply.now (g.met.R.Rows.whole c.args.rows.now) (w.make_room.ensures.scanned c.args.kind c.requires.in_call.state) w.in_ok-make_room.ensures.room wants c.requires.plan.success
+          (subst (λ (b : Book). IsStored c.args.kind (g.R.Rows.sheet w.make_room.new.rows) s' b book' c.args.call.now c.args.reply.now) w.book-is
+          (subst (λ (x : Sheet). IsStored c.args.kind x s' c.if-wants_by.book book' c.args.call.now c.args.reply.now) (ap g.R.Rows.sheet w.rows-is) c.store_at_hand.ensures.stored)))
+      | else-wants_by w ↦
+          (let not = sym c.wants_by.ensures ∙ w.if-wants_by.false in
+          let calm = store_wants_none c.args.kind s.tree tree c.args.call.now c.args.path.items c.args.first c.args.last c.args.entry c.args.reply.now c.args.here c.requires.plan c.store_by.result c.store_by.ensures not in
+          let none = store_replaces_none c.args.kind s.tree tree c.args.call.now c.args.path.items c.args.first c.args.last c.args.entry c.args.reply.now c.args.here c.requires.plan c.store_by.result c.store_by.ensures not in
+          at_once c.args.kind s s' c.args.book.now book' c.args.call.now c.args.reply.now c.requires.plan.success calm none
+          (subst (λ (b : Book). IsStored c.args.kind s s' b book' c.args.call.now c.args.reply.now) w.book-is
+          (subst (λ (x : Sheet). IsStored c.args.kind x s' c.if-wants_by.book book' c.args.call.now c.args.reply.now) (ap g.R.Rows.sheet w.rows-is) c.store_at_hand.ensures.stored)))
+    ]
+
+pub returns-clause-height : goal.returns-clause-height
+returns-clause-height g c =
+    let s = g.R.Rows.sheet c.args.rows.now in
+    λ old.
+    c.store_at_hand.ensures.height old
+    ∙ elim c.if-wants_by.branch [
+      | then-wants_by+in_ok-make_room w ↦
+          ap (λ (x : Sheet). height_in x.tree.table x.tree.root) (ap g.R.Rows.sheet w.rows-is)
+          ∙ ap (λ (x : Sheet). height_in x.tree.table x.tree.root) (w.make_room.ensures.scanned c.args.kind c.requires.in_call.state).rest
+      | else-wants_by w ↦ ap (λ (x : Sheet). height_in x.tree.table x.tree.root) (ap g.R.Rows.sheet w.rows-is)
+    ]

@@ -9,4 +9,4 @@ use Rattle.mt_engine.proofs.tests.fresh_watched.Goals as goal
 
 pub new-requires-3 : goal.new-requires-3
 new-requires-3 c =
-    subst (λ (both : Sheet × Book). IsIdle trees.Range both.0 both.1) (λ i. (sym c.in_ok-new.ensures i, sym c.in_ok-book.ensures i)) (fresh_is_idle c.args.rows (new_is_book c.args.rows c.requires))
+    subst (λ (both : Sheet × Book). IsIdle trees.Range both.0 both.1) (λ i. (sym c.in_ok-new.ensures i, sym c.in_ok-book.ensures i)) (fresh_is_idle trees.Range c.args.rows (new_is_book c.args.rows c.requires))

@@ -1,5 +1,4 @@
 use Rattle.std.proofs.Common.{sym, subst, arith}
-use Rattle.mt_base.specs.declared.kinds.Kind.TheVariants as trees
 use Rattle.mt_free.specs.Book.{Book}
 use Rattle.mt_free.proofs.Books.{new_is_book}
 use Rattle.mt_rows.specs.Sheet.{Sheet}
@@ -9,4 +8,4 @@ use Rattle.mt_bench.proofs.trees.Nodes.new.Goals as goal
 
 pub new-requires-3 : goal.new-requires-3
 new-requires-3 c =
-    subst (λ (both : Sheet × Book). IsIdle trees.Range both.0 both.1) (λ i. (sym c.in_ok-rows.ensures i, sym c.in_ok-book.ensures i)) (fresh_is_idle 65504 (new_is_book 65504 (omega arith)))
+    subst (λ (both : Sheet × Book). IsIdle c.args.kind both.0 both.1) (λ i. (sym c.in_ok-rows.ensures i, sym c.in_ok-book.ensures i)) (fresh_is_idle c.args.kind 65504 (new_is_book 65504 (omega arith)))

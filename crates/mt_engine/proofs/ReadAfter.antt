@@ -1,0 +1,161 @@
+-- A call in flight that has come to an end so far, after which words were only loaded.
+use Rattle.std.proofs.Common.{◌≡◌, ℕ, Option, true, sym, ap, ◌∙◌, subst, inl, inr, ⊎_elim}
+use Rattle.mt_base.specs.declared.calls.Call.{Call}
+use Rattle.mt_base.specs.declared.kinds.Kind.{Kind}
+use Rattle.mt_base.specs.declared.replies.Reply.{Reply}
+use Rattle.mt_base.specs.declared.replies.Shortage.{Shortage}
+use Rattle.mt_base.specs.Call.{acted}
+use Rattle.mt_free.specs.Book.{Book}
+use Rattle.mt_rows.specs.Publish.{MayFinish, IsCounted, IsFoundShort, map_by, finished}
+use Rattle.mt_rows.specs.Sheet.{Rooted, Sheet, OnlyReads, begun}
+use Rattle.mt_engine.specs.Engine.{IsDone, IsShortFor, IsEnded, DidOrLacked, IsAnswered, is_refusal}
+use Rattle.mt_engine.specs.Heights.{HasHeight, IsMeasured}
+use Rattle.mt_engine.specs.Prepared.{IsPrestored}
+use Rattle.mt_engine.specs.Stores.{IsStored}
+
+-- ---- read at the end
+
+module _ (kind : Kind) (s s' : Sheet) (reads : Option ℕ) (book book' : Book) (call : Call) (reply : Reply) where
+  abbrev read : Sheet
+  read = record s' { reads = reads }
+
+  counted_read : (short : Shortage) → IsCounted s' short → IsCounted read short
+  counted_read short is = record { need = is.need; live = is.live; rows = is.rows; many = is.many; apart = is.apart; held = is.held; by = is.by }
+
+  short_read : IsFoundShort kind s' call reply → IsFoundShort kind read call reply
+  short_read is = record { refused = is.refused; counted = counted_read is.refused.shortage is.counted; scanned = is.scanned }
+
+  may_read : MayFinish kind s' call reply → MayFinish kind read call reply
+  may_read may = record {
+    in_flight = may.in_flight;
+    kept = λ before.
+        (let kept = may.kept before in
+        record {
+          none_buried = kept.none_buried;
+          told = kept.told;
+          width = kept.width;
+          answer =
+              ⊎_elim
+              (λ (stays : acted kind (map_by s'.tree) call ≡ (map_by s'.tree, reply)). inl stays)
+              (λ (short : IsFoundShort kind s' call reply). inr (short_read short)) kept.answer;
+        });
+  }
+
+  ended_read : IsEnded kind s (finished s' call reply) book' call reply → IsEnded kind s (finished read call reply) book' call reply
+  ended_read is = record {
+    idle = is.idle;
+    ended = is.ended;
+    record_told = is.record_told;
+    cleared = is.cleared;
+    scans = is.scans;
+    rows = is.rows;
+    opened = is.opened;
+    shared = is.shared;
+    known = is.known;
+  }
+
+  done_read : IsDone kind s (finished s' call reply) book book' call reply → IsDone kind s (finished read call reply) book book' call reply
+  done_read done = record {
+    acts = done.acts;
+    kept = done.kept;
+    room = λ wants. (let had = done.room wants in record { scanned = had.scanned; room = had.room });
+    took = done.took;
+    calm = done.calm;
+  }
+
+  counted_end : (short : Shortage) → IsCounted (finished s' call reply) short → IsCounted (finished read call reply) short
+  counted_end short is = record { need = is.need; live = is.live; rows = is.rows; many = is.many; apart = is.apart; held = is.held; by = is.by }
+
+  lacked_read : IsShortFor kind s (finished s' call reply) book book' call reply → IsShortFor kind s (finished read call reply) book book' call reply
+  lacked_read short = record { refused = short.refused; counted = counted_end short.refused.shortage short.counted; scanned = short.scanned; answer = short.answer; freed = short.freed; tells = short.tells }
+
+  answer_read : DidOrLacked kind s (finished s' call reply) book book' call reply → DidOrLacked kind s (finished read call reply) book book' call reply
+  answer_read answer =
+      ⊎_elim
+      (λ (done : IsDone kind s (finished s' call reply) book book' call reply). inl (done_read done))
+      (λ (short : IsShortFor kind s (finished s' call reply) book book' call reply × (s'.tree ≡ s.tree)). inr (lacked_read short.0, short.1)) answer
+
+  answered_read : IsAnswered kind s s' book book' call reply → IsAnswered kind s read book book' call reply
+  answered_read is = record { may = may_read is.may; ended = ended_read is.ended; answer = answer_read is.answer }
+
+  stored_read : IsStored kind s s' book book' call reply → IsStored kind s read book book' call reply
+  stored_read is = record {
+    may = may_read is.may;
+    ended = ended_read is.ended;
+    acts = is.acts;
+    unscanned = record { scans = is.unscanned.scans; scan = is.unscanned.scan; at_begin = is.unscanned.at_begin };
+    took = is.took;
+  }
+
+pub answered_before_reads : (kind : Kind) (s s' s″ : Sheet) (book book' : Book) (call : Call) (reply : Reply) → OnlyReads s' s″ → IsAnswered kind s s' book book' call reply → IsAnswered kind s s″ book book' call reply
+answered_before_reads kind s s' s″ book book' call reply reads is = subst (λ (x : Sheet). IsAnswered kind s x book book' call reply) (sym reads) (answered_read kind s s' s″.reads book book' call reply is)
+
+pub stored_before_reads : (kind : Kind) (s s' s″ : Sheet) (book book' : Book) (call : Call) (reply : Reply) → OnlyReads s' s″ → IsStored kind s s' book book' call reply → IsStored kind s s″ book book' call reply
+stored_before_reads kind s s' s″ book book' call reply reads is = subst (λ (x : Sheet). IsStored kind s x book book' call reply) (sym reads) (stored_read kind s s' s″.reads book book' call reply is)
+
+-- a call that is refused leaves the words
+pub refusal_stays : (kind : Kind) (s s' : Sheet) (book book' : Book) (call : Call) (reply : Reply) → is_refusal reply ≡ true → DidOrLacked kind s (finished s' call reply) book book' call reply → s'.tree ≡ s.tree
+refusal_stays kind s s' book book' call reply refused answer =
+    ⊎_elim
+    (λ (done : IsDone kind s (finished s' call reply) book book' call reply). done.kept refused)
+    (λ (short : IsShortFor kind s (finished s' call reply) book book' call reply × (s'.tree ≡ s.tree)). short.1) answer
+
+-- ---- read at the begin
+
+module _ (kind : Kind) (s s' : Sheet) (reads : Option ℕ) (book book' : Book) (call : Call) (reply : Reply) where
+  abbrev was : Sheet
+  was = record s { reads = reads }
+
+  stored_was : IsStored kind was s' book book' call reply → IsStored kind s s' book book' call reply
+  stored_was is = record {
+    may = is.may;
+    ended = (let ended = is.ended in record {
+      idle = ended.idle;
+      ended = ended.ended;
+      record_told = ended.record_told;
+      cleared = ended.cleared;
+      scans = ended.scans;
+      rows = ended.rows;
+      opened = ended.opened;
+      shared = ended.shared;
+      known = ended.known;
+    });
+    acts = is.acts;
+    unscanned = record { scans = is.unscanned.scans; scan = is.unscanned.scan; at_begin = is.unscanned.at_begin };
+    took = record { taken = is.took.taken; free_were = is.took.free_were; few = is.took.few; none = is.took.none };
+  }
+
+pub stored_after_reads : (kind : Kind) (s s₁ s' : Sheet) (book book' : Book) (call : Call) (reply : Reply) → OnlyReads s s₁ → IsStored kind s₁ s' book book' call reply → IsStored kind s s' book book' call reply
+stored_after_reads kind s s₁ s' book book' call reply reads is = stored_was kind s s' s₁.reads book book' call reply (subst (λ (x : Sheet). IsStored kind x s' book book' call reply) reads is)
+
+-- ---- from the begin of a call to its end
+
+module _ (kind : Kind) (s s' : Sheet) (book book' : Book) (call : Call) (reply : Reply) where
+  prestored_from : IsStored kind (begun s) s' book book' call reply → (is_refusal reply ≡ true → s'.tree ≡ s.tree) → IsPrestored kind s (finished s' call reply) book book' call reply
+  prestored_from is kept = record {
+    ended = (let ended = is.ended in record {
+      idle = ended.idle;
+      ended = ended.ended;
+      record_told = ended.record_told;
+      cleared = ended.cleared;
+      scans = ended.scans;
+      rows = ended.rows;
+      opened = ended.opened;
+      shared = ended.shared;
+      known = ended.known;
+    });
+    acts = is.acts;
+    kept = kept;
+    scans = is.unscanned.scans;
+    scan = is.unscanned.scan;
+    took = record { taken = is.took.taken; free_were = is.took.free_were; few = is.took.few; none = is.took.none };
+  }
+
+pub prestored_by : (kind : Kind) (s s₁ s' s″ : Sheet) (book book' : Book) (call : Call) (reply : Reply) → s₁ ≡ begun s → IsStored kind s₁ s' book book' call reply → (is_refusal reply ≡ true → s'.tree ≡ s₁.tree) → s″ ≡ finished s' call reply → IsPrestored kind s s″ book book' call reply
+prestored_by kind s s₁ s' s″ book book' call reply begins is kept ends =
+    subst (λ (x : Sheet). IsPrestored kind s x book book' call reply) (sym ends)
+    (prestored_from kind s s' book book' call reply (subst (λ (x : Sheet). IsStored kind x s' book book' call reply) begins is) (λ refused. kept refused ∙ ap (λ (x : Sheet). x.tree) begins))
+
+-- the height at the end of a call
+pub measured_end : (kind : Kind) (s s' s″ : Sheet) (book' : Book) (call : Call) (reply : Reply) (height : ℕ) → IsEnded kind s s″ book' call reply → HasHeight s'.tree height → s″ ≡ finished s' call reply → IsMeasured kind s″ book' height
+measured_end kind s s' s″ book' call reply height ended has ends = record { idle = ended.idle; measured = subst (λ (t : Rooted). HasHeight t height) (sym (ap (λ (x : Sheet). x.tree) ends)) has }

@@ -1,0 +1,95 @@
+use Rattle.std.proofs.Common.{List, sym, ap, ◌∙◌, subst}
+use Rattle.mt_base.specs.declared.ranges.Range.{Range}
+use Rattle.mt_base.specs.declared.replies.Reply.{Reply}
+use Rattle.mt_rows.specs.declared.rows.Place.{Place}
+use Rattle.mt_rows.specs.Publish.{MayPublish, Published}
+use Rattle.mt_engine.specs.StoreBy.{IsDoneBy}
+use Rattle.mt_engine.proofs.Answering.{may_mend, rows_stored}
+use Rattle.mt_engine.proofs.Leaving.{stays_stored}
+use Rattle.mt_engine.proofs.Moments.{tree_in_call}
+use Rattle.mt_engine.proofs.OneWord.{may_publish_entry, entry_stored, entry_height}
+use Rattle.mt_engine.proofs.SameHeight.{height_stays}
+use Rattle.mt_engine.proofs.Storing.{no_word_acts, one_exact, one_handle, one_store, new_rows_replace, may_replace_now}
+use Rattle.mt_engine.proofs.stores.store_at_hand.Goals as goal
+
+-- ---- by no word
+
+pub returns-in-NoWord-clause-stored : goal.returns-in-NoWord-clause-stored
+returns-in-NoWord-clause-stored g c =
+    let s = g.R.Rows.sheet c.args.rows.now in
+    let tree = tree_in_call c.args.kind s c.args.book.now c.requires.in_call in
+    let by = subst (IsDoneBy c.args.here c.args.first c.args.last c.args.entry) c.in-NoWord.is c.store_by.ensures in
+    stays_stored c.args.kind s c.args.book.now c.args.call.now c.args.reply.now c.requires.in_call (no_word_acts c.args.kind s.tree tree c.args.call.now c.args.path.items c.args.first c.args.last c.args.entry c.args.reply.now c.args.here c.requires.plan by)
+
+-- ---- by one word
+
+pub place_of-place-requires-clause-at : goal.place_of-place-requires-clause-at
+place_of-place-requires-clause-at g c =
+    let s = g.R.Rows.sheet c.args.rows.now in
+    let tree = tree_in_call c.args.kind s c.args.book.now c.requires.in_call in
+    let by = subst (IsDoneBy c.args.here c.args.first c.args.last c.args.entry) c.in-OneWord.is c.store_by.ensures in
+    one_handle c.args.kind s.tree tree c.args.call.now c.args.path.items c.args.first c.args.last c.args.entry c.args.reply.now c.args.here c.requires.plan c.in-OneWord.at by
+
+pub publish-requires : goal.publish-requires
+publish-requires g c =
+    let s = g.R.Rows.sheet c.args.rows.now in
+    let tree = tree_in_call c.args.kind s c.args.book.now c.requires.in_call in
+    let by = subst (IsDoneBy c.args.here c.args.first c.args.last c.args.entry) c.in-OneWord.is c.store_by.ensures in
+    let exact = one_exact c.args.kind s.tree tree c.args.call.now c.args.path.items c.args.first c.args.last c.args.entry c.args.reply.now c.args.here c.requires.plan c.in-OneWord.at by in (
+      c.args.kind,
+      subst (λ (p : Place). MayPublish c.args.kind s p c.args.entry c.args.call.now c.args.reply.now) (sym c.place_of-place.ensures)
+          (may_publish_entry c.args.kind s c.args.book.now c.in-OneWord.at c.args.entry c.args.call.now c.args.reply.now (g.met.R.Rows.whole c.args.rows.now) c.requires.in_call (one_handle c.args.kind s.tree tree c.args.call.now c.args.path.items c.args.first c.args.last c.args.entry c.args.reply.now c.args.here c.requires.plan c.in-OneWord.at by) exact.range exact.some_entry (one_store c.args.kind s.tree tree c.args.call.now c.args.path.items c.args.first c.args.last c.args.entry c.args.reply.now c.args.here c.requires.plan c.in-OneWord.at by)),
+    )
+
+pub returns-in-OneWord-clause-stored : goal.returns-in-OneWord-clause-stored
+returns-in-OneWord-clause-stored g c =
+    let s = g.R.Rows.sheet c.args.rows.now in
+    let tree = tree_in_call c.args.kind s c.args.book.now c.requires.in_call in
+    let by = subst (IsDoneBy c.args.here c.args.first c.args.last c.args.entry) c.in-OneWord.is c.store_by.ensures in
+    let exact = one_exact c.args.kind s.tree tree c.args.call.now c.args.path.items c.args.first c.args.last c.args.entry c.args.reply.now c.args.here c.requires.plan c.in-OneWord.at by in
+    let s' = g.R.Rows.sheet c.publish.new.self in
+    entry_stored c.args.kind s c.args.book.now c.in-OneWord.at c.args.entry c.args.call.now c.args.reply.now (g.met.R.Rows.whole c.args.rows.now) c.requires.in_call (one_handle c.args.kind s.tree tree c.args.call.now c.args.path.items c.args.first c.args.last c.args.entry c.args.reply.now c.args.here c.requires.plan c.in-OneWord.at by) exact.range exact.some_entry
+    (one_store c.args.kind s.tree tree c.args.call.now c.args.path.items c.args.first c.args.last c.args.entry c.args.reply.now c.args.here c.requires.plan c.in-OneWord.at by) s' (subst (λ (p : Place). Published s s' p c.args.entry c.args.call.now c.args.reply.now) c.place_of-place.ensures c.publish.ensures)
+
+pub returns-in-OneWord-clause-height : goal.returns-in-OneWord-clause-height
+returns-in-OneWord-clause-height g c =
+    let s = g.R.Rows.sheet c.args.rows.now in
+    let tree = tree_in_call c.args.kind s c.args.book.now c.requires.in_call in
+    let by = subst (IsDoneBy c.args.here c.args.first c.args.last c.args.entry) c.in-OneWord.is c.store_by.ensures in
+    let exact = one_exact c.args.kind s.tree tree c.args.call.now c.args.path.items c.args.first c.args.last c.args.entry c.args.reply.now c.args.here c.requires.plan c.in-OneWord.at by in
+    let s' = g.R.Rows.sheet c.publish.new.self in
+    λ _.
+    entry_height c.args.kind s c.args.book.now c.in-OneWord.at c.args.entry c.args.call.now c.args.reply.now (g.met.R.Rows.whole c.args.rows.now) c.requires.in_call (one_handle c.args.kind s.tree tree c.args.call.now c.args.path.items c.args.first c.args.last c.args.entry c.args.reply.now c.args.here c.requires.plan c.in-OneWord.at by) exact.range exact.some_entry
+    (one_store c.args.kind s.tree tree c.args.call.now c.args.path.items c.args.first c.args.last c.args.entry c.args.reply.now c.args.here c.requires.plan c.in-OneWord.at by) s' (subst (λ (p : Place). Published s s' p c.args.entry c.args.call.now c.args.reply.now) c.place_of-place.ensures c.publish.ensures)
+
+-- ---- by new rows
+
+pub replace_range-place-requires : goal.replace_range-place-requires
+replace_range-place-requires g c =
+    let s = g.R.Rows.sheet c.args.rows.now in
+    let tree = tree_in_call c.args.kind s c.args.book.now c.requires.in_call in
+    let by = subst (IsDoneBy c.args.here c.args.first c.args.last c.args.entry) c.in-NewRows.is c.store_by.ensures in
+    let replaces = new_rows_replace c.args.kind s.tree tree c.args.call.now c.args.path.items c.args.first c.args.last c.args.entry c.args.reply.now c.args.here c.requires.plan by in
+    may_replace_now c.args.kind s c.args.book.now c.args.path.items c.args.first c.args.last c.args.entry c.args.number c.args.call.now c.args.reply.now c.args.here tree c.requires.in_call
+    c.requires.plan by (c.requires.room replaces) c.requires.number
+
+pub mend_at-requires : goal.mend_at-requires
+mend_at-requires g c =
+    may_mend c.args.kind (g.R.Rows.sheet c.args.rows.now) (g.R.Rows.sheet c.replace_range-place.new.rows) c.args.book.now c.replace_range-place.new.book c.args.number c.args.call.now c.args.reply.now c.replace_range-place.result c.args.first c.args.last c.requires.in_call c.requires.plan.store.order c.requires.plan.store.within c.replace_range-place.ensures
+
+pub returns-in-NewRows-clause-stored : goal.returns-in-NewRows-clause-stored
+returns-in-NewRows-clause-stored g c =
+    let s = g.R.Rows.sheet c.args.rows.now in
+    let tree = tree_in_call c.args.kind s c.args.book.now c.requires.in_call in
+    let by = subst (IsDoneBy c.args.here c.args.first c.args.last c.args.entry) c.in-NewRows.is c.store_by.ensures in
+    let replaces = new_rows_replace c.args.kind s.tree tree c.args.call.now c.args.path.items c.args.first c.args.last c.args.entry c.args.reply.now c.args.here c.requires.plan by in
+    rows_stored c.args.kind s (g.R.Rows.sheet c.replace_range-place.new.rows) (g.R.Rows.sheet c.mend_at.new.rows) c.args.book.now c.replace_range-place.new.book c.args.number c.args.call.now c.args.reply.now c.replace_range-place.result c.args.first c.args.last
+    c.requires.in_call c.requires.number replaces (ap (λ (was : List Range × Reply). was.1) c.requires.plan.store.acts) c.replace_range-place.ensures c.mend_at.ensures
+
+pub returns-in-NewRows-clause-height : goal.returns-in-NewRows-clause-height
+returns-in-NewRows-clause-height g c =
+    let s = g.R.Rows.sheet c.args.rows.now in
+    λ old.
+    c.mend_at.ensures.height
+    ∙ height_stays c.args.kind s (g.R.Rows.sheet c.replace_range-place.new.rows) c.args.book.now c.replace_range-place.new.book c.args.number c.args.call.now c.args.reply.now c.replace_range-place.result c.args.first c.args.last (tree_in_call c.args.kind s c.args.book.now c.requires.in_call) c.replace_range-place.ensures
+    (sym c.is_root.ensures ∙ old)

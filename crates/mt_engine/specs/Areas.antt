@@ -1,0 +1,25 @@
+-- Which place is sought of those that have room, and by which call.
+-- Source: the kernel's lib/maple_tree.c, mas_empty_area, which finds the lowest, and mas_empty_area_rev, the highest.
+use Rattle.std.specs.Prelude.{ℕ, List, Option}
+use Rattle.mt_base.specs.declared.calls.Call.{Call}
+use Rattle.mt_base.specs.declared.calls.Call.TheVariants.{Alloc, Ralloc, Gap, Rgap}
+use Rattle.mt_base.specs.declared.kinds.Kind.{Kind}
+use Rattle.mt_base.specs.declared.ranges.Range.{Range}
+use Rattle.mt_base.specs.Holes.{low, high}
+use Rattle.mt_engine.specs.declared.areas.Sought.{Sought}
+use Rattle.mt_engine.specs.declared.areas.Sought.TheVariants.{Lowest, Highest}
+
+-- the start of so many indexes in one hole and in a window
+abbrev pub start_for : Sought → Kind → List Range → ℕ → ℕ → ℕ → Option ℕ
+start_for Lowest kind m n lo hi = low kind m n lo hi
+start_for Highest kind m n lo hi = high kind m n lo hi
+
+-- the call that stores an entry there
+abbrev pub allocation : Sought → ℕ → ℕ → ℕ → ℕ → Call
+allocation Lowest size min max entry = Alloc size min max entry
+allocation Highest size min max entry = Ralloc size min max entry
+
+-- the call that only tells it
+abbrev pub search : Sought → ℕ → ℕ → ℕ → Call
+search Lowest size min max = Gap size min max
+search Highest size min max = Rgap size min max

@@ -1,0 +1,50 @@
+-- What a store is and leaves whose rows are at hand, so that it makes no scan.
+-- Source: this project's own; the kernel's mas_store_prealloc stores with the nodes that mas_preallocate asked for.
+use Rattle.std.specs.Prelude.{◌≡◌, Bool, true, false}
+use Rattle.mt_base.specs.declared.calls.Call.{Call}
+use Rattle.mt_base.specs.declared.calls.Call.TheVariants.{Store, StorePre, Insert, Erase, Alloc, Ralloc, Gap, Rgap, Clear}
+use Rattle.mt_base.specs.declared.kinds.Kind.{Kind}
+use Rattle.mt_base.specs.declared.replies.Reply.{Reply}
+use Rattle.mt_base.specs.Call.{acted}
+use Rattle.mt_free.specs.Book.{Book}
+use Rattle.mt_rows.specs.Sheet.{Sheet}
+use Rattle.mt_rows.specs.Publish.{MayFinish, map_by, finished}
+use Rattle.mt_engine.specs.Engine.{IsEnded, TookRows, Replaces}
+use Rattle.mt_engine.specs.Rooms.{HasRoom}
+use Rattle.mt_engine.specs.declared.store_by.StoreBy.{StoreBy}
+use Rattle.mt_engine.specs.declared.store_by.StoreBy.TheVariants.{NoWord, OneWord, NewRows}
+
+-- enough rows are free, where the call replaces some
+abbrev pub HasRoomFor : Kind → Sheet → Book → Call → Type 0
+HasRoomFor kind s book call = Replaces kind (map_by s.tree) call → HasRoom s.tree book
+
+-- nothing was scanned
+pub record IsUnscanned (s s' : Sheet) : Type 0 where
+  pub scans : s'.scans ≡ s.scans
+  pub scan : s'.scan ≡ s.scan
+  pub at_begin : s'.scans_at_begin ≡ s.scans_at_begin
+
+-- A call in flight has done what it says by a store, with no scan, and may end so. It took rows only where it replaces some.
+pub record IsStored (kind : Kind) (s s' : Sheet) (book book' : Book) (call : Call) (reply : Reply) : Type 0 where
+  pub may : MayFinish kind s' call reply
+  pub ended : IsEnded kind s (finished s' call reply) book' call reply
+  pub acts : acted kind (map_by s.tree) call ≡ (map_by s'.tree, reply)
+  pub unscanned : IsUnscanned s s'
+  pub took : TookRows kind s book.free book' call
+
+abbrev pub is_by_rows : StoreBy → Bool
+is_by_rows NoWord = false
+is_by_rows (OneWord at) = false
+is_by_rows NewRows = true
+
+-- a store that is to have its rows at hand wants them whatever it is carried out by, any other where it is by new rows
+abbrev pub wants_by : Call → StoreBy → Bool
+wants_by (StorePre first last entry) by = true
+wants_by (Store first last entry) by = is_by_rows by
+wants_by (Insert first last entry) by = is_by_rows by
+wants_by (Erase index) by = is_by_rows by
+wants_by (Alloc size min max entry) by = is_by_rows by
+wants_by (Ralloc size min max entry) by = is_by_rows by
+wants_by (Gap size min max) by = is_by_rows by
+wants_by (Rgap size min max) by = is_by_rows by
+wants_by Clear by = is_by_rows by

@@ -1,0 +1,79 @@
+//! Stores for which rows were found free beforehand.
+
+ghost use Rattle.std.specs.Prelude.{◌≡◌, ◌+◌, ◌-◌, ◌^◌, ◌<◌, true};
+ghost use Rattle.mt_base.specs.declared.calls.Call.TheVariants.{StorePre};
+ghost use Rattle.mt_engine.specs.Engine.{IsInCall, is_refusal};
+ghost use Rattle.mt_engine.specs.Heights.{HasHeight, IsMeasured};
+ghost use Rattle.mt_engine.specs.Prepared.{IsPrestored};
+ghost use Rattle.mt_engine.specs.Rooms.{HasRoom};
+ghost use Rattle.mt_engine.specs.Stores.{IsStored};
+
+use crate::heights::height_after;
+use crate::plans::{Plan, plan_store};
+use crate::stores::store_at_hand;
+use mt_base::{Call, Kind, Reply};
+use mt_free::RowBook;
+use mt_path::Path;
+use mt_rows::Rows;
+
+/// Carries out the store of this number, which was begun, with rows that are free, and gives the reply that it may end with.
+fn perform_prepared<R: Rows>(
+    rows: &mut R,
+    book: &mut RowBook,
+    kind: Kind,
+    height: &mut u64,
+    number: u64,
+    first: u64,
+    last: u64,
+    entry: u64,
+) -> Reply
+    requires in_call { IsInCall kind (R.sheet rows.old) book.old }
+    requires number { number ≡ (R.sheet rows.old).ended + 1 }
+    requires room { HasRoom (R.sheet rows.old).tree book.old }
+    requires height { HasHeight (R.sheet rows.old).tree height.old }
+    ensures stored { IsStored kind (R.sheet rows.old) (R.sheet rows.new) book.old book.new (StorePre first last entry) result }
+    ensures kept { is_refusal result ≡ true → (R.sheet rows.new).tree ≡ (R.sheet rows.old).tree }
+    ensures height { HasHeight (R.sheet rows.new).tree height.new }
+{
+    let call = Call::StorePre { first, last, entry };
+    let mut path = Path::new();
+    match plan_store(rows, kind, first, last, entry, &mut path) {
+        Plan::Store {
+            first,
+            last,
+            entry,
+            reply,
+            here,
+        } => {
+            let is_new_root = store_at_hand(
+                rows, book, kind, path, here, first, last, entry, number, &call, &reply,
+            );
+            *height = height_after(rows, is_new_root, *height);
+            reply
+        }
+        Plan::Nothing { reply } => reply,
+        Plan::Empty => unreachable!(),
+    }
+}
+
+/// Makes one store for which rows were found free: it does what the call says and answers so. It makes no scan.
+pub fn store_prepared<R: Rows>(
+    rows: &mut R,
+    book: &mut RowBook,
+    kind: Kind,
+    height: &mut u64,
+    first: u64,
+    last: u64,
+    entry: u64,
+) -> Reply
+    requires measured { IsMeasured kind (R.sheet rows.old) book.old height.old }
+    requires room { HasRoom (R.sheet rows.old).tree book.old }
+    requires few { (R.sheet rows.old).ended < 2 ^ 62 - 1 }
+    ensures stored { IsPrestored kind (R.sheet rows.old) (R.sheet rows.new) book.old book.new (StorePre first last entry) result }
+    ensures measured { IsMeasured kind (R.sheet rows.new) book.new height.new }
+{
+    let number = rows.begin();
+    let reply = perform_prepared(rows, book, kind, height, number, first, last, entry);
+    rows.finish(&Call::StorePre { first, last, entry }, &reply);
+    reply
+}
