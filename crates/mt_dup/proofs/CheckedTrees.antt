@@ -1,0 +1,27 @@
+-- A tree that was checked may be copied: the tests ask for no other proof of it.
+use Rattle.std.proofs.Common.{◌≡◌, ℕ, List, [], ◌∷◌, length, refl, sym, ap, ◌∙◌, subst}
+use Rattle.std.specs.Prelude.{Result, Ok}
+use Rattle.mt_base.specs.declared.kinds.Kind.{Kind}
+use Rattle.mt_rows.specs.declared.rows.Place.TheVariants.{Root}
+use Rattle.mt_rows.specs.Trees.{reached_in}
+use Rattle.mt_rows.specs.Sheet.{Rooted, Sheet, OnlyReads}
+use Rattle.mt_rows.specs.Publish.{tree_as, with_published, IsLawfulOf}
+use Rattle.mt_check.specs.declared.faults.Fault.{Fault}
+use Rattle.mt_check.specs.declared.faults.Form.{Form}
+use Rattle.mt_check.specs.Check.{checked, first_or, faults_in, form_of}
+use Rattle.mt_dup.proofs.WrittenRows.{same_tree}
+
+module _ (s s' : Sheet) (root : ℕ) (kind : Kind) (reads : OnlyReads s s') (root_is : s.tree.root ≡ root) where
+  tree_is : with_published s.tree Root root ≡ s'.tree
+  tree_is = (λ i. record { rows = s.tree.rows; table = s.tree.table; root = sym root_is i }) ∙ sym (same_tree s s' reads)
+
+  pub lawful_as_checked : IsLawfulOf (with_published s.tree Root root) kind → IsLawfulOf s'.tree kind
+  lawful_as_checked lawful = subst (λ (t : Rooted). IsLawfulOf t kind) tree_is lawful
+
+  pub rows_as_checked : (form : Form) → Ok form ≡ checked (tree_as kind (with_published s.tree Root root)) → form.rows ≡ length (reached_in s'.tree.table s'.tree.root)
+  rows_as_checked form answer =
+      ap (λ (f : Form). f.rows) (by (faults_in (tree_as kind (with_published s.tree Root root))) answer) ∙ ap (λ (t : Rooted). length (reached_in t.table t.root)) tree_is
+    where
+      by : (faults : List Fault) → Ok form ≡ first_or faults (form_of (tree_as kind (with_published s.tree Root root))) → form ≡ form_of (tree_as kind (with_published s.tree Root root))
+      by [] is = cc
+      by (fault ∷ faults) is = absurd (cc)

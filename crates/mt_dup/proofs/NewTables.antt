@@ -1,0 +1,155 @@
+-- New rows and a new book, before a copy and behind it.
+use Rattle.std.proofs.Common.{◌≡◌, ℕ, zero, suc, ◌+◌, ◌-◌, ◌*◌, ◌<◌, ◌≤◌, List, [], ◌∷◌, false, Option, length, map, get_or, refl, sym, ap, ◌∙◌, subst, inl, inr, arith}
+use Rattle.std.specs.Prelude.{replicate, slice_index}
+use Rattle.std.specs.List.{Contains}
+use Rattle.std.proofs.lemmas.Bool.{cases_lt}
+use Rattle.mt_base.specs.declared.kinds.Kind.{Kind}
+use Rattle.mt_base.specs.declared.widths.Width.{Width}
+use Rattle.mt_base.specs.Width.{columns, first_row}
+use Rattle.mt_free.specs.Book.{Book, rows_down, new_book, held_rows, Held, IsOut}
+use Rattle.mt_rows.specs.declared.rows.Life.TheVariants.{New}
+use Rattle.mt_rows.specs.Spans.{column}
+use Rattle.mt_rows.specs.Plain.{new_sheet}
+use Rattle.mt_rows.specs.Sheet.{Sheet, life_of}
+use Rattle.mt_rows.specs.Publish.{is_reached, IsReached, IsTold, MayPlant}
+use Rattle.mt_dup.specs.Copy.{IsNewBut, IsBookOfCopy}
+use Rattle.mt_dup.specs.Filling.{rows_above, next_row, IsFilling, HasTaken, IsOpen, IsOutside, IsWritten}
+use Rattle.mt_dup.proofs.Filling.{length-rows_above}
+use Rattle.mt_dup.proofs.Going.{next_after}
+use Rattle.mt_dup.proofs.WholeCopies.{copied_to, Facts}
+use Rattle.mt_dup.proofs.WrittenRows.{one_width, written_rows}
+
+-- ---- new
+
+down_above : (n : ℕ) → rows_down n ≡ rows_above first_row n
+down_above zero = refl
+down_above (suc n) = ap (λ (l : List ℕ). (first_row + n) ∷ l) (down_above n)
+
+pub new_long : (n : ℕ) → length (new_book n).free ≡ n
+new_long n = ap length (down_above n) ∙ length-rows_above first_row n
+
+pub new_next : (n : ℕ) → next_row (new_book n) ≡ first_row
+new_next n = omega (arith, new_long n)
+
+zero_in : (n i : ℕ) → slice_index (replicate n 0) i ≡ 0
+zero_in zero i = refl
+zero_in (suc n) zero = refl
+zero_in (suc n) (suc i) = zero_in n i
+
+new_in : (n i : ℕ) → life_of (replicate n New) i ≡ New
+new_in zero i = refl
+new_in (suc n) zero = refl
+new_in (suc n) (suc i) = new_in n i
+
+pub new_open : (n : ℕ) → IsOpen (new_book n) (new_sheet n)
+new_open n = record {
+  filling = record {
+    fit = omega (arith, new_long n);
+    free = down_above n ∙ (λ i. rows_above (sym (new_next n) i) (sym (new_long n) i));
+    held = refl;
+  };
+  rows = refl;
+  new = λ row low high. new_in (first_row + n) row;
+}
+
+-- ---- behind a copy
+
+above_at : (low n k d : ℕ) → k < n → get_or (rows_above low n) k d ≡ low + (n - 1 - k)
+above_at low zero k d within = absurd (omega arith)
+above_at low (suc n) zero d within = omega arith
+above_at low (suc n) (suc k) d within = above_at low n k d (omega arith) ∙ omega arith
+
+above_has : (low n row : ℕ) → low ≤ row → row < low + n → Contains (rows_above low n) row
+above_has low n row from to =
+    (n - 1 - (row - low), omega (arith, length-rows_above low n), above_at low n (n - 1 - (row - low)) row (omega arith) ∙ omega arith)
+
+above_low : (low n row : ℕ) → Contains (rows_above low n) row → low ≤ row
+above_low low n row (k, within, is) = omega (arith, is, above_at low n k row (omega (arith, within, length-rows_above low n)))
+
+module _ (kind : Kind) (s d₀ d : Sheet) (b₀ b : Book) (n root count : ℕ) (new : d₀ ≡ new_sheet n) (new_is : b₀ ≡ new_book n) (facts : Facts kind s d root count) (taken : HasTaken count b₀ b)
+    (written : IsWritten (next_row b₀) (next_row b) d₀ d) where
+  from : next_row b₀ ≡ first_row
+  from = ap next_row new_is ∙ new_next n
+
+  filling : IsFilling b₀
+  filling = subst IsFilling (sym new_is) (new_open n).filling
+
+  to : next_row b ≡ first_row + count
+  to = next_after count b₀ b filling taken ∙ ap (λ (r : ℕ). r + count) from
+
+  rows_are : b.rows ≡ n
+  rows_are = taken.rows ∙ ap (λ (x : Book). x.rows) new_is
+
+  many : d.tree.rows ≡ n
+  many = written_rows (next_row b₀) (next_row b) d₀ d written ∙ ap (λ (x : Sheet). x.tree.rows) new
+
+  -- a row is reached just where it was taken
+  is_outside : (row : ℕ) → is_reached (copied_to d root) row ≡ false → IsOutside (next_row b₀) (next_row b) row
+  is_outside row not = elim (cases_lt row first_row) [
+    | inl low ↦ inl (omega (arith, from))
+    | inr high ↦ elim (cases_lt row (first_row + count)) [
+      | inl within ↦ let is = facts.inside row high within in absurd (let clash = sym is ∙ not in cc)
+      | inr above ↦ inr (omega (arith, to))
+    ]
+  ]
+
+  is_inside : (row : ℕ) → IsReached (copied_to d root) row → (first_row ≤ row) × (row < first_row + count)
+  is_inside row is = elim (cases_lt row first_row) [
+    | inl low ↦ let not = facts.outside row (inl low) in absurd (let clash = sym is ∙ not in cc)
+    | inr high ↦ elim (cases_lt row (first_row + count)) [
+      | inl within ↦ (high, within)
+      | inr above ↦ let not = facts.outside row (inr above) in absurd (let clash = sym is ∙ not in cc)
+    ]
+  ]
+
+  rest : d ≡ record (new_sheet n) { tree = record (new_sheet n).tree { table = record (new_sheet n).tree.table { words = d.tree.table.words } }; lives = d.lives }
+  rest = written.rest ∙ ap (λ (x : Sheet). record x { tree = record x.tree { table = record x.tree.table { words = d.tree.table.words } }; lives = d.lives }) new
+
+  pub may_plant : MayPlant kind d root
+  may_plant = record {
+    idle = ap (λ (x : Sheet). x.in_flight) rest;
+    first = ap (λ (x : Sheet). x.ended) rest;
+    empty = ap (λ (x : Sheet). x.tree.root) rest;
+    told = subst (λ (k : Option Kind). IsTold k kind) (sym (ap (λ (x : Sheet). x.kind) rest)) tt;
+    lawful = facts.lawful;
+  }
+
+  pub is_new_but : IsNewBut (copied_to d root) n d
+  is_new_but = record {
+    rest = rest;
+    zeros = λ row c not within.
+        written.words row c (is_outside row not) (subst (λ (v : Width). c < columns v) (one_width d.tree.table.width d₀.tree.table.width) within)
+        ∙ (ap (λ (x : Sheet). column x.tree.table row c) new ∙ zero_in (columns (new_sheet n).tree.table.width * (first_row + n)) (columns (new_sheet n).tree.table.width * row + c));
+    new = λ row not. written.lives row (is_outside row not) ∙ (ap (λ (x : Sheet). life_of x.lives row) new ∙ new_in (first_row + n) row);
+    drafts = λ row is. let inside = is_inside row is in written.drafts row (omega (arith, from, inside.0)) (omega (arith, to, inside.1));
+  }
+
+  free_is : b.free ≡ rows_above (first_row + count) (length b.free)
+  free_is = taken.filling.free ∙ ap (λ (r : ℕ). rows_above r (length b.free)) to
+
+  fits : count + length b.free ≡ n
+  fits = let less = taken.taken in let long = ap (λ (x : Book). length x.free) new_is in omega (arith, new_long n)
+
+  none_held : held_rows b ≡ []
+  none_held = ap (λ (l : List Held). map (λ (h : Held). h.row) l) taken.filling.held
+
+  out_reached : (row : ℕ) → IsOut b row → IsReached (copied_to d root) row
+  out_reached row out = facts.inside row out.here.0 (elim (cases_lt row (first_row + count)) [
+    | inl within ↦ within
+    | inr above ↦ absurd (out.not_free (subst (λ (l : List ℕ). Contains l row) (sym free_is) (above_has (first_row + count) (length b.free) row above (let below = out.here.1 in omega (arith, fits, rows_are)))))
+  ])
+
+  reached_out : (row : ℕ) → IsReached (copied_to d root) row → IsOut b row
+  reached_out row is =
+      let inside = is_inside row is in
+      record {
+        here = (inside.0, omega (arith, inside.1, fits, rows_are));
+        not_free = λ has. let low = above_low (first_row + count) (length b.free) row (subst (λ (l : List ℕ). Contains l row) free_is has) in omega (arith, inside.1);
+        not_held = λ has. none_there row (subst (λ (l : List ℕ). Contains l row) none_held has);
+      }
+    where
+      none_there : (row : ℕ) → Contains {X = ℕ} [] row → ⊥
+      none_there row (k, within, is) = omega arith
+
+  pub book_of_copy : IsBookOfCopy (copied_to d root) b
+  book_of_copy = record { rows = rows_are ∙ sym many; live = λ row. (out_reached row, reached_out row); held = taken.filling.held }

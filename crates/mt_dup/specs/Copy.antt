@@ -1,0 +1,57 @@
+-- A copy of a tree, row by row: it has the same words, but for the numbers of its rows.
+-- Source: the kernel's lib/maple_tree.c, __mt_dup, which copies each node and then writes the new addresses into it.
+use Rattle.std.specs.Prelude.{◌≡◌, ◌↔◌, ℕ, ◌*◌, ◌%◌, ◌<◌, ◌≤◌, false, Some, [], map}
+use Rattle.mt_base.specs.Width.{columns}
+use Rattle.mt_free.specs.Book.{Book, IsOut}
+use Rattle.mt_layout.specs.declared.names.RowKind.{RowKind}
+use Rattle.mt_layout.specs.declared.names.RowKind.TheVariants.{Leaf, Inner, Gapped}
+use Rattle.mt_layout.specs.declared.spans.Span.{Span}
+use Rattle.mt_layout.specs.Columns.{slot_column}
+use Rattle.mt_layout.specs.Rows.{row_in, named_kind, parent_at}
+use Rattle.mt_layout.specs.Sizes.{slots_of}
+use Rattle.mt_rows.specs.Spans.{Table, column}
+use Rattle.mt_rows.specs.Trees.{reached_in}
+use Rattle.mt_rows.specs.Plain.{new_sheet}
+use Rattle.mt_rows.specs.Publish.{is_reached, IsReached, StandsAt}
+use Rattle.mt_rows.specs.Sheet.{Rooted, Sheet, life_of}
+use Rattle.mt_rows.specs.declared.rows.Life.TheVariants.{New, Draft}
+
+-- a name or a parent word of the copy: the row has its new number, and the low byte, which tells a kind or a slot, is the same
+abbrev pub renamed : (ℕ → ℕ) → ℕ → ℕ
+renamed number word = parent_at (number (row_in word)) (word % 256)
+
+-- what the copy has in place of a word in a slot: a leaf has entries there, and an inner row the names of its children
+abbrev pub slot_renamed : (ℕ → ℕ) → RowKind → ℕ → ℕ
+slot_renamed number Leaf word = word
+slot_renamed number Inner word = renamed number word
+slot_renamed number Gapped word = renamed number word
+
+-- a row of the copy: its parent word and the names in its slots are the copy's, and all its other columns are equal
+pub record IsRowCopy (number : ℕ → ℕ) (t t' : Table) (kind : RowKind) (row : ℕ) : Type 0 where
+  pub parent : column t' (number row) 0 ≡ renamed number (column t row 0)
+  pub pivots : (c : ℕ) → 0 < c → c < slots_of t.width kind → column t' (number row) c ≡ column t row c
+  pub slots : (i : ℕ) → i < slots_of t.width kind → column t' (number row) (slot_column (slots_of t.width kind) i) ≡ slot_renamed number kind (column t row (slot_column (slots_of t.width kind) i))
+  pub behind : (c : ℕ) → 2 * slots_of t.width kind ≤ c → c < columns t.width → column t' (number row) c ≡ column t row c
+
+-- a copy of a tree: each row that is reached has a number of its own in the copy, and 0, which is no row, stays 0
+pub record IsCopy (t t' : Rooted) : Type 0 where
+  pub number : ℕ → ℕ
+  pub none : number 0 ≡ 0
+  pub rows : reached_in t'.table t'.root ≡ map number (reached_in t.table t.root)
+  pub once : (row other : ℕ) → IsReached t row → IsReached t other → number row ≡ number other → row ≡ other
+  pub root : t'.root ≡ renamed number t.root
+  pub words : (h : ℕ) (x : Span) (kind : RowKind) → StandsAt t h x → named_kind x.word ≡ Some kind → IsRowCopy number t.table t'.table kind (row_in x.word)
+
+-- new rows, but for those that are reached from the root word, which are drafts; no call was begun, and the root word that they
+-- have is 0
+pub record IsNewBut (t' : Rooted) (rows : ℕ) (s : Sheet) : Type 0 where
+  pub rest : s ≡ record (new_sheet rows) { tree = record (new_sheet rows).tree { table = record (new_sheet rows).tree.table { words = s.tree.table.words } }; lives = s.lives }
+  pub zeros : (row c : ℕ) → is_reached t' row ≡ false → c < columns s.tree.table.width → column s.tree.table row c ≡ 0
+  pub new : (row : ℕ) → is_reached t' row ≡ false → life_of s.lives row ≡ New
+  pub drafts : (row : ℕ) → IsReached t' row → life_of s.lives row ≡ Draft
+
+-- a book whose live rows are just those that are reached, and which holds none
+pub record IsBookOfCopy (t' : Rooted) (book : Book) : Type 0 where
+  pub rows : book.rows ≡ t'.rows
+  pub live : (row : ℕ) → IsOut book row ↔ IsReached t' row
+  pub held : book.held ≡ []

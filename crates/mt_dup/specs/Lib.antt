@@ -1,0 +1,4 @@
+pub mod Copy
+pub mod Filling
+pub mod Pairs
+pub mod Walks

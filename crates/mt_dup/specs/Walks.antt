@@ -1,0 +1,92 @@
+-- The walk of a copy: what it comes to, by the names in the slots of rows, and what it leaves there.
+-- Source: this project's own.
+use Rattle.std.specs.Prelude.{◌≡◌, ◌≢◌, ◌⊎◌, ℕ, zero, suc, ◌+◌, ◌-◌, ◌*◌, ◌<◌, ◌≤◌, List, [], ◌∷◌, Option, Some, None}
+use Rattle.std.specs.List.{AllByRecursion, flat_map}
+use Rattle.mt_base.specs.Width.{columns, first_row}
+use Rattle.mt_layout.specs.declared.names.RowKind.{RowKind}
+use Rattle.mt_layout.specs.declared.names.RowKind.TheVariants.{Leaf}
+use Rattle.mt_layout.specs.Columns.{slot_column}
+use Rattle.mt_layout.specs.Rows.{row_in, named_kind, parent_at}
+use Rattle.mt_layout.specs.Sizes.{slots_of}
+use Rattle.mt_rows.specs.Spans.{Table, column}
+use Rattle.mt_rows.specs.Sheet.{Rooted}
+use Rattle.mt_rows.specs.Plain.{names_of}
+use Rattle.mt_dup.specs.declared.walks.Way.{Way}
+use Rattle.mt_dup.specs.declared.columns.Pair.{Pair}
+use Rattle.mt_dup.specs.Copy.{renamed, IsRowCopy}
+
+-- ---- the names that the walk comes to
+
+abbrev pub names_by : (ℕ → List ℕ) → List ℕ → ℕ → Option RowKind → List ℕ
+names_by below w word None = []
+names_by below w word (Some kind) = word ∷ flat_map below (names_of w (row_in word) kind)
+
+-- a word, where it is a name, and the names from those in the slots of its row on, at most so many levels deep
+unfoldable pub names_from : List ℕ → ℕ → ℕ → List ℕ
+names_from w zero word = []
+names_from w (suc depth) word = names_by (names_from w depth) w word (named_kind word)
+
+-- the names from those in the slots of a row on
+abbrev pub names_below : List ℕ → ℕ → Pair → List ℕ
+names_below w depth pair = flat_map (names_from w (depth - 1)) (names_of w pair.row pair.kind)
+
+-- ---- what the walk asks for
+
+-- each row that is named here has the parent word of its slot
+abbrev pub ParentsAre : Table → ℕ → ℕ → List ℕ → Type 0
+ParentsAre t row slot [] = Unit {0}
+ParentsAre t row slot (word ∷ words) = (word ≢ 0 → column t (row_in word) 0 ≡ parent_at row slot) × ParentsAre t row (slot + 1) words
+
+abbrev pub MayCopyBy : (ℕ → Type 0) → Rooted → ℕ → Option RowKind → Type 0
+MayCopyBy below t word None = word ≡ 0
+MayCopyBy below t word (Some kind) =
+    (row_in word < first_row + t.rows) × (ParentsAre t.table (row_in word) 0 (names_of t.table.words (row_in word) kind) × AllByRecursion below (names_of t.table.words (row_in word) kind))
+
+-- a word is 0 or names a row of the table, and so do those in the slots of that row, at most so many levels deep
+unfoldable pub MayCopy : Rooted → ℕ → ℕ → Type 0
+MayCopy t zero word = word ≡ 0
+MayCopy t (suc depth) word = MayCopyBy (MayCopy t depth) t word (named_kind word)
+
+-- the same of the words in the slots of a row
+pub record MayCopyBelow (t : Rooted) (depth : ℕ) (pair : Pair) : Type 0 where
+  pub deep : 0 < depth
+  pub first : first_row ≤ pair.row
+  pub inside : pair.row < first_row + t.rows
+  pub parents : ParentsAre t.table pair.row 0 (names_of t.table.words pair.row pair.kind)
+  pub below : AllByRecursion (MayCopy t (depth - 1)) (names_of t.table.words pair.row pair.kind)
+
+-- ---- what the walk leaves
+
+-- the rows that are named have the numbers from `from` on, one by one
+abbrev pub AreNumbered : (ℕ → ℕ) → ℕ → List ℕ → Type 0
+AreNumbered number from [] = Unit {0}
+AreNumbered number from (word ∷ words) = (number (row_in word) ≡ from) × AreNumbered number (from + 1) words
+
+abbrev pub IsCopied : (ℕ → ℕ) → Table → Table → ℕ → Type 0
+IsCopied number t t' word = (kind : RowKind) → named_kind word ≡ Some kind → IsRowCopy number t t' kind (row_in word)
+
+abbrev pub AreCopied : (ℕ → ℕ) → Table → Table → List ℕ → Type 0
+AreCopied number t t' words = AllByRecursion (IsCopied number t t') words
+
+-- Under the numbers that rows have from `from` on, what a word names is copied, and this is its name in the copy.
+abbrev pub LeavesCopy : Table → Table → ℕ → Way → ℕ → Type 0
+LeavesCopy t t' from way name =
+    (number : ℕ → ℕ) → number 0 ≡ 0 → AreNumbered number from (names_from t.words way.depth way.word) → (way.word ≢ 0 → way.parent ≡ renamed number (column t (row_in way.word) 0))
+    → (name ≡ renamed number way.word) × AreCopied number t t' (names_from t.words way.depth way.word)
+
+-- the names in the slots of a row are written
+abbrev pub HasNames : (ℕ → ℕ) → Table → Table → Pair → Type 0
+HasNames number t t' pair = (i : ℕ) → i < slots_of t.width pair.kind
+    → column t' pair.to (slot_column (slots_of t.width pair.kind) i) ≡ renamed number (column t pair.row (slot_column (slots_of t.width pair.kind) i))
+
+abbrev pub LeavesChildren : Table → Table → ℕ → ℕ → Pair → Type 0
+LeavesChildren t t' from depth pair =
+    (number : ℕ → ℕ) → number 0 ≡ 0 → number pair.row ≡ pair.to → AreNumbered number from (names_below t.words depth pair) → (pair.kind ≢ Leaf → HasNames number t t' pair) × AreCopied number t t' (names_below t.words depth pair)
+
+-- no name of a row stands in the column of a row of this kind
+abbrev pub IsNoName : RowKind → ℕ → ℕ → Type 0
+IsNoName kind slots c = (kind ≡ Leaf) ⊎ ((c < slots) ⊎ (2 * slots ≤ c))
+
+-- the columns of a row are as before, but for the names in its slots
+abbrev pub KeepsOwn : Table → Table → Pair → Type 0
+KeepsOwn t t' pair = (c : ℕ) → c < columns t.width → IsNoName pair.kind (slots_of t.width pair.kind) c → column t' pair.to c ≡ column t pair.to c
