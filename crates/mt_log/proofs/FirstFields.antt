@@ -3,33 +3,43 @@ use Rattle.std.proofs.lemmas.List.{take_at}
 use Rattle.mt_log.specs.declared.faults.Why.{Why}
 use Rattle.mt_log.specs.declared.faults.Why.TheVariants as why
 use Rattle.mt_log.specs.declared.keywords.Keyword.{Keyword}
-use Rattle.mt_log.specs.declared.keywords.Keyword.TheVariants.{Tree, Store, Insert, Erase, Clear, Load, Find, Next, Prev, Rfind, Scan}
+use Rattle.mt_log.specs.declared.keywords.Keyword.TheVariants.{Tree, Dup, Check, Lane, Join, Store, StorePre, Insert, Erase, Alloc, Ralloc, Gap, Rgap, Clear, Load, Find, Next, Prev, Rfind, Scan}
 use Rattle.mt_log.specs.Fault.{◌>>=◌}
-use Rattle.mt_log.specs.Reading.{Read, item_of, item_by, keyword_of, tree_item, range_item, index_item, bound_item, scan_item, whole_item}
+use Rattle.mt_log.specs.Reading.{Read, item_of, item_by, built_keyword_of, tree_item, dup_item, check_item, lane_item, join_item, range_item, area_item, area_entry_item, index_item, bound_item, scan_item, whole_item}
 
--- no word takes five fields or more
-too_many : (k : Keyword) (r : Read) (a b c d e : List ℕ) (more : List (List ℕ)) → item_by k r (a ∷ b ∷ c ∷ d ∷ e ∷ more) ≡ Err why.Fields
-unfolding item_by tree_item range_item index_item bound_item scan_item whole_item
-too_many Tree r a b c d e more = refl
-too_many Store r a b c d e more = refl
-too_many Insert r a b c d e more = refl
-too_many Erase r a b c d e more = refl
-too_many Clear r a b c d e more = refl
-too_many Load r a b c d e more = refl
-too_many Find r a b c d e more = refl
-too_many Next r a b c d e more = refl
-too_many Prev r a b c d e more = refl
-too_many Rfind r a b c d e more = refl
-too_many Scan r a b c d e more = refl
+-- no word takes six fields or more
+too_many : (k : Keyword) (r : Read) (a b c d e f : List ℕ) (more : List (List ℕ)) → item_by k r (a ∷ b ∷ c ∷ d ∷ e ∷ f ∷ more) ≡ Err why.Fields
+unfolding item_by tree_item dup_item check_item lane_item join_item range_item area_item area_entry_item index_item bound_item scan_item whole_item
+too_many Tree r a b c d e f more = refl
+too_many Dup r a b c d e f more = refl
+too_many Check r a b c d e f more = refl
+too_many Lane r a b c d e f more = refl
+too_many Join r a b c d e f more = refl
+too_many Store r a b c d e f more = refl
+too_many StorePre r a b c d e f more = refl
+too_many Insert r a b c d e f more = refl
+too_many Erase r a b c d e f more = refl
+too_many Alloc r a b c d e f more = refl
+too_many Ralloc r a b c d e f more = refl
+too_many Gap r a b c d e f more = refl
+too_many Rgap r a b c d e f more = refl
+too_many Clear r a b c d e f more = refl
+too_many Load r a b c d e f more = refl
+too_many Find r a b c d e f more = refl
+too_many Next r a b c d e f more = refl
+too_many Prev r a b c d e f more = refl
+too_many Rfind r a b c d e f more = refl
+too_many Scan r a b c d e f more = refl
 
-either_way : (word : Result Keyword Why) (r : Read) (a b c d e : List ℕ) (more others : List (List ℕ)) → (word >>= λ k. item_by k r (a ∷ b ∷ c ∷ d ∷ e ∷ more)) ≡ (word >>= λ k. item_by k r (a ∷ b ∷ c ∷ d ∷ e ∷ others))
-either_way (Ok k) r a b c d e more others = rw (too_many k r a b c d e more, too_many k r a b c d e others) refl
-either_way (Err e') r a b c d e more others = refl
+either_way : (word : Result Keyword Why) (r : Read) (a b c d e f : List ℕ) (more others : List (List ℕ)) → (word >>= λ k. item_by k r (a ∷ b ∷ c ∷ d ∷ e ∷ f ∷ more)) ≡ (word >>= λ k. item_by k r (a ∷ b ∷ c ∷ d ∷ e ∷ f ∷ others))
+either_way (Ok k) r a b c d e f more others = rw (too_many k r a b c d e f more, too_many k r a b c d e f others) refl
+either_way (Err e') r a b c d e f more others = refl
 
 -- the first eight fields of a line say what all of them say
 pub first_fields : (r : Read) (fields : List (List ℕ)) → item_of r (take 8 fields) ≡ item_of r fields
 unfolding item_of
-first_fields r (w ∷ a ∷ b ∷ c ∷ d ∷ e ∷ more) = either_way (keyword_of w) r a b c d e (take 2 more) more
+first_fields r (w ∷ a ∷ b ∷ c ∷ d ∷ e ∷ f ∷ more) = either_way (built_keyword_of w) r a b c d e f (take 1 more) more
+first_fields r (w ∷ a ∷ b ∷ c ∷ d ∷ e ∷ []) = refl
 first_fields r (w ∷ a ∷ b ∷ c ∷ d ∷ []) = refl
 first_fields r (w ∷ a ∷ b ∷ c ∷ []) = refl
 first_fields r (w ∷ a ∷ b ∷ []) = refl

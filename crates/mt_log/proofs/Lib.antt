@@ -1,5 +1,6 @@
 pub mod Digits
 pub mod FirstFields
+pub mod Indexed
 pub mod Padding
 pub mod Parts
 pub mod Pieces

@@ -1,17 +1,16 @@
 -- What a reader knows holds of each line that it reads.
-use Rattle.std.proofs.Common.{◌≡◌, ℕ, ◌<◌, List, [], ◌∷◌, ◌++◌, Option, Some, None, length, map, length-append, arith, refl, sym, ap, ◌∙◌, subst}
-use Rattle.std.specs.List.{All}
+use Rattle.std.proofs.Common.{◌≡◌, inl, inr, ℕ, ◌<◌, ◌≤◌, ◌+◌, Bool, false, List, [], ◌∷◌, ◌++◌, Option, Some, None, length, map, slice_get, length-append, arith, refl, sym, ap, ◌∙◌, subst}
 use Rattle.std.specs.Option.{option_map, option_to_list}
 use Rattle.std.proofs.lemmas.List.{append-nil, map-append, length-map}
-use Rattle.std.proofs.lemmas.List.Elements.{All-append, All-push}
-use Rattle.mt_base.specs.declared.kinds.Kind.TheVariants as kinds
+use Rattle.std.proofs.lemmas.Option.{slice_get_cases}
 use Rattle.mt_log.specs.declared.lines.Item.{Item}
-use Rattle.mt_log.specs.declared.lines.Item.TheVariants.{Tree, Write, Ask, Scan}
+use Rattle.mt_log.specs.declared.lines.Item.TheVariants.{Tree, Lane, Join, Dup, Check, Write, Ask, Scan}
 use Rattle.mt_log.specs.declared.lines.Line.{Line}
 use Rattle.mt_log.specs.declared.trees.KnownTree.{KnownTree}
-use Rattle.mt_log.specs.Reader.{IsSound}
+use Rattle.mt_log.specs.Phases.{AreInPlaceFrom, IsInPlace, phase_after, stepped_after, stepped_from}
+use Rattle.mt_log.specs.Reader.{HasTreeRoom, IsSound, MayFollow}
 use Rattle.mt_log.specs.Reading.{Read, after_item, nothing_read}
-use Rattle.mt_log.specs.Trees.{Declared, Opening, AreNamedFrom, NamesBelow, MayFollow, count_after, declared_by, known_after, known_by, opening_by, phase_after, trees_from, trees_of}
+use Rattle.mt_log.specs.Trees.{Declared, Opening, AreNamedFrom, NamesBelow, count_after, declared_by, known_after, known_by, most_trees, opening_by, renamed, trees_from, trees_of}
 
 -- ---- the trees with one more line
 
@@ -44,58 +43,88 @@ known_more trees phase item =
     map-append (λ (d : Declared). d.tree) trees (option_to_list (declared_by trees phase item))
     ∙ ap (λ z. known_in trees ++ z) (known_of_one (known_by (known_in trees) item) (opening_by phase item))
 
-counted : (trees : List KnownTree) (item : Item) → length (known_after trees item) ≡ count_after (length trees) item
-counted trees (Tree name kind) = length-append trees (record { name = name; kind = kind } ∷ [])
-counted trees (Write tree call) = ap length (append-nil trees)
-counted trees (Ask tree query) = ap length (append-nil trees)
-counted trees (Scan tree index max count) = ap length (append-nil trees)
+some_tree : (trees : List KnownTree) (tree : ℕ) → tree < length trees → (known : KnownTree) × (slice_get trees tree ≡ Some known)
+some_tree trees tree below = elim (slice_get_cases trees tree).1 [ inl found ↦ (found.0, found.2) | inr past ↦ absurd (omega (arith, past.0, below)) ]
 
-counts : (lines : List Line) (trees : List Declared) (phase : ℕ) → length (trees_from trees phase lines) ≡ count_from (length trees) lines
-counts [] trees phase = refl
-counts (line ∷ lines) trees phase =
+copied : (trees : List KnownTree) (from : ℕ) (name : List ℕ) → from < length trees → length (known_after trees (Dup from name)) ≡ length trees + 1
+copied trees from name below =
+    let source = some_tree trees from below in
+    rw source.1 (length-append trees (renamed name source.0 ∷ []))
+
+counted : (trees : List KnownTree) (item : Item) → NamesBelow (length trees) item → length (known_after trees item) ≡ count_after (length trees) item
+counted trees (Tree name kind) h = length-append trees (record { name = name; kind = kind } ∷ [])
+counted trees (Lane lane) h = ap length (append-nil trees)
+counted trees Join h = ap length (append-nil trees)
+counted trees (Dup from name) h = copied trees from name h
+counted trees (Check tree) h = ap length (append-nil trees)
+counted trees (Write tree call) h = ap length (append-nil trees)
+counted trees (Ask tree query) h = ap length (append-nil trees)
+counted trees (Scan tree index max count) h = ap length (append-nil trees)
+
+known_long : (trees : List Declared) → length (known_in trees) ≡ length trees
+known_long trees = length-map trees (λ (d : Declared). d.tree)
+
+one_more_counts : (trees : List Declared) (phase : ℕ) (item : Item) → NamesBelow (length trees) item → length (trees ++ option_to_list (declared_by trees phase item)) ≡ count_after (length trees) item
+one_more_counts trees phase item below =
+    let named : NamesBelow (length (known_in trees)) item = subst (λ (k : ℕ). NamesBelow k item) (sym (known_long trees)) below in
+    sym (known_long (trees ++ option_to_list (declared_by trees phase item)))
+    ∙ (ap length (known_more trees phase item) ∙ (counted (known_in trees) item named ∙ ap (λ k. count_after k item) (known_long trees)))
+
+counts : (lines : List Line) (trees : List Declared) (phase : ℕ) → AreNamedFrom (length trees) lines → length (trees_from trees phase lines) ≡ count_from (length trees) lines
+counts [] trees phase named = refl
+counts (line ∷ lines) trees phase named =
     let more : List Declared = trees ++ option_to_list (declared_by trees phase line.item) in
-    let known : length (known_in more) ≡ count_after (length (known_in trees)) line.item = ap length (known_more trees phase line.item) ∙ counted (known_in trees) line.item in
-    let long : length more ≡ count_after (length trees) line.item = sym (length-map more (λ (d : Declared). d.tree)) ∙ (known ∙ ap (λ k. count_after k line.item) (length-map trees (λ (d : Declared). d.tree))) in
-    counts lines more (phase_after phase line.item) ∙ ap (λ k. count_from k lines) long
+    let long : length more ≡ count_after (length trees) line.item = one_more_counts trees phase line.item named.0 in
+    counts lines more (phase_after phase line.item) (subst (λ (k : ℕ). AreNamedFrom k lines) (sym long) named.1) ∙ ap (λ k. count_from k lines) long
 
--- one more line names what is declared before it
+-- ---- one more line
+
+-- names what is declared before it
 named_more : (count : ℕ) (lines : List Line) (line : Line) → AreNamedFrom count lines → NamesBelow (count_from count lines) line.item → AreNamedFrom count (lines ++ line ∷ [])
 named_more count [] line h below = (below, tt)
 named_more count (first ∷ lines) line h below = (h.0, named_more (count_after count first.item) lines line h.1 below)
+
+-- stands in its place
+placed_more : (stepped : Bool) (lines : List Line) (line : Line) → AreInPlaceFrom stepped lines → IsInPlace (stepped_from stepped lines) line.item → AreInPlaceFrom stepped (lines ++ line ∷ [])
+placed_more stepped [] line h placed = (placed, tt)
+placed_more stepped (first ∷ lines) line h placed = (h.0, placed_more (stepped_after stepped first.item) lines line h.1 placed)
+
+stepped_more : (stepped : Bool) (lines : List Line) (line : Line) → stepped_from stepped (lines ++ line ∷ []) ≡ stepped_after (stepped_from stepped lines) line.item
+stepped_more stepped [] line = refl
+stepped_more stepped (first ∷ lines) line = stepped_more (stepped_after stepped first.item) lines line
+
+-- and leaves few trees
+few_after : (trees : List KnownTree) (item : Item) → length trees ≤ most_trees → HasTreeRoom trees item → count_after (length trees) item ≤ most_trees
+few_after trees (Tree name kind) few room = omega (arith, room.0)
+few_after trees (Lane lane) few room = few
+few_after trees Join few room = few
+few_after trees (Dup from name) few room = omega (arith, room.0)
+few_after trees (Check tree) few room = few
+few_after trees (Write tree call) few room = few
+few_after trees (Ask tree query) few room = few
+few_after trees (Scan tree index max steps) few room = few
 
 -- ---- a reader's facts
 
 -- where nothing was read, all is well
 pub sound_nothing : IsSound nothing_read
-sound_nothing = record { readable = record { named = tt; one_tree = omega arith; for_ranges = λ k d h. absurd (omega arith) }; known = refl }
-
-known_long : (read : Read) → IsSound read → length (trees_of read.lines) ≡ length read.trees
-known_long read h = sym (length-map (trees_of read.lines) (λ (d : Declared). d.tree)) ∙ ap length h.known
-
-abbrev IsForRanges : Declared → Type 0
-IsForRanges d = d.tree.kind ≡ kinds.Range
-
-with_line : (read : Read) (item : Item) → IsSound read → NamesBelow (length read.trees) item → count_after (length read.trees) item < 2 → All IsForRanges (option_to_list (declared_by (trees_of read.lines) (phase_from 0 read.lines) item)) → IsSound (after_item read item)
-with_line read item h below room ranges =
-    let line : Line = record { number = read.next; item = item } in
-    let trees : List Declared = trees_of read.lines in
-    let more : trees_of (read.lines ++ line ∷ []) ≡ trees ++ option_to_list (declared_by trees (phase_from 0 read.lines) item) = trees_more read.lines line [] 0 in
-    let known : known_in (trees_of (read.lines ++ line ∷ [])) ≡ known_after read.trees item = ap known_in more ∙ (known_more trees (phase_from 0 read.lines) item ∙ ap (λ t. known_after t item) h.known) in
-    let total : length (trees_of (read.lines ++ line ∷ [])) ≡ count_after (length read.trees) item = sym (length-map (trees_of (read.lines ++ line ∷ [])) (λ (d : Declared). d.tree)) ∙ (ap length known ∙ counted read.trees item) in
-    let before : length read.trees ≡ count_from 0 read.lines = sym (known_long read h) ∙ counts read.lines [] 0 in
-    record {
-      readable = record {
-        named = named_more 0 read.lines line h.readable.named (subst (λ (k : ℕ). NamesBelow k item) before below);
-        one_tree = omega (arith, total, room);
-        for_ranges = rw more (All-append IsForRanges _ _ h.readable.for_ranges ranges);
-      };
-      known = known;
-    }
+sound_nothing = record { readable = record { named = tt; placed = tt; few = omega arith }; stepped = refl; known = refl }
 
 -- a line that may follow keeps it so
-pub sound_more : (read : Read) (item : Item) → IsSound read → MayFollow (length read.trees) item → IsSound (after_item read item)
-sound_more read (Tree name kind) h follows = with_line read (Tree name kind) h tt (omega (arith, follows.0))
-    (All-push IsForRanges [] (record { tree = record { name = name; kind = kind }; opening = opening_by (phase_from 0 read.lines) (Tree name kind) }) (λ k d h. absurd (omega arith)) follows.1)
-sound_more read (Write tree call) h follows = with_line read (Write tree call) h follows (omega (arith, known_long read h, h.readable.one_tree)) (λ k d h. absurd (omega arith))
-sound_more read (Ask tree query) h follows = with_line read (Ask tree query) h follows (omega (arith, known_long read h, h.readable.one_tree)) (λ k d h. absurd (omega arith))
-sound_more read (Scan tree index max count) h follows = with_line read (Scan tree index max count) h follows (omega (arith, known_long read h, h.readable.one_tree)) (λ k d h. absurd (omega arith))
+pub sound_more : (read : Read) (item : Item) → IsSound read → MayFollow read item → IsSound (after_item read item)
+sound_more read item h follows =
+    let line : Line = record { number = read.next; item = item } in
+    let trees : List Declared = trees_of read.lines in
+    let long : length read.trees ≡ length trees = sym (ap length h.known) ∙ known_long trees in
+    let below : NamesBelow (length trees) item = subst (λ (k : ℕ). NamesBelow k item) long follows.named in
+    let more : trees_of (read.lines ++ line ∷ []) ≡ trees ++ option_to_list (declared_by trees (phase_from 0 read.lines) item) = trees_more read.lines line [] 0 in
+    let total : length (trees_of (read.lines ++ line ∷ [])) ≡ count_after (length trees) item = ap length more ∙ one_more_counts trees (phase_from 0 read.lines) item below in
+    record {
+      readable = record {
+        named = named_more 0 read.lines line h.readable.named (subst (λ (k : ℕ). NamesBelow k item) (counts read.lines [] 0 h.readable.named) below);
+        placed = placed_more false read.lines line h.readable.placed (subst (λ (b : Bool). IsInPlace b item) (sym h.stepped) follows.placed);
+        few = rw (total, ← long) (few_after read.trees item (rw long h.readable.few) follows.trees);
+      };
+      stepped = stepped_more false read.lines line ∙ ap (λ (b : Bool). stepped_after b item) h.stepped;
+      known = ap known_in more ∙ (known_more trees (phase_from 0 read.lines) item ∙ ap (λ t. known_after t item) h.known);
+    }

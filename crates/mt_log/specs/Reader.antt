@@ -1,13 +1,28 @@
--- What a reader knows of what it read so far.
-use Rattle.std.specs.Prelude.{◌≡◌, ◌≤◌, ◌-◌, map}
+-- What a reader knows of what it read so far, and of what a good line may add.
+-- Source: this project's own, the language of logs.
+use Rattle.std.specs.Prelude.{◌≡◌, ◌<◌, ◌≤◌, ◌-◌, false, List, None, length, map}
 use Rattle.mt_log.specs.declared.lines.Item.{Item}
-use Rattle.mt_log.specs.Reading.{Read, most_scan_steps, scan_steps_of}
-use Rattle.mt_log.specs.Trees.{IsReadable, trees_of}
+use Rattle.mt_log.specs.declared.lines.Item.TheVariants.{Tree, Dup}
+use Rattle.mt_log.specs.declared.trees.KnownTree.{KnownTree}
+use Rattle.mt_log.specs.Phases.{IsInPlace, stepped_from}
+use Rattle.mt_log.specs.Reading.{Read, most_scan_steps, place_of, scan_steps_of}
+use Rattle.mt_log.specs.Trees.{IsReadable, NamesBelow, most_trees, trees_of}
 
 pub record IsSound (read : Read) : Type 0 where
   pub readable : IsReadable read.lines
+  pub stepped : stepped_from false read.lines ≡ read.stepped
   pub known : map (λ d. d.tree) (trees_of read.lines) ≡ read.trees
 
--- a line's steps, if it is a scan, are no more than the scans before it have left
-abbrev pub HasScanRoom : Read → Item → Type 0
-HasScanRoom read item = scan_steps_of item ≤ most_scan_steps - read.scanned
+-- a line that declares a tree stands behind fewer than there may be, and its name is a new one
+abbrev pub HasTreeRoom : List KnownTree → Item → Type 0
+HasTreeRoom trees (Tree name kind) = (length trees < most_trees) × (place_of trees name ≡ None)
+HasTreeRoom trees (Dup from name) = (length trees < most_trees) × (place_of trees name ≡ None)
+HasTreeRoom trees item = Unit {0}
+
+-- A line that says this may follow: the trees that it names are declared, it stands in its place, there is room for what it
+-- declares, and its steps, if it is a scan, are no more than the scans before it have left.
+pub record MayFollow (read : Read) (item : Item) : Type 0 where
+  pub named : NamesBelow (length read.trees) item
+  pub placed : IsInPlace read.stepped item
+  pub trees : HasTreeRoom read.trees item
+  pub scans : scan_steps_of item ≤ most_scan_steps - read.scanned

@@ -1,6 +1,6 @@
 -- The log that bytes are, or the first line that is bad and why. It is read off the list of lines, cut at each LF,
 -- and the list of a line's fields, cut at each space.
-use Rattle.std.specs.Prelude.{ℕ, Bool, true, false, List, [], ◌∷◌, ◌++◌, Option, Result, Ok, Err, ◌+◌, ◌-◌, ◌^◌, ◌==◌, ◌&&◌, ◌||◌, nat_lt, nat_le, is_some, length, take, drop, position, slice_get, codes, if◌then◌else◌}
+use Rattle.std.specs.Prelude.{ℕ, Bool, true, false, List, [], ◌∷◌, ◌++◌, Option, Result, Ok, Err, ◌+◌, ◌-◌, ◌^◌, ◌==◌, ◌&&◌, nat_lt, nat_le, is_some, length, map, take, drop, position, slice_get, codes, if◌then◌else◌}
 use Rattle.std.specs.List.{slice_split, list_all, list_any}
 use Rattle.std.specs.Option.{ok_or, option_map, option_and_then}
 use Rattle.std.specs.Char.{is_ascii_digit, is_ascii_hexdigit}
@@ -9,19 +9,21 @@ use Rattle.std.specs.Str.Parse.{digits_value}
 use Rattle.mt_base.specs.declared.kinds.Kind.{Kind}
 use Rattle.mt_base.specs.declared.kinds.Kind.TheVariants as kinds
 use Rattle.mt_base.specs.declared.calls.Call.{Call}
-use Rattle.mt_base.specs.declared.calls.Call.TheVariants.{Store, Insert, Erase, Clear}
+use Rattle.mt_base.specs.declared.calls.Call.TheVariants.{Store, StorePre, Insert, Erase, Alloc, Ralloc, Gap, Rgap, Clear}
 use Rattle.mt_base.specs.declared.calls.Query.{Query}
 use Rattle.mt_base.specs.declared.calls.Query.TheVariants.{Load, Find, Next, Prev, Rfind}
 use Rattle.mt_base.specs.Width.{greatest_of}
 use Rattle.mt_log.specs.Name.{is_name}
-use Rattle.mt_log.specs.Trees.{known_after}
+use Rattle.mt_log.specs.Phases.{stepped_after}
+use Rattle.mt_log.specs.Trees.{known_after, most_lanes, most_trees}
 use Rattle.mt_log.specs.Fault.{Fault, fault_at, on_line, ◌>>=◌}
+use Rattle.mt_log.specs.declared.areas.Area.{Area}
 use Rattle.mt_log.specs.declared.faults.Why.{Why}
 use Rattle.mt_log.specs.declared.faults.Why.TheVariants as why
 use Rattle.mt_log.specs.declared.keywords.Keyword.{Keyword}
 use Rattle.mt_log.specs.declared.keywords.Keyword.TheVariants as keyword
 use Rattle.mt_log.specs.declared.lines.Item.{Item}
-use Rattle.mt_log.specs.declared.lines.Item.TheVariants.{Tree, Write, Ask, Scan}
+use Rattle.mt_log.specs.declared.lines.Item.TheVariants.{Tree, Lane, Join, Dup, Check, Write, Ask, Scan}
 use Rattle.mt_log.specs.declared.lines.Line.{Line}
 use Rattle.mt_log.specs.declared.lines.Log.{Log}
 use Rattle.mt_log.specs.declared.trees.KnownTree.{KnownTree}
@@ -42,9 +44,12 @@ number_of most field =
     else (if bytes_eq (take 2 field) (codes "0x") then hexadecimal_of (drop 2 field)
     else decimal_of field)
 
--- an index of a tree of this kind, and an entry
+-- an index of a tree of this kind, how many indexes, and an entry
 unfoldable pub index_of : Kind → List ℕ → Result ℕ Why
 index_of kind field = number_of (greatest_of kind) field
+
+unfoldable pub size_of : List ℕ → Result ℕ Why
+size_of field = number_of (2 ^ 64 - 1) field
 
 unfoldable pub entry_number_of : List ℕ → Result ℕ Why
 entry_number_of field = number_of (2 ^ 64 - 1) field
@@ -57,9 +62,17 @@ as_count (Err other) = Err why.Count
 unfoldable pub count_of : List ℕ → Result ℕ Why
 count_of field = as_count (number_of (2 ^ 64 - 1) field)
 
+-- a lane: a number from 0 to 15
+abbrev pub as_lane : Result ℕ Why → Result ℕ Why
+as_lane (Ok n) = if nat_lt n most_lanes then Ok n else Err why.LaneNo
+as_lane (Err other) = Err why.LaneNo
+
+unfoldable pub lane_number_of : List ℕ → Result ℕ Why
+lane_number_of field = as_lane (number_of (2 ^ 64 - 1) field)
+
 -- where the tree of this name stands, where these are declared
 abbrev pub place_of : List KnownTree → List ℕ → Option ℕ
-place_of trees name = position (λ tree. bytes_eq tree.name name) trees
+place_of trees name = position (bytes_eq name) (map (λ tree. tree.name) trees)
 
 -- the tree that stands at a place: its number and its kind
 abbrev pub tree_at : List KnownTree → ℕ → Option NumberedTree
@@ -75,11 +88,11 @@ new_name_of trees name =
     if is_name name then (if is_some (place_of trees name) then Err why.Twice else Ok name)
     else Err why.Name
 
--- trees that find room for ranges are not built yet
+-- the kind of a tree that is to be declared
 unfoldable pub kind_of : List ℕ → Result Kind Why
 kind_of field =
     if bytes_eq field (codes "range") then Ok kinds.Range
-    else (if bytes_eq field (codes "alloc") then Err why.NotYet
+    else (if bytes_eq field (codes "alloc") then Ok kinds.Alloc
     else Err why.BadKind)
 
 -- what was read so far: the declared trees, whether a step of this phase stands there, the sum of the counts of all
@@ -93,19 +106,25 @@ pub record Read : Type 0 where
 
 -- ---- the words of the language
 
--- the words of what is not built yet
+-- the words whose meaning is defined, and not built yet
 abbrev pub unbuilt_words : List (List ℕ)
-unbuilt_words = codes "alloc" ∷ codes "ralloc" ∷ codes "gap" ∷ codes "rgap" ∷ codes "join" ∷ codes "dup" ∷ codes "check" ∷ codes "pstore" ∷ codes "lane" ∷ []
-
-unfoldable pub unbuilt_of : List ℕ → Result Keyword Why
-unbuilt_of word = if list_any (bytes_eq word) unbuilt_words then Err why.NotYet else Err why.Unknown
+unbuilt_words = codes "lane" ∷ []
 
 unfoldable pub keyword_of : List ℕ → Result Keyword Why
 keyword_of word =
     if bytes_eq word (codes "tree") then Ok keyword.Tree
+    else (if bytes_eq word (codes "dup") then Ok keyword.Dup
+    else (if bytes_eq word (codes "check") then Ok keyword.Check
+    else (if bytes_eq word (codes "lane") then Ok keyword.Lane
+    else (if bytes_eq word (codes "join") then Ok keyword.Join
     else (if bytes_eq word (codes "store") then Ok keyword.Store
+    else (if bytes_eq word (codes "pstore") then Ok keyword.StorePre
     else (if bytes_eq word (codes "insert") then Ok keyword.Insert
     else (if bytes_eq word (codes "erase") then Ok keyword.Erase
+    else (if bytes_eq word (codes "alloc") then Ok keyword.Alloc
+    else (if bytes_eq word (codes "ralloc") then Ok keyword.Ralloc
+    else (if bytes_eq word (codes "gap") then Ok keyword.Gap
+    else (if bytes_eq word (codes "rgap") then Ok keyword.Rgap
     else (if bytes_eq word (codes "clear") then Ok keyword.Clear
     else (if bytes_eq word (codes "load") then Ok keyword.Load
     else (if bytes_eq word (codes "find") then Ok keyword.Find
@@ -113,7 +132,11 @@ keyword_of word =
     else (if bytes_eq word (codes "prev") then Ok keyword.Prev
     else (if bytes_eq word (codes "rfind") then Ok keyword.Rfind
     else (if bytes_eq word (codes "scan") then Ok keyword.Scan
-    else unbuilt_of word))))))))))
+    else Err why.Unknown)))))))))))))))))))
+
+-- a word that is built
+unfoldable pub built_keyword_of : List ℕ → Result Keyword Why
+built_keyword_of word = if list_any (bytes_eq word) unbuilt_words then Err why.NotYet else keyword_of word
 
 -- ---- the fields behind a line's word, tested one by one from the left, where their number is right
 
@@ -121,9 +144,9 @@ keyword_of word =
 unfoldable pub before_steps : Read → Result (Unit {0}) Why
 before_steps r = if r.stepped then Err why.Order else Ok tt
 
--- a second tree is not built yet
+-- a line that declares one more tree
 unfoldable pub room_for_tree : Read → Result (Unit {0}) Why
-room_for_tree r = if length r.trees == 0 then Ok tt else Err why.NotYet
+room_for_tree r = if nat_lt (length r.trees) most_trees then Ok tt else Err why.Trees
 
 -- all scans of a log have so many steps at the most, by their counts
 abbrev pub most_scan_steps : ℕ
@@ -142,6 +165,36 @@ tree_item r (name ∷ kind ∷ []) = do
   Ok (Tree n k)
 tree_item r fields = Err why.Fields
 
+-- T and the name of its copy
+unfoldable pub dup_item : Read → List (List ℕ) → Result Item Why
+dup_item r (name ∷ copy ∷ []) = do
+  tree ← tree_of r.trees name
+  n ← new_name_of r.trees copy
+  before ← before_steps r
+  room ← room_for_tree r
+  Ok (Dup tree.number n)
+dup_item r fields = Err why.Fields
+
+-- T, to be checked
+unfoldable pub check_item : Read → List (List ℕ) → Result Item Why
+check_item r (name ∷ []) = do
+  tree ← tree_of r.trees name
+  before ← before_steps r
+  Ok (Check tree.number)
+check_item r fields = Err why.Fields
+
+-- N: the lane of the steps behind it
+unfoldable pub lane_item : List (List ℕ) → Result Item Why
+lane_item (lane ∷ []) = do
+  n ← lane_number_of lane
+  Ok (Lane n)
+lane_item fields = Err why.Fields
+
+-- nothing: the end of a phase
+unfoldable pub join_item : List (List ℕ) → Result Item Why
+join_item [] = Ok Join
+join_item (field ∷ fields) = Err why.Fields
+
 -- T F L E: a range and an entry
 unfoldable pub range_item : (ℕ → ℕ → ℕ → Call) → List KnownTree → List (List ℕ) → Result Item Why
 range_item call trees (name ∷ first ∷ last ∷ entry ∷ []) = do
@@ -151,6 +204,29 @@ range_item call trees (name ∷ first ∷ last ∷ entry ∷ []) = do
   e ← entry_number_of entry
   Ok (Write tree.number (call a b e))
 range_item call trees fields = Err why.Fields
+
+-- T SIZE MIN MAX: so many indexes, and where they may lie
+unfoldable pub area_of : List KnownTree → List ℕ → List ℕ → List ℕ → List ℕ → Result Area Why
+area_of trees name size min max = do
+  tree ← tree_of trees name
+  n ← size_of size
+  a ← index_of tree.kind min
+  b ← index_of tree.kind max
+  Ok (record { tree = tree.number; size = n; min = a; max = b })
+
+unfoldable pub area_item : (ℕ → ℕ → ℕ → Call) → List KnownTree → List (List ℕ) → Result Item Why
+area_item call trees (name ∷ size ∷ min ∷ max ∷ []) = do
+  area ← area_of trees name size min max
+  Ok (Write area.tree (call area.size area.min area.max))
+area_item call trees fields = Err why.Fields
+
+-- T SIZE MIN MAX E: the same, and an entry
+unfoldable pub area_entry_item : (ℕ → ℕ → ℕ → ℕ → Call) → List KnownTree → List (List ℕ) → Result Item Why
+area_entry_item call trees (name ∷ size ∷ min ∷ max ∷ entry ∷ []) = do
+  area ← area_of trees name size min max
+  e ← entry_number_of entry
+  Ok (Write area.tree (call area.size area.min area.max e))
+area_entry_item call trees fields = Err why.Fields
 
 -- T I: an index
 unfoldable pub index_item : (ℕ → ℕ → Item) → List KnownTree → List (List ℕ) → Result Item Why
@@ -189,9 +265,18 @@ whole_item item trees fields = Err why.Fields
 
 unfoldable pub item_by : Keyword → Read → List (List ℕ) → Result Item Why
 item_by keyword.Tree r fields = tree_item r fields
+item_by keyword.Dup r fields = dup_item r fields
+item_by keyword.Check r fields = check_item r fields
+item_by keyword.Lane r fields = lane_item fields
+item_by keyword.Join r fields = join_item fields
 item_by keyword.Store r fields = range_item Store r.trees fields
+item_by keyword.StorePre r fields = range_item StorePre r.trees fields
 item_by keyword.Insert r fields = range_item Insert r.trees fields
 item_by keyword.Erase r fields = index_item (λ tree index. Write tree (Erase index)) r.trees fields
+item_by keyword.Alloc r fields = area_entry_item Alloc r.trees fields
+item_by keyword.Ralloc r fields = area_entry_item Ralloc r.trees fields
+item_by keyword.Gap r fields = area_item Gap r.trees fields
+item_by keyword.Rgap r fields = area_item Rgap r.trees fields
 item_by keyword.Clear r fields = whole_item (λ tree. Write tree Clear) r.trees fields
 item_by keyword.Load r fields = index_item (λ tree index. Ask tree (Load index)) r.trees fields
 item_by keyword.Find r fields = bound_item Find r.trees fields
@@ -203,7 +288,7 @@ item_by keyword.Scan r fields = scan_item r fields
 -- what the fields of a line say, behind what was read
 unfoldable pub item_of : Read → List (List ℕ) → Result Item Why
 item_of r [] = Err why.Unknown
-item_of r (word ∷ fields) = keyword_of word >>= λ k. item_by k r fields
+item_of r (word ∷ fields) = built_keyword_of word >>= λ k. item_by k r fields
 
 abbrev pub fields_of : List ℕ → List (List ℕ)
 fields_of line = slice_split (λ b. b == 32) line
@@ -212,22 +297,13 @@ fields_of line = slice_split (λ b. b == 32) line
 abbrev pub nothing_read : Read
 nothing_read = record { trees = []; stepped = false; scanned = 0; lines = []; next = 2 }
 
--- a call, a query or a scan is a step; a line that declares a tree is none
-abbrev pub is_step : Item → Bool
-is_step (Tree name kind) = false
-is_step (Write tree call) = true
-is_step (Ask tree query) = true
-is_step (Scan tree index max count) = true
-
 -- how many steps it has by its count, where it is a scan
 abbrev pub scan_steps_of : Item → ℕ
-scan_steps_of (Tree name kind) = 0
-scan_steps_of (Write tree call) = 0
-scan_steps_of (Ask tree query) = 0
 scan_steps_of (Scan tree index max count) = count
+scan_steps_of item = 0
 
 abbrev pub after_item : Read → Item → Read
-after_item r item = record { trees = known_after r.trees item; stepped = r.stepped || is_step item; scanned = r.scanned + scan_steps_of item; lines = r.lines ++ record { number = r.next; item = item } ∷ []; next = r.next + 1 }
+after_item r item = record { trees = known_after r.trees item; stepped = stepped_after r.stepped item; scanned = r.scanned + scan_steps_of item; lines = r.lines ++ record { number = r.next; item = item } ∷ []; next = r.next + 1 }
 
 -- a line that is empty or begins with `#` is skipped
 abbrev pub is_skipped : List ℕ → Bool

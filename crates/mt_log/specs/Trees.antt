@@ -1,32 +1,30 @@
--- The trees that a log declares, numbered from 0 in the order of their lines, and the steps that name them.
-use Rattle.std.specs.Prelude.{◌≡◌, ℕ, All, List, [], ◌∷◌, ◌++◌, Option, Some, None, ◌+◌, ◌<◌, length, map}
+-- The trees that a log declares, numbered from 0 in the order of their lines, and the lines that name them.
+-- Source: this project's own, the language of logs.
+use Rattle.std.specs.Prelude.{ℕ, false, List, [], ◌∷◌, ◌++◌, Option, Some, None, ◌+◌, ◌<◌, ◌≤◌, length, map, slice_get}
 use Rattle.std.specs.Option.{option_map, option_to_list}
-use Rattle.mt_base.specs.declared.kinds.Kind.TheVariants as kinds
 use Rattle.mt_log.specs.declared.lines.Item.{Item}
-use Rattle.mt_log.specs.declared.lines.Item.TheVariants.{Tree, Write, Ask, Scan}
+use Rattle.mt_log.specs.declared.lines.Item.TheVariants.{Tree, Lane, Join, Dup, Check, Write, Ask, Scan}
 use Rattle.mt_log.specs.declared.lines.Line.{Line}
 use Rattle.mt_log.specs.declared.trees.KnownTree.{KnownTree}
+use Rattle.mt_log.specs.Phases.{AreInPlaceFrom, phase_after}
 
--- the phase of the lines behind this one: no line ends a phase yet
-abbrev pub phase_after : ℕ → Item → ℕ
-phase_after phase (Tree name kind) = phase
-phase_after phase (Write tree call) = phase
-phase_after phase (Ask tree query) = phase
-phase_after phase (Scan tree index max count) = phase
+-- a copy of a tree under another name is of the same kind
+abbrev pub renamed : List ℕ → KnownTree → KnownTree
+renamed name tree = record { name = name; kind = tree.kind }
 
 -- the tree that a line declares, where these are known before it
 abbrev pub known_by : List KnownTree → Item → Option KnownTree
 known_by trees (Tree name kind) = Some (record { name = name; kind = kind })
-known_by trees (Write tree call) = None
-known_by trees (Ask tree query) = None
-known_by trees (Scan tree index max count) = None
+known_by trees (Dup from name) = option_map (renamed name) (slice_get trees from)
+known_by trees item = None
 
 abbrev pub known_after : List KnownTree → Item → List KnownTree
 known_after trees item = trees ++ option_to_list (known_by trees item)
 
--- how a declared tree opens: empty
+-- how a declared tree opens: empty, or as another tree stands when a phase begins
 pub data Opening : Type 0 where
   Empty : Opening
+  CopyOf : (tree phase : ℕ) → Opening
 
 -- a tree as a log declares it
 pub record Declared : Type 0 where
@@ -35,6 +33,7 @@ pub record Declared : Type 0 where
 
 -- how the tree opens that a line of this phase declares
 abbrev pub opening_by : ℕ → Item → Opening
+opening_by phase (Dup from name) = CopyOf from phase
 opening_by phase item = Empty
 
 -- the tree that a line of this phase declares, where these were declared before it
@@ -49,9 +48,20 @@ trees_from trees phase (line ∷ lines) = trees_from (trees ++ option_to_list (d
 abbrev pub trees_of : List Line → List Declared
 trees_of lines = trees_from [] 0 lines
 
--- the tree that a step names is one of so many
+-- a log has so many trees and so many lanes at the most
+abbrev pub most_trees : ℕ
+most_trees = 16
+
+abbrev pub most_lanes : ℕ
+most_lanes = 16
+
+-- the tree that a line names is one of so many, and the lane is one of those that there are
 abbrev pub NamesBelow : ℕ → Item → Type 0
 NamesBelow count (Tree name kind) = Unit {0}
+NamesBelow count (Lane lane) = lane < most_lanes
+NamesBelow count Join = Unit {0}
+NamesBelow count (Dup from name) = from < count
+NamesBelow count (Check tree) = tree < count
 NamesBelow count (Write tree call) = tree < count
 NamesBelow count (Ask tree query) = tree < count
 NamesBelow count (Scan tree index max steps) = tree < count
@@ -59,24 +69,19 @@ NamesBelow count (Scan tree index max steps) = tree < count
 -- how many trees are declared after a line, where so many were before it
 abbrev pub count_after : ℕ → Item → ℕ
 count_after count (Tree name kind) = count + 1
-count_after count (Write tree call) = count
-count_after count (Ask tree query) = count
-count_after count (Scan tree index max steps) = count
+count_after count (Dup from name) = count + 1
+count_after count item = count
 
--- each step names a tree that is declared at an earlier line, where so many were before these lines
+-- each of these lines names trees that are declared at earlier lines, where so many were before them
 abbrev pub AreNamedFrom : ℕ → List Line → Type 0
 AreNamedFrom count [] = Unit {0}
 AreNamedFrom count (line ∷ lines) = NamesBelow count line.item × AreNamedFrom (count_after count line.item) lines
 
--- what a line may say, where so many trees were declared before it
-abbrev pub MayFollow : ℕ → Item → Type 0
-MayFollow count (Tree name kind) = (count < 1) × (kind ≡ kinds.Range)
-MayFollow count (Write tree call) = tree < count
-MayFollow count (Ask tree query) = tree < count
-MayFollow count (Scan tree index max steps) = tree < count
-
--- what every log keeps that can be read: its steps name declared trees, and it declares one tree at the most, for ranges
+-- what every log keeps that can be read
 pub record IsReadable (lines : List Line) : Type 0 where
+  -- its lines name trees that are declared before them
   pub named : AreNamedFrom 0 lines
-  pub one_tree : length (trees_of lines) < 2
-  pub for_ranges : All (λ d. d.tree.kind ≡ kinds.Range) (trees_of lines)
+  -- trees are declared, copied and checked before the first step of their phase
+  pub placed : AreInPlaceFrom false lines
+  -- and are so many at the most
+  pub few : length (trees_of lines) ≤ most_trees

@@ -22,10 +22,14 @@ pub enum Why {
     BadKind,
     /// A field is no number.
     Number,
+    /// A lane is no number, or is above 15.
+    LaneNo,
     /// The count of a scan is no number, or is 0 or too large.
     Count,
     /// The line stands behind a step of its phase, and has to stand before it.
     Order,
+    /// With this line the log would declare more than 16 trees.
+    Trees,
     /// With this line the scans have too many steps.
     Scans,
     /// The line is of the language, and of what is not built yet.
@@ -51,8 +55,10 @@ impl Why {
             Why::Twice => "tree declared twice",
             Why::BadKind => "bad kind",
             Why::Number => "bad number",
+            Why::LaneNo => "bad lane",
             Why::Count => "bad count",
             Why::Order => "not between phases",
+            Why::Trees => "too many trees",
             Why::Scans => "too many scan steps",
             Why::NotYet => "not yet",
         }

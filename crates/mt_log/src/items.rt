@@ -4,48 +4,23 @@ ghost use Rattle.mt_base.specs.declared.calls.Call.{Call};
 ghost use Rattle.mt_base.specs.declared.calls.Query.{Query};
 ghost use Rattle.mt_log.specs.declared.lines.Item.{Item};
 ghost use Rattle.mt_log.specs.declared.lines.Item.TheVariants as items;
-ghost use Rattle.mt_log.specs.Reading.{tree_item, range_item, index_item, bound_item, scan_item, whole_item, item_by, item_of};
-ghost use Rattle.mt_log.specs.Reader.{HasScanRoom};
-ghost use Rattle.mt_log.specs.Trees.{MayFollow};
+ghost use Rattle.mt_log.specs.Reading.{range_item, area_of, area_item, area_entry_item, index_item, bound_item, scan_item, whole_item, item_by, item_of};
+ghost use Rattle.mt_log.specs.Reader.{MayFollow};
 
+use crate::areas::Area;
+use crate::between_phases::{check_item, dup_item, lane_in, nothing_in, tree_item};
 use crate::faults::Why;
-use crate::fields::{kind_of, new_name_of, tree_of};
-use crate::keywords::{Keyword, keyword_of, words};
+use crate::fields::tree_of;
+use crate::keywords::{Keyword, built_keyword_of, words};
 use crate::lines::Item;
-use crate::numbers::{count_of, entry_number_of, index_of};
+use crate::numbers::{count_of, entry_number_of, index_of, size_of};
 use crate::reader::Reader;
-use crate::trees::KnownTree;
+use crate::trees::Trees;
 use mt_base::{Call, Query, Range};
-
-#[tactic(auto, unfolding(crate::specs::Reading::tree_item))]
-fn declaration(reader: &Reader, name: &[u8], kind: &[u8]) -> Result<Item, Why>
-    ensures item { result ≡ tree_item reader.now (name.now ∷ kind.now ∷ []) }
-    ensures follows { IfOk result (MayFollow (length reader.now.trees)) }
-    ensures room { IfOk result (HasScanRoom reader.now) }
-{
-    let name = new_name_of(reader.trees(), name)?;
-    let kind = kind_of(kind)?;
-    reader.before_steps()?;
-    reader.room_for_tree()?;
-    Ok(Item::Tree { name, kind })
-}
-
-/// The declaration of a tree.
-#[tactic(auto, unfolding(crate::specs::Reading::tree_item))]
-fn tree_item(reader: &Reader, fields: &[&[u8]]) -> Result<Item, Why>
-    ensures item { result ≡ tree_item reader.now (map (λ f. f.now) fields.now) }
-    ensures follows { IfOk result (MayFollow (length reader.now.trees)) }
-    ensures room { IfOk result (HasScanRoom reader.now) }
-{
-    match fields {
-        &[name, kind] => declaration(reader, name, kind),
-        _ => Err(Why::Fields),
-    }
-}
 
 #[tactic(auto, unfolding(crate::specs::Reading::range_item))]
 fn range_in(
-    trees: &[KnownTree],
+    trees: &Trees,
     name: &[u8],
     first: &[u8],
     last: &[u8],
@@ -64,7 +39,7 @@ fn range_in(
 
 /// The tree, the range and the entry of a line.
 #[tactic(auto, unfolding(crate::specs::Reading::range_item))]
-fn range_of(trees: &[KnownTree], fields: &[&[u8]]) -> Result<(u32, Range), Why>
+fn range_of(trees: &Trees, fields: &[&[u8]]) -> Result<(u32, Range), Why>
     requires { length trees.now < 2 ^ 32 }
     ensures item { (call : ℕ → ℕ → ℕ → Call) → range_item call trees.now (map (λ f. f.now) fields.now) ≡ result_map_both (λ p. items.Write p.0 (call p.1.first p.1.last p.1.entry)) (λ why. why) result }
     ensures declared { IfOk result (λ p. p.0 < length trees.now) }
@@ -75,8 +50,70 @@ fn range_of(trees: &[KnownTree], fields: &[&[u8]]) -> Result<(u32, Range), Why>
     }
 }
 
+#[tactic(auto, unfolding(crate::specs::Reading::area_of))]
+fn area_of(trees: &Trees, name: &[u8], size: &[u8], min: &[u8], max: &[u8]) -> Result<Area, Why>
+    requires { length trees.now < 2 ^ 32 }
+    ensures area { result ≡ area_of trees.now name.now size.now min.now max.now }
+    ensures declared { IfOk result (λ area. area.tree < length trees.now) }
+{
+    let tree = tree_of(trees, name)?;
+    let size = size_of(size)?;
+    let min = index_of(min, tree.kind)?;
+    let max = index_of(max, tree.kind)?;
+    Ok(Area {
+        tree: tree.number,
+        size,
+        min,
+        max,
+    })
+}
+
+/// The tree of a line, how many indexes, and where they may lie.
+#[tactic(auto, unfolding(crate::specs::Reading::area_item))]
+fn area_in(trees: &Trees, fields: &[&[u8]]) -> Result<Area, Why>
+    requires { length trees.now < 2 ^ 32 }
+    ensures item { (call : ℕ → ℕ → ℕ → Call) → area_item call trees.now (map (λ f. f.now) fields.now) ≡ result_map_both (λ a. items.Write a.tree (call a.size a.min a.max)) (λ why. why) result }
+    ensures declared { IfOk result (λ area. area.tree < length trees.now) }
+{
+    match fields {
+        &[name, size, min, max] => area_of(trees, name, size, min, max),
+        _ => Err(Why::Fields),
+    }
+}
+
+#[tactic(auto, unfolding(crate::specs::Reading::area_entry_item))]
+fn entered_area(
+    trees: &Trees,
+    name: &[u8],
+    size: &[u8],
+    min: &[u8],
+    max: &[u8],
+    entry: &[u8],
+) -> Result<(Area, u64), Why>
+    requires { length trees.now < 2 ^ 32 }
+    ensures item { (call : ℕ → ℕ → ℕ → ℕ → Call) → area_entry_item call trees.now (name.now ∷ size.now ∷ min.now ∷ max.now ∷ entry.now ∷ []) ≡ result_map_both (λ p. items.Write p.0.tree (call p.0.size p.0.min p.0.max p.1)) (λ why. why) result }
+    ensures declared { IfOk result (λ p. p.0.tree < length trees.now) }
+{
+    let area = area_of(trees, name, size, min, max)?;
+    let entry = entry_number_of(entry)?;
+    Ok((area, entry))
+}
+
+/// The same with an entry.
+#[tactic(auto, unfolding(crate::specs::Reading::area_entry_item))]
+fn area_and_entry(trees: &Trees, fields: &[&[u8]]) -> Result<(Area, u64), Why>
+    requires { length trees.now < 2 ^ 32 }
+    ensures item { (call : ℕ → ℕ → ℕ → ℕ → Call) → area_entry_item call trees.now (map (λ f. f.now) fields.now) ≡ result_map_both (λ p. items.Write p.0.tree (call p.0.size p.0.min p.0.max p.1)) (λ why. why) result }
+    ensures declared { IfOk result (λ p. p.0.tree < length trees.now) }
+{
+    match fields {
+        &[name, size, min, max, entry] => entered_area(trees, name, size, min, max, entry),
+        _ => Err(Why::Fields),
+    }
+}
+
 #[tactic(auto, unfolding(crate::specs::Reading::index_item))]
-fn index_in(trees: &[KnownTree], name: &[u8], index: &[u8]) -> Result<(u32, u64), Why>
+fn index_in(trees: &Trees, name: &[u8], index: &[u8]) -> Result<(u32, u64), Why>
     requires { length trees.now < 2 ^ 32 }
     ensures item { (item : ℕ → ℕ → Item) → index_item item trees.now (name.now ∷ index.now ∷ []) ≡ result_map_both (λ p. item p.0 p.1) (λ why. why) result }
     ensures declared { IfOk result (λ p. p.0 < length trees.now) }
@@ -88,7 +125,7 @@ fn index_in(trees: &[KnownTree], name: &[u8], index: &[u8]) -> Result<(u32, u64)
 
 /// The tree and the index of a line.
 #[tactic(auto, unfolding(crate::specs::Reading::index_item))]
-fn tree_and_index(trees: &[KnownTree], fields: &[&[u8]]) -> Result<(u32, u64), Why>
+fn tree_and_index(trees: &Trees, fields: &[&[u8]]) -> Result<(u32, u64), Why>
     requires { length trees.now < 2 ^ 32 }
     ensures item { (item : ℕ → ℕ → Item) → index_item item trees.now (map (λ f. f.now) fields.now) ≡ result_map_both (λ p. item p.0 p.1) (λ why. why) result }
     ensures declared { IfOk result (λ p. p.0 < length trees.now) }
@@ -100,12 +137,7 @@ fn tree_and_index(trees: &[KnownTree], fields: &[&[u8]]) -> Result<(u32, u64), W
 }
 
 #[tactic(auto, unfolding(crate::specs::Reading::bound_item))]
-fn bound_in(
-    trees: &[KnownTree],
-    name: &[u8],
-    index: &[u8],
-    bound: &[u8],
-) -> Result<(u32, u64, u64), Why>
+fn bound_in(trees: &Trees, name: &[u8], index: &[u8], bound: &[u8]) -> Result<(u32, u64, u64), Why>
     requires { length trees.now < 2 ^ 32 }
     ensures item { (query : ℕ → ℕ → Query) → bound_item query trees.now (name.now ∷ index.now ∷ bound.now ∷ []) ≡ result_map_both (λ p. items.Ask p.0 (query p.1 p.2)) (λ why. why) result }
     ensures declared { IfOk result (λ p. p.0 < length trees.now) }
@@ -118,7 +150,7 @@ fn bound_in(
 
 /// The tree of a line, its index and its bound.
 #[tactic(auto, unfolding(crate::specs::Reading::bound_item))]
-fn tree_and_bound(trees: &[KnownTree], fields: &[&[u8]]) -> Result<(u32, u64, u64), Why>
+fn tree_and_bound(trees: &Trees, fields: &[&[u8]]) -> Result<(u32, u64, u64), Why>
     requires { length trees.now < 2 ^ 32 }
     ensures item { (query : ℕ → ℕ → Query) → bound_item query trees.now (map (λ f. f.now) fields.now) ≡ result_map_both (λ p. items.Ask p.0 (query p.1 p.2)) (λ why. why) result }
     ensures declared { IfOk result (λ p. p.0 < length trees.now) }
@@ -139,8 +171,7 @@ fn scan_in(
 ) -> Result<Item, Why>
     requires { length reader.now.trees < 2 ^ 32 }
     ensures item { result ≡ scan_item reader.now (name.now ∷ index.now ∷ max.now ∷ count.now ∷ []) }
-    ensures follows { IfOk result (MayFollow (length reader.now.trees)) }
-    ensures room { IfOk result (HasScanRoom reader.now) }
+    ensures follows { IfOk result (MayFollow reader.now) }
 {
     let tree = tree_of(reader.trees(), name)?;
     let index = index_of(index, tree.kind)?;
@@ -160,8 +191,7 @@ fn scan_in(
 fn scan_item(reader: &Reader, fields: &[&[u8]]) -> Result<Item, Why>
     requires { length reader.now.trees < 2 ^ 32 }
     ensures item { result ≡ scan_item reader.now (map (λ f. f.now) fields.now) }
-    ensures follows { IfOk result (MayFollow (length reader.now.trees)) }
-    ensures room { IfOk result (HasScanRoom reader.now) }
+    ensures follows { IfOk result (MayFollow reader.now) }
 {
     match fields {
         &[name, index, max, count] => scan_in(reader, name, index, max, count),
@@ -170,7 +200,7 @@ fn scan_item(reader: &Reader, fields: &[&[u8]]) -> Result<Item, Why>
 }
 
 #[tactic(auto, unfolding(crate::specs::Reading::whole_item))]
-fn whole_in(trees: &[KnownTree], name: &[u8]) -> Result<u32, Why>
+fn whole_in(trees: &Trees, name: &[u8]) -> Result<u32, Why>
     requires { length trees.now < 2 ^ 32 }
     ensures item { (item : ℕ → Item) → whole_item item trees.now (name.now ∷ []) ≡ result_map_both item (λ why. why) result }
     ensures declared { IfOk result (λ tree. tree < length trees.now) }
@@ -181,7 +211,7 @@ fn whole_in(trees: &[KnownTree], name: &[u8]) -> Result<u32, Why>
 
 /// The tree of a line that names it alone.
 #[tactic(auto, unfolding(crate::specs::Reading::whole_item))]
-fn whole_tree(trees: &[KnownTree], fields: &[&[u8]]) -> Result<u32, Why>
+fn whole_tree(trees: &Trees, fields: &[&[u8]]) -> Result<u32, Why>
     requires { length trees.now < 2 ^ 32 }
     ensures item { (item : ℕ → Item) → whole_item item trees.now (map (λ f. f.now) fields.now) ≡ result_map_both item (λ why. why) result }
     ensures declared { IfOk result (λ tree. tree < length trees.now) }
@@ -197,9 +227,49 @@ macro_rules! said_as {
     (declaration; $reader:ident, $trees:ident, $fields:ident) => {
         tree_item($reader, $fields)
     };
+    (copy; $reader:ident, $trees:ident, $fields:ident) => {
+        dup_item($reader, $fields)
+    };
+    (check; $reader:ident, $trees:ident, $fields:ident) => {
+        check_item($reader, $fields)
+    };
+    (lane; $reader:ident, $trees:ident, $fields:ident) => {{
+        let lane = lane_in($fields)?;
+        Ok(Item::Lane { lane })
+    }};
+    (join; $reader:ident, $trees:ident, $fields:ident) => {{
+        nothing_in($fields)?;
+        Ok(Item::Join)
+    }};
     (range_call $call:ident; $reader:ident, $trees:ident, $fields:ident) => {{
         let (tree, Range { first, last, entry }) = range_of($trees, $fields)?;
         let call = Call::$call { first, last, entry };
+        Ok(Item::Write { tree, call })
+    }};
+    (area_call $call:ident; $reader:ident, $trees:ident, $fields:ident) => {{
+        let Area {
+            tree,
+            size,
+            min,
+            max,
+        } = area_in($trees, $fields)?;
+        let call = Call::$call { size, min, max };
+        Ok(Item::Write { tree, call })
+    }};
+    (area_entry_call $call:ident; $reader:ident, $trees:ident, $fields:ident) => {{
+        let (area, entry) = area_and_entry($trees, $fields)?;
+        let Area {
+            tree,
+            size,
+            min,
+            max,
+        } = area;
+        let call = Call::$call {
+            size,
+            min,
+            max,
+            entry,
+        };
         Ok(Item::Write { tree, call })
     }};
     (index_call $call:ident; $reader:ident, $trees:ident, $fields:ident) => {{
@@ -240,8 +310,7 @@ macro_rules! item_in {
 fn item_by(keyword: Keyword, reader: &Reader, fields: &[&[u8]]) -> Result<Item, Why>
     requires { length reader.now.trees < 2 ^ 32 }
     ensures item { result ≡ item_by keyword reader.now (map (λ f. f.now) fields.now) }
-    ensures follows { IfOk result (MayFollow (length reader.now.trees)) }
-    ensures room { IfOk result (HasScanRoom reader.now) }
+    ensures follows { IfOk result (MayFollow reader.now) }
 {
     let trees = reader.trees();
     words!(item_in, keyword, reader, trees, fields)
@@ -252,12 +321,11 @@ fn item_by(keyword: Keyword, reader: &Reader, fields: &[&[u8]]) -> Result<Item, 
 pub fn item_of(reader: &Reader, fields: &[&[u8]]) -> Result<Item, Why>
     requires { length reader.now.trees < 2 ^ 32 }
     ensures item { result ≡ item_of reader.now (map (λ f. f.now) fields.now) }
-    ensures follows { IfOk result (MayFollow (length reader.now.trees)) }
-    ensures room { IfOk result (HasScanRoom reader.now) }
+    ensures follows { IfOk result (MayFollow reader.now) }
 {
     let [word, fields @ ..] = fields else {
         return Err(Why::Unknown);
     };
-    let keyword = keyword_of(word)?;
+    let keyword = built_keyword_of(word)?;
     item_by(keyword, reader, fields)
 }

@@ -1,7 +1,7 @@
 ghost use Rattle.std.specs.Prelude.{◌≡◌};
 ghost use Rattle.std.specs.List.{list_any};
 ghost use Rattle.std.specs.Str.{bytes_eq};
-ghost use Rattle.mt_log.specs.Reading.{keyword_of, unbuilt_of, unbuilt_words};
+ghost use Rattle.mt_log.specs.Reading.{keyword_of, built_keyword_of, unbuilt_words};
 
 use crate::faults::Why;
 
@@ -9,9 +9,18 @@ use crate::faults::Why;
 #[derive(Clone, Copy, Debug, PartialEq, Eq)]
 pub enum Keyword {
     Tree,
+    Dup,
+    Check,
+    Lane,
+    Join,
     Store,
+    StorePre,
     Insert,
     Erase,
+    Alloc,
+    Ralloc,
+    Gap,
+    Rgap,
     Clear,
     Load,
     Find,
@@ -27,9 +36,18 @@ macro_rules! words {
     ($then:ident, $($argument:tt)*) => {
         $then!($($argument)*,
             "tree" Tree declaration(),
+            "dup" Dup copy(),
+            "check" Check check(),
+            "lane" Lane lane(),
+            "join" Join join(),
             "store" Store range_call(Store),
+            "pstore" StorePre range_call(StorePre),
             "insert" Insert range_call(Insert),
             "erase" Erase index_call(Erase),
+            "alloc" Alloc area_entry_call(Alloc),
+            "ralloc" Ralloc area_entry_call(Ralloc),
+            "gap" Gap area_call(Gap),
+            "rgap" Rgap area_call(Rgap),
             "clear" Clear whole_call(Clear),
             "load" Load index_query(Load),
             "find" Find bound_query(Find max),
@@ -63,26 +81,24 @@ macro_rules! is_one_of {
 fn is_unbuilt(word: &[u8]) -> bool
     ensures { result ≡ list_any (bytes_eq word.now) unbuilt_words }
 {
-    is_one_of!(
-        word, "alloc", "ralloc", "gap", "rgap", "join", "dup", "check", "pstore", "lane"
-    )
+    is_one_of!(word, "lane")
 }
 
-#[tactic(auto, unfolding(crate::specs::Reading::unbuilt_of))]
-fn unbuilt_of(word: &[u8]) -> Result<Keyword, Why>
-    ensures { result ≡ unbuilt_of word.now }
+/// The keyword that a word is.
+#[tactic(auto, unfolding(crate::specs::Reading::keyword_of))]
+fn keyword_of(word: &[u8]) -> Result<Keyword, Why>
+    ensures { result ≡ keyword_of word.now }
 {
-    if is_unbuilt(word) {
-        Err(Why::NotYet)
-    } else {
-        Err(Why::Unknown)
-    }
+    words!(keyword_in, word, Err(Why::Unknown))
 }
 
 /// The keyword that a line's first field is.
-#[tactic(auto, unfolding(crate::specs::Reading::keyword_of))]
-pub fn keyword_of(word: &[u8]) -> Result<Keyword, Why>
-    ensures { result ≡ keyword_of word.now }
+#[tactic(auto, unfolding(crate::specs::Reading::built_keyword_of))]
+pub fn built_keyword_of(word: &[u8]) -> Result<Keyword, Why>
+    ensures { result ≡ built_keyword_of word.now }
 {
-    words!(keyword_in, word, unbuilt_of(word))
+    if is_unbuilt(word) {
+        return Err(Why::NotYet);
+    }
+    keyword_of(word)
 }

@@ -1,6 +1,8 @@
 //! The log that the program reads, the transcript that it writes, and when a transcript is a run of a log.
 #![tactic(auto)]
 
+mod areas;
+mod between_phases;
 mod cuts;
 mod faults;
 mod fields;

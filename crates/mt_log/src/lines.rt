@@ -1,14 +1,25 @@
 use crate::names::Word;
-use crate::trees::KnownTree;
+use crate::trees::{KnownTree, Trees};
 use mt_base::{Call, Kind, Query};
 use std::marker::Model;
 
-/// What a line of a log says.
+/// What a line of a log says. Trees are numbered from 0 in the order of their lines, copies among them.
 #[derive(Clone, Copy)]
 pub enum Item {
     Tree {
         name: Word,
         kind: Kind,
+    },
+    Lane {
+        lane: u32,
+    },
+    Join,
+    Dup {
+        from: u32,
+        name: Word,
+    },
+    Check {
+        tree: u32,
     },
     Write {
         tree: u32,
@@ -27,31 +38,39 @@ pub enum Item {
 }
 
 impl Item {
-    ghost use Rattle.std.specs.Prelude.{◌≡◌, List};
-    ghost use Rattle.mt_log.specs.declared.trees.KnownTree.{KnownTree};
-    ghost use Rattle.mt_log.specs.Reading.{is_step, scan_steps_of};
+    ghost use Rattle.std.specs.Prelude.{◌≡◌};
+    ghost use Rattle.mt_log.specs.Phases.{stepped_after};
+    ghost use Rattle.mt_log.specs.Reading.{scan_steps_of};
     ghost use Rattle.mt_log.specs.Trees.{known_by};
 
-    /// The tree that it declares, whichever trees are known.
-    pub fn declares(&self) -> Option<KnownTree>
-        ensures { (trees : List KnownTree) → result ≡ known_by trees self.now }
+    /// The tree that it declares, where these are known before it.
+    pub fn declares(&self, trees: &Trees) -> Option<KnownTree>
+        ensures { result ≡ known_by trees.now self.now }
     {
         match self {
             Item::Tree { name, kind } => Some(KnownTree {
                 name: *name,
                 kind: *kind,
             }),
-            Item::Write { .. } | Item::Ask { .. } | Item::Scan { .. } => None,
+            Item::Dup { from, name } => Some(trees.get(*from as usize)?.renamed(*name)),
+            Item::Lane { .. }
+            | Item::Join
+            | Item::Check { .. }
+            | Item::Write { .. }
+            | Item::Ask { .. }
+            | Item::Scan { .. } => None,
         }
     }
 
-    /// Whether it is a call, a query or a scan.
-    pub fn is_step(&self) -> bool
-        ensures { result ≡ is_step self.now }
+    /// Whether a step of its phase stands before the next line, where one stands before this line or not.
+    pub fn stepped_after(&self, stepped: bool) -> bool
+        ensures { result ≡ stepped_after stepped self.now }
     {
         match self {
-            Item::Tree { .. } => false,
+            Item::Join => false,
             Item::Write { .. } | Item::Ask { .. } | Item::Scan { .. } => true,
+            Item::Tree { .. } | Item::Lane { .. } | Item::Dup { .. } | Item::Check { .. } =>
+                stepped,
         }
     }
 
@@ -61,7 +80,13 @@ impl Item {
     {
         match self {
             Item::Scan { count, .. } => *count,
-            Item::Tree { .. } | Item::Write { .. } | Item::Ask { .. } => 0,
+            Item::Tree { .. }
+            | Item::Lane { .. }
+            | Item::Join
+            | Item::Dup { .. }
+            | Item::Check { .. }
+            | Item::Write { .. }
+            | Item::Ask { .. } => 0,
         }
     }
 }

@@ -1,13 +1,17 @@
-ghost use Rattle.std.specs.Prelude.{◌≡◌, ◌<◌, ◌≤◌, ◌+◌, ◌*◌, ◌^◌, SomeIff};
+ghost use Rattle.std.specs.Prelude.{◌≡◌, ◌<◌, ◌≤◌, ◌+◌, ◌*◌, ◌^◌, IfOk, SomeIff};
 ghost use Rattle.std.specs.Char.{digit_value};
 ghost use Rattle.std.specs.Str.Parse.{AllDigits, digits_value};
-ghost use Rattle.mt_log.specs.Reading.{decimal_of, hexadecimal_of, number_of, index_of, entry_number_of, count_of};
+ghost use Rattle.mt_log.specs.Reading.{decimal_of, hexadecimal_of, number_of, index_of, size_of, entry_number_of, lane_number_of, count_of};
+ghost use Rattle.mt_log.specs.Trees.{most_lanes};
 
 use crate::faults::Why;
 use mt_base::{Kind, top, width_of};
 
 /// The most steps of one scan.
 const LONGEST_SCAN: u64 = 65_536;
+
+/// The greatest lane.
+const LAST_LANE: u64 = 15;
 
 /// The value of digits and one more, if this byte is a digit in the radix and the value is below 2^64.
 fn with_digit(value: u64, radix: u32, byte: u8) -> Option<u64>
@@ -79,12 +83,32 @@ pub fn index_of(field: &[u8], kind: Kind) -> Result<u64, Why>
     number_of(field, top(width_of(kind)))
 }
 
+/// The count of indexes that a field writes.
+#[tactic(auto, unfolding(crate::specs::Reading::size_of))]
+pub fn size_of(field: &[u8]) -> Result<u64, Why>
+    ensures { result ≡ size_of field.now }
+{
+    number_of(field, u64::MAX)
+}
+
 /// The entry that a field writes.
 #[tactic(auto, unfolding(crate::specs::Reading::entry_number_of))]
 pub fn entry_number_of(field: &[u8]) -> Result<u64, Why>
     ensures { result ≡ entry_number_of field.now }
 {
     number_of(field, u64::MAX)
+}
+
+/// The lane that a field writes.
+#[tactic(auto, unfolding(crate::specs::Reading::lane_number_of))]
+pub fn lane_number_of(field: &[u8]) -> Result<u32, Why>
+    ensures lane { result ≡ lane_number_of field.now }
+    ensures within { IfOk result (λ lane. lane < most_lanes) }
+{
+    match number_of(field, u64::MAX) {
+        Ok(lane @ 0..=LAST_LANE) => Ok(lane as u32),
+        Ok(_) | Err(_) => Err(Why::LaneNo),
+    }
 }
 
 /// The count of a scan that a field writes.

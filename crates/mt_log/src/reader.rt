@@ -1,16 +1,19 @@
 use crate::faults::Why;
 use crate::lines::{Item, Line};
-use crate::trees::KnownTree;
+use crate::trees::Trees;
 use std::alloc::{AllocError, Global};
 use std::marker::Model;
 
 /// The most steps that all scans of a log have, by their counts.
 const MOST_SCAN_STEPS: u64 = 1_000_000;
 
+/// The most trees that a log declares.
+const MOST_TREES: usize = 16;
+
 /// What was read so far.
 #[derive(Drop)]
 pub struct Reader {
-    trees: Vec<KnownTree>,
+    trees: Trees,
     stepped: bool,
     scanned: u64,
     lines: Vec<Line>,
@@ -22,21 +25,21 @@ impl Model for Reader {
 
     ghost Value = { Read };
 
-    ghost view = { λ r. record { trees = r.trees.items; stepped = r.stepped; scanned = r.scanned; lines = r.lines.items; next = r.next } };
+    ghost view = { λ r. record { trees = r.trees; stepped = r.stepped; scanned = r.scanned; lines = r.lines.items; next = r.next } };
 }
 
 impl Reader {
-    ghost use Rattle.std.specs.Prelude.{◌≡◌, ◌<◌, ◌≤◌, ◌+◌, ◌-◌, ◌^◌, OnOk, IfOk, length};
+    ghost use Rattle.std.specs.Prelude.{◌≡◌, ◌<◌, ◌≤◌, ◌+◌, ◌-◌, ◌^◌, OnOk, IfOk, false, length};
     ghost use Rattle.mt_log.specs.Reading.{nothing_read, after_item, after_skipped, before_steps, room_for_tree, room_for_scan, most_scan_steps};
-    ghost use Rattle.mt_log.specs.Reader.{HasScanRoom};
-    ghost use Rattle.mt_log.specs.Trees.{known_by};
+    ghost use Rattle.mt_log.specs.Reader.{MayFollow};
+    ghost use Rattle.mt_log.specs.Trees.{most_trees};
 
     /// A reader behind the first line, with room for so many lines that say something.
     pub fn new(alloc: Global, room: usize) -> Result<Self, AllocError>
         ensures { IfOk result (λ reader. reader ≡ nothing_read) }
     {
         Ok(Reader {
-            trees: Vec::new(alloc),
+            trees: Trees::new(alloc),
             stepped: false,
             scanned: 0,
             lines: Vec::with_capacity(alloc, room)?,
@@ -45,7 +48,7 @@ impl Reader {
     }
 
     /// The declared trees.
-    pub fn trees(&self) -> &[KnownTree]
+    pub fn trees(&self) -> &Trees
         ensures { result.now ≡ self.now.trees }
     {
         &self.trees
@@ -67,7 +70,8 @@ impl Reader {
     /// Whether a line may stand here that stands before the first step of its phase.
     #[tactic(auto, unfolding(crate::specs::Reading::before_steps))]
     pub fn before_steps(&self) -> Result<(), Why>
-        ensures { result ≡ before_steps self.now }
+        ensures place { result ≡ before_steps self.now }
+        ensures before { OnOk result (self.now.stepped ≡ false) }
     {
         if self.stepped {
             return Err(Why::Order);
@@ -79,10 +83,10 @@ impl Reader {
     #[tactic(auto, unfolding(crate::specs::Reading::room_for_tree))]
     pub fn room_for_tree(&self) -> Result<(), Why>
         ensures room { result ≡ room_for_tree self.now }
-        ensures first { IfOk result (λ _. length self.now.trees < 1) }
+        ensures within { OnOk result (length self.now.trees < most_trees) }
     {
-        if !self.trees.is_empty() {
-            return Err(Why::NotYet);
+        if self.trees.len() >= MOST_TREES {
+            return Err(Why::Trees);
         }
         Ok(())
     }
@@ -99,27 +103,20 @@ impl Reader {
         Ok(())
     }
 
-    /// The tree that a line declares.
-    fn declared_by(&self, item: &Item) -> Option<KnownTree>
-        ensures { result ≡ known_by self.now.trees item.now }
-    {
-        item.declares()
-    }
-
     /// Goes past a line that says this.
     pub fn add(&mut self, item: Item) -> Result<(), AllocError>
         requires next { self.old.next < 2 ^ 64 - 1 }
-        requires room { HasScanRoom self.old item }
+        requires follows { MayFollow self.old item }
         ensures { OnOk result (self.new ≡ after_item self.old item) }
     {
-        if let Some(tree) = self.declared_by(&item) {
+        if let Some(tree) = item.declares(&self.trees) {
             self.trees.push(tree)?;
         }
         self.lines.push(Line {
             number: self.next,
             item,
         })?;
-        self.stepped = self.stepped || item.is_step();
+        self.stepped = item.stepped_after(self.stepped);
         self.scanned += u64::from(item.scan_steps());
         self.next += 1;
         Ok(())

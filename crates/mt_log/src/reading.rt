@@ -1,9 +1,9 @@
 ghost use Rattle.std.specs.Prelude.{◌≡◌, ◌≤◌, ◌<◌, ◌^◌, ◌-◌, ◌==◌, IfOk, OnOk, length};
 ghost use Rattle.std.specs.List.{slice_split};
 ghost use Rattle.mt_log.specs.Fault.{Reads};
-ghost use Rattle.mt_log.specs.Reader.{HasScanRoom, IsSound};
+ghost use Rattle.mt_log.specs.Reader.{IsSound, MayFollow};
 ghost use Rattle.mt_log.specs.Reading.{fields_of, item_of, nothing_read, is_skipped, after_line, after_pieces, log_of};
-ghost use Rattle.mt_log.specs.Trees.{IsReadable, MayFollow};
+ghost use Rattle.mt_log.specs.Trees.{IsReadable};
 
 use crate::cuts::cut;
 use crate::faults::{LogError, Why};
@@ -28,8 +28,7 @@ fn is_skipped(line: &[u8]) -> bool
 fn said_in(reader: &Reader, line: &[u8]) -> Result<Item, Why>
     requires { length reader.now.trees < 2 ^ 32 }
     ensures item { result ≡ item_of reader.now (fields_of line.now) }
-    ensures follows { IfOk result (MayFollow (length reader.now.trees)) }
-    ensures room { IfOk result (HasScanRoom reader.now) }
+    ensures follows { IfOk result (MayFollow reader.now) }
 {
     item_of(reader, &fields_of(line))
 }

@@ -99,6 +99,8 @@ fn push_entry(
             writeln!(text, "{line} {call} {reply}")
         }
         Said::Got { lo, hi, value } => push_got(text, digits, line, lo, hi, value),
+        Said::Lawful { count } => writeln!(text, "{line} lawful {count}"),
+        Said::Copied { count } => writeln!(text, "{line} copied {count}"),
     }
 }
 

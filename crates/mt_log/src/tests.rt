@@ -9,6 +9,10 @@ fn push_meaning(text: &mut String, line: &Line) -> Result<(), AllocError> {
     let number = line.number;
     match line.item {
         Item::Tree { name, kind } => writeln!(text, "{number}: declares {name} for {kind}"),
+        Item::Lane { lane } => writeln!(text, "{number}: lane {lane}"),
+        Item::Join => writeln!(text, "{number}: joins"),
+        Item::Dup { from, name } => writeln!(text, "{number}: copies tree {from} as {name}"),
+        Item::Check { tree } => writeln!(text, "{number}: checks tree {tree}"),
         Item::Write { tree, call } => writeln!(text, "{number}: tree {tree}, {call:?}"),
         Item::Ask { tree, query } => writeln!(text, "{number}: tree {tree}, {query:?}"),
         Item::Scan {
@@ -79,6 +83,90 @@ scan abcdefghijklm_16 5 0x9 6
 }
 
 #[test]
+fn an_area_has_its_size_before_its_bounds(rt: HostRuntime) -> Result<(), Fail> {
+    let log = "mtlog 1
+tree b alloc
+alloc b 1 2 3 4
+ralloc b 0x5 6 7 max
+gap b max 8 9
+rgap b 10 11 max
+store b 0 9 1
+";
+    let want = "2: declares b for alloc
+3: tree 0, Alloc { size: 1, min: 2, max: 3, entry: 4 }
+4: tree 0, Ralloc { size: 5, min: 6, max: 7, entry: 18446744073709551615 }
+5: tree 0, Gap { size: 18446744073709551615, min: 8, max: 9 }
+6: tree 0, Rgap { size: 10, min: 11, max: 18446744073709551615 }
+7: tree 0, Store { first: 0, last: 9, entry: 1 }
+";
+    expect(&rt, rt.alloc(), log, want)?;
+    Ok(())
+}
+
+#[test]
+fn a_phase_begins_with_trees_that_are_declared_copied_and_checked(
+    rt: HostRuntime,
+) -> Result<(), Fail> {
+    let log = "mtlog 1
+tree a range
+dup a b
+check b
+store a 1 1 5
+pstore a 0 9 7
+join
+check a
+dup b c
+load c 1
+join
+join
+tree d range
+dup c e
+load e 2
+";
+    let want = "2: declares a for range
+3: copies tree 0 as b
+4: checks tree 1
+5: tree 0, Store { first: 1, last: 1, entry: 5 }
+6: tree 0, StorePre { first: 0, last: 9, entry: 7 }
+7: joins
+8: checks tree 0
+9: copies tree 1 as c
+10: tree 2, Load { index: 1 }
+11: joins
+12: joins
+13: declares d for range
+14: copies tree 2 as e
+15: tree 4, Load { index: 2 }
+";
+    expect(&rt, rt.alloc(), log, want)?;
+    Ok(())
+}
+
+#[test]
+fn a_log_has_16_trees_at_the_most(rt: HostRuntime) -> Result<(), Fail> {
+    let mut log = String::from_str(rt.alloc(), "mtlog 1\n")?;
+    for tree in 1..=8 {
+        writeln!(log, "tree t{tree} range\ndup t{tree} c{tree}")?;
+    }
+    let cases = [
+        ("tree q range", "18 too many trees"),
+        ("dup t1 q", "18 too many trees"),
+        ("tree t1 range", "18 tree declared twice"),
+        ("dup t1 c8", "18 tree declared twice"),
+        ("dup q t1", "18 unknown tree"),
+        ("tree q heap", "18 bad kind"),
+        ("load c8 1\ntree q range", "19 not between phases"),
+        ("load c8 1\ndup t1 q", "19 not between phases"),
+        ("check c8", "19 no newline"),
+    ];
+    for (line, want) in cases {
+        let text = format!(in rt.alloc(); "{log}{line}\nload t1 1")?;
+        expect(&rt, rt.alloc(), &text, want)?;
+    }
+    Ok(())
+}
+
+#[test]
 fn each_test_of_a_line_refuses_it(rt: HostRuntime) -> Result<(), Fail> {
     let cases = [
         ("", "1 no header"),
@@ -119,9 +207,11 @@ fn each_test_of_a_line_refuses_it(rt: HostRuntime) -> Result<(), Fail> {
             "mtlog 1\ntree a range\nscan a 0 9 1\ntree b range\n",
             "4 not between phases",
         ),
+        (
+            "mtlog 1\ntree a range\nload a 1\ncheck a\n",
+            "4 not between phases",
+        ),
         ("mtlog 1\ntree a range\nscan a 0 9 0\n", "3 bad count"),
-        ("mtlog 1\ntree a range\ntree b range\n", "3 not yet"),
-        ("mtlog 1\ntree a alloc\n", "2 not yet"),
     ];
     for (log, want) in cases {
         expect(&rt, rt.alloc(), log, want)?;
@@ -150,7 +240,7 @@ fn a_line_is_refused_by_its_first_failed_test(rt: HostRuntime) -> Result<(), Fai
         ("tree a heap", "5 tree declared twice"),
         ("tree a alloc", "5 tree declared twice"),
         ("tree b heap", "5 bad kind"),
-        ("tree b alloc", "5 not yet"),
+        ("tree b alloc", "5 not between phases"),
         ("tree b range", "5 not between phases"),
         ("scan", "5 wrong number of fields"),
         ("scan A x x 0", "5 bad name"),
@@ -158,16 +248,36 @@ fn a_line_is_refused_by_its_first_failed_test(rt: HostRuntime) -> Result<(), Fai
         ("scan a x 9 0", "5 bad number"),
         ("scan a 1 x 0", "5 bad number"),
         ("scan a 1 9 0", "5 bad count"),
-        ("alloc a 1 2 3 4 5 6 7 8 9", "5 not yet"),
-        ("ralloc A", "5 not yet"),
-        ("gap ", "5 not yet"),
-        ("rgap a", "5 not yet"),
-        ("join", "5 not yet"),
-        ("dup a b", "5 not yet"),
-        ("check a", "5 not yet"),
-        ("pstore a 1 2 3", "5 not yet"),
+        ("alloc a 1 2 3 4 5 6 7 8 9", "5 wrong number of fields"),
+        ("ralloc a 1 2 3", "5 wrong number of fields"),
+        ("gap a 1 2 3 4", "5 wrong number of fields"),
+        ("rgap a 1 2", "5 wrong number of fields"),
+        ("alloc A x 2 3 4", "5 bad name"),
+        ("ralloc b x 2 3 4", "5 unknown tree"),
+        ("gap a x 2 3", "5 bad number"),
+        ("rgap a 1 x 3", "5 bad number"),
+        ("gap a 1 2 x", "5 bad number"),
+        ("alloc a 1 2 3 x", "5 bad number"),
+        ("join", "6 no newline"),
+        ("join ", "5 wrong number of fields"),
+        ("dup a", "5 wrong number of fields"),
+        ("dup A B", "5 bad name"),
+        ("dup b B", "5 unknown tree"),
+        ("dup a B", "5 bad name"),
+        ("dup a a", "5 tree declared twice"),
+        ("dup a b", "5 not between phases"),
+        ("check a a", "5 wrong number of fields"),
+        ("check A", "5 bad name"),
+        ("check b", "5 unknown tree"),
+        ("check a", "5 not between phases"),
+        ("pstore a 1 2", "5 wrong number of fields"),
+        ("pstore a 1 x 3", "5 bad number"),
+        ("pstore a 1 2 3", "6 no newline"),
         ("lane 1", "5 not yet"),
+        ("lane 16", "5 not yet"),
+        ("lane", "5 not yet"),
     ];
+    assert_eq!(rt; Why::LaneNo.text(), "bad lane");
     for (line, want) in cases {
         let log = format!(in rt.alloc();
             "mtlog 1\n# a tree\ntree a range\nload a 1\n{line}\nload a 2"
@@ -328,6 +438,14 @@ fn a_transcript_is_printed_line_by_line(rt: HostRuntime) -> Result<(), Fail> {
         wrote(8, 6, Reply::NoNodes(short)),
         wrote(9, 7, Reply::Start(18446744073709551606)),
         wrote(10, 8, Reply::Busy),
+        Entry {
+            line: 11,
+            said: Said::Copied { count: 3 },
+        },
+        Entry {
+            line: 12,
+            said: Said::Lawful { count: 0 },
+        },
         got(50, 1, 2, Answer::None),
         got(51, 2, 2, Answer::Entry(18446744073709551615)),
         got(52, 0, 5, Answer::Range(high)),
@@ -357,6 +475,8 @@ fn a_transcript_is_printed_line_by_line(rt: HostRuntime) -> Result<(), Fail> {
 8 6 nomem 7 6 4 20
 9 7 start 18446744073709551606
 10 8 busy
+11 copied 3
+12 lawful 0
 50 1 2 none
 51 2 2 entry 18446744073709551615
 52 0 5 range 10 18446744073709551615 20

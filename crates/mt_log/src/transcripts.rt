@@ -10,11 +10,13 @@ pub enum Answer {
     Range(Range),
 }
 
-/// What a line of a log was answered.
+/// What a line of a log was answered. A check and a copy tell how many ranges the tree has.
 #[derive(Clone, Copy)]
 pub enum Said {
     Wrote { call: u64, reply: Reply },
     Got { lo: u64, hi: u64, value: Answer },
+    Lawful { count: u64 },
+    Copied { count: u64 },
 }
 
 /// An answer to the line of this number.

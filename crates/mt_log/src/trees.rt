@@ -1,5 +1,8 @@
 use crate::names::Word;
+use indexmap::IndexMap;
 use mt_base::Kind;
+use std::alloc::{AllocError, Global};
+use std::marker::Model;
 
 /// A declared tree, as far as later lines need it.
 #[derive(Clone, Copy)]
@@ -8,9 +11,107 @@ pub struct KnownTree {
     pub kind: Kind,
 }
 
+impl KnownTree {
+    ghost use Rattle.std.specs.Prelude.{◌≡◌};
+    ghost use Rattle.mt_log.specs.Trees.{renamed};
+
+    /// A copy of it under another name.
+    pub fn renamed(&self, name: Word) -> KnownTree
+        ensures { result ≡ renamed name self.now }
+    {
+        KnownTree {
+            name,
+            kind: self.kind,
+        }
+    }
+}
+
 /// A declared tree by its number.
 #[derive(Clone, Copy)]
 pub struct NumberedTree {
     pub number: u32,
     pub kind: Kind,
+}
+
+/// The declared trees, numbered from 0 in the order of their lines, each of a name of its own.
+#[derive(Drop)]
+pub struct Trees {
+    kinds: IndexMap<Word, Kind>,
+}
+
+impl Model for Trees {
+    ghost use Rattle.std.specs.Prelude.{List, map};
+    ghost use Rattle.mt_log.specs.Indexed.{known};
+    ghost use Rattle.mt_log.specs.declared.trees.KnownTree.{KnownTree};
+
+    ghost Value = { List KnownTree };
+
+    ghost view = { λ t. map known t.kinds.entries };
+}
+
+impl Trees {
+    ghost use Rattle.std.specs.Prelude.{◌≡◌, ◌++◌, ◌∷◌, ◌<◌, ◌^◌, [], None, IfSome, OnOk, length, slice_get, option_and_then};
+    ghost use Rattle.mt_log.specs.Reading.{place_of, tree_at};
+
+    /// No trees.
+    pub fn new(alloc: Global) -> Self
+        ensures { result ≡ [] }
+    {
+        Trees {
+            kinds: IndexMap::new(alloc),
+        }
+    }
+
+    /// How many there are.
+    #[tactic(auto, using(crate::proofs::Indexed::as_many))]
+    pub fn len(&self) -> usize
+        ensures { result ≡ length self.now }
+    {
+        self.kinds.len()
+    }
+
+    /// The number of the tree of this name.
+    #[tactic(auto, using(crate::proofs::Indexed::names_of_known, crate::proofs::Indexed::as_many))]
+    pub fn place_of(&self, name: Word) -> Option<usize>
+        ensures place { result ≡ place_of self.now name }
+        ensures declared { IfSome result (λ place. place < length self.now) }
+    {
+        self.kinds.get_index_of(&name)
+    }
+
+    /// The tree of this number.
+    #[tactic(auto, using(crate::proofs::Indexed::known_at))]
+    pub fn get(&self, number: usize) -> Option<KnownTree>
+        ensures { result ≡ slice_get self.now number }
+    {
+        let (name, kind) = self.kinds.get_index(number)?;
+        Some(KnownTree {
+            name: *name,
+            kind: *kind,
+        })
+    }
+
+    /// The tree of this name.
+    pub fn named(&self, name: Word) -> Option<NumberedTree>
+        requires { length self.now < 2 ^ 32 }
+        ensures tree { result ≡ option_and_then (tree_at self.now) (place_of self.now name) }
+        ensures declared { IfSome result (λ tree. tree.number < length self.now) }
+    {
+        let place = self.place_of(name)?;
+        let tree = self.get(place)?;
+        Some(NumberedTree {
+            number: place as u32,
+            kind: tree.kind,
+        })
+    }
+
+    /// Declares one more tree.
+    #[tactic(auto, using(crate::proofs::Indexed::one_more))]
+    pub fn push(&mut self, tree: KnownTree) -> Result<(), AllocError>
+        requires new { place_of self.old tree.name ≡ None }
+        ensures { OnOk result (self.new ≡ self.old ++ tree ∷ []) }
+    {
+        self.kinds.insert(tree.name, tree.kind)?;
+        Ok(())
+    }
 }
