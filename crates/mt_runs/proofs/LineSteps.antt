@@ -1,0 +1,68 @@
+-- The steps that came of a line are of its lane and its phase, on the tree that it names.
+use Rattle.std.proofs.Common.{◌≡◌, ℕ, zero, suc, ◌<◌, List, [], ◌∷◌, Option, Some, None, refl, sym, subst}
+use Rattle.std.specs.List.{All, AllByRecursion}
+use Rattle.std.proofs.lemmas.List.Elements.{All-from_recursion}
+use Rattle.mt_base.specs.declared.ranges.Range.{Range}
+use Rattle.mt_log.specs.declared.lines.Item.{Item}
+use Rattle.mt_log.specs.declared.lines.Item.TheVariants.{Tree, Lane, Join, Dup, Check, Write, Ask, Scan}
+use Rattle.mt_log.specs.Run.{Asked, Outcome, Step, IsDone, IsScan, GoesOn, AreDone, place_behind, place_within, step_of}
+use Rattle.mt_log.specs.Trees.{NamesBelow}
+use Rattle.mt_runs.proofs.Lists.{every_append}
+
+-- the tree on which a line's steps are
+abbrev IsOn : Item → ℕ → Type 0
+IsOn (Dup from name) tree = tree ≡ from
+IsOn (Check on) tree = tree ≡ on
+IsOn (Write on call) tree = tree ≡ on
+IsOn (Ask on query) tree = tree ≡ on
+IsOn (Scan on index max count) tree = tree ≡ on
+IsOn item tree = ⊥
+
+one_step : (P : Step → Type 0) (s : Step) (steps : List Step) → steps ≡ s ∷ [] → P s → AllByRecursion P steps
+one_step P s steps e p = subst (AllByRecursion P) (sym e) (p, tt)
+
+no_step : (P : Step → Type 0) (steps : List Step) → steps ≡ [] → AllByRecursion P steps
+no_step P steps e = subst (AllByRecursion P) (sym e) tt
+
+goes_each : (P : Step → Type 0) (a : Asked) (tree max count : ℕ) → ((at : Option ℕ) (steps : List Step) → IsScan a tree max count at steps → AllByRecursion P steps) → (value : Option Range) (steps : List Step) → GoesOn (IsScan a tree max count) max value steps → AllByRecursion P steps
+goes_each P a tree max count scans None steps g = no_step P steps g
+goes_each P a tree max count scans (Some r) steps g = scans (place_behind max r) steps g
+
+scan_each : (P : Step → Type 0) (a : Asked) (tree max count : ℕ) → ((o : Outcome) → P (step_of a tree o)) → (at : Option ℕ) (steps : List Step) → IsScan a tree max count at steps → AllByRecursion P steps
+scan_each P a tree max zero p at steps s = no_step P steps s
+scan_each P a tree max (suc count) p at steps s = subst (AllByRecursion P) (sym s.5) (p _, goes_each P a tree max count (scan_each P a tree max count p) s.3 s.4 s.6)
+
+-- what holds of each step that a line may have holds of those that came of it
+pub done_each : (P : Step → Type 0) (a : Asked) (item : Item) (steps : List Step) → ((tree : ℕ) (o : Outcome) → IsOn item tree → P (step_of a tree o)) → IsDone a item steps → AllByRecursion P steps
+done_each P a (Write tree call) steps p d = one_step P _ steps d.2 (p tree _ refl)
+done_each P a (Ask tree query) steps p d = one_step P _ steps d.4 (p tree _ refl)
+done_each P a (Scan tree index max count) steps p d = scan_each P a tree max count (λ o. p tree o refl) (place_within index max) steps d
+done_each P a (Dup from name) steps p d = one_step P _ steps d.1 (p from _ refl)
+done_each P a (Check tree) steps p d = one_step P _ steps d.1 (p tree _ refl)
+done_each P a (Tree name kind) steps p d = no_step P steps d
+done_each P a (Lane lane) steps p d = no_step P steps d
+done_each P a Join steps p d = no_step P steps d
+
+all_done : (P : Step → Type 0) (Q : Asked → Type 0) → ((a : Asked) (tree : ℕ) (o : Outcome) → Q a → IsOn a.item tree → P (step_of a tree o)) → (asked : List Asked) (steps : List Step) → AllByRecursion Q asked → AreDone asked steps → AllByRecursion P steps
+all_done P Q p [] steps q d = no_step P steps d
+all_done P Q p (a ∷ asked) steps q d = subst (AllByRecursion P) (sym d.2) (every_append P d.0 d.1 (done_each P a a.item d.0 (λ tree o on. p a tree o q.0 on) d.3) (all_done P Q p asked d.1 q.1 d.4))
+
+pub steps_placed : (passes phase : ℕ) (asked : List Asked) (steps : List Step) → AllByRecursion (λ (a : Asked). (a.phase ≡ phase) × (a.lane < passes)) asked → AreDone asked steps → All (λ (s : Step). (s.phase ≡ phase) × (s.lane < passes)) steps
+steps_placed passes phase asked steps placed done =
+    let P : Step → Type 0 = λ s. (s.phase ≡ phase) × (s.lane < passes) in
+    All-from_recursion P steps (all_done P (λ (a : Asked). (a.phase ≡ phase) × (a.lane < passes)) (λ a tree o q on. q) asked steps placed done)
+
+below_count : (count : ℕ) (item : Item) (tree : ℕ) → NamesBelow count item → IsOn item tree → tree < count
+below_count count (Dup from name) tree below on = rw on below
+below_count count (Check x) tree below on = rw on below
+below_count count (Write x call) tree below on = rw on below
+below_count count (Ask x query) tree below on = rw on below
+below_count count (Scan x index max n) tree below on = rw on below
+below_count count (Tree name kind) tree below on = absurd on
+below_count count (Lane lane) tree below on = absurd on
+below_count count Join tree below on = absurd on
+
+pub steps_named : (count : ℕ) (asked : List Asked) (steps : List Step) → AllByRecursion (λ (a : Asked). NamesBelow count a.item) asked → AreDone asked steps → All (λ (s : Step). s.tree < count) steps
+steps_named count asked steps named done =
+    let P : Step → Type 0 = λ s. s.tree < count in
+    All-from_recursion P steps (all_done P (λ (a : Asked). NamesBelow count a.item) (λ a tree o q on. below_count count a.item tree q on) asked steps named done)

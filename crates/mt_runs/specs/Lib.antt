@@ -1,0 +1,6 @@
+pub mod Leads
+pub mod Lines
+pub mod OneThread
+pub mod Phases
+pub mod Rooms
+pub mod Tracks
