@@ -3,4 +3,5 @@ pub mod Command
 pub mod Ending
 pub mod Headline
 pub mod Input
+pub mod Nodes
 pub mod Playing

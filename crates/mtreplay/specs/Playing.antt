@@ -1,51 +1,87 @@
--- What one lane makes of the lines of a log, one after another, over one tree.
-use Rattle.std.specs.Prelude.{◌≡◌, ℕ, zero, suc, List, [], ◌∷◌, ◌++◌, Option, Some, None, ◌+◌, ◌<◌, ◌≤◌, false, length, map, All, AllPairs}
-use Rattle.std.specs.List.{enumerate_from, filter_map, flat_map}
+-- What one thread makes of the lines of a log, one after another, over the trees that they declare.
+-- Source: this project's own.
+use Rattle.std.specs.Prelude.{◌≡◌, ℕ, zero, suc, List, [], ◌∷◌, ◌++◌, Option, Some, None, ◌+◌, ◌≤◌, false, length, map, slice_get, slice_set}
 use Rattle.mt_base.specs.declared.kinds.Kind.{Kind}
-use Rattle.mt_base.specs.declared.kinds.Kind.TheVariants as kinds
 use Rattle.mt_base.specs.declared.ranges.Range.{Range}
 use Rattle.mt_base.specs.declared.calls.Call.{Call}
 use Rattle.mt_base.specs.declared.calls.Query.{Query}
 use Rattle.mt_base.specs.declared.replies.Reply.{Reply}
 use Rattle.mt_base.specs.Call.{answer}
-use Rattle.mt_base.specs.History.{Record, History, IsLegal, last_map}
+use Rattle.mt_base.specs.History.{History, last_map}
 use Rattle.mt_base.specs.Nodes.{Limits, IsMade, one_call_more}
 use Rattle.mt_log.specs.declared.lines.Item.{Item}
-use Rattle.mt_log.specs.declared.lines.Item.TheVariants.{Tree, Write, Ask, Scan}
+use Rattle.mt_log.specs.declared.lines.Item.TheVariants.{Tree, Lane, Join, Dup, Check, Write, Ask, Scan}
 use Rattle.mt_log.specs.declared.lines.Line.{Line}
+use Rattle.mt_log.specs.declared.names.Word.{Word}
 use Rattle.mt_log.specs.declared.transcripts.Entry.{Entry}
 use Rattle.mt_log.specs.declared.transcripts.Listing.{Listing}
+use Rattle.mt_log.specs.declared.transcripts.Said.{Said}
 use Rattle.mt_log.specs.declared.transcripts.Said.TheVariants as said
-use Rattle.mt_log.specs.Run.{Step, Outcome, Called, Looked, InOrder, IsTrueOf, AreDone, entry_of, holder_in, find_at, numbered_on, place_behind, place_within, shown, steps_of}
+use Rattle.mt_log.specs.Phases.{stepped_from}
+use Rattle.mt_log.specs.Run.{Step, AreDone, entry_of, find_at, place_behind, place_within, shown, steps_of}
+use Rattle.mt_log.specs.Trees.{Declared, most_lanes, trees_of}
+use Rattle.mt_runs.specs.Lines.{phase_behind}
+use Rattle.mt_runs.specs.OneThread.{HasPlayed, MayLimit}
+use Rattle.mt_runs.specs.Phases.{new_history}
 
--- ---- what a line does
+-- ---- maps
 
--- what a player holds: its map (the kind, the ranges, how much of its room for calls is used, and what its rows are limited
--- by), how many calls it made, and the entries that it told
-pub record PlayerState : Type 0 where
+-- what a map means: its kind and its ranges, how much of its room for calls is used, and what its rows are limited by
+pub record MapState : Type 0 where
   pub kind : Kind
   pub ranges : List Range
   pub used : ℕ
   pub limits : Option Limits
+
+-- a map before its first call, in so many rows, which opens with these ranges
+pub record IsNew (rows : ℕ) (kind : Kind) (ranges : List Range) (m : MapState) : Type 0 where
+  pub kind_is : m.kind ≡ kind
+  pub opening : m.ranges ≡ ranges
+  pub unused : m.used ≡ 0
+  pub limits : MayLimit (new_history kind rows ranges) m.limits
+
+-- a copy of a map, before its first call; it has as many rows as the map has
+abbrev pub IsCopyOf : MapState → MapState → Type 0
+IsCopyOf m copy = (h : History) → MayLimit h m.limits → IsNew h.rows m.kind m.ranges copy
+
+-- ---- trees and players
+
+-- a tree of a player: its name, its map, and how many calls were made of it
+pub record TreeState : Type 0 where
+  pub name : Word
+  pub kind : Kind
+  pub map : MapState
   pub calls : ℕ
+
+-- how many rows a tree has; the trees that were declared so far, in the order of their lines; and the entries that were told
+pub record PlayerState : Type 0 where
+  pub rows : ℕ
+  pub trees : List TreeState
   pub entries : List Entry
 
--- a call was made, got the next number, and was told with its reply
-pub record Calls (old new : PlayerState) (line : ℕ) (call : Call) (reply : Reply) : Type 0 where
-  pub made : IsMade old.kind old.limits old.ranges call new.ranges reply
-  pub kind : new.kind ≡ old.kind
-  pub used : new.used ≤ old.used + 1
-  pub limits : new.limits ≡ one_call_more old.limits
-  pub calls : new.calls ≡ old.calls + 1
-  pub told : new.entries ≡ old.entries ++ record { line = line; said = said.Wrote (old.calls + 1) reply } ∷ []
+abbrev pub with_entry : PlayerState → ℕ → Said → List Entry
+with_entry player line what = player.entries ++ record { line = line; said = what } ∷ []
 
--- what is told of a query on a map, after so many calls, which are its window
-abbrev pub read_entry : ℕ → ℕ → List Range → Query → Entry
-read_entry line calls ranges query = record { line = line; said = said.Got calls calls (shown query (answer ranges query)) }
+-- a new tree was declared, whose map is new
+pub record Declares (rows : ℕ) (name : Word) (kind : Kind) (ranges : List Range) (t : TreeState) : Type 0 where
+  pub name_is : t.name ≡ name
+  pub kind_is : t.kind ≡ kind
+  pub map : IsNew rows kind ranges t.map
+  pub calls : t.calls ≡ 0
 
--- a query was answered by the map as it stands, and told
-abbrev pub Asks : PlayerState → PlayerState → ℕ → Query → Type 0
-Asks old new line query = new ≡ record old { entries = old.entries ++ read_entry line old.calls old.ranges query ∷ [] }
+-- a call was made of a tree
+pub record IsCalled (t t' : TreeState) (call : Call) (reply : Reply) : Type 0 where
+  pub name : t'.name ≡ t.name
+  pub kind : t'.kind ≡ t.kind
+  pub made : IsMade t.map.kind t.map.limits t.map.ranges call t'.map.ranges reply
+  pub map_kind : t'.map.kind ≡ t.map.kind
+  pub used : t'.map.used ≤ t.map.used + 1
+  pub limits : t'.map.limits ≡ one_call_more t.map.limits
+  pub calls : t'.calls ≡ t.calls + 1
+
+-- what is told of a query on a tree: the window is the number of its calls
+abbrev pub read_entry : ℕ → TreeState → Query → Entry
+read_entry line t query = record { line = line; said = said.Got t.calls t.calls (shown query (answer t.map.ranges query)) }
 
 -- behind a range a scan goes on, and else it ends
 abbrev pub entries_behind : (Option ℕ → List Entry) → ℕ → Option Range → List Entry
@@ -53,84 +89,90 @@ entries_behind entries max None = []
 entries_behind entries max (Some r) = entries (place_behind max r)
 
 -- what is told of a scan from this place on, of so many steps at the most
-abbrev pub scan_entries : ℕ → ℕ → List Range → ℕ → ℕ → Option ℕ → List Entry
-scan_entries line calls ranges max zero at = []
-scan_entries line calls ranges max (suc count) at = read_entry line calls ranges (find_at at max) ∷ entries_behind (scan_entries line calls ranges max count) max (answer ranges (find_at at max))
+abbrev pub scan_entries : ℕ → TreeState → ℕ → ℕ → Option ℕ → List Entry
+scan_entries line t max zero at = []
+scan_entries line t max (suc count) at = read_entry line t (find_at at max) ∷ entries_behind (scan_entries line t max count) max (answer t.map.ranges (find_at at max))
 
--- each step of a scan was answered by the map as it stands, and told
-abbrev pub Scans : PlayerState → PlayerState → ℕ → ℕ → ℕ → Option ℕ → Type 0
-Scans old new line max count at = new ≡ record old { entries = old.entries ++ scan_entries line old.calls old.ranges max count at }
+-- a line that declares a copy of a tree, and tells how many ranges it has
+pub record Copies (old new : PlayerState) (line from : ℕ) (name : Word) : Type 0 where
+  pub source : TreeState
+  pub copy : TreeState
+  pub from_is : slice_get old.trees from ≡ Some source
+  pub declared : (h : History) → MayLimit h source.map.limits → Declares h.rows name source.kind source.map.ranges copy
+  pub trees : new.trees ≡ old.trees ++ copy ∷ []
+  pub told : new.entries ≡ with_entry old line (said.Copied (length source.map.ranges))
 
--- what the line of this number asks for was done
-abbrev pub Does : PlayerState → PlayerState → ℕ → Item → Type 0
-Does old new line (Tree name kind) = new ≡ old
-Does old new line (Write tree call) = (reply : Reply) × Calls old new line call reply
-Does old new line (Ask tree query) = Asks old new line query
-Does old new line (Scan tree index max count) = Scans old new line max count (place_within index max)
+-- a line that checks a tree, and tells how many ranges it has
+pub record Checks (old new : PlayerState) (line tree : ℕ) : Type 0 where
+  pub checked : TreeState
+  pub tree_is : slice_get old.trees tree ≡ Some checked
+  pub trees : new.trees ≡ old.trees
+  pub told : new.entries ≡ with_entry old line (said.Lawful (length checked.map.ranges))
+
+-- a line that makes a call, and tells its number and reply
+pub record Calls (old new : PlayerState) (line tree : ℕ) (call : Call) : Type 0 where
+  pub before : TreeState
+  pub after : TreeState
+  pub reply : Reply
+  pub tree_is : slice_get old.trees tree ≡ Some before
+  pub called : IsCalled before after call reply
+  pub trees : new.trees ≡ slice_set old.trees tree after
+  pub told : new.entries ≡ with_entry old line (said.Wrote (before.calls + 1) reply)
+
+-- a line that reads a tree as it stands, and tells of each read
+pub record Reads (old new : PlayerState) (tree : ℕ) (entries : TreeState → List Entry) : Type 0 where
+  pub asked : TreeState
+  pub tree_is : slice_get old.trees tree ≡ Some asked
+  pub trees : new.trees ≡ old.trees
+  pub told : new.entries ≡ old.entries ++ entries asked
+
+-- what the line of this number asks for was done, over trees of so many rows
+abbrev pub Does : ℕ → PlayerState → PlayerState → ℕ → Item → Type 0
+Does rows old new line (Tree name kind) = (t : TreeState) × Declares rows name kind [] t × (new ≡ record old { trees = old.trees ++ t ∷ [] })
+Does rows old new line (Lane lane) = new ≡ old
+Does rows old new line Join = new ≡ old
+Does rows old new line (Dup from name) = Copies old new line from name
+Does rows old new line (Check tree) = Checks old new line tree
+Does rows old new line (Write tree call) = Calls old new line tree call
+Does rows old new line (Ask tree query) = Reads old new tree (λ t. read_entry line t query ∷ [])
+Does rows old new line (Scan tree index max count) = Reads old new tree (λ t. scan_entries line t max count (place_within index max))
 
 -- ---- what came of the lines so far
 
--- the history of the one tree, which is for ranges and opened empty
-abbrev pub history_of : ℕ → List Record → History
-history_of rows records = record { kind = kinds.Range; rows = rows; opening = []; records = records }
+-- each of the ones is so related to each of the others, at the same place
+abbrev pub AreBoth : {X Y : Type 0} → (X → Y → Type 0) → List X → List Y → Type 0
+AreBoth R [] [] = Unit {0}
+AreBoth R (x ∷ xs) (y ∷ ys) = R x y × AreBoth R xs ys
+AreBoth R xs ys = ⊥
 
--- no limits, or those of a tree that opened empty, before its first call, and of which nobody else holds rows
-abbrev pub IsFresh : Option Limits → Type 0
-IsFresh None = Unit {0}
-IsFresh (Some l) = (l.opened ≤ 2) × (l.ended ≡ 0) × (l.may_hold ≡ false)
+-- a player's tree is the tree of this history, so far
+pub record Holds (t : TreeState) (h : History) : Type 0 where
+  pub kind : t.map.kind ≡ h.kind
+  pub ranges : t.map.ranges ≡ last_map h
+  pub limits : MayLimit h t.map.limits
+  pub calls : t.calls ≡ length h.records
 
--- a tree without limits serves for one of any number of rows
-abbrev pub HasRows : ℕ → Option Limits → Type 0
-HasRows rows None = Unit {0}
-HasRows rows (Some l) = l.rows ≡ rows
+-- and it was declared so
+pub record IsOf (t : TreeState) (d : Declared) : Type 0 where
+  pub name : t.name ≡ d.tree.name
+  pub kind : t.kind ≡ d.tree.kind
 
--- the limits of such a tree after so many calls
-pub record IsLimited (rows calls : ℕ) (l : Limits) : Type 0 where
-  pub size : l.rows ≡ rows
-  pub opened : l.opened ≤ 2
-  pub ended : l.ended ≤ calls
-  pub alone : l.may_hold ≡ false
-
-abbrev pub AreLimits : ℕ → ℕ → Option Limits → Type 0
-AreLimits rows calls None = Unit {0}
-AreLimits rows calls (Some l) = IsLimited rows calls l
-
--- no number that a step tells is above n
-abbrev pub TellsUpTo : ℕ → Outcome → Type 0
-TellsUpTo n (Called number call reply) = number ≤ n
-TellsUpTo n (Looked lo hi k query value) = (lo ≤ n) × (hi ≤ n) × (k ≤ n)
-
--- these steps are what a player did, and these are the calls among them, where so many trees are declared and have so
--- many rows
-pub record IsPlayedBy (count rows : ℕ) (player : PlayerState) (steps : List Step) (records : List Record) : Type 0 where
-  -- the player holds the tree after these calls, and told the steps
-  pub kind : player.kind ≡ kinds.Range
-  pub ranges : player.ranges ≡ last_map (history_of rows records)
-  pub limits : AreLimits rows player.calls player.limits
-  pub calls : player.calls ≡ length records
+-- These steps were done of the lines, and told, and the player's trees have these histories.
+pub record IsPlayedBy (rows : ℕ) (lines : List Line) (player : PlayerState) (steps : List Step) (trees : List History) : Type 0 where
+  pub played : HasPlayed most_lanes rows (phase_behind 0 lines) (stepped_from false lines) (trees_of lines) steps trees
+  pub done : AreDone (steps_of lines) steps
   pub told : player.entries ≡ map entry_of steps
-  -- the steps name declared trees
-  pub named : All (λ (s : Step). s.tree < count) steps
-  -- and keep what a run keeps
-  pub once : enumerate_from 1 records ≡ filter_map (numbered_on 0) steps
-  pub legal : IsLegal (history_of rows records)
-  pub order : AllPairs InOrder steps
-  pub within : All (λ (s : Step). TellsUpTo (length records) s.outcome) steps
-  pub reads : All (λ (s : Step). IsTrueOf (history_of rows records) s.outcome) steps
-  pub unheld : All (λ (s : Step). holder_in s.outcome ≡ None) steps
+  pub declared : AreBoth IsOf player.trees (trees_of lines)
+  pub held : AreBoth Holds player.trees trees
 
--- the steps are those of the lines
-abbrev pub IsPlayed : ℕ → ℕ → PlayerState → List Line → Type 0
-IsPlayed count rows player lines = (steps : List Step) × (records : List Record) × IsPlayedBy count rows player steps records × AreDone (steps_of lines) steps
+abbrev pub IsPlayed : ℕ → List Line → PlayerState → Type 0
+IsPlayed rows lines player = (steps : List Step) × (trees : List History) × IsPlayedBy rows lines player steps trees
+
+-- no tree was called more often than there were lines, nor used more than it was called
+abbrev pub IsCalledWithin : ℕ → TreeState → Type 0
+IsCalledWithin count t = (t.map.used ≤ t.calls) × (t.calls ≤ count)
 
 -- ---- the listings
 
--- the tree that a line declares, with these ranges
-abbrev pub listed_by : Item → List Range → List Listing
-listed_by (Tree name kind) ranges = record { name = name; kind = kind; ranges = ranges } ∷ []
-listed_by (Write tree call) ranges = []
-listed_by (Ask tree query) ranges = []
-listed_by (Scan tree index max count) ranges = []
-
-abbrev pub lists_of : List Line → List Range → List Listing
-lists_of lines ranges = flat_map (λ line. listed_by line.item ranges) lines
+abbrev pub listing_of : TreeState → Listing
+listing_of t = record { name = t.name; kind = t.kind; ranges = t.map.ranges }

@@ -1,68 +1,117 @@
-ghost use Rattle.std.specs.Prelude.{◌≡◌, ◌<◌, ◌-◌, ◌^◌, ℕ, [], ◌++◌, length, IfOk, OnOk};
-ghost use Rattle.mt_base.specs.declared.kinds.Kind.TheVariants as kinds;
-ghost use Rattle.mt_log.specs.Run.{IsRun, shown_range};
-ghost use Rattle.mt_log.specs.Trees.{IsReadable, trees_of};
-ghost use Rattle.mtreplay.specs.Playing.{IsFresh, HasRows, IsPlayed, listed_by, lists_of};
+//! One thread plays the lines of a log over the trees that they declare.
 
+ghost use Rattle.std.specs.Prelude.{◌≡◌, ◌<◌, ◌≤◌, ◌-◌, ◌^◌, ℕ, All, [], map, length, IfOk};
+ghost use Rattle.mt_base.specs.Width.{most_rows};
+ghost use Rattle.mt_log.specs.Run.{IsRun, shown_range};
+ghost use Rattle.mt_log.specs.Trees.{IsReadable};
+ghost use Rattle.mtreplay.specs.Playing.{IsPlayed, listing_of};
+
+use crate::maps::Plays;
 use crate::scans::{find_at, place_behind, place_within};
-use mt_base::{Call, NoMemory, Query, Range};
-use mt_list::Ranges;
+use mt_base::{Call, Kind, NoMemory, Query, Range};
 use mt_log::{
-    Answer, Entries, Entry, Item, Line, Listing, Listings, Log, RangeList, Said, Transcript,
+    Answer, Entries, Entry, Item, Line, Listing, Listings, Log, RangeList, Said, Transcript, Word,
 };
 use std::alloc::Global;
 use std::marker::Model;
 
-/// A tree, and what its calls and reads were answered.
+/// A tree that was declared, and how many calls were made of it.
 #[derive(Drop)]
-struct Player<M: Ranges> {
+struct Played<M: Plays> {
+    name: Word,
+    kind: Kind,
     map: M,
     calls: u64,
-    entries: Vec<Entry>,
 }
 
-impl<M: Ranges> Model for Player<M> {
-    ghost use Rattle.mtreplay.specs.Playing.{PlayerState};
+impl<M: Plays> Model for Played<M> {
+    ghost use Rattle.std.specs.Prelude.{◌≡◌};
+    ghost use Rattle.mtreplay.specs.Playing.{TreeState};
 
-    ghost Value = { PlayerState };
+    ghost Value = { TreeState };
 
-    ghost view = { λ p. record { kind = M.kind p.map; ranges = M.map p.map; used = M.used p.map; limits = M.limits p.map; calls = p.calls; entries = p.entries.items } };
+    ghost view = { λ t. record { name = t.name; kind = t.kind; map = record { kind = M.kind t.map; ranges = M.map t.map; used = M.used t.map; limits = M.limits t.map }; calls = t.calls } };
+
+    ghost invariant = { λ t. t.kind ≡ M.kind t.map };
 }
 
-impl<M: Ranges> Player<M> {
-    ghost use Rattle.std.specs.Prelude.{◌≡◌, ◌∷◌, ◌++◌, ◌+◌, ◌-◌, ◌<◌, ◌≤◌, ◌^◌, [], IfOk, OnOk};
+impl<M: Plays> Played<M> {
+    ghost use Rattle.std.specs.Prelude.{◌≡◌, ◌∷◌, ◌++◌, ◌+◌, ◌-◌, ◌<◌, ◌≤◌, ◌^◌, [], ℕ, length, IfOk, OnOk};
     ghost use Rattle.mt_base.specs.Call.{answer};
     ghost use Rattle.mt_base.specs.declared.replies.Reply.{Reply};
+    ghost use Rattle.mt_base.specs.History.{History};
+    ghost use Rattle.mt_base.specs.Width.{most_rows};
     ghost use Rattle.mt_log.specs.Run.{place_within};
-    ghost use Rattle.mtreplay.specs.Playing.{Asks, Calls, Does, Scans};
+    ghost use Rattle.mt_log.specs.declared.transcripts.Said.TheVariants.{Wrote};
+    ghost use Rattle.mt_runs.specs.OneThread.{MayLimit};
+    ghost use Rattle.mtreplay.specs.Playing.{Declares, IsCalled, read_entry, scan_entries, listing_of};
 
-    /// Does what a line asks for.
-    fn line(&mut self, line: &Line) -> Result<(), NoMemory>
-        requires used { self.old.used < 2 ^ 62 - 1 }
-        requires calls { self.old.calls < u64.MAX }
-        ensures { OnOk result (Does self.old self.new line.now.number line.now.item) }
+    /// A new tree of this name and kind.
+    fn new(alloc: Global, name: Word, kind: Kind, rows: u64) -> Result<Self, NoMemory>
+        requires { rows ≤ most_rows }
+        ensures { IfOk result (λ t. Declares rows name kind [] t) }
     {
-        match line.item {
-            Item::Tree { .. } => {}
-            Item::Write { call, .. } => self.write(line.number, &call)?,
-            Item::Ask { query, .. } => {
-                self.ask(line.number, &query)?;
-            }
-            Item::Scan {
-                index,
-                max,
-                count,
-                ..
-            } => self.scan(line.number, index, max, count)?,
-        }
-        Ok(())
+        Ok(Played {
+            name,
+            kind,
+            map: M::empty(alloc, kind, rows)?,
+            calls: 0,
+        })
     }
 
-    /// Makes a call, and tells its number and reply. As there is one tree, it is the same whichever tree is named.
-    fn write(&mut self, line: u64, call: &Call) -> Result<(), NoMemory>
-        requires used { self.old.used < 2 ^ 62 - 1 }
+    /// The tree, and a copy of it under another name, of which no call was made.
+    fn copy(self, alloc: Global, name: Word) -> Result<(Self, Self), NoMemory>
+        ensures tree { IfOk result (λ both. both.0 ≡ self) }
+        ensures copy { IfOk result (λ both. (h : History) → MayLimit h self.map.limits → Declares h.rows name self.kind self.map.ranges both.1) }
+    {
+        let Played {
+            name: own,
+            kind,
+            map,
+            calls,
+        } = self;
+        let (map, copy) = map.copy(alloc, kind)?;
+        let tree = Played {
+            name: own,
+            kind,
+            map,
+            calls,
+        };
+        let copy = Played {
+            name,
+            kind,
+            map: copy,
+            calls: 0,
+        };
+        Ok((tree, copy))
+    }
+
+    /// The tree, and how many ranges it has, once it was checked.
+    fn check(self) -> (Self, u64)
+        ensures tree { result.0 ≡ self }
+        ensures count { result.1 ≡ length self.map.ranges }
+    {
+        let Played {
+            name,
+            kind,
+            map,
+            calls,
+        } = self;
+        let (map, count) = map.check(kind);
+        let tree = Played {
+            name,
+            kind,
+            map,
+            calls,
+        };
+        (tree, count)
+    }
+
+    /// Makes a call, and tells its number and reply.
+    fn call(&mut self, line: u64, call: &Call, entries: &mut Vec<Entry>) -> Result<(), NoMemory>
+        requires used { self.old.map.used < 2 ^ 62 - 1 }
         requires calls { self.old.calls < u64.MAX }
-        ensures { OnOk result ((reply : Reply) × Calls self.old self.new line call.now reply) }
+        ensures { OnOk result ((reply : Reply) × IsCalled self.old self.new call.now reply × (entries.new.items ≡ entries.old.items ++ record { line = line; said = Wrote (self.old.calls + 1) reply } ∷ [])) }
     {
         let reply = self.map.act(call)?;
         self.calls += 1;
@@ -70,13 +119,20 @@ impl<M: Ranges> Player<M> {
             call: self.calls,
             reply,
         };
-        self.tell(Entry { line, said })
+        entries.push(Entry { line, said })?;
+        Ok(())
     }
 
     /// Tells the answer of the map as it stands, and gives it. The window is the number of calls so far.
-    fn ask(&mut self, line: u64, query: &Query) -> Result<Option<Range>, NoMemory>
-        ensures value { IfOk result (λ value. value ≡ answer self.old.ranges query.now) }
-        ensures told { OnOk result (Asks self.old self.new line query.now) }
+    fn ask(
+        &mut self,
+        line: u64,
+        query: &Query,
+        entries: &mut Vec<Entry>,
+    ) -> Result<Option<Range>, NoMemory>
+        ensures value { IfOk result (λ value. value ≡ answer self.old.map.ranges query.now) }
+        ensures kept { self.new ≡ self.old }
+        ensures told { OnOk result (entries.new.items ≡ entries.old.items ++ read_entry line self.old query.now ∷ []) }
     {
         let found = self.map.ask(query);
         let value = match found {
@@ -88,18 +144,26 @@ impl<M: Ranges> Player<M> {
             hi: self.calls,
             value,
         };
-        self.tell(Entry { line, said })?;
+        entries.push(Entry { line, said })?;
         Ok(found)
     }
 
     /// Finds range after range from `index` to `max`, and tells each step by itself: so many at the most, and none behind
     /// the first that finds nothing.
-    fn scan(&mut self, line: u64, index: u64, max: u64, count: u32) -> Result<(), NoMemory>
-        ensures { OnOk result (Scans self.old self.new line max count (place_within index max)) }
+    fn scan(
+        &mut self,
+        line: u64,
+        index: u64,
+        max: u64,
+        count: u32,
+        entries: &mut Vec<Entry>,
+    ) -> Result<(), NoMemory>
+        ensures kept { self.new ≡ self.old }
+        ensures told { OnOk result (entries.new.items ≡ entries.old.items ++ scan_entries line self.old max count (place_within index max)) }
     {
         let mut at = place_within(index, max);
         for _step in 0..count {
-            match self.ask(line, &find_at(at, max))? {
+            match self.ask(line, &find_at(at, max), entries)? {
                 Some(range) => at = place_behind(max, &range),
                 None => return Ok(()),
             }
@@ -107,12 +171,17 @@ impl<M: Ranges> Player<M> {
         Ok(())
     }
 
-    /// Adds an entry.
-    fn tell(&mut self, entry: Entry) -> Result<(), NoMemory>
-        ensures { OnOk result (self.new ≡ record self.old { entries = self.old.entries ++ entry ∷ [] }) }
+    /// The tree as it is listed.
+    fn listing(&mut self, alloc: Global) -> Result<Listing, NoMemory>
+        ensures listing { IfOk result (λ l. l ≡ listing_of self.old) }
+        ensures kept { self.new ≡ self.old }
     {
-        self.entries.push(entry)?;
-        Ok(())
+        let ranges = RangeList::new(self.map.list(alloc)?);
+        Ok(Listing {
+            name: self.name,
+            kind: self.kind,
+            ranges,
+        })
     }
 }
 
@@ -128,80 +197,131 @@ fn told_of(query: &Query, range: Range) -> Answer
     }
 }
 
-/// Plays the lines in order, over an empty map.
-fn play_lines<M: Ranges + Drop>(
-    alloc: Global,
-    lines: &[Line],
-    map: M,
-) -> Result<Player<M>, NoMemory>
-    requires empty { M.map map ≡ [] }
-    requires kind { M.kind map ≡ kinds.Range }
-    requires unused { M.used map ≡ 0 }
-    requires fresh { IsFresh (M.limits map) }
+/// The trees that were declared so far, each of so many rows, and what their calls and reads were answered.
+#[derive(Drop)]
+struct Player<M: Plays> {
+    rows: u64,
+    trees: Vec<Played<M>>,
+    entries: Vec<Entry>,
+}
+
+impl<M: Plays> Model for Player<M> {
+    ghost use Rattle.mtreplay.specs.Playing.{PlayerState};
+
+    ghost Value = { PlayerState };
+
+    ghost view = { λ p. record { rows = p.rows; trees = p.trees.items; entries = p.entries.items } };
+}
+
+impl<M: Plays> Player<M> {
+    ghost use Rattle.std.specs.Prelude.{◌≡◌, ◌∷◌, ◌++◌, ◌+◌, ◌-◌, ◌<◌, ◌≤◌, ◌^◌, [], ℕ, All, length, OnOk};
+    ghost use Rattle.mt_base.specs.Width.{most_rows};
+    ghost use Rattle.mt_log.specs.Trees.{NamesBelow};
+    ghost use Rattle.mtreplay.specs.Playing.{Does, Copies, Checks, IsCalledWithin};
+
+    /// Does what a line asks for.
+    fn line(&mut self, alloc: Global, line: &Line) -> Result<(), NoMemory>
+        requires rows { self.old.rows ≤ most_rows }
+        requires named { NamesBelow (length self.old.trees) line.now.item }
+        requires calls { All (IsCalledWithin (2 ^ 62 - 2)) self.old.trees }
+        ensures does { OnOk result (Does self.old.rows self.old self.new line.now.number line.now.item) }
+        ensures rows { self.new.rows ≡ self.old.rows }
+    {
+        match line.item {
+            Item::Tree { name, kind } => {
+                let tree = Played::new(alloc, name, kind, self.rows)?;
+                self.trees.push(tree)?;
+            }
+            Item::Lane { .. } | Item::Join => {}
+            Item::Dup { from, name } => self.copy(alloc, line.number, from as usize, name)?,
+            Item::Check { tree } => self.check(line.number, tree as usize)?,
+            Item::Write { tree, call } => {
+                self.trees[tree as usize].call(line.number, &call, &mut self.entries)?
+            }
+            Item::Ask { tree, query } => {
+                self.trees[tree as usize].ask(line.number, &query, &mut self.entries)?;
+            }
+            Item::Scan {
+                tree,
+                index,
+                max,
+                count,
+            } => self.trees[tree as usize].scan(line.number, index, max, count, &mut self.entries)?,
+        }
+        Ok(())
+    }
+
+    /// Declares a copy of a tree, and tells how many ranges it has.
+    fn copy(&mut self, alloc: Global, line: u64, from: usize, name: Word) -> Result<(), NoMemory>
+        requires { from < length self.old.trees }
+        ensures copies { OnOk result (Copies self.old self.new line from name) }
+        ensures rows { self.new.rows ≡ self.old.rows }
+    {
+        let (tree, count) = self.trees.remove(from).check();
+        let (tree, copy) = tree.copy(alloc, name)?;
+        self.trees.insert(from, tree)?;
+        self.trees.push(copy)?;
+        let said = Said::Copied { count };
+        self.entries.push(Entry { line, said })?;
+        Ok(())
+    }
+
+    /// Checks a tree, and tells how many ranges it has.
+    fn check(&mut self, line: u64, tree: usize) -> Result<(), NoMemory>
+        requires { tree < length self.old.trees }
+        ensures checks { OnOk result (Checks self.old self.new line tree) }
+        ensures rows { self.new.rows ≡ self.old.rows }
+    {
+        let (checked, count) = self.trees.remove(tree).check();
+        self.trees.insert(tree, checked)?;
+        let said = Said::Lawful { count };
+        self.entries.push(Entry { line, said })?;
+        Ok(())
+    }
+}
+
+/// Plays the lines in order, over trees of so many rows.
+fn play_lines<M: Plays>(alloc: Global, lines: &[Line], rows: u64) -> Result<Player<M>, NoMemory>
+    requires rows { rows ≤ most_rows }
     requires readable { IsReadable lines.now }
     requires count { length lines.now < 2 ^ 62 - 1 }
-    ensures { IfOk result (λ p. (rows : ℕ) → HasRows rows (M.limits map) → IsPlayed (length (trees_of lines.now)) rows p lines.now) }
+    ensures { IfOk result (λ p. IsPlayed rows lines.now p) }
 {
     let mut player = Player {
-        map,
-        calls: 0,
+        rows,
+        trees: Vec::new(alloc),
         entries: Vec::with_capacity(alloc, lines.len())?,
     };
     for line in lines {
-        player.line(line)?;
+        player.line(alloc, line)?;
     }
     Ok(player)
 }
 
-/// Adds the listing of the tree that a line declares.
-fn list_tree<M: Ranges>(
-    alloc: Global,
-    map: &mut M,
-    line: &Line,
-    lists: &mut Vec<Listing>,
-) -> Result<(), NoMemory>
-    ensures listed { OnOk result (lists.new.items ≡ lists.old.items ++ listed_by line.now.item (M.map map.old)) }
-    ensures map { M.map map.new ≡ M.map map.old }
-{
-    if let Item::Tree { name, kind } = line.item {
-        let ranges = RangeList::new(map.list(alloc)?);
-        lists.push(Listing { name, kind, ranges })?;
-    }
-    Ok(())
-}
-
-/// Lists the trees that the lines declare.
-fn list_trees<M: Ranges>(
-    alloc: Global,
-    map: &mut M,
-    lines: &[Line],
-) -> Result<Vec<Listing>, NoMemory>
-    ensures { IfOk result (λ v. v.items ≡ lists_of lines.now (M.map map.old)) }
+/// Lists the trees in the order in which they were declared.
+fn list_trees<M: Plays>(alloc: Global, trees: &mut [Played<M>]) -> Result<Vec<Listing>, NoMemory>
+    ensures { IfOk result (λ v. v.items ≡ map listing_of trees.old) }
 {
     let mut lists = Vec::new(alloc);
-    for line in lines {
-        list_tree(alloc, map, line, &mut lists)?;
+    for at in 0..trees.len() {
+        lists.push(trees[at].listing(alloc)?)?;
     }
     Ok(lists)
 }
 
-/// Plays the lines of a log in order over an empty map, and lists the trees.
+/// Plays the lines of a log in order over trees of so many rows, and lists the trees.
 ///
 /// # Errors
 ///
 /// `NoMemory` where memory ran out.
-pub fn play<M: Ranges + Drop>(alloc: Global, log: &Log, map: M) -> Result<Transcript, NoMemory>
-    requires empty { M.map map ≡ [] }
-    requires kind { M.kind map ≡ kinds.Range }
-    requires unused { M.used map ≡ 0 }
-    requires fresh { IsFresh (M.limits map) }
+pub fn play<M: Plays>(alloc: Global, log: &Log, rows: u64) -> Result<Transcript, NoMemory>
+    requires rows { rows ≤ most_rows }
     requires readable { IsReadable log.now.lines }
     requires count { length log.now.lines < 2 ^ 62 - 1 }
-    ensures { IfOk result (λ t. (rows : ℕ) → HasRows rows (M.limits map) → IsRun log.now rows t) }
+    ensures { IfOk result (λ t. IsRun log.now rows t) }
 {
-    let lines = log.lines.as_slice();
-    let mut player = play_lines(alloc, lines, map)?;
-    let lists = list_trees(alloc, &mut player.map, lines)?;
+    let mut player = play_lines::<M>(alloc, log.lines.as_slice(), rows)?;
+    let lists = list_trees(alloc, &mut player.trees)?;
     Ok(Transcript {
         entries: Entries::new(player.entries),
         lists: Listings::new(lists),

@@ -5,8 +5,6 @@ ghost use Rattle.mt_io.specs.Faults.{Rose};
 ghost use Rattle.mt_log.specs.Reading.{log_of};
 ghost use Rattle.mt_log.specs.Run.{IsRun};
 ghost use Rattle.mt_log.specs.Trees.{IsReadable};
-ghost use Rattle.mt_rows.specs.Publish.{map_by};
-ghost use Rattle.mt_rows.specs.Sheet.{limits_of};
 ghost use Rattle.mtreplay.specs.Causes.{ReadsLog, FailsToRead, Ends, streams};
 ghost use Rattle.mtreplay.specs.Command.{is_replay};
 ghost use Rattle.mtreplay.specs.Ending.{TellsStatus, status_due, ReadsNoFurther, ReadsTooMany, ReadsWithin};
@@ -15,9 +13,8 @@ ghost use Rattle.mtreplay.specs.Headline.{Replays, ReplaysPart, TellsRun};
 use crate::failures::{Failure, report};
 use crate::player::play;
 use crate::streams::{LONGEST, read_input, write_output};
-use mt_base::{Kind, MOST_ROWS, NoMemory};
+use mt_base::{MOST_ROWS, NoMemory};
 use mt_engine::Engine;
-use mt_free::RowBook;
 use mt_io::{Gate, Sink, Source};
 use mt_log::{Log, Transcript, read_log, render};
 use mt_rows::PlainRows;
@@ -48,24 +45,13 @@ fn read<S: Source>(alloc: Global, src: &mut S) -> Result<Log, Failure>
     Ok(read_log(alloc, &bytes)?)
 }
 
-/// An empty tree of nodes, of as many rows as a tree may have.
-fn empty_tree(alloc: Global) -> Result<Engine<PlainRows>, NoMemory>
-    ensures empty { IfOk result (λ tree. map_by tree.sheet.tree ≡ []) }
-    ensures kind { IfOk result (λ tree. tree.kind ≡ Kind.Range) }
-    ensures limits { IfOk result (λ tree. limits_of tree.sheet ≡ record { rows = most_rows; opened = 0; ended = 0; may_hold = false }) }
-{
-    let rows = PlainRows::new(alloc, MOST_ROWS)?;
-    let book = RowBook::new(alloc, MOST_ROWS)?;
-    Ok(Engine::new(rows, book, Kind::Range))
-}
-
 /// What the lines of a log were answered. Their memory is given back.
 fn played(alloc: Global, log: Log) -> Result<Transcript, NoMemory>
     requires readable { IsReadable log.lines }
     requires count { length log.lines ≤ LONGEST }
     ensures { IfOk result (λ t. IsRun log most_rows t) }
 {
-    play(alloc, &log, empty_tree(alloc)?)
+    play::<Engine<PlainRows>>(alloc, &log, MOST_ROWS)
 }
 
 /// The text of what the lines of a log were answered.

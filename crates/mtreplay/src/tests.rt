@@ -1,6 +1,7 @@
 mod drawn;
 mod played;
 mod short;
+mod trees;
 
 use crate::program::mtreplay;
 use mt_io::{Failed, MemSink, MemSource, NoGate, Source};
@@ -122,6 +123,49 @@ fn a_log_is_answered_line_by_line(rt: HostRuntime) -> Result<(), Fail> {
 }
 
 #[test]
+fn a_tree_for_allocation_finds_room(rt: HostRuntime) -> Result<(), Fail> {
+    let rows = [
+        (
+            "tree a alloc\nstore a 0 9 1\nstore a 20 29 1\nalloc a 10 0 max 3\nralloc a 10 0 max 4\n",
+            "3 1 ok\n4 2 ok\n5 3 start 10\n6 4 start 18446744073709551606\n\
+             tree a alloc 4\n0 9 1\n10 19 3\n20 29 1\n18446744073709551606 18446744073709551615 4\n",
+        ),
+        (
+            "tree a alloc\nstore a 0 9 1\nstore a 20 29 1\ngap a 11 5 25\ngap a 0 0 9\ngap a 11 0 9\ngap a 1 9 8\nrgap a 4 5 25\n",
+            "3 1 ok\n4 2 ok\n5 3 busy\n6 4 invalid\n7 5 invalid\n8 6 invalid\n9 7 start 16\n\
+             tree a alloc 2\n0 9 1\n20 29 1\n",
+        ),
+        (
+            "tree mm alloc\nstore mm 0x400000 0x401fff 8192\nstore mm 0x7ffff000 0x7fffffff 8196\n\
+             ralloc mm 0x3000 0x10000 0x7fffffff 8200\nnext mm 0x400000 max\nerase mm 0x400010\n",
+            "3 1 ok\n4 2 ok\n5 3 start 2147467264\n6 3 3 range 2147467264 2147479551 8200\n7 4 was 8192\n\
+             tree mm alloc 2\n2147467264 2147479551 8200\n2147479552 2147483647 8196\n",
+        ),
+        (
+            "tree a alloc\nstore a 10 max 1\nrgap a 1 0 max\n",
+            "3 1 ok\n4 2 start 9\ntree a alloc 1\n10 18446744073709551615 1\n",
+        ),
+        (
+            "tree a alloc\nstore a 0 max 7\nerase a 3\ngap a 1 0 max\n",
+            "3 1 ok\n4 2 was 7\n5 3 start 0\ntree a alloc 0\n",
+        ),
+        (
+            "tree a range\ngap a 1 0 max\nalloc a 1 0 max 3\n",
+            "3 1 invalid\n4 2 invalid\ntree a range 0\n",
+        ),
+    ];
+    for (lines, text) in rows {
+        let log = format!(in rt.alloc(); "mtlog 1\n{lines}")?;
+        let mut src = source(rt.alloc(), &log, NEVER)?;
+        let ending = run(&rt, &["replay"], &mut src, 512, 256)?;
+        assert_eq!(rt; ending.status, 0, "{lines}");
+        assert_eq!(rt; ending.out.bytes(), text.as_bytes(), "{lines}");
+        assert_eq!(rt; ending.err.bytes(), b"".as_slice(), "{lines}");
+    }
+    Ok(())
+}
+
+#[test]
 fn neighbours_are_found_up_and_down(rt: HostRuntime) -> Result<(), Fail> {
     let log = steps(
         rt.alloc(),
@@ -199,7 +243,7 @@ fn a_bad_log_is_told_by_its_line(rt: HostRuntime) -> Result<(), Fail> {
         ("mtlog 2\n", 256, "mtreplay: line 1: no header\n"),
         ("mtlog 1", 256, "mtreplay: line 1: no newline\n"),
         ("mtlog 1\r\n", 16, "mtreplay: line 1"),
-        ("mtlog 1\ntree a alloc\n", 0, ""),
+        ("mtlog 1\ntree a heap\n", 0, ""),
         (
             "mtlog 1\ntree a range\nstore a 1 1 5",
             256,
@@ -231,9 +275,19 @@ fn a_bad_log_is_told_by_its_line(rt: HostRuntime) -> Result<(), Fail> {
             "mtreplay: line 3: bad count\n",
         ),
         (
-            "mtlog 1\n\n#\ntree a range\nload a 1\njoin\n",
+            "mtlog 1\n\n#\ntree a range\nload a 1\nlane 16\n",
             256,
             "mtreplay: line 6: not yet\n",
+        ),
+        (
+            "mtlog 1\ntree a range\nload a 1\ncheck a\n",
+            256,
+            "mtreplay: line 4: not between phases\n",
+        ),
+        (
+            "mtlog 1\ntree a range\nlane 16\n",
+            256,
+            "mtreplay: line 3: not yet\n",
         ),
     ];
     for (log, err_room, told) in rows {

@@ -1,6 +1,6 @@
 use crate::tests::played::text_over;
 use crate::tests::{run, steps};
-use mt_base::Kind;
+use mt_base::MOST_ROWS;
 use mt_io::MemSource;
 use mt_list::ListMap;
 use std::alloc::{AllocError, Global};
@@ -52,7 +52,7 @@ fn a_mebibyte_of_stores_is_answered_as_by_a_list(rt: HostRuntime) -> Result<(), 
     let alloc = rt.alloc();
     let log = drawn_log(alloc)?;
     assert!(rt; log.len() >= 1 << 20);
-    let want = text_over(&rt, alloc, log.as_str(), ListMap::new(alloc, Kind::Range))?;
+    let want = text_over::<ListMap>(&rt, alloc, log.as_str(), MOST_ROWS)?;
     let bytes = Vec::from_slice(alloc, log.as_bytes())?;
     let mut src = MemSource::new(bytes, usize::MAX, Vec::new(alloc));
     let ending = run(&rt, &["replay"], &mut src, 1 << 21, 256)?;

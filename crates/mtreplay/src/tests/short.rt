@@ -1,38 +1,20 @@
-ghost use Rattle.std.specs.Prelude.{◌≡◌, ◌≤◌, [], false, IfOk};
-ghost use Rattle.mt_base.specs.declared.kinds.Kind.{Kind};
-ghost use Rattle.mt_base.specs.Width.{most_rows};
-ghost use Rattle.mt_rows.specs.Publish.{map_by};
-ghost use Rattle.mt_rows.specs.Sheet.{limits_of};
-
 use crate::tests::played::text_over;
 use crate::tests::steps;
-use mt_base::{Kind, NoMemory};
 use mt_engine::Engine;
-use mt_free::RowBook;
 use mt_rows::PlainRows;
 use std::alloc::{AllocError, Global};
 use std::test::Fail;
-
-/// An empty tree of nodes, of so many rows.
-fn tree_of(alloc: Global, rows: u64) -> Result<Engine<PlainRows>, NoMemory>
-    requires { rows ≤ most_rows }
-    ensures empty { IfOk result (λ tree. map_by tree.sheet.tree ≡ []) }
-    ensures kind { IfOk result (λ tree. tree.kind ≡ Kind.Range) }
-    ensures limits { IfOk result (λ tree. limits_of tree.sheet ≡ record { rows = rows; opened = 0; ended = 0; may_hold = false }) }
-{
-    let book = RowBook::new(alloc, rows)?;
-    Ok(Engine::new(PlainRows::new(alloc, rows)?, book, Kind::Range))
-}
 
 #[test]
 fn a_tree_of_four_rows_has_no_room_for_a_second_range(rt: HostRuntime) -> Result<(), Fail> {
     let log = steps(
         rt.alloc(),
-        "store a 10 10 5\nstore a 20 20 7\nstore a 10 10 4\nerase a 10\nclear a\nstore a 1 1 9\n",
+        "store a 10 10 5\nstore a 20 20 7\nstore a 10 10 4\npstore a 10 10 8\nerase a 10\nclear a\nstore a 1 1 9\n",
     )?;
-    let want = "3 1 ok\n4 2 nomem 4 3 1 0\n5 3 ok\n6 4 nomem 4 3 1 0\n7 5 ok\n8 6 ok\n\
+    let want =
+        "3 1 ok\n4 2 nomem 4 3 1 0\n5 3 ok\n6 4 nomem 4 3 1 0\n7 5 nomem 4 3 1 0\n8 6 ok\n9 7 ok\n\
          tree a range 1\n1 1 9\n";
-    let text = text_over(&rt, rt.alloc(), log.as_str(), tree_of(rt.alloc(), 4)?)?;
+    let text = text_over::<Engine<PlainRows>>(&rt, rt.alloc(), log.as_str(), 4)?;
     assert_eq!(rt; text.as_slice(), want.as_bytes());
     Ok(())
 }
@@ -86,7 +68,7 @@ fn a_tree_grows_until_its_rows_are_short(rt: HostRuntime) -> Result<(), Fail> {
     for (rows, stores, short) in rows {
         let log = growing_log(rt.alloc(), stores)?;
         let want = short_text(rt.alloc(), stores, short)?;
-        let text = text_over(&rt, rt.alloc(), log.as_str(), tree_of(rt.alloc(), rows)?)?;
+        let text = text_over::<Engine<PlainRows>>(&rt, rt.alloc(), log.as_str(), rows)?;
         assert_eq!(rt; text.as_slice(), want.as_bytes(), "{rows}");
     }
     Ok(())

@@ -1,15 +1,13 @@
-use Rattle.std.proofs.Common.{List, length, ap, ◌∙◌, subst}
+use Rattle.std.proofs.Common.{List, map, ap, ◌∙◌, subst}
 use Rattle.mt_log.specs.declared.lines.Line.{Line}
-use Rattle.mt_log.specs.Trees.{trees_of}
-use Rattle.mtreplay.specs.Playing.{PlayerState, IsPlayed, lists_of}
-use Rattle.mtreplay.proofs.PlayedRun.{run_of}
+use Rattle.mtreplay.specs.Playing.{PlayerState, IsPlayed, listing_of}
+use Rattle.mtreplay.proofs.PlayedLines.{run_of}
 use Rattle.mtreplay.proofs.player.play.Goals as goal
 
 pub returns : goal.returns
-returns g c = λ rows has.
-    let lines : List Line = c.args.log.now.lines in
-    let player : PlayerState = c.in_ok-player.player in
-    let played = subst (λ (played : List Line). IsPlayed (length (trees_of played)) rows player played) c.as_slice-lines.ensures (c.in_ok-player.ensures rows has) in
-    run_of rows c.args.log.now player _ c.requires.readable played
+returns g c =
+    let played : IsPlayed c.args.rows c.args.log.now.lines c.in_ok-player.player = subst (λ (ls : List Line). IsPlayed c.args.rows ls c.in_ok-player.player) c.as_slice.ensures c.in_ok-player.ensures in
+    let trees = c.deref_mut.ensures.value ∙ ap (λ (p : PlayerState). p.trees) c.player.view_is in
+    run_of c.args.rows c.args.log.now (record { entries = c.new.result; lists = c.new-2.result }) c.in_ok-player.player played
     (c.new.ensures ∙ ap (λ (p : PlayerState). p.entries) c.player.view_is)
-    (c.new-2.ensures ∙ (c.in_ok-lists.ensures ∙ (ap (λ (listed : List Line). lists_of listed (g.M.Ranges.map c.player.inside.map)) c.as_slice-lines.ensures ∙ ap (λ (p : PlayerState). lists_of lines p.ranges) c.player.view_is)))
+    (c.new-2.ensures ∙ (c.in_ok-lists.ensures ∙ ap (map listing_of) trees))

@@ -1,10 +1,7 @@
-use Rattle.std.proofs.Common.{ℕ, ◌≤◌, length, take}
-use Rattle.mt_log.specs.Trees.{trees_of}
-use Rattle.mtreplay.specs.Playing.{HasRows, IsPlayed}
+use Rattle.std.proofs.Common.{◌≡◌, All, take}
+use Rattle.mtreplay.specs.Playing.{IsPlayed, IsCalledWithin}
 use Rattle.mtreplay.proofs.player.play_lines.Given as goal
 
+-- the lines so far were played, and no tree was called more often than there were lines
 abbrev pub invariant-loop-line : goal.invariant-loop-line
-invariant-loop-line g l =
-    (l.player.used ≤ l.player.calls)
-    × (l.player.calls ≤ l.line-index)
-    × ((rows : ℕ) → HasRows rows (g.M.Ranges.limits l.fn.map) → IsPlayed (length (trees_of l.lines)) rows l.player (take l.line-index l.lines))
+invariant-loop-line g l = (l.player.rows ≡ l.rows) × IsPlayed l.rows (take l.line-index l.lines) l.player × All (IsCalledWithin l.line-index) l.player.trees
