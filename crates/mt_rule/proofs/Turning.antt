@@ -1,0 +1,127 @@
+-- Each step at the turn keeps its rule.
+use Rattle.std.proofs.Common.{◌≡◌, ℕ, zero, suc, List, [], ◌∷◌, set, get_or, true, false, true≢false, refl, sym, ap, ◌∙◌, subst, arith, Option, Some, None}
+use mathlib.Core.Option.{none, some, some-ne-none, some-injective}
+use mathlib.Core.Option as maybe
+use lib.ListN.{get_elem?}
+use Rattle.atomic_table.specs.Table.{State, Me, Act, Valid, step, keeps, takes, gives, stepped, carried_after, Allows, Splits, opening}
+use Rattle.std.specs.declared.snapshot.Snapshot.{Snapshot}
+use Rattle.mt_rule.specs.declared.table.MtTable.{MtTable}
+use Rattle.mt_rule.specs.declared.views.TurnView.{TurnView}
+use Rattle.mt_rule.specs.Tokens.{Identity}
+use Rattle.mt_rule.specs.Turns.{served, waiting, holding, taken_bit, SeatFits, IsTurnKept, grabs}
+use Rattle.mt_rule.proofs.Viewing.{each_set, each_split}
+
+off : false ≡ true → ⊥
+off e = true≢false (sym e)
+
+module _ {C : Type 0} (table : C → Identity) (key : Snapshot MtTable) where
+  abbrev M : Type 0
+  M = Me (Option C) TurnView
+
+  abbrev Rule : State (Option C) TurnView → Type 0
+  Rule = IsTurnKept table key
+
+  abbrev Fits : ℕ → maybe.Option (Option C) → ℕ → TurnView → Type 0
+  Fits = SeatFits table key
+
+  -- a seat that waits fits, whoever holds the value
+  waits : (holder : ℕ) (home : maybe.Option (Option C)) (by : ℕ) (v : TurnView) → v.of ≡ key → v.holds ≡ false → Fits holder home by v
+  waits holder home by v of idle = record { of = of; holds = λ h. absurd (off (sym idle ∙ h)) }
+
+  pub turn_starts : (c : C) → table c ≡ served key → Rule (opening (0 ∷ []) (Some c ∷ []) (waiting key))
+  turn_starts c is = record { holder = 0; home = some (Some c); words = refl; homes = refl; value = λ x e. (c, sym (some-injective _ _ e), is); each = one }
+    where
+      one : (by : ℕ) (v : TurnView) → get_elem? (waiting key ∷ []) by ≡ some v → Fits 0 (some (Some c)) by v
+      one zero v e = subst (Fits 0 (some (Some c)) 0) (some-injective _ _ e) (waits 0 (some (Some c)) 0 (waiting key) refl refl)
+      one (suc by) v e = absurd (some-ne-none v (sym e))
+
+  sitting : (by : ℕ) (v : TurnView) → v.holds ≡ false → Splits Rule by v v v
+  sitting by v idle s r at = record {
+    holder = r.holder;
+    home = r.home;
+    words = r.words;
+    homes = r.homes;
+    value = r.value;
+    each = let mine = r.each by v at in each_split (Fits r.holder r.home) s.views by v v (λ j u _ e. r.each j u e) mine (waits r.holder r.home _ v mine.of idle);
+  }
+
+  grabbing : (slots by : ℕ) (v : TurnView) → v.holds ≡ false → Allows Rule slots by (v, []) 0 (λ _. 1) (grabs table (step slots 0 1 0 none) (v, []))
+  grabbing slots by v idle s r deep at _ = by_home r.home refl
+    where
+      mine : Fits r.holder r.home by v
+      mine = r.each by v at
+
+      by_home : (h : maybe.Option (Option C)) → r.home ≡ h
+          → (w : TurnView) × (a : Act (Option C)) × Valid s.homes [] a × Rule (stepped s 0 1 by [] w a) × grabs table (step slots 0 1 0 none) (v, []) (get_or s.words 0 0) (w, carried_after [] a)
+      by_home none is = (
+        v,
+        keeps,
+        tt,
+        record {
+          holder = r.holder;
+          home = none;
+          words = ap (λ (l : List ℕ). set l 0 1) r.words;
+          homes = r.homes ∙ ap (λ h. h ∷ []) is;
+          value = λ x e. absurd (some-ne-none x (sym e));
+          each = each_set (Fits r.holder none) s.views by v (λ j u _ e. let f = r.each j u e in record { of = f.of; holds = λ h. ((f.holds h).0, refl) }) (waits r.holder none by v mine.of idle);
+        },
+        record { free = λ e. let n = ap (λ (l : List ℕ). get_or l 0 0) r.words ∙ ap taken_bit is in absurd (omega arith); taken = λ _. refl },
+      )
+      by_home (some x) is = let c = r.value x is in (
+        holding v.of,
+        takes 0 (Some c.0),
+        ap (λ l. get_elem? l 0) r.homes ∙ (ap some is ∙ ap (λ (z : Option C). some (some z)) c.1),
+        record {
+          holder = by;
+          home = none;
+          words = ap (λ (l : List ℕ). set l 0 1) r.words;
+          homes = ap (λ l. set l 0 none) r.homes;
+          value = λ x e. absurd (some-ne-none x (sym e));
+          each = each_set (Fits by none) s.views by (holding v.of) (λ j u _ e. let f = r.each j u e in record { of = f.of; holds = λ h. absurd (some-ne-none x (sym is ∙ (f.holds h).1)) }) record { of = mine.of; holds = λ _. (refl, refl) };
+        },
+        record { free = λ _. (c.0, refl, c.2 ∙ ap served (sym mine.of)); taken = λ n. absurd (n (ap (λ (l : List ℕ). get_or l 0 0) r.words ∙ ap taken_bit is)) },
+      )
+
+  releasing : (slots by : ℕ) (v : TurnView) (c : C) → v.holds ≡ true → table c ≡ served key → Allows Rule slots by (v, (0, Some c) ∷ []) 0 (λ _. 0) (λ _ _. Unit {0})
+  releasing slots by v c held is s r deep at _ = let mine = r.each by v at in let known = mine.holds held in (
+    waiting v.of,
+    gives,
+    tt,
+    record {
+      holder = r.holder;
+      home = some (Some c);
+      words = ap (λ (l : List ℕ). set l 0 0) r.words;
+      homes = ap (λ l. set l 0 (some (Some c))) r.homes;
+      value = λ x e. (c, sym (some-injective _ _ e), is);
+      each = each_set (Fits r.holder (some (Some c))) s.views by (waiting v.of) (λ j u apart e. let f = r.each j u e in record { of = f.of; holds = λ h. absurd (apart ((f.holds h).0 ∙ sym known.0)) }) (waits r.holder (some (Some c)) by (waiting v.of) mine.of refl);
+    },
+    tt,
+  )
+
+  -- the same at a seat whose view and slots are known
+  pub sits : (by : ℕ) (v : TurnView) → v ≡ waiting key → Splits Rule by v v v
+  sits by v is = sitting by v (ap (λ (z : TurnView). z.holds) is)
+
+  pub grabs_value : (slots by : ℕ) (me : M) → me ≡ (waiting key, []) → Allows Rule slots by me 0 (λ _. 1) (grabs table (step slots 0 1 0 none) me)
+  grabs_value slots by me is = subst (λ (m : M). Allows Rule slots by m 0 (λ _. 1) (grabs table (step slots 0 1 0 none) m)) (sym is) (grabbing slots by (waiting key) refl)
+
+  pub releases_value : (slots by : ℕ) (me : M) (c : C) → me ≡ (holding key, (0, Some c) ∷ []) → table c ≡ served key → Allows Rule slots by me 0 (λ _. 0) (λ _ _. Unit {0})
+  releases_value slots by me c is fits = subst (λ (m : M). Allows Rule slots by m 0 (λ _. 0) (λ _ _. Unit {0})) (sym is) (releasing slots by (holding key) c refl fits)
+
+pub only_view : (v w : TurnView) → v ∷ [] ≡ w ∷ [] → v ≡ w
+only_view v w e = ap (λ (l : List TurnView). get_or l 0 v) e
+
+-- what was taken is what the swap found
+pub same_value : {C : Type 0} (a v : C) (x : Option C) (l r m : List (ℕ × Option C)) → m ≡ (0, Some a) ∷ l → m ≡ (0, x) ∷ r → x ≡ Some v → a ≡ v
+same_value {C} a v x l r m e f g = ap value_or (sym (ap first e) ∙ (ap first f ∙ g))
+  where
+    first : List (ℕ × Option C) → Option C
+    first [] = None
+    first (y ∷ ys) = y.1
+
+    value_or : Option C → C
+    value_or None = a
+    value_or (Some y) = y
+
+pub turn_starts_with : {C : Type 0} (table : C → Identity) (key : Snapshot MtTable) (c : C) (slots : List (Option C)) → table c ≡ served key → slots ≡ Some c ∷ [] → IsTurnKept table key (opening (0 ∷ []) slots (waiting key))
+turn_starts_with {C} table key c slots is e = subst (λ (l : List (Option C)). IsTurnKept table key (opening (0 ∷ []) l (waiting key))) (sym e) (turn_starts table key c is)

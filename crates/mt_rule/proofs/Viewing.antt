@@ -1,0 +1,98 @@
+-- Lists of views of which one or two change, and the parts of a view.
+use Rattle.std.proofs.Common.{◌≡◌, ◌≢◌, ◌⊎◌, ℕ, zero, suc, ◌==◌, List, [], ◌∷◌, ◌++◌, true≢false, length, set, refl, sym, ap, ◌∙◌, subst, inl, inr, ⊎_elim, arith, length-set, Some, None}
+use Rattle.std.specs.Prelude.{if◌then◌else◌, is_some}
+use Rattle.std.proofs.lemmas.Bool.{ne_eqb, eq-eqb}
+use mathlib.Core.Option.{some, some-ne-none, some-injective}
+use lib.ListN.{get_elem?}
+use Rattle.atomic_table.proofs.Lists.{at_set}
+use Rattle.mt_rule.specs.declared.views.View.{View}
+use Rattle.mt_rule.specs.declared.views.PenPart.{PenPart}
+use Rattle.mt_rule.specs.declared.views.PassPart.{PassPart}
+use Rattle.mt_rule.specs.declared.views.NotePart.{NotePart}
+use Rattle.mt_rule.specs.Seats.{pen_or, pass_or, note_or, no_view}
+use Rattle.mt_rule.specs.Rule.{ViewFits}
+
+-- ---- lists of views
+
+module _ {V : Type 0} (F : ℕ → V → Type 0) where
+  pub each_set : (views : List V) (by : ℕ) (w : V) → ((j : ℕ) (u : V) → j ≢ by → get_elem? views j ≡ some u → F j u) → F by w → (j : ℕ) (u : V) → get_elem? (set views by w) j ≡ some u → F j u
+  each_set views by w others mine j u e =
+      ⊎_elim
+      (λ (x : (j ≡ by) × (w ≡ u)). subst (λ (y : ℕ × V). F y.0 y.1) (λ i. (sym x.0 i, x.1 i)) mine)
+      (λ (x : (j ≢ by) × (get_elem? views j ≡ some u)). others j u x.0 x.1)
+      (at_set views by j w u e)
+
+  at_end : (l : List V) (a b : V) (j : ℕ) → get_elem? (l ++ a ∷ []) j ≡ some b → ((j ≢ length l) × (get_elem? l j ≡ some b)) ⊎ ((j ≡ length l) × (a ≡ b))
+  at_end [] a b zero e = inr (refl, some-injective a b e)
+  at_end [] a b (suc j) e = absurd (some-ne-none b (sym e))
+  at_end (x ∷ l) a b zero e = inl ((λ h. omega arith), e)
+  at_end (x ∷ l) a b (suc j) e = ⊎_elim (λ t. let n = t.0 in inl ((λ h. n (omega arith)), t.1)) (λ t. inr (ap suc t.0, t.1)) (at_end l a b j e)
+
+  -- one seat gets the view w, and a new one the view x
+  pub each_split : (views : List V) (by : ℕ) (w x : V) → ((j : ℕ) (u : V) → j ≢ by → get_elem? views j ≡ some u → F j u) → F by w → F (length views) x
+      → (j : ℕ) (u : V) → get_elem? (set views by w ++ x ∷ []) j ≡ some u → F j u
+  each_split views by w x others mine new j u e =
+      ⊎_elim
+      (λ (y : (j ≢ length (set views by w)) × (get_elem? (set views by w) j ≡ some u)). each_set views by w others mine j u y.1)
+      (λ (y : (j ≡ length (set views by w)) × (x ≡ u)). subst (λ (z : ℕ × V). F z.0 z.1) (λ i. (sym (y.0 ∙ length-set views by w) i, y.1 i)) new)
+      (at_end (set views by w) x u j e)
+
+  -- one seat gets the view w, and another the view x
+  pub each_join : (views : List V) (by other : ℕ) (w x : V) → ((j : ℕ) (u : V) → j ≢ by → j ≢ other → get_elem? views j ≡ some u → F j u) → F by w → F other x
+      → (j : ℕ) (u : V) → get_elem? (set (set views by w) other x) j ≡ some u → F j u
+  each_join views by other w x others mine new j u e =
+      ⊎_elim
+      (λ (y : (j ≡ other) × (x ≡ u)). subst (λ (z : ℕ × V). F z.0 z.1) (λ i. (sym y.0 i, y.1 i)) new)
+      (λ (y : (j ≢ other) × (get_elem? (set views by w) j ≡ some u)). ⊎_elim
+      (λ (z : (j ≡ by) × (w ≡ u)). subst (λ (t : ℕ × V). F t.0 t.1) (λ i. (sym z.0 i, z.1 i)) mine)
+      (λ (z : (j ≢ by) × (get_elem? views j ≡ some u)). others j u z.0 y.0 z.1)
+      (at_set views by j w u y.1))
+      (at_set (set views by w) other j x u e)
+
+pub other_view : {V : Type 0} (views : List V) (by other : ℕ) (w u : V) → ¬ (other ≡ by) → get_elem? (set views by w) other ≡ some u → get_elem? views other ≡ some u
+other_view {V} views by other w u apart e =
+    ⊎_elim (λ (x : (other ≡ by) × (w ≡ u)). absurd (apart x.0)) (λ (x : (other ≢ by) × (get_elem? views other ≡ some u)). x.1) (at_set views by other w u e)
+
+-- ---- parts
+
+pub pen_is : (p q : PenPart) → Some p ≡ Some q → p ≡ q
+pen_is p q e = ap pen_or e
+
+pub pass_is : (p q : PassPart) → Some p ≡ Some q → p ≡ q
+pass_is p q e = ap pass_or e
+
+pub note_is : (p q : NotePart) → Some p ≡ Some q → p ≡ q
+note_is p q e = ap note_or e
+
+pub no_pen : (q : PenPart) → None ≡ Some q → ⊥
+no_pen q e = true≢false (sym (ap is_some e))
+
+pub no_pass : (q : PassPart) → None ≡ Some q → ⊥
+no_pass q e = true≢false (sym (ap is_some e))
+
+pub no_note : (q : NotePart) → None ≡ Some q → ⊥
+no_note q e = true≢false (sym (ap is_some e))
+
+-- ---- owners of numbers
+
+-- the pass number k belongs to the seat j
+abbrev pub owned : (ℕ → ℕ) → ℕ → ℕ → ℕ → ℕ
+owned owner k j n = if n == k then j else owner n
+
+pub owned_here : (owner : ℕ → ℕ) (k j n : ℕ) → n ≡ k → owned owner k j n ≡ j
+owned_here owner k j n e = rw (eq-eqb n k e) refl
+
+pub owned_else : (owner : ℕ → ℕ) (k j n : ℕ) → n ≢ k → owned owner k j n ≡ owner n
+owned_else owner k j n o = rw (ne_eqb n k o) refl
+
+-- a seat that is not the one whose part moves
+pub stays : (pen : ℕ) (owner : ℕ → ℕ) (p : PenPart) (k from to j : ℕ) (u : View) → from ≡ owner k → j ≢ from → ViewFits pen owner p j u → ViewFits pen (owned owner k to) p j u
+stays pen owner p k from to j u is apart f = record {
+  keeper = f.keeper;
+  at = λ q e. f.at q e ∙ sym (owned_else owner k to q.number (λ n. apart (f.at q e ∙ (ap owner n ∙ sym is))));
+  passes = f.passes;
+  notes = f.notes;
+}
+
+pub nothing_fits : (pen : ℕ) (owner : ℕ → ℕ) (p : PenPart) (j : ℕ) → ViewFits pen owner p j no_view
+nothing_fits pen owner p j = record { keeper = λ q k. absurd (no_pen q k); at = λ q k. absurd (no_pass q k); passes = λ q k. absurd (no_pass q k); notes = λ n k. absurd (no_note n k) }

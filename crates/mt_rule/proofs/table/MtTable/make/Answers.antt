@@ -1,0 +1,21 @@
+use Rattle.std.proofs.Common.{rules, refl, ap, ◌∙◌, ◌+◌}
+use Rattle.mt_base.specs.Passes.{new_pass}
+use Rattle.mt_rule.specs.declared.views.PenPart.{PenPart}
+use Rattle.mt_rule.specs.Tokens.{identity_of, IsPassOf, pass_in}
+use Rattle.mt_rule.proofs.Seating.{all_dealt, map_dealt}
+use Rattle.mt_rule.proofs.table.MtTable.make.Goals as goal
+
+pub loop-number-preserved : goal.loop-number-preserved
+loop-number-preserved c =
+    let inv = c.loop-number.invariant in
+    let dealt = c.deal.ensures in
+    let items = c.push_reserved.ensures.items in (
+      refl,
+      dealt.of,
+      dealt.alone,
+      dealt.pen ∙ ap (λ (p : PenPart). record p { dealt = c.loop-number.number + 1 }) inv.3,
+      search rules,
+      search rules,
+      all_dealt (IsPassOf (identity_of c.in_ok-table.table)) _ _ _ items inv.6 dealt.pass,
+      map_dealt pass_in new_pass _ _ _ _ items inv.7 dealt.new,
+    )

@@ -1,0 +1,6 @@
+use Rattle.std.proofs.Common.{rules}
+use Rattle.mt_rule.proofs.Moving.{parting}
+use Rattle.mt_rule.proofs.table.MtTable.split_pen.Goals as goal
+
+pub split_seat-seat-requires : goal.split_seat-seat-requires
+split_seat-seat-requires c = (search rules, search rules, parting _ _ _ (search rules))

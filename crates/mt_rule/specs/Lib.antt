@@ -1,0 +1,6 @@
+pub mod Limits
+pub mod Rule
+pub mod Seats
+pub mod Steps
+pub mod Tokens
+pub mod Turns

@@ -1,0 +1,122 @@
+-- Whose a pass, a pen and a note are, and what they stand for.
+-- Source: this project's own.
+use Rattle.std.specs.Prelude.{◌≡◌, ℕ, ◌≤◌, List, [], false, Some, None}
+use Rattle.atomic_table.specs.Seated.{TableId}
+use Rattle.atomic_table.specs.declared.badge.Badge.{Badge}
+use Rattle.mt_base.specs.declared.kinds.Kind.{Kind}
+use Rattle.mt_base.specs.History.{Record, History}
+use Rattle.mt_base.specs.Passes as known
+use Rattle.mt_rows.specs.Sheet.{Sheet}
+use Rattle.mt_rows.specs.Publish.{IsLawfulOf, map_by}
+use Rattle.mt_rule.specs.declared.views.Shape.{Shape}
+use Rattle.mt_rule.specs.declared.views.PenPart.{PenPart}
+use Rattle.mt_rule.specs.declared.views.PassPart.{PassPart}
+use Rattle.mt_rule.specs.declared.views.TurnView.{TurnView}
+use Rattle.mt_rule.specs.declared.views.View.{View}
+use Rattle.mt_rule.specs.declared.table.MtTable.{MtTable}
+use Rattle.mt_rule.specs.declared.passes.Pass.{Pass}
+use Rattle.mt_rule.specs.declared.pens.Pen.{Pen}
+use Rattle.mt_rule.specs.declared.notes.Note.{Note}
+use Rattle.mt_rule.specs.Seats.{shape_told, records_of, tree_of, known_by, pen_of, pass_of, note_of, pass_or, part_in, HasPass}
+use Rattle.mt_rule.specs.Limits.{most_passes, most_calls}
+use Rattle.mt_rule.specs.Rule.{IsOneHistory}
+
+-- ---- tables
+
+-- which table of nodes it is, and what that was told when it was made
+pub record Identity : Type 0 where
+  pub table : TableId
+  pub shape : Shape
+
+abbrev pub identity_of : MtTable → Identity
+identity_of t = record { table = t.table.shared.table_id; shape = shape_told t.table.shared.key }
+
+-- the tree of this table where it has no call yet
+abbrev pub tree_in : Identity → History
+tree_in t = tree_of t.shape []
+
+-- A tree may open with these rows: no call was begun on them, and they are lawful. It has one pass at least.
+pub record MayOpen (kind : Kind) (s : Sheet) (passes calls : ℕ) : Type 0 where
+  pub none : s.ended ≡ 0
+  pub idle : s.in_flight ≡ false
+  pub lawful : IsLawfulOf s.tree kind
+  pub some_pass : 1 ≤ passes
+  pub few_passes : passes ≤ most_passes
+  pub some_call : 1 ≤ calls
+  pub few_calls : calls ≤ most_calls
+
+-- what its table is told
+abbrev pub shape_opened : Kind → Sheet → ℕ → ℕ → Shape
+shape_opened kind s passes calls = record { kind = kind; rows = s.tree.rows; passes = passes; calls = calls; opening = map_by s.tree }
+
+-- ---- passes
+
+-- its seat at the table, and its seat at the turn
+abbrev pub tree_seat : Pass → Badge View
+tree_seat p = p.seat
+
+abbrev pub turn_seat : Pass → Badge TurnView
+turn_seat p = p.turn
+
+abbrev pub part_of : Pass → PassPart
+part_of p = pass_or (part_in (tree_seat p).views)
+
+-- what a pass knows
+abbrev pub pass_in : Pass → known.Pass
+pass_in p = known_by (part_of p)
+
+-- the table of a pass that is not away
+abbrev pub identity_of_pass : Pass → Identity
+identity_of_pass p = record { table = (tree_seat p).table_id; shape = (part_of p).shape }
+
+-- The pass is one of this table's, and not away.
+pub record IsPassOf (t : Identity) (p : Pass) : Type 0 where
+  pub here : part_in (tree_seat p).views ≡ Some (part_of p)
+  pub of : identity_of_pass p ≡ t
+
+-- ---- the pen
+
+abbrev pub pen_in : Pen → PenPart
+pen_in p = pen_of p.seat.me.0
+
+-- the whole history of the pen's tree
+abbrev pub history_in : Pen → History
+history_in p = tree_of (pen_in p).shape (pen_in p).history
+
+abbrev pub identity_of_pen : Pen → Identity
+identity_of_pen p = record { table = p.seat.table_id; shape = (pen_in p).shape }
+
+abbrev pub IsPenOf : Identity → Pen → Type 0
+IsPenOf t p = identity_of_pen p ≡ t
+
+-- no pass is joined with the pen
+abbrev pub IsAlone : Pen → Type 0
+IsAlone p = p.seat.me.0.pass ≡ None
+
+-- a pass of the pen's table is joined with it
+pub record IsJoined (p : Pen) : Type 0 where
+  pub has : HasPass p.seat.me.0
+  pub shape : (pass_of p.seat.me.0).shape ≡ (pen_in p).shape
+
+-- what the joined pass knows
+abbrev pub joined_in : Pen → known.Pass
+joined_in p = known_by (pass_of p.seat.me.0)
+
+abbrev pub joined_turn : Pen → Badge TurnView
+joined_turn p = p.turn
+
+-- What the lock shows the pass that is joined with the pen: the whole history, which is one legal history of the
+-- table's passes.
+pub record WasShown (tree : History) (pen : PenPart) (p q : known.Pass) : Type 0 where
+  pub saw : known.Saw tree p q
+  pub all : q.seen ≡ records_of pen.history
+  pub whole : IsOneHistory pen
+
+-- ---- notes
+
+-- what a note tells
+abbrev pub note_in : Note → List Record
+note_in n = records_of (note_of n.seat.me.0).seen
+
+abbrev pub IsNoteOf : Identity → Note → Type 0
+IsNoteOf t n = n.seat.table_id ≡ t.table

@@ -1,0 +1,65 @@
+-- The rule of the turn: one seat at most holds the value, which is of the table that the turn serves.
+-- Source: the kernel's ma_lock, which a writer of a tree holds.
+use Rattle.std.specs.Prelude.{◌≡◌, ◌≢◌, ℕ, [], ◌∷◌, true, false, Option, Some}
+use mathlib.Core.Option.{some, none}
+use mathlib.Core.Option as maybe
+use lib.ListN.{get_elem?}
+use Rattle.atomic_table.specs.Table.{State, Me, Step}
+use Rattle.atomic_table.specs.Seated.{TableId}
+use Rattle.atomic_table.specs.declared.shared.Seat.{Seat}
+use Rattle.std.specs.declared.snapshot.Snapshot.{Snapshot}
+use Rattle.mt_rule.specs.declared.table.MtTable.{MtTable}
+use Rattle.mt_rule.specs.declared.passes.Pass.{Pass}
+use Rattle.mt_rule.specs.declared.views.TurnView.{TurnView}
+use Rattle.mt_rule.specs.Tokens.{Identity, identity_of, turn_seat}
+
+-- the table that a turn serves
+abbrev pub served : Snapshot MtTable → Identity
+served key = identity_of key.value
+
+abbrev pub waiting : Snapshot MtTable → TurnView
+waiting key = record { holds = false; of = key }
+
+abbrev pub holding : Snapshot MtTable → TurnView
+holding key = record { holds = true; of = key }
+
+-- The pass has a seat at this turn, and may wait for its value.
+pub record IsSeatedAt (turn : TableId) (key : Snapshot MtTable) (p : Pass) : Type 0 where
+  pub table : (turn_seat p).table_id ≡ turn
+  pub views : (turn_seat p).views ≡ waiting key ∷ []
+
+-- The seat holds the value of this turn.
+pub record IsTakenOf {S : Type 0} (turn : TableId) (key : Snapshot MtTable) (seat : Seat S TurnView) : Type 0 where
+  pub table : seat.table_id ≡ turn
+  pub view : seat.me.0 ≡ holding key
+
+-- the word is 0 while the value is in the slot
+abbrev pub taken_bit : {X : Type 0} → maybe.Option X → ℕ
+taken_bit none = 1
+taken_bit (some x) = 0
+
+module _ {C : Type 0} (table : C → Identity) where
+  -- a value that is there and is of this table
+  abbrev pub BelongsTo : Identity → Option C → Type 0
+  BelongsTo t slot = (value : C) × (slot ≡ Some value) × (table value ≡ t)
+
+  -- a seat knows the table that is served; the one that holds the value is the holder, and then the slot is away
+  pub record SeatFits (key : Snapshot MtTable) (holder : ℕ) (home : maybe.Option (Option C)) (by : ℕ) (v : TurnView) : Type 0 where
+    pub of : v.of ≡ key
+    pub holds : v.holds ≡ true → (by ≡ holder) × (home ≡ none)
+
+  pub record IsTurnKept (key : Snapshot MtTable) (s : State (Option C) TurnView) : Type 0 where
+    pub holder : ℕ
+    pub home : maybe.Option (Option C)
+    pub words : s.words ≡ taken_bit home ∷ []
+    pub homes : s.homes ≡ home ∷ []
+    pub value : (slot : Option C) → home ≡ some slot → BelongsTo (served key) slot
+    pub each : (by : ℕ) (v : TurnView) → get_elem? s.views by ≡ some v → SeatFits key holder home by v
+
+  -- A swap of 1 into the word: where it was 0, the seat then holds the value; else nothing has changed.
+  pub record Grabbed (me : Me (Option C) TurnView) (found : ℕ) (me' : Me (Option C) TurnView) : Type 0 where
+    pub free : found ≡ 0 → (value : C) × (me' ≡ (holding me.0.of, (0, Some value) ∷ me.1)) × (table value ≡ served me.0.of)
+    pub taken : found ≢ 0 → me' ≡ me
+
+  abbrev pub grabs : Step (Option C) → Me (Option C) TurnView → ℕ → Me (Option C) TurnView → Type 0
+  grabs step me found me' = Grabbed me found me'

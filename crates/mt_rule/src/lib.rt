@@ -1,0 +1,21 @@
+//! The rule of a shared tree's table, by which each caller knows a beginning of the tree's one history, and the turn of
+//! its writers.
+#![tactic(auto)]
+
+mod notes;
+mod passes;
+mod pens;
+mod rule;
+mod table;
+mod turn;
+mod views;
+
+pub use notes::Note;
+pub use passes::Pass;
+pub use pens::Pen;
+pub use table::{MOST_CALLS, MOST_PASSES, MtTable};
+pub use turn::{OfTable, Taken, Turn};
+pub use views::{Moment, NotePart, PassPart, PenPart, Shape, Told, TurnView, View};
+
+#[cfg(test)]
+mod tests;

@@ -1,0 +1,86 @@
+//! What the seats of a tree's table, and of its turn, know. No value of these types but `Told` is made when the program
+//! runs.
+
+use crate::table::MtTable;
+use mt_base::{Call, Kind, Range, Reply};
+use mt_rows::PlainRows;
+use std::collections::LinkedList;
+use std::snapshot::Snapshot;
+
+/// What a table is told when it is made.
+#[derive(Drop)]
+pub struct Told {
+    pub kind: Kind,
+    pub passes: u32,
+    pub calls: u64,
+    /// The rows as the tree opens.
+    pub rows: Snapshot<PlainRows>,
+}
+
+/// The same as plain data.
+pub struct Shape {
+    pub kind: Kind,
+    pub rows: u64,
+    pub passes: u32,
+    /// How many calls the tree may have.
+    pub calls: u64,
+    /// The map that the tree opens with.
+    pub opening: LinkedList<Range>,
+}
+
+/// A moment of a tree's history: who made the call, what it was, and what it was answered.
+pub struct Moment {
+    pub pass: u32,
+    pub call: Call,
+    pub reply: Reply,
+}
+
+/// What a seat of a tree's table knows, in parts.
+pub struct View {
+    pub pen: Option<PenPart>,
+    pub pass: Option<PassPart>,
+    pub note: Option<NotePart>,
+}
+
+/// What the pen knows.
+pub struct PenPart {
+    pub shape: Shape,
+    /// How many passes have been dealt.
+    pub dealt: u32,
+    pub history: LinkedList<Moment>,
+    /// How many calls have ended.
+    pub ended: u64,
+    /// Whether a call was begun that has not ended.
+    pub in_flight: bool,
+}
+
+/// What a pass knows.
+pub struct PassPart {
+    pub shape: Shape,
+    pub number: u32,
+    /// The first so many moments of the history.
+    pub seen: LinkedList<Moment>,
+    /// The numbers of its own calls there.
+    pub mine: LinkedList<u64>,
+    /// The epochs at which it opened sections.
+    pub opened: LinkedList<u64>,
+    /// The epoch of the section that stands open.
+    pub standing: Option<u64>,
+    /// The greatest number of calls that it knows to have begun.
+    pub begun: u64,
+    /// The greatest number of calls that it knows to have ended.
+    pub ended: u64,
+}
+
+/// What a note tells.
+pub struct NotePart {
+    pub seen: LinkedList<Moment>,
+}
+
+/// What a seat at the turn knows.
+pub struct TurnView {
+    /// Whether it holds the value.
+    pub holds: bool,
+    /// The table that the turn serves.
+    pub of: Snapshot<MtTable>,
+}
