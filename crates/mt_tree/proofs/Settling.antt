@@ -1,0 +1,156 @@
+-- All passes see the whole history, one after another.
+use Rattle.std.proofs.Common.{◌≡◌, ◌≢◌, ◌⊎◌, ℕ, zero, suc, ◌+◌, ◌<◌, ◌≤◌, List, [], ◌∷◌, Option, Some, None, length, map, set, get_or, refl, sym, ap, ◌∙◌, subst, inl, inr, ⊎_elim, arith, length-set}
+use Rattle.std.specs.Prelude.{All, slice_get, option_map, unwrap_or, IfSome}
+use Rattle.std.specs.List.{Contains}
+use Rattle.std.proofs.lemmas.List.{length-map}
+use Rattle.std.proofs.lemmas.List.Elements.{All-from_recursion}
+use Rattle.std.proofs.lemmas.Option.{slice_get-map, slice_get-get_or, slice_get_within}
+use Rattle.mt_base.specs.declared.replies.Holder.{Holder}
+use Rattle.mt_base.specs.History.{Record, History, IsLegal}
+use Rattle.mt_base.specs.Passes as known
+use Rattle.mt_base.specs.Passes.{Saw, Settled, IsSettled, NamesReader, places, with_records, holder_of}
+use Rattle.mt_rule.specs.declared.passes.Pass.{Pass}
+use Rattle.mt_rule.specs.declared.views.PenPart.{PenPart}
+use Rattle.mt_rule.specs.declared.views.Shape.{Shape}
+use Rattle.mt_rule.specs.Rule.{IsOneHistory, IsUnheld}
+use Rattle.mt_rule.specs.Seats.{records_of}
+use Rattle.mt_rule.specs.Tokens.{pass_in, WasShown}
+use Rattle.mt_rule.proofs.Beginnings.{all_weaker}
+use Rattle.mt_tree.specs.declared.trees.Tree.{Tree}
+use Rattle.mt_tree.specs.Trees.{opened, place_of, passes_of, seen_by, IsPassOf, AreAll}
+
+no_some : {A : Type 0} (a : A) → None ≡ Some a → ⊥
+no_some a e = absurd (cc)
+
+some_same : {A : Type 0} (a b : A) → Some a ≡ Some b → a ≡ b
+some_same a b e = ap (λ x. unwrap_or x a) e
+
+get_set : {A : Type 0} (l : List A) (i j : ℕ) (a b : A) → slice_get (set l i a) j ≡ Some b → ((j ≡ i) × (a ≡ b)) ⊎ ((j ≢ i) × (slice_get l j ≡ Some b))
+get_set [] i j a b e = absurd (no_some b e)
+get_set (x ∷ xs) zero zero a b e = inl (refl, some_same a b e)
+get_set (x ∷ xs) zero (suc j) a b e = inr ((λ h. omega arith), e)
+get_set (x ∷ xs) (suc i) zero a b e = inr ((λ h. omega arith), e)
+get_set (x ∷ xs) (suc i) (suc j) a b e = ⊎_elim (λ t. inl (ap suc t.0, t.1)) (λ t. let n = t.0 in inr ((λ h. n (omega arith)), t.1)) (get_set xs i j a b e)
+
+abbrev pub Shown : Tree → PenPart → known.Pass → known.Pass → Type 0
+Shown t pen p q = WasShown (opened t) pen p q × (pen.shape ≡ (place_of t).shape)
+
+-- the passes below n have seen the history, and what the others know is as before
+pub record Seeing (t : Tree) (pen : PenPart) (n : ℕ) (ps qs : List Pass) : Type 0 where
+  pub count : length qs ≡ length ps
+  pub of : (i : ℕ) (q : Pass) → slice_get qs i ≡ Some q → IsPassOf t q × ((pass_in q).number ≡ i)
+  pub done : (i : ℕ) (p q : Pass) → slice_get ps i ≡ Some p → slice_get qs i ≡ Some q → i < n → Shown t pen (pass_in p) (pass_in q)
+  pub left : (i : ℕ) (p q : Pass) → slice_get ps i ≡ Some p → slice_get qs i ≡ Some q → n ≤ i → pass_in q ≡ pass_in p
+
+pub pass_at : (t : Tree) (pen : PenPart) (n : ℕ) (ps qs : List Pass) (d : Pass) → Seeing t pen n ps qs → n < length qs → IsPassOf t (get_or qs n d)
+pass_at t pen n ps qs d s low = (s.of n (get_or qs n d) (slice_get-get_or qs n d low)).0
+
+of_all : (t : Tree) (ps : List Pass) (i : ℕ) (p : Pass) → AreAll t ps → slice_get ps i ≡ Some p → IsPassOf t p
+of_all t ps i p all is =
+    let low = slice_get_within ps i p is in
+    subst (IsPassOf t) (some_same (get_or ps i p) p (sym (slice_get-get_or ps i p low) ∙ is)) (all.of i p low)
+
+pub none_yet : (t : Tree) (pen : PenPart) (ps : List Pass) → AreAll t ps → Seeing t pen 0 ps ps
+none_yet t pen ps all = record {
+  count = refl;
+  of = λ i q is. (of_all t ps i q all is, all.numbered i q is);
+  done = λ i p q is is' low. absurd (omega arith);
+  left = λ i p q is is' low. ap pass_in (some_same q p (sym is' ∙ is));
+}
+
+pub one_more : (t : Tree) (pen : PenPart) (n : ℕ) (ps qs : List Pass) (d x : Pass) → Seeing t pen n ps qs → n < length qs → IsPassOf t x → Shown t pen (pass_in (get_or qs n d)) (pass_in x) → Seeing t pen (n + 1) ps (set qs n x)
+one_more t pen n ps qs d x s low of shown =
+    let here = slice_get-get_or qs n d low in
+    let number : (pass_in x).number ≡ n = ap (λ (q : known.Pass). q.number) shown.0.saw.pass ∙ (s.of n (get_or qs n d) here).1 in
+    record {
+      count = length-set qs n x ∙ s.count;
+      of = λ i q is. ⊎_elim
+          (λ (y : (i ≡ n) × (x ≡ q)). subst (λ (z : ℕ × Pass). IsPassOf t z.1 × ((pass_in z.1).number ≡ z.0)) (λ k. (sym y.0 k, y.1 k)) (of, number))
+          (λ (y : (i ≢ n) × (slice_get qs i ≡ Some q)). s.of i q y.1)
+          (get_set qs n i x q is);
+      done = λ i p q is is' below. ⊎_elim
+          (λ (y : (i ≡ n) × (x ≡ q)).
+          let was : pass_in (get_or qs n d) ≡ pass_in p = s.left n p (get_or qs n d) (subst (λ (k : ℕ). slice_get ps k ≡ Some p) y.0 is) here (omega arith) in
+          subst (λ (z : known.Pass × known.Pass). Shown t pen z.0 z.1) (λ k. (was k, pass_in (y.1 k))) shown)
+          (λ (y : (i ≢ n) × (slice_get qs i ≡ Some q)). let apart = y.0 in s.done i p q is y.1 (omega (arith, apart)))
+          (get_set qs n i x q is');
+      left = λ i p q is is' above. ⊎_elim
+          (λ (y : (i ≡ n) × (x ≡ q)). let same = y.0 in absurd (omega (arith, same)))
+          (λ (y : (i ≢ n) × (slice_get qs i ≡ Some q)). s.left i p q is y.1 (omega arith))
+          (get_set qs n i x q is');
+    }
+
+-- ---- all have seen it
+
+pub still_all : (t : Tree) (pen : PenPart) (n : ℕ) (ps qs : List Pass) → AreAll t ps → Seeing t pen n ps qs → AreAll t qs
+still_all t pen n ps qs all s = record {
+  count = s.count ∙ all.count;
+  of = λ i d low. (s.of i (get_or qs i d) (slice_get-get_or qs i d low)).0;
+  numbered = λ i q is. (s.of i q is).1;
+}
+
+from_map : {A B : Type 0} (f : A → B) (o : Option A) (b : B) → option_map f o ≡ Some b → (a : A) × ((o ≡ Some a) × (f a ≡ b))
+from_map f None b is = absurd (no_some b is)
+from_map f (Some a) b is = (a, (refl, some_same (f a) b is))
+
+each_all : {A : Type 0} (P : A → Type 0) (xs : List A) → ((i : ℕ) (x : A) → slice_get xs i ≡ Some x → P x) → All P xs
+each_all P xs each = λ i d low. each i (get_or xs i d) (slice_get-get_or xs i d low)
+
+nobody : (passes : List known.Pass) (r : Record) → IsUnheld r → NamesReader passes r.reply
+nobody passes r none = subst (λ (o : Option Holder). IfSome o (λ holder. (q : known.Pass) × (slice_get passes holder.pass ≡ Some q) × Contains q.opened holder.epoch)) (sym none) tt
+
+module _ (t : Tree) (pen : PenPart) (n : ℕ) (ps qs : List Pass) (s : Seeing t pen n ps qs) (whole : length qs ≤ n) where
+  abbrev history : History
+  history = with_records (opened t) (records_of pen.history)
+
+  record Was (i : ℕ) (q : known.Pass) : Type 0 where
+    pub number : q.number ≡ i
+    pub before : known.Pass
+    pub shown : Shown t pen before q
+
+  was : (i : ℕ) (q : known.Pass) → slice_get (map pass_in qs) i ≡ Some q → Was i q
+  was i q is =
+      let from = from_map pass_in (slice_get qs i) q (sym (slice_get-map pass_in qs i) ∙ is) in
+      let low = slice_get_within qs i from.0 from.1.0 in
+      let count = s.count in
+      let p = get_or ps i from.0 in
+      let here : slice_get ps i ≡ Some p = slice_get-get_or ps i from.0 (omega (arith, low, count)) in
+      subst (Was i) from.1.1 (record { number = (s.of i from.0 from.1.0).1; before = pass_in p; shown = s.done i p from.0 here from.1.0 (omega (arith, low)) })
+
+  saw_whole : (p q : known.Pass) → Saw (opened t) p q → Saw history p q
+  saw_whole p q saw = record { seen = saw.seen; pass = saw.pass; begun = saw.begun; ended = saw.ended; sound = record { own = saw.sound.own; legal = saw.sound.legal } }
+
+  each_saw : (i : ℕ) (p q : known.Pass) → slice_get (map pass_in ps) i ≡ Some p → slice_get (map pass_in qs) i ≡ Some q → Saw history p q
+  each_saw i p q is is' =
+      let from = from_map pass_in (slice_get ps i) p (sym (slice_get-map pass_in ps i) ∙ is) in
+      let to = from_map pass_in (slice_get qs i) q (sym (slice_get-map pass_in qs i) ∙ is') in
+      let low = slice_get_within qs i to.0 to.1.0 in
+      subst (λ (z : known.Pass × known.Pass). Saw history z.0 z.1) (λ k. (from.1.1 k, to.1.1 k)) (saw_whole (pass_in from.0) (pass_in to.0) (s.done i from.0 to.0 from.1.0 to.1.0 (omega (arith, low))).0.saw)
+
+  module _ (one : IsOneHistory pen) (many : pen.shape.passes ≡ length qs) (legal : IsLegal history) where
+    all_settled : IsSettled history (map pass_in qs)
+    all_settled = record {
+      numbered = λ i q is. (was i q is).number;
+      seen = each_all (λ q. q.seen ≡ history.records) (map pass_in qs) (λ i q is. (was i q is).shown.0.all);
+      own = each_all (λ q. q.mine ≡ places q.number history.records) (map pass_in qs) (λ i q is. let w = was i q is in w.shown.0.saw.sound.own ∙ ap (places q.number) w.shown.0.all);
+      theirs = All-from_recursion (λ (r : Record). r.pass < length (map pass_in qs)) history.records (all_weaker (λ r. r.pass < pen.dealt) (λ r. r.pass < length (map pass_in qs)) (λ r low. let d = one.dealt in omega (arith, many, d, length-map qs pass_in)) history.records one.callers);
+      begun = each_all (λ q. q.begun ≤ length history.records) (map pass_in qs) (λ i q is. let w = was i q is in
+          let saw = w.shown.0.saw in omega (arith, saw.begun, ap (λ (x : known.Pass). x.begun) saw.pass, ap length w.shown.0.all));
+      ended = each_all (λ q. q.ended ≡ length history.records) (map pass_in qs) (λ i q is. let w = was i q is in
+          ap (λ (x : known.Pass). x.ended) w.shown.0.saw.pass ∙ ap length w.shown.0.all);
+      by = All-from_recursion (λ (r : Record). NamesReader (map pass_in qs) r.reply) history.records (all_weaker IsUnheld (λ r. NamesReader (map pass_in qs) r.reply) (nobody (map pass_in qs)) history.records one.unheld);
+      legal = legal;
+    }
+
+    all_of : Settled history (map pass_in ps) (map pass_in qs)
+    all_of = record { count = length-map qs pass_in ∙ (s.count ∙ sym (length-map ps pass_in)); each = each_saw; settled = all_settled }
+
+pub settled : (t : Tree) (pen : PenPart) (n : ℕ) (ps qs : List Pass) → Seeing t pen n ps qs → length qs ≤ n → AreAll t ps → 1 ≤ passes_of t → Settled (seen_by t (map pass_in qs)) (map pass_in ps) (map pass_in qs)
+settled t pen n ps [] s whole all some = let a = all.count in let b = s.count in absurd (omega (arith, a, b, some))
+settled t pen n ps (q ∷ qs) s whole all some =
+    let w = was t pen n ps (q ∷ qs) s whole 0 (pass_in q) refl in
+    let one = w.shown.0.whole in
+    let many : pen.shape.passes ≡ length (q ∷ qs) = ap (λ (x : Shape). x.passes) w.shown.1 ∙ (sym all.count ∙ sym s.count) in
+    let seen : (pass_in q).seen ≡ records_of pen.history = w.shown.0.all in
+    let legal : IsLegal (with_records (opened t) (records_of pen.history)) = subst (λ (rs : List Record). IsLegal (with_records (opened t) rs)) seen w.shown.0.saw.sound.legal in
+    subst (λ (rs : List Record). Settled (with_records (opened t) rs) (map pass_in ps) (map pass_in (q ∷ qs))) (sym seen) (all_of t pen n ps (q ∷ qs) s whole one many legal)

@@ -1,0 +1,4 @@
+pub mod Behind
+pub mod Copies
+pub mod Shapes
+pub mod Trees

@@ -1,0 +1,90 @@
+-- A tree that threads share, its passes, and what its calls say of the words that lie behind its lock.
+-- Source: this project's own; the kernel's struct maple_tree and its spinlock.
+use Rattle.std.specs.Prelude.{◌≡◌, ◌≢◌, ℕ, Option, Some, None, IfSome, List, [], ◌∷◌, All, length, map, slice_get}
+use Rattle.std.specs.List.{range_with_len}
+use Rattle.atomic_table.specs.declared.shared.Seat.{Seat}
+use Rattle.mt_base.specs.declared.ranges.Range.{Range}
+use Rattle.mt_base.specs.declared.replies.Shortage.{Shortage}
+use Rattle.mt_base.specs.History.{History, last_map, limits_after}
+use Rattle.mt_base.specs.Nodes.{IsShort}
+use Rattle.mt_base.specs.Passes as known
+use Rattle.mt_base.specs.Passes.{with_records, new_pass}
+use Rattle.mt_engine.specs.Engine.{Parts, TellsBook}
+use Rattle.mt_rows.specs.Publish.{IsCounted}
+use Rattle.mt_rule.specs.declared.passes.Pass.{Pass}
+use Rattle.mt_rule.specs.declared.notes.Note.{Note}
+use Rattle.mt_rule.specs.declared.views.TurnView.{TurnView}
+use Rattle.mt_rule.specs.Seats.{records_of}
+use Rattle.mt_rule.specs.Tokens as rule
+use Rattle.mt_rule.specs.Tokens.{Identity, identity_of, tree_in, pass_in}
+use Rattle.mt_rule.specs.Turns.{IsSeatedAt, IsTakenOf}
+use Rattle.mt_tree.specs.declared.shapes.Shape.{Shape}
+use Rattle.mt_tree.specs.declared.shapes.Worn.{Worn}
+use Rattle.mt_tree.specs.declared.trees.Tree.{Tree}
+use Rattle.mt_tree.specs.Behind.{Behind}
+
+abbrev pub place_of : Tree → Identity
+place_of t = identity_of t.table
+
+-- the tree as it opened: its kind, its rows and its opening map, and no call
+abbrev pub opened : Tree → History
+opened t = tree_in (place_of t)
+
+-- how many passes it has, and how many calls it may have
+abbrev pub passes_of : Tree → ℕ
+passes_of t = (place_of t).shape.passes
+
+abbrev pub limit_of : Tree → ℕ
+limit_of t = (place_of t).shape.calls
+
+-- The pass is one of this tree's.
+pub record IsPassOf (t : Tree) (p : Pass) : Type 0 where
+  pub of : rule.IsPassOf (place_of t) p
+  pub seated : IsSeatedAt t.turn.table.shared.table_id t.turn.table.shared.key p
+
+abbrev pub IsNoteOf : Tree → Note → Type 0
+IsNoteOf t n = rule.IsNoteOf (place_of t) n
+
+-- These are all passes of the tree, in the order of their numbers.
+pub record AreAll (t : Tree) (ps : List Pass) : Type 0 where
+  pub count : length ps ≡ passes_of t
+  pub of : All (IsPassOf t) ps
+  pub numbered : (i : ℕ) (p : Pass) → slice_get ps i ≡ Some p → (pass_in p).number ≡ i
+
+-- the tree with the calls that the first of these passes has seen
+abbrev pub seen_by : Tree → List known.Pass → History
+seen_by t [] = opened t
+seen_by t (p ∷ ps) = with_records (opened t) p.seen
+
+-- the map after all that a pass has seen
+abbrev pub map_seen : Tree → known.Pass → List Range
+map_seen t p = last_map (with_records (opened t) p.seen)
+
+-- The tree has as many calls as it may have. The pass has then seen them all, and made none of them now.
+pub record IsWorn (t : Tree) (p : known.Pass) (w : Worn) (q : known.Pass) : Type 0 where
+  pub calls : w.calls ≡ limit_of t
+  pub all : length q.seen ≡ limit_of t
+  pub saw : known.Saw (opened t) p q
+
+-- A new tree that opens with this map and has no call, and its passes, numbered from 0, which have seen nothing.
+pub record IsNew (shape : Shape) (opening : List Range) (t : Tree) (ps : List Pass) : Type 0 where
+  pub tree : opened t ≡ record { kind = shape.kind; rows = shape.rows; opening = opening; records = [] }
+  pub calls : limit_of t ≡ shape.calls
+  pub all : AreAll t ps
+  pub passes : map pass_in ps ≡ map new_pass (range_with_len 0 shape.passes)
+
+-- The value behind the lock is taken, and the pass has seen the whole history.
+pub record IsOpen (t : Tree) (p : Pass) (behind : Behind) (seat : Seat (Option Behind) TurnView) : Type 0 where
+  pub of : IsPassOf t p
+  pub table : behind.table ≡ place_of t
+  pub taken : IsTakenOf t.turn.table.shared.table_id t.turn.table.shared.key seat
+  pub seen : (pass_in p).seen ≡ records_of behind.pen.history
+  pub ended : (pass_in p).ended ≡ length (pass_in p).seen
+
+-- Too few rows are free for a store behind all that the pass has seen. The shortage tells the height and the book of the rows,
+-- and no section of the pass itself where it has none open.
+pub record IsShortNow (t : Tree) (p : known.Pass) (e : Parts) (shortage : Shortage) : Type 0 where
+  pub short : IsShort (limits_after (opened t) (length p.seen)) (map_seen t p) shortage
+  pub counted : IsCounted e.sheet shortage
+  pub tells : TellsBook e.book shortage
+  pub by : p.standing ≡ None → IfSome shortage.by (λ holder. holder.pass ≢ p.number)

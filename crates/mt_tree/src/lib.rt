@@ -1,0 +1,20 @@
+//! The tree that threads share: one history of calls, of which each pass knows a beginning, and a lock over the rows.
+#![tactic(auto)]
+
+mod behind;
+mod copies;
+mod locked;
+mod make;
+mod settle;
+mod shapes;
+#[cfg(test)]
+mod tests;
+mod trees;
+mod writes;
+
+pub use behind::Desk;
+pub use locked::{Held, Locked, Write};
+pub use mt_check::Form;
+pub use mt_rule::{Note, Pass};
+pub use shapes::{Done, DupError, Field, MakeError, Read, Shape, Worn};
+pub use trees::Tree;

@@ -1,0 +1,222 @@
+//! Several calls under one lock.
+
+ghost use Rattle.std.specs.Prelude.{◌≡◌, ◌↔◌, ◌≤◌, Option, true, length, IsOk, IsTrue, IfOk, IfErr};
+ghost use Rattle.atomic_table.specs.declared.shared.Seat.{Seat};
+ghost use Rattle.mt_base.specs.declared.calls.Call.TheVariants.{StorePre};
+ghost use Rattle.mt_base.specs.Passes as known;
+ghost use Rattle.mt_base.specs.Passes.{Saw, Wrote};
+ghost use Rattle.mt_engine.specs.Engine.{is_refusal};
+ghost use Rattle.mt_rule.specs.declared.views.TurnView.{TurnView};
+ghost use Rattle.mt_rule.specs.Tokens.{pass_in};
+ghost use Rattle.mt_tree.specs.Behind.{Behind, IsReady, IsRead, IsStored, WasPrepared};
+ghost use Rattle.mt_tree.specs.Trees.{opened, limit_of, map_seen, IsPassOf, IsOpen, IsShortNow, IsWorn};
+
+use crate::behind::Desk;
+use crate::shapes::{Done, Read, Worn};
+use crate::trees::Tree;
+use mt_base::{Call, NoMemory, Query, Range, Shortage};
+use mt_rule::{Pass, Taken};
+use std::alloc::Global;
+use std::sync::Wait;
+
+/// What is held while a tree is locked.
+pub trait Held {
+    /// What lies behind the lock.
+    ghost behind: { Self → Behind };
+
+    /// The seat that has it.
+    ghost seat: { Self → Seat (Option Behind) TurnView };
+}
+
+impl Held for Taken<Desk> {
+    ghost behind = { λ taken. taken.value };
+
+    ghost seat = { λ taken. taken.seat };
+}
+
+/// A tree that is locked by a pass, which has seen the whole history.
+pub struct Locked<'a, K: Held> {
+    pub(crate) tree: &'a Tree,
+    pub(crate) pass: &'a mut Pass,
+    pub(crate) taken: K,
+    ghost open: { IsOpen tree.now pass.now (K.behind taken) (K.seat taken) },
+}
+
+/// A tree that is locked by a pass. It is given back by `unlock`.
+pub type Write<'a> = Locked<'a, Taken<Desk>>;
+
+impl Tree {
+    /// Waits for the lock. The pass has then seen the whole history.
+    pub fn lock<'a>(&'a self, rt: &impl Wait, pass: &'a mut Pass) -> Write<'a>
+        requires { IsPassOf self.now pass.old }
+        ensures same_reference { result.pass.ghost_name ≡ pass.entry.ghost_name }
+        ensures tree { result.tree.now ≡ self.now }
+        ensures saw { Saw (opened self.now) (pass_in pass.old) (pass_in result.pass.now) }
+    {
+        let mut taken = self.turn.take(rt, pass);
+        taken.value.show(self, pass);
+        Locked {
+            tree: self,
+            pass,
+            taken,
+        }
+    }
+}
+
+fn act_under(
+    taken: &mut Taken<Desk>,
+    tree: &Tree,
+    pass: &mut Pass,
+    call: &Call,
+) -> Result<Done, Worn>
+    requires { IsOpen tree.now pass.old taken.old.value taken.old.seat }
+    ensures open { IsOpen tree.now pass.new taken.new.value taken.new.seat }
+    ensures done { IfOk result (λ d. Wrote (opened tree.now) (pass_in pass.old) d.call call.now d.reply (pass_in pass.new) × (d.call ≤ limit_of tree.now)) }
+    ensures worn { IfErr result (λ w. IsWorn tree.now (pass_in pass.old) w (pass_in pass.new) × (taken.new.value ≡ taken.old.value)) }
+    ensures kept { IfOk result (λ d. is_refusal d.reply ≡ true → taken.new.value.parts.sheet.tree ≡ taken.old.value.parts.sheet.tree) }
+{
+    taken.value.act(tree, pass, call)
+}
+
+fn store_under(
+    taken: &mut Taken<Desk>,
+    tree: &Tree,
+    pass: &mut Pass,
+    first: u64,
+    last: u64,
+    entry: u64,
+) -> Result<Done, Worn>
+    requires open { IsOpen tree.now pass.old taken.old.value taken.old.seat }
+    requires ready { IsReady taken.old.value.parts }
+    ensures open { IsOpen tree.now pass.new taken.new.value taken.new.seat }
+    ensures done { IfOk result (λ d. Wrote (opened tree.now) (pass_in pass.old) d.call (StorePre first last entry) d.reply (pass_in pass.new) × (d.call ≤ limit_of tree.now)) }
+    ensures stored { IfOk result (λ d. IsStored d.reply) }
+    ensures worn { IfErr result (λ w. IsWorn tree.now (pass_in pass.old) w (pass_in pass.new) × (taken.new.value ≡ taken.old.value)) }
+    ensures kept { IfOk result (λ d. is_refusal d.reply ≡ true → taken.new.value.parts.sheet.tree ≡ taken.old.value.parts.sheet.tree) }
+{
+    taken.value.store_prealloc(tree, pass, first, last, entry)
+}
+
+fn ask_under(
+    taken: &mut Taken<Desk>,
+    tree: &Tree,
+    pass: &mut Pass,
+    query: &Query,
+) -> Read<Option<Range>>
+    requires { IsOpen tree.now pass.old taken.old.value taken.old.seat }
+    ensures open { IsOpen tree.now pass.new taken.new.value taken.new.seat }
+    ensures behind { IsRead taken.old.value taken.new.value }
+    ensures pass { pass_in pass.new ≡ pass_in pass.old }
+    ensures window { (result.lo ≡ length (pass_in pass.old).seen) × (result.hi ≡ result.lo) }
+    ensures read { known.Read (opened tree.now) (pass_in pass.old) result.lo result.hi result.lo query.now result.value (pass_in pass.new) }
+{
+    taken.value.ask(tree, pass, query)
+}
+
+fn preallocate_under(taken: &mut Taken<Desk>, tree: &Tree, pass: &mut Pass) -> Result<(), Shortage>
+    requires { IsOpen tree.now pass.old taken.old.value taken.old.seat }
+    ensures open { IsOpen tree.now pass.new taken.new.value taken.new.seat }
+    ensures prepared { WasPrepared taken.old.value taken.new.value }
+    ensures pass { pass_in pass.new ≡ pass_in pass.old }
+    ensures ready { IsOk result ↔ IsReady taken.new.value.parts }
+    ensures short { IfErr result (λ shortage. IsShortNow tree.now (pass_in pass.new) taken.new.value.parts shortage) }
+{
+    taken.value.preallocate(tree, pass)
+}
+
+fn list_under(
+    taken: &mut Taken<Desk>,
+    tree: &Tree,
+    pass: &mut Pass,
+    alloc: Global,
+) -> Result<Vec<Range>, NoMemory>
+    requires { IsOpen tree.now pass.old taken.old.value taken.old.seat }
+    ensures open { IsOpen tree.now pass.new taken.new.value taken.new.seat }
+    ensures behind { IsRead taken.old.value taken.new.value }
+    ensures pass { pass_in pass.new ≡ pass_in pass.old }
+    ensures items { IfOk result (λ ranges. ranges.items ≡ map_seen tree.now (pass_in pass.new)) }
+{
+    taken.value.list(tree, pass, alloc)
+}
+
+impl<'a> Locked<'a, Taken<Desk>> {
+    /// Makes one call. One that is refused leaves every word.
+    pub fn act(&mut self, call: &Call) -> Result<Done, Worn>
+        ensures same_reference { self.new.pass.ghost_name ≡ self.old.pass.ghost_name }
+        ensures tree { self.new.tree ≡ self.old.tree }
+        ensures done { IfOk result (λ d. Wrote (opened self.old.tree.now) (pass_in self.old.pass.now) d.call call.now d.reply (pass_in self.new.pass.now) × (d.call ≤ limit_of self.old.tree.now)) }
+        ensures worn { IfErr result (λ w. IsWorn self.old.tree.now (pass_in self.old.pass.now) w (pass_in self.new.pass.now) × (self.new.taken.value ≡ self.old.taken.value)) }
+        ensures kept { IfOk result (λ d. is_refusal d.reply ≡ true → self.new.taken.value.parts.sheet.tree ≡ self.old.taken.value.parts.sheet.tree) }
+    {
+        act_under(&mut self.taken, self.tree, self.pass, call)
+    }
+
+    /// Answers one query. It is no call of the history.
+    pub fn ask(&mut self, query: &Query) -> Read<Option<Range>>
+        ensures same_reference { self.new.pass.ghost_name ≡ self.old.pass.ghost_name }
+        ensures tree { self.new.tree ≡ self.old.tree }
+        ensures behind { IsRead self.old.taken.value self.new.taken.value }
+        ensures pass { pass_in self.new.pass.now ≡ pass_in self.old.pass.now }
+        ensures window { (result.lo ≡ length (pass_in self.old.pass.now).seen) × (result.hi ≡ result.lo) }
+        ensures read { known.Read (opened self.old.tree.now) (pass_in self.old.pass.now) result.lo result.hi result.lo query.now result.value (pass_in self.new.pass.now) }
+    {
+        ask_under(&mut self.taken, self.tree, self.pass, query)
+    }
+
+    /// Makes the tree ready for a store, which is then not refused for want of rows: it frees the rows that no section holds.
+    /// Where too few rows are free then, the shortage tells so. It is no call of the history.
+    pub fn preallocate(&mut self) -> Result<(), Shortage>
+        ensures same_reference { self.new.pass.ghost_name ≡ self.old.pass.ghost_name }
+        ensures tree { self.new.tree ≡ self.old.tree }
+        ensures pass { pass_in self.new.pass.now ≡ pass_in self.old.pass.now }
+        ensures prepared { WasPrepared self.old.taken.value self.new.taken.value }
+        ensures ready { IsOk result ↔ IsReady self.new.taken.value.parts }
+        ensures short { IfErr result (λ shortage. IsShortNow self.old.tree.now (pass_in self.old.pass.now) self.new.taken.value.parts shortage) }
+    {
+        preallocate_under(&mut self.taken, self.tree, self.pass)
+    }
+
+    /// Whether a store may be made by `store_prealloc`.
+    pub fn ready(&self) -> bool
+        ensures { IsTrue result ↔ IsReady self.now.taken.value.parts }
+    {
+        self.taken.value.ready()
+    }
+
+    /// Makes a store for which the tree is ready. It is never refused for want of rows.
+    pub fn store_prealloc(&mut self, first: u64, last: u64, entry: u64) -> Result<Done, Worn>
+        requires { IsReady self.old.taken.value.parts }
+        ensures same_reference { self.new.pass.ghost_name ≡ self.old.pass.ghost_name }
+        ensures tree { self.new.tree ≡ self.old.tree }
+        ensures done { IfOk result (λ d. Wrote (opened self.old.tree.now) (pass_in self.old.pass.now) d.call (StorePre first last entry) d.reply (pass_in self.new.pass.now) × (d.call ≤ limit_of self.old.tree.now)) }
+        ensures stored { IfOk result (λ d. IsStored d.reply) }
+        ensures worn { IfErr result (λ w. IsWorn self.old.tree.now (pass_in self.old.pass.now) w (pass_in self.new.pass.now) × (self.new.taken.value ≡ self.old.taken.value)) }
+        ensures kept { IfOk result (λ d. is_refusal d.reply ≡ true → self.new.taken.value.parts.sheet.tree ≡ self.old.taken.value.parts.sheet.tree) }
+    {
+        store_under(&mut self.taken, self.tree, self.pass, first, last, entry)
+    }
+
+    /// Copies the ranges out, in rising order.
+    pub fn list(&mut self, alloc: Global) -> Result<Vec<Range>, NoMemory>
+        ensures same_reference { self.new.pass.ghost_name ≡ self.old.pass.ghost_name }
+        ensures tree { self.new.tree ≡ self.old.tree }
+        ensures pass { pass_in self.new.pass.now ≡ pass_in self.old.pass.now }
+        ensures behind { IsRead self.old.taken.value self.new.taken.value }
+        ensures items { IfOk result (λ ranges. ranges.items ≡ map_seen self.old.tree.now (pass_in self.old.pass.now)) }
+    {
+        list_under(&mut self.taken, self.tree, self.pass, alloc)
+    }
+
+    /// Gives the lock back. The pass is as the last call left it.
+    pub fn unlock(self)
+        ensures pass { self.exit.1.0.now ≡ self.entry.pass.now }
+        ensures of { IsPassOf self.entry.tree.now self.exit.1.0.now }
+    {
+        let Locked {
+            tree,
+            pass: _,
+            taken,
+        } = self;
+        tree.turn.give(taken);
+    }
+}

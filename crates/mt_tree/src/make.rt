@@ -1,0 +1,95 @@
+//! A new tree, and its passes.
+
+ghost use Rattle.std.specs.Prelude.{◌≡◌, ◌↔◌, ◌+◌, ◌/◌, ◌≤◌, All, Some, [], length, map, IfOk};
+ghost use Rattle.mt_rows.specs.Memory.{sheet_in};
+ghost use Rattle.mt_rows.specs.Publish.{map_by};
+ghost use Rattle.mt_rows.specs.Sheet.{Sheet};
+ghost use Rattle.mt_engine.specs.Engine.{IsIdle};
+ghost use Rattle.mt_rule.specs.Tokens.{identity_of, pass_in, IsPassOf};
+ghost use Rattle.mt_rule.specs.Turns.{served, IsSeatedAt};
+ghost use Rattle.mt_tree.specs.declared.shapes.Field.{Field};
+ghost use Rattle.mt_tree.specs.Shapes.{first_bad};
+ghost use Rattle.mt_tree.specs.Trees.{IsNew};
+
+use crate::behind::Desk;
+use crate::shapes::{MakeError, Shape};
+use crate::trees::Tree;
+use mt_base::NoMemory;
+use mt_engine::Engine;
+use mt_free::RowBook;
+use mt_rows::PlainRows;
+use mt_rule::{MtTable, Pass, Turn};
+use std::alloc::Global;
+
+impl Tree {
+    /// An empty tree, and its passes, numbered from 0. A shape that is out of range is refused before any memory is taken, by its
+    /// first field that is.
+    pub fn make(alloc: Global, shape: Shape) -> Result<(Tree, Vec<Pass>), MakeError>
+        ensures bad { (field : Field) → (result ≡ Err (MakeError.BadShape field)) ↔ (first_bad shape ≡ Some field) }
+        ensures new { IfOk result (λ r. IsNew shape [] r.0 r.1.items) }
+    {
+        if let Some(field) = shape.first_bad() {
+            return Err(MakeError::BadShape { field });
+        }
+        match Tree::empty(alloc, shape) {
+            Ok(made) => Ok(made),
+            Err(_) => Err(MakeError::NoMemory),
+        }
+    }
+
+    /// The same of a shape in range.
+    fn empty(alloc: Global, shape: Shape) -> Result<(Tree, Vec<Pass>), NoMemory>
+        requires { first_bad shape ≡ None }
+        ensures { IfOk result (λ r. IsNew shape [] r.0 r.1.items) }
+    {
+        let book = RowBook::new(alloc, shape.rows)?;
+        let rows = PlainRows::new(alloc, shape.rows)?;
+        Tree::open(alloc, shape, rows, book)
+    }
+
+    /// A tree that opens with these rows, on which no call was begun.
+    pub(crate) fn open(
+        alloc: Global,
+        shape: Shape,
+        rows: PlainRows,
+        book: RowBook,
+    ) -> Result<(Tree, Vec<Pass>), NoMemory>
+        requires shape { first_bad shape ≡ None }
+        requires idle { IsIdle shape.kind (sheet_in rows) book }
+        requires first { (sheet_in rows).ended ≡ 0 }
+        requires rows { (sheet_in rows).tree.rows ≡ shape.rows }
+        requires few { (sheet_in rows).opened ≤ length (map_by (sheet_in rows).tree) / 2 + 2 }
+        ensures { IfOk result (λ r. IsNew shape (map_by (sheet_in rows).tree) r.0 r.1.items) }
+    {
+        let mut rows = rows;
+        let (table, pen, passes) = MtTable::make(
+            alloc,
+            shape.kind,
+            &mut rows,
+            shape.passes,
+            shape.calls,
+        )?;
+        let engine = Engine::new(rows, book, shape.kind);
+        let (turn, passes) = serve(alloc, &table, Desk { pen, engine }, passes)?;
+        Ok((Tree { table, turn, shape }, passes))
+    }
+}
+
+/// The turn of a table's writers, at which each pass has a seat.
+fn serve(
+    alloc: Global,
+    table: &MtTable,
+    desk: Desk,
+    passes: Vec<Pass>,
+) -> Result<(Turn<Desk>, Vec<Pass>), NoMemory>
+    requires desk { desk.table ≡ identity_of table.now }
+    requires passes { All (IsPassOf (identity_of table.now)) passes.items }
+    ensures serves { IfOk result (λ r. served r.0.table.shared.key ≡ identity_of table.now) }
+    ensures seated { IfOk result (λ r. All (IsSeatedAt r.0.table.shared.table_id r.0.table.shared.key) r.1.items) }
+    ensures of { IfOk result (λ r. All (IsPassOf (identity_of table.now)) r.1.items) }
+    ensures passes { IfOk result (λ r. map pass_in r.1.items ≡ map pass_in passes.items) }
+{
+    let mut passes = passes;
+    let turn = Turn::make(alloc, table, desk, passes.as_mut_slice())?;
+    Ok((turn, passes))
+}

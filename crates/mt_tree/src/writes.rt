@@ -1,0 +1,207 @@
+//! The calls of a tree, each under a lock of its own.
+
+ghost use Rattle.std.specs.Prelude.{◌≡◌, ◌≤◌, IfOk, IfErr};
+ghost use Rattle.mt_base.specs.declared.calls.Call.TheVariants as calls;
+ghost use Rattle.mt_base.specs.Passes.{Wrote, Learned};
+ghost use Rattle.mt_rule.specs.Tokens.{pass_in, note_in};
+ghost use Rattle.mt_tree.specs.Trees.{opened, limit_of, IsPassOf, IsNoteOf, IsWorn};
+
+use crate::shapes::{Done, Worn};
+use crate::trees::Tree;
+use mt_base::Call;
+use mt_rule::{Note, Pass};
+use std::sync::Wait;
+
+impl Tree {
+    /// Makes one call under a lock of its own.
+    fn once(&self, rt: &impl Wait, pass: &mut Pass, call: &Call) -> Result<Done, Worn>
+        requires { IsPassOf self.now pass.old }
+        ensures of { IsPassOf self.now pass.new }
+        ensures done { IfOk result (λ d. Wrote (opened self.now) (pass_in pass.old) d.call call.now d.reply (pass_in pass.new) × (d.call ≤ limit_of self.now)) }
+        ensures worn { IfErr result (λ w. IsWorn self.now (pass_in pass.old) w (pass_in pass.new)) }
+    {
+        let mut taken = self.turn.take(rt, pass);
+        let done = taken.value.act(self, pass, call);
+        self.turn.give(taken);
+        done
+    }
+
+    /// Stores an entry over a range, or nothing there where the entry is 0.
+    pub fn store_range(
+        &self,
+        rt: &impl Wait,
+        pass: &mut Pass,
+        first: u64,
+        last: u64,
+        entry: u64,
+    ) -> Result<Done, Worn>
+        requires { IsPassOf self.now pass.old }
+        ensures of { IsPassOf self.now pass.new }
+        ensures done { IfOk result (λ d. Wrote (opened self.now) (pass_in pass.old) d.call (calls.Store first last entry) d.reply (pass_in pass.new) × (d.call ≤ limit_of self.now)) }
+        ensures worn { IfErr result (λ w. IsWorn self.now (pass_in pass.old) w (pass_in pass.new)) }
+    {
+        self.once(rt, pass, &Call::Store { first, last, entry })
+    }
+
+    /// The same, where the rows that it may need are to be at hand.
+    pub fn store_pre(
+        &self,
+        rt: &impl Wait,
+        pass: &mut Pass,
+        first: u64,
+        last: u64,
+        entry: u64,
+    ) -> Result<Done, Worn>
+        requires { IsPassOf self.now pass.old }
+        ensures of { IsPassOf self.now pass.new }
+        ensures done { IfOk result (λ d. Wrote (opened self.now) (pass_in pass.old) d.call (calls.StorePre first last entry) d.reply (pass_in pass.new) × (d.call ≤ limit_of self.now)) }
+        ensures worn { IfErr result (λ w. IsWorn self.now (pass_in pass.old) w (pass_in pass.new)) }
+    {
+        self.once(rt, pass, &Call::StorePre { first, last, entry })
+    }
+
+    /// Stores an entry over a range that holds none.
+    pub fn insert_range(
+        &self,
+        rt: &impl Wait,
+        pass: &mut Pass,
+        first: u64,
+        last: u64,
+        entry: u64,
+    ) -> Result<Done, Worn>
+        requires { IsPassOf self.now pass.old }
+        ensures of { IsPassOf self.now pass.new }
+        ensures done { IfOk result (λ d. Wrote (opened self.now) (pass_in pass.old) d.call (calls.Insert first last entry) d.reply (pass_in pass.new) × (d.call ≤ limit_of self.now)) }
+        ensures worn { IfErr result (λ w. IsWorn self.now (pass_in pass.old) w (pass_in pass.new)) }
+    {
+        self.once(rt, pass, &Call::Insert { first, last, entry })
+    }
+
+    /// Removes the range that holds an index.
+    pub fn erase(&self, rt: &impl Wait, pass: &mut Pass, index: u64) -> Result<Done, Worn>
+        requires { IsPassOf self.now pass.old }
+        ensures of { IsPassOf self.now pass.new }
+        ensures done { IfOk result (λ d. Wrote (opened self.now) (pass_in pass.old) d.call (calls.Erase index) d.reply (pass_in pass.new) × (d.call ≤ limit_of self.now)) }
+        ensures worn { IfErr result (λ w. IsWorn self.now (pass_in pass.old) w (pass_in pass.new)) }
+    {
+        self.once(rt, pass, &Call::Erase { index })
+    }
+
+    /// Stores an entry over so many free indexes of a window, the lowest there are.
+    pub fn alloc_range(
+        &self,
+        rt: &impl Wait,
+        pass: &mut Pass,
+        size: u64,
+        min: u64,
+        max: u64,
+        entry: u64,
+    ) -> Result<Done, Worn>
+        requires { IsPassOf self.now pass.old }
+        ensures of { IsPassOf self.now pass.new }
+        ensures done { IfOk result (λ d. Wrote (opened self.now) (pass_in pass.old) d.call (calls.Alloc size min max entry) d.reply (pass_in pass.new) × (d.call ≤ limit_of self.now)) }
+        ensures worn { IfErr result (λ w. IsWorn self.now (pass_in pass.old) w (pass_in pass.new)) }
+    {
+        self.once(
+            rt,
+            pass,
+            &Call::Alloc {
+                size,
+                min,
+                max,
+                entry,
+            },
+        )
+    }
+
+    /// Stores an entry over so many free indexes of a window, the highest there are.
+    pub fn alloc_rrange(
+        &self,
+        rt: &impl Wait,
+        pass: &mut Pass,
+        size: u64,
+        min: u64,
+        max: u64,
+        entry: u64,
+    ) -> Result<Done, Worn>
+        requires { IsPassOf self.now pass.old }
+        ensures of { IsPassOf self.now pass.new }
+        ensures done { IfOk result (λ d. Wrote (opened self.now) (pass_in pass.old) d.call (calls.Ralloc size min max entry) d.reply (pass_in pass.new) × (d.call ≤ limit_of self.now)) }
+        ensures worn { IfErr result (λ w. IsWorn self.now (pass_in pass.old) w (pass_in pass.new)) }
+    {
+        self.once(
+            rt,
+            pass,
+            &Call::Ralloc {
+                size,
+                min,
+                max,
+                entry,
+            },
+        )
+    }
+
+    /// Tells where so many indexes of a window are free, the lowest.
+    pub fn empty_area(
+        &self,
+        rt: &impl Wait,
+        pass: &mut Pass,
+        size: u64,
+        min: u64,
+        max: u64,
+    ) -> Result<Done, Worn>
+        requires { IsPassOf self.now pass.old }
+        ensures of { IsPassOf self.now pass.new }
+        ensures done { IfOk result (λ d. Wrote (opened self.now) (pass_in pass.old) d.call (calls.Gap size min max) d.reply (pass_in pass.new) × (d.call ≤ limit_of self.now)) }
+        ensures worn { IfErr result (λ w. IsWorn self.now (pass_in pass.old) w (pass_in pass.new)) }
+    {
+        self.once(rt, pass, &Call::Gap { size, min, max })
+    }
+
+    /// Tells where so many indexes of a window are free, the highest.
+    pub fn empty_area_rev(
+        &self,
+        rt: &impl Wait,
+        pass: &mut Pass,
+        size: u64,
+        min: u64,
+        max: u64,
+    ) -> Result<Done, Worn>
+        requires { IsPassOf self.now pass.old }
+        ensures of { IsPassOf self.now pass.new }
+        ensures done { IfOk result (λ d. Wrote (opened self.now) (pass_in pass.old) d.call (calls.Rgap size min max) d.reply (pass_in pass.new) × (d.call ≤ limit_of self.now)) }
+        ensures worn { IfErr result (λ w. IsWorn self.now (pass_in pass.old) w (pass_in pass.new)) }
+    {
+        self.once(rt, pass, &Call::Rgap { size, min, max })
+    }
+
+    /// Removes all ranges.
+    pub fn clear(&self, rt: &impl Wait, pass: &mut Pass) -> Result<Done, Worn>
+        requires { IsPassOf self.now pass.old }
+        ensures of { IsPassOf self.now pass.new }
+        ensures done { IfOk result (λ d. Wrote (opened self.now) (pass_in pass.old) d.call calls.Clear d.reply (pass_in pass.new) × (d.call ≤ limit_of self.now)) }
+        ensures worn { IfErr result (λ w. IsWorn self.now (pass_in pass.old) w (pass_in pass.new)) }
+    {
+        self.once(rt, pass, &Call::Clear)
+    }
+
+    /// Copies what the pass has seen.
+    pub fn note(&self, pass: &mut Pass) -> Note
+        requires { IsPassOf self.now pass.old }
+        ensures pass { pass.new ≡ pass.old }
+        ensures of { IsNoteOf self.now result }
+        ensures note { note_in result ≡ (pass_in pass.old).seen }
+    {
+        self.table.split_note(pass)
+    }
+
+    /// The pass has then seen the longer of what it had seen and what the note tells. Each of these begins it.
+    pub fn learn(&self, pass: &mut Pass, note: Note)
+        requires pass { IsPassOf self.now pass.old }
+        requires note { IsNoteOf self.now note }
+        ensures of { IsPassOf self.now pass.new }
+        ensures learned { Learned (opened self.now) (pass_in pass.old) (note_in note) (pass_in pass.new) }
+    {
+        self.table.join_note(pass, note);
+    }
+}
