@@ -1,0 +1,6 @@
+use Rattle.std.proofs.Common.{◌≡◌, ◌≤◌, length}
+use Rattle.std.specs.Vec.{vec_len, vec_capacity}
+use Rattle.mt_desks.proofs.desks.LaneDesk.new.Given as goal
+
+abbrev pub invariant-loop-tree : goal.invariant-loop-tree
+invariant-loop-tree g l = (vec_len l.passes ≡ l._tree) × (length l.trees ≤ vec_capacity l.passes)

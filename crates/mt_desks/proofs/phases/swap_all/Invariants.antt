@@ -1,0 +1,9 @@
+use Rattle.std.proofs.Common.{◌≡◌}
+use Rattle.mt_lanes.specs.Lanes.{EachPlace}
+use Rattle.mt_desks.specs.Passing.{AllHaveSwapped}
+use Rattle.mt_desks.proofs.phases.swap_all.Given as goal
+
+abbrev pub invariant-loop-lane : goal.invariant-loop-lane
+invariant-loop-lane g l =
+    AllHaveSwapped (λ row. row.items) (λ x. x.desk.passes.items) l.lane l.initial.rows l.rows l.initial.lanes l.lanes
+    × EachPlace (λ x y. y ≡ record x { desk = record x.desk { passes = y.desk.passes } }) l.initial.lanes l.lanes

@@ -1,0 +1,41 @@
+-- Which of a phase's lines a lane does, and how much room their answers take.
+-- Source: this project's own, the language of logs.
+use Rattle.std.specs.Prelude.{ℕ, Bool, List, [], ◌∷◌, ◌+◌, ◌==◌, ◌&&◌, if◌then◌else◌, false}
+use Rattle.mt_log.specs.declared.lines.Item.{Item}
+use Rattle.mt_log.specs.declared.lines.Item.TheVariants.{Write, Ask, Scan}
+use Rattle.mt_log.specs.declared.lines.Line.{Line}
+use Rattle.mt_log.specs.Phases.{stepped_after}
+use Rattle.mt_log.specs.Run.{Asked, lane_after}
+
+-- a line that a lane does: a call, a query or a scan
+abbrev pub is_step : Item → Bool
+is_step item = stepped_after false item
+
+-- the lines that this lane does, from here on, where the log stands in the lane `here`
+abbrev pub lines_of_lane : (lane here : ℕ) → List Line → List Line
+lines_of_lane lane here [] = []
+lines_of_lane lane here (line ∷ lines) =
+    let rest = lines_of_lane lane (lane_after here line.item) lines in
+    if is_step line.item && (here == lane) then line ∷ rest else rest
+
+-- a line as what a lane is asked in a phase
+abbrev pub asked_of : ℕ → ℕ → Line → Asked
+asked_of lane phase line = record { line = line.number; lane = lane; phase = phase; item = line.item }
+
+-- the tree on which a lane does a line
+abbrev pub tree_of : Item → ℕ
+tree_of (Write tree call) = tree
+tree_of (Ask tree query) = tree
+tree_of (Scan tree index max count) = tree
+tree_of item = 0
+
+-- how many answers a line has at the most: a scan as many as its count, which may end before
+abbrev pub room_for : Item → ℕ
+room_for (Write tree call) = 1
+room_for (Ask tree query) = 1
+room_for (Scan tree index max count) = count
+room_for item = 0
+
+abbrev pub room_of : List Line → ℕ
+room_of [] = 0
+room_of (line ∷ lines) = room_for line.item + room_of lines

@@ -1,0 +1,6 @@
+pub mod Dealing
+pub mod Desks
+pub mod Passing
+pub mod Phases
+pub mod Scans
+pub mod Turns

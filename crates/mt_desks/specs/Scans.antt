@@ -1,0 +1,33 @@
+-- What a read and a scan of a lane come to, and how far a scan has come.
+-- Source: this project's own, the language of logs.
+use Rattle.std.specs.Prelude.{◌≡◌, ℕ, List, [], ◌∷◌, ◌++◌, Option, map}
+use Rattle.mt_base.specs.declared.ranges.Range.{Range}
+use Rattle.mt_base.specs.declared.calls.Query.{Query}
+use Rattle.mt_base.specs.History.{History}
+use Rattle.mt_base.specs.Passes.{Pass, Read}
+use Rattle.mt_log.specs.Run.{Asked, Step, IsScan, entry_of, shown}
+use Rattle.mt_log.specs.declared.transcripts.Entry.{Entry}
+use Rattle.mt_log.specs.declared.transcripts.Said.TheVariants as said
+use Rattle.mt_runs.specs.Leads.{Leads, outcomes_of}
+
+-- one read, told behind what the room held
+pub record IsLooked (line : ℕ) (tree : History) (query : Query) (value : Option Range) (p q : Pass) (room room' : List Entry) : Type 0 where
+  pub lo : ℕ
+  pub hi : ℕ
+  pub k : ℕ
+  pub read : Read tree p lo hi k query value q
+  pub told : room' ≡ room ++ record { line = line; said = said.Got lo hi (shown query value) } ∷ []
+
+-- a whole scan, of the line a, from the place at
+pub record IsScanned (a : Asked) (number max count : ℕ) (at : Option ℕ) (tree : History) (p q : Pass) (room room' : List Entry) : Type 0 where
+  pub steps : List Step
+  pub scan : IsScan a number max count at steps
+  pub leads : Leads tree p (outcomes_of number a.lane steps) q
+  pub told : room' ≡ room ++ map entry_of steps
+
+-- a scan that is to go on with so many reads, from the place here
+pub record ScansSoFar (a : Asked) (number max count : ℕ) (at : Option ℕ) (left : ℕ) (here : Option ℕ) (tree : History) (p q : Pass) (room room' : List Entry) : Type 0 where
+  pub steps : List Step
+  pub goes : (rest : List Step) → IsScan a number max left here rest → IsScan a number max count at (steps ++ rest)
+  pub leads : Leads tree p (outcomes_of number a.lane steps) q
+  pub told : room' ≡ room ++ map entry_of steps

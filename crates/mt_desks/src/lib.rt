@@ -1,0 +1,20 @@
+//! The desks of a phase's lanes: what each lane does on trees that several share.
+#![tactic(auto)]
+
+mod dealing;
+mod desks;
+pub mod laws;
+mod passing;
+mod phases;
+mod scans;
+mod shared;
+#[cfg(test)]
+mod tests;
+mod turns;
+
+pub use dealing::{lane_after, lane_of, lines_of_lane};
+pub use desks::LaneDesk;
+pub use phases::run_phase;
+pub use scans::{find_at, place_behind, place_within};
+pub use shared::{Done, Looked, Passage, Shared, Worn};
+pub use turns::put_back;

@@ -1,0 +1,71 @@
+//! What a lane does on a tree that several share.
+
+ghost use Rattle.std.specs.Prelude.{◌≡◌, ℕ, None, length, IfOk, IfErr};
+ghost use Rattle.mt_base.specs.Passes.{Pass, Wrote, Read, Saw};
+ghost use Rattle.mt_desks.specs.Desks.{SharedTree};
+
+use mt_base::{Call, Query, Range, Reply};
+use std::sync::Wait;
+
+/// A call that was made: its number in the tree's history, and its reply.
+#[derive(Clone, Copy, Debug, PartialEq, Eq)]
+pub struct Done {
+    pub call: u64,
+    pub reply: Reply,
+}
+
+/// The tree has as many calls as it takes.
+#[derive(Clone, Copy, Debug, PartialEq, Eq)]
+pub struct Worn;
+
+/// A read: its answer is that of the map after some number of calls from `lo` to `hi`.
+#[derive(Clone, Copy, Debug, PartialEq, Eq)]
+pub struct Looked {
+    pub lo: u64,
+    pub hi: u64,
+    pub value: Option<Range>,
+}
+
+/// A caller's token on a tree that several share.
+///
+/// Its meaning is what it knows of the tree's history.
+pub trait Passage {
+    ghost knows: { Self → Pass };
+
+    /// The pass's number. Those of a tree are numbered from 0.
+    fn number(&self) -> u32
+        ensures { result ≡ (knows self.now).number };
+
+    /// A pass of no tree. It stands in the place of one that is handed out.
+    fn away() -> Self;
+}
+
+/// A tree that several share, each with a pass of its own.
+///
+/// Its meanings are `tree`, its history and how many calls it takes; and `serves`, that a pass is one of this tree's.
+/// No call takes memory. `Wait` is asked of the caller for the lock alone.
+pub trait Shared<P: Passage> {
+    ghost tree: { Self → SharedTree };
+
+    ghost serves: { Self → P → Type 0 };
+
+    /// Makes a call.
+    ///
+    /// # Errors
+    ///
+    /// `Worn` where the tree has as many calls as it takes. The pass has then seen them all.
+    fn act<R: Wait>(&self, rt: &R, pass: &mut P, call: &Call) -> Result<Done, Worn>
+        requires of { serves self.now pass.old }
+        requires closed { (P.knows pass.old).standing ≡ None }
+        ensures of { serves self.now pass.new }
+        ensures wrote { IfOk result (λ done. Wrote (tree self.now).history (P.knows pass.old) done.call call.now done.reply (P.knows pass.new)) }
+        ensures worn { IfErr result (λ _. Saw (tree self.now).history (P.knows pass.old) (P.knows pass.new) × (length (P.knows pass.new).seen ≡ (tree self.now).most)) };
+
+    /// Makes a read. It leaves no section open.
+    fn ask<R: Wait>(&self, rt: &R, pass: &mut P, query: &Query) -> Looked
+        requires of { serves self.now pass.old }
+        requires closed { (P.knows pass.old).standing ≡ None }
+        ensures of { serves self.now pass.new }
+        ensures closed { (P.knows pass.new).standing ≡ None }
+        ensures read { (k : ℕ) × Read (tree self.now).history (P.knows pass.old) result.lo result.hi k query.now result.value (P.knows pass.new) };
+}
