@@ -5,7 +5,7 @@ use Rattle.mt_log.specs.declared.faults.Why.TheVariants as why
 use Rattle.mt_log.specs.declared.keywords.Keyword.{Keyword}
 use Rattle.mt_log.specs.declared.keywords.Keyword.TheVariants.{Tree, Dup, Check, Lane, Join, Store, StorePre, Insert, Erase, Alloc, Ralloc, Gap, Rgap, Clear, Load, Find, Next, Prev, Rfind, Scan}
 use Rattle.mt_log.specs.Fault.{◌>>=◌}
-use Rattle.mt_log.specs.Reading.{Read, item_of, item_by, built_keyword_of, tree_item, dup_item, check_item, lane_item, join_item, range_item, area_item, area_entry_item, index_item, bound_item, scan_item, whole_item}
+use Rattle.mt_log.specs.Reading.{Read, item_of, item_by, keyword_of, tree_item, dup_item, check_item, lane_item, join_item, range_item, area_item, area_entry_item, index_item, bound_item, scan_item, whole_item}
 
 -- no word takes six fields or more
 too_many : (k : Keyword) (r : Read) (a b c d e f : List ℕ) (more : List (List ℕ)) → item_by k r (a ∷ b ∷ c ∷ d ∷ e ∷ f ∷ more) ≡ Err why.Fields
@@ -38,7 +38,7 @@ either_way (Err e') r a b c d e f more others = refl
 -- the first eight fields of a line say what all of them say
 pub first_fields : (r : Read) (fields : List (List ℕ)) → item_of r (take 8 fields) ≡ item_of r fields
 unfolding item_of
-first_fields r (w ∷ a ∷ b ∷ c ∷ d ∷ e ∷ f ∷ more) = either_way (built_keyword_of w) r a b c d e f (take 1 more) more
+first_fields r (w ∷ a ∷ b ∷ c ∷ d ∷ e ∷ f ∷ more) = either_way (keyword_of w) r a b c d e f (take 1 more) more
 first_fields r (w ∷ a ∷ b ∷ c ∷ d ∷ e ∷ []) = refl
 first_fields r (w ∷ a ∷ b ∷ c ∷ d ∷ []) = refl
 first_fields r (w ∷ a ∷ b ∷ c ∷ []) = refl

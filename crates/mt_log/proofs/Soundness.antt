@@ -8,9 +8,9 @@ use Rattle.mt_log.specs.declared.lines.Item.TheVariants.{Tree, Lane, Join, Dup, 
 use Rattle.mt_log.specs.declared.lines.Line.{Line}
 use Rattle.mt_log.specs.declared.trees.KnownTree.{KnownTree}
 use Rattle.mt_log.specs.Phases.{AreInPlaceFrom, IsInPlace, phase_after, stepped_after, stepped_from}
-use Rattle.mt_log.specs.Reader.{HasTreeRoom, IsSound, MayFollow}
+use Rattle.mt_log.specs.Reader.{HasTreeRoom, IsSound, MayFollow, least_behind}
 use Rattle.mt_log.specs.Reading.{Read, after_item, nothing_read}
-use Rattle.mt_log.specs.Trees.{Declared, Opening, AreNamedFrom, NamesBelow, count_after, declared_by, known_after, known_by, most_trees, opening_by, renamed, trees_from, trees_of}
+use Rattle.mt_log.specs.Trees.{Declared, Opening, AreNamedFrom, NamesBelow, RiseFrom, count_after, declared_by, known_after, known_by, most_trees, opening_by, renamed, trees_from, trees_of}
 
 -- ---- the trees with one more line
 
@@ -93,6 +93,15 @@ stepped_more : (stepped : Bool) (lines : List Line) (line : Line) → stepped_fr
 stepped_more stepped [] line = refl
 stepped_more stepped (first ∷ lines) line = stepped_more (stepped_after stepped first.item) lines line
 
+-- is above them
+rising_more : (least : ℕ) (lines : List Line) (line : Line) → RiseFrom least lines → least_behind least lines ≤ line.number → RiseFrom least (lines ++ line ∷ [])
+rising_more least [] line h above = (above, tt)
+rising_more least (first ∷ lines) line h above = (h.0, rising_more (first.number + 1) lines line h.1 above)
+
+least_more : (least : ℕ) (lines : List Line) (line : Line) → least_behind least (lines ++ line ∷ []) ≡ line.number + 1
+least_more least [] line = refl
+least_more least (first ∷ lines) line = least_more (first.number + 1) lines line
+
 -- and leaves few trees
 few_after : (trees : List KnownTree) (item : Item) → length trees ≤ most_trees → HasTreeRoom trees item → count_after (length trees) item ≤ most_trees
 few_after trees (Tree name kind) few room = omega (arith, room.0)
@@ -108,7 +117,7 @@ few_after trees (Scan tree index max steps) few room = few
 
 -- where nothing was read, all is well
 pub sound_nothing : IsSound nothing_read
-sound_nothing = record { readable = record { named = tt; placed = tt; few = omega arith }; stepped = refl; known = refl }
+sound_nothing = record { readable = record { named = tt; placed = tt; few = omega arith; rising = tt }; above = omega arith; stepped = refl; known = refl }
 
 -- a line that may follow keeps it so
 pub sound_more : (read : Read) (item : Item) → IsSound read → MayFollow read item → IsSound (after_item read item)
@@ -124,7 +133,9 @@ sound_more read item h follows =
         named = named_more 0 read.lines line h.readable.named (subst (λ (k : ℕ). NamesBelow k item) (counts read.lines [] 0 h.readable.named) below);
         placed = placed_more false read.lines line h.readable.placed (subst (λ (b : Bool). IsInPlace b item) (sym h.stepped) follows.placed);
         few = rw (total, ← long) (few_after read.trees item (rw long h.readable.few) follows.trees);
+        rising = rising_more 2 read.lines line h.readable.rising h.above;
       };
+      above = omega (arith, least_more 2 read.lines line);
       stepped = stepped_more false read.lines line ∙ ap (λ (b : Bool). stepped_after b item) h.stepped;
       known = ap known_in more ∙ (known_more trees (phase_from 0 read.lines) item ∙ ap (λ t. known_after t item) h.known);
     }

@@ -1,7 +1,7 @@
 -- Why bytes are no log: a line, and the first test of it that failed.
 use Rattle.std.specs.Prelude.{◌≡◌, ℕ, List, Result, Ok, Err, codes}
 use Rattle.mt_log.specs.declared.faults.Why.{Why}
-use Rattle.mt_log.specs.declared.faults.Why.TheVariants.{NoNewline, Header, Unknown, Fields, Name, NoTree, Twice, BadKind, Number, LaneNo, Count, Order, Trees, Scans, NotYet}
+use Rattle.mt_log.specs.declared.faults.Why.TheVariants.{NoNewline, Header, Unknown, Fields, Name, NoTree, Twice, BadKind, Number, LaneNo, Count, Order, Trees, Scans}
 use Rattle.mt_log.specs.declared.faults.LogError.{LogError}
 use Rattle.mt_log.specs.declared.faults.LogError.TheVariants.{Bad, NoMemory}
 
@@ -48,4 +48,3 @@ why_text Count = codes "bad count"
 why_text Order = codes "not between phases"
 why_text Trees = codes "too many trees"
 why_text Scans = codes "too many scan steps"
-why_text NotYet = codes "not yet"

@@ -1,15 +1,22 @@
 -- What a reader knows of what it read so far, and of what a good line may add.
 -- Source: this project's own, the language of logs.
-use Rattle.std.specs.Prelude.{◌≡◌, ◌<◌, ◌≤◌, ◌-◌, false, List, None, length, map}
+use Rattle.std.specs.Prelude.{◌≡◌, ◌<◌, ◌≤◌, ◌+◌, ◌-◌, ℕ, false, List, [], ◌∷◌, None, length, map}
 use Rattle.mt_log.specs.declared.lines.Item.{Item}
 use Rattle.mt_log.specs.declared.lines.Item.TheVariants.{Tree, Dup}
+use Rattle.mt_log.specs.declared.lines.Line.{Line}
 use Rattle.mt_log.specs.declared.trees.KnownTree.{KnownTree}
 use Rattle.mt_log.specs.Phases.{IsInPlace, stepped_from}
 use Rattle.mt_log.specs.Reading.{Read, most_scan_steps, place_of, scan_steps_of}
 use Rattle.mt_log.specs.Trees.{IsReadable, NamesBelow, most_trees, trees_of}
 
+-- the least number of a line behind these, where it was this one before them
+abbrev pub least_behind : ℕ → List Line → ℕ
+least_behind least [] = least
+least_behind least (line ∷ lines) = least_behind (line.number + 1) lines
+
 pub record IsSound (read : Read) : Type 0 where
   pub readable : IsReadable read.lines
+  pub above : least_behind 2 read.lines ≤ read.next
   pub stepped : stepped_from false read.lines ≡ read.stepped
   pub known : map (λ d. d.tree) (trees_of read.lines) ≡ read.trees
 

@@ -1,7 +1,7 @@
 -- The log that bytes are, or the first line that is bad and why. It is read off the list of lines, cut at each LF,
 -- and the list of a line's fields, cut at each space.
 use Rattle.std.specs.Prelude.{ℕ, Bool, true, false, List, [], ◌∷◌, ◌++◌, Option, Result, Ok, Err, ◌+◌, ◌-◌, ◌^◌, ◌==◌, ◌&&◌, nat_lt, nat_le, is_some, length, map, take, drop, position, slice_get, codes, if◌then◌else◌}
-use Rattle.std.specs.List.{slice_split, list_all, list_any}
+use Rattle.std.specs.List.{slice_split, list_all}
 use Rattle.std.specs.Option.{ok_or, option_map, option_and_then}
 use Rattle.std.specs.Char.{is_ascii_digit, is_ascii_hexdigit}
 use Rattle.std.specs.Str.{bytes_eq}
@@ -106,10 +106,6 @@ pub record Read : Type 0 where
 
 -- ---- the words of the language
 
--- the words whose meaning is defined, and not built yet
-abbrev pub unbuilt_words : List (List ℕ)
-unbuilt_words = codes "lane" ∷ []
-
 unfoldable pub keyword_of : List ℕ → Result Keyword Why
 keyword_of word =
     if bytes_eq word (codes "tree") then Ok keyword.Tree
@@ -133,10 +129,6 @@ keyword_of word =
     else (if bytes_eq word (codes "rfind") then Ok keyword.Rfind
     else (if bytes_eq word (codes "scan") then Ok keyword.Scan
     else Err why.Unknown)))))))))))))))))))
-
--- a word that is built
-unfoldable pub built_keyword_of : List ℕ → Result Keyword Why
-built_keyword_of word = if list_any (bytes_eq word) unbuilt_words then Err why.NotYet else keyword_of word
 
 -- ---- the fields behind a line's word, tested one by one from the left, where their number is right
 
@@ -288,7 +280,7 @@ item_by keyword.Scan r fields = scan_item r fields
 -- what the fields of a line say, behind what was read
 unfoldable pub item_of : Read → List (List ℕ) → Result Item Why
 item_of r [] = Err why.Unknown
-item_of r (word ∷ fields) = built_keyword_of word >>= λ k. item_by k r fields
+item_of r (word ∷ fields) = keyword_of word >>= λ k. item_by k r fields
 
 abbrev pub fields_of : List ℕ → List (List ℕ)
 fields_of line = slice_split (λ b. b == 32) line

@@ -32,8 +32,6 @@ pub enum Why {
     Trees,
     /// With this line the scans have too many steps.
     Scans,
-    /// The line is of the language, and of what is not built yet.
-    NotYet,
 }
 
 impl Why {
@@ -60,7 +58,6 @@ impl Why {
             Why::Order => "not between phases",
             Why::Trees => "too many trees",
             Why::Scans => "too many scan steps",
-            Why::NotYet => "not yet",
         }
     }
 }

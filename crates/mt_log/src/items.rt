@@ -11,7 +11,7 @@ use crate::areas::Area;
 use crate::between_phases::{check_item, dup_item, lane_in, nothing_in, tree_item};
 use crate::faults::Why;
 use crate::fields::tree_of;
-use crate::keywords::{Keyword, built_keyword_of, words};
+use crate::keywords::{Keyword, keyword_of, words};
 use crate::lines::Item;
 use crate::numbers::{count_of, entry_number_of, index_of, size_of};
 use crate::reader::Reader;
@@ -326,6 +326,6 @@ pub fn item_of(reader: &Reader, fields: &[&[u8]]) -> Result<Item, Why>
     let [word, fields @ ..] = fields else {
         return Err(Why::Unknown);
     };
-    let keyword = built_keyword_of(word)?;
+    let keyword = keyword_of(word)?;
     item_by(keyword, reader, fields)
 }

@@ -1,7 +1,5 @@
 ghost use Rattle.std.specs.Prelude.{◌≡◌};
-ghost use Rattle.std.specs.List.{list_any};
-ghost use Rattle.std.specs.Str.{bytes_eq};
-ghost use Rattle.mt_log.specs.Reading.{keyword_of, built_keyword_of, unbuilt_words};
+ghost use Rattle.mt_log.specs.Reading.{keyword_of};
 
 use crate::faults::Why;
 
@@ -71,34 +69,10 @@ macro_rules! keyword_in {
     };
 }
 
-macro_rules! is_one_of {
-    ($word:ident, $($text:literal),*) => {
-        $($word == $text.as_bytes())||*
-    };
-}
-
-/// Whether a word is of the language, and of what is not built yet.
-fn is_unbuilt(word: &[u8]) -> bool
-    ensures { result ≡ list_any (bytes_eq word.now) unbuilt_words }
-{
-    is_one_of!(word, "lane")
-}
-
-/// The keyword that a word is.
+/// The keyword that a line's first field is.
 #[tactic(auto, unfolding(crate::specs::Reading::keyword_of))]
-fn keyword_of(word: &[u8]) -> Result<Keyword, Why>
+pub fn keyword_of(word: &[u8]) -> Result<Keyword, Why>
     ensures { result ≡ keyword_of word.now }
 {
     words!(keyword_in, word, Err(Why::Unknown))
-}
-
-/// The keyword that a line's first field is.
-#[tactic(auto, unfolding(crate::specs::Reading::built_keyword_of))]
-pub fn built_keyword_of(word: &[u8]) -> Result<Keyword, Why>
-    ensures { result ≡ built_keyword_of word.now }
-{
-    if is_unbuilt(word) {
-        return Err(Why::NotYet);
-    }
-    keyword_of(word)
 }

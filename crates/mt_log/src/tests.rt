@@ -143,6 +143,35 @@ load e 2
 }
 
 #[test]
+fn a_lane_may_be_named_anywhere_in_a_phase(rt: HostRuntime) -> Result<(), Fail> {
+    let log = "mtlog 1
+lane 0xF
+tree a range
+lane 0
+load a 1
+lane 00000000000000000007
+lane 15
+load a 2
+join
+lane 3
+check a
+";
+    let want = "2: lane 15
+3: declares a for range
+4: lane 0
+5: tree 0, Load { index: 1 }
+6: lane 7
+7: lane 15
+8: tree 0, Load { index: 2 }
+9: joins
+10: lane 3
+11: checks tree 0
+";
+    expect(&rt, rt.alloc(), log, want)?;
+    Ok(())
+}
+
+#[test]
 fn a_log_has_16_trees_at_the_most(rt: HostRuntime) -> Result<(), Fail> {
     let mut log = String::from_str(rt.alloc(), "mtlog 1\n")?;
     for tree in 1..=8 {
@@ -273,11 +302,15 @@ fn a_line_is_refused_by_its_first_failed_test(rt: HostRuntime) -> Result<(), Fai
         ("pstore a 1 2", "5 wrong number of fields"),
         ("pstore a 1 x 3", "5 bad number"),
         ("pstore a 1 2 3", "6 no newline"),
-        ("lane 1", "5 not yet"),
-        ("lane 16", "5 not yet"),
-        ("lane", "5 not yet"),
+        ("lane 1", "6 no newline"),
+        ("lane 16", "5 bad lane"),
+        ("lane max", "5 bad lane"),
+        ("lane a", "5 bad lane"),
+        ("lane ", "5 bad lane"),
+        ("lane", "5 wrong number of fields"),
+        ("lane 1 2", "5 wrong number of fields"),
+        ("lane 16 2", "5 wrong number of fields"),
     ];
-    assert_eq!(rt; Why::LaneNo.text(), "bad lane");
     for (line, want) in cases {
         let log = format!(in rt.alloc();
             "mtlog 1\n# a tree\ntree a range\nload a 1\n{line}\nload a 2"

@@ -1,14 +1,15 @@
 //! A log line by line: what one more line asks for and declares, and what a log that can be read says at each line. Each law is
 //! the contract of a function that does nothing.
 
-ghost use Rattle.std.specs.Prelude.{◌≡◌, ◌<◌, ℕ, Bool, false, All, List, [], ◌∷◌, ◌++◌, length};
+ghost use Rattle.std.specs.Prelude.{◌≡◌, ◌≢◌, ◌<◌, ℕ, Bool, false, All, List, [], ◌∷◌, ◌++◌, length};
 ghost use Rattle.std.specs.List.{AllByRecursion};
 ghost use Rattle.std.specs.Option.{option_to_list};
 ghost use Rattle.mt_log.specs.declared.lines.Line.{Line};
 ghost use Rattle.mt_log.specs.Phases.{IsInPlace, phase_after, stepped_after, stepped_from};
 ghost use Rattle.mt_log.specs.Run.{Asked, Step, AreDone, asked_from, lane_after, steps_of};
-ghost use Rattle.mt_log.specs.Trees.{IsReadable, NamesBelow, declared_by, most_lanes, trees_from, trees_of};
+ghost use Rattle.mt_log.specs.Trees.{IsReadable, NamesBelow, RiseFrom, declared_by, most_lanes, trees_from, trees_of};
 ghost use Rattle.mt_runs.specs.Lines.{asked_by, lane_behind, phase_behind};
+ghost use Rattle.mt_runs.specs.Tracks.{Pairs};
 
 /// Behind these lines, one line more.
 pub fn one_more_line()
@@ -45,4 +46,10 @@ pub fn a_line_of_a_readable_log()
     ensures named { (lines rest : List Line) (line : Line) → IsReadable (lines ++ line ∷ rest) → NamesBelow (length (trees_of lines)) line.item }
     ensures placed { (lines rest : List Line) (line : Line) → IsReadable (lines ++ line ∷ rest) → IsInPlace (stepped_from false lines) line.item }
     ensures lane { (lines rest : List Line) → IsReadable (lines ++ rest) → lane_behind 0 lines < most_lanes }
+{}
+
+/// The numbers of any two lines differ, of a log that can be read and of each stretch of it.
+pub fn lines_have_numbers_of_their_own()
+    ensures rising { (least : ℕ) (lines : List Line) → RiseFrom least lines → Pairs (λ (a b : Line). b.number ≢ a.number) lines }
+    ensures stretch { (front lines rest : List Line) → IsReadable (front ++ lines ++ rest) → Pairs (λ (a b : Line). b.number ≢ a.number) lines }
 {}
