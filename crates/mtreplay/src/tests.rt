@@ -277,7 +277,7 @@ fn a_bad_log_is_told_by_its_line(rt: HostRuntime) -> Result<(), Fail> {
         (
             "mtlog 1\n\n#\ntree a range\nload a 1\nlane 16\n",
             256,
-            "mtreplay: line 6: not yet\n",
+            "mtreplay: line 6: bad lane\n",
         ),
         (
             "mtlog 1\ntree a range\nload a 1\ncheck a\n",
@@ -287,7 +287,7 @@ fn a_bad_log_is_told_by_its_line(rt: HostRuntime) -> Result<(), Fail> {
         (
             "mtlog 1\ntree a range\nlane 16\n",
             256,
-            "mtreplay: line 3: not yet\n",
+            "mtreplay: line 3: bad lane\n",
         ),
     ];
     for (log, err_room, told) in rows {

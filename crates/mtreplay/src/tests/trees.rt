@@ -43,6 +43,11 @@ fn trees_are_called_each_by_itself(rt: HostRuntime) -> Result<(), Fail> {
             "tree a range\npstore a 10 10 5\npstore a 5 4 1\npstore a 10 10 7\n",
             "3 1 ok\n4 2 invalid\n5 3 ok\ntree a range 1\n10 10 7\n",
         ),
+        (
+            "tree a range\nlane 1\ntree b range\nstore a 0 9 1\nlane 15\nstore b 0 9 2\nlane 1\nload a 9\njoin\nload a 0\n",
+            "5 1 ok\n7 1 ok\n9 1 1 entry 1\n11 1 1 entry 1\n\
+             tree a range 1\n0 9 1\ntree b range 1\n0 9 2\n",
+        ),
     ];
     for (lines, text) in rows {
         let log = format!(in rt.alloc(); "mtlog 1\n{lines}")?;
