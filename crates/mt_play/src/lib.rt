@@ -1,0 +1,6 @@
+//! A log played on shared trees, phase by phase, each lane in a thread of its own.
+#![tactic(auto)]
+
+mod trees;
+
+pub use trees::Plays;
