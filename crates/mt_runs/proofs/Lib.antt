@@ -1,10 +1,12 @@
 pub mod Answered
 pub mod Counting
 pub mod EachLane
+pub mod FewCalls
 pub mod Holding
 pub mod Informed
 pub mod Knowing
 pub mod LanePasses
+pub mod LanesPhase
 pub mod Leading
 pub mod LineSteps
 pub mod Lists
@@ -17,5 +19,6 @@ pub mod Rooming
 pub mod Running
 pub mod Starting
 pub mod Stretches
+pub mod Totals
 pub mod Tracking
 pub mod WorkedPlay

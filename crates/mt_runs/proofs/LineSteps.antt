@@ -1,11 +1,13 @@
 -- The steps that came of a line are of its lane and its phase, on the tree that it names.
-use Rattle.std.proofs.Common.{◌≡◌, ℕ, zero, suc, ◌<◌, List, [], ◌∷◌, Option, Some, None, refl, sym, subst}
+use Rattle.std.proofs.Common.{◌≡◌, ℕ, zero, suc, ◌<◌, true, false, List, [], ◌∷◌, Option, Some, None, refl, sym, subst}
 use Rattle.std.specs.List.{All, AllByRecursion}
 use Rattle.std.proofs.lemmas.List.Elements.{All-from_recursion}
+use Rattle.mt_base.specs.declared.calls.Query.{Query}
 use Rattle.mt_base.specs.declared.ranges.Range.{Range}
 use Rattle.mt_log.specs.declared.lines.Item.{Item}
 use Rattle.mt_log.specs.declared.lines.Item.TheVariants.{Tree, Lane, Join, Dup, Check, Write, Ask, Scan}
-use Rattle.mt_log.specs.Run.{Asked, Outcome, Step, IsDone, IsScan, GoesOn, AreDone, place_behind, place_within, step_of}
+use Rattle.mt_log.specs.Phases.{stepped_after}
+use Rattle.mt_log.specs.Run.{Asked, Outcome, Called, Looked, Counted, Step, IsDone, IsScan, GoesOn, AreDone, find_at, place_behind, place_within, step_of}
 use Rattle.mt_log.specs.Trees.{NamesBelow}
 use Rattle.mt_runs.proofs.Lists.{every_append}
 
@@ -28,15 +30,15 @@ goes_each : (P : Step → Type 0) (a : Asked) (tree max count : ℕ) → ((at : 
 goes_each P a tree max count scans None steps g = no_step P steps g
 goes_each P a tree max count scans (Some r) steps g = scans (place_behind max r) steps g
 
-scan_each : (P : Step → Type 0) (a : Asked) (tree max count : ℕ) → ((o : Outcome) → P (step_of a tree o)) → (at : Option ℕ) (steps : List Step) → IsScan a tree max count at steps → AllByRecursion P steps
+pub scan_each : (P : Step → Type 0) (a : Asked) (tree max count : ℕ) → ((lo hi k : ℕ) (query : Query) (value : Option Range) → P (step_of a tree (Looked lo hi k query value))) → (at : Option ℕ) (steps : List Step) → IsScan a tree max count at steps → AllByRecursion P steps
 scan_each P a tree max zero p at steps s = no_step P steps s
-scan_each P a tree max (suc count) p at steps s = subst (AllByRecursion P) (sym s.5) (p _, goes_each P a tree max count (scan_each P a tree max count p) s.3 s.4 s.6)
+scan_each P a tree max (suc count) p at steps s = subst (AllByRecursion P) (sym s.5) (p s.0 s.1 s.2 (find_at at max) s.3, goes_each P a tree max count (scan_each P a tree max count p) s.3 s.4 s.6)
 
 -- what holds of each step that a line may have holds of those that came of it
 pub done_each : (P : Step → Type 0) (a : Asked) (item : Item) (steps : List Step) → ((tree : ℕ) (o : Outcome) → IsOn item tree → P (step_of a tree o)) → IsDone a item steps → AllByRecursion P steps
 done_each P a (Write tree call) steps p d = one_step P _ steps d.2 (p tree _ refl)
 done_each P a (Ask tree query) steps p d = one_step P _ steps d.4 (p tree _ refl)
-done_each P a (Scan tree index max count) steps p d = scan_each P a tree max count (λ o. p tree o refl) (place_within index max) steps d
+done_each P a (Scan tree index max count) steps p d = scan_each P a tree max count (λ lo hi k query value. p tree (Looked lo hi k query value) refl) (place_within index max) steps d
 done_each P a (Dup from name) steps p d = one_step P _ steps d.1 (p from _ refl)
 done_each P a (Check tree) steps p d = one_step P _ steps d.1 (p tree _ refl)
 done_each P a (Tree name kind) steps p d = no_step P steps d
@@ -66,3 +68,27 @@ pub steps_named : (count : ℕ) (asked : List Asked) (steps : List Step) → All
 steps_named count asked steps named done =
     let P : Step → Type 0 = λ s. s.tree < count in
     All-from_recursion P steps (all_done P (λ (a : Asked). NamesBelow count a.item) (λ a tree o q on. below_count count a.item tree q on) asked steps named done)
+
+-- ---- what came of a call, a query or a scan is no count
+
+abbrev pub IsUncounted : Outcome → Type 0
+IsUncounted (Called number call reply) = Unit {0}
+IsUncounted (Looked lo hi k query value) = Unit {0}
+IsUncounted (Counted said ranges) = ⊥
+
+abbrev Uncounted : Step → Type 0
+Uncounted s = IsUncounted s.outcome
+
+done_uncounted : (a : Asked) (item : Item) (steps : List Step) → stepped_after false item ≡ true → IsDone a item steps → AllByRecursion Uncounted steps
+done_uncounted a (Write tree call) steps lane d = one_step Uncounted _ steps d.2 tt
+done_uncounted a (Ask tree query) steps lane d = one_step Uncounted _ steps d.4 tt
+done_uncounted a (Scan tree index max count) steps lane d = scan_each Uncounted a tree max count (λ lo hi k query value. tt) (place_within index max) steps d
+done_uncounted a (Dup from name) steps lane d = cc
+done_uncounted a (Check tree) steps lane d = cc
+done_uncounted a (Tree name kind) steps lane d = no_step Uncounted steps d
+done_uncounted a (Lane lane) steps here d = no_step Uncounted steps d
+done_uncounted a Join steps lane d = no_step Uncounted steps d
+
+pub steps_uncounted : (asked : List Asked) (steps : List Step) → AllByRecursion (λ (a : Asked). stepped_after false a.item ≡ true) asked → AreDone asked steps → AllByRecursion (λ (s : Step). IsUncounted s.outcome) steps
+steps_uncounted [] steps lanes d = no_step Uncounted steps d
+steps_uncounted (a ∷ asked) steps lanes d = subst (AllByRecursion Uncounted) (sym d.2) (every_append Uncounted d.0 d.1 (done_uncounted a a.item d.0 lanes.0 d.3) (steps_uncounted asked d.1 lanes.1 d.4))

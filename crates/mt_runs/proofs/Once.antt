@@ -28,7 +28,7 @@ does_number tree p (Called number call reply) q (closed, d) = ap (λ (z : Pass).
 does_number tree p (Looked lo hi k query value) q d = d.grows.mine ∙ sym (append-nil p.mine)
 does_number tree p (Counted said ranges) q d = d.grows.mine ∙ sym (append-nil p.mine)
 
-leads_number : (tree : History) (p : Pass) (os : List Outcome) (q : Pass) → Leads tree p os q → q.mine ≡ p.mine ++ numbers_of os
+pub leads_number : (tree : History) (p : Pass) (os : List Outcome) (q : Pass) → Leads tree p os q → q.mine ≡ p.mine ++ numbers_of os
 leads_number tree p [] q l = l.grows.mine ∙ sym (append-nil p.mine)
 leads_number tree p (o ∷ os) q (m, n, learns, does, leads) =
     leads_number tree n os q leads ∙ (ap (λ z. z ++ numbers_of os) (does_number tree m o n does ∙ ap (λ z. z ++ numbers_of (o ∷ [])) learns.grows.mine)

@@ -1,3 +1,4 @@
+pub mod Gone
 pub mod Leads
 pub mod Lines
 pub mod OneThread

@@ -1,13 +1,18 @@
 //! What lanes make of a log, each with a pass of its own on each tree, in threads or not. Each law is the contract of a function
 //! that does nothing.
 
-ghost use Rattle.std.specs.Prelude.{◌≡◌, ℕ, Option, All, List, [], ◌∷◌, ◌++◌, Some, length, slice_get};
+ghost use Rattle.std.specs.Prelude.{◌≡◌, ◌<◌, ◌≤◌, ◌+◌, ℕ, true, false, Option, All, List, [], ◌∷◌, ◌++◌, Some, length, slice_get};
+ghost use Rattle.std.specs.List.{AllByRecursion};
 ghost use Rattle.mt_base.specs.History.{Record, History};
-ghost use Rattle.mt_base.specs.Passes.{Pass, Learned, Saw, Settled, with_records};
-ghost use Rattle.mt_log.specs.Run.{Asked, Outcome, Step, AreDone};
+ghost use Rattle.mt_base.specs.Passes.{Begins, IsSettled, Pass, Learned, Saw, Settled, with_records};
+ghost use Rattle.mt_log.specs.Phases.{stepped_after};
+ghost use Rattle.mt_log.specs.Run.{Asked, Outcome, Step, AreDone, IsDone};
+ghost use Rattle.mt_log.specs.Trees.{NamesBelow};
+ghost use Rattle.mt_runs.specs.Gone.{HaveGone, IsCounted, IsPhaseGone, OnlySaw, sum_below};
 ghost use Rattle.mt_runs.specs.Leads.{Learns, Does, Leads, outcomes_of};
-ghost use Rattle.mt_runs.specs.Phases.{IsPhaseOn, Counts};
+ghost use Rattle.mt_runs.specs.Phases.{Tracked, IsPhase, IsPhaseOn, Counts};
 ghost use Rattle.mt_runs.specs.Rooms.{asked_of_lane, AreAnswered, take_turns, lanes_of, joined};
+ghost use Rattle.mt_runs.specs.Tracks.{numbers_of};
 
 /// A pass learns of others by the lock, when it is settled, and by a note, and where its section is closed it has made no call
 /// either.
@@ -41,4 +46,45 @@ pub fn answers_are_put_back()
     ensures done { (asked : List Asked) (rooms : ℕ → List (List Step)) → ((lane : ℕ) → AreAnswered (asked_of_lane lane asked) (rooms lane)) → AreDone asked (joined (take_turns (lanes_of asked) rooms)) }
     ensures lanes { (asked : List Asked) (rooms : ℕ → List (List Step)) → ((lane : ℕ) → AreAnswered (asked_of_lane lane asked) (rooms lane))
         → (tree lane : ℕ) → outcomes_of tree lane (joined (take_turns (lanes_of asked) rooms)) ≡ outcomes_of tree lane (joined (rooms lane)) }
+{}
+
+/// Where a tree's passes were settled and none has made a call since, nothing of them is another when they are settled again.
+pub fn settled_passes_stay()
+    ensures { (tree new : History) (before between after : List Pass) → IsSettled tree before → OnlySaw tree before between → Settled new between after → new ≡ with_records tree new.records → 0 < length before
+        → (new ≡ tree) × (between ≡ before) × (after ≡ before) }
+{}
+
+/// Where the passes are settled behind the lanes, the history has the calls of the lanes more, and no other; no pass had seen
+/// more of it.
+pub fn calls_are_those_of_the_lanes()
+    ensures calls { (number : ℕ) (old new : History) (answers : ℕ → List (List Step)) (before between after : List Pass) → IsSettled old before → HaveGone number old answers before between → Settled new between after
+        → new ≡ with_records old new.records
+        → length new.records ≡ length old.records + sum_below (length before) (λ lane. length (numbers_of (outcomes_of number lane (joined (answers lane))))) }
+    ensures seen { (new : History) (between after : List Pass) → Settled new between after → (lane : ℕ) (m : Pass) → slice_get between lane ≡ Some m → length m.seen ≤ length new.records }
+    ensures begins { (new : History) (between after : List Pass) → Settled new between after → (lane : ℕ) (m : Pass) → slice_get between lane ≡ Some m → Begins m.seen new.records }
+{}
+
+/// What was counted as a phase began, and behind it what the lanes were answered, put back in the order of the log, is what came
+/// of the phase's lines, and these steps are the phase. The lines that are counted are not the lanes'.
+pub fn lanes_make_a_phase()
+    ensures { (passes phase : ℕ) (asked counted : List Asked) (csteps : List Step) (answers : ℕ → List (List Step)) (before after : List Tracked)
+        → AllByRecursion (λ (a : Asked). (a.phase ≡ phase) × (a.lane < passes)) (counted ++ asked)
+        → AllByRecursion (λ (a : Asked). NamesBelow (length before) a.item) (counted ++ asked)
+        → AllByRecursion (λ (a : Asked). stepped_after false a.item ≡ true) asked
+        → AreDone counted csteps → All (λ (s : Step). IsCounted before s) csteps
+        → ((lane : ℕ) → AreAnswered (asked_of_lane lane asked) (answers lane))
+        → length after ≡ length before
+        → ((tree : ℕ) (b a : Tracked) → slice_get before tree ≡ Some b → slice_get after tree ≡ Some a → (length b.passes ≡ passes) × IsPhaseGone tree b a answers)
+        → IsPhase passes phase (csteps ++ joined (take_turns (lanes_of asked) answers)) before after
+        × AreDone (counted ++ asked) (csteps ++ joined (take_turns (lanes_of asked) answers)) }
+{}
+
+/// A line makes one call at the most, so no lane makes more calls than it has lines, and all lanes have no more lines than there
+/// are.
+pub fn lanes_make_no_more_calls_than_lines()
+    ensures line { (number lane : ℕ) (a : Asked) (steps : List Step) → IsDone a a.item steps → length (numbers_of (outcomes_of number lane steps)) ≤ 1 }
+    ensures on { (number lane : ℕ) (steps more : List Step) → length (numbers_of (outcomes_of number lane (steps ++ more))) ≡ length (numbers_of (outcomes_of number lane steps)) + length (numbers_of (outcomes_of number lane more)) }
+    ensures lane { (number lane : ℕ) (asked : List Asked) (answers : List (List Step)) → AreAnswered asked answers → length (numbers_of (outcomes_of number lane (joined answers))) ≤ length asked }
+    ensures lanes { (lanes : ℕ) (asked : List Asked) → sum_below lanes (λ lane. length (asked_of_lane lane asked)) ≤ length asked }
+    ensures sums { (lanes : ℕ) (f g : ℕ → ℕ) → ((lane : ℕ) → lane < lanes → f lane ≤ g lane) → sum_below lanes f ≤ sum_below lanes g }
 {}
