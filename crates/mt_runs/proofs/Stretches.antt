@@ -79,7 +79,7 @@ done_append (a ∷ asked) others steps more d e = (
 
 -- ---- a log that can be read
 
-placed_there : (stepped : Bool) (xs ys : List Line) → AreInPlaceFrom stepped (xs ++ ys) → AreInPlaceFrom (stepped_from stepped xs) ys
+pub placed_there : (stepped : Bool) (xs ys : List Line) → AreInPlaceFrom stepped (xs ++ ys) → AreInPlaceFrom (stepped_from stepped xs) ys
 placed_there stepped [] ys h = h
 placed_there stepped (x ∷ xs) ys h = placed_there (stepped_after stepped x.item) xs ys h.1
 
@@ -93,7 +93,7 @@ pushed_long xs o x is = rw is (length-append xs (x ∷ []))
 unpushed_long : {X : Type 0} (xs : List X) → length (xs ++ []) ≡ length xs
 unpushed_long xs = omega (arith, length-append xs [])
 
-one_declared : (trees : List Declared) (phase : ℕ) (item : Item) → NamesBelow (length trees) item → length (trees ++ option_to_list (declared_by trees phase item)) ≡ count_after (length trees) item
+pub one_declared : (trees : List Declared) (phase : ℕ) (item : Item) → NamesBelow (length trees) item → length (trees ++ option_to_list (declared_by trees phase item)) ≡ count_after (length trees) item
 one_declared trees phase (Tree name kind) named = pushed_long trees (declared_by trees phase (Tree name kind)) (record { tree = record { name = name; kind = kind }; opening = Empty }) refl
 one_declared trees phase (Lane lane) named = unpushed_long trees
 one_declared trees phase Join named = unpushed_long trees
@@ -105,7 +105,7 @@ one_declared trees phase (Write tree call) named = unpushed_long trees
 one_declared trees phase (Ask tree query) named = unpushed_long trees
 one_declared trees phase (Scan tree index max count) named = unpushed_long trees
 
-named_there : (trees : List Declared) (phase : ℕ) (xs ys : List Line) → AreNamedFrom (length trees) (xs ++ ys) → AreNamedFrom (length (trees_from trees phase xs)) ys
+pub named_there : (trees : List Declared) (phase : ℕ) (xs ys : List Line) → AreNamedFrom (length trees) (xs ++ ys) → AreNamedFrom (length (trees_from trees phase xs)) ys
 named_there trees phase [] ys h = h
 named_there trees phase (x ∷ xs) ys h =
     let more : List Declared = trees ++ option_to_list (declared_by trees phase x.item) in
@@ -114,7 +114,7 @@ named_there trees phase (x ∷ xs) ys h =
 pub line_named : (lines rest : List Line) (line : Line) → IsReadable (lines ++ line ∷ rest) → NamesBelow (length (trees_of lines)) line.item
 line_named lines rest line r = (named_there [] 0 lines (line ∷ rest) r.named).0
 
-next_lane : (count lane : ℕ) (item : Item) → lane < most_lanes → NamesBelow count item → lane_after lane item < most_lanes
+pub next_lane : (count lane : ℕ) (item : Item) → lane < most_lanes → NamesBelow count item → lane_after lane item < most_lanes
 next_lane count lane (Tree name kind) l named = l
 next_lane count lane (Lane other) l named = named
 next_lane count lane Join l named = omega arith

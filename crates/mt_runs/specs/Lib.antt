@@ -4,4 +4,5 @@ pub mod Lines
 pub mod OneThread
 pub mod Phases
 pub mod Rooms
+pub mod Sums
 pub mod Tracks
