@@ -1,7 +1,13 @@
+pub mod Alone
 pub mod Answered
+pub mod Asking
+pub mod Calls
 pub mod Doing
 pub mod Fronts
 pub mod Going
+pub mod Laning
 pub mod Linked
+pub mod Naming
+pub mod Referring
 pub mod Scanning
 pub mod Swapping

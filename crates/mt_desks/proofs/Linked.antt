@@ -5,12 +5,13 @@ use Rattle.std.proofs.lemmas.Bool.{cases_Bool, eqb-true, eqb-false, eq-eqb, ne_e
 use Rattle.std.proofs.lemmas.List.{map-append, length-set, get_or-set_same, get_or-set_other}
 use Rattle.mt_log.specs.declared.lines.Line.{Line}
 use Rattle.mt_log.specs.declared.transcripts.Entry.{Entry}
-use Rattle.mt_log.specs.Phases.{phase_after}
-use Rattle.mt_log.specs.Run.{Asked, Step, asked_from, entry_of, is_answered, lane_after, lane_of}
+use Rattle.mt_log.specs.Run.{Asked, Step, entry_of, lane_after}
 use Rattle.mt_runs.specs.Rooms.{asked_of_lane, AreAnswered, behind_first, take_turns, lanes_of, joined}
 use Rattle.mt_runs.specs.Tracks.{Pairs}
 use Rattle.mt_runs.proofs.LineSteps.{done_each}
 use Rattle.mt_runs.proofs.Lists.{every, every_append}
+use Rattle.mt_desks.specs.Dealing.{is_step, steps_in}
+use Rattle.mt_desks.proofs.Asking.{steps_numbered}
 use Rattle.mt_desks.specs.Turns.{first_of, front_len, in_turn, rest_of, room_at, RoomsHold}
 
 -- ---- the front of a room
@@ -111,17 +112,26 @@ put_back_told (a ∷ asked) rooms answers within apart in_line holds =
     still_holds lane more o is l (inl t) = let same : lane ≡ a.lane = eqb-true lane a.lane t in rw (same, eq-eqb a.lane a.lane refl, o.is, get_or-set_same rooms a.lane more [] within.0) is
     still_holds lane more o is l (inr f) = rw (f, get_or-set_other rooms a.lane lane more [] (eqb-false lane a.lane f)) (holds lane l)
 
-lines_in_turn : (here phase : ℕ) (lines : List Line) (rooms : List (List Entry)) → in_turn here lines rooms ≡ asked_in_turn (asked_from here phase lines) rooms
+lines_in_turn : (here phase : ℕ) (lines : List Line) (rooms : List (List Entry)) → in_turn here lines rooms ≡ asked_in_turn (steps_in here phase lines) rooms
 lines_in_turn here phase [] rooms = refl
 lines_in_turn here phase (line ∷ lines) rooms =
-    let lane : ℕ = lane_of here line.item in
-    let left : List (List Entry) = slice_set rooms lane (rest_of line.number (room_at rooms lane)) in
-    elim (cases_Bool (is_answered line.item)) [
-      | inl t ↦ rw t (ap (λ z. first_of line.number (room_at rooms lane) ++ z) (lines_in_turn (lane_after here line.item) (phase_after phase line.item) lines left))
-      | inr f ↦ rw f (lines_in_turn (lane_after here line.item) (phase_after phase line.item) lines rooms)
+    let left : List (List Entry) = slice_set rooms here (rest_of line.number (room_at rooms here)) in
+    elim (cases_Bool (is_step line.item)) [
+      | inl t ↦ rw t (ap (λ z. first_of line.number (room_at rooms here) ++ z) (lines_in_turn (lane_after here line.item) phase lines left))
+      | inr f ↦ rw f (lines_in_turn (lane_after here line.item) phase lines rooms)
     ]
 
-pub answers_told : (phase : ℕ) (lines : List Line) (rooms : List (List Entry)) (answers : ℕ → List (List Step)) → AllByRecursion (λ (a : Asked). a.lane < length rooms) (asked_from 0 phase lines) → Pairs (λ (a b : Asked). b.line ≢ a.line) (asked_from 0 phase lines)
-    → ((lane : ℕ) → AreAnswered (asked_of_lane lane (asked_from 0 phase lines)) (answers lane)) → RoomsHold rooms answers → in_turn 0 lines rooms ≡ map entry_of (joined (take_turns (lanes_of (asked_from 0 phase lines)) answers))
+-- lines of different numbers
+asked_apart : (here phase : ℕ) (lines : List Line) → Pairs (λ (a b : Line). b.number ≢ a.number) lines → Pairs (λ (a b : Asked). b.line ≢ a.line) (steps_in here phase lines)
+asked_apart here phase [] apart = tt
+asked_apart here phase (line ∷ lines) apart =
+    let next : ℕ = lane_after here line.item in
+    elim (cases_Bool (is_step line.item)) [
+      | inl t ↦ rw t (steps_numbered line.number next phase lines apart.0, asked_apart next phase lines apart.1)
+      | inr f ↦ rw f (asked_apart next phase lines apart.1)
+    ]
+
+pub answers_told : (phase : ℕ) (lines : List Line) (rooms : List (List Entry)) (answers : ℕ → List (List Step)) → AllByRecursion (λ (a : Asked). a.lane < length rooms) (steps_in 0 phase lines) → Pairs (λ (a b : Line). b.number ≢ a.number) lines
+    → ((lane : ℕ) → AreAnswered (asked_of_lane lane (steps_in 0 phase lines)) (answers lane)) → RoomsHold rooms answers → in_turn 0 lines rooms ≡ map entry_of (joined (take_turns (lanes_of (steps_in 0 phase lines)) answers))
 answers_told phase lines rooms answers within apart answered holds =
-    lines_in_turn 0 phase lines rooms ∙ put_back_told (asked_from 0 phase lines) rooms answers within apart (λ lane. answered_in_line (asked_of_lane lane (asked_from 0 phase lines)) (answers lane) (answered lane)) holds
+    lines_in_turn 0 phase lines rooms ∙ put_back_told (steps_in 0 phase lines) rooms answers within (asked_apart 0 phase lines apart) (λ lane. answered_in_line (asked_of_lane lane (steps_in 0 phase lines)) (answers lane) (answered lane)) holds

@@ -1,8 +1,8 @@
 -- Which of a phase's lines a lane does, and how much room their answers take.
 -- Source: this project's own, the language of logs.
-use Rattle.std.specs.Prelude.{ℕ, Bool, List, [], ◌∷◌, ◌+◌, ◌==◌, ◌&&◌, if◌then◌else◌, false}
+use Rattle.std.specs.Prelude.{◌≡◌, ℕ, Bool, All, List, [], ◌∷◌, ◌+◌, ◌==◌, ◌&&◌, if◌then◌else◌, false, max, true}
 use Rattle.mt_log.specs.declared.lines.Item.{Item}
-use Rattle.mt_log.specs.declared.lines.Item.TheVariants.{Write, Ask, Scan}
+use Rattle.mt_log.specs.declared.lines.Item.TheVariants.{Join, Dup, Check, Write, Ask, Scan}
 use Rattle.mt_log.specs.declared.lines.Line.{Line}
 use Rattle.mt_log.specs.Phases.{stepped_after}
 use Rattle.mt_log.specs.Run.{Asked, lane_after}
@@ -21,6 +21,42 @@ lines_of_lane lane here (line ∷ lines) =
 -- a line as what a lane is asked in a phase
 abbrev pub asked_of : ℕ → ℕ → Line → Asked
 asked_of lane phase line = record { line = line.number; lane = lane; phase = phase; item = line.item }
+
+-- what the lanes are asked by these lines of a phase, each line by the lane in which the log stands
+abbrev pub steps_in : (here phase : ℕ) → List Line → List Asked
+steps_in here phase [] = []
+steps_in here phase (line ∷ lines) =
+    let rest = steps_in (lane_after here line.item) phase lines in
+    if is_step line.item then asked_of here phase line ∷ rest else rest
+
+-- a line that no lane does: a tree is copied or checked before the lanes of its phase start
+abbrev pub is_count : Item → Bool
+is_count (Dup from name) = true
+is_count (Check tree) = true
+is_count item = false
+
+-- what the program itself is asked by these lines of a phase, which is told as lane 0's
+abbrev pub counts_in : (phase : ℕ) → List Line → List Asked
+counts_in phase [] = []
+counts_in phase (line ∷ lines) =
+    let rest = counts_in phase lines in
+    if is_count line.item then asked_of 0 phase line ∷ rest else rest
+
+-- lines of one phase: a line that ends a phase is none of them
+abbrev pub is_join : Item → Bool
+is_join Join = true
+is_join item = false
+
+abbrev pub IsOnePhase : List Line → Type 0
+IsOnePhase lines = All (λ line. is_join line.item ≡ false) lines
+
+-- how many lanes a log has, from here on, where it stands in the lane `here`: one more than the greatest that does a line,
+-- and one where none does
+abbrev pub lanes_in : (here : ℕ) → List Line → ℕ
+lanes_in here [] = 1
+lanes_in here (line ∷ lines) =
+    let rest = lanes_in (lane_after here line.item) lines in
+    if is_step line.item then max (here + 1) rest else rest
 
 -- the tree on which a lane does a line
 abbrev pub tree_of : Item → ℕ

@@ -1,12 +1,13 @@
--- How the entries of the lanes' rooms are put back in the order of the log: for each line those that tell of it, from the front
--- of its lane's room.
+-- How the entries of the lanes' rooms are put back in the order of the log: for each line that a lane does those that tell of
+-- it, from the front of the lane's room.
 -- Source: this project's own.
 use Rattle.std.specs.Prelude.{◌≡◌, ℕ, List, [], ◌∷◌, ◌++◌, ◌==◌, ◌<◌, length, map, take, drop, slice_index_or, slice_set, if◌then◌else◌}
 use Rattle.std.specs.List.{prefix_len}
 use Rattle.mt_log.specs.declared.transcripts.Entry.{Entry}
 use Rattle.mt_log.specs.declared.lines.Line.{Line}
-use Rattle.mt_log.specs.Run.{Step, entry_of, is_answered, lane_after, lane_of}
+use Rattle.mt_log.specs.Run.{Step, entry_of, lane_after}
 use Rattle.mt_runs.specs.Rooms.{joined}
+use Rattle.mt_desks.specs.Dealing.{is_step}
 
 -- how many entries at the front of a room tell of a line
 abbrev pub front_len : ℕ → List Entry → ℕ
@@ -22,12 +23,11 @@ abbrev pub room_at : List (List Entry) → ℕ → List Entry
 room_at rooms lane = slice_index_or rooms lane []
 
 -- what is put back for each of these lines, where the log stands in the lane `here`
-abbrev pub in_turn : ℕ → List Line → List (List Entry) → List Entry
+abbrev pub in_turn : (here : ℕ) → List Line → List (List Entry) → List Entry
 in_turn here [] rooms = []
 in_turn here (line ∷ lines) rooms =
-    let lane = lane_of here line.item in
     let next = lane_after here line.item in
-    if is_answered line.item then first_of line.number (room_at rooms lane) ++ in_turn next lines (slice_set rooms lane (rest_of line.number (room_at rooms lane))) else in_turn next lines rooms
+    if is_step line.item then first_of line.number (room_at rooms here) ++ in_turn next lines (slice_set rooms here (rest_of line.number (room_at rooms here))) else in_turn next lines rooms
 
 -- the rooms hold what the lanes were answered
 abbrev pub RoomsHold : List (List Entry) → (ℕ → List (List Step)) → Type 0

@@ -1,8 +1,8 @@
 //! Which of a phase's lines a lane does.
 
-ghost use Rattle.std.specs.Prelude.{◌≡◌, IfOk};
-ghost use Rattle.mt_log.specs.Run.{is_answered, lane_after, lane_of};
-ghost use Rattle.mt_desks.specs.Dealing.{lines_of_lane, room_for, room_of, tree_of};
+ghost use Rattle.std.specs.Prelude.{◌≡◌, IfOk, map};
+ghost use Rattle.mt_log.specs.Run.{lane_after};
+ghost use Rattle.mt_desks.specs.Dealing.{is_step, lanes_in, lines_of_lane, room_for, room_of, tree_of};
 
 use mt_base::NoMemory;
 use mt_log::{Item, Line};
@@ -21,35 +21,6 @@ pub fn lane_after(lane: u32, item: &Item) -> u32
         | Item::Write { .. }
         | Item::Ask { .. }
         | Item::Scan { .. } => lane,
-    }
-}
-
-/// The lane that does a line, where the log stands in this one: a copy and a check are told as lane 0's.
-pub fn lane_of(lane: u32, item: &Item) -> u32
-    ensures { result ≡ lane_of lane item.now }
-{
-    match item {
-        Item::Dup { .. } | Item::Check { .. } => 0,
-        Item::Tree { .. }
-        | Item::Lane { .. }
-        | Item::Join
-        | Item::Write { .. }
-        | Item::Ask { .. }
-        | Item::Scan { .. } => lane,
-    }
-}
-
-/// Whether a line is answered: all are but those that declare an empty tree, name a lane or end a phase.
-pub(crate) fn is_answered(item: &Item) -> bool
-    ensures { result ≡ is_answered item.now }
-{
-    match item {
-        Item::Tree { .. } | Item::Lane { .. } | Item::Join => false,
-        Item::Dup { .. }
-        | Item::Check { .. }
-        | Item::Write { .. }
-        | Item::Ask { .. }
-        | Item::Scan { .. } => true,
     }
 }
 
@@ -87,8 +58,8 @@ fn room_for(item: &Item) -> u32
 /// # Errors
 ///
 /// `NoMemory` where they are more than any memory holds.
-pub(crate) fn room_of(lines: &[Line]) -> Result<usize, NoMemory>
-    ensures { IfOk result (λ room. room ≡ room_of lines.now) }
+pub(crate) fn room_of(lines: &[&Line]) -> Result<usize, NoMemory>
+    ensures { IfOk result (λ room. room ≡ room_of (map (λ r. r.now) lines.now)) }
 {
     let mut room = 0usize;
     for line in lines {
@@ -99,21 +70,49 @@ pub(crate) fn room_of(lines: &[Line]) -> Result<usize, NoMemory>
     Ok(room)
 }
 
+/// Whether a line is done by a lane: a call, a query or a scan.
+pub(crate) fn is_step(item: &Item) -> bool
+    ensures { result ≡ is_step item.now }
+{
+    item.stepped_after(false)
+}
+
 /// The lines of a phase that this lane does. The phase begins in lane 0.
 ///
 /// # Errors
 ///
 /// `NoMemory` where memory ran out.
-pub fn lines_of_lane(alloc: Global, lane: u32, lines: &[Line]) -> Result<Vec<Line>, NoMemory>
-    ensures { IfOk result (λ own. own.items ≡ lines_of_lane lane 0 lines.now) }
+pub fn lines_of_lane<'a>(
+    alloc: Global,
+    lane: u32,
+    lines: &'a [Line],
+) -> Result<Vec<&'a Line>, NoMemory>
+    ensures { IfOk result (λ own. map (λ r. r.now) own.items ≡ lines_of_lane lane 0 lines.now) }
 {
     let mut own = Vec::new(alloc);
     let mut here = 0;
     for line in lines {
-        if line.item.stepped_after(false) && here == lane {
-            own.push(*line)?;
+        if is_step(&line.item) && here == lane {
+            own.push(line)?;
         }
         here = lane_after(here, &line.item);
     }
     Ok(own)
+}
+
+/// How many lanes a log has: one more than the greatest that does a line, and one where none does. It is no more than
+/// 2^32.
+#[tactic(auto, using(crate::proofs::Laning::some_lane))]
+pub fn lanes_in(lines: &[Line]) -> u64
+    ensures { result ≡ lanes_in 0 lines.now }
+{
+    let mut lanes = 1;
+    let mut here = 0;
+    for line in lines {
+        if is_step(&line.item) {
+            lanes = lanes.max(here as u64 + 1);
+        }
+        here = lane_after(here, &line.item);
+    }
+    lanes
 }

@@ -107,27 +107,27 @@ pub struct LaneDesk<'a, R, P: Drop, T> {
     pub lane: u32,
     pub phase: u64,
     pub trees: &'a [T],
-    pub lines: &'a [Line],
+    pub lines: &'a [&'a Line],
     pub passes: Vec<P>,
     pub room: Vec<Entry>,
 }
 
 impl<'a, R: Wait, P: Passage + Drop, T: Shared<P>> Desk for LaneDesk<'a, R, P, T> {
-    ghost use Rattle.std.specs.Prelude.{◌≡◌, length, vec_len, vec_capacity};
+    ghost use Rattle.std.specs.Prelude.{◌≡◌, length, map, vec_len, vec_capacity};
     ghost use Rattle.mt_desks.specs.Desks.{IsReady, DeskDid, StillManned, desk_of};
 
     ghost count = { λ d. length d.lines.now };
 
-    ghost awaits = { λ d s. IsReady P.knows T.serves d.trees.now d.lines.now s d.passes.items (vec_len d.room) (vec_capacity d.room) };
+    ghost awaits = { λ d s. IsReady P.knows T.serves d.trees.now (map (λ r. r.now) d.lines.now) s d.passes.items (vec_len d.room) (vec_capacity d.room) };
 
-    ghost did = { λ a s b. DeskDid (desk_of T.tree P.knows a.lane a.phase a.trees.now a.lines.now a.passes.items a.room.items) s
-        (desk_of T.tree P.knows b.lane b.phase b.trees.now b.lines.now b.passes.items b.room.items) × StillManned P.knows T.serves a.trees.now b.trees.now b.passes.items };
+    ghost did = { λ a s b. DeskDid (desk_of T.tree P.knows a.lane a.phase a.trees.now (map (λ r. r.now) a.lines.now) a.passes.items a.room.items) s
+        (desk_of T.tree P.knows b.lane b.phase b.trees.now (map (λ r. r.now) b.lines.now) b.passes.items b.room.items) × StillManned P.knows T.serves a.trees.now b.trees.now b.passes.items };
 
     fn answer(&mut self, step: u64) {
         answer_line(
             self.rt,
             self.trees,
-            &self.lines[step as usize],
+            self.lines[step as usize],
             self.passes.as_mut_slice(),
             &mut self.room,
         );
@@ -138,8 +138,8 @@ impl<'a, R: Wait, P: Passage + Drop, T: Shared<P>> LaneDesk<'a, R, P, T> {
     ghost use Rattle.std.specs.Prelude.{◌≡◌, ◌≤◌, ◌+◌, IfOk, length, map, vec_len, vec_capacity};
     ghost use Rattle.mt_desks.specs.Dealing.{room_of};
 
-    /// A desk for these lines, which takes all its memory. Its room holds what was told before, as what the phase's
-    /// copies and checks were told, and its passes are away.
+    /// A desk for these lines, which takes all its memory. Its room is the one that it is given, with what that holds at
+    /// the front, and its passes are away.
     ///
     /// # Errors
     ///
@@ -150,24 +150,22 @@ impl<'a, R: Wait, P: Passage + Drop, T: Shared<P>> LaneDesk<'a, R, P, T> {
         lane: u32,
         phase: u64,
         trees: &'a [T],
-        lines: &'a [Line],
-        told: &[Entry],
+        lines: &'a [&'a Line],
+        mut room: Vec<Entry>,
     ) -> Result<Self, NoMemory>
         ensures lane { IfOk result (λ d. d.lane ≡ lane) }
         ensures phase { IfOk result (λ d. d.phase ≡ phase) }
         ensures trees { IfOk result (λ d. d.trees.now ≡ trees.now) }
         ensures lines { IfOk result (λ d. d.lines.now ≡ lines.now) }
         ensures passes { IfOk result (λ d. vec_len d.passes ≡ length trees.now) }
-        ensures told { IfOk result (λ d. d.room.items ≡ told.now) }
-        ensures roomy { IfOk result (λ d. vec_len d.room + room_of lines.now ≤ vec_capacity d.room) }
+        ensures told { IfOk result (λ d. d.room.items ≡ room.items) }
+        ensures roomy { IfOk result (λ d. vec_len d.room + room_of (map (λ r. r.now) lines.now) ≤ vec_capacity d.room) }
     {
         let mut passes = Vec::with_capacity(alloc, trees.len())?;
         for _tree in 0..trees.len() {
             passes.push_reserved(P::away());
         }
-        let answers = room_of(lines)?.checked_add(told.len()).ok_or(NoMemory)?;
-        let mut room = Vec::with_capacity(alloc, answers)?;
-        room.extend_from_slice(told)?;
+        room.reserve(room_of(lines)?)?;
         Ok(LaneDesk {
             rt,
             lane,

@@ -5,6 +5,7 @@ mod dealing;
 mod desks;
 pub mod laws;
 mod passing;
+pub mod phase_lines;
 mod phases;
 mod scans;
 mod shared;
@@ -12,7 +13,7 @@ mod shared;
 mod tests;
 mod turns;
 
-pub use dealing::{lane_after, lane_of, lines_of_lane};
+pub use dealing::{lane_after, lanes_in, lines_of_lane};
 pub use desks::LaneDesk;
 pub use phases::run_phase;
 pub use scans::{find_at, place_behind, place_within};

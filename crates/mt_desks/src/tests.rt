@@ -1,4 +1,4 @@
-ghost use Rattle.std.specs.Prelude.{◌≡◌, true, All, ◌≤◌, ◌^◌, ⊤, IfOk, [], length, vec_len, vec_capacity};
+ghost use Rattle.std.specs.Prelude.{◌≡◌, true, All, ◌≤◌, ◌^◌, ⊤, IfOk, [], length, map, vec_len, vec_capacity};
 ghost use Rattle.mt_base.specs.declared.kinds.Kind.TheVariants as kinds;
 ghost use Rattle.mt_base.specs.Passes.{new_pass};
 ghost use Rattle.mt_log.specs.Trees.{NamesBelow};
@@ -6,7 +6,9 @@ ghost use Rattle.mt_desks.specs.Dealing.{is_step};
 ghost use Rattle.mt_desks.specs.Desks.{AreLines};
 ghost use Rattle.mt_desks.specs.Phases.{IsLaid};
 
-use crate::{Done, LaneDesk, Looked, Passage, Shared, Worn, lines_of_lane, put_back, run_phase};
+use crate::{
+    Done, LaneDesk, Looked, Passage, Shared, Worn, lanes_in, lines_of_lane, put_back, run_phase,
+};
 use mt_base::{Call, NoMemory, Query};
 use mt_io::NoGate;
 use mt_lanes::Lane;
@@ -100,6 +102,12 @@ fn check(number: u64) -> Line {
     Line { number, item }
 }
 
+/// The end of a phase.
+fn join(number: u64) -> Line {
+    let item = Item::Join;
+    Line { number, item }
+}
+
 /// A line that names a lane.
 fn lane(number: u64, lane: u32) -> Line {
     let item = Item::Lane { lane };
@@ -142,6 +150,21 @@ fn told(entry: &Entry) -> (u64, u64) {
 }
 
 #[test]
+fn a_log_has_as_many_lanes_as_do_lines(rt: HostRuntime) -> Result<(), Fail> {
+    let rows: [(&[Line], u64); 5] = [
+        (&[], 1),
+        (&[lane(3, 5), check(4)], 1),
+        (&[lane(3, 5), load(4), lane(5, 2), load(6)], 6),
+        (&[lane(3, 15), clear(4)], 16),
+        (&[lane(3, 9), join(4), load(5)], 1),
+    ];
+    for (lines, want) in rows {
+        assert_eq!(rt; lanes_in(lines), want);
+    }
+    Ok(())
+}
+
+#[test]
 fn answers_are_put_back_in_the_order_of_the_log(rt: HostRuntime) -> Result<(), Fail> {
     let lines = [
         lane(3, 1),
@@ -156,7 +179,7 @@ fn answers_are_put_back_in_the_order_of_the_log(rt: HostRuntime) -> Result<(), F
         lane(12, 1),
         clear(13),
     ];
-    let first = [entry(4, 1), entry(7, 5), entry(11, 7)];
+    let first = [entry(7, 5), entry(11, 7)];
     let second = [
         entry(5, 2),
         entry(5, 3),
@@ -165,7 +188,7 @@ fn answers_are_put_back_in_the_order_of_the_log(rt: HostRuntime) -> Result<(), F
         entry(13, 8),
     ];
     let mut rooms = [first.as_slice(), second.as_slice()];
-    let mut entries = Vec::new(rt.alloc());
+    let mut entries = Vec::from_slice(rt.alloc(), &[entry(4, 1)])?;
     put_back(&mut entries, &lines, &mut rooms)?;
     let told: Vec<(u64, u64)> = entries.iter().map(told).collect(rt.alloc())?;
     let want = [
@@ -188,14 +211,15 @@ fn laid<'a, R: Wait>(
     rt: &'a R,
     lane: u32,
     trees: &'a [Bare],
-    lines: &'a [Line],
+    lines: &'a [&'a Line],
 ) -> Result<Lane<LaneDesk<'a, R, Token, Bare>>, NoMemory>
-    requires lines { AreLines (length trees.now) lines.now }
+    requires lines { AreLines (length trees.now) (map (λ r. r.now) lines.now) }
     requires few { length lines.now ≤ 2 ^ 63 }
-    ensures laid { IfOk result (λ l. IsLaid l.steps (length l.desk.trees.now) l.desk.lines.now (vec_len l.desk.passes) (vec_len l.desk.room) (vec_capacity l.desk.room)) }
+    ensures laid { IfOk result (λ l. IsLaid l.steps (length l.desk.trees.now) (map (λ r. r.now) l.desk.lines.now) (vec_len l.desk.passes) (vec_len l.desk.room) (vec_capacity l.desk.room)) }
     ensures trees { IfOk result (λ l. l.desk.trees.now ≡ trees.now) }
 {
-    let desk = LaneDesk::new(alloc, rt, lane, 0, trees, lines, &[])?;
+    let room = Vec::from_slice(alloc, &[entry(2, lane as u64)])?;
+    let desk = LaneDesk::new(alloc, rt, lane, 0, trees, lines, room)?;
     Ok(Lane {
         lane,
         steps: lines.len() as u64,
@@ -224,14 +248,14 @@ fn lines_of_two<'a, R: Threads + Wait + Sync>(
     alloc: Global,
     rt: &'a R,
     trees: &'a [Bare],
-    first: &'a [Line],
-    second: &'a [Line],
+    first: &'a [&'a Line],
+    second: &'a [&'a Line],
     rows: &mut [Vec<Token>],
 ) -> Result<[Vec<u64>; 2], Fail>
     requires trees { length trees.now ≡ length rows.old }
     requires rows { All (λ row. 2 ≤ vec_len row) rows.old }
-    requires first { AreLines (length trees.now) first.now × (length first.now ≤ 2 ^ 63) }
-    requires second { AreLines (length trees.now) second.now × (length second.now ≤ 2 ^ 63) }
+    requires first { AreLines (length trees.now) (map (λ r. r.now) first.now) × (length first.now ≤ 2 ^ 63) }
+    requires second { AreLines (length trees.now) (map (λ r. r.now) second.now) × (length second.now ≤ 2 ^ 63) }
 {
     let mut lanes = [
         laid(alloc, rt, 0, trees, first)?,
@@ -246,11 +270,13 @@ fn lines_of_two<'a, R: Threads + Wait + Sync>(
 
 #[test]
 fn each_lane_does_its_own_lines(rt: HostRuntime) -> Result<(), Fail> {
-    let (first, second) = ([load(3), clear(5)], [scan(4), load(6), load(7)]);
+    let lines = [load(3), scan(4), clear(5), load(6), load(7)];
+    let first = [&lines[0], &lines[2]];
+    let second = [&lines[1], &lines[3], &lines[4]];
     let mut rows = [three_passes(rt.alloc())?];
     let [a, b] = lines_of_two(rt.alloc(), &rt, &[Bare], &first, &second, &mut rows)?;
-    assert_eq!(rt; a.as_slice(), [3].as_slice());
-    assert_eq!(rt; b.as_slice(), [4, 6, 7].as_slice());
+    assert_eq!(rt; a.as_slice(), [2, 3].as_slice());
+    assert_eq!(rt; b.as_slice(), [2, 4, 6, 7].as_slice());
     let [row] = rows;
     let numbers: Vec<u32> = row.iter().map(|pass| pass.number()).collect(rt.alloc())?;
     assert_eq!(rt; numbers.as_slice(), [0, 1, 2].as_slice());

@@ -3,7 +3,7 @@
 ghost use Rattle.std.specs.Prelude.{◌≡◌, ◌++◌, ◌≤◌, length, map, slice_set, OnOk};
 ghost use Rattle.mt_desks.specs.Turns.{first_of, front_len, in_turn, rest_of, room_at};
 
-use crate::dealing::{is_answered, lane_after, lane_of};
+use crate::dealing::{is_step, lane_after};
 use mt_base::NoMemory;
 use mt_log::{Entry, Line};
 
@@ -42,7 +42,8 @@ fn take_front(
 }
 
 /// Puts what the lanes of a phase were answered behind these entries, in the order of the log: for each line of the
-/// phase those at the front of its lane's room that tell of it.
+/// phase that a lane does those at the front of that lane's room that tell of it. What the phase's copies and checks
+/// were told stands before them all, and is none of it.
 ///
 /// # Errors
 ///
@@ -57,9 +58,8 @@ pub fn put_back(
 {
     let mut here = 0;
     for line in lines {
-        if is_answered(&line.item) {
-            let lane = lane_of(here, &line.item) as usize;
-            take_front(entries, rooms, lane, line.number)?;
+        if is_step(&line.item) {
+            take_front(entries, rooms, here as usize, line.number)?;
         }
         here = lane_after(here, &line.item);
     }
