@@ -25,3 +25,4 @@ pub use names::Word;
 pub use reading::read_log;
 pub use rendering::{Printed, render};
 pub use transcripts::{Answer, Entries, Entry, Listing, Listings, RangeList, Said, Transcript};
+pub use trees::KnownTree;
