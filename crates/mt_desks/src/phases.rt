@@ -1,6 +1,6 @@
 //! The lanes of a phase.
 
-ghost use Rattle.std.specs.Prelude.{◌≡◌, ◌<◌, ◌≤◌, ◌*◌, ℕ, All, length, map, vec_len, vec_capacity, Vec};
+ghost use Rattle.std.specs.Prelude.{◌≡◌, ◌<◌, ◌≤◌, ◌*◌, ℕ, All, length, map, slice_index_or, vec_len, vec_capacity, Vec};
 ghost use Rattle.std.specs.Global.{Global};
 ghost use Rattle.mt_lanes.specs.Lanes.{EachPlace};
 ghost use Rattle.mt_desks.specs.Desks.{desk_of};
@@ -55,6 +55,7 @@ pub fn run_phase<
     ensures passes { AtEach (λ lane l. CanPass P.knows T.serves (λ row. row.items) lane l.desk.trees.now rows.new) lanes.old }
     ensures turns { FromEach (λ lane l k. (number : ℕ) → number < 2 * l.steps → G.passed gate.now l.lane number) lanes.old lanes.new }
     ensures count { length rows.new ≡ length rows.old }
+    ensures long { (tree : ℕ) → (row : Vec P Global) → length (slice_index_or rows.new tree row).items ≡ length (slice_index_or rows.old tree row).items }
     ensures others { (tree lane : ℕ) → (row : Vec P Global) → (pass : P) → length lanes.old ≤ lane → pass_at (λ v. v.items) rows.new tree lane row pass ≡ pass_at (λ v. v.items) rows.old tree lane row pass }
 {
     swap_all(rows, lanes);
