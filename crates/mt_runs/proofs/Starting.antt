@@ -49,7 +49,7 @@ of_new P passes f k d l =
     let e : get_or list k d ≡ new_pass k = new_passes passes k (get_or list k d) (slice_get-get_or list k d l) in
     subst P (sym e) (f k)
 
-new_is_settled : (passes rows : ℕ) (kind : Kind) (opening : List Range) → IsSettled (new_history kind rows opening) (new_tracked passes rows kind opening).passes
+pub new_is_settled : (passes rows : ℕ) (kind : Kind) (opening : List Range) → IsSettled (new_history kind rows opening) (new_tracked passes rows kind opening).passes
 new_is_settled passes rows kind opening = record {
   numbered = λ i q is. ap (λ (z : Pass). z.number) (new_passes passes i q is);
   seen = of_new (λ (q : Pass). q.seen ≡ []) passes (λ i. refl);
