@@ -1,0 +1,4 @@
+pub mod Beginning
+pub mod Listing
+pub mod Seating
+pub mod Staying

@@ -1,6 +1,8 @@
 //! A log played on shared trees, phase by phase, each lane in a thread of its own.
 #![tactic(auto)]
 
+mod players;
+mod rows;
 mod trees;
 
 pub use trees::Plays;

@@ -1,0 +1,11 @@
+use Rattle.std.proofs.Common.{length}
+use Rattle.mt_play.specs.Players.{IsAtRest, state_of}
+use Rattle.mt_play.proofs.Beginning.{HasBegun}
+use Rattle.mt_play.proofs.players.Player.begin.Given as goal
+
+-- the lines so far were begun, and the player is at rest
+abbrev pub invariant-loop-line : goal.invariant-loop-line
+invariant-loop-line g l = record {
+  rest : IsAtRest g.T.Shared.tree g.P.Passage.knows g.T.Shared.serves g.T.Plays.many l.self;
+  begun : HasBegun l.lines l.line-index (length l.self.trees.items) (state_of g.T.Shared.tree g.P.Passage.knows l.initial.self) (state_of g.T.Shared.tree g.P.Passage.knows l.self);
+}

@@ -1,0 +1,232 @@
+//! A player of a log: its trees between two phases, and what was told so far.
+
+ghost use Rattle.std.specs.Prelude.{◌≡◌, ◌+◌, ◌<◌, ◌≤◌, ◌∷◌, ◌++◌, ℕ, [], List, length, map, IfOk, OnOk};
+ghost use Rattle.mt_base.specs.Width.{most_rows};
+ghost use Rattle.mt_log.specs.declared.lines.Line.{Line};
+ghost use Rattle.mt_log.specs.Run.{Step, listings_of};
+ghost use Rattle.mt_log.specs.Trees.{AreNamedFrom, Declared, NamesBelow, count_after};
+ghost use Rattle.mt_runs.specs.Lines.{phase_behind};
+ghost use Rattle.mt_runs.specs.Phases.{histories_of};
+ghost use Rattle.mt_desks.specs.Dealing.{IsOnePhase};
+ghost use Rattle.mt_play.specs.Trees.{AreAll, fewest_rows, most_passes};
+ghost use Rattle.mt_play.specs.Players.{Begins, Checks, Copies, HasRanges, IsAtRest, IsBegun, IsCopyIn, IsPlayedBy, Opens, rows_known, state_of};
+
+use crate::rows::{copy_settled, count_settled, list_settled};
+use crate::trees::Plays;
+use mt_base::{Kind, NoMemory, Range};
+use mt_desks::Passage;
+use mt_log::{Entry, Item, KnownTree, Line, Listing, RangeList, Said, Word};
+use std::alloc::Global;
+use std::sync::Wait;
+
+/// The trees that were declared so far, each with so many rows and all its passes, and what was told.
+#[derive(Drop)]
+pub(crate) struct Player<P: Drop, T: Drop> {
+    pub(crate) rows: u64,
+    pub(crate) passes: u32,
+    pub(crate) known: Vec<KnownTree>,
+    pub(crate) trees: Vec<T>,
+    pub(crate) seats: Vec<Vec<P>>,
+    pub(crate) entries: Vec<Entry>,
+}
+
+impl<P: Passage + Drop, T: Plays<P>> Player<P, T> {
+    /// A player of no tree, whose trees will have so many rows and passes.
+    pub(crate) fn new(alloc: Global, rows: u64, passes: u32) -> Self
+        requires few_rows { fewest_rows ≤ rows }
+        requires rows { rows ≤ most_rows }
+        requires some_pass { 1 ≤ passes }
+        requires passes { passes ≤ most_passes }
+        ensures rest { IsAtRest T.tree P.knows T.serves T.many result }
+        ensures played { IsPlayedBy 0 [] (state_of T.tree P.knows result) [] }
+        ensures rows_are { result.rows ≡ rows }
+        ensures passes_are { result.passes ≡ passes }
+    {
+        Player {
+            rows,
+            passes,
+            known: Vec::new(alloc),
+            trees: Vec::new(alloc),
+            seats: Vec::new(alloc),
+            entries: Vec::new(alloc),
+        }
+    }
+
+    /// Adds a new tree of this name.
+    fn push(&mut self, known: KnownTree, tree: T, row: Vec<P>) -> Result<(), NoMemory>
+        ensures kept { OnOk result (self.new ≡ record self.old { known = self.new.known; trees = self.new.trees; seats = self.new.seats }) }
+        ensures known { OnOk result (self.new.known.items ≡ self.old.known.items ++ known ∷ []) }
+        ensures trees { OnOk result (self.new.trees.items ≡ self.old.trees.items ++ tree ∷ []) }
+        ensures seats { OnOk result (self.new.seats.items ≡ self.old.seats.items ++ row ∷ []) }
+    {
+        self.known.push(known)?;
+        self.trees.push(tree)?;
+        self.seats.push(row)?;
+        Ok(())
+    }
+
+    /// Declares an empty tree.
+    fn open(&mut self, alloc: Global, name: Word, kind: Kind) -> Result<(), NoMemory>
+        requires { IsAtRest T.tree P.knows T.serves T.many self.old }
+        ensures rest { OnOk result (IsAtRest T.tree P.knows T.serves T.many self.new) }
+        ensures opens { OnOk result (Opens (state_of T.tree P.knows self.old) (state_of T.tree P.knows self.new) name kind) }
+        ensures count { OnOk result (length self.new.trees.items ≡ length self.old.trees.items + 1) }
+    {
+        let (tree, row) = T::make(alloc, kind, self.rows, self.passes)?;
+        self.push(KnownTree { name, kind }, tree, row)?;
+        Ok(())
+    }
+
+    /// A copy of the tree of this number, and the copy's passes.
+    fn copy_of<R: Wait>(
+        &mut self,
+        rt: &R,
+        alloc: Global,
+        number: usize,
+    ) -> Result<(T, Vec<P>), NoMemory>
+        requires rest { IsAtRest T.tree P.knows T.serves T.many self.old }
+        requires declared { number < length self.old.trees.items }
+        ensures rest { IsAtRest T.tree P.knows T.serves T.many self.new }
+        ensures kept { self.new ≡ record self.old { seats = self.new.seats } }
+        ensures stays { rows_known P.knows self.new.seats.items ≡ rows_known P.knows self.old.seats.items }
+        ensures new { IfOk result (λ made. IsCopyIn (state_of T.tree P.knows self.old) number (T.tree made.0) (map P.knows made.1.items)) }
+        ensures all { IfOk result (λ made. AreAll P.knows T.serves self.old.passes made.0 made.1.items) }
+        ensures many { IfOk result (λ made. T.many made.0 ≡ self.old.passes) }
+    {
+        copy_settled(rt, alloc, &self.trees[number], &mut self.seats[number])
+    }
+
+    /// How many ranges the tree of this number has, once it was checked.
+    fn count_of<R: Wait>(&mut self, rt: &R, number: usize) -> u64
+        requires rest { IsAtRest T.tree P.knows T.serves T.many self.old }
+        requires declared { number < length self.old.trees.items }
+        ensures rest { IsAtRest T.tree P.knows T.serves T.many self.new }
+        ensures kept { self.new ≡ record self.old { seats = self.new.seats } }
+        ensures stays { rows_known P.knows self.new.seats.items ≡ rows_known P.knows self.old.seats.items }
+        ensures count { HasRanges (state_of T.tree P.knows self.old) number (λ ranges. result ≡ length ranges) }
+    {
+        count_settled(rt, &self.trees[number], &mut self.seats[number])
+    }
+
+    /// The ranges of the tree of this number, in rising order.
+    fn ranges_of<R: Wait>(
+        &mut self,
+        rt: &R,
+        alloc: Global,
+        number: usize,
+    ) -> Result<Vec<Range>, NoMemory>
+        requires rest { IsAtRest T.tree P.knows T.serves T.many self.old }
+        requires declared { number < length self.old.trees.items }
+        ensures rest { IsAtRest T.tree P.knows T.serves T.many self.new }
+        ensures kept { self.new ≡ record self.old { seats = self.new.seats } }
+        ensures stays { rows_known P.knows self.new.seats.items ≡ rows_known P.knows self.old.seats.items }
+        ensures ranges { IfOk result (λ v. HasRanges (state_of T.tree P.knows self.old) number (λ ranges. v.items ≡ ranges)) }
+    {
+        list_settled(rt, alloc, &self.trees[number], &mut self.seats[number])
+    }
+
+    /// Declares a copy of a tree, and tells how many ranges it has.
+    fn copy<R: Wait>(
+        &mut self,
+        rt: &R,
+        alloc: Global,
+        line: u64,
+        from: usize,
+        name: Word,
+    ) -> Result<(), NoMemory>
+        requires rest { IsAtRest T.tree P.knows T.serves T.many self.old }
+        requires declared { from < length self.old.trees.items }
+        ensures rest { OnOk result (IsAtRest T.tree P.knows T.serves T.many self.new) }
+        ensures copies { OnOk result (Copies (state_of T.tree P.knows self.old) (state_of T.tree P.knows self.new) line from name) }
+        ensures count { OnOk result (length self.new.trees.items ≡ length self.old.trees.items + 1) }
+    {
+        let known = self.known[from].renamed(name);
+        let (tree, mut row) = self.copy_of(rt, alloc, from)?;
+        let count = count_settled(rt, &tree, &mut row);
+        self.push(known, tree, row)?;
+        let said = Said::Copied { count };
+        self.entries.push(Entry { line, said })?;
+        Ok(())
+    }
+
+    /// Checks a tree, and tells how many ranges it has.
+    fn check<R: Wait>(&mut self, rt: &R, line: u64, tree: usize) -> Result<(), NoMemory>
+        requires rest { IsAtRest T.tree P.knows T.serves T.many self.old }
+        requires declared { tree < length self.old.trees.items }
+        ensures rest { OnOk result (IsAtRest T.tree P.knows T.serves T.many self.new) }
+        ensures checks { OnOk result (Checks (state_of T.tree P.knows self.old) (state_of T.tree P.knows self.new) line tree) }
+        ensures count { OnOk result (length self.new.trees.items ≡ length self.old.trees.items) }
+    {
+        let count = self.count_of(rt, tree);
+        let said = Said::Lawful { count };
+        self.entries.push(Entry { line, said })?;
+        Ok(())
+    }
+
+    /// Does a line that declares, copies or checks a tree. Other lines make nothing here.
+    fn declare<R: Wait>(&mut self, rt: &R, alloc: Global, line: &Line) -> Result<(), NoMemory>
+        requires rest { IsAtRest T.tree P.knows T.serves T.many self.old }
+        requires named { NamesBelow (length self.old.trees.items) line.now.item }
+        ensures rest { OnOk result (IsAtRest T.tree P.knows T.serves T.many self.new) }
+        ensures begins { OnOk result (Begins (state_of T.tree P.knows self.old) (state_of T.tree P.knows self.new) line.now.number line.now.item) }
+        ensures count { OnOk result (length self.new.trees.items ≡ count_after (length self.old.trees.items) line.now.item) }
+    {
+        match line.item {
+            Item::Tree { name, kind } => self.open(alloc, name, kind),
+            Item::Dup { from, name } => self.copy(rt, alloc, line.number, from as usize, name),
+            Item::Check { tree } => self.check(rt, line.number, tree as usize),
+            Item::Lane { .. }
+            | Item::Join
+            | Item::Write { .. }
+            | Item::Ask { .. }
+            | Item::Scan { .. } => Ok(()),
+        }
+    }
+
+    /// Begins a phase: declares, copies and checks trees as its lines ask for, before its lanes start.
+    ///
+    /// # Errors
+    ///
+    /// `NoMemory` where memory ran out.
+    pub(crate) fn begin<R: Wait>(
+        &mut self,
+        rt: &R,
+        alloc: Global,
+        lines: &[Line],
+    ) -> Result<(), NoMemory>
+        requires rest { IsAtRest T.tree P.knows T.serves T.many self.old }
+        requires named { AreNamedFrom (length self.old.trees.items) lines.now }
+        ensures rest { OnOk result (IsAtRest T.tree P.knows T.serves T.many self.new) }
+        ensures begun { OnOk result ((phase : ℕ) (front : List Line) (steps : List Step) → phase_behind 0 front ≡ phase → IsOnePhase lines.now → IsPlayedBy phase front (state_of T.tree P.knows self.old) steps → IsBegun phase front lines.now (state_of T.tree P.knows self.new) steps) }
+        ensures rows { OnOk result (self.new.rows ≡ self.old.rows) }
+        ensures passes { OnOk result (self.new.passes ≡ self.old.passes) }
+    {
+        for line in lines {
+            self.declare(rt, alloc, line)?;
+        }
+        Ok(())
+    }
+
+    /// Lists the trees in the order in which they were declared.
+    ///
+    /// # Errors
+    ///
+    /// `NoMemory` where memory ran out.
+    pub(crate) fn list<R: Wait>(&mut self, rt: &R, alloc: Global) -> Result<Vec<Listing>, NoMemory>
+        requires { IsAtRest T.tree P.knows T.serves T.many self.old }
+        ensures lists { IfOk result (λ lists. (declared : List Declared) → self.old.known.items ≡ map (λ d. d.tree) declared → lists.items ≡ listings_of declared (histories_of (state_of T.tree P.knows self.old).trees)) }
+        ensures entries { self.new.entries ≡ self.old.entries }
+    {
+        let mut lists = Vec::new(alloc);
+        for at in 0..self.trees.len() {
+            let ranges = self.ranges_of(rt, alloc, at)?;
+            let known = self.known[at];
+            lists.push(Listing {
+                name: known.name,
+                kind: known.kind,
+                ranges: RangeList::new(ranges),
+            })?;
+        }
+        Ok(lists)
+    }
+}
