@@ -21,4 +21,5 @@ pub mod Starting
 pub mod Stretches
 pub mod Totals
 pub mod Tracking
+pub mod WorkedPhase
 pub mod WorkedPlay

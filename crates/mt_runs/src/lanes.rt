@@ -3,13 +3,19 @@
 
 ghost use Rattle.std.specs.Prelude.{◌≡◌, ◌<◌, ◌≤◌, ◌+◌, ℕ, true, false, Option, All, List, [], ◌∷◌, ◌++◌, Some, length, slice_get};
 ghost use Rattle.std.specs.List.{AllByRecursion};
+ghost use Rattle.mt_base.specs.declared.calls.Call.TheVariants as calls;
+ghost use Rattle.mt_base.specs.declared.calls.Query.TheVariants as queries;
+ghost use Rattle.mt_base.specs.declared.kinds.Kind.TheVariants as kinds;
+ghost use Rattle.mt_base.specs.declared.replies.Reply.TheVariants as replies;
 ghost use Rattle.mt_base.specs.History.{Record, History};
 ghost use Rattle.mt_base.specs.Passes.{Begins, IsSettled, Pass, Learned, Saw, Settled, with_records};
 ghost use Rattle.mt_log.specs.Phases.{stepped_after};
-ghost use Rattle.mt_log.specs.Run.{Asked, Outcome, Step, AreDone, IsDone};
+ghost use Rattle.mt_log.specs.declared.transcripts.Said.TheVariants as said;
+ghost use Rattle.mt_log.specs.Run.{Asked, Outcome, Called, Looked, Counted, Step, AreDone, IsDone};
 ghost use Rattle.mt_log.specs.Trees.{NamesBelow};
 ghost use Rattle.mt_runs.specs.Gone.{HaveGone, IsCounted, IsPhaseGone, OnlySaw, sum_below};
 ghost use Rattle.mt_runs.specs.Leads.{Learns, Does, Leads, outcomes_of};
+ghost use Rattle.mt_runs.specs.OneThread.{known_to_all, step_in};
 ghost use Rattle.mt_runs.specs.Phases.{Tracked, IsPhase, IsPhaseOn, Counts};
 ghost use Rattle.mt_runs.specs.Rooms.{asked_of_lane, AreAnswered, take_turns, lanes_of, joined};
 ghost use Rattle.mt_runs.specs.Tracks.{numbers_of};
@@ -87,4 +93,16 @@ pub fn lanes_make_no_more_calls_than_lines()
     ensures lane { (number lane : ℕ) (asked : List Asked) (answers : List (List Step)) → AreAnswered asked answers → length (numbers_of (outcomes_of number lane (joined answers))) ≤ length asked }
     ensures lanes { (lanes : ℕ) (asked : List Asked) → sum_below lanes (λ lane. length (asked_of_lane lane asked)) ≤ length asked }
     ensures sums { (lanes : ℕ) (f g : ℕ → ℕ) → ((lane : ℕ) → lane < lanes → f lane ≤ g lane) → sum_below lanes f ≤ sum_below lanes g }
+{}
+
+/// A worked phase: behind `tree a range / store a 0 9 1 / join`, from line 5 on `check a / lane 1 / store a 5 5 3 / lane 0 /
+/// load a 5`. Lane 0 loads what stood there before lane 1's store. And a worked sum.
+pub fn a_worked_phase()
+    ensures phase { IsPhase 2 1
+        (step_in 1 0 5 0 (Counted said.Lawful (record { first = 0; last = 9; entry = 1 } ∷ []))
+        ∷ step_in 1 1 7 0 (Called 2 (calls.Store 5 5 3) replies.Ok)
+        ∷ step_in 1 0 9 0 (Looked 1 1 1 (queries.Load 5) (Some (record { first = 0; last = 9; entry = 1 }))) ∷ [])
+        (known_to_all 2 (record { kind = kinds.Range; rows = 65504; opening = []; records = record { pass = 0; call = calls.Store 0 9 1; reply = replies.Ok } ∷ [] }) ∷ [])
+        (known_to_all 2 (record { kind = kinds.Range; rows = 65504; opening = []; records = record { pass = 0; call = calls.Store 0 9 1; reply = replies.Ok } ∷ record { pass = 1; call = calls.Store 5 5 3; reply = replies.Ok } ∷ [] }) ∷ []) }
+    ensures sum { sum_below 3 (λ n. n + 4) ≡ 15 }
 {}
