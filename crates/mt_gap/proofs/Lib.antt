@@ -6,6 +6,7 @@ pub mod NarrowedUp
 pub mod RowLoops
 pub mod Readings
 pub mod RowReads
+pub mod Asking
 pub mod LevelLoops
 pub mod Descents
 pub mod SlotMended

@@ -1,7 +1,7 @@
 -- Loads of a row's words, counted.
-use Rattle.std.proofs.Common.{◌≡◌, ℕ, ◌≤◌, arith}
+use Rattle.std.proofs.Common.{◌≡◌, ℕ, ◌≤◌, sym, subst, arith}
 use Rattle.mt_rows.specs.Sheet.{Sheet, loaded, ReadsUpTo}
-use Rattle.mt_path.proofs.Loads.{one_read, reads_more, reads_up}
+use Rattle.mt_path.proofs.Loads.{no_reads, one_read, reads_more, reads_up}
 
 pub one_load : (n : ℕ) (s t : Sheet) → 1 ≤ n → t ≡ loaded s → ReadsUpTo n s t
 one_load n s t low is = reads_up 1 n s t low (one_read s t is)
@@ -11,3 +11,6 @@ two_loads n s t u low first second = reads_up 2 n s u low (reads_more 1 1 s t u 
 
 pub three_loads : (n : ℕ) (s t u v : Sheet) → 3 ≤ n → t ≡ loaded s → u ≡ loaded t → v ≡ loaded u → ReadsUpTo n s v
 three_loads n s t u v low first second third = reads_up 3 n s v low (reads_more 2 1 s u v (two_loads 2 s t u (omega arith) first second) (one_read u v third))
+
+pub no_load : (s t : Sheet) → t ≡ s → ReadsUpTo 1 s t
+no_load s t same = subst (λ (r : Sheet). ReadsUpTo 1 s r) (sym same) (reads_up 0 1 s s (omega arith) (no_reads s))

@@ -5,3 +5,4 @@ pub mod Mended
 pub mod Mending
 pub mod Narrow
 pub mod Reading
+pub mod Slots

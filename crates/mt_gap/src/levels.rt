@@ -8,23 +8,29 @@ ghost use Rattle.mt_gap.specs.Children.{children_in, children_below};
 ghost use Rattle.mt_gap.specs.Descents.{MayLoad};
 ghost use Rattle.mt_gap.specs.Narrow.{narrow, narrow_up, has_sure};
 
-use crate::children::{Child, children_of};
-use crate::windows::{Asked, Window, narrow_into, narrow_up_into};
+use crate::children::Child;
+use crate::windows::{Asked, Window, ask_row, ask_row_up};
 use mt_base::Steps;
-use mt_layout::Span;
+use mt_layout::{RowKind, Span, kind_of, row_of};
 use mt_rows::Rows;
 use std::sync::ledger::Ledger;
 
-/// Adds what is to be asked below one row, and tells whether nothing behind it is.
+/// Adds what is to be asked below one row, and tells whether nothing behind it is. A row without gaps tells of no room.
+#[tactic(auto, using(crate::proofs::Asking::without_lower, crate::proofs::Asking::without_sure))]
 fn ask_lower<R: Rows>(rows: &mut R, row: Span, window: Window, next: &mut Asked) -> bool
     requires row { MayLoad (R.sheet rows.old).tree row }
+    requires size { 1 ≤ window.size }
     requires room { length next.old.items + length (narrow window.size window.lo window.hi (children_in (R.sheet rows.old).tree.table row)) ≤ 3 }
     ensures items { next.new.items ≡ next.old.items ++ narrow window.size window.lo window.hi (children_in (R.sheet rows.old).tree.table row) }
     ensures found { result ≡ has_sure window.size window.lo window.hi (children_in (R.sheet rows.old).tree.table row) }
     ensures reads { ReadsUpTo (columns (R.sheet rows.old).tree.table.width) (R.sheet rows.old) (R.sheet rows.new) }
 {
-    let children = children_of(rows, row);
-    narrow_into(&children, window, next)
+    match (row_of(row.word), kind_of(row.word)) {
+        (Some(number), Some(RowKind::Gapped)) => {
+            ask_row(rows, number, row.first, row.last, window, next)
+        }
+        _ => false,
+    }
 }
 
 /// The rows to be asked one level below these, for the lowest place. Each of these is a step.
@@ -36,6 +42,7 @@ pub(crate) fn next_lower<R: Rows, L: Ledger>(
     steps: &mut Steps<L>,
 ) -> Asked
     requires rows { All (λ (x : Child). MayLoad (R.sheet rows.old).tree x.span) asked.now }
+    requires size { 1 ≤ window.size }
     requires few { length (narrow window.size window.lo window.hi (children_below (R.sheet rows.old).tree.table asked.now)) ≤ 3 }
     ensures items { result.items ≡ narrow window.size window.lo window.hi (children_below (R.sheet rows.old).tree.table asked.now) }
     ensures steps { steps.new ≤ steps.old + length asked.now }
@@ -51,15 +58,21 @@ pub(crate) fn next_lower<R: Rows, L: Ledger>(
     next
 }
 
-/// Takes what is to be asked below one row more.
+/// Takes what is to be asked below one row more. A row without gaps tells of no room.
+#[tactic(auto, using(crate::proofs::Asking::without_asked_up))]
 fn ask_higher<R: Rows>(rows: &mut R, row: Span, window: Window, next: &mut Asked)
     requires row { MayLoad (R.sheet rows.old).tree row }
+    requires size { 1 ≤ window.size }
     requires room { (k : ℕ) → length (narrow_up window.size window.lo window.hi next.old.items (take k (children_in (R.sheet rows.old).tree.table row))) ≤ 3 }
     ensures items { next.new.items ≡ narrow_up window.size window.lo window.hi next.old.items (children_in (R.sheet rows.old).tree.table row) }
     ensures reads { ReadsUpTo (columns (R.sheet rows.old).tree.table.width) (R.sheet rows.old) (R.sheet rows.new) }
 {
-    let children = children_of(rows, row);
-    narrow_up_into(&children, window, next);
+    match (row_of(row.word), kind_of(row.word)) {
+        (Some(number), Some(RowKind::Gapped)) => {
+            ask_row_up(rows, number, row.first, row.last, window, next);
+        }
+        _ => {}
+    }
 }
 
 /// The rows to be asked one level below these, for the highest place. Each of these is a step.
@@ -71,6 +84,7 @@ pub(crate) fn next_higher<R: Rows, L: Ledger>(
     steps: &mut Steps<L>,
 ) -> Asked
     requires rows { All (λ (x : Child). MayLoad (R.sheet rows.old).tree x.span) asked.now }
+    requires size { 1 ≤ window.size }
     requires few { (k : ℕ) → length (narrow_up window.size window.lo window.hi [] (take k (children_below (R.sheet rows.old).tree.table asked.now))) ≤ 3 }
     ensures items { result.items ≡ narrow_up window.size window.lo window.hi [] (children_below (R.sheet rows.old).tree.table asked.now) }
     ensures steps { steps.new ≤ steps.old + length asked.now }

@@ -13,12 +13,14 @@ ghost use Rattle.mt_rows.specs.Laws.{Stands};
 ghost use Rattle.mt_rows.specs.Levels.{Levels, SameSpans};
 ghost use Rattle.mt_rows.specs.Publish.{tree_as};
 ghost use Rattle.mt_rows.specs.Replacement.{root_of};
+ghost use Rattle.mt_rows.specs.Spans.{row_spans};
+ghost use Rattle.mt_layout.specs.declared.names.RowKind.TheVariants.{Leaf, Gapped};
 ghost use Rattle.mt_rows.specs.Sheet.{Sheet, IsPlace, ReadsUpTo, loaded};
-ghost use Rattle.mt_gap.specs.Children.{spans};
+ghost use Rattle.mt_gap.specs.Children.{row_children};
 ghost use Rattle.mt_gap.specs.Mending.{longest_gap, told_by, KeepsWords, OnlyWords, KeepsOtherWords, IsWay, MayTell, MayMend, MayMendGaps, IsMended};
 ghost use Rattle.mt_gap.specs.Mended.{HasMendedRows};
 
-use crate::children::{Child, load_children};
+use crate::children::{load_children, load_gap, load_last, load_word};
 use mt_layout::{RowKind, Span, kind_of, row_of, slots};
 use mt_path::{Path, PathStep};
 use mt_rows::Rows;
@@ -36,44 +38,60 @@ fn hole_length(span: Span) -> u64
     }
 }
 
-/// The longest hole among a leaf's children.
-#[tactic(auto, using(crate::proofs::Tells::hole_next, crate::proofs::Tells::hole_fits, crate::proofs::Tells::no_more_holes, crate::proofs::Tells::child_rises))]
-fn longest_of(children: &[Child]) -> u64
-    requires fits { longest_in (spans children.now) < 2 ^ 64 }
-    requires rise { AllByRecursion (λ (x : Span). x.first ≤ x.last) (spans children.now) }
-    ensures { result ≡ longest_in (spans children.now) }
+/// The longest hole in a leaf that covers the indexes from `first` to `max`.
+fn longest_of<R: Rows>(rows: &mut R, row: u32, first: u64, max: u64) -> u64
+    requires place { IsPlace (R.sheet rows.old).tree row 0 }
+    requires fits { longest_in (row_spans (R.sheet rows.old).tree.table row Leaf first max) < 2 ^ 64 }
+    requires rise { AllByRecursion (λ (x : Span). x.first ≤ x.last) (row_spans (R.sheet rows.old).tree.table row Leaf first max) }
+    ensures longest { result ≡ longest_in (row_spans (R.sheet rows.old).tree.table row Leaf first max) }
+    ensures reads { ReadsUpTo (columns (R.sheet rows.old).tree.table.width) (R.sheet rows.old) (R.sheet rows.new) }
 {
     let mut longest = 0;
-    for child in children {
-        longest = longest.max(hole_length(child.span));
+    let mut begin = first;
+    for slot in 0..slots(rows.width(), RowKind::Leaf) {
+        let last = load_last(rows, RowKind::Leaf, row, max, slot);
+        let word = load_word(rows, RowKind::Leaf, row, slot);
+        longest = longest.max(hole_length(Span {
+            first: begin,
+            last,
+            word,
+        }));
+        if max <= last {
+            return longest;
+        }
+        begin = last + 1;
     }
     longest
 }
 
-/// The greatest gap word among children.
-#[tactic(auto, using(crate::proofs::Tells::gap_next, crate::proofs::Tells::no_more_gaps))]
-fn greatest_of(children: &[Child]) -> u64
-    ensures { result ≡ longest_gap children.now }
+/// The greatest gap word of a row with gaps that ends at `max`.
+fn greatest_of<R: Rows>(rows: &mut R, row: u32, max: u64) -> u64
+    requires place { IsPlace (R.sheet rows.old).tree row 0 }
+    ensures greatest { (first : ℕ) → result ≡ longest_gap (row_children (R.sheet rows.old).tree.table row Gapped first max) }
+    ensures reads { ReadsUpTo (columns (R.sheet rows.old).tree.table.width) (R.sheet rows.old) (R.sheet rows.new) }
 {
     let mut greatest = 0;
-    for child in children {
-        greatest = greatest.max(child.gap);
+    for slot in 0..slots(rows.width(), RowKind::Gapped) {
+        greatest = greatest.max(load_gap(rows, row, slot));
+        if max <= load_last(rows, RowKind::Gapped, row, max, slot) {
+            return greatest;
+        }
     }
     greatest
 }
 
 /// What a row of a path tells the row above.
-#[tactic(auto, using(crate::proofs::Tells::leaf_fits, crate::proofs::Tells::leaf_rises, crate::proofs::Tells::leaf_tells))]
+#[tactic(auto, using(crate::proofs::Asking::inner_tells))]
 fn told_by<R: Rows>(rows: &mut R, kind: RowKind, row: PathStep) -> u64
     requires place { IsPlace (R.sheet rows.old).tree row.row 0 }
     requires tells { MayTell kind (R.sheet rows.old).tree.table row }
     ensures told { result ≡ told_by kind (R.sheet rows.old).tree.table row }
     ensures reads { ReadsUpTo (columns (R.sheet rows.old).tree.table.width) (R.sheet rows.old) (R.sheet rows.new) }
 {
-    let children = load_children(rows, kind, row.row, row.min, row.max);
     match kind {
-        RowKind::Leaf => longest_of(&children),
-        RowKind::Inner | RowKind::Gapped => greatest_of(&children),
+        RowKind::Leaf => longest_of(rows, row.row, row.min, row.max),
+        RowKind::Inner => 0,
+        RowKind::Gapped => greatest_of(rows, row.row, row.max),
     }
 }
 
@@ -141,7 +159,7 @@ fn mend_row<R: Rows>(rows: &mut R, kind: RowKind, path: &Path, level: usize)
         → HasMendedRows before (R.sheet rows.new) path.now.items RowKind.Gapped (level + 1) 0 }
 {
     let above = path[level];
-    let children = load_children(rows, RowKind::Gapped, above.row, above.min, above.max);
+    let children = load_children(rows, above.row, above.min, above.max);
     for slot in 0..children.len() {
         let at = PathStep {
             slot: slot as u32,

@@ -13,11 +13,11 @@ ghost use Rattle.mt_gap.specs.Below.{child_hole};
 ghost use Rattle.mt_gap.specs.Children.{children_in, children_below, root_child};
 ghost use Rattle.mt_gap.specs.Descents.{MayLoad, picked, place_in, Arrives, AreLeaves};
 
-use crate::children::{Child, children_of};
+use crate::children::Child;
 use crate::levels::{next_higher, next_lower};
-use crate::windows::{Asked, Window, highest_of, lowest_of};
+use crate::windows::{Asked, Window, high_place, highest_of, low_place, lowest_of};
 use mt_base::{DEEPEST, Steps, Width, top};
-use mt_layout::{RowKind, Span, kind_of};
+use mt_layout::{RowKind, Span, kind_of, row_of};
 use mt_rows::Rows;
 use std::sync::ledger::Ledger;
 
@@ -100,8 +100,10 @@ fn lowest_in_leaf<R: Rows>(rows: &mut R, leaf: Span, window: Window) -> Option<u
     ensures place { result ≡ picked lowest_in window (flat_map child_hole (children_in (R.sheet rows.old).tree.table leaf)) }
     ensures reads { ReadsUpTo (columns (R.sheet rows.old).tree.table.width) (R.sheet rows.old) (R.sheet rows.new) }
 {
-    let children = children_of(rows, leaf);
-    lowest_of(&children, window)
+    match (row_of(leaf.word), kind_of(leaf.word)) {
+        (Some(row), Some(kind)) => lowest_of(rows, kind, row, leaf.first, leaf.last, window),
+        _ => None,
+    }
 }
 
 /// The lowest place in leaves side by side. Each that is loaded is a step.
@@ -135,8 +137,10 @@ fn highest_in_leaf<R: Rows>(rows: &mut R, leaf: Span, window: Window) -> Option<
     ensures place { result ≡ picked (highest_in window.size) window (flat_map child_hole (children_in (R.sheet rows.old).tree.table leaf)) }
     ensures reads { ReadsUpTo (columns (R.sheet rows.old).tree.table.width) (R.sheet rows.old) (R.sheet rows.new) }
 {
-    let children = children_of(rows, leaf);
-    highest_of(&children, window)
+    match (row_of(leaf.word), kind_of(leaf.word)) {
+        (Some(row), Some(kind)) => highest_of(rows, kind, row, leaf.first, leaf.last, window),
+        _ => None,
+    }
 }
 
 /// The highest place in leaves side by side. Each is a step.
@@ -180,7 +184,7 @@ pub fn lowest<R: Rows, L: Ledger>(
     let word = rows.root();
     let root = whole(rows.width(), word);
     if word == 0 {
-        return lowest_of(&[root], window);
+        return low_place(window, root.span);
     }
     let leaves = to_lowest(rows, root, window, steps);
     lowest_in_leaves(rows, &leaves, window, steps)
@@ -205,7 +209,7 @@ pub fn highest<R: Rows, L: Ledger>(
     let word = rows.root();
     let root = whole(rows.width(), word);
     if word == 0 {
-        return highest_of(&[root], window);
+        return high_place(window, root.span);
     }
     let leaves = to_highest(rows, root, window, steps);
     highest_in_leaves(rows, &leaves, window, steps)

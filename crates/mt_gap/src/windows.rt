@@ -1,15 +1,24 @@
-//! What a search takes of a row: the children that may have room, and the room in a leaf.
+//! What a search takes of a row: the children that may have room, and the room in a leaf. Each slot is looked at once, and the
+//! words of slots that are not taken are not loaded.
 
-ghost use Rattle.std.specs.Prelude.{◌≡◌, ◌+◌, ◌≤◌, ◌++◌, ℕ, IfSome, List, length, slice_get, take};
+ghost use Rattle.std.specs.Prelude.{◌≡◌, ◌+◌, ◌<◌, ◌≤◌, ◌++◌, ℕ, IfSome, List, [], ◌∷◌, false, length, slice_get, take, if◌then◌else◌};
 ghost use Rattle.std.specs.List.{flat_map};
 ghost use Rattle.std.specs.Option.{option_map};
 ghost use Rattle.mt_base.specs.Holes.{Hole, kept, lowest_in, highest_in};
+ghost use Rattle.mt_base.specs.Width.{columns};
+ghost use Rattle.mt_layout.specs.declared.names.RowKind.TheVariants.{Gapped};
+ghost use Rattle.mt_layout.specs.Sizes.{slots_of};
+ghost use Rattle.mt_rows.specs.Sheet.{IsPlace, ReadsUpTo};
 ghost use Rattle.mt_gap.specs.Below.{leaf_hole, child_hole};
+ghost use Rattle.mt_gap.specs.Children.{row_children};
+ghost use Rattle.mt_gap.specs.Descents.{picked};
 ghost use Rattle.mt_gap.specs.Narrow.{may_have, inside, narrow, has_sure, next_up, narrow_up};
+ghost use Rattle.mt_gap.specs.Slots.{child_in};
 
-use crate::children::Child;
+use crate::children::{Child, load_gap, load_last, load_word};
 use arrayvec::ArrayVec;
-use mt_layout::Span;
+use mt_layout::{RowKind, Span, slots};
+use mt_rows::Rows;
 
 /// How many rows of a level a search goes into at the most, and one more.
 const MOST_ASKED: usize = 3;
@@ -25,59 +34,140 @@ pub(crate) struct Window {
     pub(crate) hi: u64,
 }
 
-/// Whether there can be room below a child, and in the window.
-fn may_have(window: Window, child: Child) -> bool
-    ensures { result ≡ may_have window.size window.lo window.hi child }
+/// Whether there can be room below a child with this gap word, and in the window.
+fn may_have(window: Window, first: u64, last: u64, gap: u64) -> bool
+    ensures { (word : ℕ) → result ≡ may_have window.size window.lo window.hi (record { span = record { first = first; last = last; word = word }; gap = gap }) }
 {
-    window.size <= child.gap && child.span.first <= window.hi && window.lo <= child.span.last
+    window.size <= gap && first <= window.hi && window.lo <= last
 }
 
 /// Whether a child lies in the window.
-fn is_inside(window: Window, child: Child) -> bool
-    ensures { result ≡ inside window.lo window.hi child }
+fn is_inside(window: Window, first: u64, last: u64) -> bool
+    ensures { (word gap : ℕ) → result ≡ inside window.lo window.hi (record { span = record { first = first; last = last; word = word }; gap = gap }) }
 {
-    window.lo <= child.span.first && child.span.last <= window.hi
+    window.lo <= first && last <= window.hi
 }
 
-/// Adds to the rows that are asked those of a row's children that may have room, up to the first that lies in the
-/// window, and tells whether there was one.
-#[tactic(auto, using(crate::proofs::RowLoops::room_for))]
-pub(crate) fn narrow_into(children: &[Child], window: Window, asked: &mut Asked) -> bool
-    requires room { length asked.old.items + length (narrow window.size window.lo window.hi children.now) ≤ 3 }
-    ensures items { asked.new.items ≡ asked.old.items ++ narrow window.size window.lo window.hi children.now }
-    ensures found { result ≡ has_sure window.size window.lo window.hi children.now }
+/// Adds what stands in a slot of a row with gaps to the rows that are asked, where it may have room, and tells whether it
+/// lies in the window then.
+fn ask_slot<R: Rows>(
+    rows: &mut R,
+    row: u32,
+    slot: u32,
+    first: u64,
+    last: u64,
+    window: Window,
+    asked: &mut Asked,
+) -> bool
+    requires row { IsPlace (R.sheet rows.old).tree row 0 }
+    requires slot { slot < slots_of (R.sheet rows.old).tree.table.width Gapped }
+    requires room { length asked.old.items + length (narrow window.size window.lo window.hi (child_in (R.sheet rows.old).tree.table Gapped row slot first last ∷ [])) ≤ 3 }
+    ensures items { asked.new.items ≡ asked.old.items ++ narrow window.size window.lo window.hi (child_in (R.sheet rows.old).tree.table Gapped row slot first last ∷ []) }
+    ensures found { result ≡ has_sure window.size window.lo window.hi (child_in (R.sheet rows.old).tree.table Gapped row slot first last ∷ []) }
+    ensures reads { ReadsUpTo 2 (R.sheet rows.old) (R.sheet rows.new) }
 {
-    for child in children {
-        if may_have(window, *child) {
-            asked.push(*child);
-            if is_inside(window, *child) {
-                return true;
-            }
+    let gap = load_gap(rows, row, slot);
+    if !may_have(window, first, last, gap) {
+        return false;
+    }
+    let word = load_word(rows, RowKind::Gapped, row, slot);
+    asked.push(Child {
+        span: Span { first, last, word },
+        gap,
+    });
+    is_inside(window, first, last)
+}
+
+/// Adds to the rows that are asked those of a row's children that may have room, up to the first that lies in the window,
+/// and tells whether there was one. The row has gaps, and covers the indexes from `first` to `max`.
+pub(crate) fn ask_row<R: Rows>(
+    rows: &mut R,
+    row: u32,
+    first: u64,
+    max: u64,
+    window: Window,
+    asked: &mut Asked,
+) -> bool
+    requires row { IsPlace (R.sheet rows.old).tree row 0 }
+    requires room { length asked.old.items + length (narrow window.size window.lo window.hi (row_children (R.sheet rows.old).tree.table row Gapped first max)) ≤ 3 }
+    ensures items { asked.new.items ≡ asked.old.items ++ narrow window.size window.lo window.hi (row_children (R.sheet rows.old).tree.table row Gapped first max) }
+    ensures found { result ≡ has_sure window.size window.lo window.hi (row_children (R.sheet rows.old).tree.table row Gapped first max) }
+    ensures reads { ReadsUpTo (columns (R.sheet rows.old).tree.table.width) (R.sheet rows.old) (R.sheet rows.new) }
+{
+    let mut begin = first;
+    for slot in 0..slots(rows.width(), RowKind::Gapped) {
+        let last = load_last(rows, RowKind::Gapped, row, max, slot);
+        if ask_slot(rows, row, slot, begin, last, window, asked) {
+            return true;
         }
+        if max <= last {
+            return false;
+        }
+        begin = last + 1;
     }
     false
 }
 
-/// Takes of a row's children those that may have room: one that lies in the window stands for all before it.
-pub(crate) fn narrow_up_into(children: &[Child], window: Window, asked: &mut Asked)
-    requires room { (k : ℕ) → length (narrow_up window.size window.lo window.hi asked.old.items (take k children.now)) ≤ 3 }
-    ensures { asked.new.items ≡ narrow_up window.size window.lo window.hi asked.old.items children.now }
+/// Takes a child that may have room: one that lies in the window stands for all before it.
+fn take_up(child: Child, is_inside: bool, asked: &mut Asked)
+    requires room { is_inside ≡ false → length asked.old.items < 3 }
+    ensures { asked.new.items ≡ (if is_inside then child ∷ [] else asked.old.items ++ (child ∷ [])) }
 {
-    for child in children {
-        take_up(*child, window, asked);
+    if is_inside {
+        asked.clear();
     }
+    asked.push(child);
 }
 
-/// Takes one child more.
-fn take_up(child: Child, window: Window, asked: &mut Asked)
-    requires room { length (next_up window.size window.lo window.hi asked.old.items child) ≤ 3 }
-    ensures { asked.new.items ≡ next_up window.size window.lo window.hi asked.old.items child }
+/// Takes what stands in a slot of a row with gaps, where it may have room: if it lies in the window it stands for all
+/// before it.
+fn ask_slot_up<R: Rows>(
+    rows: &mut R,
+    row: u32,
+    slot: u32,
+    first: u64,
+    last: u64,
+    window: Window,
+    asked: &mut Asked,
+)
+    requires row { IsPlace (R.sheet rows.old).tree row 0 }
+    requires slot { slot < slots_of (R.sheet rows.old).tree.table.width Gapped }
+    requires room { length (next_up window.size window.lo window.hi asked.old.items (child_in (R.sheet rows.old).tree.table Gapped row slot first last)) ≤ 3 }
+    ensures items { asked.new.items ≡ next_up window.size window.lo window.hi asked.old.items (child_in (R.sheet rows.old).tree.table Gapped row slot first last) }
+    ensures reads { ReadsUpTo 2 (R.sheet rows.old) (R.sheet rows.new) }
 {
-    if may_have(window, child) {
-        if is_inside(window, child) {
-            asked.clear();
+    let gap = load_gap(rows, row, slot);
+    if !may_have(window, first, last, gap) {
+        return;
+    }
+    let word = load_word(rows, RowKind::Gapped, row, slot);
+    let span = Span { first, last, word };
+    take_up(Child { span, gap }, is_inside(window, first, last), asked);
+}
+
+/// Takes of a row's children those that may have room: one that lies in the window stands for all before it. The row has
+/// gaps, and covers the indexes from `first` to `max`.
+pub(crate) fn ask_row_up<R: Rows>(
+    rows: &mut R,
+    row: u32,
+    first: u64,
+    max: u64,
+    window: Window,
+    asked: &mut Asked,
+)
+    requires row { IsPlace (R.sheet rows.old).tree row 0 }
+    requires room { (k : ℕ) → length (narrow_up window.size window.lo window.hi asked.old.items (take k (row_children (R.sheet rows.old).tree.table row Gapped first max))) ≤ 3 }
+    ensures items { asked.new.items ≡ narrow_up window.size window.lo window.hi asked.old.items (row_children (R.sheet rows.old).tree.table row Gapped first max) }
+    ensures reads { ReadsUpTo (columns (R.sheet rows.old).tree.table.width) (R.sheet rows.old) (R.sheet rows.new) }
+{
+    let mut begin = first;
+    for slot in 0..slots(rows.width(), RowKind::Gapped) {
+        let last = load_last(rows, RowKind::Gapped, row, max, slot);
+        ask_slot_up(rows, row, slot, begin, last, window, asked);
+        if max <= last {
+            return;
         }
-        asked.push(child);
+        begin = last + 1;
     }
 }
 
@@ -99,40 +189,99 @@ fn room_in(window: Window, span: Span) -> Option<(u64, u64)>
     }
 }
 
-/// The lowest place in a leaf.
-#[tactic(auto, using(crate::proofs::RowLoops::found_first))]
-pub(crate) fn lowest_of(children: &[Child], window: Window) -> Option<u64>
-    requires { 1 ≤ window.size }
-    ensures { result ≡ lowest_in (kept window.size window.lo window.hi (flat_map child_hole children.now)) }
+/// The lowest place in a span of a leaf.
+pub(crate) fn low_place(window: Window, span: Span) -> Option<u64>
+    requires size { 1 ≤ window.size }
+    ensures place { result ≡ lowest_in (kept window.size window.lo window.hi (leaf_hole span)) }
 {
-    for child in children {
-        if let Some((first, _)) = room_in(window, child.span) {
-            return Some(first);
+    match room_in(window, span) {
+        Some((first, _)) => Some(first),
+        None => None,
+    }
+}
+
+/// The highest place in a span of a leaf.
+pub(crate) fn high_place(window: Window, span: Span) -> Option<u64>
+    requires size { 1 ≤ window.size }
+    ensures place { result ≡ highest_in window.size (kept window.size window.lo window.hi (leaf_hole span)) }
+{
+    match room_in(window, span) {
+        Some((_, last)) => Some(last - (window.size - 1)),
+        None => None,
+    }
+}
+
+/// The lowest place in a row of this kind that covers the indexes from `first` to `max`, and whose slots hold entries and
+/// holes.
+pub(crate) fn lowest_of<R: Rows>(
+    rows: &mut R,
+    kind: RowKind,
+    row: u32,
+    first: u64,
+    max: u64,
+    window: Window,
+) -> Option<u64>
+    requires row { IsPlace (R.sheet rows.old).tree row 0 }
+    requires size { 1 ≤ window.size }
+    ensures place { result ≡ picked lowest_in window (flat_map child_hole (row_children (R.sheet rows.old).tree.table row kind first max)) }
+    ensures reads { ReadsUpTo (columns (R.sheet rows.old).tree.table.width) (R.sheet rows.old) (R.sheet rows.new) }
+{
+    let mut begin = first;
+    for slot in 0..slots(rows.width(), kind) {
+        let last = load_last(rows, kind, row, max, slot);
+        let word = load_word(rows, kind, row, slot);
+        let place = low_place(
+            window,
+            Span {
+                first: begin,
+                last,
+                word,
+            },
+        );
+        if place.is_some() {
+            return place;
         }
+        if max <= last {
+            return None;
+        }
+        begin = last + 1;
     }
     None
 }
 
-/// The place found last, after one span more.
-#[tactic(auto, using(crate::proofs::RowLoops::later_some, crate::proofs::RowLoops::later_none))]
-fn later(found: Option<u64>, window: Window, span: Span) -> Option<u64>
+/// The highest place in a row of this kind that covers the indexes from `first` to `max`, and whose slots hold entries and
+/// holes.
+pub(crate) fn highest_of<R: Rows>(
+    rows: &mut R,
+    kind: RowKind,
+    row: u32,
+    first: u64,
+    max: u64,
+    window: Window,
+) -> Option<u64>
+    requires row { IsPlace (R.sheet rows.old).tree row 0 }
     requires size { 1 ≤ window.size }
-    ensures { (before : List Hole) → found ≡ highest_in window.size (kept window.size window.lo window.hi before) → result ≡ highest_in window.size (kept window.size window.lo window.hi (before ++ leaf_hole span)) }
-{
-    match room_in(window, span) {
-        Some((_, last)) => Some(last - (window.size - 1)),
-        None => found,
-    }
-}
-
-/// The highest place in a leaf.
-pub(crate) fn highest_of(children: &[Child], window: Window) -> Option<u64>
-    requires { 1 ≤ window.size }
-    ensures { result ≡ highest_in window.size (kept window.size window.lo window.hi (flat_map child_hole children.now)) }
+    ensures place { result ≡ picked (highest_in window.size) window (flat_map child_hole (row_children (R.sheet rows.old).tree.table row kind first max)) }
+    ensures reads { ReadsUpTo (columns (R.sheet rows.old).tree.table.width) (R.sheet rows.old) (R.sheet rows.new) }
 {
     let mut found = None;
-    for child in children {
-        found = later(found, window, child.span);
+    let mut begin = first;
+    for slot in 0..slots(rows.width(), kind) {
+        let last = load_last(rows, kind, row, max, slot);
+        let word = load_word(rows, kind, row, slot);
+        found = high_place(
+            window,
+            Span {
+                first: begin,
+                last,
+                word,
+            },
+        )
+        .or(found);
+        if max <= last {
+            return found;
+        }
+        begin = last + 1;
     }
     found
 }

@@ -1,32 +1,39 @@
-use Rattle.std.proofs.Common.{◌≡◌, ◌<◌, ap, ◌∙◌, arith}
+use Rattle.std.proofs.Common.{◌≡◌, ◌<◌, ◌++◌, List, [], ◌∷◌, ap, ◌∙◌, arith}
 use Rattle.mt_base.specs.declared.widths.Width.{Width}
+use Rattle.mt_layout.specs.declared.names.RowKind.TheVariants.{Gapped}
 use Rattle.mt_layout.specs.Sizes.{slots_of}
-use Rattle.mt_gap.proofs.RowReads.{reads_on, reads_last, reads_all}
+use Rattle.mt_path.proofs.Kept.{tree_kept}
+use Rattle.mt_path.proofs.Loads.{reads_more}
+use Rattle.mt_rows.specs.Sheet.{Rooted}
+use Rattle.mt_gap.specs.declared.children.Child.{Child}
+use Rattle.mt_gap.specs.Slots.{child_in}
+use Rattle.mt_gap.proofs.RowReads.{same_read, read_on, read_last}
 use Rattle.mt_gap.proofs.children.load_children.Goals as goal
 
-pub returns-then-max-item-clause-items : goal.returns-then-max-item-clause-items
-returns-then-max-item-clause-items g c =
-    let sheet = g.R.Rows.sheet c.args.rows.now in
-    let count = c.slots-slot-end.ensures ∙ ap (λ (w : Width). slots_of w c.args.kind) c.width.ensures in
+pub returns-then-max-last-clause-items : goal.returns-then-max-last-clause-items
+returns-then-max-last-clause-items g c =
+    let s = g.R.Rows.sheet c.args.rows.now in let t = g.R.Rows.sheet c.loop-slot.rows in
+    let t₁ = g.R.Rows.sheet c.load_last-last.new.rows in let u = g.R.Rows.sheet c.load_child-child.new.rows in
+    let done = c.loop-slot.invariant in
+    let count = c.slots-slot-end.ensures ∙ ap (λ (w : Width). slots_of w Gapped) c.width.ensures in
     let test = c.loop-slot-test.true in
-    let within : c.loop-slot.slot < slots_of sheet.tree.table.width c.args.kind = omega arith in
-    (reads_last sheet (g.R.Rows.sheet c.loop-slot.rows) (g.R.Rows.sheet c.load_item-item.new.rows) c.args.kind c.args.row c.args.first c.args.max c.loop-slot.slot c.loop-slot.begin
-    c.loop-slot.children.items c.push.new.self.items c.load_item-item.result c.loop-slot.invariant c.load_item-item.ensures.item c.load_item-item.ensures.last c.load_item-item.ensures.reads within c.push.ensures.items c.if-max-item.true).0
+    let same = tree_kept 1 t t₁ c.load_last-last.ensures.reads ∙ same_read s t Gapped c.args.row c.args.first c.args.max c.loop-slot.slot c.loop-slot.begin done.before done.read in
+    let child = c.load_child-child.ensures.child ∙ ap (λ (r : Rooted). child_in r.table Gapped c.args.row c.loop-slot.slot c.loop-slot.begin c.load_last-last.result) same in
+    let within : c.loop-slot.slot < slots_of s.tree.table.width Gapped = omega arith in
+    c.push.ensures.items ∙ ((λ i. done.holds i ++ (child i ∷ []))
+    ∙ read_last s t u Gapped c.args.row c.args.first c.args.max c.loop-slot.slot c.loop-slot.begin c.load_last-last.result done.before done.read c.load_last-last.ensures.last
+    (reads_more 1 2 t t₁ u c.load_last-last.ensures.reads c.load_child-child.ensures.reads) within c.if-max-last.true)
 
 pub loop-slot-preserved : goal.loop-slot-preserved
 loop-slot-preserved g c =
-    let sheet = g.R.Rows.sheet c.args.rows.now in
-    let count = c.slots-slot-end.ensures ∙ ap (λ (w : Width). slots_of w c.args.kind) c.width.ensures in
+    let s = g.R.Rows.sheet c.args.rows.now in let t = g.R.Rows.sheet c.loop-slot.rows in
+    let t₁ = g.R.Rows.sheet c.load_last-last.new.rows in let u = g.R.Rows.sheet c.load_child-child.new.rows in
+    let done = c.loop-slot.invariant in
+    let count = c.slots-slot-end.ensures ∙ ap (λ (w : Width). slots_of w Gapped) c.width.ensures in
     let test = c.loop-slot-test.true in
-    let within : c.loop-slot.slot < slots_of sheet.tree.table.width c.args.kind = omega arith in
-    reads_on sheet (g.R.Rows.sheet c.loop-slot.rows) (g.R.Rows.sheet c.load_item-item.new.rows) c.args.kind c.args.row c.args.first c.args.max c.loop-slot.slot c.loop-slot.begin
-    c.loop-slot.children.items c.push.new.self.items c.load_item-item.result c.loop-slot.invariant c.load_item-item.ensures.item c.load_item-item.ensures.last c.load_item-item.ensures.reads within c.push.ensures.items c.if-max-item.false
-
-pub returns-clause-items : goal.returns-clause-items
-returns-clause-items g c =
-    let sheet = g.R.Rows.sheet c.args.rows.now in
-    let count = c.slots-slot-end.ensures ∙ ap (λ (w : Width). slots_of w c.args.kind) c.width.ensures in
-    let test = c.loop-slot-test.false in
-    let most = c.loop-slot.auto.slot-end in
-    let all : c.loop-slot.slot ≡ slots_of sheet.tree.table.width c.args.kind = omega arith in
-    (reads_all sheet (g.R.Rows.sheet c.loop-slot.rows) c.args.kind c.args.row c.args.first c.args.max c.loop-slot.slot c.loop-slot.begin c.loop-slot.children.items c.loop-slot.invariant all).0
+    let same = tree_kept 1 t t₁ c.load_last-last.ensures.reads ∙ same_read s t Gapped c.args.row c.args.first c.args.max c.loop-slot.slot c.loop-slot.begin done.before done.read in
+    let child = c.load_child-child.ensures.child ∙ ap (λ (r : Rooted). child_in r.table Gapped c.args.row c.loop-slot.slot c.loop-slot.begin c.load_last-last.result) same in
+    let within : c.loop-slot.slot < slots_of s.tree.table.width Gapped = omega arith in
+    read_on s t u Gapped c.args.row c.args.first c.args.max c.loop-slot.slot c.loop-slot.begin c.load_last-last.result done.before done.read c.load_last-last.ensures.last
+    (reads_more 1 2 t t₁ u c.load_last-last.ensures.reads c.load_child-child.ensures.reads) within (λ (before : List Child). c.push.new.self.items ≡ before) c.if-max-last.false
+    (c.push.ensures.items ∙ (λ i. done.holds i ++ (child i ∷ [])))

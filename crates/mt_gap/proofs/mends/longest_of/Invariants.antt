@@ -1,5 +1,7 @@
-use Rattle.mt_gap.proofs.Tells.{HolesFrom}
+use Rattle.mt_layout.specs.declared.names.RowKind.TheVariants.{Leaf}
+use Rattle.mt_gap.proofs.Asking.{LongestIs}
+use Rattle.mt_gap.proofs.RowReads.{IsReadTo}
 use Rattle.mt_gap.proofs.mends.longest_of.Given as goal
 
-abbrev pub invariant-loop-child : goal.invariant-loop-child
-invariant-loop-child l = HolesFrom l.children l.child-index l.longest
+abbrev pub invariant-loop-slot : goal.invariant-loop-slot
+invariant-loop-slot g l = IsReadTo (LongestIs l.longest) (g.R.Rows.sheet l.fn.rows) (g.R.Rows.sheet l.rows) Leaf l.row l.first l.max l.slot l.begin

@@ -1,8 +1,6 @@
-use Rattle.std.proofs.Common.{◌≡◌, take}
-use Rattle.std.specs.List.{flat_map}
-use Rattle.mt_base.specs.Holes.{kept, highest_in}
-use Rattle.mt_gap.specs.Below.{child_hole}
+use Rattle.mt_gap.proofs.Asking.{HighIs}
+use Rattle.mt_gap.proofs.RowReads.{IsReadTo}
 use Rattle.mt_gap.proofs.windows.highest_of.Given as goal
 
-abbrev pub invariant-loop-child : goal.invariant-loop-child
-invariant-loop-child l = l.found ≡ highest_in l.window.size (kept l.window.size l.window.lo l.window.hi (flat_map child_hole (take l.child-index l.children)))
+abbrev pub invariant-loop-slot : goal.invariant-loop-slot
+invariant-loop-slot g l = IsReadTo (HighIs l.window.size l.window.lo l.window.hi l.found) (g.R.Rows.sheet l.fn.rows) (g.R.Rows.sheet l.rows) l.kind l.row l.first l.max l.slot l.begin
