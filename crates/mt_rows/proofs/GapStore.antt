@@ -1,9 +1,7 @@
 -- One store of a gap word in a slot of a row that is reached: the tree keeps its rows and what stands in them.
-use Rattle.std.proofs.Common.{◌≡◌, ◌≢◌, ℕ, zero, suc, ◌+◌, ◌*◌, ◌<◌, ◌≤◌, ◌==◌, List, [], ◌∷◌, ◌++◌, false, Option, Some, length, refl, sym, ap, ◌∙◌, subst, ⊎_elim, inl, inr, arith, get_or-set_other, get_or-set_same}
+use Rattle.std.proofs.Common.{◌≡◌, ◌≢◌, ℕ, suc, ◌+◌, ◌*◌, ◌<◌, ◌≤◌, List, Option, length, refl, sym, ap, ◌∙◌, subst, ⊎_elim, arith, get_or-set_other, get_or-set_same}
 use Rattle.std.specs.Prelude.{slice_index, slice_set}
-use Rattle.std.specs.List.{AllByRecursion}
 use Rattle.std.proofs.lemmas.Bool.{cases_eq}
-use Rattle.mt_base.specs.declared.kinds.Kind.{Kind}
 use Rattle.mt_base.specs.declared.kinds.Kind.TheVariants as trees
 use Rattle.mt_base.specs.declared.widths.Width.{Width}
 use Rattle.mt_base.specs.declared.widths.Width.TheVariants.{Long}
@@ -15,9 +13,9 @@ use Rattle.mt_layout.specs.Columns.{gap_column, row_words}
 use Rattle.mt_layout.specs.Rows.{row_in}
 use Rattle.mt_layout.specs.Sizes.{slots_of, gaps_of}
 use Rattle.mt_layout.specs.Spans.{spans_from, Fills}
-use Rattle.mt_layout.proofs.RowSizes.{some_slots_of, slots_of-columns}
+use Rattle.mt_layout.proofs.RowSizes.{some_slots_of}
 use Rattle.mt_layout.proofs.SpanLists.{length-spans_from}
-use Rattle.mt_rows.specs.Spans.{Table, base_of, column, spans_by, spans_in}
+use Rattle.mt_rows.specs.Spans.{base_of, column, spans_by, spans_in}
 use Rattle.mt_rows.specs.Levels.{Levels, SameColumns, SameSpans}
 use Rattle.mt_rows.specs.Laws.{Tree, HasWords, IsRow, Stands, least_of, items_in, words_in}
 use Rattle.mt_rows.specs.Publish.{tree_as}

@@ -1,14 +1,13 @@
 -- The gap word of one slot is stored: the item in that slot has another gap, and nothing else of its row changes.
-use Rattle.std.proofs.Common.{◌≡◌, ◌≢◌, ℕ, zero, suc, ◌+◌, ◌-◌, ◌*◌, ◌<◌, ◌≤◌, ◌==◌, List, [], ◌∷◌, ◌++◌, Bool, true, false, length, map, take, replicate, refl, sym, ap, ◌∙◌, subst, ⊎_elim, arith, length-append, length-take, length-set, get_or-set_other, get_or-set_same, ne_eqb}
+use Rattle.std.proofs.Common.{◌≡◌, ◌≢◌, ℕ, zero, suc, ◌+◌, ◌-◌, ◌*◌, ◌<◌, ◌≤◌, ◌==◌, List, [], ◌∷◌, ◌++◌, Bool, true, false, length, map, take, replicate, refl, sym, ap, ◌∙◌, subst, arith, length-append, length-set, get_or-set_other, get_or-set_same, ne_eqb}
 use Rattle.std.specs.Prelude.{if◌then◌else◌, nat_le, slice_index, slice_set}
-use Rattle.std.proofs.lemmas.Bool.{cases_eq}
-use Rattle.std.proofs.lemmas.List.{length-map, length-replicate, set-append_left, set-append_right}
+use Rattle.std.proofs.lemmas.List.{length-map, set-append_left, set-append_right}
 use Rattle.mt_layout.specs.declared.items.Item.{Item}
 use Rattle.mt_layout.specs.declared.spans.Span.{Span}
 use Rattle.mt_layout.specs.Columns.{pivot_column, slot_column, gap_column, gap_at, item_at, items_from, items_at, padded_to, pivot_words, slot_words, gap_words, row_words}
 use Rattle.mt_layout.specs.Spans.{spans_from}
 use Rattle.mt_layout.proofs.Reading.{gap_at-some}
-use Rattle.mt_layout.proofs.RowWords.{length-padded, length-pivots, length-slots}
+use Rattle.mt_layout.proofs.RowWords.{length-pivots, length-slots}
 
 -- ---- the gap of one item of a list
 

@@ -32,3 +32,4 @@ pub mod SlotChild
 pub mod SlotEntry
 pub mod SlotStore
 pub mod SlotWords
+mod ZeroWords

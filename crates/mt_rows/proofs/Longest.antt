@@ -1,5 +1,5 @@
 -- The longest hole below rows: side by side, and by two tables that share their spans.
-use Rattle.std.proofs.Common.{◌≡◌, ℕ, zero, suc, ◌+◌, List, [], ◌∷◌, ◌++◌, max, refl, ap, ◌∙◌, arith}
+use Rattle.std.proofs.Common.{◌≡◌, ℕ, zero, suc, List, [], ◌∷◌, ◌++◌, max, refl, ap, ◌∙◌, arith}
 use Rattle.mt_layout.specs.declared.spans.Span.{Span}
 use Rattle.mt_layout.specs.Spans.{hole_length, longest_in}
 use Rattle.mt_rows.specs.Spans.{Table}

@@ -1,8 +1,8 @@
 -- What rows in memory stand for after a row's fate has changed.
-use Rattle.std.proofs.Common.{◌≡◌, ℕ, zero, suc, ◌+◌, ◌*◌, ◌<◌, ◌≤◌, Option, Some, None, List, [], ◌∷◌, Bool, true, false, length, map, refl, sym, ap, ◌∙◌, subst, inl, inr, arith}
+use Rattle.std.proofs.Common.{◌≡◌, ℕ, zero, suc, ◌+◌, ◌*◌, ◌<◌, ◌≤◌, Option, Some, None, List, [], ◌∷◌, Bool, true, false, map, refl, sym, ap, ◌∙◌, subst, inl, inr, arith}
 use Rattle.std.specs.Prelude.{slice_index, slice_index_or, slice_set, replicate, nat_le, if◌then◌else◌}
 use Rattle.std.proofs.lemmas.Bool.{cases_Bool, cases_lt, leb-true, ltb-false, le-leb, lt-leb, lt-ltb, le-ltb}
-use Rattle.std.proofs.lemmas.List.{map-set, get_or_past, get_or_default}
+use Rattle.std.proofs.lemmas.List.{map-set, get_or_past}
 use Rattle.std.proofs.Math.Seq.{map-set_same}
 use Rattle.mt_rows.specs.declared.rows.Life.TheVariants as lives
 use Rattle.mt_rows.specs.declared.plain.Fate.{Fate}
@@ -167,15 +167,11 @@ either_same false a = refl
 
 -- ---- a word in place of another
 
-place_within : (width : Width) (row col rows : ℕ) → row < first_row + rows → col < columns width → columns width * row + col < columns width * (first_row + rows)
-place_within Long row col rows last column = omega arith
-
-pub store_opens : (p : State) (s : Sheet) (place : Place) (row col at old : ℕ) → IsPlain p → sheet_of p ≡ s → s.published ≡ false → IsPlaceIn s.tree place → place ≡ Slot row col → at ≡ columns p.width * row + col → old ≡ slice_index_or p.words.items at old
+pub store_opens : (p : State) (s : Sheet) (place : Place) (row col at old : ℕ) → IsPlain p → sheet_of p ≡ s → s.published ≡ false → IsPlaceIn s.tree place → place ≡ Slot row col → at ≡ columns p.width * row + col → old ≡ slice_index p.words.items at
     → opens s place ≡ names_buried p.ended p.fates.items (named_row old)
 store_opens p s place row col at old plain is before inside slot at_is read =
     let here : IsPlace (sheet_of p).tree row col = subst (λ (s : Sheet). IsPlace s.tree row col) (sym is) (subst (IsPlaceIn s.tree) slot inside) in
-    let within : at < length p.words.items = let size = plain.words in let last = here.last in let column = here.column in omega (arith, place_within p.width row col p.rows last column) in
-    let word : old ≡ word_at s.tree row col = read ∙ (get_or_default p.words.items at old 0 within ∙ (ap (λ (n : ℕ). slice_index p.words.items n) at_is ∙ ap (λ (s : Sheet). word_at s.tree row col) is)) in
+    let word : old ≡ word_at s.tree row col = read ∙ (ap (λ (n : ℕ). slice_index p.words.items n) at_is ∙ ap (λ (s : Sheet). word_at s.tree row col) is) in
     ap (opens s) slot ∙ (ap (λ (n : ℕ). buried_by s (named_row n)) (sym word) ∙ by (named_row old))
   where
     by : (name : Option ℕ) → buried_by s name ≡ names_buried p.ended p.fates.items name

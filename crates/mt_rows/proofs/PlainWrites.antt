@@ -1,6 +1,6 @@
 -- A tree of one leaf in memory: written, stored in, and replaced.
 use Rattle.std.proofs.Common.{◌≡◌, ◌≢◌, ℕ, zero, suc, ◌+◌, ◌<◌, ◌≤◌, ◌==◌, List, [], ◌∷◌, ◌++◌, Bool, true, false, Some, None, length, refl, sym, ap, ◌∙◌, subst, inl, inr, arith, get_or-set_same, get_or-set_other, ne_eqb}
-use Rattle.std.specs.Prelude.{replicate, slice_index, slice_index_or, slice_set, nat_lt, if◌then◌else◌}
+use Rattle.std.specs.Prelude.{min, replicate, slice_index, slice_index_or, slice_set, nat_lt, if◌then◌else◌}
 use Rattle.std.specs.List.{fold, flat_map, range_with_len}
 use Rattle.std.proofs.lemmas.Bool.{cases_eq}
 use Rattle.std.proofs.lemmas.List.{set-set}
@@ -21,10 +21,11 @@ use Rattle.mt_rows.specs.declared.rows.Life.{Life}
 use Rattle.mt_rows.specs.declared.rows.Life.TheVariants as lives
 use Rattle.mt_rows.specs.declared.rows.Place.{Place}
 use Rattle.mt_rows.specs.declared.rows.Place.TheVariants.{Root, Slot}
+use Rattle.mt_rows.specs.declared.rows.Scan.{Scan}
 use Rattle.mt_rows.specs.Spans.{Table, root_span, spans_in}
 use Rattle.mt_rows.specs.Levels.{IsBelow, one_if}
 use Rattle.mt_rows.specs.Laws as laws
-use Rattle.mt_rows.specs.Sheet.{Sheet, Rooted, IsWhole, IsPlace, IsFree, MayBury, life_of, is_buried, begun, drafted, after_bury, with_word}
+use Rattle.mt_rows.specs.Sheet.{Sheet, Rooted, IsWhole, IsPlace, IsFree, MayBury, life_of, is_buried, begun, drafted, after_bury, loaded, scanned, with_word}
 use Rattle.mt_rows.specs.Publish.{tree_as, LiveAreReached, IsReached, is_reached, StandsAt, IsKnown, Changes, MayPublish, Published, finished, with_published, with_record, life_after}
 use Rattle.mt_rows.specs.Plain.{new_sheet}
 use Rattle.mt_rows.proofs.ExactStore as exact
@@ -355,3 +356,31 @@ stored_first s s₁ s₂ s₃ k done ends begins = next_call s₁ s₂ s₃ firs
 
 pub stored_entry : (s s₁ s₂ s₃ : Sheet) → Knows s first_tree 1 true false lives.Live lives.New false → IsWhole s → Published s s₁ (Slot 16 17) 7 (Store 10 19 7) reply.Ok → s₂ ≡ finished s₁ (Store 10 19 7) reply.Ok → s₃ ≡ begun s₂ → Knows s₃ second_tree 2 true false lives.Live lives.New false
 stored_entry s s₁ s₂ s₃ k whole done ends begins = next_call s₁ s₂ s₃ second_tree 1 lives.Live lives.New (Store 10 19 7) reply.Ok (knows_entry_published s 1 k whole s₁ done) ends begins
+
+-- the leaf that was replaced by call 3 may be written again once a scan has found nobody
+pub first_free : (s s₁ s₂ s₃ s₄ : Sheet) (call : Call) (reply : Reply) (scan : Scan) → Knows s buried_tree 2 true false lives.Live lives.Draft true → Published s s₁ Root 4364 call reply → s₂ ≡ finished s₁ call reply → s₃ ≡ loaded s₂
+    → s₄ ≡ scanned s₃ scan s₄.cleared → min scan.least s₃.ended ≤ s₄.cleared → 3 ≤ scan.least → IsFree s₄.cleared (life_of s₄.lives 16)
+first_free s s₁ s₂ s₃ s₄ call reply scan k done ends loads scans cleared least = subst (IsFree s₄.cleared) (sym dead) passed
+  where
+    ended : s₃.ended ≡ 3
+    ended =
+        let third = ap (λ (x : Sheet). x.ended) loads in
+        let second = ap (λ (x : Sheet). x.ended) ends in
+        let first = ap (λ (x : Sheet). x.ended) done.rest in
+        let before = ap (λ (x : Sheet). x.ended) k.is in
+        omega arith
+
+    passed : 3 ≤ s₄.cleared
+    passed = omega (arith, ended, cleared, least)
+
+    gone : life_after s (with_published s.tree Root 4364) 16 ≡ lives.Dead 3
+    gone =
+        ap (λ (t : Rooted). if is_reached (with_published t Root 4364) 16 then lives.Live else (if is_buried s.buried 16 then lives.Dead (s.ended + 1) else life_of s.lives 16)) (ap (λ (x : Sheet). x.tree) k.is)
+        ∙ (ap (λ (b : Bool). if b then lives.Dead (s.ended + 1) else life_of s.lives 16) k.buried_16 ∙ ap (λ (n : ℕ). lives.Dead (n + 1)) (ap (λ (x : Sheet). x.ended) k.is))
+
+    dead : life_of s₄.lives 16 ≡ lives.Dead 3
+    dead =
+        ap (λ (x : Sheet). life_of x.lives 16) scans
+        ∙ (ap (λ (x : Sheet). life_of x.lives 16) loads
+        ∙ (ap (λ (x : Sheet). life_of x.lives 16) ends
+        ∙ (done.lives 16 (omega arith) (let rows = ap (λ (x : Sheet). x.tree.rows) k.is in omega arith) ∙ gone)))

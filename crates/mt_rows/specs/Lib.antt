@@ -10,3 +10,4 @@ pub mod Replacement
 pub mod Sheet
 pub mod Spans
 pub mod Trees
+pub mod Words

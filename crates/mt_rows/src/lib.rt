@@ -6,6 +6,7 @@ pub mod laws;
 mod plain;
 pub mod plain_trees;
 mod rows;
+mod words;
 
 pub use kinds::inner_kind;
 pub use plain::PlainRows;

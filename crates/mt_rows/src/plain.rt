@@ -11,8 +11,10 @@ ghost use Rattle.mt_rows.specs.Plain.{IsPlain, names_of, enlivened, names_buried
 
 use crate::plain_trees::spans_in;
 use crate::rows::{Place, Rows, Scan};
+use crate::words::Words;
+use arrayvec::ArrayVec;
 use mt_base::{Call, DEEPEST, FIRST_ROW, NoMemory, Reply, Width, cols, top};
-use mt_layout::{RowKind, Span, kind_of, parent_word, row_of, slots};
+use mt_layout::{MOST_SLOTS, RowKind, Span, kind_of, parent_word, row_of, slots};
 use std::alloc::Global;
 
 /// What has become of a row.
@@ -30,7 +32,7 @@ enum Fate {
 struct State {
     rows: u64,
     width: Width,
-    words: Vec<u64>,
+    words: Words,
     root: u64,
     fates: Vec<Fate>,
     ended: u64,
@@ -72,10 +74,10 @@ fn set_fate(fates: &mut [Fate], row: u32, fate: Fate)
 }
 
 /// Makes the rows live that a span reaches, at most so many levels deep, and counts them.
-fn settle(words: &[u64], depth: u32, span: &Span, fates: &mut [Fate]) -> u64
+fn settle(words: &Words, depth: u32, span: &Span, fates: &mut [Fate]) -> u64
     requires { depth ≤ deepest }
-    ensures count { result ≡ length (rows_of (record { width = Long; words = words.now }) depth span.now) }
-    ensures lives { fates.new ≡ fold (λ fs row. slice_set fs row Fate.Live) fates.old (rows_of (record { width = Long; words = words.now }) depth span.now) }
+    ensures count { result ≡ length (rows_of (record { width = Long; words = words.now.items }) depth span.now) }
+    ensures lives { fates.new ≡ fold (λ fs row. slice_set fs row Fate.Live) fates.old (rows_of (record { width = Long; words = words.now.items }) depth span.now) }
 {
     let (Some(row), Some(kind)) = (row_of(span.word), kind_of(span.word)) else {
         return 0;
@@ -88,7 +90,7 @@ fn settle(words: &[u64], depth: u32, span: &Span, fates: &mut [Fate]) -> u64
         RowKind::Leaf => 1,
         _ => {
             let mut count = 1;
-            for child in spans_in(words, span).as_slice() {
+            for child in spans_in(words.written(), span).as_slice() {
                 count += settle(words, depth - 1, child, fates);
             }
             count
@@ -103,23 +105,28 @@ fn is_draft(fates: &[Fate], row: u32) -> bool
 }
 
 /// The words in the slots of an inner row, which name its children.
-fn names_in(words: &[u64], row: u32, kind: RowKind) -> &[u64]
-    requires { columns Long * (row + 1) ≤ length words.now }
-    ensures { result.now ≡ names_of words.now row kind }
+#[tactic(auto, using(crate::proofs::ZeroWords::few_slots, crate::proofs::ZeroWords::range_more, crate::proofs::ZeroWords::none_in_range, crate::proofs::ZeroWords::names_of_inner))]
+fn names_in(words: &Words, row: u32, kind: RowKind) -> ArrayVec<u64, MOST_SLOTS>
+    requires { columns Long * (row + 1) ≤ length words.now.items }
+    ensures { result.items ≡ names_of words.now.items row kind }
 {
+    let mut names = ArrayVec::new();
+    if kind == RowKind::Leaf {
+        return names;
+    }
     let base = cols(Width::Long) as usize * row as usize;
     let slots = slots(Width::Long, kind) as usize;
-    match kind {
-        RowKind::Leaf => &words[..0],
-        RowKind::Inner | RowKind::Gapped => &words[base + slots..base + 2 * slots],
+    for at in base + slots..base + 2 * slots {
+        names.push(words.get(at));
     }
+    names
 }
 
 /// Makes the drafts live that are reached from a word, at most so many levels deep. Below a row that is no draft there is
 /// none.
-fn enliven(words: &[u64], depth: u32, word: u64, fates: &mut [Fate])
-    requires { length words.now ≡ columns Long * length fates.old }
-    ensures { fates.new ≡ enlivened words.now depth word fates.old }
+fn enliven(words: &Words, depth: u32, word: u64, fates: &mut [Fate])
+    requires { length words.now.items ≡ columns Long * length fates.old }
+    ensures { fates.new ≡ enlivened words.now.items depth word fates.old }
 {
     let (Some(row), Some(kind)) = (row_of(word), kind_of(word)) else {
         return;
@@ -128,7 +135,7 @@ fn enliven(words: &[u64], depth: u32, word: u64, fates: &mut [Fate])
         return;
     }
     set_fate(fates, row, Fate::Live);
-    for child in names_in(words, row, kind) {
+    for child in names_in(words, row, kind).as_slice() {
         enliven(words, depth - 1, *child, fates);
     }
 }
@@ -145,14 +152,6 @@ fn levels_in_place_of(fates: &[Fate], past: u64, old: u64) -> u32
         Some(Fate::Buried(call)) if past < *call => DEEPEST as u32,
         _ => 0,
     }
-}
-
-/// Writes these words over the last ones.
-fn put_last(all: &mut [u64], from: usize, words: &[u64])
-    requires { from + length words.now ≡ length all.old }
-    ensures { all.new ≡ take from all.old ++ words.now }
-{
-    all[from..].copy_from_slice(words);
 }
 
 /// How many rows are live.
@@ -186,10 +185,10 @@ fn renew(fates: &mut [Fate])
 
 /// Makes the rows live that are reached from the root word, and all others new, and counts the live ones. No row is entered
 /// twice, whatever the words.
-fn enliven_all(words: &[u64], root: u64, fates: &mut [Fate]) -> u64
-    requires { length words.now ≡ columns Long * length fates.old }
-    ensures fates { fates.new ≡ map made.renewed (walked_fates words.now root (length fates.old)) }
-    ensures count { result ≡ length (filter is_live (walked_fates words.now root (length fates.old))) }
+fn enliven_all(words: &Words, root: u64, fates: &mut [Fate]) -> u64
+    requires { length words.now.items ≡ columns Long * length fates.old }
+    ensures fates { fates.new ≡ map made.renewed (walked_fates words.now.items root (length fates.old)) }
+    ensures count { result ≡ length (filter is_live (walked_fates words.now.items root (length fates.old))) }
 {
     fates.fill(Fate::Draft);
     enliven(words, DEEPEST as u32, root, fates);
@@ -218,7 +217,7 @@ impl PlainRows {
         let state = State {
             rows,
             width,
-            words: vec![in alloc; 0; cols(width) as usize * numbers]?,
+            words: Words::new(alloc, cols(width) as usize * numbers)?,
             root: 0,
             fates: vec![in alloc; Fate::New; numbers]?,
             ended: 0,
@@ -258,13 +257,9 @@ impl PlainRows {
         ensures { IsMadeOf Long root words.now (sheet_in self.new) }
     {
         let before = cols(Width::Long) as usize * FIRST_ROW as usize;
-        put_last(self.state.words.as_mut_slice(), before, words);
+        self.state.words.set_last(before, words);
         self.state.root = root;
-        self.state.opened = enliven_all(
-            self.state.words.as_slice(),
-            root,
-            self.state.fates.as_mut_slice(),
-        );
+        self.state.opened = enliven_all(&self.state.words, root, self.state.fates.as_mut_slice());
     }
 
     /// Sets the root word before the first call. The rows that are reached from it are live then.
@@ -279,7 +274,7 @@ impl PlainRows {
             word: root,
         };
         self.state.opened = settle(
-            self.state.words.as_slice(),
+            &self.state.words,
             DEEPEST as u32,
             &span,
             self.state.fates.as_mut_slice(),
@@ -301,8 +296,8 @@ impl PlainRows {
             }
             Place::Slot { row, col } => {
                 let slot = place_of(self.state.width, row, col);
-                let old = self.state.words[slot];
-                self.state.words[slot] = word;
+                let old = self.state.words.get(slot);
+                self.state.words.set(slot, word);
                 levels_in_place_of(self.state.fates.as_slice(), self.state.ended, old)
             }
         }
@@ -329,7 +324,7 @@ impl Rows for PlainRows {
 
     fn load(&mut self, row: u32, col: u32) -> u64 {
         self.state.reads = self.state.reads.saturating_add(1);
-        self.state.words[place_of(self.state.width, row, col)]
+        self.state.words.get(place_of(self.state.width, row, col))
     }
 
     fn root(&mut self) -> u64 {
@@ -363,24 +358,27 @@ impl Rows for PlainRows {
     }
 
     fn draft(&mut self, row: u32, col: u32, word: u64) {
-        self.state.words[place_of(self.state.width, row, col)] = word;
+        let at = place_of(self.state.width, row, col);
+        self.state.words.set(at, word);
         self.state.fates[row as usize] = Fate::Draft;
     }
 
     fn bury(&mut self, row: u32) {
         // A dead row is its own parent.
-        self.state.words[place_of(self.state.width, row, 0)] = parent_word(row, 0);
+        let at = place_of(self.state.width, row, 0);
+        self.state.words.set(at, parent_word(row, 0));
         self.state.fates[row as usize] = Fate::Buried(self.state.ended + 1);
     }
 
     fn tend(&mut self, row: u32, col: u32, word: u64) {
-        self.state.words[place_of(self.state.width, row, col)] = word;
+        let at = place_of(self.state.width, row, col);
+        self.state.words.set(at, word);
     }
 
     fn publish(&mut self, place: Place, word: u64, _call: &Call, _reply: &Reply) {
         let levels = self.store(place, word);
         enliven(
-            self.state.words.as_slice(),
+            &self.state.words,
             levels,
             word,
             self.state.fates.as_mut_slice(),

@@ -11,7 +11,7 @@ decreases-settle l = l.depth
 
 abbrev pub invariant-loop-child : goal.invariant-loop-child
 invariant-loop-child l =
-    let below = flat_map (rows_of (record { width = Long; words = l.words }) (l.depth - 1)) (take l.child-index l.child-items) in
+    let below = flat_map (rows_of (record { width = Long; words = l.words.items }) (l.depth - 1)) (take l.child-index l.child-items) in
     record {
       count : l.count ≡ 1 + length below;
       lives : l.fates ≡ fold (λ (fs : List Fate) (row : ℕ). slice_set fs row Live) l.initial.fates below;

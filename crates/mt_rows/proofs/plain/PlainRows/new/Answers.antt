@@ -9,8 +9,8 @@ use Rattle.mt_rows.proofs.plain.PlainRows.new.Goals as goal
 
 pub returns : goal.returns
 returns c =
-    let words = c.in_ok-vec.ensures.items_if_clones_equal (search rules) in
-    let fates : c.in_ok-vec-2.field-0.items ≡ replicate (first_row + c.args.rows) New = c.in_ok-vec-2.ensures.items_if_clones_equal (search rules) in
+    let words = c.in_ok-new.ensures in
+    let fates : c.in_ok-vec.field-0.items ≡ replicate (first_row + c.args.rows) New = c.in_ok-vec.ensures.items_if_clones_equal (search rules) in
     let size : c.cols.result * (first_row + c.args.rows) ≡ columns Long * (first_row + c.args.rows) = ap (λ n. n * (first_row + c.args.rows)) c.cols.ensures in
     λ i. record (new_sheet c.args.rows) {
       tree = record { rows = c.args.rows; table = record { width = Long; words = (words ∙ ap (λ n. replicate n 0) size) i }; root = 0 };

@@ -10,7 +10,7 @@ pub invariant_of-self : goal.invariant_of-self
 invariant_of-self c =
     let p = c.args.self.now.state in
     let q : State = record p { fates = with_items p.fates c.settle-self.new.fates } in
-    let rows = reached_as p.width p.words.items c.as_slice.result.now c.args.root c.top.result c.as_slice.ensures.value c.top.ensures in
+    let rows = reached_as p.width p.words.items p.words.items c.args.root c.top.result refl c.top.ensures in
     let count = c.settle-self.ensures.count ∙ ap length rows in
     let kept : q.fates.items ≡ c.settle-self.new.fates = with_items_is p.fates c.settle-self.new.fates (c.settle-self.auto.fates ∙ c.as_mut_slice.ensures.len) in
     let fates = kept ∙ (c.settle-self.ensures.lives ∙ (λ i. settled (c.as_mut_slice.ensures.value i) (rows i))) in
@@ -20,7 +20,7 @@ pub returns : goal.returns
 returns c =
     let p = c.args.self.now.state in
     let q : State = record p { fates = with_items p.fates c.settle-self.new.fates } in
-    let rows = reached_as p.width p.words.items c.as_slice.result.now c.args.root c.top.result c.as_slice.ensures.value c.top.ensures in
+    let rows = reached_as p.width p.words.items p.words.items c.args.root c.top.result refl c.top.ensures in
     let count = c.settle-self.ensures.count ∙ ap length rows in
     let kept : q.fates.items ≡ c.settle-self.new.fates = with_items_is p.fates c.settle-self.new.fates (c.settle-self.auto.fates ∙ c.as_mut_slice.ensures.len) in
     let fates = kept ∙ (c.settle-self.ensures.lives ∙ (λ i. settled (c.as_mut_slice.ensures.value i) (rows i))) in

@@ -11,21 +11,19 @@ use Rattle.mt_rows.proofs.plain.PlainRows.put_words.Goals as goal
 pub invariant_of-self : goal.invariant_of-self
 invariant_of-self c =
     let p = c.args.self.now.state in
-    let q : State = record p { words = with_items p.words c.put_last.new.all; fates = with_items p.fates c.enliven_all-self.new.fates } in
-    let words : q.words.items ≡ c.put_last.new.all = with_items_is p.words c.put_last.new.all (c.put_last.auto.all ∙ c.as_mut_slice.ensures.len) in
-    let fates : q.fates.items ≡ c.enliven_all-self.new.fates = with_items_is p.fates c.enliven_all-self.new.fates (c.enliven_all-self.auto.fates ∙ c.as_mut_slice-2.ensures.len) in
-    let put : q.words.items ≡ take (columns Long * first_row) p.words.items ++ c.args.words.now = words ∙ (c.put_last.ensures ∙ (λ i. take (c.cols.ensures i * first_row) (c.as_mut_slice.ensures.value i) ++ c.args.words.now)) in
-    let walks = fates ∙ (c.enliven_all-self.ensures.fates ∙ (λ i. map renewed (walked_fates (c.as_slice.ensures.value i) c.args.root (length (c.as_mut_slice-2.ensures.value i))))) in
-    let counts = c.enliven_all-self.ensures.count ∙ (λ i. length (filter is_live (walked_fates (c.as_slice.ensures.value i) c.args.root (length (c.as_mut_slice-2.ensures.value i))))) in
+    let q : State = record p { words = c.set_last.new.self; fates = with_items p.fates c.enliven_all-self.new.fates } in
+    let fates : q.fates.items ≡ c.enliven_all-self.new.fates = with_items_is p.fates c.enliven_all-self.new.fates (c.enliven_all-self.auto.fates ∙ c.as_mut_slice.ensures.len) in
+    let put : q.words.items ≡ take (columns Long * first_row) p.words.items ++ c.args.words.now = c.set_last.ensures ∙ (λ i. take (c.cols.ensures i * first_row) p.words.items ++ c.args.words.now) in
+    let walks = fates ∙ (c.enliven_all-self.ensures.fates ∙ (λ i. map renewed (walked_fates q.words.items c.args.root (length (c.as_mut_slice.ensures.value i))))) in
+    let counts = c.enliven_all-self.ensures.count ∙ (λ i. length (filter is_live (walked_fates q.words.items c.args.root (length (c.as_mut_slice.ensures.value i))))) in
     record { plain = made_plain p q (length c.args.words.now / columns Long) c.args.root c.enliven_all-self.result c.args.words.now c.args.self.now.plain c.requires.new (let whole = c.requires.whole in omega arith) put walks counts }
 
 pub returns : goal.returns
 returns c =
     let p = c.args.self.now.state in
-    let q : State = record p { words = with_items p.words c.put_last.new.all; fates = with_items p.fates c.enliven_all-self.new.fates } in
-    let words : q.words.items ≡ c.put_last.new.all = with_items_is p.words c.put_last.new.all (c.put_last.auto.all ∙ c.as_mut_slice.ensures.len) in
-    let fates : q.fates.items ≡ c.enliven_all-self.new.fates = with_items_is p.fates c.enliven_all-self.new.fates (c.enliven_all-self.auto.fates ∙ c.as_mut_slice-2.ensures.len) in
-    let put : q.words.items ≡ take (columns Long * first_row) p.words.items ++ c.args.words.now = words ∙ (c.put_last.ensures ∙ (λ i. take (c.cols.ensures i * first_row) (c.as_mut_slice.ensures.value i) ++ c.args.words.now)) in
-    let walks = fates ∙ (c.enliven_all-self.ensures.fates ∙ (λ i. map renewed (walked_fates (c.as_slice.ensures.value i) c.args.root (length (c.as_mut_slice-2.ensures.value i))))) in
-    let counts = c.enliven_all-self.ensures.count ∙ (λ i. length (filter is_live (walked_fates (c.as_slice.ensures.value i) c.args.root (length (c.as_mut_slice-2.ensures.value i))))) in
+    let q : State = record p { words = c.set_last.new.self; fates = with_items p.fates c.enliven_all-self.new.fates } in
+    let fates : q.fates.items ≡ c.enliven_all-self.new.fates = with_items_is p.fates c.enliven_all-self.new.fates (c.enliven_all-self.auto.fates ∙ c.as_mut_slice.ensures.len) in
+    let put : q.words.items ≡ take (columns Long * first_row) p.words.items ++ c.args.words.now = c.set_last.ensures ∙ (λ i. take (c.cols.ensures i * first_row) p.words.items ++ c.args.words.now) in
+    let walks = fates ∙ (c.enliven_all-self.ensures.fates ∙ (λ i. map renewed (walked_fates q.words.items c.args.root (length (c.as_mut_slice.ensures.value i))))) in
+    let counts = c.enliven_all-self.ensures.count ∙ (λ i. length (filter is_live (walked_fates q.words.items c.args.root (length (c.as_mut_slice.ensures.value i))))) in
     made_is p q (length c.args.words.now / columns Long) c.args.root c.enliven_all-self.result c.args.words.now c.args.self.now.plain c.requires.new (let whole = c.requires.whole in omega arith) put walks counts

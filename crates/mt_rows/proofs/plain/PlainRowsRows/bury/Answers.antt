@@ -1,4 +1,4 @@
-use Rattle.std.proofs.Common.{◌≡◌, slice_set, refl, arith}
+use Rattle.std.proofs.Common.{◌≡◌, slice_set, ◌∙◌, refl, arith}
 use Rattle.mt_layout.specs.Rows.{dead_mark}
 use Rattle.mt_rows.specs.Plain.{sheet_of}
 use Rattle.mt_rows.specs.Memory.{sheet_in}
@@ -11,8 +11,9 @@ returns c =
     let mark : c.parent_word.result ≡ dead_mark c.args.row = omega (arith, c.parent_word.ensures) in
     let lives = buried_lives p (sheet_in c.args.self.now) c.args.row refl c.requires in
     let buried = buried_buried p (sheet_in c.args.self.now) c.args.row refl c.requires in
+    let words = c.set.ensures ∙ (λ i. slice_set p.words.items (c.place_of-at.ensures i) (mark i)) in
     λ i. record (sheet_of p) {
-      tree = record { rows = p.rows; table = record { width = p.width; words = slice_set p.words.items (c.place_of.ensures i) (mark i) }; root = p.root };
+      tree = record { rows = p.rows; table = record { width = p.width; words = words i }; root = p.root };
       lives = lives i;
       buried = buried i;
     }

@@ -1,4 +1,4 @@
-use Rattle.std.proofs.Common.{slice_set, refl}
+use Rattle.std.proofs.Common.{slice_set, ◌∙◌, refl}
 use Rattle.mt_rows.specs.Plain.{sheet_of, past_of}
 use Rattle.mt_rows.specs.declared.plain.Fate.TheVariants.{Draft}
 use Rattle.mt_rows.specs.Memory.{sheet_in}
@@ -9,8 +9,9 @@ pub returns : goal.returns
 returns c =
     let p = c.args.self.now.state in
     let buried = drafted_buried p (sheet_in c.args.self.now) c.args.row refl c.requires.free in
+    let words = c.set.ensures ∙ (λ i. slice_set p.words.items (c.place_of-at.ensures i) c.args.word) in
     λ i. record (sheet_of p) {
-      tree = record { rows = p.rows; table = record { width = p.width; words = slice_set p.words.items (c.place_of.ensures i) c.args.word }; root = p.root };
+      tree = record { rows = p.rows; table = record { width = p.width; words = words i }; root = p.root };
       lives = lives-set (past_of p) p.fates.items c.args.row Draft i;
       buried = buried i;
     }

@@ -1,0 +1,120 @@
+-- Words of which only the first are written down: those behind them are 0.
+use Rattle.std.proofs.Common.{◌≡◌, ◌≢◌, ℕ, zero, suc, ◌+◌, ◌-◌, ◌*◌, ◌<◌, ◌≤◌, List, [], ◌∷◌, ◌++◌, Option, Some, None, length, take, drop, refl, ap, ◌∙◌, arith}
+use Rattle.std.specs.Prelude.{◌==◌, nat_le, replicate, slice_index, slice_set, if◌then◌else◌}
+use Rattle.std.specs.List.{slice_range}
+use Rattle.std.proofs.lemmas.List.{take_more, get_or-drop, length-drop}
+use Rattle.mt_base.specs.declared.widths.Width.TheVariants.{Long}
+use Rattle.mt_base.specs.Width.{columns}
+use Rattle.mt_layout.specs.Columns.{item_at, items_from, gap_column, pivot_column, slot_column}
+use Rattle.mt_layout.specs.declared.names.RowKind.{RowKind}
+use Rattle.mt_layout.specs.declared.names.RowKind.TheVariants as kinds
+use Rattle.mt_layout.specs.declared.spans.Span.{Span}
+use Rattle.mt_layout.specs.Rows.{row_in, named_kind}
+use Rattle.mt_layout.specs.Sizes.{slots_of, gaps_of}
+use Rattle.mt_layout.specs.Spans.{spans_from}
+use Rattle.mt_rows.specs.Plain.{names_of}
+use Rattle.mt_rows.specs.Spans.{spans_by, spans_in}
+use Rattle.mt_rows.specs.Words.{with_zeros}
+
+-- ---- zeros behind a list
+
+pub zeros_behind : (n : ℕ) (w : List ℕ) (at : ℕ) → slice_index (with_zeros n w) at ≡ slice_index w at
+zeros_behind zero w at = refl
+zeros_behind (suc n) [] zero = refl
+zeros_behind (suc n) [] (suc at) = zeros_behind n [] at
+zeros_behind (suc n) (x ∷ w) zero = refl
+zeros_behind (suc n) (x ∷ w) (suc at) = zeros_behind n w at
+
+pub all_zeros : (n : ℕ) → with_zeros n [] ≡ replicate n 0
+all_zeros zero = refl
+all_zeros (suc n) = ap (λ (w : List ℕ). 0 ∷ w) (all_zeros n)
+
+pub zeros_long : (n : ℕ) (w : List ℕ) → length w ≤ n → length (with_zeros n w) ≡ n
+zeros_long zero [] fit = refl
+zeros_long zero (x ∷ w) fit = absurd (omega arith)
+zeros_long (suc n) [] fit = ap suc (zeros_long n [] (omega arith))
+zeros_long (suc n) (x ∷ w) fit = ap suc (zeros_long n w (omega arith))
+
+-- where there are as many already none is added
+pub zeros_enough : (n : ℕ) (w : List ℕ) → n ≤ length w → with_zeros n w ≡ w
+zeros_enough zero w fit = refl
+zeros_enough (suc n) [] fit = absurd (omega arith)
+zeros_enough (suc n) (x ∷ w) fit = ap (λ (l : List ℕ). x ∷ l) (zeros_enough n w (omega arith))
+
+-- one of them is written
+pub zeros_push : (n : ℕ) (w : List ℕ) → length w < n → with_zeros n (w ++ (0 ∷ [])) ≡ with_zeros n w
+zeros_push zero w fit = absurd (omega arith)
+zeros_push (suc n) [] fit = refl
+zeros_push (suc n) (x ∷ w) fit = ap (λ (l : List ℕ). x ∷ l) (zeros_push n w (omega arith))
+
+-- a word is written, with as many zeros before it as it takes
+pub zeros_set : (n : ℕ) (w : List ℕ) (at x : ℕ) → at < n → with_zeros n (slice_set (with_zeros (suc at) w) at x) ≡ slice_set (with_zeros n w) at x
+zeros_set zero w at x within = absurd (omega arith)
+zeros_set (suc n) [] zero x within = refl
+zeros_set (suc n) [] (suc at) x within = ap (λ (l : List ℕ). 0 ∷ l) (zeros_set n [] at x (omega arith))
+zeros_set (suc n) (y ∷ w) zero x within = refl
+zeros_set (suc n) (y ∷ w) (suc at) x within = ap (λ (l : List ℕ). y ∷ l) (zeros_set n w at x (omega arith))
+
+pub zeros_set_next : (n : ℕ) (w : List ℕ) (next at x : ℕ) → next ≡ at + 1 → at < n → with_zeros n (slice_set (with_zeros next w) at x) ≡ slice_set (with_zeros n w) at x
+zeros_set_next n w next at x is within =
+    let same : next ≡ suc at = omega arith in
+    ap (λ (m : ℕ). with_zeros n (slice_set (with_zeros m w) at x)) same ∙ zeros_set n w at x within
+
+-- there are so many at least
+pub zeros_reach : (n : ℕ) (w : List ℕ) → n ≤ length (with_zeros n w)
+zeros_reach zero w = omega arith
+zeros_reach (suc n) [] = let more = zeros_reach n [] in omega arith
+zeros_reach (suc n) (x ∷ w) = let more = zeros_reach n w in omega arith
+
+-- and no more than there were or are asked for
+pub zeros_fit : (n most : ℕ) (w : List ℕ) → n ≤ most → length w ≤ most → length (with_zeros n w) ≤ most
+zeros_fit zero most w few fit = fit
+zeros_fit (suc n) zero w few fit = absurd (omega arith)
+zeros_fit (suc n) (suc most) [] few fit = let less = zeros_fit n most [] (omega arith) (omega arith) in omega arith
+zeros_fit (suc n) (suc most) (x ∷ w) few fit = let less = zeros_fit n most w (omega arith) (omega arith) in omega arith
+
+-- ---- the words in a row's slots
+
+pub few_slots : (kind : RowKind) → slots_of Long kind ≤ 16
+few_slots kinds.Leaf = omega arith
+few_slots kinds.Inner = omega arith
+few_slots kinds.Gapped = omega arith
+
+-- one word more
+pub range_more : (w : List ℕ) (from at : ℕ) → from ≤ at → at < length w → slice_range w from (at + 1) ≡ slice_range w from at ++ (slice_index w at ∷ [])
+range_more w from at low within =
+    let next : at + 1 - from ≡ at - from + 1 = omega arith in
+    let there : from + (at - from) ≡ at = omega arith in
+    let inside : at - from < length (drop from w) = omega (arith, length-drop from w) in
+    ap (λ (n : ℕ). take n (drop from w)) next
+    ∙ (take_more (drop from w) (at - from) 0 inside
+    ∙ ap (λ (x : ℕ). take (at - from) (drop from w) ++ (x ∷ [])) (get_or-drop from w (at - from) 0 ∙ ap (slice_index w) there))
+
+pub none_in_range : (w : List ℕ) (from : ℕ) → slice_range w from from ≡ []
+none_in_range w from = let none : from - from ≡ 0 = omega arith in ap (λ (n : ℕ). take n (drop from w)) none
+
+pub names_of_inner : (w : List ℕ) (row : ℕ) (kind : RowKind) → kind ≢ kinds.Leaf → names_of w row kind ≡ slice_range w (columns Long * row + slots_of Long kind) (columns Long * row + 2 * slots_of Long kind)
+names_of_inner w row kinds.Leaf inner = absurd (inner refl)
+names_of_inner w row kinds.Inner inner = refl
+names_of_inner w row kinds.Gapped inner = refl
+
+-- ---- words that are the same at each place
+
+module _ (w w' : List ℕ) (same : (at : ℕ) → slice_index w at ≡ slice_index w' at) where
+  same_item : (slots gaps base i last : ℕ) → item_at slots gaps w base i last ≡ item_at slots gaps w' base i last
+  same_item slots gaps base i last = λ k. record { last = last; word = same (base + slot_column slots i) k; gap = if gaps == 0 then 0 else same (base + gap_column slots i) k }
+
+  same_items : (slots gaps base max left i : ℕ) → items_from slots gaps w base max left i ≡ items_from slots gaps w' base max left i
+  same_items slots gaps base max zero i = refl
+  same_items slots gaps base max (suc zero) i = λ k. same_item slots gaps base i max k ∷ []
+  same_items slots gaps base max (suc (suc left)) i = λ k.
+      if nat_le max (same (base + pivot_column i) k)
+      then same_item slots gaps base i (same (base + pivot_column i) k) k ∷ []
+      else same_item slots gaps base i (same (base + pivot_column i) k) k ∷ same_items slots gaps base max (suc left) (i + 1) k
+
+  pub same_spans : (x : Span) → spans_in (record { width = Long; words = w }) x ≡ spans_in (record { width = Long; words = w' }) x
+  same_spans x = by (named_kind x.word)
+    where
+      by : (kind : Option RowKind) → spans_by (record { width = Long; words = w }) kind x ≡ spans_by (record { width = Long; words = w' }) kind x
+      by None = refl
+      by (Some kind) = λ k. spans_from x.first (same_items (slots_of Long kind) (gaps_of Long kind) (32 * row_in x.word) x.last (slots_of Long kind) 0 k)

@@ -1,0 +1,22 @@
+-- A list of numbers, of which only the first are written down: those behind them are 0.
+-- Source: this project's own.
+use Rattle.std.specs.Prelude.{ℕ, zero, suc, ◌≤◌, List, [], ◌∷◌, length}
+use Rattle.std.specs.Vec.{vec_capacity}
+use Rattle.mt_rows.specs.declared.words.Words.TheInside.{Inside}
+
+pub record Listed : Type 0 where
+  pub items : List ℕ
+
+-- these, and zeros behind them until there are so many
+abbrev pub with_zeros : ℕ → List ℕ → List ℕ
+with_zeros zero xs = xs
+with_zeros (suc n) [] = 0 ∷ with_zeros n []
+with_zeros (suc n) (x ∷ xs) = x ∷ with_zeros n xs
+
+abbrev pub listed : Inside → Listed
+listed w = record { items = with_zeros w.len w.written.items }
+
+-- there is room to write each of them down
+pub record IsListed (w : Inside) : Type 0 where
+  pub fit : length w.written.items ≤ w.len
+  pub room : w.len ≤ vec_capacity w.written
