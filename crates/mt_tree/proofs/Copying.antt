@@ -24,6 +24,14 @@ same_anywhere zero i x = refl
 same_anywhere (suc n) zero x = refl
 same_anywhere (suc n) (suc i) x = same_anywhere n i x
 
+-- as many rows are reached as are live, which are no more than there are
+pub reached_within : (kind : Kind) (s : Sheet) (book : Book) → IsIdle kind s book → length (reached_in s.tree.table s.tree.root) ≤ s.tree.rows
+reached_within kind s book idle =
+    let booked = idle.state.kept.booked in
+    let live = live_is_reached s.tree s.lives s.cleared kind book (s.ended + 1) (tree_if_lawful s.tree kind idle.state.kept.lawful) booked in
+    let rows = booked.rows in
+    omega (arith, live, rows)
+
 module _ (kind : Kind) (rows : ℕ) (s s' : Sheet) (root : ℕ) (book : Book) (sound : IsBook book) (may : MayPlant kind s root) (new : IsNewBut (with_published s.tree Root root) rows s) (of : IsBookOfCopy (with_published s.tree Root root) book) (planted : Planted s s' root) where
   abbrev copy : Rooted
   copy = with_published s.tree Root root

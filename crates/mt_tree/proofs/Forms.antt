@@ -1,5 +1,5 @@
 -- What a check of lawful words answers is their form.
-use Rattle.std.proofs.Common.{◌≡◌, ℕ, List, [], ◌∷◌, length, refl, sym, ap, ◌∙◌, subst}
+use Rattle.std.proofs.Common.{◌≡◌, ℕ, List, [], ◌∷◌, length, refl, sym, ap, ◌∙◌, subst, ◌≤◌}
 use Rattle.std.specs.Prelude.{Ok}
 use Rattle.mt_base.specs.declared.kinds.Kind.{Kind}
 use Rattle.mt_rows.specs.declared.rows.Place.TheVariants.{Root}
@@ -67,13 +67,14 @@ form_there i p e kind form shape of kind_is is =
     let m : map_by e.sheet.tree ≡ last_map (with_records (tree_in i) (records_of p.history)) = of.map ∙ map_is p.shape i.shape p.history (records_of p.history) shape refl in
     subst (λ (x : Kind × (ℕ × List Range)). IsFormOf x.0 x.1.0 x.1.1 form) (λ k. (kind_is k, (rows k, m k))) is
 
-pub count_told : (kind : Kind) (s read : Sheet) (live : ℕ) → read ≡ s → IsLawfulOf read.tree kind → live ≡ length (reached_in read.tree.table read.tree.root) → IsRowCount kind s.tree.rows (map_by s.tree) live
-count_told kind s read live same lawful is = record {
+pub count_told : (kind : Kind) (s read : Sheet) (live : ℕ) → read ≡ s → IsLawfulOf read.tree kind → live ≡ length (reached_in read.tree.table read.tree.root) → live ≤ read.tree.rows → IsRowCount kind s.tree.rows (map_by s.tree) live
+count_told kind s read live same lawful is within = record {
   words = read.tree;
   lawful = lawful;
   many = ap (λ (x : Sheet). x.tree.rows) same;
   map = ap (λ (x : Sheet). map_by x.tree) same;
   live_is = is;
+  within = subst (λ (x : Sheet). live ≤ x.tree.rows) same within;
 }
 
 module _ (i : Identity) (p : PenPart) (e : Parts) (kind : Kind) (shape : p.shape ≡ i.shape) (of : IsOf p.shape p.history e) (kind_is : kind ≡ i.shape.kind) where

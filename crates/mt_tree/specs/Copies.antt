@@ -22,13 +22,14 @@ pub record IsFormOf (kind : Kind) (rows : ℕ) (m : List Range) (form : Form) : 
   pub form_is : form ≡ form_of (tree_as kind words)
   pub ranges : form.ranges ≡ length m
 
--- So many rows are in use in lawful words of a tree of so many rows that stand for this map.
+-- So many rows are in use in lawful words of a tree of so many rows that stand for this map, and no more than it has.
 pub record IsRowCount (kind : Kind) (rows : ℕ) (m : List Range) (live : ℕ) : Type 0 where
   pub words : Rooted
   pub lawful : IsLawfulOf words kind
   pub many : words.rows ≡ rows
   pub map : map_by words ≡ m
   pub live_is : live ≡ length (reached_in words.table words.root)
+  pub within : live ≤ rows
 
 -- A copy of so many rows has no room for a tree of this map, which has more in use.
 pub record IsTooFew (kind : Kind) (rows : ℕ) (m : List Range) (wanted told live : ℕ) : Type 0 where

@@ -1,9 +1,10 @@
 //! A tree.
 
-ghost use Rattle.std.specs.Prelude.{◌≡◌, ◌≤◌};
+ghost use Rattle.std.specs.Prelude.{◌≡◌, ◌≤◌, None};
 ghost use Rattle.mt_rule.specs.Limits.{most_calls};
 ghost use Rattle.mt_rule.specs.Tokens.{identity_of};
 ghost use Rattle.mt_rule.specs.Turns.{served};
+ghost use Rattle.mt_tree.specs.Shapes.{first_bad};
 
 use crate::behind::Desk;
 use crate::shapes::Shape;
@@ -22,4 +23,5 @@ pub struct Tree {
     ghost calls: { shape.calls ≡ (identity_of table).shape.calls },
     ghost some_pass: { 1 ≤ shape.passes },
     ghost few_calls: { shape.calls ≤ most_calls },
+    ghost in_range: { first_bad shape ≡ None },
 }

@@ -13,8 +13,8 @@ use mt_rule::{Note, Pass};
 use std::sync::Wait;
 
 impl Tree {
-    /// Makes one call under a lock of its own.
-    fn once(&self, rt: &impl Wait, pass: &mut Pass, call: &Call) -> Result<Done, Worn>
+    /// Makes one call, any of those below, under a lock of its own.
+    pub fn act(&self, rt: &impl Wait, pass: &mut Pass, call: &Call) -> Result<Done, Worn>
         requires { IsPassOf self.now pass.old }
         ensures of { IsPassOf self.now pass.new }
         ensures done { IfOk result (λ d. Wrote (opened self.now) (pass_in pass.old) d.call call.now d.reply (pass_in pass.new) × (d.call ≤ limit_of self.now)) }
@@ -40,7 +40,7 @@ impl Tree {
         ensures done { IfOk result (λ d. Wrote (opened self.now) (pass_in pass.old) d.call (calls.Store first last entry) d.reply (pass_in pass.new) × (d.call ≤ limit_of self.now)) }
         ensures worn { IfErr result (λ w. IsWorn self.now (pass_in pass.old) w (pass_in pass.new)) }
     {
-        self.once(rt, pass, &Call::Store { first, last, entry })
+        self.act(rt, pass, &Call::Store { first, last, entry })
     }
 
     /// The same, where the rows that it may need are to be at hand.
@@ -57,7 +57,7 @@ impl Tree {
         ensures done { IfOk result (λ d. Wrote (opened self.now) (pass_in pass.old) d.call (calls.StorePre first last entry) d.reply (pass_in pass.new) × (d.call ≤ limit_of self.now)) }
         ensures worn { IfErr result (λ w. IsWorn self.now (pass_in pass.old) w (pass_in pass.new)) }
     {
-        self.once(rt, pass, &Call::StorePre { first, last, entry })
+        self.act(rt, pass, &Call::StorePre { first, last, entry })
     }
 
     /// Stores an entry over a range that holds none.
@@ -74,7 +74,7 @@ impl Tree {
         ensures done { IfOk result (λ d. Wrote (opened self.now) (pass_in pass.old) d.call (calls.Insert first last entry) d.reply (pass_in pass.new) × (d.call ≤ limit_of self.now)) }
         ensures worn { IfErr result (λ w. IsWorn self.now (pass_in pass.old) w (pass_in pass.new)) }
     {
-        self.once(rt, pass, &Call::Insert { first, last, entry })
+        self.act(rt, pass, &Call::Insert { first, last, entry })
     }
 
     /// Removes the range that holds an index.
@@ -84,7 +84,7 @@ impl Tree {
         ensures done { IfOk result (λ d. Wrote (opened self.now) (pass_in pass.old) d.call (calls.Erase index) d.reply (pass_in pass.new) × (d.call ≤ limit_of self.now)) }
         ensures worn { IfErr result (λ w. IsWorn self.now (pass_in pass.old) w (pass_in pass.new)) }
     {
-        self.once(rt, pass, &Call::Erase { index })
+        self.act(rt, pass, &Call::Erase { index })
     }
 
     /// Stores an entry over so many free indexes of a window, the lowest there are.
@@ -102,7 +102,7 @@ impl Tree {
         ensures done { IfOk result (λ d. Wrote (opened self.now) (pass_in pass.old) d.call (calls.Alloc size min max entry) d.reply (pass_in pass.new) × (d.call ≤ limit_of self.now)) }
         ensures worn { IfErr result (λ w. IsWorn self.now (pass_in pass.old) w (pass_in pass.new)) }
     {
-        self.once(
+        self.act(
             rt,
             pass,
             &Call::Alloc {
@@ -129,7 +129,7 @@ impl Tree {
         ensures done { IfOk result (λ d. Wrote (opened self.now) (pass_in pass.old) d.call (calls.Ralloc size min max entry) d.reply (pass_in pass.new) × (d.call ≤ limit_of self.now)) }
         ensures worn { IfErr result (λ w. IsWorn self.now (pass_in pass.old) w (pass_in pass.new)) }
     {
-        self.once(
+        self.act(
             rt,
             pass,
             &Call::Ralloc {
@@ -155,7 +155,7 @@ impl Tree {
         ensures done { IfOk result (λ d. Wrote (opened self.now) (pass_in pass.old) d.call (calls.Gap size min max) d.reply (pass_in pass.new) × (d.call ≤ limit_of self.now)) }
         ensures worn { IfErr result (λ w. IsWorn self.now (pass_in pass.old) w (pass_in pass.new)) }
     {
-        self.once(rt, pass, &Call::Gap { size, min, max })
+        self.act(rt, pass, &Call::Gap { size, min, max })
     }
 
     /// Tells where so many indexes of a window are free, the highest.
@@ -172,7 +172,7 @@ impl Tree {
         ensures done { IfOk result (λ d. Wrote (opened self.now) (pass_in pass.old) d.call (calls.Rgap size min max) d.reply (pass_in pass.new) × (d.call ≤ limit_of self.now)) }
         ensures worn { IfErr result (λ w. IsWorn self.now (pass_in pass.old) w (pass_in pass.new)) }
     {
-        self.once(rt, pass, &Call::Rgap { size, min, max })
+        self.act(rt, pass, &Call::Rgap { size, min, max })
     }
 
     /// Removes all ranges.
@@ -182,7 +182,7 @@ impl Tree {
         ensures done { IfOk result (λ d. Wrote (opened self.now) (pass_in pass.old) d.call calls.Clear d.reply (pass_in pass.new) × (d.call ≤ limit_of self.now)) }
         ensures worn { IfErr result (λ w. IsWorn self.now (pass_in pass.old) w (pass_in pass.new)) }
     {
-        self.once(rt, pass, &Call::Clear)
+        self.act(rt, pass, &Call::Clear)
     }
 
     /// Copies what the pass has seen.
