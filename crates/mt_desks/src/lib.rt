@@ -4,6 +4,7 @@
 mod dealing;
 mod desks;
 pub mod laws;
+mod passes;
 mod passing;
 pub mod phase_lines;
 mod phases;

@@ -1,0 +1,18 @@
+//! The passes of a shared tree, as lanes have them.
+
+ghost use Rattle.mt_rule.specs.Tokens.{pass_in};
+
+use crate::shared::Passage;
+use mt_rule::Pass;
+
+impl Passage for Pass {
+    ghost knows = { pass_in };
+
+    fn number(&self) -> u32 {
+        Pass::number(self)
+    }
+
+    fn away() -> Self {
+        Pass::away()
+    }
+}
