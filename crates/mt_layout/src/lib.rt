@@ -15,7 +15,7 @@ pub use laws::{
 };
 pub use layout::Layout;
 pub use names::{Name, RowKind, is_dead_mark, kind_of, name_of, parent_word, row_of};
-pub use sizes::{MOST_SLOTS, MOST_WORDS, RUN_ROOM, gaps, least_items, slots};
+pub use sizes::{MOST_SLOTS, MOST_WORDS, RUN_ROOM, gaps, items_of, least_items, slots, words_of};
 pub use spans::Span;
 
 #[cfg(test)]

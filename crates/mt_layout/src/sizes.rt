@@ -1,9 +1,14 @@
 //! How large rows are.
 
-ghost use Rattle.std.specs.Prelude.{◌≡◌};
+ghost use Rattle.std.specs.Prelude.{◌≡◌, length};
+ghost use Rattle.mt_base.specs.Width.{columns};
+ghost use Rattle.mt_layout.specs.Columns.{IsLayout, FitRow, items_at, row_words};
 ghost use Rattle.mt_layout.specs.Sizes.{slots_of, gaps_of, least_items};
 
+use crate::items::Item;
+use crate::layout::Layout;
 use crate::names::RowKind;
+use arrayvec::ArrayVec;
 use mt_base::Width;
 
 /// How many items a `Run` has room for.
@@ -43,5 +48,45 @@ pub fn least_items(width: Width, kind: RowKind) -> u32
     match (width, kind) {
         (Width::Long, RowKind::Leaf | RowKind::Inner) => 6,
         (Width::Long, RowKind::Gapped) => 4,
+    }
+}
+
+/// The items of the row of this layout with these words, whose greatest index is `max`.
+fn items_by<const SLOTS: usize, const GAPS: usize>(
+    words: &[u64],
+    max: u64,
+) -> ArrayVec<Item, MOST_SLOTS>
+    requires { IsLayout (length words.now) SLOTS GAPS }
+    ensures { result.items ≡ items_at SLOTS GAPS words.now 0 max }
+{
+    let items = Layout::<SLOTS, GAPS>::items_of(words, max);
+    match ArrayVec::try_from(items.as_slice()) {
+        Ok(items) => items,
+        Err(_) => unreachable!(),
+    }
+}
+
+/// The items of the row of this width and kind with these words, whose greatest index is `max`.
+pub fn items_of(width: Width, kind: RowKind, words: &[u64], max: u64) -> ArrayVec<Item, MOST_SLOTS>
+    requires { length words.now ≡ columns width }
+    ensures { result.items ≡ items_at (slots_of width kind) (gaps_of width kind) words.now 0 max }
+{
+    match (width, kind) {
+        (Width::Long, RowKind::Leaf | RowKind::Inner) => items_by::<16, 0>(words, max),
+        (Width::Long, RowKind::Gapped) => items_by::<10, 10>(words, max),
+    }
+}
+
+/// Writes the words of a row of this width and kind with these items and this parent word. What is unused is 0.
+pub fn words_of(width: Width, kind: RowKind, items: &[Item], parent: u64, words: &mut [u64])
+    requires words { length words.old ≡ columns width }
+    requires fit { FitRow (slots_of width kind) (gaps_of width kind) items.now }
+    ensures { words.new ≡ row_words (length words.old) (slots_of width kind) (gaps_of width kind) parent items.now }
+{
+    match (width, kind) {
+        (Width::Long, RowKind::Leaf | RowKind::Inner) => {
+            Layout::<16, 0>::words_of(items, parent, words);
+        }
+        (Width::Long, RowKind::Gapped) => Layout::<10, 10>::words_of(items, parent, words),
     }
 }
