@@ -1,4 +1,15 @@
 pub mod Beginning
+pub mod FewCalls
+pub mod LanesGone
+pub mod LanesRun
+pub mod Laying
 pub mod Listing
+pub mod LogPhases
+pub mod Manning
+pub mod PhasePlayed
+pub mod PlayerGone
 pub mod Seating
+pub mod Settling
 pub mod Staying
+pub mod Telling
+pub mod TreeRows

@@ -1,6 +1,6 @@
 -- A player's trees, and the rows of seats beside them.
-use Rattle.std.proofs.Common.{◌≡◌, ℕ, zero, Result, Ok, Err, IfOk, suc, ◌+◌, ◌<◌, ◌≤◌, List, [], ◌∷◌, ◌++◌, Some, length, map, All, slice_get, slice_set, get_or, arith, refl, sym, ap, ◌∙◌, subst, inl, inr, length-append, Vec, Global}
-use Rattle.std.specs.List.{range_with_len}
+use Rattle.std.proofs.Common.{◌≡◌, ℕ, zero, Result, Ok, Err, IfOk, suc, ◌+◌, ◌<◌, ◌≤◌, List, [], ◌∷◌, ◌++◌, Some, None, length, map, All, slice_get, slice_set, get_or, arith, refl, sym, ap, ◌∙◌, subst, inl, inr, length-append, Vec, Global}
+use Rattle.std.specs.List.{AllByRecursion, range_with_len}
 use Rattle.std.specs.Option.{option_map}
 use Rattle.std.specs.Vec.{with_item}
 use Rattle.std.proofs.Math.Seq.{map-set_same}
@@ -22,7 +22,7 @@ use Rattle.mt_runs.proofs.Starting.{new_is_settled}
 use Rattle.mt_desks.specs.Desks.{SharedTree}
 use Rattle.mt_play.specs.declared.players.Player.{Player}
 use Rattle.mt_play.specs.Trees.{AreAll, IsNewTree, calls_taken, seen_by, tracked_of}
-use Rattle.mt_play.specs.Players.{PlayerState, Checks, Copies, HasRanges, IsAtRest, IsCopyIn, rows_known, state_of, tracked_in}
+use Rattle.mt_play.specs.Players.{PlayerState, Checks, Copies, HasRanges, IsAtRest, IsClosed, IsCopyIn, rows_known, state_of, tracked_in}
 
 -- ---- side by side
 
@@ -82,6 +82,10 @@ new_is kind rows opening many t passes new = (λ i. record { history = seen_by (
 pub new_settled : (kind : Kind) (rows : ℕ) (opening : List Range) (many : ℕ) (t : SharedTree) (passes : List Pass) → IsNewTree kind rows opening many t passes → IsSettled (seen_by t.history passes) passes
 new_settled kind rows opening many t passes new = subst (λ (z : Tracked). IsSettled z.history z.passes) (sym (new_is kind rows opening many t passes new)) (new_is_settled many rows kind opening)
 
+new_closed : (numbers : List ℕ) → AllByRecursion (λ (q : Pass). q.standing ≡ None) (map new_pass numbers)
+new_closed [] = tt
+new_closed (n ∷ numbers) = (refl, new_closed numbers)
+
 pub new_ranges : (kind : Kind) (rows : ℕ) (opening : List Range) (many : ℕ) (t : SharedTree) (passes : List Pass) → IsNewTree kind rows opening many t passes → last_map (seen_by t.history passes) ≡ opening
 new_ranges kind rows opening many t passes new = ap (λ (z : Tracked). last_map z.history) (new_is kind rows opening many t passes new)
 
@@ -132,6 +136,7 @@ module _ {P T : Type 0} (tree : T → SharedTree) (knows : P → Pass) (serves :
   still_rests p entries r = record {
     seated = record { few_rows = r.seated.few_rows; rows = r.seated.rows; some_pass = r.seated.some_pass; passes = r.seated.passes; names = r.seated.names; count = r.seated.count; many_are = r.seated.many_are; most = r.seated.most; all = r.seated.all };
     settled = r.settled;
+    closed = r.closed;
   }
 
   -- a row was worked on, and is as it was in meaning
@@ -155,6 +160,7 @@ module _ {P T : Type 0} (tree : T → SharedTree) (knows : P → Pass) (serves :
             all = pair_set (λ x (v : Vec P Global). AreAll knows serves p.passes x v.items) p.trees.items p.seats.items at row' r.seated.count r.seated.all within (λ d. subst (λ x. AreAll knows serves p.passes x row'.items) (sym (at_place d)) all_is);
           };
           settled = subst (λ (rows : List (List Pass)). All (λ (z : Tracked). IsSettled z.history z.passes) (tracked_in (map tree p.trees.items) rows)) (sym same) r.settled;
+          closed = subst (λ (rows : List (List Pass)). All IsClosed (tracked_in (map tree p.trees.items) rows)) (sym same) r.closed;
         },
         same,
       )
@@ -186,6 +192,7 @@ module _ {P T : Type 0} (tree : T → SharedTree) (knows : P → Pass) (serves :
             all = all_are passes_are;
           };
           settled = subst (All (λ (z : Tracked). IsSettled z.history z.passes)) (sym tracked_are) (all_push (λ (z : Tracked). IsSettled z.history z.passes) (tracked p) (new_tracked p.passes rows kind opening) r.settled (new_is_settled p.passes rows kind opening));
+          closed = subst (All IsClosed) (sym tracked_are) (all_push IsClosed (tracked p) (new_tracked p.passes rows kind opening) r.closed (All-from_recursion (λ (q : Pass). q.standing ≡ None) (map new_pass (range_with_len 0 p.passes)) (new_closed (range_with_len 0 p.passes))));
         },
         tracked_are,
       )

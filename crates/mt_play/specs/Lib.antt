@@ -1,2 +1,4 @@
-pub mod Trees
+pub mod Lanes
+pub mod Phases
 pub mod Players
+pub mod Trees

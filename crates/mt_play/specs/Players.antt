@@ -1,6 +1,6 @@
 -- What a player has made of the first lines of a log: phase by phase, its trees, all their passes, and what was told.
 -- Source: this project's own.
-use Rattle.std.specs.Prelude.{◌≡◌, ◌<◌, ◌≤◌, ℕ, All, List, [], ◌∷◌, ◌++◌, Some, length, map, slice_get, slice_index_or, Vec}
+use Rattle.std.specs.Prelude.{◌≡◌, ◌<◌, ◌≤◌, ℕ, All, List, [], ◌∷◌, ◌++◌, Some, None, length, map, slice_get, slice_index_or, Vec}
 use Rattle.std.specs.Global.{Global}
 use Rattle.mt_base.specs.declared.kinds.Kind.{Kind}
 use Rattle.mt_base.specs.declared.ranges.Range.{Range}
@@ -69,10 +69,15 @@ pub record IsSeated {P T : Type 0} (tree : T → SharedTree) (knows : P → Pass
   pub most : All (λ t. (tree t).most ≡ calls_taken) p.trees.items
   pub all : (at : ℕ) (t : T) (row : Vec P Global) → at < length p.trees.items → AreAll knows serves p.passes (slice_index_or p.trees.items at t) (slice_index_or p.seats.items at row).items
 
--- And between two phases all passes of each tree are settled.
+-- no pass of the tree has a section open
+abbrev pub IsClosed : Tracked → Type 0
+IsClosed t = All (λ p. p.standing ≡ None) t.passes
+
+-- And between two phases all passes of each tree are settled, and none has a section open.
 pub record IsAtRest {P T : Type 0} (tree : T → SharedTree) (knows : P → Pass) (serves : T → P → Type 0) (many : T → ℕ) (p : Player P T) : Type 0 where
   pub seated : IsSeated tree knows serves many p
   pub settled : All (λ t. IsSettled t.history t.passes) (tracked_in (map tree p.trees.items) (rows_known knows p.seats.items))
+  pub closed : All IsClosed (tracked_in (map tree p.trees.items) (rows_known knows p.seats.items))
 
 -- this holds of the ranges of the tree of this number
 pub record HasRanges (p : PlayerState) (number : ℕ) (P : List Range → Type 0) : Type 0 where

@@ -1,0 +1,16 @@
+use Rattle.std.proofs.Common.{◌≡◌, ◌+◌, ◌-◌, length, take}
+use Rattle.mt_play.specs.Phases.{BeginsAt}
+use Rattle.mt_play.specs.Players.{IsAtRest, IsPlayed, state_of}
+use Rattle.mt_play.proofs.phases.play_lines.Given as goal
+
+abbrev pub invariant-loop-from : goal.invariant-loop-from
+invariant-loop-from g l = record {
+  begins : BeginsAt l.log l.from l.phase;
+  rest : IsAtRest g.T.Shared.tree g.P.Passage.knows g.T.Shared.serves g.T.Plays.many l.player;
+  passes : l.player.passes ≡ l.lanes + 1;
+  rows : l.player.rows ≡ l.initial.player.rows;
+  played : IsPlayed l.phase (take l.from l.log) (state_of g.T.Shared.tree g.P.Passage.knows l.player);
+}
+
+abbrev pub decreases-loop-from : goal.decreases-loop-from
+decreases-loop-from g l = length l.log - l.from
