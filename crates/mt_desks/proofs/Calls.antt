@@ -11,7 +11,7 @@ use Rattle.mt_log.specs.declared.lines.Line.{Line}
 use Rattle.mt_log.specs.Run.{Asked, Step, IsDone, IsScan, GoesOn, lane_after, place_behind, place_within}
 use Rattle.mt_runs.specs.Leads.{by_lane_on, outcomes_of}
 use Rattle.mt_runs.specs.Rooms.{joined}
-use Rattle.mt_runs.specs.Sums.{sum_below}
+use Rattle.mt_runs.specs.Gone.{sum_below}
 use Rattle.mt_runs.specs.Tracks.{number_of, numbers_of}
 use Rattle.mt_desks.specs.Dealing.{is_step, lines_of_lane}
 use Rattle.mt_desks.specs.Desks.{AreAnsweredUnless, IsDoneUnless, IsWorn, SharedTree}

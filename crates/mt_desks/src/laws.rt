@@ -8,7 +8,7 @@ ghost use Rattle.mt_log.specs.Phases.{AreInPlaceFrom};
 ghost use Rattle.mt_log.specs.Run.{Asked, Step, asked_from, entry_of};
 ghost use Rattle.mt_runs.specs.Leads.{outcomes_of};
 ghost use Rattle.mt_runs.specs.Rooms.{asked_of_lane, AreAnswered, take_turns, lanes_of, joined};
-ghost use Rattle.mt_runs.specs.Sums.{sum_below};
+ghost use Rattle.mt_runs.specs.Gone.{sum_below};
 ghost use Rattle.mt_runs.specs.Tracks.{Pairs, numbers_of};
 ghost use Rattle.mt_base.specs.Passes.{Pass};
 ghost use Rattle.mt_desks.specs.Dealing.{IsOnePhase, asked_of, counts_in, lines_of_lane, steps_in};

@@ -1,5 +1,6 @@
 pub mod Beginning
 pub mod FewCalls
+pub mod Idle
 pub mod LanesGone
 pub mod LanesRun
 pub mod Laying

@@ -5,6 +5,8 @@ mod lanes;
 mod phases;
 mod players;
 mod rows;
+#[cfg(test)]
+mod tests;
 mod trees;
 
 pub use phases::play;

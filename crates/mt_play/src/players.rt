@@ -39,6 +39,7 @@ impl<P: Passage + Drop, T: Plays<P>> Player<P, T> {
         requires passes { passes ≤ most_passes }
         ensures rest { IsAtRest T.tree P.knows T.serves T.many result }
         ensures played { IsPlayedBy 0 [] (state_of T.tree P.knows result) [] }
+        ensures none { result.trees.items ≡ [] }
         ensures rows_are { result.rows ≡ rows }
         ensures passes_are { result.passes ≡ passes }
     {

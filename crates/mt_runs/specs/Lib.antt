@@ -4,5 +4,4 @@ pub mod Lines
 pub mod OneThread
 pub mod Phases
 pub mod Rooms
-pub mod Sums
 pub mod Tracks
