@@ -1,6 +1,7 @@
 -- What a table from names to kinds tells of the list of trees that it stands for.
-use Rattle.std.proofs.Common.{◌≡◌, ℕ, List, [], ◌∷◌, ◌++◌, None, length, map, position, slice_get, refl, sym, ap, ◌∙◌}
+use Rattle.std.proofs.Common.{◌≡◌, ℕ, ◌<◌, true, List, [], ◌∷◌, ◌++◌, Some, None, arith, length, map, position, slice_get, refl, sym, ap, ◌∙◌}
 use Rattle.std.specs.Option.{option_map}
+use Rattle.std.proofs.lemmas.Bool.{lt-ltb}
 use Rattle.std.specs.Str.{bytes_eq}
 use Rattle.std.specs.Map.{keys_of}
 use Rattle.std.proofs.lemmas.List.{length-map, map-append}
@@ -9,7 +10,7 @@ use Rattle.indexmap.specs.IndexMap.{insert_entry}
 use Rattle.indexmap.proofs.MapLemmas.{Missing-position, insert_entry-absent}
 use Rattle.mt_base.specs.declared.kinds.Kind.{Kind}
 use Rattle.mt_log.specs.declared.trees.KnownTree.{KnownTree}
-use Rattle.mt_log.specs.Indexed.{known}
+use Rattle.mt_log.specs.Indexed.{known, is_named}
 use Rattle.mt_log.specs.Reading.{place_of}
 
 pub as_many : (entries : List (List ℕ × Kind)) → length (map known entries) ≡ length entries
@@ -28,3 +29,8 @@ one_more entries tree new =
     let none : position (bytes_eq tree.name) (keys_of entries) ≡ None = ap (position (bytes_eq tree.name)) (sym (names_of_known entries)) ∙ new in
     ap (map known) (insert_entry-absent bytes_eq tree.name tree.kind entries (Missing-position (bytes_eq tree.name) entries none).absent)
     ∙ map-append known entries ((tree.name, tree.kind) ∷ [])
+
+-- where the first tree is of this name, it is the one
+pub first_place : (trees : List KnownTree) (name : List ℕ) → is_named name (slice_get trees 0) ≡ true → (place_of trees name ≡ Some 0) × (0 < length trees)
+first_place [] name h = absurd (cc)
+first_place (tree ∷ trees) name h = (rw (h, lt-ltb 0 (length (map (λ (t : KnownTree). t.name) (tree ∷ trees))) (omega arith)) refl, omega arith)

@@ -5,3 +5,4 @@ pub mod Padding
 pub mod Parts
 pub mod Pieces
 pub mod Soundness
+pub mod Tails

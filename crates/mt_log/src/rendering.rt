@@ -1,150 +1,200 @@
-ghost use Rattle.std.specs.Prelude.{◌≡◌, ◌++◌, ◌∷◌, [], codes, IfOk, OnOk, string_bytes};
-ghost use Rattle.std.specs.Fmt.{decimal};
+ghost use Rattle.std.specs.Prelude.{◌≡◌, ◌≤◌, ◌+◌, ◌++◌, IfOk, OnOk, length};
 ghost use Rattle.std.specs.List.{flat_map};
-ghost use Rattle.mt_log.specs.Text.{answer_text, entry_text, range_line, listing_text, text_of};
+ghost use Rattle.mt_base.specs.Text.{kind_text, range_text};
+ghost use Rattle.mt_log.specs.Text.{answer_text, entry_text, reply_text, said_text, range_line, listing_text, text_of};
 
+use crate::line_ends::{LineEnd, ROOM};
 use crate::transcripts::{Answer, Entry, Listing, Said, Transcript};
-use itoa::Buffer;
-use mt_base::{Kind, NoMemory, Range, Reply};
+use mt_base::{Kind, NoMemory, Range, Reply, Shortage};
 use std::alloc::{AllocError, Global};
-use std::fmt;
 
-/// A reply, as a log of this version has it printed. There is one version yet.
-#[derive(Clone, Copy)]
-pub struct Printed {
-    pub version: u32,
-    pub reply: Reply,
+/// Puts the numbers of a shortage in front.
+fn put_shortage(line: &mut LineEnd, shortage: Shortage)
+    requires { length line.old + 90 ≤ ROOM }
+    ensures text { line.new ≡ reply_text 1 (Reply.NoNodes shortage) ++ line.old }
+    ensures long { length line.new ≤ 90 + length line.old }
+{
+    line.number(shortage.held);
+    line.text(b" ");
+    line.number(shortage.live);
+    line.text(b" ");
+    line.number(shortage.free);
+    line.text(b" ");
+    line.number(shortage.need);
+    line.text(b"nomem ");
 }
 
-impl fmt::Display for Printed {
-    ghost use Rattle.std.specs.Prelude.{Some};
-    ghost use Rattle.mt_log.specs.Text.{reply_text};
-
-    ghost output = { λ p. Some (reply_text p.version p.reply) };
-
-    fn fmt<W: fmt::Write>(&self, f: &mut fmt::Formatter<W>) -> fmt::Result {
-        match self.reply {
-            Reply::Ok => write!(f, "ok"),
-            Reply::Start(start) => write!(f, "start {start}"),
-            Reply::Was(entry) => write!(f, "was {entry}"),
-            Reply::None => write!(f, "none"),
-            Reply::Exists => write!(f, "exists"),
-            Reply::Invalid => write!(f, "invalid"),
-            Reply::Busy => write!(f, "busy"),
-            Reply::NoNodes(s) => write!(f, "nomem {} {} {} {}", s.need, s.free, s.live, s.held),
+/// Puts a reply in front, as a log of this version has it printed. There is one version yet.
+fn put_reply(line: &mut LineEnd, _version: u32, reply: Reply)
+    requires { length line.old + 90 ≤ ROOM }
+    ensures text { line.new ≡ reply_text _version reply ++ line.old }
+    ensures long { length line.new ≤ 90 + length line.old }
+{
+    match reply {
+        Reply::Ok => line.text(b"ok"),
+        Reply::Start(start) => {
+            line.number(start);
+            line.text(b"start ");
         }
+        Reply::Was(entry) => {
+            line.number(entry);
+            line.text(b"was ");
+        }
+        Reply::None => line.text(b"none"),
+        Reply::Exists => line.text(b"exists"),
+        Reply::Invalid => line.text(b"invalid"),
+        Reply::Busy => line.text(b"busy"),
+        Reply::NoNodes(shortage) => put_shortage(line, shortage),
     }
 }
 
-/// Adds a number.
-fn push_number(text: &mut String, digits: &mut Buffer, number: u64) -> Result<(), AllocError>
-    ensures { OnOk result (string_bytes text.new ≡ string_bytes text.old ++ decimal number) }
+/// Puts a range in front.
+fn put_range(line: &mut LineEnd, range: &Range)
+    requires { length line.old + 62 ≤ ROOM }
+    ensures text { line.new ≡ range_text range.now ++ line.old }
+    ensures long { length line.new ≤ 62 + length line.old }
 {
-    text.push_str(digits.format(number))
+    line.number(range.entry);
+    line.text(b" ");
+    line.number(range.last);
+    line.text(b" ");
+    line.number(range.first);
 }
 
-/// Adds a number and a space.
-fn push_field(text: &mut String, digits: &mut Buffer, number: u64) -> Result<(), AllocError>
-    ensures { OnOk result (string_bytes text.new ≡ string_bytes text.old ++ (decimal number ++ codes " ")) }
-{
-    push_number(text, digits, number)?;
-    text.push_str(" ")
-}
-
-/// Adds an answer.
-fn push_answer(text: &mut String, digits: &mut Buffer, value: Answer) -> Result<(), AllocError>
-    ensures { OnOk result (string_bytes text.new ≡ string_bytes text.old ++ answer_text value) }
+/// Puts an answer in front.
+fn put_answer(line: &mut LineEnd, value: Answer)
+    requires { length line.old + 68 ≤ ROOM }
+    ensures text { line.new ≡ answer_text value ++ line.old }
+    ensures long { length line.new ≤ 68 + length line.old }
 {
     match value {
-        Answer::None => text.push_str("none"),
+        Answer::None => line.text(b"none"),
         Answer::Entry(entry) => {
-            text.push_str("entry ")?;
-            push_number(text, digits, entry)
+            line.number(entry);
+            line.text(b"entry ");
         }
-        Answer::Range(range) => write!(text, "range {range}"),
+        Answer::Range(range) => {
+            put_range(line, &range);
+            line.text(b"range ");
+        }
     }
 }
 
-/// Adds the line of a read. There are many in a log, so the text is put together without a format.
-fn push_got(
-    text: &mut String,
-    digits: &mut Buffer,
-    line: u64,
-    lo: u64,
-    hi: u64,
-    value: Answer,
-) -> Result<(), AllocError>
-    ensures { OnOk result (string_bytes text.new ≡ string_bytes text.old ++ (decimal line ++ (codes " " ++ (decimal lo ++ (codes " " ++ (decimal hi ++ (codes " " ++ (answer_text value ++ 10 ∷ [])))))))) }
+/// Puts in front what a line of a log was answered.
+fn put_said(line: &mut LineEnd, version: u32, said: Said)
+    requires { length line.old + 111 ≤ ROOM }
+    ensures text { line.new ≡ said_text version said ++ line.old }
+    ensures long { length line.new ≤ 111 + length line.old }
 {
-    push_field(text, digits, line)?;
-    push_field(text, digits, lo)?;
-    push_field(text, digits, hi)?;
-    push_answer(text, digits, value)?;
-    text.push_str("\n")
+    match said {
+        Said::Wrote { call, reply } => {
+            put_reply(line, version, reply);
+            line.text(b" ");
+            line.number(call);
+        }
+        Said::Got { lo, hi, value } => {
+            put_answer(line, value);
+            line.text(b" ");
+            line.number(hi);
+            line.text(b" ");
+            line.number(lo);
+        }
+        Said::Lawful { count } => {
+            line.number(count);
+            line.text(b"lawful ");
+        }
+        Said::Copied { count } => {
+            line.number(count);
+            line.text(b"copied ");
+        }
+    }
 }
 
 /// Adds the line of an entry.
 fn push_entry(
-    text: &mut String,
-    digits: &mut Buffer,
+    text: &mut Vec<u8>,
+    line: &mut LineEnd,
     version: u32,
     entry: &Entry,
 ) -> Result<(), AllocError>
-    ensures { OnOk result (string_bytes text.new ≡ string_bytes text.old ++ entry_text version entry.now) }
+    ensures { OnOk result (text.new.items ≡ text.old.items ++ entry_text version entry.now) }
 {
-    let line = entry.line;
-    match entry.said {
-        Said::Wrote { call, reply } => {
-            let reply = Printed { version, reply };
-            writeln!(text, "{line} {call} {reply}")
-        }
-        Said::Got { lo, hi, value } => push_got(text, digits, line, lo, hi, value),
-        Said::Lawful { count } => writeln!(text, "{line} lawful {count}"),
-        Said::Copied { count } => writeln!(text, "{line} copied {count}"),
-    }
+    line.begin();
+    put_said(line, version, entry.said);
+    line.text(b" ");
+    line.number(entry.line);
+    text.extend_from_slice(line.as_bytes())
 }
 
-fn push_range(text: &mut String, range: &Range) -> Result<(), AllocError>
-    ensures { OnOk result (string_bytes text.new ≡ string_bytes text.old ++ range_line range.now) }
+fn push_range(text: &mut Vec<u8>, line: &mut LineEnd, range: &Range) -> Result<(), AllocError>
+    ensures { OnOk result (text.new.items ≡ text.old.items ++ range_line range.now) }
 {
-    writeln!(text, "{range}")
+    line.begin();
+    put_range(line, range);
+    text.extend_from_slice(line.as_bytes())
 }
 
-fn push_ranges(text: &mut String, ranges: &[Range]) -> Result<(), AllocError>
-    ensures { OnOk result (string_bytes text.new ≡ string_bytes text.old ++ flat_map range_line ranges.now) }
+fn push_ranges(text: &mut Vec<u8>, line: &mut LineEnd, ranges: &[Range]) -> Result<(), AllocError>
+    ensures { OnOk result (text.new.items ≡ text.old.items ++ flat_map range_line ranges.now) }
 {
     for range in ranges {
-        push_range(text, range)?;
+        push_range(text, line, range)?;
     }
     Ok(())
 }
 
-fn push_listing(text: &mut String, listing: &Listing) -> Result<(), AllocError>
-    ensures { OnOk result (string_bytes text.new ≡ string_bytes text.old ++ listing_text listing.now) }
+/// Puts a kind in front.
+fn put_kind(line: &mut LineEnd, kind: Kind)
+    requires { length line.old + 5 ≤ ROOM }
+    ensures text { line.new ≡ kind_text kind ++ line.old }
+    ensures long { length line.new ≡ 5 + length line.old }
+{
+    match kind {
+        Kind::Range => line.text(b"range"),
+        Kind::Alloc => line.text(b"alloc"),
+    }
+}
+
+/// Adds the line of a tree, and one for each range.
+#[tactic(auto, using(crate::proofs::Padding::name_is_short))]
+fn push_listing(text: &mut Vec<u8>, line: &mut LineEnd, listing: &Listing) -> Result<(), AllocError>
+    ensures { OnOk result (text.new.items ≡ text.old.items ++ listing_text listing.now) }
 {
     let ranges = listing.ranges.as_slice();
-    let name = listing.name.as_str();
-    let kind = listing.kind;
-    let count = ranges.len();
-    writeln!(text, "tree {name} {kind} {count}")?;
-    push_ranges(text, ranges)
+    line.begin();
+    line.number(ranges.len() as u64);
+    line.text(b" ");
+    put_kind(line, listing.kind);
+    line.text(b" ");
+    line.text(listing.name.as_bytes());
+    line.text(b"tree ");
+    text.extend_from_slice(line.as_bytes())?;
+    push_ranges(text, line, ranges)
 }
 
-fn push_entries(text: &mut String, version: u32, entries: &[Entry]) -> Result<(), AllocError>
-    ensures { OnOk result (string_bytes text.new ≡ string_bytes text.old ++ flat_map (entry_text version) entries.now) }
+fn push_entries(
+    text: &mut Vec<u8>,
+    line: &mut LineEnd,
+    version: u32,
+    entries: &[Entry],
+) -> Result<(), AllocError>
+    ensures { OnOk result (text.new.items ≡ text.old.items ++ flat_map (entry_text version) entries.now) }
 {
-    let mut digits = Buffer::new();
     for entry in entries {
-        push_entry(text, &mut digits, version, entry)?;
+        push_entry(text, line, version, entry)?;
     }
     Ok(())
 }
 
-fn push_listings(text: &mut String, listings: &[Listing]) -> Result<(), AllocError>
-    ensures { OnOk result (string_bytes text.new ≡ string_bytes text.old ++ flat_map listing_text listings.now) }
+fn push_listings(
+    text: &mut Vec<u8>,
+    line: &mut LineEnd,
+    listings: &[Listing],
+) -> Result<(), AllocError>
+    ensures { OnOk result (text.new.items ≡ text.old.items ++ flat_map listing_text listings.now) }
 {
     for listing in listings {
-        push_listing(text, listing)?;
+        push_listing(text, line, listing)?;
     }
     Ok(())
 }
@@ -153,8 +203,9 @@ fn push_listings(text: &mut String, listings: &[Listing]) -> Result<(), AllocErr
 pub fn render(alloc: Global, version: u32, transcript: &Transcript) -> Result<Vec<u8>, NoMemory>
     ensures { IfOk result (λ v. v.items ≡ text_of version transcript.now) }
 {
-    let mut text = String::new(alloc);
-    push_entries(&mut text, version, transcript.entries.as_slice())?;
-    push_listings(&mut text, transcript.lists.as_slice())?;
-    Ok(text.into_bytes())
+    let mut text = Vec::new(alloc);
+    let mut line = LineEnd::new();
+    push_entries(&mut text, &mut line, version, transcript.entries.as_slice())?;
+    push_listings(&mut text, &mut line, transcript.lists.as_slice())?;
+    Ok(text)
 }

@@ -51,6 +51,7 @@ impl Model for Trees {
 
 impl Trees {
     ghost use Rattle.std.specs.Prelude.{◌≡◌, ◌++◌, ◌∷◌, ◌<◌, ◌^◌, [], None, IfSome, OnOk, length, slice_get, option_and_then};
+    ghost use Rattle.mt_log.specs.Indexed.{is_named};
     ghost use Rattle.mt_log.specs.Reading.{place_of, tree_at};
 
     /// No trees.
@@ -70,12 +71,25 @@ impl Trees {
         self.kinds.len()
     }
 
-    /// The number of the tree of this name.
-    #[tactic(auto, using(crate::proofs::Indexed::names_of_known, crate::proofs::Indexed::as_many))]
+    /// Whether the first tree is of this name.
+    fn is_first(&self, name: Word) -> bool
+        ensures { result ≡ is_named name (slice_get self.now 0) }
+    {
+        match self.get(0) {
+            Some(tree) => name == tree.name,
+            None => false,
+        }
+    }
+
+    /// The number of the tree of this name. Most logs have one tree, which is found without the table.
+    #[tactic(auto, using(crate::proofs::Indexed::names_of_known, crate::proofs::Indexed::as_many, crate::proofs::Indexed::first_place))]
     pub fn place_of(&self, name: Word) -> Option<usize>
         ensures place { result ≡ place_of self.now name }
         ensures declared { IfSome result (λ place. place < length self.now) }
     {
+        if self.is_first(name) {
+            return Some(0);
+        }
         self.kinds.get_index_of(&name)
     }
 

@@ -1,7 +1,7 @@
-use Rattle.std.proofs.Common.{◌≡◌, ◌++◌, take, string_bytes}
+use Rattle.std.proofs.Common.{◌≡◌, ◌++◌, take}
 use Rattle.std.specs.List.{flat_map}
 use Rattle.mt_log.specs.Text.{entry_text}
 use Rattle.mt_log.proofs.rendering.push_entries.Given as goal
 
 abbrev pub invariant-loop-entry : goal.invariant-loop-entry
-invariant-loop-entry l = string_bytes l.text ≡ string_bytes l.fn.text ++ flat_map (entry_text l.version) (take l.entry-index l.entries)
+invariant-loop-entry l = l.text.items ≡ l.fn.text.items ++ flat_map (entry_text l.version) (take l.entry-index l.entries)

@@ -1,7 +1,7 @@
-use Rattle.std.proofs.Common.{◌≡◌, ◌++◌, take, string_bytes}
+use Rattle.std.proofs.Common.{◌≡◌, ◌++◌, take}
 use Rattle.std.specs.List.{flat_map}
 use Rattle.mt_log.specs.Text.{range_line}
 use Rattle.mt_log.proofs.rendering.push_ranges.Given as goal
 
 abbrev pub invariant-loop-range : goal.invariant-loop-range
-invariant-loop-range l = string_bytes l.text ≡ string_bytes l.fn.text ++ flat_map range_line (take l.range-index l.ranges)
+invariant-loop-range l = l.text.items ≡ l.fn.text.items ++ flat_map range_line (take l.range-index l.ranges)
