@@ -121,6 +121,7 @@ pub fn mend_way<R: Rows>(rows: &mut R, path: &Path)
     ensures gaps { (kind : Kind) → IsWay kind (R.sheet rows.old) path.now.items → HasGaps (tree_as kind (R.sheet rows.new).tree) }
     ensures rest { OnlyWords (R.sheet rows.old) (R.sheet rows.new) }
     ensures words { KeepsWords (R.sheet rows.old).tree (R.sheet rows.new).tree path.now.items }
+    ensures plain { named_kind (R.sheet rows.old).tree.root ≢ Some RowKind.Gapped → R.sheet rows.new ≡ loaded (R.sheet rows.old) }
     ensures spans { (kind : Kind) (h : ℕ) → Stands (tree_as kind (R.sheet rows.old).tree) h
         → Levels (λ (_ : ℕ) (x : Span). SameSpans (R.sheet rows.old).tree.table (R.sheet rows.new).tree.table x) (R.sheet rows.old).tree.table h (root_of (tree_as kind (R.sheet rows.old).tree)) }
 {
