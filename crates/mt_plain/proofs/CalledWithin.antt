@@ -9,8 +9,8 @@ use Rattle.mt_log.specs.declared.lines.Item.TheVariants.{Tree, Lane, Join, Dup, 
 use Rattle.mt_log.specs.declared.lines.Line.{Line}
 use Rattle.mt_log.specs.Trees.{IsReadable, NamesBelow, trees_of}
 use Rattle.mt_runs.proofs.Stretches.{line_named, line_placed, line_lane}
-use Rattle.mtreplay.specs.Playing.{TreeState, PlayerState, Does, AreBoth, Holds, IsOf, IsPlayed, IsCalledWithin}
-use Rattle.mtreplay.proofs.PlayedLines.{both_get, line_played}
+use Rattle.mt_plain.specs.Playing.{TreeState, PlayerState, Does, AreBoth, Holds, IsOf, IsPlayed, IsCalledWithin}
+use Rattle.mt_plain.proofs.PlayedLines.{both_get, line_played}
 
 -- ---- calls
 

@@ -28,7 +28,7 @@ use Rattle.mt_runs.specs.Phases.{new_history}
 use Rattle.mt_runs.proofs.Answered.{made_is_next, limits_next}
 use Rattle.mt_runs.proofs.Played.{call_played, count_played, phase_played, read_played, tree_played, copy_played, nothing_played, as_declared, as_large, played_is_run}
 use Rattle.mt_runs.proofs.Stretches.{asked_more, trees_more, phase_more, stepped_more, done_append}
-use Rattle.mtreplay.specs.Playing.{TreeState, PlayerState, Copies, Checks, Calls, Does, AreBoth, Holds, IsOf, IsPlayedBy, IsPlayed, with_entry, read_entry, scan_entries, entries_behind, listing_of}
+use Rattle.mt_plain.specs.Playing.{TreeState, PlayerState, Copies, Checks, Calls, Does, AreBoth, Holds, IsOf, IsPlayedBy, IsPlayed, with_entry, read_entry, scan_entries, entries_behind, listing_of}
 
 -- ---- two lists, place by place
 

@@ -1,36 +1,26 @@
-//! The maps that a player makes, copies and checks.
+//! The maps that a plain program plays on.
 
 ghost use Rattle.std.specs.Prelude.{◌≡◌, ◌≤◌, ℕ, [], length, IfOk};
 ghost use Rattle.mt_base.specs.Width.{most_rows};
-ghost use Rattle.mtreplay.specs.Playing.{IsNew, IsCopyOf};
+ghost use Rattle.mt_plain.specs.Playing.{IsNew, IsCopyOf};
 
 use mt_base::{Kind, NoMemory};
 use mt_list::Ranges;
 use std::alloc::Global;
 
-/// A map of ranges that can be made empty, copied and checked.
-pub trait Plays: Ranges + Drop + Sized {
+/// A map of ranges that can be made empty, copied and counted.
+pub trait Plain: Ranges + Drop + Sized {
     /// An empty map of this kind, in so many rows.
     fn empty(alloc: Global, kind: Kind, rows: u64) -> Result<Self, NoMemory>
         requires { rows ≤ most_rows }
         ensures { IfOk result (λ m. IsNew rows kind [] (record { kind = Self.kind m; ranges = Self.map m; used = Self.used m; limits = Self.limits m })) };
 
-    /// The map, and a copy of it of which no call was made. `kind` is the map's.
-    fn copy(self, alloc: Global, kind: Kind) -> Result<(Self, Self), NoMemory>
-        requires { kind ≡ Self.kind self }
-        ensures map { IfOk result (λ both. Self.map both.0 ≡ Self.map self) }
-        ensures kind { IfOk result (λ both. Self.kind both.0 ≡ Self.kind self) }
-        ensures used { IfOk result (λ both. Self.used both.0 ≡ Self.used self) }
-        ensures limits { IfOk result (λ both. Self.limits both.0 ≡ Self.limits self) }
-        ensures copy_kind { IfOk result (λ both. Self.kind both.1 ≡ Self.kind self) }
-        ensures copy { IfOk result (λ both. IsCopyOf (record { kind = Self.kind self; ranges = Self.map self; used = Self.used self; limits = Self.limits self }) (record { kind = Self.kind both.1; ranges = Self.map both.1; used = Self.used both.1; limits = Self.limits both.1 })) };
+    /// A copy of the map, of which no call was made.
+    fn another(&self, alloc: Global) -> Result<Self, NoMemory>
+        ensures kind { IfOk result (λ copy. Self.kind copy ≡ Self.kind self.now) }
+        ensures copy { IfOk result (λ copy. IsCopyOf (record { kind = Self.kind self.now; ranges = Self.map self.now; used = Self.used self.now; limits = Self.limits self.now }) (record { kind = Self.kind copy; ranges = Self.map copy; used = Self.used copy; limits = Self.limits copy })) };
 
-    /// The map, and how many ranges it has, once it was checked to be lawful. `kind` is the map's.
-    fn check(self, kind: Kind) -> (Self, u64)
-        requires { kind ≡ Self.kind self }
-        ensures map { Self.map result.0 ≡ Self.map self }
-        ensures kind { Self.kind result.0 ≡ Self.kind self }
-        ensures used { Self.used result.0 ≡ Self.used self }
-        ensures limits { Self.limits result.0 ≡ Self.limits self }
-        ensures count { result.1 ≡ length (Self.map self) };
+    /// How many ranges the map has.
+    fn size(&self) -> u64
+        ensures { result ≡ length (Self.map self.now) };
 }

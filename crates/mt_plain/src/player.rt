@@ -4,9 +4,9 @@ ghost use Rattle.std.specs.Prelude.{◌≡◌, ◌<◌, ◌≤◌, ◌-◌, ◌^
 ghost use Rattle.mt_base.specs.Width.{most_rows};
 ghost use Rattle.mt_log.specs.Run.{IsRun, shown_range};
 ghost use Rattle.mt_log.specs.Trees.{IsReadable};
-ghost use Rattle.mtreplay.specs.Playing.{IsPlayed, listing_of};
+ghost use Rattle.mt_plain.specs.Playing.{IsPlayed, listing_of};
 
-use crate::maps::Plays;
+use crate::maps::Plain;
 use crate::scans::{find_at, place_behind, place_within};
 use mt_base::{Call, Kind, NoMemory, Query, Range};
 use mt_log::{
@@ -17,16 +17,16 @@ use std::marker::Model;
 
 /// A tree that was declared, and how many calls were made of it.
 #[derive(Drop)]
-struct Played<M: Plays> {
+struct Played<M: Plain> {
     name: Word,
     kind: Kind,
     map: M,
     calls: u64,
 }
 
-impl<M: Plays> Model for Played<M> {
+impl<M: Plain> Model for Played<M> {
     ghost use Rattle.std.specs.Prelude.{◌≡◌};
-    ghost use Rattle.mtreplay.specs.Playing.{TreeState};
+    ghost use Rattle.mt_plain.specs.Playing.{TreeState};
 
     ghost Value = { TreeState };
 
@@ -35,7 +35,7 @@ impl<M: Plays> Model for Played<M> {
     ghost invariant = { λ t. t.kind ≡ M.kind t.map };
 }
 
-impl<M: Plays> Played<M> {
+impl<M: Plain> Played<M> {
     ghost use Rattle.std.specs.Prelude.{◌≡◌, ◌∷◌, ◌++◌, ◌+◌, ◌-◌, ◌<◌, ◌≤◌, ◌^◌, [], ℕ, length, IfOk, OnOk};
     ghost use Rattle.mt_base.specs.Call.{answer};
     ghost use Rattle.mt_base.specs.declared.replies.Reply.{Reply};
@@ -44,7 +44,7 @@ impl<M: Plays> Played<M> {
     ghost use Rattle.mt_log.specs.Run.{place_within};
     ghost use Rattle.mt_log.specs.declared.transcripts.Said.TheVariants.{Wrote};
     ghost use Rattle.mt_runs.specs.OneThread.{MayLimit};
-    ghost use Rattle.mtreplay.specs.Playing.{Declares, IsCalled, read_entry, scan_entries, listing_of};
+    ghost use Rattle.mt_plain.specs.Playing.{Declares, IsCalled, read_entry, scan_entries, listing_of};
 
     /// A new tree of this name and kind.
     fn new(alloc: Global, name: Word, kind: Kind, rows: u64) -> Result<Self, NoMemory>
@@ -59,52 +59,23 @@ impl<M: Plays> Played<M> {
         })
     }
 
-    /// The tree, and a copy of it under another name, of which no call was made.
-    fn copy(self, alloc: Global, name: Word) -> Result<(Self, Self), NoMemory>
-        ensures tree { IfOk result (λ both. both.0 ≡ self) }
-        ensures copy { IfOk result (λ both. (h : History) → MayLimit h self.map.limits → Declares h.rows name self.kind self.map.ranges both.1) }
+    /// A copy of the tree under another name, of which no call was made.
+    fn copy(&self, alloc: Global, name: Word) -> Result<Self, NoMemory>
+        ensures { IfOk result (λ copy. (h : History) → MayLimit h self.now.map.limits → Declares h.rows name self.now.kind self.now.map.ranges copy) }
     {
-        let Played {
-            name: own,
-            kind,
-            map,
-            calls,
-        } = self;
-        let (map, copy) = map.copy(alloc, kind)?;
-        let tree = Played {
-            name: own,
-            kind,
-            map,
-            calls,
-        };
-        let copy = Played {
+        Ok(Played {
             name,
-            kind,
-            map: copy,
+            kind: self.kind,
+            map: self.map.another(alloc)?,
             calls: 0,
-        };
-        Ok((tree, copy))
+        })
     }
 
-    /// The tree, and how many ranges it has, once it was checked.
-    fn check(self) -> (Self, u64)
-        ensures tree { result.0 ≡ self }
-        ensures count { result.1 ≡ length self.map.ranges }
+    /// How many ranges the tree has.
+    fn size(&self) -> u64
+        ensures { result ≡ length self.now.map.ranges }
     {
-        let Played {
-            name,
-            kind,
-            map,
-            calls,
-        } = self;
-        let (map, count) = map.check(kind);
-        let tree = Played {
-            name,
-            kind,
-            map,
-            calls,
-        };
-        (tree, count)
+        self.map.size()
     }
 
     /// Makes a call, and tells its number and reply.
@@ -199,25 +170,25 @@ fn told_of(query: &Query, range: Range) -> Answer
 
 /// The trees that were declared so far, each of so many rows, and what their calls and reads were answered.
 #[derive(Drop)]
-struct Player<M: Plays> {
+struct Player<M: Plain> {
     rows: u64,
     trees: Vec<Played<M>>,
     entries: Vec<Entry>,
 }
 
-impl<M: Plays> Model for Player<M> {
-    ghost use Rattle.mtreplay.specs.Playing.{PlayerState};
+impl<M: Plain> Model for Player<M> {
+    ghost use Rattle.mt_plain.specs.Playing.{PlayerState};
 
     ghost Value = { PlayerState };
 
     ghost view = { λ p. record { rows = p.rows; trees = p.trees.items; entries = p.entries.items } };
 }
 
-impl<M: Plays> Player<M> {
+impl<M: Plain> Player<M> {
     ghost use Rattle.std.specs.Prelude.{◌≡◌, ◌∷◌, ◌++◌, ◌+◌, ◌-◌, ◌<◌, ◌≤◌, ◌^◌, [], ℕ, All, length, OnOk};
     ghost use Rattle.mt_base.specs.Width.{most_rows};
     ghost use Rattle.mt_log.specs.Trees.{NamesBelow};
-    ghost use Rattle.mtreplay.specs.Playing.{Does, Copies, Checks, IsCalledWithin};
+    ghost use Rattle.mt_plain.specs.Playing.{Does, Copies, Checks, IsCalledWithin};
 
     /// Does what a line asks for.
     fn line(&mut self, alloc: Global, line: &Line) -> Result<(), NoMemory>
@@ -257,23 +228,22 @@ impl<M: Plays> Player<M> {
         ensures copies { OnOk result (Copies self.old self.new line from name) }
         ensures rows { self.new.rows ≡ self.old.rows }
     {
-        let (tree, count) = self.trees.remove(from).check();
-        let (tree, copy) = tree.copy(alloc, name)?;
-        self.trees.insert(from, tree)?;
+        let tree = &self.trees[from];
+        let count = tree.size();
+        let copy = tree.copy(alloc, name)?;
         self.trees.push(copy)?;
         let said = Said::Copied { count };
         self.entries.push(Entry { line, said })?;
         Ok(())
     }
 
-    /// Checks a tree, and tells how many ranges it has.
+    /// Tells how many ranges a tree has.
     fn check(&mut self, line: u64, tree: usize) -> Result<(), NoMemory>
         requires { tree < length self.old.trees }
         ensures checks { OnOk result (Checks self.old self.new line tree) }
         ensures rows { self.new.rows ≡ self.old.rows }
     {
-        let (checked, count) = self.trees.remove(tree).check();
-        self.trees.insert(tree, checked)?;
+        let count = self.trees[tree].size();
         let said = Said::Lawful { count };
         self.entries.push(Entry { line, said })?;
         Ok(())
@@ -281,7 +251,7 @@ impl<M: Plays> Player<M> {
 }
 
 /// Plays the lines in order, over trees of so many rows.
-fn play_lines<M: Plays>(alloc: Global, lines: &[Line], rows: u64) -> Result<Player<M>, NoMemory>
+fn play_lines<M: Plain>(alloc: Global, lines: &[Line], rows: u64) -> Result<Player<M>, NoMemory>
     requires rows { rows ≤ most_rows }
     requires readable { IsReadable lines.now }
     requires count { length lines.now < 2 ^ 62 - 1 }
@@ -299,7 +269,7 @@ fn play_lines<M: Plays>(alloc: Global, lines: &[Line], rows: u64) -> Result<Play
 }
 
 /// Lists the trees in the order in which they were declared.
-fn list_trees<M: Plays>(alloc: Global, trees: &mut [Played<M>]) -> Result<Vec<Listing>, NoMemory>
+fn list_trees<M: Plain>(alloc: Global, trees: &mut [Played<M>]) -> Result<Vec<Listing>, NoMemory>
     ensures { IfOk result (λ v. v.items ≡ map listing_of trees.old) }
 {
     let mut lists = Vec::new(alloc);
@@ -314,7 +284,7 @@ fn list_trees<M: Plays>(alloc: Global, trees: &mut [Played<M>]) -> Result<Vec<Li
 /// # Errors
 ///
 /// `NoMemory` where memory ran out.
-pub fn play<M: Plays>(alloc: Global, log: &Log, rows: u64) -> Result<Transcript, NoMemory>
+pub fn play<M: Plain>(alloc: Global, log: &Log, rows: u64) -> Result<Transcript, NoMemory>
     requires rows { rows ≤ most_rows }
     requires readable { IsReadable log.now.lines }
     requires count { length log.now.lines < 2 ^ 62 - 1 }

@@ -1,8 +1,8 @@
 use Rattle.std.proofs.Common.{List, map, ap, ◌∙◌, subst}
 use Rattle.mt_log.specs.declared.lines.Line.{Line}
-use Rattle.mtreplay.specs.Playing.{PlayerState, IsPlayed, listing_of}
-use Rattle.mtreplay.proofs.PlayedLines.{run_of}
-use Rattle.mtreplay.proofs.player.play.Goals as goal
+use Rattle.mt_plain.specs.Playing.{PlayerState, IsPlayed, listing_of}
+use Rattle.mt_plain.proofs.PlayedLines.{run_of}
+use Rattle.mt_plain.proofs.player.play.Goals as goal
 
 pub returns : goal.returns
 returns g c =

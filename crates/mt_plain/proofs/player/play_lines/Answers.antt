@@ -1,10 +1,10 @@
 use Rattle.std.proofs.Common.{◌<◌, ℕ, List, length, take, All, arith, refl, ◌∙◌, subst, sym}
 use Rattle.std.proofs.lemmas.List.Elements.{All-nil}
 use Rattle.mt_log.specs.declared.lines.Line.{Line}
-use Rattle.mtreplay.specs.Playing.{IsCalledWithin}
-use Rattle.mtreplay.proofs.CalledWithin.{names_known, one_call_at_most, one_more_played}
-use Rattle.mtreplay.proofs.PlayedLines.{none_played}
-use Rattle.mtreplay.proofs.player.play_lines.Goals as goal
+use Rattle.mt_plain.specs.Playing.{IsCalledWithin}
+use Rattle.mt_plain.proofs.CalledWithin.{names_known, one_call_at_most, one_more_played}
+use Rattle.mt_plain.proofs.PlayedLines.{none_played}
+use Rattle.mt_plain.proofs.player.play_lines.Goals as goal
 
 pub loop-line-init : goal.loop-line-init
 loop-line-init g c = (

@@ -1,6 +1,6 @@
 use Rattle.std.proofs.Common.{◌≡◌, All, take}
-use Rattle.mtreplay.specs.Playing.{IsPlayed, IsCalledWithin}
-use Rattle.mtreplay.proofs.player.play_lines.Given as goal
+use Rattle.mt_plain.specs.Playing.{IsPlayed, IsCalledWithin}
+use Rattle.mt_plain.proofs.player.play_lines.Given as goal
 
 -- the lines so far were played, and no tree was called more often than there were lines
 abbrev pub invariant-loop-line : goal.invariant-loop-line

@@ -1,9 +1,9 @@
 use Rattle.std.proofs.Common.{◌≡◌, ℕ, suc, ◌+◌, ◌-◌, [], ◌∷◌, ◌++◌, Some, None, arith, sym, ap, subst, ◌∙◌, append-nil}
 use Rattle.mt_base.specs.Call.{answer}
 use Rattle.mt_log.specs.Run.{find_at}
-use Rattle.mtreplay.specs.Playing.{TreeState, read_entry, scan_entries}
-use Rattle.mtreplay.proofs.Scanning.{scan_ends, scan_goes_on}
-use Rattle.mtreplay.proofs.player.Played.scan.Goals as goal
+use Rattle.mt_plain.specs.Playing.{TreeState, read_entry, scan_entries}
+use Rattle.mt_plain.proofs.Scanning.{scan_ends, scan_goes_on}
+use Rattle.mt_plain.proofs.player.Played.scan.Goals as goal
 
 pub returns-in-None-clause-told : goal.returns-in-None-clause-told
 returns-in-None-clause-told g c =

@@ -1,8 +1,8 @@
 use Rattle.std.proofs.Common.{◌≡◌, ◌-◌, ◌++◌, List}
 use Rattle.mt_log.specs.declared.transcripts.Entry.{Entry}
 use Rattle.mt_log.specs.Run.{place_within}
-use Rattle.mtreplay.specs.Playing.{scan_entries}
-use Rattle.mtreplay.proofs.player.Played.scan.Given as goal
+use Rattle.mt_plain.specs.Playing.{scan_entries}
+use Rattle.mt_plain.proofs.player.Played.scan.Given as goal
 
 -- what is left of the scan makes it whole
 abbrev pub invariant-loop-step : goal.invariant-loop-step

@@ -3,9 +3,9 @@ use Rattle.std.specs.Prelude.{slice_get, slice_set}
 use Rattle.mt_log.specs.declared.lines.Item.{Item}
 use Rattle.mt_log.specs.Run.{place_within}
 use Rattle.mt_log.specs.Trees.{NamesBelow}
-use Rattle.mtreplay.specs.Playing.{TreeState, PlayerState, Does, Reads, read_entry, scan_entries}
-use Rattle.mtreplay.proofs.Removed.{get_of, set_back}
-use Rattle.mtreplay.proofs.player.Player.line.Goals as goal
+use Rattle.mt_plain.specs.Playing.{TreeState, PlayerState, Does, Reads, read_entry, scan_entries}
+use Rattle.mt_plain.proofs.Removed.{get_of, set_back}
+use Rattle.mt_plain.proofs.player.Player.line.Goals as goal
 
 pub returns-in_ok-ask-in-Ask-clause-does : goal.returns-in_ok-ask-in-Ask-clause-does
 returns-in_ok-ask-in-Ask-clause-does g c =

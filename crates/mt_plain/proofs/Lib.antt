@@ -1,0 +1,4 @@
+pub mod CalledWithin
+pub mod PlayedLines
+pub mod Removed
+pub mod Scanning
