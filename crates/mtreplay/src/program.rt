@@ -11,13 +11,13 @@ ghost use Rattle.mtreplay.specs.Ending.{TellsStatus, status_due, ReadsNoFurther,
 ghost use Rattle.mtreplay.specs.Headline.{Replays, ReplaysPart, TellsRun};
 
 use crate::failures::{Failure, report};
-use crate::player::play;
 use crate::streams::{LONGEST, read_input, write_output};
+use crate::trees::LaneTree;
 use mt_base::{MOST_ROWS, NoMemory};
-use mt_engine::Engine;
 use mt_io::{Gate, Sink, Source};
 use mt_log::{Log, Transcript, read_log, render};
-use mt_rows::PlainRows;
+use mt_play::play;
+use mt_tree::Pass;
 use std::alloc::Global;
 use std::sync::Wait;
 use std::thread::Threads;
@@ -46,27 +46,43 @@ fn read<S: Source>(alloc: Global, src: &mut S) -> Result<Log, Failure>
 }
 
 /// What the lines of a log were answered. Their memory is given back.
-fn played(alloc: Global, log: Log) -> Result<Transcript, NoMemory>
+fn played<R: Threads + Wait + Sync, G: Gate + Sync>(
+    rt: &R,
+    alloc: Global,
+    log: Log,
+    gate: &G,
+) -> Result<Transcript, NoMemory>
     requires readable { IsReadable log.lines }
     requires count { length log.lines ≤ LONGEST }
     ensures { IfOk result (λ t. IsRun log most_rows t) }
 {
-    play::<Engine<PlainRows>>(alloc, &log, MOST_ROWS)
+    play::<R, Pass, LaneTree, G>(rt, alloc, &log, MOST_ROWS, gate)
 }
 
 /// The text of what the lines of a log were answered.
-fn answers(alloc: Global, log: Log) -> Result<Vec<u8>, NoMemory>
+fn answers<R: Threads + Wait + Sync, G: Gate + Sync>(
+    rt: &R,
+    alloc: Global,
+    log: Log,
+    gate: &G,
+) -> Result<Vec<u8>, NoMemory>
     requires readable { IsReadable log.lines }
     requires count { length log.lines ≤ LONGEST }
     ensures { IfOk result (λ text. TellsRun log text.items) }
 {
     let version = log.version;
-    let transcript = played(alloc, log)?;
+    let transcript = played(rt, alloc, log, gate)?;
     render(alloc, version, &transcript)
 }
 
 /// Reads a log, plays its lines and writes what they were answered.
-fn replay<S: Source, O: Sink>(alloc: Global, src: &mut S, out: &mut O) -> Result<(), Failure>
+fn replay<R: Threads + Wait + Sync, S: Source, O: Sink, G: Gate + Sync>(
+    rt: &R,
+    alloc: Global,
+    src: &mut S,
+    out: &mut O,
+    gate: &G,
+) -> Result<(), Failure>
     ensures ends { Ends true result (streams (S.left src.old) (S.faults src.old) (O.written out.old) (O.faults out.old))
         (streams (S.left src.new) (S.faults src.new) (O.written out.new) (O.faults out.new)) }
     ensures reach { ReadsNoFurther (S.left src.old) (S.left src.new) }
@@ -75,17 +91,19 @@ fn replay<S: Source, O: Sink>(alloc: Global, src: &mut S, out: &mut O) -> Result
     ensures out_in_time { O.faults out.old ≡ 0 → O.late out.old ≡ 0 → O.late out.new ≡ 0 }
 {
     let log = read(alloc, src)?;
-    let text = answers(alloc, log)?;
+    let text = answers(rt, alloc, log, gate)?;
     write_output(out, &text).map_err(|_| Failure::WriteFault)
 }
 
 /// Does what the words say.
 #[tactic(auto, using(crate::proofs::Pieces::reads_none))]
-fn run<S: Source, O: Sink>(
+fn run<R: Threads + Wait + Sync, S: Source, O: Sink, G: Gate + Sync>(
+    rt: &R,
     alloc: Global,
     words: &[String],
     src: &mut S,
     out: &mut O,
+    gate: &G,
 ) -> Result<(), Failure>
     ensures ends { Ends (is_replay (map string_bytes words.now)) result
         (streams (S.left src.old) (S.faults src.old) (O.written out.old) (O.faults out.old))
@@ -99,7 +117,7 @@ fn run<S: Source, O: Sink>(
     if !is_replay(words) {
         return Err(Failure::Usage);
     }
-    replay(alloc, src, out)
+    replay(rt, alloc, src, out, gate)
 }
 
 /// Does what the words after the program's name say, and gives the status to end with.
@@ -107,13 +125,13 @@ fn run<S: Source, O: Sink>(
 /// 0: done. 1: the input is no log. 2: the words are no command. 3: a fault of reading. 4: a fault of writing.
 /// 5: want of memory. 6: the input is longer than 8,388,608 bytes. At every status but 0 a line on `err` says so.
 pub fn mtreplay<R: Threads + Wait + Sync, S: Source, O: Sink, E: Sink, G: Gate + Sync>(
-    _rt: &R,
+    rt: &R,
     alloc: Global,
     words: &[String],
     src: &mut S,
     out: &mut O,
     err: &mut E,
-    _gate: &G,
+    gate: &G,
 ) -> u8
     // What is printed is the text of a run of the log that was read.
     ensures replays { result ≡ 0 → Replays (S.left src.old) (O.written out.old) (O.written out.new) }
@@ -151,7 +169,7 @@ pub fn mtreplay<R: Threads + Wait + Sync, S: Source, O: Sink, E: Sink, G: Gate +
     ensures out_in_time { O.faults out.old ≡ 0 → O.late out.old ≡ 0 → O.late out.new ≡ 0 }
     ensures err_in_time { E.faults err.old ≡ 0 → E.late err.old ≡ 0 → E.late err.new ≡ 0 }
 {
-    match run(alloc, words, src, out) {
+    match run(rt, alloc, words, src, out, gate) {
         Ok(()) => 0,
         Err(failure) => {
             report(err, &failure);

@@ -1,11 +1,14 @@
 mod drawn;
+mod lanes;
 mod played;
 mod short;
 mod trees;
 
 use crate::program::mtreplay;
-use mt_io::{Failed, MemSink, MemSource, NoGate, Source};
+use crate::tests::played::listed_text;
+use mt_io::{Failed, Gate, MemSink, MemSource, NoGate, Source};
 use std::alloc::{AllocError, Global};
+use std::process::Abort;
 use std::sync::Wait;
 use std::test::Fail;
 use std::thread::Threads;
@@ -43,6 +46,18 @@ fn run<R: Threads + Wait + Sync + AllocGlobal>(
     room: usize,
     err_room: usize,
 ) -> Result<Ending, AllocError> {
+    run_held(rt, words, src, room, err_room, &NoGate)
+}
+
+/// The same, where the lanes are held by this gate.
+fn run_held<R: Threads + Wait + Sync + AllocGlobal, G: Gate + Sync>(
+    rt: &R,
+    words: &[&str],
+    src: &mut MemSource,
+    room: usize,
+    err_room: usize,
+    gate: &G,
+) -> Result<Ending, AllocError> {
     let alloc = rt.alloc();
     let mut strings = Vec::new(alloc);
     for word in words {
@@ -50,8 +65,26 @@ fn run<R: Threads + Wait + Sync + AllocGlobal>(
     }
     let mut out = MemSink::new(alloc, room, 5, Vec::new(alloc))?;
     let mut err = MemSink::new(alloc, err_room, 5, Vec::new(alloc))?;
-    let status = mtreplay(rt, alloc, &strings, src, &mut out, &mut err, &NoGate);
+    let status = mtreplay(rt, alloc, &strings, src, &mut out, &mut err, gate);
     Ok(Ending { status, out, err })
+}
+
+/// The program and one thread on sorted lists both answer the log by this text. The read behind the one that finds the end
+/// of the log would fail.
+fn expect_text<R: Threads + Wait + Sync + AllocGlobal + Abort>(
+    rt: &R,
+    log: &str,
+    text: &str,
+) -> Result<(), Fail> {
+    let behind = log.len().div_ceil(GIVEN) as u64 + 1;
+    let mut src = source(rt.alloc(), log, behind)?;
+    let ending = run(rt, &["replay"], &mut src, 1 << 16, 256)?;
+    assert_eq!(rt; ending.status, 0, "{log}");
+    assert_eq!(rt; ending.out.bytes(), text.as_bytes(), "{log}");
+    assert_eq!(rt; ending.err.bytes(), b"".as_slice(), "{log}");
+    let listed = listed_text(rt, rt.alloc(), log)?;
+    assert_eq!(rt; listed.as_slice(), text.as_bytes(), "{log}");
+    Ok(())
 }
 
 /// The log of these steps behind the header and the line that declares the range tree `a`, from line 3 on.
@@ -64,6 +97,10 @@ fn steps(alloc: Global, lines: &str) -> Result<String, AllocError> {
 #[test]
 fn a_log_is_answered_line_by_line(rt: HostRuntime) -> Result<(), Fail> {
     let rows = [
+        (
+            "store a 10 19 5\nload a 9\nload a 10\nload a 19\nload a 20\n",
+            "3 1 ok\n4 1 1 none\n5 1 1 entry 5\n6 1 1 entry 5\n7 1 1 none\ntree a range 1\n10 19 5\n",
+        ),
         (
             "store a 0 99 1\nstore a 40 49 3\n",
             "3 1 ok\n4 2 ok\ntree a range 3\n0 39 1\n40 49 3\n50 99 1\n",
@@ -111,13 +148,7 @@ fn a_log_is_answered_line_by_line(rt: HostRuntime) -> Result<(), Fail> {
     ];
     for (lines, text) in rows {
         let log = steps(rt.alloc(), lines)?;
-        // The read behind the one that finds the end would fail.
-        let behind = log.len().div_ceil(GIVEN) as u64 + 1;
-        let mut src = source(rt.alloc(), &log, behind)?;
-        let ending = run(&rt, &["replay"], &mut src, 512, 256)?;
-        assert_eq!(rt; ending.status, 0, "{lines}");
-        assert_eq!(rt; ending.out.bytes(), text.as_bytes(), "{lines}");
-        assert_eq!(rt; ending.err.bytes(), b"".as_slice(), "{lines}");
+        expect_text(&rt, &log, text)?;
     }
     Ok(())
 }
@@ -156,11 +187,7 @@ fn a_tree_for_allocation_finds_room(rt: HostRuntime) -> Result<(), Fail> {
     ];
     for (lines, text) in rows {
         let log = format!(in rt.alloc(); "mtlog 1\n{lines}")?;
-        let mut src = source(rt.alloc(), &log, NEVER)?;
-        let ending = run(&rt, &["replay"], &mut src, 512, 256)?;
-        assert_eq!(rt; ending.status, 0, "{lines}");
-        assert_eq!(rt; ending.out.bytes(), text.as_bytes(), "{lines}");
-        assert_eq!(rt; ending.err.bytes(), b"".as_slice(), "{lines}");
+        expect_text(&rt, &log, text)?;
     }
     Ok(())
 }
@@ -179,11 +206,7 @@ fn neighbours_are_found_up_and_down(rt: HostRuntime) -> Result<(), Fail> {
          10 3 3 range 0 9 1\n11 3 3 range 0 9 1\n12 3 3 none\n13 3 3 none\n\
          14 3 3 range 0 9 1\n15 3 3 none\n16 3 3 range 18446744073709551615 18446744073709551615 3\n17 3 3 none\n\
          tree a range 3\n0 9 1\n20 29 5\n18446744073709551615 18446744073709551615 3\n";
-    let mut src = source(rt.alloc(), &log, NEVER)?;
-    let ending = run(&rt, &["replay"], &mut src, 1024, 256)?;
-    assert_eq!(rt; ending.status, 0);
-    assert_eq!(rt; ending.out.bytes(), text.as_bytes());
-    Ok(())
+    expect_text(&rt, &log, text)
 }
 
 #[test]
@@ -202,21 +225,12 @@ fn a_scan_goes_on_behind_each_range_and_ends_with_none(rt: HostRuntime) -> Resul
          9 3 was 1\n10 3 3 range 10 10 3\n10 3 3 none\n\
          11 4 ok\n12 4 4 range 10 18446744073709551615 7\n12 4 4 none\n\
          tree a range 1\n10 18446744073709551615 7\n";
-    let mut src = source(rt.alloc(), &log, NEVER)?;
-    let ending = run(&rt, &["replay"], &mut src, 512, 256)?;
-    assert_eq!(rt; ending.status, 0);
-    assert_eq!(rt; ending.out.bytes(), text.as_bytes());
-    Ok(())
+    expect_text(&rt, &log, text)
 }
 
 #[test]
 fn a_log_without_a_tree_prints_nothing(rt: HostRuntime) -> Result<(), Fail> {
-    let mut src = source(rt.alloc(), "mtlog 1\n", NEVER)?;
-    let ending = run(&rt, &["replay"], &mut src, 256, 256)?;
-    assert_eq!(rt; ending.status, 0);
-    assert_eq!(rt; ending.out.bytes(), b"".as_slice());
-    assert_eq!(rt; ending.err.bytes(), b"".as_slice());
-    Ok(())
+    expect_text(&rt, "mtlog 1\n", "")
 }
 
 #[test]

@@ -1,8 +1,6 @@
-use crate::tests::played::text_over;
+use crate::tests::played::listed_text;
 use crate::tests::{run, steps};
-use mt_base::MOST_ROWS;
 use mt_io::MemSource;
-use mt_list::ListMap;
 use std::alloc::{AllocError, Global};
 use std::test::Fail;
 
@@ -14,8 +12,8 @@ const STORES: u32 = 48_000;
 
 /// A stream of numbers that looks random, and is the same at each run.
 #[derive(Drop)]
-struct Draws {
-    state: u64,
+pub struct Draws {
+    pub state: u64,
 }
 
 impl Draws {
@@ -31,18 +29,18 @@ impl Draws {
 }
 
 /// Adds a store at some place, which may reach over the next two. Of its entries 0 makes a hole, and 2 is refused.
-fn push_store(log: &mut String, draws: &mut Draws) -> Result<(), AllocError> {
+pub fn push_store(log: &mut String, tree: &str, draws: &mut Draws) -> Result<(), AllocError> {
     let first = 8 * u64::from(draws.below(PLACES));
     let last = first + u64::from(draws.below(20));
     let entry = draws.below(6);
-    writeln!(log, "store a {first} {last} {entry}")
+    writeln!(log, "store {tree} {first} {last} {entry}")
 }
 
 fn drawn_log(alloc: Global) -> Result<String, AllocError> {
     let mut log = steps(alloc, "")?;
     let mut draws = Draws { state: 1 };
     for _ in 0..STORES {
-        push_store(&mut log, &mut draws)?;
+        push_store(&mut log, "a", &mut draws)?;
     }
     Ok(log)
 }
@@ -52,7 +50,7 @@ fn a_mebibyte_of_stores_is_answered_as_by_a_list(rt: HostRuntime) -> Result<(), 
     let alloc = rt.alloc();
     let log = drawn_log(alloc)?;
     assert!(rt; log.len() >= 1 << 20);
-    let want = text_over::<ListMap>(&rt, alloc, log.as_str(), MOST_ROWS)?;
+    let want = listed_text(&rt, alloc, log.as_str())?;
     let bytes = Vec::from_slice(alloc, log.as_bytes())?;
     let mut src = MemSource::new(bytes, usize::MAX, Vec::new(alloc));
     let ending = run(&rt, &["replay"], &mut src, 1 << 21, 256)?;

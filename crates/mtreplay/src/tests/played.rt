@@ -1,25 +1,40 @@
 ghost use Rattle.std.specs.Prelude.{◌≤◌};
 ghost use Rattle.mt_base.specs.Width.{most_rows};
+ghost use Rattle.mt_play.specs.Trees.{fewest_rows};
 
 use crate::failures::Failure;
-use crate::maps::Plays;
-use crate::player::play;
 use crate::streams::LONGEST;
+use crate::trees::LaneTree;
+use mt_base::MOST_ROWS;
+use mt_io::NoGate;
+use mt_list::ListMap;
 use mt_log::{read_log, render};
+use mt_tree::Pass;
 use std::alloc::Global;
 use std::process::Abort;
+use std::sync::Wait;
+use std::thread::Threads;
 
-/// The text of what the lines of a log are answered over maps of this type, in so many rows.
-pub fn text_over<M: Plays>(
-    rt: &impl Abort,
+/// The text of what the lines of a log are answered over shared trees of so many rows.
+pub fn text_in_rows<R: Threads + Wait + Sync + Abort>(
+    rt: &R,
     alloc: Global,
     log: &str,
     rows: u64,
 ) -> Result<Vec<u8>, Failure>
-    requires { rows ≤ most_rows }
+    requires few_rows { fewest_rows ≤ rows }
+    requires rows { rows ≤ most_rows }
 {
     assert!(rt; log.len() <= LONGEST);
     let log = read_log(alloc, log.as_bytes())?;
-    let transcript = play::<M>(alloc, &log, rows)?;
+    let transcript = mt_play::play::<R, Pass, LaneTree, NoGate>(rt, alloc, &log, rows, &NoGate)?;
+    Ok(render(alloc, log.version, &transcript)?)
+}
+
+/// The text of what one thread answers the lines of a log, in their order, over sorted lists.
+pub fn listed_text(rt: &impl Abort, alloc: Global, log: &str) -> Result<Vec<u8>, Failure> {
+    assert!(rt; log.len() <= LONGEST);
+    let log = read_log(alloc, log.as_bytes())?;
+    let transcript = mt_plain::play::<ListMap>(alloc, &log, MOST_ROWS)?;
     Ok(render(alloc, log.version, &transcript)?)
 }

@@ -1,7 +1,5 @@
-use crate::tests::played::text_over;
+use crate::tests::played::text_in_rows;
 use crate::tests::steps;
-use mt_engine::Engine;
-use mt_rows::PlainRows;
 use std::alloc::{AllocError, Global};
 use std::test::Fail;
 
@@ -14,7 +12,7 @@ fn a_tree_of_four_rows_has_no_room_for_a_second_range(rt: HostRuntime) -> Result
     let want =
         "3 1 ok\n4 2 nomem 4 3 1 0\n5 3 ok\n6 4 nomem 4 3 1 0\n7 5 nomem 4 3 1 0\n8 6 ok\n9 7 ok\n\
          tree a range 1\n1 1 9\n";
-    let text = text_over::<Engine<PlainRows>>(&rt, rt.alloc(), log.as_str(), 4)?;
+    let text = text_in_rows(&rt, rt.alloc(), log.as_str(), 4)?;
     assert_eq!(rt; text.as_slice(), want.as_bytes());
     Ok(())
 }
@@ -68,7 +66,7 @@ fn a_tree_grows_until_its_rows_are_short(rt: HostRuntime) -> Result<(), Fail> {
     for (rows, stores, short) in rows {
         let log = growing_log(rt.alloc(), stores)?;
         let want = short_text(rt.alloc(), stores, short)?;
-        let text = text_over::<Engine<PlainRows>>(&rt, rt.alloc(), log.as_str(), rows)?;
+        let text = text_in_rows(&rt, rt.alloc(), log.as_str(), rows)?;
         assert_eq!(rt; text.as_slice(), want.as_bytes(), "{rows}");
     }
     Ok(())

@@ -1,30 +1,8 @@
-//! Logs of several trees, of phases and of many calls, answered by the program and by lists alike.
+//! Logs of one lane: of several trees, of phases and of many calls, answered by the program and by lists alike.
 
-use crate::tests::played::text_over;
-use crate::tests::{NEVER, run, source, steps};
-use mt_base::MOST_ROWS;
-use mt_list::ListMap;
-use std::alloc::{AllocError, Global};
-use std::process::Abort;
-use std::sync::Wait;
+use crate::tests::{expect_text, steps};
+use std::alloc::AllocError;
 use std::test::Fail;
-use std::thread::Threads;
-
-/// The program and lists both answer the log by this text.
-fn expect_text<R: Threads + Wait + Sync + AllocGlobal + Abort>(
-    rt: &R,
-    log: &str,
-    text: &str,
-) -> Result<(), Fail> {
-    let mut src = source(rt.alloc(), log, NEVER)?;
-    let ending = run(rt, &["replay"], &mut src, 1 << 16, 256)?;
-    assert_eq!(rt; ending.status, 0, "{log}");
-    assert_eq!(rt; ending.out.bytes(), text.as_bytes(), "{log}");
-    assert_eq!(rt; ending.err.bytes(), b"".as_slice(), "{log}");
-    let listed = text_over::<ListMap>(rt, rt.alloc(), log, MOST_ROWS)?;
-    assert_eq!(rt; listed.as_slice(), text.as_bytes(), "{log}");
-    Ok(())
-}
 
 #[test]
 fn trees_are_called_each_by_itself(rt: HostRuntime) -> Result<(), Fail> {
@@ -43,11 +21,6 @@ fn trees_are_called_each_by_itself(rt: HostRuntime) -> Result<(), Fail> {
             "tree a range\npstore a 10 10 5\npstore a 5 4 1\npstore a 10 10 7\n",
             "3 1 ok\n4 2 invalid\n5 3 ok\ntree a range 1\n10 10 7\n",
         ),
-        (
-            "tree a range\nlane 1\ntree b range\nstore a 0 9 1\nlane 15\nstore b 0 9 2\nlane 1\nload a 9\njoin\nload a 0\n",
-            "5 1 ok\n7 1 ok\n9 1 1 entry 1\n11 1 1 entry 1\n\
-             tree a range 1\n0 9 1\ntree b range 1\n0 9 2\n",
-        ),
     ];
     for (lines, text) in rows {
         let log = format!(in rt.alloc(); "mtlog 1\n{lines}")?;
@@ -57,16 +30,24 @@ fn trees_are_called_each_by_itself(rt: HostRuntime) -> Result<(), Fail> {
 }
 
 /// Adds lines that store 1 at each of the first even indexes.
-fn push_stores(log: &mut String, stores: u32) -> Result<(), AllocError> {
+pub fn push_stores(log: &mut String, tree: &str, stores: u32) -> Result<(), AllocError> {
     for n in 0..stores {
         let index = 2 * u64::from(n);
-        writeln!(log, "store a {index} {index} 1")?;
+        writeln!(log, "store {tree} {index} {index} 1")?;
     }
     Ok(())
 }
 
-/// Adds that calls, from this number on and on this line, were each answered so.
-fn push_said(
+/// Adds lines that erase what is at each of the first 17 even indexes.
+pub fn push_erases(log: &mut String, tree: &str) -> Result<(), AllocError> {
+    for n in 0..17_u8 {
+        writeln!(log, "erase {tree} {}", 2 * u64::from(n))?;
+    }
+    Ok(())
+}
+
+/// Adds that calls, from this number on and from this line on, were each answered so.
+pub fn push_said(
     text: &mut String,
     line: u32,
     call: u32,
@@ -86,11 +67,9 @@ fn push_said(
 #[test]
 fn a_tree_is_lawful_where_it_grew_and_where_it_is_empty_again(rt: HostRuntime) -> Result<(), Fail> {
     let mut log = steps(rt.alloc(), "")?;
-    push_stores(&mut log, 17)?;
+    push_stores(&mut log, "a", 17)?;
     log.push_str("join\ncheck a\n")?;
-    for n in 0..17_u8 {
-        writeln!(log, "erase a {}", 2 * u64::from(n))?;
-    }
+    push_erases(&mut log, "a")?;
     log.push_str("join\ncheck a\n")?;
     let mut text = String::new(rt.alloc());
     push_said(&mut text, 3, 1, 17, "ok")?;
@@ -103,7 +82,7 @@ fn a_tree_is_lawful_where_it_grew_and_where_it_is_empty_again(rt: HostRuntime) -
 #[test]
 fn a_store_over_a_thousand_ranges_leaves_one(rt: HostRuntime) -> Result<(), Fail> {
     let mut log = steps(rt.alloc(), "")?;
-    push_stores(&mut log, 1000)?;
+    push_stores(&mut log, "a", 1000)?;
     log.push_str("store a 0 max 8\n")?;
     let mut text = String::new(rt.alloc());
     push_said(&mut text, 3, 1, 1001, "ok")?;
@@ -114,7 +93,7 @@ fn a_store_over_a_thousand_ranges_leaves_one(rt: HostRuntime) -> Result<(), Fail
 #[test]
 fn each_range_finds_the_one_above_and_itself(rt: HostRuntime) -> Result<(), Fail> {
     let mut log = steps(rt.alloc(), "")?;
-    push_stores(&mut log, 17)?;
+    push_stores(&mut log, "a", 17)?;
     let mut text = String::new(rt.alloc());
     push_said(&mut text, 3, 1, 17, "ok")?;
     for n in 0..16_u8 {
