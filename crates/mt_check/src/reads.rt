@@ -2,7 +2,7 @@
 
 ghost use Rattle.std.specs.Prelude.{◌≡◌, ◌↔◌, ◌+◌, ◌<◌, true, Some, IsSome, IfSome, length, slice_get};
 ghost use Rattle.mt_base.specs.Width.{columns};
-ghost use Rattle.mt_layout.specs.Columns.{IsLayout, items_at, RiseFrom};
+ghost use Rattle.mt_layout.specs.Columns.{items_at, RiseFrom};
 ghost use Rattle.mt_layout.specs.Sizes.{slots_of, gaps_of};
 ghost use Rattle.mt_layout.specs.Spans.{spans_from};
 ghost use Rattle.mt_rows.specs.Sheet.{IsPlace, OnlyReads};
@@ -12,7 +12,7 @@ ghost use Rattle.mt_check.specs.Reads.{holds_items};
 
 use arrayvec::ArrayVec;
 use mt_base::{Width, cols};
-use mt_layout::{Item, Layout, MOST_SLOTS, MOST_WORDS, RowKind, Span};
+use mt_layout::{Item, MOST_SLOTS, MOST_WORDS, RowKind, Span, items_of, words_of};
 use mt_rows::Rows;
 
 pub(crate) type Words = ArrayVec<u64, MOST_WORDS>;
@@ -45,34 +45,8 @@ fn rise_to(items: &[Item], first: u64, last: u64) -> bool
     }
 }
 
-/// The items of a row of this layout with these words, where they rise from one index to another and no other column holds
-/// anything.
-#[tactic(auto, using(crate::proofs::Layouts::fit_of))]
-fn read_items<const SLOTS: usize, const GAPS: usize>(
-    words: &[u64],
-    first: u64,
-    last: u64,
-) -> Option<Items>
-    requires { IsLayout (length words.now) SLOTS GAPS }
-    ensures is { IsSome result ↔ (holds_items SLOTS GAPS words.now first last ≡ true) }
-    ensures items { IfSome result (λ r. r.items ≡ items_at SLOTS GAPS words.now 0 last) }
-{
-    let items = Layout::<SLOTS, GAPS>::items_of(words, last);
-    if !rise_to(items.as_slice(), first, last) {
-        return None;
-    }
-    let mut written = [0; MOST_WORDS];
-    let written = &mut written[..words.len()];
-    Layout::<SLOTS, GAPS>::words_of(items.as_slice(), words[0], written);
-    if words != written {
-        return None;
-    }
-    Items::try_from(items.as_slice()).ok()
-}
-
 /// The items of a row of this kind with these words, where they rise from one index to another and no other column holds
 /// anything.
-#[tactic(auto, using(crate::proofs::Layouts::only_long))]
 pub(crate) fn items_in(
     width: Width,
     kind: RowKind,
@@ -84,11 +58,17 @@ pub(crate) fn items_in(
     ensures is { IsSome result ↔ (holds_items (slots_of width kind) (gaps_of width kind) words.now first last ≡ true) }
     ensures items { IfSome result (λ r. r.items ≡ items_at (slots_of width kind) (gaps_of width kind) words.now 0 last) }
 {
-    match (width, kind) {
-        (Width::Long, RowKind::Leaf) => read_items::<16, 0>(words, first, last),
-        (Width::Long, RowKind::Inner) => read_items::<16, 0>(words, first, last),
-        (Width::Long, RowKind::Gapped) => read_items::<10, 10>(words, first, last),
+    let items = items_of(width, kind, words, last);
+    if !rise_to(items.as_slice(), first, last) {
+        return None;
     }
+    let mut written = [0; MOST_WORDS];
+    let written = &mut written[..words.len()];
+    words_of(width, kind, items.as_slice(), words[0], written);
+    if words != written {
+        return None;
+    }
+    Some(items)
 }
 
 /// The index behind an item, where another item follows it.

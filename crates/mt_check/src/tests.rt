@@ -138,11 +138,11 @@ fn trees_are_checked(rt: HostRuntime) -> Result<(), Fail> {
     expect_answers! { &rt;
         LONE, 4108, Range => form(1, 1, 1);
         LONE, 0, Range => form(0, 0, 0);
-        ELEVEN, 4124, Alloc => form(2, 3, 11);
     }
     Ok(())
 }
 
+/// One word breaks a law; the last words are lawful as they stand.
 #[test]
 fn broken_words_are_found(rt: HostRuntime) -> Result<(), Fail> {
     expect_answers! { &rt;
@@ -153,6 +153,21 @@ fn broken_words_are_found(rt: HostRuntime) -> Result<(), Fail> {
         LONE [16, 17] = 6, 4108, Range => fault(16, Law::Entries);
         LONE [16, 17] = 0, 4108, Range => fault(16, Law::Holes);
         ELEVEN [16, 21] = 0, 4124, Alloc => fault(16, Law::Gaps);
+        ELEVEN, 4124, Alloc => form(2, 3, 11);
+    }
+    Ok(())
+}
+
+/// Of two broken laws the first is told.
+#[test]
+fn first_faults_are_told(rt: HostRuntime) -> Result<(), Fail> {
+    expect_answers! { &rt;
+        LONE [16, 0] = 2, 4109, Range => fault(0, Law::Name);
+        LONE [16, 3] = 6, 4109, Range => fault(0, Law::Name);
+        ONE_CHILD [16, 0] = 2, 4116, Range => fault(16, Law::Parent);
+        ONE_CHILD [16, 1] = 9, 4116, Range => fault(16, Law::Pivots);
+        ELEVEN [18, 0] = 2, 4124, Range => fault(0, Law::Name);
+        UNEVEN [16, 21] = 0, 4124, Alloc => fault(19, Law::Depth);
     }
     Ok(())
 }

@@ -1,12 +1,11 @@
-use Rattle.std.proofs.Common.{rules}
-use Rattle.mt_check.proofs.Layouts.{leaf_slots, leaf_gaps, inner_slots, inner_gaps, gapped_slots, gapped_gaps}
+use Rattle.std.proofs.Common.{◌≡◌, true, ap, ◌∙◌, sym, rules}
+use Rattle.mt_check.specs.RowTests.{rise_to}
+use Rattle.mt_check.proofs.Layouts.{fit_of}
 use Rattle.mt_check.proofs.reads.items_in.Goals as goal
 
-pub returns-in-Long-Leaf : goal.returns-in-Long-Leaf
-returns-in-Long-Leaf c = rw (c.in-Long-Leaf.is-1, leaf_slots c.args.width, leaf_gaps c.args.width) (search rules)
-
-pub returns-in-Long-Inner : goal.returns-in-Long-Inner
-returns-in-Long-Inner c = rw (c.in-Long-Inner.is-1, inner_slots c.args.width, inner_gaps c.args.width) (search rules)
-
-pub returns-in-Long-Gapped : goal.returns-in-Long-Gapped
-returns-in-Long-Gapped c = rw (c.in-Long-Gapped.is-1, gapped_slots c.args.width, gapped_gaps c.args.width) (search rules)
+pub words_of-requires-clause-fit : goal.words_of-requires-clause-fit
+words_of-requires-clause-fit c =
+    let items = c.as_slice-2.result.now in
+    let risen : c.rise_to.result ≡ true = search rules in
+    let rise : rise_to c.args.first c.args.last items ≡ true = ap (rise_to c.args.first c.args.last) (c.as_slice-2.ensures.value ∙ sym c.as_slice.ensures.value) ∙ (sym c.rise_to.ensures ∙ risen) in
+    fit_of c.args.width c.args.kind c.args.first c.args.last c.args.words.now items (c.as_slice-2.ensures.value ∙ c.items_of-items.ensures) rise
