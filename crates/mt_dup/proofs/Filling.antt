@@ -1,7 +1,11 @@
 -- A book whose rows are taken one by one.
-use Rattle.std.proofs.Common.{◌≡◌, ℕ, zero, suc, ◌+◌, [], ◌∷◌, ◌++◌, length, refl, sym, ap, ◌∙◌, arith, length-append}
+use Rattle.std.proofs.Common.{◌≡◌, ◌≢◌, ℕ, zero, suc, ◌+◌, ◌<◌, ◌≤◌, List, [], ◌∷◌, ◌++◌, length, map, refl, sym, ap, ◌∙◌, subst, arith, length-append, append-nil}
+use Rattle.std.specs.List.{All, AllPairs}
 use Rattle.std.proofs.lemmas.List.{same_from_push}
-use Rattle.mt_free.specs.Book.{Book}
+use Rattle.std.proofs.lemmas.List.Elements.{All-nil, All-cons, All-weaker}
+use Rattle.std.proofs.lemmas.List.Kept.{AllPairs-cons}
+use Rattle.mt_base.specs.Width.{most_rows}
+use Rattle.mt_free.specs.Book.{Held, Book, IsBook, IsRowOf}
 use Rattle.mt_dup.specs.Filling.{rows_above, next_row, IsFilling, HasTaken}
 
 -- the least of the rows is the last
@@ -44,3 +48,30 @@ module _ (b b' : Book) (row : ℕ) (filling : IsFilling b) (taken : b ≡ record
     rows = sym rows_same;
     taken = one_less;
   }
+
+-- ---- such a book is one
+
+rows_within : (low n : ℕ) → All (λ r. (low ≤ r) × (r < low + n)) (rows_above low n)
+rows_within low zero = All-nil (λ r. (low ≤ r) × (r < low + zero))
+rows_within low (suc n) =
+    All-cons (λ r. (low ≤ r) × (r < low + suc n)) (low + n) (rows_above low n) (omega arith, omega arith)
+    (All-weaker (λ r. (low ≤ r) × (r < low + n)) (λ r. (low ≤ r) × (r < low + suc n)) (λ r within. (within.0, omega (arith, within.1))) (rows_above low n) (rows_within low n))
+
+rows_apart : (low n : ℕ) → AllPairs (λ r s. r ≢ s) (rows_above low n)
+rows_apart low zero = λ i j d lt within. absurd (omega arith)
+rows_apart low (suc n) =
+    AllPairs-cons (λ r s. r ≢ s) (low + n) (rows_above low n) (All-weaker (λ r. (low ≤ r) × (r < low + n)) (λ r. low + n ≢ r) (λ r within is. omega (arith, within.1, is)) (rows_above low n) (rows_within low n)) (rows_apart low n)
+
+pub filling_is_book : (b : Book) → b.rows ≤ most_rows → IsFilling b → IsBook b
+filling_is_book b few filling = record {
+  few = few;
+  counted = let none = ap (λ (l : List Held). length l) filling.held in let fit = filling.fit in omega arith;
+  free_rows =
+      subst (All (IsRowOf b)) (sym filling.free)
+      (All-weaker (λ r. (next_row b ≤ r) × (r < next_row b + length b.free)) (IsRowOf b) (λ r within. (omega (arith, within.0), let fit = filling.fit in omega (arith, within.1))) (rows_above (next_row b) (length b.free)) (rows_within (next_row b) (length b.free)));
+  waiting_rows = subst (All (λ (h : Held). IsRowOf b h.row)) (sym filling.held) (All-nil (λ (h : Held). IsRowOf b h.row));
+  once =
+      subst (AllPairs (λ (r s : ℕ). r ≢ s)) (sym (ap (λ (l : List Held). b.free ++ map (λ (h : Held). h.row) l) filling.held ∙ (append-nil b.free ∙ filling.free)))
+      (rows_apart (next_row b) (length b.free));
+  in_order = subst (AllPairs (λ (g h : Held). g.stamp ≤ h.stamp)) (sym filling.held) (λ i j d lt within. absurd (omega arith));
+}

@@ -5,7 +5,7 @@ use Rattle.std.specs.List.{Contains}
 use Rattle.std.proofs.lemmas.Bool.{cases_lt}
 use Rattle.mt_base.specs.declared.kinds.Kind.{Kind}
 use Rattle.mt_base.specs.declared.widths.Width.{Width}
-use Rattle.mt_base.specs.Width.{columns, first_row}
+use Rattle.mt_base.specs.Width.{columns, first_row, most_rows}
 use Rattle.mt_free.specs.Book.{Book, rows_down, new_book, held_rows, Held, IsOut}
 use Rattle.mt_rows.specs.declared.rows.Life.TheVariants.{New}
 use Rattle.mt_rows.specs.Spans.{column}
@@ -14,7 +14,7 @@ use Rattle.mt_rows.specs.Sheet.{Sheet, life_of}
 use Rattle.mt_rows.specs.Publish.{is_reached, IsReached, IsTold, MayPlant}
 use Rattle.mt_dup.specs.Copy.{IsNewBut, IsBookOfCopy}
 use Rattle.mt_dup.specs.Filling.{rows_above, next_row, IsFilling, HasTaken, IsOpen, IsOutside, IsWritten}
-use Rattle.mt_dup.proofs.Filling.{length-rows_above}
+use Rattle.mt_dup.proofs.Filling.{length-rows_above, filling_is_book}
 use Rattle.mt_dup.proofs.Going.{next_after}
 use Rattle.mt_dup.proofs.WholeCopies.{copied_to, Facts}
 use Rattle.mt_dup.proofs.WrittenRows.{one_width, written_rows}
@@ -151,5 +151,5 @@ module _ (kind : Kind) (s d₀ d : Sheet) (b₀ b : Book) (n root count : ℕ) (
       none_there : (row : ℕ) → Contains {X = ℕ} [] row → ⊥
       none_there row (k, within, is) = omega arith
 
-  pub book_of_copy : IsBookOfCopy (copied_to d root) b
-  book_of_copy = record { rows = rows_are ∙ sym many; live = λ row. (out_reached row, reached_out row); held = taken.filling.held }
+  pub book_of_copy : n ≤ most_rows → IsBookOfCopy (copied_to d root) b
+  book_of_copy few = record { whole = filling_is_book b (omega (arith, rows_are)) taken.filling; rows = rows_are ∙ sym many; live = λ row. (out_reached row, reached_out row); held = taken.filling.held }

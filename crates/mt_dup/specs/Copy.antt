@@ -2,7 +2,7 @@
 -- Source: the kernel's lib/maple_tree.c, __mt_dup, which copies each node and then writes the new addresses into it.
 use Rattle.std.specs.Prelude.{◌≡◌, ◌↔◌, ℕ, ◌*◌, ◌%◌, ◌<◌, ◌≤◌, false, Some, [], map}
 use Rattle.mt_base.specs.Width.{columns}
-use Rattle.mt_free.specs.Book.{Book, IsOut}
+use Rattle.mt_free.specs.Book.{Book, IsBook, IsOut}
 use Rattle.mt_layout.specs.declared.names.RowKind.{RowKind}
 use Rattle.mt_layout.specs.declared.names.RowKind.TheVariants.{Leaf, Inner, Gapped}
 use Rattle.mt_layout.specs.declared.spans.Span.{Span}
@@ -52,6 +52,7 @@ pub record IsNewBut (t' : Rooted) (rows : ℕ) (s : Sheet) : Type 0 where
 
 -- a book whose live rows are just those that are reached, and which holds none
 pub record IsBookOfCopy (t' : Rooted) (book : Book) : Type 0 where
+  pub whole : IsBook book
   pub rows : book.rows ≡ t'.rows
   pub live : (row : ℕ) → IsOut book row ↔ IsReached t' row
   pub held : book.held ≡ []

@@ -1,6 +1,6 @@
 use Rattle.std.proofs.Common.{◌≡◌, ◌≤◌, List, ℕ, length, sym, ap, ◌∙◌, subst, arith}
 use Rattle.mt_base.specs.declared.kinds.Kind.{Kind}
-use Rattle.mt_base.specs.Width.{first_row}
+use Rattle.mt_base.specs.Width.{first_row, most_rows}
 use Rattle.mt_free.specs.Book.{Book, new_book}
 use Rattle.mt_rows.specs.Memory.{sheet_in}
 use Rattle.mt_rows.specs.PlainWhole.{rows_whole}
@@ -128,7 +128,8 @@ returns-clause-book g c =
     let room : length (all_names s) ≤ d.tree.rows = (let asked = c.requires.room in omega (arith, rows, many, free, new_long b₀.rows)) in
     let told : (kind : Kind) → IsLawfulOf s.tree kind → Facts kind s d c.copy_row.result (length (all_names s)) =
     λ kind lawful. facts_of s s₁ c.root.result reads c.root.ensures.word kind d (next_row b₀) c.copy_row.result (g.met.R.Rows.whole c.args.src.now) (rows_whole c.copy_row.new.dst) lawful room begins c.copy_row.ensures.copy in
-    book_of_copy c.requires.lawful.0 s d₀ d b₀ b b₀.rows c.copy_row.result (length (all_names s)) c.requires.rows c.requires.book (told c.requires.lawful.0 c.requires.lawful.1) taken c.copy_row.ensures.written
+    let few : b₀.rows ≤ most_rows = (let whole = (rows_whole c.args.dst.now).few in let same = ap (λ (x : Sheet). x.tree.rows) c.requires.rows in omega (arith, whole, same)) in
+    book_of_copy c.requires.lawful.0 s d₀ d b₀ b b₀.rows c.copy_row.result (length (all_names s)) c.requires.rows c.requires.book (told c.requires.lawful.0 c.requires.lawful.1) taken c.copy_row.ensures.written few
 
 pub returns-clause-steps : goal.returns-clause-steps
 returns-clause-steps g c =

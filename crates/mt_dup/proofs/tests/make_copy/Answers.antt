@@ -1,4 +1,4 @@
-use Rattle.std.proofs.Common.{◌≡◌, ◌<◌, ◌≤◌, length, refl, ap, ◌∙◌, arith, rules}
+use Rattle.std.proofs.Common.{◌≡◌, ◌≤◌, length, refl, ap, ◌∙◌, arith, rules}
 use Rattle.mt_free.specs.Book.{Book}
 use Rattle.mt_rows.specs.Memory.{sheet_in}
 use Rattle.mt_rows.specs.Sheet.{Sheet}
