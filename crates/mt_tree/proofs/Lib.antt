@@ -5,4 +5,5 @@ pub mod OneCall
 pub mod Opening
 pub mod Preparing
 pub mod Reading
+pub mod Returned
 pub mod Settling

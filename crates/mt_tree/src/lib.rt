@@ -6,6 +6,7 @@ mod copies;
 mod locked;
 mod make;
 mod settle;
+mod shaped;
 mod shapes;
 #[cfg(test)]
 mod tests;

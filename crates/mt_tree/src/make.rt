@@ -9,7 +9,7 @@ ghost use Rattle.mt_rule.specs.Tokens.{identity_of, pass_in, IsPassOf};
 ghost use Rattle.mt_rule.specs.Turns.{served, IsSeatedAt};
 ghost use Rattle.mt_tree.specs.declared.shapes.Field.{Field};
 ghost use Rattle.mt_tree.specs.Shapes.{first_bad};
-ghost use Rattle.mt_tree.specs.Trees.{limit_of, opened, passes_of, IsNew};
+ghost use Rattle.mt_tree.specs.Trees.{IsNew};
 
 use crate::behind::Desk;
 use crate::shapes::{MakeError, Shape};
@@ -22,17 +22,6 @@ use mt_rule::{MtTable, Pass, Turn};
 use std::alloc::Global;
 
 impl Tree {
-    /// What the tree was made of.
-    pub fn shape(&self) -> Shape
-        ensures kind { result.kind ≡ (opened self.now).kind }
-        ensures rows { result.rows ≡ (opened self.now).rows }
-        ensures passes { result.passes ≡ passes_of self.now }
-        ensures calls { result.calls ≡ limit_of self.now }
-        ensures in_range { first_bad result ≡ None }
-    {
-        self.shape
-    }
-
     /// An empty tree, and its passes, numbered from 0. A shape that is out of range is refused before any memory is taken, by its
     /// first field that is.
     pub fn make(alloc: Global, shape: Shape) -> Result<(Tree, Vec<Pass>), MakeError>
