@@ -4,8 +4,8 @@ ghost use Rattle.mt_base.specs.declared.kinds.Kind.TheVariants as kinds;
 
 mod areas;
 mod drawn;
-mod gapped;
 mod prepared;
+mod replaced;
 mod watched;
 
 use crate::Engine;

@@ -1,4 +1,4 @@
-//! Stores into trees for allocation: the rows that each takes and leaves, and the gap words behind it.
+//! Stores into trees of each kind: the rows that each takes and leaves, and the gap words behind it.
 
 ghost use Rattle.std.specs.Prelude.{◌≡◌, ◌<◌, ◌+◌, ◌-◌, ◌^◌, ◌≤◌, length};
 ghost use Rattle.mt_rows.specs.Memory.{sheet_in};
@@ -67,11 +67,16 @@ struct Tree {
     rows: Vec<u32>,
 }
 
-/// The tree behind these stores into the empty one, all of whose gap words are right.
-fn tree_after(rt: &impl Abort, alloc: Global, stores: &[Call]) -> Result<Tree, NoMemory>
+/// The tree of this kind behind these stores into the empty one, all of whose gap words are right.
+fn tree_after(
+    rt: &impl Abort,
+    alloc: Global,
+    kind: Kind,
+    stores: &[Call],
+) -> Result<Tree, NoMemory>
     requires { length stores.now < 2 ^ 32 }
 {
-    let mut engine = fresh_of(alloc, Kind::Alloc, ROWS)?;
+    let mut engine = fresh_of(alloc, kind, ROWS)?;
     for call in stores {
         assert_eq!(rt; engine.apply(call), Reply::Ok, "at {call:?}");
     }
@@ -108,21 +113,22 @@ fn count_others(these: &[u32], those: &[u32]) -> usize {
     these.iter().filter(|row| !those.contains(row)).count()
 }
 
-/// Tries each of these stores on a tree of its own, into which the stores `before` were made.
+/// Tries each of these stores on a tree of its own of this kind, into which the stores `before` were made.
 fn expect_each(
     rt: &impl Abort,
     alloc: Global,
+    kind: Kind,
     before: &[Call],
     cases: &[(Call, Shape)],
 ) -> Result<(), NoMemory> {
     assert!(rt; before.len() < 1000);
-    let old = tree_after(rt, alloc, before)?;
+    let old = tree_after(rt, alloc, kind, before)?;
     for (call, want) in cases {
         let mut stores = Vec::new(alloc);
         stores.extend_from_slice(before)?;
         stores.push(*call)?;
         assert!(rt; stores.len() <= 1000);
-        let new = tree_after(rt, alloc, stores.as_slice())?;
+        let new = tree_after(rt, alloc, kind, stores.as_slice())?;
         let shape = Shape {
             at_root: new.root != old.root,
             height: new.height,
@@ -130,7 +136,7 @@ fn expect_each(
             taken: count_others(new.rows.as_slice(), old.rows.as_slice()),
             gone: count_others(old.rows.as_slice(), new.rows.as_slice()),
         };
-        assert_eq!(rt; shape, *want, "after {call:?}");
+        assert_eq!(rt; shape, *want, "{kind:?} after {call:?}");
     }
     Ok(())
 }
@@ -179,13 +185,24 @@ fn tens(alloc: Global, count: u64) -> Result<Vec<Call>, NoMemory>
     Ok(calls)
 }
 
+/// Tries each of these stores on trees of both kinds, which have the same rows.
+fn expect_both(
+    rt: &impl Abort,
+    alloc: Global,
+    before: &[Call],
+    cases: &[(Call, Shape)],
+) -> Result<(), NoMemory> {
+    expect_each(rt, alloc, Kind::Range, before, cases)?;
+    expect_each(rt, alloc, Kind::Alloc, before, cases)
+}
+
 #[test]
 fn no_leaf_and_one_are_replaced(rt: HostRuntime) -> Result<(), Fail> {
     let empty = [
         (store(5, 5, 1), at_root(1, 1, 1, 0)),
         (store(0, TOP, 8), at_root(1, 1, 1, 0)),
     ];
-    expect_each(&rt, rt.alloc(), &[], &empty)?;
+    expect_both(&rt, rt.alloc(), &[], &empty)?;
     // one leaf, of 16 items
     let leaf = [
         // its items are others
@@ -197,7 +214,7 @@ fn no_leaf_and_one_are_replaced(rt: HostRuntime) -> Result<(), Fail> {
         (store(0, TOP, 0), at_root(0, 0, 0, 1)),
         (store(0, TOP, 8), at_root(1, 1, 1, 1)),
     ];
-    expect_each(&rt, rt.alloc(), singles(rt.alloc(), 8)?.as_slice(), &leaf)?;
+    expect_both(&rt, rt.alloc(), singles(rt.alloc(), 8)?.as_slice(), &leaf)?;
     Ok(())
 }
 
@@ -225,10 +242,18 @@ fn leaves_below_a_root_are_replaced(rt: HostRuntime) -> Result<(), Fail> {
         (store(0, TOP, 0), at_root(0, 0, 0, 5)),
         (store(0, TOP, 8), at_root(1, 1, 1, 5)),
     ];
-    expect_each(&rt, rt.alloc(), singles(rt.alloc(), 23)?.as_slice(), &cases)?;
-    // a root of 10 leaves, of which the last has 15 items
-    let grown = [(store(106, 106, 1), at_root(3, 14, 5, 2))];
-    expect_each(&rt, rt.alloc(), singles(rt.alloc(), 53)?.as_slice(), &grown)?;
+    expect_both(&rt, rt.alloc(), singles(rt.alloc(), 23)?.as_slice(), &cases)?;
+    Ok(())
+}
+
+#[test]
+fn full_roots_are_split(rt: HostRuntime) -> Result<(), Fail> {
+    // a root of as many leaves as it has slots, of which the last has 15 items
+    for (kind, count, at, live) in [(Kind::Range, 83, 166, 20), (Kind::Alloc, 53, 106, 14)] {
+        let grown = [(store(at, at, 1), at_root(3, live, 5, 2))];
+        let before = singles(rt.alloc(), count)?;
+        expect_each(&rt, rt.alloc(), kind, before.as_slice(), &grown)?;
+    }
     Ok(())
 }
 
@@ -240,12 +265,39 @@ fn two_leaves_are_split_in_three(rt: HostRuntime) -> Result<(), Fail> {
         before.push(store(at, at, 1))?;
     }
     let cases = [(store(109, 110, 9), at_root(2, 5, 4, 3))];
-    expect_each(&rt, rt.alloc(), before.as_slice(), &cases)?;
+    expect_both(&rt, rt.alloc(), before.as_slice(), &cases)?;
     Ok(())
 }
 
 #[test]
-fn rows_of_three_levels_are_replaced(rt: HostRuntime) -> Result<(), Fail> {
+fn range_rows_of_three_levels_are_replaced(rt: HostRuntime) -> Result<(), Fail> {
+    // two inner rows, of 11 leaves and of 12; the last leaf has 15 items
+    let cases = [
+        // in place
+        (store(1, 1, 9), in_slot(3, 26, 1, 1)),
+        (store(0, 0, 9), in_slot(3, 26, 0, 0)),
+        // the last leaf is split in two, below the same root
+        (store(236, 236, 1), in_slot(3, 27, 3, 2)),
+        // the second leaf goes, and the first takes the items of the third
+        (store(2, 20, 0), in_slot(3, 24, 2, 4)),
+        // the first inner row has too few leaves, and takes those of the row behind: two new ones
+        (store(0, 64, 3), at_root(3, 20, 4, 10)),
+        // the second inner row has too few leaves, and takes those of the row before: one, which is the root
+        (store(130, 210, 0), at_root(2, 16, 3, 13)),
+        // leaves of both inner rows go: two levels are left
+        (store(8, 160, 5), at_root(2, 9, 2, 19)),
+        // two levels are lost
+        (store(1, 234, 0), at_root(1, 1, 1, 26)),
+        (store(0, TOP, 0), at_root(0, 0, 0, 26)),
+        (store(0, TOP, 8), at_root(1, 1, 1, 26)),
+    ];
+    let before = singles(rt.alloc(), 118)?;
+    expect_each(&rt, rt.alloc(), Kind::Range, before.as_slice(), &cases)?;
+    Ok(())
+}
+
+#[test]
+fn allocation_rows_of_three_levels_are_replaced(rt: HostRuntime) -> Result<(), Fail> {
     // two inner rows, of 7 leaves and of 9; the last leaf has 15 items
     let cases = [
         // in place
@@ -268,6 +320,7 @@ fn rows_of_three_levels_are_replaced(rt: HostRuntime) -> Result<(), Fail> {
         (store(0, TOP, 0), at_root(0, 0, 0, 19)),
         (store(0, TOP, 8), at_root(1, 1, 1, 19)),
     ];
-    expect_each(&rt, rt.alloc(), singles(rt.alloc(), 83)?.as_slice(), &cases)?;
+    let before = singles(rt.alloc(), 83)?;
+    expect_each(&rt, rt.alloc(), Kind::Alloc, before.as_slice(), &cases)?;
     Ok(())
 }
