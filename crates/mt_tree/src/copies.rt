@@ -62,8 +62,6 @@ fn copy_into<L: Ledger>(blank: Blank, src: &mut PlainRows, dst: &mut PlainRows, 
     let mut steps = Steps::<L>::new(blank);
     let root = copy_rows(src, dst, book, &mut steps);
     dst.plant(root);
-    // Any use of the book tells that it is whole.
-    let _ = book.rows();
 }
 
 /// Copies a tree into new rows, where they are as many as it has in use. Answers how many it has.

@@ -16,5 +16,5 @@ plant-requires g c = (c.requires.lawful.0, c.copy_rows-root.ensures.lawful c.req
 
 pub returns-clause-copy : goal.returns-clause-copy
 returns-clause-copy g c = λ kind lawful.
-    ready kind c.args.book.now.rows (sheet_in c.copy_rows-root.new.dst) (sheet_in c.plant.new.self) c.copy_rows-root.result c.copy_rows-root.new.book c.rows.ensures.book
+    ready kind c.args.book.now.rows (sheet_in c.copy_rows-root.new.dst) (sheet_in c.plant.new.self) c.copy_rows-root.result c.copy_rows-root.new.book c.copy_rows-root.ensures.book.whole
     (c.copy_rows-root.ensures.lawful kind lawful) c.copy_rows-root.ensures.rows c.copy_rows-root.ensures.book c.plant.ensures _ c.copy_rows-root.ensures.map
