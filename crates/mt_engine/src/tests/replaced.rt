@@ -68,12 +68,7 @@ struct Tree {
 }
 
 /// The tree of this kind behind these stores into the empty one, all of whose gap words are right.
-fn tree_after(
-    rt: &impl Abort,
-    alloc: Global,
-    kind: Kind,
-    stores: &[Call],
-) -> Result<Tree, NoMemory>
+fn tree_after(rt: &impl Abort, alloc: Global, kind: Kind, stores: &[Call]) -> Result<Tree, NoMemory>
     requires { length stores.now < 2 ^ 32 }
 {
     let mut engine = fresh_of(alloc, kind, ROWS)?;
