@@ -5,5 +5,4 @@ pub mod OneCall
 pub mod Opening
 pub mod Preparing
 pub mod Reading
-pub mod Returned
 pub mod Settling
