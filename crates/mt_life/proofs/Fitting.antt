@@ -1,0 +1,67 @@
+-- What is known of rows tells where each row that is reached stands.
+use Rattle.std.proofs.Common.{◌≡◌, ◌≢◌, ℕ, zero, suc, ◌≤◌, List, [], ◌∷◌, length, length-append, refl, sym, ap, ◌∙◌, subst, arith, Some}
+use Rattle.std.specs.List.{AllByRecursion}
+use Rattle.mt_base.specs.declared.kinds.Kind.{Kind}
+use Rattle.mt_base.specs.declared.kinds.Kind.TheVariants as trees
+use Rattle.mt_layout.specs.declared.names.RowKind.TheVariants as kinds
+use Rattle.mt_layout.specs.Rows.{row_in}
+use Rattle.mt_layout.specs.declared.spans.Span.{Span}
+use Rattle.mt_rows.specs.Spans.{Table, inner_kind, spans_in}
+use Rattle.mt_rows.specs.Levels.{expand, level, Levels}
+use Rattle.mt_rows.specs.Laws.{Tree, IsRow, Stands}
+use Rattle.mt_rows.specs.Publish.{tree_as}
+use Rattle.mt_rows.specs.Replacement.{root_of}
+use Rattle.mt_rows.proofs.Lists.{all_join}
+use Rattle.mt_rows.proofs.Heights.{level_rows}
+use Rattle.mt_rows.proofs.Depth.{some_least}
+use Rattle.mt_rows.proofs.Reached.{all_one_of, OnLevel}
+use Rattle.mt_life.specs.declared.views.Extent.{Extent}
+use Rattle.mt_life.specs.declared.views.Moment.{Moment}
+use Rattle.mt_life.specs.Known.{State, spans_at, IsLive, Child, Known}
+use Rattle.mt_life.proofs.Alike.{spans_named}
+
+inner_no_leaf : (kind : Kind) → Some (inner_kind kind) ≢ Some kinds.Leaf
+inner_no_leaf trees.Range = λ e. cc
+inner_no_leaf trees.Alloc = λ e. cc
+
+all_expand : (P : Span → Type 0) (t : Table) (xs : List Span) → AllByRecursion (λ (x : Span). AllByRecursion P (spans_in t x)) xs → AllByRecursion P (expand t xs)
+all_expand P t [] each = tt
+all_expand P t (x ∷ xs) each = all_join P (spans_in t x) (expand t xs) each.0 (all_expand P t xs each.1)
+
+module _ (kind : Kind) (s : State) (e : ℕ → Extent) (m : ℕ → Moment) (known : Known kind s e m) where
+  abbrev T : Tree
+  T = tree_as kind s.tree
+
+  abbrev pub Fits : ℕ → Span → Type 0
+  Fits level x = Child kind s.tree.rows s.lives e IsLive level x
+
+  -- what stands in a live inner row is known
+  pub children_known : (level : ℕ) (x : Span) → Fits (suc level) x → AllByRecursion (Fits level) (spans_in s.tree.table x)
+  children_known level x fits =
+      subst (AllByRecursion (Fits level)) (spans_named kind s.tree.table (suc level) x fits.named)
+      (subst (λ (n : Extent). AllByRecursion (Fits level) (spans_at kind s.tree.table (row_in x.word) n)) fits.extent
+      (known.live_inner (row_in x.word) level fits.has fits.life (ap (λ (n : Extent). n.level) fits.extent)))
+
+  all_children_known : (level : ℕ) (xs : List Span) → AllByRecursion (Fits (suc level)) xs → AllByRecursion (λ (x : Span). AllByRecursion (Fits level) (spans_in T.table x)) xs
+  all_children_known level [] fits = tt
+  all_children_known level (x ∷ xs) fits = (children_known level x fits.0, all_children_known level xs fits.1)
+
+  some_children : (h : ℕ) (x : Span) (xs : List Span) → IsRow T h x → 1 ≤ length (expand T.table (x ∷ xs))
+  some_children h x xs row = let some = some_least T h x in let least = row.count.least in omega (arith, length-append (spans_in T.table x) (expand T.table xs))
+
+  pub levels_fit : (h level : ℕ) (xs : List Span) → Levels (IsRow T) T.table h xs → AllByRecursion (Fits level) xs → 1 ≤ length xs → (level ≡ h) × Levels Fits T.table h xs
+  levels_fit zero zero xs rows fits some = (refl, fits)
+  levels_fit zero (suc level) [] rows fits some = absurd (omega arith)
+  levels_fit zero (suc level) (x ∷ xs) rows fits some = absurd (inner_no_leaf kind (sym fits.0.named ∙ rows.0.name.named))
+  levels_fit (suc h) level [] rows fits some = absurd (omega arith)
+  levels_fit (suc h) zero (x ∷ xs) rows fits some = absurd (inner_no_leaf kind (sym rows.0.0.name.named ∙ fits.0.named))
+  levels_fit (suc h) (suc level) (x ∷ xs) rows fits some =
+      let behind = levels_fit h level (expand T.table (x ∷ xs)) rows.1 (all_expand (Fits level) T.table (x ∷ xs) (all_children_known level (x ∷ xs) fits)) (some_children (suc h) x xs rows.0.0) in
+      (ap suc behind.0, (subst (λ (k : ℕ). AllByRecursion (Fits k) (x ∷ xs)) (ap suc behind.0) fits, behind.1))
+
+  -- each row that is reached is live, and stands where its extent says
+  pub all_fit : (h : ℕ) → Stands T h → s.tree.root ≢ 0 → Levels Fits T.table h (root_of T)
+  all_fit h stands some = let root = known.root some in (levels_fit h root.0 (root_of T) stands.rows (root.2, tt) (omega arith)).1
+
+  pub placed : (h : ℕ) → Stands T h → s.tree.root ≢ 0 → (k : ℕ) (x : Span) → OnLevel T.table h (root_of T) k x → Fits k x
+  placed h stands some k x on = all_one_of (Fits k) (level T.table on.depth (root_of T)) x (level_rows Fits T.table on.depth k h (root_of T) on.height (all_fit h stands some)) on.one
