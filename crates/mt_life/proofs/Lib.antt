@@ -1,6 +1,9 @@
 pub mod Alike
+pub mod Ends
 pub mod Fitting
 pub mod Following
+pub mod Holding
 pub mod Parts
 pub mod Reaching
 pub mod Staying
+pub mod Turning
