@@ -16,7 +16,7 @@ use Rattle.mt_rows.proofs.Between.{fills_split, Between, map_between}
 use Rattle.mt_rows.proofs.Heights.{level_next, map_of_split, levels_upper, level_rows, level_fills}
 use Rattle.mt_rows.proofs.Depth.{ranges_by_depth}
 use Rattle.mt_rows.proofs.Reached.{IsOneOf, parts_of_one, one_of_expand, OnLevel, words, height_is}
-use Rattle.mt_life.specs.Moments.{Cut, IsPart, PartOf, moment_of, first_of}
+use Rattle.mt_life.specs.Moments.{Cut, PartOf, moment_of, first_of}
 
 pub all_of_each : {A : Type 0} (P : A → Type 0) (xs : List A) → ((x : A) → IsOneOf x xs → P x) → AllByRecursion P xs
 all_of_each P [] f = tt

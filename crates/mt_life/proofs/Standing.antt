@@ -1,5 +1,5 @@
 -- Between calls of the rule the words stay a tree: a draft, a burying and a tending keep all laws but those of parents and gaps.
-use Rattle.std.proofs.Common.{◌≡◌, ◌≢◌, ℕ, zero, suc, ◌+◌, ◌*◌, ◌<◌, List, length, Some, refl, sym, ap, ◌∙◌, subst, inl, inr, ⊎_elim, arith}
+use Rattle.std.proofs.Common.{◌≡◌, ◌≢◌, ℕ, zero, suc, ◌<◌, List, length, Some, sym, ap, ◌∙◌, subst, inl, inr, ⊎_elim, arith}
 use Rattle.std.proofs.lemmas.Bool.{cases_eq}
 use Rattle.mt_base.specs.declared.kinds.Kind.{Kind}
 use Rattle.mt_base.specs.declared.kinds.Kind.TheVariants as trees
@@ -22,7 +22,7 @@ use Rattle.mt_rows.proofs.Joins.{Shared, levels_shared}
 use Rattle.mt_rows.proofs.RowLaws.{with_words, row_keeps}
 use Rattle.mt_life.specs.declared.views.Extent.{Extent}
 use Rattle.mt_life.specs.declared.views.Moment.{Moment}
-use Rattle.mt_life.specs.Known.{State, state_of, IsFull, spans_at, IsLive, Child, Known}
+use Rattle.mt_life.specs.Known.{state_of, IsFull, spans_at, IsLive, Child, Known}
 use Rattle.mt_life.proofs.Alike.{spans_named}
 use Rattle.mt_life.proofs.Fitting.{all_fit}
 use Rattle.mt_life.proofs.Writing.{gap_fits, gap_row, row_others, col_others}

@@ -9,7 +9,6 @@ use Rattle.mt_base.specs.Width.{columns}
 use Rattle.mt_layout.specs.Rows.{row_in}
 use Rattle.mt_layout.specs.declared.spans.Span.{Span}
 use Rattle.mt_layout.proofs.RowSizes.{some_columns, slot_above}
-use Rattle.mt_rows.specs.declared.rows.Life.{Life}
 use Rattle.mt_rows.specs.declared.rows.Place.{Place}
 use Rattle.mt_rows.specs.declared.rows.Place.TheVariants.{Root, Slot}
 use Rattle.mt_rows.specs.Spans.{Table, base_of, column, root_span}

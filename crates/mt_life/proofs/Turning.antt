@@ -4,12 +4,11 @@ use Rattle.std.proofs.lemmas.Bool.{cases_Bool}
 use Rattle.mt_base.specs.declared.kinds.Kind.{Kind}
 use Rattle.mt_base.specs.declared.calls.Call.{Call}
 use Rattle.mt_base.specs.declared.replies.Reply.{Reply}
-use Rattle.mt_base.specs.Width.{first_row}
 use Rattle.mt_rows.specs.declared.rows.Place.{Place}
 use Rattle.mt_rows.specs.declared.rows.Life.{Life}
 use Rattle.mt_rows.specs.declared.rows.Life.TheVariants.{New, Draft, Live, Dead}
 use Rattle.mt_rows.specs.Sheet.{Rooted, Sheet, life_of, is_buried}
-use Rattle.mt_rows.specs.Publish.{LiveAreReached, IsReached, is_reached, with_published, MayPublish, Published}
+use Rattle.mt_rows.specs.Publish.{LiveAreReached, is_reached, with_published, MayPublish, Published}
 use Rattle.mt_life.specs.Known.{Later, HasRow}
 use Rattle.mt_life.proofs.Staying.{true_false, same_rows}
 

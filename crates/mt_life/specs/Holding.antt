@@ -4,7 +4,6 @@ use Rattle.std.specs.Prelude.{◌≡◌, ℕ, ◌+◌, ◌<◌, ◌≤◌, Optio
 use Rattle.mt_base.specs.declared.kinds.Kind.{Kind}
 use Rattle.mt_base.specs.Width.{columns}
 use Rattle.mt_layout.specs.Rows.{row_in, named_kind}
-use Rattle.mt_layout.specs.declared.spans.Span.{Span}
 use Rattle.mt_rows.specs.declared.rows.Life.{Life}
 use Rattle.mt_rows.specs.declared.rows.Life.TheVariants.{New, Draft, Live, Dead}
 use Rattle.mt_rows.specs.Spans.{Table, column}
