@@ -7,6 +7,7 @@ pub mod Forming
 pub mod Holding
 pub mod Parts
 pub mod Reaching
+pub mod Slots
 pub mod Standing
 pub mod Starting
 pub mod Staying

@@ -1,6 +1,6 @@
 //! What is known of rows from call to call. Each law is the contract of a function that does nothing.
 
-ghost use Rattle.std.specs.Prelude.{◌≡◌, ◌≢◌, ℕ, suc, ◌+◌, ◌<◌, ◌≤◌, false, List, Some, length};
+ghost use Rattle.std.specs.Prelude.{◌≡◌, ◌≢◌, ℕ, suc, ◌+◌, ◌<◌, ◌≤◌, ◌==◌, false, List, Some, length};
 ghost use Rattle.std.specs.List.{AllByRecursion, flat_map, slice_get};
 ghost use Rattle.mt_base.specs.declared.calls.Call.{Call};
 ghost use Rattle.mt_base.specs.declared.kinds.Kind.{Kind};
@@ -8,6 +8,8 @@ ghost use Rattle.mt_base.specs.declared.replies.Reply.{Reply};
 ghost use Rattle.mt_base.specs.Width.{deepest, first_row};
 ghost use Rattle.mt_layout.specs.declared.spans.Span.{Span};
 ghost use Rattle.mt_layout.specs.Rows.{dead_mark, named_kind, row_in};
+ghost use Rattle.mt_layout.specs.Columns.{slot_column};
+ghost use Rattle.mt_layout.specs.Sizes.{slots_of};
 ghost use Rattle.mt_layout.specs.Spans.{Fills, leaf_range};
 ghost use Rattle.mt_rows.specs.declared.rows.Life.TheVariants.{Dead, Live};
 ghost use Rattle.mt_rows.specs.declared.rows.Place.{Place};
@@ -15,12 +17,12 @@ ghost use Rattle.mt_rows.specs.declared.rows.Scan.{Scan};
 ghost use Rattle.mt_rows.specs.Laws.{IsTree, NameLaw, Stands, kind_at};
 ghost use Rattle.mt_rows.specs.Publish.{IsLawfulOf, IsTreeOf, LiveAreReached, MayFinish, MayPublish, NoneBuried, Published, StandsAt, finished, tree_as, with_published};
 ghost use Rattle.mt_rows.specs.Sheet.{IsFree, IsPlace, MayBegin, MayBury, MayTend, Rooted, Sheet, after_bury, begun, drafted, life_of, scanned, tended, word_at};
-ghost use Rattle.mt_rows.specs.Spans.{root_span, spans_in};
+ghost use Rattle.mt_rows.specs.Spans.{Table, column, root_span, spans_in};
 ghost use Rattle.mt_life.specs.declared.views.Extent.{Extent};
 ghost use Rattle.mt_life.specs.declared.views.Held.{Held};
 ghost use Rattle.mt_life.specs.declared.views.Moment.{Moment};
 ghost use Rattle.mt_life.specs.Holding.{HoldsRow, LeadsTo, Snapshot, Tells, renewed};
-ghost use Rattle.mt_life.specs.Known.{Child, Follows, Goes, HasRow, IsFull, IsLive, Known, Shape, State, begun_calls, calls, extent_at, extent_of, raised, spans_at, state_of};
+ghost use Rattle.mt_life.specs.Known.{Child, Follows, Goes, HasRow, IsFull, IsLive, Known, SameForm, Shape, State, begun_calls, calls, extent_at, extent_of, raised, spans_at, state_of};
 ghost use Rattle.mt_life.specs.Moments.{PartOf, moment_of};
 
 /// A tree has nine levels at the most. A leaf lies between two cuts and has what the map has there. What stands in an
@@ -53,6 +55,17 @@ pub fn names_agree_with_levels()
         → AllByRecursion (λ (y : Span). (named_kind y.word ≡ Some (kind_at kind level)) × ((e (row_in y.word)).level ≡ level)) (spans_at kind s.tree.table row (e row)) }
     ensures dead { (kind : Kind) (s : State) (e : ℕ → Extent) (m : ℕ → Moment) (row level d : ℕ) → Known kind s e m → HasRow s.tree.rows row → life_of s.lives row ≡ Dead d → s.cleared < d → (e row).level ≡ suc level
         → AllByRecursion (λ (y : Span). (named_kind y.word ≡ Some (kind_at kind level)) × ((e (row_in y.word)).level ≡ level)) (spans_at kind s.tree.table row (e row)) }
+{}
+
+/// What stands in a row has the word of its slot. Rows of the same form have the same slots, each with a word of its own,
+/// and holes in the same of them.
+pub fn rows_of_a_form_have_the_same_slots()
+    ensures word { (kind : Kind) (t : Table) (row i : ℕ) (e : Extent) (x : Span) → slice_get (spans_at kind t row e) i ≡ Some x
+        → (i < slots_of t.width (kind_at kind e.level)) × (x.word ≡ column t row (slot_column (slots_of t.width (kind_at kind e.level)) i)) }
+    ensures slot { (kind : Kind) (t t' : Table) (row i : ℕ) (e : Extent) (x : Span) → t'.width ≡ t.width → SameForm t t' (kind_at kind e.level) row → slice_get (spans_at kind t row e) i ≡ Some x
+        → slice_get (spans_at kind t' row e) i ≡ Some (record { first = x.first; last = x.last; word = column t' row (slot_column (slots_of t'.width (kind_at kind e.level)) i) }) }
+    ensures hole { (kind : Kind) (t t' : Table) (row i : ℕ) (e : Extent) (x x' : Span) → t'.width ≡ t.width → SameForm t t' (kind_at kind e.level) row
+        → slice_get (spans_at kind t row e) i ≡ Some x → slice_get (spans_at kind t' row e) i ≡ Some x' → (x'.word == 0) ≡ (x.word == 0) }
 {}
 
 /// What is known of rows before a publishing store is known after it, and what passes rely on stays.
