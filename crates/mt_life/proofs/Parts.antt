@@ -12,7 +12,7 @@ use Rattle.mt_rows.specs.Trees.{map_in, height_in}
 use Rattle.mt_rows.specs.Laws.{Tree, IsRow, Stands, top_of}
 use Rattle.mt_rows.specs.Replacement.{root_of}
 use Rattle.mt_rows.proofs.Lists.{all_map, all_front, all_back, all_join, fills_le, expand-append}
-use Rattle.mt_rows.proofs.Between.{fills_split, Between, map_between}
+use Rattle.mt_rows.proofs.Between.{fills_split, Between, leaf_between, map_between}
 use Rattle.mt_rows.proofs.Heights.{level_next, map_of_split, levels_upper, level_rows, level_fills}
 use Rattle.mt_rows.proofs.Depth.{ranges_by_depth}
 use Rattle.mt_rows.proofs.Reached.{IsOneOf, parts_of_one, one_of_expand, OnLevel, words, height_is}
@@ -85,6 +85,8 @@ module _ (t : Tree) (h : ℕ) (stands : Stands t h) where
           front = ranges (expand t.table front);
           back = ranges (expand t.table back);
           joined = joined;
+          within = all_map (Between x.first (x.last + 1)) (λ (r : Range). (x.first ≤ r.first) × (r.last ≤ x.last)) (λ r between. let ends = between.2 in (between.0, omega arith)) (ranges (spans_in t.table x))
+              (leaf_between x.first (x.last + 1) (spans_in t.table x) (all_back (IsRow t 0) front (x ∷ back) rows).0.pivots.fills);
           below = all_map (Between 0 x.first) (λ (r : Range). r.last < x.first) (λ r between. between.2) (ranges (expand t.table front)) below;
           above = all_map (Between (x.last + 1) (top_of t + 1)) (λ (r : Range). x.last < r.first) (λ r between. let low = between.0 in omega arith) (ranges (expand t.table back)) above;
         };

@@ -1,4 +1,4 @@
--- Between calls of the rule the words stay a tree: a draft, a burying and a tending keep all laws but those of parents and gaps.
+-- A draft, a burying and a tending leave the words a tree: they keep all laws but those of parents and gaps.
 use Rattle.std.proofs.Common.{◌≡◌, ◌≢◌, ℕ, zero, suc, ◌<◌, List, length, Some, sym, ap, ◌∙◌, subst, inl, inr, ⊎_elim, arith}
 use Rattle.std.proofs.lemmas.Bool.{cases_eq}
 use Rattle.mt_base.specs.declared.kinds.Kind.{Kind}

@@ -51,7 +51,7 @@ pub record Shape (kind : Kind) (t : Table) (row : ℕ) (e : Extent) : Type 0 whe
 abbrev pub HasPart : Kind → Table → ℕ → Extent → Moment → Type 0
 HasPart kind t row e m = PartOf m e.first e.last (flat_map leaf_range (spans_at kind t row e))
 
--- ---- what it is known of
+-- ---- the state of rows
 
 -- the meanings of rows that count: the others of a sheet do not
 pub record State : Type 0 where

@@ -21,11 +21,12 @@ cuts_by t = map first_of (level t.table (height_in t.table t.root - 1) (root_spa
 abbrev pub moment_of : Rooted → Moment
 moment_of t = record { ranges = map_by t; cuts = cuts_by t }
 
--- The ranges are all that the map has from lo to hi, and no range of the map reaches over these ends.
+-- The ranges are all that a map has from lo to hi, and none of its ranges reaches over these ends.
 pub record IsPart (all : List Range) (lo hi : ℕ) (part : List Range) : Type 0 where
   pub front : List Range
   pub back : List Range
   pub joined : all ≡ front ++ (part ++ back)
+  pub within : AllByRecursion (λ (r : Range). (lo ≤ r.first) × (r.last ≤ hi)) part
   pub below : AllByRecursion (λ (r : Range). r.last < lo) front
   pub above : AllByRecursion (λ (r : Range). hi < r.first) back
 
