@@ -14,22 +14,22 @@ use Rattle.mt_log.specs.declared.faults.Why.TheVariants as why
 use Rattle.mt_log.specs.Reading.{decimal_of, hexadecimal_of}
 
 -- what tells the digits of a radix
-abbrev TellsDigits : ℕ → (ℕ → Bool) → Type 0
+abbrev pub TellsDigits : ℕ → (ℕ → Bool) → Type 0
 TellsDigits radix test = (byte : ℕ) → test byte ≡ nat_lt (digit_value byte) radix
 
-tells_decimal : TellsDigits 10 is_ascii_digit
+pub tells_decimal : TellsDigits 10 is_ascii_digit
 tells_decimal byte = grind (arith, nat_tests)
 
-tells_hexadecimal : TellsDigits 16 is_ascii_hexdigit
+pub tells_hexadecimal : TellsDigits 16 is_ascii_hexdigit
 tells_hexadecimal byte = grind (arith, nat_tests)
 
-all_told : (radix : ℕ) (test : ℕ → Bool) → TellsDigits radix test → (digits : List ℕ) → list_all test digits ≡ true → AllDigits radix digits
+pub all_told : (radix : ℕ) (test : ℕ → Bool) → TellsDigits radix test → (digits : List ℕ) → list_all test digits ≡ true → AllDigits radix digits
 all_told radix test tells [] h = tt
 all_told radix test tells (byte ∷ digits) h =
     let parts : (test byte ≡ true) × (list_all test digits ≡ true) = and_parts _ _ h in
     (ltb-true (digit_value byte) radix (sym (tells byte) ∙ parts.0), all_told radix test tells digits parts.1)
 
-told_all : (radix : ℕ) (test : ℕ → Bool) → TellsDigits radix test → (digits : List ℕ) → AllDigits radix digits → list_all test digits ≡ true
+pub told_all : (radix : ℕ) (test : ℕ → Bool) → TellsDigits radix test → (digits : List ℕ) → AllDigits radix digits → list_all test digits ≡ true
 told_all radix test tells [] h = refl
 told_all radix test tells (byte ∷ digits) h =
     rw (tells byte, lt-ltb (digit_value byte) radix h.0) (told_all radix test tells digits h.1)
@@ -78,7 +78,7 @@ pub decimal_from_value : (digits : List ℕ) (value : Option ℕ) → 0 < length
 decimal_from_value digits value some short h = decimal digits (list_all is_ascii_digit digits) value refl some short h
 
 -- sixteen hexadecimal digits write a number below 2 ^ 64
-hexadecimal_is_short : (digits : List ℕ) → AllDigits 16 digits → length digits ≤ 16 → digits_value 16 digits < 2 ^ 64
+pub hexadecimal_is_short : (digits : List ℕ) → AllDigits 16 digits → length digits ≤ 16 → digits_value 16 digits < 2 ^ 64
 hexadecimal_is_short digits told short =
     let below : digits_value 16 digits < 16 ^ length digits = digits_value-lt 16 digits told in
     let most : 16 ^ length digits ≤ 16 ^ 16 = pow-le-pow_right (lit< tt) short in

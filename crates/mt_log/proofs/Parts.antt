@@ -6,7 +6,7 @@ use Rattle.std.proofs.lemmas.List.Sums.{fails_before_first}
 use Rattle.std.proofs.lemmas.List.{take_rest}
 
 -- the place at which the first part ends
-place_is : (p : ℕ → Bool) (xs : List ℕ) (i : ℕ) → position p xs ≡ Some i → (position_or_len p xs < length xs) × (position_or_len p xs ≡ i)
+pub place_is : {X : Type 0} (p : X → Bool) (xs : List X) (i : ℕ) → position p xs ≡ Some i → (position_or_len p xs < length xs) × (position_or_len p xs ≡ i)
 place_is p xs i h =
     elim (cases_lt (position_or_len p xs) (length xs)) [
       | inl lt ↦ let some = rw (lt-ltb (position_or_len p xs) (length xs) lt) at h in (lt, cc)

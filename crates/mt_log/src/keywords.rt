@@ -1,4 +1,5 @@
-ghost use Rattle.std.specs.Prelude.{◌≡◌};
+ghost use Rattle.std.specs.Prelude.{◌≡◌, ◌≤◌, length};
+ghost use Rattle.mt_log.specs.Keywords.{word_of};
 ghost use Rattle.mt_log.specs.Reading.{keyword_of};
 
 use crate::faults::Why;
@@ -75,4 +76,21 @@ pub fn keyword_of(word: &[u8]) -> Result<Keyword, Why>
     ensures { result ≡ keyword_of word.now }
 {
     words!(keyword_in, word, Err(Why::Unknown))
+}
+
+/// The word of a keyword.
+macro_rules! word_in {
+    ($keyword:ident, $($text:literal $name:ident $form:ident($($part:ident)*)),*) => {
+        match $keyword {
+            $(Keyword::$name => $text.as_bytes(),)*
+        }
+    };
+}
+
+/// The word of a keyword, of at most 6 bytes.
+pub fn word_of(keyword: Keyword) -> &'static [u8]
+    ensures word { result.now ≡ word_of keyword }
+    ensures short { length result.now ≤ 6 }
+{
+    words!(word_in, keyword)
 }

@@ -144,7 +144,7 @@ fn push_ranges(text: &mut Vec<u8>, line: &mut LineEnd, ranges: &[Range]) -> Resu
 }
 
 /// Puts a kind in front.
-fn put_kind(line: &mut LineEnd, kind: Kind)
+pub fn put_kind(line: &mut LineEnd, kind: Kind)
     requires { length line.old + 5 ≤ ROOM }
     ensures text { line.new ≡ kind_text kind ++ line.old }
     ensures long { length line.new ≡ 5 + length line.old }

@@ -432,6 +432,83 @@ fn all_scans_have_a_million_steps_at_the_most(rt: HostRuntime) -> Result<(), Fai
     Ok(())
 }
 
+/// A log that is read and printed again.
+fn printed(alloc: Global, log: &str) -> Result<Vec<u8>, LogError> {
+    let log = read_log(alloc, log.as_bytes())?;
+    match print_log(alloc, &log) {
+        Ok(text) => Ok(text),
+        Err(_) => Err(LogError::NoMemory),
+    }
+}
+
+#[test]
+fn each_line_is_printed_at_its_number(rt: HostRuntime) -> Result<(), Fail> {
+    let log = "mtlog 1
+# two trees
+
+tree abcdefghijklm_16 range
+tree b alloc
+lane 0x00f
+store b 010 0x13 5
+pstore b 10 0 max
+insert abcdefghijklm_16 0x14 0x1D max
+erase b 3
+#
+alloc b 1 2 3 4
+ralloc b 1 2 3 4
+gap b 1 0 max
+rgap b 1 2 3
+join
+dup b c
+check c
+clear c
+
+
+load c 0
+find c 1 2
+next c 3 4
+prev b 6 5
+rfind b 8 7
+scan b 5 0x9 65536
+# the end
+";
+    let want = "mtlog 1
+
+
+tree abcdefghijklm_16 range
+tree b alloc
+lane 15
+store b 10 19 5
+pstore b 10 0 18446744073709551615
+insert abcdefghijklm_16 20 29 18446744073709551615
+erase b 3
+
+alloc b 1 2 3 4
+ralloc b 1 2 3 4
+gap b 1 0 18446744073709551615
+rgap b 1 2 3
+join
+dup b c
+check c
+clear c
+
+
+load c 0
+find c 1 2
+next c 3 4
+prev b 6 5
+rfind b 8 7
+scan b 5 9 65536
+";
+    assert_eq!(rt; printed(rt.alloc(), log)?.as_slice(), want.as_bytes());
+    assert_eq!(rt; printed(rt.alloc(), want)?.as_slice(), want.as_bytes());
+    assert_eq!(rt;
+        printed(rt.alloc(), "mtlog 1\n\n#\n")?.as_slice(),
+        b"mtlog 1\n".as_slice()
+    );
+    Ok(())
+}
+
 fn wrote(line: u64, call: u64, reply: Reply) -> Entry {
     let said = Said::Wrote { call, reply };
     Entry { line, said }

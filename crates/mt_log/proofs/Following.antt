@@ -1,0 +1,63 @@
+-- Which lines can be read behind what was read: those that may follow, and say names and numbers that can be written.
+use Rattle.std.proofs.Common.{◌≡◌, ℕ, ◌≤◌, ◌<◌, ◌^◌, true, List, [], ◌∷◌, Some, slice_get}
+use Rattle.mt_base.specs.declared.calls.Call.{Call}
+use Rattle.mt_base.specs.declared.calls.Call.TheVariants.{Store, StorePre, Insert, Erase, Alloc, Ralloc, Gap, Rgap, Clear}
+use Rattle.mt_base.specs.declared.calls.Query.{Query}
+use Rattle.mt_base.specs.declared.calls.Query.TheVariants.{Load, Find, Next, Prev, Rfind}
+use Rattle.mt_log.specs.Name.{is_name}
+use Rattle.mt_log.specs.Reader.{MayFollow}
+use Rattle.mt_log.specs.Reading.{Read, after_item, place_of}
+use Rattle.mt_log.specs.declared.lines.Item.{Item}
+use Rattle.mt_log.specs.declared.lines.Item.TheVariants.{Tree, Lane, Join, Dup, Check, Write, Ask, Scan}
+use Rattle.mt_log.specs.declared.lines.Line.{Line}
+use Rattle.mt_log.specs.declared.trees.KnownTree.{KnownTree}
+
+-- a number that a field can say
+abbrev pub IsNumber : ℕ → Type 0
+IsNumber n = n < 2 ^ 64
+
+abbrev pub CallSays : Call → Type 0
+CallSays (Store first last entry) = IsNumber first × IsNumber last × IsNumber entry
+CallSays (StorePre first last entry) = IsNumber first × IsNumber last × IsNumber entry
+CallSays (Insert first last entry) = IsNumber first × IsNumber last × IsNumber entry
+CallSays (Erase index) = IsNumber index
+CallSays (Alloc size min max entry) = IsNumber size × IsNumber min × IsNumber max × IsNumber entry
+CallSays (Ralloc size min max entry) = IsNumber size × IsNumber min × IsNumber max × IsNumber entry
+CallSays (Gap size min max) = IsNumber size × IsNumber min × IsNumber max
+CallSays (Rgap size min max) = IsNumber size × IsNumber min × IsNumber max
+CallSays Clear = Unit {0}
+
+abbrev pub QuerySays : Query → Type 0
+QuerySays (Load index) = IsNumber index
+QuerySays (Find index max) = IsNumber index × IsNumber max
+QuerySays (Next index max) = IsNumber index × IsNumber max
+QuerySays (Prev index min) = IsNumber index × IsNumber min
+QuerySays (Rfind index min) = IsNumber index × IsNumber min
+
+-- what it says are names and numbers
+abbrev pub ItemSays : Item → Type 0
+ItemSays (Tree name kind) = is_name name ≡ true
+ItemSays (Lane lane) = Unit {0}
+ItemSays Join = Unit {0}
+ItemSays (Dup from name) = is_name name ≡ true
+ItemSays (Check tree) = Unit {0}
+ItemSays (Write tree call) = CallSays call
+ItemSays (Ask tree query) = QuerySays query
+ItemSays (Scan tree index max count) = IsNumber index × IsNumber max × (1 ≤ count) × (count ≤ 65536)
+
+pub record CanFollow (r : Read) (item : Item) : Type 0 where
+  pub follows : MayFollow r item
+  pub says : ItemSays item
+
+-- a reader that reads blank lines up to this one
+abbrev pub at_line : ℕ → Read → Read
+at_line number r = record r { next = number }
+
+-- each of these lines can
+abbrev pub CanAllFollow : Read → List Line → Type 0
+CanAllFollow r [] = Unit {0}
+CanAllFollow r (line ∷ lines) = (r.next ≤ line.number) × CanFollow r line.item × CanAllFollow (after_item (at_line line.number r) line.item) lines
+
+-- each declared tree is the first of its name, and is named by a name
+abbrev pub AreNamed : List KnownTree → Type 0
+AreNamed trees = (place : ℕ) (tree : KnownTree) → slice_get trees place ≡ Some tree → (place_of trees tree.name ≡ Some place) × (is_name tree.name ≡ true)
