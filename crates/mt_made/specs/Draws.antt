@@ -1,0 +1,25 @@
+-- How numbers are drawn, one after another, each from the state that the one before left.
+-- Source: this project's own; the states are those of a linear congruential generator of 31 bits, with the multiplier and the
+-- increment of the C standard's example of `rand`.
+use Rattle.std.specs.Prelude.{ℕ, ◌+◌, ◌*◌, ◌/◌, ◌%◌, ◌^◌}
+
+-- what is drawn from a state, and the state that it leaves
+abbrev pub Drawing : Type 0 → Type 0
+Drawing A = ℕ → A × ℕ
+
+-- the state behind a state
+abbrev pub next_state : ℕ → ℕ
+next_state state = (1103515245 * state + 12345) % 2 ^ 31
+
+-- a number below n
+unfoldable pub below : ℕ → Drawing ℕ
+below n state = ((next_state state * n) / 2 ^ 31, next_state state)
+
+-- this, with nothing drawn for it
+abbrev pub given : {A : Type 0} → A → Drawing A
+given x state = (x, state)
+
+-- with what is drawn, more is drawn
+infixl 10 ◌>>=◌
+abbrev pub ◌>>=◌ : {A B : Type 0} → Drawing A → (A → Drawing B) → Drawing B
+drawing >>= more = λ state. more (drawing state).0 (drawing state).1

@@ -1,0 +1,4 @@
+pub mod Counting
+pub mod Draws
+pub mod Made
+pub mod Summary
