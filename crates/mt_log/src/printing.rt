@@ -1,3 +1,5 @@
+//! A log in print. Each line is put together from its end, as the lines of a transcript are.
+
 ghost use Rattle.std.specs.Prelude.{◌≡◌, ◌≤◌, ◌+◌, ◌++◌, ◌∷◌, ◌-◌, ℕ, List, [], IfOk, OnOk, codes, length, replicate};
 ghost use Rattle.std.specs.Fmt.{decimal};
 ghost use Rattle.std.specs.List.{join_with_byte};
@@ -38,26 +40,24 @@ fn put_head(line: &mut LineEnd, keyword: Keyword, name: &[u8])
     line.text(word_of(keyword));
 }
 
-/// Puts the numbers of a range in front.
-fn put_numbers_of_range(line: &mut LineEnd, first: u64, last: u64, entry: u64)
-    requires { length line.old + 63 ≤ ROOM }
-    ensures text { line.new ≡ 32 ∷ decimal first ++ (32 ∷ decimal last ++ (32 ∷ decimal entry ++ line.old)) }
-    ensures long { length line.new ≤ 63 + length line.old }
+/// Puts two numbers in front.
+fn put_two(line: &mut LineEnd, first: u64, second: u64)
+    requires { length line.old + 42 ≤ ROOM }
+    ensures text { line.new ≡ 32 ∷ decimal first ++ (32 ∷ decimal second ++ line.old) }
+    ensures long { length line.new ≤ 42 + length line.old }
 {
-    put_number(line, entry);
-    put_number(line, last);
+    put_number(line, second);
     put_number(line, first);
 }
 
-/// Puts the numbers of an area in front.
-fn put_numbers_of_area(line: &mut LineEnd, size: u64, min: u64, max: u64)
+/// Puts three numbers in front.
+fn put_three(line: &mut LineEnd, first: u64, second: u64, third: u64)
     requires { length line.old + 63 ≤ ROOM }
-    ensures text { line.new ≡ 32 ∷ decimal size ++ (32 ∷ decimal min ++ (32 ∷ decimal max ++ line.old)) }
+    ensures text { line.new ≡ 32 ∷ decimal first ++ (32 ∷ decimal second ++ (32 ∷ decimal third ++ line.old)) }
     ensures long { length line.new ≤ 63 + length line.old }
 {
-    put_number(line, max);
-    put_number(line, min);
-    put_number(line, size);
+    put_number(line, third);
+    put_two(line, first, second);
 }
 
 /// Puts the numbers of a call in front, and gives its keyword.
@@ -68,15 +68,15 @@ fn put_numbers_of_call(line: &mut LineEnd, call: Call) -> Keyword
 {
     match call {
         Call::Store { first, last, entry } => {
-            put_numbers_of_range(line, first, last, entry);
+            put_three(line, first, last, entry);
             Keyword::Store
         }
         Call::StorePre { first, last, entry } => {
-            put_numbers_of_range(line, first, last, entry);
+            put_three(line, first, last, entry);
             Keyword::StorePre
         }
         Call::Insert { first, last, entry } => {
-            put_numbers_of_range(line, first, last, entry);
+            put_three(line, first, last, entry);
             Keyword::Insert
         }
         Call::Erase { index } => {
@@ -90,7 +90,7 @@ fn put_numbers_of_call(line: &mut LineEnd, call: Call) -> Keyword
             entry,
         } => {
             put_number(line, entry);
-            put_numbers_of_area(line, size, min, max);
+            put_three(line, size, min, max);
             Keyword::Alloc
         }
         Call::Ralloc {
@@ -100,15 +100,15 @@ fn put_numbers_of_call(line: &mut LineEnd, call: Call) -> Keyword
             entry,
         } => {
             put_number(line, entry);
-            put_numbers_of_area(line, size, min, max);
+            put_three(line, size, min, max);
             Keyword::Ralloc
         }
         Call::Gap { size, min, max } => {
-            put_numbers_of_area(line, size, min, max);
+            put_three(line, size, min, max);
             Keyword::Gap
         }
         Call::Rgap { size, min, max } => {
-            put_numbers_of_area(line, size, min, max);
+            put_three(line, size, min, max);
             Keyword::Rgap
         }
         Call::Clear => Keyword::Clear,
@@ -125,16 +125,6 @@ fn put_call(line: &mut LineEnd, name: &[u8], call: Call)
     put_head(line, keyword, name);
 }
 
-/// Puts an index and its bound in front.
-fn put_bounds(line: &mut LineEnd, index: u64, bound: u64)
-    requires { length line.old + 42 ≤ ROOM }
-    ensures text { line.new ≡ 32 ∷ decimal index ++ (32 ∷ decimal bound ++ line.old) }
-    ensures long { length line.new ≤ 42 + length line.old }
-{
-    put_number(line, bound);
-    put_number(line, index);
-}
-
 /// Puts the numbers of a query in front, and gives its keyword.
 fn put_numbers_of_query(line: &mut LineEnd, query: Query) -> Keyword
     requires { length line.old + 42 ≤ ROOM }
@@ -147,19 +137,19 @@ fn put_numbers_of_query(line: &mut LineEnd, query: Query) -> Keyword
             Keyword::Load
         }
         Query::Find { index, max } => {
-            put_bounds(line, index, max);
+            put_two(line, index, max);
             Keyword::Find
         }
         Query::Next { index, max } => {
-            put_bounds(line, index, max);
+            put_two(line, index, max);
             Keyword::Next
         }
         Query::Prev { index, min } => {
-            put_bounds(line, index, min);
+            put_two(line, index, min);
             Keyword::Prev
         }
         Query::Rfind { index, min } => {
-            put_bounds(line, index, min);
+            put_two(line, index, min);
             Keyword::Rfind
         }
     }
@@ -194,7 +184,7 @@ fn put_scan(line: &mut LineEnd, name: &[u8], index: u64, max: u64, count: u32)
     ensures { line.new ≡ join_with_byte 32 (codes "scan" ∷ name.now ∷ decimal index ∷ decimal max ∷ decimal count ∷ []) ++ line.old }
 {
     put_number(line, u64::from(count));
-    put_bounds(line, index, max);
+    put_two(line, index, max);
     put_head(line, Keyword::Scan, name);
 }
 
