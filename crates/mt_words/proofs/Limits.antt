@@ -1,0 +1,76 @@
+-- The numbers of a command lie within their limits.
+use Rattle.std.proofs.Common.{◌≡◌, ◌≤◌, ◌&&◌, ℕ, Bool, true, false, List, [], ◌∷◌, Option, Some, None, drop, take, refl, subst, sym, codes}
+use Rattle.std.specs.Prelude.{IfSome, if◌then◌else◌, nat_le, option_and_then, option_map}
+use Rattle.std.specs.Str.{bytes_eq}
+use Rattle.std.specs.Str.Parse.{digits_value}
+use Rattle.std.proofs.lemmas.Bool.{leb-true}
+use Rattle.mt_base.specs.Width.{most_rows}
+use Rattle.mt_words.specs.Commands.{IsWithin, command_of, in_one_word, in_two_words, make_of, make_with, replay_of, trial_of, trial_with, with_rows}
+use Rattle.mt_words.specs.Numbers.{fewest_rows, greatest_number, is_number, most_lanes, most_steps, number_in}
+use Rattle.mt_words.specs.declared.commands.Command.{Command}
+use Rattle.mt_words.specs.declared.commands.Command.TheVariants.{Make, Replay, Trial}
+
+abbrev IsBetween : ℕ → ℕ → ℕ → Type 0
+IsBetween least most n = (least ≤ n) × (n ≤ most)
+
+number_within : (least most : ℕ) (word : List ℕ) → IfSome (number_in least most word) (IsBetween least most)
+number_within least most word = go (is_number word) (nat_le least (digits_value 10 word)) refl (nat_le (digits_value 10 word) most) refl
+  where
+    go : (a b : Bool) → nat_le least (digits_value 10 word) ≡ b → (c : Bool) → nat_le (digits_value 10 word) most ≡ c
+        → IfSome (if a && b && c then Some (digits_value 10 word) else None) (IsBetween least most)
+    go true true low true high = (leb-true least (digits_value 10 word) low, leb-true (digits_value 10 word) most high)
+    go true true low false high = tt
+    go true false low c high = tt
+    go false b low c high = tt
+
+mapped : {X Y : Type 0} (o : Option X) (f : X → Y) (P : X → Type 0) (Q : Y → Type 0) → IfSome o P → ((x : X) → P x → Q (f x)) → IfSome (option_map f o) Q
+mapped None f P Q some so = tt
+mapped (Some x) f P Q some so = so x some
+
+chained : {X Y : Type 0} (o : Option X) (f : X → Option Y) (P : X → Type 0) (Q : Y → Type 0) → IfSome o P → ((x : X) → P x → IfSome (f x) Q) → IfSome (option_and_then f o) Q
+chained None f P Q some so = tt
+chained (Some x) f P Q some so = so x some
+
+either : (b : Bool) (x y : Option Command) → IfSome x IsWithin → IfSome y IsWithin → IfSome (if b then x else y) IsWithin
+either true x y here there = here
+either false x y here there = there
+
+rows_within : (word : List ℕ) → IfSome (with_rows word) IsWithin
+rows_within word = mapped (number_in fewest_rows most_rows word) Replay (IsBetween fewest_rows most_rows) IsWithin (number_within fewest_rows most_rows word) (λ n within. within)
+
+replay_within : (words : List (List ℕ)) → IfSome (replay_of words) IsWithin
+replay_within [] = (leb-true fewest_rows most_rows refl, leb-true most_rows most_rows refl)
+replay_within (word ∷ []) = either (bytes_eq (take 7 word) (codes "--rows=")) (with_rows (drop 7 word)) None (rows_within (drop 7 word)) tt
+replay_within (option ∷ word ∷ []) = either (bytes_eq option (codes "--rows")) (with_rows word) None (rows_within word) tt
+replay_within (first ∷ second ∷ third ∷ words) = tt
+
+make_within : (words : List (List ℕ)) → IfSome (make_of words) IsWithin
+make_within [] = tt
+make_within (number ∷ []) = tt
+make_within (number ∷ steps ∷ []) = tt
+make_within (number ∷ steps ∷ lanes ∷ []) =
+    chained (number_in 0 greatest_number number) (λ n. option_and_then (λ s. option_map (Make n s) (number_in 1 most_lanes lanes)) (number_in 1 most_steps steps)) (IsBetween 0 greatest_number) IsWithin
+    (number_within 0 greatest_number number) (λ n n_within.
+      chained (number_in 1 most_steps steps) (λ s. option_map (Make n s) (number_in 1 most_lanes lanes)) (IsBetween 1 most_steps) IsWithin (number_within 1 most_steps steps) (λ s s_within.
+        mapped (number_in 1 most_lanes lanes) (Make n s) (IsBetween 1 most_lanes) IsWithin (number_within 1 most_lanes lanes) (λ l l_within. (n_within.1, s_within.0, s_within.1, l_within.0, l_within.1))))
+make_within (number ∷ steps ∷ lanes ∷ more ∷ words) = tt
+
+trial_within : (words : List (List ℕ)) → IfSome (trial_of words) IsWithin
+trial_within [] = tt
+trial_within (number ∷ []) = tt
+trial_within (number ∷ steps ∷ []) =
+    chained (number_in 0 greatest_number number) (λ n. option_map (Trial n) (number_in 1 most_steps steps)) (IsBetween 0 greatest_number) IsWithin
+    (number_within 0 greatest_number number) (λ n n_within.
+      mapped (number_in 1 most_steps steps) (Trial n) (IsBetween 1 most_steps) IsWithin (number_within 1 most_steps steps) (λ s s_within. (n_within.1, s_within.0, s_within.1)))
+trial_within (number ∷ steps ∷ more ∷ words) = tt
+
+of_words : (words : List (List ℕ)) → IfSome (command_of words) IsWithin
+of_words [] = tt
+of_words (word ∷ words) =
+    let tried : Option Command = if bytes_eq word (codes "trial") then trial_of words else None in
+    let made : Option Command = if bytes_eq word (codes "make") then make_of words else tried in
+    either (bytes_eq word (codes "replay")) (replay_of words) made (replay_within words)
+    (either (bytes_eq word (codes "make")) (make_of words) tried (make_within words) (either (bytes_eq word (codes "trial")) (trial_of words) None (trial_within words) tt))
+
+pub command_within : (command : Option Command) (words : List (List ℕ)) → command ≡ command_of words → IfSome command IsWithin
+command_within command words is = subst (λ (c : Option Command). IfSome c IsWithin) (sym is) (of_words words)

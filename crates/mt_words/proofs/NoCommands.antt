@@ -1,0 +1,115 @@
+-- Lists of words that are no command for a word in them.
+use Rattle.std.proofs.Common.{◌≡◌, ◌⊎◌, ◌||◌, ℕ, Bool, true, false, List, [], ◌∷◌, Option, Some, None, refl, ap, subst, sym, inl, inr, codes, true≢false}
+use Rattle.std.specs.Prelude.{if◌then◌else◌, option_and_then, option_map}
+use Rattle.std.specs.List.{list_any}
+use Rattle.std.specs.Str.{bytes_eq}
+use Rattle.std.proofs.lemmas.Slice.Eq.{bytes_eq-Decides}
+use Rattle.mt_words.specs.Commands.{command_of, in_two_words, make_of, replay_of, trial_of, with_rows}
+use Rattle.mt_words.specs.Grammar.{is_end_of_options}
+use Rattle.mt_words.specs.Numbers.{greatest_number, is_number, most_lanes, most_steps, number_in}
+use Rattle.mt_words.specs.declared.commands.Command.{Command}
+use Rattle.mt_words.specs.declared.commands.Command.TheVariants.{Make, Trial}
+
+abbrev Text : Type 0
+Text = List ℕ
+
+pub no_rows : (word : Text) → is_number word ≡ false → with_rows word ≡ None
+no_rows word is = rw is refl
+
+pub make_no_number : (number : Text) (words : List Text) → is_number number ≡ false → make_of (number ∷ words) ≡ None
+make_no_number number [] is = refl
+make_no_number number (steps ∷ []) is = refl
+make_no_number number (steps ∷ lanes ∷ []) is = rw is refl
+make_no_number number (steps ∷ lanes ∷ more ∷ words) is = refl
+
+pub make_no_steps : (number steps : Text) (words : List Text) → is_number steps ≡ false → make_of (number ∷ steps ∷ words) ≡ None
+make_no_steps number steps [] is = refl
+make_no_steps number steps (lanes ∷ []) is = elim (number_in 0 greatest_number number) as (λ o. option_and_then (λ n. option_and_then (λ s. option_map (Make n s) (number_in 1 most_lanes lanes)) (number_in 1 most_steps steps)) o ≡ None) [
+  | None ↦ refl
+  | Some n ↦ rw is refl
+]
+make_no_steps number steps (lanes ∷ more ∷ words) is = refl
+
+pub make_no_lanes : (number steps lanes : Text) (words : List Text) → is_number lanes ≡ false → make_of (number ∷ steps ∷ lanes ∷ words) ≡ None
+make_no_lanes number steps lanes [] is = elim (number_in 0 greatest_number number) as (λ o. option_and_then (λ n. option_and_then (λ s. option_map (Make n s) (number_in 1 most_lanes lanes)) (number_in 1 most_steps steps)) o ≡ None) [
+  | None ↦ refl
+  | Some n ↦ elim (number_in 1 most_steps steps) as (λ o. option_and_then (λ s. option_map (Make n s) (number_in 1 most_lanes lanes)) o ≡ None) [ None ↦ refl | Some s ↦ rw is refl ]
+]
+make_no_lanes number steps lanes (more ∷ words) is = refl
+
+pub trial_no_number : (number : Text) (words : List Text) → is_number number ≡ false → trial_of (number ∷ words) ≡ None
+trial_no_number number [] is = refl
+trial_no_number number (steps ∷ []) is = rw is refl
+trial_no_number number (steps ∷ more ∷ words) is = refl
+
+pub trial_no_steps : (number steps : Text) (words : List Text) → is_number steps ≡ false → trial_of (number ∷ steps ∷ words) ≡ None
+trial_no_steps number steps [] is = elim (number_in 0 greatest_number number) as (λ o. option_and_then (λ n. option_map (Trial n) (number_in 1 most_steps steps)) o ≡ None) [ None ↦ refl | Some n ↦ rw is refl ]
+trial_no_steps number steps (more ∷ words) is = refl
+
+-- ---- `--`
+
+or_cases : (a b : Bool) → (a || b) ≡ true → (a ≡ true) ⊎ (b ≡ true)
+or_cases true b e = inl refl
+or_cases false b e = inr e
+
+no_number : (word : Text) → is_end_of_options word ≡ true → is_number word ≡ false
+no_number word end = ap is_number ((bytes_eq-Decides word (codes "--")).0 end)
+
+abbrev HasEnd : List Text → Type 0
+HasEnd words = list_any is_end_of_options words ≡ true
+
+none_either : (b : Bool) (x : Option Command) → x ≡ None → (if b then x else None) ≡ None
+none_either true x none = none
+none_either false x none = refl
+
+end_in_replay : (words : List Text) → HasEnd words → replay_of words ≡ None
+end_in_replay [] ends = absurd (true≢false (sym ends))
+end_in_replay (word ∷ []) ends = elim (or_cases _ _ ends) [
+  | inl end ↦ subst (λ (w : Text). replay_of (w ∷ []) ≡ None) (sym ((bytes_eq-Decides word (codes "--")).0 end)) refl
+  | inr end ↦ absurd (true≢false (sym end))
+]
+end_in_replay (option ∷ word ∷ []) ends = elim (or_cases _ _ ends) [
+  | inl end ↦ subst (λ (w : Text). in_two_words w word ≡ None) (sym ((bytes_eq-Decides option (codes "--")).0 end)) refl
+  | inr rest ↦ elim (or_cases _ _ rest) [
+    | inl end ↦ none_either (bytes_eq option (codes "--rows")) (with_rows word) (no_rows word (no_number word end))
+    | inr end ↦ absurd (true≢false (sym end))
+  ]
+]
+end_in_replay (first ∷ second ∷ third ∷ words) ends = refl
+
+end_in_make : (words : List Text) → HasEnd words → make_of words ≡ None
+end_in_make [] ends = refl
+end_in_make (number ∷ []) ends = refl
+end_in_make (number ∷ steps ∷ []) ends = refl
+end_in_make (number ∷ steps ∷ lanes ∷ []) ends = elim (or_cases _ _ ends) [
+  | inl end ↦ make_no_number number (steps ∷ lanes ∷ []) (no_number number end)
+  | inr rest ↦ elim (or_cases _ _ rest) [
+    | inl end ↦ make_no_steps number steps (lanes ∷ []) (no_number steps end)
+    | inr last ↦ elim (or_cases _ _ last) [ inl end ↦ make_no_lanes number steps lanes [] (no_number lanes end) | inr end ↦ absurd (true≢false (sym end)) ]
+  ]
+]
+end_in_make (number ∷ steps ∷ lanes ∷ more ∷ words) ends = refl
+
+end_in_trial : (words : List Text) → HasEnd words → trial_of words ≡ None
+end_in_trial [] ends = refl
+end_in_trial (number ∷ []) ends = refl
+end_in_trial (number ∷ steps ∷ []) ends = elim (or_cases _ _ ends) [
+  | inl end ↦ trial_no_number number (steps ∷ []) (no_number number end)
+  | inr rest ↦ elim (or_cases _ _ rest) [ inl end ↦ trial_no_steps number steps [] (no_number steps end) | inr end ↦ absurd (true≢false (sym end)) ]
+]
+end_in_trial (number ∷ steps ∷ more ∷ words) ends = refl
+
+chosen : (a b c : Bool) (x y z : Option Command) → x ≡ None → y ≡ None → z ≡ None → (if a then x else (if b then y else (if c then z else None))) ≡ None
+chosen true b c x y z no_x no_y no_z = no_x
+chosen false true c x y z no_x no_y no_z = no_y
+chosen false false true x y z no_x no_y no_z = no_z
+chosen false false false x y z no_x no_y no_z = refl
+
+-- a list with `--` is no command
+pub ended : (words : List Text) → HasEnd words → command_of words ≡ None
+ended [] ends = refl
+ended (word ∷ words) ends = elim (or_cases _ _ ends) [
+  | inl end ↦ subst (λ (w : Text). command_of (w ∷ words) ≡ None) (sym ((bytes_eq-Decides word (codes "--")).0 end)) refl
+  | inr rest ↦ chosen (bytes_eq word (codes "replay")) (bytes_eq word (codes "make")) (bytes_eq word (codes "trial")) (replay_of words) (make_of words) (trial_of words)
+      (end_in_replay words rest) (end_in_make words rest) (end_in_trial words rest)
+]

@@ -1,0 +1,165 @@
+-- `make` and `trial` and the words after them: which of them `clap` refuses, and what it tells of the others.
+use Rattle.std.proofs.Common.{◌≡◌, ◌⊎◌, ℕ, false, List, [], ◌∷◌, Option, Some, None, refl, sym, subst, inl, inr, codes, fold}
+use Rattle.clap.specs.Faults.{step_fault}
+use Rattle.clap.specs.Kinds.{Kinds}
+use Rattle.clap.specs.Simple.{Shape}
+use Rattle.clap.specs.Walk.{Row, Text, Walk, arg_by_long, finished, idle, value, walked}
+use Rattle.clap.specs.declared.parser.matches.ValueSource.TheVariants.{CommandLine}
+use Rattle.clap.specs.declared.builder.value_parser.Reading.TheVariants.{AsWritten}
+use Rattle.clap.proofs.OnLiterals.{clap_on_literals}
+use Rattle.mt_words.specs.Commands.{make_of, trial_of}
+use Rattle.mt_words.specs.Grammar.{is_end_of_options, make_in, trial_in}
+use Rattle.mt_words.specs.Numbers.{is_number}
+use Rattle.mt_words.specs.declared.commands.Command.{Command}
+use Rattle.mt_words.proofs.Agreements.{Agrees, HasNoEnd}
+use Rattle.mt_words.proofs.NoCommands.{make_no_lanes, make_no_number, make_no_steps, trial_no_number, trial_no_steps}
+use Rattle.mt_words.proofs.Refusals.{IsRefused}
+use Rattle.mt_words.proofs.Shapes.{make_no_shorts, make_shape, trial_no_shorts, trial_shape}
+use Rattle.mt_words.proofs.Sorts.{IsValue, NoShorts, held, is_flags, is_long, is_value, sort_of}
+use Rattle.mt_words.proofs.Walks.{at, fault_from, flags_refused, long_refused, value_from, value_refused, value_walked}
+
+-- nothing has a long name
+abbrev NoLongs : Shape → Type 0
+NoLongs s = (name : Text) → arg_by_long s.rules name ≡ None
+
+-- a word that is refused whatever follows is no number
+pub record IsLost (s : Shape) (rows : List Row) (pending : Option (Text × List Text)) (position : ℕ) (word : Text) : Type 0 where
+  pub lost : (words : List Text) → IsRefused (fault_from s (at (held rows pending) idle position) (word ∷ words))
+  pub no_number : is_number word ≡ false
+
+-- a word is taken as a value, or refused
+taken_or_lost : (s : Shape) → NoShorts s → NoLongs s → (word : Text) → is_end_of_options word ≡ false → (rows : List Row) (pending : Option (Text × List Text)) (position : ℕ)
+    → IsValue word ⊎ IsLost s rows pending position word
+taken_or_lost s no_shorts no_longs word end rows pending position = elim (sort_of word end) [
+  | is_long name v _ is _ _ digits ↦ inr (record { lost = long_refused s no_shorts word end rows pending idle position name v is (rw (no_longs name) tt); no_number = digits })
+  | is_flags refused digits ↦ inr (record { lost = flags_refused s no_shorts word end rows pending idle position refused; no_number = digits })
+  | is_value is ↦ inl is
+]
+
+-- the row of a word
+abbrev row : Text → Text → Row
+row name word = record { id = name; values = word ∷ []; count = None; source = Some CommandLine; reading = AsWritten }
+
+abbrev number_id : Text
+number_id = codes "number"
+
+abbrev steps_id : Text
+steps_id = codes "steps"
+
+abbrev lanes_id : Text
+lanes_id = codes "lanes"
+
+-- no word, one, two and three were met
+abbrev none : Walk
+none = at (held [] None) idle 1
+
+abbrev one : Text → Walk
+one number = at (held [] (Some (number_id, number ∷ []))) idle 2
+
+abbrev two : Text → Text → Walk
+two number steps = at (held (row number_id number ∷ []) (Some (steps_id, steps ∷ []))) idle 3
+
+abbrev three : Text → Text → Text → Walk
+three number steps lanes = at (held (row number_id number ∷ row steps_id steps ∷ []) (Some (lanes_id, lanes ∷ []))) idle 4
+
+-- no word more is taken
+module _ (s : Shape) (no_shorts : NoShorts s) (no_longs : NoLongs s) where
+  full_lost : (rows : List Row) (pending : Option (Text × List Text)) (position : ℕ) → IsRefused (step_fault s position (held rows pending) value)
+      → (word : Text) (words : List Text) → HasNoEnd (word ∷ words) → IsRefused (fault_from s (at (held rows pending) idle position) (word ∷ words))
+  full_lost rows pending position stray word words (end, ends) = elim (taken_or_lost s no_shorts no_longs word end rows pending position) [
+    | inl is ↦ value_refused s no_shorts word end rows pending idle position is stray words
+    | inr is ↦ is.lost words
+  ]
+
+-- the walk's end, where it begins here
+abbrev rows_from : Shape → Walk → List Text → List Row
+rows_from s w words = finished s.rules (fold (walked s.rules []) w words).held
+
+-- one word was taken
+module _ (s : Shape) (told : List Row → Option Command) (wanted : Option Command) where
+  step_taken : (before after : Walk) (word : Text) (words : List Text) → fault_from s before (word ∷ words) ≡ fault_from s after words → walked s.rules [] before word ≡ after
+      → Agrees (fault_from s after words) (told (rows_from s after words)) wanted → Agrees (fault_from s before (word ∷ words)) (told (rows_from s before (word ∷ words))) wanted
+  step_taken before after word words fault walk agrees =
+      subst (λ (w : Walk). Agrees (fault_from s before (word ∷ words)) (told (rows_from s w words)) wanted) (sym walk)
+      (subst (λ (kinds : Kinds). Agrees kinds (told (rows_from s after words)) wanted) (sym fault) agrees)
+
+abbrev MakeAgrees : Walk → List Text → List Text → Type 0
+MakeAgrees w words all = Agrees (fault_from make_shape w words) (make_in (rows_from make_shape w words)) (make_of all)
+
+make_no_longs : NoLongs make_shape
+make_no_longs name = refl
+
+make_three : (number steps lanes : Text) (words : List Text) → HasNoEnd words → MakeAgrees (three number steps lanes) words (number ∷ steps ∷ lanes ∷ words)
+unfolding clap_on_literals
+make_three number steps lanes [] ends = inl (refl, refl)
+make_three number steps lanes (word ∷ words) ends = inr (
+  full_lost make_shape make_no_shorts make_no_longs (row number_id number ∷ row steps_id steps ∷ []) (Some (lanes_id, lanes ∷ [])) 4 tt word words ends,
+  refl,
+)
+
+make_two : (number steps : Text) (words : List Text) → HasNoEnd words → MakeAgrees (two number steps) words (number ∷ steps ∷ words)
+unfolding clap_on_literals
+make_two number steps [] ends = inr (tt, refl)
+make_two number steps (word ∷ words) (end, ends) = elim (taken_or_lost make_shape make_no_shorts make_no_longs word end (row number_id number ∷ []) (Some (steps_id, steps ∷ [])) 3) [
+  | inl is ↦ step_taken make_shape make_in (make_of (number ∷ steps ∷ word ∷ words)) (two number steps) (three number steps word) word words
+      (value_from make_shape make_no_shorts word end (row number_id number ∷ []) (Some (steps_id, steps ∷ [])) idle 3 is refl words)
+      (value_walked make_shape make_no_shorts word end (row number_id number ∷ []) (Some (steps_id, steps ∷ [])) idle 3 is)
+      (make_three number steps word words ends)
+  | inr is ↦ inr (is.lost words, make_no_lanes number steps word words is.no_number)
+]
+
+make_one : (number : Text) (words : List Text) → HasNoEnd words → MakeAgrees (one number) words (number ∷ words)
+unfolding clap_on_literals
+make_one number [] ends = inr (tt, refl)
+make_one number (word ∷ words) (end, ends) = elim (taken_or_lost make_shape make_no_shorts make_no_longs word end [] (Some (number_id, number ∷ [])) 2) [
+  | inl is ↦ step_taken make_shape make_in (make_of (number ∷ word ∷ words)) (one number) (two number word) word words
+      (value_from make_shape make_no_shorts word end [] (Some (number_id, number ∷ [])) idle 2 is refl words)
+      (value_walked make_shape make_no_shorts word end [] (Some (number_id, number ∷ [])) idle 2 is)
+      (make_two number word words ends)
+  | inr is ↦ inr (is.lost words, make_no_steps number word words is.no_number)
+]
+
+pub make_agrees : (words : List Text) → HasNoEnd words → MakeAgrees none words words
+unfolding clap_on_literals
+make_agrees [] ends = inr (tt, refl)
+make_agrees (word ∷ words) (end, ends) = elim (taken_or_lost make_shape make_no_shorts make_no_longs word end [] None 1) [
+  | inl is ↦ step_taken make_shape make_in (make_of (word ∷ words)) none (one word) word words
+      (value_from make_shape make_no_shorts word end [] None idle 1 is refl words) (value_walked make_shape make_no_shorts word end [] None idle 1 is)
+      (make_one word words ends)
+  | inr is ↦ inr (is.lost words, make_no_number word words is.no_number)
+]
+
+abbrev TrialAgrees : Walk → List Text → List Text → Type 0
+TrialAgrees w words all = Agrees (fault_from trial_shape w words) (trial_in (rows_from trial_shape w words)) (trial_of all)
+
+trial_no_longs : NoLongs trial_shape
+trial_no_longs name = refl
+
+trial_two : (number steps : Text) (words : List Text) → HasNoEnd words → TrialAgrees (two number steps) words (number ∷ steps ∷ words)
+unfolding clap_on_literals
+trial_two number steps [] ends = inl (refl, refl)
+trial_two number steps (word ∷ words) ends = inr (
+  full_lost trial_shape trial_no_shorts trial_no_longs (row number_id number ∷ []) (Some (steps_id, steps ∷ [])) 3 tt word words ends,
+  refl,
+)
+
+trial_one : (number : Text) (words : List Text) → HasNoEnd words → TrialAgrees (one number) words (number ∷ words)
+unfolding clap_on_literals
+trial_one number [] ends = inr (tt, refl)
+trial_one number (word ∷ words) (end, ends) = elim (taken_or_lost trial_shape trial_no_shorts trial_no_longs word end [] (Some (number_id, number ∷ [])) 2) [
+  | inl is ↦ step_taken trial_shape trial_in (trial_of (number ∷ word ∷ words)) (one number) (two number word) word words
+      (value_from trial_shape trial_no_shorts word end [] (Some (number_id, number ∷ [])) idle 2 is refl words)
+      (value_walked trial_shape trial_no_shorts word end [] (Some (number_id, number ∷ [])) idle 2 is)
+      (trial_two number word words ends)
+  | inr is ↦ inr (is.lost words, trial_no_steps number word words is.no_number)
+]
+
+pub trial_agrees : (words : List Text) → HasNoEnd words → TrialAgrees none words words
+unfolding clap_on_literals
+trial_agrees [] ends = inr (tt, refl)
+trial_agrees (word ∷ words) (end, ends) = elim (taken_or_lost trial_shape trial_no_shorts trial_no_longs word end [] None 1) [
+  | inl is ↦ step_taken trial_shape trial_in (trial_of (word ∷ words)) none (one word) word words
+      (value_from trial_shape trial_no_shorts word end [] None idle 1 is refl words) (value_walked trial_shape trial_no_shorts word end [] None idle 1 is)
+      (trial_one word words ends)
+  | inr is ↦ inr (is.lost words, trial_no_number word words is.no_number)
+]

@@ -1,0 +1,36 @@
+-- The subcommands as `clap` builds them.
+use Rattle.std.proofs.Common.{◌≡◌, [], ◌∷◌, refl, true}
+use Rattle.clap.specs.Faults.{is_simple_and_free}
+use Rattle.clap.specs.Simple.{Shape, built, built_leaf, inherited, is_simple, marked_built, on_top, with_leaf_noted}
+use Rattle.mt_words.specs.Grammar.{grammar, make_app, replay_app, trial_app}
+use Rattle.mt_words.proofs.Sorts.{NoShorts}
+
+abbrev above : Shape
+above = (on_top with_leaf_noted (on_top marked_built grammar)).top
+
+abbrev pub replay_shape : Shape
+replay_shape = built_leaf (inherited above replay_app.top)
+
+abbrev pub make_shape : Shape
+make_shape = built_leaf (inherited above make_app.top)
+
+abbrev pub trial_shape : Shape
+trial_shape = built_leaf (inherited above trial_app.top)
+
+pub subs_are : (built grammar).subs ≡ replay_shape ∷ make_shape ∷ trial_shape ∷ []
+subs_are = refl
+
+pub simple : is_simple grammar ≡ true
+simple = refl
+
+pub simple_and_free : is_simple_and_free grammar ≡ true
+simple_and_free = refl
+
+pub replay_no_shorts : NoShorts replay_shape
+replay_no_shorts x = refl
+
+pub make_no_shorts : NoShorts make_shape
+make_no_shorts x = refl
+
+pub trial_no_shorts : NoShorts trial_shape
+trial_no_shorts x = refl

@@ -1,0 +1,10 @@
+/// What the program is asked to do.
+#[derive(Clone, Copy, Debug, PartialEq, Eq)]
+pub enum Command {
+    /// Runs the log that is read, with so many rows for each tree.
+    Replay { rows: u64 },
+    /// Writes a log that is drawn from a number: so many steps, dealt out to so many lanes.
+    Make { number: u32, steps: u32, lanes: u32 },
+    /// Runs such a log of one lane, and writes how often each answer came.
+    Trial { number: u32, steps: u32 },
+}
