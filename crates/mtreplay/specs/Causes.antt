@@ -1,13 +1,15 @@
 -- What each end of a run says of its words, its source and its sink.
-use Rattle.std.specs.Prelude.{◌≡◌, ◌++◌, ℕ, Bool, true, false, List, Option, Result, Ok, Err}
+use Rattle.std.specs.Prelude.{◌≡◌, ◌⊎◌, ◌++◌, ℕ, List, Option, Some, None, Result, Ok, Err}
 use Rattle.std.specs.Io.KnownBytes.{Appends}
 use Rattle.mt_io.specs.Faults.{Rose}
 use Rattle.mt_log.specs.Reading.{log_of}
 use Rattle.mt_log.specs.declared.faults.LogError.{LogError}
 use Rattle.mt_log.specs.declared.faults.LogError.TheVariants as logs
 use Rattle.mt_log.specs.declared.lines.Log.{Log}
+use Rattle.mt_words.specs.declared.commands.Command.{Command}
+use Rattle.mt_words.specs.declared.commands.Command.TheVariants.{Replay, Make, Trial}
 use Rattle.mtreplay.specs.Ending.{ReadsTooMany, ReadsWithin}
-use Rattle.mtreplay.specs.Headline.{IsTextOfRun}
+use Rattle.mtreplay.specs.Headline.{IsMadeText, IsTextOfRun, IsTrialText}
 use Rattle.mtreplay.specs.Input.{ReadsAll}
 use Rattle.mtreplay.specs.declared.failures.Failure.{Failure}
 use Rattle.mtreplay.specs.declared.failures.Failure.TheVariants as failures
@@ -47,19 +49,38 @@ abbrev pub streams : Option (List ℕ) → ℕ → Option (List ℕ) → ℕ →
 streams left source_faults written sink_faults = record { left = left; source_faults = source_faults; written = written; sink_faults = sink_faults }
 
 -- the whole input was read, and the text of a run of its log was written
-abbrev pub Finishes : Streams → Streams → Type 0
-Finishes old new = (bytes text : List ℕ) × ReadsAll old.left new.left bytes × IsTextOfRun bytes text × Appends old.written new.written text
+abbrev pub Finishes : ℕ → Streams → Streams → Type 0
+Finishes rows old new = (bytes text : List ℕ) × ReadsAll old.left new.left bytes × IsTextOfRun rows bytes text × Appends old.written new.written text
 
 -- the same, but only the first part of the text was written
-abbrev pub FailsToWrite : Streams → Streams → Type 0
-FailsToWrite old new = (bytes part rest : List ℕ) × ReadsAll old.left new.left bytes × IsTextOfRun bytes (part ++ rest) × Appends old.written new.written part × Rose old.sink_faults new.sink_faults
+abbrev pub FailsToWrite : ℕ → Streams → Streams → Type 0
+FailsToWrite rows old new = (bytes part rest : List ℕ) × ReadsAll old.left new.left bytes × IsTextOfRun rows bytes (part ++ rest) × Appends old.written new.written part × Rose old.sink_faults new.sink_faults
 
-abbrev pub Fails : Failure → Streams → Streams → Type 0
-Fails failures.WriteFault old new = FailsToWrite old new
-Fails failure old new = FailsToRead failure old.left new.left old.source_faults new.source_faults
+abbrev pub Fails : ℕ → Failure → Streams → Streams → Type 0
+Fails rows failures.WriteFault old new = FailsToWrite rows old new
+Fails rows failure old new = FailsToRead failure old.left new.left old.source_faults new.source_faults
 
--- how a run ended, where its words are the command and where they are not
-abbrev pub Ends : Bool → Result (Unit {0}) Failure → Streams → Streams → Type 0
-Ends true (Ok done) old new = Finishes old new
-Ends true (Err failure) old new = Fails failure old new
-Ends false result old new = (result ≡ Err failures.Usage) × (new ≡ old)
+-- how a run of the log that is read ended
+abbrev pub EndsReplay : ℕ → Result (Unit {0}) Failure → Streams → Streams → Type 0
+EndsReplay rows (Ok done) old new = Finishes rows old new
+EndsReplay rows (Err failure) old new = Fails rows failure old new
+
+-- how it ended to print a text: whole, or its first part where the sink failed
+abbrev pub EndsPrint : List ℕ → Result (Unit {0}) Failure → Option (List ℕ) → Option (List ℕ) → ℕ → ℕ → Type 0
+EndsPrint text (Ok done) before after faults_before faults_after = Appends before after text
+EndsPrint text (Err failure) before after faults_before faults_after =
+    (failure ≡ failures.WriteFault) × (part rest : List ℕ) × (text ≡ part ++ rest) × Appends before after part × Rose faults_before faults_after
+
+-- how it ended to make such a text and print it
+abbrev pub EndsMaking : (List ℕ → Type 0) → Result (Unit {0}) Failure → Option (List ℕ) → Option (List ℕ) → ℕ → ℕ → Type 0
+EndsMaking IsText (Ok done) before after faults_before faults_after = (text : List ℕ) × IsText text × Appends before after text
+EndsMaking IsText (Err failures.WriteFault) before after faults_before faults_after =
+    (part rest : List ℕ) × IsText (part ++ rest) × Appends before after part × Rose faults_before faults_after
+EndsMaking IsText (Err failure) before after faults_before faults_after = failure ≡ failures.NoMemory
+
+-- how it ended where the words are this command, or none
+abbrev pub Ends : Option Command → Result (Unit {0}) Failure → Streams → Streams → Type 0
+Ends (Some (Replay rows)) result old new = EndsReplay rows result old new
+Ends (Some (Make number steps lanes)) result old new = EndsMaking (IsMadeText number steps lanes) result old.written new.written old.sink_faults new.sink_faults
+Ends (Some (Trial number steps)) result old new = EndsMaking (IsTrialText number steps) result old.written new.written old.sink_faults new.sink_faults
+Ends None result old new = (result ≡ Err failures.Usage) ⊎ (result ≡ Err failures.NoMemory)

@@ -1,9 +1,11 @@
--- Which words are a command.
-use Rattle.std.specs.Prelude.{ℕ, Bool, false, List, [], ◌∷◌, codes}
-use Rattle.std.specs.Str.{bytes_eq}
+-- Which commands read the source.
+use Rattle.std.specs.Prelude.{Bool, true, false, Option, Some, None}
+use Rattle.mt_words.specs.declared.commands.Command.{Command}
+use Rattle.mt_words.specs.declared.commands.Command.TheVariants.{Replay, Make, Trial}
 
--- the one word `replay`
-abbrev pub is_replay : List (List ℕ) → Bool
-is_replay [] = false
-is_replay (word ∷ []) = bytes_eq word (codes "replay")
-is_replay (word ∷ other ∷ words) = false
+-- the words are a command that reads the source
+abbrev pub reads : Option Command → Bool
+reads None = false
+reads (Some (Replay rows)) = true
+reads (Some (Make number steps lanes)) = false
+reads (Some (Trial number steps)) = false

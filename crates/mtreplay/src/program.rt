@@ -1,36 +1,25 @@
-ghost use Rattle.std.specs.Prelude.{◌≡◌, ◌≢◌, ◌↔◌, ◌⊎◌, ◌<◌, ◌≤◌, ℕ, List, Some, true, false, IsOk, IsErr, IfOk, IfErr, IfSome, [], length, map, string_bytes};
+ghost use Rattle.std.specs.Prelude.{◌≡◌, ◌≢◌, ◌⊎◌, ◌<◌, ◌≤◌, ◌^◌, ℕ, List, Some, None, true, false, IsOk, IsErr, IfOk, IfErr, IfSome, length, map, string_bytes};
 ghost use Rattle.std.specs.Io.KnownBytes.{IsAtEnd};
 ghost use Rattle.mt_base.specs.Width.{most_rows};
 ghost use Rattle.mt_io.specs.Faults.{Rose};
 ghost use Rattle.mt_log.specs.Reading.{log_of};
-ghost use Rattle.mt_log.specs.Run.{IsRun};
-ghost use Rattle.mt_log.specs.Trees.{IsReadable};
-ghost use Rattle.mtreplay.specs.Causes.{ReadsLog, FailsToRead, Ends, streams};
-ghost use Rattle.mtreplay.specs.Command.{is_replay};
+ghost use Rattle.mt_log.specs.Trees.{IsReadable, most_lanes};
+ghost use Rattle.mt_play.specs.Trees.{fewest_rows};
+ghost use Rattle.mt_words.specs.Commands.{command_of};
+ghost use Rattle.mtreplay.specs.Causes.{ReadsLog, FailsToRead, Ends, EndsMaking, EndsPrint, EndsReplay, streams};
+ghost use Rattle.mtreplay.specs.Command.{reads};
 ghost use Rattle.mtreplay.specs.Ending.{TellsStatus, status_due, ReadsNoFurther, ReadsTooMany, ReadsWithin};
-ghost use Rattle.mtreplay.specs.Headline.{Replays, ReplaysPart, TellsRun};
+ghost use Rattle.mtreplay.specs.Headline.{IsMadeText, IsTrialText, Writes, WritesPart};
 
 use crate::failures::{Failure, report};
 use crate::streams::{LONGEST, read_input, write_output};
-use crate::trees::LaneTree;
-use mt_base::{MOST_ROWS, NoMemory};
+use crate::texts::{answers, made_text, trial_text};
 use mt_io::{Gate, Sink, Source};
-use mt_log::{Log, Transcript, read_log, render};
-use mt_play::play;
-use mt_tree::Pass;
+use mt_log::{Log, read_log};
+use mt_words::{Command, read_words};
 use std::alloc::Global;
 use std::sync::Wait;
 use std::thread::Threads;
-
-/// Whether the words are the one word `replay`.
-fn is_replay(words: &[String]) -> bool
-    ensures { result ≡ is_replay (map string_bytes words.now) }
-{
-    match words {
-        [word] => word.as_str() == "replay",
-        _ => false,
-    }
-}
 
 /// Reads a log.
 fn read<S: Source>(alloc: Global, src: &mut S) -> Result<Log, Failure>
@@ -45,45 +34,26 @@ fn read<S: Source>(alloc: Global, src: &mut S) -> Result<Log, Failure>
     Ok(read_log(alloc, &bytes)?)
 }
 
-/// What the lines of a log were answered. Their memory is given back.
-fn played<R: Threads + Wait + Sync, G: Gate + Sync>(
-    rt: &R,
-    alloc: Global,
-    log: Log,
-    gate: &G,
-) -> Result<Transcript, NoMemory>
-    requires readable { IsReadable log.lines }
-    requires count { length log.lines ≤ LONGEST }
-    ensures { IfOk result (λ t. IsRun log most_rows t) }
+/// Prints a text.
+fn print<O: Sink>(out: &mut O, text: &[u8]) -> Result<(), Failure>
+    ensures ends { EndsPrint text.now result (O.written out.old) (O.written out.new) (O.faults out.old) (O.faults out.new) }
+    ensures out_in_time { O.faults out.old ≡ 0 → O.late out.old ≡ 0 → O.late out.new ≡ 0 }
 {
-    play::<R, Pass, LaneTree, G>(rt, alloc, &log, MOST_ROWS, gate)
+    write_output(out, text).map_err(|_| Failure::WriteFault)
 }
 
-/// The text of what the lines of a log were answered.
-fn answers<R: Threads + Wait + Sync, G: Gate + Sync>(
-    rt: &R,
-    alloc: Global,
-    log: Log,
-    gate: &G,
-) -> Result<Vec<u8>, NoMemory>
-    requires readable { IsReadable log.lines }
-    requires count { length log.lines ≤ LONGEST }
-    ensures { IfOk result (λ text. TellsRun log text.items) }
-{
-    let version = log.version;
-    let transcript = played(rt, alloc, log, gate)?;
-    render(alloc, version, &transcript)
-}
-
-/// Reads a log, plays its lines and writes what they were answered.
+/// Reads a log, plays its lines over trees of so many rows and prints what they were answered.
 fn replay<R: Threads + Wait + Sync, S: Source, O: Sink, G: Gate + Sync>(
     rt: &R,
     alloc: Global,
+    rows: u64,
     src: &mut S,
     out: &mut O,
     gate: &G,
 ) -> Result<(), Failure>
-    ensures ends { Ends true result (streams (S.left src.old) (S.faults src.old) (O.written out.old) (O.faults out.old))
+    requires few_rows { fewest_rows ≤ rows }
+    requires rows { rows ≤ most_rows }
+    ensures ends { EndsReplay rows result (streams (S.left src.old) (S.faults src.old) (O.written out.old) (O.faults out.old))
         (streams (S.left src.new) (S.faults src.new) (O.written out.new) (O.faults out.new)) }
     ensures reach { ReadsNoFurther (S.left src.old) (S.left src.new) }
     ensures out_kept { IfErr result (λ e. e ≢ Failure.WriteFault → out.new ≡ out.old) }
@@ -91,12 +61,50 @@ fn replay<R: Threads + Wait + Sync, S: Source, O: Sink, G: Gate + Sync>(
     ensures out_in_time { O.faults out.old ≡ 0 → O.late out.old ≡ 0 → O.late out.new ≡ 0 }
 {
     let log = read(alloc, src)?;
-    let text = answers(rt, alloc, log, gate)?;
-    write_output(out, &text).map_err(|_| Failure::WriteFault)
+    let text = answers(rt, alloc, log, rows, gate)?;
+    print(out, &text)
+}
+
+/// Prints the log that is made of a number.
+fn make<O: Sink>(
+    alloc: Global,
+    number: u32,
+    steps: u32,
+    lanes: u32,
+    out: &mut O,
+) -> Result<(), Failure>
+    requires number { number < 2 ^ 31 }
+    requires steps { steps ≤ 100000 }
+    requires lanes { 1 ≤ lanes }
+    requires few_lanes { lanes ≤ most_lanes }
+    ensures ends { EndsMaking (IsMadeText number steps lanes) result (O.written out.old) (O.written out.new) (O.faults out.old) (O.faults out.new) }
+    ensures out_kept { IfErr result (λ e. e ≢ Failure.WriteFault → out.new ≡ out.old) }
+    ensures out_in_time { O.faults out.old ≡ 0 → O.late out.old ≡ 0 → O.late out.new ≡ 0 }
+{
+    let text = made_text(alloc, number, steps, lanes)?;
+    print(out, &text)
+}
+
+/// Plays the lines of a log that is made of a number, and prints what that came to.
+fn trial<R: Threads + Wait + Sync, O: Sink, G: Gate + Sync>(
+    rt: &R,
+    alloc: Global,
+    number: u32,
+    steps: u32,
+    out: &mut O,
+    gate: &G,
+) -> Result<(), Failure>
+    requires number { number < 2 ^ 31 }
+    requires steps { steps ≤ 100000 }
+    ensures ends { EndsMaking (IsTrialText number steps) result (O.written out.old) (O.written out.new) (O.faults out.old) (O.faults out.new) }
+    ensures out_kept { IfErr result (λ e. e ≢ Failure.WriteFault → out.new ≡ out.old) }
+    ensures out_in_time { O.faults out.old ≡ 0 → O.late out.old ≡ 0 → O.late out.new ≡ 0 }
+{
+    let text = trial_text(rt, alloc, number, steps, gate)?;
+    print(out, text.as_str().as_bytes())
 }
 
 /// Does what the words say.
-#[tactic(auto, using(crate::proofs::Pieces::reads_none))]
 fn run<R: Threads + Wait + Sync, S: Source, O: Sink, G: Gate + Sync>(
     rt: &R,
     alloc: Global,
@@ -105,19 +113,25 @@ fn run<R: Threads + Wait + Sync, S: Source, O: Sink, G: Gate + Sync>(
     out: &mut O,
     gate: &G,
 ) -> Result<(), Failure>
-    ensures ends { Ends (is_replay (map string_bytes words.now)) result
+    ensures ends { Ends (command_of (map string_bytes words.now)) result
         (streams (S.left src.old) (S.faults src.old) (O.written out.old) (O.faults out.old))
         (streams (S.left src.new) (S.faults src.new) (O.written out.new) (O.faults out.new)) }
     ensures reach { ReadsNoFurther (S.left src.old) (S.left src.new) }
-    ensures unread { IfErr result (λ e. e ≡ Failure.Usage → src.new ≡ src.old) }
+    ensures unread { reads (command_of (map string_bytes words.now)) ≡ false → src.new ≡ src.old }
     ensures out_kept { IfErr result (λ e. e ≢ Failure.WriteFault → out.new ≡ out.old) }
     ensures src_in_time { S.faults src.old ≡ 0 → S.late src.old ≡ 0 → S.late src.new ≡ 0 }
     ensures out_in_time { O.faults out.old ≡ 0 → O.late out.old ≡ 0 → O.late out.new ≡ 0 }
 {
-    if !is_replay(words) {
-        return Err(Failure::Usage);
+    match read_words(alloc, words)? {
+        Some(Command::Replay { rows }) => replay(rt, alloc, rows, src, out, gate),
+        Some(Command::Make {
+            number,
+            steps,
+            lanes,
+        }) => make(alloc, number, steps, lanes, out),
+        Some(Command::Trial { number, steps }) => trial(rt, alloc, number, steps, out, gate),
+        None => Err(Failure::Usage),
     }
-    replay(rt, alloc, src, out, gate)
 }
 
 /// Does what the words after the program's name say, and gives the status to end with.
@@ -133,33 +147,40 @@ pub fn mtreplay<R: Threads + Wait + Sync, S: Source, O: Sink, E: Sink, G: Gate +
     err: &mut E,
     gate: &G,
 ) -> u8
-    // What is printed is the text of a run of the log that was read.
-    ensures replays { result ≡ 0 → Replays (S.left src.old) (O.written out.old) (O.written out.new) }
+    // What is printed is what the command prints: the text of a run of the log that was read, the log that is made of a number,
+    // or what a run of that came to.
+    ensures prints { (command : Command) → command_of (map string_bytes words.now) ≡ Some command → result ≡ 0
+        → Writes command (S.left src.old) (O.written out.old) (O.written out.new) }
 
     // Each status has its cause.
-    ensures good_log { result ≡ 0 → IfSome (S.left src.old) (λ bytes. IsOk (log_of bytes)) }
+    ensures good_log { reads (command_of (map string_bytes words.now)) ≡ true → result ≡ 0 → IfSome (S.left src.old) (λ bytes. IsOk (log_of bytes)) }
     ensures bad_log { result ≡ 1 → IfSome (S.left src.old) (λ bytes. IsErr (log_of bytes)) }
-    ensures usage { (result ≡ 2) ↔ (is_replay (map string_bytes words.now) ≡ false) }
+    ensures usage { result ≡ 2 → command_of (map string_bytes words.now) ≡ None }
     ensures read_fault { result ≡ 3 → Rose (S.faults src.old) (S.faults src.new) }
     ensures write_fault { result ≡ 4 → Rose (O.faults out.old) (O.faults out.new) }
-    ensures good_log_too { result ≡ 4 → IfSome (S.left src.old) (λ bytes. IsOk (log_of bytes)) }
-    ensures part { result ≡ 4 → ReplaysPart (S.left src.old) (O.written out.old) (O.written out.new) }
+    ensures good_log_too { reads (command_of (map string_bytes words.now)) ≡ true → result ≡ 4 → IfSome (S.left src.old) (λ bytes. IsOk (log_of bytes)) }
+    ensures part { (command : Command) → command_of (map string_bytes words.now) ≡ Some command → result ≡ 4
+        → WritesPart command (S.left src.old) (O.written out.old) (O.written out.new) }
     ensures too_long { result ≡ 6 → ReadsTooMany (S.left src.old) (S.left src.new) }
     ensures within { result ≤ 6 }
+    ensures of_reading { reads (command_of (map string_bytes words.now)) ≡ false → (result ≢ 1) × (result ≢ 3) × (result ≢ 6) }
 
     // And it comes where its cause is, unless memory runs out.
-    ensures complete { (bytes : List ℕ) → is_replay (map string_bytes words.now) ≡ true → S.left src.old ≡ Some bytes
+    ensures usage_too { command_of (map string_bytes words.now) ≡ None → (result ≡ 2) ⊎ (result ≡ 5) }
+    ensures complete { (bytes : List ℕ) → reads (command_of (map string_bytes words.now)) ≡ true → S.left src.old ≡ Some bytes
         → ¬ Rose (S.faults src.old) (S.faults src.new) → ¬ Rose (O.faults out.old) (O.faults out.new)
         → (result ≡ status_due bytes) ⊎ (result ≡ 5) }
+    ensures complete_too { (command : Command) → command_of (map string_bytes words.now) ≡ Some command → reads (Some command) ≡ false
+        → ¬ Rose (O.faults out.old) (O.faults out.new) → (result ≡ 0) ⊎ (result ≡ 5) }
 
-    // The input is read to its end, and no further than an input may reach.
-    ensures at_end { result < 2 → IsAtEnd (S.left src.new) }
-    ensures at_end_too { result ≡ 4 → IsAtEnd (S.left src.new) }
+    // The input is read to its end, and no further than an input may reach, and by one command alone.
+    ensures at_end { reads (command_of (map string_bytes words.now)) ≡ true → result < 2 → IsAtEnd (S.left src.new) }
+    ensures at_end_too { reads (command_of (map string_bytes words.now)) ≡ true → result ≡ 4 → IsAtEnd (S.left src.new) }
     ensures reach { ReadsNoFurther (S.left src.old) (S.left src.new) }
     ensures limit { result ≢ 5 → result ≢ 6 → ReadsWithin (S.left src.old) (S.left src.new) }
-    ensures unread { result ≡ 2 → src.new ≡ src.old }
+    ensures unread { reads (command_of (map string_bytes words.now)) ≡ false → src.new ≡ src.old }
 
-    // Nothing is written but the text of a run, or its first part, and on `err` the text of the status.
+    // Nothing is printed but what the command prints, or its first part, and on `err` the text of the status.
     ensures out_kept { result ≢ 0 → result ≢ 4 → out.new ≡ out.old }
     ensures err_kept { result ≡ 0 → err.new ≡ err.old }
     ensures told { result ≢ 0 → TellsStatus result (S.left src.old) (E.written err.old) (E.written err.new) (E.faults err.old) (E.faults err.new) }
