@@ -1,3 +1,4 @@
+mod commands;
 mod drawn;
 mod lanes;
 mod played;
@@ -310,29 +311,6 @@ fn a_bad_log_is_told_by_its_line(rt: HostRuntime) -> Result<(), Fail> {
         assert_eq!(rt; ending.status, 1, "{log}");
         assert_eq!(rt; ending.out.bytes(), b"".as_slice(), "{log}");
         assert_eq!(rt; ending.err.bytes(), told.as_bytes(), "{log}");
-    }
-    Ok(())
-}
-
-#[test]
-fn words_that_are_no_command_read_nothing(rt: HostRuntime) -> Result<(), Fail> {
-    let rows: [&[&str]; 6] = [
-        &[],
-        &["help"],
-        &["Replay"],
-        &["--", "replay"],
-        &["replay", "--"],
-        &["replay", "replay"],
-    ];
-    for words in rows {
-        let mut src = source(rt.alloc(), LOG, 0)?;
-        let ending = run(&rt, words, &mut src, 256, 256)?;
-        assert_eq!(rt; ending.status, 2);
-        assert_eq!(rt; ending.out.bytes(), b"".as_slice());
-        assert_eq!(rt; ending.err.bytes(), USAGE.as_bytes());
-        // The first read, which fails, is this one.
-        assert_eq!(rt; src.read(&mut [0; GIVEN]), Err(Failed));
-        assert_eq!(rt; src.read(&mut [0; GIVEN]), Ok(GIVEN));
     }
     Ok(())
 }

@@ -3,20 +3,6 @@ use crate::tests::steps;
 use std::alloc::{AllocError, Global};
 use std::test::Fail;
 
-#[test]
-fn a_tree_of_four_rows_has_no_room_for_a_second_range(rt: HostRuntime) -> Result<(), Fail> {
-    let log = steps(
-        rt.alloc(),
-        "store a 10 10 5\nstore a 20 20 7\nstore a 10 10 4\npstore a 10 10 8\nerase a 10\nclear a\nstore a 1 1 9\n",
-    )?;
-    let want =
-        "3 1 ok\n4 2 nomem 4 3 1 0\n5 3 ok\n6 4 nomem 4 3 1 0\n7 5 nomem 4 3 1 0\n8 6 ok\n9 7 ok\n\
-         tree a range 1\n1 1 9\n";
-    let text = text_in_rows(&rt, rt.alloc(), log.as_str(), 4)?;
-    assert_eq!(rt; text.as_slice(), want.as_bytes());
-    Ok(())
-}
-
 /// So many stores, each behind the one before, and then one more, a load of it, a store by one word and an erase.
 fn growing_log(alloc: Global, stores: u32) -> Result<String, AllocError> {
     let mut log = steps(alloc, "")?;
