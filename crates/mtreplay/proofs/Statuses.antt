@@ -10,7 +10,7 @@ use Rattle.mt_log.specs.declared.faults.Why.{Why}
 use Rattle.mt_log.specs.declared.lines.Log.{Log}
 use Rattle.mt_words.specs.declared.commands.Command.{Command}
 use Rattle.mt_words.specs.declared.commands.Command.TheVariants.{Replay, Make, Trial}
-use Rattle.mtreplay.specs.Causes.{Ends, FailsToRead, Streams}
+use Rattle.mtreplay.specs.Causes.{Ends, FailsToRead, HasEnded, Streams}
 use Rattle.mtreplay.specs.Command.{reads}
 use Rattle.mtreplay.specs.Ending.{IsToldOf, ReadsTooMany, ReadsWithin, status_due, status_of}
 use Rattle.mtreplay.specs.Headline.{IsTextOfRun, IsTrialText, Prints, Writes, WritesPart}
@@ -141,31 +141,31 @@ module _ (old new : Streams) where
   broken (Some (Make number steps lanes)) (part, rest, is, wrote, rose) = (part, rest, of_making (Make number steps lanes) part rest refl is wrote, rose)
   broken (Some (Trial number steps)) (part, rest, is, wrote, rose) = (part, rest, of_making (Trial number steps) part rest refl is wrote, rose)
 
-  -- a run that failed to read, for a cause of its source
-  pub unread : (command : Option Command) (failure : Failure) → of_source failure ≡ true → Ends command (Err failure) old new
+  -- a run that failed for a cause of its source, or of the bytes that this gave
+  pub failed_reading : (command : Option Command) (failure : Failure) → of_source failure ≡ true → Ends command (Err failure) old new
       → (reads command ≡ true) × FailsToRead failure old.left new.left old.source_faults new.source_faults
-  unread None failure source ends = elim ends [
+  failed_reading None failure source ends = elim ends [
     | inl e ↦ let is : failure ≡ failures.Usage = cc in absurd (true≢false (sym source ∙ ap of_source is))
     | inr e ↦ let is : failure ≡ failures.NoMemory = cc in absurd (true≢false (sym source ∙ ap of_source is))
   ]
-  unread (Some (Replay rows)) (failures.BadLog line why) source ends = (refl, ends)
-  unread (Some (Replay rows)) failures.ReadFault source ends = (refl, ends)
-  unread (Some (Replay rows)) failures.TooLong source ends = (refl, ends)
-  unread (Some (Replay rows)) failures.Usage source ends = absurd (true≢false (sym source))
-  unread (Some (Replay rows)) failures.WriteFault source ends = absurd (true≢false (sym source))
-  unread (Some (Replay rows)) failures.NoMemory source ends = absurd (true≢false (sym source))
-  unread (Some (Make number steps lanes)) (failures.BadLog line why) source ends = absurd (cc)
-  unread (Some (Make number steps lanes)) failures.ReadFault source ends = absurd (cc)
-  unread (Some (Make number steps lanes)) failures.TooLong source ends = absurd (cc)
-  unread (Some (Make number steps lanes)) failures.Usage source ends = absurd (true≢false (sym source))
-  unread (Some (Make number steps lanes)) failures.WriteFault source ends = absurd (true≢false (sym source))
-  unread (Some (Make number steps lanes)) failures.NoMemory source ends = absurd (true≢false (sym source))
-  unread (Some (Trial number steps)) (failures.BadLog line why) source ends = absurd (cc)
-  unread (Some (Trial number steps)) failures.ReadFault source ends = absurd (cc)
-  unread (Some (Trial number steps)) failures.TooLong source ends = absurd (cc)
-  unread (Some (Trial number steps)) failures.Usage source ends = absurd (true≢false (sym source))
-  unread (Some (Trial number steps)) failures.WriteFault source ends = absurd (true≢false (sym source))
-  unread (Some (Trial number steps)) failures.NoMemory source ends = absurd (true≢false (sym source))
+  failed_reading (Some (Replay rows)) (failures.BadLog line why) source ends = (refl, ends)
+  failed_reading (Some (Replay rows)) failures.ReadFault source ends = (refl, ends)
+  failed_reading (Some (Replay rows)) failures.TooLong source ends = (refl, ends)
+  failed_reading (Some (Replay rows)) failures.Usage source ends = absurd (true≢false (sym source))
+  failed_reading (Some (Replay rows)) failures.WriteFault source ends = absurd (true≢false (sym source))
+  failed_reading (Some (Replay rows)) failures.NoMemory source ends = absurd (true≢false (sym source))
+  failed_reading (Some (Make number steps lanes)) (failures.BadLog line why) source ends = absurd (cc)
+  failed_reading (Some (Make number steps lanes)) failures.ReadFault source ends = absurd (cc)
+  failed_reading (Some (Make number steps lanes)) failures.TooLong source ends = absurd (cc)
+  failed_reading (Some (Make number steps lanes)) failures.Usage source ends = absurd (true≢false (sym source))
+  failed_reading (Some (Make number steps lanes)) failures.WriteFault source ends = absurd (true≢false (sym source))
+  failed_reading (Some (Make number steps lanes)) failures.NoMemory source ends = absurd (true≢false (sym source))
+  failed_reading (Some (Trial number steps)) (failures.BadLog line why) source ends = absurd (cc)
+  failed_reading (Some (Trial number steps)) failures.ReadFault source ends = absurd (cc)
+  failed_reading (Some (Trial number steps)) failures.TooLong source ends = absurd (cc)
+  failed_reading (Some (Trial number steps)) failures.Usage source ends = absurd (true≢false (sym source))
+  failed_reading (Some (Trial number steps)) failures.WriteFault source ends = absurd (true≢false (sym source))
+  failed_reading (Some (Trial number steps)) failures.NoMemory source ends = absurd (true≢false (sym source))
 
   -- a run of words that are no command
   pub no_command : (command : Option Command) → Ends command (Err failures.Usage) old new → command ≡ None
@@ -174,141 +174,140 @@ module _ (old new : Streams) where
   no_command (Some (Make number steps lanes)) ends = absurd (cc)
   no_command (Some (Trial number steps)) ends = absurd (cc)
 
+module _ {command : Option Command} {old new : Streams} where
   -- ---- what the status 0 says
 
-  module _ (command : Option Command) (ends : Ends command (Ok tt) old new) where
-    pub ok_prints : (c : Command) → command ≡ Some c → Writes c old.left old.written new.written
-    ok_prints c is held known_held =
-        let (text, p) = done command ends in
-        let same : p.done ≡ c = cc (p.is, is) in (
-          text,
-          subst (Prints c old.left) (append-nil text) (subst (λ (d : Command). Prints d old.left (text ++ [])) same p.prints),
-          appended old.written new.written held text p.wrote known_held,
-        )
+  pub ok_prints : HasEnded command (Ok tt) old new → (c : Command) → command ≡ Some c → Writes c old.left old.written new.written
+  ok_prints ends c is held known_held =
+      let (text, p) = done old new command ends.ends in
+      let same : p.done ≡ c = cc (p.is, is) in (
+        text,
+        subst (Prints c old.left) (append-nil text) (subst (λ (d : Command). Prints d old.left (text ++ [])) same p.prints),
+        appended old.written new.written held text p.wrote known_held,
+      )
 
-    pub ok_good : reads command ≡ true → IfSome old.left (λ bytes. IsOk (log_of bytes))
-    ok_good read = (done command ends).1.good read
+  pub ok_good : HasEnded command (Ok tt) old new → reads command ≡ true → IfSome old.left (λ bytes. IsOk (log_of bytes))
+  ok_good ends read = (done old new command ends.ends).1.good read
 
-    pub ok_due : (bytes : List ℕ) → reads command ≡ true → old.left ≡ Some bytes → 0 ≡ status_due bytes
-    ok_due bytes read is = subst (λ (l : Option (List ℕ)). IfSome l (λ b. 0 ≡ status_due b)) is ((done command ends).1.due read)
+  pub ok_due : HasEnded command (Ok tt) old new → (bytes : List ℕ) → reads command ≡ true → old.left ≡ Some bytes → 0 ≡ status_due bytes
+  ok_due ends bytes read is = subst (λ (l : Option (List ℕ)). IfSome l (λ b. 0 ≡ status_due b)) is ((done old new command ends.ends).1.due read)
 
-    pub ok_ended : reads command ≡ true → IsAtEnd new.left
-    ok_ended read = (done command ends).1.ended read
+  pub ok_ended : HasEnded command (Ok tt) old new → reads command ≡ true → IsAtEnd new.left
+  ok_ended ends read = (done old new command ends.ends).1.ended read
 
-    pub ok_within : (reads command ≡ false → new.left ≡ old.left) → ReadsWithin old.left new.left
-    ok_within kept = within_by command kept (λ read. (done command ends).1.within read)
+  pub ok_within : HasEnded command (Ok tt) old new → (reads command ≡ false → new.left ≡ old.left) → ReadsWithin old.left new.left
+  ok_within ends kept = within_by command kept (λ read. (done old new command ends.ends).1.within read)
 
   -- ---- what another status says
 
-  module _ (command : Option Command) where
-    pub err_bad_log : (failure : Failure) → Ends command (Err failure) old new → status_of failure ≡ 1 → IfSome old.left (λ bytes. IsErr (log_of bytes))
-    err_bad_log (failures.BadLog line why) ends is =
-        let (bytes, all, bad) = (unread command (failures.BadLog line why) refl ends).1 in
-        known old.left new.left bytes (λ b. IsErr (log_of b)) all (err_log bytes line why bad)
-    err_bad_log failures.Usage ends is = absurd (omega (arith, is))
-    err_bad_log failures.ReadFault ends is = absurd (omega (arith, is))
-    err_bad_log failures.WriteFault ends is = absurd (omega (arith, is))
-    err_bad_log failures.NoMemory ends is = absurd (omega (arith, is))
-    err_bad_log failures.TooLong ends is = absurd (omega (arith, is))
+  pub err_bad_log : (failure : Failure) → HasEnded command (Err failure) old new → status_of failure ≡ 1 → IfSome old.left (λ bytes. IsErr (log_of bytes))
+  err_bad_log (failures.BadLog line why) ends is =
+      let (bytes, all, bad) = (failed_reading old new command (failures.BadLog line why) refl ends.ends).1 in
+      known old.left new.left bytes (λ b. IsErr (log_of b)) all (err_log bytes line why bad)
+  err_bad_log failures.Usage ends is = absurd (omega (arith, is))
+  err_bad_log failures.ReadFault ends is = absurd (omega (arith, is))
+  err_bad_log failures.WriteFault ends is = absurd (omega (arith, is))
+  err_bad_log failures.NoMemory ends is = absurd (omega (arith, is))
+  err_bad_log failures.TooLong ends is = absurd (omega (arith, is))
 
-    pub err_usage : (failure : Failure) → Ends command (Err failure) old new → status_of failure ≡ 2 → command ≡ None
-    err_usage (failures.BadLog line why) ends is = absurd (omega (arith, is))
-    err_usage failures.Usage ends is = no_command command ends
-    err_usage failures.ReadFault ends is = absurd (omega (arith, is))
-    err_usage failures.WriteFault ends is = absurd (omega (arith, is))
-    err_usage failures.NoMemory ends is = absurd (omega (arith, is))
-    err_usage failures.TooLong ends is = absurd (omega (arith, is))
+  pub err_usage : (failure : Failure) → HasEnded command (Err failure) old new → status_of failure ≡ 2 → command ≡ None
+  err_usage (failures.BadLog line why) ends is = absurd (omega (arith, is))
+  err_usage failures.Usage ends is = no_command old new command ends.ends
+  err_usage failures.ReadFault ends is = absurd (omega (arith, is))
+  err_usage failures.WriteFault ends is = absurd (omega (arith, is))
+  err_usage failures.NoMemory ends is = absurd (omega (arith, is))
+  err_usage failures.TooLong ends is = absurd (omega (arith, is))
 
-    pub err_read_fault : (failure : Failure) → Ends command (Err failure) old new → status_of failure ≡ 3 → Rose old.source_faults new.source_faults
-    err_read_fault (failures.BadLog line why) ends is = absurd (omega (arith, is))
-    err_read_fault failures.Usage ends is = absurd (omega (arith, is))
-    err_read_fault failures.ReadFault ends is = (unread command failures.ReadFault refl ends).1.1
-    err_read_fault failures.WriteFault ends is = absurd (omega (arith, is))
-    err_read_fault failures.NoMemory ends is = absurd (omega (arith, is))
-    err_read_fault failures.TooLong ends is = absurd (omega (arith, is))
+  pub err_read_fault : (failure : Failure) → HasEnded command (Err failure) old new → status_of failure ≡ 3 → Rose old.source_faults new.source_faults
+  err_read_fault (failures.BadLog line why) ends is = absurd (omega (arith, is))
+  err_read_fault failures.Usage ends is = absurd (omega (arith, is))
+  err_read_fault failures.ReadFault ends is = (failed_reading old new command failures.ReadFault refl ends.ends).1.1
+  err_read_fault failures.WriteFault ends is = absurd (omega (arith, is))
+  err_read_fault failures.NoMemory ends is = absurd (omega (arith, is))
+  err_read_fault failures.TooLong ends is = absurd (omega (arith, is))
 
-    -- what a failed printing left
-    write_fault : (failure : Failure) → Ends command (Err failure) old new → status_of failure ≡ 4
-        → (part rest : List ℕ) × Printed command old new part rest × Rose old.sink_faults new.sink_faults
-    write_fault (failures.BadLog line why) ends is = absurd (omega (arith, is))
-    write_fault failures.Usage ends is = absurd (omega (arith, is))
-    write_fault failures.ReadFault ends is = absurd (omega (arith, is))
-    write_fault failures.WriteFault ends is = broken command ends
-    write_fault failures.NoMemory ends is = absurd (omega (arith, is))
-    write_fault failures.TooLong ends is = absurd (omega (arith, is))
+  -- what a failed printing left
+  write_fault : (failure : Failure) → HasEnded command (Err failure) old new → status_of failure ≡ 4
+      → (part rest : List ℕ) × Printed command old new part rest × Rose old.sink_faults new.sink_faults
+  write_fault (failures.BadLog line why) ends is = absurd (omega (arith, is))
+  write_fault failures.Usage ends is = absurd (omega (arith, is))
+  write_fault failures.ReadFault ends is = absurd (omega (arith, is))
+  write_fault failures.WriteFault ends is = broken old new command ends.ends
+  write_fault failures.NoMemory ends is = absurd (omega (arith, is))
+  write_fault failures.TooLong ends is = absurd (omega (arith, is))
 
-    pub err_write_fault : (failure : Failure) → Ends command (Err failure) old new → status_of failure ≡ 4 → Rose old.sink_faults new.sink_faults
-    err_write_fault failure ends is = let (part, rest, printed, rose) = write_fault failure ends is in rose
+  pub err_write_fault : (failure : Failure) → HasEnded command (Err failure) old new → status_of failure ≡ 4 → Rose old.sink_faults new.sink_faults
+  err_write_fault failure ends is = let (part, rest, printed, rose) = write_fault failure ends is in rose
 
-    pub err_good : (failure : Failure) → Ends command (Err failure) old new → reads command ≡ true → status_of failure ≡ 4 → IfSome old.left (λ bytes. IsOk (log_of bytes))
-    err_good failure ends read is = let (part, rest, printed, rose) = write_fault failure ends is in printed.good read
+  pub err_good : (failure : Failure) → HasEnded command (Err failure) old new → reads command ≡ true → status_of failure ≡ 4 → IfSome old.left (λ bytes. IsOk (log_of bytes))
+  err_good failure ends read is = let (part, rest, printed, rose) = write_fault failure ends is in printed.good read
 
-    pub err_part : (failure : Failure) → Ends command (Err failure) old new → (c : Command) → command ≡ Some c → status_of failure ≡ 4 → WritesPart c old.left old.written new.written
-    err_part failure ends c known_command is held known_held =
-        let (part, rest, printed, rose) = write_fault failure ends is in
-        let same : printed.done ≡ c = cc (printed.is, known_command) in (
-          part,
-          rest,
-          subst (λ (d : Command). Prints d old.left (part ++ rest)) same printed.prints,
-          appended old.written new.written held part printed.wrote known_held,
-        )
+  pub err_part : (failure : Failure) → HasEnded command (Err failure) old new → (c : Command) → command ≡ Some c → status_of failure ≡ 4 → WritesPart c old.left old.written new.written
+  err_part failure ends c known_command is held known_held =
+      let (part, rest, printed, rose) = write_fault failure ends is in
+      let same : printed.done ≡ c = cc (printed.is, known_command) in (
+        part,
+        rest,
+        subst (λ (d : Command). Prints d old.left (part ++ rest)) same printed.prints,
+        appended old.written new.written held part printed.wrote known_held,
+      )
 
-    pub err_too_long : (failure : Failure) → Ends command (Err failure) old new → status_of failure ≡ 6 → ReadsTooMany old.left new.left
-    err_too_long (failures.BadLog line why) ends is = absurd (omega (arith, is))
-    err_too_long failures.Usage ends is = absurd (omega (arith, is))
-    err_too_long failures.ReadFault ends is = absurd (omega (arith, is))
-    err_too_long failures.WriteFault ends is = absurd (omega (arith, is))
-    err_too_long failures.NoMemory ends is = absurd (omega (arith, is))
-    err_too_long failures.TooLong ends is = (unread command failures.TooLong refl ends).1
+  pub err_too_long : (failure : Failure) → HasEnded command (Err failure) old new → status_of failure ≡ 6 → ReadsTooMany old.left new.left
+  err_too_long (failures.BadLog line why) ends is = absurd (omega (arith, is))
+  err_too_long failures.Usage ends is = absurd (omega (arith, is))
+  err_too_long failures.ReadFault ends is = absurd (omega (arith, is))
+  err_too_long failures.WriteFault ends is = absurd (omega (arith, is))
+  err_too_long failures.NoMemory ends is = absurd (omega (arith, is))
+  err_too_long failures.TooLong ends is = (failed_reading old new command failures.TooLong refl ends.ends).1
 
-    -- a command that reads nothing ends with none of the statuses of reading
-    pub err_unread : (failure : Failure) → Ends command (Err failure) old new → reads command ≡ false → (status_of failure ≢ 1) × (status_of failure ≢ 3) × (status_of failure ≢ 6)
-    err_unread (failures.BadLog line why) ends unreads = absurd (never_reads command unreads (unread command (failures.BadLog line why) refl ends).0)
-    err_unread failures.Usage ends unreads = (λ is. omega (arith, is), λ is. omega (arith, is), λ is. omega (arith, is))
-    err_unread failures.ReadFault ends unreads = absurd (never_reads command unreads (unread command failures.ReadFault refl ends).0)
-    err_unread failures.WriteFault ends unreads = (λ is. omega (arith, is), λ is. omega (arith, is), λ is. omega (arith, is))
-    err_unread failures.NoMemory ends unreads = (λ is. omega (arith, is), λ is. omega (arith, is), λ is. omega (arith, is))
-    err_unread failures.TooLong ends unreads = absurd (never_reads command unreads (unread command failures.TooLong refl ends).0)
+  -- a command that reads nothing ends with none of the statuses of reading
+  pub err_unread : (failure : Failure) → HasEnded command (Err failure) old new → reads command ≡ false → (status_of failure ≢ 1) × (status_of failure ≢ 3) × (status_of failure ≢ 6)
+  err_unread (failures.BadLog line why) ends unreads = absurd (never_reads command unreads (failed_reading old new command (failures.BadLog line why) refl ends.ends).0)
+  err_unread failures.Usage ends unreads = (λ is. omega (arith, is), λ is. omega (arith, is), λ is. omega (arith, is))
+  err_unread failures.ReadFault ends unreads = absurd (never_reads command unreads (failed_reading old new command failures.ReadFault refl ends.ends).0)
+  err_unread failures.WriteFault ends unreads = (λ is. omega (arith, is), λ is. omega (arith, is), λ is. omega (arith, is))
+  err_unread failures.NoMemory ends unreads = (λ is. omega (arith, is), λ is. omega (arith, is), λ is. omega (arith, is))
+  err_unread failures.TooLong ends unreads = absurd (never_reads command unreads (failed_reading old new command failures.TooLong refl ends.ends).0)
 
-    pub err_complete : (failure : Failure) → Ends command (Err failure) old new → (bytes : List ℕ) → reads command ≡ true → old.left ≡ Some bytes
-        → ¬ Rose old.source_faults new.source_faults → ¬ Rose old.sink_faults new.sink_faults → (status_of failure ≡ status_due bytes) ⊎ (status_of failure ≡ 5)
-    err_complete (failures.BadLog line why) ends bytes read is no_source no_sink =
-        let (got, all, bad) = (unread command (failures.BadLog line why) refl ends).1 in
-        inl (subst (λ (l : Option (List ℕ)). IfSome l (λ b. 1 ≡ status_due b)) is (known old.left new.left got (λ b. 1 ≡ status_due b) all (due_err got line why all.within bad)))
-    err_complete failures.Usage ends bytes read is no_source no_sink = absurd (never_reads command (ap reads (no_command command ends)) read)
-    err_complete failures.ReadFault ends bytes read is no_source no_sink = absurd (no_source (unread command failures.ReadFault refl ends).1.1)
-    err_complete failures.WriteFault ends bytes read is no_source no_sink = let (part, rest, printed, rose) = broken command ends in absurd (no_sink rose)
-    err_complete failures.NoMemory ends bytes read is no_source no_sink = inr refl
-    err_complete failures.TooLong ends bytes read is no_source no_sink =
-        inl (due_long bytes (longer bytes new.left (subst (λ (l : Option (List ℕ)). ReadsTooMany l new.left) is (unread command failures.TooLong refl ends).1)))
+  pub err_complete : (failure : Failure) → HasEnded command (Err failure) old new → (bytes : List ℕ) → reads command ≡ true → old.left ≡ Some bytes
+      → ¬ Rose old.source_faults new.source_faults → ¬ Rose old.sink_faults new.sink_faults → (status_of failure ≡ status_due bytes) ⊎ (status_of failure ≡ 5)
+  err_complete (failures.BadLog line why) ends bytes read is no_source no_sink =
+      let (got, all, bad) = (failed_reading old new command (failures.BadLog line why) refl ends.ends).1 in
+      inl (subst (λ (l : Option (List ℕ)). IfSome l (λ b. 1 ≡ status_due b)) is (known old.left new.left got (λ b. 1 ≡ status_due b) all (due_err got line why all.within bad)))
+  err_complete failures.Usage ends bytes read is no_source no_sink = absurd (never_reads command (ap reads (no_command old new command ends.ends)) read)
+  err_complete failures.ReadFault ends bytes read is no_source no_sink = absurd (no_source (failed_reading old new command failures.ReadFault refl ends.ends).1.1)
+  err_complete failures.WriteFault ends bytes read is no_source no_sink = let (part, rest, printed, rose) = broken old new command ends.ends in absurd (no_sink rose)
+  err_complete failures.NoMemory ends bytes read is no_source no_sink = inr refl
+  err_complete failures.TooLong ends bytes read is no_source no_sink =
+      inl (due_long bytes (longer bytes new.left (subst (λ (l : Option (List ℕ)). ReadsTooMany l new.left) is (failed_reading old new command failures.TooLong refl ends.ends).1)))
 
-    pub err_ended : (failure : Failure) → Ends command (Err failure) old new → reads command ≡ true → status_of failure < 2 → IsAtEnd new.left
-    err_ended (failures.BadLog line why) ends read is = let (bytes, all, bad) = (unread command (failures.BadLog line why) refl ends).1 in all.at_end
-    err_ended failures.Usage ends read is = absurd (omega (arith, is))
-    err_ended failures.ReadFault ends read is = absurd (omega (arith, is))
-    err_ended failures.WriteFault ends read is = absurd (omega (arith, is))
-    err_ended failures.NoMemory ends read is = absurd (omega (arith, is))
-    err_ended failures.TooLong ends read is = absurd (omega (arith, is))
+  pub err_ended : (failure : Failure) → HasEnded command (Err failure) old new → reads command ≡ true → status_of failure < 2 → IsAtEnd new.left
+  err_ended (failures.BadLog line why) ends read is = let (bytes, all, bad) = (failed_reading old new command (failures.BadLog line why) refl ends.ends).1 in all.at_end
+  err_ended failures.Usage ends read is = absurd (omega (arith, is))
+  err_ended failures.ReadFault ends read is = absurd (omega (arith, is))
+  err_ended failures.WriteFault ends read is = absurd (omega (arith, is))
+  err_ended failures.NoMemory ends read is = absurd (omega (arith, is))
+  err_ended failures.TooLong ends read is = absurd (omega (arith, is))
 
-    pub err_ended_too : (failure : Failure) → Ends command (Err failure) old new → reads command ≡ true → status_of failure ≡ 4 → IsAtEnd new.left
-    err_ended_too failure ends read is = let (part, rest, printed, rose) = write_fault failure ends is in printed.ended read
+  pub err_ended_too : (failure : Failure) → HasEnded command (Err failure) old new → reads command ≡ true → status_of failure ≡ 4 → IsAtEnd new.left
+  err_ended_too failure ends read is = let (part, rest, printed, rose) = write_fault failure ends is in printed.ended read
 
-    pub err_within : (failure : Failure) → Ends command (Err failure) old new → (reads command ≡ false → new.left ≡ old.left) → status_of failure ≢ 5 → status_of failure ≢ 6
-        → ReadsWithin old.left new.left
-    err_within (failures.BadLog line why) ends kept memory long = let (bytes, all, bad) = (unread command (failures.BadLog line why) refl ends).1 in (bytes, all.taken, all.within)
-    err_within failures.Usage ends kept memory long = reads_nothing old.left new.left (kept (ap reads (no_command command ends)))
-    err_within failures.ReadFault ends kept memory long = (unread command failures.ReadFault refl ends).1.0
-    err_within failures.WriteFault ends kept memory long = let (part, rest, printed, rose) = broken command ends in within_by command kept (λ read. printed.within read)
-    err_within failures.NoMemory ends kept memory long = absurd (memory refl)
-    err_within failures.TooLong ends kept memory long = absurd (long refl)
+  pub err_within : (failure : Failure) → HasEnded command (Err failure) old new → (reads command ≡ false → new.left ≡ old.left) → status_of failure ≢ 5 → status_of failure ≢ 6
+      → ReadsWithin old.left new.left
+  err_within (failures.BadLog line why) ends kept memory long = let (bytes, all, bad) = (failed_reading old new command (failures.BadLog line why) refl ends.ends).1 in (bytes, all.taken, all.within)
+  err_within failures.Usage ends kept memory long = reads_nothing old.left new.left (kept (ap reads (no_command old new command ends.ends)))
+  err_within failures.ReadFault ends kept memory long = (failed_reading old new command failures.ReadFault refl ends.ends).1.0
+  err_within failures.WriteFault ends kept memory long = let (part, rest, printed, rose) = broken old new command ends.ends in within_by command kept (λ read. printed.within read)
+  err_within failures.NoMemory ends kept memory long = absurd (memory refl)
+  err_within failures.TooLong ends kept memory long = absurd (long refl)
 
-    -- a bad log is told as it is
-    pub err_told : (failure : Failure) → Ends command (Err failure) old new → IsToldOf failure old.left
-    err_told (failures.BadLog line why) ends =
-        let (bytes, all, bad) = (unread command (failures.BadLog line why) refl ends).1 in
-        known old.left new.left bytes (λ b. log_of b ≡ Err (record { line = line; why = why })) all bad
-    err_told failures.Usage ends = tt
-    err_told failures.ReadFault ends = tt
-    err_told failures.WriteFault ends = tt
-    err_told failures.NoMemory ends = tt
-    err_told failures.TooLong ends = tt
+  -- a bad log is told as it is
+  pub err_told : (failure : Failure) → HasEnded command (Err failure) old new → IsToldOf failure old.left
+  err_told (failures.BadLog line why) ends =
+      let (bytes, all, bad) = (failed_reading old new command (failures.BadLog line why) refl ends.ends).1 in
+      known old.left new.left bytes (λ b. log_of b ≡ Err (record { line = line; why = why })) all bad
+  err_told failures.Usage ends = tt
+  err_told failures.ReadFault ends = tt
+  err_told failures.WriteFault ends = tt
+  err_told failures.NoMemory ends = tt
+  err_told failures.TooLong ends = tt

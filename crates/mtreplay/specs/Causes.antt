@@ -84,3 +84,7 @@ Ends (Some (Replay rows)) result old new = EndsReplay rows result old new
 Ends (Some (Make number steps lanes)) result old new = EndsMaking (IsMadeText number steps lanes) result old.written new.written old.sink_faults new.sink_faults
 Ends (Some (Trial number steps)) result old new = EndsMaking (IsTrialText number steps) result old.written new.written old.sink_faults new.sink_faults
 Ends None result old new = (result ≡ Err failures.Usage) ⊎ (result ≡ Err failures.NoMemory)
+
+-- the same, as a fact that tells of which streams it speaks
+pub record HasEnded (command : Option Command) (result : Result (Unit {0}) Failure) (old new : Streams) : Type 0 where
+  pub ends : Ends command result old new

@@ -6,7 +6,7 @@ ghost use Rattle.mt_log.specs.Reading.{log_of};
 ghost use Rattle.mt_log.specs.Trees.{IsReadable, most_lanes};
 ghost use Rattle.mt_play.specs.Trees.{fewest_rows};
 ghost use Rattle.mt_words.specs.Commands.{command_of};
-ghost use Rattle.mtreplay.specs.Causes.{ReadsLog, FailsToRead, Ends, EndsMaking, EndsPrint, EndsReplay, streams};
+ghost use Rattle.mtreplay.specs.Causes.{ReadsLog, FailsToRead, EndsMaking, EndsPrint, EndsReplay, HasEnded, streams};
 ghost use Rattle.mtreplay.specs.Command.{reads};
 ghost use Rattle.mtreplay.specs.Ending.{TellsStatus, status_due, ReadsNoFurther, ReadsTooMany, ReadsWithin};
 ghost use Rattle.mtreplay.specs.Headline.{IsMadeText, IsTrialText, Writes, WritesPart};
@@ -113,7 +113,7 @@ fn run<R: Threads + Wait + Sync, S: Source, O: Sink, G: Gate + Sync>(
     out: &mut O,
     gate: &G,
 ) -> Result<(), Failure>
-    ensures ends { Ends (command_of (map string_bytes words.now)) result
+    ensures ends { HasEnded (command_of (map string_bytes words.now)) result
         (streams (S.left src.old) (S.faults src.old) (O.written out.old) (O.faults out.old))
         (streams (S.left src.new) (S.faults src.new) (O.written out.new) (O.faults out.new)) }
     ensures reach { ReadsNoFurther (S.left src.old) (S.left src.new) }

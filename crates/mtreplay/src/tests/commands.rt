@@ -1,8 +1,7 @@
 ghost use Rattle.std.specs.Prelude.{◌<◌, ◌≤◌, ◌^◌};
 
-use crate::failures::Failure;
 use crate::tests::{GIVEN, USAGE, run, source, steps};
-use mt_base::MOST_ROWS;
+use mt_base::{MOST_ROWS, NoMemory};
 use mt_io::{Failed, MemSource, Source};
 use mt_list::ListMap;
 use mt_made::{made_log, summarise};
@@ -86,7 +85,7 @@ fn a_large_run_comes_to_the_same_each_time(rt: HostRuntime) -> Result<(), Fail> 
 }
 
 /// The summary of the log that is made of this number for one lane, where one thread plays it over sorted lists.
-fn listed_summary(alloc: Global, number: u32, steps: u32) -> Result<String, Failure>
+fn listed_summary(alloc: Global, number: u32, steps: u32) -> Result<String, NoMemory>
     requires number { number < 2 ^ 31 }
     requires steps { steps ≤ 100000 }
 {
