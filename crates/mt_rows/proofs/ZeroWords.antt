@@ -73,6 +73,28 @@ zeros_fit (suc n) zero w few fit = absurd (omega arith)
 zeros_fit (suc n) (suc most) [] few fit = let less = zeros_fit n most [] (omega arith) (omega arith) in omega arith
 zeros_fit (suc n) (suc most) (x ∷ w) few fit = let less = zeros_fit n most w (omega arith) (omega arith) in omega arith
 
+-- ---- words that are copied over zeros
+
+copied_all : (w old : List ℕ) → length w ≤ length old → ((at : ℕ) → slice_index old at ≡ 0) → (at : ℕ) → slice_index (w ++ drop (length w) old) at ≡ slice_index w at
+copied_all [] old fit zeros at = zeros at
+copied_all (x ∷ w) [] fit zeros at = absurd (omega arith)
+copied_all (x ∷ w) (y ∷ old) fit zeros zero = refl
+copied_all (x ∷ w) (y ∷ old) fit zeros (suc at) = copied_all w old (omega arith) (λ k. zeros (suc k)) at
+
+-- those from a place on
+pub copied_from : (w old : List ℕ) (from : ℕ) → from ≤ length w → length w ≤ length old → ((at : ℕ) → from ≤ at → slice_index old at ≡ 0) → (at : ℕ) → from ≤ at
+    → slice_index (take from old ++ (drop from w ++ drop (length w) old)) at ≡ slice_index w at
+copied_from w old zero low fit zeros at high = copied_all w old fit (λ k. zeros k (omega arith)) at
+copied_from [] old (suc from) low fit zeros at high = absurd (omega arith)
+copied_from (x ∷ w) [] (suc from) low fit zeros at high = absurd (omega arith)
+copied_from (x ∷ w) (y ∷ old) (suc from) low fit zeros zero high = absurd (omega arith)
+copied_from (x ∷ w) (y ∷ old) (suc from) low fit zeros (suc at) high = copied_from w old from (omega arith) (omega arith) (λ k up. zeros (suc k) (omega arith)) at (omega arith)
+
+pub none_behind : (w : List ℕ) (at : ℕ) → length w ≤ at → slice_index w at ≡ 0
+none_behind [] at high = refl
+none_behind (x ∷ w) zero high = absurd (omega arith)
+none_behind (x ∷ w) (suc at) high = none_behind w at (omega arith)
+
 -- ---- the words in a row's slots
 
 pub few_slots : (kind : RowKind) → slots_of Long kind ≤ 16

@@ -198,10 +198,10 @@ fn enliven_all(words: &Words, root: u64, fates: &mut [Fate]) -> u64
 }
 
 impl PlainRows {
-    ghost use Rattle.std.specs.Prelude.{◌≡◌, ◌/◌, ◌%◌, ◌≤◌, IfOk, true, false, length, if◌then◌else◌};
+    ghost use Rattle.std.specs.Prelude.{◌≡◌, ℕ, ◌*◌, ◌/◌, ◌%◌, ◌<◌, ◌≤◌, IfOk, true, false, length, slice_index, if◌then◌else◌};
     ghost use Rattle.mt_base.specs.declared.kinds.Kind.{Kind};
     ghost use Rattle.mt_base.specs.declared.widths.Width.TheVariants.{Long};
-    ghost use Rattle.mt_base.specs.Width.{columns, deepest, most_rows};
+    ghost use Rattle.mt_base.specs.Width.{columns, deepest, first_row, most_rows};
     ghost use Rattle.mt_rows.specs.OfWords.{IsMadeOf};
     ghost use Rattle.mt_rows.specs.Plain.{new_sheet, IsPlaceIn, opens};
     ghost use Rattle.mt_rows.specs.Memory.{sheet_in};
@@ -279,6 +279,18 @@ impl PlainRows {
             &span,
             self.state.fates.as_mut_slice(),
         );
+    }
+
+    /// Copies the words of all rows to where they stand among a table's words, which are 0 there.
+    pub fn write_words(&self, words: &mut [u64])
+        requires size { length words.old ≡ length (sheet_in self.now).tree.table.words }
+        requires zeros { (at : ℕ) → columns (sheet_in self.now).tree.table.width * first_row ≤ at → slice_index words.old at ≡ 0 }
+        ensures size { length words.new ≡ length words.old }
+        ensures before { (at : ℕ) → at < columns (sheet_in self.now).tree.table.width * first_row → slice_index words.new at ≡ slice_index words.old at }
+        ensures rows { (at : ℕ) → columns (sheet_in self.now).tree.table.width * first_row ≤ at → slice_index words.new at ≡ slice_index (sheet_in self.now).tree.table.words at }
+    {
+        let first = cols(self.state.width) as usize * FIRST_ROW as usize;
+        self.state.words.copy_from(first, words);
     }
 
     /// Stores a word at a place, and says how many levels of drafts may be reached from it.

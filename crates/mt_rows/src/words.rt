@@ -85,6 +85,21 @@ impl Words {
         self.written.as_slice()
     }
 
+    /// Copies the words from a place on over zeros. What was never written is not touched.
+    #[tactic(auto, using(crate::proofs::ZeroWords::zeros_behind, crate::proofs::ZeroWords::zeros_long, crate::proofs::ZeroWords::none_behind))]
+    pub(crate) fn copy_from(&self, from: usize, words: &mut [u64])
+        requires size { length words.old ≡ length self.now.items }
+        requires zeros { (at : ℕ) → from ≤ at → slice_index words.old at ≡ 0 }
+        ensures size { length words.new ≡ length words.old }
+        ensures before { (at : ℕ) → at < from → slice_index words.new at ≡ slice_index words.old at }
+        ensures copied { (at : ℕ) → from ≤ at → slice_index words.new at ≡ slice_index self.now.items at }
+    {
+        let written = self.written.len();
+        if from < written {
+            words[from..written].copy_from_slice(&self.written[from..]);
+        }
+    }
+
     /// Writes these words over the last ones.
     pub(crate) fn set_last(&mut self, from: usize, words: &[u64])
         requires { from + length words.now ≡ length self.old.items }

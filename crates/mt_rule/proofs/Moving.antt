@@ -1,117 +1,206 @@
--- The rule is kept where a seat is cut in two, and where two are joined.
-use Rattle.std.proofs.Common.{◌≡◌, ℕ, ◌+◌, ◌<◌, refl, sym, ap, ◌∙◌, subst, arith, length, Some}
-use Rattle.atomic_table.specs.Table.{Splits, Joins}
+-- The rule is kept where a seat is cut in two, and where two are joined, and by the loads that show a pass more of the history.
+use Rattle.std.proofs.Common.{◌≡◌, ℕ, ◌+◌, ◌<◌, List, [], refl, sym, ap, ◌∙◌, subst, arith, length, set, get_or, true≢false, Some, None}
+use Rattle.std.specs.Prelude.{is_some, false}
+use mathlib.Core.Option.{none, some-ne-none}
+use lib.Seq.{set-get_or}
+use Rattle.std.proofs.lemmas.List.{length-map}
+use Rattle.atomic_table.specs.Table.{State, Me, step, keeps, Allows, Splits, Joins}
+use Rattle.mt_base.specs.History.{IsLegal}
 use Rattle.mt_base.specs.Passes.{Begins}
+use Rattle.mt_base.specs.Passes as ways
+use Rattle.mt_life.specs.declared.views.Extent.{Extent}
+use Rattle.mt_rule.specs.declared.views.Moment.{Moment}
+use Rattle.mt_rule.specs.declared.views.Told.{Told}
 use Rattle.mt_rule.specs.declared.views.Shape.{Shape}
 use Rattle.mt_rule.specs.declared.views.View.{View}
 use Rattle.mt_rule.specs.declared.views.PenPart.{PenPart}
 use Rattle.mt_rule.specs.declared.views.PassPart.{PassPart}
 use Rattle.mt_rule.specs.declared.views.NotePart.{NotePart}
-use Rattle.mt_rule.specs.Seats.{HasPen, HasPass, pen_of, pass_of, new_part, records_of, no_view, dealing_view, dealt_view, with_pass, with_note, without_pass, pass_alone, note_alone}
-use Rattle.mt_rule.specs.Rule.{IsOneHistory, PassFits, ViewFits, IsKept}
-use Rattle.mt_rule.proofs.Beginnings.{places_none, all_weaker}
-use Rattle.mt_rule.proofs.Viewing.{each_split, each_join, other_view, pen_is, pass_is, note_is, no_pen, no_pass, no_note, owned, owned_here, owned_else, stays, nothing_fits}
-use Rattle.mt_rule.proofs.Keeping.{recast}
+use Rattle.mt_rule.specs.Seats.{HasPen, HasPass, HasNote, pen_of, pass_of, note_of, new_part, record_of, records_of, tree_of, known_by, longer_of, no_view, dealing_view, dealt_view, with_pass, with_note, without_pass, pass_alone, note_alone}
+use Rattle.mt_rule.specs.Places.{section_at, section_word}
+use Rattle.mt_rule.specs.Rule.{IsOneHistory, IsSound, WordsFit, PassFits, ViewFits, IsKept}
+use Rattle.mt_rule.specs.Steps.{all_seen, taught, sees_all, learns}
+use Rattle.mt_rule.specs.Tokens.{WasShown}
+use Rattle.mt_rows.specs.Levels.{one_if}
+use Rattle.mt_rule.proofs.Beginnings.{begins_all, begins_length, begins_records, longer_fits, places_none, all_weaker, legal_within}
+use Rattle.mt_rule.proofs.Viewing.{each_set, each_split, each_join, other_view, pen_is, pass_is, note_is, no_pen, no_pass, no_note, owned, owned_here, owned_else, stays, nothing_fits, seen_fits}
+use Rattle.mt_rule.proofs.Carrying.{recast}
+
+no_number : (n : ℕ) → None ≡ Some n → ⊥
+no_number n e = true≢false (sym (ap is_some e))
+
+-- ---- a load, which leaves all words and all that the pen knows
+
+looked : (told : Told) (s : State (Unit {0}) View) (r : IsKept told s) (at by : ℕ) (w : View)
+    → ((words : List ℕ) → words ≡ s.words → ViewFits r.pen r.owner r.extents r.part words by w)
+    → IsKept told record { words = set s.words at (get_or s.words at 0); homes = s.homes; views = set s.views by w }
+looked told s r at by w fits =
+    let same : set s.words at (get_or s.words at 0) ≡ s.words = set-get_or s.words at 0 in
+    record {
+      pen = r.pen;
+      owner = r.owner;
+      extents = r.extents;
+      part = r.part;
+      shaped = r.shaped;
+      sound = r.sound;
+      words = subst (λ (l : List ℕ). WordsFit l r.part) (sym same) r.words;
+      each = each_set (ViewFits r.pen r.owner r.extents r.part (set s.words at (get_or s.words at 0))) s.views by w
+          (λ j u _ e. subst (λ (l : List ℕ). ViewFits r.pen r.owner r.extents r.part l j u) (sym same) (r.each j u e))
+          (fits (set s.words at (get_or s.words at 0)) same);
+    }
 
 -- ---- a pass is dealt
 
-dealt_history : (p : PenPart) → IsOneHistory p → p.dealt < p.shape.passes → IsOneHistory (record p { dealt = p.dealt + 1 })
-dealt_history p whole room = record {
+abbrev dealt_more : PenPart → PenPart
+dealt_more p = record p { dealt = p.dealt + 1 }
+
+dealt_history : (p : PenPart) → IsOneHistory p → p.dealt < p.shape.passes → IsOneHistory (dealt_more p)
+dealt_history p one room = record {
   dealt = omega arith;
-  callers = all_weaker (λ r. r.pass < p.dealt) (λ r. r.pass < p.dealt + 1) (λ r h. omega arith) (records_of p.history) whole.callers;
-  unheld = whole.unheld;
-  ended = whole.ended;
-  idle = whole.idle;
-  few = whole.few;
-  legal = whole.legal;
+  callers = all_weaker (λ r. r.pass < p.dealt) (λ r. r.pass < p.dealt + 1) (λ r h. omega arith) (records_of p.history) one.callers;
+  named = one.named;
+  loaded = λ h c. let a = one.loaded h c in omega arith;
+  count = one.count;
+  calm = one.calm;
+  few = one.few;
+  legal = one.legal;
 }
 
-still_fits : (p : PenPart) (q : PassPart) → PassFits p q → PassFits (record p { dealt = p.dealt + 1 }) q
-still_fits p q f = let a = f.number in record { shape = f.shape; number = omega arith; seen = f.seen; mine = f.mine; all = f.all; ended = f.ended; over = f.over; begun = f.begun }
+dealt_sound : (extents : ℕ → Extent) (p : PenPart) → IsSound extents p → p.dealt < p.shape.passes → IsSound extents (dealt_more p)
+dealt_sound extents p s room = record {
+  history = dealt_history p s.history room;
+  known = s.known;
+  tree = s.tree;
+  live = s.live;
+  rows = s.rows;
+  words = s.words;
+  lives = s.lives;
+  buried = s.buried;
+  dead = s.dead;
+  some_pass = s.some_pass;
+  few_passes = s.few_passes;
+  passes = s.passes;
+  cleared = s.cleared;
+}
 
-new_fits : (p : PenPart) → IsOneHistory p → PassFits (record p { dealt = p.dealt + 1 }) (new_part p.shape p.dealt)
-new_fits p whole = record {
+dealt_words : (words : List ℕ) (p : PenPart) → WordsFit words p → WordsFit words (dealt_more p)
+dealt_words words p w = record { size = w.size; commits = w.commits; begun = w.begun; root = w.root; sections = w.sections; undealt = λ k low high. w.undealt k (omega arith) high; columns = w.columns }
+
+still_fits : (extents : ℕ → Extent) (p : PenPart) (q : PassPart) → PassFits extents p q → PassFits extents (dealt_more p) q
+still_fits extents p q f = record {
+  shape = f.shape;
+  number = (let a = f.number in omega arith);
+  seen = f.seen;
+  mine = f.mine;
+  all = f.all;
+  ended = f.ended;
+  over = f.over;
+  begun = f.begun;
+  risen = f.risen;
+  epoch = f.epoch;
+  loaded = f.loaded;
+  standing = f.standing;
+  closed = f.closed;
+  floor = λ n e. let t = f.floor n e in record { seen = t.seen; cleared = t.cleared; epoch = t.epoch };
+  held = λ j x e. let t = f.held j x e in record { row = t.row; met = t.met; floor = t.floor; has = t.has; since = t.since };
+}
+
+new_fits : (extents : ℕ → Extent) (p : PenPart) → IsOneHistory p → PassFits extents (dealt_more p) (new_part p.shape p.dealt)
+new_fits extents p one = record {
   shape = refl;
   number = omega arith;
   seen = (p.history, refl);
   mine = refl;
-  all = places_none 1 p.dealt (records_of p.history) whole.callers;
+  all = places_none 1 p.dealt (records_of p.history) one.callers;
   ended = omega arith;
   over = omega arith;
   begun = omega arith;
+  risen = omega arith;
+  epoch = omega arith;
+  loaded = λ h c e. let a = one.loaded h c in absurd (omega arith);
+  standing = λ n e. absurd (no_number n e);
+  closed = λ e. refl;
+  floor = λ n e. absurd (no_number n e);
+  held = λ j x e. absurd (some-ne-none x (sym e));
 }
 
-pub dealing : (shape : Shape) (by : ℕ) (v : View) → HasPen v → (pen_of v).dealt < (pen_of v).shape.passes → Splits (IsKept shape) by v (dealing_view v) (dealt_view v)
-dealing shape by v has_pen room s r₀ at =
+pub dealing : (told : Told) (by : ℕ) (v : View) → HasPen v → (pen_of v).dealt < (pen_of v).shape.passes → Splits (IsKept told) by v (dealing_view v) (dealt_view v)
+dealing told by v has_pen room s r₀ at =
     let p = pen_of v in
     let known = (r₀.each by v at).keeper p has_pen in
-    let r = recast shape s r₀ p (sym known.1) in
+    let r = recast told s r₀ p (sym known.1) in
     let own = r.each by v at in
-    let p' : PenPart = record p { dealt = p.dealt + 1 } in
+    let p' : PenPart = dealt_more p in
     let q' : PassPart = new_part p.shape p.dealt in
     let owner' = owned r.owner p.dealt (length s.views) in
-    let same : (j : ℕ) (u : View) → ViewFits r.pen r.owner p j u → (x : PassPart) → u.pass ≡ Some x → j ≡ owner' x.number =
+    let same : (j : ℕ) (u : View) → ViewFits r.pen r.owner r.extents p s.words j u → (x : PassPart) → u.pass ≡ Some x → j ≡ owner' x.number =
     λ j u g x k. let a = (g.passes x k).number in g.at x k ∙ sym (owned_else r.owner p.dealt (length s.views) x.number (λ n. omega arith)) in
     record {
       pen = r.pen;
       owner = owner';
+      extents = r.extents;
       part = p';
-      words = r.words;
       shaped = r.shaped;
-      whole = dealt_history p r.whole room;
-      each = each_split (ViewFits r.pen owner' p') s.views by (dealing_view v) (dealt_view v)
-          (λ j u apart e. let g = r.each j u e in record { keeper = λ x k. absurd (apart ((g.keeper x k).0 ∙ sym known.0)); at = same j u g; passes = λ x k. still_fits p x (g.passes x k); notes = g.notes })
-          record { keeper = λ x k. (known.0, sym (pen_is p' x k)); at = same by v own; passes = λ x k. still_fits p x (own.passes x k); notes = own.notes }
+      sound = dealt_sound r.extents p r.sound room;
+      words = dealt_words s.words p r.words;
+      each = each_split (ViewFits r.pen owner' r.extents p' s.words) s.views by (dealing_view v) (dealt_view v)
+          (λ j u apart e. let g = r.each j u e in record { keeper = λ x k. absurd (apart ((g.keeper x k).0 ∙ sym known.0)); at = same j u g; section = g.section; passes = λ x k. still_fits r.extents p x (g.passes x k); notes = g.notes })
+          record { keeper = λ x k. (known.0, sym (pen_is p' x k)); at = same by v own; section = own.section; passes = λ x k. still_fits r.extents p x (own.passes x k); notes = own.notes }
           record {
             keeper = λ x k. absurd (no_pen x k);
             at = λ x k. sym (owned_here r.owner p.dealt (length s.views) x.number (sym (ap (λ (z : PassPart). z.number) (pass_is q' x k))));
-            passes = λ x k. subst (PassFits p') (pass_is q' x k) (new_fits p r.whole);
+            section = λ x k. subst (λ (z : PassPart). get_or s.words (section_at z.number) 0 ≡ section_word z.standing) (pass_is q' x k) (r.words.undealt p.dealt (omega arith) room);
+            passes = λ x k. subst (PassFits r.extents p') (pass_is q' x k) (new_fits r.extents p r.sound.history);
             notes = λ n k. absurd (no_note n k);
           };
     }
 
 -- ---- a pass beside the pen, and apart again
 
-pub joining : (shape : Shape) (id other : ℕ) (v w : View) → HasPass w → Joins (IsKept shape) id v other w (with_pass v w) no_view
-joining shape id other v w has_pass s r at apart at_other =
+pub joining : (told : Told) (id other : ℕ) (v w : View) → HasPass w → Joins (IsKept told) id v other w (with_pass v w) no_view
+joining told id other v w has_pass s r at apart at_other =
     let there = other_view s.views id other (with_pass v w) w apart at_other in
     let own = r.each id v at in let f = r.each other w there in let q = pass_of w in let p = r.part in
     let owner' = owned r.owner q.number id in
     record {
       pen = r.pen;
       owner = owner';
+      extents = r.extents;
       part = p;
-      words = r.words;
       shaped = r.shaped;
-      whole = r.whole;
-      each = each_join (ViewFits r.pen owner' p) s.views id other (with_pass v w) no_view
-          (λ j u a b e. stays r.pen r.owner p q.number other id j u (f.at q has_pass) b (r.each j u e))
+      sound = r.sound;
+      words = r.words;
+      each = each_join (ViewFits r.pen owner' r.extents p s.words) s.views id other (with_pass v w) no_view
+          (λ j u a b e. stays r.pen r.owner r.extents p s.words q.number other id j u (f.at q has_pass) b (r.each j u e))
           record {
             keeper = own.keeper;
             at = λ x k. sym (owned_here r.owner q.number id x.number (sym (ap (λ (z : PassPart). z.number) (pass_is q x (sym has_pass ∙ k)))));
+            section = f.section;
             passes = f.passes;
             notes = own.notes;
           }
-          (nothing_fits r.pen owner' p other);
+          (nothing_fits r.pen owner' r.extents p s.words other);
     }
 
-pub parting : (shape : Shape) (by : ℕ) (v : View) → HasPass v → Splits (IsKept shape) by v (without_pass v) (pass_alone v)
-parting shape by v has_pass s r at =
+pub parting : (told : Told) (by : ℕ) (v : View) → HasPass v → Splits (IsKept told) by v (without_pass v) (pass_alone v)
+parting told by v has_pass s r at =
     let own = r.each by v at in let q = pass_of v in let p = r.part in
     let owner' = owned r.owner q.number (length s.views) in
     record {
       pen = r.pen;
       owner = owner';
+      extents = r.extents;
       part = p;
-      words = r.words;
       shaped = r.shaped;
-      whole = r.whole;
-      each = each_split (ViewFits r.pen owner' p) s.views by (without_pass v) (pass_alone v)
-          (λ j u a e. stays r.pen r.owner p q.number by (length s.views) j u (own.at q has_pass) a (r.each j u e))
-          record { keeper = own.keeper; at = λ x k. absurd (no_pass x k); passes = λ x k. absurd (no_pass x k); notes = own.notes }
+      sound = r.sound;
+      words = r.words;
+      each = each_split (ViewFits r.pen owner' r.extents p s.words) s.views by (without_pass v) (pass_alone v)
+          (λ j u a e. stays r.pen r.owner r.extents p s.words q.number by (length s.views) j u (own.at q has_pass) a (r.each j u e))
+          record { keeper = own.keeper; at = λ x k. absurd (no_pass x k); section = λ x k. absurd (no_pass x k); passes = λ x k. absurd (no_pass x k); notes = own.notes }
           record {
             keeper = λ x k. absurd (no_pen x k);
             at = λ x k. sym (owned_here r.owner q.number (length s.views) x.number (sym (ap (λ (z : PassPart). z.number) (pass_is q x (sym has_pass ∙ k)))));
+            section = own.section;
             passes = own.passes;
             notes = λ n k. absurd (no_note n k);
           };
@@ -119,37 +208,116 @@ parting shape by v has_pass s r at =
 
 -- ---- notes
 
-pub noting : (shape : Shape) (by : ℕ) (v : View) → HasPass v → Splits (IsKept shape) by v v (note_alone v)
-noting shape by v has_pass s r at =
+pub noting : (told : Told) (by : ℕ) (v : View) → HasPass v → Splits (IsKept told) by v v (note_alone v)
+noting told by v has_pass s r at =
     let own = r.each by v at in let q = pass_of v in let p = r.part in
     record {
       pen = r.pen;
       owner = r.owner;
+      extents = r.extents;
       part = p;
-      words = r.words;
       shaped = r.shaped;
-      whole = r.whole;
-      each = each_split (ViewFits r.pen r.owner p) s.views by v (note_alone v) (λ j u a e. r.each j u e) own
+      sound = r.sound;
+      words = r.words;
+      each = each_split (ViewFits r.pen r.owner r.extents p s.words) s.views by v (note_alone v) (λ j u a e. r.each j u e) own
           record {
             keeper = λ x k. absurd (no_pen x k);
             at = λ x k. absurd (no_pass x k);
+            section = λ x k. absurd (no_pass x k);
             passes = λ x k. absurd (no_pass x k);
             notes = λ n k. subst (λ (z : NotePart). Begins z.seen p.history) (note_is (record { seen = q.seen }) n k) (own.passes q has_pass).seen;
           };
     }
 
-pub note_joining : (shape : Shape) (id other : ℕ) (v w : View) → Joins (IsKept shape) id v other w (with_note v w) no_view
-note_joining shape id other v w s r at apart at_other =
+pub note_joining : (told : Told) (id other : ℕ) (v w : View) → Joins (IsKept told) id v other w (with_note v w) no_view
+note_joining told id other v w s r at apart at_other =
     let there = other_view s.views id other (with_note v w) w apart at_other in
     let own = r.each id v at in let f = r.each other w there in let p = r.part in
     record {
       pen = r.pen;
       owner = r.owner;
+      extents = r.extents;
       part = p;
-      words = r.words;
       shaped = r.shaped;
-      whole = r.whole;
-      each = each_join (ViewFits r.pen r.owner p) s.views id other (with_note v w) no_view (λ j u a b e. r.each j u e)
-          record { keeper = own.keeper; at = own.at; passes = own.passes; notes = f.notes }
-          (nothing_fits r.pen r.owner p other);
+      sound = r.sound;
+      words = r.words;
+      each = each_join (ViewFits r.pen r.owner r.extents p s.words) s.views id other (with_note v w) no_view (λ j u a b e. r.each j u e)
+          record { keeper = own.keeper; at = own.at; section = own.section; passes = own.passes; notes = f.notes }
+          (nothing_fits r.pen r.owner r.extents p s.words other);
     }
+
+-- ---- the lock shows all
+
+shown_fits : (extents : ℕ → Extent) (p : PenPart) (q : PassPart) → IsOneHistory p → PassFits extents p q → PassFits extents p (all_seen p q)
+shown_fits extents p q one f = let n = one.count in let o = f.over in
+    seen_fits extents p q p.history p.ended f f.seen (begins_all p.history) f.over (omega arith) (omega arith)
+
+pub seeing : (told : Told) (slots by : ℕ) (me : Me (Unit {0}) View) → HasPen me.0 → HasPass me.0 → Allows (IsKept told) slots by me 0 (λ n. n) (sees_all (step slots 0 0 0 none) me)
+seeing told slots by me has_pen has_pass s r₀ _ at _ =
+    let v = me.0 in let p = pen_of v in let q = pass_of v in
+    let known = (r₀.each by v at).keeper p has_pen in
+    let r = recast told s r₀ p (sym known.1) in
+    let own = r.each by v at in let f = own.passes q has_pass in
+    let q' : PassPart = all_seen p q in
+    let w : View = record v { pass = Some q' } in
+    let fits : (words : List ℕ) → words ≡ s.words → ViewFits r.pen r.owner r.extents p words by w = λ words same. record {
+      keeper = own.keeper;
+      at = λ x k. own.at q has_pass ∙ ap (λ (z : PassPart). r.owner z.number) (pass_is q' x k);
+      section = λ x k. subst (λ (z : PassPart). get_or words (section_at z.number) 0 ≡ section_word z.standing) (pass_is q' x k) (ap (λ (l : List ℕ). get_or l (section_at q.number) 0) same ∙ own.section q has_pass);
+      passes = λ x k. subst (PassFits r.extents p) (pass_is q' x k) (shown_fits r.extents p q r.sound.history f);
+      notes = own.notes;
+    } in
+    (w, keeps, tt, looked told s r 0 by w fits, record { view = refl; count = r.words.commits; extents = r.extents; sound = r.sound; fits = f })
+
+-- what the pass beside the pen then knows is that it saw the whole history
+pub was_shown : (t : Shape) (extents : ℕ → Extent) (p : PenPart) (q : PassPart) → p.shape ≡ t → p.in_flight ≡ false → IsSound extents p → PassFits extents p q
+    → WasShown (tree_of t []) p (known_by q) (known_by (all_seen p q))
+was_shown t extents p q shaped idle sound f =
+    let one = sound.history in
+    let count : p.ended ≡ length (records_of p.history) = (let n = one.count in let l = length-map p.history record_of in let z : one_if p.published ≡ 0 = rw (one.calm idle) refl in omega arith) in
+    let flight : one_if p.in_flight ≡ 0 = rw idle refl in
+    let all = shown_fits extents p q one f in
+    record {
+      saw = record {
+        seen = begins_records q.seen p.history f.seen;
+        pass = λ i. record (known_by q) { seen = records_of p.history; ended = count i };
+        begun = (let b = f.begun in omega arith);
+        ended = (let o = f.over in omega arith);
+        sound = record { own = all.mine; legal = subst (λ (s : Shape). IsLegal (tree_of s p.history)) shaped one.legal };
+      };
+      all = refl;
+      opened = f.loaded;
+      extents = extents;
+      sound = sound;
+    }
+
+-- ---- a note is learnt
+
+taught_fits : (extents : ℕ → Extent) (p : PenPart) (q : PassPart) (n : NotePart) → PassFits extents p q → Begins n.seen p.history → PassFits extents p (taught q n)
+taught_fits extents p q n f told =
+    let l = longer_fits q.seen n.seen p.history f.seen told in
+    let more = begins_length q.seen (longer_of q.seen n.seen) l.this in
+    let e = f.ended in
+    seen_fits extents p q (longer_of q.seen n.seen) q.ended f l.this l.whole (omega arith) (omega arith) f.over
+
+-- what a pass has seen is a legal history of its tree
+pub sound_of : (extents : ℕ → Extent) (p : PenPart) (q : PassPart) (h : List Moment) → IsOneHistory p → PassFits extents p q → ways.IsSound (tree_of q.shape h) (known_by q)
+sound_of extents p q h one f = record { own = f.mine; legal = subst (λ (s : Shape). IsLegal (tree_of s q.seen)) (sym f.shape) (legal_within p.shape q.seen p.history f.seen one.legal) }
+
+pub learning : (told : Told) (slots by : ℕ) (me : Me (Unit {0}) View) → HasPass me.0 → HasNote me.0 → Allows (IsKept told) slots by me 0 (λ n. n) (learns (step slots 0 0 0 none) me)
+learning told slots by me has_pass has_note s r _ at _ =
+    let v = me.0 in let q = pass_of v in let n = note_of v in let p = r.part in
+    let own = r.each by v at in let f = own.passes q has_pass in
+    let noted = own.notes n has_note in
+    let l = longer_fits q.seen n.seen p.history f.seen noted in
+    let f' = taught_fits r.extents p q n f noted in
+    let q' : PassPart = taught q n in
+    let w : View = record v { pass = Some q'; note = None } in
+    let fits : (words : List ℕ) → words ≡ s.words → ViewFits r.pen r.owner r.extents p words by w = λ words same. record {
+      keeper = own.keeper;
+      at = λ x k. own.at q has_pass ∙ ap (λ (z : PassPart). r.owner z.number) (pass_is q' x k);
+      section = λ x k. subst (λ (z : PassPart). get_or words (section_at z.number) 0 ≡ section_word z.standing) (pass_is q' x k) (ap (λ (l : List ℕ). get_or l (section_at q.number) 0) same ∙ own.section q has_pass);
+      passes = λ x k. subst (PassFits r.extents p) (pass_is q' x k) f';
+      notes = λ y k. absurd (no_note y k);
+    } in
+    (w, keeps, tt, looked told s r 0 by w fits, (record { view = refl; seen = l.this; told = l.that; sound = sound_of r.extents p q' [] r.sound.history f' }, refl))

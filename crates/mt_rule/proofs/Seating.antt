@@ -8,6 +8,7 @@ use Rattle.std.proofs.lemmas.List.FromFn.{map-range_with_len_more}
 use Rattle.atomic_table.specs.declared.badge.Badge.{Badge}
 use Rattle.mt_rule.specs.declared.passes.Pass.{Pass}
 use Rattle.mt_rule.specs.declared.views.View.{View}
+use Rattle.mt_rule.specs.declared.views.PenPart.{PenPart}
 use Rattle.mt_rule.specs.Seats.{known_by, part_in, pass_or}
 use Rattle.mt_rule.specs.Tokens.{Identity, IsPassOf, pass_in, tree_seat}
 
@@ -20,6 +21,10 @@ pub map_dealt : {Y : Type 0} (f : Pass → Y) (g : ℕ → Y) (n : ℕ) (xs ys :
 map_dealt {Y} f g n xs ys p e all one =
     let from : 0 + n ≡ n = omega arith in
     ap (map f) e ∙ (map-append f xs (p ∷ []) ∙ ((λ i. all i ++ one i ∷ []) ∙ sym (map-range_with_len_more g 0 n n from)))
+
+-- the pen that has dealt so many, and one more
+pub pen_dealt : (start a b : PenPart) (n m : ℕ) → a ≡ record start { dealt = n } → b ≡ record a { dealt = m } → b ≡ record start { dealt = m }
+pen_dealt start a b n m before one = one ∙ ap (λ (p : PenPart). record p { dealt = m }) before
 
 -- ---- a pass that keeps its seat at the table is the same to it
 

@@ -1,16 +1,20 @@
 -- Lists of views of which one or two change, and the parts of a view.
-use Rattle.std.proofs.Common.{◌≡◌, ◌≢◌, ◌⊎◌, ℕ, zero, suc, ◌==◌, List, [], ◌∷◌, ◌++◌, true≢false, length, set, refl, sym, ap, ◌∙◌, subst, inl, inr, ⊎_elim, arith, length-set, Some, None}
+use Rattle.std.proofs.Common.{◌≡◌, ◌≢◌, ◌⊎◌, ℕ, zero, suc, ◌≤◌, ◌==◌, List, [], ◌∷◌, ◌++◌, true≢false, length, set, refl, sym, ap, ◌∙◌, subst, inl, inr, ⊎_elim, arith, length-set, Some, None}
 use Rattle.std.specs.Prelude.{if◌then◌else◌, is_some}
 use Rattle.std.proofs.lemmas.Bool.{ne_eqb, eq-eqb}
 use mathlib.Core.Option.{some, some-ne-none, some-injective}
 use lib.ListN.{get_elem?}
 use Rattle.atomic_table.proofs.Lists.{at_set}
+use Rattle.mt_base.specs.Passes.{Begins}
+use Rattle.mt_life.specs.declared.views.Extent.{Extent}
 use Rattle.mt_rule.specs.declared.views.View.{View}
 use Rattle.mt_rule.specs.declared.views.PenPart.{PenPart}
 use Rattle.mt_rule.specs.declared.views.PassPart.{PassPart}
 use Rattle.mt_rule.specs.declared.views.NotePart.{NotePart}
+use Rattle.mt_rule.specs.declared.views.Moment.{Moment}
 use Rattle.mt_rule.specs.Seats.{pen_or, pass_or, note_or, no_view}
-use Rattle.mt_rule.specs.Rule.{ViewFits}
+use Rattle.mt_rule.specs.Rule.{PassFits, ViewFits}
+use Rattle.mt_rule.proofs.Beginnings.{begins_length, places_within}
 
 -- ---- lists of views
 
@@ -86,13 +90,49 @@ pub owned_else : (owner : ℕ → ℕ) (k j n : ℕ) → n ≢ k → owned owner
 owned_else owner k j n o = rw (ne_eqb n k o) refl
 
 -- a seat that is not the one whose part moves
-pub stays : (pen : ℕ) (owner : ℕ → ℕ) (p : PenPart) (k from to j : ℕ) (u : View) → from ≡ owner k → j ≢ from → ViewFits pen owner p j u → ViewFits pen (owned owner k to) p j u
-stays pen owner p k from to j u is apart f = record {
+pub stays : (pen : ℕ) (owner : ℕ → ℕ) (extents : ℕ → Extent) (p : PenPart) (words : List ℕ) (k from to j : ℕ) (u : View) → from ≡ owner k → j ≢ from
+    → ViewFits pen owner extents p words j u → ViewFits pen (owned owner k to) extents p words j u
+stays pen owner extents p words k from to j u is apart f = record {
   keeper = f.keeper;
   at = λ q e. f.at q e ∙ sym (owned_else owner k to q.number (λ n. apart (f.at q e ∙ (ap owner n ∙ sym is))));
+  section = f.section;
   passes = f.passes;
   notes = f.notes;
 }
 
-pub nothing_fits : (pen : ℕ) (owner : ℕ → ℕ) (p : PenPart) (j : ℕ) → ViewFits pen owner p j no_view
-nothing_fits pen owner p j = record { keeper = λ q k. absurd (no_pen q k); at = λ q k. absurd (no_pass q k); passes = λ q k. absurd (no_pass q k); notes = λ n k. absurd (no_note n k) }
+pub nothing_fits : (pen : ℕ) (owner : ℕ → ℕ) (extents : ℕ → Extent) (p : PenPart) (words : List ℕ) (j : ℕ) → ViewFits pen owner extents p words j no_view
+nothing_fits pen owner extents p words j = record {
+  keeper = λ q k. absurd (no_pen q k);
+  at = λ q k. absurd (no_pass q k);
+  section = λ q k. absurd (no_pass q k);
+  passes = λ q k. absurd (no_pass q k);
+  notes = λ n k. absurd (no_note n k);
+}
+
+-- ---- a pass that has seen more of the history
+
+module _ (extents : ℕ → Extent) (p : PenPart) (q : PassPart) (seen : List Moment) (ended : ℕ) (f : PassFits extents p q) (more : Begins q.seen seen) where
+  abbrev Q : PassPart
+  Q = record q { seen = seen; ended = ended }
+
+  longer : length q.seen ≤ length seen
+  longer = begins_length q.seen seen more
+
+  pub seen_fits : Begins seen p.history → q.ended ≤ ended → ended ≤ length seen → ended ≤ p.ended → PassFits extents p (record q { seen = seen; ended = ended })
+  seen_fits whole grows seen_all over = record {
+    shape = f.shape;
+    number = f.number;
+    seen = whole;
+    mine = f.mine ∙ sym (places_within q.number q.seen seen p.history more whole (f.all ∙ f.mine));
+    all = f.all;
+    ended = seen_all;
+    over = over;
+    begun = f.begun;
+    risen = f.risen;
+    epoch = (let a = f.epoch in omega arith);
+    loaded = f.loaded;
+    standing = λ epoch e. let t = f.standing epoch e in record { seen = (let a = t.seen in let l = longer in omega arith); opened = t.opened };
+    closed = f.closed;
+    floor = λ n e. let t = f.floor n e in record { seen = (let a = t.seen in let l = longer in omega arith); cleared = t.cleared; epoch = t.epoch };
+    held = λ j x e. let t = f.held j x e in record { row = t.row; met = (let a = t.met in let l = longer in omega arith); floor = t.floor; has = t.has; since = t.since };
+  }

@@ -1,6 +1,9 @@
+pub mod Ends
 pub mod Limits
+pub mod Places
 pub mod Rule
 pub mod Seats
+pub mod Sections
 pub mod Steps
 pub mod Tokens
 pub mod Turns

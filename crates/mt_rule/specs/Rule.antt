@@ -1,37 +1,101 @@
 -- The rule of a tree's table: it holds between any two steps, whoever makes them.
--- Source: this project's own. No two passes are compared: each view is compared with what the pen knows.
-use Rattle.std.specs.Prelude.{◌≡◌, ℕ, ◌<◌, ◌≤◌, [], ◌∷◌, false, Some, None, length}
-use Rattle.std.specs.List.{AllByRecursion}
+-- Source: this project's own; the kernel's lib/maple_tree.c lets readers walk nodes that a writer replaces, under RCU. No two
+-- passes are compared: each view is compared with what the pen knows.
+use Rattle.std.specs.Prelude.{◌≡◌, ℕ, ◌+◌, ◌<◌, ◌≤◌, List, false, Some, None, IfSome, length, slice_index}
+use Rattle.std.specs.List.{AllByRecursion, Contains}
 use mathlib.Core.Option.{some}
 use lib.ListN.{get_elem?}
 use Rattle.atomic_table.specs.Table.{State}
+use Rattle.mt_base.specs.declared.replies.Holder.{Holder}
 use Rattle.mt_base.specs.History.{Record, IsLegal}
 use Rattle.mt_base.specs.Passes.{Begins, places, holder_of}
-use Rattle.mt_rule.specs.declared.views.Shape.{Shape}
+use Rattle.mt_base.specs.Width.{kind_width, first_row, most_rows}
+use Rattle.mt_life.specs.declared.views.Extent.{Extent}
+use Rattle.mt_life.specs.declared.views.Held.{Held}
+use Rattle.mt_life.specs.Known.{Known}
+use Rattle.mt_life.specs.Holding.{HoldsRow}
+use Rattle.mt_rows.specs.Levels.{one_if}
+use Rattle.mt_rows.specs.Publish.{IsTreeOf, LiveAreReached}
+use Rattle.mt_rows.specs.Sheet.{HasDied, life_of}
+use Rattle.mt_rule.specs.declared.views.Told.{Told}
 use Rattle.mt_rule.specs.declared.views.View.{View}
 use Rattle.mt_rule.specs.declared.views.PenPart.{PenPart}
 use Rattle.mt_rule.specs.declared.views.PassPart.{PassPart}
 use Rattle.mt_rule.specs.declared.views.NotePart.{NotePart}
-use Rattle.mt_rule.specs.Seats.{records_of, tree_of}
+use Rattle.mt_rule.specs.Limits.{most_passes, most_calls}
+use Rattle.mt_rule.specs.Places.{commits_at, begun_at, root_at, section_at, rows_at, size_of, section_word, IsSectionWord}
+use Rattle.mt_rule.specs.Seats.{moment_at, records_of, rooted_in, shape_told, state_in, tree_of}
 
--- Readers ask under the lock: no section holds rows.
-abbrev pub IsUnheld : Record → Type 0
-IsUnheld r = holder_of r.reply ≡ None
+-- how many calls have begun
+abbrev pub begun_by : PenPart → ℕ
+begun_by p = p.ended + one_if p.in_flight
 
--- What the pen knows is one legal history: each call is of a pass that was dealt, and there are no more calls than
--- there may be. Calls begin and end in one step.
+-- ---- what the pen knows
+
+-- What the pen knows is one legal history: each call is of a pass that was dealt. It is in the history from when it published,
+-- or else from its end. Whoever is told to hold rows was found with a section open.
 pub record IsOneHistory (p : PenPart) : Type 0 where
   pub dealt : p.dealt ≤ p.shape.passes
   pub callers : AllByRecursion (λ r. r.pass < p.dealt) (records_of p.history)
-  pub unheld : AllByRecursion IsUnheld (records_of p.history)
-  pub ended : p.ended ≡ length p.history
-  pub idle : p.in_flight ≡ false
-  pub few : p.ended ≤ p.shape.calls
+  pub named : AllByRecursion (λ (r : Record). IfSome (holder_of r.reply) (Contains p.loaded)) (records_of p.history)
+  pub loaded : (h : Holder) → Contains p.loaded h → h.pass < p.dealt
+  pub count : length p.history ≡ p.ended + one_if p.published
+  pub calm : p.in_flight ≡ false → p.published ≡ false
+  pub few : begun_by p ≤ most_calls
   pub legal : IsLegal (tree_of p.shape p.history)
 
+-- What the pen knows of rows, which stand at these extents, is all that is known of them at every moment: the words are a tree
+-- for the map after all calls of the history, and its rows are the live ones.
+pub record IsSound (extents : ℕ → Extent) (p : PenPart) : Type 0 where
+  pub history : IsOneHistory p
+  pub known : Known p.shape.kind (state_in p) extents (moment_at p.shape p.history)
+  pub tree : IsTreeOf (rooted_in p) p.shape.kind
+  pub live : LiveAreReached (rooted_in p) p.lives
+  pub rows : p.shape.rows ≤ most_rows
+  pub words : length p.words ≡ size_of (kind_width p.shape.kind) p.shape.rows
+  pub lives : length p.lives ≡ first_row + p.shape.rows
+  pub buried : length p.buried ≡ first_row + p.shape.rows
+  pub dead : (row : ℕ) → HasDied p.ended p.in_flight (life_of p.lives row)
+  pub some_pass : 1 ≤ p.shape.passes
+  pub few_passes : p.shape.passes ≤ most_passes
+  pub passes : length p.cleared ≡ p.shape.passes
+  pub cleared : (k : ℕ) → k < p.shape.passes → slice_index p.cleared k ≤ p.ended
+
+-- The words of the table are what the pen knows. A section word is 0 or of an epoch that has been, and 0 of a pass that was not dealt.
+pub record WordsFit (words : List ℕ) (p : PenPart) : Type 0 where
+  pub size : length words ≡ size_of (kind_width p.shape.kind) p.shape.rows
+  pub commits : slice_index words commits_at ≡ p.ended
+  pub begun : slice_index words begun_at ≡ begun_by p
+  pub root : slice_index words root_at ≡ p.root
+  pub sections : (k : ℕ) → k < p.shape.passes → IsSectionWord p.ended (slice_index words (section_at k))
+  pub undealt : (k : ℕ) → p.dealt ≤ k → k < p.shape.passes → slice_index words (section_at k) ≡ 0
+  pub columns : (i : ℕ) → rows_at (kind_width p.shape.kind) ≤ i → slice_index words i ≡ slice_index p.words i
+
+-- ---- what a pass knows
+
+-- The section is open at this epoch, which the pass has opened.
+pub record IsOpenAt (q : PassPart) (epoch : ℕ) : Type 0 where
+  pub seen : epoch ≤ length q.seen
+  pub opened : Contains q.opened epoch
+
+-- The section has loaded the root word, first after so many calls: no row that died behind that is out of its reach.
+pub record HasFloor (p : PenPart) (q : PassPart) (floor : ℕ) : Type 0 where
+  pub seen : floor ≤ length q.seen
+  pub cleared : slice_index p.cleared q.number ≤ floor
+  pub epoch : IfSome q.standing (λ epoch. epoch ≤ floor)
+
+-- A row that the section holds, by a walk from a root that was loaded no earlier than the first.
+pub record IsHeldBy (extents : ℕ → Extent) (p : PenPart) (q : PassPart) (x : Held) : Type 0 where
+  pub row : HoldsRow p.shape.kind (state_in p) extents (moment_at p.shape p.history) x
+  pub met : x.met ≤ length q.seen
+  pub floor : ℕ
+  pub has : q.floor ≡ Some floor
+  pub since : floor ≤ x.since
+
 -- What a pass knows fits what the pen knows: it has seen a beginning of the history, and its own calls are all that the
--- whole history has of its number.
-pub record PassFits (p : PenPart) (q : PassPart) : Type 0 where
+-- whole history has of its number. Each epoch at which its section was found open is one at which it opened one. The rows
+-- that its section holds are live, or died no earlier than when the section came to them.
+pub record PassFits (extents : ℕ → Extent) (p : PenPart) (q : PassPart) : Type 0 where
   pub shape : q.shape ≡ p.shape
   pub number : q.number < p.dealt
   pub seen : Begins q.seen p.history
@@ -39,21 +103,31 @@ pub record PassFits (p : PenPart) (q : PassPart) : Type 0 where
   pub all : places q.number (records_of p.history) ≡ q.mine
   pub ended : q.ended ≤ length q.seen
   pub over : q.ended ≤ p.ended
-  pub begun : q.begun ≤ length p.history
+  pub begun : q.begun ≤ begun_by p
+  pub risen : q.risen ≤ begun_by p
+  pub epoch : q.epoch ≤ q.ended
+  pub loaded : (h : Holder) → Contains p.loaded h → h.pass ≡ q.number → Contains q.opened h.epoch
+  pub standing : (epoch : ℕ) → q.standing ≡ Some epoch → IsOpenAt q epoch
+  pub closed : q.standing ≡ None → q.floor ≡ None
+  pub floor : (floor : ℕ) → q.floor ≡ Some floor → HasFloor p q floor
+  pub held : (j : ℕ) (x : Held) → get_elem? q.held j ≡ some x → IsHeldBy extents p q x
 
 -- What the seat `by` knows fits: the pen's part stands at one seat, and that of each pass at one.
-pub record ViewFits (pen : ℕ) (owner : ℕ → ℕ) (p : PenPart) (by : ℕ) (v : View) : Type 0 where
+pub record ViewFits (pen : ℕ) (owner : ℕ → ℕ) (extents : ℕ → Extent) (p : PenPart) (words : List ℕ) (by : ℕ) (v : View) : Type 0 where
   pub keeper : (part : PenPart) → v.pen ≡ Some part → (by ≡ pen) × (part ≡ p)
   pub at : (q : PassPart) → v.pass ≡ Some q → by ≡ owner q.number
-  pub passes : (q : PassPart) → v.pass ≡ Some q → PassFits p q
+  pub section : (q : PassPart) → v.pass ≡ Some q → slice_index words (section_at q.number) ≡ section_word q.standing
+  pub passes : (q : PassPart) → v.pass ≡ Some q → PassFits extents p q
   pub notes : (n : NotePart) → v.note ≡ Some n → Begins n.seen p.history
 
--- Word 0 is the number of calls that have ended.
-pub record IsKept (shape : Shape) (s : State (Unit {0}) View) : Type 0 where
+-- ---- the rule
+
+pub record IsKept (told : Told) (s : State (Unit {0}) View) : Type 0 where
   pub pen : ℕ
   pub owner : ℕ → ℕ
+  pub extents : ℕ → Extent
   pub part : PenPart
-  pub words : s.words ≡ part.ended ∷ []
-  pub shaped : part.shape ≡ shape
-  pub whole : IsOneHistory part
-  pub each : (by : ℕ) (v : View) → get_elem? s.views by ≡ some v → ViewFits pen owner part by v
+  pub shaped : part.shape ≡ shape_told told
+  pub sound : IsSound extents part
+  pub words : WordsFit s.words part
+  pub each : (by : ℕ) (v : View) → get_elem? s.views by ≡ some v → ViewFits pen owner extents part s.words by v

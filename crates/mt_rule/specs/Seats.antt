@@ -1,13 +1,23 @@
 -- What a seat of a tree's table knows, part by part, and what each part stands for.
 -- Source: this project's own.
-use Rattle.std.specs.Prelude.{◌≡◌, ℕ, ◌+◌, List, [], ◌∷◌, length, map, nat_lt, false, Option, Some, None, if◌then◌else◌}
+use Rattle.std.specs.Prelude.{◌≡◌, ℕ, ◌+◌, List, [], ◌∷◌, length, map, min, nat_lt, replicate, slice_index_or, ◌-◌, ◌^◌, true, false, Option, Some, None, if◌then◌else◌}
+use Rattle.std.specs.List.{range_with_len}
+use Rattle.mt_base.specs.Width.{kind_width, first_row}
 use Rattle.mt_base.specs.declared.calls.Call.{Call}
+use Rattle.mt_base.specs.declared.kinds.Kind.{Kind}
 use Rattle.mt_base.specs.declared.kinds.Kind.TheVariants as kinds
 use Rattle.mt_base.specs.declared.replies.Reply.{Reply}
-use Rattle.mt_base.specs.History.{Record, History}
+use Rattle.mt_base.specs.History.{Record, History, map_at}
 use Rattle.mt_base.specs.Passes as known
+use Rattle.mt_life.specs.declared.views.Moment as life
+use Rattle.mt_life.specs.Known.{State}
+use Rattle.mt_life.specs.Moments.{cuts_by}
+use Rattle.mt_rows.specs.declared.rows.Life.{Life}
+use Rattle.mt_rows.specs.declared.rows.Life.TheVariants.{New, Live}
 use Rattle.mt_rows.specs.Memory.{sheet_in}
-use Rattle.mt_rows.specs.Publish.{map_by}
+use Rattle.mt_rows.specs.Publish.{map_by, is_reached}
+use Rattle.mt_rows.specs.Sheet.{Rooted, Sheet}
+use Rattle.mt_rows.specs.Trees.{reached_in}
 use Rattle.mt_rule.specs.declared.views.Told.{Told}
 use Rattle.mt_rule.specs.declared.views.Shape.{Shape}
 use Rattle.mt_rule.specs.declared.views.Moment.{Moment}
@@ -18,18 +28,22 @@ use Rattle.mt_rule.specs.declared.views.NotePart.{NotePart}
 
 -- ---- what a table was told
 
+-- what is known of a tree that opens with these rows
+abbrev pub shape_opening : Kind → Rooted → ℕ → ℕ → Shape
+shape_opening kind t passes calls = record { kind = kind; rows = t.rows; passes = passes; calls = calls; opening = map_by t; cuts = cuts_by t; opened = length (reached_in t.table t.root) }
+
 abbrev pub shape_told : Told → Shape
-shape_told t = record { kind = t.kind; rows = (sheet_in t.rows.value).tree.rows; passes = t.passes; calls = t.calls; opening = map_by (sheet_in t.rows.value).tree }
+shape_told t = shape_opening t.kind (sheet_in t.rows.value).tree t.passes t.calls
 
 abbrev pub no_shape : Shape
-no_shape = record { kind = kinds.Range; rows = 0; passes = 0; calls = 0; opening = [] }
+no_shape = record { kind = kinds.Range; rows = 0; passes = 0; calls = 0; opening = []; cuts = []; opened = 0 }
 
 -- ---- moments
 
-abbrev pub moment : ℕ → Call → Reply → Moment
-moment pass call reply = record { pass = pass; call = call; reply = reply }
+abbrev pub moment : ℕ → Call → Reply → List ℕ → Moment
+moment pass call reply cuts = record { pass = pass; call = call; reply = reply; cuts = cuts }
 
--- the record of a moment: of moments nothing else is read
+-- the record of a moment, which is what the outside is told of it
 abbrev pub record_of : Moment → Record
 record_of m = record { pass = m.pass; call = m.call; reply = m.reply }
 
@@ -40,17 +54,49 @@ records_of moments = map record_of moments
 abbrev pub tree_of : Shape → List Moment → History
 tree_of shape moments = record { kind = shape.kind; rows = shape.rows; opening = shape.opening; records = records_of moments }
 
+-- where the leaves begin after the first k calls
+abbrev pub cuts_of : Moment → List ℕ
+cuts_of m = m.cuts
+
+abbrev pub cuts_at : Shape → List Moment → ℕ → List ℕ
+cuts_at shape moments k = slice_index_or (shape.cuts ∷ map cuts_of moments) k []
+
+-- the map after the first k calls, and where its leaves begin
+abbrev pub moment_at : Shape → List Moment → ℕ → life.Moment
+moment_at shape moments k = record { ranges = map_at (tree_of shape moments) k; cuts = cuts_at shape moments k }
+
 -- the longer of two beginnings of one history
 abbrev pub longer_of : List Moment → List Moment → List Moment
 longer_of xs ys = if nat_lt (length xs) (length ys) then ys else xs
 
 -- ---- parts
 
-abbrev pub new_pen : Shape → PenPart
-new_pen shape = record { shape = shape; dealt = 0; history = []; ended = 0; in_flight = false }
+-- the lives of rows when a tree opens: those that are reached are live
+abbrev pub opening_life : Rooted → ℕ → Life
+opening_life t row = if is_reached t row then Live else New
+
+-- the pen of a tree that opens with these rows
+abbrev pub new_pen : Shape → Rooted → PenPart
+new_pen shape t = record {
+  shape = shape;
+  dealt = 0;
+  history = [];
+  ended = 0;
+  in_flight = false;
+  published = false;
+  root = t.root;
+  words = t.table.words;
+  lives = map (opening_life t) (range_with_len 0 (first_row + t.rows));
+  buried = replicate (first_row + t.rows) false;
+  cleared = replicate shape.passes 0;
+  loaded = [];
+}
+
+abbrev pub no_pen : PenPart
+no_pen = record { shape = no_shape; dealt = 0; history = []; ended = 0; in_flight = false; published = false; root = 0; words = []; lives = []; buried = []; cleared = []; loaded = [] }
 
 abbrev pub new_part : Shape → ℕ → PassPart
-new_part shape number = record { shape = shape; number = number; seen = []; mine = []; opened = []; standing = None; begun = 0; ended = 0 }
+new_part shape number = record { shape = shape; number = number; seen = []; mine = []; opened = []; standing = None; begun = 0; ended = 0; epoch = 0; floor = None; risen = 0; held = [] }
 
 -- what a pass's part stands for
 abbrev pub known_by : PassPart → known.Pass
@@ -58,7 +104,7 @@ known_by q = record { number = q.number; seen = records_of q.seen; mine = q.mine
 
 abbrev pub pen_or : Option PenPart → PenPart
 pen_or (Some p) = p
-pen_or None = new_pen no_shape
+pen_or None = no_pen
 
 abbrev pub pass_or : Option PassPart → PassPart
 pass_or (Some q) = q
@@ -92,8 +138,8 @@ HasNote v = v.note ≡ Some (note_of v)
 abbrev pub no_view : View
 no_view = record { pen = None; pass = None; note = None }
 
-abbrev pub opening_view : Shape → View
-opening_view shape = record no_view { pen = Some (new_pen shape) }
+abbrev pub opening_view : Told → View
+opening_view told = record no_view { pen = Some (new_pen (shape_told told) (sheet_in told.rows.value).tree) }
 
 -- the pen after it has dealt a pass, and the new pass's view
 abbrev pub dealing_view : View → View
@@ -117,6 +163,40 @@ pass_alone v = record no_view { pass = v.pass }
 
 abbrev pub note_alone : View → View
 note_alone v = record no_view { note = Some (record { seen = (pass_of v).seen }) }
+
+-- ---- the rows that the pen knows
+
+abbrev pub rooted_in : PenPart → Rooted
+rooted_in p = record { rows = p.shape.rows; table = record { width = kind_width p.shape.kind; words = p.words }; root = p.root }
+
+-- the least of some numbers, and 0 of none
+abbrev pub least_of : List ℕ → ℕ
+least_of [] = 0
+least_of (n ∷ []) = n
+least_of (n ∷ m ∷ ns) = min n (least_of (m ∷ ns))
+
+abbrev pub state_in : PenPart → State
+state_in p = record { tree = rooted_in p; lives = p.lives; buried = p.buried; ended = p.ended; in_flight = p.in_flight; published = p.published; cleared = least_of p.cleared }
+
+-- the same as the rows of one caller, who has made no scan and tells no records
+abbrev pub sheet_of : PenPart → Sheet
+sheet_of p = record {
+  tree = rooted_in p;
+  ended = p.ended;
+  in_flight = p.in_flight;
+  published = p.published;
+  lives = p.lives;
+  buried = p.buried;
+  opened = p.shape.opened;
+  cleared = least_of p.cleared;
+  shared = true;
+  scan = record { least = 2 ^ 64 - 1; by = None };
+  scans = 0;
+  scans_at_begin = 0;
+  reads = None;
+  kind = Some p.shape.kind;
+  told = None;
+}
 
 -- ---- a pass's views: one with a pass's part, or none where its seat is joined into the pen's
 

@@ -1,13 +1,16 @@
 -- Whose a pass, a pen and a note are, and what they stand for.
 -- Source: this project's own.
 use Rattle.std.specs.Prelude.{◌≡◌, ℕ, ◌≤◌, List, [], false, Some, None}
+use Rattle.std.specs.List.{Contains}
 use Rattle.atomic_table.specs.Seated.{TableId}
 use Rattle.atomic_table.specs.declared.badge.Badge.{Badge}
 use Rattle.mt_base.specs.declared.kinds.Kind.{Kind}
 use Rattle.mt_base.specs.History.{Record, History}
 use Rattle.mt_base.specs.Passes as known
 use Rattle.mt_rows.specs.Sheet.{Sheet}
-use Rattle.mt_rows.specs.Publish.{IsLawfulOf, map_by}
+use Rattle.mt_base.specs.declared.replies.Holder.{Holder}
+use Rattle.mt_life.specs.declared.views.Extent.{Extent}
+use Rattle.mt_rows.specs.Publish.{IsLawfulOf}
 use Rattle.mt_rule.specs.declared.views.Shape.{Shape}
 use Rattle.mt_rule.specs.declared.views.PenPart.{PenPart}
 use Rattle.mt_rule.specs.declared.views.PassPart.{PassPart}
@@ -17,9 +20,9 @@ use Rattle.mt_rule.specs.declared.table.MtTable.{MtTable}
 use Rattle.mt_rule.specs.declared.passes.Pass.{Pass}
 use Rattle.mt_rule.specs.declared.pens.Pen.{Pen}
 use Rattle.mt_rule.specs.declared.notes.Note.{Note}
-use Rattle.mt_rule.specs.Seats.{shape_told, records_of, tree_of, known_by, pen_of, pass_of, note_of, pass_or, part_in, HasPass}
+use Rattle.mt_rule.specs.Seats.{shape_told, shape_opening, records_of, tree_of, known_by, pen_of, pass_of, note_of, pass_or, part_in, HasPass}
 use Rattle.mt_rule.specs.Limits.{most_passes, most_calls}
-use Rattle.mt_rule.specs.Rule.{IsOneHistory}
+use Rattle.mt_rule.specs.Rule.{IsSound}
 
 -- ---- tables
 
@@ -47,7 +50,7 @@ pub record MayOpen (kind : Kind) (s : Sheet) (passes calls : ℕ) : Type 0 where
 
 -- what its table is told
 abbrev pub shape_opened : Kind → Sheet → ℕ → ℕ → Shape
-shape_opened kind s passes calls = record { kind = kind; rows = s.tree.rows; passes = passes; calls = calls; opening = map_by s.tree }
+shape_opened kind s passes calls = shape_opening kind s.tree passes calls
 
 -- ---- passes
 
@@ -74,6 +77,11 @@ pub record IsPassOf (t : Identity) (p : Pass) : Type 0 where
   pub here : part_in (tree_seat p).views ≡ Some (part_of p)
   pub of : identity_of_pass p ≡ t
 
+-- The pass has made a step of its own, and its seat at the turn is as it was.
+pub record Stepped (t : Identity) (p p' : Pass) : Type 0 where
+  pub of : IsPassOf t p'
+  pub turn : turn_seat p' ≡ turn_seat p
+
 -- ---- the pen
 
 abbrev pub pen_in : Pen → PenPart
@@ -93,24 +101,38 @@ IsPenOf t p = identity_of_pen p ≡ t
 abbrev pub IsAlone : Pen → Type 0
 IsAlone p = p.seat.me.0.pass ≡ None
 
--- a pass of the pen's table is joined with it
-pub record IsJoined (p : Pen) : Type 0 where
-  pub has : HasPass p.seat.me.0
-  pub shape : (pass_of p.seat.me.0).shape ≡ (pen_in p).shape
+-- what the pass that is joined with the pen knows
+abbrev pub joined_part : Pen → PassPart
+joined_part p = pass_of p.seat.me.0
 
--- what the joined pass knows
 abbrev pub joined_in : Pen → known.Pass
-joined_in p = known_by (pass_of p.seat.me.0)
+joined_in p = known_by (joined_part p)
 
 abbrev pub joined_turn : Pen → Badge TurnView
 joined_turn p = p.turn
 
--- What the lock shows the pass that is joined with the pen: the whole history, which is one legal history of the
--- table's passes.
+-- A pass of the pen's table is joined with it, and has seen the whole history and its own calls there.
+pub record IsJoined (p : Pen) : Type 0 where
+  pub has : HasPass p.seat.me.0
+  pub shape : (joined_part p).shape ≡ (pen_in p).shape
+  pub seen : (joined_part p).seen ≡ (pen_in p).history
+  pub mine : (joined_part p).mine ≡ known.places (joined_part p).number (records_of (pen_in p).history)
+
+-- The pen goes on with the same pass, which knows what it knew.
+pub record GoesOn (t : Identity) (a b : Pen) : Type 0 where
+  pub of : IsPenOf t b
+  pub joined : IsJoined b
+  pub pass : joined_part b ≡ joined_part a
+  pub turn : joined_turn b ≡ joined_turn a
+
+-- What the lock shows the pass that is joined with the pen: the whole history, which is one legal history of the table's
+-- passes, and the rows as they are. Each section of its own that was found open is one that it opened.
 pub record WasShown (tree : History) (pen : PenPart) (p q : known.Pass) : Type 0 where
   pub saw : known.Saw tree p q
   pub all : q.seen ≡ records_of pen.history
-  pub whole : IsOneHistory pen
+  pub opened : (h : Holder) → Contains pen.loaded h → h.pass ≡ q.number → Contains q.opened h.epoch
+  pub extents : ℕ → Extent
+  pub sound : IsSound extents pen
 
 -- ---- notes
 

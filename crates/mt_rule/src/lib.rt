@@ -6,9 +6,11 @@ mod notes;
 mod passes;
 mod pens;
 mod rule;
+mod sections;
 mod table;
 mod turn;
 mod views;
+mod writes;
 
 pub use notes::Note;
 pub use passes::Pass;

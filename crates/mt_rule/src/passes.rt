@@ -1,6 +1,7 @@
 //! A caller's token on a tree.
 
-ghost use Rattle.std.specs.Prelude.{◌≡◌};
+ghost use Rattle.std.specs.Prelude.{◌≡◌, ◌<◌};
+ghost use Rattle.mt_rule.specs.Limits.{most_passes};
 ghost use Rattle.mt_rule.specs.Seats.{part_in, pass_or, views_with};
 
 use crate::views::{TurnView, View};
@@ -16,6 +17,7 @@ pub struct Pass {
     pub(crate) turn: Badge<TurnView>,
     ghost whole: { seat.views ≡ views_with (part_in seat.views) },
     ghost numbered: { number ≡ (pass_or (part_in seat.views)).number },
+    ghost few: { number < most_passes },
 }
 
 impl Pass {

@@ -1,25 +1,28 @@
 //! The rule of a tree's table, how its seats' views are parted and joined, and what a step tells.
 
-ghost use Rattle.std.specs.Prelude.{◌≡◌};
+ghost use Rattle.std.specs.Prelude.{◌≡◌, ℕ};
 ghost use Rattle.mt_base.specs.declared.calls.Call.{Call};
 ghost use Rattle.mt_base.specs.declared.calls.Call.TheVariants as calls;
 ghost use Rattle.mt_base.specs.declared.replies.Reply.{Reply};
 ghost use Rattle.mt_base.specs.declared.replies.Reply.TheVariants as replies;
+ghost use Rattle.mt_rows.specs.declared.rows.Place.{Place};
+ghost use Rattle.mt_rows.specs.declared.rows.Place.TheVariants.{Root};
 
 use crate::views::{Told, View};
 use atomic_table::{Join, Play, Split, TableRule};
 use std::marker::{Brand, PhantomData};
 
-/// A tree has one history, of which every pass and every note knows a beginning.
+/// A tree has one history, of which every pass and every note knows a beginning; its words stand for the map after it, and the
+/// rows that a pass is at are as they were when it came to them.
 pub struct Ruled;
 
 impl TableRule<(), View, Told> for Ruled {
     ghost use Rattle.mt_rule.specs.Rule.{IsKept};
-    ghost use Rattle.mt_rule.specs.Seats.{opening_view, shape_told};
+    ghost use Rattle.mt_rule.specs.Seats.{opening_view};
 
-    ghost holds = { λ told. IsKept (shape_told told) };
+    ghost holds = { IsKept };
 
-    ghost first = { λ told. opening_view (shape_told told) };
+    ghost first = { opening_view };
 }
 
 /// What a step announces.
@@ -27,12 +30,24 @@ pub trait Announced {
     ghost call: { Call };
 
     ghost reply: { Reply };
+
+    ghost place: { Place };
+
+    ghost number: { ℕ };
+
+    ghost column: { ℕ };
 }
 
 impl Announced for Brand {
     ghost call = { calls.Clear };
 
     ghost reply = { replies.Ok };
+
+    ghost place = { Root };
+
+    ghost number = { 0 };
+
+    ghost column = { 0 };
 }
 
 /// The pen deals the next pass.
@@ -99,6 +114,97 @@ impl Play<(), View> for SeesAll {
     ghost then = { sees_all };
 }
 
+/// A pass learns what the note beside it tells.
+pub(crate) struct Learns;
+
+impl Play<(), View> for Learns {
+    ghost use Rattle.mt_rule.specs.Steps.{learns};
+
+    ghost then = { learns };
+}
+
+/// The pen loads a column.
+pub(crate) struct Looks;
+
+impl Play<(), View> for Looks {
+    ghost use Rattle.mt_rule.specs.Steps.{looks};
+
+    ghost then = { looks };
+}
+
+/// The pen loads the root word.
+pub(crate) struct LooksAtRoot;
+
+impl Play<(), View> for LooksAtRoot {
+    ghost use Rattle.mt_rule.specs.Steps.{looks_at_root};
+
+    ghost then = { looks_at_root };
+}
+
+/// The pen loads the section word of a pass.
+pub(crate) struct LoadsSection<M> {
+    announced: PhantomData<M>,
+}
+
+impl<M: Announced> Play<(), View> for LoadsSection<M> {
+    ghost use Rattle.mt_rule.specs.Steps.{loads_section};
+
+    ghost then = { loads_section M.number };
+}
+
+/// A call begins.
+pub(crate) struct BeginsCall;
+
+impl Play<(), View> for BeginsCall {
+    ghost use Rattle.mt_rule.specs.Steps.{begins_call};
+
+    ghost then = { begins_call };
+}
+
+/// A column of a draft is written.
+pub(crate) struct Drafts<M> {
+    announced: PhantomData<M>,
+}
+
+impl<M: Announced> Play<(), View> for Drafts<M> {
+    ghost use Rattle.mt_rule.specs.Steps.{drafts};
+
+    ghost then = { drafts M.number M.column };
+}
+
+/// A live row is given its dead mark.
+pub(crate) struct Buries<M> {
+    announced: PhantomData<M>,
+}
+
+impl<M: Announced> Play<(), View> for Buries<M> {
+    ghost use Rattle.mt_rule.specs.Steps.{buries};
+
+    ghost then = { buries M.number };
+}
+
+/// A parent word or a gap word of a live row is written.
+pub(crate) struct Tends<M> {
+    announced: PhantomData<M>,
+}
+
+impl<M: Announced> Play<(), View> for Tends<M> {
+    ghost use Rattle.mt_rule.specs.Steps.{tends};
+
+    ghost then = { tends M.number M.column };
+}
+
+/// A call publishes.
+pub(crate) struct Publishes<M> {
+    announced: PhantomData<M>,
+}
+
+impl<M: Announced> Play<(), View> for Publishes<M> {
+    ghost use Rattle.mt_rule.specs.Steps.{publishes};
+
+    ghost then = { publishes M.place M.call M.reply };
+}
+
 /// A call ends.
 pub(crate) struct EndsCall<M> {
     announced: PhantomData<M>,
@@ -110,11 +216,74 @@ impl<M: Announced> Play<(), View> for EndsCall<M> {
     ghost then = { ends_call M.call M.reply };
 }
 
-/// A pass learns what the note beside it tells.
-pub(crate) struct Learns;
+/// A pass loads the number of ended calls.
+pub(crate) struct LoadsCommits;
 
-impl Play<(), View> for Learns {
-    ghost use Rattle.mt_rule.specs.Steps.{learns};
+impl Play<(), View> for LoadsCommits {
+    ghost use Rattle.mt_rule.specs.Sections.{loads_commits};
 
-    ghost then = { learns };
+    ghost then = { loads_commits };
+}
+
+/// A pass opens a section.
+pub(crate) struct OpensSection;
+
+impl Play<(), View> for OpensSection {
+    ghost use Rattle.mt_rule.specs.Sections.{opens_section};
+
+    ghost then = { opens_section };
+}
+
+/// A pass closes its section.
+pub(crate) struct ClosesSection;
+
+impl Play<(), View> for ClosesSection {
+    ghost use Rattle.mt_rule.specs.Sections.{closes_section};
+
+    ghost then = { closes_section };
+}
+
+/// A pass loads the root word.
+pub(crate) struct LoadsRoot;
+
+impl Play<(), View> for LoadsRoot {
+    ghost use Rattle.mt_rule.specs.Sections.{loads_root};
+
+    ghost then = { loads_root };
+}
+
+/// A pass loads a pivot of the row that its section is at.
+pub(crate) struct LoadsPivot;
+
+impl Play<(), View> for LoadsPivot {
+    ghost use Rattle.mt_rule.specs.Sections.{loads_pivot};
+
+    ghost then = { loads_pivot };
+}
+
+/// A pass loads a slot of that row.
+pub(crate) struct LoadsSlot;
+
+impl Play<(), View> for LoadsSlot {
+    ghost use Rattle.mt_rule.specs.Sections.{loads_slot};
+
+    ghost then = { loads_slot };
+}
+
+/// A pass loads the parent word of a row.
+pub(crate) struct LoadsParent;
+
+impl Play<(), View> for LoadsParent {
+    ghost use Rattle.mt_rule.specs.Sections.{loads_parent};
+
+    ghost then = { loads_parent };
+}
+
+/// A pass loads the number of calls that have begun.
+pub(crate) struct LoadsBegun;
+
+impl Play<(), View> for LoadsBegun {
+    ghost use Rattle.mt_rule.specs.Sections.{loads_begun};
+
+    ghost then = { loads_begun };
 }

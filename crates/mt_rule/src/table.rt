@@ -1,15 +1,21 @@
 //! The table of a tree.
 
-ghost use Rattle.std.specs.Prelude.{◌≡◌, ◌≤◌};
-ghost use Rattle.mt_rule.specs.Limits.{most_calls};
+ghost use Rattle.std.specs.Prelude.{◌≡◌, ◌+◌, ◌*◌, ◌<◌, ◌≤◌, IfOk};
+ghost use Rattle.mt_base.specs.Width.{kind_width, columns, first_row, most_rows};
+ghost use Rattle.mt_rows.specs.Memory.{sheet_in};
+ghost use Rattle.mt_rows.specs.Sheet.{OnlyReads};
+ghost use Rattle.mt_rule.specs.Limits.{most_calls, most_passes};
+ghost use Rattle.mt_rule.specs.Places.{commits_at, begun_at, root_at, section_at, column_at, size_of};
+ghost use Rattle.mt_rule.specs.Places.{AreOpening};
+ghost use Rattle.mt_rule.specs.Seats.{shape_told};
 
 use crate::passes::Pass;
 use crate::pens::Pen;
 use crate::rule::{Deals, Ruled};
 use crate::views::{Told, View};
 use atomic_table::{Badge, Table};
-use mt_base::{Kind, NoMemory};
-use mt_rows::PlainRows;
+use mt_base::{FIRST_ROW, Kind, NoMemory, Width, cols, width_of};
+use mt_rows::{PlainRows, Rows};
 use std::alloc::Global;
 use std::snapshot::Snapshot;
 
@@ -19,25 +25,79 @@ pub const MOST_PASSES: u32 = 62;
 /// A tree has so many calls at the most.
 pub const MOST_CALLS: u64 = (1 << 62) - 1;
 
-/// The table of a tree: the number of its calls that have ended, under the rule that the tree has one history.
+/// Where the words stand that are of no row.
+pub(crate) const COMMITS: usize = 0;
+
+pub(crate) const BEGUN: usize = 1;
+
+pub(crate) const ROOT: usize = 2;
+
+/// Where the section word of a pass stands: each has a cache line of its own.
+pub(crate) fn section_index(pass: u32) -> usize
+    requires { pass < most_passes }
+    ensures { result ≡ section_at pass }
+{
+    8 * (pass as usize + 1)
+}
+
+/// The table of a tree: how many of its calls have begun and ended, its root word, a section word of each pass, and its
+/// rows, under the rule that the tree has one history, for which its words stand.
 #[derive(Drop)]
 pub struct MtTable {
     pub(crate) table: Table<(), View, Told, Ruled, Global>,
-    ghost one: { table.shared.table_id.words ≡ 1 },
+    width: Width,
+    passes: u32,
+    rows: u64,
+    ghost many: { passes ≡ table.shared.key.passes },
+    ghost sized: { rows ≡ (shape_told table.shared.key).rows },
+    ghost wide: { width ≡ kind_width table.shared.key.kind },
+    ghost words: { table.shared.table_id.words ≡ size_of (kind_width table.shared.key.kind) (shape_told table.shared.key).rows },
+    ghost few_rows: { (shape_told table.shared.key).rows ≤ most_rows },
+    ghost few_passes: { table.shared.key.passes ≤ most_passes },
     ghost few_calls: { table.shared.key.calls ≤ most_calls },
 }
 
 impl MtTable {
-    ghost use Rattle.std.specs.Prelude.{◌≡◌, ◌+◌, ◌<◌, ◌≤◌, IfOk, All, map};
+    ghost use Rattle.std.specs.Prelude.{◌≡◌, ◌+◌, ◌<◌, ◌≤◌, IfOk, All, map, []};
     ghost use Rattle.std.specs.List.{range_with_len};
     ghost use Rattle.mt_base.specs.Passes.{new_pass};
+    ghost use Rattle.mt_base.specs.Width.{kind_width};
     ghost use Rattle.mt_rows.specs.Memory.{sheet_in};
-    ghost use Rattle.mt_rule.specs.Limits.{most_calls};
     ghost use Rattle.mt_rule.specs.Seats.{new_pen};
     ghost use Rattle.mt_rule.specs.Tokens.{identity_of, MayOpen, shape_opened, IsPassOf, pass_in, pen_in, IsPenOf, IsAlone};
 
-    /// A table for a tree that opens with these rows, whose words stay where they are; its pen, and its passes,
-    /// numbered from 0.
+    /// Where a column of a row stands.
+    pub(crate) fn column_index(&self, row: u32, col: u32) -> usize
+        requires row { row < first_row + most_rows }
+        requires column { col < columns self.now.width }
+        ensures { result ≡ column_at self.now.width row col }
+    {
+        cols(self.width) as usize * row as usize + col as usize
+    }
+
+    /// How many passes the tree has.
+    pub fn passes(&self) -> u32
+        ensures { result ≡ (identity_of self.now).shape.passes }
+    {
+        self.passes
+    }
+
+    /// How many rows it has.
+    pub fn rows(&self) -> u64
+        ensures { result ≡ (identity_of self.now).shape.rows }
+    {
+        self.rows
+    }
+
+    /// How wide its words are.
+    pub fn width(&self) -> Width
+        ensures { result ≡ kind_width (identity_of self.now).shape.kind }
+    {
+        self.width
+    }
+
+    /// A table of the words of these rows, for a tree that opens with them; its pen, and its passes, numbered from 0. Rows that
+    /// are not reached are new.
     pub fn make(
         alloc: Global,
         kind: Kind,
@@ -46,9 +106,9 @@ impl MtTable {
         calls: u64,
     ) -> Result<(MtTable, Pen, Vec<Pass>), NoMemory>
         requires { MayOpen kind (sheet_in rows.old) passes calls }
-        ensures rows { rows.new ≡ rows.old }
+        ensures rows { OnlyReads (sheet_in rows.old) (sheet_in rows.new) }
         ensures shape { IfOk result (λ r. (identity_of r.0).shape ≡ shape_opened kind (sheet_in rows.old) passes calls) }
-        ensures pen { IfOk result (λ r. IsPenOf (identity_of r.0) r.1 × IsAlone r.1 × (pen_in r.1 ≡ record (new_pen (identity_of r.0).shape) { dealt = passes })) }
+        ensures pen { IfOk result (λ r. IsPenOf (identity_of r.0) r.1 × IsAlone r.1 × (pen_in r.1 ≡ record (new_pen (identity_of r.0).shape (sheet_in rows.old).tree) { dealt = passes })) }
         ensures of { IfOk result (λ r. All (IsPassOf (identity_of r.0)) r.2.items) }
         ensures passes { IfOk result (λ r. map pass_in r.2.items ≡ map new_pass (range_with_len 0 passes)) }
     {
@@ -60,26 +120,34 @@ impl MtTable {
         Ok((table, pen, dealt))
     }
 
-    /// A table for a tree that opens with these rows, and its pen. No pass is dealt yet.
+    /// A table of these rows, and its pen. No pass is dealt yet.
     fn with_pen(
         alloc: Global,
         kind: Kind,
-        rows: &PlainRows,
+        rows: &mut PlainRows,
         passes: u32,
         calls: u64,
     ) -> Result<(MtTable, Pen), NoMemory>
-        requires { calls ≤ most_calls }
-        ensures shape { IfOk result (λ r. (identity_of r.0).shape ≡ shape_opened kind (sheet_in rows.now) passes calls) }
-        ensures pen { IfOk result (λ r. IsPenOf (identity_of r.0) r.1 × IsAlone r.1 × (pen_in r.1 ≡ new_pen (identity_of r.0).shape)) }
+        requires { MayOpen kind (sheet_in rows.old) passes calls }
+        ensures rows { OnlyReads (sheet_in rows.old) (sheet_in rows.new) }
+        ensures shape { IfOk result (λ r. (identity_of r.0).shape ≡ shape_opened kind (sheet_in rows.old) passes calls) }
+        ensures pen { IfOk result (λ r. IsPenOf (identity_of r.0) r.1 × IsAlone r.1 × (pen_in r.1 ≡ new_pen (identity_of r.0).shape (sheet_in rows.old).tree)) }
     {
+        let words = opening_words(alloc, rows)?;
         let told = Told {
             kind,
             passes,
             calls,
             rows: Snapshot::of(rows),
         };
-        let (table, seat) = Table::of_words(alloc, &[0], &told)?;
-        Ok((MtTable { table }, Pen::of_seat(seat)))
+        let (table, seat) = Table::of_words(alloc, &words, &told)?;
+        let table = MtTable {
+            table,
+            width: width_of(kind),
+            passes,
+            rows: rows.size(),
+        };
+        Ok((table, Pen::of_seat(seat)))
     }
 
     /// Deals the next pass.
@@ -88,6 +156,7 @@ impl MtTable {
         requires alone { IsAlone pen.old }
         requires number { number ≡ (pen_in pen.old).dealt }
         requires few { number < (pen_in pen.old).shape.passes }
+        requires idle { (pen_in pen.old).history ≡ [] }
         ensures of { IsPenOf (identity_of self.now) pen.new }
         ensures alone { IsAlone pen.new }
         ensures pen { pen_in pen.new ≡ record (pen_in pen.old) { dealt = number + 1 } }
@@ -101,4 +170,16 @@ impl MtTable {
             turn: Badge::blank(),
         }
     }
+}
+
+/// The words of a table that opens with these rows.
+fn opening_words(alloc: Global, rows: &mut PlainRows) -> Result<Vec<u64>, NoMemory>
+    ensures rows { OnlyReads (sheet_in rows.old) (sheet_in rows.new) }
+    ensures words { IfOk result (λ words. AreOpening (sheet_in rows.old).tree words.items) }
+{
+    let size = cols(rows.width()) as usize * (FIRST_ROW as usize + rows.size() as usize);
+    let mut words = vec![in alloc; 0; size]?;
+    rows.write_words(words.as_mut_slice());
+    words[ROOT] = rows.root();
+    Ok(words)
 }

@@ -1,10 +1,10 @@
 //! Two passes of one table make calls by turns.
 
-ghost use Rattle.std.specs.Prelude.{◌≡◌, ◌≤◌, All, IfOk};
+ghost use Rattle.std.specs.Prelude.{◌≡◌, ◌≤◌, false, All, IfOk};
 ghost use Rattle.std.specs.Thread.{IsSync};
 ghost use Rattle.mt_base.specs.declared.kinds.Kind.TheVariants as kinds;
 ghost use Rattle.mt_rule.specs.Limits.{most_calls};
-ghost use Rattle.mt_rule.specs.Tokens.{identity_of, identity_of_pen, IsAlone, IsPassOf};
+ghost use Rattle.mt_rule.specs.Tokens.{identity_of, identity_of_pen, pen_in, IsAlone, IsPassOf};
 ghost use Rattle.mt_rule.specs.Turns.{served, IsSeatedAt};
 
 use crate::{MtTable, Note, OfTable, Pass, Pen, Turn};
@@ -16,11 +16,12 @@ use std::sync::Wait;
 use std::test::Fail;
 use std::thread::{Threads, join};
 
-/// The pen, joined with no pass.
+/// The pen, joined with no pass, where no call is in flight.
 #[derive(Drop)]
 struct Desk {
     pen: Pen,
     ghost alone: { IsAlone pen },
+    ghost idle: { (pen_in pen).in_flight ≡ false },
 }
 
 impl OfTable for Desk {
@@ -28,8 +29,9 @@ impl OfTable for Desk {
 }
 
 impl Desk {
-    ghost use Rattle.std.specs.Prelude.{◌≡◌};
+    ghost use Rattle.std.specs.Prelude.{◌≡◌, ◌≤◌};
     ghost use Rattle.mt_base.specs.declared.kinds.Kind.TheVariants as kinds;
+    ghost use Rattle.mt_rule.specs.Limits.{most_calls};
     ghost use Rattle.mt_rule.specs.Tokens.{identity_of, IsPenOf, IsPassOf, turn_seat};
 
     /// Seeks room in a tree of ranges, where one more call may be made. Tells how many were made before.
@@ -37,7 +39,7 @@ impl Desk {
         requires pen { IsPenOf (identity_of table.now) self.old.pen }
         requires pass { IsPassOf (identity_of table.now) pass.old }
         requires kind { (identity_of table.now).shape.kind ≡ kinds.Range }
-        requires calls { (identity_of table.now).shape.calls ≡ calls }
+        requires calls { calls ≤ most_calls }
         ensures pen { IsPenOf (identity_of table.now) self.new.pen }
         ensures pass { IsPassOf (identity_of table.now) pass.new }
         ensures turn { turn_seat pass.new ≡ turn_seat pass.old }
@@ -49,6 +51,7 @@ impl Desk {
             max: 9,
         };
         if before < calls {
+            table.store_begun(&mut self.pen);
             table.store_commits(&mut self.pen, &call, &Reply::Invalid);
         }
         *pass = table.split_pen(&mut self.pen);
@@ -64,7 +67,7 @@ struct Shared {
     calls: u64,
     ghost serves: { served turn.table.shared.key ≡ identity_of table },
     ghost kind: { (identity_of table).shape.kind ≡ kinds.Range },
-    ghost limit: { (identity_of table).shape.calls ≡ calls },
+    ghost limit: { calls ≤ most_calls },
 }
 
 impl Shared {

@@ -2,8 +2,9 @@
 //! runs.
 
 use crate::table::MtTable;
-use mt_base::{Call, Kind, Range, Reply};
-use mt_rows::PlainRows;
+use mt_base::{Call, Holder, Kind, Range, Reply};
+use mt_life::Held;
+use mt_rows::{Life, PlainRows};
 use std::collections::LinkedList;
 use std::snapshot::Snapshot;
 
@@ -24,15 +25,19 @@ pub struct Shape {
     pub passes: u32,
     /// How many calls the tree may have.
     pub calls: u64,
-    /// The map that the tree opens with.
+    /// The map that the tree opens with, where its leaves begin, and how many rows it has in use.
     pub opening: LinkedList<Range>,
+    pub cuts: LinkedList<u64>,
+    pub opened: u64,
 }
 
-/// A moment of a tree's history: who made the call, what it was, and what it was answered.
+/// A moment of a tree's history: who made the call, what it was, what it was answered, and where the leaves of the tree
+/// begin after it.
 pub struct Moment {
     pub pass: u32,
     pub call: Call,
     pub reply: Reply,
+    pub cuts: LinkedList<u64>,
 }
 
 /// What a seat of a tree's table knows, in parts.
@@ -50,8 +55,19 @@ pub struct PenPart {
     pub history: LinkedList<Moment>,
     /// How many calls have ended.
     pub ended: u64,
-    /// Whether a call was begun that has not ended.
+    /// Whether a call was begun that has not ended, and whether it has published.
     pub in_flight: bool,
+    pub published: bool,
+    /// The root word, and the columns of all rows, where they stand in the table.
+    pub root: u64,
+    pub words: LinkedList<u64>,
+    /// By the row's number: its life, and whether the call in flight has buried it.
+    pub lives: LinkedList<Life>,
+    pub buried: LinkedList<bool>,
+    /// By the pass's number: a row that died by a call up to this one is out of the pass's reach.
+    pub cleared: LinkedList<u64>,
+    /// The sections that were found open.
+    pub loaded: LinkedList<Holder>,
 }
 
 /// What a pass knows.
@@ -70,6 +86,14 @@ pub struct PassPart {
     pub begun: u64,
     /// The greatest number of calls that it knows to have ended.
     pub ended: u64,
+    /// The number of ended calls that it loaded last.
+    pub epoch: u64,
+    /// How many calls the history had when its section loaded the root word first.
+    pub floor: Option<u64>,
+    /// A number of calls that have begun, as a dead mark tells.
+    pub risen: u64,
+    /// The rows that its section has come to, the last one first.
+    pub held: LinkedList<Held>,
 }
 
 /// What a note tells.

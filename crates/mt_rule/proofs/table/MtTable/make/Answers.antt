@@ -1,8 +1,9 @@
-use Rattle.std.proofs.Common.{rules, refl, ap, ◌∙◌, ◌+◌}
+use Rattle.std.proofs.Common.{rules, refl}
 use Rattle.mt_base.specs.Passes.{new_pass}
-use Rattle.mt_rule.specs.declared.views.PenPart.{PenPart}
-use Rattle.mt_rule.specs.Tokens.{identity_of, IsPassOf, pass_in}
-use Rattle.mt_rule.proofs.Seating.{all_dealt, map_dealt}
+use Rattle.mt_rows.specs.Memory.{sheet_in}
+use Rattle.mt_rule.specs.Seats.{new_pen}
+use Rattle.mt_rule.specs.Tokens.{identity_of, IsPassOf, pass_in, pen_in}
+use Rattle.mt_rule.proofs.Seating.{all_dealt, map_dealt, pen_dealt}
 use Rattle.mt_rule.proofs.table.MtTable.make.Goals as goal
 
 pub loop-number-preserved : goal.loop-number-preserved
@@ -13,7 +14,7 @@ loop-number-preserved c =
       refl,
       dealt.of,
       dealt.alone,
-      dealt.pen ∙ ap (λ (p : PenPart). record p { dealt = c.loop-number.number + 1 }) inv.3,
+      pen_dealt (new_pen (identity_of c.in_ok-table.table).shape (sheet_in c.args.rows.now).tree) (pen_in c.loop-number.pen) _ _ _ inv.3 dealt.pen,
       search rules,
       search rules,
       all_dealt (IsPassOf (identity_of c.in_ok-table.table)) _ _ _ items inv.6 dealt.pass,

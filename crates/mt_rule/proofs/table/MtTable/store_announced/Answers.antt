@@ -1,6 +1,8 @@
-use Rattle.std.proofs.Common.{rules}
-use Rattle.mt_rule.proofs.Keeping.{ending}
+use Rattle.std.proofs.Common.{rules, arith}
+use Rattle.mt_rule.proofs.Counting.{counter_inside}
+use Rattle.mt_rule.proofs.Ending.{ending}
 use Rattle.mt_rule.proofs.table.MtTable.store_announced.Goals as goal
 
 pub store-requires : goal.store-requires
-store-requires g c = (search rules, search rules, rw (c.requires.announced.0, c.requires.announced.1) (ending _ _ _ _ _ _ _ (search rules) (search rules) (search rules) (search rules) (search rules) (search rules)))
+store-requires g c =
+    (search rules, counter_inside c.args.self.now 0 (omega arith), rw (c.requires.announced.0, c.requires.announced.1) (ending _ _ _ _ _ _ _ (search rules) (search rules) c.requires.joined.seen c.requires.may (search rules)))

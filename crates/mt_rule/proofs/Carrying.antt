@@ -1,0 +1,260 @@
+-- A step of the pen carries what every seat knows: what it has to show, and that the rule is then kept.
+use Rattle.std.proofs.Common.{◌≡◌, ◌≢◌, ℕ, zero, suc, ◌+◌, ◌*◌, ◌<◌, ◌≤◌, List, [], ◌∷◌, ◌++◌, length, set, sym, ap, ◌∙◌, subst, inl, inr, ⊎_elim, arith, append-nil, length-set, get_or-set_other, get_or-set_same, Some}
+use Rattle.std.proofs.lemmas.Bool.{cases_eq}
+use mathlib.Core.List.{append_assoc}
+use mathlib.Core.Option.{some}
+use lib.ListN.{get_elem?}
+use Rattle.std.specs.Prelude.{slice_index, slice_set}
+use Rattle.std.specs.List.{Contains}
+use Rattle.atomic_table.specs.Table.{State}
+use Rattle.atomic_table.proofs.Lists.{at_set}
+use Rattle.mt_base.specs.declared.replies.Holder.{Holder}
+use Rattle.mt_base.specs.Passes.{Begins, places}
+use Rattle.mt_life.specs.declared.views.Extent.{Extent}
+use Rattle.mt_life.specs.declared.views.Held.{Held}
+use Rattle.mt_life.specs.Known.{Goes}
+use Rattle.mt_life.proofs.Holding.{holds_on}
+use Rattle.mt_rule.specs.declared.views.Moment.{Moment}
+use Rattle.mt_rule.specs.declared.views.Told.{Told}
+use Rattle.mt_rule.specs.declared.views.View.{View}
+use Rattle.mt_rule.specs.declared.views.PenPart.{PenPart}
+use Rattle.mt_rule.specs.declared.views.PassPart.{PassPart}
+use Rattle.mt_base.specs.declared.widths.Width.{Width}
+use Rattle.mt_base.specs.declared.widths.Width.TheVariants.{Long}
+use Rattle.mt_base.specs.Width.{kind_width}
+use Rattle.mt_rule.specs.Limits.{most_passes}
+use Rattle.mt_rule.specs.Places.{commits_at, begun_at, root_at, section_at, rows_at, size_of, section_word, IsSectionWord}
+use Rattle.mt_rule.specs.Seats.{least_of, moment_at, pen_or, pass_or, records_of, shape_told, state_in}
+use Rattle.mt_rule.specs.Rule.{begun_by, IsSound, WordsFit, HasFloor, IsHeldBy, PassFits, ViewFits, IsKept}
+
+abbrev pub St : Type 0
+St = State (Unit {0}) View
+
+-- the rule, said of the pen's own part
+abbrev pub recast : (told : Told) (s : St) (r : IsKept told s) (p : PenPart) → r.part ≡ p → IsKept told s
+recast told s r p e = record {
+  pen = r.pen;
+  owner = r.owner;
+  extents = r.extents;
+  part = p;
+  shaped = subst (λ (x : PenPart). x.shape ≡ shape_told told) e r.shaped;
+  sound = subst (IsSound r.extents) e r.sound;
+  words = subst (WordsFit s.words) e r.words;
+  each = λ j u g. subst (λ (x : PenPart). ViewFits r.pen r.owner r.extents x s.words j u) e (r.each j u g);
+}
+
+-- ---- what a step of the pen shows
+
+-- a part of the same shape
+abbrev pub shaped_as : PenPart → PenPart → PenPart
+shaped_as p n = record n { shape = p.shape }
+
+-- What the pen's part has become carries what all passes know.
+pub record Carries (e e' : ℕ → Extent) (p n : PenPart) : Type 0 where
+  pub dealt : p.dealt ≤ n.dealt
+  pub history : Begins p.history n.history
+  pub ended : p.ended ≤ n.ended
+  pub begun : begun_by p ≤ begun_by n
+  pub goes : Goes p.shape.kind (state_in p) (state_in (shaped_as p n)) e e' (moment_at p.shape p.history) (moment_at p.shape n.history)
+
+-- What it leaves to one pass: its calls are those it had, its sections that were found are its own, and its rows are kept.
+pub record Stays (p n : PenPart) (q : PassPart) : Type 0 where
+  pub all : places q.number (records_of n.history) ≡ places q.number (records_of p.history)
+  pub loaded : (h : Holder) → Contains n.loaded h → h.pass ≡ q.number → Contains q.opened h.epoch
+  pub clear : (floor : ℕ) → q.floor ≡ Some floor → slice_index n.cleared q.number ≤ floor
+
+-- ---- a pass
+
+-- the least is at most each
+pub least_low : (ns : List ℕ) (k : ℕ) → k < length ns → least_of ns ≤ slice_index ns k
+least_low [] k low = absurd (omega arith)
+least_low (n ∷ []) zero low = omega arith
+least_low (n ∷ []) (suc k) low = absurd (omega arith)
+least_low (n ∷ m ∷ ns) zero low = omega arith
+least_low (n ∷ m ∷ ns) (suc k) low = let rest = least_low (m ∷ ns) k (omega arith) in omega arith
+
+begins_longer : {X : Type 0} (xs ys zs : List X) → Begins xs ys → Begins ys zs → Begins xs zs
+begins_longer xs ys zs a b = (a.0 ++ b.0, b.1 ∙ (ap (λ l. l ++ b.0) a.1 ∙ append_assoc xs a.0 b.0))
+
+module _ (e e' : ℕ → Extent) (p n : PenPart) (q : PassPart) (sound : IsSound e p) (sound' : IsSound e' (shaped_as p n)) (c : Carries e e' p n) (stays : Stays p n q) (f : PassFits e p q) where
+  abbrev P' : PenPart
+  P' = shaped_as p n
+
+  floor_kept : (floor : ℕ) → q.floor ≡ Some floor → HasFloor P' q floor
+  floor_kept floor is = let t = f.floor floor is in record { seen = t.seen; cleared = stays.clear floor is; epoch = t.epoch }
+
+  in_passes : q.number < length n.cleared
+  in_passes = let a = sound'.passes in let b = f.number in let d = sound.history.dealt in omega arith
+
+  held_kept : (x : Held) → IsHeldBy e p q x → IsHeldBy e' P' q x
+  held_kept x h =
+      let low = least_low n.cleared q.number in_passes in
+      let clear = stays.clear h.floor h.has in
+      let since = h.since in record {
+        row = holds_on p.shape.kind (state_in p) (state_in P') e e' (moment_at p.shape p.history) (moment_at p.shape n.history) x sound.known sound'.known c.goes (omega arith) h.row;
+        met = h.met;
+        floor = h.floor;
+        has = h.has;
+        since = h.since;
+      }
+
+  pub pass_carried : PassFits e' P' q
+  pass_carried = record {
+    shape = f.shape;
+    number = (let a = f.number in let b = c.dealt in omega arith);
+    seen = begins_longer q.seen p.history n.history f.seen c.history;
+    mine = f.mine;
+    all = stays.all ∙ f.all;
+    ended = f.ended;
+    over = (let a = f.over in let b = c.ended in omega arith);
+    begun = (let a = f.begun in let b = c.begun in omega arith);
+    risen = (let a = f.risen in let b = c.begun in omega arith);
+    epoch = f.epoch;
+    loaded = stays.loaded;
+    standing = f.standing;
+    closed = f.closed;
+    floor = floor_kept;
+    held = λ j x is. held_kept x (f.held j x is);
+  }
+
+-- ---- what most steps leave
+
+-- where history, found sections and reach are as they were
+pub stays_put : (e : ℕ → Extent) (p n : PenPart) (q : PassPart) → PassFits e p q → n.history ≡ p.history → n.loaded ≡ p.loaded → n.cleared ≡ p.cleared → Stays p n q
+stays_put e p n q f history loaded cleared = record {
+  all = ap (λ (h : List Moment). places q.number (records_of h)) history;
+  loaded = λ h has. f.loaded h (subst (λ (l : List Holder). Contains l h) loaded has);
+  clear = λ floor is. subst (λ (l : List ℕ). slice_index l q.number ≤ floor) (sym cleared) (f.floor floor is).cleared;
+}
+
+-- what is known of rows goes on, within one call and between two
+pub carries_life : (e e' : ℕ → Extent) (p n : PenPart) → n.dealt ≡ p.dealt → n.history ≡ p.history → n.ended ≡ p.ended → begun_by p ≤ begun_by n
+    → Goes p.shape.kind (state_in p) (state_in (shaped_as p n)) e e' (moment_at p.shape p.history) (moment_at p.shape n.history) → Carries e e' p n
+carries_life e e' p n dealt history ended begun goes = record { dealt = omega arith; history = ([], history ∙ sym (append-nil p.history)); ended = omega arith; begun = begun; goes = goes }
+
+pub section_later : (a b word : ℕ) → a ≤ b → IsSectionWord a word → IsSectionWord b word
+section_later a b word up is = ⊎_elim (λ (none : word ≡ 0). inl none) (λ (at : (epoch : ℕ) × (word ≡ 2 * epoch + 1) × (epoch ≤ a)). let low = at.2 in inr (at.0, at.1, omega arith)) is
+
+section_off : (w : Width) (k i : ℕ) → k < most_passes → rows_at w ≤ i → section_at k ≢ i
+section_off Long k i low high same = omega arith
+
+counter_off : (w : Width) (j i : ℕ) → j < 3 → rows_at w ≤ i → j ≢ i
+counter_off Long j i low high same = omega arith
+
+-- a store of a column
+pub column_set : (words : List ℕ) (p n : PenPart) (i new : ℕ) → WordsFit words p → length p.words ≡ size_of (kind_width p.shape.kind) p.shape.rows → p.shape.passes ≤ most_passes
+    → rows_at (kind_width p.shape.kind) ≤ i → i < size_of (kind_width p.shape.kind) p.shape.rows
+    → n.dealt ≡ p.dealt → n.ended ≡ p.ended → begun_by n ≡ begun_by p → n.root ≡ p.root → n.words ≡ slice_set p.words i new → WordsFit (slice_set words i new) (shaped_as p n)
+column_set words p n i new w size passes high low dealt ended begun root is = record {
+  size = length-set words i new ∙ w.size;
+  commits = get_or-set_other words i commits_at new 0 (counter_off wide commits_at i (omega arith) high) ∙ (w.commits ∙ sym ended);
+  begun = get_or-set_other words i begun_at new 0 (counter_off wide begun_at i (omega arith) high) ∙ (w.begun ∙ sym begun);
+  root = get_or-set_other words i root_at new 0 (counter_off wide root_at i (omega arith) high) ∙ (w.root ∙ sym root);
+  sections = λ k few. subst (λ (z : ℕ × ℕ). IsSectionWord z.0 z.1) (λ j. (sym ended j, sym (section k few) j)) (w.sections k few);
+  undealt = λ k not few. section k few ∙ w.undealt k (omega arith) few;
+  columns = λ j at. column j at ∙ ap (λ (l : List ℕ). slice_index l j) (sym is);
+}
+  where
+    wide : Width
+    wide = kind_width p.shape.kind
+
+    section : (k : ℕ) → k < p.shape.passes → slice_index (slice_set words i new) (section_at k) ≡ slice_index words (section_at k)
+    section k few = get_or-set_other words i (section_at k) new 0 (section_off wide k i (omega arith) high)
+
+    column : (j : ℕ) → rows_at wide ≤ j → slice_index (slice_set words i new) j ≡ slice_index (slice_set p.words i new) j
+    column j at = ⊎_elim
+        (λ (here : j ≡ i). subst (λ (k : ℕ). slice_index (slice_set words i new) k ≡ slice_index (slice_set p.words i new) k) (sym here)
+        (get_or-set_same words i new 0 (let all = w.size in omega arith) ∙ sym (get_or-set_same p.words i new 0 (omega arith))))
+        (λ (off : j ≢ i). get_or-set_other words i j new 0 off ∙ (w.columns j at ∙ sym (get_or-set_other p.words i j new 0 off)))
+        (cases_eq j i)
+
+-- and the section words stay
+pub sections_set : (words : List ℕ) (p : PenPart) (i new : ℕ) → p.shape.passes ≤ most_passes → rows_at (kind_width p.shape.kind) ≤ i → (k : ℕ) → k < p.shape.passes → slice_index (slice_set words i new) (section_at k) ≡ slice_index words (section_at k)
+sections_set words p i new passes high k few = get_or-set_other words i (section_at k) new 0 (section_off (kind_width p.shape.kind) k i (omega arith) high)
+
+-- ---- the rule
+
+is_pen : (p q : PenPart) → Some p ≡ Some q → q ≡ p
+is_pen p q e = sym (ap pen_or e)
+
+is_pass : (p q : PassPart) → Some p ≡ Some q → p ≡ q
+is_pass p q e = ap pass_or e
+
+module _ (told : Told) (s : St) (r : IsKept told s) (by : ℕ) (v : View) (at : get_elem? s.views by ≡ some v) (has : v.pen ≡ Some r.part) where
+  -- the pass is none that is beside the pen
+  abbrev IsApart : PassPart → Type 0
+  IsApart q = (own : PassPart) → v.pass ≡ Some own → q.number ≢ own.number
+
+  -- the words of sections are as they were
+  abbrev SameSections : List ℕ → Type 0
+  SameSections words = (k : ℕ) → k < r.part.shape.passes → slice_index words (section_at k) ≡ slice_index s.words (section_at k)
+
+  -- each pass of these is left what it knows
+  abbrev LeavesEach : PenPart → (PassPart → Type 0) → Type 0
+  LeavesEach n Of = (q : PassPart) → Of q → PassFits r.extents r.part q → slice_index s.words (section_at q.number) ≡ section_word q.standing → Stays r.part n q
+
+  known : by ≡ r.pen
+  known = ((r.each by v at).keeper r.part has).0
+
+  apart_of : (j : ℕ) (q : PassPart) → j ≢ by → j ≡ r.owner q.number → IsApart q
+  apart_of j q off is own beside same = off (is ∙ (ap r.owner same ∙ sym ((r.each by v at).at own beside)))
+
+  section_kept : (words : List ℕ) (q : PassPart) → SameSections words → PassFits r.extents r.part q → slice_index s.words (section_at q.number) ≡ section_word q.standing → slice_index words (section_at q.number) ≡ section_word q.standing
+  section_kept words q sections f is = sections q.number (let a = f.number in let b = r.sound.history.dealt in omega arith) ∙ is
+
+  -- the pen's seat has this view then, and fits; each other pass is left what it knows
+  pub carry_view : (words : List ℕ) (e' : ℕ → Extent) (n : PenPart) (w : View) → IsSound e' (shaped_as r.part n) → WordsFit words (shaped_as r.part n) → Carries r.extents e' r.part n → SameSections words
+      → LeavesEach n IsApart → ViewFits r.pen r.owner e' (shaped_as r.part n) words by w
+      → IsKept told record { words = words; homes = s.homes; views = set s.views by w }
+  carry_view words e' n w sound' fit c sections leaves mine = record {
+    pen = r.pen;
+    owner = r.owner;
+    extents = e';
+    part = p';
+    shaped = r.shaped;
+    sound = sound';
+    words = fit;
+    each = λ j u is. ⊎_elim
+        (λ (x : (j ≡ by) × (w ≡ u)). subst (λ (y : ℕ × View). ViewFits r.pen r.owner e' p' words y.0 y.1) (λ i. (sym x.0 i, x.1 i)) mine)
+        (λ (x : (j ≢ by) × (get_elem? s.views j ≡ some u)). let g = r.each j u x.1 in record {
+          keeper = λ q k. absurd (x.0 ((g.keeper q k).0 ∙ sym known));
+          at = g.at;
+          section = λ q k. section_kept words q sections (g.passes q k) (g.section q k);
+          passes = λ q k. pass_carried r.extents e' r.part n q r.sound sound' c (leaves q (apart_of j q x.0 (g.at q k)) (g.passes q k) (g.section q k)) (g.passes q k);
+          notes = λ m k. begins_longer m.seen r.part.history n.history (g.notes m k) c.history;
+        })
+        (at_set s.views by j w u is);
+  }
+    where
+      p' : PenPart
+      p' = shaped_as r.part n
+
+  -- only what the pen knows has changed
+  pub carry : (words : List ℕ) (e' : ℕ → Extent) (n : PenPart) → IsSound e' (shaped_as r.part n) → WordsFit words (shaped_as r.part n) → Carries r.extents e' r.part n → SameSections words
+      → LeavesEach n (λ q. Unit {0})
+      → IsKept told record { words = words; homes = s.homes; views = set s.views by (record v { pen = Some (shaped_as r.part n) }) }
+  carry words e' n sound' fit c sections leaves =
+      let p' = shaped_as r.part n in let g = r.each by v at in
+      carry_view words e' n (record v { pen = Some p' }) sound' fit c sections (λ q _ f is. leaves q tt f is) (record {
+        keeper = λ q k. (known, is_pen p' q k);
+        at = g.at;
+        section = λ q k. section_kept words q sections (g.passes q k) (g.section q k);
+        passes = λ q k. pass_carried r.extents e' r.part n q r.sound sound' c (leaves q tt (g.passes q k) (g.section q k)) (g.passes q k);
+        notes = λ m k. begins_longer m.seen r.part.history n.history (g.notes m k) c.history;
+      })
+
+  -- and what the pass beside it knows, whose number and section are as they were
+  pub carry_pair : (words : List ℕ) (e' : ℕ → Extent) (n : PenPart) (q q' : PassPart) → v.pass ≡ Some q → q'.number ≡ q.number → q'.standing ≡ q.standing
+      → IsSound e' (shaped_as r.part n) → WordsFit words (shaped_as r.part n) → Carries r.extents e' r.part n → SameSections words → LeavesEach n IsApart → PassFits e' (shaped_as r.part n) q'
+      → IsKept told record { words = words; homes = s.homes; views = set s.views by (record v { pen = Some (shaped_as r.part n); pass = Some q' }) }
+  carry_pair words e' n q q' beside number standing sound' fit c sections leaves mine =
+      let p' = shaped_as r.part n in let g = r.each by v at in
+      carry_view words e' n (record v { pen = Some p'; pass = Some q' }) sound' fit c sections leaves (record {
+        keeper = λ x k. (known, is_pen p' x k);
+        at = λ x k. g.at q beside ∙ ap r.owner (sym number ∙ ap (λ (z : PassPart). z.number) (is_pass q' x k));
+        section = λ x k.
+            subst (λ (z : PassPart). slice_index words (section_at z.number) ≡ section_word z.standing) (is_pass q' x k)
+            (ap (λ (i : ℕ). slice_index words (section_at i)) number ∙ (section_kept words q sections (g.passes q beside) (g.section q beside) ∙ ap section_word (sym standing)));
+        passes = λ x k. subst (PassFits e' p') (is_pass q' x k) mine;
+        notes = λ m k. begins_longer m.seen r.part.history n.history (g.notes m k) c.history;
+      })

@@ -1,0 +1,66 @@
+-- The words that a pass loads and stores stand in its table.
+use Rattle.std.proofs.Common.{◌≡◌, ℕ, ◌+◌, ◌*◌, ◌<◌, List, length, sym, ap, ◌∙◌, subst, arith}
+use Rattle.mt_base.specs.declared.kinds.Kind.{Kind}
+use Rattle.mt_base.specs.declared.widths.Width.{Width}
+use Rattle.mt_base.specs.declared.widths.Width.TheVariants.{Long}
+use Rattle.mt_base.specs.Width.{columns, first_row, kind_width}
+use Rattle.mt_layout.specs.declared.names.RowKind.{RowKind}
+use Rattle.mt_layout.specs.Columns.{pivot_column, slot_column}
+use Rattle.mt_layout.specs.Sizes.{slots_of, gaps_of}
+use Rattle.mt_layout.proofs.Reading.{few_items}
+use Rattle.mt_layout.proofs.RowSizes.{slots_of-columns}
+use Rattle.mt_layout.proofs.SpanLists.{length-spans_from}
+use Rattle.mt_layout.specs.Columns.{items_at}
+use Rattle.mt_rows.specs.Laws.{kind_at}
+use Rattle.mt_life.specs.declared.views.Extent.{Extent}
+use Rattle.mt_life.specs.declared.views.Held.{Held}
+use Rattle.mt_life.specs.Known.{HasRow, spans_at}
+use Rattle.mt_rule.specs.declared.passes.Pass.{Pass}
+use Rattle.mt_rule.specs.declared.table.MtTable.{MtTable}
+use Rattle.mt_rule.specs.declared.views.Shape.{Shape}
+use Rattle.mt_rule.specs.Limits.{most_passes}
+use Rattle.mt_rule.specs.Places.{column_at, section_at, size_of}
+use Rattle.mt_rule.specs.Seats.{shape_told}
+use Rattle.mt_rule.specs.Sections.{slots_in, spans_here}
+use Rattle.mt_rule.specs.Tokens.{Identity, identity_of, part_of, IsPassOf}
+use Rattle.mt_rule.proofs.Holding.{size_above}
+
+column_within : (width : Width) (rows row col : ℕ) → row < first_row + rows → col < columns width → column_at width row col < size_of width rows
+column_within Long rows row col high low = omega arith
+
+pivot_within : (width : Width) (kind : RowKind) (i : ℕ) → i + 1 < slots_of width kind → pivot_column i < columns width
+pivot_within width kind i low = omega (arith, slots_of-columns width kind)
+
+-- a row has no more items than slots
+slot_within : (kind : Kind) (width width' : Width) (w : List ℕ) (row i : ℕ) (e : Extent) → i < length (spans_at kind (record { width = width'; words = w }) row e) → slot_column (slots_of width (kind_at kind e.level)) i < columns width
+slot_within kind Long Long w row i e low =
+    let slots : ℕ = slots_of Long (kind_at kind e.level) in
+    let gaps : ℕ = gaps_of Long (kind_at kind e.level) in
+    omega (arith, slots_of-columns Long (kind_at kind e.level), length-spans_from e.first (items_at slots gaps w (columns Long * row) e.last), few_items slots gaps w (columns Long * row) e.last slots 0)
+
+module _ (t : MtTable) (p : Pass) (of : IsPassOf (identity_of t) p) where
+  shape_is : (part_of p).shape ≡ shape_told t.table.shared.key
+  shape_is = ap (λ (z : Identity). z.shape) of.of
+
+  width_is : t.width ≡ kind_width (part_of p).shape.kind
+  width_is = t.wide ∙ sym (ap (λ (z : Shape). kind_width z.kind) shape_is)
+
+  -- where a column of a row stands, and that a pivot and a slot have one
+  pub column_below : (row col at : ℕ) → HasRow (part_of p).shape.rows row → col < columns t.width → at ≡ column_at t.width row col → at < t.table.shared.table_id.words
+  column_below row col at here low is =
+      let rows : (part_of p).shape.rows ≡ (shape_told t.table.shared.key).rows = ap (λ (z : Shape). z.rows) shape_is in
+      let high : row < first_row + (shape_told t.table.shared.key).rows = let h = here.1 in omega arith in
+      let within = column_within t.width (shape_told t.table.shared.key).rows row col high low in
+      let size : size_of t.width (shape_told t.table.shared.key).rows ≡ size_of (kind_width t.table.shared.key.kind) (shape_told t.table.shared.key).rows = ap (λ (w : Width). size_of w (shape_told t.table.shared.key).rows) t.wide in
+      let words = t.words in
+      omega arith
+
+  pub pivot_low : (x : Held) (i col : ℕ) → col ≡ pivot_column i → i + 1 < slots_in (part_of p) x → col < columns t.width
+  pivot_low x i col is low = subst (λ (w : Width). col < columns w) (sym width_is) (let within = pivot_within (kind_width (part_of p).shape.kind) (kind_at (part_of p).shape.kind x.extent.level) i low in omega arith)
+
+  pub slot_low : (x : Held) (i col : ℕ) → col ≡ slot_column (slots_in (part_of p) x) i → i < length (spans_here (part_of p) x) → col < columns t.width
+  slot_low x i col is low = subst (λ (w : Width). col < columns w) (sym width_is) (let within = slot_within (part_of p).shape.kind (kind_width (part_of p).shape.kind) x.width x.copy x.row i x.extent low in omega arith)
+
+-- where a section word stands
+pub section_below : (t : MtTable) (number at : ℕ) → number < most_passes → at ≡ section_at number → at < t.table.shared.table_id.words
+section_below t number at few is = let words = t.words in let size = size_above (kind_width t.table.shared.key.kind) (shape_told t.table.shared.key).rows in omega arith

@@ -1,0 +1,648 @@
+-- Each step of a pass that reads without the lock keeps the rule, and tells what it is said to tell.
+use Rattle.std.proofs.Common.{◌≡◌, ◌≢◌, ℕ, zero, suc, ◌+◌, ◌-◌, ◌*◌, ◌<◌, ◌≤◌, List, [], ◌∷◌, Bool, true, false, Option, Some, None, length, refl, sym, ap, ◌∙◌, subst, ⊎_elim, arith, length-set, inl, inr}
+use Rattle.std.specs.Prelude.{IfSome, slice_index, slice_set}
+use Rattle.std.specs.List.{slice_get}
+use Rattle.std.proofs.lemmas.Bool.{cases_Bool, cases_eq}
+use Rattle.std.proofs.lemmas.List.{set-get_or, get_or-set_same, get_or-set_other}
+use Rattle.std.proofs.lemmas.List.Elements.{Contains-append_left, Contains-push}
+use mathlib.Core.Option.{none, some, some-ne-none, some-injective}
+use lib.ListN.{get_elem?}
+use Rattle.atomic_table.specs.Table.{Me, Act, step, stepped, carried_after, Valid, keeps, Allows}
+use Rattle.atomic_table.proofs.Lists.{at_set}
+use Rattle.mt_base.specs.declared.widths.Width.{Width}
+use Rattle.mt_base.specs.declared.widths.Width.TheVariants.{Long}
+use Rattle.mt_base.specs.Passes.{Begins}
+use Rattle.mt_base.specs.Passes as known
+use Rattle.mt_base.specs.Width.{kind_width, first_row}
+use Rattle.mt_layout.specs.Columns.{pivot_column, slot_column}
+use Rattle.mt_layout.specs.Rows.{dead_mark, named_kind, row_in}
+use Rattle.mt_rows.specs.declared.rows.Life.TheVariants.{Live, Dead}
+use Rattle.mt_rows.specs.Levels.{one_if}
+use Rattle.mt_rows.specs.Sheet.{life_of, word_at}
+use Rattle.mt_rows.specs.Spans.{root_span}
+use Rattle.mt_rows.specs.Trees.{map_in}
+use Rattle.mt_rows.proofs.Reached.{one_of_get}
+use Rattle.mt_life.specs.declared.views.Extent.{Extent}
+use Rattle.mt_life.specs.declared.views.Held.{Held}
+use Rattle.mt_life.specs.Holding.{HoldsRow, Snapshot, come, renewed}
+use Rattle.mt_life.specs.Known.{calls, extent_at, spans_at}
+use Rattle.mt_life.proofs.Holding.{child_held, leaf_held, marked_held, renewed_held, root_held, unmarked_held}
+use Rattle.mt_rule.specs.declared.views.Moment.{Moment}
+use Rattle.mt_rule.specs.declared.views.Shape.{Shape}
+use Rattle.mt_rule.specs.declared.views.Told.{Told}
+use Rattle.mt_rule.specs.declared.views.View.{View}
+use Rattle.mt_rule.specs.declared.views.PenPart.{PenPart}
+use Rattle.mt_rule.specs.declared.views.PassPart.{PassPart}
+use Rattle.mt_rule.specs.Places.{commits_at, begun_at, root_at, section_at, section_word, IsSectionWord, column_at}
+use Rattle.mt_rule.specs.Seats.{HasPass, known_by, least_of, moment_at, pass_of, pass_or, records_of, state_in, tree_of}
+use Rattle.mt_rule.specs.Rule.{begun_by, HasFloor, IsHeldBy, IsKept, IsOneHistory, IsOpenAt, IsSound, PassFits, ViewFits, WordsFit}
+use Rattle.mt_rule.specs.Sections.{IsAt, behind_first, closed_section, floor_or, here, kind_of, opened_section, slots_in, spans_here, IsRead, ParentTells, loads_begun, loads_commits, loads_parent, loads_pivot, loads_root, loads_slot, opens_section, closes_section}
+use Rattle.mt_rule.proofs.Beginnings.{begins_all, begins_length, legal_within}
+use Rattle.mt_rule.proofs.Carrying.{St, least_low, recast}
+use Rattle.mt_rule.proofs.Holding.{column_behind, pivot_now, rows_behind, size_above, slot_now}
+
+abbrev M : Type 0
+M = Me (Unit {0}) View
+
+some_is : (q q' : PassPart) → Some q ≡ Some q' → q' ≡ q
+some_is q q' e = sym (ap pass_or e)
+
+-- ---- what a pass's own step has to keep
+
+module _ (told : Told) (s : St) (r₀ : IsKept told s) (by : ℕ) (v : View) (at : get_elem? s.views by ≡ some v) (q : PassPart) (is : v.pass ≡ Some q) where
+  -- the pen's part, with the shape as the pass knows it
+  abbrev part_by : PenPart
+  part_by = record r₀.part { shape = q.shape }
+
+  abbrev kept_by : IsKept told s
+  kept_by = recast told s r₀ part_by (let same : r₀.part.shape ≡ q.shape = sym ((r₀.each by v at).passes q is).shape in λ i. record r₀.part { shape = same i })
+
+  mine : ViewFits kept_by.pen kept_by.owner kept_by.extents part_by s.words by v
+  mine = kept_by.each by v at
+
+  -- only the pass's own part changes, and no word but that of its own section
+  steps_to : (ws : List ℕ) (q' : PassPart) → q'.number ≡ q.number → PassFits kept_by.extents part_by q' → WordsFit ws part_by → slice_index ws (section_at q.number) ≡ section_word q'.standing
+      → ((k : ℕ) → k ≢ section_at q.number → slice_index ws k ≡ slice_index s.words k) → IsKept told record { words = ws; homes = s.homes; views = slice_set s.views by (record v { pass = Some q' }) }
+  steps_to ws q' same fits words section rest = record {
+    pen = kept_by.pen;
+    owner = kept_by.owner;
+    extents = kept_by.extents;
+    part = part_by;
+    shaped = kept_by.shaped;
+    sound = kept_by.sound;
+    words = words;
+    each = λ j u e. ⊎_elim
+        (λ (x : (j ≡ by) × (record v { pass = Some q' } ≡ u)). subst (λ (y : ℕ × View). ViewFits kept_by.pen kept_by.owner kept_by.extents part_by ws y.0 y.1) (λ i. (sym x.0 i, x.1 i)) own)
+        (λ (x : (j ≢ by) × (get_elem? s.views j ≡ some u)). others j u x.0 (kept_by.each j u x.1))
+        (at_set s.views by j (record v { pass = Some q' }) u e);
+  }
+    where
+      own : ViewFits kept_by.pen kept_by.owner kept_by.extents part_by ws by (record v { pass = Some q' })
+      own = record {
+        keeper = mine.keeper;
+        at = λ x e. mine.at q is ∙ ap kept_by.owner (sym (ap (λ (z : PassPart). z.number) (some_is q' x e) ∙ same));
+        section = λ x e. subst (λ (z : PassPart). slice_index ws (section_at z.number) ≡ section_word z.standing) (sym (some_is q' x e)) (ap (λ (k : ℕ). slice_index ws (section_at k)) same ∙ section);
+        passes = λ x e. subst (PassFits kept_by.extents part_by) (sym (some_is q' x e)) fits;
+        notes = mine.notes;
+      }
+
+      others : (j : ℕ) (u : View) → j ≢ by → ViewFits kept_by.pen kept_by.owner kept_by.extents part_by s.words j u → ViewFits kept_by.pen kept_by.owner kept_by.extents part_by ws j u
+      others j u apart theirs = record {
+        keeper = theirs.keeper;
+        at = theirs.at;
+        section = λ x e. rest (section_at x.number) (λ one. apart (theirs.at x e ∙ (ap kept_by.owner (let n : x.number ≡ q.number = omega arith in n) ∙ sym (mine.at q is)))) ∙ theirs.section x e;
+        passes = theirs.passes;
+        notes = theirs.notes;
+      }
+
+  -- a load
+  loads_to : (i : ℕ) (q' : PassPart) → q'.number ≡ q.number → q'.standing ≡ q.standing → PassFits kept_by.extents part_by q'
+      → IsKept told record { words = slice_set s.words i (slice_index s.words i); homes = s.homes; views = slice_set s.views by (record v { pass = Some q' }) }
+  loads_to i q' same standing fits = subst (λ (ws : List ℕ). IsKept told record { words = ws; homes = s.homes; views = slice_set s.views by (record v { pass = Some q' }) }) (sym (set-get_or s.words i 0))
+      (steps_to s.words q' same fits kept_by.words (mine.section q is ∙ ap section_word (sym standing)) (λ k _. refl))
+
+  -- a store of its own section word
+  stores_to : (n : ℕ) (q' : PassPart) → q'.number ≡ q.number → n ≡ section_word q'.standing → IsSectionWord part_by.ended n → PassFits kept_by.extents part_by q'
+      → IsKept told record { words = slice_set s.words (section_at q.number) n; homes = s.homes; views = slice_set s.views by (record v { pass = Some q' }) }
+  stores_to n q' same word small fits =
+      steps_to (slice_set s.words (section_at q.number) n) q' same fits
+      record {
+        size = length-set s.words (section_at q.number) n ∙ kept_by.words.size;
+        commits = kept commits_at (λ e. omega arith) ∙ kept_by.words.commits;
+        begun = kept begun_at (λ e. omega arith) ∙ kept_by.words.begun;
+        root = kept root_at (λ e. omega arith) ∙ kept_by.words.root;
+        sections = λ k low. elim (cases_eq k q.number) [
+          | inl e ↦ subst (λ (j : ℕ). IsSectionWord part_by.ended (slice_index (slice_set s.words (section_at q.number) n) (section_at j))) (sym e) (subst (IsSectionWord part_by.ended) (sym stored) small)
+          | inr other ↦ subst (IsSectionWord part_by.ended) (sym (kept (section_at k) (λ e. other (omega arith)))) (kept_by.words.sections k low)
+        ];
+        undealt = λ k high low. let dealt = (mine.passes q is).number in kept (section_at k) (λ e. omega arith) ∙ kept_by.words.undealt k high low;
+        columns = λ i high. let first = rows_behind (kind_width q.shape.kind) in kept i (λ e. omega arith) ∙ kept_by.words.columns i high;
+      }
+      (stored ∙ word)
+      kept
+    where
+      few : q.number < 62
+      few = let a = (mine.passes q is).number in let b = kept_by.sound.history.dealt in let c = kept_by.sound.few_passes in omega arith
+
+      stored : slice_index (slice_set s.words (section_at q.number) n) (section_at q.number) ≡ n
+      stored = get_or-set_same s.words (section_at q.number) n 0 (let a = kept_by.words.size in let b = size_above (kind_width q.shape.kind) q.shape.rows in omega arith)
+
+      kept : (k : ℕ) → k ≢ section_at q.number → slice_index (slice_set s.words (section_at q.number) n) k ≡ slice_index s.words k
+      kept k other = get_or-set_other s.words (section_at q.number) k n 0 other
+
+-- ---- numbers of calls
+
+one_if_low : (b : Bool) → one_if b ≤ 1
+one_if_low true = omega arith
+one_if_low false = omega arith
+
+-- no more calls are in the history than have begun, nor fewer than have ended
+history_begun : (p : PenPart) → IsOneHistory p → length p.history ≤ begun_by p
+history_begun p whole = elim (cases_Bool p.in_flight) [
+  | inl flies ↦
+      let one : begun_by p ≡ p.ended + 1 = ap (λ (b : Bool). p.ended + one_if b) flies in
+      let few = one_if_low p.published in let count = whole.count in omega arith
+  | inr idle ↦
+      let none : p.ended + one_if p.published ≡ p.ended + 0 = ap (λ (b : Bool). p.ended + one_if b) (whole.calm idle) in
+      let count = whole.count in omega arith
+]
+
+-- ---- more is seen
+
+-- a pass that has seen so much, and knows of so many calls
+numbers_fit : (e : ℕ → Extent) (p : PenPart) (q : PassPart) (seen : List Moment) (begun ended epoch risen : ℕ) → PassFits e p q → Begins seen p.history → q.mine ≡ known.places q.number (records_of seen) → length q.seen ≤ length seen
+    → begun ≤ begun_by p → ended ≤ length seen → ended ≤ p.ended → epoch ≤ ended → risen ≤ begun_by p → PassFits e p (record q { seen = seen; begun = begun; ended = ended; epoch = epoch; risen = risen })
+numbers_fit e p q seen begun ended epoch risen f begins mine more has_begun has_ended over old has_risen = record {
+  shape = f.shape;
+  number = f.number;
+  seen = begins;
+  mine = mine;
+  all = f.all;
+  ended = has_ended;
+  over = over;
+  begun = has_begun;
+  risen = has_risen;
+  epoch = old;
+  loaded = f.loaded;
+  standing = λ o is. let h = f.standing o is in record { seen = let a = h.seen in omega arith; opened = h.opened };
+  closed = f.closed;
+  floor = λ n is. let h = f.floor n is in record { seen = let a = h.seen in omega arith; cleared = h.cleared; epoch = h.epoch };
+  held = λ j x at. let h = f.held j x at in record { row = h.row; met = let a = h.met in omega arith; floor = h.floor; has = h.has; since = h.since };
+}
+
+-- the whole history
+all_fit : (e : ℕ → Extent) (p : PenPart) (q : PassPart) (ended epoch risen : ℕ) → PassFits e p q → ended ≤ length p.history → ended ≤ p.ended → epoch ≤ ended → risen ≤ begun_by p
+    → PassFits e p (record q { seen = p.history; ended = ended; epoch = epoch; risen = risen })
+all_fit e p q ended epoch risen f = numbers_fit e p q p.history q.begun ended epoch risen f (begins_all p.history) (sym f.all) (begins_length q.seen p.history f.seen) f.begun
+
+sees_fits : (e : ℕ → Extent) (p : PenPart) (q : PassPart) → PassFits e p q → PassFits e p (record q { seen = p.history })
+sees_fits e p q f = let more = begins_length q.seen p.history f.seen in let a = f.ended in all_fit e p q q.ended q.epoch q.risen f (omega arith) f.over f.epoch f.risen
+
+-- the rows of a section
+rows_fit : (e : ℕ → Extent) (p : PenPart) (q : PassPart) (floor : Option ℕ) (held : List Held) → PassFits e p q → (q.standing ≡ None → floor ≡ None) → ((n : ℕ) → floor ≡ Some n → HasFloor p (record q { floor = floor; held = held }) n)
+    → ((j : ℕ) (x : Held) → get_elem? held j ≡ some x → IsHeldBy e p (record q { floor = floor; held = held }) x) → PassFits e p (record q { floor = floor; held = held })
+rows_fit e p q floor held f closed low rows = record {
+  shape = f.shape;
+  number = f.number;
+  seen = f.seen;
+  mine = f.mine;
+  all = f.all;
+  ended = f.ended;
+  over = f.over;
+  begun = f.begun;
+  risen = f.risen;
+  epoch = f.epoch;
+  loaded = f.loaded;
+  standing = λ o is. let h = f.standing o is in record { seen = h.seen; opened = h.opened };
+  closed = closed;
+  floor = low;
+  held = rows;
+}
+
+-- ---- the numbers of calls that ended and that have begun
+
+pub commits : (told : Told) (slots by : ℕ) (me : M) → HasPass me.0 → Allows (IsKept told) slots by me commits_at (λ n. n) (loads_commits (step slots commits_at 0 0 none) me)
+commits told slots by me is s r₀ _ at _ =
+    let q = pass_of me.0 in
+    let p : PenPart = part_by told s r₀ by me.0 at q is in
+    let r : IsKept told s = kept_by told s r₀ by me.0 at q is in
+    let f : PassFits r.extents p q = (r.each by me.0 at).passes q is in
+    let n : ℕ = slice_index s.words commits_at in
+    let ended : n ≡ p.ended = r.words.commits in
+    let whole = r.sound.history in let count = whole.count in let few = whole.few in let one = one_if_low p.published in
+    let q' : PassPart = record q { seen = p.history; epoch = n; ended = n } in (
+      record me.0 { pass = Some q' },
+      keeps,
+      tt,
+      loads_to told s r₀ by me.0 at q is commits_at q' refl refl (all_fit r.extents p q n n q.risen f (omega arith) (omega arith) (omega arith) f.risen),
+      (
+        record { view = refl; slots = refl },
+        record { reads = record { is = refl; seen = f.seen }; before = let a = f.over in omega arith; most = omega arith; least = omega arith; few = omega arith },
+      ),
+    )
+
+-- what a pass has seen is a legal history
+sound_of : (e : ℕ → Extent) (p : PenPart) (q : PassPart) → IsOneHistory p → PassFits e p q → known.IsSound (tree_of p.shape []) (known_by q)
+sound_of e p q whole f = record { own = f.mine; legal = legal_within p.shape q.seen p.history f.seen whole.legal }
+
+begun_fits : (e : ℕ → Extent) (p : PenPart) (q : PassPart) (n : ℕ) → PassFits e p q → n ≡ begun_by p → PassFits e p (record q { begun = n })
+begun_fits e p q n f is = numbers_fit e p q q.seen n q.ended q.epoch q.risen f f.seen f.mine (omega arith) (omega arith) f.ended f.over f.epoch f.risen
+
+pub beguns : (told : Told) (slots by : ℕ) (me : M) → HasPass me.0 → Allows (IsKept told) slots by me begun_at (λ n. n) (loads_begun (step slots begun_at 0 0 none) me)
+beguns told slots by me is s r₀ _ at _ =
+    let q = pass_of me.0 in
+    let p : PenPart = part_by told s r₀ by me.0 at q is in
+    let r : IsKept told s = kept_by told s r₀ by me.0 at q is in
+    let f : PassFits r.extents p q = (r.each by me.0 at).passes q is in
+    let n : ℕ = slice_index s.words begun_at in
+    let begun : n ≡ begun_by p = r.words.begun in
+    let more = begins_length q.seen p.history f.seen in let all = history_begun p r.sound.history in
+    let q' : PassPart = record q { begun = n } in
+    let fits = begun_fits r.extents p q n f begun in (
+      record me.0 { pass = Some q' },
+      keeps,
+      tt,
+      loads_to told s r₀ by me.0 at q is begun_at q' refl refl fits,
+      (
+        record { view = refl; slots = refl },
+        record { is = refl; seen = omega arith; before = let a = f.begun in omega arith; risen = let a = f.risen in omega arith; sound = sound_of r.extents p q' r.sound.history fits },
+      ),
+    )
+
+-- ---- sections
+
+opened_fits : (e : ℕ → Extent) (p : PenPart) (q : PassPart) → PassFits e p q → PassFits e p (opened_section q)
+opened_fits e p q f = record {
+  shape = f.shape;
+  number = f.number;
+  seen = f.seen;
+  mine = f.mine;
+  all = f.all;
+  ended = f.ended;
+  over = f.over;
+  begun = f.begun;
+  risen = f.risen;
+  epoch = f.epoch;
+  loaded = λ h has mine. Contains-append_left q.opened (q.epoch ∷ []) h.epoch (f.loaded h has mine);
+  standing = λ o is. subst (IsOpenAt (opened_section q)) (let same : q.epoch ≡ o = cc in same) record { seen = let a = f.epoch in let b = f.ended in omega arith; opened = Contains-push q.opened q.epoch };
+  closed = λ is. refl;
+  floor = λ n is. let none : None ≡ Some n = is in absurd cc;
+  held = λ j x at. absurd (some-ne-none x (sym at));
+}
+
+closed_fits : (e : ℕ → Extent) (p : PenPart) (q : PassPart) → PassFits e p q → PassFits e p (closed_section q)
+closed_fits e p q f = record {
+  shape = f.shape;
+  number = f.number;
+  seen = f.seen;
+  mine = f.mine;
+  all = f.all;
+  ended = f.ended;
+  over = f.over;
+  begun = f.begun;
+  risen = f.risen;
+  epoch = f.epoch;
+  loaded = f.loaded;
+  standing = λ o is. let none : None ≡ Some o = is in absurd cc;
+  closed = λ is. refl;
+  floor = λ n is. let none : None ≡ Some n = is in absurd cc;
+  held = λ j x at. absurd (some-ne-none x (sym at));
+}
+
+opening_here : (told : Told) (slots by : ℕ) (me : M) (new : ℕ) → HasPass me.0 → new ≡ 2 * (pass_of me.0).epoch + 1
+    → Allows (IsKept told) slots by me (section_at (pass_of me.0).number) (λ _. new) (λ _. opens_section (step slots (section_at (pass_of me.0).number) new 0 none) me new)
+opening_here told slots by me new is word s r₀ _ at _ =
+    let q = pass_of me.0 in
+    let p : PenPart = part_by told s r₀ by me.0 at q is in
+    let r : IsKept told s = kept_by told s r₀ by me.0 at q is in
+    let f : PassFits r.extents p q = (r.each by me.0 at).passes q is in (
+      record me.0 { pass = Some (opened_section q) },
+      keeps,
+      tt,
+      stores_to told s r₀ by me.0 at q is new (opened_section q) refl word (inr (q.epoch, word, (let a = f.epoch in let b = f.over in omega arith))) (opened_fits r.extents p q f),
+      (record { view = refl; slots = refl }, refl),
+    )
+
+pub opening_at : (told : Told) (slots by : ℕ) (me : M) (new word : ℕ) → HasPass me.0 → word ≡ section_at (pass_of me.0).number → new ≡ 2 * (pass_of me.0).epoch + 1
+    → Allows (IsKept told) slots by me word (λ _. new) (λ _. opens_section (step slots word new 0 none) me new)
+opening_at told slots by me new word is place e = subst (λ (w : ℕ). Allows (IsKept told) slots by me w (λ _. new) (λ _. opens_section (step slots w new 0 none) me new)) (sym place) (opening_here told slots by me new is e)
+
+closing_here : (told : Told) (slots by : ℕ) (me : M) → HasPass me.0
+    → Allows (IsKept told) slots by me (section_at (pass_of me.0).number) (λ _. 0) (λ _. closes_section (step slots (section_at (pass_of me.0).number) 0 0 none) me 0)
+closing_here told slots by me is s r₀ _ at _ =
+    let q = pass_of me.0 in
+    let p : PenPart = part_by told s r₀ by me.0 at q is in
+    let r : IsKept told s = kept_by told s r₀ by me.0 at q is in
+    let f : PassFits r.extents p q = (r.each by me.0 at).passes q is in (
+      record me.0 { pass = Some (closed_section q) },
+      keeps,
+      tt,
+      stores_to told s r₀ by me.0 at q is 0 (closed_section q) refl refl (inl refl) (closed_fits r.extents p q f),
+      (record { view = refl; slots = refl }, refl),
+    )
+
+pub closing_at : (told : Told) (slots by : ℕ) (me : M) (word : ℕ) → HasPass me.0 → word ≡ section_at (pass_of me.0).number
+    → Allows (IsKept told) slots by me word (λ _. 0) (λ _. closes_section (step slots word 0 0 none) me 0)
+closing_at told slots by me word is place = subst (λ (w : ℕ). Allows (IsKept told) slots by me w (λ _. 0) (λ _. closes_section (step slots w 0 0 none) me 0)) (sym place) (closing_here told slots by me is)
+
+-- ---- the row that a section comes to
+
+-- a row is come to, in a section whose floor is n
+comes_to : (e : ℕ → Extent) (p : PenPart) (q : PassPart) (x : Held) (n : ℕ) → PassFits e p q → HoldsRow p.shape.kind (state_in p) e (moment_at p.shape p.history) x → (q.standing ≡ None → ⊥)
+    → IfSome q.standing (λ o. o ≤ n) → n ≤ x.since → n ≤ length q.seen → x.met ≤ length q.seen → slice_index p.cleared q.number ≤ n → ((m : ℕ) → q.floor ≡ Some m → m ≡ n) → PassFits e p (record q { floor = Some n; held = x ∷ q.held })
+comes_to e p q x n f holds stands low since seen met clear was = rows_fit e p q (Some n) (x ∷ q.held) f
+    (λ is. absurd (stands is))
+    (λ m is. let same : n ≡ m = cc in subst (HasFloor p (record q { floor = Some n; held = x ∷ q.held })) same record { seen = seen; cleared = clear; epoch = low })
+    each
+  where
+    each : (j : ℕ) (y : Held) → get_elem? (x ∷ q.held) j ≡ some y → IsHeldBy e p (record q { floor = Some n; held = x ∷ q.held }) y
+    each zero y is = subst (IsHeldBy e p (record q { floor = Some n; held = x ∷ q.held })) (some-injective x y is) record { row = holds; met = met; floor = n; has = refl; since = since }
+    each (suc j) y is = let h = f.held j y is in record { row = h.row; met = h.met; floor = n; has = refl; since = let a = was h.floor h.has in let b = h.since in omega arith }
+
+-- the root row, at the load of its name
+root_fits : (e : ℕ → Extent) (p : PenPart) (q : PassPart) (x : Held) (floor : Option ℕ) → IsSound e p → PassFits e p q → (q.standing ≡ None → ⊥) → q.floor ≡ floor → x.since ≡ length p.history → x.met ≡ length p.history
+    → HoldsRow p.shape.kind (state_in p) e (moment_at p.shape p.history) x → PassFits e p (record q { seen = p.history; floor = floor_or floor (length p.history); held = x ∷ q.held })
+root_fits e p q x None sound f stands was since met holds =
+    let more = begins_length q.seen p.history f.seen in let count = sound.history.count in
+    comes_to e p (record q { seen = p.history }) x (length p.history) (sees_fits e p q f) holds stands (opened_before q.standing refl) (omega arith) (omega arith) (omega arith)
+    (let a = f.number in let b = sound.history.dealt in let c = sound.cleared q.number (omega arith) in omega arith)
+    (λ m is. let none : None ≡ Some m = sym was ∙ is in absurd cc)
+  where
+    opened_before : (standing : Option ℕ) → q.standing ≡ standing → IfSome standing (λ o. o ≤ length p.history)
+    opened_before None is = tt
+    opened_before (Some o) is = let a = (f.standing o is).seen in let more = begins_length q.seen p.history f.seen in omega arith
+root_fits e p q x (Some n) sound f stands was since met holds =
+    let more = begins_length q.seen p.history f.seen in
+    let h = f.floor n was in let a = h.seen in
+    comes_to e p (record q { seen = p.history }) x n (sees_fits e p q f) holds stands h.epoch (omega arith) (omega arith) (omega arith) h.cleared (λ m is. let same : Some m ≡ Some n = sym is ∙ was in cc)
+
+abbrev Outcome : (told : Told) (s : St) → ℕ → M → ℕ → ℕ → (ℕ → M → Type 0) → Type 0
+Outcome told s by me i n tells = (w : View) × (a : Act (Unit {0})) × Valid s.homes me.1 a × IsKept told (stepped s i n by me.1 w a) × tells n (w, carried_after me.1 a)
+
+module _ (told : Told) (slots by : ℕ) (me : M) (is : HasPass me.0) (stands : (pass_of me.0).standing ≢ None) (s : St) (r₀ : IsKept told s) (at : get_elem? s.views by ≡ some me.0) where
+  abbrev q₀ : PassPart
+  q₀ = pass_of me.0
+
+  abbrev p₀ : PenPart
+  p₀ = part_by told s r₀ by me.0 at q₀ is
+
+  abbrev r₁ : IsKept told s
+  r₁ = kept_by told s r₀ by me.0 at q₀ is
+
+  abbrev f₀ : PassFits r₁.extents p₀ q₀
+  f₀ = (r₁.each by me.0 at).passes q₀ is
+
+  no_root : slice_index s.words root_at ≡ 0 → Outcome told s by me root_at (slice_index s.words root_at) (loads_root (step slots root_at 0 0 none) me)
+  no_root none_there =
+      let q' : PassPart = record q₀ { seen = p₀.history } in
+      let empty : p₀.root ≡ 0 = sym r₁.words.root ∙ none_there in
+      let count = r₁.sound.history.count in (
+        record me.0 { pass = Some q' },
+        keeps,
+        tt,
+        loads_to told s r₀ by me.0 at q₀ is root_at q' refl refl (sees_fits r₁.extents p₀ q₀ f₀),
+        (
+          record { view = refl; slots = refl },
+          record {
+            empty = λ _. record {
+              reads = record { is = refl; seen = f₀.seen };
+              empty = ap (λ (n : ℕ). (moment_at p₀.shape p₀.history n).ranges) count ∙ (r₁.sound.known.current ∙ ap (map_in (record { width = kind_width p₀.shape.kind; words = p₀.words })) empty);
+            };
+            row = λ some_there. absurd (some_there none_there);
+          },
+        ),
+      )
+
+  a_root : slice_index s.words root_at ≢ 0 → Outcome told s by me root_at (slice_index s.words root_at) (loads_root (step slots root_at 0 0 none) me)
+  a_root some_there =
+      let there : p₀.root ≢ 0 = λ e. some_there (r₁.words.root ∙ e) in
+      let count = r₁.sound.history.count in
+      let few = r₁.sound.history.dealt in let number = f₀.number in let passes = r₁.sound.passes in
+      let clear : slice_index p₀.cleared q₀.number ≤ p₀.ended = r₁.sound.cleared q₀.number (omega arith) in
+      let least : least_of p₀.cleared ≤ slice_index p₀.cleared q₀.number = least_low p₀.cleared q₀.number (omega arith) in
+      let root = root_held p₀.shape.kind (state_in p₀) r₁.extents (moment_at p₀.shape p₀.history) r₁.sound.known (omega arith) there in
+      let x : Held = come (state_in p₀) (row_in p₀.root) (calls (state_in p₀)) (extent_at (root_span (record { width = kind_width p₀.shape.kind; words = p₀.words }) p₀.root) root.0) in
+      let holds : HoldsRow p₀.shape.kind (state_in p₀) r₁.extents (moment_at p₀.shape p₀.history) x = root.2.held in
+      let q' : PassPart = record q₀ { seen = p₀.history; floor = floor_or q₀.floor (length p₀.history); held = x ∷ q₀.held } in (
+        record me.0 { pass = Some q' },
+        keeps,
+        tt,
+        loads_to told s r₀ by me.0 at q₀ is root_at q' refl refl (root_fits r₁.extents p₀ q₀ x q₀.floor r₁.sound f₀ stands refl (sym count) (sym count) holds),
+        (
+          record { view = refl; slots = refl },
+          record {
+            empty = λ none_there. absurd (some_there none_there);
+            row = λ _. record {
+              reads = record { is = refl; seen = f₀.seen };
+              at = refl;
+              comes = record {
+                row = ap row_in (sym r₁.words.root);
+                named = ap named_kind r₁.words.root ∙ root.2.named;
+                has = holds.has;
+                since_is = sym count;
+                old = holds.old;
+                met = omega arith;
+                width = refl;
+                shape = holds.shape;
+              };
+              first = refl;
+              last = refl;
+              level = root.1;
+            };
+          },
+        ),
+      )
+
+pub roots : (told : Told) (slots by : ℕ) (me : M) → HasPass me.0 → (pass_of me.0).standing ≢ None → Allows (IsKept told) slots by me root_at (λ n. n) (loads_root (step slots root_at 0 0 none) me)
+roots told slots by me is stands s r₀ _ at _ = elim (cases_eq (slice_index s.words root_at) 0) [
+  | inl none_there ↦ no_root told slots by me is stands s r₀ at none_there
+  | inr some_there ↦ a_root told slots by me is stands s r₀ at some_there
+]
+
+-- ---- the row that the section is at
+
+-- the words of rows are those that the pen knows
+word_now : (ws : List ℕ) (p : PenPart) (row col : ℕ) → WordsFit ws p → first_row ≤ row → slice_index ws (column_at (kind_width p.shape.kind) row col) ≡ slice_index p.words (column_at (kind_width p.shape.kind) row col)
+word_now ws p row col fit low = fit.columns (column_at (kind_width p.shape.kind) row col) (column_behind (kind_width p.shape.kind) row col low)
+
+-- a pivot is as it was
+pub pivots : (told : Told) (slots by : ℕ) (me : M) (word row col : ℕ) → HasPass me.0 → IsAt (pass_of me.0) → row ≡ (here (pass_of me.0)).row
+    → (i : ℕ) × (col ≡ pivot_column i) × (i + 1 < slots_in (pass_of me.0) (here (pass_of me.0))) → word ≡ column_at (kind_width (pass_of me.0).shape.kind) row col
+    → Allows (IsKept told) slots by me word (λ n. n) (loads_pivot (step slots word 0 0 none) me)
+pivots told slots by me word row col is here_at row_is pivot place s r₀ _ at _ =
+    let q = pass_of me.0 in
+    let p : PenPart = part_by told s r₀ by me.0 at q is in
+    let r : IsKept told s = kept_by told s r₀ by me.0 at q is in
+    let f : PassFits r.extents p q = (r.each by me.0 at).passes q is in
+    let x : Held = here q in
+    let h = (f.held 0 x here_at).row in
+    let width : Width = kind_width q.shape.kind in
+    let i = pivot.0 in
+    let index : word ≡ column_at width x.row (pivot_column i) = place ∙ (λ j. column_at width (row_is j) (pivot.1 j)) in
+    let q' : PassPart = record q { seen = p.history } in (
+      record me.0 { pass = Some q' },
+      keeps,
+      tt,
+      loads_to told s r₀ by me.0 at q is word q' refl refl (sees_fits r.extents p q f),
+      (
+        record { view = refl; slots = refl },
+        record {
+          reads = record { is = refl; seen = f.seen };
+          found_is = ap (slice_index s.words) index
+              ∙ (word_now s.words p x.row (pivot_column i) r.words h.has.0
+              ∙ (pivot_now x.width width x.copy p.words (kind_of q x) x.row i h.form pivot.2
+              ∙ ap (slice_index x.copy) (sym index)));
+        },
+      ),
+    )
+
+-- other rows are held, on the same floor
+held_fits : (e : ℕ → Extent) (p : PenPart) (q : PassPart) (held : List Held) → PassFits e p q → ((j : ℕ) (x : Held) → get_elem? held j ≡ some x → IsHeldBy e p q x) → PassFits e p (record q { held = held })
+held_fits e p q held f rows = rows_fit e p q q.floor held f f.closed
+    (λ n is. let h = f.floor n is in record { seen = h.seen; cleared = h.cleared; epoch = h.epoch })
+    (λ j x at. let h = rows j x at in record { row = h.row; met = h.met; floor = h.floor; has = h.has; since = h.since })
+
+behind_at : (xs : List Held) (j : ℕ) (x : Held) → get_elem? (behind_first xs) j ≡ some x → get_elem? xs (suc j) ≡ some x
+behind_at [] j x e = absurd (some-ne-none x (sym e))
+behind_at (y ∷ xs) j x e = e
+
+-- the row that the section is at is known better
+renewed_fits : (e : ℕ → Extent) (p : PenPart) (q : PassPart) → IsSound e p → PassFits e p q → IsAt q → PassFits e p (record q { seen = p.history; held = renewed (state_in p) (here q) ∷ behind_first q.held })
+renewed_fits e p q sound f here_at = held_fits e p (record q { seen = p.history }) (renewed (state_in p) (here q) ∷ behind_first q.held) (sees_fits e p q f) each
+  where
+    each : (j : ℕ) (y : Held) → get_elem? (renewed (state_in p) (here q) ∷ behind_first q.held) j ≡ some y → IsHeldBy e p (record q { seen = p.history }) y
+    each zero y e' =
+        let h = (sees_fits e p q f).held 0 (here q) here_at in
+        subst (IsHeldBy e p (record q { seen = p.history })) (some-injective (renewed (state_in p) (here q)) y e')
+        record { row = renewed_held p.shape.kind (state_in p) e (moment_at p.shape p.history) sound.known (here q) h.row; met = h.met; floor = h.floor; has = h.has; since = h.since }
+    each (suc j) y e' = (sees_fits e p q f).held (suc j) y (behind_at q.held j y e')
+
+-- a leaf has what the map had after some number of calls
+leaf_read : (e : ℕ → Extent) (p : PenPart) (q : PassPart) (x : Held) → IsSound e p → q.shape ≡ p.shape → q.seen ≡ p.history → HoldsRow p.shape.kind (state_in p) e (moment_at p.shape p.history) x → x.extent.level ≡ 0 → IsRead q x (renewed (state_in p) x)
+leaf_read e p q x sound shape seen h leaf = subst (λ (z : Shape × List Moment). IsRead (record q { shape = z.0; seen = z.1 }) x (renewed (state_in p) x)) (λ i. (sym shape i, sym seen i)) told
+  where
+    told : IsRead (record q { shape = p.shape; seen = p.history }) x (renewed (state_in p) x)
+    told =
+        let t = leaf_held p.shape.kind (state_in p) e (moment_at p.shape p.history) sound.known x h leaf in
+        let count = sound.history.count in let high = t.high in
+        record {
+          same = refl;
+          k = t.k;
+          low = t.low;
+          high = omega arith;
+          now = λ none_died. t.now none_died ∙ sym count;
+          width = sym h.width;
+          form = h.form;
+          shape = (renewed_held p.shape.kind (state_in p) e (moment_at p.shape p.history) sound.known x h).shape;
+          map = sound.known.maps t.k t.high;
+          part = t.part;
+        }
+
+-- a slot of a leaf
+entries : (told : Told) (slots by : ℕ) (me : M) (word col : ℕ) → HasPass me.0 → IsAt (pass_of me.0) → (here (pass_of me.0)).extent.level ≡ 0 → word ≡ column_at (kind_width (pass_of me.0).shape.kind) (here (pass_of me.0)).row col
+    → Allows (IsKept told) slots by me word (λ n. n) (loads_slot (step slots word 0 0 none) me)
+entries told slots by me word col is here_at leaf place s r₀ _ at _ =
+    let q = pass_of me.0 in
+    let p : PenPart = part_by told s r₀ by me.0 at q is in
+    let r : IsKept told s = kept_by told s r₀ by me.0 at q is in
+    let f : PassFits r.extents p q = (r.each by me.0 at).passes q is in
+    let x : Held = here q in
+    let h = (f.held 0 x here_at).row in
+    let q' : PassPart = record q { seen = p.history; held = renewed (state_in p) x ∷ behind_first q.held } in (
+      record me.0 { pass = Some q' },
+      keeps,
+      tt,
+      loads_to told s r₀ by me.0 at q is word q' refl refl (renewed_fits r.extents p q r.sound f here_at),
+      (
+        record { view = refl; slots = refl },
+        record {
+          entry = λ _. record {
+            reads = record { is = refl; seen = f.seen };
+            read = leaf_read r.extents p q' x r.sound refl refl h leaf;
+            found_is = ap (slice_index s.words) place ∙ (word_now s.words p x.row col r.words h.has.0 ∙ ap (slice_index p.words) (sym place));
+          };
+          child = λ inner. absurd (inner leaf);
+        },
+      ),
+    )
+
+-- a slot of an inner row, which leads to the child
+childs : (told : Told) (slots by : ℕ) (me : M) (word i level : ℕ) → HasPass me.0 → IsAt (pass_of me.0) → (here (pass_of me.0)).extent.level ≡ suc level → i < length (spans_here (pass_of me.0) (here (pass_of me.0)))
+    → word ≡ column_at (kind_width (pass_of me.0).shape.kind) (here (pass_of me.0)).row (slot_column (slots_in (pass_of me.0) (here (pass_of me.0))) i)
+    → Allows (IsKept told) slots by me word (λ n. n) (loads_slot (step slots word 0 0 none) me)
+childs told slots by me word i level is here_at inner low place s r₀ _ at _ =
+    let q = pass_of me.0 in
+    let p : PenPart = part_by told s r₀ by me.0 at q is in
+    let r : IsKept told s = kept_by told s r₀ by me.0 at q is in
+    let f : PassFits r.extents p q = (r.each by me.0 at).passes q is in
+    let x : Held = here q in
+    let held = f.held 0 x here_at in
+    let h = held.row in
+    let width : Width = kind_width q.shape.kind in
+    let t = slot_now q.shape.kind x.width width x.copy p.words x.row i x.extent h.form low in
+    let name : ℕ = slice_index s.words word in
+    let named : t.now.word ≡ name = t.word_is ∙ (sym (word_now s.words p x.row (slot_column (slots_in q x) i) r.words h.has.0) ∙ ap (slice_index s.words) (sym place)) in
+    let c = child_held q.shape.kind (state_in p) r.extents (moment_at q.shape p.history) r.sound.known x level t.now h inner (one_of_get (spans_at q.shape.kind (state_in p).tree.table x.row x.extent) i t.now t.at) in
+    let y : Held = come (state_in p) (row_in t.now.word) x.since (extent_at t.now level) in
+    let count = r.sound.history.count in
+    let q' : PassPart = record q { seen = p.history; held = y ∷ q.held } in (
+      record me.0 { pass = Some q' },
+      keeps,
+      tt,
+      loads_to told s r₀ by me.0 at q is word q' refl refl (child_fits r.extents p q y held.floor f c.held (omega arith) held.has held.since),
+      (
+        record { view = refl; slots = refl },
+        record {
+          entry = λ leaf. absurd (omega arith);
+          child = λ _. record {
+            reads = record { is = refl; seen = f.seen };
+            at = refl;
+            comes = record { row = ap row_in named; named = ap named_kind (sym named) ∙ c.named; has = c.held.has; since_is = refl; old = c.held.old; met = omega arith; width = refl; shape = c.held.shape };
+            level = omega arith;
+            covers = λ j z there at_j. t.same z (subst (λ (n : ℕ). slice_get (spans_here q x) n ≡ Some z) (same_slot width x.row (slots_in q x) i j (sym place ∙ there)) at_j);
+          };
+        },
+      ),
+    )
+  where
+    child_fits : (e : ℕ → Extent) (p : PenPart) (q : PassPart) (y : Held) (n : ℕ) → PassFits e p q → HoldsRow p.shape.kind (state_in p) e (moment_at p.shape p.history) y → y.met ≤ length p.history → q.floor ≡ Some n → n ≤ y.since
+        → PassFits e p (record q { seen = p.history; held = y ∷ q.held })
+    child_fits e p q y n f holds met floor since = held_fits e p (record q { seen = p.history }) (y ∷ q.held) (sees_fits e p q f) each
+      where
+        each : (j : ℕ) (z : Held) → get_elem? (y ∷ q.held) j ≡ some z → IsHeldBy e p (record q { seen = p.history }) z
+        each zero z e' = subst (IsHeldBy e p (record q { seen = p.history })) (some-injective y z e') record { row = holds; met = met; floor = n; has = floor; since = since }
+        each (suc j) z e' = (sees_fits e p q f).held j z e'
+
+    same_slot : (width : Width) (row slots i j : ℕ) → column_at width row (slot_column slots i) ≡ column_at width row (slot_column slots j) → j ≡ i
+    same_slot Long row slots i j e = omega arith
+
+pub slots_at : (told : Told) (slots by : ℕ) (me : M) (word row col : ℕ) → HasPass me.0 → IsAt (pass_of me.0) → row ≡ (here (pass_of me.0)).row
+    → (i : ℕ) × (col ≡ slot_column (slots_in (pass_of me.0) (here (pass_of me.0))) i) × (i < length (spans_here (pass_of me.0) (here (pass_of me.0)))) → word ≡ column_at (kind_width (pass_of me.0).shape.kind) row col
+    → Allows (IsKept told) slots by me word (λ n. n) (loads_slot (step slots word 0 0 none) me)
+slots_at told slots by me word row col is here_at row_is slot place =
+    let width : Width = kind_width (pass_of me.0).shape.kind in
+    elim (cases_eq (here (pass_of me.0)).extent.level 0) [
+      | inl leaf ↦ entries told slots by me word col is here_at leaf (place ∙ (λ j. column_at width (row_is j) col))
+      | inr inner ↦ childs told slots by me word slot.0 ((here (pass_of me.0)).extent.level - 1) is here_at (omega arith) slot.2 (place ∙ (λ j. column_at width (row_is j) (slot.1 j)))
+    ]
+
+-- ---- the mark
+
+-- the parent word of each row that is held
+parent_tells : (e : ℕ → Extent) (p : PenPart) (q : PassPart) (x : Held) (n : ℕ) → IsSound e p → IsHeldBy e p q x → n ≡ word_at (state_in p).tree x.row 0
+    → ParentTells (record q { shape = p.shape; seen = p.history; risen = begun_by p }) x n
+parent_tells e p q x n sound h is = record {
+  dead = λ mark. marked_held p.shape.kind (state_in p) e (moment_at p.shape p.history) sound.known x h.row (sym is ∙ mark);
+  live = λ off. not_died x.died refl (unmarked off).0;
+  past = λ off leaf k met high. let count = sound.history.count in (unmarked off).1 leaf k met (omega arith);
+}
+  where
+    unmarked : n ≢ dead_mark x.row → (life_of p.lives x.row ≡ Live) × (x.extent.level ≡ 0 → (k : ℕ) → x.met ≤ k → k ≤ calls (state_in p) → Snapshot p.shape.kind x (moment_at p.shape p.history k))
+    unmarked off = unmarked_held p.shape.kind (state_in p) e (moment_at p.shape p.history) sound.known x h.row (λ mark. off (is ∙ mark))
+
+    not_died : (o : Option ℕ) → x.died ≡ o → life_of p.lives x.row ≡ Live → x.died ≡ None
+    not_died None died live = died
+    not_died (Some d) died live = let dead : life_of p.lives x.row ≡ Dead d = h.row.died d died in absurd cc
+
+pub parents : (told : Told) (slots by : ℕ) (me : M) (word : ℕ) → HasPass me.0 → Allows (IsKept told) slots by me word (λ n. n) (loads_parent (step slots word 0 0 none) me)
+parents told slots by me word is s r₀ _ at _ =
+    let q = pass_of me.0 in
+    let p : PenPart = part_by told s r₀ by me.0 at q is in
+    let r : IsKept told s = kept_by told s r₀ by me.0 at q is in
+    let f : PassFits r.extents p q = (r.each by me.0 at).passes q is in
+    let more = begins_length q.seen p.history f.seen in
+    let q' : PassPart = record q { seen = p.history; risen = begun_by p } in (
+      record me.0 { pass = Some q' },
+      keeps,
+      tt,
+      loads_to told s r₀ by me.0 at q is word q' refl refl (all_fit r.extents p q q.ended q.epoch (begun_by p) f (let a = f.ended in omega arith) f.over f.epoch (omega arith)),
+      (
+        record { view = refl; slots = refl },
+        record {
+          reads = record { is = refl; seen = f.seen };
+          risen = f.risen;
+          tells = λ j x at_j there. let h = f.held j x at_j in
+              parent_tells r.extents p q x (slice_index s.words word) r.sound h (ap (slice_index s.words) there ∙ word_now s.words p x.row 0 r.words h.row.has.0);
+        },
+      ),
+    )

@@ -1,0 +1,103 @@
+-- The pen's loads, and its stores that publish nothing, keep the rule and tell what they are said to tell.
+use Rattle.std.proofs.Common.{◌≡◌, ◌≢◌, ℕ, ◌+◌, ◌<◌, ◌≤◌, List, set, refl, sym, ap, ◌∙◌, subst, ⊎_elim, arith}
+use mathlib.Core.Option.{some, none}
+use lib.ListN.{get_elem?}
+use lib.Seq.{set-get_or}
+use Rattle.std.specs.Prelude.{slice_index, slice_set}
+use Rattle.atomic_table.specs.Table.{Me, step, keeps, Allows}
+use Rattle.atomic_table.proofs.Lists.{at_set}
+use Rattle.mt_base.specs.declared.widths.Width.{Width}
+use Rattle.mt_base.specs.declared.widths.Width.TheVariants.{Long}
+use Rattle.mt_base.specs.Width.{kind_width, columns, first_row}
+use Rattle.mt_rows.specs.Sheet.{IsPlace}
+use Rattle.mt_rule.specs.declared.views.Told.{Told}
+use Rattle.mt_rule.specs.declared.views.View.{View}
+use Rattle.mt_rule.specs.declared.views.PenPart.{PenPart}
+use Rattle.mt_rule.specs.declared.views.Shape.{Shape}
+use Rattle.mt_rule.specs.declared.table.MtTable.{MtTable}
+use Rattle.mt_rule.specs.declared.pens.Pen.{Pen}
+use Rattle.mt_rule.specs.Limits.{most_passes}
+use Rattle.mt_rule.specs.Places.{root_at, rows_at, section_at, size_of, column_at}
+use Rattle.mt_rule.specs.Seats.{HasPen, pen_of, rooted_in, shape_told}
+use Rattle.mt_rule.specs.Tokens.{Identity, identity_of, IsPenOf, pen_in}
+use Rattle.mt_rule.specs.Rule.{IsKept, ViewFits}
+use Rattle.mt_rule.specs.Steps.{looks, looks_at_root}
+use Rattle.mt_rule.proofs.Carrying.{St, recast}
+
+abbrev pub M : Type 0
+M = Me (Unit {0}) View
+
+-- ---- where words stand
+
+pub column_high : (w : Width) (row col : ℕ) → first_row ≤ row → rows_at w ≤ column_at w row col
+column_high Long row col first = omega arith
+
+pub column_low : (w : Width) (row col rows : ℕ) → row < first_row + rows → col < columns w → column_at w row col < size_of w rows
+column_low Long row col rows last inside = omega arith
+
+root_low : (w : Width) (rows : ℕ) → root_at < size_of w rows
+root_low Long rows = omega arith
+
+pub root_inside : (t : MtTable) → root_at < t.table.shared.table_id.words
+root_inside t = subst (λ (n : ℕ). root_at < n) (sym t.words) (root_low (kind_width t.table.shared.key.kind) (shape_told t.table.shared.key).rows)
+
+section_low : (w : Width) (pass rows : ℕ) → pass < most_passes → section_at pass < size_of w rows
+section_low Long pass rows few = omega arith
+
+pub section_inside : (t : MtTable) (pen : Pen) (pass : ℕ) → IsPenOf (identity_of t) pen → pass < (pen_in pen).shape.passes → section_at pass < t.table.shared.table_id.words
+section_inside t pen pass of few =
+    let passes : (pen_in pen).shape.passes ≡ t.table.shared.key.passes = ap (λ (d : Identity). d.shape.passes) of in
+    let most = t.few_passes in
+    subst (λ (n : ℕ). section_at pass < n) (sym t.words) (section_low (kind_width t.table.shared.key.kind) pass (shape_told t.table.shared.key).rows (omega arith))
+
+-- the index of a column of the pen's rows
+pub record IsColumn (t : MtTable) (p : PenPart) (row col i : ℕ) : Type 0 where
+  pub is : i ≡ column_at (kind_width p.shape.kind) row col
+  pub above : rows_at (kind_width p.shape.kind) ≤ column_at (kind_width p.shape.kind) row col
+  pub below : column_at (kind_width p.shape.kind) row col < size_of (kind_width p.shape.kind) p.shape.rows
+  pub inside : i < t.table.shared.table_id.words
+
+pub column_of : (t : MtTable) (pen : Pen) (row col i : ℕ) → IsPenOf (identity_of t) pen → IsPlace (rooted_in (pen_in pen)) row col → i ≡ column_at t.width row col → IsColumn t (pen_in pen) row col i
+column_of t pen row col i of place at =
+    let p = pen_in pen in
+    let shape : p.shape ≡ shape_told t.table.shared.key = ap (λ (d : Identity). d.shape) of in
+    let kind : p.shape.kind ≡ t.table.shared.key.kind = ap (λ (d : Shape). d.kind) shape in
+    let is : i ≡ column_at (kind_width p.shape.kind) row col = at ∙ ap (λ (w : Width). column_at w row col) (t.wide ∙ ap kind_width (sym kind)) in
+    let low = column_low (kind_width p.shape.kind) row col p.shape.rows place.last place.column in
+    record {
+      is = is;
+      above = column_high (kind_width p.shape.kind) row col place.first;
+      below = low;
+      inside = subst (λ (n : ℕ × ℕ). n.0 < n.1) (λ j. (sym is j, (ap (λ (d : Shape). size_of (kind_width d.kind) d.rows) shape ∙ sym t.words) j)) low;
+    }
+
+-- ---- loads that change nothing
+
+-- a word is as it was, and so is a view
+pub unchanged : (told : Told) (s : St) (r : IsKept told s) (by : ℕ) (v : View) → get_elem? s.views by ≡ some v → (i : ℕ)
+    → IsKept told record { words = slice_set s.words i (slice_index s.words i); homes = s.homes; views = set s.views by v }
+unchanged told s r by v at i = subst (λ (words : List ℕ). IsKept told record { words = words; homes = s.homes; views = set s.views by v }) (sym (set-get_or s.words i 0)) (record {
+  pen = r.pen;
+  owner = r.owner;
+  extents = r.extents;
+  part = r.part;
+  shaped = r.shaped;
+  sound = r.sound;
+  words = r.words;
+  each = λ j u is. ⊎_elim
+      (λ (x : (j ≡ by) × (v ≡ u)). subst (λ (y : ℕ × View). ViewFits r.pen r.owner r.extents r.part s.words y.0 y.1) (λ i. (sym x.0 i, x.1 i)) (r.each by v at))
+      (λ (x : (j ≢ by) × (get_elem? s.views j ≡ some u)). r.each j u x.1)
+      (at_set s.views by j v u is);
+})
+
+pub looking : (told : Told) (slots by : ℕ) (me : M) (word : ℕ) → HasPen me.0 → rows_at (kind_width (pen_of me.0).shape.kind) ≤ word → Allows (IsKept told) slots by me word (λ n. n) (looks (step slots word 0 0 none) me)
+looking told slots by me word has high s r₀ _ at _ =
+    let v = me.0 in let p = pen_of v in
+    let r = recast told s r₀ p (sym ((r₀.each by v at).keeper p has).1) in
+    (v, keeps, tt, unchanged told s r by v at word, record { view = refl; found_is = r.words.columns word high })
+
+pub looking_at_root : (told : Told) (slots by : ℕ) (me : M) → HasPen me.0 → Allows (IsKept told) slots by me root_at (λ n. n) (looks_at_root (step slots root_at 0 0 none) me)
+looking_at_root told slots by me has s r₀ _ at _ =
+    let v = me.0 in let p = pen_of v in
+    let r = recast told s r₀ p (sym ((r₀.each by v at).keeper p has).1) in
+    (v, keeps, tt, unchanged told s r by v at root_at, record { view = refl; found_is = r.words.root })

@@ -1,0 +1,29 @@
+-- How a call of a shared tree may end.
+-- Source: this project's own.
+use Rattle.std.specs.Prelude.{◌≡◌, ◌⊎◌, true, false, IfSome}
+use Rattle.std.specs.List.{Contains}
+use Rattle.mt_base.specs.declared.calls.Call.{Call}
+use Rattle.mt_base.specs.declared.replies.Reply.{Reply}
+use Rattle.mt_base.specs.Call.{acted}
+use Rattle.mt_base.specs.History.{limits_after}
+use Rattle.mt_base.specs.Nodes.{IsRefused}
+use Rattle.mt_rows.specs.declared.rows.Scan.{Scan}
+use Rattle.mt_rows.specs.Publish.{IsCounted, NoneBuried, map_by}
+use Rattle.mt_rule.specs.declared.views.PenPart.{PenPart}
+use Rattle.mt_rule.specs.Seats.{rooted_in, sheet_of, tree_of}
+
+-- Too few rows are free: the shortage is counted by a scan, and whoever is told to hold rows was found with a section open.
+pub record IsFoundShort (p : PenPart) (call : Call) (reply : Reply) : Type 0 where
+  pub scan : Scan
+  pub refused : IsRefused p.shape.kind (limits_after (tree_of p.shape p.history) p.ended) (map_by (rooted_in p)) call reply
+  pub counted : IsCounted (record (sheet_of p) { scan = scan }) refused.shortage
+  pub found : IfSome scan.by (Contains p.loaded)
+
+-- A call that published nothing leaves the map, by its reply or by a refusal, and has buried no row.
+pub record EndsQuietly (p : PenPart) (call : Call) (reply : Reply) : Type 0 where
+  pub none_buried : NoneBuried p.shape.rows p.buried
+  pub answer : (acted p.shape.kind (map_by (rooted_in p)) call ≡ (map_by (rooted_in p), reply)) ⊎ IsFoundShort p call reply
+
+pub record MayEnd (p : PenPart) (call : Call) (reply : Reply) : Type 0 where
+  pub in_flight : p.in_flight ≡ true
+  pub quiet : p.published ≡ false → EndsQuietly p call reply

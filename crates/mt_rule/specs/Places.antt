@@ -1,0 +1,58 @@
+-- Where the words of a tree's table stand: each named word has one index.
+-- Source: this project's own. Each pass's section word has a cache line of its own, so that readers share none.
+use Rattle.std.specs.Prelude.{◌≡◌, ◌≢◌, ◌⊎◌, ℕ, ◌+◌, ◌*◌, ◌<◌, ◌≤◌, List, Option, Some, None, length, slice_index}
+use Rattle.mt_base.specs.declared.widths.Width.{Width}
+use Rattle.mt_base.specs.Width.{columns, first_row}
+use Rattle.mt_rows.specs.declared.rows.Place.{Place}
+use Rattle.mt_rows.specs.declared.rows.Place.TheVariants.{Root, Slot}
+use Rattle.mt_rows.specs.Sheet.{Rooted, IsPlace, word_at}
+
+-- how many calls have ended, how many have begun, and the name of the root row
+abbrev pub commits_at : ℕ
+commits_at = 0
+
+abbrev pub begun_at : ℕ
+begun_at = 1
+
+abbrev pub root_at : ℕ
+root_at = 2
+
+-- the section word of a pass
+abbrev pub section_at : ℕ → ℕ
+section_at pass = 8 * (pass + 1)
+
+-- a column of a row
+abbrev pub column_at : Width → ℕ → ℕ → ℕ
+column_at width row col = columns width * row + col
+
+-- the first column of the first row, and how many words there are
+abbrev pub rows_at : Width → ℕ
+rows_at width = columns width * first_row
+
+abbrev pub size_of : Width → ℕ → ℕ
+size_of width rows = columns width * (first_row + rows)
+
+-- what a section word says: 0 where the section is closed
+abbrev pub section_word : Option ℕ → ℕ
+section_word None = 0
+section_word (Some epoch) = 2 * epoch + 1
+
+-- a section word is 0, or of an epoch that has been, where so many calls have ended
+abbrev pub IsSectionWord : ℕ → ℕ → Type 0
+IsSectionWord ended word = (word ≡ 0) ⊎ ((epoch : ℕ) × (word ≡ 2 * epoch + 1) × (epoch ≤ ended))
+
+-- the root word, or any column of a row
+abbrev pub IsWordPlace : Rooted → Place → Type 0
+IsWordPlace t Root = Unit {0}
+IsWordPlace t (Slot row col) = IsPlace t row col
+
+abbrev pub word_in : Rooted → Place → ℕ
+word_in t Root = t.root
+word_in t (Slot row col) = word_at t row col
+
+-- The words of a table that opens with these rows: no call has begun, and every section is closed.
+pub record AreOpening (t : Rooted) (words : List ℕ) : Type 0 where
+  pub size : length words ≡ size_of t.table.width t.rows
+  pub none : (i : ℕ) → i ≢ root_at → i < rows_at t.table.width → slice_index words i ≡ 0
+  pub root : slice_index words root_at ≡ t.root
+  pub columns : (i : ℕ) → rows_at t.table.width ≤ i → slice_index words i ≡ slice_index t.table.words i

@@ -1,0 +1,213 @@
+-- What the steps of a pass that reads without the lock tell it.
+-- Source: this project's own; the kernel's readers walk between rcu_read_lock and rcu_read_unlock.
+use Rattle.std.specs.Prelude.{◌≡◌, ◌≢◌, ℕ, ◌+◌, ◌^◌, ◌<◌, ◌≤◌, List, [], ◌∷◌, ◌++◌, Option, Some, None, length, slice_index, slice_get}
+use mathlib.Core.Option.{some}
+use lib.ListN.{get_elem?}
+use Rattle.atomic_table.specs.Table.{Step}
+use Rattle.mt_base.specs.declared.widths.Width.TheVariants.{Long}
+use Rattle.mt_base.specs.Map.{IsMap}
+use Rattle.mt_base.specs.Passes.{Begins}
+use Rattle.mt_base.specs.Passes as known
+use Rattle.mt_base.specs.Width.{kind_width, deepest, greatest}
+use Rattle.mt_layout.specs.declared.names.RowKind.{RowKind}
+use Rattle.mt_layout.specs.declared.spans.Span.{Span}
+use Rattle.mt_layout.specs.Columns.{slot_column}
+use Rattle.mt_layout.specs.Rows.{dead_mark, named_kind, row_in}
+use Rattle.mt_layout.specs.Sizes.{slots_of}
+use Rattle.mt_life.specs.declared.views.Held.{Held}
+use Rattle.mt_life.specs.declared.views.Moment as life
+use Rattle.mt_life.specs.Holding.{Snapshot, copy_of}
+use Rattle.mt_life.specs.Known.{HasPart, HasRow, SameForm, Shape, spans_at}
+use Rattle.mt_rows.specs.Laws.{kind_at}
+use Rattle.mt_rule.specs.declared.views.Moment.{Moment}
+use Rattle.mt_rule.specs.declared.views.PassPart.{PassPart}
+use Rattle.mt_rule.specs.Places.{column_at}
+use Rattle.mt_rule.specs.Seats.{known_by, moment_at, pass_of, tree_of}
+use Rattle.mt_rule.specs.Steps.{Seat}
+
+-- ---- the rows that a section holds
+
+abbrev pub no_held : Held
+no_held = record { row = 0; since = 0; met = 0; extent = record { first = 0; last = 0; level = 0 }; width = Long; copy = []; died = None }
+
+-- the row that the section came to last
+abbrev pub first_held : List Held → Held
+first_held [] = no_held
+first_held (x ∷ xs) = x
+
+abbrev pub here : PassPart → Held
+here q = first_held q.held
+
+-- the section is at a row
+abbrev pub IsAt : PassPart → Type 0
+IsAt q = get_elem? q.held 0 ≡ some (here q)
+
+abbrev pub behind_first : List Held → List Held
+behind_first [] = []
+behind_first (x ∷ xs) = xs
+
+-- the map after the first k calls that the pass has seen, and where its leaves began
+abbrev pub moment_seen : PassPart → ℕ → life.Moment
+moment_seen q k = moment_at q.shape q.seen k
+
+-- the kind of the row that is held
+abbrev pub kind_of : PassPart → Held → RowKind
+kind_of q x = kind_at q.shape.kind x.extent.level
+
+-- how many slots it has
+abbrev pub slots_in : PassPart → Held → ℕ
+slots_in q x = slots_of (kind_width q.shape.kind) (kind_of q x)
+
+-- what stood in the row when the section came to it
+abbrev pub spans_here : PassPart → Held → List Span
+spans_here q x = spans_at q.shape.kind (copy_of x) x.row x.extent
+
+-- The row that was come to, by this name, on a walk from a root that was loaded after so many calls.
+pub record Comes (q : PassPart) (x : Held) (name since : ℕ) : Type 0 where
+  pub row : x.row ≡ row_in name
+  pub named : named_kind name ≡ Some (kind_of q x)
+  pub has : HasRow q.shape.rows x.row
+  pub since_is : x.since ≡ since
+  pub old : x.since ≤ x.met
+  pub met : x.met ≤ length q.seen
+  pub width : x.width ≡ kind_width q.shape.kind
+  pub shape : Shape q.shape.kind (copy_of x) x.row x.extent
+
+-- The leaf x as it is known now, y: it has what the map had there after k calls, no fewer than when the root was loaded; after
+-- all calls, unless the leaf is dead.
+pub record IsRead (q : PassPart) (x y : Held) : Type 0 where
+  pub same : y ≡ record x { width = y.width; copy = y.copy; died = y.died }
+  pub k : ℕ
+  pub low : x.since ≤ k
+  pub high : k ≤ length q.seen
+  pub now : y.died ≡ None → k ≡ length q.seen
+  pub width : y.width ≡ x.width
+  pub form : SameForm (copy_of x) (copy_of y) (kind_of q x) x.row
+  pub shape : Shape q.shape.kind (copy_of y) x.row x.extent
+  pub map : IsMap q.shape.kind (moment_seen q k).ranges
+  pub part : HasPart q.shape.kind (copy_of y) x.row x.extent (moment_seen q k)
+
+-- What a row's parent word tells: by the dead mark, that a call has begun since the walk to it; without it, that the row is
+-- live, and a leaf of its form had what the map had after each number of calls since it was come to.
+pub record ParentTells (q : PassPart) (x : Held) (word : ℕ) : Type 0 where
+  pub dead : word ≡ dead_mark x.row → x.since + 1 ≤ q.risen
+  pub live : word ≢ dead_mark x.row → x.died ≡ None
+  pub past : word ≢ dead_mark x.row → x.extent.level ≡ 0 → (k : ℕ) → x.met ≤ k → k ≤ length q.seen → Snapshot q.shape.kind x (moment_seen q k)
+
+-- ---- what steps tell, of what the pass knew before and knows then
+
+-- the same pass with what it has seen since
+abbrev pub with_seen : PassPart → List Moment → PassPart
+with_seen q seen = record q { seen = seen }
+
+-- The pass has become this, and has seen no less than it had.
+pub record Reads (q q' part : PassPart) : Type 0 where
+  pub is : q' ≡ part
+  pub seen : Begins q.seen q'.seen
+
+-- How many calls have ended.
+pub record LoadedCommits (found : ℕ) (q q' : PassPart) : Type 0 where
+  pub reads : Reads q q' (record (with_seen q q'.seen) { epoch = found; ended = found })
+  pub before : q.ended ≤ found
+  pub most : found ≤ length q'.seen
+  pub least : length q'.seen ≤ found + 1
+  pub few : found < 2 ^ 62
+
+-- The section is open at the epoch that was loaded last.
+abbrev pub opened_section : PassPart → PassPart
+opened_section q = record q { opened = q.opened ++ q.epoch ∷ []; standing = Some q.epoch; floor = None; held = [] }
+
+-- The section is closed.
+abbrev pub closed_section : PassPart → PassPart
+closed_section q = record q { standing = None; floor = None; held = [] }
+
+abbrev pub floor_or : Option ℕ → ℕ → Option ℕ
+floor_or None n = Some n
+floor_or (Some floor) n = Some floor
+
+-- The root word is 0, and the map is empty.
+pub record LoadedNoRoot (q q' : PassPart) : Type 0 where
+  pub reads : Reads q q' (with_seen q q'.seen)
+  pub empty : (moment_seen q' (length q'.seen)).ranges ≡ []
+
+-- The section is at the root row.
+pub record LoadedRootRow (found : ℕ) (q q' : PassPart) : Type 0 where
+  pub reads : Reads q q' (record (with_seen q q'.seen) { floor = floor_or q.floor (length q'.seen); held = here q' ∷ q.held })
+  pub at : IsAt q'
+  pub comes : Comes q' (here q') found (length q'.seen)
+  pub first : (here q').extent.first ≡ 0
+  pub last : (here q').extent.last ≡ greatest (kind_width q'.shape.kind)
+  pub level : (here q').extent.level < deepest
+
+pub record LoadedRoot (found : ℕ) (q q' : PassPart) : Type 0 where
+  pub empty : found ≡ 0 → LoadedNoRoot q q'
+  pub row : found ≢ 0 → LoadedRootRow found q q'
+
+-- A pivot of the row that the section is at, which is as when it was come to.
+pub record LoadedPivot (word found : ℕ) (q q' : PassPart) : Type 0 where
+  pub reads : Reads q q' (with_seen q q'.seen)
+  pub found_is : found ≡ slice_index (here q).copy word
+
+-- A slot of the leaf that the section is at.
+pub record LoadedEntry (word found : ℕ) (q q' : PassPart) : Type 0 where
+  pub reads : Reads q q' (record (with_seen q q'.seen) { held = here q' ∷ behind_first q.held })
+  pub read : IsRead q' (here q) (here q')
+  pub found_is : found ≡ slice_index (here q').copy word
+
+-- A slot of the inner row that the section is at: it comes to the child that covers just what the slot does.
+pub record LoadedChild (word found : ℕ) (q q' : PassPart) : Type 0 where
+  pub reads : Reads q q' (record (with_seen q q'.seen) { held = here q' ∷ q.held })
+  pub at : IsAt q'
+  pub comes : Comes q' (here q') found (here q).since
+  pub level : (here q').extent.level + 1 ≡ (here q).extent.level
+  pub covers : (i : ℕ) (x : Span) → word ≡ column_at (kind_width q.shape.kind) (here q).row (slot_column (slots_in q (here q)) i)
+      → slice_get (spans_here q (here q)) i ≡ Some x → ((here q').extent.first ≡ x.first) × ((here q').extent.last ≡ x.last)
+
+pub record LoadedSlot (word found : ℕ) (q q' : PassPart) : Type 0 where
+  pub entry : (here q).extent.level ≡ 0 → LoadedEntry word found q q'
+  pub child : (here q).extent.level ≢ 0 → LoadedChild word found q q'
+
+-- The parent word of a row, for each hold of it.
+pub record LoadedParent (word found : ℕ) (q q' : PassPart) : Type 0 where
+  pub reads : Reads q q' (record (with_seen q q'.seen) { risen = q'.risen })
+  pub risen : q.risen ≤ q'.risen
+  pub tells : (j : ℕ) (x : Held) → get_elem? q.held j ≡ some x → word ≡ column_at (kind_width q.shape.kind) x.row 0 → ParentTells q' x found
+
+-- How many calls have begun: no fewer than the pass knows of. What it has seen is one legal history.
+pub record LoadedBegun (found : ℕ) (q q' : PassPart) : Type 0 where
+  pub is : q' ≡ record q { begun = found }
+  pub seen : length q.seen ≤ found
+  pub before : q.begun ≤ found
+  pub risen : q.risen ≤ found
+  pub sound : known.IsSound (tree_of q'.shape []) (known_by q')
+
+-- ---- the plays
+
+-- nothing else of the seat has changed
+pub record OfPass (me me' : Seat) : Type 0 where
+  pub view : me'.0 ≡ record me.0 { pass = Some (pass_of me'.0) }
+  pub slots : me'.1 ≡ me.1
+
+abbrev pub loads_commits : Step (Unit {0}) → Seat → ℕ → Seat → Type 0
+loads_commits step me found me' = OfPass me me' × LoadedCommits found (pass_of me.0) (pass_of me'.0)
+
+abbrev pub opens_section : Step (Unit {0}) → Seat → ℕ → Seat → Type 0
+opens_section step me found me' = OfPass me me' × (pass_of me'.0 ≡ opened_section (pass_of me.0))
+
+abbrev pub closes_section : Step (Unit {0}) → Seat → ℕ → Seat → Type 0
+closes_section step me found me' = OfPass me me' × (pass_of me'.0 ≡ closed_section (pass_of me.0))
+
+abbrev pub loads_root : Step (Unit {0}) → Seat → ℕ → Seat → Type 0
+loads_root step me found me' = OfPass me me' × LoadedRoot found (pass_of me.0) (pass_of me'.0)
+
+abbrev pub loads_pivot : Step (Unit {0}) → Seat → ℕ → Seat → Type 0
+loads_pivot step me found me' = OfPass me me' × LoadedPivot step.word found (pass_of me.0) (pass_of me'.0)
+
+abbrev pub loads_slot : Step (Unit {0}) → Seat → ℕ → Seat → Type 0
+loads_slot step me found me' = OfPass me me' × LoadedSlot step.word found (pass_of me.0) (pass_of me'.0)
+
+abbrev pub loads_parent : Step (Unit {0}) → Seat → ℕ → Seat → Type 0
+loads_parent step me found me' = OfPass me me' × LoadedParent step.word found (pass_of me.0) (pass_of me'.0)
+
+abbrev pub loads_begun : Step (Unit {0}) → Seat → ℕ → Seat → Type 0
+loads_begun step me found me' = OfPass me me' × LoadedBegun found (pass_of me.0) (pass_of me'.0)

@@ -1,0 +1,173 @@
+//! The steps of a pass that reads without the lock. Each is one atomic step, and is counted.
+
+ghost use Rattle.std.specs.Prelude.{◌≡◌, ◌≢◌, ℕ, ◌+◌, ◌^◌, ◌<◌, None, length};
+ghost use Rattle.mt_base.specs.Passes.{IsSound};
+ghost use Rattle.mt_base.specs.Width.{kind_width};
+ghost use Rattle.mt_layout.specs.Columns.{pivot_column, slot_column};
+ghost use Rattle.mt_life.specs.Known.{HasRow};
+ghost use Rattle.mt_rule.specs.Places.{column_at};
+ghost use Rattle.mt_rule.specs.Sections.{IsAt, here, slots_in, spans_here, opened_section, closed_section, LoadedBegun, LoadedCommits, LoadedParent, LoadedPivot, LoadedRoot, LoadedSlot};
+ghost use Rattle.mt_rule.specs.Tokens.{identity_of, part_of, pass_in, tree_in, IsPassOf, Stepped};
+
+use crate::passes::Pass;
+use crate::rule::{
+    ClosesSection, LoadsBegun, LoadsCommits, LoadsParent, LoadsPivot, LoadsRoot, LoadsSlot,
+    OpensSection,
+};
+use crate::table::{BEGUN, COMMITS, MtTable, ROOT, section_index};
+use atomic_table::Badge;
+use mt_base::Steps;
+use std::mem;
+use std::sync::ledger::Ledger;
+
+impl MtTable {
+    /// How many calls have ended.
+    pub fn load_commits<L: Ledger>(&self, pass: &mut Pass, steps: &mut Steps<L>) -> u64
+        requires pass { IsPassOf (identity_of self.now) pass.old }
+        ensures stepped { Stepped (identity_of self.now) pass.old pass.new }
+        ensures told { LoadedCommits result (part_of pass.old) (part_of pass.new) }
+        ensures steps { steps.new ≡ steps.old + 1 }
+    {
+        steps.tick();
+        let badge = mem::replace(&mut pass.seat, Badge::blank());
+        let mut seat = badge.into_seat::<()>();
+        let word = self.table.shared.load::<LoadsCommits>(&mut seat, COMMITS);
+        pass.seat = seat.into_badge();
+        word
+    }
+
+    /// Opens the pass's section at the epoch that it loaded last. It holds no row yet.
+    pub fn open_section<L: Ledger>(&self, pass: &mut Pass, epoch: u64, steps: &mut Steps<L>)
+        requires pass { IsPassOf (identity_of self.now) pass.old }
+        requires epoch { epoch ≡ (part_of pass.old).epoch }
+        requires few { epoch < 2 ^ 62 }
+        ensures stepped { Stepped (identity_of self.now) pass.old pass.new }
+        ensures part { part_of pass.new ≡ opened_section (part_of pass.old) }
+        ensures steps { steps.new ≡ steps.old + 1 }
+    {
+        steps.tick();
+        let badge = mem::replace(&mut pass.seat, Badge::blank());
+        let mut seat = badge.into_seat::<()>();
+        self.table
+            .shared
+            .store::<OpensSection>(&mut seat, section_index(pass.number), 2 * epoch + 1);
+        pass.seat = seat.into_badge();
+    }
+
+    /// The root word. Where it is not 0, the section is then at the root row.
+    pub fn load_root<L: Ledger>(&self, pass: &mut Pass, steps: &mut Steps<L>) -> u64
+        requires pass { IsPassOf (identity_of self.now) pass.old }
+        requires open { (part_of pass.old).standing ≢ None }
+        ensures stepped { Stepped (identity_of self.now) pass.old pass.new }
+        ensures told { LoadedRoot result (part_of pass.old) (part_of pass.new) }
+        ensures steps { steps.new ≡ steps.old + 1 }
+    {
+        steps.tick();
+        let badge = mem::replace(&mut pass.seat, Badge::blank());
+        let mut seat = badge.into_seat::<()>();
+        let word = self.table.shared.load::<LoadsRoot>(&mut seat, ROOT);
+        pass.seat = seat.into_badge();
+        word
+    }
+
+    /// A pivot column of the row that the section is at.
+    pub fn load_pivot<L: Ledger>(
+        &self,
+        pass: &mut Pass,
+        row: u32,
+        col: u32,
+        steps: &mut Steps<L>,
+    ) -> u64
+        requires pass { IsPassOf (identity_of self.now) pass.old }
+        requires at { IsAt (part_of pass.old) }
+        requires row { row ≡ (here (part_of pass.old)).row }
+        requires has { HasRow (part_of pass.old).shape.rows row }
+        requires pivot { (i : ℕ) × (col ≡ pivot_column i) × (i + 1 < slots_in (part_of pass.old) (here (part_of pass.old))) }
+        ensures stepped { Stepped (identity_of self.now) pass.old pass.new }
+        ensures told { LoadedPivot (column_at (kind_width (part_of pass.old).shape.kind) row col) result (part_of pass.old) (part_of pass.new) }
+        ensures steps { steps.new ≡ steps.old + 1 }
+    {
+        steps.tick();
+        let badge = mem::replace(&mut pass.seat, Badge::blank());
+        let mut seat = badge.into_seat::<()>();
+        let at = self.column_index(row, col);
+        let word = self.table.shared.load::<LoadsPivot>(&mut seat, at);
+        pass.seat = seat.into_badge();
+        word
+    }
+
+    /// The slot column of an item of the row that the section is at. Of an inner row it comes to the child.
+    pub fn load_slot<L: Ledger>(
+        &self,
+        pass: &mut Pass,
+        row: u32,
+        col: u32,
+        steps: &mut Steps<L>,
+    ) -> u64
+        requires pass { IsPassOf (identity_of self.now) pass.old }
+        requires at { IsAt (part_of pass.old) }
+        requires row { row ≡ (here (part_of pass.old)).row }
+        requires has { HasRow (part_of pass.old).shape.rows row }
+        requires slot { (i : ℕ) × (col ≡ slot_column (slots_in (part_of pass.old) (here (part_of pass.old))) i) × (i < length (spans_here (part_of pass.old) (here (part_of pass.old)))) }
+        ensures stepped { Stepped (identity_of self.now) pass.old pass.new }
+        ensures told { LoadedSlot (column_at (kind_width (part_of pass.old).shape.kind) row col) result (part_of pass.old) (part_of pass.new) }
+        ensures steps { steps.new ≡ steps.old + 1 }
+    {
+        steps.tick();
+        let badge = mem::replace(&mut pass.seat, Badge::blank());
+        let mut seat = badge.into_seat::<()>();
+        let at = self.column_index(row, col);
+        let word = self.table.shared.load::<LoadsSlot>(&mut seat, at);
+        pass.seat = seat.into_badge();
+        word
+    }
+
+    /// The parent column of a row, which shows the dead mark.
+    pub fn load_parent<L: Ledger>(&self, pass: &mut Pass, row: u32, steps: &mut Steps<L>) -> u64
+        requires pass { IsPassOf (identity_of self.now) pass.old }
+        requires row { HasRow (part_of pass.old).shape.rows row }
+        ensures stepped { Stepped (identity_of self.now) pass.old pass.new }
+        ensures told { LoadedParent (column_at (kind_width (part_of pass.old).shape.kind) row 0) result (part_of pass.old) (part_of pass.new) }
+        ensures steps { steps.new ≡ steps.old + 1 }
+    {
+        steps.tick();
+        let badge = mem::replace(&mut pass.seat, Badge::blank());
+        let mut seat = badge.into_seat::<()>();
+        let at = self.column_index(row, 0);
+        let word = self.table.shared.load::<LoadsParent>(&mut seat, at);
+        pass.seat = seat.into_badge();
+        word
+    }
+
+    /// How many calls have begun.
+    pub fn load_begun<L: Ledger>(&self, pass: &mut Pass, steps: &mut Steps<L>) -> u64
+        requires pass { IsPassOf (identity_of self.now) pass.old }
+        ensures stepped { Stepped (identity_of self.now) pass.old pass.new }
+        ensures told { LoadedBegun result (part_of pass.old) (part_of pass.new) }
+        ensures sound { IsSound (tree_in (identity_of self.now)) (pass_in pass.new) }
+        ensures steps { steps.new ≡ steps.old + 1 }
+    {
+        steps.tick();
+        let badge = mem::replace(&mut pass.seat, Badge::blank());
+        let mut seat = badge.into_seat::<()>();
+        let word = self.table.shared.load::<LoadsBegun>(&mut seat, BEGUN);
+        pass.seat = seat.into_badge();
+        word
+    }
+
+    /// Closes the pass's section. It holds no row then.
+    pub fn close_section<L: Ledger>(&self, pass: &mut Pass, steps: &mut Steps<L>)
+        requires pass { IsPassOf (identity_of self.now) pass.old }
+        ensures stepped { Stepped (identity_of self.now) pass.old pass.new }
+        ensures part { part_of pass.new ≡ closed_section (part_of pass.old) }
+        ensures steps { steps.new ≡ steps.old + 1 }
+    {
+        steps.tick();
+        let badge = mem::replace(&mut pass.seat, Badge::blank());
+        let mut seat = badge.into_seat::<()>();
+        self.table
+            .shared
+            .store::<ClosesSection>(&mut seat, section_index(pass.number), 0);
+        pass.seat = seat.into_badge();
+    }
+}
