@@ -1,0 +1,4 @@
+pub mod Scans
+pub mod Sheets
+pub mod Writers
+pub mod Works

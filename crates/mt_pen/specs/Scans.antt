@@ -1,0 +1,66 @@
+-- What a scan of all section words finds, and what it makes of what the pen knows.
+-- Source: this project's own; the kernel frees nodes when every reader has left its RCU read-side section.
+use Rattle.std.specs.Prelude.{◌≡◌, ◌⊎◌, ℕ, ◌+◌, ◌-◌, ◌*◌, ◌/◌, ◌^◌, ◌≤◌, ◌==◌, List, [], ◌∷◌, Some, None, Bool, true, false, ◌&&◌, ◌||◌, Option, length, nat_lt, slice_index, slice_set, if◌then◌else◌}
+use Rattle.mt_base.specs.declared.replies.Holder.{Holder}
+use Rattle.mt_rows.specs.declared.rows.Scan.{Scan}
+use Rattle.mt_rule.specs.declared.views.PenPart.{PenPart}
+use Rattle.mt_rule.specs.declared.views.PassPart.{PassPart}
+use Rattle.mt_rule.specs.Places.{section_word}
+use Rattle.mt_rule.specs.Steps.{raised, with_loaded}
+
+-- no section is open
+abbrev pub none_open : Scan
+none_open = record { least = 2 ^ 64 - 1; by = None }
+
+-- The section word of a pass counts where it is open at an epoch below all so far.
+abbrev pub lesser : ℕ → ℕ → Scan → Scan
+lesser pass word scan = if word == 0 then scan else (if nat_lt (word / 2) scan.least then record { least = word / 2; by = Some (record { pass = pass; epoch = word / 2 }) } else scan)
+
+-- The words are those of the passes from this one on: the least epoch at which a section is open, and the first pass of those
+-- that have it.
+abbrev pub least_from : ℕ → List ℕ → Scan → Scan
+least_from pass [] scan = scan
+least_from pass (word ∷ words) scan = least_from (pass + 1) words (lesser pass word scan)
+
+abbrev pub scan_of : List ℕ → Scan
+scan_of words = least_from 0 words none_open
+
+-- what was known to be cleared, and which sections were found open, after the same words
+abbrev pub cleared_from : ℕ → ℕ → List ℕ → List ℕ → List ℕ
+cleared_from ended pass [] cleared = cleared
+cleared_from ended pass (word ∷ words) cleared = cleared_from ended (pass + 1) words (slice_set cleared pass (raised ended (slice_index cleared pass) word))
+
+abbrev pub loaded_from : ℕ → List ℕ → List Holder → List Holder
+loaded_from pass [] loaded = loaded
+loaded_from pass (word ∷ words) loaded = loaded_from (pass + 1) words (with_loaded pass word loaded)
+
+-- what the pen knows after the section words of the first passes
+abbrev pub pen_scanning : List ℕ → PenPart → PenPart
+pen_scanning words p = record p { cleared = cleared_from p.ended 0 words p.cleared; loaded = loaded_from 0 words p.loaded }
+
+-- A word is that of a closed section, or of one that stands open at an epoch that has been; the joined pass's is of its own
+-- section.
+pub record IsWordOf (p : PenPart) (q : PassPart) (pass word : ℕ) : Type 0 where
+  pub closed_or_open : (word ≡ 0) ⊎ ((epoch : ℕ) × (word ≡ 2 * epoch + 1) × (epoch ≤ p.ended))
+  pub own : q.number ≡ pass → word ≡ section_word q.standing
+
+abbrev pub AreWordsFrom : PenPart → PassPart → ℕ → List ℕ → Type 0
+AreWordsFrom p q pass [] = Unit {0}
+AreWordsFrom p q pass (word ∷ words) = IsWordOf p q pass word × AreWordsFrom p q (pass + 1) words
+
+-- All section words were loaded, one of each pass in turn: so much was found, and the pen knows then so much.
+pub record HasScanned (p : PenPart) (q : PassPart) (p' : PenPart) (scan : Scan) (passes : ℕ) : Type 0 where
+  pub words : List ℕ
+  pub count : length words ≡ passes
+  pub each : AreWordsFrom p q 0 words
+  pub found : scan ≡ scan_of words
+  pub pen : p' ≡ pen_scanning words p
+
+-- the holder is among these
+abbrev pub is_among : Holder → List Holder → Bool
+is_among h [] = false
+is_among h (x ∷ xs) = ((x.pass == h.pass) && (x.epoch == h.epoch)) || is_among h xs
+
+abbrev pub is_loaded : Option Holder → List Holder → Bool
+is_loaded None loaded = true
+is_loaded (Some h) loaded = is_among h loaded

@@ -1,0 +1,42 @@
+-- What the writer's rows tell: what the pen knows of rows, who calls, the history's records, and the scans.
+-- Source: this project's own.
+use Rattle.std.specs.Prelude.{◌≡◌, ℕ, Some, length}
+use Rattle.mt_base.specs.Passes as known
+use Rattle.mt_rows.specs.declared.rows.Scan.{Scan}
+use Rattle.mt_rows.specs.Sheet.{Sheet, Caller, Told}
+use Rattle.mt_rule.specs.declared.views.PenPart.{PenPart}
+use Rattle.mt_rule.specs.Seats.{records_of, sheet_of}
+use Rattle.mt_rule.specs.Tokens.{Identity}
+use Rattle.mt_pen.specs.Scans.{none_open}
+
+-- a number that no other table has
+abbrev pub table_number : Identity → ℕ
+table_number t = t.table.views_name
+
+abbrev pub caller_of : Identity → known.Pass → Caller
+caller_of t q = record { table = table_number t; passes = t.shape.passes; pass = q.number; opened = q.opened; standing = q.standing; begun = q.begun }
+
+abbrev pub told_of : Identity → PenPart → known.Pass → Told
+told_of t p q = record { caller = caller_of t q; records = records_of p.history }
+
+-- the rows of a pen with which this pass is joined, and which has made no scan
+abbrev pub sheet_told : Identity → PenPart → known.Pass → Sheet
+sheet_told t p q = record (sheet_of p) { told = Some (told_of t p q) }
+
+-- what the pass knows then
+abbrev pub shown_all : PenPart → known.Pass → known.Pass
+shown_all p q = record q { seen = records_of p.history; ended = p.ended }
+
+-- the same rows with the scans that were made
+abbrev pub sheet_worked : Identity → PenPart → known.Pass → Scan → ℕ → ℕ → Sheet
+sheet_worked t p q scan scans scans_at_begin = record (sheet_told t p q) { scan = scan; scans = scans; scans_at_begin = scans_at_begin }
+
+-- a sheet without the scans that were made
+abbrev pub unscanned : Sheet → Sheet
+unscanned s = record s { scan = none_open; scans = 0; scans_at_begin = 0 }
+
+-- The pass has seen the whole history of the pen, in which it has these places, and all its calls have ended.
+pub record HasSeenAll (p : PenPart) (q : known.Pass) : Type 0 where
+  pub seen : q.seen ≡ records_of p.history
+  pub mine : q.mine ≡ known.places q.number q.seen
+  pub ended : q.ended ≡ length q.seen

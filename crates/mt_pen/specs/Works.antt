@@ -1,0 +1,60 @@
+-- What the writer's rows keep from call to call, and that they are whole by it: the proof of the law that the trait of rows asks for.
+-- Source: this project's own.
+use Rattle.std.proofs.Common.{◌≡◌, ℕ, ◌+◌, ◌/◌, ◌<◌, ◌≤◌, Bool, true, false, List, [], ◌∷◌, length, slice_index, refl, arith}
+use Rattle.mt_base.specs.Width.{kind_width, first_row, most_rows}
+use Rattle.mt_base.specs.Passes as known
+use Rattle.mt_rows.specs.declared.rows.Life.{Life}
+use Rattle.mt_rows.specs.declared.rows.Life.TheVariants.{New, Draft, Live, Dead}
+use Rattle.mt_rows.specs.declared.rows.Scan.{Scan}
+use Rattle.mt_rows.specs.Levels.{one_if}
+use Rattle.mt_rows.specs.Sheet.{HasDied, IsWhole, life_of}
+use Rattle.mt_rule.specs.declared.views.Shape.{Shape}
+use Rattle.mt_rule.specs.declared.views.PenPart.{PenPart}
+use Rattle.mt_rule.specs.Places.{size_of}
+use Rattle.mt_rule.specs.Seats.{least_of}
+use Rattle.mt_rule.specs.Tokens.{Identity}
+use Rattle.mt_pen.specs.Scans.{is_loaded}
+use Rattle.mt_pen.specs.Sheets.{sheet_worked}
+
+-- The tree opened with few rows: with no more than its map asks for, which is half as many as it has ranges, rounded down, and two.
+abbrev pub OpensSmall : Shape → Type 0
+OpensSmall shape = shape.opened ≤ length shape.opening / 2 + 2
+
+-- Of what the pen knows: there are as many words, lives and numbers of passes as there must be, no row died by a call that was not begun,
+-- and the history has the calls that have ended or published. The holder that the last scan told was found with a section open.
+pub record IsWorked (p : PenPart) (scan : Scan) (scans scans_at_begin : ℕ) : Type 0 where
+  pub rows : p.shape.rows ≤ most_rows
+  pub words : length p.words ≡ size_of (kind_width p.shape.kind) p.shape.rows
+  pub lives : length p.lives ≡ first_row + p.shape.rows
+  pub buried : length p.buried ≡ first_row + p.shape.rows
+  pub dead : (row call : ℕ) → life_of p.lives row ≡ Dead call → (1 ≤ call) × (call ≤ p.ended + one_if p.in_flight)
+  pub some_pass : 1 ≤ p.shape.passes
+  pub passes : length p.cleared ≡ p.shape.passes
+  pub cleared : (k : ℕ) → k < p.shape.passes → slice_index p.cleared k ≤ p.ended
+  pub count : length p.history ≡ p.ended + one_if p.published
+  pub calm : p.in_flight ≡ false → p.published ≡ false
+  pub opens : OpensSmall p.shape
+  pub risen : scans_at_begin ≤ scans
+  pub holder : is_loaded scan.by p.loaded ≡ true
+
+died : (ended : ℕ) (in_flight : Bool) (life : Life) → ((call : ℕ) → life ≡ Dead call → (1 ≤ call) × (call ≤ ended + one_if in_flight)) → HasDied ended in_flight life
+died ended in_flight New by = tt
+died ended in_flight Draft by = tt
+died ended in_flight Live by = tt
+died ended in_flight (Dead call) by = by call refl
+
+least_most : (xs : List ℕ) (most : ℕ) → 1 ≤ length xs → ((k : ℕ) → k < length xs → slice_index xs k ≤ most) → least_of xs ≤ most
+least_most [] most some each = absurd (omega arith)
+least_most (x ∷ []) most some each = each 0 (omega (arith))
+least_most (x ∷ y ∷ xs) most some each = let h : x ≤ most = each 0 (omega arith) in omega (arith, h)
+
+pub worked_whole : (t : Identity) (p : PenPart) (q : known.Pass) (scan : Scan) (scans scans_at_begin : ℕ) → IsWorked p scan scans scans_at_begin → IsWhole (sheet_worked t p q scan scans scans_at_begin)
+worked_whole t p q scan scans scans_at_begin w = record {
+  few = w.rows;
+  words = w.words;
+  lives = w.lives;
+  buried = w.buried;
+  cleared = least_most p.cleared p.ended (rw w.passes w.some_pass) (λ k l. w.cleared k (rw (← w.passes) l));
+  scans = w.risen;
+  dead = λ row. died p.ended p.in_flight (life_of p.lives row) (w.dead row);
+}

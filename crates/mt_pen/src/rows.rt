@@ -1,0 +1,155 @@
+//! The writer's rows.
+
+ghost use Rattle.std.specs.Prelude.{◌≡◌};
+ghost use Rattle.mt_rule.specs.Tokens.{identity_of, pen_in, IsPenOf, IsJoined, joined_turn};
+ghost use Rattle.mt_pen.specs.Works.{IsWorked};
+
+use crate::scans::scan_sections;
+use crate::writer::Writer;
+use mt_base::{Call, Reply, Width};
+use mt_rows::{Place, Rows, Scan};
+use mt_rule::{MtTable, Pass, Pen};
+use std::marker::PhantomData;
+
+/// The rows of a shared tree, for the calls of the pass that is joined with its pen.
+#[derive(Drop)]
+pub struct PenRows<'a, W: Writer> {
+    table: &'a MtTable,
+    pen: Pen,
+    /// The last scan's answer, how many scans there were, and how many when a call was begun last.
+    scan: Scan,
+    scans: u64,
+    scans_at_begin: u64,
+    writer: PhantomData<W>,
+    ghost at: { identity_of table.now ≡ W.table },
+    ghost of: { IsPenOf W.table pen },
+    ghost joined: { IsJoined pen },
+    ghost turn: { joined_turn pen ≡ W.turn },
+    ghost dealt: { (pen_in pen).dealt ≡ W.table.shape.passes },
+    ghost worked: { IsWorked (pen_in pen) scan scans scans_at_begin },
+}
+
+impl<'a, W: Writer> PenRows<'a, W> {
+    ghost use Rattle.std.specs.Prelude.{◌≡◌, ℕ, false};
+    ghost use Rattle.mt_base.specs.Passes.{IsSound};
+    ghost use Rattle.mt_life.specs.declared.views.Extent.{Extent};
+    ghost use Rattle.mt_rule.specs.Rule as rule;
+    ghost use Rattle.mt_rule.specs.Tokens.{identity_of, tree_in, pass_in, turn_seat, IsPassOf, pen_in, IsPenOf, IsAlone, WasShown};
+    ghost use Rattle.mt_pen.specs.Sheets.{sheet_told, shown_all, unscanned, HasSeenAll};
+    ghost use Rattle.mt_pen.specs.Works.{OpensSmall};
+
+    /// Joins a pass with the pen of its table, while no call is in flight.
+    pub fn new(table: &'a MtTable, mut pen: Pen, pass: Pass) -> PenRows<'a, W>
+        requires table { identity_of table.now ≡ W.table }
+        requires turn { turn_seat pass ≡ W.turn }
+        requires pen { IsPenOf W.table pen }
+        requires alone { IsAlone pen }
+        requires idle { (pen_in pen).in_flight ≡ false }
+        requires pass { IsPassOf W.table pass }
+        requires opens { OpensSmall W.table.shape }
+        requires dealt { (pen_in pen).dealt ≡ W.table.shape.passes }
+        ensures sheet { ⟦<PenRows<'a, W> as Rows>⟧.sheet result ≡ sheet_told W.table (pen_in pen) (pass_in pass) }
+        ensures shown { WasShown (tree_in W.table) (pen_in pen) (pass_in pass) (shown_all (pen_in pen) (pass_in pass)) }
+    {
+        table.join_pen(&mut pen, pass);
+        PenRows {
+            table,
+            pen,
+            scan: Scan {
+                least: u64::MAX,
+                by: None,
+            },
+            scans: 0,
+            scans_at_begin: 0,
+            writer: PhantomData,
+        }
+    }
+
+    /// Parts the pass from the pen again, while no call is in flight.
+    pub fn end(self) -> (Pen, Pass)
+        requires idle { (⟦<PenRows<'a, W> as Rows>⟧.sheet self).in_flight ≡ false }
+        ensures pen { IsPenOf W.table result.0 }
+        ensures alone { IsAlone result.0 }
+        ensures pass { IsPassOf W.table result.1 }
+        ensures turn { turn_seat result.1 ≡ W.turn }
+        ensures sheet { sheet_told W.table (pen_in result.0) (pass_in result.1) ≡ unscanned (⟦<PenRows<'a, W> as Rows>⟧.sheet self.entry) }
+        ensures seen { HasSeenAll (pen_in result.0) (pass_in result.1) }
+        ensures sound { IsSound (tree_in W.table) (pass_in result.1) }
+        ensures dealt { (pen_in result.0).dealt ≡ W.table.shape.passes }
+        ensures whole { (extents : ℕ → Extent) × rule.IsSound extents (pen_in result.0) }
+    {
+        let PenRows { table, mut pen, .. } = self;
+        let pass = table.split_pen(&mut pen);
+        (pen, pass)
+    }
+}
+
+impl<'a, W: Writer> Rows for PenRows<'a, W> {
+    ghost use Rattle.std.specs.Prelude.{◌≡◌, ◌≤◌, min};
+    ghost use Rattle.mt_rows.specs.Sheet.{IsScan, scanned};
+    ghost use Rattle.mt_rule.specs.Tokens.{pen_in, joined_in, joined_part};
+    ghost use Rattle.mt_pen.specs.Scans.{HasScanned};
+    ghost use Rattle.mt_pen.specs.Sheets.{sheet_worked};
+    ghost use Rattle.mt_pen.specs.Works.{worked_whole};
+
+    ghost sheet = { λ r. sheet_worked W.table (pen_in r.pen) (joined_in r.pen) r.scan r.scans r.scans_at_begin };
+
+    ghost whole = { λ r. worked_whole W.table (pen_in r.pen) (joined_in r.pen) r.scan r.scans r.scans_at_begin r.worked };
+
+    fn size(&self) -> u64 {
+        self.table.rows()
+    }
+
+    fn width(&self) -> Width {
+        self.table.width()
+    }
+
+    fn load(&mut self, row: u32, col: u32) -> u64 {
+        self.table
+            .load_word(&mut self.pen, Place::Slot { row, col })
+    }
+
+    fn root(&mut self) -> u64 {
+        self.table.load_word(&mut self.pen, Place::Root)
+    }
+
+    fn begin(&mut self) -> u64 {
+        self.scans_at_begin = self.scans;
+        self.table.store_begun(&mut self.pen)
+    }
+
+    fn scan(&mut self) -> Scan
+        // As of all rows.
+        ensures answer { IsScan (⟦<PenRows<'a, W> as Rows>⟧.sheet self.old).shared (⟦<PenRows<'a, W> as Rows>⟧.sheet self.old).told result }
+        ensures rest { ⟦<PenRows<'a, W> as Rows>⟧.sheet self.new ≡ scanned (⟦<PenRows<'a, W> as Rows>⟧.sheet self.old) result (⟦<PenRows<'a, W> as Rows>⟧.sheet self.new).cleared }
+        ensures kept { (⟦<PenRows<'a, W> as Rows>⟧.sheet self.old).cleared ≤ (⟦<PenRows<'a, W> as Rows>⟧.sheet self.new).cleared }
+        ensures cleared { min result.least (⟦<PenRows<'a, W> as Rows>⟧.sheet self.old).ended ≤ (⟦<PenRows<'a, W> as Rows>⟧.sheet self.new).cleared }
+
+        // Every section word was loaded.
+        ensures all { HasScanned (pen_in self.old.pen) (joined_part self.old.pen) (pen_in self.new.pen) result W.table.shape.passes }
+    {
+        self.scan = scan_sections(self.table, &mut self.pen);
+        self.scans = self.scans.saturating_add(1);
+        self.scan
+    }
+
+    fn draft(&mut self, row: u32, col: u32, word: u64) {
+        self.table.draft(&mut self.pen, row, col, word);
+    }
+
+    fn bury(&mut self, row: u32) {
+        self.table.bury(&mut self.pen, row);
+    }
+
+    fn tend(&mut self, row: u32, col: u32, word: u64) {
+        self.table.tend(&mut self.pen, row, col, word);
+    }
+
+    fn publish(&mut self, place: Place, word: u64, call: &Call, reply: &Reply) {
+        self.table.publish(&mut self.pen, place, word, call, reply);
+    }
+
+    fn finish(&mut self, call: &Call, reply: &Reply) {
+        self.table.store_commits(&mut self.pen, call, reply);
+    }
+}

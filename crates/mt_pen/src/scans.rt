@@ -1,0 +1,41 @@
+//! Loads of all section words.
+
+ghost use Rattle.std.specs.Prelude.{◌≡◌, ◌<◌};
+ghost use Rattle.mt_rule.specs.Tokens.{identity_of, pen_in, IsPenOf, IsJoined, GoesOn, joined_part};
+ghost use Rattle.mt_pen.specs.Scans.{lesser, HasScanned};
+
+use mt_base::Holder;
+use mt_rows::Scan;
+use mt_rule::{MtTable, Pen};
+
+/// The section word of a pass counts where it is open at an epoch below all so far.
+fn lesser(pass: u32, word: u64, scan: Scan) -> Scan
+    ensures { result ≡ lesser pass word scan }
+{
+    let epoch = word / 2;
+    if word == 0 || scan.least <= epoch {
+        return scan;
+    }
+    Scan {
+        least: epoch,
+        by: Some(Holder { pass, epoch }),
+    }
+}
+
+/// Loads the section word of each pass in turn. The least epoch at which one is open counts, and of the passes that have it
+/// the first.
+pub(crate) fn scan_sections(table: &MtTable, pen: &mut Pen) -> Scan
+    requires pen { IsPenOf (identity_of table.now) pen.old }
+    requires joined { IsJoined pen.old }
+    ensures on { GoesOn (identity_of table.now) pen.old pen.new }
+    ensures scanned { HasScanned (pen_in pen.old) (joined_part pen.old) (pen_in pen.new) result (identity_of table.now).shape.passes }
+{
+    let mut scan = Scan {
+        least: u64::MAX,
+        by: None,
+    };
+    for pass in 0..table.passes() {
+        scan = lesser(pass, table.load_section(pen, pass), scan);
+    }
+    scan
+}

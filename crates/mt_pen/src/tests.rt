@@ -1,0 +1,159 @@
+//! The writer's rows of small tables.
+
+ghost use Rattle.std.specs.Prelude.{◌≡◌, ◌≤◌, ◌<◌, All, IfOk, false, length};
+ghost use Rattle.mt_base.specs.declared.kinds.Kind.TheVariants as trees;
+ghost use Rattle.mt_rows.specs.Plain.{new_sheet};
+ghost use Rattle.mt_rule.specs.Limits.{most_passes};
+ghost use Rattle.mt_rule.specs.Seats.{new_pen};
+ghost use Rattle.mt_rule.specs.Tokens.{identity_of, shape_opened, turn_seat, IsPassOf, pen_in, IsPenOf, IsAlone};
+ghost use Rattle.mt_pen.specs.Works.{OpensSmall};
+
+use crate::{PenRows, Writer};
+use mt_base::{Call, Holder, Kind, NoMemory, Reply, Steps, Width};
+use mt_rows::{PlainRows, Rows, Scan};
+use mt_rule::{MtTable, Pass, Pen};
+use std::alloc::Global;
+use std::marker::Brand;
+use std::process::Abort;
+use std::sync::ledger::{Blank, Ledger};
+use std::test::Fail;
+
+/// A table of three new rows, its pen and its passes.
+fn table_of(alloc: Global, passes: u32) -> Result<(MtTable, Pen, Vec<Pass>), NoMemory>
+    requires some { 1 ≤ passes }
+    requires few { passes ≤ most_passes }
+    ensures shape { IfOk result (λ r. (identity_of r.0).shape ≡ shape_opened trees.Range (new_sheet 3) passes 8) }
+    ensures pen { IfOk result (λ r. IsPenOf (identity_of r.0) r.1 × IsAlone r.1 × (pen_in r.1 ≡ record (new_pen (identity_of r.0).shape (new_sheet 3).tree) { dealt = passes })) }
+    ensures of { IfOk result (λ r. All (IsPassOf (identity_of r.0)) r.2.items) }
+{
+    let mut rows = PlainRows::new(alloc, 3)?;
+    MtTable::make(alloc, Kind::Range, &mut rows, passes, 8)
+}
+
+/// The last pass that is left.
+fn last_pass(table: &MtTable, passes: &mut Vec<Pass>) -> Result<Pass, Fail>
+    requires { All (IsPassOf (identity_of table.now)) passes.old.items }
+    ensures rest { All (IsPassOf (identity_of table.now)) passes.new.items }
+    ensures pass { IfOk result (IsPassOf (identity_of table.now)) }
+{
+    match passes.pop() {
+        Some(pass) => Ok(pass),
+        None => Err("a pass is missing".into()),
+    }
+}
+
+/// Works on new rows: a call that drafts a word and changes nothing, and another that does not even that.
+fn work<W: Writer>(rt: &impl Abort, table: &MtTable, pen: Pen, pass: Pass)
+    requires table { identity_of table.now ≡ W.table }
+    requires turn { turn_seat pass ≡ W.turn }
+    requires shape { (identity_of table.now).shape ≡ shape_opened trees.Range (new_sheet 3) 1 8 }
+    requires pen { IsPenOf (identity_of table.now) pen }
+    requires alone { IsAlone pen }
+    requires new { pen_in pen ≡ record (new_pen (identity_of table.now).shape (new_sheet 3).tree) { dealt = 1 } }
+    requires pass { IsPassOf (identity_of table.now) pass }
+{
+    let mut rows: PenRows<'_, W> = PenRows::new(table, pen, pass);
+    assert_eq!(rt; rows.size(), 3);
+    assert_eq!(rt; rows.width(), Width::Long);
+    assert_eq!(rt; rows.begin(), 1);
+    rows.draft(17, 5, 4096);
+    assert_eq!(rt; rows.load(17, 5), 4096);
+    assert_eq!(rt; rows.load(18, 5), 0);
+    rows.finish(&Call::Erase { index: 5 }, &Reply::None);
+    assert_eq!(rt; rows.begin(), 2);
+    assert_eq!(rt; rows.root(), 0);
+    rows.finish(&Call::Clear, &Reply::Ok);
+    let _ = rows.end();
+}
+
+#[test]
+fn rows_of_a_table(rt: HostRuntime) -> Result<(), Fail> {
+    let (table, pen, mut passes) = table_of(rt.alloc(), 1)?;
+    let pass = last_pass(&table, &mut passes)?;
+    work::<Brand>(&rt, &table, pen, pass);
+    Ok(())
+}
+
+/// Opens the pass's section at the number of calls that have ended.
+fn open<L: Ledger>(blank: Blank, table: &MtTable, pass: &mut Pass)
+    requires name { blank.name ≡ L.name }
+    requires parts { blank.parts ≡ L.parts }
+    requires some { 0 < blank.parts }
+    requires pass { IsPassOf (identity_of table.now) pass.old }
+    ensures { IsPassOf (identity_of table.now) pass.new }
+{
+    let mut steps = Steps::<L>::new(blank);
+    let epoch = table.load_commits(pass, &mut steps);
+    table.open_section(pass, epoch, &mut steps);
+}
+
+fn close<L: Ledger>(blank: Blank, table: &MtTable, pass: &mut Pass)
+    requires name { blank.name ≡ L.name }
+    requires parts { blank.parts ≡ L.parts }
+    requires some { 0 < blank.parts }
+    requires pass { IsPassOf (identity_of table.now) pass.old }
+    ensures { IsPassOf (identity_of table.now) pass.new }
+{
+    let mut steps = Steps::<L>::new(blank);
+    table.close_section(pass, &mut steps);
+}
+
+/// A scan, with the pen and the pass that made it.
+fn scanned<W: Writer>(table: &MtTable, pen: Pen, pass: Pass) -> (Scan, Pen, Pass)
+    requires table { identity_of table.now ≡ W.table }
+    requires turn { turn_seat pass ≡ W.turn }
+    requires opens { OpensSmall (identity_of table.now).shape }
+    requires pen { IsPenOf (identity_of table.now) pen }
+    requires alone { IsAlone pen }
+    requires idle { (pen_in pen).in_flight ≡ false }
+    requires dealt { (pen_in pen).dealt ≡ (identity_of table.now).shape.passes }
+    requires pass { IsPassOf (identity_of table.now) pass }
+    ensures pen { IsPenOf (identity_of table.now) result.1 }
+    ensures alone { IsAlone result.1 }
+    ensures idle { (pen_in result.1).in_flight ≡ false }
+    ensures dealt { (pen_in result.1).dealt ≡ (identity_of table.now).shape.passes }
+    ensures pass { IsPassOf (identity_of table.now) result.2 }
+{
+    let mut rows: PenRows<'_, W> = PenRows::new(table, pen, pass);
+    let scan = rows.scan();
+    let (pen, pass) = rows.end();
+    (scan, pen, pass)
+}
+
+#[test]
+fn a_scan_finds_who_reads(rt: HostRuntime) -> Result<(), Fail> {
+    let (table, pen, mut passes) = table_of(rt.alloc(), 3)?;
+    let mut last = last_pass(&table, &mut passes)?;
+    let mut middle = last_pass(&table, &mut passes)?;
+    let pass = last_pass(&table, &mut passes)?;
+    open::<Brand>(Blank::new(1), &table, &mut last);
+    let (scan, pen, pass) = scanned::<Brand>(&table, pen, pass);
+    let by = |pass| Some(Holder { pass, epoch: 0 });
+    assert_eq!(rt;
+        scan,
+        Scan {
+            least: 0,
+            by: by(2)
+        }
+    );
+    open::<Brand>(Blank::new(1), &table, &mut middle);
+    let (scan, pen, pass) = scanned::<Brand>(&table, pen, pass);
+    assert_eq!(rt;
+        scan,
+        Scan {
+            least: 0,
+            by: by(1)
+        }
+    );
+    close::<Brand>(Blank::new(1), &table, &mut middle);
+    close::<Brand>(Blank::new(1), &table, &mut last);
+    let (scan, ..) = scanned::<Brand>(&table, pen, pass);
+    assert_eq!(rt;
+        scan,
+        Scan {
+            least: u64::MAX,
+            by: None
+        }
+    );
+    Ok(())
+}
