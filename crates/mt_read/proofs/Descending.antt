@@ -1,0 +1,184 @@
+-- How a walk comes from a row to the one below.
+use Rattle.std.proofs.Common.{◌≡◌, ◌≢◌, ℕ, zero, suc, ◌+◌, ◌<◌, ◌≤◌, List, [], ◌∷◌, length, Some, refl, sym, ap, ◌∙◌, subst, arith}
+use Rattle.std.specs.List.{slice_get}
+use mathlib.Core.Option.{some}
+use lib.ListN.{get_elem?}
+use Rattle.std.proofs.lemmas.Option.{slice_get_within}
+use Rattle.mt_base.specs.declared.kinds.Kind.{Kind}
+use Rattle.mt_base.specs.declared.kinds.Kind.TheVariants as trees
+use Rattle.mt_base.specs.declared.widths.Width.{Width}
+use Rattle.mt_base.specs.declared.widths.Width.TheVariants.{Long}
+use Rattle.mt_base.specs.Width.{greatest_of, kind_width}
+use Rattle.mt_base.proofs.Lists.{get_parts}
+use Rattle.mt_layout.specs.declared.names.RowKind.{RowKind}
+use Rattle.mt_layout.specs.declared.names.RowKind.TheVariants.{Leaf, Inner, Gapped}
+use Rattle.mt_layout.specs.declared.spans.Span.{Span}
+use Rattle.mt_layout.specs.Columns.{slot_column}
+use Rattle.mt_layout.specs.Rows.{named_kind, row_in}
+use Rattle.mt_layout.specs.Sizes.{slots_of}
+use Rattle.mt_layout.specs.Spans.{Fills}
+use Rattle.mt_layout.proofs.SpanLists.{fills_le, fills_split}
+use Rattle.mt_rows.specs.Laws.{kind_at}
+use Rattle.mt_rows.specs.Spans.{inner_kind}
+use Rattle.mt_life.specs.declared.views.Held.{Held}
+use Rattle.mt_rule.specs.declared.views.PassPart.{PassPart}
+use Rattle.mt_rule.specs.declared.views.Shape.{Shape}
+use Rattle.mt_rule.specs.Places.{column_at}
+use Rattle.mt_rule.specs.Sections.{Comes, LoadedChild, LoadedEntry, LoadedRootRow, LoadedSlot, behind_first, floor_or, IsAt, Reads, here, kind_of, slots_in, spans_here, with_seen}
+use Rattle.mt_read.specs.declared.descent.Row.{Row}
+use Rattle.mt_read.specs.declared.descent.Place.{Place}
+use Rattle.mt_read.specs.Walks.{GoesOn, IsOn, IsOnLeaf, IsPlaceIn, IsUnder, SeesMore}
+use Rattle.mt_life.proofs.Slots.{span_in_slot}
+use Rattle.mt_life.specs.Holding.{copy_of}
+use Rattle.mt_read.proofs.Finding.{begins_on, count_is, slots_counted}
+
+-- ---- leaves and inner rows
+
+inner_kind_is : (kind : Kind) → inner_kind kind ≢ Leaf
+inner_kind_is trees.Range is = absurd (cc)
+inner_kind_is trees.Alloc is = absurd (cc)
+
+leaf_by : (kind : Kind) (level : ℕ) → kind_at kind level ≡ Leaf → level ≡ 0
+leaf_by kind zero is = refl
+leaf_by kind (suc level) is = absurd (inner_kind_is kind is)
+
+pub leaf_level : (q : PassPart) (row : Row) → IsOn q row → row.kind ≡ Leaf → (here q).extent.level ≡ 0
+leaf_level q row on leaf = leaf_by q.shape.kind (here q).extent.level (sym on.kind ∙ leaf)
+
+pub inner_level : (q : PassPart) (row : Row) → IsOn q row → row.kind ≢ Leaf → (here q).extent.level ≢ 0
+inner_level q row on inner none = inner (on.kind ∙ ap (kind_at q.shape.kind) none)
+
+-- ---- the slot's column
+
+pub column_of_slot : (q : PassPart) (row : Row) (place : Place) (shape : Shape) (n : ℕ) (w : Width) → IsOn q row → q.shape ≡ shape → w ≡ kind_width shape.kind → n ≡ slots_of w row.kind → n + place.slot ≡ slot_column (slots_in q (here q)) place.slot
+column_of_slot q row place shape n w on same wide count = ap (λ (m : ℕ). m + place.slot) (slots_counted q row on n w (wide ∙ ap (λ (s : Shape). kind_width s.kind) (sym same)) count)
+
+-- a place's slot, as a load of it has it
+pub slot_is : (q : PassPart) (row : Row) (place : Place) (shape : Shape) (n : ℕ) (w : Width) → IsOn q row → IsPlaceIn q place → q.shape ≡ shape → w ≡ kind_width shape.kind → n ≡ slots_of w row.kind
+    → (i : ℕ) × (n + place.slot ≡ slot_column (slots_in q (here q)) i) × (i < length (spans_here q (here q)))
+slot_is q row place shape n w on is same wide count = (
+  place.slot,
+  column_of_slot q row place shape n w on same wide count,
+  slice_get_within (spans_here q (here q)) place.slot _ is.stands,
+)
+
+pub few_slots : (w : Width) (kind : RowKind) → slots_of w kind ≤ 16
+few_slots Long Leaf = omega arith
+few_slots Long Inner = omega arith
+few_slots Long Gapped = omega arith
+
+-- and it is a column's number
+pub slot_fits : (q : PassPart) (row : Row) (place : Place) (shape : Shape) (n : ℕ) (w : Width) → IsOn q row → IsPlaceIn q place → q.shape ≡ shape → w ≡ kind_width shape.kind → n ≡ slots_of w row.kind → n + place.slot < 32
+slot_fits q row place shape n w on is same wide count =
+    let used = (span_in_slot q.shape.kind (copy_of (here q)) (here q).row place.slot (here q).extent _ is.stands).0 in
+    let counted = count_is q row on shape n w same wide count in
+    let few = few_slots (here q).width (kind_of q (here q)) in
+    omega arith
+
+-- ---- a place lies within its row
+
+pub span_within : (lo hi i : ℕ) (xs : List Span) (x : Span) → Fills lo hi xs → slice_get xs i ≡ Some x → (lo ≤ x.first) × (x.first ≤ x.last) × (x.last < hi)
+span_within lo hi i xs x fills at =
+    let parts = get_parts xs i x at in
+    let split = fills_split lo hi parts.0 x parts.1 (subst (Fills lo hi) parts.2 fills) in
+    let low = fills_le lo x.first parts.0 split.0 in let high = fills_le (x.last + 1) hi parts.1 split.2 in
+    (low, split.1, omega arith)
+
+pub place_within : (q : PassPart) (row : Row) (place : Place) → IsOn q row → IsPlaceIn q place → ((here q).extent.first ≤ place.first) × (place.first ≤ place.last) × (place.last ≤ (here q).extent.last)
+place_within q row place on is =
+    let facts = span_within (here q).extent.first ((here q).extent.last + 1) place.slot (spans_here q (here q)) _ on.shape.fills is.stands in
+    let last = facts.2 in
+    (facts.0, facts.1, omega arith)
+
+-- ---- the child
+
+-- the row that a name was read as
+pub record IsNamed (name min max : ℕ) (row : Row) : Type 0 where
+  pub number : row.number ≡ row_in name
+  pub kind : Some row.kind ≡ named_kind name
+  pub min_is : row.min ≡ min
+  pub max_is : row.max ≡ max
+
+pub on_come : (q : PassPart) (row : Row) (name since min max : ℕ) → IsAt q → Comes q (here q) name since → IsNamed name min max row → (here q).extent.first ≡ min → (here q).extent.last ≡ max → max ≤ greatest_of q.shape.kind → IsOn q row
+on_come q row name since min max at comes named first last within =
+    let met = comes.met in
+    record {
+      at = at;
+      number = named.number ∙ sym comes.row;
+      kind = (let same : Some row.kind ≡ Some (kind_of q (here q)) = named.kind ∙ comes.named in cc);
+      min = named.min_is ∙ sym first;
+      max = named.max_is ∙ sym last;
+      within = omega arith;
+      has = comes.has;
+      old = comes.old;
+      met = met;
+      width = comes.width;
+      shape = comes.shape;
+    }
+
+module _ (q q' : PassPart) (row : Row) (place : Place) (col name : ℕ) (on : IsOn q row) (is : IsPlaceIn q place) (column : col ≡ slot_column (slots_in q (here q)) place.slot)
+    (inner : row.kind ≢ Leaf) (told : LoadedSlot (column_at (kind_width q.shape.kind) row.number col) name q q') where
+  pub comes_to : LoadedChild (column_at (kind_width q.shape.kind) row.number col) name q q'
+  comes_to = told.child (inner_level q row on inner)
+
+  pub child_on : (child : Row) → IsNamed name place.first place.last child → IsOn q' child
+  child_on child named =
+      let word : column_at (kind_width q.shape.kind) row.number col ≡ column_at (kind_width q.shape.kind) (here q).row (slot_column (slots_in q (here q)) place.slot) = (λ i. column_at (kind_width q.shape.kind) (on.number i) (column i)) in
+      let covers = comes_to.covers place.slot _ word is.stands in
+      let ends = (place_within q row place on is).2 in let within = on.within in
+      let shape : q'.shape ≡ q.shape = ap (λ (z : PassPart). z.shape) comes_to.reads.is in
+      on_come q' child name (here q).since place.first place.last comes_to.at comes_to.comes named covers.0 covers.1 (subst (λ (s : Shape). place.last ≤ greatest_of s.kind) (sym shape) (omega arith))
+
+-- ---- going on
+
+pub goes_by : (q q' part : PassPart) → Reads q q' part → part ≡ record q { seen = q'.seen; floor = part.floor; held = part.held; risen = part.risen } → q.risen ≤ part.risen
+    → ((x : Held) → IsUnder q x → IsUnder part x) → GoesOn q q'
+goes_by q q' part r same risen under = record {
+  is = r.is ∙ (same ∙ (λ i. record q { seen = q'.seen; floor = (sym r.is i).floor; held = (sym r.is i).held; risen = (sym r.is i).risen }));
+  seen = r.seen;
+  risen = subst (λ (z : PassPart). q.risen ≤ z.risen) (sym r.is) risen;
+  under = λ x u. subst (λ (z : PassPart). IsUnder z x) (sym r.is) (under x u);
+}
+
+pub goes_sees : (q q' : PassPart) → SeesMore q q' → GoesOn q q'
+goes_sees q q' s = goes_by q q' (with_seen q q'.seen) s refl (omega arith) (λ x u. u)
+
+pub goes_on : (q q' q'' : PassPart) → GoesOn q q' → GoesOn q' q'' → GoesOn q q''
+goes_on q q' q'' s t = record {
+  is = t.is ∙ ap (λ (z : PassPart). record z { seen = q''.seen; floor = q''.floor; held = q''.held; risen = q''.risen }) s.is;
+  seen = begins_on q.seen q'.seen q''.seen s.seen t.seen;
+  risen = (let less = s.risen in let more = t.risen in omega arith);
+  under = λ x u. t.under x (s.under x u);
+}
+
+pub here_more : (q q' : PassPart) → SeesMore q q' → here q' ≡ here q
+here_more q q' s = ap here s.is
+
+pub goes_down : (q q' : PassPart) (word found : ℕ) → LoadedChild word found q q' → GoesOn q q'
+goes_down q q' word found told = goes_by q q' (record (with_seen q q'.seen) { held = here q' ∷ q.held }) told.reads refl (omega arith) (λ x u. (suc u.0, u.1))
+
+pub goes_root : (q q' : PassPart) (found : ℕ) → LoadedRootRow found q q' → GoesOn q q'
+goes_root q q' found told = goes_by q q' (record (with_seen q q'.seen) { floor = floor_or q.floor (length q'.seen); held = here q' ∷ q.held }) told.reads refl (omega arith) (λ x u. (suc u.0, u.1))
+
+behind_held : (held : List Held) (x : Held) (j : ℕ) → get_elem? held (suc j) ≡ some x → get_elem? (behind_first held) j ≡ some x
+behind_held [] x j at = absurd (cc)
+behind_held (y ∷ held) x j at = at
+
+pub goes_entry : (q q' : PassPart) (word found : ℕ) → LoadedEntry word found q q' → GoesOn q q'
+goes_entry q q' word found told = goes_by q q' (record (with_seen q q'.seen) { held = here q' ∷ behind_first q.held }) told.reads refl (omega arith) (λ x u. (u.0, behind_held q.held x u.0 u.1))
+
+-- the row that the section was at is below the root's then
+pub root_under : (q q' : PassPart) (found : ℕ) → LoadedRootRow found q q' → IsAt q → IsUnder q' (here q)
+root_under q q' found told at = subst (λ (z : PassPart). IsUnder z (here q)) (sym told.reads.is) (0, at)
+
+-- the root row covers every index
+pub root_on : (q q' : PassPart) (name top : ℕ) (row : Row) → LoadedRootRow name q q' → top ≡ greatest_of q.shape.kind → IsNamed name 0 top row → IsOn q' row
+root_on q q' name top row told all named =
+    let shape : q'.shape ≡ q.shape = ap (λ (z : PassPart). z.shape) told.reads.is in
+    let end : top ≡ greatest_of q'.shape.kind = all ∙ ap (λ (s : Shape). greatest_of s.kind) (sym shape) in
+    on_come q' row name (length q'.seen) 0 top told.at told.comes named told.first (told.last ∙ sym end) (omega arith)
+
+-- the greatest index of a tree is a number of the machine, and every such number is an index
+pub greatest_fits : (kind : Kind) → greatest_of kind ≡ 18446744073709551615
+greatest_fits trees.Range = refl
+greatest_fits trees.Alloc = refl

@@ -1,0 +1,149 @@
+-- How a slot is found in the row that a section is at.
+use Rattle.std.proofs.Common.{◌≡◌, ◌≢◌, ℕ, suc, ◌+◌, ◌-◌, ◌<◌, ◌≤◌, List, [], ◌∷◌, ◌++◌, length, Some, refl, sym, ap, ◌∙◌, subst, arith, append_assoc, ◌*◌}
+use Rattle.std.specs.Prelude.{slice_index}
+use Rattle.std.specs.List.{slice_get}
+use Rattle.std.proofs.lemmas.List.{length-append}
+use Rattle.mt_base.specs.declared.widths.Width.{Width}
+use Rattle.mt_base.specs.Passes.{Begins}
+use Rattle.mt_base.specs.Width.{kind_width, columns}
+use Rattle.mt_layout.specs.declared.names.RowKind.{RowKind}
+use Rattle.mt_layout.specs.declared.spans.Span.{Span}
+use Rattle.mt_layout.specs.Columns.{pivot_column, items_from}
+use Rattle.mt_layout.specs.Sizes.{slots_of, gaps_of}
+use Rattle.mt_layout.specs.Spans.{Fills, spans_from}
+use Rattle.mt_life.specs.declared.views.Held.{Held}
+use Rattle.mt_life.specs.Holding.{copy_of}
+use Rattle.mt_path.specs.Paths.{slot_for, span_at}
+use Rattle.mt_path.proofs.Places.{at_slot, at_get}
+use Rattle.mt_path.proofs.Searches.{Passed, Ends, passed_more, ends_at_pivot, ends_at_last}
+use Rattle.mt_rows.specs.Spans.{base_of}
+use Rattle.mt_rule.specs.declared.passes.Pass.{Pass}
+use Rattle.mt_rule.specs.declared.views.Moment.{Moment}
+use Rattle.mt_rule.specs.declared.views.PassPart.{PassPart}
+use Rattle.mt_rule.specs.declared.views.Shape.{Shape}
+use Rattle.mt_rule.specs.Places.{column_at}
+use Rattle.mt_rule.specs.Sections.{LoadedPivot, Reads, here, kind_of, slots_in, spans_here, with_seen}
+use Rattle.mt_rule.specs.Tokens.{Identity, IsPassOf, part_of}
+use Rattle.mt_read.specs.declared.descent.Row.{Row}
+use Rattle.mt_read.specs.declared.descent.Place.{Place}
+use Rattle.mt_read.specs.Walks.{IsOn, IsPlaceIn, SeesMore}
+
+-- ---- beginnings
+
+pub begins_on : {A : Type 0} (xs ys zs : List A) → Begins xs ys → Begins ys zs → Begins xs zs
+begins_on xs ys zs b c = (b.0 ++ c.0, c.1 ∙ (ap (λ (l : List _). l ++ c.0) b.1 ∙ append_assoc xs b.0 c.0))
+
+pub begins_length : {A : Type 0} (xs ys : List A) → Begins xs ys → length xs ≤ length ys
+begins_length xs ys b = let long = ap length b.1 ∙ length-append xs b.0 in omega arith
+
+-- ---- the pass has only seen more
+
+pub sees_on : (q q' q'' : PassPart) → SeesMore q q' → SeesMore q' q'' → SeesMore q q''
+sees_on q q' q'' s t = record { is = t.is ∙ ap (λ (z : PassPart). with_seen z q''.seen) s.is; seen = begins_on q.seen q'.seen q''.seen s.seen t.seen }
+
+pub on_more : (q q' : PassPart) (row : Row) → SeesMore q q' → IsOn q row → IsOn q' row
+on_more q q' row s on =
+    let long = begins_length q.seen q'.seen s.seen in let met = on.met in
+    subst (λ (z : PassPart). IsOn z row) (sym s.is) (record {
+      at = on.at;
+      number = on.number;
+      kind = on.kind;
+      min = on.min;
+      max = on.max;
+      within = on.within;
+      has = on.has;
+      old = on.old;
+      met = omega arith;
+      width = on.width;
+      shape = on.shape;
+    })
+
+pub place_more : (q q' : PassPart) (place : Place) → SeesMore q q' → IsPlaceIn q place → IsPlaceIn q' place
+place_more q q' place s is = subst (λ (z : PassPart). IsPlaceIn z place) (sym s.is) (record { word = is.word; stands = is.stands })
+
+-- ---- the row's columns
+
+pub shape_is : (t : Identity) (p : Pass) → IsPassOf t p → (part_of p).shape ≡ t.shape
+shape_is t p of = ap (λ (i : Identity). i.shape) of.of
+
+module _ (q : PassPart) (row : Row) (on : IsOn q row) where
+  abbrev x : Held
+  x = here q
+
+  -- so many slots as the row's words have
+  pub slots_are : slots_in q x ≡ slots_of x.width (kind_of q x)
+  slots_are = ap (λ (w : Width). slots_of w (kind_of q x)) (sym on.width)
+
+  -- so many as the code counts
+  pub slots_counted : (n : ℕ) (w : Width) → w ≡ kind_width q.shape.kind → n ≡ slots_of w row.kind → n ≡ slots_in q x
+  slots_counted n w wide count = count ∙ (λ i. slots_of (wide i) (on.kind i))
+
+  pub column_is : (col : ℕ) → column_at (kind_width q.shape.kind) row.number col ≡ base_of (copy_of x) x.row + col
+  column_is col = (λ i. columns (sym on.width i) * on.number i + col)
+
+-- The slots below this one do not hold the index, and it begins at `first`.
+abbrev pub PassedBy : PassPart → ℕ → ℕ → ℕ → Type 0
+PassedBy q index slot first = let x = here q in Passed (slots_of x.width (kind_of q x)) (gaps_of x.width (kind_of q x)) x.copy (base_of (copy_of x) x.row) x.extent.last x.extent.first index slot first
+
+module _ (q : PassPart) (index : ℕ) where
+  abbrev y : Held
+  y = here q
+
+  abbrev slots : ℕ
+  slots = slots_of y.width (kind_of q y)
+
+  abbrev gaps : ℕ
+  gaps = gaps_of y.width (kind_of q y)
+
+  abbrev base : ℕ
+  base = base_of (copy_of y) y.row
+
+  pub none_passed : PassedBy q index 0 y.extent.first
+  none_passed =
+      let all : slots ≡ slots - 0 = omega arith in
+      let spans : ℕ → List Span = λ n. spans_from y.extent.first (items_from slots gaps y.copy base y.extent.last n 0) in
+      let same : spans slots ≡ spans (slots - 0) = ap spans all in
+      record {
+        slot = (let slot : slot_for (spans slots) index ≡ slot_for (spans (slots - 0)) index = ap (λ (l : List Span). slot_for l index) same in slot ∙ none_more (slot_for (spans (slots - 0)) index));
+        span = λ k. (λ i. span_at (same i) (sym (none_more k) i));
+      }
+    where
+      none_more : (n : ℕ) → n ≡ 0 + n
+      none_more n = omega arith
+
+  pub one_passed : (slot first pivot : ℕ) → slot + 1 < slots → pivot ≡ slice_index y.copy (base + pivot_column slot) → pivot < index → index ≤ y.extent.last → PassedBy q index slot first → PassedBy q index (slot + 1) (pivot + 1)
+  one_passed slot first pivot inner is past to passed =
+      subst (λ (n : ℕ). PassedBy q index (slot + 1) (n + 1)) (sym is) (passed_more slots gaps y.copy base y.extent.last y.extent.first index slot first inner (subst (λ (n : ℕ). n < index) is past) to passed)
+
+  place_of : (slot first last : ℕ) → Fills y.extent.first (y.extent.last + 1) (spans_here q y) → y.extent.first ≤ index → index ≤ y.extent.last
+      → Ends slots gaps y.copy base y.extent.last y.extent.first index slot first last → IsPlaceIn q (record { slot = slot; first = first; last = last })
+  place_of slot first last fills from to ends =
+      let all = spans_here q y in
+      let at = at_get y.extent.first (y.extent.last + 1) all index (span_at all (slot_for all index)) (at_slot y.extent.first (y.extent.last + 1) all index fills from (omega arith)) in
+      let here : slice_get all slot ≡ Some (span_at all slot) = subst (λ (n : ℕ). slice_get all n ≡ Some (span_at all n)) (sym ends.slot) at in
+      record {
+        word = (span_at all slot).word;
+        stands = here ∙ (λ i. Some (record { first = sym ends.from i; last = sym ends.to i; word = (span_at all slot).word }));
+      }
+
+  pub found_at_pivot : (slot first pivot : ℕ) → Fills y.extent.first (y.extent.last + 1) (spans_here q y) → slot + 1 < slots → pivot ≡ slice_index y.copy (base + pivot_column slot) → y.extent.first ≤ index → index ≤ pivot → index ≤ y.extent.last → PassedBy q index slot first
+      → IsPlaceIn q (record { slot = slot; first = first; last = pivot })
+  found_at_pivot slot first pivot fills inner is from within to passed =
+      place_of slot first pivot fills from to (subst (λ (n : ℕ). Ends slots gaps y.copy base y.extent.last y.extent.first index slot first n) (sym is)
+      (ends_at_pivot slots gaps y.copy base y.extent.last y.extent.first index slot first inner (subst (λ (n : ℕ). index ≤ n) is within) passed))
+
+  pub found_at_last : (slot first : ℕ) → Fills y.extent.first (y.extent.last + 1) (spans_here q y) → slot + 1 ≡ slots → y.extent.first ≤ index → index ≤ y.extent.last → PassedBy q index slot first
+      → IsPlaceIn q (record { slot = slot; first = first; last = y.extent.last })
+  found_at_last slot first fills last from to passed = place_of slot first y.extent.last fills from to (ends_at_last slots gaps y.copy base y.extent.last y.extent.first index slot first last to passed)
+
+-- ---- as the code finds it
+
+module _ (q : PassPart) (row : Row) (on : IsOn q row) where
+  pub pivot_is : (q₁ q₂ : PassPart) (slot found : ℕ) → SeesMore q q₁ → LoadedPivot (column_at (kind_width q₁.shape.kind) row.number (1 + slot)) found q₁ q₂
+      → found ≡ slice_index (here q).copy (base_of (copy_of (here q)) (here q).row + pivot_column slot)
+  pivot_is q₁ q₂ slot found s told =
+      told.found_is ∙ ((λ i. slice_index (here (s.is i)).copy (column_at (kind_width (s.is i).shape.kind) row.number (1 + slot))) ∙ ap (slice_index (here q).copy) (column_is q row on (1 + slot)))
+
+  -- the code's number of slots
+  pub count_is : (shape : Shape) (n : ℕ) (w : Width) → q.shape ≡ shape → w ≡ kind_width shape.kind → n ≡ slots_of w row.kind → n ≡ slots_of (here q).width (kind_of q (here q))
+  count_is shape n w same wide count = slots_counted q row on n w (wide ∙ ap (λ (s : Shape). kind_width s.kind) (sym same)) count ∙ slots_are q row on

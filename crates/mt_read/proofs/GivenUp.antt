@@ -1,0 +1,43 @@
+-- What is left of a read that was given up, and a bound of what begins behind an index.
+use Rattle.std.proofs.Common.{◌≡◌, ℕ, ◌+◌, ◌<◌, ◌≤◌, List, [], ◌∷◌, length, map, Option, Some, None, refl, sym, ap, ◌∙◌, subst, arith}
+use Rattle.std.proofs.lemmas.List.{length-map}
+use Rattle.mt_base.specs.declared.kinds.Kind.{Kind}
+use Rattle.mt_base.specs.declared.ranges.Range.{Range}
+use Rattle.mt_base.specs.declared.calls.Query.TheVariants.{Next}
+use Rattle.mt_base.specs.Map.{IsMap}
+use Rattle.mt_base.specs.Passes as known
+use Rattle.mt_base.specs.Width.{greatest_of}
+use Rattle.mt_rule.specs.declared.views.PassPart.{PassPart}
+use Rattle.mt_rule.specs.Seats.{known_by, record_of}
+use Rattle.mt_rule.specs.Sections.{moment_seen}
+use Rattle.mt_rule.specs.Tokens.{Identity, tree_in}
+use Rattle.mt_read.specs.Answers.{Answers, within}
+use Rattle.mt_read.specs.Neighbours.{WasMoved}
+use Rattle.mt_read.specs.Walks.{GoesOn}
+use Rattle.mt_read.specs.Windows.{Began, Ended, HasRead}
+use Rattle.mt_read.proofs.Finding.{begins_length}
+use Rattle.mt_read.proofs.NextAnswers.{next_within}
+use Rattle.mt_read.proofs.Windows.{has_read}
+
+pub next_bounded : (q : PassPart) (kind : Kind) (least index max : ℕ) (value : Option Range) → q.shape.kind ≡ kind → Answers q least (Next index (greatest_of kind)) value → Answers q least (Next index max) (within 0 max value)
+next_bounded q kind least index max value same a = record {
+  k = a.k;
+  low = a.low;
+  high = a.high;
+  map = a.map;
+  is = ap (within 0 max) a.is ∙ next_within kind (moment_seen q a.k).ranges index max (subst (λ (k : Kind). IsMap k (moment_seen q a.k).ranges) same a.map);
+}
+
+pub was_moved : (t : Identity) (q q₁ q₂ q₃ : PassPart) (lo hi : ℕ) → q.shape ≡ t.shape → Began lo q q₁ → GoesOn q₁ q₂ → Ended hi q₂ q₃ → length q₁.seen + 1 ≤ q₂.risen → known.IsSound (tree_in t) (known_by q₃) → WasMoved (tree_in t) (known_by q) lo hi (known_by q₃)
+was_moved t q q₁ q₂ q₃ lo hi of began goes ended risen sound =
+    let h = has_read t q q₁ q₂ q₃ lo hi of began goes ended in
+    let begun : q₂.begun ≡ q.begun = ap (λ (z : PassPart). z.begun) goes.is ∙ ap (λ (z : PassPart). z.begun) began.is in
+    let before = ended.before in let most = began.most in let least = began.least in let top = ended.risen in
+    let first = begins_length q.seen q₁.seen began.seen in let long = length-map q.seen record_of in
+    subst (λ (z : known.Pass). WasMoved (tree_in t) (known_by q) lo hi z) (sym h.pass) (record {
+      grows = record { number = refl; seen = h.seen; mine = refl; opened = (lo ∷ [], refl); begun = omega arith; ended = began.before };
+      floor = omega arith;
+      before = began.before;
+      later = omega arith;
+      sound = subst (λ (z : known.Pass). known.IsSound (tree_in t) z) h.pass sound;
+    })

@@ -1,0 +1,87 @@
+-- What is known of a kept leaf, from step to step.
+use Rattle.std.proofs.Common.{◌≡◌, ◌≢◌, ◌⊎◌, ℕ, suc, ◌+◌, ◌<◌, ◌≤◌, List, length, Option, Some, None, refl, sym, ap, ◌∙◌, subst, inl, inr, arith, append-nil, []}
+use Rattle.std.specs.Prelude.{IfSome}
+use mathlib.Core.Option.{some}
+use lib.ListN.{get_elem?}
+use Rattle.mt_base.specs.declared.ranges.Range.{Range}
+use Rattle.mt_base.specs.declared.calls.Query.{Query}
+use Rattle.mt_base.specs.Call.{answer}
+use Rattle.mt_base.specs.Map.{IsMap}
+use Rattle.mt_base.specs.Passes.{Begins}
+use Rattle.mt_layout.specs.Rows.{dead_mark}
+use Rattle.mt_base.specs.Width.{kind_width}
+use Rattle.mt_life.specs.declared.views.Held.{Held}
+use Rattle.mt_life.specs.declared.views.Moment as life
+use Rattle.mt_rule.specs.declared.views.Moment.{Moment}
+use Rattle.mt_rule.specs.declared.views.PassPart.{PassPart}
+use Rattle.mt_rule.specs.declared.views.Shape.{Shape}
+use Rattle.mt_rule.specs.Places.{column_at}
+use Rattle.mt_rule.specs.Sections.{IsAt, LoadedParent, ParentTells, here, moment_seen, with_seen}
+use Rattle.mt_read.specs.declared.descent.Row.{Row}
+use Rattle.mt_read.specs.declared.cursor.KeptLeaf.{KeptLeaf}
+use Rattle.mt_read.specs.Answers.{Answers, LeafAnswers}
+use Rattle.mt_read.specs.Cursors.{IsKept, IsOver, lo_of}
+use Rattle.mt_read.specs.Walks.{GoesOn, IsOnLeaf, IsUnder}
+use Rattle.mt_read.proofs.Finding.{begins_on, begins_length}
+use Rattle.mt_read.proofs.Descending.{goes_by, goes_on, goes_sees}
+use Rattle.mt_read.proofs.Moments.{moment_stays}
+
+-- ---- a pass of which nothing but numbers has changed
+
+module _ (q q' : PassPart) (seen : List Moment) (begun ended epoch risen : ℕ) (is : q' ≡ record q { seen = seen; begun = begun; ended = ended; epoch = epoch; risen = risen }) (more : length q.seen ≤ length seen) where
+  pub leaf_around : (leaf : Row) → IsOnLeaf q leaf → IsOnLeaf q' leaf
+  leaf_around leaf at = subst (λ (z : PassPart). IsOnLeaf z leaf) (sym is) (let on = at.on in let met = on.met in record {
+    on = record { at = on.at; number = on.number; kind = on.kind; min = on.min; max = on.max; within = on.within; has = on.has; old = on.old; met = omega arith; width = on.width; shape = on.shape };
+    level = at.level;
+  })
+
+  pub kept_around : (leaf : Option KeptLeaf) → IfSome leaf (IsKept q) → IfSome leaf (IsKept q')
+  kept_around None kept = tt
+  kept_around (Some k) kept = record { leaf = leaf_around k.leaf kept.leaf; lo = subst (λ (z : PassPart). k.lo ≤ (here z).since) (sym is) kept.lo }
+
+-- ---- the parent word
+
+-- the number of calls that the pass has seen before, and after: an answer of these is an answer still
+pub answers_later : (q q' : PassPart) (least : ℕ) (query : Query) (value : Option Range) → q'.shape ≡ q.shape → Begins q.seen q'.seen → Answers q least query value → Answers q' least query value
+answers_later q q' least query value shape b a =
+    let long = begins_length q.seen q'.seen b in let high = a.high in
+    let stays = moment_stays q q' a.k shape b a.high in
+    record {
+      k = a.k;
+      low = a.low;
+      high = omega arith;
+      map = subst (λ (s : Shape). IsMap s.kind (moment_seen q' a.k).ranges) (sym shape) (subst (λ (m : life.Moment). IsMap q.shape.kind m.ranges) (sym stays) a.map);
+      is = a.is ∙ ap (λ (m : life.Moment). answer m.ranges query) (sym stays);
+    }
+
+module _ (q q' : PassPart) (word found : ℕ) (told : LoadedParent word found q q') where
+  pub goes_parent : GoesOn q q'
+  goes_parent = goes_by q q' (record (with_seen q q'.seen) { risen = q'.risen }) told.reads refl told.risen (λ x u. u)
+
+  parent_shape : q'.shape ≡ q.shape
+  parent_shape = ap (λ (z : PassPart). z.shape) told.reads.is
+
+  pub leaf_parent : (leaf : Row) → IsOnLeaf q leaf → IsOnLeaf q' leaf
+  leaf_parent leaf at = leaf_around q q' q'.seen q.begun q.ended q.epoch q'.risen told.reads.is (begins_length q.seen q'.seen told.reads.seen) leaf at
+
+  pub parent_tells : (row : ℕ) → IsAt q → word ≡ column_at (kind_width q.shape.kind) row 0 → row ≡ (here q).row → ParentTells q' (here q) found
+  parent_tells row at is same = told.tells 0 (here q) at (is ∙ ap (λ (r : ℕ). column_at (kind_width q.shape.kind) r 0) same)
+
+  -- of a row that is held below
+  pub under_tells : (x : Held) → IsUnder q x → word ≡ column_at (kind_width q.shape.kind) x.row 0 → ParentTells q' x found
+  under_tells x under is = told.tells (suc under.0) x under.1 is
+
+  -- a leaf that is not found marked answers of all that was seen before
+  pub answers_live : (x : Held) (most : ℕ) (query : Query) (value : Option Range) → LeafAnswers q x query value → (here q).died ≡ None → most ≤ length q.seen → Answers q' most query value
+  answers_live x most query value a live le =
+      let now = a.now live in
+      answers_later q q' most query value parent_shape told.reads.seen
+      (record { k = a.answers.k; low = omega arith; high = a.answers.high; map = a.answers.map; is = a.answers.is })
+
+-- ---- a walk anew
+
+pub kept_anew : (q q' : PassPart) (kept : KeptLeaf) (lo : ℕ) → kept.lo ≡ lo → IsOnLeaf q' kept.leaf → lo ≤ length q.seen → length q.seen ≤ (here q').since → IsKept q' kept
+kept_anew q q' kept lo is at low since = record { leaf = at; lo = omega arith }
+
+pub nothing_goes : (q : PassPart) → GoesOn q q
+nothing_goes q = record { is = refl; seen = ([], sym (append-nil q.seen)); risen = omega arith; under = λ x u. u }

@@ -1,0 +1,14 @@
+pub mod Moments
+pub mod Beside
+pub mod Crossing
+pub mod Descending
+pub mod Finding
+pub mod GivenUp
+pub mod Keeping
+pub mod MapAnswers
+pub mod Reading
+pub mod NextAnswers
+pub mod SlotAnswers
+pub mod Standing
+pub mod Stepping
+pub mod Windows

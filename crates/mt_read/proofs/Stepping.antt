@@ -1,0 +1,82 @@
+-- What a step of a cursor makes of its pass.
+use Rattle.std.proofs.Common.{◌≡◌, ℕ, ◌+◌, ◌<◌, ◌≤◌, max, List, [], ◌∷◌, ◌++◌, length, map, Option, Some, None, refl, sym, ap, ◌∙◌, subst, arith, append-nil}
+use Rattle.std.specs.Prelude.{IfSome}
+use Rattle.std.proofs.lemmas.List.{length-map, map-append}
+use Rattle.mt_base.specs.declared.ranges.Range.{Range}
+use Rattle.mt_base.specs.declared.calls.Query.{Query}
+use Rattle.mt_base.specs.declared.calls.Query.TheVariants.{Find}
+use Rattle.mt_base.specs.Call.{answer}
+use Rattle.mt_base.specs.History.{map_at}
+use Rattle.mt_base.specs.Passes as known
+use Rattle.mt_rule.specs.declared.views.Moment.{Moment}
+use Rattle.mt_rule.specs.declared.views.PassPart.{PassPart}
+use Rattle.mt_rule.specs.declared.views.Shape.{Shape}
+use Rattle.mt_rule.specs.Seats.{known_by, record_of, records_of, tree_of}
+use Rattle.mt_rule.specs.Sections.{LoadedBegun, moment_seen}
+use Rattle.mt_rule.specs.Tokens.{Identity, tree_in}
+use Rattle.mt_read.specs.Cursors.{Resumed, epoch_or, opened_with, query_at}
+use Rattle.mt_read.specs.Walks.{GoesOn}
+use Rattle.mt_read.proofs.Finding.{begins_on, begins_length}
+use Rattle.mt_read.proofs.Windows.{begins_records}
+
+-- what the query at a place is
+pub asks_nothing : (m : List Range) (at : Option ℕ) (max : ℕ) → at ≡ None → None ≡ answer m (query_at at max)
+asks_nothing m at max none = ap (λ (o : Option ℕ). answer m (query_at o max)) (sym none)
+
+pub asks_there : (m : List Range) (at : Option ℕ) (index bound max : ℕ) → at ≡ Some index → bound ≡ max → answer m (Find index bound) ≡ answer m (query_at at max)
+asks_there m at index bound max some same = ap (λ (n : ℕ). answer m (Find index n)) same ∙ ap (λ (o : Option ℕ). answer m (query_at o max)) (sym some)
+
+opened_more : (epoch : Option ℕ) (opened : List ℕ) (lo : ℕ) → known.Begins opened (opened_with epoch opened lo)
+opened_more None opened lo = (lo ∷ [], refl)
+opened_more (Some epoch) opened lo = ([], sym (append-nil opened))
+
+module _ (t : Identity) (q q₁ q₂ q₃ : PassPart) (lo hi : ℕ) (epoch : Option ℕ) (of : q.shape ≡ t.shape) (standing : IfSome epoch (λ (e : ℕ). q.standing ≡ Some e)) (resumed : Resumed lo epoch q q₁) (goes : GoesOn q₁ q₂) (begun : LoadedBegun hi q₂ q₃) where
+  -- what the pass knows after it
+  abbrev after : PassPart
+  after = record q { seen = q₂.seen; opened = opened_with epoch q.opened lo; standing = Some (epoch_or epoch lo); begun = hi; ended = lo; epoch = lo; floor = q₂.floor; risen = q₂.risen; held = q₂.held }
+
+  middle : (e : Option ℕ) → IfSome e (λ (n : ℕ). q.standing ≡ Some n) → Resumed lo e q q₁
+      → q₂ ≡ record q { seen = q₂.seen; opened = opened_with e q.opened lo; standing = Some (epoch_or e lo); ended = lo; epoch = lo; floor = q₂.floor; risen = q₂.risen; held = q₂.held }
+  middle None standing r = goes.is ∙ ap (λ (z : PassPart). record z { seen = q₂.seen; floor = q₂.floor; held = q₂.held; risen = q₂.risen }) r.is
+  middle (Some n) standing r =
+      goes.is ∙ (ap (λ (z : PassPart). record z { seen = q₂.seen; floor = q₂.floor; held = q₂.held; risen = q₂.risen }) r.is
+      ∙ (λ i. record q { seen = q₂.seen; standing = standing i; ended = lo; epoch = lo; floor = q₂.floor; risen = q₂.risen; held = q₂.held }))
+
+  is_after : q₃ ≡ after
+  is_after = begun.is ∙ ap (λ (z : PassPart). record z { begun = hi }) (middle epoch standing resumed)
+
+  seen_all : known.Begins q.seen q₂.seen
+  seen_all = begins_on q.seen q₁.seen q₂.seen resumed.seen goes.seen
+
+  begun_low : q.begun ≤ hi
+  begun_low = let same : q₂.begun ≡ q.begun = ap (λ (z : PassPart). z.begun) (middle epoch standing resumed) in let low = begun.before in omega arith
+
+  pub read_step : (query : Query) (value : Option Range) (k : ℕ) → length q₁.seen ≤ k → k ≤ length q₂.seen → value ≡ answer (moment_seen q₂ k).ranges query → known.IsSound (tree_in t) (known_by q₃)
+      → (k : ℕ) × known.Read (tree_in t) (known_by q) lo hi k query value (known_by q₃)
+  read_step query value k low high is sound =
+      let most = resumed.most in let least = resumed.least in let top = begun.seen in
+      let first = begins_length q.seen q₁.seen resumed.seen in
+      let long = length-map q.seen record_of in let long₂ = length-map q₂.seen record_of in
+      let shape : q₂.shape ≡ t.shape = ap (λ (z : PassPart). z.shape) (middle epoch standing resumed) ∙ of in
+      (k, subst (λ (z : PassPart). known.Read (tree_in t) (known_by q) lo hi k query value (known_by z)) (sym is_after) (record {
+        grows = record {
+          number = refl;
+          seen = begins_records q.seen q₂.seen seen_all;
+          mine = refl;
+          opened = opened_more epoch q.opened lo;
+          begun = begun_low;
+          ended = resumed.before;
+        };
+        true = record {
+          from = omega arith;
+          to = omega arith;
+          made = omega arith;
+          answered = is ∙ ap (λ (s : Shape). answer (map_at (tree_of s q₂.seen) k) query) shape;
+        };
+        from = omega arith;
+        floor = omega arith;
+        before = resumed.before;
+        lo_known = omega arith;
+        hi_known = omega arith;
+        sound = subst (λ (z : PassPart). known.IsSound (tree_in t) (known_by z)) is_after sound;
+      }))

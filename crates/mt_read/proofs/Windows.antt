@@ -1,0 +1,93 @@
+-- What a section's beginning, a walk and its end make of a read.
+use Rattle.std.proofs.Common.{◌≡◌, ℕ, ◌+◌, ◌<◌, ◌≤◌, max, List, [], ◌∷◌, ◌++◌, length, map, Option, Some, None, refl, sym, ap, ◌∙◌, subst, arith}
+use Rattle.std.proofs.lemmas.List.{length-map, map-append}
+use Rattle.mt_base.specs.declared.ranges.Range.{Range}
+use Rattle.mt_base.specs.declared.calls.Query.{Query}
+use Rattle.mt_base.specs.declared.calls.Query.TheVariants.{Load, Find}
+use Rattle.mt_base.specs.Call.{answer}
+use Rattle.mt_base.specs.declared.kinds.Kind.{Kind}
+use Rattle.mt_base.specs.History.{map_at}
+use Rattle.mt_base.specs.Map.{IsMap}
+use Rattle.mt_base.specs.Passes as known
+use Rattle.mt_base.specs.Width.{greatest_of}
+use Rattle.mt_rule.specs.declared.views.Moment.{Moment}
+use Rattle.mt_rule.specs.declared.views.PassPart.{PassPart}
+use Rattle.mt_rule.specs.declared.views.Shape.{Shape}
+use Rattle.mt_rule.specs.Seats.{known_by, record_of, records_of, tree_of}
+use Rattle.mt_rule.specs.Sections.{closed_section, moment_seen}
+use Rattle.mt_rule.specs.Tokens.{Identity, tree_in}
+use Rattle.mt_read.specs.Answers.{Answers, within}
+use Rattle.mt_read.specs.Walks.{GoesOn}
+use Rattle.mt_read.specs.Windows.{Began, Ended, HasRead}
+use Rattle.mt_read.proofs.Finding.{begins_on, begins_length}
+use Rattle.mt_read.proofs.MapAnswers.{find_within}
+
+pub begins_records : (xs ys : List Moment) → known.Begins xs ys → known.Begins (records_of xs) (records_of ys)
+begins_records xs ys b = (records_of b.0, ap records_of b.1 ∙ map-append record_of xs b.0)
+
+pub bounded : (q : PassPart) (kind : Kind) (least index max : ℕ) (value : Option Range) → q.shape.kind ≡ kind → index ≤ greatest_of kind → Answers q least (Find index (greatest_of kind)) value → Answers q least (Find index max) (within index max value)
+bounded q kind least index max value same low a = record {
+  k = a.k;
+  low = a.low;
+  high = a.high;
+  map = a.map;
+  is = ap (within index max) a.is ∙ find_within kind (moment_seen q a.k).ranges index max (subst (λ (k : Kind). IsMap k (moment_seen q a.k).ranges) same a.map) low;
+}
+
+module _ (t : Identity) (q q₁ q₂ q₃ : PassPart) (lo hi : ℕ) (of : q.shape ≡ t.shape) (began : Began lo q q₁) (goes : GoesOn q₁ q₂) (ended : Ended hi q₂ q₃) where
+  -- what the pass knows after it
+  abbrev after : PassPart
+  after = record q { seen = q₂.seen; opened = q.opened ++ lo ∷ []; standing = None; begun = hi; ended = lo; epoch = lo; floor = None; risen = q₂.risen; held = [] }
+
+  middle : q₂ ≡ record q { seen = q₂.seen; opened = q.opened ++ lo ∷ []; standing = Some lo; ended = lo; epoch = lo; floor = q₂.floor; risen = q₂.risen; held = q₂.held }
+  middle = goes.is ∙ ap (λ (z : PassPart). record z { seen = q₂.seen; floor = q₂.floor; held = q₂.held; risen = q₂.risen }) began.is
+
+  is_after : q₃ ≡ after
+  is_after = ended.is ∙ ap (λ (z : PassPart). closed_section (record z { begun = hi })) middle
+
+  seen_all : known.Begins q.seen q₂.seen
+  seen_all = begins_on q.seen q₁.seen q₂.seen began.seen goes.seen
+
+  begun_low : q.begun ≤ hi
+  begun_low = let same : q₂.begun ≡ q.begun = ap (λ (z : PassPart). z.begun) middle in let low = ended.before in omega arith
+
+  pub has_read : HasRead lo hi (known_by q) (known_by q₃)
+  has_read =
+      let most = began.most in let grown = begins_length q₁.seen q₂.seen goes.seen in let high = ended.seen in
+      let same : q₃.seen ≡ q₂.seen = ap (λ (z : PassPart). z.seen) is_after in
+      let long = length-map q₃.seen record_of in
+      let long₂ = ap (length {A = Moment}) same in
+      record {
+        seen = subst (λ (z : PassPart). known.Begins (records_of q.seen) (records_of z.seen)) (sym is_after) (begins_records q.seen q₂.seen seen_all);
+        pass = ap known_by is_after ∙ (λ i. record (known_by q) { seen = records_of (sym is_after i).seen; opened = q.opened ++ lo ∷ []; standing = None; begun = hi; ended = lo });
+        window = (omega arith, omega arith);
+      }
+
+  pub read_by : (query : Query) (value : Option Range) → Answers q₂ (length q₁.seen) query value → known.IsSound (tree_in t) (known_by q₃) → (k : ℕ) × known.Read (tree_in t) (known_by q) lo hi k query value (known_by q₃)
+  read_by query value a sound =
+      let most = began.most in let least = began.least in let low = a.low in let high = a.high in let top = ended.seen in
+      let first = begins_length q.seen q₁.seen began.seen in
+      let long = length-map q.seen record_of in let long₂ = length-map q₂.seen record_of in
+      let shape : q₂.shape ≡ t.shape = ap (λ (z : PassPart). z.shape) middle ∙ of in
+      (a.k, subst (λ (z : PassPart). known.Read (tree_in t) (known_by q) lo hi a.k query value (known_by z)) (sym is_after) (record {
+        grows = record {
+          number = refl;
+          seen = begins_records q.seen q₂.seen seen_all;
+          mine = refl;
+          opened = (lo ∷ [], refl);
+          begun = begun_low;
+          ended = began.before;
+        };
+        true = record {
+          from = omega arith;
+          to = omega arith;
+          made = omega arith;
+          answered = a.is ∙ ap (λ (s : Shape). answer (map_at (tree_of s q₂.seen) a.k) query) shape;
+        };
+        from = omega arith;
+        floor = omega arith;
+        before = began.before;
+        lo_known = omega arith;
+        hi_known = omega arith;
+        sound = subst (λ (z : PassPart). known.IsSound (tree_in t) (known_by z)) is_after sound;
+      }))

@@ -1,0 +1,28 @@
+use Rattle.std.proofs.Common.{rules, arith, ◌≡◌, ◌≤◌, [], length, sym, ap, ◌∙◌, refl, subst}
+use Rattle.std.specs.Prelude.{IfSome}
+use Rattle.mt_base.specs.declared.kinds.Kind.{Kind}
+use Rattle.mt_base.specs.declared.calls.Query.TheVariants.{Next}
+use Rattle.mt_base.specs.Width.{greatest_of}
+use Rattle.mt_rule.specs.Sections.{here, moment_seen}
+use Rattle.mt_rule.specs.Tokens.{part_of}
+use Rattle.mt_read.specs.Answers.{Answers}
+use Rattle.mt_read.proofs.Descending.{goes_on}
+use Rattle.mt_read.proofs.Reading.{kind_goes}
+use Rattle.mt_read.proofs.Crossing.{from_fewer, nexts_nothing}
+use Rattle.mt_read.proofs.neighbours.next_from.Goals as goal
+
+pub returns-clause-goes : goal.returns-clause-goes
+returns-clause-goes g c = goes_on _ _ _ c.walk.ensures.goes c.next_at_leaf.ensures.goes
+
+pub returns-in_default-clause-answer : goal.returns-in_default-clause-answer
+returns-in_default-clause-answer g c =
+    let q = part_of c.args.pass.now in let q' = part_of c.walk.new.pass in
+    let none : (moment_seen q' (length q'.seen)).ranges ≡ [] = search rules in
+    nexts_nothing q q' c.walk.ensures.goes none c.args.index
+
+pub returns-clause-answer : goal.returns-clause-answer
+returns-clause-answer g c =
+    let q = part_of c.args.pass.now in let q₁ = part_of c.walk.new.pass in let q₂ = part_of c.next_at_leaf.new.pass in
+    let since : length q.seen ≤ (here q₁).since = search rules in
+    subst (λ (k : Kind). IfSome c.next_at_leaf.result (Answers q₂ (length q.seen) (Next c.args.index (greatest_of k)))) (kind_goes q q₁ c.walk.ensures.goes)
+    (from_fewer c.next_at_leaf.result q₂ (here q₁).since (length q.seen) _ since c.next_at_leaf.ensures.answer)

@@ -1,0 +1,66 @@
+use Rattle.std.proofs.Common.{rules, arith, ◌≡◌, ◌≢◌, ◌+◌, ◌<◌, ℕ, sym, ap, ◌∙◌, refl}
+use Rattle.std.specs.Prelude.{slice_index}
+use Rattle.mt_layout.specs.declared.names.RowKind.{RowKind}
+use Rattle.mt_layout.specs.Sizes.{slots_of}
+use Rattle.mt_rule.specs.Sections.{here, kind_of}
+use Rattle.mt_rule.specs.Tokens.{identity_of, part_of}
+use Rattle.mt_read.proofs.Finding.{shape_is, count_is, column_is, slots_are, place_more}
+use Rattle.mt_read.proofs.Descending.{few_slots, greatest_fits, place_within}
+use Rattle.mt_read.proofs.Beside.{used, last_behind, pivot_behind}
+use Rattle.mt_read.proofs.Reading.{leaf_kind}
+use Rattle.mt_read.proofs.reads.next_place.Goals as goal
+
+pub overflow_add-first : goal.overflow_add-first
+overflow_add-first g c =
+    let q = part_of c.args.pass.now in
+    let more = c.requires.more in
+    let max = c.requires.leaf.on.max in
+    let last = (place_within q c.args.leaf.now c.args.place.now c.requires.leaf.on c.requires.place).2 in
+    let within = c.requires.leaf.on.within in
+    let top = greatest_fits q.shape.kind in
+    omega arith
+
+pub overflow_add-slot-2 : goal.overflow_add-slot-2
+overflow_add-slot-2 g c =
+    let q = part_of c.args.pass.now in
+    let low = used q c.args.leaf.now c.args.place.now c.requires.leaf.on c.requires.place (λ e. c.requires.more (e ∙ sym c.requires.leaf.on.max)) in
+    let few = few_slots (here q).width (kind_of q (here q)) in
+    omega arith
+
+pub returns-then-slot-slots-clause-place : goal.returns-then-slot-slots-clause-place
+returns-then-slot-slots-clause-place g c =
+    let q = part_of c.args.pass.now in
+    let count = count_is q c.args.leaf.now c.requires.leaf.on _ c.slots.result c.width.result (shape_is (identity_of c.args.table.now) c.args.pass.now c.requires.pass) c.width.ensures
+    (c.slots.ensures ∙ ap (λ (k : RowKind). slots_of c.width.result k) (sym (leaf_kind q c.args.leaf.now c.requires.leaf))) in
+    last_behind q c.args.leaf.now c.args.place.now c.requires.leaf.on c.requires.place (λ e. c.requires.more (e ∙ sym c.requires.leaf.on.max))
+    (c.args.place.now.slot + 1) (c.args.place.now.last + 1) c.args.leaf.now.max refl refl (c.if-slot-slots.true ∙ count) c.requires.leaf.on.max
+
+pub overflow_add-slot-3 : goal.overflow_add-slot-3
+overflow_add-slot-3 g c =
+    let q = part_of c.args.pass.now in
+    let low = used q c.args.leaf.now c.args.place.now c.requires.leaf.on c.requires.place (λ e. c.requires.more (e ∙ sym c.requires.leaf.on.max)) in
+    let few = few_slots (here q).width (kind_of q (here q)) in
+    omega arith
+
+pub load_pivot-last-requires-clause-pivot : goal.load_pivot-last-requires-clause-pivot
+load_pivot-last-requires-clause-pivot g c =
+    let q = part_of c.args.pass.now in
+    let count = count_is q c.args.leaf.now c.requires.leaf.on _ c.slots.result c.width.result (shape_is (identity_of c.args.table.now) c.args.pass.now c.requires.pass) c.width.ensures
+    (c.slots.ensures ∙ ap (λ (k : RowKind). slots_of c.width.result k) (sym (leaf_kind q c.args.leaf.now c.requires.leaf))) in
+    let low = used q c.args.leaf.now c.args.place.now c.requires.leaf.on c.requires.place (λ e. c.requires.more (e ∙ sym c.requires.leaf.on.max)) in
+    let same = slots_are q c.args.leaf.now c.requires.leaf.on in
+    let other = c.if-slot-slots.false in
+    (c.args.place.now.slot + 1, refl, omega arith)
+
+pub returns-clause-place : goal.returns-clause-place
+returns-clause-place g c =
+    let q = part_of c.args.pass.now in
+    let on = c.requires.leaf.on in
+    let more : c.args.place.now.last ≢ (here q).extent.last = λ e. c.requires.more (e ∙ sym on.max) in
+    let count = count_is q c.args.leaf.now on _ c.slots.result c.width.result (shape_is (identity_of c.args.table.now) c.args.pass.now c.requires.pass) c.width.ensures
+    (c.slots.ensures ∙ ap (λ (k : RowKind). slots_of c.width.result k) (sym (leaf_kind q c.args.leaf.now c.requires.leaf))) in
+    let low = used q c.args.leaf.now c.args.place.now on c.requires.place more in
+    let other = c.if-slot-slots.false in
+    let last = c.load_pivot-last.ensures.told.found_is ∙ ap (slice_index (here q).copy) (column_is q c.args.leaf.now on (1 + (c.args.place.now.slot + 1))) in
+    place_more q (part_of c.load_pivot-last.new.pass) _ c.load_pivot-last.ensures.told.reads
+    (pivot_behind q c.args.leaf.now c.args.place.now on c.requires.place more (c.args.place.now.slot + 1) (c.args.place.now.last + 1) c.load_pivot-last.result refl refl (omega arith) last)

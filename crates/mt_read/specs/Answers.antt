@@ -1,0 +1,36 @@
+-- What an answer of a pass is worth.
+-- Source: the kernel's documentation of the maple tree, mtree_load, mt_find, mt_next and mt_prev.
+use Rattle.std.specs.Prelude.{◌≡◌, ◌⊎◌, ℕ, [], ◌≤◌, ◌&&◌, nat_le, Option, Some, None, length, if◌then◌else◌}
+use Rattle.mt_base.specs.declared.ranges.Range.{Range}
+use Rattle.mt_base.specs.declared.calls.Query.{Query}
+use Rattle.mt_base.specs.Call.{answer}
+use Rattle.mt_base.specs.Map.{IsMap}
+use Rattle.mt_life.specs.declared.views.Held.{Held}
+use Rattle.mt_life.specs.Holding.{Snapshot}
+use Rattle.mt_rule.specs.declared.views.PassPart.{PassPart}
+use Rattle.mt_rule.specs.Sections.{here, moment_seen}
+
+-- The range answers the query after some number of calls, no fewer than these, that the pass has seen.
+pub record Answers (q : PassPart) (least : ℕ) (query : Query) (value : Option Range) : Type 0 where
+  pub k : ℕ
+  pub low : least ≤ k
+  pub high : k ≤ length q.seen
+  pub map : IsMap q.shape.kind (moment_seen q k).ranges
+  pub is : value ≡ answer (moment_seen q k).ranges query
+
+-- The leaf that the section is at answers: after all calls that the pass has seen, unless the leaf is dead. It stood then, as the
+-- section held it before, x.
+pub record LeafAnswers (q : PassPart) (x : Held) (query : Query) (value : Option Range) : Type 0 where
+  pub answers : Answers q x.since query value
+  pub now : (here q).died ≡ None → answers.k ≡ length q.seen
+  pub stood : Snapshot q.shape.kind x (moment_seen q answers.k)
+
+-- The range answers at a moment at which the leaf x stood, or no leaf did.
+pub record AnswersBy (q : PassPart) (x : Held) (least : ℕ) (query : Query) (value : Option Range) : Type 0 where
+  pub answers : Answers q least query value
+  pub stood : ((moment_seen q answers.k).ranges ≡ []) ⊎ Snapshot q.shape.kind x (moment_seen q answers.k)
+
+-- the range, where the index is not above max and the range does not begin above it
+abbrev pub within : ℕ → ℕ → Option Range → Option Range
+within index max None = None
+within index max (Some r) = if nat_le index max && nat_le r.first max then Some r else None

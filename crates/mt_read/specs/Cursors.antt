@@ -1,0 +1,86 @@
+-- What a cursor keeps from step to step, and what a step makes of a pass.
+-- Source: the kernel's documentation of the maple tree, mas_find, which goes on from the node that it is at, and mas_pause.
+use Rattle.std.specs.Prelude.{◌≡◌, ◌⊎◌, ℕ, ◌+◌, ◌≤◌, List, [], ◌∷◌, ◌++◌, Option, Some, None, IfSome, length, nat_le, nat_lt, if◌then◌else◌}
+use Rattle.mt_base.specs.declared.calls.Query.{Query}
+use Rattle.mt_base.specs.declared.calls.Query.TheVariants.{Find}
+use Rattle.mt_base.specs.declared.ranges.Range.{Range}
+use Rattle.mt_base.specs.Passes as known
+use Rattle.mt_rule.specs.declared.views.PassPart.{PassPart}
+use Rattle.mt_rule.specs.Sections.{here, opened_section, with_seen}
+use Rattle.mt_read.specs.declared.cursor.KeptLeaf.{KeptLeaf}
+use Rattle.mt_read.specs.declared.cursor.Cursor.{Cursor}
+use Rattle.mt_read.specs.Walks.{IsOnLeaf}
+
+-- ---- the leaf
+
+-- The section is at the leaf. So many calls had ended before the walk that came to it.
+pub record IsKept (q : PassPart) (kept : KeptLeaf) : Type 0 where
+  pub leaf : IsOnLeaf q kept.leaf
+  pub lo : kept.lo ≤ (here q).since
+
+-- a leaf is kept, and covers the index
+abbrev pub IsOver : Option KeptLeaf → ℕ → Type 0
+IsOver None index = ⊥
+IsOver (Some kept) index = (kept.leaf.min ≤ index) × (index ≤ kept.leaf.max)
+
+abbrev pub IsOverPlace : Option KeptLeaf → Option ℕ → Type 0
+IsOverPlace leaf None = ⊥
+IsOverPlace leaf (Some index) = IsOver leaf index
+
+abbrev pub lo_of : Option KeptLeaf → ℕ
+lo_of None = 0
+lo_of (Some kept) = kept.lo
+
+-- ---- places
+
+-- where a walk of these bounds begins
+abbrev pub place_from : ℕ → ℕ → Option ℕ
+place_from from max = if nat_le from max then Some from else None
+
+-- where it goes on behind a range
+abbrev pub place_behind : Option Range → ℕ → Option ℕ
+place_behind None max = None
+place_behind (Some r) max = if nat_lt r.last max then Some (r.last + 1) else None
+
+-- what a step asks at a place. Where there is none, nothing answers
+abbrev pub query_at : Option ℕ → ℕ → Query
+query_at None max = Find 1 0
+query_at (Some index) max = Find index max
+
+-- ---- cursors
+
+-- The cursor is of this pass: its section stands open, and is at the leaf that it keeps. It keeps none without a section.
+pub record IsCursorOf (q : PassPart) (c : Cursor) : Type 0 where
+  pub standing : IfSome c.epoch (λ epoch. q.standing ≡ Some epoch)
+  pub leaf : IfSome c.leaf (IsKept q)
+  pub closed : c.epoch ≡ None → c.leaf ≡ None
+
+-- the epoch of the section that a step reads in, where `lo` calls had ended before it
+abbrev pub epoch_or : Option ℕ → ℕ → ℕ
+epoch_or None lo = lo
+epoch_or (Some epoch) lo = epoch
+
+-- the epochs of the pass's sections then: a step opens one only where none is open
+abbrev pub opened_with : Option ℕ → List ℕ → ℕ → List ℕ
+opened_with None opened lo = opened ++ lo ∷ []
+opened_with (Some epoch) opened lo = opened
+
+-- a section that was not open is opened
+abbrev pub resumed_section : Option ℕ → PassPart → PassPart
+resumed_section None q = opened_section q
+resumed_section (Some epoch) q = q
+
+-- The number of ended calls was loaded, all of which the pass has seen, and one more at the most. The section is open then.
+pub record Resumed (lo : ℕ) (epoch : Option ℕ) (q q' : PassPart) : Type 0 where
+  pub is : q' ≡ resumed_section epoch (record (with_seen q q'.seen) { epoch = lo; ended = lo })
+  pub seen : known.Begins q.seen q'.seen
+  pub before : q.ended ≤ lo
+  pub most : lo ≤ length q'.seen
+  pub least : length q'.seen ≤ lo + 1
+
+-- The pass has made a step of a cursor whose section had this epoch, if it was open. It is open then, and the pass knows that hi
+-- calls have begun and lo have ended.
+pub record HasStepped (lo hi : ℕ) (epoch : Option ℕ) (p q : known.Pass) : Type 0 where
+  pub seen : known.Begins p.seen q.seen
+  pub pass : q ≡ record p { seen = q.seen; opened = opened_with epoch p.opened lo; standing = Some (epoch_or epoch lo); begun = hi; ended = lo }
+  pub window : (lo ≤ length q.seen) × (length q.seen ≤ hi)

@@ -1,0 +1,5 @@
+pub mod Answers
+pub mod Cursors
+pub mod Neighbours
+pub mod Walks
+pub mod Windows

@@ -1,0 +1,72 @@
+-- What a pass knows of the row that its section is at, and how far a walk brings it.
+-- Source: the kernel's lib/maple_tree.c, mtree_range_walk, by which readers walk beside a writer.
+use Rattle.std.specs.Prelude.{◌≡◌, ℕ, suc, ◌≤◌, ◌==◌, Option, Some, None, length, if◌then◌else◌}
+use Rattle.std.specs.List.{slice_get}
+use mathlib.Core.Option.{some}
+use lib.ListN.{get_elem?}
+use Rattle.mt_base.specs.declared.ranges.Range.{Range}
+use Rattle.mt_base.specs.Passes.{Begins}
+use Rattle.mt_base.specs.Width.{greatest_of, kind_width}
+use Rattle.mt_layout.specs.declared.spans.Span.{Span}
+use Rattle.mt_life.specs.declared.views.Held.{Held}
+use Rattle.mt_life.specs.Holding.{copy_of}
+use Rattle.mt_life.specs.Known.{HasRow, Shape, spans_at}
+use Rattle.mt_rule.specs.declared.views.PassPart.{PassPart}
+use Rattle.mt_rule.specs.Sections.{IsAt, IsRead, Reads, here, kind_of, spans_here, with_seen}
+use Rattle.mt_read.specs.declared.descent.Row.{Row}
+use Rattle.mt_read.specs.declared.descent.Place.{Place}
+
+-- the pass has only seen more
+abbrev pub SeesMore : PassPart → PassPart → Type 0
+SeesMore q q' = Reads q q' (with_seen q q'.seen)
+
+-- the section holds the row, below the one that it is at
+abbrev pub IsUnder : PassPart → Held → Type 0
+IsUnder q x = (j : ℕ) × (get_elem? q.held (suc j) ≡ some x)
+
+-- Within its section the pass has gone on: it has seen more, and holds other rows, and those that it held below the one that it
+-- was at.
+pub record GoesOn (q q' : PassPart) : Type 0 where
+  pub is : q' ≡ record q { seen = q'.seen; floor = q'.floor; held = q'.held; risen = q'.risen }
+  pub seen : Begins q.seen q'.seen
+  pub risen : q.risen ≤ q'.risen
+  pub under : (x : Held) → IsUnder q x → IsUnder q' x
+
+-- The section is at this row, whose words it has as they were at some moment since it came to it.
+pub record IsOn (q : PassPart) (row : Row) : Type 0 where
+  pub at : IsAt q
+  pub number : row.number ≡ (here q).row
+  pub kind : row.kind ≡ kind_of q (here q)
+  pub min : row.min ≡ (here q).extent.first
+  pub max : row.max ≡ (here q).extent.last
+  pub within : (here q).extent.last ≤ greatest_of q.shape.kind
+  pub has : HasRow q.shape.rows (here q).row
+  pub old : (here q).since ≤ (here q).met
+  pub met : (here q).met ≤ length q.seen
+  pub width : (here q).width ≡ kind_width q.shape.kind
+  pub shape : Shape q.shape.kind (copy_of (here q)) (here q).row (here q).extent
+
+-- The section is at this leaf.
+pub record IsOnLeaf (q : PassPart) (leaf : Row) : Type 0 where
+  pub on : IsOn q leaf
+  pub level : (here q).extent.level ≡ 0
+
+-- The section holds the row that it held, of which it may know more.
+pub record IsSameHold (x y : Held) : Type 0 where
+  pub is : y ≡ record x { width = y.width; copy = y.copy; died = y.died }
+
+-- Something stands in this place of the row that the section is at.
+pub record IsPlaceIn (q : PassPart) (place : Place) : Type 0 where
+  pub word : ℕ
+  pub stands : slice_get (spans_here q (here q)) place.slot ≡ Some (record { first = place.first; last = place.last; word = word })
+
+-- what stands in a place, by its word: a range, or none where it is a hole
+abbrev pub range_or_hole : Place → ℕ → Option Range
+range_or_hole place entry = if entry == 0 then None else Some (record { first = place.first; last = place.last; entry = entry })
+
+-- The place of a leaf was read, as the leaf had it after some number of calls: a range, or none where it is a hole.
+pub record WasRead (q q' : PassPart) (place : Place) (found : Option Range) : Type 0 where
+  pub read : IsRead q' (here q) (here q')
+  pub entry : ℕ
+  pub stands : slice_get (spans_at q'.shape.kind (copy_of (here q')) (here q).row (here q).extent) place.slot ≡ Some (record { first = place.first; last = place.last; word = entry })
+  pub found_is : found ≡ range_or_hole place entry

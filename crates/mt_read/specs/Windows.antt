@@ -1,0 +1,30 @@
+-- What a section makes of a pass at its beginning and at its end, and what a read makes of it.
+-- Source: this project's own; the kernel's readers walk between rcu_read_lock and rcu_read_unlock.
+use Rattle.std.specs.Prelude.{◌≡◌, ℕ, ◌+◌, ◌≤◌, List, [], ◌∷◌, ◌++◌, Option, Some, None, length}
+use Rattle.mt_base.specs.declared.ranges.Range.{Range}
+use Rattle.mt_base.specs.declared.calls.Query.{Query}
+use Rattle.mt_base.specs.History.{History}
+use Rattle.mt_base.specs.Passes as known
+use Rattle.mt_rule.specs.declared.views.PassPart.{PassPart}
+use Rattle.mt_rule.specs.Sections.{with_seen, opened_section, closed_section}
+
+-- The section was opened at the number of ended calls, all of which the pass has seen, and one more at the most.
+pub record Began (epoch : ℕ) (q q' : PassPart) : Type 0 where
+  pub is : q' ≡ opened_section (record (with_seen q q'.seen) { epoch = epoch; ended = epoch })
+  pub seen : known.Begins q.seen q'.seen
+  pub before : q.ended ≤ epoch
+  pub most : epoch ≤ length q'.seen
+  pub least : length q'.seen ≤ epoch + 1
+
+-- The number of begun calls was loaded, which is no less than the pass knows of, and the section was closed.
+pub record Ended (begun : ℕ) (q q' : PassPart) : Type 0 where
+  pub is : q' ≡ closed_section (record q { begun = begun })
+  pub seen : length q.seen ≤ begun
+  pub before : q.begun ≤ begun
+  pub risen : q.risen ≤ begun
+
+-- The pass has opened a section at lo and closed it, and knows then that hi calls have begun and lo have ended.
+pub record HasRead (lo hi : ℕ) (p q : known.Pass) : Type 0 where
+  pub seen : known.Begins p.seen q.seen
+  pub pass : q ≡ record p { seen = q.seen; opened = p.opened ++ lo ∷ []; standing = None; begun = hi; ended = lo }
+  pub window : (lo ≤ length q.seen) × (length q.seen ≤ hi)

@@ -1,0 +1,298 @@
+//! Walks from range to range, which keep the leaf that they are at.
+
+ghost use Rattle.std.specs.Prelude.{◌≡◌, ◌≢◌, ◌⊎◌, ℕ, ◌+◌, ◌<◌, ◌≤◌, Some, None, IfSome, IfNone, length};
+ghost use Rattle.mt_base.specs.Width.{greatest_of};
+ghost use Rattle.mt_base.specs.declared.calls.Query.TheVariants.{Find};
+ghost use Rattle.mt_base.specs.Passes.{Read};
+ghost use Rattle.mt_rule.specs.Sections.{closed_section, here};
+ghost use Rattle.mt_rule.specs.Tokens.{identity_of, part_of, pass_in, tree_in, IsPassOf, Stepped};
+ghost use Rattle.mt_read.specs.Answers.{Answers};
+ghost use Rattle.mt_read.specs.Cursors.{HasStepped, IsCursorOf, IsKept, IsOver, IsOverPlace, Resumed, epoch_or, lo_of, place_behind, place_from, query_at};
+ghost use Rattle.mt_read.specs.Walks.{GoesOn};
+
+use crate::answers::Answer;
+use crate::descent::{Row, find_slot, walk};
+use crate::queries::within;
+use crate::reads::first_at;
+use mt_base::{Range, Steps};
+use mt_layout::is_dead_mark;
+use mt_rule::{MtTable, Pass};
+use std::sync::ledger::Ledger;
+
+/// A leaf that a cursor is at, and how many calls had ended at the step that walked to it.
+#[derive(Clone, Copy)]
+pub struct KeptLeaf {
+    leaf: Row,
+    lo: u64,
+}
+
+/// What a step finds, and the leaf that it is at then.
+#[derive(Clone, Copy)]
+struct Found {
+    range: Option<Range>,
+    leaf: Option<KeptLeaf>,
+}
+
+/// The first range that ends at an index or above, in the leaf that is kept and covers the index. There is no answer where the
+/// leaf is found marked.
+fn first_at_kept<L: Ledger>(
+    table: &MtTable,
+    pass: &mut Pass,
+    kept: &KeptLeaf,
+    index: u64,
+    steps: &mut Steps<L>,
+) -> Option<Option<Range>>
+    requires pass { IsPassOf (identity_of table.now) pass.old }
+    requires kept { IsKept (part_of pass.old) kept.now }
+    requires over { IsOver (Some kept.now) index }
+    ensures stepped { Stepped (identity_of table.now) pass.old pass.new }
+    ensures goes { GoesOn (part_of pass.old) (part_of pass.new) }
+    ensures kept { IsKept (part_of pass.new) kept.now }
+    ensures answer { IfSome result (Answers (part_of pass.new) (length (part_of pass.old).seen) (Find index (greatest_of (part_of pass.old).shape.kind))) }
+    ensures within { IfSome result (λ found. IfSome found (λ range. IsOver (Some kept.now) range.last)) }
+    ensures marked { IfNone result (kept.now.lo + 1 ≤ (part_of pass.new).risen) }
+    ensures steps { steps.new ≤ steps.old + 19 }
+{
+    let leaf = kept.leaf;
+    let place = find_slot(table, pass, &leaf, index, steps);
+    let range = first_at(table, pass, &leaf, &place, index, steps);
+    let parent = table.load_parent(pass, leaf.number, steps);
+    if is_dead_mark(leaf.number, parent) {
+        return None;
+    }
+    Some(range)
+}
+
+/// The first range that ends at an index or above, by a walk from the root.
+fn first_anew<L: Ledger>(
+    table: &MtTable,
+    pass: &mut Pass,
+    lo: u64,
+    index: u64,
+    steps: &mut Steps<L>,
+) -> Found
+    requires pass { IsPassOf (identity_of table.now) pass.old }
+    requires open { (part_of pass.old).standing ≢ None }
+    requires index { index ≤ greatest_of (part_of pass.old).shape.kind }
+    requires lo { lo ≤ length (part_of pass.old).seen }
+    ensures stepped { Stepped (identity_of table.now) pass.old pass.new }
+    ensures goes { GoesOn (part_of pass.old) (part_of pass.new) }
+    ensures kept { IfSome result.leaf (IsKept (part_of pass.new)) }
+    ensures lo { IfSome result.leaf (λ kept. kept.lo ≡ lo) }
+    ensures answer { Answers (part_of pass.new) (length (part_of pass.old).seen) (Find index (greatest_of (part_of pass.old).shape.kind)) result.range }
+    ensures within { IfSome result.range (λ range. IsOver result.leaf range.last) }
+    ensures steps { steps.new ≤ steps.old + 147 }
+{
+    let Some(leaf) = walk(table, pass, index, steps) else {
+        return Found {
+            range: None,
+            leaf: None,
+        };
+    };
+    let place = find_slot(table, pass, &leaf, index, steps);
+    let range = first_at(table, pass, &leaf, &place, index, steps);
+    Found {
+        range,
+        leaf: Some(KeptLeaf { leaf, lo }),
+    }
+}
+
+/// The first range that ends at an index or above: from the leaf that is kept, where that covers the index and is not found
+/// marked, and else by a walk from the root.
+fn first_behind<L: Ledger>(
+    table: &MtTable,
+    pass: &mut Pass,
+    leaf: Option<KeptLeaf>,
+    lo: u64,
+    index: u64,
+    steps: &mut Steps<L>,
+) -> Found
+    requires pass { IsPassOf (identity_of table.now) pass.old }
+    requires open { (part_of pass.old).standing ≢ None }
+    requires index { index ≤ greatest_of (part_of pass.old).shape.kind }
+    requires kept { IfSome leaf (IsKept (part_of pass.old)) }
+    requires lo { lo ≤ length (part_of pass.old).seen }
+    ensures stepped { Stepped (identity_of table.now) pass.old pass.new }
+    ensures goes { GoesOn (part_of pass.old) (part_of pass.new) }
+    ensures kept { IfSome result.leaf (IsKept (part_of pass.new)) }
+    ensures lo { (result.leaf ≡ leaf) ⊎ IfSome result.leaf (λ kept. kept.lo ≡ lo) }
+    ensures answer { Answers (part_of pass.new) (length (part_of pass.old).seen) (Find index (greatest_of (part_of pass.old).shape.kind)) result.range }
+    ensures within { IfSome result.range (λ range. IsOver result.leaf range.last) }
+    ensures short { IsOver leaf index → (steps.new ≤ steps.old + 19) ⊎ (lo_of leaf + 1 ≤ (part_of pass.new).risen) }
+    ensures steps { steps.new ≤ steps.old + 166 }
+{
+    let Some(kept) = leaf else {
+        return first_anew(table, pass, lo, index, steps);
+    };
+    if index < kept.leaf.min || kept.leaf.max < index {
+        return first_anew(table, pass, lo, index, steps);
+    }
+    match first_at_kept(table, pass, &kept, index, steps) {
+        Some(range) => Found { range, leaf },
+        None => first_anew(table, pass, lo, index, steps),
+    }
+}
+
+/// Where a walk goes on behind a range.
+fn place_behind(range: Option<Range>, max: u64) -> Option<u64>
+    ensures { result ≡ place_behind range max }
+{
+    let range = range?;
+    if range.last < max {
+        Some(range.last + 1)
+    } else {
+        None
+    }
+}
+
+/// A walk over the ranges of a tree, from an index up to a bound.
+#[derive(Drop)]
+pub struct Cursor {
+    /// Where the next step looks from. There is no place once the walk has ended.
+    at: Option<u64>,
+    max: u64,
+    leaf: Option<KeptLeaf>,
+    /// The epoch of its section, while that is open.
+    epoch: Option<u64>,
+}
+
+impl Cursor {
+    ghost use Rattle.std.specs.Prelude.{◌≡◌, ◌≢◌, ◌⊎◌, ℕ, ◌+◌, ◌<◌, ◌≤◌, Some, None, IfSome, length};
+    ghost use Rattle.mt_base.specs.Width.{greatest_of};
+    ghost use Rattle.mt_base.specs.declared.calls.Query.TheVariants.{Find};
+    ghost use Rattle.mt_base.specs.Passes.{Read};
+    ghost use Rattle.mt_rule.specs.Sections.{closed_section};
+    ghost use Rattle.mt_rule.specs.Tokens.{identity_of, part_of, pass_in, tree_in, IsPassOf, Stepped};
+    ghost use Rattle.mt_read.specs.Answers.{Answers};
+    ghost use Rattle.mt_read.specs.Cursors.{HasStepped, IsCursorOf, IsKept, IsOver, IsOverPlace, Resumed, epoch_or, lo_of, place_behind, place_from, query_at};
+    ghost use Rattle.mt_read.specs.Walks.{GoesOn};
+
+    /// A walk from an index up to a bound. It opens no section yet.
+    pub fn new(from: u64, max: u64) -> Cursor
+        ensures at { result.at ≡ place_from from max }
+        ensures max { result.max ≡ max }
+        ensures leaf { result.leaf ≡ None }
+        ensures epoch { result.epoch ≡ None }
+    {
+        let at = if from <= max { Some(from) } else { None };
+        Cursor {
+            at,
+            max,
+            leaf: None,
+            epoch: None,
+        }
+    }
+
+    /// Where the next step looks from. There is no place once the walk has ended.
+    pub fn at(&self) -> Option<u64>
+        ensures { result ≡ self.now.at }
+    {
+        self.at
+    }
+
+    /// Begins a step: tells how many calls have ended, and opens the section where it is not open.
+    fn resume<L: Ledger>(&mut self, table: &MtTable, pass: &mut Pass, steps: &mut Steps<L>) -> u64
+        requires pass { IsPassOf (identity_of table.now) pass.old }
+        requires cursor { IsCursorOf (part_of pass.old) self.old }
+        ensures stepped { Stepped (identity_of table.now) pass.old pass.new }
+        ensures resumed { Resumed result self.old.epoch (part_of pass.old) (part_of pass.new) }
+        ensures cursor { IsCursorOf (part_of pass.new) self.new }
+        ensures same { self.new ≡ record self.old { epoch = Some (epoch_or self.old.epoch result) } }
+        ensures steps { steps.new ≤ steps.old + 2 }
+    {
+        let lo = table.load_commits(pass, steps);
+        if self.epoch.is_none() {
+            table.open_section(pass, lo, steps);
+            self.epoch = Some(lo);
+        }
+        lo
+    }
+
+    /// The first range from an index on, up to the bound, and the leaf that it was found in is kept.
+    fn look<L: Ledger>(
+        &mut self,
+        table: &MtTable,
+        pass: &mut Pass,
+        lo: u64,
+        index: u64,
+        steps: &mut Steps<L>,
+    ) -> Option<Range>
+        requires pass { IsPassOf (identity_of table.now) pass.old }
+        requires open { (part_of pass.old).standing ≢ None }
+        requires kept { IfSome self.old.leaf (IsKept (part_of pass.old)) }
+        requires lo { lo ≤ length (part_of pass.old).seen }
+        ensures stepped { Stepped (identity_of table.now) pass.old pass.new }
+        ensures goes { GoesOn (part_of pass.old) (part_of pass.new) }
+        ensures kept { IfSome self.new.leaf (IsKept (part_of pass.new)) }
+        ensures same { self.new ≡ record self.old { leaf = self.new.leaf } }
+        ensures lo { (self.new.leaf ≡ self.old.leaf) ⊎ IfSome self.new.leaf (λ kept. kept.lo ≡ lo) }
+        ensures answer { Answers (part_of pass.new) (length (part_of pass.old).seen) (Find index self.old.max) result }
+        ensures within { IfSome result (λ range. IsOver self.new.leaf range.last) }
+        ensures short { IsOver self.old.leaf index → (steps.new ≤ steps.old + 19) ⊎ (lo_of self.old.leaf + 1 ≤ (part_of pass.new).risen) }
+        ensures steps { steps.new ≤ steps.old + 166 }
+    {
+        let found = first_behind(table, pass, self.leaf, lo, index, steps);
+        self.leaf = found.leaf;
+        within(found.range, index, self.max)
+    }
+
+    /// The next range of the walk. There is none where the walk has ended, or ends by that.
+    pub fn step<L: Ledger>(
+        &mut self,
+        table: &MtTable,
+        pass: &mut Pass,
+        steps: &mut Steps<L>,
+    ) -> Answer<Option<Range>>
+        requires pass { IsPassOf (identity_of table.now) pass.old }
+        requires cursor { IsCursorOf (part_of pass.old) self.old }
+        ensures stepped { Stepped (identity_of table.now) pass.old pass.new }
+        ensures cursor { IsCursorOf (part_of pass.new) self.new }
+        ensures read { (k : ℕ) × Read (tree_in (identity_of table.now)) (pass_in pass.old) result.lo result.hi k (query_at self.old.at self.old.max) result.value (pass_in pass.new) }
+        ensures section { HasStepped result.lo result.hi self.old.epoch (pass_in pass.old) (pass_in pass.new) }
+        ensures at { self.new.at ≡ place_behind result.value self.old.max }
+        ensures max { self.new.max ≡ self.old.max }
+        ensures epoch { self.new.epoch ≡ Some (epoch_or self.old.epoch result.lo) }
+        ensures leaf { IfSome result.value (λ range. IsOver self.new.leaf range.last) }
+        ensures lo { (self.new.leaf ≡ self.old.leaf) ⊎ IfSome self.new.leaf (λ kept. kept.lo ≡ result.lo) }
+        ensures short { IsOverPlace self.old.leaf self.old.at → (steps.new ≤ steps.old + 40) ⊎ (lo_of self.old.leaf < result.hi) }
+        ensures steps { steps.new ≤ steps.old + 220 }
+    {
+        let lo = self.resume(table, pass, steps);
+        let Some(index) = self.at else {
+            let hi = table.load_begun(pass, steps);
+            return Answer {
+                lo,
+                hi,
+                value: None,
+            };
+        };
+        let value = self.look(table, pass, lo, index, steps);
+        let hi = table.load_begun(pass, steps);
+        self.at = place_behind(value, self.max);
+        Answer { lo, hi, value }
+    }
+
+    /// Closes the section, and keeps the place alone: the next step opens a section and walks again.
+    pub fn pause<L: Ledger>(&mut self, table: &MtTable, pass: &mut Pass, steps: &mut Steps<L>)
+        requires pass { IsPassOf (identity_of table.now) pass.old }
+        ensures stepped { Stepped (identity_of table.now) pass.old pass.new }
+        ensures cursor { IsCursorOf (part_of pass.new) self.new }
+        ensures same { self.new ≡ record self.old { leaf = None; epoch = None } }
+        ensures closed { pass_in pass.new ≡ record (pass_in pass.old) { standing = None } }
+        ensures steps { steps.new ≡ steps.old + 1 }
+    {
+        table.close_section(pass, steps);
+        self.leaf = None;
+        self.epoch = None;
+    }
+
+    /// Ends the walk, and closes the section.
+    pub fn close<L: Ledger>(self, table: &MtTable, pass: &mut Pass, steps: &mut Steps<L>)
+        requires pass { IsPassOf (identity_of table.now) pass.old }
+        ensures stepped { Stepped (identity_of table.now) pass.old pass.new }
+        ensures closed { pass_in pass.new ≡ record (pass_in pass.old) { standing = None } }
+        ensures steps { steps.new ≡ steps.old + 1 }
+    {
+        table.close_section(pass, steps);
+    }
+}

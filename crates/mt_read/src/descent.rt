@@ -1,0 +1,176 @@
+//! Walks from the root to the leaf that covers an index.
+
+ghost use Rattle.std.specs.Prelude.{◌≡◌, ◌≢◌, ℕ, ◌+◌, ◌-◌, ◌*◌, ◌<◌, ◌≤◌, Some, None, IsSome, IfSome, IfNone, [], length};
+ghost use Rattle.mt_base.specs.Width.{greatest_of};
+ghost use Rattle.mt_layout.specs.Rows.{row_in, named_kind};
+ghost use Rattle.mt_layout.specs.declared.names.RowKind.TheVariants.{Leaf};
+ghost use Rattle.mt_rule.specs.Sections.{IsAt, here, slots_in, moment_seen};
+ghost use Rattle.mt_rule.specs.Tokens.{identity_of, part_of, IsPassOf, Stepped};
+ghost use Rattle.mt_read.specs.Walks.{GoesOn, IsOn, IsOnLeaf, IsPlaceIn, IsUnder, SeesMore};
+
+use mt_base::{Steps, top};
+use mt_layout::{RowKind, kind_of, row_of, slots};
+use mt_rule::{MtTable, Pass};
+use std::sync::ledger::Ledger;
+
+/// A row that a walk comes to: its number and its kind, and the first and the last index that it covers.
+#[derive(Clone, Copy)]
+pub struct Row {
+    pub number: u32,
+    pub kind: RowKind,
+    pub min: u64,
+    pub max: u64,
+}
+
+/// A slot of a row, and the first and the last index of what stands there.
+#[derive(Clone, Copy)]
+pub struct Place {
+    pub slot: u32,
+    pub first: u64,
+    pub last: u64,
+}
+
+/// The row with this name, which covers `min` to `max`.
+fn row_named(name: u64, min: u64, max: u64) -> Row
+    requires name { IsSome (named_kind name) }
+    ensures number { result.number ≡ row_in name }
+    ensures kind { Some result.kind ≡ named_kind name }
+    ensures min { result.min ≡ min }
+    ensures max { result.max ≡ max }
+{
+    let Some(number) = row_of(name) else {
+        unreachable!()
+    };
+    let Some(kind) = kind_of(name) else {
+        unreachable!()
+    };
+    Row {
+        number,
+        kind,
+        min,
+        max,
+    }
+}
+
+/// The slot that holds an index, of the row that the section is at: the first whose pivot is not below it.
+pub fn find_slot<L: Ledger>(
+    table: &MtTable,
+    pass: &mut Pass,
+    row: &Row,
+    index: u64,
+    steps: &mut Steps<L>,
+) -> Place
+    requires pass { IsPassOf (identity_of table.now) pass.old }
+    requires on { IsOn (part_of pass.old) row.now }
+    requires from { row.now.min ≤ index }
+    requires to { index ≤ row.now.max }
+    ensures stepped { Stepped (identity_of table.now) pass.old pass.new }
+    ensures sees { SeesMore (part_of pass.old) (part_of pass.new) }
+    ensures on { IsOn (part_of pass.new) row.now }
+    ensures place { IsPlaceIn (part_of pass.new) result }
+    ensures from { result.first ≤ index }
+    ensures to { index ≤ result.last }
+    ensures steps { steps.new ≤ steps.old + 15 }
+{
+    let last_slot = slots(table.width(), row.kind) - 1;
+    let mut first = row.min;
+    for slot in 0..last_slot {
+        let pivot = table.load_pivot(pass, row.number, 1 + slot, steps);
+        if index <= pivot {
+            return Place {
+                slot,
+                first,
+                last: pivot,
+            };
+        }
+        first = pivot + 1;
+    }
+    Place {
+        slot: last_slot,
+        first,
+        last: row.max,
+    }
+}
+
+/// The row below an inner row that covers an index there.
+fn child_at<L: Ledger>(
+    table: &MtTable,
+    pass: &mut Pass,
+    row: &Row,
+    index: u64,
+    steps: &mut Steps<L>,
+) -> Row
+    requires pass { IsPassOf (identity_of table.now) pass.old }
+    requires on { IsOn (part_of pass.old) row.now }
+    requires inner { row.now.kind ≢ Leaf }
+    requires from { row.now.min ≤ index }
+    requires to { index ≤ row.now.max }
+    ensures stepped { Stepped (identity_of table.now) pass.old pass.new }
+    ensures goes { GoesOn (part_of pass.old) (part_of pass.new) }
+    ensures on { IsOn (part_of pass.new) result }
+    ensures since { (here (part_of pass.new)).since ≡ (here (part_of pass.old)).since }
+    ensures level { (here (part_of pass.new)).extent.level + 1 ≡ (here (part_of pass.old)).extent.level }
+    ensures from { result.min ≤ index }
+    ensures to { index ≤ result.max }
+    ensures steps { steps.new ≤ steps.old + 16 }
+{
+    let place = find_slot(table, pass, row, index, steps);
+    let column = slots(table.width(), row.kind) + place.slot;
+    let name = table.load_slot(pass, row.number, column, steps);
+    row_named(name, place.first, place.last)
+}
+
+/// The leaf that covers an index, by a walk from the row that the section is at.
+fn descend<L: Ledger>(
+    table: &MtTable,
+    pass: &mut Pass,
+    row: Row,
+    index: u64,
+    steps: &mut Steps<L>,
+) -> Row
+    requires pass { IsPassOf (identity_of table.now) pass.old }
+    requires on { IsOn (part_of pass.old) row }
+    requires from { row.min ≤ index }
+    requires to { index ≤ row.max }
+    ensures stepped { Stepped (identity_of table.now) pass.old pass.new }
+    ensures goes { GoesOn (part_of pass.old) (part_of pass.new) }
+    ensures leaf { IsOnLeaf (part_of pass.new) result }
+    ensures since { (here (part_of pass.new)).since ≡ (here (part_of pass.old)).since }
+    ensures from { result.min ≤ index }
+    ensures to { index ≤ result.max }
+    ensures steps { steps.new ≤ steps.old + 16 * (here (part_of pass.old)).extent.level }
+{
+    let mut row = row;
+    while row.kind != RowKind::Leaf {
+        row = child_at(table, pass, &row, index, steps);
+    }
+    row
+}
+
+/// The leaf that covers an index, by a walk from the root; none where the tree is empty.
+pub fn walk<L: Ledger>(
+    table: &MtTable,
+    pass: &mut Pass,
+    index: u64,
+    steps: &mut Steps<L>,
+) -> Option<Row>
+    requires pass { IsPassOf (identity_of table.now) pass.old }
+    requires open { (part_of pass.old).standing ≢ None }
+    requires index { index ≤ greatest_of (part_of pass.old).shape.kind }
+    ensures stepped { Stepped (identity_of table.now) pass.old pass.new }
+    ensures goes { GoesOn (part_of pass.old) (part_of pass.new) }
+    ensures empty { IfNone result ((moment_seen (part_of pass.new) (length (part_of pass.new).seen)).ranges ≡ []) }
+    ensures leaf { IfSome result (IsOnLeaf (part_of pass.new)) }
+    ensures since { IfSome result (λ leaf. length (part_of pass.old).seen ≤ (here (part_of pass.new)).since) }
+    ensures under { IfSome result (λ leaf. IsAt (part_of pass.old) → IsUnder (part_of pass.new) (here (part_of pass.old))) }
+    ensures from { IfSome result (λ leaf. leaf.min ≤ index) }
+    ensures to { IfSome result (λ leaf. index ≤ leaf.max) }
+    ensures steps { steps.new ≤ steps.old + 129 }
+{
+    let name = table.load_root(pass, steps);
+    if name == 0 {
+        return None;
+    }
+    let root = row_named(name, 0, top(table.width()));
+    Some(descend(table, pass, root, index, steps))
+}

@@ -1,0 +1,16 @@
+//! Reads of a shared tree beside its writer, without the lock.
+#![tactic(auto)]
+
+mod answers;
+mod cursor;
+mod descent;
+mod neighbours;
+mod queries;
+mod reads;
+mod sections;
+
+pub use answers::Answer;
+pub use cursor::Cursor;
+pub use neighbours::{Moved, next};
+pub use queries::{find, load, load_range};
+pub use sections::Section;

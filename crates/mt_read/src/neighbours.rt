@@ -1,0 +1,145 @@
+//! Reads whose answer may lie in a neighbouring leaf.
+
+ghost use Rattle.std.specs.Prelude.{◌≡◌, ◌≢◌, ℕ, ◌+◌, ◌<◌, ◌≤◌, Some, None, IfSome, IfNone, IfOk, IfErr, length};
+ghost use Rattle.mt_base.specs.Width.{greatest_of};
+ghost use Rattle.mt_base.specs.declared.calls.Query.TheVariants.{Find, Next};
+ghost use Rattle.mt_base.specs.Passes.{Read};
+ghost use Rattle.mt_rule.specs.Sections.{here};
+ghost use Rattle.mt_rule.specs.Tokens.{identity_of, part_of, pass_in, tree_in, IsPassOf, Stepped};
+ghost use Rattle.mt_read.specs.Answers.{Answers, AnswersBy};
+ghost use Rattle.mt_read.specs.Neighbours.{WasMoved};
+ghost use Rattle.mt_read.specs.Walks.{GoesOn, IsOnLeaf};
+ghost use Rattle.mt_read.specs.Windows.{HasRead};
+
+use crate::answers::Answer;
+use crate::descent::{Row, find_slot, walk};
+use crate::queries::within;
+use crate::reads::{first_at, next_place, range_at};
+use crate::sections::Section;
+use mt_base::{Range, Steps, top};
+use mt_layout::is_dead_mark;
+use mt_rule::{MtTable, Pass};
+use std::sync::ledger::Ledger;
+
+/// A read was given up, since the leaf that covers its index was replaced while the leaf beside it was read.
+#[derive(Clone, Copy, Debug, PartialEq, Eq)]
+pub struct Moved {
+    /// How many calls had ended before the read.
+    pub lo: u64,
+    /// How many have begun.
+    pub begun: u64,
+}
+
+/// The first range behind the leaf that the section is at. There is no answer where that leaf is then found marked.
+fn first_beside<L: Ledger>(
+    table: &MtTable,
+    pass: &mut Pass,
+    leaf: &Row,
+    steps: &mut Steps<L>,
+) -> Option<Option<Range>>
+    requires pass { IsPassOf (identity_of table.now) pass.old }
+    requires open { (part_of pass.old).standing ≢ None }
+    requires leaf { IsOnLeaf (part_of pass.old) leaf.now }
+    requires more { leaf.now.max < greatest_of (part_of pass.old).shape.kind }
+    ensures stepped { Stepped (identity_of table.now) pass.old pass.new }
+    ensures goes { GoesOn (part_of pass.old) (part_of pass.new) }
+    ensures answer { IfSome result (AnswersBy (part_of pass.new) (here (part_of pass.old)) (length (part_of pass.old).seen) (Find (leaf.now.max + 1) (greatest_of (part_of pass.old).shape.kind))) }
+    ensures moved { IfNone result ((here (part_of pass.old)).since + 1 ≤ (part_of pass.new).risen) }
+    ensures steps { steps.new ≤ steps.old + 148 }
+{
+    let from = leaf.max + 1;
+    let Some(behind) = walk(table, pass, from, steps) else {
+        return Some(None);
+    };
+    let place = find_slot(table, pass, &behind, from, steps);
+    let range = first_at(table, pass, &behind, &place, from, steps);
+    let parent = table.load_parent(pass, leaf.number, steps);
+    if is_dead_mark(leaf.number, parent) {
+        return None;
+    }
+    Some(range)
+}
+
+/// The first range that begins behind an index, which the leaf that the section is at covers.
+fn next_at_leaf<L: Ledger>(
+    table: &MtTable,
+    pass: &mut Pass,
+    leaf: &Row,
+    index: u64,
+    steps: &mut Steps<L>,
+) -> Option<Option<Range>>
+    requires pass { IsPassOf (identity_of table.now) pass.old }
+    requires open { (part_of pass.old).standing ≢ None }
+    requires leaf { IsOnLeaf (part_of pass.old) leaf.now }
+    requires from { leaf.now.min ≤ index }
+    requires to { index ≤ leaf.now.max }
+    ensures stepped { Stepped (identity_of table.now) pass.old pass.new }
+    ensures goes { GoesOn (part_of pass.old) (part_of pass.new) }
+    ensures answer { IfSome result (Answers (part_of pass.new) (here (part_of pass.old)).since (Next index (greatest_of (part_of pass.old).shape.kind))) }
+    ensures moved { IfNone result ((here (part_of pass.old)).since + 1 ≤ (part_of pass.new).risen) }
+    ensures steps { steps.new ≤ steps.old + 163 }
+{
+    let place = find_slot(table, pass, leaf, index, steps);
+    if place.last != leaf.max {
+        let next = next_place(table, pass, leaf, &place, steps);
+        return Some(first_at(table, pass, leaf, &next, next.first, steps));
+    }
+    if leaf.max == top(table.width()) {
+        range_at(table, pass, leaf, &place, steps);
+        return Some(None);
+    }
+    first_beside(table, pass, leaf, steps)
+}
+
+/// The first range that begins behind an index, by a walk from the root. There is no answer where the leaf that covers the
+/// index is found marked after the leaf behind it was read.
+fn next_from<L: Ledger>(
+    table: &MtTable,
+    pass: &mut Pass,
+    index: u64,
+    steps: &mut Steps<L>,
+) -> Option<Option<Range>>
+    requires pass { IsPassOf (identity_of table.now) pass.old }
+    requires open { (part_of pass.old).standing ≢ None }
+    requires index { index ≤ greatest_of (part_of pass.old).shape.kind }
+    ensures stepped { Stepped (identity_of table.now) pass.old pass.new }
+    ensures goes { GoesOn (part_of pass.old) (part_of pass.new) }
+    ensures answer { IfSome result (Answers (part_of pass.new) (length (part_of pass.old).seen) (Next index (greatest_of (part_of pass.old).shape.kind))) }
+    ensures moved { IfNone result (length (part_of pass.old).seen + 1 ≤ (part_of pass.new).risen) }
+    ensures steps { steps.new ≤ steps.old + 292 }
+{
+    let Some(leaf) = walk(table, pass, index, steps) else {
+        return Some(None);
+    };
+    next_at_leaf(table, pass, &leaf, index, steps)
+}
+
+/// The first range that begins behind an index, and at `max` or below.
+pub fn next<L: Ledger>(
+    table: &MtTable,
+    pass: &mut Pass,
+    index: u64,
+    max: u64,
+    steps: &mut Steps<L>,
+) -> Result<Answer<Option<Range>>, Moved>
+    requires pass { IsPassOf (identity_of table.now) pass.old }
+    ensures stepped { Stepped (identity_of table.now) pass.old pass.new }
+    ensures read { IfOk result (λ answer. (k : ℕ) × Read (tree_in (identity_of table.now)) (pass_in pass.old) answer.lo answer.hi k (Next index max) answer.value (pass_in pass.new)) }
+    ensures section { IfOk result (λ answer. HasRead answer.lo answer.hi (pass_in pass.old) (pass_in pass.new)) }
+    ensures moved { IfErr result (λ moved. WasMoved (tree_in (identity_of table.now)) (pass_in pass.old) moved.lo moved.begun (pass_in pass.new)) }
+    ensures given_up { IfErr result (λ moved. HasRead moved.lo moved.begun (pass_in pass.old) (pass_in pass.new)) }
+    ensures steps { steps.new ≤ steps.old + 360 }
+{
+    let section = Section::begin(table, pass, steps);
+    let lo = section.epoch();
+    let found = next_from(table, pass, index, steps);
+    let begun = section.end(table, pass, steps);
+    match found {
+        Some(range) => Ok(Answer {
+            lo,
+            hi: begun,
+            value: within(range, 0, max),
+        }),
+        None => Err(Moved { lo, begun }),
+    }
+}

@@ -1,0 +1,158 @@
+//! Reads at the leaf that a walk comes to.
+
+ghost use Rattle.std.specs.Prelude.{◌≡◌, ◌≢◌, ℕ, ◌+◌, ◌<◌, ◌≤◌, None, IfSome, length};
+ghost use Rattle.mt_base.specs.Width.{greatest_of};
+ghost use Rattle.mt_base.specs.declared.calls.Query.TheVariants.{Load, Find};
+ghost use Rattle.mt_rule.specs.Sections.{here};
+ghost use Rattle.mt_rule.specs.Tokens.{identity_of, part_of, IsPassOf, Stepped};
+ghost use Rattle.mt_read.specs.Answers.{Answers, LeafAnswers};
+ghost use Rattle.mt_read.specs.Walks.{GoesOn, IsOnLeaf, IsPlaceIn, IsSameHold, SeesMore, WasRead, range_or_hole};
+
+use crate::descent::{Place, Row, find_slot, walk};
+use mt_base::{Range, Steps};
+use mt_layout::{RowKind, slots};
+use mt_rule::{MtTable, Pass};
+use std::sync::ledger::Ledger;
+
+/// The range with this entry, or none where that is 0.
+fn range_or_hole(place: &Place, entry: u64) -> Option<Range>
+    ensures { result ≡ range_or_hole place.now entry }
+{
+    if entry == 0 {
+        return None;
+    }
+    Some(Range {
+        first: place.first,
+        last: place.last,
+        entry,
+    })
+}
+
+/// The range that stands in a place of the leaf that the section is at, or none where it is a hole.
+pub fn range_at<L: Ledger>(
+    table: &MtTable,
+    pass: &mut Pass,
+    leaf: &Row,
+    place: &Place,
+    steps: &mut Steps<L>,
+) -> Option<Range>
+    requires pass { IsPassOf (identity_of table.now) pass.old }
+    requires leaf { IsOnLeaf (part_of pass.old) leaf.now }
+    requires place { IsPlaceIn (part_of pass.old) place.now }
+    ensures stepped { Stepped (identity_of table.now) pass.old pass.new }
+    ensures goes { GoesOn (part_of pass.old) (part_of pass.new) }
+    ensures leaf { IsOnLeaf (part_of pass.new) leaf.now }
+    ensures same { IsSameHold (here (part_of pass.old)) (here (part_of pass.new)) }
+    ensures read { WasRead (part_of pass.old) (part_of pass.new) place.now result }
+    ensures steps { steps.new ≡ steps.old + 1 }
+{
+    let column = slots(table.width(), RowKind::Leaf) + place.slot;
+    let entry = table.load_slot(pass, leaf.number, column, steps);
+    range_or_hole(place, entry)
+}
+
+/// The place behind another, in a leaf that goes on behind that.
+pub fn next_place<L: Ledger>(
+    table: &MtTable,
+    pass: &mut Pass,
+    leaf: &Row,
+    place: &Place,
+    steps: &mut Steps<L>,
+) -> Place
+    requires pass { IsPassOf (identity_of table.now) pass.old }
+    requires leaf { IsOnLeaf (part_of pass.old) leaf.now }
+    requires place { IsPlaceIn (part_of pass.old) place.now }
+    requires more { place.now.last ≢ leaf.now.max }
+    ensures stepped { Stepped (identity_of table.now) pass.old pass.new }
+    ensures sees { SeesMore (part_of pass.old) (part_of pass.new) }
+    ensures leaf { IsOnLeaf (part_of pass.new) leaf.now }
+    ensures slot { result.slot ≡ place.now.slot + 1 }
+    ensures first { result.first ≡ place.now.last + 1 }
+    ensures place { IsPlaceIn (part_of pass.new) result }
+    ensures steps { steps.new ≤ steps.old + 1 }
+{
+    let slot = place.slot + 1;
+    let first = place.last + 1;
+    if slot + 1 == slots(table.width(), RowKind::Leaf) {
+        return Place {
+            slot,
+            first,
+            last: leaf.max,
+        };
+    }
+    let last = table.load_pivot(pass, leaf.number, 1 + slot, steps);
+    Place { slot, first, last }
+}
+
+/// The first range that ends at an index or above, from the place that holds the index on: the range there, or the one
+/// behind the hole there.
+pub fn first_at<L: Ledger>(
+    table: &MtTable,
+    pass: &mut Pass,
+    leaf: &Row,
+    place: &Place,
+    index: u64,
+    steps: &mut Steps<L>,
+) -> Option<Range>
+    requires pass { IsPassOf (identity_of table.now) pass.old }
+    requires leaf { IsOnLeaf (part_of pass.old) leaf.now }
+    requires place { IsPlaceIn (part_of pass.old) place.now }
+    requires from { place.now.first ≤ index }
+    requires to { index ≤ place.now.last }
+    ensures stepped { Stepped (identity_of table.now) pass.old pass.new }
+    ensures goes { GoesOn (part_of pass.old) (part_of pass.new) }
+    ensures leaf { IsOnLeaf (part_of pass.new) leaf.now }
+    ensures same { IsSameHold (here (part_of pass.old)) (here (part_of pass.new)) }
+    ensures within { IfSome result (λ range. (leaf.now.min ≤ range.last) × (range.last ≤ leaf.now.max)) }
+    ensures answer { LeafAnswers (part_of pass.new) (here (part_of pass.old)) (Find index (greatest_of (part_of pass.old).shape.kind)) result }
+    ensures steps { steps.new ≤ steps.old + 3 }
+{
+    if let Some(range) = range_at(table, pass, leaf, place, steps) {
+        return Some(range);
+    }
+    if place.last == leaf.max {
+        return None;
+    }
+    let next = next_place(table, pass, leaf, place, steps);
+    range_at(table, pass, leaf, &next, steps)
+}
+
+/// The first range that ends at an index or above, by a walk from the root.
+pub fn first_from<L: Ledger>(
+    table: &MtTable,
+    pass: &mut Pass,
+    index: u64,
+    steps: &mut Steps<L>,
+) -> Option<Range>
+    requires pass { IsPassOf (identity_of table.now) pass.old }
+    requires open { (part_of pass.old).standing ≢ None }
+    requires index { index ≤ greatest_of (part_of pass.old).shape.kind }
+    ensures stepped { Stepped (identity_of table.now) pass.old pass.new }
+    ensures goes { GoesOn (part_of pass.old) (part_of pass.new) }
+    ensures answer { Answers (part_of pass.new) (length (part_of pass.old).seen) (Find index (greatest_of (part_of pass.old).shape.kind)) result }
+    ensures steps { steps.new ≤ steps.old + 147 }
+{
+    let leaf = walk(table, pass, index, steps)?;
+    let place = find_slot(table, pass, &leaf, index, steps);
+    first_at(table, pass, &leaf, &place, index, steps)
+}
+
+/// The range that holds an index, by a walk from the root.
+pub fn range_of<L: Ledger>(
+    table: &MtTable,
+    pass: &mut Pass,
+    index: u64,
+    steps: &mut Steps<L>,
+) -> Option<Range>
+    requires pass { IsPassOf (identity_of table.now) pass.old }
+    requires open { (part_of pass.old).standing ≢ None }
+    requires index { index ≤ greatest_of (part_of pass.old).shape.kind }
+    ensures stepped { Stepped (identity_of table.now) pass.old pass.new }
+    ensures goes { GoesOn (part_of pass.old) (part_of pass.new) }
+    ensures answer { Answers (part_of pass.new) (length (part_of pass.old).seen) (Load index) result }
+    ensures steps { steps.new ≤ steps.old + 145 }
+{
+    let leaf = walk(table, pass, index, steps)?;
+    let place = find_slot(table, pass, &leaf, index, steps);
+    range_at(table, pass, &leaf, &place, steps)
+}
