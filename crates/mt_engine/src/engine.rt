@@ -8,6 +8,7 @@ ghost use Rattle.mt_rows.specs.Publish.{map_by};
 ghost use Rattle.mt_rows.specs.Sheet.{OnlyReads, ReadsUpTo, limits_of};
 ghost use Rattle.mt_rows.specs.Trees.{height_in};
 ghost use Rattle.mt_engine.specs.Engine.{IsIdle, IsApplied};
+ghost use Rattle.mt_engine.specs.Heights.{HasHeight};
 ghost use Rattle.mt_engine.specs.Prepared.{IsPrestored};
 ghost use Rattle.mt_engine.specs.Rooms.{HasRoom, IsScanned, IsShortOf};
 ghost use Rattle.mt_engine.specs.RangeWalks.{found_from, index_behind, StepsWithin, WalksFrom};
@@ -61,6 +62,29 @@ impl<R: Rows> Engine<R> {
             kind,
             height,
         }
+    }
+
+    /// The same where it is known how many levels the tree has. It loads nothing.
+    pub fn of_height(rows: R, book: RowBook, kind: Kind, height: u64) -> Self
+        requires idle { IsIdle kind (R.sheet rows) book }
+        requires height { HasHeight (R.sheet rows).tree height }
+        ensures sheet { result.sheet ≡ R.sheet rows }
+        ensures book { result.book ≡ book }
+        ensures kind { result.kind ≡ kind }
+    {
+        Engine {
+            rows,
+            book,
+            kind,
+            height,
+        }
+    }
+
+    /// How many levels the tree has.
+    pub fn height(&self) -> u64
+        ensures { HasHeight self.now.sheet.tree result }
+    {
+        self.height
     }
 
     /// The rows and the book, from which an engine of the same kind can be made again.

@@ -1,24 +1,17 @@
 -- What a check of lawful words answers is their form.
-use Rattle.std.proofs.Common.{◌≡◌, ℕ, List, [], ◌∷◌, length, refl, sym, ap, ◌∙◌, subst, ◌≤◌}
+use Rattle.std.proofs.Common.{◌≡◌, ℕ, List, [], ◌∷◌, length, sym, ap, ◌∙◌, subst, ◌≤◌}
 use Rattle.std.specs.Prelude.{Ok}
 use Rattle.mt_base.specs.declared.kinds.Kind.{Kind}
+use Rattle.mt_base.specs.declared.ranges.Range.{Range}
 use Rattle.mt_rows.specs.declared.rows.Place.TheVariants.{Root}
 use Rattle.mt_rows.specs.Sheet.{Rooted, Sheet, OnlyReads}
 use Rattle.mt_rows.specs.Trees.{reached_in}
 use Rattle.mt_rows.specs.Publish.{tree_as, with_published, map_by, IsLawfulOf}
 use Rattle.mt_free.specs.Book.{Book}
-use Rattle.mt_engine.specs.Engine.{Parts, IsIdle}
-use Rattle.mt_rule.specs.declared.views.PenPart.{PenPart}
-use Rattle.mt_base.specs.declared.ranges.Range.{Range}
-use Rattle.mt_base.specs.History.{last_map}
-use Rattle.mt_base.specs.Passes.{with_records}
-use Rattle.mt_rule.specs.declared.views.Shape.{Shape}
-use Rattle.mt_rule.specs.Seats.{records_of}
-use Rattle.mt_rule.specs.Tokens.{Identity, tree_in}
-use Rattle.mt_tree.proofs.Reading.{map_is}
-use Rattle.mt_tree.specs.Behind.{IsOf, IsKept}
+use Rattle.mt_engine.specs.Engine.{IsIdle}
+use Rattle.mt_engine.specs.Heights.{HasHeight}
+use Rattle.mt_tree.proofs.Copying.{reached_within}
 use Rattle.mt_tree.specs.Copies.{IsFormOf, IsRowCount, IsReadyToOpen}
-use Rattle.mt_tree.proofs.OneCall.{read_kept}
 use Rattle.mt_check.specs.declared.faults.Fault.{Fault}
 use Rattle.mt_check.specs.declared.faults.Form.{Form}
 use Rattle.mt_check.specs.Check.{checked, first_or, faults_in, form_of}
@@ -51,21 +44,21 @@ form_told kind s read form same lawful is = record {
   ranges = ap (λ (f : Form). f.ranges) is ∙ ap (λ (x : Sheet). length (map_by x.tree)) same;
 }
 
--- the rows were taken out of the engine, read, and put back
-pub read_back : (p : PenPart) (e e' : Parts) (taken read : Sheet) → IsKept p e → taken ≡ e.sheet → OnlyReads taken read → OnlyReads read e'.sheet → e'.kind ≡ e.kind → IsKept p e'
-read_back p e e' taken read kept same one two kind = read_kept p p e e' kept refl kind (subst (λ (x : Sheet). OnlyReads x e'.sheet) same (reads_on taken read e'.sheet one two))
+-- the rows were taken out of an engine that was of this kind, read, and put into another
+pub lawful_as : (kind kind' : Kind) (e s : Sheet) (book : Book) → s ≡ e → kind ≡ kind' → IsIdle kind s book → IsLawfulOf s.tree kind'
+lawful_as kind kind' e s book taken same idle = subst (IsLawfulOf s.tree) same idle.state.kept.lawful
 
-pub read_on_back : (e e' : Parts) (taken read : Sheet) → taken ≡ e.sheet → OnlyReads taken read → OnlyReads read e'.sheet → OnlyReads e.sheet e'.sheet
-read_on_back e e' taken read same one two = subst (λ (x : Sheet). OnlyReads x e'.sheet) same (reads_on taken read e'.sheet one two)
+pub idle_as : (kind kind' : Kind) (e s s' : Sheet) (book : Book) → s ≡ e → kind ≡ kind' → OnlyReads s s' → IsIdle kind s book → IsIdle kind' s' book
+idle_as kind kind' e s s' book taken same reads idle = subst (λ (k : Kind). IsIdle k s' book) same (idle_read kind s s' book reads idle)
 
--- ---- of the tree
+pub live_within : (kind : Kind) (e s : Sheet) (book : Book) (live : ℕ) → s ≡ e → IsIdle kind s book → live ≡ length (reached_in s.tree.table s.tree.root) → live ≤ s.tree.rows
+live_within kind e s book live taken idle is = subst (λ (n : ℕ). n ≤ s.tree.rows) (sym is) (reached_within kind s book idle)
 
-pub form_there : (i : Identity) (p : PenPart) (e : Parts) (kind : Kind) (form : Form) → p.shape ≡ i.shape → IsOf p.shape p.history e → kind ≡ i.shape.kind → IsFormOf kind e.sheet.tree.rows (map_by e.sheet.tree) form
-    → IsFormOf (tree_in i).kind (tree_in i).rows (last_map (with_records (tree_in i) (records_of p.history))) form
-form_there i p e kind form shape of kind_is is =
-    let rows : e.sheet.tree.rows ≡ (tree_in i).rows = of.rows ∙ ap (λ (x : Shape). x.rows) shape in
-    let m : map_by e.sheet.tree ≡ last_map (with_records (tree_in i) (records_of p.history)) = of.map ∙ map_is p.shape i.shape p.history (records_of p.history) shape refl in
-    subst (λ (x : Kind × (ℕ × List Range)). IsFormOf x.0 x.1.0 x.1.1 form) (λ k. (kind_is k, (rows k, m k))) is
+pub high_as : (e s s' : Sheet) (height : ℕ) → s ≡ e → OnlyReads s s' → HasHeight e.tree height → HasHeight s'.tree height
+high_as e s s' height same reads high = subst (λ (x : Sheet). HasHeight x.tree height) (sym reads) (subst (λ (x : Sheet). HasHeight x.tree height) (sym same) high)
+
+pub reads_through : (e s s' e' : Sheet) → s ≡ e → OnlyReads s s' → e' ≡ s' → OnlyReads e e'
+reads_through e s s' e' one reads two = subst (λ (x : Sheet × Sheet). OnlyReads x.0 x.1) (λ k. (one k, sym two k)) reads
 
 pub count_told : (kind : Kind) (s read : Sheet) (live : ℕ) → read ≡ s → IsLawfulOf read.tree kind → live ≡ length (reached_in read.tree.table read.tree.root) → live ≤ read.tree.rows → IsRowCount kind s.tree.rows (map_by s.tree) live
 count_told kind s read live same lawful is within = record {
@@ -77,15 +70,14 @@ count_told kind s read live same lawful is within = record {
   within = subst (λ (x : Sheet). live ≤ x.tree.rows) same within;
 }
 
-module _ (i : Identity) (p : PenPart) (e : Parts) (kind : Kind) (shape : p.shape ≡ i.shape) (of : IsOf p.shape p.history e) (kind_is : kind ≡ i.shape.kind) where
-  map_there : map_by e.sheet.tree ≡ last_map (with_records (tree_in i) (records_of p.history))
-  map_there = of.map ∙ map_is p.shape i.shape p.history (records_of p.history) shape refl
+-- ---- of the tree
 
-  pub count_there : (live : ℕ) → IsRowCount kind e.sheet.tree.rows (map_by e.sheet.tree) live → IsRowCount (tree_in i).kind (tree_in i).rows (last_map (with_records (tree_in i) (records_of p.history))) live
-  count_there live is =
-      let rows : e.sheet.tree.rows ≡ (tree_in i).rows = of.rows ∙ ap (λ (x : Shape). x.rows) shape in
-      subst (λ (x : Kind × (ℕ × List Range)). IsRowCount x.0 x.1.0 x.1.1 live) (λ k. (kind_is k, (rows k, map_there k))) is
+module _ (kind kind' : Kind) (rows rows' : ℕ) (m m' : List Range) (same : kind ≡ kind') (many : rows ≡ rows') (all : m ≡ m') where
+  pub form_there : (form : Form) → IsFormOf kind rows m form → IsFormOf kind' rows' m' form
+  form_there form is = subst (λ (x : Kind × (ℕ × List Range)). IsFormOf x.0 x.1.0 x.1.1 form) (λ k. (same k, (many k, all k))) is
 
-  pub ready_there : (rows : ℕ) (taken s : Sheet) (book : Book) → taken ≡ e.sheet → IsReadyToOpen kind rows (map_by taken.tree) s book → IsReadyToOpen (tree_in i).kind rows (last_map (with_records (tree_in i) (records_of p.history))) s book
-  ready_there rows taken s book same is =
-      subst (λ (x : Kind × List Range). IsReadyToOpen x.0 rows x.1 s book) (λ k. (kind_is k, (ap (λ (x : Sheet). map_by x.tree) same ∙ map_there) k)) is
+  pub count_there : (live : ℕ) → IsRowCount kind rows m live → IsRowCount kind' rows' m' live
+  count_there live is = subst (λ (x : Kind × (ℕ × List Range)). IsRowCount x.0 x.1.0 x.1.1 live) (λ k. (same k, (many k, all k))) is
+
+  pub ready_there : (wanted : ℕ) (s : Sheet) (book : Book) → IsReadyToOpen kind wanted m s book → IsReadyToOpen kind' wanted m' s book
+  ready_there wanted s book is = subst (λ (x : Kind × List Range). IsReadyToOpen x.0 wanted x.1 s book) (λ k. (same k, all k)) is

@@ -1,8 +1,13 @@
+pub mod AtWork
+pub mod Calling
 pub mod Copying
+pub mod Ending
 pub mod Forms
 pub mod Lending
-pub mod OneCall
+pub mod Lists
+pub mod NoShortage
 pub mod Opening
-pub mod Preparing
+pub mod Places
 pub mod Reading
 pub mod Settling
+pub mod Showing

@@ -1,42 +1,150 @@
 -- A tree that opens: its pen, its rows and its passes.
-use Rattle.std.proofs.Common.{◌≡◌, ℕ, zero, suc, ◌+◌, ◌/◌, ◌<◌, ◌≤◌, false, List, [], Option, Some, length, map, get_or, refl, sym, ap, ◌∙◌, subst, arith}
-use Rattle.std.specs.Prelude.{All, slice_get, option_map, unwrap_or}
+use Rattle.std.proofs.Common.{◌≡◌, ℕ, zero, suc, ◌+◌, ◌/◌, ◌<◌, ◌≤◌, Bool, true, false, List, [], ◌∷◌, Option, Some, length, map, get_or, replicate, refl, sym, ap, ◌∙◌, subst, arith}
+use Rattle.std.specs.Prelude.{All, Contains, slice_get, slice_index_or, option_map, unwrap_or, if◌then◌else◌}
 use Rattle.std.specs.List.{range_with_len}
+use Rattle.std.proofs.Math.Nat.{zero-min}
 use Rattle.std.proofs.lemmas.List.{length-map}
+use Rattle.std.proofs.lemmas.List.Elements.{All-nil, Contains-get_or}
 use Rattle.std.proofs.lemmas.Option.{slice_get-map, slice_get-get_or, slice_get_within}
 use Rattle.std.proofs.lemmas.List.FromFn.{get_or-map-range_with_len}
 use Rattle.mt_base.specs.declared.kinds.Kind.{Kind}
 use Rattle.mt_base.specs.Passes as known
 use Rattle.mt_base.specs.Passes.{new_pass}
-use Rattle.mt_rows.specs.Sheet.{Sheet, OnlyReads}
-use Rattle.mt_rows.specs.Publish.{map_by}
-use Rattle.mt_engine.specs.Engine.{Parts}
+use Rattle.mt_base.specs.Width.{first_row}
+use Rattle.mt_free.specs.Book.{Book, Held, live_count}
+use Rattle.mt_rows.specs.declared.rows.Life.{Life}
+use Rattle.mt_rows.specs.declared.rows.Life.TheVariants.{New, Live, Dead}
+use Rattle.mt_rows.specs.Levels.{one_if}
+use Rattle.mt_rows.specs.Sheet.{HasDied, IsWhole, Rooted, Sheet, life_of}
+use Rattle.mt_rows.specs.Publish.{IsLawfulOf, LiveAreReached, is_reached, map_by}
+use Rattle.mt_splice.specs.Kept.{IsSpare, IsBookOf}
+use Rattle.mt_splice.proofs.LiveRows.{live_is_reached}
+use Rattle.mt_engine.specs.Engine.{IsEngineState, IsIdle, IsState}
+use Rattle.mt_engine.specs.Heights.{HasHeight}
+use Rattle.mt_engine.proofs.Levelled.{levelled}
+use Rattle.mt_engine.proofs.Moments.{tree_if_lawful}
+use Rattle.mt_pen.specs.Works.{OpensSmall}
 use Rattle.mt_rule.specs.declared.passes.Pass.{Pass}
 use Rattle.mt_rule.specs.declared.views.PenPart.{PenPart}
 use Rattle.mt_rule.specs.declared.views.Shape.{Shape}
-use Rattle.mt_rule.specs.Seats.{new_pen, tree_of}
+use Rattle.mt_rule.specs.Seats.{least_of, new_pen, opening_life, rooted_in, sheet_of, tree_of}
 use Rattle.mt_rule.specs.Tokens as rule
 use Rattle.mt_rule.specs.Tokens.{shape_opened, pass_in}
 use Rattle.mt_rule.specs.Turns.{IsSeatedAt}
-use Rattle.mt_tree.specs.Behind.{IsKept}
+use Rattle.mt_tree.specs.Behind.{parts_of, IsKept}
 use Rattle.mt_tree.specs.declared.shapes.Shape.{Shape as Shape'}
 use Rattle.mt_tree.specs.declared.trees.Tree.{Tree}
 use Rattle.mt_tree.specs.Trees.{passes_of, place_of, AreAll, IsNew}
 
-pub open_kept : (kind : Kind) (s : Sheet) (passes calls : ℕ) (shape : Shape) (p : PenPart) (e : Parts) → shape ≡ shape_opened kind s passes calls → p ≡ record (new_pen shape) { dealt = passes } → OnlyReads s e.sheet → e.kind ≡ kind
-    → s.ended ≡ 0 → s.opened ≤ length (map_by s.tree) / 2 + 2 → s.shared ≡ false → IsKept p e
-open_kept kind s passes calls shape p e shape_is pen_is reads kind_is none few alone =
-    subst (λ (x : PenPart). IsKept x e) (sym (pen_is ∙ ap (λ (x : Shape). record (new_pen x) { dealt = passes }) shape_is)) (record {
-      dealt = refl;
-      of = record {
-        kind = kind_is;
-        rows = ap (λ (x : Sheet). x.tree.rows) reads;
-        map = ap (λ (x : Sheet). map_by x.tree) reads;
-        ended = ap (λ (x : Sheet). x.ended) reads ∙ none;
-        opened = subst (λ (n : ℕ). n ≤ length (map_by s.tree) / 2 + 2) (sym (ap (λ (x : Sheet). x.opened) reads)) few;
-        alone = ap (λ (x : Sheet). x.shared) reads ∙ alone;
-      };
-    })
+same_anywhere : {X : Type 0} (n i : ℕ) (x : X) → slice_index_or (replicate n x) i x ≡ x
+same_anywhere zero i x = refl
+same_anywhere (suc n) zero x = refl
+same_anywhere (suc n) (suc i) x = same_anywhere n i x
+
+life_from : (t : Rooted) (a n i row : ℕ) → a + i ≡ row → i < n → life_of (map (opening_life t) (range_with_len a n)) i ≡ opening_life t row
+life_from t a zero i row at low = absurd (omega arith)
+life_from t a (suc n) zero row at low = (let e : a ≡ row = omega (arith, at) in ap (opening_life t) e)
+life_from t a (suc n) (suc i) row at low = life_from t (a + 1) n i row (omega (arith, at)) (omega arith)
+
+-- rows and a book on which no call was begun, of which a tree opens
+module _ (kind : Kind) (s : Sheet) (passes calls : ℕ) (book : Book) (idle : IsIdle kind s book) (none : s.ended ≡ 0) (whole : IsWhole s) where
+  abbrev shape : Shape
+  shape = shape_opened kind s passes calls
+
+  abbrev pen : PenPart
+  pen = record (new_pen shape s.tree) { dealt = passes }
+
+  lawful : IsLawfulOf s.tree kind
+  lawful = idle.state.kept.lawful
+
+  booked : IsBookOf s.tree s.lives s.cleared book (s.ended + 1)
+  booked = idle.state.kept.booked
+
+  pub rooted_is : rooted_in pen ≡ s.tree
+  rooted_is = λ k. record { rows = s.tree.rows; table = record { width = sym lawful.width k; words = s.tree.table.words }; root = s.tree.root }
+
+  life_is : (row : ℕ) → row < first_row + s.tree.rows → life_of pen.lives row ≡ opening_life s.tree row
+  life_is row low = life_from s.tree 0 (first_row + s.tree.rows) row row (omega arith) low
+
+  reached_live : (b : Bool) → (if b then Live else New) ≡ Live → b ≡ true
+  reached_live true is = refl
+  reached_live false is = absurd (cc)
+
+  live : LiveAreReached s.tree pen.lives
+  live row low high = (
+    λ is. reached_live (is_reached s.tree row) (sym (life_is row high) ∙ is),
+    λ is. life_is row high ∙ ap (λ (b : Bool). if b then Live else New) is,
+  )
+
+  free_new : (row : ℕ) → Contains book.free row → row < first_row + s.tree.rows → life_of pen.lives row ≡ New
+  free_new row free high = by (is_reached s.tree row) refl
+    where
+      by : (b : Bool) → is_reached s.tree row ≡ b → life_of pen.lives row ≡ New
+      by false is = life_is row high ∙ ap (λ (b : Bool). if b then Live else New) is
+      by true is = absurd ((booked.reached row is).not_free free)
+
+  dead_none : (l : Life) (stamp : ℕ) → HasDied s.ended s.in_flight l → l ≡ Dead stamp → ⊥
+  dead_none l stamp died is =
+      let d : (1 ≤ stamp) × (stamp ≤ s.ended + one_if s.in_flight) = subst (HasDied s.ended s.in_flight) is died in
+      let high = d.1 in
+      let low = d.0 in
+      omega (arith, low, high, none, ap one_if idle.idle)
+
+  held_of : (held : List Held) → All (λ (h : Held). life_of s.lives h.row ≡ Dead h.stamp) held → held ≡ []
+  held_of [] dead = refl
+  held_of (h ∷ held) dead = absurd (dead_none (life_of s.lives h.row) h.stamp (whole.dead h.row) (dead 0 h (omega arith)))
+
+  none_held : book.held ≡ []
+  none_held = held_of book.held idle.state.held
+
+  booked_there : IsBookOf s.tree pen.lives 0 book 1
+  booked_there = record {
+    sound = booked.sound;
+    rows = booked.rows;
+    out = booked.out;
+    reached = booked.reached;
+    spare = λ i d low.
+        let here = booked.sound.free_rows i d low in
+        subst (IsSpare 0) (sym (free_new (get_or book.free i d) (Contains-get_or book.free i d low) (let h = here.1 in let r = booked.rows in omega (arith, h, r)))) tt;
+    stamps = subst (All (λ (h : Held). h.stamp < 1)) (sym none_held) (All-nil (λ (h : Held). h.stamp < 1));
+  }
+
+  grown : length book.held + live_count book ≤ shape.opened
+  grown = (let live = live_is_reached s.tree s.lives s.cleared kind book (s.ended + 1) (tree_if_lawful s.tree kind lawful) booked in omega (arith, live, ap length none_held))
+
+  cleared_is : (n : ℕ) → least_of (replicate n 0) ≡ 0
+  cleared_is zero = refl
+  cleared_is (suc zero) = refl
+  cleared_is (suc (suc n)) = zero-min (least_of (replicate (suc n) 0))
+
+  state_there : IsEngineState kind (sheet_of pen) book
+  state_there = subst (λ (x : Rooted × ℕ). IsState kind (Some kind) x.0 pen.lives pen.buried x.1 0 shape.opened book) (λ k. (sym rooted_is k, sym (cleared_is passes) k)) (record {
+    told = refl;
+    kept = record {
+      lawful = lawful;
+      live = live;
+      none_buried = λ row low high. same_anywhere (first_row + s.tree.rows) row false;
+      booked = booked_there;
+    };
+    held = subst (All (λ (h : Held). life_of pen.lives h.row ≡ Dead h.stamp)) (sym none_held) (All-nil (λ (h : Held). life_of pen.lives h.row ≡ Dead h.stamp));
+    grown = (let g = grown in omega (arith, g));
+  })
+
+  pub opens_small : OpensSmall shape
+  opens_small = (let half = (levelled s.tree kind (tree_if_lawful s.tree kind lawful)).half in omega (arith, half))
+
+  kept_there : (height : ℕ) → HasHeight s.tree height → IsKept pen (parts_of pen book) height
+  kept_there height high = record {
+    dealt = refl;
+    of = record { kind = refl; rows = refl; map = ap map_by rooted_is; ended = refl; opened = opens_small };
+    idle = record { idle = refl; state = state_there };
+    few = omega arith;
+    levels = subst (λ (x : Rooted). HasHeight x height) (sym rooted_is) high;
+  }
+
+  pub open_kept : (p : PenPart) (shape' : Shape) (height : ℕ) → shape' ≡ shape → p ≡ record (new_pen shape' s.tree) { dealt = passes } → HasHeight s.tree height → IsKept p (parts_of p book) height
+  open_kept p shape' height shape_is pen_is high =
+      subst (λ (x : PenPart). IsKept x (parts_of x book) height) (sym (pen_is ∙ ap (λ (x : Shape). record (new_pen x s.tree) { dealt = passes }) shape_is)) (kept_there height high)
 
 -- what a pass of such a list knows
 number_at : (n : ℕ) (ps : List Pass) (i : ℕ) (p : Pass) → map pass_in ps ≡ map new_pass (range_with_len 0 n) → i < n → slice_get ps i ≡ Some p → (pass_in p).number ≡ i

@@ -21,7 +21,7 @@ use Rattle.mt_tree.specs.Behind.{IsOf}
 pub map_is : (shape shape' : Shape) (h : List Moment) (seen : List Record) → shape ≡ shape' → seen ≡ records_of h → last_map (tree_of shape h) ≡ last_map (with_records (tree_of shape' []) seen)
 map_is shape shape' h seen same all = λ i. last_map (record { kind = (same i).kind; rows = (same i).rows; opening = (same i).opening; records = sym all i })
 
-take_all : {X : Type 0} (xs : List X) (n : ℕ) → n ≡ length xs → take n xs ≡ xs
+pub take_all : {X : Type 0} (xs : List X) (n : ℕ) → n ≡ length xs → take n xs ≡ xs
 take_all xs n is = ap (λ (k : ℕ). take k xs) is ∙ take-length xs
 
 pub asked : (i : Identity) (pen : PenPart) (e : Parts) (p q : known.Pass) (n : ℕ) (query : Query) (value : Option Range) → WasShown (tree_in i) pen p q → pen.shape ≡ i.shape → IsOf pen.shape pen.history e

@@ -1,6 +1,6 @@
 -- All passes see the whole history, one after another.
-use Rattle.std.proofs.Common.{◌≡◌, ◌≢◌, ◌⊎◌, ℕ, zero, suc, ◌+◌, ◌<◌, ◌≤◌, List, [], ◌∷◌, Option, Some, None, length, map, set, get_or, refl, sym, ap, ◌∙◌, subst, inl, inr, ⊎_elim, arith, length-set}
-use Rattle.std.specs.Prelude.{All, slice_get, option_map, unwrap_or, IfSome}
+use Rattle.std.proofs.Common.{◌≡◌, ◌≢◌, ◌⊎◌, ℕ, zero, suc, ◌+◌, ◌<◌, ◌≤◌, List, [], ◌∷◌, Option, Some, None, length, map, set, get_or, refl, sym, ap, ◌∙◌, subst, ⊎_elim, arith, length-set}
+use Rattle.std.specs.Prelude.{All, slice_get, IfSome}
 use Rattle.std.specs.List.{Contains}
 use Rattle.std.proofs.lemmas.List.{length-map}
 use Rattle.std.proofs.lemmas.List.Elements.{All-from_recursion}
@@ -8,29 +8,17 @@ use Rattle.std.proofs.lemmas.Option.{slice_get-map, slice_get-get_or, slice_get_
 use Rattle.mt_base.specs.declared.replies.Holder.{Holder}
 use Rattle.mt_base.specs.History.{Record, History, IsLegal}
 use Rattle.mt_base.specs.Passes as known
-use Rattle.mt_base.specs.Passes.{Saw, Settled, IsSettled, NamesReader, places, with_records, holder_of}
+use Rattle.mt_base.specs.Passes.{Saw, Settled, IsSettled, NamesReader, places, with_records, holder_of, new_pass}
+use Rattle.mt_base.proofs.Lists.{all_map}
 use Rattle.mt_rule.specs.declared.passes.Pass.{Pass}
 use Rattle.mt_rule.specs.declared.views.PenPart.{PenPart}
 use Rattle.mt_rule.specs.declared.views.Shape.{Shape}
-use Rattle.mt_rule.specs.Rule.{IsOneHistory, IsUnheld}
+use Rattle.mt_rule.specs.Rule.{IsOneHistory}
 use Rattle.mt_rule.specs.Seats.{records_of}
 use Rattle.mt_rule.specs.Tokens.{pass_in, WasShown}
-use Rattle.mt_rule.proofs.Beginnings.{all_weaker}
 use Rattle.mt_tree.specs.declared.trees.Tree.{Tree}
 use Rattle.mt_tree.specs.Trees.{opened, place_of, passes_of, seen_by, IsPassOf, AreAll}
-
-no_some : {A : Type 0} (a : A) → None ≡ Some a → ⊥
-no_some a e = absurd (cc)
-
-some_same : {A : Type 0} (a b : A) → Some a ≡ Some b → a ≡ b
-some_same a b e = ap (λ x. unwrap_or x a) e
-
-get_set : {A : Type 0} (l : List A) (i j : ℕ) (a b : A) → slice_get (set l i a) j ≡ Some b → ((j ≡ i) × (a ≡ b)) ⊎ ((j ≢ i) × (slice_get l j ≡ Some b))
-get_set [] i j a b e = absurd (no_some b e)
-get_set (x ∷ xs) zero zero a b e = inl (refl, some_same a b e)
-get_set (x ∷ xs) zero (suc j) a b e = inr ((λ h. omega arith), e)
-get_set (x ∷ xs) (suc i) zero a b e = inr ((λ h. omega arith), e)
-get_set (x ∷ xs) (suc i) (suc j) a b e = ⊎_elim (λ t. inl (ap suc t.0, t.1)) (λ t. let n = t.0 in inr ((λ h. n (omega arith)), t.1)) (get_set xs i j a b e)
+use Rattle.mt_tree.proofs.Lists.{some_same, get_set, from_map}
 
 abbrev pub Shown : Tree → PenPart → known.Pass → known.Pass → Type 0
 Shown t pen p q = WasShown (opened t) pen p q × (pen.shape ≡ (place_of t).shape)
@@ -89,15 +77,8 @@ still_all t pen n ps qs all s = record {
   numbered = λ i q is. (s.of i q is).1;
 }
 
-from_map : {A B : Type 0} (f : A → B) (o : Option A) (b : B) → option_map f o ≡ Some b → (a : A) × ((o ≡ Some a) × (f a ≡ b))
-from_map f None b is = absurd (no_some b is)
-from_map f (Some a) b is = (a, (refl, some_same (f a) b is))
-
 each_all : {A : Type 0} (P : A → Type 0) (xs : List A) → ((i : ℕ) (x : A) → slice_get xs i ≡ Some x → P x) → All P xs
 each_all P xs each = λ i d low. each i (get_or xs i d) (slice_get-get_or xs i d low)
-
-nobody : (passes : List known.Pass) (r : Record) → IsUnheld r → NamesReader passes r.reply
-nobody passes r none = subst (λ (o : Option Holder). IfSome o (λ holder. (q : known.Pass) × (slice_get passes holder.pass ≡ Some q) × Contains q.opened holder.epoch)) (sym none) tt
 
 module _ (t : Tree) (pen : PenPart) (n : ℕ) (ps qs : List Pass) (s : Seeing t pen n ps qs) (whole : length qs ≤ n) where
   abbrev history : History
@@ -120,6 +101,22 @@ module _ (t : Tree) (pen : PenPart) (n : ℕ) (ps qs : List Pass) (s : Seeing t 
   saw_whole : (p q : known.Pass) → Saw (opened t) p q → Saw history p q
   saw_whole p q saw = record { seen = saw.seen; pass = saw.pass; begun = saw.begun; ended = saw.ended; sound = record { own = saw.sound.own; legal = saw.sound.legal } }
 
+  -- each section that was found open is one that its pass opened
+  opener : (one : IsOneHistory pen) → pen.shape.passes ≡ length qs → (h : Holder) → Contains pen.loaded h → (q : known.Pass) × (slice_get (map pass_in qs) h.pass ≡ Some q) × Contains q.opened h.epoch
+  opener one many h loaded =
+      let low : h.pass < length (map pass_in qs) = (let l = one.loaded h loaded in let d = one.dealt in omega (arith, l, d, many, length-map qs pass_in)) in
+      let q = get_or (map pass_in qs) h.pass (new_pass 0) in
+      let here : slice_get (map pass_in qs) h.pass ≡ Some q = slice_get-get_or (map pass_in qs) h.pass (new_pass 0) low in
+      let w = was h.pass q here in
+      (q, here, w.shown.0.opened h loaded (sym w.number))
+
+  named : (one : IsOneHistory pen) → pen.shape.passes ≡ length qs → (r : Record) → IfSome (holder_of r.reply) (Contains pen.loaded) → NamesReader (map pass_in qs) r.reply
+  named one many r is = by (holder_of r.reply) is
+    where
+      by : (o : Option Holder) → IfSome o (Contains pen.loaded) → IfSome o (λ holder. (q : known.Pass) × (slice_get (map pass_in qs) holder.pass ≡ Some q) × Contains q.opened holder.epoch)
+      by None is = tt
+      by (Some h) is = opener one many h is
+
   each_saw : (i : ℕ) (p q : known.Pass) → slice_get (map pass_in ps) i ≡ Some p → slice_get (map pass_in qs) i ≡ Some q → Saw history p q
   each_saw i p q is is' =
       let from = from_map pass_in (slice_get ps i) p (sym (slice_get-map pass_in ps i) ∙ is) in
@@ -133,12 +130,12 @@ module _ (t : Tree) (pen : PenPart) (n : ℕ) (ps qs : List Pass) (s : Seeing t 
       numbered = λ i q is. (was i q is).number;
       seen = each_all (λ q. q.seen ≡ history.records) (map pass_in qs) (λ i q is. (was i q is).shown.0.all);
       own = each_all (λ q. q.mine ≡ places q.number history.records) (map pass_in qs) (λ i q is. let w = was i q is in w.shown.0.saw.sound.own ∙ ap (places q.number) w.shown.0.all);
-      theirs = All-from_recursion (λ (r : Record). r.pass < length (map pass_in qs)) history.records (all_weaker (λ r. r.pass < pen.dealt) (λ r. r.pass < length (map pass_in qs)) (λ r low. let d = one.dealt in omega (arith, many, d, length-map qs pass_in)) history.records one.callers);
+      theirs = All-from_recursion (λ (r : Record). r.pass < length (map pass_in qs)) history.records (all_map (λ (r : Record). r.pass < pen.dealt) (λ (r : Record). r.pass < length (map pass_in qs)) (λ r low. let d = one.dealt in omega (arith, many, d, length-map qs pass_in)) history.records one.callers);
       begun = each_all (λ q. q.begun ≤ length history.records) (map pass_in qs) (λ i q is. let w = was i q is in
           let saw = w.shown.0.saw in omega (arith, saw.begun, ap (λ (x : known.Pass). x.begun) saw.pass, ap length w.shown.0.all));
       ended = each_all (λ q. q.ended ≡ length history.records) (map pass_in qs) (λ i q is. let w = was i q is in
           ap (λ (x : known.Pass). x.ended) w.shown.0.saw.pass ∙ ap length w.shown.0.all);
-      by = All-from_recursion (λ (r : Record). NamesReader (map pass_in qs) r.reply) history.records (all_weaker IsUnheld (λ r. NamesReader (map pass_in qs) r.reply) (nobody (map pass_in qs)) history.records one.unheld);
+      by = All-from_recursion (λ (r : Record). NamesReader (map pass_in qs) r.reply) history.records (all_map (λ (r : Record). IfSome (holder_of r.reply) (Contains pen.loaded)) (λ (r : Record). NamesReader (map pass_in qs) r.reply) (named one many) history.records one.named);
       legal = legal;
     }
 
@@ -149,7 +146,7 @@ pub settled : (t : Tree) (pen : PenPart) (n : ℕ) (ps qs : List Pass) → Seein
 settled t pen n ps [] s whole all some = let a = all.count in let b = s.count in absurd (omega (arith, a, b, some))
 settled t pen n ps (q ∷ qs) s whole all some =
     let w = was t pen n ps (q ∷ qs) s whole 0 (pass_in q) refl in
-    let one = w.shown.0.whole in
+    let one = w.shown.0.sound.history in
     let many : pen.shape.passes ≡ length (q ∷ qs) = ap (λ (x : Shape). x.passes) w.shown.1 ∙ (sym all.count ∙ sym s.count) in
     let seen : (pass_in q).seen ≡ records_of pen.history = w.shown.0.all in
     let legal : IsLegal (with_records (opened t) (records_of pen.history)) = subst (λ (rs : List Record). IsLegal (with_records (opened t) rs)) seen w.shown.0.saw.sound.legal in

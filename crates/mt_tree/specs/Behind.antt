@@ -1,38 +1,60 @@
--- What lies behind the lock of a tree: its pen, and the tree on one thread, whose map is the map after all calls.
+-- What lies behind the lock of a tree: its pen, and the book of the rows on its table, whose words stand for the map after all calls.
 -- Source: this project's own; the kernel's ma_lock guards the whole tree.
-use Rattle.std.specs.Prelude.{◌≡◌, ◌⊎◌, ◌+◌, ◌/◌, ◌≤◌, false, List, length}
+use Rattle.std.specs.Prelude.{◌≡◌, ◌⊎◌, ℕ, ◌+◌, ◌/◌, ◌≤◌, Option, Some, None, List, [], length}
 use Rattle.mt_base.specs.declared.replies.Reply.{Reply}
 use Rattle.mt_base.specs.declared.replies.Reply.TheVariants as replies
 use Rattle.mt_base.specs.History.{last_map}
-use Rattle.mt_engine.specs.Engine.{Parts}
-use Rattle.mt_engine.specs.Rooms.{HasRoom, IsScanned}
+use Rattle.mt_engine.specs.Engine.{Parts, IsIdle}
+use Rattle.mt_engine.specs.Heights.{HasHeight}
+use Rattle.mt_engine.specs.Rooms.{HasRoom}
+use Rattle.mt_free.specs.Book.{Book, after_reclaim, new_book}
+use Rattle.mt_pen.specs.Writers.{no_table}
+use Rattle.mt_rows.specs.declared.rows.Scan.{Scan}
 use Rattle.mt_rows.specs.Publish.{map_by}
-use Rattle.mt_rows.specs.Sheet.{OnlyReads}
 use Rattle.mt_rule.specs.declared.views.Moment.{Moment}
 use Rattle.mt_rule.specs.declared.views.PenPart.{PenPart}
 use Rattle.mt_rule.specs.declared.views.Shape.{Shape}
-use Rattle.mt_rule.specs.Seats.{tree_of}
-use Rattle.mt_rule.specs.Tokens.{Identity}
+use Rattle.mt_rule.specs.Seats.{no_pen, records_of, sheet_of, tree_of}
+use Rattle.mt_rule.specs.Tokens.{Identity, IsAlone, identity_of_pen, pen_in}
+use Rattle.mt_tree.specs.declared.behind.Tools.{Tools}
 
+-- the table that is written, what its pen knows, and the rows with their book
 pub record Behind : Type 0 where
   pub table : Identity
   pub pen : PenPart
   pub parts : Parts
 
--- The rows are of this tree: they stand for the map after these calls, as many have ended, no one else reads them, and they
--- opened with no more rows than a map of so many ranges may have.
+-- the rows that the pen knows, with this book
+abbrev pub parts_of : PenPart → Book → Parts
+parts_of p book = record { sheet = sheet_of p; book = book; kind = p.shape.kind }
+
+-- what the tools stand for; while a call is at work they are not there
+abbrev pub behind_of : Option Tools → Behind
+behind_of (Some t) = record { table = identity_of_pen t.pen; pen = pen_in t.pen; parts = parts_of (pen_in t.pen) t.book }
+behind_of None = record { table = no_table; pen = no_pen; parts = parts_of no_pen (new_book 0) }
+
+-- The rows are of this tree: they stand for the map after these calls, as many have ended, and they opened with no more rows
+-- than a map of so many ranges may have.
 pub record IsOf (shape : Shape) (history : List Moment) (e : Parts) : Type 0 where
   pub kind : e.kind ≡ shape.kind
   pub rows : e.sheet.tree.rows ≡ shape.rows
   pub map : map_by e.sheet.tree ≡ last_map (tree_of shape history)
   pub ended : e.sheet.ended ≡ length history
   pub opened : e.sheet.opened ≤ length shape.opening / 2 + 2
-  pub alone : e.sheet.shared ≡ false
 
--- All passes are dealt, and the rows are of the pen's tree.
-pub record IsKept (p : PenPart) (e : Parts) : Type 0 where
+-- No call is in flight, all passes are dealt, the rows are lawful and of the pen's tree, which has no more calls than it may have,
+-- and so many levels; the book is of these rows.
+pub record IsKept (p : PenPart) (e : Parts) (height : ℕ) : Type 0 where
   pub dealt : p.dealt ≡ p.shape.passes
   pub of : IsOf p.shape p.history e
+  pub idle : IsIdle e.kind e.sheet e.book
+  pub few : length p.history ≤ p.shape.calls
+  pub levels : HasHeight e.sheet.tree height
+
+-- While the lock is free no pass is joined with the pen.
+abbrev pub IsAtRest : Option Tools → Type 0
+IsAtRest (Some t) = IsAlone t.pen × IsKept (pen_in t.pen) (parts_of (pen_in t.pen) t.book) t.height
+IsAtRest None = ⊥
 
 -- a store may be made for which rows are at hand
 abbrev pub IsReady : Parts → Type 0
@@ -42,17 +64,18 @@ IsReady e = HasRoom e.sheet.tree e.book
 abbrev pub IsStored : Reply → Type 0
 IsStored reply = (reply ≡ replies.Ok) ⊎ (reply ≡ replies.Invalid)
 
--- The rows were only read.
+-- The words were only read.
 pub record IsRead (b b' : Behind) : Type 0 where
   pub table : b'.table ≡ b.table
-  pub pen : b'.pen ≡ b.pen
-  pub kind : b'.parts.kind ≡ b.parts.kind
-  pub book : b'.parts.book ≡ b.parts.book
-  pub rows : OnlyReads b.parts.sheet b'.parts.sheet
+  pub records : records_of b'.pen.history ≡ records_of b.pen.history
+  pub parts : b'.parts ≡ b.parts
 
--- The rows were scanned, and those that no section holds are free.
+-- The section words were scanned, and the held rows are free that no section holds. All words, and the history, are as they were.
 pub record WasPrepared (b b' : Behind) : Type 0 where
   pub table : b'.table ≡ b.table
-  pub pen : b'.pen ≡ b.pen
+  pub records : records_of b'.pen.history ≡ records_of b.pen.history
   pub kind : b'.parts.kind ≡ b.parts.kind
-  pub scanned : IsScanned b.parts.kind b.parts.sheet b'.parts.sheet b.parts.book b'.parts.book
+  pub sheet : b'.parts.sheet ≡ record b.parts.sheet { cleared = b'.parts.sheet.cleared }
+  pub rises : b.parts.sheet.cleared ≤ b'.parts.sheet.cleared
+  pub scan : Scan
+  pub freed : b'.parts.book ≡ after_reclaim b.parts.book scan.least

@@ -2,3 +2,4 @@ pub mod Behind
 pub mod Copies
 pub mod Shapes
 pub mod Trees
+pub mod Works

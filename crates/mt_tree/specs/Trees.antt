@@ -10,6 +10,7 @@ use Rattle.mt_base.specs.Nodes.{IsShort}
 use Rattle.mt_base.specs.Passes as known
 use Rattle.mt_base.specs.Passes.{with_records, new_pass}
 use Rattle.mt_engine.specs.Engine.{Parts, TellsBook}
+use Rattle.mt_rows.specs.declared.rows.Scan.{Scan}
 use Rattle.mt_rows.specs.Publish.{IsCounted}
 use Rattle.mt_rule.specs.declared.passes.Pass.{Pass}
 use Rattle.mt_rule.specs.declared.notes.Note.{Note}
@@ -82,9 +83,10 @@ pub record IsOpen (t : Tree) (p : Pass) (behind : Behind) (seat : Seat (Option B
   pub ended : (pass_in p).ended ≡ length (pass_in p).seen
 
 -- Too few rows are free for a store behind all that the pass has seen. The shortage tells the height and the book of the rows,
--- and no section of the pass itself where it has none open.
+-- as a scan found them, and no section of the pass itself where it has none open.
 pub record IsShortNow (t : Tree) (p : known.Pass) (e : Parts) (shortage : Shortage) : Type 0 where
   pub short : IsShort (limits_after (opened t) (length p.seen)) (map_seen t p) shortage
-  pub counted : IsCounted e.sheet shortage
+  pub scan : Scan
+  pub counted : IsCounted (record e.sheet { scan = scan }) shortage
   pub tells : TellsBook e.book shortage
   pub by : p.standing ≡ None → IfSome shortage.by (λ holder. holder.pass ≢ p.number)

@@ -1,6 +1,6 @@
 //! What lies behind the lock of a tree.
 
-ghost use Rattle.std.specs.Prelude.{◌≡◌, ◌↔◌, ◌<◌, ◌≤◌, true, length, IsOk, IsTrue, IfOk, IfErr};
+ghost use Rattle.std.specs.Prelude.{◌≡◌, ◌↔◌, ◌<◌, ◌≤◌, Some, None, true, length, IsOk, IsTrue, IfOk, IfErr};
 ghost use Rattle.mt_base.specs.declared.calls.Call.TheVariants.{StorePre};
 ghost use Rattle.mt_base.specs.Passes as known;
 ghost use Rattle.mt_base.specs.Passes.{Wrote};
@@ -12,31 +12,37 @@ ghost use Rattle.mt_tree.specs.Trees.{opened, limit_of, map_seen, place_of, IsPa
 
 use crate::shapes::{Done, Read, Worn};
 use crate::trees::Tree;
+use crate::works;
 use mt_base::{Call, NoMemory, Query, Range, Shortage};
-use mt_engine::Engine;
-use mt_rows::PlainRows;
+use mt_free::RowBook;
 use mt_rule::{OfTable, Pass, Pen};
 use std::alloc::Global;
-use std::marker::Model;
+use std::marker::{Brand, Model};
 use std::mem;
 
-/// The pen of a tree, and the tree on one thread. While the lock is free no pass is joined with the pen, and the map is that
-/// after all calls.
+/// The pen of a tree, the book of its rows, and how many levels it has.
+#[derive(Drop)]
+pub struct Tools {
+    pub(crate) pen: Pen,
+    pub(crate) book: RowBook,
+    pub(crate) height: u64,
+}
+
+/// The tools with which a tree is written. They are away only while a call is at work. While the lock is free no pass is joined
+/// with the pen, and the words stand for the map after all calls.
 #[derive(Drop)]
 pub struct Desk {
-    pub(crate) pen: Pen,
-    pub(crate) engine: Engine<PlainRows>,
+    pub(crate) tools: Option<Tools>,
 }
 
 impl Model for Desk {
-    ghost use Rattle.mt_rule.specs.Tokens.{identity_of_pen, pen_in, IsAlone};
-    ghost use Rattle.mt_tree.specs.Behind.{Behind, IsKept};
+    ghost use Rattle.mt_tree.specs.Behind.{Behind, behind_of, IsAtRest};
 
     ghost Value = { Behind };
 
-    ghost view = { λ d. record { table = identity_of_pen d.pen; pen = pen_in d.pen; parts = d.engine } };
+    ghost view = { λ d. behind_of d.tools };
 
-    ghost invariant = { λ d. IsAlone d.pen × IsKept (pen_in d.pen) d.engine };
+    ghost invariant = { λ d. IsAtRest d.tools };
 }
 
 impl OfTable for Desk {
@@ -54,10 +60,32 @@ impl Desk {
         ensures count { result ≡ length self.old.pen.history }
         ensures shape { self.old.pen.shape ≡ (place_of tree.now).shape }
     {
-        let table = &tree.table;
-        let calls = table.join_pen(&mut self.pen, mem::replace(pass, Pass::away()));
-        *pass = table.split_pen(&mut self.pen);
+        let Some(
+            Tools {
+                mut pen,
+                book,
+                height,
+            },
+        ) = self.tools.take()
+        else {
+            unreachable!()
+        };
+        let calls = tree
+            .table
+            .join_pen(&mut pen, mem::replace(pass, Pass::away()));
+        *pass = tree.table.split_pen(&mut pen);
+        self.tools = Some(Tools { pen, book, height });
         calls
+    }
+
+    /// How many calls have ended.
+    fn calls(&self) -> u64
+        ensures { result ≡ length self.now.pen.history }
+    {
+        let Some(tools) = &self.tools else {
+            unreachable!()
+        };
+        tools.pen.ended()
     }
 
     /// Makes one call.
@@ -71,15 +99,12 @@ impl Desk {
         ensures worn { IfErr result (λ w. IsWorn tree.now (pass_in pass.old) w (pass_in pass.new) × (self.new ≡ self.old)) }
         ensures kept { IfOk result (λ d. is_refusal d.reply ≡ true → self.new.parts.sheet.tree ≡ self.old.parts.sheet.tree) }
     {
-        let table = &tree.table;
-        let calls = table.join_pen(&mut self.pen, mem::replace(pass, Pass::away()));
+        let calls = self.calls();
         if calls == tree.shape.calls {
-            *pass = table.split_pen(&mut self.pen);
+            self.show(tree, pass);
             return Err(Worn { calls });
         }
-        let reply = self.engine.apply(call);
-        table.store_commits(&mut self.pen, call, &reply);
-        *pass = table.split_pen(&mut self.pen);
+        let reply = works::act::<Brand>(&mut self.tools, tree, pass, call);
         Ok(Done {
             call: calls + 1,
             reply,
@@ -106,19 +131,12 @@ impl Desk {
         ensures worn { IfErr result (λ w. IsWorn tree.now (pass_in pass.old) w (pass_in pass.new) × (self.new ≡ self.old)) }
         ensures kept { IfOk result (λ d. is_refusal d.reply ≡ true → self.new.parts.sheet.tree ≡ self.old.parts.sheet.tree) }
     {
-        let table = &tree.table;
-        let calls = table.join_pen(&mut self.pen, mem::replace(pass, Pass::away()));
+        let calls = self.calls();
         if calls == tree.shape.calls {
-            *pass = table.split_pen(&mut self.pen);
+            self.show(tree, pass);
             return Err(Worn { calls });
         }
-        let reply = self.engine.store_prealloc(first, last, entry);
-        table.store_commits(
-            &mut self.pen,
-            &Call::StorePre { first, last, entry },
-            &reply,
-        );
-        *pass = table.split_pen(&mut self.pen);
+        let reply = works::store_prealloc::<Brand>(&mut self.tools, tree, pass, first, last, entry);
         Ok(Done {
             call: calls + 1,
             reply,
@@ -131,16 +149,16 @@ impl Desk {
         requires pass { IsPassOf tree.now pass.old }
         ensures desk { IsRead self.old self.new }
         ensures of { IsPassOf tree.now pass.new }
-        ensures seen { (pass_in pass.new).seen ≡ records_of self.old.pen.history }
+        ensures seen { (pass_in pass.new).seen ≡ records_of self.new.pen.history }
         ensures saw { known.Saw (opened tree.now) (pass_in pass.old) (pass_in pass.new) }
         ensures window { (result.lo ≡ length (pass_in pass.new).seen) × (result.hi ≡ result.lo) }
         ensures read { known.Read (opened tree.now) (pass_in pass.old) result.lo result.hi result.lo query.now result.value (pass_in pass.new) }
     {
-        let calls = self.show(tree, pass);
+        let calls = self.calls();
         Read {
             lo: calls,
             hi: calls,
-            value: self.engine.ask(query),
+            value: works::ask::<Brand>(&mut self.tools, tree, pass, query),
         }
     }
 
@@ -150,13 +168,12 @@ impl Desk {
         requires pass { IsPassOf tree.now pass.old }
         ensures prepared { WasPrepared self.old self.new }
         ensures of { IsPassOf tree.now pass.new }
-        ensures seen { (pass_in pass.new).seen ≡ records_of self.old.pen.history }
+        ensures seen { (pass_in pass.new).seen ≡ records_of self.new.pen.history }
         ensures saw { known.Saw (opened tree.now) (pass_in pass.old) (pass_in pass.new) }
         ensures ready { IsOk result ↔ IsReady self.new.parts }
         ensures short { IfErr result (λ shortage. IsShortNow tree.now (pass_in pass.new) self.new.parts shortage) }
     {
-        self.show(tree, pass);
-        self.engine.preallocate()
+        works::preallocate::<Brand>(&mut self.tools, tree, pass)
     }
 
     /// Copies the ranges out.
@@ -170,18 +187,20 @@ impl Desk {
         requires pass { IsPassOf tree.now pass.old }
         ensures desk { IsRead self.old self.new }
         ensures of { IsPassOf tree.now pass.new }
-        ensures seen { (pass_in pass.new).seen ≡ records_of self.old.pen.history }
+        ensures seen { (pass_in pass.new).seen ≡ records_of self.new.pen.history }
         ensures saw { known.Saw (opened tree.now) (pass_in pass.old) (pass_in pass.new) }
         ensures items { IfOk result (λ ranges. ranges.items ≡ map_seen tree.now (pass_in pass.new)) }
     {
-        self.show(tree, pass);
-        self.engine.list(alloc)
+        works::list::<Brand>(&mut self.tools, tree, pass, alloc)
     }
 
     /// Whether a store may be made for which rows were found free.
     pub(crate) fn ready(&self) -> bool
         ensures { IsTrue result ↔ IsReady self.now.parts }
     {
-        self.engine.ready()
+        let Some(tools) = &self.tools else {
+            unreachable!()
+        };
+        3 * tools.height + 1 <= tools.book.free()
     }
 }

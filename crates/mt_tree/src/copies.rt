@@ -14,19 +14,22 @@ ghost use Rattle.mt_check.specs.Check.{form_of};
 ghost use Rattle.mt_rule.specs.Seats.{records_of};
 ghost use Rattle.mt_rule.specs.Tokens.{pass_in};
 ghost use Rattle.mt_tree.specs.declared.shapes.Field.{Field};
-ghost use Rattle.mt_tree.specs.Behind.{IsRead};
+ghost use Rattle.mt_tree.specs.Behind.{behind_of, IsAtRest, IsRead};
 ghost use Rattle.mt_tree.specs.Copies.{IsFormOf, IsRowCount, IsCopyError, IsTooFew, IsReadyToOpen};
 ghost use Rattle.mt_tree.specs.Shapes.{first_bad};
 ghost use Rattle.mt_tree.specs.Trees.{opened, map_seen, place_of, IsPassOf, IsNew};
+ghost use Rattle.mt_tree.specs.Works.{IsWorker};
 
-use crate::behind::Desk;
+use crate::behind::{Desk, Tools};
 use crate::shapes::{DupError, Shape};
 use crate::trees::Tree;
+use crate::works::{begin, end};
 use mt_base::{Kind, Steps};
 use mt_check::{Form, check};
 use mt_dup::copy_rows;
 use mt_engine::Engine;
 use mt_free::RowBook;
+use mt_pen::Writer;
 use mt_rows::{PlainRows, Rows};
 use mt_rule::Pass;
 use std::alloc::Global;
@@ -35,10 +38,10 @@ use std::sync::Wait;
 use std::sync::ledger::{Blank, Ledger};
 
 /// The form of lawful words.
-fn form_of_rows(rows: &mut PlainRows, kind: Kind) -> Form
-    requires { IsLawfulOf (sheet_in rows.old).tree kind }
-    ensures form { result ≡ form_of (tree_as kind (sheet_in rows.old).tree) }
-    ensures rest { OnlyReads (sheet_in rows.old) (sheet_in rows.new) }
+fn form_of_rows<R: Rows>(rows: &mut R, kind: Kind) -> Form
+    requires { IsLawfulOf (R.sheet rows.old).tree kind }
+    ensures form { result ≡ form_of (tree_as kind (R.sheet rows.old).tree) }
+    ensures rest { OnlyReads (R.sheet rows.old) (R.sheet rows.new) }
 {
     let root = rows.root();
     let Ok(form) = check(rows, root, kind) else {
@@ -48,16 +51,16 @@ fn form_of_rows(rows: &mut PlainRows, kind: Kind) -> Form
 }
 
 /// Copies a tree into new rows, and plants it there.
-fn copy_into<L: Ledger>(blank: Blank, src: &mut PlainRows, dst: &mut PlainRows, book: &mut RowBook)
+fn copy_into<R: Rows, L: Ledger>(blank: Blank, src: &mut R, dst: &mut PlainRows, book: &mut RowBook)
     requires name { blank.name ≡ L.name }
     requires parts { blank.parts ≡ L.parts }
     requires some { 0 < blank.parts }
-    requires lawful { (kind : Kind) × IsLawfulOf (sheet_in src.old).tree kind }
+    requires lawful { (kind : Kind) × IsLawfulOf (R.sheet src.old).tree kind }
     requires rows { sheet_in dst.old ≡ new_sheet book.old.rows }
     requires book { book.old ≡ new_book book.old.rows }
-    requires room { length (reached_in (sheet_in src.old).tree.table (sheet_in src.old).tree.root) ≤ book.old.rows }
-    ensures copy { (kind : Kind) → IsLawfulOf (sheet_in src.old).tree kind → IsReadyToOpen kind book.old.rows (map_by (sheet_in src.old).tree) (sheet_in dst.new) book.new }
-    ensures rest { OnlyReads (sheet_in src.old) (sheet_in src.new) }
+    requires room { length (reached_in (R.sheet src.old).tree.table (R.sheet src.old).tree.root) ≤ book.old.rows }
+    ensures copy { (kind : Kind) → IsLawfulOf (R.sheet src.old).tree kind → IsReadyToOpen kind book.old.rows (map_by (R.sheet src.old).tree) (sheet_in dst.new) book.new }
+    ensures rest { OnlyReads (R.sheet src.old) (R.sheet src.new) }
 {
     let mut steps = Steps::<L>::new(blank);
     let root = copy_rows(src, dst, book, &mut steps);
@@ -65,51 +68,92 @@ fn copy_into<L: Ledger>(blank: Blank, src: &mut PlainRows, dst: &mut PlainRows, 
 }
 
 /// Copies a tree into new rows, where they are as many as it has in use. Answers how many it has.
-fn copy_out(src: &mut PlainRows, kind: Kind, dst: &mut PlainRows, book: &mut RowBook) -> u64
-    requires lawful { IsLawfulOf (sheet_in src.old).tree kind }
+fn copy_out<R: Rows>(src: &mut R, kind: Kind, dst: &mut PlainRows, book: &mut RowBook) -> u64
+    requires lawful { IsLawfulOf (R.sheet src.old).tree kind }
     requires rows { sheet_in dst.old ≡ new_sheet book.old.rows }
     requires book { book.old ≡ new_book book.old.rows }
-    ensures live { result ≡ length (reached_in (sheet_in src.old).tree.table (sheet_in src.old).tree.root) }
-    ensures copy { result ≤ book.old.rows → IsReadyToOpen kind book.old.rows (map_by (sheet_in src.old).tree) (sheet_in dst.new) book.new }
-    ensures rest { OnlyReads (sheet_in src.old) (sheet_in src.new) }
+    ensures live { result ≡ length (reached_in (R.sheet src.old).tree.table (R.sheet src.old).tree.root) }
+    ensures copy { result ≤ book.old.rows → IsReadyToOpen kind book.old.rows (map_by (R.sheet src.old).tree) (sheet_in dst.new) book.new }
+    ensures rest { OnlyReads (R.sheet src.old) (R.sheet src.new) }
 {
     let live = form_of_rows(src, kind).rows;
     if live <= book.rows() {
-        copy_into::<Brand>(Blank::new(1), src, dst, book);
+        copy_into::<R, Brand>(Blank::new(1), src, dst, book);
     }
+    live
+}
+
+/// The form of the tree's words.
+fn check_at_work<W: Writer>(tools: &mut Option<Tools>, tree: &Tree, pass: &mut Pass) -> Form
+    requires { IsWorker tree.now tools.old pass.old W.table W.turn }
+    ensures rest { IsAtRest tools.new }
+    ensures read { IsRead (behind_of tools.old) (behind_of tools.new) }
+    ensures of { IsPassOf tree.now pass.new }
+    ensures saw { Saw (opened tree.now) (pass_in pass.old) (pass_in pass.new) }
+    ensures form { IsFormOf (opened tree.now).kind (opened tree.now).rows (map_seen tree.now (pass_in pass.new)) result }
+{
+    let engine = begin::<W>(tools, tree, pass);
+    let height = engine.height();
+    let (mut rows, book) = engine.parts();
+    let form = form_of_rows(&mut rows, tree.shape.kind);
+    let engine = Engine::of_height(rows, book, tree.shape.kind, height);
+    end(tools, tree, engine, pass);
+    form
+}
+
+/// Copies the tree into new rows, where they are as many as it has in use. Answers how many it has.
+fn copy_at_work<W: Writer>(
+    tools: &mut Option<Tools>,
+    tree: &Tree,
+    pass: &mut Pass,
+    dst: &mut PlainRows,
+    own: &mut RowBook,
+) -> u64
+    requires worker { IsWorker tree.now tools.old pass.old W.table W.turn }
+    requires rows { sheet_in dst.old ≡ new_sheet own.old.rows }
+    requires book { own.old ≡ new_book own.old.rows }
+    ensures rest { IsAtRest tools.new }
+    ensures read { IsRead (behind_of tools.old) (behind_of tools.new) }
+    ensures of { IsPassOf tree.now pass.new }
+    ensures saw { Saw (opened tree.now) (pass_in pass.old) (pass_in pass.new) }
+    ensures live { IsRowCount (opened tree.now).kind (opened tree.now).rows (map_seen tree.now (pass_in pass.new)) result }
+    ensures copy { result ≤ own.old.rows → IsReadyToOpen (opened tree.now).kind own.old.rows (map_seen tree.now (pass_in pass.new)) (sheet_in dst.new) own.new }
+{
+    let engine = begin::<W>(tools, tree, pass);
+    let height = engine.height();
+    let (mut rows, book) = engine.parts();
+    let live = copy_out(&mut rows, tree.shape.kind, dst, own);
+    let engine = Engine::of_height(rows, book, tree.shape.kind, height);
+    end(tools, tree, engine, pass);
     live
 }
 
 impl Desk {
     /// The form of the tree's words.
-    fn check(self, tree: &Tree) -> (Desk, Form)
-        requires { self.table ≡ place_of tree.now }
-        ensures desk { IsRead self result.0 }
-        ensures form { IsFormOf (opened tree.now).kind (opened tree.now).rows (last_map (with_records (opened tree.now) (records_of self.pen.history))) result.1 }
+    fn check(&mut self, tree: &Tree, pass: &mut Pass) -> Form
+        requires table { self.old.table ≡ place_of tree.now }
+        requires pass { IsPassOf tree.now pass.old }
+        ensures desk { IsRead self.old self.new }
+        ensures of { IsPassOf tree.now pass.new }
+        ensures saw { Saw (opened tree.now) (pass_in pass.old) (pass_in pass.new) }
+        ensures form { IsFormOf (opened tree.now).kind (opened tree.now).rows (map_seen tree.now (pass_in pass.new)) result }
     {
-        let kind = tree.shape.kind;
-        let Desk { pen, engine } = self;
-        let (mut rows, book) = engine.parts();
-        let form = form_of_rows(&mut rows, kind);
-        let engine = Engine::new(rows, book, kind);
-        (Desk { pen, engine }, form)
+        check_at_work::<Brand>(&mut self.tools, tree, pass)
     }
 
     /// Copies the tree into new rows, where they are as many as it has in use. Answers how many it has.
-    fn copy(self, tree: &Tree, dst: &mut PlainRows, own: &mut RowBook) -> (Desk, u64)
-        requires table { self.table ≡ place_of tree.now }
+    fn copy(&mut self, tree: &Tree, pass: &mut Pass, dst: &mut PlainRows, own: &mut RowBook) -> u64
+        requires table { self.old.table ≡ place_of tree.now }
+        requires pass { IsPassOf tree.now pass.old }
         requires rows { sheet_in dst.old ≡ new_sheet own.old.rows }
         requires book { own.old ≡ new_book own.old.rows }
-        ensures desk { IsRead self result.0 }
-        ensures live { IsRowCount (opened tree.now).kind (opened tree.now).rows (last_map (with_records (opened tree.now) (records_of self.pen.history))) result.1 }
-        ensures copy { result.1 ≤ own.old.rows → IsReadyToOpen (opened tree.now).kind own.old.rows (last_map (with_records (opened tree.now) (records_of self.pen.history))) (sheet_in dst.new) own.new }
+        ensures desk { IsRead self.old self.new }
+        ensures of { IsPassOf tree.now pass.new }
+        ensures saw { Saw (opened tree.now) (pass_in pass.old) (pass_in pass.new) }
+        ensures live { IsRowCount (opened tree.now).kind (opened tree.now).rows (map_seen tree.now (pass_in pass.new)) result }
+        ensures copy { result ≤ own.old.rows → IsReadyToOpen (opened tree.now).kind own.old.rows (map_seen tree.now (pass_in pass.new)) (sheet_in dst.new) own.new }
     {
-        let kind = tree.shape.kind;
-        let Desk { pen, engine } = self;
-        let (mut rows, book) = engine.parts();
-        let live = copy_out(&mut rows, kind, dst, own);
-        let engine = Engine::new(rows, book, kind);
-        (Desk { pen, engine }, live)
+        copy_at_work::<Brand>(&mut self.tools, tree, pass, dst, own)
     }
 }
 
@@ -122,9 +166,7 @@ impl Tree {
         ensures form { IsFormOf (opened self.now).kind (opened self.now).rows (map_seen self.now (pass_in pass.new)) result }
     {
         let mut taken = self.turn.take(rt, pass);
-        taken.value.show(self, pass);
-        let (desk, form) = taken.value.check(self);
-        taken.value = desk;
+        let form = taken.value.check(self, pass);
         self.turn.give(taken);
         form
     }
@@ -146,9 +188,7 @@ impl Tree {
         ensures copy { result ≤ book.old.rows → IsReadyToOpen (opened self.now).kind book.old.rows (map_seen self.now (pass_in pass.new)) (sheet_in dst.new) book.new }
     {
         let mut taken = self.turn.take(rt, pass);
-        taken.value.show(self, pass);
-        let (desk, live) = taken.value.copy(self, dst, book);
-        taken.value = desk;
+        let live = taken.value.copy(self, pass, dst, book);
         self.turn.give(taken);
         live
     }

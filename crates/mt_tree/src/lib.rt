@@ -5,12 +5,14 @@ mod behind;
 mod copies;
 mod locked;
 mod make;
+mod reads;
 mod settle;
 mod shaped;
 mod shapes;
 #[cfg(test)]
 mod tests;
 mod trees;
+mod works;
 mod writes;
 
 pub use behind::Desk;

@@ -5,16 +5,17 @@ ghost use Rattle.mt_rows.specs.Memory.{sheet_in};
 ghost use Rattle.mt_rows.specs.Publish.{map_by};
 ghost use Rattle.mt_rows.specs.Sheet.{Sheet};
 ghost use Rattle.mt_engine.specs.Engine.{IsIdle};
+ghost use Rattle.mt_engine.specs.Heights.{HasHeight};
 ghost use Rattle.mt_rule.specs.Tokens.{identity_of, pass_in, IsPassOf};
 ghost use Rattle.mt_rule.specs.Turns.{served, IsSeatedAt};
 ghost use Rattle.mt_tree.specs.declared.shapes.Field.{Field};
 ghost use Rattle.mt_tree.specs.Shapes.{first_bad};
 ghost use Rattle.mt_tree.specs.Trees.{IsNew};
 
-use crate::behind::Desk;
+use crate::behind::{Desk, Tools};
 use crate::shapes::{MakeError, Shape};
 use crate::trees::Tree;
-use mt_base::NoMemory;
+use mt_base::{Kind, NoMemory};
 use mt_engine::Engine;
 use mt_free::RowBook;
 use mt_rows::PlainRows;
@@ -69,10 +70,23 @@ impl Tree {
             shape.passes,
             shape.calls,
         )?;
-        let engine = Engine::new(rows, book, shape.kind);
-        let (turn, passes) = serve(alloc, &table, Desk { pen, engine }, passes)?;
+        let (height, book) = measured(rows, book, shape.kind);
+        let tools = Some(Tools { pen, book, height });
+        let (turn, passes) = serve(alloc, &table, Desk { tools }, passes)?;
         Ok((Tree { table, turn, shape }, passes))
     }
+}
+
+/// How many levels the tree of these rows has. The rows are given back to memory.
+fn measured(rows: PlainRows, book: RowBook, kind: Kind) -> (u64, RowBook)
+    requires { IsIdle kind (sheet_in rows) book }
+    ensures height { HasHeight (sheet_in rows).tree result.0 }
+    ensures book { result.1 ≡ book }
+{
+    let engine = Engine::new(rows, book, kind);
+    let height = engine.height();
+    let (_, book) = engine.parts();
+    (height, book)
 }
 
 /// The turn of a table's writers, at which each pass has a seat.

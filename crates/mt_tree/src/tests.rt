@@ -1,13 +1,16 @@
 //! Trees on one thread and on two.
 
-ghost use Rattle.std.specs.Prelude.{All, IfOk};
+ghost use Rattle.std.specs.Prelude.{◌≡◌, ◌<◌, All, IfOk};
 ghost use Rattle.std.specs.Thread.{IsSync};
 ghost use Rattle.mt_tree.specs.Trees.{AreAll, IsPassOf};
 
-use crate::{Done, DupError, Field, MakeError, Pass, Shape, Tree, Worn};
-use mt_base::{Kind, Range, Reply, Shortage};
+use crate::{Done, DupError, Field, MakeError, Pass, Read, Shape, Tree, Worn};
+use mt_base::{Holder, Kind, Range, Reply, Shortage, Steps};
+use mt_read::Section;
 use std::alloc::Global;
+use std::marker::Brand;
 use std::sync::Wait;
+use std::sync::ledger::{Blank, Ledger};
 use std::test::Fail;
 use std::thread::{Threads, join};
 
@@ -60,6 +63,18 @@ fn listed(rt: &impl Wait, alloc: Global, tree: &Tree, pass: &mut Pass) -> Result
     let ranges = write.list(alloc);
     write.unlock();
     Ok(ranges?)
+}
+
+/// The entry that an index holds, read without the lock.
+fn loaded<L: Ledger>(blank: Blank, tree: &Tree, pass: &mut Pass, index: u64) -> Read<Option<u64>>
+    requires name { blank.name ≡ L.name }
+    requires parts { blank.parts ≡ L.parts }
+    requires some { 0 < blank.parts }
+    requires pass { IsPassOf tree.now pass.old }
+    ensures { IsPassOf tree.now pass.new }
+{
+    let mut steps = Steps::<L>::new(blank);
+    tree.load(pass, index, &mut steps)
 }
 
 #[test]
@@ -132,6 +147,14 @@ fn a_small_tree_runs_short_and_is_worn(rt: HostRuntime) -> Result<(), Fail> {
         })
     );
     assert_eq!(rt; tree.clear(&rt, &mut pass), Err(Worn { calls: 2 }));
+    assert_eq!(rt;
+        loaded::<Brand>(Blank::new(1), &tree, &mut pass, 1),
+        Read {
+            lo: 2,
+            hi: 2,
+            value: Some(5)
+        }
+    );
     let ranges = listed(&rt, alloc, &tree, &mut pass)?;
     assert_eq!(rt;
         ranges.as_slice(),
@@ -141,6 +164,55 @@ fn a_small_tree_runs_short_and_is_worn(rt: HostRuntime) -> Result<(), Fail> {
             entry: 5
         }][..]
     );
+    Ok(())
+}
+
+/// What two stores are answered while another pass reads, and the second of them once more when it has read.
+fn stored_beside_a_reader<L: Ledger>(
+    blank: Blank,
+    rt: &impl Wait,
+    tree: &Tree,
+    reader: &mut Pass,
+    writer: &mut Pass,
+) -> (Result<Done, Worn>, Result<Done, Worn>, Result<Done, Worn>)
+    requires name { blank.name ≡ L.name }
+    requires parts { blank.parts ≡ L.parts }
+    requires some { 0 < blank.parts }
+    requires passes { IsPassOf tree.now reader.old × IsPassOf tree.now writer.old }
+{
+    let mut steps = Steps::<L>::new(blank);
+    let section = Section::begin(&tree.table, reader, &mut steps);
+    let one = tree.store_range(rt, writer, 3, 3, 7);
+    let two = tree.store_range(rt, writer, 5, 5, 8);
+    let _ = section.end(&tree.table, reader, &mut steps);
+    let three = tree.store_range(rt, writer, 5, 5, 8);
+    (one, two, three)
+}
+
+#[test]
+fn an_open_section_holds_a_row(rt: HostRuntime) -> Result<(), Fail> {
+    let (tree, mut passes) = made(rt.alloc(), shape_of(5, 2, 9))?;
+    let mut reader = last_pass(&tree, &mut passes)?;
+    let mut writer = last_pass(&tree, &mut passes)?;
+    let _ = tree.store_range(&rt, &mut writer, 1, 1, 5);
+    let (one, two, three) = stored_beside_a_reader::<Brand>(
+        Blank::new(1),
+        &rt,
+        &tree,
+        &mut reader,
+        &mut writer,
+    );
+    let short = Shortage {
+        need: 4,
+        free: 3,
+        live: 1,
+        held: 1,
+        by: Some(Holder { pass: 1, epoch: 1 }),
+    };
+    let done = |call: u64, reply: Reply| -> Result<Done, Worn> { Ok(Done { call, reply }) };
+    assert_eq!(rt; one, done(2, Reply::Ok));
+    assert_eq!(rt; two, done(3, Reply::NoNodes(short)));
+    assert_eq!(rt; three, done(4, Reply::Ok));
     Ok(())
 }
 

@@ -4,6 +4,7 @@ ghost use Rattle.std.specs.Prelude.{◌≡◌, ◌≤◌, None};
 ghost use Rattle.mt_rule.specs.Limits.{most_calls};
 ghost use Rattle.mt_rule.specs.Tokens.{identity_of};
 ghost use Rattle.mt_rule.specs.Turns.{served};
+ghost use Rattle.mt_pen.specs.Works.{OpensSmall};
 ghost use Rattle.mt_tree.specs.Shapes.{first_bad};
 
 use crate::behind::Desk;
@@ -24,4 +25,5 @@ pub struct Tree {
     ghost some_pass: { 1 ≤ shape.passes },
     ghost few_calls: { shape.calls ≤ most_calls },
     ghost in_range: { first_bad shape ≡ None },
+    ghost opens: { OpensSmall (identity_of table).shape },
 }

@@ -1,7 +1,26 @@
-use Rattle.std.proofs.Common.{subst}
-use Rattle.std.specs.Prelude.{◌↔◌, IsTrue}
-use Rattle.mt_tree.specs.Behind.{Behind, IsReady}
+use Rattle.std.proofs.Common.{rules, ◌≡◌, ◌+◌, ◌*◌, ◌≤◌, Some, subst, arith}
+use Rattle.std.specs.Prelude.{◌↔◌, IsTrue, nat_le}
+use Rattle.mt_tree.specs.Behind.{Behind, behind_of, IsAtRest, IsReady}
+use Rattle.mt_tree.proofs.Ending.{few_levels, ready_if}
 use Rattle.mt_tree.proofs.behind.Desk.ready.Goals as goal
 
+pub overflow_mul-result : goal.overflow_mul-result
+overflow_mul-result c =
+    let rest : IsAtRest (Some c.in-Some.tools) = subst IsAtRest c.in-Some.is c.self.invariant in
+    let few = few_levels _ _ c.in-Some.tools.height rest.1 in
+    omega (arith, few)
+
+pub overflow_add-result : goal.overflow_add-result
+overflow_add-result c =
+    let rest : IsAtRest (Some c.in-Some.tools) = subst IsAtRest c.in-Some.is c.self.invariant in
+    let few = few_levels _ _ c.in-Some.tools.height rest.1 in
+    omega (arith, few)
+
 pub returns : goal.returns
-returns c = subst (λ (b : Behind). IsTrue c.ready.result ↔ IsReady b.parts) c.self.view_is c.ready.ensures
+returns c =
+    let t = c.in-Some.tools in
+    let rest : IsAtRest (Some t) = subst IsAtRest c.in-Some.is c.self.invariant in
+    let room = ready_if _ _ t.height c.free.result rest.1 c.free.ensures in
+    let low : IsTrue (nat_le (3 * t.height + 1) c.free.result) ↔ (3 * t.height + 1 ≤ c.free.result) = search rules in
+    let view : behind_of (Some t) ≡ c.args.self.now = search rules in
+    subst (λ (b : Behind). IsTrue (nat_le (3 * t.height + 1) c.free.result) ↔ IsReady b.parts) view (λ yes. room.0 (low.0 yes), λ ready. low.1 (room.1 ready))

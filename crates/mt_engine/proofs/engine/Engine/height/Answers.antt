@@ -1,0 +1,7 @@
+use Rattle.std.proofs.Common.{subst}
+use Rattle.mt_engine.specs.Engine.{Parts}
+use Rattle.mt_engine.specs.Heights.{HasHeight}
+use Rattle.mt_engine.proofs.engine.Engine.height.Goals as goal
+
+pub returns : goal.returns
+returns g c = subst (λ (e : Parts). HasHeight e.sheet.tree c.self.inside.height) c.self.view_is c.self.invariant.measured

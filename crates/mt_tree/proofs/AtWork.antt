@@ -1,0 +1,124 @@
+-- A call at work: the rows that it begins with, and what they tell.
+use Rattle.std.proofs.Common.{◌≡◌, ℕ, ◌+◌, ◌≤◌, ◌<◌, ◌∷◌, ◌++◌, [], Option, Some, None, length, refl, sym, ap, ◌∙◌, subst, arith}
+use Rattle.std.proofs.lemmas.List.{length-map, length-append}
+use Rattle.atomic_table.specs.declared.badge.Badge.{Badge}
+use Rattle.mt_base.specs.declared.calls.Call.{Call}
+use Rattle.mt_base.specs.declared.replies.Reply.{Reply}
+use Rattle.mt_base.specs.History.{History, last_map}
+use Rattle.mt_base.specs.Passes as known
+use Rattle.mt_base.specs.Passes.{with_records}
+use Rattle.mt_engine.specs.Engine.{Parts}
+use Rattle.mt_pen.specs.Sheets.{sheet_told, shown_all, told_of}
+use Rattle.mt_rows.specs.Publish.{map_by, with_record}
+use Rattle.mt_rows.specs.Sheet.{Rooted, Sheet, Told}
+use Rattle.mt_rule.specs.declared.passes.Pass.{Pass}
+use Rattle.mt_rule.specs.declared.views.PenPart.{PenPart}
+use Rattle.mt_rule.specs.declared.views.Shape.{Shape}
+use Rattle.mt_rule.specs.declared.views.TurnView.{TurnView}
+use Rattle.mt_rule.specs.Limits.{most_calls}
+use Rattle.mt_rule.specs.Seats.{record_of, records_of}
+use Rattle.mt_rule.specs.Tokens.{Identity, pass_in, WasShown}
+use Rattle.mt_tree.specs.declared.behind.Tools.{Tools}
+use Rattle.mt_tree.specs.declared.trees.Tree.{Tree}
+use Rattle.mt_tree.specs.Behind.{Behind, behind_of, parts_of, IsAtRest, IsKept}
+use Rattle.mt_tree.specs.Trees.{limit_of, opened, place_of}
+use Rattle.mt_tree.specs.Works.{records_told, shown_pass, IsWorker}
+use Rattle.mt_tree.proofs.Reading.{map_is}
+
+-- the tree's table is i, this lies behind its lock, and the rows with which a call of the pass begins are e
+pub record AtWork (t : Tree) (i : Identity) (b : Behind) (p : known.Pass) (e : Parts) : Type 0 where
+  pub place : i ≡ place_of t
+  pub shape : b.pen.shape ≡ i.shape
+  pub table : b.table ≡ place_of t
+  pub height : ℕ
+  pub kept : IsKept b.pen b.parts height
+  pub parts : b.parts ≡ parts_of b.pen b.parts.book
+  pub kind : e.kind ≡ b.parts.kind
+  pub book : e.book ≡ b.parts.book
+  pub sheet : e.sheet ≡ sheet_told i b.pen (shown_pass b.pen p)
+  pub shown : WasShown (opened t) b.pen p (shown_pass b.pen p)
+
+at_rest : (tools : Option Tools) → IsAtRest tools → (height : ℕ) × IsKept (behind_of tools).pen (behind_of tools).parts height
+at_rest None rest = absurd rest
+at_rest (Some t) rest = (t.height, rest.1)
+
+pub same_parts : (tools : Option Tools) → (behind_of tools).parts ≡ parts_of (behind_of tools).pen (behind_of tools).parts.book
+same_parts None = refl
+same_parts (Some t) = refl
+
+pub same_shape : (tools : Option Tools) → (behind_of tools).pen.shape ≡ (behind_of tools).table.shape
+same_shape None = refl
+same_shape (Some t) = refl
+
+pub at_work : (t : Tree) (tools : Option Tools) (pass : Pass) (i : Identity) (turn : Badge TurnView) (e : Parts) → IsWorker t tools pass i turn
+    → e.kind ≡ (behind_of tools).parts.kind → e.book ≡ (behind_of tools).parts.book → e.sheet ≡ sheet_told i (behind_of tools).pen (shown_pass (behind_of tools).pen (pass_in pass))
+    → WasShown (opened t) (behind_of tools).pen (pass_in pass) (shown_pass (behind_of tools).pen (pass_in pass)) → AtWork t i (behind_of tools) (pass_in pass) e
+at_work t tools pass i turn e worker kind book sheet shown =
+    let rest = at_rest tools worker.rest in
+    record {
+      place = worker.table_is;
+      shape = same_shape tools ∙ ap (λ (x : Identity). x.shape) (worker.of ∙ sym worker.table_is);
+      table = worker.of;
+      height = rest.0;
+      kept = rest.1;
+      parts = same_parts tools;
+      kind = kind;
+      book = book;
+      sheet = sheet;
+      shown = shown;
+    }
+
+module _ (t : Tree) (i : Identity) (b : Behind) (p : known.Pass) (e : Parts) (w : AtWork t i b p e) where
+  abbrev pub told_at : Told
+  told_at = told_of i b.pen (shown_pass b.pen p)
+
+  pub told_is : e.sheet.told ≡ Some told_at
+  told_is = ap (λ (s : Sheet). s.told) w.sheet
+
+  pub count_is : e.sheet.ended ≡ length b.pen.history
+  count_is = ap (λ (s : Sheet). s.ended) w.sheet ∙ (sym (ap (λ (x : Parts). x.sheet.ended) w.parts) ∙ w.kept.of.ended)
+
+  pub tree_is : e.sheet.tree ≡ b.parts.sheet.tree
+  tree_is = ap (λ (s : Sheet). s.tree) w.sheet ∙ sym (ap (λ (x : Parts). x.sheet.tree) w.parts)
+
+  pub limit_is : b.pen.shape.calls ≡ limit_of t
+  limit_is = ap (λ (x : Shape). x.calls) w.shape ∙ ap (λ (x : Identity). x.shape.calls) w.place
+
+  pub shape_is : b.pen.shape ≡ (place_of t).shape
+  shape_is = w.shape ∙ ap (λ (x : Identity). x.shape) w.place
+
+  pub kind_still : e.kind ≡ (opened t).kind
+  kind_still = w.kind ∙ (w.kept.of.kind ∙ ap (λ (x : Shape). x.kind) shape_is)
+
+  pub rows_still : e.sheet.tree.rows ≡ (opened t).rows
+  rows_still = ap (λ (x : Rooted). x.rows) tree_is ∙ (w.kept.of.rows ∙ ap (λ (x : Shape). x.rows) shape_is)
+
+  -- the words stand for the map after all calls that the pass has then seen
+  pub map_shown : map_by e.sheet.tree ≡ last_map (with_records (opened t) (records_of b.pen.history))
+  map_shown = ap map_by tree_is ∙ (w.kept.of.map ∙ map_is b.pen.shape (place_of t).shape b.pen.history (records_of b.pen.history) shape_is refl)
+
+  pub room_to_call : length b.pen.history < limit_of t → limit_of t ≤ most_calls → e.sheet.ended < most_calls
+  room_to_call room few = omega (arith, count_is, room, few)
+
+  pub still_few : (e' : Parts) → e'.sheet.told ≡ e.sheet.told → length (records_told e'.sheet.told) ≤ limit_of t
+  still_few e' same =
+      let few = w.kept.few in
+      subst (λ (o : Option Told). length (records_told o) ≤ limit_of t) (sym (same ∙ told_is)) (omega (arith, few, limit_is, length-map b.pen.history record_of))
+
+  -- where one call more was recorded
+  abbrev pub told_after : Call → Reply → Told
+  told_after call reply = record told_at { records = told_at.records ++ (record { pass = p.number; call = call; reply = reply } ∷ []) }
+
+  pub told_more : (e' : Parts) (call : Call) (reply : Reply) → e'.sheet.told ≡ with_record e.sheet.told call reply → e'.sheet.told ≡ Some (told_after call reply)
+  told_more e' call reply more = more ∙ ap (λ (o : Option Told). with_record o call reply) told_is
+
+  pub one_more_fits : (e' : Parts) (call : Call) (reply : Reply) → e'.sheet.told ≡ with_record e.sheet.told call reply → length b.pen.history < limit_of t → length (records_told e'.sheet.told) ≤ limit_of t
+  one_more_fits e' call reply more room =
+      subst (λ (o : Option Told). length (records_told o) ≤ limit_of t) (sym (told_more e' call reply more))
+      (omega (arith, room, length-map b.pen.history record_of, length-append (records_of b.pen.history) (record { pass = p.number; call = call; reply = reply } ∷ [])))
+
+-- the calls that the pen's pass has seen to have ended are all that the pen knows
+pub shown_counted : (tree : History) (pen : PenPart) (p : known.Pass) → WasShown tree pen p (shown_all pen p) → WasShown tree pen p (shown_pass pen p)
+shown_counted tree pen p shown =
+    let count : pen.ended ≡ length pen.history = ap (λ (x : known.Pass). x.ended) shown.saw.pass ∙ length-map pen.history record_of in
+    subst (WasShown tree pen p) (λ k. record p { seen = records_of pen.history; ended = count k }) shown

@@ -1,0 +1,239 @@
+-- A call at work was made by its pass, and the rows that a read saw lie behind the lock again.
+use Rattle.std.proofs.Common.{◌≡◌, ◌≢◌, ◌⊎◌, ℕ, ◌+◌, ◌/◌, ◌≤◌, ◌<◌, ◌∷◌, ◌++◌, List, [], Bool, true, false, Option, Some, None, length, refl, sym, ap, ◌∙◌, subst, inl, inr, arith}
+use Rattle.std.specs.Prelude.{◌↔◌, IfErr, IfSome, IsOk, Result, Ok, Err, if◌then◌else◌}
+use Rattle.std.proofs.lemmas.List.{append-nil, length-map, length-append}
+use Rattle.mt_base.specs.declared.calls.Call.{Call}
+use Rattle.mt_base.specs.declared.calls.Call.TheVariants.{StorePre}
+use Rattle.mt_base.specs.declared.calls.Query.{Query}
+use Rattle.mt_base.specs.declared.kinds.Kind.{Kind}
+use Rattle.mt_base.specs.declared.ranges.Range.{Range}
+use Rattle.mt_base.specs.declared.replies.Holder.{Holder}
+use Rattle.mt_base.specs.declared.replies.Reply.{Reply}
+use Rattle.mt_base.specs.declared.replies.Reply.TheVariants as replies
+use Rattle.mt_base.specs.declared.replies.Shortage.{Shortage}
+use Rattle.mt_base.specs.Call.{acted, answer, is_invalid}
+use Rattle.mt_base.specs.History.{Record, last_map, limits_after}
+use Rattle.mt_base.specs.Map.{over}
+use Rattle.mt_base.specs.Nodes.{IsShort}
+use Rattle.mt_base.specs.Passes as known
+use Rattle.mt_base.specs.Passes.{Saw, Read, Wrote, places, with_records, holder_of}
+use Rattle.mt_base.proofs.Goings.{saw_wrote}
+use Rattle.mt_base.proofs.Shortages.{still_short}
+use Rattle.mt_engine.specs.Engine.{Parts, DidOrLacked, IsEnded, TellsBook, is_refusal}
+use Rattle.mt_engine.specs.Rooms.{HasRoom, IsScanned, IsShortOf}
+use Rattle.mt_free.specs.Book.{Book, after_reclaim}
+use Rattle.mt_pen.specs.Sheets.{unscanned}
+use Rattle.mt_rows.specs.declared.rows.Scan.{Scan}
+use Rattle.mt_rows.specs.Publish.{map_by, IsCounted}
+use Rattle.mt_rows.specs.Sheet.{OnlyReads, Rooted, Sheet, Told, scanned}
+use Rattle.mt_rule.specs.declared.passes.Pass.{Pass}
+use Rattle.mt_rule.specs.declared.views.Shape.{Shape}
+use Rattle.mt_rule.specs.Seats.{record_of, records_of, sheet_of}
+use Rattle.mt_rule.specs.Tokens.{Identity, pass_in, tree_in}
+use Rattle.mt_tree.specs.declared.behind.Tools.{Tools}
+use Rattle.mt_tree.specs.declared.trees.Tree.{Tree}
+use Rattle.mt_tree.specs.Behind.{Behind, behind_of, IsRead, IsReady, IsStored, WasPrepared}
+use Rattle.mt_tree.specs.Trees.{map_seen, opened, place_of, IsShortNow}
+use Rattle.mt_tree.specs.Works.{pass_of_told, shown_pass, AreBack}
+use Rattle.mt_tree.proofs.AtWork.{AtWork, count_is, told_at, told_is, told_after, told_more, tree_is, map_shown, shape_is, same_parts}
+use Rattle.mt_tree.proofs.NoShortage.{applied_other, made_other, scan_other, other_if, IsOther}
+use Rattle.mt_tree.proofs.Places.{places_last}
+use Rattle.mt_tree.proofs.Reading.{asked}
+
+-- the rows without scans, of no caller
+abbrev bare : Parts → Parts
+bare e = record e { sheet = record (unscanned e.sheet) { told = None } }
+
+module _ (t : Tree) (i : Identity) (b : Behind) (p : known.Pass) (e e' : Parts) (tools : Option Tools) (pass : Pass) (w : AtWork t i b p e) (back : AreBack t e' tools pass) where
+  abbrev q : known.Pass
+  q = pass_in pass
+
+  abbrev seen : List Record
+  seen = records_of b.pen.history
+
+  abbrev number : ℕ
+  number = length b.pen.history + 1
+
+  bare_is : bare e ≡ b.parts
+  bare_is =
+      let one : bare e ≡ record { sheet = sheet_of b.pen; book = b.parts.book; kind = b.parts.kind } = (λ k. record { sheet = record (unscanned (w.sheet k)) { told = None }; book = w.book k; kind = w.kind k }) in
+      let two : sheet_of b.pen ≡ b.parts.sheet = sym (ap (λ (x : Parts). x.sheet) w.parts) in
+      one ∙ (λ k. record { sheet = two k; book = b.parts.book; kind = b.parts.kind })
+
+  pub tree_back : e'.sheet.tree ≡ e.sheet.tree → (behind_of tools).parts.sheet.tree ≡ b.parts.sheet.tree
+  tree_back same = ap (λ (x : Parts). x.sheet.tree) back.parts ∙ (same ∙ tree_is t i b p e w)
+
+  -- ---- a call
+
+  module _ (call : Call) (reply : Reply) (ended : IsEnded e.kind e.sheet e'.sheet e'.book call reply) where
+    abbrev made : Record
+    made = record { pass = p.number; call = call; reply = reply }
+
+    known_then : (q ≡ pass_of_told (told_after t i b p e w call reply)) × (records_of (behind_of tools).pen.history ≡ seen ++ made ∷ [])
+    known_then = back.knows (told_after t i b p e w call reply) (told_more t i b p e w e' call reply ended.record_told)
+
+    pub seen_then : q.seen ≡ records_of (behind_of tools).pen.history
+    seen_then = ap (λ (x : known.Pass). x.seen) known_then.0 ∙ sym known_then.1
+
+    mine_then : places p.number (seen ++ made ∷ []) ≡ p.mine ++ number ∷ []
+    mine_then = places_last p.number seen made refl ∙ (λ k. sym w.shown.saw.sound.own k ++ (length-map b.pen.history record_of k + 1) ∷ [])
+
+    pub by_answer : DidOrLacked e.kind e.sheet e'.sheet e.book e'.book call reply → p.standing ≡ None → IsOther (holder_of reply) p.number
+    by_answer answer closed = applied_other e.kind e.sheet e'.sheet e.book e'.book call reply (told_at t i b p e w) answer (told_is t i b p e w) closed
+
+    pub by_acts : acted e.kind (map_by e.sheet.tree) call ≡ (map_by e'.sheet.tree, reply) → p.standing ≡ None → IsOther (holder_of reply) p.number
+    by_acts acts closed = made_other e.kind (map_by e.sheet.tree) (map_by e'.sheet.tree) call reply p.number acts
+
+    pub wrote : (p.standing ≡ None → IfSome (holder_of reply) (λ holder. holder.pass ≢ p.number)) → Wrote (opened t) p number call reply q
+    wrote by =
+        let s = shown_pass b.pen p in
+        let saw = w.shown.saw in
+        let begun = saw.begun in
+        let long : length seen ≡ length b.pen.history = length-map b.pen.history record_of in
+        let none : seen ++ [] ≡ seen = append-nil seen in
+        let many : length (seen ++ made ∷ []) ≡ number = length-append seen (made ∷ []) ∙ ap (λ (n : ℕ). n + 1) long in
+        saw_wrote (opened t) p s number call reply q saw (record {
+          others = [];
+          pass = known_then.0 ∙ (λ k. record {
+            number = p.number;
+            seen = sym none k ++ made ∷ [];
+            mine = mine_then k;
+            opened = p.opened;
+            standing = p.standing;
+            begun = p.begun;
+            ended = many k;
+          });
+          last = omega (arith, long, ap (λ (rs : List Record). length rs) none);
+          begun = omega (arith, begun, long);
+          ended = omega arith;
+          sound = back.sound;
+          by = by;
+        })
+
+  -- ---- a call that told no record
+
+  module _ (same : e'.sheet.told ≡ e.sheet.told) where
+    known_still : (q ≡ pass_of_told (told_at t i b p e w)) × (records_of (behind_of tools).pen.history ≡ seen)
+    known_still = back.knows (told_at t i b p e w) (same ∙ told_is t i b p e w)
+
+    pass_is : q ≡ shown_pass b.pen p
+    pass_is = known_still.0 ∙ (λ k. record {
+      number = p.number;
+      seen = seen;
+      mine = sym w.shown.saw.sound.own k;
+      opened = p.opened;
+      standing = p.standing;
+      begun = p.begun;
+      ended = length-map b.pen.history record_of k;
+    })
+
+    pub saw_all : Saw (opened t) p q
+    saw_all = subst (Saw (opened t) p) (sym pass_is) w.shown.saw
+
+    pub seen_still : q.seen ≡ records_of (behind_of tools).pen.history
+    seen_still = ap (λ (x : known.Pass). x.seen) known_still.0 ∙ sym known_still.1
+
+    pub map_still : map_by e.sheet.tree ≡ map_seen t q
+    map_still = map_shown t i b p e w ∙ ap (λ (x : known.Pass). map_seen t x) (sym pass_is)
+
+    pub answered : (query : Query) (value : Option Range) → value ≡ answer (map_by e.sheet.tree) query → Read (opened t) p (length b.pen.history) (length b.pen.history) (length b.pen.history) query value q
+    answered query value is =
+        subst (Read (opened t) p (length b.pen.history) (length b.pen.history) (length b.pen.history) query value) (sym pass_is)
+        (asked (place_of t) b.pen b.parts p (shown_pass b.pen p) (length b.pen.history) query value w.shown (shape_is t i b p e w) w.kept.of refl
+        (is ∙ ap (λ (x : Rooted). answer (map_by x) query) (tree_is t i b p e w)))
+
+  -- the words were only read
+  module _ (reads : OnlyReads e.sheet e'.sheet) (book : e'.book ≡ e.book) (kind : e'.kind ≡ e.kind) where
+    pub told_still : e'.sheet.told ≡ e.sheet.told
+    told_still = ap (λ (s : Sheet). s.told) reads
+
+    sheet_still : e'.sheet ≡ e.sheet
+    sheet_still =
+        let none : e'.sheet.reads ≡ None = sym (ap (λ (x : Parts). x.sheet.reads) back.parts) ∙ ap (λ (x : Parts). x.sheet.reads) (same_parts tools) in
+        let was : e.sheet.reads ≡ None = ap (λ (s : Sheet). s.reads) w.sheet in
+        reads ∙ (λ k. record e.sheet { reads = (none ∙ sym was) k })
+
+    pub only_read : IsRead b (behind_of tools)
+    only_read = record {
+      table = back.of ∙ sym w.table;
+      records = (known_still told_still).1;
+      parts = back.parts ∙ ((λ k. bare (record { sheet = sheet_still k; book = book k; kind = kind k })) ∙ bare_is);
+    }
+
+  -- the section words were scanned
+  module _ (scan : IsScanned e.kind e.sheet e'.sheet e.book e'.book) (kind : e'.kind ≡ e.kind) where
+    pub told_scanned : e'.sheet.told ≡ e.sheet.told
+    told_scanned = ap (λ (s : Sheet). s.told) scan.rest
+
+    pub was_prepared : WasPrepared b (behind_of tools)
+    was_prepared =
+        let cleared : (behind_of tools).parts.sheet.cleared ≡ e'.sheet.cleared = ap (λ (x : Parts). x.sheet.cleared) back.parts in
+        let was : e.sheet.cleared ≡ b.parts.sheet.cleared = ap (λ (x : Parts). x.sheet.cleared) bare_is in
+        let rises = scan.rises in
+        record {
+          table = back.of ∙ sym w.table;
+          records = (known_still told_scanned).1;
+          kind = ap (λ (x : Parts). x.kind) back.parts ∙ (kind ∙ w.kind);
+          sheet = ap (λ (x : Parts). x.sheet) back.parts ∙ (ap (λ (s : Sheet). record (unscanned s) { told = None }) scan.rest ∙ (λ k. record (bare_is k).sheet { cleared = sym cleared k }));
+          rises = omega (arith, rises, cleared, was);
+          scan = e'.sheet.scan;
+          freed = ap (λ (x : Parts). x.book) back.parts ∙ (scan.freed ∙ ap (λ (x : Book). after_reclaim x e'.sheet.scan.least) w.book);
+        }
+
+    pub made_ready : (result : Result (Unit {0}) Shortage) → IsOk result ↔ HasRoom e'.sheet.tree e'.book → IsOk result ↔ IsReady (behind_of tools).parts
+    made_ready result is = subst (λ (x : Parts). IsOk result ↔ HasRoom x.sheet.tree x.book) (sym back.parts) is
+
+    short_now : (shortage : Shortage) → IsShortOf e'.sheet e'.book shortage → IsShortNow t q (behind_of tools).parts shortage
+    short_now shortage is =
+        let shape = shape_is t i b p e w in
+        let of = w.kept.of in
+        let pass = pass_is told_scanned in
+        let rows : e'.sheet.tree.rows ≡ (opened t).rows = ap (λ (s : Sheet). s.tree.rows) scan.rest ∙ (ap (λ (x : Rooted). x.rows) (tree_is t i b p e w) ∙ (of.rows ∙ ap (λ (x : Shape). x.rows) shape)) in
+        let m : map_by e'.sheet.tree ≡ map_seen t q = ap (λ (s : Sheet). map_by s.tree) scan.rest ∙ map_still told_scanned in
+        let held : e'.sheet.shared ≡ true = ap (λ (s : Sheet). s.shared) scan.rest ∙ ap (λ (s : Sheet). s.shared) w.sheet in
+        let first : e'.sheet.opened ≡ b.parts.sheet.opened = ap (λ (s : Sheet). s.opened) scan.rest ∙ ap (λ (x : Parts). x.sheet.opened) bare_is in
+        let small : e'.sheet.opened ≤ length (opened t).opening / 2 + 2 = subst (λ (n : ℕ). n ≤ length (opened t).opening / 2 + 2) (sym first) (subst (λ (x : Shape). b.parts.sheet.opened ≤ length x.opening / 2 + 2) shape of.opened) in
+        let calls : e'.sheet.ended ≡ length q.seen = ap (λ (s : Sheet). s.ended) scan.rest ∙ (count_is t i b p e w ∙ (sym (length-map b.pen.history record_of) ∙ ap (λ (x : known.Pass). length x.seen) (sym pass))) in
+        let sized : IsShort (record { rows = (opened t).rows; opened = e'.sheet.opened; ended = e'.sheet.ended; may_hold = true }) (map_seen t q) shortage =
+        subst (λ (x : (ℕ × List Range) × Bool). IsShort (record { rows = x.0.0; opened = e'.sheet.opened; ended = e'.sheet.ended; may_hold = x.1 }) x.0.1 shortage) (λ k. ((rows k, m k), held k)) is.short in
+        record {
+          short = still_short (opened t).rows e'.sheet.opened (length (opened t).opening / 2 + 2) e'.sheet.ended (length q.seen) true (map_seen t q) shortage small (omega (arith, calls)) sized;
+          scan = e'.sheet.scan;
+          counted = subst (λ (x : Parts). IsCounted (record x.sheet { scan = e'.sheet.scan }) shortage) (sym back.parts) (record {
+            need = is.counted.need;
+            live = is.counted.live;
+            rows = is.counted.rows;
+            many = is.counted.many;
+            apart = is.counted.apart;
+            held = is.counted.held;
+            by = is.counted.by;
+          });
+          tells = subst (λ (x : Parts). TellsBook x.book shortage) (sym back.parts) is.tells;
+          by = λ closed.
+              let mine : q.number ≡ p.number = ap (λ (x : known.Pass). x.number) pass in
+              let stands : p.standing ≡ None = sym (ap (λ (x : known.Pass). x.standing) pass) ∙ closed in
+              subst (λ (n : ℕ). IsOther shortage.by n) (sym mine)
+              (subst (λ (o : Option Holder). IsOther o p.number) (sym is.counted.by)
+              (other_if e'.sheet.scan.by p.number shortage.held (scan_other e.sheet.shared e'.sheet (told_at t i b p e w) e.sheet.told scan.answer (told_is t i b p e w) stands)));
+        }
+
+    pub shorts : (result : Result (Unit {0}) Shortage) → IfErr result (λ shortage. IsShortOf e'.sheet e'.book shortage) → IfErr result (λ shortage. IsShortNow t q (behind_of tools).parts shortage)
+    shorts (Ok u) is = tt
+    shorts (Err shortage) is = short_now shortage is
+
+-- ---- where a refusal leaves every word
+
+pub refused_still : (e e' : Parts) (call : Call) (reply : Reply) → DidOrLacked e.kind e.sheet e'.sheet e.book e'.book call reply → is_refusal reply ≡ true → e'.sheet.tree ≡ e.sheet.tree
+refused_still e e' call reply (inl did) is = did.kept is
+refused_still e e' call reply (inr lacked) is = lacked.1
+
+-- such a store is made, or refused as invalid
+abbrev reply_of : List Range × Reply → Reply
+reply_of after = after.1
+
+store_ends : (m n : List Range) (reply : Reply) (b : Bool) → reply_of (if b then (m, replies.Invalid) else (n, replies.Ok)) ≡ reply → IsStored reply
+store_ends m n reply true is = inr (sym is)
+store_ends m n reply false is = inl (sym is)
+
+pub is_stored : (kind : Kind) (m m' : List Range) (first last entry : ℕ) (reply : Reply) → acted kind m (StorePre first last entry) ≡ (m', reply) → IsStored reply
+is_stored kind m m' first last entry reply is = store_ends m (over m first last entry) reply (is_invalid kind first last entry) (ap reply_of is)

@@ -1,0 +1,58 @@
+use Rattle.std.proofs.Common.{sym, ap, ◌∙◌}
+use Rattle.mt_rows.specs.Sheet.{Sheet}
+use Rattle.mt_tree.proofs.AtWork.{at_work, kind_still, rows_still, still_few}
+use Rattle.mt_tree.proofs.Calling.{map_still, only_read, saw_all, told_still}
+use Rattle.mt_tree.proofs.Forms.{form_there, form_told, high_as, idle_as, lawful_as, reads_through}
+use Rattle.mt_tree.proofs.copies.check_at_work.Goals as goal
+
+pub form_of_rows-form-requires : goal.form_of_rows-form-requires
+form_of_rows-form-requires g c =
+    let w = at_work c.args.tree.now c.args.tools.now c.args.pass.now g.W.Writer.table g.W.Writer.turn c.begin-engine.result c.requires c.begin-engine.ensures.kind c.begin-engine.ensures.book c.begin-engine.ensures.sheet c.begin-engine.ensures.shown in
+    let kind = kind_still _ _ _ _ _ w ∙ sym c.args.tree.now.kind in
+    lawful_as _ _ _ _ _ c.parts-rows.ensures.rows kind c.parts-rows.ensures.idle
+
+pub of_height-engine-requires-clause-idle : goal.of_height-engine-requires-clause-idle
+of_height-engine-requires-clause-idle g c =
+    let w = at_work c.args.tree.now c.args.tools.now c.args.pass.now g.W.Writer.table g.W.Writer.turn c.begin-engine.result c.requires c.begin-engine.ensures.kind c.begin-engine.ensures.book c.begin-engine.ensures.sheet c.begin-engine.ensures.shown in
+    let kind = kind_still _ _ _ _ _ w ∙ sym c.args.tree.now.kind in
+    idle_as _ _ _ _ _ _ c.parts-rows.ensures.rows kind c.form_of_rows-form.ensures.rest c.parts-rows.ensures.idle
+
+pub of_height-engine-requires-clause-height : goal.of_height-engine-requires-clause-height
+of_height-engine-requires-clause-height g c =
+    let w = at_work c.args.tree.now c.args.tools.now c.args.pass.now g.W.Writer.table g.W.Writer.turn c.begin-engine.result c.requires c.begin-engine.ensures.kind c.begin-engine.ensures.book c.begin-engine.ensures.sheet c.begin-engine.ensures.shown in
+    high_as _ _ _ c.height-height.result c.parts-rows.ensures.rows c.form_of_rows-form.ensures.rest c.height-height.ensures
+
+pub end-requires-clause-few : goal.end-requires-clause-few
+end-requires-clause-few g c =
+    let w = at_work c.args.tree.now c.args.tools.now c.args.pass.now g.W.Writer.table g.W.Writer.turn c.begin-engine.result c.requires c.begin-engine.ensures.kind c.begin-engine.ensures.book c.begin-engine.ensures.sheet c.begin-engine.ensures.shown in
+    let reads = reads_through _ _ _ _ c.parts-rows.ensures.rows c.form_of_rows-form.ensures.rest c.of_height-engine.ensures.sheet in
+    still_few _ _ _ _ _ w c.of_height-engine.result (ap (λ (s : Sheet). s.told) reads)
+
+pub returns-clause-read : goal.returns-clause-read
+returns-clause-read g c =
+    let w = at_work c.args.tree.now c.args.tools.now c.args.pass.now g.W.Writer.table g.W.Writer.turn c.begin-engine.result c.requires c.begin-engine.ensures.kind c.begin-engine.ensures.book c.begin-engine.ensures.sheet c.begin-engine.ensures.shown in
+    let kind = kind_still _ _ _ _ _ w ∙ sym c.args.tree.now.kind in
+    let reads = reads_through _ _ _ _ c.parts-rows.ensures.rows c.form_of_rows-form.ensures.rest c.of_height-engine.ensures.sheet in
+    let book = c.of_height-engine.ensures.book ∙ c.parts-rows.ensures.book in
+    let kind' = c.of_height-engine.ensures.kind ∙ sym kind in
+    only_read _ _ _ _ _ _ _ _ w c.end.ensures reads book kind'
+
+pub returns-clause-saw : goal.returns-clause-saw
+returns-clause-saw g c =
+    let w = at_work c.args.tree.now c.args.tools.now c.args.pass.now g.W.Writer.table g.W.Writer.turn c.begin-engine.result c.requires c.begin-engine.ensures.kind c.begin-engine.ensures.book c.begin-engine.ensures.sheet c.begin-engine.ensures.shown in
+    let kind = kind_still _ _ _ _ _ w ∙ sym c.args.tree.now.kind in
+    let reads = reads_through _ _ _ _ c.parts-rows.ensures.rows c.form_of_rows-form.ensures.rest c.of_height-engine.ensures.sheet in
+    let book = c.of_height-engine.ensures.book ∙ c.parts-rows.ensures.book in
+    let kind' = c.of_height-engine.ensures.kind ∙ sym kind in
+    saw_all _ _ _ _ _ _ _ _ w c.end.ensures (told_still _ _ _ _ _ _ _ _ w c.end.ensures reads book kind')
+
+pub returns-clause-form : goal.returns-clause-form
+returns-clause-form g c =
+    let w = at_work c.args.tree.now c.args.tools.now c.args.pass.now g.W.Writer.table g.W.Writer.turn c.begin-engine.result c.requires c.begin-engine.ensures.kind c.begin-engine.ensures.book c.begin-engine.ensures.sheet c.begin-engine.ensures.shown in
+    let kind = kind_still _ _ _ _ _ w ∙ sym c.args.tree.now.kind in
+    let reads = reads_through _ _ _ _ c.parts-rows.ensures.rows c.form_of_rows-form.ensures.rest c.of_height-engine.ensures.sheet in
+    let book = c.of_height-engine.ensures.book ∙ c.parts-rows.ensures.book in
+    let kind' = c.of_height-engine.ensures.kind ∙ sym kind in
+    let lawful = lawful_as _ _ _ _ _ c.parts-rows.ensures.rows kind c.parts-rows.ensures.idle in
+    let told = form_told c.args.tree.now.shape.kind c.begin-engine.result.sheet _ c.form_of_rows-form.result c.parts-rows.ensures.rows lawful c.form_of_rows-form.ensures.form in
+    form_there _ _ _ _ _ _ c.args.tree.now.kind (rows_still _ _ _ _ _ w) (map_still _ _ _ _ _ _ _ _ w c.end.ensures (told_still _ _ _ _ _ _ _ _ w c.end.ensures reads book kind')) c.form_of_rows-form.result told

@@ -1,0 +1,54 @@
+-- A call at work on the rows of a tree: what it begins with, and what it leaves behind the lock.
+-- Source: this project's own.
+use Rattle.std.specs.Prelude.{◌≡◌, ℕ, Option, Some, None, List, [], ◌∷◌, length}
+use Rattle.atomic_table.specs.declared.badge.Badge.{Badge}
+use Rattle.mt_base.specs.History.{Record}
+use Rattle.mt_base.specs.Passes as known
+use Rattle.mt_engine.specs.Engine.{Parts}
+use Rattle.mt_pen.specs.Sheets.{unscanned}
+use Rattle.mt_rows.specs.Sheet.{Sheet, Told}
+use Rattle.mt_rule.specs.declared.passes.Pass.{Pass}
+use Rattle.mt_rule.specs.declared.views.PenPart.{PenPart}
+use Rattle.mt_rule.specs.declared.views.TurnView.{TurnView}
+use Rattle.mt_rule.specs.Seats.{records_of}
+use Rattle.mt_rule.specs.Tokens.{Identity, pass_in, turn_seat}
+use Rattle.mt_rule.specs.Turns.{waiting}
+use Rattle.mt_tree.specs.declared.behind.Tools.{Tools}
+use Rattle.mt_tree.specs.declared.trees.Tree.{Tree}
+use Rattle.mt_tree.specs.Behind.{behind_of, IsAtRest}
+use Rattle.mt_tree.specs.Trees.{opened, place_of, IsPassOf}
+
+-- The tools lie behind the tree's lock, and the pass, which is one of the tree's, is the one that works with them.
+pub record IsWorker (t : Tree) (tools : Option Tools) (p : Pass) (table : Identity) (turn : Badge TurnView) : Type 0 where
+  pub rest : IsAtRest tools
+  pub of : (behind_of tools).table ≡ place_of t
+  pub pass : IsPassOf t p
+  pub table_is : table ≡ place_of t
+  pub turn_is : turn ≡ turn_seat p
+
+-- a seat at the tree's turn
+pub record IsSeatOf (t : Tree) (turn : Badge TurnView) : Type 0 where
+  pub table : turn.table_id ≡ t.turn.table.shared.table_id
+  pub views : turn.views ≡ waiting t.turn.table.shared.key ∷ []
+
+-- what a pass knows that has been shown the whole history of the pen
+abbrev pub shown_pass : PenPart → known.Pass → known.Pass
+shown_pass p q = record q { seen = records_of p.history; ended = length p.history }
+
+-- what a pass knows whose rows tell this
+abbrev pub pass_of_told : Told → known.Pass
+pass_of_told t = record { number = t.caller.pass; seen = t.records; mine = known.places t.caller.pass t.records; opened = t.caller.opened; standing = t.caller.standing; begun = t.caller.begun; ended = length t.records }
+
+-- the records that rows tell
+abbrev pub records_told : Option Told → List Record
+records_told None = []
+records_told (Some t) = t.records
+
+-- The tools are back behind the tree's lock, with these rows and their book; and the pass knows what its rows told.
+pub record AreBack (t : Tree) (e : Parts) (tools : Option Tools) (p : Pass) : Type 0 where
+  pub rest : IsAtRest tools
+  pub of : (behind_of tools).table ≡ place_of t
+  pub parts : (behind_of tools).parts ≡ record e { sheet = record (unscanned e.sheet) { told = None } }
+  pub pass : IsPassOf t p
+  pub sound : known.IsSound (opened t) (pass_in p)
+  pub knows : (told : Told) → e.sheet.told ≡ Some told → (pass_in p ≡ pass_of_told told) × (records_of (behind_of tools).pen.history ≡ told.records)

@@ -1,0 +1,83 @@
+//! The reads of a tree, without its lock.
+
+ghost use Rattle.std.specs.Prelude.{◌≡◌, ℕ, ◌+◌, ◌≤◌, Option, option_map};
+ghost use Rattle.mt_base.specs.declared.calls.Query.TheVariants.{Load, Find};
+ghost use Rattle.mt_base.specs.declared.ranges.Range.{Range};
+ghost use Rattle.mt_base.specs.Passes as known;
+ghost use Rattle.mt_read.specs.Windows.{HasRead};
+ghost use Rattle.mt_rule.specs.Tokens.{pass_in};
+ghost use Rattle.mt_tree.specs.Trees.{opened, IsPassOf};
+
+use crate::shapes::Read;
+use crate::trees::Tree;
+use mt_base::{Range, Steps};
+use mt_rule::Pass;
+use std::sync::ledger::Ledger;
+
+impl Tree {
+    /// The range that an index lies in, after some number of calls from `lo` to `hi`. The pass has opened a section at `lo`
+    /// and closed it.
+    pub fn load_range<L: Ledger>(
+        &self,
+        pass: &mut Pass,
+        index: u64,
+        steps: &mut Steps<L>,
+    ) -> Read<Option<Range>>
+        requires { IsPassOf self.now pass.old }
+        ensures of { IsPassOf self.now pass.new }
+        ensures read { (k : ℕ) × known.Read (opened self.now) (pass_in pass.old) result.lo result.hi k (Load index) result.value (pass_in pass.new) }
+        ensures section { HasRead result.lo result.hi (pass_in pass.old) (pass_in pass.new) }
+        ensures steps { steps.new ≤ steps.old + 170 }
+    {
+        let answer = mt_read::load_range(&self.table, pass, index, steps);
+        Read {
+            lo: answer.lo,
+            hi: answer.hi,
+            value: answer.value,
+        }
+    }
+
+    /// The entry that an index holds.
+    pub fn load<L: Ledger>(
+        &self,
+        pass: &mut Pass,
+        index: u64,
+        steps: &mut Steps<L>,
+    ) -> Read<Option<u64>>
+        requires { IsPassOf self.now pass.old }
+        ensures of { IsPassOf self.now pass.new }
+        ensures read { (k : ℕ) × (range : Option Range) × known.Read (opened self.now) (pass_in pass.old) result.lo result.hi k (Load index) range (pass_in pass.new) × (result.value ≡ option_map (λ r. r.entry) range) }
+        ensures section { HasRead result.lo result.hi (pass_in pass.old) (pass_in pass.new) }
+        ensures steps { steps.new ≤ steps.old + 170 }
+    {
+        let answer = mt_read::load(&self.table, pass, index, steps);
+        Read {
+            lo: answer.lo,
+            hi: answer.hi,
+            value: answer.value,
+        }
+    }
+
+    /// The first range that ends at an index or above, and begins at `max` or below. There is none where the index is above
+    /// `max`.
+    pub fn find<L: Ledger>(
+        &self,
+        pass: &mut Pass,
+        index: u64,
+        max: u64,
+        steps: &mut Steps<L>,
+    ) -> Read<Option<Range>>
+        requires { IsPassOf self.now pass.old }
+        ensures of { IsPassOf self.now pass.new }
+        ensures read { (k : ℕ) × known.Read (opened self.now) (pass_in pass.old) result.lo result.hi k (Find index max) result.value (pass_in pass.new) }
+        ensures section { HasRead result.lo result.hi (pass_in pass.old) (pass_in pass.new) }
+        ensures steps { steps.new ≤ steps.old + 175 }
+    {
+        let answer = mt_read::find(&self.table, pass, index, max, steps);
+        Read {
+            lo: answer.lo,
+            hi: answer.hi,
+            value: answer.value,
+        }
+    }
+}

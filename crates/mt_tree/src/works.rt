@@ -1,0 +1,171 @@
+//! Calls at work: the tools are taken from behind the lock, an engine works on the table's rows, and they are put back.
+
+ghost use Rattle.std.specs.Prelude.{◌≡◌, ◌↔◌, ◌+◌, ◌<◌, ◌≤◌, None, true, length, IsOk, IfOk, IfErr};
+ghost use Rattle.mt_base.specs.declared.calls.Call.TheVariants.{StorePre};
+ghost use Rattle.mt_base.specs.Passes as known;
+ghost use Rattle.mt_engine.specs.Engine.{is_refusal};
+ghost use Rattle.mt_rule.specs.Seats.{records_of};
+ghost use Rattle.mt_rule.specs.Tokens.{pass_in, turn_seat, WasShown};
+ghost use Rattle.mt_pen.specs.Sheets.{sheet_told};
+ghost use Rattle.mt_tree.specs.Behind.{behind_of, IsAtRest, IsReady, IsRead, IsStored, WasPrepared};
+ghost use Rattle.mt_tree.specs.Trees.{opened, limit_of, map_seen, place_of, IsPassOf, IsShortNow};
+ghost use Rattle.mt_tree.specs.Works.{AreBack, IsSeatOf, IsWorker, records_told, shown_pass};
+
+use crate::behind::Tools;
+use crate::trees::Tree;
+use mt_base::{Call, NoMemory, Query, Range, Reply, Shortage};
+use mt_engine::Engine;
+use mt_pen::{PenRows, Writer};
+use mt_rule::Pass;
+use std::alloc::Global;
+use std::mem;
+
+/// Takes the tools, for a call of the pass, which is then away.
+pub(crate) fn begin<'a, W: Writer>(
+    tools: &mut Option<Tools>,
+    tree: &'a Tree,
+    pass: &mut Pass,
+) -> Engine<PenRows<'a, W>>
+    requires { IsWorker tree.now tools.old pass.old W.table W.turn }
+    ensures away { tools.new ≡ None }
+    ensures kind { result.kind ≡ (behind_of tools.old).parts.kind }
+    ensures book { result.book ≡ (behind_of tools.old).parts.book }
+    ensures sheet { result.sheet ≡ sheet_told W.table (behind_of tools.old).pen (shown_pass (behind_of tools.old).pen (pass_in pass.old)) }
+    ensures shown { WasShown (opened tree.now) (behind_of tools.old).pen (pass_in pass.old) (shown_pass (behind_of tools.old).pen (pass_in pass.old)) }
+{
+    let Some(Tools { pen, book, height }) = tools.take() else {
+        unreachable!()
+    };
+    let rows = PenRows::new(&tree.table, pen, mem::replace(pass, Pass::away()));
+    Engine::of_height(rows, book, tree.shape.kind, height)
+}
+
+/// Puts the tools back, and gives the pass what it knows then.
+pub(crate) fn end<W: Writer>(
+    tools: &mut Option<Tools>,
+    tree: &Tree,
+    engine: Engine<PenRows<W>>,
+    pass: &mut Pass,
+)
+    requires table { W.table ≡ place_of tree.now }
+    requires turn { IsSeatOf tree.now W.turn }
+    requires few { length (records_told engine.sheet.told) ≤ limit_of tree.now }
+    ensures { AreBack tree.now engine.entry tools.new pass.new }
+{
+    let height = engine.height();
+    let (rows, book) = engine.parts();
+    let (pen, back) = rows.end();
+    *pass = back;
+    *tools = Some(Tools { pen, book, height });
+}
+
+/// Makes one call.
+pub(crate) fn act<W: Writer>(
+    tools: &mut Option<Tools>,
+    tree: &Tree,
+    pass: &mut Pass,
+    call: &Call,
+) -> Reply
+    requires worker { IsWorker tree.now tools.old pass.old W.table W.turn }
+    requires room { length (behind_of tools.old).pen.history < limit_of tree.now }
+    ensures rest { IsAtRest tools.new }
+    ensures table { (behind_of tools.new).table ≡ place_of tree.now }
+    ensures of { IsPassOf tree.now pass.new }
+    ensures seen { (pass_in pass.new).seen ≡ records_of (behind_of tools.new).pen.history }
+    ensures wrote { known.Wrote (opened tree.now) (pass_in pass.old) (length (behind_of tools.old).pen.history + 1) call.now result (pass_in pass.new) }
+    ensures kept { is_refusal result ≡ true → (behind_of tools.new).parts.sheet.tree ≡ (behind_of tools.old).parts.sheet.tree }
+{
+    let mut engine = begin::<W>(tools, tree, pass);
+    let reply = engine.apply(call);
+    end(tools, tree, engine, pass);
+    reply
+}
+
+/// Makes a store for which rows were found free.
+pub(crate) fn store_prealloc<W: Writer>(
+    tools: &mut Option<Tools>,
+    tree: &Tree,
+    pass: &mut Pass,
+    first: u64,
+    last: u64,
+    entry: u64,
+) -> Reply
+    requires worker { IsWorker tree.now tools.old pass.old W.table W.turn }
+    requires room { length (behind_of tools.old).pen.history < limit_of tree.now }
+    requires ready { IsReady (behind_of tools.old).parts }
+    ensures rest { IsAtRest tools.new }
+    ensures table { (behind_of tools.new).table ≡ place_of tree.now }
+    ensures of { IsPassOf tree.now pass.new }
+    ensures seen { (pass_in pass.new).seen ≡ records_of (behind_of tools.new).pen.history }
+    ensures wrote { known.Wrote (opened tree.now) (pass_in pass.old) (length (behind_of tools.old).pen.history + 1) (StorePre first last entry) result (pass_in pass.new) }
+    ensures stored { IsStored result }
+    ensures kept { is_refusal result ≡ true → (behind_of tools.new).parts.sheet.tree ≡ (behind_of tools.old).parts.sheet.tree }
+{
+    let mut engine = begin::<W>(tools, tree, pass);
+    let reply = engine.store_prealloc(first, last, entry);
+    end(tools, tree, engine, pass);
+    reply
+}
+
+/// Answers one query.
+pub(crate) fn ask<W: Writer>(
+    tools: &mut Option<Tools>,
+    tree: &Tree,
+    pass: &mut Pass,
+    query: &Query,
+) -> Option<Range>
+    requires { IsWorker tree.now tools.old pass.old W.table W.turn }
+    ensures rest { IsAtRest tools.new }
+    ensures read { IsRead (behind_of tools.old) (behind_of tools.new) }
+    ensures of { IsPassOf tree.now pass.new }
+    ensures seen { (pass_in pass.new).seen ≡ records_of (behind_of tools.new).pen.history }
+    ensures saw { known.Saw (opened tree.now) (pass_in pass.old) (pass_in pass.new) }
+    ensures asked { known.Read (opened tree.now) (pass_in pass.old) (length (behind_of tools.old).pen.history) (length (behind_of tools.old).pen.history) (length (behind_of tools.old).pen.history) query.now result (pass_in pass.new) }
+{
+    let mut engine = begin::<W>(tools, tree, pass);
+    let range = engine.ask(query);
+    end(tools, tree, engine, pass);
+    range
+}
+
+/// Makes the tree ready for a store.
+pub(crate) fn preallocate<W: Writer>(
+    tools: &mut Option<Tools>,
+    tree: &Tree,
+    pass: &mut Pass,
+) -> Result<(), Shortage>
+    requires { IsWorker tree.now tools.old pass.old W.table W.turn }
+    ensures rest { IsAtRest tools.new }
+    ensures prepared { WasPrepared (behind_of tools.old) (behind_of tools.new) }
+    ensures of { IsPassOf tree.now pass.new }
+    ensures seen { (pass_in pass.new).seen ≡ records_of (behind_of tools.new).pen.history }
+    ensures saw { known.Saw (opened tree.now) (pass_in pass.old) (pass_in pass.new) }
+    ensures ready { IsOk result ↔ IsReady (behind_of tools.new).parts }
+    ensures short { IfErr result (λ shortage. IsShortNow tree.now (pass_in pass.new) (behind_of tools.new).parts shortage) }
+{
+    let mut engine = begin::<W>(tools, tree, pass);
+    let made = engine.preallocate();
+    end(tools, tree, engine, pass);
+    made
+}
+
+/// Copies the ranges out.
+pub(crate) fn list<W: Writer>(
+    tools: &mut Option<Tools>,
+    tree: &Tree,
+    pass: &mut Pass,
+    alloc: Global,
+) -> Result<Vec<Range>, NoMemory>
+    requires { IsWorker tree.now tools.old pass.old W.table W.turn }
+    ensures rest { IsAtRest tools.new }
+    ensures read { IsRead (behind_of tools.old) (behind_of tools.new) }
+    ensures of { IsPassOf tree.now pass.new }
+    ensures seen { (pass_in pass.new).seen ≡ records_of (behind_of tools.new).pen.history }
+    ensures saw { known.Saw (opened tree.now) (pass_in pass.old) (pass_in pass.new) }
+    ensures items { IfOk result (λ ranges. ranges.items ≡ map_seen tree.now (pass_in pass.new)) }
+{
+    let mut engine = begin::<W>(tools, tree, pass);
+    let ranges = engine.list(alloc);
+    end(tools, tree, engine, pass);
+    ranges
+}
