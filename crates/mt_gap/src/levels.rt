@@ -33,29 +33,29 @@ fn ask_lower<R: Rows>(rows: &mut R, row: Span, window: Window, next: &mut Asked)
     }
 }
 
-/// The rows to be asked one level below these, for the lowest place. Each of these is a step.
+/// Fills an empty list with the rows to be asked one level below these, for the lowest place. Each of these is a step.
 #[tactic(auto, using(crate::proofs::LevelLoops::lower_all, crate::proofs::LevelLoops::loaded_none))]
 pub(crate) fn next_lower<R: Rows, L: Ledger>(
     rows: &mut R,
     asked: &[Child],
     window: Window,
     steps: &mut Steps<L>,
-) -> Asked
+    next: &mut Asked,
+)
     requires rows { All (λ (x : Child). MayLoad (R.sheet rows.old).tree x.span) asked.now }
+    requires empty { next.old.items ≡ [] }
     requires size { 1 ≤ window.size }
     requires few { length (narrow window.size window.lo window.hi (children_below (R.sheet rows.old).tree.table asked.now)) ≤ 3 }
-    ensures items { result.items ≡ narrow window.size window.lo window.hi (children_below (R.sheet rows.old).tree.table asked.now) }
+    ensures items { next.new.items ≡ narrow window.size window.lo window.hi (children_below (R.sheet rows.old).tree.table asked.now) }
     ensures steps { steps.new ≤ steps.old + length asked.now }
     ensures reads { ReadsUpTo (columns (R.sheet rows.old).tree.table.width * length asked.now) (R.sheet rows.old) (R.sheet rows.new) }
 {
-    let mut next = Asked::new();
     for row in asked {
         steps.tick();
-        if ask_lower(rows, row.span, window, &mut next) {
-            return next;
+        if ask_lower(rows, row.span, window, next) {
+            return;
         }
     }
-    next
 }
 
 /// Takes what is to be asked below one row more. A row without gaps tells of no room.
@@ -75,25 +75,25 @@ fn ask_higher<R: Rows>(rows: &mut R, row: Span, window: Window, next: &mut Asked
     }
 }
 
-/// The rows to be asked one level below these, for the highest place. Each of these is a step.
+/// Fills an empty list with the rows to be asked one level below these, for the highest place. Each of these is a step.
 #[tactic(auto, using(crate::proofs::LevelLoops::higher_all, crate::proofs::LevelLoops::loaded_none))]
 pub(crate) fn next_higher<R: Rows, L: Ledger>(
     rows: &mut R,
     asked: &[Child],
     window: Window,
     steps: &mut Steps<L>,
-) -> Asked
+    next: &mut Asked,
+)
     requires rows { All (λ (x : Child). MayLoad (R.sheet rows.old).tree x.span) asked.now }
+    requires empty { next.old.items ≡ [] }
     requires size { 1 ≤ window.size }
     requires few { (k : ℕ) → length (narrow_up window.size window.lo window.hi [] (take k (children_below (R.sheet rows.old).tree.table asked.now))) ≤ 3 }
-    ensures items { result.items ≡ narrow_up window.size window.lo window.hi [] (children_below (R.sheet rows.old).tree.table asked.now) }
+    ensures items { next.new.items ≡ narrow_up window.size window.lo window.hi [] (children_below (R.sheet rows.old).tree.table asked.now) }
     ensures steps { steps.new ≤ steps.old + length asked.now }
     ensures reads { ReadsUpTo (columns (R.sheet rows.old).tree.table.width * length asked.now) (R.sheet rows.old) (R.sheet rows.new) }
 {
-    let mut next = Asked::new();
     for row in asked {
         steps.tick();
-        ask_higher(rows, row.span, window, &mut next);
+        ask_higher(rows, row.span, window, next);
     }
-    next
 }

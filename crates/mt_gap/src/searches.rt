@@ -64,7 +64,9 @@ fn to_lowest<R: Rows, L: Ledger>(
         if are_leaves(&asked) {
             return asked;
         }
-        asked = next_lower(rows, &asked, window, steps);
+        let mut next = Asked::new();
+        next_lower(rows, &asked, window, steps, &mut next);
+        asked = next;
     }
     unreachable!()
 }
@@ -88,7 +90,9 @@ fn to_highest<R: Rows, L: Ledger>(
         if are_leaves(&asked) {
             return asked;
         }
-        asked = next_higher(rows, &asked, window, steps);
+        let mut next = Asked::new();
+        next_higher(rows, &asked, window, steps, &mut next);
+        asked = next;
     }
     unreachable!()
 }

@@ -12,3 +12,4 @@ pub mod LeafSteps
 pub mod HandleSteps
 pub mod Empty
 pub mod Bounds
+pub mod SameSlot

@@ -1,16 +1,16 @@
 //! Where an index stands in a tree, and what stands there.
 
-ghost use Rattle.std.specs.Prelude.{◌≡◌, ◌≢◌, ◌+◌, ◌-◌, ◌≤◌, ◌↔◌, ℕ, [], IsNone, IfSome};
+ghost use Rattle.std.specs.Prelude.{◌≡◌, ◌≢◌, ◌+◌, ◌-◌, ◌<◌, ◌≤◌, ◌↔◌, ℕ, [], true, length, IsNone, IfSome};
 ghost use Rattle.mt_base.specs.declared.kinds.Kind.{Kind};
 ghost use Rattle.mt_base.specs.Width.{greatest};
 ghost use Rattle.mt_rows.specs.Publish.{IsTreeOf};
 ghost use Rattle.mt_rows.specs.Sheet.{OnlyReads, ReadsUpTo, loaded};
-ghost use Rattle.mt_path.specs.Handles.{leaf_spans, handle_in, IsHandleOf, IsStepOfLeaf};
+ghost use Rattle.mt_path.specs.Handles.{leaf_spans, handle_in, last_step, IsHandleOf, IsStepOfLeaf};
 ghost use Rattle.mt_path.specs.Paths.{path_in, span_at, loads_on};
 
 use crate::paths::{Path, PathStep};
 use crate::rows::{child_for, find_slot, load_found, root_row};
-use crate::walks::descend;
+use crate::walks::{descend, walk_on};
 use mt_base::{DEEPEST, top};
 use mt_layout::{RowKind, Span, slots};
 use mt_rows::Rows;
@@ -69,6 +69,14 @@ pub fn walk_to<R: Rows>(rows: &mut R, index: u64, path: &mut Path) -> Option<Han
 
 // ---- of a slot of a leaf
 
+/// The last step of a path.
+fn end_of(path: &Path) -> PathStep
+    requires { 0 < length path.now.items }
+    ensures { result ≡ last_step path.now.items }
+{
+    path[path.len() - 1]
+}
+
 /// The first index of what stands in the slot of a leaf.
 fn load_first<R: Rows>(rows: &mut R, leaf: PathStep) -> u64
     requires tree { (kind : Kind) × IsTreeOf (R.sheet rows.old).tree kind }
@@ -93,6 +101,35 @@ fn load_last<R: Rows>(rows: &mut R, leaf: PathStep) -> u64
         return rows.load(leaf.row, 1 + leaf.slot);
     }
     leaf.max
+}
+
+/// Whether an index, which does not stand before that of a path, stands in the slot at its end. In the empty path none does.
+fn stays_in<R: Rows>(rows: &mut R, path: &Path, index: u64) -> bool
+    requires tree { (kind : Kind) × IsTreeOf (R.sheet rows.old).tree kind }
+    requires path { (i : ℕ) × (i ≤ index) × (path.now.items ≡ path_in (R.sheet rows.old).tree.table (R.sheet rows.old).tree.root i) }
+    requires index { index ≤ greatest (R.sheet rows.old).tree.table.width }
+    ensures stays { result ≡ true → path.now.items ≡ path_in (R.sheet rows.old).tree.table (R.sheet rows.old).tree.root index }
+    ensures reads { ReadsUpTo 1 (R.sheet rows.old) (R.sheet rows.new) }
+{
+    if path.is_empty() {
+        return false;
+    }
+    let leaf = end_of(path);
+    index <= load_last(rows, leaf)
+}
+
+/// A path goes on, in place, to an index that does not stand before its own. It stays where that stands in the same slot.
+pub fn go_on<R: Rows>(rows: &mut R, path: &mut Path, index: u64)
+    requires tree { (kind : Kind) × IsTreeOf (R.sheet rows.old).tree kind }
+    requires path { (i : ℕ) × (i ≤ index) × (path.old.items ≡ path_in (R.sheet rows.old).tree.table (R.sheet rows.old).tree.root i) }
+    requires index { index ≤ greatest (R.sheet rows.old).tree.table.width }
+    ensures path { path.new.items ≡ path_in (R.sheet rows.old).tree.table (R.sheet rows.old).tree.root index }
+    ensures rest { OnlyReads (R.sheet rows.old) (R.sheet rows.new) }
+{
+    if stays_in(rows, path, index) {
+        return;
+    }
+    walk_on(rows, path, index);
 }
 
 /// The word in the slot of a leaf: an entry, or 0 for a hole.

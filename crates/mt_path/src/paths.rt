@@ -20,14 +20,24 @@ pub struct PathStep {
 /// The way from the root, which is its first step, to a leaf.
 pub type Path = ArrayVec<PathStep, DEEPEST>;
 
+/// Puts a path's steps into an empty path.
+pub fn copy_into(path: &Path, copy: &mut Path)
+    requires { copy.old.items ≡ [] }
+    ensures { copy.new.items ≡ path.now.items }
+{
+    match copy.try_extend_from_slice(path.as_slice()) {
+        Ok(()) => {}
+        Err(_) => unreachable!(),
+    }
+}
+
 /// A path with the same steps.
 pub fn copy_of(path: &Path) -> Path
     ensures { result.items ≡ path.now.items }
 {
-    match Path::try_from(path.as_slice()) {
-        Ok(copy) => copy,
-        Err(_) => unreachable!(),
-    }
+    let mut copy = Path::new();
+    copy_into(path, &mut copy);
+    copy
 }
 
 /// Whether the row of a step covers an index.

@@ -135,6 +135,9 @@ fn enliven(words: &Words, depth: u32, word: u64, fates: &mut [Fate])
         return;
     }
     set_fate(fates, row, Fate::Live);
+    if kind == RowKind::Leaf {
+        return;
+    }
     for child in names_in(words, row, kind).as_slice() {
         enliven(words, depth - 1, *child, fates);
     }

@@ -16,7 +16,7 @@ use mt_base::{Call, Kind, Reply};
 use mt_free::RowBook;
 use mt_layout::{RowKind, Run};
 use mt_leaf::Towards;
-use mt_path::{Path, copy_of, walk_on};
+use mt_path::{Path, copy_into, copy_of, go_on};
 use mt_rows::{Place, Rows, inner_kind};
 use std::marker::Brand;
 
@@ -125,9 +125,15 @@ pub fn replace_range<R: Rows>(
     requires { MayReplace kind (R.sheet rows.old) book.old left.items first last entry number call.now reply.now }
     ensures { IsSpliced kind (R.sheet rows.old) (R.sheet rows.new) book.old book.new number call.now reply.now result first last }
 {
-    let mut right = copy_of(&left);
-    walk_on(rows, &mut right, last);
-    let mut region = empty_region(inner_kind(kind), left, right);
+    let mut region = Region {
+        left,
+        right: Path::new(),
+        run: Run::new(),
+        towards: Towards::Middle,
+        inner: inner_kind(kind),
+    };
+    copy_into(&region.left, &mut region.right);
+    go_on(rows, &mut region.right, last);
     fill_leaves(rows, &mut region, first, last, entry);
     splice_region(rows, book, kind, &mut region, number, call, reply)
 }

@@ -22,6 +22,7 @@ pub struct NewRow {
 }
 
 /// Writes a column of a row that may be written anew, where the row has this column.
+#[inline(always)]
 fn draft_if<R: Rows>(rows: &mut R, has: bool, row: u32, col: u32, word: u64)
     requires place { has ≡ true → IsPlace (R.sheet rows.old).tree row col }
     requires free { IsFree (R.sheet rows.old).cleared (life_of (R.sheet rows.old).lives row) }
@@ -33,6 +34,7 @@ fn draft_if<R: Rows>(rows: &mut R, has: bool, row: u32, col: u32, word: u64)
 }
 
 /// Writes an item into a slot of a row that may be written anew.
+#[inline(always)]
 fn draft_item<R: Rows>(rows: &mut R, row: u32, kind: RowKind, slot: u32, item: Item)
     requires place { IsPlace (R.sheet rows.old).tree row 0 }
     requires free { IsFree (R.sheet rows.old).cleared (life_of (R.sheet rows.old).lives row) }
@@ -48,6 +50,7 @@ fn draft_item<R: Rows>(rows: &mut R, row: u32, kind: RowKind, slot: u32, item: I
 }
 
 /// Writes 0 into the columns of a draft that no item of this kind of row uses.
+#[inline(always)]
 fn draft_unused<R: Rows>(rows: &mut R, row: u32, kind: RowKind)
     requires place { IsPlace (R.sheet rows.old).tree row 0 }
     requires draft { life_of (R.sheet rows.old).lives row ≡ Draft }
@@ -60,6 +63,7 @@ fn draft_unused<R: Rows>(rows: &mut R, row: u32, kind: RowKind)
 }
 
 /// Writes all words of a row that may be written anew: of these items, without a parent. What is unused is 0.
+#[inline(always)]
 fn draft_row<R: Rows>(rows: &mut R, row: u32, kind: RowKind, items: &[Item])
     requires place { IsPlace (R.sheet rows.old).tree row 0 }
     requires free { IsFree (R.sheet rows.old).cleared (life_of (R.sheet rows.old).lives row) }
@@ -74,6 +78,20 @@ fn draft_row<R: Rows>(rows: &mut R, row: u32, kind: RowKind, items: &[Item])
     draft_unused(rows, row, kind);
 }
 
+/// The same. The loop of each kind is compiled by itself.
+fn draft_row_of<R: Rows>(rows: &mut R, row: u32, kind: RowKind, items: &[Item])
+    requires place { IsPlace (R.sheet rows.old).tree row 0 }
+    requires free { IsFree (R.sheet rows.old).cleared (life_of (R.sheet rows.old).lives row) }
+    requires fit { length items.now ≤ slots_of (R.sheet rows.old).tree.table.width kind }
+    ensures { IsRowDrafted (R.sheet rows.old) (R.sheet rows.new) row kind items.now }
+{
+    match kind {
+        RowKind::Leaf => draft_row(rows, row, RowKind::Leaf, items),
+        RowKind::Inner => draft_row(rows, row, RowKind::Inner, items),
+        RowKind::Gapped => draft_row(rows, row, RowKind::Gapped, items),
+    }
+}
+
 /// Writes a new row of this kind with these items, in a row that it takes from the book, and gives the row's name.
 pub fn write_row<R: Rows>(rows: &mut R, book: &mut RowBook, kind: RowKind, items: &[Item]) -> u64
     requires free { 0 < length book.old.free }
@@ -83,6 +101,6 @@ pub fn write_row<R: Rows>(rows: &mut R, book: &mut RowBook, kind: RowKind, items
     ensures { IsRowWritten (R.sheet rows.old) (R.sheet rows.new) book.old book.new kind items.now result }
 {
     let row = book.take();
-    draft_row(rows, row, kind, items);
+    draft_row_of(rows, row, kind, items);
     name_of(row, kind).word()
 }
