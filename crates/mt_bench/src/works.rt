@@ -3,6 +3,7 @@
 use crate::draws::Draws;
 use crate::trees::{Tree, Visit};
 use mt_base::{Call, Reply};
+use std::sync::atomic::{AtomicU64, Ordering};
 
 /// Allocations lie below 2^48.
 const HIGHEST: u64 = (1 << 48) - 1;
@@ -55,8 +56,8 @@ pub fn overwrite(tree: &mut impl Tree, ranges: u32, times: u64) -> bool {
 }
 
 /// Loads entries, `times` times, and sums them up.
-pub fn load(tree: &mut impl Tree, ranges: u32, times: u64) -> u64 {
-    let mut draws = Draws::new(7);
+pub fn load(tree: &mut impl Tree, ranges: u32, times: u64, seed: u64) -> u64 {
+    let mut draws = Draws::new(seed);
     let mut sum: u64 = 0;
     for _ in 0..times {
         let index = u64::from(draws.below(ranges.saturating_mul(16)));
@@ -79,16 +80,49 @@ pub fn visit(tree: &mut impl Tree, times: u64) -> Visit {
     all
 }
 
+/// The erase of range number `i`.
+fn erase(tree: &mut impl Tree, i: u32) -> bool {
+    let call = Call::Erase {
+        index: 16 * u64::from(i) + 5,
+    };
+    matches!(tree.act(&call), Reply::Was(_))
+}
+
 /// Erases the ranges of these numbers, in this order; whether each was there.
 pub fn erase_all(tree: &mut impl Tree, order: &[u32]) -> bool {
     let mut done = true;
     for i in order {
-        let call = Call::Erase {
-            index: 16 * u64::from(*i) + 5,
-        };
-        done &= matches!(tree.act(&call), Reply::Was(_));
+        done &= erase(tree, *i);
     }
     done
+}
+
+/// Erases range number `i` where it is there, and else stores it; whether that was done.
+fn toggle(tree: &mut impl Tree, i: u32, stored: &mut bool) -> bool {
+    let done = if *stored {
+        erase(tree, i)
+    } else {
+        store(tree, i, entry_of(i))
+    };
+    *stored ^= done;
+    done
+}
+
+/// Erases and stores ranges for as long as somebody is at work, and tells how often. Each of them is said to be stored or not.
+pub fn toggle_while(tree: &mut impl Tree, stored: &mut [bool], at_work: &AtomicU64) -> u64 {
+    let mut draws = Draws::new(9);
+    let ranges = u32::try_from(stored.len()).unwrap_or(u32::MAX);
+    let mut writes: u64 = 0;
+    for _ in 0..u64::MAX {
+        if at_work.load(Ordering::SeqCst) == 0 {
+            break;
+        }
+        let i = draws.below(ranges);
+        if let Some(stored) = stored.get_mut(i as usize) {
+            writes = writes.wrapping_add(u64::from(toggle(tree, i, stored)));
+        }
+    }
+    writes
 }
 
 /// Allocates so many indexes, and tells where they begin.

@@ -1,0 +1,127 @@
+//! The tree that threads share, as works call it.
+
+ghost use Rattle.std.specs.Prelude.{◌≡◌, ◌<◌, All, IfOk};
+ghost use Rattle.mt_tree.specs.Trees.{IsPassOf};
+
+use crate::trees::{Tree, Visit};
+use mt_base::{Call, Kind, MOST_ROWS, NoMemory, Query, Range, Reply, Steps};
+use mt_tree::{MOST_CALLS, Pass, Shape};
+use std::alloc::{AllocError, Global};
+use std::marker::Brand;
+use std::sync::Wait;
+use std::sync::ledger::{Blank, Ledger};
+
+/// An empty tree of this kind, and so many passes.
+pub fn make(alloc: Global, kind: Kind, passes: u32) -> Result<(mt_tree::Tree, Vec<Pass>), NoMemory>
+    ensures { IfOk result (λ r. All (IsPassOf r.0) r.1.items) }
+{
+    let shape = Shape {
+        kind,
+        rows: MOST_ROWS,
+        passes,
+        calls: MOST_CALLS,
+    };
+    match mt_tree::Tree::make(alloc, shape) {
+        Ok(made) => Ok(made),
+        Err(_) => Err(NoMemory),
+    }
+}
+
+/// The answer of one query, under a lock of its own.
+fn ask(rt: &impl Wait, tree: &mt_tree::Tree, pass: &mut Pass, query: &Query) -> Option<Range>
+    requires { IsPassOf tree.now pass.old }
+    ensures { IsPassOf tree.now pass.new }
+{
+    let mut write = tree.lock(rt, pass);
+    let read = write.ask(query);
+    write.unlock();
+    read.value
+}
+
+/// The entry at an index, or 0, in a number of steps that is counted.
+fn load_counted<L: Ledger>(tree: &mt_tree::Tree, pass: &mut Pass, index: u64, blank: Blank) -> u64
+    requires of { IsPassOf tree.now pass.old }
+    requires name { blank.name ≡ L.name }
+    requires parts { blank.parts ≡ L.parts }
+    requires some { 0 < blank.parts }
+    ensures { IsPassOf tree.now pass.new }
+{
+    let mut steps = Steps::<L>::new(blank);
+    tree.load(pass, index, &mut steps).value.unwrap_or(0)
+}
+
+/// The entry at an index, or 0: the way in which readers load.
+fn load(tree: &mt_tree::Tree, pass: &mut Pass, index: u64) -> u64
+    requires { IsPassOf tree.now pass.old }
+    ensures { IsPassOf tree.now pass.new }
+{
+    load_counted::<Brand>(tree, pass, index, Blank::new(1))
+}
+
+/// A pass and its tree, which make the calls of a work.
+#[derive(Drop)]
+pub struct Caller<'a, R> {
+    rt: &'a R,
+    tree: &'a mt_tree::Tree,
+    pass: Pass,
+    ghost of: { IsPassOf tree.now pass },
+}
+
+impl<'a, R> Caller<'a, R> {
+    /// The caller of a pass.
+    fn new(rt: &'a R, tree: &'a mt_tree::Tree, pass: Pass) -> Self
+        requires { IsPassOf tree.now pass }
+    {
+        Caller { rt, tree, pass }
+    }
+
+    /// A caller for each pass.
+    pub fn all(
+        alloc: Global,
+        rt: &'a R,
+        tree: &'a mt_tree::Tree,
+        passes: Vec<Pass>,
+    ) -> Result<Vec<Self>, AllocError>
+        requires { All (IsPassOf tree.now) passes.items }
+    {
+        let mut callers = Vec::new(alloc);
+        for pass in passes {
+            callers.push(Caller::new(rt, tree, pass))?;
+        }
+        Ok(callers)
+    }
+}
+
+impl<'a, R: Wait> Tree for Caller<'a, R> {
+    fn act(&mut self, call: &Call) -> Reply {
+        self.tree
+            .act(self.rt, &mut self.pass, call)
+            .map_or(Reply::Invalid, |done| done.reply)
+    }
+
+    fn load(&mut self, index: u64) -> u64 {
+        load(self.tree, &mut self.pass, index)
+    }
+
+    fn visit(&mut self) -> Visit {
+        let mut visit = Visit::default();
+        let mut next = Some(0);
+        for _ in 0..u64::MAX {
+            let Some(index) = next else {
+                break;
+            };
+            let max = u64::MAX;
+            let Some(range) = ask(
+                self.rt,
+                self.tree,
+                &mut self.pass,
+                &Query::Find { index, max },
+            ) else {
+                break;
+            };
+            visit.take(&range);
+            next = range.last.checked_add(1);
+        }
+        visit
+    }
+}
