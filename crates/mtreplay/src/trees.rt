@@ -1,22 +1,84 @@
 //! Trees of nodes that threads share, as a player makes them.
 
-ghost use Rattle.std.specs.Prelude.{◌≡◌, ◌≤◌};
+ghost use Rattle.std.specs.Prelude.{◌≡◌, ℕ, ◌<◌, ◌≤◌, None};
+ghost use Rattle.mt_base.specs.declared.calls.Query.TheVariants.{Find, Load};
+ghost use Rattle.mt_base.specs.Passes as known;
 ghost use Rattle.mt_base.specs.Width.{most_rows};
 ghost use Rattle.mt_play.specs.Trees.{calls_taken, fewest_rows, most_passes};
+ghost use Rattle.mt_rule.specs.Tokens.{pass_in};
 ghost use Rattle.mt_tree.specs.Trees.{IsPassOf, limit_of, opened, passes_of};
 
-use mt_base::{Call, Kind, NoMemory, Query, Range};
+use mt_base::{Call, Kind, NoMemory, Query, Range, Steps};
 use mt_desks::{Done, Looked, Shared, Worn};
 use mt_play::Plays;
-use mt_tree::{DupError, MOST_CALLS, MakeError, Pass, Shape, Tree};
+use mt_tree::{DupError, MOST_CALLS, MakeError, Pass, Read, Shape, Tree};
 use std::alloc::Global;
+use std::marker::Brand;
 use std::sync::Wait;
+use std::sync::ledger::{Blank, Ledger};
 
 /// A tree that the lanes share. It takes as many calls as a tree may.
 #[derive(Drop)]
 pub struct LaneTree {
     tree: Tree,
     ghost calls: { limit_of tree ≡ calls_taken },
+}
+
+/// The range that an index lies in, without the lock.
+fn load_range<L: Ledger>(
+    tree: &Tree,
+    pass: &mut Pass,
+    index: u64,
+    blank: Blank,
+) -> Read<Option<Range>>
+    requires of { IsPassOf tree.now pass.old }
+    requires name { blank.name ≡ L.name }
+    requires parts { blank.parts ≡ L.parts }
+    requires some { 0 < blank.parts }
+    ensures of { IsPassOf tree.now pass.new }
+    ensures read { (k : ℕ) × known.Read (opened tree.now) (pass_in pass.old) result.lo result.hi k (Load index) result.value (pass_in pass.new) }
+    ensures closed { (pass_in pass.new).standing ≡ None }
+{
+    let mut steps = Steps::<L>::new(blank);
+    tree.load_range(pass, index, &mut steps)
+}
+
+/// The first range that ends at an index or above, and begins at `max` or below, without the lock.
+fn find<L: Ledger>(
+    tree: &Tree,
+    pass: &mut Pass,
+    index: u64,
+    max: u64,
+    blank: Blank,
+) -> Read<Option<Range>>
+    requires of { IsPassOf tree.now pass.old }
+    requires name { blank.name ≡ L.name }
+    requires parts { blank.parts ≡ L.parts }
+    requires some { 0 < blank.parts }
+    ensures of { IsPassOf tree.now pass.new }
+    ensures read { (k : ℕ) × known.Read (opened tree.now) (pass_in pass.old) result.lo result.hi k (Find index max) result.value (pass_in pass.new) }
+    ensures closed { (pass_in pass.new).standing ≡ None }
+{
+    let mut steps = Steps::<L>::new(blank);
+    tree.find(pass, index, max, &mut steps)
+}
+
+/// The answer of a query under the lock.
+fn ask_under_lock(
+    tree: &Tree,
+    rt: &impl Wait,
+    pass: &mut Pass,
+    query: &Query,
+) -> Read<Option<Range>>
+    requires of { IsPassOf tree.now pass.old }
+    ensures of { IsPassOf tree.now pass.new }
+    ensures read { (k : ℕ) × known.Read (opened tree.now) (pass_in pass.old) result.lo result.hi k query.now result.value (pass_in pass.new) }
+    ensures standing { (pass_in pass.new).standing ≡ (pass_in pass.old).standing }
+{
+    let mut write = tree.lock(rt, pass);
+    let read = write.ask(query);
+    write.unlock();
+    read
 }
 
 impl Shared<Pass> for LaneTree {
@@ -35,9 +97,15 @@ impl Shared<Pass> for LaneTree {
     }
 
     fn ask<R: Wait>(&self, rt: &R, pass: &mut Pass, query: &Query) -> Looked {
-        let mut write = self.tree.lock(rt, pass);
-        let read = write.ask(query);
-        write.unlock();
+        let read = match query {
+            Query::Load { index } => load_range::<Brand>(&self.tree, pass, *index, Blank::new(1)),
+            Query::Find { index, max } => {
+                find::<Brand>(&self.tree, pass, *index, *max, Blank::new(1))
+            }
+            Query::Next { .. } | Query::Prev { .. } | Query::Rfind { .. } => {
+                ask_under_lock(&self.tree, rt, pass, query)
+            }
+        };
         Looked {
             lo: read.lo,
             hi: read.hi,
