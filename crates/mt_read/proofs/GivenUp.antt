@@ -3,7 +3,7 @@ use Rattle.std.proofs.Common.{◌≡◌, ℕ, ◌+◌, ◌<◌, ◌≤◌, List,
 use Rattle.std.proofs.lemmas.List.{length-map}
 use Rattle.mt_base.specs.declared.kinds.Kind.{Kind}
 use Rattle.mt_base.specs.declared.ranges.Range.{Range}
-use Rattle.mt_base.specs.declared.calls.Query.TheVariants.{Next}
+use Rattle.mt_base.specs.declared.calls.Query.TheVariants.{Next, Prev, Rfind}
 use Rattle.mt_base.specs.Map.{IsMap}
 use Rattle.mt_base.specs.Passes as known
 use Rattle.mt_base.specs.Width.{greatest_of}
@@ -12,10 +12,11 @@ use Rattle.mt_rule.specs.Seats.{known_by, record_of}
 use Rattle.mt_rule.specs.Sections.{moment_seen}
 use Rattle.mt_rule.specs.Tokens.{Identity, tree_in}
 use Rattle.mt_read.specs.Answers.{Answers, within}
-use Rattle.mt_read.specs.Neighbours.{WasMoved}
+use Rattle.mt_read.specs.Neighbours.{WasMoved, not_below}
 use Rattle.mt_read.specs.Walks.{GoesOn}
 use Rattle.mt_read.specs.Windows.{Began, Ended, HasRead}
 use Rattle.mt_read.proofs.Finding.{begins_length}
+use Rattle.mt_read.proofs.LastAnswers.{prev_within, rfind_within}
 use Rattle.mt_read.proofs.NextAnswers.{next_within}
 use Rattle.mt_read.proofs.Windows.{has_read}
 
@@ -26,6 +27,24 @@ next_bounded q kind least index max value same a = record {
   high = a.high;
   map = a.map;
   is = ap (within 0 max) a.is ∙ next_within kind (moment_seen q a.k).ranges index max (subst (λ (k : Kind). IsMap k (moment_seen q a.k).ranges) same a.map);
+}
+
+pub rfind_bounded : (q : PassPart) (least index min : ℕ) (value : Option Range) → Answers q least (Rfind index 0) value → Answers q least (Rfind index min) (not_below index min value)
+rfind_bounded q least index min value a = record {
+  k = a.k;
+  low = a.low;
+  high = a.high;
+  map = a.map;
+  is = ap (not_below index min) a.is ∙ rfind_within q.shape.kind (moment_seen q a.k).ranges index min a.map;
+}
+
+pub prev_bounded : (q : PassPart) (least index min : ℕ) (value : Option Range) → Answers q least (Prev index 0) value → Answers q least (Prev index min) (not_below min min value)
+prev_bounded q least index min value a = record {
+  k = a.k;
+  low = a.low;
+  high = a.high;
+  map = a.map;
+  is = ap (not_below min min) a.is ∙ prev_within q.shape.kind (moment_seen q a.k).ranges index min a.map;
 }
 
 pub was_moved : (t : Identity) (q q₁ q₂ q₃ : PassPart) (lo hi : ℕ) → q.shape ≡ t.shape → Began lo q q₁ → GoesOn q₁ q₂ → Ended hi q₂ q₃ → length q₁.seen + 1 ≤ q₂.risen → known.IsSound (tree_in t) (known_by q₃) → WasMoved (tree_in t) (known_by q) lo hi (known_by q₃)

@@ -1,10 +1,13 @@
 pub mod Moments
+pub mod Before
 pub mod Beside
 pub mod Crossing
 pub mod Descending
 pub mod Finding
 pub mod GivenUp
 pub mod Keeping
+pub mod LastAnswers
+pub mod Preceding
 pub mod MapAnswers
 pub mod Reading
 pub mod NextAnswers

@@ -64,9 +64,10 @@ module _ (kind : Kind) (m : List Range) (map : IsMap kind m) where
       let all = subst (AllByRecursion (Ordered top)) part.joined in_order in
       let behind = all_back (Ordered top) part.front (x ∷ part.back) all in
       subst (AllByRecursion Q) (sym part.joined) (all_join Q part.front (x ∷ part.back)
-      (both (Ordered top) (λ (r : Range). r.last < x.first) Q (λ r o below. (o, inl below)) part.front (all_front (Ordered top) part.front (x ∷ part.back) all) part.below)
-      ((behind.0, inr (inr (refl, refl))),
-        both (Ordered top) (λ (r : Range). x.last < r.first) Q (λ r o above. (o, inr (inl above))) part.back behind.1 part.above))
+      (both (Ordered top) (λ (r : Range). r.last < x.first) Q (λ r o below. (o, inl below)) part.front (all_front (Ordered top) part.front (x ∷ part.back) all) part.below) (
+        (behind.0, inr (inr (refl, refl))),
+        both (Ordered top) (λ (r : Range). x.last < r.first) Q (λ r o above. (o, inr (inl above))) part.back behind.1 part.above,
+      ))
 
   -- of what stands in a slot
   pub beside : (x : Span) → IsPart m x.first x.last (leaf_range x) → AllByRecursion (Beside top x.first x.last) m

@@ -132,28 +132,36 @@ module _ (q q' : PassPart) (place : Place) (found : Option Range) (level : (here
   pub finds_here : (r : Range) → found ≡ Some r → q'.shape.kind ≡ q.shape.kind → LeafAnswers q' (here q) (Find index (greatest_of q.shape.kind)) (Some r)
   finds_here r is kind =
       let entry = some_entry place was.entry r (sym is ∙ was.found_is) in
-      record { answers = record {
-        k = was.read.k;
-        low = was.read.low;
-        high = was.read.high;
-        map = was.read.map;
-        is = sym is ∙ (was.found_is ∙ (range_is place was.entry entry
-            ∙ (find_entry q'.shape.kind m was.read.map (copy_of (here q')) (here q).row (here q).extent level was.read.shape was.read.part.ranges place.slot (span_of place was.entry) was.stands index from to entry
-            ∙ ap (λ (k : Kind). answer m (Find index (greatest_of k))) kind)));
-      }; now = was.read.now; stood = stood_here; }
+      record {
+        answers = record {
+          k = was.read.k;
+          low = was.read.low;
+          high = was.read.high;
+          map = was.read.map;
+          is = sym is ∙ (was.found_is ∙ (range_is place was.entry entry
+              ∙ (find_entry q'.shape.kind m was.read.map (copy_of (here q')) (here q).row (here q).extent level was.read.shape was.read.part.ranges place.slot (span_of place was.entry) was.stands index from to entry
+              ∙ ap (λ (k : Kind). answer m (Find index (greatest_of k))) kind)));
+        };
+        now = was.read.now;
+        stood = stood_here;
+      }
 
   pub finds_none : found ≡ None → q'.shape.kind ≡ q.shape.kind → (here q).width ≡ kind_width q.shape.kind → place.last ≡ (here q).extent.last → (here q).extent.last ≤ greatest_of q.shape.kind → LeafAnswers q' (here q) (Find index (greatest_of q.shape.kind)) None
   finds_none is kind wide last low =
       let hole = no_entry place was.entry (sym is ∙ was.found_is) in
-      record { answers = record {
-        k = was.read.k;
-        low = was.read.low;
-        high = was.read.high;
-        map = was.read.map;
-        is = find_end q'.shape.kind m was.read.map (copy_of (here q')) (here q).row (here q).extent level was.read.shape was.read.part.ranges place.slot (span_of place was.entry) was.stands index from to hole last
-            (was.read.width ∙ (wide ∙ ap kind_width (sym kind))) (subst (λ (k : Kind). (here q).extent.last ≤ greatest_of k) (sym kind) low)
-            ∙ ap (λ (k : Kind). answer m (Find index (greatest_of k))) kind;
-      }; now = was.read.now; stood = stood_here; }
+      record {
+        answers = record {
+          k = was.read.k;
+          low = was.read.low;
+          high = was.read.high;
+          map = was.read.map;
+          is = find_end q'.shape.kind m was.read.map (copy_of (here q')) (here q).row (here q).extent level was.read.shape was.read.part.ranges place.slot (span_of place was.entry) was.stands index from to hole last
+              (was.read.width ∙ (wide ∙ ap kind_width (sym kind))) (subst (λ (k : Kind). (here q).extent.last ≤ greatest_of k) (sym kind) low)
+              ∙ ap (λ (k : Kind). answer m (Find index (greatest_of k))) kind;
+        };
+        now = was.read.now;
+        stood = stood_here;
+      }
 
   -- the hole stands there still, as another slot is read
   module _ (q₂ q₃ : PassPart) (same : IsSameHold (here q) (here q')) (sees : SeesMore q' q₂) (goes : GoesOn q q') (on : GoesOn q₂ q₃) (next : Place) (answered : Option Range) (was₃ : WasRead q₂ q₃ next answered) where
@@ -212,15 +220,19 @@ module _ (q q' : PassPart) (place : Place) (found : Option Range) (level : (here
         let low : (here q₂).extent.last ≤ greatest_of q₃.shape.kind = subst (λ (e : Extent). e.last ≤ greatest_of q₃.shape.kind) (sym extent_same) (subst (λ (k : Kind). (here q).extent.last ≤ greatest_of k) (sym kind_all) within) in
         let since : (here q₂).since ≡ (here q).since = ap (λ (z : Held). z.since) (here_is ∙ same.is) in
         let least = read.low in
-        record { answers = record {
-          k = read.k;
-          low = omega arith;
-          high = read.high;
-          map = read.map;
-          is = was₃.found_is ∙ (range_is next was₃.entry entry
-              ∙ (find_behind q₃.shape.kind m₃ read.map (copy_of (here q₃)) (here q₂).row (here q₂).extent level_same read.shape read.part.ranges place.slot (span_of place word) still index from to (span_of next was₃.entry) at' hole low
-              ∙ ap (λ (k : Kind). answer m₃ (Find index (greatest_of k))) kind_all));
-        }; now = read.now; stood = stood_behind; }
+        record {
+          answers = record {
+            k = read.k;
+            low = omega arith;
+            high = read.high;
+            map = read.map;
+            is = was₃.found_is ∙ (range_is next was₃.entry entry
+                ∙ (find_behind q₃.shape.kind m₃ read.map (copy_of (here q₃)) (here q₂).row (here q₂).extent level_same read.shape read.part.ranges place.slot (span_of place word) still index from to (span_of next was₃.entry) at' hole low
+                ∙ ap (λ (k : Kind). answer m₃ (Find index (greatest_of k))) kind_all));
+          };
+          now = read.now;
+          stood = stood_behind;
+        }
 
 -- ---- the empty tree
 

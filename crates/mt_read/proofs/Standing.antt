@@ -1,7 +1,8 @@
 -- What a leaf that stood at a moment tells of the map there, by the slots that it had when a section came to it.
-use Rattle.std.proofs.Common.{◌≡◌, ◌≢◌, ◌⊎◌, ℕ, zero, suc, ◌+◌, ◌*◌, ◌<◌, ◌≤◌, ◌==◌, Bool, List, [], ◌∷◌, Option, Some, None, refl, sym, ap, ◌∙◌, subst, inl, inr, arith}
+use Rattle.std.proofs.Common.{◌≡◌, ◌≢◌, ◌⊎◌, ℕ, zero, suc, ◌+◌, ◌*◌, ◌<◌, ◌≤◌, ◌==◌, Bool, true, List, [], ◌∷◌, Option, Some, None, refl, sym, ap, ◌∙◌, subst, inl, inr, arith}
 use Rattle.std.specs.Prelude.{if◌then◌else◌}
 use Rattle.std.specs.List.{AllByRecursion, slice_get, flat_map}
+use Rattle.std.proofs.lemmas.Bool.{eq-eqb}
 use Rattle.mt_base.specs.declared.kinds.Kind.{Kind}
 use Rattle.mt_base.specs.declared.ranges.Range.{Range}
 use Rattle.mt_base.specs.declared.widths.Width.{Width}
@@ -83,3 +84,11 @@ module _ (kind : Kind) (x : Held) (m : life.Moment) (stood : Snapshot kind x m) 
 
   pub beside_there : (i : ℕ) (y : Span) → IsMap kind m.ranges → slice_get (spans_at kind (copy_of x) x.row x.extent) i ≡ Some y → AllByRecursion (Beside (greatest_of kind) y.first y.last) m.ranges
   beside_there i y map at = let p = part_there i y at in beside kind m.ranges map (record { first = y.first; last = y.last; word = p.0 }) p.1
+
+  -- of a hole it has nothing there
+  pub hole_there : (i : ℕ) (y : Span) → slice_get (spans_at kind (copy_of x) x.row x.extent) i ≡ Some y → y.word ≡ 0 → IsPart m.ranges y.first y.last []
+  hole_there i y at hole =
+      let s = slot_there i y at in
+      let none : (s.0 == 0) ≡ true = hole_of_form kind (copy_of x) t x.row i x.extent y _ (same_width t.width x.width) stood.form at s.1 ∙ eq-eqb y.word 0 hole in
+      subst (λ (b : Bool). IsPart m.ranges y.first y.last (if b then [] else record { first = y.first; last = y.last; entry = s.0 } ∷ [])) none
+      (narrow m.ranges x.extent.first x.extent.last i there (record { first = y.first; last = y.last; word = s.0 }) stood.part.ranges fills_there s.1)

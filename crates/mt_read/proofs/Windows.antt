@@ -68,26 +68,28 @@ module _ (t : Identity) (q q₁ q₂ q₃ : PassPart) (lo hi : ℕ) (of : q.shap
       let most = began.most in let least = began.least in let low = a.low in let high = a.high in let top = ended.seen in
       let first = begins_length q.seen q₁.seen began.seen in
       let long = length-map q.seen record_of in let long₂ = length-map q₂.seen record_of in
-      let shape : q₂.shape ≡ t.shape = ap (λ (z : PassPart). z.shape) middle ∙ of in
-      (a.k, subst (λ (z : PassPart). known.Read (tree_in t) (known_by q) lo hi a.k query value (known_by z)) (sym is_after) (record {
-        grows = record {
-          number = refl;
-          seen = begins_records q.seen q₂.seen seen_all;
-          mine = refl;
-          opened = (lo ∷ [], refl);
-          begun = begun_low;
-          ended = began.before;
-        };
-        true = record {
+      let shape : q₂.shape ≡ t.shape = ap (λ (z : PassPart). z.shape) middle ∙ of in (
+        a.k,
+        subst (λ (z : PassPart). known.Read (tree_in t) (known_by q) lo hi a.k query value (known_by z)) (sym is_after) (record {
+          grows = record {
+            number = refl;
+            seen = begins_records q.seen q₂.seen seen_all;
+            mine = refl;
+            opened = (lo ∷ [], refl);
+            begun = begun_low;
+            ended = began.before;
+          };
+          true = record {
+            from = omega arith;
+            to = omega arith;
+            made = omega arith;
+            answered = a.is ∙ ap (λ (s : Shape). answer (map_at (tree_of s q₂.seen) a.k) query) shape;
+          };
           from = omega arith;
-          to = omega arith;
-          made = omega arith;
-          answered = a.is ∙ ap (λ (s : Shape). answer (map_at (tree_of s q₂.seen) a.k) query) shape;
-        };
-        from = omega arith;
-        floor = omega arith;
-        before = began.before;
-        lo_known = omega arith;
-        hi_known = omega arith;
-        sound = subst (λ (z : PassPart). known.IsSound (tree_in t) (known_by z)) is_after sound;
-      }))
+          floor = omega arith;
+          before = began.before;
+          lo_known = omega arith;
+          hi_known = omega arith;
+          sound = subst (λ (z : PassPart). known.IsSound (tree_in t) (known_by z)) is_after sound;
+        }),
+      )

@@ -4,6 +4,7 @@
 mod answers;
 mod cursor;
 mod descent;
+mod lasts;
 mod neighbours;
 mod queries;
 mod reads;
@@ -11,6 +12,7 @@ mod sections;
 
 pub use answers::Answer;
 pub use cursor::Cursor;
+pub use lasts::{prev, rfind};
 pub use neighbours::{Moved, next};
 pub use queries::{find, load, load_range};
 pub use sections::Section;

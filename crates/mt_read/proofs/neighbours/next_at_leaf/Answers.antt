@@ -33,7 +33,7 @@ returns-then-place-leaf-clause-answer g c =
     let a = subst (λ (n : ℕ). LeafAnswers q₃ (here q₂) (Find n (greatest_of q₂.shape.kind)) c.first_at.result) c.next_place-next.ensures.first c.first_at.ensures.answer in
     subst (λ (z : PassPart). Answers q₃ (here z).since (Next c.args.index (greatest_of z.shape.kind)) c.first_at.result) sees.is
     (crosses q₂ q₃ place c.args.index c.find_slot-place.ensures.from c.find_slot-place.ensures.to (place_more q₁ q₂ place c.next_place-next.ensures.sees c.find_slot-place.ensures.place) c.next_place-next.ensures.leaf.on.shape.fills
-        (kind_goes q₂ q₃ c.first_at.ensures.goes) (here q₂).since c.first_at.result a.answers (inr a.stood))
+    (kind_goes q₂ q₃ c.first_at.ensures.goes) (here q₂).since c.first_at.result a.answers (inr a.stood))
 
 pub returns-then-leaf-top-clause-answer : goal.returns-then-leaf-top-clause-answer
 returns-then-leaf-top-clause-answer g c =
@@ -47,7 +47,7 @@ returns-then-leaf-top-clause-answer g c =
     let last : place.last ≡ greatest_of q₁.shape.kind = end ∙ (top ∙ (c.top.ensures ∙ (ap greatest c.width.ensures ∙ ap (λ (s : Shape). greatest_of s.kind) (sym shape)))) in
     subst (λ (z : PassPart). Answers q₂ (here z).since (Next c.args.index (greatest_of z.shape.kind)) None) c.find_slot-place.ensures.sees.is
     (ends q₁ q₂ place c.args.index c.find_slot-place.ensures.from c.find_slot-place.ensures.to c.find_slot-place.ensures.place on.shape.fills (kind_goes q₁ q₂ c.range_at.ensures.goes)
-        (here q₁).since was.read.k was.read.low was.read.high last was.read.map (stood_here q₁ q₂ place c.range_at.result level was c.args.index c.find_slot-place.ensures.from c.find_slot-place.ensures.to))
+    (here q₁).since was.read.k was.read.low was.read.high last was.read.map (stood_here q₁ q₂ place c.range_at.result level was c.args.index c.find_slot-place.ensures.from c.find_slot-place.ensures.to))
 
 pub returns-clause-answer : goal.returns-clause-answer
 returns-clause-answer g c =
@@ -58,7 +58,7 @@ returns-clause-answer g c =
     let found = subst (λ (n : ℕ). IfSome c.first_beside.result (AnswersBy q₂ (here q₁) (length q₁.seen) (Find (n + 1) (greatest_of q₁.shape.kind)))) (sym end) c.first_beside.ensures.answer in
     subst (λ (z : PassPart). IfSome c.first_beside.result (Answers q₂ (here z).since (Next c.args.index (greatest_of z.shape.kind)))) c.find_slot-place.ensures.sees.is
     (from_fewer c.first_beside.result q₂ (length q₁.seen) (here q₁).since _ (omega arith)
-        (crosses_beside q₁ q₂ place c.args.index c.find_slot-place.ensures.from c.find_slot-place.ensures.to c.find_slot-place.ensures.place on.shape.fills (kind_goes q₁ q₂ c.first_beside.ensures.goes) c.first_beside.result (length q₁.seen) found))
+    (crosses_beside q₁ q₂ place c.args.index c.find_slot-place.ensures.from c.find_slot-place.ensures.to c.find_slot-place.ensures.place on.shape.fills (kind_goes q₁ q₂ c.first_beside.ensures.goes) c.first_beside.result (length q₁.seen) found))
 
 pub first_at-requires-clause-to : goal.first_at-requires-clause-to
 first_at-requires-clause-to g c = (place_within (part_of c.next_place-next.new.pass) c.args.leaf.now c.next_place-next.result c.next_place-next.ensures.leaf.on c.next_place-next.ensures.place).1

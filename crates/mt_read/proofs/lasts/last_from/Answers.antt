@@ -1,0 +1,36 @@
+use Rattle.std.proofs.Common.{rules, arith, ◌≡◌, ◌≢◌, ◌+◌, ◌-◌, ◌<◌, ◌≤◌, ◌∙◌, ℕ, length, refl, sym, ap, subst, Option, None}
+use Rattle.std.specs.Prelude.{IfSome}
+use Rattle.mt_base.specs.declared.ranges.Range.{Range}
+use Rattle.mt_base.specs.declared.calls.Query.TheVariants.{Rfind}
+use Rattle.mt_rule.specs.Sections.{here}
+use Rattle.mt_rule.specs.Tokens.{part_of}
+use Rattle.mt_read.specs.Answers.{AnswersBy}
+use Rattle.mt_read.proofs.Finding.{begins_length}
+use Rattle.mt_read.proofs.Descending.{goes_on}
+use Rattle.mt_read.proofs.Before.{first_place}
+use Rattle.mt_read.proofs.Preceding.{here_by, left_by, no_last}
+use Rattle.mt_read.proofs.lasts.last_from.Goals as goal
+
+pub returns-in-Some-clause-answer : goal.returns-in-Some-clause-answer
+returns-in-Some-clause-answer g c = here_by (part_of c.args.pass.now) (part_of c.last_at.new.pass) c.args.index c.in-Some.range c.in-Some.ensures.found
+
+pub returns-clause-goes : goal.returns-clause-goes
+returns-clause-goes g c = goes_on _ _ _ c.last_at.ensures.goes c.last_beside.ensures.goes
+
+pub returns-then-leaf-eq0-clause-answer : goal.returns-then-leaf-eq0-clause-answer
+returns-then-leaf-eq0-clause-answer g c =
+    let q = part_of c.args.pass.now in let q' = part_of c.last_at.new.pass in
+    let none = c.in_default.ensures.none in
+    let first = first_place q c.args.leaf.now c.args.place.now c.requires.leaf.on c.requires.place none.0 in
+    let zero : c.args.leaf.now.min ≡ 0 = search rules in
+    no_last q q' c.args.place.now None c.requires.leaf.level none.1 c.args.index c.requires.from c.requires.to refl (first ∙ zero)
+
+pub returns-clause-answer : goal.returns-clause-answer
+returns-clause-answer g c =
+    let q = part_of c.args.pass.now in let q₁ = part_of c.last_at.new.pass in let q₂ = part_of c.last_beside.new.pass in
+    let none = c.in_default.ensures.none in
+    let on = c.requires.leaf.on in let old = on.old in let met = on.met in let more = begins_length q.seen q₁.seen c.last_at.ensures.goes.seen in
+    let first = first_place q c.args.leaf.now c.args.place.now on c.requires.place none.0 in
+    let other : c.args.leaf.now.min ≢ 0 = search rules in
+    let found = subst (λ (n : ℕ). IfSome c.last_beside.result (AnswersBy q₂ (here q₁) (length q₁.seen) (Rfind (n - 1) 0))) (sym first) c.last_beside.ensures.answer in
+    left_by q q₁ q₂ c.args.place.now none.1 c.last_at.ensures.same c.last_at.ensures.leaf.on.shape.fills c.last_beside.ensures.goes c.args.index c.requires.from c.requires.to (omega arith) c.last_beside.result (length q₁.seen) (here q).since (omega arith) found
