@@ -18,6 +18,7 @@ mod writes;
 pub use behind::Desk;
 pub use locked::{Held, Locked, Write};
 pub use mt_check::Form;
+pub use mt_read::Moved;
 pub use mt_rule::{MOST_CALLS, Note, Pass};
 pub use shapes::{Done, DupError, Field, MakeError, Read, Shape, Worn};
 pub use trees::Tree;

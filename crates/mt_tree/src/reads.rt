@@ -1,9 +1,10 @@
 //! The reads of a tree, without its lock.
 
-ghost use Rattle.std.specs.Prelude.{◌≡◌, ℕ, ◌+◌, ◌≤◌, Option, option_map};
-ghost use Rattle.mt_base.specs.declared.calls.Query.TheVariants.{Load, Find};
+ghost use Rattle.std.specs.Prelude.{◌≡◌, ℕ, ◌+◌, ◌≤◌, IfOk, IfErr, Option, option_map};
+ghost use Rattle.mt_base.specs.declared.calls.Query.TheVariants.{Load, Find, Next, Prev, Rfind};
 ghost use Rattle.mt_base.specs.declared.ranges.Range.{Range};
 ghost use Rattle.mt_base.specs.Passes as known;
+ghost use Rattle.mt_read.specs.Neighbours.{WasMoved};
 ghost use Rattle.mt_read.specs.Windows.{HasRead};
 ghost use Rattle.mt_rule.specs.Tokens.{pass_in};
 ghost use Rattle.mt_tree.specs.Trees.{opened, IsPassOf};
@@ -11,6 +12,7 @@ ghost use Rattle.mt_tree.specs.Trees.{opened, IsPassOf};
 use crate::shapes::Read;
 use crate::trees::Tree;
 use mt_base::{Range, Steps};
+use mt_read::{Answer, Moved};
 use mt_rule::Pass;
 use std::sync::ledger::Ledger;
 
@@ -78,6 +80,87 @@ impl Tree {
             lo: answer.lo,
             hi: answer.hi,
             value: answer.value,
+        }
+    }
+
+    /// The first range that begins above an index, and at `max` or below.
+    ///
+    /// # Errors
+    ///
+    /// `Moved` where the answer lay in a leaf beside that of the index, and that leaf was replaced meanwhile. What the pass knows
+    /// then has only grown.
+    pub fn next<L: Ledger>(
+        &self,
+        pass: &mut Pass,
+        index: u64,
+        max: u64,
+        steps: &mut Steps<L>,
+    ) -> Result<Read<Option<Range>>, Moved>
+        requires { IsPassOf self.now pass.old }
+        ensures of { IsPassOf self.now pass.new }
+        ensures read { IfOk result (λ r. (k : ℕ) × known.Read (opened self.now) (pass_in pass.old) r.lo r.hi k (Next index max) r.value (pass_in pass.new)) }
+        ensures section { IfOk result (λ r. HasRead r.lo r.hi (pass_in pass.old) (pass_in pass.new)) }
+        ensures moved { IfErr result (λ m. WasMoved (opened self.now) (pass_in pass.old) m.lo m.begun (pass_in pass.new)) }
+        ensures given_up { IfErr result (λ m. HasRead m.lo m.begun (pass_in pass.old) (pass_in pass.new)) }
+        ensures steps { steps.new ≤ steps.old + 360 }
+    {
+        match mt_read::next(&self.table, pass, index, max, steps) {
+            Ok(Answer { lo, hi, value }) => Ok(Read { lo, hi, value }),
+            Err(moved) => Err(moved),
+        }
+    }
+
+    /// The last range that ends below an index, and at `min` or above.
+    ///
+    /// # Errors
+    ///
+    /// `Moved` where the answer lay in a leaf beside that of the index, and that leaf was replaced meanwhile. What the pass knows
+    /// then has only grown.
+    pub fn prev<L: Ledger>(
+        &self,
+        pass: &mut Pass,
+        index: u64,
+        min: u64,
+        steps: &mut Steps<L>,
+    ) -> Result<Read<Option<Range>>, Moved>
+        requires { IsPassOf self.now pass.old }
+        ensures of { IsPassOf self.now pass.new }
+        ensures read { IfOk result (λ r. (k : ℕ) × known.Read (opened self.now) (pass_in pass.old) r.lo r.hi k (Prev index min) r.value (pass_in pass.new)) }
+        ensures section { IfOk result (λ r. HasRead r.lo r.hi (pass_in pass.old) (pass_in pass.new)) }
+        ensures moved { IfErr result (λ m. WasMoved (opened self.now) (pass_in pass.old) m.lo m.begun (pass_in pass.new)) }
+        ensures given_up { IfErr result (λ m. HasRead m.lo m.begun (pass_in pass.old) (pass_in pass.new)) }
+        ensures steps { steps.new ≤ steps.old + 360 }
+    {
+        match mt_read::prev(&self.table, pass, index, min, steps) {
+            Ok(Answer { lo, hi, value }) => Ok(Read { lo, hi, value }),
+            Err(moved) => Err(moved),
+        }
+    }
+
+    /// The last range that begins at an index or below, and ends at `min` or above. There is none where the index is below `min`.
+    ///
+    /// # Errors
+    ///
+    /// `Moved` where the answer lay in a leaf beside that of the index, and that leaf was replaced meanwhile. What the pass knows
+    /// then has only grown.
+    pub fn rfind<L: Ledger>(
+        &self,
+        pass: &mut Pass,
+        index: u64,
+        min: u64,
+        steps: &mut Steps<L>,
+    ) -> Result<Read<Option<Range>>, Moved>
+        requires { IsPassOf self.now pass.old }
+        ensures of { IsPassOf self.now pass.new }
+        ensures read { IfOk result (λ r. (k : ℕ) × known.Read (opened self.now) (pass_in pass.old) r.lo r.hi k (Rfind index min) r.value (pass_in pass.new)) }
+        ensures section { IfOk result (λ r. HasRead r.lo r.hi (pass_in pass.old) (pass_in pass.new)) }
+        ensures moved { IfErr result (λ m. WasMoved (opened self.now) (pass_in pass.old) m.lo m.begun (pass_in pass.new)) }
+        ensures given_up { IfErr result (λ m. HasRead m.lo m.begun (pass_in pass.old) (pass_in pass.new)) }
+        ensures steps { steps.new ≤ steps.old + 360 }
+    {
+        match mt_read::rfind(&self.table, pass, index, min, steps) {
+            Ok(Answer { lo, hi, value }) => Ok(Read { lo, hi, value }),
+            Err(moved) => Err(moved),
         }
     }
 }
