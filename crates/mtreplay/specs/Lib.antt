@@ -3,3 +3,4 @@ pub mod Command
 pub mod Ending
 pub mod Headline
 pub mod Input
+pub mod Lines

@@ -1,17 +1,18 @@
 //! Trees of nodes that threads share, as a player makes them.
 
-ghost use Rattle.std.specs.Prelude.{◌≡◌, ℕ, ◌<◌, ◌≤◌, None};
+ghost use Rattle.std.specs.Prelude.{◌≡◌, ℕ, ◌<◌, ◌≤◌, None, IfOk, IfErr};
 ghost use Rattle.mt_base.specs.declared.calls.Query.TheVariants.{Find, Load};
 ghost use Rattle.mt_base.specs.Passes as known;
 ghost use Rattle.mt_base.specs.Width.{most_rows};
 ghost use Rattle.mt_play.specs.Trees.{calls_taken, fewest_rows, most_passes};
 ghost use Rattle.mt_rule.specs.Tokens.{pass_in};
+ghost use Rattle.mtreplay.specs.Lines.{IsForNeighbour};
 ghost use Rattle.mt_tree.specs.Trees.{IsPassOf, limit_of, opened, passes_of};
 
 use mt_base::{Call, Kind, NoMemory, Query, Range, Steps};
 use mt_desks::{Done, Looked, Shared, Worn};
 use mt_play::Plays;
-use mt_tree::{DupError, MOST_CALLS, MakeError, Pass, Read, Shape, Tree};
+use mt_tree::{DupError, MOST_CALLS, MakeError, Moved, Pass, Read, Shape, Tree};
 use std::alloc::Global;
 use std::marker::Brand;
 use std::sync::Wait;
@@ -63,6 +64,55 @@ fn find<L: Ledger>(
     tree.find(pass, index, max, &mut steps)
 }
 
+/// What a query for a neighbour finds without the lock, or that the leaf of its index was replaced meanwhile.
+fn seek<L: Ledger>(
+    tree: &Tree,
+    pass: &mut Pass,
+    query: &Query,
+    blank: Blank,
+) -> Result<Read<Option<Range>>, Moved>
+    requires of { IsPassOf tree.now pass.old }
+    requires name { blank.name ≡ L.name }
+    requires parts { blank.parts ≡ L.parts }
+    requires some { 0 < blank.parts }
+    requires neighbour { IsForNeighbour query.now }
+    ensures of { IsPassOf tree.now pass.new }
+    ensures read { IfOk result (λ r. (k : ℕ) × known.Read (opened tree.now) (pass_in pass.old) r.lo r.hi k query.now r.value (pass_in pass.new)) }
+    ensures grows { IfErr result (λ _. known.Grows (pass_in pass.old) (pass_in pass.new)) }
+    ensures closed { (pass_in pass.new).standing ≡ None }
+{
+    let mut steps = Steps::<L>::new(blank);
+    match query {
+        Query::Next { index, max } => tree.next(pass, *index, *max, &mut steps),
+        Query::Prev { index, min } => tree.prev(pass, *index, *min, &mut steps),
+        Query::Rfind { index, min } => tree.rfind(pass, *index, *min, &mut steps),
+        Query::Load { .. } | Query::Find { .. } => unreachable!(),
+    }
+}
+
+/// What a query for a neighbour finds: without the lock where the leaf of its index stands, or else under it.
+fn neighbour<R: Wait, L: Ledger>(
+    tree: &Tree,
+    rt: &R,
+    pass: &mut Pass,
+    query: &Query,
+    blank: Blank,
+) -> Read<Option<Range>>
+    requires of { IsPassOf tree.now pass.old }
+    requires name { blank.name ≡ L.name }
+    requires parts { blank.parts ≡ L.parts }
+    requires some { 0 < blank.parts }
+    requires neighbour { IsForNeighbour query.now }
+    ensures of { IsPassOf tree.now pass.new }
+    ensures read { (k : ℕ) × known.Read (opened tree.now) (pass_in pass.old) result.lo result.hi k query.now result.value (pass_in pass.new) }
+    ensures closed { (pass_in pass.new).standing ≡ None }
+{
+    match seek::<L>(tree, pass, query, blank) {
+        Ok(read) => read,
+        Err(_) => ask_under_lock(tree, rt, pass, query),
+    }
+}
+
 /// The answer of a query under the lock.
 fn ask_under_lock(
     tree: &Tree,
@@ -103,7 +153,7 @@ impl Shared<Pass> for LaneTree {
                 find::<Brand>(&self.tree, pass, *index, *max, Blank::new(1))
             }
             Query::Next { .. } | Query::Prev { .. } | Query::Rfind { .. } => {
-                ask_under_lock(&self.tree, rt, pass, query)
+                neighbour::<R, Brand>(&self.tree, rt, pass, query, Blank::new(1))
             }
         };
         Looked {

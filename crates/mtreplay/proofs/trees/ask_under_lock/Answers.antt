@@ -9,10 +9,10 @@ use Rattle.mt_tree.proofs.Lending.{still_of}
 use Rattle.mtreplay.proofs.trees.ask_under_lock.Goals as goal
 
 pub returns-clause-of : goal.returns-clause-of
-returns-clause-of c = still_of c.ask-read.new.self.tree.now c.args.tree.now _ (ap (λ b. b.now) c.ask-read.ensures.tree ∙ c.lock-write.ensures.tree) (search rules)
+returns-clause-of g c = still_of c.ask-read.new.self.tree.now c.args.tree.now _ (ap (λ b. b.now) c.ask-read.ensures.tree ∙ c.lock-write.ensures.tree) (search rules)
 
 pub returns-clause-read : goal.returns-clause-read
-returns-clause-read c =
+returns-clause-read g c =
     let t : Tree = c.args.tree.now in
     let read = subst (λ (x : Tree). Read (opened x) (pass_in c.lock-write.result.pass.now) c.ask-read.result.lo c.ask-read.result.hi c.ask-read.result.lo c.args.query.now c.ask-read.result.value (pass_in c.ask-read.new.self.pass.now)) c.lock-write.ensures.tree c.ask-read.ensures.read in
     let last : c.ask-read.new.self.pass.now ≡ c.pass-1.given.0 = (search rules) in (

@@ -5,3 +5,6 @@ ghosts-load_range g a = record { name = a.blank.name; parts = a.blank.parts }
 
 abbrev pub ghosts-find : goal.ghosts-find
 ghosts-find g a = record { name = a.blank.name; parts = a.blank.parts }
+
+abbrev pub ghosts-neighbour : goal.ghosts-neighbour
+ghosts-neighbour g a = record { name = a.blank.name; parts = a.blank.parts }
