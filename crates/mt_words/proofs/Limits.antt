@@ -5,7 +5,7 @@ use Rattle.std.specs.Str.{bytes_eq}
 use Rattle.std.specs.Str.Parse.{digits_value}
 use Rattle.std.proofs.lemmas.Bool.{leb-true}
 use Rattle.mt_base.specs.Width.{most_rows}
-use Rattle.mt_words.specs.Commands.{IsWithin, command_of, in_one_word, in_two_words, make_of, make_with, replay_of, trial_of, trial_with, with_rows}
+use Rattle.mt_words.specs.Commands.{IsWithin, command_of, make_of, replay_of, trial_of, with_rows}
 use Rattle.mt_words.specs.Numbers.{fewest_rows, greatest_number, is_number, most_lanes, most_steps, number_in}
 use Rattle.mt_words.specs.declared.commands.Command.{Command}
 use Rattle.mt_words.specs.declared.commands.Command.TheVariants.{Make, Replay, Trial}
@@ -51,8 +51,8 @@ make_within (number ∷ steps ∷ []) = tt
 make_within (number ∷ steps ∷ lanes ∷ []) =
     chained (number_in 0 greatest_number number) (λ n. option_and_then (λ s. option_map (Make n s) (number_in 1 most_lanes lanes)) (number_in 1 most_steps steps)) (IsBetween 0 greatest_number) IsWithin
     (number_within 0 greatest_number number) (λ n n_within.
-      chained (number_in 1 most_steps steps) (λ s. option_map (Make n s) (number_in 1 most_lanes lanes)) (IsBetween 1 most_steps) IsWithin (number_within 1 most_steps steps) (λ s s_within.
-        mapped (number_in 1 most_lanes lanes) (Make n s) (IsBetween 1 most_lanes) IsWithin (number_within 1 most_lanes lanes) (λ l l_within. (n_within.1, s_within.0, s_within.1, l_within.0, l_within.1))))
+    chained (number_in 1 most_steps steps) (λ s. option_map (Make n s) (number_in 1 most_lanes lanes)) (IsBetween 1 most_steps) IsWithin (number_within 1 most_steps steps) (λ s s_within.
+    mapped (number_in 1 most_lanes lanes) (Make n s) (IsBetween 1 most_lanes) IsWithin (number_within 1 most_lanes lanes) (λ l l_within. (n_within.1, s_within.0, s_within.1, l_within.0, l_within.1))))
 make_within (number ∷ steps ∷ lanes ∷ more ∷ words) = tt
 
 trial_within : (words : List (List ℕ)) → IfSome (trial_of words) IsWithin
@@ -61,7 +61,7 @@ trial_within (number ∷ []) = tt
 trial_within (number ∷ steps ∷ []) =
     chained (number_in 0 greatest_number number) (λ n. option_map (Trial n) (number_in 1 most_steps steps)) (IsBetween 0 greatest_number) IsWithin
     (number_within 0 greatest_number number) (λ n n_within.
-      mapped (number_in 1 most_steps steps) (Trial n) (IsBetween 1 most_steps) IsWithin (number_within 1 most_steps steps) (λ s s_within. (n_within.1, s_within.0, s_within.1)))
+    mapped (number_in 1 most_steps steps) (Trial n) (IsBetween 1 most_steps) IsWithin (number_within 1 most_steps steps) (λ s s_within. (n_within.1, s_within.0, s_within.1)))
 trial_within (number ∷ steps ∷ more ∷ words) = tt
 
 of_words : (words : List (List ℕ)) → IfSome (command_of words) IsWithin

@@ -1,10 +1,9 @@
 -- How a run that prints ends, by how its printing ended.
-use Rattle.std.proofs.Common.{◌≡◌, ◌++◌, ◌∙◌, ℕ, List, Option, Result, Ok, Err, subst, sym}
+use Rattle.std.proofs.Common.{◌∙◌, ℕ, List, Option, Result, Ok, Err, subst, sym}
 use Rattle.mt_log.specs.declared.lines.Log.{Log}
 use Rattle.mtreplay.specs.Causes.{EndsMaking, EndsPrint, EndsReplay, ReadsLog, Streams}
 use Rattle.mtreplay.specs.Headline.{TellsRun}
 use Rattle.mtreplay.specs.declared.failures.Failure.{Failure}
-use Rattle.mtreplay.specs.declared.failures.Failure.TheVariants as failures
 
 -- the text of a run went to the sink
 pub replay_ends : (rows : ℕ) (result : Result (Unit {0}) Failure) (old new : Streams) (log : Log) (text : List ℕ) → ReadsLog old.left new.left log → TellsRun rows log text

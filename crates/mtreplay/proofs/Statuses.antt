@@ -1,6 +1,6 @@
 -- From how a run ended to what its status says.
-use Rattle.std.proofs.Common.{◌≡◌, ◌≢◌, ◌⊎◌, ◌≤◌, ◌<◌, ◌+◌, ◌++◌, ◌∙◌, ℕ, Bool, true, false, List, [], ◌∷◌, length, Option, Some, None, Ok, Err, refl, sym, ap, subst, inl, inr, arith, append-nil, length-append, true≢false}
-use Rattle.std.specs.Prelude.{IfSome, IsErr, IsOk, nat_lt, if◌then◌else◌, is_err, is_ok}
+use Rattle.std.proofs.Common.{◌≡◌, ◌≢◌, ◌⊎◌, ◌≤◌, ◌<◌, ◌+◌, ◌++◌, ◌∙◌, ℕ, Bool, true, false, List, [], length, Option, Some, None, Ok, Err, refl, sym, ap, subst, inl, inr, arith, append-nil, length-append, true≢false}
+use Rattle.std.specs.Prelude.{IfSome, IsErr, IsOk, is_err, is_ok}
 use Rattle.std.specs.Io.KnownBytes.{Appends, Consumes, IsAtEnd}
 use Rattle.std.proofs.KnownBytes.{Consumes-nil}
 use Rattle.std.proofs.lemmas.Bool.{le-ltb, lt-ltb}

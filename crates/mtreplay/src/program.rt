@@ -124,11 +124,13 @@ fn run<R: Threads + Wait + Sync, S: Source, O: Sink, G: Gate + Sync>(
 {
     match read_words(alloc, words)? {
         Some(Command::Replay { rows }) => replay(rt, alloc, rows, src, out, gate),
-        Some(Command::Make {
-            number,
-            steps,
-            lanes,
-        }) => make(alloc, number, steps, lanes, out),
+        Some(
+            Command::Make {
+                number,
+                steps,
+                lanes,
+            },
+        ) => make(alloc, number, steps, lanes, out),
         Some(Command::Trial { number, steps }) => trial(rt, alloc, number, steps, out, gate),
         None => Err(Failure::Usage),
     }
