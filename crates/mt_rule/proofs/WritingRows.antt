@@ -2,10 +2,10 @@
 -- knows stays true.
 use Rattle.std.proofs.Common.{◌≡◌, ◌≢◌, ℕ, zero, suc, ◌+◌, ◌*◌, ◌<◌, ◌≤◌, ◌==◌, List, [], ◌∷◌, ◌++◌, Bool, true, length, refl, sym, ap, ◌∙◌, subst, ⊎_elim, arith, length-set, get_or-set_other, get_or-set_same, Some}
 use mathlib.Core.Option.{none}
-use Rattle.std.specs.Prelude.{slice_set, nat_lt}
+use Rattle.std.specs.Prelude.{slice_index, slice_set, nat_lt}
 use Rattle.std.specs.List.{AllByRecursion, flat_map}
 use Rattle.std.proofs.lemmas.Bool.{cases_eq}
-use Rattle.atomic_table.specs.Table.{step, keeps, Allows}
+use Rattle.atomic_table.specs.Table.{step, stepped, keeps, Allows}
 use Rattle.mt_base.specs.declared.kinds.Kind.{Kind}
 use Rattle.mt_base.specs.declared.widths.Width.{Width}
 use Rattle.mt_base.specs.declared.widths.Width.TheVariants.{Long}
@@ -36,9 +36,9 @@ use Rattle.mt_rule.specs.declared.views.PenPart.{PenPart}
 use Rattle.mt_rule.specs.Places.{column_at, rows_at, size_of}
 use Rattle.mt_rule.specs.Seats.{HasPen, pen_of, least_of, moment_at, rooted_in, sheet_of, state_in}
 use Rattle.mt_rule.specs.Rule.{IsSound, IsKept}
-use Rattle.mt_rule.specs.Steps.{pen_drafted, pen_buried, pen_tended, drafts, buries, tends}
+use Rattle.mt_rule.specs.Steps.{pen_drafted, pen_buried, pen_tended, drafts, finds_drafted, buries, tends}
 use Rattle.mt_rule.proofs.Carrying.{recast, carry, carries_life, stays_put, column_set, sections_set}
-use Rattle.mt_rule.proofs.Writing.{M}
+use Rattle.mt_rule.proofs.Writing.{M, unchanged}
 
 -- ---- which rows are reached
 
@@ -255,6 +255,21 @@ pub drafting : (told : Told) (slots by : ℕ) (me : M) (row col new : ℕ) → H
 drafting told slots by me row col new has high low place free =
     let p = pen_of me.0 in let n = pen_drafted row col new p in
     storing told slots by me (column_at (kind_width p.shape.kind) row col) new n.lives n.buried has high low (λ e sound. (drafted_sound e p sound row col new place free, drafted_goes e p sound row col new place free))
+
+-- A load of a column that holds the word already is the store of that word.
+pub finding_drafted : (told : Told) (slots by : ℕ) (me : M) (row col word : ℕ) → HasPen me.0 → let p = pen_of me.0 in let i = column_at (kind_width p.shape.kind) row col in
+    rows_at (kind_width p.shape.kind) ≤ i → i < size_of (kind_width p.shape.kind) p.shape.rows → IsPlace (rooted_in p) row col → IsFree (least_of p.cleared) (life_of p.lives row)
+    → Allows (IsKept told) slots by me i (λ n. n) (finds_drafted row col word (step slots i 0 0 none) me)
+finding_drafted told slots by me row col word has high low place free s r homes at small =
+    let v = me.0 in let p = pen_of v in let i = column_at (kind_width p.shape.kind) row col in
+    ⊎_elim
+    (λ (same : slice_index s.words i ≡ word).
+    let store = drafting told slots by me row col word has high low place free s r homes at small in
+    (store.0, store.1, store.2, subst (λ (n : ℕ). IsKept told (stepped s i n by me.1 store.0 store.1)) (sym same) store.3, ((λ _. store.4), (λ off. absurd (off same)))))
+    (λ (off : slice_index s.words i ≢ word).
+    let known = recast told s r p (sym ((r.each by v at).keeper p has).1) in
+    (v, keeps, tt, unchanged told s known by v at i, ((λ same. absurd (off same)), (λ _. refl))))
+    (cases_eq (slice_index s.words i) word)
 
 pub burying : (told : Told) (slots by : ℕ) (me : M) (row : ℕ) → HasPen me.0 → let p = pen_of me.0 in let i = column_at (kind_width p.shape.kind) row 0 in
     rows_at (kind_width p.shape.kind) ≤ i → i < size_of (kind_width p.shape.kind) p.shape.rows → MayBury (sheet_of p) row

@@ -1,6 +1,6 @@
 -- What the steps of the pen, alone or with a pass, tell the seat that makes them.
 -- Source: this project's own; the order of a write's steps is that of the kernel's mas_replace_node.
-use Rattle.std.specs.Prelude.{◌≡◌, ℕ, ◌+◌, ◌/◌, ◌≤◌, ◌==◌, ◌∷◌, ◌++◌, [], List, Some, None, max, length, slice_index, slice_set, true, false, if◌then◌else◌}
+use Rattle.std.specs.Prelude.{◌≡◌, ◌≢◌, ℕ, ◌+◌, ◌/◌, ◌≤◌, ◌==◌, ◌∷◌, ◌++◌, [], List, Some, None, max, length, slice_index, slice_set, true, false, if◌then◌else◌}
 use Rattle.atomic_table.specs.Table.{Me, Step}
 use Rattle.mt_base.specs.declared.calls.Call.{Call}
 use Rattle.mt_base.specs.declared.replies.Holder.{Holder}
@@ -172,6 +172,10 @@ begins_call step me found me' = Becomes pen_begun me.0 me'.0
 
 abbrev pub drafts : ℕ → ℕ → Step (Unit {0}) → Seat → ℕ → Seat → Type 0
 drafts row col step me found me' = Becomes (pen_drafted row col found) me.0 me'.0
+
+-- The column was loaded: where it holds the word already, its row is a draft from then on, as if the word had been written.
+abbrev pub finds_drafted : ℕ → ℕ → ℕ → Step (Unit {0}) → Seat → ℕ → Seat → Type 0
+finds_drafted row col word step me found me' = (found ≡ word → Becomes (pen_drafted row col word) me.0 me'.0) × (found ≢ word → me'.0 ≡ me.0)
 
 abbrev pub buries : ℕ → Step (Unit {0}) → Seat → ℕ → Seat → Type 0
 buries row step me found me' = Becomes (pen_buried row) me.0 me'.0

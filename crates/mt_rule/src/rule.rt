@@ -36,6 +36,8 @@ pub trait Announced {
     ghost number: { ℕ };
 
     ghost column: { ℕ };
+
+    ghost word: { ℕ };
 }
 
 impl Announced for Brand {
@@ -48,6 +50,8 @@ impl Announced for Brand {
     ghost number = { 0 };
 
     ghost column = { 0 };
+
+    ghost word = { 0 };
 }
 
 /// The pen deals the next pass.
@@ -159,6 +163,17 @@ impl Play<(), View> for BeginsCall {
     ghost use Rattle.mt_rule.specs.Steps.{begins_call};
 
     ghost then = { begins_call };
+}
+
+/// A column of a draft is loaded, which may hold its word already.
+pub(crate) struct FindsDrafted<M> {
+    announced: PhantomData<M>,
+}
+
+impl<M: Announced> Play<(), View> for FindsDrafted<M> {
+    ghost use Rattle.mt_rule.specs.Steps.{finds_drafted};
+
+    ghost then = { finds_drafted M.number M.column M.word };
 }
 
 /// A column of a draft is written.

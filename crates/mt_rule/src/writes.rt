@@ -1,6 +1,6 @@
 //! The steps of the pen, with which a call of the joined pass works on the rows.
 
-ghost use Rattle.std.specs.Prelude.{◌≡◌, ◌+◌, ◌-◌, ◌^◌, ◌<◌, false};
+ghost use Rattle.std.specs.Prelude.{◌≡◌, ◌+◌, ◌-◌, ◌^◌, ◌<◌, false, if◌then◌else◌};
 ghost use Rattle.mt_rows.specs.Publish.{MayPublish, Published};
 ghost use Rattle.mt_rows.specs.Sheet.{IsFree, IsPlace, IsWhole, MayBury, MayTend, life_of};
 ghost use Rattle.mt_rule.specs.Ends.{MayEnd};
@@ -11,8 +11,8 @@ ghost use Rattle.mt_rule.specs.Tokens.{identity_of, pen_in, IsPenOf, IsJoined, G
 
 use crate::pens::Pen;
 use crate::rule::{
-    Announced, BeginsCall, Buries, Drafts, EndsCall, LoadsSection, Looks, LooksAtRoot, Publishes,
-    Tends,
+    Announced, BeginsCall, Buries, Drafts, EndsCall, FindsDrafted, LoadsSection, Looks,
+    LooksAtRoot, Publishes, Tends,
 };
 use crate::table::{BEGUN, COMMITS, MtTable, ROOT, section_index};
 use mt_base::{Call, Reply};
@@ -88,7 +88,8 @@ impl MtTable {
         number
     }
 
-    /// Writes a column of a row that no reader can be at. The row is then a draft.
+    /// Writes a column of a row that no reader can be at. The row is then a draft. A column that holds the word already is only
+    /// loaded, which is quicker.
     pub fn draft(&self, pen: &mut Pen, row: u32, col: u32, word: u64)
         requires pen { IsPenOf (identity_of self.now) pen.old }
         requires joined { IsJoined pen.old }
@@ -97,7 +98,24 @@ impl MtTable {
         ensures on { GoesOn (identity_of self.now) pen.old pen.new }
         ensures pen { pen_in pen.new ≡ pen_drafted row col word (pen_in pen.old) }
     {
-        self.draft_at::<Brand>(pen, row, col, word);
+        if !self.finds_drafted::<Brand>(pen, row, col, word) {
+            self.draft_at::<Brand>(pen, row, col, word);
+        }
+    }
+
+    /// Whether a column of a row that no reader can be at holds a word already. Where it does, the row is then a draft.
+    fn finds_drafted<M: Announced>(&self, pen: &mut Pen, row: u32, col: u32, word: u64) -> bool
+        requires pen { IsPenOf (identity_of self.now) pen.old }
+        requires joined { IsJoined pen.old }
+        requires place { IsPlace (rooted_in (pen_in pen.old)) row col }
+        requires free { IsFree (least_of (pen_in pen.old).cleared) (life_of (pen_in pen.old).lives row) }
+        requires announced { (M.number ≡ row) × (M.column ≡ col) × (M.word ≡ word) }
+        ensures on { GoesOn (identity_of self.now) pen.old pen.new }
+        ensures pen { pen_in pen.new ≡ (if result then pen_drafted row col word (pen_in pen.old) else pen_in pen.old) }
+    {
+        let at = self.column_index(row, col);
+        let found = self.table.shared.load::<FindsDrafted<M>>(&mut pen.seat, at);
+        found == word
     }
 
     fn draft_at<M: Announced>(&self, pen: &mut Pen, row: u32, col: u32, word: u64)
@@ -140,7 +158,8 @@ impl MtTable {
             .store::<Buries<M>>(&mut pen.seat, at, parent_word(row, 0));
     }
 
-    /// Writes the parent word of a live row, or the longest hole below one of its items.
+    /// Writes the parent word of a live row, or the longest hole below one of its items. A column that holds the word already is
+    /// only loaded.
     pub fn tend(&self, pen: &mut Pen, row: u32, col: u32, word: u64)
         requires pen { IsPenOf (identity_of self.now) pen.old }
         requires joined { IsJoined pen.old }
@@ -148,7 +167,9 @@ impl MtTable {
         ensures on { GoesOn (identity_of self.now) pen.old pen.new }
         ensures pen { pen_in pen.new ≡ pen_tended row col word (pen_in pen.old) }
     {
-        self.tend_at::<Brand>(pen, row, col, word);
+        if self.load_word(pen, Place::Slot { row, col }) != word {
+            self.tend_at::<Brand>(pen, row, col, word);
+        }
     }
 
     fn tend_at<M: Announced>(&self, pen: &mut Pen, row: u32, col: u32, word: u64)

@@ -1,0 +1,9 @@
+use Rattle.std.proofs.Common.{rules}
+use Rattle.mt_rule.proofs.Writing.{column_of}
+use Rattle.mt_rule.proofs.WritingRows.{finding_drafted}
+use Rattle.mt_rule.proofs.table.MtTable.finds_drafted.Goals as goal
+
+pub load-found-requires : goal.load-found-requires
+load-found-requires g c =
+    let at = column_of c.args.self.now c.args.pen.now c.args.row c.args.col c.column_index-at.result c.requires.pen c.requires.place c.column_index-at.ensures in
+    (search rules, at.inside, rw (c.requires.announced.0, c.requires.announced.1, c.requires.announced.2, at.is) (finding_drafted _ _ _ _ c.args.row c.args.col c.args.word (search rules) at.above at.below c.requires.place c.requires.free))
