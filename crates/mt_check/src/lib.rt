@@ -10,6 +10,3 @@ mod walks;
 
 pub use checks::check;
 pub use faults::{Fault, Form, Law};
-
-#[cfg(test)]
-mod tests;

@@ -1,4 +1,3 @@
-pub mod CheckedTrees
 pub mod Filling
 pub mod Going
 pub mod MovedItems

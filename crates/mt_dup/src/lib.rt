@@ -3,8 +3,6 @@
 
 mod columns;
 mod copies;
-#[cfg(test)]
-mod tests;
 mod walks;
 
 pub use copies::copy_rows;

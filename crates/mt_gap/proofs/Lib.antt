@@ -15,4 +15,3 @@ pub mod Tells
 pub mod MendWay
 pub mod SlotsRight
 pub mod MendGaps
-pub mod TestTrees

@@ -5,8 +5,6 @@ mod children;
 mod levels;
 mod mends;
 mod searches;
-#[cfg(test)]
-mod tests;
 mod windows;
 
 pub use mends::{mend_gaps, mend_way};

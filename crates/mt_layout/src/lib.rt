@@ -17,6 +17,3 @@ pub use layout::Layout;
 pub use names::{Name, RowKind, is_dead_mark, kind_of, name_of, parent_word, row_of};
 pub use sizes::{MOST_SLOTS, MOST_WORDS, RUN_ROOM, gaps, items_of, least_items, slots, words_of};
 pub use spans::Span;
-
-#[cfg(test)]
-mod tests;

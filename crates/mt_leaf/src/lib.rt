@@ -5,8 +5,6 @@ mod cuts;
 mod edits;
 pub mod laws;
 mod places;
-#[cfg(test)]
-mod tests;
 
 pub use cuts::{Towards, cut, cut_towards};
 pub use edits::{edit, edit_into, exact_slot, push_joined, push_joined_all};

@@ -2,7 +2,6 @@ pub mod EraseAtPlace
 pub mod HoldingAtPlace
 pub mod HolesSought
 pub mod MapsKept
-pub mod PlainHoles
 pub mod QueriesAtPlaces
 pub mod Replaced
 pub mod RisingRanges

@@ -7,12 +7,8 @@ pub mod laws;
 mod list_map;
 mod pieces;
 mod places;
-#[cfg(test)]
-mod plain;
 mod ranges;
 mod searches;
-#[cfg(test)]
-mod tests;
 
 pub use list_map::ListMap;
 pub use ranges::Ranges;

@@ -6,8 +6,6 @@ pub mod laws;
 mod neighbours;
 mod paths;
 mod rows;
-#[cfg(test)]
-mod tests;
 mod walks;
 
 pub use handles::{Handle, before, behind, go_on, handle_at, load_span, walk_to};

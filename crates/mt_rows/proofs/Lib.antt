@@ -13,7 +13,6 @@ pub mod Lists
 pub mod Longest
 pub mod NineLevels
 pub mod Once
-pub mod PlainExamples
 pub mod PlainFates
 pub mod PlainMade
 pub mod PlainNames
@@ -23,7 +22,6 @@ pub mod PlainReached
 pub mod PlainRoot
 pub mod PlainSlot
 pub mod PlainWalk
-pub mod PlainWrites
 pub mod Ranges
 pub mod Reached
 pub mod RowLaws

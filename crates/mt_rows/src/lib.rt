@@ -11,6 +11,3 @@ mod words;
 pub use kinds::inner_kind;
 pub use plain::PlainRows;
 pub use rows::{Life, Place, Rows, Scan};
-
-#[cfg(test)]
-mod tests;

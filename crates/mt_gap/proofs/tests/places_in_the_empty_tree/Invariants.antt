@@ -1,4 +1,0 @@
-use Rattle.mt_gap.proofs.tests.places_in_the_empty_tree.Given as goal
-
-abbrev pub ghosts-places : goal.ghosts-places
-ghosts-places g a = record { name = a.blank.name; parts = a.blank.parts }

@@ -1,0 +1,5 @@
+pub mod CheckedTrees
+pub mod PlainExamples
+pub mod PlainHoles
+pub mod PlainWrites
+pub mod TestTrees

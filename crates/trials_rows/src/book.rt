@@ -1,0 +1,61 @@
+ghost use Rattle.std.specs.Prelude.{◌≡◌, ◌<◌, ◌≤◌, ◌+◌, ℕ, All, length};
+
+use mt_free::RowBook;
+use std::process::Abort;
+use std::test::Fail;
+
+/// The counts of free, live and held rows, and of all.
+fn counts(book: &RowBook) -> [u64; 4] {
+    [book.free(), book.live(), book.held(), book.rows()]
+}
+
+fn take_and_retire(book: &mut RowBook, stamp: u64) -> u32
+    requires free { 0 < length book.old.free }
+    requires in_order { All (λ h. h.stamp ≤ stamp) book.old.held }
+    ensures free { length book.old.free ≡ length book.new.free + 1 }
+    ensures in_order { (later : ℕ) → stamp ≤ later → All (λ h. h.stamp ≤ later) book.new.held }
+{
+    let row = book.take();
+    book.retire(row, stamp);
+    row
+}
+
+#[test]
+fn a_row_is_held_until_its_stamp_is_reclaimed(rt: HostRuntime) -> Result<(), Fail> {
+    let mut book = RowBook::new(rt.alloc(), 4)?;
+    let first = book.take();
+    let second = book.take();
+    assert_eq!(&rt; [first, second], [16, 17]);
+    book.retire(first, 3);
+    assert_eq!(&rt; book.reclaim(2), 0);
+    assert_eq!(&rt; book.reclaim(3), 1);
+    assert_eq!(&rt; counts(&book), [3, 1, 0, 4]);
+    Ok(())
+}
+
+#[test]
+fn a_book_of_no_rows_counts_none(rt: HostRuntime) -> Result<(), Fail> {
+    let mut book = RowBook::new(rt.alloc(), 0)?;
+    assert_eq!(&rt; book.reclaim(9), 0);
+    assert_eq!(&rt; counts(&book), [0, 0, 0, 0]);
+    Ok(())
+}
+
+#[test]
+fn every_row_comes_back_once(rt: HostRuntime) -> Result<(), Fail> {
+    let mut book = RowBook::new(rt.alloc(), 4)?;
+    take_and_retire(&mut book, 1);
+    take_and_retire(&mut book, 1);
+    take_and_retire(&mut book, 2);
+    take_and_retire(&mut book, 5);
+    assert_eq!(&rt; counts(&book), [0, 0, 4, 4]);
+    for (least, freed) in [(1, 2), (4, 1), (5, 1)] {
+        assert_eq!(&rt; book.reclaim(least), freed);
+    }
+    for row in [19, 18, 17, 16] {
+        assert!(&rt; book.free() > 0);
+        assert_eq!(&rt; book.take(), row);
+    }
+    assert_eq!(&rt; counts(&book), [0, 4, 0, 4]);
+    Ok(())
+}

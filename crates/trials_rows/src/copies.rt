@@ -1,0 +1,159 @@
+ghost use Rattle.std.specs.Prelude.{◌≡◌, ◌%◌, ◌/◌, ◌<◌, ◌≤◌, length};
+ghost use Rattle.mt_base.specs.Width.{most_rows};
+
+use mt_base::{FIRST_ROW, Kind, NoMemory, Steps, Width};
+use mt_check::check;
+use mt_dup::copy_rows;
+use mt_free::RowBook;
+use mt_rows::{PlainRows, Rows};
+use std::alloc::Global;
+use std::marker::Brand;
+use std::sync::ledger::{Blank, Ledger};
+use std::test::Fail;
+
+const TOP: u64 = u64::MAX;
+
+/// The hole behind the last entry of a tree whose entries end at the index 16.
+const LONGEST: u64 = 18_446_744_073_709_551_599;
+
+/// An allocation tree: the row 19 with the leaves 18 and 16; the row 17 is unused. Inner rows have a parent word, 9 pivots, 10
+/// slots and 10 gaps, and leaves a parent word, 15 pivots and 16 slots.
+#[rattlefmt::skip]
+const TWO_LEAVES: [u64; 128] = [
+    4865,
+    12, 13, 14, 15, 16, TOP, 0, 0, 0, 0, 0, 0, 0, 0, 0,
+    4096, 8192, 4096, 4096, 4096, 0, 0, 0, 0, 0, 0, 0, 0, 0, 0, 0,
+
+    0, 0, 0, 0, 0, 0, 0, 0, 0, 0, 0, 0, 0, 0, 0, 0,
+    0, 0, 0, 0, 0, 0, 0, 0, 0, 0, 0, 0, 0, 0, 0, 0,
+
+    4864,
+    0, 1, 2, 3, 4, 11, 0, 0, 0, 0, 0, 0, 0, 0, 0,
+    4096, 4100, 4096, 4096, 4096, 4096, 0, 0, 0, 0, 0, 0, 0, 0, 0, 0,
+
+    1,
+    11, TOP, 0, 0, 0, 0, 0, 0, 0,
+    4620, 4108, 0, 0, 0, 0, 0, 0, 0, 0,
+    0, LONGEST, 0, 0, 0, 0, 0, 0, 0, 0,
+    0, 0,
+];
+
+/// Its copy: the row 16 with the leaves 17 and 18.
+#[rattlefmt::skip]
+const TWO_LEAVES_COPIED: [u64; 128] = [
+    1,
+    11, TOP, 0, 0, 0, 0, 0, 0, 0,
+    4364, 4620, 0, 0, 0, 0, 0, 0, 0, 0,
+    0, LONGEST, 0, 0, 0, 0, 0, 0, 0, 0,
+    0, 0,
+
+    4096,
+    0, 1, 2, 3, 4, 11, 0, 0, 0, 0, 0, 0, 0, 0, 0,
+    4096, 4100, 4096, 4096, 4096, 4096, 0, 0, 0, 0, 0, 0, 0, 0, 0, 0,
+
+    4097,
+    12, 13, 14, 15, 16, TOP, 0, 0, 0, 0, 0, 0, 0, 0, 0,
+    4096, 8192, 4096, 4096, 4096, 0, 0, 0, 0, 0, 0, 0, 0, 0, 0, 0,
+
+    0, 0, 0, 0, 0, 0, 0, 0, 0, 0, 0, 0, 0, 0, 0, 0,
+    0, 0, 0, 0, 0, 0, 0, 0, 0, 0, 0, 0, 0, 0, 0, 0,
+];
+
+/// The range 10 to 19 with the entry 4108, which is no name here, in the leaf 17; the row 16 is unused.
+#[rattlefmt::skip]
+const LONE: [u64; 64] = [
+    0, 0, 0, 0, 0, 0, 0, 0, 0, 0, 0, 0, 0, 0, 0, 0,
+    0, 0, 0, 0, 0, 0, 0, 0, 0, 0, 0, 0, 0, 0, 0, 0,
+
+    1,
+    9, 19, TOP, 0, 0, 0, 0, 0, 0, 0, 0, 0, 0, 0, 0,
+    0, 4108, 0, 0, 0, 0, 0, 0, 0, 0, 0, 0, 0, 0, 0, 0,
+];
+
+#[rattlefmt::skip]
+const LONE_COPIED: [u64; 32] = [
+    1,
+    9, 19, TOP, 0, 0, 0, 0, 0, 0, 0, 0, 0, 0, 0, 0,
+    0, 4108, 0, 0, 0, 0, 0, 0, 0, 0, 0, 0, 0, 0, 0, 0,
+];
+
+/// The copy of the empty tree, which has no row.
+const NONE_COPIED: [u64; 0] = [];
+
+/// A copy: its rows, its root word, and how many rows of its book are free, live and held.
+#[derive(Drop)]
+struct Copied {
+    rows: PlainRows,
+    root: u64,
+    counts: [u64; 3],
+}
+
+/// Copies the lawful tree of these words into so many new rows, which it must fit into.
+fn make_copy<L: Ledger>(
+    blank: Blank,
+    alloc: Global,
+    words: &[u64],
+    root: u64,
+    kind: Kind,
+    rows: u64,
+) -> Result<Copied, Fail>
+    requires name { blank.name ≡ L.name }
+    requires parts { blank.parts ≡ L.parts }
+    requires some { 0 < blank.parts }
+    requires whole { length words.now % 32 ≡ 0 }
+    requires few { length words.now / 32 ≤ most_rows }
+    requires room { rows ≤ most_rows }
+{
+    let mut steps = Steps::<L>::new(blank);
+    let mut src = PlainRows::of_words(alloc, Width::Long, root, words)?;
+    let form = check(&mut src, root, kind)?;
+    if rows < form.rows {
+        return Err(Fail::new("too few rows"));
+    }
+    let mut dst = PlainRows::new(alloc, rows)?;
+    let mut book = RowBook::new(alloc, rows)?;
+    let copy = copy_rows(&mut src, &mut dst, &mut book, &mut steps);
+    dst.plant(copy);
+    Ok(Copied {
+        rows: dst,
+        root: copy,
+        counts: [book.free(), book.live(), book.held()],
+    })
+}
+
+/// The first words of rows, from the first row on.
+fn first_words(alloc: Global, rows: &mut PlainRows, count: u32) -> Result<Vec<u64>, NoMemory> {
+    let mut words = Vec::new(alloc);
+    for at in 0..count {
+        if u64::from(at / 32) < rows.size() {
+            words.push(rows.load(FIRST_ROW as u32 + at / 32, at % 32))?;
+        }
+    }
+    Ok(words)
+}
+
+/// Trees: the words, the root word, the kind, and how many rows the copy may have; and of the copy the root word, its words,
+/// how many rows of its book are free, live and held, and its height, rows and ranges.
+macro_rules! expect_copies {
+    ($rt:expr; $($words:ident, $root:literal, $kind:ident, $rows:literal => $copy:literal, $copied:ident, $counts:expr, $form:expr;)*) => {
+        $(
+            let mut copy = make_copy::<Brand>(Blank::new(1), $rt.alloc(), &$words, $root, Kind::$kind, $rows)?;
+            assert_eq!($rt; copy.root, $copy);
+            assert_eq!($rt; copy.counts, $counts);
+            let words = first_words($rt.alloc(), &mut copy.rows, 32 * $rows)?;
+            assert_eq!($rt; words.as_slice(), &$copied[..]);
+            let form = check(&mut copy.rows, $copy, Kind::$kind)?;
+            assert_eq!($rt; [u64::from(form.height), form.rows, form.ranges], $form);
+        )*
+    };
+}
+
+#[test]
+fn trees_are_copied(rt: HostRuntime) -> Result<(), Fail> {
+    expect_copies! { &rt;
+        TWO_LEAVES, 4892, Alloc, 4 => 4124, TWO_LEAVES_COPIED, [1, 3, 0], [2, 3, 11];
+        LONE, 4364, Range, 1 => 4108, LONE_COPIED, [0, 1, 0], [1, 1, 1];
+        LONE, 0, Range, 0 => 0, NONE_COPIED, [0, 0, 0], [0, 0, 0];
+    }
+    Ok(())
+}

@@ -1,0 +1,26 @@
+//! Trials of the rows of a tree: their words, the ways through them, and what searches, checks, copies and replaces them;
+//! and of the sorted list beside them.
+#![tactic(auto)]
+
+#[cfg(test)]
+mod book;
+#[cfg(test)]
+mod checks;
+#[cfg(test)]
+mod copies;
+#[cfg(test)]
+mod layout;
+#[cfg(test)]
+mod leaf;
+#[cfg(test)]
+mod lists;
+#[cfg(test)]
+mod paths;
+#[cfg(test)]
+mod plain;
+#[cfg(test)]
+mod room;
+#[cfg(test)]
+mod rows;
+#[cfg(test)]
+mod small_trees;

@@ -1,0 +1,83 @@
+ghost use Rattle.std.specs.Prelude.{◌<◌};
+
+use crate::lists::{TOP, alloc, erase, gap, insert, ralloc, rgap, store};
+use mt_base::Call;
+
+/// Calls that look random and are the same on every machine.
+#[derive(Drop)]
+pub struct Draws {
+    state: u64,
+}
+
+impl Draws {
+    pub fn new(seed: u64) -> Self {
+        Draws { state: seed }
+    }
+
+    fn below(&mut self, bound: u64) -> u64
+        requires { 0 < bound }
+        ensures { result < bound }
+    {
+        self.state = self
+            .state
+            .wrapping_mul(6_364_136_223_846_793_005)
+            .wrapping_add(1_442_695_040_888_963_407);
+        (self.state >> 33) % bound
+    }
+
+    /// One of the lowest indexes, or, one time in eight, of the greatest.
+    fn index(&mut self) -> u64 {
+        let index = self.below(150);
+        if self.below(8) == 0 {
+            TOP - index
+        } else {
+            index
+        }
+    }
+
+    /// Two indexes with less than `most` between them, one time in sixteen the greater one first.
+    fn ends(&mut self, most: u64) -> (u64, u64)
+        requires { 0 < most }
+    {
+        let first = self.index();
+        let last = first.saturating_add(self.below(most));
+        if self.below(16) == 0 {
+            (last, first)
+        } else {
+            (first, last)
+        }
+    }
+
+    /// A call that stores, one time in seven a hole, and two times in seven what is reserved.
+    fn store(&mut self) -> Call {
+        let (first, last) = self.ends(12);
+        let entry = self.below(7);
+        if self.below(2) == 0 {
+            store(first, last, entry)
+        } else {
+            insert(first, last, entry)
+        }
+    }
+
+    /// A call that seeks room.
+    fn area(&mut self) -> Call {
+        let (min, max) = self.ends(80);
+        let size = self.below(14);
+        let entry = self.below(7);
+        match self.below(4) {
+            0 => alloc(size, min, max, entry),
+            1 => ralloc(size, min, max, entry),
+            2 => gap(size, min, max),
+            _ => rgap(size, min, max),
+        }
+    }
+
+    pub fn call(&mut self) -> Call {
+        match self.below(200) {
+            0 => Call::Clear,
+            1..80 => self.store(),
+            80..120 => erase(self.index()),
+            _ => self.area(),
+        }
+    }
+}

@@ -1,0 +1,160 @@
+use crate::small_trees::{INNER, LEFT, RIGHT, TOP, draft_row};
+use mt_base::{Call, NoMemory, Range, Reply, Width};
+use mt_rows::plain_trees::{height_in, map_in, reached_in};
+use mt_rows::{Place, PlainRows, Rows, Scan};
+use std::alloc::Global;
+use std::process::Abort;
+use std::test::Fail;
+
+#[rattlefmt::skip]
+const LONE: [u64; 32] = [
+    1,
+    9, 19, TOP, 0, 0, 0, 0, 0, 0, 0, 0, 0, 0, 0, 0,
+    0, 5, 0, 0, 0, 0, 0, 0, 0, 0, 0, 0, 0, 0, 0, 0,
+];
+
+#[rattlefmt::skip]
+const NEXT: [u64; 32] = [
+    1,
+    9, 19, TOP, 0, 0, 0, 0, 0, 0, 0, 0, 0, 0, 0, 0,
+    8, 7, 0, 0, 0, 0, 0, 0, 0, 0, 0, 0, 0, 0, 0, 0,
+];
+
+/// The words of a table whose first rows are these.
+fn table(alloc: Global, rows: &[[u64; 32]]) -> Result<Vec<u64>, NoMemory> {
+    let mut words = vec![in alloc; 0; 512]?;
+    for row in rows {
+        words.extend_from_slice(row)?;
+    }
+    Ok(words)
+}
+
+fn range(first: u64, last: u64, entry: u64) -> Range {
+    Range { first, last, entry }
+}
+
+/// What the words of a table stand for from this root word: the ranges, the rows that are reached, and the height.
+fn expect_tree(
+    rt: &impl Abort,
+    alloc: Global,
+    words: &[u64],
+    root: u64,
+    (ranges, rows, height): (&[Range], &[u32], u32),
+) -> Result<(), NoMemory> {
+    assert_eq!(rt; map_in(alloc, words, root)?.as_slice(), ranges);
+    assert_eq!(rt; reached_in(alloc, words, root)?.as_slice(), rows);
+    assert_eq!(rt; height_in(words, root), height);
+    Ok(())
+}
+
+#[test]
+fn trees_of_words(rt: HostRuntime) -> Result<(), Fail> {
+    let eleven = [
+        range(0, 0, 4096),
+        range(1, 1, 4096),
+        range(2, 2, 4096),
+        range(3, 3, 4096),
+        range(4, 4, 4096),
+        range(5, 11, 4096),
+        range(12, 12, 4096),
+        range(13, 13, 4096),
+        range(14, 14, 4096),
+        range(15, 15, 4096),
+        range(16, 16, 4096),
+    ];
+    let words = table(rt.alloc(), &[INNER, LEFT, RIGHT])?;
+    expect_tree(&rt, rt.alloc(), &words, 4124, (&eleven, &[16, 17, 18], 2))?;
+    let words = table(rt.alloc(), &[LONE])?;
+    expect_tree(
+        &rt,
+        rt.alloc(),
+        &words,
+        4108,
+        (&[range(10, 19, 5)], &[16], 1),
+    )?;
+    expect_tree(&rt, rt.alloc(), &words, 0, (&[], &[], 0))?;
+    Ok(())
+}
+
+#[test]
+fn rows_in_memory(rt: HostRuntime) -> Result<(), Fail> {
+    let mut rows = PlainRows::new(rt.alloc(), 3)?;
+    assert_eq!(rt; rows.size(), 3);
+    assert_eq!(rt; rows.width(), Width::Long);
+    assert_eq!(rt; rows.root(), 0);
+    let none = Scan {
+        least: u64::MAX,
+        by: None,
+    };
+    assert_eq!(rt; rows.scan(), none);
+    assert_eq!(rt; rows.begin(), 1);
+    rows.draft(17, 5, 4096);
+    assert_eq!(rt; rows.load(17, 5), 4096);
+    assert_eq!(rt; rows.load(18, 5), 0);
+    Ok(())
+}
+
+#[test]
+fn a_call_that_changes_nothing(rt: HostRuntime) -> Result<(), Fail> {
+    let mut rows = PlainRows::new(rt.alloc(), 3)?;
+    rows.plant(0);
+    assert_eq!(rt; rows.begin(), 1);
+    rows.finish(&Call::Erase { index: 5 }, &Reply::None);
+    assert_eq!(rt; rows.begin(), 2);
+    assert_eq!(rt; rows.root(), 0);
+    Ok(())
+}
+
+#[test]
+fn a_planted_tree(rt: HostRuntime) -> Result<(), Fail> {
+    let mut rows = PlainRows::new(rt.alloc(), 3)?;
+    draft_row(&mut rows, 16, &INNER);
+    draft_row(&mut rows, 17, &LEFT);
+    draft_row(&mut rows, 18, &RIGHT);
+    rows.plant(4124);
+    assert_eq!(rt; rows.root(), 4124);
+    assert_eq!(rt; rows.begin(), 1);
+    rows.bury(17);
+    assert_eq!(rt; rows.load(17, 0), 4352);
+    Ok(())
+}
+
+#[test]
+fn a_leaf_is_written_and_replaced(rt: HostRuntime) -> Result<(), Fail> {
+    let mut rows = PlainRows::new(rt.alloc(), 2)?;
+    let first = Call::Store {
+        first: 10,
+        last: 19,
+        entry: 5,
+    };
+    assert_eq!(rt; rows.begin(), 1);
+    draft_row(&mut rows, 16, &LONE);
+    rows.publish(Place::Root, 4108, &first, &Reply::Ok);
+    rows.finish(&first, &Reply::Ok);
+
+    let exact = Call::Store {
+        first: 10,
+        last: 19,
+        entry: 7,
+    };
+    assert_eq!(rt; rows.begin(), 2);
+    rows.publish(Place::Slot { row: 16, col: 17 }, 7, &exact, &Reply::Ok);
+    rows.finish(&exact, &Reply::Ok);
+
+    let more = Call::Store {
+        first: 0,
+        last: 9,
+        entry: 8,
+    };
+    assert_eq!(rt; rows.begin(), 3);
+    draft_row(&mut rows, 17, &NEXT);
+    rows.bury(16);
+    rows.publish(Place::Root, 4364, &more, &Reply::Ok);
+    rows.finish(&more, &Reply::Ok);
+    assert_eq!(rt; rows.root(), 4364);
+
+    // The first leaf is dead by call 3.
+    rows.scan();
+    rows.draft(16, 1, 9);
+    Ok(())
+}
