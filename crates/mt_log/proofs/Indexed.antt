@@ -1,7 +1,8 @@
 -- What a table from names to kinds tells of the list of trees that it stands for.
-use Rattle.std.proofs.Common.{◌≡◌, ℕ, ◌<◌, true, List, [], ◌∷◌, ◌++◌, Some, None, arith, length, map, position, slice_get, refl, sym, ap, ◌∙◌}
+use Rattle.std.proofs.Common.{◌≡◌, ℕ, ◌<◌, true, List, [], ◌∷◌, ◌++◌, Some, None, Ok, arith, length, map, position, slice_get, refl, sym, ap, ◌∙◌}
 use Rattle.std.specs.Option.{option_map}
 use Rattle.std.proofs.lemmas.Bool.{lt-ltb}
+use Rattle.std.proofs.lemmas.Slice.Eq.{bytes_eq-Decides}
 use Rattle.std.specs.Str.{bytes_eq}
 use Rattle.std.specs.Map.{keys_of}
 use Rattle.std.proofs.lemmas.List.{length-map, map-append}
@@ -10,8 +11,9 @@ use Rattle.indexmap.specs.IndexMap.{insert_entry}
 use Rattle.indexmap.proofs.MapLemmas.{Missing-position, insert_entry-absent}
 use Rattle.mt_base.specs.declared.kinds.Kind.{Kind}
 use Rattle.mt_log.specs.declared.trees.KnownTree.{KnownTree}
-use Rattle.mt_log.specs.Indexed.{known, is_named}
-use Rattle.mt_log.specs.Reading.{place_of}
+use Rattle.mt_log.specs.Indexed.{known}
+use Rattle.mt_log.specs.Name.{is_name}
+use Rattle.mt_log.specs.Reading.{place_of, tree_of}
 
 pub as_many : (entries : List (List ℕ × Kind)) → length (map known entries) ≡ length entries
 as_many entries = length-map entries known
@@ -30,7 +32,19 @@ one_more entries tree new =
     ap (map known) (insert_entry-absent bytes_eq tree.name tree.kind entries (Missing-position (bytes_eq tree.name) entries none).absent)
     ∙ map-append known entries ((tree.name, tree.kind) ∷ [])
 
+-- the first tree of this name stands first, and a tree that stands there is of number 0
+first_place : (trees : List KnownTree) (tree : KnownTree) (name : List ℕ) → bytes_eq name tree.name ≡ true → place_of (tree ∷ trees) name ≡ Some 0
+first_place trees tree name h = rw (h, lt-ltb 0 (length (map (λ (t : KnownTree). t.name) (tree ∷ trees))) (omega arith)) refl
+
+numbered_first : (trees : List KnownTree) (tree : KnownTree) (name : List ℕ) → is_name name ≡ true → place_of trees name ≡ Some 0 → slice_get trees 0 ≡ Some tree → tree_of trees name ≡ Ok (record { number = 0; kind = tree.kind })
+unfolding tree_of
+numbered_first trees tree name named place found = rw (named, place, found) refl
+
 -- where the first tree is of this name, it is the one
-pub first_place : (trees : List KnownTree) (name : List ℕ) → is_named name (slice_get trees 0) ≡ true → (place_of trees name ≡ Some 0) × (0 < length trees)
-first_place [] name h = absurd (cc)
-first_place (tree ∷ trees) name h = (rw (h, lt-ltb 0 (length (map (λ (t : KnownTree). t.name) (tree ∷ trees))) (omega arith)) refl, omega arith)
+pub first_of_name : (entries : List (List ℕ × Kind)) (first name : List ℕ) (kind : Kind) → slice_get entries 0 ≡ Some (first, kind) → bytes_eq first name ≡ true → is_name first ≡ true → (tree_of (map known entries) name ≡ Ok (record { number = 0; kind = kind })) × (0 < length (map known entries))
+first_of_name [] first name kind found is named = absurd (cc)
+first_of_name (e ∷ entries) first name kind found is named =
+    let this : first ≡ name = (bytes_eq-Decides first name).0 is in
+    let same : known e ≡ known (first, kind) = let one : e ≡ (first, kind) = (cc) in ap known one in
+    let place = first_place (map known entries) (known e) name ((bytes_eq-Decides name (known e).name).1 (sym (ap (λ (t : KnownTree). t.name) same ∙ this))) in
+    (numbered_first (map known (e ∷ entries)) (known (first, kind)) name (ap is_name (sym this) ∙ named) place (ap (λ t. Some t) same), omega arith)

@@ -1,4 +1,4 @@
-ghost use Rattle.std.specs.Prelude.{◌≡◌, ◌<◌, ◌^◌, IfOk, None, length, map, take};
+ghost use Rattle.std.specs.Prelude.{◌≡◌, ◌<◌, ◌^◌, [], IfOk, None, length, map, take};
 ghost use Rattle.mt_log.specs.Reading.{fields_of, place_of, tree_of, new_name_of, kind_of};
 
 use crate::cuts::cut;
@@ -11,21 +11,23 @@ use mt_base::Kind;
 /// More fields than a line of any word has.
 const MOST_FIELDS: usize = 8;
 
-/// The fields of a line, as far as they can matter.
-pub fn fields_of(line: &[u8]) -> ArrayVec<&[u8], MOST_FIELDS>
-    ensures { map (λ f. f.now) result.items ≡ take MOST_FIELDS (fields_of line.now) }
+/// The fields of a line, as far as they can matter, as a list in place.
+pub type Fields<'a> = ArrayVec<&'a [u8], MOST_FIELDS>;
+
+/// Gathers the fields of a line where none are yet. There are many lines to be read, so no list of fields is moved.
+pub fn gather<'a>(line: &'a [u8], fields: &mut Fields<'a>)
+    requires { fields.old.items ≡ [] }
+    ensures { map (λ f. f.now) fields.new.items ≡ take MOST_FIELDS (fields_of line.now) }
 {
-    let mut fields = ArrayVec::new();
     let mut rest = line;
     while !fields.is_full() {
         let Some((field, others)) = cut(rest, b' ') else {
             fields.push(rest);
-            return fields;
+            return;
         };
         fields.push(field);
         rest = others;
     }
-    fields
 }
 
 /// The tree of this name.
@@ -35,6 +37,9 @@ pub fn tree_of(trees: &Trees, name: &[u8]) -> Result<NumberedTree, Why>
     ensures tree { result ≡ tree_of trees.now name.now }
     ensures declared { IfOk result (λ tree. tree.number < length trees.now) }
 {
+    if let Some(tree) = trees.first_of_name(name) {
+        return Ok(tree);
+    }
     let name = Word::new(name).ok_or(Why::Name)?;
     trees.named(name).ok_or(Why::NoTree)
 }

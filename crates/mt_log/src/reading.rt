@@ -7,7 +7,7 @@ ghost use Rattle.mt_log.specs.Trees.{IsReadable};
 
 use crate::cuts::cut;
 use crate::faults::{LogError, Why};
-use crate::fields::fields_of;
+use crate::fields::{Fields, gather};
 use crate::items::item_of;
 use crate::lines::{Item, Lines, Log};
 use crate::reader::Reader;
@@ -30,7 +30,9 @@ fn said_in(reader: &Reader, line: &[u8]) -> Result<Item, Why>
     ensures item { result ≡ item_of reader.now (fields_of line.now) }
     ensures follows { IfOk result (MayFollow reader.now) }
 {
-    item_of(reader, &fields_of(line))
+    let mut fields = Fields::new();
+    gather(line, &mut fields);
+    item_of(reader, &fields)
 }
 
 fn read_line(reader: &mut Reader, line: &[u8]) -> Result<(), LogError>

@@ -50,9 +50,8 @@ impl Model for Trees {
 }
 
 impl Trees {
-    ghost use Rattle.std.specs.Prelude.{◌≡◌, ◌++◌, ◌∷◌, ◌<◌, ◌^◌, [], None, IfSome, OnOk, length, slice_get, option_and_then};
-    ghost use Rattle.mt_log.specs.Indexed.{is_named};
-    ghost use Rattle.mt_log.specs.Reading.{place_of, tree_at};
+    ghost use Rattle.std.specs.Prelude.{◌≡◌, ◌++◌, ◌∷◌, ◌<◌, ◌^◌, [], None, Ok, IfSome, OnOk, length, slice_get, option_and_then};
+    ghost use Rattle.mt_log.specs.Reading.{place_of, tree_at, tree_of};
 
     /// No trees.
     pub fn new(alloc: Global) -> Self
@@ -71,25 +70,26 @@ impl Trees {
         self.kinds.len()
     }
 
-    /// Whether the first tree is of this name.
-    fn is_first(&self, name: Word) -> bool
-        ensures { result ≡ is_named name (slice_get self.now 0) }
+    /// The first tree, where this is its name. Most logs have one tree, which is found so without the table.
+    #[tactic(auto, using(crate::proofs::Indexed::known_at, crate::proofs::Indexed::first_of_name))]
+    pub fn first_of_name(&self, name: &[u8]) -> Option<NumberedTree>
+        ensures tree { IfSome result (λ tree. tree_of self.now name.now ≡ Ok tree) }
+        ensures declared { IfSome result (λ tree. tree.number < length self.now) }
     {
-        match self.get(0) {
-            Some(tree) => name == tree.name,
-            None => false,
+        let (first, kind) = self.kinds.get_index(0)?;
+        if first.as_bytes() == name {
+            let kind = *kind;
+            return Some(NumberedTree { number: 0, kind });
         }
+        None
     }
 
-    /// The number of the tree of this name. Most logs have one tree, which is found without the table.
-    #[tactic(auto, using(crate::proofs::Indexed::names_of_known, crate::proofs::Indexed::as_many, crate::proofs::Indexed::first_place))]
+    /// The number of the tree of this name.
+    #[tactic(auto, using(crate::proofs::Indexed::names_of_known, crate::proofs::Indexed::as_many))]
     pub fn place_of(&self, name: Word) -> Option<usize>
         ensures place { result ≡ place_of self.now name }
         ensures declared { IfSome result (λ place. place < length self.now) }
     {
-        if self.is_first(name) {
-            return Some(0);
-        }
         self.kinds.get_index_of(&name)
     }
 

@@ -2,7 +2,7 @@ use Rattle.std.proofs.Common.{sym, ◌∙◌}
 use Rattle.std.proofs.lemmas.Bool.{eqb-true}
 use Rattle.std.proofs.lemmas.List.{length-map}
 use Rattle.mt_log.proofs.FirstFields.{first_of}
-use Rattle.mt_log.proofs.fields.fields_of.Goals as goal
+use Rattle.mt_log.proofs.fields.gather.Goals as goal
 
 pub returns : goal.returns
 returns c =

@@ -1,6 +1,6 @@
 use Rattle.std.proofs.Common.{◌≡◌, ◌++◌, map, length}
 use Rattle.mt_log.specs.Reading.{fields_of}
-use Rattle.mt_log.proofs.fields.fields_of.Given as goal
+use Rattle.mt_log.proofs.fields.gather.Given as goal
 
 abbrev pub invariant-loop-rest : goal.invariant-loop-rest
 invariant-loop-rest l = map (λ f. f.now) l.fields.items ++ fields_of l.rest ≡ fields_of l.line
