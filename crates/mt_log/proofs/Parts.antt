@@ -1,9 +1,11 @@
-use Rattle.std.proofs.Common.{◌≡◌, ℕ, ◌+◌, ◌-◌, ◌<◌, Bool, List, [], ◌∷◌, Some, None, length, take, drop, arith, inl, inr}
+use Rattle.std.proofs.Common.{◌≡◌, ℕ, ◌+◌, ◌-◌, ◌<◌, Bool, true, List, [], ◌∷◌, Option, Some, None, length, take, drop, get_or, arith, refl, sym, ap, ◌∙◌, inl, inr}
 use Rattle.std.specs.List.{slice_split, position, position_or_len}
 use Rattle.std.proofs.lemmas.Bool.{cases_lt, lt-ltb, le-ltb}
 use Rattle.std.proofs.lemmas.List.Splits.{slice_split_first, slice_split_none}
 use Rattle.std.proofs.lemmas.List.Sums.{fails_before_first}
 use Rattle.std.proofs.lemmas.List.{take_rest}
+use Rattle.std.proofs.lemmas.List.Quantifiers.{position-Some}
+use Rattle.memchr.specs.Find.{IsFirstByte}
 
 -- the place at which the first part ends
 pub place_is : {X : Type 0} (p : X → Bool) (xs : List X) (i : ℕ) → position p xs ≡ Some i → (position_or_len p xs < length xs) × (position_or_len p xs ≡ i)
@@ -26,3 +28,32 @@ cut_never p xs h =
       | inl lt ↦ let some = rw (lt-ltb (position_or_len p xs) (length xs) lt) at h in (cc)
       | inr ge ↦ slice_split_none p xs (λ k d below. fails_before_first p xs k d (omega arith))
     ]
+
+-- the first byte that passes, by the words of a search, stands at the place
+module _ (p : ℕ → Bool) (bytes : List ℕ) where
+  abbrev here : ℕ
+  here = position_or_len p bytes
+
+  found : here < length bytes → position p bytes ≡ Some here
+  found lt = rw (lt-ltb here (length bytes) lt) refl
+
+  passes : here < length bytes → p (get_or bytes here 0) ≡ true
+  passes lt = (position-Some p bytes here 0 (found lt)).1
+
+  same_place : (k : ℕ) → k < length bytes → (here < k → p (get_or bytes here 0) ≡ true → ⊥) → p (get_or bytes k 0) ≡ true → Some k ≡ position p bytes
+  same_place k within before hit =
+      elim (cases_lt here k) [
+        | inl lt ↦ absurd (before lt (passes (omega (arith, lt, within))))
+        | inr ge ↦ elim (cases_lt k here) [
+          | inl less ↦ let misses = fails_before_first p bytes k 0 less in absurd (cc)
+          | inr more ↦ let same : k ≡ here = omega (arith, ge, more) in ap (λ n. Some n) same ∙ sym (found (omega (arith, more, within)))
+        ]
+      ]
+
+  pub first_place : (r : Option ℕ) → IsFirstByte p bytes r → r ≡ position p bytes
+  first_place None none =
+      elim (cases_lt here (length bytes)) [
+        | inl lt ↦ absurd (none here (omega arith) lt (passes lt))
+        | inr ge ↦ rw (le-ltb here (length bytes) ge) refl
+      ]
+  first_place (Some k) first = same_place k first.0.high (λ lt hit. first.0.before here (omega arith) lt hit) first.1

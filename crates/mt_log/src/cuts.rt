@@ -1,6 +1,8 @@
 ghost use Rattle.std.specs.Prelude.{◌≡◌, ◌∷◌, ◌==◌, ◌<◌, ◌+◌, [], position, length, IfSome, MatchOption};
 ghost use Rattle.std.specs.List.{slice_split};
 
+use memchr::memchr;
+
 fn place(bytes: &[u8], at: u8) -> Option<usize>
     ensures { result ≡ position (λ b. b == at) bytes.now }
 {
@@ -17,4 +19,24 @@ pub fn cut(bytes: &[u8], at: u8) -> Option<(&[u8], &[u8])>
 {
     let place = place(bytes, at)?;
     Some((&bytes[..place], &bytes[place + 1..]))
+}
+
+/// Where the first LF stands. It may be far.
+#[tactic(auto, using(crate::proofs::Parts::first_place))]
+fn line_end(bytes: &[u8]) -> Option<usize>
+    ensures { result ≡ position (λ b. b == 10) bytes.now }
+{
+    memchr(b'\n', bytes)
+}
+
+/// What stands before the first LF and what stands after it, if there is one.
+#[tactic(auto, using(crate::proofs::Parts::cut_once, crate::proofs::Parts::cut_never))]
+pub fn cut_line(bytes: &[u8]) -> Option<(&[u8], &[u8])>
+    ensures parts { MatchOption result
+        (slice_split (λ b. b == 10) bytes.now ≡ bytes.now ∷ [])
+        (λ p. slice_split (λ b. b == 10) bytes.now ≡ p.0.now ∷ slice_split (λ b. b == 10) p.1.now) }
+    ensures shorter { IfSome result (λ p. length p.1.now < length bytes.now) }
+{
+    let end = line_end(bytes)?;
+    Some((&bytes[..end], &bytes[end + 1..]))
 }

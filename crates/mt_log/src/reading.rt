@@ -5,7 +5,7 @@ ghost use Rattle.mt_log.specs.Reader.{IsSound, MayFollow};
 ghost use Rattle.mt_log.specs.Reading.{fields_of, item_of, nothing_read, is_skipped, after_line, after_pieces, log_of};
 ghost use Rattle.mt_log.specs.Trees.{IsReadable};
 
-use crate::cuts::cut;
+use crate::cuts::cut_line;
 use crate::faults::{LogError, Why};
 use crate::fields::{Fields, gather};
 use crate::items::item_of;
@@ -66,7 +66,7 @@ fn read_lines(alloc: Global, text: &[u8]) -> Result<Reader, LogError>
 {
     let mut reader = Reader::new(alloc, text.len() / SHORT_STEP)?;
     let mut rest = text;
-    while let Some((line, others)) = cut(rest, b'\n') {
+    while let Some((line, others)) = cut_line(rest) {
         read_line(&mut reader, line)?;
         rest = others;
     }
@@ -90,7 +90,7 @@ pub fn read_log(alloc: Global, bytes: &[u8]) -> Result<Log, LogError>
     ensures readable { IfOk result (λ log. IsReadable log.lines) }
     ensures count { IfOk result (λ log. length log.lines ≤ length bytes.now) }
 {
-    let Some((header, text)) = cut(bytes, b'\n') else {
+    let Some((header, text)) = cut_line(bytes) else {
         let why = if bytes.is_empty() {
             Why::Header
         } else {
