@@ -1,5 +1,6 @@
 pub mod Behind
 pub mod Copies
+pub mod Cursors
 pub mod Shapes
 pub mod Trees
 pub mod Works

@@ -3,6 +3,7 @@
 
 mod behind;
 mod copies;
+mod cursors;
 mod locked;
 mod make;
 mod reads;
@@ -16,6 +17,7 @@ mod works;
 mod writes;
 
 pub use behind::Desk;
+pub use cursors::Cursor;
 pub use locked::{Held, Locked, Write};
 pub use mt_check::Form;
 pub use mt_read::Moved;

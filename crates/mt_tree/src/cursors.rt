@@ -1,0 +1,110 @@
+//! Walks over the ranges of a tree, without its lock.
+
+ghost use Rattle.std.specs.Prelude.{◌≡◌, None};
+ghost use Rattle.std.proofs.Props.{props};
+ghost use Rattle.mt_read.specs.Cursors.{place_from, IsCursorOf};
+ghost use Rattle.mt_rule.specs.Tokens.{part_of};
+ghost use Rattle.mt_tree.specs.Cursors.{fills_prop, apart_prop, ends_prop};
+ghost use Rattle.mt_tree.specs.Trees.{IsPassOf};
+
+use crate::shapes::Read;
+use crate::trees::Tree;
+use mt_base::{Range, Steps};
+use mt_rule::Pass;
+use std::sync::ledger::Ledger;
+
+/// A walk of a pass over the ranges of a tree, from an index up to a bound, in one section. It takes no memory.
+///
+/// One that is dropped or forgotten leaves its section open, which holds rows of the tree: until the next read of the pass,
+/// which opens a section of its own and closes it.
+#[derive(Drop)]
+pub struct Cursor<'a> {
+    pub(crate) tree: &'a Tree,
+    pub(crate) pass: &'a mut Pass,
+    pub(crate) walk: mt_read::Cursor,
+    ghost of: { IsPassOf tree.now pass.now },
+    ghost walks: { IsCursorOf (part_of pass.now) walk } by { Prim.hlevel (props, fills_prop, apart_prop, ends_prop) },
+}
+
+impl Tree {
+    /// A walk over the ranges from an index up to a bound. It opens no section yet.
+    pub fn cursor<'a>(&'a self, pass: &'a mut Pass, from: u64, max: u64) -> Cursor<'a>
+        requires { IsPassOf self.now pass.old }
+        ensures same_reference { result.pass.ghost_name ≡ pass.entry.ghost_name }
+        ensures tree { result.tree.now ≡ self.now }
+        ensures pass { result.pass.now ≡ pass.old }
+        ensures at { result.walk.at ≡ place_from from max }
+        ensures max { result.walk.max ≡ max }
+        ensures leaf { result.walk.leaf ≡ None }
+        ensures epoch { result.walk.epoch ≡ None }
+    {
+        Cursor {
+            tree: self,
+            pass,
+            walk: mt_read::Cursor::new(from, max),
+        }
+    }
+}
+
+impl<'a> Cursor<'a> {
+    ghost use Rattle.std.specs.Prelude.{◌≡◌, ◌⊎◌, ℕ, ◌+◌, ◌<◌, ◌≤◌, Some, None, IfSome};
+    ghost use Rattle.mt_base.specs.Passes as known;
+    ghost use Rattle.mt_read.specs.Cursors.{HasStepped, IsOver, IsOverPlace, epoch_or, lo_of, place_behind, query_at};
+    ghost use Rattle.mt_rule.specs.Tokens.{pass_in};
+    ghost use Rattle.mt_tree.specs.Trees.{opened, IsPassOf};
+
+    /// Where the next step looks from. There is no place once the walk has ended.
+    pub fn at(&self) -> Option<u64>
+        ensures { result ≡ self.now.walk.at }
+    {
+        self.walk.at()
+    }
+
+    /// The next range of the walk, after some number of calls from `lo` to `hi`. There is none where the walk has ended, or ends
+    /// by that. The section is open then: a step opens it where it was not.
+    pub fn step<L: Ledger>(&mut self, steps: &mut Steps<L>) -> Read<Option<Range>>
+        ensures same_reference { self.new.pass.ghost_name ≡ self.old.pass.ghost_name }
+        ensures tree { self.new.tree ≡ self.old.tree }
+        ensures of { IsPassOf self.old.tree.now self.new.pass.now }
+        ensures read { (k : ℕ) × known.Read (opened self.old.tree.now) (pass_in self.old.pass.now) result.lo result.hi k (query_at self.old.walk.at self.old.walk.max) result.value (pass_in self.new.pass.now) }
+        ensures section { HasStepped result.lo result.hi self.old.walk.epoch (pass_in self.old.pass.now) (pass_in self.new.pass.now) }
+        ensures at { self.new.walk.at ≡ place_behind result.value self.old.walk.max }
+        ensures max { self.new.walk.max ≡ self.old.walk.max }
+        ensures epoch { self.new.walk.epoch ≡ Some (epoch_or self.old.walk.epoch result.lo) }
+        ensures leaf { IfSome result.value (λ range. IsOver self.new.walk.leaf range.last) }
+        ensures lo { (self.new.walk.leaf ≡ self.old.walk.leaf) ⊎ IfSome self.new.walk.leaf (λ kept. kept.lo ≡ result.lo) }
+        ensures short { IsOverPlace self.old.walk.leaf self.old.walk.at → (steps.new ≤ steps.old + 40) ⊎ (lo_of self.old.walk.leaf < result.hi) }
+        ensures steps { steps.new ≤ steps.old + 220 }
+    {
+        let answer = self.walk.step(&self.tree.table, self.pass, steps);
+        Read {
+            lo: answer.lo,
+            hi: answer.hi,
+            value: answer.value,
+        }
+    }
+
+    /// Closes the section, so that it holds no row, and keeps the place alone: the next step opens a section and walks again.
+    pub fn pause<L: Ledger>(&mut self, steps: &mut Steps<L>)
+        ensures same_reference { self.new.pass.ghost_name ≡ self.old.pass.ghost_name }
+        ensures tree { self.new.tree ≡ self.old.tree }
+        ensures of { IsPassOf self.old.tree.now self.new.pass.now }
+        ensures closed { pass_in self.new.pass.now ≡ record (pass_in self.old.pass.now) { standing = None } }
+        ensures same { self.new.walk ≡ record self.old.walk { leaf = None; epoch = None } }
+        ensures steps { steps.new ≡ steps.old + 1 }
+    {
+        self.walk.pause(&self.tree.table, self.pass, steps);
+    }
+
+    /// Ends the walk, closes the section, and gives the pass back.
+    pub fn close<L: Ledger>(self, steps: &mut Steps<L>) -> &'a mut Pass
+        ensures same_reference { result.ghost_name ≡ self.entry.pass.ghost_name }
+        ensures of { IsPassOf self.entry.tree.now result.now }
+        ensures closed { pass_in result.now ≡ record (pass_in self.entry.pass.now) { standing = None } }
+        ensures steps { steps.new ≡ steps.old + 1 }
+    {
+        let Cursor { tree, pass, walk } = self;
+        walk.close(&tree.table, pass, steps);
+        pass
+    }
+}
