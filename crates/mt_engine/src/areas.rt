@@ -13,7 +13,7 @@ ghost use Rattle.mt_engine.specs.Plans.{IsPlan, IsSearched};
 use crate::plans::Plan;
 use mt_base::{Kind, Reply, Steps, is_bad_area, is_no_area};
 use mt_gap::{highest, lowest};
-use mt_path::{Path, walk_to};
+use mt_path::{Path, walk_by_halves};
 use mt_rows::Rows;
 use std::marker::Brand;
 use std::sync::ledger::{Blank, Ledger};
@@ -84,7 +84,7 @@ pub fn plan_allocation<R: Rows>(
     let Some(start) = start_of(rows, sought, size, min, max) else {
         return Plan::Nothing { reply: Reply::Busy };
     };
-    let here = walk_to(rows, start, path);
+    let here = walk_by_halves(rows, start, path);
     Plan::Store {
         first: start,
         last: start + (size - 1),

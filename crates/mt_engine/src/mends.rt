@@ -4,7 +4,7 @@ ghost use Rattle.mt_engine.specs.Mends.{MayMendAt, IsMendedAt};
 
 use mt_base::Kind;
 use mt_gap::mend_way;
-use mt_path::{Path, walk_to};
+use mt_path::{Path, walk_by_halves};
 use mt_rows::Rows;
 
 /// Mends the gap words on the way to an index, where all others are right. A tree of ranges has none, and no word is loaded.
@@ -16,7 +16,7 @@ pub fn mend_at<R: Rows>(rows: &mut R, kind: Kind, index: u64)
         Kind::Range => {}
         Kind::Alloc => {
             let mut path = Path::new();
-            walk_to(rows, index, &mut path);
+            walk_by_halves(rows, index, &mut path);
             mend_way(rows, &path);
         }
     }

@@ -9,6 +9,8 @@ pub mod Descents
 pub mod Onward
 pub mod LeafSlots
 pub mod LeafSteps
+pub mod Middles
+mod HalfWalks
 pub mod HandleSteps
 pub mod Empty
 pub mod Bounds

@@ -1,12 +1,13 @@
 //! The rows on the way to an index: what names them, and where the index stands in one.
 
-ghost use Rattle.std.specs.Prelude.{◌≡◌, ◌+◌, ◌<◌, ◌≤◌, ◌↔◌, ℕ, Some, IsNone, IsSome, IfSome};
+ghost use Rattle.std.specs.Prelude.{◌≡◌, ◌+◌, ◌-◌, ◌<◌, ◌≤◌, ◌↔◌, ℕ, Some, IsNone, IsSome, IfSome};
 ghost use Rattle.mt_base.specs.declared.kinds.Kind.{Kind};
 ghost use Rattle.mt_base.specs.Width.{greatest};
 ghost use Rattle.mt_layout.specs.Rows.{named_kind};
 ghost use Rattle.mt_layout.specs.Sizes.{slots_of};
 ghost use Rattle.mt_rows.specs.Publish.{IsTreeOf};
 ghost use Rattle.mt_rows.specs.Sheet.{IsPlace, ReadsUpTo, loaded};
+ghost use Rattle.mt_path.specs.Middles.{IsLawfulRow, IsPassed};
 ghost use Rattle.mt_path.specs.Walks.{row_for, found_span, IsFound, IsOnWay};
 
 use crate::paths::PathStep;
@@ -87,16 +88,20 @@ fn found_in(row: Row, slot: u32, first: u64, last: u64) -> Found
     }
 }
 
-/// The slot of a row that holds an index: the first whose pivot is not below it. No pivot behind that is loaded.
-pub(crate) fn find_slot<R: Rows>(rows: &mut R, row: Row, index: u64) -> Found
+/// The slot of a row that holds an index: the first whose pivot is not below it, sought from a slot on that begins at `first`.
+/// No pivot before that slot is loaded, and none behind the one that is found.
+fn find_from<R: Rows>(rows: &mut R, row: Row, index: u64, from: u32, first: u64) -> Found
     requires row { IsPlace (R.sheet rows.old).tree row.number 0 }
     requires index { index ≤ row.max }
+    requires from { from < slots_of (R.sheet rows.old).tree.table.width row.kind }
+    requires passed { IsPassed (R.sheet rows.old).tree.table row index from first }
     ensures found { IsFound (R.sheet rows.old).tree.table row index result }
-    ensures reads { ReadsUpTo (result.step.slot + 1) (R.sheet rows.old) (R.sheet rows.new) }
+    ensures reads { ReadsUpTo (result.step.slot + 1 - from) (R.sheet rows.old) (R.sheet rows.new) }
+    ensures behind { from ≤ result.step.slot }
 {
     let last_slot = slots(rows.width(), row.kind) - 1;
-    let mut first = row.min;
-    for slot in 0..last_slot {
+    let mut first = first;
+    for slot in from..last_slot {
         let pivot = rows.load(row.number, 1 + slot);
         if index <= pivot {
             return found_in(row, slot, first, pivot);
@@ -104,6 +109,33 @@ pub(crate) fn find_slot<R: Rows>(rows: &mut R, row: Row, index: u64) -> Found
         first = pivot + 1;
     }
     found_in(row, last_slot, first, row.max)
+}
+
+/// The slot of a row that holds an index: the first whose pivot is not below it. No pivot behind that is loaded.
+pub(crate) fn find_slot<R: Rows>(rows: &mut R, row: Row, index: u64) -> Found
+    requires row { IsPlace (R.sheet rows.old).tree row.number 0 }
+    requires index { index ≤ row.max }
+    ensures found { IsFound (R.sheet rows.old).tree.table row index result }
+    ensures reads { ReadsUpTo (result.step.slot + 1) (R.sheet rows.old) (R.sheet rows.new) }
+{
+    find_from(rows, row, index, 0, row.min)
+}
+
+/// The same, where the pivot before the middle slot is loaded first: if it is below the index, the slot is sought from the middle
+/// on. The pivot of a slot in which nothing stands is 0.
+pub(crate) fn find_in_half<R: Rows>(rows: &mut R, row: Row, index: u64) -> Found
+    requires row { IsPlace (R.sheet rows.old).tree row.number 0 }
+    requires lawful { IsLawfulRow (R.sheet rows.old).tree.table row }
+    requires index { index ≤ row.max }
+    ensures found { IsFound (R.sheet rows.old).tree.table row index result }
+    ensures reads { ReadsUpTo (result.step.slot + 2) (R.sheet rows.old) (R.sheet rows.new) }
+{
+    let middle = slots(rows.width(), row.kind) / 2;
+    let pivot = rows.load(row.number, middle);
+    if pivot == 0 || index <= pivot {
+        return find_from(rows, row, index, 0, row.min);
+    }
+    find_from(rows, row, index, middle, pivot + 1)
 }
 
 /// What stands in the slot where an index was found.
