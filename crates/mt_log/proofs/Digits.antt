@@ -7,7 +7,7 @@ use Rattle.std.specs.Str.Parse.{AllDigits, digits_value}
 use Rattle.std.proofs.Math.Nat.{pow-le-pow_right}
 use Rattle.std.proofs.lemmas.Bool.{and_parts, cases_lt, le-leb, lt-ltb, le-ltb, ltb-true}
 use Rattle.std.proofs.lemmas.Bool.Decides.{nat_tests}
-use Rattle.std.proofs.lemmas.List.{take_all}
+use Rattle.std.proofs.lemmas.List.{length-take, take_all}
 use Rattle.std.proofs.lemmas.Int.Digits.{digits_value-lt, digits_value_more, digits_more}
 use Rattle.std.proofs.lemmas.Str.Parse.{digits_value-take-le}
 use Rattle.mt_log.specs.declared.faults.Why.TheVariants as why
@@ -64,6 +64,14 @@ stopped radix i value byte digits wide read within is never all =
     let more : digits_value radix (take (i + 1) digits) ≡ value * radix + digit_value byte = rw (is, read.written) (digits_value_more radix digits i within) in
     let bound : digits_value radix (take (i + 1) digits) ≤ digits_value radix digits = digits_value-take-le radix digits (i + 1) (omega arith) in
     never (below, omega (arith, more, bound, all.1))
+
+-- what stands before one of at most nineteen decimal digits has a value below 10 ^ 18
+pub few_digits : (digits : List ℕ) (i value : ℕ) → IsRead 10 (take i digits) value → i < length digits → length digits ≤ 19 → value < 10 ^ 18
+few_digits digits i value read within short =
+    let below : digits_value 10 (take i digits) < 10 ^ length (take i digits) = digits_value-lt 10 (take i digits) read.told in
+    let long : length (take i digits) ≤ 18 = omega (arith, length-take i digits, within, short) in
+    let most : 10 ^ length (take i digits) ≤ 10 ^ 18 = pow-le-pow_right (lit< tt) long in
+    omega (arith, read.written, below, most)
 
 decimal : (digits : List ℕ) (told : Bool) (value : Option ℕ) → list_all is_ascii_digit digits ≡ told → 0 < length digits → length digits ≤ 20 → SomeIff value (AllDigits 10 digits × (digits_value 10 digits < 2 ^ 64)) (digits_value 10 digits) → ok_or value why.Number ≡ decimal_of digits
 unfolding decimal_of

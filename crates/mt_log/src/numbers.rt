@@ -1,4 +1,4 @@
-ghost use Rattle.std.specs.Prelude.{◌≡◌, ◌<◌, ◌≤◌, ◌+◌, ◌*◌, ◌^◌, IfOk, SomeIff};
+ghost use Rattle.std.specs.Prelude.{◌≡◌, ◌<◌, ◌≤◌, ◌+◌, ◌*◌, ◌^◌, IfOk, SomeIff, length};
 ghost use Rattle.std.specs.Char.{digit_value};
 ghost use Rattle.std.specs.Str.Parse.{AllDigits, digits_value};
 ghost use Rattle.mt_log.specs.Reading.{decimal_of, hexadecimal_of, number_of, index_of, size_of, entry_number_of, lane_number_of, count_of};
@@ -39,6 +39,28 @@ fn value_of(digits: &[u8], radix: u32) -> Option<u64>
     Some(value)
 }
 
+/// The value of decimal digits and one more, if this byte is one, where 18 digits wrote the value at the most.
+fn with_decimal(value: u64, byte: u8) -> Option<u64>
+    requires { value < 10 ^ 18 }
+    ensures { SomeIff result ((digit_value byte < 10) × (value * 10 + digit_value byte < 2 ^ 64)) (value * 10 + digit_value byte) }
+{
+    let digit = char::from(byte).to_digit(10)?;
+    Some(value * 10 + u64::from(digit))
+}
+
+/// The value of at most 19 decimal digits, if each byte is one. No value of theirs needs to be tested against 2^64.
+#[tactic(auto, using(crate::proofs::Digits::all_read, crate::proofs::Digits::one_more, crate::proofs::Digits::stopped, crate::proofs::Digits::few_digits))]
+fn short_value_of(digits: &[u8]) -> Option<u64>
+    requires { length digits.now ≤ 19 }
+    ensures { SomeIff result (AllDigits 10 digits.now × (digits_value 10 digits.now < 2 ^ 64)) (digits_value 10 digits.now) }
+{
+    let mut value = 0;
+    for byte in digits {
+        value = with_decimal(value, *byte)?;
+    }
+    Some(value)
+}
+
 /// The number that 1 to 20 decimal digits write.
 #[tactic(auto, using(crate::proofs::Digits::decimal_from_value), unfolding(crate::specs::Reading::decimal_of))]
 fn decimal_of(digits: &[u8]) -> Result<u64, Why>
@@ -46,6 +68,9 @@ fn decimal_of(digits: &[u8]) -> Result<u64, Why>
 {
     if digits.is_empty() || digits.len() > 20 {
         return Err(Why::Number);
+    }
+    if digits.len() < 20 {
+        return short_value_of(digits).ok_or(Why::Number);
     }
     value_of(digits, 10).ok_or(Why::Number)
 }
