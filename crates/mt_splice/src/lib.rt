@@ -17,8 +17,6 @@ mod regions;
 mod replaces;
 mod splices;
 mod tends;
-#[cfg(test)]
-mod tests;
 mod writes;
 
 pub use clears::clear;

@@ -24,3 +24,5 @@ mod room;
 mod rows;
 #[cfg(test)]
 mod small_trees;
+#[cfg(test)]
+mod splices;

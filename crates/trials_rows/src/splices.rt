@@ -7,13 +7,13 @@ ghost use Rattle.mt_rows.specs.Publish.{map_by};
 ghost use Rattle.mt_rows.specs.Sheet.{IsPlace, OnlyReads};
 ghost use Rattle.mt_splice.specs.Between.{IsBetweenCalls};
 
-use crate::{clear, replace_range};
 use mt_base::{Call, FIRST_ROW, Kind, MOST_TAKEN, NoMemory, Range, Reply, cols, is_reserved};
 use mt_free::RowBook;
 use mt_list::{ListMap, Ranges};
 use mt_path::walk;
 use mt_rows::plain_trees::{height_in, map_in, reached_in};
 use mt_rows::{Place, PlainRows, Rows};
+use mt_splice::{clear, replace_range};
 use std::alloc::Global;
 use std::process::Abort;
 use std::test::Fail;

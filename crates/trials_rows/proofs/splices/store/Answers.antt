@@ -6,7 +6,7 @@ use Rattle.mt_rows.specs.Memory.{sheet_in}
 use Rattle.mt_rows.specs.Sheet.{Sheet, Rooted}
 use Rattle.mt_rows.specs.Publish.{map_by}
 use Rattle.mt_splice.proofs.BetweenCalls.{begun_tree, begun_within, tree_read, store_begins, may_finish, ready_again, map_after_call}
-use Rattle.mt_splice.proofs.tests.store.Goals as goal
+use Rattle.trials_rows.proofs.splices.store.Goals as goal
 
 pub walk-left-requires-clause-tree : goal.walk-left-requires-clause-tree
 walk-left-requires-clause-tree c = begun_tree c.requires.ready c.begin-number.ensures.rest

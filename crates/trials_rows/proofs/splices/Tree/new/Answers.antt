@@ -5,7 +5,7 @@ use Rattle.mt_free.proofs.Books.{new_is_book}
 use Rattle.mt_rows.specs.Sheet.{Sheet}
 use Rattle.mt_splice.specs.Between.{IsBetweenCalls}
 use Rattle.mt_splice.proofs.Fresh.{fresh_is_ready}
-use Rattle.mt_splice.proofs.tests.Tree.new.Goals as goal
+use Rattle.trials_rows.proofs.splices.Tree.new.Goals as goal
 
 pub returns-clause-ready : goal.returns-clause-ready
 returns-clause-ready c =

@@ -1,6 +1,6 @@
 use Rattle.std.proofs.Common.{refl}
 use Rattle.mt_splice.proofs.BetweenCalls.{may_clear, may_finish, ready_again}
-use Rattle.mt_splice.proofs.tests.empty.Goals as goal
+use Rattle.trials_rows.proofs.splices.empty.Goals as goal
 
 pub clear-requires : goal.clear-requires
 clear-requires c = may_clear c.requires.ready c.begin-number.ensures.rest c.begin-number.ensures.number c.requires.some
