@@ -16,8 +16,6 @@ mod printing;
 mod reader;
 mod reading;
 mod rendering;
-#[cfg(test)]
-mod tests;
 mod transcripts;
 mod trees;
 

@@ -7,8 +7,6 @@ mod made_lines;
 mod making;
 mod steps;
 mod summaries;
-#[cfg(test)]
-mod tests;
 
 pub use making::made_log;
 pub use summaries::{Summary, summarise};

@@ -1,10 +1,10 @@
 ghost use Rattle.std.specs.Prelude.{◌≤◌};
 
-use super::*;
 use mt_base::{Kind, NoMemory, Range, Reply, Shortage};
 use mt_log::{
     Answer, Entries, Entry, Listing, Listings, RangeList, Said, Transcript, Word, print_log,
 };
+use mt_made::*;
 use std::alloc::{AllocError, Global};
 use std::test::Fail;
 

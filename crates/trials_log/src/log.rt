@@ -1,5 +1,5 @@
-use super::*;
 use mt_base::{Holder, Kind, Query, Range, Reply, Shortage};
+use mt_log::*;
 use std::alloc::{AllocError, Global};
 use std::process::Abort;
 use std::test::Fail;

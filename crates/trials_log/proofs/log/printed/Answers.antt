@@ -1,4 +1,4 @@
-use Rattle.mt_log.proofs.tests.printed.Goals as goal
+use Rattle.trials_log.proofs.log.printed.Goals as goal
 
 -- the bytes that were read are the log's
 pub print_log-requires : goal.print_log-requires

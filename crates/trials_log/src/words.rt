@@ -1,5 +1,5 @@
-use crate::{Command, read_words};
 use mt_base::NoMemory;
+use mt_words::{Command, read_words};
 use std::alloc::Global;
 use std::test::Fail;
 

@@ -1,0 +1,9 @@
+//! Trials of texts: logs that are read, printed and made, what a run comes to, and the words of commands.
+#![tactic(auto)]
+
+#[cfg(test)]
+mod log;
+#[cfg(test)]
+mod made;
+#[cfg(test)]
+mod words;
