@@ -10,8 +10,6 @@ pub mod phase_lines;
 mod phases;
 mod scans;
 mod shared;
-#[cfg(test)]
-mod tests;
 mod turns;
 
 pub use dealing::{lane_after, lanes_in, lines_of_lane};

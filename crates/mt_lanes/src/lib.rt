@@ -3,8 +3,6 @@
 
 mod desks;
 mod lanes;
-#[cfg(test)]
-mod tests;
 
 pub use desks::Desk;
 pub use lanes::{Lane, run_lanes};

@@ -1,6 +1,5 @@
 pub mod Beginning
 pub mod FewCalls
-pub mod Idle
 pub mod LanesGone
 pub mod LanesRun
 pub mod Laying

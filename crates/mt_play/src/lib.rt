@@ -5,8 +5,6 @@ mod lanes;
 mod phases;
 mod players;
 mod rows;
-#[cfg(test)]
-mod tests;
 mod trees;
 
 pub use phases::play;

@@ -1,35 +1,17 @@
 ghost use Rattle.std.specs.Prelude.{◌≡◌, ⊤, [], map, IfOk};
 ghost use Rattle.std.specs.List.{range_with_len};
-ghost use Rattle.mt_base.specs.Passes.{new_pass};
 ghost use Rattle.mt_runs.specs.Phases.{new_history};
 ghost use Rattle.mt_play.specs.Trees.{calls_taken};
 
-use crate::Plays;
-use crate::players::Player;
+use crate::tokens::Token;
 use mt_base::{Call, Kind, NoMemory, Query, Range};
-use mt_desks::{Done, Looked, Passage, Shared, Worn};
-use mt_log::{Entry, Item, Line, Said, Word};
+use mt_desks::{Done, Looked, Shared, Worn};
+use mt_io::NoGate;
+use mt_log::{Entry, Said, read_log};
+use mt_play::{Plays, play};
 use std::alloc::Global;
 use std::sync::Wait;
 use std::test::Fail;
-
-/// A pass that knows of no call.
-#[derive(Drop)]
-struct Token {
-    number: u32,
-}
-
-impl Passage for Token {
-    ghost knows = { λ p. new_pass p.number };
-
-    fn number(&self) -> u32 {
-        self.number
-    }
-
-    fn away() -> Self {
-        Token { number: 0 }
-    }
-}
 
 /// An empty tree, with so many passes. A call of it waits forever.
 #[derive(Drop)]
@@ -115,40 +97,23 @@ fn told(entry: &Entry) -> (u64, bool) {
 
 #[test]
 fn a_phase_begins_with_its_copies_and_checks(rt: HostRuntime) -> Result<(), Fail> {
-    let kind = Kind::Range;
-    let word = |name: &str| Word::new(name.as_bytes()).expect(&rt, "a name");
-    let (a, b, c) = (word("a"), word("b"), word("c"));
-    let lines = [
-        Line {
-            number: 2,
-            item: Item::Tree { name: a, kind },
-        },
-        Line {
-            number: 3,
-            item: Item::Tree { name: b, kind },
-        },
-        Line {
-            number: 4,
-            item: Item::Check { tree: 1 },
-        },
-        Line {
-            number: 5,
-            item: Item::Dup { from: 0, name: c },
-        },
-        Line {
-            number: 6,
-            item: Item::Check { tree: 2 },
-        },
-    ];
-    let mut player: Player<Token, Bare> = Player::new(rt.alloc(), 4, 2);
-    player.begin(&rt, rt.alloc(), &lines)?;
-    let entries: Vec<(u64, bool)> = player.entries.iter().map(told).collect(rt.alloc())?;
+    let text = b"mtlog 1
+tree a range
+tree b range
+check b
+dup a c
+check c
+";
+    let log = read_log(rt.alloc(), text).expect(&rt, "a log");
+    let run = play::<_, Token, Bare, _>(&rt, rt.alloc(), &log, 4, &NoGate)?;
+    let entries: Vec<(u64, bool)> = run.entries.as_slice().iter().map(told).collect(rt.alloc())?;
     assert_eq!(rt;
         entries.as_slice(),
         [(4, false), (5, true), (6, false)].as_slice()
     );
-    let lists = player.list(&rt, rt.alloc())?;
-    let listed: Vec<&str> = lists
+    let listed: Vec<&str> = run
+        .lists
+        .as_slice()
         .iter()
         .map(|list| list.name.as_str())
         .collect(rt.alloc())?;

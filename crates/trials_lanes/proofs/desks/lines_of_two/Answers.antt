@@ -2,11 +2,11 @@ use Rattle.std.proofs.Common.{◌<◌, ℕ, zero, suc, [], ◌∷◌, length, ar
 use Rattle.std.specs.Vec.{vec_len, vec_capacity}
 use Rattle.mt_lanes.specs.declared.lanes.Lane.{Lane}
 use Rattle.mt_desks.specs.declared.desks.LaneDesk.{LaneDesk}
-use Rattle.mt_desks.specs.declared.tests.Bare.{Bare}
-use Rattle.mt_desks.specs.declared.tests.Token.{Token}
+use Rattle.trials_lanes.specs.declared.desks.Bare.{Bare}
+use Rattle.trials_lanes.specs.declared.tokens.Token.{Token}
 use Rattle.mt_desks.specs.Phases.{IsLaid}
 use Rattle.mt_desks.proofs.Referring.{seen}
-use Rattle.mt_desks.proofs.tests.lines_of_two.Goals as goal
+use Rattle.trials_lanes.proofs.desks.lines_of_two.Goals as goal
 
 of_two : {X : Type 0} (P : X → Type 0) (x y : X) → P x → P y → (k : ℕ) (d : X) → k < 2 → P (get_or (x ∷ y ∷ []) k d)
 of_two P x y p q zero d below = p

@@ -1,8 +1,8 @@
 ghost use Rattle.std.specs.Prelude.{IfOk};
 ghost use Rattle.mt_lanes.specs.Lanes.{CanRun};
 
-use crate::{Desk, Lane, run_lanes};
 use mt_io::{Gate, NoGate};
+use mt_lanes::{Desk, Lane, run_lanes};
 use std::alloc::{AllocError, Global};
 use std::sync::atomic::{AtomicU32, AtomicU64, Ordering};
 use std::test::Fail;

@@ -1,15 +1,15 @@
 ghost use Rattle.std.specs.Prelude.{◌≡◌, true, All, ◌≤◌, ◌^◌, ⊤, IfOk, [], length, map, vec_len, vec_capacity};
 ghost use Rattle.mt_base.specs.declared.kinds.Kind.TheVariants as kinds;
-ghost use Rattle.mt_base.specs.Passes.{new_pass};
 ghost use Rattle.mt_log.specs.Trees.{NamesBelow};
 ghost use Rattle.mt_desks.specs.Dealing.{is_step};
 ghost use Rattle.mt_desks.specs.Desks.{AreLines};
 ghost use Rattle.mt_desks.specs.Phases.{IsLaid};
 
-use crate::{
+use crate::tokens::Token;
+use mt_base::{Call, NoMemory, Query};
+use mt_desks::{
     Done, LaneDesk, Looked, Passage, Shared, Worn, lanes_in, lines_of_lane, put_back, run_phase,
 };
-use mt_base::{Call, NoMemory, Query};
 use mt_io::NoGate;
 use mt_lanes::Lane;
 use mt_log::{Entry, Item, Line, Said};
@@ -17,24 +17,6 @@ use std::alloc::{AllocError, Global};
 use std::sync::Wait;
 use std::test::Fail;
 use std::thread::Threads;
-
-/// A pass that knows of no call.
-#[derive(Drop)]
-struct Token {
-    number: u32,
-}
-
-impl Passage for Token {
-    ghost knows = { λ p. new_pass p.number };
-
-    fn number(&self) -> u32 {
-        self.number
-    }
-
-    fn away() -> Self {
-        Token { number: 0 }
-    }
-}
 
 /// An empty tree that takes no calls.
 #[derive(Drop)]

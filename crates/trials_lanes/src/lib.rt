@@ -1,0 +1,11 @@
+//! Trials of the lanes of a phase: the threads, the desks at which lanes make their steps, and a log played phase by phase.
+#![tactic(auto)]
+
+#[cfg(test)]
+mod desks;
+#[cfg(test)]
+mod lanes;
+#[cfg(test)]
+mod phases;
+#[cfg(test)]
+mod tokens;
