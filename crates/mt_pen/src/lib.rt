@@ -7,6 +7,3 @@ mod writer;
 
 pub use rows::PenRows;
 pub use writer::Writer;
-
-#[cfg(test)]
-mod tests;

@@ -18,6 +18,3 @@ pub use pens::Pen;
 pub use table::{MOST_CALLS, MOST_PASSES, MtTable};
 pub use turn::{OfTable, Taken, Turn};
 pub use views::{Moment, NotePart, PassPart, PenPart, Shape, Told, TurnView, View};
-
-#[cfg(test)]
-mod tests;

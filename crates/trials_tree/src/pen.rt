@@ -8,8 +8,8 @@ ghost use Rattle.mt_rule.specs.Seats.{new_pen};
 ghost use Rattle.mt_rule.specs.Tokens.{identity_of, shape_opened, turn_seat, IsPassOf, pen_in, IsPenOf, IsAlone};
 ghost use Rattle.mt_pen.specs.Works.{OpensSmall};
 
-use crate::{PenRows, Writer};
 use mt_base::{Call, Holder, Kind, NoMemory, Reply, Steps, Width};
+use mt_pen::{PenRows, Writer};
 use mt_rows::{PlainRows, Rows, Scan};
 use mt_rule::{MtTable, Pass, Pen};
 use std::alloc::Global;

@@ -1,7 +1,7 @@
 use Rattle.std.proofs.Common.{rules, ◌≡◌, All, length, sym, subst}
 use Rattle.mt_rule.specs.Turns.{IsSeatedAt}
 use Rattle.mt_rule.proofs.Returned.{come_back}
-use Rattle.mt_rule.proofs.tests.opened.Goals as goal
+use Rattle.trials_tree.proofs.rule.opened.Goals as goal
 
 pub returns-clause-seated : goal.returns-clause-seated
 returns-clause-seated c =

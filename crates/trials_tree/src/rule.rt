@@ -7,9 +7,9 @@ ghost use Rattle.mt_rule.specs.Limits.{most_calls};
 ghost use Rattle.mt_rule.specs.Tokens.{identity_of, identity_of_pen, pen_in, IsAlone, IsPassOf};
 ghost use Rattle.mt_rule.specs.Turns.{served, IsSeatedAt};
 
-use crate::{MtTable, Note, OfTable, Pass, Pen, Turn};
 use mt_base::{Call, Kind, Reply};
 use mt_rows::PlainRows;
+use mt_rule::{MtTable, Note, OfTable, Pass, Pen, Turn};
 use std::alloc::Global;
 use std::mem;
 use std::sync::Wait;

@@ -1,6 +1,6 @@
 use Rattle.std.proofs.Common.{rules, ap, ◌∙◌}
 use Rattle.mt_tree.proofs.Lending.{still_of}
-use Rattle.mt_tree.proofs.tests.listed.Goals as goal
+use Rattle.trials_tree.proofs.shared.listed.Goals as goal
 
 pub returns-in_err-ranges : goal.returns-in_err-ranges
 returns-in_err-ranges g c = still_of c.list-ranges.new.self.tree.now c.args.tree.now _ (ap (λ b. b.now) c.list-ranges.ensures.tree ∙ c.lock-write.ensures.tree) (search rules)

@@ -1,5 +1,5 @@
 use Rattle.mt_tree.specs.Trees.{IsPassOf}
-use Rattle.mt_tree.proofs.tests.fill.Given as goal
+use Rattle.trials_tree.proofs.shared.fill.Given as goal
 
 abbrev pub invariant-loop-i : goal.invariant-loop-i
 invariant-loop-i g l = IsPassOf l.fn.tree l.pass

@@ -1,5 +1,5 @@
 use Rattle.mt_rule.specs.Tokens.{identity_of, turn_seat}
-use Rattle.mt_pen.proofs.tests.a_scan_finds_who_reads.Given as goal
+use Rattle.trials_tree.proofs.pen.a_scan_finds_who_reads.Given as goal
 
 abbrev pub ghosts-open : goal.ghosts-open
 ghosts-open g a = record { name = a.blank.name; parts = a.blank.parts }

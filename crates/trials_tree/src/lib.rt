@@ -1,0 +1,9 @@
+//! Trials of the tree that threads share: the rule of its table, the rows of its writer, and what its callers ask and do.
+#![tactic(auto)]
+
+#[cfg(test)]
+mod pen;
+#[cfg(test)]
+mod rule;
+#[cfg(test)]
+mod shared;
