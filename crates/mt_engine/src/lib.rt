@@ -15,8 +15,6 @@ mod range_walk;
 mod rooms;
 mod store_by;
 mod stores;
-#[cfg(test)]
-mod tests;
 
 pub use engine::Engine;
 pub use range_walk::RangeWalk;

@@ -1,5 +1,0 @@
-use Rattle.std.proofs.Common.{◌≡◌, ◌+◌}
-use Rattle.mt_engine.proofs.tests.drawn.fill.Given as goal
-
-abbrev pub invariant-loop-n : goal.invariant-loop-n
-invariant-loop-n l = record { ended : l.engine.sheet.ended ≡ l.initial.engine.sheet.ended + l.n; kind : l.engine.kind ≡ l.initial.engine.kind }

@@ -1,0 +1,193 @@
+ghost use Rattle.std.specs.Prelude.{◌≡◌, ◌<◌, ◌+◌, ◌-◌, ◌^◌, OnOk};
+ghost use Rattle.mt_base.specs.declared.kinds.Kind.TheVariants as kinds;
+
+use crate::tests::{TOP, erase, expect_answers, fresh, fresh_of, insert, store, store_pre};
+use mt_base::{Call, Kind, MOST_ROWS, NoMemory, Query};
+use mt_engine::Engine;
+use mt_list::{ListMap, Ranges};
+use mt_rows::PlainRows;
+use std::alloc::Global;
+use std::process::Abort;
+use std::test::Fail;
+
+/// So many indexes from 0 on are drawn, and so many of the last.
+const INDEXES: u32 = 20_000;
+
+const LAST_INDEXES: u32 = 8;
+
+/// A stream of numbers that looks random, and is the same at each run.
+#[derive(Drop)]
+struct Draws {
+    state: u64,
+}
+
+impl Draws {
+    /// The next number, which is below `bound` where that is above 0.
+    fn below(&mut self, bound: u32) -> u32 {
+        self.state = self
+            .state
+            .wrapping_mul(6_364_136_223_846_793_005)
+            .wrapping_add(1_442_695_040_888_963_407);
+        let scaled = (self.state >> 32).wrapping_mul(u64::from(bound));
+        (scaled >> 32) as u32
+    }
+
+    fn index(&mut self) -> u64 {
+        if self.below(32) == 0 {
+            TOP - u64::from(self.below(LAST_INDEXES))
+        } else {
+            u64::from(self.below(INDEXES))
+        }
+    }
+
+    /// The last index of a store: mostly it reaches over a few ranges, and now and then over a few leaves.
+    fn last_from(&mut self, first: u64) -> u64 {
+        let reach = if self.below(64) == 0 { 400 } else { 12 };
+        first.saturating_add(u64::from(self.below(reach)))
+    }
+
+    /// An entry, or 0 for a hole; 2 is refused.
+    fn entry(&mut self) -> u64 {
+        u64::from(self.below(6))
+    }
+
+    /// A call that seeks room, mostly in a window of some ranges; room for no index is refused.
+    fn search(&mut self) -> Call {
+        let size = u64::from(self.below(14));
+        let min = self.index();
+        let max = if self.below(4) == 0 {
+            TOP
+        } else {
+            min.saturating_add(u64::from(self.below(200)))
+        };
+        let entry = self.entry();
+        match self.below(4) {
+            0 => Call::Alloc {
+                size,
+                min,
+                max,
+                entry,
+            },
+            1 => Call::Ralloc {
+                size,
+                min,
+                max,
+                entry,
+            },
+            2 => Call::Gap { size, min, max },
+            _ => Call::Rgap { size, min, max },
+        }
+    }
+
+    fn call(&mut self, list: &mut ListMap) -> Call {
+        let first = self.index();
+        let last = self.last_from(first);
+        let entry = self.entry();
+        match self.below(4000) {
+            0 => Call::Clear,
+            1..1200 => store(first, last, entry),
+            1200..1600 => exact_store(list, first, entry),
+            1600..1800 => store_pre(first, last, entry),
+            1800..2400 => insert(first, last, entry),
+            2400..3200 => self.search(),
+            _ => erase(first),
+        }
+    }
+}
+
+/// A store over exactly the first range from an index on.
+fn exact_store(list: &mut ListMap, index: u64, entry: u64) -> Call {
+    match list.ask(&Query::Find { index, max: TOP }) {
+        Some(range) => store(range.first, range.last, entry),
+        None => store(index, index, entry),
+    }
+}
+
+/// Makes a drawn call on the engine and on the list, which answer the same, and so they do each kind of query then.
+fn expect_call(
+    rt: &impl Abort,
+    engine: &mut Engine<PlainRows>,
+    list: &mut ListMap,
+    draws: &mut Draws,
+) -> Result<(), NoMemory>
+    requires few { engine.old.sheet.ended < 2 ^ 62 - 1 }
+    ensures ended { engine.new.sheet.ended ≡ engine.old.sheet.ended + 1 }
+    ensures kind { engine.new.kind ≡ engine.old.kind }
+{
+    let call = draws.call(list);
+    let reply = engine.apply(&call);
+    assert_eq!(rt; reply, list.act(&call)?, "at {call:?}");
+    let (index, bound) = (draws.index(), draws.index());
+    expect_answers(rt, engine, list, index, bound);
+    Ok(())
+}
+
+/// Makes a thousand such calls, behind which the engine and the list hold the same ranges.
+fn expect_calls(
+    rt: &impl Abort,
+    alloc: Global,
+    engine: &mut Engine<PlainRows>,
+    list: &mut ListMap,
+    draws: &mut Draws,
+) -> Result<(), NoMemory>
+    requires few { engine.old.sheet.ended + 1000 < 2 ^ 62 }
+    ensures ended { OnOk result (engine.new.sheet.ended ≡ engine.old.sheet.ended + 1000) }
+    ensures kind { engine.new.kind ≡ engine.old.kind }
+{
+    for _ in 0..1000_u64 {
+        expect_call(rt, engine, list, draws)?;
+    }
+    let ranges = engine.list(alloc)?;
+    assert_eq!(rt; ranges.as_slice(), list.list(alloc)?.as_slice());
+    Ok(())
+}
+
+#[test]
+fn a_hundred_thousand_calls_are_answered_as_by_a_list(rt: HostRuntime) -> Result<(), Fail> {
+    let mut engine = fresh(rt.alloc(), MOST_ROWS)?;
+    let mut list = ListMap::new(rt.alloc(), Kind::Range);
+    let mut draws = Draws { state: 1 };
+    for _ in 0..100_u64 {
+        expect_calls(&rt, rt.alloc(), &mut engine, &mut list, &mut draws)?;
+    }
+    Ok(())
+}
+
+/// Stores a thousand ranges of ten indexes, each behind a hole of ten.
+fn fill(engine: &mut Engine<PlainRows>, list: &mut ListMap) -> Result<(), NoMemory>
+    requires few { engine.old.sheet.ended + 1000 < 2 ^ 62 }
+    ensures ended { OnOk result (engine.new.sheet.ended ≡ engine.old.sheet.ended + 1000) }
+    ensures kind { engine.new.kind ≡ engine.old.kind }
+{
+    for n in 0..1000_u64 {
+        let call = store(20 * n + 10, 20 * n + 19, 1);
+        engine.apply(&call);
+        list.act(&call)?;
+    }
+    Ok(())
+}
+
+#[test]
+fn ten_thousand_calls_on_areas_are_answered_as_by_a_list(rt: HostRuntime) -> Result<(), Fail> {
+    let mut engine = fresh_of(rt.alloc(), Kind::Alloc, MOST_ROWS)?;
+    let mut list = ListMap::new(rt.alloc(), Kind::Alloc);
+    let mut draws = Draws { state: 3 };
+    fill(&mut engine, &mut list)?;
+    for _ in 0..10_u64 {
+        expect_calls(&rt, rt.alloc(), &mut engine, &mut list, &mut draws)?;
+    }
+    Ok(())
+}
+
+#[test]
+fn an_engine_made_again_of_its_parts_goes_on(rt: HostRuntime) -> Result<(), Fail> {
+    let mut engine = fresh(rt.alloc(), MOST_ROWS)?;
+    let mut list = ListMap::new(rt.alloc(), Kind::Range);
+    let mut draws = Draws { state: 2 };
+    for _ in 0..100_u64 {
+        expect_calls(&rt, rt.alloc(), &mut engine, &mut list, &mut draws)?;
+        let (rows, book) = engine.parts();
+        engine = Engine::new(rows, book, Kind::Range);
+    }
+    Ok(())
+}
