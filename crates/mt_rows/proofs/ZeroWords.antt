@@ -1,7 +1,8 @@
 -- Words of which only the first are written down: those behind them are 0.
-use Rattle.std.proofs.Common.{◌≡◌, ◌≢◌, ℕ, zero, suc, ◌+◌, ◌-◌, ◌*◌, ◌<◌, ◌≤◌, List, [], ◌∷◌, ◌++◌, Option, Some, None, length, take, drop, refl, ap, ◌∙◌, arith}
+use Rattle.std.proofs.Common.{◌≡◌, ◌≢◌, ℕ, zero, suc, ◌+◌, ◌-◌, ◌*◌, ◌<◌, ◌≤◌, List, [], ◌∷◌, ◌++◌, Option, Some, None, length, take, drop, refl, ap, ◌∙◌, ⊎_elim, arith, get_or-set_other, get_or-set_same}
 use Rattle.std.specs.Prelude.{◌==◌, nat_le, replicate, slice_index, slice_set, if◌then◌else◌}
 use Rattle.std.specs.List.{slice_range}
+use Rattle.std.proofs.lemmas.Bool.{cases_eq}
 use Rattle.std.proofs.lemmas.List.{take_more, get_or-drop, length-drop}
 use Rattle.mt_base.specs.declared.widths.Width.TheVariants.{Long}
 use Rattle.mt_base.specs.Width.{columns}
@@ -73,27 +74,16 @@ zeros_fit (suc n) zero w few fit = absurd (omega arith)
 zeros_fit (suc n) (suc most) [] few fit = let less = zeros_fit n most [] (omega arith) (omega arith) in omega arith
 zeros_fit (suc n) (suc most) (x ∷ w) few fit = let less = zeros_fit n most w (omega arith) (omega arith) in omega arith
 
--- ---- words that are copied over zeros
+-- ---- zeros over the first words
 
-copied_all : (w old : List ℕ) → length w ≤ length old → ((at : ℕ) → slice_index old at ≡ 0) → (at : ℕ) → slice_index (w ++ drop (length w) old) at ≡ slice_index w at
-copied_all [] old fit zeros at = zeros at
-copied_all (x ∷ w) [] fit zeros at = absurd (omega arith)
-copied_all (x ∷ w) (y ∷ old) fit zeros zero = refl
-copied_all (x ∷ w) (y ∷ old) fit zeros (suc at) = copied_all w old (omega arith) (λ k. zeros (suc k)) at
+pub one_more_zero : (w : List ℕ) (at : ℕ) → at < length w → ((k : ℕ) → k < at → slice_index w k ≡ 0) → (k : ℕ) → k < at + 1 → slice_index (slice_set w at 0) k ≡ 0
+one_more_zero w at within zeros k low = ⊎_elim
+    (λ (same : k ≡ at). ap (slice_index (slice_set w at 0)) same ∙ get_or-set_same w at 0 0 within)
+    (λ (off : k ≢ at). get_or-set_other w at k 0 0 off ∙ zeros k (omega (arith, off)))
+    (cases_eq k at)
 
--- those from a place on
-pub copied_from : (w old : List ℕ) (from : ℕ) → from ≤ length w → length w ≤ length old → ((at : ℕ) → from ≤ at → slice_index old at ≡ 0) → (at : ℕ) → from ≤ at
-    → slice_index (take from old ++ (drop from w ++ drop (length w) old)) at ≡ slice_index w at
-copied_from w old zero low fit zeros at high = copied_all w old fit (λ k. zeros k (omega arith)) at
-copied_from [] old (suc from) low fit zeros at high = absurd (omega arith)
-copied_from (x ∷ w) [] (suc from) low fit zeros at high = absurd (omega arith)
-copied_from (x ∷ w) (y ∷ old) (suc from) low fit zeros zero high = absurd (omega arith)
-copied_from (x ∷ w) (y ∷ old) (suc from) low fit zeros (suc at) high = copied_from w old from (omega arith) (omega arith) (λ k up. zeros (suc k) (omega arith)) at (omega arith)
-
-pub none_behind : (w : List ℕ) (at : ℕ) → length w ≤ at → slice_index w at ≡ 0
-none_behind [] at high = refl
-none_behind (x ∷ w) zero high = absurd (omega arith)
-none_behind (x ∷ w) (suc at) high = none_behind w at (omega arith)
+pub others_stay : (w before : List ℕ) (at : ℕ) → ((k : ℕ) → at ≤ k → slice_index w k ≡ slice_index before k) → (k : ℕ) → at + 1 ≤ k → slice_index (slice_set w at 0) k ≡ slice_index before k
+others_stay w before at same k high = get_or-set_other w at k 0 0 (λ is. omega arith) ∙ same k (omega arith)
 
 -- ---- the words in a row's slots
 

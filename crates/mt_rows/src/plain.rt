@@ -11,7 +11,7 @@ ghost use Rattle.mt_rows.specs.Plain.{IsPlain, names_of, enlivened, names_buried
 
 use crate::plain_trees::spans_in;
 use crate::rows::{Place, Rows, Scan};
-use crate::words::Words;
+use crate::words::{Words, clear_first};
 use arrayvec::ArrayVec;
 use mt_base::{Call, DEEPEST, FIRST_ROW, NoMemory, Reply, Width, cols, top};
 use mt_layout::{MOST_SLOTS, RowKind, Span, kind_of, parent_word, row_of, slots};
@@ -284,16 +284,17 @@ impl PlainRows {
         );
     }
 
-    /// Copies the words of all rows to where they stand among a table's words, which are 0 there.
-    pub fn write_words(&self, words: &mut [u64])
-        requires size { length words.old ≡ length (sheet_in self.now).tree.table.words }
-        requires zeros { (at : ℕ) → columns (sheet_in self.now).tree.table.width * first_row ≤ at → slice_index words.old at ≡ 0 }
-        ensures size { length words.new ≡ length words.old }
-        ensures before { (at : ℕ) → at < columns (sheet_in self.now).tree.table.width * first_row → slice_index words.new at ≡ slice_index words.old at }
-        ensures rows { (at : ℕ) → columns (sheet_in self.now).tree.table.width * first_row ≤ at → slice_index words.new at ≡ slice_index (sheet_in self.now).tree.table.words at }
+    /// The words of all rows where they stand among a table's words. Those before them are 0.
+    pub fn into_words(self) -> Vec<u64>
+        ensures size { length result.items ≡ length (sheet_in self).tree.table.words }
+        ensures before { (at : ℕ) → at < columns (sheet_in self).tree.table.width * first_row → slice_index result.items at ≡ 0 }
+        ensures rows { (at : ℕ) → columns (sheet_in self).tree.table.width * first_row ≤ at → slice_index result.items at ≡ slice_index (sheet_in self).tree.table.words at }
     {
-        let first = cols(self.state.width) as usize * FIRST_ROW as usize;
-        self.state.words.copy_from(first, words);
+        let PlainRows { state } = self;
+        let first = cols(state.width) as usize * FIRST_ROW as usize;
+        let mut words = state.words.into_vec();
+        clear_first(words.as_mut_slice(), first);
+        words
     }
 
     /// Stores a word at a place, and says how many levels of drafts may be reached from it.

@@ -1,6 +1,6 @@
 //! Words that are 0 until they are written.
 
-ghost use Rattle.std.specs.Prelude.{◌≡◌, ◌+◌, ◌-◌, ◌<◌, ◌≤◌, ◌++◌, ℕ, [], ◌∷◌, IfOk, length, take, replicate, slice_index, slice_set};
+ghost use Rattle.std.specs.Prelude.{◌≡◌, ◌+◌, ◌<◌, ◌≤◌, ◌++◌, ℕ, IfOk, length, take, replicate, slice_index, slice_set};
 ghost use Rattle.std.specs.Vec.{vec_capacity};
 ghost use Rattle.mt_rows.specs.Words.{Listed, listed, IsListed, with_zeros};
 
@@ -23,18 +23,6 @@ impl Model for Words {
     ghost invariant = { IsListed };
 }
 
-/// Puts a word behind the others, for which there is room.
-fn push_word(words: &mut Vec<u64>, word: u64)
-    requires { length words.old.items < vec_capacity words.old }
-    ensures items { words.new.items ≡ words.old.items ++ word ∷ [] }
-    ensures capacity { vec_capacity words.old ≤ vec_capacity words.new }
-{
-    match words.push(word) {
-        Ok(()) => {}
-        Err(_) => unreachable!(),
-    }
-}
-
 /// Writes zeros behind the words until there are so many.
 #[tactic(auto, using(crate::proofs::ZeroWords::zeros_push, crate::proofs::ZeroWords::zeros_enough))]
 fn write_zeros(words: &mut Vec<u64>, len: usize)
@@ -43,7 +31,20 @@ fn write_zeros(words: &mut Vec<u64>, len: usize)
     ensures capacity { vec_capacity words.old ≤ vec_capacity words.new }
 {
     for _ in words.len()..len {
-        push_word(words, 0);
+        words.push_reserved(0);
+    }
+}
+
+/// Writes 0 over the first so many words.
+#[tactic(auto, using(crate::proofs::ZeroWords::one_more_zero, crate::proofs::ZeroWords::others_stay))]
+pub(crate) fn clear_first(words: &mut [u64], count: usize)
+    requires { count ≤ length words.old }
+    ensures size { length words.new ≡ length words.old }
+    ensures first { (at : ℕ) → at < count → slice_index words.new at ≡ 0 }
+    ensures rest { (at : ℕ) → count ≤ at → slice_index words.new at ≡ slice_index words.old at }
+{
+    for at in 0..count {
+        words[at] = 0;
     }
 }
 
@@ -85,19 +86,13 @@ impl Words {
         self.written.as_slice()
     }
 
-    /// Copies the words from a place on over zeros. What was never written is not touched.
-    #[tactic(auto, using(crate::proofs::ZeroWords::zeros_behind, crate::proofs::ZeroWords::zeros_long, crate::proofs::ZeroWords::none_behind))]
-    pub(crate) fn copy_from(&self, from: usize, words: &mut [u64])
-        requires size { length words.old ≡ length self.now.items }
-        requires zeros { (at : ℕ) → from ≤ at → slice_index words.old at ≡ 0 }
-        ensures size { length words.new ≡ length words.old }
-        ensures before { (at : ℕ) → at < from → slice_index words.new at ≡ slice_index words.old at }
-        ensures copied { (at : ℕ) → from ≤ at → slice_index words.new at ≡ slice_index self.now.items at }
+    /// All words, each written down.
+    pub(crate) fn into_vec(self) -> Vec<u64>
+        ensures { result.items ≡ self.items }
     {
-        let written = self.written.len();
-        if from < written {
-            words[from..written].copy_from_slice(&self.written[from..]);
-        }
+        let Words { mut written, len } = self;
+        write_zeros(&mut written, len);
+        written
     }
 
     /// Writes these words over the last ones.

@@ -192,8 +192,3 @@ starts_so told words may opens =
       notes = λ n k. absurd (no_note n k);
     }
     one extents (suc by) v e = absurd (some-ne-none v (sym e))
-
--- rows that were only read are what they were
-pub may_open_still : (kind : Kind) (s s' : Sheet) (passes calls : ℕ) → OnlyReads s s' → MayOpen kind s passes calls → MayOpen kind s' passes calls
-may_open_still kind s s' passes calls same may = subst (λ (x : Sheet). MayOpen kind x passes calls) (sym same)
-    record { none = may.none; idle = may.idle; lawful = may.lawful; some_pass = may.some_pass; few_passes = may.few_passes; some_call = may.some_call; few_calls = may.few_calls }

@@ -3,7 +3,6 @@
 ghost use Rattle.std.specs.Prelude.{◌≡◌, ◌+◌, ◌*◌, ◌<◌, ◌≤◌, IfOk};
 ghost use Rattle.mt_base.specs.Width.{kind_width, columns, first_row, most_rows};
 ghost use Rattle.mt_rows.specs.Memory.{sheet_in};
-ghost use Rattle.mt_rows.specs.Sheet.{OnlyReads};
 ghost use Rattle.mt_rule.specs.Limits.{most_calls, most_passes};
 ghost use Rattle.mt_rule.specs.Places.{commits_at, begun_at, root_at, section_at, column_at, size_of};
 ghost use Rattle.mt_rule.specs.Places.{AreOpening};
@@ -14,7 +13,7 @@ use crate::pens::Pen;
 use crate::rule::{Deals, Ruled};
 use crate::views::{Told, View};
 use atomic_table::{Badge, Table};
-use mt_base::{FIRST_ROW, Kind, NoMemory, Width, cols, width_of};
+use mt_base::{Kind, NoMemory, Width, cols, width_of};
 use mt_rows::{PlainRows, Rows};
 use std::alloc::Global;
 use std::snapshot::Snapshot;
@@ -97,18 +96,17 @@ impl MtTable {
     }
 
     /// A table of the words of these rows, for a tree that opens with them; its pen, and its passes, numbered from 0. Rows that
-    /// are not reached are new.
+    /// are not reached are new. The memory of the rows is given back.
     pub fn make(
         alloc: Global,
         kind: Kind,
-        rows: &mut PlainRows,
+        rows: PlainRows,
         passes: u32,
         calls: u64,
     ) -> Result<(MtTable, Pen, Vec<Pass>), NoMemory>
-        requires { MayOpen kind (sheet_in rows.old) passes calls }
-        ensures rows { OnlyReads (sheet_in rows.old) (sheet_in rows.new) }
-        ensures shape { IfOk result (λ r. (identity_of r.0).shape ≡ shape_opened kind (sheet_in rows.old) passes calls) }
-        ensures pen { IfOk result (λ r. IsPenOf (identity_of r.0) r.1 × IsAlone r.1 × (pen_in r.1 ≡ record (new_pen (identity_of r.0).shape (sheet_in rows.old).tree) { dealt = passes })) }
+        requires { MayOpen kind (sheet_in rows) passes calls }
+        ensures shape { IfOk result (λ r. (identity_of r.0).shape ≡ shape_opened kind (sheet_in rows) passes calls) }
+        ensures pen { IfOk result (λ r. IsPenOf (identity_of r.0) r.1 × IsAlone r.1 × (pen_in r.1 ≡ record (new_pen (identity_of r.0).shape (sheet_in rows).tree) { dealt = passes })) }
         ensures of { IfOk result (λ r. All (IsPassOf (identity_of r.0)) r.2.items) }
         ensures passes { IfOk result (λ r. map pass_in r.2.items ≡ map new_pass (range_with_len 0 passes)) }
     {
@@ -124,28 +122,28 @@ impl MtTable {
     fn with_pen(
         alloc: Global,
         kind: Kind,
-        rows: &mut PlainRows,
+        rows: PlainRows,
         passes: u32,
         calls: u64,
     ) -> Result<(MtTable, Pen), NoMemory>
-        requires { MayOpen kind (sheet_in rows.old) passes calls }
-        ensures rows { OnlyReads (sheet_in rows.old) (sheet_in rows.new) }
-        ensures shape { IfOk result (λ r. (identity_of r.0).shape ≡ shape_opened kind (sheet_in rows.old) passes calls) }
-        ensures pen { IfOk result (λ r. IsPenOf (identity_of r.0) r.1 × IsAlone r.1 × (pen_in r.1 ≡ new_pen (identity_of r.0).shape (sheet_in rows.old).tree)) }
+        requires { MayOpen kind (sheet_in rows) passes calls }
+        ensures shape { IfOk result (λ r. (identity_of r.0).shape ≡ shape_opened kind (sheet_in rows) passes calls) }
+        ensures pen { IfOk result (λ r. IsPenOf (identity_of r.0) r.1 × IsAlone r.1 × (pen_in r.1 ≡ new_pen (identity_of r.0).shape (sheet_in rows).tree)) }
     {
-        let words = opening_words(alloc, rows)?;
         let told = Told {
             kind,
             passes,
             calls,
-            rows: Snapshot::of(rows),
+            rows: Snapshot::of(&rows),
         };
+        let size = rows.size();
+        let words = opening_words(rows);
         let (table, seat) = Table::of_words(alloc, &words, &told)?;
         let table = MtTable {
             table,
             width: width_of(kind),
             passes,
-            rows: rows.size(),
+            rows: size,
         };
         Ok((table, Pen::of_seat(seat)))
     }
@@ -172,14 +170,12 @@ impl MtTable {
     }
 }
 
-/// The words of a table that opens with these rows.
-fn opening_words(alloc: Global, rows: &mut PlainRows) -> Result<Vec<u64>, NoMemory>
-    ensures rows { OnlyReads (sheet_in rows.old) (sheet_in rows.new) }
-    ensures words { IfOk result (λ words. AreOpening (sheet_in rows.old).tree words.items) }
+/// The words of a table that opens with these rows, which are written down once, in the memory of the rows.
+fn opening_words(mut rows: PlainRows) -> Vec<u64>
+    ensures { AreOpening (sheet_in rows).tree result.items }
 {
-    let size = cols(rows.width()) as usize * (FIRST_ROW as usize + rows.size() as usize);
-    let mut words = vec![in alloc; 0; size]?;
-    rows.write_words(words.as_mut_slice());
-    words[ROOT] = rows.root();
-    Ok(words)
+    let root = rows.root();
+    let mut words = rows.into_words();
+    words[ROOT] = root;
+    words
 }

@@ -3,7 +3,7 @@
 ghost use Rattle.std.specs.Prelude.{◌≡◌, ◌↔◌, ◌+◌, ◌/◌, ◌≤◌, All, Some, [], length, map, IfOk};
 ghost use Rattle.mt_rows.specs.Memory.{sheet_in};
 ghost use Rattle.mt_rows.specs.Publish.{map_by};
-ghost use Rattle.mt_rows.specs.Sheet.{Sheet};
+ghost use Rattle.mt_rows.specs.Sheet.{OnlyReads};
 ghost use Rattle.mt_engine.specs.Engine.{IsIdle};
 ghost use Rattle.mt_engine.specs.Heights.{HasHeight};
 ghost use Rattle.mt_rule.specs.Tokens.{identity_of, pass_in, IsPassOf};
@@ -43,8 +43,8 @@ impl Tree {
         requires { first_bad shape ≡ None }
         ensures { IfOk result (λ r. IsNew shape [] r.0 r.1.items) }
     {
-        let book = RowBook::new(alloc, shape.rows)?;
         let rows = PlainRows::new(alloc, shape.rows)?;
+        let book = RowBook::new(alloc, shape.rows)?;
         Tree::open(alloc, shape, rows, book)
     }
 
@@ -62,31 +62,31 @@ impl Tree {
         requires few { (sheet_in rows).opened ≤ length (map_by (sheet_in rows).tree) / 2 + 2 }
         ensures { IfOk result (λ r. IsNew shape (map_by (sheet_in rows).tree) r.0 r.1.items) }
     {
-        let mut rows = rows;
+        let (height, rows, book) = measured(rows, book, shape.kind);
         let (table, pen, passes) = MtTable::make(
             alloc,
             shape.kind,
-            &mut rows,
+            rows,
             shape.passes,
             shape.calls,
         )?;
-        let (height, book) = measured(rows, book, shape.kind);
         let tools = Some(Tools { pen, book, height });
         let (turn, passes) = serve(alloc, &table, Desk { tools }, passes)?;
         Ok((Tree { table, turn, shape }, passes))
     }
 }
 
-/// How many levels the tree of these rows has. The rows are given back to memory.
-fn measured(rows: PlainRows, book: RowBook, kind: Kind) -> (u64, RowBook)
+/// How many levels the tree of these rows has. The rows and their book are as they were.
+fn measured(rows: PlainRows, book: RowBook, kind: Kind) -> (u64, PlainRows, RowBook)
     requires { IsIdle kind (sheet_in rows) book }
     ensures height { HasHeight (sheet_in rows).tree result.0 }
-    ensures book { result.1 ≡ book }
+    ensures rows { OnlyReads (sheet_in rows) (sheet_in result.1) }
+    ensures book { result.2 ≡ book }
 {
     let engine = Engine::new(rows, book, kind);
     let height = engine.height();
-    let (_, book) = engine.parts();
-    (height, book)
+    let (rows, book) = engine.parts();
+    (height, rows, book)
 }
 
 /// The turn of a table's writers, at which each pass has a seat.

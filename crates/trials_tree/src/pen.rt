@@ -26,8 +26,8 @@ fn table_of(alloc: Global, passes: u32) -> Result<(MtTable, Pen, Vec<Pass>), NoM
     ensures pen { IfOk result (λ r. IsPenOf (identity_of r.0) r.1 × IsAlone r.1 × (pen_in r.1 ≡ record (new_pen (identity_of r.0).shape (new_sheet 3).tree) { dealt = passes })) }
     ensures of { IfOk result (λ r. All (IsPassOf (identity_of r.0)) r.2.items) }
 {
-    let mut rows = PlainRows::new(alloc, 3)?;
-    MtTable::make(alloc, Kind::Range, &mut rows, passes, 8)
+    let rows = PlainRows::new(alloc, 3)?;
+    MtTable::make(alloc, Kind::Range, rows, passes, 8)
 }
 
 /// The last pass that is left.

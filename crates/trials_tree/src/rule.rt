@@ -94,8 +94,8 @@ fn opened(alloc: Global, calls: u64) -> Result<(Shared, Vec<Pass>), Fail>
     ensures of { IfOk result (λ r. All (IsPassOf (identity_of r.0.table)) r.1.items) }
     ensures seated { IfOk result (λ r. All (IsSeatedAt r.0.turn.table.shared.table_id r.0.turn.table.shared.key) r.1.items) }
 {
-    let mut rows = PlainRows::new(alloc, 4)?;
-    let (table, pen, mut passes) = MtTable::make(alloc, Kind::Range, &mut rows, 2, calls)?;
+    let rows = PlainRows::new(alloc, 4)?;
+    let (table, pen, mut passes) = MtTable::make(alloc, Kind::Range, rows, 2, calls)?;
     let turn = Turn::make(alloc, &table, Desk { pen }, passes.as_mut_slice())?;
     Ok((Shared { table, turn, calls }, passes))
 }

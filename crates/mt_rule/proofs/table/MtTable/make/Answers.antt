@@ -14,7 +14,7 @@ loop-number-preserved c =
       refl,
       dealt.of,
       dealt.alone,
-      pen_dealt (new_pen (identity_of c.in_ok-table.table).shape (sheet_in c.args.rows.now).tree) (pen_in c.loop-number.pen) _ _ _ inv.3 dealt.pen,
+      pen_dealt (new_pen (identity_of c.in_ok-table.table).shape (sheet_in c.args.rows).tree) (pen_in c.loop-number.pen) _ _ _ inv.3 dealt.pen,
       search rules,
       search rules,
       all_dealt (IsPassOf (identity_of c.in_ok-table.table)) _ _ _ items inv.6 dealt.pass,
