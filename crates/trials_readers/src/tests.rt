@@ -1,0 +1,76 @@
+//! Tests on named calls, one thread each.
+
+mod held;
+mod walks;
+mod worn;
+
+ghost use Rattle.std.specs.Prelude.{◌≡◌, All, IfOk};
+ghost use Rattle.mt_tree.specs.Trees.{IsPassOf};
+
+use mt_base::{Kind, Reply};
+use mt_tree::{Done, Pass, Shape, Tree};
+use std::alloc::Global;
+use std::process::Abort;
+use std::sync::Wait;
+use std::test::Fail;
+
+/// A tree of this kind, and its passes.
+fn made(
+    alloc: Global,
+    kind: Kind,
+    rows: u64,
+    passes: u32,
+    calls: u64,
+) -> Result<(Tree, Vec<Pass>), Fail>
+    ensures { IfOk result (λ r. All (IsPassOf r.0) r.1.items) }
+{
+    let shape = Shape {
+        kind,
+        rows,
+        passes,
+        calls,
+    };
+    match Tree::make(alloc, shape) {
+        Ok(made) => Ok(made),
+        Err(_) => Err("no tree was made".into()),
+    }
+}
+
+/// The last pass that is left: that of the greatest number.
+fn last_pass(tree: &Tree, passes: &mut Vec<Pass>) -> Result<Pass, Fail>
+    requires { All (IsPassOf tree.now) passes.old.items }
+    ensures rest { All (IsPassOf tree.now) passes.new.items }
+    ensures pass { IfOk result (IsPassOf tree.now) }
+{
+    match passes.pop() {
+        Some(pass) => Ok(pass),
+        None => Err("a pass is missing".into()),
+    }
+}
+
+/// A store over a range, which is done as the call of this number.
+fn store_range<R: Wait + Abort>(
+    rt: &R,
+    tree: &Tree,
+    pass: &mut Pass,
+    first: u64,
+    last: u64,
+    entry: u64,
+    call: u64,
+)
+    requires { IsPassOf tree.now pass.old }
+    ensures { IsPassOf tree.now pass.new }
+{
+    let done = tree.store_range(rt, pass, first, last, entry);
+    let reply = Reply::Ok;
+    assert_eq!(rt; done, Ok(Done { call, reply }));
+}
+
+/// A store of an entry at one index, which is answered so as the call of this number.
+fn store<R: Wait + Abort>(rt: &R, tree: &Tree, pass: &mut Pass, index: u64, call: u64, reply: Reply)
+    requires { IsPassOf tree.now pass.old }
+    ensures { IsPassOf tree.now pass.new }
+{
+    let done = tree.store_range(rt, pass, index, index, 9);
+    assert_eq!(rt; done, Ok(Done { call, reply }), "the store at {index}");
+}
