@@ -23,6 +23,17 @@ fn held_by(pass: u32, epoch: u64) -> Shortage {
     }
 }
 
+/// Whether the tree is ready for a store that wants rows.
+fn prepared(rt: &impl Wait, tree: &Tree, pass: &mut Pass) -> Result<(), Shortage>
+    requires { IsPassOf tree.now pass.old }
+    ensures { IsPassOf tree.now pass.new }
+{
+    let mut write = tree.lock(rt, pass);
+    let ready = write.preallocate();
+    write.unlock();
+    ready
+}
+
 /// A tree of eight rows is filled beside a cursor of pass 1 that has stepped once, until a store lacks rows.
 fn fill<R: Wait + Abort>(rt: &R, tree: &Tree, writer: &mut Pass)
     requires { IsPassOf tree.now writer.old }
@@ -55,6 +66,66 @@ fn close_the_cursor<R: Wait + Abort, L: Ledger>(
     fill(rt, tree, writer);
     cursor.close(&mut steps);
     store(rt, tree, writer, 60, 7, Reply::Ok);
+}
+
+/// The first step of a walk, whose cursor is dropped and not closed.
+fn step_once<L: Ledger>(tree: &Tree, pass: &mut Pass, steps: &mut Steps<L>)
+    requires { IsPassOf tree.now pass.old }
+    ensures { IsPassOf tree.now pass.new }
+{
+    let mut cursor = tree.cursor(pass, 0, u64::MAX);
+    let _ = cursor.step(steps);
+}
+
+/// A cursor that is not closed holds the rows until its pass reads again.
+fn drop_the_cursor<R: Wait + Abort, L: Ledger>(
+    rt: &R,
+    blank: Blank,
+    tree: &Tree,
+    writer: &mut Pass,
+    reader: &mut Pass,
+)
+    requires name { blank.name ≡ L.name }
+    requires parts { blank.parts ≡ L.parts }
+    requires some { 0 < blank.parts }
+    requires passes { IsPassOf tree.now writer.old × IsPassOf tree.now reader.old }
+{
+    let mut steps = Steps::<L>::new(blank);
+    store_range(rt, tree, writer, 10, 10, 5, 1);
+    step_once(tree, reader, &mut steps);
+    fill(rt, tree, writer);
+    let _ = tree.load(reader, 10, &mut steps);
+    store(rt, tree, writer, 60, 7, Reply::Ok);
+}
+
+/// While a cursor holds the rows, an entry is changed in its place, and the tree is not ready for more: the first of the two comes
+/// first or second.
+fn keep_the_cursor<R: Wait + Abort, L: Ledger>(
+    rt: &R,
+    blank: Blank,
+    tree: &Tree,
+    writer: &mut Pass,
+    reader: &mut Pass,
+    store_first: bool,
+)
+    requires name { blank.name ≡ L.name }
+    requires parts { blank.parts ≡ L.parts }
+    requires some { 0 < blank.parts }
+    requires passes { IsPassOf tree.now writer.old × IsPassOf tree.now reader.old }
+{
+    let mut steps = Steps::<L>::new(blank);
+    store_range(rt, tree, writer, 10, 10, 5, 1);
+    let mut cursor = tree.cursor(reader, 0, u64::MAX);
+    let _ = cursor.step(&mut steps);
+    fill(rt, tree, writer);
+    if store_first {
+        store_range(rt, tree, writer, 10, 10, 7, 7);
+    }
+    assert_eq!(rt; prepared(rt, tree, writer), Err(held_by(1, 1)));
+    if !store_first {
+        store_range(rt, tree, writer, 10, 10, 7, 7);
+    }
+    cursor.close(&mut steps);
 }
 
 /// Two cursors, of which the older one holds the rows, and then the younger.
@@ -94,6 +165,33 @@ fn rows_are_free_when_the_cursor_is_closed(rt: HostRuntime) -> Result<(), Fail> 
     let mut reader = last_pass(&tree, &mut passes)?;
     let mut writer = last_pass(&tree, &mut passes)?;
     close_the_cursor::<HostRuntime, Brand>(&rt, Blank::new(1), &tree, &mut writer, &mut reader);
+    Ok(())
+}
+
+#[test]
+fn rows_are_free_when_the_pass_of_an_open_section_reads(rt: HostRuntime) -> Result<(), Fail> {
+    let (tree, mut passes) = made(rt.alloc(), Kind::Range, 8, 2, 9)?;
+    let mut reader = last_pass(&tree, &mut passes)?;
+    let mut writer = last_pass(&tree, &mut passes)?;
+    drop_the_cursor::<HostRuntime, Brand>(&rt, Blank::new(1), &tree, &mut writer, &mut reader);
+    Ok(())
+}
+
+#[test]
+fn an_entry_is_changed_while_no_row_is_free(rt: HostRuntime) -> Result<(), Fail> {
+    for store_first in [true, false] {
+        let (tree, mut passes) = made(rt.alloc(), Kind::Range, 8, 2, 9)?;
+        let mut reader = last_pass(&tree, &mut passes)?;
+        let mut writer = last_pass(&tree, &mut passes)?;
+        keep_the_cursor::<HostRuntime, Brand>(
+            &rt,
+            Blank::new(1),
+            &tree,
+            &mut writer,
+            &mut reader,
+            store_first,
+        );
+    }
     Ok(())
 }
 
