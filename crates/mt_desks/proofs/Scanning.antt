@@ -1,5 +1,5 @@
 -- A scan goes on read after read.
-use Rattle.std.proofs.Common.{◌≡◌, ℕ, zero, suc, List, [], ◌∷◌, ◌++◌, Option, Some, None, map, refl, sym, ap, ◌∙◌, subst, append_assoc}
+use Rattle.std.proofs.Common.{◌≡◌, ℕ, zero, suc, true, false, List, [], ◌∷◌, ◌++◌, Option, Some, None, map, refl, sym, ap, ◌∙◌, subst, append_assoc, arith}
 use Rattle.std.proofs.lemmas.Bool.{eq-eqb}
 use Rattle.std.proofs.lemmas.List.{append-nil, map-append}
 use Rattle.std.proofs.lemmas.List.Elements.{filter_map-append}
@@ -8,9 +8,10 @@ use Rattle.mt_base.specs.History.{History}
 use Rattle.mt_base.specs.Passes.{Pass}
 use Rattle.mt_log.specs.declared.transcripts.Entry.{Entry}
 use Rattle.mt_log.specs.Run.{Asked, Step, Outcome, Looked, IsScan, entry_of, step_of, find_at, place_behind}
-use Rattle.mt_runs.specs.Leads.{Does, Leads, by_lane_on, outcomes_of}
-use Rattle.mt_runs.proofs.Leading.{learns_none, leads_one, leads_on}
-use Rattle.mt_desks.specs.Scans.{IsLooked, IsScanned, ScansSoFar}
+use Rattle.mt_runs.specs.Leads.{Does, Leads, Learns, by_lane_on, outcomes_of}
+use Rattle.mt_runs.proofs.Leading.{learns_none, leads_last, leads_one, leads_on, stands_otherwise}
+use Rattle.mt_desks.specs.Scans.{IsLooked, IsScanned, KeepsOne, ScansSoFar}
+use Rattle.mt_desks.specs.Walks.{Walk, place_after}
 
 -- one step of a line, on its tree
 pub step_leads : (tree : History) (number : ℕ) (a : Asked) (p q : Pass) (o : Outcome) → Does tree p o q → Leads tree p (outcomes_of number a.lane (step_of a number o ∷ [])) q
@@ -56,4 +57,48 @@ scan_ends a number max count at here tree p q room room' f = record {
   scan = subst (λ (z : List Step). IsScan a number max count at z) (append-nil f.steps) (f.goes [] refl);
   leads = f.leads;
   told = f.told;
+}
+
+-- ---- a scan by a walk
+
+-- the same walk, but for its pass, its section and its place
+abbrev pub IsSameWalk : Walk → Walk → Type 0
+IsSameWalk w w' = w' ≡ record w { pass = w'.pass; stands = w'.stands; at = w'.at }
+
+-- a walk that has made a step
+abbrev pub HasGoneOn : Walk → Option Range → Walk → Type 0
+HasGoneOn w value w' = w' ≡ record w { pass = w'.pass; stands = true; at = place_after w.max value }
+
+pub walk_starts : (w : Walk) → KeepsOne w.pass w
+walk_starts w = record { once = record { epochs = []; opened = sym (append-nil w.pass.opened); once = omega arith }; none = λ shut. refl }
+
+pub same_walk : (w here next : Walk) (value : Option Range) → IsSameWalk w here → HasGoneOn here value next → IsSameWalk w next
+same_walk w here next value one two =
+    let history : next.history ≡ w.history = ap (λ (z : Walk). z.history) two ∙ ap (λ (z : Walk). z.history) one in
+    let reference : next.reference ≡ w.reference = ap (λ (z : Walk). z.reference) two ∙ ap (λ (z : Walk). z.reference) one in
+    let max : next.max ≡ w.max = ap (λ (z : Walk). z.max) two ∙ ap (λ (z : Walk). z.max) one in
+    λ i. record { history = history i; reference = reference i; pass = next.pass; stands = next.stands; at = next.at; max = max i }
+
+looked_there : (line : ℕ) (w here : Walk) (value : Option Range) (q : Pass) (room room' : List Entry) → IsSameWalk w here → IsLooked line here.history (find_at here.at here.max) value here.pass q room room' → IsLooked line w.history (find_at here.at w.max) value here.pass q room room'
+looked_there line w here value q room room' same looked = subst (λ (z : Walk). IsLooked line z.history (find_at here.at z.max) value here.pass q room room') same looked
+
+pub walk_scans_on : (a : Asked) (number count left : ℕ) (w here next : Walk) (room room' room'' : List Entry) (x : Range) → IsSameWalk w here → HasGoneOn here (Some x) next → ScansSoFar a number w.max count w.at (suc left) here.at w.history w.pass here.pass room room'
+    → IsLooked a.line here.history (find_at here.at here.max) (Some x) here.pass next.pass room' room'' → ScansSoFar a number w.max count w.at left next.at w.history w.pass next.pass room room''
+walk_scans_on a number count left w here next room room' room'' x same gone so_far looked =
+    let at : next.at ≡ place_behind w.max x = ap (λ (z : Walk). z.at) gone ∙ ap (λ (z : Walk). place_behind z.max x) same in
+    subst (λ (z : Option ℕ). ScansSoFar a number w.max count w.at left z w.history w.pass next.pass room room'') (sym at)
+    (scan_goes_on a number w.max count w.at left here.at w.history w.pass here.pass next.pass room room' room'' x so_far (looked_there a.line w here (Some x) next.pass room' room'' same looked))
+
+pub walk_finds_none : (a : Asked) (number count left : ℕ) (w here next : Walk) (room room' room'' : List Entry) → IsSameWalk w here → ScansSoFar a number w.max count w.at (suc left) here.at w.history w.pass here.pass room room'
+    → IsLooked a.line here.history (find_at here.at here.max) None here.pass next.pass room' room'' → IsScanned a number w.max count w.at w.history w.pass next.pass room room''
+walk_finds_none a number count left w here next room room' room'' same so_far looked =
+    scan_finds_none a number w.max count w.at left here.at w.history w.pass here.pass next.pass room room' room'' so_far (looked_there a.line w here None next.pass room' room'' same looked)
+
+pub scan_closes : (a : Asked) (number count : ℕ) (w here next : Walk) (room room' : List Entry) → next ≡ record here { pass = record here.pass { standing = None }; stands = false }
+    → IsScanned a number w.max count w.at w.history w.pass here.pass room room' → IsScanned a number w.max count w.at w.history w.pass next.pass room room'
+scan_closes a number count w here next room room' closed s = record {
+  steps = s.steps;
+  scan = s.scan;
+  leads = leads_last w.history w.pass (outcomes_of number a.lane s.steps) here.pass next.pass s.leads (subst (λ (z : Walk). Learns here.pass z.pass) (sym closed) (stands_otherwise here.pass None));
+  told = s.told;
 }

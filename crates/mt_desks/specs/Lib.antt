@@ -4,3 +4,4 @@ pub mod Passing
 pub mod Phases
 pub mod Scans
 pub mod Turns
+pub mod Walks

@@ -1,6 +1,6 @@
 -- What a read and a scan of a lane come to, and how far a scan has come.
 -- Source: this project's own, the language of logs.
-use Rattle.std.specs.Prelude.{◌≡◌, ℕ, List, [], ◌∷◌, ◌++◌, Option, map}
+use Rattle.std.specs.Prelude.{◌≡◌, ℕ, false, List, [], ◌∷◌, ◌++◌, Option, map}
 use Rattle.mt_base.specs.declared.ranges.Range.{Range}
 use Rattle.mt_base.specs.declared.calls.Query.{Query}
 use Rattle.mt_base.specs.History.{History}
@@ -9,6 +9,7 @@ use Rattle.mt_log.specs.Run.{Asked, Step, IsScan, entry_of, shown}
 use Rattle.mt_log.specs.declared.transcripts.Entry.{Entry}
 use Rattle.mt_log.specs.declared.transcripts.Said.TheVariants as said
 use Rattle.mt_runs.specs.Leads.{Leads, outcomes_of}
+use Rattle.mt_desks.specs.Walks.{Walk, OpensOnce}
 
 -- one read, told behind what the room held
 pub record IsLooked (line : ℕ) (tree : History) (query : Query) (value : Option Range) (p q : Pass) (room room' : List Entry) : Type 0 where
@@ -31,3 +32,8 @@ pub record ScansSoFar (a : Asked) (number max count : ℕ) (at : Option ℕ) (le
   pub goes : (rest : List Step) → IsScan a number max left here rest → IsScan a number max count at (steps ++ rest)
   pub leads : Leads tree p (outcomes_of number a.lane steps) q
   pub told : room' ≡ room ++ map entry_of steps
+
+-- the walk of a scan since its pass was this one: it has opened its section once at the most, and not where it is closed
+pub record KeepsOne (p : Pass) (w : Walk) : Type 0 where
+  pub once : OpensOnce p w.pass
+  pub none : w.stands ≡ false → w.pass.opened ≡ p.opened

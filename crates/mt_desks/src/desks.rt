@@ -7,7 +7,7 @@ ghost use Rattle.mt_desks.specs.Dealing.{asked_of, is_step, room_for, tree_of};
 ghost use Rattle.mt_desks.specs.Desks.{IsDoneOn, IsLineDone, IsManned};
 
 use crate::dealing::{room_of, tree_of};
-use crate::scans::{look, scan};
+use crate::scans::look;
 use crate::shared::{Passage, Shared};
 use mt_base::{Call, NoMemory};
 use mt_lanes::Desk;
@@ -70,7 +70,7 @@ fn answer_on<R: Wait, P: Passage, T: Shared<P>>(
             max,
             count,
             ..
-        } => scan(rt, tree, pass, line.number, index, max, count, room),
+        } => tree.scan(pass, line.number, index, max, count, room),
         Item::Tree { .. }
         | Item::Lane { .. }
         | Item::Join

@@ -11,10 +11,12 @@ mod phases;
 mod scans;
 mod shared;
 mod turns;
+mod walks;
 
 pub use dealing::{lane_after, lanes_in, lines_of_lane};
 pub use desks::LaneDesk;
 pub use phases::run_phase;
-pub use scans::{find_at, place_behind, place_within};
+pub use scans::scan;
 pub use shared::{Done, Looked, Passage, Shared, Worn};
 pub use turns::put_back;
+pub use walks::Walks;

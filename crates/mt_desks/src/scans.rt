@@ -1,42 +1,17 @@
-//! A read of a lane, and a scan, which is a loop of finds.
+//! A read of a lane, and a scan, which is one walk.
 
-ghost use Rattle.std.specs.Prelude.{◌≡◌, ℕ, ◌+◌, ◌<◌, ◌≤◌, None, vec_len, vec_capacity};
-ghost use Rattle.mt_log.specs.declared.lines.Item.TheVariants.{Scan};
-ghost use Rattle.mt_log.specs.Run.{find_at, place_within, place_behind, shown, shown_range};
-ghost use Rattle.mt_desks.specs.Scans.{IsLooked, IsScanned};
+ghost use Rattle.std.specs.Prelude.{◌≡◌, ℕ, ◌+◌, ◌<◌, ◌≤◌, None, Option, false, true, vec_len, vec_capacity};
+ghost use Rattle.mt_base.specs.Passes.{Pass};
+ghost use Rattle.mt_log.specs.declared.lines.Item.{Item};
+ghost use Rattle.mt_log.specs.Run.{find_at, shown, shown_range};
+ghost use Rattle.mt_desks.specs.Scans.{IsLooked, IsScanned, KeepsOne};
+ghost use Rattle.mt_desks.specs.Walks.{OpensOnce, place_after};
 
 use crate::shared::{Passage, Shared};
+use crate::walks::Walks;
 use mt_base::{Query, Range};
 use mt_log::{Answer, Entry, Said};
 use std::sync::Wait;
-
-/// Where a scan begins, if anywhere.
-pub fn place_within(index: u64, max: u64) -> Option<u64>
-    ensures { result ≡ place_within index max }
-{
-    if index <= max { Some(index) } else { None }
-}
-
-/// Where a scan goes on behind a range, if anywhere.
-pub fn place_behind(max: u64, range: &Range) -> Option<u64>
-    ensures { result ≡ place_behind max range.now }
-{
-    if range.last < max {
-        Some(range.last + 1)
-    } else {
-        None
-    }
-}
-
-/// The find of a scan from this place on: one that finds nothing, where it goes on nowhere.
-pub fn find_at(at: Option<u64>, max: u64) -> Query
-    ensures { result ≡ find_at at max }
-{
-    match at {
-        Some(index) => Query::Find { index, max },
-        None => Query::Find { index: 1, max: 0 },
-    }
-}
 
 /// What a query is told of a range: a load is told its entry alone.
 fn told_of(query: &Query, range: Range) -> Answer
@@ -60,7 +35,17 @@ fn shown(query: &Query, value: Option<Range>) -> Answer
     }
 }
 
-/// Asks one query, tells its answer in the room, and gives it.
+/// What a find of a scan is told, wherever it looks from.
+fn found(value: Option<Range>) -> Answer
+    ensures { (at : Option ℕ) (max : ℕ) → result ≡ shown (find_at at max) value }
+{
+    match value {
+        Some(range) => Answer::Range(range),
+        None => Answer::None,
+    }
+}
+
+/// Asks one query, and tells its answer in the room.
 pub(crate) fn look<R: Wait, P: Passage, T: Shared<P>>(
     rt: &R,
     tree: &T,
@@ -88,32 +73,55 @@ pub(crate) fn look<R: Wait, P: Passage, T: Shared<P>>(
     read.value
 }
 
-/// Asks the finds of a scan, each behind the range of the one before: so many at the most, and none behind the first
-/// that finds nothing.
-pub(crate) fn scan<R: Wait, P: Passage, T: Shared<P>>(
-    rt: &R,
-    tree: &T,
-    pass: &mut P,
-    line: u64,
-    index: u64,
-    max: u64,
-    count: u32,
-    room: &mut Vec<Entry>,
-)
-    requires of { T.serves tree.now pass.old }
-    requires closed { (P.knows pass.old).standing ≡ None }
+/// Makes one step of a walk, tells its answer in the room, and gives it.
+fn look_on<T, W: Walks<T>>(walk: &mut W, line: u64, room: &mut Vec<Entry>) -> Option<Range>
+    requires room { vec_len room.old < vec_capacity room.old }
+    ensures on { (tree : T) → W.on walk.old tree → W.on walk.new tree }
+    ensures is { W.walk walk.new ≡ record (W.walk walk.old) { pass = (W.walk walk.new).pass; stands = true; at = place_after (W.walk walk.old).max result } }
+    ensures looked { IsLooked line (W.walk walk.old).history (find_at (W.walk walk.old).at (W.walk walk.old).max) result (W.walk walk.old).pass (W.walk walk.new).pass room.old.items room.new.items }
+    ensures once { (p : Pass) → KeepsOne p (W.walk walk.old) → KeepsOne p (W.walk walk.new) }
+    ensures len { vec_len room.new ≡ vec_len room.old + 1 }
+    ensures capacity { vec_capacity room.new ≡ vec_capacity room.old }
+{
+    let read = walk.step();
+    let said = Said::Got {
+        lo: read.lo,
+        hi: read.hi,
+        value: found(read.value),
+    };
+    room.push_reserved(Entry { line, said });
+    read.value
+}
+
+/// Makes so many steps of a walk at the most, and none behind the first that finds nothing.
+fn read_on<T, W: Walks<T>>(walk: &mut W, line: u64, count: u32, room: &mut Vec<Entry>)
     requires room { vec_len room.old + count ≤ vec_capacity room.old }
-    ensures of { T.serves tree.now pass.new }
-    ensures closed { (P.knows pass.new).standing ≡ None }
-    ensures scanned { (lane phase number : ℕ) → IsScanned (record { line = line; lane = lane; phase = phase; item = Scan number index max count }) number max count (place_within index max) (T.tree tree.now).history (P.knows pass.old) (P.knows pass.new) room.old.items room.new.items }
+    ensures on { (tree : T) → W.on walk.old tree → W.on walk.new tree }
+    ensures is { W.walk walk.new ≡ record (W.walk walk.old) { pass = (W.walk walk.new).pass; stands = (W.walk walk.new).stands; at = (W.walk walk.new).at } }
+    ensures scanned { (lane phase number : ℕ) (item : Item) → IsScanned (record { line = line; lane = lane; phase = phase; item = item }) number (W.walk walk.old).max count (W.walk walk.old).at (W.walk walk.old).history (W.walk walk.old).pass (W.walk walk.new).pass room.old.items room.new.items }
+    ensures once { OpensOnce (W.walk walk.old).pass (W.walk walk.new).pass }
     ensures len { vec_len room.new ≤ vec_len room.old + count }
     ensures capacity { vec_capacity room.new ≡ vec_capacity room.old }
 {
-    let mut at = place_within(index, max);
     for _read in 0..count {
-        match look(rt, tree, pass, line, &find_at(at, max), room) {
-            Some(range) => at = place_behind(max, &range),
+        match look_on(walk, line, room) {
+            Some(_range) => {}
             None => return,
         }
     }
+}
+
+/// Makes a scan by a walk, so many steps at the most, tells them behind what the room holds, and closes the walk's section.
+pub fn scan<T, W: Walks<T>>(walk: &mut W, line: u64, count: u32, room: &mut Vec<Entry>)
+    requires room { vec_len room.old + count ≤ vec_capacity room.old }
+    ensures on { (tree : T) → W.on walk.old tree → W.on walk.new tree }
+    ensures is { W.walk walk.new ≡ record (W.walk walk.old) { pass = (W.walk walk.new).pass; stands = false; at = (W.walk walk.new).at } }
+    ensures closed { (W.walk walk.new).pass.standing ≡ None }
+    ensures scanned { (lane phase number : ℕ) (item : Item) → IsScanned (record { line = line; lane = lane; phase = phase; item = item }) number (W.walk walk.old).max count (W.walk walk.old).at (W.walk walk.old).history (W.walk walk.old).pass (W.walk walk.new).pass room.old.items room.new.items }
+    ensures once { OpensOnce (W.walk walk.old).pass (W.walk walk.new).pass }
+    ensures len { vec_len room.new ≤ vec_len room.old + count }
+    ensures capacity { vec_capacity room.new ≡ vec_capacity room.old }
+{
+    read_on(walk, line, count, room);
+    walk.close();
 }

@@ -1,10 +1,15 @@
 //! What a lane does on a tree that several share.
 
-ghost use Rattle.std.specs.Prelude.{◌≡◌, ℕ, None, length, IfOk, IfErr};
+ghost use Rattle.std.specs.Prelude.{◌≡◌, ◌+◌, ◌≤◌, ℕ, None, length, vec_len, vec_capacity, IfOk, IfErr};
 ghost use Rattle.mt_base.specs.Passes.{Pass, Wrote, Read, Saw};
+ghost use Rattle.mt_log.specs.declared.lines.Item.TheVariants.{Scan};
+ghost use Rattle.mt_log.specs.Run.{place_within};
 ghost use Rattle.mt_desks.specs.Desks.{SharedTree};
+ghost use Rattle.mt_desks.specs.Scans.{IsScanned};
+ghost use Rattle.mt_desks.specs.Walks.{OpensOnce};
 
 use mt_base::{Call, Query, Range, Reply};
+use mt_log::Entry;
 use std::sync::Wait;
 
 /// A call that was made: its number in the tree's history, and its reply.
@@ -68,4 +73,18 @@ pub trait Shared<P: Passage> {
         ensures of { serves self.now pass.new }
         ensures closed { (P.knows pass.new).standing ≡ None }
         ensures read { (k : ℕ) × Read (tree self.now).history (P.knows pass.old) result.lo result.hi k query.now result.value (P.knows pass.new) };
+
+    /// Makes a scan from an index up to a bound: its finds, each behind the range of the one before, so many at the most, and none
+    /// behind the first that finds nothing. Each is told behind what the room holds. They are all made in one section, which is
+    /// then closed.
+    fn scan(&self, pass: &mut P, line: u64, index: u64, max: u64, count: u32, room: &mut Vec<Entry>)
+        requires of { serves self.now pass.old }
+        requires closed { (P.knows pass.old).standing ≡ None }
+        requires room { vec_len room.old + count ≤ vec_capacity room.old }
+        ensures of { serves self.now pass.new }
+        ensures closed { (P.knows pass.new).standing ≡ None }
+        ensures scanned { (lane phase number : ℕ) → IsScanned (record { line = line; lane = lane; phase = phase; item = Scan number index max count }) number max count (place_within index max) (tree self.now).history (P.knows pass.old) (P.knows pass.new) room.old.items room.new.items }
+        ensures once { OpensOnce (P.knows pass.old) (P.knows pass.new) }
+        ensures len { vec_len room.new ≤ vec_len room.old + count }
+        ensures capacity { vec_capacity room.new ≡ vec_capacity room.old };
 }

@@ -4,3 +4,4 @@ pub mod Ending
 pub mod Headline
 pub mod Input
 pub mod Lines
+pub mod Walks

@@ -9,8 +9,10 @@ ghost use Rattle.mt_rule.specs.Tokens.{pass_in};
 ghost use Rattle.mtreplay.specs.Lines.{IsForNeighbour};
 ghost use Rattle.mt_tree.specs.Trees.{IsPassOf, limit_of, opened, passes_of};
 
+use crate::walks::scan_by;
 use mt_base::{Call, Kind, NoMemory, Query, Range, Steps};
 use mt_desks::{Done, Looked, Shared, Worn};
+use mt_log::Entry;
 use mt_play::Plays;
 use mt_tree::{DupError, MOST_CALLS, MakeError, Moved, Pass, Read, Shape, Tree};
 use std::alloc::Global;
@@ -21,7 +23,7 @@ use std::sync::ledger::{Blank, Ledger};
 /// A tree that the lanes share. It takes as many calls as a tree may.
 #[derive(Drop)]
 pub struct LaneTree {
-    tree: Tree,
+    pub(crate) tree: Tree,
     ghost calls: { limit_of tree ≡ calls_taken },
 }
 
@@ -161,6 +163,19 @@ impl Shared<Pass> for LaneTree {
             hi: read.hi,
             value: read.value,
         }
+    }
+
+    fn scan(
+        &self,
+        pass: &mut Pass,
+        line: u64,
+        index: u64,
+        max: u64,
+        count: u32,
+        room: &mut Vec<Entry>,
+    ) {
+        let mut cursor = self.tree.cursor(pass, index, max);
+        scan_by(self, &mut cursor, line, count, room);
     }
 }
 

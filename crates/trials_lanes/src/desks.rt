@@ -5,6 +5,7 @@ ghost use Rattle.mt_desks.specs.Dealing.{is_step};
 ghost use Rattle.mt_desks.specs.Desks.{AreLines};
 ghost use Rattle.mt_desks.specs.Phases.{IsLaid};
 
+use crate::empty::scan_empty;
 use crate::tokens::Token;
 use mt_base::{Call, NoMemory, Query};
 use mt_desks::{
@@ -37,6 +38,18 @@ impl Shared<Token> for Bare {
             hi: 0,
             value: None,
         }
+    }
+
+    fn scan(
+        &self,
+        _pass: &mut Token,
+        line: u64,
+        _index: u64,
+        _max: u64,
+        count: u32,
+        room: &mut Vec<Entry>,
+    ) {
+        scan_empty(line, count, room);
     }
 }
 

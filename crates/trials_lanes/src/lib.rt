@@ -4,6 +4,8 @@
 #[cfg(test)]
 mod desks;
 #[cfg(test)]
+mod empty;
+#[cfg(test)]
 mod lanes;
 #[cfg(test)]
 mod phases;

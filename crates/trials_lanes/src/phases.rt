@@ -3,6 +3,7 @@ ghost use Rattle.std.specs.List.{range_with_len};
 ghost use Rattle.mt_runs.specs.Phases.{new_history};
 ghost use Rattle.mt_play.specs.Trees.{calls_taken};
 
+use crate::empty::scan_empty;
 use crate::tokens::Token;
 use mt_base::{Call, Kind, NoMemory, Query, Range};
 use mt_desks::{Done, Looked, Shared, Worn};
@@ -37,6 +38,18 @@ impl Shared<Token> for Bare {
             hi: 0,
             value: None,
         }
+    }
+
+    fn scan(
+        &self,
+        _pass: &mut Token,
+        line: u64,
+        _index: u64,
+        _max: u64,
+        count: u32,
+        room: &mut Vec<Entry>,
+    ) {
+        scan_empty(line, count, room);
     }
 }
 
