@@ -1,0 +1,150 @@
+-- What a call of a pass adds to the count of its calls.
+use Rattle.std.specs.Prelude.{All, IfErr, IfOk, IfSome, IsTrue, MatchOption, Option, Some, None, Result, Ok, Err, is_some, map}
+use Rattle.std.specs.List.{AllByRecursion}
+use Rattle.std.proofs.lemmas.List.Elements.{All-from_recursion}
+use Rattle.std.proofs.lemmas.Option.{none-some, same_Some}
+use Rattle.std.proofs.Common.{◌≡◌, ℕ, ◌+◌, ◌==◌, ◌≤◌, Bool, true, List, [], ◌∷◌, ◌++◌, length, length-append, if◌then◌else◌, eq-eqb, refl, sym, ap, ◌∙◌, subst, arith}
+use Rattle.mt_base.specs.declared.calls.Call.{Call}
+use Rattle.mt_base.specs.declared.calls.Call.TheVariants.{Alloc, Erase}
+use Rattle.mt_base.specs.declared.replies.Reply.{Reply}
+use Rattle.mt_base.specs.declared.replies.Reply.TheVariants as replies
+use Rattle.mt_base.specs.History.{Record, History}
+use Rattle.mt_base.specs.Passes.{Pass, Saw, Wrote, new_pass, places, places_from}
+use Rattle.mt_tree.specs.declared.shapes.Done.{Done}
+use Rattle.mt_tree.specs.declared.shapes.Worn.{Worn}
+use Rattle.mt_tree.specs.declared.trees.Tree.{Tree}
+use Rattle.mt_tree.specs.Trees.{limit_of, opened, IsWorn}
+use Rattle.mt_numbers.specs.Calls.{count_of, gave_one, given_back_by, removed, start_of, started, taken_by, took_one, was_there, JustGave, JustTook, KnowsItsOwn, WasLast}
+
+abbrev any : Record → Bool
+any _ = true
+
+count_append : (test : Record → Bool) (pass : ℕ) (xs ys : List Record) → count_of test pass (xs ++ ys) ≡ count_of test pass xs + count_of test pass ys
+count_append test pass [] ys = omega arith
+count_append test pass (x ∷ xs) ys = let more = count_append test pass xs ys in omega arith
+
+at_most_all : (test : Record → Bool) (pass : ℕ) (xs : List Record) → count_of test pass xs ≤ count_of any pass xs
+at_most_all test pass [] = omega arith
+at_most_all test pass (x ∷ xs) = let more = at_most_all test pass xs in grind arith
+
+as_places : (n pass : ℕ) (xs : List Record) → length (places_from n pass xs) ≡ count_of any pass xs
+as_places n pass [] = refl
+as_places n pass (x ∷ xs) = let more = as_places (n + 1) pass xs in grind arith
+
+-- the last of these records is the pass's one new call
+one_more : (test : Record → Bool) (n : ℕ) (mine : List ℕ) (seen others : List Record) (r : Record) → mine ≡ places r.pass seen → mine ++ n ∷ [] ≡ places r.pass ((seen ++ others) ++ r ∷ []) → count_of test r.pass ((seen ++ others) ++ r ∷ []) ≡ count_of test r.pass seen + (if test r then 1 else 0)
+one_more test n mine seen others r own own' =
+    let before : length mine ≡ count_of any r.pass seen = ap length own ∙ as_places 1 r.pass seen in
+    let after : length (mine ++ n ∷ []) ≡ count_of any r.pass ((seen ++ others) ++ r ∷ []) = ap length own' ∙ as_places 1 r.pass ((seen ++ others) ++ r ∷ []) in
+    let long : length (mine ++ n ∷ []) ≡ length mine + 1 = length-append mine (n ∷ []) in
+    let all = count_append any r.pass (seen ++ others) (r ∷ []) in
+    let firsts = count_append any r.pass seen others in
+    let told = count_append test r.pass (seen ++ others) (r ∷ []) in
+    let told_firsts = count_append test r.pass seen others in
+    let few = at_most_all test r.pass others in
+    let mine_is : (r.pass == r.pass) ≡ true = eq-eqb r.pass r.pass refl in
+    grind arith
+
+-- none of the new records is the pass's
+none_more : (test : Record → Bool) (pass : ℕ) (mine : List ℕ) (seen others : List Record) → mine ≡ places pass seen → mine ≡ places pass (seen ++ others) → count_of test pass (seen ++ others) ≡ count_of test pass seen
+none_more test pass mine seen others own own' =
+    let before : length mine ≡ count_of any pass seen = ap length own ∙ as_places 1 pass seen in
+    let after : length mine ≡ count_of any pass (seen ++ others) = ap length own' ∙ as_places 1 pass (seen ++ others) in
+    let all = count_append any pass seen others in
+    let told = count_append test pass seen others in
+    let few = at_most_all test pass others in
+    omega arith
+
+-- a call of the pass is one more where it did so
+called : (test : Record → Bool) (tree : History) (p q : Pass) (n : ℕ) (call : Call) (reply : Reply) → KnowsItsOwn p → Wrote tree p n call reply q → count_of test q.number q.seen ≡ count_of test p.number p.seen + (if test (record { pass = p.number; call = call; reply = reply }) then 1 else 0)
+called test tree p q n call reply own w =
+    let r : Record = record { pass = p.number; call = call; reply = reply } in
+    let own' : p.mine ++ n ∷ [] ≡ places p.number ((p.seen ++ w.others) ++ r ∷ []) = subst (λ (s : Pass). s.mine ≡ places s.number s.seen) w.pass w.sound.own in
+    subst (λ (s : Pass). count_of test s.number s.seen ≡ count_of test p.number p.seen + (if test r then 1 else 0)) (sym w.pass) (one_more test n p.mine p.seen w.others r own own')
+
+-- what others called changes no count of the pass
+saw : (test : Record → Bool) (tree : History) (p q : Pass) → KnowsItsOwn p → Saw tree p q → count_of test q.number q.seen ≡ count_of test p.number p.seen
+saw test tree p q own s =
+    let own' : p.mine ≡ places p.number q.seen = subst (λ (z : Pass). z.mine ≡ places z.number q.seen) s.pass s.sound.own in
+    let same : count_of test q.number q.seen ≡ count_of test p.number q.seen = ap (λ (z : Pass). count_of test z.number q.seen) s.pass in
+    let more : count_of test p.number q.seen ≡ count_of test p.number (p.seen ++ s.seen.0) = ap (count_of test p.number) s.seen.1 in
+    same ∙ more ∙ none_more test p.number p.mine p.seen s.seen.0 own (own' ∙ ap (places p.number) s.seen.1)
+
+was_last : (tree : History) (p q : Pass) (n : ℕ) (call : Call) (reply : Reply) → Wrote tree p n call reply q → WasLast q call reply
+was_last tree p q n call reply w = subst (λ (z : Pass). WasLast z call reply) (sym w.pass) (record { before = p.seen ++ w.others; seen = refl })
+
+start_is : (reply : Reply) (number : ℕ) → start_of reply ≡ Some number → reply ≡ replies.Start number
+start_is (replies.Start start) number same = ap replies.Start (same_Some start number same)
+start_is replies.Ok number same = absurd (none-some number same)
+start_is (replies.Was entry) number same = absurd (none-some number same)
+start_is replies.None number same = absurd (none-some number same)
+start_is replies.Exists number same = absurd (none-some number same)
+start_is replies.Invalid number same = absurd (none-some number same)
+start_is replies.Busy number same = absurd (none-some number same)
+start_is (replies.NoNodes shortage) number same = absurd (none-some number same)
+
+was_is : (reply : Reply) → was_there reply ≡ true → (entry : ℕ) × (reply ≡ replies.Was entry)
+was_is (replies.Was entry) same = (entry, refl)
+was_is replies.Ok same = absurd (cc)
+was_is (replies.Start start) same = absurd (cc)
+was_is replies.None same = absurd (cc)
+was_is replies.Exists same = absurd (cc)
+was_is replies.Invalid same = absurd (cc)
+was_is replies.Busy same = absurd (cc)
+was_is (replies.NoNodes shortage) same = absurd (cc)
+
+-- what a taker is told of its call
+abbrev pub Took : Pass → Pass → Option ℕ → Type 0
+Took p q told = IfSome told (JustTook q) × MatchOption told (taken_by q ≡ taken_by p) (λ _. taken_by q ≡ taken_by p + 1) × (given_back_by q ≡ given_back_by p)
+
+took_as : (p q : Pass) (min max entry : ℕ) (reply : Reply) (told : Option ℕ) → told ≡ start_of reply → WasLast q (Alloc 1 min max entry) reply → taken_by q ≡ taken_by p + (if is_some (start_of reply) then 1 else 0) → given_back_by q ≡ given_back_by p → Took p q told
+took_as p q min max entry reply None same last more gave =
+    let none : taken_by q ≡ taken_by p + 0 = subst (λ (o : Option ℕ). taken_by q ≡ taken_by p + (if is_some o then 1 else 0)) (sym same) more in
+    let still : taken_by q ≡ taken_by p = omega arith in
+    (tt, still, gave)
+took_as p q min max entry reply (Some number) same last more gave =
+    let one : taken_by q ≡ taken_by p + 1 = subst (λ (o : Option ℕ). taken_by q ≡ taken_by p + (if is_some o then 1 else 0)) (sym same) more in
+    ((min, max, entry, subst (WasLast q (Alloc 1 min max entry)) (start_is reply number (sym same)) last), one, gave)
+
+pub took : (t : Tree) (p q : Pass) (min max entry : ℕ) (answer : Result Done Worn) (told : Option ℕ) → KnowsItsOwn p → IfOk answer (λ d. Wrote (opened t) p d.call (Alloc 1 min max entry) d.reply q × (d.call ≤ limit_of t)) → IfErr answer (λ w. IsWorn t p w q) → told ≡ started answer → Took p q told
+took t p q min max entry (Ok d) told own done worn same =
+    let given : given_back_by q ≡ given_back_by p + 0 = called gave_one (opened t) p q d.call (Alloc 1 min max entry) d.reply own done.0 in
+    let still : given_back_by q ≡ given_back_by p = omega arith in
+    took_as p q min max entry d.reply told same (was_last (opened t) p q d.call (Alloc 1 min max entry) d.reply done.0) (called took_one (opened t) p q d.call (Alloc 1 min max entry) d.reply own done.0) still
+took t p q min max entry (Err w) told own done worn same = subst (Took p q) (sym same) (tt, saw took_one (opened t) p q own worn.saw, saw gave_one (opened t) p q own worn.saw)
+
+-- what one is told that gives a number back
+abbrev pub Gave : Pass → Pass → ℕ → Bool → Type 0
+Gave p q number told = (IsTrue told → JustGave q number) × (taken_by q ≡ taken_by p) × (given_back_by q ≡ given_back_by p + (if told then 1 else 0))
+
+gave_last : (q : Pass) (number : ℕ) (reply : Reply) → WasLast q (Erase number) reply → was_there reply ≡ true → JustGave q number
+gave_last q number reply last same = let was = was_is reply same in (was.0, subst (WasLast q (Erase number)) was.1 last)
+
+pub gave : (t : Tree) (p q : Pass) (number : ℕ) (answer : Result Done Worn) (told : Bool) → KnowsItsOwn p → IfOk answer (λ d. Wrote (opened t) p d.call (Erase number) d.reply q × (d.call ≤ limit_of t)) → IfErr answer (λ w. IsWorn t p w q) → told ≡ removed answer → Gave p q number told
+gave t p q number (Ok d) told own done worn same =
+    let taken : taken_by q ≡ taken_by p + 0 = called took_one (opened t) p q d.call (Erase number) d.reply own done.0 in
+    let still : taken_by q ≡ taken_by p = omega arith in
+    let more : given_back_by q ≡ given_back_by p + (if was_there d.reply then 1 else 0) = called gave_one (opened t) p q d.call (Erase number) d.reply own done.0 in
+    let last = was_last (opened t) p q d.call (Erase number) d.reply done.0 in
+    subst (Gave p q number) (sym same) ((λ yes. gave_last q number d.reply last yes), still, more)
+gave t p q number (Err w) told own done worn same =
+    let none : given_back_by q ≡ given_back_by p = saw gave_one (opened t) p q own worn.saw in
+    let more : given_back_by q ≡ given_back_by p + 0 = omega arith in
+    subst (Gave p q number) (sym same) ((λ yes. absurd (cc)), saw took_one (opened t) p q own worn.saw, more)
+
+-- whatever a call was answered, its pass knows its own calls
+pub still_own : (t : Tree) (p q : Pass) (call : Call) (answer : Result Done Worn) → IfOk answer (λ d. Wrote (opened t) p d.call call d.reply q × (d.call ≤ limit_of t)) → IfErr answer (λ w. IsWorn t p w q) → KnowsItsOwn q
+still_own t p q call (Ok d) done worn = done.0.sound.own
+still_own t p q call (Err w) done worn = worn.saw.sound.own
+
+new_own : (ns : List ℕ) → AllByRecursion KnowsItsOwn (map new_pass ns)
+new_own [] = tt
+new_own (n ∷ ns) = (refl, new_own ns)
+
+of_map : {P : Type 0} (knows : P → Pass) (ps : List P) → AllByRecursion KnowsItsOwn (map knows ps) → AllByRecursion (λ (p : P). KnowsItsOwn (knows p)) ps
+of_map knows [] all = tt
+of_map knows (p ∷ ps) all = (all.0, of_map knows ps all.1)
+
+-- passes that have seen nothing know their own calls
+pub new_passes : {P : Type 0} (knows : P → Pass) (ps : List P) (ns : List ℕ) → map knows ps ≡ map new_pass ns → All (λ (p : P). KnowsItsOwn (knows p)) ps
+new_passes knows ps ns new = All-from_recursion (λ p. KnowsItsOwn (knows p)) ps (of_map knows ps (subst (AllByRecursion KnowsItsOwn) (sym new) (new_own ns)))

@@ -1,0 +1,19 @@
+//! Threads take numbers from one tree and give them back, while others look numbers up and go through those that are taken.
+//! It prints how many each thread took and gave back, and whether a number was ever held twice.
+#![tactic(auto)]
+
+mod crews;
+mod marks;
+mod numbers;
+mod readers;
+mod shared;
+mod takers;
+#[cfg(test)]
+mod tests;
+
+use crate::crews::at_work;
+use std::io;
+
+fn main(rt: HostRuntime) -> io::Result<()> {
+    at_work(&rt, rt.alloc())
+}
