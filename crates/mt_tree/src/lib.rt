@@ -10,8 +10,6 @@ mod reads;
 mod settle;
 mod shaped;
 mod shapes;
-#[cfg(test)]
-mod tests;
 mod trees;
 mod works;
 mod writes;
