@@ -1,4 +1,4 @@
-ghost use Rattle.std.specs.Prelude.{◌≡◌, ◌<◌, ◌+◌, ◌-◌, ◌^◌, ◌≤◌, IfOk};
+ghost use Rattle.std.specs.Prelude.{◌≡◌, ◌<◌, ◌+◌, ◌-◌, ◌^◌, ◌≤◌, IfOk, length};
 ghost use Rattle.mt_base.specs.Width.{most_rows};
 ghost use Rattle.mt_base.specs.declared.kinds.Kind.TheVariants as kinds;
 
@@ -13,7 +13,7 @@ use mt_base::{Call, Kind, NoMemory, Query, Range, Reply, Shortage, errno};
 use mt_engine::Engine;
 use mt_free::RowBook;
 use mt_list::{ListMap, Ranges};
-use mt_rows::PlainRows;
+use mt_rows::{PlainRows, Rows};
 use std::alloc::Global;
 use std::process::Abort;
 use std::test::Fail;
@@ -98,6 +98,26 @@ fn expect_walk(rt: &impl Abort, engine: &mut Engine<PlainRows>, index: u64, rang
     }
     assert_eq!(rt; engine.next_range(&mut walk), None, "from {index}");
     assert_eq!(rt; walk.next, None);
+}
+
+/// Makes these calls, which are answered so.
+fn expect_replies<R: Rows>(rt: &impl Abort, engine: &mut Engine<R>, calls: &[(Call, Reply)])
+    requires few { engine.old.sheet.ended + length calls.now < 2 ^ 62 - 1 }
+{
+    for (call, want) in calls {
+        assert_eq!(rt; engine.apply(call), *want, "at {call:?}");
+    }
+}
+
+/// The engine holds these ranges.
+fn expect_ranges<R: Rows>(
+    rt: &impl Abort,
+    alloc: Global,
+    engine: &mut Engine<R>,
+    want: &[Range],
+) -> Result<(), NoMemory> {
+    assert_eq!(rt; engine.list(alloc)?.as_slice(), want);
+    Ok(())
 }
 
 /// Makes a call on the engine and on the list, which answer the same and then hold the same ranges, by a list and by a walk.
@@ -194,6 +214,13 @@ fn walks_from_within(rt: HostRuntime) -> Result<(), Fail> {
     Ok(())
 }
 
+/// These replies are the kernel's errors of these numbers.
+fn expect_numbers(rt: &impl Abort, replies: &[(Reply, Option<u32>)]) {
+    for (reply, number) in replies {
+        assert_eq!(rt; errno(reply), *number, "at {reply:?}");
+    }
+}
+
 #[test]
 fn tells_that_too_few_rows_are_free(rt: HostRuntime) -> Result<(), Fail> {
     let mut engine = fresh(rt.alloc(), 4)?;
@@ -205,21 +232,24 @@ fn tells_that_too_few_rows_are_free(rt: HostRuntime) -> Result<(), Fail> {
         by: None,
     };
     let calls = [
-        (store(10, 10, 5), Reply::Ok, None),
-        (store(20, 20, 7), Reply::NoNodes(shortage), Some(12)),
-        (store(10, 10, 9), Reply::Ok, None),
-        (store_pre(10, 10, 8), Reply::NoNodes(shortage), Some(12)),
-        (store_pre(12, 11, 8), Reply::Invalid, Some(22)),
-        (insert(10, 12, 9), Reply::Exists, Some(17)),
-        (store(10, 10, 2), Reply::Invalid, Some(22)),
-        (Call::Clear, Reply::Ok, None),
+        (store(10, 10, 5), Reply::Ok),
+        (store(20, 20, 7), Reply::NoNodes(shortage)),
+        (store(10, 10, 9), Reply::Ok),
+        (store_pre(10, 10, 8), Reply::NoNodes(shortage)),
+        (store_pre(12, 11, 8), Reply::Invalid),
+        (insert(10, 12, 9), Reply::Exists),
+        (store(10, 10, 2), Reply::Invalid),
+        (Call::Clear, Reply::Ok),
     ];
-    for (call, want, number) in calls {
-        let reply = engine.apply(&call);
-        assert_eq!(&rt; reply, want, "at {call:?}");
-        assert_eq!(&rt; errno(&reply), number, "at {call:?}");
-    }
-    assert_eq!(&rt; engine.list(rt.alloc())?.len(), 0);
+    expect_replies(&rt, &mut engine, &calls);
+    let numbers = [
+        (Reply::Ok, None),
+        (Reply::NoNodes(shortage), Some(12)),
+        (Reply::Exists, Some(17)),
+        (Reply::Invalid, Some(22)),
+    ];
+    expect_numbers(&rt, &numbers);
+    expect_ranges(&rt, rt.alloc(), &mut engine, &[])?;
     Ok(())
 }
 
@@ -235,23 +265,24 @@ fn tells_who_holds_rows_back(rt: HostRuntime) -> Result<(), Fail> {
     };
     // The row of each store but the first is held, since the section opened before it.
     let calls = [
-        (store(10, 10, 5), Reply::Ok, None),
-        (store(20, 20, 5), Reply::Ok, None),
-        (store(30, 30, 5), Reply::Ok, None),
-        (store(40, 40, 5), Reply::Ok, None),
-        (store(50, 50, 5), Reply::Ok, None),
-        (store(60, 60, 5), Reply::NoNodes(shortage), Some(12)),
-        (erase(30), Reply::NoNodes(shortage), Some(12)),
-        (store(30, 30, 9), Reply::Ok, None),
-        (store(60, 69, 0), Reply::Ok, None),
-        (Call::Clear, Reply::Ok, None),
-        (store(60, 60, 5), Reply::Ok, None),
+        (store(10, 10, 5), Reply::Ok),
+        (store(20, 20, 5), Reply::Ok),
+        (store(30, 30, 5), Reply::Ok),
+        (store(40, 40, 5), Reply::Ok),
+        (store(50, 50, 5), Reply::Ok),
+        (store(60, 60, 5), Reply::NoNodes(shortage)),
+        (erase(30), Reply::NoNodes(shortage)),
+        (store(30, 30, 9), Reply::Ok),
+        (store(60, 69, 0), Reply::Ok),
+        (Call::Clear, Reply::Ok),
+        (store(60, 60, 5), Reply::Ok),
     ];
-    for (call, want, number) in calls {
-        let reply = engine.apply(&call);
-        assert_eq!(&rt; reply, want, "at {call:?}");
-        assert_eq!(&rt; errno(&reply), number, "at {call:?}");
-    }
-    assert_eq!(&rt; engine.list(rt.alloc())?.len(), 1);
+    expect_replies(&rt, &mut engine, &calls);
+    let sixty = Range {
+        first: 60,
+        last: 60,
+        entry: 5,
+    };
+    expect_ranges(&rt, rt.alloc(), &mut engine, &[sixty])?;
     Ok(())
 }

@@ -1,10 +1,5 @@
-ghost use Rattle.std.specs.Prelude.{◌≡◌, ◌<◌, ◌+◌, ◌-◌, ◌^◌, length};
-
-use crate::tests::{TOP, erase, fresh, fresh_of, store, store_pre};
-use mt_base::{Call, Kind, Reply, Shortage, errno};
-use mt_engine::Engine;
-use mt_rows::PlainRows;
-use std::process::Abort;
+use crate::tests::{TOP, erase, expect_numbers, expect_replies, fresh, fresh_of, store, store_pre};
+use mt_base::{Call, Kind, Reply, Shortage};
 use std::test::Fail;
 
 fn alloc(size: u64, min: u64, max: u64) -> Call {
@@ -33,15 +28,6 @@ fn rgap(size: u64, min: u64, max: u64) -> Call {
     Call::Rgap { size, min, max }
 }
 
-/// Makes these calls, which are answered so.
-fn expect_replies(rt: &impl Abort, engine: &mut Engine<PlainRows>, calls: &[(Call, Reply)])
-    requires few { engine.old.sheet.ended + length calls.now < 2 ^ 62 - 1 }
-{
-    for (call, want) in calls {
-        assert_eq!(rt; engine.apply(call), *want, "at {call:?}");
-    }
-}
-
 #[test]
 fn room_is_found_between_two_ranges(rt: HostRuntime) -> Result<(), Fail> {
     let mut engine = fresh_of(rt.alloc(), Kind::Alloc, 400)?;
@@ -60,7 +46,7 @@ fn room_is_found_between_two_ranges(rt: HostRuntime) -> Result<(), Fail> {
         (rgap(1, 0, TOP), Reply::Start(TOP - 10)),
     ];
     expect_replies(&rt, &mut engine, &calls);
-    assert_eq!(&rt; errno(&Reply::Busy), Some(16));
+    expect_numbers(&rt, &[(Reply::Busy, Some(16))]);
     Ok(())
 }
 

@@ -1,7 +1,7 @@
-ghost use Rattle.std.specs.Prelude.{◌≡◌, ◌<◌, ◌+◌, ◌-◌, ◌^◌, OnOk};
+ghost use Rattle.std.specs.Prelude.{◌≡◌, ◌<◌, ◌+◌, ◌-◌, ◌^◌, OnOk, length};
 
 use crate::tests::watched::HOLDER;
-use crate::tests::{TOP, erase, fresh, fresh_of, fresh_watched, store, store_pre};
+use crate::tests::{TOP, erase, expect_ranges, fresh, fresh_of, fresh_watched, store, store_pre};
 use mt_base::{Call, Kind, NoMemory, Query, Range, Reply, Shortage};
 use mt_engine::Engine;
 use mt_rows::PlainRows;
@@ -34,6 +34,26 @@ fn store_when_ready(
     Ok(engine.store_prealloc(first, last, entry))
 }
 
+/// Makes these stores, which are answered so, by calls of one engine and with rows at hand in the other.
+fn expect_both(
+    rt: &impl Abort,
+    alloc: Global,
+    applied: &mut Engine<PlainRows>,
+    ready: &mut Engine<PlainRows>,
+    stores: &[(u64, u64, u64, Reply)],
+) -> Result<(), NoMemory>
+    requires few { applied.old.sheet.ended + length stores.now < 2 ^ 62 - 1 }
+    requires few_ready { ready.old.sheet.ended + length stores.now < 2 ^ 62 - 1 }
+{
+    for &(first, last, entry, want) in stores {
+        let reply = applied.apply(&store_pre(first, last, entry));
+        assert_eq!(rt; reply, want, "at {first}");
+        let reply = store_when_ready(rt, alloc, ready, first, last, entry)?;
+        assert_eq!(rt; reply, want, "at {first}");
+    }
+    Ok(())
+}
+
 #[test]
 fn stores_with_rows_at_hand(rt: HostRuntime) -> Result<(), Fail> {
     let mut applied = fresh(rt.alloc(), 8)?;
@@ -43,20 +63,32 @@ fn stores_with_rows_at_hand(rt: HostRuntime) -> Result<(), Fail> {
         (5, 4, 1, Reply::Invalid),
         (10, 10, 7, Reply::Ok),
     ];
-    for (first, last, entry, want) in calls {
-        let reply = applied.apply(&store_pre(first, last, entry));
-        assert_eq!(&rt; reply, want, "at {first}");
-        let reply = store_when_ready(&rt, rt.alloc(), &mut ready, first, last, entry)?;
-        assert_eq!(&rt; reply, want, "at {first}");
-    }
+    expect_both(&rt, rt.alloc(), &mut applied, &mut ready, &calls)?;
     let ten = Range {
         first: 10,
         last: 10,
         entry: 7,
     };
-    assert_eq!(&rt; applied.list(rt.alloc())?.as_slice(), [ten].as_slice());
-    assert_eq!(&rt; ready.list(rt.alloc())?.as_slice(), [ten].as_slice());
+    expect_ranges(&rt, rt.alloc(), &mut applied, &[ten])?;
+    expect_ranges(&rt, rt.alloc(), &mut ready, &[ten])?;
     Ok(())
+}
+
+/// Makes these calls, which are answered so, and behind each of which the engine cannot be made ready for this shortage.
+fn expect_unready(
+    rt: &impl Abort,
+    engine: &mut Engine<PlainRows>,
+    shortage: Shortage,
+    calls: &[(Call, Reply)],
+)
+    requires few { engine.old.sheet.ended + length calls.now < 2 ^ 62 - 1 }
+    ensures ended { engine.new.sheet.ended ≡ engine.old.sheet.ended + length calls.now }
+{
+    for (call, want) in calls {
+        assert_eq!(rt; engine.apply(call), *want, "at {call:?}");
+        assert_eq!(rt; engine.preallocate(), Err(shortage), "after {call:?}");
+        assert_eq!(rt; engine.ready(), false, "after {call:?}");
+    }
 }
 
 #[test]
@@ -77,11 +109,7 @@ fn tells_that_it_cannot_be_ready(rt: HostRuntime) -> Result<(), Fail> {
         (store_pre(30, TOP, 0), Reply::NoNodes(shortage)),
         (erase(10), Reply::NoNodes(shortage)),
     ];
-    for (call, want) in calls {
-        assert_eq!(&rt; engine.apply(&call), want, "at {call:?}");
-        assert_eq!(&rt; engine.preallocate(), Err(shortage), "after {call:?}");
-        assert_eq!(&rt; engine.ready(), false, "after {call:?}");
-    }
+    expect_unready(&rt, &mut engine, shortage, &calls);
     assert_eq!(&rt; engine.apply(&Call::Clear), Reply::Ok);
     let reply = store_when_ready(&rt, rt.alloc(), &mut engine, 1, 1, 9)?;
     assert_eq!(&rt; reply, Reply::Ok);
