@@ -4,8 +4,8 @@ ghost use Rattle.std.specs.Prelude.{◌≡◌, ◌<◌, All, IfOk};
 ghost use Rattle.mt_tree.specs.Trees.{IsPassOf};
 
 use crate::trees::{Tree, Visit};
-use mt_base::{Call, Kind, MOST_ROWS, NoMemory, Query, Range, Reply, Steps};
-use mt_tree::{MOST_CALLS, Pass, Shape};
+use mt_base::{Call, Kind, MOST_ROWS, NoMemory, Reply, Steps};
+use mt_tree::{Cursor, MOST_CALLS, Pass, Shape};
 use std::alloc::{AllocError, Global};
 use std::marker::Brand;
 use std::sync::Wait;
@@ -27,17 +27,6 @@ pub fn make(alloc: Global, kind: Kind, passes: u32) -> Result<(mt_tree::Tree, Ve
     }
 }
 
-/// The answer of one query, under a lock of its own.
-fn ask(rt: &impl Wait, tree: &mt_tree::Tree, pass: &mut Pass, query: &Query) -> Option<Range>
-    requires { IsPassOf tree.now pass.old }
-    ensures { IsPassOf tree.now pass.new }
-{
-    let mut write = tree.lock(rt, pass);
-    let read = write.ask(query);
-    write.unlock();
-    read.value
-}
-
 /// The entry at an index, or 0, in a number of steps that is counted.
 fn load_counted<L: Ledger>(tree: &mt_tree::Tree, pass: &mut Pass, index: u64, blank: Blank) -> u64
     requires of { IsPassOf tree.now pass.old }
@@ -56,6 +45,44 @@ fn load(tree: &mt_tree::Tree, pass: &mut Pass, index: u64) -> u64
     ensures { IsPassOf tree.now pass.new }
 {
     load_counted::<Brand>(tree, pass, index, Blank::new(1))
+}
+
+/// Takes each range that a cursor finds, until it finds none.
+fn take_all<L: Ledger>(cursor: &mut Cursor<'_>, steps: &mut Steps<L>) -> Visit
+    ensures same_reference { cursor.new.pass.ghost_name ≡ cursor.old.pass.ghost_name }
+    ensures tree { cursor.new.tree ≡ cursor.old.tree }
+{
+    let mut visit = Visit::default();
+    for _ in 0..u64::MAX {
+        let Some(range) = cursor.step(steps).value else {
+            break;
+        };
+        visit.take(&range);
+    }
+    visit
+}
+
+/// Visits all ranges in order by one cursor, in a number of steps that is counted.
+fn visit_counted<L: Ledger>(tree: &mt_tree::Tree, pass: &mut Pass, blank: Blank) -> Visit
+    requires of { IsPassOf tree.now pass.old }
+    requires name { blank.name ≡ L.name }
+    requires parts { blank.parts ≡ L.parts }
+    requires some { 0 < blank.parts }
+    ensures { IsPassOf tree.now pass.new }
+{
+    let mut steps = Steps::<L>::new(blank);
+    let mut cursor = tree.cursor(pass, 0, u64::MAX);
+    let visit = take_all(&mut cursor, &mut steps);
+    cursor.close(&mut steps);
+    visit
+}
+
+/// Visits all ranges in order.
+fn visit(tree: &mt_tree::Tree, pass: &mut Pass) -> Visit
+    requires { IsPassOf tree.now pass.old }
+    ensures { IsPassOf tree.now pass.new }
+{
+    visit_counted::<Brand>(tree, pass, Blank::new(1))
 }
 
 /// A pass and its tree, which make the calls of a work.
@@ -104,24 +131,6 @@ impl<'a, R: Wait> Tree for Caller<'a, R> {
     }
 
     fn visit(&mut self) -> Visit {
-        let mut visit = Visit::default();
-        let mut next = Some(0);
-        for _ in 0..u64::MAX {
-            let Some(index) = next else {
-                break;
-            };
-            let max = u64::MAX;
-            let Some(range) = ask(
-                self.rt,
-                self.tree,
-                &mut self.pass,
-                &Query::Find { index, max },
-            ) else {
-                break;
-            };
-            visit.take(&range);
-            next = range.last.checked_add(1);
-        }
-        visit
+        visit(self.tree, &mut self.pass)
     }
 }
