@@ -11,6 +11,7 @@ pub mod LevelLoops
 pub mod Descents
 pub mod SlotMended
 pub mod Mending
+pub mod GapWords
 pub mod Tells
 pub mod MendWay
 pub mod SlotsRight

@@ -37,6 +37,7 @@ use Rattle.mt_rows.proofs.Joins.{Shared, expand_shared, levels_front, levels_bac
 use Rattle.mt_rows.proofs.Reached.{OnLevel, on_level_reached, times_reached, reached_number}
 use Rattle.mt_rows.specs.declared.rows.Life.TheVariants.{Live}
 use Rattle.mt_gap.specs.Mending.{told_by, IsMendedUpTo, IsGapOn, KeepsWords, OnlyWords, IsWay, MayTell, MayMend, IsMended}
+use Rattle.mt_gap.proofs.GapWords.{tells_all}
 use Rattle.mt_gap.proofs.Mending.{on, is_step, is_used, told, mended_next, begun_mending, all_mended}
 
 -- ---- paths by two tables that share their spans
@@ -123,7 +124,7 @@ row_may_tell r zero index c row low =
     let less = longest_less c.first (c.last + 1) (spans_in r.table c) row.pivots.fills row.holes.some in
     let fits = greatest_fits r.table.width in
     subst (λ (l : List Span). (longest_in l < 2 ^ 64) × AllByRecursion (λ (x : Span). x.first ≤ x.last) l) is (omega arith, all_rise c.first (c.last + 1) (spans_in r.table c) row.pivots.fills)
-row_may_tell r (suc k) index c row low = tt
+row_may_tell r (suc k) index c row low = tells_all r.table (row_in c.word) c.last row.pivots.unused c.first
 
 -- ---- from row to row
 

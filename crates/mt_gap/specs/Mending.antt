@@ -1,6 +1,6 @@
 -- Gap words set upwards: what a row tells the row above, and what is left alone.
 -- Source: the kernel's lib/maple_tree.c, mas_parent_gap and mas_update_gap.
-use Rattle.std.specs.Prelude.{◌≡◌, ◌⊎◌, ℕ, ◌+◌, ◌^◌, ◌<◌, ◌≤◌, Bool, true, false, List, [], ◌∷◌, length, max}
+use Rattle.std.specs.Prelude.{◌≡◌, ◌⊎◌, ℕ, zero, suc, ◌+◌, ◌^◌, ◌<◌, ◌≤◌, Bool, true, false, List, [], ◌∷◌, length, max}
 use Rattle.std.specs.List.{AllByRecursion}
 use Rattle.mt_base.specs.declared.kinds.Kind.{Kind}
 use Rattle.mt_base.specs.Width.{columns, greatest}
@@ -22,10 +22,16 @@ use Rattle.mt_rows.specs.Sheet.{Sheet, Rooted, IsPlace, MayTend, life_of, is_bur
 use Rattle.mt_rows.specs.declared.rows.Life.TheVariants.{Live}
 use Rattle.mt_gap.specs.declared.children.Child.{Child}
 use Rattle.mt_gap.specs.Children.{row_children}
+use Rattle.mt_gap.specs.Slots.{gap_in}
 
 abbrev pub longest_gap : List Child → ℕ
 longest_gap [] = 0
 longest_gap (x ∷ xs) = max x.gap (longest_gap xs)
+
+-- the greatest of the first so many gap words of a row with gaps
+abbrev pub most_gap : Table → ℕ → ℕ → ℕ
+most_gap t row zero = 0
+most_gap t row (suc n) = max (most_gap t row n) (gap_in t Gapped row n)
 
 -- what a row of a kind tells the row above: its longest hole, or its greatest gap word
 abbrev pub told_by : RowKind → Table → PathStep → ℕ
@@ -64,11 +70,12 @@ pub record IsWay (kind : Kind) (s : Sheet) (path : List PathStep) : Type 0 where
   pub live : LiveAreReached s.tree s.lives
   pub none_buried : NoneBuried s.tree.rows s.buried
 
--- a row can tell its longest hole: that of a leaf is a word
+-- A row can tell its longest hole: that of a leaf is a word, and the greatest gap word of a row's slots is the greatest of all,
+-- since those of slots in which nothing stands are 0.
 abbrev pub MayTell : RowKind → Table → PathStep → Type 0
 MayTell Leaf t s = (longest_in (row_spans t s.row Leaf s.min s.max) < 2 ^ 64) × AllByRecursion (λ (x : Span). x.first ≤ x.last) (row_spans t s.row Leaf s.min s.max)
 MayTell Inner t s = Unit {0}
-MayTell Gapped t s = Unit {0}
+MayTell Gapped t s = longest_gap (row_children t s.row Gapped s.min s.max) ≡ most_gap t s.row (slots_of t.width Gapped)
 
 -- the gap word of the slot of a step may be tended, and the row below may tell it
 pub record MayMend (s : Sheet) (kind : RowKind) (above below : PathStep) : Type 0 where

@@ -7,6 +7,7 @@ ghost use Rattle.mt_base.specs.Width.{columns};
 ghost use Rattle.mt_layout.specs.declared.names.RowKind.{RowKind};
 ghost use Rattle.mt_layout.specs.declared.spans.Span.{Span};
 ghost use Rattle.mt_layout.specs.Rows.{row_in, named_kind};
+ghost use Rattle.mt_layout.specs.Sizes.{slots_of};
 ghost use Rattle.mt_layout.specs.Spans.{hole_length, longest_in};
 ghost use Rattle.mt_rows.specs.Gaps.{HasGaps};
 ghost use Rattle.mt_rows.specs.Laws.{Stands};
@@ -16,8 +17,7 @@ ghost use Rattle.mt_rows.specs.Replacement.{root_of};
 ghost use Rattle.mt_rows.specs.Spans.{row_spans};
 ghost use Rattle.mt_layout.specs.declared.names.RowKind.TheVariants.{Leaf, Gapped};
 ghost use Rattle.mt_rows.specs.Sheet.{Sheet, IsPlace, ReadsUpTo, loaded};
-ghost use Rattle.mt_gap.specs.Children.{row_children};
-ghost use Rattle.mt_gap.specs.Mending.{longest_gap, told_by, KeepsWords, OnlyWords, KeepsOtherWords, IsWay, MayTell, MayMend, MayMendGaps, IsMended};
+ghost use Rattle.mt_gap.specs.Mending.{most_gap, told_by, KeepsWords, OnlyWords, KeepsOtherWords, IsWay, MayTell, MayMend, MayMendGaps, IsMended};
 ghost use Rattle.mt_gap.specs.Mended.{HasMendedRows};
 
 use crate::children::{load_children, load_gap, load_last, load_word};
@@ -64,24 +64,21 @@ fn longest_of<R: Rows>(rows: &mut R, row: u32, first: u64, max: u64) -> u64
     longest
 }
 
-/// The greatest gap word of a row with gaps that ends at `max`.
-fn greatest_of<R: Rows>(rows: &mut R, row: u32, max: u64) -> u64
+/// The greatest of the gap words of a row with gaps. No pivot tells how many slots it uses: the gap words of the others are 0.
+fn greatest_of<R: Rows>(rows: &mut R, row: u32) -> u64
     requires place { IsPlace (R.sheet rows.old).tree row 0 }
-    ensures greatest { (first : ℕ) → result ≡ longest_gap (row_children (R.sheet rows.old).tree.table row Gapped first max) }
+    ensures greatest { result ≡ most_gap (R.sheet rows.old).tree.table row (slots_of (R.sheet rows.old).tree.table.width Gapped) }
     ensures reads { ReadsUpTo (columns (R.sheet rows.old).tree.table.width) (R.sheet rows.old) (R.sheet rows.new) }
 {
     let mut greatest = 0;
     for slot in 0..slots(rows.width(), RowKind::Gapped) {
         greatest = greatest.max(load_gap(rows, row, slot));
-        if max <= load_last(rows, RowKind::Gapped, row, max, slot) {
-            return greatest;
-        }
     }
     greatest
 }
 
 /// What a row of a path tells the row above.
-#[tactic(auto, using(crate::proofs::Asking::inner_tells))]
+#[tactic(auto, using(crate::proofs::Asking::inner_tells, crate::proofs::GapWords::gapped_tells))]
 fn told_by<R: Rows>(rows: &mut R, kind: RowKind, row: PathStep) -> u64
     requires place { IsPlace (R.sheet rows.old).tree row.row 0 }
     requires tells { MayTell kind (R.sheet rows.old).tree.table row }
@@ -91,7 +88,7 @@ fn told_by<R: Rows>(rows: &mut R, kind: RowKind, row: PathStep) -> u64
     match kind {
         RowKind::Leaf => longest_of(rows, row.row, row.min, row.max),
         RowKind::Inner => 0,
-        RowKind::Gapped => greatest_of(rows, row.row, row.max),
+        RowKind::Gapped => greatest_of(rows, row.row),
     }
 }
 

@@ -1,8 +1,7 @@
-use Rattle.std.proofs.Common.{ℕ}
-use Rattle.mt_layout.specs.declared.names.RowKind.TheVariants.{Gapped}
-use Rattle.mt_gap.proofs.Asking.{GreatestIs}
-use Rattle.mt_gap.proofs.RowReads.{IsReadTo}
+use Rattle.std.specs.Prelude.{◌≡◌, ◌≤◌}
+use Rattle.mt_rows.specs.Sheet.{ReadsUpTo}
+use Rattle.mt_gap.specs.Mending.{most_gap}
 use Rattle.mt_gap.proofs.mends.greatest_of.Given as goal
 
 abbrev pub invariant-loop-slot : goal.invariant-loop-slot
-invariant-loop-slot g l = (begin : ℕ) × IsReadTo (GreatestIs l.greatest) (g.R.Rows.sheet l.fn.rows) (g.R.Rows.sheet l.rows) Gapped l.row 0 l.max l.slot begin
+invariant-loop-slot g l = (l.greatest ≡ most_gap (g.R.Rows.sheet l.fn.rows).tree.table l.row l.slot) × ReadsUpTo l.slot (g.R.Rows.sheet l.fn.rows) (g.R.Rows.sheet l.rows)
