@@ -1,19 +1,22 @@
 //! What a search for room comes to, and a call that stores where it finds some.
 
-ghost use Rattle.std.specs.Prelude.{◌≡◌, ◌+◌, ◌*◌, ◌<◌, ◌≤◌, List, []};
+ghost use Rattle.std.specs.Prelude.{◌≡◌, ◌↔◌, ◌+◌, ◌*◌, ◌<◌, ◌≤◌, List, [], IsNone, IfSome};
+ghost use Rattle.mt_base.specs.declared.kinds.Kind.{Kind};
 ghost use Rattle.mt_base.specs.declared.kinds.Kind.TheVariants as trees;
-ghost use Rattle.mt_base.specs.Width.{columns};
-ghost use Rattle.mt_rows.specs.Publish.{IsLawfulOf, map_by};
+ghost use Rattle.mt_base.specs.Width.{columns, greatest};
+ghost use Rattle.mt_rows.specs.Publish.{IsLawfulOf, IsTreeOf, map_by};
 ghost use Rattle.mt_rows.specs.Sheet.{OnlyReads, ReadsUpTo};
 ghost use Rattle.mt_rows.specs.Trees.{height_in};
 ghost use Rattle.mt_path.specs.declared.paths.PathStep.{PathStep};
+ghost use Rattle.mt_path.specs.Handles.{handle_in};
+ghost use Rattle.mt_path.specs.Paths.{path_in};
 ghost use Rattle.mt_engine.specs.Areas.{start_for, allocation, search};
 ghost use Rattle.mt_engine.specs.Plans.{IsPlan, IsSearched};
 
 use crate::plans::Plan;
 use mt_base::{Kind, Reply, Steps, is_bad_area, is_no_area};
 use mt_gap::{highest, lowest};
-use mt_path::{Path, walk_by_halves};
+use mt_path::{Handle, Path, walk_by_halves, walk_to};
 use mt_rows::Rows;
 use std::marker::Brand;
 use std::sync::ledger::{Blank, Ledger};
@@ -59,6 +62,23 @@ fn start_of<R: Rows>(rows: &mut R, sought: Sought, size: u64, min: u64, max: u64
     start_by::<R, Brand>(rows, sought, size, min, max, Blank::new(1))
 }
 
+/// The way to a place that was sought. By halves it is shorter where the tree grows at its end, and the highest places are
+/// taken from there down.
+fn way_to<R: Rows>(rows: &mut R, sought: Sought, start: u64, path: &mut Path) -> Option<Handle>
+    requires tree { (kind : Kind) × IsTreeOf (R.sheet rows.old).tree kind }
+    requires index { start ≤ greatest (R.sheet rows.old).tree.table.width }
+    requires empty { path.old.items ≡ [] }
+    ensures path { path.new.items ≡ path_in (R.sheet rows.old).tree.table (R.sheet rows.old).tree.root start }
+    ensures none { IsNone result ↔ ((R.sheet rows.old).tree.root ≡ 0) }
+    ensures some { IfSome result (λ handle. handle ≡ handle_in (R.sheet rows.old).tree start) }
+    ensures rest { OnlyReads (R.sheet rows.old) (R.sheet rows.new) }
+{
+    match sought {
+        Sought::Lowest => walk_by_halves(rows, start, path),
+        Sought::Highest => walk_to(rows, start, path),
+    }
+}
+
 /// What an allocation comes to, with the path to the place that was found.
 pub fn plan_allocation<R: Rows>(
     rows: &mut R,
@@ -84,7 +104,7 @@ pub fn plan_allocation<R: Rows>(
     let Some(start) = start_of(rows, sought, size, min, max) else {
         return Plan::Nothing { reply: Reply::Busy };
     };
-    let here = walk_by_halves(rows, start, path);
+    let here = way_to(rows, sought, start, path);
     Plan::Store {
         first: start,
         last: start + (size - 1),

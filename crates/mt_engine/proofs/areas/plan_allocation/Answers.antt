@@ -26,6 +26,6 @@ returns-clause-plan g c =
     let kind = is_allocated c.args.kind c.args.size c.args.min c.args.max area in
     let is = ap (λ (k : Kind). start_for c.args.sought k (map_by t) c.args.size c.args.min c.args.max) kind ∙ sym c.in-Some.ensures.start in
     let tree = ap (λ (s : Sheet). s.tree) c.start_of.ensures.reads.rest in
-    place_plan t c.args.kind c.requires.tree c.args.sought c.args.size c.args.min c.args.max area c.in-Some.start is c.args.entry c.walk_by_halves-here.new.path.items c.walk_by_halves-here.result good
-    (c.walk_by_halves-here.ensures.path ∙ ap (λ (q : Rooted). path_in q.table q.root c.in-Some.start) tree)
-    (subst (λ (q : Rooted). IsHereAt q c.in-Some.start c.walk_by_halves-here.result) tree (record { none = c.walk_by_halves-here.ensures.none; some = c.walk_by_halves-here.ensures.some }))
+    place_plan t c.args.kind c.requires.tree c.args.sought c.args.size c.args.min c.args.max area c.in-Some.start is c.args.entry c.way_to-here.new.path.items c.way_to-here.result good
+    (c.way_to-here.ensures.path ∙ ap (λ (q : Rooted). path_in q.table q.root c.in-Some.start) tree)
+    (subst (λ (q : Rooted). IsHereAt q c.in-Some.start c.way_to-here.result) tree (record { none = c.way_to-here.ensures.none; some = c.way_to-here.ensures.some }))
