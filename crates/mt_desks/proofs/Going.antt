@@ -13,7 +13,6 @@ use Rattle.mt_desks.specs.Phases.{CanPass, IsLaid, LaneWent, pass_at}
 use Rattle.mt_runs.specs.Leads.{Leads, outcomes_of}
 use Rattle.mt_runs.specs.Rooms.{joined}
 use Rattle.mt_desks.proofs.Doing.{desk_ran, mapped}
-use Rattle.mt_desks.proofs.Referring.{seen}
 
 some_of : {V : Type 0} (xs : List V) (i : ℕ) → i < length xs → V
 some_of [] i l = absurd (omega (arith, l))
@@ -28,8 +27,8 @@ is_manned knows serves items lane trees rows passes can count taken = record {
   serves_all = λ i t p below. let within : i < length rows = omega (arith, below, can.count) in let v = some_of rows i within in rw (taken i v p within) (can.serves_all i t v p within);
 }
 
-pub is_ready : {P T : Type 0} (knows : P → Pass) (serves : T → P → Type 0) (steps had used capacity : ℕ) (trees : List T) (lines : List Line) (passes : List P) → IsLaid steps (length trees) lines had used capacity → IsManned knows serves trees passes → IsReady knows serves trees lines 0 passes used capacity
-is_ready knows serves steps had used capacity trees lines passes laid manned = record { manned = manned; lines_of = laid.lines_of; roomy = laid.roomy }
+pub is_ready : {P T : Type 0} (knows : P → Pass) (serves : T → P → Type 0) (steps had used capacity : ℕ) (trees : List T) (lines left : List Line) (passes : List P) → IsLaid steps (length trees) lines left had used capacity → IsManned knows serves trees passes → IsReady knows serves trees lines left 0 passes used capacity
+is_ready knows serves steps had used capacity trees lines left passes laid manned = record { manned = manned; lines_of = laid.lines_of; left_is = laid.left_is; roomy = laid.roomy }
 
 -- and are back in the rows
 pub can_pass : {P T V : Type 0} (knows : P → Pass) (serves : T → P → Type 0) (items : V → List P) (lane : ℕ) (trees : List T) (rows : List V) (passes : List P) → IsManned knows serves trees passes → length rows ≡ length trees
@@ -61,7 +60,7 @@ abbrev pub IsKept : {R P T : Type 0} → Lane (LaneDesk R P T) → Lane (LaneDes
 IsKept l m = m ≡ record l { desk = record l.desk { passes = m.desk.passes } }
 
 abbrev shown : {R P T : Type 0} → (T → SharedTree) → (P → Pass) → LaneDesk R P T → DeskState
-shown tree knows d = desk_of tree knows d.lane d.phase d.trees.now (seen d.lines.now) d.passes.items d.room.items
+shown tree knows d = desk_of tree knows d.lane d.phase d.trees.now d.lines.all d.passes.items d.room.items
 
 -- a desk has its passes
 pub mans : {R P T V : Type 0} (knows : P → Pass) (serves : T → P → Type 0) (items : V → List P) (i : ℕ) (rows : List V) (l m : Lane (LaneDesk R P T)) → IsKept l m → CanPass knows serves items i l.desk.trees.now rows → length m.desk.passes.items ≡ length rows
@@ -69,17 +68,17 @@ pub mans : {R P T V : Type 0} (knows : P → Pass) (serves : T → P → Type 0)
 mans {R} {P} {T} {V} knows serves items i rows l m kept can count taken = subst (λ (z : Lane (LaneDesk R P T)). IsManned knows serves z.desk.trees.now m.desk.passes.items) (sym kept) (is_manned knows serves items i l.desk.trees.now rows m.desk.passes.items can count taken)
 
 pub can_run : {R P T V : Type 0} (knows : P → Pass) (serves : T → P → Type 0) (items : V → List P) (i : ℕ) (rows : List V) (l m : Lane (LaneDesk R P T)) → IsKept l m
-    → IsLaid l.steps (length l.desk.trees.now) (seen l.desk.lines.now) (vec_len l.desk.passes) (vec_len l.desk.room) (vec_capacity l.desk.room) → CanPass knows serves items i l.desk.trees.now rows → length m.desk.passes.items ≡ length rows
+    → IsLaid l.steps (length l.desk.trees.now) l.desk.lines.all l.desk.lines.left (vec_len l.desk.passes) (vec_len l.desk.room) (vec_capacity l.desk.room) → CanPass knows serves items i l.desk.trees.now rows → length m.desk.passes.items ≡ length rows
     → ((tree : ℕ) (v : V) (p : P) → tree < length rows → get_or m.desk.passes.items tree p ≡ pass_at items rows tree i v p)
-    → CanRun (λ d. length d.lines.now) (λ d s. IsReady knows serves d.trees.now (seen d.lines.now) s d.passes.items (vec_len d.room) (vec_capacity d.room)) m
+    → CanRun (λ d. length d.lines.all) (λ d s. IsReady knows serves d.trees.now d.lines.all d.lines.left s d.passes.items (vec_len d.room) (vec_capacity d.room)) m
 can_run {R} {P} {T} {V} knows serves items i rows l m kept laid can count taken =
     let steps : m.steps ≡ l.steps = ap (λ z. z.steps) kept in
-    let lines : length m.desk.lines.now ≡ length l.desk.lines.now = ap (λ z. length z.desk.lines.now) kept in
+    let lines : length m.desk.lines.all ≡ length l.desk.lines.all = ap (λ z. length z.desk.lines.all) kept in
     record {
-      within = omega (arith, steps, lines, laid.all, length-map l.desk.lines.now (λ r. r.now));
+      within = omega (arith, steps, lines, laid.all);
       turns = rw steps laid.turns;
-      awaited = λ some. subst (λ (z : Lane (LaneDesk R P T)). IsReady knows serves z.desk.trees.now (seen z.desk.lines.now) 0 m.desk.passes.items (vec_len z.desk.room) (vec_capacity z.desk.room)) (sym kept)
-          (is_ready knows serves l.steps (vec_len l.desk.passes) (vec_len l.desk.room) (vec_capacity l.desk.room) l.desk.trees.now (seen l.desk.lines.now) m.desk.passes.items laid (is_manned knows serves items i l.desk.trees.now rows m.desk.passes.items can count taken));
+      awaited = λ some. subst (λ (z : Lane (LaneDesk R P T)). IsReady knows serves z.desk.trees.now z.desk.lines.all z.desk.lines.left 0 m.desk.passes.items (vec_len z.desk.room) (vec_capacity z.desk.room)) (sym kept)
+          (is_ready knows serves l.steps (vec_len l.desk.passes) (vec_len l.desk.room) (vec_capacity l.desk.room) l.desk.trees.now l.desk.lines.all l.desk.lines.left m.desk.passes.items laid (is_manned knows serves items i l.desk.trees.now rows m.desk.passes.items can count taken));
     }
 
 -- what the lane's desk did, and that it still has its passes
@@ -104,8 +103,8 @@ pub lane_goes : {R P T V : Type 0} (tree : T → SharedTree) (knows : P → Pass
     → LaneWent knows items i l.steps rows rows' (shown tree knows l.desk) (shown tree knows k.desk)
 lane_goes {R} {P} {T} {V} tree knows items i rows rows' l m n k kept kept' ran count count' taken given =
     lane_went knows items i l.steps rows rows' (shown tree knows l.desk) (shown tree knows k.desk) m.desk.passes.items n.desk.passes.items
-    (subst (λ (z : Lane (LaneDesk R P T)). LaneRan l.steps (desk_of tree knows l.desk.lane l.desk.phase l.desk.trees.now (seen l.desk.lines.now) m.desk.passes.items l.desk.room.items) (desk_of tree knows z.desk.lane z.desk.phase z.desk.trees.now (seen z.desk.lines.now) n.desk.passes.items z.desk.room.items)) (sym kept')
-    (subst (λ (z : Lane (LaneDesk R P T)). LaneRan l.steps (desk_of tree knows z.desk.lane z.desk.phase z.desk.trees.now (seen z.desk.lines.now) m.desk.passes.items z.desk.room.items) (shown tree knows n.desk)) kept ran))
+    (subst (λ (z : Lane (LaneDesk R P T)). LaneRan l.steps (desk_of tree knows l.desk.lane l.desk.phase l.desk.trees.now l.desk.lines.all m.desk.passes.items l.desk.room.items) (desk_of tree knows z.desk.lane z.desk.phase z.desk.trees.now z.desk.lines.all n.desk.passes.items z.desk.room.items)) (sym kept')
+    (subst (λ (z : Lane (LaneDesk R P T)). LaneRan l.steps (desk_of tree knows z.desk.lane z.desk.phase z.desk.trees.now z.desk.lines.all m.desk.passes.items z.desk.room.items) (shown tree knows n.desk)) kept ran))
     count count' taken given
 
 -- from a lane's pass on a tree its steps lead to the pass that is back in the tree's row

@@ -6,8 +6,8 @@ pub mod Doing
 pub mod Fronts
 pub mod Going
 pub mod Laning
+pub mod LeftLines
 pub mod Linked
 pub mod Naming
-pub mod Referring
 pub mod Scanning
 pub mod Swapping

@@ -18,6 +18,11 @@ lines_of_lane lane here (line ∷ lines) =
     let rest = lines_of_lane lane (lane_after here line.item) lines in
     if is_step line.item && (here == lane) then line ∷ rest else rest
 
+-- the lines that a lane does: all of them, and those that it has yet to do
+pub record Owned : Type 0 where
+  pub all : List Line
+  pub left : List Line
+
 -- a line as what a lane is asked in a phase
 abbrev pub asked_of : ℕ → ℕ → Line → Asked
 asked_of lane phase line = record { line = line.number; lane = lane; phase = phase; item = line.item }

@@ -97,8 +97,9 @@ pub record StillManned {P T : Type 0} (knows : P → Pass) (serves : T → P →
 abbrev pub AreLines : ℕ → List Line → Type 0
 AreLines count lines = All (λ line. NamesBelow count line.item × (is_step line.item ≡ true)) lines
 
--- a desk that is ready for the line of this number: from it on there is room for all answers
-pub record IsReady {P T : Type 0} (knows : P → Pass) (serves : T → P → Type 0) (trees : List T) (lines : List Line) (s : ℕ) (passes : List P) (used capacity : ℕ) : Type 0 where
+-- a desk that is ready for the line of this number: the lines from it on are left, and there is room for all their answers
+pub record IsReady {P T : Type 0} (knows : P → Pass) (serves : T → P → Type 0) (trees : List T) (lines left : List Line) (s : ℕ) (passes : List P) (used capacity : ℕ) : Type 0 where
   pub manned : IsManned knows serves trees passes
   pub lines_of : AreLines (length trees) lines
+  pub left_is : left ≡ drop s lines
   pub roomy : used + room_of (drop s lines) ≤ capacity

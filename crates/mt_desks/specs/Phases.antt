@@ -17,11 +17,12 @@ FromEach {X} R xs ys = (place : ℕ) (none : X) → place < length xs → R plac
 abbrev pub pass_at : {P V : Type 0} → (V → List P) → List V → (tree lane : ℕ) → V → P → P
 pass_at items rows tree lane v p = slice_index_or (items (slice_index_or rows tree v)) lane p
 
--- a lane that can run: it is to do all its lines, and there is room for what they are answered
-pub record IsLaid (steps trees : ℕ) (lines : List Line) (passes used capacity : ℕ) : Type 0 where
+-- a lane that can run: it is to do all its lines, of which it did none, and there is room for what they are answered
+pub record IsLaid (steps trees : ℕ) (lines left : List Line) (passes used capacity : ℕ) : Type 0 where
   pub all : steps ≡ length lines
   pub turns : steps ≤ 2 ^ 63
   pub lines_of : AreLines trees lines
+  pub left_is : left ≡ lines
   pub passes_of : passes ≡ trees
   pub roomy : used + room_of lines ≤ capacity
 

@@ -6,7 +6,8 @@ ghost use Rattle.mt_log.specs.Trees.{NamesBelow};
 ghost use Rattle.mt_desks.specs.Dealing.{asked_of, is_step, room_for, tree_of};
 ghost use Rattle.mt_desks.specs.Desks.{IsDoneOn, IsLineDone, IsManned};
 
-use crate::dealing::{room_of, tree_of};
+use crate::dealing::tree_of;
+use crate::own_lines::OwnLines;
 use crate::scans::look;
 use crate::shared::{Passage, Shared};
 use mt_base::{Call, NoMemory};
@@ -100,34 +101,37 @@ fn answer_line<R: Wait, P: Passage, T: Shared<P>>(
     answer_on(rt, &trees[at], &mut passes[at], line, room);
 }
 
-/// A lane's desk in a phase: its lines, its pass on each tree, and the room for all its answers.
+/// A lane's desk in a phase: its own lines, its pass on each tree, and the room for all its answers.
 #[derive(Drop)]
 pub struct LaneDesk<'a, R, P: Drop, T> {
     pub rt: &'a R,
     pub lane: u32,
     pub phase: u64,
     pub trees: &'a [T],
-    pub lines: &'a [&'a Line],
+    pub lines: OwnLines<'a>,
     pub passes: Vec<P>,
     pub room: Vec<Entry>,
 }
 
 impl<'a, R: Wait, P: Passage + Drop, T: Shared<P>> Desk for LaneDesk<'a, R, P, T> {
-    ghost use Rattle.std.specs.Prelude.{◌≡◌, length, map, vec_len, vec_capacity};
+    ghost use Rattle.std.specs.Prelude.{◌≡◌, length, vec_len, vec_capacity};
     ghost use Rattle.mt_desks.specs.Desks.{IsReady, DeskDid, StillManned, desk_of};
 
-    ghost count = { λ d. length d.lines.now };
+    ghost count = { λ d. length d.lines.all };
 
-    ghost awaits = { λ d s. IsReady P.knows T.serves d.trees.now (map (λ r. r.now) d.lines.now) s d.passes.items (vec_len d.room) (vec_capacity d.room) };
+    ghost awaits = { λ d s. IsReady P.knows T.serves d.trees.now d.lines.all d.lines.left s d.passes.items (vec_len d.room) (vec_capacity d.room) };
 
-    ghost did = { λ a s b. DeskDid (desk_of T.tree P.knows a.lane a.phase a.trees.now (map (λ r. r.now) a.lines.now) a.passes.items a.room.items) s
-        (desk_of T.tree P.knows b.lane b.phase b.trees.now (map (λ r. r.now) b.lines.now) b.passes.items b.room.items) × StillManned P.knows T.serves a.trees.now b.trees.now b.passes.items };
+    ghost did = { λ a s b. DeskDid (desk_of T.tree P.knows a.lane a.phase a.trees.now a.lines.all a.passes.items a.room.items) s
+        (desk_of T.tree P.knows b.lane b.phase b.trees.now b.lines.all b.passes.items b.room.items) × StillManned P.knows T.serves a.trees.now b.trees.now b.passes.items };
 
-    fn answer(&mut self, step: u64) {
+    fn answer(&mut self, _step: u64) {
+        let Some(line) = self.lines.next() else {
+            unreachable!()
+        };
         answer_line(
             self.rt,
             self.trees,
-            self.lines[step as usize],
+            line,
             self.passes.as_mut_slice(),
             &mut self.room,
         );
@@ -135,11 +139,11 @@ impl<'a, R: Wait, P: Passage + Drop, T: Shared<P>> Desk for LaneDesk<'a, R, P, T
 }
 
 impl<'a, R: Wait, P: Passage + Drop, T: Shared<P>> LaneDesk<'a, R, P, T> {
-    ghost use Rattle.std.specs.Prelude.{◌≡◌, ◌≤◌, ◌+◌, IfOk, length, map, vec_len, vec_capacity};
-    ghost use Rattle.mt_desks.specs.Dealing.{room_of};
+    ghost use Rattle.std.specs.Prelude.{◌≡◌, ◌≤◌, ◌+◌, IfOk, length, vec_len, vec_capacity};
+    ghost use Rattle.mt_desks.specs.Dealing.{lines_of_lane};
 
-    /// A desk for these lines, which takes all its memory. Its room is the one that it is given, with what that holds at
-    /// the front, and its passes are away.
+    /// A desk for the lines of a phase that this lane does, which takes all its memory. Its room is the one that it is given,
+    /// with what that holds at the front, and with place for so many answers more; its passes are away.
     ///
     /// # Errors
     ///
@@ -150,28 +154,30 @@ impl<'a, R: Wait, P: Passage + Drop, T: Shared<P>> LaneDesk<'a, R, P, T> {
         lane: u32,
         phase: u64,
         trees: &'a [T],
-        lines: &'a [&'a Line],
+        lines: &'a [Line],
+        more: usize,
         mut room: Vec<Entry>,
     ) -> Result<Self, NoMemory>
         ensures lane { IfOk result (λ d. d.lane ≡ lane) }
         ensures phase { IfOk result (λ d. d.phase ≡ phase) }
         ensures trees { IfOk result (λ d. d.trees.now ≡ trees.now) }
-        ensures lines { IfOk result (λ d. d.lines.now ≡ lines.now) }
+        ensures lines { IfOk result (λ d. d.lines.all ≡ lines_of_lane lane 0 lines.now) }
+        ensures left { IfOk result (λ d. d.lines.left ≡ d.lines.all) }
         ensures passes { IfOk result (λ d. vec_len d.passes ≡ length trees.now) }
         ensures told { IfOk result (λ d. d.room.items ≡ room.items) }
-        ensures roomy { IfOk result (λ d. vec_len d.room + room_of (map (λ r. r.now) lines.now) ≤ vec_capacity d.room) }
+        ensures roomy { IfOk result (λ d. vec_len d.room + more ≤ vec_capacity d.room) }
     {
         let mut passes = Vec::with_capacity(alloc, trees.len())?;
         for _tree in 0..trees.len() {
             passes.push_reserved(P::away());
         }
-        room.reserve(room_of(lines)?)?;
+        room.reserve(more)?;
         Ok(LaneDesk {
             rt,
             lane,
             phase,
             trees,
-            lines,
+            lines: OwnLines::new(lane, lines),
             passes,
             room,
         })

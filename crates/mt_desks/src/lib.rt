@@ -4,6 +4,7 @@
 mod dealing;
 mod desks;
 pub mod laws;
+mod own_lines;
 mod passes;
 mod passing;
 pub mod phase_lines;
@@ -13,8 +14,9 @@ mod shared;
 mod turns;
 mod walks;
 
-pub use dealing::{lane_after, lanes_in, lines_of_lane};
+pub use dealing::{lane_after, lanes_in};
 pub use desks::LaneDesk;
+pub use own_lines::{Needs, OwnLines, needs_of};
 pub use phases::run_phase;
 pub use scans::scan;
 pub use shared::{Done, Looked, Passage, Shared, Worn};

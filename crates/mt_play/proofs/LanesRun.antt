@@ -25,7 +25,7 @@ use Rattle.mt_play.specs.Players.{rows_known}
 use Rattle.mt_desks.proofs.Asking.{own_asked}
 
 abbrev pub state : {R P T : Type 0} → (T → SharedTree) → (P → Pass) → LaneDesk R P T → DeskState
-state tree knows d = desk_of tree knows d.lane d.phase d.trees.now (map (λ r. r.now) d.lines.now) d.passes.items d.room.items
+state tree knows d = desk_of tree knows d.lane d.phase d.trees.now d.lines.all d.passes.items d.room.items
 
 -- ---- one place of a list that is mapped
 

@@ -1,5 +1,5 @@
 -- One lane more is at its desk.
-use Rattle.std.proofs.Common.{◌≡◌, ℕ, zero, suc, ◌<◌, List, [], ◌∷◌, ◌++◌, length, map, get_or, arith, refl, ap, ◌∙◌, subst, inl, inr, Bor, Vec, Global, length-append}
+use Rattle.std.proofs.Common.{◌≡◌, ℕ, zero, suc, ◌<◌, List, [], ◌∷◌, ◌++◌, length, get_or, arith, refl, subst, inl, inr, length-append}
 use Rattle.std.proofs.lemmas.Bool.{cases_eq}
 use Rattle.mt_log.specs.declared.lines.Line.{Line}
 use Rattle.mt_log.specs.declared.transcripts.Entry.{Entry}
@@ -27,14 +27,8 @@ at_each_more P xs x each one = λ place d below. elim (cases_eq place (length xs
       rw (first_ones xs x d place here) (each place d here)
 ]
 
-abbrev pub Dealt : List Line → List (Vec (Bor Line) Global) → Type 0
-Dealt lines dealt = AtEach (λ lane own. map (λ r. r.now) own.items ≡ lines_of_lane lane 0 lines) dealt
-
-pub lane_more : {R P T : Type 0} (trees : List T) (phase : ℕ) (dealt : List (Vec (Bor Line) Global)) (first room : List Entry) (ls : List (Lane (LaneDesk R P T))) (l : Lane (LaneDesk R P T)) (own : Vec (Bor Line) Global) (lane : ℕ)
-    → length ls ≡ lane → lane < length dealt → own ≡ get_or dealt lane own → room ≡ room_before first lane → IsLaneFor trees phase (map (λ r. r.now) own.items) room lane l
-    → ((lines : List Line) → Dealt lines dealt → AreLanesFor trees phase lines first ls)
-    → (lines : List Line) → Dealt lines dealt → AreLanesFor trees phase lines first (ls ++ l ∷ [])
-lane_more {R} {P} {T} trees phase dealt first room ls l own lane count within own_is room_is for all lines given =
-    let lines_are : map (λ r. r.now) own.items ≡ lines_of_lane lane 0 lines = ap (λ (z : Vec (Bor Line) Global). map (λ r. r.now) z.items) own_is ∙ given lane own within in
-    at_each_more (λ number l. IsLaneFor trees phase (lines_of_lane number 0 lines) (room_before first number) number l) ls l (all lines given)
-    (rw count (subst (λ (z : List Line). IsLaneFor trees phase z (room_before first lane) lane l) lines_are (subst (λ (z : List Entry). IsLaneFor trees phase (map (λ r. r.now) own.items) z lane l) room_is for)))
+pub lane_more : {R P T : Type 0} (trees : List T) (phase : ℕ) (lines : List Line) (first room : List Entry) (ls : List (Lane (LaneDesk R P T))) (l : Lane (LaneDesk R P T)) (lane : ℕ)
+    → length ls ≡ lane → room ≡ room_before first lane → IsLaneFor trees phase (lines_of_lane lane 0 lines) room lane l → AreLanesFor trees phase lines first ls → AreLanesFor trees phase lines first (ls ++ l ∷ [])
+lane_more {R} {P} {T} trees phase lines first room ls l lane count room_is for all =
+    at_each_more (λ number l. IsLaneFor trees phase (lines_of_lane number 0 lines) (room_before first number) number l) ls l all
+    (rw count (subst (λ (z : List Entry). IsLaneFor trees phase (lines_of_lane lane 0 lines) z lane l) room_is for))

@@ -39,7 +39,7 @@ module _ {R P T : Type 0} (knows : P → Pass) (serves : T → P → Type 0) (la
   pub rows_wide : All (λ (row : Vec P Global). length ls ≤ vec_len row) rows
   rows_wide = λ at row within. omega (arith, wide at row (omega (arith, manned.count)), (get_or rows at row).ok, count)
 
-  pub lanes_laid : All (λ (l : Lane (LaneDesk R P T)). IsLaid l.steps (length l.desk.trees.now) (map (λ r. r.now) l.desk.lines.now) (vec_len l.desk.passes) (vec_len l.desk.room) (vec_capacity l.desk.room)) ls
+  pub lanes_laid : All (λ (l : Lane (LaneDesk R P T)). IsLaid l.steps (length l.desk.trees.now) l.desk.lines.all l.desk.lines.left (vec_len l.desk.passes) (vec_len l.desk.room) (vec_capacity l.desk.room)) ls
   lanes_laid = λ lane d within.
       let l : Lane (LaneDesk R P T) = get_or ls lane d in
       let f : IsLaneFor trees phase (lines_of_lane lane 0 lines) (room_before first lane) lane l = laid lane d within in
@@ -47,6 +47,7 @@ module _ {R P T : Type 0} (knows : P → Pass) (serves : T → P → Type 0) (la
         all = f.steps ∙ sym (ap length f.lines_are);
         turns = omega (arith, f.steps, own_short lane 0 lines, can.short);
         lines_of = rw (f.lines_are, f.trees_are) (can.own lane);
+        left_is = f.left_is ∙ sym f.lines_are;
         passes_of = f.passes ∙ sym (ap length f.trees_are);
         roomy = rw f.lines_are f.roomy;
       }

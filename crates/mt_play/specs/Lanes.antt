@@ -63,7 +63,8 @@ pub record IsLaneFor {R P T : Type 0} (trees : List T) (phase : ℕ) (own : List
   pub lane : l.desk.lane ≡ number
   pub phase_is : l.desk.phase ≡ phase
   pub trees_are : l.desk.trees.now ≡ trees
-  pub lines_are : map (λ r. r.now) l.desk.lines.now ≡ own
+  pub lines_are : l.desk.lines.all ≡ own
+  pub left_is : l.desk.lines.left ≡ own
   pub passes : vec_len l.desk.passes ≡ length trees
   pub told_is : l.desk.room.items ≡ told
   pub roomy : vec_len l.desk.room + room_of own ≤ vec_capacity l.desk.room

@@ -1,21 +1,18 @@
 //! The lanes of a phase.
 
-ghost use Rattle.std.specs.Prelude.{◌≡◌, ◌≢◌, ◌<◌, ◌≤◌, ◌+◌, ◌++◌, ℕ, true, false, All, List, [], length, map, slice_index_or, IfOk, OnOk, Vec};
+ghost use Rattle.std.specs.Prelude.{◌≡◌, ◌≢◌, ◌<◌, ◌≤◌, ◌+◌, ◌++◌, ℕ, true, false, All, [], length, map, slice_index_or, IfOk, OnOk, Vec};
 ghost use Rattle.std.specs.Global.{Global};
 ghost use Rattle.mt_desks.specs.Dealing.{lines_of_lane};
-ghost use Rattle.mt_desks.specs.Phases.{AtEach};
 ghost use Rattle.mt_desks.specs.Turns.{in_turn};
 ghost use Rattle.mt_lanes.specs.declared.lanes.Lane.{Lane};
 ghost use Rattle.mt_desks.specs.declared.desks.LaneDesk.{LaneDesk};
-ghost use Rattle.mt_log.specs.declared.lines.Line.{Line};
-ghost use Rattle.mt_log.specs.Trees.{most_lanes};
 ghost use Rattle.mt_play.specs.Lanes.{AreLanesFor, AreManned, AreSettled, CanDo, HaveGoneBy, HaveRun, IsLaneFor};
 ghost use Rattle.mt_play.specs.Players.{rows_known};
 ghost use Rattle.mt_play.specs.Trees.{AreAll};
 
 use crate::trees::Plays;
 use mt_base::NoMemory;
-use mt_desks::{LaneDesk, Passage, Shared, lines_of_lane, put_back, run_phase};
+use mt_desks::{LaneDesk, Passage, Shared, needs_of, put_back, run_phase};
 use mt_io::Gate;
 use mt_lanes::Lane;
 use mt_log::{Entry, Line};
@@ -36,59 +33,47 @@ fn settle_all<R: Wait, P: Passage + Drop, T: Plays<P>>(rt: &R, trees: &[T], seat
     }
 }
 
-/// The lines of each lane.
-fn deal<'a>(alloc: Global, lanes: u32, lines: &'a [Line]) -> Result<Vec<Vec<&'a Line>>, NoMemory>
-    ensures count { IfOk result (λ dealt. length dealt.items ≡ lanes) }
-    ensures own { IfOk result (λ dealt. AtEach (λ lane own. map (λ r. r.now) own.items ≡ lines_of_lane lane 0 lines.now) dealt.items) }
-{
-    let mut dealt = Vec::with_capacity(alloc, lanes as usize)?;
-    for lane in 0..lanes {
-        dealt.push_reserved(lines_of_lane(alloc, lane, lines)?);
-    }
-    Ok(dealt)
-}
-
-/// A lane at its desk, which is to do these lines.
-fn lay_lane<'a, 'l, R: Wait, P: Passage + Drop, T: Shared<P>>(
+/// A lane at its desk, which is to do its lines of this phase.
+fn lay_lane<'a, R: Wait, P: Passage + Drop, T: Shared<P>>(
     alloc: Global,
     rt: &'a R,
     lane: u32,
     phase: u64,
     trees: &'a [T],
-    own: &'a [&'l Line],
+    lines: &'a [Line],
     room: Vec<Entry>,
 ) -> Result<Lane<LaneDesk<'a, R, P, T>>, NoMemory>
-    ensures { IfOk result (λ l. IsLaneFor trees.now phase (map (λ r. r.now) own.now) room.items lane l) }
+    ensures { IfOk result (λ l. IsLaneFor trees.now phase (lines_of_lane lane 0 lines.now) room.items lane l) }
 {
-    let desk = LaneDesk::new(alloc, rt, lane, phase, trees, own, room)?;
+    let needs = needs_of(lane, lines)?;
+    let desk = LaneDesk::new(alloc, rt, lane, phase, trees, lines, needs.room, room)?;
     Ok(Lane {
         lane,
-        steps: own.len() as u64,
+        steps: needs.steps,
         desk,
     })
 }
 
 /// All lanes at their desks. The first one's room is the one that it is given, with what that holds at the front.
-fn lay_lanes<'a, 'l, R: Wait, P: Passage + Drop, T: Shared<P>>(
+fn lay_lanes<'a, R: Wait, P: Passage + Drop, T: Shared<P>>(
     alloc: Global,
     rt: &'a R,
+    lanes: u32,
     phase: u64,
     trees: &'a [T],
-    dealt: &'a [Vec<&'l Line>],
+    lines: &'a [Line],
     first: Vec<Entry>,
 ) -> Result<Vec<Lane<LaneDesk<'a, R, P, T>>>, NoMemory>
-    requires few { length dealt.now ≤ most_lanes }
-    ensures count { IfOk result (λ lanes. length lanes.items ≡ length dealt.now) }
-    ensures laid { IfOk result (λ lanes. (lines : List Line) → AtEach (λ lane own. map (λ r. r.now) own.items ≡ lines_of_lane lane 0 lines) dealt.now → AreLanesFor trees.now phase lines first.items lanes.items) }
+    ensures count { IfOk result (λ laid. length laid.items ≡ lanes) }
+    ensures laid { IfOk result (λ laid. AreLanesFor trees.now phase lines.now first.items laid.items) }
 {
-    let mut lanes = Vec::with_capacity(alloc, dealt.len())?;
+    let mut laid = Vec::with_capacity(alloc, lanes as usize)?;
     let mut room = first;
-    for lane in 0..dealt.len() {
+    for lane in 0..lanes {
         let own = mem::replace(&mut room, Vec::new(alloc));
-        let lines = dealt[lane].as_slice();
-        lanes.push_reserved(lay_lane(alloc, rt, lane as u32, phase, trees, lines, own)?);
+        laid.push_reserved(lay_lane(alloc, rt, lane, phase, trees, lines, own)?);
     }
-    Ok(lanes)
+    Ok(laid)
 }
 
 /// Puts what the lanes were told, each in its room, behind these entries, in the order of the log.
@@ -155,38 +140,6 @@ fn reserve_all<R, P: Drop, T>(
     Ok(())
 }
 
-/// Runs the lanes of a phase, each with its own lines, and tells what they were answered behind these entries.
-fn run_dealt<
-    'a,
-    'l,
-    R: Threads + Wait + Sync,
-    P: Passage + Drop + Send,
-    T: Shared<P> + Sync,
-    G: Gate + Sync,
->(
-    rt: &'a R,
-    alloc: Global,
-    phase: u64,
-    lines: &[Line],
-    trees: &'a [T],
-    dealt: &'a [Vec<&'l Line>],
-    seats: &mut [Vec<P>],
-    entries: &mut Vec<Entry>,
-    gate: &G,
-) -> Result<(), NoMemory>
-    requires can { CanDo (length dealt.now) (length trees.now) lines.now }
-    requires own { AtEach (λ lane own. map (λ r. r.now) own.items ≡ lines_of_lane lane 0 lines.now) dealt.now }
-    requires manned { AreManned P.knows T.serves (length dealt.now + 1) trees.now seats.old }
-    ensures manned { OnOk result (AreManned P.knows T.serves (length dealt.now + 1) trees.now seats.new) }
-    ensures run { OnOk result (HaveRun phase lines.now (map T.tree trees.now) (rows_known P.knows seats.old) (rows_known P.knows seats.new) entries.old.items entries.new.items) }
-{
-    let first = first_room(alloc, dealt.len() == 1, entries);
-    let mut lanes = lay_lanes(alloc, rt, phase, trees, dealt, first)?;
-    reserve_all(lanes.as_slice(), entries)?;
-    run_phase(rt, seats, lanes.as_mut_slice(), gate);
-    tell(alloc, lines, lanes.as_mut_slice(), entries)
-}
-
 /// Runs the lanes of a phase on these trees, whose passes sit in the rows beside them, and tells what they were answered
 /// behind these entries.
 ///
@@ -214,9 +167,11 @@ fn run_lanes<
     ensures manned { OnOk result (AreManned P.knows T.serves (lanes + 1) trees.now seats.new) }
     ensures run { OnOk result (HaveRun phase lines.now (map T.tree trees.now) (rows_known P.knows seats.old) (rows_known P.knows seats.new) entries.old.items entries.new.items) }
 {
-    let dealt = deal(alloc, lanes, lines)?;
-    let own = dealt.as_slice();
-    run_dealt(rt, alloc, phase, lines, trees, own, seats, entries, gate)
+    let first = first_room(alloc, lanes == 1, entries);
+    let mut laid = lay_lanes(alloc, rt, lanes, phase, trees, lines, first)?;
+    reserve_all(laid.as_slice(), entries)?;
+    run_phase(rt, seats, laid.as_mut_slice(), gate);
+    tell(alloc, lines, laid.as_mut_slice(), entries)
 }
 
 /// Runs the lanes of a phase on these trees, and then settles all passes of each tree.

@@ -1,7 +1,9 @@
-ghost use Rattle.std.specs.Prelude.{◌≡◌, true, All, ◌≤◌, ◌^◌, ⊤, IfOk, [], length, map, vec_len, vec_capacity};
+ghost use Rattle.std.specs.Prelude.{◌≡◌, All, ◌≤◌, ◌^◌, ⊤, IfOk, [], length, vec_len, vec_capacity};
+ghost use Rattle.mt_base.specs.declared.calls.Call.TheVariants.{Clear};
+ghost use Rattle.mt_base.specs.declared.calls.Query.TheVariants.{Load};
 ghost use Rattle.mt_base.specs.declared.kinds.Kind.TheVariants as kinds;
-ghost use Rattle.mt_log.specs.Trees.{NamesBelow};
-ghost use Rattle.mt_desks.specs.Dealing.{is_step};
+ghost use Rattle.mt_log.specs.declared.lines.Item.TheVariants as items;
+ghost use Rattle.mt_desks.specs.Dealing.{lines_of_lane};
 ghost use Rattle.mt_desks.specs.Desks.{AreLines};
 ghost use Rattle.mt_desks.specs.Phases.{IsLaid};
 
@@ -9,7 +11,8 @@ use crate::empty::scan_empty;
 use crate::tokens::Token;
 use mt_base::{Call, NoMemory, Query};
 use mt_desks::{
-    Done, LaneDesk, Looked, Passage, Shared, Worn, lanes_in, lines_of_lane, put_back, run_phase,
+    Done, LaneDesk, Looked, OwnLines, Passage, Shared, Worn, lanes_in, needs_of, put_back,
+    run_phase,
 };
 use mt_io::NoGate;
 use mt_lanes::Lane;
@@ -55,7 +58,7 @@ impl Shared<Token> for Bare {
 
 /// A load of the first tree.
 fn load(number: u64) -> Line
-    ensures { NamesBelow 1 result.item × (is_step result.item ≡ true) }
+    ensures { result ≡ record { number = number; item = items.Ask 0 (Load 5) } }
 {
     let query = Query::Load { index: 5 };
     Line {
@@ -66,7 +69,7 @@ fn load(number: u64) -> Line
 
 /// A call on the first tree.
 fn clear(number: u64) -> Line
-    ensures { NamesBelow 1 result.item × (is_step result.item ≡ true) }
+    ensures { result ≡ record { number = number; item = items.Write 0 Clear } }
 {
     let call = Call::Clear;
     Line {
@@ -77,7 +80,7 @@ fn clear(number: u64) -> Line
 
 /// A scan of the first tree.
 fn scan(number: u64) -> Line
-    ensures { NamesBelow 1 result.item × (is_step result.item ≡ true) }
+    ensures { result ≡ record { number = number; item = items.Scan 0 0 9 3 } }
 {
     let (index, max, count) = (0, 9, 3);
     Line {
@@ -104,7 +107,9 @@ fn join(number: u64) -> Line {
 }
 
 /// A line that names a lane.
-fn lane(number: u64, lane: u32) -> Line {
+fn lane(number: u64, lane: u32) -> Line
+    ensures { result ≡ record { number = number; item = items.Lane lane } }
+{
     let item = Item::Lane { lane };
     Line { number, item }
 }
@@ -123,9 +128,17 @@ fn each_lane_has_its_lines(rt: HostRuntime) -> Result<(), Fail> {
     ];
     let rows: [(u32, &[u64]); 3] = [(0, &[7]), (1, &[5, 9, 10]), (2, &[])];
     for (number, want) in rows {
-        let own = lines_of_lane(rt.alloc(), number, &lines)?;
-        let numbers: Vec<u64> = own.iter().map(|line| line.number).collect(rt.alloc())?;
-        assert_eq!(rt; numbers.as_slice(), want, "lane {number}");
+        let mut own = OwnLines::new(number, &lines);
+        for line in want {
+            assert_eq!(rt;
+                own.next().map(|line| line.number),
+                Some(*line),
+                "lane {number}"
+            );
+        }
+        assert!(rt; own.next().is_none(), "lane {number}");
+        let needs = needs_of(number, &lines)?;
+        assert_eq!(rt; needs.steps, want.len() as u64, "lane {number}");
     }
     Ok(())
 }
@@ -200,24 +213,25 @@ fn answers_are_put_back_in_the_order_of_the_log(rt: HostRuntime) -> Result<(), F
     Ok(())
 }
 
-/// A lane with a desk over the trees.
+/// A lane with a desk over the trees, which is to do its lines of a phase.
 fn laid<'a, R: Wait>(
     alloc: Global,
     rt: &'a R,
     lane: u32,
     trees: &'a [Bare],
-    lines: &'a [&'a Line],
+    lines: &'a [Line],
 ) -> Result<Lane<LaneDesk<'a, R, Token, Bare>>, NoMemory>
-    requires lines { AreLines (length trees.now) (map (λ r. r.now) lines.now) }
-    requires few { length lines.now ≤ 2 ^ 63 }
-    ensures laid { IfOk result (λ l. IsLaid l.steps (length l.desk.trees.now) (map (λ r. r.now) l.desk.lines.now) (vec_len l.desk.passes) (vec_len l.desk.room) (vec_capacity l.desk.room)) }
+    requires lines { AreLines (length trees.now) (lines_of_lane lane 0 lines.now) }
+    requires few { length (lines_of_lane lane 0 lines.now) ≤ 2 ^ 63 }
+    ensures laid { IfOk result (λ l. IsLaid l.steps (length l.desk.trees.now) l.desk.lines.all l.desk.lines.left (vec_len l.desk.passes) (vec_len l.desk.room) (vec_capacity l.desk.room)) }
     ensures trees { IfOk result (λ l. l.desk.trees.now ≡ trees.now) }
 {
+    let needs = needs_of(lane, lines)?;
     let room = Vec::from_slice(alloc, &[entry(2, lane as u64)])?;
-    let desk = LaneDesk::new(alloc, rt, lane, 0, trees, lines, room)?;
+    let desk = LaneDesk::new(alloc, rt, lane, 0, trees, lines, needs.room, room)?;
     Ok(Lane {
         lane,
-        steps: lines.len() as u64,
+        steps: needs.steps,
         desk,
     })
 }
@@ -243,18 +257,17 @@ fn lines_of_two<'a, R: Threads + Wait + Sync>(
     alloc: Global,
     rt: &'a R,
     trees: &'a [Bare],
-    first: &'a [&'a Line],
-    second: &'a [&'a Line],
+    lines: &'a [Line],
     rows: &mut [Vec<Token>],
 ) -> Result<[Vec<u64>; 2], Fail>
     requires trees { length trees.now ≡ length rows.old }
     requires rows { All (λ row. 2 ≤ vec_len row) rows.old }
-    requires first { AreLines (length trees.now) (map (λ r. r.now) first.now) × (length first.now ≤ 2 ^ 63) }
-    requires second { AreLines (length trees.now) (map (λ r. r.now) second.now) × (length second.now ≤ 2 ^ 63) }
+    requires first { AreLines (length trees.now) (lines_of_lane 0 0 lines.now) × (length (lines_of_lane 0 0 lines.now) ≤ 2 ^ 63) }
+    requires second { AreLines (length trees.now) (lines_of_lane 1 0 lines.now) × (length (lines_of_lane 1 0 lines.now) ≤ 2 ^ 63) }
 {
     let mut lanes = [
-        laid(alloc, rt, 0, trees, first)?,
-        laid(alloc, rt, 1, trees, second)?,
+        laid(alloc, rt, 0, trees, lines)?,
+        laid(alloc, rt, 1, trees, lines)?,
     ];
     run_phase(rt, rows, &mut lanes, &NoGate);
     Ok([
@@ -265,13 +278,20 @@ fn lines_of_two<'a, R: Threads + Wait + Sync>(
 
 #[test]
 fn each_lane_does_its_own_lines(rt: HostRuntime) -> Result<(), Fail> {
-    let lines = [load(3), scan(4), clear(5), load(6), load(7)];
-    let first = [&lines[0], &lines[2]];
-    let second = [&lines[1], &lines[3], &lines[4]];
+    let lines = [
+        load(3),
+        lane(4, 1),
+        scan(5),
+        lane(6, 0),
+        clear(7),
+        lane(8, 1),
+        load(9),
+        load(10),
+    ];
     let mut rows = [three_passes(rt.alloc())?];
-    let [a, b] = lines_of_two(rt.alloc(), &rt, &[Bare], &first, &second, &mut rows)?;
+    let [a, b] = lines_of_two(rt.alloc(), &rt, &[Bare], &lines, &mut rows)?;
     assert_eq!(rt; a.as_slice(), [2, 3].as_slice());
-    assert_eq!(rt; b.as_slice(), [2, 4, 6, 7].as_slice());
+    assert_eq!(rt; b.as_slice(), [2, 5, 9, 10].as_slice());
     let [row] = rows;
     let numbers: Vec<u32> = row.iter().map(|pass| pass.number()).collect(rt.alloc())?;
     assert_eq!(rt; numbers.as_slice(), [0, 1, 2].as_slice());

@@ -6,9 +6,9 @@ use Rattle.mt_play.proofs.lanes.lay_lanes.Goals as goal
 pub loop-lane-preserved : goal.loop-lane-preserved
 loop-lane-preserved g c =
     let so = c.loop-lane.invariant in
-    let more = lane_more c.args.trees.now c.args.phase c.args.dealt.now c.args.first.items c.replace-own.result.items c.loop-lane.lanes.items c.in_ok-lay_lane.field-0 c.index-dealt-lane.result c.loop-lane.lane
-    so.0 c.loop-lane-test.true c.index-dealt-lane.is (ap (λ z. z.items) c.replace-own.ensures.value ∙ so.2) (rw (← c.as_slice-lines.ensures.value) c.in_ok-lay_lane.ensures) so.3 in (
-      omega (arith, so.0, c.push_reserved.ensures.len, c.push_reserved.new.self.ok, c.loop-lane.lanes.ok),
+    let more = lane_more c.args.trees.now c.args.phase c.args.lines.now c.args.first.items c.replace-own.result.items c.loop-lane.laid.items c.in_ok-lay_lane.field-0 c.loop-lane.lane
+    so.0 (ap (λ z. z.items) c.replace-own.ensures.value ∙ so.2) c.in_ok-lay_lane.ensures so.3 in (
+      omega (arith, so.0, c.push_reserved.ensures.len, c.push_reserved.new.self.ok, c.loop-lane.laid.ok),
       omega (arith, so.1, c.push_reserved.ensures.capacity),
       ap (λ z. z.items) c.replace-own.ensures.after ∙ (c.new.ensures.items ∙ sym (room_behind c.args.first.items c.loop-lane.lane)),
       rw c.push_reserved.ensures.items more,
