@@ -212,21 +212,6 @@ child_rises before rest all x is rise = behind before (subst (λ (l : List Child
     behind [] rise = rise.0
     behind (y ∷ ys) rise = behind ys rise.1
 
-abbrev pub GreatestIs : ℕ → List Child → Type 0
-GreatestIs greatest before = greatest ≡ longest_gap before
-
-longest_gap-append : (xs ys : List Child) → longest_gap (xs ++ ys) ≡ max (longest_gap xs) (longest_gap ys)
-longest_gap-append [] ys = omega arith
-longest_gap-append (x ∷ xs) ys = let rest = longest_gap-append xs ys in omega arith
-
-pub greatest_on : (greatest : ℕ) (before : List Child) → GreatestIs greatest before → (x : Child) (after : ℕ) → after ≡ max greatest x.gap → GreatestIs after (before ++ (x ∷ []))
-greatest_on greatest before is x after after_is = let both = longest_gap-append before (x ∷ []) in omega arith
-
--- where a row begins is no matter
-pub from_any : (first other : ℕ) (items : List Item) → longest_gap (children_from first items) ≡ longest_gap (children_from other items)
-from_any first other [] = refl
-from_any first other (x ∷ items) = refl
-
 -- a row without gaps tells none
 pub no_gaps_told : (first : ℕ) (items : List Item) → AllByRecursion (λ (x : Item). x.gap ≡ 0) items → longest_gap (children_from first items) ≡ 0
 no_gaps_told first [] none = refl

@@ -90,10 +90,6 @@ module _ (s t u : Sheet) (kind : RowKind) (row first max slot begin last : ℕ) 
       times : (a b : ℕ) → a * b + a ≤ a * (b + 1)
       times a b = grind arith
 
-  -- no more was loaded than the row has columns
-  pub few_read : ReadsUpTo (columns s.tree.table.width) s u
-  few_read = reads_up (loads_for kind * (slot + 1)) (columns s.tree.table.width) s u (few_loads s.tree.table.width kind (slot + 1) (let low = within in omega arith)) all_loads
-
   here_on : last < max → unread s.tree kind row max slot begin ≡ child ∷ unread s.tree kind row max (slot + 1) (last + 1)
   here_on more =
       (λ i. children_from begin (items_from (slots_of s.tree.table.width kind) (gaps_of s.tree.table.width kind) s.tree.table.words (base_of s.tree.table row) max (left i) slot))

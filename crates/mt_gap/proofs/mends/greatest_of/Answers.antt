@@ -1,11 +1,11 @@
-use Rattle.std.proofs.Common.{◌≡◌, ◌+◌, ◌<◌, ◌≤◌, max, suc, refl, rules, sym, ap, ◌∙◌, subst, arith}
+use Rattle.std.proofs.Common.{◌≡◌, ◌+◌, max, suc, refl, rules, sym, ap, ◌∙◌, arith}
 use Rattle.mt_base.specs.declared.widths.Width.{Width}
 use Rattle.mt_base.specs.Width.{columns}
 use Rattle.mt_layout.specs.declared.names.RowKind.TheVariants.{Gapped}
 use Rattle.mt_layout.specs.Sizes.{slots_of}
 use Rattle.mt_path.proofs.Kept.{place_kept, tree_kept}
 use Rattle.mt_path.proofs.Loads.{no_reads, reads_more, reads_up, one_read}
-use Rattle.mt_rows.specs.Sheet.{Rooted, Sheet}
+use Rattle.mt_rows.specs.Sheet.{Rooted}
 use Rattle.mt_gap.specs.Mending.{most_gap}
 use Rattle.mt_gap.specs.Slots.{gap_in}
 use Rattle.mt_gap.proofs.GapWords.{few_gaps}
