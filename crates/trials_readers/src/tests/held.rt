@@ -5,7 +5,7 @@ ghost use Rattle.mt_tree.specs.Trees.{IsPassOf};
 
 use crate::tests::{last_pass, made, store, store_range};
 use mt_base::{Holder, Kind, Reply, Shortage, Steps};
-use mt_tree::{Pass, Tree};
+use mt_tree::{Pass, Read, Tree};
 use std::marker::Brand;
 use std::process::Abort;
 use std::sync::Wait;
@@ -94,7 +94,8 @@ fn drop_the_cursor<R: Wait + Abort, L: Ledger>(
     store_range(rt, tree, writer, 10, 10, 5, 1);
     step_once(tree, reader, &mut steps);
     fill(rt, tree, writer);
-    let _ = tree.load(reader, 10, &mut steps);
+    let (lo, hi, value) = (6, 6, Some(5));
+    assert_eq!(rt; tree.load(reader, 10, &mut steps), Read { lo, hi, value });
     store(rt, tree, writer, 60, 7, Reply::Ok);
 }
 
