@@ -1,4 +1,5 @@
 mod commands;
+mod desk;
 mod drawn;
 mod lanes;
 mod played;

@@ -1,0 +1,17 @@
+use Rattle.std.proofs.Common.{List, [], ◌∷◌, ◌++◌, Vec, ap, sym, subst, ◌∙◌}
+use Rattle.std.specs.Global.{Global}
+use Rattle.mt_desks.specs.Phases.{CanPass}
+use Rattle.mt_rule.specs.declared.passes.Pass.{Pass}
+use Rattle.mt_rule.specs.Tokens.{pass_in}
+use Rattle.mt_tree.specs.Trees.{IsPassOf}
+use Rattle.mtreplay.proofs.Closed.{can_pass_one}
+use Rattle.mtreplay.proofs.tests.desk.answers.Goals as goal
+use Rattle.mtreplay.specs.declared.trees.LaneTree.{LaneTree}
+
+pub answers_to-requires-clause-can : goal.answers_to-requires-clause-can
+answers_to-requires-clause-can g c κs within =
+    let serves = λ (t : LaneTree) (p : Pass). IsPassOf t.tree p in
+    let items = λ (row : Vec Pass Global). row.items in
+    let row = c.push_reserved.new.self in
+    let alone = c.push_reserved.ensures.items ∙ ap (λ (ps : List Pass). ps ++ c.args.pass ∷ []) c.in_ok-row.ensures.items in
+    subst (λ (trees : List LaneTree). CanPass pass_in serves items 0 trees (row ∷ [])) (sym c.from_ref-trees.ensures.value) (can_pass_one pass_in serves items c.args.tree.now row c.args.pass alone c.requires.closed c.requires.of)
