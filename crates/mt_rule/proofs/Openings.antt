@@ -22,7 +22,7 @@ use Rattle.mt_rows.specs.Laws.{IsTree}
 use Rattle.mt_rows.specs.Memory.{sheet_in}
 use Rattle.mt_rows.specs.PlainWhole.{rows_whole}
 use Rattle.mt_rows.specs.Publish.{IsLawfulOf, LiveAreReached, is_reached, tree_as}
-use Rattle.mt_rows.specs.Sheet.{HasDied, OnlyReads, Rooted, Sheet, life_of}
+use Rattle.mt_rows.specs.Sheet.{HasDied, Rooted, life_of}
 use Rattle.mt_rule.specs.declared.views.Told.{Told}
 use Rattle.mt_rule.specs.declared.views.Shape.{Shape}
 use Rattle.mt_rule.specs.declared.views.View.{View}

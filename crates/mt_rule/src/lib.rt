@@ -15,6 +15,6 @@ mod writes;
 pub use notes::Note;
 pub use passes::Pass;
 pub use pens::Pen;
-pub use table::{MOST_CALLS, MOST_PASSES, MtTable};
+pub use table::{MOST_CALLS, MOST_PASSES, MtTable, opening_words};
 pub use turn::{OfTable, Taken, Turn};
 pub use views::{Moment, NotePart, PassPart, PenPart, Shape, Told, TurnView, View};

@@ -110,40 +110,66 @@ impl MtTable {
         ensures of { IfOk result (λ r. All (IsPassOf (identity_of r.0)) r.2.items) }
         ensures passes { IfOk result (λ r. map pass_in r.2.items ≡ map new_pass (range_with_len 0 passes)) }
     {
+        let opening = Snapshot::of(&rows);
+        let size = rows.size();
+        let words = opening_words(rows);
+        MtTable::make_over(alloc, kind, opening, size, &words, passes, calls)
+    }
+
+    /// The same over the words of such a table, which stay: others may be made over them too.
+    pub fn make_over(
+        alloc: Global,
+        kind: Kind,
+        opening: Snapshot<PlainRows>,
+        rows: u64,
+        words: &[u64],
+        passes: u32,
+        calls: u64,
+    ) -> Result<(MtTable, Pen, Vec<Pass>), NoMemory>
+        requires may { MayOpen kind (sheet_in opening.value) passes calls }
+        requires rows { rows ≡ (sheet_in opening.value).tree.rows }
+        requires words { AreOpening (sheet_in opening.value).tree words.now }
+        ensures shape { IfOk result (λ r. (identity_of r.0).shape ≡ shape_opened kind (sheet_in opening.value) passes calls) }
+        ensures pen { IfOk result (λ r. IsPenOf (identity_of r.0) r.1 × IsAlone r.1 × (pen_in r.1 ≡ record (new_pen (identity_of r.0).shape (sheet_in opening.value).tree) { dealt = passes })) }
+        ensures of { IfOk result (λ r. All (IsPassOf (identity_of r.0)) r.2.items) }
+        ensures passes { IfOk result (λ r. map pass_in r.2.items ≡ map new_pass (range_with_len 0 passes)) }
+    {
         let mut dealt = Vec::with_capacity(alloc, passes as usize)?;
-        let (table, mut pen) = MtTable::with_pen(alloc, kind, rows, passes, calls)?;
+        let (table, mut pen) = MtTable::with_pen(alloc, kind, opening, rows, words, passes, calls)?;
         for number in 0..passes {
             dealt.push_reserved(table.deal(&mut pen, number));
         }
         Ok((table, pen, dealt))
     }
 
-    /// A table of these rows, and its pen. No pass is dealt yet.
+    /// A table of these words, and its pen. No pass is dealt yet.
     fn with_pen(
         alloc: Global,
         kind: Kind,
-        rows: PlainRows,
+        opening: Snapshot<PlainRows>,
+        rows: u64,
+        words: &[u64],
         passes: u32,
         calls: u64,
     ) -> Result<(MtTable, Pen), NoMemory>
-        requires { MayOpen kind (sheet_in rows) passes calls }
-        ensures shape { IfOk result (λ r. (identity_of r.0).shape ≡ shape_opened kind (sheet_in rows) passes calls) }
-        ensures pen { IfOk result (λ r. IsPenOf (identity_of r.0) r.1 × IsAlone r.1 × (pen_in r.1 ≡ new_pen (identity_of r.0).shape (sheet_in rows).tree)) }
+        requires may { MayOpen kind (sheet_in opening.value) passes calls }
+        requires rows { rows ≡ (sheet_in opening.value).tree.rows }
+        requires words { AreOpening (sheet_in opening.value).tree words.now }
+        ensures shape { IfOk result (λ r. (identity_of r.0).shape ≡ shape_opened kind (sheet_in opening.value) passes calls) }
+        ensures pen { IfOk result (λ r. IsPenOf (identity_of r.0) r.1 × IsAlone r.1 × (pen_in r.1 ≡ new_pen (identity_of r.0).shape (sheet_in opening.value).tree)) }
     {
         let told = Told {
             kind,
             passes,
             calls,
-            rows: Snapshot::of(&rows),
+            rows: opening,
         };
-        let size = rows.size();
-        let words = opening_words(rows);
-        let (table, seat) = Table::of_words(alloc, &words, &told)?;
+        let (table, seat) = Table::of_words(alloc, words, &told)?;
         let table = MtTable {
             table,
             width: width_of(kind),
             passes,
-            rows: size,
+            rows,
         };
         Ok((table, Pen::of_seat(seat)))
     }
@@ -171,7 +197,7 @@ impl MtTable {
 }
 
 /// The words of a table that opens with these rows, which are written down once, in the memory of the rows.
-fn opening_words(mut rows: PlainRows) -> Vec<u64>
+pub fn opening_words(mut rows: PlainRows) -> Vec<u64>
     ensures { AreOpening (sheet_in rows).tree result.items }
 {
     let root = rows.root();

@@ -1,22 +1,8 @@
-use Rattle.std.proofs.Common.{rules, refl}
-use Rattle.mt_base.specs.Passes.{new_pass}
+use Rattle.std.proofs.Common.{◌≡◌, IfOk, subst}
+use Rattle.mt_rows.specs.declared.plain.PlainRows.{PlainRows}
 use Rattle.mt_rows.specs.Memory.{sheet_in}
-use Rattle.mt_rule.specs.Seats.{new_pen}
-use Rattle.mt_rule.specs.Tokens.{identity_of, IsPassOf, pass_in, pen_in}
-use Rattle.mt_rule.proofs.Seating.{all_dealt, map_dealt, pen_dealt}
+use Rattle.mt_rule.specs.Tokens.{identity_of, shape_opened}
 use Rattle.mt_rule.proofs.table.MtTable.make.Goals as goal
 
-pub loop-number-preserved : goal.loop-number-preserved
-loop-number-preserved c =
-    let inv = c.loop-number.invariant in
-    let dealt = c.deal.ensures in
-    let items = c.push_reserved.ensures.items in (
-      refl,
-      dealt.of,
-      dealt.alone,
-      pen_dealt (new_pen (identity_of c.in_ok-table.table).shape (sheet_in c.args.rows).tree) (pen_in c.loop-number.pen) _ _ _ inv.3 dealt.pen,
-      search rules,
-      search rules,
-      all_dealt (IsPassOf (identity_of c.in_ok-table.table)) _ _ _ items inv.6 dealt.pass,
-      map_dealt pass_in new_pass _ _ _ _ items inv.7 dealt.new,
-    )
+pub returns-clause-shape : goal.returns-clause-shape
+returns-clause-shape c = subst (λ (p : PlainRows). IfOk c.make_over.result (λ r. (identity_of r.0).shape ≡ shape_opened c.args.kind (sheet_in p) c.args.passes c.args.calls)) c.of-opening.ensures c.make_over.ensures.shape
