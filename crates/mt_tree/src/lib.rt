@@ -13,6 +13,7 @@ mod shapes;
 mod trees;
 mod works;
 mod writes;
+mod zeros;
 
 pub use behind::Desk;
 pub use cursors::Cursor;
@@ -22,3 +23,4 @@ pub use mt_read::Moved;
 pub use mt_rule::{MOST_CALLS, Note, Pass};
 pub use shapes::{Done, DupError, Field, MakeError, Read, Shape, Worn};
 pub use trees::Tree;
+pub use zeros::Zeros;

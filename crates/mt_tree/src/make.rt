@@ -6,6 +6,7 @@ ghost use Rattle.mt_rows.specs.Publish.{map_by};
 ghost use Rattle.mt_rows.specs.Sheet.{OnlyReads};
 ghost use Rattle.mt_engine.specs.Engine.{IsIdle};
 ghost use Rattle.mt_engine.specs.Heights.{HasHeight};
+ghost use Rattle.mt_rule.specs.Places.{AreOpening};
 ghost use Rattle.mt_rule.specs.Tokens.{identity_of, pass_in, IsPassOf};
 ghost use Rattle.mt_rule.specs.Turns.{served, IsSeatedAt};
 ghost use Rattle.mt_tree.specs.declared.shapes.Field.{Field};
@@ -15,12 +16,14 @@ ghost use Rattle.mt_tree.specs.Trees.{IsNew};
 use crate::behind::{Desk, Tools};
 use crate::shapes::{MakeError, Shape};
 use crate::trees::Tree;
+use crate::zeros::Zeros;
 use mt_base::{Kind, NoMemory};
 use mt_engine::Engine;
 use mt_free::RowBook;
 use mt_rows::PlainRows;
-use mt_rule::{MtTable, Pass, Turn};
+use mt_rule::{MtTable, Pass, Turn, opening_words};
 use std::alloc::Global;
+use std::snapshot::Snapshot;
 
 impl Tree {
     /// An empty tree, and its passes, numbered from 0. A shape that is out of range is refused before any memory is taken, by its
@@ -48,6 +51,38 @@ impl Tree {
         Tree::open(alloc, shape, rows, book)
     }
 
+    /// The same as `make`, with the words of an empty tree of as many rows at hand: none are written for this tree alone.
+    pub fn make_over(
+        alloc: Global,
+        shape: Shape,
+        zeros: &Zeros,
+    ) -> Result<(Tree, Vec<Pass>), MakeError>
+        requires rows { zeros.now.rows ≡ shape.rows }
+        ensures bad { (field : Field) → (result ≡ Err (MakeError.BadShape field)) ↔ (first_bad shape ≡ Some field) }
+        ensures new { IfOk result (λ r. IsNew shape [] r.0 r.1.items) }
+    {
+        if let Some(field) = shape.first_bad() {
+            return Err(MakeError::BadShape { field });
+        }
+        match Tree::empty_over(alloc, shape, zeros) {
+            Ok(made) => Ok(made),
+            Err(_) => Err(MakeError::NoMemory),
+        }
+    }
+
+    /// The same of a shape in range.
+    fn empty_over(alloc: Global, shape: Shape, zeros: &Zeros) -> Result<(Tree, Vec<Pass>), NoMemory>
+        requires shape { first_bad shape ≡ None }
+        requires rows { zeros.now.rows ≡ shape.rows }
+        ensures { IfOk result (λ r. IsNew shape [] r.0 r.1.items) }
+    {
+        let rows = PlainRows::new(alloc, shape.rows)?;
+        let book = RowBook::new(alloc, shape.rows)?;
+        let opening = Snapshot::of(&rows);
+        let (height, _rows, book) = measured(rows, book, shape.kind);
+        Tree::open_over(alloc, shape, opening, &zeros.words, book, height)
+    }
+
     /// A tree that opens with these rows, on which no call was begun.
     pub(crate) fn open(
         alloc: Global,
@@ -62,11 +97,35 @@ impl Tree {
         requires few { (sheet_in rows).opened ≤ length (map_by (sheet_in rows).tree) / 2 + 2 }
         ensures { IfOk result (λ r. IsNew shape (map_by (sheet_in rows).tree) r.0 r.1.items) }
     {
+        let opening = Snapshot::of(&rows);
         let (height, rows, book) = measured(rows, book, shape.kind);
-        let (table, pen, passes) = MtTable::make(
+        let words = opening_words(rows);
+        Tree::open_over(alloc, shape, opening, &words, book, height)
+    }
+
+    /// The same over the words of a table that opens with these rows, whose tree has so many levels.
+    fn open_over(
+        alloc: Global,
+        shape: Shape,
+        opening: Snapshot<PlainRows>,
+        words: &[u64],
+        book: RowBook,
+        height: u64,
+    ) -> Result<(Tree, Vec<Pass>), NoMemory>
+        requires shape { first_bad shape ≡ None }
+        requires idle { IsIdle shape.kind (sheet_in opening.value) book }
+        requires first { (sheet_in opening.value).ended ≡ 0 }
+        requires rows { (sheet_in opening.value).tree.rows ≡ shape.rows }
+        requires words { AreOpening (sheet_in opening.value).tree words.now }
+        requires height { HasHeight (sheet_in opening.value).tree height }
+        ensures { IfOk result (λ r. IsNew shape (map_by (sheet_in opening.value).tree) r.0 r.1.items) }
+    {
+        let (table, pen, passes) = MtTable::make_over(
             alloc,
             shape.kind,
-            rows,
+            opening,
+            shape.rows,
+            words,
             shape.passes,
             shape.calls,
         )?;
