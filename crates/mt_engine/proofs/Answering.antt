@@ -16,10 +16,12 @@ use Rattle.mt_rows.specs.declared.rows.Place.TheVariants.{Root}
 use Rattle.mt_rows.specs.declared.rows.Scan.{Scan}
 use Rattle.mt_rows.specs.Trees.{height_in}
 use Rattle.mt_rows.specs.Sheet.{Sheet, IsWhole, OnlyReads, scanned}
-use Rattle.mt_rows.specs.Publish.{WasScanned, map_by, finished}
-use Rattle.mt_splice.specs.Splice.{MayClear, IsSpliced}
+use Rattle.mt_path.specs.declared.paths.PathStep.{PathStep}
+use Rattle.mt_path.specs.Paths.{path_in}
+use Rattle.mt_rows.specs.Publish.{IsTreeOf, WasScanned, map_by, finished}
+use Rattle.mt_splice.specs.Splice.{MayClear, WasPublishedAt, IsSpliced}
 use Rattle.mt_engine.specs.Engine.{IsInCall, IsAnswered, IsEnded, Replaces, is_refusal}
-use Rattle.mt_engine.specs.Mends.{MayMendAt, IsMendedAt}
+use Rattle.mt_engine.specs.Mends.{MayMendAt, WasWay, IsMendedAt}
 use Rattle.mt_engine.specs.Rooms.{IsScanned, HasRoom}
 use Rattle.mt_engine.specs.Stores.{IsStored}
 use Rattle.mt_engine.proofs.AfterSplice.{replaced, stored_by}
@@ -110,6 +112,17 @@ may_mend kind s s₁ book book' number call reply place first last in_call order
   gaps = spliced.gaps first (omega arith) order;
   live = spliced.live;
   none_buried = spliced.none_buried;
+}
+
+-- the path to it was one before
+pub was_way : (kind : Kind) (s s₁ : Sheet) (book book' : Book) (number : ℕ) (call : Call) (reply : Reply) (place : Place) (first last : ℕ) (path : List PathStep) → IsTreeOf s.tree kind → path ≡ path_in s.tree.table s.tree.root first
+    → IsSpliced kind s s₁ book book' number call reply place first last → WasWay kind s.tree s₁.tree place path first
+was_way kind s s₁ book book' number call reply place first last path tree way spliced = record {
+  tree = tree;
+  rows = spliced.rows;
+  way = way;
+  root = λ row col at. (subst (WasPublishedAt s s₁) at spliced.published).0;
+  kept = λ row col reached some inside other. spliced.kept row col (λ _. reached) some inside other;
 }
 
 replaced_then : (kind : Kind) (s s₁ s₂ : Sheet) (book book' : Book) (number : ℕ) (call : Call) (reply : Reply) (place : Place) (first last : ℕ) → IsSpliced kind s s₁ book book' number call reply place first last → IsMendedAt kind s₁ s₂ → s₂ ≡ replaced s s₂.tree s₁.lives s₁.buried s₂.reads call reply

@@ -5,6 +5,7 @@ pub mod FirstWay
 pub mod FreshEngine
 pub mod GapsStay
 pub mod LeafEnds
+pub mod LeafReplaced
 pub mod Leaving
 pub mod Levelled
 pub mod MapPlaces
@@ -13,6 +14,7 @@ pub mod MapStores
 pub mod Measured
 pub mod Mended
 pub mod Moments
+pub mod NewLeaf
 pub mod OneWord
 pub mod Planning
 pub mod ReadAfter

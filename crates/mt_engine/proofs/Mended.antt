@@ -1,5 +1,5 @@
 -- A tree whose gap words were mended: it is lawful, and has the same rows and the same map.
-use Rattle.std.proofs.Common.{◌≡◌, ℕ, zero, suc, ◌≤◌, ◌==◌, List, [], ◌∷◌, ◌++◌, Some, nat_lt, length, refl, sym, ap, ◌∙◌, subst, inl, inr, arith}
+use Rattle.std.proofs.Common.{◌≡◌, ℕ, zero, suc, ◌+◌, ◌≤◌, ◌==◌, List, [], ◌∷◌, ◌++◌, Some, nat_lt, length, refl, sym, ap, ◌∙◌, subst, inl, inr, arith}
 use Rattle.mt_base.specs.declared.kinds.Kind.{Kind}
 use Rattle.mt_base.specs.declared.kinds.Kind.TheVariants as trees
 use Rattle.mt_base.specs.Width.{deepest}
@@ -8,7 +8,7 @@ use Rattle.mt_layout.specs.declared.spans.Span.{Span}
 use Rattle.mt_layout.specs.Rows.{row_in}
 use Rattle.mt_layout.proofs.RowSizes.{some_columns, some_slots_of}
 use Rattle.mt_path.specs.declared.paths.PathStep.{PathStep}
-use Rattle.mt_path.specs.Paths.{path_in}
+use Rattle.mt_path.specs.Paths.{step_at, path_in}
 use Rattle.mt_rows.specs.Spans.{column, inner_kind, root_span, spans_in}
 use Rattle.mt_rows.specs.Levels.{Levels, expand, is_row_of, tally}
 use Rattle.mt_rows.specs.Laws.{Tree, IsRow, IsTended, IsLawful, Stands, ParentLaw, GapLaw}
@@ -23,7 +23,7 @@ use Rattle.mt_rows.proofs.Joins.{Shared, expand_shared, levels_shared, map_of_sh
 use Rattle.mt_rows.proofs.Lists.{levels_map}
 use Rattle.mt_rows.proofs.Reached as reached
 use Rattle.mt_splice.specs.Splice.{HasParents}
-use Rattle.mt_gap.specs.Mending.{KeepsWords, OnlyWords, IsWay}
+use Rattle.mt_gap.specs.Mending.{KeepsWords, OnlyWords, IsAlong, IsWay}
 use Rattle.mt_engine.specs.Mends.{MayMendAt, IsMendedAt}
 use Rattle.mt_engine.proofs.OneWord.{parent_stays_in}
 
@@ -48,10 +48,21 @@ ranges_mended s index may = record {
 
 -- ---- the way
 
-pub is_way : (s s₁ : Sheet) (index : ℕ) (path : List PathStep) → MayMendAt trees.Alloc s index → OnlyReads s s₁ → path ≡ path_in s.tree.table s.tree.root index → IsWay trees.Alloc s₁ path
-is_way s s₁ index path may reads way =
-    subst (λ (x : Sheet). IsWay trees.Alloc x path) (sym reads)
+pub is_way : (s s₁ : Sheet) (index : ℕ) (path : List PathStep) (leaf : ℕ) → MayMendAt trees.Alloc s index → OnlyReads s s₁ → IsAlong path leaf (path_in s.tree.table s.tree.root index) → IsWay trees.Alloc s₁ path leaf
+is_way s s₁ index path leaf may reads way =
+    subst (λ (x : Sheet). IsWay trees.Alloc x path leaf) (sym reads)
     (record { is_new = may.is_new; index = index; within = may.within; gaps = may.gaps; steps = way; live = may.live; none_buried = may.none_buried })
+
+-- a way goes along itself, to its leaf
+along_itself : (path : List PathStep) (leaf : ℕ) → ((level : ℕ) → level + 1 ≡ length path → (step_at path level).row ≡ leaf) → IsAlong path leaf path
+along_itself path leaf is = record {
+  many = refl;
+  above = λ level low. refl;
+  end = λ level last. (λ i. record (step_at path level) { row = sym (is level last) i; slot = 0 });
+}
+
+pub along_at : (path : List PathStep) (leaf : ℕ) → ((level : ℕ) → level + 1 ≡ length path → (step_at path level).row ≡ leaf) → {way : List PathStep} → path ≡ way → IsAlong path leaf way
+along_at path leaf is same = subst (IsAlong path leaf) same (along_itself path leaf is)
 
 -- ---- as many levels by both tables
 
@@ -160,3 +171,23 @@ mended s s₁ s' path index may reads rest gaps keeps spans =
     (rest ∙ ap (λ (x : Sheet). record x { tree = record { rows = x.tree.rows; table = record { width = x.tree.table.width; words = s'.tree.table.words }; root = x.tree.root }; reads = s'.reads }) reads) gaps
     (subst (λ (q : Rooted). KeepsWords q s'.tree path) tree keeps)
     (subst (λ (q : Rooted). (h : ℕ) → Stands (tree_as trees.Alloc q) h → Levels (Shared q.table s'.tree.table) q.table h (root_of (tree_as trees.Alloc q))) tree spans)
+
+-- ---- after reads
+
+pub may_after_reads : (kind : Kind) (s s₁ : Sheet) (index : ℕ) → MayMendAt kind s index → OnlyReads s s₁ → MayMendAt kind s₁ index
+may_after_reads kind s s₁ index may reads =
+    subst (λ (x : Sheet). MayMendAt kind x index) (sym reads)
+    (record { within = may.within; tree = may.tree; parents = may.parents; is_new = may.is_new; gaps = may.gaps; live = may.live; none_buried = may.none_buried })
+
+pub mended_after_reads : (kind : Kind) (s s₁ s' : Sheet) → OnlyReads s s₁ → IsMendedAt kind s₁ s' → IsMendedAt kind s s'
+mended_after_reads kind s s₁ s' reads done =
+    let tree : s₁.tree ≡ s.tree = ap (λ (x : Sheet). x.tree) reads in
+    record {
+      rest =
+          done.rest
+          ∙ ap (λ (x : Sheet). record x { tree = record { rows = x.tree.rows; table = record { width = x.tree.table.width; words = s'.tree.table.words }; root = x.tree.root }; reads = s'.reads }) reads;
+      lawful = done.lawful;
+      map = done.map ∙ ap (λ (q : Rooted). map_by q) tree;
+      height = done.height ∙ ap (λ (q : Rooted). height_in q.table q.root) tree;
+      reached = λ row. done.reached row ∙ ap (λ (q : Rooted). is_reached q row) tree;
+    }

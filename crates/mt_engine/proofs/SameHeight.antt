@@ -39,7 +39,7 @@ two_of_root : (t : Tree) (h : ℕ) (x : Span) → 2 ≤ least_of t (suc h) x
 two_of_root t h x = elim (cases_Bool (covers_all t x)) [ inl all ↦ rw all (omega arith) | inr part ↦ rw part (sizes.some_least t.table.width (kind_at t.kind (suc h))) ]
 
 -- a slot's word is that of its column
-word_in : (t : Table) (x : Span) (kind : RowKind) (slot : ℕ) → named_kind x.word ≡ Some kind → slot < length (spans_in t x) → (span_at (spans_in t x) slot).word ≡ column t (row_in x.word) (slot_column (slots_of t.width kind) slot)
+pub word_in : (t : Table) (x : Span) (kind : RowKind) (slot : ℕ) → named_kind x.word ≡ Some kind → slot < length (spans_in t x) → (span_at (spans_in t x) slot).word ≡ column t (row_in x.word) (slot_column (slots_of t.width kind) slot)
 word_in t x kind slot named used =
     let here = ap (λ k. spans_by t k x) named in
     let items = length-spans_from x.first (items_at (slots_of t.width kind) (gaps_of t.width kind) t.words (base_of t (row_in x.word)) x.last) in
@@ -134,11 +134,11 @@ module _ (kind : Kind) (t t' : Rooted) (h h' row col : ℕ) (stands : Stands (tr
       let child = child_word k k' x x' slot.0 slot.1 slot.2 on on' same in
       ap suc (same_level k k' (span_at (spans_in t.table x) slot.0) (span_at (spans_in t'.table x') slot.0) (child_before k x slot.0 child.0 on) (child_after k' x' slot.0 child.1 on') child.2)
 
+  pub levels_same : h' ≡ h
+  levels_same = same_level h h' (root_span t.table t.root) (root_span t'.table t'.root) (record { depth = 0; height = omega arith; one = inl refl }) (record { depth = 0; height = omega arith; one = inl refl }) root
+
   same_height : height_in t'.table t'.root ≡ height_in t.table t.root
-  same_height =
-      reached.height_is now h' stands'
-      ∙ (ap (λ (n : ℕ). n + 1) (same_level h h' (root_span t.table t.root) (root_span t'.table t'.root) (record { depth = 0; height = omega arith; one = inl refl }) (record { depth = 0; height = omega arith; one = inl refl }) root)
-      ∙ sym (reached.height_is was h stands))
+  same_height = reached.height_is now h' stands' ∙ (ap (λ (n : ℕ). n + 1) levels_same ∙ sym (reached.height_is was h stands))
 
 -- ---- after a replacement of nodes
 

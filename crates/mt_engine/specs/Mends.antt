@@ -1,11 +1,19 @@
 -- The gap words of a tree behind a replacement of rows: which may be wrong, and what is left when they are mended.
 -- Source: the kernel's lib/maple_tree.c, mas_update_gap, which goes up from a leaf that has changed.
-use Rattle.std.specs.Prelude.{◌≡◌, ℕ, ◌≤◌, Bool}
+use Rattle.std.specs.Prelude.{◌≡◌, ◌≢◌, ℕ, ◌<◌, ◌≤◌, Bool, List, Some}
 use Rattle.mt_base.specs.declared.kinds.Kind.{Kind}
-use Rattle.mt_base.specs.Width.{greatest}
+use Rattle.mt_base.specs.Width.{columns, greatest}
+use Rattle.mt_layout.specs.declared.names.RowKind.TheVariants.{Gapped}
+use Rattle.mt_layout.specs.Columns.{slot_column}
+use Rattle.mt_layout.specs.Rows.{named_row}
+use Rattle.mt_layout.specs.Sizes.{slots_of}
+use Rattle.mt_path.specs.declared.paths.PathStep.{PathStep}
+use Rattle.mt_path.specs.Paths.{path_in}
+use Rattle.mt_rows.specs.declared.rows.Place.{Place}
+use Rattle.mt_rows.specs.declared.rows.Place.TheVariants.{Slot}
 use Rattle.mt_rows.specs.Gaps.{HasGapsBut}
-use Rattle.mt_rows.specs.Publish.{tree_as, IsTreeOf, IsLawfulOf, LiveAreReached, NoneBuried, map_by, is_reached}
-use Rattle.mt_rows.specs.Sheet.{Sheet}
+use Rattle.mt_rows.specs.Publish.{tree_as, IsTreeOf, IsLawfulOf, IsReached, LiveAreReached, NoneBuried, map_by, is_reached}
+use Rattle.mt_rows.specs.Sheet.{Rooted, Sheet, word_at}
 use Rattle.mt_rows.specs.Trees.{height_in}
 use Rattle.mt_splice.specs.Splice.{HasParents}
 use Rattle.mt_gap.specs.Mending.{OnlyWords}
@@ -19,6 +27,20 @@ pub record MayMendAt (kind : Kind) (s : Sheet) (index : ℕ) : Type 0 where
   pub gaps : HasGapsBut is_new index (tree_as kind s.tree)
   pub live : LiveAreReached s.tree s.lives
   pub none_buried : NoneBuried s.tree.rows s.buried
+
+-- The path led to the index in the tree as it was before one word was published at the place; the rows that it had keep all
+-- other words but their parent words.
+pub record WasWay (kind : Kind) (was now : Rooted) (place : Place) (path : List PathStep) (index : ℕ) : Type 0 where
+  pub tree : IsTreeOf was kind
+  pub rows : now.rows ≡ was.rows
+  pub way : path ≡ path_in was.table was.root index
+  pub root : (row col : ℕ) → place ≡ Slot row col → now.root ≡ was.root
+  pub kept : (row col : ℕ) → IsReached was row → 0 < col → col < columns was.table.width → place ≢ Slot row col → word_at now row col ≡ word_at was row col
+
+-- The place is the slot of a step in a row with gaps, and the name of this row stands there.
+pub record IsPublishedAt (t : Rooted) (place : Place) (above : PathStep) (row : ℕ) : Type 0 where
+  pub at : place ≡ Slot above.row (slot_column (slots_of t.table.width Gapped) above.slot)
+  pub named : named_row (word_at t above.row (slot_column (slots_of t.table.width Gapped) above.slot)) ≡ Some row
 
 -- They are lawful, and stand for the same map by the same rows. Nothing but words of rows has changed.
 pub record IsMendedAt (kind : Kind) (s s' : Sheet) : Type 0 where

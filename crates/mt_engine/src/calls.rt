@@ -45,7 +45,7 @@ fn perform<R: Rows>(
             reply,
             here,
         } => match store(
-            rows, book, kind, path, here, first, last, entry, number, call, &reply,
+            rows, book, kind, &path, here, first, last, entry, number, call, &reply,
         ) {
             Ok(is_new_root) => {
                 *height = height_after(rows, is_new_root, *height);

@@ -46,7 +46,7 @@ fn perform_prepared<R: Rows>(
             here,
         } => {
             let is_new_root = store_at_hand(
-                rows, book, kind, path, here, first, last, entry, number, &call, &reply,
+                rows, book, kind, &path, here, first, last, entry, number, &call, &reply,
             );
             *height = height_after(rows, is_new_root, *height);
             reply

@@ -54,7 +54,7 @@ pub fn store_at_hand<R: Rows>(
     rows: &mut R,
     book: &mut RowBook,
     kind: Kind,
-    path: Path,
+    path: &Path,
     here: Option<Handle>,
     first: u64,
     last: u64,
@@ -65,7 +65,7 @@ pub fn store_at_hand<R: Rows>(
 ) -> bool
     requires in_call { IsInCall kind (R.sheet rows.old) book.old }
     requires number { number ≡ (R.sheet rows.old).ended + 1 }
-    requires plan { IsStorePlan kind (R.sheet rows.old).tree call.now path.items first last entry reply.now here }
+    requires plan { IsStorePlan kind (R.sheet rows.old).tree call.now path.now.items first last entry reply.now here }
     requires room { HasRoomFor kind (R.sheet rows.old) book.old call.now }
     ensures stored { IsStored kind (R.sheet rows.old) (R.sheet rows.new) book.old book.new call.now reply.now }
     ensures height { result ≡ false → SameHeight (R.sheet rows.old).tree (R.sheet rows.new).tree }
@@ -81,7 +81,7 @@ pub fn store_at_hand<R: Rows>(
             let place = replace_range(
                 rows, book, kind, path, first, last, entry, number, call, reply,
             );
-            mend_at(rows, kind, first);
+            mend_at(rows, kind, place, path, first);
             is_root(&place)
         }
     }
@@ -92,7 +92,7 @@ pub fn store<R: Rows>(
     rows: &mut R,
     book: &mut RowBook,
     kind: Kind,
-    path: Path,
+    path: &Path,
     here: Option<Handle>,
     first: u64,
     last: u64,
@@ -104,7 +104,7 @@ pub fn store<R: Rows>(
     requires in_call { IsInCall kind (R.sheet rows.old) book.old }
     requires number { number ≡ (R.sheet rows.old).ended + 1 }
     requires few { (R.sheet rows.old).ended < 2 ^ 62 - 1 }
-    requires plan { IsStorePlan kind (R.sheet rows.old).tree call.now path.items first last entry reply.now here }
+    requires plan { IsStorePlan kind (R.sheet rows.old).tree call.now path.now.items first last entry reply.now here }
     ensures done { IfOk result (λ _. IsAnswered kind (R.sheet rows.old) (R.sheet rows.new) book.old book.new call.now reply.now) }
     ensures height { IfOk result (λ is_new_root. is_new_root ≡ false → SameHeight (R.sheet rows.old).tree (R.sheet rows.new).tree) }
     ensures short { IfErr result (λ shortage. IsAnswered kind (R.sheet rows.old) (R.sheet rows.new) book.old book.new call.now (NoNodes shortage)) }

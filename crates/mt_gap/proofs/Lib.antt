@@ -14,5 +14,6 @@ pub mod Mending
 pub mod GapWords
 pub mod Tells
 pub mod MendWay
+pub mod Along
 pub mod SlotsRight
 pub mod MendGaps

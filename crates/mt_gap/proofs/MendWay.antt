@@ -321,8 +321,8 @@ root_named kind s h stands = (levels_here (IsRow (tree_as kind s.tree)) s.tree.t
 pub no_root : (s : Sheet) → s.tree.root ≡ 0 → RootIs s Gapped → ⊥
 no_root s empty gapped = let none : named_kind 0 ≡ Some Gapped = subst (λ (w : ℕ). named_kind w ≡ Some Gapped) empty gapped in absurd (cc)
 
-pub no_range : (s : Sheet) (path : List PathStep) → IsWay trees.Range s path → RootIs s Gapped → ⊥
-no_range s path way gapped = elim way.gaps [ inl empty ↦ no_root s empty gapped | inr full ↦ not_gapped full.0 (sym (root_named trees.Range s full.0 full.1) ∙ gapped) ]
+pub no_range : (s : Sheet) (path : List PathStep) (leaf : ℕ) → IsWay trees.Range s path leaf → RootIs s Gapped → ⊥
+no_range s path leaf way gapped = elim way.gaps [ inl empty ↦ no_root s empty gapped | inr full ↦ not_gapped full.0 (sym (root_named trees.Range s full.0 full.1) ∙ gapped) ]
 
 pub only_loaded : (s s' : Sheet) → s' ≡ loaded s → OnlyWords s s'
 only_loaded s s' is = subst (OnlyWords s) (sym is) refl
@@ -336,10 +336,10 @@ shared_self kind s h stands = levels_map (IsRow (tree_as kind s.tree)) (Shared s
 pub spans_loaded : (s s' : Sheet) (kind : Kind) (h : ℕ) → s' ≡ loaded s → Stands (tree_as kind s.tree) h → Levels (Shared s.tree.table s'.tree.table) s.tree.table h (root_of (tree_as kind s.tree))
 spans_loaded s s' kind h is stands = subst (λ (v : Sheet). Levels (Shared s.tree.table v.tree.table) s.tree.table h (root_of (tree_as kind s.tree))) (sym is) (shared_self kind s h stands)
 
-begin_alloc : (s s' : Sheet) (path : List PathStep) → IsWay trees.Alloc s path → RootIs s Gapped → s' ≡ loaded s → HasMended s s' path Leaf (length path)
-begin_alloc s s' path way gapped is = elim way.gaps [
+begin_alloc : (s s' : Sheet) (path : List PathStep) (leaf : ℕ) (way : IsWay trees.Alloc s path leaf) → RootIs s Gapped → s' ≡ loaded s → HasMended s s' (path_in s.tree.table s.tree.root way.index) Leaf (length path)
+begin_alloc s s' path leaf way gapped is = elim way.gaps [
   | inl empty ↦ absurd (no_root s empty gapped)
-  | inr full ↦ (let many = ap length way.steps ∙ levels (tree_as trees.Alloc s.tree) full.0 full.1 way.index way.within in record {
+  | inr full ↦ (let many = way.steps.many ∙ levels (tree_as trees.Alloc s.tree) full.0 full.1 way.index way.within in record {
     index = way.index;
     height = full.0;
     done = 0;
@@ -349,24 +349,24 @@ begin_alloc s s' path way gapped is = elim way.gaps [
     kind_is = refl;
     stood = full.1;
     stands = subst (λ (v : Sheet). Stands (tree_as trees.Alloc v.tree) full.0) (sym is) full.1;
-    steps = subst (λ (v : Sheet). path ≡ path_in v.tree.table v.tree.root way.index) (sym is) way.steps;
+    steps = subst (λ (v : Sheet). path_in s.tree.table s.tree.root way.index ≡ path_in v.tree.table v.tree.root way.index) (sym is) refl;
     mended = subst (λ (v : Sheet). Levels (IsMendedUpTo way.index 0 (tree_as trees.Alloc v.tree)) v.tree.table full.0 (root_of (tree_as trees.Alloc v.tree))) (sym is)
         (begun_mending way.is_new way.index full.0 (tree_as trees.Alloc s.tree) full.2);
     only = only_loaded s s' is;
-    words = words_loaded s s' path is;
+    words = words_loaded s s' (path_in s.tree.table s.tree.root way.index) is;
     spans = spans_loaded s s' trees.Alloc full.0 is full.1;
     live = way.live;
     none_buried = way.none_buried;
   })
 ]
 
-pub begin_way : (kind : Kind) (s s' : Sheet) (path : List PathStep) → IsWay kind s path → RootIs s Gapped → s' ≡ loaded s → HasMended s s' path Leaf (length path)
-begin_way trees.Range s s' path way gapped is = absurd (no_range s path way gapped)
-begin_way trees.Alloc s s' path way gapped is = begin_alloc s s' path way gapped is
+pub begin_way : (kind : Kind) (s s' : Sheet) (path : List PathStep) (leaf : ℕ) (way : IsWay kind s path leaf) → RootIs s Gapped → s' ≡ loaded s → HasMended s s' (path_in s.tree.table s.tree.root way.index) Leaf (length path)
+begin_way trees.Range s s' path leaf way gapped is = absurd (no_range s path leaf way gapped)
+begin_way trees.Alloc s s' path leaf way gapped is = begin_alloc s s' path leaf way gapped is
 
-pub end_way : (kind : Kind) (s s' : Sheet) (path : List PathStep) (k : RowKind) (level : ℕ) → IsWay kind s path → RootIs s Gapped → HasMended s s' path k level → level ≤ 1 → HasGaps (tree_as kind s'.tree)
-end_way trees.Range s s' path k level way gapped m last = absurd (no_range s path way gapped)
-end_way trees.Alloc s s' path k level way gapped m last =
+pub end_way : (kind : Kind) (s s' : Sheet) (path : List PathStep) (leaf : ℕ) (steps : List PathStep) (k : RowKind) (level : ℕ) → IsWay kind s path leaf → RootIs s Gapped → HasMended s s' steps k level → level ≤ 1 → HasGaps (tree_as kind s'.tree)
+end_way trees.Range s s' path leaf steps k level way gapped m last = absurd (no_range s path leaf way gapped)
+end_way trees.Alloc s s' path leaf steps k level way gapped m last =
     let low = m.low in let levels = m.levels_are in
     let all : m.done ≡ m.height = omega arith in
     all_mended s'.tree m.index m.height m.stands (subst (λ (n : ℕ). Levels (IsMendedUpTo m.index n (tree_as trees.Alloc s'.tree)) s'.tree.table m.height (root_of (tree_as trees.Alloc s'.tree))) all m.mended)
@@ -388,8 +388,8 @@ plain_law trees.Range s h stands plain = levels_map (IsRow (tree_as trees.Range 
 plain_law trees.Alloc s zero stands plain = (tt, tt)
 plain_law trees.Alloc s (suc h) stands plain = absurd (plain (root_named trees.Alloc s (suc h) stands))
 
-pub nothing_to_mend : (kind : Kind) (s s' : Sheet) (path : List PathStep) → IsWay kind s path → (RootIs s Gapped → ⊥) → s' ≡ loaded s → HasGaps (tree_as kind s'.tree)
-nothing_to_mend kind s s' path way plain is = subst (λ (v : Sheet). HasGaps (tree_as kind v.tree)) (sym is) (elim way.gaps [
+pub nothing_to_mend : (kind : Kind) (s s' : Sheet) (path : List PathStep) (leaf : ℕ) → IsWay kind s path leaf → (RootIs s Gapped → ⊥) → s' ≡ loaded s → HasGaps (tree_as kind s'.tree)
+nothing_to_mend kind s s' path leaf way plain is = subst (λ (v : Sheet). HasGaps (tree_as kind v.tree)) (sym is) (elim way.gaps [
   | inl empty ↦ inl empty
   | inr full ↦ inr (full.0, full.1, plain_law kind s full.0 full.1 plain)
 ])

@@ -59,14 +59,21 @@ KeepsWords t t' path = (row col : ℕ) → col < columns t.table.width → (word
 abbrev pub OnlyWords : Sheet → Sheet → Type 0
 OnlyWords s s' = s' ≡ record s { tree = record { rows = s.tree.rows; table = record { width = s.tree.table.width; words = s'.tree.table.words }; root = s.tree.root }; reads = s'.reads }
 
--- A way on which gap words are mended: the law of gaps may fail in the slots on the way to an index alone, the rows that are
--- reached are live, and none is buried.
-pub record IsWay (kind : Kind) (s : Sheet) (path : List PathStep) : Type 0 where
+-- The path goes through the rows of a way, and takes its slots, but for its last row: there the way goes through this leaf, and
+-- which slot it takes does not matter.
+pub record IsAlong (path : List PathStep) (leaf : ℕ) (way : List PathStep) : Type 0 where
+  pub many : length path ≡ length way
+  pub above : (level : ℕ) → level + 1 < length path → step_at path level ≡ step_at way level
+  pub end : (level : ℕ) → level + 1 ≡ length path → record (step_at path level) { row = leaf; slot = 0 } ≡ record (step_at way level) { slot = 0 }
+
+-- A way on which gap words are mended, to this leaf: the law of gaps may fail in the slots on the way to an index alone, the rows
+-- that are reached are live, and none is buried.
+pub record IsWay (kind : Kind) (s : Sheet) (path : List PathStep) (leaf : ℕ) : Type 0 where
   pub is_new : ℕ → Bool
   pub index : ℕ
   pub within : index ≤ greatest s.tree.table.width
   pub gaps : HasGapsBut is_new index (tree_as kind s.tree)
-  pub steps : path ≡ path_in s.tree.table s.tree.root index
+  pub steps : IsAlong path leaf (path_in s.tree.table s.tree.root index)
   pub live : LiveAreReached s.tree s.lives
   pub none_buried : NoneBuried s.tree.rows s.buried
 

@@ -112,10 +112,11 @@ fn has_gaps<R: Rows>(rows: &mut R) -> bool
 }
 
 /// Mends the gap words on the way to an index, where all others are right: from the leaf's parent up to the root each
-/// is tended by what the row below tells. In a tree without gaps no row is loaded.
-pub fn mend_way<R: Rows>(rows: &mut R, path: &Path)
-    requires way { (kind : Kind) × IsWay kind (R.sheet rows.old) path.now.items }
-    ensures gaps { (kind : Kind) → IsWay kind (R.sheet rows.old) path.now.items → HasGaps (tree_as kind (R.sheet rows.new).tree) }
+/// is tended by what the row below tells. In a tree without gaps no row is loaded. The way ends in this leaf; the leaf of the path
+/// may be the one that it has replaced.
+pub fn mend_way<R: Rows>(rows: &mut R, path: &Path, leaf: u32)
+    requires way { (kind : Kind) × IsWay kind (R.sheet rows.old) path.now.items leaf }
+    ensures gaps { (kind : Kind) → IsWay kind (R.sheet rows.old) path.now.items leaf → HasGaps (tree_as kind (R.sheet rows.new).tree) }
     ensures rest { OnlyWords (R.sheet rows.old) (R.sheet rows.new) }
     ensures words { KeepsWords (R.sheet rows.old).tree (R.sheet rows.new).tree path.now.items }
     ensures plain { named_kind (R.sheet rows.old).tree.root ≢ Some RowKind.Gapped → R.sheet rows.new ≡ loaded (R.sheet rows.old) }
@@ -125,12 +126,16 @@ pub fn mend_way<R: Rows>(rows: &mut R, path: &Path)
     if !has_gaps(rows) {
         return;
     }
-    let mut kind = RowKind::Leaf;
     let mut level = path.len();
+    let mut kind = RowKind::Leaf;
+    let last = path[level - 1];
+    let mut below = PathStep { row: leaf, ..last };
     while 2 <= level {
         level -= 1;
-        mend_slot(rows, kind, path[level - 1], path[level]);
+        let above = path[level - 1];
+        mend_slot(rows, kind, above, below);
         kind = RowKind::Gapped;
+        below = above;
     }
 }
 

@@ -114,7 +114,7 @@ pub fn replace_range<R: Rows>(
     rows: &mut R,
     book: &mut RowBook,
     kind: Kind,
-    left: Path,
+    left: &Path,
     first: u64,
     last: u64,
     entry: u64,
@@ -122,17 +122,17 @@ pub fn replace_range<R: Rows>(
     call: &Call,
     reply: &Reply,
 ) -> Place
-    requires { MayReplace kind (R.sheet rows.old) book.old left.items first last entry number call.now reply.now }
+    requires { MayReplace kind (R.sheet rows.old) book.old left.now.items first last entry number call.now reply.now }
     ensures { IsSpliced kind (R.sheet rows.old) (R.sheet rows.new) book.old book.new number call.now reply.now result first last }
 {
     let mut region = Region {
-        left,
+        left: copy_of(left),
         right: Path::new(),
         run: Run::new(),
         towards: Towards::Middle,
         inner: inner_kind(kind),
     };
-    copy_into(&region.left, &mut region.right);
+    copy_into(left, &mut region.right);
     go_on(rows, &mut region.right, last);
     fill_leaves(rows, &mut region, first, last, entry);
     splice_region(rows, book, kind, &mut region, number, call, reply)

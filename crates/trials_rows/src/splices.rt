@@ -74,7 +74,7 @@ fn store(rows: &mut PlainRows, book: &mut RowBook, first: u64, last: u64, entry:
         rows,
         book,
         Kind::Range,
-        left,
+        &left,
         first,
         last,
         entry,

@@ -4,7 +4,7 @@ use Rattle.mt_base.specs.declared.replies.Reply.{Reply}
 use Rattle.mt_rows.specs.declared.rows.Place.{Place}
 use Rattle.mt_rows.specs.Publish.{MayPublish, Published}
 use Rattle.mt_engine.specs.StoreBy.{IsDoneBy}
-use Rattle.mt_engine.proofs.Answering.{may_mend, rows_stored}
+use Rattle.mt_engine.proofs.Answering.{may_mend, was_way, rows_stored}
 use Rattle.mt_engine.proofs.Leaving.{stays_stored}
 use Rattle.mt_engine.proofs.Moments.{tree_in_call}
 use Rattle.mt_engine.proofs.OneWord.{may_publish_entry, entry_stored, entry_height}
@@ -19,7 +19,7 @@ returns-in-NoWord-clause-stored g c =
     let s = g.R.Rows.sheet c.args.rows.now in
     let tree = tree_in_call c.args.kind s c.args.book.now c.requires.in_call in
     let by = subst (IsDoneBy c.args.here c.args.first c.args.last c.args.entry) c.in-NoWord.is c.store_by.ensures in
-    stays_stored c.args.kind s c.args.book.now c.args.call.now c.args.reply.now c.requires.in_call (no_word_acts c.args.kind s.tree tree c.args.call.now c.args.path.items c.args.first c.args.last c.args.entry c.args.reply.now c.args.here c.requires.plan by)
+    stays_stored c.args.kind s c.args.book.now c.args.call.now c.args.reply.now c.requires.in_call (no_word_acts c.args.kind s.tree tree c.args.call.now c.args.path.now.items c.args.first c.args.last c.args.entry c.args.reply.now c.args.here c.requires.plan by)
 
 -- ---- by one word
 
@@ -28,17 +28,17 @@ place_of-place-requires-clause-at g c =
     let s = g.R.Rows.sheet c.args.rows.now in
     let tree = tree_in_call c.args.kind s c.args.book.now c.requires.in_call in
     let by = subst (IsDoneBy c.args.here c.args.first c.args.last c.args.entry) c.in-OneWord.is c.store_by.ensures in
-    one_handle c.args.kind s.tree tree c.args.call.now c.args.path.items c.args.first c.args.last c.args.entry c.args.reply.now c.args.here c.requires.plan c.in-OneWord.at by
+    one_handle c.args.kind s.tree tree c.args.call.now c.args.path.now.items c.args.first c.args.last c.args.entry c.args.reply.now c.args.here c.requires.plan c.in-OneWord.at by
 
 pub publish-requires : goal.publish-requires
 publish-requires g c =
     let s = g.R.Rows.sheet c.args.rows.now in
     let tree = tree_in_call c.args.kind s c.args.book.now c.requires.in_call in
     let by = subst (IsDoneBy c.args.here c.args.first c.args.last c.args.entry) c.in-OneWord.is c.store_by.ensures in
-    let exact = one_exact c.args.kind s.tree tree c.args.call.now c.args.path.items c.args.first c.args.last c.args.entry c.args.reply.now c.args.here c.requires.plan c.in-OneWord.at by in (
+    let exact = one_exact c.args.kind s.tree tree c.args.call.now c.args.path.now.items c.args.first c.args.last c.args.entry c.args.reply.now c.args.here c.requires.plan c.in-OneWord.at by in (
       c.args.kind,
       subst (λ (p : Place). MayPublish c.args.kind s p c.args.entry c.args.call.now c.args.reply.now) (sym c.place_of-place.ensures)
-          (may_publish_entry c.args.kind s c.args.book.now c.in-OneWord.at c.args.entry c.args.call.now c.args.reply.now (g.met.R.Rows.whole c.args.rows.now) c.requires.in_call (one_handle c.args.kind s.tree tree c.args.call.now c.args.path.items c.args.first c.args.last c.args.entry c.args.reply.now c.args.here c.requires.plan c.in-OneWord.at by) exact.range exact.some_entry (one_store c.args.kind s.tree tree c.args.call.now c.args.path.items c.args.first c.args.last c.args.entry c.args.reply.now c.args.here c.requires.plan c.in-OneWord.at by)),
+          (may_publish_entry c.args.kind s c.args.book.now c.in-OneWord.at c.args.entry c.args.call.now c.args.reply.now (g.met.R.Rows.whole c.args.rows.now) c.requires.in_call (one_handle c.args.kind s.tree tree c.args.call.now c.args.path.now.items c.args.first c.args.last c.args.entry c.args.reply.now c.args.here c.requires.plan c.in-OneWord.at by) exact.range exact.some_entry (one_store c.args.kind s.tree tree c.args.call.now c.args.path.now.items c.args.first c.args.last c.args.entry c.args.reply.now c.args.here c.requires.plan c.in-OneWord.at by)),
     )
 
 pub returns-in-OneWord-clause-stored : goal.returns-in-OneWord-clause-stored
@@ -46,21 +46,21 @@ returns-in-OneWord-clause-stored g c =
     let s = g.R.Rows.sheet c.args.rows.now in
     let tree = tree_in_call c.args.kind s c.args.book.now c.requires.in_call in
     let by = subst (IsDoneBy c.args.here c.args.first c.args.last c.args.entry) c.in-OneWord.is c.store_by.ensures in
-    let exact = one_exact c.args.kind s.tree tree c.args.call.now c.args.path.items c.args.first c.args.last c.args.entry c.args.reply.now c.args.here c.requires.plan c.in-OneWord.at by in
+    let exact = one_exact c.args.kind s.tree tree c.args.call.now c.args.path.now.items c.args.first c.args.last c.args.entry c.args.reply.now c.args.here c.requires.plan c.in-OneWord.at by in
     let s' = g.R.Rows.sheet c.publish.new.self in
-    entry_stored c.args.kind s c.args.book.now c.in-OneWord.at c.args.entry c.args.call.now c.args.reply.now (g.met.R.Rows.whole c.args.rows.now) c.requires.in_call (one_handle c.args.kind s.tree tree c.args.call.now c.args.path.items c.args.first c.args.last c.args.entry c.args.reply.now c.args.here c.requires.plan c.in-OneWord.at by) exact.range exact.some_entry
-    (one_store c.args.kind s.tree tree c.args.call.now c.args.path.items c.args.first c.args.last c.args.entry c.args.reply.now c.args.here c.requires.plan c.in-OneWord.at by) s' (subst (λ (p : Place). Published s s' p c.args.entry c.args.call.now c.args.reply.now) c.place_of-place.ensures c.publish.ensures)
+    entry_stored c.args.kind s c.args.book.now c.in-OneWord.at c.args.entry c.args.call.now c.args.reply.now (g.met.R.Rows.whole c.args.rows.now) c.requires.in_call (one_handle c.args.kind s.tree tree c.args.call.now c.args.path.now.items c.args.first c.args.last c.args.entry c.args.reply.now c.args.here c.requires.plan c.in-OneWord.at by) exact.range exact.some_entry
+    (one_store c.args.kind s.tree tree c.args.call.now c.args.path.now.items c.args.first c.args.last c.args.entry c.args.reply.now c.args.here c.requires.plan c.in-OneWord.at by) s' (subst (λ (p : Place). Published s s' p c.args.entry c.args.call.now c.args.reply.now) c.place_of-place.ensures c.publish.ensures)
 
 pub returns-in-OneWord-clause-height : goal.returns-in-OneWord-clause-height
 returns-in-OneWord-clause-height g c =
     let s = g.R.Rows.sheet c.args.rows.now in
     let tree = tree_in_call c.args.kind s c.args.book.now c.requires.in_call in
     let by = subst (IsDoneBy c.args.here c.args.first c.args.last c.args.entry) c.in-OneWord.is c.store_by.ensures in
-    let exact = one_exact c.args.kind s.tree tree c.args.call.now c.args.path.items c.args.first c.args.last c.args.entry c.args.reply.now c.args.here c.requires.plan c.in-OneWord.at by in
+    let exact = one_exact c.args.kind s.tree tree c.args.call.now c.args.path.now.items c.args.first c.args.last c.args.entry c.args.reply.now c.args.here c.requires.plan c.in-OneWord.at by in
     let s' = g.R.Rows.sheet c.publish.new.self in
     λ _.
-    entry_height c.args.kind s c.args.book.now c.in-OneWord.at c.args.entry c.args.call.now c.args.reply.now (g.met.R.Rows.whole c.args.rows.now) c.requires.in_call (one_handle c.args.kind s.tree tree c.args.call.now c.args.path.items c.args.first c.args.last c.args.entry c.args.reply.now c.args.here c.requires.plan c.in-OneWord.at by) exact.range exact.some_entry
-    (one_store c.args.kind s.tree tree c.args.call.now c.args.path.items c.args.first c.args.last c.args.entry c.args.reply.now c.args.here c.requires.plan c.in-OneWord.at by) s' (subst (λ (p : Place). Published s s' p c.args.entry c.args.call.now c.args.reply.now) c.place_of-place.ensures c.publish.ensures)
+    entry_height c.args.kind s c.args.book.now c.in-OneWord.at c.args.entry c.args.call.now c.args.reply.now (g.met.R.Rows.whole c.args.rows.now) c.requires.in_call (one_handle c.args.kind s.tree tree c.args.call.now c.args.path.now.items c.args.first c.args.last c.args.entry c.args.reply.now c.args.here c.requires.plan c.in-OneWord.at by) exact.range exact.some_entry
+    (one_store c.args.kind s.tree tree c.args.call.now c.args.path.now.items c.args.first c.args.last c.args.entry c.args.reply.now c.args.here c.requires.plan c.in-OneWord.at by) s' (subst (λ (p : Place). Published s s' p c.args.entry c.args.call.now c.args.reply.now) c.place_of-place.ensures c.publish.ensures)
 
 -- ---- by new rows
 
@@ -69,20 +69,28 @@ replace_range-place-requires g c =
     let s = g.R.Rows.sheet c.args.rows.now in
     let tree = tree_in_call c.args.kind s c.args.book.now c.requires.in_call in
     let by = subst (IsDoneBy c.args.here c.args.first c.args.last c.args.entry) c.in-NewRows.is c.store_by.ensures in
-    let replaces = new_rows_replace c.args.kind s.tree tree c.args.call.now c.args.path.items c.args.first c.args.last c.args.entry c.args.reply.now c.args.here c.requires.plan by in
-    may_replace_now c.args.kind s c.args.book.now c.args.path.items c.args.first c.args.last c.args.entry c.args.number c.args.call.now c.args.reply.now c.args.here tree c.requires.in_call
+    let replaces = new_rows_replace c.args.kind s.tree tree c.args.call.now c.args.path.now.items c.args.first c.args.last c.args.entry c.args.reply.now c.args.here c.requires.plan by in
+    may_replace_now c.args.kind s c.args.book.now c.args.path.now.items c.args.first c.args.last c.args.entry c.args.number c.args.call.now c.args.reply.now c.args.here tree c.requires.in_call
     c.requires.plan by (c.requires.room replaces) c.requires.number
 
-pub mend_at-requires : goal.mend_at-requires
-mend_at-requires g c =
+pub mend_at-requires-clause-may : goal.mend_at-requires-clause-may
+mend_at-requires-clause-may g c =
     may_mend c.args.kind (g.R.Rows.sheet c.args.rows.now) (g.R.Rows.sheet c.replace_range-place.new.rows) c.args.book.now c.replace_range-place.new.book c.args.number c.args.call.now c.args.reply.now c.replace_range-place.result c.args.first c.args.last c.requires.in_call c.requires.plan.store.order c.requires.plan.store.within c.replace_range-place.ensures
+
+pub mend_at-requires-clause-was : goal.mend_at-requires-clause-was
+mend_at-requires-clause-was g c =
+    let s = g.R.Rows.sheet c.args.rows.now in (
+      s.tree,
+      was_way c.args.kind s (g.R.Rows.sheet c.replace_range-place.new.rows) c.args.book.now c.replace_range-place.new.book c.args.number c.args.call.now c.args.reply.now c.replace_range-place.result c.args.first c.args.last c.args.path.now.items
+          (tree_in_call c.args.kind s c.args.book.now c.requires.in_call) c.requires.plan.way c.replace_range-place.ensures,
+    )
 
 pub returns-in-NewRows-clause-stored : goal.returns-in-NewRows-clause-stored
 returns-in-NewRows-clause-stored g c =
     let s = g.R.Rows.sheet c.args.rows.now in
     let tree = tree_in_call c.args.kind s c.args.book.now c.requires.in_call in
     let by = subst (IsDoneBy c.args.here c.args.first c.args.last c.args.entry) c.in-NewRows.is c.store_by.ensures in
-    let replaces = new_rows_replace c.args.kind s.tree tree c.args.call.now c.args.path.items c.args.first c.args.last c.args.entry c.args.reply.now c.args.here c.requires.plan by in
+    let replaces = new_rows_replace c.args.kind s.tree tree c.args.call.now c.args.path.now.items c.args.first c.args.last c.args.entry c.args.reply.now c.args.here c.requires.plan by in
     rows_stored c.args.kind s (g.R.Rows.sheet c.replace_range-place.new.rows) (g.R.Rows.sheet c.mend_at.new.rows) c.args.book.now c.replace_range-place.new.book c.args.number c.args.call.now c.args.reply.now c.replace_range-place.result c.args.first c.args.last
     c.requires.in_call c.requires.number replaces (ap (λ (was : List Range × Reply). was.1) c.requires.plan.store.acts) c.replace_range-place.ensures c.mend_at.ensures
 

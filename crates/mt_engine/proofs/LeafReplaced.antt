@@ -1,0 +1,93 @@
+-- A path along which the way to an index goes when its leaf was replaced, as the tree tells it.
+use Rattle.std.specs.Prelude.{Option, IfSome}
+use Rattle.std.proofs.Common.{◌≡◌, ◌≢◌, ℕ, suc, ◌+◌, ◌-◌, ◌<◌, ◌≤◌, List, None, Some, length, sym, ap, ◌∙◌, subst, arith}
+use Rattle.mt_base.specs.declared.kinds.Kind.TheVariants as trees
+use Rattle.mt_base.specs.declared.widths.Width.{Width}
+use Rattle.mt_base.specs.Width.{columns, greatest, first_row}
+use Rattle.mt_layout.specs.declared.names.RowKind.TheVariants.{Gapped}
+use Rattle.mt_layout.specs.Rows.{row_in}
+use Rattle.mt_layout.specs.Columns.{slot_column}
+use Rattle.mt_layout.specs.Sizes.{slots_of}
+use Rattle.mt_layout.proofs.NameLaws.{Names-named_kind}
+use Rattle.mt_layout.proofs.RowSizes.{some_columns}
+use Rattle.mt_path.specs.declared.paths.PathStep.{PathStep}
+use Rattle.mt_path.specs.Paths.{step_at, step_in, path_in}
+use Rattle.mt_path.proofs.TreePaths.{row_of, step_of, levels, step, lawful, slot_used}
+use Rattle.mt_path.proofs.Ways.{some_root, some_tree}
+use Rattle.mt_rows.specs.declared.rows.Place.{Place}
+use Rattle.mt_rows.specs.declared.rows.Place.TheVariants.{Slot}
+use Rattle.mt_rows.specs.Spans.{spans_in}
+use Rattle.mt_rows.specs.Laws.{Tree, IsRow, Stands}
+use Rattle.mt_rows.specs.Sheet.{Rooted, IsPlace, word_at}
+use Rattle.mt_rows.specs.Publish.{tree_as, IsTreeOf, IsReached}
+use Rattle.mt_rows.proofs.FewSpans.{row_most}
+use Rattle.mt_gap.specs.Mending.{IsAlong}
+use Rattle.mt_engine.specs.Mends.{WasWay, IsPublishedAt}
+use Rattle.mt_engine.proofs.NewLeaf.{along_now}
+use Rattle.mt_engine.proofs.SameHeight.{levels_same}
+
+module _ (was now : Rooted) (place : Place) (path : List PathStep) (index : ℕ) (w : WasWay trees.Alloc was now place path index) (tree : IsTreeOf now trees.Alloc) (within : index ≤ greatest now.table.width) (many : 2 ≤ length path) where
+  abbrev t : Tree
+  t = tree_as trees.Alloc was
+
+  width : now.table.width ≡ was.table.width
+  width = tree.width ∙ sym w.tree.width
+
+  within_then : index ≤ greatest was.table.width
+  within_then = subst (λ (v : Width). index ≤ greatest v) width within
+
+  some : was.root ≢ 0
+  some = let long = ap length w.way in some_root was index 0 (omega arith)
+
+  stood : (h : ℕ) × Stands t h
+  stood = some_tree t w.tree.words some
+
+  abbrev d : ℕ
+  d = length path - 2
+
+  high : stood.0 ≡ suc d
+  high = let long = ap length w.way ∙ levels t stood.0 stood.1 index within_then in omega arith
+
+  stands : Stands t (suc d)
+  stands = subst (Stands t) high stood.1
+
+  abbrev above : PathStep
+  above = step_at path d
+
+  above_is : above ≡ step_of t d index
+  above_is = ap (λ (l : List PathStep). step_at l d) w.way
+
+  above_in : above ≡ step_in was.table (row_of t d index) index
+  above_in = above_is ∙ step t (suc d) stands index d within_then (omega arith)
+
+  row : IsRow t 1 (row_of t d index)
+  row = lawful t (suc d) stands index d 1 within_then (omega arith)
+
+  pub above_place : IsPlace now above.row 0
+  above_place = subst (λ (s : PathStep). IsPlace now s.row 0) (sym above_in) (record {
+    first = (Names-named_kind (row_of t d index).word Gapped row.name.named).0.0;
+    last = subst (λ (n : ℕ). row_in (row_of t d index).word < first_row + n) (sym w.rows) row.name.in_table;
+    column = some_columns now.table.width;
+  })
+
+  pub above_slot : above.slot < slots_of now.table.width Gapped
+  above_slot =
+      let used = slot_used t (suc d) stands index d within_then (omega arith) in
+      let most = row_most row.name in
+      let low : above.slot < length (spans_in was.table (row_of t d index)) = subst (λ (s : PathStep). s.slot < length (spans_in was.table (row_of t d index))) (sym above_is) used in
+      subst (λ (v : Width). above.slot < slots_of v Gapped) (sym width) (omega arith)
+
+  pub goes_along : (leaf : ℕ) → IsPublishedAt now place above leaf → IsAlong path leaf (path_in now.table now.root index)
+  goes_along leaf published =
+      let col = slot_column (slots_of now.table.width Gapped) above.slot in
+      let root = w.root above.row col published.at in
+      let kept : (r c : ℕ) → IsReached was r → 0 < c → c < columns was.table.width → Slot above.row col ≢ Slot r c → word_at now r c ≡ word_at was r c =
+      λ r c reached some_column inside other. w.kept r c reached some_column inside (λ same. other (sym published.at ∙ same)) in
+      let stood' = some_tree (tree_as trees.Alloc now) tree.words (λ empty. some (sym root ∙ empty)) in
+      let same = levels_same trees.Alloc was now (suc d) stood'.0 above.row col stands stood'.1 width root kept in
+      subst (λ (l : List PathStep). IsAlong l leaf (path_in now.table now.root index)) (sym w.way)
+      (along_now was now d above.row col index stands (subst (Stands (tree_as trees.Alloc now)) same stood'.1) width root within_then kept (ap (λ (s : PathStep). s.row) above_is) (λ i. slots_of (width i) Gapped + (above_is i).slot) leaf published.named)
+
+pub some_more : (r : Option ℕ) (P Q : ℕ → Type 0) → ((n : ℕ) → P n → Q n) → IfSome r P → IfSome r Q
+some_more None P Q more is = tt
+some_more (Some n) P Q more is = more n is

@@ -1,0 +1,107 @@
+-- Gap words mended on a path that goes along a way, whose leaf may be another.
+use Rattle.std.proofs.Common.{◌≡◌, ℕ, ◌+◌, ◌-◌, ◌<◌, ◌≤◌, List, length, sym, ap, ◌∙◌, subst, inl, inr, arith}
+use Rattle.mt_base.specs.declared.kinds.Kind.{Kind}
+use Rattle.mt_layout.specs.declared.names.RowKind.{RowKind}
+use Rattle.mt_layout.specs.declared.names.RowKind.TheVariants.{Leaf, Inner, Gapped}
+use Rattle.mt_layout.specs.Columns.{gap_column}
+use Rattle.mt_layout.specs.Sizes.{slots_of}
+use Rattle.mt_path.specs.declared.paths.PathStep.{PathStep}
+use Rattle.mt_path.specs.Paths.{step_at, path_in}
+use Rattle.mt_rows.specs.Gaps.{HasGaps}
+use Rattle.mt_rows.specs.Laws.{Stands}
+use Rattle.mt_rows.specs.Levels.{Levels}
+use Rattle.mt_rows.specs.Publish.{tree_as}
+use Rattle.mt_rows.specs.Replacement.{root_of}
+use Rattle.mt_rows.specs.Sheet.{Sheet, IsPlace, IsWhole, with_word, loaded}
+use Rattle.mt_rows.specs.Spans.{Table}
+use Rattle.mt_rows.proofs.Joins.{Shared}
+use Rattle.mt_gap.specs.Mending.{told_by, KeepsWords, IsAlong, IsWay, MayTell, MayMend, IsMended}
+use Rattle.mt_gap.proofs.MendWay.{HasMended, RootIs, level_low, may_mend_at, mended_at, begin_way, end_way, end_spans}
+
+-- ---- what a row tells does not depend on the slot
+
+may_tell_by : (kind : RowKind) (t : Table) (a b : PathStep) → record a { slot = 0 } ≡ record b { slot = 0 } → MayTell kind t b → MayTell kind t a
+may_tell_by Leaf t a b same may = subst (MayTell Leaf t) (sym same) may
+may_tell_by Inner t a b same may = tt
+may_tell_by Gapped t a b same may = subst (MayTell Gapped t) (sym same) may
+
+told_same : (kind : RowKind) (t : Table) (a b : PathStep) → record a { slot = 0 } ≡ record b { slot = 0 } → told_by kind t a ≡ told_by kind t b
+told_same Leaf t a b same = ap (told_by Leaf t) same
+told_same Inner t a b same = ap (told_by Inner t) same
+told_same Gapped t a b same = ap (told_by Gapped t) same
+
+module _ (s : Sheet) (kind : RowKind) (above below above' below' : PathStep) (up : above ≡ above') (low : record below { slot = 0 } ≡ record below' { slot = 0 }) where
+  pub may_mend_by : MayMend s kind above' below' → MayMend s kind above below
+  may_mend_by may =
+      subst (λ (p : PathStep). MayMend s kind p below) (sym up) (record {
+        place = subst (λ (n : ℕ). IsPlace s.tree n 0) (sym (ap (λ (p : PathStep). p.row) low)) may.place;
+        tells = may_tell_by kind s.tree.table below below' low may.tells;
+        slot = may.slot;
+        tend = may.tend;
+      })
+
+  pub mended_by : (s' : Sheet) → IsMended s s' kind above below → IsMended s s' kind above' below'
+  mended_by s' mended =
+      mended
+      ∙ (λ i. record s { tree = with_word s.tree (up i).row (gap_column (slots_of s.tree.table.width Gapped) (up i).slot) (told_same kind s.tree.table below below' low i); reads = s'.reads })
+
+-- ---- how far it is mended
+
+-- the way is mended from its leaf up to the row of this step, which is the next to tell
+pub record HasMendedOn (s s' : Sheet) (path : List PathStep) (leaf : ℕ) (kind : RowKind) (level : ℕ) (below : PathStep) : Type 0 where
+  pub way : List PathStep
+  pub along : IsAlong path leaf way
+  pub mended : HasMended s s' way kind level
+  pub row : record below { slot = 0 } ≡ record (step_at way (level - 1)) { slot = 0 }
+
+module _ (s s' : Sheet) (path : List PathStep) (leaf : ℕ) (kind : RowKind) (level : ℕ) (below : PathStep) (m : HasMendedOn s s' path leaf kind level below) where
+  pub level_within : level ≤ length path
+  level_within = let low = level_low s s' m.way kind level m.mended in let many = m.along.many in omega arith
+
+  pub words_on : KeepsWords s.tree s'.tree path
+  words_on row col low = elim (m.mended.words row col low) [
+    | inl same ↦ inl same
+    | inr gap ↦
+        (let few : gap.level + 1 < length path = (let many = m.along.many in let few = gap.above in omega arith) in
+        let same = sym (m.along.above gap.level few) in
+        inr (record {
+          level = gap.level;
+          above = few;
+          row_is = gap.row_is ∙ ap (λ (p : PathStep). p.row) same;
+          col_is = gap.col_is ∙ ap (λ (p : PathStep). gap_column (slots_of s.tree.table.width Gapped) p.slot) same;
+        }))
+  ]
+
+  module _ (more : 2 ≤ level) where
+    up : step_at path (level - 1 - 1) ≡ step_at m.way (level - 1 - 1)
+    up = let low = level_within in m.along.above (level - 1 - 1) (omega arith)
+
+    pub may_mend_on : IsWhole s' → MayMend s' kind (step_at path (level - 1 - 1)) below
+    may_mend_on whole =
+        may_mend_by s' kind (step_at path (level - 1 - 1)) below (step_at m.way (level - 1 - 1)) (step_at m.way (level - 1)) up m.row
+        (may_mend_at s s' m.way kind level m.mended more whole)
+
+    pub mended_on : IsWhole s' → (s'' : Sheet) → IsMended s' s'' kind (step_at path (level - 1 - 1)) below → HasMendedOn s s'' path leaf Gapped (level - 1) (step_at path (level - 1 - 1))
+    mended_on whole s'' mended = record {
+      way = m.way;
+      along = m.along;
+      mended =
+          mended_at s s' m.way kind level m.mended more whole s''
+          (mended_by s' kind (step_at path (level - 1 - 1)) below (step_at m.way (level - 1 - 1)) (step_at m.way (level - 1)) up m.row s'' mended);
+      row = ap (λ (p : PathStep). record p { slot = 0 }) up;
+    }
+
+-- ---- the first and the last
+
+pub begin_on : (kind : Kind) (s s' : Sheet) (path : List PathStep) (leaf : ℕ) → IsWay kind s path leaf → RootIs s Gapped → s' ≡ loaded s → HasMendedOn s s' path leaf Leaf (length path) (record (step_at path (length path - 1)) { row = leaf })
+begin_on kind s s' path leaf way gapped is =
+    let m = begin_way kind s s' path leaf way gapped is in
+    let some = m.low in
+    record { way = path_in s.tree.table s.tree.root way.index; along = way.steps; mended = m; row = way.steps.end (length path - 1) (omega arith) }
+
+pub end_on : (kind : Kind) (s s' : Sheet) (path : List PathStep) (leaf : ℕ) (k : RowKind) (level : ℕ) (below : PathStep) → IsWay kind s path leaf → RootIs s Gapped → HasMendedOn s s' path leaf k level below → level ≤ 1 → HasGaps (tree_as kind s'.tree)
+end_on kind s s' path leaf k level below way gapped m last = end_way kind s s' path leaf m.way k level way gapped m.mended last
+
+pub spans_on : (kind : Kind) (s s' : Sheet) (path : List PathStep) (leaf : ℕ) (k : RowKind) (level : ℕ) (below : PathStep) (h : ℕ) → HasMendedOn s s' path leaf k level below → Stands (tree_as kind s.tree) h
+    → Levels (Shared s.tree.table s'.tree.table) s.tree.table h (root_of (tree_as kind s.tree))
+spans_on kind s s' path leaf k level below h m stands = end_spans kind s s' m.way k level h m.mended stands
