@@ -121,9 +121,10 @@ impl<'a, R> Caller<'a, R> {
 
 impl<'a, R: Wait> Tree for Caller<'a, R> {
     fn act(&mut self, call: &Call) -> Reply {
-        self.tree
-            .act(self.rt, &mut self.pass, call)
-            .map_or(Reply::Invalid, |done| done.reply)
+        match self.tree.act(self.rt, &mut self.pass, call) {
+            Ok(done) => done.reply,
+            Err(_) => Reply::Invalid,
+        }
     }
 
     fn load(&mut self, index: u64) -> u64 {

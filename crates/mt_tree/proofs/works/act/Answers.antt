@@ -5,21 +5,21 @@ use Rattle.mt_tree.proofs.works.act.Goals as goal
 pub end-requires-clause-few : goal.end-requires-clause-few
 end-requires-clause-few g c =
     let w = at_work c.args.tree.now c.args.tools.now c.args.pass.now g.W.Writer.table g.W.Writer.turn c.begin-engine.result c.requires.worker c.begin-engine.ensures.kind c.begin-engine.ensures.book c.begin-engine.ensures.sheet c.begin-engine.ensures.shown in
-    one_more_fits _ _ _ _ _ w c.apply-reply.new.self c.args.call.now c.apply-reply.result c.apply-reply.ensures.applied.ended.record_told c.requires.room
+    one_more_fits _ _ _ _ _ w c.applied-engine.result.0 c.args.call.now c.applied-engine.result.1 c.applied-engine.ensures.applied.ended.record_told c.requires.room
 
 pub returns-clause-seen : goal.returns-clause-seen
 returns-clause-seen g c =
     let w = at_work c.args.tree.now c.args.tools.now c.args.pass.now g.W.Writer.table g.W.Writer.turn c.begin-engine.result c.requires.worker c.begin-engine.ensures.kind c.begin-engine.ensures.book c.begin-engine.ensures.sheet c.begin-engine.ensures.shown in
-    seen_then _ _ _ _ _ _ _ _ w c.end.ensures c.args.call.now c.apply-reply.result c.apply-reply.ensures.applied.ended
+    seen_then _ _ _ _ _ _ _ _ w c.end.ensures c.args.call.now c.applied-engine.result.1 c.applied-engine.ensures.applied.ended
 
 pub returns-clause-wrote : goal.returns-clause-wrote
 returns-clause-wrote g c =
     let w = at_work c.args.tree.now c.args.tools.now c.args.pass.now g.W.Writer.table g.W.Writer.turn c.begin-engine.result c.requires.worker c.begin-engine.ensures.kind c.begin-engine.ensures.book c.begin-engine.ensures.sheet c.begin-engine.ensures.shown in
-    let applied = c.apply-reply.ensures.applied in
-    wrote _ _ _ _ _ _ _ _ w c.end.ensures c.args.call.now c.apply-reply.result applied.ended
-    (by_answer _ _ _ _ _ _ _ _ w c.end.ensures c.args.call.now c.apply-reply.result applied.ended applied.answer)
+    let applied = c.applied-engine.ensures.applied in
+    wrote _ _ _ _ _ _ _ _ w c.end.ensures c.args.call.now c.applied-engine.result.1 applied.ended
+    (by_answer _ _ _ _ _ _ _ _ w c.end.ensures c.args.call.now c.applied-engine.result.1 applied.ended applied.answer)
 
 pub returns-clause-kept : goal.returns-clause-kept
 returns-clause-kept g c =
     let w = at_work c.args.tree.now c.args.tools.now c.args.pass.now g.W.Writer.table g.W.Writer.turn c.begin-engine.result c.requires.worker c.begin-engine.ensures.kind c.begin-engine.ensures.book c.begin-engine.ensures.sheet c.begin-engine.ensures.shown in
-    λ is. tree_back _ _ _ _ _ _ _ _ w c.end.ensures (refused_still c.begin-engine.result c.apply-reply.new.self c.args.call.now c.apply-reply.result c.apply-reply.ensures.applied.answer is)
+    λ is. tree_back _ _ _ _ _ _ _ _ w c.end.ensures (refused_still c.begin-engine.result c.applied-engine.result.0 c.args.call.now c.applied-engine.result.1 c.applied-engine.ensures.applied.answer is)
