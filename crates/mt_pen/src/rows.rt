@@ -34,9 +34,10 @@ impl<'a, W: Writer> PenRows<'a, W> {
     ghost use Rattle.mt_base.specs.Passes.{IsSound};
     ghost use Rattle.mt_life.specs.declared.views.Extent.{Extent};
     ghost use Rattle.mt_rule.specs.Rule as rule;
-    ghost use Rattle.mt_rule.specs.Tokens.{identity_of, tree_in, pass_in, turn_seat, IsPassOf, pen_in, IsPenOf, IsAlone, WasShown};
+    ghost use Rattle.mt_rule.specs.Tokens.{identity_of, tree_in, pass_in, turn_seat, IsPassOf, pen_in, IsPenOf, IsAlone, IsJoined, joined_in, joined_turn, WasShown};
     ghost use Rattle.mt_pen.specs.Sheets.{sheet_told, shown_all, unscanned, HasSeenAll};
-    ghost use Rattle.mt_pen.specs.Works.{OpensSmall};
+    ghost use Rattle.mt_pen.specs.Scans.{none_open};
+    ghost use Rattle.mt_pen.specs.Works.{IsWorked, OpensSmall};
 
     /// Joins a pass with the pen of its table, while no call is in flight.
     pub fn new(table: &'a MtTable, mut pen: Pen, pass: Pass) -> PenRows<'a, W>
@@ -52,6 +53,19 @@ impl<'a, W: Writer> PenRows<'a, W> {
         ensures shown { WasShown (tree_in W.table) (pen_in pen) (pass_in pass) (shown_all (pen_in pen) (pass_in pass)) }
     {
         table.join_pen(&mut pen, pass);
+        PenRows::joined(table, pen)
+    }
+
+    /// The rows of a pen with which the pass is joined. They are made behind the loads that join it, and so are not moved across these.
+    fn joined(table: &'a MtTable, pen: Pen) -> PenRows<'a, W>
+        requires table { identity_of table.now ≡ W.table }
+        requires of { IsPenOf W.table pen }
+        requires joined { IsJoined pen }
+        requires turn { joined_turn pen ≡ W.turn }
+        requires dealt { (pen_in pen).dealt ≡ W.table.shape.passes }
+        requires worked { IsWorked (pen_in pen) none_open 0 0 }
+        ensures { ⟦<PenRows<'a, W> as Rows>⟧.sheet result ≡ sheet_told W.table (pen_in pen) (joined_in pen) }
+    {
         PenRows {
             table,
             pen,

@@ -61,5 +61,9 @@ module _ {C : Type 0} (table : C → Identity) where
     pub free : found ≡ 0 → (value : C) × (me' ≡ (holding me.0.of, (0, Some value) ∷ me.1)) × (table value ≡ served me.0.of)
     pub taken : found ≢ 0 → me' ≡ me
 
+  -- the value has just been grabbed, and its slot is away with this seat
+  abbrev pub HasGrabbed : Snapshot MtTable → Me (Option C) TurnView → Type 0
+  HasGrabbed key me = (value : C) × (me ≡ (holding key, (0, Some value) ∷ [])) × (table value ≡ served key)
+
   abbrev pub grabs : Step (Option C) → Me (Option C) TurnView → ℕ → Me (Option C) TurnView → Type 0
   grabs step me found me' = Grabbed me found me'

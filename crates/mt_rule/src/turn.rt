@@ -2,7 +2,7 @@
 
 ghost use Rattle.std.specs.Prelude.{◌≡◌, IfOk, IfErr, All, map, None, [], ◌∷◌};
 ghost use Rattle.mt_rule.specs.Tokens.{Identity, identity_of, identity_of_pass, identity_of_pen, tree_seat, IsPassOf, pass_in};
-ghost use Rattle.mt_rule.specs.Turns.{IsSeatedAt, IsTakenOf, waiting, served};
+ghost use Rattle.mt_rule.specs.Turns.{HasGrabbed, IsSeatedAt, IsTakenOf, waiting, served};
 
 use crate::passes::Pass;
 use crate::pens::Pen;
@@ -159,12 +159,22 @@ impl<C: OfTable> Turn<C> {
         let mut seat = self.seat(pass);
         for _ in rt.forever() {
             if self.table.shared.swap::<Grabs>(&mut seat, 0, 1) == 0 {
-                let value = self.table.shared.exchange(&mut seat, 0, None).unwrap();
-                return Taken { value, seat };
+                return self.grabbed(seat);
             }
             thread::yield_now();
         }
         unreachable!()
+    }
+
+    /// Takes the value out of the slot, which is away with the seat. It is moved behind the swap that grabs it, and not across that.
+    fn grabbed(&self, mut seat: Seat<Option<C>, TurnView>) -> Taken<C>
+        requires table { seat.table_id ≡ self.now.table.shared.table_id }
+        requires away { HasGrabbed C.table self.now.table.shared.key seat.me }
+        ensures value { C.table result.value ≡ served self.now.table.shared.key }
+        ensures taken { IsTakenOf self.now.table.shared.table_id self.now.table.shared.key result.seat }
+    {
+        let value = self.table.shared.exchange(&mut seat, 0, None).unwrap();
+        Taken { value, seat }
     }
 
     /// Gives the value back.
