@@ -39,8 +39,19 @@ fn load_counted<L: Ledger>(tree: &mt_tree::Tree, pass: &mut Pass, index: u64, bl
     tree.load(pass, index, &mut steps).value.unwrap_or(0)
 }
 
+/// Makes a call. A tree that has as many calls as it may have answers as if it was invalid.
+pub fn act(rt: &impl Wait, tree: &mt_tree::Tree, pass: &mut Pass, call: &Call) -> Reply
+    requires { IsPassOf tree.now pass.old }
+    ensures { IsPassOf tree.now pass.new }
+{
+    match tree.act(rt, pass, call) {
+        Ok(done) => done.reply,
+        Err(_) => Reply::Invalid,
+    }
+}
+
 /// The entry at an index, or 0: the way in which readers load.
-fn load(tree: &mt_tree::Tree, pass: &mut Pass, index: u64) -> u64
+pub fn load(tree: &mt_tree::Tree, pass: &mut Pass, index: u64) -> u64
     requires { IsPassOf tree.now pass.old }
     ensures { IsPassOf tree.now pass.new }
 {
@@ -78,7 +89,7 @@ fn visit_counted<L: Ledger>(tree: &mt_tree::Tree, pass: &mut Pass, blank: Blank)
 }
 
 /// Visits all ranges in order.
-fn visit(tree: &mt_tree::Tree, pass: &mut Pass) -> Visit
+pub fn visit(tree: &mt_tree::Tree, pass: &mut Pass) -> Visit
     requires { IsPassOf tree.now pass.old }
     ensures { IsPassOf tree.now pass.new }
 {
@@ -121,10 +132,7 @@ impl<'a, R> Caller<'a, R> {
 
 impl<'a, R: Wait> Tree for Caller<'a, R> {
     fn act(&mut self, call: &Call) -> Reply {
-        match self.tree.act(self.rt, &mut self.pass, call) {
-            Ok(done) => done.reply,
-            Err(_) => Reply::Invalid,
-        }
+        act(self.rt, self.tree, &mut self.pass, call)
     }
 
     fn load(&mut self, index: u64) -> u64 {

@@ -1,10 +1,10 @@
-//! What the words ask for.
+//! What is asked for.
 
 use mt_base::Kind;
 use std::fmt;
 
 /// What one thread does.
-#[derive(Clone, Copy, Debug, PartialEq, Eq)]
+#[derive(Clone, Copy, Debug)]
 pub enum Job {
     StoreSeq,
     StoreRand,
@@ -41,14 +41,14 @@ impl fmt::Display for Job {
 }
 
 /// Whose tree it is: the engine's, or the one that threads share, of which a pass makes each call.
-#[derive(Clone, Copy, Debug, PartialEq, Eq)]
+#[derive(Clone, Copy, Debug)]
 pub enum Host {
     Engine,
     Shared,
 }
 
 /// What is timed on one thread: a job on a tree of this host and kind.
-#[derive(Clone, Copy, Debug, PartialEq, Eq)]
+#[derive(Clone, Copy, Debug)]
 pub struct Work {
     pub host: Host,
     pub kind: Kind,
@@ -74,7 +74,7 @@ impl fmt::Display for Work {
 }
 
 /// What is told of many threads.
-#[derive(Clone, Copy, Debug, PartialEq, Eq)]
+#[derive(Clone, Copy, Debug)]
 pub enum Duty {
     /// How fast readers load where nobody writes.
     Readers,
@@ -96,138 +96,95 @@ impl fmt::Display for Duty {
 }
 
 /// Threads on one tree: so many readers, and a writer where the duty has one.
-#[derive(Clone, Copy, Debug, PartialEq, Eq)]
+#[derive(Clone, Copy, Debug)]
 pub struct Crew {
     pub kind: Kind,
     pub duty: Duty,
     pub readers: u32,
 }
 
-/// What is timed, on a tree of so many ranges.
-#[derive(Clone, Copy, Debug, PartialEq, Eq)]
+/// How many rows a copy of a tree has.
+#[derive(Clone, Copy, Debug)]
+pub enum Room {
+    /// A fifth more than the tree has in use.
+    Fitting,
+    /// As many as a tree may have.
+    Most,
+}
+
+/// What goes over all rows of a tree.
+#[derive(Clone, Copy, Debug)]
+pub enum Deed {
+    Check,
+    Dup(Room),
+}
+
+impl fmt::Display for Deed {
+    fn fmt<W: fmt::Write>(&self, f: &mut fmt::Formatter<W>) -> fmt::Result {
+        let word = match self {
+            Deed::Check => "check",
+            Deed::Dup(Room::Fitting) => "dup",
+            Deed::Dup(Room::Most) => "dup_most",
+        };
+        write!(f, "{word}")
+    }
+}
+
+/// A deed on a tree of this kind that threads share.
+#[derive(Clone, Copy, Debug)]
+pub struct Sweep {
+    pub kind: Kind,
+    pub deed: Deed,
+}
+
+/// Trees of this kind apart, with so many threads at work on them.
+#[derive(Clone, Copy, Debug)]
+pub struct Lanes {
+    pub kind: Kind,
+    pub threads: u32,
+}
+
+/// What is timed.
+#[derive(Clone, Copy, Debug)]
+pub enum Timing {
+    Alone(Work),
+    Swept(Sweep),
+    Together(Crew),
+    Apart(Lanes),
+}
+
+/// What is asked for, on trees of so many ranges: the time that something takes, or what all works come to.
+#[derive(Clone, Copy, Debug)]
 pub enum Command {
-    Alone { work: Work, ranges: u32 },
-    Together { crew: Crew, ranges: u32 },
+    Time { timing: Timing, ranges: u32 },
+    Sums { ranges: u32 },
+}
+
+/// Writes what is timed, on so many ranges.
+fn write_timing<W: fmt::Write>(
+    f: &mut fmt::Formatter<W>,
+    timing: &Timing,
+    ranges: u32,
+) -> fmt::Result {
+    match timing {
+        Timing::Alone(work) => write!(f, "{work} {ranges}"),
+        Timing::Swept(sweep) => write!(f, "{}{} {ranges}", letter_of(sweep.kind), sweep.deed),
+        Timing::Together(crew) => {
+            let letter = letter_of(crew.kind);
+            write!(f, "{letter}{} {ranges} readers {}", crew.duty, crew.readers)
+        }
+        Timing::Apart(lanes) => {
+            let letter = letter_of(lanes.kind);
+            write!(f, "{letter}lanes {ranges} lanes {}", lanes.threads)
+        }
+    }
 }
 
 impl fmt::Display for Command {
     fn fmt<W: fmt::Write>(&self, f: &mut fmt::Formatter<W>) -> fmt::Result {
         match self {
-            Command::Alone { work, ranges } => write!(f, "{work} {ranges}"),
-            Command::Together { crew, ranges } => {
-                let letter = letter_of(crew.kind);
-                write!(f, "{letter}{} {ranges} readers {}", crew.duty, crew.readers)
-            }
+            Command::Time { timing, ranges } => write_timing(f, timing, *ranges),
+            Command::Sums { ranges } => write!(f, "sums {ranges}"),
         }
-    }
-}
-
-/// More ranges than the rows hold are not asked for.
-const MOST_RANGES: u32 = 200_000;
-
-/// A tree has so many passes at the most, and one is the writer's.
-const MOST_READERS: u32 = 61;
-
-/// The job of a word, on a tree of either kind.
-fn job_of(word: &str) -> Option<Job> {
-    match word {
-        "store_seq" => Some(Job::StoreSeq),
-        "store_rand" => Some(Job::StoreRand),
-        "overwrite" => Some(Job::Overwrite),
-        "load" => Some(Job::Load),
-        "iter" => Some(Job::Iter),
-        "erase" => Some(Job::Erase),
-        "nodes_seq" => Some(Job::NodesSeq),
-        "nodes_rand" => Some(Job::NodesRand),
-        _ => None,
-    }
-}
-
-/// The job of a word, on a tree for allocation.
-fn area_job_of(word: &str) -> Option<Job> {
-    match word {
-        "alloc" => Some(Job::Alloc),
-        "ralloc" => Some(Job::Ralloc),
-        "holes" => Some(Job::Holes),
-        "churn" => Some(Job::Churn),
-        _ => job_of(word),
-    }
-}
-
-/// Whether the nodes of a tree are counted.
-fn counts_nodes(job: Job) -> bool {
-    matches!(job, Job::NodesSeq | Job::NodesRand)
-}
-
-/// The kind of a word's letter, and the rest of the word.
-fn kind_of(word: &str) -> Option<(Kind, &str)> {
-    match word.strip_prefix("r") {
-        Some(rest) => Some((Kind::Range, rest)),
-        None => word.strip_prefix("a").map(|rest| (Kind::Alloc, rest)),
-    }
-}
-
-/// The work of a word on a tree of this host.
-fn work_on(host: Host, word: &str) -> Option<Work> {
-    let (kind, rest) = kind_of(word)?;
-    let job = match kind {
-        Kind::Range => job_of(rest)?,
-        Kind::Alloc => area_job_of(rest)?,
-    };
-    Some(Work { host, kind, job })
-}
-
-/// The work of a word: `t` stands before the letter of the kind where the tree is the one that threads share.
-fn work_of(word: &str) -> Option<Work> {
-    match word.strip_prefix("t") {
-        Some(rest) => work_on(Host::Shared, rest).filter(|work| !counts_nodes(work.job)),
-        None => work_on(Host::Engine, word),
-    }
-}
-
-/// The duty of a word.
-fn duty_of(word: &str) -> Option<Duty> {
-    match word {
-        "readers" => Some(Duty::Readers),
-        "conc" => Some(Duty::Conc),
-        "slowest" => Some(Duty::Slowest),
-        _ => None,
-    }
-}
-
-/// A number from 1 to `most`.
-fn count_of(word: &str, most: u32) -> Option<u32> {
-    word.parse::<u32>()
-        .ok()
-        .filter(|count| (1..=most).contains(count))
-}
-
-/// The command of these words, on one thread.
-fn alone(work: &str, count: &str) -> Option<Command> {
-    let work = work_of(work)?;
-    let ranges = count_of(count, MOST_RANGES)?;
-    Some(Command::Alone { work, ranges })
-}
-
-/// The command of these words, on many threads.
-fn together(duty: &str, count: &str, readers: &str) -> Option<Command> {
-    let (kind, rest) = kind_of(duty)?;
-    let duty = duty_of(rest)?;
-    let ranges = count_of(count, MOST_RANGES)?;
-    let readers = count_of(readers, MOST_READERS)?;
-    let crew = Crew {
-        kind,
-        duty,
-        readers,
-    };
-    Some(Command::Together { crew, ranges })
-}
-
-/// The command that the words are: a work and how many ranges, or a duty, how many ranges and how many readers.
-pub fn command_of(words: &[String]) -> Option<Command> {
-    match words {
-        [work, count] => alone(work.as_str(), count.as_str()),
-        [duty, count, readers] => together(duty.as_str(), count.as_str(), readers.as_str()),
-        _ => None,
     }
 }

@@ -4,9 +4,11 @@ use crate::callers::{Caller, make};
 use crate::command::{Crew, Duty};
 use crate::draws::shuffled;
 use crate::figures::{Figure, Report};
+use crate::tallies::{Extent, Tally};
 use crate::timed::{Timed, nanos_of};
-use crate::trees::Tree;
-use crate::works::{load, store_all, toggle_while};
+use crate::toggles::{toggle_while, visit_of};
+use crate::trees::{Tree, Visit};
+use crate::works::{load, store_all};
 use std::alloc::{AllocError, Global};
 use std::io::ErrorKind;
 use std::rt::Clock;
@@ -33,19 +35,12 @@ struct Worker<T> {
     outcome: u64,
 }
 
-/// How much is done: each reader loads so often, on a tree of so many ranges.
-#[derive(Clone, Copy, Debug)]
-pub struct Extent {
-    pub ranges: u32,
-    pub loads: u64,
-}
-
 impl<T: Tree> Worker<T> {
     /// Does the task. A reader says then that it is no longer at work.
     fn work(&mut self, extent: Extent, at_work: &AtomicU64) {
         match &mut self.task {
             Task::Load { seed } => {
-                self.outcome = load(&mut self.tree, extent.ranges, extent.loads, *seed);
+                self.outcome = load(&mut self.tree, extent.ranges, extent.times, *seed);
                 at_work.fetch_sub(1, Ordering::SeqCst);
             }
             Task::Write { stored } => {
@@ -65,12 +60,17 @@ impl Crew {
     }
 }
 
+/// The seed by which a reader loads.
+pub fn seed_of(reader: u32) -> u64 {
+    100 + u64::from(reader)
+}
+
 /// The task of a crew's thread: the first one writes, where one does. Where no thread can be made the first one's task is done
 /// last.
 fn task_of(alloc: Global, crew: Crew, ranges: u32, number: u32) -> Result<Task, AllocError> {
     match number.checked_sub(crew.writers()) {
         Some(reader) => Ok(Task::Load {
-            seed: 100 + u64::from(reader),
+            seed: seed_of(reader),
         }),
         None => Ok(Task::Write {
             stored: vec![in alloc; true; ranges as usize]?,
@@ -124,15 +124,44 @@ fn all_loaded<T>(workers: &[Worker<T>]) -> bool {
     workers.iter().all(|worker| matches!(worker.task, Task::Write { .. }) || worker.outcome > 0)
 }
 
-/// How often the crew wrote.
-fn writes_of<T>(workers: &[Worker<T>]) -> u64 {
-    let mut writes: u64 = 0;
+/// The sum of what was loaded.
+fn loads_of<T>(workers: &[Worker<T>]) -> u64 {
+    let mut loads: u64 = 0;
     for worker in workers {
-        if let Task::Write { .. } = worker.task {
-            writes = writes.saturating_add(worker.outcome);
+        if let Task::Load { .. } = worker.task {
+            loads = loads.wrapping_add(worker.outcome);
         }
     }
-    writes
+    loads
+}
+
+/// How often the crew wrote, and what its tree is to hold where it did.
+fn writes_of<T>(workers: &[Worker<T>]) -> (u64, Visit) {
+    let mut writes: u64 = 0;
+    let mut due = Visit::default();
+    for worker in workers {
+        if let Task::Write { stored } = &worker.task {
+            writes = writes.saturating_add(worker.outcome);
+            due.add(&visit_of(stored.as_slice()));
+        }
+    }
+    (writes, due)
+}
+
+/// What a crew did, or none where a load was not done.
+fn tally_of<T: Tree>(workers: &mut [Worker<T>]) -> Option<Tally> {
+    if !all_loaded(workers) {
+        return None;
+    }
+    let loads = loads_of(workers);
+    let (writes, due) = writes_of(workers);
+    let held = workers.first_mut()?.tree.visit();
+    Some(Tally {
+        loads,
+        writes,
+        held,
+        due,
+    })
 }
 
 /// How fast a crew's threads load and write.
@@ -142,18 +171,18 @@ fn rates<R: Threads + Wait + Clock + Sync>(
     crew: Crew,
     extent: Extent,
     callers: Vec<Caller<R>>,
-) -> io::Result<Option<Report>> {
+) -> io::Result<Option<(Report, Tally)>> {
     let mut workers = workers_of(alloc, crew, extent.ranges, callers)?;
     let nanos = at_once(rt, workers.as_mut_slice(), crew.readers, extent)?.max(1);
-    if !all_loaded(workers.as_slice()) {
+    let Some(tally) = tally_of(workers.as_mut_slice()) else {
         return Ok(None);
-    }
-    let loads = extent.loads.saturating_mul(u64::from(crew.readers));
-    let writes = writes_of(workers.as_slice());
-    Ok(Some(Report::Rates {
+    };
+    let loads = extent.times.saturating_mul(u64::from(crew.readers));
+    let report = Report::Rates {
         reads: Figure::Hundredths(loads.saturating_mul(100_000) / nanos),
-        writes: Figure::Thousandths(writes.saturating_mul(1_000_000) / nanos),
-    }))
+        writes: Figure::Thousandths(tally.writes.saturating_mul(1_000_000) / nanos),
+    };
+    Ok(Some((report, tally)))
 }
 
 /// The slowest load and the slowest write of these trees.
@@ -174,26 +203,26 @@ fn slowest<R: Threads + Wait + Clock + Sync>(
     crew: Crew,
     extent: Extent,
     callers: Vec<Caller<R>>,
-) -> io::Result<Option<Report>> {
+) -> io::Result<Option<(Report, Tally)>> {
     let timed = callers
         .into_iter()
         .map(|caller| Timed::new(rt, caller))
         .collect(alloc)?;
     let mut workers = workers_of(alloc, crew, extent.ranges, timed)?;
     at_once(rt, workers.as_mut_slice(), crew.readers, extent)?;
-    if !all_loaded(workers.as_slice()) {
+    let Some(tally) = tally_of(workers.as_mut_slice()) else {
         return Ok(None);
-    }
-    Ok(slowest_of(workers.as_slice()))
+    };
+    Ok(slowest_of(workers.as_slice()).map(|report| (report, tally)))
 }
 
-/// What a crew comes to, or none where a call was not done.
+/// What a crew comes to and what it did, or none where a call was not done.
 pub fn together<R: Threads + Wait + Clock + Sync>(
     rt: &R,
     alloc: Global,
     crew: Crew,
     extent: Extent,
-) -> io::Result<Option<Report>> {
+) -> io::Result<Option<(Report, Tally)>> {
     let passes = crew.readers.saturating_add(crew.writers());
     let Ok((tree, passes)) = make(alloc, crew.kind, passes) else {
         return Err(io::Error::from(ErrorKind::OutOfMemory));

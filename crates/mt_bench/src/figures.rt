@@ -3,13 +3,13 @@
 use std::fmt;
 
 /// A number with decimals: so many, and the whole part and the others.
-#[derive(Clone, Copy, Debug, PartialEq, Eq)]
+#[derive(Clone, Copy)]
 pub enum Figure {
     /// Nanoseconds, with one decimal.
     Tenths(u64),
-    /// Millions a second, with two.
+    /// Millions a second, or milliseconds, with two.
     Hundredths(u64),
-    /// The same, with three.
+    /// Millions a second, with three.
     Thousandths(u64),
     /// Nodes for a range, with four.
     TenThousandths(u64),
@@ -27,7 +27,7 @@ impl fmt::Display for Figure {
 }
 
 /// What a command came to.
-#[derive(Clone, Copy, Debug, PartialEq, Eq)]
+#[derive(Clone, Copy)]
 pub enum Report {
     /// One operation's time, or the nodes for a range.
     One(Figure),
@@ -35,6 +35,20 @@ pub enum Report {
     Rates { reads: Figure, writes: Figure },
     /// Nanoseconds of the slowest load and of the slowest write.
     Slowest { load: u64, write: u64 },
+    /// Milliseconds from the first thread's start to the last one's end.
+    Whole(Figure),
+}
+
+impl Report {
+    /// The word for what is told.
+    pub fn form(self) -> &'static str {
+        match self {
+            Report::One(_) => "one",
+            Report::Rates { .. } => "rates",
+            Report::Slowest { .. } => "slowest",
+            Report::Whole(_) => "whole",
+        }
+    }
 }
 
 impl fmt::Display for Report {
@@ -43,6 +57,7 @@ impl fmt::Display for Report {
             Report::One(figure) => write!(f, "{figure}"),
             Report::Rates { reads, writes } => write!(f, "reads_mops {reads} writes_mops {writes}"),
             Report::Slowest { load, write } => write!(f, "load_ns {load} write_ns {write}"),
+            Report::Whole(figure) => write!(f, "ms {figure}"),
         }
     }
 }

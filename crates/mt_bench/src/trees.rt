@@ -7,6 +7,7 @@ use mt_engine::Engine;
 use mt_free::RowBook;
 use mt_rows::PlainRows;
 use std::alloc::Global;
+use std::fmt;
 use std::marker::Model;
 
 /// So many calls are made on one tree at the most.
@@ -25,7 +26,7 @@ pub trait Tree {
 }
 
 /// All ranges, visited once: how many there are, and the sum of their entries and first indexes.
-#[derive(Clone, Copy, Debug, Default, PartialEq, Eq)]
+#[derive(Clone, Copy, Default, PartialEq, Eq)]
 pub struct Visit {
     pub count: u64,
     pub sum: u64,
@@ -36,6 +37,18 @@ impl Visit {
     pub fn take(&mut self, range: &Range) {
         self.count = self.count.wrapping_add(1);
         self.sum = self.sum.wrapping_add(range.entry).wrapping_add(range.first);
+    }
+
+    /// All ranges of another visit more.
+    pub fn add(&mut self, other: &Visit) {
+        self.count = self.count.wrapping_add(other.count);
+        self.sum = self.sum.wrapping_add(other.sum);
+    }
+}
+
+impl fmt::Display for Visit {
+    fn fmt<W: fmt::Write>(&self, f: &mut fmt::Formatter<W>) -> fmt::Result {
+        write!(f, "ranges {} sum {}", self.count, self.sum)
     }
 }
 

@@ -1,9 +1,10 @@
 //! The works: what is done on a tree, and how often.
 
+ghost use Rattle.std.specs.Prelude.{◌≡◌, ◌*◌};
+
 use crate::draws::Draws;
 use crate::trees::{Tree, Visit};
 use mt_base::{Call, Reply};
-use std::sync::atomic::{AtomicU64, Ordering};
 
 /// Allocations lie below 2^48.
 const HIGHEST: u64 = (1 << 48) - 1;
@@ -12,15 +13,22 @@ const HIGHEST: u64 = (1 << 48) - 1;
 const ALLOCATED: u64 = 4096;
 
 /// At which end room is sought.
-#[derive(Clone, Copy, Debug, PartialEq, Eq)]
+#[derive(Clone, Copy)]
 pub enum End {
     Lowest,
     Highest,
 }
 
-/// The store of range number `i`: 10 indexes, with 6 to the next range.
-fn store(tree: &mut impl Tree, i: u32, entry: u64) -> bool {
-    let first = 16 * u64::from(i);
+/// The first index of range number `i`, which has 10, with 6 to the next range.
+pub fn first_of(i: u32) -> u64
+    ensures { result ≡ 16 * i }
+{
+    16 * u64::from(i)
+}
+
+/// The store of range number `i`.
+pub fn store(tree: &mut impl Tree, i: u32, entry: u64) -> bool {
+    let first = first_of(i);
     let call = Call::Store {
         first,
         last: first + 9,
@@ -30,7 +38,7 @@ fn store(tree: &mut impl Tree, i: u32, entry: u64) -> bool {
 }
 
 /// The entry that range number `i` has first.
-fn entry_of(i: u32) -> u64 {
+pub fn entry_of(i: u32) -> u64 {
     4096 + 8 * u64::from(i)
 }
 
@@ -73,17 +81,15 @@ pub fn visit(tree: &mut impl Tree, times: u64) -> Visit {
         if times <= all.count {
             break;
         }
-        let once = tree.visit();
-        all.count = all.count.wrapping_add(once.count);
-        all.sum = all.sum.wrapping_add(once.sum);
+        all.add(&tree.visit());
     }
     all
 }
 
 /// The erase of range number `i`.
-fn erase(tree: &mut impl Tree, i: u32) -> bool {
+pub fn erase(tree: &mut impl Tree, i: u32) -> bool {
     let call = Call::Erase {
-        index: 16 * u64::from(i) + 5,
+        index: first_of(i) + 5,
     };
     matches!(tree.act(&call), Reply::Was(_))
 }
@@ -95,34 +101,6 @@ pub fn erase_all(tree: &mut impl Tree, order: &[u32]) -> bool {
         done &= erase(tree, *i);
     }
     done
-}
-
-/// Erases range number `i` where it is there, and else stores it; whether that was done.
-fn toggle(tree: &mut impl Tree, i: u32, stored: &mut bool) -> bool {
-    let done = if *stored {
-        erase(tree, i)
-    } else {
-        store(tree, i, entry_of(i))
-    };
-    *stored ^= done;
-    done
-}
-
-/// Erases and stores ranges for as long as somebody is at work, and tells how often. Each of them is said to be stored or not.
-pub fn toggle_while(tree: &mut impl Tree, stored: &mut [bool], at_work: &AtomicU64) -> u64 {
-    let mut draws = Draws::new(9);
-    let ranges = u32::try_from(stored.len()).unwrap_or(u32::MAX);
-    let mut writes: u64 = 0;
-    for _ in 0..u64::MAX {
-        if at_work.load(Ordering::SeqCst) == 0 {
-            break;
-        }
-        let i = draws.below(ranges);
-        if let Some(stored) = stored.get_mut(i as usize) {
-            writes = writes.wrapping_add(u64::from(toggle(tree, i, stored)));
-        }
-    }
-    writes
 }
 
 /// Allocates so many indexes, and tells where they begin.

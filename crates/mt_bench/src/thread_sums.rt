@@ -1,0 +1,192 @@
+//! What threads come to that are at work on shared trees, and what copies of these hold.
+
+use crate::command::{Command, Crew, Deed, Duty, Lanes, Room, Sweep, Timing};
+use crate::crews::{seed_of, together};
+use crate::draws::shuffled;
+use crate::lanes::{Lane, TREES, apart, tally_of};
+use crate::lists::List;
+use crate::sums::{TIMES_EACH, verdict};
+use crate::sweeps::{copied, stored};
+use crate::tallies::{Extent, Tally};
+use crate::trees::{Tree, Visit};
+use crate::works::{load, store_all};
+use mt_base::Kind;
+use std::alloc::{AllocError, Global};
+use std::io;
+use std::rt::Clock;
+use std::sync::Wait;
+use std::thread::Threads;
+
+/// So many threads read from a tree.
+const READERS: u32 = 2;
+
+/// How much is done on trees of so many ranges.
+fn extent_of(ranges: u32) -> Extent {
+    Extent {
+        ranges,
+        times: u64::from(ranges).saturating_mul(TIMES_EACH),
+    }
+}
+
+/// A list with all ranges stored.
+fn stored_list(alloc: Global, kind: Kind, ranges: u32) -> Result<List, AllocError> {
+    let order = shuffled(alloc, ranges)?;
+    let mut list = List::new(alloc, kind);
+    store_all(&mut list, order.as_slice());
+    Ok(list)
+}
+
+/// What a crew does on a list that nobody writes to.
+fn tally_on_list(alloc: Global, crew: Crew, extent: Extent) -> Result<Tally, AllocError> {
+    let mut list = stored_list(alloc, crew.kind, extent.ranges)?;
+    let mut loads: u64 = 0;
+    for reader in 0..crew.readers {
+        let sum = load(&mut list, extent.ranges, extent.times, seed_of(reader));
+        loads = loads.wrapping_add(sum);
+    }
+    Ok(Tally {
+        loads,
+        writes: 0,
+        held: list.visit(),
+        due: Visit::default(),
+    })
+}
+
+/// Prints what a crew came to, but for what depends on when its threads run; whether its tree holds what is to be there.
+fn crew_agrees<R: Threads + Wait + Clock + Print + Sync>(
+    rt: &R,
+    alloc: Global,
+    crew: Crew,
+    extent: Extent,
+) -> io::Result<bool> {
+    let Some((report, tally)) = together(rt, alloc, crew, extent)? else {
+        return Ok(false);
+    };
+    let Extent { ranges, .. } = extent;
+    let timing = Timing::Together(crew);
+    let command = Command::Time { timing, ranges };
+    let (form, held) = (report.form(), tally.held);
+    match crew.duty {
+        Duty::Readers => {
+            let agrees = tally == tally_on_list(alloc, crew, extent)?;
+            println!(rt;
+                "{command} {form} loads {} {held} {}",
+                tally.loads,
+                verdict(agrees)
+            )?;
+            Ok(agrees)
+        }
+        Duty::Conc | Duty::Slowest => {
+            let agrees = held == tally.due;
+            println!(rt; "{command} {form} {}", verdict(agrees))?;
+            Ok(agrees)
+        }
+    }
+}
+
+/// What is done on lists, one lane after the other.
+fn lanes_on_lists(alloc: Global, kind: Kind, extent: Extent) -> Result<Option<Tally>, AllocError> {
+    let order = shuffled(alloc, extent.ranges)?;
+    let mut lanes = Vec::new(alloc);
+    for number in 0..TREES {
+        let list = List::new(alloc, kind);
+        let Some(mut lane) = Lane::new(alloc, list, number, order.as_slice())? else {
+            return Ok(None);
+        };
+        lane.work(extent.times);
+        lanes.push(lane)?;
+    }
+    Ok(Some(tally_of(lanes.as_mut_slice())))
+}
+
+/// Prints what lanes came to; whether that is the same on lists, and their trees hold what is to be there.
+fn lanes_agree<R: Threads + Wait + Clock + Print + Sync>(
+    rt: &R,
+    alloc: Global,
+    lanes: Lanes,
+    extent: Extent,
+) -> io::Result<bool> {
+    let Some((report, tally)) = apart(rt, alloc, lanes, extent)? else {
+        return Ok(false);
+    };
+    let Extent { ranges, .. } = extent;
+    let timing = Timing::Apart(lanes);
+    let command = Command::Time { timing, ranges };
+    let on_lists = lanes_on_lists(alloc, lanes.kind, extent)?;
+    let agrees = on_lists == Some(tally) && tally.held == tally.due;
+    let form = report.form();
+    println!(rt;
+        "{command} {form} writes {} {} {}",
+        tally.writes,
+        tally.held,
+        verdict(agrees)
+    )?;
+    Ok(agrees)
+}
+
+/// What a deed on a tree tells that has so many ranges: how many the check counts, or what the copy holds.
+fn sweep_visit<R: Wait>(
+    rt: &R,
+    alloc: Global,
+    sweep: Sweep,
+    ranges: u32,
+) -> io::Result<Option<Visit>> {
+    let Some(mut owner) = stored(rt, alloc, sweep.kind, ranges)? else {
+        return Ok(None);
+    };
+    match sweep.deed {
+        Deed::Check => {
+            let Visit { sum, .. } = owner.visit();
+            let count = owner.check().ranges;
+            Ok(Some(Visit { count, sum }))
+        }
+        Deed::Dup(room) => {
+            let copy = copied(alloc, &mut owner, room);
+            Ok(copy.map(|mut copy| copy.visit()))
+        }
+    }
+}
+
+/// Prints what a deed tells; whether a list holds the same.
+fn sweep_agrees<R: Wait + Print>(
+    rt: &R,
+    alloc: Global,
+    sweep: Sweep,
+    ranges: u32,
+) -> io::Result<bool> {
+    let Some(held) = sweep_visit(rt, alloc, sweep, ranges)? else {
+        return Ok(false);
+    };
+    let agrees = held == stored_list(alloc, sweep.kind, ranges)?.visit();
+    let timing = Timing::Swept(sweep);
+    let command = Command::Time { timing, ranges };
+    println!(rt; "{command} {held} {}", verdict(agrees))?;
+    Ok(agrees)
+}
+
+/// Prints what threads come to on trees of this kind; whether all of it is as it is to be.
+pub fn threads_agree<R: Threads + Wait + Clock + Print + Sync>(
+    rt: &R,
+    alloc: Global,
+    kind: Kind,
+    ranges: u32,
+) -> io::Result<bool> {
+    let extent = extent_of(ranges);
+    let readers = READERS;
+    let mut all_agree = true;
+    for duty in [Duty::Readers, Duty::Conc, Duty::Slowest] {
+        let crew = Crew {
+            kind,
+            duty,
+            readers,
+        };
+        all_agree &= crew_agrees(rt, alloc, crew, extent)?;
+    }
+    for threads in [1, 2, TREES] {
+        all_agree &= lanes_agree(rt, alloc, Lanes { kind, threads }, extent)?;
+    }
+    for deed in [Deed::Check, Deed::Dup(Room::Fitting), Deed::Dup(Room::Most)] {
+        all_agree &= sweep_agrees(rt, alloc, Sweep { kind, deed }, ranges)?;
+    }
+    Ok(all_agree)
+}

@@ -1,0 +1,159 @@
+//! What words ask for.
+
+use crate::command::{Command, Crew, Deed, Duty, Host, Job, Lanes, Room, Sweep, Timing, Work};
+use crate::lanes::TREES;
+use mt_base::Kind;
+
+/// More ranges than the rows hold are not asked for.
+const MOST_RANGES: u32 = 200_000;
+
+/// A tree has so many passes at the most, and one is the writer's.
+const MOST_READERS: u32 = 61;
+
+/// The job of a word, on a tree of either kind.
+fn job_of(word: &str) -> Option<Job> {
+    match word {
+        "store_seq" => Some(Job::StoreSeq),
+        "store_rand" => Some(Job::StoreRand),
+        "overwrite" => Some(Job::Overwrite),
+        "load" => Some(Job::Load),
+        "iter" => Some(Job::Iter),
+        "erase" => Some(Job::Erase),
+        "nodes_seq" => Some(Job::NodesSeq),
+        "nodes_rand" => Some(Job::NodesRand),
+        _ => None,
+    }
+}
+
+/// The job of a word, on a tree for allocation.
+fn area_job_of(word: &str) -> Option<Job> {
+    match word {
+        "alloc" => Some(Job::Alloc),
+        "ralloc" => Some(Job::Ralloc),
+        "holes" => Some(Job::Holes),
+        "churn" => Some(Job::Churn),
+        _ => job_of(word),
+    }
+}
+
+/// Whether the nodes of a tree are counted.
+fn counts_nodes(job: Job) -> bool {
+    matches!(job, Job::NodesSeq | Job::NodesRand)
+}
+
+/// The kind of a word's letter, and the rest of the word.
+fn kind_of(word: &str) -> Option<(Kind, &str)> {
+    match word.strip_prefix("r") {
+        Some(rest) => Some((Kind::Range, rest)),
+        None => word.strip_prefix("a").map(|rest| (Kind::Alloc, rest)),
+    }
+}
+
+/// The work of a word on a tree of this host.
+fn work_on(host: Host, word: &str) -> Option<Work> {
+    let (kind, rest) = kind_of(word)?;
+    let job = match kind {
+        Kind::Range => job_of(rest)?,
+        Kind::Alloc => area_job_of(rest)?,
+    };
+    Some(Work { host, kind, job })
+}
+
+/// The work of a word: `t` stands before the letter of the kind where the tree is the one that threads share.
+fn work_of(word: &str) -> Option<Work> {
+    match word.strip_prefix("t") {
+        Some(rest) => work_on(Host::Shared, rest).filter(|work| !counts_nodes(work.job)),
+        None => work_on(Host::Engine, word),
+    }
+}
+
+/// The duty of a word.
+fn duty_of(word: &str) -> Option<Duty> {
+    match word {
+        "readers" => Some(Duty::Readers),
+        "conc" => Some(Duty::Conc),
+        "slowest" => Some(Duty::Slowest),
+        _ => None,
+    }
+}
+
+/// A number from 1 to `most`.
+fn count_of(word: &str, most: u32) -> Option<u32> {
+    word.parse::<u32>()
+        .ok()
+        .filter(|count| (1..=most).contains(count))
+}
+
+/// The deed of a word.
+fn deed_of(word: &str) -> Option<Deed> {
+    match word {
+        "check" => Some(Deed::Check),
+        "dup" => Some(Deed::Dup(Room::Fitting)),
+        "dup_most" => Some(Deed::Dup(Room::Most)),
+        _ => None,
+    }
+}
+
+/// The deed of a word on a tree of its kind.
+fn sweep_of(word: &str) -> Option<Sweep> {
+    let (kind, rest) = kind_of(word)?;
+    let deed = deed_of(rest)?;
+    Some(Sweep { kind, deed })
+}
+
+/// What one thread is timed at.
+fn alone(word: &str) -> Option<Timing> {
+    match sweep_of(word) {
+        Some(sweep) => Some(Timing::Swept(sweep)),
+        None => work_of(word).map(Timing::Alone),
+    }
+}
+
+/// The crew of a word, with so many readers.
+fn crew_of(word: &str, readers: &str) -> Option<Crew> {
+    let (kind, rest) = kind_of(word)?;
+    let duty = duty_of(rest)?;
+    let readers = count_of(readers, MOST_READERS)?;
+    Some(Crew {
+        kind,
+        duty,
+        readers,
+    })
+}
+
+/// The lanes of a word, with so many threads, of which each has as many trees.
+fn lanes_of(word: &str, threads: &str) -> Option<Lanes> {
+    let (kind, rest) = kind_of(word)?;
+    let threads = count_of(threads, TREES)?;
+    let are_lanes = rest == "lanes" && TREES.is_multiple_of(threads);
+    are_lanes.then_some(Lanes { kind, threads })
+}
+
+/// What many threads are timed at.
+fn at_once(word: &str, threads: &str) -> Option<Timing> {
+    match lanes_of(word, threads) {
+        Some(lanes) => Some(Timing::Apart(lanes)),
+        None => crew_of(word, threads).map(Timing::Together),
+    }
+}
+
+/// The command of these words, of which the second one says how many ranges the trees have.
+fn command_on(word: &str, ranges: u32) -> Option<Command> {
+    match word {
+        "sums" => Some(Command::Sums { ranges }),
+        _ => alone(word).map(|timing| Command::Time { timing, ranges }),
+    }
+}
+
+/// The command that the words are: what is done and how many ranges, and then how many readers or lanes where there are such.
+pub fn command_of(words: &[String]) -> Option<Command> {
+    match words {
+        [word, count] => command_on(word.as_str(), count_of(count.as_str(), MOST_RANGES)?),
+        [word, count, threads] => {
+            let timing = at_once(word.as_str(), threads.as_str())?;
+            let ranges = count_of(count.as_str(), MOST_RANGES)?;
+            Some(Command::Time { timing, ranges })
+        }
+        _ => None,
+    }
+}
