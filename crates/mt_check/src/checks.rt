@@ -8,7 +8,7 @@ ghost use Rattle.mt_rows.specs.Sheet.{OnlyReads};
 ghost use Rattle.mt_check.specs.Check.{checked};
 
 use crate::faults::{Fault, Form};
-use crate::walks::{Visit, Walk};
+use crate::walks::{Row, Visit, Walk};
 use mt_base::{DEEPEST, Kind, top};
 use mt_layout::Span;
 use mt_rows::Rows;
@@ -46,7 +46,7 @@ pub fn check<R: Rows>(rows: &mut R, root: u64, kind: Kind) -> Result<Form, Fault
             word: root,
         },
     };
-    let below = walk.check_row(rows, visit)?;
+    let below = walk.check_row(rows, visit, &mut Row::new())?;
     Ok(Form {
         height: walk.leaf_depth.unwrap_or(0),
         rows: below.rows,

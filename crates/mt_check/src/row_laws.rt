@@ -1,6 +1,6 @@
 //! The laws that a row's own words keep or break.
 
-ghost use Rattle.std.specs.Prelude.{◌≡◌, ◌==◌, ◌↔◌, true, false, not, [], Some, IsSome, IfSome, IfOk, IfErr, OnOk, length, slice_get};
+ghost use Rattle.std.specs.Prelude.{◌≡◌, ◌==◌, ◌↔◌, true, false, not, [], Some, IsSome, IfSome, IfErr, OnOk, length, slice_get};
 ghost use Rattle.std.specs.List.{list_all, list_any};
 ghost use Rattle.mt_base.specs.Entry.{reserved};
 ghost use Rattle.mt_base.specs.Width.{columns};
@@ -109,7 +109,8 @@ pub(crate) fn row_named(tree: Kind, rows: u64, word: u64) -> Option<Named>
     Some(Named { row, kind })
 }
 
-/// The items of a row with these words, or the first law that they break. From the row on down so many levels may stand.
+/// Reads the items of a row with these words, or tells the first law that they break. From the row on down so many levels may
+/// stand.
 pub(crate) fn check_words(
     width: Width,
     kind: RowKind,
@@ -117,18 +118,19 @@ pub(crate) fn check_words(
     left: u32,
     parent: u64,
     span: Span,
-) -> Result<Items, Law>
+    items: &mut Items,
+) -> Result<(), Law>
     requires { length words.now ≡ columns width }
-    ensures items { IfOk result (λ items. items.items ≡ items_at (slots_of width kind) (gaps_of width kind) words.now 0 span.last) }
+    ensures items { OnOk result (items.new.items ≡ items_at (slots_of width kind) (gaps_of width kind) words.now 0 span.last) }
     ensures kept { OnOk result (broken_words width kind words.now left parent span ≡ []) }
     ensures broken { IfErr result (λ law. slice_get (broken_words width kind words.now left parent span) 0 ≡ Some law) }
 {
     if words[0] != parent {
         return Err(Law::Parent);
     }
-    let Some(items) = items_in(width, kind, words, span.first, span.last) else {
+    if !items_in(width, kind, words, span.first, span.last, items) {
         return Err(Law::Pivots);
-    };
+    }
     if items.len() < least_at(width, left, kind) as usize {
         return Err(Law::Count);
     }
@@ -138,5 +140,5 @@ pub(crate) fn check_words(
     if !has_holes(kind, items.as_slice(), top(width) <= span.last) {
         return Err(Law::Holes);
     }
-    Ok(items)
+    Ok(())
 }

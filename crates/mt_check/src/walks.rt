@@ -1,6 +1,6 @@
 //! The walk through a tree: each row before its children, children from the left.
 
-ghost use Rattle.std.specs.Prelude.{◌≡◌, ◌≢◌, ◌==◌, ◌+◌, ◌-◌, ◌^◌, ◌<◌, ◌≤◌, ℕ, true, not, max, Any, Some, OnOk, IfOk, IfErr, [], slice_get, slice_index_or, length, unwrap_or, filter};
+ghost use Rattle.std.specs.Prelude.{◌≡◌, ◌≢◌, ◌==◌, ◌+◌, ◌-◌, ◌^◌, ◌<◌, ◌≤◌, ℕ, true, not, max, Any, Some, OnOk, IfErr, [], slice_get, slice_index_or, length, unwrap_or, filter};
 ghost use Rattle.mt_base.specs.Width.{deepest};
 ghost use Rattle.mt_layout.specs.declared.names.RowKind.TheVariants as kinds;
 ghost use Rattle.mt_layout.specs.Columns.{RiseFrom, longest_hole};
@@ -13,7 +13,7 @@ ghost use Rattle.mt_check.specs.Check.{own_faults};
 ghost use Rattle.mt_check.specs.Walks.{no_item, tree_from, way_of, height_from, LeadsTo, depth_from, depth_known, IsEntered, IsAnswerAt};
 
 use crate::faults::{Fault, Law};
-use crate::reads::{Items, load_words, span_at};
+use crate::reads::{Items, Words, load_words, span_at};
 use crate::row_laws::{check_words, row_named};
 use mt_base::{DEEPEST, Kind};
 use mt_layout::{Item, RowKind, Span, gap_of, parent_word};
@@ -38,11 +38,13 @@ pub(crate) struct Visit {
     pub(crate) span: Span,
 }
 
-/// A row whose own words keep all laws.
+/// A row whose own words keep all laws, and the words that were loaded. The children of a row are read into one such record, one
+/// after another, so that no record is cleared or moved for each.
 #[derive(Drop)]
-struct Row {
+pub(crate) struct Row {
     number: u32,
     kind: RowKind,
+    words: Words,
     items: Items,
 }
 
@@ -90,6 +92,16 @@ impl Below {
 }
 
 impl Row {
+    /// Room for a row.
+    pub(crate) fn new() -> Row {
+        Row {
+            number: 0,
+            kind: RowKind::Leaf,
+            words: Words::new(),
+            items: Items::new(),
+        }
+    }
+
     /// How the walk comes from this row to the child in a slot.
     fn child(&self, visit: Visit, slot: usize) -> Visit
         requires left { 0 < visit.left }
@@ -138,11 +150,11 @@ impl Walk {
     }
 
     /// Enters a row, or tells the first law that it breaks, but for that of gaps.
-    fn enter<R: Rows>(&mut self, rows: &mut R, visit: Visit) -> Result<Row, Fault>
+    fn enter<R: Rows>(&mut self, rows: &mut R, visit: Visit, row: &mut Row) -> Result<(), Fault>
         requires left { visit.left ≤ deepest }
         requires depth { let t = tree_from self.old (R.sheet rows.old).tree in LeadsTo (height_from t) (depth_from t visit.left visit.span) self.old.leaf_depth }
-        ensures ok { let t = tree_from self.old (R.sheet rows.old).tree in IfOk result (λ row. IsEntered t visit row) }
-        ensures known { IfOk result (λ row. self.new ≡ record self.old { leaf_depth = depth_known self.old.leaf_depth visit.left row.kind }) }
+        ensures ok { let t = tree_from self.old (R.sheet rows.old).tree in OnOk result (IsEntered t visit row.new) }
+        ensures known { OnOk result (self.new ≡ record self.old { leaf_depth = depth_known self.old.leaf_depth visit.left row.new.kind }) }
         ensures err { let t = tree_from self.old (R.sheet rows.old).tree in IfErr result (λ fault. slice_get (own_faults t visit.left (way_of visit) visit.span) 0 ≡ Some fault) }
         ensures walk { self.new ≡ record self.old { leaf_depth = self.new.leaf_depth } }
         ensures rest { OnlyReads (R.sheet rows.old) (R.sheet rows.new) }
@@ -153,34 +165,40 @@ impl Walk {
                 law: Law::Name,
             });
         };
-        let row = named.row;
         if !self.has_depth(visit.left, named.kind) {
             return Err(Fault {
-                row,
+                row: named.row,
                 law: Law::Depth,
             });
         }
-        let words = load_words(rows, row);
+        row.number = named.row;
+        row.kind = named.kind;
+        load_words(rows, named.row, &mut row.words);
         match check_words(
             rows.width(),
             named.kind,
-            words.as_slice(),
+            row.words.as_slice(),
             visit.left,
             visit.parent,
             visit.span,
+            &mut row.items,
         ) {
-            Ok(items) => Ok(Row {
-                number: row,
-                kind: named.kind,
-                items,
+            Ok(()) => Ok(()),
+            Err(law) => Err(Fault {
+                row: named.row,
+                law,
             }),
-            Err(law) => Err(Fault { row, law }),
         }
     }
 
     /// Walks through a row and what stands below it: tells the first law that is broken, or what is there.
     #[cycle(walk)]
-    pub(crate) fn check_row<R: Rows>(&mut self, rows: &mut R, visit: Visit) -> Result<Below, Fault>
+    pub(crate) fn check_row<R: Rows>(
+        &mut self,
+        rows: &mut R,
+        visit: Visit,
+        row: &mut Row,
+    ) -> Result<Below, Fault>
         requires left { visit.left ≤ deepest }
         requires depth { let t = tree_from self.old (R.sheet rows.old).tree in LeadsTo (height_from t) (depth_from t visit.left visit.span) self.old.leaf_depth }
         ensures answer { IsAnswerAt (tree_from self.old (R.sheet rows.old).tree) visit result }
@@ -188,10 +206,10 @@ impl Walk {
         ensures walk { self.new ≡ record self.old { leaf_depth = self.new.leaf_depth } }
         ensures rest { OnlyReads (R.sheet rows.old) (R.sheet rows.new) }
     {
-        let row = self.enter(rows, visit)?;
+        self.enter(rows, visit, row)?;
         match row.kind {
             RowKind::Leaf => Ok(leaf_below(row.items.as_slice(), visit.span.first)),
-            RowKind::Inner | RowKind::Gapped => self.check_children(rows, visit, &row),
+            RowKind::Inner | RowKind::Gapped => self.check_children(rows, visit, row),
         }
     }
 
@@ -218,8 +236,9 @@ impl Walk {
             longest: 0,
         };
         let mut gaps_hold = true;
+        let mut room = Row::new();
         for slot in 0..row.items.len() {
-            let child = self.check_row(rows, row.child(visit, slot))?;
+            let child = self.check_row(rows, row.child(visit, slot), &mut room)?;
             gaps_hold &= row.tells_gap(slot, child.longest);
             below = below.plus(child);
         }

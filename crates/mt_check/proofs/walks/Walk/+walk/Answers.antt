@@ -45,25 +45,25 @@ check_children-returns-clause-answer g t c =
     let past : length c.args.row.now.items.items ≤ c.loop-slot.slot = search rules in
     last_answer (g.R.Rows.sheet c.args.rows.now) (g.R.Rows.sheet c.loop-slot.rows) c.args.self.now c.loop-slot.self c.args.visit c.args.row.now c.loop-slot.slot c.loop-slot.below c.loop-slot.gaps_hold c.requires.left c.requires.depth c.requires.row c.requires.inner c.loop-slot.invariant past (search rules)
 
-pub check_row-returns-in_err-row-clause-answer : goal.check_row-returns-in_err-row-clause-answer
-check_row-returns-in_err-row-clause-answer g t c =
+pub check_row-returns-in_err-enter-clause-answer : goal.check_row-returns-in_err-enter-clause-answer
+check_row-returns-in_err-enter-clause-answer g t c =
     let p = err_from_is_err_and c.from_residual.result c.from_residual.ensures.1 in
-    rw (p.1, p.2) (own_first (tree_from c.args.self.now (g.R.Rows.sheet c.args.rows.now).tree) c.args.visit c.in_err-row.field-0.0 c.in_err-row.ensures.err)
+    rw (p.1, p.2) (own_first (tree_from c.args.self.now (g.R.Rows.sheet c.args.rows.now).tree) c.args.visit c.in_err-enter.field-0.0 c.in_err-enter.ensures.err)
 
 pub check_row-leaf_below-requires-clause-rise : goal.check_row-leaf_below-requires-clause-rise
 check_row-leaf_below-requires-clause-rise g t c =
-    subst (RiseFrom c.args.visit.span.first) (sym c.as_slice.ensures.value) (risen (tree_from c.args.self.now (g.R.Rows.sheet c.args.rows.now).tree) c.args.visit c.in_ok-row.row c.in_ok-row.ensures.ok)
+    subst (RiseFrom c.args.visit.span.first) (sym c.as_slice.ensures.value) (risen (tree_from c.args.self.now (g.R.Rows.sheet c.args.rows.now).tree) c.args.visit c.enter.new.row c.in_ok-enter.ensures.ok)
 
 pub check_row-leaf_below-requires-clause-entry : goal.check_row-leaf_below-requires-clause-entry
 check_row-leaf_below-requires-clause-entry g t c =
-    subst (Any (λ (i : Item). i.word ≢ 0)) (sym c.as_slice.ensures.value) (leaf_entry (tree_from c.args.self.now (g.R.Rows.sheet c.args.rows.now).tree) c.args.visit c.in_ok-row.row c.in_ok-row.ensures.ok c.in-Leaf.is)
+    subst (Any (λ (i : Item). i.word ≢ 0)) (sym c.as_slice.ensures.value) (leaf_entry (tree_from c.args.self.now (g.R.Rows.sheet c.args.rows.now).tree) c.args.visit c.enter.new.row c.in_ok-enter.ensures.ok c.in-Leaf.is)
 
 pub check_row-check_children-requires : goal.check_row-check_children-requires
 check_row-check_children-requires g t c κs within =
     let s = g.R.Rows.sheet c.args.rows.now in
     let s' = g.R.Rows.sheet c.enter.new.rows in
-    let inner = not_leaf c.in_ok-row.row.kind c.in-Inner.is in
-    let same = inner_walk c.args.self.now c.enter.new.self c.args.visit.left c.in_ok-row.row.kind inner c.in_ok-row.ensures.known in
+    let inner = not_leaf c.enter.new.row.kind c.in-Inner.is in
+    let same = inner_walk c.args.self.now c.enter.new.self c.args.visit.left c.enter.new.row.kind inner c.in_ok-enter.ensures.known in
     let depth = c.decreases in (
       omega arith,
       (
@@ -71,8 +71,8 @@ check_row-check_children-requires g t c κs within =
         (
           c.requires.left,
           (
-            still_leads s s' c.args.self.now c.enter.new.self c.args.visit c.in_ok-row.row c.enter.ensures.rest same c.requires.depth,
-            (still_entered s s' c.args.self.now c.enter.new.self c.args.visit c.in_ok-row.row c.enter.ensures.rest same c.in_ok-row.ensures.ok, inner),
+            still_leads s s' c.args.self.now c.enter.new.self c.args.visit c.enter.new.row c.enter.ensures.rest same c.requires.depth,
+            (still_entered s s' c.args.self.now c.enter.new.self c.args.visit c.enter.new.row c.enter.ensures.rest same c.in_ok-enter.ensures.ok, inner),
           ),
         ),
       ),
@@ -83,21 +83,21 @@ check_row-returns-in-Leaf-clause-answer g t c =
     let tree = tree_from c.args.self.now (g.R.Rows.sheet c.args.rows.now).tree in
     let first = c.args.visit.span.first in
     subst (λ (b : Below). IsAnswerAt tree c.args.visit (Ok b)) (sym (c.leaf_below.ensures ∙ ap (λ (l : List Item). record { rows = 1; ranges = length (filter (λ (x : Item). not (x.word == 0)) l); longest = longest_hole first l }) c.as_slice.ensures.value))
-    (leaf_answer tree c.args.visit c.in_ok-row.row c.in_ok-row.ensures.ok c.in-Leaf.is)
+    (leaf_answer tree c.args.visit c.enter.new.row c.in_ok-enter.ensures.ok c.in-Leaf.is)
 
 pub check_row-returns-in-Leaf-clause-depth : goal.check_row-returns-in-Leaf-clause-depth
 check_row-returns-in-Leaf-clause-depth g t c =
-    leaf_depth (tree_from c.args.self.now (g.R.Rows.sheet c.args.rows.now).tree) c.args.visit c.in_ok-row.row c.in_ok-row.ensures.ok c.in-Leaf.is c.args.self.now c.enter.new.self c.in_ok-row.ensures.known c.requires.depth
+    leaf_depth (tree_from c.args.self.now (g.R.Rows.sheet c.args.rows.now).tree) c.args.visit c.enter.new.row c.in_ok-enter.ensures.ok c.in-Leaf.is c.args.self.now c.enter.new.self c.in_ok-enter.ensures.known c.requires.depth
 
 pub check_row-returns-in-Inner : goal.check_row-returns-in-Inner
 check_row-returns-in-Inner g t c =
     let s = g.R.Rows.sheet c.args.rows.now in
     let s' = g.R.Rows.sheet c.enter.new.rows in
-    let inner = not_leaf c.in_ok-row.row.kind c.in-Inner.is in
-    let same = inner_walk c.args.self.now c.enter.new.self c.args.visit.left c.in_ok-row.row.kind inner c.in_ok-row.ensures.known in
+    let inner = not_leaf c.enter.new.row.kind c.in-Inner.is in
+    let same = inner_walk c.args.self.now c.enter.new.self c.args.visit.left c.enter.new.row.kind inner c.in_ok-enter.ensures.known in
     record {
-      answer = answer_back s s' c.args.self.now c.enter.new.self c.args.visit c.in_ok-row.row c.enter.ensures.rest same c.check_children.result c.check_children.ensures.answer;
-      depth = depth_back s s' c.args.self.now c.enter.new.self c.args.visit c.in_ok-row.row c.enter.ensures.rest same c.check_children.result c.check_children.new.self.leaf_depth c.check_children.ensures.depth;
-      walk = walk_back s s' c.args.self.now c.enter.new.self c.args.visit c.in_ok-row.row c.enter.ensures.rest same c.check_children.new.self c.check_children.ensures.walk;
+      answer = answer_back s s' c.args.self.now c.enter.new.self c.args.visit c.enter.new.row c.enter.ensures.rest same c.check_children.result c.check_children.ensures.answer;
+      depth = depth_back s s' c.args.self.now c.enter.new.self c.args.visit c.enter.new.row c.enter.ensures.rest same c.check_children.result c.check_children.new.self.leaf_depth c.check_children.ensures.depth;
+      walk = walk_back s s' c.args.self.now c.enter.new.self c.args.visit c.enter.new.row c.enter.ensures.rest same c.check_children.new.self c.check_children.ensures.walk;
       rest = reads_more s s' (g.R.Rows.sheet c.check_children.new.rows) c.enter.ensures.rest c.check_children.ensures.rest;
     }
