@@ -18,7 +18,8 @@ use Rattle.mt_layout.proofs.SpanLists.{length-spans_from}
 use Rattle.mt_rows.specs.Spans.{Table, spans_by, spans_in}
 use Rattle.mt_rows.specs.Trees.{by_kind, ranges_of}
 use Rattle.mt_rows.specs.Laws.{items_in}
-use Rattle.mt_check.proofs.OneRow.{few_in}
+use Rattle.mt_layout.specs.Rows.{row_in}
+use Rattle.mt_check.proofs.OneRow.{few_of}
 
 -- ---- ranges below a row
 
@@ -27,7 +28,7 @@ children_few t x = by (named_kind x.word)
   where
     by : (kind : Option RowKind) → length (spans_by t kind x) ≤ columns t.width
     by None = omega arith
-    by (Some kind) = omega (arith, length-spans_from x.first (items_in t kind x), few_in t kind x, slots_of-columns t.width kind)
+    by (Some kind) = omega (arith, length-spans_from x.first (items_in t kind x), few_of t kind (row_in x.word) x.last, slots_of-columns t.width kind)
 
 each_few : (f : Span → List Range) (most : ℕ) (xs : List Span) → ((x : Span) → length (f x) ≤ most) → length (flat_map f xs) ≤ length xs * most
 each_few f most [] few = omega arith

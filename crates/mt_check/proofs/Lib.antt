@@ -7,7 +7,7 @@ pub mod Placed
 pub mod Sound
 pub mod Loaded
 pub mod Slots
-pub mod Layouts
+pub mod Unused
 pub mod Entering
 pub mod Counts
 pub mod Onward

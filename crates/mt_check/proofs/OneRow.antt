@@ -24,8 +24,9 @@ use Rattle.mt_layout.proofs.Reading.{few_items, some_items}
 use Rattle.mt_layout.proofs.RowSizes.{some_slots_of, layout_of}
 use Rattle.mt_layout.proofs.RowWords.{length-row_words}
 use Rattle.mt_rows.specs.Spans.{Table, base_of, column, spans_by, spans_in}
-use Rattle.mt_rows.specs.Laws.{items_in, words_in, GapsFrom, longest_below}
+use Rattle.mt_rows.specs.Laws.{items_in, GapsFrom, longest_below}
 use Rattle.mt_check.specs.RowTests.{rise_to, words_of, are_apart, has_gaps_from}
+use Rattle.mt_check.specs.Reads.{items_of, words_made}
 
 -- ---- what stands in a row of a kind
 
@@ -35,8 +36,8 @@ spans_are t kind x named = ap (λ (k : Option RowKind). spans_by t k x) named
 pub some_in : (t : Table) (kind : RowKind) (x : Span) → 1 ≤ length (items_in t kind x)
 some_in t kind x = some_items (slots_of t.width kind) (gaps_of t.width kind) t.words (base_of t (row_in x.word)) x.last (slots_of t.width kind) 0 (some_slots_of t.width kind)
 
-pub few_in : (t : Table) (kind : RowKind) (x : Span) → length (items_in t kind x) ≤ slots_of t.width kind
-few_in t kind x = few_items (slots_of t.width kind) (gaps_of t.width kind) t.words (base_of t (row_in x.word)) x.last (slots_of t.width kind) 0
+pub few_of : (t : Table) (kind : RowKind) (row last : ℕ) → length (items_of t kind row last) ≤ slots_of t.width kind
+few_of t kind row last = few_items (slots_of t.width kind) (gaps_of t.width kind) t.words (base_of t row) last (slots_of t.width kind) 0
 
 -- ---- pivots
 
@@ -62,30 +63,30 @@ fills_rising first last (x ∷ y ∷ items) some fills =
     (and_from (nat_lt x.last last) (rise_to (x.last + 1) last (y ∷ items)) (lt-ltb x.last last (omega arith)) (fills_rising (x.last + 1) last (y ∷ items) (omega arith) fills.2))
 
 -- the columns are those that the items make
-module _ (t : Table) (kind : RowKind) (x : Span) where
-  abbrev number : ℕ
-  number = row_in x.word
+module _ (t : Table) (kind : RowKind) (row last : ℕ) where
+  abbrev made : List ℕ
+  made = words_made t kind row last
 
-  abbrev Unused : Type 0
-  Unused = (c : ℕ) → c < columns t.width → column t number c ≡ slice_index (words_in t kind x) c
+  abbrev pub Unused : Type 0
+  Unused = (c : ℕ) → c < columns t.width → column t row c ≡ slice_index made c
 
-  made_length : length (words_in t kind x) ≡ columns t.width
-  made_length = length-row_words (columns t.width) (slots_of t.width kind) (gaps_of t.width kind) (column t number 0) (items_in t kind x) (layout_of t.width kind) (few_in t kind x)
+  made_length : length made ≡ columns t.width
+  made_length = length-row_words (columns t.width) (slots_of t.width kind) (gaps_of t.width kind) (column t row 0) (items_of t kind row last) (layout_of t.width kind) (few_of t kind row last)
 
-  words_length : length (words_of t number) ≡ columns t.width
-  words_length = length-map-range_with_len (column t number) 0 (columns t.width)
+  words_length : length (words_of t row) ≡ columns t.width
+  words_length = length-map-range_with_len (column t row) 0 (columns t.width)
 
-  pub word_in : (c : ℕ) → c < columns t.width → slice_index (words_of t number) c ≡ column t number c
-  word_in c within = get_or-map-range_with_len (column t number) 0 (columns t.width) c c 0 within (omega arith)
+  pub word_in : (c : ℕ) → c < columns t.width → slice_index (words_of t row) c ≡ column t row c
+  word_in c within = get_or-map-range_with_len (column t row) 0 (columns t.width) c c 0 within (omega arith)
 
-  decides : (pointwise nat_eq (words_of t number) (words_in t kind x) ≡ true → words_of t number ≡ words_in t kind x) × (words_of t number ≡ words_in t kind x → pointwise nat_eq (words_of t number) (words_in t kind x) ≡ true)
-  decides = slice_eq-Decides Decides-eqb (words_of t number) (words_in t kind x) (pointwise nat_eq (words_of t number) (words_in t kind x)) refl
+  decides : (pointwise nat_eq (words_of t row) made ≡ true → words_of t row ≡ made) × (words_of t row ≡ made → pointwise nat_eq (words_of t row) made ≡ true)
+  decides = slice_eq-Decides Decides-eqb (words_of t row) made (pointwise nat_eq (words_of t row) made) refl
 
-  pub same_unused : pointwise nat_eq (words_of t number) (words_in t kind x) ≡ true → Unused
+  pub same_unused : pointwise nat_eq (words_of t row) made ≡ true → Unused
   same_unused same = λ c within. sym (word_in c within) ∙ ap (λ (w : List ℕ). slice_index w c) (decides.0 same)
 
-  pub unused_same : Unused → pointwise nat_eq (words_of t number) (words_in t kind x) ≡ true
-  unused_same unused = decides.1 (ext_get_or 0 (words_of t number) (words_in t kind x) (words_length ∙ sym made_length) (λ c within. let inside : c < columns t.width = omega (arith, words_length) in word_in c inside ∙ unused c inside))
+  pub unused_same : Unused → pointwise nat_eq (words_of t row) made ≡ true
+  unused_same unused = decides.1 (ext_get_or 0 (words_of t row) made (words_length ∙ sym made_length) (λ c within. let inside : c < columns t.width = omega (arith, words_length) in word_in c inside ∙ unused c inside))
 
 -- ---- entries
 

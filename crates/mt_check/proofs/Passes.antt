@@ -151,14 +151,14 @@ module _ (t : Tree) (left h : ℕ) (way : Way) (x : Span) (root : RootCovers t l
       let parts = and_parts (rise_to x.first x.last items) (pointwise nat_eq (words_of t.table (row_in x.word)) (words_in t.table kind x)) has in
       record {
         fills = subst (Fills x.first (x.last + 1)) (sym (spans_are t.table kind x named)) (rising_fills x.first x.last items parts.0);
-        unused = same_unused t.table kind x parts.1;
+        unused = same_unused t.table kind (row_in x.word) x.last parts.1;
       }
 
   kept_pivots : named_kind x.word ≡ Some kind → PivotLaw t h x → has_pivots t.table kind x ≡ true
   kept_pivots named law =
       and_from (rise_to x.first x.last items) (pointwise nat_eq (words_of t.table (row_in x.word)) (words_in t.table kind x))
       (fills_rising x.first x.last items (some_in t.table kind x) (subst (Fills x.first (x.last + 1)) (spans_are t.table kind x named) law.fills))
-      (unused_same t.table kind x law.unused)
+      (unused_same t.table kind (row_in x.word) x.last law.unused)
 
   long : named_kind x.word ≡ Some kind → length (spans_in t.table x) ≡ length items
   long named = ap length (spans_are t.table kind x named) ∙ length-spans_from x.first items

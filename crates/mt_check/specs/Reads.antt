@@ -1,32 +1,50 @@
--- What the words of one row hold, wherever the row stands.
+-- What the walk reads of one row of a table.
 -- Source: this project's own.
-use Rattle.std.specs.Prelude.{ℕ, ◌&&◌, ◌==◌, nat_eq, nat_le, length, List, Bool, slice_index, ◌++◌}
+use Rattle.std.specs.Prelude.{ℕ, zero, suc, ◌+◌, ◌-◌, ◌*◌, ◌&&◌, ◌==◌, nat_eq, nat_le, min, length, List, Bool, true, ◌++◌}
 use Rattle.std.specs.Cmp.Lexicographic.{pointwise}
 use Rattle.mt_base.specs.declared.widths.Width.{Width}
-use Rattle.mt_base.specs.Width.{greatest}
+use Rattle.mt_base.specs.Width.{columns, greatest}
 use Rattle.mt_layout.specs.declared.names.RowKind.{RowKind}
 use Rattle.mt_layout.specs.declared.items.Item.{Item}
 use Rattle.mt_layout.specs.declared.spans.Span.{Span}
 use Rattle.mt_layout.specs.Columns.{items_at, row_words}
 use Rattle.mt_layout.specs.Sizes.{slots_of, gaps_of}
+use Rattle.mt_rows.specs.Spans.{Table, base_of, column}
 use Rattle.mt_check.specs.declared.faults.Law.{Law}
 use Rattle.mt_check.specs.declared.faults.Law.TheVariants.{Parent, Pivots, Count, Entries, Holes}
-use Rattle.mt_check.specs.RowTests.{rise_to, least_at, has_entries, has_holes}
+use Rattle.mt_check.specs.RowTests.{rise_to, words_of, least_at, has_entries, has_holes}
 use Rattle.mt_check.specs.Check.{unless}
 
--- the words hold items that rise from one index to another, and nothing else but a parent word
-abbrev pub holds_items : ℕ → ℕ → List ℕ → ℕ → ℕ → Bool
-holds_items slots gaps w first last =
-    rise_to first last (items_at slots gaps w 0 last) && pointwise nat_eq w (row_words (length w) slots gaps (slice_index w 0) (items_at slots gaps w 0 last))
+-- the items of a row of this kind that ends at `last`
+abbrev pub items_of : Table → RowKind → ℕ → ℕ → List Item
+items_of t kind row last = items_at (slots_of t.width kind) (gaps_of t.width kind) t.words (base_of t row) last
 
-abbrev pub read_items : Width → RowKind → List ℕ → ℕ → List Item
-read_items width kind w last = items_at (slots_of width kind) (gaps_of width kind) w 0 last
+-- so many columns from `from` on are 0
+abbrev pub are_zero : Table → ℕ → ℕ → ℕ → Bool
+are_zero t row from zero = true
+are_zero t row from (suc n) = (column t row from == 0) && are_zero t row (from + 1) n
+
+-- all columns are 0 but those of the parent word and of so many items
+abbrev pub holds_no_more : Table → RowKind → ℕ → ℕ → Bool
+holds_no_more t kind row count =
+    let slots = slots_of t.width kind in
+    let behind = 2 * slots + min count (gaps_of t.width kind) in
+    are_zero t row (1 + count) (slots - (1 + count)) && (are_zero t row (slots + count) (2 * slots - (slots + count)) && are_zero t row behind (columns t.width - behind))
+
+-- the words that the parent word and the items make
+abbrev pub words_made : Table → RowKind → ℕ → ℕ → List ℕ
+words_made t kind row last = row_words (columns t.width) (slots_of t.width kind) (gaps_of t.width kind) (column t row 0) (items_of t kind row last)
+
+-- the row holds items that rise from one index to another, and nothing else but a parent word
+abbrev pub holds_items : Table → RowKind → ℕ → ℕ → ℕ → Bool
+holds_items t kind row first last = rise_to first last (items_of t kind row last) && pointwise nat_eq (words_of t row) (words_made t kind row last)
+
+-- the laws that the items of a row break
+abbrev pub broken_items : Width → RowKind → ℕ → ℕ → List Item → List Law
+broken_items width kind left last items =
+    unless (nat_le (least_at width left kind) (length items)) Count ++ (unless (has_entries kind items) Entries ++ unless (has_holes (nat_le (greatest width) last) kind items) Holes)
 
 -- the laws that a row's own words break, but for its depth
-abbrev pub broken_words : Width → RowKind → List ℕ → ℕ → ℕ → Span → List Law
-broken_words width kind w left parent x =
-    unless (slice_index w 0 == parent) Parent
-    ++ (unless (holds_items (slots_of width kind) (gaps_of width kind) w x.first x.last) Pivots
-    ++ (unless (nat_le (least_at width left kind) (length (read_items width kind w x.last))) Count
-    ++ (unless (has_entries kind (read_items width kind w x.last)) Entries
-    ++ unless (has_holes (nat_le (greatest width) x.last) kind (read_items width kind w x.last)) Holes)))
+abbrev pub broken_words : Table → RowKind → ℕ → ℕ → ℕ → Span → List Law
+broken_words t kind row left parent x =
+    unless (column t row 0 == parent) Parent ++ (unless (holds_items t kind row x.first x.last) Pivots ++ broken_items t.width kind left x.last (items_of t kind row x.last))

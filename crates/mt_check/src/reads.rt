@@ -1,75 +1,62 @@
-//! The words of a row, and the items that they hold.
+//! What the walk reads of one row.
 
-ghost use Rattle.std.specs.Prelude.{◌≡◌, ◌+◌, ◌<◌, ◌≤◌, Some, length, nat_eq, nat_lt, slice_get, slice_index, if◌then◌else◌};
-ghost use Rattle.std.specs.Cmp.Lexicographic.{pointwise};
-ghost use Rattle.mt_base.specs.Width.{columns};
-ghost use Rattle.mt_layout.specs.Columns.{IsLayout, FitRow, pivot_column, item_at, items_at, row_words, RiseFrom};
+ghost use Rattle.std.specs.Prelude.{◌≡◌, ◌+◌, ◌-◌, ◌*◌, ◌<◌, ◌≤◌, Some, length, nat_lt, slice_get, if◌then◌else◌};
+ghost use Rattle.mt_base.specs.Width.{columns, first_row};
+ghost use Rattle.mt_layout.specs.Columns.{pivot_column, item_at, RiseFrom};
 ghost use Rattle.mt_layout.specs.Sizes.{slots_of, gaps_of};
 ghost use Rattle.mt_layout.specs.Spans.{spans_from};
-ghost use Rattle.mt_rows.specs.Sheet.{IsPlace, OnlyReads};
+ghost use Rattle.mt_rows.specs.Spans.{base_of, column};
+ghost use Rattle.mt_rows.specs.Sheet.{OnlyReads};
 ghost use Rattle.mt_check.specs.RowTests as tests;
-ghost use Rattle.mt_check.specs.RowTests.{words_of};
-ghost use Rattle.mt_check.specs.Reads.{holds_items};
+ghost use Rattle.mt_check.specs.Reads as reads;
 
 use arrayvec::ArrayVec;
-use mt_base::{Width, cols};
-use mt_layout::{Item, MOST_SLOTS, MOST_WORDS, RowKind, Span, words_of};
+use mt_base::cols;
+use mt_layout::{Item, MOST_SLOTS, RowKind, Span, gaps, slots};
 use mt_rows::Rows;
-
-pub(crate) type Words = ArrayVec<u64, MOST_WORDS>;
 
 pub(crate) type Items = ArrayVec<Item, MOST_SLOTS>;
 
-/// Loads the words of a row.
-pub(crate) fn load_words<R: Rows>(rows: &mut R, row: u32, words: &mut Words)
-    requires { IsPlace (R.sheet rows.old).tree row 0 }
-    ensures words { words.new.items ≡ words_of (R.sheet rows.old).tree.table row }
+/// The item in a slot of a row of this kind that ends at `max`.
+fn load_item<R: Rows>(rows: &mut R, kind: RowKind, row: u32, max: u64, slot: u32) -> Item
+    requires first { first_row ≤ row }
+    requires last { row < first_row + (R.sheet rows.old).tree.rows }
+    requires slot { slot < slots_of (R.sheet rows.old).tree.table.width kind }
+    ensures item { let t = (R.sheet rows.old).tree.table in result ≡ item_at (slots_of t.width kind) (gaps_of t.width kind) t.words (base_of t row) slot result.last }
+    ensures last { let t = (R.sheet rows.old).tree.table in result.last ≡ (if nat_lt (slot + 1) (slots_of t.width kind) then column t row (pivot_column slot) else max) }
     ensures rest { OnlyReads (R.sheet rows.old) (R.sheet rows.new) }
 {
-    words.clear();
-    for col in 0..cols(rows.width()) {
-        words.push(rows.load(row, col));
-    }
+    let width = rows.width();
+    let slots = slots(width, kind);
+    let last = if slot + 1 < slots {
+        rows.load(row, 1 + slot)
+    } else {
+        max
+    };
+    let word = rows.load(row, slots + slot);
+    let gap = if gaps(width, kind) == 0 {
+        0
+    } else {
+        rows.load(row, 2 * slots + slot)
+    };
+    Item { last, word, gap }
 }
 
-/// The item in slot `i` of a row of this layout with these words, whose greatest index is `max`.
-fn item_in<const SLOTS: usize, const GAPS: usize>(words: &[u64], i: usize, max: u64) -> Item
-    requires layout { IsLayout (length words.now) SLOTS GAPS }
-    requires slot { i < SLOTS }
-    ensures item { result ≡ item_at SLOTS GAPS words.now 0 i result.last }
-    ensures last { result.last ≡ (if nat_lt (i + 1) SLOTS then slice_index words.now (pivot_column i) else max) }
-{
-    Item {
-        last: if i + 1 < SLOTS { words[1 + i] } else { max },
-        word: words[SLOTS + i],
-        gap: if GAPS == 0 { 0 } else { words[2 * SLOTS + i] },
-    }
-}
-
-/// Reads the items of a row of this layout with these words, whose greatest index is `max`.
-fn read_by<const SLOTS: usize, const GAPS: usize>(words: &[u64], max: u64, items: &mut Items)
-    requires layout { IsLayout (length words.now) SLOTS GAPS }
-    requires room { SLOTS ≤ 16 }
-    ensures { items.new.items ≡ items_at SLOTS GAPS words.now 0 max }
+/// Reads the items of a row of this kind that ends at `max`.
+#[tactic(auto, using(crate::proofs::Loaded::all_read))]
+fn read_items<R: Rows>(rows: &mut R, kind: RowKind, row: u32, max: u64, items: &mut Items)
+    requires first { first_row ≤ row }
+    requires last { row < first_row + (R.sheet rows.old).tree.rows }
+    ensures items { items.new.items ≡ reads.items_of (R.sheet rows.old).tree.table kind row max }
+    ensures rest { OnlyReads (R.sheet rows.old) (R.sheet rows.new) }
 {
     items.clear();
-    for i in 0..SLOTS {
-        let item = item_in::<SLOTS, GAPS>(words, i, max);
+    for slot in 0..slots(rows.width(), kind) {
+        let item = load_item(rows, kind, row, max, slot);
         items.push(item);
         if max <= item.last {
-            break;
+            return;
         }
-    }
-}
-
-/// Reads the items of a row of this kind with these words, whose greatest index is `max`.
-fn read_items(width: Width, kind: RowKind, words: &[u64], max: u64, items: &mut Items)
-    requires { length words.now ≡ columns width }
-    ensures { items.new.items ≡ items_at (slots_of width kind) (gaps_of width kind) words.now 0 max }
-{
-    match (width, kind) {
-        (Width::Long, RowKind::Leaf | RowKind::Inner) => read_by::<16, 0>(words, max, items),
-        (Width::Long, RowKind::Gapped) => read_by::<10, 10>(words, max, items),
     }
 }
 
@@ -86,37 +73,60 @@ fn rise_to(items: &[Item], first: u64, last: u64) -> bool
     }
 }
 
-/// Whether a row of this kind with these words holds these items, and nothing else but a parent word.
-fn holds_only(width: Width, kind: RowKind, items: &[Item], words: &[u64]) -> bool
-    requires words { length words.now ≡ columns width }
-    requires fit { FitRow (slots_of width kind) (gaps_of width kind) items.now }
-    ensures { result ≡ pointwise nat_eq words.now (row_words (length words.now) (slots_of width kind) (gaps_of width kind) (slice_index words.now 0) items.now) }
+/// Whether the columns of a row from `from` up to, but without, `end` are 0.
+#[tactic(auto, using(crate::proofs::Unused::one_more_zero, crate::proofs::Unused::one_not_zero, crate::proofs::Unused::all_zero))]
+fn are_zero<R: Rows>(rows: &mut R, row: u32, from: u32, end: u32) -> bool
+    requires first { first_row ≤ row }
+    requires last { row < first_row + (R.sheet rows.old).tree.rows }
+    requires end { end ≤ columns (R.sheet rows.old).tree.table.width }
+    ensures is { result ≡ reads.are_zero (R.sheet rows.old).tree.table row from (end - from) }
+    ensures rest { OnlyReads (R.sheet rows.old) (R.sheet rows.new) }
 {
-    let mut written = [0; MOST_WORDS];
-    let written = &mut written[..words.len()];
-    words_of(width, kind, items, words[0], written);
-    words == written
+    for col in from..end {
+        if rows.load(row, col) != 0 {
+            return false;
+        }
+    }
+    true
 }
 
-/// Reads the items of a row of this kind with these words. Whether they rise from one index to another, and no other column holds
-/// anything.
-pub(crate) fn items_in(
-    width: Width,
+/// Whether a row of this kind, whose first slots hold so many items, has 0 in all columns but those of its parent word and of these
+/// items.
+fn holds_no_more<R: Rows>(rows: &mut R, kind: RowKind, row: u32, count: u32) -> bool
+    requires first { first_row ≤ row }
+    requires last { row < first_row + (R.sheet rows.old).tree.rows }
+    requires count { count ≤ slots_of (R.sheet rows.old).tree.table.width kind }
+    ensures is { result ≡ reads.holds_no_more (R.sheet rows.old).tree.table kind row count }
+    ensures rest { OnlyReads (R.sheet rows.old) (R.sheet rows.new) }
+{
+    let width = rows.width();
+    let slots = slots(width, kind);
+    let gaps = gaps(width, kind);
+    are_zero(rows, row, 1 + count, slots)
+        && are_zero(rows, row, slots + count, 2 * slots)
+        && are_zero(rows, row, 2 * slots + count.min(gaps), cols(width))
+}
+
+/// Reads the items of a row of this kind. Whether they rise from one index to another, and no other column holds anything.
+pub(crate) fn items_in<R: Rows>(
+    rows: &mut R,
     kind: RowKind,
-    words: &[u64],
+    row: u32,
     first: u64,
     last: u64,
     items: &mut Items,
 ) -> bool
-    requires { length words.now ≡ columns width }
-    ensures is { result ≡ holds_items (slots_of width kind) (gaps_of width kind) words.now first last }
-    ensures items { items.new.items ≡ items_at (slots_of width kind) (gaps_of width kind) words.now 0 last }
+    requires first { first_row ≤ row }
+    requires last { row < first_row + (R.sheet rows.old).tree.rows }
+    ensures is { result ≡ reads.holds_items (R.sheet rows.old).tree.table kind row first last }
+    ensures items { items.new.items ≡ reads.items_of (R.sheet rows.old).tree.table kind row last }
+    ensures rest { OnlyReads (R.sheet rows.old) (R.sheet rows.new) }
 {
-    read_items(width, kind, words, last, items);
+    read_items(rows, kind, row, last, items);
     if !rise_to(items.as_slice(), first, last) {
         return false;
     }
-    holds_only(width, kind, items.as_slice(), words)
+    holds_no_more(rows, kind, row, items.len() as u32)
 }
 
 /// The index behind an item, where another item follows it.

@@ -1,19 +1,19 @@
 //! The laws that a row's own words keep or break.
 
-ghost use Rattle.std.specs.Prelude.{◌≡◌, ◌==◌, ◌↔◌, true, false, not, [], Some, IsSome, IfSome, IfErr, OnOk, length, slice_get};
+ghost use Rattle.std.specs.Prelude.{◌≡◌, ◌+◌, ◌<◌, ◌≤◌, ◌==◌, ◌↔◌, true, false, not, [], Some, IsSome, IfSome, IfErr, OnOk, slice_get};
 ghost use Rattle.std.specs.List.{list_all, list_any};
 ghost use Rattle.mt_base.specs.Entry.{reserved};
-ghost use Rattle.mt_base.specs.Width.{columns};
+ghost use Rattle.mt_base.specs.Width.{first_row};
 ghost use Rattle.mt_layout.specs.Rows.{row_in, named_kind};
-ghost use Rattle.mt_layout.specs.Columns.{items_at};
-ghost use Rattle.mt_layout.specs.Sizes.{slots_of, gaps_of};
+ghost use Rattle.mt_rows.specs.Sheet.{OnlyReads};
 ghost use Rattle.mt_check.specs.RowTests as tests;
-ghost use Rattle.mt_check.specs.Reads.{broken_words};
+ghost use Rattle.mt_check.specs.Reads.{items_of, broken_items, broken_words};
 
 use crate::faults::Law;
 use crate::reads::{Items, items_in};
 use mt_base::{DEEPEST, FIRST_ROW, Kind, Width, is_reserved, top};
 use mt_layout::{Item, RowKind, Span, kind_of, least_items, row_of};
+use mt_rows::Rows;
 
 /// Whether no entry among these items is reserved.
 fn none_reserved(items: &[Item]) -> bool
@@ -109,36 +109,45 @@ pub(crate) fn row_named(tree: Kind, rows: u64, word: u64) -> Option<Named>
     Some(Named { row, kind })
 }
 
-/// Reads the items of a row with these words, or tells the first law that they break. From the row on down so many levels may
-/// stand.
-pub(crate) fn check_words(
-    width: Width,
-    kind: RowKind,
-    words: &[u64],
+/// The first law that the items of a row break, where so many levels may stand from the row on down.
+fn check_items(width: Width, kind: RowKind, left: u32, last: u64, items: &[Item]) -> Result<(), Law>
+    ensures kept { OnOk result (broken_items width kind left last items.now ≡ []) }
+    ensures broken { IfErr result (λ law. slice_get (broken_items width kind left last items.now) 0 ≡ Some law) }
+{
+    if items.len() < least_at(width, left, kind) as usize {
+        return Err(Law::Count);
+    }
+    if !has_entries(kind, items) {
+        return Err(Law::Entries);
+    }
+    if !has_holes(kind, items, top(width) <= last) {
+        return Err(Law::Holes);
+    }
+    Ok(())
+}
+
+/// Reads the items of a row, or tells the first law that its own words break. From the row on down so many levels may stand.
+pub(crate) fn check_words<R: Rows>(
+    rows: &mut R,
+    named: Named,
     left: u32,
     parent: u64,
     span: Span,
     items: &mut Items,
 ) -> Result<(), Law>
-    requires { length words.now ≡ columns width }
-    ensures items { OnOk result (items.new.items ≡ items_at (slots_of width kind) (gaps_of width kind) words.now 0 span.last) }
-    ensures kept { OnOk result (broken_words width kind words.now left parent span ≡ []) }
-    ensures broken { IfErr result (λ law. slice_get (broken_words width kind words.now left parent span) 0 ≡ Some law) }
+    requires first { first_row ≤ named.row }
+    requires last { named.row < first_row + (R.sheet rows.old).tree.rows }
+    ensures items { OnOk result (items.new.items ≡ items_of (R.sheet rows.old).tree.table named.kind named.row span.last) }
+    ensures kept { OnOk result (broken_words (R.sheet rows.old).tree.table named.kind named.row left parent span ≡ []) }
+    ensures broken { IfErr result (λ law. slice_get (broken_words (R.sheet rows.old).tree.table named.kind named.row left parent span) 0 ≡ Some law) }
+    ensures rest { OnlyReads (R.sheet rows.old) (R.sheet rows.new) }
 {
-    if words[0] != parent {
+    let width = rows.width();
+    if rows.load(named.row, 0) != parent {
         return Err(Law::Parent);
     }
-    if !items_in(width, kind, words, span.first, span.last, items) {
+    if !items_in(rows, named.kind, named.row, span.first, span.last, items) {
         return Err(Law::Pivots);
     }
-    if items.len() < least_at(width, left, kind) as usize {
-        return Err(Law::Count);
-    }
-    if !has_entries(kind, items.as_slice()) {
-        return Err(Law::Entries);
-    }
-    if !has_holes(kind, items.as_slice(), top(width) <= span.last) {
-        return Err(Law::Holes);
-    }
-    Ok(())
+    check_items(width, named.kind, left, span.last, items.as_slice())
 }

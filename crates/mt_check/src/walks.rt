@@ -13,7 +13,7 @@ ghost use Rattle.mt_check.specs.Check.{own_faults};
 ghost use Rattle.mt_check.specs.Walks.{no_item, tree_from, way_of, height_from, LeadsTo, depth_from, depth_known, IsEntered, IsAnswerAt};
 
 use crate::faults::{Fault, Law};
-use crate::reads::{Items, Words, load_words, span_at};
+use crate::reads::{Items, span_at};
 use crate::row_laws::{check_words, row_named};
 use mt_base::{DEEPEST, Kind};
 use mt_layout::{Item, RowKind, Span, gap_of, parent_word};
@@ -38,13 +38,12 @@ pub(crate) struct Visit {
     pub(crate) span: Span,
 }
 
-/// A row whose own words keep all laws, and the words that were loaded. The children of a row are read into one such record, one
-/// after another, so that no record is cleared or moved for each.
+/// A row whose own words keep all laws. The children of a row are read into one such record, one after another, so that no record
+/// is cleared or moved for each.
 #[derive(Drop)]
 pub(crate) struct Row {
     number: u32,
     kind: RowKind,
-    words: Words,
     items: Items,
 }
 
@@ -97,7 +96,6 @@ impl Row {
         Row {
             number: 0,
             kind: RowKind::Leaf,
-            words: Words::new(),
             items: Items::new(),
         }
     }
@@ -173,11 +171,9 @@ impl Walk {
         }
         row.number = named.row;
         row.kind = named.kind;
-        load_words(rows, named.row, &mut row.words);
         match check_words(
-            rows.width(),
-            named.kind,
-            row.words.as_slice(),
+            rows,
+            named,
             visit.left,
             visit.parent,
             visit.span,

@@ -1,11 +1,24 @@
-use Rattle.std.proofs.Common.{◌≡◌, true, ap, ◌∙◌, sym, rules}
-use Rattle.mt_check.specs.RowTests.{rise_to}
-use Rattle.mt_check.proofs.Layouts.{fit_of}
+use Rattle.std.proofs.Common.{◌≡◌, ◌&&◌, Bool, true, length, sym, ap, ◌∙◌, rules}
+use Rattle.std.specs.Prelude.{nat_eq}
+use Rattle.std.specs.Cmp.Lexicographic.{pointwise}
+use Rattle.mt_rows.specs.Sheet.{Rooted}
+use Rattle.mt_check.specs.RowTests.{rise_to, words_of}
+use Rattle.mt_check.specs.Reads.{items_of, holds_no_more, words_made}
+use Rattle.mt_check.proofs.Loaded.{same_tree}
+use Rattle.mt_check.proofs.Unused.{no_more}
 use Rattle.mt_check.proofs.reads.items_in.Goals as goal
 
-pub holds_only-requires-clause-fit : goal.holds_only-requires-clause-fit
-holds_only-requires-clause-fit c =
-    let items = c.as_slice-2.result.now in
-    let risen : c.rise_to.result ≡ true = search rules in
-    let rise : rise_to c.args.first c.args.last items ≡ true = ap (rise_to c.args.first c.args.last) (c.as_slice-2.ensures.value ∙ sym c.as_slice.ensures.value) ∙ (sym c.rise_to.ensures ∙ risen) in
-    fit_of c.args.width c.args.kind c.args.first c.args.last c.args.words.now items (c.as_slice-2.ensures.value ∙ c.read_items.ensures) rise
+pub returns-clause-is : goal.returns-clause-is
+returns-clause-is g c =
+    let s = g.R.Rows.sheet c.args.rows.now in
+    let t = s.tree.table in
+    let kind = c.args.kind in
+    let row = c.args.row in
+    let same = same_tree s (g.R.Rows.sheet c.read_items.new.rows) c.read_items.ensures.rest in
+    let many = c.len.ensures.value ∙ ap length c.read_items.ensures.items in
+    let rise : c.rise_to.result ≡ true = search rules in
+    let rises : rise_to c.args.first c.args.last (items_of t kind row c.args.last) ≡ true = ap (rise_to c.args.first c.args.last) (sym (c.as_slice.ensures.value ∙ c.read_items.ensures.items)) ∙ (sym c.rise_to.ensures ∙ rise) in
+    c.holds_no_more.ensures.is
+    ∙ (ap (λ (x : Rooted). holds_no_more x.table kind row c.len.result) same
+    ∙ (ap (holds_no_more t kind row) many
+    ∙ (no_more t kind row c.args.last ∙ ap (λ (b : Bool). b && pointwise nat_eq (words_of t row) (words_made t kind row c.args.last)) (sym rises))))
