@@ -5,7 +5,7 @@ use Rattle.std.proofs.lemmas.List.Elements.{All-nil, Contains-get_or}
 use Rattle.mt_base.specs.declared.kinds.Kind.{Kind}
 use Rattle.mt_base.specs.declared.ranges.Range.{Range}
 use Rattle.mt_base.specs.Width.{first_row}
-use Rattle.mt_free.specs.Book.{Book, Held, IsBook}
+use Rattle.mt_free.specs.Book.{Book, Held, IsBook, live_count}
 use Rattle.mt_rows.specs.declared.rows.Life.TheVariants.{New, Live, Dead}
 use Rattle.mt_rows.specs.declared.rows.Place.TheVariants.{Root}
 use Rattle.mt_rows.specs.Sheet.{Rooted, Sheet, life_of}
@@ -24,13 +24,15 @@ same_anywhere zero i x = refl
 same_anywhere (suc n) zero x = refl
 same_anywhere (suc n) (suc i) x = same_anywhere n i x
 
--- as many rows are reached as are live, which are no more than there are
+-- as many rows are reached as the book counts as live
+pub live_reached : (kind : Kind) (s : Sheet) (book : Book) → IsIdle kind s book → live_count book ≡ length (reached_in s.tree.table s.tree.root)
+live_reached kind s book idle = live_is_reached s.tree s.lives s.cleared kind book (s.ended + 1) (tree_if_lawful s.tree kind idle.state.kept.lawful) idle.state.kept.booked
+
+-- which are no more than there are
 pub reached_within : (kind : Kind) (s : Sheet) (book : Book) → IsIdle kind s book → length (reached_in s.tree.table s.tree.root) ≤ s.tree.rows
 reached_within kind s book idle =
-    let booked = idle.state.kept.booked in
-    let live = live_is_reached s.tree s.lives s.cleared kind book (s.ended + 1) (tree_if_lawful s.tree kind idle.state.kept.lawful) booked in
-    let rows = booked.rows in
-    omega (arith, live, rows)
+    let rows = idle.state.kept.booked.rows in
+    omega (arith, live_reached kind s book idle, rows)
 
 module _ (kind : Kind) (rows : ℕ) (s s' : Sheet) (root : ℕ) (book : Book) (sound : IsBook book) (may : MayPlant kind s root) (new : IsNewBut (with_published s.tree Root root) rows s) (of : IsBookOfCopy (with_published s.tree Root root) book) (planted : Planted s s' root) where
   abbrev copy : Rooted

@@ -7,10 +7,10 @@ use Rattle.mt_rows.specs.declared.rows.Place.TheVariants.{Root}
 use Rattle.mt_rows.specs.Sheet.{Rooted, Sheet, OnlyReads}
 use Rattle.mt_rows.specs.Trees.{reached_in}
 use Rattle.mt_rows.specs.Publish.{tree_as, with_published, map_by, IsLawfulOf}
-use Rattle.mt_free.specs.Book.{Book}
+use Rattle.mt_free.specs.Book.{Book, live_count}
 use Rattle.mt_engine.specs.Engine.{IsIdle}
 use Rattle.mt_engine.specs.Heights.{HasHeight}
-use Rattle.mt_tree.proofs.Copying.{reached_within}
+use Rattle.mt_tree.proofs.Copying.{live_reached, reached_within}
 use Rattle.mt_tree.specs.Copies.{IsFormOf, IsRowCount, IsReadyToOpen}
 use Rattle.mt_check.specs.declared.faults.Fault.{Fault}
 use Rattle.mt_check.specs.declared.faults.Form.{Form}
@@ -50,6 +50,9 @@ lawful_as kind kind' e s book taken same idle = subst (IsLawfulOf s.tree) same i
 
 pub idle_as : (kind kind' : Kind) (e s s' : Sheet) (book : Book) → s ≡ e → kind ≡ kind' → OnlyReads s s' → IsIdle kind s book → IsIdle kind' s' book
 idle_as kind kind' e s s' book taken same reads idle = subst (λ (k : Kind). IsIdle k s' book) same (idle_read kind s s' book reads idle)
+
+pub live_as : (kind : Kind) (e s : Sheet) (book : Book) → s ≡ e → IsIdle kind s book → live_count book ≡ length (reached_in s.tree.table s.tree.root)
+live_as kind e s book taken idle = live_reached kind s book idle
 
 pub live_within : (kind : Kind) (e s : Sheet) (book : Book) (live : ℕ) → s ≡ e → IsIdle kind s book → live ≡ length (reached_in s.tree.table s.tree.root) → live ≤ s.tree.rows
 live_within kind e s book live taken idle is = subst (λ (n : ℕ). n ≤ s.tree.rows) (sym is) (reached_within kind s book idle)

@@ -67,20 +67,18 @@ fn copy_into<R: Rows, L: Ledger>(blank: Blank, src: &mut R, dst: &mut PlainRows,
     dst.plant(root);
 }
 
-/// Copies a tree into new rows, where they are as many as it has in use. Answers how many it has.
-fn copy_out<R: Rows>(src: &mut R, kind: Kind, dst: &mut PlainRows, book: &mut RowBook) -> u64
-    requires lawful { IsLawfulOf (R.sheet src.old).tree kind }
+/// Copies a tree that has so many rows in use into new rows, where they are as many.
+fn copy_out<R: Rows>(src: &mut R, live: u64, dst: &mut PlainRows, book: &mut RowBook)
+    requires lawful { (kind : Kind) × IsLawfulOf (R.sheet src.old).tree kind }
+    requires live { live ≡ length (reached_in (R.sheet src.old).tree.table (R.sheet src.old).tree.root) }
     requires rows { sheet_in dst.old ≡ new_sheet book.old.rows }
     requires book { book.old ≡ new_book book.old.rows }
-    ensures live { result ≡ length (reached_in (R.sheet src.old).tree.table (R.sheet src.old).tree.root) }
-    ensures copy { result ≤ book.old.rows → IsReadyToOpen kind book.old.rows (map_by (R.sheet src.old).tree) (sheet_in dst.new) book.new }
+    ensures copy { live ≤ book.old.rows → (kind : Kind) → IsLawfulOf (R.sheet src.old).tree kind → IsReadyToOpen kind book.old.rows (map_by (R.sheet src.old).tree) (sheet_in dst.new) book.new }
     ensures rest { OnlyReads (R.sheet src.old) (R.sheet src.new) }
 {
-    let live = form_of_rows(src, kind).rows;
     if live <= book.rows() {
         copy_into::<R, Brand>(Blank::new(1), src, dst, book);
     }
-    live
 }
 
 /// The form of the tree's words.
@@ -122,7 +120,8 @@ fn copy_at_work<W: Writer>(
     let engine = begin::<W>(tools, tree, pass);
     let height = engine.height();
     let (mut rows, book) = engine.parts();
-    let live = copy_out(&mut rows, tree.shape.kind, dst, own);
+    let live = book.live();
+    copy_out(&mut rows, live, dst, own);
     let engine = Engine::of_height(rows, book, tree.shape.kind, height);
     end(tools, tree, engine, pass);
     live

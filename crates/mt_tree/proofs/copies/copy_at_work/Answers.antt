@@ -1,42 +1,40 @@
-use Rattle.std.proofs.Common.{ℕ, ◌≤◌, sym, ap, ◌∙◌, subst}
-use Rattle.mt_base.specs.declared.ranges.Range.{Range}
+use Rattle.std.proofs.Common.{sym, ap, ◌∙◌}
 use Rattle.mt_rows.specs.Memory.{sheet_in}
 use Rattle.mt_rows.specs.Publish.{map_by}
 use Rattle.mt_rows.specs.Sheet.{Sheet}
-use Rattle.mt_tree.specs.Copies.{IsReadyToOpen}
 use Rattle.mt_tree.proofs.AtWork.{at_work, kind_still, rows_still, still_few}
 use Rattle.mt_tree.proofs.Calling.{map_still, only_read, saw_all, told_still}
-use Rattle.mt_tree.proofs.Forms.{count_there, count_told, high_as, idle_as, lawful_as, live_within, ready_there, reads_through}
+use Rattle.mt_tree.proofs.Forms.{count_there, count_told, high_as, idle_as, lawful_as, live_as, live_within, ready_there, reads_through}
 use Rattle.mt_tree.proofs.copies.copy_at_work.Goals as goal
 
-pub copy_out-live-requires-clause-lawful : goal.copy_out-live-requires-clause-lawful
-copy_out-live-requires-clause-lawful g c =
-    let w = at_work c.args.tree.now c.args.tools.now c.args.pass.now g.W.Writer.table g.W.Writer.turn c.begin-engine.result c.requires.worker c.begin-engine.ensures.kind c.begin-engine.ensures.book c.begin-engine.ensures.sheet c.begin-engine.ensures.shown in
-    let kind = kind_still _ _ _ _ _ w ∙ sym c.args.tree.now.kind in
-    lawful_as _ _ _ _ _ c.parts-rows.ensures.rows kind c.parts-rows.ensures.idle
+pub copy_out-requires-clause-lawful : goal.copy_out-requires-clause-lawful
+copy_out-requires-clause-lawful g c = (c.begin-engine.result.kind, c.parts-rows.ensures.idle.state.kept.lawful)
+
+pub copy_out-requires-clause-live : goal.copy_out-requires-clause-live
+copy_out-requires-clause-live g c = c.live-live.ensures ∙ live_as _ _ _ _ c.parts-rows.ensures.rows c.parts-rows.ensures.idle
 
 pub of_height-engine-requires-clause-idle : goal.of_height-engine-requires-clause-idle
 of_height-engine-requires-clause-idle g c =
     let w = at_work c.args.tree.now c.args.tools.now c.args.pass.now g.W.Writer.table g.W.Writer.turn c.begin-engine.result c.requires.worker c.begin-engine.ensures.kind c.begin-engine.ensures.book c.begin-engine.ensures.sheet c.begin-engine.ensures.shown in
     let kind = kind_still _ _ _ _ _ w ∙ sym c.args.tree.now.kind in
-    idle_as _ _ _ _ _ _ c.parts-rows.ensures.rows kind c.copy_out-live.ensures.rest c.parts-rows.ensures.idle
+    idle_as _ _ _ _ _ _ c.parts-rows.ensures.rows kind c.copy_out.ensures.rest c.parts-rows.ensures.idle
 
 pub of_height-engine-requires-clause-height : goal.of_height-engine-requires-clause-height
 of_height-engine-requires-clause-height g c =
     let w = at_work c.args.tree.now c.args.tools.now c.args.pass.now g.W.Writer.table g.W.Writer.turn c.begin-engine.result c.requires.worker c.begin-engine.ensures.kind c.begin-engine.ensures.book c.begin-engine.ensures.sheet c.begin-engine.ensures.shown in
-    high_as _ _ _ c.height-height.result c.parts-rows.ensures.rows c.copy_out-live.ensures.rest c.height-height.ensures
+    high_as _ _ _ c.height-height.result c.parts-rows.ensures.rows c.copy_out.ensures.rest c.height-height.ensures
 
 pub end-requires-clause-few : goal.end-requires-clause-few
 end-requires-clause-few g c =
     let w = at_work c.args.tree.now c.args.tools.now c.args.pass.now g.W.Writer.table g.W.Writer.turn c.begin-engine.result c.requires.worker c.begin-engine.ensures.kind c.begin-engine.ensures.book c.begin-engine.ensures.sheet c.begin-engine.ensures.shown in
-    let reads = reads_through _ _ _ _ c.parts-rows.ensures.rows c.copy_out-live.ensures.rest c.of_height-engine.ensures.sheet in
+    let reads = reads_through _ _ _ _ c.parts-rows.ensures.rows c.copy_out.ensures.rest c.of_height-engine.ensures.sheet in
     still_few _ _ _ _ _ w c.of_height-engine.result (ap (λ (s : Sheet). s.told) reads)
 
 pub returns-clause-read : goal.returns-clause-read
 returns-clause-read g c =
     let w = at_work c.args.tree.now c.args.tools.now c.args.pass.now g.W.Writer.table g.W.Writer.turn c.begin-engine.result c.requires.worker c.begin-engine.ensures.kind c.begin-engine.ensures.book c.begin-engine.ensures.sheet c.begin-engine.ensures.shown in
     let kind = kind_still _ _ _ _ _ w ∙ sym c.args.tree.now.kind in
-    let reads = reads_through _ _ _ _ c.parts-rows.ensures.rows c.copy_out-live.ensures.rest c.of_height-engine.ensures.sheet in
+    let reads = reads_through _ _ _ _ c.parts-rows.ensures.rows c.copy_out.ensures.rest c.of_height-engine.ensures.sheet in
     let book = c.of_height-engine.ensures.book ∙ c.parts-rows.ensures.book in
     let kind' = c.of_height-engine.ensures.kind ∙ sym kind in
     only_read _ _ _ _ _ _ _ _ w c.end.ensures reads book kind'
@@ -45,7 +43,7 @@ pub returns-clause-saw : goal.returns-clause-saw
 returns-clause-saw g c =
     let w = at_work c.args.tree.now c.args.tools.now c.args.pass.now g.W.Writer.table g.W.Writer.turn c.begin-engine.result c.requires.worker c.begin-engine.ensures.kind c.begin-engine.ensures.book c.begin-engine.ensures.sheet c.begin-engine.ensures.shown in
     let kind = kind_still _ _ _ _ _ w ∙ sym c.args.tree.now.kind in
-    let reads = reads_through _ _ _ _ c.parts-rows.ensures.rows c.copy_out-live.ensures.rest c.of_height-engine.ensures.sheet in
+    let reads = reads_through _ _ _ _ c.parts-rows.ensures.rows c.copy_out.ensures.rest c.of_height-engine.ensures.sheet in
     let book = c.of_height-engine.ensures.book ∙ c.parts-rows.ensures.book in
     let kind' = c.of_height-engine.ensures.kind ∙ sym kind in
     saw_all _ _ _ _ _ _ _ _ w c.end.ensures (told_still _ _ _ _ _ _ _ _ w c.end.ensures reads book kind')
@@ -54,20 +52,22 @@ pub returns-clause-live : goal.returns-clause-live
 returns-clause-live g c =
     let w = at_work c.args.tree.now c.args.tools.now c.args.pass.now g.W.Writer.table g.W.Writer.turn c.begin-engine.result c.requires.worker c.begin-engine.ensures.kind c.begin-engine.ensures.book c.begin-engine.ensures.sheet c.begin-engine.ensures.shown in
     let kind = kind_still _ _ _ _ _ w ∙ sym c.args.tree.now.kind in
-    let reads = reads_through _ _ _ _ c.parts-rows.ensures.rows c.copy_out-live.ensures.rest c.of_height-engine.ensures.sheet in
+    let reads = reads_through _ _ _ _ c.parts-rows.ensures.rows c.copy_out.ensures.rest c.of_height-engine.ensures.sheet in
     let book = c.of_height-engine.ensures.book ∙ c.parts-rows.ensures.book in
     let kind' = c.of_height-engine.ensures.kind ∙ sym kind in
     let lawful = lawful_as _ _ _ _ _ c.parts-rows.ensures.rows kind c.parts-rows.ensures.idle in
-    let within = live_within _ _ _ _ c.copy_out-live.result c.parts-rows.ensures.rows c.parts-rows.ensures.idle c.copy_out-live.ensures.live in
-    let told = count_told c.args.tree.now.shape.kind c.begin-engine.result.sheet _ c.copy_out-live.result c.parts-rows.ensures.rows lawful c.copy_out-live.ensures.live within in
-    count_there _ _ _ _ _ _ c.args.tree.now.kind (rows_still _ _ _ _ _ w) (map_still _ _ _ _ _ _ _ _ w c.end.ensures (told_still _ _ _ _ _ _ _ _ w c.end.ensures reads book kind')) c.copy_out-live.result told
+    let live = c.live-live.ensures ∙ live_as _ _ _ _ c.parts-rows.ensures.rows c.parts-rows.ensures.idle in
+    let within = live_within _ _ _ _ c.live-live.result c.parts-rows.ensures.rows c.parts-rows.ensures.idle live in
+    let told = count_told c.args.tree.now.shape.kind c.begin-engine.result.sheet _ c.live-live.result c.parts-rows.ensures.rows lawful live within in
+    count_there _ _ _ _ _ _ c.args.tree.now.kind (rows_still _ _ _ _ _ w) (map_still _ _ _ _ _ _ _ _ w c.end.ensures (told_still _ _ _ _ _ _ _ _ w c.end.ensures reads book kind')) c.live-live.result told
 
 pub returns-clause-copy : goal.returns-clause-copy
 returns-clause-copy g c =
     let w = at_work c.args.tree.now c.args.tools.now c.args.pass.now g.W.Writer.table g.W.Writer.turn c.begin-engine.result c.requires.worker c.begin-engine.ensures.kind c.begin-engine.ensures.book c.begin-engine.ensures.sheet c.begin-engine.ensures.shown in
     let kind = kind_still _ _ _ _ _ w ∙ sym c.args.tree.now.kind in
-    let reads = reads_through _ _ _ _ c.parts-rows.ensures.rows c.copy_out-live.ensures.rest c.of_height-engine.ensures.sheet in
+    let reads = reads_through _ _ _ _ c.parts-rows.ensures.rows c.copy_out.ensures.rest c.of_height-engine.ensures.sheet in
     let book = c.of_height-engine.ensures.book ∙ c.parts-rows.ensures.book in
     let kind' = c.of_height-engine.ensures.kind ∙ sym kind in
     let all = ap (λ (s : Sheet). map_by s.tree) c.parts-rows.ensures.rows ∙ map_still _ _ _ _ _ _ _ _ w c.end.ensures (told_still _ _ _ _ _ _ _ _ w c.end.ensures reads book kind') in
-    λ room. ready_there _ _ _ _ _ _ c.args.tree.now.kind (rows_still _ _ _ _ _ w) all c.args.own.now.rows (sheet_in c.copy_out-live.new.dst) c.copy_out-live.new.book (c.copy_out-live.ensures.copy room)
+    let lawful = lawful_as _ _ _ _ _ c.parts-rows.ensures.rows kind c.parts-rows.ensures.idle in
+    λ room. ready_there _ _ _ _ _ _ c.args.tree.now.kind (rows_still _ _ _ _ _ w) all c.args.own.now.rows (sheet_in c.copy_out.new.dst) c.copy_out.new.book (c.copy_out.ensures.copy room _ lawful)
