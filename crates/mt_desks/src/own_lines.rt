@@ -1,6 +1,6 @@
 //! The lines of a phase that a lane does, one after another. No list of them is kept.
 
-ghost use Rattle.std.specs.Prelude.{◌≡◌, ◌∷◌, [], IfOk, IfSome, IfNone, length};
+ghost use Rattle.std.specs.Prelude.{◌≡◌, ◌∷◌, ◌≤◌, ◌^◌, [], IfOk, IfErr, IfSome, IfNone, length};
 ghost use Rattle.mt_desks.specs.Dealing.{lines_of_lane, room_of};
 
 use crate::dealing::{is_step, lane_after, room_for};
@@ -23,6 +23,7 @@ pub struct Needs {
 pub fn needs_of(lane: u32, lines: &[Line]) -> Result<Needs, NoMemory>
     ensures steps { IfOk result (λ needs. needs.steps ≡ length (lines_of_lane lane 0 lines.now)) }
     ensures room { IfOk result (λ needs. needs.room ≡ room_of (lines_of_lane lane 0 lines.now)) }
+    ensures err { IfErr result (λ _. 2 ^ 64 ≤ room_of (lines_of_lane lane 0 lines.now)) }
 {
     let mut steps = 0;
     let mut room = 0usize;
