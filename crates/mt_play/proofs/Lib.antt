@@ -4,6 +4,7 @@ pub mod LanesGone
 pub mod LanesRun
 pub mod Laying
 pub mod Listing
+pub mod Making
 pub mod LogPhases
 pub mod Manning
 pub mod PhasePlayed

@@ -28,7 +28,7 @@ use Rattle.mt_play.specs.Trees.{calls_taken}
 
 -- ---- a log cut into what is in front of a phase, the phase, and the rest
 
-pub front_and_phase : (log : List Line) (from to : ℕ) → from ≤ to → to ≤ length log → take from log ++ slice_range log from to ≡ take to log
+pub front_and_phase : {X : Type 0} (log : List X) (from to : ℕ) → from ≤ to → to ≤ length log → take from log ++ slice_range log from to ≡ take to log
 front_and_phase [] from to low high = let first : from ≡ 0 = omega (arith, low, high) in let last : to ≡ 0 = omega (arith, high) in rw (first, last) refl
 front_and_phase (x ∷ log) zero to low high = ap (λ (n : ℕ). take n (x ∷ log)) (omega arith)
 front_and_phase (x ∷ log) (suc from) zero low high = absurd (omega (arith, low))

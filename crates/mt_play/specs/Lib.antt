@@ -1,4 +1,5 @@
 pub mod Lanes
+pub mod Makes
 pub mod Phases
 pub mod Players
 pub mod Trees

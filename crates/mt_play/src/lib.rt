@@ -2,6 +2,7 @@
 #![tactic(auto)]
 
 mod lanes;
+mod makes;
 mod phases;
 mod players;
 mod rows;

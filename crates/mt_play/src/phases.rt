@@ -26,7 +26,7 @@ use std::thread::Threads;
 fn play_lanes<
     R: Threads + Wait + Sync,
     P: Passage + Drop + Send,
-    T: Plays<P> + Sync,
+    T: Plays<P> + Send + Sync,
     G: Gate + Sync,
 >(
     player: &mut Player<P, T>,
@@ -63,7 +63,7 @@ fn play_lanes<
 fn play_phase<
     R: Threads + Wait + Sync,
     P: Passage + Drop + Send,
-    T: Plays<P> + Sync,
+    T: Plays<P> + Send + Sync,
     G: Gate + Sync,
 >(
     player: &mut Player<P, T>,
@@ -128,7 +128,7 @@ fn phase_end(log: &[Line], from: usize) -> usize
 fn play_lines<
     R: Threads + Wait + Sync,
     P: Passage + Drop + Send,
-    T: Plays<P> + Sync,
+    T: Plays<P> + Send + Sync,
     G: Gate + Sync,
 >(
     player: &mut Player<P, T>,
@@ -179,13 +179,12 @@ fn lanes_of(lines: &[Line]) -> u32
 /// # Errors
 ///
 /// `NoMemory` where memory ran out.
-pub fn play<R: Threads + Wait + Sync, P: Passage + Drop + Send, T: Plays<P> + Sync, G: Gate + Sync>(
-    rt: &R,
-    alloc: Global,
-    log: &Log,
-    rows: u64,
-    gate: &G,
-) -> Result<Transcript, NoMemory>
+pub fn play<
+    R: Threads + Wait + Sync,
+    P: Passage + Drop + Send,
+    T: Plays<P> + Send + Sync,
+    G: Gate + Sync,
+>(rt: &R, alloc: Global, log: &Log, rows: u64, gate: &G) -> Result<Transcript, NoMemory>
     requires few_rows { fewest_rows ≤ rows }
     requires rows { rows ≤ most_rows }
     requires readable { IsReadable log.now.lines }

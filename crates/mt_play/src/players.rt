@@ -1,6 +1,7 @@
 //! A player of a log: its trees between two phases, and what was told so far.
 
-ghost use Rattle.std.specs.Prelude.{◌≡◌, ◌+◌, ◌<◌, ◌≤◌, ◌∷◌, ◌++◌, ℕ, [], List, length, map, IfOk, OnOk};
+ghost use Rattle.std.specs.Prelude.{◌≡◌, ◌+◌, ◌<◌, ◌≤◌, ◌∷◌, ◌++◌, ℕ, [], List, drop, length, map, IfOk, OnOk};
+ghost use Rattle.std.specs.Vec.Iter.{into_iter_items};
 ghost use Rattle.mt_base.specs.Width.{most_rows};
 ghost use Rattle.mt_log.specs.declared.lines.Line.{Line};
 ghost use Rattle.mt_log.specs.Run.{Step, listings_of};
@@ -8,9 +9,11 @@ ghost use Rattle.mt_log.specs.Trees.{AreNamedFrom, Declared, NamesBelow, count_a
 ghost use Rattle.mt_runs.specs.Lines.{phase_behind};
 ghost use Rattle.mt_runs.specs.Phases.{histories_of};
 ghost use Rattle.mt_desks.specs.Dealing.{IsOnePhase};
+ghost use Rattle.mt_play.specs.Makes.{BeginAs, kind_in};
 ghost use Rattle.mt_play.specs.Trees.{AreAll, fewest_rows, most_passes};
 ghost use Rattle.mt_play.specs.Players.{Begins, Checks, Copies, HasRanges, IsAtRest, IsBegun, IsCopyIn, IsPlayedBy, Opens, rows_known, state_of};
 
+use crate::makes::{Made, make_declared};
 use crate::rows::{copy_settled, count_settled, list_settled};
 use crate::trees::Plays;
 use mt_base::{Kind, NoMemory, Range};
@@ -18,6 +21,8 @@ use mt_desks::Passage;
 use mt_log::{Entry, Item, KnownTree, Line, Listing, RangeList, Said, Word};
 use std::alloc::Global;
 use std::sync::Wait;
+use std::thread::Threads;
+use std::vec::IntoIter;
 
 /// The trees that were declared so far, each with so many rows and all its passes, and what was told.
 #[derive(Drop)]
@@ -30,7 +35,7 @@ pub(crate) struct Player<P: Drop, T: Drop> {
     pub(crate) entries: Vec<Entry>,
 }
 
-impl<P: Passage + Drop, T: Plays<P>> Player<P, T> {
+impl<P: Passage + Drop + Send, T: Plays<P> + Send> Player<P, T> {
     /// A player of no tree, whose trees will have so many rows and passes.
     pub(crate) fn new(alloc: Global, rows: u64, passes: u32) -> Self
         requires few_rows { fewest_rows ≤ rows }
@@ -66,14 +71,24 @@ impl<P: Passage + Drop, T: Plays<P>> Player<P, T> {
         Ok(())
     }
 
-    /// Declares an empty tree.
-    fn open(&mut self, alloc: Global, name: Word, kind: Kind) -> Result<(), NoMemory>
-        requires { IsAtRest T.tree P.knows T.serves T.many self.old }
+    /// Declares an empty tree, which is the first of those made for this phase that are left.
+    fn open(
+        &mut self,
+        name: Word,
+        kind: Kind,
+        made: &mut IntoIter<Made<P, T>>,
+    ) -> Result<(), NoMemory>
+        requires rest { IsAtRest T.tree P.knows T.serves T.many self.old }
+        requires made { BeginAs T.tree P.knows T.serves T.many self.old.rows self.old.passes (kind ∷ []) (into_iter_items made.old) }
         ensures rest { OnOk result (IsAtRest T.tree P.knows T.serves T.many self.new) }
         ensures opens { OnOk result (Opens (state_of T.tree P.knows self.old) (state_of T.tree P.knows self.new) name kind) }
         ensures count { OnOk result (length self.new.trees.items ≡ length self.old.trees.items + 1) }
+        ensures left { into_iter_items made.new ≡ drop 1 (into_iter_items made.old) }
     {
-        let (tree, row) = T::make(alloc, kind, self.rows, self.passes)?;
+        let Some(made) = made.next() else {
+            unreachable!()
+        };
+        let (tree, row) = made?;
         self.push(KnownTree { name, kind }, tree, row)?;
         Ok(())
     }
@@ -165,15 +180,23 @@ impl<P: Passage + Drop, T: Plays<P>> Player<P, T> {
     }
 
     /// Does a line that declares, copies or checks a tree. Other lines make nothing here.
-    fn declare<R: Wait>(&mut self, rt: &R, alloc: Global, line: &Line) -> Result<(), NoMemory>
+    fn declare<R: Wait>(
+        &mut self,
+        rt: &R,
+        alloc: Global,
+        line: &Line,
+        made: &mut IntoIter<Made<P, T>>,
+    ) -> Result<(), NoMemory>
         requires rest { IsAtRest T.tree P.knows T.serves T.many self.old }
         requires named { NamesBelow (length self.old.trees.items) line.now.item }
+        requires made { BeginAs T.tree P.knows T.serves T.many self.old.rows self.old.passes (kind_in line.now.item) (into_iter_items made.old) }
         ensures rest { OnOk result (IsAtRest T.tree P.knows T.serves T.many self.new) }
         ensures begins { OnOk result (Begins (state_of T.tree P.knows self.old) (state_of T.tree P.knows self.new) line.now.number line.now.item) }
         ensures count { OnOk result (length self.new.trees.items ≡ count_after (length self.old.trees.items) line.now.item) }
+        ensures left { into_iter_items made.new ≡ drop (length (kind_in line.now.item)) (into_iter_items made.old) }
     {
         match line.item {
-            Item::Tree { name, kind } => self.open(alloc, name, kind),
+            Item::Tree { name, kind } => self.open(name, kind, made),
             Item::Dup { from, name } => self.copy(rt, alloc, line.number, from as usize, name),
             Item::Check { tree } => self.check(rt, line.number, tree as usize),
             Item::Lane { .. }
@@ -189,7 +212,7 @@ impl<P: Passage + Drop, T: Plays<P>> Player<P, T> {
     /// # Errors
     ///
     /// `NoMemory` where memory ran out.
-    pub(crate) fn begin<R: Wait>(
+    pub(crate) fn begin<R: Threads + Wait + Sync>(
         &mut self,
         rt: &R,
         alloc: Global,
@@ -202,8 +225,9 @@ impl<P: Passage + Drop, T: Plays<P>> Player<P, T> {
         ensures rows { OnOk result (self.new.rows ≡ self.old.rows) }
         ensures passes { OnOk result (self.new.passes ≡ self.old.passes) }
     {
+        let mut made = make_declared(rt, alloc, lines, self.rows, self.passes)?.into_iter();
         for line in lines {
-            self.declare(rt, alloc, line)?;
+            self.declare(rt, alloc, line, &mut made)?;
         }
         Ok(())
     }

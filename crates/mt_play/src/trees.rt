@@ -12,20 +12,41 @@ use std::sync::Wait;
 
 /// A shared tree that a player makes, copies, checks, lists and settles.
 ///
-/// Its meaning is the number of its passes. It takes 2^62 - 1 calls.
+/// Its meaning is the number of its passes, and of how many rows a tree is that is made over its `Zeros`. It takes 2^62 - 1 calls.
 pub trait Plays<P: Passage>: Shared<P> + Drop + Sized {
+    /// What new trees of so many rows are made over.
+    type Zeros: Drop + Sync;
+
     ghost many: { Self → ℕ };
+
+    ghost rows_of: { Self.Zeros → ℕ };
+
+    /// What trees of so many rows are made over.
+    ///
+    /// # Errors
+    ///
+    /// `NoMemory` where memory ran out.
+    fn zeros(alloc: Global, rows: u64) -> Result<Self::Zeros, NoMemory>
+        requires { rows ≤ most_rows }
+        ensures { IfOk result (λ zeros. rows_of zeros ≡ rows) };
 
     /// A tree of this kind that opens empty, in so many rows, and its passes, numbered from 0.
     ///
     /// # Errors
     ///
     /// `NoMemory` where memory ran out.
-    fn make(alloc: Global, kind: Kind, rows: u64, passes: u32) -> Result<(Self, Vec<P>), NoMemory>
+    fn make(
+        alloc: Global,
+        kind: Kind,
+        rows: u64,
+        passes: u32,
+        zeros: &Self::Zeros,
+    ) -> Result<(Self, Vec<P>), NoMemory>
         requires few_rows { fewest_rows ≤ rows }
         requires rows { rows ≤ most_rows }
         requires some_pass { 1 ≤ passes }
         requires passes { passes ≤ most_passes }
+        requires zeros { rows_of zeros.now ≡ rows }
         ensures new { IfOk result (λ made. IsNewTree kind rows [] passes (Self.tree made.0) (map P.knows made.1.items)) }
         ensures all { IfOk result (λ made. AreAll P.knows Self.serves passes made.0 made.1.items) }
         ensures many { IfOk result (λ made. Self.many made.0 ≡ passes) };

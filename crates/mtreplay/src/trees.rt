@@ -14,7 +14,7 @@ use mt_base::{Call, Kind, NoMemory, Query, Range, Steps};
 use mt_desks::{Done, Looked, Shared, Worn};
 use mt_log::Entry;
 use mt_play::Plays;
-use mt_tree::{DupError, MOST_CALLS, MakeError, Moved, Pass, Read, Shape, Tree};
+use mt_tree::{DupError, MOST_CALLS, MakeError, Moved, Pass, Read, Shape, Tree, Zeros};
 use std::alloc::Global;
 use std::marker::Brand;
 use std::sync::Wait;
@@ -180,13 +180,22 @@ impl Shared<Pass> for LaneTree {
 }
 
 impl Plays<Pass> for LaneTree {
+    type Zeros = Zeros;
+
     ghost many = { λ t. passes_of t.tree };
+
+    ghost rows_of = { λ zeros. zeros.rows };
+
+    fn zeros(alloc: Global, rows: u64) -> Result<Zeros, NoMemory> {
+        Zeros::new(alloc, rows)
+    }
 
     fn make(
         alloc: Global,
         kind: Kind,
         rows: u64,
         passes: u32,
+        zeros: &Zeros,
     ) -> Result<(Self, Vec<Pass>), NoMemory> {
         let shape = Shape {
             kind,
@@ -194,7 +203,7 @@ impl Plays<Pass> for LaneTree {
             passes,
             calls: MOST_CALLS,
         };
-        match Tree::make(alloc, shape) {
+        match Tree::make_over(alloc, shape, zeros) {
             Ok((tree, passes)) => Ok((LaneTree { tree }, passes)),
             Err(MakeError::NoMemory) => Err(NoMemory),
             Err(MakeError::BadShape { .. }) => unreachable!(),

@@ -61,13 +61,22 @@ fn tokens(alloc: Global, passes: u32) -> Result<Vec<Token>, NoMemory>
 }
 
 impl Plays<Token> for Bare {
+    type Zeros = u64;
+
     ghost many = { λ t. t.passes };
+
+    ghost rows_of = { λ rows. rows };
+
+    fn zeros(_alloc: Global, rows: u64) -> Result<u64, NoMemory> {
+        Ok(rows)
+    }
 
     fn make(
         alloc: Global,
         kind: Kind,
         rows: u64,
         passes: u32,
+        _zeros: &u64,
     ) -> Result<(Self, Vec<Token>), NoMemory> {
         let row = tokens(alloc, passes)?;
         Ok((Bare { kind, rows, passes }, row))

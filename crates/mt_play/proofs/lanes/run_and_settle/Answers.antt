@@ -13,4 +13,4 @@ returns g c = record {
 }
 
 pub settle_all-requires-clause-all : goal.settle_all-requires-clause-all
-settle_all-requires-clause-all g c = λ at t row within. subst (λ (n : ℕ). AreAll g.P.Passage.knows g.T.Shared.serves n (get_or c.args.trees.now at t) (get_or c.run_lanes.new.seats at row).items) (sym (c.requires.many at t within)) (c.in_ok-run_lanes.ensures.manned.all at t row within)
+settle_all-requires-clause-all g c κs lives = λ at t row within. subst (λ (n : ℕ). AreAll g.P.Passage.knows g.T.Shared.serves n (get_or c.args.trees.now at t) (get_or c.run_lanes.new.seats at row).items) (sym (c.requires.many at t within)) (c.in_ok-run_lanes.ensures.manned.all at t row within)

@@ -9,13 +9,13 @@ pub index-requires : goal.index-requires
 index-requires g c = omega (arith, c.requires.declared, c.requires.rest.seated.names)
 
 pub count_settled-count-requires-clause-some_pass : goal.count_settled-count-requires-clause-some_pass
-count_settled-count-requires-clause-some_pass g c = omega (arith, c.in_ok-tree.ensures.many, c.requires.rest.seated.some_pass)
+count_settled-count-requires-clause-some_pass g c κs lives = omega (arith, c.in_ok-tree.ensures.many, c.requires.rest.seated.some_pass)
 
 pub count_settled-count-requires-clause-all : goal.count_settled-count-requires-clause-all
-count_settled-count-requires-clause-all g c = subst (λ n. AreAll g.P.Passage.knows g.T.Shared.serves n c.in_ok-tree.tree c.in_ok-tree.row.items) (sym c.in_ok-tree.ensures.many) c.in_ok-tree.ensures.all
+count_settled-count-requires-clause-all g c κs lives = subst (λ n. AreAll g.P.Passage.knows g.T.Shared.serves n c.in_ok-tree.tree c.in_ok-tree.row.items) (sym c.in_ok-tree.ensures.many) c.in_ok-tree.ensures.all
 
 pub count_settled-count-requires-clause-settled : goal.count_settled-count-requires-clause-settled
-count_settled-count-requires-clause-settled g c =
+count_settled-count-requires-clause-settled g c κs lives =
     let copy = c.in_ok-tree.ensures.new in
     new_settled copy.source.history.kind copy.source.history.rows (last_map copy.source.history) c.args.self.now.passes (g.T.Shared.tree c.in_ok-tree.tree) (map g.P.Passage.knows c.in_ok-tree.row.items) copy.new
 

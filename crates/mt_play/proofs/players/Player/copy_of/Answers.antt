@@ -7,10 +7,10 @@ use Rattle.mt_play.proofs.Seating.{stands, rests_again, copy_in}
 use Rattle.mt_play.proofs.players.Player.copy_of.Goals as goal
 
 pub copy_settled-requires-clause-all : goal.copy_settled-requires-clause-all
-copy_settled-requires-clause-all g c = (stands g.T.Shared.tree g.P.Passage.knows g.T.Shared.serves g.T.Plays.many c.args.self.now c.args.number c.index.result.now c.index_mut.result.now c.requires.rest c.requires.declared c.index.ensures c.index_mut.ensures.value).all
+copy_settled-requires-clause-all g c κs lives = (stands g.T.Shared.tree g.P.Passage.knows g.T.Shared.serves g.T.Plays.many c.args.self.now c.args.number c.index.result.now c.index_mut.result.now c.requires.rest c.requires.declared c.index.ensures c.index_mut.ensures.value).all
 
 pub copy_settled-requires-clause-settled : goal.copy_settled-requires-clause-settled
-copy_settled-requires-clause-settled g c = (stands g.T.Shared.tree g.P.Passage.knows g.T.Shared.serves g.T.Plays.many c.args.self.now c.args.number c.index.result.now c.index_mut.result.now c.requires.rest c.requires.declared c.index.ensures c.index_mut.ensures.value).settled
+copy_settled-requires-clause-settled g c κs lives = (stands g.T.Shared.tree g.P.Passage.knows g.T.Shared.serves g.T.Plays.many c.args.self.now c.args.number c.index.result.now c.index_mut.result.now c.requires.rest c.requires.declared c.index.ensures c.index_mut.ensures.value).settled
 
 pub returns-clause-rest : goal.returns-clause-rest
 returns-clause-rest g c = (rests_again g.T.Shared.tree g.P.Passage.knows g.T.Shared.serves g.T.Plays.many c.args.self.now c.args.number c.index.result.now c.index_mut.result.now c.copy_settled.new.row c.requires.rest c.requires.declared c.index.ensures c.index_mut.ensures.value c.copy_settled.ensures.all c.copy_settled.ensures.stays).0

@@ -7,10 +7,10 @@ use Rattle.mt_play.proofs.Seating.{stands, rests_again}
 use Rattle.mt_play.proofs.players.Player.ranges_of.Goals as goal
 
 pub list_settled-requires-clause-all : goal.list_settled-requires-clause-all
-list_settled-requires-clause-all g c = (stands g.T.Shared.tree g.P.Passage.knows g.T.Shared.serves g.T.Plays.many c.args.self.now c.args.number c.index.result.now c.index_mut.result.now c.requires.rest c.requires.declared c.index.ensures c.index_mut.ensures.value).all
+list_settled-requires-clause-all g c κs lives = (stands g.T.Shared.tree g.P.Passage.knows g.T.Shared.serves g.T.Plays.many c.args.self.now c.args.number c.index.result.now c.index_mut.result.now c.requires.rest c.requires.declared c.index.ensures c.index_mut.ensures.value).all
 
 pub list_settled-requires-clause-settled : goal.list_settled-requires-clause-settled
-list_settled-requires-clause-settled g c = (stands g.T.Shared.tree g.P.Passage.knows g.T.Shared.serves g.T.Plays.many c.args.self.now c.args.number c.index.result.now c.index_mut.result.now c.requires.rest c.requires.declared c.index.ensures c.index_mut.ensures.value).settled
+list_settled-requires-clause-settled g c κs lives = (stands g.T.Shared.tree g.P.Passage.knows g.T.Shared.serves g.T.Plays.many c.args.self.now c.args.number c.index.result.now c.index_mut.result.now c.requires.rest c.requires.declared c.index.ensures c.index_mut.ensures.value).settled
 
 pub returns-clause-rest : goal.returns-clause-rest
 returns-clause-rest g c = (rests_again g.T.Shared.tree g.P.Passage.knows g.T.Shared.serves g.T.Plays.many c.args.self.now c.args.number c.index.result.now c.index_mut.result.now c.list_settled.new.row c.requires.rest c.requires.declared c.index.ensures c.index_mut.ensures.value c.list_settled.ensures.all c.list_settled.ensures.stays).0
