@@ -6,6 +6,7 @@ pub mod OfWords
 pub mod Plain
 pub mod PlainWhole
 pub mod Publish
+pub mod Reads
 pub mod Replacement
 pub mod Sheet
 pub mod Spans

@@ -5,6 +5,7 @@ mod kinds;
 pub mod laws;
 mod plain;
 pub mod plain_trees;
+mod reads;
 mod rows;
 mod words;
 

@@ -10,6 +10,7 @@ ghost use Rattle.mt_rows.specs.Plain as defined;
 ghost use Rattle.mt_rows.specs.Plain.{IsPlain, names_of, enlivened, names_buried};
 
 use crate::plain_trees::spans_in;
+use crate::reads::Reads;
 use crate::rows::{Place, Rows, Scan};
 use crate::words::{Words, clear_first};
 use arrayvec::ArrayVec;
@@ -43,7 +44,7 @@ struct State {
     scan: Scan,
     scans: u64,
     scans_at_begin: u64,
-    reads: u64,
+    reads: Reads,
 }
 
 /// Rows in memory that nobody else reads.
@@ -231,7 +232,7 @@ impl PlainRows {
             scan: Scan { least: 0, by: None },
             scans: 0,
             scans_at_begin: 0,
-            reads: 0,
+            reads: Reads::new(),
         };
         Ok(PlainRows { state })
     }
@@ -339,12 +340,12 @@ impl Rows for PlainRows {
     }
 
     fn load(&mut self, row: u32, col: u32) -> u64 {
-        self.state.reads = self.state.reads.saturating_add(1);
+        self.state.reads.tick();
         self.state.words.get(place_of(self.state.width, row, col))
     }
 
     fn root(&mut self) -> u64 {
-        self.state.reads = self.state.reads.saturating_add(1);
+        self.state.reads.tick();
         self.state.root
     }
 

@@ -1,5 +1,5 @@
 use Rattle.std.proofs.Common.{◌≡◌, ◌+◌, ◌*◌, ◌∙◌, ap, rules, map}
-use Rattle.std.specs.Prelude.{replicate}
+use Rattle.std.specs.Prelude.{Some, replicate}
 use Rattle.mt_base.specs.declared.widths.Width.TheVariants.{Long}
 use Rattle.mt_base.specs.Width.{columns, first_row}
 use Rattle.mt_rows.specs.Plain.{new_sheet, life_in, buried_in}
@@ -16,4 +16,5 @@ returns c =
       tree = record { rows = c.args.rows; table = record { width = Long; words = (words ∙ ap (λ n. replicate n 0) size) i }; root = 0 };
       lives = (ap (map (life_in 0)) fates ∙ map-replicate (life_in 0) (first_row + c.args.rows) New) i;
       buried = (ap (map (buried_in 0)) fates ∙ map-replicate (buried_in 0) (first_row + c.args.rows) New) i;
+      reads = ap Some c.new-2.ensures i;
     }
