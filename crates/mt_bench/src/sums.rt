@@ -6,6 +6,7 @@ use crate::lists::List;
 use crate::owners::Owner;
 use crate::rounds::fresh;
 use crate::trees::{Tree, Visit};
+use crate::works::visit;
 use mt_base::Kind;
 use std::alloc::{AllocError, Global};
 use std::sync::Wait;
@@ -77,7 +78,7 @@ fn outcomes_on(
     for job in JOBS.iter().take(jobs_on(kind)) {
         outcomes.push(Outcome {
             number: job_once(tree, *job, &mut setting),
-            held: tree.visit(),
+            held: visit(tree, 1),
             starts: sum_by_place(&setting.numbers.starts),
         })?;
     }
