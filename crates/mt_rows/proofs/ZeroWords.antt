@@ -1,9 +1,10 @@
 -- Words of which only the first are written down: those behind them are 0.
-use Rattle.std.proofs.Common.{◌≡◌, ◌≢◌, ℕ, zero, suc, ◌+◌, ◌-◌, ◌*◌, ◌<◌, ◌≤◌, List, [], ◌∷◌, ◌++◌, Option, Some, None, length, take, drop, refl, ap, ◌∙◌, ⊎_elim, arith, get_or-set_other, get_or-set_same}
+use Rattle.std.proofs.Common.{◌≡◌, ◌≢◌, ℕ, zero, suc, ◌+◌, ◌-◌, ◌*◌, ◌<◌, ◌≤◌, List, [], ◌∷◌, ◌++◌, Option, Some, None, length, take, drop, length-append, refl, sym, ap, ◌∙◌, ◌⊎◌, inl, inr, ⊎_elim, arith, get_or-set_other, get_or-set_same}
 use Rattle.std.specs.Prelude.{◌==◌, nat_le, replicate, slice_index, slice_set, if◌then◌else◌}
 use Rattle.std.specs.List.{slice_range}
+use Rattle.std.proofs.Math.ListN.{get_or-eq_default}
 use Rattle.std.proofs.lemmas.Bool.{cases_eq}
-use Rattle.std.proofs.lemmas.List.{take_more, get_or-drop, length-drop}
+use Rattle.std.proofs.lemmas.List.{take_more, get_or-drop, length-drop, get_or_append_left, get_or-append-add}
 use Rattle.mt_base.specs.declared.widths.Width.TheVariants.{Long}
 use Rattle.mt_base.specs.Width.{columns}
 use Rattle.mt_layout.specs.Columns.{item_at, items_from, gap_column, pivot_column, slot_column}
@@ -15,7 +16,7 @@ use Rattle.mt_layout.specs.Sizes.{slots_of, gaps_of}
 use Rattle.mt_layout.specs.Spans.{spans_from}
 use Rattle.mt_rows.specs.Plain.{names_of}
 use Rattle.mt_rows.specs.Spans.{spans_by, spans_in}
-use Rattle.mt_rows.specs.Words.{with_zeros}
+use Rattle.mt_rows.specs.Words.{with_zeros, ArePut}
 
 -- ---- zeros behind a list
 
@@ -73,6 +74,34 @@ zeros_fit zero most w few fit = fit
 zeros_fit (suc n) zero w few fit = absurd (omega arith)
 zeros_fit (suc n) (suc most) [] few fit = let less = zeros_fit n most [] (omega arith) (omega arith) in omega arith
 zeros_fit (suc n) (suc most) (x ∷ w) few fit = let less = zeros_fit n most w (omega arith) (omega arith) in omega arith
+
+-- ---- words that are put from a place on
+
+-- behind those that are written down, with as many zeros between as it takes
+pub appended_put : (n at : ℕ) (w words : List ℕ) → length w ≤ at → at + length words ≤ n → ArePut at words (with_zeros n w) (with_zeros n (with_zeros at w ++ words))
+appended_put n at w words behind fit = record {
+  size = zeros_long n (with_zeros at w ++ words) (omega (arith, whole)) ∙ sym (zeros_long n w (omega arith));
+  here = λ i within. zeros_behind n (with_zeros at w ++ words) (at + i) ∙ (ap (λ (m : ℕ). slice_index (with_zeros at w ++ words) (m + i)) (sym long) ∙ get_or-append-add (with_zeros at w) words i 0);
+  others = λ k outside. zeros_behind n (with_zeros at w ++ words) k ∙ (other k outside ∙ sym (zeros_behind n w k));
+}
+  where
+    long : length (with_zeros at w) ≡ at
+    long = zeros_long at w behind
+
+    whole : length (with_zeros at w ++ words) ≡ at + length words
+    whole = length-append (with_zeros at w) words ∙ ap (λ (m : ℕ). m + length words) long
+
+    other : (k : ℕ) → (k < at) ⊎ (at + length words ≤ k) → slice_index (with_zeros at w ++ words) k ≡ slice_index w k
+    other k (inl below) = get_or_append_left (with_zeros at w) words 0 k (omega (arith, long)) ∙ zeros_behind at w k
+    other k (inr above) = get_or-eq_default (with_zeros at w ++ words) 0 (omega (arith, whole)) ∙ sym (get_or-eq_default w 0 (omega arith))
+
+-- over those that are written down, with zeros behind them where there are too few
+pub overwritten_put : (n at end : ℕ) (w w' words : List ℕ) → length w ≤ n → end ≤ n → ArePut at words (with_zeros end w) w' → ArePut at words (with_zeros n w) (with_zeros n w')
+overwritten_put n at end w w' words fit few put = record {
+  size = zeros_long n w' (let less = zeros_fit end n w few fit in let same = put.size in omega arith) ∙ sym (zeros_long n w fit);
+  here = λ i within. zeros_behind n w' (at + i) ∙ put.here i within;
+  others = λ k outside. zeros_behind n w' k ∙ (put.others k outside ∙ (zeros_behind end w k ∙ sym (zeros_behind n w k)));
+}
 
 -- ---- zeros over the first words
 

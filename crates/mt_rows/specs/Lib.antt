@@ -1,3 +1,4 @@
+pub mod Drafts
 pub mod Gaps
 pub mod Laws
 pub mod Levels

@@ -1,6 +1,6 @@
 -- A list of numbers, of which only the first are written down: those behind them are 0.
 -- Source: this project's own.
-use Rattle.std.specs.Prelude.{ℕ, zero, suc, ◌≤◌, List, [], ◌∷◌, length}
+use Rattle.std.specs.Prelude.{◌≡◌, ◌⊎◌, ℕ, zero, suc, ◌+◌, ◌<◌, ◌≤◌, List, [], ◌∷◌, length, slice_index}
 use Rattle.std.specs.Vec.{vec_capacity}
 use Rattle.mt_rows.specs.declared.words.Words.TheInside.{Inside}
 
@@ -20,3 +20,9 @@ listed w = record { items = with_zeros w.len w.written.items }
 pub record IsListed (w : Inside) : Type 0 where
   pub fit : length w.written.items ≤ w.len
   pub room : w.len ≤ vec_capacity w.written
+
+-- these words stand from a place on, and each other word is as before
+pub record ArePut (at : ℕ) (words : List ℕ) (w w' : List ℕ) : Type 0 where
+  pub size : length w' ≡ length w
+  pub here : (i : ℕ) → i < length words → slice_index w' (at + i) ≡ slice_index words i
+  pub others : (k : ℕ) → (k < at) ⊎ (at + length words ≤ k) → slice_index w' k ≡ slice_index w k

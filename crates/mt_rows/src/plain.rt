@@ -208,8 +208,10 @@ impl PlainRows {
     ghost use Rattle.mt_base.specs.Width.{columns, deepest, first_row, most_rows};
     ghost use Rattle.mt_rows.specs.OfWords.{IsMadeOf};
     ghost use Rattle.mt_rows.specs.Plain.{new_sheet, IsPlaceIn, opens};
+    ghost use Rattle.mt_rows.specs.Drafts.{AreDrafted};
     ghost use Rattle.mt_rows.specs.Memory.{sheet_in};
     ghost use Rattle.mt_rows.specs.Publish.{MayPlant, Planted, with_published};
+    ghost use Rattle.mt_rows.specs.Sheet.{IsPlace, IsFree, life_of};
 
     /// So many rows, none of which was ever used, and an empty tree. There are `MOST_ROWS` at the most.
     pub fn new(alloc: Global, rows: u64) -> Result<PlainRows, NoMemory>
@@ -283,6 +285,19 @@ impl PlainRows {
             &span,
             self.state.fates.as_mut_slice(),
         );
+    }
+
+    /// Writes these words into the columns of a row that may be written anew, from a column on. The row is then a draft.
+    pub fn draft_columns(&mut self, row: u32, col: u32, words: &[u64])
+        requires place { IsPlace (sheet_in self.old).tree row col }
+        requires columns { col + length words.now ≤ columns (sheet_in self.old).tree.table.width }
+        requires free { IsFree (sheet_in self.old).cleared (life_of (sheet_in self.old).lives row) }
+        ensures { AreDrafted row col words.now (sheet_in self.old) (sheet_in self.new) }
+    {
+        let at = place_of(self.state.width, row, col);
+        self.state.words.put(at, words);
+        let row = row as usize;
+        self.state.fates[row] = Fate::Draft;
     }
 
     /// The words of all rows where they stand among a table's words. Those before them are 0.

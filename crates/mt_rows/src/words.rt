@@ -2,7 +2,7 @@
 
 ghost use Rattle.std.specs.Prelude.{◌≡◌, ◌+◌, ◌<◌, ◌≤◌, ◌++◌, ℕ, IfOk, length, take, replicate, slice_index, slice_set};
 ghost use Rattle.std.specs.Vec.{vec_capacity};
-ghost use Rattle.mt_rows.specs.Words.{Listed, listed, IsListed, with_zeros};
+ghost use Rattle.mt_rows.specs.Words.{Listed, listed, IsListed, with_zeros, ArePut};
 
 use mt_base::NoMemory;
 use std::alloc::Global;
@@ -33,6 +33,25 @@ fn write_zeros(words: &mut Vec<u64>, len: usize)
     for _ in words.len()..len {
         words.push_reserved(0);
     }
+}
+
+/// Appends words for which there is room.
+fn append(list: &mut Vec<u64>, words: &[u64])
+    requires { length list.old.items + length words.now ≤ vec_capacity list.old }
+    ensures items { list.new.items ≡ list.old.items ++ words.now }
+    ensures capacity { vec_capacity list.old ≤ vec_capacity list.new }
+{
+    let Ok(()) = list.extend_from_slice(words) else {
+        unreachable!()
+    };
+}
+
+/// Writes words over others, from a place on.
+fn overwrite(list: &mut [u64], at: usize, words: &[u64])
+    requires { at + length words.now ≤ length list.old }
+    ensures { ArePut at words.now list.old list.new }
+{
+    list[at..at + words.len()].copy_from_slice(words);
 }
 
 /// Writes 0 over the first so many words.
@@ -76,6 +95,21 @@ impl Words {
     {
         write_zeros(&mut self.written, at + 1);
         self.written[at] = word;
+    }
+
+    /// Writes these words from a place on.
+    #[tactic(auto, using(crate::proofs::ZeroWords::appended_put, crate::proofs::ZeroWords::overwritten_put, crate::proofs::ZeroWords::zeros_reach, crate::proofs::ZeroWords::zeros_fit, crate::proofs::ZeroWords::zeros_long))]
+    pub(crate) fn put(&mut self, at: usize, words: &[u64])
+        requires { at + length words.now ≤ length self.old.items }
+        ensures { ArePut at words.now self.old.items self.new.items }
+    {
+        if self.written.len() <= at {
+            write_zeros(&mut self.written, at);
+            append(&mut self.written, words);
+        } else {
+            write_zeros(&mut self.written, at + words.len());
+            overwrite(self.written.as_mut_slice(), at, words);
+        }
     }
 
     /// The words up to the last one that was written.

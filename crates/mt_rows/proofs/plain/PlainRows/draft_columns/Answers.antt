@@ -1,0 +1,21 @@
+use Rattle.std.proofs.Common.{ℕ, subst, refl}
+use Rattle.mt_rows.specs.Plain.{sheet_of, past_of}
+use Rattle.mt_rows.specs.declared.plain.Fate.TheVariants.{Draft}
+use Rattle.mt_rows.specs.Memory.{sheet_in}
+use Rattle.mt_rows.specs.Words.{ArePut}
+use Rattle.mt_rows.proofs.PlainFates.{lives-set, drafted_buried}
+use Rattle.mt_rows.proofs.plain.PlainRows.draft_columns.Goals as goal
+
+pub returns : goal.returns
+returns c =
+    let p = c.args.self.now.state in
+    let w = c.put.new.self.items in
+    let buried = drafted_buried p (sheet_in c.args.self.now) c.args.row refl c.requires.free in
+    record {
+      rest = λ i. record (sheet_of p) {
+        tree = record { rows = p.rows; table = record { width = p.width; words = w }; root = p.root };
+        lives = lives-set (past_of p) p.fates.items c.args.row Draft i;
+        buried = buried i;
+      };
+      put = subst (λ (at : ℕ). ArePut at c.args.words.now p.words.items w) c.place_of-at.ensures c.put.ensures;
+    }
