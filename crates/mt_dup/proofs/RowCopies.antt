@@ -92,7 +92,7 @@ module _ (s : Sheet) (b : Book) (way : Way) (pair : Pair) (whole : IsWhole s) (n
     module _ (number : ℕ → ℕ) (to_is : number pair.row ≡ pair.to) (parent : way.parent ≡ renamed number (column t pair.row 0)) (names : pair.kind ≢ Leaf → HasNames number t d₂.tree.table pair) where
       slots_are : (kind : RowKind) → pair.kind ≡ kind → (i : ℕ) → i < slots_of t.width pair.kind
           → column d₂.tree.table pair.to (slot_column (slots_of t.width pair.kind) i) ≡ slot_renamed number kind (column t pair.row (slot_column (slots_of t.width pair.kind) i))
-      slots_are Leaf is i within = keeps (slot_column (slots_of t.width pair.kind) i) (slot_within t.width pair.kind i within) (inl is) ∙ own.entries is i within
+      slots_are Leaf is i within = keeps (slot_column (slots_of t.width pair.kind) i) (slot_within t.width pair.kind i within) (inl is) ∙ own.others (slot_column (slots_of t.width pair.kind) i) (omega (arith, some_slots_of t.width pair.kind)) (slot_within t.width pair.kind i within)
       slots_are Inner is i within = names (λ leaf. let clash = sym is ∙ leaf in cc) i within
       slots_are Gapped is i within = names (λ leaf. let clash = sym is ∙ leaf in cc) i within
 
@@ -102,9 +102,9 @@ module _ (s : Sheet) (b : Book) (way : Way) (pair : Pair) (whole : IsWhole s) (n
           let moved : (c : ℕ) → column d₂.tree.table (number pair.row) c ≡ column d₂.tree.table pair.to c = λ c. ap (λ (n : ℕ). column d₂.tree.table n c) to_is in
           record {
             parent = moved 0 ∙ (keeps 0 (some_columns t.width) (inr (inl (some_slots_of t.width pair.kind))) ∙ (own.first ∙ parent));
-            pivots = λ c some within. moved c ∙ (keeps c (omega (arith, fits)) (inr (inl within)) ∙ own.pivots c some within);
+            pivots = λ c some within. moved c ∙ (keeps c (omega (arith, fits)) (inr (inl within)) ∙ own.others c some (omega (arith, fits)));
             slots = λ i within. moved (slot_column (slots_of t.width pair.kind) i) ∙ slots_are pair.kind refl i within;
-            behind = λ c from within. moved c ∙ (keeps c within (inr (inr from)) ∙ own.behind c from within);
+            behind = λ c from within. moved c ∙ (keeps c within (inr (inr from)) ∙ own.others c (omega (arith, some_slots_of t.width pair.kind)) within);
           }
 
     name_is : (number : ℕ → ℕ) → number pair.row ≡ pair.to → name_at pair.to pair.kind ≡ renamed number way.word

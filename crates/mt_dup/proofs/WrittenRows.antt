@@ -1,16 +1,18 @@
--- The columns of one row of a copy, written one by one.
-use Rattle.std.proofs.Common.{◌≡◌, ℕ, ◌+◌, ◌<◌, ◌≤◌, Option, refl, sym, ap, ◌∙◌, subst, inl, inr, arith}
+-- The columns of one row of a copy, read one by one and written at once.
+use Rattle.std.proofs.Common.{◌≡◌, ℕ, ◌+◌, ◌*◌, ◌<◌, ◌≤◌, ◌⊎◌, List, Option, length, add-zero, refl, sym, ap, ◌∙◌, subst, inl, inr, arith, length-set, get_or-set_other, get_or-set_same}
+use Rattle.std.specs.Prelude.{replicate, slice_index, slice_set}
 use Rattle.std.proofs.lemmas.Bool.{cases_eq, cases_lt}
 use Rattle.mt_base.specs.declared.widths.Width.{Width}
 use Rattle.mt_base.specs.declared.widths.Width.TheVariants.{Long}
 use Rattle.mt_base.specs.Width.{columns}
 use Rattle.mt_rows.specs.declared.rows.Life.{Life}
-use Rattle.mt_rows.specs.declared.rows.Life.TheVariants.{Draft}
-use Rattle.mt_rows.specs.Spans.{column}
-use Rattle.mt_rows.specs.Sheet.{Rooted, Sheet, OnlyReads, loaded, life_of, IsFree}
+use Rattle.mt_rows.specs.declared.rows.Life.TheVariants.{New, Draft}
+use Rattle.mt_rows.specs.Drafts.{AreDrafted}
+use Rattle.mt_rows.specs.Spans.{Table, column}
+use Rattle.mt_rows.specs.Sheet.{Rooted, Sheet, OnlyReads, IsPlace, loaded, life_of, IsFree}
 use Rattle.mt_dup.specs.declared.columns.Pair.{Pair}
 use Rattle.mt_dup.specs.Filling.{IsOutside, IsWritten}
-use Rattle.mt_dup.specs.Pairs.{IsWrittenAt, HasColumns}
+use Rattle.mt_dup.specs.Pairs.{AreColumns, HasOwn}
 
 -- ---- loads
 
@@ -35,19 +37,6 @@ written_rows low high s s' written = ap (λ (x : Sheet). x.tree.rows) written.re
 -- a draft may be written
 pub draft_free : (cleared : ℕ) (l : Life) → l ≡ Draft → IsFree cleared l
 draft_free cleared l is = subst (IsFree cleared) (sym is) tt
-
--- two writes, of which the first is wider
-pub written_more : (low middle high : ℕ) (s s' s'' : Sheet) → low ≤ middle → middle ≤ high → IsWritten low middle s s' → IsWritten low high s' s'' → IsWritten low high s s''
-written_more low middle high s s' s'' some more first second = record {
-  rest = second.rest ∙ ap (λ (x : Sheet). record x { tree = record x.tree { table = record x.tree.table { words = s''.tree.table.words } }; lives = s''.lives }) first.rest;
-  words = λ row c outside within. second.words row c outside (subst (λ (w : Width). c < columns w) (one_width s.tree.table.width s'.tree.table.width) within) ∙ first.words row c (narrower row outside) within;
-  lives = λ row outside. second.lives row outside ∙ first.lives row (narrower row outside);
-  drafts = second.drafts;
-}
-  where
-    narrower : (row : ℕ) → IsOutside low high row → IsOutside low middle row
-    narrower row (inl below) = inl below
-    narrower row (inr above) = inr (omega arith)
 
 -- two writes, one behind the other
 pub written_on : (low middle high : ℕ) (s s' s'' : Sheet) → low ≤ middle → middle ≤ high → IsWritten low middle s s' → IsWritten middle high s' s'' → IsWritten low high s s''
@@ -85,13 +74,6 @@ written_in low high row s s' s'' from to first second = record {
       | inr up ↦ elim (cases_lt row r) [ inl behind ↦ second.lives r (inr (omega arith)) ∙ first.drafts r above below | inr here ↦ second.drafts r up (omega arith) ]
     ]
 
--- ---- columns, one by one
-
-pub record Copying (s s' d d' : Sheet) (pair : Pair) (low high : ℕ) : Type 0 where
-  pub reads : OnlyReads s s'
-  pub columns : HasColumns low high pair s.tree.table d.tree.table d'.tree.table
-  pub written : IsWritten pair.to (pair.to + 1) d d'
-
 pub nothing_written : (row : ℕ) (s : Sheet) → life_of s.lives row ≡ Draft → IsWritten row (row + 1) s s
 nothing_written row s draft = record {
   rest = refl;
@@ -100,33 +82,83 @@ nothing_written row s draft = record {
   drafts = λ r from to. let same : row ≡ r = omega arith in subst (λ (n : ℕ). life_of s.lives n ≡ Draft) same draft;
 }
 
-pub copying_none : (s d : Sheet) (pair : Pair) (low : ℕ) → life_of d.lives pair.to ≡ Draft → Copying s s d d pair low low
-copying_none s d pair low draft = record {
-  reads = refl;
-  columns = record { copied = λ c from to. absurd (omega arith); others = λ c within outside. refl };
-  written = nothing_written pair.to d draft;
-}
+-- ---- the columns of a row, read one by one
 
-pub copying_next : (s s' s'' d d' d'' : Sheet) (pair : Pair) (low col word : ℕ) → Copying s s' d d' pair low col → low ≤ col → col < columns s.tree.table.width
-    → OnlyReads s' s'' → word ≡ column s'.tree.table pair.row col → IsWritten pair.to (pair.to + 1) d' d'' → IsWrittenAt pair.to col word d'.tree.table d''.tree.table → Copying s s'' d d'' pair low (col + 1)
-copying_next s s' s'' d d' d'' pair low col word so_far from inside loads is written at = record {
-  reads = reads_more s s' s'' so_far.reads loads;
-  columns = record { copied = copied; others = others };
-  written = written_more pair.to (pair.to + 1) (pair.to + 1) d d' d'' (omega arith) (omega arith) so_far.written written;
+all_columns : (v : Width) → columns v ≡ 32
+all_columns Long = refl
+
+pub record Reading (s s' : Sheet) (first row col : ℕ) (words : List ℕ) : Type 0 where
+  pub reads : OnlyReads s s'
+  pub size : length words ≡ 32
+  pub here : slice_index words 0 ≡ first
+  pub others : (c : ℕ) → 0 < c → c < col → slice_index words c ≡ column s.tree.table row c
+
+pub none_read : (s : Sheet) (first row col : ℕ) → col ≡ 1 → Reading s s first row col (replicate 32 first)
+none_read s first row col one = record { reads = refl; size = refl; here = refl; others = λ c some below. absurd (omega arith) }
+
+pub read_place : (s s' : Sheet) (first row col : ℕ) (words : List ℕ) → IsPlace s.tree row 0 → Reading s s' first row col words → col < 32 → IsPlace s'.tree row col
+read_place s s' first row col words place so_far within =
+    subst (λ (t : Rooted). IsPlace t row col) (sym (same_tree s s' so_far.reads)) (record { first = place.first; last = place.last; column = omega (arith, all_columns s.tree.table.width) })
+
+pub read_next : (s s' s'' : Sheet) (first row col word : ℕ) (words : List ℕ) → Reading s s' first row col words → 0 < col → col < 32 → OnlyReads s' s'' → word ≡ column s'.tree.table row col
+    → Reading s s'' first row (col + 1) (slice_set words col word)
+read_next s s' s'' first row col word words so_far some within more is = record {
+  reads = reads_more s s' s'' so_far.reads more;
+  size = length-set words col word ∙ so_far.size;
+  here = get_or-set_other words col 0 word 0 (λ e. omega arith) ∙ so_far.here;
+  others = others;
 }
   where
-    wide : (c : ℕ) → c < columns s.tree.table.width → c < columns d'.tree.table.width
-    wide c within = subst (λ (w : Width). c < columns w) (one_width s.tree.table.width d'.tree.table.width) within
-
-    copied : (c : ℕ) → low ≤ c → c < col + 1 → column d''.tree.table pair.to c ≡ column s.tree.table pair.row c
-    copied c above below = elim (cases_eq c col) [
-      | inl here ↦ ap (column d''.tree.table pair.to) here ∙ (at.here ∙ (is ∙ (ap (λ (t : Rooted). column t.table pair.row col) (same_tree s s' so_far.reads) ∙ ap (column s.tree.table pair.row) (sym here))))
-      | inr other ↦ at.others c (wide c (omega arith)) other ∙ so_far.columns.copied c above (omega arith)
+    others : (c : ℕ) → 0 < c → c < col + 1 → slice_index (slice_set words col word) c ≡ column s.tree.table row c
+    others c above below = elim (cases_eq c col) [
+      | inl same ↦
+          ap (slice_index (slice_set words col word)) same
+          ∙ (get_or-set_same words col word 0 (omega (arith, so_far.size))
+          ∙ (is ∙ (ap (λ (t : Rooted). column t.table row col) (same_tree s s' so_far.reads) ∙ ap (column s.tree.table row) (sym same))))
+      | inr other ↦ get_or-set_other words col c word 0 other ∙ so_far.others c above (omega (arith, other))
     ]
 
-    others : (c : ℕ) → c < columns s.tree.table.width → IsOutside low (col + 1) c → column d''.tree.table pair.to c ≡ column d.tree.table pair.to c
-    others c within (inl below) = at.others c (wide c within) (λ e. omega arith) ∙ so_far.columns.others c within (inl below)
-    others c within (inr above) = at.others c (wide c within) (λ e. omega arith) ∙ so_far.columns.others c within (inr (omega arith))
+pub read_all : (s s' : Sheet) (first row col : ℕ) (words : List ℕ) → Reading s s' first row col words → 32 ≤ col → AreColumns first row s.tree.table words
+read_all s s' first row col words so_far past =
+    let wide = all_columns s.tree.table.width in record { size = so_far.size ∙ sym wide; here = so_far.here; others = λ c some within. so_far.others c some (omega (arith, wide)) }
 
-pub copied_all : (s s' d d' : Sheet) (pair : Pair) (low col high : ℕ) → Copying s s' d d' pair low col → col ≡ high → HasColumns low high pair s.tree.table d.tree.table d'.tree.table
-copied_all s s' d d' pair low col high so_far same = subst (λ (n : ℕ). HasColumns low n pair s.tree.table d.tree.table d'.tree.table) same so_far.columns
+-- ---- a row that is written at once
+
+-- words of one row stand before those of the next
+apart : (v : Width) (to row c n : ℕ) → c < columns v → n ≤ columns v → IsOutside to (to + 1) row → (columns v * row + c < columns v * to + 0) ⊎ (columns v * to + 0 + n ≤ columns v * row + c)
+apart Long to row c n within few (inl below) = inl (omega arith)
+apart Long to row c n within few (inr above) = inr (omega arith)
+
+module _ (parent : ℕ) (pair : Pair) (t : Table) (d d' : Sheet) (words : List ℕ) (columns_are : AreColumns parent pair.row t words) (drafted : AreDrafted pair.to 0 words d d') where
+  many : (v : Width) → length words ≡ columns v
+  many v = columns_are.size ∙ ap columns (one_width t.width v)
+
+  column_is : (c : ℕ) → c < columns t.width → column d'.tree.table pair.to c ≡ slice_index words c
+  column_is c within =
+      ap (λ (v : Width). slice_index d'.tree.table.words (columns v * pair.to + c)) (one_width d'.tree.table.width d.tree.table.width)
+      ∙ (ap (λ (n : ℕ). slice_index d'.tree.table.words (n + c)) (sym (add-zero (columns d.tree.table.width * pair.to)))
+      ∙ drafted.put.here c (omega (arith, columns_are.size)))
+
+  pub own_copied : HasOwn parent pair t d'.tree.table
+  own_copied = record {
+    first = column_is 0 (omega (arith, all_columns t.width)) ∙ columns_are.here;
+    others = λ c some within. column_is c within ∙ columns_are.others c some within;
+  }
+
+  module _ (inside : pair.to < length d.lives) where
+    lives_are : d'.lives ≡ slice_set d.lives pair.to Draft
+    lives_are = ap (λ (x : Sheet). x.lives) drafted.rest
+
+    pub row_written : IsWritten pair.to (pair.to + 1) d d'
+    row_written = record {
+      rest = drafted.rest ∙ ap (λ (l : List Life). record d { tree = record d.tree { table = record d.tree.table { words = d'.tree.table.words } }; lives = l }) (sym lives_are);
+      words = λ row c outside within.
+          ap (λ (v : Width). slice_index d'.tree.table.words (columns v * row + c)) (one_width d'.tree.table.width d.tree.table.width)
+          ∙ drafted.put.others (columns d.tree.table.width * row + c) (apart d.tree.table.width pair.to row c (length words) within (omega (arith, many d.tree.table.width)) outside);
+      lives = λ row outside. ap (λ (l : List Life). life_of l row) lives_are ∙ get_or-set_other d.lives pair.to row Draft New (λ e. other row outside e);
+      drafts = λ row from to. let same : pair.to ≡ row = omega arith in subst (λ (n : ℕ). life_of d'.lives n ≡ Draft) same (ap (λ (l : List Life). life_of l pair.to) lives_are ∙ get_or-set_same d.lives pair.to Draft New inside);
+    }
+      where
+        other : (row : ℕ) → IsOutside pair.to (pair.to + 1) row → row ≡ pair.to → ⊥
+        other row (inl below) e = omega arith
+        other row (inr above) e = omega arith

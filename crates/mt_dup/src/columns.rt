@@ -1,16 +1,12 @@
 //! The columns of one row.
 
-ghost use Rattle.std.specs.Prelude.{◌≡◌, ◌+◌, ◌*◌, ◌<◌, ◌≤◌, ℕ};
-ghost use Rattle.mt_base.specs.Width.{columns};
-ghost use Rattle.mt_layout.specs.Sizes.{slots_of};
-ghost use Rattle.mt_rows.specs.declared.rows.Life.TheVariants.{Draft};
+ghost use Rattle.std.specs.Prelude.{◌+◌};
 ghost use Rattle.mt_rows.specs.Memory.{sheet_in};
 ghost use Rattle.mt_rows.specs.Sheet.{IsPlace, OnlyReads, IsFree, life_of};
 ghost use Rattle.mt_dup.specs.Filling.{IsWritten};
-ghost use Rattle.mt_dup.specs.Pairs.{IsWrittenAt, HasColumns, HasOwn};
+ghost use Rattle.mt_dup.specs.Pairs.{IsWrittenAt, AreColumns, HasOwn};
 
-use mt_base::cols;
-use mt_layout::{RowKind, slots};
+use mt_layout::{MOST_WORDS, RowKind};
 use mt_rows::{PlainRows, Rows};
 
 /// A row of this kind that is copied, and the row of the copy.
@@ -31,23 +27,22 @@ pub(crate) fn write(rows: &mut PlainRows, row: u32, col: u32, word: u64)
     rows.draft(row, col, word);
 }
 
-/// Copies the columns from `from` up to, but without, `end`.
-fn copy_columns<R: Rows>(src: &mut R, dst: &mut PlainRows, pair: Pair, from: u32, end: u32)
-    requires row { IsPlace (R.sheet src.old).tree pair.row 0 }
-    requires place { IsPlace (sheet_in dst.old).tree pair.to 0 }
-    requires order { from ≤ end }
-    requires end { end ≤ columns (R.sheet src.old).tree.table.width }
-    requires draft { life_of (sheet_in dst.old).lives pair.to ≡ Draft }
-    ensures columns { HasColumns from end pair (R.sheet src.old).tree.table (sheet_in dst.old).tree.table (sheet_in dst.new).tree.table }
-    ensures written { IsWritten pair.to (pair.to + 1) (sheet_in dst.old) (sheet_in dst.new) }
+/// The columns of a row, with this word as the first.
+#[tactic(auto, using(crate::proofs::WrittenRows::one_read, crate::proofs::WrittenRows::reads_more, crate::proofs::WrittenRows::none_read, crate::proofs::WrittenRows::read_place, crate::proofs::WrittenRows::read_next, crate::proofs::WrittenRows::read_all))]
+fn columns_of<R: Rows>(src: &mut R, row: u32, first: u64) -> [u64; MOST_WORDS]
+    requires { IsPlace (R.sheet src.old).tree row 0 }
+    ensures columns { AreColumns first row (R.sheet src.old).tree.table result }
     ensures rest { OnlyReads (R.sheet src.old) (R.sheet src.new) }
 {
-    for col in from..end {
-        write(dst, pair.to, col, src.load(pair.row, col));
+    let mut words = [first; MOST_WORDS];
+    for col in 1..MOST_WORDS {
+        words[col] = src.load(row, col as u32);
     }
+    words
 }
 
-/// Writes a row of the copy, but for the names in its slots: what stands there in a leaf is written too.
+/// Writes a row of the copy, which has this parent word. The names in its slots are still those of the tree.
+#[tactic(auto, using(crate::proofs::WrittenRows::own_copied, crate::proofs::WrittenRows::row_written))]
 pub(crate) fn copy_own<R: Rows>(src: &mut R, dst: &mut PlainRows, pair: Pair, parent: u64)
     requires row { IsPlace (R.sheet src.old).tree pair.row 0 }
     requires place { IsPlace (sheet_in dst.old).tree pair.to 0 }
@@ -56,14 +51,6 @@ pub(crate) fn copy_own<R: Rows>(src: &mut R, dst: &mut PlainRows, pair: Pair, pa
     ensures written { IsWritten pair.to (pair.to + 1) (sheet_in dst.old) (sheet_in dst.new) }
     ensures rest { OnlyReads (R.sheet src.old) (R.sheet src.new) }
 {
-    let slots = slots(src.width(), pair.kind);
-    let columns = cols(src.width());
-    write(dst, pair.to, 0, parent);
-    match pair.kind {
-        RowKind::Leaf => copy_columns(src, dst, pair, 1, columns),
-        RowKind::Inner | RowKind::Gapped => {
-            copy_columns(src, dst, pair, 1, slots);
-            copy_columns(src, dst, pair, 2 * slots, columns);
-        }
-    }
+    let words = columns_of(src, pair.row, parent);
+    dst.draft_columns(pair.to, 0, &words);
 }
