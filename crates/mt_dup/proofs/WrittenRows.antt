@@ -8,11 +8,11 @@ use Rattle.mt_base.specs.Width.{columns}
 use Rattle.mt_rows.specs.declared.rows.Life.{Life}
 use Rattle.mt_rows.specs.declared.rows.Life.TheVariants.{New, Draft}
 use Rattle.mt_rows.specs.Drafts.{AreDrafted}
-use Rattle.mt_rows.specs.Spans.{Table, column}
+use Rattle.mt_rows.specs.Spans.{column}
 use Rattle.mt_rows.specs.Sheet.{Rooted, Sheet, OnlyReads, IsPlace, loaded, life_of, IsFree}
 use Rattle.mt_dup.specs.declared.columns.Pair.{Pair}
 use Rattle.mt_dup.specs.Filling.{IsOutside, IsWritten}
-use Rattle.mt_dup.specs.Pairs.{AreColumns, HasOwn}
+use Rattle.mt_dup.specs.Pairs.{HasOwn}
 
 -- ---- loads
 
@@ -118,10 +118,6 @@ read_next s s' s'' first row col word words so_far some within more is = record 
       | inr other ↦ get_or-set_other words col c word 0 other ∙ so_far.others c above (omega (arith, other))
     ]
 
-pub read_all : (s s' : Sheet) (first row col : ℕ) (words : List ℕ) → Reading s s' first row col words → 32 ≤ col → AreColumns first row s.tree.table words
-read_all s s' first row col words so_far past =
-    let wide = all_columns s.tree.table.width in record { size = so_far.size ∙ sym wide; here = so_far.here; others = λ c some within. so_far.others c some (omega (arith, wide)) }
-
 -- ---- a row that is written at once
 
 -- words of one row stand before those of the next
@@ -129,20 +125,17 @@ apart : (v : Width) (to row c n : ℕ) → c < columns v → n ≤ columns v →
 apart Long to row c n within few (inl below) = inl (omega arith)
 apart Long to row c n within few (inr above) = inr (omega arith)
 
-module _ (parent : ℕ) (pair : Pair) (t : Table) (d d' : Sheet) (words : List ℕ) (columns_are : AreColumns parent pair.row t words) (drafted : AreDrafted pair.to 0 words d d') where
-  many : (v : Width) → length words ≡ columns v
-  many v = columns_are.size ∙ ap columns (one_width t.width v)
-
-  column_is : (c : ℕ) → c < columns t.width → column d'.tree.table pair.to c ≡ slice_index words c
+module _ (pair : Pair) (s s' d d' : Sheet) (parent col : ℕ) (words : List ℕ) (read : Reading s s' parent pair.row col words) (past : 32 ≤ col) (drafted : AreDrafted pair.to 0 words d d') where
+  column_is : (c : ℕ) → c < columns s.tree.table.width → column d'.tree.table pair.to c ≡ slice_index words c
   column_is c within =
       ap (λ (v : Width). slice_index d'.tree.table.words (columns v * pair.to + c)) (one_width d'.tree.table.width d.tree.table.width)
       ∙ (ap (λ (n : ℕ). slice_index d'.tree.table.words (n + c)) (sym (add-zero (columns d.tree.table.width * pair.to)))
-      ∙ drafted.put.here c (omega (arith, columns_are.size)))
+      ∙ drafted.put.here c (omega (arith, read.size, all_columns s.tree.table.width)))
 
-  pub own_copied : HasOwn parent pair t d'.tree.table
+  pub own_copied : HasOwn parent pair s.tree.table d'.tree.table
   own_copied = record {
-    first = column_is 0 (omega (arith, all_columns t.width)) ∙ columns_are.here;
-    others = λ c some within. column_is c within ∙ columns_are.others c some within;
+    first = column_is 0 (omega (arith, all_columns s.tree.table.width)) ∙ read.here;
+    others = λ c some within. column_is c within ∙ read.others c some (omega (arith, all_columns s.tree.table.width));
   }
 
   module _ (inside : pair.to < length d.lives) where
@@ -154,7 +147,7 @@ module _ (parent : ℕ) (pair : Pair) (t : Table) (d d' : Sheet) (words : List �
       rest = drafted.rest ∙ ap (λ (l : List Life). record d { tree = record d.tree { table = record d.tree.table { words = d'.tree.table.words } }; lives = l }) (sym lives_are);
       words = λ row c outside within.
           ap (λ (v : Width). slice_index d'.tree.table.words (columns v * row + c)) (one_width d'.tree.table.width d.tree.table.width)
-          ∙ drafted.put.others (columns d.tree.table.width * row + c) (apart d.tree.table.width pair.to row c (length words) within (omega (arith, many d.tree.table.width)) outside);
+          ∙ drafted.put.others (columns d.tree.table.width * row + c) (apart d.tree.table.width pair.to row c (length words) within (omega (arith, read.size, all_columns d.tree.table.width)) outside);
       lives = λ row outside. ap (λ (l : List Life). life_of l row) lives_are ∙ get_or-set_other d.lives pair.to row Draft New (λ e. other row outside e);
       drafts = λ row from to. let same : pair.to ≡ row = omega arith in subst (λ (n : ℕ). life_of d'.lives n ≡ Draft) same (ap (λ (l : List Life). life_of l pair.to) lives_are ∙ get_or-set_same d.lives pair.to Draft New inside);
     }

@@ -1,6 +1,6 @@
 -- What is written in one row of a copy.
 -- Source: this project's own.
-use Rattle.std.specs.Prelude.{◌≡◌, ◌≢◌, ℕ, ◌<◌, List, length, slice_index}
+use Rattle.std.specs.Prelude.{◌≡◌, ◌≢◌, ℕ, ◌<◌}
 use Rattle.mt_base.specs.Width.{columns}
 use Rattle.mt_rows.specs.Spans.{Table, column}
 use Rattle.mt_dup.specs.declared.columns.Pair.{Pair}
@@ -9,12 +9,6 @@ use Rattle.mt_dup.specs.declared.columns.Pair.{Pair}
 pub record IsWrittenAt (row col word : ℕ) (t t' : Table) : Type 0 where
   pub here : column t' row col ≡ word
   pub others : (c : ℕ) → c < columns t.width → c ≢ col → column t' row c ≡ column t row c
-
--- these are the columns of a row, but for the first
-pub record AreColumns (first row : ℕ) (t : Table) (words : List ℕ) : Type 0 where
-  pub size : length words ≡ columns t.width
-  pub here : slice_index words 0 ≡ first
-  pub others : (c : ℕ) → 0 < c → c < columns t.width → slice_index words c ≡ column t row c
 
 -- a row of the copy, in which the names of its children are still those of the tree
 pub record HasOwn (parent : ℕ) (pair : Pair) (t d : Table) : Type 0 where

@@ -4,7 +4,7 @@ ghost use Rattle.std.specs.Prelude.{◌+◌};
 ghost use Rattle.mt_rows.specs.Memory.{sheet_in};
 ghost use Rattle.mt_rows.specs.Sheet.{IsPlace, OnlyReads, IsFree, life_of};
 ghost use Rattle.mt_dup.specs.Filling.{IsWritten};
-ghost use Rattle.mt_dup.specs.Pairs.{IsWrittenAt, AreColumns, HasOwn};
+ghost use Rattle.mt_dup.specs.Pairs.{IsWrittenAt, HasOwn};
 
 use mt_layout::{MOST_WORDS, RowKind};
 use mt_rows::{PlainRows, Rows};
@@ -27,22 +27,8 @@ pub(crate) fn write(rows: &mut PlainRows, row: u32, col: u32, word: u64)
     rows.draft(row, col, word);
 }
 
-/// The columns of a row, with this word as the first.
-#[tactic(auto, using(crate::proofs::WrittenRows::one_read, crate::proofs::WrittenRows::reads_more, crate::proofs::WrittenRows::none_read, crate::proofs::WrittenRows::read_place, crate::proofs::WrittenRows::read_next, crate::proofs::WrittenRows::read_all))]
-fn columns_of<R: Rows>(src: &mut R, row: u32, first: u64) -> [u64; MOST_WORDS]
-    requires { IsPlace (R.sheet src.old).tree row 0 }
-    ensures columns { AreColumns first row (R.sheet src.old).tree.table result }
-    ensures rest { OnlyReads (R.sheet src.old) (R.sheet src.new) }
-{
-    let mut words = [first; MOST_WORDS];
-    for col in 1..MOST_WORDS {
-        words[col] = src.load(row, col as u32);
-    }
-    words
-}
-
 /// Writes a row of the copy, which has this parent word. The names in its slots are still those of the tree.
-#[tactic(auto, using(crate::proofs::WrittenRows::own_copied, crate::proofs::WrittenRows::row_written))]
+#[tactic(auto, using(crate::proofs::WrittenRows::none_read, crate::proofs::WrittenRows::one_read, crate::proofs::WrittenRows::read_place, crate::proofs::WrittenRows::read_next, crate::proofs::WrittenRows::own_copied, crate::proofs::WrittenRows::row_written))]
 pub(crate) fn copy_own<R: Rows>(src: &mut R, dst: &mut PlainRows, pair: Pair, parent: u64)
     requires row { IsPlace (R.sheet src.old).tree pair.row 0 }
     requires place { IsPlace (sheet_in dst.old).tree pair.to 0 }
@@ -51,6 +37,9 @@ pub(crate) fn copy_own<R: Rows>(src: &mut R, dst: &mut PlainRows, pair: Pair, pa
     ensures written { IsWritten pair.to (pair.to + 1) (sheet_in dst.old) (sheet_in dst.new) }
     ensures rest { OnlyReads (R.sheet src.old) (R.sheet src.new) }
 {
-    let words = columns_of(src, pair.row, parent);
+    let mut words = [parent; MOST_WORDS];
+    for col in 1..MOST_WORDS {
+        words[col] = src.load(pair.row, col as u32);
+    }
     dst.draft_columns(pair.to, 0, &words);
 }

@@ -1,5 +1,0 @@
-use Rattle.mt_dup.proofs.WrittenRows.{Reading}
-use Rattle.mt_dup.proofs.columns.columns_of.Given as goal
-
-abbrev pub invariant-loop-col : goal.invariant-loop-col
-invariant-loop-col g l = Reading (g.R.Rows.sheet l.initial.src) (g.R.Rows.sheet l.src) l.first l.row l.col l.words
