@@ -4,15 +4,21 @@ use std::alloc::{AllocError, Global};
 use std::process::Abort;
 use std::test::Fail;
 
+/// Adds what a line that is no step of its phase says, in words.
+fn push_other(text: &mut String, number: u64, item: &Item) -> Result<(), AllocError> {
+    match item {
+        Item::Tree { name, kind } => writeln!(text, "{number}: declares {name} for {kind}"),
+        Item::Lane { lane } => writeln!(text, "{number}: lane {lane}"),
+        Item::Dup { from, name } => writeln!(text, "{number}: copies tree {from} as {name}"),
+        Item::Check { tree } => writeln!(text, "{number}: checks tree {tree}"),
+        _ => writeln!(text, "{number}: joins"),
+    }
+}
+
 /// Adds what a line says, in words.
 fn push_meaning(text: &mut String, line: &Line) -> Result<(), AllocError> {
     let number = line.number;
     match line.item {
-        Item::Tree { name, kind } => writeln!(text, "{number}: declares {name} for {kind}"),
-        Item::Lane { lane } => writeln!(text, "{number}: lane {lane}"),
-        Item::Join => writeln!(text, "{number}: joins"),
-        Item::Dup { from, name } => writeln!(text, "{number}: copies tree {from} as {name}"),
-        Item::Check { tree } => writeln!(text, "{number}: checks tree {tree}"),
         Item::Write { tree, call } => writeln!(text, "{number}: tree {tree}, {call:?}"),
         Item::Ask { tree, query } => writeln!(text, "{number}: tree {tree}, {query:?}"),
         Item::Scan {
@@ -20,12 +26,11 @@ fn push_meaning(text: &mut String, line: &Line) -> Result<(), AllocError> {
             index,
             max,
             count,
-        } => {
-            writeln!(
-                text,
-                "{number}: tree {tree}, {count} steps from {index} to {max}"
-            )
-        }
+        } => writeln!(
+            text,
+            "{number}: tree {tree}, {count} steps from {index} to {max}"
+        ),
+        item => push_other(text, number, &item),
     }
 }
 
@@ -46,6 +51,35 @@ fn meaning(alloc: Global, log: &str) -> Result<String, AllocError> {
 fn expect(rt: &impl Abort, alloc: Global, log: &str, want: &str) -> Result<(), AllocError> {
     assert_eq!(rt; meaning(alloc, log)?.as_str(), want, "of {log}");
     Ok(())
+}
+
+/// Each row of a table is what stands in a log between these two texts, and behind an arrow the last line of what the log
+/// then says.
+fn expect_each(
+    rt: &impl Abort,
+    alloc: Global,
+    before: &str,
+    rows: &str,
+    behind: &str,
+) -> Result<(), Fail> {
+    for row in rows.lines() {
+        let Some((line, want)) = row.split_once(" -> ") else {
+            return Err("a row has no arrow".into());
+        };
+        let log = format!(in alloc; "{before}{line}{behind}")?;
+        let said = meaning(alloc, &log)?;
+        assert_eq!(rt; said.lines().last(), Some(want), "of {log}");
+    }
+    Ok(())
+}
+
+/// So many lines that are alike, behind the line that declares the tree `a`.
+fn alike(alloc: Global, lines: u32, line: &str) -> Result<String, AllocError> {
+    let mut log = String::from_str(alloc, "mtlog 1\ntree a range\n")?;
+    for _line in 0..lines {
+        log.push_str(line)?;
+    }
+    Ok(log)
 }
 
 #[test]
@@ -173,263 +207,238 @@ check a
 
 #[test]
 fn a_log_has_16_trees_at_the_most(rt: HostRuntime) -> Result<(), Fail> {
-    let mut log = String::from_str(rt.alloc(), "mtlog 1\n")?;
-    for tree in 1..=8 {
-        writeln!(log, "tree t{tree} range\ndup t{tree} c{tree}")?;
-    }
-    let cases = [
-        ("tree q range", "18 too many trees"),
-        ("dup t1 q", "18 too many trees"),
-        ("tree t1 range", "18 tree declared twice"),
-        ("dup t1 c8", "18 tree declared twice"),
-        ("dup q t1", "18 unknown tree"),
-        ("tree q heap", "18 bad kind"),
-        ("load c8 1\ntree q range", "19 not between phases"),
-        ("load c8 1\ndup t1 q", "19 not between phases"),
-        ("check c8", "19 no newline"),
-    ];
-    for (line, want) in cases {
-        let text = format!(in rt.alloc(); "{log}{line}\nload t1 1")?;
-        expect(&rt, rt.alloc(), &text, want)?;
-    }
-    Ok(())
+    let trees = "mtlog 1
+tree t1 range
+dup t1 c1
+tree t2 range
+dup t2 c2
+tree t3 range
+dup t3 c3
+tree t4 range
+dup t4 c4
+tree t5 range
+dup t5 c5
+tree t6 range
+dup t6 c6
+tree t7 range
+dup t7 c7
+tree t8 range
+dup t8 c8
+";
+    let rows = "tree q range -> 18 too many trees
+dup t1 q -> 18 too many trees
+tree t1 range -> 18 tree declared twice
+dup t1 c8 -> 18 tree declared twice
+dup q t1 -> 18 unknown tree
+tree q heap -> 18 bad kind
+check c8 -> 19 no newline";
+    expect_each(&rt, rt.alloc(), trees, rows, "\nload t1 1")?;
+    let rows = "tree q range -> 19 not between phases
+dup t1 q -> 19 not between phases";
+    let stepped = format!(in rt.alloc(); "{trees}load c8 1\n")?;
+    expect_each(&rt, rt.alloc(), &stepped, rows, "\nload t1 1")
 }
 
 #[test]
 fn each_test_of_a_line_refuses_it(rt: HostRuntime) -> Result<(), Fail> {
-    let cases = [
-        ("", "1 no header"),
-        ("\n", "1 no header"),
-        ("mtlog 2\n", "1 no header"),
-        ("mtlog 1 \n", "1 no header"),
-        ("mtlog 1\r\n", "1 no header"),
-        ("#\nmtlog 1\n", "1 no header"),
-        ("mtlog 1", "1 no newline"),
-        ("mtlog 1\ntree a range\nstore a 0 9 5", "3 no newline"),
-        ("mtlog 1\n\n#", "3 no newline"),
-        ("mtlog 1\ntree a range\nfrob a 1\n", "3 unknown word"),
-        ("mtlog 1\n # a tree\n", "2 unknown word"),
-        (
-            "mtlog 1\ntree a range\nstore a 1 1\n",
-            "3 wrong number of fields",
-        ),
-        ("mtlog 1\ntree A range\n", "2 bad name"),
-        ("mtlog 1\ntree abcdefghijklmn_17 range\n", "2 bad name"),
-        ("mtlog 1\ntree  range\n", "2 bad name"),
-        ("mtlog 1\ntree a range\nload b 1\n", "3 unknown tree"),
-        ("mtlog 1\nload a 1\ntree a range\n", "2 unknown tree"),
-        (
-            "mtlog 1\ntree a range\ntree a range\n",
-            "3 tree declared twice",
-        ),
-        ("mtlog 1\ntree a heap\n", "2 bad kind"),
-        (
-            "mtlog 1\ntree a range\nstore a 0 18446744073709551616 5\n",
-            "3 bad number",
-        ),
-        ("mtlog 1\ntree a range\n\n#\nload a x\n", "5 bad number"),
-        (
-            "mtlog 1\ntree a range\nload a 1\ntree b range\n",
-            "4 not between phases",
-        ),
-        (
-            "mtlog 1\ntree a range\nscan a 0 9 1\ntree b range\n",
-            "4 not between phases",
-        ),
-        (
-            "mtlog 1\ntree a range\nload a 1\ncheck a\n",
-            "4 not between phases",
-        ),
-        ("mtlog 1\ntree a range\nscan a 0 9 0\n", "3 bad count"),
-    ];
-    for (log, want) in cases {
-        expect(&rt, rt.alloc(), log, want)?;
-    }
-    Ok(())
+    let alloc = rt.alloc();
+    expect_each(
+        &rt,
+        alloc,
+        "",
+        " -> 1 no header\nmtlog 1 -> 1 no newline",
+        "",
+    )?;
+    let rows = " -> 1 no header
+mtlog 2 -> 1 no header
+mtlog 1  -> 1 no header
+mtlog 1\r -> 1 no header";
+    expect_each(&rt, alloc, "", rows, "\n")?;
+    let rows = " # a tree -> 2 unknown word
+tree A range -> 2 bad name
+tree abcdefghijklmn_17 range -> 2 bad name
+tree  range -> 2 bad name
+tree a heap -> 2 bad kind";
+    expect_each(&rt, alloc, "mtlog 1\n", rows, "\n")?;
+    let rows = "frob a 1 -> 3 unknown word
+store a 1 1 -> 3 wrong number of fields
+load b 1 -> 3 unknown tree
+tree a range -> 3 tree declared twice
+store a 0 18446744073709551616 5 -> 3 bad number
+scan a 0 9 0 -> 3 bad count";
+    expect_each(&rt, alloc, "mtlog 1\ntree a range\n", rows, "\n")?;
+    let rows = "tree b range -> 4 not between phases
+check a -> 4 not between phases";
+    expect_each(&rt, alloc, "mtlog 1\ntree a range\nload a 1\n", rows, "\n")?;
+    let row = "tree b range -> 4 not between phases";
+    expect_each(
+        &rt,
+        alloc,
+        "mtlog 1\ntree a range\nscan a 0 9 1\n",
+        row,
+        "\n",
+    )?;
+    expect_each(
+        &rt,
+        alloc,
+        "mtlog 1\n",
+        "load a 1 -> 2 unknown tree",
+        "\ntree a range\n",
+    )?;
+    expect_each(
+        &rt,
+        alloc,
+        "mtlog 1\ntree a range\n\n#\n",
+        "load a x -> 5 bad number",
+        "\n",
+    )?;
+    expect_each(
+        &rt,
+        alloc,
+        "mtlog 1\ntree a range\n",
+        "store a 0 9 5 -> 3 no newline",
+        "",
+    )?;
+    expect_each(&rt, alloc, "#\n", "mtlog 1 -> 1 no header", "\n")?;
+    expect_each(&rt, alloc, "mtlog 1\n\n", "# -> 3 no newline", "")
 }
 
 #[test]
 fn a_line_is_refused_by_its_first_failed_test(rt: HostRuntime) -> Result<(), Fail> {
-    let cases = [
-        ("frob A 1 2 3 4 5 6 7 8 9", "5 unknown word"),
-        ("Load a 1", "5 unknown word"),
-        (" load a 1", "5 unknown word"),
-        ("\r", "5 unknown word"),
-        ("load a b 1 2 3 4 5 6 7", "5 wrong number of fields"),
-        ("load A", "5 wrong number of fields"),
-        ("load  a 1", "5 wrong number of fields"),
-        ("load a 1 ", "5 wrong number of fields"),
-        ("clear ", "5 bad name"),
-        ("load  1", "5 bad name"),
-        ("load A x", "5 bad name"),
-        ("load b x", "5 unknown tree"),
-        ("store a x 1 y", "5 bad number"),
-        ("load a 1\r", "5 bad number"),
-        ("tree A heap", "5 bad name"),
-        ("tree a heap", "5 tree declared twice"),
-        ("tree a alloc", "5 tree declared twice"),
-        ("tree b heap", "5 bad kind"),
-        ("tree b alloc", "5 not between phases"),
-        ("tree b range", "5 not between phases"),
-        ("scan", "5 wrong number of fields"),
-        ("scan A x x 0", "5 bad name"),
-        ("scan b x x 0", "5 unknown tree"),
-        ("scan a x 9 0", "5 bad number"),
-        ("scan a 1 x 0", "5 bad number"),
-        ("scan a 1 9 0", "5 bad count"),
-        ("alloc a 1 2 3 4 5 6 7 8 9", "5 wrong number of fields"),
-        ("ralloc a 1 2 3", "5 wrong number of fields"),
-        ("gap a 1 2 3 4", "5 wrong number of fields"),
-        ("rgap a 1 2", "5 wrong number of fields"),
-        ("alloc A x 2 3 4", "5 bad name"),
-        ("ralloc b x 2 3 4", "5 unknown tree"),
-        ("gap a x 2 3", "5 bad number"),
-        ("rgap a 1 x 3", "5 bad number"),
-        ("gap a 1 2 x", "5 bad number"),
-        ("alloc a 1 2 3 x", "5 bad number"),
-        ("join", "6 no newline"),
-        ("join ", "5 wrong number of fields"),
-        ("dup a", "5 wrong number of fields"),
-        ("dup A B", "5 bad name"),
-        ("dup b B", "5 unknown tree"),
-        ("dup a B", "5 bad name"),
-        ("dup a a", "5 tree declared twice"),
-        ("dup a b", "5 not between phases"),
-        ("check a a", "5 wrong number of fields"),
-        ("check A", "5 bad name"),
-        ("check b", "5 unknown tree"),
-        ("check a", "5 not between phases"),
-        ("pstore a 1 2", "5 wrong number of fields"),
-        ("pstore a 1 x 3", "5 bad number"),
-        ("pstore a 1 2 3", "6 no newline"),
-        ("lane 1", "6 no newline"),
-        ("lane 16", "5 bad lane"),
-        ("lane max", "5 bad lane"),
-        ("lane a", "5 bad lane"),
-        ("lane ", "5 bad lane"),
-        ("lane", "5 wrong number of fields"),
-        ("lane 1 2", "5 wrong number of fields"),
-        ("lane 16 2", "5 wrong number of fields"),
-    ];
-    for (line, want) in cases {
-        let log = format!(in rt.alloc();
-            "mtlog 1\n# a tree\ntree a range\nload a 1\n{line}\nload a 2"
-        )?;
-        expect(&rt, rt.alloc(), &log, want)?;
-    }
-    Ok(())
-}
-
-/// The index that a line loads.
-fn loaded_index(alloc: Global, line: &str) -> Result<Option<u64>, AllocError> {
-    let text = format!(in alloc; "mtlog 1\ntree a range\n{line}\n")?;
-    let Ok(log) = read_log(alloc, text.as_bytes()) else {
-        return Ok(None);
-    };
-    Ok(match log.lines.as_slice().last() {
-        Some(
-            Line {
-                item: Item::Ask {
-                    query: Query::Load { index },
-                    ..
-                },
-                ..
-            },
-        ) => Some(*index),
-        _ => None,
-    })
+    let before = "mtlog 1\n# a tree\ntree a range\nload a 1\n";
+    let rows = "frob A 1 2 3 4 5 6 7 8 9 -> 5 unknown word
+Load a 1 -> 5 unknown word
+ load a 1 -> 5 unknown word
+\r -> 5 unknown word
+load a b 1 2 3 4 5 6 7 -> 5 wrong number of fields
+load A -> 5 wrong number of fields
+load  a 1 -> 5 wrong number of fields
+load a 1  -> 5 wrong number of fields
+clear  -> 5 bad name
+load  1 -> 5 bad name
+load A x -> 5 bad name
+load b x -> 5 unknown tree
+store a x 1 y -> 5 bad number
+load a 1\r -> 5 bad number
+tree A heap -> 5 bad name
+tree a heap -> 5 tree declared twice
+tree a alloc -> 5 tree declared twice
+tree b heap -> 5 bad kind
+tree b alloc -> 5 not between phases
+tree b range -> 5 not between phases
+scan -> 5 wrong number of fields
+scan A x x 0 -> 5 bad name
+scan b x x 0 -> 5 unknown tree
+scan a x 9 0 -> 5 bad number
+scan a 1 x 0 -> 5 bad number
+scan a 1 9 0 -> 5 bad count
+alloc a 1 2 3 4 5 6 7 8 9 -> 5 wrong number of fields
+ralloc a 1 2 3 -> 5 wrong number of fields
+gap a 1 2 3 4 -> 5 wrong number of fields
+rgap a 1 2 -> 5 wrong number of fields
+alloc A x 2 3 4 -> 5 bad name
+ralloc b x 2 3 4 -> 5 unknown tree
+gap a x 2 3 -> 5 bad number
+rgap a 1 x 3 -> 5 bad number
+gap a 1 2 x -> 5 bad number
+alloc a 1 2 3 x -> 5 bad number
+join -> 6 no newline
+join  -> 5 wrong number of fields
+dup a -> 5 wrong number of fields
+dup A B -> 5 bad name
+dup b B -> 5 unknown tree
+dup a B -> 5 bad name
+dup a a -> 5 tree declared twice
+dup a b -> 5 not between phases
+check a a -> 5 wrong number of fields
+check A -> 5 bad name
+check b -> 5 unknown tree
+check a -> 5 not between phases
+pstore a 1 2 -> 5 wrong number of fields
+pstore a 1 x 3 -> 5 bad number
+pstore a 1 2 3 -> 6 no newline
+lane 1 -> 6 no newline
+lane 16 -> 5 bad lane
+lane max -> 5 bad lane
+lane a -> 5 bad lane
+lane  -> 5 bad lane
+lane -> 5 wrong number of fields
+lane 1 2 -> 5 wrong number of fields
+lane 16 2 -> 5 wrong number of fields";
+    expect_each(&rt, rt.alloc(), before, rows, "\nload a 2")
 }
 
 #[test]
 fn numbers_are_read_up_to_the_greatest(rt: HostRuntime) -> Result<(), Fail> {
-    let top = Some(18446744073709551615);
-    let cases = [
-        ("0", Some(0)),
-        ("max", top),
-        ("Max", None),
-        ("maxx", None),
-        ("18446744073709551615", top),
-        ("18446744073709551616", None),
-        ("99999999999999999999", None),
-        ("00000000000000000007", Some(7)),
-        ("000000000000000000007", None),
-        ("0xffffffffffffffff", top),
-        ("0xFFFFffffFFFFffff", top),
-        ("0x0000000000000010", Some(16)),
-        ("0x00000000000000010", None),
-        ("0x10000000000000000", None),
-        ("0xaF9", Some(2809)),
-        ("0x", None),
-        ("0xg", None),
-        ("0xG", None),
-        ("0x+1", None),
-        ("0X1", None),
-        ("x1", None),
-        ("1a", None),
-        ("+1", None),
-        ("-1", None),
-        ("", None),
-    ];
-    for (number, want) in cases {
-        let line = format!(in rt.alloc(); "load a {number}")?;
-        assert_eq!(rt; loaded_index(rt.alloc(), &line)?, want, "at {number}");
-    }
-    Ok(())
+    let rows = "0 -> 3: tree 0, Load { index: 0 }
+max -> 3: tree 0, Load { index: 18446744073709551615 }
+18446744073709551615 -> 3: tree 0, Load { index: 18446744073709551615 }
+00000000000000000007 -> 3: tree 0, Load { index: 7 }
+0xffffffffffffffff -> 3: tree 0, Load { index: 18446744073709551615 }
+0xFFFFffffFFFFffff -> 3: tree 0, Load { index: 18446744073709551615 }
+0x0000000000000010 -> 3: tree 0, Load { index: 16 }
+0xaF9 -> 3: tree 0, Load { index: 2809 }
+Max -> 3 bad number
+maxx -> 3 bad number
+18446744073709551616 -> 3 bad number
+99999999999999999999 -> 3 bad number
+000000000000000000007 -> 3 bad number
+0x00000000000000010 -> 3 bad number
+0x10000000000000000 -> 3 bad number
+0x -> 3 bad number
+0xg -> 3 bad number
+0xG -> 3 bad number
+0x+1 -> 3 bad number
+0X1 -> 3 bad number
+x1 -> 3 bad number
+1a -> 3 bad number
++1 -> 3 bad number
+-1 -> 3 bad number
+ -> 3 bad number";
+    expect_each(
+        &rt,
+        rt.alloc(),
+        "mtlog 1\ntree a range\nload a ",
+        rows,
+        "\n",
+    )
 }
 
 #[test]
 fn a_scan_has_from_1_to_65536_steps(rt: HostRuntime) -> Result<(), Fail> {
-    let cases = [
-        ("1", Some(1)),
-        ("65536", Some(65536)),
-        ("0x10000", Some(65536)),
-        ("00000000000000000007", Some(7)),
-        ("0", None),
-        ("65537", None),
-        ("4294967297", None),
-        ("max", None),
-        ("x", None),
-        ("000000000000000000007", None),
-        ("", None),
-    ];
-    for (count, steps) in cases {
-        let log = format!(in rt.alloc(); "mtlog 1\ntree a range\nscan a 0 max {count}\n")?;
-        let want = match steps {
-            Some(steps) => format!(in rt.alloc();
-                "2: declares a for range\n3: tree 0, {steps} steps from 0 to 18446744073709551615\n"
-            )?,
-            None => format!(in rt.alloc(); "3 bad count")?,
-        };
-        expect(&rt, rt.alloc(), &log, &want)?;
-    }
-    Ok(())
+    let rows = "1 -> 3: tree 0, 1 steps from 0 to 18446744073709551615
+65536 -> 3: tree 0, 65536 steps from 0 to 18446744073709551615
+0x10000 -> 3: tree 0, 65536 steps from 0 to 18446744073709551615
+00000000000000000007 -> 3: tree 0, 7 steps from 0 to 18446744073709551615
+0 -> 3 bad count
+65537 -> 3 bad count
+4294967297 -> 3 bad count
+max -> 3 bad count
+x -> 3 bad count
+000000000000000000007 -> 3 bad count
+ -> 3 bad count";
+    let before = "mtlog 1\ntree a range\nscan a 0 max ";
+    expect_each(&rt, rt.alloc(), before, rows, "\n")
 }
 
 #[test]
 fn all_scans_have_a_million_steps_at_the_most(rt: HostRuntime) -> Result<(), Fail> {
     // A good line leaves the last line, which lacks its end, as the first bad one.
-    let cases = [
-        (16, 62500, "load a 1", "20 no newline"),
-        (16, 62500, "scan a 0 9 1", "19 too many scan steps"),
-        (16, 62500, "scan a 0 9 65536", "19 too many scan steps"),
-        (16, 62500, "scan a 0 9 65537", "19 bad count"),
-        (16, 62500, "scan a 0 9 0", "19 bad count"),
-        (16, 62500, "scan a x 9 1", "19 bad number"),
-        (16, 62500, "scan b 0 9 1", "19 unknown tree"),
-        (16, 62500, "scan a 0 9", "19 wrong number of fields"),
-        (15, 65536, "scan a 0 max 16960", "19 no newline"),
-        (15, 65536, "scan a 0 max 16961", "18 too many scan steps"),
-        (15, 65536, "scan a 0 max 65536", "18 too many scan steps"),
-    ];
-    for (scans, count, line, want) in cases {
-        let mut log = String::from_str(rt.alloc(), "mtlog 1\ntree a range\n")?;
-        for _scan in 0..scans {
-            writeln!(log, "scan a 0 9 {count}")?;
-        }
-        write!(log, "{line}\nload a 2")?;
-        expect(&rt, rt.alloc(), &log, want)?;
-    }
-    Ok(())
+    let full = alike(rt.alloc(), 16, "scan a 0 9 62500\n")?;
+    let rows = "load a 1 -> 20 no newline
+scan a 0 9 1 -> 19 too many scan steps
+scan a 0 9 65536 -> 19 too many scan steps
+scan a 0 9 65537 -> 19 bad count
+scan a 0 9 0 -> 19 bad count
+scan a x 9 1 -> 19 bad number
+scan b 0 9 1 -> 19 unknown tree
+scan a 0 9 -> 19 wrong number of fields";
+    expect_each(&rt, rt.alloc(), &full, rows, "\nload a 2")?;
+    let lacking = alike(rt.alloc(), 15, "scan a 0 9 65536\n")?;
+    let rows = "scan a 0 max 16960 -> 19 no newline
+scan a 0 max 16961 -> 18 too many scan steps
+scan a 0 max 65536 -> 18 too many scan steps";
+    expect_each(&rt, rt.alloc(), &lacking, rows, "\nload a 2")
 }
 
 /// A log that is read and printed again.
@@ -509,12 +518,12 @@ scan b 5 9 65536
     Ok(())
 }
 
-fn wrote(line: u64, call: u64, reply: Reply) -> Entry {
+pub fn wrote(line: u64, call: u64, reply: Reply) -> Entry {
     let said = Said::Wrote { call, reply };
     Entry { line, said }
 }
 
-fn got(line: u64, lo: u64, hi: u64, value: Answer) -> Entry {
+pub fn got(line: u64, lo: u64, hi: u64, value: Answer) -> Entry {
     let said = Said::Got { lo, hi, value };
     Entry { line, said }
 }

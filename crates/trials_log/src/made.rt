@@ -1,5 +1,6 @@
 ghost use Rattle.std.specs.Prelude.{◌≤◌};
 
+use crate::log::{got, wrote};
 use mt_base::{Kind, NoMemory, Range, Reply, Shortage};
 use mt_log::{
     Answer, Entries, Entry, Listing, Listings, RangeList, Said, Transcript, Word, print_log,
@@ -51,20 +52,6 @@ lane 4
     Ok(())
 }
 
-fn wrote(reply: Reply) -> Entry {
-    let said = Said::Wrote { call: 1, reply };
-    Entry { line: 4, said }
-}
-
-fn got(value: Answer) -> Entry {
-    let said = Said::Got {
-        lo: 1,
-        hi: 2,
-        value,
-    };
-    Entry { line: 5, said }
-}
-
 fn range(first: u64, last: u64) -> Range {
     Range {
         first,
@@ -95,9 +82,9 @@ fn line(alloc: Global, entries: &[Entry], lists: Vec<Listing>) -> Result<String,
 fn a_run_of_the_log_of_three_steps_is_summed_up(rt: HostRuntime) -> Result<(), Fail> {
     let alloc = rt.alloc();
     let entries = [
-        wrote(Reply::None),
-        wrote(Reply::Start(0)),
-        wrote(Reply::Start(276)),
+        wrote(4, 1, Reply::None),
+        wrote(4, 1, Reply::Start(0)),
+        wrote(4, 1, Reply::Start(276)),
     ];
     let lists = vec![in alloc; listing(alloc, &[range(0, 275), range(276, 636)])?]?;
     let want =
@@ -117,16 +104,16 @@ fn each_word_is_counted_by_itself(rt: HostRuntime) -> Result<(), Fail> {
         by: None,
     };
     let entries = [
-        wrote(Reply::Ok),
-        wrote(Reply::Was(5)),
-        wrote(Reply::None),
-        got(Answer::None),
-        wrote(Reply::Exists),
-        wrote(Reply::Invalid),
-        wrote(Reply::Busy),
-        wrote(Reply::NoNodes(short)),
-        got(Answer::Entry(5)),
-        got(Answer::Range(range(0, 275))),
+        wrote(4, 1, Reply::Ok),
+        wrote(4, 1, Reply::Was(5)),
+        wrote(4, 1, Reply::None),
+        got(5, 1, 2, Answer::None),
+        wrote(4, 1, Reply::Exists),
+        wrote(4, 1, Reply::Invalid),
+        wrote(4, 1, Reply::Busy),
+        wrote(4, 1, Reply::NoNodes(short)),
+        got(5, 1, 2, Answer::Entry(5)),
+        got(5, 1, 2, Answer::Range(range(0, 275))),
         Entry {
             line: 6,
             said: Said::Copied { count: 1 },
