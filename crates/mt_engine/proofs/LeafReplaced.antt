@@ -1,15 +1,12 @@
 -- A path along which the way to an index goes when its leaf was replaced, as the tree tells it.
-use Rattle.std.specs.Prelude.{Option, IfSome}
-use Rattle.std.proofs.Common.{◌≡◌, ◌≢◌, ℕ, suc, ◌+◌, ◌-◌, ◌<◌, ◌≤◌, List, None, Some, length, sym, ap, ◌∙◌, subst, arith}
+use Rattle.std.proofs.Common.{◌≡◌, ◌≢◌, ℕ, suc, ◌+◌, ◌-◌, ◌<◌, ◌≤◌, List, Some, length, sym, ap, ◌∙◌, subst, arith}
 use Rattle.mt_base.specs.declared.kinds.Kind.TheVariants as trees
 use Rattle.mt_base.specs.declared.widths.Width.{Width}
-use Rattle.mt_base.specs.Width.{columns, greatest, first_row}
+use Rattle.mt_base.specs.Width.{columns, greatest}
 use Rattle.mt_layout.specs.declared.names.RowKind.TheVariants.{Gapped}
-use Rattle.mt_layout.specs.Rows.{row_in}
+use Rattle.mt_layout.specs.Rows.{named_row}
 use Rattle.mt_layout.specs.Columns.{slot_column}
 use Rattle.mt_layout.specs.Sizes.{slots_of}
-use Rattle.mt_layout.proofs.NameLaws.{Names-named_kind}
-use Rattle.mt_layout.proofs.RowSizes.{some_columns}
 use Rattle.mt_path.specs.declared.paths.PathStep.{PathStep}
 use Rattle.mt_path.specs.Paths.{step_at, step_in, path_in}
 use Rattle.mt_path.proofs.TreePaths.{row_of, step_of, levels, step, lawful, slot_used}
@@ -18,11 +15,11 @@ use Rattle.mt_rows.specs.declared.rows.Place.{Place}
 use Rattle.mt_rows.specs.declared.rows.Place.TheVariants.{Slot}
 use Rattle.mt_rows.specs.Spans.{spans_in}
 use Rattle.mt_rows.specs.Laws.{Tree, IsRow, Stands}
-use Rattle.mt_rows.specs.Sheet.{Rooted, IsPlace, word_at}
+use Rattle.mt_rows.specs.Sheet.{Rooted, word_at}
 use Rattle.mt_rows.specs.Publish.{tree_as, IsTreeOf, IsReached}
 use Rattle.mt_rows.proofs.FewSpans.{row_most}
 use Rattle.mt_gap.specs.Mending.{IsAlong}
-use Rattle.mt_engine.specs.Mends.{WasWay, IsPublishedAt}
+use Rattle.mt_engine.specs.Mends.{WasWay}
 use Rattle.mt_engine.proofs.NewLeaf.{along_now}
 use Rattle.mt_engine.proofs.SameHeight.{levels_same}
 
@@ -63,13 +60,6 @@ module _ (was now : Rooted) (place : Place) (path : List PathStep) (index : ℕ)
   row : IsRow t 1 (row_of t d index)
   row = lawful t (suc d) stands index d 1 within_then (omega arith)
 
-  pub above_place : IsPlace now above.row 0
-  above_place = subst (λ (s : PathStep). IsPlace now s.row 0) (sym above_in) (record {
-    first = (Names-named_kind (row_of t d index).word Gapped row.name.named).0.0;
-    last = subst (λ (n : ℕ). row_in (row_of t d index).word < first_row + n) (sym w.rows) row.name.in_table;
-    column = some_columns now.table.width;
-  })
-
   pub above_slot : above.slot < slots_of now.table.width Gapped
   above_slot =
       let used = slot_used t (suc d) stands index d within_then (omega arith) in
@@ -77,17 +67,13 @@ module _ (was now : Rooted) (place : Place) (path : List PathStep) (index : ℕ)
       let low : above.slot < length (spans_in was.table (row_of t d index)) = subst (λ (s : PathStep). s.slot < length (spans_in was.table (row_of t d index))) (sym above_is) used in
       subst (λ (v : Width). above.slot < slots_of v Gapped) (sym width) (omega arith)
 
-  pub goes_along : (leaf : ℕ) → IsPublishedAt now place above leaf → IsAlong path leaf (path_in now.table now.root index)
-  goes_along leaf published =
+  pub goes_along : (leaf : ℕ) → place ≡ Slot above.row (slot_column (slots_of now.table.width Gapped) above.slot) → named_row (word_at now above.row (slot_column (slots_of now.table.width Gapped) above.slot)) ≡ Some leaf → IsAlong path leaf (path_in now.table now.root index)
+  goes_along leaf at named =
       let col = slot_column (slots_of now.table.width Gapped) above.slot in
-      let root = w.root above.row col published.at in
+      let root = w.root above.row col at in
       let kept : (r c : ℕ) → IsReached was r → 0 < c → c < columns was.table.width → Slot above.row col ≢ Slot r c → word_at now r c ≡ word_at was r c =
-      λ r c reached some_column inside other. w.kept r c reached some_column inside (λ same. other (sym published.at ∙ same)) in
+      λ r c reached some_column inside other. w.kept r c reached some_column inside (λ same. other (sym at ∙ same)) in
       let stood' = some_tree (tree_as trees.Alloc now) tree.words (λ empty. some (sym root ∙ empty)) in
       let same = levels_same trees.Alloc was now (suc d) stood'.0 above.row col stands stood'.1 width root kept in
       subst (λ (l : List PathStep). IsAlong l leaf (path_in now.table now.root index)) (sym w.way)
-      (along_now was now d above.row col index stands (subst (Stands (tree_as trees.Alloc now)) same stood'.1) width root within_then kept (ap (λ (s : PathStep). s.row) above_is) (λ i. slots_of (width i) Gapped + (above_is i).slot) leaf published.named)
-
-pub some_more : (r : Option ℕ) (P Q : ℕ → Type 0) → ((n : ℕ) → P n → Q n) → IfSome r P → IfSome r Q
-some_more None P Q more is = tt
-some_more (Some n) P Q more is = more n is
+      (along_now was now d above.row col index stands (subst (Stands (tree_as trees.Alloc now)) same stood'.1) width root within_then kept (ap (λ (s : PathStep). s.row) above_is) (λ i. slots_of (width i) Gapped + (above_is i).slot) leaf named)

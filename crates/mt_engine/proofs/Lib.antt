@@ -6,6 +6,7 @@ pub mod FreshEngine
 pub mod GapsStay
 pub mod LeafEnds
 pub mod LeafReplaced
+pub mod LeafTold
 pub mod Leaving
 pub mod Levelled
 pub mod MapPlaces

@@ -1,14 +1,14 @@
 -- The gap words of a tree behind a replacement of rows: which may be wrong, and what is left when they are mended.
 -- Source: the kernel's lib/maple_tree.c, mas_update_gap, which goes up from a leaf that has changed.
-use Rattle.std.specs.Prelude.{◌≡◌, ◌≢◌, ℕ, ◌<◌, ◌≤◌, Bool, List, Some}
+use Rattle.std.specs.Prelude.{◌≡◌, ◌≢◌, ℕ, ◌-◌, ◌<◌, ◌≤◌, Bool, List, length}
 use Rattle.mt_base.specs.declared.kinds.Kind.{Kind}
+use Rattle.mt_base.specs.declared.widths.Width.{Width}
 use Rattle.mt_base.specs.Width.{columns, greatest}
 use Rattle.mt_layout.specs.declared.names.RowKind.TheVariants.{Gapped}
 use Rattle.mt_layout.specs.Columns.{slot_column}
-use Rattle.mt_layout.specs.Rows.{named_row}
 use Rattle.mt_layout.specs.Sizes.{slots_of}
 use Rattle.mt_path.specs.declared.paths.PathStep.{PathStep}
-use Rattle.mt_path.specs.Paths.{path_in}
+use Rattle.mt_path.specs.Paths.{path_in, step_at}
 use Rattle.mt_rows.specs.declared.rows.Place.{Place}
 use Rattle.mt_rows.specs.declared.rows.Place.TheVariants.{Slot}
 use Rattle.mt_rows.specs.Gaps.{HasGapsBut}
@@ -37,10 +37,10 @@ pub record WasWay (kind : Kind) (was now : Rooted) (place : Place) (path : List 
   pub root : (row col : ℕ) → place ≡ Slot row col → now.root ≡ was.root
   pub kept : (row col : ℕ) → IsReached was row → 0 < col → col < columns was.table.width → place ≢ Slot row col → word_at now row col ≡ word_at was row col
 
--- The place is the slot of a step in a row with gaps, and the name of this row stands there.
-pub record IsPublishedAt (t : Rooted) (place : Place) (above : PathStep) (row : ℕ) : Type 0 where
-  pub at : place ≡ Slot above.row (slot_column (slots_of t.table.width Gapped) above.slot)
-  pub named : named_row (word_at t above.row (slot_column (slots_of t.table.width Gapped) above.slot)) ≡ Some row
+-- The place is the slot in which a path enters its leaf, in a row with gaps.
+pub record IsPlaceOfLeaf (width : Width) (place : Place) (path : List PathStep) : Type 0 where
+  pub many : 2 ≤ length path
+  pub at : place ≡ Slot (step_at path (length path - 2)).row (slot_column (slots_of width Gapped) (step_at path (length path - 2)).slot)
 
 -- They are lawful, and stand for the same map by the same rows. Nothing but words of rows has changed.
 pub record IsMendedAt (kind : Kind) (s s' : Sheet) : Type 0 where

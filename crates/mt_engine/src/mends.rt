@@ -1,54 +1,36 @@
 //! Gap words behind a replacement of rows.
 
-ghost use Rattle.std.specs.Prelude.{◌≡◌, ◌+◌, ◌≤◌, ◌<◌, ℕ, IfSome, length};
+ghost use Rattle.std.specs.Prelude.{◌≡◌, ◌+◌, ◌-◌, ◌≤◌, ◌<◌, ℕ, IsTrue, length};
 ghost use Rattle.mt_base.specs.declared.kinds.Kind.TheVariants as trees;
-ghost use Rattle.mt_base.specs.Width.{greatest};
-ghost use Rattle.mt_path.specs.Paths.{path_in, step_at};
-ghost use Rattle.mt_rows.specs.Publish.{IsTreeOf};
+ghost use Rattle.mt_path.specs.Paths.{step_at};
 ghost use Rattle.mt_layout.specs.declared.names.RowKind.TheVariants.{Gapped};
 ghost use Rattle.mt_layout.specs.Sizes.{slots_of};
-ghost use Rattle.mt_rows.specs.Sheet.{IsPlace, OnlyReads, Rooted};
-ghost use Rattle.mt_gap.specs.Mending.{IsAlong};
-ghost use Rattle.mt_engine.specs.Mends.{MayMendAt, WasWay, IsPublishedAt, IsMendedAt};
+ghost use Rattle.mt_rows.specs.Sheet.{Rooted};
+ghost use Rattle.mt_splice.specs.Splice.{TellsAt};
+ghost use Rattle.mt_engine.specs.Mends.{MayMendAt, WasWay, IsPlaceOfLeaf, IsMendedAt};
 
-use mt_base::Kind;
-use mt_gap::mend_way;
-use mt_layout::{RowKind, row_of, slots};
-use mt_path::{Path, PathStep, walk_by_halves};
+use mt_base::{Kind, Width};
+use mt_gap::{mend_along, mend_way};
+use mt_layout::{RowKind, slots};
+use mt_path::{Path, walk_by_halves};
 use mt_rows::{Place, Rows};
+use mt_splice::Spliced;
 
-/// The row whose name was published in the slot of a step in a row with gaps, if this is the place. That word alone is loaded.
-fn load_published<R: Rows>(rows: &mut R, place: Place, above: PathStep) -> Option<u32>
-    requires row { IsPlace (R.sheet rows.old).tree above.row 0 }
-    requires slot { above.slot < slots_of (R.sheet rows.old).tree.table.width Gapped }
-    ensures row { IfSome result (λ row. IsPublishedAt (R.sheet rows.old).tree place above row) }
-    ensures rest { OnlyReads (R.sheet rows.old) (R.sheet rows.new) }
-{
-    let column = slots(rows.width(), RowKind::Gapped) + above.slot;
-    let slot = Place::Slot {
-        row: above.row,
-        col: column,
-    };
-    if place != slot {
-        return None;
-    }
-    row_of(rows.load(above.row, column))
-}
-
-/// The leaf on the way to an index, where just that was published in the place of the leaf of a path that led there before: so
-/// the way goes along the path.
-fn new_leaf<R: Rows>(rows: &mut R, place: Place, path: &Path, index: u64) -> Option<u32>
-    requires tree { IsTreeOf (R.sheet rows.old).tree trees.Alloc }
-    requires index { index ≤ greatest (R.sheet rows.old).tree.table.width }
-    requires was { (was : Rooted) × WasWay trees.Alloc was (R.sheet rows.old).tree place path.now.items index }
-    ensures leaf { IfSome result (λ leaf. IsAlong path.now.items leaf (path_in (R.sheet rows.old).tree.table (R.sheet rows.old).tree.root index)) }
-    ensures rest { OnlyReads (R.sheet rows.old) (R.sheet rows.new) }
+/// Whether a place is the slot in which a path enters its leaf, in a row with gaps.
+fn is_of_leaf(width: Width, place: Place, path: &Path) -> bool
+    requires slot { 2 ≤ length path.now.items → (step_at path.now.items (length path.now.items - 2)).slot < slots_of width Gapped }
+    ensures { IsTrue result → IsPlaceOfLeaf width place path.now.items }
 {
     let levels = path.len();
     if levels < 2 {
-        return None;
+        return false;
     }
-    load_published(rows, place, path[levels - 2])
+    let above = path[levels - 2];
+    place
+        == Place::Slot {
+            row: above.row,
+            col: slots(width, RowKind::Gapped) + above.slot,
+        }
 }
 
 /// The row of a path's leaf, and 0 where the path is empty.
@@ -71,18 +53,22 @@ fn mend_walked<R: Rows>(rows: &mut R, index: u64)
     mend_way(rows, &path, leaf_on(&path));
 }
 
-/// Mends the gap words on the way to an index, where all others are right: along a path that led there before a word was
-/// published at this place, if only its leaf was replaced. A tree of ranges has none, and no word is loaded.
-pub fn mend_at<R: Rows>(rows: &mut R, kind: Kind, place: Place, path: &Path, index: u64)
+/// Mends the gap words on the way to an index, where all others are right: along a path that led there before a replacement,
+/// if only its leaf was replaced, which is not loaded. A tree of ranges has none, and no word is loaded.
+pub fn mend_at<R: Rows>(rows: &mut R, kind: Kind, spliced: &Spliced, path: &Path, index: u64)
     requires may { MayMendAt kind (R.sheet rows.old) index }
-    requires was { (was : Rooted) × WasWay kind was (R.sheet rows.old).tree place path.now.items index }
+    requires was { (was : Rooted) × WasWay kind was (R.sheet rows.old).tree spliced.now.place path.now.items index }
+    requires told { TellsAt kind (R.sheet rows.old).tree spliced.now.place spliced.now.gap }
     ensures { IsMendedAt kind (R.sheet rows.old) (R.sheet rows.new) }
 {
     match kind {
         Kind::Range => {}
-        Kind::Alloc => match new_leaf(rows, place, path, index) {
-            Some(leaf) => mend_way(rows, path, leaf),
-            None => mend_walked(rows, index),
-        },
+        Kind::Alloc => {
+            if is_of_leaf(rows.width(), spliced.place, path) {
+                mend_along(rows, path, spliced.gap);
+            } else {
+                mend_walked(rows, index);
+            }
+        }
     }
 }

@@ -78,11 +78,11 @@ pub fn store_at_hand<R: Rows>(
             false
         }
         StoreBy::NewRows => {
-            let place = replace_range(
+            let spliced = replace_range(
                 rows, book, kind, path, first, last, entry, number, call, reply,
             );
-            mend_at(rows, kind, place, path, first);
-            is_root(&place)
+            mend_at(rows, kind, &spliced, path, first);
+            is_root(&spliced.place)
         }
     }
 }

@@ -12,11 +12,11 @@ use Rattle.mt_rows.specs.Laws.{Stands}
 use Rattle.mt_rows.specs.Levels.{Levels}
 use Rattle.mt_rows.specs.Publish.{tree_as}
 use Rattle.mt_rows.specs.Replacement.{root_of}
-use Rattle.mt_rows.specs.Sheet.{Sheet, IsPlace, IsWhole, with_word, loaded}
+use Rattle.mt_rows.specs.Sheet.{Sheet, IsPlace, MayTend, IsWhole, with_word, loaded, tended}
 use Rattle.mt_rows.specs.Spans.{Table}
 use Rattle.mt_rows.proofs.Joins.{Shared}
-use Rattle.mt_gap.specs.Mending.{told_by, KeepsWords, IsAlong, IsWay, MayTell, MayMend, IsMended}
-use Rattle.mt_gap.proofs.MendWay.{HasMended, RootIs, level_low, may_mend_at, mended_at, begin_way, end_way, end_spans}
+use Rattle.mt_gap.specs.Mending.{told_by, KeepsWords, IsAlong, IsWay, IsToldWay, MayTell, MayMend, IsMended}
+use Rattle.mt_gap.proofs.MendWay.{HasMended, RootIs, level_low, may_mend_at, mended_at, begin_way, end_way, end_spans, two_levels}
 
 -- ---- what a row tells does not depend on the slot
 
@@ -105,3 +105,38 @@ end_on kind s s' path leaf k level below way gapped m last = end_way kind s s' p
 pub spans_on : (kind : Kind) (s s' : Sheet) (path : List PathStep) (leaf : ℕ) (k : RowKind) (level : ℕ) (below : PathStep) (h : ℕ) → HasMendedOn s s' path leaf k level below → Stands (tree_as kind s.tree) h
     → Levels (Shared s.tree.table s'.tree.table) s.tree.table h (root_of (tree_as kind s.tree))
 spans_on kind s s' path leaf k level below h m stands = end_spans kind s s' m.way k level h m.mended stands
+
+-- ---- a leaf whose longest hole is told
+
+module _ (kind : Kind) (s s' : Sheet) (path : List PathStep) (gap : ℕ) (w : IsToldWay kind s path gap) (gapped : RootIs s Gapped) (is : s' ≡ loaded s) where
+  begun : HasMendedOn s s' path w.leaf Leaf (length path) (record (step_at path (length path - 1)) { row = w.leaf })
+  begun = begin_on kind s s' path w.leaf w.way gapped is
+
+  pub leaf_below : 2 ≤ length path
+  leaf_below = two_levels kind s path w.leaf w.way gapped
+
+  abbrev above : PathStep
+  above = step_at path (length path - 1 - 1)
+
+  may_mend_first : IsWhole s' → MayMend s' Leaf above (record (step_at path (length path - 1)) { row = w.leaf })
+  may_mend_first whole = may_mend_on s s' path w.leaf Leaf (length path) (record (step_at path (length path - 1)) { row = w.leaf }) begun leaf_below whole
+
+  pub first_slot : IsWhole s' → above.slot < slots_of s'.tree.table.width Gapped
+  first_slot whole = (may_mend_first whole).slot
+
+  pub first_tend : IsWhole s' → MayTend s' above.row (gap_column (slots_of s'.tree.table.width Gapped) above.slot) gap
+  first_tend whole = (may_mend_first whole).tend gap
+
+  -- it is what the leaf on the way tells
+  leaf_told : told_by Leaf s'.tree.table (record (step_at path (length path - 1)) { row = w.leaf }) ≡ gap
+  leaf_told =
+      let way = path_in s.tree.table s.tree.root w.way.index in
+      let some = leaf_below in
+      told_same Leaf s'.tree.table (record (step_at path (length path - 1)) { row = w.leaf }) (step_at way (length path - 1)) (w.way.steps.end (length path - 1) (omega arith))
+      ∙ ((λ i. told_by Leaf (is i).tree.table (step_at way (w.way.steps.many i - 1))) ∙ sym w.told)
+
+  pub told_first : IsWhole s' → (s'' : Sheet) → s'' ≡ tended s' above.row (gap_column (slots_of s'.tree.table.width Gapped) above.slot) gap → HasMendedOn s s'' path w.leaf Gapped (length path - 1) above
+  told_first whole s'' done =
+      mended_on s s' path w.leaf Leaf (length path) (record (step_at path (length path - 1)) { row = w.leaf }) begun leaf_below whole s''
+      (subst (λ (x : Sheet). x ≡ record s' { tree = with_word s'.tree above.row (gap_column (slots_of s'.tree.table.width Gapped) above.slot) (told_by Leaf s'.tree.table (record (step_at path (length path - 1)) { row = w.leaf })); reads = x.reads }) (sym done)
+      (ap (λ (n : ℕ). tended s' above.row (gap_column (slots_of s'.tree.table.width Gapped) above.slot) n) (sym leaf_told)))

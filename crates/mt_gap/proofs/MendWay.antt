@@ -364,6 +364,18 @@ pub begin_way : (kind : Kind) (s s' : Sheet) (path : List PathStep) (leaf : ℕ)
 begin_way trees.Range s s' path leaf way gapped is = absurd (no_range s path leaf way gapped)
 begin_way trees.Alloc s s' path leaf way gapped is = begin_alloc s s' path leaf way gapped is
 
+-- where the root has gaps, the leaf stands below it
+pub two_levels : (kind : Kind) (s : Sheet) (path : List PathStep) (leaf : ℕ) → IsWay kind s path leaf → RootIs s Gapped → 2 ≤ length path
+two_levels trees.Range s path leaf way gapped = absurd (no_range s path leaf way gapped)
+two_levels trees.Alloc s path leaf way gapped = elim way.gaps [
+  | inl empty ↦ absurd (no_root s empty gapped)
+  | inr full ↦ (let many = way.steps.many ∙ levels (tree_as trees.Alloc s.tree) full.0 full.1 way.index way.within in let tall = some_levels full.0 (root_named trees.Alloc s full.0 full.1) in omega arith)
+]
+  where
+    some_levels : (h : ℕ) → RootIs s (kind_at trees.Alloc h) → 1 ≤ h
+    some_levels zero named = absurd (let both : Some Leaf ≡ Some Gapped = sym named ∙ gapped in cc)
+    some_levels (suc h) named = omega arith
+
 pub end_way : (kind : Kind) (s s' : Sheet) (path : List PathStep) (leaf : ℕ) (steps : List PathStep) (k : RowKind) (level : ℕ) → IsWay kind s path leaf → RootIs s Gapped → HasMended s s' steps k level → level ≤ 1 → HasGaps (tree_as kind s'.tree)
 end_way trees.Range s s' path leaf steps k level way gapped m last = absurd (no_range s path leaf way gapped)
 end_way trees.Alloc s s' path leaf steps k level way gapped m last =

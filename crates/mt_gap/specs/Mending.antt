@@ -12,6 +12,7 @@ use Rattle.mt_layout.specs.Sizes.{slots_of}
 use Rattle.mt_layout.specs.Spans.{longest_in}
 use Rattle.mt_path.specs.declared.paths.PathStep.{PathStep}
 use Rattle.mt_path.specs.Paths.{step_at, path_in}
+use Rattle.mt_path.specs.Handles.{leaf_in, leaf_spans}
 use Rattle.mt_rows.specs.Gaps.{covers, GapLawBut, HasGapsBut}
 use Rattle.mt_rows.specs.Laws.{Tree, Stands, GapLaw}
 use Rattle.mt_rows.specs.Levels.{Levels}
@@ -76,6 +77,12 @@ pub record IsWay (kind : Kind) (s : Sheet) (path : List PathStep) (leaf : ℕ) :
   pub steps : IsAlong path leaf (path_in s.tree.table s.tree.root index)
   pub live : LiveAreReached s.tree s.lives
   pub none_buried : NoneBuried s.tree.rows s.buried
+
+-- The same, where it is told how long the longest hole of that leaf is.
+pub record IsToldWay (kind : Kind) (s : Sheet) (path : List PathStep) (gap : ℕ) : Type 0 where
+  pub leaf : ℕ
+  pub way : IsWay kind s path leaf
+  pub told : gap ≡ longest_in (leaf_spans s.tree.table (leaf_in s.tree way.index))
 
 -- A row can tell its longest hole: that of a leaf is a word, and the greatest gap word of a row's slots is the greatest of all,
 -- since those of slots in which nothing stands are 0.

@@ -7,5 +7,5 @@ mod mends;
 mod searches;
 mod windows;
 
-pub use mends::{mend_gaps, mend_way};
+pub use mends::{mend_along, mend_gaps, mend_way};
 pub use searches::{highest, lowest};

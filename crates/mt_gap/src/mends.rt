@@ -6,6 +6,7 @@ ghost use Rattle.mt_base.specs.declared.kinds.Kind.{Kind};
 ghost use Rattle.mt_base.specs.Width.{columns};
 ghost use Rattle.mt_layout.specs.declared.names.RowKind.{RowKind};
 ghost use Rattle.mt_layout.specs.declared.spans.Span.{Span};
+ghost use Rattle.mt_layout.specs.Columns.{gap_column};
 ghost use Rattle.mt_layout.specs.Rows.{row_in, named_kind};
 ghost use Rattle.mt_layout.specs.Sizes.{slots_of};
 ghost use Rattle.mt_layout.specs.Spans.{hole_length, longest_in};
@@ -16,8 +17,8 @@ ghost use Rattle.mt_rows.specs.Publish.{tree_as};
 ghost use Rattle.mt_rows.specs.Replacement.{root_of};
 ghost use Rattle.mt_rows.specs.Spans.{row_spans};
 ghost use Rattle.mt_layout.specs.declared.names.RowKind.TheVariants.{Leaf, Gapped};
-ghost use Rattle.mt_rows.specs.Sheet.{Sheet, IsPlace, ReadsUpTo, loaded};
-ghost use Rattle.mt_gap.specs.Mending.{most_gap, told_by, KeepsWords, OnlyWords, KeepsOtherWords, IsWay, MayTell, MayMend, MayMendGaps, IsMended};
+ghost use Rattle.mt_rows.specs.Sheet.{Sheet, IsPlace, MayTend, ReadsUpTo, loaded, tended};
+ghost use Rattle.mt_gap.specs.Mending.{most_gap, told_by, KeepsWords, OnlyWords, KeepsOtherWords, IsWay, IsToldWay, MayTell, MayMend, MayMendGaps, IsMended};
 ghost use Rattle.mt_gap.specs.Mended.{HasMendedRows};
 
 use crate::children::{load_children, load_gap, load_last, load_word};
@@ -92,6 +93,16 @@ fn told_by<R: Rows>(rows: &mut R, kind: RowKind, row: PathStep) -> u64
     }
 }
 
+/// Tends the gap word of the slot of a step in a row.
+fn tend_gap<R: Rows>(rows: &mut R, above: PathStep, gap: u64)
+    requires slot { above.slot < slots_of (R.sheet rows.old).tree.table.width Gapped }
+    requires tend { MayTend (R.sheet rows.old) above.row (gap_column (slots_of (R.sheet rows.old).tree.table.width Gapped) above.slot) gap }
+    ensures { R.sheet rows.new ≡ tended (R.sheet rows.old) above.row (gap_column (slots_of (R.sheet rows.old).tree.table.width Gapped) above.slot) gap }
+{
+    let column = 2 * slots(rows.width(), RowKind::Gapped) + above.slot;
+    rows.tend(above.row, column, gap);
+}
+
 /// Tends the gap word of the slot that a path takes in a row, by what the row below tells.
 #[tactic(auto, using(crate::proofs::Tells::may_tend, crate::proofs::Tells::is_mended))]
 fn mend_slot<R: Rows>(rows: &mut R, kind: RowKind, above: PathStep, below: PathStep)
@@ -99,8 +110,7 @@ fn mend_slot<R: Rows>(rows: &mut R, kind: RowKind, above: PathStep, below: PathS
     ensures { IsMended (R.sheet rows.old) (R.sheet rows.new) kind above below }
 {
     let gap = told_by(rows, kind, below);
-    let column = 2 * slots(rows.width(), RowKind::Gapped) + above.slot;
-    rows.tend(above.row, column, gap);
+    tend_gap(rows, above, gap);
 }
 
 /// Whether the root is a row with gaps.
@@ -136,6 +146,27 @@ pub fn mend_way<R: Rows>(rows: &mut R, path: &Path, leaf: u32)
         mend_slot(rows, kind, above, below);
         kind = RowKind::Gapped;
         below = above;
+    }
+}
+
+/// The same along a path whose leaf is replaced: by one whose longest hole is `gap`, and of which no word is loaded.
+pub fn mend_along<R: Rows>(rows: &mut R, path: &Path, gap: u64)
+    requires way { (kind : Kind) × IsToldWay kind (R.sheet rows.old) path.now.items gap }
+    ensures gaps { (kind : Kind) → IsToldWay kind (R.sheet rows.old) path.now.items gap → HasGaps (tree_as kind (R.sheet rows.new).tree) }
+    ensures rest { OnlyWords (R.sheet rows.old) (R.sheet rows.new) }
+    ensures words { KeepsWords (R.sheet rows.old).tree (R.sheet rows.new).tree path.now.items }
+    ensures plain { named_kind (R.sheet rows.old).tree.root ≢ Some RowKind.Gapped → R.sheet rows.new ≡ loaded (R.sheet rows.old) }
+    ensures spans { (kind : Kind) (h : ℕ) → Stands (tree_as kind (R.sheet rows.old).tree) h
+        → Levels (λ (_ : ℕ) (x : Span). SameSpans (R.sheet rows.old).tree.table (R.sheet rows.new).tree.table x) (R.sheet rows.old).tree.table h (root_of (tree_as kind (R.sheet rows.old).tree)) }
+{
+    if !has_gaps(rows) {
+        return;
+    }
+    let mut level = path.len() - 1;
+    tend_gap(rows, path[level - 1], gap);
+    while 2 <= level {
+        level -= 1;
+        mend_slot(rows, RowKind::Gapped, path[level - 1], path[level]);
     }
 }
 

@@ -1,6 +1,8 @@
 -- What stands after the store that publishes, and after parent words were written.
-use Rattle.std.proofs.Common.{◌≡◌, ℕ, ◌+◌, ◌<◌, ◌≤◌, List, [], Option, Some, None, Bool, true, false, refl, sym, ap, ◌∙◌, subst, inl, inr, arith}
+use Rattle.std.specs.List.{slice_get}
+use Rattle.std.proofs.Common.{◌≡◌, ℕ, zero, suc, ◌+◌, ◌<◌, ◌≤◌, List, [], ◌∷◌, Option, Some, None, Bool, true, false, refl, sym, ap, ◌∙◌, subst, inl, inr, arith}
 use Rattle.std.proofs.lemmas.Bool.{cases_Bool}
+use Rattle.mt_base.specs.declared.kinds.Kind.{Kind}
 use Rattle.mt_base.specs.declared.widths.Width.{Width}
 use Rattle.mt_base.specs.Width.{columns, first_row}
 use Rattle.mt_layout.specs.declared.spans.Span.{Span}
@@ -10,24 +12,27 @@ use Rattle.mt_layout.specs.Sizes.{slots_of}
 use Rattle.mt_layout.proofs.RowSizes.{slot_above}
 use Rattle.mt_rows.specs.declared.rows.Place.{Place}
 use Rattle.mt_rows.specs.declared.rows.Place.TheVariants.{Root, Slot}
-use Rattle.mt_rows.specs.Spans.{column}
-use Rattle.mt_rows.specs.Levels.{is_row_of}
+use Rattle.mt_rows.specs.Spans.{Table, column, root_span}
 use Rattle.mt_rows.specs.Laws.{Tree}
 use Rattle.mt_rows.specs.Sheet.{Rooted, Sheet, life_of, is_buried, word_at}
 use Rattle.mt_rows.specs.Publish.{tree_as, is_reached, map_by, with_record, with_published, life_after, Published, IsPlaceToPublish}
 use Rattle.mt_rows.specs.Replacement.{root_of}
-use Rattle.mt_splice.specs.steps.Work.{Start, Work, tree_with, KeepsWords}
+use Rattle.mt_splice.specs.Splice.{TellsBelow, TellsAt}
+use Rattle.mt_splice.specs.steps.Work.{Start, Work, tree_with, with_words, KeepsWords}
 use Rattle.mt_splice.specs.steps.Progress.{is_taken}
 use Rattle.mt_splice.specs.steps.Replaced.{StandsAs, FewestAs, count_in}
 use Rattle.mt_splice.specs.steps.Endings.{words_of}
 use Rattle.mt_splice.specs.steps.Ends.{HoldsAs, OnlyParents}
+use Rattle.mt_rows.specs.Levels.{IsBelow, SameSpans, is_row_of}
 use Rattle.mt_rows.proofs.Frames.{same_spans}
+use Rattle.mt_rows.proofs.Reached.{height_is}
 use Rattle.mt_rows.proofs.Joins.{Shared}
 use Rattle.mt_splice.specs.steps.Told.{GapsBeside}
 use Rattle.mt_splice.proofs.EndGaps.{AllKeep, levels_all, gaps_kept}
 use Rattle.mt_splice.proofs.FewestRows.{SameNews, fewest_later}
 use Rattle.mt_splice.proofs.Drafts.{same_column}
-use Rattle.mt_splice.proofs.EndTrees.{map_is, reached_count, count_reached, unreached_count, count_unreached}
+use Rattle.mt_splice.proofs.GapRows.{longest_shared}
+use Rattle.mt_splice.proofs.EndTrees.{placed_count, map_is, reached_count, count_reached, unreached_count, count_unreached}
 use Rattle.mt_splice.proofs.EndPublish.{now_stands, now_count, now_map, Finish, published_rows, published_width, published, rows_same, width_same, stands_later, map_later, progress, place_is}
 use Rattle.mt_splice.proofs.EndTending.{only_rows, only_width}
 
@@ -69,6 +74,29 @@ fewest_kept is_new t words (Some h) keep few =
 gaps_stay : (start : Start) (is_new : ℕ → Bool) (t : Tree) (words : List ℕ) (o : Option ℕ) → AllKeep t.table (record { width = t.table.width; words = words }) → StandsAs t o → GapsBeside start is_new t o → GapsBeside start is_new (tree_with t words) o
 gaps_stay start is_new t words None keep stands gaps = λ _ _ _. tt
 gaps_stay start is_new t words (Some h) keep stands gaps = λ index from to. gaps_kept is_new index t words keep h (root_of t) stands.rows (gaps index from to)
+
+-- each row stands where it stood, and what is below it is the same
+below_kept : (t t' : Table) → ((x : Span) → SameSpans t t' x) → (d : ℕ) (top x : Span) → IsBelow t d top x → IsBelow t' d top x
+below_kept t t' same zero top x is = is
+below_kept t t' same (suc d) top x is = (is.0, (is.1.0, is.1.1, ap (λ (l : List Span). slice_get l is.1.0) (same top) ∙ is.1.2, below_kept t t' same d is.1.1 x is.1.3))
+
+tells_kept : (kind : Kind) (t : Rooted) (words : List ℕ) (o : Option ℕ) (word gap : ℕ) → AllKeep t.table (record { width = t.table.width; words = words }) → StandsAs (tree_as kind t) o → StandsAs (tree_as kind (with_words t words)) o → TellsBelow kind t word gap
+    → TellsBelow kind (with_words t words) word gap
+tells_kept kind t words None word gap keep stands stands' tells = absurd (let some = placed_count (tree_as kind t) None tells.height tells.row stands tells.stands in omega arith)
+tells_kept kind t words (Some h) word gap keep stands stands' tells =
+    let t' = with_words t words in
+    let same : (x : Span) → SameSpans t.table t'.table x = λ x. same_spans t.table t'.table x (keep (row_in x.word)) in
+    record {
+      height = tells.height;
+      row = tells.row;
+      stands = record {
+        depth = tells.stands.depth;
+        below = below_kept t.table t'.table same tells.stands.depth (root_span t.table t.root) tells.row tells.stands.below;
+        levels = tells.stands.levels ∙ (height_is (tree_as kind t) h stands ∙ sym (height_is (tree_as kind t') h stands'));
+      };
+      named = tells.named;
+      longest = λ gapped. tells.longest gapped ∙ sym (longest_shared t.table t'.table tells.height (tells.row ∷ []) (levels_all (Shared t.table t'.table) t.table (λ _ x. same x) tells.height (tells.row ∷ [])));
+    }
 
 module _ (t : Tree) (words : List ℕ) (o : Option ℕ) (keep : AllKeep t.table (record { width = t.table.width; words = words })) (stands : StandsAs t o) where
   abbrev other : Tree
@@ -195,3 +223,11 @@ module _ (f : Finish) (s₁ s₂ : Sheet) (done : Published f.sheet s₁ f.place
         only.kept row col above.0 (subst (λ (v : Width). col < columns v) (sym width₁) above.1)
         ∙ (ap (λ (v : Rooted). column v.table row col) tree₁ ∙ word_in f.place (place_is f) row col is));
   }
+
+  -- what is told of the row that was published
+  pub told_after : (row col gap : ℕ) → f.place ≡ Slot row col → TellsBelow f.before.kind (published f) f.word gap → TellsAt f.before.kind s₂.tree f.place gap
+  told_after row col gap is tells =
+      let there = subst (λ (v : Rooted). TellsBelow f.before.kind v f.word gap) (sym tree₁) tells in
+      let later = tells_kept f.before.kind s₁.tree s₂.tree.table.words f.may.new f.word gap keep stands₁ (other_stands t₁ s₂.tree.table.words f.may.new keep stands₁) there in
+      let now = subst (λ (v : Rooted). TellsBelow f.before.kind v f.word gap) (sym only.tree) later in
+      subst (λ (p : Place). TellsAt f.before.kind s₂.tree p gap) (sym is) (subst (λ (w : ℕ). TellsBelow f.before.kind s₂.tree w gap) (sym (outcome.at row col is)) now)

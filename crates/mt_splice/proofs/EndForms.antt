@@ -14,6 +14,7 @@ use Rattle.mt_splice.specs.steps.Progress.{Before, IsBefore, IsProgress}
 use Rattle.mt_splice.specs.steps.Replaced.{IsReplaced}
 use Rattle.mt_splice.specs.steps.Endings.{words_of, with_root, with_step, column_of, IsStepIn}
 use Rattle.mt_splice.specs.steps.Ends.{IsEndPlace}
+use Rattle.mt_splice.specs.Splice.{TellsBelow}
 use Rattle.mt_splice.specs.steps.Told.{GapsBeside}
 
 -- the tree by the words now is the sheet's
@@ -50,6 +51,12 @@ module _ {b : Before} {start : Start} {s : Sheet} {book : Book} {w : Work} (was 
       → GapsBeside start is_new (tree_as b.kind (with_published s.tree (Slot step.row (column_of (now start w) (kind_at start.tree.kind (suc low)) step)) word)) new
   gaps_in_slot is_new low word step new gaps =
       subst (λ (t : Tree). GapsBeside start is_new (tree_as t.kind (with_published (words_of t) (Slot step.row (column_of (now start w) (kind_at start.tree.kind (suc low)) step)) word)) new) (now_is was progress) gaps
+
+  -- what the row there tells
+  pub tells_in_slot : (low word gap : ℕ) (step : PathStep) → TellsBelow b.kind (words_of (with_step (now start w) (kind_at start.tree.kind (suc low)) step word)) word gap
+      → TellsBelow b.kind (with_published s.tree (Slot step.row (column_of (now start w) (kind_at start.tree.kind (suc low)) step)) word) word gap
+  tells_in_slot low word gap step tells =
+      subst (λ (t : Tree). TellsBelow b.kind (with_published (words_of t) (Slot step.row (column_of (now start w) (kind_at start.tree.kind (suc low)) step)) word) word gap) (now_is was progress) tells
 
   -- nothing is left
   pub ends_empty : start.map ≡ [] → w.taken ≡ [] → ((p : ℕ → Span → Bool) → passing p w.gone ≡ times_in p start.tree start.height)

@@ -16,20 +16,20 @@ use Rattle.mt_rows.specs.Spans.{column, inner_kind}
 use Rattle.mt_rows.specs.Levels.{is_row_of}
 use Rattle.mt_rows.specs.Laws as laws
 use Rattle.mt_rows.specs.Sheet.{Sheet, life_of, word_at}
-use Rattle.mt_rows.specs.Publish.{tree_as, is_reached, MayPublish, Published}
+use Rattle.mt_rows.specs.Publish.{tree_as, is_reached, with_published, MayPublish, Published}
 use Rattle.mt_rows.proofs.Reached as reached
 use Rattle.mt_splice.specs.declared.writes.NewRow.{NewRow}
 use Rattle.mt_splice.specs.steps.Seen.{passing}
 use Rattle.mt_splice.specs.steps.Work.{Start, now}
 use Rattle.mt_splice.specs.steps.Writes.{child_row}
 use Rattle.mt_splice.specs.steps.Progress.{Before, row_seen}
-use Rattle.mt_splice.specs.Splice.{HasParents, IsSpliced}
+use Rattle.mt_splice.specs.Splice.{HasParents, IsSpliced, TellsBelow, TellsAt}
 use Rattle.mt_splice.specs.steps.Replaced.{StandsAs, count_in}
 use Rattle.mt_splice.specs.steps.Ends.{IsEndPlace, MayPublishEnd, MayTendRows, AreRowsTended, MayTendTopAt, IsTopTendedAt}
 use Rattle.mt_splice.proofs.EndHoles.{at_on_level}
 use Rattle.mt_splice.proofs.EndLists.{seen_some}
 use Rattle.mt_splice.proofs.EndMade.{made_seen}
-use Rattle.mt_splice.proofs.EndAfter.{outcome}
+use Rattle.mt_splice.proofs.EndAfter.{outcome, told_after}
 use Rattle.mt_splice.proofs.EndFacts.{life_if_buried, spliced}
 use Rattle.mt_splice.proofs.EndTending.{only_more, top_only, top_kept, top_still}
 use Rattle.mt_splice.proofs.EndParents.{parent_stays, may_tend_some, may_tend_place, has_parents}
@@ -140,3 +140,6 @@ module _ {b : Before} {start : Start} {s : Sheet} {book : Book} {inner : List Ne
         let may_top = subst (λ (k : RowKind). MayTendTopAt s₂ k place word) (sym is_inner) (may_tend_top_now done tended) in
         spliced f s₃ o (parents_by f s₁ s₂ s₃ may.new refl done rows_tended top_tended o.stands)
         (λ row was not. marked_end f s₁ s₂ s₃ done may_rows rows_tended may_top top_tended row was (ends.later_unreached f row (sym (o.reached row) ∙ not)))
+
+    pub told_end : {s₁ s₂ : Sheet} (s₃ : Sheet) → Published s s₁ place word call reply → AreRowsTended s₁ s₂ kind inner → IsTopTendedAt s₂ s₃ kind place word → (row col gap : ℕ) → place ≡ Slot row col → TellsBelow b.kind (with_published s.tree place word) word gap → TellsAt b.kind s₃.tree place gap
+    told_end {s₁} {s₂} s₃ done tended top row col gap at tells = told_after f s₁ s₃ done (only_more s₁ s₂ s₃ tended.only (top_only s₂ s₃ kind place word top)) row col gap at tells

@@ -3,10 +3,12 @@ use Rattle.std.proofs.Common.{◌≡◌, ℕ, suc, ◌+◌, ◌-◌, ◌*◌, �
 use Rattle.std.specs.Prelude.{slice_index_or, if◌then◌else◌}
 use Rattle.mt_base.specs.declared.calls.Call.{Call}
 use Rattle.mt_base.specs.declared.replies.Reply.{Reply}
+use Rattle.mt_base.specs.declared.kinds.Kind.TheVariants as trees
 use Rattle.mt_base.specs.declared.widths.Width.{Width}
 use Rattle.mt_base.specs.Width.{greatest, most_rows, most_taken}
 use Rattle.mt_layout.specs.declared.items.Item.{Item}
 use Rattle.mt_layout.specs.declared.names.RowKind.{RowKind}
+use Rattle.mt_layout.specs.declared.names.RowKind.TheVariants.{Gapped}
 use Rattle.mt_layout.specs.declared.spans.Span.{Span}
 use Rattle.mt_layout.specs.Columns.{slot_column}
 use Rattle.mt_layout.specs.Rows.{row_in}
@@ -20,7 +22,7 @@ use Rattle.mt_rows.specs.declared.rows.Place.TheVariants.{Root, Slot}
 use Rattle.mt_rows.specs.Spans.{inner_kind}
 use Rattle.mt_rows.specs.Levels.{Levels, is_row_of}
 use Rattle.mt_rows.specs.Trees.{height_in}
-use Rattle.mt_rows.specs.Laws.{Tree, top_of, kind_at, covers_all}
+use Rattle.mt_rows.specs.Laws.{Tree, top_of, kind_at, covers_all, longest_below}
 use Rattle.mt_rows.specs.Sheet.{Sheet}
 use Rattle.mt_rows.specs.Publish.{tree_as, with_published}
 use Rattle.mt_rows.proofs.Reached.{height_is}
@@ -36,7 +38,8 @@ use Rattle.mt_splice.specs.steps.Runs.{span_to}
 use Rattle.mt_splice.specs.steps.Progress.{Before, IsBefore, IsProgress, is_taken}
 use Rattle.mt_splice.specs.steps.Levels.{MayWriteRow, IsOneWritten, MayAddRow, IsRowAdded}
 use Rattle.mt_splice.specs.steps.Endings.{column_of, with_root}
-use Rattle.mt_splice.specs.steps.Told.{IsGoodRow, AreTold, GapsAs, GapsBeside}
+use Rattle.mt_splice.specs.Splice.{TellsBelow}
+use Rattle.mt_splice.specs.steps.Told.{IsGoodRow, AreTold, TellGaps, GapsAs, GapsBeside}
 use Rattle.mt_splice.specs.steps.Ends.{IsEndPlace, MayPublishEnd}
 use Rattle.mt_splice.specs.steps.Replacing.{IsAnswer, IsBurying, AreRowsReplaced, MayReplaceLevelRows, AreLevelRowsReplaced, MayBuryAbove, AreAboveBuried, MayBuryLevels, AreLevelsDone, MayEnd, MayEndAtRoot, MayEndAbove, MayEndInSlot}
 use Rattle.mt_splice.proofs.AboveNothing.{burying}
@@ -297,6 +300,31 @@ module _ {b : Before} {start : Start} {s : Sheet} {book : Book} {inner : List Ne
     abbrev one_level : (w₁ : Work) × AreRowsReplaced b start s₁ book₁ w₁ inner₁ left right (suc depth) end.height ends new
     one_level = done.each end.may
 
+    -- what the new row tells
+    one_gap : (d : Item) → b.kind ≡ trees.Alloc → (slice_index_or new 0 d).gap ≡ longest_below (now start one_level.0).table end.height (one_span left (suc depth) (slice_index_or new 0 d) ∷ [])
+    one_gap d gapped =
+        let item = slice_index_or new 0 d in
+        let t = (now start one_level.0).table in
+        let told : AreTold start one_level.0 end.height (begin_of left (suc depth)) (item ∷ []) = subst (AreTold start one_level.0 end.height (begin_of left (suc depth))) (only_item new d (one_level.1.many ∙ one)) one_level.1.told in
+        let kinds : inner_kind start.tree.kind ≡ Gapped = ap (λ (t : Tree). inner_kind t.kind) one_level.1.under.case.was.tree ∙ ap inner_kind gapped in
+        let gaps : item.gap ∷ [] ≡ longest_below t end.height (one_span left (suc depth) item ∷ []) ∷ [] = subst (λ (k : RowKind). TellGaps k t end.height (begin_of left (suc depth)) (item ∷ [])) kinds told.gaps in
+        cc
+
+    told_in_place : (d : Item) {n : ℕ} → n ≡ slots_of start.tree.table.width (inner_kind start.tree.kind)
+        → TellsBelow b.kind (with_published s₁.tree (Slot step.row (n + step.slot)) (slice_index_or new 0 d).word) (slice_index_or new 0 d).word (slice_index_or new 0 d).gap
+    told_in_place d {n = n} many =
+        let w = one_level.0 in
+        let under = one_level.1.under in
+        let was = under.case.was in
+        let item = slice_index_or new 0 d in
+        let x : Span = one_span left (suc depth) item in
+        let climbed = one_climbed end done d one in
+        let has = forms.has_words was under.progress in
+        let column : column_of (now start w) (kind_at start.tree.kind (suc end.height)) step ≡ n + step.slot =
+        ap (λ (k : ℕ). slot_column k step.slot) (sym (many ∙ ap (slots_of start.tree.table.width) (inner_is start w end.height under.holds))) in
+        subst (λ (col : ℕ). TellsBelow b.kind (with_published s₁.tree (Slot step.row col) item.word) item.word item.gap) column
+        (forms.tells_in_slot was under.progress end.height item.word item.gap step (slots.tells_at_step start w left right depth end.height x climbed same has b.kind item.gap (one_gap d)))
+
     in_place : (d : Item) {n : ℕ} {inner' : List NewRow} → inner' ≡ inner₁ → n ≡ slots_of start.tree.table.width (inner_kind start.tree.kind) → MayPublishEnd b start s₁ book₁ inner' (Slot step.row (n + step.slot)) (slice_index_or new 0 d).word call reply
     in_place d {n = n} {inner' = inner'} noted many =
         let w = one_level.0 in
@@ -344,3 +372,8 @@ module _ {b : Before} {start : Start} {s : Sheet} {book : Book} {inner : List Ne
         → MayPublishEnd b start s₁ book₁ inner' (Slot step.row (n + step.slot)) (slice_index_or new 0 d).word call reply
     slot_is_published d {n = n} {inner' = inner'} is noted many =
         subst (λ (z : PathStep). MayPublishEnd b start s₁ book₁ inner' (Slot z.row (n + z.slot)) (slice_index_or new 0 d).word call reply) (sym is) (in_place end₁ may.one same₁ done₁ d noted many)
+
+    pub slot_is_told : (d : Item) {step : PathStep} {n : ℕ} → step ≡ step_at left (depth - 1) → n ≡ slots_of start.tree.table.width (inner_kind start.tree.kind)
+        → TellsBelow b.kind (with_published s₁.tree (Slot step.row (n + step.slot)) (slice_index_or new 0 d).word) (slice_index_or new 0 d).word (slice_index_or new 0 d).gap
+    slot_is_told d {n = n} is many =
+        subst (λ (z : PathStep). TellsBelow b.kind (with_published s₁.tree (Slot z.row (n + z.slot)) (slice_index_or new 0 d).word) (slice_index_or new 0 d).word (slice_index_or new 0 d).gap) (sym is) (told_in_place end₁ may.one same₁ done₁ d many)

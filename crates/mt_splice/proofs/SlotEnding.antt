@@ -1,6 +1,8 @@
 -- A replacement ends in place: one new row stands where one old row stood, by one store in the row above.
 use Rattle.std.proofs.Common.{◌≡◌, ℕ, suc, ◌+◌, ◌≤◌, ◌==◌, List, [], ◌∷◌, ◌++◌, Bool, false, Some, map, refl, ne_eqb, sym, ap, ◌∙◌, subst, ⊎_elim, arith, zero, true, inl, inr}
 use Rattle.mt_base.specs.declared.kinds.Kind.{Kind}
+use Rattle.mt_base.specs.declared.kinds.Kind.TheVariants as trees
+use Rattle.mt_splice.specs.Splice.{TellsBelow}
 use Rattle.mt_splice.proofs.FewestRows.{SameNews, fewest_later, none_new}
 use Rattle.mt_splice.specs.steps.Progress.{is_taken}
 use Rattle.mt_splice.specs.Fewest.{FewestBelow}
@@ -17,7 +19,7 @@ use Rattle.mt_base.proofs.Lists.{none_or_some, all_map}
 use Rattle.mt_rows.specs.Spans.{Table, spans_in}
 use Rattle.mt_layout.specs.Sizes.{slots_of}
 use Rattle.mt_rows.specs.Levels.{map_of, Levels, tally, times, is_row_of, level, expand}
-use Rattle.mt_rows.specs.Laws.{Tree, HasWords, IsRow, GapLaw, top_of, kind_at}
+use Rattle.mt_rows.specs.Laws.{Tree, HasWords, IsRow, GapLaw, top_of, kind_at, longest_below}
 use Rattle.mt_rows.specs.Publish.{StandsAt, SameHoles, IsSlotOf}
 use Rattle.mt_rows.specs.Replacement.{root_of, IsSlotAt, with_slot, with_child, ReplacesChild}
 use Rattle.mt_rows.proofs.Lists.{tally-append, levels_map, levels_here}
@@ -26,7 +28,7 @@ use Rattle.mt_rows.proofs.Frames.{same_spans}
 use Rattle.mt_rows.proofs.Once.{times_nowhere}
 use Rattle.mt_rows.proofs.Between.{fills_split}
 use Rattle.mt_rows.proofs.Heights.{level_next, times_split, levels_lower, levels_pair}
-use Rattle.mt_rows.proofs.Reached.{OnLevel, one_of_parts, on_level_reached, times_in_once, below_root, on_level, one_place}
+use Rattle.mt_rows.proofs.Reached.{OnLevel, one_of_parts, stands_at, on_level_reached, times_in_once, below_root, on_level, one_place}
 use Rattle.mt_rows.proofs.PlainReached.{levels_from}
 use Rattle.mt_rows.proofs.RowLaws.{others_keep}
 use Rattle.mt_rows.proofs.SlotStore as store
@@ -42,7 +44,7 @@ use Rattle.mt_splice.specs.steps.Stretches.{IsStretch}
 use Rattle.mt_splice.specs.steps.Climbs.{begin_of, behind_of, Climbed}
 use Rattle.mt_splice.specs.steps.Endings.{words_of, with_step, IsStepIn, IsPublished}
 use Rattle.mt_splice.specs.steps.Told.{IsGoodRow, HadGaps, GapsAs}
-use Rattle.mt_splice.proofs.GapRows.{Kept, gap_laws_stay}
+use Rattle.mt_splice.proofs.GapRows.{Kept, gap_laws_stay, longest_shared}
 use Rattle.mt_splice.proofs.SlotGaps.{gaps_after}
 use Rattle.mt_splice.proofs.Splits.{split_same}
 use Rattle.mt_splice.proofs.Moments.{old_shared, old_stands, old_times, old_level}
@@ -349,6 +351,24 @@ module _ (start : Start) (s : Work) (left right : List PathStep) (depth height :
 
   pub published_at_step : IsPublished t (kind_at t.kind (suc height)) (step_at left depth) x.word
   published_at_step = subst (λ (z : PathStep). IsPublished t (kind_at t.kind (suc height)) z x.word) (sym left_step) (record { slot = slot_used; holes = holes_stay })
+
+  -- ---- what stands there
+
+  new_stands : StandsAt (words_of t') height x
+  new_stands = stands_at t' h replaces.stands (suc depth) height x climbed.levels
+      (one_of_parts (level t'.table (suc depth) (root_of t')) replaces.front replaces.back x (replaces.after ∙ (λ k. replaces.front ++ (sym child_is k ∷ replaces.back))))
+
+  new_tells : (kind : Kind) (gap : ℕ) → (kind ≡ trees.Alloc → gap ≡ longest_below t.table height (x ∷ [])) → TellsBelow kind (words_of t') x.word gap
+  new_tells kind gap longest = record {
+    height = height;
+    row = x;
+    stands = new_stands;
+    named = refl;
+    longest = λ gapped. longest gapped ∙ sym (longest_shared t.table t'.table height (x ∷ []) new_shared);
+  }
+
+  pub tells_at_step : (kind : Kind) (gap : ℕ) → (kind ≡ trees.Alloc → gap ≡ longest_below t.table height (x ∷ [])) → TellsBelow kind (words_of (with_step t (kind_at t.kind (suc height)) (step_at left depth) x.word)) x.word gap
+  tells_at_step kind gap longest = subst (λ (z : PathStep). TellsBelow kind (words_of (with_step t (kind_at t.kind (suc height)) z x.word)) x.word gap) (sym left_step) (new_tells kind gap longest)
 
   -- ---- the law of gaps
 

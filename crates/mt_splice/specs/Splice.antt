@@ -3,6 +3,7 @@
 -- published by one store of one word is this project's.
 use Rattle.std.specs.Prelude.{◌≡◌, ◌≢◌, ◌⊎◌, ℕ, ◌+◌, ◌*◌, ◌<◌, ◌≤◌, ◌==◌, Bool, true, false, List, [], ◌∷◌, ◌++◌, All, Contains, length, map, if◌then◌else◌}
 use Rattle.mt_base.specs.declared.kinds.Kind.{Kind}
+use Rattle.mt_base.specs.declared.kinds.Kind.TheVariants as trees
 use Rattle.mt_base.specs.declared.ranges.Range.{Range}
 use Rattle.mt_base.specs.declared.calls.Call.{Call}
 use Rattle.mt_base.specs.declared.replies.Reply.{Reply}
@@ -22,9 +23,9 @@ use Rattle.mt_rows.specs.Spans.{Table, column}
 use Rattle.mt_rows.specs.Gaps.{HasGapsBut}
 use Rattle.mt_rows.specs.Levels.{Levels}
 use Rattle.mt_rows.specs.Trees.{height_in}
-use Rattle.mt_rows.specs.Laws.{Tree, Stands, ParentLaw}
+use Rattle.mt_rows.specs.Laws.{Tree, Stands, ParentLaw, longest_below}
 use Rattle.mt_rows.specs.Sheet.{Rooted, Sheet, life_of, word_at}
-use Rattle.mt_rows.specs.Publish.{tree_as, IsTold, IsTreeOf, map_by, is_reached, IsReached, LiveAreReached, NoneBuried, with_record}
+use Rattle.mt_rows.specs.Publish.{tree_as, IsTold, IsTreeOf, StandsAt, map_by, is_reached, IsReached, LiveAreReached, NoneBuried, with_record}
 use Rattle.mt_rows.specs.Replacement.{root_of}
 use Rattle.mt_leaf.specs.Edits.{edited, starting}
 use Rattle.mt_path.specs.declared.paths.PathStep.{PathStep}
@@ -103,6 +104,19 @@ HasFewest is_new t = (t.root ≡ 0) ⊎ ((h : ℕ) × Stands t h × FewestBelow 
 abbrev pub WasPublishedAt : Sheet → Sheet → Place → Type 0
 WasPublishedAt s s' Root = s'.tree.root ≢ s.tree.root
 WasPublishedAt s s' (Slot row col) = (s'.tree.root ≡ s.tree.root) × (life_of s.lives row ≡ Live) × (life_of s'.lives row ≡ Live) × (word_at s'.tree row col ≢ word_at s.tree row col)
+
+-- the word names a row that stands in the tree, and so long is the longest hole below it, where rows have gaps
+pub record TellsBelow (kind : Kind) (t : Rooted) (word gap : ℕ) : Type 0 where
+  pub height : ℕ
+  pub row : Span
+  pub stands : StandsAt t height row
+  pub named : row.word ≡ word
+  pub longest : kind ≡ trees.Alloc → gap ≡ longest_below t.table height (row ∷ [])
+
+-- the same of the row that is named at a place; above the root none is told
+abbrev pub TellsAt : Kind → Rooted → Place → ℕ → Type 0
+TellsAt kind t Root gap = gap ≡ 0
+TellsAt kind t (Slot row col) gap = TellsBelow kind t (word_at t row col) gap
 
 -- at most so many rows were taken; the rows that are reached no more were retired with the call's number
 pub record IsBooked (s s' : Sheet) (book book' : Book) (number most : ℕ) : Type 0 where

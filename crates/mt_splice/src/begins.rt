@@ -1,6 +1,7 @@
 //! The first leaf of an empty tree.
 
 ghost use Rattle.std.specs.Prelude.{◌≡◌, [], List};
+ghost use Rattle.mt_rows.specs.declared.rows.Place.TheVariants.{Root};
 ghost use Rattle.mt_rows.specs.Spans.{inner_kind};
 ghost use Rattle.mt_splice.specs.steps.Entries.{IsFirst};
 ghost use Rattle.mt_splice.specs.Splice.{IsSpliced};
@@ -24,7 +25,8 @@ pub fn begin_tree<R: Rows, B: Begun>(
 ) -> Place
     requires kind { kind ≡ inner_kind B.start.tree.kind }
     requires first { IsFirst B.before B.start (R.sheet rows.old) book.old items.now call.now reply.now }
-    ensures { IsSpliced B.before.kind B.before.sheet (R.sheet rows.new) B.before.book book.new B.before.number call.now reply.now result B.start.first B.start.last }
+    ensures spliced { IsSpliced B.before.kind B.before.sheet (R.sheet rows.new) B.before.book book.new B.before.number call.now reply.now result B.start.first B.start.last }
+    ensures root { result ≡ Root }
 {
     let mut inner = NewRows::new();
     let leaf = write_piece::<R, B>(rows, book, kind, RowKind::Leaf, 0, items, &mut inner);

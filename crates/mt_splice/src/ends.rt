@@ -1,8 +1,10 @@
 //! The end of a replacement: one word is published, and the children of rows that are new are tended.
 
-ghost use Rattle.std.specs.Prelude.{◌≡◌};
+ghost use Rattle.std.specs.Prelude.{◌≡◌, ℕ};
+ghost use Rattle.mt_rows.specs.declared.rows.Place.TheVariants.{Slot};
+ghost use Rattle.mt_rows.specs.Publish.{with_published};
 ghost use Rattle.mt_rows.specs.Spans.{inner_kind};
-ghost use Rattle.mt_splice.specs.Splice.{IsSpliced};
+ghost use Rattle.mt_splice.specs.Splice.{IsSpliced, TellsBelow, TellsAt};
 ghost use Rattle.mt_splice.specs.steps.Ends.{MayPublishEnd, MayTendRows, AreRowsTended, MayTendTopAt, IsTopTendedAt};
 
 use crate::begun::Begun;
@@ -54,7 +56,8 @@ pub fn publish_at<R: Rows, B: Begun>(
 )
     requires kind { kind ≡ inner_kind B.start.tree.kind }
     requires end { MayPublishEnd B.before B.start (R.sheet rows.old) book.now inner.now place word call.now reply.now }
-    ensures { IsSpliced B.before.kind B.before.sheet (R.sheet rows.new) B.before.book book.now B.before.number call.now reply.now place B.start.first B.start.last }
+    ensures spliced { IsSpliced B.before.kind B.before.sheet (R.sheet rows.new) B.before.book book.now B.before.number call.now reply.now place B.start.first B.start.last }
+    ensures told { (row col gap : ℕ) → place ≡ Slot row col → TellsBelow B.before.kind (with_published (R.sheet rows.old).tree place word) word gap → TellsAt B.before.kind (R.sheet rows.new).tree place gap }
 {
     rows.publish(place, word, call, reply);
     tend_rows(rows, kind, inner);

@@ -15,9 +15,11 @@ mod levels;
 mod reads;
 mod regions;
 mod replaces;
+mod spliced;
 mod splices;
 mod tends;
 mod writes;
 
 pub use clears::clear;
+pub use spliced::Spliced;
 pub use splices::{replace_range, splice};

@@ -5,7 +5,7 @@ ghost use Rattle.mt_base.specs.Width.{most_taken};
 ghost use Rattle.mt_rows.specs.declared.rows.Place.TheVariants.{Root};
 ghost use Rattle.mt_rows.specs.Spans.{inner_kind};
 ghost use Rattle.mt_splice.specs.steps.Replacing.{MayReplaceLevelRows, AreLevelRowsReplaced, MayBuryLevels, AreLevelsDone, MayReplaceLevel, MayEndEmpty, MayEndAtRoot, MayEndAbove, MayEndInSlot};
-ghost use Rattle.mt_splice.specs.Splice.{IsSpliced};
+ghost use Rattle.mt_splice.specs.Splice.{IsSpliced, TellsAt};
 
 use crate::begun::Begun;
 use crate::beside::take_in_beside;
@@ -14,6 +14,7 @@ use crate::ends::publish_at;
 use crate::gathers::parent_items;
 use crate::levels::{NewRows, bury_rows, ends_of, write_piece, write_rows};
 use crate::regions::{Region, step_on};
+use crate::spliced::{Spliced, at_root};
 use arrayvec::ArrayVec;
 use mt_base::{Call, Reply};
 use mt_free::RowBook;
@@ -106,7 +107,8 @@ fn end_at_root<R: Rows, B: Begun>(
 ) -> Place
     requires inner { region.now.inner ≡ inner_kind B.start.tree.kind }
     requires end { MayEndAtRoot B.before B.start (R.sheet rows.old) book.old inner.old.items kind region.now.left.items region.now.right.items depth region.now.run.items ends.now number call.now reply.now }
-    ensures { IsSpliced B.before.kind B.before.sheet (R.sheet rows.new) B.before.book book.new B.before.number call.now reply.now result B.start.first B.start.last }
+    ensures spliced { IsSpliced B.before.kind B.before.sheet (R.sheet rows.new) B.before.book book.new B.before.number call.now reply.now result B.start.first B.start.last }
+    ensures root { result ≡ Root }
 {
     let new = replace_rows::<R, B>(rows, book, inner, region, ends, depth, kind, number);
     bury_above::<R, B>(
@@ -146,7 +148,8 @@ fn end_above<R: Rows, B: Begun>(
 ) -> Place
     requires inner { region.now.inner ≡ inner_kind B.start.tree.kind }
     requires end { MayEndAbove B.before B.start (R.sheet rows.old) book.old inner.old.items kind region.now.left.items region.now.right.items depth region.now.run.items ends.now number call.now reply.now }
-    ensures { IsSpliced B.before.kind B.before.sheet (R.sheet rows.new) B.before.book book.new B.before.number call.now reply.now result B.start.first B.start.last }
+    ensures spliced { IsSpliced B.before.kind B.before.sheet (R.sheet rows.new) B.before.book book.new B.before.number call.now reply.now result B.start.first B.start.last }
+    ensures root { result ≡ Root }
 {
     let new = replace_rows::<R, B>(rows, book, inner, region, ends, depth, kind, number);
     let kind = region.inner;
@@ -177,10 +180,11 @@ fn end_in_slot<R: Rows, B: Begun>(
     number: u64,
     call: &Call,
     reply: &Reply,
-) -> Place
+) -> Spliced
     requires inner { region.now.inner ≡ inner_kind B.start.tree.kind }
     requires end { MayEndInSlot B.before B.start (R.sheet rows.old) book.old inner.old.items kind region.now.left.items region.now.right.items depth region.now.run.items ends.now number call.now reply.now }
-    ensures { IsSpliced B.before.kind B.before.sheet (R.sheet rows.new) B.before.book book.new B.before.number call.now reply.now result B.start.first B.start.last }
+    ensures spliced { IsSpliced B.before.kind B.before.sheet (R.sheet rows.new) B.before.book book.new B.before.number call.now reply.now result.place B.start.first B.start.last }
+    ensures told { TellsAt B.before.kind (R.sheet rows.new).tree result.place result.gap }
 {
     let new = replace_rows::<R, B>(rows, book, inner, region, ends, depth, kind, number);
     let parent = step_on(&region.left, depth - 1);
@@ -198,7 +202,10 @@ fn end_in_slot<R: Rows, B: Begun>(
         call,
         reply,
     );
-    place
+    Spliced {
+        place,
+        gap: new[0].gap,
+    }
 }
 
 /// Replaces the rows of a level and of those above it that must change, and publishes that by one store.
@@ -212,10 +219,11 @@ pub fn replace_level<R: Rows, B: Begun>(
     number: u64,
     call: &Call,
     reply: &Reply,
-) -> Place
+) -> Spliced
     requires inner { region.old.inner ≡ inner_kind B.start.tree.kind }
     requires level { MayReplaceLevel B.before B.start (R.sheet rows.old) book.old inner.old.items kind region.old.left.items region.old.right.items depth region.old.run.items number call.now reply.now }
-    ensures { IsSpliced B.before.kind B.before.sheet (R.sheet rows.new) B.before.book book.new B.before.number call.now reply.now result B.start.first B.start.last }
+    ensures spliced { IsSpliced B.before.kind B.before.sheet (R.sheet rows.new) B.before.book book.new B.before.number call.now reply.now result.place B.start.first B.start.last }
+    ensures told { TellsAt B.before.kind (R.sheet rows.new).tree result.place result.gap }
 {
     take_in_beside::<R, B>(rows, region, depth, kind);
     let width = rows.width();
@@ -224,7 +232,7 @@ pub fn replace_level<R: Rows, B: Begun>(
     match next_of(width, region, depth, kind, ends.len()) {
         Next::Empty => {
             let (left, right) = (&region.left, &region.right);
-            end_empty::<R, B>(
+            at_root(end_empty::<R, B>(
                 rows,
                 book,
                 region.inner,
@@ -235,14 +243,14 @@ pub fn replace_level<R: Rows, B: Begun>(
                 number,
                 call,
                 reply,
-            )
+            ))
         }
-        Next::Root => end_at_root::<R, B>(
+        Next::Root => at_root(end_at_root::<R, B>(
             rows, book, inner, region, ends, depth, kind, number, call, reply,
-        ),
-        Next::RootAbove => end_above::<R, B>(
+        )),
+        Next::RootAbove => at_root(end_above::<R, B>(
             rows, book, inner, region, ends, depth, kind, number, call, reply,
-        ),
+        )),
         Next::Slot => end_in_slot::<R, B>(
             rows, book, inner, region, ends, depth, kind, number, call, reply,
         ),

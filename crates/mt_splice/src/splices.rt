@@ -4,7 +4,7 @@ ghost use Rattle.std.specs.Prelude.{◌≡◌, []};
 ghost use Rattle.mt_rows.specs.Spans.{inner_kind};
 ghost use Rattle.mt_path.specs.Handles.{last_step};
 ghost use Rattle.mt_splice.specs.steps.Entries.{IsBegunBy};
-ghost use Rattle.mt_splice.specs.Splice.{MaySplice, MayReplace, IsSpliced};
+ghost use Rattle.mt_splice.specs.Splice.{MaySplice, MayReplace, IsSpliced, TellsAt};
 
 use crate::begins::begin_tree;
 use crate::begun::Begun;
@@ -12,6 +12,7 @@ use crate::leaves::fill_leaves;
 use crate::levels::NewRows;
 use crate::regions::{Region, push_all};
 use crate::replaces::replace_level;
+use crate::spliced::{Spliced, at_root};
 use mt_base::{Call, Kind, Reply};
 use mt_free::RowBook;
 use mt_layout::{RowKind, Run};
@@ -45,14 +46,16 @@ fn splice_as<R: Rows, B: Begun>(
     number: u64,
     call: &Call,
     reply: &Reply,
-) -> Place
+) -> Spliced
     requires begun { IsBegunBy B.before B.start kind (R.sheet rows.old) book.old number call.now (last_step region.old.left.items).min (last_step region.old.right.items).max }
     requires may { MaySplice kind (R.sheet rows.old) book.old region.old.left.items region.old.right.items region.old.run.items number call.now reply.now }
     requires inner { region.old.inner ≡ inner_kind kind }
-    ensures { IsSpliced B.before.kind B.before.sheet (R.sheet rows.new) B.before.book book.new B.before.number call.now reply.now result B.start.first B.start.last }
+    ensures spliced { IsSpliced B.before.kind B.before.sheet (R.sheet rows.new) B.before.book book.new B.before.number call.now reply.now result.place B.start.first B.start.last }
+    ensures told { TellsAt B.before.kind (R.sheet rows.new).tree result.place result.gap }
 {
     if region.left.is_empty() {
-        return begin_tree::<R, B>(rows, book, region.inner, region.run.as_slice(), call, reply);
+        let items = region.run.as_slice();
+        return at_root(begin_tree::<R, B>(rows, book, region.inner, items, call, reply));
     }
     let mut inner = NewRows::new();
     let depth = region.left.len() as u32 - 1;
@@ -70,7 +73,7 @@ fn splice_as<R: Rows, B: Begun>(
 }
 
 /// Replaces the leaves from a region's left path to its right path by rows of its items, and all rows above that must
-/// change, and publishes that by one store, whose place it gives. The region is used up.
+/// change, and publishes that by one store. It gives the place, and what the row there tells. The region is used up.
 fn splice_region<R: Rows>(
     rows: &mut R,
     book: &mut RowBook,
@@ -79,16 +82,17 @@ fn splice_region<R: Rows>(
     number: u64,
     call: &Call,
     reply: &Reply,
-) -> Place
+) -> Spliced
     requires may { MaySplice kind (R.sheet rows.old) book.old region.old.left.items region.old.right.items region.old.run.items number call.now reply.now }
     requires inner { region.old.inner ≡ inner_kind kind }
-    ensures { IsSpliced kind (R.sheet rows.old) (R.sheet rows.new) book.old book.new number call.now reply.now result (last_step region.old.left.items).min (last_step region.old.right.items).max }
+    ensures spliced { IsSpliced kind (R.sheet rows.old) (R.sheet rows.new) book.old book.new number call.now reply.now result.place (last_step region.old.left.items).min (last_step region.old.right.items).max }
+    ensures told { TellsAt kind (R.sheet rows.new).tree result.place result.gap }
 {
     splice_as::<R, Brand>(rows, book, kind, region, number, call, reply)
 }
 
 /// Replaces the leaves from the left path to the right path by rows of these items, and all rows above that must change,
-/// and publishes that by one store, whose place it gives. The rows that it replaces are retired with the call's number.
+/// and publishes that by one store. It gives the place. The rows that it replaces are retired with the call's number.
 pub fn splice<R: Rows>(
     rows: &mut R,
     book: &mut RowBook,
@@ -105,11 +109,11 @@ pub fn splice<R: Rows>(
 {
     let mut region = empty_region(inner_kind(kind), copy_of(left), copy_of(right));
     push_all(&mut region.run, items.as_slice());
-    splice_region(rows, book, kind, &mut region, number, call, reply)
+    splice_region(rows, book, kind, &mut region, number, call, reply).place
 }
 
 /// Stores an entry, or a hole where it is 0, over `first` to `last`, by new rows; `left` is the path to `first`. The leaves
-/// at both ends are read and replaced.
+/// at both ends are read and replaced. It gives the place of the one store that publishes, and what the row there tells.
 pub fn replace_range<R: Rows>(
     rows: &mut R,
     book: &mut RowBook,
@@ -121,9 +125,10 @@ pub fn replace_range<R: Rows>(
     number: u64,
     call: &Call,
     reply: &Reply,
-) -> Place
+) -> Spliced
     requires { MayReplace kind (R.sheet rows.old) book.old left.now.items first last entry number call.now reply.now }
-    ensures { IsSpliced kind (R.sheet rows.old) (R.sheet rows.new) book.old book.new number call.now reply.now result first last }
+    ensures spliced { IsSpliced kind (R.sheet rows.old) (R.sheet rows.new) book.old book.new number call.now reply.now result.place first last }
+    ensures told { TellsAt kind (R.sheet rows.new).tree result.place result.gap }
 {
     let mut region = Region {
         left: copy_of(left),

@@ -70,7 +70,7 @@ fn store(rows: &mut PlainRows, book: &mut RowBook, first: u64, last: u64, entry:
     let call = Call::Store { first, last, entry };
     let number = rows.begin();
     let left = walk(rows, first);
-    let place = replace_range(
+    let spliced = replace_range(
         rows,
         book,
         Kind::Range,
@@ -83,7 +83,7 @@ fn store(rows: &mut PlainRows, book: &mut RowBook, first: u64, last: u64, entry:
         &Reply::Ok,
     );
     rows.finish(&call, &Reply::Ok);
-    place
+    spliced.place
 }
 
 /// The emptying of a tree that is not empty, as one call.

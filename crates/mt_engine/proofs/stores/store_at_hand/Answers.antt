@@ -64,8 +64,8 @@ returns-in-OneWord-clause-height g c =
 
 -- ---- by new rows
 
-pub replace_range-place-requires : goal.replace_range-place-requires
-replace_range-place-requires g c =
+pub replace_range-spliced-requires : goal.replace_range-spliced-requires
+replace_range-spliced-requires g c =
     let s = g.R.Rows.sheet c.args.rows.now in
     let tree = tree_in_call c.args.kind s c.args.book.now c.requires.in_call in
     let by = subst (IsDoneBy c.args.here c.args.first c.args.last c.args.entry) c.in-NewRows.is c.store_by.ensures in
@@ -75,14 +75,14 @@ replace_range-place-requires g c =
 
 pub mend_at-requires-clause-may : goal.mend_at-requires-clause-may
 mend_at-requires-clause-may g c =
-    may_mend c.args.kind (g.R.Rows.sheet c.args.rows.now) (g.R.Rows.sheet c.replace_range-place.new.rows) c.args.book.now c.replace_range-place.new.book c.args.number c.args.call.now c.args.reply.now c.replace_range-place.result c.args.first c.args.last c.requires.in_call c.requires.plan.store.order c.requires.plan.store.within c.replace_range-place.ensures
+    may_mend c.args.kind (g.R.Rows.sheet c.args.rows.now) (g.R.Rows.sheet c.replace_range-spliced.new.rows) c.args.book.now c.replace_range-spliced.new.book c.args.number c.args.call.now c.args.reply.now c.replace_range-spliced.result.place c.args.first c.args.last c.requires.in_call c.requires.plan.store.order c.requires.plan.store.within c.replace_range-spliced.ensures.spliced
 
 pub mend_at-requires-clause-was : goal.mend_at-requires-clause-was
 mend_at-requires-clause-was g c =
     let s = g.R.Rows.sheet c.args.rows.now in (
       s.tree,
-      was_way c.args.kind s (g.R.Rows.sheet c.replace_range-place.new.rows) c.args.book.now c.replace_range-place.new.book c.args.number c.args.call.now c.args.reply.now c.replace_range-place.result c.args.first c.args.last c.args.path.now.items
-          (tree_in_call c.args.kind s c.args.book.now c.requires.in_call) c.requires.plan.way c.replace_range-place.ensures,
+      was_way c.args.kind s (g.R.Rows.sheet c.replace_range-spliced.new.rows) c.args.book.now c.replace_range-spliced.new.book c.args.number c.args.call.now c.args.reply.now c.replace_range-spliced.result.place c.args.first c.args.last c.args.path.now.items
+          (tree_in_call c.args.kind s c.args.book.now c.requires.in_call) c.requires.plan.way c.replace_range-spliced.ensures.spliced,
     )
 
 pub returns-in-NewRows-clause-stored : goal.returns-in-NewRows-clause-stored
@@ -91,13 +91,13 @@ returns-in-NewRows-clause-stored g c =
     let tree = tree_in_call c.args.kind s c.args.book.now c.requires.in_call in
     let by = subst (IsDoneBy c.args.here c.args.first c.args.last c.args.entry) c.in-NewRows.is c.store_by.ensures in
     let replaces = new_rows_replace c.args.kind s.tree tree c.args.call.now c.args.path.now.items c.args.first c.args.last c.args.entry c.args.reply.now c.args.here c.requires.plan by in
-    rows_stored c.args.kind s (g.R.Rows.sheet c.replace_range-place.new.rows) (g.R.Rows.sheet c.mend_at.new.rows) c.args.book.now c.replace_range-place.new.book c.args.number c.args.call.now c.args.reply.now c.replace_range-place.result c.args.first c.args.last
-    c.requires.in_call c.requires.number replaces (ap (λ (was : List Range × Reply). was.1) c.requires.plan.store.acts) c.replace_range-place.ensures c.mend_at.ensures
+    rows_stored c.args.kind s (g.R.Rows.sheet c.replace_range-spliced.new.rows) (g.R.Rows.sheet c.mend_at.new.rows) c.args.book.now c.replace_range-spliced.new.book c.args.number c.args.call.now c.args.reply.now c.replace_range-spliced.result.place c.args.first c.args.last
+    c.requires.in_call c.requires.number replaces (ap (λ (was : List Range × Reply). was.1) c.requires.plan.store.acts) c.replace_range-spliced.ensures.spliced c.mend_at.ensures
 
 pub returns-in-NewRows-clause-height : goal.returns-in-NewRows-clause-height
 returns-in-NewRows-clause-height g c =
     let s = g.R.Rows.sheet c.args.rows.now in
     λ old.
     c.mend_at.ensures.height
-    ∙ height_stays c.args.kind s (g.R.Rows.sheet c.replace_range-place.new.rows) c.args.book.now c.replace_range-place.new.book c.args.number c.args.call.now c.args.reply.now c.replace_range-place.result c.args.first c.args.last (tree_in_call c.args.kind s c.args.book.now c.requires.in_call) c.replace_range-place.ensures
+    ∙ height_stays c.args.kind s (g.R.Rows.sheet c.replace_range-spliced.new.rows) c.args.book.now c.replace_range-spliced.new.book c.args.number c.args.call.now c.args.reply.now c.replace_range-spliced.result.place c.args.first c.args.last (tree_in_call c.args.kind s c.args.book.now c.requires.in_call) c.replace_range-spliced.ensures.spliced
     (sym c.is_root.ensures ∙ old)

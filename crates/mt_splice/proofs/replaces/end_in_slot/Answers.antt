@@ -1,5 +1,5 @@
-use Rattle.std.proofs.Common.{length, ap, rules, arith}
-use Rattle.mt_splice.proofs.LevelEnds.{rows_asked, new_some, parent_is_deep, slot_fits, slots_same, slot_is_published}
+use Rattle.std.proofs.Common.{length, refl, ap, rules, arith}
+use Rattle.mt_splice.proofs.LevelEnds.{rows_asked, new_some, parent_is_deep, slot_fits, slots_same, slot_is_published, slot_is_told}
 use Rattle.mt_splice.proofs.replaces.end_in_slot.Goals as goal
 
 pub replace_rows-new-requires-clause-level : goal.replace_rows-new-requires-clause-level
@@ -21,3 +21,8 @@ pub publish_at-requires-clause-end : goal.publish_at-requires-clause-end
 publish_at-requires-clause-end g c =
     let many = slots_same c.requires.end c.replace_rows-new.ensures.level c.width.ensures (rw c.requires.inner at c.slots.ensures) in
     rw c.deref.ensures.0 (slot_is_published c.requires.end c.replace_rows-new.ensures.level (record { last = 0; word = 0; gap = 0 }) c.step_on-parent.ensures c.as_slice.ensures.value many)
+
+pub returns-clause-told : goal.returns-clause-told
+returns-clause-told g c =
+    let many = slots_same c.requires.end c.replace_rows-new.ensures.level c.width.ensures (rw c.requires.inner at c.slots.ensures) in
+    c.publish_at.ensures.told _ _ _ refl (rw (c.deref.ensures.0, c.deref-2.ensures.0) (slot_is_told c.requires.end c.replace_rows-new.ensures.level (record { last = 0; word = 0; gap = 0 }) c.step_on-parent.ensures many))

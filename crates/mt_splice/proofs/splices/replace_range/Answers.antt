@@ -22,8 +22,8 @@ splice_region-requires-clause-may g c =
     let right : c.fill_leaves.new.region.right.items ≡ c.go_on.new.path.items = λ i. (c.fill_leaves.ensures.right i).items in
     may_splice c.requires c.go_on.ensures.rest c.fill_leaves.ensures.rest c.copy_of.ensures c.go_on.ensures.path left right c.fill_leaves.ensures.run
 
-pub returns : goal.returns
-returns g c =
+pub returns-clause-spliced : goal.returns-clause-spliced
+returns-clause-spliced g c =
     let left : c.fill_leaves.new.region.left.items ≡ c.args.left.now.items = (λ i. (c.fill_leaves.ensures.left i).items) ∙ c.copy_of.ensures in
     let right : c.fill_leaves.new.region.right.items ≡ c.go_on.new.path.items = λ i. (c.fill_leaves.ensures.right i).items in
-    range_replaced c.requires left (right ∙ c.go_on.ensures.path) (spliced_after_reads c.go_on.ensures.rest c.fill_leaves.ensures.rest c.splice_region.ensures)
+    range_replaced c.requires left (right ∙ c.go_on.ensures.path) (spliced_after_reads c.go_on.ensures.rest c.fill_leaves.ensures.rest c.splice_region.ensures.spliced)

@@ -15,4 +15,4 @@ pub returns : goal.returns
 returns g c =
     let left : c.empty_region-region.result.left.items ≡ c.copy_of.result.items = λ i. (c.empty_region-region.ensures.left i).items in
     let right : c.empty_region-region.result.right.items ≡ c.copy_of-2.result.items = λ i. (c.empty_region-region.ensures.right i).items in
-    spliced_by (left ∙ c.copy_of.ensures) (right ∙ c.copy_of-2.ensures) c.splice_region.ensures
+    spliced_by (left ∙ c.copy_of.ensures) (right ∙ c.copy_of-2.ensures) c.splice_region.ensures.spliced

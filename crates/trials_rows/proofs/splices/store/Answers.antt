@@ -14,22 +14,22 @@ walk-left-requires-clause-tree c = begun_tree c.requires.ready c.begin-number.en
 pub walk-left-requires-clause-index : goal.walk-left-requires-clause-index
 walk-left-requires-clause-index c = begun_within c.requires.ready c.begin-number.ensures.rest (let fits = c.ranges.first.fits in omega arith)
 
-pub replace_range-place-requires : goal.replace_range-place-requires
-replace_range-place-requires c = store_begins c.requires.ready c.begin-number.ensures.rest c.walk-left.ensures.reads.rest c.begin-number.ensures.number c.requires.free c.requires.order (let fits = c.ranges.last.fits in omega arith) c.requires.lawful c.requires.some c.walk-left.ensures.path
+pub replace_range-spliced-requires : goal.replace_range-spliced-requires
+replace_range-spliced-requires c = store_begins c.requires.ready c.begin-number.ensures.rest c.walk-left.ensures.reads.rest c.begin-number.ensures.number c.requires.free c.requires.order (let fits = c.ranges.last.fits in omega arith) c.requires.lawful c.requires.some c.walk-left.ensures.path
 
 pub finish-requires : goal.finish-requires
 finish-requires c =
     let may = store_begins c.requires.ready c.begin-number.ensures.rest c.walk-left.ensures.reads.rest c.begin-number.ensures.number c.requires.free c.requires.order (let fits = c.ranges.last.fits in omega arith) c.requires.lawful c.requires.some c.walk-left.ensures.path in
-    may_finish c.replace_range-place.ensures may.unpublished.in_flight
+    may_finish c.replace_range-spliced.ensures.spliced may.unpublished.in_flight
 
 pub returns-clause-ready : goal.returns-clause-ready
 returns-clause-ready c =
     let may = store_begins c.requires.ready c.begin-number.ensures.rest c.walk-left.ensures.reads.rest c.begin-number.ensures.number c.requires.free c.requires.order (let fits = c.ranges.last.fits in omega arith) c.requires.lawful c.requires.some c.walk-left.ensures.path in
-    ready_again may.told may.unpublished.numbered c.replace_range-place.ensures c.finish.ensures refl
+    ready_again may.told may.unpublished.numbered c.replace_range-spliced.ensures.spliced c.finish.ensures refl
 
 pub returns-clause-map : goal.returns-clause-map
 returns-clause-map c =
     let may = store_begins c.requires.ready c.begin-number.ensures.rest c.walk-left.ensures.reads.rest c.begin-number.ensures.number c.requires.free c.requires.order (let fits = c.ranges.last.fits in omega arith) c.requires.lawful c.requires.some c.walk-left.ensures.path in
     let same = tree_read (sheet_in c.begin-number.new.self) (sheet_in c.walk-left.new.rows) c.walk-left.ensures.reads.rest ∙ ap (λ (x : Sheet). x.tree) c.begin-number.ensures.rest in
-    map_after_call may.told may.unpublished.numbered c.replace_range-place.ensures c.finish.ensures
+    map_after_call may.told may.unpublished.numbered c.replace_range-spliced.ensures.spliced c.finish.ensures
     ∙ (ap (λ (a : List Range × Reply). a.0) may.store.acts ∙ ap (λ (t : Rooted). over (map_by t) c.args.first c.args.last c.args.entry) same)
