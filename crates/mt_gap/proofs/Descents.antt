@@ -39,7 +39,7 @@ use Rattle.mt_gap.proofs.NarrowedUp.{levels_up, levels_none, rising_up, up_two, 
 some_columns : (width : Width) → 0 < columns width
 some_columns Long = omega arith
 
-row_may_load : (kind : Kind) (t : Rooted) (h : ℕ) (x : Span) → IsRow (tree_as kind t) h x → MayLoad t x
+pub row_may_load : (kind : Kind) (t : Rooted) (h : ℕ) (x : Span) → IsRow (tree_as kind t) h x → MayLoad t x
 row_may_load kind t h x row = λ k named. record { first = (Names-named_kind x.word k named).0.0; last = row.name.in_table; column = some_columns t.table.width }
 
 rows_may_load : (kind : Kind) (t : Rooted) (h : ℕ) (xs : List Child) → AllByRecursion (IsRow (tree_as kind t) h) (spans xs) → All (λ (x : Child). MayLoad t x.span) xs
@@ -184,7 +184,7 @@ no_holes : (t : Table) (left : ℕ) → holes_below t left [] ≡ []
 no_holes t zero = refl
 no_holes t (suc left) = no_holes t left
 
-leaves_have : (t : Tree) (pick : List Hole → Option ℕ) (w : Window) (answer : Option ℕ) (left : ℕ) (xs : List Child) → AreLeaves xs → Levels (IsRow t) t.table left (spans xs)
+pub leaves_have : (t : Tree) (pick : List Hole → Option ℕ) (w : Window) (answer : Option ℕ) (left : ℕ) (xs : List Child) → AreLeaves xs → Levels (IsRow t) t.table left (spans xs)
     → picked pick w (holes_below t.table left (spans xs)) ≡ answer → picked pick w (flat_map child_hole (children_below t.table xs)) ≡ answer
 leaves_have t pick w answer left [] leaves rows found = ap (picked pick w) (sym (no_holes t.table left)) ∙ found
 leaves_have t pick w answer zero (x ∷ xs) leaves rows found =

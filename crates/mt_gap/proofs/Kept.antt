@@ -1,17 +1,17 @@
 -- What is kept of holes: of those out of the window and the short ones nothing, of a long one in the window something.
-use Rattle.std.proofs.Common.{◌≡◌, ℕ, zero, suc, ◌+◌, ◌-◌, ◌<◌, ◌≤◌, ◌==◌, List, [], ◌∷◌, ◌++◌, min, max, nat_le, map, length, refl, ap, ◌∙◌, inl, inr, arith, filter}
+use Rattle.std.proofs.Common.{◌≡◌, ℕ, zero, suc, ◌+◌, ◌-◌, ◌<◌, ◌≤◌, ◌==◌, List, [], ◌∷◌, ◌++◌, min, max, nat_le, map, length, Some, refl, sym, ap, ◌∙◌, inl, inr, arith, filter}
 use Rattle.std.specs.List.{AllByRecursion, flat_map}
 use Rattle.std.proofs.lemmas.List.{map-append}
 use Rattle.std.proofs.lemmas.List.Elements.{filter-append}
 use Rattle.std.proofs.lemmas.Grind.{flat_map-append}
-use Rattle.std.proofs.lemmas.Bool.{cases_Bool, lt-leb, leb-false}
+use Rattle.std.proofs.lemmas.Bool.{cases_Bool, lt-leb, leb-true, leb-false}
 use Rattle.mt_layout.specs.declared.spans.Span.{Span}
 use Rattle.mt_layout.specs.Spans.{Fills, longest_in}
 use Rattle.mt_rows.specs.Spans.{Table}
 use Rattle.mt_rows.specs.Levels.{expand, Levels}
 use Rattle.mt_rows.specs.Laws.{Tree, IsRow, longest_below}
 use Rattle.mt_rows.proofs.Lists.{all_map, fills_le, expand_fills, expand-append}
-use Rattle.mt_base.specs.Holes.{Hole, clip, fits, kept}
+use Rattle.mt_base.specs.Holes.{Hole, clip, fits, kept, lowest_in}
 use Rattle.mt_gap.specs.Below.{leaf_hole, holes_below}
 use Rattle.mt_gap.proofs.HolesBelow.{rows_filled}
 
@@ -30,7 +30,7 @@ Between a b x = (a ≤ x.first) × (x.first ≤ x.last) × (x.last < b)
 between_more : (a a' b : ℕ) (xs : List Hole) → a ≤ a' → AllByRecursion (Between a' b) xs → AllByRecursion (Between a b) xs
 between_more a a' b xs le each = all_map (Between a' b) (Between a b) (λ x between. let begins = between.0 in (omega arith, between.1, between.2)) xs each
 
-leaf_between : (a b : ℕ) (xs : List Span) → Fills a b xs → AllByRecursion (Between a b) (flat_map leaf_hole xs)
+pub leaf_between : (a b : ℕ) (xs : List Span) → Fills a b xs → AllByRecursion (Between a b) (flat_map leaf_hole xs)
 leaf_between a b [] fills = tt
 leaf_between a b (x ∷ xs) fills =
     let le = fills_le (x.last + 1) b xs fills.2 in
@@ -86,4 +86,19 @@ some_inside n lo hi a b (x ∷ xs) some each from to long =
     elim (cases_Bool (nat_le (max lo x.first + n) (min hi x.last + 1))) [
       | inl whole ↦ rw whole (omega arith)
       | inr less ↦ rw less (let short = leb-false (max lo x.first + n) (min hi x.last + 1) less in some_inside n lo hi a b xs some each.1 from to (omega arith))
+    ]
+
+-- the lowest place lies where the holes do
+pub lowest_between : (n lo hi a b start : ℕ) (xs : List Hole) → 1 ≤ n → AllByRecursion (Between a b) xs → lowest_in (kept n lo hi xs) ≡ Some start → (a ≤ start) × (start < b)
+lowest_between n lo hi a b start [] some each is = absurd (cc)
+lowest_between n lo hi a b start (x ∷ xs) some each is =
+    let begins = each.0.0 in let ends = each.0.2 in
+    elim (cases_Bool (nat_le (max lo x.first + n) (min hi x.last + 1))) [
+      | inl whole ↦ (
+          let room = leb-true (max lo x.first + n) (min hi x.last + 1) whole in
+          let first : kept n lo hi (x ∷ xs) ≡ clip lo hi x ∷ kept n lo hi xs = (rw whole refl) in
+          let here : Some (max lo x.first) ≡ Some start = ap lowest_in (sym first) ∙ is in
+          let same : max lo x.first ≡ start = cc in
+          (omega arith, omega arith))
+      | inr less ↦ (let short = leb-false (max lo x.first + n) (min hi x.last + 1) less in lowest_between n lo hi a b start xs some each.1 (ap lowest_in (sym (kept_not n lo hi x xs short)) ∙ is))
     ]

@@ -17,3 +17,4 @@ pub mod MendWay
 pub mod Along
 pub mod SlotsRight
 pub mod MendGaps
+pub mod OneWay

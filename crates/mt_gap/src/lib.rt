@@ -5,7 +5,8 @@ mod children;
 mod levels;
 mod mends;
 mod searches;
+mod ways;
 mod windows;
 
 pub use mends::{mend_along, mend_gaps, mend_way};
-pub use searches::{highest, lowest};
+pub use searches::{Area, highest, lowest, lowest_way};

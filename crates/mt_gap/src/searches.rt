@@ -1,25 +1,37 @@
 //! The lowest and the highest place with room for so many indexes.
 
-ghost use Rattle.std.specs.Prelude.{◌≡◌, ◌≢◌, ◌↔◌, ◌+◌, ◌*◌, ◌≤◌, ℕ, All, IsTrue, [], ◌∷◌, length};
+ghost use Rattle.std.specs.Prelude.{◌≡◌, ◌≢◌, ◌↔◌, ◌+◌, ◌*◌, ◌≤◌, ℕ, All, IsTrue, [], ◌∷◌, length, IsNone, IfSome};
 ghost use Rattle.std.specs.List.{flat_map};
+ghost use Rattle.std.specs.Option.{option_map};
 ghost use Rattle.mt_base.specs.declared.kinds.Kind.TheVariants as trees;
 ghost use Rattle.mt_base.specs.Holes.{low, high, lowest_in, highest_in};
 ghost use Rattle.mt_base.specs.Width.{columns, greatest};
 ghost use Rattle.mt_rows.specs.Publish.{IsLawfulOf, map_by};
-ghost use Rattle.mt_rows.specs.Sheet.{ReadsUpTo};
+ghost use Rattle.mt_rows.specs.Sheet.{OnlyReads, ReadsUpTo};
 ghost use Rattle.mt_rows.specs.Trees.{height_in};
 ghost use Rattle.mt_gap.specs.declared.children.Child.{Child};
 ghost use Rattle.mt_gap.specs.Below.{child_hole};
 ghost use Rattle.mt_gap.specs.Children.{children_in, children_below, root_child};
 ghost use Rattle.mt_gap.specs.Descents.{MayLoad, picked, place_in, Arrives, AreLeaves};
+ghost use Rattle.mt_gap.specs.Ways.{EndsInLeaf, IsAreaAt};
+ghost use Rattle.mt_gap.specs.declared.searches.Area.{Area};
 
 use crate::children::Child;
 use crate::levels::{next_higher, next_lower};
+use crate::ways::{End, go_one_way};
 use crate::windows::{Asked, Window, high_place, highest_of, low_place, lowest_of};
 use mt_base::{DEEPEST, Steps, Width, top};
 use mt_layout::{RowKind, Span, kind_of, row_of};
+use mt_path::{Handle, Path, end_by_halves, walk_by_halves};
 use mt_rows::Rows;
 use std::sync::ledger::Ledger;
+
+/// A place with room: where it starts, and what stands there; nothing does in the empty tree.
+#[derive(Clone, Copy, Debug, PartialEq, Eq)]
+pub struct Area {
+    pub start: u64,
+    pub here: Option<Handle>,
+}
 
 /// What covers every index.
 fn whole(width: Width, word: u64) -> Child
@@ -192,6 +204,75 @@ pub fn lowest<R: Rows, L: Ledger>(
     }
     let leaves = to_lowest(rows, root, window, steps);
     lowest_in_leaves(rows, &leaves, window, steps)
+}
+
+/// The lowest place in a leaf, to which the path leads, and the end of the way there.
+fn area_in_leaf<R: Rows>(rows: &mut R, leaf: Span, window: Window, path: &mut Path) -> Option<Area>
+    requires tree { IsLawfulOf (R.sheet rows.old).tree trees.Alloc }
+    requires size { 1 ≤ window.size }
+    requires leaf { EndsInLeaf (R.sheet rows.old).tree window path.old.items leaf }
+    ensures place { option_map (λ (area : Area). area.start) result ≡ place_in lowest_in window (R.sheet rows.old).tree }
+    ensures way { IfSome result (λ area. IsAreaAt (R.sheet rows.old).tree path.new.items area) }
+    ensures rest { OnlyReads (R.sheet rows.old) (R.sheet rows.new) }
+    ensures reads { IsNone result → ReadsUpTo (columns (R.sheet rows.old).tree.table.width) (R.sheet rows.old) (R.sheet rows.new) }
+{
+    let start = lowest_in_leaf(rows, leaf, window)?;
+    let here = end_by_halves(rows, leaf, start, path);
+    Some(Area {
+        start,
+        here: Some(here),
+    })
+}
+
+/// The lowest place where a search goes into more than one row of a level, and the way there, which is walked then.
+fn area_by_levels<R: Rows, L: Ledger>(
+    rows: &mut R,
+    window: Window,
+    steps: &mut Steps<L>,
+    path: &mut Path,
+) -> Option<Area>
+    requires tree { IsLawfulOf (R.sheet rows.old).tree trees.Alloc }
+    requires size { 1 ≤ window.size }
+    ensures place { option_map (λ (area : Area). area.start) result ≡ low trees.Alloc (map_by (R.sheet rows.old).tree) window.size window.lo window.hi }
+    ensures way { IfSome result (λ area. IsAreaAt (R.sheet rows.old).tree path.new.items area) }
+    ensures rest { OnlyReads (R.sheet rows.old) (R.sheet rows.new) }
+    ensures reads { IsNone result → ReadsUpTo (3 * height_in (R.sheet rows.old).tree.table (R.sheet rows.old).tree.root * columns (R.sheet rows.old).tree.table.width + 1) (R.sheet rows.old) (R.sheet rows.new) }
+{
+    let start = lowest(rows, window.size, window.lo, window.hi, steps)?;
+    path.clear();
+    let here = walk_by_halves(rows, start, path);
+    Some(Area { start, here })
+}
+
+/// The same as `lowest`, with the way to the place and what stands there. Where the search went into one row in each level, no row
+/// on the way is walked again but the leaf.
+pub fn lowest_way<R: Rows, L: Ledger>(
+    rows: &mut R,
+    size: u64,
+    lo: u64,
+    hi: u64,
+    steps: &mut Steps<L>,
+    path: &mut Path,
+) -> Option<Area>
+    requires tree { IsLawfulOf (R.sheet rows.old).tree trees.Alloc }
+    requires size { 1 ≤ size }
+    requires empty { path.old.items ≡ [] }
+    ensures place { option_map (λ (area : Area). area.start) result ≡ low trees.Alloc (map_by (R.sheet rows.old).tree) size lo hi }
+    ensures way { IfSome result (λ area. IsAreaAt (R.sheet rows.old).tree path.new.items area) }
+    ensures rest { OnlyReads (R.sheet rows.old) (R.sheet rows.new) }
+    ensures reads { IsNone result → ReadsUpTo (2 * (3 * height_in (R.sheet rows.old).tree.table (R.sheet rows.old).tree.root * columns (R.sheet rows.old).tree.table.width + 1)) (R.sheet rows.old) (R.sheet rows.new) }
+{
+    let window = Window { size, lo, hi };
+    let word = rows.root();
+    if word == 0 {
+        return area_by_levels(rows, window, steps, path);
+    }
+    let root = whole(rows.width(), word).span;
+    match go_one_way(rows, root, window, path) {
+        End::Nowhere => None,
+        End::Leaf { leaf } => area_in_leaf(rows, leaf, window, path),
+        End::Branch => area_by_levels(rows, window, steps, path),
+    }
 }
 
 /// The highest start of so many indexes that lie in one hole and in the window `lo` to `hi`. Each row that is loaded is

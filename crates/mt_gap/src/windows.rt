@@ -35,14 +35,14 @@ pub(crate) struct Window {
 }
 
 /// Whether there can be room below a child with this gap word, and in the window.
-fn may_have(window: Window, first: u64, last: u64, gap: u64) -> bool
+pub(crate) fn may_have(window: Window, first: u64, last: u64, gap: u64) -> bool
     ensures { (word : ℕ) → result ≡ may_have window.size window.lo window.hi (record { span = record { first = first; last = last; word = word }; gap = gap }) }
 {
     window.size <= gap && first <= window.hi && window.lo <= last
 }
 
 /// Whether a child lies in the window.
-fn is_inside(window: Window, first: u64, last: u64) -> bool
+pub(crate) fn is_inside(window: Window, first: u64, last: u64) -> bool
     ensures { (word gap : ℕ) → result ≡ inside window.lo window.hi (record { span = record { first = first; last = last; word = word }; gap = gap }) }
 {
     window.lo <= first && last <= window.hi

@@ -15,7 +15,7 @@ use Rattle.mt_path.specs.declared.rows.Found.{Found}
 use Rattle.mt_path.specs.Handles.{handle_in}
 use Rattle.mt_path.specs.Middles.{IsLawfulRow}
 use Rattle.mt_path.specs.Paths.{path_in, loads_in, loads_on}
-use Rattle.mt_path.specs.Walks.{row_for, found_span, IsFound, IsOnWay}
+use Rattle.mt_path.specs.Walks.{row_for, found_span, IsFound, IsOnWay, EntersLeaf}
 use Rattle.mt_path.proofs.Descents as descents
 use Rattle.mt_path.proofs.Kept.{tree_kept}
 use Rattle.mt_path.proofs.Loads.{no_reads, one_read, reads_more, reads_up, reads_next, loads_in-push}
@@ -33,6 +33,18 @@ pub at_root : (s s' : Sheet) (index : ℕ) (steps : List PathStep) (row : Row) �
 at_root s s' index steps row none way loads =
     subst (λ (l : List PathStep). Halves s s' index 0 l row) (sym none)
     (record { front = refl; way = way; deep = omega arith; reads = reads_up 1 (2 * loads_on []) s s' (omega arith) (one_read s s' loads) })
+
+-- at the leaf that the way enters last, before it is looked at
+pub at_leaf : (s : Sheet) (index : ℕ) (steps : List PathStep) (leaf : Span) (row : Row) → EntersLeaf s.tree index steps leaf → Some row ≡ row_for leaf → Halves s s index 0 steps row
+at_leaf s index steps leaf row enters is = record {
+  front = enters.front;
+  way = record { low = enters.low; named = is ∙ ap row_for (sym enters.enters) };
+  deep = omega arith;
+  reads = reads_up 0 (2 * loads_on steps) s s (omega arith) (no_reads s);
+}
+
+pub leaf_kind : (t : Rooted) (index : ℕ) (steps : List PathStep) (leaf : Span) (row : Row) → EntersLeaf t index steps leaf → Some row ≡ row_for leaf → row.kind ≡ Leaf
+leaf_kind t index steps leaf row enters is = let one = sym (ways.named leaf row is).0 ∙ enters.is_leaf in cc
 
 module _ (s s' : Sheet) (kind : Kind) (tree : IsTreeOf s.tree kind) (index : ℕ) (within : index ≤ greatest s.tree.table.width) (entered : ℕ) (steps : List PathStep) (row : Row) (halves : Halves s s' index entered steps row) where
   pub shallow : length steps < deepest

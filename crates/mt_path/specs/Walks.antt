@@ -1,6 +1,6 @@
 -- What a walk finds in a row, and which row it is in.
 -- Source: the kernel's lib/maple_tree.c, mtree_range_walk.
-use Rattle.std.specs.Prelude.{◌≡◌, ℕ, ◌<◌, List, length, Option, Some}
+use Rattle.std.specs.Prelude.{◌≡◌, ℕ, ◌<◌, List, length, take, Option, Some}
 use Rattle.std.specs.Option.{option_map}
 use Rattle.mt_layout.specs.declared.names.RowKind.{RowKind}
 use Rattle.mt_layout.specs.declared.names.RowKind.TheVariants.{Leaf}
@@ -10,6 +10,7 @@ use Rattle.mt_layout.specs.Sizes.{slots_of}
 use Rattle.mt_layout.specs.Columns.{slot_column}
 use Rattle.mt_rows.specs.Sheet.{Rooted, IsPlace}
 use Rattle.mt_rows.specs.Spans.{Table, column, row_spans, root_span}
+use Rattle.mt_path.specs.declared.paths.PathStep.{PathStep}
 use Rattle.mt_path.specs.declared.rows.Row.{Row}
 use Rattle.mt_path.specs.declared.rows.Found.{Found}
 use Rattle.mt_path.specs.Handles.{handle_in}
@@ -49,3 +50,10 @@ pub record IsAtEnd (t : Rooted) (index : ℕ) (found : Found) : Type 0 where
   pub place : IsPlace t found.step.row 0
   pub used : found.step.slot < slots_of t.table.width Leaf
   pub handle : record { leaf = found.step; span = found_span t.table Leaf found } ≡ handle_in t index
+
+-- The way to an index goes by these steps and enters this leaf then.
+pub record EntersLeaf (t : Rooted) (index : ℕ) (steps : List PathStep) (leaf : Span) : Type 0 where
+  pub front : steps ≡ take (length steps) (path_in t.table t.root index)
+  pub low : length steps < length (path_in t.table t.root index)
+  pub enters : row_on t.table (length steps) (root_span t.table t.root) index ≡ leaf
+  pub is_leaf : named_kind leaf.word ≡ Some Leaf

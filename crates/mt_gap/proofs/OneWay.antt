@@ -1,0 +1,429 @@
+-- A search that goes into one row in each level: what it has seen of a row, and how far it has come.
+use Rattle.std.proofs.Common.{◌≡◌, ◌≢◌, ℕ, zero, suc, ◌+◌, ◌*◌, ◌<◌, ◌≤◌, ◌⊎◌, List, [], ◌∷◌, ◌++◌, Bool, true, false, Option, Some, None, length, take, refl, sym, ap, ◌∙◌, subst, inl, inr, arith, append_assoc, append-nil, length-append}
+use Rattle.std.specs.List.{AllByRecursion, flat_map}
+use Rattle.std.proofs.lemmas.Bool.{cases_Bool}
+use Rattle.std.proofs.lemmas.List.{take_more}
+use Rattle.mt_base.specs.declared.kinds.Kind.{Kind}
+use Rattle.mt_base.specs.declared.kinds.Kind.TheVariants as trees
+use Rattle.mt_base.specs.Holes.{low, lowest_in}
+use Rattle.mt_base.specs.Width.{columns, deepest, greatest}
+use Rattle.mt_layout.specs.declared.names.RowKind.{RowKind}
+use Rattle.mt_layout.specs.declared.names.RowKind.TheVariants.{Leaf, Gapped}
+use Rattle.mt_layout.specs.declared.spans.Span.{Span}
+use Rattle.mt_layout.specs.Rows.{row_in, named_kind}
+use Rattle.mt_layout.specs.Spans.{Fills}
+use Rattle.mt_rows.specs.Laws.{Tree, IsRow, Stands, top_of}
+use Rattle.mt_rows.specs.Publish.{tree_as, IsTreeOf, IsLawfulOf, map_by}
+use Rattle.mt_rows.specs.Sheet.{Rooted, Sheet, ReadsUpTo, loaded}
+use Rattle.mt_rows.specs.Spans.{root_span, spans_in}
+use Rattle.mt_rows.specs.Trees.{height_in}
+use Rattle.mt_rows.proofs.Depth.{height_by_depth}
+use Rattle.mt_rows.proofs.Lists.{levels_here}
+use Rattle.mt_path.specs.declared.handles.Handle.{Handle}
+use Rattle.mt_path.specs.declared.paths.PathStep.{PathStep}
+use Rattle.mt_path.specs.Handles.{handle_in}
+use Rattle.mt_path.specs.Paths.{path_in, step_at, no_step, row_on, below, slot_for, span_at, step_in, At}
+use Rattle.mt_path.specs.Walks.{EntersLeaf}
+use Rattle.mt_path.proofs.Kept.{tree_kept}
+use Rattle.mt_path.proofs.Loads.{no_reads, one_read, reads_more, reads_up}
+use Rattle.mt_path.proofs.Places as places
+use Rattle.mt_path.proofs.Places.{at_slot, at_parts, at_once, at_within}
+use Rattle.mt_path.proofs.Steps.{row_next}
+use Rattle.mt_path.proofs.TreePaths.{row_of, levels, step}
+use Rattle.mt_path.proofs.Ways.{row_on_top, some_root}
+use Rattle.mt_gap.specs.declared.children.Child.{Child}
+use Rattle.mt_gap.specs.declared.ways.Below.{Below}
+use Rattle.mt_gap.specs.declared.ways.Below.TheVariants as below_row
+use Rattle.mt_gap.specs.declared.windows.Window.{Window}
+use Rattle.mt_gap.specs.Below.{holes_below, leaf_hole, child_hole}
+use Rattle.mt_gap.specs.Children.{children_in, children_by, children_below, row_children, root_child, spans}
+use Rattle.mt_gap.specs.Descents.{MayLoad, picked, place_in, Asks, AreLeaves}
+use Rattle.mt_gap.specs.Narrow.{may_have, narrow, has_sure}
+use Rattle.mt_gap.specs.Ways.{one_more, with_room, StandsIn, AreAsked, IsBelow, LeadsTo, EndsInLeaf, IsAreaAt}
+use Rattle.mt_gap.proofs.Asking.{ask_on, ask_stops, one_asked}
+use Rattle.mt_gap.proofs.ChildLists.{spans-append, spans_of_row, holes_of_children}
+use Rattle.mt_gap.proofs.Descents.{asks_root, come_root, low_empty, low_next, leaves_have, row_may_load}
+use Rattle.mt_gap.proofs.Kept.{Between, leaf_between, holes_between, lowest_between}
+
+-- ---- in a row
+
+module _ (xs ys : List Child) where
+  stays_in : (slot : ℕ) (x : Child) → StandsIn xs slot x → StandsIn (xs ++ ys) slot x
+  stays_in slot x at = record {
+    front = at.front;
+    back = at.back ++ ys;
+    parts = ap (λ (l : List Child). l ++ ys) at.parts ∙ append_assoc at.front (x ∷ at.back) ys;
+    count = at.count;
+  }
+
+  widen : (asked : List Child) (b : Below) → AreAsked xs asked b → AreAsked (xs ++ ys) asked b
+  widen asked below_row.Nothing is = is
+  widen asked (below_row.One slot span) is = record { child = is.child; alone = is.alone; is = is.is; stands = stays_in slot is.child is.stands }
+  widen asked below_row.More is = is
+
+module _ (w : Window) (before : List Child) (x : Child) (slot : ℕ) (count : length before ≡ slot) where
+  taken : (asked : List Child) (b : Below) → AreAsked before asked b → AreAsked (before ++ (x ∷ [])) (asked ++ (x ∷ [])) (one_more slot x.span b)
+  taken asked below_row.Nothing is = record {
+    child = x;
+    alone = ap (λ (l : List Child). l ++ (x ∷ [])) is;
+    is = refl;
+    stands = record { front = before; back = []; parts = refl; count = count };
+  }
+  taken asked (below_row.One s y) is =
+      let long = length-append asked (x ∷ []) in
+      let one = ap length is.alone in
+      omega arith
+  taken asked below_row.More is = let long = length-append asked (x ∷ []) in omega arith
+
+  with_one : (asked : List Child) (b : Below) → AreAsked before asked b → AreAsked (before ++ (x ∷ [])) (asked ++ narrow w.size w.lo w.hi (x ∷ [])) (with_room w slot x b)
+  with_one asked b is = elim (cases_Bool (may_have w.size w.lo w.hi x)) [
+    | inl may ↦ (
+        let more = (one_asked w.size w.lo w.hi asked (asked ++ (x ∷ [])) x may refl).0 in
+        let room : with_room w slot x b ≡ one_more slot x.span b = (rw may refl) in
+        subst (AreAsked (before ++ (x ∷ [])) (asked ++ narrow w.size w.lo w.hi (x ∷ []))) (sym room)
+        (subst (λ (l : List Child). AreAsked (before ++ (x ∷ [])) l (one_more slot x.span b)) more (taken asked b is)))
+    | inr not ↦ (rw not (subst (λ (l : List Child). AreAsked (before ++ (x ∷ [])) l b) (sym (append-nil asked)) (widen before (x ∷ []) asked b is)))
+  ]
+
+-- none of these is sure, and what is gone into of them
+abbrev pub HasSeen : Window → Below → List Child → Type 0
+HasSeen w b before = AreAsked before (narrow w.size w.lo w.hi before) b × (has_sure w.size w.lo w.hi before ≡ false)
+
+module _ (w : Window) (b : Below) (before : List Child) (seen : HasSeen w b before) (x : Child) (slot : ℕ) (count : length before ≡ slot) (after : Below) (is : after ≡ with_room w slot x b) (sure : Bool) (found : sure ≡ has_sure w.size w.lo w.hi (x ∷ [])) where
+  abbrev asked : List Child
+  asked = narrow w.size w.lo w.hi before
+
+  abbrev more : List Child
+  more = asked ++ narrow w.size w.lo w.hi (x ∷ [])
+
+  here : AreAsked (before ++ (x ∷ [])) more after
+  here = subst (AreAsked (before ++ (x ∷ [])) more) (sym is) (with_one w before x slot count asked b seen.0)
+
+  pub seen_on : sure ≡ false → HasSeen w after (before ++ (x ∷ []))
+  seen_on not =
+      let on = ask_on w.size w.lo w.hi [] asked before (refl, seen.1) x more sure refl found not in
+      (subst (λ (l : List Child). AreAsked (before ++ (x ∷ [])) l after) on.0 here, on.1)
+
+  pub seen_stops : (rest all : List Child) → before ++ (x ∷ rest) ≡ all → sure ≡ true → IsBelow w all after
+  seen_stops rest all all_is stops =
+      let on = ask_stops w.size w.lo w.hi [] asked before (refl, seen.1) x more rest all sure all_is refl found stops in
+      let parts : (before ++ (x ∷ [])) ++ rest ≡ all = append_assoc before (x ∷ []) rest ∙ all_is in
+      subst (λ (l : List Child). AreAsked all l after) on.0 (subst (λ (l : List Child). AreAsked l more after) parts (widen (before ++ (x ∷ [])) rest more after here))
+
+pub seen_all : (w : Window) (b : Below) (before all : List Child) → HasSeen w b before → before ≡ all → IsBelow w all b
+seen_all w b before all seen same = subst (λ (l : List Child). IsBelow w l b) same seen.0
+
+-- ---- from level to level
+
+module _ (t : Rooted) (h : ℕ) (stands : Stands (tree_as trees.Alloc t) h) where
+  abbrev tree : Tree
+  tree = tree_as trees.Alloc t
+
+  abbrev to : ℕ → List PathStep
+  to index = path_in t.table t.root index
+
+  leads_root : LeadsTo t [] (root_span t.table t.root)
+  leads_root = record {
+    within = omega arith;
+    front = λ index from upto. refl;
+    low = λ index from upto. (let many = levels tree h stands index upto in omega arith);
+    enters = λ index from upto. row_on_top t.table (root_span t.table t.root) index;
+  }
+
+  module _ (path : List PathStep) (x y : Span) (front back : List Span) (leads : LeadsTo t path x) (fills : Fills x.first (x.last + 1) (spans_in t.table x)) (parts : spans_in t.table x ≡ front ++ (y ∷ back)) (deep : length path + 1 ≤ h) where
+    abbrev d : ℕ
+    d = length path
+
+    abbrev one : PathStep
+    one = record { row = row_in x.word; slot = length front; min = x.first; max = x.last }
+
+    module _ (index : ℕ) (from : y.first ≤ index) (upto : index ≤ y.last) where
+      at : At x.first (x.last + 1) (spans_in t.table x) index y
+      at = at_parts x.first (x.last + 1) (spans_in t.table x) index front y back fills parts from upto
+
+      inside : (x.first ≤ y.first) × (y.last < x.last + 1)
+      inside = at_within x.first (x.last + 1) (spans_in t.table x) index y at
+
+      first_in : x.first ≤ index
+      first_in = let low = inside.0 in omega arith
+
+      last_in_row : index ≤ x.last
+      last_in_row = let high = inside.1 in omega arith
+
+      within_top : index ≤ top_of tree
+      within_top = let last = last_in_row in let all = leads.within in omega arith
+
+      many : length (to index) ≡ h + 1
+      many = levels tree h stands index within_top
+
+      row_is : row_of tree d index ≡ x
+      row_is = leads.enters index first_in last_in_row
+
+      slot_is : slot_for (spans_in t.table x) index ≡ length front
+      slot_is = ap (λ (l : List Span). slot_for l index) parts ∙ places.slot_is x.first (x.last + 1) front y back index (subst (Fills x.first (x.last + 1)) parts fills) from upto
+
+      step_is : step_at (to index) d ≡ one
+      step_is =
+          step tree h stands index d within_top (omega arith)
+          ∙ (ap (λ (z : Span). step_in t.table z index) row_is
+          ∙ ap (λ (n : ℕ). record { row = row_in x.word; slot = n; min = x.first; max = x.last }) slot_is)
+
+      below_is : below t.table x index ≡ y
+      below_is =
+          let low = first_in in let high = last_in_row in
+          let z = span_at (spans_in t.table x) (slot_for (spans_in t.table x) index) in
+          (at_once x.first (x.last + 1) (spans_in t.table x) index z (at_slot x.first (x.last + 1) (spans_in t.table x) index fills low (omega arith)) front y back fills parts from upto).1
+
+      long : length (path ++ (one ∷ [])) ≡ d + 1
+      long = length-append path (one ∷ [])
+
+      front_on : path ++ (one ∷ []) ≡ take (length (path ++ (one ∷ []))) (to index)
+      front_on =
+          let low : d < length (to index) = leads.low index first_in last_in_row in
+          (λ i. leads.front index first_in last_in_row i ++ (sym step_is i ∷ []))
+          ∙ (sym (take_more (to index) d no_step low) ∙ ap (λ (k : ℕ). take k (to index)) (sym long))
+
+      low_on : length (path ++ (one ∷ [])) < length (to index)
+      low_on = let all = many in let more = long in omega arith
+
+      enters_on : row_on t.table (length (path ++ (one ∷ []))) (root_span t.table t.root) index ≡ y
+      enters_on =
+          let next : length (path ++ (one ∷ [])) ≡ suc d = (let more = long in omega arith) in
+          ap (λ (k : ℕ). row_on t.table k (root_span t.table t.root) index) next
+          ∙ (row_next tree d (root_span t.table t.root) index ∙ (ap (λ (z : Span). below t.table z index) row_is ∙ below_is))
+
+    leads_on : y.first ≤ y.last → LeadsTo t (path ++ (one ∷ [])) y
+    leads_on order = record {
+      within = (let high = (inside y.last order (omega arith)).1 in let all = leads.within in omega arith);
+      front = front_on;
+      low = low_on;
+      enters = enters_on;
+    }
+
+-- a search that has gone into one row in each level so far
+pub record GoesOn (s s' : Sheet) (w : Window) (level : ℕ) (path : List PathStep) (x : Span) : Type 0 where
+  pub child : Child
+  pub is : child.span ≡ x
+  pub asks : Asks (tree_as trees.Alloc s.tree) lowest_in w (place_in lowest_in w s.tree) level (child ∷ [])
+  pub leads : LeadsTo s.tree path x
+  pub long : length path ≡ level
+  pub reads : ReadsUpTo (columns s.tree.table.width * level) s s'
+
+standing : (t : Rooted) → IsLawfulOf t trees.Alloc → t.root ≢ 0 → (h : ℕ) × Stands (tree_as trees.Alloc t) h
+standing t tree some = elim tree.words [ inl empty ↦ absurd (some empty) | inr full ↦ (full.0, full.1) ]
+
+pub goes_root : (s : Sheet) (w : Window) (path : List PathStep) (x : Span) → IsLawfulOf s.tree trees.Alloc → s.tree.root ≢ 0 → x ≡ root_span s.tree.table s.tree.root → path ≡ [] → GoesOn s s w 0 path x
+goes_root s w path x tree some is none =
+    let full = standing s.tree tree some in
+    record {
+      child = root_child s.tree.table s.tree.root;
+      is = sym is;
+      asks = (come_root s w lowest_in 0 (root_child s.tree.table s.tree.root ∷ []) tree some refl).asks;
+      leads = subst (λ (l : List PathStep). LeadsTo s.tree l x) (sym none) (subst (LeadsTo s.tree []) (sym is) (leads_root s.tree full.0 full.1));
+      long = ap length none;
+      reads = reads_up 0 (columns s.tree.table.width * 0) s s (omega arith) (no_reads s);
+    }
+
+module _ (s s' : Sheet) (w : Window) (size : 1 ≤ w.size) (tree : IsLawfulOf s.tree trees.Alloc) (some : s.tree.root ≢ 0) (level : ℕ) (path : List PathStep) (x : Span) (goes : GoesOn s s' w level path x) where
+  abbrev whole : Tree
+  whole = tree_as trees.Alloc s.tree
+
+  abbrev answer : Option ℕ
+  answer = place_in lowest_in w s.tree
+
+  pub same_tree : s'.tree ≡ s.tree
+  same_tree = tree_kept (columns s.tree.table.width * level) s s' goes.reads
+
+  row_here : IsRow whole goes.asks.left x
+  row_here = subst (IsRow whole goes.asks.left) goes.is (levels_here (IsRow whole) s.tree.table goes.asks.left (goes.child.span ∷ []) goes.asks.rows).0
+
+  pub may_load_it : MayLoad s'.tree x
+  may_load_it = subst (λ (t : Rooted). MayLoad t x) (sym same_tree) (row_may_load trees.Alloc s.tree goes.asks.left x row_here)
+
+  pub shallow : length path < deepest
+  shallow = let low = goes.asks.low in let long = goes.long in omega arith
+
+  pub level_low : level < deepest
+  level_low = let low = goes.asks.low in omega arith
+
+  level_in : level + 1 ≤ height_in s.tree.table s.tree.root
+  level_in = let height = goes.asks.height in omega arith
+
+  times : (a b c : ℕ) → b ≤ c → a * b ≤ c * a
+  times a b c low = grind (arith, low)
+
+  pub reads_here : ReadsUpTo (height_in s.tree.table s.tree.root * columns s.tree.table.width) s s'
+  reads_here =
+      let low = level_in in
+      reads_up (columns s.tree.table.width * level) (height_in s.tree.table s.tree.root * columns s.tree.table.width) s s' (times (columns s.tree.table.width) level (height_in s.tree.table s.tree.root) (omega arith)) goes.reads
+
+  -- a row without gaps is a leaf
+  pub ends_in_leaf : named_kind x.word ≢ Some Gapped → EndsInLeaf s.tree w path x
+  ends_in_leaf other =
+      let leaf = is_leaf goes.asks.left row_here in
+      record {
+        leads = goes.leads;
+        is_leaf = leaf;
+        row = row_may_load trees.Alloc s.tree goes.asks.left x row_here;
+        fills = row_here.pivots.fills;
+        found = ap (λ (l : List Child). picked lowest_in w (flat_map child_hole l)) (ap (children_in s.tree.table) (sym goes.is) ∙ sym (append-nil (children_in s.tree.table goes.child.span)))
+            ∙ leaves_have whole lowest_in w answer goes.asks.left (goes.child ∷ []) (ap (λ (y : Span). named_kind y.word) goes.is ∙ leaf) goes.asks.rows goes.asks.found;
+      }
+    where
+      is_leaf : (left : ℕ) → IsRow whole left x → named_kind x.word ≡ Some Leaf
+      is_leaf zero row = row.name.named
+      is_leaf (suc k) row = absurd (other row.name.named)
+
+  module _ (gapped : named_kind x.word ≡ Some Gapped) (row : ℕ) (number : row ≡ row_in x.word) (s'' : Sheet) (reads : ReadsUpTo (columns s'.tree.table.width) s' s'') where
+    abbrev xs : List Child
+    xs = row_children s'.tree.table row Gapped x.first x.last
+
+    reads_more_rows : ReadsUpTo (columns s.tree.table.width * (level + 1)) s s''
+    reads_more_rows =
+        reads_up (columns s.tree.table.width * level + columns s.tree.table.width) (columns s.tree.table.width * (level + 1)) s s'' (one_row (columns s.tree.table.width) level)
+        (reads_more (columns s.tree.table.width * level) (columns s.tree.table.width) s s' s'' goes.reads (subst (λ (t : Rooted). ReadsUpTo (columns t.table.width) s' s'') same_tree reads))
+      where
+        one_row : (a b : ℕ) → a * b + a ≤ a * (b + 1)
+        one_row a b = grind arith
+
+    pub reads_there : ReadsUpTo (height_in s.tree.table s.tree.root * columns s.tree.table.width) s s''
+    reads_there = reads_up (columns s.tree.table.width * (level + 1)) (height_in s.tree.table s.tree.root * columns s.tree.table.width) s s'' (times (columns s.tree.table.width) (level + 1) (height_in s.tree.table s.tree.root) level_in) reads_more_rows
+
+    children_are : xs ≡ children_in s.tree.table x
+    children_are =
+        (λ i. row_children (same_tree i).table (number i) Gapped x.first x.last)
+        ∙ ap (λ (k : Option RowKind). children_by s.tree.table k x) (sym gapped)
+
+    not_leaves : AreLeaves (goes.child ∷ []) → ⊥
+    not_leaves leaf = let clash : Some Gapped ≡ Some Leaf = sym gapped ∙ (ap (λ (y : Span). named_kind y.word) (sym goes.is) ∙ leaf) in cc
+
+    asked_are : narrow w.size w.lo w.hi (children_below s.tree.table (goes.child ∷ [])) ≡ narrow w.size w.lo w.hi xs
+    asked_are = ap (narrow w.size w.lo w.hi) (append-nil (children_in s.tree.table goes.child.span) ∙ (ap (children_in s.tree.table) goes.is ∙ sym children_are))
+
+    asks_next : (next : List Child) → narrow w.size w.lo w.hi xs ≡ next → Asks whole lowest_in w answer (level + 1) next
+    asks_next next is = subst (Asks whole lowest_in w answer (level + 1)) (asked_are ∙ is) (low_next whole w refl size (goes.child ∷ []) answer level goes.asks not_leaves)
+
+    pub goes_nowhere : IsBelow w xs below_row.Nothing → answer ≡ None
+    goes_nowhere none =
+        let asks = asks_next [] none in
+        sym (leaves_have whole lowest_in w answer asks.left [] tt asks.rows asks.found)
+
+    pub goes_below : (slot : ℕ) (y : Span) → IsBelow w xs (below_row.One slot y) → (path' : List PathStep) → path' ≡ path ++ (record { row = row; slot = slot; min = x.first; max = x.last } ∷ []) → GoesOn s s'' w (level + 1) path' y
+    goes_below slot y one path' pushed =
+        let asks = asks_next (one.child ∷ []) one.alone in
+        let full = standing s.tree tree some in
+        let tall : height_in s.tree.table s.tree.root ≡ full.0 + 1 = height_by_depth whole deepest full.0 (root_span s.tree.table s.tree.root) full.1.low full.1.rows in
+        let front = spans one.stands.front in
+        let back = spans one.stands.back in
+        let parts : spans_in s.tree.table x ≡ front ++ (y ∷ back) =
+        sym (spans_of_row s.tree.table x) ∙ (ap spans (sym children_are ∙ one.stands.parts) ∙ (spans-append one.stands.front (one.child ∷ one.stands.back) ∙ ap (λ (z : Span). front ++ (z ∷ back)) one.is)) in
+        let height = asks.height in
+        let long = goes.long in
+        let order : y.first ≤ y.last = subst (λ (z : Span). z.first ≤ z.last) one.is asks.rising.1 in
+        let leads = leads_on s.tree full.0 full.1 path x y front back goes.leads row_here.pivots.fills parts (omega (arith, tall, height, long)) order in
+        let count : length front ≡ slot = spans_long one.stands.front ∙ one.stands.count in
+        let step_is : record { row = row; slot = slot; min = x.first; max = x.last } ≡ record { row = row_in x.word; slot = length front; min = x.first; max = x.last } = (λ i. record { row = number i; slot = sym count i; min = x.first; max = x.last }) in
+        let path_is : path' ≡ path ++ (record { row = row_in x.word; slot = length front; min = x.first; max = x.last } ∷ []) = pushed ∙ ap (λ (p : PathStep). path ++ (p ∷ [])) step_is in
+        record {
+          child = one.child;
+          is = one.is;
+          asks = asks;
+          leads = subst (λ (l : List PathStep). LeadsTo s.tree l y) (sym path_is) leads;
+          long = ap length pushed ∙ (length-append path (record { row = row; slot = slot; min = x.first; max = x.last } ∷ []) ∙ ap (λ (n : ℕ). n + 1) goes.long);
+          reads = reads_more_rows;
+        }
+      where
+        spans_long : (l : List Child) → length (spans l) ≡ length l
+        spans_long [] = refl
+        spans_long (z ∷ l) = ap suc (spans_long l)
+
+-- ---- the place
+
+is_tree : (t : Rooted) → IsLawfulOf t trees.Alloc → IsTreeOf t trees.Alloc
+is_tree t lawful = record { width = lawful.width; words = elim lawful.words [ inl empty ↦ inl empty | inr full ↦ inr (full.0, full.1) ] }
+
+pub some_kind : (t : Rooted) → IsLawfulOf t trees.Alloc → (kind : Kind) × IsTreeOf t kind
+some_kind t lawful = (trees.Alloc, is_tree t lawful)
+
+module _ (t : Rooted) (w : Window) (path : List PathStep) (leaf : Span) (ends : EndsInLeaf t w path leaf) (size : 1 ≤ w.size) (start : ℕ) (is : Some start ≡ picked lowest_in w (flat_map child_hole (children_in t.table leaf))) where
+  in_leaf : (leaf.first ≤ start) × (start < leaf.last + 1)
+  in_leaf = lowest_between w.size w.lo w.hi leaf.first (leaf.last + 1) start (flat_map child_hole (children_in t.table leaf)) size
+      (subst (AllByRecursion (Between leaf.first (leaf.last + 1))) (sym (holes_of_children (children_in t.table leaf) ∙ ap (flat_map leaf_hole) (spans_of_row t.table leaf))) (leaf_between leaf.first (leaf.last + 1) (spans_in t.table leaf) ends.fills))
+      (sym is)
+
+  from_leaf : leaf.first ≤ start
+  from_leaf = in_leaf.0
+
+  to_leaf : start ≤ leaf.last
+  to_leaf = let high = in_leaf.1 in omega arith
+
+  pub start_within : start ≤ greatest t.table.width
+  start_within = let high = to_leaf in let all = ends.leads.within in omega arith
+
+  pub enters_leaf : EntersLeaf t start path leaf
+  enters_leaf = record { front = ends.leads.front start from_leaf to_leaf; low = ends.leads.low start from_leaf to_leaf; enters = ends.leads.enters start from_leaf to_leaf; is_leaf = ends.is_leaf }
+
+  pub is_area : (path' : List PathStep) (here : Handle) → path' ≡ path_in t.table t.root start → here ≡ handle_in t start → IsAreaAt t path' (record { start = start; here = Some here })
+  is_area path' here way handle = record {
+    way = way;
+    none = ((λ none. absurd (cc)), (λ empty. absurd (some_root t start (length path) (ends.leads.low start from_leaf to_leaf) empty)));
+    some = handle;
+  }
+
+-- every place lies in the tree
+pub low_within : (t : Rooted) (n lo hi start : ℕ) → IsLawfulOf t trees.Alloc → 1 ≤ n → Some start ≡ low trees.Alloc (map_by t) n lo hi → start ≤ greatest t.table.width
+low_within t n lo hi start lawful some is = elim (cases_root t.root) [
+  | inl empty ↦ (
+      let hole : AllByRecursion (Between 0 (greatest t.table.width + 1)) (flat_map child_hole (record { span = record { first = 0; last = greatest t.table.width; word = 0 }; gap = 0 } ∷ [])) = ((omega arith, omega arith, omega arith), tt) in
+      let found = lowest_between n lo hi 0 (greatest t.table.width + 1) start (flat_map child_hole (record { span = record { first = 0; last = greatest t.table.width; word = 0 }; gap = 0 } ∷ [])) some hole (low_empty t (record { size = n; lo = lo; hi = hi }) lawful empty ∙ sym is) in
+      let high = found.1 in omega arith)
+  | inr more ↦ (
+      let asks = asks_root t lawful more (record { size = n; lo = lo; hi = hi }) lowest_in in
+      let found = lowest_between n lo hi 0 (greatest t.table.width + 1) start (holes_below t.table asks.left (root_span t.table t.root ∷ [])) some (holes_between (tree_as trees.Alloc t) asks.left 0 (greatest t.table.width + 1) (root_span t.table t.root ∷ []) asks.rows (refl, omega arith, refl)) (asks.found ∙ sym is) in
+      let high = found.1 in omega arith)
+]
+  where
+    cases_root : (n : ℕ) → (n ≡ 0) ⊎ (n ≢ 0)
+    cases_root zero = inl refl
+    cases_root (suc n) = inr (λ e. omega arith)
+
+-- ---- how many words were loaded
+
+triple : (a b : ℕ) → 3 * (a * b) ≡ 3 * a * b
+triple a b = grind arith
+
+least : (a b : ℕ) → 1 ≤ a → b ≤ a * b
+least a b some = grind (arith, some)
+
+module _ (s s₀ s₁ : Sheet) (load : s₀ ≡ loaded s) (one_way : ReadsUpTo (height_in s₀.tree.table s₀.tree.root * columns s₀.tree.table.width) s₀ s₁) where
+  abbrev h : ℕ
+  h = height_in s.tree.table s.tree.root
+
+  abbrev c : ℕ
+  c = columns s.tree.table.width
+
+  pub same_begin : s₀.tree ≡ s.tree
+  same_begin = ap (λ (r : Sheet). r.tree) load
+
+  pub same_end : s₁.tree ≡ s.tree
+  same_end = ap (λ (r : Sheet). r.tree) one_way.rest ∙ same_begin
+
+  way_reads : ReadsUpTo (1 + h * c) s s₁
+  way_reads = reads_more 1 (h * c) s s₀ s₁ (one_read s s₀ load) (subst (λ (t : Rooted). ReadsUpTo (height_in t.table t.root * columns t.table.width) s₀ s₁) same_begin one_way)
+
+  pub few_nowhere : ReadsUpTo (2 * (3 * h * c + 1)) s s₁
+  few_nowhere = let all = triple h c in reads_up (1 + h * c) (2 * (3 * h * c + 1)) s s₁ (omega (arith, all)) way_reads
+
+  pub few_leaf : IsLawfulOf s.tree trees.Alloc → s.tree.root ≢ 0 → (s₂ : Sheet) → ReadsUpTo (columns s₁.tree.table.width) s₁ s₂ → ReadsUpTo (2 * (3 * h * c + 1)) s s₂
+  few_leaf tree some s₂ reads =
+      let asks = asks_root s.tree tree some (record { size = 1; lo = 0; hi = 0 }) lowest_in in
+      let tall = asks.height in
+      let all = triple h c in
+      let low = least h c (omega arith) in
+      reads_up (1 + h * c + c) (2 * (3 * h * c + 1)) s s₂ (omega (arith, all, low)) (reads_more (1 + h * c) c s s₁ s₂ way_reads (subst (λ (t : Rooted). ReadsUpTo (columns t.table.width) s₁ s₂) same_end reads))
+
+  pub few_levels : (s₂ : Sheet) → ReadsUpTo (3 * height_in s₁.tree.table s₁.tree.root * columns s₁.tree.table.width + 1) s₁ s₂ → ReadsUpTo (2 * (3 * h * c + 1)) s s₂
+  few_levels s₂ reads =
+      let all = triple h c in
+      reads_up (1 + h * c + (3 * h * c + 1)) (2 * (3 * h * c + 1)) s s₂ (omega (arith, all))
+      (reads_more (1 + h * c) (3 * h * c + 1) s s₁ s₂ way_reads (subst (λ (t : Rooted). ReadsUpTo (3 * height_in t.table t.root * columns t.table.width + 1) s₁ s₂) same_end reads))

@@ -1,0 +1,69 @@
+use Rattle.std.proofs.Common.{◌≡◌, ◌<◌, [], ◌∷◌, ap, ◌∙◌, arith}
+use Rattle.mt_base.specs.declared.widths.Width.{Width}
+use Rattle.mt_layout.specs.declared.names.RowKind.TheVariants.{Gapped}
+use Rattle.mt_layout.specs.Sizes.{slots_of}
+use Rattle.mt_path.proofs.Kept.{tree_kept}
+use Rattle.mt_path.proofs.Loads.{reads_more}
+use Rattle.mt_rows.specs.Sheet.{Rooted}
+use Rattle.mt_gap.specs.Slots.{child_in}
+use Rattle.mt_gap.specs.Narrow.{has_sure}
+use Rattle.mt_gap.specs.Ways.{with_room}
+use Rattle.mt_gap.proofs.RowReads.{same_read, read_on, read_last, read_part, read_all}
+use Rattle.mt_gap.proofs.OneWay.{HasSeen, seen_on, seen_stops, seen_all}
+use Rattle.mt_gap.proofs.ways.look_below.Goals as goal
+
+pub returns-then-take_slot-clause-below : goal.returns-then-take_slot-clause-below
+returns-then-take_slot-clause-below g c =
+    let s = g.R.Rows.sheet c.args.rows.now in let t = g.R.Rows.sheet c.loop-slot.rows in let w = c.args.window in
+    let done = c.loop-slot.invariant in
+    let count = c.slots-slot-end.ensures ∙ ap (λ (w : Width). slots_of w Gapped) c.width.ensures in
+    let t₁ = g.R.Rows.sheet c.load_last-last.new.rows in let u = g.R.Rows.sheet c.take_slot.new.rows in
+    let test = c.loop-slot-test.true in
+    let same = tree_kept 1 t t₁ c.load_last-last.ensures.reads ∙ same_read s t Gapped c.args.row c.args.first c.args.max c.loop-slot.slot c.loop-slot.begin done.before done.read in
+    let within : c.loop-slot.slot < slots_of s.tree.table.width Gapped = omega arith in
+    let x = child_in s.tree.table Gapped c.args.row c.loop-slot.slot c.loop-slot.begin c.load_last-last.result in
+    let below = c.take_slot.ensures.below ∙ ap (λ (r : Rooted). with_room w c.loop-slot.slot (child_in r.table Gapped c.args.row c.loop-slot.slot c.loop-slot.begin c.load_last-last.result) c.loop-slot.below) same in
+    let found = c.take_slot.ensures.found ∙ ap (λ (r : Rooted). has_sure w.size w.lo w.hi (child_in r.table Gapped c.args.row c.loop-slot.slot c.loop-slot.begin c.load_last-last.result ∷ [])) same in
+    let loads = reads_more 1 2 t t₁ u c.load_last-last.ensures.reads c.take_slot.ensures.reads in
+    let part = read_part s t u Gapped c.args.row c.args.first c.args.max c.loop-slot.slot c.loop-slot.begin c.load_last-last.result done.before done.read c.load_last-last.ensures.last loads within in
+    seen_stops w c.loop-slot.below done.before done.holds x c.loop-slot.slot done.read.count c.take_slot.new.below below c.take_slot.result found part.0 _ part.1 c.if-take_slot.true
+
+pub returns-then-max-last-clause-below : goal.returns-then-max-last-clause-below
+returns-then-max-last-clause-below g c =
+    let s = g.R.Rows.sheet c.args.rows.now in let t = g.R.Rows.sheet c.loop-slot.rows in let w = c.args.window in
+    let done = c.loop-slot.invariant in
+    let count = c.slots-slot-end.ensures ∙ ap (λ (w : Width). slots_of w Gapped) c.width.ensures in
+    let t₁ = g.R.Rows.sheet c.load_last-last.new.rows in let u = g.R.Rows.sheet c.take_slot.new.rows in
+    let test = c.loop-slot-test.true in
+    let same = tree_kept 1 t t₁ c.load_last-last.ensures.reads ∙ same_read s t Gapped c.args.row c.args.first c.args.max c.loop-slot.slot c.loop-slot.begin done.before done.read in
+    let within : c.loop-slot.slot < slots_of s.tree.table.width Gapped = omega arith in
+    let x = child_in s.tree.table Gapped c.args.row c.loop-slot.slot c.loop-slot.begin c.load_last-last.result in
+    let below = c.take_slot.ensures.below ∙ ap (λ (r : Rooted). with_room w c.loop-slot.slot (child_in r.table Gapped c.args.row c.loop-slot.slot c.loop-slot.begin c.load_last-last.result) c.loop-slot.below) same in
+    let found = c.take_slot.ensures.found ∙ ap (λ (r : Rooted). has_sure w.size w.lo w.hi (child_in r.table Gapped c.args.row c.loop-slot.slot c.loop-slot.begin c.load_last-last.result ∷ [])) same in
+    let loads = reads_more 1 2 t t₁ u c.load_last-last.ensures.reads c.take_slot.ensures.reads in
+    seen_all w c.take_slot.new.below _ _ (seen_on w c.loop-slot.below done.before done.holds x c.loop-slot.slot done.read.count c.take_slot.new.below below c.take_slot.result found c.if-take_slot.false) (read_last s t u Gapped c.args.row c.args.first c.args.max c.loop-slot.slot c.loop-slot.begin c.load_last-last.result done.before done.read c.load_last-last.ensures.last loads within c.if-max-last.true)
+
+pub loop-slot-preserved : goal.loop-slot-preserved
+loop-slot-preserved g c =
+    let s = g.R.Rows.sheet c.args.rows.now in let t = g.R.Rows.sheet c.loop-slot.rows in let w = c.args.window in
+    let done = c.loop-slot.invariant in
+    let count = c.slots-slot-end.ensures ∙ ap (λ (w : Width). slots_of w Gapped) c.width.ensures in
+    let t₁ = g.R.Rows.sheet c.load_last-last.new.rows in let u = g.R.Rows.sheet c.take_slot.new.rows in
+    let test = c.loop-slot-test.true in
+    let same = tree_kept 1 t t₁ c.load_last-last.ensures.reads ∙ same_read s t Gapped c.args.row c.args.first c.args.max c.loop-slot.slot c.loop-slot.begin done.before done.read in
+    let within : c.loop-slot.slot < slots_of s.tree.table.width Gapped = omega arith in
+    let x = child_in s.tree.table Gapped c.args.row c.loop-slot.slot c.loop-slot.begin c.load_last-last.result in
+    let below = c.take_slot.ensures.below ∙ ap (λ (r : Rooted). with_room w c.loop-slot.slot (child_in r.table Gapped c.args.row c.loop-slot.slot c.loop-slot.begin c.load_last-last.result) c.loop-slot.below) same in
+    let found = c.take_slot.ensures.found ∙ ap (λ (r : Rooted). has_sure w.size w.lo w.hi (child_in r.table Gapped c.args.row c.loop-slot.slot c.loop-slot.begin c.load_last-last.result ∷ [])) same in
+    let loads = reads_more 1 2 t t₁ u c.load_last-last.ensures.reads c.take_slot.ensures.reads in
+    read_on s t u Gapped c.args.row c.args.first c.args.max c.loop-slot.slot c.loop-slot.begin c.load_last-last.result done.before done.read c.load_last-last.ensures.last loads within (HasSeen w c.take_slot.new.below) c.if-max-last.false
+    (seen_on w c.loop-slot.below done.before done.holds x c.loop-slot.slot done.read.count c.take_slot.new.below below c.take_slot.result found c.if-take_slot.false)
+
+pub returns-clause-below : goal.returns-clause-below
+returns-clause-below g c =
+    let s = g.R.Rows.sheet c.args.rows.now in let t = g.R.Rows.sheet c.loop-slot.rows in let w = c.args.window in
+    let done = c.loop-slot.invariant in
+    let count = c.slots-slot-end.ensures ∙ ap (λ (w : Width). slots_of w Gapped) c.width.ensures in
+    let test = c.loop-slot-test.false in let most = c.loop-slot.auto.slot-end in
+    let all : c.loop-slot.slot ≡ slots_of s.tree.table.width Gapped = omega arith in
+    seen_all w c.loop-slot.below done.before _ done.holds (read_all s t Gapped c.args.row c.args.first c.args.max c.loop-slot.slot c.loop-slot.begin done.before done.read all).0

@@ -1,0 +1,140 @@
+//! A search that goes into one row in each level, and keeps the way that it goes.
+
+ghost use Rattle.std.specs.Prelude.{◌≡◌, ◌≢◌, ◌<◌, ◌≤◌, ◌+◌, ◌*◌, ◌∷◌, [], IfSome, IfNone, Some, if◌then◌else◌};
+ghost use Rattle.mt_base.specs.declared.kinds.Kind.TheVariants as trees;
+ghost use Rattle.mt_base.specs.Width.{columns};
+ghost use Rattle.mt_layout.specs.declared.names.RowKind.TheVariants.{Gapped};
+ghost use Rattle.mt_layout.specs.Rows.{row_in, named_kind};
+ghost use Rattle.mt_layout.specs.Sizes.{slots_of};
+ghost use Rattle.mt_rows.specs.Publish.{IsLawfulOf};
+ghost use Rattle.mt_rows.specs.Sheet.{IsPlace, ReadsUpTo};
+ghost use Rattle.mt_rows.specs.Spans.{root_span};
+ghost use Rattle.mt_rows.specs.Trees.{height_in};
+ghost use Rattle.mt_gap.specs.Children.{row_children};
+ghost use Rattle.mt_gap.specs.Narrow.{may_have, has_sure};
+ghost use Rattle.mt_gap.specs.Slots.{child_in};
+ghost use Rattle.mt_gap.specs.Ways.{one_more, with_room, IsBelow, EndsIn};
+
+use crate::children::{load_gap, load_last, load_word};
+use crate::windows::{Window, is_inside, may_have};
+use mt_base::DEEPEST;
+use mt_layout::{RowKind, Span, kind_of, row_of, slots};
+use mt_path::{Path, PathStep};
+use mt_rows::Rows;
+
+/// What a search goes into below a row: nothing, what stands in one slot, or more.
+#[derive(Clone, Copy, Debug, PartialEq, Eq)]
+pub(crate) enum Below {
+    Nothing,
+    One { slot: u32, span: Span },
+    More,
+}
+
+/// Where a search comes to that goes into one row in each level: nowhere, to a leaf, or to a row below which it goes into more.
+#[derive(Clone, Copy, Debug, PartialEq, Eq)]
+pub(crate) enum End {
+    Nowhere,
+    Leaf { leaf: Span },
+    Branch,
+}
+
+/// What is gone into, with what stands in one slot more.
+fn one_more(below: Below, slot: u32, span: Span) -> Below
+    ensures { result ≡ one_more slot span below }
+{
+    match below {
+        Below::Nothing => Below::One { slot, span },
+        Below::One { .. } => Below::More,
+        Below::More => Below::More,
+    }
+}
+
+/// Takes what stands in a slot of a row with gaps, where it may have room, and tells whether it lies in the window then.
+fn take_slot<R: Rows>(
+    rows: &mut R,
+    row: u32,
+    slot: u32,
+    first: u64,
+    last: u64,
+    window: Window,
+    below: &mut Below,
+) -> bool
+    requires row { IsPlace (R.sheet rows.old).tree row 0 }
+    requires slot { slot < slots_of (R.sheet rows.old).tree.table.width Gapped }
+    ensures below { below.new ≡ with_room window slot (child_in (R.sheet rows.old).tree.table Gapped row slot first last) below.old }
+    ensures found { result ≡ has_sure window.size window.lo window.hi (child_in (R.sheet rows.old).tree.table Gapped row slot first last ∷ []) }
+    ensures reads { ReadsUpTo 2 (R.sheet rows.old) (R.sheet rows.new) }
+{
+    let gap = load_gap(rows, row, slot);
+    if !may_have(window, first, last, gap) {
+        return false;
+    }
+    let word = load_word(rows, RowKind::Gapped, row, slot);
+    let span = Span { first, last, word };
+    *below = one_more(*below, slot, span);
+    is_inside(window, first, last)
+}
+
+/// What a search goes into below a row with gaps, which covers the indexes from `first` to `max`.
+fn look_below<R: Rows>(rows: &mut R, row: u32, first: u64, max: u64, window: Window) -> Below
+    requires row { IsPlace (R.sheet rows.old).tree row 0 }
+    ensures below { IsBelow window (row_children (R.sheet rows.old).tree.table row Gapped first max) result }
+    ensures reads { ReadsUpTo (columns (R.sheet rows.old).tree.table.width) (R.sheet rows.old) (R.sheet rows.new) }
+{
+    let mut below = Below::Nothing;
+    let mut begin = first;
+    for slot in 0..slots(rows.width(), RowKind::Gapped) {
+        let last = load_last(rows, RowKind::Gapped, row, max, slot);
+        if take_slot(rows, row, slot, begin, last, window, &mut below) {
+            return below;
+        }
+        if max <= last {
+            return below;
+        }
+        begin = last + 1;
+    }
+    below
+}
+
+/// The row that a span names, if it is one with gaps.
+fn gapped_row(span: Span) -> Option<u32>
+    ensures some { IfSome result (λ row. (row ≡ row_in span.word) × (named_kind span.word ≡ Some Gapped)) }
+    ensures none { IfNone result (named_kind span.word ≢ Some Gapped) }
+{
+    match (row_of(span.word), kind_of(span.word)) {
+        (Some(row), Some(RowKind::Gapped)) => Some(row),
+        _ => None,
+    }
+}
+
+/// Goes down from the root as long as there is one row to go into, and puts the steps to where that ends into an empty path.
+pub(crate) fn go_one_way<R: Rows>(rows: &mut R, root: Span, window: Window, path: &mut Path) -> End
+    requires tree { IsLawfulOf (R.sheet rows.old).tree trees.Alloc }
+    requires some { (R.sheet rows.old).tree.root ≢ 0 }
+    requires root { root ≡ root_span (R.sheet rows.old).tree.table (R.sheet rows.old).tree.root }
+    requires size { 1 ≤ window.size }
+    requires empty { path.old.items ≡ [] }
+    ensures end { EndsIn (R.sheet rows.old).tree window path.new.items result }
+    ensures reads { ReadsUpTo (height_in (R.sheet rows.old).tree.table (R.sheet rows.old).tree.root * columns (R.sheet rows.old).tree.table.width) (R.sheet rows.old) (R.sheet rows.new) }
+{
+    let mut at = root;
+    for _ in 0..DEEPEST {
+        let Some(row) = gapped_row(at) else {
+            return End::Leaf { leaf: at };
+        };
+        match look_below(rows, row, at.first, at.last, window) {
+            Below::Nothing => return End::Nowhere,
+            Below::More => return End::Branch,
+            Below::One { slot, span } => {
+                path.push(PathStep {
+                    row,
+                    slot,
+                    min: at.first,
+                    max: at.last,
+                });
+                at = span;
+            }
+        }
+    }
+    unreachable!()
+}
