@@ -144,6 +144,9 @@ few_loaded s s' reads = twice (3 * height_in s.tree.table s.tree.root * columns 
     twice : (n : ℕ) → RoseUpTo n s.reads s'.reads → RoseUpTo (2 * n) s.reads s'.reads
     twice n rose = rose_more n (2 * n) s.reads s'.reads (omega arith) rose
 
+pub few_searched : (s s' : Sheet) → ReadsUpTo (3 * height_in s.tree.table s.tree.root * columns s.tree.table.width + 1) s s' → ReadsUpTo (most_searched s.tree) s s'
+few_searched s s' reads = record { rest = reads.rest; reads = few_loaded s s' reads }
+
 pub none_loaded : (s : Sheet) → RoseFew s s
 none_loaded s = rose_none (most_searched s.tree) s.reads
 

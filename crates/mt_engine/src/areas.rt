@@ -1,22 +1,24 @@
 //! What a search for room comes to, and a call that stores where it finds some.
 
-ghost use Rattle.std.specs.Prelude.{◌≡◌, ◌↔◌, ◌+◌, ◌*◌, ◌<◌, ◌≤◌, List, [], IsNone, IfSome};
-ghost use Rattle.mt_base.specs.declared.kinds.Kind.{Kind};
+ghost use Rattle.std.specs.Prelude.{◌≡◌, ◌+◌, ◌*◌, ◌<◌, ◌≤◌, List, [], IsNone, IfSome};
+ghost use Rattle.std.specs.Option.{option_map};
 ghost use Rattle.mt_base.specs.declared.kinds.Kind.TheVariants as trees;
-ghost use Rattle.mt_base.specs.Width.{columns, greatest};
-ghost use Rattle.mt_rows.specs.Publish.{IsLawfulOf, IsTreeOf, map_by};
+ghost use Rattle.mt_base.specs.Holes.{high};
+ghost use Rattle.mt_base.specs.Width.{columns};
+ghost use Rattle.mt_rows.specs.Publish.{IsLawfulOf, map_by};
 ghost use Rattle.mt_rows.specs.Sheet.{OnlyReads, ReadsUpTo};
 ghost use Rattle.mt_rows.specs.Trees.{height_in};
 ghost use Rattle.mt_path.specs.declared.paths.PathStep.{PathStep};
-ghost use Rattle.mt_path.specs.Handles.{handle_in};
-ghost use Rattle.mt_path.specs.Paths.{path_in};
+ghost use Rattle.mt_gap.specs.declared.searches.Area.{Area};
+ghost use Rattle.mt_gap.specs.Ways.{IsAreaAt};
 ghost use Rattle.mt_engine.specs.Areas.{start_for, allocation, search};
+ghost use Rattle.mt_engine.specs.Engine.{most_searched};
 ghost use Rattle.mt_engine.specs.Plans.{IsPlan, IsSearched};
 
 use crate::plans::Plan;
 use mt_base::{Kind, Reply, Steps, is_bad_area, is_no_area};
-use mt_gap::{highest, lowest};
-use mt_path::{Handle, Path, walk_by_halves, walk_to};
+use mt_gap::{Area, highest, lowest, lowest_way};
+use mt_path::{Path, walk_to};
 use mt_rows::Rows;
 use std::marker::Brand;
 use std::sync::ledger::{Blank, Ledger};
@@ -62,21 +64,75 @@ fn start_of<R: Rows>(rows: &mut R, sought: Sought, size: u64, min: u64, max: u64
     start_by::<R, Brand>(rows, sought, size, min, max, Blank::new(1))
 }
 
-/// The way to a place that was sought. By halves it is shorter where the tree grows at its end, and the highest places are
-/// taken from there down.
-fn way_to<R: Rows>(rows: &mut R, sought: Sought, start: u64, path: &mut Path) -> Option<Handle>
-    requires tree { (kind : Kind) × IsTreeOf (R.sheet rows.old).tree kind }
-    requires index { start ≤ greatest (R.sheet rows.old).tree.table.width }
+/// The highest place, with the way to it, which is walked when the place is found.
+#[tactic(auto, using(crate::proofs::Finding::few_searched))]
+fn highest_way<R: Rows, L: Ledger>(
+    rows: &mut R,
+    size: u64,
+    min: u64,
+    max: u64,
+    steps: &mut Steps<L>,
+    path: &mut Path,
+) -> Option<Area>
+    requires tree { IsLawfulOf (R.sheet rows.old).tree trees.Alloc }
+    requires size { 1 ≤ size }
     requires empty { path.old.items ≡ [] }
-    ensures path { path.new.items ≡ path_in (R.sheet rows.old).tree.table (R.sheet rows.old).tree.root start }
-    ensures none { IsNone result ↔ ((R.sheet rows.old).tree.root ≡ 0) }
-    ensures some { IfSome result (λ handle. handle ≡ handle_in (R.sheet rows.old).tree start) }
+    ensures start { option_map (λ (area : Area). area.start) result ≡ high trees.Alloc (map_by (R.sheet rows.old).tree) size min max }
+    ensures way { IfSome result (λ area. IsAreaAt (R.sheet rows.old).tree path.new.items area) }
     ensures rest { OnlyReads (R.sheet rows.old) (R.sheet rows.new) }
+    ensures reads { IsNone result → ReadsUpTo (most_searched (R.sheet rows.old).tree) (R.sheet rows.old) (R.sheet rows.new) }
 {
+    let start = highest(rows, size, min, max, steps)?;
+    let here = walk_to(rows, start, path);
+    Some(Area { start, here })
+}
+
+/// The place that is sought, with the way to it, by a blank for a count of the steps, of which nothing is told.
+fn area_by<R: Rows, L: Ledger>(
+    rows: &mut R,
+    sought: Sought,
+    size: u64,
+    min: u64,
+    max: u64,
+    path: &mut Path,
+    blank: Blank,
+) -> Option<Area>
+    requires name { blank.name ≡ L.name }
+    requires parts { blank.parts ≡ L.parts }
+    requires some { 0 < blank.parts }
+    requires tree { IsLawfulOf (R.sheet rows.old).tree trees.Alloc }
+    requires size { 1 ≤ size }
+    requires empty { path.old.items ≡ [] }
+    ensures start { option_map (λ (area : Area). area.start) result ≡ start_for sought trees.Alloc (map_by (R.sheet rows.old).tree) size min max }
+    ensures way { IfSome result (λ area. IsAreaAt (R.sheet rows.old).tree path.new.items area) }
+    ensures rest { OnlyReads (R.sheet rows.old) (R.sheet rows.new) }
+    ensures reads { IsNone result → ReadsUpTo (most_searched (R.sheet rows.old).tree) (R.sheet rows.old) (R.sheet rows.new) }
+{
+    let mut steps = Steps::<L>::new(blank);
     match sought {
-        Sought::Lowest => walk_by_halves(rows, start, path),
-        Sought::Highest => walk_to(rows, start, path),
+        Sought::Lowest => lowest_way(rows, size, min, max, &mut steps, path),
+        Sought::Highest => highest_way(rows, size, min, max, &mut steps, path),
     }
+}
+
+/// The place that is sought, with the way to it.
+fn area_of<R: Rows>(
+    rows: &mut R,
+    sought: Sought,
+    size: u64,
+    min: u64,
+    max: u64,
+    path: &mut Path,
+) -> Option<Area>
+    requires tree { IsLawfulOf (R.sheet rows.old).tree trees.Alloc }
+    requires size { 1 ≤ size }
+    requires empty { path.old.items ≡ [] }
+    ensures start { option_map (λ (area : Area). area.start) result ≡ start_for sought trees.Alloc (map_by (R.sheet rows.old).tree) size min max }
+    ensures way { IfSome result (λ area. IsAreaAt (R.sheet rows.old).tree path.new.items area) }
+    ensures rest { OnlyReads (R.sheet rows.old) (R.sheet rows.new) }
+    ensures reads { IsNone result → ReadsUpTo (most_searched (R.sheet rows.old).tree) (R.sheet rows.old) (R.sheet rows.new) }
+{
+    area_by::<R, Brand>(rows, sought, size, min, max, path, Blank::new(1))
 }
 
 /// What an allocation comes to, with the path to the place that was found.
@@ -101,16 +157,15 @@ pub fn plan_allocation<R: Rows>(
             reply: Reply::Invalid,
         };
     }
-    let Some(start) = start_of(rows, sought, size, min, max) else {
+    let Some(area) = area_of(rows, sought, size, min, max, path) else {
         return Plan::Nothing { reply: Reply::Busy };
     };
-    let here = way_to(rows, sought, start, path);
     Plan::Store {
-        first: start,
-        last: start + (size - 1),
+        first: area.start,
+        last: area.start + (size - 1),
         entry,
-        reply: Reply::Start(start),
-        here,
+        reply: Reply::Start(area.start),
+        here: area.here,
     }
 }
 

@@ -1,0 +1,19 @@
+use Rattle.std.proofs.Common.{sym, ap, subst}
+use Rattle.mt_base.specs.declared.kinds.Kind.{Kind}
+use Rattle.mt_base.specs.declared.kinds.Kind.TheVariants as trees
+use Rattle.mt_rows.specs.Publish.{IsTreeOf}
+use Rattle.mt_rows.specs.Sheet.{Rooted, Sheet}
+use Rattle.mt_gap.specs.Ways.{IsAreaAt}
+use Rattle.mt_engine.proofs.Moments.{tree_if_lawful}
+use Rattle.mt_engine.proofs.areas.highest_way.Goals as goal
+
+pub walk_to-here-requires-clause-tree : goal.walk_to-here-requires-clause-tree
+walk_to-here-requires-clause-tree g c =
+    let same = ap (λ (r : Sheet). r.tree) c.highest.ensures.reads.rest in
+    subst (λ (t : Rooted). (kind : Kind) × IsTreeOf t kind) (sym same) (trees.Alloc, tree_if_lawful (g.R.Rows.sheet c.args.rows.now).tree trees.Alloc c.requires.tree)
+
+pub returns-clause-way : goal.returns-clause-way
+returns-clause-way g c =
+    let same = ap (λ (r : Sheet). r.tree) c.highest.ensures.reads.rest in
+    subst (λ (t : Rooted). IsAreaAt t c.walk_to-here.new.path.items (record { start = c.in_ok-start.start; here = c.walk_to-here.result })) same
+    (record { way = c.walk_to-here.ensures.path; none = c.walk_to-here.ensures.none; some = c.walk_to-here.ensures.some })
