@@ -1,4 +1,5 @@
-//! Trials of the lanes of a phase: the threads, the desks at which lanes make their steps, and a log played phase by phase.
+//! Trials of streams and of the lanes of a phase: the threads, the desks at which lanes make their steps, and a log played phase
+//! by phase.
 #![tactic(auto)]
 
 #[cfg(test)]
@@ -9,5 +10,7 @@ mod empty;
 mod lanes;
 #[cfg(test)]
 mod phases;
+#[cfg(test)]
+mod streams;
 #[cfg(test)]
 mod tokens;
