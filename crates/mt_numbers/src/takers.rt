@@ -19,7 +19,7 @@ const MOST: u64 = 1 << 60;
 
 /// What came of a taker's work: how many numbers it took, how many of these it gave back, and how many were not taken when it
 /// did; and how often a number was marked as another one's.
-#[derive(Clone, Copy, Debug, Default, PartialEq, Eq)]
+#[derive(Clone, Copy, Default)]
 pub struct Tally {
     pub taken: u64,
     pub given_back: u64,
