@@ -1,7 +1,7 @@
 ghost use Rattle.std.specs.Prelude.{◌≡◌, ◌<◌, ◌≤◌, ◌+◌, ℕ, All, length};
 
+use crate::asserts::same;
 use mt_free::RowBook;
-use std::process::Abort;
 use std::test::Fail;
 
 /// The counts of free, live and held rows, and of all.
@@ -25,19 +25,19 @@ fn a_row_is_held_until_its_stamp_is_reclaimed(rt: HostRuntime) -> Result<(), Fai
     let mut book = RowBook::new(rt.alloc(), 4)?;
     let first = book.take();
     let second = book.take();
-    assert_eq!(&rt; [first, second], [16, 17]);
+    same(&rt, [first, second], [16, 17], "the rows taken");
     book.retire(first, 3);
-    assert_eq!(&rt; book.reclaim(2), 0);
-    assert_eq!(&rt; book.reclaim(3), 1);
-    assert_eq!(&rt; counts(&book), [3, 1, 0, 4]);
+    same(&rt, book.reclaim(2), 0, 2);
+    same(&rt, book.reclaim(3), 1, 3);
+    same(&rt, counts(&book), [3, 1, 0, 4], "the end");
     Ok(())
 }
 
 #[test]
 fn a_book_of_no_rows_counts_none(rt: HostRuntime) -> Result<(), Fail> {
     let mut book = RowBook::new(rt.alloc(), 0)?;
-    assert_eq!(&rt; book.reclaim(9), 0);
-    assert_eq!(&rt; counts(&book), [0, 0, 0, 0]);
+    same(&rt, book.reclaim(9), 0, 9);
+    same(&rt, counts(&book), [0, 0, 0, 0], "the end");
     Ok(())
 }
 
@@ -48,14 +48,14 @@ fn every_row_comes_back_once(rt: HostRuntime) -> Result<(), Fail> {
     take_and_retire(&mut book, 1);
     take_and_retire(&mut book, 2);
     take_and_retire(&mut book, 5);
-    assert_eq!(&rt; counts(&book), [0, 0, 4, 4]);
+    same(&rt, counts(&book), [0, 0, 4, 4], "all held");
     for (least, freed) in [(1, 2), (4, 1), (5, 1)] {
-        assert_eq!(&rt; book.reclaim(least), freed);
+        same(&rt, book.reclaim(least), freed, least);
     }
     for row in [19, 18, 17, 16] {
         assert!(&rt; book.free() > 0);
-        assert_eq!(&rt; book.take(), row);
+        same(&rt, book.take(), row, row);
     }
-    assert_eq!(&rt; counts(&book), [0, 4, 0, 4]);
+    same(&rt, counts(&book), [0, 4, 0, 4], "the end");
     Ok(())
 }

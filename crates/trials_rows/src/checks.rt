@@ -1,7 +1,5 @@
-ghost use Rattle.std.specs.Prelude.{◌≡◌, ◌+◌, ◌-◌, ◌*◌, ◌/◌, ◌%◌, ◌<◌, ◌≤◌, IfOk, length};
-ghost use Rattle.mt_base.specs.Width.{most_rows};
-
-use mt_base::{Kind, NoMemory, Width};
+use crate::asserts::same;
+use mt_base::{Kind, MOST_ROWS, NoMemory, Width};
 use mt_check::{Fault, Form, Law, check};
 use mt_rows::PlainRows;
 use std::alloc::Global;
@@ -75,109 +73,103 @@ const UNEVEN: [u64; 128] = [
     4096, 0, 0, 0, 0, 0, 0, 0, 0, 0, 0, 0, 0, 0, 0, 0,
 ];
 
-/// These words with another one in a column of a row.
-fn changed(
-    alloc: Global,
-    words: &[u64],
-    row: usize,
-    col: usize,
-    word: u64,
-) -> Result<Vec<u64>, NoMemory>
-    requires row { 16 ≤ row }
-    requires low { row < 1000 }
-    requires col { col < 32 }
-    requires within { 32 * (row - 16) + col < length words.now }
-    ensures { IfOk result (λ v. length v.items ≡ length words.now) }
-{
-    let mut changed = Vec::new(alloc);
-    changed.extend_from_slice(words)?;
-    changed[32 * (row - 16) + col] = word;
-    Ok(changed)
-}
-
-/// What a check answers of rows with these words.
-fn answer(
-    alloc: Global,
-    words: &[u64],
+/// A tree's words, of which one is changed where its place and a word are given; the root word; the kind; and what a check
+/// answers.
+struct Case {
+    words: &'static [u64],
+    change: Option<(usize, u64)>,
     root: u64,
     kind: Kind,
-) -> Result<Result<Form, Fault>, NoMemory>
-    requires whole { length words.now % 32 ≡ 0 }
-    requires few { length words.now / 32 ≤ most_rows }
-{
-    let mut rows = PlainRows::of_words(alloc, Width::Long, root, words)?;
-    Ok(check(&mut rows, root, kind))
+    want: Result<Form, Fault>,
 }
 
-fn fault(row: u32, law: Law) -> Result<Form, Fault> {
-    Err(Fault { row, law })
+/// Another word in a column of a row, if any.
+macro_rules! change {
+    () => { None };
+    ([$row:literal, $col:literal] = $word:expr) => { Some((32 * ($row - 16) + $col, $word)) };
 }
 
-fn form(height: u32, rows: u64, ranges: u64) -> Result<Form, Fault> {
-    Ok(Form {
-        height,
-        rows,
-        ranges,
-    })
-}
-
-/// Trees: their words, with one word changed, where a row, a column and a word are given; the root word; the kind; and what a
-/// check answers.
-macro_rules! expect_answers {
-    ($rt:expr; $($words:ident $([$row:literal, $col:literal] = $word:expr)?, $root:literal, $kind:ident => $answer:expr;)*) => {
-        $(
-            let words = &$words;
-            $(let words = changed($rt.alloc(), words, $row, $col, $word)?;)?
-            assert_eq!($rt; answer($rt.alloc(), &words[..], $root, Kind::$kind)?, $answer);
-        )*
+/// Trees, each with a word that is changed, if any, the root word, the kind and what a check answers.
+macro_rules! cases {
+    ($($words:ident $([$row:literal, $col:literal] = $word:expr)?, $root:literal, $kind:ident => $want:expr;)*) => {
+        &[$(Case {
+            words: &$words,
+            change: change!($([$row, $col] = $word)?),
+            root: $root,
+            kind: Kind::$kind,
+            want: $want,
+        }),*]
     };
+}
+
+macro_rules! fault {
+    ($row:literal, $law:ident) => { Err(Fault { row: $row, law: Law::$law }) };
+}
+
+macro_rules! form {
+    ($height:literal, $rows:literal, $ranges:literal) => {
+        Ok(Form { height: $height, rows: $rows, ranges: $ranges })
+    };
+}
+
+/// Trees that are lawful.
+const LAWFUL: &[Case] = cases! {
+    LONE, 4108, Range => form!(1, 1, 1);
+    LONE, 0, Range => form!(0, 0, 0);
+    ELEVEN, 4124, Alloc => form!(2, 3, 11);
+};
+
+/// One word breaks a law.
+const BROKEN: &[Case] = cases! {
+    LONE, 4109, Range => fault!(0, Name);
+    LONE [16, 0] = 2, 4108, Range => fault!(16, Parent);
+    LONE [16, 2] = 9, 4108, Range => fault!(16, Pivots);
+    ONE_CHILD, 4116, Range => fault!(16, Count);
+    LONE [16, 17] = 6, 4108, Range => fault!(16, Entries);
+    LONE [16, 17] = 0, 4108, Range => fault!(16, Holes);
+    ELEVEN [16, 21] = 0, 4124, Alloc => fault!(16, Gaps);
+};
+
+/// Of two broken laws the first is told.
+const BROKEN_TWICE: &[Case] = cases! {
+    LONE [16, 0] = 2, 4109, Range => fault!(0, Name);
+    LONE [16, 3] = 6, 4109, Range => fault!(0, Name);
+    ONE_CHILD [16, 0] = 2, 4116, Range => fault!(16, Parent);
+    ONE_CHILD [16, 1] = 9, 4116, Range => fault!(16, Pivots);
+    ELEVEN [18, 0] = 2, 4124, Range => fault!(0, Name);
+    UNEVEN [16, 21] = 0, 4124, Alloc => fault!(19, Depth);
+};
+
+/// A fault of a child's name is told with the row that holds it.
+const BROKEN_BELOW: &[Case] = cases! {
+    ELEVEN [16, 11] = 4621, 4124, Alloc => fault!(16, Name);
+    UNEVEN, 4124, Alloc => fault!(19, Depth);
+};
+
+/// What a check answers of the tree of a case.
+fn answer(rt: &impl Abort, alloc: Global, case: &Case) -> Result<Result<Form, Fault>, NoMemory> {
+    let mut words = Vec::from_slice(alloc, case.words)?;
+    if let Some((at, word)) = case.change {
+        assert!(rt; at < words.len());
+        words[at] = word;
+    }
+    assert!(rt; words.len() % 32 == 0 && words.len() / 32 <= MOST_ROWS as usize);
+    let mut rows = PlainRows::of_words(alloc, Width::Long, case.root, words.as_slice())?;
+    Ok(check(&mut rows, case.root, case.kind))
+}
+
+fn expect_answers(rt: &impl Abort, alloc: Global, cases: &[Case]) -> Result<(), NoMemory> {
+    for case in cases {
+        let answer = answer(rt, alloc, case)?;
+        same(rt, answer, case.want, (case.change, case.root));
+    }
+    Ok(())
 }
 
 #[test]
 fn trees_are_checked(rt: HostRuntime) -> Result<(), Fail> {
-    expect_answers! { &rt;
-        LONE, 4108, Range => form(1, 1, 1);
-        LONE, 0, Range => form(0, 0, 0);
-    }
-    Ok(())
-}
-
-/// One word breaks a law; the last words are lawful as they stand.
-#[test]
-fn broken_words_are_found(rt: HostRuntime) -> Result<(), Fail> {
-    expect_answers! { &rt;
-        LONE, 4109, Range => fault(0, Law::Name);
-        LONE [16, 0] = 2, 4108, Range => fault(16, Law::Parent);
-        LONE [16, 2] = 9, 4108, Range => fault(16, Law::Pivots);
-        ONE_CHILD, 4116, Range => fault(16, Law::Count);
-        LONE [16, 17] = 6, 4108, Range => fault(16, Law::Entries);
-        LONE [16, 17] = 0, 4108, Range => fault(16, Law::Holes);
-        ELEVEN [16, 21] = 0, 4124, Alloc => fault(16, Law::Gaps);
-        ELEVEN, 4124, Alloc => form(2, 3, 11);
-    }
-    Ok(())
-}
-
-/// Of two broken laws the first is told.
-#[test]
-fn first_faults_are_told(rt: HostRuntime) -> Result<(), Fail> {
-    expect_answers! { &rt;
-        LONE [16, 0] = 2, 4109, Range => fault(0, Law::Name);
-        LONE [16, 3] = 6, 4109, Range => fault(0, Law::Name);
-        ONE_CHILD [16, 0] = 2, 4116, Range => fault(16, Law::Parent);
-        ONE_CHILD [16, 1] = 9, 4116, Range => fault(16, Law::Pivots);
-        ELEVEN [18, 0] = 2, 4124, Range => fault(0, Law::Name);
-        UNEVEN [16, 21] = 0, 4124, Alloc => fault(19, Law::Depth);
-    }
-    Ok(())
-}
-
-/// A fault of a child's name is told with the row that holds it.
-#[test]
-fn faults_are_found_below(rt: HostRuntime) -> Result<(), Fail> {
-    expect_answers! { &rt;
-        ELEVEN [16, 11] = 4621, 4124, Alloc => fault(16, Law::Name);
-        UNEVEN, 4124, Alloc => fault(19, Law::Depth);
+    for cases in [LAWFUL, BROKEN, BROKEN_TWICE, BROKEN_BELOW] {
+        expect_answers(&rt, rt.alloc(), cases)?;
     }
     Ok(())
 }

@@ -1,6 +1,7 @@
 ghost use Rattle.std.specs.Prelude.{◌≡◌, ◌%◌, ◌/◌, ◌<◌, ◌≤◌, length};
 ghost use Rattle.mt_base.specs.Width.{most_rows};
 
+use crate::asserts::same;
 use mt_base::{FIRST_ROW, Kind, NoMemory, Steps, Width};
 use mt_check::check;
 use mt_dup::copy_rows;
@@ -8,6 +9,7 @@ use mt_free::RowBook;
 use mt_rows::{PlainRows, Rows};
 use std::alloc::Global;
 use std::marker::Brand;
+use std::process::Abort;
 use std::sync::ledger::{Blank, Ledger};
 use std::test::Fail;
 
@@ -132,28 +134,88 @@ fn first_words(alloc: Global, rows: &mut PlainRows, count: u32) -> Result<Vec<u6
     Ok(words)
 }
 
-/// Trees: the words, the root word, the kind, and how many rows the copy may have; and of the copy the root word, its words,
+/// A tree's words, its root word, its kind, and how many rows the copy may have; and of the copy the root word and its words,
 /// how many rows of its book are free, live and held, and its height, rows and ranges.
-macro_rules! expect_copies {
-    ($rt:expr; $($words:ident, $root:literal, $kind:ident, $rows:literal => $copy:literal, $copied:ident, $counts:expr, $form:expr;)*) => {
-        $(
-            let mut copy = make_copy::<Brand>(Blank::new(1), $rt.alloc(), &$words, $root, Kind::$kind, $rows)?;
-            assert_eq!($rt; copy.root, $copy);
-            assert_eq!($rt; copy.counts, $counts);
-            let words = first_words($rt.alloc(), &mut copy.rows, 32 * $rows)?;
-            assert_eq!($rt; words.as_slice(), &$copied[..]);
-            let form = check(&mut copy.rows, $copy, Kind::$kind)?;
-            assert_eq!($rt; [u64::from(form.height), form.rows, form.ranges], $form);
-        )*
-    };
+struct Case {
+    words: &'static [u64],
+    root: u64,
+    kind: Kind,
+    rows: u32,
+    copy: u64,
+    copied: &'static [u64],
+    counts: [u64; 3],
+    form: [u64; 3],
+}
+
+const CASES: [Case; 3] = [
+    Case {
+        words: &TWO_LEAVES,
+        root: 4892,
+        kind: Kind::Alloc,
+        rows: 4,
+        copy: 4124,
+        copied: &TWO_LEAVES_COPIED,
+        counts: [1, 3, 0],
+        form: [2, 3, 11],
+    },
+    Case {
+        words: &LONE,
+        root: 4364,
+        kind: Kind::Range,
+        rows: 1,
+        copy: 4108,
+        copied: &LONE_COPIED,
+        counts: [0, 1, 0],
+        form: [1, 1, 1],
+    },
+    Case {
+        words: &LONE,
+        root: 0,
+        kind: Kind::Range,
+        rows: 0,
+        copy: 0,
+        copied: &NONE_COPIED,
+        counts: [0, 0, 0],
+        form: [0, 0, 0],
+    },
+];
+
+/// The copy of a case, which has the words, the counts and the form that it tells.
+fn expect_copy<L: Ledger>(
+    rt: &impl Abort,
+    blank: Blank,
+    alloc: Global,
+    case: &Case,
+) -> Result<(), Fail>
+    requires name { blank.name ≡ L.name }
+    requires parts { blank.parts ≡ L.parts }
+    requires some { 0 < blank.parts }
+{
+    assert!(rt; case.words.len() % 32 == 0 && case.words.len() / 32 <= 4 && case.rows <= 4);
+    let mut copy = make_copy::<L>(
+        blank,
+        alloc,
+        case.words,
+        case.root,
+        case.kind,
+        u64::from(case.rows),
+    )?;
+    let words = first_words(alloc, &mut copy.rows, 32 * case.rows)?;
+    same(rt, words.as_slice(), case.copied, case.root);
+    let form = check(&mut copy.rows, copy.root, case.kind)?;
+    let told = (
+        [u64::from(form.height), form.rows, form.ranges],
+        copy.counts,
+        copy.root,
+    );
+    same(rt, told, (case.form, case.counts, case.copy), case.root);
+    Ok(())
 }
 
 #[test]
 fn trees_are_copied(rt: HostRuntime) -> Result<(), Fail> {
-    expect_copies! { &rt;
-        TWO_LEAVES, 4892, Alloc, 4 => 4124, TWO_LEAVES_COPIED, [1, 3, 0], [2, 3, 11];
-        LONE, 4364, Range, 1 => 4108, LONE_COPIED, [0, 1, 0], [1, 1, 1];
-        LONE, 0, Range, 0 => 0, NONE_COPIED, [0, 0, 0], [0, 0, 0];
+    for case in &CASES {
+        expect_copy::<Brand>(&rt, Blank::new(1), rt.alloc(), case)?;
     }
     Ok(())
 }

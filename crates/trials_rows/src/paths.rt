@@ -5,6 +5,7 @@ ghost use Rattle.mt_rows.specs.Publish.{IsTreeOf};
 ghost use Rattle.mt_path.specs.Handles.{IsHandleOf};
 ghost use Rattle.mt_path.specs.Paths.{path_in};
 
+use crate::asserts::same;
 use crate::small_trees::{INNER, LEFT, RIGHT, TOP, draft_row};
 use mt_base::NoMemory;
 use mt_layout::Span;
@@ -29,51 +30,129 @@ fn two_leaves(alloc: Global) -> Result<PlainRows, NoMemory>
     Ok(rows)
 }
 
-fn step(row: u32, slot: u32, min: u64, max: u64) -> PathStep {
-    PathStep {
-        row,
-        slot,
-        min,
-        max,
-    }
+/// A step through a row at a slot, to between these indexes.
+macro_rules! step {
+    ($row:expr, $slot:expr, $min:expr, $max:expr) => {
+        PathStep { row: $row, slot: $slot, min: $min, max: $max }
+    };
 }
 
 /// The path to an index of the leaf 17, in this slot.
-fn in_left(slot: u32) -> [PathStep; 2] {
-    [step(16, 0, 0, TOP), step(17, slot, 0, 11)]
+macro_rules! in_left {
+    ($slot:expr) => { &[step!(16, 0, 0, TOP), step!(17, $slot, 0, 11)] };
 }
 
 /// The path to an index of the leaf 18, in this slot.
-fn in_right(slot: u32) -> [PathStep; 2] {
-    [step(16, 1, 0, TOP), step(18, slot, 12, TOP)]
+macro_rules! in_right {
+    ($slot:expr) => { &[step!(16, 1, 0, TOP), step!(18, $slot, 12, TOP)] };
 }
 
-/// Indexes of the tree, and the path to each.
-fn ways() -> [(u64, [PathStep; 2]); 8] {
-    [
-        (0, in_left(0)),
-        (4, in_left(4)),
-        (5, in_left(5)),
-        (11, in_left(5)),
-        (12, in_right(0)),
-        (16, in_right(4)),
-        (17, in_right(5)),
-        (TOP, in_right(5)),
-    ]
+/// What stands in the leaf 17, at this slot.
+macro_rules! held_left {
+    ($slot:expr, $first:expr, $last:expr) => {
+        Handle {
+            leaf: step!(17, $slot, 0, 11),
+            span: Span { first: $first, last: $last, word: 4096 },
+        }
+    };
 }
 
-#[test]
-fn paths_to_indexes(rt: HostRuntime) -> Result<(), Fail> {
-    for (index, path) in ways() {
-        let mut rows = two_leaves(rt.alloc())?;
-        assert_eq!(rt;
-            walk(&mut rows, index).as_slice(),
-            path.as_slice(),
-            "the path to {index}"
-        );
-    }
-    Ok(())
+/// What stands in the leaf 18, at this slot.
+macro_rules! held_right {
+    ($slot:expr, $first:expr, $last:expr, $word:expr) => {
+        Handle {
+            leaf: step!(18, $slot, 12, TOP),
+            span: Span { first: $first, last: $last, word: $word },
+        }
+    };
 }
+
+/// An index of the tree: the path to it; what stands there, before it and behind it; and the paths to the rows left and right of
+/// its leaf, which are empty where no row is there.
+struct Way {
+    index: u64,
+    path: &'static [PathStep],
+    here: Handle,
+    before: Option<Handle>,
+    behind: Option<Handle>,
+    left: &'static [PathStep],
+    right: &'static [PathStep],
+}
+
+const WAYS: [Way; 8] = [
+    Way {
+        index: 0,
+        path: in_left!(0),
+        here: held_left!(0, 0, 0),
+        before: None,
+        behind: Some(held_left!(1, 1, 1)),
+        left: &[],
+        right: in_right!(0),
+    },
+    Way {
+        index: 4,
+        path: in_left!(4),
+        here: held_left!(4, 4, 4),
+        before: Some(held_left!(3, 3, 3)),
+        behind: Some(held_left!(5, 5, 11)),
+        left: &[],
+        right: in_right!(0),
+    },
+    Way {
+        index: 5,
+        path: in_left!(5),
+        here: held_left!(5, 5, 11),
+        before: Some(held_left!(4, 4, 4)),
+        behind: Some(held_right!(0, 12, 12, 4096)),
+        left: &[],
+        right: in_right!(0),
+    },
+    Way {
+        index: 11,
+        path: in_left!(5),
+        here: held_left!(5, 5, 11),
+        before: Some(held_left!(4, 4, 4)),
+        behind: Some(held_right!(0, 12, 12, 4096)),
+        left: &[],
+        right: in_right!(0),
+    },
+    Way {
+        index: 12,
+        path: in_right!(0),
+        here: held_right!(0, 12, 12, 4096),
+        before: Some(held_left!(5, 5, 11)),
+        behind: Some(held_right!(1, 13, 13, 4096)),
+        left: in_left!(5),
+        right: &[],
+    },
+    Way {
+        index: 16,
+        path: in_right!(4),
+        here: held_right!(4, 16, 16, 4096),
+        before: Some(held_right!(3, 15, 15, 4096)),
+        behind: Some(held_right!(5, 17, TOP, 0)),
+        left: in_left!(5),
+        right: &[],
+    },
+    Way {
+        index: 17,
+        path: in_right!(5),
+        here: held_right!(5, 17, TOP, 0),
+        before: Some(held_right!(4, 16, 16, 4096)),
+        behind: None,
+        left: in_left!(5),
+        right: &[],
+    },
+    Way {
+        index: TOP,
+        path: in_right!(5),
+        here: held_right!(5, 17, TOP, 0),
+        before: Some(held_right!(4, 16, 16, 4096)),
+        behind: None,
+        left: in_left!(5),
+        right: &[],
+    },
+];
 
 /// The tree of two leaves, and the path to an index in it.
 fn on_the_way(alloc: Global, index: u64) -> Result<(PlainRows, Path), NoMemory>
@@ -93,15 +172,14 @@ fn gone_on(alloc: Global, from: u64, to: u64) -> Result<Path, NoMemory> {
 }
 
 #[test]
-fn paths_that_go_on(rt: HostRuntime) -> Result<(), Fail> {
-    for (from, _) in ways() {
-        for (to, path) in ways() {
-            assert_eq!(rt;
-                gone_on(rt.alloc(), from, to)?.as_slice(),
-                path.as_slice(),
-                "the path from {from} on to {to}"
-            );
+fn paths_to_indexes_and_on_from_others(rt: HostRuntime) -> Result<(), Fail> {
+    for from in &WAYS {
+        for to in &WAYS {
+            let path = gone_on(rt.alloc(), from.index, to.index)?;
+            same(&rt, path.as_slice(), to.path, (from.index, to.index));
         }
+        let (_, path) = on_the_way(rt.alloc(), from.index)?;
+        same(&rt, path.as_slice(), from.path, from.index);
     }
     Ok(())
 }
@@ -114,162 +192,116 @@ fn gone_on_in_none(alloc: Global, index: u64) -> Result<Path, NoMemory> {
     Ok(path)
 }
 
+/// The handle at the end of the path to an index of the empty tree, and how long that path is.
+fn walked_to_in_none(alloc: Global, index: u64) -> Result<(Option<Handle>, usize), NoMemory> {
+    let mut rows = PlainRows::new(alloc, 3)?;
+    let mut path = Path::new();
+    let end = walk_to(&mut rows, index, &mut path);
+    Ok((end, path.len()))
+}
+
+/// The handle at an index of the empty tree, and how long the path to it is.
+fn found_in_none(alloc: Global, index: u64) -> Result<(Option<Handle>, usize), NoMemory> {
+    let mut rows = PlainRows::new(alloc, 3)?;
+    let path = walk(&mut rows, index);
+    let mut rows = PlainRows::new(alloc, 3)?;
+    Ok((handle_at(&mut rows, index), path.len()))
+}
+
 #[test]
 fn ways_in_an_empty_tree(rt: HostRuntime) -> Result<(), Fail> {
     for index in [0, 5, TOP] {
-        let mut rows = PlainRows::new(rt.alloc(), 3)?;
-        assert!(rt; walk(&mut rows, index).is_empty(), "the path to {index}");
-        assert!(rt;
-            gone_on_in_none(rt.alloc(), index)?.is_empty(),
-            "the path on to {index}"
-        );
-        let mut rows = PlainRows::new(rt.alloc(), 3)?;
-        let mut path = Path::new();
-        assert_eq!(rt;
-            walk_to(&mut rows, index, &mut path),
-            None,
-            "at the end of the path to {index}"
-        );
-        assert!(rt; path.is_empty(), "the path to {index} and its end");
-        let mut rows = PlainRows::new(rt.alloc(), 3)?;
-        assert_eq!(rt; handle_at(&mut rows, index), None, "at {index}");
+        same(&rt, gone_on_in_none(rt.alloc(), index)?.len(), 0, index);
+        same(&rt, walked_to_in_none(rt.alloc(), index)?, (None, 0), index);
+        same(&rt, found_in_none(rt.alloc(), index)?, (None, 0), index);
     }
     Ok(())
 }
 
-/// The paths to the rows right and left of the one at this level of the path to an index.
-fn rows_beside(
-    rt: &impl Abort,
-    alloc: Global,
-    index: u64,
-    level: u32,
-) -> Result<(Option<Path>, Option<Path>), NoMemory> {
+/// The path to the row right of the one at this level of the path to an index, which is empty where no row is there.
+fn right_of(rt: &impl Abort, alloc: Global, index: u64, level: u32) -> Result<Path, NoMemory> {
     let (mut rows, path) = on_the_way(alloc, index)?;
     assert!(rt; (level as usize) < path.len());
-    let right = right_at(&mut rows, &path, level);
-    let (mut rows, path) = on_the_way(alloc, index)?;
-    assert!(rt; (level as usize) < path.len());
-    let left = left_at(&mut rows, &path, level);
-    Ok((right, left))
+    match right_at(&mut rows, &path, level) {
+        Some(right) => Ok(right),
+        None => Ok(Path::new()),
+    }
 }
 
-/// The path to the row right of the one at this level of the path to an index, gone to in place.
-fn stepped_right(
-    rt: &impl Abort,
-    alloc: Global,
-    index: u64,
-    level: u32,
-) -> Result<Option<Path>, NoMemory> {
+/// The same of the row left of it.
+fn left_of(rt: &impl Abort, alloc: Global, index: u64, level: u32) -> Result<Path, NoMemory> {
+    let (mut rows, path) = on_the_way(alloc, index)?;
+    assert!(rt; (level as usize) < path.len());
+    match left_at(&mut rows, &path, level) {
+        Some(left) => Ok(left),
+        None => Ok(Path::new()),
+    }
+}
+
+/// The path to the row right of it, gone to in place.
+fn stepped_right(rt: &impl Abort, alloc: Global, index: u64, level: u32) -> Result<Path, NoMemory> {
     let (mut rows, mut path) = on_the_way(alloc, index)?;
     assert!(rt; (level as usize) < path.len());
     if step_right(&mut rows, &mut path, level) {
-        Ok(Some(path))
+        Ok(path)
     } else {
-        Ok(None)
+        Ok(Path::new())
     }
 }
 
-/// The path to the row left of the one at this level of the path to an index, gone to in place.
-fn stepped_left(
+/// The path to the row left of it, gone to in place.
+fn stepped_left(rt: &impl Abort, alloc: Global, index: u64, level: u32) -> Result<Path, NoMemory> {
+    let (mut rows, mut path) = on_the_way(alloc, index)?;
+    assert!(rt; (level as usize) < path.len());
+    if step_left(&mut rows, &mut path, level) {
+        Ok(path)
+    } else {
+        Ok(Path::new())
+    }
+}
+
+/// The paths to the rows left and right of the one at this level of the path to an index.
+fn expect_beside(
     rt: &impl Abort,
     alloc: Global,
     index: u64,
     level: u32,
-) -> Result<Option<Path>, NoMemory> {
-    let (mut rows, mut path) = on_the_way(alloc, index)?;
-    assert!(rt; (level as usize) < path.len());
-    if step_left(&mut rows, &mut path, level) {
-        Ok(Some(path))
-    } else {
-        Ok(None)
-    }
-}
-
-/// Whether a path has these steps, or neither is there.
-fn is_path(path: &Option<Path>, steps: &Option<[PathStep; 2]>) -> bool {
-    match (path, steps) {
-        (Some(path), Some(steps)) => path.as_slice() == steps.as_slice(),
-        (None, None) => true,
-        _ => false,
-    }
+    left: &[PathStep],
+    right: &[PathStep],
+) -> Result<(), NoMemory> {
+    let place = (index, level);
+    same(
+        rt,
+        left_of(rt, alloc, index, level)?.as_slice(),
+        left,
+        place,
+    );
+    same(
+        rt,
+        right_of(rt, alloc, index, level)?.as_slice(),
+        right,
+        place,
+    );
+    same(
+        rt,
+        stepped_left(rt, alloc, index, level)?.as_slice(),
+        left,
+        place,
+    );
+    same(
+        rt,
+        stepped_right(rt, alloc, index, level)?.as_slice(),
+        right,
+        place,
+    );
+    Ok(())
 }
 
 #[test]
 fn paths_to_rows_beside(rt: HostRuntime) -> Result<(), Fail> {
-    for (index, level, right, left) in [
-        (0, 0, None, None),
-        (11, 0, None, None),
-        (12, 0, None, None),
-        (TOP, 0, None, None),
-        (0, 1, Some(in_right(0)), None),
-        (11, 1, Some(in_right(0)), None),
-        (12, 1, None, Some(in_left(5))),
-        (TOP, 1, None, Some(in_left(5))),
-    ] {
-        let beside = rows_beside(&rt, rt.alloc(), index, level)?;
-        assert!(rt;
-            is_path(&beside.0, &right),
-            "right at level {level} from {index}"
-        );
-        assert!(rt;
-            is_path(&beside.1, &left),
-            "left at level {level} from {index}"
-        );
-        assert!(rt;
-            is_path(&stepped_right(&rt, rt.alloc(), index, level)?, &right),
-            "a step right at level {level} from {index}"
-        );
-        assert!(rt;
-            is_path(&stepped_left(&rt, rt.alloc(), index, level)?, &left),
-            "a step left at level {level} from {index}"
-        );
-    }
-    Ok(())
-}
-
-fn handle(leaf: PathStep, first: u64, last: u64, word: u64) -> Handle {
-    Handle {
-        leaf,
-        span: Span { first, last, word },
-    }
-}
-
-/// What stands in the leaf 17, at this slot.
-fn held_left(slot: u32, first: u64, last: u64) -> Handle {
-    handle(step(17, slot, 0, 11), first, last, 4096)
-}
-
-/// What stands in the leaf 18, at this slot.
-fn held_right(slot: u32, first: u64, last: u64, word: u64) -> Handle {
-    handle(step(18, slot, 12, TOP), first, last, word)
-}
-
-#[test]
-fn handles_of_indexes(rt: HostRuntime) -> Result<(), Fail> {
-    for (index, there) in [
-        (0, held_left(0, 0, 0)),
-        (4, held_left(4, 4, 4)),
-        (5, held_left(5, 5, 11)),
-        (11, held_left(5, 5, 11)),
-        (12, held_right(0, 12, 12, 4096)),
-        (16, held_right(4, 16, 16, 4096)),
-        (17, held_right(5, 17, TOP, 0)),
-        (TOP, held_right(5, 17, TOP, 0)),
-    ] {
-        let mut rows = two_leaves(rt.alloc())?;
-        assert_eq!(rt; handle_at(&mut rows, index), Some(there), "at {index}");
-        let mut rows = two_leaves(rt.alloc())?;
-        let mut path = Path::new();
-        assert_eq!(rt;
-            walk_to(&mut rows, index, &mut path),
-            Some(there),
-            "at the end of the path to {index}"
-        );
-        assert_eq!(rt;
-            path.as_slice().last().copied(),
-            Some(there.leaf),
-            "the path to {index}"
-        );
+    for way in &WAYS {
+        expect_beside(&rt, rt.alloc(), way.index, 0, &[], &[])?;
+        expect_beside(&rt, rt.alloc(), way.index, 1, way.left, way.right)?;
     }
     Ok(())
 }
@@ -300,50 +332,41 @@ fn before_index(alloc: Global, index: u64) -> Result<Option<Handle>, NoMemory> {
     }
 }
 
-/// What stands at an index, loaded once more.
-fn span_of_index(alloc: Global, index: u64) -> Result<Option<Span>, NoMemory> {
+/// What stands at an index, and its span, loaded once more.
+fn span_of_index(alloc: Global, index: u64) -> Result<Option<(Handle, Span)>, NoMemory> {
     match held_at(alloc, index)? {
-        Some((mut rows, here)) => Ok(Some(load_span(&mut rows, here.leaf))),
+        Some((mut rows, here)) => Ok(Some((here, load_span(&mut rows, here.leaf)))),
         None => Ok(None),
     }
 }
 
+/// The handle at the end of the path to an index, and the last step of that path.
+fn walked_to(alloc: Global, index: u64) -> Result<(Option<Handle>, Option<PathStep>), NoMemory> {
+    let mut rows = two_leaves(alloc)?;
+    let mut path = Path::new();
+    let end = walk_to(&mut rows, index, &mut path);
+    Ok((end, path.as_slice().last().copied()))
+}
+
 #[test]
-fn handles_beside(rt: HostRuntime) -> Result<(), Fail> {
-    for (index, here, behind, before) in [
-        (0, held_left(0, 0, 0), Some(held_left(1, 1, 1)), None),
-        (
-            11,
-            held_left(5, 5, 11),
-            Some(held_right(0, 12, 12, 4096)),
-            Some(held_left(4, 4, 4)),
-        ),
-        (
-            12,
-            held_right(0, 12, 12, 4096),
-            Some(held_right(1, 13, 13, 4096)),
-            Some(held_left(5, 5, 11)),
-        ),
-        (
-            16,
-            held_right(4, 16, 16, 4096),
-            Some(held_right(5, 17, TOP, 0)),
-            Some(held_right(3, 15, 15, 4096)),
-        ),
-        (
-            TOP,
-            held_right(5, 17, TOP, 0),
-            None,
-            Some(held_right(4, 16, 16, 4096)),
-        ),
-    ] {
-        assert_eq!(rt;
-            span_of_index(rt.alloc(), index)?,
-            Some(here.span),
-            "at {index}"
+fn handles_of_indexes_and_beside(rt: HostRuntime) -> Result<(), Fail> {
+    for way in &WAYS {
+        let end = (Some(way.here), Some(way.here.leaf));
+        same(&rt, walked_to(rt.alloc(), way.index)?, end, way.index);
+        let held = span_of_index(rt.alloc(), way.index)?;
+        same(&rt, held, Some((way.here, way.here.span)), way.index);
+        same(
+            &rt,
+            before_index(rt.alloc(), way.index)?,
+            way.before,
+            way.index,
         );
-        assert_eq!(rt; behind_index(rt.alloc(), index)?, behind, "behind {index}");
-        assert_eq!(rt; before_index(rt.alloc(), index)?, before, "before {index}");
+        same(
+            &rt,
+            behind_index(rt.alloc(), way.index)?,
+            way.behind,
+            way.index,
+        );
     }
     Ok(())
 }

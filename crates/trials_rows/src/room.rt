@@ -6,12 +6,14 @@ ghost use Rattle.mt_rows.specs.OfWords.{IsMadeOf};
 ghost use Rattle.mt_rows.specs.Publish.{IsLawfulOf};
 ghost use Rattle.mt_rows.specs.Trees.{height_in};
 
+use crate::asserts::same;
 use mt_base::{NoMemory, Steps, Width};
 use mt_gap::{highest, lowest, mend_gaps};
 use mt_path::walk;
 use mt_rows::{PlainRows, Rows};
 use std::alloc::Global;
 use std::marker::Brand;
+use std::process::Abort;
 use std::sync::ledger::{Blank, Ledger};
 use std::test::Fail;
 
@@ -135,70 +137,93 @@ fn places<L: Ledger>(
     (low, high_place(&mut right, size, lo, hi, &mut steps))
 }
 
-/// Windows in a tree, each with a size, the window's ends, and the lowest and the highest place that must be found
-/// there.
-macro_rules! expect_places {
-    ($rt:expr, $tree:ident: $($size:expr, $lo:expr, $hi:expr => $low:expr, $high:expr;)*) => {
-        for (size, lo, hi, low, high) in [$(($size, $lo, $hi, $low, $high)),*] {
-            assert!($rt; 1 <= size);
-            let (left, right) = ($tree($rt.alloc())?, $tree($rt.alloc())?);
-            assert_eq!($rt;
-                places::<Brand>(Blank::new(1), left, right, size, lo, hi),
-                (low, high),
-                "room for {size} from {lo} to {hi}"
-            );
-        }
+/// A tree that is made for a test.
+enum Tree {
+    Eleven,
+    SevenHoles,
+    Empty,
+}
+
+fn made(alloc: Global, tree: &Tree) -> Result<PlainRows, NoMemory>
+    ensures tree { IfOk result (λ rows. IsLawfulOf (sheet_in rows).tree trees.Alloc) }
+    ensures levels { IfOk result (λ rows. height_in (sheet_in rows).tree.table (sheet_in rows).tree.root ≤ 2) }
+{
+    match tree {
+        Tree::Eleven => eleven(alloc),
+        Tree::SevenHoles => seven_holes(alloc),
+        Tree::Empty => none(alloc),
+    }
+}
+
+/// A size, a window, and the lowest and the highest place that must be found there.
+type Window = ((u64, u64, u64), (Option<u64>, Option<u64>));
+
+macro_rules! windows {
+    ($($size:expr, $lo:expr, $hi:expr => $low:expr, $high:expr;)*) => {
+        &[$((($size, $lo, $hi), ($low, $high))),*]
     };
 }
 
-#[test]
-fn places_in_two_leaves(rt: HostRuntime) -> Result<(), Fail> {
-    expect_places! { &rt, eleven:
-        1, 0, TOP => Some(17), Some(TOP);
-        4, 0, TOP => Some(17), Some(18_446_744_073_709_551_612);
-        1, 0, 16 => None, None;
-        4, 18, 21 => Some(18), Some(18);
-        5, 18, 21 => None, None;
-        2, 10, 19 => Some(17), Some(18);
-        LONGEST, 0, TOP => Some(17), Some(17);
-        LONGEST + 1, 0, TOP => None, None;
-        TOP, 0, TOP => None, None;
+const IN_TWO_LEAVES: &[Window] = windows! {
+    1, 0, TOP => Some(17), Some(TOP);
+    4, 0, TOP => Some(17), Some(18_446_744_073_709_551_612);
+    1, 0, 16 => None, None;
+    4, 18, 21 => Some(18), Some(18);
+    5, 18, 21 => None, None;
+    2, 10, 19 => Some(17), Some(18);
+    LONGEST, 0, TOP => Some(17), Some(17);
+    LONGEST + 1, 0, TOP => None, None;
+    TOP, 0, TOP => None, None;
+};
+
+const BETWEEN_ENTRIES: &[Window] = windows! {
+    1, 0, TOP => Some(0), Some(TOP);
+    2, 0, TOP => Some(0), Some(19);
+    3, 0, TOP => Some(3), Some(13);
+    4, 0, TOP => Some(12), Some(12);
+    5, 0, TOP => None, None;
+    2, 1, TOP => Some(3), Some(19);
+    2, 0, 19 => Some(0), Some(14);
+    3, 4, 14 => Some(12), Some(12);
+    2, 4, 14 => Some(4), Some(13);
+    2, 7, 13 => Some(7), Some(12);
+    2, 8, 12 => None, None;
+    3, 13, 15 => Some(13), Some(13);
+    1, 17, 17 => Some(17), Some(17);
+    1, 2, 2 => None, None;
+    2, 0, 0 => None, None;
+    1, 21, TOP => Some(TOP), Some(TOP);
+    2, TOP - 1, TOP => None, None;
+};
+
+const IN_NONE: &[Window] = windows! {
+    4, 10, 13 => Some(10), Some(10);
+    4, 10, 20 => Some(10), Some(17);
+    4, 10, 12 => None, None;
+    TOP, 0, TOP => Some(0), Some(1);
+};
+
+/// The places in these windows of a tree.
+fn expect_places(
+    rt: &impl Abort,
+    alloc: Global,
+    tree: &Tree,
+    windows: &[Window],
+) -> Result<(), NoMemory> {
+    for &((size, lo, hi), want) in windows {
+        assert!(rt; 1 <= size);
+        let (left, right) = (made(alloc, tree)?, made(alloc, tree)?);
+        let found = places::<Brand>(Blank::new(1), left, right, size, lo, hi);
+        same(rt, found, want, (size, lo, hi));
     }
     Ok(())
 }
 
 #[test]
-fn places_between_entries(rt: HostRuntime) -> Result<(), Fail> {
-    expect_places! { &rt, seven_holes:
-        1, 0, TOP => Some(0), Some(TOP);
-        2, 0, TOP => Some(0), Some(19);
-        3, 0, TOP => Some(3), Some(13);
-        4, 0, TOP => Some(12), Some(12);
-        5, 0, TOP => None, None;
-        2, 1, TOP => Some(3), Some(19);
-        2, 0, 19 => Some(0), Some(14);
-        3, 4, 14 => Some(12), Some(12);
-        2, 4, 14 => Some(4), Some(13);
-        2, 7, 13 => Some(7), Some(12);
-        2, 8, 12 => None, None;
-        3, 13, 15 => Some(13), Some(13);
-        1, 17, 17 => Some(17), Some(17);
-        1, 2, 2 => None, None;
-        2, 0, 0 => None, None;
-        1, 21, TOP => Some(TOP), Some(TOP);
-        2, TOP - 1, TOP => None, None;
-    }
-    Ok(())
-}
-
-#[test]
-fn places_in_the_empty_tree(rt: HostRuntime) -> Result<(), Fail> {
-    expect_places! { &rt, none:
-        4, 10, 13 => Some(10), Some(10);
-        4, 10, 20 => Some(10), Some(17);
-        4, 10, 12 => None, None;
-        TOP, 0, TOP => Some(0), Some(1);
-    }
+fn places_in_trees(rt: HostRuntime) -> Result<(), Fail> {
+    expect_places(&rt, rt.alloc(), &Tree::Eleven, IN_TWO_LEAVES)?;
+    expect_places(&rt, rt.alloc(), &Tree::SevenHoles, BETWEEN_ENTRIES)?;
+    expect_places(&rt, rt.alloc(), &Tree::Empty, IN_NONE)?;
     Ok(())
 }
 
@@ -223,11 +248,8 @@ fn wrong_gap_words_are_mended(rt: HostRuntime) -> Result<(), Fail> {
         (1, TOP, TOP),
         (0, LONGEST, 16),
     ] {
-        assert_eq!(&rt;
-            mended(rt.alloc(), left, right, index)?,
-            (0, LONGEST),
-            "{left} and {right} on the way to {index}"
-        );
+        let gaps = mended(rt.alloc(), left, right, index)?;
+        same(&rt, gaps, (0, LONGEST), (left, right, index));
     }
     Ok(())
 }

@@ -1,17 +1,11 @@
-use crate::small_trees::{INNER, LEFT, RIGHT, TOP, draft_row};
+use crate::asserts::same;
+use crate::small_trees::{INNER, LEFT, LONE, RIGHT, TOP, draft_row};
 use mt_base::{Call, NoMemory, Range, Reply, Width};
 use mt_rows::plain_trees::{height_in, map_in, reached_in};
 use mt_rows::{Place, PlainRows, Rows, Scan};
 use std::alloc::Global;
 use std::process::Abort;
 use std::test::Fail;
-
-#[rattlefmt::skip]
-const LONE: [u64; 32] = [
-    1,
-    9, 19, TOP, 0, 0, 0, 0, 0, 0, 0, 0, 0, 0, 0, 0,
-    0, 5, 0, 0, 0, 0, 0, 0, 0, 0, 0, 0, 0, 0, 0, 0,
-];
 
 #[rattlefmt::skip]
 const NEXT: [u64; 32] = [
@@ -41,9 +35,9 @@ fn expect_tree(
     root: u64,
     (ranges, rows, height): (&[Range], &[u32], u32),
 ) -> Result<(), NoMemory> {
-    assert_eq!(rt; map_in(alloc, words, root)?.as_slice(), ranges);
-    assert_eq!(rt; reached_in(alloc, words, root)?.as_slice(), rows);
-    assert_eq!(rt; height_in(words, root), height);
+    same(rt, map_in(alloc, words, root)?.as_slice(), ranges, root);
+    same(rt, reached_in(alloc, words, root)?.as_slice(), rows, root);
+    same(rt, height_in(words, root), height, root);
     Ok(())
 }
 
@@ -79,18 +73,22 @@ fn trees_of_words(rt: HostRuntime) -> Result<(), Fail> {
 #[test]
 fn rows_in_memory(rt: HostRuntime) -> Result<(), Fail> {
     let mut rows = PlainRows::new(rt.alloc(), 3)?;
-    assert_eq!(rt; rows.size(), 3);
-    assert_eq!(rt; rows.width(), Width::Long);
-    assert_eq!(rt; rows.root(), 0);
+    same(
+        &rt,
+        (rows.size(), rows.width()),
+        (3, Width::Long),
+        "the sizes",
+    );
+    same(&rt, rows.root(), 0, "the root");
     let none = Scan {
         least: u64::MAX,
         by: None,
     };
-    assert_eq!(rt; rows.scan(), none);
-    assert_eq!(rt; rows.begin(), 1);
+    same(&rt, rows.scan(), none, "the scan");
+    same(&rt, rows.begin(), 1, "the first call");
     rows.draft(17, 5, 4096);
-    assert_eq!(rt; rows.load(17, 5), 4096);
-    assert_eq!(rt; rows.load(18, 5), 0);
+    same(&rt, rows.load(17, 5), 4096, 17);
+    same(&rt, rows.load(18, 5), 0, 18);
     Ok(())
 }
 
@@ -98,10 +96,10 @@ fn rows_in_memory(rt: HostRuntime) -> Result<(), Fail> {
 fn a_call_that_changes_nothing(rt: HostRuntime) -> Result<(), Fail> {
     let mut rows = PlainRows::new(rt.alloc(), 3)?;
     rows.plant(0);
-    assert_eq!(rt; rows.begin(), 1);
+    same(&rt, rows.begin(), 1, "the first call");
     rows.finish(&Call::Erase { index: 5 }, &Reply::None);
-    assert_eq!(rt; rows.begin(), 2);
-    assert_eq!(rt; rows.root(), 0);
+    same(&rt, rows.begin(), 2, "the second call");
+    same(&rt, rows.root(), 0, "the root in the end");
     Ok(())
 }
 
@@ -112,10 +110,10 @@ fn a_planted_tree(rt: HostRuntime) -> Result<(), Fail> {
     draft_row(&mut rows, 17, &LEFT);
     draft_row(&mut rows, 18, &RIGHT);
     rows.plant(4124);
-    assert_eq!(rt; rows.root(), 4124);
-    assert_eq!(rt; rows.begin(), 1);
+    same(&rt, rows.root(), 4124, "the root");
+    same(&rt, rows.begin(), 1, "the first call");
     rows.bury(17);
-    assert_eq!(rt; rows.load(17, 0), 4352);
+    same(&rt, rows.load(17, 0), 4352, "the mark of the dead row");
     Ok(())
 }
 
@@ -127,7 +125,7 @@ fn a_leaf_is_written_and_replaced(rt: HostRuntime) -> Result<(), Fail> {
         last: 19,
         entry: 5,
     };
-    assert_eq!(rt; rows.begin(), 1);
+    same(&rt, rows.begin(), 1, "the first call");
     draft_row(&mut rows, 16, &LONE);
     rows.publish(Place::Root, 4108, &first, &Reply::Ok);
     rows.finish(&first, &Reply::Ok);
@@ -137,7 +135,7 @@ fn a_leaf_is_written_and_replaced(rt: HostRuntime) -> Result<(), Fail> {
         last: 19,
         entry: 7,
     };
-    assert_eq!(rt; rows.begin(), 2);
+    same(&rt, rows.begin(), 2, "the second call");
     rows.publish(Place::Slot { row: 16, col: 17 }, 7, &exact, &Reply::Ok);
     rows.finish(&exact, &Reply::Ok);
 
@@ -146,12 +144,12 @@ fn a_leaf_is_written_and_replaced(rt: HostRuntime) -> Result<(), Fail> {
         last: 9,
         entry: 8,
     };
-    assert_eq!(rt; rows.begin(), 3);
+    same(&rt, rows.begin(), 3, "the third call");
     draft_row(&mut rows, 17, &NEXT);
     rows.bury(16);
     rows.publish(Place::Root, 4364, &more, &Reply::Ok);
     rows.finish(&more, &Reply::Ok);
-    assert_eq!(rt; rows.root(), 4364);
+    same(&rt, rows.root(), 4364, "the root");
 
     // The first leaf is dead by call 3.
     rows.scan();

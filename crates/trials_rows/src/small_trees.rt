@@ -13,6 +13,14 @@ pub const TOP: u64 = u64::MAX;
 /// The hole behind the last entry of a tree whose entries end at the index 16.
 pub const LONGEST: u64 = 18_446_744_073_709_551_599;
 
+/// A leaf, whose only range is 10 to 19 with the entry 5: a parent word, 15 pivots and 16 slots.
+#[rattlefmt::skip]
+pub const LONE: [u64; 32] = [
+    1,
+    9, 19, TOP, 0, 0, 0, 0, 0, 0, 0, 0, 0, 0, 0, 0,
+    0, 5, 0, 0, 0, 0, 0, 0, 0, 0, 0, 0, 0, 0, 0, 0,
+];
+
 /// An inner row of an allocation tree: a parent word, 9 pivots, 10 slots and 10 gaps.
 #[rattlefmt::skip]
 pub const INNER: [u64; 32] = [

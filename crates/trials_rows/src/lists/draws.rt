@@ -1,6 +1,6 @@
 ghost use Rattle.std.specs.Prelude.{◌<◌};
 
-use crate::lists::{TOP, alloc, erase, gap, insert, ralloc, rgap, store};
+use crate::lists::TOP;
 use mt_base::Call;
 
 /// Calls that look random and are the same on every machine.
@@ -53,9 +53,9 @@ impl Draws {
         let (first, last) = self.ends(12);
         let entry = self.below(7);
         if self.below(2) == 0 {
-            store(first, last, entry)
+            call!(store first, last, entry)
         } else {
-            insert(first, last, entry)
+            call!(insert first, last, entry)
         }
     }
 
@@ -65,10 +65,10 @@ impl Draws {
         let size = self.below(14);
         let entry = self.below(7);
         match self.below(4) {
-            0 => alloc(size, min, max, entry),
-            1 => ralloc(size, min, max, entry),
-            2 => gap(size, min, max),
-            _ => rgap(size, min, max),
+            0 => call!(alloc size, min, max, entry),
+            1 => call!(ralloc size, min, max, entry),
+            2 => call!(gap size, min, max),
+            _ => call!(rgap size, min, max),
         }
     }
 
@@ -76,7 +76,7 @@ impl Draws {
         match self.below(200) {
             0 => Call::Clear,
             1..80 => self.store(),
-            80..120 => erase(self.index()),
+            80..120 => call!(erase self.index()),
             _ => self.area(),
         }
     }

@@ -1,4 +1,0 @@
-use Rattle.trials_rows.proofs.room.places_between_entries.Given as goal
-
-abbrev pub ghosts-places : goal.ghosts-places
-ghosts-places g a = record { name = a.blank.name; parts = a.blank.parts }

@@ -1,0 +1,357 @@
+//! Calls on a map, by what they show: the reply to each, the ranges in the end, and what queries are answered then.
+
+use crate::lists::TOP;
+use mt_base::{Call, Kind, Query, Range, Reply};
+
+/// What calls on a new map come to, and what is asked of it then.
+pub struct Story {
+    pub name: &'static str,
+    pub kind: Kind,
+    pub calls: &'static [(Call, Reply)],
+    pub ranges: &'static [Range],
+    pub queries: &'static [(Query, Option<Range>)],
+}
+
+macro_rules! range {
+    ($first:expr, $last:expr, $entry:expr) => {
+        Range { first: $first, last: $last, entry: $entry }
+    };
+}
+
+/// A query, by its verb and its numbers.
+macro_rules! query {
+    (load $index:expr) => { Query::Load { index: $index } };
+    (find $index:expr, $max:expr) => { Query::Find { index: $index, max: $max } };
+    (next $index:expr, $max:expr) => { Query::Next { index: $index, max: $max } };
+    (prev $index:expr, $min:expr) => { Query::Prev { index: $index, min: $min } };
+    (rfind $index:expr, $min:expr) => { Query::Rfind { index: $index, min: $min } };
+}
+
+const HIGH: u64 = 18_446_744_073_709_551_606;
+
+pub const STORIES: &[Story] = &[
+    Story {
+        name: "stores into a range",
+        kind: Kind::Range,
+        calls: &[
+            (call!(store 0, 99, 1), Reply::Ok),
+            (call!(store 40, 49, 3), Reply::Ok),
+        ],
+        ranges: &[range!(0, 39, 1), range!(40, 49, 3), range!(50, 99, 1)],
+        queries: &[],
+    },
+    Story {
+        name: "erases from a range",
+        kind: Kind::Range,
+        calls: &[
+            (call!(store 0, 99, 1), Reply::Ok),
+            (call!(store 40, 49, 0), Reply::Ok),
+            (call!(store 45, 60, 0), Reply::Ok),
+        ],
+        ranges: &[range!(0, 39, 1), range!(61, 99, 1)],
+        queries: &[],
+    },
+    Story {
+        name: "ends at the last index",
+        kind: Kind::Range,
+        calls: &[
+            (call!(store 0, TOP, 7), Reply::Ok),
+            (call!(store TOP, TOP, 9), Reply::Ok),
+        ],
+        ranges: &[range!(0, TOP - 1, 7), range!(TOP, TOP, 9)],
+        queries: &[],
+    },
+    Story {
+        name: "refuses what is invalid",
+        kind: Kind::Range,
+        calls: &[
+            (call!(store 5, 4, 1), Reply::Invalid),
+            (call!(store 1, 1, 2), Reply::Invalid),
+            (call!(store 1, 1, 4094), Reply::Invalid),
+            (call!(store 1, 1, 4098), Reply::Ok),
+            (call!(insert 2, 2, 0), Reply::Invalid),
+        ],
+        ranges: &[range!(1, 1, 4098)],
+        queries: &[],
+    },
+    Story {
+        name: "inserts where no index is held",
+        kind: Kind::Range,
+        calls: &[
+            (call!(insert 20, 29, 3), Reply::Ok),
+            (call!(insert 29, 29, 4), Reply::Exists),
+            (call!(insert 30, 30, 4), Reply::Ok),
+        ],
+        ranges: &[range!(20, 29, 3), range!(30, 30, 4)],
+        queries: &[],
+    },
+    Story {
+        name: "erases the whole range",
+        kind: Kind::Range,
+        calls: &[
+            (call!(store 10, 19, 5), Reply::Ok),
+            (call!(erase 15), Reply::Was(5)),
+            (call!(erase 15), Reply::None),
+        ],
+        ranges: &[],
+        queries: &[],
+    },
+    Story {
+        name: "clears",
+        kind: Kind::Range,
+        calls: &[
+            (call!(store 10, 19, 5), Reply::Ok),
+            (call!(store 30, 39, 7), Reply::Ok),
+            (Call::Clear, Reply::Ok),
+        ],
+        ranges: &[],
+        queries: &[],
+    },
+    Story {
+        name: "loads and finds at the ends of a range",
+        kind: Kind::Range,
+        calls: &[(call!(store 10, 19, 5), Reply::Ok)],
+        ranges: &[range!(10, 19, 5)],
+        queries: &[
+            (query!(load 9), None),
+            (query!(load 10), Some(range!(10, 19, 5))),
+            (query!(load 19), Some(range!(10, 19, 5))),
+            (query!(load 20), None),
+            (query!(find 5, 9), None),
+            (query!(find 5, 10), Some(range!(10, 19, 5))),
+            (query!(find 20, TOP), None),
+            (query!(find 15, 12), None),
+            (query!(find 12, 12), Some(range!(10, 19, 5))),
+        ],
+    },
+    Story {
+        name: "walks up and down",
+        kind: Kind::Range,
+        calls: &[
+            (call!(store 0, 9, 1), Reply::Ok),
+            (call!(store 20, 29, 5), Reply::Ok),
+            (call!(store TOP, TOP, 3), Reply::Ok),
+        ],
+        ranges: &[range!(0, 9, 1), range!(20, 29, 5), range!(TOP, TOP, 3)],
+        queries: &[
+            (query!(next 5, TOP), Some(range!(20, 29, 5))),
+            (query!(next 10, TOP), Some(range!(20, 29, 5))),
+            (query!(next 0, 20), Some(range!(20, 29, 5))),
+            (query!(next 0, 19), None),
+            (query!(next TOP, TOP), None),
+            (query!(prev 25, 0), Some(range!(0, 9, 1))),
+            (query!(prev 20, 0), Some(range!(0, 9, 1))),
+            (query!(prev 15, 10), None),
+            (query!(prev 0, 0), None),
+            (query!(rfind 15, 0), Some(range!(0, 9, 1))),
+            (query!(rfind 15, 10), None),
+            (query!(rfind TOP, 0), Some(range!(TOP, TOP, 3))),
+        ],
+    },
+    Story {
+        name: "walks over single indexes",
+        kind: Kind::Range,
+        calls: &[
+            (call!(store 0, 0, 1), Reply::Ok),
+            (call!(store 2, 2, 1), Reply::Ok),
+            (call!(store 4, 4, 1), Reply::Ok),
+            (call!(store 6, 6, 1), Reply::Ok),
+            (call!(store 8, 8, 1), Reply::Ok),
+            (call!(store 10, 10, 1), Reply::Ok),
+            (call!(store 12, 12, 1), Reply::Ok),
+            (call!(store 14, 14, 1), Reply::Ok),
+            (call!(store 16, 16, 1), Reply::Ok),
+            (call!(store 18, 18, 1), Reply::Ok),
+            (call!(store 20, 20, 1), Reply::Ok),
+            (call!(store 22, 22, 1), Reply::Ok),
+            (call!(store 24, 24, 1), Reply::Ok),
+            (call!(store 26, 26, 1), Reply::Ok),
+            (call!(store 28, 28, 1), Reply::Ok),
+            (call!(store 30, 30, 1), Reply::Ok),
+            (call!(store 32, 32, 1), Reply::Ok),
+        ],
+        ranges: &[
+            range!(0, 0, 1),
+            range!(2, 2, 1),
+            range!(4, 4, 1),
+            range!(6, 6, 1),
+            range!(8, 8, 1),
+            range!(10, 10, 1),
+            range!(12, 12, 1),
+            range!(14, 14, 1),
+            range!(16, 16, 1),
+            range!(18, 18, 1),
+            range!(20, 20, 1),
+            range!(22, 22, 1),
+            range!(24, 24, 1),
+            range!(26, 26, 1),
+            range!(28, 28, 1),
+            range!(30, 30, 1),
+            range!(32, 32, 1),
+        ],
+        queries: &[
+            (query!(next 0, TOP), Some(range!(2, 2, 1))),
+            (query!(rfind 1, 0), Some(range!(0, 0, 1))),
+            (query!(next 2, TOP), Some(range!(4, 4, 1))),
+            (query!(rfind 3, 0), Some(range!(2, 2, 1))),
+            (query!(next 4, TOP), Some(range!(6, 6, 1))),
+            (query!(rfind 5, 0), Some(range!(4, 4, 1))),
+            (query!(next 6, TOP), Some(range!(8, 8, 1))),
+            (query!(rfind 7, 0), Some(range!(6, 6, 1))),
+            (query!(next 8, TOP), Some(range!(10, 10, 1))),
+            (query!(rfind 9, 0), Some(range!(8, 8, 1))),
+            (query!(next 10, TOP), Some(range!(12, 12, 1))),
+            (query!(rfind 11, 0), Some(range!(10, 10, 1))),
+            (query!(next 12, TOP), Some(range!(14, 14, 1))),
+            (query!(rfind 13, 0), Some(range!(12, 12, 1))),
+            (query!(next 14, TOP), Some(range!(16, 16, 1))),
+            (query!(rfind 15, 0), Some(range!(14, 14, 1))),
+            (query!(next 16, TOP), Some(range!(18, 18, 1))),
+            (query!(rfind 17, 0), Some(range!(16, 16, 1))),
+            (query!(next 18, TOP), Some(range!(20, 20, 1))),
+            (query!(rfind 19, 0), Some(range!(18, 18, 1))),
+            (query!(next 20, TOP), Some(range!(22, 22, 1))),
+            (query!(rfind 21, 0), Some(range!(20, 20, 1))),
+            (query!(next 22, TOP), Some(range!(24, 24, 1))),
+            (query!(rfind 23, 0), Some(range!(22, 22, 1))),
+            (query!(next 24, TOP), Some(range!(26, 26, 1))),
+            (query!(rfind 25, 0), Some(range!(24, 24, 1))),
+            (query!(next 26, TOP), Some(range!(28, 28, 1))),
+            (query!(rfind 27, 0), Some(range!(26, 26, 1))),
+            (query!(next 28, TOP), Some(range!(30, 30, 1))),
+            (query!(rfind 29, 0), Some(range!(28, 28, 1))),
+            (query!(next 30, TOP), Some(range!(32, 32, 1))),
+            (query!(rfind 31, 0), Some(range!(30, 30, 1))),
+        ],
+    },
+    Story {
+        name: "stores at the lowest and the highest start",
+        kind: Kind::Alloc,
+        calls: &[
+            (call!(store 0, 9, 1), Reply::Ok),
+            (call!(store 20, 29, 1), Reply::Ok),
+            (call!(alloc 10, 0, TOP, 3), Reply::Start(10)),
+            (call!(ralloc 10, 0, TOP, 4), Reply::Start(HIGH)),
+        ],
+        ranges: &[
+            range!(0, 9, 1),
+            range!(10, 19, 3),
+            range!(20, 29, 1),
+            range!(HIGH, TOP, 4),
+        ],
+        queries: &[],
+    },
+    Story {
+        name: "finds room in windows",
+        kind: Kind::Alloc,
+        calls: &[
+            (call!(store 0, 9, 1), Reply::Ok),
+            (call!(store 20, 29, 1), Reply::Ok),
+            (call!(gap 11, 5, 25), Reply::Busy),
+            (call!(gap 0, 0, 9), Reply::Invalid),
+            (call!(gap 11, 0, 9), Reply::Invalid),
+            (call!(gap 1, 9, 8), Reply::Invalid),
+            (call!(rgap 4, 5, 25), Reply::Start(16)),
+        ],
+        ranges: &[range!(0, 9, 1), range!(20, 29, 1)],
+        queries: &[],
+    },
+    Story {
+        name: "finds no room in a full tree",
+        kind: Kind::Alloc,
+        calls: &[
+            (call!(store 0, TOP, 1), Reply::Ok),
+            (call!(alloc 1, 0, TOP, 3), Reply::Busy),
+        ],
+        ranges: &[range!(0, TOP, 1)],
+        queries: &[],
+    },
+    Story {
+        name: "seeks no room in a tree of ranges",
+        kind: Kind::Range,
+        calls: &[
+            (call!(alloc 1, 0, TOP, 3), Reply::Invalid),
+            (call!(rgap 1, 0, 0), Reply::Invalid),
+        ],
+        ranges: &[],
+        queries: &[],
+    },
+    Story {
+        name: "maps addresses",
+        kind: Kind::Alloc,
+        calls: &[
+            (call!(store 0x40_0000, 0x40_1fff, 8192), Reply::Ok),
+            (call!(store 0x7fff_f000, 0x7fff_ffff, 8196), Reply::Ok),
+            (
+                call!(ralloc 0x3000, 0x1_0000, 0x7fff_ffff, 8200),
+                Reply::Start(2_147_467_264),
+            ),
+        ],
+        ranges: &[
+            range!(0x40_0000, 0x40_1fff, 8192),
+            range!(2_147_467_264, 2_147_479_551, 8200),
+            range!(2_147_479_552, 2_147_483_647, 8196),
+        ],
+        queries: &[(
+            query!(next 0x40_0000, TOP),
+            Some(range!(2_147_467_264, 2_147_479_551, 8200)),
+        )],
+    },
+    Story {
+        name: "maps addresses, and gives some back",
+        kind: Kind::Alloc,
+        calls: &[
+            (call!(store 0x40_0000, 0x40_1fff, 8192), Reply::Ok),
+            (call!(store 0x7fff_f000, 0x7fff_ffff, 8196), Reply::Ok),
+            (
+                call!(ralloc 0x3000, 0x1_0000, 0x7fff_ffff, 8200),
+                Reply::Start(2_147_467_264),
+            ),
+            (call!(erase 0x40_0010), Reply::Was(8192)),
+        ],
+        ranges: &[
+            range!(2_147_467_264, 2_147_479_551, 8200),
+            range!(2_147_479_552, 2_147_483_647, 8196),
+        ],
+        queries: &[],
+    },
+    // Linux 6.12 answers these four otherwise, by a fault of its own.
+    Story {
+        name: "inserts over all indexes, of which one is held",
+        kind: Kind::Range,
+        calls: &[
+            (call!(store 5, 5, 1), Reply::Ok),
+            (call!(insert 0, TOP, 3), Reply::Exists),
+        ],
+        ranges: &[range!(5, 5, 1)],
+        queries: &[],
+    },
+    Story {
+        name: "walks down to above the lowest index",
+        kind: Kind::Range,
+        calls: &[(call!(store 0, 0, 5), Reply::Ok)],
+        ranges: &[range!(0, 0, 5)],
+        queries: &[(query!(prev 9, 1), None), (query!(rfind 9, 1), None)],
+    },
+    Story {
+        name: "finds the highest room below a range that ends at the last index",
+        kind: Kind::Alloc,
+        calls: &[
+            (call!(store 10, TOP, 1), Reply::Ok),
+            (call!(rgap 1, 0, TOP), Reply::Start(9)),
+        ],
+        ranges: &[range!(10, TOP, 1)],
+        queries: &[],
+    },
+    Story {
+        name: "finds room in the tree that was emptied by an erase",
+        kind: Kind::Alloc,
+        calls: &[
+            (call!(store 0, TOP, 7), Reply::Ok),
+            (call!(erase 3), Reply::Was(7)),
+            (call!(gap 1, 0, TOP), Reply::Start(0)),
+        ],
+        ranges: &[],
+        queries: &[],
+    },
+];
