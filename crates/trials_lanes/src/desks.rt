@@ -18,6 +18,7 @@ use mt_io::NoGate;
 use mt_lanes::Lane;
 use mt_log::{Entry, Item, Line, Said};
 use std::alloc::{AllocError, Global};
+use std::process::Abort;
 use std::sync::Wait;
 use std::test::Fail;
 use std::thread::Threads;
@@ -114,6 +115,19 @@ fn lane(number: u64, lane: u32) -> Line
     Line { number, item }
 }
 
+/// A lane has the lines of these numbers, and needs as many steps.
+fn expect_own(rt: &impl Abort, lane: u32, lines: &[Line], want: &[u64]) -> Result<(), Fail> {
+    let mut own = OwnLines::new(lane, lines);
+    for line in want {
+        let next = own.next().map(|line| line.number);
+        assert_eq!(rt; next, Some(*line), "lane {lane}");
+    }
+    assert!(rt; own.next().is_none(), "lane {lane}");
+    let needs = needs_of(lane, lines)?;
+    assert_eq!(rt; needs.steps, want.len() as u64, "lane {lane}");
+    Ok(())
+}
+
 #[test]
 fn each_lane_has_its_lines(rt: HostRuntime) -> Result<(), Fail> {
     let lines = [
@@ -126,21 +140,9 @@ fn each_lane_has_its_lines(rt: HostRuntime) -> Result<(), Fail> {
         load(9),
         load(10),
     ];
-    let rows: [(u32, &[u64]); 3] = [(0, &[7]), (1, &[5, 9, 10]), (2, &[])];
-    for (number, want) in rows {
-        let mut own = OwnLines::new(number, &lines);
-        for line in want {
-            assert_eq!(rt;
-                own.next().map(|line| line.number),
-                Some(*line),
-                "lane {number}"
-            );
-        }
-        assert!(rt; own.next().is_none(), "lane {number}");
-        let needs = needs_of(number, &lines)?;
-        assert_eq!(rt; needs.steps, want.len() as u64, "lane {number}");
-    }
-    Ok(())
+    expect_own(&rt, 0, &lines, &[7])?;
+    expect_own(&rt, 1, &lines, &[5, 9, 10])?;
+    expect_own(&rt, 2, &lines, &[])
 }
 
 /// An entry of a line, with a count that tells it from others.
@@ -158,18 +160,15 @@ fn told(entry: &Entry) -> (u64, u64) {
 }
 
 #[test]
-fn a_log_has_as_many_lanes_as_do_lines(rt: HostRuntime) -> Result<(), Fail> {
-    let rows: [(&[Line], u64); 5] = [
-        (&[], 1),
-        (&[lane(3, 5), check(4)], 1),
-        (&[lane(3, 5), load(4), lane(5, 2), load(6)], 6),
-        (&[lane(3, 15), clear(4)], 16),
-        (&[lane(3, 9), join(4), load(5)], 1),
+fn a_log_has_as_many_lanes_as_do_lines(rt: HostRuntime) {
+    let lanes = [
+        lanes_in(&[]),
+        lanes_in(&[lane(3, 5), check(4)]),
+        lanes_in(&[lane(3, 5), load(4), lane(5, 2), load(6)]),
+        lanes_in(&[lane(3, 15), clear(4)]),
+        lanes_in(&[lane(3, 9), join(4), load(5)]),
     ];
-    for (lines, want) in rows {
-        assert_eq!(rt; lanes_in(lines), want);
-    }
-    Ok(())
+    assert_eq!(rt; lanes, [1, 1, 6, 16, 1]);
 }
 
 #[test]
