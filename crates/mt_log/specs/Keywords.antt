@@ -1,8 +1,14 @@
--- The word that stands for each keyword.
+-- The keywords, and the word that stands for each.
 -- Source: this project's own, the language of logs.
-use Rattle.std.specs.Prelude.{ℕ, List, codes}
+use Rattle.std.specs.Prelude.{ℕ, List, [], ◌∷◌, Option, codes}
+use Rattle.std.specs.List.{find}
+use Rattle.std.specs.Str.{bytes_eq}
 use Rattle.mt_log.specs.declared.keywords.Keyword.{Keyword}
 use Rattle.mt_log.specs.declared.keywords.Keyword.TheVariants as keyword
+
+-- each once
+abbrev pub keywords : List Keyword
+keywords = keyword.Tree ∷ keyword.Dup ∷ keyword.Check ∷ keyword.Lane ∷ keyword.Join ∷ keyword.Store ∷ keyword.StorePre ∷ keyword.Insert ∷ keyword.Erase ∷ keyword.Alloc ∷ keyword.Ralloc ∷ keyword.Gap ∷ keyword.Rgap ∷ keyword.Clear ∷ keyword.Load ∷ keyword.Find ∷ keyword.Next ∷ keyword.Prev ∷ keyword.Rfind ∷ keyword.Scan ∷ []
 
 abbrev pub word_of : Keyword → List ℕ
 word_of keyword.Tree = codes "tree"
@@ -25,3 +31,7 @@ word_of keyword.Next = codes "next"
 word_of keyword.Prev = codes "prev"
 word_of keyword.Rfind = codes "rfind"
 word_of keyword.Scan = codes "scan"
+
+-- the first of these keywords whose word this is
+abbrev pub named : List ℕ → List Keyword → Option Keyword
+named word = find (λ k. bytes_eq word (word_of k))

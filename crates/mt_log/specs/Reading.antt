@@ -13,6 +13,7 @@ use Rattle.mt_base.specs.declared.calls.Call.TheVariants.{Store, StorePre, Inser
 use Rattle.mt_base.specs.declared.calls.Query.{Query}
 use Rattle.mt_base.specs.declared.calls.Query.TheVariants.{Load, Find, Next, Prev, Rfind}
 use Rattle.mt_base.specs.Width.{greatest_of}
+use Rattle.mt_log.specs.Keywords.{keywords, named}
 use Rattle.mt_log.specs.Name.{is_name}
 use Rattle.mt_log.specs.Phases.{stepped_after}
 use Rattle.mt_log.specs.Trees.{known_after, most_lanes, most_trees}
@@ -107,28 +108,7 @@ pub record Read : Type 0 where
 -- ---- the words of the language
 
 unfoldable pub keyword_of : List ℕ → Result Keyword Why
-keyword_of word =
-    if bytes_eq word (codes "tree") then Ok keyword.Tree
-    else (if bytes_eq word (codes "dup") then Ok keyword.Dup
-    else (if bytes_eq word (codes "check") then Ok keyword.Check
-    else (if bytes_eq word (codes "lane") then Ok keyword.Lane
-    else (if bytes_eq word (codes "join") then Ok keyword.Join
-    else (if bytes_eq word (codes "store") then Ok keyword.Store
-    else (if bytes_eq word (codes "pstore") then Ok keyword.StorePre
-    else (if bytes_eq word (codes "insert") then Ok keyword.Insert
-    else (if bytes_eq word (codes "erase") then Ok keyword.Erase
-    else (if bytes_eq word (codes "alloc") then Ok keyword.Alloc
-    else (if bytes_eq word (codes "ralloc") then Ok keyword.Ralloc
-    else (if bytes_eq word (codes "gap") then Ok keyword.Gap
-    else (if bytes_eq word (codes "rgap") then Ok keyword.Rgap
-    else (if bytes_eq word (codes "clear") then Ok keyword.Clear
-    else (if bytes_eq word (codes "load") then Ok keyword.Load
-    else (if bytes_eq word (codes "find") then Ok keyword.Find
-    else (if bytes_eq word (codes "next") then Ok keyword.Next
-    else (if bytes_eq word (codes "prev") then Ok keyword.Prev
-    else (if bytes_eq word (codes "rfind") then Ok keyword.Rfind
-    else (if bytes_eq word (codes "scan") then Ok keyword.Scan
-    else Err why.Unknown)))))))))))))))))))
+keyword_of word = ok_or (named word keywords) why.Unknown
 
 -- ---- the fields behind a line's word, tested one by one from the left, where their number is right
 

@@ -1,5 +1,5 @@
 ghost use Rattle.std.specs.Prelude.{◌≡◌, ◌≤◌, length};
-ghost use Rattle.mt_log.specs.Keywords.{word_of};
+ghost use Rattle.mt_log.specs.Keywords.{named, word_of};
 ghost use Rattle.mt_log.specs.Reading.{keyword_of};
 
 use crate::faults::Why;
@@ -59,15 +59,23 @@ macro_rules! words {
 
 pub(crate) use words;
 
-/// The keyword of a word in the table, or what comes of any other word.
-macro_rules! keyword_in {
-    ($word:ident, $otherwise:expr, $($text:literal $keyword:ident $form:ident($($part:ident)*)),*) => {
-        $(if $word == $text.as_bytes() {
-            Ok(Keyword::$keyword)
-        } else)* {
-            $otherwise
-        }
+/// The keywords in the order of the table.
+macro_rules! keywords_in {
+    ($type:ident, $($text:literal $keyword:ident $form:ident($($part:ident)*)),*) => {
+        &[$($type::$keyword),*]
     };
+}
+
+const KEYWORDS: &[Keyword] = words!(keywords_in, Keyword);
+
+/// The keyword of these whose word this is.
+fn named(keywords: &[Keyword], word: &[u8]) -> Option<Keyword>
+    ensures { result ≡ named word.now keywords.now }
+{
+    keywords
+        .iter()
+        .copied()
+        .find(|keyword| word == word_of(*keyword))
 }
 
 /// The keyword that a line's first field is.
@@ -75,7 +83,7 @@ macro_rules! keyword_in {
 pub fn keyword_of(word: &[u8]) -> Result<Keyword, Why>
     ensures { result ≡ keyword_of word.now }
 {
-    words!(keyword_in, word, Err(Why::Unknown))
+    named(KEYWORDS, word).ok_or(Why::Unknown)
 }
 
 /// The word of a keyword.
