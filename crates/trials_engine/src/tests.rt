@@ -2,24 +2,66 @@ ghost use Rattle.std.specs.Prelude.{◌≡◌, ◌<◌, ◌+◌, ◌-◌, ◌^�
 ghost use Rattle.mt_base.specs.Width.{most_rows};
 ghost use Rattle.mt_base.specs.declared.kinds.Kind.TheVariants as kinds;
 
-mod areas;
+/// A call, by its verb and its numbers. What seeks room stores the entry 1.
+macro_rules! call {
+    (store $first:expr, $last:expr, $entry:expr) => {
+        Call::Store { first: $first, last: $last, entry: $entry }
+    };
+    (store_pre $first:expr, $last:expr, $entry:expr) => {
+        Call::StorePre { first: $first, last: $last, entry: $entry }
+    };
+    (insert $first:expr, $last:expr, $entry:expr) => {
+        Call::Insert { first: $first, last: $last, entry: $entry }
+    };
+    (erase $index:expr) => {
+        Call::Erase { index: $index }
+    };
+    (alloc $size:expr, $min:expr, $max:expr) => {
+        Call::Alloc { size: $size, min: $min, max: $max, entry: 1 }
+    };
+    (ralloc $size:expr, $min:expr, $max:expr) => {
+        Call::Ralloc { size: $size, min: $min, max: $max, entry: 1 }
+    };
+    (gap $size:expr, $min:expr, $max:expr) => {
+        Call::Gap { size: $size, min: $min, max: $max }
+    };
+    (rgap $size:expr, $min:expr, $max:expr) => {
+        Call::Rgap { size: $size, min: $min, max: $max }
+    };
+}
+
+macro_rules! range {
+    ($first:expr, $last:expr, $entry:expr) => {
+        Range { first: $first, last: $last, entry: $entry }
+    };
+}
+
 mod drawn;
 mod prepared;
 mod replaced;
+mod stories;
 mod watched;
 
-use crate::tests::watched::{HOLDER, Watched};
-use mt_base::{Call, Kind, NoMemory, Query, Range, Reply, Shortage, errno};
+use crate::tests::stories::{NUMBERS, STORIES, Story, WATCHED};
+use crate::tests::watched::Watched;
+use mt_base::{Call, Kind, MOST_ROWS, NoMemory, Query, Range, Reply, errno};
 use mt_engine::Engine;
 use mt_free::RowBook;
 use mt_list::{ListMap, Ranges};
 use mt_rows::{PlainRows, Rows};
 use std::alloc::Global;
+use std::fmt::Debug;
 use std::process::Abort;
 use std::test::Fail;
 
 /// The last index.
 const TOP: u64 = u64::MAX;
+
+/// What came out at a place of a test is what is wanted. It asserts for all tests, so that the code of an assertion is proved
+/// once, and not in each.
+fn same<T: Copy + PartialEq + Debug, P: Copy + Debug>(rt: &impl Abort, got: T, want: T, place: P) {
+    assert_eq!(rt; got, want, "at {place:?}");
+}
 
 /// An engine of an empty tree of ranges over so many rows in memory.
 fn fresh(alloc: Global, rows: u64) -> Result<Engine<PlainRows>, NoMemory>
@@ -49,22 +91,6 @@ fn fresh_watched(alloc: Global, rows: u64) -> Result<Engine<Watched>, NoMemory>
     Ok(Engine::new(Watched::new(alloc, rows)?, book, Kind::Range))
 }
 
-fn store(first: u64, last: u64, entry: u64) -> Call {
-    Call::Store { first, last, entry }
-}
-
-fn store_pre(first: u64, last: u64, entry: u64) -> Call {
-    Call::StorePre { first, last, entry }
-}
-
-fn insert(first: u64, last: u64, entry: u64) -> Call {
-    Call::Insert { first, last, entry }
-}
-
-fn erase(index: u64) -> Call {
-    Call::Erase { index }
-}
-
 /// Asks each kind of query at an index, with bounds, of the engine and of the list, which answer the same.
 fn expect_answers(
     rt: &impl Abort,
@@ -84,7 +110,7 @@ fn expect_answers(
         Query::Rfind { index, min: bound },
     ];
     for query in queries {
-        assert_eq!(rt; engine.ask(&query), list.ask(&query), "at {query:?}");
+        same(rt, engine.ask(&query), list.ask(&query), query);
     }
 }
 
@@ -94,10 +120,10 @@ fn expect_walk(rt: &impl Abort, engine: &mut Engine<PlainRows>, index: u64, rang
 {
     let mut walk = engine.walk_from(index);
     for range in ranges {
-        assert_eq!(rt; engine.next_range(&mut walk), Some(*range), "from {index}");
+        same(rt, engine.next_range(&mut walk), Some(*range), index);
     }
-    assert_eq!(rt; engine.next_range(&mut walk), None, "from {index}");
-    assert_eq!(rt; walk.next, None);
+    same(rt, engine.next_range(&mut walk), None, index);
+    same(rt, walk.next, None, index);
 }
 
 /// Makes these calls, which are answered so.
@@ -105,7 +131,7 @@ fn expect_replies<R: Rows>(rt: &impl Abort, engine: &mut Engine<R>, calls: &[(Ca
     requires few { engine.old.sheet.ended + length calls.now < 2 ^ 62 - 1 }
 {
     for (call, want) in calls {
-        assert_eq!(rt; engine.apply(call), *want, "at {call:?}");
+        same(rt, engine.apply(call), *want, *call);
     }
 }
 
@@ -116,7 +142,7 @@ fn expect_ranges<R: Rows>(
     engine: &mut Engine<R>,
     want: &[Range],
 ) -> Result<(), NoMemory> {
-    assert_eq!(rt; engine.list(alloc)?.as_slice(), want);
+    same(rt, engine.list(alloc)?.as_slice(), want, "the end");
     Ok(())
 }
 
@@ -132,16 +158,74 @@ fn expect_same(
     ensures { engine.new.sheet.ended ≡ engine.old.sheet.ended + 1 }
 {
     let reply = engine.apply(call);
-    assert_eq!(rt; reply, list.act(call)?, "at {call:?}");
+    same(rt, reply, list.act(call)?, *call);
     let ranges = engine.list(alloc)?;
-    assert_eq!(rt;
-        ranges.as_slice(),
-        list.list(alloc)?.as_slice(),
-        "after {call:?}"
-    );
+    same(rt, ranges.as_slice(), list.list(alloc)?.as_slice(), *call);
     expect_walk(rt, engine, 0, ranges.as_slice());
     expect_answers(rt, engine, list, 15, TOP);
     expect_answers(rt, engine, list, 30, 12);
+    Ok(())
+}
+
+/// Calls that store in, over and beside what is there, and that are refused.
+const CALLS: &[Call] = &[
+    call!(erase 3),
+    Call::Clear,
+    call!(store 5, 9, 0),
+    call!(store 10, 19, 5),
+    call!(store 12, 13, 7),
+    call!(store 12, 13, 8),
+    call!(store 5, 4, 1),
+    call!(store 1, 1, 2),
+    call!(insert 2, 2, 0),
+    call!(insert 19, 25, 9),
+    call!(insert 2, 10, 9),
+    call!(insert 20, 25, 9),
+    call!(store 0, TOP, 4),
+    call!(store TOP, TOP, 3),
+    call!(store 7, 7, 0),
+    call!(erase 7),
+    call!(erase 8),
+    call!(store 6, 6, 1),
+    call!(erase TOP),
+    call!(erase 6),
+    call!(erase 0),
+];
+
+/// So many stores at the even indexes.
+fn stores(alloc: Global, count: u32) -> Result<Vec<Call>, NoMemory> {
+    let mut calls = Vec::new(alloc);
+    for n in 0..count {
+        let index = 2 * u64::from(n);
+        calls.push(call!(store index, index, 1))?;
+    }
+    Ok(calls)
+}
+
+/// Eighty stores at the even indexes, forty erases at every third index, and a clear.
+fn stores_and_erases(alloc: Global) -> Result<Vec<Call>, NoMemory> {
+    let mut calls = stores(alloc, 80)?;
+    for n in 0..40_u64 {
+        calls.push(call!(erase 3 * n))?;
+    }
+    calls.push(Call::Clear)?;
+    Ok(calls)
+}
+
+/// Makes these calls on the engine and on the list.
+fn expect_all_same(
+    rt: &impl Abort,
+    alloc: Global,
+    engine: &mut Engine<PlainRows>,
+    list: &mut ListMap,
+    calls: &[Call],
+) -> Result<(), NoMemory>
+    requires few { engine.old.sheet.ended + length calls.now < 2 ^ 62 - 1 }
+    ensures { engine.new.sheet.ended ≤ engine.old.sheet.ended + length calls.now }
+{
+    for call in calls {
+        expect_same(rt, alloc, engine, list, call)?;
+    }
     Ok(())
 }
 
@@ -149,45 +233,11 @@ fn expect_same(
 fn answers_as_a_list_does(rt: HostRuntime) -> Result<(), Fail> {
     let mut engine = fresh(rt.alloc(), 400)?;
     let mut list = ListMap::new(rt.alloc(), Kind::Range);
-    let calls = [
-        erase(3),
-        Call::Clear,
-        store(5, 9, 0),
-        store(10, 19, 5),
-        store(12, 13, 7),
-        store(12, 13, 8),
-        store(5, 4, 1),
-        store(1, 1, 2),
-        insert(2, 2, 0),
-        insert(19, 25, 9),
-        insert(2, 10, 9),
-        insert(20, 25, 9),
-        store(0, TOP, 4),
-        store(TOP, TOP, 3),
-        store(7, 7, 0),
-        erase(7),
-        erase(8),
-        store(6, 6, 1),
-        erase(TOP),
-        erase(6),
-        erase(0),
-    ];
-    for call in calls {
-        expect_same(&rt, rt.alloc(), &mut engine, &mut list, &call)?;
-    }
-    for n in 0..80 {
-        expect_same(
-            &rt,
-            rt.alloc(),
-            &mut engine,
-            &mut list,
-            &store(2 * n, 2 * n, 1),
-        )?;
-    }
-    for n in 0..40 {
-        expect_same(&rt, rt.alloc(), &mut engine, &mut list, &erase(3 * n))?;
-    }
-    expect_same(&rt, rt.alloc(), &mut engine, &mut list, &Call::Clear)?;
+    assert!(rt; CALLS.len() < 1000);
+    expect_all_same(&rt, rt.alloc(), &mut engine, &mut list, CALLS)?;
+    let calls = stores_and_erases(rt.alloc())?;
+    assert!(rt; calls.len() < 1000);
+    expect_all_same(&rt, rt.alloc(), &mut engine, &mut list, calls.as_slice())?;
     Ok(())
 }
 
@@ -195,94 +245,54 @@ fn answers_as_a_list_does(rt: HostRuntime) -> Result<(), Fail> {
 fn walks_from_within(rt: HostRuntime) -> Result<(), Fail> {
     let mut engine = fresh(rt.alloc(), 8)?;
     expect_walk(&rt, &mut engine, 3, &[]);
-    assert_eq!(&rt; engine.apply(&store(10, 19, 5)), Reply::Ok);
-    assert_eq!(&rt; engine.apply(&store(30, TOP, 7)), Reply::Ok);
-    let ten = Range {
-        first: 10,
-        last: 19,
-        entry: 5,
-    };
-    let thirty = Range {
-        first: 30,
-        last: TOP,
-        entry: 7,
-    };
-    expect_walk(&rt, &mut engine, 0, &[ten, thirty]);
-    expect_walk(&rt, &mut engine, 12, &[ten, thirty]);
-    expect_walk(&rt, &mut engine, 20, &[thirty]);
-    expect_walk(&rt, &mut engine, TOP, &[thirty]);
+    let calls = [
+        (call!(store 10, 19, 5), Reply::Ok),
+        (call!(store 30, TOP, 7), Reply::Ok),
+    ];
+    expect_replies(&rt, &mut engine, &calls);
+    let ranges = [range!(10, 19, 5), range!(30, TOP, 7)];
+    expect_walk(&rt, &mut engine, 0, &ranges);
+    expect_walk(&rt, &mut engine, 12, &ranges);
+    expect_walk(&rt, &mut engine, 20, &ranges[1..]);
+    expect_walk(&rt, &mut engine, TOP, &ranges[1..]);
     Ok(())
 }
 
-/// These replies are the kernel's errors of these numbers.
-fn expect_numbers(rt: &impl Abort, replies: &[(Reply, Option<u32>)]) {
-    for (reply, number) in replies {
-        assert_eq!(rt; errno(reply), *number, "at {reply:?}");
-    }
+/// Makes the calls of a story on a new engine, which answers as it tells, and holds the ranges that it tells then.
+fn expect_story<R: Rows>(
+    rt: &impl Abort,
+    alloc: Global,
+    engine: &mut Engine<R>,
+    story: &Story,
+) -> Result<(), NoMemory>
+    requires { engine.old.sheet.ended ≡ 0 }
+{
+    assert!(rt; story.calls.len() < 1000);
+    expect_replies(rt, engine, story.calls);
+    expect_ranges(rt, alloc, engine, story.ranges)
 }
 
 #[test]
-fn tells_that_too_few_rows_are_free(rt: HostRuntime) -> Result<(), Fail> {
-    let mut engine = fresh(rt.alloc(), 4)?;
-    let shortage = Shortage {
-        need: 4,
-        free: 3,
-        live: 1,
-        held: 0,
-        by: None,
-    };
-    let calls = [
-        (store(10, 10, 5), Reply::Ok),
-        (store(20, 20, 7), Reply::NoNodes(shortage)),
-        (store(10, 10, 9), Reply::Ok),
-        (store_pre(10, 10, 8), Reply::NoNodes(shortage)),
-        (store_pre(12, 11, 8), Reply::Invalid),
-        (insert(10, 12, 9), Reply::Exists),
-        (store(10, 10, 2), Reply::Invalid),
-        (Call::Clear, Reply::Ok),
-    ];
-    expect_replies(&rt, &mut engine, &calls);
-    let numbers = [
-        (Reply::Ok, None),
-        (Reply::NoNodes(shortage), Some(12)),
-        (Reply::Exists, Some(17)),
-        (Reply::Invalid, Some(22)),
-    ];
-    expect_numbers(&rt, &numbers);
-    expect_ranges(&rt, rt.alloc(), &mut engine, &[])?;
+fn stories_come_out_as_told(rt: HostRuntime) -> Result<(), Fail> {
+    for story in STORIES {
+        assert!(rt; story.rows <= MOST_ROWS);
+        let mut engine = fresh_of(rt.alloc(), story.kind, story.rows)?;
+        expect_story(&rt, rt.alloc(), &mut engine, story)?;
+    }
     Ok(())
 }
 
 #[test]
 fn tells_who_holds_rows_back(rt: HostRuntime) -> Result<(), Fail> {
     let mut engine = fresh_watched(rt.alloc(), 8)?;
-    let shortage = Shortage {
-        need: 4,
-        free: 3,
-        live: 1,
-        held: 4,
-        by: Some(HOLDER),
-    };
-    // The row of each store but the first is held, since the section opened before it.
-    let calls = [
-        (store(10, 10, 5), Reply::Ok),
-        (store(20, 20, 5), Reply::Ok),
-        (store(30, 30, 5), Reply::Ok),
-        (store(40, 40, 5), Reply::Ok),
-        (store(50, 50, 5), Reply::Ok),
-        (store(60, 60, 5), Reply::NoNodes(shortage)),
-        (erase(30), Reply::NoNodes(shortage)),
-        (store(30, 30, 9), Reply::Ok),
-        (store(60, 69, 0), Reply::Ok),
-        (Call::Clear, Reply::Ok),
-        (store(60, 60, 5), Reply::Ok),
-    ];
-    expect_replies(&rt, &mut engine, &calls);
-    let sixty = Range {
-        first: 60,
-        last: 60,
-        entry: 5,
-    };
-    expect_ranges(&rt, rt.alloc(), &mut engine, &[sixty])?;
+    expect_story(&rt, rt.alloc(), &mut engine, &WATCHED)?;
     Ok(())
+}
+
+/// Replies are the kernel's errors of these numbers.
+#[test]
+fn replies_have_numbers(rt: HostRuntime) {
+    for (reply, number) in NUMBERS {
+        same(&rt, errno(reply), *number, *reply);
+    }
 }

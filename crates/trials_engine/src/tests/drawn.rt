@@ -1,7 +1,7 @@
 ghost use Rattle.std.specs.Prelude.{◌≡◌, ◌<◌, ◌+◌, ◌-◌, ◌^◌, OnOk};
 ghost use Rattle.mt_base.specs.declared.kinds.Kind.TheVariants as kinds;
 
-use crate::tests::{TOP, erase, expect_answers, fresh, fresh_of, insert, store, store_pre};
+use crate::tests::{TOP, expect_answers, fresh, fresh_of, same};
 use mt_base::{Call, Kind, MOST_ROWS, NoMemory, Query};
 use mt_engine::Engine;
 use mt_list::{ListMap, Ranges};
@@ -85,12 +85,12 @@ impl Draws {
         let entry = self.entry();
         match self.below(4000) {
             0 => Call::Clear,
-            1..1200 => store(first, last, entry),
+            1..1200 => call!(store first, last, entry),
             1200..1600 => exact_store(list, first, entry),
-            1600..1800 => store_pre(first, last, entry),
-            1800..2400 => insert(first, last, entry),
+            1600..1800 => call!(store_pre first, last, entry),
+            1800..2400 => call!(insert first, last, entry),
             2400..3200 => self.search(),
-            _ => erase(first),
+            _ => call!(erase first),
         }
     }
 }
@@ -98,8 +98,8 @@ impl Draws {
 /// A store over exactly the first range from an index on.
 fn exact_store(list: &mut ListMap, index: u64, entry: u64) -> Call {
     match list.ask(&Query::Find { index, max: TOP }) {
-        Some(range) => store(range.first, range.last, entry),
-        None => store(index, index, entry),
+        Some(range) => call!(store range.first, range.last, entry),
+        None => call!(store index, index, entry),
     }
 }
 
@@ -116,7 +116,7 @@ fn expect_call(
 {
     let call = draws.call(list);
     let reply = engine.apply(&call);
-    assert_eq!(rt; reply, list.act(&call)?, "at {call:?}");
+    same(rt, reply, list.act(&call)?, call);
     let (index, bound) = (draws.index(), draws.index());
     expect_answers(rt, engine, list, index, bound);
     Ok(())
@@ -138,7 +138,12 @@ fn expect_calls(
         expect_call(rt, engine, list, draws)?;
     }
     let ranges = engine.list(alloc)?;
-    assert_eq!(rt; ranges.as_slice(), list.list(alloc)?.as_slice());
+    same(
+        rt,
+        ranges.as_slice(),
+        list.list(alloc)?.as_slice(),
+        "the end",
+    );
     Ok(())
 }
 
@@ -160,7 +165,7 @@ fn fill(engine: &mut Engine<PlainRows>, list: &mut ListMap) -> Result<(), NoMemo
     ensures kind { engine.new.kind ≡ engine.old.kind }
 {
     for n in 0..1000_u64 {
-        let call = store(20 * n + 10, 20 * n + 19, 1);
+        let call = call!(store 20 * n + 10, 20 * n + 19, 1);
         engine.apply(&call);
         list.act(&call)?;
     }

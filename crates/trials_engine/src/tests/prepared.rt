@@ -1,7 +1,7 @@
 ghost use Rattle.std.specs.Prelude.{◌≡◌, ◌<◌, ◌+◌, ◌-◌, ◌^◌, OnOk, length};
 
 use crate::tests::watched::HOLDER;
-use crate::tests::{TOP, erase, expect_ranges, fresh, fresh_of, fresh_watched, store, store_pre};
+use crate::tests::{TOP, expect_ranges, fresh, fresh_of, fresh_watched, same};
 use mt_base::{Call, Kind, NoMemory, Query, Range, Reply, Shortage};
 use mt_engine::Engine;
 use mt_rows::PlainRows;
@@ -34,43 +34,34 @@ fn store_when_ready(
     Ok(engine.store_prealloc(first, last, entry))
 }
 
-/// Makes these stores, which are answered so, by calls of one engine and with rows at hand in the other.
-fn expect_both(
+/// Makes these stores with rows at hand, which are answered so.
+fn expect_ready(
     rt: &impl Abort,
     alloc: Global,
-    applied: &mut Engine<PlainRows>,
-    ready: &mut Engine<PlainRows>,
+    engine: &mut Engine<PlainRows>,
     stores: &[(u64, u64, u64, Reply)],
 ) -> Result<(), NoMemory>
-    requires few { applied.old.sheet.ended + length stores.now < 2 ^ 62 - 1 }
-    requires few_ready { ready.old.sheet.ended + length stores.now < 2 ^ 62 - 1 }
+    requires { engine.old.sheet.ended + length stores.now < 2 ^ 62 - 1 }
 {
     for &(first, last, entry, want) in stores {
-        let reply = applied.apply(&store_pre(first, last, entry));
-        assert_eq!(rt; reply, want, "at {first}");
-        let reply = store_when_ready(rt, alloc, ready, first, last, entry)?;
-        assert_eq!(rt; reply, want, "at {first}");
+        let reply = store_when_ready(rt, alloc, engine, first, last, entry)?;
+        same(rt, reply, want, first);
     }
     Ok(())
 }
 
+const STORES: &[(u64, u64, u64, Reply)] = &[
+    (10, 10, 5, Reply::Ok),
+    (5, 4, 1, Reply::Invalid),
+    (10, 10, 7, Reply::Ok),
+];
+
 #[test]
 fn stores_with_rows_at_hand(rt: HostRuntime) -> Result<(), Fail> {
-    let mut applied = fresh(rt.alloc(), 8)?;
-    let mut ready = fresh_of(rt.alloc(), Kind::Alloc, 8)?;
-    let calls = [
-        (10, 10, 5, Reply::Ok),
-        (5, 4, 1, Reply::Invalid),
-        (10, 10, 7, Reply::Ok),
-    ];
-    expect_both(&rt, rt.alloc(), &mut applied, &mut ready, &calls)?;
-    let ten = Range {
-        first: 10,
-        last: 10,
-        entry: 7,
-    };
-    expect_ranges(&rt, rt.alloc(), &mut applied, &[ten])?;
-    expect_ranges(&rt, rt.alloc(), &mut ready, &[ten])?;
+    let mut engine = fresh_of(rt.alloc(), Kind::Alloc, 8)?;
+    assert!(rt; STORES.len() == 3);
+    expect_ready(&rt, rt.alloc(), &mut engine, STORES)?;
+    expect_ranges(&rt, rt.alloc(), &mut engine, &[range!(10, 10, 7)])?;
     Ok(())
 }
 
@@ -85,35 +76,39 @@ fn expect_unready(
     ensures ended { engine.new.sheet.ended ≡ engine.old.sheet.ended + length calls.now }
 {
     for (call, want) in calls {
-        assert_eq!(rt; engine.apply(call), *want, "at {call:?}");
-        assert_eq!(rt; engine.preallocate(), Err(shortage), "after {call:?}");
-        assert_eq!(rt; engine.ready(), false, "after {call:?}");
+        same(rt, engine.apply(call), *want, *call);
+        same(rt, engine.preallocate(), Err(shortage), *call);
+        same(rt, engine.ready(), false, *call);
     }
 }
+
+/// What is lacking where one row of four is live.
+const FEW: Shortage = Shortage {
+    need: 4,
+    free: 3,
+    live: 1,
+    held: 0,
+    by: None,
+};
+
+const UNREADY: &[(Call, Reply)] = &[
+    (call!(store 10, 10, 5), Reply::Ok),
+    (call!(store 20, 20, 7), Reply::NoNodes(FEW)),
+    (call!(store 10, 10, 4), Reply::Ok),
+    (call!(store_pre 10, 10, 8), Reply::NoNodes(FEW)),
+    (call!(store_pre 30, TOP, 0), Reply::NoNodes(FEW)),
+    (call!(erase 10), Reply::NoNodes(FEW)),
+];
 
 #[test]
 fn tells_that_it_cannot_be_ready(rt: HostRuntime) -> Result<(), Fail> {
     let mut engine = fresh(rt.alloc(), 4)?;
-    let shortage = Shortage {
-        need: 4,
-        free: 3,
-        live: 1,
-        held: 0,
-        by: None,
-    };
-    let calls = [
-        (store(10, 10, 5), Reply::Ok),
-        (store(20, 20, 7), Reply::NoNodes(shortage)),
-        (store(10, 10, 4), Reply::Ok),
-        (store_pre(10, 10, 8), Reply::NoNodes(shortage)),
-        (store_pre(30, TOP, 0), Reply::NoNodes(shortage)),
-        (erase(10), Reply::NoNodes(shortage)),
-    ];
-    expect_unready(&rt, &mut engine, shortage, &calls);
-    assert_eq!(&rt; engine.apply(&Call::Clear), Reply::Ok);
+    assert!(rt; UNREADY.len() == 6);
+    expect_unready(&rt, &mut engine, FEW, UNREADY);
+    same(&rt, engine.apply(&Call::Clear), Reply::Ok, "the clear");
     let reply = store_when_ready(&rt, rt.alloc(), &mut engine, 1, 1, 9)?;
-    assert_eq!(&rt; reply, Reply::Ok);
-    assert_eq!(&rt; engine.preallocate(), Err(shortage));
+    same(&rt, reply, Reply::Ok, "the store");
+    same(&rt, engine.preallocate(), Err(FEW), "the end");
     Ok(())
 }
 
@@ -129,13 +124,10 @@ fn tells_who_keeps_it_from_being_ready(rt: HostRuntime) -> Result<(), Fail> {
     };
     // The row of each store but the first is held, since the section opened before it.
     for n in 0..5_u64 {
-        assert_eq!(&rt; engine.ready(), true, "before {n}");
-        assert_eq!(&rt;
-            engine.apply(&store(10 * n, 10 * n, 5)),
-            Reply::Ok,
-            "at {n}"
-        );
+        same(&rt, engine.ready(), true, n);
+        let call = call!(store 10 * n, 10 * n, 5);
+        same(&rt, engine.apply(&call), Reply::Ok, n);
     }
-    assert_eq!(&rt; engine.preallocate(), Err(shortage));
+    same(&rt, engine.preallocate(), Err(shortage), "the end");
     Ok(())
 }

@@ -1,0 +1,192 @@
+//! Calls on an engine over few rows or many: the reply to each, and the ranges in the end.
+
+use crate::tests::TOP;
+use crate::tests::watched::HOLDER;
+use mt_base::{Call, Kind, Range, Reply, Shortage};
+
+/// What calls on a new tree of this kind, over so many rows, come to.
+pub struct Story {
+    pub kind: Kind,
+    pub rows: u64,
+    pub calls: &'static [(Call, Reply)],
+    pub ranges: &'static [Range],
+}
+
+/// What a store lacks where one row of four is live.
+const FEW: Shortage = Shortage {
+    need: 4,
+    free: 3,
+    live: 1,
+    held: 0,
+    by: None,
+};
+
+/// What a store lacks where one row of eight is live, and four are held.
+const HELD: Shortage = Shortage {
+    need: 4,
+    free: 3,
+    live: 1,
+    held: 4,
+    by: Some(HOLDER),
+};
+
+pub const STORIES: &[Story] = &[
+    // Too few rows are free.
+    Story {
+        kind: Kind::Range,
+        rows: 4,
+        calls: &[
+            (call!(store 10, 10, 5), Reply::Ok),
+            (call!(store 20, 20, 7), Reply::NoNodes(FEW)),
+            (call!(store 10, 10, 9), Reply::Ok),
+            (call!(store_pre 10, 10, 8), Reply::NoNodes(FEW)),
+            (call!(store_pre 12, 11, 8), Reply::Invalid),
+            (call!(insert 10, 12, 9), Reply::Exists),
+            (call!(store 10, 10, 2), Reply::Invalid),
+            (Call::Clear, Reply::Ok),
+        ],
+        ranges: &[],
+    },
+    // Stores that want rows at hand.
+    Story {
+        kind: Kind::Range,
+        rows: 8,
+        calls: &[
+            (call!(store_pre 10, 10, 5), Reply::Ok),
+            (call!(store_pre 5, 4, 1), Reply::Invalid),
+            (call!(store_pre 10, 10, 7), Reply::Ok),
+        ],
+        ranges: &[range!(10, 10, 7)],
+    },
+    // Room is found between two ranges.
+    Story {
+        kind: Kind::Alloc,
+        rows: 400,
+        calls: &[
+            (call!(store 0, 9, 1), Reply::Ok),
+            (call!(store 20, 29, 1), Reply::Ok),
+            (call!(gap 11, 5, 25), Reply::Busy),
+            (call!(rgap 4, 5, 25), Reply::Start(16)),
+            (call!(gap 0, 5, 25), Reply::Invalid),
+            (call!(gap 11, 0, 9), Reply::Invalid),
+            (call!(gap 1, 9, 8), Reply::Invalid),
+            (call!(alloc 10, 0, TOP), Reply::Start(10)),
+            (call!(ralloc 10, 0, TOP), Reply::Start(TOP - 9)),
+            (call!(alloc 1, 0, 29), Reply::Busy),
+            (call!(gap 1, 0, TOP), Reply::Start(30)),
+            (call!(rgap 1, 0, TOP), Reply::Start(TOP - 10)),
+        ],
+        ranges: &[
+            range!(0, 9, 1),
+            range!(10, 19, 1),
+            range!(20, 29, 1),
+            range!(TOP - 9, TOP, 1),
+        ],
+    },
+    // Room is found below a range, and in the tree that was emptied.
+    Story {
+        kind: Kind::Alloc,
+        rows: 400,
+        calls: &[
+            (call!(gap 1, 0, TOP), Reply::Start(0)),
+            (call!(store 10, TOP, 1), Reply::Ok),
+            (call!(rgap 1, 0, TOP), Reply::Start(9)),
+            (call!(store 0, TOP, 7), Reply::Ok),
+            (call!(gap 1, 0, TOP), Reply::Busy),
+            (call!(erase 3), Reply::Was(7)),
+            (call!(gap 1, 0, TOP), Reply::Start(0)),
+            (call!(store 5, 9, 1), Reply::Ok),
+            (Call::Clear, Reply::Ok),
+            (call!(rgap 1, 0, TOP), Reply::Start(TOP)),
+            (call!(alloc TOP, 0, TOP), Reply::Start(0)),
+            (call!(gap 1, 0, TOP), Reply::Start(TOP)),
+        ],
+        ranges: &[range!(0, TOP - 1, 1)],
+    },
+    // Windows cut holes, which are 0 to 4, 10 to 19, 30 to 39 and the last five indexes.
+    Story {
+        kind: Kind::Alloc,
+        rows: 400,
+        calls: &[
+            (call!(store 5, 9, 1), Reply::Ok),
+            (call!(store 20, 29, 1), Reply::Ok),
+            (call!(store 40, TOP - 5, 1), Reply::Ok),
+            (call!(gap 5, 0, TOP), Reply::Start(0)),
+            (call!(rgap 5, 0, TOP), Reply::Start(TOP - 4)),
+            (call!(gap 10, 0, TOP), Reply::Start(10)),
+            (call!(rgap 10, 0, TOP), Reply::Start(30)),
+            (call!(gap 11, 0, TOP), Reply::Busy),
+            (call!(gap 2, 3, TOP), Reply::Start(3)),
+            (call!(gap 3, 3, TOP), Reply::Start(10)),
+            (call!(rgap 2, 0, 11), Reply::Start(10)),
+            (call!(rgap 3, 0, 11), Reply::Start(2)),
+            (call!(rgap 5, 0, TOP - 1), Reply::Start(35)),
+            (call!(gap 3, 12, 15), Reply::Start(12)),
+            (call!(rgap 3, 12, 15), Reply::Start(13)),
+            (call!(gap 4, 12, 15), Reply::Start(12)),
+            (call!(rgap 4, 12, 15), Reply::Start(12)),
+            (call!(gap 1, 5, 9), Reply::Busy),
+            (call!(rgap 1, 40, TOP - 5), Reply::Busy),
+        ],
+        ranges: &[range!(5, 9, 1), range!(20, 29, 1), range!(40, TOP - 5, 1)],
+    },
+    // An allocation lacks rows as a store does.
+    Story {
+        kind: Kind::Alloc,
+        rows: 4,
+        calls: &[
+            (call!(alloc 1, 10, 10), Reply::Start(10)),
+            (call!(store 20, 20, 7), Reply::NoNodes(FEW)),
+            (call!(alloc 1, 20, 20), Reply::NoNodes(FEW)),
+            (call!(ralloc 1, 0, TOP), Reply::NoNodes(FEW)),
+            (call!(alloc 1, 10, 10), Reply::Busy),
+            (call!(alloc 2, 10, 10), Reply::Invalid),
+            (call!(gap 1, 10, 20), Reply::Start(11)),
+            (call!(store 10, 10, 4), Reply::Ok),
+            (call!(store_pre 10, 10, 8), Reply::NoNodes(FEW)),
+            (call!(erase 10), Reply::NoNodes(FEW)),
+            (Call::Clear, Reply::Ok),
+            (call!(ralloc 1, 0, TOP), Reply::Start(TOP)),
+        ],
+        ranges: &[range!(TOP, TOP, 1)],
+    },
+    // A tree of ranges finds no room.
+    Story {
+        kind: Kind::Range,
+        rows: 400,
+        calls: &[
+            (call!(gap 1, 0, TOP), Reply::Invalid),
+            (call!(alloc 1, 0, TOP), Reply::Invalid),
+        ],
+        ranges: &[],
+    },
+];
+
+/// Rows of which a section stands open: the row of each store but the first is held, since the section opened before it.
+pub const WATCHED: Story = Story {
+    kind: Kind::Range,
+    rows: 8,
+    calls: &[
+        (call!(store 10, 10, 5), Reply::Ok),
+        (call!(store 20, 20, 5), Reply::Ok),
+        (call!(store 30, 30, 5), Reply::Ok),
+        (call!(store 40, 40, 5), Reply::Ok),
+        (call!(store 50, 50, 5), Reply::Ok),
+        (call!(store 60, 60, 5), Reply::NoNodes(HELD)),
+        (call!(erase 30), Reply::NoNodes(HELD)),
+        (call!(store 30, 30, 9), Reply::Ok),
+        (call!(store 60, 69, 0), Reply::Ok),
+        (Call::Clear, Reply::Ok),
+        (call!(store 60, 60, 5), Reply::Ok),
+    ],
+    ranges: &[range!(60, 60, 5)],
+};
+
+/// Replies, and the kernel's error of each, if it is one.
+pub const NUMBERS: &[(Reply, Option<u32>)] = &[
+    (Reply::Ok, None),
+    (Reply::NoNodes(FEW), Some(12)),
+    (Reply::Busy, Some(16)),
+    (Reply::Exists, Some(17)),
+    (Reply::Invalid, Some(22)),
+];
