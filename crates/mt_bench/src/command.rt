@@ -160,6 +160,32 @@ pub enum Command {
     Sums { ranges: u32 },
 }
 
+/// Writes what a crew does, on so many ranges.
+fn write_crew<W: fmt::Write>(f: &mut fmt::Formatter<W>, crew: &Crew, ranges: u32) -> fmt::Result {
+    let (letter, duty, readers) = (letter_of(crew.kind), crew.duty, crew.readers);
+    write!(f, "{letter}{duty} {ranges} readers {readers}")
+}
+
+/// Writes what lanes do, on so many ranges.
+fn write_lanes<W: fmt::Write>(
+    f: &mut fmt::Formatter<W>,
+    lanes: &Lanes,
+    ranges: u32,
+) -> fmt::Result {
+    let (letter, threads) = (letter_of(lanes.kind), lanes.threads);
+    write!(f, "{letter}lanes {ranges} lanes {threads}")
+}
+
+/// Writes what is done by a sweep, on so many ranges.
+fn write_sweep<W: fmt::Write>(
+    f: &mut fmt::Formatter<W>,
+    sweep: &Sweep,
+    ranges: u32,
+) -> fmt::Result {
+    let (letter, deed) = (letter_of(sweep.kind), sweep.deed);
+    write!(f, "{letter}{deed} {ranges}")
+}
+
 /// Writes what is timed, on so many ranges.
 fn write_timing<W: fmt::Write>(
     f: &mut fmt::Formatter<W>,
@@ -168,15 +194,9 @@ fn write_timing<W: fmt::Write>(
 ) -> fmt::Result {
     match timing {
         Timing::Alone(work) => write!(f, "{work} {ranges}"),
-        Timing::Swept(sweep) => write!(f, "{}{} {ranges}", letter_of(sweep.kind), sweep.deed),
-        Timing::Together(crew) => {
-            let letter = letter_of(crew.kind);
-            write!(f, "{letter}{} {ranges} readers {}", crew.duty, crew.readers)
-        }
-        Timing::Apart(lanes) => {
-            let letter = letter_of(lanes.kind);
-            write!(f, "{letter}lanes {ranges} lanes {}", lanes.threads)
-        }
+        Timing::Swept(sweep) => write_sweep(f, sweep, ranges),
+        Timing::Together(crew) => write_crew(f, crew, ranges),
+        Timing::Apart(lanes) => write_lanes(f, lanes, ranges),
     }
 }
 

@@ -164,6 +164,15 @@ fn tally_of<T: Tree>(workers: &mut [Worker<T>]) -> Option<Tally> {
     })
 }
 
+/// How fast so many loads and writes were made in so many nanoseconds.
+fn rates_of(loads: u64, writes: u64, nanos: u64) -> Report {
+    let nanos = nanos.max(1);
+    Report::Rates {
+        reads: Figure::Hundredths(loads.saturating_mul(100_000) / nanos),
+        writes: Figure::Thousandths(writes.saturating_mul(1_000_000) / nanos),
+    }
+}
+
 /// How fast a crew's threads load and write.
 fn rates<R: Threads + Wait + Clock + Sync>(
     rt: &R,
@@ -173,16 +182,12 @@ fn rates<R: Threads + Wait + Clock + Sync>(
     callers: Vec<Caller<R>>,
 ) -> io::Result<Option<(Report, Tally)>> {
     let mut workers = workers_of(alloc, crew, extent.ranges, callers)?;
-    let nanos = at_once(rt, workers.as_mut_slice(), crew.readers, extent)?.max(1);
+    let nanos = at_once(rt, workers.as_mut_slice(), crew.readers, extent)?;
     let Some(tally) = tally_of(workers.as_mut_slice()) else {
         return Ok(None);
     };
     let loads = extent.times.saturating_mul(u64::from(crew.readers));
-    let report = Report::Rates {
-        reads: Figure::Hundredths(loads.saturating_mul(100_000) / nanos),
-        writes: Figure::Thousandths(tally.writes.saturating_mul(1_000_000) / nanos),
-    };
-    Ok(Some((report, tally)))
+    Ok(Some((rates_of(loads, tally.writes, nanos), tally)))
 }
 
 /// The slowest load and the slowest write of these trees.
@@ -196,6 +201,28 @@ fn slowest_of<R, T>(workers: &[Worker<Timed<R, T>>]) -> Option<Report> {
     Some(Report::Slowest { load, write })
 }
 
+/// The slowest load and the slowest write of these trees, and what was done on them.
+fn slowest_and_tally_of<R: Clock, T: Tree>(
+    workers: &mut [Worker<Timed<R, T>>],
+) -> Option<(Report, Tally)> {
+    let tally = tally_of(workers)?;
+    let report = slowest_of(workers)?;
+    Some((report, tally))
+}
+
+/// These trees, with their slowest calls noted from now on.
+fn timed_of<'a, R, T: Drop>(
+    rt: &'a R,
+    alloc: Global,
+    trees: Vec<T>,
+) -> Result<Vec<Timed<'a, R, T>>, AllocError> {
+    let mut timed = Vec::new(alloc);
+    for tree in trees {
+        timed.push(Timed::new(rt, tree))?;
+    }
+    Ok(timed)
+}
+
 /// The slowest load and the slowest write of a crew's threads.
 fn slowest<R: Threads + Wait + Clock + Sync>(
     rt: &R,
@@ -204,16 +231,36 @@ fn slowest<R: Threads + Wait + Clock + Sync>(
     extent: Extent,
     callers: Vec<Caller<R>>,
 ) -> io::Result<Option<(Report, Tally)>> {
-    let timed = callers
-        .into_iter()
-        .map(|caller| Timed::new(rt, caller))
-        .collect(alloc)?;
+    let timed = timed_of(rt, alloc, callers)?;
     let mut workers = workers_of(alloc, crew, extent.ranges, timed)?;
     at_once(rt, workers.as_mut_slice(), crew.readers, extent)?;
-    let Some(tally) = tally_of(workers.as_mut_slice()) else {
+    Ok(slowest_and_tally_of(workers.as_mut_slice()))
+}
+
+/// Stores all ranges by the first of these, in random order; whether that was done.
+fn store_first<T: Tree>(alloc: Global, trees: &mut [T], ranges: u32) -> Result<bool, AllocError> {
+    let order = shuffled(alloc, ranges)?;
+    Ok(match trees.first_mut() {
+        Some(first) => store_all(first, order.as_slice()),
+        None => false,
+    })
+}
+
+/// What a crew comes to and what it did by these callers of an empty tree, or none where a call was not done.
+fn on_tree<R: Threads + Wait + Clock + Sync>(
+    rt: &R,
+    alloc: Global,
+    crew: Crew,
+    extent: Extent,
+    mut callers: Vec<Caller<R>>,
+) -> io::Result<Option<(Report, Tally)>> {
+    if !store_first(alloc, callers.as_mut_slice(), extent.ranges)? {
         return Ok(None);
-    };
-    Ok(slowest_of(workers.as_slice()).map(|report| (report, tally)))
+    }
+    match crew.duty {
+        Duty::Readers | Duty::Conc => rates(rt, alloc, crew, extent, callers),
+        Duty::Slowest => slowest(rt, alloc, crew, extent, callers),
+    }
 }
 
 /// What a crew comes to and what it did, or none where a call was not done.
@@ -227,16 +274,6 @@ pub fn together<R: Threads + Wait + Clock + Sync>(
     let Ok((tree, passes)) = make(alloc, crew.kind, passes) else {
         return Err(io::Error::from(ErrorKind::OutOfMemory));
     };
-    let mut callers = Caller::all(alloc, rt, &tree, passes)?;
-    let order = shuffled(alloc, extent.ranges)?;
-    let Some(first) = callers.first_mut() else {
-        return Ok(None);
-    };
-    if !store_all(first, order.as_slice()) {
-        return Ok(None);
-    }
-    match crew.duty {
-        Duty::Readers | Duty::Conc => rates(rt, alloc, crew, extent, callers),
-        Duty::Slowest => slowest(rt, alloc, crew, extent, callers),
-    }
+    let callers = Caller::all(alloc, rt, &tree, passes)?;
+    on_tree(rt, alloc, crew, extent, callers)
 }

@@ -9,6 +9,7 @@ use crate::timed::nanos_of;
 use crate::toggles::{toggle_times, visit_of};
 use crate::trees::{Tree, Visit};
 use crate::works::store_all;
+use mt_base::Kind;
 use std::alloc::{AllocError, Global};
 use std::rt::Clock;
 use std::sync::Wait;
@@ -70,23 +71,32 @@ pub fn tally_of<T: Tree>(lanes: &mut [Lane<T>]) -> Tally {
     tally
 }
 
-/// Lanes on shared trees of this kind, or none where a store was not done.
+/// The lane of this number on a shared tree of this kind, or none where a store was not done.
+fn lane_on<'a, R: Wait>(
+    rt: &'a R,
+    alloc: Global,
+    kind: Kind,
+    number: u32,
+    order: &[u32],
+) -> io::Result<Option<Lane<Owner<'a, R>>>> {
+    let tree = Owner::new(rt, alloc, kind)?;
+    Ok(Lane::new(alloc, tree, number, order)?)
+}
+
+/// Lanes on shared trees of this kind, or fewer where a store was not done.
 fn lanes_on<'a, R: Wait>(
     rt: &'a R,
     alloc: Global,
-    lanes: Lanes,
-    ranges: u32,
-) -> io::Result<Option<Vec<Lane<Owner<'a, R>>>>> {
-    let order = shuffled(alloc, ranges)?;
+    kind: Kind,
+    order: &[u32],
+) -> io::Result<Vec<Lane<Owner<'a, R>>>> {
     let mut all = Vec::new(alloc);
     for number in 0..TREES {
-        let tree = Owner::new(rt, alloc, lanes.kind)?;
-        let Some(lane) = Lane::new(alloc, tree, number, order.as_slice())? else {
-            return Ok(None);
-        };
-        all.push(lane)?;
+        if let Some(lane) = lane_on(rt, alloc, kind, number, order)? {
+            all.push(lane)?;
+        }
     }
-    Ok(Some(all))
+    Ok(all)
 }
 
 /// Has all lanes at work, in so many threads, and gives the nanoseconds until all are done.
@@ -109,14 +119,11 @@ pub fn apart<R: Threads + Wait + Clock + Sync>(
     lanes: Lanes,
     extent: Extent,
 ) -> io::Result<Option<(Report, Tally)>> {
-    let Some(mut all) = lanes_on(rt, alloc, lanes, extent.ranges)? else {
-        return Ok(None);
-    };
+    let order = shuffled(alloc, extent.ranges)?;
+    let mut all = lanes_on(rt, alloc, lanes.kind, order.as_slice())?;
     let nanos = at_once(rt, all.as_mut_slice(), lanes.threads, extent.times)?;
     let tally = tally_of(all.as_mut_slice());
-    if tally.writes != extent.times.saturating_mul(u64::from(TREES)) {
-        return Ok(None);
-    }
+    let done = tally.writes == extent.times.saturating_mul(u64::from(TREES));
     let report = Report::Whole(Figure::Hundredths(nanos / 10_000));
-    Ok(Some((report, tally)))
+    Ok(done.then_some((report, tally)))
 }

@@ -50,12 +50,16 @@ fn print_reading(rt: &impl Print, line: &str, command: Option<Command>) -> io::R
     }
 }
 
+/// Prints what the words of a line are read as.
+fn print_line(rt: &impl Print, alloc: Global, line: &str) -> io::Result<()> {
+    let words = words_in(alloc, line)?;
+    print_reading(rt, line, command_of(words.as_slice()))
+}
+
 /// Prints what each line of the input is read as.
 pub fn print_readings<R: Input + Print>(rt: &R, alloc: Global) -> io::Result<()> {
     for line in rt.lines(alloc) {
-        let line = line?;
-        let words = words_in(alloc, line.as_str())?;
-        print_reading(rt, line.as_str(), command_of(words.as_slice()))?;
+        print_line(rt, alloc, line?.as_str())?;
     }
     Ok(())
 }

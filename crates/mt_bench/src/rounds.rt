@@ -46,6 +46,19 @@ fn is_for_each_range(job: Job) -> bool {
     !matches!(job, Job::Load | Job::Iter | Job::Overwrite | Job::Churn)
 }
 
+/// The nanoseconds that a job took, and its number.
+fn job_time(
+    rt: &impl Clock,
+    tree: &mut impl Tree,
+    job: Job,
+    setting: &mut Setting,
+) -> io::Result<(u64, u64)> {
+    let start = Instant::now(rt)?;
+    let number = job_once(tree, job, setting);
+    let took = start.elapsed(rt)?;
+    Ok((nanos_of(&took), number))
+}
+
 /// One round on an empty tree: the nanoseconds that the job took, and its number.
 fn round_on(
     rt: &impl Clock,
@@ -56,10 +69,7 @@ fn round_on(
     if !prepare(tree, job, &mut setting.numbers) {
         return Ok((0, 0));
     }
-    let start = Instant::now(rt)?;
-    let number = job_once(tree, job, setting);
-    let took = start.elapsed(rt)?;
-    Ok((nanos_of(&took), number))
+    job_time(rt, tree, job, setting)
 }
 
 /// One round on a new tree.
@@ -78,6 +88,34 @@ fn round<R: Clock + Wait>(
     }
 }
 
+/// The nanoseconds of so many rounds, or none where one of them came to another number than this.
+fn rounds_time<R: Clock + Wait>(
+    rt: &R,
+    alloc: Global,
+    work: Work,
+    setting: &mut Setting,
+    rounds: u64,
+    wanted: u64,
+) -> io::Result<Option<u64>> {
+    let mut nanos: u64 = 0;
+    for _ in 0..rounds {
+        let (took, number) = round(rt, alloc, work, setting)?;
+        if number != wanted {
+            return Ok(None);
+        }
+        nanos = nanos.saturating_add(took);
+    }
+    Ok(Some(nanos))
+}
+
+/// How many rounds of a job are timed, and how many operations each has.
+fn rounds_of(job: Job, setting: &Setting) -> (u64, u64) {
+    if is_for_each_range(job) {
+        return (rounds_for(setting.ranges), u64::from(setting.ranges));
+    }
+    (1, setting.times)
+}
+
 /// The mean time of an operation, over all rounds but the first. There is none where a call was not done, or where a round
 /// came to another number than the first.
 fn time_of<R: Clock + Wait>(
@@ -86,27 +124,17 @@ fn time_of<R: Clock + Wait>(
     work: Work,
     setting: &mut Setting,
 ) -> io::Result<Option<Figure>> {
-    let each = is_for_each_range(work.job);
-    let rounds = if each { rounds_for(setting.ranges) } else { 1 };
-    let first = round(rt, alloc, work, setting)?.1;
+    let (rounds, operations) = rounds_of(work.job, setting);
+    let (_, first) = round(rt, alloc, work, setting)?;
     if first == 0 {
         return Ok(None);
     }
-    let mut nanos: u64 = 0;
-    for _ in 0..rounds {
-        let (took, number) = round(rt, alloc, work, setting)?;
-        if number != first {
-            return Ok(None);
-        }
-        nanos = nanos.saturating_add(took);
-    }
-    let operations = if each {
-        u64::from(setting.ranges)
-    } else {
-        setting.times
-    };
+    let nanos = rounds_time(rt, alloc, work, setting, rounds, first)?;
     let all = operations.saturating_mul(rounds).max(1);
-    Ok(Some(Figure::Tenths(nanos.saturating_mul(10) / all)))
+    Ok(match nanos {
+        Some(nanos) => Some(Figure::Tenths(nanos.saturating_mul(10) / all)),
+        None => None,
+    })
 }
 
 /// What a work comes to on so many ranges, or none where a call was not done.

@@ -85,6 +85,29 @@ fn outcomes_on(
     Ok(outcomes)
 }
 
+/// What each job comes to on the engine.
+fn outcomes_on_engine(alloc: Global, kind: Kind, ranges: u32) -> io::Result<Vec<Outcome>> {
+    let mut tree = fresh(alloc, kind)?;
+    Ok(outcomes_on(alloc, &mut tree, kind, ranges)?)
+}
+
+/// What each job comes to on a shared tree.
+fn outcomes_on_shared<R: Wait>(
+    rt: &R,
+    alloc: Global,
+    kind: Kind,
+    ranges: u32,
+) -> io::Result<Vec<Outcome>> {
+    let mut tree = Owner::new(rt, alloc, kind)?;
+    Ok(outcomes_on(alloc, &mut tree, kind, ranges)?)
+}
+
+/// What each job comes to on a list.
+fn outcomes_on_list(alloc: Global, kind: Kind, ranges: u32) -> io::Result<Vec<Outcome>> {
+    let mut list = List::new(alloc, kind);
+    Ok(outcomes_on(alloc, &mut list, kind, ranges)?)
+}
+
 /// What each job comes to.
 #[derive(Drop)]
 struct Outcomes {
@@ -97,9 +120,9 @@ impl Outcomes {
     /// What each job comes to on trees of this kind.
     fn of<R: Wait>(rt: &R, alloc: Global, kind: Kind, ranges: u32) -> io::Result<Self> {
         Ok(Outcomes {
-            on_engine: outcomes_on(alloc, &mut fresh(alloc, kind)?, kind, ranges)?,
-            on_shared: outcomes_on(alloc, &mut Owner::new(rt, alloc, kind)?, kind, ranges)?,
-            on_list: outcomes_on(alloc, &mut List::new(alloc, kind), kind, ranges)?,
+            on_engine: outcomes_on_engine(alloc, kind, ranges)?,
+            on_shared: outcomes_on_shared(rt, alloc, kind, ranges)?,
+            on_list: outcomes_on_list(alloc, kind, ranges)?,
         })
     }
 

@@ -3,8 +3,10 @@
 use crate::command::{Command, Crew, Deed, Duty, Lanes, Room, Sweep, Timing};
 use crate::crews::{seed_of, together};
 use crate::draws::shuffled;
+use crate::figures::Report;
 use crate::lanes::{Lane, TREES, apart, tally_of};
 use crate::lists::List;
+use crate::owners::Owner;
 use crate::sums::{TIMES_EACH, verdict};
 use crate::sweeps::{copied, stored};
 use crate::tallies::{Extent, Tally};
@@ -36,6 +38,23 @@ fn stored_list(alloc: Global, kind: Kind, ranges: u32) -> Result<List, AllocErro
     Ok(list)
 }
 
+/// How a line begins: with what was asked for, and the form in which it is told.
+#[derive(Clone, Copy)]
+struct Line {
+    command: Command,
+    form: &'static str,
+}
+
+impl Line {
+    /// The line for what was timed on so many ranges, and came to this report.
+    fn of(timing: Timing, ranges: u32, report: Report) -> Self {
+        Line {
+            command: Command::Time { timing, ranges },
+            form: report.form(),
+        }
+    }
+}
+
 /// What a crew does on a list that nobody writes to.
 fn tally_on_list(alloc: Global, crew: Crew, extent: Extent) -> Result<Tally, AllocError> {
     let mut list = stored_list(alloc, crew.kind, extent.ranges)?;
@@ -52,6 +71,21 @@ fn tally_on_list(alloc: Global, crew: Crew, extent: Extent) -> Result<Tally, All
     })
 }
 
+/// Prints what readers came to; whether that agrees.
+fn print_loads(rt: &impl Print, line: Line, tally: Tally, agrees: bool) -> io::Result<bool> {
+    let (Line { command, form }, loads, held) = (line, tally.loads, tally.held);
+    let verdict = verdict(agrees);
+    println!(rt; "{command} {form} loads {loads} {held} {verdict}")?;
+    Ok(agrees)
+}
+
+/// Prints what a crew came to that writes; whether that agrees.
+fn print_writers(rt: &impl Print, line: Line, agrees: bool) -> io::Result<bool> {
+    let (Line { command, form }, verdict) = (line, verdict(agrees));
+    println!(rt; "{command} {form} {verdict}")?;
+    Ok(agrees)
+}
+
 /// Prints what a crew came to, but for what depends on when its threads run; whether its tree holds what is to be there.
 fn crew_agrees<R: Threads + Wait + Clock + Print + Sync>(
     rt: &R,
@@ -62,25 +96,13 @@ fn crew_agrees<R: Threads + Wait + Clock + Print + Sync>(
     let Some((report, tally)) = together(rt, alloc, crew, extent)? else {
         return Ok(false);
     };
-    let Extent { ranges, .. } = extent;
-    let timing = Timing::Together(crew);
-    let command = Command::Time { timing, ranges };
-    let (form, held) = (report.form(), tally.held);
+    let line = Line::of(Timing::Together(crew), extent.ranges, report);
     match crew.duty {
         Duty::Readers => {
-            let agrees = tally == tally_on_list(alloc, crew, extent)?;
-            println!(rt;
-                "{command} {form} loads {} {held} {}",
-                tally.loads,
-                verdict(agrees)
-            )?;
-            Ok(agrees)
+            let on_list = tally_on_list(alloc, crew, extent)?;
+            print_loads(rt, line, tally, tally == on_list)
         }
-        Duty::Conc | Duty::Slowest => {
-            let agrees = held == tally.due;
-            println!(rt; "{command} {form} {}", verdict(agrees))?;
-            Ok(agrees)
-        }
+        Duty::Conc | Duty::Slowest => print_writers(rt, line, tally.held == tally.due),
     }
 }
 
@@ -99,6 +121,14 @@ fn lanes_on_lists(alloc: Global, kind: Kind, extent: Extent) -> Result<Option<Ta
     Ok(Some(tally_of(lanes.as_mut_slice())))
 }
 
+/// Prints what lanes came to; whether that agrees.
+fn print_lanes(rt: &impl Print, line: Line, tally: Tally, agrees: bool) -> io::Result<bool> {
+    let (Line { command, form }, writes, held) = (line, tally.writes, tally.held);
+    let verdict = verdict(agrees);
+    println!(rt; "{command} {form} writes {writes} {held} {verdict}")?;
+    Ok(agrees)
+}
+
 /// Prints what lanes came to; whether that is the same on lists, and their trees hold what is to be there.
 fn lanes_agree<R: Threads + Wait + Clock + Print + Sync>(
     rt: &R,
@@ -109,19 +139,23 @@ fn lanes_agree<R: Threads + Wait + Clock + Print + Sync>(
     let Some((report, tally)) = apart(rt, alloc, lanes, extent)? else {
         return Ok(false);
     };
-    let Extent { ranges, .. } = extent;
-    let timing = Timing::Apart(lanes);
-    let command = Command::Time { timing, ranges };
+    let line = Line::of(Timing::Apart(lanes), extent.ranges, report);
     let on_lists = lanes_on_lists(alloc, lanes.kind, extent)?;
     let agrees = on_lists == Some(tally) && tally.held == tally.due;
-    let form = report.form();
-    println!(rt;
-        "{command} {form} writes {} {} {}",
-        tally.writes,
-        tally.held,
-        verdict(agrees)
-    )?;
-    Ok(agrees)
+    print_lanes(rt, line, tally, agrees)
+}
+
+/// How many ranges a check counts, and the sum that a visit comes to.
+fn check_visit<R: Wait>(owner: &mut Owner<'_, R>) -> Visit {
+    let Visit { sum, .. } = owner.visit();
+    let count = owner.check().ranges;
+    Visit { count, sum }
+}
+
+/// What a copy of a tree holds.
+fn copy_visit<R: Wait>(alloc: Global, owner: &mut Owner<'_, R>, room: Room) -> Option<Visit> {
+    let mut copy = copied(alloc, owner, room)?;
+    Some(copy.visit())
 }
 
 /// What a deed on a tree tells that has so many ranges: how many the check counts, or what the copy holds.
@@ -134,17 +168,30 @@ fn sweep_visit<R: Wait>(
     let Some(mut owner) = stored(rt, alloc, sweep.kind, ranges)? else {
         return Ok(None);
     };
-    match sweep.deed {
-        Deed::Check => {
-            let Visit { sum, .. } = owner.visit();
-            let count = owner.check().ranges;
-            Ok(Some(Visit { count, sum }))
-        }
-        Deed::Dup(room) => {
-            let copy = copied(alloc, &mut owner, room);
-            Ok(copy.map(|mut copy| copy.visit()))
-        }
-    }
+    Ok(match sweep.deed {
+        Deed::Check => Some(check_visit(&mut owner)),
+        Deed::Dup(room) => copy_visit(alloc, &mut owner, room),
+    })
+}
+
+/// What a list holds with all ranges stored.
+fn visit_on_list(alloc: Global, kind: Kind, ranges: u32) -> Result<Visit, AllocError> {
+    let mut list = stored_list(alloc, kind, ranges)?;
+    Ok(list.visit())
+}
+
+/// Prints what a deed tells; whether that agrees.
+fn print_sweep(
+    rt: &impl Print,
+    sweep: Sweep,
+    ranges: u32,
+    held: Visit,
+    agrees: bool,
+) -> io::Result<bool> {
+    let timing = Timing::Swept(sweep);
+    let (command, verdict) = (Command::Time { timing, ranges }, verdict(agrees));
+    println!(rt; "{command} {held} {verdict}")?;
+    Ok(agrees)
 }
 
 /// Prints what a deed tells; whether a list holds the same.
@@ -157,11 +204,8 @@ fn sweep_agrees<R: Wait + Print>(
     let Some(held) = sweep_visit(rt, alloc, sweep, ranges)? else {
         return Ok(false);
     };
-    let agrees = held == stored_list(alloc, sweep.kind, ranges)?.visit();
-    let timing = Timing::Swept(sweep);
-    let command = Command::Time { timing, ranges };
-    println!(rt; "{command} {held} {}", verdict(agrees))?;
-    Ok(agrees)
+    let due = visit_on_list(alloc, sweep.kind, ranges)?;
+    print_sweep(rt, sweep, ranges, held, held == due)
 }
 
 /// Prints what threads come to on trees of this kind; whether all of it is as it is to be.

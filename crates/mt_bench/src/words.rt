@@ -139,10 +139,11 @@ fn at_once(word: &str, threads: &str) -> Option<Timing> {
 
 /// The command of these words, of which the second one says how many ranges the trees have.
 fn command_on(word: &str, ranges: u32) -> Option<Command> {
-    match word {
-        "sums" => Some(Command::Sums { ranges }),
-        _ => alone(word).map(|timing| Command::Time { timing, ranges }),
+    if word == "sums" {
+        return Some(Command::Sums { ranges });
     }
+    let timing = alone(word)?;
+    Some(Command::Time { timing, ranges })
 }
 
 /// The command that the words are: what is done and how many ranges, and then how many readers or lanes where there are such.
