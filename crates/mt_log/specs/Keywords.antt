@@ -6,9 +6,9 @@ use Rattle.std.specs.Str.{bytes_eq}
 use Rattle.mt_log.specs.declared.keywords.Keyword.{Keyword}
 use Rattle.mt_log.specs.declared.keywords.Keyword.TheVariants as keyword
 
--- each once
+-- each once, in the order in which a word is looked for
 abbrev pub keywords : List Keyword
-keywords = keyword.Tree ∷ keyword.Dup ∷ keyword.Check ∷ keyword.Lane ∷ keyword.Join ∷ keyword.Store ∷ keyword.StorePre ∷ keyword.Insert ∷ keyword.Erase ∷ keyword.Alloc ∷ keyword.Ralloc ∷ keyword.Gap ∷ keyword.Rgap ∷ keyword.Clear ∷ keyword.Load ∷ keyword.Find ∷ keyword.Next ∷ keyword.Prev ∷ keyword.Rfind ∷ keyword.Scan ∷ []
+keywords = keyword.Load ∷ keyword.Store ∷ keyword.Find ∷ keyword.Erase ∷ keyword.Insert ∷ keyword.Alloc ∷ keyword.Next ∷ keyword.Prev ∷ keyword.Scan ∷ keyword.Rfind ∷ keyword.Ralloc ∷ keyword.Gap ∷ keyword.Rgap ∷ keyword.StorePre ∷ keyword.Clear ∷ keyword.Lane ∷ keyword.Tree ∷ keyword.Dup ∷ keyword.Check ∷ keyword.Join ∷ []
 
 abbrev pub word_of : Keyword → List ℕ
 word_of keyword.Tree = codes "tree"

@@ -30,30 +30,31 @@ pub enum Keyword {
 }
 
 /// The words of the language, each beside its keyword and what its line says: the form of its fields, and what is made of
-/// them. They are the last arguments of the macro `then`.
+/// them. They are the last arguments of the macro `then`. The most frequent ones stand first, since a word is looked for in this
+/// order.
 macro_rules! words {
     ($then:ident, $($argument:tt)*) => {
         $then!($($argument)*,
-            "tree" Tree declaration(),
-            "dup" Dup copy(),
-            "check" Check check(),
-            "lane" Lane lane(),
-            "join" Join join(),
+            "load" Load index_query(Load),
             "store" Store range_call(Store),
-            "pstore" StorePre range_call(StorePre),
-            "insert" Insert range_call(Insert),
+            "find" Find bound_query(Find max),
             "erase" Erase index_call(Erase),
+            "insert" Insert range_call(Insert),
             "alloc" Alloc area_entry_call(Alloc),
+            "next" Next bound_query(Next max),
+            "prev" Prev bound_query(Prev min),
+            "scan" Scan scan(),
+            "rfind" Rfind bound_query(Rfind min),
             "ralloc" Ralloc area_entry_call(Ralloc),
             "gap" Gap area_call(Gap),
             "rgap" Rgap area_call(Rgap),
+            "pstore" StorePre range_call(StorePre),
             "clear" Clear whole_call(Clear),
-            "load" Load index_query(Load),
-            "find" Find bound_query(Find max),
-            "next" Next bound_query(Next max),
-            "prev" Prev bound_query(Prev min),
-            "rfind" Rfind bound_query(Rfind min),
-            "scan" Scan scan())
+            "lane" Lane lane(),
+            "tree" Tree declaration(),
+            "dup" Dup copy(),
+            "check" Check check(),
+            "join" Join join())
     };
 }
 
