@@ -90,7 +90,7 @@ module _ (told : Told) (s : St) (r₀ : IsKept told s) (by : ℕ) (v : View) (at
       others j u apart theirs = record {
         keeper = theirs.keeper;
         at = theirs.at;
-        section = λ x e. rest (section_at x.number) (λ one. apart (theirs.at x e ∙ (ap kept_by.owner (let n : x.number ≡ q.number = omega arith in n) ∙ sym (mine.at q is)))) ∙ theirs.section x e;
+        section = λ x e. rest (section_at x.number) (λ one. apart (theirs.at x e ∙ (ap kept_by.owner (let dealt = (theirs.passes x e).number in let n : x.number ≡ q.number = omega arith in n) ∙ sym (mine.at q is)))) ∙ theirs.section x e;
         passes = theirs.passes;
         notes = theirs.notes;
       }
@@ -113,9 +113,9 @@ module _ (told : Told) (s : St) (r₀ : IsKept told s) (by : ℕ) (v : View) (at
         root = kept root_at (λ e. omega arith) ∙ kept_by.words.root;
         sections = λ k low. elim (cases_eq k q.number) [
           | inl e ↦ subst (λ (j : ℕ). IsSectionWord part_by.ended (slice_index (slice_set s.words (section_at q.number) n) (section_at j))) (sym e) (subst (IsSectionWord part_by.ended) (sym stored) small)
-          | inr other ↦ subst (IsSectionWord part_by.ended) (sym (kept (section_at k) (λ e. other (omega arith)))) (kept_by.words.sections k low)
+          | inr other ↦ subst (IsSectionWord part_by.ended) (sym (kept (section_at k) (λ e. other (let most = kept_by.sound.few_passes in omega arith)))) (kept_by.words.sections k low)
         ];
-        undealt = λ k high low. let dealt = (mine.passes q is).number in kept (section_at k) (λ e. omega arith) ∙ kept_by.words.undealt k high low;
+        undealt = λ k high low. let dealt = (mine.passes q is).number in let most = kept_by.sound.few_passes in kept (section_at k) (λ e. omega arith) ∙ kept_by.words.undealt k high low;
         columns = λ i high. let first = rows_behind (kind_width q.shape.kind) in kept i (λ e. omega arith) ∙ kept_by.words.columns i high;
       }
       (stored ∙ word)

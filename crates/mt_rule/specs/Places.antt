@@ -1,6 +1,6 @@
 -- Where the words of a tree's table stand: each named word has one index.
 -- Source: this project's own. Each pass's section word has a cache line of its own, so that readers share none.
-use Rattle.std.specs.Prelude.{◌≡◌, ◌≢◌, ◌⊎◌, ℕ, ◌+◌, ◌*◌, ◌<◌, ◌≤◌, List, Option, Some, None, length, slice_index}
+use Rattle.std.specs.Prelude.{◌≡◌, ◌≢◌, ◌⊎◌, ℕ, ◌+◌, ◌*◌, ◌<◌, ◌≤◌, List, Option, Some, None, length, slice_index, ◌%◌, ◌/◌, ◌-◌}
 use Rattle.mt_base.specs.declared.widths.Width.{Width}
 use Rattle.mt_base.specs.Width.{columns, first_row}
 use Rattle.mt_rows.specs.declared.rows.Place.{Place}
@@ -17,9 +17,9 @@ begun_at = 1
 abbrev pub root_at : ℕ
 root_at = 2
 
--- the section word of a pass
+-- the section word of a pass; the first 31 passes have pairs of lines of their own
 abbrev pub section_at : ℕ → ℕ
-section_at pass = 8 * (pass + 1)
+section_at pass = 16 * (pass % 31) + 8 * (1 - pass / 31) + 8
 
 -- a column of a row
 abbrev pub column_at : Width → ℕ → ℕ → ℕ

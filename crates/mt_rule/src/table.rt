@@ -31,12 +31,21 @@ pub(crate) const BEGUN: usize = 1;
 
 pub(crate) const ROOT: usize = 2;
 
-/// Where the section word of a pass stands: each has a cache line of its own.
+/// So many passes have a pair of cache lines each; those behind them take the lines that these leave.
+const PAIRS: usize = 31;
+
+/// Where the section word of a pass stands: each has a cache line of its own, and no two of the first passes one pair of lines, since
+/// a processor may fetch lines by pairs.
 pub(crate) fn section_index(pass: u32) -> usize
     requires { pass < most_passes }
     ensures { result ≡ section_at pass }
 {
-    8 * (pass as usize + 1)
+    let pass = pass as usize;
+    if pass < PAIRS {
+        16 * pass + 16
+    } else {
+        16 * (pass - PAIRS) + 8
+    }
 }
 
 /// The table of a tree: how many of its calls have begun and ended, its root word, a section word of each pass, and its
