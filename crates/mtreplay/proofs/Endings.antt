@@ -2,7 +2,7 @@
 use Rattle.std.proofs.Common.{◌∙◌, ℕ, List, Option, Result, Ok, Err, subst, sym}
 use Rattle.mt_log.specs.declared.lines.Log.{Log}
 use Rattle.mtreplay.specs.Causes.{EndsMaking, EndsPrint, EndsReplay, ReadsLog, Streams}
-use Rattle.mtreplay.specs.Headline.{TellsRun}
+use Rattle.mt_texts.specs.Texts.{TellsRun}
 use Rattle.mtreplay.specs.declared.failures.Failure.{Failure}
 
 -- the text of a run went to the sink

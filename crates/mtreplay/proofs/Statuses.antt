@@ -13,7 +13,8 @@ use Rattle.mt_words.specs.declared.commands.Command.TheVariants.{Replay, Make, T
 use Rattle.mtreplay.specs.Causes.{Ends, FailsToRead, HasEnded, Streams}
 use Rattle.mtreplay.specs.Command.{reads}
 use Rattle.mtreplay.specs.Ending.{IsToldOf, ReadsTooMany, ReadsWithin, status_due, status_of}
-use Rattle.mtreplay.specs.Headline.{IsTextOfRun, IsTrialText, Prints, Writes, WritesPart}
+use Rattle.mt_texts.specs.Texts.{IsTrialText}
+use Rattle.mtreplay.specs.Headline.{IsTextOfRun, Prints, Writes, WritesPart}
 use Rattle.mtreplay.specs.Input.{ReadsAll}
 use Rattle.mtreplay.specs.declared.failures.Failure.{Failure}
 use Rattle.mtreplay.specs.declared.failures.Failure.TheVariants as failures

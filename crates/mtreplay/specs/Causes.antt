@@ -9,7 +9,8 @@ use Rattle.mt_log.specs.declared.lines.Log.{Log}
 use Rattle.mt_words.specs.declared.commands.Command.{Command}
 use Rattle.mt_words.specs.declared.commands.Command.TheVariants.{Replay, Make, Trial}
 use Rattle.mtreplay.specs.Ending.{ReadsTooMany, ReadsWithin}
-use Rattle.mtreplay.specs.Headline.{IsMadeText, IsTextOfRun, IsTrialText}
+use Rattle.mt_texts.specs.Texts.{IsMadeText, IsTrialText}
+use Rattle.mtreplay.specs.Headline.{IsTextOfRun}
 use Rattle.mtreplay.specs.Input.{ReadsAll}
 use Rattle.mtreplay.specs.declared.failures.Failure.{Failure}
 use Rattle.mtreplay.specs.declared.failures.Failure.TheVariants as failures

@@ -1,33 +1,14 @@
 -- What the program promises: what it prints is the text of a run of the log that it read, or what its command makes of a number.
-use Rattle.std.specs.Prelude.{◌≡◌, ℕ, List, [], ◌∷◌, ◌++◌, Option, Some, Ok, IfSome}
-use Rattle.mt_base.specs.Width.{most_rows}
+use Rattle.std.specs.Prelude.{◌≡◌, ℕ, List, ◌++◌, Option, Some, Ok, IfSome}
 use Rattle.mt_log.specs.declared.lines.Log.{Log}
-use Rattle.mt_log.specs.declared.transcripts.Transcript.{Transcript}
-use Rattle.mt_log.specs.LogText.{log_text}
 use Rattle.mt_log.specs.Reading.{log_of}
-use Rattle.mt_log.specs.Run.{IsRun}
-use Rattle.mt_log.specs.Text.{text_of}
-use Rattle.mt_made.specs.Made.{made}
-use Rattle.mt_made.specs.Summary.{counted, summary_text}
+use Rattle.mt_texts.specs.Texts.{IsMadeText, IsTrialText, TellsRun}
 use Rattle.mt_words.specs.declared.commands.Command.{Command}
 use Rattle.mt_words.specs.declared.commands.Command.TheVariants.{Replay, Make, Trial}
 
--- this is the text of a transcript that is a run of the log, over trees of so many rows
-abbrev pub TellsRun : ℕ → Log → List ℕ → Type 0
-TellsRun rows log text = (t : Transcript) × IsRun log rows t × (text ≡ text_of log.version t)
-
--- of the log that these bytes are
+-- this is the text of a run of the log that these bytes are, over trees of so many rows
 abbrev pub IsTextOfRun : ℕ → List ℕ → List ℕ → Type 0
 IsTextOfRun rows bytes text = (log : Log) × (log_of bytes ≡ Ok log) × TellsRun rows log text
-
--- this is the text of the log that is made of a number
-abbrev pub IsMadeText : ℕ → ℕ → ℕ → List ℕ → Type 0
-IsMadeText number steps lanes text = text ≡ log_text (made number steps lanes)
-
--- this is the summary, with its LF, of a run of the log that is made of a number for one lane, over trees of as many rows as a
--- tree may have
-abbrev pub IsTrialText : ℕ → ℕ → List ℕ → Type 0
-IsTrialText number steps text = (t : Transcript) × IsRun (made number steps 1) most_rows t × (text ≡ summary_text (counted steps t) ++ 10 ∷ [])
 
 -- this is what a command prints, by the bytes that the source has left, if they are known
 abbrev pub Prints : Command → Option (List ℕ) → List ℕ → Type 0

@@ -3,5 +3,3 @@ pub mod Command
 pub mod Ending
 pub mod Headline
 pub mod Input
-pub mod Lines
-pub mod Walks

@@ -9,13 +9,14 @@ ghost use Rattle.mt_words.specs.Commands.{command_of};
 ghost use Rattle.mtreplay.specs.Causes.{ReadsLog, FailsToRead, EndsMaking, EndsPrint, EndsReplay, HasEnded, streams};
 ghost use Rattle.mtreplay.specs.Command.{reads};
 ghost use Rattle.mtreplay.specs.Ending.{TellsStatus, status_due, ReadsNoFurther, ReadsTooMany, ReadsWithin};
-ghost use Rattle.mtreplay.specs.Headline.{IsMadeText, IsTrialText, Writes, WritesPart};
+ghost use Rattle.mt_texts.specs.Texts.{IsMadeText, IsTrialText};
+ghost use Rattle.mtreplay.specs.Headline.{Writes, WritesPart};
 
 use crate::failures::{Failure, report};
 use crate::streams::{LONGEST, read_input, write_output};
-use crate::texts::{answers, made_text, trial_text};
 use mt_io::{Gate, Sink, Source};
 use mt_log::{Log, read_log};
+use mt_texts::{answers, made_text, trial_text};
 use mt_words::{Command, read_words};
 use std::alloc::Global;
 use std::sync::Wait;

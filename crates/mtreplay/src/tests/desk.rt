@@ -9,13 +9,13 @@ ghost use Rattle.mt_log.specs.declared.lines.Item.TheVariants as items;
 ghost use Rattle.mt_rule.specs.Tokens.{pass_in};
 ghost use Rattle.mt_tree.specs.Trees.{IsPassOf};
 
-use crate::trees::LaneTree;
 use mt_base::{Kind, NoMemory, Query};
 use mt_desks::{LaneDesk, needs_of, run_phase};
 use mt_io::NoGate;
 use mt_lanes::Lane;
 use mt_log::{Answer, Entry, Item, Line, Said};
 use mt_play::Plays;
+use mt_texts::LaneTree;
 use mt_tree::Pass;
 use std::alloc::Global;
 use std::sync::Wait;

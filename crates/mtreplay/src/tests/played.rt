@@ -4,11 +4,11 @@ ghost use Rattle.mt_play.specs.Trees.{fewest_rows};
 
 use crate::failures::Failure;
 use crate::streams::LONGEST;
-use crate::trees::LaneTree;
 use mt_base::MOST_ROWS;
 use mt_io::NoGate;
 use mt_list::ListMap;
 use mt_log::{read_log, render};
+use mt_texts::LaneTree;
 use mt_tree::Pass;
 use std::alloc::Global;
 use std::process::Abort;

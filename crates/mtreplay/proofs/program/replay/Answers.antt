@@ -1,5 +1,5 @@
 use Rattle.std.proofs.Common.{subst, sym}
-use Rattle.mtreplay.specs.Headline.{TellsRun}
+use Rattle.mt_texts.specs.Texts.{TellsRun}
 use Rattle.mtreplay.proofs.Endings.{replay_ends}
 use Rattle.mtreplay.proofs.program.replay.Goals as goal
 

@@ -1,5 +1,5 @@
 use Rattle.std.proofs.Common.{◌∙◌, subst, sym}
-use Rattle.mtreplay.specs.Headline.{IsTrialText}
+use Rattle.mt_texts.specs.Texts.{IsTrialText}
 use Rattle.mtreplay.proofs.Endings.{making_ends}
 use Rattle.mtreplay.proofs.program.trial.Goals as goal
 

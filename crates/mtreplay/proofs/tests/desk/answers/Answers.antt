@@ -6,7 +6,7 @@ use Rattle.mt_rule.specs.Tokens.{pass_in}
 use Rattle.mt_tree.specs.Trees.{IsPassOf}
 use Rattle.mtreplay.proofs.Closed.{can_pass_one}
 use Rattle.mtreplay.proofs.tests.desk.answers.Goals as goal
-use Rattle.mtreplay.specs.declared.trees.LaneTree.{LaneTree}
+use Rattle.mt_texts.specs.declared.trees.LaneTree.{LaneTree}
 
 pub answers_to-requires-clause-can : goal.answers_to-requires-clause-can
 answers_to-requires-clause-can g c κs within =

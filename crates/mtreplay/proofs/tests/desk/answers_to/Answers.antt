@@ -6,7 +6,7 @@ use Rattle.mt_lanes.specs.declared.lanes.Lane.{Lane}
 use Rattle.mt_rule.specs.declared.passes.Pass.{Pass}
 use Rattle.mtreplay.proofs.Closed.{at_only}
 use Rattle.mtreplay.proofs.tests.desk.answers_to.Goals as goal
-use Rattle.mtreplay.specs.declared.trees.LaneTree.{LaneTree}
+use Rattle.mt_texts.specs.declared.trees.LaneTree.{LaneTree}
 
 pub run_phase-requires-clause-laid : goal.run_phase-requires-clause-laid
 run_phase-requires-clause-laid g c κs within =

@@ -1,0 +1,41 @@
+-- A step of a cursor is one of a lane's walk.
+use Rattle.std.proofs.Common.{◌≡◌, ℕ, true, List, [], ◌∷◌, ◌++◌, Option, Some, None, refl, ap, ◌∙◌, subst}
+use Rattle.std.specs.Prelude.{if◌then◌else◌}
+use Rattle.mt_base.specs.declared.ranges.Range.{Range}
+use Rattle.mt_base.specs.declared.calls.Query.{Query}
+use Rattle.mt_base.specs.History.{History}
+use Rattle.mt_base.specs.Passes.{Pass, Read}
+use Rattle.mt_log.specs.Run.{find_at}
+use Rattle.mt_read.specs.Cursors.{HasStepped, epoch_or, opened_with, place_behind, query_at}
+use Rattle.mt_desks.specs.Walks.{Walk, HasWalked, place_after}
+use Rattle.mt_texts.specs.Walks.{is_open}
+
+same_query : (at : Option ℕ) (max : ℕ) → query_at at max ≡ find_at at max
+same_query None max = refl
+same_query (Some index) max = refl
+
+same_place : (value : Option Range) (max : ℕ) → place_behind value max ≡ place_after max value
+same_place None max = refl
+same_place (Some r) max = refl
+
+same_opened : (epoch : Option ℕ) (opened : List ℕ) (lo : ℕ) → opened_with epoch opened lo ≡ (if is_open epoch then opened else opened ++ lo ∷ [])
+same_opened None opened lo = refl
+same_opened (Some epoch) opened lo = refl
+
+module _ (history history' : History) (reference reference' : ℕ) (p q : Pass) (epoch epoch' at at' : Option ℕ) (max max' lo hi : ℕ) (value : Option Range) where
+  abbrev before : Walk
+  before = record { history = history; reference = reference; pass = p; stands = is_open epoch; at = at; max = max }
+
+  abbrev after : Walk
+  after = record { history = history'; reference = reference'; pass = q; stands = is_open epoch'; at = at'; max = max' }
+
+  pub walked : history' ≡ history → reference' ≡ reference → ((k : ℕ) × Read history p lo hi k (query_at at max) value q) → HasStepped lo hi epoch p q → at' ≡ place_behind value max → max' ≡ max → epoch' ≡ Some (epoch_or epoch lo) → HasWalked lo hi value before after
+  walked same_history same_reference read stepped at_is max_is epoch_is =
+      let stands : is_open epoch' ≡ true = ap is_open epoch_is in
+      let place : at' ≡ place_after max value = at_is ∙ same_place value max in
+      record {
+        is = λ i. record { history = same_history i; reference = same_reference i; pass = q; stands = stands i; at = place i; max = max_is i };
+        k = read.0;
+        read = subst (λ (z : Query). Read history p lo hi read.0 z value q) (same_query at max) read.1;
+        opened = ap (λ (z : Pass). z.opened) stepped.pass ∙ same_opened epoch p.opened lo;
+      }

@@ -1,0 +1,105 @@
+//! The texts.
+
+ghost use Rattle.std.specs.Prelude.{◌≡◌, ◌≤◌, ◌<◌, ◌-◌, ◌^◌, IfOk, length, string_bytes};
+ghost use Rattle.mt_base.specs.Width.{most_rows};
+ghost use Rattle.mt_log.specs.Run.{IsRun};
+ghost use Rattle.mt_log.specs.Trees.{IsReadable, most_lanes};
+ghost use Rattle.mt_made.specs.Made.{made};
+ghost use Rattle.mt_made.specs.Summary.{counted};
+ghost use Rattle.mt_log.specs.declared.transcripts.Transcript.{Transcript};
+ghost use Rattle.mt_play.specs.Trees.{fewest_rows};
+ghost use Rattle.mt_texts.specs.Texts.{IsMadeText, IsTrialText, TellsRun};
+
+use crate::trees::LaneTree;
+use mt_base::{MOST_ROWS, NoMemory};
+use mt_io::Gate;
+use mt_log::{Log, Transcript, print_log, render};
+use mt_made::{Summary, made_log, summarise};
+use mt_play::play;
+use mt_tree::Pass;
+use std::alloc::Global;
+use std::sync::Wait;
+use std::thread::Threads;
+
+/// What the lines of a log were answered, over trees of so many rows. Their memory is given back.
+fn played<R: Threads + Wait + Sync, G: Gate + Sync>(
+    rt: &R,
+    alloc: Global,
+    log: Log,
+    rows: u64,
+    gate: &G,
+) -> Result<Transcript, NoMemory>
+    requires few_rows { fewest_rows ≤ rows }
+    requires rows { rows ≤ most_rows }
+    requires readable { IsReadable log.lines }
+    requires count { length log.lines < 2 ^ 62 - 1 }
+    ensures { IfOk result (λ t. IsRun log rows t) }
+{
+    play::<R, Pass, LaneTree, G>(rt, alloc, &log, rows, gate)
+}
+
+/// The text of what the lines of a log were answered.
+pub fn answers<R: Threads + Wait + Sync, G: Gate + Sync>(
+    rt: &R,
+    alloc: Global,
+    log: Log,
+    rows: u64,
+    gate: &G,
+) -> Result<Vec<u8>, NoMemory>
+    requires few_rows { fewest_rows ≤ rows }
+    requires rows { rows ≤ most_rows }
+    requires readable { IsReadable log.lines }
+    requires count { length log.lines < 2 ^ 62 - 1 }
+    ensures { IfOk result (λ text. TellsRun rows log text.items) }
+{
+    let version = log.version;
+    let transcript = played(rt, alloc, log, rows, gate)?;
+    render(alloc, version, &transcript)
+}
+
+/// The text of the log that is made of a number.
+pub fn made_text(alloc: Global, number: u32, steps: u32, lanes: u32) -> Result<Vec<u8>, NoMemory>
+    requires number { number < 2 ^ 31 }
+    requires steps { steps ≤ 100000 }
+    requires lanes { 1 ≤ lanes }
+    requires few_lanes { lanes ≤ most_lanes }
+    ensures { IfOk result (λ text. IsMadeText number steps lanes text.items) }
+{
+    let log = made_log(alloc, number, steps, lanes)?;
+    print_log(alloc, &log)
+}
+
+/// What a run of the log that is made of a number for one lane came to.
+fn tried<R: Threads + Wait + Sync, G: Gate + Sync>(
+    rt: &R,
+    alloc: Global,
+    number: u32,
+    steps: u32,
+    gate: &G,
+) -> Result<Summary, NoMemory>
+    requires number { number < 2 ^ 31 }
+    requires steps { steps ≤ 100000 }
+    ensures { IfOk result (λ summary. (t : Transcript) × IsRun (made number steps 1) most_rows t × (summary ≡ counted steps t)) }
+{
+    let log = made_log(alloc, number, steps, 1)?;
+    let transcript = played(rt, alloc, log, MOST_ROWS, gate)?;
+    Ok(summarise(steps, &transcript))
+}
+
+/// The line of that summary.
+pub fn trial_text<R: Threads + Wait + Sync, G: Gate + Sync>(
+    rt: &R,
+    alloc: Global,
+    number: u32,
+    steps: u32,
+    gate: &G,
+) -> Result<String, NoMemory>
+    requires number { number < 2 ^ 31 }
+    requires steps { steps ≤ 100000 }
+    ensures { IfOk result (λ text. IsTrialText number steps (string_bytes text)) }
+{
+    let summary = tried(rt, alloc, number, steps, gate)?;
+    let mut text = String::new(alloc);
+    text.writeln(summary)?;
+    Ok(text)
+}

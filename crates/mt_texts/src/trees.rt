@@ -1,0 +1,247 @@
+//! Trees of nodes that threads share, as a player makes them.
+
+ghost use Rattle.std.specs.Prelude.{◌≡◌, ℕ, ◌<◌, ◌≤◌, None, IfOk, IfErr};
+ghost use Rattle.mt_base.specs.declared.calls.Query.TheVariants.{Find, Load};
+ghost use Rattle.mt_base.specs.Passes as known;
+ghost use Rattle.mt_base.specs.Width.{most_rows};
+ghost use Rattle.mt_play.specs.Trees.{calls_taken, fewest_rows, most_passes};
+ghost use Rattle.mt_rule.specs.Tokens.{pass_in};
+ghost use Rattle.mt_texts.specs.Lines.{IsForNeighbour};
+ghost use Rattle.mt_tree.specs.Trees.{IsPassOf, limit_of, opened, passes_of};
+
+use crate::walks::scan_by;
+use mt_base::{Call, Kind, NoMemory, Query, Range, Steps};
+use mt_desks::{Done, Looked, Shared, Worn};
+use mt_log::Entry;
+use mt_play::Plays;
+use mt_tree::{DupError, MOST_CALLS, MakeError, Moved, Pass, Read, Shape, Tree, Zeros};
+use std::alloc::Global;
+use std::marker::Brand;
+use std::sync::Wait;
+use std::sync::ledger::{Blank, Ledger};
+
+/// A tree that the lanes share. It takes as many calls as a tree may.
+#[derive(Drop)]
+pub struct LaneTree {
+    pub tree: Tree,
+    ghost calls: { limit_of tree ≡ calls_taken },
+}
+
+/// The range that an index lies in, without the lock.
+fn load_range<L: Ledger>(
+    tree: &Tree,
+    pass: &mut Pass,
+    index: u64,
+    blank: Blank,
+) -> Read<Option<Range>>
+    requires of { IsPassOf tree.now pass.old }
+    requires name { blank.name ≡ L.name }
+    requires parts { blank.parts ≡ L.parts }
+    requires some { 0 < blank.parts }
+    ensures of { IsPassOf tree.now pass.new }
+    ensures read { (k : ℕ) × known.Read (opened tree.now) (pass_in pass.old) result.lo result.hi k (Load index) result.value (pass_in pass.new) }
+    ensures closed { (pass_in pass.new).standing ≡ None }
+{
+    let mut steps = Steps::<L>::new(blank);
+    tree.load_range(pass, index, &mut steps)
+}
+
+/// The first range that ends at an index or above, and begins at `max` or below, without the lock.
+fn find<L: Ledger>(
+    tree: &Tree,
+    pass: &mut Pass,
+    index: u64,
+    max: u64,
+    blank: Blank,
+) -> Read<Option<Range>>
+    requires of { IsPassOf tree.now pass.old }
+    requires name { blank.name ≡ L.name }
+    requires parts { blank.parts ≡ L.parts }
+    requires some { 0 < blank.parts }
+    ensures of { IsPassOf tree.now pass.new }
+    ensures read { (k : ℕ) × known.Read (opened tree.now) (pass_in pass.old) result.lo result.hi k (Find index max) result.value (pass_in pass.new) }
+    ensures closed { (pass_in pass.new).standing ≡ None }
+{
+    let mut steps = Steps::<L>::new(blank);
+    tree.find(pass, index, max, &mut steps)
+}
+
+/// What a query for a neighbour finds without the lock, or that the leaf of its index was replaced meanwhile.
+fn seek<L: Ledger>(
+    tree: &Tree,
+    pass: &mut Pass,
+    query: &Query,
+    blank: Blank,
+) -> Result<Read<Option<Range>>, Moved>
+    requires of { IsPassOf tree.now pass.old }
+    requires name { blank.name ≡ L.name }
+    requires parts { blank.parts ≡ L.parts }
+    requires some { 0 < blank.parts }
+    requires neighbour { IsForNeighbour query.now }
+    ensures of { IsPassOf tree.now pass.new }
+    ensures read { IfOk result (λ r. (k : ℕ) × known.Read (opened tree.now) (pass_in pass.old) r.lo r.hi k query.now r.value (pass_in pass.new)) }
+    ensures grows { IfErr result (λ _. known.Grows (pass_in pass.old) (pass_in pass.new)) }
+    ensures closed { (pass_in pass.new).standing ≡ None }
+{
+    let mut steps = Steps::<L>::new(blank);
+    match query {
+        Query::Next { index, max } => tree.next(pass, *index, *max, &mut steps),
+        Query::Prev { index, min } => tree.prev(pass, *index, *min, &mut steps),
+        Query::Rfind { index, min } => tree.rfind(pass, *index, *min, &mut steps),
+        Query::Load { .. } | Query::Find { .. } => unreachable!(),
+    }
+}
+
+/// What a query for a neighbour finds: without the lock where the leaf of its index stands, or else under it.
+fn neighbour<R: Wait, L: Ledger>(
+    tree: &Tree,
+    rt: &R,
+    pass: &mut Pass,
+    query: &Query,
+    blank: Blank,
+) -> Read<Option<Range>>
+    requires of { IsPassOf tree.now pass.old }
+    requires name { blank.name ≡ L.name }
+    requires parts { blank.parts ≡ L.parts }
+    requires some { 0 < blank.parts }
+    requires neighbour { IsForNeighbour query.now }
+    ensures of { IsPassOf tree.now pass.new }
+    ensures read { (k : ℕ) × known.Read (opened tree.now) (pass_in pass.old) result.lo result.hi k query.now result.value (pass_in pass.new) }
+    ensures closed { (pass_in pass.new).standing ≡ None }
+{
+    match seek::<L>(tree, pass, query, blank) {
+        Ok(read) => read,
+        Err(_) => ask_under_lock(tree, rt, pass, query),
+    }
+}
+
+/// The answer of a query under the lock.
+fn ask_under_lock(
+    tree: &Tree,
+    rt: &impl Wait,
+    pass: &mut Pass,
+    query: &Query,
+) -> Read<Option<Range>>
+    requires of { IsPassOf tree.now pass.old }
+    ensures of { IsPassOf tree.now pass.new }
+    ensures read { (k : ℕ) × known.Read (opened tree.now) (pass_in pass.old) result.lo result.hi k query.now result.value (pass_in pass.new) }
+    ensures standing { (pass_in pass.new).standing ≡ (pass_in pass.old).standing }
+{
+    let mut write = tree.lock(rt, pass);
+    let read = write.ask(query);
+    write.unlock();
+    read
+}
+
+impl Shared<Pass> for LaneTree {
+    ghost tree = { λ t. record { history = opened t.tree; most = limit_of t.tree } };
+
+    ghost serves = { λ t p. IsPassOf t.tree p };
+
+    fn act<R: Wait>(&self, rt: &R, pass: &mut Pass, call: &Call) -> Result<Done, Worn> {
+        match self.tree.act(rt, pass, call) {
+            Ok(done) => Ok(Done {
+                call: done.call,
+                reply: done.reply,
+            }),
+            Err(_) => Err(Worn),
+        }
+    }
+
+    fn ask<R: Wait>(&self, rt: &R, pass: &mut Pass, query: &Query) -> Looked {
+        let read = match query {
+            Query::Load { index } => load_range::<Brand>(&self.tree, pass, *index, Blank::new(1)),
+            Query::Find { index, max } => {
+                find::<Brand>(&self.tree, pass, *index, *max, Blank::new(1))
+            }
+            Query::Next { .. } | Query::Prev { .. } | Query::Rfind { .. } => {
+                neighbour::<R, Brand>(&self.tree, rt, pass, query, Blank::new(1))
+            }
+        };
+        Looked {
+            lo: read.lo,
+            hi: read.hi,
+            value: read.value,
+        }
+    }
+
+    fn scan(
+        &self,
+        pass: &mut Pass,
+        line: u64,
+        index: u64,
+        max: u64,
+        count: u32,
+        room: &mut Vec<Entry>,
+    ) {
+        let mut cursor = self.tree.cursor(pass, index, max);
+        scan_by(self, &mut cursor, line, count, room);
+    }
+}
+
+impl Plays<Pass> for LaneTree {
+    type Zeros = Zeros;
+
+    ghost many = { λ t. passes_of t.tree };
+
+    ghost rows_of = { λ zeros. zeros.rows };
+
+    fn zeros(alloc: Global, rows: u64) -> Result<Zeros, NoMemory> {
+        Zeros::new(alloc, rows)
+    }
+
+    fn make(
+        alloc: Global,
+        kind: Kind,
+        rows: u64,
+        passes: u32,
+        zeros: &Zeros,
+    ) -> Result<(Self, Vec<Pass>), NoMemory> {
+        let shape = Shape {
+            kind,
+            rows,
+            passes,
+            calls: MOST_CALLS,
+        };
+        match Tree::make_over(alloc, shape, zeros) {
+            Ok((tree, passes)) => Ok((LaneTree { tree }, passes)),
+            Err(MakeError::NoMemory) => Err(NoMemory),
+            Err(MakeError::BadShape { .. }) => unreachable!(),
+        }
+    }
+
+    fn copy<R: Wait>(
+        &self,
+        rt: &R,
+        alloc: Global,
+        pass: &mut Pass,
+    ) -> Result<(Self, Vec<Pass>), NoMemory> {
+        match self.tree.dup(rt, alloc, pass, self.tree.shape()) {
+            Ok((tree, passes)) => Ok((LaneTree { tree }, passes)),
+            Err(DupError::NoMemory) => Err(NoMemory),
+            Err(DupError::BadShape { .. }) => unreachable!(),
+            Err(DupError::Invalid) => unreachable!(),
+            Err(DupError::NoNodes { .. }) => unreachable!(),
+        }
+    }
+
+    fn check<R: Wait>(&self, rt: &R, pass: &mut Pass) -> u64 {
+        self.tree.check(rt, pass).ranges
+    }
+
+    fn list<R: Wait>(
+        &self,
+        rt: &R,
+        alloc: Global,
+        pass: &mut Pass,
+    ) -> Result<Vec<Range>, NoMemory> {
+        let mut write = self.tree.lock(rt, pass);
+        let ranges = write.list(alloc);
+        write.unlock();
+        ranges
+    }
+
+    fn settle<R: Wait>(&self, rt: &R, passes: &mut [Pass]) {
+        self.tree.settle(rt, passes);
+    }
+}

@@ -1,0 +1,83 @@
+//! Scans of a lane, each by one cursor of its tree.
+
+ghost use Rattle.std.specs.Prelude.{◌≡◌, ℕ, ◌+◌, ◌<◌, ◌≤◌, None, false, vec_len, vec_capacity};
+ghost use Rattle.mt_log.specs.declared.lines.Item.{Item};
+ghost use Rattle.mt_rule.specs.Tokens.{pass_in};
+ghost use Rattle.mt_tree.specs.Trees.{opened};
+ghost use Rattle.mt_desks.specs.Scans.{IsScanned};
+ghost use Rattle.mt_desks.specs.Walks.{HasWalked, OpensOnce};
+ghost use Rattle.mt_texts.specs.Walks.{walk_of};
+
+use crate::trees::LaneTree;
+use mt_base::Steps;
+use mt_desks::{Looked, Walks, scan};
+use mt_log::Entry;
+use mt_tree::Cursor;
+use std::marker::Brand;
+use std::sync::ledger::{Blank, Ledger};
+
+/// One step of a cursor, in a number of atomic steps that is counted.
+fn step<L: Ledger>(cursor: &mut Cursor<'_>, blank: Blank) -> Looked
+    requires name { blank.name ≡ L.name }
+    requires parts { blank.parts ≡ L.parts }
+    requires some { 0 < blank.parts }
+    ensures tree { cursor.new.tree ≡ cursor.old.tree }
+    ensures same_reference { cursor.new.pass.ghost_name ≡ cursor.old.pass.ghost_name }
+    ensures walked { HasWalked result.lo result.hi result.value (walk_of cursor.old) (walk_of cursor.new) }
+{
+    let mut steps = Steps::<L>::new(blank);
+    let read = cursor.step(&mut steps);
+    Looked {
+        lo: read.lo,
+        hi: read.hi,
+        value: read.value,
+    }
+}
+
+/// Closes the section of a cursor, in a number of atomic steps that is counted.
+fn close<L: Ledger>(cursor: &mut Cursor<'_>, blank: Blank)
+    requires name { blank.name ≡ L.name }
+    requires parts { blank.parts ≡ L.parts }
+    requires some { 0 < blank.parts }
+    ensures tree { cursor.new.tree ≡ cursor.old.tree }
+    ensures same_reference { cursor.new.pass.ghost_name ≡ cursor.old.pass.ghost_name }
+    ensures closed { walk_of cursor.new ≡ record (walk_of cursor.old) { pass = record (walk_of cursor.old).pass { standing = None }; stands = false } }
+{
+    let mut steps = Steps::<L>::new(blank);
+    cursor.pause(&mut steps);
+}
+
+impl<'a> Walks<LaneTree> for Cursor<'a> {
+    ghost walk = { walk_of };
+
+    ghost on = { λ c t. c.tree.now ≡ t.tree };
+
+    fn step(&mut self) -> Looked {
+        step::<Brand>(self, Blank::new(1))
+    }
+
+    fn close(&mut self) {
+        close::<Brand>(self, Blank::new(1));
+    }
+}
+
+/// Makes a scan by a cursor of this tree.
+pub(crate) fn scan_by(
+    tree: &LaneTree,
+    cursor: &mut Cursor<'_>,
+    line: u64,
+    count: u32,
+    room: &mut Vec<Entry>,
+)
+    requires tree { cursor.old.tree.now ≡ tree.now.tree }
+    requires room { vec_len room.old + count ≤ vec_capacity room.old }
+    ensures same_reference { cursor.new.pass.ghost_name ≡ cursor.old.pass.ghost_name }
+    ensures tree { cursor.new.tree.now ≡ tree.now.tree }
+    ensures closed { (pass_in cursor.new.pass.now).standing ≡ None }
+    ensures scanned { (lane phase number : ℕ) (item : Item) → IsScanned (record { line = line; lane = lane; phase = phase; item = item }) number cursor.old.walk.max count cursor.old.walk.at (opened cursor.old.tree.now) (pass_in cursor.old.pass.now) (pass_in cursor.new.pass.now) room.old.items room.new.items }
+    ensures once { OpensOnce (pass_in cursor.old.pass.now) (pass_in cursor.new.pass.now) }
+    ensures len { vec_len room.new ≤ vec_len room.old + count }
+    ensures capacity { vec_capacity room.new ≡ vec_capacity room.old }
+{
+    scan::<LaneTree, Cursor<'_>>(cursor, line, count, room);
+}

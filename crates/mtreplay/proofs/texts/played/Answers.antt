@@ -1,4 +1,0 @@
-use Rattle.mtreplay.proofs.texts.played.Goals as goal
-
-pub returns : goal.returns
-returns g c = c.play.ensures
