@@ -49,10 +49,10 @@ pub fn copied<'a, R: Wait>(
 }
 
 /// The nanoseconds of a check.
-fn check_time<R: Wait + Clock>(rt: &R, owner: &mut Owner<'_, R>) -> io::Result<Option<u64>> {
+fn check_time<R: Wait + Clock>(rt: &R, owner: &mut Owner<'_, R>) -> io::Result<u64> {
     let start = Instant::now(rt)?;
     let _form = owner.check();
-    Ok(Some(nanos_of(&start.elapsed(rt)?)))
+    Ok(nanos_of(&start.elapsed(rt)?))
 }
 
 /// The nanoseconds of a copy in so many rows, without those in which it is given back, or none where there was no memory.
@@ -77,7 +77,7 @@ fn time_once<R: Wait + Clock>(
     used: u64,
 ) -> io::Result<Option<u64>> {
     match deed {
-        Deed::Check => check_time(rt, owner),
+        Deed::Check => check_time(rt, owner).map(Some),
         Deed::Dup(room) => dup_time(rt, alloc, owner, rows_for(room, used)),
     }
 }
