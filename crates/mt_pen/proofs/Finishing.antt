@@ -21,7 +21,7 @@ use Rattle.mt_rule.specs.Tokens.{Identity}
 use Rattle.mt_pen.specs.Sheets.{told_of, caller_of, sheet_worked}
 use Rattle.mt_pen.specs.Works.{IsWorked}
 use Rattle.mt_base.proofs.Shortages.{still_short}
-use Rattle.mt_pen.proofs.Telling.{found_loaded}
+use Rattle.mt_pen.proofs.Telling.{found_loaded, told_least}
 
 -- the shortage that the rows tell is one under the tree's limits
 found_short : (t : Identity) (p : PenPart) (q : known.Pass) (scan : Scan) (scans scans_at_begin : ℕ) (call : Call) (reply : Reply) → IsWorked p scan scans scans_at_begin
@@ -43,6 +43,7 @@ found_short t p q scan scans scans_at_begin call reply w short = record {
     held = short.counted.held;
     by = short.counted.by;
   };
+  least = told_least scan.by scan.least w.least;
   found = found_loaded scan.by p.loaded w.holder;
 }
 

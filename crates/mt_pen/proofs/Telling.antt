@@ -9,7 +9,7 @@ use Rattle.mt_rule.specs.declared.views.PenPart.{PenPart}
 use Rattle.mt_rule.specs.declared.views.PassPart.{PassPart}
 use Rattle.mt_rule.specs.Places.{section_word}
 use Rattle.mt_rule.specs.Steps.{with_loaded}
-use Rattle.mt_pen.specs.Scans.{lesser, least_from, loaded_from, none_open, is_among, is_loaded, IsWordOf, AreWordsFrom}
+use Rattle.mt_pen.specs.Scans.{lesser, least_from, loaded_from, none_open, epoch_told, is_among, is_loaded, IsWordOf, AreWordsFrom}
 
 holder_at : ℕ → ℕ → Holder
 holder_at pass word = record { pass = pass; epoch = word / 2 }
@@ -47,6 +47,16 @@ tells_from p q passes pass (word ∷ words) scan each few tells = tells_from p q
 
 pub tells : (p : PenPart) (q : PassPart) (words : List ℕ) → AreWordsFrom p q 0 words → Tells q (length words) (least_from 0 words none_open)
 tells p q words each = tells_from p q (length words) 0 words none_open each (omega arith) (tells_none q (length words))
+
+-- ---- the least epoch
+
+pub words_least : (pass : ℕ) (words : List ℕ) (scan : Scan) → scan.least ≡ epoch_told scan.by → (least_from pass words scan).least ≡ epoch_told (least_from pass words scan).by
+words_least pass [] scan is = is
+words_least pass (word ∷ words) scan is = words_least (pass + 1) words (lesser pass word scan) (lesser_keeps (λ (x : Scan). x.least ≡ epoch_told x.by) pass word scan is (λ other. refl))
+
+pub told_least : (by : Option Holder) (least : ℕ) → least ≡ epoch_told by → ((by ≡ None) × (least ≡ 2 ^ 64 - 1)) ⊎ ((holder : Holder) × (by ≡ Some holder) × (least ≡ holder.epoch))
+told_least None least is = inl (refl, is)
+told_least (Some h) least is = inr (h, refl, is)
 
 -- ---- who was found
 

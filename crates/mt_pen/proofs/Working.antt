@@ -12,11 +12,11 @@ use Rattle.mt_rule.specs.declared.views.PassPart.{PassPart}
 use Rattle.mt_rule.specs.Seats.{known_by, least_of}
 use Rattle.mt_rule.specs.Steps.{pen_drafted, pen_tended, pen_ended}
 use Rattle.mt_rule.specs.Tokens.{Identity}
-use Rattle.mt_pen.specs.Scans.{HasScanned, loaded_from, scan_of, none_open, is_loaded}
+use Rattle.mt_pen.specs.Scans.{HasScanned, loaded_from, scan_of, none_open, epoch_told, is_loaded}
 use Rattle.mt_pen.specs.Sheets.{told_of}
 use Rattle.mt_pen.specs.Works.{IsWorked}
 use Rattle.mt_pen.proofs.Cleared.{all_of, least_least, least_kept, cleared_count, cleared_most, cleared_kept, cleared_low}
-use Rattle.mt_pen.proofs.Telling.{Tells, tells, words_loaded}
+use Rattle.mt_pen.proofs.Telling.{Tells, tells, words_least, words_loaded}
 
 set_dead : (lives : List Life) (row r call : ℕ) → life_of (slice_set lives row Draft) r ≡ Dead call → life_of lives r ≡ Dead call
 set_dead [] row r call is = is
@@ -39,6 +39,7 @@ worked_draft row col word p p' scan scans scans_at_begin step w = subst (λ (x :
   calm = w.calm;
   opens = w.opens;
   risen = w.risen;
+  least = w.least;
   holder = w.holder;
 })
 
@@ -56,6 +57,7 @@ worked_tend row col word p p' scan scans scans_at_begin step w = subst (λ (x : 
   calm = w.calm;
   opens = w.opens;
   risen = w.risen;
+  least = w.least;
   holder = w.holder;
 })
 
@@ -78,6 +80,7 @@ worked_scan p q p' scan scan' scans scans' scans_at_begin passes h more w = subs
   calm = w.calm;
   opens = w.opens;
   risen = omega (arith, more, w.risen);
+  least = subst (λ (x : Scan). x.least ≡ epoch_told x.by) (sym h.found) (words_least 0 h.words none_open refl);
   holder = subst (λ (x : Scan). is_loaded x.by (loaded_from 0 h.words p.loaded) ≡ true) (sym h.found) (words_loaded 0 h.words none_open p.loaded refl);
 })
 
@@ -125,5 +128,6 @@ worked_end m p p' scan scans scans_at_begin step w = subst (λ (x : PenPart). Is
   calm = λ e. refl;
   opens = w.opens;
   risen = w.risen;
+  least = w.least;
   holder = w.holder;
 })

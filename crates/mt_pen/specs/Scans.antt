@@ -64,3 +64,8 @@ is_among h (x ∷ xs) = ((x.pass == h.pass) && (x.epoch == h.epoch)) || is_among
 abbrev pub is_loaded : Option Holder → List Holder → Bool
 is_loaded None loaded = true
 is_loaded (Some h) loaded = is_among h loaded
+
+-- the epoch of the holder, and the greatest number where there is none
+abbrev pub epoch_told : Option Holder → ℕ
+epoch_told None = 2 ^ 64 - 1
+epoch_told (Some h) = h.epoch

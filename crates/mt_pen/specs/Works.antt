@@ -13,7 +13,7 @@ use Rattle.mt_rule.specs.declared.views.PenPart.{PenPart}
 use Rattle.mt_rule.specs.Places.{size_of}
 use Rattle.mt_rule.specs.Seats.{least_of}
 use Rattle.mt_rule.specs.Tokens.{Identity}
-use Rattle.mt_pen.specs.Scans.{is_loaded}
+use Rattle.mt_pen.specs.Scans.{epoch_told, is_loaded}
 use Rattle.mt_pen.specs.Sheets.{sheet_worked}
 
 -- The tree opened with few rows: with no more than its map asks for, which is half as many as it has ranges, rounded down, and two.
@@ -21,7 +21,8 @@ abbrev pub OpensSmall : Shape → Type 0
 OpensSmall shape = shape.opened ≤ length shape.opening / 2 + 2
 
 -- Of what the pen knows: there are as many words, lives and numbers of passes as there must be, no row died by a call that was not begun,
--- and the history has the calls that have ended or published. The holder that the last scan told was found with a section open.
+-- and the history has the calls that have ended or published. The last scan's least epoch is that of the holder that it told, who was found
+-- with a section open; it is the greatest number where it told none.
 pub record IsWorked (p : PenPart) (scan : Scan) (scans scans_at_begin : ℕ) : Type 0 where
   pub rows : p.shape.rows ≤ most_rows
   pub words : length p.words ≡ size_of (kind_width p.shape.kind) p.shape.rows
@@ -35,6 +36,7 @@ pub record IsWorked (p : PenPart) (scan : Scan) (scans scans_at_begin : ℕ) : T
   pub calm : p.in_flight ≡ false → p.published ≡ false
   pub opens : OpensSmall p.shape
   pub risen : scans_at_begin ≤ scans
+  pub least : scan.least ≡ epoch_told scan.by
   pub holder : is_loaded scan.by p.loaded ≡ true
 
 died : (ended : ℕ) (in_flight : Bool) (life : Life) → ((call : ℕ) → life ≡ Dead call → (1 ≤ call) × (call ≤ ended + one_if in_flight)) → HasDied ended in_flight life
