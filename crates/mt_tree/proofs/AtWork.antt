@@ -1,5 +1,5 @@
 -- A call at work: the rows that it begins with, and what they tell.
-use Rattle.std.proofs.Common.{◌≡◌, ℕ, ◌+◌, ◌≤◌, ◌<◌, ◌∷◌, ◌++◌, [], Option, Some, None, length, refl, sym, ap, ◌∙◌, subst, arith}
+use Rattle.std.proofs.Common.{◌≡◌, ℕ, ◌≤◌, ◌<◌, ◌∷◌, ◌++◌, [], Option, Some, None, length, refl, sym, ap, ◌∙◌, subst, arith}
 use Rattle.std.proofs.lemmas.List.{length-map, length-append}
 use Rattle.atomic_table.specs.declared.badge.Badge.{Badge}
 use Rattle.mt_base.specs.declared.calls.Call.{Call}
@@ -21,7 +21,7 @@ use Rattle.mt_rule.specs.Tokens.{Identity, pass_in, WasShown}
 use Rattle.mt_tree.specs.declared.behind.Tools.{Tools}
 use Rattle.mt_tree.specs.declared.trees.Tree.{Tree}
 use Rattle.mt_tree.specs.Behind.{Behind, behind_of, parts_of, IsAtRest, IsKept}
-use Rattle.mt_tree.specs.Trees.{limit_of, opened, place_of}
+use Rattle.mt_tree.specs.Trees.{limit_of, opened, passes_of, place_of}
 use Rattle.mt_tree.specs.Works.{records_told, shown_pass, IsWorker}
 use Rattle.mt_tree.proofs.Reading.{map_is}
 
@@ -83,6 +83,10 @@ module _ (t : Tree) (i : Identity) (b : Behind) (p : known.Pass) (e : Parts) (w 
 
   pub limit_is : b.pen.shape.calls ≡ limit_of t
   limit_is = ap (λ (x : Shape). x.calls) w.shape ∙ ap (λ (x : Identity). x.shape.calls) w.place
+
+  -- the caller is told of as many passes as the tree has
+  pub passes_is : told_at.caller.passes ≡ passes_of t
+  passes_is = ap (λ (x : Identity). x.shape.passes) w.place
 
   pub shape_is : b.pen.shape ≡ (place_of t).shape
   shape_is = w.shape ∙ ap (λ (x : Identity). x.shape) w.place

@@ -1,5 +1,5 @@
 -- A call at work was made by its pass, and the rows that a read saw lie behind the lock again.
-use Rattle.std.proofs.Common.{◌≡◌, ◌≢◌, ◌⊎◌, ℕ, ◌+◌, ◌/◌, ◌≤◌, ◌<◌, ◌∷◌, ◌++◌, List, [], Bool, true, false, Option, Some, None, length, refl, sym, ap, ◌∙◌, subst, inl, inr, arith}
+use Rattle.std.proofs.Common.{◌≡◌, ◌≢◌, ℕ, ◌+◌, ◌/◌, ◌≤◌, ◌<◌, ◌∷◌, ◌++◌, List, [], Bool, true, false, Option, None, length, refl, sym, ap, ◌∙◌, subst, inl, inr, arith}
 use Rattle.std.specs.Prelude.{◌↔◌, IfErr, IfSome, IsOk, Result, Ok, Err, if◌then◌else◌}
 use Rattle.std.proofs.lemmas.List.{append-nil, length-map, length-append}
 use Rattle.mt_base.specs.declared.calls.Call.{Call}
@@ -12,7 +12,7 @@ use Rattle.mt_base.specs.declared.replies.Reply.{Reply}
 use Rattle.mt_base.specs.declared.replies.Reply.TheVariants as replies
 use Rattle.mt_base.specs.declared.replies.Shortage.{Shortage}
 use Rattle.mt_base.specs.Call.{acted, answer, is_invalid}
-use Rattle.mt_base.specs.History.{Record, last_map, limits_after}
+use Rattle.mt_base.specs.History.{Record}
 use Rattle.mt_base.specs.Map.{over}
 use Rattle.mt_base.specs.Nodes.{IsShort}
 use Rattle.mt_base.specs.Passes as known
@@ -23,20 +23,19 @@ use Rattle.mt_engine.specs.Engine.{Parts, DidOrLacked, IsEnded, TellsBook, is_re
 use Rattle.mt_engine.specs.Rooms.{HasRoom, IsScanned, IsShortOf}
 use Rattle.mt_free.specs.Book.{Book, after_reclaim}
 use Rattle.mt_pen.specs.Sheets.{unscanned}
-use Rattle.mt_rows.specs.declared.rows.Scan.{Scan}
 use Rattle.mt_rows.specs.Publish.{map_by, IsCounted}
-use Rattle.mt_rows.specs.Sheet.{OnlyReads, Rooted, Sheet, Told, scanned}
+use Rattle.mt_rows.specs.Sheet.{OnlyReads, Rooted, Sheet}
 use Rattle.mt_rule.specs.declared.passes.Pass.{Pass}
 use Rattle.mt_rule.specs.declared.views.Shape.{Shape}
 use Rattle.mt_rule.specs.Seats.{record_of, records_of, sheet_of}
-use Rattle.mt_rule.specs.Tokens.{Identity, pass_in, tree_in}
+use Rattle.mt_rule.specs.Tokens.{Identity, pass_in}
 use Rattle.mt_tree.specs.declared.behind.Tools.{Tools}
 use Rattle.mt_tree.specs.declared.trees.Tree.{Tree}
-use Rattle.mt_tree.specs.Behind.{Behind, behind_of, IsRead, IsReady, IsStored, WasPrepared}
-use Rattle.mt_tree.specs.Trees.{map_seen, opened, place_of, IsShortNow}
+use Rattle.mt_tree.specs.Behind.{Behind, behind_of, IsRead, IsReady, IsStored}
+use Rattle.mt_tree.specs.Trees.{map_seen, opened, passes_of, place_of, IsShortNow, NamesPass, WasPrepared}
 use Rattle.mt_tree.specs.Works.{pass_of_told, shown_pass, AreBack}
-use Rattle.mt_tree.proofs.AtWork.{AtWork, count_is, told_at, told_is, told_after, told_more, tree_is, map_shown, shape_is, same_parts}
-use Rattle.mt_tree.proofs.NoShortage.{applied_other, made_other, scan_other, other_if, IsOther}
+use Rattle.mt_tree.proofs.AtWork.{AtWork, count_is, passes_is, told_at, told_is, told_after, told_more, tree_is, map_shown, shape_is, same_parts}
+use Rattle.mt_tree.proofs.NoShortage.{applied_among, applied_other, made_among, made_other, scan_among, scan_other, other_if, IsAmong, IsOther}
 use Rattle.mt_tree.proofs.Places.{places_last}
 use Rattle.mt_tree.proofs.Reading.{asked}
 
@@ -83,6 +82,12 @@ module _ (t : Tree) (i : Identity) (b : Behind) (p : known.Pass) (e e' : Parts) 
 
     pub by_acts : acted e.kind (map_by e.sheet.tree) call ≡ (map_by e'.sheet.tree, reply) → p.standing ≡ None → IsOther (holder_of reply) p.number
     by_acts acts closed = made_other e.kind (map_by e.sheet.tree) (map_by e'.sheet.tree) call reply p.number acts
+
+    pub named_by_answer : DidOrLacked e.kind e.sheet e'.sheet e.book e'.book call reply → NamesPass t reply
+    named_by_answer answer = subst (λ (n : ℕ). IsAmong (holder_of reply) n) (passes_is t i b p e w) (applied_among e.kind e.sheet e'.sheet e.book e'.book call reply (told_at t i b p e w) answer (told_is t i b p e w))
+
+    pub named_by_acts : acted e.kind (map_by e.sheet.tree) call ≡ (map_by e'.sheet.tree, reply) → NamesPass t reply
+    named_by_acts acts = made_among e.kind (map_by e.sheet.tree) (map_by e'.sheet.tree) call reply (passes_of t) acts
 
     pub wrote : (p.standing ≡ None → IfSome (holder_of reply) (λ holder. holder.pass ≢ p.number)) → Wrote (opened t) p number call reply q
     wrote by =
@@ -165,7 +170,7 @@ module _ (t : Tree) (i : Identity) (b : Behind) (p : known.Pass) (e e' : Parts) 
     pub told_scanned : e'.sheet.told ≡ e.sheet.told
     told_scanned = ap (λ (s : Sheet). s.told) scan.rest
 
-    pub was_prepared : WasPrepared b (behind_of tools)
+    pub was_prepared : WasPrepared t b (behind_of tools)
     was_prepared =
         let cleared : (behind_of tools).parts.sheet.cleared ≡ e'.sheet.cleared = ap (λ (x : Parts). x.sheet.cleared) back.parts in
         let was : e.sheet.cleared ≡ b.parts.sheet.cleared = ap (λ (x : Parts). x.sheet.cleared) bare_is in
@@ -177,13 +182,16 @@ module _ (t : Tree) (i : Identity) (b : Behind) (p : known.Pass) (e e' : Parts) 
           sheet = ap (λ (x : Parts). x.sheet) back.parts ∙ (ap (λ (s : Sheet). record (unscanned s) { told = None }) scan.rest ∙ (λ k. record (bare_is k).sheet { cleared = sym cleared k }));
           rises = omega (arith, rises, cleared, was);
           scan = e'.sheet.scan;
+          least = scan.answer.least;
+          of = subst (λ (n : ℕ). IsAmong e'.sheet.scan.by n) (passes_is t i b p e w) (scan_among e.sheet.shared e'.sheet (told_at t i b p e w) e.sheet.told scan.answer (told_is t i b p e w));
           freed = ap (λ (x : Parts). x.book) back.parts ∙ (scan.freed ∙ ap (λ (x : Book). after_reclaim x e'.sheet.scan.least) w.book);
         }
 
     pub made_ready : (result : Result (Unit {0}) Shortage) → IsOk result ↔ HasRoom e'.sheet.tree e'.book → IsOk result ↔ IsReady (behind_of tools).parts
     made_ready result is = subst (λ (x : Parts). IsOk result ↔ HasRoom x.sheet.tree x.book) (sym back.parts) is
 
-    short_now : (shortage : Shortage) → IsShortOf e'.sheet e'.book shortage → IsShortNow t q (behind_of tools).parts shortage
+    short_now : (shortage : Shortage) → IsShortOf e'.sheet e'.book shortage → IsShortNow t q b (behind_of tools) shortage
+    unfolding was_prepared
     short_now shortage is =
         let shape = shape_is t i b p e w in
         let of = w.kept.of in
@@ -198,7 +206,7 @@ module _ (t : Tree) (i : Identity) (b : Behind) (p : known.Pass) (e e' : Parts) 
         subst (λ (x : (ℕ × List Range) × Bool). IsShort (record { rows = x.0.0; opened = e'.sheet.opened; ended = e'.sheet.ended; may_hold = x.1 }) x.0.1 shortage) (λ k. ((rows k, m k), held k)) is.short in
         record {
           short = still_short (opened t).rows e'.sheet.opened (length (opened t).opening / 2 + 2) e'.sheet.ended (length q.seen) true (map_seen t q) shortage small (omega (arith, calls)) sized;
-          scan = e'.sheet.scan;
+          prepared = was_prepared;
           counted = subst (λ (x : Parts). IsCounted (record x.sheet { scan = e'.sheet.scan }) shortage) (sym back.parts) (record {
             need = is.counted.need;
             live = is.counted.live;
@@ -217,7 +225,7 @@ module _ (t : Tree) (i : Identity) (b : Behind) (p : known.Pass) (e e' : Parts) 
               (other_if e'.sheet.scan.by p.number shortage.held (scan_other e.sheet.shared e'.sheet (told_at t i b p e w) e.sheet.told scan.answer (told_is t i b p e w) stands)));
         }
 
-    pub shorts : (result : Result (Unit {0}) Shortage) → IfErr result (λ shortage. IsShortOf e'.sheet e'.book shortage) → IfErr result (λ shortage. IsShortNow t q (behind_of tools).parts shortage)
+    pub shorts : (result : Result (Unit {0}) Shortage) → IfErr result (λ shortage. IsShortOf e'.sheet e'.book shortage) → IfErr result (λ shortage. IsShortNow t q b (behind_of tools) shortage)
     shorts (Ok u) is = tt
     shorts (Err shortage) is = short_now shortage is
 

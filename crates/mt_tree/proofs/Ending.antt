@@ -1,13 +1,13 @@
 -- What the end of the rows tells is all that is kept behind the lock.
-use Rattle.std.proofs.Common.{◌≡◌, ℕ, ◌+◌, ◌*◌, ◌/◌, ◌≤◌, false, List, Option, Some, None, length, refl, sym, ap, ◌∙◌, subst, arith}
+use Rattle.std.proofs.Common.{◌≡◌, ℕ, ◌+◌, ◌*◌, ◌≤◌, false, List, Option, Some, None, length, refl, sym, ap, ◌∙◌, subst, arith}
 use Rattle.std.specs.Prelude.{IfSome}
 use Rattle.std.proofs.lemmas.List.{length-map}
 use Rattle.mt_base.specs.declared.kinds.Kind.{Kind}
-use Rattle.mt_base.specs.History.{Record, last_map, map_at}
+use Rattle.mt_base.specs.History.{Record, last_map}
 use Rattle.mt_base.specs.Passes as known
 use Rattle.mt_base.specs.Width.{deepest}
 use Rattle.mt_engine.specs.Engine.{Parts, IsIdle}
-use Rattle.mt_engine.specs.Heights.{HasHeight, IsMeasured}
+use Rattle.mt_engine.specs.Heights.{HasHeight}
 use Rattle.mt_free.specs.Book.{Book}
 use Rattle.mt_life.specs.declared.views.Extent.{Extent}
 use Rattle.mt_pen.specs.Sheets.{sheet_told, told_of, unscanned, HasSeenAll}
@@ -22,7 +22,7 @@ use Rattle.mt_rule.specs.Seats.{record_of, records_of, sheet_of, tree_of, rooted
 use Rattle.mt_rule.specs.Tokens.{Identity}
 use Rattle.mt_engine.proofs.Levelled.{levelled}
 use Rattle.mt_engine.proofs.Moments.{tree_if_lawful}
-use Rattle.mt_tree.specs.Behind.{parts_of, IsKept, IsOf, IsReady}
+use Rattle.mt_tree.specs.Behind.{parts_of, IsKept, IsReady}
 use Rattle.mt_tree.specs.Works.{pass_of_told, records_told}
 use Rattle.mt_tree.proofs.Reading.{take_all}
 use Rattle.mt_tree.proofs.Lists.{some_same}

@@ -88,6 +88,25 @@ pub found_other : (s : Sheet) (told : Told) (by : Option Holder) → ((holder : 
 found_other s told None each closed = tt
 found_other s told (Some holder) each closed = (each holder refl).1 closed
 
+-- the pass that holds rows is one of so many
+abbrev pub IsAmong : Option Holder → ℕ → Type 0
+IsAmong by passes = IfSome by (λ holder. holder.pass < passes)
+
+-- a scan found a section of one of the table's passes
+pub found_among : (told : Told) (by : Option Holder) → ((holder : Holder) → by ≡ Some holder → (holder.pass < told.caller.passes) × (told.caller.standing ≡ None → holder.pass ≢ told.caller.pass)) → IsAmong by told.caller.passes
+found_among told None each = tt
+found_among told (Some holder) each = (each holder refl).0
+
+pub among_if : (by : Option Holder) (passes held : ℕ) → IsAmong by passes → IsAmong (if nat_lt 0 held then by else None) passes
+among_if by passes held is = at (nat_lt 0 held)
+  where
+    at : (b : Bool) → IsAmong (if b then by else None) passes
+    at true = is
+    at false = tt
+
+pub made_among : (kind : Kind) (m m' : List Range) (call : Call) (reply : Reply) (passes : ℕ) → acted kind m call ≡ (m', reply) → IsAmong (holder_of reply) passes
+made_among kind m m' call reply passes is = subst (λ (o : Option Holder). IsAmong o passes) (sym (answers_no_holder kind m m' call reply is)) tt
+
 pub other_if : (by : Option Holder) (pass held : ℕ) → IsOther by pass → IsOther (if nat_lt 0 held then by else None) pass
 other_if by pass held is = at (nat_lt 0 held)
   where
@@ -101,9 +120,19 @@ made_other kind m m' call reply pass is = subst (λ (o : Option Holder). IsOther
 pub scan_other : (shared : Bool) (s' : Sheet) (told : Told) (o : Option Told) → IsScan shared o s'.scan → o ≡ Some told → told.caller.standing ≡ None → IsOther s'.scan.by told.caller.pass
 scan_other shared s' told o scan is closed = found_other s' told s'.scan.by (λ holder by. scan.pass told holder is by) closed
 
+pub scan_among : (shared : Bool) (s' : Sheet) (told : Told) (o : Option Told) → IsScan shared o s'.scan → o ≡ Some told → IsAmong s'.scan.by told.caller.passes
+scan_among shared s' told o scan is = found_among told s'.scan.by (λ holder by. scan.pass told holder is by)
+
 pub applied_other : (kind : Kind) (s s' : Sheet) (book book' : Book) (call : Call) (reply : Reply) (told : Told) → DidOrLacked kind s s' book book' call reply → s.told ≡ Some told → told.caller.standing ≡ None → IsOther (holder_of reply) told.caller.pass
 applied_other kind s s' book book' call reply told (inl did) is closed = made_other kind (map_by s.tree) (map_by s'.tree) call reply told.caller.pass did.acts
 applied_other kind s s' book book' call reply told (inr lacked) is closed =
     let short = lacked.0 in
     subst (λ (o : Option Holder). IsOther o told.caller.pass) (sym (ap holder_of short.refused.told ∙ short.counted.by))
     (other_if s'.scan.by told.caller.pass short.refused.shortage.held (scan_other s.shared s' told s.told short.answer is closed))
+
+pub applied_among : (kind : Kind) (s s' : Sheet) (book book' : Book) (call : Call) (reply : Reply) (told : Told) → DidOrLacked kind s s' book book' call reply → s.told ≡ Some told → IsAmong (holder_of reply) told.caller.passes
+applied_among kind s s' book book' call reply told (inl did) is = made_among kind (map_by s.tree) (map_by s'.tree) call reply told.caller.passes did.acts
+applied_among kind s s' book book' call reply told (inr lacked) is =
+    let short = lacked.0 in
+    subst (λ (o : Option Holder). IsAmong o told.caller.passes) (sym (ap holder_of short.refused.told ∙ short.counted.by))
+    (among_if s'.scan.by told.caller.passes short.refused.shortage.held (scan_among s.shared s' told s.told short.answer is))

@@ -1,15 +1,14 @@
 -- What lies behind the lock of a tree: its pen, and the book of the rows on its table, whose words stand for the map after all calls.
 -- Source: this project's own; the kernel's ma_lock guards the whole tree.
-use Rattle.std.specs.Prelude.{◌≡◌, ◌⊎◌, ℕ, ◌+◌, ◌/◌, ◌≤◌, Option, Some, None, List, [], length}
+use Rattle.std.specs.Prelude.{◌≡◌, ◌⊎◌, ℕ, ◌+◌, ◌/◌, ◌≤◌, Option, Some, None, List, length}
 use Rattle.mt_base.specs.declared.replies.Reply.{Reply}
 use Rattle.mt_base.specs.declared.replies.Reply.TheVariants as replies
 use Rattle.mt_base.specs.History.{last_map}
 use Rattle.mt_engine.specs.Engine.{Parts, IsIdle}
 use Rattle.mt_engine.specs.Heights.{HasHeight}
 use Rattle.mt_engine.specs.Rooms.{HasRoom}
-use Rattle.mt_free.specs.Book.{Book, after_reclaim, new_book}
+use Rattle.mt_free.specs.Book.{Book, new_book}
 use Rattle.mt_pen.specs.Writers.{no_table}
-use Rattle.mt_rows.specs.declared.rows.Scan.{Scan}
 use Rattle.mt_rows.specs.Publish.{map_by}
 use Rattle.mt_rule.specs.declared.views.Moment.{Moment}
 use Rattle.mt_rule.specs.declared.views.PenPart.{PenPart}
@@ -69,13 +68,3 @@ pub record IsRead (b b' : Behind) : Type 0 where
   pub table : b'.table ≡ b.table
   pub records : records_of b'.pen.history ≡ records_of b.pen.history
   pub parts : b'.parts ≡ b.parts
-
--- The section words were scanned, and the held rows are free that no section holds. All words, and the history, are as they were.
-pub record WasPrepared (b b' : Behind) : Type 0 where
-  pub table : b'.table ≡ b.table
-  pub records : records_of b'.pen.history ≡ records_of b.pen.history
-  pub kind : b'.parts.kind ≡ b.parts.kind
-  pub sheet : b'.parts.sheet ≡ record b.parts.sheet { cleared = b'.parts.sheet.cleared }
-  pub rises : b.parts.sheet.cleared ≤ b'.parts.sheet.cleared
-  pub scan : Scan
-  pub freed : b'.parts.book ≡ after_reclaim b.parts.book scan.least

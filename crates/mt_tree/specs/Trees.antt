@@ -1,15 +1,18 @@
 -- A tree that threads share, its passes, and what its calls say of the words that lie behind its lock.
 -- Source: this project's own; the kernel's struct maple_tree and its spinlock.
-use Rattle.std.specs.Prelude.{◌≡◌, ◌≢◌, ℕ, Option, Some, None, IfSome, List, [], ◌∷◌, All, length, map, slice_get}
+use Rattle.std.specs.Prelude.{◌≡◌, ◌≢◌, ◌⊎◌, ℕ, ◌-◌, ◌^◌, ◌≤◌, ◌<◌, Option, Some, None, IfSome, List, [], ◌∷◌, All, length, map, slice_get}
 use Rattle.std.specs.List.{range_with_len}
 use Rattle.atomic_table.specs.declared.shared.Seat.{Seat}
 use Rattle.mt_base.specs.declared.ranges.Range.{Range}
+use Rattle.mt_base.specs.declared.replies.Holder.{Holder}
+use Rattle.mt_base.specs.declared.replies.Reply.{Reply}
 use Rattle.mt_base.specs.declared.replies.Shortage.{Shortage}
 use Rattle.mt_base.specs.History.{History, last_map, limits_after}
 use Rattle.mt_base.specs.Nodes.{IsShort}
 use Rattle.mt_base.specs.Passes as known
-use Rattle.mt_base.specs.Passes.{with_records, new_pass}
-use Rattle.mt_engine.specs.Engine.{Parts, TellsBook}
+use Rattle.mt_base.specs.Passes.{holder_of, with_records, new_pass}
+use Rattle.mt_engine.specs.Engine.{TellsBook}
+use Rattle.mt_free.specs.Book.{after_reclaim}
 use Rattle.mt_rows.specs.declared.rows.Scan.{Scan}
 use Rattle.mt_rows.specs.Publish.{IsCounted}
 use Rattle.mt_rule.specs.declared.passes.Pass.{Pass}
@@ -82,11 +85,30 @@ pub record IsOpen (t : Tree) (p : Pass) (behind : Behind) (seat : Seat (Option B
   pub seen : (pass_in p).seen ≡ records_of behind.pen.history
   pub ended : (pass_in p).ended ≡ length (pass_in p).seen
 
--- Too few rows are free for a store behind all that the pass has seen. The shortage tells the height and the book of the rows,
--- as a scan found them, and no section of the pass itself where it has none open.
-pub record IsShortNow (t : Tree) (p : known.Pass) (e : Parts) (shortage : Shortage) : Type 0 where
-  pub short : IsShort (limits_after (opened t) (length p.seen)) (map_seen t p) shortage
+-- whoever is told to hold rows is a pass of the tree
+abbrev pub NamesPass : Tree → Reply → Type 0
+NamesPass t reply = IfSome (holder_of reply) (λ holder. holder.pass < passes_of t)
+
+-- The section words were scanned, and the held rows are free that no section holds. The least epoch is that of the holder that
+-- the scan found, a pass of the tree; it is the greatest number where no section stands open. All words, and the history, are as
+-- they were.
+pub record WasPrepared (t : Tree) (b b' : Behind) : Type 0 where
+  pub table : b'.table ≡ b.table
+  pub records : records_of b'.pen.history ≡ records_of b.pen.history
+  pub kind : b'.parts.kind ≡ b.parts.kind
+  pub sheet : b'.parts.sheet ≡ record b.parts.sheet { cleared = b'.parts.sheet.cleared }
+  pub rises : b.parts.sheet.cleared ≤ b'.parts.sheet.cleared
   pub scan : Scan
-  pub counted : IsCounted (record e.sheet { scan = scan }) shortage
-  pub tells : TellsBook e.book shortage
+  pub least : ((scan.by ≡ None) × (scan.least ≡ 2 ^ 64 - 1)) ⊎ ((holder : Holder) × (scan.by ≡ Some holder) × (scan.least ≡ holder.epoch))
+  pub of : IfSome scan.by (λ holder. holder.pass < passes_of t)
+  pub freed : b'.parts.book ≡ after_reclaim b.parts.book scan.least
+
+-- Too few rows are free for a store behind all that the pass has seen, when the held rows were freed. The shortage tells the
+-- height and the book of the rows, and whose section holds rows back, as the same scan found it; and no section of the pass
+-- itself where it has none open.
+pub record IsShortNow (t : Tree) (p : known.Pass) (b b' : Behind) (shortage : Shortage) : Type 0 where
+  pub short : IsShort (limits_after (opened t) (length p.seen)) (map_seen t p) shortage
+  pub prepared : WasPrepared t b b'
+  pub counted : IsCounted (record b'.parts.sheet { scan = prepared.scan }) shortage
+  pub tells : TellsBook b'.parts.book shortage
   pub by : p.standing ≡ None → IfSome shortage.by (λ holder. holder.pass ≢ p.number)

@@ -1,12 +1,12 @@
 -- A call at work on the rows of a tree: what it begins with, and what it leaves behind the lock.
 -- Source: this project's own.
-use Rattle.std.specs.Prelude.{◌≡◌, ℕ, Option, Some, None, List, [], ◌∷◌, length}
+use Rattle.std.specs.Prelude.{◌≡◌, Option, Some, None, List, [], ◌∷◌, length}
 use Rattle.atomic_table.specs.declared.badge.Badge.{Badge}
 use Rattle.mt_base.specs.History.{Record}
 use Rattle.mt_base.specs.Passes as known
 use Rattle.mt_engine.specs.Engine.{Parts}
 use Rattle.mt_pen.specs.Sheets.{unscanned}
-use Rattle.mt_rows.specs.Sheet.{Sheet, Told}
+use Rattle.mt_rows.specs.Sheet.{Told}
 use Rattle.mt_rule.specs.declared.passes.Pass.{Pass}
 use Rattle.mt_rule.specs.declared.views.PenPart.{PenPart}
 use Rattle.mt_rule.specs.declared.views.TurnView.{TurnView}

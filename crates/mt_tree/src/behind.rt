@@ -7,8 +7,8 @@ ghost use Rattle.mt_base.specs.Passes.{Wrote};
 ghost use Rattle.mt_engine.specs.Engine.{is_refusal};
 ghost use Rattle.mt_rule.specs.Seats.{records_of};
 ghost use Rattle.mt_rule.specs.Tokens.{pass_in, WasShown};
-ghost use Rattle.mt_tree.specs.Behind.{IsReady, IsRead, IsStored, WasPrepared};
-ghost use Rattle.mt_tree.specs.Trees.{opened, limit_of, map_seen, place_of, IsPassOf, IsShortNow, IsWorn};
+ghost use Rattle.mt_tree.specs.Behind.{IsReady, IsRead, IsStored};
+ghost use Rattle.mt_tree.specs.Trees.{opened, limit_of, map_seen, place_of, IsPassOf, IsShortNow, IsWorn, NamesPass, WasPrepared};
 
 use crate::shapes::{Done, Read, Worn};
 use crate::trees::Tree;
@@ -96,6 +96,7 @@ impl Desk {
         ensures of { IsPassOf tree.now pass.new }
         ensures seen { (pass_in pass.new).seen ≡ records_of self.new.pen.history }
         ensures done { IfOk result (λ d. Wrote (opened tree.now) (pass_in pass.old) d.call call.now d.reply (pass_in pass.new) × (d.call ≤ limit_of tree.now)) }
+        ensures named { IfOk result (λ d. NamesPass tree.now d.reply) }
         ensures worn { IfErr result (λ w. IsWorn tree.now (pass_in pass.old) w (pass_in pass.new) × (self.new ≡ self.old)) }
         ensures kept { IfOk result (λ d. is_refusal d.reply ≡ true → self.new.parts.sheet.tree ≡ self.old.parts.sheet.tree) }
     {
@@ -127,6 +128,7 @@ impl Desk {
         ensures of { IsPassOf tree.now pass.new }
         ensures seen { (pass_in pass.new).seen ≡ records_of self.new.pen.history }
         ensures done { IfOk result (λ d. Wrote (opened tree.now) (pass_in pass.old) d.call (StorePre first last entry) d.reply (pass_in pass.new) × (d.call ≤ limit_of tree.now)) }
+        ensures named { IfOk result (λ d. NamesPass tree.now d.reply) }
         ensures stored { IfOk result (λ d. IsStored d.reply) }
         ensures worn { IfErr result (λ w. IsWorn tree.now (pass_in pass.old) w (pass_in pass.new) × (self.new ≡ self.old)) }
         ensures kept { IfOk result (λ d. is_refusal d.reply ≡ true → self.new.parts.sheet.tree ≡ self.old.parts.sheet.tree) }
@@ -166,12 +168,12 @@ impl Desk {
     pub(crate) fn preallocate(&mut self, tree: &Tree, pass: &mut Pass) -> Result<(), Shortage>
         requires table { self.old.table ≡ place_of tree.now }
         requires pass { IsPassOf tree.now pass.old }
-        ensures prepared { WasPrepared self.old self.new }
+        ensures prepared { WasPrepared tree.now self.old self.new }
         ensures of { IsPassOf tree.now pass.new }
         ensures seen { (pass_in pass.new).seen ≡ records_of self.new.pen.history }
         ensures saw { known.Saw (opened tree.now) (pass_in pass.old) (pass_in pass.new) }
         ensures ready { IsOk result ↔ IsReady self.new.parts }
-        ensures short { IfErr result (λ shortage. IsShortNow tree.now (pass_in pass.new) self.new.parts shortage) }
+        ensures short { IfErr result (λ shortage. IsShortNow tree.now (pass_in pass.new) self.old self.new shortage) }
     {
         works::preallocate::<Brand>(&mut self.tools, tree, pass)
     }

@@ -230,6 +230,11 @@ impl Tree {
     /// A new tree of the same kind that opens with this tree's map, as it is after all that the pass has then seen, and the new
     /// tree's passes. A shape that is out of range is refused by its first field that is, before any memory is taken; then one
     /// of another kind; then one of fewer rows than this tree has in use.
+    ///
+    /// # Errors
+    ///
+    /// `BadShape`; `Invalid` where the kind is another; `NoMemory` where there is none for the new rows; `NoNodes` where they are too
+    /// few; `NoMemory` where there is none for the new tree.
     pub fn dup(
         &self,
         rt: &impl Wait,

@@ -8,8 +8,8 @@ ghost use Rattle.mt_base.specs.Passes.{Saw, Wrote};
 ghost use Rattle.mt_engine.specs.Engine.{is_refusal};
 ghost use Rattle.mt_rule.specs.declared.views.TurnView.{TurnView};
 ghost use Rattle.mt_rule.specs.Tokens.{pass_in};
-ghost use Rattle.mt_tree.specs.Behind.{Behind, IsReady, IsRead, IsStored, WasPrepared};
-ghost use Rattle.mt_tree.specs.Trees.{opened, limit_of, map_seen, IsPassOf, IsOpen, IsShortNow, IsWorn};
+ghost use Rattle.mt_tree.specs.Behind.{Behind, IsReady, IsRead, IsStored};
+ghost use Rattle.mt_tree.specs.Trees.{opened, limit_of, map_seen, IsPassOf, IsOpen, IsShortNow, IsWorn, NamesPass, WasPrepared};
 
 use crate::behind::Desk;
 use crate::shapes::{Done, Read, Worn};
@@ -72,6 +72,7 @@ fn act_under(
     requires { IsOpen tree.now pass.old taken.old.value taken.old.seat }
     ensures open { IsOpen tree.now pass.new taken.new.value taken.new.seat }
     ensures done { IfOk result (λ d. Wrote (opened tree.now) (pass_in pass.old) d.call call.now d.reply (pass_in pass.new) × (d.call ≤ limit_of tree.now)) }
+    ensures named { IfOk result (λ d. NamesPass tree.now d.reply) }
     ensures worn { IfErr result (λ w. IsWorn tree.now (pass_in pass.old) w (pass_in pass.new) × (taken.new.value ≡ taken.old.value)) }
     ensures kept { IfOk result (λ d. is_refusal d.reply ≡ true → taken.new.value.parts.sheet.tree ≡ taken.old.value.parts.sheet.tree) }
 {
@@ -90,6 +91,7 @@ fn store_under(
     requires ready { IsReady taken.old.value.parts }
     ensures open { IsOpen tree.now pass.new taken.new.value taken.new.seat }
     ensures done { IfOk result (λ d. Wrote (opened tree.now) (pass_in pass.old) d.call (StorePre first last entry) d.reply (pass_in pass.new) × (d.call ≤ limit_of tree.now)) }
+    ensures named { IfOk result (λ d. NamesPass tree.now d.reply) }
     ensures stored { IfOk result (λ d. IsStored d.reply) }
     ensures worn { IfErr result (λ w. IsWorn tree.now (pass_in pass.old) w (pass_in pass.new) × (taken.new.value ≡ taken.old.value)) }
     ensures kept { IfOk result (λ d. is_refusal d.reply ≡ true → taken.new.value.parts.sheet.tree ≡ taken.old.value.parts.sheet.tree) }
@@ -116,10 +118,10 @@ fn ask_under(
 fn preallocate_under(taken: &mut Taken<Desk>, tree: &Tree, pass: &mut Pass) -> Result<(), Shortage>
     requires { IsOpen tree.now pass.old taken.old.value taken.old.seat }
     ensures open { IsOpen tree.now pass.new taken.new.value taken.new.seat }
-    ensures prepared { WasPrepared taken.old.value taken.new.value }
+    ensures prepared { WasPrepared tree.now taken.old.value taken.new.value }
     ensures pass { pass_in pass.new ≡ pass_in pass.old }
     ensures ready { IsOk result ↔ IsReady taken.new.value.parts }
-    ensures short { IfErr result (λ shortage. IsShortNow tree.now (pass_in pass.new) taken.new.value.parts shortage) }
+    ensures short { IfErr result (λ shortage. IsShortNow tree.now (pass_in pass.new) taken.old.value taken.new.value shortage) }
 {
     taken.value.preallocate(tree, pass)
 }
@@ -145,6 +147,7 @@ impl<'a> Locked<'a, Taken<Desk>> {
         ensures same_reference { self.new.pass.ghost_name ≡ self.old.pass.ghost_name }
         ensures tree { self.new.tree ≡ self.old.tree }
         ensures done { IfOk result (λ d. Wrote (opened self.old.tree.now) (pass_in self.old.pass.now) d.call call.now d.reply (pass_in self.new.pass.now) × (d.call ≤ limit_of self.old.tree.now)) }
+        ensures named { IfOk result (λ d. NamesPass self.old.tree.now d.reply) }
         ensures worn { IfErr result (λ w. IsWorn self.old.tree.now (pass_in self.old.pass.now) w (pass_in self.new.pass.now) × (self.new.taken.value ≡ self.old.taken.value)) }
         ensures kept { IfOk result (λ d. is_refusal d.reply ≡ true → self.new.taken.value.parts.sheet.tree ≡ self.old.taken.value.parts.sheet.tree) }
     {
@@ -169,9 +172,9 @@ impl<'a> Locked<'a, Taken<Desk>> {
         ensures same_reference { self.new.pass.ghost_name ≡ self.old.pass.ghost_name }
         ensures tree { self.new.tree ≡ self.old.tree }
         ensures pass { pass_in self.new.pass.now ≡ pass_in self.old.pass.now }
-        ensures prepared { WasPrepared self.old.taken.value self.new.taken.value }
+        ensures prepared { WasPrepared self.old.tree.now self.old.taken.value self.new.taken.value }
         ensures ready { IsOk result ↔ IsReady self.new.taken.value.parts }
-        ensures short { IfErr result (λ shortage. IsShortNow self.old.tree.now (pass_in self.old.pass.now) self.new.taken.value.parts shortage) }
+        ensures short { IfErr result (λ shortage. IsShortNow self.old.tree.now (pass_in self.old.pass.now) self.old.taken.value self.new.taken.value shortage) }
     {
         preallocate_under(&mut self.taken, self.tree, self.pass)
     }
@@ -189,6 +192,7 @@ impl<'a> Locked<'a, Taken<Desk>> {
         ensures same_reference { self.new.pass.ghost_name ≡ self.old.pass.ghost_name }
         ensures tree { self.new.tree ≡ self.old.tree }
         ensures done { IfOk result (λ d. Wrote (opened self.old.tree.now) (pass_in self.old.pass.now) d.call (StorePre first last entry) d.reply (pass_in self.new.pass.now) × (d.call ≤ limit_of self.old.tree.now)) }
+        ensures named { IfOk result (λ d. NamesPass self.old.tree.now d.reply) }
         ensures stored { IfOk result (λ d. IsStored d.reply) }
         ensures worn { IfErr result (λ w. IsWorn self.old.tree.now (pass_in self.old.pass.now) w (pass_in self.new.pass.now) × (self.new.taken.value ≡ self.old.taken.value)) }
         ensures kept { IfOk result (λ d. is_refusal d.reply ≡ true → self.new.taken.value.parts.sheet.tree ≡ self.old.taken.value.parts.sheet.tree) }

@@ -28,6 +28,10 @@ use std::snapshot::Snapshot;
 impl Tree {
     /// An empty tree, and its passes, numbered from 0. A shape that is out of range is refused before any memory is taken, by its
     /// first field that is.
+    ///
+    /// # Errors
+    ///
+    /// `BadShape` with the first field that is out of range; `NoMemory` where memory ran out.
     pub fn make(alloc: Global, shape: Shape) -> Result<(Tree, Vec<Pass>), MakeError>
         ensures bad { (field : Field) → (result ≡ Err (MakeError.BadShape field)) ↔ (first_bad shape ≡ Some field) }
         ensures new { IfOk result (λ r. IsNew shape [] r.0 r.1.items) }
@@ -52,6 +56,10 @@ impl Tree {
     }
 
     /// The same as `make`, with the words of an empty tree of as many rows at hand: none are written for this tree alone.
+    ///
+    /// # Errors
+    ///
+    /// `BadShape` with the first field that is out of range; `NoMemory` where memory ran out.
     pub fn make_over(
         alloc: Global,
         shape: Shape,

@@ -18,7 +18,7 @@ use std::sync::ledger::Ledger;
 
 impl Tree {
     /// The range that an index lies in, after some number of calls from `lo` to `hi`. The pass has opened a section at `lo`
-    /// and closed it.
+    /// and closed it. There is none where the index lies in a hole.
     pub fn load_range<L: Ledger>(
         &self,
         pass: &mut Pass,
@@ -39,7 +39,7 @@ impl Tree {
         }
     }
 
-    /// The entry that an index holds.
+    /// The entry that an index holds. There is none where the index lies in a hole.
     pub fn load<L: Ledger>(
         &self,
         pass: &mut Pass,
@@ -87,8 +87,8 @@ impl Tree {
     ///
     /// # Errors
     ///
-    /// `Moved` where the answer lay in a leaf beside that of the index, and that leaf was replaced meanwhile. What the pass knows
-    /// then has only grown.
+    /// `Moved` where the answer does not lie in the leaf of the index, and that leaf was replaced while the one beside it was
+    /// read. What the pass knows then has only grown.
     pub fn next<L: Ledger>(
         &self,
         pass: &mut Pass,
@@ -114,8 +114,8 @@ impl Tree {
     ///
     /// # Errors
     ///
-    /// `Moved` where the answer lay in a leaf beside that of the index, and that leaf was replaced meanwhile. What the pass knows
-    /// then has only grown.
+    /// `Moved` where the answer does not lie in the leaf of the index, and that leaf was replaced while the one beside it was
+    /// read. What the pass knows then has only grown.
     pub fn prev<L: Ledger>(
         &self,
         pass: &mut Pass,
@@ -141,8 +141,8 @@ impl Tree {
     ///
     /// # Errors
     ///
-    /// `Moved` where the answer lay in a leaf beside that of the index, and that leaf was replaced meanwhile. What the pass knows
-    /// then has only grown.
+    /// `Moved` where the answer does not lie in the leaf of the index, and that leaf was replaced while the one beside it was
+    /// read. What the pass knows then has only grown.
     pub fn rfind<L: Ledger>(
         &self,
         pass: &mut Pass,

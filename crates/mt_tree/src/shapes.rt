@@ -6,12 +6,15 @@ ghost use Rattle.mt_tree.specs.Shapes as defined;
 use mt_base::{Kind, MOST_ROWS, Reply};
 use mt_rule::{MOST_CALLS, MOST_PASSES};
 
-/// What a tree is made of. Its rows are 4 to 65,504, its passes 1 to 62, and the calls that it may have 1 to 2^62 - 1.
+/// What a tree is made of.
 #[derive(Clone, Copy, Debug, PartialEq, Eq)]
 pub struct Shape {
     pub kind: Kind,
+    /// How many rows of 32 words, 256 bytes, it has: 4 to 65,504.
     pub rows: u64,
+    /// How many threads can use it at once: 1 to 62.
     pub passes: u32,
+    /// How many calls it may have: 1 to 2^62 - 1.
     pub calls: u64,
 }
 

@@ -7,8 +7,8 @@ ghost use Rattle.mt_engine.specs.Engine.{is_refusal, IsApplied};
 ghost use Rattle.mt_rule.specs.Seats.{records_of};
 ghost use Rattle.mt_rule.specs.Tokens.{pass_in, turn_seat, WasShown};
 ghost use Rattle.mt_pen.specs.Sheets.{sheet_told};
-ghost use Rattle.mt_tree.specs.Behind.{behind_of, IsAtRest, IsReady, IsRead, IsStored, WasPrepared};
-ghost use Rattle.mt_tree.specs.Trees.{opened, limit_of, map_seen, place_of, IsPassOf, IsShortNow};
+ghost use Rattle.mt_tree.specs.Behind.{behind_of, IsAtRest, IsReady, IsRead, IsStored};
+ghost use Rattle.mt_tree.specs.Trees.{opened, limit_of, map_seen, place_of, IsPassOf, IsShortNow, NamesPass, WasPrepared};
 ghost use Rattle.mt_tree.specs.Works.{AreBack, IsSeatOf, IsWorker, records_told, shown_pass};
 
 use crate::behind::Tools;
@@ -86,6 +86,7 @@ pub(crate) fn act<W: Writer>(
     ensures of { IsPassOf tree.now pass.new }
     ensures seen { (pass_in pass.new).seen ≡ records_of (behind_of tools.new).pen.history }
     ensures wrote { known.Wrote (opened tree.now) (pass_in pass.old) (length (behind_of tools.old).pen.history + 1) call.now result (pass_in pass.new) }
+    ensures named { NamesPass tree.now result }
     ensures kept { is_refusal result ≡ true → (behind_of tools.new).parts.sheet.tree ≡ (behind_of tools.old).parts.sheet.tree }
 {
     let engine = begin::<W>(tools, tree, pass);
@@ -111,6 +112,7 @@ pub(crate) fn store_prealloc<W: Writer>(
     ensures of { IsPassOf tree.now pass.new }
     ensures seen { (pass_in pass.new).seen ≡ records_of (behind_of tools.new).pen.history }
     ensures wrote { known.Wrote (opened tree.now) (pass_in pass.old) (length (behind_of tools.old).pen.history + 1) (StorePre first last entry) result (pass_in pass.new) }
+    ensures named { NamesPass tree.now result }
     ensures stored { IsStored result }
     ensures kept { is_refusal result ≡ true → (behind_of tools.new).parts.sheet.tree ≡ (behind_of tools.old).parts.sheet.tree }
 {
@@ -149,12 +151,12 @@ pub(crate) fn preallocate<W: Writer>(
 ) -> Result<(), Shortage>
     requires { IsWorker tree.now tools.old pass.old W.table W.turn }
     ensures rest { IsAtRest tools.new }
-    ensures prepared { WasPrepared (behind_of tools.old) (behind_of tools.new) }
+    ensures prepared { WasPrepared tree.now (behind_of tools.old) (behind_of tools.new) }
     ensures of { IsPassOf tree.now pass.new }
     ensures seen { (pass_in pass.new).seen ≡ records_of (behind_of tools.new).pen.history }
     ensures saw { known.Saw (opened tree.now) (pass_in pass.old) (pass_in pass.new) }
     ensures ready { IsOk result ↔ IsReady (behind_of tools.new).parts }
-    ensures short { IfErr result (λ shortage. IsShortNow tree.now (pass_in pass.new) (behind_of tools.new).parts shortage) }
+    ensures short { IfErr result (λ shortage. IsShortNow tree.now (pass_in pass.new) (behind_of tools.old) (behind_of tools.new) shortage) }
 {
     let mut engine = begin::<W>(tools, tree, pass);
     let made = engine.preallocate();

@@ -4,7 +4,7 @@ ghost use Rattle.std.specs.Prelude.{◌≡◌, ◌≤◌, IfOk, IfErr};
 ghost use Rattle.mt_base.specs.declared.calls.Call.TheVariants as calls;
 ghost use Rattle.mt_base.specs.Passes.{Wrote, Learned};
 ghost use Rattle.mt_rule.specs.Tokens.{pass_in, note_in};
-ghost use Rattle.mt_tree.specs.Trees.{opened, limit_of, IsPassOf, IsNoteOf, IsWorn};
+ghost use Rattle.mt_tree.specs.Trees.{opened, limit_of, IsPassOf, IsNoteOf, IsWorn, NamesPass};
 
 use crate::shapes::{Done, Worn};
 use crate::trees::Tree;
@@ -14,10 +14,15 @@ use std::sync::Wait;
 
 impl Tree {
     /// Makes one call, any of those below, under a lock of its own.
+    ///
+    /// # Errors
+    ///
+    /// `Worn` where the tree has had as many calls as it may have; the pass has then seen them all, and nothing is changed.
     pub fn act(&self, rt: &impl Wait, pass: &mut Pass, call: &Call) -> Result<Done, Worn>
         requires { IsPassOf self.now pass.old }
         ensures of { IsPassOf self.now pass.new }
         ensures done { IfOk result (λ d. Wrote (opened self.now) (pass_in pass.old) d.call call.now d.reply (pass_in pass.new) × (d.call ≤ limit_of self.now)) }
+        ensures named { IfOk result (λ d. NamesPass self.now d.reply) }
         ensures worn { IfErr result (λ w. IsWorn self.now (pass_in pass.old) w (pass_in pass.new)) }
     {
         let mut taken = self.turn.take(rt, pass);
@@ -27,6 +32,10 @@ impl Tree {
     }
 
     /// Stores an entry over a range, or nothing there where the entry is 0.
+    ///
+    /// # Errors
+    ///
+    /// `Worn` where the tree has had as many calls as it may have; the pass has then seen them all, and nothing is changed.
     pub fn store_range(
         &self,
         rt: &impl Wait,
@@ -38,12 +47,18 @@ impl Tree {
         requires { IsPassOf self.now pass.old }
         ensures of { IsPassOf self.now pass.new }
         ensures done { IfOk result (λ d. Wrote (opened self.now) (pass_in pass.old) d.call (calls.Store first last entry) d.reply (pass_in pass.new) × (d.call ≤ limit_of self.now)) }
+        ensures named { IfOk result (λ d. NamesPass self.now d.reply) }
         ensures worn { IfErr result (λ w. IsWorn self.now (pass_in pass.old) w (pass_in pass.new)) }
     {
         self.act(rt, pass, &Call::Store { first, last, entry })
     }
 
-    /// The same, where the rows that it may need are to be at hand.
+    /// Stores as `store_range` does, but wants the rows of a store that changes nodes whatever it comes to: it is refused with
+    /// `NoNodes` where they are not free.
+    ///
+    /// # Errors
+    ///
+    /// `Worn` where the tree has had as many calls as it may have; the pass has then seen them all, and nothing is changed.
     pub fn store_pre(
         &self,
         rt: &impl Wait,
@@ -55,12 +70,17 @@ impl Tree {
         requires { IsPassOf self.now pass.old }
         ensures of { IsPassOf self.now pass.new }
         ensures done { IfOk result (λ d. Wrote (opened self.now) (pass_in pass.old) d.call (calls.StorePre first last entry) d.reply (pass_in pass.new) × (d.call ≤ limit_of self.now)) }
+        ensures named { IfOk result (λ d. NamesPass self.now d.reply) }
         ensures worn { IfErr result (λ w. IsWorn self.now (pass_in pass.old) w (pass_in pass.new)) }
     {
         self.act(rt, pass, &Call::StorePre { first, last, entry })
     }
 
     /// Stores an entry over a range that holds none.
+    ///
+    /// # Errors
+    ///
+    /// `Worn` where the tree has had as many calls as it may have; the pass has then seen them all, and nothing is changed.
     pub fn insert_range(
         &self,
         rt: &impl Wait,
@@ -72,22 +92,32 @@ impl Tree {
         requires { IsPassOf self.now pass.old }
         ensures of { IsPassOf self.now pass.new }
         ensures done { IfOk result (λ d. Wrote (opened self.now) (pass_in pass.old) d.call (calls.Insert first last entry) d.reply (pass_in pass.new) × (d.call ≤ limit_of self.now)) }
+        ensures named { IfOk result (λ d. NamesPass self.now d.reply) }
         ensures worn { IfErr result (λ w. IsWorn self.now (pass_in pass.old) w (pass_in pass.new)) }
     {
         self.act(rt, pass, &Call::Insert { first, last, entry })
     }
 
     /// Removes the range that holds an index.
+    ///
+    /// # Errors
+    ///
+    /// `Worn` where the tree has had as many calls as it may have; the pass has then seen them all, and nothing is changed.
     pub fn erase(&self, rt: &impl Wait, pass: &mut Pass, index: u64) -> Result<Done, Worn>
         requires { IsPassOf self.now pass.old }
         ensures of { IsPassOf self.now pass.new }
         ensures done { IfOk result (λ d. Wrote (opened self.now) (pass_in pass.old) d.call (calls.Erase index) d.reply (pass_in pass.new) × (d.call ≤ limit_of self.now)) }
+        ensures named { IfOk result (λ d. NamesPass self.now d.reply) }
         ensures worn { IfErr result (λ w. IsWorn self.now (pass_in pass.old) w (pass_in pass.new)) }
     {
         self.act(rt, pass, &Call::Erase { index })
     }
 
     /// Stores an entry over so many free indexes of a window, the lowest there are.
+    ///
+    /// # Errors
+    ///
+    /// `Worn` where the tree has had as many calls as it may have; the pass has then seen them all, and nothing is changed.
     pub fn alloc_range(
         &self,
         rt: &impl Wait,
@@ -100,6 +130,7 @@ impl Tree {
         requires { IsPassOf self.now pass.old }
         ensures of { IsPassOf self.now pass.new }
         ensures done { IfOk result (λ d. Wrote (opened self.now) (pass_in pass.old) d.call (calls.Alloc size min max entry) d.reply (pass_in pass.new) × (d.call ≤ limit_of self.now)) }
+        ensures named { IfOk result (λ d. NamesPass self.now d.reply) }
         ensures worn { IfErr result (λ w. IsWorn self.now (pass_in pass.old) w (pass_in pass.new)) }
     {
         self.act(
@@ -115,6 +146,10 @@ impl Tree {
     }
 
     /// Stores an entry over so many free indexes of a window, the highest there are.
+    ///
+    /// # Errors
+    ///
+    /// `Worn` where the tree has had as many calls as it may have; the pass has then seen them all, and nothing is changed.
     pub fn alloc_rrange(
         &self,
         rt: &impl Wait,
@@ -127,6 +162,7 @@ impl Tree {
         requires { IsPassOf self.now pass.old }
         ensures of { IsPassOf self.now pass.new }
         ensures done { IfOk result (λ d. Wrote (opened self.now) (pass_in pass.old) d.call (calls.Ralloc size min max entry) d.reply (pass_in pass.new) × (d.call ≤ limit_of self.now)) }
+        ensures named { IfOk result (λ d. NamesPass self.now d.reply) }
         ensures worn { IfErr result (λ w. IsWorn self.now (pass_in pass.old) w (pass_in pass.new)) }
     {
         self.act(
@@ -141,7 +177,12 @@ impl Tree {
         )
     }
 
-    /// Tells where so many indexes of a window are free, the lowest.
+    /// Tells the lowest place where so many indexes of a window are free. It stores nothing, but takes the lock and is a call of the
+    /// history.
+    ///
+    /// # Errors
+    ///
+    /// `Worn` where the tree has had as many calls as it may have; the pass has then seen them all, and nothing is changed.
     pub fn empty_area(
         &self,
         rt: &impl Wait,
@@ -153,12 +194,18 @@ impl Tree {
         requires { IsPassOf self.now pass.old }
         ensures of { IsPassOf self.now pass.new }
         ensures done { IfOk result (λ d. Wrote (opened self.now) (pass_in pass.old) d.call (calls.Gap size min max) d.reply (pass_in pass.new) × (d.call ≤ limit_of self.now)) }
+        ensures named { IfOk result (λ d. NamesPass self.now d.reply) }
         ensures worn { IfErr result (λ w. IsWorn self.now (pass_in pass.old) w (pass_in pass.new)) }
     {
         self.act(rt, pass, &Call::Gap { size, min, max })
     }
 
-    /// Tells where so many indexes of a window are free, the highest.
+    /// Tells the highest place where so many indexes of a window are free. It stores nothing, but takes the lock and is a call of the
+    /// history.
+    ///
+    /// # Errors
+    ///
+    /// `Worn` where the tree has had as many calls as it may have; the pass has then seen them all, and nothing is changed.
     pub fn empty_area_rev(
         &self,
         rt: &impl Wait,
@@ -170,16 +217,22 @@ impl Tree {
         requires { IsPassOf self.now pass.old }
         ensures of { IsPassOf self.now pass.new }
         ensures done { IfOk result (λ d. Wrote (opened self.now) (pass_in pass.old) d.call (calls.Rgap size min max) d.reply (pass_in pass.new) × (d.call ≤ limit_of self.now)) }
+        ensures named { IfOk result (λ d. NamesPass self.now d.reply) }
         ensures worn { IfErr result (λ w. IsWorn self.now (pass_in pass.old) w (pass_in pass.new)) }
     {
         self.act(rt, pass, &Call::Rgap { size, min, max })
     }
 
     /// Removes all ranges.
+    ///
+    /// # Errors
+    ///
+    /// `Worn` where the tree has had as many calls as it may have; the pass has then seen them all, and nothing is changed.
     pub fn clear(&self, rt: &impl Wait, pass: &mut Pass) -> Result<Done, Worn>
         requires { IsPassOf self.now pass.old }
         ensures of { IsPassOf self.now pass.new }
         ensures done { IfOk result (λ d. Wrote (opened self.now) (pass_in pass.old) d.call calls.Clear d.reply (pass_in pass.new) × (d.call ≤ limit_of self.now)) }
+        ensures named { IfOk result (λ d. NamesPass self.now d.reply) }
         ensures worn { IfErr result (λ w. IsWorn self.now (pass_in pass.old) w (pass_in pass.new)) }
     {
         self.act(rt, pass, &Call::Clear)

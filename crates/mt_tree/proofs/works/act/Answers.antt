@@ -1,5 +1,5 @@
 use Rattle.mt_tree.proofs.AtWork.{at_work, one_more_fits}
-use Rattle.mt_tree.proofs.Calling.{by_answer, refused_still, seen_then, tree_back, wrote}
+use Rattle.mt_tree.proofs.Calling.{by_answer, named_by_answer, refused_still, seen_then, tree_back, wrote}
 use Rattle.mt_tree.proofs.works.act.Goals as goal
 
 pub end-requires-clause-few : goal.end-requires-clause-few
@@ -18,6 +18,12 @@ returns-clause-wrote g c =
     let applied = c.applied-engine.ensures.applied in
     wrote _ _ _ _ _ _ _ _ w c.end.ensures c.args.call.now c.applied-engine.result.1 applied.ended
     (by_answer _ _ _ _ _ _ _ _ w c.end.ensures c.args.call.now c.applied-engine.result.1 applied.ended applied.answer)
+
+pub returns-clause-named : goal.returns-clause-named
+returns-clause-named g c =
+    let w = at_work c.args.tree.now c.args.tools.now c.args.pass.now g.W.Writer.table g.W.Writer.turn c.begin-engine.result c.requires.worker c.begin-engine.ensures.kind c.begin-engine.ensures.book c.begin-engine.ensures.sheet c.begin-engine.ensures.shown in
+    let applied = c.applied-engine.ensures.applied in
+    named_by_answer _ _ _ _ _ _ _ _ w c.end.ensures c.args.call.now c.applied-engine.result.1 applied.ended applied.answer
 
 pub returns-clause-kept : goal.returns-clause-kept
 returns-clause-kept g c =

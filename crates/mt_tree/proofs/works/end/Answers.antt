@@ -2,7 +2,6 @@ use Rattle.std.proofs.Common.{◌≡◌, ◌≤◌, None, length, sym, ap, ◌�
 use Rattle.atomic_table.specs.declared.badge.Badge.{Badge}
 use Rattle.mt_base.specs.Passes.{IsSound}
 use Rattle.mt_engine.specs.Engine.{IsIdle}
-use Rattle.mt_free.specs.Book.{Book}
 use Rattle.mt_pen.specs.Sheets.{sheet_told, unscanned}
 use Rattle.mt_pen.specs.Works.{OpensSmall}
 use Rattle.mt_rows.specs.Sheet.{Sheet}

@@ -5,7 +5,7 @@ use Rattle.mt_free.specs.Book.{Book}
 use Rattle.mt_rows.specs.Publish.{map_by}
 use Rattle.mt_rows.specs.Sheet.{Rooted}
 use Rattle.mt_tree.proofs.AtWork.{at_work, one_more_fits, tree_is}
-use Rattle.mt_tree.proofs.Calling.{by_acts, is_stored, seen_then, tree_back, wrote}
+use Rattle.mt_tree.proofs.Calling.{by_acts, is_stored, named_by_acts, seen_then, tree_back, wrote}
 use Rattle.mt_tree.proofs.works.store_prealloc.Goals as goal
 
 pub store_prealloc-reply-requires-clause-ready : goal.store_prealloc-reply-requires-clause-ready
@@ -30,6 +30,12 @@ returns-clause-wrote g c =
     let call = StorePre c.args.first c.args.last c.args.entry in
     wrote _ _ _ _ _ _ _ _ w c.end.ensures call c.store_prealloc-reply.result stored.ended
     (by_acts _ _ _ _ _ _ _ _ w c.end.ensures call c.store_prealloc-reply.result stored.ended stored.acts)
+
+pub returns-clause-named : goal.returns-clause-named
+returns-clause-named g c =
+    let w = at_work c.args.tree.now c.args.tools.now c.args.pass.now g.W.Writer.table g.W.Writer.turn c.begin-engine.result c.requires.worker c.begin-engine.ensures.kind c.begin-engine.ensures.book c.begin-engine.ensures.sheet c.begin-engine.ensures.shown in
+    let stored = c.store_prealloc-reply.ensures.stored in
+    named_by_acts _ _ _ _ _ _ _ _ w c.end.ensures (StorePre c.args.first c.args.last c.args.entry) c.store_prealloc-reply.result stored.ended stored.acts
 
 pub returns-clause-stored : goal.returns-clause-stored
 returns-clause-stored g c =
