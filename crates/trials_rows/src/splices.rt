@@ -7,6 +7,7 @@ ghost use Rattle.mt_rows.specs.Publish.{map_by};
 ghost use Rattle.mt_rows.specs.Sheet.{IsPlace, OnlyReads};
 ghost use Rattle.mt_splice.specs.Between.{IsBetweenCalls};
 
+use crate::asserts::same;
 use mt_base::{Call, FIRST_ROW, Kind, MOST_TAKEN, NoMemory, Range, Reply, cols, is_reserved};
 use mt_free::RowBook;
 use mt_list::{ListMap, Ranges};
@@ -23,6 +24,12 @@ const TOP: u64 = u64::MAX;
 
 /// As many rows as the trees of these tests have.
 const ROWS: u64 = 400;
+
+macro_rules! range {
+    ($first:expr, $last:expr, $entry:expr) => {
+        Range { first: $first, last: $last, entry: $entry }
+    };
+}
 
 /// Appends the words of a row.
 fn push_row(rows: &mut PlainRows, row: u32, words: &mut Vec<u64>) -> Result<(), NoMemory>
@@ -156,13 +163,14 @@ impl Tree {
         let root = root_of(&mut self.rows);
         let words = words_of(&mut self.rows, alloc)?;
         let ranges = map_in(alloc, words.as_slice(), root)?;
-        assert_eq!(rt;
+        same(
+            rt,
             ranges.as_slice(),
             self.list.list(alloc)?.as_slice(),
-            "after {last:?}"
+            last,
         );
         let reached = reached_in(alloc, words.as_slice(), root)?;
-        assert_eq!(rt; reached.len() as u64, self.book.live(), "after {last:?}");
+        same(rt, reached.len() as u64, self.book.live(), last);
         Ok(())
     }
 
@@ -191,7 +199,7 @@ impl Tree {
         assert!(rt; root != 0);
         empty(&mut self.rows, &mut self.book);
         self.list.act(&Call::Clear)?;
-        self.expect_same(rt, alloc, range(0, TOP, 0))
+        self.expect_same(rt, alloc, range!(0, TOP, 0))
     }
 
     /// Stores each of these ranges.
@@ -249,42 +257,33 @@ fn expect_each(
     rt: &impl Abort,
     alloc: Global,
     before: &[Range],
-    cases: &[(Range, Shape)],
+    cases: &[Case],
 ) -> Result<(), NoMemory> {
     assert!(rt; before.len() < 1000);
     for (range, want) in cases {
         let mut tree = Tree::new(alloc)?;
         tree.store_all(rt, alloc, before)?;
         let shape = tree.shape_after(rt, alloc, *range)?;
-        assert_eq!(rt; shape, *want, "after {range:?}");
+        same(rt, shape, *want, *range);
     }
     Ok(())
 }
 
+/// A store, and what it made of a tree.
+type Case = (Range, Shape);
+
 /// A store that was published at the root word.
-fn at_root(height: u32, live: u64, taken: u64, gone: u64) -> Shape {
-    Shape {
-        at_root: true,
-        height,
-        live,
-        taken,
-        gone,
-    }
+macro_rules! at_root {
+    ($height:expr, $live:expr, $taken:expr, $gone:expr) => {
+        Shape { at_root: true, height: $height, live: $live, taken: $taken, gone: $gone }
+    };
 }
 
 /// A store that was published in a slot.
-fn in_slot(height: u32, live: u64, taken: u64, gone: u64) -> Shape {
-    Shape {
-        at_root: false,
-        height,
-        live,
-        taken,
-        gone,
-    }
-}
-
-fn range(first: u64, last: u64, entry: u64) -> Range {
-    Range { first, last, entry }
+macro_rules! in_slot {
+    ($height:expr, $live:expr, $taken:expr, $gone:expr) => {
+        Shape { at_root: false, height: $height, live: $live, taken: $taken, gone: $gone }
+    };
 }
 
 /// So many ranges of one index, at the even indexes.
@@ -292,7 +291,7 @@ fn singles(alloc: Global, count: u32) -> Result<Vec<Range>, NoMemory> {
     let mut ranges = Vec::new(alloc);
     for n in 0..count {
         let at = 2 * u64::from(n);
-        ranges.push(range(at, at, 1))?;
+        ranges.push(range!(at, at, 1))?;
     }
     Ok(ranges)
 }
@@ -302,9 +301,108 @@ fn tens(alloc: Global, count: u32) -> Result<Vec<Range>, NoMemory> {
     let mut ranges = Vec::new(alloc);
     for n in 0..count {
         let first = 10 * u64::from(n);
-        ranges.push(range(first, first + 9, 1))?;
+        ranges.push(range!(first, first + 9, 1))?;
     }
     Ok(ranges)
+}
+
+/// No leaf.
+const EMPTY: &[Case] = &[
+    (range!(5, 5, 1), at_root!(1, 1, 1, 0)),
+    (range!(0, TOP, 8), at_root!(1, 1, 1, 0)),
+];
+
+/// One leaf, of 16 items.
+const LEAF: &[Case] = &[
+    // its items are others
+    (range!(0, 0, 9), at_root!(1, 1, 1, 1)),
+    // 17 items: two leaves, and a root above them
+    (range!(16, 16, 1), at_root!(2, 3, 3, 1)),
+    (range!(0, TOP, 0), at_root!(0, 0, 0, 1)),
+    (range!(0, TOP, 8), at_root!(1, 1, 1, 1)),
+];
+
+/// Leaves of 11, 10, 10 and 15 items, which end at 10, 20 and 30.
+const BELOW_A_ROOT: &[Case] = &[
+    // in place
+    (range!(0, 0, 9), in_slot!(2, 5, 1, 1)),
+    // the last leaf is split in two
+    (range!(46, 46, 1), at_root!(2, 6, 3, 2)),
+    // the first leaf has too few items, and takes those of the leaf behind
+    (range!(0, 7, 3), at_root!(2, 4, 2, 3)),
+    // the last leaf has too few items, and takes those of the leaf before
+    (range!(32, 44, 0), at_root!(2, 4, 2, 3)),
+    // the first leaf would end with a hole: with the leaf behind these are two new ones
+    (range!(10, 10, 0), at_root!(2, 5, 3, 3)),
+    // two leaves go, and the leaf behind is taken in
+    (range!(11, 30, 0), at_root!(2, 3, 2, 4)),
+    // three leaves go, and the leaf behind is taken in: two new ones
+    (range!(9, 30, 0), at_root!(2, 3, 3, 5)),
+    // one leaf is left, and is the root
+    (range!(5, 36, 7), at_root!(1, 1, 1, 5)),
+    (range!(0, TOP, 0), at_root!(0, 0, 0, 5)),
+    (range!(0, TOP, 8), at_root!(1, 1, 1, 5)),
+];
+
+/// Two inner rows, of 11 leaves and of 12; the last leaf has 15 items.
+const THREE_LEVELS: &[Case] = &[
+    // in place
+    (range!(0, 0, 9), in_slot!(3, 26, 1, 1)),
+    // the last leaf is split in two, below the same root
+    (range!(236, 236, 1), in_slot!(3, 27, 3, 2)),
+    // the second leaf goes, and the first takes the items of the third
+    (range!(2, 20, 0), in_slot!(3, 24, 2, 4)),
+    // the first inner row has too few leaves, and takes those of the row behind: two new ones
+    (range!(0, 64, 3), at_root!(3, 20, 4, 10)),
+    // the second inner row has too few leaves, and takes those of the row before: one, which is the root
+    (range!(130, 210, 0), at_root!(2, 16, 3, 13)),
+    // leaves of both inner rows go: two levels are left
+    (range!(8, 160, 5), at_root!(2, 9, 2, 19)),
+    // two levels are lost
+    (range!(1, 234, 0), at_root!(1, 1, 1, 26)),
+    (range!(0, TOP, 0), at_root!(0, 0, 0, 26)),
+    (range!(0, TOP, 8), at_root!(1, 1, 1, 26)),
+];
+
+/// So many ranges of one index, at the even indexes, and what stores make of them.
+type Trial = (u32, &'static [Case]);
+
+const SMALL: &[Trial] = &[
+    (0, EMPTY),
+    (8, LEAF),
+    (17, &[(range!(0, TOP, 8), at_root!(1, 1, 1, 4))]),
+    (23, BELOW_A_ROOT),
+];
+
+/// A root of 16 leaves, of which the last has 15 items.
+const FULL: &[Trial] = &[(83, &[(range!(166, 166, 1), at_root!(3, 20, 5, 2))])];
+
+const HIGH: &[Trial] = &[(118, THREE_LEVELS)];
+
+fn expect_trials(rt: &impl Abort, alloc: Global, trials: &[Trial]) -> Result<(), NoMemory> {
+    for &(count, cases) in trials {
+        let before = singles(alloc, count)?;
+        expect_each(rt, alloc, before.as_slice(), cases)?;
+    }
+    Ok(())
+}
+
+#[test]
+fn replaces_no_leaf_and_those_below_a_root(rt: HostRuntime) -> Result<(), Fail> {
+    expect_trials(&rt, rt.alloc(), SMALL)?;
+    Ok(())
+}
+
+#[test]
+fn splits_a_full_root(rt: HostRuntime) -> Result<(), Fail> {
+    expect_trials(&rt, rt.alloc(), FULL)?;
+    Ok(())
+}
+
+#[test]
+fn replaces_rows_of_three_levels(rt: HostRuntime) -> Result<(), Fail> {
+    expect_trials(&rt, rt.alloc(), HIGH)?;
+    Ok(())
 }
 
 #[test]
@@ -313,116 +411,41 @@ fn stores_of_single_indexes(rt: HostRuntime) -> Result<(), Fail> {
     let ranges = singles(rt.alloc(), 17)?;
     assert!(&rt; ranges.len() == 17);
     tree.store_all(&rt, rt.alloc(), ranges.as_slice())?;
-    assert_eq!(&rt; tree.list.list(rt.alloc())?.as_slice(), ranges.as_slice());
-    let shape = tree.shape_after(&rt, rt.alloc(), range(0, TOP, 8))?;
-    assert_eq!(&rt; shape, at_root(1, 1, 1, 4));
+    let listed = tree.list.list(rt.alloc())?;
+    same(&rt, listed.as_slice(), ranges.as_slice(), "the list");
     Ok(())
 }
 
-#[test]
-fn replaces_no_leaf_and_one(rt: HostRuntime) -> Result<(), Fail> {
-    let empty = [
-        (range(5, 5, 1), at_root(1, 1, 1, 0)),
-        (range(0, TOP, 8), at_root(1, 1, 1, 0)),
-    ];
-    expect_each(&rt, rt.alloc(), &[], &empty)?;
-    // one leaf, of 16 items
-    let leaf = [
-        // its items are others
-        (range(0, 0, 9), at_root(1, 1, 1, 1)),
-        // 17 items: two leaves, and a root above them
-        (range(16, 16, 1), at_root(2, 3, 3, 1)),
-        (range(0, TOP, 0), at_root(0, 0, 0, 1)),
-        (range(0, TOP, 8), at_root(1, 1, 1, 1)),
-    ];
-    expect_each(&rt, rt.alloc(), singles(rt.alloc(), 8)?.as_slice(), &leaf)?;
-    Ok(())
-}
-
-#[test]
-fn replaces_leaves_below_a_root(rt: HostRuntime) -> Result<(), Fail> {
-    // leaves of 11, 10, 10 and 15 items, which end at 10, 20 and 30
-    let cases = [
-        // in place
-        (range(0, 0, 9), in_slot(2, 5, 1, 1)),
-        // the last leaf is split in two
-        (range(46, 46, 1), at_root(2, 6, 3, 2)),
-        // the first leaf has too few items, and takes those of the leaf behind
-        (range(0, 7, 3), at_root(2, 4, 2, 3)),
-        // the last leaf has too few items, and takes those of the leaf before
-        (range(32, 44, 0), at_root(2, 4, 2, 3)),
-        // the first leaf would end with a hole: with the leaf behind these are two new ones
-        (range(10, 10, 0), at_root(2, 5, 3, 3)),
-        // two leaves go, and the leaf behind is taken in
-        (range(11, 30, 0), at_root(2, 3, 2, 4)),
-        // three leaves go, and the leaf behind is taken in: two new ones
-        (range(9, 30, 0), at_root(2, 3, 3, 5)),
-        // one leaf is left, and is the root
-        (range(5, 36, 7), at_root(1, 1, 1, 5)),
-        (range(0, TOP, 0), at_root(0, 0, 0, 5)),
-        (range(0, TOP, 8), at_root(1, 1, 1, 5)),
-    ];
-    expect_each(&rt, rt.alloc(), singles(rt.alloc(), 23)?.as_slice(), &cases)?;
-    // a root of 16 leaves, of which the last has 15 items
-    let grown = [(range(166, 166, 1), at_root(3, 20, 5, 2))];
-    expect_each(&rt, rt.alloc(), singles(rt.alloc(), 83)?.as_slice(), &grown)?;
-    Ok(())
-}
-
+/// Leaves of 16, 16 and 9 items, without a hole but the last; the first ends at 109.
 #[test]
 fn splits_two_leaves_in_three(rt: HostRuntime) -> Result<(), Fail> {
-    // leaves of 16, 16 and 9 items, without a hole but the last; the first ends at 109
     let mut before = tens(rt.alloc(), 30)?;
     for at in [5, 15, 20, 115, 125, 130] {
-        before.push(range(at, at, 1))?;
+        before.push(range!(at, at, 1))?;
     }
-    let cases = [(range(109, 110, 9), at_root(2, 5, 4, 3))];
+    let cases = [(range!(109, 110, 9), at_root!(2, 5, 4, 3))];
     expect_each(&rt, rt.alloc(), before.as_slice(), &cases)?;
     Ok(())
 }
 
-#[test]
-fn replaces_rows_of_three_levels(rt: HostRuntime) -> Result<(), Fail> {
-    // two inner rows, of 11 leaves and of 12; the last leaf has 15 items
-    let cases = [
-        // in place
-        (range(0, 0, 9), in_slot(3, 26, 1, 1)),
-        // the last leaf is split in two, below the same root
-        (range(236, 236, 1), in_slot(3, 27, 3, 2)),
-        // the second leaf goes, and the first takes the items of the third
-        (range(2, 20, 0), in_slot(3, 24, 2, 4)),
-        // the first inner row has too few leaves, and takes those of the row behind: two new ones
-        (range(0, 64, 3), at_root(3, 20, 4, 10)),
-        // the second inner row has too few leaves, and takes those of the row before: one, which is the root
-        (range(130, 210, 0), at_root(2, 16, 3, 13)),
-        // leaves of both inner rows go: two levels are left
-        (range(8, 160, 5), at_root(2, 9, 2, 19)),
-        // two levels are lost
-        (range(1, 234, 0), at_root(1, 1, 1, 26)),
-        (range(0, TOP, 0), at_root(0, 0, 0, 26)),
-        (range(0, TOP, 8), at_root(1, 1, 1, 26)),
-    ];
-    expect_each(
-        &rt,
-        rt.alloc(),
-        singles(rt.alloc(), 118)?.as_slice(),
-        &cases,
-    )?;
+/// Empties a tree with so many ranges of one index, of which so many rows are live then, and none behind it.
+fn expect_emptied(rt: &impl Abort, alloc: Global, count: u32, live: u64) -> Result<(), NoMemory> {
+    let ranges = singles(alloc, count)?;
+    assert!(rt; ranges.len() < 1000);
+    let mut tree = Tree::new(alloc)?;
+    tree.store_all(rt, alloc, ranges.as_slice())?;
+    let (free, held) = (tree.book.free(), tree.book.held());
+    tree.clear(rt, alloc)?;
+    let after = (tree.book.free(), tree.book.live(), tree.book.held());
+    same(rt, after, (free, 0, held.saturating_add(live)), count);
+    same(rt, tree.height(alloc)?, 0, count);
     Ok(())
 }
 
 #[test]
 fn empties_whole_trees(rt: HostRuntime) -> Result<(), Fail> {
     for (count, live) in [(8, 1), (23, 5), (118, 26)] {
-        let ranges = singles(rt.alloc(), count)?;
-        assert!(&rt; ranges.len() < 1000);
-        let mut tree = Tree::new(rt.alloc())?;
-        tree.store_all(&rt, rt.alloc(), ranges.as_slice())?;
-        let (free, held) = (tree.book.free(), tree.book.held());
-        tree.clear(&rt, rt.alloc())?;
-        let after = (tree.book.free(), tree.book.live(), tree.book.held());
-        assert_eq!(&rt; after, (free, 0, held + live));
-        assert_eq!(&rt; tree.height(rt.alloc())?, 0);
+        expect_emptied(&rt, rt.alloc(), count, live)?;
     }
     Ok(())
 }

@@ -8,6 +8,7 @@ ghost use Rattle.mt_rule.specs.Seats.{new_pen};
 ghost use Rattle.mt_rule.specs.Tokens.{identity_of, shape_opened, turn_seat, IsPassOf, pen_in, IsPenOf, IsAlone};
 ghost use Rattle.mt_pen.specs.Works.{OpensSmall};
 
+use crate::asserts::same;
 use mt_base::{Call, Holder, Kind, NoMemory, Reply, Steps, Width};
 use mt_pen::{PenRows, Writer};
 use mt_rows::{PlainRows, Rows, Scan};
@@ -53,15 +54,15 @@ fn work<W: Writer>(rt: &impl Abort, table: &MtTable, pen: Pen, pass: Pass)
     requires pass { IsPassOf (identity_of table.now) pass }
 {
     let mut rows: PenRows<'_, W> = PenRows::new(table, pen, pass);
-    assert_eq!(rt; rows.size(), 3);
-    assert_eq!(rt; rows.width(), Width::Long);
-    assert_eq!(rt; rows.begin(), 1);
+    same(rt, rows.size(), 3, "the size");
+    same(rt, rows.width(), Width::Long, "the width");
+    same(rt, rows.begin(), 1, "the first call");
     rows.draft(17, 5, 4096);
-    assert_eq!(rt; rows.load(17, 5), 4096);
-    assert_eq!(rt; rows.load(18, 5), 0);
+    same(rt, rows.load(17, 5), 4096, "the word");
+    same(rt, rows.load(18, 5), 0, "another word");
     rows.finish(&Call::Erase { index: 5 }, &Reply::None);
-    assert_eq!(rt; rows.begin(), 2);
-    assert_eq!(rt; rows.root(), 0);
+    same(rt, rows.begin(), 2, "the second call");
+    same(rt, rows.root(), 0, "the root");
     rows.finish(&Call::Clear, &Reply::Ok);
     let _ = rows.end();
 }
@@ -120,6 +121,14 @@ fn scanned<W: Writer>(table: &MtTable, pen: Pen, pass: Pass) -> (Scan, Pen, Pass
     (scan, pen, pass)
 }
 
+/// A scan that finds this pass at the first moment.
+fn held_by(pass: u32) -> Scan {
+    Scan {
+        least: 0,
+        by: Some(Holder { pass, epoch: 0 }),
+    }
+}
+
 #[test]
 fn a_scan_finds_who_reads(rt: HostRuntime) -> Result<(), Fail> {
     let (table, pen, mut passes) = table_of(rt.alloc(), 3)?;
@@ -128,32 +137,14 @@ fn a_scan_finds_who_reads(rt: HostRuntime) -> Result<(), Fail> {
     let pass = last_pass(&table, &mut passes)?;
     open::<Brand>(Blank::new(1), &table, &mut last);
     let (scan, pen, pass) = scanned::<Brand>(&table, pen, pass);
-    let by = |pass| Some(Holder { pass, epoch: 0 });
-    assert_eq!(rt;
-        scan,
-        Scan {
-            least: 0,
-            by: by(2)
-        }
-    );
+    same(&rt, scan, held_by(2), "one reads");
     open::<Brand>(Blank::new(1), &table, &mut middle);
     let (scan, pen, pass) = scanned::<Brand>(&table, pen, pass);
-    assert_eq!(rt;
-        scan,
-        Scan {
-            least: 0,
-            by: by(1)
-        }
-    );
+    same(&rt, scan, held_by(1), "two read");
     close::<Brand>(Blank::new(1), &table, &mut middle);
     close::<Brand>(Blank::new(1), &table, &mut last);
     let (scan, ..) = scanned::<Brand>(&table, pen, pass);
-    assert_eq!(rt;
-        scan,
-        Scan {
-            least: u64::MAX,
-            by: None
-        }
-    );
+    let (least, by) = (u64::MAX, None);
+    same(&rt, scan, Scan { least, by }, "nobody reads");
     Ok(())
 }

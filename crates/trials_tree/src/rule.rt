@@ -7,6 +7,7 @@ ghost use Rattle.mt_rule.specs.Limits.{most_calls};
 ghost use Rattle.mt_rule.specs.Tokens.{identity_of, identity_of_pen, pen_in, IsAlone, IsPassOf};
 ghost use Rattle.mt_rule.specs.Turns.{served, IsSeatedAt};
 
+use crate::asserts::same;
 use mt_base::{Call, Kind, Reply};
 use mt_rows::PlainRows;
 use mt_rule::{MtTable, Note, OfTable, Pass, Pen, Turn};
@@ -149,13 +150,13 @@ fn two_threads_make_their_calls_by_turns(rt: HostRuntime) -> Result<(), Fail> {
     let (shared, mut passes) = opened(rt.alloc(), 3)?;
     let two = last_pass(&shared, &mut passes)?;
     let one = last_pass(&shared, &mut passes)?;
-    assert_eq!(rt; (one.number(), two.number()), (0, 1));
+    same(&rt, (one.number(), two.number()), (0, 1), "the start");
     let (mut one, mut two) = both(&rt, &shared, one, two);
-    assert_eq!(rt; shared.seek(&rt, &mut two), 2);
-    assert_eq!(rt; shared.seek(&rt, &mut one), 3);
+    same(&rt, shared.seek(&rt, &mut two), 2, "the third call");
+    same(&rt, shared.seek(&rt, &mut one), 3, "a fourth call");
     // No fourth call was made.
-    assert_eq!(rt; shared.seek(&rt, &mut two), 3);
-    assert_eq!(rt; (one.number(), two.number()), (0, 1));
+    same(&rt, shared.seek(&rt, &mut two), 3, "another");
+    same(&rt, (one.number(), two.number()), (0, 1), "the end");
     Ok(())
 }
 

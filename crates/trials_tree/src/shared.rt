@@ -4,10 +4,12 @@ ghost use Rattle.std.specs.Prelude.{◌≡◌, ◌<◌, All, IfOk};
 ghost use Rattle.std.specs.Thread.{IsSync};
 ghost use Rattle.mt_tree.specs.Trees.{AreAll, IsPassOf};
 
+use crate::asserts::same;
 use mt_base::{Kind, Range, Reply, Shortage, Steps};
-use mt_tree::{Done, DupError, Field, MakeError, Pass, Read, Shape, Tree, Worn};
+use mt_tree::{Done, DupError, Field, Form, MakeError, Pass, Read, Shape, Tree, Worn};
 use std::alloc::Global;
 use std::marker::Brand;
+use std::process::Abort;
 use std::sync::Wait;
 use std::sync::ledger::{Blank, Ledger};
 use std::test::Fail;
@@ -76,94 +78,92 @@ fn loaded<L: Ledger>(blank: Blank, tree: &Tree, pass: &mut Pass, index: u64) -> 
     tree.load(pass, index, &mut steps)
 }
 
+const BAD_ROWS: Option<MakeError> = Some(MakeError::BadShape { field: Field::Rows });
+
+const BAD_PASSES: Option<MakeError> = Some(MakeError::BadShape {
+    field: Field::Passes,
+});
+
+const BAD_CALLS: Option<MakeError> = Some(MakeError::BadShape {
+    field: Field::Calls,
+});
+
+/// Shapes, by their rows, passes and calls, and why each is refused.
+const SHAPES: &[(u64, u32, u64, Option<MakeError>)] = &[
+    (3, 0, 0, BAD_ROWS),
+    (65_505, 1, 1, BAD_ROWS),
+    (4, 0, 0, BAD_PASSES),
+    (4, 63, 1, BAD_PASSES),
+    (4, 1, 0, BAD_CALLS),
+    (4, 62, 1 << 62, BAD_CALLS),
+    (4, 62, (1 << 62) - 1, None),
+];
+
 #[test]
 fn shapes_out_of_range_are_refused(rt: HostRuntime) {
-    let alloc = rt.alloc();
-    let cases = [
-        (
-            shape_of(3, 0, 0),
-            Some(MakeError::BadShape { field: Field::Rows }),
-        ),
-        (
-            shape_of(65_505, 1, 1),
-            Some(MakeError::BadShape { field: Field::Rows }),
-        ),
-        (
-            shape_of(4, 0, 0),
-            Some(MakeError::BadShape {
-                field: Field::Passes,
-            }),
-        ),
-        (
-            shape_of(4, 63, 1),
-            Some(MakeError::BadShape {
-                field: Field::Passes,
-            }),
-        ),
-        (
-            shape_of(4, 1, 0),
-            Some(MakeError::BadShape {
-                field: Field::Calls,
-            }),
-        ),
-        (
-            shape_of(4, 62, 1 << 62),
-            Some(MakeError::BadShape {
-                field: Field::Calls,
-            }),
-        ),
-        (shape_of(4, 62, (1 << 62) - 1), None),
-    ];
-    for (shape, why) in &cases {
-        assert_eq!(rt; refused(alloc, *shape), *why);
+    for &(rows, passes, calls, why) in SHAPES {
+        let refused = refused(rt.alloc(), shape_of(rows, passes, calls));
+        same(&rt, refused, why, (rows, passes, calls));
     }
+}
+
+/// A tree holds the index 1 alone, with this entry.
+fn expect_one_range<R: Abort + Wait>(
+    rt: &R,
+    alloc: Global,
+    tree: &Tree,
+    pass: &mut Pass,
+    entry: u64,
+) -> Result<(), Fail>
+    requires { IsPassOf tree.now pass.old }
+{
+    let ranges = listed(rt, alloc, tree, pass)?;
+    let range = Range {
+        first: 1,
+        last: 1,
+        entry,
+    };
+    same(rt, ranges.as_slice(), &[range][..], "the end");
+    Ok(())
+}
+
+/// What a store lacks where one row of four is live.
+const SHORT: Shortage = Shortage {
+    need: 4,
+    free: 3,
+    live: 1,
+    held: 0,
+    by: None,
+};
+
+/// So many calls were made, of which this one is the last.
+fn done(call: u64, reply: Reply) -> Result<Done, Worn> {
+    Ok(Done { call, reply })
 }
 
 #[test]
 fn a_small_tree_runs_short_and_is_worn(rt: HostRuntime) -> Result<(), Fail> {
-    let alloc = rt.alloc();
-    let (tree, mut passes) = made(alloc, shape_of(4, 1, 2))?;
+    let (tree, mut passes) = made(rt.alloc(), shape_of(4, 1, 2))?;
     let mut pass = last_pass(&tree, &mut passes)?;
-    assert_eq!(rt;
-        tree.store_range(&rt, &mut pass, 1, 1, 5),
-        Ok(Done {
-            call: 1,
-            reply: Reply::Ok
-        })
-    );
-    let short = Shortage {
-        need: 4,
-        free: 3,
-        live: 1,
-        held: 0,
-        by: None,
-    };
-    assert_eq!(rt;
-        tree.erase(&rt, &mut pass, 1),
-        Ok(Done {
-            call: 2,
-            reply: Reply::NoNodes(short)
-        })
-    );
-    assert_eq!(rt; tree.clear(&rt, &mut pass), Err(Worn { calls: 2 }));
-    assert_eq!(rt;
-        loaded::<Brand>(Blank::new(1), &tree, &mut pass, 1),
+    let stored = tree.store_range(&rt, &mut pass, 1, 1, 5);
+    same(&rt, stored, done(1, Reply::Ok), "the store");
+    let erased = tree.erase(&rt, &mut pass, 1);
+    same(&rt, erased, done(2, Reply::NoNodes(SHORT)), "the erase");
+    let cleared = tree.clear(&rt, &mut pass);
+    same(&rt, cleared, Err(Worn { calls: 2 }), "the clear");
+    let loaded = loaded::<Brand>(Blank::new(1), &tree, &mut pass, 1);
+    let value = Some(5);
+    same(
+        &rt,
+        loaded,
         Read {
             lo: 2,
             hi: 2,
-            value: Some(5)
-        }
+            value,
+        },
+        "the load",
     );
-    let ranges = listed(&rt, alloc, &tree, &mut pass)?;
-    assert_eq!(rt;
-        ranges.as_slice(),
-        &[Range {
-            first: 1,
-            last: 1,
-            entry: 5
-        }][..]
-    );
-    Ok(())
+    expect_one_range(&rt, rt.alloc(), &tree, &mut pass, 5)
 }
 
 /// Stores an entry at each even index below 200.
@@ -218,44 +218,54 @@ fn copied(
     }
 }
 
+/// No copy of another kind or with too few rows is made of a tree with an entry at each even index below 200.
+fn expect_not_copied<R: Abort + Wait>(rt: &R, alloc: Global, tree: &Tree, pass: &mut Pass)
+    requires { IsPassOf tree.now pass.old }
+    ensures { IsPassOf tree.now pass.new }
+{
+    let why = not_copied(rt, alloc, tree, pass, Kind::Alloc, 4);
+    same(rt, why, Some(DupError::Invalid), 4);
+    let why = not_copied(rt, alloc, tree, pass, Kind::Alloc, 3);
+    let field = Field::Rows;
+    same(rt, why, Some(DupError::BadShape { field }), 3);
+    let Form { rows, ranges, .. } = tree.check(rt, pass);
+    // A leaf has at most 16 items, and here one hole lies between two ranges.
+    same(rt, (rows >= 14, ranges), (true, 100), rows);
+    let why = not_copied(rt, alloc, tree, pass, Kind::Range, 4);
+    let (rows, live) = (4, rows);
+    same(rt, why, Some(DupError::NoNodes { rows, live }), rows);
+}
+
+/// A copy of such a tree holds the same ranges.
+fn expect_copy<R: Abort + Wait>(
+    rt: &R,
+    alloc: Global,
+    tree: &Tree,
+    pass: &mut Pass,
+) -> Result<(), Fail>
+    requires { IsPassOf tree.now pass.old }
+{
+    let form = tree.check(rt, pass);
+    let (copy, mut others) = copied(rt, alloc, tree, pass, shape_of(4096, 1, 9))?;
+    let mut other = last_pass(&copy, &mut others)?;
+    let ranges = listed(rt, alloc, tree, pass)?;
+    let copied = listed(rt, alloc, &copy, &mut other)?;
+    same(rt, ranges.len(), 100, "the tree");
+    same(rt, copied.as_slice(), ranges.as_slice(), "the copy");
+    // The calls of the copy are numbered from 1, and the tree stays.
+    let cleared = copy.clear(rt, &mut other);
+    same(rt, cleared, done(1, Reply::Ok), "the clear");
+    same(rt, tree.check(rt, pass), form, "the end");
+    Ok(())
+}
+
 #[test]
 fn copies_open_with_the_same_ranges(rt: HostRuntime) -> Result<(), Fail> {
-    let alloc = rt.alloc();
-    let (tree, mut passes) = made(alloc, shape_of(4096, 1, 1000))?;
+    let (tree, mut passes) = made(rt.alloc(), shape_of(4096, 1, 1000))?;
     let mut pass = last_pass(&tree, &mut passes)?;
     fill(&rt, &tree, &mut pass);
-    assert_eq!(rt;
-        not_copied(&rt, alloc, &tree, &mut pass, Kind::Alloc, 4),
-        Some(DupError::Invalid)
-    );
-    assert_eq!(rt;
-        not_copied(&rt, alloc, &tree, &mut pass, Kind::Alloc, 3),
-        Some(DupError::BadShape { field: Field::Rows })
-    );
-    let live = match not_copied(&rt, alloc, &tree, &mut pass, Kind::Range, 4) {
-        Some(DupError::NoNodes { rows: 4, live }) => live,
-        _ => 0,
-    };
-    // A leaf has at most 16 items, and here one hole lies between two ranges.
-    assert!(rt; live >= 14);
-    let form = tree.check(&rt, &mut pass);
-    assert_eq!(rt; (form.rows, form.ranges), (live, 100));
-    let (copy, mut others) = copied(&rt, alloc, &tree, &mut pass, shape_of(4096, 1, 9))?;
-    let mut other = last_pass(&copy, &mut others)?;
-    let ranges = listed(&rt, alloc, &tree, &mut pass)?;
-    assert_eq!(rt; ranges.len(), 100);
-    let same = listed(&rt, alloc, &copy, &mut other)?;
-    assert_eq!(rt; same.as_slice(), ranges.as_slice());
-    // The calls of the copy are numbered from 1, and the tree stays.
-    assert_eq!(rt;
-        copy.clear(&rt, &mut other),
-        Ok(Done {
-            call: 1,
-            reply: Reply::Ok
-        })
-    );
-    assert_eq!(rt; tree.check(&rt, &mut pass), form);
-    Ok(())
+    expect_not_copied(&rt, rt.alloc(), &tree, &mut pass);
+    expect_copy(&rt, rt.alloc(), &tree, &mut pass)
 }
 
 /// One call of a pass that a thread takes along.
@@ -287,38 +297,24 @@ fn both<R: Threads + Wait + Sync>(rt: &R, tree: &Tree, one: Pass, two: Pass) -> 
 
 #[test]
 fn two_threads_write_one_tree(rt: HostRuntime) -> Result<(), Fail> {
-    let alloc = rt.alloc();
-    let (tree, mut passes) = made(alloc, shape_of(64, 2, 3))?;
+    let (tree, mut passes) = made(rt.alloc(), shape_of(64, 2, 3))?;
     let two = last_pass(&tree, &mut passes)?;
     let one = last_pass(&tree, &mut passes)?;
     let (mut one, mut two) = both(&rt, &tree, one, two);
     let note = tree.note(&mut one);
     tree.learn(&mut two, note);
-    assert_eq!(rt;
-        tree.erase(&rt, &mut two, 5),
-        Ok(Done {
-            call: 3,
-            reply: Reply::Was(7)
-        })
-    );
-    assert_eq!(rt; tree.clear(&rt, &mut one), Err(Worn { calls: 3 }));
-    let ranges = listed(&rt, alloc, &tree, &mut one)?;
-    assert_eq!(rt;
-        ranges.as_slice(),
-        &[Range {
-            first: 1,
-            last: 1,
-            entry: 7
-        }][..]
-    );
-    Ok(())
+    let erased = tree.erase(&rt, &mut two, 5);
+    same(&rt, erased, done(3, Reply::Was(7)), "the erase");
+    let cleared = tree.clear(&rt, &mut one);
+    same(&rt, cleared, Err(Worn { calls: 3 }), "the clear");
+    expect_one_range(&rt, rt.alloc(), &tree, &mut one, 7)
 }
 
 #[test]
 fn passes_are_settled(rt: HostRuntime) -> Result<(), Fail> {
     let (tree, mut passes) = made(rt.alloc(), shape_of(64, 3, 9))?;
     tree.settle(&rt, passes.as_mut_slice());
-    assert_eq!(rt; passes.len(), 3);
+    same(&rt, passes.len(), 3, "the passes");
     Ok(())
 }
 
