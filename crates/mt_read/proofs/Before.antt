@@ -1,39 +1,22 @@
 -- The place before another, and what a leaf tells of the last range before an index.
-use Rattle.std.proofs.Common.{◌≡◌, ◌≢◌, ◌⊎◌, ℕ, suc, ◌+◌, ◌-◌, ◌<◌, ◌≤◌, ◌==◌, true, List, [], ◌∷◌, ◌++◌, length, nat_lt, Option, Some, None, inl, inr, refl, sym, ap, ◌∙◌, subst, arith, lt-ltb}
-use Rattle.std.specs.Prelude.{IfSome, IfNone, slice_index, if◌then◌else◌}
-use Rattle.std.specs.List.{AllByRecursion, slice_get}
+use Rattle.std.proofs.Common.{◌≡◌, ◌≢◌, ℕ, suc, ◌+◌, ◌-◌, ◌<◌, true, List, length, nat_lt, Some, sym, ap, ◌∙◌, arith, lt-ltb}
+use Rattle.std.specs.Prelude.{slice_index}
 use Rattle.std.proofs.lemmas.Option.{get_or_from_slice_get, slice_get-get_or, slice_get_within}
-use Rattle.mt_base.specs.declared.kinds.Kind.{Kind}
-use Rattle.mt_base.specs.declared.ranges.Range.{Range}
-use Rattle.mt_base.specs.declared.widths.Width.{Width}
-use Rattle.mt_base.specs.declared.calls.Query.{Query}
-use Rattle.mt_base.specs.declared.calls.Query.TheVariants.{Prev, Rfind}
-use Rattle.mt_base.specs.Call.{answer}
-use Rattle.mt_base.specs.Map.{IsMap}
-use Rattle.mt_base.specs.Passes.{Begins}
-use Rattle.mt_base.specs.Width.{greatest, greatest_of, kind_width}
-use Rattle.mt_base.proofs.Lists.{get_parts, all_back}
 use Rattle.mt_layout.specs.declared.spans.Span.{Span}
 use Rattle.mt_layout.specs.Columns.{pivot_column, items_at}
 use Rattle.mt_layout.specs.Sizes.{slots_of, gaps_of}
-use Rattle.mt_layout.specs.Spans.{Fills, EndsFull, leaf_range}
-use Rattle.mt_layout.proofs.SpanLists.{fills_split, full_back, length-spans_from, none_filled}
-use Rattle.mt_life.specs.declared.views.Extent.{Extent}
+use Rattle.mt_layout.proofs.SpanLists.{length-spans_from}
 use Rattle.mt_life.specs.declared.views.Held.{Held}
-use Rattle.mt_life.specs.declared.views.Moment as life
-use Rattle.mt_life.specs.Holding.{Snapshot, copy_of}
-use Rattle.mt_life.specs.Known.{SameForm, spans_at}
-use Rattle.mt_life.specs.Moments.{Cut, IsPart}
+use Rattle.mt_life.specs.Holding.{copy_of}
 use Rattle.mt_life.proofs.Slots.{span_in_slot}
 use Rattle.mt_path.specs.Paths.{span_at, no_span}
 use Rattle.mt_path.proofs.LeafSlots.{StandsIn, fills_first, fills_next, stands_in}
-use Rattle.mt_rows.specs.Laws.{kind_at}
 use Rattle.mt_rows.specs.Spans.{base_of}
 use Rattle.mt_rule.specs.declared.views.PassPart.{PassPart}
-use Rattle.mt_rule.specs.Sections.{here, kind_of, moment_seen, spans_here}
+use Rattle.mt_rule.specs.Sections.{here, kind_of, spans_here}
 use Rattle.mt_read.specs.declared.descent.Row.{Row}
 use Rattle.mt_read.specs.declared.descent.Place.{Place}
-use Rattle.mt_read.specs.Walks.{GoesOn, IsOn, IsOnLeaf, IsPlaceIn, IsSameHold, SeesMore, WasRead}
+use Rattle.mt_read.specs.Walks.{IsOn, IsPlaceIn}
 
 -- ---- the first place
 

@@ -1,12 +1,11 @@
 -- How a slot is found in the row that a section is at.
-use Rattle.std.proofs.Common.{◌≡◌, ◌≢◌, ℕ, suc, ◌+◌, ◌-◌, ◌<◌, ◌≤◌, List, [], ◌∷◌, ◌++◌, length, Some, refl, sym, ap, ◌∙◌, subst, arith, append_assoc, ◌*◌}
+use Rattle.std.proofs.Common.{◌≡◌, ℕ, ◌+◌, ◌-◌, ◌<◌, ◌≤◌, List, ◌++◌, length, Some, sym, ap, ◌∙◌, subst, arith, append_assoc, ◌*◌}
 use Rattle.std.specs.Prelude.{slice_index}
 use Rattle.std.specs.List.{slice_get}
 use Rattle.std.proofs.lemmas.List.{length-append}
 use Rattle.mt_base.specs.declared.widths.Width.{Width}
 use Rattle.mt_base.specs.Passes.{Begins}
 use Rattle.mt_base.specs.Width.{kind_width, columns}
-use Rattle.mt_layout.specs.declared.names.RowKind.{RowKind}
 use Rattle.mt_layout.specs.declared.spans.Span.{Span}
 use Rattle.mt_layout.specs.Columns.{pivot_column, items_from}
 use Rattle.mt_layout.specs.Sizes.{slots_of, gaps_of}
@@ -18,11 +17,10 @@ use Rattle.mt_path.proofs.Places.{at_slot, at_get}
 use Rattle.mt_path.proofs.Searches.{Passed, Ends, passed_more, ends_at_pivot, ends_at_last}
 use Rattle.mt_rows.specs.Spans.{base_of}
 use Rattle.mt_rule.specs.declared.passes.Pass.{Pass}
-use Rattle.mt_rule.specs.declared.views.Moment.{Moment}
 use Rattle.mt_rule.specs.declared.views.PassPart.{PassPart}
 use Rattle.mt_rule.specs.declared.views.Shape.{Shape}
 use Rattle.mt_rule.specs.Places.{column_at}
-use Rattle.mt_rule.specs.Sections.{LoadedPivot, Reads, here, kind_of, slots_in, spans_here, with_seen}
+use Rattle.mt_rule.specs.Sections.{LoadedPivot, here, kind_of, slots_in, spans_here, with_seen}
 use Rattle.mt_rule.specs.Tokens.{Identity, IsPassOf, part_of}
 use Rattle.mt_read.specs.declared.descent.Row.{Row}
 use Rattle.mt_read.specs.declared.descent.Place.{Place}

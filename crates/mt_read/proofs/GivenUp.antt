@@ -1,5 +1,5 @@
 -- What is left of a read that was given up, and a bound of what begins behind an index.
-use Rattle.std.proofs.Common.{◌≡◌, ℕ, ◌+◌, ◌<◌, ◌≤◌, List, [], ◌∷◌, length, map, Option, Some, None, refl, sym, ap, ◌∙◌, subst, arith}
+use Rattle.std.proofs.Common.{◌≡◌, ℕ, ◌+◌, ◌≤◌, [], ◌∷◌, length, Option, refl, sym, ap, ◌∙◌, subst, arith}
 use Rattle.std.proofs.lemmas.List.{length-map}
 use Rattle.mt_base.specs.declared.kinds.Kind.{Kind}
 use Rattle.mt_base.specs.declared.ranges.Range.{Range}
@@ -14,7 +14,7 @@ use Rattle.mt_rule.specs.Tokens.{Identity, tree_in}
 use Rattle.mt_read.specs.Answers.{Answers, within}
 use Rattle.mt_read.specs.Neighbours.{WasMoved, not_below}
 use Rattle.mt_read.specs.Walks.{GoesOn}
-use Rattle.mt_read.specs.Windows.{Began, Ended, HasRead}
+use Rattle.mt_read.specs.Windows.{Began, Ended}
 use Rattle.mt_read.proofs.Finding.{begins_length}
 use Rattle.mt_read.proofs.LastAnswers.{prev_within, rfind_within}
 use Rattle.mt_read.proofs.NextAnswers.{next_within}

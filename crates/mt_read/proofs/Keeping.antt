@@ -1,14 +1,11 @@
 -- What is known of a kept leaf, from step to step.
-use Rattle.std.proofs.Common.{◌≡◌, ◌≢◌, ◌⊎◌, ℕ, suc, ◌+◌, ◌<◌, ◌≤◌, List, length, Option, Some, None, refl, sym, ap, ◌∙◌, subst, inl, inr, arith, append-nil, []}
+use Rattle.std.proofs.Common.{◌≡◌, ℕ, suc, ◌≤◌, List, length, Option, Some, None, refl, sym, ap, ◌∙◌, subst, arith, append-nil, []}
 use Rattle.std.specs.Prelude.{IfSome}
-use mathlib.Core.Option.{some}
-use lib.ListN.{get_elem?}
 use Rattle.mt_base.specs.declared.ranges.Range.{Range}
 use Rattle.mt_base.specs.declared.calls.Query.{Query}
 use Rattle.mt_base.specs.Call.{answer}
 use Rattle.mt_base.specs.Map.{IsMap}
 use Rattle.mt_base.specs.Passes.{Begins}
-use Rattle.mt_layout.specs.Rows.{dead_mark}
 use Rattle.mt_base.specs.Width.{kind_width}
 use Rattle.mt_life.specs.declared.views.Held.{Held}
 use Rattle.mt_life.specs.declared.views.Moment as life
@@ -20,10 +17,10 @@ use Rattle.mt_rule.specs.Sections.{IsAt, LoadedParent, ParentTells, here, moment
 use Rattle.mt_read.specs.declared.descent.Row.{Row}
 use Rattle.mt_read.specs.declared.cursor.KeptLeaf.{KeptLeaf}
 use Rattle.mt_read.specs.Answers.{Answers, LeafAnswers}
-use Rattle.mt_read.specs.Cursors.{IsKept, IsOver, lo_of}
+use Rattle.mt_read.specs.Cursors.{IsKept}
 use Rattle.mt_read.specs.Walks.{GoesOn, IsOnLeaf, IsUnder}
-use Rattle.mt_read.proofs.Finding.{begins_on, begins_length}
-use Rattle.mt_read.proofs.Descending.{goes_by, goes_on, goes_sees}
+use Rattle.mt_read.proofs.Finding.{begins_length}
+use Rattle.mt_read.proofs.Descending.{goes_by}
 use Rattle.mt_read.proofs.Moments.{moment_stays}
 
 -- ---- a pass of which nothing but numbers has changed

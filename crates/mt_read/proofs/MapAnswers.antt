@@ -1,11 +1,11 @@
 -- What a map answers, by what it has over a few indexes: a range of just these, or none.
-use Rattle.std.proofs.Common.{◌≡◌, ◌≢◌, ◌⊎◌, ℕ, ◌+◌, ◌-◌, ◌<◌, ◌≤◌, ◌&&◌, ◌==◌, Bool, true, false, List, [], ◌∷◌, ◌++◌, Option, Some, None, arith, nat_lt, nat_le, refl, sym, ap, ◌∙◌, subst, inl, inr}
+use Rattle.std.proofs.Common.{◌≡◌, ◌≢◌, ◌⊎◌, ℕ, ◌+◌, ◌<◌, ◌≤◌, ◌&&◌, ◌==◌, Bool, true, false, List, [], ◌∷◌, ◌++◌, Option, Some, None, arith, nat_lt, nat_le, refl, sym, ap, ◌∙◌, subst, inl, inr}
 use Rattle.std.specs.Prelude.{filter, if◌then◌else◌}
-use Rattle.std.specs.List.{AllByRecursion, slice_get}
-use Rattle.std.proofs.lemmas.Bool.{cases_Bool, cases_lt, and_left, and_right, and_parts, ltb-true, leb-true, leb-false, lt-ltb, le-ltb, lt-leb, le-leb, eq-eqb, ne_eqb}
+use Rattle.std.specs.List.{AllByRecursion}
+use Rattle.std.proofs.lemmas.Bool.{cases_Bool, cases_lt, and_left, and_right, ltb-true, leb-false, lt-ltb, le-ltb, lt-leb, le-leb, eq-eqb, ne_eqb}
 use Rattle.mt_base.specs.declared.ranges.Range.{Range}
 use Rattle.mt_base.specs.declared.kinds.Kind.{Kind}
-use Rattle.mt_base.specs.declared.calls.Query.TheVariants.{Load, Find, Next, Prev, Rfind}
+use Rattle.mt_base.specs.declared.calls.Query.TheVariants.{Load, Find}
 use Rattle.mt_base.specs.Call.{answer}
 use Rattle.mt_base.specs.Map.{IsMap, IsMapFrom, holds, holding, first_range}
 use Rattle.mt_base.specs.Width.{greatest_of}

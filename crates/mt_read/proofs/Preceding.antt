@@ -1,5 +1,5 @@
 -- What a leaf, and the leaf before it, tell of the last range before an index.
-use Rattle.std.proofs.Common.{◌≡◌, ◌≢◌, ◌⊎◌, ⊎_elim, ℕ, suc, ◌+◌, ◌-◌, ◌<◌, ◌≤◌, ◌==◌, true, List, [], ◌∷◌, ◌++◌, length, Option, Some, None, inl, inr, refl, sym, ap, ◌∙◌, subst, arith}
+use Rattle.std.proofs.Common.{◌≡◌, ◌≢◌, ◌⊎◌, ⊎_elim, ℕ, ◌+◌, ◌-◌, ◌<◌, ◌≤◌, List, [], ◌∷◌, ◌++◌, length, Option, Some, None, inl, inr, sym, ap, ◌∙◌, subst, arith}
 use Rattle.std.specs.Prelude.{IfSome, IfNone}
 use Rattle.std.specs.List.{AllByRecursion, slice_get}
 use Rattle.mt_base.specs.declared.kinds.Kind.{Kind}
@@ -9,13 +9,11 @@ use Rattle.mt_base.specs.declared.calls.Query.{Query}
 use Rattle.mt_base.specs.declared.calls.Query.TheVariants.{Prev, Rfind}
 use Rattle.mt_base.specs.Call.{answer}
 use Rattle.mt_base.specs.Map.{IsMap}
-use Rattle.mt_base.specs.Passes.{Begins}
 use Rattle.mt_base.specs.Width.{greatest, greatest_of, kind_width}
 use Rattle.mt_base.proofs.Lists.{get_parts, all_back}
 use Rattle.mt_layout.specs.declared.spans.Span.{Span}
 use Rattle.mt_layout.specs.Spans.{Fills, EndsFull, leaf_range}
 use Rattle.mt_layout.proofs.SpanLists.{fills_split, full_back, none_filled}
-use Rattle.mt_life.specs.declared.views.Extent.{Extent}
 use Rattle.mt_life.specs.declared.views.Held.{Held}
 use Rattle.mt_life.specs.declared.views.Moment as life
 use Rattle.mt_life.specs.Holding.{Snapshot, copy_of}
@@ -23,19 +21,17 @@ use Rattle.mt_life.specs.Known.{HasPart, SameForm, spans_at}
 use Rattle.mt_life.specs.Moments.{Cut, IsPart}
 use Rattle.mt_rows.specs.Laws.{kind_at}
 use Rattle.mt_rule.specs.declared.views.PassPart.{PassPart}
-use Rattle.mt_rule.specs.declared.views.Shape.{Shape}
 use Rattle.mt_rule.specs.Sections.{LoadedParent, here, moment_seen, spans_here}
-use Rattle.mt_read.specs.declared.descent.Row.{Row}
 use Rattle.mt_read.specs.declared.descent.Place.{Place}
 use Rattle.mt_read.specs.Answers.{Answers, AnswersBy, LeafAnswers}
-use Rattle.mt_read.specs.Walks.{GoesOn, IsOn, IsOnLeaf, IsPlaceIn, IsSameHold, SeesMore, WasRead}
+use Rattle.mt_read.specs.Walks.{GoesOn, IsPlaceIn, IsSameHold, SeesMore, WasRead}
 use Rattle.mt_read.proofs.Crossing.{beside_by}
 use Rattle.mt_read.proofs.Descending.{span_within}
 use Rattle.mt_read.proofs.Finding.{begins_length}
 use Rattle.mt_read.proofs.LastAnswers.{prev_is, prev_none, rfind_all, rfind_hole, rfind_none, rfind_range}
 use Rattle.mt_read.proofs.MapAnswers.{Beside, hole_part, outside, range_part}
 use Rattle.mt_read.proofs.Moments.{moment_stays}
-use Rattle.mt_read.proofs.Reading.{answers_from, hole_is, kind_all, level_same, no_entry, nothing_is_a_map, range_is, some_entry, span_of, still, still_hole, stood_behind, stood_here, word}
+use Rattle.mt_read.proofs.Reading.{level_same, no_entry, nothing_is_a_map, range_is, some_entry, span_of, still, still_hole, stood_behind, stood_here, word}
 use Rattle.mt_read.proofs.SlotAnswers.{behind_in, narrow}
 use Rattle.mt_read.proofs.Standing.{beside_there, form_on, hole_there}
 

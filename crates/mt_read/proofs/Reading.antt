@@ -1,6 +1,6 @@
 -- What a load of a leaf's slot tells.
-use Rattle.std.proofs.Common.{◌≡◌, ◌≢◌, ℕ, suc, ◌+◌, ◌*◌, ◌<◌, ◌≤◌, ◌==◌, true, false, List, [], ◌∷◌, length, nat_lt, Option, Some, None, inl, inr, refl, sym, ap, ◌∙◌, subst, arith}
-use Rattle.std.specs.Prelude.{IfSome, slice_index, if◌then◌else◌}
+use Rattle.std.proofs.Common.{◌≡◌, ◌≢◌, ℕ, ◌+◌, ◌*◌, ◌≤◌, ◌==◌, List, [], length, nat_lt, Option, Some, None, inl, inr, refl, sym, ap, ◌∙◌, subst, arith}
+use Rattle.std.specs.Prelude.{IfSome, slice_index}
 use Rattle.std.specs.List.{slice_get}
 use Rattle.std.proofs.lemmas.Bool.{cases_Bool, eqb-true, eqb-false, eq-eqb, ne_eqb}
 use Rattle.mt_base.specs.declared.kinds.Kind.{Kind}
@@ -8,10 +8,8 @@ use Rattle.mt_base.specs.declared.ranges.Range.{Range}
 use Rattle.mt_base.specs.declared.calls.Query.{Query}
 use Rattle.mt_base.specs.declared.calls.Query.TheVariants.{Load, Find}
 use Rattle.mt_base.specs.Map.{IsMap}
-use Rattle.mt_base.specs.declared.widths.Width.{Width}
 use Rattle.mt_base.specs.Call.{answer}
 use Rattle.mt_base.specs.Width.{columns, greatest_of, kind_width}
-use Rattle.mt_layout.specs.declared.names.RowKind.{RowKind}
 use Rattle.mt_layout.specs.declared.names.RowKind.TheVariants.{Leaf}
 use Rattle.mt_layout.specs.declared.spans.Span.{Span}
 use Rattle.mt_layout.specs.Columns.{slot_column}
@@ -22,17 +20,16 @@ use Rattle.mt_life.specs.Holding.{Snapshot, copy_of}
 use Rattle.mt_life.specs.Known.{HasPart, SameForm, spans_at}
 use Rattle.mt_life.proofs.Slots.{slot_of_form, hole_of_form}
 use Rattle.mt_rows.specs.Laws.{kind_at}
-use Rattle.mt_rows.specs.Spans.{Table, base_of, column}
+use Rattle.mt_rows.specs.Spans.{column}
 use Rattle.mt_rule.specs.declared.views.PassPart.{PassPart}
-use Rattle.mt_rule.specs.declared.views.Shape.{Shape}
 use Rattle.mt_rule.specs.Places.{column_at}
-use Rattle.mt_rule.specs.Sections.{IsRead, LoadedEntry, LoadedSlot, behind_first, here, kind_of, moment_seen, slots_in, spans_here, with_seen}
+use Rattle.mt_rule.specs.Sections.{LoadedEntry, LoadedSlot, here, moment_seen, slots_in}
 use Rattle.mt_read.specs.declared.descent.Row.{Row}
 use Rattle.mt_read.specs.declared.descent.Place.{Place}
 use Rattle.mt_read.specs.Answers.{Answers, LeafAnswers}
 use Rattle.mt_read.specs.Walks.{GoesOn, IsOn, IsOnLeaf, IsPlaceIn, IsSameHold, SeesMore, WasRead, range_or_hole}
-use Rattle.mt_read.proofs.Finding.{begins_length, slots_counted}
-use Rattle.mt_read.proofs.Descending.{goes_by, place_within}
+use Rattle.mt_read.proofs.Finding.{begins_length}
+use Rattle.mt_read.proofs.Descending.{place_within}
 use Rattle.mt_read.proofs.Standing.{form_on}
 use Rattle.mt_read.proofs.SlotAnswers.{load_entry, load_none, find_entry, find_end, find_behind, behind_in}
 

@@ -7,7 +7,6 @@ use lib.ListN.{get_elem?}
 use Rattle.mt_base.specs.declared.ranges.Range.{Range}
 use Rattle.mt_base.specs.Passes.{Begins}
 use Rattle.mt_base.specs.Width.{greatest_of, kind_width}
-use Rattle.mt_layout.specs.declared.spans.Span.{Span}
 use Rattle.mt_life.specs.declared.views.Held.{Held}
 use Rattle.mt_life.specs.Holding.{copy_of}
 use Rattle.mt_life.specs.Known.{HasRow, Shape, spans_at}

@@ -1,9 +1,6 @@
 -- What a section makes of a pass at its beginning and at its end, and what a read makes of it.
 -- Source: this project's own; the kernel's readers walk between rcu_read_lock and rcu_read_unlock.
-use Rattle.std.specs.Prelude.{◌≡◌, ℕ, ◌+◌, ◌≤◌, List, [], ◌∷◌, ◌++◌, Option, Some, None, length}
-use Rattle.mt_base.specs.declared.ranges.Range.{Range}
-use Rattle.mt_base.specs.declared.calls.Query.{Query}
-use Rattle.mt_base.specs.History.{History}
+use Rattle.std.specs.Prelude.{◌≡◌, ℕ, ◌+◌, ◌≤◌, [], ◌∷◌, ◌++◌, None, length}
 use Rattle.mt_base.specs.Passes as known
 use Rattle.mt_rule.specs.declared.views.PassPart.{PassPart}
 use Rattle.mt_rule.specs.Sections.{with_seen, opened_section, closed_section}

@@ -238,6 +238,10 @@ fn not_below(range: Option<Range>, index: u64, min: u64) -> Option<Range>
 }
 
 /// The last range that begins at an index or below, and ends at `min` or above. There is none where the index is below `min`.
+///
+/// # Errors
+///
+/// `Moved` where the answer does not lie in the leaf of the index, and that leaf was replaced while the one beside it was read.
 pub fn rfind<L: Ledger>(
     table: &MtTable,
     pass: &mut Pass,
@@ -268,6 +272,10 @@ pub fn rfind<L: Ledger>(
 }
 
 /// The last range that ends below an index, and at `min` or above.
+///
+/// # Errors
+///
+/// `Moved` where the answer does not lie in the leaf of the index, and that leaf was replaced while the one beside it was read.
 pub fn prev<L: Ledger>(
     table: &MtTable,
     pass: &mut Pass,

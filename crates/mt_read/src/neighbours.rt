@@ -115,6 +115,10 @@ fn next_from<L: Ledger>(
 }
 
 /// The first range that begins behind an index, and at `max` or below.
+///
+/// # Errors
+///
+/// `Moved` where the answer does not lie in the leaf of the index, and that leaf was replaced while the one beside it was read.
 pub fn next<L: Ledger>(
     table: &MtTable,
     pass: &mut Pass,

@@ -29,7 +29,7 @@ pub fn within(range: Option<Range>, index: u64, max: u64) -> Option<Range>
     range.filter(|r| index <= max && r.first <= max)
 }
 
-/// The range that an index lies in.
+/// The range that an index lies in. There is none where it lies in a hole.
 pub fn load_range<L: Ledger>(
     table: &MtTable,
     pass: &mut Pass,
@@ -49,7 +49,7 @@ pub fn load_range<L: Ledger>(
     Answer { lo, hi, value }
 }
 
-/// The entry that an index holds.
+/// The entry that an index holds. There is none where it lies in a hole.
 pub fn load<L: Ledger>(
     table: &MtTable,
     pass: &mut Pass,

@@ -106,6 +106,10 @@ impl MtTable {
 
     /// A table of the words of these rows, for a tree that opens with them; its pen, and its passes, numbered from 0. Rows that
     /// are not reached are new. The memory of the rows is given back.
+    ///
+    /// # Errors
+    ///
+    /// `NoMemory` where memory ran out.
     pub fn make(
         alloc: Global,
         kind: Kind,
@@ -126,6 +130,10 @@ impl MtTable {
     }
 
     /// The same over the words of such a table, which stay: others may be made over them too.
+    ///
+    /// # Errors
+    ///
+    /// `NoMemory` where memory ran out.
     pub fn make_over(
         alloc: Global,
         kind: Kind,

@@ -83,6 +83,10 @@ pub struct Taken<C: OfTable> {
 impl<C: OfTable + Drop> Turn<C> {
     /// A turn for this table over this value, at which each of these passes has a seat. Where there is no memory the
     /// value is dropped.
+    ///
+    /// # Errors
+    ///
+    /// `NoMemory` where memory ran out.
     pub fn make(
         alloc: Global,
         table: &MtTable,

@@ -1,8 +1,6 @@
 -- What a cursor of a shared tree has come to, as a lane's walk.
 -- Source: this project's own.
 use Rattle.std.specs.Prelude.{ℕ, Bool, true, false, Option, Some, None}
-use Rattle.mt_base.specs.History.{History}
-use Rattle.mt_base.specs.Passes.{Pass}
 use Rattle.mt_rule.specs.Tokens.{pass_in}
 use Rattle.mt_tree.specs.declared.cursors.Cursor.{Cursor}
 use Rattle.mt_tree.specs.Trees.{opened}

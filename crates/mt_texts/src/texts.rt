@@ -1,4 +1,4 @@
-//! The texts.
+//! The texts that the program prints: of a run of a log, of a log that is made of a number, and of what a run of that came to.
 
 ghost use Rattle.std.specs.Prelude.{◌≡◌, ◌≤◌, ◌<◌, ◌-◌, ◌^◌, IfOk, length, string_bytes};
 ghost use Rattle.mt_base.specs.Width.{most_rows};
@@ -39,6 +39,10 @@ fn played<R: Threads + Wait + Sync, G: Gate + Sync>(
 }
 
 /// The text of what the lines of a log were answered.
+///
+/// # Errors
+///
+/// `NoMemory` where memory ran out.
 pub fn answers<R: Threads + Wait + Sync, G: Gate + Sync>(
     rt: &R,
     alloc: Global,
@@ -58,6 +62,10 @@ pub fn answers<R: Threads + Wait + Sync, G: Gate + Sync>(
 }
 
 /// The text of the log that is made of a number.
+///
+/// # Errors
+///
+/// `NoMemory` where memory ran out.
 pub fn made_text(alloc: Global, number: u32, steps: u32, lanes: u32) -> Result<Vec<u8>, NoMemory>
     requires number { number < 2 ^ 31 }
     requires steps { steps ≤ 100000 }
@@ -86,7 +94,11 @@ fn tried<R: Threads + Wait + Sync, G: Gate + Sync>(
     Ok(summarise(steps, &transcript))
 }
 
-/// The line of that summary.
+/// The line that sums up a run, on a tree of 65,504 rows, of the log of one lane and so many steps that is made of this number.
+///
+/// # Errors
+///
+/// `NoMemory` where memory ran out.
 pub fn trial_text<R: Threads + Wait + Sync, G: Gate + Sync>(
     rt: &R,
     alloc: Global,

@@ -1,4 +1,4 @@
-use Rattle.std.proofs.Common.{rules, arith, ◌≡◌, ◌≢◌, ◌+◌, ◌≤◌, ◌∙◌, length, sym, ap, subst}
+use Rattle.std.proofs.Common.{rules, arith, ◌≡◌, ◌≢◌, ◌∙◌, length, ap, subst}
 use Rattle.mt_base.specs.declared.kinds.Kind.{Kind}
 use Rattle.mt_base.specs.declared.calls.Query.TheVariants.{Find}
 use Rattle.mt_base.specs.Width.{greatest_of}
@@ -7,7 +7,7 @@ use Rattle.mt_life.specs.declared.views.Held.{Held}
 use Rattle.mt_rule.specs.declared.views.PassPart.{PassPart}
 use Rattle.mt_rule.specs.Sections.{here}
 use Rattle.mt_rule.specs.Tokens.{part_of}
-use Rattle.mt_read.specs.Answers.{Answers, LeafAnswers}
+use Rattle.mt_read.specs.Answers.{Answers}
 use Rattle.mt_read.proofs.Finding.{begins_length}
 use Rattle.mt_read.proofs.Descending.{goes_on, goes_sees, here_more}
 use Rattle.mt_read.proofs.Keeping.{answers_live, goes_parent, parent_tells}

@@ -1,11 +1,10 @@
-use Rattle.std.proofs.Common.{rules, arith, ◌≡◌, ◌≤◌, ◌+◌, ap, ◌∙◌, subst, sym, ℕ, refl}
-use Rattle.mt_rule.specs.Sections.{here, LoadedChild}
+use Rattle.std.proofs.Common.{arith, ◌+◌}
+use Rattle.mt_rule.specs.Sections.{LoadedChild}
 use Rattle.mt_rule.specs.Places.{column_at}
 use Rattle.mt_rule.specs.Tokens.{identity_of, part_of}
 use Rattle.mt_base.specs.Width.{kind_width}
-use Rattle.mt_layout.specs.declared.names.RowKind.TheVariants.{Leaf}
-use Rattle.mt_read.proofs.Finding.{shape_is, slots_counted}
-use Rattle.mt_read.proofs.Descending.{IsNamed, slot_is, slot_fits, column_of_slot, inner_level, child_on, goes_sees, goes_down, goes_on, here_more}
+use Rattle.mt_read.proofs.Finding.{shape_is}
+use Rattle.mt_read.proofs.Descending.{slot_is, slot_fits, column_of_slot, inner_level, child_on, goes_sees, goes_down, goes_on}
 use Rattle.mt_read.proofs.descent.child_at.Goals as goal
 
 pub overflow_add-column : goal.overflow_add-column

@@ -1,9 +1,8 @@
-use Rattle.std.proofs.Common.{rules, arith, ◌≡◌, ◌≤◌, ◌+◌, ◌-◌, Some, ap, ◌∙◌, subst, sym, ℕ}
+use Rattle.std.proofs.Common.{rules, arith, ◌≡◌, ◌-◌, Some, ◌∙◌, sym}
 use Rattle.std.specs.List.{slice_get}
 use Rattle.mt_layout.proofs.RowSizes.{some_slots_of}
 use Rattle.mt_rule.specs.Sections.{here, kind_of, spans_here}
 use Rattle.mt_rule.specs.Tokens.{identity_of, part_of}
-use Rattle.mt_read.specs.Walks.{IsPlaceIn}
 use Rattle.mt_read.proofs.Finding.{sees_on, on_more, place_more, shape_is, pivot_is, count_is, one_passed, found_at_pivot, found_at_last}
 use Rattle.mt_read.proofs.descent.find_slot.Goals as goal
 

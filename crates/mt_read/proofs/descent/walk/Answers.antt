@@ -1,10 +1,7 @@
-use Rattle.std.proofs.Common.{rules, arith, ◌≡◌, ◌≤◌, ◌+◌, ap, ◌∙◌, subst, sym, ℕ, refl}
-use Rattle.mt_base.specs.Width.{kind_width, greatest, greatest_of}
-use Rattle.mt_rule.specs.declared.views.Shape.{Shape}
+use Rattle.std.proofs.Common.{rules}
 use Rattle.mt_rule.specs.Sections.{here}
-use Rattle.mt_rule.specs.Tokens.{identity_of, part_of}
-use Rattle.mt_read.proofs.Finding.{shape_is}
-use Rattle.mt_read.proofs.Descending.{IsNamed, root_on, root_under, goes_sees, goes_root, goes_on}
+use Rattle.mt_rule.specs.Tokens.{part_of}
+use Rattle.mt_read.proofs.Descending.{root_under, goes_root, goes_on}
 use Rattle.mt_read.proofs.descent.walk.Goals as goal
 
 pub returns-clause-under : goal.returns-clause-under

@@ -1,16 +1,11 @@
-use Rattle.std.proofs.Common.{rules, arith, ◌≡◌, ◌≢◌, ◌⊎◌, ◌+◌, ◌-◌, ◌<◌, ◌≤◌, ◌∙◌, ℕ, [], length, inr, sym, ap, subst}
-use Rattle.mt_base.specs.declared.kinds.Kind.{Kind}
-use Rattle.mt_base.specs.declared.calls.Query.TheVariants.{Rfind}
-use Rattle.mt_base.specs.Width.{greatest_of, kind_width}
+use Rattle.std.proofs.Common.{rules, arith, ◌≡◌, ◌≢◌, ◌-◌, ◌<◌, ◌≤◌, ◌∙◌, ℕ, [], length, sym, ap, subst}
+use Rattle.mt_base.specs.Width.{kind_width}
 use Rattle.mt_layout.specs.Rows.{dead_mark}
 use Rattle.mt_life.specs.declared.views.Held.{Held}
-use Rattle.mt_rule.specs.declared.views.PassPart.{PassPart}
 use Rattle.mt_rule.specs.Places.{column_at}
 use Rattle.mt_rule.specs.Sections.{IsAt, here, moment_seen}
 use Rattle.mt_rule.specs.Tokens.{part_of}
-use Rattle.mt_read.specs.Answers.{Answers, AnswersBy}
 use Rattle.mt_read.specs.Walks.{IsUnder}
-use Rattle.mt_read.proofs.Finding.{begins_length}
 use Rattle.mt_read.proofs.Descending.{greatest_fits, goes_on, goes_sees, here_more}
 use Rattle.mt_read.proofs.Reading.{kind_goes}
 use Rattle.mt_read.proofs.Keeping.{goes_parent, under_tells}

@@ -1,6 +1,5 @@
-use Rattle.std.proofs.Common.{rules, arith, ◌≡◌, ◌≢◌, ◌+◌, ◌-◌, ◌<◌, ◌≤◌, ◌∙◌, ℕ, length, refl, sym, ap, subst, Option, None}
+use Rattle.std.proofs.Common.{rules, arith, ◌≡◌, ◌≢◌, ◌-◌, ◌∙◌, ℕ, length, refl, sym, subst, None}
 use Rattle.std.specs.Prelude.{IfSome}
-use Rattle.mt_base.specs.declared.ranges.Range.{Range}
 use Rattle.mt_base.specs.declared.calls.Query.TheVariants.{Rfind}
 use Rattle.mt_rule.specs.Sections.{here}
 use Rattle.mt_rule.specs.Tokens.{part_of}

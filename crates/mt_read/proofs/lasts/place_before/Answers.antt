@@ -1,6 +1,6 @@
-use Rattle.std.proofs.Common.{rules, arith, ◌≡◌, ◌≢◌, ◌+◌, ◌-◌, ◌<◌, ◌≤◌, ℕ, sym, ap, ◌∙◌, refl}
+use Rattle.std.proofs.Common.{rules, arith, ◌≡◌, ◌≢◌, ◌+◌, ◌-◌, ◌<◌, ap, ◌∙◌}
 use Rattle.std.specs.Prelude.{slice_index}
-use Rattle.mt_rule.specs.Sections.{here, kind_of}
+use Rattle.mt_rule.specs.Sections.{here}
 use Rattle.mt_rule.specs.Tokens.{part_of}
 use Rattle.mt_read.proofs.Finding.{column_is, place_more, slots_are}
 use Rattle.mt_read.proofs.Descending.{greatest_fits, place_within}

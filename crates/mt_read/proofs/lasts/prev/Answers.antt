@@ -1,4 +1,4 @@
-use Rattle.std.proofs.Common.{ℕ, ap, sym, subst, length, Option}
+use Rattle.std.proofs.Common.{ℕ, sym, subst, length, Option}
 use Rattle.mt_base.specs.declared.ranges.Range.{Range}
 use Rattle.mt_base.specs.declared.calls.Query.TheVariants.{Prev}
 use Rattle.mt_rule.specs.Tokens.{identity_of, part_of}

@@ -1,4 +1,4 @@
-use Rattle.std.proofs.Common.{rules, arith, ◌≡◌, ◌≤◌, [], length}
+use Rattle.std.proofs.Common.{rules, ◌≡◌, ◌≤◌, [], length}
 use Rattle.mt_base.specs.declared.calls.Query.TheVariants.{Prev}
 use Rattle.mt_rule.specs.Sections.{here, moment_seen}
 use Rattle.mt_rule.specs.Tokens.{part_of}

@@ -1,4 +1,4 @@
-use Rattle.std.proofs.Common.{rules, arith, ◌≡◌, ◌≤◌, [], length, sym, ap, subst}
+use Rattle.std.proofs.Common.{rules, ◌≡◌, ◌≤◌, [], length, sym, subst}
 use Rattle.mt_base.specs.declared.calls.Query.TheVariants.{Rfind}
 use Rattle.mt_life.specs.declared.views.Held.{Held}
 use Rattle.mt_rule.specs.Sections.{here, moment_seen}

@@ -1,4 +1,4 @@
-use Rattle.std.proofs.Common.{rules, arith, ◌≡◌, ◌≢◌, ◌⊎◌, ◌+◌, ◌≤◌, ◌∙◌, ℕ, [], length, inr, sym, ap, subst}
+use Rattle.std.proofs.Common.{rules, ◌≡◌, ◌≢◌, ◌+◌, ◌≤◌, ◌∙◌, ℕ, [], length, sym, ap, subst}
 use Rattle.mt_base.specs.declared.kinds.Kind.{Kind}
 use Rattle.mt_base.specs.declared.calls.Query.TheVariants.{Find}
 use Rattle.mt_base.specs.Width.{greatest_of, kind_width}
@@ -8,9 +8,8 @@ use Rattle.mt_rule.specs.declared.views.PassPart.{PassPart}
 use Rattle.mt_rule.specs.Places.{column_at}
 use Rattle.mt_rule.specs.Sections.{IsAt, here, moment_seen}
 use Rattle.mt_rule.specs.Tokens.{part_of}
-use Rattle.mt_read.specs.Answers.{Answers, AnswersBy}
+use Rattle.mt_read.specs.Answers.{AnswersBy}
 use Rattle.mt_read.specs.Walks.{IsUnder}
-use Rattle.mt_read.proofs.Finding.{begins_length}
 use Rattle.mt_read.proofs.Descending.{goes_on, goes_sees, here_more}
 use Rattle.mt_read.proofs.Keeping.{goes_parent, under_tells}
 use Rattle.mt_read.proofs.Crossing.{nothing_by, beside_by}

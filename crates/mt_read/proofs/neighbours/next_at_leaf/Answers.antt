@@ -1,16 +1,13 @@
-use Rattle.std.proofs.Common.{rules, arith, ◌≡◌, ◌≢◌, ◌+◌, ◌≤◌, ◌∙◌, ℕ, length, inr, sym, ap, subst, Option, None}
+use Rattle.std.proofs.Common.{rules, arith, ◌≡◌, ◌+◌, ◌∙◌, ℕ, length, inr, sym, ap, subst, None}
 use Rattle.std.specs.Prelude.{IfSome}
-use Rattle.mt_base.specs.declared.ranges.Range.{Range}
 use Rattle.mt_base.specs.declared.calls.Query.TheVariants.{Find, Next}
-use Rattle.mt_base.specs.declared.widths.Width.{Width}
-use Rattle.mt_base.specs.Width.{greatest, greatest_of, kind_width}
-use Rattle.mt_life.specs.declared.views.Held.{Held}
+use Rattle.mt_base.specs.Width.{greatest, greatest_of}
 use Rattle.mt_rule.specs.declared.views.PassPart.{PassPart}
 use Rattle.mt_rule.specs.declared.views.Shape.{Shape}
 use Rattle.mt_rule.specs.Sections.{here}
 use Rattle.mt_rule.specs.Tokens.{identity_of, part_of}
 use Rattle.mt_read.specs.Answers.{Answers, AnswersBy, LeafAnswers}
-use Rattle.mt_read.proofs.Finding.{begins_length, place_more, sees_on, shape_is}
+use Rattle.mt_read.proofs.Finding.{place_more, sees_on, shape_is}
 use Rattle.mt_read.proofs.Descending.{goes_on, goes_sees, place_within}
 use Rattle.mt_read.proofs.Reading.{kind_goes, stood_here}
 use Rattle.mt_read.proofs.Crossing.{crosses, crosses_beside, ends, from_fewer}

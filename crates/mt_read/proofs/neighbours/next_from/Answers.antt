@@ -1,4 +1,4 @@
-use Rattle.std.proofs.Common.{rules, arith, ◌≡◌, ◌≤◌, [], length, sym, ap, ◌∙◌, refl, subst}
+use Rattle.std.proofs.Common.{rules, ◌≡◌, ◌≤◌, [], length, subst}
 use Rattle.std.specs.Prelude.{IfSome}
 use Rattle.mt_base.specs.declared.kinds.Kind.{Kind}
 use Rattle.mt_base.specs.declared.calls.Query.TheVariants.{Next}

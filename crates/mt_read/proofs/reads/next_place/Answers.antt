@@ -1,4 +1,4 @@
-use Rattle.std.proofs.Common.{rules, arith, ◌≡◌, ◌≢◌, ◌+◌, ◌<◌, ℕ, sym, ap, ◌∙◌, refl}
+use Rattle.std.proofs.Common.{arith, ◌≢◌, ◌+◌, sym, ap, ◌∙◌, refl}
 use Rattle.std.specs.Prelude.{slice_index}
 use Rattle.mt_layout.specs.declared.names.RowKind.{RowKind}
 use Rattle.mt_layout.specs.Sizes.{slots_of}

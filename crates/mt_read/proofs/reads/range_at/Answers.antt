@@ -1,5 +1,5 @@
 use Rattle.mt_layout.specs.declared.names.RowKind.{RowKind}
-use Rattle.std.proofs.Common.{rules, arith, sym, ap, ◌∙◌}
+use Rattle.std.proofs.Common.{sym, ap, ◌∙◌}
 use Rattle.mt_layout.specs.Sizes.{slots_of}
 use Rattle.mt_rule.specs.Tokens.{identity_of, part_of}
 use Rattle.mt_read.proofs.Finding.{shape_is}

@@ -1,4 +1,4 @@
-use Rattle.std.proofs.Common.{rules, ◌≡◌, sym, ap, ◌∙◌, subst}
+use Rattle.std.proofs.Common.{rules, ◌≡◌, ap, ◌∙◌, subst}
 use Rattle.mt_base.specs.Passes.{Read}
 use Rattle.mt_base.proofs.Goings.{grew_read, saw_grows}
 use Rattle.mt_rule.specs.Tokens.{pass_in}

@@ -1,4 +1,4 @@
-use Rattle.std.proofs.Common.{ℕ, arith, ◌≤◌, Option, length, sym, subst}
+use Rattle.std.proofs.Common.{arith, ◌≤◌, Option, length, sym, subst}
 use Rattle.mt_base.specs.declared.calls.Query.TheVariants.{Find}
 use Rattle.mt_base.specs.declared.ranges.Range.{Range}
 use Rattle.mt_base.specs.Width.{greatest_of}

@@ -1,5 +1,4 @@
-use Rattle.std.proofs.Common.{arith, ◌≡◌, ◌≤◌, ◌∙◌, ap, sym, length, Some, None}
-use Rattle.mt_base.specs.declared.calls.Query.TheVariants.{Find}
+use Rattle.std.proofs.Common.{arith, ◌≡◌, ◌∙◌, ap, sym, length, Some, None}
 use Rattle.mt_rule.specs.Tokens.{identity_of, part_of}
 use Rattle.mt_rule.specs.Sections.{moment_seen}
 use Rattle.mt_read.specs.Cursors.{query_at}

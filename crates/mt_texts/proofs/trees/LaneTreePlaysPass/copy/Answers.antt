@@ -1,8 +1,8 @@
-use Rattle.std.proofs.Common.{◌≡◌, ℕ, Err, map, refl, sym, ap, ◌∙◌, subst, arith}
+use Rattle.std.proofs.Common.{ℕ, Err, map, sym, ap, ◌∙◌, subst, arith}
 use Rattle.mt_base.specs.declared.kinds.Kind.{Kind}
-use Rattle.mt_play.specs.Trees.{IsNewTree, calls_taken, map_seen}
+use Rattle.mt_play.specs.Trees.{IsNewTree, map_seen}
 use Rattle.mt_rule.specs.Tokens.{pass_in}
-use Rattle.mt_tree.specs.Trees.{limit_of, opened, passes_of}
+use Rattle.mt_tree.specs.Trees.{limit_of, opened}
 use Rattle.mt_texts.proofs.Lanes.{many, new_tree}
 use Rattle.mt_texts.proofs.trees.LaneTreePlaysPass.copy.Goals as goal
 

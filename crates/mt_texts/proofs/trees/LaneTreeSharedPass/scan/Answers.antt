@@ -1,4 +1,4 @@
-use Rattle.std.proofs.Common.{rules, ◌≡◌, ℕ, Option, ap, subst}
+use Rattle.std.proofs.Common.{rules, ◌≡◌, ℕ, Option, subst}
 use Rattle.mt_log.specs.declared.lines.Item.TheVariants.{Scan}
 use Rattle.mt_log.specs.Run.{Asked}
 use Rattle.mt_rule.specs.Tokens.{pass_in}
