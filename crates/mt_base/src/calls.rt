@@ -5,7 +5,8 @@ ghost use Rattle.mt_base.specs.Call.{is_invalid, finds_room, is_no_area, is_bad_
 use crate::kinds::Kind;
 use crate::widths::{top, width_of};
 
-/// A call that writes. Each gets the next number of its tree, from 1, also where it changes nothing.
+/// A call of a tree's history: one that writes, or a search for room (`Gap`, `Rgap`), which stores nothing. Each gets the next
+/// number of its tree, from 1, also where it changes nothing.
 #[derive(Clone, Copy, Debug, PartialEq, Eq)]
 pub enum Call {
     /// Stores `entry` over `first` to `last`, or makes a hole there where `entry` is 0.

@@ -18,6 +18,10 @@ const NO_PARENT: u64 = 1;
 
 /// Whether the words with this root word are lawful for a tree of this kind: the tree's form, or the first fault in the order of
 /// a walk from the root, each row before its children, children from the left. Each row is read once.
+///
+/// # Errors
+///
+/// The first fault, where the words are not lawful.
 pub fn check<R: Rows>(rows: &mut R, root: u64, kind: Kind) -> Result<Form, Fault>
     requires { (R.sheet rows.old).tree.table.width ≡ kind_width kind }
     ensures lawful { IsOk result ↔ IsLawfulOf (with_published (R.sheet rows.old).tree Root root) kind }

@@ -122,6 +122,10 @@ impl<R: Rows> Engine<R> {
 
     /// Makes it ready for a store: scans, and frees the rows that no section holds. Where fewer than three rows for each level
     /// and one are free then, the shortage tells so. All else stays, and no call is made.
+    ///
+    /// # Errors
+    ///
+    /// The shortage, where too few rows are free.
     pub fn preallocate(&mut self) -> Result<(), Shortage>
         requires { self.old.sheet.ended < 2 ^ 64 }
         ensures scanned { IsScanned self.old.kind self.old.sheet self.new.sheet self.old.book self.new.book }
@@ -151,7 +155,7 @@ impl<R: Rows> Engine<R> {
         )
     }
 
-    /// Answers one query.
+    /// Answers one query: there is none where no range fits it.
     pub fn ask(&mut self, query: &Query) -> Option<Range>
         ensures answer { result ≡ answer (map_by self.old.sheet.tree) query.now }
         ensures rest { OnlyReads self.old.sheet self.new.sheet }
@@ -170,7 +174,7 @@ impl<R: Rows> Engine<R> {
     }
 
     /// The first range at a walk's index or above, from behind which the walk goes on then. The walk is one of the tree as it
-    /// stands.
+    /// stands. There is none where no range ends there or above.
     pub fn next_range(&mut self, walk: &mut RangeWalk) -> Option<Range>
         requires { WalksFrom self.old.sheet.tree walk.old }
         ensures range { result ≡ found_from (map_by self.old.sheet.tree) (greatest self.old.sheet.tree.table.width) walk.old.next }
@@ -187,6 +191,10 @@ impl<R: Rows> Engine<R> {
     }
 
     /// Copies the ranges out, in rising order.
+    ///
+    /// # Errors
+    ///
+    /// `NoMemory` where memory ran out.
     pub fn list(&mut self, alloc: Global) -> Result<Vec<Range>, NoMemory>
         ensures items { IfOk result (λ ranges. ranges.items ≡ map_by self.old.sheet.tree) }
         ensures rest { OnlyReads self.old.sheet self.new.sheet }

@@ -181,8 +181,8 @@ fn highest_in_leaves<R: Rows, L: Ledger>(
     found
 }
 
-/// The lowest start of so many indexes that lie in one hole and in the window `lo` to `hi`. Each row that is loaded is
-/// a step.
+/// The lowest start of so many indexes that lie in one hole and in the window `lo` to `hi`, and none where no hole has room.
+/// Each row that is loaded is a step.
 pub fn lowest<R: Rows, L: Ledger>(
     rows: &mut R,
     size: u64,
@@ -275,8 +275,8 @@ pub fn lowest_way<R: Rows, L: Ledger>(
     }
 }
 
-/// The highest start of so many indexes that lie in one hole and in the window `lo` to `hi`. Each row that is loaded is
-/// a step.
+/// The highest start of so many indexes that lie in one hole and in the window `lo` to `hi`, and none where no hole has room.
+/// Each row that is loaded is a step.
 pub fn highest<R: Rows, L: Ledger>(
     rows: &mut R,
     size: u64,

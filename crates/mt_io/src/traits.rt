@@ -62,6 +62,7 @@ pub trait Sink {
 pub trait Gate {
     ghost passed: { Self → ℕ → ℕ → Type 0 } = { λ _ _ _. ⊤ };
 
+    /// Waits until the lane may pass this turn.
     fn turn(&self, lane: u32, number: u64)
         ensures { passed self.now lane number };
 }

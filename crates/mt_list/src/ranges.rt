@@ -21,7 +21,11 @@ pub trait Ranges {
     ghost limits: { Self → Option Limits };
 
     /// Makes one call: it does what the call says, or, where rows are limited, it may refuse for want of them and leave the
-    /// map. An `Err` changes nothing.
+    /// map.
+    ///
+    /// # Errors
+    ///
+    /// `NoMemory` where memory ran out. Nothing is changed then.
     fn act(&mut self, call: &Call) -> Result<Reply, NoMemory>
         requires { used self.old < 2 ^ 62 - 1 }
         ensures acts { IfOk result (λ reply. IsMade (kind self.old) (limits self.old) (map self.old) call.now (map self.new) reply) }
@@ -31,7 +35,7 @@ pub trait Ranges {
         ensures ended { OnOk result (limits self.new ≡ one_call_more (limits self.old)) }
         ensures not_ended { OnErr result (limits self.new ≡ limits self.old) };
 
-    /// Answers one query.
+    /// Answers one query: there is none where no range fits it.
     fn ask(&mut self, query: &Query) -> Option<Range>
         ensures answer { result ≡ answer (map self.old) query.now }
         ensures map { map self.new ≡ map self.old }
@@ -40,6 +44,10 @@ pub trait Ranges {
         ensures limits { limits self.new ≡ limits self.old };
 
     /// Copies the ranges out, in rising order.
+    ///
+    /// # Errors
+    ///
+    /// `NoMemory` where memory ran out.
     fn list(&mut self, alloc: Global) -> Result<Vec<Range>, NoMemory>
         ensures items { IfOk result (λ v. v.items ≡ map self.old) }
         ensures map { map self.new ≡ map self.old }

@@ -116,12 +116,14 @@ impl Model for Lines {
 impl Lines {
     ghost use Rattle.std.specs.Prelude.{◌≡◌};
 
+    /// These items, in order.
     pub fn new(items: Vec<Line>) -> Self
         ensures { result ≡ items.items }
     {
         Lines { items }
     }
 
+    /// The items, in order.
     pub fn as_slice(&self) -> &[Line]
         ensures { result.now ≡ self.now }
     {

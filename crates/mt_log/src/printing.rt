@@ -287,6 +287,10 @@ fn push_lines(alloc: Global, text: &mut Vec<u8>, lines: &[Line]) -> Result<(), A
 }
 
 /// The text of a log that can be read: each line at its number, blank lines between. It reads as this very log.
+///
+/// # Errors
+///
+/// `NoMemory` where memory ran out.
 #[tactic(auto, using(crate::proofs::RoundTrip::reads_again))]
 pub fn print_log(alloc: Global, log: &Log) -> Result<Vec<u8>, NoMemory>
     requires { IsLog log.now }

@@ -83,7 +83,7 @@ fn read_lines(alloc: Global, text: &[u8]) -> Result<Reader, LogError>
 ///
 /// # Errors
 ///
-/// `Bad` where the bytes are no log, with the first bad line and the first failed test of it.
+/// `Bad` where the bytes are no log, with the first bad line and the first failed test of it; `NoMemory` where memory ran out.
 #[tactic(auto, using(crate::proofs::Pieces::behind_header, crate::proofs::Pieces::other_header))]
 pub fn read_log(alloc: Global, bytes: &[u8]) -> Result<Log, LogError>
     ensures log { Reads (λ log. log) result (log_of bytes.now) }

@@ -200,6 +200,10 @@ fn push_listings(
 }
 
 /// The text of a transcript of a log of this version.
+///
+/// # Errors
+///
+/// `NoMemory` where memory ran out.
 pub fn render(alloc: Global, version: u32, transcript: &Transcript) -> Result<Vec<u8>, NoMemory>
     ensures { IfOk result (λ v. v.items ≡ text_of version transcript.now) }
 {

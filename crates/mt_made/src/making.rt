@@ -93,6 +93,10 @@ fn made_lines(alloc: Global, number: u32, steps: u32, lanes: u32) -> Result<Line
 }
 
 /// The log that is made of this number: so many steps on one tree, dealt out to so many lanes. It can be printed, and played.
+///
+/// # Errors
+///
+/// `NoMemory` where memory ran out.
 #[tactic(auto, using(crate::proofs::MadeLogs::made_is_readable, crate::proofs::MadeLogs::made_long), unfolding(crate::specs::Made::made))]
 pub fn made_log(alloc: Global, number: u32, steps: u32, lanes: u32) -> Result<Log, NoMemory>
     requires number { number < 2 ^ 31 }

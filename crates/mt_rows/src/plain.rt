@@ -214,6 +214,10 @@ impl PlainRows {
     ghost use Rattle.mt_rows.specs.Sheet.{IsPlace, IsFree, life_of};
 
     /// So many rows, none of which was ever used, and an empty tree. There are `MOST_ROWS` at the most.
+    ///
+    /// # Errors
+    ///
+    /// `NoMemory` where memory ran out.
     pub fn new(alloc: Global, rows: u64) -> Result<PlainRows, NoMemory>
         requires { rows ≤ most_rows }
         ensures { IfOk result (λ p. sheet_in p ≡ new_sheet rows) }
@@ -240,6 +244,10 @@ impl PlainRows {
     }
 
     /// Rows with these words, and this root word. Where the words are lawful, the rows that are reached are live.
+    ///
+    /// # Errors
+    ///
+    /// `NoMemory` where memory ran out.
     pub fn of_words(
         alloc: Global,
         width: Width,

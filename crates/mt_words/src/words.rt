@@ -22,7 +22,11 @@ fn ends_options(words: &[String]) -> bool
     words.iter().any(is_end_of_options)
 }
 
-/// The command that the words are, if they are one.
+/// The command that the words are, and none where they are no command.
+///
+/// # Errors
+///
+/// `NoMemory` where memory ran out.
 pub fn read_words(alloc: Global, words: &[String]) -> Result<Option<Command>, NoMemory>
     ensures command { IfOk result (λ command. command ≡ command_of (map string_bytes words.now)) }
     ensures within { IfOk result (λ command. IfSome command IsWithin) }
