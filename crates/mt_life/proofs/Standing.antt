@@ -1,5 +1,5 @@
 -- A draft, a burying and a tending leave the words a tree: they keep all laws but those of parents and gaps.
-use Rattle.std.proofs.Common.{◌≡◌, ◌≢◌, ℕ, zero, suc, ◌<◌, List, length, Some, sym, ap, ◌∙◌, subst, inl, inr, ⊎_elim, arith}
+use Rattle.std.proofs.Common.{◌≡◌, ◌≢◌, ℕ, zero, suc, ◌<◌, List, length, Some, refl, sym, ap, ◌∙◌, subst, inl, inr, ⊎_elim, arith}
 use Rattle.std.proofs.lemmas.Bool.{cases_eq}
 use Rattle.mt_base.specs.declared.kinds.Kind.{Kind}
 use Rattle.mt_base.specs.declared.kinds.Kind.TheVariants as trees
@@ -30,7 +30,7 @@ use Rattle.mt_life.proofs.Writing.{gap_fits, gap_row, row_others, col_others}
 -- a row whose columns stay
 keeps : (t : Tree) (words : List ℕ) (k : ℕ) (x : Span) → IsRow t k x → SameColumns t.table (with_words t words t.root).table (columns t.table.width) (row_in x.word)
     → IsRow (with_words t words t.root) k x × SameSpans t.table (with_words t words t.root).table x
-keeps t words k x row same = (row_keeps t words t.root k x same row, same_spans t.table (with_words t words t.root).table x same)
+keeps t words k x row same = (row_keeps t words t.root k x same row, same_spans t.table (with_words t words t.root).table x refl same)
 
 -- a row in which a gap word is stored
 gap_keeps : (kind : Kind) (t : Rooted) (row col slot word k : ℕ) (x : Span) → row_in x.word ≡ row → col ≡ gap_column (slots_of t.table.width Gapped) slot

@@ -104,7 +104,7 @@ module _ (kind : Kind) (s : Sheet) (r col word h h' : ℕ) (at : IsPlaceToPublis
 
   still_below : IsBelow T'.table at.2.depth root at.2.at
   still_below = below_shared T.table T'.table at.2.depth root at.2.at
-      (λ e y less below. same_spans T.table T'.table y (λ c above inside. others_stay s (Slot r col) word (row_in y.word) c at (above_other e y less below) inside))
+      (λ e y less below. same_spans T.table T'.table y refl (λ c above inside. others_stay s (Slot r col) word (row_in y.word) c at (above_other e y less below) inside))
       at.2.reached
 
   pub row_stays : IsReached (with_published s.tree (Slot r col) word) r

@@ -1,8 +1,7 @@
 -- The words of rows that are not reached do not count.
-use Rattle.std.proofs.Common.{◌≡◌, ℕ, zero, suc, ◌*◌, List, [], ◌∷◌, ◌++◌, Option, Some, None, refl, ap, ◌∙◌}
+use Rattle.std.proofs.Common.{◌≡◌, ℕ, zero, suc, ◌*◌, List, [], ◌∷◌, ◌++◌, Option, Some, None, refl, ap, sym, subst, ◌∙◌}
 use Rattle.std.specs.List.{AllByRecursion, flat_map}
 use Rattle.mt_base.specs.declared.widths.Width.{Width}
-use Rattle.mt_base.specs.declared.widths.Width.TheVariants.{Long}
 use Rattle.mt_base.specs.Width.{columns}
 use Rattle.mt_base.proofs.Lists.{all_front, all_back}
 use Rattle.mt_layout.specs.declared.names.RowKind.{RowKind}
@@ -21,20 +20,22 @@ abbrev Agree : Table → Table → ℕ → Type 0
 Agree t t' row = SameColumns t t' (columns t.width) row
 
 same_row : (width width' : Width) (w w' : List ℕ) (kind : RowKind) (row first last : ℕ)
-    → Agree (record { width = width; words = w }) (record { width = width'; words = w' }) row
+    → width' ≡ width → Agree (record { width = width; words = w }) (record { width = width'; words = w' }) row
     → row_spans (record { width = width'; words = w' }) row kind first last ≡ row_spans (record { width = width; words = w }) row kind first last
-same_row Long Long w w' kind row first last same =
-    ap (spans_from first) (same_items (columns Long) (slots_of Long kind) (gaps_of Long kind) (columns Long * row) (columns Long * row) w' w (layout_of Long kind) same last)
+same_row width width' w w' kind row first last one =
+    subst (λ (v : Width). Agree (record { width = width; words = w }) (record { width = v; words = w' }) row
+    → row_spans (record { width = v; words = w' }) row kind first last ≡ row_spans (record { width = width; words = w }) row kind first last) (sym one)
+    (λ same. ap (spans_from first) (same_items (columns width) (slots_of width kind) (gaps_of width kind) (columns width * row) (columns width * row) w' w (layout_of width kind) same last))
 
--- tables that agree on a row have the same spans in it
-pub same_spans : (t t' : Table) (x : Span) → Agree t t' (row_in x.word) → SameSpans t t' x
-same_spans t t' x same = by (named_kind x.word)
+-- tables of one width that agree on a row have the same spans in it
+pub same_spans : (t t' : Table) (x : Span) → t'.width ≡ t.width → Agree t t' (row_in x.word) → SameSpans t t' x
+same_spans t t' x width same = by (named_kind x.word)
   where
     by : (kind : Option RowKind) → spans_by t' kind x ≡ spans_by t kind x
     by None = refl
-    by (Some kind) = same_row t.width t'.width t.words t'.words kind (row_in x.word) x.first x.last same
+    by (Some kind) = same_row t.width t'.width t.words t'.words kind (row_in x.word) x.first x.last width same
 
-module _ (t t' : Table) where
+module _ (t t' : Table) (width : t'.width ≡ t.width) where
   abbrev Same : ℕ → Type 0
   Same row = Agree t t' row
 
@@ -51,14 +52,14 @@ module _ (t t' : Table) where
 
   by_children : (depth : ℕ) → ((x : Span) → Stay depth x) → (x : Span) → Same (row_in x.word) → AllByRecursion Same (flat_map (rows_of t depth) (spans_in t x))
       → flat_map (ranges_of t' depth) (spans_in t' x) ≡ flat_map (ranges_of t depth) (spans_in t x)
-  by_children depth each x here below = ap (flat_map (ranges_of t' depth)) (same_spans t t' x here) ∙ all_stay depth each (spans_in t x) below
+  by_children depth each x here below = ap (flat_map (ranges_of t' depth)) (same_spans t t' x width here) ∙ all_stay depth each (spans_in t x) below
 
   by_name : (depth : ℕ) → ((x : Span) → Stay depth x) → (x : Span) (kind : Option RowKind)
       → AllByRecursion Same (by_kind kind (row_in x.word ∷ []) (row_in x.word ∷ flat_map (rows_of t depth) (spans_in t x)))
       → by_kind kind (flat_map leaf_range (spans_in t' x)) (flat_map (ranges_of t' depth) (spans_in t' x))
       ≡ by_kind kind (flat_map leaf_range (spans_in t x)) (flat_map (ranges_of t depth) (spans_in t x))
   by_name depth each x None same = refl
-  by_name depth each x (Some Leaf) same = ap (flat_map leaf_range) (same_spans t t' x same.0)
+  by_name depth each x (Some Leaf) same = ap (flat_map leaf_range) (same_spans t t' x width same.0)
   by_name depth each x (Some Inner) same = by_children depth each x same.0 same.1
   by_name depth each x (Some Gapped) same = by_children depth each x same.0 same.1
 

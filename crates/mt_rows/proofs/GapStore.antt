@@ -139,7 +139,7 @@ module _ (r : Rooted) (h k slot gap : ℕ) (x : Span) (has : HasWords (tree_as t
       subst (λ (p : ℕ × Span). SameSpans before.table after.table p.1 × IsRow after p.0 p.1) (λ i. (sym one.0 i, sym one.1 i))
       (spans_stay r k slot gap x has this used, row_stays r k slot gap x has this used)))
       (λ (other : row_in y.word ≡ row_in x.word → ⊥). (let columns_stay = others_keep r k slot gap x has this used y other in
-      (same_spans before.table after.table y columns_stay, row_keeps before after.table.words r.root l y columns_stay (on_level_law before h stands l y at))))
+      (same_spans before.table after.table y refl columns_stay, row_keeps before after.table.words r.root l y columns_stay (on_level_law before h stands l y at))))
       (cases_eq (row_in y.word) (row_in x.word))
 
   pub all_spans_stay : Levels (Shared before.table after.table) before.table h (root_of before)

@@ -53,7 +53,7 @@ module _ (t : Tree) (words : List ℕ) (root : ℕ) where
   -- a row keeps its laws while its columns but the parent word stay
   pub row_keeps : (h : ℕ) (x : Span) → SameColumns t.table later.table (columns t.table.width) (row_in x.word) → IsRow t h x → IsRow later h x
   row_keeps h x same row =
-      let spans = same_spans t.table later.table x same in
+      let spans = same_spans t.table later.table x refl same in
       record {
         name = record { named = row.name.named; in_table = row.name.in_table };
         pivots = record { fills = subst (Fills x.first (x.last + 1)) (sym spans) row.pivots.fills; unused = unused };

@@ -97,7 +97,7 @@ module _ (s : Store) where
   -- ---- what other rows keep
 
   pub others_same : (n : ℕ) (y : Span) → IsOther n y → SameSpans t.table after_store.table y
-  others_same n y other = same_spans t.table after_store.table y (others_keep t s.low s.slot s.word s.row s.has row_law used y (eqb-false (row_in y.word) (row_in s.row.word) other))
+  others_same n y other = same_spans t.table after_store.table y refl (others_keep t s.low s.slot s.word s.row s.has row_law used y (eqb-false (row_in y.word) (row_in s.row.word) other))
 
   pub others_laws : (n : ℕ) (y : Span) → IsOther n y → IsRow t n y → IsRow after_store n y
   others_laws n y other law = row_keeps t after_store.table.words t.root n y (others_keep t s.low s.slot s.word s.row s.has row_law used y (eqb-false (row_in y.word) (row_in s.row.word) other)) law

@@ -35,9 +35,9 @@ pub fn no_row_is_reached_twice()
     ensures depth { (t : Tree) (h row : ℕ) → Stands t h → tally (λ (r : ℕ). r == row) (reached_in t.table t.root) ≤ 1 }
 {}
 
-/// The words of rows that are not reached do not count, nor do parent words.
+/// The words of rows that are not reached do not count, nor do parent words, in tables of one width.
 pub fn rows_not_reached_do_not_count()
-    ensures { (t t' : Table) (depth : ℕ) (x : Span) → AllByRecursion (SameColumns t t' (columns t.width)) (rows_of t depth x) → ranges_of t' depth x ≡ ranges_of t depth x }
+    ensures { (t t' : Table) (depth : ℕ) (x : Span) → t'.width ≡ t.width → AllByRecursion (SameColumns t t' (columns t.width)) (rows_of t depth x) → ranges_of t' depth x ≡ ranges_of t depth x }
 {}
 
 /// A tree stands for a map of its kind, and an empty one for the empty map.

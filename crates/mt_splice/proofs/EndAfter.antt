@@ -67,7 +67,7 @@ fewest_kept is_new t words None keep few = few
 fewest_kept is_new t words (Some h) keep few =
     let t' = tree_with t words in
     fewest_later is_new is_new t.kind t.table t'.table refl h (root_of t)
-    (levels_all (Shared t.table t'.table) t.table (λ _ x. same_spans t.table t'.table x (keep (row_in x.word))) h (root_of t))
+    (levels_all (Shared t.table t'.table) t.table (λ _ x. same_spans t.table t'.table x refl (keep (row_in x.word))) h (root_of t))
     (levels_all (SameNews is_new is_new) t.table (λ _ x. refl) h (root_of t)) few
 
 -- and the gap words stay right where they were
@@ -85,7 +85,7 @@ tells_kept : (kind : Kind) (t : Rooted) (words : List ℕ) (o : Option ℕ) (wor
 tells_kept kind t words None word gap keep stands stands' tells = absurd (let some = placed_count (tree_as kind t) None tells.height tells.row stands tells.stands in omega arith)
 tells_kept kind t words (Some h) word gap keep stands stands' tells =
     let t' = with_words t words in
-    let same : (x : Span) → SameSpans t.table t'.table x = λ x. same_spans t.table t'.table x (keep (row_in x.word)) in
+    let same : (x : Span) → SameSpans t.table t'.table x = λ x. same_spans t.table t'.table x refl (keep (row_in x.word)) in
     record {
       height = tells.height;
       row = tells.row;

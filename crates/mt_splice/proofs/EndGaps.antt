@@ -71,7 +71,7 @@ module _ (is_new : ℕ → Bool) (index : ℕ) (t : Tree) (words : List ℕ) (ke
   t' = tree_with t words
 
   all_shared : (h : ℕ) (xs : List Span) → Levels (Shared t.table t'.table) t.table h xs
-  all_shared h xs = levels_all (Shared t.table t'.table) t.table (λ _ x. same_spans t.table t'.table x (keep (row_in x.word))) h xs
+  all_shared h xs = levels_all (Shared t.table t'.table) t.table (λ _ x. same_spans t.table t'.table x refl (keep (row_in x.word))) h xs
 
   from_but : (h row slot : ℕ) (xs : List Span) → slot + length xs ≤ slots_of t.table.width Gapped → GapsFromBut index t.table h row slot xs → GapsFromBut index t'.table h row slot xs
   from_but h row slot [] few law = tt
@@ -87,7 +87,7 @@ module _ (is_new : ℕ → Bool) (index : ℕ) (t : Tree) (words : List ℕ) (ke
   but_of_kind Gapped h x is row law =
       let most = row_most row.name in
       let slots = ap (slots_of t.table.width) is in
-      subst (GapsFromBut index t'.table h (row_in x.word) 0) (sym (same_spans t.table t'.table x (keep (row_in x.word)))) (from_but h (row_in x.word) 0 (spans_in t.table x) (omega arith) law)
+      subst (GapsFromBut index t'.table h (row_in x.word) 0) (sym (same_spans t.table t'.table x refl (keep (row_in x.word)))) (from_but h (row_in x.word) 0 (spans_in t.table x) (omega arith) law)
 
   keeps_then : (h : ℕ) (x : Span) → IsRow t h x → KeepsGaps is_new index t h x → KeepsGaps is_new index t' h x
   keeps_then zero x row keeps = record { beside = tt; new = λ _. tt }

@@ -90,7 +90,7 @@ module _ (f : ends.Finish) where
       → spans_in (with_published s.tree place f.word).table x ≡ spans_in s.tree.table x
   stored_spans Root at old x taken = refl
   stored_spans (Slot r c) at old x taken =
-      same_spans s.tree.table (with_published s.tree (Slot r c) f.word).table x (λ column_of above within.
+      same_spans s.tree.table (with_published s.tree (Slot r c) f.word).table x refl (λ column_of above within.
       other_row s.tree.table.width s.tree.table.words r c f.word (row_in x.word) column_of
       (λ same. (let not = old r c refl in let both : is_taken w r ≡ true = subst (λ (n : ℕ). is_taken w n ≡ true) same taken in absurd (cc)))
       (above_in s (Slot r c) at r c refl).1 within)
@@ -593,7 +593,7 @@ module _ (f : ends.Finish) where
         only₃ = only_more s₁ s₂ s₃ tended.only (top_only s₂ s₃ (inner_kind b.kind) f.place f.word top)
 
         spans₃ : (x : Span) → spans_in s₃.tree.table x ≡ spans_in later.table x
-        spans₃ x = same_spans s₁.tree.table s₃.tree.table x (λ c above within. only₃.kept (row_in x.word) c above within) ∙ ap (λ (t : Table). spans_in t x) table₁
+        spans₃ x = same_spans s₁.tree.table s₃.tree.table x (only_width s₁ s₃ only₃) (λ c above within. only₃.kept (row_in x.word) c above within) ∙ ap (λ (t : Table). spans_in t x) table₁
 
         abbrev final : laws.Tree
         final = tree_as f.before.kind s₃.tree

@@ -113,7 +113,7 @@ module _ (t : Tree) (words : List ℕ) where
   Kept h x = SameColumns t.table t'.table (columns t.table.width) (row_in x.word)
 
   kept_shared : (h : ℕ) (xs : List Span) → Levels Kept t.table h xs → Levels (Shared t.table t'.table) t.table h xs
-  kept_shared h xs kept = levels_map Kept (Shared t.table t'.table) t.table (λ _ x same. same_spans t.table t'.table x same) h xs kept
+  kept_shared h xs kept = levels_map Kept (Shared t.table t'.table) t.table (λ _ x same. same_spans t.table t'.table x refl same) h xs kept
 
   -- one row
   pub gap_law_stays : (h : ℕ) (x : Span) → IsRow t (suc h) x → Kept (suc h) x → Levels Kept t.table h (spans_in t.table x) → GapLaw t (suc h) x → GapLaw t' (suc h) x

@@ -116,10 +116,10 @@ or_right : (a c : Bool) → c ≡ true → (a || c) ≡ true
 or_right true c is = refl
 or_right false c is = is
 
-new_rows_stay : (t t' : Table) (seen : List Seen) → ((row : ℕ) → was_seen seen row ≡ true → SameColumns t t' (columns t.width) row) → new_rows_of t' seen ≡ new_rows_of t seen
-new_rows_stay t t' [] same = refl
-new_rows_stay t t' (s ∷ seen) same =
-    λ i. new_rows_stay t t' seen (λ row some. same row (seen_more s seen row some)) i ++ one s.height (same_spans t t' s.at (same (row_seen s) (seen_here s seen (row_seen s) refl))) i
+new_rows_stay : (t t' : Table) (seen : List Seen) → t'.width ≡ t.width → ((row : ℕ) → was_seen seen row ≡ true → SameColumns t t' (columns t.width) row) → new_rows_of t' seen ≡ new_rows_of t seen
+new_rows_stay t t' [] width same = refl
+new_rows_stay t t' (s ∷ seen) width same =
+    λ i. new_rows_stay t t' seen width (λ row some. same row (seen_more s seen row some)) i ++ one s.height (same_spans t t' s.at width (same (row_seen s) (seen_here s seen (row_seen s) refl))) i
   where
     one : (h : ℕ) → SameSpans t t' s.at → new_row_by h t' s ≡ new_row_by h t s
     one zero same = refl
@@ -131,7 +131,7 @@ pub inner_rows_stay : {b : Before} {start : Start} {s s' : Sheet} {book book' : 
 inner_rows_stay {b} {start} {s} {s'} {book} {book'} {w} {w'} before progress progress' keeps =
     let earlier = table_now before progress in let later = table_now before progress' in
     ap (λ (t : Table). new_rows_of t w.taken) (sym later)
-    ∙ (new_rows_stay (now start w).table (now start w').table w.taken (λ row some. keeps.words row (progress.used row ∙ or_right (is_reached b.sheet.tree row) (is_taken w row) some))
+    ∙ (new_rows_stay (now start w).table (now start w').table w.taken refl (λ row some. keeps.words row (progress.used row ∙ or_right (is_reached b.sheet.tree row) (is_taken w row) some))
     ∙ ap (λ (t : Table). new_rows_of t w.taken) earlier)
 
 -- ---- one row is written

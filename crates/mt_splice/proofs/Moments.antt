@@ -36,7 +36,7 @@ pub rows_shared : (t : Tree) (words words' : List ℕ) (h : ℕ) (xs : List Span
     → Levels (Shared (table_with t.table words) (table_with t.table words')) (table_with t.table words) h xs
 rows_shared t words words' h xs keep =
     levels_map (RowsKeep t words words') (Shared (table_with t.table words) (table_with t.table words')) (table_with t.table words)
-    (λ _ x same. same_spans (table_with t.table words) (table_with t.table words') x same) h xs keep
+    (λ _ x same. same_spans (table_with t.table words) (table_with t.table words') x refl same) h xs keep
 
 pub row_stays : (t : Tree) (words words' : List ℕ) (h : ℕ) (x : Span) → KeepsWords t words words' (row_in x.word) → IsRow (tree_with t words) h x → IsRow (tree_with t words') h x
 row_stays t words words' h x same row = row_keeps (tree_with t words) words' t.root h x same row

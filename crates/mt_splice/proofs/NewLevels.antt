@@ -1,5 +1,5 @@
 -- A level in which new rows stand in place of a stretch: what stands in its rows, and how the levels below fit.
-use Rattle.std.proofs.Common.{◌≡◌, ℕ, suc, ◌+◌, ◌≤◌, List, [], ◌∷◌, ◌++◌, Bool, sym, ap, ◌∙◌, subst, arith}
+use Rattle.std.proofs.Common.{◌≡◌, ℕ, suc, ◌+◌, ◌≤◌, List, [], ◌∷◌, ◌++◌, Bool, refl, sym, ap, ◌∙◌, subst, arith}
 use Rattle.std.specs.List.{AllByRecursion, flat_map}
 use Rattle.mt_layout.specs.declared.spans.Span.{Span}
 use Rattle.mt_layout.specs.Spans.{leaf_range, Fills}
@@ -60,7 +60,7 @@ module _ (start : Start) (s : Work) (depth height : ℕ) (n : NewLevel start s d
 
   same_expand : (xs : List Span) → AllByRecursion (words_stay height) xs → expand (now start s).table xs ≡ expand start.tree.table xs
   same_expand xs words =
-      expand_shared start.tree.table (now start s).table xs (all_map (words_stay height) (SameSpans start.tree.table (now start s).table) (λ x same. same_spans start.tree.table (now start s).table x same) xs words)
+      expand_shared start.tree.table (now start s).table xs (all_map (words_stay height) (SameSpans start.tree.table (now start s).table) (λ x same. same_spans start.tree.table (now start s).table x refl same) xs words)
 
   -- what stands in the rows of the level
   pub level_holds : expand (now start s).table (n.front ++ (n.new ++ n.back)) ≡ run_between start n.front n.run n.back

@@ -1,5 +1,5 @@
 -- A level is left: what stands beside the replaced rows in the rows above them is gathered with the new ones.
-use Rattle.std.proofs.Common.{◌≡◌, ℕ, suc, ◌+◌, ◌≤◌, List, ◌∷◌, ◌++◌, take, drop, sym, ap, ◌∙◌, subst, arith, append_assoc}
+use Rattle.std.proofs.Common.{◌≡◌, ℕ, suc, ◌+◌, ◌≤◌, List, ◌∷◌, ◌++◌, take, drop, refl, sym, ap, ◌∙◌, subst, arith, append_assoc}
 use Rattle.std.specs.List.{AllByRecursion}
 use Rattle.mt_base.proofs.Lists.{all_back}
 use Rattle.mt_layout.specs.declared.spans.Span.{Span}
@@ -48,7 +48,7 @@ module _ (start : Start) (s : Work) (holds : Holds start s) (path : List PathSte
   pub spans_here : spans_on (now start s).table (kind_at start.tree.kind k) (step_at path d) ≡ spans_in start.tree.table row_here
   spans_here =
       spans_of_step start.tree.table row_here (kind_at start.tree.kind k) (step_at path d) i row_is_lawful.name.named step_here (now start s).table
-      ∙ same_spans start.tree.table (now start s).table row_here row_keeps_words
+      ∙ same_spans start.tree.table (now start s).table row_here refl row_keeps_words
 
 -- ---- one level up
 

@@ -83,7 +83,7 @@ module _ (start : Start) (s s' : Work) (left right : List PathStep) (depth heigh
       let used = subst (Levels (IsUsed s) (now start s).table height) alone climbed.used in
       subst (FewestBelow (is_taken s') start.tree.kind (now start s').table height) (at_root start s' x first last)
       (fewest_later (is_taken s) (is_taken s') start.tree.kind (now start s).table (now start s').table refl height (x ∷ [])
-      (levels_map (IsUsed s) (Shared (now start s).table (now start s').table) (now start s).table (λ _ y u. same_spans (now start s).table (now start s').table y (levels.keeps.words (row_in y.word) u)) height (x ∷ []) used)
+      (levels_map (IsUsed s) (Shared (now start s).table (now start s').table) (now start s).table (λ _ y u. same_spans (now start s).table (now start s').table y refl (levels.keeps.words (row_in y.word) u)) height (x ∷ []) used)
       (levels_map (IsUsed s) (SameNews (is_taken s) (is_taken s')) (now start s).table (λ _ y u. ap (λ (seen : List Seen). nat_lt 0 (passing (is_row_of (row_in y.word)) seen)) levels.taken) height (x ∷ []) used)
       (subst (FewestBelow (is_taken s) start.tree.kind (now start s).table height) alone climbed.fewest))
 
@@ -162,7 +162,7 @@ module _ (start : Start) (s s' : Work) (left right : List PathStep) (height : �
         one_new (is_taken s') (now start s').table (kind_at start.tree.kind (suc height)) x lo items (lt-ltb 0 (passing (is_row_of (row_in x.word)) s'.taken) (are_taken start s s' (suc height) new (x ∷ []) written).0) (written.hold ∙ is_new) few,
         subst (FewestBelow (is_taken s') start.tree.kind (now start s').table height) (sym written.hold)
             (fewest_later (is_taken s) (is_taken s') start.tree.kind (now start s).table (now start s').table refl height new
-            (levels_map (IsUsed s) (Shared (now start s).table (now start s').table) (now start s).table (λ _ y u. same_spans (now start s).table (now start s').table y (written.keeps.words (row_in y.word) u)) height new used)
+            (levels_map (IsUsed s) (Shared (now start s).table (now start s').table) (now start s).table (λ _ y u. same_spans (now start s).table (now start s').table y refl (written.keeps.words (row_in y.word) u)) height new used)
             (levels_map (IsUsed s) (SameNews (is_taken s) (is_taken s')) (now start s).table (λ _ y u. news_same y u) height new used)
             (subst (FewestBelow (is_taken s) start.tree.kind (now start s).table height) all_new climbed.fewest)),
       )

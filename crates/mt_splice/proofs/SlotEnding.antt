@@ -182,7 +182,7 @@ module _ (start : Start) (s : Work) (left right : List PathStep) (depth height :
     front = parent_at.front;
     back = parent_at.back;
     stands = old_level start s holds depth (suc height) levels ∙ parent_at.parts;
-    holds = ap (λ (l : List Span). slice_get l slot) (same_spans old.table t.table parent (row_keeps_words start s holds left i within climbed.paths.is_left depth (suc height) levels))
+    holds = ap (λ (l : List Span). slice_get l slot) (same_spans old.table t.table parent refl (row_keeps_words start s holds left i within climbed.paths.is_left depth (suc height) levels))
         ∙ at_get parent.first (parent.last + 1) (spans_in old.table parent) i replaced child_at;
   }
 

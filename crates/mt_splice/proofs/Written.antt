@@ -96,7 +96,7 @@ module _ (start : Start) (s s₁ s₂ : Work) (height : ℕ) (spans rows : List 
   pub still_hold : expand (now start s₂).table rows ≡ spans
   still_hold =
       expand_shared (now start s₁).table (now start s₂).table rows
-      (all_map (λ (x : Span). KeepsWords start.tree s₁.words s₂.words (row_in x.word)) (SameSpans (now start s₁).table (now start s₂).table) (λ x same. same_spans (now start s₁).table (now start s₂).table x same) rows rows_keep)
+      (all_map (λ (x : Span). KeepsWords start.tree s₁.words s₂.words (row_in x.word)) (SameSpans (now start s₁).table (now start s₂).table) (λ x same. same_spans (now start s₁).table (now start s₂).table x refl same) rows rows_keep)
       ∙ written.hold
 
   pub still_lawful : AllByRecursion (IsRow (now start s₂) height) rows
@@ -228,7 +228,7 @@ module _ (start : Start) (s s₁ s₂ : Work) (left right : List PathStep) where
         here,
         subst (FewestBelow (is_taken s₂) start.tree.kind (now start s₂).table height) (sym (level_holds start s₂ depth (suc height) (level_of depth (suc height) run rows parts)))
             (fewest_later (is_taken s) (is_taken s₂) start.tree.kind (now start s).table (now start s₂).table refl height below
-            (levels_map (IsUsed s) (Shared (now start s).table (now start s₂).table) (now start s).table (λ _ x used. same_spans (now start s).table (now start s₂).table x (keeps.words (row_in x.word) used)) height below parts.0.level.1)
+            (levels_map (IsUsed s) (Shared (now start s).table (now start s₂).table) (now start s).table (λ _ x used. same_spans (now start s).table (now start s₂).table x refl (keeps.words (row_in x.word) used)) height below parts.0.level.1)
             (levels_map (IsUsed s) (SameNews (is_taken s) (is_taken s₂)) (now start s).table (λ _ x used. news_same depth (suc height) run rows parts x used) height below parts.0.level.1) parts.0.level.2),
       )
 
