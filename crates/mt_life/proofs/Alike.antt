@@ -4,7 +4,6 @@ use Rattle.std.specs.Prelude.{slice_index}
 use Rattle.std.proofs.lemmas.Bool.{cases_Bool}
 use Rattle.mt_base.specs.declared.kinds.Kind.{Kind}
 use Rattle.mt_base.specs.declared.widths.Width.{Width}
-use Rattle.mt_base.specs.declared.widths.Width.TheVariants.{Long}
 use Rattle.mt_base.specs.Width.{columns, greatest}
 use Rattle.mt_layout.specs.declared.names.RowKind.{RowKind}
 use Rattle.mt_layout.specs.Rows.{row_in, named_kind}
@@ -43,10 +42,14 @@ module _ (slots gaps base : ℕ) (w w' : List ℕ) (same : (c : ℕ) → 0 < c �
             λ j. record { first = first; last = slice_index w (base + pivot_column i); word = slot j } ∷ behind j)
       ])
 
--- tables that agree on a row's pivots and slots have the same spans in it
-pub same_spans_at : (kind : Kind) (width width' : Width) (w w' : List ℕ) (row : ℕ) (e : Extent) → SameSlots (record { width = width; words = w }) (record { width = width'; words = w' }) (kind_at kind e.level) row
+-- tables of one width that agree on a row's pivots and slots have the same spans in it
+pub same_spans_at : (kind : Kind) (width width' : Width) (w w' : List ℕ) (row : ℕ) (e : Extent) → width' ≡ width
+    → SameSlots (record { width = width; words = w }) (record { width = width'; words = w' }) (kind_at kind e.level) row
     → spans_at kind (record { width = width'; words = w' }) row e ≡ spans_at kind (record { width = width; words = w }) row e
-same_spans_at kind Long Long w w' row e same = from (slots_of Long (kind_at kind e.level)) (gaps_of Long (kind_at kind e.level)) (columns Long * row) w w' same e.first e.last (slots_of Long (kind_at kind e.level)) 0 (omega arith)
+same_spans_at kind width width' w w' row e one =
+    subst (λ (v : Width). SameSlots (record { width = width; words = w }) (record { width = v; words = w' }) (kind_at kind e.level) row
+    → spans_at kind (record { width = v; words = w' }) row e ≡ spans_at kind (record { width = width; words = w }) row e) (sym one)
+    (λ same. let slots : ℕ = slots_of width (kind_at kind e.level) in from slots (gaps_of width (kind_at kind e.level)) (columns width * row) w w' same e.first e.last slots 0 (omega arith))
 
 pub shape_moves : (kind : Kind) (t t' : Table) (row : ℕ) (e : Extent) → t'.width ≡ t.width → spans_at kind t' row e ≡ spans_at kind t row e → Shape kind t row e → Shape kind t' row e
 shape_moves kind t t' row e width same shape = record {

@@ -86,6 +86,7 @@ holds_on kind s s' e e' m m' x known known' g kept h = record {
         let here = place.0 ∙ h.extent in
         record {
           table = s'.tree.table;
+          width = g.width ∙ sym h.width;
           form = form';
           part = subst (λ (n : Extent). HasPart kind s'.tree.table x.row n (m' (calls s'))) here (known'.live_leaf x.row has' live (ap (λ (n : Extent). n.level) here ∙ leaf));
         }
@@ -136,6 +137,7 @@ module _ (kind : Kind) (s : State) (e : ℕ → Extent) (m : ℕ → Moment) (kn
         let same : calls s ≡ k = omega arith in
         record {
           table = s.tree.table;
+          width = refl;
           form = form_same s.tree.table (kind_at kind n.level) row;
           part = subst (λ (j : ℕ). HasPart kind s.tree.table row n (m j)) same
               (subst (λ (n : Extent). HasPart kind s.tree.table row n (m (calls s))) extent (known.live_leaf row has live (ap (λ (n : Extent). n.level) extent ∙ leaf)));
@@ -225,6 +227,7 @@ module _ (kind : Kind) (s : State) (e : ℕ → Extent) (m : ℕ → Moment) (kn
         let old = h.past leaf k met alive in
         record {
           table = old.table;
+          width = old.width ∙ h.width;
           form = form_on s.tree.table (copy_of x) old.table (kind_at kind x.extent.level) x.row h.width (form_back (copy_of x) s.tree.table (kind_at kind x.extent.level) x.row (sym h.width) h.form) old.form;
           part = old.part;
         };

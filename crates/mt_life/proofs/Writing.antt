@@ -79,7 +79,7 @@ module _ (kind : Kind) (s : State) (e : ℕ → Extent) (m : ℕ → Moment) (kn
         (leaves.life row has)
 
     spans_stay : (row : ℕ) → Has row → Later 0 (life_of lives row) → spans_at kind u.tree.table row (e row) ≡ spans_at kind s.tree.table row (e row)
-    spans_stay row has later = same_spans_at kind s.tree.table.width s.tree.table.width s.tree.table.words words row (e row) (leaves.slots row has later)
+    spans_stay row has later = same_spans_at kind s.tree.table.width s.tree.table.width s.tree.table.words words row (e row) refl (leaves.slots row has later)
 
     leaf_stays : (row : ℕ) (k : Moment) → Has row → Later 0 (life_of lives row) → HasPart kind s.tree.table row (e row) k → HasPart kind u.tree.table row (e row) k
     leaf_stays row k has later leaf = subst (λ (xs : List Span). PartOf k (e row).first (e row).last (flat_map leaf_range xs)) (sym (spans_stay row has later)) leaf

@@ -21,6 +21,7 @@ copy_of x = record { width = x.width; words = x.copy }
 -- A leaf of the row's form had what the map had at the moment.
 pub record Snapshot (kind : Kind) (x : Held) (m : Moment) : Type 0 where
   pub table : Table
+  pub width : table.width ≡ x.width
   pub form : SameForm (copy_of x) table (kind_at kind x.extent.level) x.row
   pub part : HasPart kind table x.row x.extent m
 
