@@ -68,22 +68,36 @@ module _ (slots gaps base base' max : ℕ) (w w' : List ℕ) where
 
 -- ---- rows of a table
 
--- an item of a row of this form stands in the same slot, and its word is in the slot's column
+-- an item of a row of this form, in a table of the same width, stands in the same slot, and its word is in the slot's column
 pub slot_now : (kind : Kind) (width width' : Width) (w w' : List ℕ) (row i : ℕ) (e : Extent)
+    → width' ≡ width
     → SameForm (record { width = width; words = w }) (record { width = width'; words = w' }) (kind_at kind e.level) row
     → i < length (spans_at kind (record { width = width; words = w }) row e)
     → StandsNow (slice_index w' (column_at width' row (slot_column (slots_of width' (kind_at kind e.level)) i)))
     (spans_at kind (record { width = width; words = w }) row e) (spans_at kind (record { width = width'; words = w' }) row e) i
-slot_now kind Long Long w w' row i e form low =
-    let slots : ℕ = slots_of Long (kind_at kind e.level) in
-    subst (λ (n : ℕ). StandsNow (slice_index w' (columns Long * row + slot_column slots n)) (spans_at kind (record { width = Long; words = w }) row e) (spans_at kind (record { width = Long; words = w' }) row e) i)
-    (let same : 0 + i ≡ i = omega arith in same)
-    (stands_now slots (gaps_of Long (kind_at kind e.level)) (columns Long * row) (columns Long * row) e.last w w' (λ c above pivot. (form c above (omega arith)).0 pivot) slots e.first 0 i (omega arith) low)
+slot_now kind width width' w w' row i e one =
+    subst (λ (v : Width). SameForm (record { width = width; words = w }) (record { width = v; words = w' }) (kind_at kind e.level) row
+    → i < length (spans_at kind (record { width = width; words = w }) row e)
+    → StandsNow (slice_index w' (column_at v row (slot_column (slots_of v (kind_at kind e.level)) i)))
+    (spans_at kind (record { width = width; words = w }) row e) (spans_at kind (record { width = v; words = w' }) row e) i) (sym one) here
+  where
+    here : SameForm (record { width = width; words = w }) (record { width = width; words = w' }) (kind_at kind e.level) row
+        → i < length (spans_at kind (record { width = width; words = w }) row e)
+        → StandsNow (slice_index w' (column_at width row (slot_column (slots_of width (kind_at kind e.level)) i)))
+        (spans_at kind (record { width = width; words = w }) row e) (spans_at kind (record { width = width; words = w' }) row e) i
+    here form low =
+        let slots : ℕ = slots_of width (kind_at kind e.level) in
+        subst (λ (n : ℕ). StandsNow (slice_index w' (columns width * row + slot_column slots n)) (spans_at kind (record { width = width; words = w }) row e) (spans_at kind (record { width = width; words = w' }) row e) i)
+        (let same : 0 + i ≡ i = omega arith in same)
+        (stands_now slots (gaps_of width (kind_at kind e.level)) (columns width * row) (columns width * row) e.last w w' (λ c above pivot. (form c above (omega arith)).0 pivot) slots e.first 0 i (omega arith) low)
 
 -- a pivot is the same
-pub pivot_now : (width width' : Width) (w w' : List ℕ) (kind : RowKind) (row i : ℕ) → SameForm (record { width = width; words = w }) (record { width = width'; words = w' }) kind row → i + 1 < slots_of width' kind
+pub pivot_now : (width width' : Width) (w w' : List ℕ) (kind : RowKind) (row i : ℕ) → width' ≡ width → SameForm (record { width = width; words = w }) (record { width = width'; words = w' }) kind row → i + 1 < slots_of width' kind
     → slice_index w' (column_at width' row (pivot_column i)) ≡ slice_index w (column_at width' row (pivot_column i))
-pivot_now Long Long w w' kind row i form low = (form (pivot_column i) (omega arith) (omega arith)).0 (omega arith)
+pivot_now width width' w w' kind row i one =
+    subst (λ (v : Width). SameForm (record { width = width; words = w }) (record { width = v; words = w' }) kind row → i + 1 < slots_of v kind
+    → slice_index w' (column_at v row (pivot_column i)) ≡ slice_index w (column_at v row (pivot_column i))) (sym one)
+    (λ form low. (form (pivot_column i) (omega arith) (omega arith)).0 (omega arith))
 
 -- ---- where columns stand
 

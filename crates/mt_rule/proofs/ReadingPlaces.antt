@@ -32,11 +32,11 @@ pivot_within : (width : Width) (kind : RowKind) (i : ℕ) → i + 1 < slots_of w
 pivot_within width kind i low = omega (arith, slots_of-columns width kind)
 
 -- a row has no more items than slots
-slot_within : (kind : Kind) (width width' : Width) (w : List ℕ) (row i : ℕ) (e : Extent) → i < length (spans_at kind (record { width = width'; words = w }) row e) → slot_column (slots_of width (kind_at kind e.level)) i < columns width
-slot_within kind Long Long w row i e low =
-    let slots : ℕ = slots_of Long (kind_at kind e.level) in
-    let gaps : ℕ = gaps_of Long (kind_at kind e.level) in
-    omega (arith, slots_of-columns Long (kind_at kind e.level), length-spans_from e.first (items_at slots gaps w (columns Long * row) e.last), few_items slots gaps w (columns Long * row) e.last slots 0)
+slot_within : (kind : Kind) (width : Width) (w : List ℕ) (row i : ℕ) (e : Extent) → i < length (spans_at kind (record { width = width; words = w }) row e) → slot_column (slots_of width (kind_at kind e.level)) i < columns width
+slot_within kind width w row i e low =
+    let slots : ℕ = slots_of width (kind_at kind e.level) in
+    let gaps : ℕ = gaps_of width (kind_at kind e.level) in
+    omega (arith, slots_of-columns width (kind_at kind e.level), length-spans_from e.first (items_at slots gaps w (columns width * row) e.last), few_items slots gaps w (columns width * row) e.last slots 0)
 
 module _ (t : MtTable) (p : Pass) (of : IsPassOf (identity_of t) p) where
   shape_is : (part_of p).shape ≡ shape_told t.table.shared.key
@@ -58,8 +58,12 @@ module _ (t : MtTable) (p : Pass) (of : IsPassOf (identity_of t) p) where
   pub pivot_low : (x : Held) (i col : ℕ) → col ≡ pivot_column i → i + 1 < slots_in (part_of p) x → col < columns t.width
   pivot_low x i col is low = subst (λ (w : Width). col < columns w) (sym width_is) (let within = pivot_within (kind_width (part_of p).shape.kind) (kind_at (part_of p).shape.kind x.extent.level) i low in omega arith)
 
-  pub slot_low : (x : Held) (i col : ℕ) → col ≡ slot_column (slots_in (part_of p) x) i → i < length (spans_here (part_of p) x) → col < columns t.width
-  slot_low x i col is low = subst (λ (w : Width). col < columns w) (sym width_is) (let within = slot_within (part_of p).shape.kind (kind_width (part_of p).shape.kind) x.width x.copy x.row i x.extent low in omega arith)
+  pub slot_low : (x : Held) (i col : ℕ) → x.width ≡ kind_width (part_of p).shape.kind → col ≡ slot_column (slots_in (part_of p) x) i → i < length (spans_here (part_of p) x) → col < columns t.width
+  slot_low x i col wide is low =
+      let kind : RowKind = kind_at (part_of p).shape.kind x.extent.level in
+      let within : slot_column (slots_in (part_of p) x) i < columns (kind_width (part_of p).shape.kind) =
+      subst (λ (w : Width). slot_column (slots_of w kind) i < columns w) wide (slot_within (part_of p).shape.kind x.width x.copy x.row i x.extent low) in
+      subst (λ (w : Width). col < columns w) (sym width_is) (omega arith)
 
 -- where a section word stands
 pub section_below : (t : MtTable) (number at : ℕ) → number < most_passes → at ≡ section_at number → at < t.table.shared.table_id.words

@@ -470,7 +470,7 @@ pivots told slots by me word row col is here_at row_is pivot place s r₀ _ at _
           reads = record { is = refl; seen = f.seen };
           found_is = ap (slice_index s.words) index
               ∙ (word_now s.words p x.row (pivot_column i) r.words h.has.0
-              ∙ (pivot_now x.width width x.copy p.words (kind_of q x) x.row i h.form pivot.2
+              ∙ (pivot_now x.width width x.copy p.words (kind_of q x) x.row i (sym h.width) h.form pivot.2
               ∙ ap (slice_index x.copy) (sym index)));
         },
       ),
@@ -559,7 +559,7 @@ childs told slots by me word i level is here_at inner low place s r₀ _ at _ =
     let held = f.held 0 x here_at in
     let h = held.row in
     let width : Width = kind_width q.shape.kind in
-    let t = slot_now q.shape.kind x.width width x.copy p.words x.row i x.extent h.form low in
+    let t = slot_now q.shape.kind x.width width x.copy p.words x.row i x.extent (sym h.width) h.form low in
     let name : ℕ = slice_index s.words word in
     let named : t.now.word ≡ name = t.word_is ∙ (sym (word_now s.words p x.row (slot_column (slots_in q x) i) r.words h.has.0) ∙ ap (slice_index s.words) (sym place)) in
     let c = child_held q.shape.kind (state_in p) r.extents (moment_at q.shape p.history) r.sound.known x level t.now h inner (one_of_get (spans_at q.shape.kind (state_in p).tree.table x.row x.extent) i t.now t.at) in

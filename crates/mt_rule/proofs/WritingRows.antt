@@ -58,7 +58,7 @@ module _ (kind : Kind) (s : State) (e : ℕ → Extent) (m : ℕ → Moment) (kn
     spans_kept level x fits =
         sym (spans_named kind then level x fits.named)
         ∙ (ap (spans_at kind then (row_in x.word)) (sym fits.extent)
-        ∙ (same_spans_at kind s.tree.table.width s.tree.table.width s.tree.table.words words (row_in x.word) (e (row_in x.word)) (same (row_in x.word) fits.has fits.life)
+        ∙ (same_spans_at kind s.tree.table.width s.tree.table.width s.tree.table.words words (row_in x.word) (e (row_in x.word)) refl (same (row_in x.word) fits.has fits.life)
         ∙ (ap (spans_at kind s.tree.table (row_in x.word)) fits.extent
         ∙ spans_named kind s.tree.table level x fits.named)))
 

@@ -108,6 +108,7 @@ impl MtTable {
         requires at { IsAt (part_of pass.old) }
         requires row { row ≡ (here (part_of pass.old)).row }
         requires has { HasRow (part_of pass.old).shape.rows row }
+        requires width { (here (part_of pass.old)).width ≡ kind_width (part_of pass.old).shape.kind }
         requires slot { (i : ℕ) × (col ≡ slot_column (slots_in (part_of pass.old) (here (part_of pass.old))) i) × (i < length (spans_here (part_of pass.old) (here (part_of pass.old)))) }
         ensures stepped { Stepped (identity_of self.now) pass.old pass.new }
         ensures told { LoadedSlot (column_at (kind_width (part_of pass.old).shape.kind) row col) result (part_of pass.old) (part_of pass.new) }

@@ -6,11 +6,11 @@ use Rattle.mt_rule.proofs.ReadingSteps.{slots_at}
 use Rattle.mt_rule.proofs.table.MtTable.load_slot.Goals as goal
 
 pub column_index-at-requires-clause-column : goal.column_index-at-requires-clause-column
-column_index-at-requires-clause-column g c = slot_low c.args.self.now c.args.pass.now c.requires.pass (here (part_of c.args.pass.now)) c.requires.slot.0 c.args.col c.requires.slot.1 c.requires.slot.2
+column_index-at-requires-clause-column g c = slot_low c.args.self.now c.args.pass.now c.requires.pass (here (part_of c.args.pass.now)) c.requires.slot.0 c.args.col c.requires.width c.requires.slot.1 c.requires.slot.2
 
 pub load-word-requires : goal.load-word-requires
 load-word-requires g c =
-    let low = slot_low c.args.self.now c.args.pass.now c.requires.pass (here (part_of c.args.pass.now)) c.requires.slot.0 c.args.col c.requires.slot.1 c.requires.slot.2 in (
+    let low = slot_low c.args.self.now c.args.pass.now c.requires.pass (here (part_of c.args.pass.now)) c.requires.slot.0 c.args.col c.requires.width c.requires.slot.1 c.requires.slot.2 in (
       search rules,
       column_below c.args.self.now c.args.pass.now c.requires.pass c.args.row c.args.col c.column_index-at.result c.requires.has low (search rules),
       slots_at _ _ _ _ _ c.args.row c.args.col (search rules) (search rules) (search rules) (search rules) (search rules),
