@@ -186,7 +186,8 @@ module _ (q q₁ q' : PassPart) (place : Place) (was : WasRead q q₁ place None
         is ∙ sym (rfind_hole m.ranges (greatest_of k') place.first place.last index (outside k' m.ranges map place.first place.last part) from to some),
         inr (record {
           table = s.table;
-          form = form_on (kind_at k' (here q).extent.level) (here q).row (copy_of (here q)) (copy_of (here q₁)) s.table form form₂;
+          width = s.width ∙ was.read.width;
+          form = form_on (kind_at k' (here q).extent.level) (here q).row (copy_of (here q)) (copy_of (here q₁)) s.table was.read.width form form₂;
           part = subst (λ (h : Held). HasPart k' s.table h.row h.extent m) same.is s.part;
         }),
       )

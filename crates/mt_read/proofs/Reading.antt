@@ -124,7 +124,7 @@ module _ (q q' : PassPart) (place : Place) (found : Option Range) (level : (here
 
   -- the leaf stood then
   pub stood_here : Snapshot q'.shape.kind (here q) (moment_seen q' was.read.k)
-  stood_here = record { table = copy_of (here q'); form = was.read.form; part = was.read.part }
+  stood_here = record { table = copy_of (here q'); width = was.read.width; form = was.read.form; part = was.read.part }
 
   pub finds_here : (r : Range) → found ≡ Some r → q'.shape.kind ≡ q.shape.kind → LeafAnswers q' (here q) (Find index (greatest_of q.shape.kind)) (Some r)
   finds_here r is kind =
@@ -201,7 +201,8 @@ module _ (q q' : PassPart) (place : Place) (found : Option Range) (level : (here
         let more : SameForm (copy_of (here q')) (copy_of (here q₃)) (kind_at kind₃ level) (here q).row = subst (λ (h : Held). SameForm (copy_of (here q')) (copy_of (here q₃)) (kind_at kind₃ h.extent.level) h.row) same.is moved in
         record {
           table = copy_of (here q₃);
-          form = form_on (kind_at kind₃ level) (here q).row (copy_of (here q)) (copy_of (here q')) (copy_of (here q₃)) first more;
+          width = was₃.read.width ∙ (ap (λ (h : Held). h.width) here_is ∙ was.read.width);
+          form = form_on (kind_at kind₃ level) (here q).row (copy_of (here q)) (copy_of (here q')) (copy_of (here q₃)) was.read.width first more;
           part = subst (λ (h : Held). HasPart kind₃ (copy_of (here q₃)) h.row h.extent (moment_seen q₃ was₃.read.k)) (here_is ∙ same.is) was₃.read.part;
         }
 

@@ -5,7 +5,6 @@ use Rattle.std.specs.List.{AllByRecursion, slice_get}
 use Rattle.std.proofs.lemmas.Bool.{eq-eqb}
 use Rattle.mt_base.specs.declared.kinds.Kind.{Kind}
 use Rattle.mt_base.specs.declared.widths.Width.{Width}
-use Rattle.mt_base.specs.declared.widths.Width.TheVariants.{Long}
 use Rattle.mt_base.specs.Map.{IsMap}
 use Rattle.mt_base.specs.Width.{greatest_of}
 use Rattle.mt_layout.specs.declared.names.RowKind.{RowKind}
@@ -24,20 +23,17 @@ use Rattle.mt_rows.specs.Spans.{Table, column}
 use Rattle.mt_read.proofs.MapAnswers.{Beside, beside}
 use Rattle.mt_read.proofs.SlotAnswers.{narrow}
 
-same_width : (v w : Width) → v ≡ w
-same_width Long Long = refl
+form_back : (kind : RowKind) (row : ℕ) (t t' : Table) → t'.width ≡ t.width → SameForm t t' kind row → SameForm t' t kind row
+form_back kind row t t' width form c above low =
+    let there = form c above (subst (λ (w : Width). c < 2 * slots_of w kind) width low) in
+    ((λ inner. sym (there.0 (subst (λ (w : Width). c < slots_of w kind) width inner))), sym there.1)
 
-form_back : (kind : RowKind) (row : ℕ) (t t' : Table) → SameForm t t' kind row → SameForm t' t kind row
-form_back kind row t t' form c above low =
-    let there = form c above (subst (λ (w : Width). c < 2 * slots_of w kind) (same_width t'.width t.width) low) in
-    ((λ inner. sym (there.0 (subst (λ (w : Width). c < slots_of w kind) (same_width t'.width t.width) inner))), sym there.1)
-
--- rows of one form, one after another
-pub form_on : (kind : RowKind) (row : ℕ) (t t' t'' : Table) → SameForm t t' kind row → SameForm t' t'' kind row → SameForm t t'' kind row
-form_on kind row t t' t'' form more c above low =
+-- rows of one form, one after another, in tables of one width
+pub form_on : (kind : RowKind) (row : ℕ) (t t' t'' : Table) → t'.width ≡ t.width → SameForm t t' kind row → SameForm t' t'' kind row → SameForm t t'' kind row
+form_on kind row t t' t'' width form more c above low =
     let first = form c above low in
-    let again = more c above (subst (λ (w : Width). c < 2 * slots_of w kind) (same_width t.width t'.width) low) in
-    ((λ inner. again.0 (subst (λ (w : Width). c < slots_of w kind) (same_width t.width t'.width) inner) ∙ first.0 inner), again.1 ∙ first.1)
+    let again = more c above (subst (λ (w : Width). c < 2 * slots_of w kind) (sym width) low) in
+    ((λ inner. again.0 (subst (λ (w : Width). c < slots_of w kind) (sym width) inner) ∙ first.0 inner), again.1 ∙ first.1)
 
 -- ---- spans with the same ends
 
@@ -66,10 +62,10 @@ module _ (kind : Kind) (x : Held) (m : life.Moment) (stood : Snapshot kind x m) 
   there = spans_at kind t x.row x.extent
 
   slot_there : (i : ℕ) (y : Span) → slice_get (spans_at kind (copy_of x) x.row x.extent) i ≡ Some y → (w : ℕ) × (slice_get there i ≡ Some (record { first = y.first; last = y.last; word = w }))
-  slot_there i y at = (column t x.row (slot_column (slots_of t.width row_kind) i), slot_of_form kind (copy_of x) t x.row i x.extent y (same_width t.width x.width) stood.form at)
+  slot_there i y at = (column t x.row (slot_column (slots_of t.width row_kind) i), slot_of_form kind (copy_of x) t x.row i x.extent y stood.width stood.form at)
 
   slot_back : (i : ℕ) (y : Span) → slice_get there i ≡ Some y → (z : Span) × (slice_get (spans_at kind (copy_of x) x.row x.extent) i ≡ Some z)
-  slot_back i y at = (_, slot_of_form kind t (copy_of x) x.row i x.extent y (same_width x.width t.width) (form_back row_kind x.row (copy_of x) t stood.form) at)
+  slot_back i y at = (_, slot_of_form kind t (copy_of x) x.row i x.extent y (sym stood.width) (form_back row_kind x.row (copy_of x) t stood.width stood.form) at)
 
   pub fills_there : Fills x.extent.first (x.extent.last + 1) there
   fills_there = fills_alike x.extent.first (x.extent.last + 1) (spans_at kind (copy_of x) x.row x.extent) there slot_there slot_back fills
@@ -87,6 +83,6 @@ module _ (kind : Kind) (x : Held) (m : life.Moment) (stood : Snapshot kind x m) 
   pub hole_there : (i : ℕ) (y : Span) → slice_get (spans_at kind (copy_of x) x.row x.extent) i ≡ Some y → y.word ≡ 0 → IsPart m.ranges y.first y.last []
   hole_there i y at hole =
       let s = slot_there i y at in
-      let none : (s.0 == 0) ≡ true = hole_of_form kind (copy_of x) t x.row i x.extent y _ (same_width t.width x.width) stood.form at s.1 ∙ eq-eqb y.word 0 hole in
+      let none : (s.0 == 0) ≡ true = hole_of_form kind (copy_of x) t x.row i x.extent y _ stood.width stood.form at s.1 ∙ eq-eqb y.word 0 hole in
       subst (λ (b : Bool). IsPart m.ranges y.first y.last (if b then [] else record { first = y.first; last = y.last; entry = s.0 } ∷ [])) none
       (narrow m.ranges x.extent.first x.extent.last i there (record { first = y.first; last = y.last; word = s.0 }) stood.part.ranges fills_there s.1)
