@@ -21,7 +21,7 @@ use Rattle.mt_dup.specs.Copy.{renamed}
 use Rattle.mt_dup.specs.Filling.{next_row, IsFilling, HasTaken, IsOpen, IsWritten}
 use Rattle.mt_dup.specs.Pairs.{IsWrittenAt}
 use Rattle.mt_dup.specs.Walks.{names_from, names_below, MayCopy, MayCopyBelow, AreNumbered, IsCopied, AreCopied, LeavesCopy, LeavesChildren, IsNoName, KeepsOwn}
-use Rattle.mt_dup.proofs.WrittenRows.{same_tree, one_read, reads_more, one_width, written_rows, nothing_written, written_on, written_in}
+use Rattle.mt_dup.proofs.WrittenRows.{same_tree, one_read, reads_more, written_rows, written_width, nothing_written, written_on, written_in}
 use Rattle.mt_dup.proofs.Names.{all_at, parents_at, more_done, all_done, done_most, names_long, names_at, numbered_front, numbered_back, renamed_parent, slots_few, SameFrom, copies_stay}
 
 -- ---- books
@@ -84,6 +84,7 @@ pub record Begins (s d : Sheet) (b : Book) (pair : Pair) (depth : ℕ) : Type 0 
   pub to : next_row b ≡ pair.to + 1
   pub first : first_row ≤ pair.to
   pub draft : life_of d.lives pair.to ≡ Draft
+  pub width : d.tree.table.width ≡ s.tree.table.width
 
 pub going_none : (s d : Sheet) (b : Book) (pair : Pair) (depth count : ℕ) → Begins s d b pair depth → Going s s d d b b pair depth 0 count count
 going_none s d b pair depth count begins = record {
@@ -163,6 +164,13 @@ module _ (s d : Sheet) (b : Book) (pair : Pair) (depth : ℕ) (begins : Begins s
             let room = begins.room in let taken = going.taken.taken in
             omega arith
 
+    -- rows stay as wide as they were
+    wide₁ : d₁.tree.table.width ≡ t.width
+    wide₁ = written_width pair.to (next_row b₁) d d₁ going.written ∙ begins.width
+
+    pub wide_child : d₁.tree.table.width ≡ s₁.tree.table.width
+    wide_child = wide₁ ∙ ap (λ (r : Rooted). r.table.width) (sym (same_tree s s₁ going.reads))
+
     module _ (s₂ d₂ : Sheet) (b₂ : Book) (count₂ word parent name : ℕ) (is_loaded : word ≡ word_of slot) (parent_of : parent ≡ parent_at pair.to slot) (reads : OnlyReads s₁ s₂)
         (copy : LeavesCopy s₁.tree.table d₂.tree.table (next_row b₁) (record { depth = depth - 1; word = word; parent = parent }) name)
         (taken : HasTaken (length (names_from s₁.tree.table.words (depth - 1) word)) b₁ b₂) (written : IsWritten (next_row b₁) (next_row b₂) d₁ d₂)
@@ -185,6 +193,9 @@ module _ (s d : Sheet) (b : Book) (pair : Pair) (depth : ℕ) (begins : Begins s
       so_far : IsWritten pair.to (next_row b₂) d d₂
       so_far = let to = begins.to in written_on pair.to (next_row b₁) (next_row b₂) d d₁ d₂ (omega (arith, next_is)) (omega (arith, then_is)) going.written written
 
+      wide₂ : d₂.tree.table.width ≡ t.width
+      wide₂ = written_width pair.to (next_row b₂) d d₂ so_far ∙ begins.width
+
       pub still_draft : life_of d₂.lives pair.to ≡ Draft
       still_draft = let to = begins.to in so_far.drafts pair.to (omega arith) (omega (arith, next_is, then_is))
 
@@ -194,12 +205,15 @@ module _ (s d : Sheet) (b : Book) (pair : Pair) (depth : ℕ) (begins : Begins s
           record {
             first = begins.first;
             last = omega (arith, rows, many, to, fit);
-            column = subst (λ (v : Width). slot_column slots slot < columns v) (one_width t.width d₂.tree.table.width) (slot_within t.width pair.kind slot inside);
+            column = subst (λ (v : Width). slot_column slots slot < columns v) (sym wide₂) (slot_within t.width pair.kind slot inside);
           }
 
       module _ (d₃ : Sheet) (last : IsWritten pair.to (pair.to + 1) d₂ d₃) (here : IsWrittenAt pair.to (slot_column slots slot) name d₂.tree.table d₃.tree.table) where
-        wide : (v w : Width) (c : ℕ) → c < columns v → c < columns w
-        wide v w c within = subst (λ (v : Width). c < columns v) (one_width v w) within
+        wide₃ : d₃.tree.table.width ≡ t.width
+        wide₃ = written_width pair.to (pair.to + 1) d₂ d₃ last ∙ wide₂
+
+        wide : (v w : Width) (c : ℕ) → v ≡ w → c < columns v → c < columns w
+        wide v w c same within = subst (λ (v : Width). c < columns v) same within
 
         column_in : (i : ℕ) → i < slots → slot_column slots i < columns t.width
         column_in i within = slot_within t.width pair.kind i within
@@ -207,11 +221,11 @@ module _ (s d : Sheet) (b : Book) (pair : Pair) (depth : ℕ) (begins : Begins s
         own : KeepsOwn d.tree.table d₃.tree.table pair
         own c within no_slot =
             let to = begins.to in
-            here.others c (wide d.tree.table.width d₂.tree.table.width c within) (not_here no_slot)
-            ∙ (written.words pair.to c (inl (omega (arith, next_is))) (wide d.tree.table.width d₁.tree.table.width c within) ∙ going.own c within no_slot)
+            here.others c (wide d.tree.table.width d₂.tree.table.width c (begins.width ∙ sym wide₂) within) (not_here no_slot)
+            ∙ (written.words pair.to c (inl (omega (arith, next_is))) (wide d.tree.table.width d₁.tree.table.width c (begins.width ∙ sym wide₁) within) ∙ going.own c within no_slot)
           where
             not_here : IsNoName pair.kind (slots_of d.tree.table.width pair.kind) c → c ≢ slot_column slots slot
-            not_here no_slot = λ e. by (subst (λ (v : Width). IsNoName pair.kind (slots_of v pair.kind) c) (one_width d.tree.table.width t.width) no_slot) e
+            not_here no_slot = λ e. by (subst (λ (v : Width). IsNoName pair.kind (slots_of v pair.kind) c) begins.width no_slot) e
               where
                 by : IsNoName pair.kind slots c → c ≡ slot_column slots slot → ⊥
                 by (inl leaf) e = begins.inner leaf
@@ -224,7 +238,7 @@ module _ (s d : Sheet) (b : Book) (pair : Pair) (depth : ℕ) (begins : Begins s
 
         first_rows : SameFrom d₁.tree.table d₃.tree.table (next_row b) (next_row b₁)
         first_rows row c above below within =
-            kept_rows row c above (omega (arith, then_is)) (wide d₁.tree.table.width d₂.tree.table.width c within) ∙ written.words row c (inl below) within
+            kept_rows row c above (omega (arith, then_is)) (wide d₁.tree.table.width d₂.tree.table.width c (wide₁ ∙ sym wide₂) within) ∙ written.words row c (inl below) within
 
         copied : (number : ℕ → ℕ) → number 0 ≡ 0 → number pair.row ≡ pair.to → AreNumbered number (next_row b) (done s pair depth (slot + 1)) → HasFirst number s d₃ pair depth (slot + 1)
         copied number zero_is to_is numbered = (slots_are, subst (AreCopied number t d₃.tree.table) (sym (done_more slot inside)) (all_join (IsCopied number t d₃.tree.table) (done s pair depth slot) (child_names (word_of slot)) first_copied child_copied))
@@ -254,10 +268,10 @@ module _ (s d : Sheet) (b : Book) (pair : Pair) (depth : ℕ) (begins : Begins s
             child = copy' number zero_is child_numbered parent_is
 
             first_copied : AreCopied number t d₃.tree.table (done s pair depth slot)
-            first_copied = copies_stay number t d₁.tree.table d₃.tree.table (done s pair depth slot) (next_row b) (next_row b₁) next_is first_numbered first_rows before.1
+            first_copied = copies_stay number t d₁.tree.table d₃.tree.table (done s pair depth slot) (next_row b) (next_row b₁) (wide₃ ∙ sym wide₁) next_is first_numbered first_rows before.1
 
             child_copied : AreCopied number t d₃.tree.table (child_names (word_of slot))
-            child_copied = copies_stay number t d₂.tree.table d₃.tree.table (child_names (word_of slot)) (next_row b₁) (next_row b₂) then_is child_numbered
+            child_copied = copies_stay number t d₂.tree.table d₃.tree.table (child_names (word_of slot)) (next_row b₁) (next_row b₂) (wide₃ ∙ sym wide₂) then_is child_numbered
                 (λ row c above below within. kept_rows row c (omega (arith, next_is)) below within) child.1
 
             slots_are : (i : ℕ) → i < slot + 1 → column d₃.tree.table pair.to (slot_column slots i) ≡ renamed number (word_of i)
@@ -265,8 +279,8 @@ module _ (s d : Sheet) (b : Book) (pair : Pair) (depth : ℕ) (begins : Begins s
               | inl same ↦ ap (λ (n : ℕ). column d₃.tree.table pair.to (slot_column slots n)) same ∙ (here.here ∙ (child.0 ∙ ap (λ (n : ℕ). renamed number (word_of n)) (sym same)))
               | inr other ↦
                   let to = begins.to in
-                  here.others (slot_column slots i) (wide t.width d₂.tree.table.width (slot_column slots i) (column_in i (omega arith))) (λ e. other (omega arith))
-                  ∙ (written.words pair.to (slot_column slots i) (inl (omega (arith, next_is))) (wide t.width d₁.tree.table.width (slot_column slots i) (column_in i (omega arith))) ∙ before.0 i (omega arith))
+                  here.others (slot_column slots i) (wide t.width d₂.tree.table.width (slot_column slots i) (sym wide₂) (column_in i (omega arith))) (λ e. other (omega arith))
+                  ∙ (written.words pair.to (slot_column slots i) (inl (omega (arith, next_is))) (wide t.width d₁.tree.table.width (slot_column slots i) (sym wide₁) (column_in i (omega arith))) ∙ before.0 i (omega arith))
             ]
 
         pub going_next : Going s s₂ d d₃ b b₂ pair depth (slot + 1) count count₂

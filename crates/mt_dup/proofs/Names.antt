@@ -1,5 +1,5 @@
 -- The names that the walk of a copy comes to, and what it leaves of them.
-use Rattle.std.proofs.Common.{◌≡◌, ◌≢◌, ℕ, zero, suc, ◌+◌, ◌-◌, ◌*◌, ◌%◌, ◌<◌, ◌≤◌, List, [], ◌∷◌, ◌++◌, Some, None, length, take, drop, refl, ap, ◌∙◌, subst, arith, append-nil, get_or, length-append, length-take, length-drop}
+use Rattle.std.proofs.Common.{◌≡◌, ◌≢◌, ℕ, zero, suc, ◌+◌, ◌-◌, ◌*◌, ◌%◌, ◌<◌, ◌≤◌, List, [], ◌∷◌, ◌++◌, Some, None, length, take, drop, refl, sym, ap, ◌∙◌, subst, arith, append-nil, get_or, length-append, length-take, length-drop}
 use Rattle.std.specs.Prelude.{slice_index}
 use Rattle.std.specs.List.{AllByRecursion, flat_map}
 use Rattle.std.proofs.lemmas.List.{take_more, take_all, get_or-take, get_or-drop}
@@ -18,7 +18,6 @@ use Rattle.mt_rows.specs.Spans.{Table, column}
 use Rattle.mt_rows.specs.Plain.{names_of}
 use Rattle.mt_dup.specs.Copy.{renamed, IsRowCopy}
 use Rattle.mt_dup.specs.Walks.{names_by, names_from, ParentsAre, AreNumbered, AreCopied}
-use Rattle.mt_dup.proofs.WrittenRows.{one_width}
 
 -- ---- lists, by index
 
@@ -131,19 +130,20 @@ abbrev pub SameFrom : Table → Table → ℕ → ℕ → Type 0
 SameFrom t t' from to = (row c : ℕ) → from ≤ row → row < to → c < columns t.width → column t' row c ≡ column t row c
 
 module _ (number : ℕ → ℕ) (t d d' : Table) where
-  row_stays : (kind : RowKind) (row : ℕ) → ((c : ℕ) → c < columns d.width → column d' (number row) c ≡ column d (number row) c) → IsRowCopy number t d kind row → IsRowCopy number t d' kind row
-  row_stays kind row same copy =
-      let wide : (c : ℕ) → c < columns t.width → c < columns d.width = λ c within. subst (λ (v : Width). c < columns v) (one_width t.width d.width) within in
+  row_stays : (kind : RowKind) (row : ℕ) → d'.width ≡ d.width → ((c : ℕ) → c < columns d.width → column d' (number row) c ≡ column d (number row) c) → IsRowCopy number t d kind row → IsRowCopy number t d' kind row
+  row_stays kind row width same copy =
+      let wide : (c : ℕ) → c < columns t.width → c < columns d.width = λ c within. subst (λ (v : Width). c < columns v) (sym copy.width) within in
       record {
+        width = width ∙ copy.width;
         parent = same 0 (some_columns d.width) ∙ copy.parent;
         pivots = λ c some within. same c (wide c (omega (arith, within, slots_of-columns t.width kind))) ∙ copy.pivots c some within;
         slots = λ i within. same (slot_column (slots_of t.width kind) i) (wide (slot_column (slots_of t.width kind) i) (slot_within t.width kind i within)) ∙ copy.slots i within;
         behind = λ c from within. same c (wide c within) ∙ copy.behind c from within;
       }
 
-  pub copies_stay : (words : List ℕ) (from to : ℕ) → to ≡ from + length words → AreNumbered number from words → SameFrom d d' from to → AreCopied number t d words → AreCopied number t d' words
-  copies_stay [] from to many numbered same copied = tt
-  copies_stay (x ∷ words) from to many numbered same copied = (
-    λ kind named. row_stays kind (row_in x) (λ c within. let here = numbered.0 in same (number (row_in x)) c (omega arith) (omega arith) within) (copied.0 kind named),
-    copies_stay words (from + 1) to (omega arith) numbered.1 (λ row c above below within. same row c (omega arith) below within) copied.1,
+  pub copies_stay : (words : List ℕ) (from to : ℕ) → d'.width ≡ d.width → to ≡ from + length words → AreNumbered number from words → SameFrom d d' from to → AreCopied number t d words → AreCopied number t d' words
+  copies_stay [] from to width many numbered same copied = tt
+  copies_stay (x ∷ words) from to width many numbered same copied = (
+    λ kind named. row_stays kind (row_in x) width (λ c within. let here = numbered.0 in same (number (row_in x)) c (omega arith) (omega arith) within) (copied.0 kind named),
+    copies_stay words (from + 1) to width (omega arith) numbered.1 (λ row c above below within. same row c (omega arith) below within) copied.1,
   )

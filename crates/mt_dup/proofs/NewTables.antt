@@ -17,7 +17,7 @@ use Rattle.mt_dup.specs.Filling.{rows_above, next_row, IsFilling, HasTaken, IsOp
 use Rattle.mt_dup.proofs.Filling.{length-rows_above, filling_is_book}
 use Rattle.mt_dup.proofs.Going.{next_after}
 use Rattle.mt_dup.proofs.WholeCopies.{copied_to, Facts}
-use Rattle.mt_dup.proofs.WrittenRows.{one_width, written_rows}
+use Rattle.mt_dup.proofs.WrittenRows.{written_rows, written_width}
 
 -- ---- new
 
@@ -118,7 +118,7 @@ module _ (kind : Kind) (s d₀ d : Sheet) (b₀ b : Book) (n root count : ℕ) (
   is_new_but = record {
     rest = rest;
     zeros = λ row c not within.
-        written.words row c (is_outside row not) (subst (λ (v : Width). c < columns v) (one_width d.tree.table.width d₀.tree.table.width) within)
+        written.words row c (is_outside row not) (subst (λ (v : Width). c < columns v) (written_width (next_row b₀) (next_row b) d₀ d written) within)
         ∙ (ap (λ (x : Sheet). column x.tree.table row c) new ∙ zero_in (columns (new_sheet n).tree.table.width * (first_row + n)) (columns (new_sheet n).tree.table.width * row + c));
     new = λ row not. written.lives row (is_outside row not) ∙ (ap (λ (x : Sheet). life_of x.lives row) new ∙ new_in (first_row + n) row);
     drafts = λ row is. let inside = is_inside row is in written.drafts row (omega (arith, from, inside.0)) (omega (arith, to, inside.1));

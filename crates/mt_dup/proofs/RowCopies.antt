@@ -21,7 +21,7 @@ use Rattle.mt_dup.specs.Copy.{renamed, slot_renamed, IsRowCopy}
 use Rattle.mt_dup.specs.Filling.{next_row, HasTaken, IsOpen, IsWritten}
 use Rattle.mt_dup.specs.Pairs.{HasOwn}
 use Rattle.mt_dup.specs.Walks.{names_by, names_from, names_below, ParentsAre, MayCopy, MayCopyBy, MayCopyBelow, AreNumbered, AreCopied, LeavesCopy, LeavesChildren, HasNames, IsNoName, KeepsOwn}
-use Rattle.mt_dup.proofs.WrittenRows.{same_tree, one_width}
+use Rattle.mt_dup.proofs.WrittenRows.{same_tree, written_width}
 use Rattle.mt_dup.proofs.Names.{names_deeper, names_none, renamed_name}
 use Rattle.mt_dup.proofs.Going.{next_after, open_after}
 
@@ -82,12 +82,13 @@ module _ (s : Sheet) (b : Book) (way : Way) (pair : Pair) (whole : IsWhole s) (n
   -- ---- the row and what stands below it
 
   module _ (d d₁ d₂ : Sheet) (b₁ b₂ : Book) (unused : IsOpen b d) (one : HasTaken 1 b b₁) (own : HasOwn way.parent pair t d₁.tree.table)
-      (children : LeavesChildren t d₂.tree.table (next_row b₁) way.depth pair) (kept : KeepsOwn d₁.tree.table d₂.tree.table pair) where
+      (children : LeavesChildren t d₂.tree.table (next_row b₁) way.depth pair) (kept : KeepsOwn d₁.tree.table d₂.tree.table pair)
+      (wide₁ : d₁.tree.table.width ≡ t.width) (wide₂ : d₂.tree.table.width ≡ t.width) where
     next_is : next_row b₁ ≡ next_row b + 1
     next_is = next_after 1 b b₁ unused.filling one
 
     keeps : (c : ℕ) → c < columns t.width → IsNoName pair.kind (slots_of t.width pair.kind) c → column d₂.tree.table pair.to c ≡ column d₁.tree.table pair.to c
-    keeps c within no_name = kept c (subst (λ (v : Width). c < columns v) (one_width t.width d₁.tree.table.width) within) (subst (λ (v : Width). IsNoName pair.kind (slots_of v pair.kind) c) (one_width t.width d₁.tree.table.width) no_name)
+    keeps c within no_name = kept c (subst (λ (v : Width). c < columns v) (sym wide₁) within) (subst (λ (v : Width). IsNoName pair.kind (slots_of v pair.kind) c) (sym wide₁) no_name)
 
     module _ (number : ℕ → ℕ) (to_is : number pair.row ≡ pair.to) (parent : way.parent ≡ renamed number (column t pair.row 0)) (names : pair.kind ≢ Leaf → HasNames number t d₂.tree.table pair) where
       slots_are : (kind : RowKind) → pair.kind ≡ kind → (i : ℕ) → i < slots_of t.width pair.kind
@@ -101,6 +102,7 @@ module _ (s : Sheet) (b : Book) (way : Way) (pair : Pair) (whole : IsWhole s) (n
           let fits = slots_of-columns t.width pair.kind in
           let moved : (c : ℕ) → column d₂.tree.table (number pair.row) c ≡ column d₂.tree.table pair.to c = λ c. ap (λ (n : ℕ). column d₂.tree.table n c) to_is in
           record {
+            width = wide₂;
             parent = moved 0 ∙ (keeps 0 (some_columns t.width) (inr (inl (some_slots_of t.width pair.kind))) ∙ (own.first ∙ parent));
             pivots = λ c some within. moved c ∙ (keeps c (omega (arith, fits)) (inr (inl within)) ∙ own.others c some (omega (arith, fits)));
             slots = λ i within. moved (slot_column (slots_of t.width pair.kind) i) ∙ slots_are pair.kind refl i within;
@@ -126,12 +128,12 @@ module _ (s : Sheet) (b : Book) (way : Way) (pair : Pair) (whole : IsWhole s) (n
 
   -- what stands below is asked for as it is at the call
   module _ (s₁ d d₁ : Sheet) (b₁ : Book) (reads : OnlyReads s s₁) (unused : IsOpen b d) (one : HasTaken 1 b b₁) (written : IsWritten pair.to (pair.to + 1) d d₁)
-      (room : length (names_from t.words way.depth way.word) ≤ length b.free) where
+      (room : length (names_from t.words way.depth way.word) ≤ length b.free) (width : d.tree.table.width ≡ t.width) where
     after : next_row b₁ ≡ next_row b + 1
     after = next_after 1 b b₁ unused.filling one
 
     pub children_asked : MayCopyBelow s₁.tree way.depth pair
-        × (IsOpen b₁ d₁ × ((length (names_below s₁.tree.table.words way.depth pair) ≤ length b₁.free) × ((next_row b₁ ≡ pair.to + 1) × ((first_row ≤ pair.to) × (life_of d₁.lives pair.to ≡ Draft)))))
+        × (IsOpen b₁ d₁ × ((length (names_below s₁.tree.table.words way.depth pair) ≤ length b₁.free) × ((next_row b₁ ≡ pair.to + 1) × ((first_row ≤ pair.to) × ((life_of d₁.lives pair.to ≡ Draft) × (d₁.tree.table.width ≡ s₁.tree.table.width))))))
     children_asked =
         let less = one.taken in (
           subst (λ (r : Rooted). MayCopyBelow r way.depth pair) (sym (same_tree s s₁ reads)) may_below,
@@ -139,7 +141,7 @@ module _ (s : Sheet) (b : Book) (way : Way) (pair : Pair) (whole : IsWhole s) (n
             open_after 1 pair.to (pair.to + 1) b b₁ d d₁ unused one (omega (arith, after, to)) written,
             (
               subst (λ (r : Rooted). length (names_below r.table.words way.depth pair) ≤ length b₁.free) (sym (same_tree s s₁ reads)) (omega (arith, length_is)),
-              (omega (arith, after, to), (omega (arith, to), written.drafts pair.to (omega arith) (omega arith))),
+              (omega (arith, after, to), (omega (arith, to), (written.drafts pair.to (omega arith) (omega arith), written_width pair.to (pair.to + 1) d d₁ written ∙ (width ∙ ap (λ (r : Rooted). r.table.width) (sym (same_tree s s₁ reads)))))),
             ),
           ),
         )

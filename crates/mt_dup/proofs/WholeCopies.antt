@@ -29,7 +29,7 @@ use Rattle.mt_dup.proofs.Names.{names_none}
 use Rattle.mt_dup.proofs.NewNumbers.{times_of, number_in, number_zero, numbered_on, numbered_once, IsGiven, all_given, given_inside, given_outside}
 use Rattle.mt_dup.proofs.TreeNames.{may_copy, rows_named, holds_below}
 use Rattle.mt_dup.proofs.MovedTree as moved
-use Rattle.mt_dup.proofs.WrittenRows.{same_tree, one_width}
+use Rattle.mt_dup.proofs.WrittenRows.{same_tree}
 
 abbrev pub all_names : Sheet → List ℕ
 all_names s = names_from s.tree.table.words deepest s.tree.root
@@ -71,7 +71,7 @@ names_many kind s whole lawful = elim lawful.words [
 -- ---- behind it
 
 module _ (kind : Kind) (s d : Sheet) (root : ℕ) (whole : IsWhole s) (new_whole : IsWhole d) (width : s.tree.table.width ≡ kind_width kind)
-    (room : length (all_names s) ≤ d.tree.rows) (copy : LeavesCopy s.tree.table d.tree.table first_row (record { depth = deepest; word = s.tree.root; parent = 1 }) root) where
+    (one_width : d.tree.table.width ≡ s.tree.table.width) (room : length (all_names s) ≤ d.tree.rows) (copy : LeavesCopy s.tree.table d.tree.table first_row (record { depth = deepest; word = s.tree.root; parent = 1 }) root) where
   abbrev t : Tree
   t = tree_as kind s.tree
 
@@ -92,7 +92,7 @@ module _ (kind : Kind) (s d : Sheet) (root : ℕ) (whole : IsWhole s) (new_whole
   words = record { width = s.tree.table.width; words = d.tree.table.words }
 
   table_is : d.tree.table ≡ words
-  table_is = ap (λ (v : Width). record { width = v; words = d.tree.table.words }) (one_width d.tree.table.width s.tree.table.width)
+  table_is = ap (λ (v : Width). record { width = v; words = d.tree.table.words }) one_width
 
   reached_by : (row count : ℕ) → times_of row (reached_in after.table after.root) ≡ count → is_reached after row ≡ nat_lt 0 count
   reached_by row count is = ap (nat_lt 0) is
@@ -102,6 +102,7 @@ module _ (kind : Kind) (s d : Sheet) (root : ℕ) (whole : IsWhole s) (new_whole
   empty_facts : s.tree.root ≡ 0 → Facts kind s d root (length names)
   empty_facts empty = record {
     copy = record {
+      width = one_width;
       number = λ r. r;
       none = refl;
       rows = ap (reached_in d.tree.table) root_zero ∙ sym (ap (λ (r : ℕ). map (λ (n : ℕ). n) (reached_in s.tree.table r)) empty);
@@ -110,7 +111,7 @@ module _ (kind : Kind) (s d : Sheet) (root : ℕ) (whole : IsWhole s) (new_whole
       words = λ h x k at. absurd (let levels = at.levels in let low = ap (height_in s.tree.table) empty in omega arith);
     };
     same_map = ap (map_in d.tree.table) root_zero ∙ sym (ap (map_in s.tree.table) empty);
-    lawful = record { width = one_width d.tree.table.width (kind_width kind); words = inl root_zero };
+    lawful = record { width = one_width ∙ width; words = inl root_zero };
     inside = λ row low high. absurd (let few = no_names in omega arith);
     outside = λ row out. ap (λ (r : ℕ). is_reached (record { rows = d.tree.rows; table = d.tree.table; root = r }) row) root_zero;
   }
@@ -207,6 +208,7 @@ module _ (kind : Kind) (s d : Sheet) (root : ℕ) (whole : IsWhole s) (new_whole
     some_facts : Facts kind s d root (length names)
     some_facts = record {
       copy = record {
+        width = one_width;
         number = number;
         none = number_zero rows;
         rows = rows_are;
@@ -221,7 +223,7 @@ module _ (kind : Kind) (s d : Sheet) (root : ℕ) (whole : IsWhole s) (new_whole
           ∙ (ranges_by_depth later deepest h (root_span later.table later.root) stands.low later_stands.rows
           ∙ (moved.map_moved t number (number_zero rows) d.tree.rows new_whole.few d.tree.table.words h (root_span s.tree.table s.tree.root ∷ []) levels
           ∙ sym (ranges_by_depth t deepest h (root_span s.tree.table s.tree.root) stands.low stands.rows)));
-      lawful = record { width = one_width d.tree.table.width (kind_width kind); words = subst IsLawful later_is later_lawful };
+      lawful = record { width = one_width ∙ width; words = subst IsLawful later_is later_lawful };
       inside = λ row low high. let some = given_inside number first_row row names numbered low high in lt-ltb 0 (times_of row (reached_in after.table after.root)) (omega (arith, tally_is row));
       outside = λ row out. reached_by row 0 (tally_is row ∙ given_outside number first_row row names numbered out);
     }
@@ -239,10 +241,10 @@ module _ (s s' : Sheet) (word : ℕ) (reads : OnlyReads s s') (word_is : word �
   pub may_same : MayCopy s.tree deepest s.tree.root → MayCopy s'.tree deepest word
   may_same may = subst (λ (x : Rooted). MayCopy x deepest word) (sym (same_tree s s' reads)) (subst (MayCopy s.tree deepest) (sym word_is) may)
 
-  pub facts_of : (kind : Kind) (d : Sheet) (from root : ℕ) → IsWhole s → IsWhole d → IsLawfulOf s.tree kind → length (all_names s) ≤ d.tree.rows → from ≡ first_row
+  pub facts_of : (kind : Kind) (d : Sheet) (from root : ℕ) → IsWhole s → IsWhole d → IsLawfulOf s.tree kind → d.tree.table.width ≡ s.tree.table.width → length (all_names s) ≤ d.tree.rows → from ≡ first_row
       → LeavesCopy s'.tree.table d.tree.table from (record { depth = deepest; word = word; parent = 1 }) root → Facts kind s d root (length (all_names s))
-  facts_of kind d from root whole new_whole lawful room begins copy =
-      facts kind s d root whole new_whole lawful.width room
+  facts_of kind d from root whole new_whole lawful one_width room begins copy =
+      facts kind s d root whole new_whole lawful.width one_width room
       (subst (λ (n : ℕ). LeavesCopy s.tree.table d.tree.table n (record { depth = deepest; word = s.tree.root; parent = 1 }) root) begins
       (subst (λ (n : ℕ). LeavesCopy s.tree.table d.tree.table from (record { depth = deepest; word = n; parent = 1 }) root) word_is
       (subst (λ (x : Rooted). LeavesCopy x.table d.tree.table from (record { depth = deepest; word = word; parent = 1 }) root) (same_tree s s' reads) copy))) lawful.words

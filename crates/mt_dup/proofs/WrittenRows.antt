@@ -27,9 +27,8 @@ reads_more s s' s'' first second = second ∙ ap (λ (x : Sheet). record x { rea
 
 -- ---- rows that are written
 
--- all tables are of one width
-pub one_width : (v w : Width) → v ≡ w
-one_width Long Long = refl
+pub written_width : (low high : ℕ) (s s' : Sheet) → IsWritten low high s s' → s'.tree.table.width ≡ s.tree.table.width
+written_width low high s s' written = ap (λ (x : Sheet). x.tree.table.width) written.rest
 
 pub written_rows : (low high : ℕ) (s s' : Sheet) → IsWritten low high s s' → s'.tree.rows ≡ s.tree.rows
 written_rows low high s s' written = ap (λ (x : Sheet). x.tree.rows) written.rest
@@ -42,7 +41,7 @@ draft_free cleared l is = subst (IsFree cleared) (sym is) tt
 pub written_on : (low middle high : ℕ) (s s' s'' : Sheet) → low ≤ middle → middle ≤ high → IsWritten low middle s s' → IsWritten middle high s' s'' → IsWritten low high s s''
 written_on low middle high s s' s'' some more first second = record {
   rest = second.rest ∙ ap (λ (x : Sheet). record x { tree = record x.tree { table = record x.tree.table { words = s''.tree.table.words } }; lives = s''.lives }) first.rest;
-  words = λ row c outside within. second.words row c (behind row outside) (subst (λ (w : Width). c < columns w) (one_width s.tree.table.width s'.tree.table.width) within) ∙ first.words row c (before row outside) within;
+  words = λ row c outside within. second.words row c (behind row outside) (subst (λ (w : Width). c < columns w) (sym (written_width low middle s s' first)) within) ∙ first.words row c (before row outside) within;
   lives = λ row outside. second.lives row (behind row outside) ∙ first.lives row (before row outside);
   drafts = λ row from to. elim (cases_lt row middle) [ inl low' ↦ second.lives row (inl low') ∙ first.drafts row from low' | inr high' ↦ second.drafts row high' to ];
 }
@@ -59,7 +58,7 @@ written_on low middle high s s' s'' some more first second = record {
 pub written_in : (low high row : ℕ) (s s' s'' : Sheet) → low ≤ row → row < high → IsWritten low high s s' → IsWritten row (row + 1) s' s'' → IsWritten low high s s''
 written_in low high row s s' s'' from to first second = record {
   rest = second.rest ∙ ap (λ (x : Sheet). record x { tree = record x.tree { table = record x.tree.table { words = s''.tree.table.words } }; lives = s''.lives }) first.rest;
-  words = λ r c outside within. second.words r c (other r outside) (subst (λ (w : Width). c < columns w) (one_width s.tree.table.width s'.tree.table.width) within) ∙ first.words r c outside within;
+  words = λ r c outside within. second.words r c (other r outside) (subst (λ (w : Width). c < columns w) (sym (written_width low high s s' first)) within) ∙ first.words r c outside within;
   lives = λ r outside. second.lives r (other r outside) ∙ first.lives r outside;
   drafts = drafts;
 }
@@ -126,9 +125,12 @@ apart Long to row c n within few (inl below) = inl (omega arith)
 apart Long to row c n within few (inr above) = inr (omega arith)
 
 module _ (pair : Pair) (s s' d d' : Sheet) (parent col : ℕ) (words : List ℕ) (read : Reading s s' parent pair.row col words) (past : 32 ≤ col) (drafted : AreDrafted pair.to 0 words d d') where
+  drafted_width : d'.tree.table.width ≡ d.tree.table.width
+  drafted_width = ap (λ (x : Sheet). x.tree.table.width) drafted.rest
+
   column_is : (c : ℕ) → c < columns s.tree.table.width → column d'.tree.table pair.to c ≡ slice_index words c
   column_is c within =
-      ap (λ (v : Width). slice_index d'.tree.table.words (columns v * pair.to + c)) (one_width d'.tree.table.width d.tree.table.width)
+      ap (λ (v : Width). slice_index d'.tree.table.words (columns v * pair.to + c)) drafted_width
       ∙ (ap (λ (n : ℕ). slice_index d'.tree.table.words (n + c)) (sym (add-zero (columns d.tree.table.width * pair.to)))
       ∙ drafted.put.here c (omega (arith, read.size, all_columns s.tree.table.width)))
 
@@ -146,7 +148,7 @@ module _ (pair : Pair) (s s' d d' : Sheet) (parent col : ℕ) (words : List ℕ)
     row_written = record {
       rest = drafted.rest ∙ ap (λ (l : List Life). record d { tree = record d.tree { table = record d.tree.table { words = d'.tree.table.words } }; lives = l }) (sym lives_are);
       words = λ row c outside within.
-          ap (λ (v : Width). slice_index d'.tree.table.words (columns v * row + c)) (one_width d'.tree.table.width d.tree.table.width)
+          ap (λ (v : Width). slice_index d'.tree.table.words (columns v * row + c)) drafted_width
           ∙ drafted.put.others (columns d.tree.table.width * row + c) (apart d.tree.table.width pair.to row c (length words) within (omega (arith, read.size, all_columns d.tree.table.width)) outside);
       lives = λ row outside. ap (λ (l : List Life). life_of l row) lives_are ∙ get_or-set_other d.lives pair.to row Draft New (λ e. other row outside e);
       drafts = λ row from to. let same : pair.to ≡ row = omega arith in subst (λ (n : ℕ). life_of d'.lives n ≡ Draft) same (ap (λ (l : List Life). life_of l pair.to) lives_are ∙ get_or-set_same d.lives pair.to Draft New inside);

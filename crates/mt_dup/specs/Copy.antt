@@ -1,4 +1,4 @@
--- A copy of a tree, row by row: it has the same words, but for the numbers of its rows.
+-- A copy of a tree, row by row: it has the same width and the same words, but for the numbers of its rows.
 -- Source: the kernel's lib/maple_tree.c, __mt_dup, which copies each node and then writes the new addresses into it.
 use Rattle.std.specs.Prelude.{◌≡◌, ◌↔◌, ℕ, ◌*◌, ◌%◌, ◌<◌, ◌≤◌, false, Some, [], map}
 use Rattle.mt_base.specs.Width.{columns}
@@ -26,15 +26,18 @@ slot_renamed number Leaf word = word
 slot_renamed number Inner word = renamed number word
 slot_renamed number Gapped word = renamed number word
 
--- a row of the copy: its parent word and the names in its slots are the copy's, and all its other columns are equal
+-- a row of the copy, which is of the same width: its parent word and the names in its slots are the copy's, and all its other
+-- columns are equal
 pub record IsRowCopy (number : ℕ → ℕ) (t t' : Table) (kind : RowKind) (row : ℕ) : Type 0 where
+  pub width : t'.width ≡ t.width
   pub parent : column t' (number row) 0 ≡ renamed number (column t row 0)
   pub pivots : (c : ℕ) → 0 < c → c < slots_of t.width kind → column t' (number row) c ≡ column t row c
   pub slots : (i : ℕ) → i < slots_of t.width kind → column t' (number row) (slot_column (slots_of t.width kind) i) ≡ slot_renamed number kind (column t row (slot_column (slots_of t.width kind) i))
   pub behind : (c : ℕ) → 2 * slots_of t.width kind ≤ c → c < columns t.width → column t' (number row) c ≡ column t row c
 
--- a copy of a tree: each row that is reached has a number of its own in the copy, and 0, which is no row, stays 0
+-- a copy of a tree, of the same width: each row that is reached has a number of its own in the copy, and 0, which is no row, stays 0
 pub record IsCopy (t t' : Rooted) : Type 0 where
+  pub width : t'.table.width ≡ t.table.width
   pub number : ℕ → ℕ
   pub none : number 0 ≡ 0
   pub rows : reached_in t'.table t'.root ≡ map number (reached_in t.table t.root)

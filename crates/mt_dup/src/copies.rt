@@ -20,7 +20,7 @@ use std::sync::ledger::Ledger;
 /// The parent word of a root.
 const NO_PARENT: u64 = 1;
 
-/// Copies a tree row by row into new rows, and gives the root word of the copy, with which it can be planted there. The rows
+/// Copies a tree row by row into new rows of the same width, and gives the root word of the copy, with which it can be planted there. The rows
 /// of the copy are taken from the book, as many as are reached in the tree, and each is a step. It takes no memory.
 pub fn copy_rows<R: Rows, L: Ledger>(
     src: &mut R,
@@ -32,6 +32,7 @@ pub fn copy_rows<R: Rows, L: Ledger>(
     requires rows { sheet_in dst.old ≡ new_sheet book.old.rows }
     requires book { book.old ≡ new_book book.old.rows }
     requires room { length (reached_in (R.sheet src.old).tree.table (R.sheet src.old).tree.root) ≤ length book.old.free }
+    requires width { (sheet_in dst.old).tree.table.width ≡ (R.sheet src.old).tree.table.width }
 
     // The words of the copy are those of the tree, but for the numbers of its rows.
     ensures copy { IsCopy (R.sheet src.old).tree (with_published (sheet_in dst.new).tree Root result) }

@@ -10,8 +10,8 @@ use Rattle.mt_dup.specs.Filling.{next_row, HasTaken}
 use Rattle.mt_dup.specs.Pairs.{IsWrittenAt}
 use Rattle.mt_dup.specs.Walks.{names_from, names_below, MayCopy, LeavesCopy, LeavesChildren}
 use Rattle.mt_dup.proofs.Names.{names_none}
-use Rattle.mt_dup.proofs.WrittenRows.{same_tree}
-use Rattle.mt_dup.proofs.Going.{Begins, Going, going_loaded, slots_in, none_taken, taken_more, loaded_is, may_child, open_child, room_child, going_next}
+use Rattle.mt_dup.proofs.WrittenRows.{same_tree, written_width}
+use Rattle.mt_dup.proofs.Going.{Begins, Going, going_loaded, slots_in, none_taken, taken_more, loaded_is, may_child, open_child, room_child, wide_child, going_next}
 use Rattle.mt_dup.proofs.RowCopies.{none_copied, length_is, row_place, children_asked, row_copied}
 use Rattle.mt_dup.proofs.walks.+walk.Goals as goal
 
@@ -30,7 +30,7 @@ copy_children-copy_row-name-requires g t c κs within =
     let inner : pair.kind ≢ Leaf = search rules in
     let size : c.slots-slots.result ≡ slots_in s pair = search rules in
     let inside : slot < slots_in s pair = subst (λ n. slot < n) size (search rules) in
-    let begins : Begins s d b pair depth = record { whole = g.met.R.Rows.whole c.args.src.now; new_whole = rows_whole c.args.dst.now; inner = inner; may = c.requires.may; unused = c.requires.open; room = c.requires.room; to = c.requires.to; first = c.requires.first; draft = c.requires.draft } in
+    let begins : Begins s d b pair depth = record { whole = g.met.R.Rows.whole c.args.src.now; new_whole = rows_whole c.args.dst.now; inner = inner; may = c.requires.may; unused = c.requires.open; room = c.requires.room; to = c.requires.to; first = c.requires.first; draft = c.requires.draft; width = c.requires.width } in
     let going : Going s s₂ d d₁ b b₁ pair depth slot c.args.steps.now c.loop-slot.steps = going_loaded s s₁ s₂ d d₁ b b₁ pair depth slot c.args.steps.now c.loop-slot.steps c.loop-slot.invariant c.load.ensures.rest in
     let word = loaded_is s d b pair depth begins s₁ d₁ b₁ slot c.args.steps.now c.loop-slot.steps c.loop-slot.invariant inside s₂ c.load.result c.slots-slots.result c.load.ensures.rest size c.load.ensures.word in
     let deep = c.requires.may.deep in
@@ -44,7 +44,10 @@ copy_children-copy_row-name-requires g t c κs within =
             subst (MayCopy s₂.tree (depth - 1)) (sym word) (may_child s d b pair depth begins s₂ d₁ b₁ slot c.args.steps.now c.loop-slot.steps going inside),
             (
               open_child s d b pair depth begins s₂ d₁ b₁ slot c.args.steps.now c.loop-slot.steps going inside,
-              subst (λ n. length (names_from s₂.tree.table.words (depth - 1) n) ≤ length b₁.free) (sym word) (room_child s d b pair depth begins s₂ d₁ b₁ slot c.args.steps.now c.loop-slot.steps going inside),
+              (
+                subst (λ n. length (names_from s₂.tree.table.words (depth - 1) n) ≤ length b₁.free) (sym word) (room_child s d b pair depth begins s₂ d₁ b₁ slot c.args.steps.now c.loop-slot.steps going inside),
+                wide_child s d b pair depth begins s₂ d₁ b₁ slot c.args.steps.now c.loop-slot.steps going inside,
+              ),
             ),
           ),
         ),
@@ -68,7 +71,7 @@ copy_children-loop-slot-preserved g t c =
     let inner : pair.kind ≢ Leaf = search rules in
     let size : c.slots-slots.result ≡ slots_in s pair = search rules in
     let inside : slot < slots_in s pair = subst (λ n. slot < n) size (search rules) in
-    let begins : Begins s d b pair depth = record { whole = g.met.R.Rows.whole c.args.src.now; new_whole = rows_whole c.args.dst.now; inner = inner; may = c.requires.may; unused = c.requires.open; room = c.requires.room; to = c.requires.to; first = c.requires.first; draft = c.requires.draft } in
+    let begins : Begins s d b pair depth = record { whole = g.met.R.Rows.whole c.args.src.now; new_whole = rows_whole c.args.dst.now; inner = inner; may = c.requires.may; unused = c.requires.open; room = c.requires.room; to = c.requires.to; first = c.requires.first; draft = c.requires.draft; width = c.requires.width } in
     let going : Going s s₂ d d₁ b b₁ pair depth slot c.args.steps.now c.loop-slot.steps = going_loaded s s₁ s₂ d d₁ b b₁ pair depth slot c.args.steps.now c.loop-slot.steps c.loop-slot.invariant c.load.ensures.rest in
     let word = loaded_is s d b pair depth begins s₁ d₁ b₁ slot c.args.steps.now c.loop-slot.steps c.loop-slot.invariant inside s₂ c.load.result c.slots-slots.result c.load.ensures.rest size c.load.ensures.word in
     let here : IsWrittenAt pair.to (slots_in s pair + slot) c.copy_row-name.result d₂.tree.table d₃.tree.table = subst (λ n. IsWrittenAt pair.to (n + slot) c.copy_row-name.result d₂.tree.table d₃.tree.table) size c.write.ensures.column in
@@ -119,7 +122,7 @@ copy_row-copy_children-requires g t c κs within =
         (
           within.1,
           children_asked s c.args.book.now c.args.way pair (g.met.R.Rows.whole c.args.src.now) (sym c.in-Some-Some.ensures'.kind) row c.take_next.ensures.row c.requires.may
-              (g.R.Rows.sheet c.copy_own.new.src) (sheet_in c.args.dst.now) (sheet_in c.copy_own.new.dst) c.take_next.new.book c.copy_own.ensures.rest c.requires.open c.take_next.ensures.taken c.copy_own.ensures.written c.requires.room,
+              (g.R.Rows.sheet c.copy_own.new.src) (sheet_in c.args.dst.now) (sheet_in c.copy_own.new.dst) c.take_next.new.book c.copy_own.ensures.rest c.requires.open c.take_next.ensures.taken c.copy_own.ensures.written c.requires.room c.requires.width,
         ),
       ),
     )
@@ -133,9 +136,12 @@ copy_row-returns-clause-copy g t c =
     let row = row_named c.args.way.word c.in-Some-Some.row c.in-Some-Some.kind c.in-Some-Some.ensures.row c.in-Some-Some.ensures'.kind in
     let children : LeavesChildren s.tree.table d₂.tree.table (next_row c.take_next.new.book) c.args.way.depth pair =
     subst (λ (r : Rooted). LeavesChildren r.table d₂.tree.table (next_row c.take_next.new.book) c.args.way.depth pair) (same_tree s s₁ c.copy_own.ensures.rest) c.copy_children.ensures.children in
+    let d₁ = sheet_in c.copy_own.new.dst in
+    let wide₁ : d₁.tree.table.width ≡ s.tree.table.width = written_width pair.to (pair.to + 1) (sheet_in c.args.dst.now) d₁ c.copy_own.ensures.written ∙ c.requires.width in
+    let wide₂ : d₂.tree.table.width ≡ s.tree.table.width = written_width pair.to (next_row c.copy_children.new.book) d₁ d₂ c.copy_children.ensures.written ∙ wide₁ in
     subst (LeavesCopy s.tree.table d₂.tree.table (next_row c.args.book.now) c.args.way) (sym (c.word.ensures.word ∙ c.name_of.ensures))
     (row_copied s c.args.book.now c.args.way pair (g.met.R.Rows.whole c.args.src.now) (sym c.in-Some-Some.ensures'.kind) row c.take_next.ensures.row c.requires.may
-    (sheet_in c.args.dst.now) (sheet_in c.copy_own.new.dst) d₂ c.take_next.new.book c.copy_children.new.book c.requires.open c.take_next.ensures.taken c.copy_own.ensures.own children c.copy_children.ensures.own)
+    (sheet_in c.args.dst.now) (sheet_in c.copy_own.new.dst) d₂ c.take_next.new.book c.copy_children.new.book c.requires.open c.take_next.ensures.taken c.copy_own.ensures.own children c.copy_children.ensures.own wide₁ wide₂)
 
 pub copy_row-returns-clause-taken : goal.copy_row-returns-clause-taken
 copy_row-returns-clause-taken g t c =
