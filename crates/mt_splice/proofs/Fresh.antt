@@ -25,7 +25,8 @@ in_down (suc n) m low =
     ⊎_elim (λ (less : m < n). let here = in_down n m less in (suc here.0, let below = here.1 in omega arith, here.2))
     (λ (last : n ≤ m). (0, omega arith, let same : n ≡ m = omega arith in subst (λ (k : ℕ). first_row + n ≡ first_row + k) same refl)) (cases_lt m n)
 
-wide_words : (kind : Kind) → Long ≡ kind_width kind
+-- new rows have the width of each kind
+pub wide_words : (kind : Kind) → Long ≡ kind_width kind
 wide_words kinds.Range = refl
 wide_words kinds.Alloc = refl
 

@@ -59,6 +59,7 @@ fn copy_into<R: Rows, L: Ledger>(blank: Blank, src: &mut R, dst: &mut PlainRows,
     requires rows { sheet_in dst.old ≡ new_sheet book.old.rows }
     requires book { book.old ≡ new_book book.old.rows }
     requires room { length (reached_in (R.sheet src.old).tree.table (R.sheet src.old).tree.root) ≤ book.old.rows }
+    requires width { (sheet_in dst.old).tree.table.width ≡ (R.sheet src.old).tree.table.width }
     ensures copy { (kind : Kind) → IsLawfulOf (R.sheet src.old).tree kind → IsReadyToOpen kind book.old.rows (map_by (R.sheet src.old).tree) (sheet_in dst.new) book.new }
     ensures rest { OnlyReads (R.sheet src.old) (R.sheet src.new) }
 {
@@ -73,6 +74,7 @@ fn copy_out<R: Rows>(src: &mut R, live: u64, dst: &mut PlainRows, book: &mut Row
     requires live { live ≡ length (reached_in (R.sheet src.old).tree.table (R.sheet src.old).tree.root) }
     requires rows { sheet_in dst.old ≡ new_sheet book.old.rows }
     requires book { book.old ≡ new_book book.old.rows }
+    requires width { (sheet_in dst.old).tree.table.width ≡ (R.sheet src.old).tree.table.width }
     ensures copy { live ≤ book.old.rows → (kind : Kind) → IsLawfulOf (R.sheet src.old).tree kind → IsReadyToOpen kind book.old.rows (map_by (R.sheet src.old).tree) (sheet_in dst.new) book.new }
     ensures rest { OnlyReads (R.sheet src.old) (R.sheet src.new) }
 {
