@@ -35,7 +35,8 @@ pub record IsRowCopy (number : ℕ → ℕ) (t t' : Table) (kind : RowKind) (row
   pub slots : (i : ℕ) → i < slots_of t.width kind → column t' (number row) (slot_column (slots_of t.width kind) i) ≡ slot_renamed number kind (column t row (slot_column (slots_of t.width kind) i))
   pub behind : (c : ℕ) → 2 * slots_of t.width kind ≤ c → c < columns t.width → column t' (number row) c ≡ column t row c
 
--- a copy of a tree, of the same width: each row that is reached has a number of its own in the copy, and 0, which is no row, stays 0
+-- a copy of a tree, of the same width: each row that is reached has a number of its own in the copy, and 0, which is no row,
+-- stays 0
 pub record IsCopy (t t' : Rooted) : Type 0 where
   pub width : t'.table.width ≡ t.table.width
   pub number : ℕ → ℕ

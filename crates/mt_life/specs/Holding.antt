@@ -18,7 +18,7 @@ use Rattle.mt_life.specs.Known.{State, calls, Alive, Later, HasRow, HasPart, Sha
 abbrev pub copy_of : Held → Table
 copy_of x = record { width = x.width; words = x.copy }
 
--- A leaf of the row's form had what the map had at the moment.
+-- A leaf of the row's width and form had what the map had at the moment.
 pub record Snapshot (kind : Kind) (x : Held) (m : Moment) : Type 0 where
   pub table : Table
   pub width : table.width ≡ x.width
