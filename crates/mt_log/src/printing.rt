@@ -1,6 +1,6 @@
 //! A log in print. Each line is put together from its end, as the lines of a transcript are.
 
-ghost use Rattle.std.specs.Prelude.{◌≡◌, ◌≤◌, ◌+◌, ◌++◌, ◌∷◌, ◌-◌, ℕ, List, [], IfOk, OnOk, codes, length, replicate};
+ghost use Rattle.std.specs.Prelude.{◌≡◌, ◌≤◌, ◌+◌, ◌++◌, ◌∷◌, ◌-◌, ℕ, List, [], IfOk, OnOk, codes, length, replicate, slice_index_or};
 ghost use Rattle.std.specs.Fmt.{decimal};
 ghost use Rattle.std.specs.List.{join_with_byte};
 ghost use Rattle.mt_base.specs.Text.{kind_text};
@@ -60,40 +60,41 @@ fn put_three(line: &mut LineEnd, first: u64, second: u64, third: u64)
     put_two(line, first, second);
 }
 
-/// Puts the numbers of a call in front, and gives its keyword.
-fn put_numbers_of_call(line: &mut LineEnd, call: Call) -> Keyword
+/// The keyword of a call.
+fn keyword_of_call(call: Call) -> Keyword
+    ensures { (name : List ℕ) → word_of result ≡ slice_index_or (call_fields name call) 0 [] }
+{
+    match call {
+        Call::Store { .. } => Keyword::Store,
+        Call::StorePre { .. } => Keyword::StorePre,
+        Call::Insert { .. } => Keyword::Insert,
+        Call::Erase { .. } => Keyword::Erase,
+        Call::Alloc { .. } => Keyword::Alloc,
+        Call::Ralloc { .. } => Keyword::Ralloc,
+        Call::Gap { .. } => Keyword::Gap,
+        Call::Rgap { .. } => Keyword::Rgap,
+        Call::Clear => Keyword::Clear,
+    }
+}
+
+/// Puts the numbers of a call in front.
+fn put_numbers_of_call(line: &mut LineEnd, call: Call)
     requires { length line.old + 84 ≤ ROOM }
-    ensures text { (name : List ℕ) → word_of result ++ (32 ∷ name ++ line.new) ≡ join_with_byte 32 (call_fields name call) ++ line.old }
+    ensures text { (name : List ℕ) → slice_index_or (call_fields name call) 0 [] ++ (32 ∷ name ++ line.new) ≡ join_with_byte 32 (call_fields name call) ++ line.old }
     ensures long { length line.new ≤ 84 + length line.old }
 {
     match call {
-        Call::Store { first, last, entry } => {
-            put_three(line, first, last, entry);
-            Keyword::Store
-        }
-        Call::StorePre { first, last, entry } => {
-            put_three(line, first, last, entry);
-            Keyword::StorePre
-        }
-        Call::Insert { first, last, entry } => {
-            put_three(line, first, last, entry);
-            Keyword::Insert
-        }
-        Call::Erase { index } => {
-            put_number(line, index);
-            Keyword::Erase
-        }
+        Call::Store { first, last, entry }
+        | Call::StorePre { first, last, entry }
+        | Call::Insert { first, last, entry } => put_three(line, first, last, entry),
+        Call::Erase { index } => put_number(line, index),
         Call::Alloc {
             size,
             min,
             max,
             entry,
-        } => {
-            put_number(line, entry);
-            put_three(line, size, min, max);
-            Keyword::Alloc
         }
-        Call::Ralloc {
+        | Call::Ralloc {
             size,
             min,
             max,
@@ -101,17 +102,11 @@ fn put_numbers_of_call(line: &mut LineEnd, call: Call) -> Keyword
         } => {
             put_number(line, entry);
             put_three(line, size, min, max);
-            Keyword::Ralloc
         }
-        Call::Gap { size, min, max } => {
-            put_three(line, size, min, max);
-            Keyword::Gap
-        }
-        Call::Rgap { size, min, max } => {
-            put_three(line, size, min, max);
-            Keyword::Rgap
-        }
-        Call::Clear => Keyword::Clear,
+        Call::Gap { size, min, max } | Call::Rgap { size, min, max } => put_three(
+            line, size, min, max,
+        ),
+        Call::Clear => {}
     }
 }
 
@@ -121,37 +116,33 @@ fn put_call(line: &mut LineEnd, name: &[u8], call: Call)
     requires short { length name.now ≤ 16 }
     ensures { line.new ≡ join_with_byte 32 (call_fields name.now call) ++ line.old }
 {
-    let keyword = put_numbers_of_call(line, call);
-    put_head(line, keyword, name);
+    put_numbers_of_call(line, call);
+    put_head(line, keyword_of_call(call), name);
 }
 
-/// Puts the numbers of a query in front, and gives its keyword.
-fn put_numbers_of_query(line: &mut LineEnd, query: Query) -> Keyword
+/// The keyword of a query.
+fn keyword_of_query(query: Query) -> Keyword
+    ensures { (name : List ℕ) → word_of result ≡ slice_index_or (query_fields name query) 0 [] }
+{
+    match query {
+        Query::Load { .. } => Keyword::Load,
+        Query::Find { .. } => Keyword::Find,
+        Query::Next { .. } => Keyword::Next,
+        Query::Prev { .. } => Keyword::Prev,
+        Query::Rfind { .. } => Keyword::Rfind,
+    }
+}
+
+/// Puts the numbers of a query in front.
+fn put_numbers_of_query(line: &mut LineEnd, query: Query)
     requires { length line.old + 42 ≤ ROOM }
-    ensures text { (name : List ℕ) → word_of result ++ (32 ∷ name ++ line.new) ≡ join_with_byte 32 (query_fields name query) ++ line.old }
+    ensures text { (name : List ℕ) → slice_index_or (query_fields name query) 0 [] ++ (32 ∷ name ++ line.new) ≡ join_with_byte 32 (query_fields name query) ++ line.old }
     ensures long { length line.new ≤ 42 + length line.old }
 {
     match query {
-        Query::Load { index } => {
-            put_number(line, index);
-            Keyword::Load
-        }
-        Query::Find { index, max } => {
-            put_two(line, index, max);
-            Keyword::Find
-        }
-        Query::Next { index, max } => {
-            put_two(line, index, max);
-            Keyword::Next
-        }
-        Query::Prev { index, min } => {
-            put_two(line, index, min);
-            Keyword::Prev
-        }
-        Query::Rfind { index, min } => {
-            put_two(line, index, min);
-            Keyword::Rfind
-        }
+        Query::Load { index } => put_number(line, index),
+        Query::Find { index, max } | Query::Next { index, max } => put_two(line, index, max),
+        Query::Prev { index, min } | Query::Rfind { index, min } => put_two(line, index, min),
     }
 }
 
@@ -161,8 +152,8 @@ fn put_query(line: &mut LineEnd, name: &[u8], query: Query)
     requires short { length name.now ≤ 16 }
     ensures { line.new ≡ join_with_byte 32 (query_fields name.now query) ++ line.old }
 {
-    let keyword = put_numbers_of_query(line, query);
-    put_head(line, keyword, name);
+    put_numbers_of_query(line, query);
+    put_head(line, keyword_of_query(query), name);
 }
 
 /// The name of the tree of this number, where it is one of these trees.
