@@ -13,8 +13,8 @@ use Rattle.mt_rows.specs.Publish.{IsCounted, NoneBuried, map_by}
 use Rattle.mt_rule.specs.declared.views.PenPart.{PenPart}
 use Rattle.mt_rule.specs.Seats.{rooted_in, sheet_of, tree_of}
 
--- Too few rows are free: the shortage is counted by a scan. Its least epoch is that of the holder that it tells, who was found with a
--- section open; it is the greatest number where it tells none.
+-- Too few rows are free: the shortage is counted by a scan. Its least epoch is that of the holder that it tells, who was found
+-- with a section open; it is the greatest number where it tells none.
 pub record IsFoundShort (p : PenPart) (call : Call) (reply : Reply) : Type 0 where
   pub scan : Scan
   pub refused : IsRefused p.shape.kind (limits_after (tree_of p.shape p.history) p.ended) (map_by (rooted_in p)) call reply

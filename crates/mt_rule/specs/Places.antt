@@ -17,9 +17,13 @@ begun_at = 1
 abbrev pub root_at : ℕ
 root_at = 2
 
--- the section word of a pass; the first 31 passes have pairs of lines of their own
+-- so many passes have pairs of cache lines of their own
+abbrev pub paired_passes : ℕ
+paired_passes = 31
+
+-- the section word of a pass: those behind the first ones take the lines that the pairs of these leave
 abbrev pub section_at : ℕ → ℕ
-section_at pass = 16 * (pass % 31) + 8 * (1 - pass / 31) + 8
+section_at pass = 16 * (pass % paired_passes) + 8 * (1 - pass / paired_passes) + 8
 
 -- a column of a row
 abbrev pub column_at : Width → ℕ → ℕ → ℕ

@@ -61,7 +61,8 @@ pub record IsSound (extents : ℕ → Extent) (p : PenPart) : Type 0 where
   pub passes : length p.cleared ≡ p.shape.passes
   pub cleared : (k : ℕ) → k < p.shape.passes → slice_index p.cleared k ≤ p.ended
 
--- The words of the table are what the pen knows. A section word is 0 or of an epoch that has been, and 0 of a pass that was not dealt.
+-- The words of the table are what the pen knows. A section word is 0 or of an epoch that has been, and 0 of a pass that was not
+-- dealt.
 pub record WordsFit (words : List ℕ) (p : PenPart) : Type 0 where
   pub size : length words ≡ size_of (kind_width p.shape.kind) p.shape.rows
   pub commits : slice_index words commits_at ≡ p.ended

@@ -32,19 +32,19 @@ pub(crate) const BEGUN: usize = 1;
 pub(crate) const ROOT: usize = 2;
 
 /// So many passes have a pair of cache lines each; those behind them take the lines that these leave.
-const PAIRS: usize = 31;
+const PAIRED_PASSES: usize = 31;
 
-/// Where the section word of a pass stands: each has a cache line of its own, and no two of the first passes one pair of lines, since
-/// a processor may fetch lines by pairs.
+/// Where the section word of a pass stands: each has a cache line of its own, and no two of the first passes one pair of lines,
+/// since a processor may fetch lines by pairs.
 pub(crate) fn section_index(pass: u32) -> usize
     requires { pass < most_passes }
     ensures { result ≡ section_at pass }
 {
     let pass = pass as usize;
-    if pass < PAIRS {
+    if pass < PAIRED_PASSES {
         16 * pass + 16
     } else {
-        16 * (pass - PAIRS) + 8
+        16 * (pass - PAIRED_PASSES) + 8
     }
 }
 

@@ -170,7 +170,8 @@ impl<C: OfTable> Turn<C> {
         unreachable!()
     }
 
-    /// Takes the value out of the slot, which is away with the seat. It is moved behind the swap that grabs it, and not across that.
+    /// Takes the value out of the slot, which is away with the seat. It is moved behind the swap that grabs it, and not across
+    /// that.
     fn grabbed(&self, mut seat: Seat<Option<C>, TurnView>) -> Taken<C>
         requires table { seat.table_id ≡ self.now.table.shared.table_id }
         requires away { HasGrabbed C.table self.now.table.shared.key seat.me }
