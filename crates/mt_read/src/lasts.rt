@@ -261,14 +261,12 @@ pub fn rfind<L: Ledger>(
     let lo = section.epoch();
     let found = rfind_from(table, pass, index, steps);
     let begun = section.end(table, pass, steps);
-    match found {
-        Some(range) => Ok(Answer {
-            lo,
-            hi: begun,
-            value: not_below(range, index, min),
-        }),
-        None => Err(Moved { lo, begun }),
-    }
+    let range = found.ok_or(Moved { lo, begun })?;
+    Ok(Answer {
+        lo,
+        hi: begun,
+        value: not_below(range, index, min),
+    })
 }
 
 /// The last range that ends below an index, and at `min` or above.
@@ -295,12 +293,10 @@ pub fn prev<L: Ledger>(
     let lo = section.epoch();
     let found = prev_from(table, pass, index, steps);
     let begun = section.end(table, pass, steps);
-    match found {
-        Some(range) => Ok(Answer {
-            lo,
-            hi: begun,
-            value: not_below(range, min, min),
-        }),
-        None => Err(Moved { lo, begun }),
-    }
+    let range = found.ok_or(Moved { lo, begun })?;
+    Ok(Answer {
+        lo,
+        hi: begun,
+        value: not_below(range, min, min),
+    })
 }

@@ -138,12 +138,10 @@ pub fn next<L: Ledger>(
     let lo = section.epoch();
     let found = next_from(table, pass, index, steps);
     let begun = section.end(table, pass, steps);
-    match found {
-        Some(range) => Ok(Answer {
-            lo,
-            hi: begun,
-            value: within(range, 0, max),
-        }),
-        None => Err(Moved { lo, begun }),
-    }
+    let range = found.ok_or(Moved { lo, begun })?;
+    Ok(Answer {
+        lo,
+        hi: begun,
+        value: within(range, 0, max),
+    })
 }

@@ -1,4 +1,4 @@
-use Rattle.std.proofs.Common.{ℕ, sym, subst, length, Option}
+use Rattle.std.proofs.Common.{rules, ℕ, sym, subst, length, Option}
 use Rattle.mt_base.specs.declared.ranges.Range.{Range}
 use Rattle.mt_base.specs.declared.calls.Query.TheVariants.{Rfind}
 use Rattle.mt_rule.specs.Tokens.{identity_of, part_of}
@@ -9,11 +9,12 @@ use Rattle.mt_read.proofs.Windows.{read_by}
 use Rattle.mt_read.proofs.GivenUp.{rfind_bounded}
 use Rattle.mt_read.proofs.lasts.rfind.Goals as goal
 
-pub returns-in-Some-clause-read : goal.returns-in-Some-clause-read
-returns-in-Some-clause-read g c =
+pub returns-clause-read : goal.returns-clause-read
+returns-clause-read g c =
     let t = identity_of c.args.table.now in
     let q = part_of c.args.pass.now in let q₁ = part_of c.begin-section.new.pass in let q₂ = part_of c.rfind_from-found.new.pass in let q₃ = part_of c.end-begun.new.pass in
     let began = subst (λ (n : ℕ). Began n q q₁) (sym c.epoch-lo.ensures) c.begin-section.ensures.began in
-    let answers = rfind_bounded q₂ (length q₁.seen) c.args.index c.args.min c.in-Some.range c.in-Some.ensures.answer in
+    let found : Answers q₂ (length q₁.seen) (Rfind c.args.index 0) c.in_ok-range.range = search rules in
+    let answers = rfind_bounded q₂ (length q₁.seen) c.args.index c.args.min c.in_ok-range.range found in
     read_by t q q₁ q₂ q₃ c.epoch-lo.result c.end-begun.result (shape_is t c.args.pass.now c.requires.pass) began c.rfind_from-found.ensures.goes c.end-begun.ensures.ended (Rfind c.args.index c.args.min) c.not_below.result
     (subst (λ (v : Option Range). Answers q₂ (length q₁.seen) (Rfind c.args.index c.args.min) v) (sym c.not_below.ensures) answers) c.end-begun.ensures.sound
