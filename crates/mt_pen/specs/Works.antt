@@ -1,4 +1,5 @@
--- What the writer's rows keep from call to call, and that they are whole by it: the proof of the law that the trait of rows asks for.
+-- What the writer's rows keep from call to call, and that they are whole by it: the proof of the law that the trait of rows asks
+-- for.
 -- Source: this project's own.
 use Rattle.std.proofs.Common.{◌≡◌, ℕ, ◌+◌, ◌/◌, ◌<◌, ◌≤◌, Bool, true, false, List, [], ◌∷◌, length, slice_index, refl, arith}
 use Rattle.mt_base.specs.Width.{kind_width, first_row, most_rows}
@@ -16,13 +17,14 @@ use Rattle.mt_rule.specs.Tokens.{Identity}
 use Rattle.mt_pen.specs.Scans.{epoch_told, is_loaded}
 use Rattle.mt_pen.specs.Sheets.{sheet_worked}
 
--- The tree opened with few rows: with no more than its map asks for, which is half as many as it has ranges, rounded down, and two.
+-- The tree opened with few rows: with no more than its map asks for, which is half as many as it has ranges, rounded down, and
+-- two.
 abbrev pub OpensSmall : Shape → Type 0
 OpensSmall shape = shape.opened ≤ length shape.opening / 2 + 2
 
--- Of what the pen knows: there are as many words, lives and numbers of passes as there must be, no row died by a call that was not begun,
--- and the history has the calls that have ended or published. The last scan's least epoch is that of the holder that it told, who was found
--- with a section open; it is the greatest number where it told none.
+-- Of what the pen knows: there are as many words, lives and numbers of passes as there must be, no row died by a call that was not
+-- begun, and the history has the calls that have ended or published. The last scan's least epoch is that of the holder that it
+-- told, who was found with a section open; it is the greatest number where it told none.
 pub record IsWorked (p : PenPart) (scan : Scan) (scans scans_at_begin : ℕ) : Type 0 where
   pub rows : p.shape.rows ≤ most_rows
   pub words : length p.words ≡ size_of (kind_width p.shape.kind) p.shape.rows

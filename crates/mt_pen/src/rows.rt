@@ -56,7 +56,8 @@ impl<'a, W: Writer> PenRows<'a, W> {
         PenRows::joined(table, pen)
     }
 
-    /// The rows of a pen with which the pass is joined. They are made behind the loads that join it, and so are not moved across these.
+    /// The rows of a pen with which the pass is joined. They are made behind the loads that join it, and so are not moved across
+    /// these.
     fn joined(table: &'a MtTable, pen: Pen) -> PenRows<'a, W>
         requires table { identity_of table.now ≡ W.table }
         requires of { IsPenOf W.table pen }

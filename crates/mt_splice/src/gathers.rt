@@ -29,8 +29,8 @@ fn push_behind<R: Rows>(rows: &mut R, kind: RowKind, step: &PathStep, run: &mut 
     push_items(rows, kind, step.row, step.max, step.slot + 1, slots, run);
 }
 
-/// Fills a run, which may hold other items, from rows of this kind with those left of the left path's slot, the new ones, which end at `last`, and
-/// those right of the right path's slot.
+/// Fills a run, which may hold other items, from rows of this kind with those left of the left path's slot, the new ones, which
+/// end at `last`, and those right of the right path's slot.
 #[tactic(auto, using(crate::proofs::Gathering::items_ahead, crate::proofs::Gathering::none_behind))]
 fn gather<R: Rows>(
     rows: &mut R,
