@@ -31,12 +31,8 @@ impl Tree {
         ensures section { HasRead result.lo result.hi (pass_in pass.old) (pass_in pass.new) }
         ensures steps { steps.new ≤ steps.old + 170 }
     {
-        let answer = mt_read::load_range(&self.table, pass, index, steps);
-        Read {
-            lo: answer.lo,
-            hi: answer.hi,
-            value: answer.value,
-        }
+        let Answer { lo, hi, value } = mt_read::load_range(&self.table, pass, index, steps);
+        Read { lo, hi, value }
     }
 
     /// The entry that an index holds. There is none where the index lies in a hole.
@@ -52,12 +48,8 @@ impl Tree {
         ensures section { HasRead result.lo result.hi (pass_in pass.old) (pass_in pass.new) }
         ensures steps { steps.new ≤ steps.old + 170 }
     {
-        let answer = mt_read::load(&self.table, pass, index, steps);
-        Read {
-            lo: answer.lo,
-            hi: answer.hi,
-            value: answer.value,
-        }
+        let Answer { lo, hi, value } = mt_read::load(&self.table, pass, index, steps);
+        Read { lo, hi, value }
     }
 
     /// The first range that ends at an index or above, and begins at `max` or below. There is none where the index is above
@@ -75,12 +67,8 @@ impl Tree {
         ensures section { HasRead result.lo result.hi (pass_in pass.old) (pass_in pass.new) }
         ensures steps { steps.new ≤ steps.old + 175 }
     {
-        let answer = mt_read::find(&self.table, pass, index, max, steps);
-        Read {
-            lo: answer.lo,
-            hi: answer.hi,
-            value: answer.value,
-        }
+        let Answer { lo, hi, value } = mt_read::find(&self.table, pass, index, max, steps);
+        Read { lo, hi, value }
     }
 
     /// The first range that begins above an index, and at `max` or below.
@@ -104,10 +92,8 @@ impl Tree {
         ensures given_up { IfErr result (λ m. HasRead m.lo m.begun (pass_in pass.old) (pass_in pass.new)) }
         ensures steps { steps.new ≤ steps.old + 360 }
     {
-        match mt_read::next(&self.table, pass, index, max, steps) {
-            Ok(Answer { lo, hi, value }) => Ok(Read { lo, hi, value }),
-            Err(moved) => Err(moved),
-        }
+        let Answer { lo, hi, value } = mt_read::next(&self.table, pass, index, max, steps)?;
+        Ok(Read { lo, hi, value })
     }
 
     /// The last range that ends below an index, and at `min` or above.
@@ -131,10 +117,8 @@ impl Tree {
         ensures given_up { IfErr result (λ m. HasRead m.lo m.begun (pass_in pass.old) (pass_in pass.new)) }
         ensures steps { steps.new ≤ steps.old + 360 }
     {
-        match mt_read::prev(&self.table, pass, index, min, steps) {
-            Ok(Answer { lo, hi, value }) => Ok(Read { lo, hi, value }),
-            Err(moved) => Err(moved),
-        }
+        let Answer { lo, hi, value } = mt_read::prev(&self.table, pass, index, min, steps)?;
+        Ok(Read { lo, hi, value })
     }
 
     /// The last range that begins at an index or below, and ends at `min` or above. There is none where the index is below `min`.
@@ -158,9 +142,7 @@ impl Tree {
         ensures given_up { IfErr result (λ m. HasRead m.lo m.begun (pass_in pass.old) (pass_in pass.new)) }
         ensures steps { steps.new ≤ steps.old + 360 }
     {
-        match mt_read::rfind(&self.table, pass, index, min, steps) {
-            Ok(Answer { lo, hi, value }) => Ok(Read { lo, hi, value }),
-            Err(moved) => Err(moved),
-        }
+        let Answer { lo, hi, value } = mt_read::rfind(&self.table, pass, index, min, steps)?;
+        Ok(Read { lo, hi, value })
     }
 }
