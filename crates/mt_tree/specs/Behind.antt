@@ -1,4 +1,5 @@
--- What lies behind the lock of a tree: its pen, and the book of the rows on its table, whose words stand for the map after all calls.
+-- What lies behind the lock of a tree: its pen, and the book of the rows on its table, whose words stand for the map after all
+-- calls.
 -- Source: this project's own; the kernel's ma_lock guards the whole tree.
 use Rattle.std.specs.Prelude.{◌≡◌, ◌⊎◌, ℕ, ◌+◌, ◌/◌, ◌≤◌, Option, Some, None, List, length}
 use Rattle.mt_base.specs.declared.replies.Reply.{Reply}

@@ -28,33 +28,33 @@ pub struct Tools {
     pub(crate) height: u64,
 }
 
-/// The tools with which a tree is written. They are away only while a call is at work. While the lock is free no pass is joined
-/// with the pen, and the words stand for the map after all calls.
+/// The state of a tree's writers: the tools with which it is written. They are away only while a call is at work. While the lock
+/// is free no pass is joined with the pen, and the words stand for the map after all calls.
 #[derive(Drop)]
-pub struct Desk {
+pub struct WriterState {
     pub(crate) tools: Option<Tools>,
 }
 
-impl Model for Desk {
+impl Model for WriterState {
     ghost use Rattle.mt_tree.specs.Behind.{Behind, behind_of, IsAtRest};
 
     ghost Value = { Behind };
 
-    ghost view = { λ d. behind_of d.tools };
+    ghost view = { λ s. behind_of s.tools };
 
-    ghost invariant = { λ d. IsAtRest d.tools };
+    ghost invariant = { λ s. IsAtRest s.tools };
 }
 
-impl OfTable for Desk {
-    ghost table = { λ d. d.table };
+impl OfTable for WriterState {
+    ghost table = { λ s. s.table };
 }
 
-impl Desk {
+impl WriterState {
     /// The pass sees the whole history. Answers how many calls have ended.
     pub(crate) fn show(&mut self, tree: &Tree, pass: &mut Pass) -> u64
         requires table { self.old.table ≡ place_of tree.now }
         requires pass { IsPassOf tree.now pass.old }
-        ensures desk { self.new ≡ self.old }
+        ensures state { self.new ≡ self.old }
         ensures of { IsPassOf tree.now pass.new }
         ensures shown { WasShown (opened tree.now) self.old.pen (pass_in pass.old) (pass_in pass.new) }
         ensures count { result ≡ length self.old.pen.history }
@@ -149,7 +149,7 @@ impl Desk {
     pub(crate) fn ask(&mut self, tree: &Tree, pass: &mut Pass, query: &Query) -> Read<Option<Range>>
         requires table { self.old.table ≡ place_of tree.now }
         requires pass { IsPassOf tree.now pass.old }
-        ensures desk { IsRead self.old self.new }
+        ensures state { IsRead self.old self.new }
         ensures of { IsPassOf tree.now pass.new }
         ensures seen { (pass_in pass.new).seen ≡ records_of self.new.pen.history }
         ensures saw { known.Saw (opened tree.now) (pass_in pass.old) (pass_in pass.new) }
@@ -187,7 +187,7 @@ impl Desk {
     ) -> Result<Vec<Range>, NoMemory>
         requires table { self.old.table ≡ place_of tree.now }
         requires pass { IsPassOf tree.now pass.old }
-        ensures desk { IsRead self.old self.new }
+        ensures state { IsRead self.old self.new }
         ensures of { IsPassOf tree.now pass.new }
         ensures seen { (pass_in pass.new).seen ≡ records_of self.new.pen.history }
         ensures saw { known.Saw (opened tree.now) (pass_in pass.old) (pass_in pass.new) }

@@ -20,7 +20,7 @@ ghost use Rattle.mt_tree.specs.Shapes.{first_bad};
 ghost use Rattle.mt_tree.specs.Trees.{opened, map_seen, place_of, IsPassOf, IsNew};
 ghost use Rattle.mt_tree.specs.Works.{IsWorker};
 
-use crate::behind::{Desk, Tools};
+use crate::behind::{Tools, WriterState};
 use crate::shapes::{DupError, Shape};
 use crate::trees::Tree;
 use crate::works::{begin, end};
@@ -129,12 +129,12 @@ fn copy_at_work<W: Writer>(
     live
 }
 
-impl Desk {
+impl WriterState {
     /// The form of the tree's words.
     fn check(&mut self, tree: &Tree, pass: &mut Pass) -> Form
         requires table { self.old.table ≡ place_of tree.now }
         requires pass { IsPassOf tree.now pass.old }
-        ensures desk { IsRead self.old self.new }
+        ensures state { IsRead self.old self.new }
         ensures of { IsPassOf tree.now pass.new }
         ensures saw { Saw (opened tree.now) (pass_in pass.old) (pass_in pass.new) }
         ensures form { IsFormOf (opened tree.now).kind (opened tree.now).rows (map_seen tree.now (pass_in pass.new)) result }
@@ -148,7 +148,7 @@ impl Desk {
         requires pass { IsPassOf tree.now pass.old }
         requires rows { sheet_in dst.old ≡ new_sheet own.old.rows }
         requires book { own.old ≡ new_book own.old.rows }
-        ensures desk { IsRead self.old self.new }
+        ensures state { IsRead self.old self.new }
         ensures of { IsPassOf tree.now pass.new }
         ensures saw { Saw (opened tree.now) (pass_in pass.old) (pass_in pass.new) }
         ensures live { IsRowCount (opened tree.now).kind (opened tree.now).rows (map_seen tree.now (pass_in pass.new)) result }
@@ -235,8 +235,8 @@ impl Tree {
     ///
     /// # Errors
     ///
-    /// `BadShape`; `Invalid` where the kind is another; `NoMemory` where there is none for the new rows; `NoNodes` where they are too
-    /// few; `NoMemory` where there is none for the new tree.
+    /// `BadShape`; `Invalid` where the kind is another; `NoMemory` where there is none for the new rows; `NoNodes` where they are
+    /// too few; `NoMemory` where there is none for the new tree.
     pub fn dup(
         &self,
         rt: &impl Wait,

@@ -15,7 +15,7 @@ mod works;
 mod writes;
 mod zeros;
 
-pub use behind::Desk;
+pub use behind::WriterState;
 pub use cursors::Cursor;
 pub use locked::{Held, Locked, Write};
 pub use mt_check::Form;

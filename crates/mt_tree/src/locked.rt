@@ -11,7 +11,7 @@ ghost use Rattle.mt_rule.specs.Tokens.{pass_in};
 ghost use Rattle.mt_tree.specs.Behind.{Behind, IsReady, IsRead, IsStored};
 ghost use Rattle.mt_tree.specs.Trees.{opened, limit_of, map_seen, IsPassOf, IsOpen, IsShortNow, IsWorn, NamesPass, WasPrepared};
 
-use crate::behind::Desk;
+use crate::behind::WriterState;
 use crate::shapes::{Done, Read, Worn};
 use crate::trees::Tree;
 use mt_base::{Call, NoMemory, Query, Range, Shortage};
@@ -28,7 +28,7 @@ pub trait Held {
     ghost seat: { Self → Seat (Option Behind) TurnView };
 }
 
-impl Held for Taken<Desk> {
+impl Held for Taken<WriterState> {
     ghost behind = { λ taken. taken.value };
 
     ghost seat = { λ taken. taken.seat };
@@ -43,7 +43,7 @@ pub struct Locked<'a, K: Held> {
 }
 
 /// A tree that is locked by a pass. It is given back by `unlock`.
-pub type Write<'a> = Locked<'a, Taken<Desk>>;
+pub type Write<'a> = Locked<'a, Taken<WriterState>>;
 
 impl Tree {
     /// Waits for the lock. The pass has then seen the whole history.
@@ -64,7 +64,7 @@ impl Tree {
 }
 
 fn act_under(
-    taken: &mut Taken<Desk>,
+    taken: &mut Taken<WriterState>,
     tree: &Tree,
     pass: &mut Pass,
     call: &Call,
@@ -80,7 +80,7 @@ fn act_under(
 }
 
 fn store_under(
-    taken: &mut Taken<Desk>,
+    taken: &mut Taken<WriterState>,
     tree: &Tree,
     pass: &mut Pass,
     first: u64,
@@ -100,7 +100,7 @@ fn store_under(
 }
 
 fn ask_under(
-    taken: &mut Taken<Desk>,
+    taken: &mut Taken<WriterState>,
     tree: &Tree,
     pass: &mut Pass,
     query: &Query,
@@ -115,7 +115,11 @@ fn ask_under(
     taken.value.ask(tree, pass, query)
 }
 
-fn preallocate_under(taken: &mut Taken<Desk>, tree: &Tree, pass: &mut Pass) -> Result<(), Shortage>
+fn preallocate_under(
+    taken: &mut Taken<WriterState>,
+    tree: &Tree,
+    pass: &mut Pass,
+) -> Result<(), Shortage>
     requires { IsOpen tree.now pass.old taken.old.value taken.old.seat }
     ensures open { IsOpen tree.now pass.new taken.new.value taken.new.seat }
     ensures prepared { WasPrepared tree.now taken.old.value taken.new.value }
@@ -127,7 +131,7 @@ fn preallocate_under(taken: &mut Taken<Desk>, tree: &Tree, pass: &mut Pass) -> R
 }
 
 fn list_under(
-    taken: &mut Taken<Desk>,
+    taken: &mut Taken<WriterState>,
     tree: &Tree,
     pass: &mut Pass,
     alloc: Global,
@@ -141,7 +145,7 @@ fn list_under(
     taken.value.list(tree, pass, alloc)
 }
 
-impl<'a> Locked<'a, Taken<Desk>> {
+impl<'a> Locked<'a, Taken<WriterState>> {
     /// Makes one call. One that is refused leaves every word.
     pub fn act(&mut self, call: &Call) -> Result<Done, Worn>
         ensures same_reference { self.new.pass.ghost_name ≡ self.old.pass.ghost_name }

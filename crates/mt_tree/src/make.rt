@@ -13,7 +13,7 @@ ghost use Rattle.mt_tree.specs.declared.shapes.Field.{Field};
 ghost use Rattle.mt_tree.specs.Shapes.{first_bad};
 ghost use Rattle.mt_tree.specs.Trees.{IsNew};
 
-use crate::behind::{Desk, Tools};
+use crate::behind::{Tools, WriterState};
 use crate::shapes::{MakeError, Shape};
 use crate::trees::Tree;
 use crate::zeros::Zeros;
@@ -138,7 +138,7 @@ impl Tree {
             shape.calls,
         )?;
         let tools = Some(Tools { pen, book, height });
-        let (turn, passes) = serve(alloc, &table, Desk { tools }, passes)?;
+        let (turn, passes) = serve(alloc, &table, WriterState { tools }, passes)?;
         Ok((Tree { table, turn, shape }, passes))
     }
 }
@@ -160,10 +160,10 @@ fn measured(rows: PlainRows, book: RowBook, kind: Kind) -> (u64, PlainRows, RowB
 fn serve(
     alloc: Global,
     table: &MtTable,
-    desk: Desk,
+    state: WriterState,
     passes: Vec<Pass>,
-) -> Result<(Turn<Desk>, Vec<Pass>), NoMemory>
-    requires desk { desk.table ≡ identity_of table.now }
+) -> Result<(Turn<WriterState>, Vec<Pass>), NoMemory>
+    requires state { state.table ≡ identity_of table.now }
     requires passes { All (IsPassOf (identity_of table.now)) passes.items }
     ensures serves { IfOk result (λ r. served r.0.table.shared.key ≡ identity_of table.now) }
     ensures seated { IfOk result (λ r. All (IsSeatedAt r.0.table.shared.table_id r.0.table.shared.key) r.1.items) }
@@ -171,6 +171,6 @@ fn serve(
     ensures passes { IfOk result (λ r. map pass_in r.1.items ≡ map pass_in passes.items) }
 {
     let mut passes = passes;
-    let turn = Turn::make(alloc, table, desk, passes.as_mut_slice())?;
+    let turn = Turn::make(alloc, table, state, passes.as_mut_slice())?;
     Ok((turn, passes))
 }

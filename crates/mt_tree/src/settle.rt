@@ -6,17 +6,17 @@ ghost use Rattle.mt_base.specs.Passes.{Settled};
 ghost use Rattle.mt_rule.specs.Tokens.{pass_in};
 ghost use Rattle.mt_tree.specs.Trees.{place_of, seen_by, AreAll};
 
-use crate::behind::Desk;
+use crate::behind::WriterState;
 use crate::trees::Tree;
 use mt_rule::Pass;
 use std::sync::Wait;
 
-impl Desk {
+impl WriterState {
     /// Each pass sees the whole history.
     fn show_all(&mut self, tree: &Tree, passes: &mut [Pass])
         requires table { self.old.table ≡ place_of tree.now }
         requires all { AreAll tree.now passes.old }
-        ensures desk { self.new ≡ self.old }
+        ensures state { self.new ≡ self.old }
         ensures all { AreAll tree.now passes.new }
         ensures settled { Settled (seen_by tree.now (map pass_in passes.new)) (map pass_in passes.old) (map pass_in passes.new) }
     {

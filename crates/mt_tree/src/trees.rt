@@ -7,7 +7,7 @@ ghost use Rattle.mt_rule.specs.Turns.{served};
 ghost use Rattle.mt_pen.specs.Works.{OpensSmall};
 ghost use Rattle.mt_tree.specs.Shapes.{first_bad};
 
-use crate::behind::Desk;
+use crate::behind::WriterState;
 use crate::shapes::Shape;
 use mt_rule::{MtTable, Turn};
 
@@ -15,7 +15,7 @@ use mt_rule::{MtTable, Turn};
 #[derive(Drop)]
 pub struct Tree {
     pub(crate) table: MtTable,
-    pub(crate) turn: Turn<Desk>,
+    pub(crate) turn: Turn<WriterState>,
     pub(crate) shape: Shape,
     ghost serves: { served turn.table.shared.key ≡ identity_of table },
     ghost kind: { shape.kind ≡ (identity_of table).shape.kind },

@@ -177,8 +177,8 @@ impl Tree {
         )
     }
 
-    /// Tells the lowest place where so many indexes of a window are free. It stores nothing, but takes the lock and is a call of the
-    /// history.
+    /// Tells the lowest place where so many indexes of a window are free. It stores nothing, but takes the lock and is a call of
+    /// the history.
     ///
     /// # Errors
     ///
@@ -200,8 +200,8 @@ impl Tree {
         self.act(rt, pass, &Call::Gap { size, min, max })
     }
 
-    /// Tells the highest place where so many indexes of a window are free. It stores nothing, but takes the lock and is a call of the
-    /// history.
+    /// Tells the highest place where so many indexes of a window are free. It stores nothing, but takes the lock and is a call of
+    /// the history.
     ///
     /// # Errors
     ///

@@ -1,6 +1,6 @@
 use Rattle.mt_rule.specs.Tokens.{turn_seat}
 use Rattle.mt_tree.specs.Trees.{place_of}
-use Rattle.mt_tree.proofs.behind.Desk.act.Given as goal
+use Rattle.mt_tree.proofs.behind.WriterState.act.Given as goal
 
 abbrev pub ghosts-act : goal.ghosts-act
 ghosts-act a = record { table = place_of a.tree.now; turn = turn_seat a.pass.now }

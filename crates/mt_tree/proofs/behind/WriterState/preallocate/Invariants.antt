@@ -1,6 +1,6 @@
 use Rattle.mt_rule.specs.Tokens.{turn_seat}
 use Rattle.mt_tree.specs.Trees.{place_of}
-use Rattle.mt_tree.proofs.behind.Desk.preallocate.Given as goal
+use Rattle.mt_tree.proofs.behind.WriterState.preallocate.Given as goal
 
 abbrev pub ghosts-preallocate : goal.ghosts-preallocate
 ghosts-preallocate a = record { table = place_of a.tree.now; turn = turn_seat a.pass.now }

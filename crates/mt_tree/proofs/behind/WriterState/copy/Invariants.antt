@@ -1,6 +1,6 @@
 use Rattle.mt_rule.specs.Tokens.{turn_seat}
 use Rattle.mt_tree.specs.Trees.{place_of}
-use Rattle.mt_tree.proofs.behind.Desk.copy.Given as goal
+use Rattle.mt_tree.proofs.behind.WriterState.copy.Given as goal
 
 abbrev pub ghosts-copy_at_work : goal.ghosts-copy_at_work
 ghosts-copy_at_work a = record { table = place_of a.tree.now; turn = turn_seat a.pass.now }

@@ -2,7 +2,7 @@ use Rattle.std.proofs.Common.{rules, ◌≡◌, Some, sym, ap, ◌∙◌, subst}
 use Rattle.mt_rule.specs.declared.views.PenPart.{PenPart}
 use Rattle.mt_rule.specs.Tokens.{identity_of_pen}
 use Rattle.mt_tree.specs.Behind.{Behind, behind_of, parts_of, IsAtRest, IsKept}
-use Rattle.mt_tree.proofs.behind.Desk.show.Goals as goal
+use Rattle.mt_tree.proofs.behind.WriterState.show.Goals as goal
 
 pub invariant_of-self : goal.invariant_of-self
 invariant_of-self c =
@@ -11,8 +11,8 @@ invariant_of-self c =
     let same = c.split_pen.ensures.pen ∙ c.join_pen-calls.ensures.pen in
     (c.split_pen.ensures.alone, subst (λ (p : PenPart). IsKept p (parts_of p t.book) t.height) (sym same) rest.1)
 
-pub returns-clause-desk : goal.returns-clause-desk
-returns-clause-desk c =
+pub returns-clause-state : goal.returns-clause-state
+returns-clause-state c =
     let t = c.in-Some.field-0 in
     let view : behind_of (Some t) ≡ c.args.self.now = search rules in
     let same = c.split_pen.ensures.pen ∙ c.join_pen-calls.ensures.pen in

@@ -1,6 +1,6 @@
 use Rattle.mt_rule.specs.Tokens.{turn_seat}
 use Rattle.mt_tree.specs.Trees.{place_of}
-use Rattle.mt_tree.proofs.behind.Desk.ask.Given as goal
+use Rattle.mt_tree.proofs.behind.WriterState.ask.Given as goal
 
 abbrev pub ghosts-ask : goal.ghosts-ask
 ghosts-ask a = record { table = place_of a.tree.now; turn = turn_seat a.pass.now }

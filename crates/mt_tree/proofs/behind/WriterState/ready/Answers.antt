@@ -2,7 +2,7 @@ use Rattle.std.proofs.Common.{rules, ◌≡◌, ◌+◌, ◌*◌, ◌≤◌, Som
 use Rattle.std.specs.Prelude.{◌↔◌, IsTrue, nat_le}
 use Rattle.mt_tree.specs.Behind.{Behind, behind_of, IsAtRest, IsReady}
 use Rattle.mt_tree.proofs.Ending.{few_levels, ready_if}
-use Rattle.mt_tree.proofs.behind.Desk.ready.Goals as goal
+use Rattle.mt_tree.proofs.behind.WriterState.ready.Goals as goal
 
 pub overflow_mul-result : goal.overflow_mul-result
 overflow_mul-result c =

@@ -1,6 +1,6 @@
 use Rattle.mt_rule.specs.Tokens.{turn_seat}
 use Rattle.mt_tree.specs.Trees.{place_of}
-use Rattle.mt_tree.proofs.behind.Desk.check.Given as goal
+use Rattle.mt_tree.proofs.behind.WriterState.check.Given as goal
 
 abbrev pub ghosts-check_at_work : goal.ghosts-check_at_work
 ghosts-check_at_work a = record { table = place_of a.tree.now; turn = turn_seat a.pass.now }
