@@ -4,6 +4,7 @@ pub mod FreeAreas
 pub mod Goings
 pub mod Lists
 pub mod OneRange
+pub mod PlainReplies
 pub mod ReadingAfterStore
 pub mod SearchesWhole
 pub mod SharedCalls

@@ -33,13 +33,13 @@ nothing_from : (m a n : ℕ) → flat_map (λ (k : ℕ). places_from m k []) (ra
 nothing_from m a zero = refl
 nothing_from m a (suc n) = nothing_from m (a + 1) n
 
-place_taken : (m k : ℕ) (r : Record) (rs : List Record) → r.pass ≡ k → places_from m k (r ∷ rs) ≡ m ∷ places_from (m + 1) k rs
+pub place_taken : (m k : ℕ) (r : Record) (rs : List Record) → r.pass ≡ k → places_from m k (r ∷ rs) ≡ m ∷ places_from (m + 1) k rs
 place_taken m k r rs e = elim (cases_Bool (r.pass == k)) [
   | inl t ↦ rw t refl
   | inr f ↦ absurd (eqb-false r.pass k f e)
 ]
 
-place_left : (m k : ℕ) (r : Record) (rs : List Record) → r.pass ≢ k → places_from m k (r ∷ rs) ≡ places_from (m + 1) k rs
+pub place_left : (m k : ℕ) (r : Record) (rs : List Record) → r.pass ≢ k → places_from m k (r ∷ rs) ≡ places_from (m + 1) k rs
 place_left m k r rs apart = elim (cases_Bool (r.pass == k)) [
   | inl t ↦ absurd (apart (eqb-true r.pass k t))
   | inr f ↦ rw f refl

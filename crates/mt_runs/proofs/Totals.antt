@@ -8,6 +8,7 @@ use Rattle.std.proofs.lemmas.Option.{slice_get_within}
 use Rattle.mt_base.specs.History.{Record, History}
 use Rattle.mt_base.specs.Passes.{Pass, Begins, IsSettled, Saw, Settled, places, places_from, with_records}
 use Rattle.mt_base.proofs.Goings.{begins_none, begins_on, begins_long}
+use Rattle.mt_base.proofs.SharedCalls.{place_taken, place_left}
 use Rattle.mt_log.specs.Run.{Step}
 use Rattle.mt_runs.specs.Gone.{HaveGone, OnlySaw, sum_below}
 use Rattle.mt_runs.specs.Leads.{outcomes_of}
@@ -44,18 +45,6 @@ sum_more f g at (suc n) l others own = elim (cases_Bool (n == at)) [
 ]
 
 -- ---- as many calls as the passes' own
-
-place_taken : (m k : ℕ) (r : Record) (rs : List Record) → r.pass ≡ k → places_from m k (r ∷ rs) ≡ m ∷ places_from (m + 1) k rs
-place_taken m k r rs e = elim (cases_Bool (r.pass == k)) [
-  | inl t ↦ rw t refl
-  | inr f ↦ absurd (eqb-false r.pass k f e)
-]
-
-place_left : (m k : ℕ) (r : Record) (rs : List Record) → r.pass ≢ k → places_from m k (r ∷ rs) ≡ places_from (m + 1) k rs
-place_left m k r rs apart = elim (cases_Bool (r.pass == k)) [
-  | inl t ↦ absurd (apart (eqb-true r.pass k t))
-  | inr f ↦ rw f refl
-]
 
 places_long : (m n : ℕ) (rs : List Record) → AllByRecursion (λ (r : Record). r.pass < n) rs → sum_below n (λ (k : ℕ). length (places_from m k rs)) ≡ length rs
 places_long m n [] theirs = sum_none n
