@@ -4,10 +4,11 @@ use Rattle.std.specs.Prelude.{nat_lt, fold}
 use Rattle.std.specs.List.{AllByRecursion}
 use Rattle.std.proofs.lemmas.Bool.{ne_eqb, eq-eqb}
 use Rattle.std.proofs.lemmas.List.{map-append, length-map}
-use mathlib.Core.List.{append_assoc}
 use Rattle.mt_base.specs.declared.ranges.Range.{Range}
 use Rattle.mt_base.specs.History.{Record, History, IsAnswered, AreLegalFrom, IsLegal, limits_after, last_map, map_after}
 use Rattle.mt_base.specs.Passes.{Begins, places_from, places, longer}
+use Rattle.mt_base.proofs.Goings.{begins_none}
+use Rattle.mt_base.proofs.Lists.{all_join}
 use Rattle.mt_rule.specs.declared.views.Moment.{Moment}
 use Rattle.mt_rule.specs.declared.views.Shape.{Shape}
 use Rattle.mt_rule.specs.Seats.{record_of, records_of, tree_of, longer_of}
@@ -15,15 +16,6 @@ use Rattle.mt_rule.specs.Seats.{record_of, records_of, tree_of, longer_of}
 -- ---- beginnings
 
 module _ {X : Type 0} where
-  pub begins_more : (xs ys new : List X) → Begins xs ys → Begins xs (ys ++ new)
-  begins_more xs ys new b = (b.0 ++ new, ap (λ (l : List X). l ++ new) b.1 ∙ append_assoc xs b.0 new)
-
-  pub begins_all : (xs : List X) → Begins xs xs
-  begins_all xs = ([], sym (append-nil xs))
-
-  pub begins_length : (xs ys : List X) → Begins xs ys → length xs ≤ length ys
-  begins_length xs ys b = let e = ap length b.1 in omega (arith, e, length-append xs b.0)
-
   abbrev head_or : X → List X → X
   head_or d [] = d
   head_or d (x ∷ xs) = x
@@ -53,8 +45,8 @@ pub longer_fits : (xs ys h : List Moment) → Begins xs h → Begins ys h → Lo
 longer_fits xs ys h a b = by_case (nat_lt (length xs) (length ys)) refl
   where
     by_case : (c : Bool) → nat_lt (length xs) (length ys) ≡ c → LongerFits xs ys h
-    by_case true e = record { this = rw e (begins_both xs ys h a b (grind arith)); that = rw e (begins_all ys); whole = rw e b }
-    by_case false e = record { this = rw e (begins_all xs); that = rw e (begins_both ys xs h b a (grind arith)); whole = rw e a }
+    by_case true e = record { this = rw e (begins_both xs ys h a b (grind arith)); that = rw e (begins_none ys); whole = rw e b }
+    by_case false e = record { this = rw e (begins_none xs); that = rw e (begins_both ys xs h b a (grind arith)); whole = rw e a }
 
 -- the longer of two lists of moments has the records of the longer
 pub longer_records : (xs ys : List Moment) → records_of (longer_of xs ys) ≡ longer (records_of xs) (records_of ys)
@@ -83,7 +75,7 @@ pub places_none : (n by : ℕ) (h : List Record) → AllByRecursion (λ r. r.pas
 places_none n by [] all = refl
 places_none n by (x ∷ h) all = let a = all.0 in rw (ne_eqb x.pass by (λ e. omega arith)) (places_none (n + 1) by h all.1)
 
-places_last : (by : ℕ) (h : List Record) (r : Record) → r.pass ≡ by → places by (h ++ r ∷ []) ≡ places by h ++ (length h + 1) ∷ []
+pub places_last : (by : ℕ) (h : List Record) (r : Record) → r.pass ≡ by → places by (h ++ r ∷ []) ≡ places by h ++ (length h + 1) ∷ []
 places_last by h r e = places_append 1 by h (r ∷ []) ∙ rw (eq-eqb r.pass by e) (let n : 1 + length h ≡ length h + 1 = omega arith in ap (λ (k : ℕ). places by h ++ k ∷ []) n)
 
 places_same : (by : ℕ) (h : List Record) (r : Record) → r.pass ≢ by → places by (h ++ r ∷ []) ≡ places by h
@@ -115,16 +107,8 @@ places_within by xs ys h a b e = places_between by (records_of xs) (records_of y
 
 -- ---- facts of each record
 
-all_push : (P : Record → Type 0) (h : List Record) (r : Record) → AllByRecursion P h → P r → AllByRecursion P (h ++ r ∷ [])
-all_push P [] r all p = (p, tt)
-all_push P (x ∷ h) r all p = (all.0, all_push P h r all.1 p)
-
 pub all_more : (P : Record → Type 0) (h : List Moment) (m : Moment) → AllByRecursion P (records_of h) → P (record_of m) → AllByRecursion P (records_of (h ++ m ∷ []))
-all_more P h m all p = subst (AllByRecursion P) (sym (map-append record_of h (m ∷ []))) (all_push P (records_of h) (record_of m) all p)
-
-pub all_weaker : (P Q : Record → Type 0) → ((r : Record) → P r → Q r) → (h : List Record) → AllByRecursion P h → AllByRecursion Q h
-all_weaker P Q f [] all = tt
-all_weaker P Q f (x ∷ h) all = (f x all.0, all_weaker P Q f h all.1)
+all_more P h m all p = subst (AllByRecursion P) (sym (map-append record_of h (m ∷ []))) (all_join P (records_of h) (record_of m ∷ []) all (p, tt))
 
 -- ---- legal histories
 

@@ -1,19 +1,20 @@
 -- A step of the pen carries what every seat knows: what it has to show, and that the rule is then kept.
-use Rattle.std.proofs.Common.{◌≡◌, ◌≢◌, ℕ, zero, suc, ◌+◌, ◌*◌, ◌<◌, ◌≤◌, List, [], ◌∷◌, ◌++◌, length, set, sym, ap, ◌∙◌, subst, inl, inr, ⊎_elim, arith, append-nil, length-set, get_or-set_other, get_or-set_same, Some}
+use Rattle.std.proofs.Common.{◌≡◌, ◌≢◌, ℕ, zero, suc, ◌+◌, ◌*◌, ◌<◌, ◌≤◌, List, [], ◌∷◌, length, set, sym, ap, ◌∙◌, subst, inl, inr, ⊎_elim, arith, append-nil, length-set, get_or-set_other, get_or-set_same, Some, false}
 use Rattle.std.proofs.lemmas.Bool.{cases_eq}
-use mathlib.Core.List.{append_assoc}
 use mathlib.Core.Option.{some}
 use lib.ListN.{get_elem?}
 use Rattle.std.specs.Prelude.{slice_index, slice_set}
 use Rattle.std.specs.List.{Contains}
 use Rattle.atomic_table.specs.Table.{State}
-use Rattle.atomic_table.proofs.Lists.{at_set}
 use Rattle.mt_base.specs.declared.replies.Holder.{Holder}
 use Rattle.mt_base.specs.Passes.{Begins, places}
+use Rattle.mt_base.proofs.Goings.{begins_on}
 use Rattle.mt_life.specs.declared.views.Extent.{Extent}
 use Rattle.mt_life.specs.declared.views.Held.{Held}
-use Rattle.mt_life.specs.Known.{Goes}
+use Rattle.mt_life.specs.Known.{Goes, Known}
 use Rattle.mt_life.proofs.Holding.{holds_on}
+use Rattle.mt_rows.specs.Levels.{one_if}
+use Rattle.mt_rows.specs.Sheet.{HasDied, life_of}
 use Rattle.mt_rule.specs.declared.views.Moment.{Moment}
 use Rattle.mt_rule.specs.declared.views.Told.{Told}
 use Rattle.mt_rule.specs.declared.views.View.{View}
@@ -22,10 +23,11 @@ use Rattle.mt_rule.specs.declared.views.PassPart.{PassPart}
 use Rattle.mt_base.specs.declared.widths.Width.{Width}
 use Rattle.mt_base.specs.declared.widths.Width.TheVariants.{Long}
 use Rattle.mt_base.specs.Width.{kind_width}
-use Rattle.mt_rule.specs.Limits.{most_passes}
+use Rattle.mt_rule.specs.Limits.{most_calls, most_passes}
 use Rattle.mt_rule.specs.Places.{commits_at, begun_at, root_at, section_at, rows_at, size_of, section_word, IsSectionWord}
-use Rattle.mt_rule.specs.Seats.{least_of, moment_at, pen_or, pass_or, records_of, shape_told, state_in}
-use Rattle.mt_rule.specs.Rule.{begun_by, IsSound, WordsFit, HasFloor, IsHeldBy, PassFits, ViewFits, IsKept}
+use Rattle.mt_rule.specs.Seats.{least_of, moment_at, records_of, shape_told, state_in}
+use Rattle.mt_rule.specs.Rule.{begun_by, IsOneHistory, IsSound, WordsFit, HasFloor, IsHeldBy, PassFits, ViewFits, IsKept}
+use Rattle.mt_rule.proofs.Viewing.{each_set, pass_is, pen_is}
 
 abbrev pub St : Type 0
 St = State (Unit {0}) View
@@ -42,6 +44,10 @@ recast told s r p e = record {
   words = subst (WordsFit s.words) e r.words;
   each = λ j u g. subst (λ (x : PenPart). ViewFits r.pen r.owner r.extents x s.words j u) e (r.each j u g);
 }
+
+-- the rule, where no more has changed than what seats know, and which seat has which pass
+pub reseated : {told : Told} {s' : St} (s : St) (r : IsKept told s) (owner : ℕ → ℕ) → WordsFit s'.words r.part → ((by : ℕ) (v : View) → get_elem? s'.views by ≡ some v → ViewFits r.pen owner r.extents r.part s'.words by v) → IsKept told s'
+reseated s r owner words each = record { pen = r.pen; owner = owner; extents = r.extents; part = r.part; shaped = r.shaped; sound = r.sound; words = words; each = each }
 
 -- ---- what a step of the pen shows
 
@@ -73,9 +79,6 @@ least_low (n ∷ []) (suc k) low = absurd (omega arith)
 least_low (n ∷ m ∷ ns) zero low = omega arith
 least_low (n ∷ m ∷ ns) (suc k) low = let rest = least_low (m ∷ ns) k (omega arith) in omega arith
 
-begins_longer : {X : Type 0} (xs ys zs : List X) → Begins xs ys → Begins ys zs → Begins xs zs
-begins_longer xs ys zs a b = (a.0 ++ b.0, b.1 ∙ (ap (λ l. l ++ b.0) a.1 ∙ append_assoc xs a.0 b.0))
-
 module _ (e e' : ℕ → Extent) (p n : PenPart) (q : PassPart) (sound : IsSound e p) (sound' : IsSound e' (shaped_as p n)) (c : Carries e e' p n) (stays : Stays p n q) (f : PassFits e p q) where
   abbrev P' : PenPart
   P' = shaped_as p n
@@ -102,7 +105,7 @@ module _ (e e' : ℕ → Extent) (p n : PenPart) (q : PassPart) (sound : IsSound
   pass_carried = record {
     shape = f.shape;
     number = (let a = f.number in let b = c.dealt in omega arith);
-    seen = begins_longer q.seen p.history n.history f.seen c.history;
+    seen = begins_on q.seen p.history n.history f.seen c.history;
     mine = f.mine;
     all = stays.all ∙ f.all;
     ended = f.ended;
@@ -131,6 +134,31 @@ stays_put e p n q f history loaded cleared = record {
 pub carries_life : (e e' : ℕ → Extent) (p n : PenPart) → n.dealt ≡ p.dealt → n.history ≡ p.history → n.ended ≡ p.ended → begun_by p ≤ begun_by n
     → Goes p.shape.kind (state_in p) (state_in (shaped_as p n)) e e' (moment_at p.shape p.history) (moment_at p.shape n.history) → Carries e e' p n
 carries_life e e' p n dealt history ended begun goes = record { dealt = omega arith; history = ([], history ∙ sym (append-nil p.history)); ended = omega arith; begun = begun; goes = goes }
+
+-- where a part's calls and its passes are those of p
+pub still_history : (p n : PenPart) → IsOneHistory p → length p.history ≡ n.ended + one_if n.published → (n.in_flight ≡ false → n.published ≡ false) → begun_by n ≤ most_calls
+    → IsOneHistory (record n { shape = p.shape; dealt = p.dealt; history = p.history; loaded = p.loaded })
+still_history p n one count calm few = record { dealt = one.dealt; callers = one.callers; named = one.named; loaded = one.loaded; count = count; calm = calm; few = few; legal = one.legal }
+
+-- where a part's words, and what its rows are, are those of p
+pub still_sound : (e : ℕ → Extent) (p n : PenPart) → IsSound e p → let now : PenPart = record n { shape = p.shape; root = p.root; words = p.words; lives = p.lives; buried = p.buried } in
+    IsOneHistory now → Known p.shape.kind (state_in now) e (moment_at p.shape n.history) → ((row : ℕ) → HasDied n.ended n.in_flight (life_of p.lives row))
+    → length n.cleared ≡ p.shape.passes → ((k : ℕ) → k < p.shape.passes → slice_index n.cleared k ≤ n.ended) → IsSound e now
+still_sound e p n sound one known dead passes cleared = record {
+  history = one;
+  known = known;
+  tree = sound.tree;
+  live = sound.live;
+  rows = sound.rows;
+  words = sound.words;
+  lives = sound.lives;
+  buried = sound.buried;
+  dead = dead;
+  some_pass = sound.some_pass;
+  few_passes = sound.few_passes;
+  passes = passes;
+  cleared = cleared;
+}
 
 pub section_later : (a b word : ℕ) → a ≤ b → IsSectionWord a word → IsSectionWord b word
 section_later a b word up is = ⊎_elim (λ (none : word ≡ 0). inl none) (λ (at : (epoch : ℕ) × (word ≡ 2 * epoch + 1) × (epoch ≤ a)). let low = at.2 in inr (at.0, at.1, omega arith)) is
@@ -174,12 +202,6 @@ sections_set words p i new passes high k few = get_or-set_other words i (section
 
 -- ---- the rule
 
-is_pen : (p q : PenPart) → Some p ≡ Some q → q ≡ p
-is_pen p q e = sym (ap pen_or e)
-
-is_pass : (p q : PassPart) → Some p ≡ Some q → p ≡ q
-is_pass p q e = ap pass_or e
-
 module _ (told : Told) (s : St) (r : IsKept told s) (by : ℕ) (v : View) (at : get_elem? s.views by ≡ some v) (has : v.pen ≡ Some r.part) where
   -- the pass is none that is beside the pen
   abbrev IsApart : PassPart → Type 0
@@ -214,16 +236,15 @@ module _ (told : Told) (s : St) (r : IsKept told s) (by : ℕ) (v : View) (at : 
     shaped = r.shaped;
     sound = sound';
     words = fit;
-    each = λ j u is. ⊎_elim
-        (λ (x : (j ≡ by) × (w ≡ u)). subst (λ (y : ℕ × View). ViewFits r.pen r.owner e' p' words y.0 y.1) (λ i. (sym x.0 i, x.1 i)) mine)
-        (λ (x : (j ≢ by) × (get_elem? s.views j ≡ some u)). let g = r.each j u x.1 in record {
-          keeper = λ q k. absurd (x.0 ((g.keeper q k).0 ∙ sym known));
+    each = each_set (ViewFits r.pen r.owner e' p' words) s.views by w
+        (λ j u off is. let g = r.each j u is in record {
+          keeper = λ q k. absurd (off ((g.keeper q k).0 ∙ sym known));
           at = g.at;
           section = λ q k. section_kept words q sections (g.passes q k) (g.section q k);
-          passes = λ q k. pass_carried r.extents e' r.part n q r.sound sound' c (leaves q (apart_of j q x.0 (g.at q k)) (g.passes q k) (g.section q k)) (g.passes q k);
-          notes = λ m k. begins_longer m.seen r.part.history n.history (g.notes m k) c.history;
+          passes = λ q k. pass_carried r.extents e' r.part n q r.sound sound' c (leaves q (apart_of j q off (g.at q k)) (g.passes q k) (g.section q k)) (g.passes q k);
+          notes = λ m k. begins_on m.seen r.part.history n.history (g.notes m k) c.history;
         })
-        (at_set s.views by j w u is);
+        mine;
   }
     where
       p' : PenPart
@@ -236,11 +257,11 @@ module _ (told : Told) (s : St) (r : IsKept told s) (by : ℕ) (v : View) (at : 
   carry words e' n sound' fit c sections leaves =
       let p' = shaped_as r.part n in let g = r.each by v at in
       carry_view words e' n (record v { pen = Some p' }) sound' fit c sections (λ q _ f is. leaves q tt f is) (record {
-        keeper = λ q k. (known, is_pen p' q k);
+        keeper = λ q k. (known, sym (pen_is p' q k));
         at = g.at;
         section = λ q k. section_kept words q sections (g.passes q k) (g.section q k);
         passes = λ q k. pass_carried r.extents e' r.part n q r.sound sound' c (leaves q tt (g.passes q k) (g.section q k)) (g.passes q k);
-        notes = λ m k. begins_longer m.seen r.part.history n.history (g.notes m k) c.history;
+        notes = λ m k. begins_on m.seen r.part.history n.history (g.notes m k) c.history;
       })
 
   -- and what the pass beside it knows, whose number and section are as they were
@@ -250,11 +271,11 @@ module _ (told : Told) (s : St) (r : IsKept told s) (by : ℕ) (v : View) (at : 
   carry_pair words e' n q q' beside number standing sound' fit c sections leaves mine =
       let p' = shaped_as r.part n in let g = r.each by v at in
       carry_view words e' n (record v { pen = Some p'; pass = Some q' }) sound' fit c sections leaves (record {
-        keeper = λ x k. (known, is_pen p' x k);
-        at = λ x k. g.at q beside ∙ ap r.owner (sym number ∙ ap (λ (z : PassPart). z.number) (is_pass q' x k));
+        keeper = λ x k. (known, sym (pen_is p' x k));
+        at = λ x k. g.at q beside ∙ ap r.owner (sym number ∙ ap (λ (z : PassPart). z.number) (pass_is q' x k));
         section = λ x k.
-            subst (λ (z : PassPart). slice_index words (section_at z.number) ≡ section_word z.standing) (is_pass q' x k)
+            subst (λ (z : PassPart). slice_index words (section_at z.number) ≡ section_word z.standing) (pass_is q' x k)
             (ap (λ (i : ℕ). slice_index words (section_at i)) number ∙ (section_kept words q sections (g.passes q beside) (g.section q beside) ∙ ap section_word (sym standing)));
-        passes = λ x k. subst (PassFits e' p') (is_pass q' x k) mine;
-        notes = λ m k. begins_longer m.seen r.part.history n.history (g.notes m k) c.history;
+        passes = λ x k. subst (PassFits e' p') (pass_is q' x k) mine;
+        notes = λ m k. begins_on m.seen r.part.history n.history (g.notes m k) c.history;
       })

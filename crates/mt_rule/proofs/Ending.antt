@@ -13,6 +13,8 @@ use Rattle.mt_base.specs.Call.{acted}
 use Rattle.mt_base.specs.History.{IsAnswered, last_map, limits_after, map_after, map_by_reply}
 use Rattle.mt_base.specs.Nodes.{IsRefused}
 use Rattle.mt_base.specs.Passes.{holder_of}
+use Rattle.mt_base.proofs.PlainReplies.{was_acted}
+use Rattle.mt_base.proofs.Goings.{begins_none}
 use Rattle.mt_life.specs.declared.views.Extent.{Extent}
 use Rattle.mt_life.specs.Known.{Goes, Known, calls}
 use Rattle.mt_life.proofs.Ends.{begin_turns, finish_turns}
@@ -28,9 +30,7 @@ use Rattle.mt_rule.specs.Ends.{EndsQuietly, IsFoundShort, MayEnd}
 use Rattle.mt_rule.specs.Rule.{IsKept, IsSound, PassFits, WordsFit}
 use Rattle.mt_rule.specs.Seats.{HasPass, HasPen, cuts_at, moment_at, pass_of, pen_of, record_of, rooted_in, sheet_of, state_in, tree_of}
 use Rattle.mt_rule.specs.Steps.{begins_call, ends_call, pass_recorded, pen_begun, quiet_moment}
-use Rattle.mt_rule.proofs.Answering.{was_acted}
-use Rattle.mt_rule.proofs.Beginnings.{begins_all}
-use Rattle.mt_rule.proofs.Carrying.{Carries, carries_life, carry, carry_pair, pass_carried, recast, shaped_as, stays_put}
+use Rattle.mt_rule.proofs.Carrying.{Carries, carries_life, carry, carry_pair, pass_carried, recast, shaped_as, stays_put, still_history, still_sound}
 use Rattle.mt_rule.proofs.Counting.{counter_sections, counter_set, here, there}
 use Rattle.mt_rule.proofs.Lives.{died_later}
 use Rattle.mt_rule.proofs.Moments.{map_now, moment_before, moment_more}
@@ -51,30 +51,9 @@ module _ (e : ℕ → Extent) (p : PenPart) (sound : IsSound e p) (idle : p.in_f
 
   pub begun_sound : IsSound e (pen_begun p)
   begun_sound =
-      let one = sound.history in let n = no_publish in let z = no_flight in record {
-        history = record {
-          dealt = one.dealt;
-          callers = one.callers;
-          named = one.named;
-          loaded = one.loaded;
-          count = (let c = one.count in omega arith);
-          calm = λ _. refl;
-          few = omega arith;
-          legal = one.legal;
-        };
-        known = begun_turns.0;
-        tree = sound.tree;
-        live = sound.live;
-        rows = sound.rows;
-        words = sound.words;
-        lives = sound.lives;
-        buried = sound.buried;
-        dead = λ row. died_later p.ended p.ended p.in_flight true (life_of p.lives row) (omega arith) (sound.dead row);
-        some_pass = sound.some_pass;
-        few_passes = sound.few_passes;
-        passes = sound.passes;
-        cleared = sound.cleared;
-      }
+      let one = sound.history in let n = no_publish in let z = no_flight in
+      still_sound e p (pen_begun p) sound (still_history p (pen_begun p) one (let c = one.count in omega arith) (λ _. refl) (omega arith)) begun_turns.0
+      (λ row. died_later p.ended p.ended p.in_flight true (life_of p.lives row) (omega arith) (sound.dead row)) sound.passes sound.cleared
 
   pub begun_carries : Carries e e p (pen_begun p)
   begun_carries = carries_life e e p (pen_begun p) refl refl refl (let z = no_flight in omega arith) begun_turns.1
@@ -128,30 +107,9 @@ module _ (e : ℕ → Extent) (p : PenPart) (sound : IsSound e p) (flight : p.in
 
   pub done_sound : IsSound e (done p)
   done_sound =
-      let one = sound.history in let z = one_flight in record {
-        history = record {
-          dealt = one.dealt;
-          callers = one.callers;
-          named = one.named;
-          loaded = one.loaded;
-          count = (let c = done_count in omega arith);
-          calm = λ _. refl;
-          few = (let few = one.few in omega arith);
-          legal = one.legal;
-        };
-        known = done_turns.0;
-        tree = sound.tree;
-        live = sound.live;
-        rows = sound.rows;
-        words = sound.words;
-        lives = sound.lives;
-        buried = sound.buried;
-        dead = λ row. died_later p.ended (p.ended + 1) p.in_flight false (life_of p.lives row) (omega arith) (sound.dead row);
-        some_pass = sound.some_pass;
-        few_passes = sound.few_passes;
-        passes = sound.passes;
-        cleared = λ k low. let c = sound.cleared k low in omega arith;
-      }
+      let one = sound.history in let z = one_flight in
+      still_sound e p (done p) sound (still_history p (done p) one (let c = done_count in omega arith) (λ _. refl) (let few = one.few in omega arith)) done_turns.0
+      (λ row. died_later p.ended (p.ended + 1) p.in_flight false (life_of p.lives row) (omega arith) (sound.dead row)) sound.passes (λ k low. let c = sound.cleared k low in omega arith)
 
   pub done_carries : Carries e e p (done p)
   done_carries = record { dealt = omega arith; history = ([], sym (append-nil p.history)); ended = omega arith; begun = (let z = one_flight in omega arith); goes = done_turns.1 }
@@ -228,21 +186,9 @@ module _ (e : ℕ → Extent) (p : PenPart) (q : PassPart) (call : Call) (reply 
 
   pub quiet_sound : q.number < p.dealt → IsSound e quietly
   quiet_sound caller =
-      let z = quiet_flight in let c = quiet_count in let k = is_quiet in record {
-        history = recorded_history p m sound.history caller k.named k.answered quietly refl refl refl refl (omega arith) (λ _. refl) (omega arith);
-        known = quiet_turns.0;
-        tree = sound.tree;
-        live = sound.live;
-        rows = sound.rows;
-        words = sound.words;
-        lives = sound.lives;
-        buried = sound.buried;
-        dead = λ row. died_later p.ended (p.ended + 1) p.in_flight false (life_of p.lives row) (omega arith) (sound.dead row);
-        some_pass = sound.some_pass;
-        few_passes = sound.few_passes;
-        passes = sound.passes;
-        cleared = λ j low. let a = sound.cleared j low in omega arith;
-      }
+      let z = quiet_flight in let c = quiet_count in let k = is_quiet in
+      still_sound e p quietly sound (recorded_history p m sound.history caller k.named k.answered quietly refl refl refl refl (omega arith) (λ _. refl) (omega arith)) quiet_turns.0
+      (λ row. died_later p.ended (p.ended + 1) p.in_flight false (life_of p.lives row) (omega arith) (sound.dead row)) sound.passes (λ j low. let a = sound.cleared j low in omega arith)
 
   pub quiet_carries : Carries e e p quietly
   quiet_carries = record { dealt = omega arith; history = (m ∷ [], refl); ended = omega arith; begun = (let z = quiet_flight in omega arith); goes = quiet_turns.1 }
@@ -279,7 +225,7 @@ module _ (told : Told) (slots by : ℕ) (me : Me (Unit {0}) View) (new : ℕ) (c
       let g = pass_carried r.extents r.extents p n q r.sound sound' c (stays_put r.extents p n q f refl refl refl) f in
       let over = f.over in
       let long : length q.seen ≡ p.ended + 1 = ap length seen ∙ done_count r.extents p r.sound may.in_flight was in
-      let fits : PassFits r.extents n (record q { ended = p.ended + 1 }) = seen_fits r.extents n q q.seen (p.ended + 1) g (begins_all q.seen) g.seen (omega arith) (omega arith) (omega arith) in (
+      let fits : PassFits r.extents n (record q { ended = p.ended + 1 }) = seen_fits r.extents n q q.seen (p.ended + 1) g (begins_none q.seen) g.seen (omega arith) (omega arith) (omega arith) in (
         record v { pen = Some n; pass = Some (record q { ended = p.ended + 1 }) },
         keeps,
         tt,

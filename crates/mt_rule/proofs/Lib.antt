@@ -1,4 +1,3 @@
-pub mod Answering
 pub mod Beginnings
 pub mod Carrying
 pub mod Counting

@@ -1,13 +1,16 @@
 -- The rule is kept where a seat is cut in two, and where two are joined, and by the loads that show a pass more of the history.
-use Rattle.std.proofs.Common.{◌≡◌, ℕ, ◌+◌, ◌<◌, List, [], refl, sym, ap, ◌∙◌, subst, arith, length, set, get_or, true≢false, Some, None}
-use Rattle.std.specs.Prelude.{is_some, false}
+use Rattle.std.proofs.Common.{◌≡◌, ℕ, ◌+◌, ◌<◌, List, [], refl, sym, ap, ◌∙◌, subst, arith, length, set, get_or, Some, None}
+use Rattle.std.specs.Prelude.{false}
 use mathlib.Core.Option.{none, some-ne-none}
 use lib.Seq.{set-get_or}
 use Rattle.std.proofs.lemmas.List.{length-map}
-use Rattle.atomic_table.specs.Table.{State, Me, step, keeps, Allows, Splits, Joins}
+use Rattle.std.proofs.lemmas.Option.{none-some}
+use Rattle.atomic_table.specs.Table.{Me, step, keeps, Allows, Splits, Joins}
 use Rattle.mt_base.specs.History.{IsLegal}
 use Rattle.mt_base.specs.Passes.{Begins}
 use Rattle.mt_base.specs.Passes as ways
+use Rattle.mt_base.proofs.Goings.{begins_long, begins_none}
+use Rattle.mt_base.proofs.Lists.{all_map}
 use Rattle.mt_life.specs.declared.views.Extent.{Extent}
 use Rattle.mt_rule.specs.declared.views.Moment.{Moment}
 use Rattle.mt_rule.specs.declared.views.Told.{Told}
@@ -22,32 +25,21 @@ use Rattle.mt_rule.specs.Rule.{IsOneHistory, IsSound, WordsFit, PassFits, ViewFi
 use Rattle.mt_rule.specs.Steps.{all_seen, taught, sees_all, learns}
 use Rattle.mt_rule.specs.Tokens.{WasShown}
 use Rattle.mt_rows.specs.Levels.{one_if}
-use Rattle.mt_rule.proofs.Beginnings.{begins_all, begins_length, begins_records, longer_fits, places_none, all_weaker, legal_within}
-use Rattle.mt_rule.proofs.Viewing.{each_set, each_split, each_join, other_view, pen_is, pass_is, note_is, no_pen, no_pass, no_note, owned, owned_here, owned_else, stays, nothing_fits, seen_fits}
-use Rattle.mt_rule.proofs.Carrying.{recast}
-
-no_number : (n : ℕ) → None ≡ Some n → ⊥
-no_number n e = true≢false (sym (ap is_some e))
+use Rattle.mt_rule.proofs.Beginnings.{begins_records, longer_fits, places_none, legal_within}
+use Rattle.mt_rule.proofs.Viewing.{each_set, each_split, each_join, other_view, pen_is, pass_is, note_is, owned, owned_here, owned_else, stays, nothing_fits, seen_fits}
+use Rattle.mt_rule.proofs.Carrying.{St, recast, reseated, still_sound}
 
 -- ---- a load, which leaves all words and all that the pen knows
 
-looked : (told : Told) (s : State (Unit {0}) View) (r : IsKept told s) (at by : ℕ) (w : View)
+looked : (told : Told) (s : St) (r : IsKept told s) (at by : ℕ) (w : View)
     → ((words : List ℕ) → words ≡ s.words → ViewFits r.pen r.owner r.extents r.part words by w)
     → IsKept told record { words = set s.words at (get_or s.words at 0); homes = s.homes; views = set s.views by w }
 looked told s r at by w fits =
     let same : set s.words at (get_or s.words at 0) ≡ s.words = set-get_or s.words at 0 in
-    record {
-      pen = r.pen;
-      owner = r.owner;
-      extents = r.extents;
-      part = r.part;
-      shaped = r.shaped;
-      sound = r.sound;
-      words = subst (λ (l : List ℕ). WordsFit l r.part) (sym same) r.words;
-      each = each_set (ViewFits r.pen r.owner r.extents r.part (set s.words at (get_or s.words at 0))) s.views by w
-          (λ j u _ e. subst (λ (l : List ℕ). ViewFits r.pen r.owner r.extents r.part l j u) (sym same) (r.each j u e))
-          (fits (set s.words at (get_or s.words at 0)) same);
-    }
+    reseated s r r.owner (subst (λ (l : List ℕ). WordsFit l r.part) (sym same) r.words)
+    (each_set (ViewFits r.pen r.owner r.extents r.part (set s.words at (get_or s.words at 0))) s.views by w
+    (λ j u _ e. subst (λ (l : List ℕ). ViewFits r.pen r.owner r.extents r.part l j u) (sym same) (r.each j u e))
+    (fits (set s.words at (get_or s.words at 0)) same))
 
 -- ---- a pass is dealt
 
@@ -57,7 +49,7 @@ dealt_more p = record p { dealt = p.dealt + 1 }
 dealt_history : (p : PenPart) → IsOneHistory p → p.dealt < p.shape.passes → IsOneHistory (dealt_more p)
 dealt_history p one room = record {
   dealt = omega arith;
-  callers = all_weaker (λ r. r.pass < p.dealt) (λ r. r.pass < p.dealt + 1) (λ r h. omega arith) (records_of p.history) one.callers;
+  callers = all_map (λ r. r.pass < p.dealt) (λ r. r.pass < p.dealt + 1) (λ r h. omega arith) (records_of p.history) one.callers;
   named = one.named;
   loaded = λ h c. let a = one.loaded h c in omega arith;
   count = one.count;
@@ -67,21 +59,7 @@ dealt_history p one room = record {
 }
 
 dealt_sound : (extents : ℕ → Extent) (p : PenPart) → IsSound extents p → p.dealt < p.shape.passes → IsSound extents (dealt_more p)
-dealt_sound extents p s room = record {
-  history = dealt_history p s.history room;
-  known = s.known;
-  tree = s.tree;
-  live = s.live;
-  rows = s.rows;
-  words = s.words;
-  lives = s.lives;
-  buried = s.buried;
-  dead = s.dead;
-  some_pass = s.some_pass;
-  few_passes = s.few_passes;
-  passes = s.passes;
-  cleared = s.cleared;
-}
+dealt_sound extents p s room = still_sound extents p (dealt_more p) s (dealt_history p s.history room) s.known s.dead s.passes s.cleared
 
 dealt_words : (words : List ℕ) (p : PenPart) → WordsFit words p → WordsFit words (dealt_more p)
 dealt_words words p w = record { size = w.size; commits = w.commits; begun = w.begun; root = w.root; sections = w.sections; undealt = λ k low high. w.undealt k (omega arith) high; columns = w.columns }
@@ -118,9 +96,9 @@ new_fits extents p one = record {
   risen = omega arith;
   epoch = omega arith;
   loaded = λ h c e. let a = one.loaded h c in absurd (omega arith);
-  standing = λ n e. absurd (no_number n e);
+  standing = λ n e. absurd (none-some n e);
   closed = λ e. refl;
-  floor = λ n e. absurd (no_number n e);
+  floor = λ n e. absurd (none-some n e);
   held = λ j x e. absurd (some-ne-none x (sym e));
 }
 
@@ -147,11 +125,11 @@ dealing told by v has_pen room s r₀ at =
           (λ j u apart e. let g = r.each j u e in record { keeper = λ x k. absurd (apart ((g.keeper x k).0 ∙ sym known.0)); at = same j u g; section = g.section; passes = λ x k. still_fits r.extents p x (g.passes x k); notes = g.notes })
           record { keeper = λ x k. (known.0, sym (pen_is p' x k)); at = same by v own; section = own.section; passes = λ x k. still_fits r.extents p x (own.passes x k); notes = own.notes }
           record {
-            keeper = λ x k. absurd (no_pen x k);
+            keeper = λ x k. absurd (none-some x k);
             at = λ x k. sym (owned_here r.owner p.dealt (length s.views) x.number (sym (ap (λ (z : PassPart). z.number) (pass_is q' x k))));
             section = λ x k. subst (λ (z : PassPart). get_or s.words (section_at z.number) 0 ≡ section_word z.standing) (pass_is q' x k) (r.words.undealt p.dealt (omega arith) room);
             passes = λ x k. subst (PassFits r.extents p') (pass_is q' x k) (new_fits r.extents p r.sound.history);
-            notes = λ n k. absurd (no_note n k);
+            notes = λ n k. absurd (none-some n k);
           };
     }
 
@@ -162,95 +140,63 @@ joining told id other v w has_pass s r at apart at_other =
     let there = other_view s.views id other (with_pass v w) w apart at_other in
     let own = r.each id v at in let f = r.each other w there in let q = pass_of w in let p = r.part in
     let owner' = owned r.owner q.number id in
+    reseated s r owner' r.words
+    (each_join (ViewFits r.pen owner' r.extents p s.words) s.views id other (with_pass v w) no_view
+    (λ j u a b e. stays r.pen r.owner r.extents p s.words q.number other id j u (f.at q has_pass) b (r.each j u e))
     record {
-      pen = r.pen;
-      owner = owner';
-      extents = r.extents;
-      part = p;
-      shaped = r.shaped;
-      sound = r.sound;
-      words = r.words;
-      each = each_join (ViewFits r.pen owner' r.extents p s.words) s.views id other (with_pass v w) no_view
-          (λ j u a b e. stays r.pen r.owner r.extents p s.words q.number other id j u (f.at q has_pass) b (r.each j u e))
-          record {
-            keeper = own.keeper;
-            at = λ x k. sym (owned_here r.owner q.number id x.number (sym (ap (λ (z : PassPart). z.number) (pass_is q x (sym has_pass ∙ k)))));
-            section = f.section;
-            passes = f.passes;
-            notes = own.notes;
-          }
-          (nothing_fits r.pen owner' r.extents p s.words other);
+      keeper = own.keeper;
+      at = λ x k. sym (owned_here r.owner q.number id x.number (sym (ap (λ (z : PassPart). z.number) (pass_is q x (sym has_pass ∙ k)))));
+      section = f.section;
+      passes = f.passes;
+      notes = own.notes;
     }
+    (nothing_fits r.pen owner' r.extents p s.words other))
 
 pub parting : (told : Told) (by : ℕ) (v : View) → HasPass v → Splits (IsKept told) by v (without_pass v) (pass_alone v)
 parting told by v has_pass s r at =
     let own = r.each by v at in let q = pass_of v in let p = r.part in
     let owner' = owned r.owner q.number (length s.views) in
+    reseated s r owner' r.words
+    (each_split (ViewFits r.pen owner' r.extents p s.words) s.views by (without_pass v) (pass_alone v)
+    (λ j u a e. stays r.pen r.owner r.extents p s.words q.number by (length s.views) j u (own.at q has_pass) a (r.each j u e))
+    record { keeper = own.keeper; at = λ x k. absurd (none-some x k); section = λ x k. absurd (none-some x k); passes = λ x k. absurd (none-some x k); notes = own.notes }
     record {
-      pen = r.pen;
-      owner = owner';
-      extents = r.extents;
-      part = p;
-      shaped = r.shaped;
-      sound = r.sound;
-      words = r.words;
-      each = each_split (ViewFits r.pen owner' r.extents p s.words) s.views by (without_pass v) (pass_alone v)
-          (λ j u a e. stays r.pen r.owner r.extents p s.words q.number by (length s.views) j u (own.at q has_pass) a (r.each j u e))
-          record { keeper = own.keeper; at = λ x k. absurd (no_pass x k); section = λ x k. absurd (no_pass x k); passes = λ x k. absurd (no_pass x k); notes = own.notes }
-          record {
-            keeper = λ x k. absurd (no_pen x k);
-            at = λ x k. sym (owned_here r.owner q.number (length s.views) x.number (sym (ap (λ (z : PassPart). z.number) (pass_is q x (sym has_pass ∙ k)))));
-            section = own.section;
-            passes = own.passes;
-            notes = λ n k. absurd (no_note n k);
-          };
-    }
+      keeper = λ x k. absurd (none-some x k);
+      at = λ x k. sym (owned_here r.owner q.number (length s.views) x.number (sym (ap (λ (z : PassPart). z.number) (pass_is q x (sym has_pass ∙ k)))));
+      section = own.section;
+      passes = own.passes;
+      notes = λ n k. absurd (none-some n k);
+    })
 
 -- ---- notes
 
 pub noting : (told : Told) (by : ℕ) (v : View) → HasPass v → Splits (IsKept told) by v v (note_alone v)
 noting told by v has_pass s r at =
     let own = r.each by v at in let q = pass_of v in let p = r.part in
+    reseated s r r.owner r.words
+    (each_split (ViewFits r.pen r.owner r.extents p s.words) s.views by v (note_alone v) (λ j u a e. r.each j u e) own
     record {
-      pen = r.pen;
-      owner = r.owner;
-      extents = r.extents;
-      part = p;
-      shaped = r.shaped;
-      sound = r.sound;
-      words = r.words;
-      each = each_split (ViewFits r.pen r.owner r.extents p s.words) s.views by v (note_alone v) (λ j u a e. r.each j u e) own
-          record {
-            keeper = λ x k. absurd (no_pen x k);
-            at = λ x k. absurd (no_pass x k);
-            section = λ x k. absurd (no_pass x k);
-            passes = λ x k. absurd (no_pass x k);
-            notes = λ n k. subst (λ (z : NotePart). Begins z.seen p.history) (note_is (record { seen = q.seen }) n k) (own.passes q has_pass).seen;
-          };
-    }
+      keeper = λ x k. absurd (none-some x k);
+      at = λ x k. absurd (none-some x k);
+      section = λ x k. absurd (none-some x k);
+      passes = λ x k. absurd (none-some x k);
+      notes = λ n k. subst (λ (z : NotePart). Begins z.seen p.history) (note_is (record { seen = q.seen }) n k) (own.passes q has_pass).seen;
+    })
 
 pub note_joining : (told : Told) (id other : ℕ) (v w : View) → Joins (IsKept told) id v other w (with_note v w) no_view
 note_joining told id other v w s r at apart at_other =
     let there = other_view s.views id other (with_note v w) w apart at_other in
     let own = r.each id v at in let f = r.each other w there in let p = r.part in
-    record {
-      pen = r.pen;
-      owner = r.owner;
-      extents = r.extents;
-      part = p;
-      shaped = r.shaped;
-      sound = r.sound;
-      words = r.words;
-      each = each_join (ViewFits r.pen r.owner r.extents p s.words) s.views id other (with_note v w) no_view (λ j u a b e. r.each j u e)
-          record { keeper = own.keeper; at = own.at; section = own.section; passes = own.passes; notes = f.notes }
-          (nothing_fits r.pen r.owner r.extents p s.words other);
-    }
+    reseated s r r.owner r.words
+    (each_join (ViewFits r.pen r.owner r.extents p s.words) s.views id other (with_note v w) no_view (λ j u a b e. r.each j u e)
+    record { keeper = own.keeper; at = own.at; section = own.section; passes = own.passes; notes = f.notes }
+    (nothing_fits r.pen r.owner r.extents p s.words other))
 
 -- ---- the lock shows all
 
 shown_fits : (extents : ℕ → Extent) (p : PenPart) (q : PassPart) → IsOneHistory p → PassFits extents p q → PassFits extents p (all_seen p q)
 shown_fits extents p q one f = let n = one.count in let o = f.over in
-    seen_fits extents p q p.history p.ended f f.seen (begins_all p.history) f.over (omega arith) (omega arith)
+    seen_fits extents p q p.history p.ended f f.seen (begins_none p.history) f.over (omega arith) (omega arith)
 
 pub seeing : (told : Told) (slots by : ℕ) (me : Me (Unit {0}) View) → HasPen me.0 → HasPass me.0 → Allows (IsKept told) slots by me 0 (λ n. n) (sees_all (step slots 0 0 0 none) me)
 seeing told slots by me has_pen has_pass s r₀ _ at _ =
@@ -296,7 +242,7 @@ was_shown t extents p q shaped idle sound f =
 taught_fits : (extents : ℕ → Extent) (p : PenPart) (q : PassPart) (n : NotePart) → PassFits extents p q → Begins n.seen p.history → PassFits extents p (taught q n)
 taught_fits extents p q n f told =
     let l = longer_fits q.seen n.seen p.history f.seen told in
-    let more = begins_length q.seen (longer_of q.seen n.seen) l.this in
+    let more = begins_long q.seen (longer_of q.seen n.seen) l.this in
     let e = f.ended in
     seen_fits extents p q (longer_of q.seen n.seen) q.ended f l.this l.whole (omega arith) (omega arith) f.over
 
@@ -318,6 +264,6 @@ learning told slots by me has_pass has_note s r _ at _ =
       at = λ x k. own.at q has_pass ∙ ap (λ (z : PassPart). r.owner z.number) (pass_is q' x k);
       section = λ x k. subst (λ (z : PassPart). get_or words (section_at z.number) 0 ≡ section_word z.standing) (pass_is q' x k) (ap (λ (l : List ℕ). get_or l (section_at q.number) 0) same ∙ own.section q has_pass);
       passes = λ x k. subst (PassFits r.extents p) (pass_is q' x k) f';
-      notes = λ y k. absurd (no_note y k);
+      notes = λ y k. absurd (none-some y k);
     } in
     (w, keeps, tt, looked told s r 0 by w fits, (record { view = refl; seen = l.this; told = l.that; sound = sound_of r.extents p q' [] r.sound.history f' }, refl))

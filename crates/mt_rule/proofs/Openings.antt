@@ -4,6 +4,7 @@ use Rattle.std.specs.Prelude.{slice_index, if◌then◌else◌}
 use Rattle.std.specs.List.{range_with_len}
 use Rattle.std.proofs.lemmas.List.{length-replicate}
 use Rattle.std.proofs.lemmas.List.FromFn.{get_or-map-range_with_len, length-map-range_with_len}
+use Rattle.std.proofs.lemmas.Option.{none-some}
 use mathlib.Core.Option.{some, some-ne-none, some-injective}
 use lib.ListN.{get_elem?}
 use Rattle.atomic_table.specs.Table.{opening}
@@ -34,7 +35,7 @@ use Rattle.mt_rule.specs.Seats.{moment_at, new_pen, opening_life, opening_view, 
 use Rattle.mt_rule.specs.Tokens.{MayOpen}
 use Rattle.mt_rows.proofs.PlainMade.{lawful_tree}
 use Rattle.mt_rule.proofs.Lives.{every_life, none_marked}
-use Rattle.mt_rule.proofs.Viewing.{no_note, no_pass, pen_is}
+use Rattle.mt_rule.proofs.Viewing.{pen_is}
 
 -- ---- rows that no call has used
 
@@ -186,9 +187,9 @@ starts_so told words may opens =
     one : (extents : ℕ → Extent) (by : ℕ) (v : View) → get_elem? (opening_view told ∷ []) by ≡ some v → ViewFits 0 (λ _. 0) extents (new_pen (shape_told told) (tree_told told)) words by v
     one extents zero v e = subst (ViewFits 0 (λ _. 0) extents (new_pen (shape_told told) (tree_told told)) words 0) (some-injective (opening_view told) v e) record {
       keeper = λ q k. (refl, sym (pen_is (new_pen (shape_told told) (tree_told told)) q k));
-      at = λ q k. absurd (no_pass q k);
-      section = λ q k. absurd (no_pass q k);
-      passes = λ q k. absurd (no_pass q k);
-      notes = λ n k. absurd (no_note n k);
+      at = λ q k. absurd (none-some q k);
+      section = λ q k. absurd (none-some q k);
+      passes = λ q k. absurd (none-some q k);
+      notes = λ n k. absurd (none-some n k);
     }
     one extents (suc by) v e = absurd (some-ne-none v (sym e))

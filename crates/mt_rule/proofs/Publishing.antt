@@ -13,6 +13,7 @@ use Rattle.mt_base.specs.declared.replies.Reply.{Reply}
 use Rattle.mt_base.specs.declared.widths.Width.{Width}
 use Rattle.mt_base.specs.History.{last_map}
 use Rattle.mt_base.specs.Width.{kind_width, columns, first_row}
+use Rattle.mt_base.proofs.PlainReplies.{IsActed, was_acted}
 use Rattle.mt_life.specs.declared.views.Extent.{Extent}
 use Rattle.mt_life.specs.Known.{Follows, Goes, Known}
 use Rattle.mt_life.specs.Moments.{cuts_by, moment_of}
@@ -37,7 +38,6 @@ use Rattle.mt_rule.specs.Places.{column_at, root_at, section_at}
 use Rattle.mt_rule.specs.Rule.{IsKept, IsSound, WordsFit}
 use Rattle.mt_rule.specs.Seats.{HasPass, HasPen, moment_at, pass_of, pen_of, record_of, rooted_in, sheet_of, state_in, tree_of}
 use Rattle.mt_rule.specs.Steps.{pass_recorded, publishes}
-use Rattle.mt_rule.proofs.Answering.{IsActed, was_acted}
 use Rattle.mt_rule.proofs.Carrying.{Carries, carry_pair, column_set, least_low, recast, sections_set, shaped_as}
 use Rattle.mt_rule.proofs.Counting.{counter_sections, counter_set, here, there}
 use Rattle.mt_rule.proofs.Lives.{every_life, none_marked}

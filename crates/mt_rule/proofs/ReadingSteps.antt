@@ -1,19 +1,21 @@
 -- Each step of a pass that reads without the lock keeps the rule, and tells what it is said to tell.
-use Rattle.std.proofs.Common.{◌≡◌, ◌≢◌, ℕ, zero, suc, ◌+◌, ◌-◌, ◌*◌, ◌<◌, ◌≤◌, List, [], ◌∷◌, Bool, true, false, Option, Some, None, length, refl, sym, ap, ◌∙◌, subst, ⊎_elim, arith, length-set, inl, inr}
+use Rattle.std.proofs.Common.{◌≡◌, ◌≢◌, ℕ, zero, suc, ◌+◌, ◌-◌, ◌*◌, ◌<◌, ◌≤◌, List, [], ◌∷◌, Bool, true, false, Option, Some, None, length, refl, sym, ap, ◌∙◌, subst, arith, length-set, inl, inr}
 use Rattle.std.specs.Prelude.{IfSome, slice_index, slice_set}
-use Rattle.std.specs.List.{slice_get}
+use Rattle.std.specs.List.{Contains, slice_get}
 use Rattle.std.proofs.lemmas.Bool.{cases_Bool, cases_eq}
 use Rattle.std.proofs.lemmas.List.{set-get_or, get_or-set_same, get_or-set_other}
 use Rattle.std.proofs.lemmas.List.Elements.{Contains-append_left, Contains-push}
+use Rattle.std.proofs.lemmas.Option.{none-some}
 use mathlib.Core.Option.{none, some, some-ne-none, some-injective}
 use lib.ListN.{get_elem?}
 use Rattle.atomic_table.specs.Table.{Me, Act, step, stepped, carried_after, Valid, keeps, Allows}
-use Rattle.atomic_table.proofs.Lists.{at_set}
+use Rattle.mt_base.specs.declared.replies.Holder.{Holder}
 use Rattle.mt_base.specs.declared.widths.Width.{Width}
 use Rattle.mt_base.specs.declared.widths.Width.TheVariants.{Long}
 use Rattle.mt_base.specs.Passes.{Begins}
 use Rattle.mt_base.specs.Passes as known
 use Rattle.mt_base.specs.Width.{kind_width, first_row}
+use Rattle.mt_base.proofs.Goings.{begins_long, begins_none}
 use Rattle.mt_layout.specs.Columns.{pivot_column, slot_column}
 use Rattle.mt_layout.specs.Rows.{dead_mark, named_kind, row_in}
 use Rattle.mt_rows.specs.declared.rows.Life.TheVariants.{Live, Dead}
@@ -34,18 +36,16 @@ use Rattle.mt_rule.specs.declared.views.View.{View}
 use Rattle.mt_rule.specs.declared.views.PenPart.{PenPart}
 use Rattle.mt_rule.specs.declared.views.PassPart.{PassPart}
 use Rattle.mt_rule.specs.Places.{commits_at, begun_at, root_at, section_at, section_word, IsSectionWord, column_at}
-use Rattle.mt_rule.specs.Seats.{HasPass, known_by, least_of, moment_at, pass_of, pass_or, records_of, state_in, tree_of}
+use Rattle.mt_rule.specs.Seats.{HasPass, known_by, least_of, moment_at, pass_of, records_of, state_in, tree_of}
 use Rattle.mt_rule.specs.Rule.{begun_by, HasFloor, IsHeldBy, IsKept, IsOneHistory, IsOpenAt, IsSound, PassFits, ViewFits, WordsFit}
 use Rattle.mt_rule.specs.Sections.{IsAt, behind_first, closed_section, floor_or, here, kind_of, opened_section, slots_in, spans_here, IsRead, ParentTells, loads_begun, loads_commits, loads_parent, loads_pivot, loads_root, loads_slot, opens_section, closes_section}
-use Rattle.mt_rule.proofs.Beginnings.{begins_all, begins_length, legal_within}
+use Rattle.mt_rule.proofs.Beginnings.{legal_within}
 use Rattle.mt_rule.proofs.Carrying.{St, least_low, recast}
 use Rattle.mt_rule.proofs.Holding.{column_behind, pivot_now, rows_behind, size_above, slot_now}
+use Rattle.mt_rule.proofs.Viewing.{each_set, pass_is}
 
 abbrev M : Type 0
 M = Me (Unit {0}) View
-
-some_is : (q q' : PassPart) → Some q ≡ Some q' → q' ≡ q
-some_is q q' e = sym (ap pass_or e)
 
 -- ---- what a pass's own step has to keep
 
@@ -71,18 +71,15 @@ module _ (told : Told) (s : St) (r₀ : IsKept told s) (by : ℕ) (v : View) (at
     shaped = kept_by.shaped;
     sound = kept_by.sound;
     words = words;
-    each = λ j u e. ⊎_elim
-        (λ (x : (j ≡ by) × (record v { pass = Some q' } ≡ u)). subst (λ (y : ℕ × View). ViewFits kept_by.pen kept_by.owner kept_by.extents part_by ws y.0 y.1) (λ i. (sym x.0 i, x.1 i)) own)
-        (λ (x : (j ≢ by) × (get_elem? s.views j ≡ some u)). others j u x.0 (kept_by.each j u x.1))
-        (at_set s.views by j (record v { pass = Some q' }) u e);
+    each = each_set (ViewFits kept_by.pen kept_by.owner kept_by.extents part_by ws) s.views by (record v { pass = Some q' }) (λ j u apart e. others j u apart (kept_by.each j u e)) own;
   }
     where
       own : ViewFits kept_by.pen kept_by.owner kept_by.extents part_by ws by (record v { pass = Some q' })
       own = record {
         keeper = mine.keeper;
-        at = λ x e. mine.at q is ∙ ap kept_by.owner (sym (ap (λ (z : PassPart). z.number) (some_is q' x e) ∙ same));
-        section = λ x e. subst (λ (z : PassPart). slice_index ws (section_at z.number) ≡ section_word z.standing) (sym (some_is q' x e)) (ap (λ (k : ℕ). slice_index ws (section_at k)) same ∙ section);
-        passes = λ x e. subst (PassFits kept_by.extents part_by) (sym (some_is q' x e)) fits;
+        at = λ x e. mine.at q is ∙ ap kept_by.owner (sym same ∙ ap (λ (z : PassPart). z.number) (pass_is q' x e));
+        section = λ x e. subst (λ (z : PassPart). slice_index ws (section_at z.number) ≡ section_word z.standing) (pass_is q' x e) (ap (λ (k : ℕ). slice_index ws (section_at k)) same ∙ section);
+        passes = λ x e. subst (PassFits kept_by.extents part_by) (pass_is q' x e) fits;
         notes = mine.notes;
       }
 
@@ -173,15 +170,16 @@ numbers_fit e p q seen begun ended epoch risen f begins mine more has_begun has_
 -- the whole history
 all_fit : (e : ℕ → Extent) (p : PenPart) (q : PassPart) (ended epoch risen : ℕ) → PassFits e p q → ended ≤ length p.history → ended ≤ p.ended → epoch ≤ ended → risen ≤ begun_by p
     → PassFits e p (record q { seen = p.history; ended = ended; epoch = epoch; risen = risen })
-all_fit e p q ended epoch risen f = numbers_fit e p q p.history q.begun ended epoch risen f (begins_all p.history) (sym f.all) (begins_length q.seen p.history f.seen) f.begun
+all_fit e p q ended epoch risen f = numbers_fit e p q p.history q.begun ended epoch risen f (begins_none p.history) (sym f.all) (begins_long q.seen p.history f.seen) f.begun
 
 sees_fits : (e : ℕ → Extent) (p : PenPart) (q : PassPart) → PassFits e p q → PassFits e p (record q { seen = p.history })
-sees_fits e p q f = let more = begins_length q.seen p.history f.seen in let a = f.ended in all_fit e p q q.ended q.epoch q.risen f (omega arith) f.over f.epoch f.risen
+sees_fits e p q f = let more = begins_long q.seen p.history f.seen in let a = f.ended in all_fit e p q q.ended q.epoch q.risen f (omega arith) f.over f.epoch f.risen
 
--- the rows of a section
-rows_fit : (e : ℕ → Extent) (p : PenPart) (q : PassPart) (floor : Option ℕ) (held : List Held) → PassFits e p q → (q.standing ≡ None → floor ≡ None) → ((n : ℕ) → floor ≡ Some n → HasFloor p (record q { floor = floor; held = held }) n)
-    → ((j : ℕ) (x : Held) → get_elem? held j ≡ some x → IsHeldBy e p (record q { floor = floor; held = held }) x) → PassFits e p (record q { floor = floor; held = held })
-rows_fit e p q floor held f closed low rows = record {
+-- a pass whose section is another
+section_fits : (e : ℕ → Extent) (p : PenPart) (q : PassPart) (opened : List ℕ) (standing floor : Option ℕ) (held : List Held) → PassFits e p q → let now : PassPart = record q { opened = opened; standing = standing; floor = floor; held = held } in
+    ((h : Holder) → Contains p.loaded h → h.pass ≡ q.number → Contains opened h.epoch) → ((o : ℕ) → standing ≡ Some o → IsOpenAt now o) → (standing ≡ None → floor ≡ None) → ((n : ℕ) → floor ≡ Some n → HasFloor p now n)
+    → ((j : ℕ) (x : Held) → get_elem? held j ≡ some x → IsHeldBy e p now x) → PassFits e p now
+section_fits e p q opened standing floor held f loaded stands closed low rows = record {
   shape = f.shape;
   number = f.number;
   seen = f.seen;
@@ -192,12 +190,17 @@ rows_fit e p q floor held f closed low rows = record {
   begun = f.begun;
   risen = f.risen;
   epoch = f.epoch;
-  loaded = f.loaded;
-  standing = λ o is. let h = f.standing o is in record { seen = h.seen; opened = h.opened };
+  loaded = loaded;
+  standing = stands;
   closed = closed;
   floor = low;
   held = rows;
 }
+
+-- the rows of a section
+rows_fit : (e : ℕ → Extent) (p : PenPart) (q : PassPart) (floor : Option ℕ) (held : List Held) → PassFits e p q → (q.standing ≡ None → floor ≡ None) → ((n : ℕ) → floor ≡ Some n → HasFloor p (record q { floor = floor; held = held }) n)
+    → ((j : ℕ) (x : Held) → get_elem? held j ≡ some x → IsHeldBy e p (record q { floor = floor; held = held }) x) → PassFits e p (record q { floor = floor; held = held })
+rows_fit e p q floor held f closed low rows = section_fits e p q q.opened q.standing floor held f f.loaded (λ o is. let h = f.standing o is in record { seen = h.seen; opened = h.opened }) closed low rows
 
 -- ---- the numbers of calls that ended and that have begun
 
@@ -236,7 +239,7 @@ beguns told slots by me is s r₀ _ at _ =
     let f : PassFits r.extents p q = (r.each by me.0 at).passes q is in
     let n : ℕ = slice_index s.words begun_at in
     let begun : n ≡ begun_by p = r.words.begun in
-    let more = begins_length q.seen p.history f.seen in let all = history_begun p r.sound.history in
+    let more = begins_long q.seen p.history f.seen in let all = history_begun p r.sound.history in
     let q' : PassPart = record q { begun = n } in
     let fits = begun_fits r.extents p q n f begun in (
       record me.0 { pass = Some q' },
@@ -252,42 +255,13 @@ beguns told slots by me is s r₀ _ at _ =
 -- ---- sections
 
 opened_fits : (e : ℕ → Extent) (p : PenPart) (q : PassPart) → PassFits e p q → PassFits e p (opened_section q)
-opened_fits e p q f = record {
-  shape = f.shape;
-  number = f.number;
-  seen = f.seen;
-  mine = f.mine;
-  all = f.all;
-  ended = f.ended;
-  over = f.over;
-  begun = f.begun;
-  risen = f.risen;
-  epoch = f.epoch;
-  loaded = λ h has mine. Contains-append_left q.opened (q.epoch ∷ []) h.epoch (f.loaded h has mine);
-  standing = λ o is. subst (IsOpenAt (opened_section q)) (let same : q.epoch ≡ o = cc in same) record { seen = let a = f.epoch in let b = f.ended in omega arith; opened = Contains-push q.opened q.epoch };
-  closed = λ is. refl;
-  floor = λ n is. let none : None ≡ Some n = is in absurd cc;
-  held = λ j x at. absurd (some-ne-none x (sym at));
-}
+opened_fits e p q f = section_fits e p q (opened_section q).opened (Some q.epoch) None [] f
+    (λ h has mine. Contains-append_left q.opened (q.epoch ∷ []) h.epoch (f.loaded h has mine))
+    (λ o is. subst (IsOpenAt (opened_section q)) (let same : q.epoch ≡ o = cc in same) record { seen = let a = f.epoch in let b = f.ended in omega arith; opened = Contains-push q.opened q.epoch })
+    (λ is. refl) (λ n is. absurd (none-some n is)) (λ j x at. absurd (some-ne-none x (sym at)))
 
 closed_fits : (e : ℕ → Extent) (p : PenPart) (q : PassPart) → PassFits e p q → PassFits e p (closed_section q)
-closed_fits e p q f = record {
-  shape = f.shape;
-  number = f.number;
-  seen = f.seen;
-  mine = f.mine;
-  all = f.all;
-  ended = f.ended;
-  over = f.over;
-  begun = f.begun;
-  risen = f.risen;
-  epoch = f.epoch;
-  loaded = f.loaded;
-  standing = λ o is. let none : None ≡ Some o = is in absurd cc;
-  closed = λ is. refl;
-  floor = λ n is. let none : None ≡ Some n = is in absurd cc;
-  held = λ j x at. absurd (some-ne-none x (sym at));
-}
+closed_fits e p q f = section_fits e p q q.opened None None [] f f.loaded (λ o is. absurd (none-some o is)) (λ is. refl) (λ n is. absurd (none-some n is)) (λ j x at. absurd (some-ne-none x (sym at)))
 
 opening_here : (told : Told) (slots by : ℕ) (me : M) (new : ℕ) → HasPass me.0 → new ≡ 2 * (pass_of me.0).epoch + 1
     → Allows (IsKept told) slots by me (section_at (pass_of me.0).number) (λ _. new) (λ _. opens_section (step slots (section_at (pass_of me.0).number) new 0 none) me new)
@@ -343,16 +317,16 @@ comes_to e p q x n f holds stands low since seen met clear was = rows_fit e p q 
 root_fits : (e : ℕ → Extent) (p : PenPart) (q : PassPart) (x : Held) (floor : Option ℕ) → IsSound e p → PassFits e p q → (q.standing ≡ None → ⊥) → q.floor ≡ floor → x.since ≡ length p.history → x.met ≡ length p.history
     → HoldsRow p.shape.kind (state_in p) e (moment_at p.shape p.history) x → PassFits e p (record q { seen = p.history; floor = floor_or floor (length p.history); held = x ∷ q.held })
 root_fits e p q x None sound f stands was since met holds =
-    let more = begins_length q.seen p.history f.seen in let count = sound.history.count in
+    let more = begins_long q.seen p.history f.seen in let count = sound.history.count in
     comes_to e p (record q { seen = p.history }) x (length p.history) (sees_fits e p q f) holds stands (opened_before q.standing refl) (omega arith) (omega arith) (omega arith)
     (let a = f.number in let b = sound.history.dealt in let c = sound.cleared q.number (omega arith) in omega arith)
     (λ m is. let none : None ≡ Some m = sym was ∙ is in absurd cc)
   where
     opened_before : (standing : Option ℕ) → q.standing ≡ standing → IfSome standing (λ o. o ≤ length p.history)
     opened_before None is = tt
-    opened_before (Some o) is = let a = (f.standing o is).seen in let more = begins_length q.seen p.history f.seen in omega arith
+    opened_before (Some o) is = let a = (f.standing o is).seen in let more = begins_long q.seen p.history f.seen in omega arith
 root_fits e p q x (Some n) sound f stands was since met holds =
-    let more = begins_length q.seen p.history f.seen in
+    let more = begins_long q.seen p.history f.seen in
     let h = f.floor n was in let a = h.seen in
     comes_to e p (record q { seen = p.history }) x n (sees_fits e p q f) holds stands h.epoch (omega arith) (omega arith) (omega arith) h.cleared (λ m is. let same : Some m ≡ Some n = sym is ∙ was in cc)
 
@@ -630,7 +604,7 @@ parents told slots by me word is s r₀ _ at _ =
     let p : PenPart = part_by told s r₀ by me.0 at q is in
     let r : IsKept told s = kept_by told s r₀ by me.0 at q is in
     let f : PassFits r.extents p q = (r.each by me.0 at).passes q is in
-    let more = begins_length q.seen p.history f.seen in
+    let more = begins_long q.seen p.history f.seen in
     let q' : PassPart = record q { seen = p.history; risen = begun_by p } in (
       record me.0 { pass = Some q' },
       keeps,

@@ -5,6 +5,7 @@ use Rattle.std.specs.List.{AllByRecursion, Contains}
 use Rattle.mt_base.specs.declared.replies.Holder.{Holder}
 use Rattle.mt_base.specs.History.{Record, IsAnswered, IsLegal, last_map, limits_after, map_at}
 use Rattle.mt_base.specs.Passes.{holder_of, places}
+use Rattle.mt_base.proofs.Goings.{begins_long}
 use Rattle.mt_life.specs.declared.views.Extent.{Extent}
 use Rattle.mt_life.specs.declared.views.Held.{Held}
 use Rattle.mt_life.specs.Known.{calls}
@@ -18,7 +19,7 @@ use Rattle.mt_rule.specs.declared.views.PassPart.{PassPart}
 use Rattle.mt_rule.specs.Rule.{begun_by, IsHeldBy, IsOneHistory, IsSound, PassFits}
 use Rattle.mt_rule.specs.Seats.{moment_at, record_of, records_of, rooted_in, state_in, tree_of}
 use Rattle.mt_rule.specs.Steps.{pass_recorded}
-use Rattle.mt_rule.proofs.Beginnings.{all_more, begins_length, legal_next, places_mine, places_other}
+use Rattle.mt_rule.proofs.Beginnings.{all_more, legal_next, places_mine, places_other}
 use Rattle.mt_rule.proofs.Carrying.{Carries, Stays, least_low, shaped_as}
 use Rattle.mt_rule.proofs.Moments.{map_now}
 
@@ -60,7 +61,7 @@ module _ (e e' : ℕ → Extent) (p n : PenPart) (q : PassPart) (m : Moment) (so
   longer = omega (arith, length-append p.history (m ∷ []))
 
   short : length q.seen ≤ length p.history
-  short = begins_length q.seen p.history f.seen
+  short = begins_long q.seen p.history f.seen
 
   pub own_places : places q.number (records_of seen) ≡ q.mine ++ (p.ended + 1) ∷ []
   own_places =

@@ -1,11 +1,13 @@
 -- Lists of views of which one or two change, and the parts of a view.
-use Rattle.std.proofs.Common.{◌≡◌, ◌≢◌, ◌⊎◌, ℕ, zero, suc, ◌≤◌, ◌==◌, List, [], ◌∷◌, ◌++◌, true≢false, length, set, refl, sym, ap, ◌∙◌, subst, inl, inr, ⊎_elim, arith, length-set, Some, None}
-use Rattle.std.specs.Prelude.{if◌then◌else◌, is_some}
+use Rattle.std.proofs.Common.{◌≡◌, ◌≢◌, ◌⊎◌, ℕ, zero, suc, ◌≤◌, ◌==◌, List, [], ◌∷◌, ◌++◌, length, set, refl, sym, ap, ◌∙◌, subst, inl, inr, ⊎_elim, arith, length-set, Some}
+use Rattle.std.specs.Prelude.{if◌then◌else◌}
 use Rattle.std.proofs.lemmas.Bool.{ne_eqb, eq-eqb}
+use Rattle.std.proofs.lemmas.Option.{none-some}
 use mathlib.Core.Option.{some, some-ne-none, some-injective}
 use lib.ListN.{get_elem?}
 use Rattle.atomic_table.proofs.Lists.{at_set}
 use Rattle.mt_base.specs.Passes.{Begins}
+use Rattle.mt_base.proofs.Goings.{begins_long}
 use Rattle.mt_life.specs.declared.views.Extent.{Extent}
 use Rattle.mt_rule.specs.declared.views.View.{View}
 use Rattle.mt_rule.specs.declared.views.PenPart.{PenPart}
@@ -14,7 +16,7 @@ use Rattle.mt_rule.specs.declared.views.NotePart.{NotePart}
 use Rattle.mt_rule.specs.declared.views.Moment.{Moment}
 use Rattle.mt_rule.specs.Seats.{pen_or, pass_or, note_or, no_view}
 use Rattle.mt_rule.specs.Rule.{PassFits, ViewFits}
-use Rattle.mt_rule.proofs.Beginnings.{begins_length, places_within}
+use Rattle.mt_rule.proofs.Beginnings.{places_within}
 
 -- ---- lists of views
 
@@ -68,15 +70,6 @@ pass_is p q e = ap pass_or e
 pub note_is : (p q : NotePart) → Some p ≡ Some q → p ≡ q
 note_is p q e = ap note_or e
 
-pub no_pen : (q : PenPart) → None ≡ Some q → ⊥
-no_pen q e = true≢false (sym (ap is_some e))
-
-pub no_pass : (q : PassPart) → None ≡ Some q → ⊥
-no_pass q e = true≢false (sym (ap is_some e))
-
-pub no_note : (q : NotePart) → None ≡ Some q → ⊥
-no_note q e = true≢false (sym (ap is_some e))
-
 -- ---- owners of numbers
 
 -- the pass number k belongs to the seat j
@@ -102,11 +95,11 @@ stays pen owner extents p words k from to j u is apart f = record {
 
 pub nothing_fits : (pen : ℕ) (owner : ℕ → ℕ) (extents : ℕ → Extent) (p : PenPart) (words : List ℕ) (j : ℕ) → ViewFits pen owner extents p words j no_view
 nothing_fits pen owner extents p words j = record {
-  keeper = λ q k. absurd (no_pen q k);
-  at = λ q k. absurd (no_pass q k);
-  section = λ q k. absurd (no_pass q k);
-  passes = λ q k. absurd (no_pass q k);
-  notes = λ n k. absurd (no_note n k);
+  keeper = λ q k. absurd (none-some q k);
+  at = λ q k. absurd (none-some q k);
+  section = λ q k. absurd (none-some q k);
+  passes = λ q k. absurd (none-some q k);
+  notes = λ n k. absurd (none-some n k);
 }
 
 -- ---- a pass that has seen more of the history
@@ -116,7 +109,7 @@ module _ (extents : ℕ → Extent) (p : PenPart) (q : PassPart) (seen : List Mo
   Q = record q { seen = seen; ended = ended }
 
   longer : length q.seen ≤ length seen
-  longer = begins_length q.seen seen more
+  longer = begins_long q.seen seen more
 
   pub seen_fits : Begins seen p.history → q.ended ≤ ended → ended ≤ length seen → ended ≤ p.ended → PassFits extents p (record q { seen = seen; ended = ended })
   seen_fits whole grows seen_all over = record {

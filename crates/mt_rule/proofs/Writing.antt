@@ -1,11 +1,10 @@
 -- The pen's loads, and its stores that publish nothing, keep the rule and tell what they are said to tell.
-use Rattle.std.proofs.Common.{◌≡◌, ◌≢◌, ℕ, ◌+◌, ◌<◌, ◌≤◌, List, set, refl, sym, ap, ◌∙◌, subst, ⊎_elim, arith}
+use Rattle.std.proofs.Common.{◌≡◌, ℕ, ◌+◌, ◌<◌, ◌≤◌, List, set, refl, sym, ap, ◌∙◌, subst, arith}
 use mathlib.Core.Option.{some, none}
 use lib.ListN.{get_elem?}
 use lib.Seq.{set-get_or}
 use Rattle.std.specs.Prelude.{slice_index, slice_set}
 use Rattle.atomic_table.specs.Table.{Me, step, keeps, Allows}
-use Rattle.atomic_table.proofs.Lists.{at_set}
 use Rattle.mt_base.specs.declared.widths.Width.{Width}
 use Rattle.mt_base.specs.declared.widths.Width.TheVariants.{Long}
 use Rattle.mt_base.specs.Width.{kind_width, columns, first_row}
@@ -22,7 +21,8 @@ use Rattle.mt_rule.specs.Seats.{HasPen, pen_of, rooted_in, shape_told}
 use Rattle.mt_rule.specs.Tokens.{Identity, identity_of, IsPenOf, pen_in}
 use Rattle.mt_rule.specs.Rule.{IsKept, ViewFits}
 use Rattle.mt_rule.specs.Steps.{looks, looks_at_root}
-use Rattle.mt_rule.proofs.Carrying.{St, recast}
+use Rattle.mt_rule.proofs.Carrying.{St, recast, reseated}
+use Rattle.mt_rule.proofs.Viewing.{each_set}
 
 abbrev pub M : Type 0
 M = Me (Unit {0}) View
@@ -76,19 +76,8 @@ column_of t pen row col i of place at =
 -- a word is as it was, and so is a view
 pub unchanged : (told : Told) (s : St) (r : IsKept told s) (by : ℕ) (v : View) → get_elem? s.views by ≡ some v → (i : ℕ)
     → IsKept told record { words = slice_set s.words i (slice_index s.words i); homes = s.homes; views = set s.views by v }
-unchanged told s r by v at i = subst (λ (words : List ℕ). IsKept told record { words = words; homes = s.homes; views = set s.views by v }) (sym (set-get_or s.words i 0)) (record {
-  pen = r.pen;
-  owner = r.owner;
-  extents = r.extents;
-  part = r.part;
-  shaped = r.shaped;
-  sound = r.sound;
-  words = r.words;
-  each = λ j u is. ⊎_elim
-      (λ (x : (j ≡ by) × (v ≡ u)). subst (λ (y : ℕ × View). ViewFits r.pen r.owner r.extents r.part s.words y.0 y.1) (λ i. (sym x.0 i, x.1 i)) (r.each by v at))
-      (λ (x : (j ≢ by) × (get_elem? s.views j ≡ some u)). r.each j u x.1)
-      (at_set s.views by j v u is);
-})
+unchanged told s r by v at i = subst (λ (words : List ℕ). IsKept told record { words = words; homes = s.homes; views = set s.views by v }) (sym (set-get_or s.words i 0))
+    (reseated s r r.owner r.words (each_set (ViewFits r.pen r.owner r.extents r.part s.words) s.views by v (λ j u _ e. r.each j u e) (r.each by v at)))
 
 pub looking : (told : Told) (slots by : ℕ) (me : M) (word : ℕ) → HasPen me.0 → rows_at (kind_width (pen_of me.0).shape.kind) ≤ word → Allows (IsKept told) slots by me word (λ n. n) (looks (step slots word 0 0 none) me)
 looking told slots by me word has high s r₀ _ at _ =

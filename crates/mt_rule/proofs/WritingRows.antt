@@ -37,7 +37,7 @@ use Rattle.mt_rule.specs.Places.{column_at, rows_at, size_of}
 use Rattle.mt_rule.specs.Seats.{HasPen, pen_of, least_of, moment_at, rooted_in, sheet_of, state_in}
 use Rattle.mt_rule.specs.Rule.{IsSound, IsKept}
 use Rattle.mt_rule.specs.Steps.{pen_drafted, pen_buried, pen_tended, drafts, finds_drafted, buries, tends}
-use Rattle.mt_rule.proofs.Carrying.{recast, carry, carries_life, stays_put, column_set, sections_set}
+use Rattle.mt_rule.proofs.Carrying.{recast, carry, carries_life, stays_put, still_history, column_set, sections_set}
 use Rattle.mt_rule.proofs.Writing.{M, unchanged}
 
 -- ---- which rows are reached
@@ -104,7 +104,7 @@ pub written_sound : (e : ℕ → Extent) (p : PenPart) (words : List ℕ) (lives
     Known p.shape.kind (state_in n) e (moment_at p.shape p.history) → IsTreeOf (rooted_in n) p.shape.kind → LiveAreReached (rooted_in n) lives
     → length words ≡ length p.words → length lives ≡ length p.lives → length burials ≡ length p.buried → ((row : ℕ) → HasDied p.ended p.in_flight (life_of lives row)) → IsSound e n
 written_sound e p words lives burials sound known tree live long all marks dead = record {
-  history = (let h = sound.history in record { dealt = h.dealt; callers = h.callers; named = h.named; loaded = h.loaded; count = h.count; calm = h.calm; few = h.few; legal = h.legal });
+  history = (let h = sound.history in still_history p (record p { words = words; lives = lives; buried = burials }) h h.count h.calm h.few);
   known = known;
   tree = tree;
   live = live;

@@ -1,10 +1,11 @@
 -- A load of a section word: what the pen then knows of the pass's reach.
-use Rattle.std.proofs.Common.{◌≡◌, ◌≢◌, ◌⊎◌, ℕ, zero, suc, ◌+◌, ◌*◌, ◌/◌, ◌<◌, ◌≤◌, List, [], ◌∷◌, true≢false, length, set, refl, sym, ap, ◌∙◌, subst, inl, inr, ⊎_elim, arith, length-set, get_or-set_other, get_or-set_same, Option, Some, None, max}
+use Rattle.std.proofs.Common.{◌≡◌, ◌≢◌, ◌⊎◌, ℕ, zero, suc, ◌+◌, ◌*◌, ◌/◌, ◌<◌, ◌≤◌, List, [], ◌∷◌, length, set, refl, sym, ap, ◌∙◌, subst, inl, inr, ⊎_elim, arith, length-set, get_or-set_other, get_or-set_same, Option, Some, None, max}
 use mathlib.Core.Option.{none}
 use lib.Seq.{set-get_or}
-use Rattle.std.specs.Prelude.{slice_index, slice_set, is_some, IfSome}
+use Rattle.std.specs.Prelude.{slice_index, slice_set, IfSome}
 use Rattle.std.specs.List.{Contains}
 use Rattle.std.proofs.lemmas.Bool.{cases_eq, ne_eqb}
+use Rattle.std.proofs.lemmas.Option.{IfSome_then, none-some}
 use Rattle.atomic_table.specs.Table.{step, keeps, Allows}
 use Rattle.mt_base.specs.declared.replies.Holder.{Holder}
 use Rattle.mt_base.specs.History.{Record}
@@ -22,7 +23,7 @@ use Rattle.mt_rule.specs.Places.{section_at, section_word, IsSectionWord}
 use Rattle.mt_rule.specs.Seats.{HasPen, pen_of, pass_of, least_of, moment_at, records_of, state_in}
 use Rattle.mt_rule.specs.Rule.{IsOneHistory, IsSound, PassFits, WordsFit, IsKept}
 use Rattle.mt_rule.specs.Steps.{raised, with_loaded, pen_scanned, loads_section}
-use Rattle.mt_rule.proofs.Carrying.{Stays, recast, carry, carries_life}
+use Rattle.mt_rule.proofs.Carrying.{Stays, recast, carry, carries_life, still_sound}
 use Rattle.mt_rule.proofs.Writing.{M}
 
 -- ---- the least of numbers of which one rises
@@ -65,10 +66,6 @@ newest x xs = (zero, omega arith, refl)
 either : {X : Type 0} (x y : X) (xs : List X) → Contains (x ∷ xs) y → (x ≡ y) ⊎ Contains xs y
 either x y xs (zero, low, is) = inl is
 either x y xs (suc k, low, is) = inr (k, omega arith, is)
-
-if_more : {X : Type 0} (P Q : X → Type 0) → ((x : X) → P x → Q x) → (o : Option X) → IfSome o P → IfSome o Q
-if_more P Q f None is = tt
-if_more P Q f (Some x) is = f x is
 
 -- ---- what the pen knows then
 
@@ -131,7 +128,7 @@ module _ (e : ℕ → Extent) (p : PenPart) (k found : ℕ) (words : List ℕ) (
     dealt = h.dealt;
     callers = h.callers;
     named = all_map (λ (r : Record). IfSome (holder_of r.reply) (Contains p.loaded)) (λ (r : Record). IfSome (holder_of r.reply) (Contains N.loaded))
-        (λ r named. if_more (Contains p.loaded) (Contains N.loaded) more (holder_of r.reply) named) (records_of p.history) h.named;
+        (λ r named. IfSome_then (holder_of r.reply) {P = Contains p.loaded} {Q = Contains N.loaded} named more) (records_of p.history) h.named;
     loaded = λ x has. ⊎_elim
         (λ (new : IsNew x). subst (λ (y : Holder). y.pass < p.dealt) new.2 (dealt_open new.0 new.1))
         (λ (old : Contains p.loaded x). h.loaded x old)
@@ -146,24 +143,10 @@ module _ (e : ℕ → Extent) (p : PenPart) (k found : ℕ) (words : List ℕ) (
   life = raise_turns p.shape.kind (state_in p) (least_of N.cleared) e (moment_at p.shape p.history) (least_up p.cleared k now up) sound.known
 
   pub scanned_sound : IsSound e N
-  scanned_sound = record {
-    history = scanned_history;
-    known = life.0;
-    tree = sound.tree;
-    live = sound.live;
-    rows = sound.rows;
-    words = sound.words;
-    lives = sound.lives;
-    buried = sound.buried;
-    dead = sound.dead;
-    some_pass = sound.some_pass;
-    few_passes = sound.few_passes;
-    passes = length-set p.cleared k now ∙ sound.passes;
-    cleared = λ j few. ⊎_elim
-        (λ (same : j ≡ k). subst (λ (i : ℕ). slice_index N.cleared i ≤ p.ended) (sym same) (let new = cleared_here in let most = high in omega arith))
-        (λ (off : j ≢ k). let old = cleared_else j off in let most = sound.cleared j few in omega arith)
-        (cases_eq j k);
-  }
+  scanned_sound = still_sound e p N sound scanned_history life.0 sound.dead (length-set p.cleared k now ∙ sound.passes) (λ j few. ⊎_elim
+      (λ (same : j ≡ k). subst (λ (i : ℕ). slice_index N.cleared i ≤ p.ended) (sym same) (let new = cleared_here in let most = high in omega arith))
+      (λ (off : j ≢ k). let old = cleared_else j off in let most = sound.cleared j few in omega arith)
+      (cases_eq j k))
 
   pub scanned_goes : Goes p.shape.kind (state_in p) (state_in N) e e (moment_at p.shape p.history) (moment_at p.shape p.history)
   scanned_goes = life.1
@@ -201,10 +184,7 @@ module _ (e : ℕ → Extent) (p : PenPart) (k found : ℕ) (words : List ℕ) (
         (cases_eq q.number k)
       where
         by_option : (o : Option ℕ) → q.standing ≡ o → q.number ≡ k → IfSome o (λ epoch. epoch ≤ floor) → found ≡ section_word o → slice_index N.cleared q.number ≤ floor
-        by_option None standing same epoch word = absurd (no_number (sym (f.closed standing) ∙ at))
-          where
-            no_number : None ≡ Some floor → ⊥
-            no_number e = true≢false (sym (ap is_some e))
+        by_option None standing same epoch word = absurd (none-some floor (sym (f.closed standing) ∙ at))
         by_option (Some epoch) standing same under word =
             let old = (f.floor floor at).cleared in
             let before : slice_index p.cleared q.number ≡ slice_index p.cleared k = ap (slice_index p.cleared) same in
