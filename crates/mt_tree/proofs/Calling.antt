@@ -29,14 +29,14 @@ use Rattle.mt_rule.specs.declared.passes.Pass.{Pass}
 use Rattle.mt_rule.specs.declared.views.Shape.{Shape}
 use Rattle.mt_rule.specs.Seats.{record_of, records_of, sheet_of}
 use Rattle.mt_rule.specs.Tokens.{Identity, pass_in}
+use Rattle.mt_rule.proofs.Beginnings.{places_last}
 use Rattle.mt_tree.specs.declared.behind.Tools.{Tools}
 use Rattle.mt_tree.specs.declared.trees.Tree.{Tree}
 use Rattle.mt_tree.specs.Behind.{Behind, behind_of, IsRead, IsReady, IsStored}
 use Rattle.mt_tree.specs.Trees.{map_seen, opened, passes_of, place_of, IsShortNow, NamesPass, WasPrepared}
 use Rattle.mt_tree.specs.Works.{pass_of_told, shown_pass, AreBack}
 use Rattle.mt_tree.proofs.AtWork.{AtWork, count_is, passes_is, told_at, told_is, told_after, told_more, tree_is, map_shown, shape_is, same_parts}
-use Rattle.mt_tree.proofs.NoShortage.{applied_among, applied_other, made_among, made_other, scan_among, scan_other, other_if, IsAmong, IsOther}
-use Rattle.mt_tree.proofs.Places.{places_last}
+use Rattle.mt_tree.proofs.NoShortage.{applied_among, applied_other, made_named, named_if, scan_among, scan_other, IsAmong, IsOther}
 use Rattle.mt_tree.proofs.Reading.{asked}
 
 -- the rows without scans, of no caller
@@ -81,13 +81,13 @@ module _ (t : Tree) (i : Identity) (b : Behind) (p : known.Pass) (e e' : Parts) 
     by_answer answer closed = applied_other e.kind e.sheet e'.sheet e.book e'.book call reply (told_at t i b p e w) answer (told_is t i b p e w) closed
 
     pub by_acts : acted e.kind (map_by e.sheet.tree) call ≡ (map_by e'.sheet.tree, reply) → p.standing ≡ None → IsOther (holder_of reply) p.number
-    by_acts acts closed = made_other e.kind (map_by e.sheet.tree) (map_by e'.sheet.tree) call reply p.number acts
+    by_acts acts closed = made_named (λ holder. holder.pass ≢ p.number) e.kind (map_by e.sheet.tree) (map_by e'.sheet.tree) call reply acts
 
     pub named_by_answer : DidOrLacked e.kind e.sheet e'.sheet e.book e'.book call reply → NamesPass t reply
     named_by_answer answer = subst (λ (n : ℕ). IsAmong (holder_of reply) n) (passes_is t i b p e w) (applied_among e.kind e.sheet e'.sheet e.book e'.book call reply (told_at t i b p e w) answer (told_is t i b p e w))
 
     pub named_by_acts : acted e.kind (map_by e.sheet.tree) call ≡ (map_by e'.sheet.tree, reply) → NamesPass t reply
-    named_by_acts acts = made_among e.kind (map_by e.sheet.tree) (map_by e'.sheet.tree) call reply (passes_of t) acts
+    named_by_acts acts = made_named (λ holder. holder.pass < passes_of t) e.kind (map_by e.sheet.tree) (map_by e'.sheet.tree) call reply acts
 
     pub wrote : (p.standing ≡ None → IfSome (holder_of reply) (λ holder. holder.pass ≢ p.number)) → Wrote (opened t) p number call reply q
     wrote by =
@@ -222,7 +222,7 @@ module _ (t : Tree) (i : Identity) (b : Behind) (p : known.Pass) (e e' : Parts) 
               let stands : p.standing ≡ None = sym (ap (λ (x : known.Pass). x.standing) pass) ∙ closed in
               subst (λ (n : ℕ). IsOther shortage.by n) (sym mine)
               (subst (λ (o : Option Holder). IsOther o p.number) (sym is.counted.by)
-              (other_if e'.sheet.scan.by p.number shortage.held (scan_other e.sheet.shared e'.sheet (told_at t i b p e w) e.sheet.told scan.answer (told_is t i b p e w) stands)));
+              (named_if (λ holder. holder.pass ≢ p.number) e'.sheet.scan.by shortage.held (scan_other e.sheet.shared e'.sheet (told_at t i b p e w) e.sheet.told scan.answer (told_is t i b p e w) stands)));
         }
 
     pub shorts : (result : Result (Unit {0}) Shortage) → IfErr result (λ shortage. IsShortOf e'.sheet e'.book shortage) → IfErr result (λ shortage. IsShortNow t q b (behind_of tools) shortage)

@@ -7,7 +7,6 @@ pub mod Lending
 pub mod Lists
 pub mod NoShortage
 pub mod Opening
-pub mod Places
 pub mod Reading
 pub mod Settling
 pub mod Showing
