@@ -9,6 +9,7 @@ use Rattle.mt_base.specs.declared.calls.Query.TheVariants.{Find, Next}
 use Rattle.mt_base.specs.Call.{answer}
 use Rattle.mt_base.specs.Map.{IsMap}
 use Rattle.mt_base.specs.Width.{greatest_of}
+use Rattle.mt_base.proofs.Goings.{begins_long}
 use Rattle.mt_layout.specs.Spans.{Fills}
 use Rattle.mt_life.specs.declared.views.Held.{Held}
 use Rattle.mt_life.specs.Holding.{Snapshot, copy_of}
@@ -18,7 +19,6 @@ use Rattle.mt_rule.specs.Sections.{LoadedParent, here, moment_seen, spans_here}
 use Rattle.mt_read.specs.declared.descent.Place.{Place}
 use Rattle.mt_read.specs.Answers.{Answers, AnswersBy}
 use Rattle.mt_read.specs.Walks.{GoesOn, IsPlaceIn}
-use Rattle.mt_read.proofs.Finding.{begins_length}
 use Rattle.mt_read.proofs.Keeping.{answers_later}
 use Rattle.mt_read.proofs.NextAnswers.{next_is, none_behind}
 use Rattle.mt_read.proofs.Reading.{answers_from, nothing_found, nothing_is_a_map}
@@ -34,7 +34,7 @@ pub nothing_by : (q q' : PassPart) → GoesOn q q' → (moment_seen q' (length q
 nothing_by q q' goes empty x index = record {
   answers = record {
     k = length q'.seen;
-    low = begins_length q.seen q'.seen goes.seen;
+    low = begins_long q.seen q'.seen goes.seen;
     high = omega arith;
     map = nothing_is_a_map q'.shape.kind _ empty;
     is = nothing_found index (greatest_of q.shape.kind) ∙ ap (λ (m : List Range). answer m (Find index (greatest_of q.shape.kind))) (sym empty);
@@ -45,7 +45,7 @@ nothing_by q q' goes empty x index = record {
 pub nexts_nothing : (q q' : PassPart) → GoesOn q q' → (moment_seen q' (length q'.seen)).ranges ≡ [] → (index : ℕ) → Answers q' (length q.seen) (Next index (greatest_of q.shape.kind)) None
 nexts_nothing q q' goes empty index = record {
   k = length q'.seen;
-  low = begins_length q.seen q'.seen goes.seen;
+  low = begins_long q.seen q'.seen goes.seen;
   high = omega arith;
   map = nothing_is_a_map q'.shape.kind _ empty;
   is = ap (λ (m : List Range). answer m (Next index (greatest_of q.shape.kind))) (sym empty);

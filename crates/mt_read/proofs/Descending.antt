@@ -10,6 +10,7 @@ use Rattle.mt_base.specs.declared.widths.Width.{Width}
 use Rattle.mt_base.specs.declared.widths.Width.TheVariants.{Long}
 use Rattle.mt_base.specs.Width.{greatest_of, kind_width}
 use Rattle.mt_base.proofs.Lists.{get_parts}
+use Rattle.mt_base.proofs.Goings.{begins_on}
 use Rattle.mt_layout.specs.declared.names.RowKind.{RowKind}
 use Rattle.mt_layout.specs.declared.names.RowKind.TheVariants.{Leaf, Inner, Gapped}
 use Rattle.mt_layout.specs.declared.spans.Span.{Span}
@@ -30,7 +31,7 @@ use Rattle.mt_read.specs.declared.descent.Place.{Place}
 use Rattle.mt_read.specs.Walks.{GoesOn, IsOn, IsPlaceIn, IsUnder, SeesMore}
 use Rattle.mt_life.proofs.Slots.{span_in_slot}
 use Rattle.mt_life.specs.Holding.{copy_of}
-use Rattle.mt_read.proofs.Finding.{begins_on, count_is, slots_counted}
+use Rattle.mt_read.proofs.Finding.{count_is, slots_counted}
 
 -- ---- leaves and inner rows
 

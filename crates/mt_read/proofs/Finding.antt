@@ -1,11 +1,10 @@
 -- How a slot is found in the row that a section is at.
-use Rattle.std.proofs.Common.{◌≡◌, ℕ, ◌+◌, ◌-◌, ◌<◌, ◌≤◌, List, ◌++◌, length, Some, sym, ap, ◌∙◌, subst, arith, append_assoc, ◌*◌}
+use Rattle.std.proofs.Common.{◌≡◌, ℕ, ◌+◌, ◌-◌, ◌<◌, ◌≤◌, List, Some, sym, ap, ◌∙◌, subst, arith, ◌*◌}
 use Rattle.std.specs.Prelude.{slice_index}
 use Rattle.std.specs.List.{slice_get}
-use Rattle.std.proofs.lemmas.List.{length-append}
 use Rattle.mt_base.specs.declared.widths.Width.{Width}
-use Rattle.mt_base.specs.Passes.{Begins}
 use Rattle.mt_base.specs.Width.{kind_width, columns}
+use Rattle.mt_base.proofs.Goings.{begins_long, begins_on}
 use Rattle.mt_layout.specs.declared.spans.Span.{Span}
 use Rattle.mt_layout.specs.Columns.{pivot_column, items_from}
 use Rattle.mt_layout.specs.Sizes.{slots_of, gaps_of}
@@ -26,14 +25,6 @@ use Rattle.mt_read.specs.declared.descent.Row.{Row}
 use Rattle.mt_read.specs.declared.descent.Place.{Place}
 use Rattle.mt_read.specs.Walks.{IsOn, IsPlaceIn, SeesMore}
 
--- ---- beginnings
-
-pub begins_on : {A : Type 0} (xs ys zs : List A) → Begins xs ys → Begins ys zs → Begins xs zs
-begins_on xs ys zs b c = (b.0 ++ c.0, c.1 ∙ (ap (λ (l : List _). l ++ c.0) b.1 ∙ append_assoc xs b.0 c.0))
-
-pub begins_length : {A : Type 0} (xs ys : List A) → Begins xs ys → length xs ≤ length ys
-begins_length xs ys b = let long = ap length b.1 ∙ length-append xs b.0 in omega arith
-
 -- ---- the pass has only seen more
 
 pub sees_on : (q q' q'' : PassPart) → SeesMore q q' → SeesMore q' q'' → SeesMore q q''
@@ -41,7 +32,7 @@ sees_on q q' q'' s t = record { is = t.is ∙ ap (λ (z : PassPart). with_seen z
 
 pub on_more : (q q' : PassPart) (row : Row) → SeesMore q q' → IsOn q row → IsOn q' row
 on_more q q' row s on =
-    let long = begins_length q.seen q'.seen s.seen in let met = on.met in
+    let long = begins_long q.seen q'.seen s.seen in let met = on.met in
     subst (λ (z : PassPart). IsOn z row) (sym s.is) (record {
       at = on.at;
       number = on.number;

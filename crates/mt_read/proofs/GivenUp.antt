@@ -7,6 +7,7 @@ use Rattle.mt_base.specs.declared.calls.Query.TheVariants.{Next, Prev, Rfind}
 use Rattle.mt_base.specs.Map.{IsMap}
 use Rattle.mt_base.specs.Passes as known
 use Rattle.mt_base.specs.Width.{greatest_of}
+use Rattle.mt_base.proofs.Goings.{begins_long}
 use Rattle.mt_rule.specs.declared.views.PassPart.{PassPart}
 use Rattle.mt_rule.specs.Seats.{known_by, record_of}
 use Rattle.mt_rule.specs.Sections.{moment_seen}
@@ -15,7 +16,6 @@ use Rattle.mt_read.specs.Answers.{Answers, within}
 use Rattle.mt_read.specs.Neighbours.{WasMoved, not_below}
 use Rattle.mt_read.specs.Walks.{GoesOn}
 use Rattle.mt_read.specs.Windows.{Began, Ended}
-use Rattle.mt_read.proofs.Finding.{begins_length}
 use Rattle.mt_read.proofs.LastAnswers.{prev_within, rfind_within}
 use Rattle.mt_read.proofs.NextAnswers.{next_within}
 use Rattle.mt_read.proofs.Windows.{has_read}
@@ -52,7 +52,7 @@ was_moved t q q₁ q₂ q₃ lo hi of began goes ended risen sound =
     let h = has_read t q q₁ q₂ q₃ lo hi of began goes ended in
     let begun : q₂.begun ≡ q.begun = ap (λ (z : PassPart). z.begun) goes.is ∙ ap (λ (z : PassPart). z.begun) began.is in
     let before = ended.before in let most = began.most in let least = began.least in let top = ended.risen in
-    let first = begins_length q.seen q₁.seen began.seen in let long = length-map q.seen record_of in
+    let first = begins_long q.seen q₁.seen began.seen in let long = length-map q.seen record_of in
     subst (λ (z : known.Pass). WasMoved (tree_in t) (known_by q) lo hi z) (sym h.pass) (record {
       grows = record { number = refl; seen = h.seen; mine = refl; opened = (lo ∷ [], refl); begun = omega arith; ended = began.before };
       floor = omega arith;

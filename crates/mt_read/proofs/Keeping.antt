@@ -7,6 +7,7 @@ use Rattle.mt_base.specs.Call.{answer}
 use Rattle.mt_base.specs.Map.{IsMap}
 use Rattle.mt_base.specs.Passes.{Begins}
 use Rattle.mt_base.specs.Width.{kind_width}
+use Rattle.mt_base.proofs.Goings.{begins_long}
 use Rattle.mt_life.specs.declared.views.Held.{Held}
 use Rattle.mt_life.specs.declared.views.Moment as life
 use Rattle.mt_rule.specs.declared.views.Moment.{Moment}
@@ -19,7 +20,6 @@ use Rattle.mt_read.specs.declared.cursor.KeptLeaf.{KeptLeaf}
 use Rattle.mt_read.specs.Answers.{Answers, LeafAnswers}
 use Rattle.mt_read.specs.Cursors.{IsKept}
 use Rattle.mt_read.specs.Walks.{GoesOn, IsOnLeaf, IsUnder}
-use Rattle.mt_read.proofs.Finding.{begins_length}
 use Rattle.mt_read.proofs.Descending.{goes_by}
 use Rattle.mt_read.proofs.Moments.{moment_stays}
 
@@ -41,7 +41,7 @@ module _ (q q' : PassPart) (seen : List Moment) (begun ended epoch risen : ℕ) 
 -- the number of calls that the pass has seen before, and after: an answer of these is an answer still
 pub answers_later : (q q' : PassPart) (least : ℕ) (query : Query) (value : Option Range) → q'.shape ≡ q.shape → Begins q.seen q'.seen → Answers q least query value → Answers q' least query value
 answers_later q q' least query value shape b a =
-    let long = begins_length q.seen q'.seen b in let high = a.high in
+    let long = begins_long q.seen q'.seen b in let high = a.high in
     let stays = moment_stays q q' a.k shape b a.high in
     record {
       k = a.k;
@@ -59,7 +59,7 @@ module _ (q q' : PassPart) (word found : ℕ) (told : LoadedParent word found q 
   parent_shape = ap (λ (z : PassPart). z.shape) told.reads.is
 
   pub leaf_parent : (leaf : Row) → IsOnLeaf q leaf → IsOnLeaf q' leaf
-  leaf_parent leaf at = leaf_around q q' q'.seen q.begun q.ended q.epoch q'.risen told.reads.is (begins_length q.seen q'.seen told.reads.seen) leaf at
+  leaf_parent leaf at = leaf_around q q' q'.seen q.begun q.ended q.epoch q'.risen told.reads.is (begins_long q.seen q'.seen told.reads.seen) leaf at
 
   pub parent_tells : (row : ℕ) → IsAt q → word ≡ column_at (kind_width q.shape.kind) row 0 → row ≡ (here q).row → ParentTells q' (here q) found
   parent_tells row at is same = told.tells 0 (here q) at (is ∙ ap (λ (r : ℕ). column_at (kind_width q.shape.kind) r 0) same)

@@ -11,6 +11,7 @@ use Rattle.mt_base.specs.Call.{answer}
 use Rattle.mt_base.specs.Map.{IsMap}
 use Rattle.mt_base.specs.Width.{greatest, greatest_of, kind_width}
 use Rattle.mt_base.proofs.Lists.{get_parts, all_back}
+use Rattle.mt_base.proofs.Goings.{begins_long}
 use Rattle.mt_layout.specs.declared.spans.Span.{Span}
 use Rattle.mt_layout.specs.Spans.{Fills, EndsFull, leaf_range}
 use Rattle.mt_layout.proofs.SpanLists.{fills_split, full_back, none_filled}
@@ -27,7 +28,6 @@ use Rattle.mt_read.specs.Answers.{Answers, AnswersBy, LeafAnswers}
 use Rattle.mt_read.specs.Walks.{GoesOn, IsPlaceIn, IsSameHold, SeesMore, WasRead}
 use Rattle.mt_read.proofs.Crossing.{beside_by}
 use Rattle.mt_read.proofs.Descending.{span_within}
-use Rattle.mt_read.proofs.Finding.{begins_length}
 use Rattle.mt_read.proofs.LastAnswers.{prev_is, prev_none, rfind_all, rfind_hole, rfind_none, rfind_range}
 use Rattle.mt_read.proofs.MapAnswers.{Beside, hole_part, outside, range_part}
 use Rattle.mt_read.proofs.Moments.{moment_stays}
@@ -152,7 +152,7 @@ module _ (q₂ q₃ q₄ : PassPart) (word found : ℕ) (told : LoadedParent wor
   last_by None slot a none =
       let was = none.1 in
       let first = was.read.low in
-      let long = begins_length q₃.seen q₄.seen told.reads.seen in let high = was.read.high in
+      let long = begins_long q₃.seen q₄.seen told.reads.seen in let high = was.read.high in
       let snap = past was.read.k (omega arith) (omega arith) in
       let stays = moment_stays q₃ q₄ was.read.k (ap (λ (z : PassPart). z.shape) told.reads.is) told.reads.seen was.read.high in
       absurd (no_hole q₂ q₃ place x to was level wide (subst (λ (n : life.Moment). Cut n.cuts x.extent.first x.extent.last) stays snap.part.cuts) from upto next small)
@@ -238,7 +238,7 @@ pub lefts_nothing : (q q' : PassPart) → GoesOn q q' → (moment_seen q' (lengt
 lefts_nothing q q' goes empty x index = record {
   answers = record {
     k = length q'.seen;
-    low = begins_length q.seen q'.seen goes.seen;
+    low = begins_long q.seen q'.seen goes.seen;
     high = omega arith;
     map = nothing_is_a_map q'.shape.kind _ empty;
     is = nothing_before _ index empty;
@@ -249,7 +249,7 @@ lefts_nothing q q' goes empty x index = record {
 pub prevs_nothing : (q q' : PassPart) → GoesOn q q' → (moment_seen q' (length q'.seen)).ranges ≡ [] → (index : ℕ) → Answers q' (length q.seen) (Prev index 0) None
 prevs_nothing q q' goes empty index = record {
   k = length q'.seen;
-  low = begins_length q.seen q'.seen goes.seen;
+  low = begins_long q.seen q'.seen goes.seen;
   high = omega arith;
   map = nothing_is_a_map q'.shape.kind _ empty;
   is = ap (λ (m : List Range). answer m (Prev index 0)) (sym empty);

@@ -10,6 +10,7 @@ use Rattle.mt_base.specs.declared.calls.Query.TheVariants.{Load, Find}
 use Rattle.mt_base.specs.Map.{IsMap}
 use Rattle.mt_base.specs.Call.{answer}
 use Rattle.mt_base.specs.Width.{columns, greatest_of, kind_width}
+use Rattle.mt_base.proofs.Goings.{begins_long}
 use Rattle.mt_layout.specs.declared.names.RowKind.TheVariants.{Leaf}
 use Rattle.mt_layout.specs.declared.spans.Span.{Span}
 use Rattle.mt_layout.specs.Columns.{slot_column}
@@ -28,7 +29,6 @@ use Rattle.mt_read.specs.declared.descent.Row.{Row}
 use Rattle.mt_read.specs.declared.descent.Place.{Place}
 use Rattle.mt_read.specs.Answers.{Answers, LeafAnswers}
 use Rattle.mt_read.specs.Walks.{GoesOn, IsOn, IsOnLeaf, IsPlaceIn, IsSameHold, SeesMore, WasRead, range_or_hole}
-use Rattle.mt_read.proofs.Finding.{begins_length}
 use Rattle.mt_read.proofs.Descending.{place_within}
 use Rattle.mt_read.proofs.Standing.{form_on}
 use Rattle.mt_read.proofs.SlotAnswers.{load_entry, load_none, find_entry, find_end, find_behind, behind_in}
@@ -247,7 +247,7 @@ module _ (q q' : PassPart) (goes : GoesOn q q') (empty : (moment_seen q' (length
   pub loads_nothing : (index : ℕ) → Answers q' (length q.seen) (Load index) None
   loads_nothing index = record {
     k = length q'.seen;
-    low = begins_length q.seen q'.seen goes.seen;
+    low = begins_long q.seen q'.seen goes.seen;
     high = omega arith;
     map = nothing_is_a_map q'.shape.kind _ empty;
     is = ap (λ (m : List Range). answer m (Load index)) (sym empty);
@@ -256,7 +256,7 @@ module _ (q q' : PassPart) (goes : GoesOn q q') (empty : (moment_seen q' (length
   pub finds_nothing : (index : ℕ) → Answers q' (length q.seen) (Find index (greatest_of q.shape.kind)) None
   finds_nothing index = record {
     k = length q'.seen;
-    low = begins_length q.seen q'.seen goes.seen;
+    low = begins_long q.seen q'.seen goes.seen;
     high = omega arith;
     map = nothing_is_a_map q'.shape.kind _ empty;
     is = nothing_found index (greatest_of q.shape.kind) ∙ ap (λ (m : List Range). answer m (Find index (greatest_of q.shape.kind))) (sym empty);

@@ -8,6 +8,7 @@ use Rattle.mt_base.specs.declared.calls.Query.TheVariants.{Find}
 use Rattle.mt_base.specs.Call.{answer}
 use Rattle.mt_base.specs.History.{map_at}
 use Rattle.mt_base.specs.Passes as known
+use Rattle.mt_base.proofs.Goings.{begins_long, begins_on}
 use Rattle.mt_rule.specs.declared.views.PassPart.{PassPart}
 use Rattle.mt_rule.specs.declared.views.Shape.{Shape}
 use Rattle.mt_rule.specs.Seats.{known_by, record_of, tree_of}
@@ -15,7 +16,6 @@ use Rattle.mt_rule.specs.Sections.{LoadedBegun, moment_seen}
 use Rattle.mt_rule.specs.Tokens.{Identity, tree_in}
 use Rattle.mt_read.specs.Cursors.{Resumed, epoch_or, opened_with, query_at}
 use Rattle.mt_read.specs.Walks.{GoesOn}
-use Rattle.mt_read.proofs.Finding.{begins_on, begins_length}
 use Rattle.mt_read.proofs.Windows.{begins_records}
 
 -- what the query at a place is
@@ -54,7 +54,7 @@ module _ (t : Identity) (q q₁ q₂ q₃ : PassPart) (lo hi : ℕ) (epoch : Opt
       → (k : ℕ) × known.Read (tree_in t) (known_by q) lo hi k query value (known_by q₃)
   read_step query value k low high is sound =
       let most = resumed.most in let least = resumed.least in let top = begun.seen in
-      let first = begins_length q.seen q₁.seen resumed.seen in
+      let first = begins_long q.seen q₁.seen resumed.seen in
       let long = length-map q.seen record_of in let long₂ = length-map q₂.seen record_of in
       let shape : q₂.shape ≡ t.shape = ap (λ (z : PassPart). z.shape) (middle epoch standing resumed) ∙ of in (
         k,

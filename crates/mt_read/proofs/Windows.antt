@@ -10,6 +10,7 @@ use Rattle.mt_base.specs.History.{map_at}
 use Rattle.mt_base.specs.Map.{IsMap}
 use Rattle.mt_base.specs.Passes as known
 use Rattle.mt_base.specs.Width.{greatest_of}
+use Rattle.mt_base.proofs.Goings.{begins_long, begins_on}
 use Rattle.mt_rule.specs.declared.views.Moment.{Moment}
 use Rattle.mt_rule.specs.declared.views.PassPart.{PassPart}
 use Rattle.mt_rule.specs.declared.views.Shape.{Shape}
@@ -19,7 +20,6 @@ use Rattle.mt_rule.specs.Tokens.{Identity, tree_in}
 use Rattle.mt_read.specs.Answers.{Answers, within}
 use Rattle.mt_read.specs.Walks.{GoesOn}
 use Rattle.mt_read.specs.Windows.{Began, Ended, HasRead}
-use Rattle.mt_read.proofs.Finding.{begins_on, begins_length}
 use Rattle.mt_read.proofs.MapAnswers.{find_within}
 
 pub begins_records : (xs ys : List Moment) → known.Begins xs ys → known.Begins (records_of xs) (records_of ys)
@@ -53,7 +53,7 @@ module _ (t : Identity) (q q₁ q₂ q₃ : PassPart) (lo hi : ℕ) (of : q.shap
 
   pub has_read : HasRead lo hi (known_by q) (known_by q₃)
   has_read =
-      let most = began.most in let grown = begins_length q₁.seen q₂.seen goes.seen in let high = ended.seen in
+      let most = began.most in let grown = begins_long q₁.seen q₂.seen goes.seen in let high = ended.seen in
       let same : q₃.seen ≡ q₂.seen = ap (λ (z : PassPart). z.seen) is_after in
       let long = length-map q₃.seen record_of in
       let long₂ = ap (length {A = Moment}) same in
@@ -66,7 +66,7 @@ module _ (t : Identity) (q q₁ q₂ q₃ : PassPart) (lo hi : ℕ) (of : q.shap
   pub read_by : (query : Query) (value : Option Range) → Answers q₂ (length q₁.seen) query value → known.IsSound (tree_in t) (known_by q₃) → (k : ℕ) × known.Read (tree_in t) (known_by q) lo hi k query value (known_by q₃)
   read_by query value a sound =
       let most = began.most in let least = began.least in let low = a.low in let high = a.high in let top = ended.seen in
-      let first = begins_length q.seen q₁.seen began.seen in
+      let first = begins_long q.seen q₁.seen began.seen in
       let long = length-map q.seen record_of in let long₂ = length-map q₂.seen record_of in
       let shape : q₂.shape ≡ t.shape = ap (λ (z : PassPart). z.shape) middle ∙ of in (
         a.k,

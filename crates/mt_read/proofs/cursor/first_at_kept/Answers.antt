@@ -2,13 +2,13 @@ use Rattle.std.proofs.Common.{rules, arith, ◌≡◌, ◌≢◌, ◌∙◌, len
 use Rattle.mt_base.specs.declared.kinds.Kind.{Kind}
 use Rattle.mt_base.specs.declared.calls.Query.TheVariants.{Find}
 use Rattle.mt_base.specs.Width.{greatest_of}
+use Rattle.mt_base.proofs.Goings.{begins_long}
 use Rattle.mt_layout.specs.Rows.{dead_mark}
 use Rattle.mt_life.specs.declared.views.Held.{Held}
 use Rattle.mt_rule.specs.declared.views.PassPart.{PassPart}
 use Rattle.mt_rule.specs.Sections.{here}
 use Rattle.mt_rule.specs.Tokens.{part_of}
 use Rattle.mt_read.specs.Answers.{Answers}
-use Rattle.mt_read.proofs.Finding.{begins_length}
 use Rattle.mt_read.proofs.Descending.{goes_on, goes_sees, here_more}
 use Rattle.mt_read.proofs.Keeping.{answers_live, goes_parent, parent_tells}
 use Rattle.mt_read.proofs.cursor.first_at_kept.Goals as goal
@@ -37,6 +37,6 @@ returns-clause-answer g c =
     let alive : c.load_parent-parent.result ≢ dead_mark (here q₂).row = search rules in
     let live = tells.live alive in
     let kind : q₁.shape.kind ≡ q.shape.kind = ap (λ (z : PassPart). z.shape.kind) c.find_slot-place.ensures.sees.is in
-    let first = begins_length q.seen q₁.seen c.find_slot-place.ensures.sees.seen in let more = begins_length q₁.seen q₂.seen c.first_at-range.ensures.goes.seen in
+    let first = begins_long q.seen q₁.seen c.find_slot-place.ensures.sees.seen in let more = begins_long q₁.seen q₂.seen c.first_at-range.ensures.goes.seen in
     subst (λ (k : Kind). Answers q₃ (length q.seen) (Find c.args.index (greatest_of k)) c.first_at-range.result) kind
     (answers_live q₂ q₃ _ _ c.load_parent-parent.ensures.told _ (length q.seen) _ _ c.first_at-range.ensures.answer live (omega arith))

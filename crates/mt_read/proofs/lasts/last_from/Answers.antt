@@ -1,10 +1,10 @@
 use Rattle.std.proofs.Common.{rules, arith, ◌≡◌, ◌≢◌, ◌-◌, ◌∙◌, ℕ, length, refl, sym, subst, None}
 use Rattle.std.specs.Prelude.{IfSome}
 use Rattle.mt_base.specs.declared.calls.Query.TheVariants.{Rfind}
+use Rattle.mt_base.proofs.Goings.{begins_long}
 use Rattle.mt_rule.specs.Sections.{here}
 use Rattle.mt_rule.specs.Tokens.{part_of}
 use Rattle.mt_read.specs.Answers.{AnswersBy}
-use Rattle.mt_read.proofs.Finding.{begins_length}
 use Rattle.mt_read.proofs.Descending.{goes_on}
 use Rattle.mt_read.proofs.Before.{first_place}
 use Rattle.mt_read.proofs.Preceding.{here_by, left_by, no_last}
@@ -28,7 +28,7 @@ pub returns-clause-answer : goal.returns-clause-answer
 returns-clause-answer g c =
     let q = part_of c.args.pass.now in let q₁ = part_of c.last_at.new.pass in let q₂ = part_of c.last_beside.new.pass in
     let none = c.in_default.ensures.none in
-    let on = c.requires.leaf.on in let old = on.old in let met = on.met in let more = begins_length q.seen q₁.seen c.last_at.ensures.goes.seen in
+    let on = c.requires.leaf.on in let old = on.old in let met = on.met in let more = begins_long q.seen q₁.seen c.last_at.ensures.goes.seen in
     let first = first_place q c.args.leaf.now c.args.place.now on c.requires.place none.0 in
     let other : c.args.leaf.now.min ≢ 0 = search rules in
     let found = subst (λ (n : ℕ). IfSome c.last_beside.result (AnswersBy q₂ (here q₁) (length q₁.seen) (Rfind (n - 1) 0))) (sym first) c.last_beside.ensures.answer in
