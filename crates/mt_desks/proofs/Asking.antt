@@ -40,15 +40,9 @@ sorted here (Write tree call) = inl (record { step = refl; count = refl; answere
 sorted here (Ask tree query) = inl (record { step = refl; count = refl; answered = refl; lane = refl })
 sorted here (Scan tree index max count) = inl (record { step = refl; count = refl; answered = refl; lane = refl })
 
-same_phase : (phase : ℕ) (item : Item) → is_join item ≡ false → phase_after phase item ≡ phase
-same_phase phase (Tree name kind) other = refl
-same_phase phase (Lane lane) other = refl
+pub same_phase : (phase : ℕ) (item : Item) → is_join item ≡ false → phase_after phase item ≡ phase
 same_phase phase Join other = absurd (true≢false other)
-same_phase phase (Dup from name) other = refl
-same_phase phase (Check tree) other = refl
-same_phase phase (Write tree call) other = refl
-same_phase phase (Ask tree query) other = refl
-same_phase phase (Scan tree index max count) other = refl
+same_phase phase item other = refl
 
 stepped_behind : (stepped : Bool) (item : Item) → is_step item ≡ true → stepped_after stepped item ≡ true
 stepped_behind stepped (Tree name kind) step = absurd (false≢true step)

@@ -1,7 +1,7 @@
 -- A line that was done on its tree was done among all trees, and a chain of lines is a lane.
-use Rattle.std.proofs.Common.{◌≡◌, ◌≢◌, ◌⊎◌, ℕ, zero, suc, ◌<◌, ◌≤◌, true, List, [], ◌∷◌, ◌++◌, Option, Some, length, map, take, drop, get_or, slice_get, slice_set, arith, refl, sym, ap, ◌∙◌, subst, inl, inr, length-append}
+use Rattle.std.proofs.Common.{◌≡◌, ◌≢◌, ◌⊎◌, ℕ, zero, suc, ◌<◌, ◌≤◌, true, List, [], ◌∷◌, ◌++◌, Option, Some, length, map, take, drop, get_or, slice_get, slice_set, arith, refl, sym, ap, ◌∙◌, subst, inl, inr}
 use Rattle.std.proofs.lemmas.Bool.{false≢true, ne_eqb, cases_eq}
-use Rattle.std.proofs.lemmas.List.{append-nil, map-append, map-set, take-append-le, take_all}
+use Rattle.std.proofs.lemmas.List.{append-nil, length-set, map-append, map-set, take-append-le, take_all}
 use Rattle.std.proofs.lemmas.List.Concat.{flat_map-append}
 use Rattle.std.proofs.lemmas.List.Elements.{filter_map-append}
 use Rattle.std.proofs.lemmas.Option.{slice_get-get_or, slice_get-map, slice_get_within}
@@ -10,7 +10,8 @@ use Rattle.std.specs.Option.{option_map}
 use Rattle.mt_log.specs.Trees.{NamesBelow}
 use Rattle.mt_base.specs.declared.calls.Query.{Query}
 use Rattle.mt_base.specs.declared.ranges.Range.{Range}
-use Rattle.mt_base.specs.Passes.{Pass, Begins, Saw}
+use Rattle.mt_base.specs.Passes.{Pass, Saw}
+use Rattle.mt_base.proofs.Goings.{begins_long}
 use Rattle.mt_log.specs.declared.lines.Item.{Item}
 use Rattle.mt_log.specs.declared.lines.Item.TheVariants.{Tree, Lane, Join, Dup, Check, Write, Ask, Scan}
 use Rattle.mt_log.specs.declared.lines.Line.{Line}
@@ -22,35 +23,11 @@ use Rattle.mt_runs.specs.Rooms.{joined}
 use Rattle.mt_runs.proofs.Knowing.{leads_onward}
 use Rattle.mt_runs.proofs.Leading.{learns_none, leads_on, saw_learns}
 use Rattle.mt_runs.proofs.LineSteps.{done_each}
-use Rattle.mt_runs.proofs.Lists.{same_some}
+use Rattle.mt_runs.proofs.Lists.{same_some, set_here, set_there}
 use Rattle.mt_desks.specs.Dealing.{asked_of, is_step, tree_of}
 use Rattle.mt_desks.specs.Desks.{SharedTree, IsWorn, IsDoneUnless, AreAnsweredUnless, IsDoneOn, IsLineDone, DeskState, DeskDid, IsManned, StillManned, LaneRan}
 use Rattle.mt_desks.specs.Scans.{IsLooked, IsScanned}
 use Rattle.mt_desks.proofs.Scanning.{more_told, step_leads}
-
--- ---- one place of a list is set
-
-set_here : {X : Type 0} (xs : List X) (i : ℕ) (x y z : X) → slice_get xs i ≡ Some x → slice_get (slice_set xs i y) i ≡ Some z → z ≡ y
-set_here [] i x y z e f = absurd (omega (arith, slice_get_within [] i x e))
-set_here (w ∷ xs) zero x y z e f = sym (same_some y z f)
-set_here (w ∷ xs) (suc i) x y z e f = set_here xs i x y z e f
-
-pub is_set : {X : Type 0} (xs : List X) (i : ℕ) (x y : X) → slice_get xs i ≡ Some x → slice_get (slice_set xs i y) i ≡ Some y
-is_set [] i x y e = absurd (omega (arith, slice_get_within [] i x e))
-is_set (w ∷ xs) zero x y e = refl
-is_set (w ∷ xs) (suc i) x y e = is_set xs i x y e
-
-set_there : {X : Type 0} (xs : List X) (i j : ℕ) (y : X) → i ≢ j → slice_get (slice_set xs i y) j ≡ slice_get xs j
-set_there [] i j y apart = refl
-set_there (w ∷ xs) zero zero y apart = absurd (apart refl)
-set_there (w ∷ xs) zero (suc j) y apart = refl
-set_there (w ∷ xs) (suc i) zero y apart = refl
-set_there (w ∷ xs) (suc i) (suc j) y apart = set_there xs i j y (λ same. apart (ap suc same))
-
-set_long : {X : Type 0} (xs : List X) (i : ℕ) (y : X) → length (slice_set xs i y) ≡ length xs
-set_long [] i y = refl
-set_long (w ∷ xs) zero y = refl
-set_long (w ∷ xs) (suc i) y = ap suc (set_long xs i y)
 
 -- ---- a line among all trees
 
@@ -81,9 +58,9 @@ line_done trees lane phase line passes on p q room room' step on_is p_is d = rec
   steps = d.steps;
   done = elim d.done [
     | inl is ↦ inl is
-    | inr none ↦ inr (record { number = tree_of line.item; tree = on; pass = q; tree_is = on_is; pass_is = is_set passes (tree_of line.item) p q p_is; all_taken = none.0 }, none.1)
+    | inr none ↦ inr (record { number = tree_of line.item; tree = on; pass = q; tree_is = on_is; pass_is = set_here passes (tree_of line.item) p q p_is; all_taken = none.0 }, none.1)
   ];
-  count = set_long passes (tree_of line.item) q;
+  count = length-set passes (tree_of line.item) q;
   leads = λ number tree x y tree_is x_is y_is. leads_at number tree x y tree_is x_is y_is (cases_eq (tree_of line.item) number);
   told = d.told;
 }
@@ -92,14 +69,14 @@ line_done trees lane phase line passes on p q room room' step on_is p_is d = rec
     leads_at number tree x y tree_is x_is y_is (inl same) =
         let tree_same : on ≡ tree = same_some on tree (sym on_is ∙ (ap (slice_get trees) same ∙ tree_is)) in
         let x_same : p ≡ x = same_some p x (sym p_is ∙ (ap (slice_get passes) same ∙ x_is)) in
-        let y_same : q ≡ y = sym (set_here passes (tree_of line.item) p q y p_is (ap (slice_get (slice_set passes (tree_of line.item) q)) same ∙ y_is)) in
+        let y_same : q ≡ y = same_some q y (sym (set_here passes (tree_of line.item) p q p_is) ∙ (ap (slice_get (slice_set passes (tree_of line.item) q)) same ∙ y_is)) in
         subst (λ (z : ℕ). Leads tree.history x (outcomes_of z lane d.steps) y) same
         (subst (λ (z : SharedTree). Leads z.history x (outcomes_of (tree_of line.item) lane d.steps) y) tree_same
         (subst (λ (z : Pass). Leads on.history z (outcomes_of (tree_of line.item) lane d.steps) y) x_same
         (subst (λ (z : Pass). Leads on.history p (outcomes_of (tree_of line.item) lane d.steps) z) y_same d.leads)))
     leads_at number tree x y tree_is x_is y_is (inr apart) =
         let none : outcomes_of number lane d.steps ≡ [] = done_elsewhere (on.most ≤ length q.seen) lane phase number line d.steps step apart d.done in
-        let kept : x ≡ y = same_some x y (sym x_is ∙ (sym (set_there passes (tree_of line.item) number q apart) ∙ y_is)) in
+        let kept : x ≡ y = same_some x y (sym x_is ∙ (sym (set_there passes (tree_of line.item) number q (λ on. apart (sym on))) ∙ y_is)) in
         rw (none, kept) (learns_none y)
 
 -- ---- a line on its tree
@@ -139,9 +116,6 @@ answered_more worn still [] (s ∷ answers) a steps on h d = absurd h
 answered_more worn still (b ∷ asked) [] a steps on h d = absurd h
 answered_more worn still (b ∷ asked) (s ∷ answers) a steps on h d = (unless_on worn still b s on h.0, answered_more worn still asked answers a steps on h.1 d)
 
-begins_longer : {X : Type 0} (xs ys : List X) → Begins xs ys → length xs ≤ length ys
-begins_longer xs ys b = omega (arith, ap length b.1, length-append xs b.0)
-
 worn_on : (trees : List SharedTree) (lane : ℕ) (steps : List Step) (passes passes' : List Pass) → length passes' ≡ length passes
     → ((number : ℕ) (tree : SharedTree) (p q : Pass) → slice_get trees number ≡ Some tree → slice_get passes number ≡ Some p → slice_get passes' number ≡ Some q → Leads tree.history p (outcomes_of number lane steps) q)
     → IsWorn trees passes → IsWorn trees passes'
@@ -149,7 +123,7 @@ worn_on trees lane steps passes passes' count leads w =
     let q : Pass = get_or passes' w.number w.pass in
     let q_is : slice_get passes' w.number ≡ Some q = slice_get-get_or passes' w.number w.pass (omega (arith, slice_get_within passes w.number w.pass w.pass_is, count)) in
     let onward = leads_onward w.tree.history w.pass (outcomes_of w.number lane steps) q (leads w.number w.tree w.pass q w.tree_is w.pass_is q_is) in
-    record { number = w.number; tree = w.tree; pass = q; tree_is = w.tree_is; pass_is = q_is; all_taken = omega (arith, w.all_taken, begins_longer w.pass.seen q.seen onward.seen) }
+    record { number = w.number; tree = w.tree; pass = q; tree_is = w.tree_is; pass_is = q_is; all_taken = omega (arith, w.all_taken, begins_long w.pass.seen q.seen onward.seen) }
 
 one_joined : (answers : List (List Step)) (steps : List Step) → joined (answers ++ steps ∷ []) ≡ joined answers ++ steps
 one_joined answers steps = flat_map-append (λ (s : List Step). s) answers (steps ∷ []) ∙ ap (λ z. joined answers ++ z) (append-nil steps)

@@ -3,6 +3,7 @@ use Rattle.std.proofs.Common.{◌≡◌, ℕ, ◌+◌, ◌<◌, ◌≤◌, true,
 use Rattle.std.specs.Prelude.{max}
 use Rattle.std.specs.List.{AllByRecursion}
 use Rattle.std.proofs.lemmas.Bool.{cases_Bool, false≢true}
+use Rattle.mt_base.proofs.Lists.{all_join}
 use Rattle.mt_log.specs.declared.lines.Item.{Item}
 use Rattle.mt_log.specs.declared.lines.Item.TheVariants.{Tree, Lane, Join, Dup, Check, Write, Ask, Scan}
 use Rattle.mt_log.specs.declared.lines.Line.{Line}
@@ -10,7 +11,7 @@ use Rattle.mt_log.specs.Phases.{phase_after}
 use Rattle.mt_log.specs.Run.{Asked, asked_from, is_answered, lane_after, lane_of}
 use Rattle.mt_log.specs.Trees.{AreNamedFrom, count_after, most_lanes}
 use Rattle.mt_runs.specs.Lines.{lane_behind}
-use Rattle.mt_runs.proofs.Lists.{both, every, every_append}
+use Rattle.mt_runs.proofs.Lists.{both, every}
 use Rattle.mt_runs.proofs.Stretches.{next_lane}
 use Rattle.mt_desks.specs.Dealing.{counts_in, is_step, lanes_in, steps_in}
 use Rattle.mt_desks.proofs.Asking.{counts_placed, steps_of_phase}
@@ -78,7 +79,7 @@ steps_lanes here phase lines = steps_below (lanes_in here lines) here phase line
 pub all_placed : (passes here phase : ℕ) (lines : List Line) → lanes_in here lines ≤ passes → AllByRecursion (λ (a : Asked). (a.phase ≡ phase) × (a.lane < passes)) (counts_in phase lines ++ steps_in here phase lines)
 all_placed passes here phase lines within =
     let some : 1 ≤ passes = omega (arith, within, some_lane here lines) in
-    every_append (λ (a : Asked). (a.phase ≡ phase) × (a.lane < passes)) (counts_in phase lines) (steps_in here phase lines)
+    all_join (λ (a : Asked). (a.phase ≡ phase) × (a.lane < passes)) (counts_in phase lines) (steps_in here phase lines)
     (every (λ (a : Asked). (a.phase ≡ phase) × (a.lane ≡ 0)) (λ (a : Asked). (a.phase ≡ phase) × (a.lane < passes)) (counts_in phase lines) (λ a own. (own.0, omega (arith, own.1, some))) (counts_placed phase lines))
     (both (λ (a : Asked). a.phase ≡ phase) (λ (a : Asked). a.lane < passes) (steps_in here phase lines) (steps_of_phase here phase lines) (steps_below passes here phase lines within))
 

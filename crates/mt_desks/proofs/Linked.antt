@@ -3,13 +3,14 @@ use Rattle.std.proofs.Common.{◌≡◌, ◌≢◌, ◌⊎◌, ℕ, ◌==◌, �
 use Rattle.std.specs.List.{AllByRecursion, filter}
 use Rattle.std.proofs.lemmas.Bool.{cases_Bool, eqb-true, eqb-false, eq-eqb, ne_eqb}
 use Rattle.std.proofs.lemmas.List.{map-append, length-set, get_or-set_same, get_or-set_other}
+use Rattle.mt_base.proofs.Lists.{all_join}
 use Rattle.mt_log.specs.declared.lines.Line.{Line}
 use Rattle.mt_log.specs.declared.transcripts.Entry.{Entry}
 use Rattle.mt_log.specs.Run.{Asked, Step, entry_of, lane_after}
 use Rattle.mt_runs.specs.Rooms.{asked_of_lane, AreAnswered, behind_first, take_turns, lanes_of, joined}
 use Rattle.mt_runs.specs.Tracks.{Pairs}
 use Rattle.mt_runs.proofs.LineSteps.{done_each}
-use Rattle.mt_runs.proofs.Lists.{every, every_append}
+use Rattle.mt_runs.proofs.Lists.{every}
 use Rattle.mt_desks.specs.Dealing.{is_step, steps_in}
 use Rattle.mt_desks.proofs.Asking.{steps_numbered}
 use Rattle.mt_desks.specs.Turns.{first_of, front_len, in_turn, rest_of, room_at, RoomsHold}
@@ -54,7 +55,7 @@ others_told : (line : ℕ) (asked : List Asked) (answers : List (List Step)) →
 others_told line [] [] apart h = tt
 others_told line [] (s ∷ answers) apart h = absurd h
 others_told line (a ∷ asked) [] apart h = absurd h
-others_told line (a ∷ asked) (steps ∷ answers) apart h = rw (map-append entry_of steps (joined answers)) (every_append (λ (e : Entry). e.line ≢ line) (map entry_of steps) (map entry_of (joined answers))
+others_told line (a ∷ asked) (steps ∷ answers) apart h = rw (map-append entry_of steps (joined answers)) (all_join (λ (e : Entry). e.line ≢ line) (map entry_of steps) (map entry_of (joined answers))
     (every (λ (e : Entry). e.line ≡ a.line) (λ (e : Entry). e.line ≢ line) (map entry_of steps) (λ e same other. apart.0 (sym same ∙ other)) (told_line a.line steps h.0))
     (others_told line asked answers apart.1 h.1))
 

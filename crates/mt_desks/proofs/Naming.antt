@@ -3,13 +3,13 @@ use Rattle.std.proofs.Common.{◌≡◌, ℕ, ◌≤◌, true, false, Bool, List
 use Rattle.std.specs.List.{AllByRecursion}
 use Rattle.std.specs.Option.{option_to_list}
 use Rattle.std.proofs.lemmas.List.Elements.{All-from_recursion}
+use Rattle.mt_base.proofs.Lists.{all_join}
 use Rattle.mt_log.specs.declared.lines.Item.{Item}
 use Rattle.mt_log.specs.declared.lines.Item.TheVariants.{Tree, Lane, Join, Dup, Check, Write, Ask, Scan}
 use Rattle.mt_log.specs.declared.lines.Line.{Line}
 use Rattle.mt_log.specs.Phases.{AreInPlaceFrom, phase_after, stepped_after, stepped_from}
 use Rattle.mt_log.specs.Run.{Asked}
 use Rattle.mt_log.specs.Trees.{AreNamedFrom, Declared, IsReadable, NamesBelow, count_after, declared_by, trees_from, trees_of}
-use Rattle.mt_runs.proofs.Lists.{every_append}
 use Rattle.mt_runs.proofs.Stretches.{named_there, one_declared, placed_there}
 use Rattle.mt_desks.specs.Dealing.{counts_in, is_step, lines_of_lane, steps_in}
 use Rattle.mt_desks.specs.Desks.{AreLines}
@@ -46,7 +46,7 @@ lines_below trees phase lines named = all_below (length (trees_from trees phase 
 pub all_named : (trees : List Declared) (here phase : ℕ) (lines : List Line) → AreNamedFrom (length trees) lines → AllByRecursion (λ (a : Asked). NamesBelow (length (trees_from trees phase lines)) a.item) (counts_in phase lines ++ steps_in here phase lines)
 all_named trees here phase lines named =
     let Q : Item → Type 0 = NamesBelow (length (trees_from trees phase lines)) in
-    every_append (λ (a : Asked). Q a.item) (counts_in phase lines) (steps_in here phase lines) (counts_keep Q phase lines (lines_below trees phase lines named)) (steps_keep Q here phase lines (lines_below trees phase lines named))
+    all_join (λ (a : Asked). Q a.item) (counts_in phase lines) (steps_in here phase lines) (counts_keep Q phase lines (lines_below trees phase lines named)) (steps_keep Q here phase lines (lines_below trees phase lines named))
 
 pub own_lines : (trees : List Declared) (lane here phase : ℕ) (lines : List Line) → AreNamedFrom (length trees) lines → AreLines (length (trees_from trees phase lines)) (lines_of_lane lane here lines)
 own_lines trees lane here phase lines named =

@@ -1,17 +1,16 @@
 -- The phases of a log, one behind another.
 use Rattle.std.proofs.Common.{◌≡◌, ℕ, zero, suc, ◌+◌, ◌-◌, ◌<◌, ◌≤◌, Bool, true, false, List, [], ◌∷◌, ◌++◌, Some, length, map, take, drop, get_or, slice_get, slice_range, arith, refl, sym, ap, ◌∙◌, subst, append_assoc, length-append}
-use Rattle.std.proofs.lemmas.Bool.{false≢true, true≢false}
+use Rattle.std.proofs.lemmas.Bool.{false≢true}
 use Rattle.std.proofs.lemmas.List.{append-nil, take-append-drop}
 use Rattle.std.proofs.lemmas.Option.{slice_get_within, get_or_from_slice_get}
 use Rattle.mt_log.specs.declared.lines.Item.{Item}
-use Rattle.mt_log.specs.declared.lines.Item.TheVariants.{Tree, Lane, Join, Dup, Check, Write, Ask, Scan}
+use Rattle.mt_log.specs.declared.lines.Item.TheVariants.{Join}
 use Rattle.mt_log.specs.declared.lines.Line.{Line}
 use Rattle.mt_log.specs.Phases.{AreInPlaceFrom, stepped_from}
 use Rattle.mt_log.specs.declared.lines.Log.{Log}
 use Rattle.mt_log.specs.declared.transcripts.Transcript.{Transcript}
 use Rattle.mt_log.specs.Run.{Step, AreDone, IsRun, listings_of, steps_of}
 use Rattle.mt_log.specs.Trees.{IsReadable, most_lanes, trees_from, trees_of}
-use Rattle.mt_log.specs.Phases.{phase_after}
 use Rattle.mt_runs.specs.Lines.{lane_behind, phase_behind}
 use Rattle.mt_runs.specs.Tracks.{Ran}
 use Rattle.mt_runs.specs.Phases.{histories_of}
@@ -19,6 +18,7 @@ use Rattle.mt_runs.proofs.LanePasses.{some_at}
 use Rattle.mt_runs.proofs.Running.{ran_is_run}
 use Rattle.mt_runs.proofs.Stretches.{asked_more, lane_more, phase_append, phase_more, stepped_more, stretch_apart, trees_behind, trees_more}
 use Rattle.mt_desks.specs.Dealing.{IsOnePhase, is_join, lanes_in}
+use Rattle.mt_desks.proofs.Asking.{same_phase}
 use Rattle.mt_desks.proofs.Laning.{few_lanes, lanes_before, lanes_behind, some_lane}
 use Rattle.mt_desks.proofs.Naming.{own_lines, phase_named, phase_placed}
 use Rattle.mt_play.specs.Lanes.{CanDo, IsPhaseBehind}
@@ -124,14 +124,8 @@ join_played phase number lines p (steps, q) = (
 )
 
 join_is : (item : Item) → is_join item ≡ true → item ≡ Join
-join_is (Tree name kind) join = absurd (false≢true join)
-join_is (Lane lane) join = absurd (false≢true join)
 join_is Join join = refl
-join_is (Dup from name) join = absurd (false≢true join)
-join_is (Check tree) join = absurd (false≢true join)
-join_is (Write tree call) join = absurd (false≢true join)
-join_is (Ask tree query) join = absurd (false≢true join)
-join_is (Scan tree index max count) join = absurd (false≢true join)
+join_is item join = absurd (false≢true join)
 
 pub behind_join : (log : List Line) (to phase : ℕ) (p : PlayerState) → to < length log → ((line : Line) → is_join (get_or log to line).item ≡ true) → IsPlayed phase (take to log) p → IsPlayed phase (take (to + 1) log) p
 behind_join log to phase p within join played =
@@ -140,16 +134,6 @@ behind_join log to phase p within join played =
     let all : take (to + 1) log ≡ take to log ++ record { number = line.number; item = Join } ∷ [] =
     (let next : to + 1 ≡ suc to = omega arith in ap (λ (n : ℕ). take n log) next) ∙ (one_more log to line line_is ∙ (λ i. take to log ++ record { number = line.number; item = item i } ∷ [])) in
     subst (λ (z : List Line). IsPlayed phase z p) (sym all) (join_played phase line.number (take to log) p played)
-
-same_phase : (phase : ℕ) (item : Item) → is_join item ≡ false → phase_after phase item ≡ phase
-same_phase phase (Tree name kind) other = refl
-same_phase phase (Lane lane) other = refl
-same_phase phase Join other = absurd (true≢false other)
-same_phase phase (Dup from name) other = refl
-same_phase phase (Check tree) other = refl
-same_phase phase (Write tree call) other = refl
-same_phase phase (Ask tree query) other = refl
-same_phase phase (Scan tree index max count) other = refl
 
 pub next_begins : (log : List Line) (from to phase : ℕ) → BeginsAt log from phase → from ≤ to → to < length log → IsOnePhase (slice_range log from to) → ((line : Line) → is_join (get_or log to line).item ≡ true) → BeginsAt log (to + 1) (phase + 1)
 next_begins log from to phase begins low within one join =

@@ -6,7 +6,7 @@ use Rattle.std.specs.Vec.{with_item}
 use Rattle.std.proofs.Math.Seq.{map-set_same}
 use Rattle.std.proofs.lemmas.Bool.{cases_eq}
 use Rattle.std.proofs.lemmas.List.{get_or_default, get_or-set_other, get_or-set_same, length-map, length-set, map-append}
-use Rattle.std.proofs.lemmas.List.Elements.{All-append, All-from_recursion}
+use Rattle.std.proofs.lemmas.List.Elements.{All-from_recursion, All-push}
 use Rattle.std.proofs.lemmas.Option.{slice_get_read, slice_get-map}
 use Rattle.mt_base.specs.declared.kinds.Kind.{Kind}
 use Rattle.mt_base.specs.declared.ranges.Range.{Range}
@@ -61,9 +61,6 @@ pair_set R xs ys at y same each within one k d e l = elim (cases_eq k at) [
   | inl here ↦ rw (here, get_or-set_same ys at y e (omega (arith, within, same))) (one d)
   | inr apart ↦ rw (get_or-set_other ys at k y e apart) (each k d e l)
 ]
-
-all_push : {X : Type 0} (P : X → Type 0) (xs : List X) (x : X) → All P xs → P x → All P (xs ++ x ∷ [])
-all_push P xs x all one = All-append P xs (x ∷ []) all (All-from_recursion P (x ∷ []) (one, tt))
 
 pub if_ok : {X E : Type 0} (P Q : X → Type 0) (r : Result X E) → ((x : X) → P x → Q x) → IfOk r P → IfOk r Q
 if_ok P Q (Ok x) f h = f x h
@@ -187,12 +184,12 @@ module _ {P T : Type 0} (tree : T → SharedTree) (knows : P → Pass) (serves :
             passes = omega (arith, r.seated.passes, passes_are);
             names = omega (arith, more_known, more_trees, r.seated.names);
             count = omega (arith, more_seats, more_trees, r.seated.count);
-            many_are = subst (λ (n : ℕ). All (λ (x : T). many x ≡ n) q.trees.items) (sym passes_are) (subst (λ (xs : List T). All (λ (x : T). many x ≡ p.passes) xs) (sym trees) (all_push (λ (x : T). many x ≡ p.passes) p.trees.items t r.seated.many_are many_is));
-            most = subst (λ (xs : List T). All (λ (x : T). (tree x).most ≡ calls_taken) xs) (sym trees) (all_push (λ (x : T). (tree x).most ≡ calls_taken) p.trees.items t r.seated.most new.most);
+            many_are = subst (λ (n : ℕ). All (λ (x : T). many x ≡ n) q.trees.items) (sym passes_are) (subst (λ (xs : List T). All (λ (x : T). many x ≡ p.passes) xs) (sym trees) (All-push (λ (x : T). many x ≡ p.passes) p.trees.items t r.seated.many_are many_is));
+            most = subst (λ (xs : List T). All (λ (x : T). (tree x).most ≡ calls_taken) xs) (sym trees) (All-push (λ (x : T). (tree x).most ≡ calls_taken) p.trees.items t r.seated.most new.most);
             all = all_are passes_are;
           };
-          settled = subst (All (λ (z : Tracked). IsSettled z.history z.passes)) (sym tracked_are) (all_push (λ (z : Tracked). IsSettled z.history z.passes) (tracked p) (new_tracked p.passes rows kind opening) r.settled (new_is_settled p.passes rows kind opening));
-          closed = subst (All IsClosed) (sym tracked_are) (all_push IsClosed (tracked p) (new_tracked p.passes rows kind opening) r.closed (All-from_recursion (λ (q : Pass). q.standing ≡ None) (map new_pass (range_with_len 0 p.passes)) (new_closed (range_with_len 0 p.passes))));
+          settled = subst (All (λ (z : Tracked). IsSettled z.history z.passes)) (sym tracked_are) (All-push (λ (z : Tracked). IsSettled z.history z.passes) (tracked p) (new_tracked p.passes rows kind opening) r.settled (new_is_settled p.passes rows kind opening));
+          closed = subst (All IsClosed) (sym tracked_are) (All-push IsClosed (tracked p) (new_tracked p.passes rows kind opening) r.closed (All-from_recursion (λ (q : Pass). q.standing ≡ None) (map new_pass (range_with_len 0 p.passes)) (new_closed (range_with_len 0 p.passes))));
         },
         tracked_are,
       )

@@ -7,7 +7,7 @@ use Rattle.mt_base.specs.History.{Record, History}
 use Rattle.mt_base.specs.Passes.{Pass, IsSettled, Saw, Settled, with_records}
 use Rattle.mt_runs.specs.Gone.{OnlySaw}
 use Rattle.mt_runs.proofs.LanePasses.{all_at}
-use Rattle.mt_runs.proofs.Lists.{same_some}
+use Rattle.mt_runs.proofs.Lists.{same_some, set_here}
 use Rattle.mt_runs.proofs.Totals.{stay}
 use Rattle.mt_play.specs.Trees.{seen_by}
 
@@ -25,11 +25,6 @@ one_set R (z ∷ xs) zero p q same is r zero x y was now =
 one_set R (z ∷ xs) zero p q same is r (suc i) x y was now = subst (R x) (same_some x y (sym was ∙ now)) (same x)
 one_set R (z ∷ xs) (suc at) p q same is r zero x y was now = subst (R x) (same_some x y (sym was ∙ now)) (same x)
 one_set R (z ∷ xs) (suc at) p q same is r (suc i) x y was now = one_set R xs at p q same is r i x y was now
-
-set_here : {X : Type 0} (xs : List X) (at : ℕ) (p q : X) → slice_get xs at ≡ Some p → slice_get (slice_set xs at q) at ≡ Some q
-set_here [] at p q is = absurd (cc)
-set_here (z ∷ xs) zero p q is = refl
-set_here (z ∷ xs) (suc at) p q is = set_here xs at p q is
 
 abbrev SawOne : History → Pass → Pass → Type 0
 SawOne h p q = (q ≡ p) ⊎ Saw h p q

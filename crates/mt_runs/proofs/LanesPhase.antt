@@ -5,6 +5,7 @@ use Rattle.std.proofs.lemmas.Bool.{cases_Bool}
 use Rattle.std.proofs.lemmas.List.Elements.{All-from_recursion, recursion_from_All, filter_map-append}
 use Rattle.mt_base.specs.History.{History, last_map}
 use Rattle.mt_base.specs.Passes.{Pass}
+use Rattle.mt_base.proofs.Lists.{all_join}
 use Rattle.mt_log.specs.Phases.{stepped_after}
 use Rattle.mt_log.specs.Run.{Asked, Outcome, Called, Looked, Counted, Step, AreDone}
 use Rattle.mt_log.specs.Trees.{NamesBelow}
@@ -14,7 +15,7 @@ use Rattle.mt_runs.specs.Phases.{Tracked, IsPhase, IsPhaseOn, Counts}
 use Rattle.mt_runs.specs.Rooms.{asked_of_lane, AreAnswered, take_turns, lanes_of, joined}
 use Rattle.mt_runs.proofs.Leading.{learns_none, leads_on, phase_settled}
 use Rattle.mt_runs.proofs.LineSteps.{IsUncounted, steps_named, steps_placed, steps_uncounted}
-use Rattle.mt_runs.proofs.Lists.{every, every_append, same_some}
+use Rattle.mt_runs.proofs.Lists.{every, same_some}
 use Rattle.mt_runs.proofs.Rooming.{back_done, back_in_lanes}
 use Rattle.mt_runs.proofs.Stretches.{done_append}
 
@@ -77,7 +78,7 @@ lanes_phase passes phase asked counted csteps answers before after placed named 
     counts : (tree : ℕ) (b : Tracked) → slice_get before tree ≡ Some b → All (λ (s : Step). s.tree ≡ tree → Counts b.history s.outcome) steps
     counts tree b was =
         let On : Step → Type 0 = λ s. s.tree ≡ tree → Counts b.history s.outcome in
-        All-from_recursion On steps (every_append On csteps lsteps
+        All-from_recursion On steps (all_join On csteps lsteps
         (every (IsCounted before) On csteps (λ s c. counted_counts before tree b s was c) all_counted)
         (every (λ (s : Step). IsUncounted s.outcome) On lsteps (λ s u on. uncounted_counts b.history s.outcome u) (steps_uncounted asked lsteps lanes ldone)))
 

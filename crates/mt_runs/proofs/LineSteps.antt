@@ -4,12 +4,12 @@ use Rattle.std.specs.List.{All, AllByRecursion}
 use Rattle.std.proofs.lemmas.List.Elements.{All-from_recursion}
 use Rattle.mt_base.specs.declared.calls.Query.{Query}
 use Rattle.mt_base.specs.declared.ranges.Range.{Range}
+use Rattle.mt_base.proofs.Lists.{all_join}
 use Rattle.mt_log.specs.declared.lines.Item.{Item}
 use Rattle.mt_log.specs.declared.lines.Item.TheVariants.{Tree, Lane, Join, Dup, Check, Write, Ask, Scan}
 use Rattle.mt_log.specs.Phases.{stepped_after}
 use Rattle.mt_log.specs.Run.{Asked, Outcome, Called, Looked, Counted, Step, IsDone, IsScan, GoesOn, AreDone, find_at, place_behind, place_within, step_of}
 use Rattle.mt_log.specs.Trees.{NamesBelow}
-use Rattle.mt_runs.proofs.Lists.{every_append}
 
 -- the tree on which a line's steps are
 abbrev IsOn : Item → ℕ → Type 0
@@ -47,7 +47,7 @@ done_each P a Join steps p d = no_step P steps d
 
 all_done : (P : Step → Type 0) (Q : Asked → Type 0) → ((a : Asked) (tree : ℕ) (o : Outcome) → Q a → IsOn a.item tree → P (step_of a tree o)) → (asked : List Asked) (steps : List Step) → AllByRecursion Q asked → AreDone asked steps → AllByRecursion P steps
 all_done P Q p [] steps q d = no_step P steps d
-all_done P Q p (a ∷ asked) steps q d = subst (AllByRecursion P) (sym d.2) (every_append P d.0 d.1 (done_each P a a.item d.0 (λ tree o on. p a tree o q.0 on) d.3) (all_done P Q p asked d.1 q.1 d.4))
+all_done P Q p (a ∷ asked) steps q d = subst (AllByRecursion P) (sym d.2) (all_join P d.0 d.1 (done_each P a a.item d.0 (λ tree o on. p a tree o q.0 on) d.3) (all_done P Q p asked d.1 q.1 d.4))
 
 pub steps_placed : (passes phase : ℕ) (asked : List Asked) (steps : List Step) → AllByRecursion (λ (a : Asked). (a.phase ≡ phase) × (a.lane < passes)) asked → AreDone asked steps → All (λ (s : Step). (s.phase ≡ phase) × (s.lane < passes)) steps
 steps_placed passes phase asked steps placed done =
@@ -91,4 +91,4 @@ done_uncounted a Join steps lane d = no_step Uncounted steps d
 
 pub steps_uncounted : (asked : List Asked) (steps : List Step) → AllByRecursion (λ (a : Asked). stepped_after false a.item ≡ true) asked → AreDone asked steps → AllByRecursion (λ (s : Step). IsUncounted s.outcome) steps
 steps_uncounted [] steps lanes d = no_step Uncounted steps d
-steps_uncounted (a ∷ asked) steps lanes d = subst (AllByRecursion Uncounted) (sym d.2) (every_append Uncounted d.0 d.1 (done_uncounted a a.item d.0 lanes.0 d.3) (steps_uncounted asked d.1 lanes.1 d.4))
+steps_uncounted (a ∷ asked) steps lanes d = subst (AllByRecursion Uncounted) (sym d.2) (all_join Uncounted d.0 d.1 (done_uncounted a a.item d.0 lanes.0 d.3) (steps_uncounted asked d.1 lanes.1 d.4))

@@ -1,5 +1,5 @@
 -- What one thread has played so far goes on, and is a run of the log in the end.
-use Rattle.std.proofs.Common.{◌≡◌, ◌≢◌, ◌⊎◌, ℕ, zero, suc, ◌+◌, ◌<◌, Bool, true, false, List, [], ◌∷◌, ◌++◌, Some, length, map, slice_get, set, arith, refl, sym, ap, ◌∙◌, subst, append_assoc, inl, inr, length-append}
+use Rattle.std.proofs.Common.{◌≡◌, ◌⊎◌, ℕ, ◌+◌, ◌<◌, Bool, true, false, List, [], ◌∷◌, ◌++◌, Some, length, map, slice_get, arith, refl, sym, ap, ◌∙◌, subst, append_assoc, inl, inr, length-append}
 use Rattle.std.specs.Prelude.{slice_set}
 use Rattle.std.specs.List.{AllByRecursion}
 use Rattle.std.proofs.lemmas.List.{append-nil, length-map, length-set, map-append}
@@ -26,30 +26,16 @@ use Rattle.mt_runs.specs.Tracks.{Ran}
 use Rattle.mt_runs.proofs.Informed.{informed_are_settled}
 use Rattle.mt_runs.proofs.LanePasses.{some_at}
 use Rattle.mt_runs.proofs.Leading.{learns_none}
-use Rattle.mt_runs.proofs.Lists.{same_some}
+use Rattle.mt_runs.proofs.Lists.{same_some, set_here, set_there}
 use Rattle.mt_runs.proofs.Playing.{KnownAt, Replaced, call_makes, count_makes, known_at, known_of, one_step, read_makes}
 use Rattle.mt_runs.proofs.Running.{phase_ran, ran_is_run}
 use Rattle.mt_runs.proofs.Starting.{copy_ran, empty_ran, idle, nothing_ran, pushed}
-
--- ---- lists
-
-set_here : {X : Type 0} (xs : List X) (i : ℕ) (x : X) → i < length xs → slice_get (set xs i x) i ≡ Some x
-set_here [] i x l = absurd (omega arith)
-set_here (y ∷ xs) zero x l = refl
-set_here (y ∷ xs) (suc i) x l = set_here xs i x (omega arith)
-
-set_there : {X : Type 0} (xs : List X) (i j : ℕ) (x : X) → j ≢ i → slice_get (set xs i x) j ≡ slice_get xs j
-set_there [] i j x apart = refl
-set_there (y ∷ xs) zero zero x apart = absurd (apart refl)
-set_there (y ∷ xs) zero (suc j) x apart = refl
-set_there (y ∷ xs) (suc i) zero x apart = refl
-set_there (y ∷ xs) (suc i) (suc j) x apart = set_there xs i j x (λ same. apart (ap suc same))
 
 replaced : (trees : List History) (tree : ℕ) (h h' : History) → slice_get trees tree ≡ Some h → Replaced trees (slice_set trees tree h') tree h h'
 replaced trees tree h h' is = record {
   count = length-set trees tree h';
   was = is;
-  is = set_here trees tree h' (slice_get_within trees tree h is);
+  is = set_here trees tree h h' is;
   rest = λ other apart. set_there trees tree other h' apart;
 }
 
@@ -96,9 +82,6 @@ resting passes phase trees settled = record {
 
 -- ---- one more tree
 
-abbrev more : ℕ → ℕ → Kind → List Range → List History → List History
-more passes rows kind opening trees = trees ++ new_history kind rows opening ∷ []
-
 new_known : (passes rows : ℕ) (kind : Kind) (opening : List Range) (trees : List History) → map (known_to_all passes) trees ++ new_tracked passes rows kind opening ∷ [] ≡ map (known_to_all passes) (trees ++ new_history kind rows opening ∷ [])
 new_known passes rows kind opening trees = sym (map-append (known_to_all passes) trees (new_history kind rows opening ∷ []))
 
@@ -135,40 +118,51 @@ one_tree passes phase now opening trees h settled ph =
     each_on tree b a (inl old) (inr new) = absurd (omega (arith, old.0, new.0, count))
     each_on tree b a (inr new) (inl old) = absurd (omega (arith, new.0, old.0, count))
 
+one_more : (passes rows phase : ℕ) (stepped : Bool) (declared : List Declared) (steps : List Step) (trees : List History) (d : Declared) (h : History) → (p : HasPlayed passes rows phase stepped declared steps trees)
+    → Ran passes rows phase (declared ++ d ∷ []) p.earlier (map (known_to_all passes) (p.opening ++ h ∷ [])) → IsSettled h (known_to_all passes h).passes → HasPlayed passes rows phase stepped (declared ++ d ∷ []) steps (trees ++ h ∷ [])
+one_more passes rows phase stepped declared steps trees d h p ran settled = record {
+  some = p.some;
+  opening = p.opening ++ h ∷ [];
+  earlier = p.earlier;
+  now = p.now;
+  all = p.all;
+  ran = ran;
+  going = one_tree passes phase p.now p.opening trees h settled p.going;
+  still = λ none. ap (λ z. z ++ h ∷ []) (p.still none);
+}
+
 pub tree_played : (passes rows phase : ℕ) (stepped : Bool) (declared : List Declared) (steps : List Step) (trees : List History) (known : KnownTree) → HasPlayed passes rows phase stepped declared steps trees
     → HasPlayed passes rows phase stepped (declared ++ record { tree = known; opening = Empty } ∷ []) steps (trees ++ new_history known.kind rows [] ∷ [])
 tree_played passes rows phase stepped declared steps trees known p =
-    let h : History = new_history known.kind rows [] in
     let d : Declared = record { tree = known; opening = Empty } in
-    record {
-      some = p.some;
-      opening = p.opening ++ h ∷ [];
-      earlier = p.earlier;
-      now = p.now;
-      all = p.all;
-      ran = subst (λ (z : List Tracked). Ran passes rows phase (declared ++ d ∷ []) p.earlier z) (new_known passes rows known.kind [] p.opening) (empty_ran passes rows phase declared p.earlier (map (known_to_all passes) p.opening) known p.ran);
-      going = one_tree passes phase p.now p.opening trees h (new_settled passes rows known.kind []) p.going;
-      still = λ none. ap (λ z. z ++ h ∷ []) (p.still none);
-    }
+    one_more passes rows phase stepped declared steps trees d (new_history known.kind rows []) p
+    (subst (λ (z : List Tracked). Ran passes rows phase (declared ++ d ∷ []) p.earlier z) (new_known passes rows known.kind [] p.opening) (empty_ran passes rows phase declared p.earlier (map (known_to_all passes) p.opening) known p.ran))
+    (new_settled passes rows known.kind [])
 
 pub copy_played : (passes rows phase : ℕ) (declared : List Declared) (steps : List Step) (trees : List History) (known : KnownTree) (tree : ℕ) (source : History) → HasPlayed passes rows phase false declared steps trees → slice_get trees tree ≡ Some source → known.kind ≡ source.kind
     → HasPlayed passes rows phase false (declared ++ record { tree = known; opening = CopyOf tree phase } ∷ []) steps (trees ++ new_history known.kind rows (last_map source) ∷ [])
 copy_played passes rows phase declared steps trees known tree source p is kind =
-    let h : History = new_history known.kind rows (last_map source) in
     let d : Declared = record { tree = known; opening = CopyOf tree phase } in
     let was : slice_get p.opening tree ≡ Some source = ap (λ (z : List History). slice_get z tree) (sym (p.still refl)) ∙ is in
-    record {
-      some = p.some;
-      opening = p.opening ++ h ∷ [];
-      earlier = p.earlier;
-      now = p.now;
-      all = p.all;
-      ran = subst (λ (z : List Tracked). Ran passes rows phase (declared ++ d ∷ []) p.earlier z) (new_known passes rows known.kind (last_map source) p.opening) (copy_ran passes rows phase declared p.earlier (map (known_to_all passes) p.opening) known tree (known_to_all passes source) (known_at passes p.opening tree source was) kind p.ran);
-      going = one_tree passes phase p.now p.opening trees h (new_settled passes rows known.kind (last_map source)) p.going;
-      still = λ none. ap (λ z. z ++ h ∷ []) (p.still none);
-    }
+    one_more passes rows phase false declared steps trees d (new_history known.kind rows (last_map source)) p
+    (subst (λ (z : List Tracked). Ran passes rows phase (declared ++ d ∷ []) p.earlier z) (new_known passes rows known.kind (last_map source) p.opening)
+    (copy_ran passes rows phase declared p.earlier (map (known_to_all passes) p.opening) known tree (known_to_all passes source) (known_at passes p.opening tree source was) kind p.ran))
+    (new_settled passes rows known.kind (last_map source))
 
 -- ---- one more step
+
+step_played : (passes rows phase : ℕ) (was stepped : Bool) (declared : List Declared) (steps : List Step) (old trees : List History) (s : Step) → (p : HasPlayed passes rows phase was declared steps old)
+    → IsPhase passes phase (p.now ++ s ∷ []) (map (known_to_all passes) p.opening) (map (known_to_all passes) trees) → (stepped ≡ false → trees ≡ p.opening) → HasPlayed passes rows phase stepped declared (steps ++ s ∷ []) trees
+step_played passes rows phase was stepped declared steps old trees s p going still = record {
+  some = p.some;
+  opening = p.opening;
+  earlier = p.earlier;
+  now = p.now ++ s ∷ [];
+  all = ap (λ z. z ++ s ∷ []) p.all ∙ append_assoc p.earlier p.now (s ∷ []);
+  ran = p.ran;
+  going = going;
+  still = still;
+}
 
 pub call_played : (passes rows phase : ℕ) (stepped : Bool) (declared : List Declared) (steps : List Step) (trees : List History) (lane line tree : ℕ) (h : History) (call : Call) (reply : Reply) (after : List Range) → HasPlayed passes rows phase stepped declared steps trees → slice_get trees tree ≡ Some h → lane < passes
     → IsNext h (record { pass = lane; call = call; reply = reply }) after
@@ -176,47 +170,26 @@ pub call_played : (passes rows phase : ℕ) (stepped : Bool) (declared : List De
 call_played passes rows phase stepped declared steps trees lane line tree h call reply after p is among next =
     let s : Step = step_in phase lane line tree (Called (length h.records + 1) call reply) in
     let h' : History = with_call h (record { pass = lane; call = call; reply = reply }) in
-    record {
-      some = p.some;
-      opening = p.opening;
-      earlier = p.earlier;
-      now = p.now ++ s ∷ [];
-      all = ap (λ z. z ++ s ∷ []) p.all ∙ append_assoc p.earlier p.now (s ∷ []);
-      ran = p.ran;
-      going = one_step passes phase p.now p.opening trees (slice_set trees tree h') s h h' refl (replaced trees tree h h' is) (call_makes passes phase lane line tree p.opening h call reply after among (settled_at passes phase p.now p.opening trees tree h p.going is) next) p.going;
-      still = λ none. cc;
-    }
+    step_played passes rows phase stepped true declared steps trees (slice_set trees tree h') s p
+    (one_step passes phase p.now p.opening trees (slice_set trees tree h') s h h' refl (replaced trees tree h h' is) (call_makes passes phase lane line tree p.opening h call reply after among (settled_at passes phase p.now p.opening trees tree h p.going is) next) p.going)
+    (λ none. cc)
 
 pub read_played : (passes rows phase : ℕ) (stepped : Bool) (declared : List Declared) (steps : List Step) (trees : List History) (lane line tree : ℕ) (h : History) (query : Query) → HasPlayed passes rows phase stepped declared steps trees → slice_get trees tree ≡ Some h → lane < passes
     → HasPlayed passes rows phase true declared (steps ++ step_in phase lane line tree (Looked (length h.records) (length h.records) (length h.records) query (answer (last_map h) query)) ∷ []) trees
 read_played passes rows phase stepped declared steps trees lane line tree h query p is among =
     let s : Step = step_in phase lane line tree (Looked (length h.records) (length h.records) (length h.records) query (answer (last_map h) query)) in
-    record {
-      some = p.some;
-      opening = p.opening;
-      earlier = p.earlier;
-      now = p.now ++ s ∷ [];
-      all = ap (λ z. z ++ s ∷ []) p.all ∙ append_assoc p.earlier p.now (s ∷ []);
-      ran = p.ran;
-      going = one_step passes phase p.now p.opening trees trees s h h refl (unreplaced trees tree h is) (read_makes passes phase lane line tree p.opening h query among (settled_at passes phase p.now p.opening trees tree h p.going is)) p.going;
-      still = λ none. cc;
-    }
+    step_played passes rows phase stepped true declared steps trees trees s p
+    (one_step passes phase p.now p.opening trees trees s h h refl (unreplaced trees tree h is) (read_makes passes phase lane line tree p.opening h query among (settled_at passes phase p.now p.opening trees tree h p.going is)) p.going)
+    (λ none. cc)
 
 pub count_played : (passes rows phase : ℕ) (declared : List Declared) (steps : List Step) (trees : List History) (line tree : ℕ) (h : History) (said : ℕ → Said) → HasPlayed passes rows phase false declared steps trees → slice_get trees tree ≡ Some h
     → HasPlayed passes rows phase false declared (steps ++ step_in phase 0 line tree (Counted said (last_map h)) ∷ []) trees
 count_played passes rows phase declared steps trees line tree h said p is =
     let s : Step = step_in phase 0 line tree (Counted said (last_map h)) in
     let as_opened : (old : History) → slice_get p.opening tree ≡ Some old → old ≡ h = λ old was. same_some old h (sym was ∙ (ap (λ (z : List History). slice_get z tree) (sym (p.still refl)) ∙ is)) in
-    record {
-      some = p.some;
-      opening = p.opening;
-      earlier = p.earlier;
-      now = p.now ++ s ∷ [];
-      all = ap (λ z. z ++ s ∷ []) p.all ∙ append_assoc p.earlier p.now (s ∷ []);
-      ran = p.ran;
-      going = one_step passes phase p.now p.opening trees trees s h h refl (unreplaced trees tree h is) (count_makes passes phase 0 line tree p.opening h said p.some (settled_at passes phase p.now p.opening trees tree h p.going is) as_opened) p.going;
-      still = p.still;
-    }
+    step_played passes rows phase false false declared steps trees trees s p
+    (one_step passes phase p.now p.opening trees trees s h h refl (unreplaced trees tree h is) (count_makes passes phase 0 line tree p.opening h said p.some (settled_at passes phase p.now p.opening trees tree h p.going is) as_opened) p.going)
+    p.still
 
 -- ---- phases
 

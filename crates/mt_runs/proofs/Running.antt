@@ -7,6 +7,7 @@ use Rattle.std.proofs.lemmas.Option.{slice_get_within, slice_get-get_or, slice_g
 use Rattle.mt_base.specs.declared.kinds.Kind.TheVariants as kinds
 use Rattle.mt_base.specs.History.{Record, History, IsLegal, map_at}
 use Rattle.mt_base.specs.Passes.{Begins, with_records}
+use Rattle.mt_base.proofs.Lists.{all_join}
 use Rattle.mt_log.specs.declared.lines.Log.{Log}
 use Rattle.mt_log.specs.declared.transcripts.Transcript.{Transcript}
 use Rattle.mt_log.specs.Run.{Outcome, Called, Looked, Counted, Step, Opens, OpensAs, IsTrueOf, StandsIn, IsHeldRightly, IsRun, AreDone, calls_before, steps_of, entry_of, listings_of}
@@ -15,7 +16,7 @@ use Rattle.mt_runs.specs.Phases.{Tracked, IsPhase, IsPhaseOn, histories_of}
 use Rattle.mt_runs.specs.Tracks.{TellsUpTo, OrderOn, Holds, CountsAt, Tracks, IsPlaced, HasBegun, Ran}
 use Rattle.mt_runs.proofs.Counting.{before_within, before_kept, map_stays}
 use Rattle.mt_runs.proofs.LanePasses.{some_at, phase_begins}
-use Rattle.mt_runs.proofs.Lists.{same_some, every, every_append, pairs_all}
+use Rattle.mt_runs.proofs.Lists.{same_some, every, pairs_all}
 use Rattle.mt_runs.proofs.Once.{numbers_long, calls_stand_once}
 use Rattle.mt_runs.proofs.Tracking.{InPhase, lanes_below, phase_tracks}
 
@@ -77,10 +78,10 @@ phase_ran passes rows phase declared earlier steps before after some r e =
     let named : AllByRecursion (λ (s : Step). s.tree < length before) steps = recursion_from_All (λ (s : Step). s.tree < length before) steps e.named in
     record {
       count = e.count ∙ r.count;
-      placed = every_append (IsPlaced passes (phase + 1)) earlier steps
+      placed = all_join (IsPlaced passes (phase + 1)) earlier steps
           (every (IsPlaced passes phase) (IsPlaced passes (phase + 1)) earlier (λ s l. (omega (arith, l.0), l.1)) r.placed)
           (every (InPhase passes phase) (IsPlaced passes (phase + 1)) steps (λ s l. (omega (arith, l.0), l.1)) placed);
-      named = every_append (λ (s : Step). s.tree < length after) earlier steps
+      named = all_join (λ (s : Step). s.tree < length after) earlier steps
           (every (λ (s : Step). s.tree < length before) (λ (s : Step). s.tree < length after) earlier (λ s l. omega (arith, e.count)) r.named)
           (every (λ (s : Step). s.tree < length before) (λ (s : Step). s.tree < length after) steps (λ s l. omega (arith, e.count)) named);
       tracks = λ tree a is.
