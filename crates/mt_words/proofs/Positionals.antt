@@ -3,7 +3,7 @@ use Rattle.std.proofs.Common.{◌≡◌, ◌⊎◌, ℕ, false, List, [], ◌∷
 use Rattle.clap.specs.Faults.{step_fault}
 use Rattle.clap.specs.Kinds.{Kinds}
 use Rattle.clap.specs.Simple.{Shape}
-use Rattle.clap.specs.Walk.{Row, Text, Walk, arg_by_long, finished, idle, value, walked}
+use Rattle.clap.specs.Walk.{Held, Row, Step, Text, Walk, after_step, arg_by_long, finished, idle, plain_word, value, walked}
 use Rattle.clap.specs.declared.parser.matches.ValueSource.TheVariants.{CommandLine}
 use Rattle.clap.specs.declared.builder.value_parser.Reading.TheVariants.{AsWritten}
 use Rattle.clap.proofs.OnLiterals.{clap_on_literals}
@@ -75,13 +75,21 @@ module _ (s : Shape) (no_shorts : NoShorts s) (no_longs : NoLongs s) where
 abbrev rows_from : Shape → Walk → List Text → List Row
 rows_from s w words = finished s.rules (fold (walked s.rules []) w words).held
 
--- one word was taken
-module _ (s : Shape) (told : List Row → Option Command) (wanted : Option Command) where
-  step_taken : (before after : Walk) (word : Text) (words : List Text) → fault_from s before (word ∷ words) ≡ fault_from s after words → walked s.rules [] before word ≡ after
-      → Agrees (fault_from s after words) (told (rows_from s after words)) wanted → Agrees (fault_from s before (word ∷ words)) (told (rows_from s before (word ∷ words))) wanted
-  step_taken before after word words fault walk agrees =
-      subst (λ (w : Walk). Agrees (fault_from s before (word ∷ words)) (told (rows_from s w words)) wanted) (sym walk)
-      (subst (λ (kinds : Kinds). Agrees kinds (told (rows_from s after words)) wanted) (sym fault) agrees)
+-- one word more is taken, or is no number and refused
+module _ (s : Shape) (no_shorts : NoShorts s) (no_longs : NoLongs s) (told : List Row → Option Command) (wanted : Option Command) where
+  next_agrees : (rows : List Row) (pending : Option (Text × List Text)) (position : ℕ) (word : Text) (words : List Text) → is_end_of_options word ≡ false
+      → let before : Walk = at (held rows pending) idle position in let m : Held × Step = plain_word s.rules idle word (held rows pending) in let after : Walk = after_step s.rules word before m.0 m.1 in
+      step_fault s position m.0 m.1 ≡ [] → Agrees (fault_from s after words) (told (rows_from s after words)) wanted → (is_number word ≡ false → wanted ≡ None)
+      → Agrees (fault_from s before (word ∷ words)) (told (rows_from s before (word ∷ words))) wanted
+  next_agrees rows pending position word words end free agrees lost = elim (taken_or_lost s no_shorts no_longs word end rows pending position) [
+    | inl is ↦
+        let before : Walk = at (held rows pending) idle position in
+        let m : Held × Step = plain_word s.rules idle word (held rows pending) in
+        let after : Walk = after_step s.rules word before m.0 m.1 in
+        subst (λ (w : Walk). Agrees (fault_from s before (word ∷ words)) (told (rows_from s w words)) wanted) (sym (value_walked s no_shorts word end rows pending idle position is))
+        (subst (λ (kinds : Kinds). Agrees kinds (told (rows_from s after words)) wanted) (sym (value_from s no_shorts word end rows pending idle position is free words)) agrees)
+    | inr is ↦ inr (is.lost words, lost is.no_number)
+  ]
 
 abbrev MakeAgrees : Walk → List Text → List Text → Type 0
 MakeAgrees w words all = Agrees (fault_from make_shape w words) (make_in (rows_from make_shape w words)) (make_of all)
@@ -100,34 +108,20 @@ make_three number steps lanes (word ∷ words) ends = inr (
 make_two : (number steps : Text) (words : List Text) → HasNoEnd words → MakeAgrees (two number steps) words (number ∷ steps ∷ words)
 unfolding clap_on_literals
 make_two number steps [] ends = inr (tt, refl)
-make_two number steps (word ∷ words) (end, ends) = elim (taken_or_lost make_shape make_no_shorts make_no_longs word end (row number_id number ∷ []) (Some (steps_id, steps ∷ [])) 3) [
-  | inl is ↦ step_taken make_shape make_in (make_of (number ∷ steps ∷ word ∷ words)) (two number steps) (three number steps word) word words
-      (value_from make_shape make_no_shorts word end (row number_id number ∷ []) (Some (steps_id, steps ∷ [])) idle 3 is refl words)
-      (value_walked make_shape make_no_shorts word end (row number_id number ∷ []) (Some (steps_id, steps ∷ [])) idle 3 is)
-      (make_three number steps word words ends)
-  | inr is ↦ inr (is.lost words, make_no_lanes number steps word words is.no_number)
-]
+make_two number steps (word ∷ words) (end, ends) =
+    next_agrees make_shape make_no_shorts make_no_longs make_in (make_of (number ∷ steps ∷ word ∷ words)) (row number_id number ∷ []) (Some (steps_id, steps ∷ [])) 3 word words end refl
+    (make_three number steps word words ends) (make_no_lanes number steps word words)
 
 make_one : (number : Text) (words : List Text) → HasNoEnd words → MakeAgrees (one number) words (number ∷ words)
 unfolding clap_on_literals
 make_one number [] ends = inr (tt, refl)
-make_one number (word ∷ words) (end, ends) = elim (taken_or_lost make_shape make_no_shorts make_no_longs word end [] (Some (number_id, number ∷ [])) 2) [
-  | inl is ↦ step_taken make_shape make_in (make_of (number ∷ word ∷ words)) (one number) (two number word) word words
-      (value_from make_shape make_no_shorts word end [] (Some (number_id, number ∷ [])) idle 2 is refl words)
-      (value_walked make_shape make_no_shorts word end [] (Some (number_id, number ∷ [])) idle 2 is)
-      (make_two number word words ends)
-  | inr is ↦ inr (is.lost words, make_no_steps number word words is.no_number)
-]
+make_one number (word ∷ words) (end, ends) =
+    next_agrees make_shape make_no_shorts make_no_longs make_in (make_of (number ∷ word ∷ words)) [] (Some (number_id, number ∷ [])) 2 word words end refl (make_two number word words ends) (make_no_steps number word words)
 
 pub make_agrees : (words : List Text) → HasNoEnd words → MakeAgrees none words words
 unfolding clap_on_literals
 make_agrees [] ends = inr (tt, refl)
-make_agrees (word ∷ words) (end, ends) = elim (taken_or_lost make_shape make_no_shorts make_no_longs word end [] None 1) [
-  | inl is ↦ step_taken make_shape make_in (make_of (word ∷ words)) none (one word) word words
-      (value_from make_shape make_no_shorts word end [] None idle 1 is refl words) (value_walked make_shape make_no_shorts word end [] None idle 1 is)
-      (make_one word words ends)
-  | inr is ↦ inr (is.lost words, make_no_number word words is.no_number)
-]
+make_agrees (word ∷ words) (end, ends) = next_agrees make_shape make_no_shorts make_no_longs make_in (make_of (word ∷ words)) [] None 1 word words end refl (make_one word words ends) (make_no_number word words)
 
 abbrev TrialAgrees : Walk → List Text → List Text → Type 0
 TrialAgrees w words all = Agrees (fault_from trial_shape w words) (trial_in (rows_from trial_shape w words)) (trial_of all)
@@ -146,20 +140,10 @@ trial_two number steps (word ∷ words) ends = inr (
 trial_one : (number : Text) (words : List Text) → HasNoEnd words → TrialAgrees (one number) words (number ∷ words)
 unfolding clap_on_literals
 trial_one number [] ends = inr (tt, refl)
-trial_one number (word ∷ words) (end, ends) = elim (taken_or_lost trial_shape trial_no_shorts trial_no_longs word end [] (Some (number_id, number ∷ [])) 2) [
-  | inl is ↦ step_taken trial_shape trial_in (trial_of (number ∷ word ∷ words)) (one number) (two number word) word words
-      (value_from trial_shape trial_no_shorts word end [] (Some (number_id, number ∷ [])) idle 2 is refl words)
-      (value_walked trial_shape trial_no_shorts word end [] (Some (number_id, number ∷ [])) idle 2 is)
-      (trial_two number word words ends)
-  | inr is ↦ inr (is.lost words, trial_no_steps number word words is.no_number)
-]
+trial_one number (word ∷ words) (end, ends) =
+    next_agrees trial_shape trial_no_shorts trial_no_longs trial_in (trial_of (number ∷ word ∷ words)) [] (Some (number_id, number ∷ [])) 2 word words end refl (trial_two number word words ends) (trial_no_steps number word words)
 
 pub trial_agrees : (words : List Text) → HasNoEnd words → TrialAgrees none words words
 unfolding clap_on_literals
 trial_agrees [] ends = inr (tt, refl)
-trial_agrees (word ∷ words) (end, ends) = elim (taken_or_lost trial_shape trial_no_shorts trial_no_longs word end [] None 1) [
-  | inl is ↦ step_taken trial_shape trial_in (trial_of (word ∷ words)) none (one word) word words
-      (value_from trial_shape trial_no_shorts word end [] None idle 1 is refl words) (value_walked trial_shape trial_no_shorts word end [] None idle 1 is)
-      (trial_one word words ends)
-  | inr is ↦ inr (is.lost words, trial_no_number word words is.no_number)
-]
+trial_agrees (word ∷ words) (end, ends) = next_agrees trial_shape trial_no_shorts trial_no_longs trial_in (trial_of (word ∷ words)) [] None 1 word words end refl (trial_one word words ends) (trial_no_number word words)

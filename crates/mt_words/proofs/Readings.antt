@@ -55,49 +55,34 @@ agrees_by a b m n wanted faults mets agrees = subst (λ (x : Kinds). Agrees x m 
 abbrev AgreesOn : List Text → Type 0
 AgreesOn words = Agrees (fault_of grammar words) (command_met (subcommand_of grammar words)) (command_of words)
 
+abbrev told : Walk → Option Command
+told w = command_met (entered (built grammar) w.stopped)
+
 -- the words after `replay`, `make` and `trial` are left to it
 module _ (words : List Text) where
-  replay_walk : walk top.rules names nothing_held (codes "replay" ∷ words) ≡ met (codes "replay") words
-  unfolding clap_on_literals
-  replay_walk = sym (walk_stopped top.rules names start (codes "replay") [] words)
-
-  replay_fault : fault_of grammar (codes "replay" ∷ words) ≡ fault_from replay_shape (at (held [] None) idle 1) words
-  unfolding clap_on_literals
-  replay_fault =
-      ap₂ (λ (kinds : Kinds) (w : Walk). or_else kinds (behind w)) (left_alone (codes "replay") [] words) replay_walk
-      ∙ or_else_none (fault_from replay_shape (at (held [] None) idle 1) words)
-
-  make_walk : walk top.rules names nothing_held (codes "make" ∷ words) ≡ met (codes "make") words
-  unfolding clap_on_literals
-  make_walk = sym (walk_stopped top.rules names start (codes "make") [] words)
-
-  make_fault : fault_of grammar (codes "make" ∷ words) ≡ fault_from make_shape (at (held [] None) idle 1) words
-  unfolding clap_on_literals
-  make_fault =
-      ap₂ (λ (kinds : Kinds) (w : Walk). or_else kinds (behind w)) (left_alone (codes "make") [] words) make_walk
-      ∙ or_else_none (fault_from make_shape (at (held [] None) idle 1) words)
-
-  trial_walk : walk top.rules names nothing_held (codes "trial" ∷ words) ≡ met (codes "trial") words
-  unfolding clap_on_literals
-  trial_walk = sym (walk_stopped top.rules names start (codes "trial") [] words)
-
-  trial_fault : fault_of grammar (codes "trial" ∷ words) ≡ fault_from trial_shape (at (held [] None) idle 1) words
-  unfolding clap_on_literals
-  trial_fault =
-      ap₂ (λ (kinds : Kinds) (w : Walk). or_else kinds (behind w)) (left_alone (codes "trial") [] words) trial_walk
-      ∙ or_else_none (fault_from trial_shape (at (held [] None) idle 1) words)
-
-  abbrev told : Walk → Option Command
-  told w = command_met (entered (built grammar) w.stopped)
+  after_name : (name : Text) (fault : Kinds) → let above : Walk = walk top.rules names nothing_held (name ∷ words) in above ≡ met name words
+      → fault_of grammar (name ∷ words) ≡ or_else (walk_fault top names (met name []) words) (behind above) → behind (met name words) ≡ fault → Agrees fault (told (met name words)) (command_of (name ∷ words))
+      → Agrees (fault_of grammar (name ∷ words)) (told (walk top.rules names nothing_held (name ∷ words))) (command_of (name ∷ words))
+  after_name name fault walked whole left agrees =
+      agrees_by _ _ _ _ (command_of (name ∷ words)) (whole ∙ (ap₂ (λ (kinds : Kinds) (w : Walk). or_else kinds (behind w)) (left_alone name [] words) walked ∙ left)) (ap told walked) agrees
 
   after_replay : HasNoEnd words → AgreesOn (codes "replay" ∷ words)
-  after_replay ends = agrees_by _ _ _ _ (command_of (codes "replay" ∷ words)) replay_fault (ap told replay_walk) (replay_agrees words ends)
+  unfolding clap_on_literals
+  after_replay ends =
+      let fault : Kinds = fault_from replay_shape (at (held [] None) idle 1) words in
+      after_name (codes "replay") fault (sym (walk_stopped top.rules names start (codes "replay") [] words)) refl (or_else_none fault) (replay_agrees words ends)
 
   after_make : HasNoEnd words → AgreesOn (codes "make" ∷ words)
-  after_make ends = agrees_by _ _ _ _ (command_of (codes "make" ∷ words)) make_fault (ap told make_walk) (make_agrees words ends)
+  unfolding clap_on_literals
+  after_make ends =
+      let fault : Kinds = fault_from make_shape (at (held [] None) idle 1) words in
+      after_name (codes "make") fault (sym (walk_stopped top.rules names start (codes "make") [] words)) refl (or_else_none fault) (make_agrees words ends)
 
   after_trial : HasNoEnd words → AgreesOn (codes "trial" ∷ words)
-  after_trial ends = agrees_by _ _ _ _ (command_of (codes "trial" ∷ words)) trial_fault (ap told trial_walk) (trial_agrees words ends)
+  unfolding clap_on_literals
+  after_trial ends =
+      let fault : Kinds = fault_from trial_shape (at (held [] None) idle 1) words in
+      after_name (codes "trial") fault (sym (walk_stopped top.rules names start (codes "trial") [] words)) refl (or_else_none fault) (trial_agrees words ends)
 
 top_no_shorts : NoShorts top
 top_no_shorts x = refl
