@@ -176,9 +176,6 @@ ask_follows r tree query below says = record { follows = record { named = below;
 
 tree_follows : (r : Read) (fields : List (List ℕ)) (item : Item) → tree_item r fields ≡ Ok item → CanFollow r item
 unfolding tree_item
-tree_follows r [] item h = absurd (cc)
-tree_follows r (a ∷ []) item h = absurd (cc)
-tree_follows r (a ∷ b ∷ c ∷ fields) item h = absurd (cc)
 tree_follows r (name ∷ kind ∷ []) item h =
     let n = bound (new_name_of r.trees name) _ item h in
     let k = bound (kind_of kind) _ item n.2 in
@@ -187,12 +184,10 @@ tree_follows r (name ∷ kind ∷ []) item h =
     let is : Tree n.0 k.0 ≡ item = (cc) in
     let new = new_name r.trees name n.0 n.1 in
     subst (CanFollow r) is (record { follows = record { named = tt; placed = before r first.0 first.1; trees = (tree_room r room.0 room.1, new.1); scans = omega arith }; says = new.0 })
+tree_follows r fields item h = absurd (cc)
 
 dup_follows : (r : Read) (fields : List (List ℕ)) (item : Item) → dup_item r fields ≡ Ok item → CanFollow r item
 unfolding dup_item
-dup_follows r [] item h = absurd (cc)
-dup_follows r (a ∷ []) item h = absurd (cc)
-dup_follows r (a ∷ b ∷ c ∷ fields) item h = absurd (cc)
 dup_follows r (name ∷ copy ∷ []) item h =
     let t = bound (tree_of r.trees name) _ item h in
     let n = bound (new_name_of r.trees copy) _ item t.2 in
@@ -201,25 +196,24 @@ dup_follows r (name ∷ copy ∷ []) item h =
     let is : Dup t.0.number n.0 ≡ item = (cc) in
     let new = new_name r.trees copy n.0 n.1 in
     subst (CanFollow r) is (record { follows = record { named = tree_below r.trees name t.0 t.1; placed = before r first.0 first.1; trees = (tree_room r room.0 room.1, new.1); scans = omega arith }; says = new.0 })
+dup_follows r fields item h = absurd (cc)
 
 check_follows : (r : Read) (fields : List (List ℕ)) (item : Item) → check_item r fields ≡ Ok item → CanFollow r item
 unfolding check_item
-check_follows r [] item h = absurd (cc)
-check_follows r (a ∷ b ∷ fields) item h = absurd (cc)
 check_follows r (name ∷ []) item h =
     let t = bound (tree_of r.trees name) _ item h in
     let first = bound (before_steps r) _ item t.2 in
     let is : Check t.0.number ≡ item = (cc) in
     subst (CanFollow r) is (record { follows = record { named = tree_below r.trees name t.0 t.1; placed = before r first.0 first.1; trees = tt; scans = omega arith }; says = tt })
+check_follows r fields item h = absurd (cc)
 
 lane_follows : (r : Read) (fields : List (List ℕ)) (item : Item) → lane_item fields ≡ Ok item → CanFollow r item
 unfolding lane_item
-lane_follows r [] item h = absurd (cc)
-lane_follows r (a ∷ b ∷ fields) item h = absurd (cc)
 lane_follows r (lane ∷ []) item h =
     let n = bound (lane_number_of lane) _ item h in
     let is : Lane n.0 ≡ item = (cc) in
     subst (CanFollow r) is (record { follows = record { named = lane_below lane n.0 n.1; placed = tt; trees = tt; scans = omega arith }; says = tt })
+lane_follows r fields item h = absurd (cc)
 
 join_follows : (r : Read) (fields : List (List ℕ)) (item : Item) → join_item fields ≡ Ok item → CanFollow r item
 unfolding join_item
@@ -230,11 +224,6 @@ join_follows r [] item h =
 
 range_follows : (r : Read) (call : ℕ → ℕ → ℕ → Call) → ((a b e : ℕ) → IsNumber a → IsNumber b → IsNumber e → CallSays (call a b e)) → (fields : List (List ℕ)) (item : Item) → range_item call r.trees fields ≡ Ok item → CanFollow r item
 unfolding range_item
-range_follows r call says [] item h = absurd (cc)
-range_follows r call says (a ∷ []) item h = absurd (cc)
-range_follows r call says (a ∷ b ∷ []) item h = absurd (cc)
-range_follows r call says (a ∷ b ∷ c ∷ []) item h = absurd (cc)
-range_follows r call says (a ∷ b ∷ c ∷ d ∷ e ∷ fields) item h = absurd (cc)
 range_follows r call says (name ∷ first ∷ last ∷ entry ∷ []) item h =
     let t = bound (tree_of r.trees name) _ item h in
     let a = bound (index_of t.0.kind first) _ item t.2 in
@@ -242,6 +231,7 @@ range_follows r call says (name ∷ first ∷ last ∷ entry ∷ []) item h =
     let e = bound (entry_number_of entry) _ item b.2 in
     let is : Write t.0.number (call a.0 b.0 e.0) ≡ item = (cc) in
     subst (CanFollow r) is (write_follows r t.0.number (call a.0 b.0 e.0) (tree_below r.trees name t.0 t.1) (says a.0 b.0 e.0 (index_below t.0.kind first a.0 a.1) (index_below t.0.kind last b.0 b.1) (entry_below entry e.0 e.1)))
+range_follows r call says fields item h = absurd (cc)
 
 abbrev the_area : ℕ → ℕ → ℕ → ℕ → Area
 the_area tree size min max = record { tree = tree; size = size; min = min; max = max }
@@ -265,26 +255,16 @@ some_area trees name size min max area h =
 
 area_follows : (r : Read) (call : ℕ → ℕ → ℕ → Call) → ((n a b : ℕ) → IsNumber n → IsNumber a → IsNumber b → CallSays (call n a b)) → (fields : List (List ℕ)) (item : Item) → area_item call r.trees fields ≡ Ok item → CanFollow r item
 unfolding area_item
-area_follows r call says [] item h = absurd (cc)
-area_follows r call says (a ∷ []) item h = absurd (cc)
-area_follows r call says (a ∷ b ∷ []) item h = absurd (cc)
-area_follows r call says (a ∷ b ∷ c ∷ []) item h = absurd (cc)
-area_follows r call says (a ∷ b ∷ c ∷ d ∷ e ∷ fields) item h = absurd (cc)
 area_follows r call says (name ∷ size ∷ min ∷ max ∷ []) item h =
     let read = bound (area_of r.trees name size min max) _ item h in
     let area : Area = read.0 in
     let facts = some_area r.trees name size min max area read.1 in
     let is : Write area.tree (call area.size area.min area.max) ≡ item = (cc) in
     subst (CanFollow r) is (write_follows r area.tree (call area.size area.min area.max) facts.below (says area.size area.min area.max facts.size facts.min facts.max))
+area_follows r call says fields item h = absurd (cc)
 
 area_entry_follows : (r : Read) (call : ℕ → ℕ → ℕ → ℕ → Call) → ((n a b e : ℕ) → IsNumber n → IsNumber a → IsNumber b → IsNumber e → CallSays (call n a b e)) → (fields : List (List ℕ)) (item : Item) → area_entry_item call r.trees fields ≡ Ok item → CanFollow r item
 unfolding area_entry_item
-area_entry_follows r call says [] item h = absurd (cc)
-area_entry_follows r call says (a ∷ []) item h = absurd (cc)
-area_entry_follows r call says (a ∷ b ∷ []) item h = absurd (cc)
-area_entry_follows r call says (a ∷ b ∷ c ∷ []) item h = absurd (cc)
-area_entry_follows r call says (a ∷ b ∷ c ∷ d ∷ []) item h = absurd (cc)
-area_entry_follows r call says (a ∷ b ∷ c ∷ d ∷ e ∷ f ∷ fields) item h = absurd (cc)
 area_entry_follows r call says (name ∷ size ∷ min ∷ max ∷ entry ∷ []) item h =
     let read = bound (area_of r.trees name size min max) _ item h in
     let area : Area = read.0 in
@@ -292,47 +272,37 @@ area_entry_follows r call says (name ∷ size ∷ min ∷ max ∷ entry ∷ []) 
     let e = bound (entry_number_of entry) _ item read.2 in
     let is : Write area.tree (call area.size area.min area.max e.0) ≡ item = (cc) in
     subst (CanFollow r) is (write_follows r area.tree (call area.size area.min area.max e.0) facts.below (says area.size area.min area.max e.0 facts.size facts.min facts.max (entry_below entry e.0 e.1)))
+area_entry_follows r call says fields item h = absurd (cc)
 
 index_follows : (r : Read) (made : ℕ → ℕ → Item) → ((tree index : ℕ) → tree < length r.trees → IsNumber index → CanFollow r (made tree index)) → (fields : List (List ℕ)) (item : Item) → index_item made r.trees fields ≡ Ok item → CanFollow r item
 unfolding index_item
-index_follows r made can [] item h = absurd (cc)
-index_follows r made can (a ∷ []) item h = absurd (cc)
-index_follows r made can (a ∷ b ∷ c ∷ fields) item h = absurd (cc)
 index_follows r made can (name ∷ index ∷ []) item h =
     let t = bound (tree_of r.trees name) _ item h in
     let i = bound (index_of t.0.kind index) _ item t.2 in
     let is : made t.0.number i.0 ≡ item = (cc) in
     subst (CanFollow r) is (can t.0.number i.0 (tree_below r.trees name t.0 t.1) (index_below t.0.kind index i.0 i.1))
+index_follows r made can fields item h = absurd (cc)
 
 bound_follows : (r : Read) (query : ℕ → ℕ → Query) → ((i b : ℕ) → IsNumber i → IsNumber b → QuerySays (query i b)) → (fields : List (List ℕ)) (item : Item) → bound_item query r.trees fields ≡ Ok item → CanFollow r item
 unfolding bound_item
-bound_follows r query says [] item h = absurd (cc)
-bound_follows r query says (a ∷ []) item h = absurd (cc)
-bound_follows r query says (a ∷ b ∷ []) item h = absurd (cc)
-bound_follows r query says (a ∷ b ∷ c ∷ d ∷ fields) item h = absurd (cc)
 bound_follows r query says (name ∷ index ∷ limit ∷ []) item h =
     let t = bound (tree_of r.trees name) _ item h in
     let i = bound (index_of t.0.kind index) _ item t.2 in
     let b = bound (index_of t.0.kind limit) _ item i.2 in
     let is : Ask t.0.number (query i.0 b.0) ≡ item = (cc) in
     subst (CanFollow r) is (ask_follows r t.0.number (query i.0 b.0) (tree_below r.trees name t.0 t.1) (says i.0 b.0 (index_below t.0.kind index i.0 i.1) (index_below t.0.kind limit b.0 b.1)))
+bound_follows r query says fields item h = absurd (cc)
 
 whole_follows : (r : Read) (made : ℕ → Item) → ((tree : ℕ) → tree < length r.trees → CanFollow r (made tree)) → (fields : List (List ℕ)) (item : Item) → whole_item made r.trees fields ≡ Ok item → CanFollow r item
 unfolding whole_item
-whole_follows r made can [] item h = absurd (cc)
-whole_follows r made can (a ∷ b ∷ fields) item h = absurd (cc)
 whole_follows r made can (name ∷ []) item h =
     let t = bound (tree_of r.trees name) _ item h in
     let is : made t.0.number ≡ item = (cc) in
     subst (CanFollow r) is (can t.0.number (tree_below r.trees name t.0 t.1))
+whole_follows r made can fields item h = absurd (cc)
 
 scan_follows : (r : Read) (fields : List (List ℕ)) (item : Item) → scan_item r fields ≡ Ok item → CanFollow r item
 unfolding scan_item
-scan_follows r [] item h = absurd (cc)
-scan_follows r (a ∷ []) item h = absurd (cc)
-scan_follows r (a ∷ b ∷ []) item h = absurd (cc)
-scan_follows r (a ∷ b ∷ c ∷ []) item h = absurd (cc)
-scan_follows r (a ∷ b ∷ c ∷ d ∷ e ∷ fields) item h = absurd (cc)
 scan_follows r (name ∷ index ∷ max ∷ count ∷ []) item h =
     let t = bound (tree_of r.trees name) _ item h in
     let i = bound (index_of t.0.kind index) _ item t.2 in
@@ -342,6 +312,7 @@ scan_follows r (name ∷ index ∷ max ∷ count ∷ []) item h =
     let is : Scan t.0.number i.0 m.0 n.0 ≡ item = (cc) in
     let within = count_within count n.0 n.1 in
     subst (CanFollow r) is (record { follows = record { named = tree_below r.trees name t.0 t.1; placed = tt; trees = tt; scans = scan_room r n.0 room.0 room.1 }; says = (index_below t.0.kind index i.0 i.1, index_below t.0.kind max m.0 m.1, within.0, within.1) })
+scan_follows r fields item h = absurd (cc)
 
 -- what a line's fields say can follow
 fields_follow : (k : Keyword) (r : Read) (fields : List (List ℕ)) (item : Item) → item_by k r fields ≡ Ok item → CanFollow r item
