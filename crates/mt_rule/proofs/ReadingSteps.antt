@@ -36,13 +36,13 @@ use Rattle.mt_rule.specs.declared.views.View.{View}
 use Rattle.mt_rule.specs.declared.views.PenPart.{PenPart}
 use Rattle.mt_rule.specs.declared.views.PassPart.{PassPart}
 use Rattle.mt_rule.specs.Places.{commits_at, begun_at, root_at, section_at, section_word, IsSectionWord, column_at}
-use Rattle.mt_rule.specs.Seats.{HasPass, known_by, least_of, moment_at, pass_of, records_of, state_in, tree_of}
+use Rattle.mt_rule.specs.Seats.{HasPass, known_by, least_of, moment_at, pass_of, state_in, tree_of}
 use Rattle.mt_rule.specs.Rule.{begun_by, HasFloor, IsHeldBy, IsKept, IsOneHistory, IsOpenAt, IsSound, PassFits, ViewFits, WordsFit}
 use Rattle.mt_rule.specs.Sections.{IsAt, behind_first, closed_section, floor_or, here, kind_of, opened_section, slots_in, spans_here, IsRead, ParentTells, loads_begun, loads_commits, loads_parent, loads_pivot, loads_root, loads_slot, opens_section, closes_section}
 use Rattle.mt_rule.proofs.Beginnings.{legal_within}
 use Rattle.mt_rule.proofs.Carrying.{St, least_low, recast}
 use Rattle.mt_rule.proofs.Holding.{column_behind, pivot_now, rows_behind, size_above, slot_now}
-use Rattle.mt_rule.proofs.Viewing.{each_set, pass_is}
+use Rattle.mt_rule.proofs.Viewing.{each_set, numbers_fit, pass_is}
 
 abbrev M : Type 0
 M = Me (Unit {0}) View
@@ -145,27 +145,6 @@ history_begun p whole = elim (cases_Bool p.in_flight) [
 ]
 
 -- ---- more is seen
-
--- a pass that has seen so much, and knows of so many calls
-numbers_fit : (e : ℕ → Extent) (p : PenPart) (q : PassPart) (seen : List Moment) (begun ended epoch risen : ℕ) → PassFits e p q → Begins seen p.history → q.mine ≡ known.places q.number (records_of seen) → length q.seen ≤ length seen
-    → begun ≤ begun_by p → ended ≤ length seen → ended ≤ p.ended → epoch ≤ ended → risen ≤ begun_by p → PassFits e p (record q { seen = seen; begun = begun; ended = ended; epoch = epoch; risen = risen })
-numbers_fit e p q seen begun ended epoch risen f begins mine more has_begun has_ended over old has_risen = record {
-  shape = f.shape;
-  number = f.number;
-  seen = begins;
-  mine = mine;
-  all = f.all;
-  ended = has_ended;
-  over = over;
-  begun = has_begun;
-  risen = has_risen;
-  epoch = old;
-  loaded = f.loaded;
-  standing = λ o is. let h = f.standing o is in record { seen = let a = h.seen in omega arith; opened = h.opened };
-  closed = f.closed;
-  floor = λ n is. let h = f.floor n is in record { seen = let a = h.seen in omega arith; cleared = h.cleared; epoch = h.epoch };
-  held = λ j x at. let h = f.held j x at in record { row = h.row; met = let a = h.met in omega arith; floor = h.floor; has = h.has; since = h.since };
-}
 
 -- the whole history
 all_fit : (e : ℕ → Extent) (p : PenPart) (q : PassPart) (ended epoch risen : ℕ) → PassFits e p q → ended ≤ length p.history → ended ≤ p.ended → epoch ≤ ended → risen ≤ begun_by p

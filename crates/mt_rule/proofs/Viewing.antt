@@ -7,6 +7,7 @@ use mathlib.Core.Option.{some, some-ne-none, some-injective}
 use lib.ListN.{get_elem?}
 use Rattle.atomic_table.proofs.Lists.{at_set}
 use Rattle.mt_base.specs.Passes.{Begins}
+use Rattle.mt_base.specs.Passes as known
 use Rattle.mt_base.proofs.Goings.{begins_long}
 use Rattle.mt_life.specs.declared.views.Extent.{Extent}
 use Rattle.mt_rule.specs.declared.views.View.{View}
@@ -14,8 +15,8 @@ use Rattle.mt_rule.specs.declared.views.PenPart.{PenPart}
 use Rattle.mt_rule.specs.declared.views.PassPart.{PassPart}
 use Rattle.mt_rule.specs.declared.views.NotePart.{NotePart}
 use Rattle.mt_rule.specs.declared.views.Moment.{Moment}
-use Rattle.mt_rule.specs.Seats.{pen_or, pass_or, note_or, no_view}
-use Rattle.mt_rule.specs.Rule.{PassFits, ViewFits}
+use Rattle.mt_rule.specs.Seats.{pen_or, pass_or, note_or, no_view, records_of}
+use Rattle.mt_rule.specs.Rule.{begun_by, PassFits, ViewFits}
 use Rattle.mt_rule.proofs.Beginnings.{places_within}
 
 -- ---- lists of views
@@ -104,28 +105,27 @@ nothing_fits pen owner extents p words j = record {
 
 -- ---- a pass that has seen more of the history
 
-module _ (extents : ℕ → Extent) (p : PenPart) (q : PassPart) (seen : List Moment) (ended : ℕ) (f : PassFits extents p q) (more : Begins q.seen seen) where
-  abbrev Q : PassPart
-  Q = record q { seen = seen; ended = ended }
+-- a pass that has seen so much, and knows of so many calls
+pub numbers_fit : (e : ℕ → Extent) (p : PenPart) (q : PassPart) (seen : List Moment) (begun ended epoch risen : ℕ) → PassFits e p q → Begins seen p.history → q.mine ≡ known.places q.number (records_of seen) → length q.seen ≤ length seen
+    → begun ≤ begun_by p → ended ≤ length seen → ended ≤ p.ended → epoch ≤ ended → risen ≤ begun_by p → PassFits e p (record q { seen = seen; begun = begun; ended = ended; epoch = epoch; risen = risen })
+numbers_fit e p q seen begun ended epoch risen f begins mine more has_begun has_ended over old has_risen = record {
+  shape = f.shape;
+  number = f.number;
+  seen = begins;
+  mine = mine;
+  all = f.all;
+  ended = has_ended;
+  over = over;
+  begun = has_begun;
+  risen = has_risen;
+  epoch = old;
+  loaded = f.loaded;
+  standing = λ o is. let h = f.standing o is in record { seen = let a = h.seen in omega arith; opened = h.opened };
+  closed = f.closed;
+  floor = λ n is. let h = f.floor n is in record { seen = let a = h.seen in omega arith; cleared = h.cleared; epoch = h.epoch };
+  held = λ j x at. let h = f.held j x at in record { row = h.row; met = let a = h.met in omega arith; floor = h.floor; has = h.has; since = h.since };
+}
 
-  longer : length q.seen ≤ length seen
-  longer = begins_long q.seen seen more
-
-  pub seen_fits : Begins seen p.history → q.ended ≤ ended → ended ≤ length seen → ended ≤ p.ended → PassFits extents p (record q { seen = seen; ended = ended })
-  seen_fits whole grows seen_all over = record {
-    shape = f.shape;
-    number = f.number;
-    seen = whole;
-    mine = f.mine ∙ sym (places_within q.number q.seen seen p.history more whole (f.all ∙ f.mine));
-    all = f.all;
-    ended = seen_all;
-    over = over;
-    begun = f.begun;
-    risen = f.risen;
-    epoch = (let a = f.epoch in omega arith);
-    loaded = f.loaded;
-    standing = λ epoch e. let t = f.standing epoch e in record { seen = (let a = t.seen in let l = longer in omega arith); opened = t.opened };
-    closed = f.closed;
-    floor = λ n e. let t = f.floor n e in record { seen = (let a = t.seen in let l = longer in omega arith); cleared = t.cleared; epoch = t.epoch };
-    held = λ j x e. let t = f.held j x e in record { row = t.row; met = (let a = t.met in let l = longer in omega arith); floor = t.floor; has = t.has; since = t.since };
-  }
+pub seen_fits : (e : ℕ → Extent) (p : PenPart) (q : PassPart) (seen : List Moment) (ended : ℕ) (f : PassFits e p q) → Begins q.seen seen → Begins seen p.history → q.ended ≤ ended → ended ≤ length seen → ended ≤ p.ended → PassFits e p (record q { seen = seen; ended = ended })
+seen_fits e p q seen ended f more whole grows all over =
+    numbers_fit e p q seen q.begun ended q.epoch q.risen f whole (f.mine ∙ sym (places_within q.number q.seen seen p.history more whole (f.all ∙ f.mine))) (begins_long q.seen seen more) f.begun all over (let a = f.epoch in omega arith) f.risen
