@@ -27,7 +27,7 @@ use Rattle.mt_rule.specs.Limits.{most_calls, most_passes}
 use Rattle.mt_rule.specs.Places.{commits_at, begun_at, root_at, section_at, rows_at, size_of, section_word, IsSectionWord}
 use Rattle.mt_rule.specs.Seats.{least_of, moment_at, records_of, shape_told, state_in}
 use Rattle.mt_rule.specs.Rule.{begun_by, IsOneHistory, IsSound, WordsFit, HasFloor, IsHeldBy, PassFits, ViewFits, IsKept}
-use Rattle.mt_rule.proofs.Viewing.{each_set, pass_is, pen_is}
+use Rattle.mt_rule.proofs.Viewing.{each_set, pen_is, seat_fits}
 
 abbrev pub St : Type 0
 St = State (Unit {0}) View
@@ -270,12 +270,7 @@ module _ (told : Told) (s : St) (r : IsKept told s) (by : ℕ) (v : View) (at : 
       → IsKept told record { words = words; homes = s.homes; views = set s.views by (record v { pen = Some (shaped_as r.part n); pass = Some q' }) }
   carry_pair words e' n q q' beside number standing sound' fit c sections leaves mine =
       let p' = shaped_as r.part n in let g = r.each by v at in
-      carry_view words e' n (record v { pen = Some p'; pass = Some q' }) sound' fit c sections leaves (record {
-        keeper = λ x k. (known, sym (pen_is p' x k));
-        at = λ x k. g.at q beside ∙ ap r.owner (sym number ∙ ap (λ (z : PassPart). z.number) (pass_is q' x k));
-        section = λ x k.
-            subst (λ (z : PassPart). slice_index words (section_at z.number) ≡ section_word z.standing) (pass_is q' x k)
-            (ap (λ (i : ℕ). slice_index words (section_at i)) number ∙ (section_kept words q sections (g.passes q beside) (g.section q beside) ∙ ap section_word (sym standing)));
-        passes = λ x k. subst (PassFits e' p') (pass_is q' x k) mine;
-        notes = λ m k. begins_on m.seen r.part.history n.history (g.notes m k) c.history;
-      })
+      carry_view words e' n (record v { pen = Some p'; pass = Some q' }) sound' fit c sections leaves
+      (seat_fits r.pen r.owner e' p' words by (Some p') q' v.note (λ x k. (known, sym (pen_is p' x k))) (g.at q beside ∙ ap r.owner (sym number))
+      (ap (λ (i : ℕ). slice_index words (section_at i)) number ∙ (section_kept words q sections (g.passes q beside) (g.section q beside) ∙ ap section_word (sym standing)))
+      mine (λ m k. begins_on m.seen r.part.history n.history (g.notes m k) c.history))

@@ -20,13 +20,13 @@ use Rattle.mt_rule.specs.declared.views.PenPart.{PenPart}
 use Rattle.mt_rule.specs.declared.views.PassPart.{PassPart}
 use Rattle.mt_rule.specs.declared.views.NotePart.{NotePart}
 use Rattle.mt_rule.specs.Seats.{HasPen, HasPass, HasNote, pen_of, pass_of, note_of, new_part, record_of, records_of, tree_of, known_by, longer_of, no_view, dealing_view, dealt_view, with_pass, with_note, without_pass, pass_alone, note_alone}
-use Rattle.mt_rule.specs.Places.{section_at, section_word}
+use Rattle.mt_rule.specs.Places.{section_at}
 use Rattle.mt_rule.specs.Rule.{IsOneHistory, IsSound, WordsFit, PassFits, ViewFits, IsKept}
 use Rattle.mt_rule.specs.Steps.{all_seen, taught, sees_all, learns}
 use Rattle.mt_rule.specs.Tokens.{WasShown}
 use Rattle.mt_rows.specs.Levels.{one_if}
 use Rattle.mt_rule.proofs.Beginnings.{begins_records, longer_fits, places_none, legal_within}
-use Rattle.mt_rule.proofs.Viewing.{each_set, each_split, each_join, other_view, pen_is, pass_is, note_is, owned, owned_here, owned_else, stays, nothing_fits, seen_fits}
+use Rattle.mt_rule.proofs.Viewing.{each_set, each_split, each_join, other_view, pen_is, pass_is, note_is, owned, owned_here, owned_else, stays, nothing_fits, seat_fits, seen_fits}
 use Rattle.mt_rule.proofs.Carrying.{St, recast, reseated, still_sound}
 
 -- ---- a load, which leaves all words and all that the pen knows
@@ -124,13 +124,8 @@ dealing told by v has_pen room s r₀ at =
       each = each_split (ViewFits r.pen owner' r.extents p' s.words) s.views by (dealing_view v) (dealt_view v)
           (λ j u apart e. let g = r.each j u e in record { keeper = λ x k. absurd (apart ((g.keeper x k).0 ∙ sym known.0)); at = same j u g; section = g.section; passes = λ x k. still_fits r.extents p x (g.passes x k); notes = g.notes })
           record { keeper = λ x k. (known.0, sym (pen_is p' x k)); at = same by v own; section = own.section; passes = λ x k. still_fits r.extents p x (own.passes x k); notes = own.notes }
-          record {
-            keeper = λ x k. absurd (none-some x k);
-            at = λ x k. sym (owned_here r.owner p.dealt (length s.views) x.number (sym (ap (λ (z : PassPart). z.number) (pass_is q' x k))));
-            section = λ x k. subst (λ (z : PassPart). get_or s.words (section_at z.number) 0 ≡ section_word z.standing) (pass_is q' x k) (r.words.undealt p.dealt (omega arith) room);
-            passes = λ x k. subst (PassFits r.extents p') (pass_is q' x k) (new_fits r.extents p r.sound.history);
-            notes = λ n k. absurd (none-some n k);
-          };
+          (seat_fits r.pen owner' r.extents p' s.words (length s.views) None q' None (λ x k. absurd (none-some x k)) (sym (owned_here r.owner p.dealt (length s.views) p.dealt refl))
+          (r.words.undealt p.dealt (omega arith) room) (new_fits r.extents p r.sound.history) (λ n k. absurd (none-some n k)));
     }
 
 -- ---- a pass beside the pen, and apart again
@@ -206,13 +201,8 @@ seeing told slots by me has_pen has_pass s r₀ _ at _ =
     let own = r.each by v at in let f = own.passes q has_pass in
     let q' : PassPart = all_seen p q in
     let w : View = record v { pass = Some q' } in
-    let fits : (words : List ℕ) → words ≡ s.words → ViewFits r.pen r.owner r.extents p words by w = λ words same. record {
-      keeper = own.keeper;
-      at = λ x k. own.at q has_pass ∙ ap (λ (z : PassPart). r.owner z.number) (pass_is q' x k);
-      section = λ x k. subst (λ (z : PassPart). get_or words (section_at z.number) 0 ≡ section_word z.standing) (pass_is q' x k) (ap (λ (l : List ℕ). get_or l (section_at q.number) 0) same ∙ own.section q has_pass);
-      passes = λ x k. subst (PassFits r.extents p) (pass_is q' x k) (shown_fits r.extents p q r.sound.history f);
-      notes = own.notes;
-    } in
+    let fits : (words : List ℕ) → words ≡ s.words → ViewFits r.pen r.owner r.extents r.part words by w = λ words same.
+    seat_fits r.pen r.owner r.extents p words by v.pen q' v.note own.keeper (own.at q has_pass) (ap (λ (l : List ℕ). get_or l (section_at q.number) 0) same ∙ own.section q has_pass) (shown_fits r.extents p q r.sound.history f) own.notes in
     (w, keeps, tt, looked told s r 0 by w fits, record { view = refl; count = r.words.commits; extents = r.extents; sound = r.sound; fits = f })
 
 -- what the pass beside the pen then knows is that it saw the whole history
@@ -259,11 +249,6 @@ learning told slots by me has_pass has_note s r _ at _ =
     let f' = taught_fits r.extents p q n f noted in
     let q' : PassPart = taught q n in
     let w : View = record v { pass = Some q'; note = None } in
-    let fits : (words : List ℕ) → words ≡ s.words → ViewFits r.pen r.owner r.extents p words by w = λ words same. record {
-      keeper = own.keeper;
-      at = λ x k. own.at q has_pass ∙ ap (λ (z : PassPart). r.owner z.number) (pass_is q' x k);
-      section = λ x k. subst (λ (z : PassPart). get_or words (section_at z.number) 0 ≡ section_word z.standing) (pass_is q' x k) (ap (λ (l : List ℕ). get_or l (section_at q.number) 0) same ∙ own.section q has_pass);
-      passes = λ x k. subst (PassFits r.extents p) (pass_is q' x k) f';
-      notes = λ y k. absurd (none-some y k);
-    } in
+    let fits : (words : List ℕ) → words ≡ s.words → ViewFits r.pen r.owner r.extents r.part words by w = λ words same.
+    seat_fits r.pen r.owner r.extents p words by v.pen q' None own.keeper (own.at q has_pass) (ap (λ (l : List ℕ). get_or l (section_at q.number) 0) same ∙ own.section q has_pass) f' (λ n k. absurd (none-some n k)) in
     (w, keeps, tt, looked told s r 0 by w fits, (record { view = refl; seen = l.this; told = l.that; sound = sound_of r.extents p q' [] r.sound.history f' }, refl))

@@ -42,7 +42,7 @@ use Rattle.mt_rule.specs.Sections.{IsAt, behind_first, closed_section, floor_or,
 use Rattle.mt_rule.proofs.Beginnings.{legal_within}
 use Rattle.mt_rule.proofs.Carrying.{St, least_low, recast}
 use Rattle.mt_rule.proofs.Holding.{column_behind, pivot_now, rows_behind, size_above, slot_now}
-use Rattle.mt_rule.proofs.Viewing.{each_set, numbers_fit, pass_is}
+use Rattle.mt_rule.proofs.Viewing.{each_set, numbers_fit, seat_fits}
 
 abbrev M : Type 0
 M = Me (Unit {0}) View
@@ -75,13 +75,8 @@ module _ (told : Told) (s : St) (r₀ : IsKept told s) (by : ℕ) (v : View) (at
   }
     where
       own : ViewFits kept_by.pen kept_by.owner kept_by.extents part_by ws by (record v { pass = Some q' })
-      own = record {
-        keeper = mine.keeper;
-        at = λ x e. mine.at q is ∙ ap kept_by.owner (sym same ∙ ap (λ (z : PassPart). z.number) (pass_is q' x e));
-        section = λ x e. subst (λ (z : PassPart). slice_index ws (section_at z.number) ≡ section_word z.standing) (pass_is q' x e) (ap (λ (k : ℕ). slice_index ws (section_at k)) same ∙ section);
-        passes = λ x e. subst (PassFits kept_by.extents part_by) (pass_is q' x e) fits;
-        notes = mine.notes;
-      }
+      own = seat_fits kept_by.pen kept_by.owner kept_by.extents part_by ws by v.pen q' v.note mine.keeper (mine.at q is ∙ ap kept_by.owner (sym same))
+          (ap (λ (k : ℕ). slice_index ws (section_at k)) same ∙ section) fits mine.notes
 
       others : (j : ℕ) (u : View) → j ≢ by → ViewFits kept_by.pen kept_by.owner kept_by.extents part_by s.words j u → ViewFits kept_by.pen kept_by.owner kept_by.extents part_by ws j u
       others j u apart theirs = record {

@@ -1,6 +1,6 @@
 -- Lists of views of which one or two change, and the parts of a view.
 use Rattle.std.proofs.Common.{◌≡◌, ◌≢◌, ◌⊎◌, ℕ, zero, suc, ◌≤◌, ◌==◌, List, [], ◌∷◌, ◌++◌, length, set, refl, sym, ap, ◌∙◌, subst, inl, inr, ⊎_elim, arith, length-set, Some}
-use Rattle.std.specs.Prelude.{if◌then◌else◌}
+use Rattle.std.specs.Prelude.{if◌then◌else◌, slice_index, Option}
 use Rattle.std.proofs.lemmas.Bool.{ne_eqb, eq-eqb}
 use Rattle.std.proofs.lemmas.Option.{none-some}
 use mathlib.Core.Option.{some, some-ne-none, some-injective}
@@ -15,6 +15,7 @@ use Rattle.mt_rule.specs.declared.views.PenPart.{PenPart}
 use Rattle.mt_rule.specs.declared.views.PassPart.{PassPart}
 use Rattle.mt_rule.specs.declared.views.NotePart.{NotePart}
 use Rattle.mt_rule.specs.declared.views.Moment.{Moment}
+use Rattle.mt_rule.specs.Places.{section_at, section_word}
 use Rattle.mt_rule.specs.Seats.{pen_or, pass_or, note_or, no_view, records_of}
 use Rattle.mt_rule.specs.Rule.{begun_by, PassFits, ViewFits}
 use Rattle.mt_rule.proofs.Beginnings.{places_within}
@@ -101,6 +102,18 @@ nothing_fits pen owner extents p words j = record {
   section = λ q k. absurd (none-some q k);
   passes = λ q k. absurd (none-some q k);
   notes = λ n k. absurd (none-some n k);
+}
+
+-- a seat that has this pass
+pub seat_fits : (pen : ℕ) (owner : ℕ → ℕ) (extents : ℕ → Extent) (p : PenPart) (words : List ℕ) (by : ℕ) (part : Option PenPart) (q : PassPart) (learnt : Option NotePart)
+    → ((x : PenPart) → part ≡ Some x → (by ≡ pen) × (x ≡ p)) → by ≡ owner q.number → slice_index words (section_at q.number) ≡ section_word q.standing → PassFits extents p q → ((n : NotePart) → learnt ≡ Some n → Begins n.seen p.history)
+    → ViewFits pen owner extents p words by (record { pen = part; pass = Some q; note = learnt })
+seat_fits pen owner extents p words by part q learnt keeper at section fits notes = record {
+  keeper = keeper;
+  at = λ x k. at ∙ ap (λ (z : PassPart). owner z.number) (pass_is q x k);
+  section = λ x k. subst (λ (z : PassPart). slice_index words (section_at z.number) ≡ section_word z.standing) (pass_is q x k) section;
+  passes = λ x k. subst (PassFits extents p) (pass_is q x k) fits;
+  notes = notes;
 }
 
 -- ---- a pass that has seen more of the history
