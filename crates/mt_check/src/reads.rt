@@ -1,11 +1,10 @@
 //! What the walk reads of one row.
 
-ghost use Rattle.std.specs.Prelude.{◌≡◌, ◌+◌, ◌-◌, ◌*◌, ◌<◌, ◌≤◌, Some, length, nat_lt, slice_get, if◌then◌else◌};
+ghost use Rattle.std.specs.Prelude.{◌≡◌, ◌+◌, ◌-◌, ◌<◌, ◌≤◌, Some, length, slice_get};
 ghost use Rattle.mt_base.specs.Width.{columns, first_row};
-ghost use Rattle.mt_layout.specs.Columns.{pivot_column, item_at, RiseFrom};
-ghost use Rattle.mt_layout.specs.Sizes.{slots_of, gaps_of};
+ghost use Rattle.mt_layout.specs.Columns.{RiseFrom};
+ghost use Rattle.mt_layout.specs.Sizes.{slots_of};
 ghost use Rattle.mt_layout.specs.Spans.{spans_from};
-ghost use Rattle.mt_rows.specs.Spans.{base_of, column};
 ghost use Rattle.mt_rows.specs.Sheet.{OnlyReads};
 ghost use Rattle.mt_check.specs.RowTests as tests;
 ghost use Rattle.mt_check.specs.Reads as reads;
@@ -13,34 +12,9 @@ ghost use Rattle.mt_check.specs.Reads as reads;
 use arrayvec::ArrayVec;
 use mt_base::cols;
 use mt_layout::{Item, MOST_SLOTS, RowKind, Span, gaps, slots};
-use mt_rows::Rows;
+use mt_rows::{Rows, load_item};
 
 pub(crate) type Items = ArrayVec<Item, MOST_SLOTS>;
-
-/// The item in a slot of a row of this kind that ends at `max`.
-fn load_item<R: Rows>(rows: &mut R, kind: RowKind, row: u32, max: u64, slot: u32) -> Item
-    requires first { first_row ≤ row }
-    requires last { row < first_row + (R.sheet rows.old).tree.rows }
-    requires slot { slot < slots_of (R.sheet rows.old).tree.table.width kind }
-    ensures item { let t = (R.sheet rows.old).tree.table in result ≡ item_at (slots_of t.width kind) (gaps_of t.width kind) t.words (base_of t row) slot result.last }
-    ensures last { let t = (R.sheet rows.old).tree.table in result.last ≡ (if nat_lt (slot + 1) (slots_of t.width kind) then column t row (pivot_column slot) else max) }
-    ensures rest { OnlyReads (R.sheet rows.old) (R.sheet rows.new) }
-{
-    let width = rows.width();
-    let slots = slots(width, kind);
-    let last = if slot + 1 < slots {
-        rows.load(row, 1 + slot)
-    } else {
-        max
-    };
-    let word = rows.load(row, slots + slot);
-    let gap = if gaps(width, kind) == 0 {
-        0
-    } else {
-        rows.load(row, 2 * slots + slot)
-    };
-    Item { last, word, gap }
-}
 
 /// Reads the items of a row of this kind that ends at `max`.
 #[tactic(auto, using(crate::proofs::Loaded::all_read))]

@@ -13,13 +13,13 @@ ghost use Rattle.mt_rows.specs.Sheet.{OnlyReads};
 ghost use Rattle.mt_splice.specs.steps.Regions.{AreEnds, IsLeafStep, leaf_items};
 ghost use Rattle.mt_splice.specs.Splice.{region_of};
 
-use crate::reads::{first_in, load_item, push_items};
+use crate::reads::{first_in, push_items};
 use crate::regions::Region;
 use mt_base::{Width, top};
 use mt_layout::{Item, RowKind, Run, slots};
 use mt_leaf::{Towards, edit_into, push_joined};
 use mt_path::PathStep;
-use mt_rows::Rows;
+use mt_rows::{Rows, load_item};
 
 /// Fills an empty run with what stands in a leaf below `first`, which the path's slot there holds.
 fn push_below<R: Rows>(rows: &mut R, leaf: &PathStep, first: u64, run: &mut Run)

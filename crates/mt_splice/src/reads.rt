@@ -1,15 +1,15 @@
 //! The items of a row read from the rows of a tree.
 
-ghost use Rattle.std.specs.Prelude.{◌≡◌, ◌<◌, ◌≤◌, ◌+◌, ◌-◌, ◌^◌, ◌++◌, nat_lt, length, take, if◌then◌else◌};
+ghost use Rattle.std.specs.Prelude.{◌≡◌, ◌<◌, ◌≤◌, ◌+◌, ◌-◌, ◌^◌, ◌++◌, length, take};
 ghost use Rattle.mt_base.specs.Width.{first_row};
-ghost use Rattle.mt_layout.specs.Columns.{item_at, items_from, pivot_column};
+ghost use Rattle.mt_layout.specs.Columns.{items_from};
 ghost use Rattle.mt_leaf.specs.Places.{first_of};
-ghost use Rattle.mt_rows.specs.Spans.{base_of, column};
+ghost use Rattle.mt_rows.specs.Spans.{base_of};
 ghost use Rattle.mt_layout.specs.Sizes.{slots_of, gaps_of, run_room};
 ghost use Rattle.mt_rows.specs.Sheet.{OnlyReads};
 
-use mt_layout::{Item, RowKind, Run, gaps, slots};
-use mt_rows::Rows;
+use mt_layout::{Item, RowKind, Run, slots};
+use mt_rows::{Rows, load_item};
 use std::ops::Range;
 
 /// The first index of the item in a slot, where the first item begins at `first`.
@@ -23,31 +23,6 @@ pub fn first_in(first: u64, items: &[Item], slot: usize) -> u64
         return first;
     }
     items[slot - 1].last + 1
-}
-
-/// The item in a slot of a row that covers the indexes up to `max`.
-pub fn load_item<R: Rows>(rows: &mut R, kind: RowKind, row: u32, max: u64, slot: u32) -> Item
-    requires first { first_row ≤ row }
-    requires last { row < first_row + (R.sheet rows.old).tree.rows }
-    requires slot { slot < slots_of (R.sheet rows.old).tree.table.width kind }
-    ensures item { let t = (R.sheet rows.old).tree.table in result ≡ item_at (slots_of t.width kind) (gaps_of t.width kind) t.words (base_of t row) slot result.last }
-    ensures last { let t = (R.sheet rows.old).tree.table in result.last ≡ (if nat_lt (slot + 1) (slots_of t.width kind) then column t row (pivot_column slot) else max) }
-    ensures rest { OnlyReads (R.sheet rows.old) (R.sheet rows.new) }
-{
-    let width = rows.width();
-    let slots = slots(width, kind);
-    let last = if slot + 1 < slots {
-        rows.load(row, 1 + slot)
-    } else {
-        max
-    };
-    let word = rows.load(row, slots + slot);
-    let gap = if gaps(width, kind) == 0 {
-        0
-    } else {
-        rows.load(row, 2 * slots + slot)
-    };
-    Item { last, word, gap }
 }
 
 /// Appends the items of a row that covers the indexes up to `max`, from one slot up to, but without, another, or to the
