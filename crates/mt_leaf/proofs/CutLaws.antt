@@ -90,38 +90,32 @@ module _ (leaf : Bool) (least most : ℕ) (items : List Item) (sizes : 2 * least
             omega arith;
       }
 
-  meets_middle : (place : ℕ) → IsEnd leaf items (half_place (length items)) place → Meets leaf least most items place
-  meets_middle place end =
-      let low = end.most in let near = end.least in
+  -- before a place of which no other serves that is cut in two rows
+  meets_before : (end place : ℕ) → IsEnd leaf items end place → 1 < end → least < end → end < length items → end + least ≤ length items
+      → ((a : ℕ) → most < max place (length items - place) → a ≤ most → length items - a ≤ most → (a ≡ end) × (place < end)) → Meets leaf least most items place
+  meets_before end place is some many inside rest only =
+      let low = is.most in let near = is.least in
       record {
         some = omega arith;
         many = omega arith;
         rest = omega arith;
         inside = omega arith;
-        full = end.full;
+        full = is.full;
         only = λ more a front back.
-            let few = front.few in let rest = back.few in let inside = back.some in
-            let short : place < half_place (length items) = omega arith in
-            let at : a ≡ half_place (length items) = omega arith in
-            let same = not_before leaf items (half_place (length items)) place a end (λ l. front.full l inside) at in
-            omega arith;
+            let at = only a more (omega (arith, front.few)) (omega (arith, back.few)) in
+            let same = not_before leaf items end place a is (λ l. front.full l (omega (arith, back.some))) at.0 in
+            omega (arith, at.1, same);
       }
+
+  meets_middle : (place : ℕ) → IsEnd leaf items (half_place (length items)) place → Meets leaf least most items place
+  meets_middle place end =
+      let low = end.most in let near = end.least in
+      meets_before (half_place (length items)) place end (omega arith) (omega arith) (omega arith) (omega arith) (λ a more few rest. (omega arith, omega arith))
 
   meets_last : (place : ℕ) → IsEnd leaf items (last_place least most (length items)) place → Meets leaf least most items place
   meets_last place end =
       let low = end.most in let near = end.least in
-      record {
-        some = omega arith;
-        many = omega arith;
-        rest = omega arith;
-        inside = omega arith;
-        full = end.full;
-        only = λ more a front back.
-            let few = front.few in let rest = back.few in let inside = back.some in
-            let at : a ≡ last_place least most (length items) = omega arith in
-            let same = not_before leaf items (last_place least most (length items)) place a end (λ l. front.full l inside) at in
-            omega arith;
-      }
+      meets_before (last_place least most (length items)) place end (omega arith) (omega arith) (omega arith) (omega arith) (λ a more few rest. (omega arith, omega arith))
 
   meets : (side : Towards) (place : ℕ) → MeetAt side leaf least most items place → Meets leaf least most items place
   meets towards.First place at = meets_first place at
