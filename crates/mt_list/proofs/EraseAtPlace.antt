@@ -9,7 +9,7 @@ use Rattle.mt_list.specs.Places.{place_below, up_to}
 use Rattle.mt_list.proofs.HoldingAtPlace.{holding_at_place}
 
 -- a map from above the index loses nothing
-without_above : (m : List Range) (low index : ℕ) → index < low → IsMapFrom low m → without m index ≡ m
+pub without_above : (m : List Range) (low index : ℕ) → index < low → IsMapFrom low m → without m index ≡ m
 without_above [] low index above ordered = refl
 without_above (r ∷ m) low index above ordered =
     rw (lt-leb r.first index (omega (arith, ordered.0)))

@@ -14,23 +14,21 @@ at_or_above (r ∷ m) low (suc k) d ordered within =
     let behind : (r.last + 1 ≤ (get_or m k d).first) × ((get_or m k d).first ≤ (get_or m k d).last) = at_or_above m (r.last + 1) k d ordered.3 (omega arith) in
     (omega (arith, ordered.0, ordered.1, behind.0), behind.1)
 
-pub lasts_rise : (m : List Range) (low : ℕ) → IsMapFrom low m → IsNonDecreasingBy (λ r. r.last) m
-lasts_rise [] low ordered i j d le within = absurd (omega arith)
-lasts_rise (r ∷ m) low ordered zero zero d le within = omega arith
-lasts_rise (r ∷ m) low ordered zero (suc j) d le within =
+-- an index of each range rises in a map
+rise : (at : Range → ℕ) → ((r : Range) → r.first ≤ r.last → (r.first ≤ at r) × (at r ≤ r.last)) → (m : List Range) (low : ℕ) → IsMapFrom low m → IsNonDecreasingBy at m
+rise at inside [] low ordered i j d le within = absurd (omega arith)
+rise at inside (r ∷ m) low ordered zero zero d le within = omega arith
+rise at inside (r ∷ m) low ordered zero (suc j) d le within =
     let behind : (r.last + 1 ≤ (get_or m j d).first) × ((get_or m j d).first ≤ (get_or m j d).last) = at_or_above m (r.last + 1) j d ordered.3 (omega arith) in
-    omega (arith, behind.0, behind.1)
-lasts_rise (r ∷ m) low ordered (suc i) zero d le within = absurd (omega arith)
-lasts_rise (r ∷ m) low ordered (suc i) (suc j) d le within = lasts_rise m (r.last + 1) ordered.3 i j d (omega arith) (omega arith)
+    omega (arith, behind.0, (inside r ordered.1).1, (inside (get_or m j d) behind.1).0)
+rise at inside (r ∷ m) low ordered (suc i) zero d le within = absurd (omega arith)
+rise at inside (r ∷ m) low ordered (suc i) (suc j) d le within = rise at inside m (r.last + 1) ordered.3 i j d (omega arith) (omega arith)
+
+pub lasts_rise : (m : List Range) (low : ℕ) → IsMapFrom low m → IsNonDecreasingBy (λ r. r.last) m
+lasts_rise m low ordered = rise (λ r. r.last) (λ r order. (order, omega arith)) m low ordered
 
 pub firsts_rise : (m : List Range) (low : ℕ) → IsMapFrom low m → IsNonDecreasingBy (λ r. r.first) m
-firsts_rise [] low ordered i j d le within = absurd (omega arith)
-firsts_rise (r ∷ m) low ordered zero zero d le within = omega arith
-firsts_rise (r ∷ m) low ordered zero (suc j) d le within =
-    let behind : (r.last + 1 ≤ (get_or m j d).first) × ((get_or m j d).first ≤ (get_or m j d).last) = at_or_above m (r.last + 1) j d ordered.3 (omega arith) in
-    omega (arith, behind.0, ordered.1)
-firsts_rise (r ∷ m) low ordered (suc i) zero d le within = absurd (omega arith)
-firsts_rise (r ∷ m) low ordered (suc i) (suc j) d le within = firsts_rise m (r.last + 1) ordered.3 i j d (omega arith) (omega arith)
+firsts_rise m low ordered = rise (λ r. r.first) (λ r order. (omega arith, order)) m low ordered
 
 no_range : Range
 no_range = record { first = 0; last = 0; entry = 0 }

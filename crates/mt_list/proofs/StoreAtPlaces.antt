@@ -7,12 +7,12 @@ use Rattle.mt_base.specs.Map.{IsMapFrom, over, parts_below, parts_above, part_st
 use Rattle.mt_list.specs.Places.{place_below, place_above, piece_below, piece_above, last_of}
 
 -- a map from `first` or above has no part below `first`
-no_part_below : (m : List Range) (low first : ℕ) → first ≤ low → IsMapFrom low m → parts_below m first ≡ []
+pub no_part_below : (m : List Range) (low first : ℕ) → first ≤ low → IsMapFrom low m → parts_below m first ≡ []
 no_part_below [] low first le ordered = refl
 no_part_below (r ∷ m) low first le ordered = rw (le-ltb r.first first (omega (arith, ordered.0))) (no_part_below m (r.last + 1) first (omega (arith, ordered.0, ordered.1)) ordered.3)
 
 -- a map from above `last` lies above it whole
-all_parts_above : (m : List Range) (low last : ℕ) → last < low → IsMapFrom low m → parts_above m last ≡ m
+pub all_parts_above : (m : List Range) (low last : ℕ) → last < low → IsMapFrom low m → parts_above m last ≡ m
 all_parts_above [] low last lt ordered = refl
 all_parts_above (r ∷ m) low last lt ordered =
     let whole : max r.first (last + 1) ≡ r.first = omega (arith, ordered.0) in
