@@ -11,6 +11,7 @@ use Rattle.mt_layout.specs.Rows.{row_in, named_kind, named_row}
 use Rattle.mt_layout.specs.Columns.{pivot_column, items_from}
 use Rattle.mt_layout.specs.Sizes.{slots_of, gaps_of}
 use Rattle.mt_layout.specs.Spans.{spans_from}
+use Rattle.mt_layout.proofs.RowSizes.{slot_within}
 use Rattle.mt_rows.specs.declared.rows.Place.TheVariants.{Slot}
 use Rattle.mt_rows.specs.Spans.{Table, base_of, column, spans_by, spans_in}
 use Rattle.mt_rows.specs.Laws.{Tree, Stands, top_of}
@@ -19,7 +20,6 @@ use Rattle.mt_rows.specs.Publish.{tree_as, IsReached}
 use Rattle.mt_rows.specs.Replacement.{root_of}
 use Rattle.mt_rows.proofs.FewSpans.{row_most}
 use Rattle.mt_rows.proofs.Reached as reached
-use Rattle.mt_rows.proofs.RowLaws.{slot_inside}
 use Rattle.mt_path.specs.declared.paths.PathStep.{PathStep}
 use Rattle.mt_path.specs.Paths.{slot_for, span_at, step_in, below, path_in}
 use Rattle.mt_path.proofs.Places.{slot_here, slot_behind}
@@ -129,7 +129,7 @@ module _ (t t' : Rooted) (d row col index : ℕ) (stands : Stands (tree_as trees
 
   pivots : (e : ℕ) → e ≤ d → (k : ℕ) → k + 1 < slots → slice_index t'.table.words (base_of t.table (row_in (x_at e).word) + pivot_column k) ≡ column t.table (row_in (x_at e).word) (pivot_column k)
   pivots e low k inside =
-      let fits = slot_inside t.table.width Gapped 0 (omega arith) in
+      let fits = slot_within t.table.width Gapped 0 (omega arith) in
       let same = kept (row_in (x_at e).word) (pivot_column k) (reaches e (suc (d - e)) (omega arith)) (omega arith) (omega arith) (λ other. let is : col ≡ pivot_column k = cc in let at = col_here in omega arith) in
       subst (λ (w : Width). slice_index t'.table.words (columns w * row_in (x_at e).word + pivot_column k) ≡ column t.table (row_in (x_at e).word) (pivot_column k)) width same
 
@@ -176,7 +176,7 @@ module _ (t t' : Rooted) (d row col index : ℕ) (stands : Stands (tree_as trees
       let k = slot_for (spans_in t.table (x_at e)) index in
       let both = ends_below e (omega arith) in
       let fits = few e (omega arith) in
-      let inside = slot_inside t.table.width Gapped k fits in
+      let inside = slot_within t.table.width Gapped k fits in
       let least = few d (omega arith) in
       let word : (below t'.table (x_at e) index).word ≡ (below t.table (x_at e) index).word =
       word_now e (omega arith)

@@ -1,15 +1,13 @@
 -- A store in a slot leaves the height: of two slots of a row on the way down, one keeps its word.
-use Rattle.std.proofs.Common.{◌≡◌, ◌≢◌, ℕ, zero, suc, ◌+◌, ◌<◌, ◌≤◌, List, [], ◌∷◌, Some, false, length, refl, sym, ap, ◌∙◌, subst, inl, inr, arith}
-use Rattle.std.proofs.lemmas.Bool.{cases_Bool, cases_eq}
+use Rattle.std.proofs.Common.{◌≡◌, ◌≢◌, ℕ, zero, suc, ◌+◌, ◌<◌, List, [], ◌∷◌, Some, false, length, refl, sym, ap, ◌∙◌, subst, inl, inr, arith}
+use Rattle.std.proofs.lemmas.Bool.{cases_eq}
 use Rattle.mt_base.specs.declared.kinds.Kind.{Kind}
-use Rattle.mt_base.specs.declared.kinds.Kind.TheVariants as trees
 use Rattle.mt_base.specs.declared.calls.Call.{Call}
 use Rattle.mt_base.specs.declared.replies.Reply.{Reply}
 use Rattle.mt_base.specs.declared.widths.Width.{Width}
 use Rattle.mt_base.specs.Width.{columns}
 use Rattle.mt_free.specs.Book.{Book}
 use Rattle.mt_layout.specs.declared.names.RowKind.{RowKind}
-use Rattle.mt_layout.specs.declared.names.RowKind.TheVariants.{Leaf}
 use Rattle.mt_layout.specs.declared.spans.Span.{Span}
 use Rattle.mt_layout.specs.Rows.{row_in, named_kind}
 use Rattle.mt_layout.specs.Columns.{slot_column, items_at}
@@ -21,22 +19,19 @@ use Rattle.mt_rows.specs.declared.rows.Place.TheVariants.{Root, Slot}
 use Rattle.mt_rows.specs.Spans.{Table, base_of, column, inner_kind, spans_by, spans_in, root_span}
 use Rattle.mt_rows.specs.Levels.{level}
 use Rattle.mt_rows.specs.Trees.{height_in}
-use Rattle.mt_rows.specs.Laws.{Tree, IsTree, Stands, covers_all, kind_at, least_of}
+use Rattle.mt_rows.specs.Laws.{Tree, IsTree, Stands}
 use Rattle.mt_rows.specs.Sheet.{Rooted, Sheet, word_at}
 use Rattle.mt_rows.specs.Publish.{tree_as, IsTreeOf, IsReached}
 use Rattle.mt_rows.specs.Replacement.{root_of}
 use Rattle.mt_rows.proofs.Heights.{level_next}
 use Rattle.mt_rows.proofs.Reached as reached
-use Rattle.mt_rows.proofs.RowLaws.{slot_inside}
 use Rattle.mt_path.specs.Paths.{span_at}
 use Rattle.mt_path.proofs.LeafSlots.{stands_in}
 use Rattle.mt_splice.specs.Splice.{IsSpliced}
 use Rattle.mt_engine.specs.Heights.{SameHeight, is_root}
+use Rattle.mt_splice.proofs.Widens.{two_least}
 
 -- ---- the first two slots of an inner row
-
-two_of_root : (t : Tree) (h : ℕ) (x : Span) → 2 ≤ least_of t (suc h) x
-two_of_root t h x = elim (cases_Bool (covers_all t x)) [ inl all ↦ rw all (omega arith) | inr part ↦ rw part (sizes.some_least t.table.width (kind_at t.kind (suc h))) ]
 
 -- a slot's word is that of its column
 pub word_in : (t : Table) (x : Span) (kind : RowKind) (slot : ℕ) → named_kind x.word ≡ Some kind → slot < length (spans_in t x) → (span_at (spans_in t x) slot).word ≡ column t (row_in x.word) (slot_column (slots_of t.width kind) slot)
@@ -58,10 +53,6 @@ one_kept col first = elim (cases_eq col (first + 0)) [
   | inl same ↦ (1, omega arith, λ e. omega (arith, e, same))
   | inr other ↦ (0, omega arith, other)
 ]
-
-no_leaf : (kind : Kind) → Some (inner_kind kind) ≢ Some Leaf
-no_leaf trees.Range = λ e. cc
-no_leaf trees.Alloc = λ e. cc
 
 -- ---- two trees whose rows keep their words but at one place
 
@@ -109,11 +100,11 @@ module _ (kind : Kind) (t t' : Rooted) (h h' row col : ℕ) (stands : Stands (tr
   child_word k k' x x' slot low other on on' same =
       let law = reached.on_level_law was h stands (suc k) x on in
       let law' = reached.on_level_law now h' stands' (suc k') x' on' in
-      let used : slot < length (spans_in t.table x) = omega (arith, low, two_of_root was k x, law.count.least) in
-      let used' : slot < length (spans_in t'.table x') = omega (arith, low, two_of_root now k' x', law'.count.least) in
+      let used : slot < length (spans_in t.table x) = omega (arith, low, two_least was k x, law.count.least) in
+      let used' : slot < length (spans_in t'.table x') = omega (arith, low, two_least now k' x', law'.count.least) in
       let within = sizes.least-below-slots t.table.width inner in
       let r = row_in x.word in
-      let stays = kept r (slot_column slots slot) (reached.times_reached was h stands r (reached.on_level_reached was h stands (suc k) x on)) (omega (arith, within)) (slot_inside t.table.width inner slot (omega (arith, within, low)))
+      let stays = kept r (slot_column slots slot) (reached.times_reached was h stands r (reached.on_level_reached was h stands (suc k) x on)) (omega (arith, within)) (sizes.slot_within t.table.width inner slot (omega (arith, within, low)))
       (λ e. other (let here : col ≡ slots + slot = cc in here)) in (
         used,
         used',
@@ -126,9 +117,9 @@ module _ (kind : Kind) (t t' : Rooted) (h h' row col : ℕ) (stands : Stands (tr
   same_level : (k k' : ℕ) (x x' : Span) → Before k x → After k' x' → x'.word ≡ x.word → k' ≡ k
   same_level zero zero x x' on on' same = refl
   same_level zero (suc k') x x' on on' same =
-      absurd (no_leaf kind (sym (reached.on_level_law now h' stands' (suc k') x' on').name.named ∙ (ap named_kind same ∙ (reached.on_level_law was h stands zero x on).name.named)))
+      absurd (reached.inner_no_leaf kind (sym (reached.on_level_law now h' stands' (suc k') x' on').name.named ∙ (ap named_kind same ∙ (reached.on_level_law was h stands zero x on).name.named)))
   same_level (suc k) zero x x' on on' same =
-      absurd (no_leaf kind (sym (reached.on_level_law was h stands (suc k) x on).name.named ∙ (ap named_kind (sym same) ∙ (reached.on_level_law now h' stands' zero x' on').name.named)))
+      absurd (reached.inner_no_leaf kind (sym (reached.on_level_law was h stands (suc k) x on).name.named ∙ (ap named_kind (sym same) ∙ (reached.on_level_law now h' stands' zero x' on').name.named)))
   same_level (suc k) (suc k') x x' on on' same =
       let slot = one_kept col slots in
       let child = child_word k k' x x' slot.0 slot.1 slot.2 on on' same in

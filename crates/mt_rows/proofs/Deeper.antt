@@ -28,7 +28,7 @@ height_of_deeper t (suc depth) x deep =
     ap (λ (n : ℕ). levels_by (named_kind x.word) (of_first (height_of t n) (spans_in t x))) same
 
 -- a row that is no leaf is an inner row
-by_kind_inner : {A : Type 0} (kind : RowKind) (leaf inner : List A) → kind ≢ Leaf → by_kind (Some kind) leaf inner ≡ inner
+pub by_kind_inner : {A : Type 0} (kind : RowKind) (leaf inner : List A) → kind ≢ Leaf → by_kind (Some kind) leaf inner ≡ inner
 by_kind_inner Leaf leaf inner other = absurd (other refl)
 by_kind_inner Inner leaf inner other = refl
 by_kind_inner Gapped leaf inner other = refl

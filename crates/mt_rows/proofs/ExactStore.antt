@@ -25,11 +25,11 @@ use Rattle.mt_rows.specs.Publish.{tree_as, IsTold, LiveAreReached, NoneBuried, M
 use Rattle.mt_rows.specs.Replacement.{root_of, IsSlotAt}
 use Rattle.mt_rows.proofs.Depth.{ranges_by_depth}
 use Rattle.mt_rows.proofs.Heights.{level_shared_above}
-use Rattle.mt_rows.proofs.RowLaws.{slot_inside}
 use Rattle.mt_rows.proofs.SlotStore as store
 use Rattle.mt_rows.proofs.SlotEntry as exact
 use Rattle.mt_rows.proofs.Reached as reached
 use Rattle.mt_rows.proofs.FewSpans.{row_most}
+use Rattle.mt_layout.proofs.RowSizes.{slot_within}
 
 module _ (kind : Kind) (s : Sheet) (h slot entry : ℕ) (leaf item : Span) (whole : IsWhole s) (live : LiveAreReached s.tree s.lives) (none_buried : NoneBuried s.tree.rows s.buried) (told : IsTold s.kind kind) (width : s.tree.table.width ≡ kind_width kind)
     (stands : laws.Stands (tree_as kind s.tree) h) (at : IsSlotAt (tree_as kind s.tree) h leaf slot item) (old : item.word ≢ 0) (new : entry ≢ 0) (free : reserved entry ≡ false) where
@@ -70,7 +70,7 @@ module _ (kind : Kind) (s : Sheet) (h slot entry : ℕ) (leaf item : Span) (whol
 
   place : IsPlaceToPublish s (Slot row col)
   place = (
-    record { first = number.0; last = number.1; column = slot_inside s.tree.table.width Leaf slot (let used = store.used st in let most = (row_most (store.row_law st).name) in omega arith) },
+    record { first = number.0; last = number.1; column = slot_within s.tree.table.width Leaf slot (let used = store.used st in let most = (row_most (store.row_law st).name) in omega arith) },
     (live row number.0 number.1).1 (reached.times_reached t h stands row leaf_reached),
     record {
       depth = h;

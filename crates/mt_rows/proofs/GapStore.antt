@@ -27,7 +27,7 @@ use Rattle.mt_rows.proofs.GapWords.{put_gap, spans_from-put_gap, other_column, g
 use Rattle.mt_rows.proofs.Joins.{Shared, levels_shared}
 use Rattle.mt_rows.proofs.PlainReached.{levels_from}
 use Rattle.mt_rows.proofs.Reached.{OnLevel, on_level_law, one_place}
-use Rattle.mt_rows.proofs.RowLaws.{row_keeps}
+use Rattle.mt_rows.proofs.RowLaws.{row_keeps, other_place}
 
 all_gaps : (width : Width) → gaps_of width Gapped ≡ slots_of width Gapped
 all_gaps Long = refl
@@ -37,9 +37,6 @@ gap_fits Long row rows slot inside in_table = omega arith
 
 pub gap_inside : (width : Width) (slot : ℕ) → slot < slots_of width Gapped → gap_column (slots_of width Gapped) slot < columns width
 gap_inside Long slot inside = omega arith
-
-other_place : (width : Width) (row other c col : ℕ) → other ≢ row → c < columns width → col < columns width → columns width * other + c ≢ columns width * row + col
-other_place Long row other c col apart inside at = λ e. apart (omega arith)
 
 module _ (r : Rooted) (k slot gap : ℕ) (x : Span) (has : HasWords (tree_as trees.Alloc r)) (row : IsRow (tree_as trees.Alloc r) (suc k) x) (used : slot < length (spans_in r.table x)) where
   abbrev t : Tree

@@ -1,13 +1,14 @@
 -- The gap word of one slot is stored: the item in that slot has another gap, and nothing else of its row changes.
-use Rattle.std.proofs.Common.{◌≡◌, ◌≢◌, ℕ, zero, suc, ◌+◌, ◌-◌, ◌*◌, ◌<◌, ◌≤◌, ◌==◌, List, [], ◌∷◌, ◌++◌, Bool, true, false, length, map, take, replicate, refl, sym, ap, ◌∙◌, subst, arith, length-append, length-set, get_or-set_other, get_or-set_same, ne_eqb}
+use Rattle.std.proofs.Common.{◌≡◌, ◌≢◌, ℕ, zero, suc, ◌+◌, ◌-◌, ◌*◌, ◌<◌, ◌≤◌, ◌==◌, List, [], ◌∷◌, ◌++◌, Bool, true, false, length, map, take, replicate, refl, sym, ap, ◌∙◌, subst, arith, length-append, get_or-set_other, get_or-set_same, ne_eqb}
 use Rattle.std.specs.Prelude.{if◌then◌else◌, nat_le, slice_index, slice_set}
-use Rattle.std.proofs.lemmas.List.{length-map, set-append_left, set-append_right}
+use Rattle.std.proofs.lemmas.List.{length-map, set-append_right}
 use Rattle.mt_layout.specs.declared.items.Item.{Item}
 use Rattle.mt_layout.specs.declared.spans.Span.{Span}
 use Rattle.mt_layout.specs.Columns.{pivot_column, slot_column, gap_column, gap_at, item_at, items_from, items_at, padded_to, pivot_words, slot_words, gap_words, row_words}
 use Rattle.mt_layout.specs.Spans.{spans_from}
 use Rattle.mt_layout.proofs.Reading.{gap_at-some}
 use Rattle.mt_layout.proofs.RowWords.{length-pivots, length-slots}
+use Rattle.mt_rows.proofs.SlotWords.{padded_to-set}
 
 -- ---- the gap of one item of a list
 
@@ -96,9 +97,6 @@ module _ (slots gaps base n gap : ℕ) (w : List ℕ) (slot : n < slots) (all : 
   items_at-put_gap max = items_from-put max slots 0 n (omega arith) (omega arith)
 
 -- ---- the words that items make
-
-padded_to-set : (n i v : ℕ) (xs : List ℕ) → i < length xs → padded_to n (slice_set xs i v) ≡ slice_set (padded_to n xs) i v
-padded_to-set n i v xs inside = ap (λ (k : ℕ). slice_set xs i v ++ replicate (n - k) 0) (length-set xs i v) ∙ sym (set-append_left xs (replicate (n - length xs) 0) i v inside)
 
 module _ (all slots gaps parent n gap : ℕ) (items : List Item) (some : 0 < slots) (each : gaps ≡ slots) (used : n < length items) (fit : length items ≤ slots) where
   abbrev front : List ℕ

@@ -10,6 +10,7 @@ pub mod GapWords
 pub mod Heights
 pub mod Joins
 pub mod Lists
+pub mod Loads
 pub mod Longest
 pub mod NineLevels
 pub mod Once
@@ -22,8 +23,10 @@ pub mod PlainReached
 pub mod PlainRoot
 pub mod PlainSlot
 pub mod PlainWalk
+pub mod Published
 pub mod Ranges
 pub mod Reached
+pub mod RowGaps
 pub mod RowLaws
 pub mod Settled
 pub mod SlotChild

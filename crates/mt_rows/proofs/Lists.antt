@@ -1,5 +1,5 @@
 -- What stands in rows side by side, and what holds of the rows of a level.
-use Rattle.std.proofs.Common.{◌≡◌, ℕ, zero, suc, ◌+◌, List, [], ◌∷◌, ◌++◌, Bool, subst, arith}
+use Rattle.std.proofs.Common.{◌≡◌, ℕ, zero, suc, ◌+◌, ◌<◌, List, [], ◌∷◌, ◌++◌, Bool, length, get_or, subst, arith, append-nil}
 use Rattle.std.specs.List.{AllByRecursion}
 use Rattle.std.proofs.lemmas.Grind.{flat_map-append}
 use Rattle.mt_layout.specs.declared.spans.Span.{Span}
@@ -14,8 +14,17 @@ pub tally-append : {A : Type 0} (p : A → Bool) (xs ys : List A) → tally p (x
 tally-append p [] ys = omega arith
 tally-append p (x ∷ xs) ys = let behind = tally-append p xs ys in omega arith
 
+pub all_at : {A : Type 0} (P : A → Type 0) (xs : List A) (i : ℕ) (d : A) → AllByRecursion P xs → i < length xs → P (get_or xs i d)
+all_at P [] i d each within = absurd (omega arith)
+all_at P (x ∷ xs) zero d each within = each.0
+all_at P (x ∷ xs) (suc i) d each within = all_at P xs i d each.1 (omega arith)
+
 pub expand-append : (t : Table) (xs ys : List Span) → expand t (xs ++ ys) ≡ expand t xs ++ expand t ys
 expand-append t xs ys = flat_map-append (spans_in t) xs ys
+
+pub all_expand : (P : Span → Type 0) (t : Table) (xs : List Span) → AllByRecursion (λ (x : Span). AllByRecursion P (spans_in t x)) xs → AllByRecursion P (expand t xs)
+all_expand P t [] each = tt
+all_expand P t (x ∷ xs) each = all_join P (spans_in t x) (expand t xs) each.0 (all_expand P t xs each.1)
 
 -- ---- what rows cover
 
@@ -37,3 +46,11 @@ levels_map P Q t f (suc h) xs rows = (all_map (P (suc h)) (Q (suc h)) (f (suc h)
 pub levels_here : (P : ℕ → Span → Type 0) (t : Table) (h : ℕ) (xs : List Span) → Levels P t h xs → AllByRecursion (P h) xs
 levels_here P t zero xs rows = rows
 levels_here P t (suc h) xs rows = rows.0
+
+pub levels_none : (P : ℕ → Span → Type 0) (t : Table) (h : ℕ) → Levels P t h []
+levels_none P t zero = tt
+levels_none P t (suc h) = (tt, levels_none P t h)
+
+-- what holds below a row holds below its children
+pub children_hold : (P : ℕ → Span → Type 0) (t : Table) (h : ℕ) (x : Span) → Levels P t (suc h) (x ∷ []) → Levels P t h (spans_in t x)
+children_hold P t h x rows = subst (Levels P t h) (append-nil (spans_in t x)) rows.1

@@ -1,19 +1,16 @@
 -- The longest hole below rows: side by side, and by two tables that share their spans.
 use Rattle.std.proofs.Common.{◌≡◌, ℕ, zero, suc, List, [], ◌∷◌, ◌++◌, max, refl, ap, ◌∙◌, arith}
 use Rattle.mt_layout.specs.declared.spans.Span.{Span}
-use Rattle.mt_layout.specs.Spans.{hole_length, longest_in}
+use Rattle.mt_layout.specs.Spans.{longest_in}
 use Rattle.mt_rows.specs.Spans.{Table}
 use Rattle.mt_rows.specs.Levels.{expand, Levels}
 use Rattle.mt_rows.specs.Laws.{longest_below}
 use Rattle.mt_rows.proofs.Joins.{Shared, expand_shared}
 use Rattle.mt_rows.proofs.Lists.{expand-append}
 
-longest_in-append : (xs ys : List Span) → longest_in (xs ++ ys) ≡ max (longest_in xs) (longest_in ys)
+pub longest_in-append : (xs ys : List Span) → longest_in (xs ++ ys) ≡ max (longest_in xs) (longest_in ys)
 longest_in-append [] ys = omega arith
-longest_in-append (x ∷ xs) ys = ap (λ (k : ℕ). max (hole_length x) k) (longest_in-append xs ys) ∙ regroup (hole_length x) (longest_in xs) (longest_in ys)
-  where
-    regroup : (a b c : ℕ) → max a (max b c) ≡ max (max a b) c
-    regroup a b c = omega arith
+longest_in-append (x ∷ xs) ys = let behind = longest_in-append xs ys in omega arith
 
 pub longest_below-append : (t : Table) (h : ℕ) (xs ys : List Span) → longest_below t h (xs ++ ys) ≡ max (longest_below t h xs) (longest_below t h ys)
 longest_below-append t zero xs ys = ap longest_in (expand-append t xs ys) ∙ longest_in-append (expand t xs) (expand t ys)

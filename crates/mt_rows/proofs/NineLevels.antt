@@ -15,12 +15,13 @@ use Rattle.mt_layout.proofs.NameLaws.{Names-named_kind}
 use Rattle.mt_layout.specs.declared.spans.Span.{Span}
 use Rattle.mt_layout.specs.Spans.{Fills}
 use Rattle.mt_layout.specs.Sizes.{least_items}
-use Rattle.mt_rows.specs.Spans.{Table, spans_in, root_span}
-use Rattle.mt_rows.specs.Levels.{expand, level, Levels, tally, times, is_row_of}
+use Rattle.mt_rows.specs.Spans.{spans_in, root_span}
+use Rattle.mt_rows.specs.Levels.{expand, level, Levels, tally, is_row_of}
 use Rattle.mt_rows.specs.Laws.{Tree, IsRow, top_of, kind_at, least_of_root}
 use Rattle.mt_rows.specs.Replacement.{root_of}
 use Rattle.mt_rows.proofs.Heights.{times_split, level_rows}
 use Rattle.mt_rows.proofs.Once.{IsPart, inner_wide, expand_parts, rows_wide, wide_fills, once}
+use Rattle.mt_rows.proofs.Reached.{here_le}
 
 -- ---- how many rows a level has at the least
 
@@ -102,15 +103,11 @@ module _ {A : Type 0} (f : A → ℕ) where
   pub few : (n m : ℕ) (xs : List A) → AllByRecursion (λ (x : A). n ≤ f x) xs → AllByRecursion (λ (x : A). f x < n + m) xs → ((r : ℕ) → tally (λ (x : A). f x == r) xs ≤ 1) → length xs ≤ m
   few n m xs above below once = omega (arith, all_below (n + m) xs below, few_below n m (n + m) xs refl above once)
 
-times_here : (p : ℕ → Span → Bool) (t : Table) (k : ℕ) (xs : List Span) → tally (p k) xs ≤ times p t k xs
-times_here p t zero xs = omega arith
-times_here p t (suc k) xs = omega arith
-
 once_in_level : (t : Tree) (d k h row : ℕ) → h ≡ d + k → Levels (IsRow t) t.table h (root_of t) → tally (is_row_of row k) (level t.table d (root_of t)) ≤ 1
 once_in_level t d k h row height rows =
     let all = once t h row (root_span t.table t.root) rows (refl, omega arith, refl) in
     let split = times_split (is_row_of row) t.table d k h (root_of t) height in
-    omega (arith, all, split, times_here (is_row_of row) t.table k (level t.table d (root_of t)))
+    omega (arith, all, split, here_le (is_row_of row) t.table k (level t.table d (root_of t)))
 
 pub level_fits : (t : Tree) (d k h : ℕ) → h ≡ d + k → Levels (IsRow t) t.table h (root_of t) → length (level t.table d (root_of t)) ≤ t.rows
 level_fits t d k h height rows =

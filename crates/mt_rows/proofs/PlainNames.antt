@@ -18,12 +18,11 @@ use Rattle.mt_layout.specs.declared.spans.Span.{Span}
 use Rattle.mt_layout.specs.Spans.{spans_from}
 use Rattle.mt_layout.proofs.RowWords.{item_or, get_or-padded, get_or-field, used, used-slot}
 use Rattle.mt_layout.specs.Sizes.{slots_of, gaps_of}
-use Rattle.mt_layout.proofs.RowSizes.{layout_of, some_slots, slots-fit}
+use Rattle.mt_layout.proofs.RowSizes.{layout_of, some_slots, slots-fit, slot_within}
 use Rattle.mt_layout.proofs.SpanLists.{length-spans_from, spans-words}
 use Rattle.mt_rows.specs.Spans.{column, spans_by, spans_in, inner_kind}
 use Rattle.mt_rows.specs.Laws.{Tree, HasWords, IsRow, kind_at, items_in}
 use Rattle.mt_rows.specs.Plain.{names_of}
-use Rattle.mt_rows.proofs.RowLaws.{slot_inside}
 use Rattle.mt_rows.proofs.FewSpans.{row_most}
 
 -- the word of an item is in its slot
@@ -104,4 +103,4 @@ slot_read t h slot x y row at =
     let most = (row_most row.name) in
     let fit : length items ≤ slots = omega (arith, ap length spans, length-spans_from x.first items) in
     span_word x.first items slot y (sym (ap (λ (l : List Span). slice_get l slot) spans) ∙ at)
-    ∙ (sym (slot_of_words (columns t.table.width) slots gaps parent items layout fit slot (omega arith)) ∙ sym (row.pivots.unused (slot_column slots slot) (slot_inside t.table.width kind slot (omega arith))))
+    ∙ (sym (slot_of_words (columns t.table.width) slots gaps parent items layout fit slot (omega arith)) ∙ sym (row.pivots.unused (slot_column slots slot) (slot_within t.table.width kind slot (omega arith))))

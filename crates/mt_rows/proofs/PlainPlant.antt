@@ -10,7 +10,7 @@ use Rattle.mt_base.specs.declared.kinds.Kind.{Kind}
 use Rattle.mt_base.specs.declared.widths.Width.{Width}
 use Rattle.mt_base.specs.declared.widths.Width.TheVariants.{Long}
 use Rattle.mt_base.specs.Width.{columns, greatest, deepest, first_row}
-use Rattle.mt_layout.proofs.RowSizes.{slots_of-columns}
+use Rattle.mt_layout.proofs.RowSizes.{slots_of-columns, some_columns}
 use Rattle.mt_layout.specs.declared.names.RowKind.{RowKind}
 use Rattle.mt_layout.specs.declared.names.RowKind.TheVariants.{Leaf, Inner, Gapped}
 use Rattle.mt_layout.specs.Columns.{items_from, items_at, pivot_column}
@@ -43,7 +43,8 @@ items_few slots gaps w base max (suc (suc left)) i = elim (cases_Bool (nat_le ma
   | inr more ↦ let rest = items_few slots gaps w base max (suc left) (i + 1) in rw more (omega arith)
 ]
 
-children_few : (t : Table) (x : Span) → length (spans_in t x) ≤ columns t.width
+-- a row has fewer children than columns. For the proofs of the crates above, too.
+pub children_few : (t : Table) (x : Span) → length (spans_in t x) ≤ columns t.width
 children_few t x = by (named_kind x.word)
   where
     by : (kind : Option RowKind) → length (spans_by t kind x) ≤ columns t.width
@@ -56,9 +57,6 @@ children_few t x = by (named_kind x.word)
 below_few : (f : Span → List ℕ) (most : ℕ) (xs : List Span) → ((x : Span) → length (f x) ≤ most) → length (flat_map f xs) ≤ length xs * most
 below_few f most [] few = omega arith
 below_few f most (x ∷ xs) few = let first = few x in let rest = below_few f most xs few in let both = length-append (f x) (flat_map f xs) in omega arith
-
-some_columns : (width : Width) → 0 < columns width
-some_columns Long = omega arith
 
 -- a row and what its children give are fewer than a child gives at the most, for each column
 row_few : (width : Width) (kind : Option RowKind) (row p q : ℕ) (below : List ℕ) → 1 ≤ p → q ≡ columns width * p → length below ≤ columns width * (p - 1) → length (by_kind kind (row ∷ []) (row ∷ below)) < q
@@ -75,7 +73,7 @@ rows_few t (suc depth) x =
     let wide = mul-le-mul_right most (children_few t x) in
     row_few t.width (named_kind x.word) (row_in x.word) (columns t.width ^ depth) (columns t.width ^ suc depth) (flat_map (rows_of t depth) (spans_in t x)) (one-le-pow depth (columns t.width) (some_columns t.width)) (pow-succ' (columns t.width) depth) (omega arith)
 
-deepest_fits : (width : Width) → columns width ^ deepest < 2 ^ 64
+pub deepest_fits : (width : Width) → columns width ^ deepest < 2 ^ 64
 deepest_fits Long = omega arith
 
 pub rows_fit : (t : Table) (depth : ℕ) (x : Span) → depth ≤ deepest → length (rows_of t depth x) < 2 ^ 64

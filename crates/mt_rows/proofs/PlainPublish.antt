@@ -22,6 +22,7 @@ use Rattle.mt_rows.proofs.PlainFates.{one_at_most, life_told, buried_told}
 use Rattle.mt_rows.proofs.PlainWalk.{fate_at}
 use Rattle.mt_rows.proofs.PlainRoot.{Before, Reaches, root_reaches}
 use Rattle.mt_rows.proofs.PlainSlot.{slot_reaches}
+use Rattle.mt_rows.proofs.Published.{published_rows}
 
 -- ---- fates once the call has published
 
@@ -47,10 +48,6 @@ buried_fate past New is = absurd (cc)
 buried_fate past Draft is = absurd (cc)
 buried_fate past Live is = absurd (cc)
 buried_fate past (Buried call) is = (call, refl)
-
-rows_stay : (t : Rooted) (place : Place) (word : ℕ) → (with_published t place word).rows ≡ t.rows
-rows_stay t Root word = refl
-rows_stay t (Slot row col) word = refl
 
 -- ---- the walk at any place
 
@@ -95,7 +92,7 @@ module _ (p q : State) (s : Sheet) (kind : Kind) (place : Place) (word levels : 
   inside : (row : ℕ) → is_buried s.buried row ≡ true → (first_row ≤ row) × (row < first_row + s.tree.rows)
   inside row buried =
       let fate = buried_fate (past_of p) (fate_of p row) (sym (buried_are row) ∙ buried) in
-      let rows : p.rows ≡ s.tree.rows = ap (λ (s : Sheet). s.tree.rows) is ∙ rows_stay s.tree place word in
+      let rows : p.rows ≡ s.tree.rows = ap (λ (s : Sheet). s.tree.rows) is ∙ published_rows s.tree place word in
       let size = plain.fates in (
         (plain.buried row fate.0 fate.1).0,
         elim (cases_lt row (length p.fates.items)) [ inl within ↦ omega arith | inr beyond ↦ let new = get_or_past p.fates.items row New beyond in let at = fate.1 in absurd (cc) ],

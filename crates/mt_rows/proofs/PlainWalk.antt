@@ -18,6 +18,7 @@ use Rattle.mt_rows.specs.Plain.{is_draft, names_of, enlivened_by, enlivened}
 use Rattle.mt_rows.proofs.Joins.{times-append, levels_front, levels_back}
 use Rattle.mt_rows.proofs.Reached.{IsOneOf, one_of_expand, all_one_of, tally_place, times_some}
 use Rattle.mt_rows.proofs.PlainNames.{names_are}
+use Rattle.mt_rows.proofs.Lists.{children_hold}
 
 abbrev pub fate_at : List Fate → ℕ → Fate
 fate_at fates row = slice_index_or fates row New
@@ -54,9 +55,6 @@ one_counted t h xs x one = times_some (is_row_of (row_in x.word)) t zero h h xs 
 
 children_counted : (t : Table) (h : ℕ) (x : Span) (row : ℕ) → times (is_row_of row) t (suc h) (x ∷ []) ≡ one_if (row_in x.word == row) + times (is_row_of row) t h (spans_in t x)
 children_counted t h x row = let below = ap (times (is_row_of row) t h) (append-nil (spans_in t x)) in omega (arith, below)
-
-children_hold : (P : ℕ → Span → Type 0) (t : Table) (h : ℕ) (x : Span) → Levels P t (suc h) (x ∷ []) → Levels P t h (spans_in t x)
-children_hold P t h x rows = subst (Levels P t h) (append-nil (spans_in t x)) rows.1
 
 -- ---- what is ready
 

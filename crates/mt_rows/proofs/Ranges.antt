@@ -18,7 +18,7 @@ use Rattle.mt_rows.proofs.Lists.{Filled, expand_fills}
 use Rattle.mt_rows.proofs.Depth.{ranges_by_depth}
 use Rattle.mt_rows.proofs.Between.{Between, map_between}
 
-rows_filled : (t : Tree) (h : ℕ) (xs : List Span) → AllByRecursion (IsRow t h) xs → AllByRecursion (Filled t.table) xs
+pub rows_filled : (t : Tree) (h : ℕ) (xs : List Span) → AllByRecursion (IsRow t h) xs → AllByRecursion (Filled t.table) xs
 rows_filled t h xs rows = all_map (IsRow t h) (Filled t.table) (λ x row. row.pivots.fills) xs rows
 
 leaf_map : (lo hi : ℕ) (xs : List Span) → Fills lo hi xs → IsMapFrom lo (flat_map leaf_range xs)

@@ -67,6 +67,10 @@ all_one_of P [] x each one = absurd one
 all_one_of P (y ∷ xs) x each (inl same) = subst P (sym same) each.0
 all_one_of P (y ∷ xs) x each (inr behind) = all_one_of P xs x each.1 behind
 
+pub all_of_each : {A : Type 0} (P : A → Type 0) (xs : List A) → ((x : A) → IsOneOf x xs → P x) → AllByRecursion P xs
+all_of_each P [] each = tt
+all_of_each P (x ∷ xs) each = (each x (inl refl), all_of_each P xs (λ y one. each y (inr one)))
+
 pub one_of_expand : (t : Table) (xs : List Span) (y z : Span) → IsOneOf y xs → IsOneOf z (spans_in t y) → IsOneOf z (expand t xs)
 one_of_expand t [] y z one here = absurd one
 one_of_expand t (x ∷ xs) y z (inl same) here = one_of_left (spans_in t x) (expand t xs) z (subst (λ (v : Span). IsOneOf z (spans_in t v)) same here)
@@ -81,7 +85,7 @@ expand_one_of t (x ∷ xs) z one = elim (one_of_either (spans_in t x) (expand t 
 
 -- ---- what stands below is on a level
 
-inner_no_leaf : (kind : Kind) → Some (inner_kind kind) ≢ Some Leaf
+pub inner_no_leaf : (kind : Kind) → Some (inner_kind kind) ≢ Some Leaf
 inner_no_leaf trees.Range = λ e. cc
 inner_no_leaf trees.Alloc = λ e. cc
 
@@ -134,6 +138,10 @@ pub record OnLevel (t : Table) (h : ℕ) (xs : List Span) (k : ℕ) (x : Span) :
   pub height : h ≡ depth + k
   pub one : IsOneOf x (level t depth xs)
 
+-- what holds of the rows of all levels holds of one of a level
+pub levels_at : (P : ℕ → Span → Type 0) (t : Table) (h k : ℕ) (xs : List Span) (x : Span) → Levels P t h xs → OnLevel t h xs k x → P k x
+levels_at P t h k xs x rows on = all_one_of (P k) (level t on.depth xs) x (level_rows P t on.depth k h xs on.height rows) on.one
+
 pub tally_place : {A : Type 0} (p : A → Bool) (xs : List A) → 1 ≤ tally p xs → (x : A) × IsOneOf x xs × (p x ≡ true)
 tally_place p [] some = absurd (omega arith)
 tally_place p (x ∷ xs) some = elim (cases_Bool (p x)) [
@@ -171,7 +179,8 @@ tally_one p (z ∷ zs) x y most (inr behind_x) (inl same_y) at_x at_y =
     absurd (omega arith)
 tally_one p (z ∷ zs) x y most (inr behind_x) (inr behind_y) at_x at_y = tally_one p zs x y (omega arith) behind_x behind_y at_x at_y
 
-here_le : (p : ℕ → Span → Bool) (t : Table) (h : ℕ) (xs : List Span) → tally (p h) xs ≤ times p t h xs
+-- those on the highest level are among those on all
+pub here_le : (p : ℕ → Span → Bool) (t : Table) (h : ℕ) (xs : List Span) → tally (p h) xs ≤ times p t h xs
 here_le p t zero xs = omega arith
 here_le p t (suc h) xs = omega arith
 
@@ -250,7 +259,7 @@ module _ (t : Tree) (h : ℕ) (stands : Stands t h) where
 
   -- a row that stands on a level has the laws of its height
   pub on_level_law : (k : ℕ) (x : Span) → OnLevel t.table h (root_of t) k x → IsRow t k x
-  on_level_law k x on = all_one_of (IsRow t k) (level t.table on.depth (root_of t)) x (level_rows (IsRow t) t.table on.depth k h (root_of t) on.height stands.rows) on.one
+  on_level_law k x on = levels_at (IsRow t) t.table h k (root_of t) x stands.rows on
 
   -- a row that stands on a level is reached
   pub on_level_reached : (k : ℕ) (x : Span) → OnLevel t.table h (root_of t) k x → 1 ≤ times_in (row_in x.word)

@@ -1,5 +1,5 @@
 -- A row keeps its laws while its columns stay, and while just the word of one of its slots changes.
-use Rattle.std.proofs.Common.{◌≡◌, ◌≢◌, ℕ, zero, suc, ◌+◌, ◌*◌, ◌<◌, ◌≤◌, ◌==◌, List, [], ◌∷◌, false, Option, length, refl, sym, ap, ◌∙◌, subst, ⊎_elim, arith, length-append, ne_eqb, get_or-set_other, get_or-set_same}
+use Rattle.std.proofs.Common.{◌≡◌, ◌≢◌, ℕ, zero, suc, ◌+◌, ◌*◌, ◌<◌, ◌≤◌, ◌==◌, List, [], ◌∷◌, false, Option, length, refl, sym, ap, ◌∙◌, subst, ⊎_elim, arith, length-append, ne_eqb, get_or-set_other, get_or-set_same, Some, None}
 use Rattle.std.specs.Prelude.{slice_index, slice_set}
 use Rattle.std.specs.List.{AllByRecursion, flat_map}
 use Rattle.std.proofs.lemmas.Bool.{cases_eq}
@@ -8,14 +8,14 @@ use Rattle.mt_base.specs.declared.widths.Width.TheVariants.{Long}
 use Rattle.mt_base.specs.Width.{columns, first_row}
 use Rattle.mt_base.specs.Entry.{reserved}
 use Rattle.mt_layout.specs.declared.names.RowKind.{RowKind}
-use Rattle.mt_layout.specs.Rows.{row_in}
+use Rattle.mt_layout.specs.Rows.{row_in, named_kind}
 use Rattle.mt_layout.specs.Columns.{slot_column, items_at, row_words}
 use Rattle.mt_layout.proofs.OwnColumns.{same_items}
 use Rattle.mt_layout.specs.declared.items.Item.{Item}
 use Rattle.mt_layout.specs.declared.spans.Span.{Span}
 use Rattle.mt_layout.specs.Spans.{spans_from, leaf_range, Fills, BeginsFull, Apart, EndsFull}
 use Rattle.mt_layout.specs.Sizes.{slots_of, gaps_of}
-use Rattle.mt_layout.proofs.RowSizes.{layout_of, some_slots_of, slots_of-columns}
+use Rattle.mt_layout.proofs.RowSizes.{layout_of, some_slots_of, slots_of-columns, slot_within}
 use Rattle.mt_layout.proofs.SpanLists.{length-spans_from}
 use Rattle.mt_rows.specs.Spans.{base_of, column, spans_by, spans_in}
 use Rattle.mt_rows.specs.Levels.{SameColumns, SameSpans}
@@ -72,16 +72,20 @@ module _ (t : Tree) (words : List ℕ) (root : ℕ) where
           ∙ ap (λ (items : List Item). slice_index (row_words (columns t.table.width) (slots_of t.table.width (kind_at t.kind h)) (gaps_of t.table.width (kind_at t.kind h)) (column later.table (row_in x.word) 0) items) (suc c))
           (sym (items_same t.table.width (kind_at t.kind h) t.table.words words (row_in x.word) x.last same))))
 
+-- 0 names no row
+pub name_some : (word : ℕ) (kind : RowKind) → named_kind word ≡ Some kind → word ≢ 0
+name_some word kind named is =
+    let none : named_kind word ≡ None = ap named_kind is in
+    let both : Some kind ≡ None = sym named ∙ none in
+    absurd (cc)
+
 -- ---- a row in which one slot has another word
 
 -- a slot column of a row of the table is one of its words
 pub slot_fits : (width : Width) (kind : RowKind) (row rows slot : ℕ) → slot < slots_of width kind → row < first_row + rows → columns width * row + slot_column (slots_of width kind) slot < columns width * (first_row + rows)
 slot_fits Long kind row rows slot inside in_table = omega (arith, slots_of-columns Long kind)
 
-pub slot_inside : (width : Width) (kind : RowKind) (slot : ℕ) → slot < slots_of width kind → slot_column (slots_of width kind) slot < columns width
-slot_inside width kind slot inside = omega (arith, slots_of-columns width kind)
-
-other_place : (width : Width) (row other c col : ℕ) → other ≢ row → c < columns width → col < columns width → columns width * other + c ≢ columns width * row + col
+pub other_place : (width : Width) (row other c col : ℕ) → other ≢ row → c < columns width → col < columns width → columns width * other + c ≢ columns width * row + col
 other_place Long row other c col apart inside at = λ e. apart (omega arith)
 
 pub length-put_span : (n word : ℕ) (xs : List Span) → length (put_span n word xs) ≡ length xs
@@ -124,7 +128,7 @@ module _ (t : Tree) (h slot word : ℕ) (x : Span) (has : HasWords t) (row : IsR
   pub others_keep : (y : Span) → row_in y.word ≢ row_in x.word → SameColumns t.table put.table (columns t.table.width) (row_in y.word)
   others_keep y other c above within =
       get_or-set_other t.table.words (base + slot_column slots slot) (base_of t.table (row_in y.word) + c) word 0
-      (other_place t.table.width (row_in x.word) (row_in y.word) c (slot_column slots slot) other within (slot_inside t.table.width here_kind slot inside))
+      (other_place t.table.width (row_in x.word) (row_in y.word) c (slot_column slots slot) other within (slot_within t.table.width here_kind slot inside))
 
   items_put : items_in put.table here_kind x ≡ put_item slot word (items_in t.table here_kind x)
   items_put = items_at-put slots gaps base slot word t.table.words inside fits x.last

@@ -1,8 +1,8 @@
 -- The word of one slot is stored: the item in that slot has another word, and nothing else of its row changes.
-use Rattle.std.proofs.Common.{◌≡◌, ◌≢◌, ℕ, zero, suc, ◌+◌, ◌-◌, ◌<◌, ◌≤◌, ◌==◌, List, [], ◌∷◌, ◌++◌, Bool, true, false, length, map, take, replicate, refl, sym, ap, ◌∙◌, subst, ⊎_elim, arith, length-append, length-take, length-set, get_or-set_other, get_or-set_same}
+use Rattle.std.proofs.Common.{◌≡◌, ◌≢◌, ℕ, zero, suc, ◌+◌, ◌-◌, ◌<◌, ◌≤◌, ◌==◌, List, [], ◌∷◌, ◌++◌, Bool, true, false, length, map, take, replicate, refl, sym, ap, ◌∙◌, subst, ⊎_elim, arith, length-append, length-set, get_or-set_other, get_or-set_same}
 use Rattle.std.specs.Prelude.{if◌then◌else◌, nat_le, slice_index, slice_set}
 use Rattle.std.proofs.lemmas.Bool.{cases_eq}
-use Rattle.std.proofs.lemmas.List.{length-map, length-replicate, set-append_left, set-append_right}
+use Rattle.std.proofs.lemmas.List.{length-map, set-append_left, set-append_right}
 use Rattle.mt_layout.specs.declared.items.Item.{Item}
 use Rattle.mt_layout.specs.declared.spans.Span.{Span}
 use Rattle.mt_layout.specs.Columns.{pivot_column, slot_column, gap_column, gap_at, item_at, items_from, items_at, padded_to, pivot_words, slot_words, gap_words, row_words}
@@ -10,6 +10,7 @@ use Rattle.mt_layout.specs.Spans.{spans_from}
 use Rattle.mt_layout.proofs.Reading.{gap_at-none, gap_at-some}
 -- this stands below; here it is for the crates above
 pub use Rattle.mt_layout.proofs.SpanLists.{length-spans_from}
+use Rattle.mt_layout.proofs.RowWords.{length-pivots, length-padded}
 
 -- ---- the word of one item of a list
 
@@ -105,14 +106,8 @@ module _ (slots gaps base n word : ℕ) (w : List ℕ) (slot : n < slots) (fits 
 
 -- ---- the words that items make
 
-padded_to-set : (n i v : ℕ) (xs : List ℕ) → i < length xs → padded_to n (slice_set xs i v) ≡ slice_set (padded_to n xs) i v
+pub padded_to-set : (n i v : ℕ) (xs : List ℕ) → i < length xs → padded_to n (slice_set xs i v) ≡ slice_set (padded_to n xs) i v
 padded_to-set n i v xs inside = ap (λ (k : ℕ). slice_set xs i v ++ replicate (n - k) 0) (length-set xs i v) ∙ sym (set-append_left xs (replicate (n - length xs) 0) i v inside)
-
-length-padded : (n : ℕ) (xs : List ℕ) → length xs ≤ n → length (padded_to n xs) ≡ n
-length-padded n xs fit = omega (arith, length-append xs (replicate (n - length xs) 0), length-replicate {A = ℕ} (n - length xs) 0)
-
-length-pivots : (slots : ℕ) (items : List Item) → length (pivot_words slots items) ≡ slots - 1
-length-pivots slots items = length-padded (slots - 1) (take (slots - 1) (map (λ (x : Item). x.last) items)) (omega (arith, length-take (slots - 1) (map (λ (x : Item). x.last) items)))
 
 -- all but the parent word
 pub row_words-parent : (all slots gaps parent parent' : ℕ) (items : List Item) (c : ℕ) → 0 < c → slice_index (row_words all slots gaps parent' items) c ≡ slice_index (row_words all slots gaps parent items) c

@@ -116,11 +116,6 @@ others_stay w before at same k high = get_or-set_other w at k 0 0 (λ is. omega 
 
 -- ---- the words in a row's slots
 
-pub few_slots : (kind : RowKind) → slots_of Long kind ≤ 16
-few_slots kinds.Leaf = omega arith
-few_slots kinds.Inner = omega arith
-few_slots kinds.Gapped = omega arith
-
 -- one word more
 pub range_more : (w : List ℕ) (from at : ℕ) → from ≤ at → at < length w → slice_range w from (at + 1) ≡ slice_range w from at ++ (slice_index w at ∷ [])
 range_more w from at low within =

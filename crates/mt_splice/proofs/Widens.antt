@@ -110,7 +110,7 @@ module _ (start : Start) (w : Work) (holds : Holds start w) (path : List PathSte
 
 -- ---- two items in inner rows
 
-two_least : (t : Tree) (h : ℕ) (x : Span) → 2 ≤ least_of t (suc h) x
+pub two_least : (t : Tree) (h : ℕ) (x : Span) → 2 ≤ least_of t (suc h) x
 two_least t h x = elim (cases_Bool (covers_all t x)) [
   | inl all ↦ rw all (omega arith)
   | inr part ↦ let some = (sizes t.table.width (kind_at t.kind (suc h))).some in rw part some
