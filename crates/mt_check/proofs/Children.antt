@@ -23,9 +23,10 @@ use Rattle.mt_check.specs.declared.walks.Below.{Below}
 use Rattle.mt_check.specs.RowTests.{tells_gap}
 use Rattle.mt_check.specs.Check.{own_faults, faults_at}
 use Rattle.mt_check.specs.Walks.{no_item, tree_from, way_of, height_from, LeadsTo, depth_from, depth_known, IsEntered, IsAnswerAt, below_at}
-use Rattle.mt_check.proofs.Loaded.{none_read, reads_more, same_tree}
+use Rattle.mt_check.proofs.Loaded.{none_read}
 use Rattle.mt_check.proofs.Onward.{first_front, Onward, onward_begins, onward_next}
 use Rattle.mt_check.proofs.Descending.{tree_stays, gap_told, some_left, many_here, child_span, child_leads, child_fault, gap_fault, all_answer, all_depth, rows_add, ranges_add}
+use Rattle.mt_rows.proofs.Loads.{reads_on, same_tree}
 
 -- the walk through a row's children, up to a slot
 pub record Goes (s s' : Sheet) (walk walk' : Walk) (visit : Visit) (row : Row) (slot : ℕ) (below : Below) (gaps : Bool) : Type 0 where
@@ -104,7 +105,7 @@ module _ (s s' : Sheet) (walk walk' : Walk) (visit : Visit) (row : Row) (slot : 
           → gaps' ≡ (gaps && tells_gap row.kind (slice_index_or row.items.items slot no_item).gap child.longest)
           → below' ≡ record { rows = below.rows + child.rows; ranges = below.ranges + child.ranges; longest = max below.longest child.longest } → Goes s s'' walk walk'' visit row (slot + 1) below' gaps'
       goes_next s'' walk'' below' gaps' reads kept depth tells more = record {
-        rest = reads_more s s' s'' goes.rest reads;
+        rest = reads_on s s' s'' goes.rest reads;
         same = kept ∙ ap (λ (w : Walk). record w { leaf_depth = walk''.leaf_depth }) goes.same;
         onward = onward_next t under row.kind row.number (spans_in s.tree.table visit.span) slot walk.leaf_depth walk'.leaf_depth below gaps goes.onward v.span here child below' walk''.leaf_depth gaps'
             (sym same_faults ∙ answer.0) found (depth ∙ ap (λ (u : Tree). Some (height_from u)) stays) (tells ∙ ap (λ (b : Bool). gaps && b) told) more;

@@ -4,8 +4,6 @@ use Rattle.std.specs.List.{flat_map}
 use Rattle.std.proofs.lemmas.Bool.{cases_Bool}
 use Rattle.std.proofs.Math.Nat.{pow-succ', pow-le-pow_right, one-le-pow, mul-le-mul_right}
 use Rattle.mt_base.specs.declared.ranges.Range.{Range}
-use Rattle.mt_base.specs.declared.widths.Width.{Width}
-use Rattle.mt_base.specs.declared.widths.Width.TheVariants.{Long}
 use Rattle.mt_base.specs.Width.{columns, deepest}
 use Rattle.mt_layout.specs.declared.names.RowKind.{RowKind}
 use Rattle.mt_layout.specs.declared.names.RowKind.TheVariants.{Leaf, Inner, Gapped}
@@ -13,22 +11,12 @@ use Rattle.mt_layout.specs.declared.items.Item.{Item}
 use Rattle.mt_layout.specs.declared.spans.Span.{Span}
 use Rattle.mt_layout.specs.Rows.{named_kind}
 use Rattle.mt_layout.specs.Spans.{spans_from, leaf_range}
-use Rattle.mt_layout.proofs.RowSizes.{slots_of-columns, some_columns}
-use Rattle.mt_layout.proofs.SpanLists.{length-spans_from}
-use Rattle.mt_rows.specs.Spans.{Table, spans_by, spans_in}
+use Rattle.mt_layout.proofs.RowSizes.{some_columns}
+use Rattle.mt_rows.specs.Spans.{Table, spans_in}
 use Rattle.mt_rows.specs.Trees.{by_kind, ranges_of}
-use Rattle.mt_rows.specs.Laws.{items_in}
-use Rattle.mt_layout.specs.Rows.{row_in}
-use Rattle.mt_check.proofs.OneRow.{few_of}
+use Rattle.mt_rows.proofs.PlainPlant.{children_few, deepest_fits}
 
 -- ---- ranges below a row
-
-children_few : (t : Table) (x : Span) → length (spans_in t x) ≤ columns t.width
-children_few t x = by (named_kind x.word)
-  where
-    by : (kind : Option RowKind) → length (spans_by t kind x) ≤ columns t.width
-    by None = omega arith
-    by (Some kind) = omega (arith, length-spans_from x.first (items_in t kind x), few_of t kind (row_in x.word) x.last, slots_of-columns t.width kind)
 
 each_few : (f : Span → List Range) (most : ℕ) (xs : List Span) → ((x : Span) → length (f x) ≤ most) → length (flat_map f xs) ≤ length xs * most
 each_few f most [] few = omega arith
@@ -54,9 +42,6 @@ ranges_few t (suc depth) x =
     let leaf = each_few leaf_range 1 (spans_in t x) one_range in
     let inner = each_few (ranges_of t depth) most (spans_in t x) (ranges_few t depth) in
     either_few (named_kind x.word) (flat_map leaf_range (spans_in t x)) (flat_map (ranges_of t depth) (spans_in t x)) (columns t.width ^ suc depth) (omega (arith, children_few t x)) (omega arith)
-
-deepest_fits : (width : Width) → columns width ^ deepest < 2 ^ 64
-deepest_fits Long = omega arith
 
 pub ranges_fit : (t : Table) (depth : ℕ) (x : Span) → depth ≤ deepest → length (ranges_of t depth x) < 2 ^ 64
 ranges_fit t depth x low =

@@ -7,8 +7,6 @@ use Rattle.std.proofs.lemmas.Bool.{cases_Bool, and_parts, eqb-true, eqb-false, n
 use Rattle.std.proofs.lemmas.List.Folds.{Any-from_list_any}
 use Rattle.mt_base.specs.declared.ranges.Range.{Range}
 use Rattle.mt_base.proofs.Lists.{none_or_some}
-use Rattle.mt_base.specs.declared.widths.Width.{Width}
-use Rattle.mt_base.specs.declared.widths.Width.TheVariants.{Long}
 use Rattle.mt_base.specs.Width.{deepest}
 use Rattle.mt_layout.specs.declared.names.RowKind.{RowKind}
 use Rattle.mt_layout.specs.declared.names.RowKind.TheVariants.{Leaf, Inner, Gapped}
@@ -24,9 +22,11 @@ use Rattle.mt_rows.specs.Spans.{Table, base_of, column, spans_in}
 use Rattle.mt_rows.specs.Trees.{by_kind, height_of, rows_of, ranges_of}
 use Rattle.mt_rows.specs.Laws.{Tree, top_of, items_in, words_in}
 use Rattle.mt_rows.specs.Sheet.{Sheet, OnlyReads}
-use Rattle.mt_rows.proofs.Deeper.{ranges_of_deeper, rows_of_deeper, height_of_inner, ranges_of_inner, rows_of_inner, of_first_at}
+use Rattle.mt_rows.proofs.Deeper.{ranges_of_deeper, rows_of_deeper, height_of_inner, ranges_of_inner, rows_of_inner, of_first_at, by_kind_inner}
 use Rattle.mt_rows.proofs.Depth.{by_leaf}
 use Rattle.mt_rows.proofs.PlainPlant.{rows_fit}
+use Rattle.mt_rows.proofs.Loads.{same_tree}
+use Rattle.mt_rows.proofs.RowGaps.{some_gaps}
 use Rattle.mt_check.specs.declared.faults.Fault.{Fault}
 use Rattle.mt_check.specs.declared.faults.Law.TheVariants as law
 use Rattle.mt_check.specs.declared.walks.Walk.{Walk}
@@ -37,7 +37,6 @@ use Rattle.mt_check.specs.RowTests.{depth_at, has_depth, rise_to, words_of, has_
 use Rattle.mt_check.specs.Check.{Way, unless, at_row, own_faults, gaps_by, faults_below, faults_at}
 use Rattle.mt_check.specs.Walks.{no_item, tree_from, way_of, height_from, LeadsTo, depth_from, depth_known, IsEntered, IsAnswerAt, below_at}
 use Rattle.mt_check.proofs.Lists.{both_none}
-use Rattle.mt_check.proofs.Loaded.{same_tree}
 use Rattle.mt_check.proofs.OneRow.{spans_are, some_in, rising_fills}
 use Rattle.mt_check.proofs.Passes.{Passes, none_passes}
 use Rattle.mt_check.proofs.Counts.{ranges_fit, entries_counted}
@@ -64,11 +63,6 @@ longest_deeper t zero x deep = absurd (omega arith)
 longest_deeper t (suc left) x deep =
     let same : left ≡ suc left - 1 = omega arith in
     ap (λ (n : ℕ). longest_by (named_kind x.word) (longest_in (spans_in t x)) (longest_of (longest_at t n) (spans_in t x))) same
-
-pub kind_inner : {A : Type 0} (kind : RowKind) (leaf inner : List A) → kind ≢ Leaf → by_kind (Some kind) leaf inner ≡ inner
-kind_inner Leaf leaf inner other = absurd (other refl)
-kind_inner Inner leaf inner other = refl
-kind_inner Gapped leaf inner other = refl
 
 longest_inner : (kind : RowKind) (leaf inner : ℕ) → kind ≢ Leaf → longest_by (Some kind) leaf inner ≡ inner
 longest_inner Leaf leaf inner other = absurd (other refl)
@@ -110,9 +104,6 @@ gap_told t Gapped x slot longest within =
     let same : 0 + slot ≡ slot = omega arith in
     let word = gap_at-some (slots_of t.width Gapped) (gaps_of t.width Gapped) t.words base slot (some_gaps t.width) in
     ap (λ (n : ℕ). n == longest) (here ∙ (ap (gap_at (slots_of t.width Gapped) (gaps_of t.width Gapped) t.words base) same ∙ word))
-  where
-    some_gaps : (width : Width) → gaps_of width Gapped ≢ 0
-    some_gaps Long = λ e. absurd (omega arith)
 
 -- ---- a row that was entered
 
@@ -204,7 +195,7 @@ module _ (t : Tree) (visit : Visit) (row : Row) (entered : IsEntered t visit row
         faults_deeper t visit.left way x some_left
         ∙ ((λ i. entered.kept i ++ by_kind (named_kind x.word) [] below)
         ∙ ((λ i. by_kind (entered.named i) [] (faults_below (faults_at t under) (row_in x.word) 0 children ++ at_row (row_in x.word) (gaps_by (longest_at t.table under) t x (entered.named i))))
-        ∙ (kind_inner row.kind [] (faults_below (faults_at t under) (row_in x.word) 0 children ++ at_row (row_in x.word) (gaps_by (longest_at t.table under) t x (Some row.kind))) inner
+        ∙ (by_kind_inner row.kind [] (faults_below (faults_at t under) (row_in x.word) 0 children ++ at_row (row_in x.word) (gaps_by (longest_at t.table under) t x (Some row.kind))) inner
         ∙ (λ i. faults_below (faults_at t under) (sym entered.number i) 0 children ++ at_row (sym entered.number i) (unless (has_gaps_from (longest_at t.table under) t.table row.kind (sym entered.number i) 0 children) law.Gaps)))))
 
     pub child_span : (slot : ℕ) (y : Span) → Some y ≡ slice_get (spans_from x.first row.items.items) slot → Some y ≡ slice_get children slot

@@ -1,5 +1,5 @@
 -- Rows of which words were only read.
-use Rattle.std.proofs.Common.{◌≡◌, ℕ, ◌+◌, ◌-◌, ◌<◌, ◌≤◌, List, [], ◌∷◌, ◌++◌, Option, length, nat_lt, refl, sym, ap, ◌∙◌, subst, length-append}
+use Rattle.std.proofs.Common.{◌≡◌, ℕ, ◌+◌, ◌-◌, ◌<◌, ◌≤◌, List, [], ◌∷◌, ◌++◌, length, nat_lt, refl, sym, ap, ◌∙◌, subst, length-append}
 use Rattle.std.specs.Prelude.{if◌then◌else◌}
 use Rattle.mt_layout.specs.declared.items.Item.{Item}
 use Rattle.mt_layout.specs.declared.names.RowKind.{RowKind}
@@ -7,20 +7,12 @@ use Rattle.mt_layout.specs.Columns.{item_at, items_from, pivot_column}
 use Rattle.mt_layout.specs.Sizes.{slots_of, gaps_of}
 use Rattle.mt_layout.proofs.Reading.{read_last, read_more, read_all}
 use Rattle.mt_rows.specs.Spans.{Table, base_of, column}
-use Rattle.mt_rows.specs.Sheet.{Sheet, Rooted, loaded, OnlyReads}
+use Rattle.mt_rows.specs.Sheet.{Sheet, Rooted, OnlyReads}
 use Rattle.mt_check.specs.Reads.{items_of}
+use Rattle.mt_rows.proofs.Loads.{reads_on, same_tree}
 
 pub none_read : (s : Sheet) → OnlyReads s s
 none_read s = refl
-
-pub one_read : (s s' : Sheet) → s' ≡ loaded s → OnlyReads s s'
-one_read s s' is = is ∙ ap (λ (r : Option ℕ). record s { reads = r }) (sym (ap (λ (r : Sheet). r.reads) is))
-
-pub reads_more : (s s' s'' : Sheet) → OnlyReads s s' → OnlyReads s' s'' → OnlyReads s s''
-reads_more s s' s'' first second = second ∙ ap (λ (r : Sheet). record r { reads = s''.reads }) first
-
-pub same_tree : (s s' : Sheet) → OnlyReads s s' → s'.tree ≡ s.tree
-same_tree s s' reads = ap (λ (r : Sheet). r.tree) reads
 
 -- ---- the items of a row
 
@@ -52,7 +44,7 @@ module _ (s t u : Sheet) (kind : RowKind) (row max slot : ℕ) (before after : L
   one_more_read more =
       let count = done.count in
       record {
-        rest = reads_more s t u done.rest reads;
+        rest = reads_on s t u done.rest reads;
         read = subst (λ (l : List Item). l ++ items_behind s.tree.table kind row max (slot + 1) ≡ items_of s.tree.table kind row max) (sym pushed)
             (read_more (slots_of s.tree.table.width kind) (gaps_of s.tree.table.width kind) s.tree.table.words (base_of s.tree.table row) max before (items_of s.tree.table kind row max) slot item done.read inside here more);
         count = ap length pushed ∙ (length-append before (item ∷ []) ∙ ap (λ (n : ℕ). n + 1) count);

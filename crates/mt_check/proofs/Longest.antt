@@ -14,11 +14,8 @@ use Rattle.mt_rows.specs.Levels.{expand, Levels}
 use Rattle.mt_rows.specs.Laws.{Tree, IsRow, longest_below}
 use Rattle.mt_rows.proofs.Depth.{IsLeaf, IsInner, leaves, inners}
 use Rattle.mt_rows.proofs.Joins.{levels_front, levels_back}
+use Rattle.mt_rows.proofs.Longest.{longest_in-append}
 use Rattle.mt_check.specs.RowTests.{longest_of, longest_by, longest_at}
-
-pub longest_in-append : (xs ys : List Span) → longest_in (xs ++ ys) ≡ max (longest_in xs) (longest_in ys)
-longest_in-append [] ys = omega arith
-longest_in-append (x ∷ xs) ys = let behind = longest_in-append xs ys in omega arith
 
 longest_of-append : (f : Span → ℕ) (xs ys : List Span) → longest_of f (xs ++ ys) ≡ max (longest_of f xs) (longest_of f ys)
 longest_of-append f [] ys = omega arith

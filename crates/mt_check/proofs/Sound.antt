@@ -10,12 +10,13 @@ use Rattle.mt_layout.specs.declared.names.RowKind.{RowKind}
 use Rattle.mt_layout.specs.declared.names.RowKind.TheVariants.{Leaf, Inner, Gapped}
 use Rattle.mt_layout.specs.declared.spans.Span.{Span}
 use Rattle.mt_layout.specs.Rows.{row_in, named_kind, parent_at}
-use Rattle.mt_rows.specs.Spans.{Table, column, inner_kind, spans_in, root_span}
+use Rattle.mt_rows.specs.Spans.{column, inner_kind, spans_in, root_span}
 use Rattle.mt_rows.specs.Levels.{Levels}
 use Rattle.mt_rows.specs.Trees.{by_kind, height_in}
 use Rattle.mt_rows.specs.Laws.{Tree, IsRow, IsTended, IsLawful, ParentsFrom, GapLaw, GapLawBy}
 use Rattle.mt_rows.proofs.Depth.{by_inner, some_least}
 use Rattle.mt_rows.proofs.Joins.{levels_join}
+use Rattle.mt_rows.proofs.Lists.{levels_none}
 use Rattle.mt_check.specs.declared.faults.Fault.{Fault}
 use Rattle.mt_check.specs.declared.faults.Law.TheVariants as law
 use Rattle.mt_check.specs.RowTests.{depth_at, has_depth, longest_at, has_gaps}
@@ -25,10 +26,6 @@ use Rattle.mt_check.proofs.OneRow.{gaps_told}
 use Rattle.mt_check.proofs.Longest.{each_longest}
 use Rattle.mt_check.proofs.Passes.{Passes, none_passes, passes_row, stands_inner}
 use Rattle.mt_check.proofs.Placed.{Placed, root_placed, children_placed, height_low}
-
-pub levels_nil : (P : ℕ → Span → Type 0) (t : Table) (h : ℕ) → Levels P t h []
-levels_nil P t zero = tt
-levels_nil P t (suc h) = (tt, levels_nil P t h)
 
 leaf_or_not : (kind : RowKind) → (kind ≡ Leaf) ⊎ (kind ≢ Leaf)
 leaf_or_not Leaf = inl refl
@@ -64,9 +61,9 @@ module _ (t : Tree) where
   sound_below : (left : ℕ) → Sound left → (row slot : ℕ) (xs : List Span) → AllByRecursion (Placed t left) xs → faults_below (faults_at t left) row slot xs ≡ [] → KeptBelow left row slot xs
   sound_below left sound row slot [] placed none = record {
     deep = λ some. absurd (omega arith);
-    rows = levels_nil (IsRow t) t.table (above left);
+    rows = levels_none (IsRow t) t.table (above left);
     parents = tt;
-    tended = levels_nil (IsTended t) t.table (above left);
+    tended = levels_none (IsTended t) t.table (above left);
   }
   sound_below left sound row slot (x ∷ xs) placed none =
       let way : Way = record { from = row; parent = parent_at row slot } in

@@ -18,8 +18,8 @@ use Rattle.mt_rows.specs.Spans.{Table, base_of, column}
 use Rattle.mt_rows.specs.Sheet.{Sheet, Rooted, OnlyReads}
 use Rattle.mt_check.specs.RowTests.{words_of}
 use Rattle.mt_check.specs.Reads.{items_of, are_zero, holds_no_more, words_made}
-use Rattle.mt_check.proofs.Loaded.{same_tree, reads_more}
 use Rattle.mt_check.proofs.OneRow.{few_of, Unused, same_unused, unused_same}
+use Rattle.mt_rows.proofs.Loads.{reads_on, same_tree}
 
 -- ---- columns that are 0
 
@@ -61,7 +61,7 @@ pub record AreZeroUpTo (s s' : Sheet) (row from end col : ℕ) : Type 0 where
 module _ (s t u : Sheet) (row from end col : ℕ) (done : AreZeroUpTo s t row from end col) (within : col < end) where
   pub one_more_zero : OnlyReads t u → column t.tree.table row col ≡ 0 → AreZeroUpTo s u row from end (col + 1)
   one_more_zero reads is = record {
-    rest = reads_more s t u done.rest reads;
+    rest = reads_on s t u done.rest reads;
     zeros = sym (zero_more s.tree.table row col end within (sym (ap (λ (x : Rooted). column x.table row col) (same_tree s t done.rest)) ∙ is)) ∙ done.zeros;
   }
 

@@ -4,7 +4,7 @@ use Rattle.std.specs.Cmp.Lexicographic.{pointwise}
 use Rattle.mt_rows.specs.Sheet.{Rooted}
 use Rattle.mt_check.specs.RowTests.{rise_to, words_of}
 use Rattle.mt_check.specs.Reads.{items_of, holds_no_more, words_made}
-use Rattle.mt_check.proofs.Loaded.{same_tree}
+use Rattle.mt_rows.proofs.Loads.{same_tree}
 use Rattle.mt_check.proofs.Unused.{no_more}
 use Rattle.mt_check.proofs.reads.items_in.Goals as goal
 

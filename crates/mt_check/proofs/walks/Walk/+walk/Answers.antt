@@ -5,7 +5,7 @@ use Rattle.mt_layout.specs.declared.items.Item.{Item}
 use Rattle.mt_layout.specs.Columns.{RiseFrom, longest_hole}
 use Rattle.mt_check.specs.declared.walks.Below.{Below}
 use Rattle.mt_check.specs.Walks.{tree_from, IsAnswerAt}
-use Rattle.mt_check.proofs.Loaded.{reads_more}
+use Rattle.mt_rows.proofs.Loads.{reads_on}
 use Rattle.mt_check.proofs.Descending.{risen, leaf_entry, leaf_answer, leaf_depth}
 use Rattle.mt_check.proofs.Children.{child_low, child_falls, child_depth, child_answer, rows_fit_in, ranges_fit_in, goes_next, gaps_answer, last_answer, inner_walk, still_leads, still_entered, answer_back, depth_back, walk_back, own_first, not_leaf}
 use Rattle.mt_check.proofs.walks.Walk.+walk.Goals as goal
@@ -99,5 +99,5 @@ check_row-returns-in-Inner g t c =
       answer = answer_back s s' c.args.self.now c.enter.new.self c.args.visit c.enter.new.row c.enter.ensures.rest same c.check_children.result c.check_children.ensures.answer;
       depth = depth_back s s' c.args.self.now c.enter.new.self c.args.visit c.enter.new.row c.enter.ensures.rest same c.check_children.result c.check_children.new.self.leaf_depth c.check_children.ensures.depth;
       walk = walk_back s s' c.args.self.now c.enter.new.self c.args.visit c.enter.new.row c.enter.ensures.rest same c.check_children.new.self c.check_children.ensures.walk;
-      rest = reads_more s s' (g.R.Rows.sheet c.check_children.new.rows) c.enter.ensures.rest c.check_children.ensures.rest;
+      rest = reads_on s s' (g.R.Rows.sheet c.check_children.new.rows) c.enter.ensures.rest c.check_children.ensures.rest;
     }
