@@ -21,8 +21,11 @@ use Rattle.mt_dup.specs.Copy.{renamed}
 use Rattle.mt_dup.specs.Filling.{next_row, IsFilling, HasTaken, IsOpen, IsWritten}
 use Rattle.mt_dup.specs.Pairs.{IsWrittenAt}
 use Rattle.mt_dup.specs.Walks.{names_from, names_below, MayCopy, MayCopyBelow, AreNumbered, IsCopied, AreCopied, LeavesCopy, LeavesChildren, IsNoName, KeepsOwn}
-use Rattle.mt_dup.proofs.WrittenRows.{same_tree, one_read, reads_more, written_rows, written_width, nothing_written, written_on, written_in}
-use Rattle.mt_dup.proofs.Names.{all_at, parents_at, more_done, all_done, done_most, names_long, names_at, numbered_front, numbered_back, renamed_parent, slots_few, SameFrom, copies_stay}
+use Rattle.mt_dup.proofs.WrittenRows.{written_rows, written_width, nothing_written, written_on, written_in}
+use Rattle.mt_dup.proofs.Names.{parents_at, more_done, all_done, done_most, names_long, names_at, numbered_front, numbered_back, renamed_parent, SameFrom, copies_stay}
+use Rattle.mt_rows.proofs.Loads.{one_read, reads_on, same_tree}
+use Rattle.mt_rows.proofs.Lists.{all_at}
+use Rattle.mt_rows.proofs.FewSpans.{few_slots}
 
 -- ---- books
 
@@ -99,7 +102,7 @@ going_none s d b pair depth count begins = record {
 -- loads change nothing
 pub going_loaded : (s s₁ s₂ d d₁ : Sheet) (b b₁ : Book) (pair : Pair) (depth slot count count₁ : ℕ) → Going s s₁ d d₁ b b₁ pair depth slot count count₁ → s₂ ≡ loaded s₁ → Going s s₂ d d₁ b b₁ pair depth slot count count₁
 going_loaded s s₁ s₂ d d₁ b b₁ pair depth slot count count₁ going one = record {
-  reads = reads_more s s₁ s₂ going.reads (one_read s₁ s₂ one);
+  reads = reads_on s s₁ s₂ going.reads (one_read s₁ s₂ one);
   written = going.written;
   taken = going.taken;
   steps = going.steps;
@@ -262,7 +265,7 @@ module _ (s d : Sheet) (b : Book) (pair : Pair) (depth : ℕ) (begins : Begins s
                 let here_parent : slice_index names slot ≢ 0 → column t (row_in (slice_index names slot)) 0 ≡ parent_at pair.row slot = subst (λ (n : ℕ). slice_index names slot ≢ 0 → column t (row_in (slice_index names slot)) 0 ≡ parent_at pair.row n) plus (parents_at t pair.row 0 names slot begins.may.parents (omega (arith, long))) in
                 let parent : column t (row_in (word_of slot)) 0 ≡ parent_at pair.row slot =
                 subst (λ (n : ℕ). n ≢ 0 → column t (row_in n) 0 ≡ parent_at pair.row slot) same here_parent some in
-                sym (ap (renamed number) parent ∙ (renamed_parent number pair.row slot (omega (arith, slots_few t.width pair.kind)) ∙ ap (λ (r : ℕ). parent_at r slot) to_is))
+                sym (ap (renamed number) parent ∙ (renamed_parent number pair.row slot (omega (arith, few_slots t.width pair.kind)) ∙ ap (λ (r : ℕ). parent_at r slot) to_is))
 
             child : (name ≡ renamed number (word_of slot)) × AreCopied number t d₂.tree.table (child_names (word_of slot))
             child = copy' number zero_is child_numbered parent_is
@@ -285,7 +288,7 @@ module _ (s d : Sheet) (b : Book) (pair : Pair) (depth : ℕ) (begins : Begins s
 
         pub going_next : Going s s₂ d d₃ b b₂ pair depth (slot + 1) count count₂
         going_next = record {
-          reads = reads_more s s₁ s₂ going.reads reads;
+          reads = reads_on s s₁ s₂ going.reads reads;
           written = let to = begins.to in written_in pair.to (next_row b₂) pair.to d d₂ d₃ (omega arith) (omega (arith, next_is, then_is)) so_far last;
           taken = taken_more (length (done s pair depth slot)) (length (child_names (word_of slot))) (length (done s pair depth (slot + 1))) b b₁ b₂ (length_more slot inside) going.taken taken';
           steps = let more = length_more slot inside in let before = going.steps in omega (arith, steps');

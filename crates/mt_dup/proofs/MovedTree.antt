@@ -27,13 +27,12 @@ use Rattle.mt_rows.specs.Trees.{rows_of}
 use Rattle.mt_rows.specs.Laws as laws
 use Rattle.mt_rows.specs.Laws.{Tree, NameLaw, IsRow, IsTended, ParentsFrom, GapsFrom, GapLawBy, kind_at, least_of, items_in, words_in, longest_below}
 use Rattle.mt_rows.proofs.Depth.{by_leaf, by_inner}
-use Rattle.mt_rows.proofs.FewSpans.{row_most}
+use Rattle.mt_rows.proofs.FewSpans.{row_most, few_slots}
 use Rattle.mt_rows.proofs.Joins.{levels_front, levels_back}
-use Rattle.mt_rows.proofs.Lists.{levels_here}
+use Rattle.mt_rows.proofs.Lists.{levels_here, children_hold}
 use Rattle.mt_dup.specs.Copy.{renamed, slot_renamed, IsRowCopy}
-use Rattle.mt_dup.proofs.Names.{renamed_name, renamed_parent, slots_few}
+use Rattle.mt_dup.proofs.Names.{renamed_name, renamed_parent}
 use Rattle.mt_dup.proofs.MovedItems as items
-use Rattle.mt_dup.proofs.TreeNames.{children_hold}
 
 module _ (t : Tree) (number : ℕ → ℕ) (none : number 0 ≡ 0) (rows : ℕ) (few : rows ≤ most_rows) (words : List ℕ) where
   -- the copy
@@ -243,7 +242,7 @@ module _ (t : Tree) (number : ℕ → ℕ) (none : number 0 ≡ 0) (rows : ℕ) 
   tended_moved (suc h) x moved below tended = record {
     parent =
         let short = row_most moved.row.name in
-        let parents = parents_moved h (row_in x.word) 0 (spans_in t.table x) (omega (arith, short, slots_few t.table.width (kind_at t.kind (suc h)))) (levels_here IsMoved t.table h (spans_in t.table x) children) tended.parent in
+        let parents = parents_moved h (row_in x.word) 0 (spans_in t.table x) (omega (arith, short, few_slots t.table.width (kind_at t.kind (suc h)))) (levels_here IsMoved t.table h (spans_in t.table x) children) tended.parent in
         subst (λ (xs : List Span). ParentsFrom later.table (row_in (renamed number x.word)) 0 xs) (sym (spans_moved (suc h) x moved))
         (subst (λ (r : ℕ). ParentsFrom later.table r 0 (map move (spans_in t.table x))) (sym (row_moved (suc h) x moved)) parents);
     gaps = by t.kind refl tended.gaps;

@@ -1,7 +1,7 @@
 -- The names that the walk of a copy comes to, and what it leaves of them.
-use Rattle.std.proofs.Common.{◌≡◌, ◌≢◌, ℕ, zero, suc, ◌+◌, ◌-◌, ◌*◌, ◌%◌, ◌<◌, ◌≤◌, List, [], ◌∷◌, ◌++◌, Some, None, length, take, drop, refl, sym, ap, ◌∙◌, subst, arith, append-nil, get_or, length-append, length-take, length-drop}
+use Rattle.std.proofs.Common.{◌≡◌, ◌≢◌, ℕ, zero, suc, ◌+◌, ◌-◌, ◌*◌, ◌%◌, ◌<◌, ◌≤◌, List, [], ◌∷◌, ◌++◌, Some, None, length, take, drop, refl, ap, ◌∙◌, subst, arith, append-nil, length-append, length-take, length-drop}
 use Rattle.std.specs.Prelude.{slice_index}
-use Rattle.std.specs.List.{AllByRecursion, flat_map}
+use Rattle.std.specs.List.{flat_map}
 use Rattle.std.proofs.lemmas.List.{take_more, take_all, get_or-take, get_or-drop}
 use Rattle.std.proofs.lemmas.Grind.{flat_map-append}
 use Rattle.mt_base.specs.declared.widths.Width.{Width}
@@ -20,11 +20,6 @@ use Rattle.mt_dup.specs.Copy.{renamed, IsRowCopy}
 use Rattle.mt_dup.specs.Walks.{names_by, names_from, ParentsAre, AreNumbered, AreCopied}
 
 -- ---- lists, by index
-
-pub all_at : {A : Type 0} (P : A → Type 0) (xs : List A) (i : ℕ) (d : A) → AllByRecursion P xs → i < length xs → P (get_or xs i d)
-all_at P [] i d each within = absurd (omega arith)
-all_at P (x ∷ xs) zero d each within = each.0
-all_at P (x ∷ xs) (suc i) d each within = all_at P xs i d each.1 (omega arith)
 
 pub parents_at : (t : Table) (row slot : ℕ) (words : List ℕ) (i : ℕ) → ParentsAre t row slot words → i < length words → slice_index words i ≢ 0 → column t (row_in (slice_index words i)) 0 ≡ parent_at row (slot + i)
 parents_at t row slot [] i each within some = absurd (omega arith)
@@ -117,11 +112,6 @@ renamed_name number word kind named = ap (parent_at (number (row_in word))) (low
     low_byte Leaf is = omega (arith, is)
     low_byte Inner is = omega (arith, is)
     low_byte Gapped is = omega (arith, is)
-
-pub slots_few : (v : Width) (kind : RowKind) → slots_of v kind < 256
-slots_few Long Leaf = omega arith
-slots_few Long Inner = omega arith
-slots_few Long Gapped = omega arith
 
 -- ---- copies stay while other rows are written
 

@@ -21,9 +21,11 @@ use Rattle.mt_dup.specs.Copy.{renamed, slot_renamed, IsRowCopy}
 use Rattle.mt_dup.specs.Filling.{next_row, HasTaken, IsOpen, IsWritten}
 use Rattle.mt_dup.specs.Pairs.{HasOwn}
 use Rattle.mt_dup.specs.Walks.{names_by, names_from, names_below, ParentsAre, MayCopy, MayCopyBy, MayCopyBelow, AreNumbered, AreCopied, LeavesCopy, LeavesChildren, HasNames, IsNoName, KeepsOwn}
-use Rattle.mt_dup.proofs.WrittenRows.{same_tree, written_width}
+use Rattle.mt_dup.proofs.WrittenRows.{written_width}
 use Rattle.mt_dup.proofs.Names.{names_deeper, names_none, renamed_name}
 use Rattle.mt_dup.proofs.Going.{next_after, open_after}
+use Rattle.mt_rows.proofs.Loads.{same_tree}
+use Rattle.mt_rows.proofs.RowLaws.{name_some}
 
 -- ---- a word that is no name
 
@@ -48,9 +50,6 @@ named_some t (suc depth) word kind named may =
     let all = subst (MayCopyBy (MayCopy t depth) t word) named may in
     let same : depth ≡ suc depth - 1 = omega arith in
     (omega arith, (all.0, (all.1.0, subst (λ (n : ℕ). AllByRecursion (MayCopy t n) (names_of t.table.words (row_in word) kind)) same all.1.1)))
-
-named_not_zero : (word : ℕ) (kind : RowKind) → named_kind word ≡ Some kind → word ≢ 0
-named_not_zero word kind named = λ zero_is. let none : named_kind word ≡ None = ap named_kind zero_is in let clash = sym named ∙ none in absurd (cc)
 
 module _ (s : Sheet) (b : Book) (way : Way) (pair : Pair) (whole : IsWhole s) (named : named_kind way.word ≡ Some pair.kind) (row : pair.row ≡ row_in way.word) (to : pair.to ≡ next_row b)
     (may : MayCopy s.tree way.depth way.word) where
@@ -116,7 +115,7 @@ module _ (s : Sheet) (b : Book) (way : Way) (pair : Pair) (whole : IsWhole s) (n
     row_copied number zero_is numbered parent =
         let all : AreNumbered number (next_row b) (way.word ∷ names_below t.words way.depth pair) = subst (AreNumbered number (next_row b)) names_are numbered in
         let to_is : number pair.row ≡ pair.to = ap number row ∙ (all.0 ∙ sym to) in
-        let parent_is : way.parent ≡ renamed number (column t pair.row 0) = parent (named_not_zero way.word pair.kind named) ∙ ap (λ (r : ℕ). renamed number (column t r 0)) (sym row) in
+        let parent_is : way.parent ≡ renamed number (column t pair.row 0) = parent (name_some way.word pair.kind named) ∙ ap (λ (r : ℕ). renamed number (column t r 0)) (sym row) in
         let below = children number zero_is to_is (subst (λ (n : ℕ). AreNumbered number n (names_below t.words way.depth pair)) (sym next_is) all.1) in
         let here = here_copied number to_is parent_is below.0 in (
           name_is number to_is,

@@ -14,19 +14,12 @@ use Rattle.mt_rows.specs.Sheet.{Rooted}
 use Rattle.mt_rows.proofs.Depth.{by_leaf, by_inner}
 use Rattle.mt_rows.proofs.Joins.{levels_join, levels_front, levels_back}
 use Rattle.mt_rows.proofs.PlainNames.{names_are}
+use Rattle.mt_rows.proofs.Lists.{levels_none, children_hold}
 use Rattle.mt_dup.specs.Walks.{names_by, names_from, ParentsAre, MayCopy, MayCopyBy}
 use Rattle.mt_dup.proofs.Names.{names_none}
 
 abbrev pub rooted : Tree → Rooted
 rooted t = record { rows = t.rows; table = t.table; root = t.root }
-
-pub levels_none : (P : ℕ → Span → Type 0) (t : Table) (h : ℕ) → Levels P t h []
-levels_none P t zero = tt
-levels_none P t (suc h) = (tt, levels_none P t h)
-
--- what holds below a row holds below its children
-pub children_hold : (P : ℕ → Span → Type 0) (t : Table) (h : ℕ) (x : Span) → Levels P t (suc h) (x ∷ []) → Levels P t h (spans_in t x)
-children_hold P t h x rows = subst (Levels P t h) (append-nil (spans_in t x)) rows.1
 
 pub children_join : (P : ℕ → Span → Type 0) (t : Table) (h : ℕ) (x : Span) → P (suc h) x → Levels P t h (spans_in t x) → Levels P t (suc h) (x ∷ [])
 children_join P t h x here below = ((here, tt), subst (Levels P t h) (sym (append-nil (spans_in t x))) below)

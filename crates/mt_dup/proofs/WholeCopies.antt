@@ -23,13 +23,13 @@ use Rattle.mt_rows.proofs.Heights.{levels_pair, all_both, level_rows}
 use Rattle.mt_rows.proofs.Lists.{tally-append, levels_here}
 use Rattle.mt_rows.proofs.Once.{once_in}
 use Rattle.mt_rows.proofs.Reached as reached
+use Rattle.mt_rows.proofs.Loads.{same_tree}
 use Rattle.mt_dup.specs.Copy.{renamed, IsRowCopy, IsCopy}
 use Rattle.mt_dup.specs.Walks.{names_from, MayCopy, AreNumbered, IsCopied, AreCopied, LeavesCopy}
 use Rattle.mt_dup.proofs.Names.{names_none}
 use Rattle.mt_dup.proofs.NewNumbers.{times_of, number_in, number_zero, numbered_on, numbered_once, IsGiven, all_given, given_inside, given_outside}
 use Rattle.mt_dup.proofs.TreeNames.{may_copy, rows_named, holds_below}
 use Rattle.mt_dup.proofs.MovedTree as moved
-use Rattle.mt_dup.proofs.WrittenRows.{same_tree}
 
 abbrev pub all_names : Sheet → List ℕ
 all_names s = names_from s.tree.table.words deepest s.tree.root

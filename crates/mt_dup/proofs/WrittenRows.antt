@@ -1,7 +1,8 @@
 -- The columns of one row of a copy, read one by one and written at once.
-use Rattle.std.proofs.Common.{◌≡◌, ℕ, ◌+◌, ◌*◌, ◌<◌, ◌≤◌, ◌⊎◌, List, Option, length, add-zero, refl, sym, ap, ◌∙◌, subst, inl, inr, arith, length-set, get_or-set_other, get_or-set_same}
+use Rattle.std.proofs.Common.{◌≡◌, ℕ, ◌+◌, ◌*◌, ◌<◌, ◌≤◌, ◌⊎◌, List, length, add-zero, refl, sym, ap, ◌∙◌, subst, inl, inr, arith, length-set, get_or-set_other, get_or-set_same, length-take, take}
 use Rattle.std.specs.Prelude.{replicate, slice_index, slice_set}
 use Rattle.std.proofs.lemmas.Bool.{cases_eq, cases_lt}
+use Rattle.std.proofs.lemmas.List.{get_or-take}
 use Rattle.mt_base.specs.declared.widths.Width.{Width}
 use Rattle.mt_base.specs.declared.widths.Width.TheVariants.{Long}
 use Rattle.mt_base.specs.Width.{columns}
@@ -9,21 +10,12 @@ use Rattle.mt_rows.specs.declared.rows.Life.{Life}
 use Rattle.mt_rows.specs.declared.rows.Life.TheVariants.{New, Draft}
 use Rattle.mt_rows.specs.Drafts.{AreDrafted}
 use Rattle.mt_rows.specs.Spans.{column}
-use Rattle.mt_rows.specs.Sheet.{Rooted, Sheet, OnlyReads, IsPlace, loaded, life_of, IsFree}
+use Rattle.mt_rows.specs.Sheet.{Rooted, Sheet, OnlyReads, IsPlace, life_of, IsFree}
 use Rattle.mt_dup.specs.declared.columns.Pair.{Pair}
 use Rattle.mt_dup.specs.Filling.{IsOutside, IsWritten}
 use Rattle.mt_dup.specs.Pairs.{HasOwn}
-
--- ---- loads
-
-pub same_tree : (s s' : Sheet) → OnlyReads s s' → s'.tree ≡ s.tree
-same_tree s s' rest = ap (λ (x : Sheet). x.tree) rest
-
-pub one_read : (s s' : Sheet) → s' ≡ loaded s → OnlyReads s s'
-one_read s s' is = is ∙ ap (λ (r : Option ℕ). record s { reads = r }) (sym (ap (λ (x : Sheet). x.reads) is))
-
-pub reads_more : (s s' s'' : Sheet) → OnlyReads s s' → OnlyReads s' s'' → OnlyReads s s''
-reads_more s s' s'' first second = second ∙ ap (λ (x : Sheet). record x { reads = s''.reads }) first
+use Rattle.mt_rows.proofs.Loads.{reads_on, same_tree}
+use Rattle.mt_layout.proofs.RowSizes.{some_columns}
 
 -- ---- rows that are written
 
@@ -83,8 +75,8 @@ nothing_written row s draft = record {
 
 -- ---- the columns of a row, read one by one
 
-all_columns : (v : Width) → columns v ≡ 32
-all_columns Long = refl
+few_columns : (v : Width) → columns v ≤ 32
+few_columns Long = omega arith
 
 pub record Reading (s s' : Sheet) (first row col : ℕ) (words : List ℕ) : Type 0 where
   pub reads : OnlyReads s s'
@@ -95,14 +87,14 @@ pub record Reading (s s' : Sheet) (first row col : ℕ) (words : List ℕ) : Typ
 pub none_read : (s : Sheet) (first row col : ℕ) → col ≡ 1 → Reading s s first row col (replicate 32 first)
 none_read s first row col one = record { reads = refl; size = refl; here = refl; others = λ c some below. absurd (omega arith) }
 
-pub read_place : (s s' : Sheet) (first row col : ℕ) (words : List ℕ) → IsPlace s.tree row 0 → Reading s s' first row col words → col < 32 → IsPlace s'.tree row col
+pub read_place : (s s' : Sheet) (first row col : ℕ) (words : List ℕ) → IsPlace s.tree row 0 → Reading s s' first row col words → col < columns s.tree.table.width → IsPlace s'.tree row col
 read_place s s' first row col words place so_far within =
-    subst (λ (t : Rooted). IsPlace t row col) (sym (same_tree s s' so_far.reads)) (record { first = place.first; last = place.last; column = omega (arith, all_columns s.tree.table.width) })
+    subst (λ (t : Rooted). IsPlace t row col) (sym (same_tree s s' so_far.reads)) (record { first = place.first; last = place.last; column = within })
 
 pub read_next : (s s' s'' : Sheet) (first row col word : ℕ) (words : List ℕ) → Reading s s' first row col words → 0 < col → col < 32 → OnlyReads s' s'' → word ≡ column s'.tree.table row col
     → Reading s s'' first row (col + 1) (slice_set words col word)
 read_next s s' s'' first row col word words so_far some within more is = record {
-  reads = reads_more s s' s'' so_far.reads more;
+  reads = reads_on s s' s'' so_far.reads more;
   size = length-set words col word ∙ so_far.size;
   here = get_or-set_other words col 0 word 0 (λ e. omega arith) ∙ so_far.here;
   others = others;
@@ -124,23 +116,26 @@ apart : (v : Width) (to row c n : ℕ) → c < columns v → n ≤ columns v →
 apart Long to row c n within few (inl below) = inl (omega arith)
 apart Long to row c n within few (inr above) = inr (omega arith)
 
-module _ (pair : Pair) (s s' d d' : Sheet) (parent col : ℕ) (words : List ℕ) (read : Reading s s' parent pair.row col words) (past : 32 ≤ col) (drafted : AreDrafted pair.to 0 words d d') where
+module _ (pair : Pair) (s s' d d' : Sheet) (parent col n : ℕ) (words : List ℕ) (read : Reading s s' parent pair.row col words) (all : n ≡ columns s.tree.table.width) (past : n ≤ col) (drafted : AreDrafted pair.to 0 (take n words) d d') where
   drafted_width : d'.tree.table.width ≡ d.tree.table.width
   drafted_width = ap (λ (x : Sheet). x.tree.table.width) drafted.rest
+
+  many : length (take n words) ≡ columns s.tree.table.width
+  many = omega (arith, length-take n words, read.size, all, few_columns s.tree.table.width)
 
   column_is : (c : ℕ) → c < columns s.tree.table.width → column d'.tree.table pair.to c ≡ slice_index words c
   column_is c within =
       ap (λ (v : Width). slice_index d'.tree.table.words (columns v * pair.to + c)) drafted_width
       ∙ (ap (λ (n : ℕ). slice_index d'.tree.table.words (n + c)) (sym (add-zero (columns d.tree.table.width * pair.to)))
-      ∙ drafted.put.here c (omega (arith, read.size, all_columns s.tree.table.width)))
+      ∙ (drafted.put.here c (omega (arith, many)) ∙ get_or-take n words c 0 (omega (arith, all))))
 
   pub own_copied : HasOwn parent pair s.tree.table d'.tree.table
   own_copied = record {
-    first = column_is 0 (omega (arith, all_columns s.tree.table.width)) ∙ read.here;
-    others = λ c some within. column_is c within ∙ read.others c some (omega (arith, all_columns s.tree.table.width));
+    first = column_is 0 (some_columns s.tree.table.width) ∙ read.here;
+    others = λ c some within. column_is c within ∙ read.others c some (omega (arith, all));
   }
 
-  module _ (inside : pair.to < length d.lives) where
+  module _ (inside : pair.to < length d.lives) (wide : d.tree.table.width ≡ s.tree.table.width) where
     lives_are : d'.lives ≡ slice_set d.lives pair.to Draft
     lives_are = ap (λ (x : Sheet). x.lives) drafted.rest
 
@@ -149,7 +144,7 @@ module _ (pair : Pair) (s s' d d' : Sheet) (parent col : ℕ) (words : List ℕ)
       rest = drafted.rest ∙ ap (λ (l : List Life). record d { tree = record d.tree { table = record d.tree.table { words = d'.tree.table.words } }; lives = l }) (sym lives_are);
       words = λ row c outside within.
           ap (λ (v : Width). slice_index d'.tree.table.words (columns v * row + c)) drafted_width
-          ∙ drafted.put.others (columns d.tree.table.width * row + c) (apart d.tree.table.width pair.to row c (length words) within (omega (arith, read.size, all_columns d.tree.table.width)) outside);
+          ∙ drafted.put.others (columns d.tree.table.width * row + c) (apart d.tree.table.width pair.to row c (length (take n words)) within (omega (arith, many, ap columns wide)) outside);
       lives = λ row outside. ap (λ (l : List Life). life_of l row) lives_are ∙ get_or-set_other d.lives pair.to row Draft New (λ e. other row outside e);
       drafts = λ row from to. let same : pair.to ≡ row = omega arith in subst (λ (n : ℕ). life_of d'.lives n ≡ Draft) same (ap (λ (l : List Life). life_of l pair.to) lives_are ∙ get_or-set_same d.lives pair.to Draft New inside);
     }

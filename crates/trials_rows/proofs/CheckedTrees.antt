@@ -9,7 +9,7 @@ use Rattle.mt_rows.specs.Publish.{tree_as, with_published, IsLawfulOf}
 use Rattle.mt_check.specs.declared.faults.Fault.{Fault}
 use Rattle.mt_check.specs.declared.faults.Form.{Form}
 use Rattle.mt_check.specs.Check.{checked, first_or, faults_in, form_of}
-use Rattle.mt_dup.proofs.WrittenRows.{same_tree}
+use Rattle.mt_rows.proofs.Loads.{same_tree}
 
 module _ (s s' : Sheet) (root : ℕ) (kind : Kind) (reads : OnlyReads s s') (root_is : s.tree.root ≡ root) where
   tree_is : with_published s.tree Root root ≡ s'.tree

@@ -7,10 +7,11 @@ use Rattle.mt_rows.specs.PlainWhole.{rows_whole}
 use Rattle.mt_rows.specs.Publish.{IsLawfulOf}
 use Rattle.mt_rows.specs.Sheet.{Sheet}
 use Rattle.mt_dup.specs.Filling.{next_row, IsOpen, HasTaken}
-use Rattle.mt_dup.proofs.WrittenRows.{one_read, written_rows, written_width}
+use Rattle.mt_dup.proofs.WrittenRows.{written_rows, written_width}
 use Rattle.mt_dup.proofs.WholeCopies.{Facts, all_names, tree_may, names_many, names_same, may_same, facts_of}
 use Rattle.mt_dup.proofs.NewTables.{new_open, new_next, new_long, may_plant, is_new_but, book_of_copy}
 use Rattle.mt_dup.proofs.copies.copy_rows.Goals as goal
+use Rattle.mt_rows.proofs.Loads.{one_read}
 
 pub copy_row-requires-clause-may : goal.copy_row-requires-clause-may
 copy_row-requires-clause-may g c =

@@ -10,7 +10,8 @@ use Rattle.mt_dup.specs.Filling.{next_row, HasTaken}
 use Rattle.mt_dup.specs.Pairs.{IsWrittenAt}
 use Rattle.mt_dup.specs.Walks.{names_from, names_below, MayCopy, LeavesCopy, LeavesChildren}
 use Rattle.mt_dup.proofs.Names.{names_none}
-use Rattle.mt_dup.proofs.WrittenRows.{same_tree, written_width}
+use Rattle.mt_rows.proofs.Loads.{same_tree}
+use Rattle.mt_dup.proofs.WrittenRows.{written_width}
 use Rattle.mt_dup.proofs.Going.{Begins, Going, going_loaded, slots_in, none_taken, taken_more, loaded_is, may_child, open_child, room_child, wide_child, going_next}
 use Rattle.mt_dup.proofs.RowCopies.{none_copied, length_is, row_place, children_asked, row_copied}
 use Rattle.mt_dup.proofs.walks.+walk.Goals as goal
