@@ -13,7 +13,7 @@ use Rattle.mt_rows.specs.Spans.{spans_in}
 use Rattle.mt_rows.specs.Levels.{expand, is_row_of, Levels}
 use Rattle.mt_rows.specs.Laws.{Tree, IsRow, Stands, top_of}
 use Rattle.mt_rows.specs.Replacement.{root_of}
-use Rattle.mt_rows.proofs.Lists.{Filled, expand_fills, expand-append, levels_map}
+use Rattle.mt_rows.proofs.Lists.{Filled, expand_fills, expand-append, levels_map, all_expand}
 use Rattle.mt_rows.proofs.Heights.{map_of_split, level_rows}
 use Rattle.mt_rows.proofs.Between.{leaf_between, over_between}
 use Rattle.mt_leaf.specs.Edits.{stored, edited}
@@ -30,7 +30,7 @@ use Rattle.mt_splice.specs.steps.Stretches.{IsStretch, ArePaths}
 use Rattle.mt_splice.specs.steps.Runs.{IsLeafRun}
 use Rattle.mt_splice.specs.steps.Climbs.{Gathered}
 use Rattle.mt_splice.proofs.Moments.{RowsKeep}
-use Rattle.mt_splice.proofs.EditedRegions.{all_expand, all_edited, Leaves, region_leaves}
+use Rattle.mt_splice.proofs.EditedRegions.{all_edited, Leaves, region_leaves}
 use Rattle.mt_splice.proofs.Rises.{step_here}
 
 -- the old tree stands as it was where nothing was done yet

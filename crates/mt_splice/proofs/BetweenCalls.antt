@@ -29,6 +29,7 @@ use Rattle.mt_rows.proofs.Depth.{height_by_depth}
 use Rattle.mt_rows.proofs.Heights.{levels_pair}
 use Rattle.mt_splice.proofs.EndGaps.{levels_all}
 use Rattle.mt_rows.proofs.Reached.{height_is}
+use Rattle.mt_rows.proofs.Loads.{reads_on, same_tree}
 use Rattle.mt_rows.specs.Gaps.{HasGaps}
 use Rattle.mt_rows.specs.Levels.{Levels}
 use Rattle.mt_path.specs.declared.paths.PathStep.{PathStep}
@@ -81,13 +82,6 @@ room_enough {t = t} {kind = kind} book lawful many = let low = low_tree (tree_as
 
 -- ---- rows that were only read
 
-pub reads_on : (a b c : Sheet) → OnlyReads a b → OnlyReads b c → OnlyReads a c
-reads_on a b c before behind = behind ∙ ap (λ (x : Sheet). record x { reads = c.reads }) before
-
--- words that were only read are as they were
-pub tree_read : (s s' : Sheet) → OnlyReads s s' → s'.tree ≡ s.tree
-tree_read s s' reads = ap (λ (x : Sheet). x.tree) reads
-
 -- and stand between two calls as before
 pub ready_if_read : {kind : Kind} {s s' : Sheet} {book book' : Book} → OnlyReads s s' → book' ≡ book → IsBetweenCalls kind s book → IsBetweenCalls kind s' book'
 ready_if_read {kind = kind} {s = s} {s' = s'} {book = book} reads same ready =
@@ -110,7 +104,7 @@ module _ {kind : Kind} {s : Sheet} {book : Book} {left : List PathStep} {first l
   pub ends_are : {s' : Sheet} {left' right' : List PathStep} → OnlyReads s s' → left' ≡ left → right' ≡ path_in s.tree.table s.tree.root last → (k : Kind) × AreEnds k s'.tree left' right' first last
   ends_are {s' = s'} {left' = left'} {right' = right'} reads is_left is_right = (
     kind,
-    subst (λ (t : Rooted). AreEnds kind t left' right' first last) (sym (tree_read s s' reads))
+    subst (λ (t : Rooted). AreEnds kind t left' right' first last) (sym (same_tree s s' reads))
         (record { tree = lawful_tree may.kept.lawful; order = may.store.order; within = may.store.within; left_path = is_left ∙ may.left_path; right_path = is_right }),
   )
 
@@ -135,7 +129,7 @@ module _ {kind : Kind} {s : Sheet} {book : Book} {left : List PathStep} {first l
       })
     where
       table : s₁.tree.table ≡ s.tree.table
-      table = ap (λ (t : Rooted). t.table) (tree_read s s₁ reads₁)
+      table = ap (λ (t : Rooted). t.table) (same_tree s s₁ reads₁)
 
 -- ---- what was read before a replacement
 

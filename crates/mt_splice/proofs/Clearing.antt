@@ -25,11 +25,12 @@ use Rattle.mt_splice.specs.steps.Entries.{before_of, start_of, IsBegunBy}
 use Rattle.mt_splice.specs.steps.Progress.{Before}
 use Rattle.mt_splice.specs.steps.Replacing.{MayEndEmpty}
 use Rattle.mt_splice.proofs.Beginnings.{holds_at_first}
-use Rattle.mt_splice.proofs.BetweenCalls.{lawful_tree, tree_read, reads_on}
+use Rattle.mt_splice.proofs.BetweenCalls.{lawful_tree}
 use Rattle.mt_splice.proofs.Moments.{reached_are_used}
 use Rattle.mt_splice.proofs.Rises.{step_here, at_here}
 use Rattle.mt_splice.proofs.SpliceBegins.{stands_at_start, work_of, nothing_done, case_of}
 use Rattle.mt_splice.proofs.Steps.{progress_reads}
+use Rattle.mt_rows.proofs.Loads.{reads_on, same_tree}
 
 module _ {kind : Kind} {s : Sheet} {book : Book} {number : ℕ} {call : Call} {reply : Reply} (may : MayClear kind s book number call reply) where
   abbrev t : Tree
@@ -47,10 +48,10 @@ module _ {kind : Kind} {s : Sheet} {book : Book} {number : ℕ} {call : Call} {r
   tree_to_clear = (kind, lawful_tree may.kept.lawful)
 
   pub tree_still : {s' : Sheet} → OnlyReads s s' → (k : Kind) × IsTreeOf s'.tree k
-  tree_still {s' = s'} reads = (kind, subst (λ (t : Rooted). IsTreeOf t kind) (sym (tree_read s s' reads)) (lawful_tree may.kept.lawful))
+  tree_still {s' = s'} reads = (kind, subst (λ (t : Rooted). IsTreeOf t kind) (sym (same_tree s s' reads)) (lawful_tree may.kept.lawful))
 
   pub path_still : {s' : Sheet} {path left : List PathStep} → OnlyReads s s' → path ≡ left → left ≡ path_in s.tree.table s.tree.root 0 → (i : ℕ) × (i ≤ greatest s'.tree.table.width) × (path ≡ path_in s'.tree.table s'.tree.root i)
-  path_still {s' = s'} reads same is_left = (0, omega arith, same ∙ (is_left ∙ ap (λ (t : Rooted). path_in t.table t.root 0) (sym (tree_read s s' reads))))
+  path_still {s' = s'} reads same is_left = (0, omega arith, same ∙ (is_left ∙ ap (λ (t : Rooted). path_in t.table t.root 0) (sym (same_tree s s' reads))))
 
   pub left_levels : {left : List PathStep} → left ≡ path_in s.tree.table s.tree.root 0 → length left ≡ start.height + 1
   left_levels is_left = ap length is_left ∙ paths.levels t start.height stands 0 (omega arith)
@@ -117,7 +118,7 @@ pub may_end_empty : {b : Before} {start : Start} {kind : Kind} {s s₁ s₂ : Sh
     → depth + 1 ≡ length left → inner ≡ [] → MayEndEmpty b start s₂ book inner left right depth number call reply
 may_end_empty {b = b} {start = start} {kind = kind} {s = s} {s₁ = s₁} {s₂ = s₂} {book = book} {number = number} {call = call} {reply = reply} {left = left} {right = right} {width = width} {index = index} {depth = depth} {inner = inner}
     begun may whole reads₁ reads₂ is_left is_width is_top is_right deep none =
-    let words = tree_read s s₁ reads₁ in
+    let words = same_tree s s₁ reads₁ in
     let last : index ≡ greatest s.tree.table.width = is_top ∙ ap greatest (is_width ∙ ap (λ (t : Rooted). t.table.width) words) in
     let right_now : right ≡ path_in s.tree.table s.tree.root (greatest s.tree.table.width) = is_right ∙ (ap (λ (t : Rooted). path_in t.table t.root index) words ∙ ap (path_in s.tree.table s.tree.root) last) in
     let high : (start_of kind s call 0 (greatest s.tree.table.width)).height ≡ depth = (let levels = left_levels may is_left in omega arith) in

@@ -11,7 +11,7 @@ use Rattle.mt_layout.specs.Spans.{Fills}
 use Rattle.mt_layout.specs.Sizes.{slots_of}
 use Rattle.mt_layout.proofs.RowSizes.{sizes}
 use Rattle.mt_layout.proofs.SpanLists.{fills-append, fills_le}
-use Rattle.mt_rows.specs.Spans.{Table, spans_in}
+use Rattle.mt_rows.specs.Spans.{spans_in}
 use Rattle.mt_rows.specs.Levels.{expand}
 use Rattle.mt_rows.specs.Laws.{Tree, IsRow, Stands, top_of}
 use Rattle.mt_rows.specs.Replacement.{root_of}
@@ -34,10 +34,6 @@ use Rattle.mt_splice.proofs.PathRows.{rows_in_order, spans_of_step}
 use Rattle.mt_rows.proofs.FewSpans.{row_most}
 
 -- ---- what holds of each span of leaves
-
-pub all_expand : (P : Span → Type 0) (t : Table) (xs : List Span) → AllByRecursion (λ (x : Span). AllByRecursion P (spans_in t x)) xs → AllByRecursion P (expand t xs)
-all_expand P t [] each = tt
-all_expand P t (x ∷ xs) each = all_join P (spans_in t x) (expand t xs) each.0 (all_expand P t xs each.1)
 
 -- what holds of a span whatever its ends holds of those that are joined
 module _ (P : Span → Type 0) (ends : (x : Span) (last : ℕ) → P x → P (record x { last = last })) where

@@ -27,13 +27,14 @@ use Rattle.mt_rows.specs.Levels.{IsBelow, SameSpans, is_row_of}
 use Rattle.mt_rows.proofs.Frames.{same_spans}
 use Rattle.mt_rows.proofs.Reached.{height_is}
 use Rattle.mt_rows.proofs.Joins.{Shared}
+use Rattle.mt_rows.proofs.Longest.{longest_shared}
+use Rattle.mt_rows.proofs.Published.{published_rows, published_width}
 use Rattle.mt_splice.specs.steps.Told.{GapsBeside}
 use Rattle.mt_splice.proofs.EndGaps.{AllKeep, levels_all, gaps_kept}
 use Rattle.mt_splice.proofs.FewestRows.{SameNews, fewest_later}
 use Rattle.mt_splice.proofs.Drafts.{same_column}
-use Rattle.mt_splice.proofs.GapRows.{longest_shared}
 use Rattle.mt_splice.proofs.EndTrees.{placed_count, map_is, reached_count, count_reached, unreached_count, count_unreached}
-use Rattle.mt_splice.proofs.EndPublish.{now_stands, now_count, now_map, Finish, published_rows, published_width, published, rows_same, width_same, stands_later, map_later, progress, place_is}
+use Rattle.mt_splice.proofs.EndPublish.{now_stands, now_count, now_map, Finish, published, rows_same, width_same, stands_later, map_later, progress, place_is}
 use Rattle.mt_splice.proofs.EndTending.{only_rows, only_width}
 
 -- ---- a tree whose parent words have changed

@@ -32,6 +32,7 @@ use Rattle.mt_splice.specs.steps.Progress.{Before, is_taken, row_seen, stamped}
 use Rattle.mt_rows.specs.Replacement.{root_of}
 use Rattle.mt_rows.proofs.Joins.{Shared}
 use Rattle.mt_rows.proofs.PlainReached.{levels_from}
+use Rattle.mt_rows.proofs.RowLaws.{name_some}
 use Rattle.mt_splice.specs.Splice.{WasPublishedAt, IsBooked, HasParents, HasFewest, IsSpliced, is_unreached}
 use Rattle.mt_splice.specs.steps.Told.{GapsBeside}
 use Rattle.mt_splice.proofs.FewestRows.{SameNews, fewest_later}
@@ -40,13 +41,14 @@ use Rattle.mt_splice.specs.steps.Replaced.{StandsAs, FewestAs, count_in}
 use Rattle.mt_splice.specs.steps.Ends.{IsChildSlot, IsEndPlace, IsTop}
 use Rattle.mt_splice.proofs.Drafts.{other_row, other_column}
 use Rattle.mt_splice.proofs.EndTrees.{is_tree, none_or_some, count_reached}
-use Rattle.mt_splice.proofs.EndHoles.{name_some, at_on_level, child_on_level}
-use Rattle.mt_splice.proofs.EndLists.{all_ones, map_one, one_contains, apart_ends, seen_some, seen_contains, contains_seen, stamped_rows, rows_stamped}
+use Rattle.mt_splice.proofs.EndHoles.{at_on_level, child_on_level}
+use Rattle.mt_splice.proofs.EndLists.{all_ones, map_one, one_contains, apart_ends, seen_some, seen_contains, contains_seen, stamped_rows}
 use Rattle.mt_splice.proofs.EndWords.{slot_word}
 use Rattle.mt_splice.proofs.EndBooks.{taken_leave_book, retired_leave_book}
 use Rattle.mt_splice.proofs.EndAfter.{Outcome, above_in}
 use Rattle.mt_splice.proofs.EndGaps.{levels_all}
 use Rattle.mt_splice.proofs.EndPublish as ends
+use Rattle.mt_splice.proofs.Steps.{rows_stamped}
 
 pub life_if_reached : (s : Sheet) (t : Rooted) (row : ℕ) → is_reached t row ≡ true → life_after s t row ≡ Live
 life_if_reached s t row is = ap (λ (c : Bool). if c then Live else (if is_buried s.buried row then Dead (s.ended + 1) else life_of s.lives row)) is

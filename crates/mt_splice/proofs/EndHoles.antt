@@ -1,11 +1,10 @@
 -- A name stored in a slot in place of another leaves which slots of each row are 0.
-use Rattle.std.proofs.Common.{◌≡◌, ◌≢◌, ◌⊎◌, ℕ, zero, suc, ◌==◌, List, [], ◌∷◌, ◌++◌, length, Some, None, Bool, map, refl, sym, ap, ◌∙◌, subst, inl, inr, arith, ne_eqb}
+use Rattle.std.proofs.Common.{◌≡◌, ◌≢◌, ◌⊎◌, ℕ, zero, suc, ◌==◌, List, [], ◌∷◌, ◌++◌, length, Some, Bool, map, refl, sym, ap, ◌∙◌, subst, inl, inr, arith, ne_eqb}
 use Rattle.std.specs.List.{slice_get}
 use Rattle.std.proofs.lemmas.Bool.{cases_Bool, eqb-true}
 use Rattle.std.proofs.lemmas.List.{map-append}
-use Rattle.mt_layout.specs.declared.names.RowKind.{RowKind}
 use Rattle.mt_layout.specs.declared.spans.Span.{Span}
-use Rattle.mt_layout.specs.Rows.{row_in, named_kind}
+use Rattle.mt_layout.specs.Rows.{row_in}
 use Rattle.mt_rows.specs.declared.rows.Place.TheVariants.{Slot}
 use Rattle.mt_rows.specs.Spans.{Table, spans_in}
 use Rattle.mt_rows.specs.Levels.{level}
@@ -16,19 +15,13 @@ use Rattle.mt_rows.specs.Replacement.{root_of}
 use Rattle.mt_rows.proofs.Heights.{level_next}
 use Rattle.mt_rows.proofs.SlotStore as store
 use Rattle.mt_rows.proofs.Reached as reached
+use Rattle.mt_rows.proofs.RowLaws.{name_some}
 use Rattle.mt_splice.specs.steps.Ends.{IsChildSlot}
 use Rattle.mt_splice.specs.steps.Endings.{words_of}
 
 -- spans of the same row with the same ends hold the same
 pub same_place_spans : (t : Table) (x y : Span) → y.first ≡ x.first → y.last ≡ x.last → y.word ≡ x.word → spans_in t y ≡ spans_in t x
 same_place_spans t x y first last word = λ i. spans_in t (record { first = first i; last = last i; word = word i })
-
--- 0 is no name
-pub name_some : (word : ℕ) (kind : RowKind) → named_kind word ≡ Some kind → word ≢ 0
-name_some word kind named is =
-    let none : named_kind word ≡ None = ap named_kind is in
-    let both : Some kind ≡ None = sym named ∙ none in
-    absurd (cc)
 
 -- of two lists that differ in one place
 get_middle : (front back : List Span) (x z y : Span) (i : ℕ) → slice_get (front ++ (x ∷ back)) i ≡ Some y → ((i ≡ length front) × (y ≡ x)) ⊎ (slice_get (front ++ (z ∷ back)) i ≡ Some y)

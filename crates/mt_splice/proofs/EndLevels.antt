@@ -9,8 +9,8 @@ use Rattle.mt_rows.specs.Levels.{expand, level, Levels, tally, times, is_row_of}
 use Rattle.mt_rows.specs.Laws.{Tree, Stands, ParentsFrom}
 use Rattle.mt_rows.specs.Replacement.{root_of}
 use Rattle.mt_rows.proofs.Lists.{tally-append}
-use Rattle.mt_rows.proofs.Heights.{level_next, level_rows, times_split}
-use Rattle.mt_rows.proofs.Reached.{IsOneOf, OnLevel, one_of_get, all_one_of, one_of_expand, tally_some, times_in_once, one_place}
+use Rattle.mt_rows.proofs.Heights.{level_next, times_split}
+use Rattle.mt_rows.proofs.Reached.{IsOneOf, OnLevel, one_of_get, one_of_expand, tally_some, times_in_once, one_place, here_le}
 use Rattle.mt_rows.proofs.Settled.{Implies}
 
 -- ---- the very place of a span, whose height is k
@@ -32,9 +32,6 @@ pub here_row : (k : ℕ) (x : Span) → Implies (is_here k x) (is_row_of (row_in
 here_row k x n y at = eq-eqb (row_in y.word) (row_in x.word) (ap row_in (here_is k n x y at).3)
 
 -- ---- what holds at each place
-
-pub levels_at : (P : ℕ → Span → Type 0) (t : Table) (h k : ℕ) (xs : List Span) (x : Span) → Levels P t h xs → OnLevel t h xs k x → P k x
-levels_at P t h k xs x rows on = all_one_of (P k) (level t on.depth xs) x (level_rows P t on.depth k h xs on.height rows) on.one
 
 pub levels_each : (P : ℕ → Span → Type 0) (t : Table) (h : ℕ) (xs : List Span) → ((k : ℕ) (x : Span) → OnLevel t h xs k x → P k x) → Levels P t h xs
 levels_each P t zero xs each = here xs (λ x one. each zero x (record { depth = zero; height = omega arith; one = one }))
@@ -107,10 +104,6 @@ expand_once t p (u ∷ xs) x z i j y v most (inr behind_x) (inl same_z) at_y at_
 expand_once t p (u ∷ xs) x z i j y v most (inr behind_x) (inr behind_z) at_y at_v is_y is_v =
     let all = tally-append p (spans_in t u) (expand t xs) in
     expand_once t p xs x z i j y v (omega arith) behind_x behind_z at_y at_v is_y is_v
-
-here_le : (p : ℕ → Span → Bool) (t : Table) (h : ℕ) (xs : List Span) → tally (p h) xs ≤ times p t h xs
-here_le p t zero xs = omega arith
-here_le p t (suc h) xs = omega arith
 
 level_le : (p : ℕ → Span → Bool) (t : Table) (d k h : ℕ) (xs : List Span) → h ≡ d + k → tally (p k) (level t d xs) ≤ times p t h xs
 level_le p t d k h xs height = let split = times_split p t d k h xs height in let here = here_le p t k (level t d xs) in omega arith

@@ -1,14 +1,14 @@
 -- The rows that were seen, as a list of numbers, and rows of the book.
 use Rattle.std.proofs.Common.{◌≡◌, ◌≢◌, ℕ, zero, suc, ◌+◌, ◌<◌, ◌≤◌, ◌==◌, List, [], ◌∷◌, ◌++◌, Bool, length, map, refl, sym, ap, ◌∙◌, subst, inl, inr, arith, eq-eqb, length-append}
 use Rattle.std.specs.Prelude.{slice_index_or}
-use Rattle.std.specs.List.{All, AllPairs, AllByRecursion, Contains}
+use Rattle.std.specs.List.{All, AllPairs, Contains}
 use Rattle.std.proofs.lemmas.Bool.{eqb-true}
 use Rattle.std.proofs.lemmas.List.{get_or_append_left, get_or-append-add}
 use Rattle.std.proofs.lemmas.List.Elements.{All-from_recursion}
 use Rattle.mt_layout.specs.Rows.{row_in}
 use Rattle.mt_free.specs.Book.{Held}
 use Rattle.mt_rows.specs.Levels.{is_row_of}
-use Rattle.mt_rows.proofs.Reached.{IsOneOf, tally_some, tally_place}
+use Rattle.mt_rows.proofs.Reached.{IsOneOf, tally_some, tally_place, all_of_each}
 use Rattle.mt_splice.specs.steps.Seen.{Seen, passing}
 use Rattle.mt_splice.specs.steps.Progress.{row_seen, stamped}
 
@@ -37,12 +37,8 @@ map_one f [] y one = absurd one
 map_one f (x ∷ xs) y (inl same) = (x, inl refl, sym same)
 map_one f (x ∷ xs) y (inr behind) = let at = map_one f xs y behind in (at.0, inr at.1, at.2)
 
-ones_each : {A : Type 0} (P : A → Type 0) (xs : List A) → ((x : A) → IsOneOf x xs → P x) → AllByRecursion P xs
-ones_each P [] each = tt
-ones_each P (x ∷ xs) each = (each x (inl refl), ones_each P xs (λ y one. each y (inr one)))
-
 pub all_ones : {A : Type 0} (P : A → Type 0) (xs : List A) → ((x : A) → IsOneOf x xs → P x) → All P xs
-all_ones P xs each = All-from_recursion P xs (ones_each P xs each)
+all_ones P xs each = All-from_recursion P xs (all_of_each P xs each)
 
 -- what stands in the front of a list without repetitions does not stand behind
 pub apart_ends : (xs ys : List ℕ) (x : ℕ) → AllPairs (λ r q. r ≢ q) (xs ++ ys) → Contains xs x → Contains ys x → ⊥
@@ -76,7 +72,3 @@ contains_seen row seen has =
 pub stamped_rows : (number : ℕ) (seen : List Seen) → map (λ (row : ℕ). record { row = row; stamp = number }) (map row_seen seen) ≡ map (stamped number) seen
 stamped_rows number [] = refl
 stamped_rows number (s ∷ seen) = ap (λ (l : List Held). stamped number s ∷ l) (stamped_rows number seen)
-
-pub rows_stamped : (number : ℕ) (seen : List Seen) → map (λ (h : Held). h.row) (map (stamped number) seen) ≡ map row_seen seen
-rows_stamped number [] = refl
-rows_stamped number (s ∷ seen) = ap (λ (l : List ℕ). row_seen s ∷ l) (rows_stamped number seen)

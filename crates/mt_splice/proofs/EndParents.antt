@@ -39,13 +39,15 @@ use Rattle.mt_splice.proofs.Moments.{old_shared, old_level}
 use Rattle.mt_splice.proofs.EndTrees.{none_or_some, count_once}
 use Rattle.mt_splice.proofs.EndHoles.{same_place_spans, at_on_level, top_span, top_get, slot_get}
 use Rattle.mt_splice.proofs.EndLists.{some_seen, seen_some}
-use Rattle.mt_splice.proofs.EndLevels.{is_here, here_itself, here_is, here_row, levels_at, levels_each, parents_from, parents_at, child_on, unique_parent, not_own_child}
+use Rattle.mt_splice.proofs.EndLevels.{is_here, here_itself, here_is, here_row, levels_each, parents_from, parents_at, child_on, unique_parent, not_own_child}
 use Rattle.mt_splice.proofs.EndMade.{new_row, made_seen, seen_made, made_once}
 use Rattle.mt_splice.proofs.EndWords.{slot_word}
 use Rattle.mt_splice.proofs.EndAfter.{above_in}
 use Rattle.mt_splice.proofs.EndFacts.{life_if_reached, root_counts, root_named}
 use Rattle.mt_splice.proofs.EndPublish as ends
 use Rattle.mt_rows.proofs.FewSpans.{row_most}
+use Rattle.mt_rows.proofs.Reached.{levels_at}
+use Rattle.mt_rows.proofs.Published.{published_rows, published_width}
 
 -- ---- the end of a replacement
 
@@ -276,7 +278,7 @@ module _ (f : ends.Finish) where
       pub old : is_taken w row ≡ false
 
     width_later : later.table.width ≡ s.tree.table.width
-    width_later = ends.published_width s.tree f.place f.word
+    width_later = published_width s.tree f.place f.word
 
     top_in : (old : Option ℕ) (place : Place) (row col : ℕ) → f.may.old ≡ old → f.place ≡ place → place ≡ Slot row col → IsEndPlace f.start w old place → TopAt row col
     top_in old Root row col is_old is_place is at = absurd (cc)
@@ -390,7 +392,7 @@ module _ (f : ends.Finish) where
       table₁ = ap (λ (t : Rooted). t.table) tree₁
 
       rows₁ : s₁.tree.rows ≡ b.sheet.tree.rows
-      rows₁ = ap (λ (t : Rooted). t.rows) tree₁ ∙ (ends.published_rows s.tree f.place f.word ∙ ends.rows_same f)
+      rows₁ = ap (λ (t : Rooted). t.rows) tree₁ ∙ (published_rows s.tree f.place f.word ∙ ends.rows_same f)
 
       -- a row that is reached may be tended
       record IsReady (word : ℕ) : Type 0 where

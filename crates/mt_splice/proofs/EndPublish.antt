@@ -39,6 +39,7 @@ use Rattle.mt_splice.proofs.EndForms.{now_is, has_words}
 use Rattle.mt_splice.proofs.EndTrees.{is_tree, map_is, count_once, reached_count, count_reached, unreached_count, count_unreached, count_number, none_or_some, placed_count, stays}
 use Rattle.mt_splice.proofs.EndHoles.{same_place_spans, at_one, at_on_level, slot_holes}
 use Rattle.mt_rows.proofs.FewSpans.{row_most}
+use Rattle.mt_rows.proofs.Published.{published_rows}
 
 -- ---- the tree as it was, by the words then and now
 
@@ -97,15 +98,6 @@ pub record Finish : Type 0 where
   pub call : Call
   pub reply : Reply
   pub may : MayPublishEnd before start sheet book inner place word call reply
-
--- the word that is stored changes neither how many rows there are nor how wide they are
-pub published_rows : (t : Rooted) (place : Place) (word : ℕ) → (with_published t place word).rows ≡ t.rows
-published_rows t Root word = refl
-published_rows t (Slot row col) word = refl
-
-pub published_width : (t : Rooted) (place : Place) (word : ℕ) → (with_published t place word).table.width ≡ t.table.width
-published_width t Root word = refl
-published_width t (Slot row col) word = refl
 
 module _ (f : Finish) where
   abbrev b : Before

@@ -12,7 +12,7 @@ use Rattle.mt_layout.specs.declared.spans.Span.{Span}
 use Rattle.mt_layout.specs.Rows.{row_in}
 use Rattle.mt_layout.specs.Spans.{spans_from}
 use Rattle.mt_rows.specs.Spans.{Table}
-use Rattle.mt_rows.specs.Levels.{expand, Levels, tally, times}
+use Rattle.mt_rows.specs.Levels.{expand, Levels}
 use Rattle.mt_rows.specs.Laws.{kind_at}
 use Rattle.mt_rows.proofs.Joins.{Shared, expand_shared}
 use Rattle.mt_splice.specs.Fewest.{IsCutOf, AreFewestOf, FewestBelow}
@@ -57,10 +57,6 @@ fewest_later is_new is_new' kind t t' width (suc h) xs shared same few = (
 -- rows of which none is new
 pub none_new : (is_new : ℕ → Bool) (t : Table) (kind : RowKind) (xs : List Span) → AllByRecursion (λ (x : Span). is_new (row_in x.word) ≡ false) xs → AreFewestOf is_new t kind xs
 none_new is_new t kind xs none = record { front = xs; new = []; back = []; parts = sym (append-nil xs); new_rows = tt; ahead = none; behind = tt; first = 0; items = []; hold = refl; fewest = λ some. absurd (some refl) }
-
-pub tally_here : (p : ℕ → Span → Bool) (t : Table) (h : ℕ) (xs : List Span) → tally (p h) xs ≤ times p t h xs
-tally_here p t zero xs = omega arith
-tally_here p t (suc h) xs = omega arith
 
 -- items that fit in one row stand in one
 pub one_row : (width : Width) (kind : RowKind) (items : List Item) → length items ≤ slots_of width kind → IsCutOf width kind items (length items ∷ [])

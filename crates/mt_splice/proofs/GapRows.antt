@@ -1,36 +1,30 @@
 -- The gaps of items, and the law of gaps of a row by its items.
-use Rattle.std.proofs.Common.{◌≡◌, ℕ, zero, suc, ◌+◌, ◌*◌, List, [], ◌∷◌, ◌++◌, Option, Some, fold, map, max, nat_le, refl, sym, ap, ◌∙◌, subst, inl, inr, arith, append-nil}
+use Rattle.std.proofs.Common.{◌≡◌, ℕ, zero, suc, ◌+◌, ◌*◌, List, [], ◌∷◌, Option, Some, fold, map, max, refl, sym, ap, ◌∙◌, subst, arith, append-nil}
 use Rattle.std.specs.List.{AllByRecursion}
-use Rattle.std.specs.Prelude.{slice_index}
-use Rattle.std.proofs.lemmas.Bool.{cases_Bool}
 use Rattle.mt_base.specs.declared.widths.Width.{Width}
-use Rattle.mt_base.specs.declared.widths.Width.TheVariants.{Long}
 use Rattle.mt_base.specs.Width.{columns}
 use Rattle.mt_layout.specs.declared.items.Item.{Item}
 use Rattle.mt_layout.specs.declared.names.RowKind.{RowKind}
 use Rattle.mt_layout.specs.declared.names.RowKind.TheVariants.{Leaf, Inner, Gapped}
 use Rattle.mt_layout.specs.declared.spans.Span.{Span}
 use Rattle.mt_layout.specs.Rows.{row_in, named_kind}
-use Rattle.mt_layout.specs.Columns.{gap_column, pivot_column, items_from, longest_hole}
+use Rattle.mt_layout.specs.Columns.{longest_hole}
 use Rattle.mt_layout.specs.Sizes.{slots_of, gaps_of}
-use Rattle.mt_layout.specs.Spans.{spans_from, hole_length, longest_in}
-use Rattle.mt_layout.proofs.Reading.{gap_at-some}
+use Rattle.mt_layout.specs.Spans.{spans_from, longest_in}
 use Rattle.mt_layout.proofs.OwnColumns.{same_items}
 use Rattle.mt_layout.proofs.RowSizes.{layout_of}
-use Rattle.mt_rows.specs.Spans.{Table, column, inner_kind, spans_by, spans_in}
+use Rattle.mt_rows.specs.Spans.{Table, inner_kind, spans_by, spans_in}
 use Rattle.mt_rows.specs.Levels.{expand, Levels, SameColumns}
 use Rattle.mt_rows.specs.Laws.{Tree, IsRow, GapLaw, GapLawBy, GapsFrom, items_in, longest_below}
 use Rattle.mt_rows.proofs.Joins.{Shared, expand_shared, levels_front, levels_back}
 use Rattle.mt_rows.proofs.Frames.{same_spans}
-use Rattle.mt_rows.proofs.Lists.{levels_map, expand-append}
+use Rattle.mt_rows.proofs.Lists.{levels_map}
+use Rattle.mt_rows.proofs.RowGaps.{AreGapsAt, gaps_read}
+use Rattle.mt_rows.proofs.Longest.{longest_below-append, longest_none, longest_shared}
 use Rattle.mt_splice.specs.steps.Told.{longest_holes, TellGaps}
 use Rattle.mt_splice.specs.steps.Work.{table_with, tree_with}
 
 -- ---- the longest hole below rows
-
-pub longest_shared : (t t' : Table) (h : ℕ) (xs : List Span) → Levels (Shared t t') t h xs → longest_below t' h xs ≡ longest_below t h xs
-longest_shared t t' zero xs same = ap longest_in (expand_shared t t' xs same)
-longest_shared t t' (suc h) xs same = ap (longest_below t' h) (expand_shared t t' xs same.0) ∙ longest_shared t t' h (expand t xs) same.1
 
 pub holes_shared : (t t' : Table) (h : ℕ) (xs : List Span) → Levels (Shared t t') t h xs → longest_holes t' h xs ≡ longest_holes t h xs
 holes_shared t t' h [] same = refl
@@ -40,22 +34,6 @@ holes_shared t t' h (x ∷ xs) same =
     λ i. here i ∷ behind i
 
 -- ---- the law of gaps of a row by its items
-
--- the gaps of items are in the gap columns of a row, from a slot on
-abbrev pub AreGapsAt : Table → ℕ → ℕ → List Item → Type 0
-AreGapsAt t row slot [] = Unit {0}
-AreGapsAt t row slot (x ∷ items) = (x.gap ≡ column t row (gap_column (slots_of t.width Gapped) slot)) × AreGapsAt t row (slot + 1) items
-
-pub some_gaps : (width : Width) → gaps_of width Gapped ≡ 0 → ⊥
-some_gaps Long none = absurd (omega arith)
-
-pub gaps_read : (width : Width) (w : List ℕ) (row max left i : ℕ) → AreGapsAt (record { width = width; words = w }) row i (items_from (slots_of width Gapped) (gaps_of width Gapped) w (columns width * row) max left i)
-gaps_read width w row max zero i = tt
-gaps_read width w row max (suc zero) i = (gap_at-some (slots_of width Gapped) (gaps_of width Gapped) w (columns width * row) i (some_gaps width), tt)
-gaps_read width w row max (suc (suc left)) i = elim (cases_Bool (nat_le max (slice_index w (columns width * row + pivot_column i)))) [
-  | inl last ↦ rw last (gap_at-some (slots_of width Gapped) (gaps_of width Gapped) w (columns width * row) i (some_gaps width), tt)
-  | inr more ↦ rw more (gap_at-some (slots_of width Gapped) (gaps_of width Gapped) w (columns width * row) i (some_gaps width), gaps_read width w row max (suc left) (i + 1))
-]
 
 law_tells : (t : Table) (h row slot first : ℕ) (items : List Item) → AreGapsAt t row slot items → GapsFrom t h row slot (spans_from first items) → TellGaps Gapped t h first items
 law_tells t h row slot first [] at law = refl
@@ -150,21 +128,6 @@ greatest_so_far n (x ∷ items) = greatest_so_far (max n x.gap) items ∙ regrou
   where
     regroup : (a b c : ℕ) → max (max a b) c ≡ max a (max b c)
     regroup a b c = omega arith
-
-longest_in-append : (xs ys : List Span) → longest_in (xs ++ ys) ≡ max (longest_in xs) (longest_in ys)
-longest_in-append [] ys = omega arith
-longest_in-append (x ∷ xs) ys = ap (λ (k : ℕ). max (hole_length x) k) (longest_in-append xs ys) ∙ regroup (hole_length x) (longest_in xs) (longest_in ys)
-  where
-    regroup : (a b c : ℕ) → max a (max b c) ≡ max (max a b) c
-    regroup a b c = omega arith
-
-longest_below-append : (t : Table) (h : ℕ) (xs ys : List Span) → longest_below t h (xs ++ ys) ≡ max (longest_below t h xs) (longest_below t h ys)
-longest_below-append t zero xs ys = ap longest_in (expand-append t xs ys) ∙ longest_in-append (expand t xs) (expand t ys)
-longest_below-append t (suc h) xs ys = ap (longest_below t h) (expand-append t xs ys) ∙ longest_below-append t h (expand t xs) (expand t ys)
-
-longest_none : (t : Table) (h : ℕ) → longest_below t h [] ≡ 0
-longest_none t zero = refl
-longest_none t (suc h) = longest_none t h
 
 longest_is_greatest : (t : Table) (h : ℕ) (xs : List Span) → longest_below t h xs ≡ greatest (longest_holes t h xs)
 longest_is_greatest t h [] = longest_none t h

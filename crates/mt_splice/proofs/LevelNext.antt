@@ -32,13 +32,13 @@ use Rattle.mt_splice.specs.steps.Decisions.{item_words, StandForAll, IsNothing, 
 use Rattle.mt_splice.specs.Fewest.{IsCutOf}
 use Rattle.mt_splice.specs.steps.Replacing.{IsUnderWay, MayLookBeside, IsTakenBeside, MayReplaceRows, AreRowsReplaced, MayReplaceLevelRows, AreLevelRowsReplaced, MayGoUp, MayGather, IsGathered, MayReplaceLevel, MayEndEmpty, MayEnd, MayEndAtRoot, MayEndAbove, MayEndInSlot}
 use Rattle.mt_splice.proofs.AboveNothing.{ends_with_hole}
-use Rattle.mt_splice.proofs.BetweenCalls.{tree_read}
 use Rattle.mt_splice.proofs.EndForms.{now_is}
 use Rattle.mt_splice.proofs.LevelEnds.{tree_width}
 use Rattle.mt_splice.proofs.RootEndings as roots
 use Rattle.mt_splice.proofs.Runs.{some_gathered, leaves_hold_an_entry, cut_whole}
 use Rattle.mt_splice.proofs.Steps.{progress_reads, width_now}
 use Rattle.mt_splice.proofs.Widens.{leaf_height}
+use Rattle.mt_rows.proofs.Loads.{same_tree}
 
 -- ---- rows that were only read, and the tree's words
 
@@ -48,7 +48,7 @@ under_read {s = s} {s' = s'} {w = w} reads under = record {
   case = under.case;
   progress = progress_reads reads under.progress;
   holds = under.holds;
-  inner_rows = under.inner_rows ∙ ap (λ (t : Rooted). new_rows_of t.table w.taken) (sym (tree_read s s' reads));
+  inner_rows = under.inner_rows ∙ ap (λ (t : Rooted). new_rows_of t.table w.taken) (sym (same_tree s s' reads));
   room = under.room;
   few = under.few;
 }
@@ -243,7 +243,7 @@ module _ {b : Before} {start : Start} {s : Sheet} {book : Book} {inner : List Ne
               under = subst (IsUnderWay b start s₃ book₂ rows.0 inner₂) deeper (under_read reads₃ rows.1.under);
               may =
                   let here : IsGathered start s₂.tree left₁ right₁ (depth - 1) new items₃ = subst (λ (l : List Item). IsGathered start s₂.tree left₁ right₁ (depth - 1) l items₃) same gathered in
-                  subst (λ (x : Rooted × List PathStep × List PathStep). MayTakeIn start rows.0 x.0 (inner_kind start.tree.kind) x.1 x.2 (depth - 1) (suc may.height) items₃) (λ i. (sym (tree_read s₂ s₃ reads₃) i, sym is_left i, sym is_right i)) (here.each goes_up);
+                  subst (λ (x : Rooted × List PathStep × List PathStep). MayTakeIn start rows.0 x.0 (inner_kind start.tree.kind) x.1 x.2 (depth - 1) (suc may.height) items₃) (λ i. (sym (same_tree s₂ s₃ reads₃) i, sym is_left i, sym is_right i)) (here.each goes_up);
               in_call = may.in_call;
               answer = may.answer;
             }

@@ -40,7 +40,7 @@ reroot : (t : Tree) (root : ℕ) (h : ℕ) (xs : List Span) → Levels (IsRow t)
 reroot t root h xs rows = levels_map (IsRow t) (IsRow (with_root t root)) t.table (λ k x row. row_keeps t t.table.words root k x (λ c above within. refl) row) h xs rows
 
 -- a span that covers all is that of a root
-root_is : (t : Tree) (x : Span) → x.first ≡ 0 → x.last ≡ top_of t → x ≡ root_span t.table x.word
+pub root_is : (t : Tree) (x : Span) → x.first ≡ 0 → x.last ≡ top_of t → x ≡ root_span t.table x.word
 root_is t x first last = λ i. record { first = first i; last = last i; word = x.word }
 
 -- the rows of one level stand in place of the whole tree

@@ -33,6 +33,7 @@ use Rattle.mt_rows.proofs.PlainReached.{levels_from}
 use Rattle.mt_rows.proofs.RowLaws.{others_keep}
 use Rattle.mt_rows.proofs.SlotStore as store
 use Rattle.mt_rows.proofs.SlotChild.{replaces_child}
+use Rattle.mt_rows.proofs.Longest.{longest_shared}
 use Rattle.mt_path.specs.declared.paths.PathStep.{PathStep}
 use Rattle.mt_path.specs.Paths.{slot_for, step_in, step_at, At}
 use Rattle.mt_path.proofs.Places.{at_get}
@@ -44,7 +45,7 @@ use Rattle.mt_splice.specs.steps.Stretches.{IsStretch}
 use Rattle.mt_splice.specs.steps.Climbs.{begin_of, behind_of, Climbed}
 use Rattle.mt_splice.specs.steps.Endings.{words_of, with_step, IsStepIn, IsPublished}
 use Rattle.mt_splice.specs.steps.Told.{IsGoodRow, HadGaps, GapsAs}
-use Rattle.mt_splice.proofs.GapRows.{Kept, gap_laws_stay, longest_shared}
+use Rattle.mt_splice.proofs.GapRows.{Kept, gap_laws_stay}
 use Rattle.mt_splice.proofs.SlotGaps.{gaps_after}
 use Rattle.mt_splice.proofs.Splits.{split_same}
 use Rattle.mt_splice.proofs.Moments.{old_shared, old_stands, old_times, old_level}

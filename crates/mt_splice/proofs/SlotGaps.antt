@@ -1,5 +1,5 @@
 -- The law of gaps after one store in a slot: above it holds but in the slots that cover what was replaced.
-use Rattle.std.proofs.Common.{◌≡◌, ◌⊎◌, ℕ, zero, suc, ◌+◌, ◌<◌, ◌≤◌, List, [], ◌∷◌, ◌++◌, Bool, true, false, Option, Some, refl, sym, ◌∙◌, subst, inl, inr, ⊎_elim, arith, le-leb}
+use Rattle.std.proofs.Common.{◌≡◌, ◌⊎◌, ℕ, zero, suc, ◌+◌, ◌<◌, ◌≤◌, List, [], ◌∷◌, ◌++◌, Bool, true, false, Option, Some, refl, sym, ◌∙◌, subst, inl, inr, ⊎_elim, arith}
 use Rattle.std.specs.Prelude.{nat_le}
 use Rattle.std.specs.List.{AllByRecursion, slice_get}
 use Rattle.std.proofs.lemmas.Bool.{cases_Bool, eqb-true, eqb-false, leb-false, lt-leb}
@@ -21,13 +21,15 @@ use Rattle.mt_rows.proofs.Joins.{Shared, levels_front, levels_back}
 use Rattle.mt_rows.proofs.Lists.{levels_map}
 use Rattle.mt_rows.proofs.Heights.{level_next, level_rows, levels_both, levels_lower, levels_upper, upper_both, upper_more, upper_shared, all_both}
 use Rattle.mt_rows.proofs.PlainReached.{levels_from}
-use Rattle.mt_rows.proofs.Reached.{IsOneOf, OnLevel, all_one_of, one_of_expand, one_of_parts, on_level_law, one_place}
+use Rattle.mt_rows.proofs.Reached.{IsOneOf, OnLevel, all_one_of, one_of_expand, one_of_parts, on_level_law, one_place, all_of_each}
 use Rattle.mt_rows.proofs.FewSpans.{row_most}
 use Rattle.mt_rows.proofs.RowLaws.{others_keep, slot_fits}
 use Rattle.mt_rows.proofs.SlotStore as store
 use Rattle.mt_rows.proofs.SlotWords.{put_item, items_at-put}
+use Rattle.mt_rows.proofs.RowGaps.{AreGapsAt, gaps_read, covers_it}
+use Rattle.mt_rows.proofs.Longest.{longest_shared}
 use Rattle.mt_splice.specs.steps.Told.{TellGaps}
-use Rattle.mt_splice.proofs.GapRows.{AreGapsAt, gaps_read, longest_shared, row_tells, items_same}
+use Rattle.mt_splice.proofs.GapRows.{row_tells, items_same}
 
 -- ---- spans that cover an index, and those that do not
 
@@ -45,9 +47,6 @@ off_below index x below = rw (lt-leb x.first index below) refl
 
 off_above : (index : ℕ) (x : Span) → x.last < index → Off index x
 off_above index x above = elim (cases_Bool (nat_le x.first index)) [ inl from ↦ rw (from, lt-leb index x.last above) refl | inr not ↦ rw not refl ]
-
-covers_it : (index : ℕ) (x : Span) → x.first ≤ index → index ≤ x.last → covers index x ≡ true
-covers_it index x from to = rw (le-leb x.first index from, le-leb index x.last to) refl
 
 -- what fills indexes beside an index does not cover it
 all_off : (index lo hi : ℕ) (xs : List Span) → Fills lo hi xs → (index < lo) ⊎ (hi ≤ index) → AllByRecursion (Off index) xs
@@ -127,10 +126,6 @@ weaker index t (suc h) x law = by_kind (inner_kind t.kind) law
 
 -- ---- each of a list
 
-all_from : {A : Type 0} (P : A → Type 0) (xs : List A) → ((x : A) → IsOneOf x xs → P x) → AllByRecursion P xs
-all_from P [] f = tt
-all_from P (x ∷ xs) f = (f x (inl refl), all_from P xs (λ y one. f y (inr one)))
-
 one_alone : (P : ℕ → Span → Type 0) (t : Table) (h : ℕ) (xs : List Span) (x : Span) → IsOneOf x xs → Levels P t h xs → Levels P t h (x ∷ [])
 one_alone P t h [] x one rows = absurd one
 one_alone P t h (y ∷ ys) x (inl same) rows = subst (λ (z : Span). Levels P t h (z ∷ [])) (sym same) (levels_front P t h (y ∷ []) ys rows)
@@ -196,7 +191,7 @@ module _ (t : Tree) (h k depth slot word index : ℕ) (row child : Span) (has : 
   -- ---- the rows above
 
   beside : (j : ℕ) (x : Span) → OnLevel t.table h (root_of t) (suc j) x → AllByRecursion (SameBeside index t.table t'.table j) (spans_in t.table x)
-  beside j x on = all_from (SameBeside index t.table t'.table j) (spans_in t.table x) (λ c one. same c one)
+  beside j x on = all_of_each (SameBeside index t.table t'.table j) (spans_in t.table x) (λ c one. same c one)
     where
       deeper : h ≡ suc on.depth + j
       deeper = let high = on.height in omega arith

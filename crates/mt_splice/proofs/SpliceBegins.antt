@@ -58,7 +58,7 @@ use Rattle.mt_splice.proofs.ToldRows.{gaps_were}
 use Rattle.mt_splice.proofs.EndTrees.{map_is}
 use Rattle.mt_splice.proofs.Moments.{reached_are_used}
 use Rattle.mt_splice.proofs.FewestRows.{one_new}
-use Rattle.mt_splice.proofs.RootEndings.{first_leaf, at_root}
+use Rattle.mt_splice.proofs.RootEndings.{first_leaf, at_root, root_is}
 use Rattle.mt_splice.proofs.Runs.{empty_run}
 use Rattle.mt_splice.proofs.StepSeen.{not_both}
 
@@ -231,10 +231,6 @@ module _ {b : Before} {start : Start} {kind : Kind} {s : Sheet} {book : Book} {l
       (record { right = right; begun = record { before = refl; start = begun.start ∙ (λ i. start_of kind s call (sym begun.start i).first (sym begun.start i).last) }; may = asked_so (sym (no_steps left none)) refl is may })
 
 -- ---- the empty tree
-
--- a span that covers all is that of a root
-root_is : (t : Tree) (x : Span) → x.first ≡ 0 → x.last ≡ top_of t → x ≡ root_span t.table x.word
-root_is t x first last = λ i. record { first = first i; last = last i; word = x.word }
 
 one_counted : (seen : List Seen) (free free' : List ℕ) → free ≡ free' ++ map row_seen seen → length free ≡ length free' + 1 → length seen ≡ 1
 one_counted seen free free' is one = let all = ap length is ∙ length-append free' (map row_seen seen) in let same = length-map seen row_seen in omega arith

@@ -47,7 +47,7 @@ spare_is_free cleared Draft spare = tt
 spare_is_free cleared Live spare = spare
 spare_is_free cleared (Dead call) spare = spare
 
-rows_stamped : (number : ℕ) (gone : List Seen) → map (λ (h : Held). h.row) (map (stamped number) gone) ≡ map row_seen gone
+pub rows_stamped : (number : ℕ) (gone : List Seen) → map (λ (h : Held). h.row) (map (stamped number) gone) ≡ map row_seen gone
 rows_stamped number [] = refl
 rows_stamped number (s ∷ gone) = ap (λ (l : List ℕ). row_seen s ∷ l) (rows_stamped number gone)
 

@@ -16,7 +16,7 @@ use Rattle.mt_rows.proofs.Joins.{Shared, expand_shared}
 use Rattle.mt_rows.proofs.Frames.{same_spans}
 use Rattle.mt_rows.proofs.Once.{times_none}
 use Rattle.mt_rows.proofs.Heights.{level_rows, times_split}
-use Rattle.mt_rows.proofs.Reached.{all_one_of, tally_place}
+use Rattle.mt_rows.proofs.Reached.{all_one_of, tally_place, here_le}
 use Rattle.mt_path.specs.declared.paths.PathStep.{PathStep}
 use Rattle.mt_splice.specs.steps.Seen.{Seen, passing, Adds}
 use Rattle.mt_splice.specs.steps.Work.{Start, Work, now, rows_at, times_in, IsUsed, IsTaken, KeepsWords, Keeps, Holds}
@@ -26,7 +26,7 @@ use Rattle.mt_splice.specs.steps.Replaced.{IsHalfReplaced}
 use Rattle.mt_splice.specs.steps.Stretches.{IsStretch}
 use Rattle.mt_splice.specs.steps.Burying.{AreBuried}
 use Rattle.mt_splice.specs.steps.Climbs.{begin_of, behind_of, Gathered, AreWritten, Climbed}
-use Rattle.mt_splice.proofs.FewestRows.{SameNews, fewest_later, tally_here}
+use Rattle.mt_splice.proofs.FewestRows.{SameNews, fewest_later}
 use Rattle.mt_splice.proofs.Splits.{split_same}
 use Rattle.mt_splice.proofs.NewLevels.{NewLevel, run_between, level_holds, half_up, half_leaves}
 use Rattle.mt_splice.proofs.Moments.{row_stays, keeps_more, still_used, still_half, holds_later}
@@ -183,7 +183,7 @@ module _ (start : Start) (s s₁ s₂ : Work) (left right : List PathStep) where
       all_map (λ (x : Span). 1 ≤ tally (is_row_of (row_in x.word) height) (rows_at start.tree depth)) (λ (x : Span). is_taken s₂ (row_in x.word) ≡ false)
       (λ x some.
       let split = times_split (is_row_of (row_in x.word)) start.tree.table depth height start.height (root_of start.tree) levels in
-      let here = tally_here (is_row_of (row_in x.word)) start.tree.table height (rows_at start.tree depth) in
+      let here = here_le (is_row_of (row_in x.word)) start.tree.table height (rows_at start.tree depth) in
       not_new holds (row_in x.word) (omega arith)) xs (each_counted height xs (rows_at start.tree depth) le)
 
   -- a row that was in use is new as it was

@@ -1,5 +1,5 @@
 use Rattle.std.proofs.Common.{refl, ◌∙◌}
-use Rattle.mt_path.proofs.Kept.{same_tree}
+use Rattle.mt_rows.proofs.Loads.{same_tree}
 use Rattle.mt_splice.proofs.Widens.{is_tree, right_leads, left_leads, right_deep, left_deep, stands_behind, none_behind, stands_before, none_before, may_read, room_beside, deep_behind, row_behind, taken_behind, deep_before, row_before, taken_before, short_is, wanted_is, wants_none, few_if_wanted, few_if_short, enough_at_end, all_there_is}
 use Rattle.mt_splice.proofs.beside.take_in_beside.Goals as goal
 

@@ -2,7 +2,7 @@ use Rattle.std.proofs.Common.{length, ap, arith}
 use Rattle.mt_layout.specs.declared.names.RowKind.TheVariants.{Leaf}
 use Rattle.mt_layout.specs.Sizes.{slots_of}
 use Rattle.mt_rows.specs.Sheet.{Rooted}
-use Rattle.mt_path.proofs.Kept.{same_tree}
+use Rattle.mt_rows.proofs.Loads.{same_tree}
 use Rattle.mt_splice.proofs.LeafRegions.{left_leaf_step, right_leaf_step, leaf_read, room_below, some_with_joined, leaves_edited}
 use Rattle.mt_splice.proofs.leaves.push_edited.Goals as goal
 

@@ -5,8 +5,9 @@ use Rattle.mt_base.specs.Map.{over}
 use Rattle.mt_rows.specs.Memory.{sheet_in}
 use Rattle.mt_rows.specs.Sheet.{Sheet, Rooted}
 use Rattle.mt_rows.specs.Publish.{map_by}
-use Rattle.mt_splice.proofs.BetweenCalls.{begun_tree, begun_within, tree_read, store_begins, may_finish, ready_again, map_after_call}
+use Rattle.mt_splice.proofs.BetweenCalls.{begun_tree, begun_within, store_begins, may_finish, ready_again, map_after_call}
 use Rattle.trials_rows.proofs.splices.store.Goals as goal
+use Rattle.mt_rows.proofs.Loads.{same_tree}
 
 pub walk-left-requires-clause-tree : goal.walk-left-requires-clause-tree
 walk-left-requires-clause-tree c = begun_tree c.requires.ready c.begin-number.ensures.rest
@@ -30,6 +31,6 @@ returns-clause-ready c =
 pub returns-clause-map : goal.returns-clause-map
 returns-clause-map c =
     let may = store_begins c.requires.ready c.begin-number.ensures.rest c.walk-left.ensures.reads.rest c.begin-number.ensures.number c.requires.free c.requires.order (let fits = c.ranges.last.fits in omega arith) c.requires.lawful c.requires.some c.walk-left.ensures.path in
-    let same = tree_read (sheet_in c.begin-number.new.self) (sheet_in c.walk-left.new.rows) c.walk-left.ensures.reads.rest ∙ ap (λ (x : Sheet). x.tree) c.begin-number.ensures.rest in
+    let same = same_tree (sheet_in c.begin-number.new.self) (sheet_in c.walk-left.new.rows) c.walk-left.ensures.reads.rest ∙ ap (λ (x : Sheet). x.tree) c.begin-number.ensures.rest in
     map_after_call may.told may.unpublished.numbered c.replace_range-spliced.ensures.spliced c.finish.ensures
     ∙ (ap (λ (a : List Range × Reply). a.0) may.store.acts ∙ ap (λ (t : Rooted). over (map_by t) c.args.first c.args.last c.args.entry) same)
