@@ -7,12 +7,7 @@ use Rattle.mt_path.specs.declared.handles.Handle.{Handle}
 use Rattle.mt_path.specs.declared.paths.PathStep.{PathStep}
 use Rattle.mt_path.specs.Handles.{IsHandleOf, IsStepOfLeaf}
 use Rattle.mt_path.specs.Paths.{path_in}
-
-pub reads_on : (a b c : Sheet) → OnlyReads a b → OnlyReads b c → OnlyReads a c
-reads_on a b c before behind = behind ∙ ap (λ (s : Sheet). record s { reads = c.reads }) before
-
-pub same_tree : (s s' : Sheet) → OnlyReads s s' → s'.tree ≡ s.tree
-same_tree s s' only = ap (λ (r : Sheet). r.tree) only
+use Rattle.mt_rows.proofs.Loads.{same_tree}
 
 pub tree_kept : (n : ℕ) (s s' : Sheet) → ReadsUpTo n s s' → s'.tree ≡ s.tree
 tree_kept n s s' reads = same_tree s s' reads.rest

@@ -6,6 +6,7 @@ use Rattle.std.proofs.lemmas.List.Sums.{sum_by-append}
 use Rattle.mt_rows.specs.Sheet.{Sheet, loaded, one_more, RoseUpTo, ReadsUpTo}
 use Rattle.mt_path.specs.declared.paths.PathStep.{PathStep}
 use Rattle.mt_path.specs.Paths.{loads_in}
+use Rattle.mt_rows.proofs.Loads.{reads_on}
 
 -- ---- counts
 
@@ -25,7 +26,7 @@ rose_one : (a : Option ℕ) → RoseUpTo 1 a (option_map one_more a)
 rose_one None = tt
 rose_one (Some a) = omega arith
 
-rose_up : (n m : ℕ) (a b : Option ℕ) → n ≤ m → RoseUpTo n a b → RoseUpTo m a b
+pub rose_up : (n m : ℕ) (a b : Option ℕ) → n ≤ m → RoseUpTo n a b → RoseUpTo m a b
 rose_up n m None None more rose = tt
 rose_up n m None (Some b) more rose = absurd rose
 rose_up n m (Some a) None more rose = absurd rose
@@ -36,7 +37,7 @@ no_reads s = record { rest = refl; reads = rose_none s.reads }
 
 pub reads_more : (n m : ℕ) (s s' s'' : Sheet) → ReadsUpTo n s s' → ReadsUpTo m s' s'' → ReadsUpTo (n + m) s s''
 reads_more n m s s' s'' first second = record {
-  rest = second.rest ∙ ap (λ (r : Sheet). record r { reads = s''.reads }) first.rest;
+  rest = reads_on s s' s'' first.rest second.rest;
   reads = rose_more n m s.reads s'.reads s''.reads first.reads second.reads;
 }
 

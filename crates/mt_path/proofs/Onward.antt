@@ -20,13 +20,9 @@ use Rattle.mt_path.proofs.Kept.{tree_kept}
 use Rattle.mt_path.proofs.Loads.{reads_more, reads_up, loads_in-parts, loads_in-take}
 use Rattle.mt_path.proofs.TreePaths.{rooted, top_row, row_of, step_of, levels, step, lawful, inside_agree}
 use Rattle.mt_path.proofs.Ways.{row_on_top, row_named, some_root, some_tree, root_named, empty_path}
+use Rattle.mt_rows.proofs.Lists.{all_at}
 
 -- ---- steps taken off the end
-
-all_at : {A : Type 0} (P : A → Type 0) (xs : List A) (k : ℕ) (d : A) → AllByRecursion P xs → k < length xs → P (get_or xs k d)
-all_at P [] k d each below = absurd (omega arith)
-all_at P (x ∷ xs) zero d each below = each.0
-all_at P (x ∷ xs) (suc k) d each below = all_at P xs k d each.1 (omega arith)
 
 -- steps were taken off, and no row of theirs covers the index
 pub record IsPopped (old now : List PathStep) (index : ℕ) : Type 0 where

@@ -1,4 +1,4 @@
--- An index that stands behind another, in the same slot of a leaf, has the same way. For the proofs of the crates above, too.
+-- The indexes of what stands in one slot of a leaf have the same way. For the proofs of the crates above, too.
 use Rattle.std.proofs.Common.{◌≡◌, ◌≢◌, ℕ, ◌+◌, ◌-◌, ◌<◌, ◌≤◌, List, Option, length, refl, sym, ap, ◌∙◌, subst, inl, inr, arith}
 use Rattle.std.proofs.lemmas.Bool.{cases_lt}
 use Rattle.std.proofs.lemmas.List.{ext_get_or}
@@ -23,10 +23,10 @@ module _ (t : Tree) (h : ℕ) (stands : Stands t h) (index : ℕ) (within : inde
   abbrev row : Span
   row = row_of t h index
 
-  abbrev x : Span
+  abbrev pub x : Span
   x = below t.table row index
 
-  at : At row.first (row.last + 1) (spans_in t.table row) index x
+  pub at : At row.first (row.last + 1) (spans_in t.table row) index x
   at = holds t h stands index h within (omega arith)
 
   end_is : last_step (path_in t.table t.root index) ≡ step_in t.table row index
@@ -35,23 +35,22 @@ module _ (t : Tree) (h : ℕ) (stands : Stands t h) (index : ℕ) (within : inde
       let last : length (path_in t.table t.root index) - 1 ≡ h = omega arith in
       ap (step_at (path_in t.table t.root index)) last ∙ step t h stands index h within (omega arith)
 
-  slot_holds : span_at (leaf_spans t.table (last_step (path_in t.table t.root index))) (last_step (path_in t.table t.root index)).slot ≡ x
+  pub slot_holds : span_at (leaf_spans t.table (last_step (path_in t.table t.root index))) (last_step (path_in t.table t.root index)).slot ≡ x
   slot_holds =
       ap (λ (s : PathStep). span_at (leaf_spans t.table s) s.slot) end_is
       ∙ ap (λ (k : Option RowKind). span_at (spans_by t.table k row) (slot_for (spans_in t.table row) index)) (sym (lawful t h stands index h 0 within (omega arith)).name.named)
 
-  module _ (j : ℕ) (inside : j ≤ top_of t) (behind : index ≤ j) (ends : j ≤ x.last) where
+  module _ (j : ℕ) (inside : j ≤ top_of t) (begins : x.first ≤ j) (ends : j ≤ x.last) where
     within_row : (row.first ≤ x.first) × (x.last < row.last + 1)
     within_row = at_within row.first (row.last + 1) (spans_in t.table row) index x at
 
     agree : (row_of t h j ≡ row) × ((e : ℕ) → e < h → step_of t e j ≡ step_of t e index)
-    agree = let from = at.from in let low = within_row.0 in let high = within_row.1 in inside_agree t h stands index j h within (omega arith) (omega arith) (omega arith)
+    agree = let low = within_row.0 in let high = within_row.1 in inside_agree t h stands index j h within (omega arith) (omega arith) (omega arith)
 
     same_slot : slot_for (spans_in t.table row) j ≡ slot_for (spans_in t.table row) index
     same_slot =
-        let from = at.from in
         let fills = subst (Fills row.first (row.last + 1)) at.parts (lawful t h stands index h 0 within (omega arith)).pivots.fills in
-        ap (λ (l : List Span). slot_for l j) at.parts ∙ (slot_is row.first (row.last + 1) at.front x at.back j fills (omega arith) ends ∙ at.slot)
+        ap (λ (l : List Span). slot_for l j) at.parts ∙ (slot_is row.first (row.last + 1) at.front x at.back j fills begins ends ∙ at.slot)
 
     same_leaf : step_of t h j ≡ step_of t h index
     same_leaf =
@@ -65,7 +64,7 @@ module _ (t : Tree) (h : ℕ) (stands : Stands t h) (index : ℕ) (within : inde
       | inr last ↦ (let is : e ≡ h = omega arith in ap (λ (d : ℕ). step_of t d j) is ∙ (same_leaf ∙ ap (λ (d : ℕ). step_of t d index) (sym is)))
     ]
 
-    same_path : path_in t.table t.root j ≡ path_in t.table t.root index
+    pub same_path : path_in t.table t.root j ≡ path_in t.table t.root index
     same_path =
         let many = levels t h stands j inside in
         let all = levels t h stands index within in
@@ -91,4 +90,4 @@ module _ (t : Rooted) (kind : Kind) (tree : IsTreeOf t kind) (path : List PathSt
       by (inr (h, stands)) =
           let held = slot_holds (tree_as kind t) h stands index within in
           let low : j ≤ (span_at (leaf_spans t.table (leaf_in t index)) (leaf_in t index).slot).last = subst (λ (l : List PathStep). j ≤ (span_at (leaf_spans t.table (last_step l)) (last_step l).slot).last) is ends in
-          same_path (tree_as kind t) h stands index within j inside behind (subst (λ (y : Span). j ≤ y.last) held low)
+          same_path (tree_as kind t) h stands index within j inside (let from = (at (tree_as kind t) h stands index within).from in omega arith) (subst (λ (y : Span). j ≤ y.last) held low)

@@ -4,7 +4,7 @@ use Rattle.mt_base.specs.declared.kinds.Kind.{Kind}
 use Rattle.mt_base.specs.declared.kinds.Kind.TheVariants as trees
 use Rattle.mt_base.proofs.Lists.{all_map}
 use Rattle.mt_layout.specs.declared.names.RowKind.{RowKind}
-use Rattle.mt_layout.specs.declared.names.RowKind.TheVariants.{Leaf, Inner, Gapped}
+use Rattle.mt_layout.specs.declared.names.RowKind.TheVariants.{Leaf}
 use Rattle.mt_layout.specs.Rows.{named_kind}
 use Rattle.mt_layout.specs.declared.spans.Span.{Span}
 use Rattle.mt_layout.specs.Spans.{Fills}
@@ -14,6 +14,7 @@ use Rattle.mt_rows.specs.Trees.{by_kind}
 use Rattle.mt_rows.specs.Laws.{Tree, IsRow}
 use Rattle.mt_rows.proofs.Lists.{Filled, expand_fills, levels_here}
 use Rattle.mt_rows.proofs.Joins.{level-append, levels_front, levels_back}
+use Rattle.mt_rows.proofs.Deeper.{by_kind_inner}
 use Rattle.mt_path.specs.declared.paths.PathStep.{PathStep}
 use Rattle.mt_path.specs.Paths.{slot_for, span_at, step_in, below, path_of, step_at, row_on, At}
 use Rattle.mt_path.proofs.Places.{at_slot, at_parts, at_get, at_within, slot_is}
@@ -23,11 +24,6 @@ use Rattle.mt_path.proofs.Places.{at_slot, at_parts, at_get, at_within, slot_is}
 pub is_inner : (tree : Kind) → inner_kind tree ≢ Leaf
 is_inner trees.Range = λ e. cc
 is_inner trees.Alloc = λ e. cc
-
-by_inner : {A : Type 0} (kind : RowKind) (leaf inner : List A) → kind ≢ Leaf → by_kind (Some kind) leaf inner ≡ inner
-by_inner Leaf leaf inner other = absurd (other refl)
-by_inner Inner leaf inner other = refl
-by_inner Gapped leaf inner other = refl
 
 pub path_of_none : (t : Table) (depth : ℕ) (x : Span) (index : ℕ) → named_kind x.word ≡ None → path_of t depth x index ≡ []
 unfolding path_of
@@ -42,7 +38,7 @@ pub path_of_inner : (t : Table) (depth : ℕ) (x : Span) (index : ℕ) (kind : R
 unfolding path_of
 path_of_inner t depth x index kind named other =
     ap (λ (k : Option RowKind). by_kind k (step_in t x index ∷ []) (step_in t x index ∷ path_of t depth (below t x index) index)) named
-    ∙ by_inner kind (step_in t x index ∷ []) (step_in t x index ∷ path_of t depth (below t x index) index) other
+    ∙ by_kind_inner kind (step_in t x index ∷ []) (step_in t x index ∷ path_of t depth (below t x index) index) other
 
 -- ---- rows below a row
 

@@ -3,7 +3,7 @@ use Rattle.mt_path.specs.declared.paths.PathStep.{PathStep}
 use Rattle.mt_rows.specs.Sheet.{Rooted}
 use Rattle.mt_path.proofs.HandleSteps.{handle_before}
 use Rattle.mt_path.proofs.LeafSteps.{here_in}
-use Rattle.mt_path.proofs.Kept.{same_tree}
+use Rattle.mt_rows.proofs.Loads.{same_tree}
 use Rattle.mt_path.proofs.handles.before.Goals as goal
 
 pub returns-clause-some : goal.returns-clause-some

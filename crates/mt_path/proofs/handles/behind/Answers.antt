@@ -6,7 +6,7 @@ use Rattle.mt_path.specs.declared.paths.PathStep.{PathStep}
 use Rattle.mt_path.specs.Handles.{IsStepOfLeaf}
 use Rattle.mt_path.proofs.HandleSteps.{slot_fits, step_behind, handle_behind}
 use Rattle.mt_path.proofs.LeafSteps.{here_in}
-use Rattle.mt_path.proofs.Kept.{same_tree}
+use Rattle.mt_rows.proofs.Loads.{same_tree}
 use Rattle.mt_path.proofs.handles.behind.Goals as goal
 
 pub overflow_add-leaf : goal.overflow_add-leaf
