@@ -28,6 +28,7 @@ use Rattle.mt_gap.proofs.ChildLists.{spans-append}
 use Rattle.mt_gap.proofs.Kept.{kept-append}
 use Rattle.mt_gap.proofs.NarrowedUp.{highest_back, highest_more}
 use Rattle.mt_gap.proofs.RowLoops.{narrow_stops, narrow_goes_on}
+use Rattle.mt_rows.proofs.Longest.{longest_in-append}
 
 -- ---- from the left
 
@@ -99,7 +100,7 @@ asked_all n lo hi first next before all asks same = (asks.0 ∙ ap (λ (l : List
 
 -- ---- from the right
 
-up-append : (n lo hi : ℕ) (acc xs ys : List Child) → narrow_up n lo hi acc (xs ++ ys) ≡ narrow_up n lo hi (narrow_up n lo hi acc xs) ys
+pub up-append : (n lo hi : ℕ) (acc xs ys : List Child) → narrow_up n lo hi acc (xs ++ ys) ≡ narrow_up n lo hi (narrow_up n lo hi acc xs) ys
 up-append n lo hi acc [] ys = refl
 up-append n lo hi acc (x ∷ xs) ys = up-append n lo hi (next_up n lo hi acc x) xs ys
 
@@ -190,10 +191,6 @@ high_of_all n lo hi found before all is same = is ∙ ap (λ (l : List Child). h
 
 abbrev pub LongestIs : ℕ → List Child → Type 0
 LongestIs longest before = longest ≡ longest_in (spans before)
-
-longest_in-append : (xs ys : List Span) → longest_in (xs ++ ys) ≡ max (longest_in xs) (longest_in ys)
-longest_in-append [] ys = omega arith
-longest_in-append (x ∷ xs) ys = let rest = longest_in-append xs ys in omega arith
 
 pub longest_on : (longest : ℕ) (before : List Child) → LongestIs longest before → (x : Child) (after : ℕ) → after ≡ max longest (hole_length x.span) → LongestIs after (before ++ (x ∷ []))
 longest_on longest before is x after after_is =

@@ -1,30 +1,24 @@
 -- Children of rows: the spans that they are, and the gap words of a row that keeps the law of gaps.
-use Rattle.std.proofs.Common.{◌≡◌, ℕ, zero, suc, ◌+◌, ◌*◌, List, [], ◌∷◌, ◌++◌, Option, Some, None, nat_le, refl, sym, ap, ◌∙◌, subst, inl, inr, arith}
+use Rattle.std.proofs.Common.{◌≡◌, ℕ, suc, ◌+◌, List, [], ◌∷◌, ◌++◌, Option, Some, None, refl, sym, ap, ◌∙◌, subst}
 use Rattle.std.specs.List.{AllByRecursion, flat_map}
-use Rattle.std.specs.Prelude.{slice_index}
-use Rattle.std.proofs.lemmas.Bool.{cases_Bool}
-use Rattle.mt_base.specs.declared.widths.Width.{Width}
-use Rattle.mt_base.specs.declared.widths.Width.TheVariants.{Long}
 use Rattle.mt_base.specs.declared.kinds.Kind.{Kind}
 use Rattle.mt_base.specs.declared.kinds.Kind.TheVariants as trees
 use Rattle.mt_base.specs.Holes.{Hole}
-use Rattle.mt_base.specs.Width.{columns}
 use Rattle.mt_base.proofs.Lists.{all_join}
 use Rattle.mt_layout.specs.declared.items.Item.{Item}
 use Rattle.mt_layout.specs.declared.names.RowKind.{RowKind}
 use Rattle.mt_layout.specs.declared.names.RowKind.TheVariants.{Gapped}
 use Rattle.mt_layout.specs.declared.spans.Span.{Span}
-use Rattle.mt_layout.specs.Columns.{gap_column, pivot_column, items_from}
 use Rattle.mt_layout.specs.Rows.{row_in, named_kind}
-use Rattle.mt_layout.specs.Sizes.{slots_of, gaps_of}
+use Rattle.mt_layout.specs.Sizes.{slots_of}
 use Rattle.mt_layout.specs.Spans.{spans_from}
-use Rattle.mt_layout.proofs.Reading.{gap_at-some}
-use Rattle.mt_rows.specs.Spans.{Table, column, inner_kind, spans_by, spans_in}
+use Rattle.mt_rows.specs.Spans.{Table, inner_kind, spans_by, spans_in}
 use Rattle.mt_rows.specs.Levels.{expand}
 use Rattle.mt_rows.specs.Laws.{Tree, IsRow, IsTended, GapsFrom, GapLawBy, longest_below}
 use Rattle.mt_gap.specs.declared.children.Child.{Child}
 use Rattle.mt_gap.specs.Below.{leaf_hole, child_hole}
 use Rattle.mt_gap.specs.Children.{children_from, children_by, children_in, spans, children_below}
+use Rattle.mt_rows.proofs.RowGaps.{AreGapsAt, gaps_read}
 
 -- ---- their spans
 
@@ -56,22 +50,6 @@ holes_of_children (x ∷ xs) = ap (λ (l : List Hole). leaf_hole x.span ++ l) (h
 -- the child's gap word is the longest hole below it
 abbrev pub GapIs : Table → ℕ → Child → Type 0
 GapIs t h x = x.gap ≡ longest_below t h (x.span ∷ [])
-
--- the gaps of items are in the gap columns of a row, from a slot on
-abbrev pub AreGapsAt : Table → ℕ → ℕ → List Item → Type 0
-AreGapsAt t row slot [] = Unit {0}
-AreGapsAt t row slot (x ∷ items) = (x.gap ≡ column t row (gap_column (slots_of t.width Gapped) slot)) × AreGapsAt t row (slot + 1) items
-
-some_gaps : (width : Width) → gaps_of width Gapped ≡ 0 → ⊥
-some_gaps Long none = absurd (omega arith)
-
-pub gaps_read : (width : Width) (w : List ℕ) (row max left i : ℕ) → AreGapsAt (record { width = width; words = w }) row i (items_from (slots_of width Gapped) (gaps_of width Gapped) w (columns width * row) max left i)
-gaps_read width w row max zero i = tt
-gaps_read width w row max (suc zero) i = (gap_at-some (slots_of width Gapped) (gaps_of width Gapped) w (columns width * row) i (some_gaps width), tt)
-gaps_read width w row max (suc (suc left)) i = elim (cases_Bool (nat_le max (slice_index w (columns width * row + pivot_column i)))) [
-  | inl last ↦ rw last (gap_at-some (slots_of width Gapped) (gaps_of width Gapped) w (columns width * row) i (some_gaps width), tt)
-  | inr more ↦ rw more (gap_at-some (slots_of width Gapped) (gaps_of width Gapped) w (columns width * row) i (some_gaps width), gaps_read width w row max (suc left) (i + 1))
-]
 
 law_tells : (t : Table) (h row slot first : ℕ) (items : List Item) → AreGapsAt t row slot items → GapsFrom t h row slot (spans_from first items) → AllByRecursion (GapIs t h) (children_from first items)
 law_tells t h row slot first [] at law = tt

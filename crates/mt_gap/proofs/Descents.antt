@@ -21,6 +21,7 @@ use Rattle.mt_rows.specs.Trees.{map_in, height_in}
 use Rattle.mt_rows.proofs.Depth.{ranges_by_depth, height_by_depth}
 use Rattle.mt_rows.proofs.Joins.{levels_join, levels_front, levels_back}
 use Rattle.mt_rows.proofs.Lists.{levels_here}
+use Rattle.mt_rows.proofs.Ranges.{rows_filled}
 use Rattle.mt_path.proofs.Kept.{tree_kept}
 use Rattle.mt_path.proofs.Loads.{no_reads, one_read, reads_more, reads_up}
 use Rattle.mt_gap.specs.declared.children.Child.{Child}
@@ -30,7 +31,7 @@ use Rattle.mt_gap.specs.Children.{spans, children_below, root_child}
 use Rattle.mt_gap.specs.Descents.{MayLoad, picked, place_in, Asks, Visited, Arrives, AreLeaves}
 use Rattle.mt_gap.specs.Narrow.{may_have, inside, narrow, narrow_up, Rising}
 use Rattle.mt_gap.proofs.ChildLists.{spans_below, gaps_below, holes_of_children}
-use Rattle.mt_gap.proofs.HolesBelow.{rows_filled, holes_are}
+use Rattle.mt_gap.proofs.HolesBelow.{holes_are}
 use Rattle.mt_gap.proofs.Narrowed.{narrow_keeps, narrow_two, rising_narrow, rising_expand}
 use Rattle.mt_gap.proofs.NarrowedUp.{levels_up, levels_none, rising_up, up_two, up_keeps}
 

@@ -16,6 +16,7 @@ use Rattle.mt_rows.specs.Spans.{Table, base_of, column}
 use Rattle.mt_gap.specs.Children.{children_from, row_children}
 use Rattle.mt_gap.specs.Mending.{longest_gap, most_gap, told_by, MayTell}
 use Rattle.mt_gap.specs.Slots.{gap_in}
+use Rattle.mt_rows.proofs.GapStore.{gap_inside}
 
 -- ---- of items, and behind them
 
@@ -45,9 +46,6 @@ gap_word Long words base k = refl
 has_gap : (width : Width) (k : ℕ) → k < slots_of width Gapped → k < gaps_of width Gapped
 has_gap Long k low = low
 
-has_column : (width : Width) (k : ℕ) → k < slots_of width Gapped → gap_column (slots_of width Gapped) k < columns width
-has_column Long k low = omega arith
-
 pub few_gaps : (width : Width) → slots_of width Gapped ≤ columns width
 few_gaps Long = omega arith
 
@@ -69,7 +67,7 @@ module _ (t : Table) (row max : ℕ) where
     gap_is k low =
         let words = used (columns t.width) slots gaps (column t row 0) items (layout_of t.width Gapped) fit in
         gap_word t.width t.words (base_of t row) k
-        ∙ (unused (gap_column slots k) (has_column t.width k low)
+        ∙ (unused (gap_column slots k) (gap_inside t.width k low)
         ∙ (get_or-padded words (columns t.width - length words) (gap_column slots k) ∙ used-gap (columns t.width) slots gaps (column t row 0) items (layout_of t.width Gapped) fit k (has_gap t.width k low)))
 
     most_is : (n : ℕ) → n ≤ slots → most_gap t row n ≡ most_item items n

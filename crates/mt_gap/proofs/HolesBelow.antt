@@ -3,13 +3,15 @@ use Rattle.std.proofs.Common.{◌≡◌, ◌≢◌, ℕ, zero, suc, ◌+◌, ◌
 use Rattle.std.specs.List.{AllByRecursion, flat_map}
 use Rattle.std.proofs.lemmas.Bool.{cases_Bool, lt-ltb, le-ltb, eqb-true}
 use Rattle.mt_layout.specs.declared.spans.Span.{Span}
-use Rattle.mt_layout.specs.Spans.{leaf_range, Fills, Apart, EndsFull}
+use Rattle.mt_layout.specs.Spans.{leaf_range, Fills, Apart}
 use Rattle.mt_rows.specs.Spans.{spans_in}
 use Rattle.mt_rows.specs.Levels.{expand, map_of, Levels}
 use Rattle.mt_rows.specs.Laws.{Tree, IsRow, top_of}
-use Rattle.mt_rows.proofs.Lists.{all_map, fills_le, Filled, expand_fills}
+use Rattle.mt_rows.proofs.Lists.{fills_le, expand_fills}
+use Rattle.mt_rows.proofs.Ranges.{rows_filled}
 use Rattle.mt_base.specs.Holes.{hole_between, holes_from}
 use Rattle.mt_gap.specs.Below.{leaf_hole, holes_below}
+use Rattle.mt_layout.proofs.SpanLists.{apart-append}
 
 hole_here : (lo hi : ℕ) → lo < hi → hole_between lo hi ≡ record { first = lo; last = hi - 1 } ∷ []
 hole_here lo hi lt = rw (lt-ltb lo hi lt) refl
@@ -46,21 +48,13 @@ holes_of_spans lo hi (x ∷ y ∷ ys) fills apart = elim (cases_Bool (x.word == 
 
 -- ---- no two holes follow each other, over the ends of leaves too
 
-apart_join : (xs ys : List Span) → Apart xs → EndsFull xs → Apart ys → Apart (xs ++ ys)
-apart_join [] ys apart ends behind = behind
-apart_join (x ∷ []) ys apart ends behind = ((λ hole. absurd (ends hole)), behind)
-apart_join (x ∷ z ∷ xs) ys apart ends behind = (apart.0, apart_join (z ∷ xs) ys apart.1 ends behind)
-
 pub leaves_apart : (t : Tree) (lo : ℕ) (xs : List Span) → AllByRecursion (IsRow t zero) xs → Fills lo (top_of t + 1) xs → Apart (expand t.table xs)
 leaves_apart t lo [] rows fills = tt
 leaves_apart t lo (x ∷ []) rows fills = subst Apart (sym (append-nil (spans_in t.table x))) rows.0.holes.apart
 leaves_apart t lo (x ∷ y ∷ ys) rows fills =
     let next = fills.2.1 in
     let end = fills_le (y.last + 1) (top_of t + 1) ys fills.2.2 in
-    apart_join (spans_in t.table x) (expand t.table (y ∷ ys)) rows.0.holes.apart (rows.0.holes.ends (omega arith)) (leaves_apart t (x.last + 1) (y ∷ ys) rows.1 fills.2)
-
-pub rows_filled : (t : Tree) (h : ℕ) (xs : List Span) → AllByRecursion (IsRow t h) xs → AllByRecursion (Filled t.table) xs
-rows_filled t h xs rows = all_map (IsRow t h) (Filled t.table) (λ x row. row.pivots.fills) xs rows
+    apart-append (spans_in t.table x) (expand t.table (y ∷ ys)) rows.0.holes.apart (rows.0.holes.ends (omega arith)) (leaves_apart t (x.last + 1) (y ∷ ys) rows.1 fills.2)
 
 -- ---- the holes of the map below rows that end at the greatest index
 

@@ -17,10 +17,11 @@ use Rattle.mt_gap.specs.declared.windows.Window.{Window}
 use Rattle.mt_gap.specs.Below.{child_hole}
 use Rattle.mt_gap.specs.Children.{children_in, children_below}
 use Rattle.mt_gap.specs.Descents.{picked}
-use Rattle.mt_gap.specs.Narrow.{narrow, narrow_up, next_up, has_sure}
+use Rattle.mt_gap.specs.Narrow.{narrow, narrow_up, has_sure}
 use Rattle.mt_gap.proofs.Kept.{kept-append}
 use Rattle.mt_gap.proofs.NarrowedUp.{highest_back, highest_more}
 use Rattle.mt_gap.proofs.RowLoops.{drop_at, narrow_stops, narrow_goes_on}
+use Rattle.mt_gap.proofs.Asking.{up-append}
 
 -- so many rows were loaded
 pub record WereLoaded (s t : Sheet) (old new i : ℕ) : Type 0 where
@@ -109,10 +110,6 @@ take_at (x ∷ xs) (suc i) d within = ap (λ (l : List Child). x ∷ l) (take_at
 below-append : (t : Table) (xs ys : List Child) → children_below t (xs ++ ys) ≡ children_below t xs ++ children_below t ys
 below-append t [] ys = refl
 below-append t (x ∷ xs) ys = ap (λ (l : List Child). children_in t x.span ++ l) (below-append t xs ys) ∙ sym (append_assoc (children_in t x.span) (children_below t xs) (children_below t ys))
-
-up-append : (n lo hi : ℕ) (acc xs ys : List Child) → narrow_up n lo hi acc (xs ++ ys) ≡ narrow_up n lo hi (narrow_up n lo hi acc xs) ys
-up-append n lo hi acc [] ys = refl
-up-append n lo hi acc (x ∷ xs) ys = up-append n lo hi (next_up n lo hi acc x) xs ys
 
 take_front : (xs ys : List Child) (k m : ℕ) → m ≡ length xs + k → take m (xs ++ ys) ≡ xs ++ take k ys
 take_front [] ys k m is = let same : m ≡ k = omega arith in ap (λ (j : ℕ). take j ys) same

@@ -6,7 +6,7 @@ use Rattle.std.proofs.lemmas.Bool.{cases_Bool, cases_eq}
 use Rattle.mt_base.specs.declared.kinds.Kind.{Kind}
 use Rattle.mt_base.specs.declared.kinds.Kind.TheVariants as trees
 use Rattle.mt_base.specs.declared.widths.Width.{Width}
-use Rattle.mt_base.specs.Width.{columns, deepest, greatest}
+use Rattle.mt_base.specs.Width.{deepest, greatest}
 use Rattle.mt_layout.specs.declared.names.RowKind.{RowKind}
 use Rattle.mt_layout.specs.declared.names.RowKind.TheVariants.{Leaf, Inner, Gapped}
 use Rattle.mt_layout.specs.declared.spans.Span.{Span}
@@ -32,13 +32,13 @@ use Rattle.mt_rows.proofs.GapStore.{gap_inside, all_spans_stay, still_stands}
 use Rattle.mt_rows.proofs.Joins.{Shared}
 use Rattle.mt_rows.proofs.Lists.{levels_here, levels_map}
 use Rattle.mt_rows.proofs.PlainReached.{levels_from}
-use Rattle.mt_rows.proofs.Reached.{IsOneOf, OnLevel, on_level_reached, one_of_parts, reached_number, times_reached}
+use Rattle.mt_rows.proofs.Reached.{IsOneOf, OnLevel, on_level_reached, one_of_parts, reached_number, times_reached, levels_at}
 use Rattle.mt_gap.specs.declared.children.Child.{Child}
 use Rattle.mt_gap.specs.Children.{spans, no_child, row_children}
 use Rattle.mt_gap.specs.Mended.{AreRight, IsDone, HasMendedRows}
 use Rattle.mt_gap.specs.Mending.{told_by, GapLawBeside, IsKept, IsGapIn, KeepsOtherWords, MayMendGaps, MayTell, MayMend, IsMended}
-use Rattle.mt_gap.proofs.Mending.{begins_at, child_tells, covers_is, levels_at, levels_below, one_over}
-use Rattle.mt_gap.proofs.MendWay.{RootIs, no_root, not_gapped, only_loaded, only_next, other_word, paths_shared, plain_law, root_named, row_may_tell, shared_self, shared_twice}
+use Rattle.mt_gap.proofs.Mending.{begins_at, child_tells, covers_is, levels_below, one_over}
+use Rattle.mt_gap.proofs.MendWay.{RootIs, no_root, not_gapped, only_loaded, gap_stored, only_next, paths_shared, plain_law, root_named, row_may_tell, shared_self, shared_twice}
 use Rattle.mt_gap.proofs.Tells.{row_spans_are}
 use Rattle.mt_gap.proofs.SlotsRight.{are_right, law_of_right, levels_slot, right_then, slot_one}
 
@@ -200,25 +200,14 @@ module _ (s s' : Sheet) (path : List PathStep) (kind : RowKind) (d slots : ℕ) 
           before i other low = omega (arith, other)
 
       keeps : KeepsOtherWords s.tree r' path
-      keeps row col low = ⊎_elim
-          (λ (same_row : row ≡ row_in x.word). ⊎_elim
-          (λ (same_col : col ≡ gap_column (slots_of r.table.width Gapped) slots). inr (record {
-            level = d;
-            slot = slots;
-            above = above;
-            within = subst (λ (w : Width). slots < slots_of w Gapped) width_same slot_low;
-            row_is = same_row ∙ sym (ap (λ (p : PathStep). p.row) above_is);
-            col_is = same_col ∙ ap (λ (w : Width). gap_column (slots_of w Gapped) slots) width_same;
-          }))
-          (λ (other : col ≡ gap_column (slots_of r.table.width Gapped) slots → ⊥). unchanged (λ e e'. other e'))
-          (cases_eq col (gap_column (slots_of r.table.width Gapped) slots)))
-          (λ (other : row ≡ row_in x.word → ⊥). unchanged (λ e e'. other e))
-          (cases_eq row (row_in x.word))
-        where
-          unchanged : (row ≡ row_in x.word → col ≡ gap_column (slots_of r.table.width Gapped) slots → ⊥) → (word_at r' row col ≡ word_at s.tree row col) ⊎ IsGapIn s.tree path row col
-          unchanged other = subst (λ (n : ℕ). (n ≡ word_at s.tree row col) ⊎ IsGapIn s.tree path row col)
-              (sym (other_word r.table.width r.table.words row col (row_in x.word) (gap_column (slots_of r.table.width Gapped) slots) gap (subst (λ (w : Width). col < columns w) (sym width_same) low) (gap_inside r.table.width slots slot_low) other))
-              (m.words row col low)
+      keeps row col low = gap_stored s.tree r (row_in x.word) slots gap row col (IsGapIn s.tree path row col) width_same slot_low low (m.words row col low) (λ same_row same_col. record {
+        level = d;
+        slot = slots;
+        above = above;
+        within = subst (λ (w : Width). slots < slots_of w Gapped) width_same slot_low;
+        row_is = same_row ∙ sym (ap (λ (p : PathStep). p.row) above_is);
+        col_is = same_col ∙ ap (λ (w : Width). gap_column (slots_of w Gapped) slots) width_same;
+      })
 
       root_of_s : root_of t ≡ root_of (tree_as trees.Alloc s.tree)
       root_of_s = λ i. root_span (m.only i).tree.table (m.only i).tree.root ∷ []

@@ -22,6 +22,7 @@ use Rattle.mt_path.specs.declared.paths.PathStep.{PathStep}
 use Rattle.mt_path.specs.Paths.{step_in, slot_for, step_at, span_at, path_in, path_of, below}
 use Rattle.mt_path.proofs.Steps.{Leads, is_inner, path_of_leaf, path_of_inner, row_here, child_at, child_leads}
 use Rattle.mt_path.proofs.TreePaths.{top_row, row_of, step_of, levels, step, place, lawful, reached, root_leads}
+use Rattle.mt_path.proofs.Bounds.{greatest_fits}
 use Rattle.mt_rows.specs.Gaps.{HasGaps}
 use Rattle.mt_rows.specs.Laws.{Tree, IsRow, Stands, GapLaw, kind_at, longest_below, top_of}
 use Rattle.mt_rows.specs.Levels.{expand, Levels, SameSpans, times, is_row_of}
@@ -89,6 +90,22 @@ pub other_word : (width : Width) (words : List ℕ) (row col arow acol word : �
     → slice_index (slice_set words (columns width * arow + acol) word) (columns width * row + col) ≡ slice_index words (columns width * row + col)
 other_word Long words row col arow acol word low alow other = get_or-set_other words (32 * arow + acol) (32 * row + col) word 0 (λ e. (let same : row ≡ arow = omega arith in let at : col ≡ acol = omega arith in other same at))
 
+-- where one gap word more is stored, each other word is as it was
+pub gap_stored : (was r : Rooted) (arow slot gap row col : ℕ) (Gap : Type 0) → r.table.width ≡ was.table.width → slot < slots_of r.table.width Gapped → col < columns was.table.width
+    → (word_at r row col ≡ word_at was row col) ⊎ Gap → (row ≡ arow → col ≡ gap_column (slots_of r.table.width Gapped) slot → Gap)
+    → (word_at (with_word r arow (gap_column (slots_of r.table.width Gapped) slot) gap) row col ≡ word_at was row col) ⊎ Gap
+gap_stored was r arow slot gap row col Gap same low inside kept here = ⊎_elim
+    (λ (same_row : row ≡ arow). ⊎_elim
+    (λ (same_col : col ≡ gap_column (slots_of r.table.width Gapped) slot). inr (here same_row same_col))
+    (λ (other : col ≡ gap_column (slots_of r.table.width Gapped) slot → ⊥). unchanged (λ e e'. other e'))
+    (cases_eq col (gap_column (slots_of r.table.width Gapped) slot)))
+    (λ (other : row ≡ arow → ⊥). unchanged (λ e e'. other e))
+    (cases_eq row arow)
+  where
+    unchanged : (row ≡ arow → col ≡ gap_column (slots_of r.table.width Gapped) slot → ⊥) → (word_at (with_word r arow (gap_column (slots_of r.table.width Gapped) slot) gap) row col ≡ word_at was row col) ⊎ Gap
+    unchanged other = subst (λ (n : ℕ). (n ≡ word_at was row col) ⊎ Gap)
+        (sym (other_word r.table.width r.table.words row col arow (gap_column (slots_of r.table.width Gapped) slot) gap (subst (λ (w : Width). col < columns w) (sym same) inside) (gap_inside r.table.width slot low) other)) kept
+
 -- ---- what a leaf may tell
 
 longest_low : (lo hi : ℕ) (xs : List Span) → Fills lo hi xs → longest_in xs ≤ hi - lo
@@ -114,9 +131,6 @@ longest_less lo hi (x ∷ xs) fills some =
 all_rise : (lo hi : ℕ) (xs : List Span) → Fills lo hi xs → AllByRecursion (λ (x : Span). x.first ≤ x.last) xs
 all_rise lo hi [] fills = tt
 all_rise lo hi (x ∷ xs) fills = let begins = fills.0 in let order = fills.1 in (omega arith, all_rise (x.last + 1) hi xs fills.2)
-
-greatest_fits : (width : Width) → greatest width < 2 ^ 64
-greatest_fits Long = omega arith
 
 pub row_may_tell : (r : Rooted) (k index : ℕ) (c : Span) → IsRow (tree_as trees.Alloc r) k c → c.last ≤ greatest r.table.width → MayTell (kind_at trees.Alloc k) r.table (step_in r.table c index)
 row_may_tell r zero index c row low =
@@ -262,23 +276,12 @@ module _ (s s' : Sheet) (path : List PathStep) (kind : RowKind) (d : ℕ) (m : H
     shared_then = all_spans_stay r m.height m.done slot gap x whole.words m.stands at_row used
 
     keeps : KeepsWords s.tree r' path
-    keeps row col low = ⊎_elim
-        (λ (same_row : row ≡ row_in x.word). ⊎_elim
-        (λ (same_col : col ≡ gap_column (slots_of r.table.width Gapped) slot). inr (record {
-          level = d;
-          above = (let many = ap length m.steps ∙ levels t m.height m.stands m.index within' in let h = high in omega arith);
-          row_is = same_row ∙ sym (ap (λ (p : PathStep). p.row) above_is);
-          col_is = same_col ∙ (λ i. gap_column (slots_of (width_same i) Gapped) (sym above_is i).slot);
-        }))
-        (λ (other : col ≡ gap_column (slots_of r.table.width Gapped) slot → ⊥). unchanged (λ e e'. other e'))
-        (cases_eq col (gap_column (slots_of r.table.width Gapped) slot)))
-        (λ (other : row ≡ row_in x.word → ⊥). unchanged (λ e e'. other e))
-        (cases_eq row (row_in x.word))
-      where
-        unchanged : (row ≡ row_in x.word → col ≡ gap_column (slots_of r.table.width Gapped) slot → ⊥) → (word_at r' row col ≡ word_at s.tree row col) ⊎ IsGapOn s.tree path row col
-        unchanged other = subst (λ (n : ℕ). (n ≡ word_at s.tree row col) ⊎ IsGapOn s.tree path row col)
-            (sym (other_word r.table.width r.table.words row col (row_in x.word) (gap_column (slots_of r.table.width Gapped) slot) gap (subst (λ (w : Width). col < columns w) (sym width_same) low) (gap_inside r.table.width slot slot_low) other))
-            (m.words row col low)
+    keeps row col low = gap_stored s.tree r (row_in x.word) slot gap row col (IsGapOn s.tree path row col) width_same slot_low low (m.words row col low) (λ same_row same_col. record {
+      level = d;
+      above = (let many = ap length m.steps ∙ levels t m.height m.stands m.index within' in let h = high in omega arith);
+      row_is = same_row ∙ sym (ap (λ (p : PathStep). p.row) above_is);
+      col_is = same_col ∙ (λ i. gap_column (slots_of (width_same i) Gapped) (sym above_is i).slot);
+    })
 
     root_of_s : root_of t ≡ root_of (tree_as trees.Alloc s.tree)
     root_of_s = λ i. root_span (m.only i).tree.table (m.only i).tree.root ∷ []

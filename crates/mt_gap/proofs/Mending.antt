@@ -2,7 +2,7 @@
 use Rattle.std.proofs.Common.{◌≡◌, ◌≢◌, ℕ, zero, suc, ◌+◌, ◌<◌, ◌≤◌, List, [], ◌∷◌, ◌++◌, Bool, true, false, nat_le, max, length, refl, sym, ap, ◌∙◌, subst, ⊎_elim, inl, inr, arith, append-nil}
 use Rattle.std.specs.Prelude.{◌⊎◌}
 use Rattle.std.specs.List.{AllByRecursion}
-use Rattle.std.proofs.lemmas.Bool.{cases_Bool, cases_eq, leb-false, leb-true, le-leb}
+use Rattle.std.proofs.lemmas.Bool.{cases_Bool, cases_eq, leb-false, leb-true}
 use Rattle.mt_base.specs.declared.kinds.Kind.TheVariants as trees
 use Rattle.mt_layout.specs.declared.names.RowKind.TheVariants.{Gapped}
 use Rattle.mt_layout.specs.declared.spans.Span.{Span}
@@ -23,12 +23,13 @@ use Rattle.mt_rows.specs.Sheet.{Rooted, with_word}
 use Rattle.mt_rows.specs.Spans.{Table, column, spans_in, spans_by}
 use Rattle.mt_rows.proofs.FewSpans.{row_most}
 use Rattle.mt_rows.proofs.GapStore.{gap_inside, others_keep, other_gap, this_gap, all_spans_stay}
-use Rattle.mt_rows.proofs.Heights.{levels_lower, level_rows}
+use Rattle.mt_rows.proofs.Heights.{levels_lower}
 use Rattle.mt_rows.proofs.Joins.{Shared, levels_front, levels_back, levels_shared}
 use Rattle.mt_rows.proofs.Lists.{levels_map}
 use Rattle.mt_rows.proofs.Longest.{longest_none, longest_below-append}
 use Rattle.mt_rows.proofs.PlainReached.{levels_from}
-use Rattle.mt_rows.proofs.Reached.{IsOneOf, OnLevel, on_level_law, one_place, one_of_parts, all_one_of}
+use Rattle.mt_rows.proofs.Reached.{IsOneOf, OnLevel, on_level_law, one_place, one_of_parts, levels_at}
+use Rattle.mt_rows.proofs.RowGaps.{covers_it}
 use Rattle.mt_gap.specs.declared.children.Child.{Child}
 use Rattle.mt_gap.specs.Children.{children_in, children_by, spans}
 use Rattle.mt_gap.specs.Mending.{longest_gap, told_by, IsMendedUpTo}
@@ -81,13 +82,7 @@ covers_not index y is = elim (cases_Bool (nat_le y.first index)) [
   | inr not ↦ inr (leb-false y.first index not)
 ]
 
-pub covers_it : (index : ℕ) (y : Span) → y.first ≤ index → index ≤ y.last → covers index y ≡ true
-covers_it index y from to = let test : nat_le y.first index ≡ true = le-leb y.first index from in let test' : nat_le index y.last ≡ true = le-leb index y.last to in rw (test, test') refl
-
 -- ---- what holds of all rows, at one and below one
-
-pub levels_at : (P : ℕ → Span → Type 0) (t : Table) (h k : ℕ) (xs : List Span) (x : Span) → Levels P t h xs → OnLevel t h xs k x → P k x
-levels_at P t h k xs x rows on = all_one_of (P k) (level t on.depth xs) x (level_rows P t on.depth k h xs on.height rows) on.one
 
 of_one : (P : ℕ → Span → Type 0) (t : Table) (k : ℕ) (ys : List Span) (y : Span) → IsOneOf y ys → Levels P t k (expand t ys) → Levels P t k (spans_in t y)
 of_one P t k [] y one rows = absurd one

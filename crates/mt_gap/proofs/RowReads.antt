@@ -18,6 +18,7 @@ use Rattle.mt_gap.specs.Reading.{loads_for}
 use Rattle.mt_gap.specs.Slots.{last_in, child_in}
 use Rattle.mt_path.proofs.Kept.{tree_kept}
 use Rattle.mt_path.proofs.Loads.{no_reads, reads_more, reads_up}
+use Rattle.mt_rows.proofs.FewSpans.{few_slots}
 
 -- the children from a slot on
 abbrev pub unread : Rooted → RowKind → ℕ → ℕ → ℕ → ℕ → List Child
@@ -35,11 +36,6 @@ pub record IsReadTo (P : List Child → Type 0) (s t : Sheet) (kind : RowKind) (
   pub before : List Child
   pub read : AreRead s t kind row first max slot begin before
   pub holds : P before
-
-few_slots : (width : Width) (kind : RowKind) → slots_of width kind ≤ 16
-few_slots Long Leaf = omega arith
-few_slots Long Inner = omega arith
-few_slots Long Gapped = omega arith
 
 few_loads : (width : Width) (kind : RowKind) (n : ℕ) → n ≤ slots_of width kind → loads_for kind * n ≤ columns width
 few_loads Long Leaf n low = omega arith

@@ -20,9 +20,9 @@ use Rattle.mt_rows.proofs.GapStore.{gap_inside, others_keep, other_gap, this_gap
 use Rattle.mt_rows.proofs.Joins.{Shared, levels_front, levels_back, levels_shared}
 use Rattle.mt_rows.proofs.Longest.{longest_shared}
 use Rattle.mt_rows.proofs.PlainReached.{levels_from}
-use Rattle.mt_rows.proofs.Reached.{IsOneOf, OnLevel, on_level_law, one_place}
+use Rattle.mt_rows.proofs.Reached.{IsOneOf, OnLevel, on_level_law, one_place, levels_at}
 use Rattle.mt_gap.specs.Mended.{AreRight}
-use Rattle.mt_gap.proofs.Mending.{levels_at, levels_below}
+use Rattle.mt_gap.proofs.Mending.{levels_below}
 
 -- ---- what stands in a slot
 

@@ -21,7 +21,7 @@ use Rattle.mt_rows.specs.declared.rows.Life.{Life}
 use Rattle.mt_rows.specs.declared.rows.Life.TheVariants.{Live, New}
 use Rattle.trials_rows.proofs.PlainExamples.{column_in}
 use Rattle.mt_gap.specs.Mending.{HasGapsBeside, IsKept, MayMendGaps}
-use Rattle.mt_gap.proofs.Mending.{covers_it}
+use Rattle.mt_rows.proofs.RowGaps.{covers_it}
 use Rattle.mt_gap.proofs.MendGaps.{kept_if_live}
 
 abbrev top : ℕ
