@@ -59,6 +59,27 @@ grows rows free free' taken held held' height opened ended frees few low counted
 abbrev pub replaced : Sheet → Rooted → List Life → List Bool → Option ℕ → Call → Reply → Sheet
 replaced s t lives buried reads call reply = record s { tree = t; published = true; lives = lives; buried = buried; told = with_record s.told call reply; reads = reads }
 
+-- what such a call is
+pub stored_as : (kind : Kind) (s : Sheet) (t : Rooted) (lives : List Life) (buried : List Bool) (reads : Option ℕ) (book book' : Book) (call : Call) (reply : Reply) → s.in_flight ≡ true → IsIdle kind (finished (replaced s t lives buried reads call reply) call reply) book'
+    → t.rows ≡ s.tree.rows → acted kind (map_by s.tree) call ≡ (map_by t, reply) → TookRows kind s book.free book' call → IsStored kind s (replaced s t lives buried reads call reply) book book' call reply
+stored_as kind s t lives buried reads book book' call reply flies idle rows acts took = record {
+  may = record { in_flight = flies; kept = λ before. absurd (cc) };
+  ended = record {
+    idle = idle;
+    ended = refl;
+    record_told = refl;
+    cleared = omega arith;
+    scans = inl refl;
+    rows = rows;
+    opened = refl;
+    shared = refl;
+    known = refl;
+  };
+  acts = acts;
+  unscanned = record { scans = refl; scan = refl; at_begin = refl };
+  took = took;
+}
+
 module _ (kind : Kind) (s s₁ : Sheet) (book book' : Book) (call : Call) (reply : Reply) (place : Place) {first last : ℕ} (state : IsEngineState kind s book) (spliced : IsSpliced kind s s₁ book book' (s.ended + 1) call reply place first last) where
   abbrev lives : List Life
   lives = s₁.lives
@@ -141,23 +162,9 @@ module _ (kind : Kind) (s s₁ : Sheet) (book book' : Book) (call : Call) (reply
 
     -- what such a store is, when it took rows so
     stored_after : s.in_flight ≡ true → map_by t ≡ map_by s₁.tree → (acted kind (map_by s.tree) call).1 ≡ reply → TookRows kind s book.free book' call → IsStored kind s after book book' call reply
-    stored_after flies map replies took = record {
-      may = record { in_flight = flies; kept = λ before. absurd (cc) };
-      ended = record {
-        idle = idle_after;
-        ended = refl;
-        record_told = refl;
-        cleared = omega arith;
-        scans = inl refl;
-        rows = rows ∙ spliced.rows;
-        opened = refl;
-        shared = refl;
-        known = refl;
-      };
-      acts = acts_by (acted kind (map_by s.tree) call) (map_by t) reply (map ∙ spliced.map) replies;
-      unscanned = record { scans = refl; scan = refl; at_begin = refl };
-      took = took;
-    }
+    stored_after flies map replies took =
+        stored_as kind s t s₁.lives s₁.buried reads book book' call reply flies idle_after (rows ∙ spliced.rows)
+        (acts_by (acted kind (map_by s.tree) call) (map_by t) reply (map ∙ spliced.map) replies) took
 
   pub stored_by : (s' : Sheet) → s' ≡ replaced s s'.tree s₁.lives s₁.buried s'.reads call reply → IsLawfulOf s'.tree kind → s'.tree.rows ≡ s₁.tree.rows → ((row : ℕ) → is_reached s'.tree row ≡ is_reached s₁.tree row) → s.in_flight ≡ true → map_by s'.tree ≡ map_by s₁.tree
       → (acted kind (map_by s.tree) call).1 ≡ reply → TookRows kind s book.free book' call → IsStored kind s s' book book' call reply

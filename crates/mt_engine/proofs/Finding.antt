@@ -10,7 +10,6 @@ use Rattle.mt_base.specs.declared.replies.Reply.{Reply}
 use Rattle.mt_base.specs.declared.replies.Reply.TheVariants as reply
 use Rattle.mt_base.specs.declared.replies.Shortage.{Shortage}
 use Rattle.mt_base.specs.declared.widths.Width.{Width}
-use Rattle.mt_base.specs.declared.widths.Width.TheVariants.{Long}
 use Rattle.mt_base.specs.Call.{acted, found, placed, is_no_area, is_bad_area}
 use Rattle.mt_base.specs.Entry.{reserved}
 use Rattle.mt_base.specs.Holes.{IsRoom}
@@ -36,6 +35,8 @@ use Rattle.mt_engine.proofs.Moments.{tree_if_lawful}
 use Rattle.mt_engine.proofs.Planning.{ComesToNothing}
 use Rattle.mt_engine.proofs.Slots.{tree_map}
 use Rattle.mt_engine.proofs.Wanting.{stays_replaces_none}
+use Rattle.mt_path.proofs.Bounds.{greatest_fits}
+use Rattle.mt_path.proofs.Loads.{rose_up}
 
 -- ---- the conditions
 
@@ -67,9 +68,6 @@ pub allocation_busy : (sought : Sought) (kind : Kind) (m : List Range) (size lo 
 allocation_busy sought kind m size lo hi entry good none = allocation_stays sought kind m size lo hi entry reply.Busy (allocation_acts sought kind m size lo hi entry good ∙ ap (placed m size entry) none)
 
 -- ---- a place that was found
-
-greatest_fits : (width : Width) → greatest width < 2 ^ 64
-greatest_fits Long = omega arith
 
 room_is : (sought : Sought) (kind : Kind) (m : List Range) (size lo hi start : ℕ) → IsMap kind m → 1 ≤ size → start_for sought kind m size lo hi ≡ Some start → IsRoom m size lo hi start
 room_is Lowest kind m size lo hi start map some is = low_is_room kind m size lo hi start map some is
@@ -125,12 +123,6 @@ search_tells Highest kind m size lo hi start good is = (rw good (ap (λ (o : Opt
 
 -- ---- how many words were loaded
 
-rose_more : (n k : ℕ) (a b : Option ℕ) → n ≤ k → RoseUpTo n a b → RoseUpTo k a b
-rose_more n k None None less rose = tt
-rose_more n k None (Some b) less rose = rose
-rose_more n k (Some a) None less rose = rose
-rose_more n k (Some a) (Some b) less rose = omega arith
-
 rose_none : (n : ℕ) (a : Option ℕ) → RoseUpTo n a a
 rose_none n None = tt
 rose_none n (Some a) = omega arith
@@ -142,7 +134,7 @@ pub few_loaded : (s s' : Sheet) → ReadsUpTo (3 * height_in s.tree.table s.tree
 few_loaded s s' reads = twice (3 * height_in s.tree.table s.tree.root * columns s.tree.table.width + 1) reads.reads
   where
     twice : (n : ℕ) → RoseUpTo n s.reads s'.reads → RoseUpTo (2 * n) s.reads s'.reads
-    twice n rose = rose_more n (2 * n) s.reads s'.reads (omega arith) rose
+    twice n rose = rose_up n (2 * n) s.reads s'.reads (omega arith) rose
 
 pub few_searched : (s s' : Sheet) → ReadsUpTo (3 * height_in s.tree.table s.tree.root * columns s.tree.table.width + 1) s s' → ReadsUpTo (most_searched s.tree) s s'
 few_searched s s' reads = record { rest = reads.rest; reads = few_loaded s s' reads }

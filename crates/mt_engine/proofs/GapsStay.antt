@@ -1,5 +1,5 @@
 -- The law of gaps by other words: where each leaf has as long a hole as before, and the rows above are the same.
-use Rattle.std.proofs.Common.{◌≡◌, ℕ, zero, suc, ◌+◌, ◌<◌, ◌≤◌, List, [], ◌∷◌, ◌++◌, length, max, refl, sym, ap, ◌∙◌, subst, arith}
+use Rattle.std.proofs.Common.{◌≡◌, ℕ, zero, suc, ◌+◌, ◌<◌, ◌≤◌, List, [], ◌∷◌, length, max, refl, sym, ap, ◌∙◌, subst, arith}
 use Rattle.std.specs.List.{AllByRecursion}
 use Rattle.mt_base.specs.declared.kinds.Kind.{Kind}
 use Rattle.mt_base.specs.declared.kinds.Kind.TheVariants as trees
@@ -10,18 +10,12 @@ use Rattle.mt_layout.specs.declared.spans.Span.{Span}
 use Rattle.mt_layout.specs.Columns.{gap_column}
 use Rattle.mt_layout.specs.Rows.{row_in}
 use Rattle.mt_layout.specs.Sizes.{slots_of}
-use Rattle.mt_layout.specs.Spans.{hole_length, longest_in}
+use Rattle.mt_layout.specs.Spans.{longest_in}
 use Rattle.mt_rows.specs.Spans.{Table, column, inner_kind, spans_in}
 use Rattle.mt_rows.specs.Levels.{Levels, SameSpans, expand}
 use Rattle.mt_rows.specs.Laws.{Tree, GapLaw, GapLawBy, GapsFrom, longest_below}
 use Rattle.mt_rows.proofs.Joins.{expand_shared, levels_front, levels_back}
-
-pub longest_in-append : (xs ys : List Span) → longest_in (xs ++ ys) ≡ max (longest_in xs) (longest_in ys)
-longest_in-append [] ys = omega arith
-longest_in-append (x ∷ xs) ys = ap (λ (k : ℕ). max (hole_length x) k) (longest_in-append xs ys) ∙ regroup (hole_length x) (longest_in xs) (longest_in ys)
-  where
-    regroup : (a b c : ℕ) → max a (max b c) ≡ max (max a b) c
-    regroup a b c = omega arith
+use Rattle.mt_rows.proofs.Longest.{longest_in-append}
 
 -- a row above the leaves has the same spans, and the same gap words where it has some
 pub record SameRow (kind : Kind) (t t' : Table) (x : Span) : Type 0 where

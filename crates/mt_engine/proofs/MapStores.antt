@@ -1,11 +1,13 @@
 -- What a store makes of the ranges beside it, and of the range that it covers exactly.
-use Rattle.std.proofs.Common.{◌≡◌, ◌≢◌, ℕ, ◌+◌, ◌-◌, ◌<◌, ◌≤◌, ◌==◌, List, [], ◌∷◌, ◌++◌, Some, min, max, map, nat_lt, refl, sym, ap, ◌∙◌, subst, inl, inr, arith}
+use Rattle.std.proofs.Common.{◌≡◌, ◌≢◌, ℕ, ◌+◌, ◌-◌, ◌<◌, ◌≤◌, ◌==◌, List, [], ◌∷◌, ◌++◌, Some, min, map, nat_lt, refl, sym, ap, ◌∙◌, subst, inl, inr, arith}
 use Rattle.std.specs.List.{AllByRecursion}
 use Rattle.std.proofs.lemmas.Bool.{cases_Bool, cond_both, lt-ltb, le-ltb, ltb-true, eqb-true, le-leb}
 use Rattle.mt_base.specs.declared.ranges.Range.{Range}
-use Rattle.mt_base.specs.Map.{IsMapFrom, holds, holding, over, without, parts_below, parts_above, part_stored, cut_below, cut_above}
+use Rattle.mt_base.specs.Map.{IsMapFrom, holds, holding, over, without, parts_below, parts_above, part_stored, cut_below}
 use Rattle.mt_engine.proofs.MapPlaces.{Outside, held_from, holds_is}
-use Rattle.mt_engine.proofs.SpanLists.{starts_above, stops_below}
+use Rattle.mt_engine.proofs.SpanLists.{stops_below}
+use Rattle.mt_list.proofs.StoreAtPlaces.{no_part_below, all_parts_above}
+use Rattle.mt_list.proofs.EraseAtPlace.{without_above}
 
 -- ---- the range that holds an index
 
@@ -21,23 +23,6 @@ held_each P (s ∷ m) index r each held = elim (cases_Bool (holds index s)) [
 
 -- ---- ranges beside a store
 
--- a map that begins where the store does, or above, has no part below it
-none_below : (m : List Range) (low first : ℕ) → first ≤ low → IsMapFrom low m → parts_below m first ≡ []
-none_below [] low first le ordered = refl
-none_below (r ∷ m) low first le ordered =
-    let begins = ordered.0 in let ends = ordered.1 in
-    rw (le-ltb r.first first (omega arith)) (none_below m (r.last + 1) first (omega arith) ordered.3)
-
--- and one that begins above the store's last index stays whole
-all_above : (m : List Range) (low last : ℕ) → last < low → IsMapFrom low m → parts_above m last ≡ m
-all_above [] low last lt ordered = refl
-all_above (r ∷ m) low last lt ordered =
-    let begins = ordered.0 in let ends = ordered.1 in
-    let starts : max r.first (last + 1) ≡ r.first = omega arith in
-    let same : cut_above last r ≡ r = ap (λ (n : ℕ). record { first = n; last = r.last; entry = r.entry }) starts in
-    let behind = all_above m (r.last + 1) last (omega arith) ordered.3 in
-    rw (lt-ltb last r.last (omega arith)) (λ i. same i ∷ behind i)
-
 -- a range below the store stays
 store_behind : (r : Range) (m : List Range) (first last entry : ℕ) → r.first ≤ r.last → r.last < first → first ≤ last → over (r ∷ m) first last entry ≡ r ∷ over m first last entry
 store_behind r m first last entry order below le =
@@ -47,8 +32,8 @@ store_behind r m first last entry order below le =
 
 store_before : (m : List Range) (low first last entry : ℕ) → first ≤ low → last < low → IsMapFrom low m → over m first last entry ≡ part_stored first last entry ++ m
 store_before m low first last entry le lt ordered =
-    let below = none_below m low first le ordered in
-    let above = all_above m low last lt ordered in
+    let below = no_part_below m low first le ordered in
+    let above = all_parts_above m low last lt ordered in
     λ i. below i ++ (part_stored first last entry ++ above i)
 
 -- a store of no entry where nothing is held changes nothing
@@ -64,15 +49,9 @@ store_none_beside (r ∷ m) low first last le ordered each = elim each.0.1 [
 store_exact : (r : Range) (m : List Range) (low entry : ℕ) → IsMapFrom low (r ∷ m) → over (r ∷ m) r.first r.last entry ≡ part_stored r.first r.last entry ++ m
 store_exact r m low entry ordered =
     let ends = ordered.1 in
-    let below = none_below m (r.last + 1) r.first (omega arith) ordered.3 in
-    let above = all_above m (r.last + 1) r.last (omega arith) ordered.3 in
+    let below = no_part_below m (r.last + 1) r.first (omega arith) ordered.3 in
+    let above = all_parts_above m (r.last + 1) r.last (omega arith) ordered.3 in
     rw (le-ltb r.first r.first (omega arith), le-ltb r.last r.last (omega arith)) (λ i. below i ++ (part_stored r.first r.last entry ++ above i))
-
-without_none : (m : List Range) (low index : ℕ) → index < low → IsMapFrom low m → without m index ≡ m
-without_none [] low index lt ordered = refl
-without_none (r ∷ m) low index lt ordered =
-    let begins = ordered.0 in let ends = ordered.1 in
-    rw (starts_above r index (omega arith)) (ap (λ (l : List Range). r ∷ l) (without_none m (r.last + 1) index (omega arith) ordered.3))
 
 -- what is left without a range is what a store of no entry over it leaves
 pub without_is_store : (m : List Range) (low index : ℕ) (r : Range) → IsMapFrom low m → holding m index ≡ Some r → without m index ≡ over m r.first r.last 0
@@ -82,7 +61,7 @@ without_is_store (s ∷ m) low index r ordered held = elim (cases_Bool (holds in
       (let same : s ≡ r = (let at = rw here at held in cc) in
       let is = holds_is s index here in
       let to = is.1 in
-      let whole : without (s ∷ m) index ≡ m = rw here (without_none m (s.last + 1) index (omega arith) ordered.3) in
+      let whole : without (s ∷ m) index ≡ m = rw here (without_above m (s.last + 1) index (omega arith) ordered.3) in
       subst (λ (x : Range). without (s ∷ m) index ≡ over (s ∷ m) x.first x.last 0) same (whole ∙ sym (store_exact s m low 0 ordered)))
   | inr behind ↦
       (let at = rw behind at held in

@@ -55,7 +55,7 @@ module _ (kind : Kind) (s s' : Sheet) (book book' : Book) (call : Call) (reply :
       (λ (done : IsDone kind was s' book book' call reply). inl (done_from done))
       (λ (short : IsShortFor kind was s' book book' call reply × (s'.tree ≡ s.tree)). inr (short_from short.0, short.1)) answer
 
-  ended_from : IsEnded kind was s' book' call reply → IsEnded kind s s' book' call reply
+  pub ended_from : IsEnded kind was s' book' call reply → IsEnded kind s s' book' call reply
   ended_from is = record {
     idle = is.idle;
     ended = is.ended;

@@ -52,9 +52,11 @@ use Rattle.mt_splice.specs.Splice.{IsStoreBy}
 use Rattle.mt_engine.specs.Heights.{SameHeight}
 use Rattle.mt_engine.specs.Engine.{IsInCall, IsIdle}
 use Rattle.mt_engine.specs.Stores.{IsStored}
-use Rattle.mt_engine.proofs.GapsStay.{SameGaps, longest_in-append, gaps_stay, no_gaps_in_leaves}
+use Rattle.mt_engine.proofs.GapsStay.{SameGaps, gaps_stay, no_gaps_in_leaves}
 use Rattle.mt_engine.proofs.Slots.{end_is, slot_holds}
+use Rattle.mt_engine.proofs.AfterSplice.{stored_as}
 use Rattle.mt_rows.proofs.FewSpans.{row_most}
+use Rattle.mt_rows.proofs.Longest.{longest_in-append}
 
 -- ---- the parent words beside a slot of a leaf
 
@@ -286,23 +288,9 @@ module _ (kind : Kind) (s : Sheet) (book : Book) (after : Rooted) (lives : List 
       }
 
   pub is_stored : IsStored kind s later book book call reply
-  is_stored = record {
-    may = record { in_flight = in_call.in_flight; kept = λ not. absurd (cc) };
-    ended = record {
-      idle = rested;
-      ended = refl;
-      record_told = refl;
-      cleared = omega arith;
-      scans = inl refl;
-      rows = rows;
-      opened = refl;
-      shared = refl;
-      known = refl;
-    };
-    acts = acts;
-    unscanned = record { scans = refl; scan = refl; at_begin = refl };
-    took = record { taken = []; free_were = sym (append-nil book.free); few = omega arith; none = λ _. refl };
-  }
+  is_stored =
+      stored_as kind s after lives buried s.reads book book call reply in_call.in_flight rested rows acts
+      (record { taken = []; free_were = sym (append-nil book.free); few = omega arith; none = λ _. refl })
 
 -- ---- by a handle
 

@@ -12,6 +12,7 @@ use Rattle.mt_engine.specs.Engine.{IsDone, IsShortFor, IsEnded, DidOrLacked, IsA
 use Rattle.mt_engine.specs.Heights.{HasHeight, IsMeasured}
 use Rattle.mt_engine.specs.Prepared.{IsPrestored}
 use Rattle.mt_engine.specs.Stores.{IsStored}
+use Rattle.mt_engine.proofs.Moments.{ended_from}
 
 -- ---- read at the end
 
@@ -109,17 +110,7 @@ module _ (kind : Kind) (s s' : Sheet) (reads : Option ℕ) (book book' : Book) (
   stored_was : IsStored kind was s' book book' call reply → IsStored kind s s' book book' call reply
   stored_was is = record {
     may = is.may;
-    ended = (let ended = is.ended in record {
-      idle = ended.idle;
-      ended = ended.ended;
-      record_told = ended.record_told;
-      cleared = ended.cleared;
-      scans = ended.scans;
-      rows = ended.rows;
-      opened = ended.opened;
-      shared = ended.shared;
-      known = ended.known;
-    });
+    ended = ended_from kind s (finished s' call reply) book book' call reply s.in_flight s.published s.scans_at_begin reads is.ended;
     acts = is.acts;
     unscanned = record { scans = is.unscanned.scans; scan = is.unscanned.scan; at_begin = is.unscanned.at_begin };
     took = record { taken = is.took.taken; free_were = is.took.free_were; few = is.took.few; none = is.took.none };
@@ -133,17 +124,7 @@ stored_after_reads kind s s₁ s' book book' call reply reads is = stored_was ki
 module _ (kind : Kind) (s s' : Sheet) (book book' : Book) (call : Call) (reply : Reply) where
   prestored_from : IsStored kind (begun s) s' book book' call reply → (is_refusal reply ≡ true → s'.tree ≡ s.tree) → IsPrestored kind s (finished s' call reply) book book' call reply
   prestored_from is kept = record {
-    ended = (let ended = is.ended in record {
-      idle = ended.idle;
-      ended = ended.ended;
-      record_told = ended.record_told;
-      cleared = ended.cleared;
-      scans = ended.scans;
-      rows = ended.rows;
-      opened = ended.opened;
-      shared = ended.shared;
-      known = ended.known;
-    });
+    ended = ended_from kind s (finished s' call reply) book book' call reply (begun s).in_flight (begun s).published (begun s).scans_at_begin s.reads is.ended;
     acts = is.acts;
     kept = kept;
     scans = is.unscanned.scans;

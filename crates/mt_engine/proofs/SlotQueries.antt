@@ -20,14 +20,9 @@ use Rattle.mt_engine.specs.Nearest.{nearest_from, nearest_up_to}
 use Rattle.mt_engine.specs.RangeWalks.{range_at}
 use Rattle.mt_engine.proofs.MapQueries as queries
 use Rattle.mt_engine.proofs.Slots.{tree_map, tree_within, slot_tells}
+use Rattle.mt_rows.proofs.Loads.{reads_on, same_tree}
 
 -- ---- what a call that only reads leaves
-
-pub tree_same : (s s' : Sheet) → OnlyReads s s' → s'.tree ≡ s.tree
-tree_same s s' reads = ap (λ (x : Sheet). x.tree) reads
-
-pub reads_on : (a b c : Sheet) → OnlyReads a b → OnlyReads b c → OnlyReads a c
-reads_on a b c before behind = behind ∙ ap (λ (x : Sheet). record x { reads = c.reads }) before
 
 -- it is the handle of this index
 pub record IsHandleAt (t : Rooted) (index : ℕ) (h : Handle) : Type 0 where
@@ -36,7 +31,7 @@ pub record IsHandleAt (t : Rooted) (index : ℕ) (h : Handle) : Type 0 where
   pub is : h ≡ handle_in t index
 
 pub handle_kept : (s s' : Sheet) (index : ℕ) (h : Handle) → OnlyReads s s' → IsHandleAt s.tree index h → IsHandleOf s'.tree h
-handle_kept s s' index h reads at = subst (λ (t : Rooted). IsHandleOf t h) (sym (tree_same s s' reads)) (record { some = at.some; index = index; within = at.within; is = at.is })
+handle_kept s s' index h reads at = subst (λ (t : Rooted). IsHandleOf t h) (sym (same_tree s s' reads)) (record { some = at.some; index = index; within = at.within; is = at.is })
 
 -- there is something, so what nothing is equivalent to does not hold
 pub not_none : {A : Type 0} (a : A) (P : Type 0) → IsNone (Some a) ↔ P → P → ⊥
@@ -142,7 +137,7 @@ abbrev pub IsNearest : (List Range → ℕ → Option Range) → Rooted → Hand
 IsNearest f t h found = (i : ℕ) → i ≤ greatest t.table.width → h ≡ handle_in t i → found ≡ f (map_by t) i
 
 nearest_before : (f : List Range → ℕ → Option Range) (s s' : Sheet) (index : ℕ) (h : Handle) (at : IsHandleAt s.tree index h) (found : Option Range) → OnlyReads s s' → IsNearest f s'.tree h found → found ≡ f (map_by s.tree) index
-nearest_before f s s' index h at found reads known = subst (λ (t : Rooted). IsNearest f t h found) (tree_same s s' reads) known index at.within at.is
+nearest_before f s s' index h at found reads known = subst (λ (t : Rooted). IsNearest f t h found) (same_tree s s' reads) known index at.within at.is
 
 module _ (s s₁ : Sheet) (tree : (kind : Kind) × IsTreeOf s.tree kind) (index : ℕ) (h : Handle) (at : IsHandleAt s.tree index h) (reads : OnlyReads s s₁) where
   pub find_found : (max : ℕ) (found : Option Range) → index ≤ max → IsNearest nearest_from s₁.tree h found → up_to max found ≡ answer (map_by s.tree) (Find index max)
@@ -152,10 +147,10 @@ module _ (s s₁ : Sheet) (tree : (kind : Kind) × IsTreeOf s.tree kind) (index 
   rfind_found min found order known = ap (down_to min) (nearest_before nearest_up_to s s₁ index h at found reads known) ∙ rfind_is s.tree tree index h at min order
 
   same_top : greatest s₁.tree.table.width ≡ greatest s.tree.table.width
-  same_top = ap (λ (t : Rooted). greatest t.table.width) (tree_same s s₁ reads)
+  same_top = ap (λ (t : Rooted). greatest t.table.width) (same_tree s s₁ reads)
 
   same_handle : (x : Handle) (i : ℕ) → x ≡ handle_in s₁.tree i → x ≡ handle_in s.tree i
-  same_handle x i is = is ∙ ap (λ (t : Rooted). handle_in t i) (tree_same s s₁ reads)
+  same_handle x i is = is ∙ ap (λ (t : Rooted). handle_in t i) (same_tree s s₁ reads)
 
   pub next_none : (max : ℕ) → h.span.last ≡ greatest s₁.tree.table.width → None ≡ answer (map_by s.tree) (Next index max)
   next_none max end = next_ends s.tree tree index h at max (end ∙ same_top)

@@ -23,8 +23,9 @@ use Rattle.mt_engine.specs.MapSpans.{range_of}
 use Rattle.mt_engine.specs.Nearest.{nearest_from}
 use Rattle.mt_engine.specs.RangeWalks.{found_from, index_behind, range_at, StepsWithin, WalksFrom}
 use Rattle.mt_engine.proofs.LeafEnds.{hole_ends}
-use Rattle.mt_engine.proofs.SlotQueries.{IsNearest, tree_same, reads_on, first_none}
+use Rattle.mt_engine.proofs.SlotQueries.{IsNearest, first_none}
 use Rattle.mt_engine.proofs.Slots.{none_at_root, tree_map, tree_within}
+use Rattle.mt_rows.proofs.Loads.{reads_on, same_tree}
 
 -- ---- the ranges of a map from an index on
 
@@ -211,7 +212,7 @@ module _ (s s₁ s₂ : Sheet) (kind : Kind) (tree : IsTreeOf s.tree kind) (walk
   none_at_end hole end =
       let top = hole_ends s.tree kind here tree is hole end in
       first_none s.tree (kind, tree) is.index here (record { some = is.some; within = is.within; is = is.is }) hole top
-      ∙ sym (subst (λ (t : Rooted). IsNearest nearest_from t here (range_at found)) (tree_same s s₁ reads) range is.index is.within is.is)
+      ∙ sym (subst (λ (t : Rooted). IsNearest nearest_from t here (range_at found)) (same_tree s s₁ reads) range is.index is.within is.is)
 
   second : (o : Option Handle) → found ≡ o → IfSome o (λ _. ReadsUpTo 2 s₁ s₂)
   second None same = tt
@@ -256,7 +257,7 @@ module _ (s s' : Sheet) (kind : Kind) (tree : IsTreeOf s.tree kind) (walk : Rang
   here = s.tree
 
   same : s'.tree ≡ s.tree
-  same = tree_same s s' listed.rest
+  same = same_tree s s' listed.rest
 
   found_here : (o : Option Range) → o ≡ found_from (map_by s'.tree) (greatest s'.tree.table.width) walk.next → o ≡ found_from (map_by here) (greatest here.table.width) walk.next
   found_here o found = found ∙ ap (λ (t : Rooted). found_from (map_by t) (greatest t.table.width) walk.next) same

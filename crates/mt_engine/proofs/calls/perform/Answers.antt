@@ -15,8 +15,8 @@ use Rattle.mt_engine.proofs.Leaving.{leaves}
 use Rattle.mt_engine.proofs.Measured.{empty_height}
 use Rattle.mt_engine.proofs.Moments.{in_call_if_read, answered_after_reads, tree_if_lawful}
 use Rattle.mt_engine.proofs.ReadAfter.{answered_before_reads, refusal_stays}
-use Rattle.mt_engine.proofs.SlotQueries.{tree_same}
 use Rattle.mt_engine.proofs.calls.perform.Goals as goal
+use Rattle.mt_rows.proofs.Loads.{same_tree}
 
 pub plan_of-requires-clause-tree : goal.plan_of-requires-clause-tree
 plan_of-requires-clause-tree g c = c.requires.in_call.state.kept.lawful
@@ -33,7 +33,7 @@ store-requires-clause-in_call g c = in_call_if_read c.args.kind (g.R.Rows.sheet 
 pub store-requires-clause-plan : goal.store-requires-clause-plan
 store-requires-clause-plan g c =
     let s = g.R.Rows.sheet c.args.rows.now in
-    subst (λ (t : Rooted). IsStorePlan c.args.kind t c.args.call.now c.plan_of.new.path.items c.in-Store.first c.in-Store.last c.in-Store.entry c.in-Store.reply c.in-Store.here) (sym (tree_same s (g.R.Rows.sheet c.plan_of.new.rows) c.plan_of.ensures.rest))
+    subst (λ (t : Rooted). IsStorePlan c.args.kind t c.args.call.now c.plan_of.new.path.items c.in-Store.first c.in-Store.last c.in-Store.entry c.in-Store.reply c.in-Store.here) (sym (same_tree s (g.R.Rows.sheet c.plan_of.new.rows) c.plan_of.ensures.rest))
     (subst (IsPlan c.args.kind s.tree c.args.call.now c.plan_of.new.path.items) c.in-Store.is c.plan_of.ensures.plan)
 
 pub returns-in-Nothing : goal.returns-in-Nothing
@@ -41,13 +41,13 @@ returns-in-Nothing g c =
     let s = g.R.Rows.sheet c.args.rows.now in
     let s₁ = g.R.Rows.sheet c.plan_of.new.rows in
     let plan = subst (IsPlan c.args.kind s.tree c.args.call.now c.plan_of.new.path.items) c.in-Nothing.is c.plan_of.ensures.plan in
-    let plan₁ = subst (λ (t : Rooted). IsPlan c.args.kind t c.args.call.now c.plan_of.new.path.items (Nothing c.in-Nothing.reply)) (sym (tree_same s s₁ c.plan_of.ensures.rest)) plan in
+    let plan₁ = subst (λ (t : Rooted). IsPlan c.args.kind t c.args.call.now c.plan_of.new.path.items (Nothing c.in-Nothing.reply)) (sym (same_tree s s₁ c.plan_of.ensures.rest)) plan in
     record {
-      height = subst (λ (t : Rooted). HasHeight t c.args.height.now) (sym (tree_same s s₁ c.plan_of.ensures.rest)) c.requires.height;
+      height = subst (λ (t : Rooted). HasHeight t c.args.height.now) (sym (same_tree s s₁ c.plan_of.ensures.rest)) c.requires.height;
       answered =
           answered_after_reads c.args.kind s s₁ s₁ c.args.book.now c.args.book.now c.args.call.now c.in-Nothing.reply c.plan_of.ensures.rest
           (leaves c.args.kind s₁ c.args.book.now c.args.call.now c.in-Nothing.reply (in_call_if_read c.args.kind s s₁ c.args.book.now c.plan_of.ensures.rest c.requires.in_call) plan₁.0 plan₁.1);
-      search = λ only. record { tree = tree_same s s₁ c.plan_of.ensures.rest; same_book = refl; reads = (subst (IsSearched s s₁ c.args.call.now) c.in-Nothing.is c.plan_of.ensures.search) only };
+      search = λ only. record { tree = same_tree s s₁ c.plan_of.ensures.rest; same_book = refl; reads = (subst (IsSearched s s₁ c.args.call.now) c.in-Nothing.is c.plan_of.ensures.search) only };
     }
 
 pub returns-in-Empty : goal.returns-in-Empty
@@ -67,7 +67,7 @@ returns-in-Ok g c =
     record {
       height =
           c.height_after.ensures.height
-          ∙ sym (ap (λ (t : Rooted). height_in t.table t.root) (tree_same (g.R.Rows.sheet c.store.new.rows) (g.R.Rows.sheet c.height_after.new.rows) c.height_after.ensures.rest));
+          ∙ sym (ap (λ (t : Rooted). height_in t.table t.root) (same_tree (g.R.Rows.sheet c.store.new.rows) (g.R.Rows.sheet c.height_after.new.rows) c.height_after.ensures.rest));
       answered =
           answered_after_reads c.args.kind s (g.R.Rows.sheet c.plan_of.new.rows) (g.R.Rows.sheet c.height_after.new.rows) c.args.book.now c.store.new.book c.args.call.now c.in-Store.reply c.plan_of.ensures.rest
           (answered_before_reads c.args.kind (g.R.Rows.sheet c.plan_of.new.rows) (g.R.Rows.sheet c.store.new.rows) (g.R.Rows.sheet c.height_after.new.rows) c.args.book.now c.store.new.book c.args.call.now c.in-Store.reply c.height_after.ensures.rest c.in-Ok.ensures.done);
@@ -81,7 +81,7 @@ returns-in-Err g c =
     record {
       height =
           subst (λ (t : Rooted). HasHeight t c.args.height.now)
-          (sym (refusal_stays c.args.kind (g.R.Rows.sheet c.plan_of.new.rows) (g.R.Rows.sheet c.store.new.rows) c.args.book.now c.store.new.book c.args.call.now (NoNodes c.in-Err.shortage) refl c.in-Err.ensures.short.answer ∙ tree_same s (g.R.Rows.sheet c.plan_of.new.rows) c.plan_of.ensures.rest)) c.requires.height;
+          (sym (refusal_stays c.args.kind (g.R.Rows.sheet c.plan_of.new.rows) (g.R.Rows.sheet c.store.new.rows) c.args.book.now c.store.new.book c.args.call.now (NoNodes c.in-Err.shortage) refl c.in-Err.ensures.short.answer ∙ same_tree s (g.R.Rows.sheet c.plan_of.new.rows) c.plan_of.ensures.rest)) c.requires.height;
       answered = answered_after_reads c.args.kind s (g.R.Rows.sheet c.plan_of.new.rows) (g.R.Rows.sheet c.store.new.rows) c.args.book.now c.store.new.book c.args.call.now (NoNodes c.in-Err.shortage) c.plan_of.ensures.rest c.in-Err.ensures.short;
       search = λ only. absurd (store_is_no_search (map_by s.tree) c.args.call.now c.in-Store.first c.in-Store.last c.in-Store.entry (NoNodes c.in-Err.shortage) plan.own (shortage_is_not_busy c.in-Err.shortage) only);
     }
@@ -95,5 +95,5 @@ pub height_after-requires-clause-stays : goal.height_after-requires-clause-stays
 height_after-requires-clause-stays g c =
     λ old.
     c.requires.height
-    ∙ (sym (ap (λ (t : Rooted). height_in t.table t.root) (tree_same (g.R.Rows.sheet c.args.rows.now) (g.R.Rows.sheet c.plan_of.new.rows) c.plan_of.ensures.rest))
+    ∙ (sym (ap (λ (t : Rooted). height_in t.table t.root) (same_tree (g.R.Rows.sheet c.args.rows.now) (g.R.Rows.sheet c.plan_of.new.rows) c.plan_of.ensures.rest))
     ∙ sym (c.in-Ok.ensures.height old))

@@ -4,9 +4,10 @@ use Rattle.mt_rows.specs.Sheet.{Rooted}
 use Rattle.mt_path.specs.Handles.{IsHandleOf}
 use Rattle.mt_engine.specs.RangeWalks.{range_at}
 use Rattle.mt_engine.specs.Nearest.{nearest_from}
-use Rattle.mt_engine.proofs.SlotQueries.{IsNearest, tree_same}
+use Rattle.mt_engine.proofs.SlotQueries.{IsNearest}
 use Rattle.mt_engine.proofs.Walking.{none_found, here_is, nearest_found, steps_within}
 use Rattle.mt_engine.proofs.range_walk.slot_found.Goals as goal
+use Rattle.mt_rows.proofs.Loads.{same_tree}
 
 pub returns-in_err-here-clause-range : goal.returns-in_err-here-clause-range
 returns-in_err-here-clause-range g c =
@@ -14,15 +15,15 @@ returns-in_err-here-clause-range g c =
 
 pub slot_from-requires-clause-here : goal.slot_from-requires-clause-here
 slot_from-requires-clause-here g c =
-    subst (λ (t : Rooted). IsHandleOf t c.in_ok-here.here) (sym (tree_same (g.R.Rows.sheet c.args.rows.now) (g.R.Rows.sheet c.slot_next.new.rows) c.in_ok-here.ensures.rest)) (here_is _ c.requires.tree.0 c.requires.tree.1 c.args.walk.now c.requires.walk c.in_ok-here.here c.in_ok-here.ensures.here)
+    subst (λ (t : Rooted). IsHandleOf t c.in_ok-here.here) (sym (same_tree (g.R.Rows.sheet c.args.rows.now) (g.R.Rows.sheet c.slot_next.new.rows) c.in_ok-here.ensures.rest)) (here_is _ c.requires.tree.0 c.requires.tree.1 c.args.walk.now c.requires.walk c.in_ok-here.here c.in_ok-here.ensures.here)
 
 pub returns-clause-handle : goal.returns-clause-handle
-returns-clause-handle g c = subst (λ (t : Rooted). IfSome c.slot_from.result (IsHandleOf t)) (tree_same (g.R.Rows.sheet c.args.rows.now) (g.R.Rows.sheet c.slot_next.new.rows) c.in_ok-here.ensures.rest) c.slot_from.ensures.handle
+returns-clause-handle g c = subst (λ (t : Rooted). IfSome c.slot_from.result (IsHandleOf t)) (same_tree (g.R.Rows.sheet c.args.rows.now) (g.R.Rows.sheet c.slot_next.new.rows) c.in_ok-here.ensures.rest) c.slot_from.ensures.handle
 
 pub returns-clause-range : goal.returns-clause-range
 returns-clause-range g c =
     nearest_found _ c.requires.tree.0 c.requires.tree.1 c.args.walk.now c.requires.walk c.in_ok-here.here (range_at c.slot_from.result) c.in_ok-here.ensures.here
-    (subst (λ (t : Rooted). IsNearest nearest_from t c.in_ok-here.here (range_at c.slot_from.result)) (tree_same (g.R.Rows.sheet c.args.rows.now) (g.R.Rows.sheet c.slot_next.new.rows) c.in_ok-here.ensures.rest) c.slot_from.ensures.range)
+    (subst (λ (t : Rooted). IsNearest nearest_from t c.in_ok-here.here (range_at c.slot_from.result)) (same_tree (g.R.Rows.sheet c.args.rows.now) (g.R.Rows.sheet c.slot_next.new.rows) c.in_ok-here.ensures.rest) c.slot_from.ensures.range)
 
 pub returns-clause-near : goal.returns-clause-near
 returns-clause-near g c =
