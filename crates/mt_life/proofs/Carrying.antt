@@ -17,6 +17,7 @@ use Rattle.mt_rows.specs.Sheet.{Rooted, Sheet, life_of, is_buried}
 use Rattle.mt_rows.specs.Publish.{tree_as, is_reached, IsReached, with_published, with_record, MayPublish, Published, StandsAt}
 use Rattle.mt_rows.proofs.Lists.{all_map}
 use Rattle.mt_rows.proofs.Reached.{stands_at, reached_times, reached_on_level}
+use Rattle.mt_rows.proofs.Published.{published_width}
 use Rattle.mt_life.specs.declared.views.Extent.{Extent}
 use Rattle.mt_life.specs.declared.views.Moment.{Moment}
 use Rattle.mt_life.specs.Moments.{moment_of, PartOf}
@@ -24,7 +25,7 @@ use Rattle.mt_life.specs.Known.{State, state_of, extent_at, spans_at, Later, IsL
 use Rattle.mt_life.proofs.Alike.{two_slots, same_spans_at, shape_moves}
 use Rattle.mt_life.proofs.Fitting.{placed}
 use Rattle.mt_life.proofs.Reaching.{PlaceOf, place_of, extent_reached, root_reached, map_here, shape_reached, leaf_reached, inner_reached}
-use Rattle.mt_life.proofs.Staying.{true_false, IsAt, same_width, others_stay, parents_stay, none_reached, place_stays}
+use Rattle.mt_life.proofs.Staying.{true_false, IsAt, others_stay, parents_stay, none_reached, place_stays}
 use Rattle.mt_life.proofs.Turning.{later_cases, any, had_row, has_still, reached_lives, live_reached, dead_before, dead_stays, later_stays}
 
 module _ (kind : Kind) (s s' : Sheet) (place : Place) (word : ℕ) (call : Call) (reply : Reply) (may : MayPublish kind s place word call reply) (done : Published s s' place word call reply)
@@ -164,11 +165,11 @@ module _ (kind : Kind) (s s' : Sheet) (place : Place) (word : ℕ) (call : Call)
       (λ (old : life_of s.lives row ≡ Dead dead.0). subst (Later 0) (sym old) (omega arith))
       (λ (dies : Died row dead.0). subst (Later 0) (sym dies.0) tt) was.1 in
       subst (Shape kind t'.table row) (sym (follows.others row was.0))
-      (shape_moves kind s.tree.table t'.table row (before row) (same_width s.tree place word) (spans_stay row (before row) was.0) (known.shape row has later_before)))
+      (shape_moves kind s.tree.table t'.table row (before row) (published_width s.tree place word) (spans_stay row (before row) was.0) (known.shape row has later_before)))
       (later_cases 0 (life_of s'.lives row) later)
 
   wide_after : t'.table.width ≡ kind_width kind
-  wide_after = same_width s.tree place word ∙ may.tree.width
+  wide_after = published_width s.tree place word ∙ may.tree.width
 
   after_known : Known kind u after m'
   after_known = record {

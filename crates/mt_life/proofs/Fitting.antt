@@ -1,32 +1,22 @@
 -- What is known of rows tells where each row that is reached stands.
-use Rattle.std.proofs.Common.{◌≡◌, ◌≢◌, ℕ, zero, suc, ◌≤◌, List, [], ◌∷◌, length, length-append, refl, sym, ap, ◌∙◌, subst, arith, Some}
+use Rattle.std.proofs.Common.{◌≡◌, ◌≢◌, ℕ, zero, suc, ◌≤◌, List, [], ◌∷◌, length, length-append, refl, sym, ap, ◌∙◌, subst, arith}
 use Rattle.std.specs.List.{AllByRecursion}
 use Rattle.mt_base.specs.declared.kinds.Kind.{Kind}
-use Rattle.mt_base.specs.declared.kinds.Kind.TheVariants as trees
-use Rattle.mt_layout.specs.declared.names.RowKind.TheVariants as kinds
 use Rattle.mt_layout.specs.Rows.{row_in}
 use Rattle.mt_layout.specs.declared.spans.Span.{Span}
-use Rattle.mt_rows.specs.Spans.{Table, inner_kind, spans_in}
+use Rattle.mt_rows.specs.Spans.{spans_in}
 use Rattle.mt_rows.specs.Levels.{expand, level, Levels}
 use Rattle.mt_rows.specs.Laws.{Tree, IsRow, Stands}
 use Rattle.mt_rows.specs.Publish.{tree_as}
 use Rattle.mt_rows.specs.Replacement.{root_of}
-use Rattle.mt_rows.proofs.Lists.{all_join}
+use Rattle.mt_rows.proofs.Lists.{all_expand}
 use Rattle.mt_rows.proofs.Heights.{level_rows}
 use Rattle.mt_rows.proofs.Depth.{some_least}
-use Rattle.mt_rows.proofs.Reached.{all_one_of, OnLevel}
+use Rattle.mt_rows.proofs.Reached.{all_one_of, OnLevel, inner_no_leaf}
 use Rattle.mt_life.specs.declared.views.Extent.{Extent}
 use Rattle.mt_life.specs.declared.views.Moment.{Moment}
 use Rattle.mt_life.specs.Known.{State, spans_at, IsLive, Child, Known}
 use Rattle.mt_life.proofs.Alike.{spans_named}
-
-inner_no_leaf : (kind : Kind) → Some (inner_kind kind) ≢ Some kinds.Leaf
-inner_no_leaf trees.Range = λ e. cc
-inner_no_leaf trees.Alloc = λ e. cc
-
-all_expand : (P : Span → Type 0) (t : Table) (xs : List Span) → AllByRecursion (λ (x : Span). AllByRecursion P (spans_in t x)) xs → AllByRecursion P (expand t xs)
-all_expand P t [] each = tt
-all_expand P t (x ∷ xs) each = all_join P (spans_in t x) (expand t xs) each.0 (all_expand P t xs each.1)
 
 module _ (kind : Kind) (s : State) (e : ℕ → Extent) (m : ℕ → Moment) (known : Known kind s e m) where
   abbrev T : Tree

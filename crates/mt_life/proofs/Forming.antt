@@ -22,12 +22,13 @@ use Rattle.mt_rows.specs.Publish.{tree_as, with_published, with_record, MayPubli
 use Rattle.mt_rows.specs.Replacement.{root_of}
 use Rattle.mt_rows.proofs.PlainNames.{slot_read}
 use Rattle.mt_rows.proofs.Reached.{OnLevel, stands_at, on_level, on_level_law, one_place}
+use Rattle.mt_rows.proofs.Published.{published_rows, published_width}
 use Rattle.mt_life.specs.declared.views.Extent.{Extent}
 use Rattle.mt_life.specs.declared.views.Moment.{Moment}
 use Rattle.mt_life.specs.Moments.{moment_of}
 use Rattle.mt_life.specs.Known.{State, state_of, Later, HasRow, Known, Follows, SameForm, Goes}
 use Rattle.mt_life.proofs.Alike.{two_slots}
-use Rattle.mt_life.proofs.Staying.{same_width, same_rows, true_false, IsAt, at_or_not, others_stay, other_column, place_stays, on}
+use Rattle.mt_life.proofs.Staying.{true_false, IsAt, at_or_not, others_stay, other_column, place_stays, on}
 use Rattle.mt_life.proofs.Turning.{later_cases, any, dead_stays, later_stays}
 use Rattle.mt_life.proofs.Carrying.{place_before, place_after, extent_stays}
 
@@ -132,8 +133,8 @@ module _ (kind : Kind) (s s' : Sheet) (place : Place) (word : ℕ) (call : Call)
 
   goes_on : Goes kind (state_of s) u before after m m'
   goes_on = record {
-    rows = same_rows s.tree place word;
-    width = same_width s.tree place word;
+    rows = published_rows s.tree place word;
+    width = published_width s.tree place word;
     cleared = omega arith;
     count = rw may.before (omega arith, omega arith);
     past = λ k le. past k (let l : k ≤ s.ended + one_if false = subst (λ (b : Bool). k ≤ s.ended + one_if b) may.before le in omega arith);

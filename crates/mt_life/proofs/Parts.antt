@@ -15,12 +15,8 @@ use Rattle.mt_rows.proofs.Lists.{all_map, all_front, all_back, all_join, fills_l
 use Rattle.mt_rows.proofs.Between.{fills_split, Between, leaf_between, map_between}
 use Rattle.mt_rows.proofs.Heights.{level_next, map_of_split, levels_upper, level_rows, level_fills}
 use Rattle.mt_rows.proofs.Depth.{ranges_by_depth}
-use Rattle.mt_rows.proofs.Reached.{IsOneOf, parts_of_one, one_of_expand, OnLevel, words, height_is}
+use Rattle.mt_rows.proofs.Reached.{IsOneOf, parts_of_one, one_of_expand, OnLevel, words, height_is, all_of_each}
 use Rattle.mt_life.specs.Moments.{Cut, PartOf, moment_of, first_of}
-
-pub all_of_each : {A : Type 0} (P : A → Type 0) (xs : List A) → ((x : A) → IsOneOf x xs → P x) → AllByRecursion P xs
-all_of_each P [] f = tt
-all_of_each P (x ∷ xs) f = (f x (inl refl), all_of_each P xs (λ y one. f y (inr one)))
 
 all_mapped : {A B : Type 0} (P : B → Type 0) (f : A → B) (xs : List A) → AllByRecursion (λ (x : A). P (f x)) xs → AllByRecursion P (map f xs)
 all_mapped P f [] each = tt

@@ -1,13 +1,8 @@
 -- Before the first call all is known of the rows of lawful words.
 use Rattle.std.proofs.Common.{◌≡◌, ◌≢◌, ℕ, zero, suc, ◌+◌, ◌<◌, ◌≤◌, List, [], ◌∷◌, length, false, sym, ap, ◌∙◌, subst, inl, inr, ⊎_elim, arith}
 use Rattle.mt_base.specs.declared.kinds.Kind.{Kind}
-use Rattle.mt_base.specs.declared.widths.Width.{Width}
-use Rattle.mt_base.specs.declared.widths.Width.TheVariants.{Long}
 use Rattle.mt_base.specs.Map.{IsMap}
-use Rattle.mt_layout.specs.declared.names.RowKind.{RowKind}
-use Rattle.mt_layout.specs.declared.names.RowKind.TheVariants as kinds
 use Rattle.mt_layout.specs.Rows.{row_in, dead_mark, parent_at}
-use Rattle.mt_layout.specs.Sizes.{slots_of}
 use Rattle.mt_layout.specs.declared.spans.Span.{Span}
 use Rattle.mt_rows.specs.declared.rows.Life.TheVariants.{Live, Dead}
 use Rattle.mt_rows.specs.Spans.{Table, column, spans_in}
@@ -16,7 +11,7 @@ use Rattle.mt_rows.specs.Laws.{Tree, IsTree, IsLawful, Stands, IsTended, Parents
 use Rattle.mt_rows.specs.Sheet.{Rooted, life_of, is_buried}
 use Rattle.mt_rows.specs.Publish.{tree_as, is_reached, IsReached, IsLawfulOf, LiveAreReached, NoneBuried}
 use Rattle.mt_rows.specs.Replacement.{root_of}
-use Rattle.mt_rows.proofs.FewSpans.{row_most}
+use Rattle.mt_rows.proofs.FewSpans.{row_most, few_slots}
 use Rattle.mt_rows.proofs.Heights.{level_next, level_rows}
 use Rattle.mt_rows.proofs.Reached.{IsOneOf, all_one_of, expand_one_of, OnLevel, on_level_law, reached_times, reached_on_level, one_place}
 use Rattle.mt_life.specs.declared.views.Extent.{Extent}
@@ -33,11 +28,6 @@ parents_at : (t : Table) (row slot : ℕ) (xs : List Span) (x : Span) → Parent
 parents_at t row slot [] x parents one = absurd one
 parents_at t row slot (y ∷ xs) x parents (inl same) = (slot, omega arith, omega arith, ap (λ (z : Span). column t (row_in z.word) 0) same ∙ parents.0)
 parents_at t row slot (y ∷ xs) x parents (inr one) = let behind = parents_at t row (slot + 1) xs x parents.1 one in let low = behind.1 in let high = behind.2 in (behind.0, omega arith, omega arith, behind.3)
-
-few_slots : (width : Width) (kind : RowKind) → slots_of width kind < 256
-few_slots Long kinds.Leaf = omega arith
-few_slots Long kinds.Inner = omega arith
-few_slots Long kinds.Gapped = omega arith
 
 module _ (t : Tree) (h : ℕ) (stands : Stands t h) (root : column t.table (row_in t.root) 0 ≡ 1) (tended : Levels (IsTended t) t.table h (root_of t)) where
   unmarked_at : (d k : ℕ) (x : Span) → h ≡ d + k → IsOneOf x (level t.table d (root_of t)) → column t.table (row_in x.word) 0 ≢ dead_mark (row_in x.word)

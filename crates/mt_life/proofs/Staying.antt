@@ -19,6 +19,7 @@ use Rattle.mt_rows.specs.Publish.{tree_as, is_reached, IsReached, IsPlaceToPubli
 use Rattle.mt_rows.specs.Replacement.{root_of}
 use Rattle.mt_rows.proofs.Frames.{same_spans}
 use Rattle.mt_rows.proofs.Reached.{OnLevel, below_on_level, below_low, one_place, on_level_reached, times_reached}
+use Rattle.mt_rows.proofs.RowLaws.{other_place}
 
 pub true_false : (b : Bool) → b ≡ true → b ≡ false → ⊥
 true_false b t f = let e : true ≡ false = sym t ∙ f in cc
@@ -31,17 +32,6 @@ IsAt (Slot r col) row = row ≡ r
 pub at_or_not : (place : Place) (row : ℕ) → IsAt place row ⊎ (IsAt place row → ⊥)
 at_or_not Root row = inr (λ no. no)
 at_or_not (Slot r col) row = cases_eq row r
-
-pub same_width : (t : Rooted) (place : Place) (word : ℕ) → (with_published t place word).table.width ≡ t.table.width
-same_width t Root word = refl
-same_width t (Slot r col) word = refl
-
-pub same_rows : (t : Rooted) (place : Place) (word : ℕ) → (with_published t place word).rows ≡ t.rows
-same_rows t Root word = refl
-same_rows t (Slot r col) word = refl
-
-pub other_place : (width : Width) (row other c col : ℕ) → other ≢ row → c < columns width → col < columns width → columns width * other + c ≢ columns width * row + col
-other_place Long row other c col apart inside at = λ e. apart (omega arith)
 
 pub other_column : (width : Width) (row other c col : ℕ) → c ≢ col → c < columns width → col < columns width → columns width * other + c ≢ columns width * row + col
 other_column Long row other c col apart inside at = λ e. apart (omega arith)

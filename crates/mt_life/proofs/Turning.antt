@@ -10,7 +10,8 @@ use Rattle.mt_rows.specs.declared.rows.Life.TheVariants.{New, Draft, Live, Dead}
 use Rattle.mt_rows.specs.Sheet.{Rooted, Sheet, life_of, is_buried}
 use Rattle.mt_rows.specs.Publish.{LiveAreReached, is_reached, with_published, MayPublish, Published}
 use Rattle.mt_life.specs.Known.{Later, HasRow}
-use Rattle.mt_life.proofs.Staying.{true_false, same_rows}
+use Rattle.mt_life.proofs.Staying.{true_false}
+use Rattle.mt_rows.proofs.Published.{published_rows}
 
 pub later_cases : (d : ℕ) (l : Life) → Later d l → (l ≡ Live) ⊎ ((e : ℕ) × (l ≡ Dead e) × (d ≤ e))
 later_cases d New h = absurd h
@@ -103,10 +104,10 @@ module _ (kind : Kind) (s s' : Sheet) (place : Place) (word : ℕ) (call : Call)
 
   -- a row of the table after the store was one before it
   pub had_row : (row : ℕ) → HasRow t'.rows row → Has row
-  had_row row has = (has.0, (let same = same_rows s.tree place word in let low = has.1 in omega arith))
+  had_row row has = (has.0, (let same = published_rows s.tree place word in let low = has.1 in omega arith))
 
   pub has_still : (row : ℕ) → Has row → HasRow t'.rows row
-  has_still row has = (has.0, (let same = same_rows s.tree place word in let low = has.1 in omega arith))
+  has_still row has = (has.0, (let same = published_rows s.tree place word in let low = has.1 in omega arith))
 
   live_are_reached : LiveAreReached t' s'.lives
   live_are_reached row low high = let has = had_row row (low, high) in ((λ live. live_reached row has live), (λ is. reached_lives row has is))

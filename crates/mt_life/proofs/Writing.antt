@@ -26,13 +26,14 @@ use Rattle.mt_rows.specs.Sheet.{Rooted, Sheet, IsPlace, IsFree, MayBury, MayTend
 use Rattle.mt_rows.proofs.Depth.{by_leaf, by_inner}
 use Rattle.mt_rows.proofs.Lists.{all_map}
 use Rattle.mt_rows.proofs.Reached.{one_of_get, all_one_of}
+use Rattle.mt_rows.proofs.RowLaws.{other_place}
 use Rattle.mt_life.specs.declared.views.Extent.{Extent}
 use Rattle.mt_life.specs.declared.views.Moment.{Moment}
 use Rattle.mt_life.specs.Moments.{PartOf}
 use Rattle.mt_life.specs.Known.{State, state_of, IsFull, spans_at, Later, IsLive, HasRow, HasPart, calls, Child, Known, Goes}
 use Rattle.mt_life.proofs.Alike.{SameSlots, two_slots, spans_named, same_spans_at, shape_moves}
 use Rattle.mt_life.proofs.Fitting.{children_known}
-use Rattle.mt_life.proofs.Staying.{true_false, other_place, other_column}
+use Rattle.mt_life.proofs.Staying.{true_false, other_column}
 use Rattle.mt_life.proofs.Turning.{later_cases, any}
 
 -- ---- what a store leaves that is not a publishing one
