@@ -25,13 +25,15 @@ set_dead (l ∷ lives) zero (suc r) call is = is
 set_dead (l ∷ lives) (suc row) zero call is = is
 set_dead (l ∷ lives) (suc row) (suc r) call is = set_dead lives row r call is
 
-pub worked_draft : (row col word : ℕ) (p p' : PenPart) (scan : Scan) (scans scans_at_begin : ℕ) → p' ≡ pen_drafted row col word p → IsWorked p scan scans scans_at_begin → IsWorked p' scan scans scans_at_begin
-worked_draft row col word p p' scan scans scans_at_begin step w = subst (λ (x : PenPart). IsWorked x scan scans scans_at_begin) (sym step) (record {
+-- words and lives have changed, and no row is dead that was not
+worked_words : (p : PenPart) (words : List ℕ) (lives : List Life) (scan : Scan) (scans scans_at_begin : ℕ) → length words ≡ length p.words → length lives ≡ length p.lives
+    → ((r call : ℕ) → life_of lives r ≡ Dead call → life_of p.lives r ≡ Dead call) → IsWorked p scan scans scans_at_begin → IsWorked (record p { words = words; lives = lives }) scan scans scans_at_begin
+worked_words p words lives scan scans scans_at_begin many_words many_lives were_dead w = record {
   rows = w.rows;
-  words = length-set p.words _ word ∙ w.words;
-  lives = length-set p.lives row Draft ∙ w.lives;
+  words = many_words ∙ w.words;
+  lives = many_lives ∙ w.lives;
   buried = w.buried;
-  dead = λ r call is. w.dead r call (set_dead p.lives row r call is);
+  dead = λ r call is. w.dead r call (were_dead r call is);
   some_pass = w.some_pass;
   passes = w.passes;
   cleared = w.cleared;
@@ -41,25 +43,15 @@ worked_draft row col word p p' scan scans scans_at_begin step w = subst (λ (x :
   risen = w.risen;
   least = w.least;
   holder = w.holder;
-})
+}
+
+pub worked_draft : (row col word : ℕ) (p p' : PenPart) (scan : Scan) (scans scans_at_begin : ℕ) → p' ≡ pen_drafted row col word p → IsWorked p scan scans scans_at_begin → IsWorked p' scan scans scans_at_begin
+worked_draft row col word p p' scan scans scans_at_begin step w = subst (λ (x : PenPart). IsWorked x scan scans scans_at_begin) (sym step)
+    (worked_words p _ (slice_set p.lives row Draft) scan scans scans_at_begin (length-set p.words _ word) (length-set p.lives row Draft) (set_dead p.lives row) w)
 
 pub worked_tend : (row col word : ℕ) (p p' : PenPart) (scan : Scan) (scans scans_at_begin : ℕ) → p' ≡ pen_tended row col word p → IsWorked p scan scans scans_at_begin → IsWorked p' scan scans scans_at_begin
-worked_tend row col word p p' scan scans scans_at_begin step w = subst (λ (x : PenPart). IsWorked x scan scans scans_at_begin) (sym step) (record {
-  rows = w.rows;
-  words = length-set p.words _ word ∙ w.words;
-  lives = w.lives;
-  buried = w.buried;
-  dead = w.dead;
-  some_pass = w.some_pass;
-  passes = w.passes;
-  cleared = w.cleared;
-  count = w.count;
-  calm = w.calm;
-  opens = w.opens;
-  risen = w.risen;
-  least = w.least;
-  holder = w.holder;
-})
+worked_tend row col word p p' scan scans scans_at_begin step w = subst (λ (x : PenPart). IsWorked x scan scans scans_at_begin) (sym step)
+    (worked_words p _ p.lives scan scans scans_at_begin (length-set p.words _ word) refl (λ r call is. is) w)
 
 -- ---- a scan
 
