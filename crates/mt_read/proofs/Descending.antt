@@ -7,12 +7,10 @@ use Rattle.std.proofs.lemmas.Option.{slice_get_within}
 use Rattle.mt_base.specs.declared.kinds.Kind.{Kind}
 use Rattle.mt_base.specs.declared.kinds.Kind.TheVariants as trees
 use Rattle.mt_base.specs.declared.widths.Width.{Width}
-use Rattle.mt_base.specs.declared.widths.Width.TheVariants.{Long}
 use Rattle.mt_base.specs.Width.{greatest_of, kind_width}
 use Rattle.mt_base.proofs.Lists.{get_parts}
 use Rattle.mt_base.proofs.Goings.{begins_on}
-use Rattle.mt_layout.specs.declared.names.RowKind.{RowKind}
-use Rattle.mt_layout.specs.declared.names.RowKind.TheVariants.{Leaf, Inner, Gapped}
+use Rattle.mt_layout.specs.declared.names.RowKind.TheVariants.{Leaf}
 use Rattle.mt_layout.specs.declared.spans.Span.{Span}
 use Rattle.mt_layout.specs.Columns.{slot_column}
 use Rattle.mt_layout.specs.Rows.{named_kind, row_in}
@@ -32,6 +30,7 @@ use Rattle.mt_read.specs.Walks.{GoesOn, IsOn, IsPlaceIn, IsUnder, SeesMore}
 use Rattle.mt_life.proofs.Slots.{span_in_slot}
 use Rattle.mt_life.specs.Holding.{copy_of}
 use Rattle.mt_read.proofs.Finding.{count_is, slots_counted}
+use Rattle.mt_rows.proofs.FewSpans.{few_slots}
 
 -- ---- leaves and inner rows
 
@@ -62,11 +61,6 @@ slot_is q row place shape n w on is same wide count = (
   column_of_slot q row place shape n w on same wide count,
   slice_get_within (spans_here q (here q)) place.slot _ is.stands,
 )
-
-pub few_slots : (w : Width) (kind : RowKind) → slots_of w kind ≤ 16
-few_slots Long Leaf = omega arith
-few_slots Long Inner = omega arith
-few_slots Long Gapped = omega arith
 
 -- and it is a column's number
 pub slot_fits : (q : PassPart) (row : Row) (place : Place) (shape : Shape) (n : ℕ) (w : Width) → IsOn q row → IsPlaceIn q place → q.shape ≡ shape → w ≡ kind_width shape.kind → n ≡ slots_of w row.kind → n + place.slot < 32

@@ -5,10 +5,11 @@ use Rattle.mt_layout.specs.Sizes.{slots_of}
 use Rattle.mt_rule.specs.Sections.{here, kind_of}
 use Rattle.mt_rule.specs.Tokens.{identity_of, part_of}
 use Rattle.mt_read.proofs.Finding.{shape_is, count_is, column_is, slots_are, place_more}
-use Rattle.mt_read.proofs.Descending.{few_slots, greatest_fits, place_within}
+use Rattle.mt_read.proofs.Descending.{greatest_fits, place_within}
 use Rattle.mt_read.proofs.Beside.{used, last_behind, pivot_behind}
 use Rattle.mt_read.proofs.Reading.{leaf_kind}
 use Rattle.mt_read.proofs.reads.next_place.Goals as goal
+use Rattle.mt_rows.proofs.FewSpans.{few_slots}
 
 pub overflow_add-first : goal.overflow_add-first
 overflow_add-first g c =
