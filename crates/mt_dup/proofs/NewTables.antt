@@ -5,19 +5,22 @@ use Rattle.std.specs.List.{Contains}
 use Rattle.std.proofs.lemmas.Bool.{cases_lt}
 use Rattle.mt_base.specs.declared.kinds.Kind.{Kind}
 use Rattle.mt_base.specs.declared.widths.Width.{Width}
-use Rattle.mt_base.specs.Width.{columns, first_row, most_rows}
+use Rattle.mt_base.specs.Width.{columns, first_row, most_rows, deepest}
 use Rattle.mt_free.specs.Book.{Book, rows_down, new_book, held_rows, Held, IsOut}
 use Rattle.mt_rows.specs.declared.rows.Life.TheVariants.{New}
 use Rattle.mt_rows.specs.Spans.{column}
 use Rattle.mt_rows.specs.Plain.{new_sheet}
-use Rattle.mt_rows.specs.Sheet.{Sheet, life_of}
-use Rattle.mt_rows.specs.Publish.{is_reached, IsReached, IsTold, MayPlant}
-use Rattle.mt_dup.specs.Copy.{IsNewBut, IsBookOfCopy}
+use Rattle.mt_rows.specs.Sheet.{Sheet, life_of, IsWhole, OnlyReads, loaded}
+use Rattle.mt_rows.specs.Publish.{is_reached, IsReached, IsTold, MayPlant, IsLawfulOf, map_by}
+use Rattle.mt_rows.specs.Trees.{reached_in}
+use Rattle.mt_dup.specs.Copy.{IsNewBut, IsBookOfCopy, IsCopy}
 use Rattle.mt_dup.specs.Filling.{rows_above, next_row, IsFilling, HasTaken, IsOpen, IsOutside, IsWritten}
+use Rattle.mt_dup.specs.Walks.{LeavesCopy, names_from}
 use Rattle.mt_dup.proofs.Filling.{length-rows_above, filling_is_book}
 use Rattle.mt_dup.proofs.Going.{next_after}
-use Rattle.mt_dup.proofs.WholeCopies.{copied_to, Facts}
+use Rattle.mt_dup.proofs.WholeCopies.{copied_to, Facts, all_names, facts_of, names_many, names_same}
 use Rattle.mt_dup.proofs.WrittenRows.{written_rows, written_width}
+use Rattle.mt_rows.proofs.Loads.{one_read}
 
 -- ---- new
 
@@ -153,3 +156,39 @@ module _ (kind : Kind) (s d₀ d : Sheet) (b₀ b : Book) (n root count : ℕ) (
 
   pub book_of_copy : n ≤ most_rows → IsBookOfCopy (copied_to d root) b
   book_of_copy few = record { whole = filling_is_book b (omega (arith, rows_are)) taken.filling; rows = rows_are ∙ sym many; live = λ row. (out_reached row, reached_out row); held = taken.filling.held }
+
+-- ---- what a copy of a whole tree leaves
+
+module _ (s s₁ d₀ d : Sheet) (b₀ b : Book) (word root : ℕ) (whole : IsWhole s) (new_whole : IsWhole d) (loads : s₁ ≡ loaded s) (word_is : word ≡ s.tree.root) (new_rows : d₀ ≡ new_sheet b₀.rows) (new_free : b₀ ≡ new_book b₀.rows)
+    (some : (kind : Kind) × IsLawfulOf s.tree kind) (asked : length (reached_in s.tree.table s.tree.root) ≤ length b₀.free) (wide : d₀.tree.table.width ≡ s.tree.table.width) (copy : LeavesCopy s₁.tree.table d.tree.table (next_row b₀) (record { depth = deepest; word = word; parent = 1 }) root)
+    (took : HasTaken (length (names_from s₁.tree.table.words deepest word)) b₀ b) (wrote : IsWritten (next_row b₀) (next_row b) d₀ d) where
+  reads : OnlyReads s s₁
+  reads = one_read s s₁ loads
+
+  took_all : HasTaken (length (all_names s)) b₀ b
+  took_all = subst (λ (l : List ℕ). HasTaken (length l) b₀ b) (names_same s s₁ word reads word_is) took
+
+  room : length (all_names s) ≤ d.tree.rows
+  room =
+      let rows : d.tree.rows ≡ b₀.rows = written_rows (next_row b₀) (next_row b) d₀ d wrote ∙ ap (λ (x : Sheet). x.tree.rows) new_rows in
+      let many = names_many some.0 s whole some.1 in
+      let free = ap (λ (x : Book). length x.free) new_free in
+      omega (arith, asked, rows, many, free, new_long b₀.rows)
+
+  facts : (kind : Kind) → IsLawfulOf s.tree kind → Facts kind s d root (length (all_names s))
+  facts kind lawful = facts_of s s₁ word reads word_is kind d (next_row b₀) root whole new_whole lawful (written_width (next_row b₀) (next_row b) d₀ d wrote ∙ wide) room (ap next_row new_free ∙ new_next b₀.rows) copy
+
+  pub is_copy : IsCopy s.tree (copied_to d root)
+  is_copy = (facts some.0 some.1).copy
+
+  pub same_map : map_by (copied_to d root) ≡ map_by s.tree
+  same_map = (facts some.0 some.1).same_map
+
+  pub may_be_planted : (kind : Kind) → IsLawfulOf s.tree kind → MayPlant kind d root
+  may_be_planted kind lawful = may_plant kind s d₀ d b₀ b b₀.rows root (length (all_names s)) new_rows new_free (facts kind lawful) took_all wrote
+
+  pub others_new : IsNewBut (copied_to d root) b₀.rows d
+  others_new = is_new_but some.0 s d₀ d b₀ b b₀.rows root (length (all_names s)) new_rows new_free (facts some.0 some.1) took_all wrote
+
+  pub has_book : b₀.rows ≤ most_rows → IsBookOfCopy (copied_to d root) b
+  has_book few = book_of_copy some.0 s d₀ d b₀ b b₀.rows root (length (all_names s)) new_rows new_free (facts some.0 some.1) took_all wrote few
