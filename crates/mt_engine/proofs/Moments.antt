@@ -4,9 +4,10 @@ use Rattle.mt_base.specs.declared.calls.Call.{Call}
 use Rattle.mt_base.specs.declared.kinds.Kind.{Kind}
 use Rattle.mt_base.specs.declared.replies.Reply.{Reply}
 use Rattle.mt_base.specs.Nodes.{IsMade}
+use Rattle.mt_base.specs.declared.replies.Shortage.{Shortage}
 use Rattle.mt_free.specs.Book.{Book}
 use Rattle.mt_rows.specs.Laws.{Tree, IsLawful, IsTree}
-use Rattle.mt_rows.specs.Publish.{IsLawfulOf, IsTreeOf, tree_as, map_by, finished}
+use Rattle.mt_rows.specs.Publish.{IsLawfulOf, IsTreeOf, tree_as, map_by, finished, IsCounted}
 use Rattle.mt_rows.specs.Sheet.{Rooted, Sheet, OnlyReads, begun, limits_of}
 use Rattle.mt_engine.specs.Engine.{IsIdle, IsInCall, IsDone, IsShortFor, IsEnded, DidOrLacked, IsApplied, IsAnswered, OnlySearches, OnlySought}
 
@@ -33,11 +34,14 @@ idle_if_read kind s s' book reads idle = subst (λ (x : Sheet). IsIdle kind x bo
 
 -- ---- a call is told from its begin on
 
-module _ (kind : Kind) (s s' : Sheet) (book book' : Book) (call : Call) (reply : Reply) (flies out : Bool) (scans : ℕ) (reads : Option ℕ) where
+module _ (kind : Kind) (s s' : Sheet) (book book' : Book) (call : Call) (reply : Reply) (flies out : Bool) (scans : ℕ) (reads reads' : Option ℕ) where
   abbrev was : Sheet
   was = record s { in_flight = flies; published = out; scans_at_begin = scans; reads = reads }
 
-  done_from : IsDone kind was s' book book' call reply → IsDone kind s s' book book' call reply
+  abbrev later : Sheet
+  later = record s' { reads = reads' }
+
+  done_from : IsDone kind was s' book book' call reply → IsDone kind s later book book' call reply
   done_from done = record {
     acts = done.acts;
     kept = done.kept;
@@ -46,16 +50,19 @@ module _ (kind : Kind) (s s' : Sheet) (book book' : Book) (call : Call) (reply :
     calm = done.calm;
   }
 
-  short_from : IsShortFor kind was s' book book' call reply → IsShortFor kind s s' book book' call reply
-  short_from short = record { refused = short.refused; counted = short.counted; scanned = short.scanned; answer = short.answer; freed = short.freed; tells = short.tells }
+  counted_from : (short : Shortage) → IsCounted s' short → IsCounted later short
+  counted_from short is = record { need = is.need; live = is.live; rows = is.rows; many = is.many; apart = is.apart; held = is.held; by = is.by }
 
-  answer_from : DidOrLacked kind was s' book book' call reply → DidOrLacked kind s s' book book' call reply
+  short_from : IsShortFor kind was s' book book' call reply → IsShortFor kind s later book book' call reply
+  short_from short = record { refused = short.refused; counted = counted_from short.refused.shortage short.counted; scanned = short.scanned; answer = short.answer; freed = short.freed; tells = short.tells }
+
+  pub answer_from : DidOrLacked kind was s' book book' call reply → DidOrLacked kind s later book book' call reply
   answer_from answer =
       ⊎_elim
       (λ (done : IsDone kind was s' book book' call reply). inl (done_from done))
       (λ (short : IsShortFor kind was s' book book' call reply × (s'.tree ≡ s.tree)). inr (short_from short.0, short.1)) answer
 
-  pub ended_from : IsEnded kind was s' book' call reply → IsEnded kind s s' book' call reply
+  pub ended_from : IsEnded kind was s' book' call reply → IsEnded kind s later book' call reply
   ended_from is = record {
     idle = is.idle;
     ended = is.ended;
@@ -73,10 +80,10 @@ pub answered_after_reads : (kind : Kind) (s s₁ s' : Sheet) (book book' : Book)
 answered_after_reads kind s s₁ s' book book' call reply reads answered = record {
   may = answered.may;
   ended =
-      ended_from kind s (finished s' call reply) book book' call reply s.in_flight s.published s.scans_at_begin s₁.reads
+      ended_from kind s (finished s' call reply) book book' call reply s.in_flight s.published s.scans_at_begin s₁.reads s'.reads
       (subst (λ (x : Sheet). IsEnded kind x (finished s' call reply) book' call reply) reads answered.ended);
   answer =
-      answer_from kind s (finished s' call reply) book book' call reply s.in_flight s.published s.scans_at_begin s₁.reads
+      answer_from kind s (finished s' call reply) book book' call reply s.in_flight s.published s.scans_at_begin s₁.reads s'.reads
       (subst (λ (x : Sheet). DidOrLacked kind x (finished s' call reply) book book' call reply) reads answered.answer);
 }
 
@@ -85,10 +92,10 @@ pub applied_by : (kind : Kind) (s s₁ s' s″ : Sheet) (book book' : Book) (cal
 applied_by kind s s₁ s' s″ book book' call reply begins answered search ends =
     subst (λ (x : Sheet). IsApplied kind s x book book' call reply) (sym ends) (record {
       ended =
-          ended_from kind s (finished s' call reply) book book' call reply (begun s).in_flight (begun s).published (begun s).scans_at_begin s.reads
+          ended_from kind s (finished s' call reply) book book' call reply (begun s).in_flight (begun s).published (begun s).scans_at_begin s.reads s'.reads
           (subst (λ (x : Sheet). IsEnded kind x (finished s' call reply) book' call reply) begins answered.ended);
       answer =
-          answer_from kind s (finished s' call reply) book book' call reply (begun s).in_flight (begun s).published (begun s).scans_at_begin s.reads
+          answer_from kind s (finished s' call reply) book book' call reply (begun s).in_flight (begun s).published (begun s).scans_at_begin s.reads s'.reads
           (subst (λ (x : Sheet). DidOrLacked kind x (finished s' call reply) book book' call reply) begins answered.answer);
       search = λ only. (let sought = subst (λ (x : Sheet). OnlySought x s' book book') begins (search only) in record { tree = sought.tree; same_book = sought.same_book; reads = sought.reads });
     })

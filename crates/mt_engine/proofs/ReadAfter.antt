@@ -12,7 +12,7 @@ use Rattle.mt_engine.specs.Engine.{IsDone, IsShortFor, IsEnded, DidOrLacked, IsA
 use Rattle.mt_engine.specs.Heights.{HasHeight, IsMeasured}
 use Rattle.mt_engine.specs.Prepared.{IsPrestored}
 use Rattle.mt_engine.specs.Stores.{IsStored}
-use Rattle.mt_engine.proofs.Moments.{ended_from}
+use Rattle.mt_engine.proofs.Moments.{ended_from, answer_from}
 
 -- ---- read at the end
 
@@ -43,38 +43,10 @@ module _ (kind : Kind) (s s' : Sheet) (reads : Option ℕ) (book book' : Book) (
   }
 
   ended_read : IsEnded kind s (finished s' call reply) book' call reply → IsEnded kind s (finished read call reply) book' call reply
-  ended_read is = record {
-    idle = is.idle;
-    ended = is.ended;
-    record_told = is.record_told;
-    cleared = is.cleared;
-    scans = is.scans;
-    rows = is.rows;
-    opened = is.opened;
-    shared = is.shared;
-    known = is.known;
-  }
-
-  done_read : IsDone kind s (finished s' call reply) book book' call reply → IsDone kind s (finished read call reply) book book' call reply
-  done_read done = record {
-    acts = done.acts;
-    kept = done.kept;
-    room = λ wants. (let had = done.room wants in record { scanned = had.scanned; room = had.room });
-    took = done.took;
-    calm = done.calm;
-  }
-
-  counted_end : (short : Shortage) → IsCounted (finished s' call reply) short → IsCounted (finished read call reply) short
-  counted_end short is = record { need = is.need; live = is.live; rows = is.rows; many = is.many; apart = is.apart; held = is.held; by = is.by }
-
-  lacked_read : IsShortFor kind s (finished s' call reply) book book' call reply → IsShortFor kind s (finished read call reply) book book' call reply
-  lacked_read short = record { refused = short.refused; counted = counted_end short.refused.shortage short.counted; scanned = short.scanned; answer = short.answer; freed = short.freed; tells = short.tells }
+  ended_read = ended_from kind s (finished s' call reply) book book' call reply s.in_flight s.published s.scans_at_begin s.reads reads
 
   answer_read : DidOrLacked kind s (finished s' call reply) book book' call reply → DidOrLacked kind s (finished read call reply) book book' call reply
-  answer_read answer =
-      ⊎_elim
-      (λ (done : IsDone kind s (finished s' call reply) book book' call reply). inl (done_read done))
-      (λ (short : IsShortFor kind s (finished s' call reply) book book' call reply × (s'.tree ≡ s.tree)). inr (lacked_read short.0, short.1)) answer
+  answer_read = answer_from kind s (finished s' call reply) book book' call reply s.in_flight s.published s.scans_at_begin s.reads reads
 
   answered_read : IsAnswered kind s s' book book' call reply → IsAnswered kind s read book book' call reply
   answered_read is = record { may = may_read is.may; ended = ended_read is.ended; answer = answer_read is.answer }
@@ -110,7 +82,7 @@ module _ (kind : Kind) (s s' : Sheet) (reads : Option ℕ) (book book' : Book) (
   stored_was : IsStored kind was s' book book' call reply → IsStored kind s s' book book' call reply
   stored_was is = record {
     may = is.may;
-    ended = ended_from kind s (finished s' call reply) book book' call reply s.in_flight s.published s.scans_at_begin reads is.ended;
+    ended = ended_from kind s (finished s' call reply) book book' call reply s.in_flight s.published s.scans_at_begin reads s'.reads is.ended;
     acts = is.acts;
     unscanned = record { scans = is.unscanned.scans; scan = is.unscanned.scan; at_begin = is.unscanned.at_begin };
     took = record { taken = is.took.taken; free_were = is.took.free_were; few = is.took.few; none = is.took.none };
@@ -124,7 +96,7 @@ stored_after_reads kind s s₁ s' book book' call reply reads is = stored_was ki
 module _ (kind : Kind) (s s' : Sheet) (book book' : Book) (call : Call) (reply : Reply) where
   prestored_from : IsStored kind (begun s) s' book book' call reply → (is_refusal reply ≡ true → s'.tree ≡ s.tree) → IsPrestored kind s (finished s' call reply) book book' call reply
   prestored_from is kept = record {
-    ended = ended_from kind s (finished s' call reply) book book' call reply (begun s).in_flight (begun s).published (begun s).scans_at_begin s.reads is.ended;
+    ended = ended_from kind s (finished s' call reply) book book' call reply (begun s).in_flight (begun s).published (begun s).scans_at_begin s.reads s'.reads is.ended;
     acts = is.acts;
     kept = kept;
     scans = is.unscanned.scans;
