@@ -10,3 +10,4 @@ pub mod SearchesWhole
 pub mod SharedCalls
 pub mod Shortages
 pub mod StoredOrder
+pub mod WidthBounds

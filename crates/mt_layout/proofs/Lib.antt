@@ -1,6 +1,7 @@
 pub mod Gapless
 pub mod NameLaws
 pub mod OwnColumns
+pub mod Places
 pub mod ReadBack
 pub mod Reading
 pub mod RowSizes

@@ -1,18 +1,39 @@
 -- What proofs use of the sizes of rows, so that none of them names a number.
-use Rattle.std.proofs.Common.{◌≡◌, ℕ, ◌+◌, ◌*◌, ◌<◌, ◌≤◌, inl, inr, refl, arith}
+use Rattle.std.proofs.Common.{◌≡◌, ◌≢◌, ℕ, ◌+◌, ◌*◌, ◌<◌, ◌≤◌, Some, inl, inr, refl, ap, arith}
 use Rattle.std.specs.Prelude.{◌⊎◌}
 use Rattle.mt_base.specs.declared.widths.Width.{Width}
 use Rattle.mt_base.specs.declared.widths.Width.TheVariants.{Long}
 use Rattle.mt_base.specs.Width.{columns}
 use Rattle.mt_layout.specs.declared.names.RowKind.{RowKind}
 use Rattle.mt_layout.specs.declared.names.RowKind.TheVariants as kinds
-use Rattle.mt_layout.specs.Columns.{IsLayout, slot_column}
+use Rattle.mt_layout.specs.Columns.{IsLayout, slot_column, gap_column}
 use Rattle.mt_layout.specs.Sizes.{slots_of, gaps_of, least_items, run_room, AreSizes}
 
 pub sizes : (width : Width) (kind : RowKind) → AreSizes width kind
 sizes Long kinds.Leaf = record { least = omega arith; some = omega arith; room = omega arith; columns_fit = omega arith; gaps = inl refl }
 sizes Long kinds.Inner = record { least = omega arith; some = omega arith; room = omega arith; columns_fit = omega arith; gaps = inl refl }
 sizes Long kinds.Gapped = record { least = omega arith; some = omega arith; room = omega arith; columns_fit = omega arith; gaps = inr refl }
+
+pub all_gaps_of : (width : Width) → gaps_of width kinds.Gapped ≡ slots_of width kinds.Gapped
+all_gaps_of Long = refl
+
+pub no_gaps_of : (width : Width) (kind : RowKind) → kind ≢ kinds.Gapped → gaps_of width kind ≡ 0
+no_gaps_of Long kinds.Leaf other = refl
+no_gaps_of Long kinds.Inner other = refl
+no_gaps_of Long kinds.Gapped other = absurd (other refl)
+
+pub few_slots_of : (width : Width) (kind : RowKind) → slots_of width kind ≤ 16
+few_slots_of Long kinds.Leaf = omega arith
+few_slots_of Long kinds.Inner = omega arith
+few_slots_of Long kinds.Gapped = omega arith
+
+pub least_four : (width : Width) (kind : RowKind) → 4 ≤ least_items width kind
+least_four Long kinds.Leaf = omega arith
+least_four Long kinds.Inner = omega arith
+least_four Long kinds.Gapped = omega arith
+
+pub least_six : (width : Width) → 6 ≤ least_items width kinds.Leaf
+least_six Long = omega arith
 
 -- ---- of a width and a kind
 
@@ -34,6 +55,9 @@ slots_of-columns width kind = (sizes width kind).columns_fit
 pub none_or_all : (width : Width) (kind : RowKind) → (gaps_of width kind ≡ 0) ⊎ (gaps_of width kind ≡ slots_of width kind)
 none_or_all width kind = (sizes width kind).gaps
 
+pub some_gaps_of : (width : Width) → gaps_of width kinds.Gapped ≢ 0
+some_gaps_of width = λ none. absurd (omega (arith, all_gaps_of width, some_slots_of width kinds.Gapped))
+
 pub some_columns : (width : Width) → 0 < columns width
 some_columns width = omega (arith, sizes width kinds.Leaf, some_slots_of width kinds.Leaf)
 
@@ -43,6 +67,13 @@ slot_above width kind i = omega (arith, some_slots_of width kind)
 
 pub slot_within : (width : Width) (kind : RowKind) (i : ℕ) → i < slots_of width kind → slot_column (slots_of width kind) i < columns width
 slot_within width kind i used = omega (arith, sizes width kind)
+
+-- and so is a column of a gap, which stands above the pivots and the slots
+pub gap_within : (width : Width) (i : ℕ) → i < slots_of width kinds.Gapped → gap_column (slots_of width kinds.Gapped) i < columns width
+gap_within width i used = omega (arith, sizes width kinds.Gapped, all_gaps_of width)
+
+pub gap_above : (width : Width) (kind : RowKind) (c i : ℕ) → Some kind ≡ Some kinds.Gapped → c < 2 * slots_of width kind → c ≢ gap_column (slots_of width kinds.Gapped) i
+gap_above width kind c i named low = let is : kind ≡ kinds.Gapped = cc in let same = ap (slots_of width) is in λ at. omega arith
 
 -- ---- of a layout
 

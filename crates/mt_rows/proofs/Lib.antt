@@ -8,6 +8,7 @@ pub mod Frames
 pub mod GapStore
 pub mod GapWords
 pub mod Heights
+pub mod InnerKinds
 pub mod Joins
 pub mod Lists
 pub mod Loads

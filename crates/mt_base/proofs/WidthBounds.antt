@@ -1,0 +1,20 @@
+-- How wide rows are, and how large indexes are, as proofs use it: no file but this one names these numbers.
+use Rattle.std.proofs.Common.{◌^◌, ◌<◌, ◌≤◌, arith}
+use Rattle.mt_base.specs.declared.widths.Width.{Width}
+use Rattle.mt_base.specs.declared.widths.Width.TheVariants.{Long}
+use Rattle.mt_base.specs.Width.{columns, greatest, deepest}
+
+-- an index, and one index more, is a number of the machine
+pub greatest_fits : (width : Width) → greatest width < 2 ^ 64
+greatest_fits Long = omega arith
+
+-- a row has words enough for the words that are of no row to stand before the first, and its words are named in a byte
+pub many_columns : (width : Width) → 32 ≤ columns width
+many_columns Long = omega arith
+
+pub few_columns : (width : Width) → columns width ≤ 64
+few_columns Long = omega arith
+
+-- as many rows as the deepest tree could have can be counted
+pub deepest_fits : (width : Width) → columns width ^ deepest < 2 ^ 64
+deepest_fits Long = omega arith
