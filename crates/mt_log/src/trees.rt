@@ -50,7 +50,8 @@ impl Model for Trees {
 }
 
 impl Trees {
-    ghost use Rattle.std.specs.Prelude.{◌≡◌, ◌++◌, ◌∷◌, ◌<◌, ◌^◌, [], None, Ok, IfSome, OnOk, length, slice_get, option_and_then};
+    ghost use Rattle.std.specs.Prelude.{◌≡◌, ◌++◌, ◌∷◌, ◌<◌, ◌^◌, [], false, None, Ok, IfSome, IfNone, OnOk, length, slice_get, option_and_then};
+    ghost use Rattle.std.specs.Str.{bytes_eq};
     ghost use Rattle.mt_log.specs.Reading.{place_of, tree_at, tree_of};
 
     /// No trees.
@@ -75,6 +76,7 @@ impl Trees {
     pub fn first_of_name(&self, name: &[u8]) -> Option<NumberedTree>
         ensures tree { IfSome result (λ tree. tree_of self.now name.now ≡ Ok tree) }
         ensures declared { IfSome result (λ tree. tree.number < length self.now) }
+        ensures other { IfNone result (IfSome (slice_get self.now 0) (λ tree. bytes_eq tree.name name.now ≡ false)) }
     {
         let (first, kind) = self.kinds.get_index(0)?;
         if first.as_bytes() == name {
