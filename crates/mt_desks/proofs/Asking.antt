@@ -45,34 +45,20 @@ same_phase phase Join other = absurd (true≢false other)
 same_phase phase item other = refl
 
 stepped_behind : (stepped : Bool) (item : Item) → is_step item ≡ true → stepped_after stepped item ≡ true
-stepped_behind stepped (Tree name kind) step = absurd (false≢true step)
-stepped_behind stepped (Lane lane) step = absurd (false≢true step)
-stepped_behind stepped Join step = absurd (false≢true step)
-stepped_behind stepped (Dup from name) step = absurd (false≢true step)
-stepped_behind stepped (Check tree) step = absurd (false≢true step)
 stepped_behind stepped (Write tree call) step = refl
 stepped_behind stepped (Ask tree query) step = refl
 stepped_behind stepped (Scan tree index max count) step = refl
+stepped_behind stepped item step = absurd (false≢true step)
 
 stays_stepped : (item : Item) → is_join item ≡ false → stepped_after true item ≡ true
-stays_stepped (Tree name kind) other = refl
-stays_stepped (Lane lane) other = refl
 stays_stepped Join other = absurd (true≢false other)
-stays_stepped (Dup from name) other = refl
-stays_stepped (Check tree) other = refl
-stays_stepped (Write tree call) other = refl
-stays_stepped (Ask tree query) other = refl
-stays_stepped (Scan tree index max count) other = refl
+stays_stepped item other = refl
 
 counted_first : (stepped : Bool) (item : Item) → is_count item ≡ true → IsInPlace stepped item → stepped ≡ false
 counted_first stepped (Tree name kind) count place = place
-counted_first stepped (Lane lane) count place = absurd (false≢true count)
-counted_first stepped Join count place = absurd (false≢true count)
 counted_first stepped (Dup from name) count place = place
 counted_first stepped (Check tree) count place = place
-counted_first stepped (Write tree call) count place = absurd (false≢true count)
-counted_first stepped (Ask tree query) count place = absurd (false≢true count)
-counted_first stepped (Scan tree index max steps) count place = absurd (false≢true count)
+counted_first stepped item count place = absurd (false≢true count)
 
 -- ---- copies and checks come first
 

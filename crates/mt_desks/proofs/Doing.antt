@@ -13,7 +13,7 @@ use Rattle.mt_base.specs.declared.ranges.Range.{Range}
 use Rattle.mt_base.specs.Passes.{Pass, Saw}
 use Rattle.mt_base.proofs.Goings.{begins_long}
 use Rattle.mt_log.specs.declared.lines.Item.{Item}
-use Rattle.mt_log.specs.declared.lines.Item.TheVariants.{Tree, Lane, Join, Dup, Check, Write, Ask, Scan}
+use Rattle.mt_log.specs.declared.lines.Item.TheVariants.{Write, Ask, Scan}
 use Rattle.mt_log.specs.declared.lines.Line.{Line}
 use Rattle.mt_log.specs.declared.transcripts.Entry.{Entry}
 use Rattle.mt_log.specs.Run.{Asked, Step, Outcome, Looked, IsDone, entry_of, place_within, step_of}
@@ -39,11 +39,7 @@ done_there : (a : Asked) (item : Item) (steps : List Step) → is_step item ≡ 
 done_there a (Write tree call) steps step d = done_each (λ (s : Step). s.tree ≡ tree) a (Write tree call) steps (λ on o same. same) d
 done_there a (Ask tree query) steps step d = done_each (λ (s : Step). s.tree ≡ tree) a (Ask tree query) steps (λ on o same. same) d
 done_there a (Scan tree index max count) steps step d = done_each (λ (s : Step). s.tree ≡ tree) a (Scan tree index max count) steps (λ on o same. same) d
-done_there a (Tree name kind) steps step d = absurd (false≢true step)
-done_there a (Lane lane) steps step d = absurd (false≢true step)
-done_there a Join steps step d = absurd (false≢true step)
-done_there a (Dup from name) steps step d = absurd (false≢true step)
-done_there a (Check tree) steps step d = absurd (false≢true step)
+done_there a item steps step d = absurd (false≢true step)
 
 none_elsewhere : (tree lane number : ℕ) (steps : List Step) → tree ≢ number → IsOnTree tree steps → outcomes_of number lane steps ≡ []
 none_elsewhere tree lane number [] apart h = refl
@@ -180,11 +176,7 @@ pub named_below : (count : ℕ) (item : Item) → is_step item ≡ true → Name
 named_below count (Write tree call) step named = named
 named_below count (Ask tree query) step named = named
 named_below count (Scan tree index max steps) step named = named
-named_below count (Tree name kind) step named = absurd (false≢true step)
-named_below count (Lane lane) step named = absurd (false≢true step)
-named_below count Join step named = absurd (false≢true step)
-named_below count (Dup from name) step named = absurd (false≢true step)
-named_below count (Check tree) step named = absurd (false≢true step)
+named_below count item step named = absurd (false≢true step)
 
 pub mapped : {X Y : Type 0} (f : X → Y) (xs : List X) (i : ℕ) (x : X) → slice_get xs i ≡ Some x → slice_get (map f xs) i ≡ Some (f x)
 mapped f xs i x is = slice_get-map f xs i ∙ ap (option_map f) is

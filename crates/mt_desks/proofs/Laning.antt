@@ -5,7 +5,7 @@ use Rattle.std.specs.List.{AllByRecursion}
 use Rattle.std.proofs.lemmas.Bool.{cases_Bool, false≢true}
 use Rattle.mt_base.proofs.Lists.{all_join}
 use Rattle.mt_log.specs.declared.lines.Item.{Item}
-use Rattle.mt_log.specs.declared.lines.Item.TheVariants.{Tree, Lane, Join, Dup, Check, Write, Ask, Scan}
+use Rattle.mt_log.specs.declared.lines.Item.TheVariants.{Dup, Check, Write, Ask, Scan}
 use Rattle.mt_log.specs.declared.lines.Line.{Line}
 use Rattle.mt_log.specs.Phases.{phase_after}
 use Rattle.mt_log.specs.Run.{Asked, asked_from, is_answered, lane_after, lane_of}
@@ -39,14 +39,12 @@ lanes_rest here line lines = elim (cases_Bool (is_step line.item)) [
 ]
 
 lane_below : (here bound : ℕ) (item : Item) → 1 ≤ bound → (is_step item ≡ true → here < bound) → is_answered item ≡ true → lane_of here item < bound
-lane_below here bound (Tree name kind) some step answered = absurd (false≢true answered)
-lane_below here bound (Lane lane) some step answered = absurd (false≢true answered)
-lane_below here bound Join some step answered = absurd (false≢true answered)
 lane_below here bound (Dup from name) some step answered = some
 lane_below here bound (Check tree) some step answered = some
 lane_below here bound (Write tree call) some step answered = step refl
 lane_below here bound (Ask tree query) some step answered = step refl
 lane_below here bound (Scan tree index max count) some step answered = step refl
+lane_below here bound item some step answered = absurd (false≢true answered)
 
 asked_below : (bound here phase : ℕ) (lines : List Line) → lanes_in here lines ≤ bound → AllByRecursion (λ (a : Asked). a.lane < bound) (asked_from here phase lines)
 asked_below bound here phase [] within = tt

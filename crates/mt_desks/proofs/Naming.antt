@@ -5,7 +5,7 @@ use Rattle.std.specs.Option.{option_to_list}
 use Rattle.std.proofs.lemmas.List.Elements.{All-from_recursion}
 use Rattle.mt_base.proofs.Lists.{all_join}
 use Rattle.mt_log.specs.declared.lines.Item.{Item}
-use Rattle.mt_log.specs.declared.lines.Item.TheVariants.{Tree, Lane, Join, Dup, Check, Write, Ask, Scan}
+use Rattle.mt_log.specs.declared.lines.Item.TheVariants.{Tree, Lane, Join}
 use Rattle.mt_log.specs.declared.lines.Line.{Line}
 use Rattle.mt_log.specs.Phases.{AreInPlaceFrom, phase_after, stepped_after, stepped_from}
 use Rattle.mt_log.specs.Run.{Asked}
@@ -19,11 +19,7 @@ named_on : (m n : ℕ) (item : Item) → m ≤ n → NamesBelow m item → Names
 named_on m n (Tree name kind) more named = tt
 named_on m n (Lane lane) more named = named
 named_on m n Join more named = tt
-named_on m n (Dup from name) more named = omega (arith, more, named)
-named_on m n (Check tree) more named = omega (arith, more, named)
-named_on m n (Write tree call) more named = omega (arith, more, named)
-named_on m n (Ask tree query) more named = omega (arith, more, named)
-named_on m n (Scan tree index max steps) more named = omega (arith, more, named)
+named_on m n item more named = omega (arith, more, named)
 
 trees_grow : (trees : List Declared) (phase : ℕ) (lines : List Line) → length trees ≤ length (trees_from trees phase lines)
 trees_grow trees phase [] = omega arith

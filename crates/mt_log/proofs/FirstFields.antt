@@ -1,9 +1,9 @@
-use Rattle.std.proofs.Common.{◌≡◌, ℕ, List, [], ◌∷◌, ◌++◌, length, sym, Result, Ok, Err, take, refl}
+use Rattle.std.proofs.Common.{◌≡◌, ℕ, List, ◌∷◌, ◌++◌, length, sym, Result, Ok, Err, take, refl}
 use Rattle.std.proofs.lemmas.List.{take_at}
 use Rattle.mt_log.specs.declared.faults.Why.{Why}
 use Rattle.mt_log.specs.declared.faults.Why.TheVariants as why
 use Rattle.mt_log.specs.declared.keywords.Keyword.{Keyword}
-use Rattle.mt_log.specs.declared.keywords.Keyword.TheVariants.{Tree, Dup, Check, Lane, Join, Store, StorePre, Insert, Erase, Alloc, Ralloc, Gap, Rgap, Clear, Load, Find, Next, Prev, Rfind, Scan}
+use Rattle.mt_log.specs.declared.keywords.Keyword.TheVariants.{Tree}
 use Rattle.mt_log.specs.Fault.{◌>>=◌}
 use Rattle.mt_log.specs.Reading.{Read, item_of, item_by, keyword_of, tree_item, dup_item, check_item, lane_item, join_item, range_item, area_item, area_entry_item, index_item, bound_item, scan_item, whole_item}
 
@@ -11,25 +11,7 @@ use Rattle.mt_log.specs.Reading.{Read, item_of, item_by, keyword_of, tree_item, 
 too_many : (k : Keyword) (r : Read) (a b c d e f : List ℕ) (more : List (List ℕ)) → item_by k r (a ∷ b ∷ c ∷ d ∷ e ∷ f ∷ more) ≡ Err why.Fields
 unfolding item_by tree_item dup_item check_item lane_item join_item range_item area_item area_entry_item index_item bound_item scan_item whole_item
 too_many Tree r a b c d e f more = refl
-too_many Dup r a b c d e f more = refl
-too_many Check r a b c d e f more = refl
-too_many Lane r a b c d e f more = refl
-too_many Join r a b c d e f more = refl
-too_many Store r a b c d e f more = refl
-too_many StorePre r a b c d e f more = refl
-too_many Insert r a b c d e f more = refl
-too_many Erase r a b c d e f more = refl
-too_many Alloc r a b c d e f more = refl
-too_many Ralloc r a b c d e f more = refl
-too_many Gap r a b c d e f more = refl
-too_many Rgap r a b c d e f more = refl
-too_many Clear r a b c d e f more = refl
-too_many Load r a b c d e f more = refl
-too_many Find r a b c d e f more = refl
-too_many Next r a b c d e f more = refl
-too_many Prev r a b c d e f more = refl
-too_many Rfind r a b c d e f more = refl
-too_many Scan r a b c d e f more = refl
+too_many k r a b c d e f more = refl
 
 either_way : (word : Result Keyword Why) (r : Read) (a b c d e f : List ℕ) (more others : List (List ℕ)) → (word >>= λ k. item_by k r (a ∷ b ∷ c ∷ d ∷ e ∷ f ∷ more)) ≡ (word >>= λ k. item_by k r (a ∷ b ∷ c ∷ d ∷ e ∷ f ∷ others))
 either_way (Ok k) r a b c d e f more others = rw (too_many k r a b c d e f more, too_many k r a b c d e f others) refl
@@ -39,13 +21,7 @@ either_way (Err e') r a b c d e f more others = refl
 pub first_fields : (r : Read) (fields : List (List ℕ)) → item_of r (take 8 fields) ≡ item_of r fields
 unfolding item_of
 first_fields r (w ∷ a ∷ b ∷ c ∷ d ∷ e ∷ f ∷ more) = either_way (keyword_of w) r a b c d e f (take 1 more) more
-first_fields r (w ∷ a ∷ b ∷ c ∷ d ∷ e ∷ []) = refl
-first_fields r (w ∷ a ∷ b ∷ c ∷ d ∷ []) = refl
-first_fields r (w ∷ a ∷ b ∷ c ∷ []) = refl
-first_fields r (w ∷ a ∷ b ∷ []) = refl
-first_fields r (w ∷ a ∷ []) = refl
-first_fields r (w ∷ []) = refl
-first_fields r [] = refl
+first_fields r fields = refl
 
 -- where the first fields are as many as are wanted, nothing else of the others matters
 pub first_of : {A : Type 0} (n : ℕ) (xs others all : List A) → xs ++ others ≡ all → length xs ≡ n → xs ≡ take n all

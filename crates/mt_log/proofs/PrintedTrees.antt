@@ -13,7 +13,7 @@ use Rattle.mt_log.specs.Name.{is_name}
 use Rattle.mt_log.specs.Reading.{Read, place_of}
 use Rattle.mt_log.specs.Trees.{known_after, renamed}
 use Rattle.mt_log.specs.declared.lines.Item.{Item}
-use Rattle.mt_log.specs.declared.lines.Item.TheVariants.{Tree, Lane, Join, Dup, Check, Write, Ask, Scan}
+use Rattle.mt_log.specs.declared.lines.Item.TheVariants.{Tree, Dup}
 use Rattle.mt_log.specs.declared.trees.KnownTree.{KnownTree}
 use Rattle.mt_log.proofs.Following.{AreNamed, CanFollow}
 use Rattle.mt_log.proofs.Parts.{place_is}
@@ -77,15 +77,10 @@ none_named trees named = rw (append-nil trees) named
 -- a line that can follow leaves it so
 pub named_after : (r : Read) (item : Item) → AreNamed r.trees → CanFollow r item → AreNamed (known_after r.trees item)
 named_after r (Tree name kind) named h = push_named r.trees (record { name = name; kind = kind }) named h.says h.follows.trees.1
-named_after r (Lane lane) named h = none_named r.trees named
-named_after r Join named h = none_named r.trees named
 named_after r (Dup from name) named h =
     let source = some_tree r.trees from h.follows.named in
     rw source.1.found (push_named r.trees (renamed name source.0) named h.says h.follows.trees.1)
-named_after r (Check tree) named h = none_named r.trees named
-named_after r (Write tree call) named h = none_named r.trees named
-named_after r (Ask tree query) named h = none_named r.trees named
-named_after r (Scan tree index max count) named h = none_named r.trees named
+named_after r item named h = none_named r.trees named
 
 -- the printer knows the names that the reader knows
 no_names : (trees : List KnownTree) → names_of trees ≡ names_of (trees ++ [])
@@ -93,12 +88,7 @@ no_names trees = ap names_of (sym (append-nil trees))
 
 pub names_kept : (r : Read) (item : Item) → CanFollow r item → names_after (names_of r.trees) item ≡ names_of (known_after r.trees item)
 names_kept r (Tree name kind) h = sym (names_push r.trees (record { name = name; kind = kind }))
-names_kept r (Lane lane) h = no_names r.trees
-names_kept r Join h = no_names r.trees
 names_kept r (Dup from name) h =
     let source = some_tree r.trees from h.follows.named in
     rw source.1.found (sym (names_push r.trees (renamed name source.0)))
-names_kept r (Check tree) h = no_names r.trees
-names_kept r (Write tree call) h = no_names r.trees
-names_kept r (Ask tree query) h = no_names r.trees
-names_kept r (Scan tree index max count) h = no_names r.trees
+names_kept r item h = no_names r.trees

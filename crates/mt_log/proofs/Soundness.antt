@@ -4,7 +4,7 @@ use Rattle.std.specs.Option.{option_map, option_to_list}
 use Rattle.std.proofs.lemmas.List.{append-nil, map-append, length-map}
 use Rattle.std.proofs.lemmas.Option.{slice_get_cases}
 use Rattle.mt_log.specs.declared.lines.Item.{Item}
-use Rattle.mt_log.specs.declared.lines.Item.TheVariants.{Tree, Lane, Join, Dup, Check, Write, Ask, Scan}
+use Rattle.mt_log.specs.declared.lines.Item.TheVariants.{Tree, Dup}
 use Rattle.mt_log.specs.declared.lines.Line.{Line}
 use Rattle.mt_log.specs.declared.trees.KnownTree.{KnownTree}
 use Rattle.mt_log.specs.Phases.{AreInPlaceFrom, IsInPlace, phase_after, stepped_after, stepped_from}
@@ -53,13 +53,8 @@ copied trees from name below =
 
 counted : (trees : List KnownTree) (item : Item) → NamesBelow (length trees) item → length (known_after trees item) ≡ count_after (length trees) item
 counted trees (Tree name kind) h = length-append trees (record { name = name; kind = kind } ∷ [])
-counted trees (Lane lane) h = ap length (append-nil trees)
-counted trees Join h = ap length (append-nil trees)
 counted trees (Dup from name) h = copied trees from name h
-counted trees (Check tree) h = ap length (append-nil trees)
-counted trees (Write tree call) h = ap length (append-nil trees)
-counted trees (Ask tree query) h = ap length (append-nil trees)
-counted trees (Scan tree index max count) h = ap length (append-nil trees)
+counted trees item h = ap length (append-nil trees)
 
 known_long : (trees : List Declared) → length (known_in trees) ≡ length trees
 known_long trees = length-map trees (λ (d : Declared). d.tree)
@@ -105,13 +100,8 @@ least_more least (first ∷ lines) line = least_more (first.number + 1) lines li
 -- and leaves few trees
 few_after : (trees : List KnownTree) (item : Item) → length trees ≤ most_trees → HasTreeRoom trees item → count_after (length trees) item ≤ most_trees
 few_after trees (Tree name kind) few room = omega (arith, room.0)
-few_after trees (Lane lane) few room = few
-few_after trees Join few room = few
 few_after trees (Dup from name) few room = omega (arith, room.0)
-few_after trees (Check tree) few room = few
-few_after trees (Write tree call) few room = few
-few_after trees (Ask tree query) few room = few
-few_after trees (Scan tree index max steps) few room = few
+few_after trees item few room = few
 
 -- ---- a reader's facts
 

@@ -15,7 +15,6 @@ use Rattle.mt_log.specs.declared.lines.Line.{Line}
 use Rattle.mt_log.specs.declared.transcripts.Entry.{Entry}
 use Rattle.mt_log.specs.declared.transcripts.Said.TheVariants as said
 use Rattle.mt_log.specs.declared.trees.KnownTree.{KnownTree}
-use Rattle.mt_log.specs.Phases.{phase_after}
 use Rattle.mt_log.specs.Run.{Asked, Step, Counted, AreDone, entry_of}
 use Rattle.mt_log.specs.Trees.{AreNamedFrom, Declared, Empty, CopyOf, NamesBelow, count_after, declared_by, renamed, trees_of}
 use Rattle.mt_runs.specs.Gone.{IsCounted}
@@ -28,19 +27,10 @@ use Rattle.mt_runs.proofs.Lists.{same_some}
 use Rattle.mt_runs.proofs.Starting.{empty_ran, copy_ran, still}
 use Rattle.mt_runs.proofs.Stretches.{done_append, phase_append, trees_more}
 use Rattle.mt_desks.specs.Dealing.{IsOnePhase, asked_of, counts_in, is_count, is_join}
+use Rattle.mt_desks.proofs.Asking.{same_phase}
 use Rattle.mt_play.specs.Players.{PlayerState, Begins, Checks, Copies, IsBegun, IsBegunBy, IsPlayedBy}
 
 -- ---- lines of one phase
-
-same_phase : (phase : ℕ) (item : Item) → is_join item ≡ false → phase_after phase item ≡ phase
-same_phase phase (Tree name kind) one = refl
-same_phase phase (Lane lane) one = refl
-same_phase phase Join one = absurd (cc)
-same_phase phase (Dup from name) one = refl
-same_phase phase (Check tree) one = refl
-same_phase phase (Write tree call) one = refl
-same_phase phase (Ask tree query) one = refl
-same_phase phase (Scan tree index max count) one = refl
 
 phase_stays : (phase : ℕ) (lines : List Line) → AllByRecursion (λ (line : Line). is_join line.item ≡ false) lines → phase_behind phase lines ≡ phase
 phase_stays phase [] one = refl

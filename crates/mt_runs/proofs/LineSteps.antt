@@ -55,14 +55,10 @@ steps_placed passes phase asked steps placed done =
     All-from_recursion P steps (all_done P (λ (a : Asked). (a.phase ≡ phase) × (a.lane < passes)) (λ a tree o q on. q) asked steps placed done)
 
 below_count : (count : ℕ) (item : Item) (tree : ℕ) → NamesBelow count item → IsOn item tree → tree < count
-below_count count (Dup from name) tree below on = rw on below
-below_count count (Check x) tree below on = rw on below
-below_count count (Write x call) tree below on = rw on below
-below_count count (Ask x query) tree below on = rw on below
-below_count count (Scan x index max n) tree below on = rw on below
 below_count count (Tree name kind) tree below on = absurd on
 below_count count (Lane lane) tree below on = absurd on
 below_count count Join tree below on = absurd on
+below_count count item tree below on = rw on below
 
 pub steps_named : (count : ℕ) (asked : List Asked) (steps : List Step) → AllByRecursion (λ (a : Asked). NamesBelow count a.item) asked → AreDone asked steps → All (λ (s : Step). s.tree < count) steps
 steps_named count asked steps named done =

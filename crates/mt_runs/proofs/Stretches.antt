@@ -5,7 +5,7 @@ use Rattle.std.specs.Option.{option_to_list}
 use Rattle.std.proofs.lemmas.Bool.{cases_Bool}
 use Rattle.std.proofs.lemmas.List.{length-map}
 use Rattle.mt_log.specs.declared.lines.Item.{Item}
-use Rattle.mt_log.specs.declared.lines.Item.TheVariants.{Tree, Lane, Join, Dup, Check, Write, Ask, Scan}
+use Rattle.mt_log.specs.declared.lines.Item.TheVariants.{Tree, Lane, Join, Dup}
 use Rattle.mt_log.specs.declared.lines.Line.{Line}
 use Rattle.mt_log.specs.Phases.{AreInPlaceFrom, IsInPlace, phase_after, stepped_after, stepped_from}
 use Rattle.mt_log.specs.Reader.{least_behind}
@@ -95,15 +95,10 @@ unpushed_long xs = omega (arith, length-append xs [])
 
 pub one_declared : (trees : List Declared) (phase : ℕ) (item : Item) → NamesBelow (length trees) item → length (trees ++ option_to_list (declared_by trees phase item)) ≡ count_after (length trees) item
 one_declared trees phase (Tree name kind) named = pushed_long trees (declared_by trees phase (Tree name kind)) (record { tree = record { name = name; kind = kind }; opening = Empty }) refl
-one_declared trees phase (Lane lane) named = unpushed_long trees
-one_declared trees phase Join named = unpushed_long trees
 one_declared trees phase (Dup from name) named =
     let f = some_at (map (λ (d : Declared). d.tree) trees) from (omega (arith, named, length-map trees (λ (d : Declared). d.tree))) in
     pushed_long trees (declared_by trees phase (Dup from name)) (record { tree = renamed name f.0; opening = CopyOf from phase }) (rw f.1 refl)
-one_declared trees phase (Check tree) named = unpushed_long trees
-one_declared trees phase (Write tree call) named = unpushed_long trees
-one_declared trees phase (Ask tree query) named = unpushed_long trees
-one_declared trees phase (Scan tree index max count) named = unpushed_long trees
+one_declared trees phase item named = unpushed_long trees
 
 pub named_there : (trees : List Declared) (phase : ℕ) (xs ys : List Line) → AreNamedFrom (length trees) (xs ++ ys) → AreNamedFrom (length (trees_from trees phase xs)) ys
 named_there trees phase [] ys h = h
@@ -115,14 +110,9 @@ pub line_named : (lines rest : List Line) (line : Line) → IsReadable (lines ++
 line_named lines rest line r = (named_there [] 0 lines (line ∷ rest) r.named).0
 
 pub next_lane : (count lane : ℕ) (item : Item) → lane < most_lanes → NamesBelow count item → lane_after lane item < most_lanes
-next_lane count lane (Tree name kind) l named = l
 next_lane count lane (Lane other) l named = named
 next_lane count lane Join l named = omega arith
-next_lane count lane (Dup from name) l named = l
-next_lane count lane (Check tree) l named = l
-next_lane count lane (Write tree call) l named = l
-next_lane count lane (Ask tree query) l named = l
-next_lane count lane (Scan tree index max steps) l named = l
+next_lane count lane item l named = l
 
 lanes_named : (count lane : ℕ) (xs ys : List Line) → lane < most_lanes → AreNamedFrom count (xs ++ ys) → lane_behind lane xs < most_lanes
 lanes_named count lane [] ys l h = l
