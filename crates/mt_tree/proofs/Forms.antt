@@ -15,6 +15,7 @@ use Rattle.mt_tree.specs.Copies.{IsFormOf, IsRowCount, IsReadyToOpen}
 use Rattle.mt_check.specs.declared.faults.Fault.{Fault}
 use Rattle.mt_check.specs.declared.faults.Form.{Form}
 use Rattle.mt_check.specs.Check.{checked, first_or, faults_in, form_of}
+use Rattle.mt_engine.proofs.Moments.{idle_if_read}
 
 pub form_by : (s read : Sheet) (kind : Kind) (root : ℕ) (form : Form) → read.tree ≡ s.tree → root ≡ s.tree.root → Ok form ≡ checked (tree_as kind (with_published read.tree Root root)) → form ≡ form_of (tree_as kind s.tree)
 form_by s read kind root form same root_is answer = by (faults_in (tree_as kind (with_published read.tree Root root))) answer ∙ ap (λ (t : Rooted). form_of (tree_as kind t)) tree_is
@@ -27,12 +28,6 @@ form_by s read kind root form same root_is answer = by (faults_in (tree_as kind 
     by (fault ∷ faults) is = absurd (cc)
 
 -- ---- rows that were only read
-
-pub reads_on : (s s' s'' : Sheet) → OnlyReads s s' → OnlyReads s' s'' → OnlyReads s s''
-reads_on s s' s'' one two = two ∙ ap (λ (x : Sheet). record x { reads = s''.reads }) one
-
-pub idle_read : (kind : Kind) (s s' : Sheet) (book : Book) → OnlyReads s s' → IsIdle kind s book → IsIdle kind s' book
-idle_read kind s s' book reads idle = subst (λ (x : Sheet). IsIdle kind x book) (sym reads) idle
 
 pub form_told : (kind : Kind) (s read : Sheet) (form : Form) → read ≡ s → IsLawfulOf read.tree kind → form ≡ form_of (tree_as kind read.tree) → IsFormOf kind s.tree.rows (map_by s.tree) form
 form_told kind s read form same lawful is = record {
@@ -49,7 +44,7 @@ pub lawful_as : (kind kind' : Kind) (e s : Sheet) (book : Book) → s ≡ e → 
 lawful_as kind kind' e s book taken same idle = subst (IsLawfulOf s.tree) same idle.state.kept.lawful
 
 pub idle_as : (kind kind' : Kind) (e s s' : Sheet) (book : Book) → s ≡ e → kind ≡ kind' → OnlyReads s s' → IsIdle kind s book → IsIdle kind' s' book
-idle_as kind kind' e s s' book taken same reads idle = subst (λ (k : Kind). IsIdle k s' book) same (idle_read kind s s' book reads idle)
+idle_as kind kind' e s s' book taken same reads idle = subst (λ (k : Kind). IsIdle k s' book) same (idle_if_read kind s s' book reads idle)
 
 pub live_as : (kind : Kind) (e s : Sheet) (book : Book) → s ≡ e → IsIdle kind s book → live_count book ≡ length (reached_in s.tree.table s.tree.root)
 live_as kind e s book taken idle = live_reached kind s book idle
