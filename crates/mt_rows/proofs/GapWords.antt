@@ -1,36 +1,29 @@
 -- The gap word of one slot is stored: the item in that slot has another gap, and nothing else of its row changes.
-use Rattle.std.proofs.Common.{◌≡◌, ◌≢◌, ℕ, zero, suc, ◌+◌, ◌-◌, ◌*◌, ◌<◌, ◌≤◌, ◌==◌, List, [], ◌∷◌, ◌++◌, Bool, true, false, length, map, take, replicate, refl, sym, ap, ◌∙◌, subst, arith, length-append, get_or-set_other, get_or-set_same, ne_eqb}
-use Rattle.std.specs.Prelude.{if◌then◌else◌, nat_le, slice_index, slice_set}
+use Rattle.std.proofs.Common.{◌≡◌, ◌≢◌, ℕ, zero, suc, ◌+◌, ◌-◌, ◌*◌, ◌<◌, ◌≤◌, ◌==◌, List, [], ◌∷◌, ◌++◌, false, length, map, take, replicate, refl, sym, ap, ◌∙◌, subst, arith, length-append, get_or-set_other, get_or-set_same, ne_eqb}
+use Rattle.std.specs.Prelude.{slice_index, slice_set}
 use Rattle.std.proofs.lemmas.List.{length-map, set-append_right}
 use Rattle.mt_layout.specs.declared.items.Item.{Item}
 use Rattle.mt_layout.specs.declared.spans.Span.{Span}
-use Rattle.mt_layout.specs.Columns.{pivot_column, slot_column, gap_column, gap_at, item_at, items_from, items_at, padded_to, pivot_words, slot_words, gap_words, row_words}
+use Rattle.mt_layout.specs.Columns.{pivot_column, slot_column, gap_column, gap_at, item_at, items_at, padded_to, pivot_words, slot_words, gap_words, row_words}
 use Rattle.mt_layout.specs.Spans.{spans_from}
 use Rattle.mt_layout.proofs.Reading.{gap_at-some}
 use Rattle.mt_layout.proofs.RowWords.{length-pivots, length-slots}
 use Rattle.mt_rows.proofs.SlotWords.{padded_to-set}
+use Rattle.mt_rows.proofs.OneItem.{put_one, put_one-same, put_one-set, items_at-put_one}
 
 -- ---- the gap of one item of a list
 
 abbrev pub put_gap : ℕ → ℕ → List Item → List Item
-put_gap n gap [] = []
-put_gap zero gap (x ∷ xs) = record x { gap = gap } ∷ xs
-put_gap (suc n) gap (x ∷ xs) = x ∷ put_gap n gap xs
+put_gap n gap xs = put_one (λ (x : Item). record x { gap = gap }) n xs
 
 put_gap-last : (n gap : ℕ) (xs : List Item) → map (λ (x : Item). x.last) (put_gap n gap xs) ≡ map (λ (x : Item). x.last) xs
-put_gap-last n gap [] = refl
-put_gap-last zero gap (x ∷ xs) = refl
-put_gap-last (suc n) gap (x ∷ xs) = ap (λ (l : List ℕ). x.last ∷ l) (put_gap-last n gap xs)
+put_gap-last n gap xs = put_one-same (λ (x : Item). record x { gap = gap }) (λ (x : Item). x.last) (λ x. refl) n xs
 
 put_gap-word : (n gap : ℕ) (xs : List Item) → map (λ (x : Item). x.word) (put_gap n gap xs) ≡ map (λ (x : Item). x.word) xs
-put_gap-word n gap [] = refl
-put_gap-word zero gap (x ∷ xs) = refl
-put_gap-word (suc n) gap (x ∷ xs) = ap (λ (l : List ℕ). x.word ∷ l) (put_gap-word n gap xs)
+put_gap-word n gap xs = put_one-same (λ (x : Item). record x { gap = gap }) (λ (x : Item). x.word) (λ x. refl) n xs
 
 put_gap-gap : (n gap : ℕ) (xs : List Item) → map (λ (x : Item). x.gap) (put_gap n gap xs) ≡ slice_set (map (λ (x : Item). x.gap) xs) n gap
-put_gap-gap n gap [] = refl
-put_gap-gap zero gap (x ∷ xs) = refl
-put_gap-gap (suc n) gap (x ∷ xs) = ap (λ (l : List ℕ). x.gap ∷ l) (put_gap-gap n gap xs)
+put_gap-gap n gap xs = put_one-set (λ (x : Item). record x { gap = gap }) (λ (x : Item). x.gap) gap (λ x. refl) n xs
 
 -- the spans stay
 pub spans_from-put_gap : (n gap first : ℕ) (xs : List Item) → spans_from first (put_gap n gap xs) ≡ spans_from first xs
@@ -39,10 +32,6 @@ spans_from-put_gap zero gap first (x ∷ xs) = refl
 spans_from-put_gap (suc n) gap first (x ∷ xs) = ap (λ (l : List Span). record { first = first; last = x.last; word = x.word } ∷ l) (spans_from-put_gap n gap (x.last + 1) xs)
 
 -- ---- the items that are read off the words
-
-put_if : (b : Bool) (n gap : ℕ) (xs ys : List Item) → (if b then put_gap n gap xs else put_gap n gap ys) ≡ put_gap n gap (if b then xs else ys)
-put_if true n gap xs ys = refl
-put_if false n gap xs ys = refl
 
 module _ (slots gaps base n gap : ℕ) (w : List ℕ) (slot : n < slots) (all : gaps ≡ slots) (fits : base + gap_column slots n < length w) where
   abbrev stored : List ℕ
@@ -75,26 +64,8 @@ module _ (slots gaps base n gap : ℕ) (w : List ℕ) (slot : n < slots) (all : 
   item_here : (i last : ℕ) → i < slots → n ≡ i → item_at slots gaps stored base i last ≡ record (item_at slots gaps w base i last) { gap = gap }
   item_here i last low here = rw (slot_same i low, gap_is i here) refl
 
-  past : (max left i : ℕ) → n < i → left + i ≡ slots → items_from slots gaps stored base max left i ≡ items_from slots gaps w base max left i
-  past max zero i after sum = refl
-  past max (suc zero) i after sum = ap (λ (x : Item). x ∷ []) (item_other i max (omega arith) (λ e. omega arith))
-  past max (suc (suc left)) i after sum = rw (pivot_same i (omega arith), item_other i _ (omega arith) (λ e. omega arith), past max (suc left) (i + 1) (omega arith) (omega arith)) refl
-
-  items_from-put : (max left i k : ℕ) → n ≡ i + k → left + i ≡ slots → items_from slots gaps stored base max left i ≡ put_gap k gap (items_from slots gaps w base max left i)
-  items_from-put max zero i k at sum = refl
-  items_from-put max (suc zero) i zero at sum = ap (λ (x : Item). x ∷ []) (item_here i max (omega arith) (omega arith))
-  items_from-put max (suc zero) i (suc k) at sum = absurd (omega arith)
-  items_from-put max (suc (suc left)) i zero at sum =
-      let pivot : ℕ = slice_index w (base + pivot_column i) in
-      rw (pivot_same i (omega arith), item_here i _ (omega arith) (omega arith), past max (suc left) (i + 1) (omega arith) (omega arith))
-      (put_if (nat_le max pivot) zero gap (item_at slots gaps w base i pivot ∷ []) (item_at slots gaps w base i pivot ∷ items_from slots gaps w base max (suc left) (i + 1)))
-  items_from-put max (suc (suc left)) i (suc k) at sum =
-      let pivot : ℕ = slice_index w (base + pivot_column i) in
-      rw (pivot_same i (omega arith), item_other i _ (omega arith) (λ e. omega arith), items_from-put max (suc left) (i + 1) k (omega arith) (omega arith))
-      (put_if (nat_le max pivot) (suc k) gap (item_at slots gaps w base i pivot ∷ []) (item_at slots gaps w base i pivot ∷ items_from slots gaps w base max (suc left) (i + 1)))
-
   pub items_at-put_gap : (max : ℕ) → items_at slots gaps stored base max ≡ put_gap n gap (items_at slots gaps w base max)
-  items_at-put_gap max = items_from-put max slots 0 n (omega arith) (omega arith)
+  items_at-put_gap = items_at-put_one slots gaps base n w stored (λ (x : Item). record x { gap = gap }) pivot_same item_other item_here
 
 -- ---- the words that items make
 

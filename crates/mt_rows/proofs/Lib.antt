@@ -15,6 +15,7 @@ pub mod Loads
 pub mod Longest
 pub mod NineLevels
 pub mod Once
+pub mod OneItem
 pub mod PlainFates
 pub mod PlainMade
 pub mod PlainNames

@@ -1,23 +1,22 @@
 -- The word of one slot is stored: the item in that slot has another word, and nothing else of its row changes.
-use Rattle.std.proofs.Common.{◌≡◌, ◌≢◌, ℕ, zero, suc, ◌+◌, ◌-◌, ◌<◌, ◌≤◌, ◌==◌, List, [], ◌∷◌, ◌++◌, Bool, true, false, length, map, take, replicate, refl, sym, ap, ◌∙◌, subst, ⊎_elim, arith, length-append, length-set, get_or-set_other, get_or-set_same}
-use Rattle.std.specs.Prelude.{if◌then◌else◌, nat_le, slice_index, slice_set}
+use Rattle.std.proofs.Common.{◌≡◌, ◌≢◌, ℕ, zero, suc, ◌+◌, ◌-◌, ◌<◌, ◌≤◌, ◌==◌, List, [], ◌∷◌, ◌++◌, length, map, take, replicate, refl, sym, ap, ◌∙◌, subst, ⊎_elim, arith, length-append, length-set, get_or-set_other, get_or-set_same}
+use Rattle.std.specs.Prelude.{if◌then◌else◌, slice_index, slice_set}
 use Rattle.std.proofs.lemmas.Bool.{cases_eq}
 use Rattle.std.proofs.lemmas.List.{length-map, set-append_left, set-append_right}
 use Rattle.mt_layout.specs.declared.items.Item.{Item}
 use Rattle.mt_layout.specs.declared.spans.Span.{Span}
-use Rattle.mt_layout.specs.Columns.{pivot_column, slot_column, gap_column, gap_at, item_at, items_from, items_at, padded_to, pivot_words, slot_words, gap_words, row_words}
+use Rattle.mt_layout.specs.Columns.{pivot_column, slot_column, gap_column, gap_at, item_at, items_at, padded_to, pivot_words, slot_words, gap_words, row_words}
 use Rattle.mt_layout.specs.Spans.{spans_from}
 use Rattle.mt_layout.proofs.Reading.{gap_at-none, gap_at-some}
 -- this stands below; here it is for the crates above
 pub use Rattle.mt_layout.proofs.SpanLists.{length-spans_from}
 use Rattle.mt_layout.proofs.RowWords.{length-pivots, length-padded}
+use Rattle.mt_rows.proofs.OneItem.{put_one, put_one-same, put_one-set, items_at-put_one}
 
 -- ---- the word of one item of a list
 
 abbrev pub put_item : ℕ → ℕ → List Item → List Item
-put_item n word [] = []
-put_item zero word (x ∷ xs) = record x { word = word } ∷ xs
-put_item (suc n) word (x ∷ xs) = x ∷ put_item n word xs
+put_item n word xs = put_one (λ (x : Item). record x { word = word }) n xs
 
 abbrev pub put_span : ℕ → ℕ → List Span → List Span
 put_span n word [] = []
@@ -25,19 +24,13 @@ put_span zero word (x ∷ xs) = record x { word = word } ∷ xs
 put_span (suc n) word (x ∷ xs) = x ∷ put_span n word xs
 
 pub put_item-last : (n word : ℕ) (xs : List Item) → map (λ (x : Item). x.last) (put_item n word xs) ≡ map (λ (x : Item). x.last) xs
-put_item-last n word [] = refl
-put_item-last zero word (x ∷ xs) = refl
-put_item-last (suc n) word (x ∷ xs) = ap (λ (l : List ℕ). x.last ∷ l) (put_item-last n word xs)
+put_item-last n word xs = put_one-same (λ (x : Item). record x { word = word }) (λ (x : Item). x.last) (λ x. refl) n xs
 
 pub put_item-gap : (n word : ℕ) (xs : List Item) → map (λ (x : Item). x.gap) (put_item n word xs) ≡ map (λ (x : Item). x.gap) xs
-put_item-gap n word [] = refl
-put_item-gap zero word (x ∷ xs) = refl
-put_item-gap (suc n) word (x ∷ xs) = ap (λ (l : List ℕ). x.gap ∷ l) (put_item-gap n word xs)
+put_item-gap n word xs = put_one-same (λ (x : Item). record x { word = word }) (λ (x : Item). x.gap) (λ x. refl) n xs
 
 pub put_item-word : (n word : ℕ) (xs : List Item) → map (λ (x : Item). x.word) (put_item n word xs) ≡ slice_set (map (λ (x : Item). x.word) xs) n word
-put_item-word n word [] = refl
-put_item-word zero word (x ∷ xs) = refl
-put_item-word (suc n) word (x ∷ xs) = ap (λ (l : List ℕ). x.word ∷ l) (put_item-word n word xs)
+put_item-word n word xs = put_one-set (λ (x : Item). record x { word = word }) (λ (x : Item). x.word) word (λ x. refl) n xs
 
 pub spans_from-put : (n word first : ℕ) (xs : List Item) → spans_from first (put_item n word xs) ≡ put_span n word (spans_from first xs)
 spans_from-put n word first [] = refl
@@ -52,10 +45,6 @@ put_span_at n word front back x at = ap (λ (k : ℕ). put_span k word (front ++
     here (y ∷ front) = ap (λ (l : List Span). y ∷ l) (here front)
 
 -- ---- the items that are read off the words
-
-put_if : (b : Bool) (n word : ℕ) (xs ys : List Item) → (if b then put_item n word xs else put_item n word ys) ≡ put_item n word (if b then xs else ys)
-put_if true n word xs ys = refl
-put_if false n word xs ys = refl
 
 module _ (slots gaps base n word : ℕ) (w : List ℕ) (slot : n < slots) (fits : base + slot_column slots n < length w) where
   abbrev stored : List ℕ
@@ -83,26 +72,10 @@ module _ (slots gaps base n word : ℕ) (w : List ℕ) (slot : n < slots) (fits 
   item_here : (i last : ℕ) → n ≡ i → item_at slots gaps stored base i last ≡ record (item_at slots gaps w base i last) { word = word }
   item_here i last here = let is : slice_index stored (base + slot_column slots i) ≡ word = subst (λ (j : ℕ). slice_index stored (base + slot_column slots j) ≡ word) here slot_here in rw (is, gap_same i) refl
 
-  past : (max left i : ℕ) → n < i → left + i ≡ slots → items_from slots gaps stored base max left i ≡ items_from slots gaps w base max left i
-  past max zero i after sum = refl
-  past max (suc zero) i after sum = ap (λ (x : Item). x ∷ []) (item_other i max (λ e. omega arith))
-  past max (suc (suc left)) i after sum = rw (pivot_same i (omega arith), item_other i _ (λ e. omega arith), past max (suc left) (i + 1) (omega arith) (omega arith)) refl
-
-  items_from-put : (max left i k : ℕ) → n ≡ i + k → left + i ≡ slots → items_from slots gaps stored base max left i ≡ put_item k word (items_from slots gaps w base max left i)
-  items_from-put max zero i k at sum = refl
-  items_from-put max (suc zero) i zero at sum = ap (λ (x : Item). x ∷ []) (item_here i max (omega arith))
-  items_from-put max (suc zero) i (suc k) at sum = absurd (omega arith)
-  items_from-put max (suc (suc left)) i zero at sum =
-      let pivot : ℕ = slice_index w (base + pivot_column i) in
-      rw (pivot_same i (omega arith), item_here i _ (omega arith), past max (suc left) (i + 1) (omega arith) (omega arith))
-      (put_if (nat_le max pivot) zero word (item_at slots gaps w base i pivot ∷ []) (item_at slots gaps w base i pivot ∷ items_from slots gaps w base max (suc left) (i + 1)))
-  items_from-put max (suc (suc left)) i (suc k) at sum =
-      let pivot : ℕ = slice_index w (base + pivot_column i) in
-      rw (pivot_same i (omega arith), item_other i _ (λ e. omega arith), items_from-put max (suc left) (i + 1) k (omega arith) (omega arith))
-      (put_if (nat_le max pivot) (suc k) word (item_at slots gaps w base i pivot ∷ []) (item_at slots gaps w base i pivot ∷ items_from slots gaps w base max (suc left) (i + 1)))
-
   pub items_at-put : (max : ℕ) → items_at slots gaps stored base max ≡ put_item n word (items_at slots gaps w base max)
-  items_at-put max = items_from-put max slots 0 n (omega arith) (omega arith)
+  items_at-put =
+      items_at-put_one slots gaps base n w stored (λ (x : Item). record x { word = word }) pivot_same
+      (λ i last low other. item_other i last other) (λ i last low here. item_here i last here)
 
 -- ---- the words that items make
 
