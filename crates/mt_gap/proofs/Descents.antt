@@ -20,7 +20,7 @@ use Rattle.mt_rows.specs.Sheet.{Rooted, Sheet, ReadsUpTo, loaded}
 use Rattle.mt_rows.specs.Trees.{map_in, height_in}
 use Rattle.mt_rows.proofs.Depth.{ranges_by_depth, height_by_depth}
 use Rattle.mt_rows.proofs.Joins.{levels_join, levels_front, levels_back}
-use Rattle.mt_rows.proofs.Lists.{levels_here}
+use Rattle.mt_rows.proofs.Lists.{levels_here, levels_none}
 use Rattle.mt_rows.proofs.Ranges.{rows_filled}
 use Rattle.mt_path.proofs.Kept.{tree_kept}
 use Rattle.mt_path.proofs.Loads.{no_reads, one_read, reads_more, reads_up}
@@ -33,7 +33,7 @@ use Rattle.mt_gap.specs.Narrow.{may_have, inside, narrow, narrow_up, Rising}
 use Rattle.mt_gap.proofs.ChildLists.{spans_below, gaps_below, holes_of_children}
 use Rattle.mt_gap.proofs.HolesBelow.{holes_are}
 use Rattle.mt_gap.proofs.Narrowed.{narrow_keeps, narrow_two, rising_narrow, rising_expand}
-use Rattle.mt_gap.proofs.NarrowedUp.{levels_up, levels_none, rising_up, up_two, up_keeps}
+use Rattle.mt_gap.proofs.NarrowedUp.{levels_up, rising_up, up_two, up_keeps}
 
 -- ---- rows of the table
 
@@ -131,8 +131,8 @@ module _ (t : Tree) (w : Window) (kind : t.kind ≡ trees.Alloc) (some : 1 ≤ w
           left = is.k;
           height = omega arith;
           low = omega arith;
-          rows = levels_up w.size w.lo w.hi (IsRow t) t.table is.k [] children (levels_none w.size w.lo w.hi (IsRow t) t.table is.k) (rows_there is.k is.rows is.tended asks.rising);
-          tended = levels_up w.size w.lo w.hi (IsTended t) t.table is.k [] children (levels_none w.size w.lo w.hi (IsTended t) t.table is.k) (tended_there is.k is.rows is.tended asks.rising);
+          rows = levels_up w.size w.lo w.hi (IsRow t) t.table is.k [] children (levels_none (IsRow t) t.table is.k) (rows_there is.k is.rows is.tended asks.rising);
+          tended = levels_up w.size w.lo w.hi (IsTended t) t.table is.k [] children (levels_none (IsTended t) t.table is.k) (tended_there is.k is.rows is.tended asks.rising);
           rising = rising_up w.size w.lo w.hi 0 [] children (rising_there is.k is.rows is.tended asks.rising);
           few = up_two w.size w.lo w.hi 0 children (rising_there is.k is.rows is.tended asks.rising);
           found = high_there is.k is.rows is.tended asks.rising ∙ is.found;

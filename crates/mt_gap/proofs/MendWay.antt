@@ -67,17 +67,13 @@ module _ (t t' : Tree) (index : ℕ) where
 
 -- ---- two stores one after the other
 
+both_shared : (t t' t'' : Table) (xs : List Span) → AllByRecursion (SameSpans t t') xs → AllByRecursion (SameSpans t' t'') xs → AllByRecursion (SameSpans t t'') xs
+both_shared t t' t'' [] first second = tt
+both_shared t t' t'' (x ∷ xs) first second = (second.0 ∙ first.0, both_shared t t' t'' xs first.1 second.1)
+
 pub shared_twice : (t t' t'' : Table) (h : ℕ) (xs : List Span) → Levels (Shared t t') t h xs → Levels (Shared t' t'') t' h xs → Levels (Shared t t'') t h xs
-shared_twice t t' t'' zero xs first second = both xs first second
-  where
-    both : (ys : List Span) → AllByRecursion (SameSpans t t') ys → AllByRecursion (SameSpans t' t'') ys → AllByRecursion (SameSpans t t'') ys
-    both [] first second = tt
-    both (y ∷ ys) first second = (second.0 ∙ first.0, both ys first.1 second.1)
-shared_twice t t' t'' (suc h) xs first second = (both xs first.0 second.0, shared_twice t t' t'' h (expand t xs) first.1 (subst (Levels (Shared t' t'') t' h) (expand_shared t t' xs first.0) second.1))
-  where
-    both : (ys : List Span) → AllByRecursion (SameSpans t t') ys → AllByRecursion (SameSpans t' t'') ys → AllByRecursion (SameSpans t t'') ys
-    both [] first second = tt
-    both (y ∷ ys) first second = (second.0 ∙ first.0, both ys first.1 second.1)
+shared_twice t t' t'' zero xs first second = both_shared t t' t'' xs first second
+shared_twice t t' t'' (suc h) xs first second = (both_shared t t' t'' xs first.0 second.0, shared_twice t t' t'' h (expand t xs) first.1 (subst (Levels (Shared t' t'') t' h) (expand_shared t t' xs first.0) second.1))
 
 pub only_next : (s s' s'' : Sheet) (row col word : ℕ) → OnlyWords s s' → s'' ≡ record s' { tree = with_word s'.tree row col word; reads = s''.reads } → OnlyWords s s''
 only_next s s' s'' row col word only stored =

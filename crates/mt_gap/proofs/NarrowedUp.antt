@@ -1,5 +1,5 @@
 -- The search for the highest place.
-use Rattle.std.proofs.Common.{◌≡◌, ℕ, zero, suc, ◌+◌, ◌-◌, ◌<◌, ◌≤◌, List, [], ◌∷◌, ◌++◌, length, refl, sym, ap, ◌∙◌, subst, inl, inr, ⊎_elim, arith, append_assoc, append-nil}
+use Rattle.std.proofs.Common.{◌≡◌, ℕ, suc, ◌+◌, ◌-◌, ◌<◌, ◌≤◌, List, [], ◌∷◌, ◌++◌, length, refl, sym, ap, ◌∙◌, subst, inl, inr, ⊎_elim, arith, append_assoc, append-nil}
 use Rattle.std.specs.List.{AllByRecursion, slice_get}
 use Rattle.std.specs.Option.{option_map}
 use Rattle.std.proofs.lemmas.Bool.{cases_Bool}
@@ -118,10 +118,6 @@ module _ (n lo hi : ℕ) where
         ]
         | inr not ↦ rw not (levels_up P t h acc xs before rest)
       ]
-
-  pub levels_none : (P : ℕ → Span → Type 0) (t : Table) (h : ℕ) → Levels P t h []
-  levels_none P t zero = tt
-  levels_none P t (suc h) = (tt, levels_none P t h)
 
 -- ---- the answer
 

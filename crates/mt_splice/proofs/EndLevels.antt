@@ -1,6 +1,6 @@
 -- Rows on the levels of a tree: each has one parent, and one slot in it.
 use Rattle.std.proofs.Common.{◌≡◌, ℕ, zero, suc, ◌+◌, ◌≤◌, ◌==◌, ◌&&◌, List, [], ◌∷◌, Some, Bool, true, refl, sym, ap, ◌∙◌, subst, inl, inr, arith, eq-eqb}
-use Rattle.std.specs.List.{AllByRecursion, slice_get}
+use Rattle.std.specs.List.{slice_get}
 use Rattle.std.proofs.lemmas.Bool.{and_parts, eqb-true}
 use Rattle.mt_layout.specs.Rows.{row_in, parent_at}
 use Rattle.mt_layout.specs.declared.spans.Span.{Span}
@@ -10,7 +10,7 @@ use Rattle.mt_rows.specs.Laws.{Tree, Stands, ParentsFrom}
 use Rattle.mt_rows.specs.Replacement.{root_of}
 use Rattle.mt_rows.proofs.Lists.{tally-append}
 use Rattle.mt_rows.proofs.Heights.{level_next, times_split}
-use Rattle.mt_rows.proofs.Reached.{IsOneOf, OnLevel, one_of_get, one_of_expand, tally_some, times_in_once, one_place, here_le}
+use Rattle.mt_rows.proofs.Reached.{IsOneOf, OnLevel, one_of_get, one_of_expand, tally_some, times_in_once, one_place, here_le, all_of_each}
 use Rattle.mt_rows.proofs.Settled.{Implies}
 
 -- ---- the very place of a span, whose height is k
@@ -34,19 +34,11 @@ here_row k x n y at = eq-eqb (row_in y.word) (row_in x.word) (ap row_in (here_is
 -- ---- what holds at each place
 
 pub levels_each : (P : ℕ → Span → Type 0) (t : Table) (h : ℕ) (xs : List Span) → ((k : ℕ) (x : Span) → OnLevel t h xs k x → P k x) → Levels P t h xs
-levels_each P t zero xs each = here xs (λ x one. each zero x (record { depth = zero; height = omega arith; one = one }))
-  where
-    here : (ys : List Span) → ((x : Span) → IsOneOf x ys → P zero x) → AllByRecursion (P zero) ys
-    here [] one = tt
-    here (y ∷ ys) one = (one y (inl refl), here ys (λ x behind. one x (inr behind)))
+levels_each P t zero xs each = all_of_each (P zero) xs (λ x one. each zero x (record { depth = zero; height = omega arith; one = one }))
 levels_each P t (suc h) xs each = (
-  here xs (λ x one. each (suc h) x (record { depth = zero; height = omega arith; one = one })),
+  all_of_each (P (suc h)) xs (λ x one. each (suc h) x (record { depth = zero; height = omega arith; one = one })),
   levels_each P t h (expand t xs) (λ k x on. each k x (record { depth = suc on.depth; height = let height = on.height in omega arith; one = on.one })),
 )
-  where
-    here : (ys : List Span) → ((x : Span) → IsOneOf x ys → P (suc h) x) → AllByRecursion (P (suc h)) ys
-    here [] one = tt
-    here (y ∷ ys) one = (one y (inl refl), here ys (λ x behind. one x (inr behind)))
 
 -- ---- parent words, slot by slot
 

@@ -15,11 +15,10 @@ use Rattle.mt_layout.proofs.SpanLists.{fills-append, fills_le, fills_parts, afte
 use Rattle.mt_leaf.specs.Places.{first_of}
 use Rattle.mt_path.proofs.Bounds.{greatest_fits}
 use Rattle.mt_free.specs.Book.{Book}
-use Rattle.mt_rows.specs.Spans.{Table, inner_kind}
-use Rattle.mt_rows.specs.Levels.{Levels}
+use Rattle.mt_rows.specs.Spans.{inner_kind}
 use Rattle.mt_rows.specs.Laws.{Tree, IsRow, kind_at}
 use Rattle.mt_rows.specs.Sheet.{Rooted, Sheet}
-use Rattle.mt_rows.proofs.Lists.{tally-append, expand-append}
+use Rattle.mt_rows.proofs.Lists.{tally-append, expand-append, levels_none}
 use Rattle.mt_splice.specs.declared.writes.NewRow.{NewRow}
 use Rattle.mt_splice.specs.steps.Work.{Start, Work, now, IsUsed}
 use Rattle.mt_splice.specs.steps.Climbs.{AreWritten}
@@ -65,12 +64,8 @@ more_written start w w₁ w₂ height spans rows spans' rows' first then' = reco
     was_free row free = ⊎_elim (λ (is : w.used row ≡ true). absurd (not_both (w₁.used row) (first.keeps.used row is) free)) (λ (not : w.used row ≡ false). not) (cases_Bool (w.used row))
 
 none_told : (start : Start) (w : Work) (height lo : ℕ) → AreTold start w height lo []
-none_told start w height lo = record { rows = no_rows (IsGoodRow start w) (now start w).table height; gaps = nothing (inner_kind start.tree.kind) }
+none_told start w height lo = record { rows = levels_none (IsGoodRow start w) (now start w).table height; gaps = nothing (inner_kind start.tree.kind) }
   where
-    no_rows : (P : ℕ → Span → Type 0) (t : Table) (h : ℕ) → Levels P t h []
-    no_rows P t zero = tt
-    no_rows P t (suc h) = (tt, no_rows P t h)
-
     nothing : (kind : RowKind) → TellGaps kind (now start w).table height lo []
     nothing Leaf = tt
     nothing Inner = tt

@@ -1,11 +1,10 @@
 -- From one moment of a replacement to a later one: what stands in rows in use stays, and with it the tree as it was.
-use Rattle.std.proofs.Common.{◌≡◌, ℕ, zero, suc, ◌+◌, ◌≤◌, List, [], ◌∷◌, Bool, true, refl, sym, ap, ◌∙◌, subst, inl, inr, arith}
-use Rattle.std.specs.List.{AllByRecursion}
+use Rattle.std.proofs.Common.{◌≡◌, ℕ, ◌+◌, ◌≤◌, List, Bool, true, refl, sym, ap, ◌∙◌, subst}
 use Rattle.mt_base.specs.declared.ranges.Range.{Range}
 use Rattle.mt_layout.specs.declared.spans.Span.{Span}
 use Rattle.mt_layout.specs.Rows.{row_in}
-use Rattle.mt_rows.specs.Spans.{Table, root_span}
-use Rattle.mt_rows.specs.Levels.{expand, level, map_of, Levels, is_row_of}
+use Rattle.mt_rows.specs.Spans.{root_span}
+use Rattle.mt_rows.specs.Levels.{map_of, Levels, is_row_of}
 use Rattle.mt_rows.specs.Publish.{is_reached}
 use Rattle.mt_rows.specs.Laws.{Tree, IsRow, Stands}
 use Rattle.mt_rows.specs.Replacement.{root_of}
@@ -14,7 +13,7 @@ use Rattle.mt_rows.proofs.Joins.{Shared, map_of_shared, times_shared, levels_sha
 use Rattle.mt_rows.proofs.Frames.{same_spans}
 use Rattle.mt_rows.proofs.Heights.{levels_upper, levels_pair, level_shared}
 use Rattle.mt_rows.proofs.RowLaws.{row_keeps}
-use Rattle.mt_rows.proofs.Reached.{IsOneOf, times_reached, tally_reached, on_level_reached}
+use Rattle.mt_rows.proofs.Reached.{times_reached, tally_reached, on_level_reached}
 use Rattle.mt_rows.proofs.Depth.{ranges_by_depth}
 use Rattle.mt_rows.specs.Trees.{map_in}
 use Rattle.mt_base.specs.Width.{deepest}
@@ -23,6 +22,7 @@ use Rattle.mt_splice.specs.steps.Seen.{Seen, passing}
 use Rattle.mt_splice.specs.steps.Work.{Start, Work, table_with, tree_with, now, rows_at, times_in, IsUsed, KeepsWords, Keeps, Holds}
 use Rattle.mt_splice.specs.steps.Replaced.{IsHalfReplaced}
 use Rattle.mt_splice.specs.steps.Endings.{words_of}
+use Rattle.mt_splice.proofs.EndLevels.{levels_each}
 
 -- ---- words that stay
 
@@ -118,21 +118,9 @@ module _ (start : Start) (s : Work) (holds : Holds start s) where
 
 -- ---- which rows are in use
 
-levels_each : (P : ℕ → Span → Type 0) (t : Table) (h : ℕ) (xs : List Span) → ((d k : ℕ) (x : Span) → h ≡ d + k → IsOneOf x (level t d xs) → P k x) → Levels P t h xs
-levels_each P t zero xs each = here xs (λ x one. each 0 0 x (omega arith) one)
-  where
-    here : (ys : List Span) → ((x : Span) → IsOneOf x ys → P 0 x) → AllByRecursion (P 0) ys
-    here [] each = tt
-    here (y ∷ ys) each = (each y (inl refl), here ys (λ x one. each x (inr one)))
-levels_each P t (suc h) xs each = (here xs (λ x one. each 0 (suc h) x (omega arith) one), levels_each P t h (expand t xs) (λ d k x height one. each (suc d) k x (omega arith) one))
-  where
-    here : (ys : List Span) → ((x : Span) → IsOneOf x ys → P (suc h) x) → AllByRecursion (P (suc h)) ys
-    here [] each = tt
-    here (y ∷ ys) each = (each y (inl refl), here ys (λ x one. each x (inr one)))
-
 -- those of the tree are, where all that are reached are
 pub reached_are_used : (start : Start) (s : Work) → Stands start.tree start.height → ((row : ℕ) → is_reached (words_of start.tree) row ≡ true → s.used row ≡ true)
     → Levels (IsUsed s) start.tree.table start.height (root_of start.tree)
 reached_are_used start s stands used =
     levels_each (IsUsed s) start.tree.table start.height (root_of start.tree)
-    (λ d k x height one. used (row_in x.word) (times_reached start.tree start.height stands (row_in x.word) (on_level_reached start.tree start.height stands k x (record { depth = d; height = height; one = one }))))
+    (λ k x on. used (row_in x.word) (times_reached start.tree start.height stands (row_in x.word) (on_level_reached start.tree start.height stands k x on)))
