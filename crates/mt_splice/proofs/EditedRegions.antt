@@ -17,7 +17,6 @@ use Rattle.mt_rows.specs.Laws.{Tree, IsRow, Stands, top_of}
 use Rattle.mt_rows.specs.Replacement.{root_of}
 use Rattle.mt_rows.proofs.Lists.{Filled, expand_fills, expand-append}
 use Rattle.mt_rows.proofs.Heights.{level_rows}
-use Rattle.mt_rows.proofs.Reached.{one_of_parts, one_place}
 use Rattle.mt_leaf.specs.Edits.{spans_below, spans_above, span_stored, stored, join, joined, edited, starting}
 use Rattle.mt_leaf.proofs.Stored.{length_edited, stored_between}
 use Rattle.mt_leaf.proofs.Counts.{two_short, two_to_a_hole}
@@ -30,7 +29,7 @@ use Rattle.mt_splice.specs.steps.Work.{rows_at}
 use Rattle.mt_splice.specs.steps.Stretches.{IsStretch}
 use Rattle.mt_splice.specs.steps.Runs.{IsLeafRun}
 use Rattle.mt_splice.proofs.Splits.{split_more}
-use Rattle.mt_splice.proofs.PathRows.{rows_in_order, spans_of_step}
+use Rattle.mt_splice.proofs.PathRows.{rows_in_order, spans_of_step, leaf_numbered}
 use Rattle.mt_rows.proofs.FewSpans.{row_most}
 
 -- ---- what holds of each span of leaves
@@ -184,12 +183,8 @@ module _ (t : Tree) (h : ℕ) (stands : Stands t h) (first last : ℕ) (order : 
     leaf_of path index inside is =
         spans_of_step t.table (row_of t h index) Leaf (last_step path) index (lawful t h stands index h 0 inside (omega arith)).name.named (last_of path index inside is) t.table
 
-    -- one row number is one leaf
     same_leaf : row_in left_leaf.word ≡ row_in right_leaf.word → left_leaf ≡ right_leaf
-    same_leaf same =
-        (one_place t h stands 0 0 left_leaf right_leaf
-        (record { depth = h; height = omega arith; one = one_of_parts (rows_at t h) left_at.front left_at.back left_leaf left_at.parts })
-        (record { depth = h; height = omega arith; one = one_of_parts (rows_at t h) right_at.front right_at.back right_leaf right_at.parts }) same).1
+    same_leaf = leaf_numbered t h stands first last from_within within
 
     region_by : (entry : ℕ) (b : Bool) → (row_in left_leaf.word == row_in right_leaf.word) ≡ b
         → Leaves entry (if b then spans_in t.table left_leaf else spans_in t.table left_leaf ++ starting (left_leaf.last + 1) (spans_in t.table right_leaf))

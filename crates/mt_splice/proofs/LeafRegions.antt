@@ -27,7 +27,6 @@ use Rattle.mt_rows.specs.Spans.{root_span, base_of, spans_in}
 use Rattle.mt_rows.specs.Laws.{Tree, IsTree, IsRow, Stands, top_of}
 use Rattle.mt_rows.specs.Sheet.{Rooted, IsPlace, word_at}
 use Rattle.mt_rows.specs.Publish.{tree_as}
-use Rattle.mt_rows.proofs.Reached.{one_of_parts, one_place}
 use Rattle.mt_path.specs.declared.paths.PathStep.{PathStep}
 use Rattle.mt_path.specs.Paths.{slot_for, path_in, step_at, step_in, At}
 use Rattle.mt_path.specs.Handles.{last_step, leaf_spans}
@@ -38,7 +37,7 @@ use Rattle.mt_splice.specs.Splice.{region_of}
 use Rattle.mt_splice.specs.steps.Regions.{AreEnds, IsLeafStep, leaf_items}
 use Rattle.mt_splice.proofs.Gathering.{drop_from}
 use Rattle.mt_splice.proofs.LeafItems.{leaf_gaps, spans-prefix, first_of-take, first_reaching, length-items_below, apart_below, whole_below, part_below, item_in}
-use Rattle.mt_splice.proofs.PathRows.{rows_in_order, spans_of_step}
+use Rattle.mt_splice.proofs.PathRows.{rows_in_order, spans_of_step, leaf_numbered}
 
 -- ---- the leaf of an index
 
@@ -121,12 +120,8 @@ module _ (t : Tree) (h : ℕ) (stands : Stands t h) where
     abbrev right_at : At 0 (top_of t + 1) (rows_at t h) last right_leaf
     right_at = end_at r last within is_right
 
-    -- one row number is one leaf
     same_leaf : row_in left_leaf.word ≡ row_in right_leaf.word → left_leaf ≡ right_leaf
-    same_leaf same =
-        (one_place t h stands 0 0 left_leaf right_leaf
-        (record { depth = h; height = omega arith; one = one_of_parts (rows_at t h) left_at.front left_at.back left_leaf left_at.parts })
-        (record { depth = h; height = omega arith; one = one_of_parts (rows_at t h) right_at.front right_at.back right_leaf right_at.parts }) same).1
+    same_leaf = leaf_numbered t h stands first last from_within within
 
     in_order : (left_leaf ≡ right_leaf → ⊥) → left_leaf.last < right_leaf.first
     in_order apart = elim (cases_Bool (nat_lt left_leaf.last last)) [

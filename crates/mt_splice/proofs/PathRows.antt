@@ -5,7 +5,7 @@ use Rattle.std.proofs.lemmas.Bool.{cases_lt}
 use Rattle.std.proofs.Math.Seq.{take-append_seam, drop-append-add}
 use Rattle.mt_base.proofs.Lists.{all_map, all_front}
 use Rattle.mt_layout.specs.declared.names.RowKind.{RowKind}
-use Rattle.mt_layout.specs.Rows.{named_kind}
+use Rattle.mt_layout.specs.Rows.{row_in, named_kind}
 use Rattle.mt_layout.specs.declared.spans.Span.{Span}
 use Rattle.mt_layout.specs.Spans.{Fills}
 use Rattle.mt_layout.proofs.SpanLists.{fills-append, fills_le}
@@ -15,6 +15,7 @@ use Rattle.mt_rows.specs.Laws.{Tree, IsRow, Stands, top_of}
 use Rattle.mt_rows.specs.Replacement.{root_of}
 use Rattle.mt_rows.proofs.Lists.{Filled, expand_fills, expand-append}
 use Rattle.mt_rows.proofs.Heights.{level_next, level_rows}
+use Rattle.mt_rows.proofs.Reached.{one_of_parts, one_place}
 use Rattle.mt_path.specs.declared.paths.PathStep.{PathStep}
 use Rattle.mt_path.specs.Paths.{step_in, At}
 use Rattle.mt_path.proofs.TreePaths.{row_of, place, child}
@@ -50,6 +51,14 @@ module _ (t : Tree) (h : ℕ) (stands : Stands t h) where
       absurd (omega arith))
       (λ (order : (row_of t d i).first ≤ (row_of t d j).first). order)
       (cases_lt (row_of t d j).first (row_of t d i).first)
+
+  -- one row number is one leaf
+  pub leaf_numbered : (i j : ℕ) → i ≤ top_of t → j ≤ top_of t → row_in (row_of t h i).word ≡ row_in (row_of t h j).word → row_of t h i ≡ row_of t h j
+  leaf_numbered i j within within' same =
+      let one = place t h stands i h within (omega arith) in let other = place t h stands j h within' (omega arith) in
+      (one_place t h stands 0 0 (row_of t h i) (row_of t h j)
+      (record { depth = h; height = omega arith; one = one_of_parts (rows_at t h) one.front one.back (row_of t h i) one.parts })
+      (record { depth = h; height = omega arith; one = one_of_parts (rows_at t h) other.front other.back (row_of t h j) other.parts }) same).1
 
   -- the rows from one path's to the other's
   pub stretch_between : (i j d : ℕ) → i ≤ j → (within : j ≤ top_of t) → (low : d ≤ h) → (within' : i ≤ top_of t)
