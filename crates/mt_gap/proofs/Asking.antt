@@ -49,17 +49,14 @@ first_sure n lo hi x xs sure = elim (cases_Bool (may_have n lo hi x && inside lo
   | inr less ↦ absurd (let both : false ≡ true = (rw (← sure, less) refl) in cc)
 ]
 
--- a child that may have no room is not asked, any other is
-pub not_asked : (n lo hi : ℕ) (asked : List Child) (x : Child) → may_have n lo hi x ≡ false → (asked ≡ asked ++ narrow n lo hi (x ∷ [])) × (false ≡ has_sure n lo hi (x ∷ []))
-not_asked n lo hi asked x less = rw less (sym (append-nil asked), refl)
+-- where a child is told it is the one that may have room
+pub room_some : (b : Bool) (x y : Child) → Some y ≡ (if b then Some x else None) → (b ≡ true) × (y ≡ x)
+room_some true x y is = (refl, cc)
+room_some false x y is = absurd (cc)
 
+-- a child that may have room is asked
 pub one_asked : (n lo hi : ℕ) (asked after : List Child) (x : Child) → may_have n lo hi x ≡ true → after ≡ asked ++ (x ∷ []) → (after ≡ asked ++ narrow n lo hi (x ∷ [])) × (inside lo hi x ≡ has_sure n lo hi (x ∷ []))
 one_asked n lo hi asked after x may is = elim (cases_Bool (inside lo hi x)) [ inl in_it ↦ rw (may, in_it) (is, refl) | inr over ↦ rw (may, over) (is, refl) ]
-
-pub one_room : (n lo hi : ℕ) (asked : List Child) (x : Child) → may_have n lo hi x ≡ true → length asked + length (narrow n lo hi (x ∷ [])) ≤ 3 → length asked < 3
-one_room n lo hi asked x may room =
-    let some : length (narrow n lo hi (x ∷ [])) ≡ 1 = elim (cases_Bool (inside lo hi x)) [ inl in_it ↦ rw (may, in_it) refl | inr over ↦ rw (may, over) refl ] in
-    omega arith
 
 module _ (n lo hi : ℕ) (first next before : List Child) (asks : HasAsked n lo hi first next before) (x : Child) where
   -- there is room for one more
@@ -120,7 +117,7 @@ up_room n lo hi first next before rest all asks x is few =
     take_one [] ys (suc k) is = let none : k ≡ 0 = omega arith in ap (λ (j : ℕ). x ∷ take j ys) none
     take_one (y ∷ xs) ys (suc k) is = ap (λ (l : List Child). y ∷ l) (take_one xs ys k (omega arith))
 
-pub not_up : (n lo hi : ℕ) (asked : List Child) (x : Child) → may_have n lo hi x ≡ false → asked ≡ next_up n lo hi asked x
+not_up : (n lo hi : ℕ) (asked : List Child) (x : Child) → may_have n lo hi x ≡ false → asked ≡ next_up n lo hi asked x
 not_up n lo hi asked x less = rw less refl
 
 pub one_up : (n lo hi : ℕ) (asked after : List Child) (x : Child) → may_have n lo hi x ≡ true → after ≡ (if inside lo hi x then x ∷ [] else asked ++ (x ∷ [])) → after ≡ next_up n lo hi asked x

@@ -11,12 +11,12 @@ ghost use Rattle.mt_rows.specs.Sheet.{IsPlace, ReadsUpTo};
 ghost use Rattle.mt_rows.specs.Spans.{root_span};
 ghost use Rattle.mt_rows.specs.Trees.{height_in};
 ghost use Rattle.mt_gap.specs.Children.{row_children};
-ghost use Rattle.mt_gap.specs.Narrow.{may_have, has_sure};
+ghost use Rattle.mt_gap.specs.Narrow.{has_sure};
 ghost use Rattle.mt_gap.specs.Slots.{child_in};
 ghost use Rattle.mt_gap.specs.Ways.{one_more, with_room, IsBelow, EndsIn};
 
-use crate::children::{load_gap, load_last, load_word};
-use crate::windows::{Window, is_inside, may_have};
+use crate::children::load_last;
+use crate::windows::{Window, is_inside, room_in_slot};
 use mt_base::DEEPEST;
 use mt_layout::{RowKind, Span, kind_of, row_of, slots};
 use mt_path::{Path, PathStep};
@@ -65,13 +65,10 @@ fn take_slot<R: Rows>(
     ensures found { result ≡ has_sure window.size window.lo window.hi (child_in (R.sheet rows.old).tree.table Gapped row slot first last ∷ []) }
     ensures reads { ReadsUpTo 2 (R.sheet rows.old) (R.sheet rows.new) }
 {
-    let gap = load_gap(rows, row, slot);
-    if !may_have(window, first, last, gap) {
+    let Some(child) = room_in_slot(rows, row, slot, first, last, window) else {
         return false;
-    }
-    let word = load_word(rows, RowKind::Gapped, row, slot);
-    let span = Span { first, last, word };
-    *below = one_more(*below, slot, span);
+    };
+    *below = one_more(*below, slot, child.span);
     is_inside(window, first, last)
 }
 

@@ -1,7 +1,7 @@
 //! What a search takes of a row: the children that may have room, and the room in a leaf. Each slot is looked at once, and the
 //! words of slots that are not taken are not loaded.
 
-ghost use Rattle.std.specs.Prelude.{◌≡◌, ◌+◌, ◌<◌, ◌≤◌, ◌++◌, ℕ, IfSome, List, [], ◌∷◌, false, length, slice_get, take, if◌then◌else◌};
+ghost use Rattle.std.specs.Prelude.{◌≡◌, ◌+◌, ◌<◌, ◌≤◌, ◌++◌, ℕ, IfSome, Some, None, List, [], ◌∷◌, false, length, slice_get, take, if◌then◌else◌};
 ghost use Rattle.std.specs.List.{flat_map};
 ghost use Rattle.std.specs.Option.{option_map};
 ghost use Rattle.mt_base.specs.Holes.{Hole, kept, lowest_in, highest_in};
@@ -35,7 +35,7 @@ pub(crate) struct Window {
 }
 
 /// Whether there can be room below a child with this gap word, and in the window.
-pub(crate) fn may_have(window: Window, first: u64, last: u64, gap: u64) -> bool
+fn may_have(window: Window, first: u64, last: u64, gap: u64) -> bool
     ensures { (word : ℕ) → result ≡ may_have window.size window.lo window.hi (record { span = record { first = first; last = last; word = word }; gap = gap }) }
 {
     window.size <= gap && first <= window.hi && window.lo <= last
@@ -46,6 +46,31 @@ pub(crate) fn is_inside(window: Window, first: u64, last: u64) -> bool
     ensures { (word gap : ℕ) → result ≡ inside window.lo window.hi (record { span = record { first = first; last = last; word = word }; gap = gap }) }
 {
     window.lo <= first && last <= window.hi
+}
+
+/// What stands in a slot of a row with gaps, where it may have room. Only then its word is loaded.
+pub(crate) fn room_in_slot<R: Rows>(
+    rows: &mut R,
+    row: u32,
+    slot: u32,
+    first: u64,
+    last: u64,
+    window: Window,
+) -> Option<Child>
+    requires row { IsPlace (R.sheet rows.old).tree row 0 }
+    requires slot { slot < slots_of (R.sheet rows.old).tree.table.width Gapped }
+    ensures child { let x = child_in (R.sheet rows.old).tree.table Gapped row slot first last in result ≡ (if may_have window.size window.lo window.hi x then Some x else None) }
+    ensures reads { ReadsUpTo 2 (R.sheet rows.old) (R.sheet rows.new) }
+{
+    let gap = load_gap(rows, row, slot);
+    if !may_have(window, first, last, gap) {
+        return None;
+    }
+    let word = load_word(rows, RowKind::Gapped, row, slot);
+    Some(Child {
+        span: Span { first, last, word },
+        gap,
+    })
 }
 
 /// Adds what stands in a slot of a row with gaps to the rows that are asked, where it may have room, and tells whether it
@@ -66,15 +91,10 @@ fn ask_slot<R: Rows>(
     ensures found { result ≡ has_sure window.size window.lo window.hi (child_in (R.sheet rows.old).tree.table Gapped row slot first last ∷ []) }
     ensures reads { ReadsUpTo 2 (R.sheet rows.old) (R.sheet rows.new) }
 {
-    let gap = load_gap(rows, row, slot);
-    if !may_have(window, first, last, gap) {
+    let Some(child) = room_in_slot(rows, row, slot, first, last, window) else {
         return false;
-    }
-    let word = load_word(rows, RowKind::Gapped, row, slot);
-    asked.push(Child {
-        span: Span { first, last, word },
-        gap,
-    });
+    };
+    asked.push(child);
     is_inside(window, first, last)
 }
 
@@ -136,13 +156,9 @@ fn ask_slot_up<R: Rows>(
     ensures items { asked.new.items ≡ next_up window.size window.lo window.hi asked.old.items (child_in (R.sheet rows.old).tree.table Gapped row slot first last) }
     ensures reads { ReadsUpTo 2 (R.sheet rows.old) (R.sheet rows.new) }
 {
-    let gap = load_gap(rows, row, slot);
-    if !may_have(window, first, last, gap) {
-        return;
+    if let Some(child) = room_in_slot(rows, row, slot, first, last, window) {
+        take_up(child, is_inside(window, first, last), asked);
     }
-    let word = load_word(rows, RowKind::Gapped, row, slot);
-    let span = Span { first, last, word };
-    take_up(Child { span, gap }, is_inside(window, first, last), asked);
 }
 
 /// Takes of a row's children those that may have room: one that lies in the window stands for all before it. The row has

@@ -1,32 +1,20 @@
-use Rattle.std.proofs.Common.{◌≡◌, ℕ, ◌++◌, [], ◌∷◌, true, false, sym, ap, ◌∙◌}
+use Rattle.std.proofs.Common.{◌++◌, [], ◌∷◌, sym, ◌∙◌}
 use Rattle.std.specs.Prelude.{if◌then◌else◌}
 use Rattle.mt_layout.specs.declared.names.RowKind.TheVariants.{Gapped}
-use Rattle.mt_rows.specs.Sheet.{Rooted, Sheet}
-use Rattle.mt_gap.specs.Slots.{child_in, word_in, gap_in}
+use Rattle.mt_gap.specs.Slots.{child_in}
 use Rattle.mt_gap.specs.Narrow.{may_have}
-use Rattle.mt_gap.proofs.Asking.{not_up, one_up, one_up_room}
+use Rattle.mt_gap.proofs.Asking.{one_up, one_up_room, room_some}
 use Rattle.mt_gap.proofs.windows.ask_slot_up.Goals as goal
-
-pub returns-then-not-may_have-clause-items : goal.returns-then-not-may_have-clause-items
-returns-then-not-may_have-clause-items g c =
-    let t = (g.R.Rows.sheet c.args.rows.now).tree.table in let w = c.args.window in
-    let word = word_in t Gapped c.args.row c.args.slot in let x = child_in t Gapped c.args.row c.args.slot c.args.first c.args.last in
-    let less : may_have w.size w.lo w.hi x ≡ false = (λ i. may_have w.size w.lo w.hi (record { span = record { first = c.args.first; last = c.args.last; word = word }; gap = sym {A = ℕ} {a = c.load_gap-gap.result} {b = gap_in t Gapped c.args.row c.args.slot} c.load_gap-gap.ensures.gap i })) ∙ (sym (c.may_have.ensures word) ∙ c.if-not-may_have.true) in
-    not_up w.size w.lo w.hi c.args.asked.now.items x less
 
 pub take_up-requires : goal.take_up-requires
 take_up-requires g c =
-    let t = (g.R.Rows.sheet c.args.rows.now).tree.table in let w = c.args.window in
-    let word = word_in t Gapped c.args.row c.args.slot in let x = child_in t Gapped c.args.row c.args.slot c.args.first c.args.last in
-    let may : may_have w.size w.lo w.hi x ≡ true = (λ i. may_have w.size w.lo w.hi (record { span = record { first = c.args.first; last = c.args.last; word = word }; gap = sym {A = ℕ} {a = c.load_gap-gap.result} {b = gap_in t Gapped c.args.row c.args.slot} c.load_gap-gap.ensures.gap i })) ∙ (sym (c.may_have.ensures word) ∙ c.if-not-may_have.false) in
-    record { room = λ over. one_up_room w.size w.lo w.hi c.args.asked.now.items x may (sym (c.is_inside.ensures word (gap_in t Gapped c.args.row c.args.slot)) ∙ over) c.requires.room }
+    let w = c.args.window in let x = child_in (g.R.Rows.sheet c.args.rows.now).tree.table Gapped c.args.row c.args.slot c.args.first c.args.last in
+    let room = room_some (may_have w.size w.lo w.hi x) x c.in-Some.child c.in-Some.ensures.child in
+    record { room = λ over. one_up_room w.size w.lo w.hi c.args.asked.now.items x room.0 (sym (c.is_inside.ensures x.span.word x.gap) ∙ over) c.requires.room }
 
-pub returns-clause-items : goal.returns-clause-items
-returns-clause-items g c =
-    let t = (g.R.Rows.sheet c.args.rows.now).tree.table in let w = c.args.window in
-    let word = word_in t Gapped c.args.row c.args.slot in let x = child_in t Gapped c.args.row c.args.slot c.args.first c.args.last in
-    let may : may_have w.size w.lo w.hi x ≡ true = (λ i. may_have w.size w.lo w.hi (record { span = record { first = c.args.first; last = c.args.last; word = word }; gap = sym {A = ℕ} {a = c.load_gap-gap.result} {b = gap_in t Gapped c.args.row c.args.slot} c.load_gap-gap.ensures.gap i })) ∙ (sym (c.may_have.ensures word) ∙ c.if-not-may_have.false) in
-    let same_word : c.load_word-word.result ≡ word = c.load_word-word.ensures.word ∙ ap (λ (r : Rooted). word_in r.table Gapped c.args.row c.args.slot) (ap (λ (r : Sheet). r.tree) c.load_gap-gap.ensures.rest) in
-    let same_child : record { span = record { first = c.args.first; last = c.args.last; word = c.load_word-word.result }; gap = c.load_gap-gap.result } ≡ x = (λ i. record { span = record { first = c.args.first; last = c.args.last; word = same_word i }; gap = c.load_gap-gap.ensures.gap i }) in
-    one_up w.size w.lo w.hi c.args.asked.now.items c.take_up.new.asked.items x may
-    (c.take_up.ensures ∙ (λ i. if c.is_inside.ensures word (gap_in t Gapped c.args.row c.args.slot) i then same_child i ∷ [] else c.args.asked.now.items ++ (same_child i ∷ [])))
+pub returns-in-Some-clause-items : goal.returns-in-Some-clause-items
+returns-in-Some-clause-items g c =
+    let w = c.args.window in let x = child_in (g.R.Rows.sheet c.args.rows.now).tree.table Gapped c.args.row c.args.slot c.args.first c.args.last in
+    let room = room_some (may_have w.size w.lo w.hi x) x c.in-Some.child c.in-Some.ensures.child in
+    one_up w.size w.lo w.hi c.args.asked.now.items c.take_up.new.asked.items x room.0
+    (c.take_up.ensures ∙ (λ i. if c.is_inside.ensures x.span.word x.gap i then room.1 i ∷ [] else c.args.asked.now.items ++ (room.1 i ∷ [])))
