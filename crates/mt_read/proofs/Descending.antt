@@ -16,9 +16,10 @@ use Rattle.mt_layout.specs.Columns.{slot_column}
 use Rattle.mt_layout.specs.Rows.{named_kind, row_in}
 use Rattle.mt_layout.specs.Sizes.{slots_of}
 use Rattle.mt_layout.specs.Spans.{Fills}
+use Rattle.mt_layout.proofs.RowSizes.{few_slots_of}
 use Rattle.mt_layout.proofs.SpanLists.{fills_le, fills_split}
 use Rattle.mt_rows.specs.Laws.{kind_at}
-use Rattle.mt_rows.specs.Spans.{inner_kind}
+use Rattle.mt_rows.proofs.InnerKinds.{inner_no_leaf}
 use Rattle.mt_life.specs.declared.views.Held.{Held}
 use Rattle.mt_rule.specs.declared.views.PassPart.{PassPart}
 use Rattle.mt_rule.specs.declared.views.Shape.{Shape}
@@ -34,13 +35,9 @@ use Rattle.mt_rows.proofs.FewSpans.{few_slots}
 
 -- ---- leaves and inner rows
 
-inner_kind_is : (kind : Kind) → inner_kind kind ≢ Leaf
-inner_kind_is trees.Range is = absurd (cc)
-inner_kind_is trees.Alloc is = absurd (cc)
-
 leaf_by : (kind : Kind) (level : ℕ) → kind_at kind level ≡ Leaf → level ≡ 0
 leaf_by kind zero is = refl
-leaf_by kind (suc level) is = absurd (inner_kind_is kind is)
+leaf_by kind (suc level) is = absurd (inner_no_leaf kind is)
 
 pub leaf_level : (q : PassPart) (row : Row) → IsOn q row → row.kind ≡ Leaf → (here q).extent.level ≡ 0
 leaf_level q row on leaf = leaf_by q.shape.kind (here q).extent.level (sym on.kind ∙ leaf)
@@ -67,7 +64,7 @@ pub slot_fits : (q : PassPart) (row : Row) (place : Place) (shape : Shape) (n : 
 slot_fits q row place shape n w on is same wide count =
     let used = (span_in_slot q.shape.kind (copy_of (here q)) (here q).row place.slot (here q).extent _ is.stands).0 in
     let counted = count_is q row on shape n w same wide count in
-    let few = few_slots (here q).width (kind_of q (here q)) in
+    let few = few_slots_of (here q).width (kind_of q (here q)) in
     omega arith
 
 -- ---- a place lies within its row

@@ -1,9 +1,11 @@
 use Rattle.std.proofs.Common.{rules, arith, ◌≡◌, ◌≢◌, ◌+◌, ◌-◌, ◌<◌, ap, ◌∙◌}
 use Rattle.std.specs.Prelude.{slice_index}
+use Rattle.mt_base.specs.Width.{kind_width}
+use Rattle.mt_base.proofs.WidthBounds.{greatest_fits}
 use Rattle.mt_rule.specs.Sections.{here}
 use Rattle.mt_rule.specs.Tokens.{part_of}
 use Rattle.mt_read.proofs.Finding.{column_is, place_more, slots_are}
-use Rattle.mt_read.proofs.Descending.{greatest_fits, place_within}
+use Rattle.mt_read.proofs.Descending.{place_within}
 use Rattle.mt_read.proofs.Before.{first_before, first_some, pivot_before, used}
 use Rattle.mt_read.proofs.lasts.place_before.Goals as goal
 
@@ -38,7 +40,7 @@ overflow_add-result g c =
     let before = pivot_before q c.args.leaf.now c.args.place.now on c.requires.place c.requires.more (c.args.place.now.slot - 1) (c.args.place.now.first - 1) c.load_pivot-pivot.result (omega arith) (omega arith) other found in
     let inside = place_within q c.args.leaf.now (record { slot = c.args.place.now.slot - 1; first = c.load_pivot-pivot.result + 1; last = c.args.place.now.first - 1 }) on before in
     let order = inside.1 in let last = inside.2 in
-    let within = on.within in let top = greatest_fits q.shape.kind in
+    let within = on.within in let top = greatest_fits (kind_width q.shape.kind) in
     omega arith
 
 pub returns-clause-last : goal.returns-clause-last

@@ -1,11 +1,14 @@
 use Rattle.std.proofs.Common.{arith, ◌≢◌, ◌+◌, sym, ap, ◌∙◌, refl}
 use Rattle.std.specs.Prelude.{slice_index}
+use Rattle.mt_base.specs.Width.{kind_width}
+use Rattle.mt_base.proofs.WidthBounds.{greatest_fits}
 use Rattle.mt_layout.specs.declared.names.RowKind.{RowKind}
 use Rattle.mt_layout.specs.Sizes.{slots_of}
+use Rattle.mt_layout.proofs.RowSizes.{few_slots_of}
 use Rattle.mt_rule.specs.Sections.{here, kind_of}
 use Rattle.mt_rule.specs.Tokens.{identity_of, part_of}
 use Rattle.mt_read.proofs.Finding.{shape_is, count_is, column_is, slots_are, place_more}
-use Rattle.mt_read.proofs.Descending.{greatest_fits, place_within}
+use Rattle.mt_read.proofs.Descending.{place_within}
 use Rattle.mt_read.proofs.Beside.{used, last_behind, pivot_behind}
 use Rattle.mt_read.proofs.Reading.{leaf_kind}
 use Rattle.mt_read.proofs.reads.next_place.Goals as goal
@@ -18,14 +21,14 @@ overflow_add-first g c =
     let max = c.requires.leaf.on.max in
     let last = (place_within q c.args.leaf.now c.args.place.now c.requires.leaf.on c.requires.place).2 in
     let within = c.requires.leaf.on.within in
-    let top = greatest_fits q.shape.kind in
+    let top = greatest_fits (kind_width q.shape.kind) in
     omega arith
 
 pub overflow_add-slot-2 : goal.overflow_add-slot-2
 overflow_add-slot-2 g c =
     let q = part_of c.args.pass.now in
     let low = used q c.args.leaf.now c.args.place.now c.requires.leaf.on c.requires.place (λ e. c.requires.more (e ∙ sym c.requires.leaf.on.max)) in
-    let few = few_slots (here q).width (kind_of q (here q)) in
+    let few = few_slots_of (here q).width (kind_of q (here q)) in
     omega arith
 
 pub returns-then-slot-slots-clause-place : goal.returns-then-slot-slots-clause-place
@@ -40,7 +43,7 @@ pub overflow_add-slot-3 : goal.overflow_add-slot-3
 overflow_add-slot-3 g c =
     let q = part_of c.args.pass.now in
     let low = used q c.args.leaf.now c.args.place.now c.requires.leaf.on c.requires.place (λ e. c.requires.more (e ∙ sym c.requires.leaf.on.max)) in
-    let few = few_slots (here q).width (kind_of q (here q)) in
+    let few = few_slots_of (here q).width (kind_of q (here q)) in
     omega arith
 
 pub load_pivot-last-requires-clause-pivot : goal.load_pivot-last-requires-clause-pivot
