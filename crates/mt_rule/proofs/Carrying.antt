@@ -21,9 +21,9 @@ use Rattle.mt_rule.specs.declared.views.View.{View}
 use Rattle.mt_rule.specs.declared.views.PenPart.{PenPart}
 use Rattle.mt_rule.specs.declared.views.PassPart.{PassPart}
 use Rattle.mt_base.specs.declared.widths.Width.{Width}
-use Rattle.mt_base.specs.declared.widths.Width.TheVariants.{Long}
 use Rattle.mt_base.specs.Width.{kind_width}
 use Rattle.mt_rule.specs.Limits.{most_calls, most_passes}
+use Rattle.mt_layout.proofs.Places.{words_before}
 use Rattle.mt_rule.specs.Places.{commits_at, begun_at, root_at, section_at, rows_at, size_of, section_word, IsSectionWord}
 use Rattle.mt_rule.specs.Seats.{least_of, moment_at, records_of, shape_told, state_in}
 use Rattle.mt_rule.specs.Rule.{begun_by, IsOneHistory, IsSound, WordsFit, HasFloor, IsHeldBy, PassFits, ViewFits, IsKept}
@@ -164,10 +164,10 @@ pub section_later : (a b word : ℕ) → a ≤ b → IsSectionWord a word → Is
 section_later a b word up is = ⊎_elim (λ (none : word ≡ 0). inl none) (λ (at : (epoch : ℕ) × (word ≡ 2 * epoch + 1) × (epoch ≤ a)). let low = at.2 in inr (at.0, at.1, omega arith)) is
 
 section_off : (w : Width) (k i : ℕ) → k < most_passes → rows_at w ≤ i → section_at k ≢ i
-section_off Long k i low high same = omega arith
+section_off w k i low high same = let first = words_before w in omega arith
 
 counter_off : (w : Width) (j i : ℕ) → j < 3 → rows_at w ≤ i → j ≢ i
-counter_off Long j i low high same = omega arith
+counter_off w j i low high same = let first = words_before w in omega arith
 
 -- a store of a column
 pub column_set : (words : List ℕ) (p n : PenPart) (i new : ℕ) → WordsFit words p → length p.words ≡ size_of (kind_width p.shape.kind) p.shape.rows → p.shape.passes ≤ most_passes

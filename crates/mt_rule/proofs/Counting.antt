@@ -1,28 +1,21 @@
 -- Stores of the words that count calls and name the root: the table's words still fit.
 use Rattle.std.proofs.Common.{◌≡◌, ◌≢◌, ℕ, ◌<◌, ◌≤◌, List, length, sym, ap, ◌∙◌, subst, arith, length-set, get_or-set_other, get_or-set_same}
 use Rattle.std.specs.Prelude.{slice_index, slice_set}
-use Rattle.mt_base.specs.declared.widths.Width.{Width}
-use Rattle.mt_base.specs.declared.widths.Width.TheVariants.{Long}
 use Rattle.mt_base.specs.Width.{kind_width}
+use Rattle.mt_layout.proofs.Places.{words_before, words_in_all}
 use Rattle.mt_rule.specs.declared.views.PenPart.{PenPart}
-use Rattle.mt_rule.specs.Places.{begun_at, commits_at, root_at, rows_at, section_at, size_of, IsSectionWord}
+use Rattle.mt_rule.specs.Places.{begun_at, commits_at, root_at, section_at, IsSectionWord}
 use Rattle.mt_rule.specs.declared.table.MtTable.{MtTable}
 use Rattle.mt_rule.specs.Rule.{begun_by, WordsFit}
 use Rattle.mt_rule.specs.Seats.{shape_told}
 use Rattle.mt_rule.proofs.Carrying.{section_later, shaped_as}
 
-rows_behind : (w : Width) (i : ℕ) → rows_at w ≤ i → 3 ≤ i
-rows_behind Long i high = omega arith
-
-pub counters_inside : (w : Width) (rows : ℕ) → 3 ≤ size_of w rows
-counters_inside Long rows = omega arith
-
 pub counter_inside : (t : MtTable) (i : ℕ) → i < 3 → i < t.table.shared.table_id.words
-counter_inside t i low = let few = counters_inside (kind_width t.table.shared.key.kind) (shape_told t.table.shared.key).rows in let all = t.words in omega (arith, all, few, low)
+counter_inside t i low = let few = words_in_all (kind_width t.table.shared.key.kind) (shape_told t.table.shared.key).rows in let all = t.words in omega (arith, all, few, low)
 
 module _ (words : List ℕ) (p n : PenPart) (i new : ℕ) (w : WordsFit words p) (low : i < 3) where
   inside : i < length words
-  inside = let all = w.size in let few = counters_inside (kind_width p.shape.kind) p.shape.rows in omega (arith, all, few)
+  inside = let all = w.size in let few = words_in_all (kind_width p.shape.kind) p.shape.rows in omega (arith, all, few)
 
   pub here : slice_index (slice_set words i new) i ≡ new
   here = get_or-set_same words i new 0 inside
@@ -43,5 +36,5 @@ module _ (words : List ℕ) (p n : PenPart) (i new : ℕ) (w : WordsFit words p)
     root = root;
     sections = λ k few. subst (IsSectionWord n.ended) (sym (counter_sections k)) (section_later p.ended n.ended (slice_index words (section_at k)) up (w.sections k few));
     undealt = λ k not few. counter_sections k ∙ w.undealt k (omega arith) few;
-    columns = λ j at. (let far = rows_behind (kind_width p.shape.kind) j at in there j (λ e. omega arith)) ∙ (w.columns j at ∙ ap (λ (l : List ℕ). slice_index l j) (sym same));
+    columns = λ j at. (let far = words_before (kind_width p.shape.kind) in there j (λ e. omega arith)) ∙ (w.columns j at ∙ ap (λ (l : List ℕ). slice_index l j) (sym same));
   }

@@ -1,11 +1,11 @@
 -- A row that keeps its form has the same spans but for their words, each in the same slot.
-use Rattle.std.proofs.Common.{◌≡◌, ℕ, zero, suc, ◌+◌, ◌*◌, ◌<◌, ◌≤◌, List, [], ◌∷◌, Bool, true, false, length, nat_le, refl, sym, ap, ◌∙◌, subst, arith, Some}
+use Rattle.std.proofs.Common.{◌≡◌, ℕ, zero, suc, ◌+◌, ◌*◌, ◌<◌, List, [], ◌∷◌, Bool, true, false, length, nat_le, refl, sym, ap, ◌∙◌, subst, arith, Some}
 use Rattle.std.specs.Prelude.{slice_index, if◌then◌else◌}
 use Rattle.std.specs.List.{slice_get}
 use Rattle.mt_base.specs.declared.kinds.Kind.{Kind}
 use Rattle.mt_base.specs.declared.widths.Width.{Width}
 use Rattle.mt_base.specs.declared.widths.Width.TheVariants.{Long}
-use Rattle.mt_base.specs.Width.{columns, first_row}
+use Rattle.mt_base.specs.Width.{columns}
 use Rattle.mt_layout.specs.declared.items.Item.{Item}
 use Rattle.mt_layout.specs.declared.names.RowKind.{RowKind}
 use Rattle.mt_layout.specs.declared.spans.Span.{Span}
@@ -15,7 +15,7 @@ use Rattle.mt_layout.specs.Spans.{spans_from}
 use Rattle.mt_rows.specs.Laws.{kind_at}
 use Rattle.mt_life.specs.declared.views.Extent.{Extent}
 use Rattle.mt_life.specs.Known.{SameForm, spans_at}
-use Rattle.mt_rule.specs.Places.{column_at, rows_at, size_of}
+use Rattle.mt_rule.specs.Places.{column_at}
 
 -- ---- the span in a slot
 
@@ -98,15 +98,3 @@ pivot_now width width' w w' kind row i one =
     subst (λ (v : Width). SameForm (record { width = width; words = w }) (record { width = v; words = w' }) kind row → i + 1 < slots_of v kind
     → slice_index w' (column_at v row (pivot_column i)) ≡ slice_index w (column_at v row (pivot_column i))) (sym one)
     (λ form low. (form (pivot_column i) (omega arith) (omega arith)).0 (omega arith))
-
--- ---- where columns stand
-
-pub column_behind : (width : Width) (row col : ℕ) → first_row ≤ row → rows_at width ≤ column_at width row col
-column_behind Long row col low = omega arith
-
--- the words that are of no row stand before the first
-pub rows_behind : (width : Width) → rows_at width ≡ 512
-rows_behind Long = refl
-
-pub size_above : (width : Width) (rows : ℕ) → 512 ≤ size_of width rows
-size_above Long rows = omega arith

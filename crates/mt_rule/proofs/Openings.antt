@@ -10,8 +10,8 @@ use lib.ListN.{get_elem?}
 use Rattle.atomic_table.specs.Table.{opening}
 use Rattle.mt_base.specs.declared.kinds.Kind.{Kind}
 use Rattle.mt_base.specs.declared.widths.Width.{Width}
-use Rattle.mt_base.specs.declared.widths.Width.TheVariants.{Long}
 use Rattle.mt_base.specs.Width.{columns, first_row, most_rows}
+use Rattle.mt_layout.proofs.Places.{words_before}
 use Rattle.mt_life.specs.declared.views.Extent.{Extent}
 use Rattle.mt_life.specs.Known.{Known, nowhere}
 use Rattle.mt_life.specs.Moments.{moment_of}
@@ -145,10 +145,10 @@ module _ (kind : Kind) (t : Rooted) (passes calls : ℕ) (lawful : IsLawfulOf t 
       )
 
   section_low : (w : Width) (k : ℕ) → k < passes → passes ≤ most_passes → (section_at k ≢ root_at) × (section_at k < rows_at w)
-  section_low Long k low few = ((λ e. omega arith), omega arith)
+  section_low w k low few = ((λ e. omega arith), (let first = words_before w in omega arith))
 
   counters_low : (w : Width) → (0 < rows_at w) × (1 < rows_at w)
-  counters_low Long = (omega arith, omega arith)
+  counters_low w = ((let first = words_before w in omega arith), (let first = words_before w in omega arith))
 
   pub opening_words_fit : (words : List ℕ) → AreOpening t words → passes ≤ most_passes → WordsFit words part
   opening_words_fit words o few =

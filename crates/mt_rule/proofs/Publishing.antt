@@ -14,6 +14,7 @@ use Rattle.mt_base.specs.declared.widths.Width.{Width}
 use Rattle.mt_base.specs.History.{last_map}
 use Rattle.mt_base.specs.Width.{kind_width, columns, first_row}
 use Rattle.mt_base.proofs.PlainReplies.{IsActed, was_acted}
+use Rattle.mt_layout.proofs.Places.{place_behind, place_within}
 use Rattle.mt_life.specs.declared.views.Extent.{Extent}
 use Rattle.mt_life.specs.Known.{Follows, Goes, Known}
 use Rattle.mt_life.specs.Moments.{cuts_by, moment_of}
@@ -43,7 +44,6 @@ use Rattle.mt_rule.proofs.Counting.{counter_sections, counter_set, here, there}
 use Rattle.mt_rule.proofs.Lives.{every_life, none_marked}
 use Rattle.mt_rule.proofs.Moments.{moment_before, moment_more}
 use Rattle.mt_rule.proofs.Recording.{map_told, others_stay, recorded_fits, recorded_history}
-use Rattle.mt_rule.proofs.Writing.{column_high, column_low}
 
 -- ---- the rows after a publishing store
 
@@ -190,8 +190,8 @@ words_after e p q (Slot row col) word call reply sound may words w =
     let n = after e p q (Slot row col) word call reply sound may in
     let at = may.at.0 in
     let width = kind_width p.shape.kind in
-    let high = column_high width row col at.first in
-    let low = column_low width row col p.shape.rows at.last at.column in record {
+    let high = place_behind width row first_row col at.first in
+    let low = place_within width row (first_row + p.shape.rows) col at.last at.column in record {
       fit = column_set words p n (column_at width row col) word w sound.words sound.few_passes high low refl refl refl refl refl;
       sections = sections_set words p (column_at width row col) word sound.few_passes high;
     }

@@ -7,6 +7,7 @@ use Rattle.mt_base.specs.Width.{columns, first_row, kind_width}
 use Rattle.mt_layout.specs.declared.names.RowKind.{RowKind}
 use Rattle.mt_layout.specs.Columns.{pivot_column, slot_column}
 use Rattle.mt_layout.specs.Sizes.{slots_of, gaps_of}
+use Rattle.mt_layout.proofs.Places.{place_within, words_in_all}
 use Rattle.mt_layout.proofs.Reading.{few_items}
 use Rattle.mt_layout.proofs.RowSizes.{slots_of-columns}
 use Rattle.mt_layout.proofs.SpanLists.{length-spans_from}
@@ -23,10 +24,6 @@ use Rattle.mt_rule.specs.Places.{column_at, section_at, size_of}
 use Rattle.mt_rule.specs.Seats.{shape_told}
 use Rattle.mt_rule.specs.Sections.{slots_in, spans_here}
 use Rattle.mt_rule.specs.Tokens.{Identity, identity_of, part_of, IsPassOf}
-use Rattle.mt_rule.proofs.Holding.{size_above}
-
-column_within : (width : Width) (rows row col : ℕ) → row < first_row + rows → col < columns width → column_at width row col < size_of width rows
-column_within Long rows row col high low = omega arith
 
 pivot_within : (width : Width) (kind : RowKind) (i : ℕ) → i + 1 < slots_of width kind → pivot_column i < columns width
 pivot_within width kind i low = omega (arith, slots_of-columns width kind)
@@ -50,7 +47,7 @@ module _ (t : MtTable) (p : Pass) (of : IsPassOf (identity_of t) p) where
   column_below row col at here low is =
       let rows : (part_of p).shape.rows ≡ (shape_told t.table.shared.key).rows = ap (λ (z : Shape). z.rows) shape_is in
       let high : row < first_row + (shape_told t.table.shared.key).rows = let h = here.1 in omega arith in
-      let within = column_within t.width (shape_told t.table.shared.key).rows row col high low in
+      let within = place_within t.width row (first_row + (shape_told t.table.shared.key).rows) col high low in
       let size : size_of t.width (shape_told t.table.shared.key).rows ≡ size_of (kind_width t.table.shared.key.kind) (shape_told t.table.shared.key).rows = ap (λ (w : Width). size_of w (shape_told t.table.shared.key).rows) t.wide in
       let words = t.words in
       omega arith
@@ -67,4 +64,4 @@ module _ (t : MtTable) (p : Pass) (of : IsPassOf (identity_of t) p) where
 
 -- where a section word stands
 pub section_below : (t : MtTable) (number at : ℕ) → number < most_passes → at ≡ section_at number → at < t.table.shared.table_id.words
-section_below t number at few is = let words = t.words in let size = size_above (kind_width t.table.shared.key.kind) (shape_told t.table.shared.key).rows in omega arith
+section_below t number at few is = let words = t.words in let size = words_in_all (kind_width t.table.shared.key.kind) (shape_told t.table.shared.key).rows in omega arith

@@ -11,13 +11,13 @@ use lib.ListN.{get_elem?}
 use Rattle.atomic_table.specs.Table.{Me, Act, step, stepped, carried_after, Valid, keeps, Allows}
 use Rattle.mt_base.specs.declared.replies.Holder.{Holder}
 use Rattle.mt_base.specs.declared.widths.Width.{Width}
-use Rattle.mt_base.specs.declared.widths.Width.TheVariants.{Long}
 use Rattle.mt_base.specs.Passes.{Begins}
 use Rattle.mt_base.specs.Passes as known
 use Rattle.mt_base.specs.Width.{kind_width, first_row}
 use Rattle.mt_base.proofs.Goings.{begins_long, begins_none}
 use Rattle.mt_layout.specs.Columns.{pivot_column, slot_column}
 use Rattle.mt_layout.specs.Rows.{dead_mark, named_kind, row_in}
+use Rattle.mt_layout.proofs.Places.{place_behind, words_before, words_in_all}
 use Rattle.mt_rows.specs.declared.rows.Life.TheVariants.{Live, Dead}
 use Rattle.mt_rows.specs.Levels.{one_if}
 use Rattle.mt_rows.specs.Sheet.{life_of, word_at}
@@ -41,7 +41,7 @@ use Rattle.mt_rule.specs.Rule.{begun_by, HasFloor, IsHeldBy, IsKept, IsOneHistor
 use Rattle.mt_rule.specs.Sections.{IsAt, behind_first, closed_section, floor_or, here, kind_of, opened_section, slots_in, spans_here, IsRead, ParentTells, loads_begun, loads_commits, loads_parent, loads_pivot, loads_root, loads_slot, opens_section, closes_section}
 use Rattle.mt_rule.proofs.Beginnings.{legal_within}
 use Rattle.mt_rule.proofs.Carrying.{St, least_low, recast}
-use Rattle.mt_rule.proofs.Holding.{column_behind, pivot_now, rows_behind, size_above, slot_now}
+use Rattle.mt_rule.proofs.Holding.{pivot_now, slot_now}
 use Rattle.mt_rule.proofs.Viewing.{each_set, numbers_fit, seat_fits}
 
 abbrev M : Type 0
@@ -108,7 +108,7 @@ module _ (told : Told) (s : St) (r₀ : IsKept told s) (by : ℕ) (v : View) (at
           | inr other ↦ subst (IsSectionWord part_by.ended) (sym (kept (section_at k) (λ e. other (let most = kept_by.sound.few_passes in omega arith)))) (kept_by.words.sections k low)
         ];
         undealt = λ k high low. let dealt = (mine.passes q is).number in let most = kept_by.sound.few_passes in kept (section_at k) (λ e. omega arith) ∙ kept_by.words.undealt k high low;
-        columns = λ i high. let first = rows_behind (kind_width q.shape.kind) in kept i (λ e. omega arith) ∙ kept_by.words.columns i high;
+        columns = λ i high. let first = words_before (kind_width q.shape.kind) in kept i (λ e. omega arith) ∙ kept_by.words.columns i high;
       }
       (stored ∙ word)
       kept
@@ -117,7 +117,7 @@ module _ (told : Told) (s : St) (r₀ : IsKept told s) (by : ℕ) (v : View) (at
       few = let a = (mine.passes q is).number in let b = kept_by.sound.history.dealt in let c = kept_by.sound.few_passes in omega arith
 
       stored : slice_index (slice_set s.words (section_at q.number) n) (section_at q.number) ≡ n
-      stored = get_or-set_same s.words (section_at q.number) n 0 (let a = kept_by.words.size in let b = size_above (kind_width q.shape.kind) q.shape.rows in omega arith)
+      stored = get_or-set_same s.words (section_at q.number) n 0 (let a = kept_by.words.size in let b = words_in_all (kind_width q.shape.kind) q.shape.rows in omega arith)
 
       kept : (k : ℕ) → k ≢ section_at q.number → slice_index (slice_set s.words (section_at q.number) n) k ≡ slice_index s.words k
       kept k other = get_or-set_other s.words (section_at q.number) k n 0 other
@@ -391,7 +391,7 @@ roots told slots by me is stands s r₀ _ at _ = elim (cases_eq (slice_index s.w
 
 -- the words of rows are those that the pen knows
 word_now : (ws : List ℕ) (p : PenPart) (row col : ℕ) → WordsFit ws p → first_row ≤ row → slice_index ws (column_at (kind_width p.shape.kind) row col) ≡ slice_index p.words (column_at (kind_width p.shape.kind) row col)
-word_now ws p row col fit low = fit.columns (column_at (kind_width p.shape.kind) row col) (column_behind (kind_width p.shape.kind) row col low)
+word_now ws p row col fit low = fit.columns (column_at (kind_width p.shape.kind) row col) (place_behind (kind_width p.shape.kind) row first_row col low)
 
 -- a pivot is as it was
 pub pivots : (told : Told) (slots by : ℕ) (me : M) (word row col : ℕ) → HasPass me.0 → IsAt (pass_of me.0) → row ≡ (here (pass_of me.0)).row
@@ -542,7 +542,7 @@ childs told slots by me word i level is here_at inner low place s r₀ _ at _ =
         each (suc j) z e' = (sees_fits e p q f).held j z e'
 
     same_slot : (width : Width) (row slots i j : ℕ) → column_at width row (slot_column slots i) ≡ column_at width row (slot_column slots j) → j ≡ i
-    same_slot Long row slots i j e = omega arith
+    same_slot width row slots i j e = omega arith
 
 pub slots_at : (told : Told) (slots by : ℕ) (me : M) (word row col : ℕ) → HasPass me.0 → IsAt (pass_of me.0) → row ≡ (here (pass_of me.0)).row
     → (i : ℕ) × (col ≡ slot_column (slots_in (pass_of me.0) (here (pass_of me.0))) i) × (i < length (spans_here (pass_of me.0) (here (pass_of me.0)))) → word ≡ column_at (kind_width (pass_of me.0).shape.kind) row col

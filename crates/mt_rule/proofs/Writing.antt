@@ -6,8 +6,8 @@ use lib.Seq.{set-get_or}
 use Rattle.std.specs.Prelude.{slice_index, slice_set}
 use Rattle.atomic_table.specs.Table.{Me, step, keeps, Allows}
 use Rattle.mt_base.specs.declared.widths.Width.{Width}
-use Rattle.mt_base.specs.declared.widths.Width.TheVariants.{Long}
-use Rattle.mt_base.specs.Width.{kind_width, columns, first_row}
+use Rattle.mt_base.specs.Width.{kind_width, first_row}
+use Rattle.mt_layout.proofs.Places.{place_behind, place_within, words_in_all}
 use Rattle.mt_rows.specs.Sheet.{IsPlace}
 use Rattle.mt_rule.specs.declared.views.Told.{Told}
 use Rattle.mt_rule.specs.declared.views.View.{View}
@@ -29,20 +29,11 @@ M = Me (Unit {0}) View
 
 -- ---- where words stand
 
-pub column_high : (w : Width) (row col : ℕ) → first_row ≤ row → rows_at w ≤ column_at w row col
-column_high Long row col first = omega arith
-
-pub column_low : (w : Width) (row col rows : ℕ) → row < first_row + rows → col < columns w → column_at w row col < size_of w rows
-column_low Long row col rows last inside = omega arith
-
-root_low : (w : Width) (rows : ℕ) → root_at < size_of w rows
-root_low Long rows = omega arith
-
 pub root_inside : (t : MtTable) → root_at < t.table.shared.table_id.words
-root_inside t = subst (λ (n : ℕ). root_at < n) (sym t.words) (root_low (kind_width t.table.shared.key.kind) (shape_told t.table.shared.key).rows)
+root_inside t = let words = t.words in let all = words_in_all (kind_width t.table.shared.key.kind) (shape_told t.table.shared.key).rows in omega arith
 
 section_low : (w : Width) (pass rows : ℕ) → pass < most_passes → section_at pass < size_of w rows
-section_low Long pass rows few = omega arith
+section_low w pass rows few = let all = words_in_all w rows in omega arith
 
 pub section_inside : (t : MtTable) (pen : Pen) (pass : ℕ) → IsPenOf (identity_of t) pen → pass < (pen_in pen).shape.passes → section_at pass < t.table.shared.table_id.words
 section_inside t pen pass of few =
@@ -63,10 +54,10 @@ column_of t pen row col i of place at =
     let shape : p.shape ≡ shape_told t.table.shared.key = ap (λ (d : Identity). d.shape) of in
     let kind : p.shape.kind ≡ t.table.shared.key.kind = ap (λ (d : Shape). d.kind) shape in
     let is : i ≡ column_at (kind_width p.shape.kind) row col = at ∙ ap (λ (w : Width). column_at w row col) (t.wide ∙ ap kind_width (sym kind)) in
-    let low = column_low (kind_width p.shape.kind) row col p.shape.rows place.last place.column in
+    let low = place_within (kind_width p.shape.kind) row (first_row + p.shape.rows) col place.last place.column in
     record {
       is = is;
-      above = column_high (kind_width p.shape.kind) row col place.first;
+      above = place_behind (kind_width p.shape.kind) row first_row col place.first;
       below = low;
       inside = subst (λ (n : ℕ × ℕ). n.0 < n.1) (λ j. (sym is j, (ap (λ (d : Shape). size_of (kind_width d.kind) d.rows) shape ∙ sym t.words) j)) low;
     }

@@ -1,20 +1,16 @@
 -- The pen's stores in drafts and in columns that no reader follows: which rows are reached does not change, and all that the pen
 -- knows stays true.
-use Rattle.std.proofs.Common.{◌≡◌, ◌≢◌, ℕ, zero, suc, ◌+◌, ◌*◌, ◌<◌, ◌≤◌, ◌==◌, List, [], ◌∷◌, ◌++◌, Bool, true, length, refl, sym, ap, ◌∙◌, subst, ⊎_elim, arith, length-set, get_or-set_other, get_or-set_same, Some}
+use Rattle.std.proofs.Common.{◌≡◌, ◌≢◌, ℕ, zero, suc, ◌<◌, ◌≤◌, ◌==◌, List, [], ◌∷◌, ◌++◌, Bool, true, length, refl, sym, ap, ◌∙◌, subst, ⊎_elim, arith, length-set, get_or-set_other, get_or-set_same, Some}
 use mathlib.Core.Option.{none}
 use Rattle.std.specs.Prelude.{slice_index, slice_set, nat_lt}
 use Rattle.std.specs.List.{AllByRecursion, flat_map}
 use Rattle.std.proofs.lemmas.Bool.{cases_eq}
 use Rattle.atomic_table.specs.Table.{step, stepped, keeps, Allows}
 use Rattle.mt_base.specs.declared.kinds.Kind.{Kind}
-use Rattle.mt_base.specs.declared.widths.Width.{Width}
-use Rattle.mt_base.specs.declared.widths.Width.TheVariants.{Long}
 use Rattle.mt_base.specs.Width.{deepest, kind_width}
-use Rattle.mt_layout.specs.declared.names.RowKind.{RowKind}
-use Rattle.mt_layout.specs.declared.names.RowKind.TheVariants as rowkinds
 use Rattle.mt_layout.specs.Rows.{row_in, named_kind, dead_mark}
-use Rattle.mt_layout.specs.Sizes.{slots_of}
 use Rattle.mt_layout.specs.declared.spans.Span.{Span}
+use Rattle.mt_layout.proofs.RowSizes.{gap_above}
 use Rattle.mt_rows.specs.declared.rows.Life.{Life}
 use Rattle.mt_rows.specs.declared.rows.Life.TheVariants.{New, Draft, Live}
 use Rattle.mt_rows.specs.Spans.{Table, spans_in, root_span}
@@ -118,11 +114,6 @@ written_sound e p words lives burials sound known tree live long all marks dead 
   passes = sound.passes;
   cleared = sound.cleared;
 }
-
-gap_above : (width : Width) (k : RowKind) (c slot : ℕ) → Some k ≡ Some rowkinds.Gapped → c < 2 * slots_of width k → c ≢ 2 * slots_of width rowkinds.Gapped + slot
-gap_above Long rowkinds.Leaf c slot same low = λ _. cc
-gap_above Long rowkinds.Inner c slot same low = λ _. cc
-gap_above Long rowkinds.Gapped c slot same low = λ is. omega arith
 
 module _ (e : ℕ → Extent) (p : PenPart) (sound : IsSound e p) where
   abbrev K : Kind
