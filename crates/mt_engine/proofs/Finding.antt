@@ -17,6 +17,7 @@ use Rattle.mt_base.specs.Map.{IsMap, is_held, over}
 use Rattle.mt_base.specs.Width.{columns, greatest}
 use Rattle.mt_base.proofs.CallsKeepOrder.{is_area}
 use Rattle.mt_base.proofs.FreeAreas.{low_is_room, high_is_room}
+use Rattle.mt_base.proofs.WidthBounds.{greatest_fits}
 use Rattle.mt_rows.specs.Publish.{IsLawfulOf, map_by}
 use Rattle.mt_rows.specs.Sheet.{Rooted, Sheet, ReadsUpTo, RoseUpTo}
 use Rattle.mt_rows.specs.Trees.{height_in}

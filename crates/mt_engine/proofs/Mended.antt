@@ -1,15 +1,15 @@
 -- A tree whose gap words were mended: it is lawful, and has the same rows and the same map.
-use Rattle.std.proofs.Common.{◌≡◌, ℕ, zero, suc, ◌+◌, ◌≤◌, ◌==◌, List, [], ◌∷◌, ◌++◌, Some, nat_lt, length, refl, sym, ap, ◌∙◌, subst, inl, inr, arith}
+use Rattle.std.proofs.Common.{◌≡◌, ℕ, zero, suc, ◌+◌, ◌≤◌, ◌==◌, List, [], ◌∷◌, ◌++◌, nat_lt, length, refl, sym, ap, ◌∙◌, subst, inl, inr, arith}
 use Rattle.mt_base.specs.declared.kinds.Kind.{Kind}
 use Rattle.mt_base.specs.declared.kinds.Kind.TheVariants as trees
 use Rattle.mt_base.specs.Width.{deepest}
-use Rattle.mt_layout.specs.declared.names.RowKind.TheVariants.{Leaf, Gapped}
+use Rattle.mt_layout.specs.declared.names.RowKind.TheVariants.{Gapped}
 use Rattle.mt_layout.specs.declared.spans.Span.{Span}
 use Rattle.mt_layout.specs.Rows.{row_in}
 use Rattle.mt_layout.proofs.RowSizes.{some_columns, some_slots_of}
 use Rattle.mt_path.specs.declared.paths.PathStep.{PathStep}
 use Rattle.mt_path.specs.Paths.{step_at, path_in}
-use Rattle.mt_rows.specs.Spans.{column, inner_kind, root_span, spans_in}
+use Rattle.mt_rows.specs.Spans.{column, root_span, spans_in}
 use Rattle.mt_rows.specs.Levels.{Levels, expand, is_row_of, tally}
 use Rattle.mt_rows.specs.Laws.{Tree, IsRow, IsTended, IsLawful, Stands, ParentLaw, GapLaw}
 use Rattle.mt_rows.specs.Gaps.{HasGaps}
@@ -19,6 +19,7 @@ use Rattle.mt_rows.specs.Publish.{tree_as, IsLawfulOf, map_by, is_reached}
 use Rattle.mt_rows.specs.Trees.{map_in, reached_in, height_in}
 use Rattle.mt_rows.proofs.Depth.{some_least, ranges_by_depth}
 use Rattle.mt_rows.proofs.Heights.{levels_pair}
+use Rattle.mt_rows.proofs.InnerKinds.{inner_not_named}
 use Rattle.mt_rows.proofs.Joins.{Shared, expand_shared, levels_shared, map_of_shared, times_shared}
 use Rattle.mt_rows.proofs.Lists.{levels_map}
 use Rattle.mt_rows.proofs.Reached as reached
@@ -70,15 +71,11 @@ some_first : (xs : List Span) → 1 ≤ length xs → (x : Span) × (ys : List S
 some_first [] some = absurd (omega (arith, some))
 some_first (x ∷ ys) some = (x, ys, refl)
 
-leaf_or_inner : (kind : Kind) (h : ℕ) → Some Leaf ≡ Some (inner_kind kind) → ⊥
-leaf_or_inner trees.Range h same = absurd (cc)
-leaf_or_inner trees.Alloc h same = absurd (cc)
-
 module _ (t t' : Tree) (kinds : t'.kind ≡ t.kind) where
   levels_same : (h h' : ℕ) (x : Span) (xs : List Span) → Levels (IsRow t) t.table h (x ∷ xs) → Levels (IsRow t') t'.table h' (x ∷ xs) → Levels (Shared t.table t'.table) t.table h (x ∷ xs) → h' ≡ h
   levels_same zero zero x xs rows rows' same = refl
-  levels_same zero (suc h') x xs rows rows' same = absurd (leaf_or_inner t'.kind h' (sym rows.0.name.named ∙ rows'.0.0.name.named))
-  levels_same (suc h) zero x xs rows rows' same = absurd (leaf_or_inner t.kind h (sym rows'.0.name.named ∙ rows.0.0.name.named))
+  levels_same zero (suc h') x xs rows rows' same = absurd (inner_not_named t'.kind (sym rows'.0.0.name.named ∙ rows.0.name.named))
+  levels_same (suc h) zero x xs rows rows' same = absurd (inner_not_named t.kind (sym rows.0.0.name.named ∙ rows'.0.name.named))
   levels_same (suc h) (suc h') x xs rows rows' same =
       let some : 1 ≤ length (spans_in t.table x) = (let least = some_least t (suc h) x in let count = rows.0.0.count.least in omega arith) in
       let first = some_first (spans_in t.table x) some in

@@ -5,7 +5,6 @@ use Rattle.std.specs.List.{AllByRecursion, Contains}
 use Rattle.std.proofs.lemmas.Bool.{cases_Bool, eqb-false}
 use Rattle.std.proofs.lemmas.List.Elements.{All-weaker, All-contains, All-contains_itself}
 use Rattle.mt_base.specs.declared.widths.Width.{Width}
-use Rattle.mt_base.specs.declared.widths.Width.TheVariants.{Long}
 use Rattle.mt_base.specs.declared.kinds.Kind.{Kind}
 use Rattle.mt_base.specs.declared.kinds.Kind.TheVariants as trees
 use Rattle.mt_base.specs.declared.ranges.Range.{Range}
@@ -25,6 +24,8 @@ use Rattle.mt_layout.specs.Columns.{slot_column, gap_column}
 use Rattle.mt_layout.specs.Rows.{row_in}
 use Rattle.mt_layout.specs.Sizes.{slots_of}
 use Rattle.mt_layout.specs.Spans.{hole_length, longest_in}
+use Rattle.mt_layout.proofs.Places.{other_place, other_column}
+use Rattle.mt_layout.proofs.RowSizes.{some_columns, slot_above, slot_within, gap_within}
 use Rattle.mt_rows.specs.declared.rows.Life.{Life}
 use Rattle.mt_rows.specs.declared.rows.Life.TheVariants.{New, Dead}
 use Rattle.mt_rows.specs.declared.rows.Place.{Place}
@@ -62,7 +63,10 @@ use Rattle.mt_rows.proofs.Longest.{longest_in-append}
 
 parent_stays : (width : Width) (words : List ℕ) (row slot word r : ℕ) → slot < slots_of width Leaf
     → slice_index (slice_set words (columns width * row + slot_column (slots_of width Leaf) slot) word) (columns width * r + 0) ≡ slice_index words (columns width * r + 0)
-parent_stays Long words row slot word r low = get_or-set_other words (32 * row + (16 + slot)) (32 * r + 0) word 0 (λ e. omega arith)
+parent_stays width words row slot word r low =
+    let above : 0 ≢ slot_column (slots_of width Leaf) slot = let some = slot_above width Leaf slot in λ e. omega arith in
+    get_or-set_other words (columns width * row + slot_column (slots_of width Leaf) slot) (columns width * r + 0) word 0
+    (other_column width row r 0 (slot_column (slots_of width Leaf) slot) above (some_columns width) (slot_within width Leaf slot low))
 
 parents_stay : (t t' : Table) (row slot : ℕ) (xs : List Span) → ((r : ℕ) → column t' r 0 ≡ column t r 0) → laws.ParentsFrom t row slot xs → laws.ParentsFrom t' row slot xs
 parents_stay t t' row slot [] same parents = tt
@@ -80,7 +84,9 @@ no_parents_in_leaves t (x ∷ xs) = (tt, no_parents_in_leaves t xs)
 
 gap_stays : (width : Width) (words : List ℕ) (row slot word r c : ℕ) → slot < slots_of width Leaf → c < slots_of width Gapped → (r ≡ row → ⊥)
     → slice_index (slice_set words (columns width * row + slot_column (slots_of width Leaf) slot) word) (columns width * r + gap_column (slots_of width Gapped) c) ≡ slice_index words (columns width * r + gap_column (slots_of width Gapped) c)
-gap_stays Long words row slot word r c low in_row other = get_or-set_other words (32 * row + (16 + slot)) (32 * r + (20 + c)) word 0 (λ e. other (omega arith))
+gap_stays width words row slot word r c low in_row other =
+    get_or-set_other words (columns width * row + slot_column (slots_of width Leaf) slot) (columns width * r + gap_column (slots_of width Gapped) c) word 0
+    (other_place width row r (gap_column (slots_of width Gapped) c) (slot_column (slots_of width Leaf) slot) other (gap_within width c in_row) (slot_within width Leaf slot low))
 
 -- an entry is no hole, whichever it is
 no_hole : (x : Span) → x.word ≢ 0 → hole_length x ≡ 0

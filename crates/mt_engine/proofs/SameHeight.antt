@@ -24,6 +24,7 @@ use Rattle.mt_rows.specs.Sheet.{Rooted, Sheet, word_at}
 use Rattle.mt_rows.specs.Publish.{tree_as, IsTreeOf, IsReached}
 use Rattle.mt_rows.specs.Replacement.{root_of}
 use Rattle.mt_rows.proofs.Heights.{level_next}
+use Rattle.mt_rows.proofs.InnerKinds.{inner_not_named}
 use Rattle.mt_rows.proofs.Reached as reached
 use Rattle.mt_path.specs.Paths.{span_at}
 use Rattle.mt_path.proofs.LeafSlots.{stands_in}
@@ -117,9 +118,9 @@ module _ (kind : Kind) (t t' : Rooted) (h h' row col : ℕ) (stands : Stands (tr
   same_level : (k k' : ℕ) (x x' : Span) → Before k x → After k' x' → x'.word ≡ x.word → k' ≡ k
   same_level zero zero x x' on on' same = refl
   same_level zero (suc k') x x' on on' same =
-      absurd (reached.inner_no_leaf kind (sym (reached.on_level_law now h' stands' (suc k') x' on').name.named ∙ (ap named_kind same ∙ (reached.on_level_law was h stands zero x on).name.named)))
+      absurd (inner_not_named kind (sym (reached.on_level_law now h' stands' (suc k') x' on').name.named ∙ (ap named_kind same ∙ (reached.on_level_law was h stands zero x on).name.named)))
   same_level (suc k) zero x x' on on' same =
-      absurd (reached.inner_no_leaf kind (sym (reached.on_level_law was h stands (suc k) x on).name.named ∙ (ap named_kind (sym same) ∙ (reached.on_level_law now h' stands' zero x' on').name.named)))
+      absurd (inner_not_named kind (sym (reached.on_level_law was h stands (suc k) x on).name.named ∙ (ap named_kind (sym same) ∙ (reached.on_level_law now h' stands' zero x' on').name.named)))
   same_level (suc k) (suc k') x x' on on' same =
       let slot = one_kept col slots in
       let child = child_word k k' x x' slot.0 slot.1 slot.2 on on' same in
