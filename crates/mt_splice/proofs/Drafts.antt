@@ -4,12 +4,12 @@ use Rattle.std.specs.Prelude.{nat_lt, slice_index, slice_set, if◌then◌else�
 use Rattle.std.proofs.lemmas.Bool.{cases_eq, cases_lt, ltb-true, lt-ltb}
 use Rattle.std.proofs.lemmas.List.{get_or_past}
 use Rattle.mt_base.specs.declared.widths.Width.{Width}
-use Rattle.mt_base.specs.declared.widths.Width.TheVariants.{Long}
 use Rattle.mt_base.specs.Width.{columns, most_rows, first_row}
 use Rattle.mt_layout.specs.declared.items.Item.{Item}
 use Rattle.mt_layout.specs.declared.names.RowKind.{RowKind}
 use Rattle.mt_layout.specs.Columns.{pivot_column, slot_column, gap_column, row_words}
 use Rattle.mt_layout.specs.Sizes.{slots_of, gaps_of}
+use Rattle.mt_layout.proofs.Places.{other_place, place_within}
 use Rattle.mt_layout.proofs.RowSizes.{sizes, some_slots_of, layout_of, all_gaps}
 use Rattle.mt_layout.proofs.RowWords.{item_or, used, length-used, used-pivot, used-slot, used-gap, get_or-padded}
 use Rattle.mt_rows.specs.declared.rows.Life.{Life}
@@ -21,12 +21,6 @@ use Rattle.mt_splice.specs.steps.Writes.{OnlyDrafts, IsItemPut, IsItemDrafted, u
 
 -- ---- one word is written
 
-other_index : (w : Width) (r row c i : ℕ) → r ≢ row → c < columns w → i < columns w → columns w * r + c ≢ columns w * row + i
-other_index Long r row c i other c_within i_within same = other (omega arith)
-
-in_table : (w : Width) (row rows i : ℕ) → i < columns w → row < rows → columns w * row + i < columns w * rows
-in_table Long row rows i within below = omega arith
-
 abbrev pub wrote : Width → List ℕ → ℕ → ℕ → ℕ → Table
 wrote w words row i word = record { width = w; words = set words (columns w * row + i) word }
 
@@ -34,13 +28,13 @@ abbrev pub plain : Width → List ℕ → Table
 plain w words = record { width = w; words = words }
 
 pub other_row : (w : Width) (words : List ℕ) (row i word r c : ℕ) → r ≢ row → i < columns w → c < columns w → column (wrote w words row i word) r c ≡ column (plain w words) r c
-other_row w words row i word r c other i_within c_within = get_or-set_other words (columns w * row + i) (columns w * r + c) word 0 (other_index w r row c i other c_within i_within)
+other_row w words row i word r c other i_within c_within = get_or-set_other words (columns w * row + i) (columns w * r + c) word 0 (other_place w row r c i other c_within i_within)
 
 pub other_column : (w : Width) (words : List ℕ) (row i word c : ℕ) → c ≢ i → column (wrote w words row i word) row c ≡ column (plain w words) row c
 other_column w words row i word c other = get_or-set_other words (columns w * row + i) (columns w * row + c) word 0 (λ same. other (omega arith))
 
 pub same_column : (w : Width) (words : List ℕ) (row rows i word : ℕ) → i < columns w → row < rows → length words ≡ columns w * rows → column (wrote w words row i word) row i ≡ word
-same_column w words row rows i word within below whole = get_or-set_same words (columns w * row + i) word 0 (let inside = in_table w row rows i within below in omega arith)
+same_column w words row rows i word within below whole = get_or-set_same words (columns w * row + i) word 0 (let inside = place_within w row rows i below within in omega arith)
 
 -- ---- a row alone is written
 

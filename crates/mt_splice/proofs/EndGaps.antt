@@ -10,7 +10,7 @@ use Rattle.mt_layout.specs.declared.spans.Span.{Span}
 use Rattle.mt_layout.specs.Rows.{row_in}
 use Rattle.mt_layout.specs.Columns.{gap_column}
 use Rattle.mt_layout.specs.Sizes.{slots_of, gaps_of}
-use Rattle.mt_layout.proofs.RowSizes.{sizes}
+use Rattle.mt_layout.proofs.RowSizes.{sizes, some_gaps_of}
 use Rattle.mt_rows.specs.Spans.{Table, column, inner_kind, spans_in}
 use Rattle.mt_rows.specs.Levels.{expand, Levels}
 use Rattle.mt_rows.specs.Laws.{Tree, IsRow, GapLaw, top_of}
@@ -65,7 +65,7 @@ gap_within : (width : Width) (slot : ℕ) → slot < slots_of width Gapped → (
 gap_within width slot used = by (sizes width Gapped).gaps
   where
     by : (gaps_of width Gapped ≡ 0) ⊎ (gaps_of width Gapped ≡ slots_of width Gapped) → (0 < gap_column (slots_of width Gapped) slot) × (gap_column (slots_of width Gapped) slot < columns width)
-    by (inl none) = absurd (some_gaps width none)
+    by (inl none) = absurd (some_gaps_of width none)
     by (inr all) = let fit = (sizes width Gapped).columns_fit in (omega arith, omega arith)
 
 module _ (is_new : ℕ → Bool) (index : ℕ) (t : Tree) (words : List ℕ) (keep : AllKeep t.table (table_with t.table words)) where

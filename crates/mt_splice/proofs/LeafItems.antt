@@ -3,18 +3,11 @@ use Rattle.std.proofs.Common.{◌≡◌, ℕ, zero, suc, ◌+◌, ◌-◌, ◌<�
 use Rattle.std.specs.Prelude.{slice_index}
 use Rattle.std.specs.List.{prefix_len, filter}
 use Rattle.std.proofs.lemmas.Bool.{cases_Bool, ltb-true, ltb-false, lt-ltb, le-ltb, lt-leb, le-leb}
-use Rattle.mt_base.specs.declared.widths.Width.{Width}
-use Rattle.mt_base.specs.declared.widths.Width.TheVariants.{Long}
 use Rattle.mt_layout.specs.declared.items.Item.{Item}
-use Rattle.mt_layout.specs.declared.names.RowKind.TheVariants.{Leaf}
 use Rattle.mt_layout.specs.declared.spans.Span.{Span}
 use Rattle.mt_layout.specs.Columns.{RiseFrom, pivot_column, item_at, items_from}
-use Rattle.mt_layout.specs.Sizes.{gaps_of}
 use Rattle.mt_layout.specs.Spans.{spans_from, BeginsFull, Apart}
 use Rattle.mt_leaf.specs.Places.{slot_reaching, slot_above, first_of, with_joined, cut_item, items_below}
-
-pub leaf_gaps : (width : Width) → gaps_of width Leaf ≡ 0
-leaf_gaps Long = refl
 
 -- ---- the slot that holds an index
 

@@ -16,7 +16,7 @@ use Rattle.mt_layout.specs.Sizes.{slots_of, gaps_of, run_room}
 use Rattle.mt_layout.specs.Spans.{Fills, spans_from, Apart}
 use Rattle.mt_layout.proofs.NameLaws.{Names-named_kind}
 use Rattle.mt_layout.proofs.Reading.{few_items}
-use Rattle.mt_layout.proofs.RowSizes.{sizes}
+use Rattle.mt_layout.proofs.RowSizes.{sizes, no_gaps_of}
 use Rattle.mt_layout.proofs.SpanLists.{after, fills_after, fills_rise, length-spans_from, spans-append}
 use Rattle.mt_leaf.specs.Edits.{spans_below, spans_above, span_stored, stored, joined, edited, starting}
 use Rattle.mt_leaf.specs.Places.{slot_reaching, slot_above, first_of, with_joined, items_below}
@@ -36,7 +36,7 @@ use Rattle.mt_path.proofs.TreePaths.{row_of, rows_at, step_of, step, place, lawf
 use Rattle.mt_splice.specs.Splice.{region_of}
 use Rattle.mt_splice.specs.steps.Regions.{AreEnds, IsLeafStep, leaf_items}
 use Rattle.mt_splice.proofs.Gathering.{drop_from}
-use Rattle.mt_splice.proofs.LeafItems.{leaf_gaps, spans-prefix, first_of-take, first_reaching, length-items_below, apart_below, whole_below, part_below, item_in}
+use Rattle.mt_splice.proofs.LeafItems.{spans-prefix, first_of-take, first_reaching, length-items_below, apart_below, whole_below, part_below, item_in}
 use Rattle.mt_splice.proofs.PathRows.{rows_in_order, spans_of_step, leaf_numbered}
 
 -- ---- the leaf of an index
@@ -297,7 +297,7 @@ module _ {t : Rooted} {leaf : PathStep} {index : ℕ} (is : IsLeafStep t leaf in
         let slot : 0 + leaf.slot ≡ leaf.slot = omega arith in
         let parts = drop_from slots gaps t.table.words (base_of t.table leaf.row) leaf.max leaf.slot slots 0 leaf_used ∙ here.2 in
         let none : gap_at slots gaps t.table.words (base_of t.table leaf.row) (0 + leaf.slot) ≡ 0 =
-        ap (λ (n : ℕ). gap_at slots n t.table.words (base_of t.table leaf.row) (0 + leaf.slot)) (leaf_gaps t.table.width) in
+        ap (λ (n : ℕ). gap_at slots n t.table.words (base_of t.table leaf.row) (0 + leaf.slot)) (no_gaps_of t.table.width Leaf (λ e. cc)) in
         let words : word ≡ slice_index t.table.words (base_of t.table leaf.row + slot_column slots (0 + leaf.slot)) = is_word ∙ ap (λ (k : ℕ). slice_index t.table.words (base_of t.table leaf.row + slot_column slots k)) (sym slot) in
         pushed
         ∙ ((λ k. read k ++ (record { last = index - 1; word = words k; gap = sym none k } ∷ []))

@@ -13,7 +13,7 @@ use Rattle.mt_layout.specs.Sizes.{slots_of}
 use Rattle.mt_layout.specs.Spans.{spans_from, Fills}
 use Rattle.mt_layout.proofs.SpanLists.{fills-append, fills_le, fills_parts, after, after-append, spans-append, spans-drop}
 use Rattle.mt_leaf.specs.Places.{first_of}
-use Rattle.mt_path.proofs.Bounds.{greatest_fits}
+use Rattle.mt_base.proofs.WidthBounds.{greatest_fits}
 use Rattle.mt_free.specs.Book.{Book}
 use Rattle.mt_rows.specs.Spans.{inner_kind}
 use Rattle.mt_rows.specs.Laws.{Tree, IsRow, kind_at}

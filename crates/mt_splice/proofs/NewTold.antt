@@ -1,13 +1,12 @@
 -- A row that was written keeps the law of gaps, and the item that it is one level up tells its gap.
-use Rattle.std.proofs.Common.{◌≡◌, ℕ, zero, suc, List, [], ◌∷◌, refl, sym, ◌∙◌, subst, append-nil}
-use Rattle.mt_base.specs.declared.widths.Width.{Width}
-use Rattle.mt_base.specs.declared.widths.Width.TheVariants.{Long}
+use Rattle.std.proofs.Common.{◌≡◌, ℕ, zero, suc, List, [], ◌∷◌, refl, sym, ◌∙◌, subst, append-nil, ◌≢◌}
 use Rattle.mt_layout.specs.declared.items.Item.{Item}
 use Rattle.mt_layout.specs.declared.names.RowKind.{RowKind}
 use Rattle.mt_layout.specs.declared.names.RowKind.TheVariants.{Leaf, Inner, Gapped}
 use Rattle.mt_layout.specs.declared.spans.Span.{Span}
 use Rattle.mt_layout.specs.Sizes.{gaps_of}
 use Rattle.mt_layout.specs.Spans.{spans_from}
+use Rattle.mt_layout.proofs.RowSizes.{some_gaps_of}
 use Rattle.mt_rows.specs.Spans.{Table, inner_kind, spans_in}
 use Rattle.mt_rows.specs.Levels.{Levels}
 use Rattle.mt_rows.specs.Laws.{IsRow, GapLaw, items_in, kind_at}
@@ -33,13 +32,14 @@ tells_inner Gapped t h x items spans told = let longest = inner_longest t h x x.
 
 -- ---- the law of gaps
 
-held_gapped : (width : Width) (items : List Item) → as_held (gaps_of width Gapped) items ≡ items
-held_gapped Long items = refl
+held_some : (gaps : ℕ) (items : List Item) → gaps ≢ 0 → as_held gaps items ≡ items
+held_some zero items some = absurd (some refl)
+held_some (suc gaps) items some = refl
 
 tells_held : (kind : RowKind) (t : Table) (h first : ℕ) (items : List Item) → TellGaps kind t h first items → TellGaps kind t h first (as_held (gaps_of t.width kind) items)
 tells_held Leaf t h first items told = tt
 tells_held Inner t h first items told = tt
-tells_held Gapped t h first items told = subst (TellGaps Gapped t h first) (sym (held_gapped t.width items)) told
+tells_held Gapped t h first items told = subst (TellGaps Gapped t h first) (sym (held_some (gaps_of t.width Gapped) items (some_gaps_of t.width))) told
 
 module _ (start : Start) (w : Work) (x : Span) (items : List Item) where
   abbrev t : Table

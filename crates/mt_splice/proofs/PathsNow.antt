@@ -8,9 +8,10 @@ use Rattle.mt_base.specs.Width.{deepest}
 use Rattle.mt_rows.specs.Laws.{Tree, top_of}
 use Rattle.mt_rows.proofs.Joins.{Shared, levels_front, levels_back}
 use Rattle.mt_rows.proofs.Lists.{levels_here}
+use Rattle.mt_rows.proofs.InnerKinds.{inner_no_leaf}
 use Rattle.mt_path.specs.declared.paths.PathStep.{PathStep}
 use Rattle.mt_path.specs.Paths.{slot_for, span_at, step_in, below, path_of, path_in}
-use Rattle.mt_path.proofs.Steps.{Leads, is_inner, path_of_leaf, path_of_inner, child_at, child_leads, row_here}
+use Rattle.mt_path.proofs.Steps.{Leads, path_of_leaf, path_of_inner, child_at, child_leads, row_here}
 use Rattle.mt_path.proofs.TreePaths.{root_leads, top_row}
 use Rattle.mt_splice.specs.steps.Work.{Start, Work, now, Holds}
 use Rattle.mt_splice.proofs.Moments.{old_shared}
@@ -39,9 +40,9 @@ module _ (t : Tree) (t' : Table) where
       let named = (row_here t (suc h) x index leads).name.named in
       let here = (levels_here (Shared t.table t') t.table (suc h) (x ∷ []) same).0 in
       let rest = path_shared depth h (below t.table x index) index (omega arith) (child_leads t h x index leads) (child_shared h x index leads same) in
-      path_of_inner t' depth x index (inner_kind t.kind) named (is_inner t.kind)
+      path_of_inner t' depth x index (inner_kind t.kind) named (inner_no_leaf t.kind)
       ∙ ((λ i. step_shared x index here i ∷ path_of t' depth (below_shared x index here i) index)
-      ∙ (ap (λ (l : List PathStep). step_in t.table x index ∷ l) rest ∙ sym (path_of_inner t.table depth x index (inner_kind t.kind) named (is_inner t.kind))))
+      ∙ (ap (λ (l : List PathStep). step_in t.table x index ∷ l) rest ∙ sym (path_of_inner t.table depth x index (inner_kind t.kind) named (inner_no_leaf t.kind))))
 
 pub path_now : (start : Start) (s : Work) → Holds start s → (index : ℕ) → index ≤ top_of start.tree → path_in (now start s).table start.tree.root index ≡ path_in start.tree.table start.tree.root index
 path_now start s holds index within =

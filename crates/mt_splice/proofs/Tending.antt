@@ -5,8 +5,8 @@ use Rattle.std.proofs.lemmas.Bool.{cases_eq}
 use Rattle.mt_rows.specs.declared.rows.Life.{Life}
 use Rattle.mt_rows.specs.declared.rows.Life.TheVariants.{New}
 use Rattle.mt_base.specs.declared.widths.Width.{Width}
-use Rattle.mt_base.specs.declared.widths.Width.TheVariants.{Long}
 use Rattle.mt_base.specs.Width.{columns, first_row}
+use Rattle.mt_base.proofs.WidthBounds.{few_columns}
 use Rattle.mt_layout.specs.declared.names.RowKind.{RowKind}
 use Rattle.mt_layout.specs.Rows.{named_row, parent_at, dead_mark}
 use Rattle.mt_layout.specs.Columns.{slot_column}
@@ -35,13 +35,9 @@ none_tended s kind row count = record {
   word = λ i below. refl;
 }
 
--- a slot is named in a parent word
-few_columns : (w : Width) (c : ℕ) → c < columns w → c < 256
-few_columns Long c within = omega arith
-
 -- a parent word that is a dead mark is that of the row itself
 pub own_parent : (w : Width) (child row slot : ℕ) → slot < columns w → parent_at row slot ≡ dead_mark child → child ≡ row
-own_parent w child row slot within dead = let few = few_columns w slot within in omega arith
+own_parent w child row slot within dead = let few = few_columns w in omega arith
 
 -- the parent word of a row is written: every other word is as before
 parent_wrote : (w : Width) (words : List ℕ) (child word r c : ℕ) → c < columns w → (c ≡ 0 → child ≢ r) → column (wrote w words child 0 word) r c ≡ column (plain w words) r c
