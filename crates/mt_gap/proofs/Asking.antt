@@ -6,7 +6,6 @@ use Rattle.std.specs.Option.{option_or, is_some}
 use Rattle.std.proofs.lemmas.Bool.{cases_Bool, lt-leb}
 use Rattle.std.proofs.lemmas.Grind.{flat_map-append}
 use Rattle.mt_base.specs.declared.widths.Width.{Width}
-use Rattle.mt_base.specs.declared.widths.Width.TheVariants.{Long}
 use Rattle.mt_layout.specs.declared.items.Item.{Item}
 use Rattle.mt_layout.specs.declared.names.RowKind.{RowKind}
 use Rattle.mt_layout.specs.declared.names.RowKind.TheVariants.{Leaf, Inner, Gapped}
@@ -14,6 +13,7 @@ use Rattle.mt_layout.specs.Columns.{pivot_column, items_from, items_at}
 use Rattle.mt_layout.specs.Rows.{row_in, named_kind}
 use Rattle.mt_layout.specs.Sizes.{slots_of, gaps_of}
 use Rattle.mt_layout.proofs.Reading.{gap_at-none}
+use Rattle.mt_layout.proofs.RowSizes.{no_gaps_of}
 use Rattle.mt_path.specs.declared.paths.PathStep.{PathStep}
 use Rattle.mt_rows.specs.Spans.{Table, base_of}
 use Rattle.mt_layout.specs.declared.spans.Span.{Span}
@@ -243,9 +243,9 @@ HasNoGaps Inner = Unit {0}
 HasNoGaps Gapped = ⊥
 
 none_of : (width : Width) (kind : RowKind) → HasNoGaps kind → gaps_of width kind ≡ 0
-none_of Long Leaf is = refl
-none_of Long Inner is = refl
-none_of Long Gapped is = absurd is
+none_of width Leaf is = no_gaps_of width Leaf (λ e. cc)
+none_of width Inner is = no_gaps_of width Inner (λ e. cc)
+none_of width Gapped is = absurd is
 
 pub row_without : (t : Table) (row : ℕ) (kind : RowKind) (max : ℕ) → HasNoGaps kind → AllByRecursion (λ (x : Item). x.gap ≡ 0) (items_at (slots_of t.width kind) (gaps_of t.width kind) t.words (base_of t row) max)
 row_without t row kind max is = items_without (slots_of t.width kind) (gaps_of t.width kind) t.words (base_of t row) max (slots_of t.width kind) 0 (none_of t.width kind is)

@@ -1,24 +1,23 @@
 -- A search from level to level: what it asks keeps the answer, and at most two rows of a level are asked.
-use Rattle.std.proofs.Common.{◌≡◌, ◌≢◌, ℕ, zero, suc, ◌+◌, ◌*◌, ◌<◌, ◌≤◌, All, List, [], ◌∷◌, Option, Some, length, take, refl, sym, ap, ◌∙◌, subst, inl, inr, arith}
+use Rattle.std.proofs.Common.{◌≡◌, ◌≢◌, ℕ, zero, suc, ◌+◌, ◌*◌, ◌<◌, ◌≤◌, All, List, [], ◌∷◌, Option, length, take, refl, sym, ap, ◌∙◌, subst, inl, inr, arith}
 use Rattle.std.specs.List.{AllByRecursion, flat_map}
 use Rattle.std.proofs.lemmas.Bool.{cases_Bool}
 use Rattle.std.proofs.lemmas.List.Elements.{All-nil, All-cons}
 use Rattle.mt_base.specs.declared.kinds.Kind.{Kind}
 use Rattle.mt_base.specs.declared.kinds.Kind.TheVariants as trees
-use Rattle.mt_base.specs.declared.widths.Width.{Width}
-use Rattle.mt_base.specs.declared.widths.Width.TheVariants.{Long}
 use Rattle.mt_base.specs.Holes.{Hole, low, high, lowest_in, highest_in, holes, holes_from}
 use Rattle.mt_base.specs.Width.{columns, deepest, greatest}
-use Rattle.mt_layout.specs.declared.names.RowKind.TheVariants.{Leaf}
 use Rattle.mt_layout.specs.declared.spans.Span.{Span}
 use Rattle.mt_layout.proofs.NameLaws.{Names-named_kind}
+use Rattle.mt_layout.proofs.RowSizes.{some_columns}
 use Rattle.mt_rows.specs.Spans.{Table, root_span}
 use Rattle.mt_rows.specs.Levels.{map_of, Levels}
-use Rattle.mt_rows.specs.Laws.{Tree, IsRow, IsTended, Stands, kind_at}
+use Rattle.mt_rows.specs.Laws.{Tree, IsRow, IsTended, Stands}
 use Rattle.mt_rows.specs.Publish.{tree_as, IsLawfulOf, map_by}
 use Rattle.mt_rows.specs.Sheet.{Rooted, Sheet, ReadsUpTo, loaded}
 use Rattle.mt_rows.specs.Trees.{map_in, height_in}
 use Rattle.mt_rows.proofs.Depth.{ranges_by_depth, height_by_depth}
+use Rattle.mt_rows.proofs.InnerKinds.{inner_not_named}
 use Rattle.mt_rows.proofs.Joins.{levels_join, levels_front, levels_back}
 use Rattle.mt_rows.proofs.Lists.{levels_here, levels_none}
 use Rattle.mt_rows.proofs.Ranges.{rows_filled}
@@ -36,9 +35,6 @@ use Rattle.mt_gap.proofs.Narrowed.{narrow_keeps, narrow_two, rising_narrow, risi
 use Rattle.mt_gap.proofs.NarrowedUp.{levels_up, rising_up, up_two, up_keeps}
 
 -- ---- rows of the table
-
-some_columns : (width : Width) → 0 < columns width
-some_columns Long = omega arith
 
 pub row_may_load : (kind : Kind) (t : Rooted) (h : ℕ) (x : Span) → IsRow (tree_as kind t) h x → MayLoad t x
 row_may_load kind t h x row = λ k named. record { first = (Names-named_kind x.word k named).0.0; last = row.name.in_table; column = some_columns t.table.width }
@@ -190,11 +186,7 @@ pub leaves_have : (t : Tree) (pick : List Hole → Option ℕ) (w : Window) (ans
 leaves_have t pick w answer left [] leaves rows found = ap (picked pick w) (sym (no_holes t.table left)) ∙ found
 leaves_have t pick w answer zero (x ∷ xs) leaves rows found =
     ap (picked pick w) (holes_of_children (children_below t.table (x ∷ xs)) ∙ ap (flat_map leaf_hole) (spans_below t.table (x ∷ xs))) ∙ found
-leaves_have t pick w answer (suc left) (x ∷ xs) leaves rows found = absurd (not_inner t.kind (sym rows.0.0.name.named ∙ leaves))
-  where
-    not_inner : (kind : Kind) → Some (kind_at kind (suc left)) ≡ Some Leaf → ⊥
-    not_inner trees.Range same = absurd (cc)
-    not_inner trees.Alloc same = absurd (cc)
+leaves_have t pick w answer (suc left) (x ∷ xs) leaves rows found = absurd (inner_not_named t.kind (sym rows.0.0.name.named ∙ leaves))
 
 -- ---- the whole way
 

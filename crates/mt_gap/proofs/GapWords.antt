@@ -1,15 +1,13 @@
 -- The gap words of a row, those of slots in which nothing stands among them.
 use Rattle.std.proofs.Common.{◌≡◌, ℕ, zero, suc, ◌+◌, ◌-◌, ◌<◌, ◌≤◌, List, [], ◌∷◌, length, max, refl, sym, ◌∙◌, arith}
 use Rattle.std.specs.Prelude.{slice_index}
-use Rattle.mt_base.specs.declared.widths.Width.{Width}
-use Rattle.mt_base.specs.declared.widths.Width.TheVariants.{Long}
 use Rattle.mt_base.specs.Width.{columns}
 use Rattle.mt_layout.specs.declared.items.Item.{Item}
 use Rattle.mt_layout.specs.declared.names.RowKind.TheVariants.{Gapped}
-use Rattle.mt_layout.specs.Columns.{gap_column, gap_at, items_at, row_words}
+use Rattle.mt_layout.specs.Columns.{gap_column, items_at, row_words}
 use Rattle.mt_layout.specs.Sizes.{slots_of, gaps_of}
-use Rattle.mt_layout.proofs.Reading.{few_items}
-use Rattle.mt_layout.proofs.RowSizes.{layout_of}
+use Rattle.mt_layout.proofs.Reading.{few_items, gap_at-some}
+use Rattle.mt_layout.proofs.RowSizes.{layout_of, all_gaps_of, some_gaps_of, gap_within}
 use Rattle.mt_layout.proofs.RowWords.{item_or, get_or-padded, used, used-gap}
 use Rattle.mt_path.specs.declared.paths.PathStep.{PathStep}
 use Rattle.mt_rows.specs.Spans.{Table, base_of, column}
@@ -40,15 +38,6 @@ longest_most first (x ∷ items) (suc n) few =
 
 -- ---- of a row
 
-gap_word : (width : Width) (words : List ℕ) (base k : ℕ) → gap_at (slots_of width Gapped) (gaps_of width Gapped) words base k ≡ slice_index words (base + gap_column (slots_of width Gapped) k)
-gap_word Long words base k = refl
-
-has_gap : (width : Width) (k : ℕ) → k < slots_of width Gapped → k < gaps_of width Gapped
-has_gap Long k low = low
-
-pub few_gaps : (width : Width) → slots_of width Gapped ≤ columns width
-few_gaps Long = omega arith
-
 module _ (t : Table) (row max : ℕ) where
   abbrev slots : ℕ
   slots = slots_of t.width Gapped
@@ -66,9 +55,9 @@ module _ (t : Table) (row max : ℕ) where
     gap_is : (k : ℕ) → k < slots → gap_in t Gapped row k ≡ (item_or items k).gap
     gap_is k low =
         let words = used (columns t.width) slots gaps (column t row 0) items (layout_of t.width Gapped) fit in
-        gap_word t.width t.words (base_of t row) k
-        ∙ (unused (gap_column slots k) (gap_inside t.width k low)
-        ∙ (get_or-padded words (columns t.width - length words) (gap_column slots k) ∙ used-gap (columns t.width) slots gaps (column t row 0) items (layout_of t.width Gapped) fit k (has_gap t.width k low)))
+        gap_at-some slots gaps t.words (base_of t row) k (some_gaps_of t.width)
+        ∙ (unused (gap_column slots k) (gap_within t.width k low)
+        ∙ (get_or-padded words (columns t.width - length words) (gap_column slots k) ∙ used-gap (columns t.width) slots gaps (column t row 0) items (layout_of t.width Gapped) fit k (omega (arith, low, all_gaps_of t.width))))
 
     most_is : (n : ℕ) → n ≤ slots → most_gap t row n ≡ most_item items n
     most_is zero low = refl

@@ -14,7 +14,7 @@ use Rattle.mt_layout.specs.Columns.{gap_column}
 use Rattle.mt_layout.specs.Rows.{row_in, named_kind}
 use Rattle.mt_layout.specs.Sizes.{slots_of}
 use Rattle.mt_layout.proofs.NameLaws.{Names-named_kind}
-use Rattle.mt_layout.proofs.RowSizes.{some_columns, some_slots_of}
+use Rattle.mt_layout.proofs.RowSizes.{some_columns, some_slots_of, gap_within}
 use Rattle.mt_layout.proofs.SpanLists.{fills_le}
 use Rattle.mt_path.specs.declared.paths.PathStep.{PathStep}
 use Rattle.mt_path.specs.Paths.{step_in, span_at, step_at, path_in}
@@ -28,7 +28,7 @@ use Rattle.mt_rows.specs.Sheet.{Rooted, Sheet, IsPlace, OnlyReads, MayTend, IsWh
 use Rattle.mt_rows.specs.Spans.{Table, root_span, spans_in, spans_by, row_spans}
 use Rattle.mt_rows.proofs.Depth.{height_by_depth}
 use Rattle.mt_rows.proofs.FewSpans.{row_most}
-use Rattle.mt_rows.proofs.GapStore.{gap_inside, all_spans_stay, still_stands}
+use Rattle.mt_rows.proofs.GapStore.{all_spans_stay, still_stands}
 use Rattle.mt_rows.proofs.Joins.{Shared}
 use Rattle.mt_rows.proofs.Lists.{levels_here, levels_map}
 use Rattle.mt_rows.proofs.PlainReached.{levels_from}
@@ -145,7 +145,7 @@ module _ (s s' : Sheet) (path : List PathStep) (kind : RowKind) (d slots : ℕ) 
 
     may_tend_it : (gap : ℕ) → MayTend s' (row_in x.word) (gap_column (slots_of r.table.width Gapped) slots) gap
     may_tend_it gap = record {
-      at = record { first = (Names-named_kind x.word (kind_at trees.Alloc (suc m.done)) x_row.name.named).0.0; last = x_row.name.in_table; column = gap_inside r.table.width slots slot_low };
+      at = record { first = (Names-named_kind x.word (kind_at trees.Alloc (suc m.done)) x_row.name.named).0.0; last = x_row.name.in_table; column = gap_within r.table.width slots slot_low };
       live = ap (λ (v : Sheet). life_of v.lives (row_in x.word)) m.only ∙ x_kept.0;
       kept = ap (λ (v : Sheet). is_buried v.buried (row_in x.word)) m.only ∙ x_kept.1;
       column = inr (record { depth = d; at = x; slot = slots; reached = reached t m.height m.stands m.index d within' (let h = high in omega arith); gapped = x_row.name.named; number = refl; used = used; column = refl });

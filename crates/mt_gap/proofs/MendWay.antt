@@ -6,8 +6,8 @@ use Rattle.std.proofs.lemmas.Bool.{cases_Bool, cases_eq}
 use Rattle.mt_base.specs.declared.kinds.Kind.{Kind}
 use Rattle.mt_base.specs.declared.kinds.Kind.TheVariants as trees
 use Rattle.mt_base.specs.declared.widths.Width.{Width}
-use Rattle.mt_base.specs.declared.widths.Width.TheVariants.{Long}
 use Rattle.mt_base.specs.Width.{columns, deepest, greatest, first_row}
+use Rattle.mt_base.proofs.WidthBounds.{greatest_fits}
 use Rattle.mt_layout.specs.declared.names.RowKind.{RowKind}
 use Rattle.mt_layout.specs.declared.names.RowKind.TheVariants.{Leaf, Gapped}
 use Rattle.mt_layout.specs.declared.spans.Span.{Span}
@@ -16,11 +16,12 @@ use Rattle.mt_layout.specs.Rows.{row_in, named_kind}
 use Rattle.mt_layout.specs.Sizes.{slots_of}
 use Rattle.mt_layout.specs.Spans.{Fills, leaf_range, longest_in}
 use Rattle.mt_layout.proofs.NameLaws.{Names-named_kind}
-use Rattle.mt_layout.proofs.RowSizes.{some_columns, some_slots_of}
+use Rattle.mt_layout.proofs.Places.{same_place}
+use Rattle.mt_layout.proofs.RowSizes.{some_columns, some_slots_of, gap_within}
 use Rattle.mt_layout.proofs.SpanLists.{fills_le}
 use Rattle.mt_path.specs.declared.paths.PathStep.{PathStep}
 use Rattle.mt_path.specs.Paths.{step_in, slot_for, step_at, span_at, path_in, path_of, below}
-use Rattle.mt_path.proofs.Steps.{Leads, is_inner, path_of_leaf, path_of_inner, row_here, child_at, child_leads}
+use Rattle.mt_path.proofs.Steps.{Leads, path_of_leaf, path_of_inner, row_here, child_at, child_leads}
 use Rattle.mt_path.proofs.TreePaths.{top_row, row_of, step_of, levels, step, place, lawful, reached, root_leads}
 use Rattle.mt_path.proofs.Bounds.{greatest_fits}
 use Rattle.mt_rows.specs.Gaps.{HasGaps}
@@ -31,8 +32,9 @@ use Rattle.mt_rows.specs.Replacement.{root_of}
 use Rattle.mt_rows.specs.Sheet.{Rooted, Sheet, MayTend, IsWhole, life_of, is_buried, with_word, word_at, loaded}
 use Rattle.mt_rows.specs.Spans.{Table, base_of, root_span, spans_in, spans_by, row_spans}
 use Rattle.mt_rows.proofs.FewSpans.{row_most}
-use Rattle.mt_rows.proofs.GapStore.{gap_inside, all_spans_stay, still_stands}
+use Rattle.mt_rows.proofs.GapStore.{all_spans_stay, still_stands}
 use Rattle.mt_rows.proofs.Depth.{height_by_depth}
+use Rattle.mt_rows.proofs.InnerKinds.{inner_no_leaf}
 use Rattle.mt_rows.proofs.Lists.{levels_here, levels_map}
 use Rattle.mt_rows.proofs.Joins.{Shared, expand_shared, levels_front, levels_back, times_shared}
 use Rattle.mt_rows.proofs.Reached.{OnLevel, on_level_reached, times_reached, reached_number}
@@ -59,11 +61,11 @@ module _ (t t' : Tree) (index : ℕ) where
   paths_shared (suc depth) (suc k) x deep leads rows =
       let named = (row_here t (suc k) x index leads).name.named in
       let below_same : below t'.table x index ≡ below t.table x index = ap (λ (l : List Span). span_at l (slot_for l index)) rows.0.0 in
-      path_of_inner t'.table depth x index (kind_at t.kind (suc k)) named (is_inner t.kind)
+      path_of_inner t'.table depth x index (kind_at t.kind (suc k)) named (inner_no_leaf t.kind)
       ∙ ((λ i. record { row = row_in x.word; slot = slot_for (rows.0.0 i) index; min = x.first; max = x.last } ∷ path_of t'.table depth (below_same i) index)
       ∙ (ap (λ (l : List PathStep). step_in t.table x index ∷ l)
       (paths_shared depth k (below t.table x index) (omega arith) (child_leads t k x index leads) (below_shared x k leads (subst (Levels (Shared t.table t'.table) t.table k) (append-nil (spans_in t.table x)) rows.1)))
-      ∙ sym (path_of_inner t.table depth x index (kind_at t.kind (suc k)) named (is_inner t.kind))))
+      ∙ sym (path_of_inner t.table depth x index (kind_at t.kind (suc k)) named (inner_no_leaf t.kind))))
 
 -- ---- two stores one after the other
 
@@ -84,7 +86,7 @@ only_next s s' s'' row col word only stored =
 
 pub other_word : (width : Width) (words : List ℕ) (row col arow acol word : ℕ) → col < columns width → acol < columns width → (row ≡ arow → col ≡ acol → ⊥)
     → slice_index (slice_set words (columns width * arow + acol) word) (columns width * row + col) ≡ slice_index words (columns width * row + col)
-other_word Long words row col arow acol word low alow other = get_or-set_other words (32 * arow + acol) (32 * row + col) word 0 (λ e. (let same : row ≡ arow = omega arith in let at : col ≡ acol = omega arith in other same at))
+other_word width words row col arow acol word low alow other = get_or-set_other words (columns width * arow + acol) (columns width * row + col) word 0 (λ e. let same = same_place (columns width) arow row col acol low alow e in other same.0 same.1)
 
 -- where one gap word more is stored, each other word is as it was
 pub gap_stored : (was r : Rooted) (arow slot gap row col : ℕ) (Gap : Type 0) → r.table.width ≡ was.table.width → slot < slots_of r.table.width Gapped → col < columns was.table.width
@@ -229,7 +231,7 @@ module _ (s s' : Sheet) (path : List PathStep) (kind : RowKind) (d : ℕ) (m : H
 
   may_tend_it : (gap : ℕ) → MayTend s' (row_in x.word) (gap_column (slots_of r.table.width Gapped) slot) gap
   may_tend_it gap = record {
-    at = record { first = (Names-named_kind x.word (kind_at trees.Alloc (suc m.done)) x_row.name.named).0.0; last = x_row.name.in_table; column = gap_inside r.table.width slot slot_low };
+    at = record { first = (Names-named_kind x.word (kind_at trees.Alloc (suc m.done)) x_row.name.named).0.0; last = x_row.name.in_table; column = gap_within r.table.width slot slot_low };
     live = x_live;
     kept = x_kept;
     column = inr (record { depth = d; at = x; slot = slot; reached = reached t m.height m.stands m.index d within' (let h = high in omega arith); gapped = x_row.name.named; number = refl; used = used; column = refl });

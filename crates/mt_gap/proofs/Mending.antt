@@ -11,6 +11,7 @@ use Rattle.mt_layout.specs.Rows.{row_in}
 use Rattle.mt_layout.specs.Sizes.{slots_of}
 use Rattle.mt_layout.specs.Spans.{Fills, longest_in}
 use Rattle.mt_layout.proofs.SpanLists.{fills_le}
+use Rattle.mt_layout.proofs.RowSizes.{gap_within}
 use Rattle.mt_path.specs.declared.paths.PathStep.{PathStep}
 use Rattle.mt_path.specs.Paths.{step_in, slot_for}
 use Rattle.mt_path.proofs.TreePaths.{rows_at, row_of, step_of, step, place, lawful, child, slot_used, rows_fill}
@@ -22,7 +23,7 @@ use Rattle.mt_rows.specs.Replacement.{root_of}
 use Rattle.mt_rows.specs.Sheet.{Rooted, with_word}
 use Rattle.mt_rows.specs.Spans.{Table, column, spans_in, spans_by}
 use Rattle.mt_rows.proofs.FewSpans.{row_most}
-use Rattle.mt_rows.proofs.GapStore.{gap_inside, others_keep, other_gap, this_gap, all_spans_stay}
+use Rattle.mt_rows.proofs.GapStore.{others_keep, other_gap, this_gap, all_spans_stay}
 use Rattle.mt_rows.proofs.Heights.{levels_lower}
 use Rattle.mt_rows.proofs.Joins.{Shared, levels_front, levels_back, levels_shared}
 use Rattle.mt_rows.proofs.Lists.{levels_map}
@@ -197,7 +198,7 @@ module _ (r : Rooted) (h : ℕ) (has : HasWords (tree_as trees.Alloc r)) (stands
           let few = row_most (on_level_law t h stands (suc l) y at).name in
           let columns_stay = others_keep r k slot gap x has x_row is_used y other in
           let gaps_stay : (j : ℕ) → 0 ≤ j → j < 0 + length (spans_in r.table y) → column r'.table (row_in y.word) (gap_column (slots_of r.table.width Gapped) j) ≡ column r.table (row_in y.word) (gap_column (slots_of r.table.width Gapped) j)
-          = λ j from to. columns_stay (gap_column (slots_of r.table.width Gapped) j) (omega arith) (gap_inside r.table.width j (omega arith)) in
+          = λ j from to. columns_stay (gap_column (slots_of r.table.width Gapped) j) (omega arith) (gap_within r.table.width j (omega arith)) in
           record {
             beside = subst (GapsFromBut index r'.table l (row_in y.word) 0) (sym same) (but_stays r.table r'.table.words l index (row_in y.word) 0 (spans_in r.table y) gaps_stay below_y was.beside);
             done_there = λ over low. subst (GapsFrom r'.table l (row_in y.word) 0) (sym same) (law_stays r.table r'.table.words l index (row_in y.word) 0 (spans_in r.table y) gaps_stay below_y

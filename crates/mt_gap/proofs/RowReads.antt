@@ -2,7 +2,6 @@
 use Rattle.std.proofs.Common.{◌≡◌, ℕ, suc, ◌+◌, ◌-◌, ◌*◌, ◌<◌, ◌≤◌, List, [], ◌∷◌, ◌++◌, length, nat_le, refl, sym, ap, ◌∙◌, subst, inl, inr, arith, append_assoc, append-nil, length-append}
 use Rattle.std.proofs.lemmas.Bool.{cases_Bool, leb-true, leb-false}
 use Rattle.mt_base.specs.declared.widths.Width.{Width}
-use Rattle.mt_base.specs.declared.widths.Width.TheVariants.{Long}
 use Rattle.mt_layout.specs.declared.items.Item.{Item}
 use Rattle.mt_layout.specs.declared.names.RowKind.{RowKind}
 use Rattle.mt_layout.specs.declared.names.RowKind.TheVariants.{Leaf, Inner, Gapped}
@@ -10,6 +9,7 @@ use Rattle.mt_base.specs.Width.{columns}
 use Rattle.mt_layout.specs.Columns.{items_from}
 use Rattle.mt_layout.specs.Sizes.{slots_of, gaps_of}
 use Rattle.mt_layout.proofs.Reading.{IsItem, goes_on, ends}
+use Rattle.mt_layout.proofs.RowSizes.{sizes, all_gaps_of, few_slots_of}
 use Rattle.mt_rows.specs.Spans.{base_of}
 use Rattle.mt_rows.specs.Sheet.{Rooted, Sheet, ReadsUpTo}
 use Rattle.mt_gap.specs.declared.children.Child.{Child}
@@ -38,9 +38,9 @@ pub record IsReadTo (P : List Child → Type 0) (s t : Sheet) (kind : RowKind) (
   pub holds : P before
 
 few_loads : (width : Width) (kind : RowKind) (n : ℕ) → n ≤ slots_of width kind → loads_for kind * n ≤ columns width
-few_loads Long Leaf n low = omega arith
-few_loads Long Inner n low = omega arith
-few_loads Long Gapped n low = omega arith
+few_loads width Leaf n low = omega (arith, sizes width Leaf)
+few_loads width Inner n low = omega (arith, sizes width Inner)
+few_loads width Gapped n low = omega (arith, sizes width Gapped, all_gaps_of width)
 
 pub two_loads_of : (kind : RowKind) → 2 ≤ loads_for kind
 two_loads_of Leaf = omega arith
@@ -56,7 +56,7 @@ read_none P s t kind row first max same holds = record {
     parts = (let all : slots_of s.tree.table.width kind - 0 ≡ slots_of s.tree.table.width kind = omega arith in
         ap (λ (n : ℕ). children_from first (items_from (slots_of s.tree.table.width kind) (gaps_of s.tree.table.width kind) s.tree.table.words (base_of s.tree.table row) max n 0)) all);
     count = refl;
-    slots = few_slots s.tree.table.width kind;
+    slots = few_slots_of s.tree.table.width kind;
   };
 }
 

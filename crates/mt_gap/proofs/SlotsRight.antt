@@ -8,6 +8,7 @@ use Rattle.mt_layout.specs.declared.spans.Span.{Span}
 use Rattle.mt_layout.specs.Columns.{gap_column}
 use Rattle.mt_layout.specs.Rows.{row_in}
 use Rattle.mt_layout.specs.Sizes.{slots_of}
+use Rattle.mt_layout.proofs.RowSizes.{gap_within}
 use Rattle.mt_path.specs.Paths.{span_at}
 use Rattle.mt_rows.specs.Laws.{Tree, HasWords, IsRow, Stands, GapLaw, GapsFrom, longest_below}
 use Rattle.mt_rows.specs.Levels.{Levels}
@@ -16,7 +17,7 @@ use Rattle.mt_rows.specs.Replacement.{root_of}
 use Rattle.mt_rows.specs.Sheet.{Rooted, with_word}
 use Rattle.mt_rows.specs.Spans.{Table, column, spans_in}
 use Rattle.mt_rows.proofs.FewSpans.{row_most}
-use Rattle.mt_rows.proofs.GapStore.{gap_inside, others_keep, other_gap, this_gap, all_spans_stay}
+use Rattle.mt_rows.proofs.GapStore.{others_keep, other_gap, this_gap, all_spans_stay}
 use Rattle.mt_rows.proofs.Joins.{Shared, levels_front, levels_back, levels_shared}
 use Rattle.mt_rows.proofs.Longest.{longest_shared}
 use Rattle.mt_rows.proofs.PlainReached.{levels_from}
@@ -119,7 +120,7 @@ module _ (r : Rooted) (h k slot gap : ℕ) (x : Span) (has : HasWords (tree_as t
     there (suc l) y at other i within' is_done =
         let within : i < length (spans_in r.table y) = subst (λ (xs : List Span). i < length xs) (same (suc l) y at) within' in
         let few = row_most (on_level_law t h stands (suc l) y at).name in
-        others_keep r k slot gap x has x_row used y other (gap_column (slots_of r.table.width Gapped) i) (omega arith) (gap_inside r.table.width i (omega arith))
+        others_keep r k slot gap x has x_row used y other (gap_column (slots_of r.table.width Gapped) i) (omega arith) (gap_within r.table.width i (omega arith))
         ∙ (was (suc l) y at i within (elim (more (suc l) y i at is_done) [ inl before ↦ before | inr new ↦ absurd (other (ap (λ (z : Span). row_in z.word) new.0)) ]) ∙ sym (below_same l y i at within))
 
     each : (l : ℕ) (y : Span) → OnLevel r.table h (root_of t) l y → AreRight done' t' l y

@@ -3,12 +3,12 @@ use Rattle.mt_base.specs.declared.widths.Width.{Width}
 use Rattle.mt_base.specs.Width.{columns}
 use Rattle.mt_layout.specs.declared.names.RowKind.TheVariants.{Gapped}
 use Rattle.mt_layout.specs.Sizes.{slots_of}
+use Rattle.mt_layout.proofs.RowSizes.{slots_of-columns}
 use Rattle.mt_path.proofs.Kept.{place_kept, tree_kept}
 use Rattle.mt_path.proofs.Loads.{no_reads, reads_more, reads_up, one_read}
 use Rattle.mt_rows.specs.Sheet.{Rooted}
 use Rattle.mt_gap.specs.Mending.{most_gap}
 use Rattle.mt_gap.specs.Slots.{gap_in}
-use Rattle.mt_gap.proofs.GapWords.{few_gaps}
 use Rattle.mt_gap.proofs.mends.greatest_of.Goals as goal
 
 pub loop-slot-init : goal.loop-slot-init
@@ -49,5 +49,5 @@ returns-clause-reads g c =
     let s = g.R.Rows.sheet c.args.rows.now in let t = g.R.Rows.sheet c.loop-slot.rows in
     let count = c.slots-slot-end.ensures ∙ ap (λ (v : Width). slots_of v Gapped) c.width.ensures in
     let test = c.loop-slot-test.false in let most = c.loop-slot.auto.slot-end in
-    let few = few_gaps s.tree.table.width in
+    let few = slots_of-columns s.tree.table.width Gapped in
     reads_up c.loop-slot.slot (columns s.tree.table.width) s t (omega arith) c.loop-slot.invariant.1
