@@ -11,7 +11,7 @@ use Rattle.mt_layout.specs.declared.names.RowKind.TheVariants.{Leaf}
 use Rattle.mt_layout.specs.Columns.{slot_column}
 use Rattle.mt_layout.specs.Rows.{row_in, parent_at}
 use Rattle.mt_layout.specs.Sizes.{slots_of}
-use Rattle.mt_layout.proofs.RowSizes.{slot_within}
+use Rattle.mt_layout.proofs.RowSizes.{slot_within, few_slots_of}
 use Rattle.mt_rows.specs.declared.rows.Life.TheVariants.{Draft}
 use Rattle.mt_rows.specs.Spans.{Table, column}
 use Rattle.mt_rows.specs.Plain.{names_of}
@@ -265,7 +265,7 @@ module _ (s d : Sheet) (b : Book) (pair : Pair) (depth : ℕ) (begins : Begins s
                 let here_parent : slice_index names slot ≢ 0 → column t (row_in (slice_index names slot)) 0 ≡ parent_at pair.row slot = subst (λ (n : ℕ). slice_index names slot ≢ 0 → column t (row_in (slice_index names slot)) 0 ≡ parent_at pair.row n) plus (parents_at t pair.row 0 names slot begins.may.parents (omega (arith, long))) in
                 let parent : column t (row_in (word_of slot)) 0 ≡ parent_at pair.row slot =
                 subst (λ (n : ℕ). n ≢ 0 → column t (row_in n) 0 ≡ parent_at pair.row slot) same here_parent some in
-                sym (ap (renamed number) parent ∙ (renamed_parent number pair.row slot (omega (arith, few_slots t.width pair.kind)) ∙ ap (λ (r : ℕ). parent_at r slot) to_is))
+                sym (ap (renamed number) parent ∙ (renamed_parent number pair.row slot (omega (arith, few_slots_of t.width pair.kind)) ∙ ap (λ (r : ℕ). parent_at r slot) to_is))
 
             child : (name ≡ renamed number (word_of slot)) × AreCopied number t d₂.tree.table (child_names (word_of slot))
             child = copy' number zero_is child_numbered parent_is

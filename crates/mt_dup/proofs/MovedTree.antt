@@ -7,7 +7,6 @@ use Rattle.std.proofs.lemmas.List.{map-append, length-map}
 use Rattle.mt_base.specs.declared.kinds.Kind.{Kind}
 use Rattle.mt_base.specs.declared.kinds.Kind.TheVariants as trees
 use Rattle.mt_base.specs.declared.widths.Width.{Width}
-use Rattle.mt_base.specs.declared.widths.Width.TheVariants.{Long}
 use Rattle.mt_base.specs.Entry.{reserved}
 use Rattle.mt_base.specs.Width.{columns, first_row, most_rows}
 use Rattle.mt_layout.specs.declared.names.RowKind.{RowKind}
@@ -19,7 +18,7 @@ use Rattle.mt_layout.specs.Rows.{row_in, named_kind, name_at, IsRowNumber}
 use Rattle.mt_layout.specs.Sizes.{slots_of, gaps_of}
 use Rattle.mt_layout.specs.Spans.{spans_from, leaf_range, longest_in, Fills, Apart, EndsFull}
 use Rattle.mt_layout.proofs.NameLaws.{named_kind-name_at, row_in-name_at}
-use Rattle.mt_layout.proofs.RowSizes.{layout_of, slot_within}
+use Rattle.mt_layout.proofs.RowSizes.{layout_of, slot_within, few_slots_of, gap_within}
 use Rattle.mt_layout.proofs.SpanLists.{length-spans_from}
 use Rattle.mt_rows.specs.Spans.{base_of, column, spans_by, spans_in, inner_kind}
 use Rattle.mt_rows.specs.Levels.{expand, map_of, Levels}
@@ -233,16 +232,13 @@ module _ (t : Tree) (number : ℕ → ℕ) (none : number 0 ≡ 0) (rows : ℕ) 
         ∙ (gaps.0 ∙ sym (longest_moved h (x ∷ []) (levels_front IsMoved t.table h (x ∷ []) xs each))),
     gaps_moved h row (slot + 1) xs (omega arith) (levels_back IsMoved t.table h (x ∷ []) xs each) same gaps.1,
   )
-    where
-      gap_within : (width : Width) (slot : ℕ) → slot < slots_of width Gapped → gap_column (slots_of width Gapped) slot < columns width
-      gap_within Long slot within = omega arith
 
   tended_moved : (h : ℕ) (x : Span) → IsMoved h x → (Levels IsMoved t.table h (x ∷ [])) → IsTended t h x → IsTended later h (move x)
   tended_moved zero x moved below tended = record { parent = tt; gaps = tt }
   tended_moved (suc h) x moved below tended = record {
     parent =
         let short = row_most moved.row.name in
-        let parents = parents_moved h (row_in x.word) 0 (spans_in t.table x) (omega (arith, short, few_slots t.table.width (kind_at t.kind (suc h)))) (levels_here IsMoved t.table h (spans_in t.table x) children) tended.parent in
+        let parents = parents_moved h (row_in x.word) 0 (spans_in t.table x) (omega (arith, short, few_slots_of t.table.width (kind_at t.kind (suc h)))) (levels_here IsMoved t.table h (spans_in t.table x) children) tended.parent in
         subst (λ (xs : List Span). ParentsFrom later.table (row_in (renamed number x.word)) 0 xs) (sym (spans_moved (suc h) x moved))
         (subst (λ (r : ℕ). ParentsFrom later.table r 0 (map move (spans_in t.table x))) (sym (row_moved (suc h) x moved)) parents);
     gaps = by t.kind refl tended.gaps;

@@ -6,6 +6,7 @@ use Rattle.std.proofs.lemmas.List.{get_or-take}
 use Rattle.mt_base.specs.declared.widths.Width.{Width}
 use Rattle.mt_base.specs.declared.widths.Width.TheVariants.{Long}
 use Rattle.mt_base.specs.Width.{columns}
+use Rattle.mt_layout.proofs.Places.{place_within, row_within}
 use Rattle.mt_rows.specs.declared.rows.Life.{Life}
 use Rattle.mt_rows.specs.declared.rows.Life.TheVariants.{New, Draft}
 use Rattle.mt_rows.specs.Drafts.{AreDrafted}
@@ -113,8 +114,8 @@ read_next s s' s'' first row col word words so_far some within more is = record 
 
 -- words of one row stand before those of the next
 apart : (v : Width) (to row c n : ℕ) → c < columns v → n ≤ columns v → IsOutside to (to + 1) row → (columns v * row + c < columns v * to + 0) ⊎ (columns v * to + 0 + n ≤ columns v * row + c)
-apart Long to row c n within few (inl below) = inl (omega arith)
-apart Long to row c n within few (inr above) = inr (omega arith)
+apart v to row c n within few (inl below) = inl (omega (arith, place_within v row to c below within))
+apart v to row c n within few (inr above) = let most = row_within v to row (let next : to < row = omega arith in next) in inr (omega (arith, most))
 
 module _ (pair : Pair) (s s' d d' : Sheet) (parent col n : ℕ) (words : List ℕ) (read : Reading s s' parent pair.row col words) (all : n ≡ columns s.tree.table.width) (past : n ≤ col) (drafted : AreDrafted pair.to 0 (take n words) d d') where
   drafted_width : d'.tree.table.width ≡ d.tree.table.width
