@@ -1,8 +1,6 @@
 -- The rows on a path end at the greatest index or below. For the proofs of the crates above, too.
-use Rattle.std.proofs.Common.{◌≡◌, ℕ, ◌+◌, ◌^◌, ◌<◌, ◌≤◌, List, length, sym, ap, subst, inl, inr, arith, lit<}
+use Rattle.std.proofs.Common.{◌≡◌, ℕ, ◌+◌, ◌<◌, ◌≤◌, List, length, sym, ap, subst, inl, inr, arith}
 use Rattle.mt_base.specs.declared.kinds.Kind.{Kind}
-use Rattle.mt_base.specs.declared.widths.Width.{Width}
-use Rattle.mt_base.specs.declared.widths.Width.TheVariants.{Long}
 use Rattle.mt_base.specs.Width.{greatest, deepest}
 use Rattle.mt_layout.specs.Rows.{named_kind}
 use Rattle.mt_rows.specs.Spans.{root_span}
@@ -38,6 +36,3 @@ pub inside : (t : Rooted) (kind : Kind) (index level : ℕ) (steps : List PathSt
 inside t kind index level steps tree within is low =
     subst (λ (l : List PathStep). Inside (greatest t.table.width) (step_at l level)) (sym is)
     (inside_by (tree_as kind t) index level tree.words within (subst (λ (l : List PathStep). level < length l) is low))
-
-pub greatest_fits : (width : Width) → greatest width < 2 ^ 64
-greatest_fits Long = lit< tt

@@ -4,6 +4,7 @@ use Rattle.std.specs.Prelude.{if◌then◌else◌}
 use Rattle.std.proofs.lemmas.Option.{slice_get_within}
 use Rattle.mt_base.specs.declared.kinds.Kind.{Kind}
 use Rattle.mt_base.specs.Width.{greatest, columns, first_row}
+use Rattle.mt_base.proofs.WidthBounds.{greatest_fits}
 use Rattle.mt_layout.specs.declared.names.RowKind.{RowKind}
 use Rattle.mt_layout.specs.declared.names.RowKind.TheVariants.{Leaf}
 use Rattle.mt_layout.specs.declared.spans.Span.{Span}
@@ -23,7 +24,6 @@ use Rattle.mt_path.specs.declared.paths.PathStep.{PathStep}
 use Rattle.mt_path.specs.Handles.{leaf_spans, leaf_in, IsStepOfLeaf}
 use Rattle.mt_path.specs.Paths.{slot_for, span_at, step_in, path_in, step_at, At}
 use Rattle.mt_path.proofs.Places.{at_get, at_within}
-use Rattle.mt_path.proofs.Bounds.{greatest_fits}
 use Rattle.mt_path.proofs.Steps.{rows_agree}
 use Rattle.mt_path.proofs.TreePaths.{rooted, top_row, rows_at, row_of, levels, step, place as place_at, lawful, holds, root_leads}
 use Rattle.mt_path.proofs.LeafSlots.{StandsIn, stands_in, fills_within, fills_next}

@@ -1,7 +1,5 @@
 -- The rows on the path to an index, level by level. For the proofs of the crates above, too.
 use Rattle.std.proofs.Common.{◌≡◌, ◌≢◌, ℕ, zero, suc, ◌+◌, ◌<◌, ◌≤◌, List, [], ◌∷◌, ◌++◌, Option, Some, None, length, refl, sym, ap, ◌∙◌, subst, arith, append-nil, append_assoc}
-use Rattle.mt_base.specs.declared.kinds.Kind.{Kind}
-use Rattle.mt_base.specs.declared.kinds.Kind.TheVariants as trees
 use Rattle.mt_base.proofs.Lists.{all_map}
 use Rattle.mt_layout.specs.declared.names.RowKind.{RowKind}
 use Rattle.mt_layout.specs.declared.names.RowKind.TheVariants.{Leaf}
@@ -12,6 +10,7 @@ use Rattle.mt_rows.specs.Spans.{Table, spans_in, inner_kind}
 use Rattle.mt_rows.specs.Levels.{expand, level, Levels, IsBelow}
 use Rattle.mt_rows.specs.Trees.{by_kind}
 use Rattle.mt_rows.specs.Laws.{Tree, IsRow}
+use Rattle.mt_rows.proofs.InnerKinds.{inner_no_leaf, inner_not_named}
 use Rattle.mt_rows.proofs.Lists.{Filled, expand_fills, levels_here}
 use Rattle.mt_rows.proofs.Joins.{level-append, levels_front, levels_back}
 use Rattle.mt_rows.proofs.Deeper.{by_kind_inner}
@@ -20,10 +19,6 @@ use Rattle.mt_path.specs.Paths.{slot_for, span_at, step_in, below, path_of, step
 use Rattle.mt_path.proofs.Places.{at_slot, at_parts, at_get, at_within, slot_is}
 
 -- ---- one step
-
-pub is_inner : (tree : Kind) → inner_kind tree ≢ Leaf
-is_inner trees.Range = λ e. cc
-is_inner trees.Alloc = λ e. cc
 
 pub path_of_none : (t : Table) (depth : ℕ) (x : Span) (index : ℕ) → named_kind x.word ≡ None → path_of t depth x index ≡ []
 unfolding path_of
@@ -75,7 +70,7 @@ module _ (t : Tree) where
   leaf_path depth x index leads = path_of_leaf t.table depth x index (row_here zero x index leads).name.named
 
   inner_path : (depth h : ℕ) (x : Span) (index j : ℕ) → Leads (suc h) x index → path_of t.table (suc depth) x j ≡ step_in t.table x j ∷ path_of t.table depth (below t.table x j) j
-  inner_path depth h x index j leads = path_of_inner t.table depth x j (inner_kind t.kind) (row_here (suc h) x index leads).name.named (is_inner t.kind)
+  inner_path depth h x index j leads = path_of_inner t.table depth x j (inner_kind t.kind) (row_here (suc h) x index leads).name.named (inner_no_leaf t.kind)
 
   pub path_length : (depth h : ℕ) (x : Span) (index : ℕ) → h < depth → Leads h x index → length (path_of t.table depth x index) ≡ h + 1
   path_length zero h x index deep leads = absurd (omega arith)
@@ -144,7 +139,7 @@ module _ (t : Tree) where
   row_below zero h x index low leads = refl
   row_below (suc d) zero x index low leads = absurd (omega arith)
   row_below (suc d) (suc h) x index low leads = (
-    (λ leaf. is_inner t.kind (let same : Some (inner_kind t.kind) ≡ Some Leaf = sym (row_here (suc h) x index leads).name.named ∙ leaf in cc)),
+    (λ leaf. inner_not_named t.kind (sym (row_here (suc h) x index leads).name.named ∙ leaf)),
     (
       slot_for (spans_in t.table x) index,
       below t.table x index,

@@ -3,26 +3,26 @@ use Rattle.std.proofs.Common.{◌≡◌, ◌≢◌, ℕ, zero, suc, ◌+◌, ◌
 use Rattle.std.specs.Prelude.{◌↔◌, IsSome, IsNone, IfSome, is_some}
 use Rattle.std.specs.Option.{option_map}
 use Rattle.mt_base.specs.declared.kinds.Kind.{Kind}
-use Rattle.mt_base.specs.declared.widths.Width.{Width}
-use Rattle.mt_base.specs.Width.{greatest, columns, deepest}
+use Rattle.mt_base.specs.Width.{greatest, deepest}
 use Rattle.mt_layout.specs.declared.names.RowKind.{RowKind}
 use Rattle.mt_layout.specs.declared.names.RowKind.TheVariants.{Leaf}
 use Rattle.mt_layout.specs.declared.spans.Span.{Span}
 use Rattle.mt_layout.specs.Rows.{row_in, named_kind}
 use Rattle.mt_layout.specs.Sizes.{slots_of}
 use Rattle.mt_layout.proofs.NameLaws.{Names-named_kind}
-use Rattle.mt_layout.proofs.RowSizes.{some_slots_of, slots_of-columns}
+use Rattle.mt_layout.proofs.RowSizes.{some_columns}
 use Rattle.mt_rows.specs.Laws as laws
 use Rattle.mt_rows.specs.Publish.{IsTreeOf, tree_as}
 use Rattle.mt_rows.specs.Sheet.{Rooted, IsPlace}
 use Rattle.mt_rows.specs.Spans.{Table, row_spans, spans_by, spans_in, root_span}
+use Rattle.mt_rows.proofs.InnerKinds.{inner_no_leaf}
 use Rattle.mt_path.specs.declared.paths.PathStep.{PathStep}
 use Rattle.mt_path.specs.declared.rows.Row.{Row}
 use Rattle.mt_path.specs.declared.rows.Found.{Found}
 use Rattle.mt_path.specs.Handles.{leaf_spans, leaf_in}
 use Rattle.mt_path.specs.Paths.{slot_for, span_at, step_in, below, path_in, step_at, row_on}
 use Rattle.mt_path.specs.Walks.{row_as, row_for, spans_of, found_span, IsFound, IsOnWay, IsAtEnd}
-use Rattle.mt_path.proofs.Steps.{is_inner, path_of_none, row_next}
+use Rattle.mt_path.proofs.Steps.{path_of_none, row_next}
 use Rattle.mt_path.proofs.TreePaths.{rooted, top_row, row_of, levels, step, place as place_of_row, lawful}
 
 -- ---- the row that a span names
@@ -115,9 +115,6 @@ begins_if t kind tree (Some row) is = λ index within. begins t kind tree row is
 
 -- ---- a row on the way
 
-some_columns : (width : Width) → 0 < columns width
-some_columns width = omega (arith, some_slots_of width Leaf, slots_of-columns width Leaf)
-
 module _ (t : laws.Tree) (h : ℕ) (stands : laws.Stands t h) (index : ℕ) (within : index ≤ laws.top_of t) (depth : ℕ) (row : Row) (way : IsOnWay (rooted t) index depth row) where
   abbrev x : Span
   x = row_of t depth index
@@ -152,7 +149,7 @@ module _ (t : laws.Tree) (h : ℕ) (stands : laws.Stands t h) (index : ℕ) (wit
 
   leaf_by : (k : ℕ) → h - depth ≡ k → laws.kind_at t.kind (h - depth) ≡ Leaf → h ≡ depth
   leaf_by zero is leaf = let few = low in omega arith
-  leaf_by (suc k) is leaf = absurd (is_inner t.kind (ap (laws.kind_at t.kind) (sym is) ∙ leaf))
+  leaf_by (suc k) is leaf = absurd (inner_no_leaf t.kind (ap (laws.kind_at t.kind) (sym is) ∙ leaf))
 
   -- a leaf stands at the end
   leaf_last : row.kind ≡ Leaf → h ≡ depth

@@ -1,8 +1,9 @@
 use Rattle.std.proofs.Common.{◌≤◌, List, ap, ◌∙◌, subst, sym, arith}
+use Rattle.mt_base.proofs.WidthBounds.{greatest_fits}
 use Rattle.mt_base.specs.Width.{greatest}
 use Rattle.mt_path.specs.declared.paths.PathStep.{PathStep}
 use Rattle.mt_path.specs.Paths.{step_at}
-use Rattle.mt_path.proofs.Bounds.{inside, greatest_fits}
+use Rattle.mt_path.proofs.Bounds.{inside}
 use Rattle.mt_path.proofs.neighbours.right_at.Goals as goal
 
 pub overflow_add-last : goal.overflow_add-last
