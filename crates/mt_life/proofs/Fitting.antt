@@ -11,6 +11,7 @@ use Rattle.mt_rows.specs.Publish.{tree_as}
 use Rattle.mt_rows.specs.Replacement.{root_of}
 use Rattle.mt_rows.proofs.Lists.{all_expand}
 use Rattle.mt_rows.proofs.Heights.{level_rows}
+use Rattle.mt_rows.proofs.InnerKinds.{inner_not_named}
 use Rattle.mt_rows.proofs.Depth.{some_least}
 use Rattle.mt_rows.proofs.Reached.{all_one_of, OnLevel, inner_no_leaf}
 use Rattle.mt_life.specs.declared.views.Extent.{Extent}
@@ -42,9 +43,9 @@ module _ (kind : Kind) (s : State) (e : ℕ → Extent) (m : ℕ → Moment) (kn
   pub levels_fit : (h level : ℕ) (xs : List Span) → Levels (IsRow T) T.table h xs → AllByRecursion (Fits level) xs → 1 ≤ length xs → (level ≡ h) × Levels Fits T.table h xs
   levels_fit zero zero xs rows fits some = (refl, fits)
   levels_fit zero (suc level) [] rows fits some = absurd (omega arith)
-  levels_fit zero (suc level) (x ∷ xs) rows fits some = absurd (inner_no_leaf kind (sym fits.0.named ∙ rows.0.name.named))
+  levels_fit zero (suc level) (x ∷ xs) rows fits some = absurd (inner_not_named kind (sym fits.0.named ∙ rows.0.name.named))
   levels_fit (suc h) level [] rows fits some = absurd (omega arith)
-  levels_fit (suc h) zero (x ∷ xs) rows fits some = absurd (inner_no_leaf kind (sym rows.0.0.name.named ∙ fits.0.named))
+  levels_fit (suc h) zero (x ∷ xs) rows fits some = absurd (inner_not_named kind (sym rows.0.0.name.named ∙ fits.0.named))
   levels_fit (suc h) (suc level) (x ∷ xs) rows fits some =
       let behind = levels_fit h level (expand T.table (x ∷ xs)) rows.1 (all_expand (Fits level) T.table (x ∷ xs) (all_children_known level (x ∷ xs) fits)) (some_children (suc h) x xs rows.0.0) in
       (ap suc behind.0, (subst (λ (k : ℕ). AllByRecursion (Fits k) (x ∷ xs)) (ap suc behind.0) fits, behind.1))

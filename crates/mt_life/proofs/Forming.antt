@@ -11,6 +11,7 @@ use Rattle.mt_layout.specs.Rows.{row_in, named_kind}
 use Rattle.mt_layout.specs.Columns.{slot_column}
 use Rattle.mt_layout.specs.Sizes.{slots_of}
 use Rattle.mt_layout.specs.declared.spans.Span.{Span}
+use Rattle.mt_layout.proofs.Places.{other_column}
 use Rattle.mt_rows.specs.declared.rows.Place.{Place}
 use Rattle.mt_rows.specs.declared.rows.Place.TheVariants.{Root, Slot}
 use Rattle.mt_rows.specs.declared.rows.Life.TheVariants.{Live, Dead}
@@ -28,7 +29,7 @@ use Rattle.mt_life.specs.declared.views.Moment.{Moment}
 use Rattle.mt_life.specs.Moments.{moment_of}
 use Rattle.mt_life.specs.Known.{State, state_of, Later, HasRow, Known, Follows, SameForm, Goes}
 use Rattle.mt_life.proofs.Alike.{two_slots}
-use Rattle.mt_life.proofs.Staying.{true_false, IsAt, at_or_not, others_stay, other_column, place_stays, on}
+use Rattle.mt_life.proofs.Staying.{true_false, IsAt, at_or_not, others_stay, place_stays, on}
 use Rattle.mt_life.proofs.Turning.{later_cases, any, dead_stays, later_stays}
 use Rattle.mt_life.proofs.Carrying.{place_before, place_after, extent_stays}
 

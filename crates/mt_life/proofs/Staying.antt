@@ -1,13 +1,12 @@
 -- The row in whose slot a word is published stays where it is; the words of other rows stay.
-use Rattle.std.proofs.Common.{◌≡◌, ◌≢◌, ◌⊎◌, ℕ, zero, suc, ◌+◌, ◌-◌, ◌*◌, ◌<◌, List, Some, Bool, true, false, refl, sym, ◌∙◌, subst, inl, inr, ⊎_elim, arith, get_or-set_other}
+use Rattle.std.proofs.Common.{◌≡◌, ◌≢◌, ◌⊎◌, ℕ, zero, suc, ◌+◌, ◌-◌, ◌<◌, List, Some, Bool, true, false, refl, sym, ◌∙◌, subst, inl, inr, ⊎_elim, arith, get_or-set_other}
 use Rattle.std.specs.List.{slice_get}
 use Rattle.std.proofs.lemmas.Bool.{cases_eq}
 use Rattle.mt_base.specs.declared.kinds.Kind.{Kind}
-use Rattle.mt_base.specs.declared.widths.Width.{Width}
-use Rattle.mt_base.specs.declared.widths.Width.TheVariants.{Long}
 use Rattle.mt_base.specs.Width.{columns}
 use Rattle.mt_layout.specs.Rows.{row_in}
 use Rattle.mt_layout.specs.declared.spans.Span.{Span}
+use Rattle.mt_layout.proofs.Places.{other_place, other_column}
 use Rattle.mt_layout.proofs.RowSizes.{some_columns, slot_above}
 use Rattle.mt_rows.specs.declared.rows.Place.{Place}
 use Rattle.mt_rows.specs.declared.rows.Place.TheVariants.{Root, Slot}
@@ -32,9 +31,6 @@ IsAt (Slot r col) row = row ≡ r
 pub at_or_not : (place : Place) (row : ℕ) → IsAt place row ⊎ (IsAt place row → ⊥)
 at_or_not Root row = inr (λ no. no)
 at_or_not (Slot r col) row = cases_eq row r
-
-pub other_column : (width : Width) (row other c col : ℕ) → c ≢ col → c < columns width → col < columns width → columns width * other + c ≢ columns width * row + col
-other_column Long row other c col apart inside at = λ e. apart (omega arith)
 
 -- words of other rows stay
 pub others_stay : (s : Sheet) (place : Place) (word row c : ℕ) → IsPlaceToPublish s place → (IsAt place row → ⊥) → c < columns s.tree.table.width → column (with_published s.tree place word).table row c ≡ column s.tree.table row c

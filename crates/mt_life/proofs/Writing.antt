@@ -5,16 +5,13 @@ use Rattle.std.proofs.lemmas.Bool.{cases_eq}
 use Rattle.std.specs.List.{AllByRecursion, flat_map}
 use Rattle.mt_base.specs.declared.ranges.Range.{Range}
 use Rattle.mt_base.specs.declared.kinds.Kind.{Kind}
-use Rattle.mt_base.specs.declared.widths.Width.{Width}
-use Rattle.mt_base.specs.declared.widths.Width.TheVariants.{Long}
 use Rattle.mt_base.specs.Width.{columns, first_row, deepest}
-use Rattle.mt_layout.specs.declared.names.RowKind.{RowKind}
 use Rattle.mt_layout.specs.declared.names.RowKind.TheVariants as kinds
 use Rattle.mt_layout.specs.Rows.{row_in, named_kind, dead_mark}
-use Rattle.mt_layout.specs.Sizes.{slots_of}
 use Rattle.mt_layout.specs.declared.spans.Span.{Span}
 use Rattle.mt_layout.specs.Spans.{leaf_range}
-use Rattle.mt_layout.proofs.RowSizes.{some_columns}
+use Rattle.mt_layout.proofs.Places.{other_place, other_column, place_within}
+use Rattle.mt_layout.proofs.RowSizes.{some_columns, gap_above}
 use Rattle.mt_rows.specs.declared.rows.Life.{Life}
 use Rattle.mt_rows.specs.declared.rows.Life.TheVariants.{New, Draft, Live, Dead}
 use Rattle.mt_rows.specs.Spans.{Table, base_of, column, spans_in, root_span}
@@ -33,7 +30,7 @@ use Rattle.mt_life.specs.Moments.{PartOf}
 use Rattle.mt_life.specs.Known.{State, state_of, IsFull, spans_at, Later, IsLive, HasRow, HasPart, calls, Child, Known, Goes}
 use Rattle.mt_life.proofs.Alike.{SameSlots, two_slots, spans_named, same_spans_at, shape_moves}
 use Rattle.mt_life.proofs.Fitting.{children_known}
-use Rattle.mt_life.proofs.Staying.{true_false, other_column}
+use Rattle.mt_life.proofs.Staying.{true_false}
 use Rattle.mt_life.proofs.Turning.{later_cases, any}
 
 -- ---- what a store leaves that is not a publishing one
@@ -191,10 +188,7 @@ module _ (t : Rooted) (row col word : ℕ) (at : IsPlace t row col) where
   col_others other c off inside = get_or-set_other t.table.words (base_of t.table row + col) (base_of t.table other + c) word 0 (other_column t.table.width row other c col off inside at.column)
 
   fits : length t.table.words ≡ columns t.table.width * (first_row + t.rows) → base_of t.table row + col < length t.table.words
-  fits long = by t.table.width at.column long
-    where
-      by : (w : Width) → col < columns w → length t.table.words ≡ columns w * (first_row + t.rows) → columns w * row + col < length t.table.words
-      by Long inside long = let last = at.last in omega arith
+  fits long = let low = place_within t.table.width row (first_row + t.rows) col at.last at.column in omega (arith, long)
 
   col_here : length t.table.words ≡ columns t.table.width * (first_row + t.rows) → column put row col ≡ word
   col_here long = get_or-set_same t.table.words (base_of t.table row + col) word 0 (fits long)
@@ -293,11 +287,6 @@ module _ (kind : Kind) (s : State) (e : ℕ → Extent) (m : ℕ → Moment) (kn
   gap_row row col gap =
       let fits = gap_fits row col gap in
       ap (λ (n : ℕ). Some (kind_at kind (e n).level)) (sym gap.number) ∙ (ap (λ (n : Extent). Some (kind_at kind n.level)) fits.1.extent ∙ (sym fits.1.named ∙ gap.gapped))
-
-gap_above : (width : Width) (k : RowKind) (c slot : ℕ) → Some k ≡ Some kinds.Gapped → c < 2 * slots_of width k → c ≢ 2 * slots_of width kinds.Gapped + slot
-gap_above Long kinds.Leaf c slot same low = λ _. cc
-gap_above Long kinds.Inner c slot same low = λ _. cc
-gap_above Long kinds.Gapped c slot same low = λ is. omega arith
 
 pub tend_leaves : (kind : Kind) (s : Sheet) (row col word : ℕ) (e : ℕ → Extent) (m : ℕ → Moment) → IsFull (state_of s) → MayTend s row col word → Known kind (state_of s) e m
     → Known kind (state_of (tended s row col word)) e m × Goes kind (state_of s) (state_of (tended s row col word)) e e m m
