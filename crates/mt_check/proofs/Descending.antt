@@ -17,6 +17,7 @@ use Rattle.mt_layout.specs.Columns.{RiseFrom, pivot_column, gap_column, gap_at, 
 use Rattle.mt_layout.specs.Sizes.{slots_of, gaps_of}
 use Rattle.mt_layout.specs.Spans.{spans_from, leaf_range, longest_in}
 use Rattle.mt_layout.proofs.Reading.{gap_at-some}
+use Rattle.mt_layout.proofs.RowSizes.{some_gaps_of}
 use Rattle.mt_layout.proofs.SpanLists.{fills_rise, length-spans_from}
 use Rattle.mt_rows.specs.Spans.{Table, base_of, column, spans_in}
 use Rattle.mt_rows.specs.Trees.{by_kind, height_of, rows_of, ranges_of}
@@ -102,7 +103,7 @@ gap_told t Gapped x slot longest within =
     let base = base_of t (row_in x.word) in
     let here = gap_item (slots_of t.width Gapped) (gaps_of t.width Gapped) t.words base x.last (slots_of t.width Gapped) 0 slot within in
     let same : 0 + slot ≡ slot = omega arith in
-    let word = gap_at-some (slots_of t.width Gapped) (gaps_of t.width Gapped) t.words base slot (some_gaps t.width) in
+    let word = gap_at-some (slots_of t.width Gapped) (gaps_of t.width Gapped) t.words base slot (some_gaps_of t.width) in
     ap (λ (n : ℕ). n == longest) (here ∙ (ap (gap_at (slots_of t.width Gapped) (gaps_of t.width Gapped) t.words base) same ∙ word))
 
 -- ---- a row that was entered

@@ -19,6 +19,7 @@ use Rattle.mt_layout.proofs.SpanLists.{length-spans_from}
 use Rattle.mt_rows.specs.Spans.{column, inner_kind, spans_in}
 use Rattle.mt_rows.specs.Trees.{height_in}
 use Rattle.mt_rows.specs.Laws.{Tree, top_of, kind_at, PivotLaw, CountLaw, EntryLaw, HoleLaw, IsRow, covers_all, least_of, least_of_root, items_in, words_in}
+use Rattle.mt_rows.proofs.InnerKinds.{inner_no_leaf}
 use Rattle.mt_check.specs.declared.faults.Law.{Law}
 use Rattle.mt_check.specs.declared.faults.Law.TheVariants as law
 use Rattle.mt_check.specs.RowTests.{may_stand, may_be_named, names_row, depth_at, has_depth, rise_to, words_of, has_pivots, least_at, least_in_root, has_entries, are_apart, has_holes}
@@ -224,10 +225,6 @@ inner_holes : (bare : Bool) (kind : RowKind) (xs : List Item) → kind ≢ Leaf 
 inner_holes bare Leaf xs other = absurd (other refl)
 inner_holes bare Inner xs other = refl
 inner_holes bare Gapped xs other = refl
-
-pub inner_no_leaf : (tree : Kind) → inner_kind tree ≢ Leaf
-inner_no_leaf trees.Range = λ e. cc
-inner_no_leaf trees.Alloc = λ e. cc
 
 -- a row that may stand in the tree and is no leaf is of the tree's kind
 pub stands_inner : (tree : Kind) (kind : RowKind) → may_stand tree kind ≡ true → kind ≢ Leaf → kind ≡ inner_kind tree
