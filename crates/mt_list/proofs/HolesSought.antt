@@ -1,14 +1,14 @@
 -- A search goes over the holes from below or from above, and what it has before it has the answer.
-use Rattle.std.proofs.Common.{◌≡◌, ℕ, zero, suc, ◌+◌, ◌-◌, ◌^◌, ◌<◌, ◌≤◌, List, [], ◌∷◌, ◌++◌, Option, Some, None, map, filter, length, get_or, drop, drop-cons, lit<, arith, refl, sym, ap, ◌∙◌, subst, append_assoc, append-nil, length-append}
+use Rattle.std.proofs.Common.{◌≡◌, ℕ, zero, suc, ◌+◌, ◌-◌, ◌^◌, ◌<◌, ◌≤◌, List, [], ◌∷◌, ◌++◌, Option, Some, None, map, filter, length, get_or, drop, drop-cons, arith, refl, sym, ap, ◌∙◌, subst, append_assoc, append-nil, length-append}
 use Rattle.std.specs.List.{AllByRecursion, slice_get}
 use Rattle.std.specs.Option.{option_map}
 use Rattle.std.proofs.lemmas.Bool.{le-ltb}
 use Rattle.std.proofs.lemmas.List.{map-append}
 use Rattle.std.proofs.lemmas.List.Elements.{filter-append}
 use Rattle.mt_base.specs.declared.kinds.Kind.{Kind}
-use Rattle.mt_base.specs.declared.kinds.Kind.TheVariants as kinds
 use Rattle.mt_base.specs.declared.ranges.Range.{Range}
-use Rattle.mt_base.specs.Width.{greatest_of}
+use Rattle.mt_base.specs.Width.{greatest_of, kind_width}
+use Rattle.mt_base.proofs.WidthBounds.{greatest_fits}
 use Rattle.mt_base.specs.Holes.{Hole, hole_between, holes_from, clip, fits, kept, lowest_in, highest_in, low, high}
 use Rattle.mt_base.specs.Map.{IsMapFrom, IsMap}
 
@@ -89,15 +89,11 @@ module _ (kind : Kind) (m : List Range) (n lo hi first : ℕ) (r : Range) (rest 
       ended [] rise within = ap (λ (xs : List Hole). lowest_in (kept n lo hi xs)) (sym (no_hole (r.last + 1) (greatest_of kind + 1) (omega (arith, past))))
       ended (x ∷ ms) rise within = absurd (omega (arith, rise.0, rise.1, within.0, past))
 
-top_fits : (kind : Kind) → greatest_of kind < 2 ^ 64
-top_fits kinds.Range = lit< tt
-top_fits kinds.Alloc = lit< tt
-
 -- the same at the place of a range: behind the last index that a word has no range is left
 pub none_up_at : (kind : Kind) (m : List Range) (n lo hi first i : ℕ) (d : Range) → i < length m → IsSoughtUp kind m (drop i m) n lo hi first → 2 ^ 64 ≤ (get_or m i d).last + 1
     → None ≡ lowest_in (kept n lo hi (hole_between first (get_or m i d).first)) → None ≡ low kind m n lo hi
 none_up_at kind m n lo hi first i d within sought past none =
-    none_up kind m n lo hi first (get_or m i d) (drop (suc i) m) (subst (λ (rest : List Range). IsSoughtUp kind m rest n lo hi first) (drop-cons m i d within) sought) (omega (arith, top_fits kind, past)) none
+    none_up kind m n lo hi first (get_or m i d) (drop (suc i) m) (subst (λ (rest : List Range). IsSoughtUp kind m rest n lo hi first) (drop-cons m i d within) sought) (omega (arith, greatest_fits (kind_width kind), past)) none
 
 pub none_found : (found : Option ℕ) → ((x : ℕ) → found ≡ Some x → ⊥) → None ≡ found
 none_found None other = refl
