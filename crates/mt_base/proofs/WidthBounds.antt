@@ -8,11 +8,11 @@ use Rattle.mt_base.specs.Width.{columns, greatest, deepest}
 pub greatest_fits : (width : Width) → greatest width < 2 ^ 64
 greatest_fits Long = omega arith
 
--- a row has words enough for the words that are of no row to stand before the first, and its words are named in a byte
+-- a row has so many words at least, and so many at the most
 pub many_columns : (width : Width) → 32 ≤ columns width
 many_columns Long = omega arith
 
-pub few_columns : (width : Width) → columns width ≤ 64
+pub few_columns : (width : Width) → columns width ≤ 32
 few_columns Long = omega arith
 
 -- as many rows as the deepest tree could have can be counted

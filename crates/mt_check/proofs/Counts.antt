@@ -15,7 +15,7 @@ use Rattle.mt_layout.specs.Spans.{spans_from, leaf_range}
 use Rattle.mt_layout.proofs.RowSizes.{some_columns}
 use Rattle.mt_rows.specs.Spans.{Table, spans_in}
 use Rattle.mt_rows.specs.Trees.{by_kind, ranges_of}
-use Rattle.mt_rows.proofs.PlainPlant.{children_few, deepest_fits}
+use Rattle.mt_rows.proofs.PlainPlant.{children_few}
 
 -- ---- ranges below a row
 

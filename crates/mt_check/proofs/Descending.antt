@@ -27,7 +27,6 @@ use Rattle.mt_rows.proofs.Deeper.{ranges_of_deeper, rows_of_deeper, height_of_in
 use Rattle.mt_rows.proofs.Depth.{by_leaf}
 use Rattle.mt_rows.proofs.PlainPlant.{rows_fit}
 use Rattle.mt_rows.proofs.Loads.{same_tree}
-use Rattle.mt_rows.proofs.RowGaps.{some_gaps}
 use Rattle.mt_check.specs.declared.faults.Fault.{Fault}
 use Rattle.mt_check.specs.declared.faults.Law.TheVariants as law
 use Rattle.mt_check.specs.declared.walks.Walk.{Walk}

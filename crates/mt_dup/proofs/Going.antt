@@ -25,7 +25,6 @@ use Rattle.mt_dup.proofs.WrittenRows.{written_rows, written_width, nothing_writt
 use Rattle.mt_dup.proofs.Names.{parents_at, more_done, all_done, done_most, names_long, names_at, numbered_front, numbered_back, renamed_parent, SameFrom, copies_stay}
 use Rattle.mt_rows.proofs.Loads.{one_read, reads_on, same_tree}
 use Rattle.mt_rows.proofs.Lists.{all_at}
-use Rattle.mt_rows.proofs.FewSpans.{few_slots}
 
 -- ---- books
 

@@ -24,9 +24,9 @@ use Rattle.mt_rows.specs.Spans.{base_of, column, spans_by, spans_in, inner_kind}
 use Rattle.mt_rows.specs.Levels.{expand, map_of, Levels}
 use Rattle.mt_rows.specs.Trees.{rows_of}
 use Rattle.mt_rows.specs.Laws as laws
-use Rattle.mt_rows.specs.Laws.{Tree, NameLaw, IsRow, IsTended, ParentsFrom, GapsFrom, GapLawBy, kind_at, least_of, items_in, words_in, longest_below}
+use Rattle.mt_rows.specs.Laws.{Tree, IsRow, IsTended, ParentsFrom, GapsFrom, GapLawBy, kind_at, least_of, items_in, words_in, longest_below}
 use Rattle.mt_rows.proofs.Depth.{by_leaf, by_inner}
-use Rattle.mt_rows.proofs.FewSpans.{row_most, few_slots}
+use Rattle.mt_rows.proofs.FewSpans.{row_most}
 use Rattle.mt_rows.proofs.Joins.{levels_front, levels_back}
 use Rattle.mt_rows.proofs.Lists.{levels_here, children_hold}
 use Rattle.mt_dup.specs.Copy.{renamed, slot_renamed, IsRowCopy}

@@ -6,6 +6,7 @@ use Rattle.std.proofs.lemmas.List.{get_or-take}
 use Rattle.mt_base.specs.declared.widths.Width.{Width}
 use Rattle.mt_base.specs.declared.widths.Width.TheVariants.{Long}
 use Rattle.mt_base.specs.Width.{columns}
+use Rattle.mt_base.proofs.WidthBounds.{few_columns}
 use Rattle.mt_layout.proofs.Places.{place_within, row_within}
 use Rattle.mt_rows.specs.declared.rows.Life.{Life}
 use Rattle.mt_rows.specs.declared.rows.Life.TheVariants.{New, Draft}
@@ -75,9 +76,6 @@ nothing_written row s draft = record {
 }
 
 -- ---- the columns of a row, read one by one
-
-few_columns : (v : Width) → columns v ≤ 32
-few_columns Long = omega arith
 
 pub record Reading (s s' : Sheet) (first row col : ℕ) (words : List ℕ) : Type 0 where
   pub reads : OnlyReads s s'

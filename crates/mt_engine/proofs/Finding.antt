@@ -36,7 +36,6 @@ use Rattle.mt_engine.proofs.Moments.{tree_if_lawful}
 use Rattle.mt_engine.proofs.Planning.{ComesToNothing}
 use Rattle.mt_engine.proofs.Slots.{tree_map}
 use Rattle.mt_engine.proofs.Wanting.{stays_replaces_none}
-use Rattle.mt_path.proofs.Bounds.{greatest_fits}
 use Rattle.mt_path.proofs.Loads.{rose_up}
 
 -- ---- the conditions

@@ -13,7 +13,6 @@ use Rattle.mt_layout.specs.Rows.{row_in, named_kind}
 use Rattle.mt_layout.specs.Sizes.{slots_of}
 use Rattle.mt_layout.specs.Spans.{spans_from}
 use Rattle.mt_rows.specs.Spans.{Table, inner_kind, spans_by, spans_in}
-use Rattle.mt_layout.proofs.RowSizes.{some_gaps_of}
 use Rattle.mt_rows.specs.Levels.{expand}
 use Rattle.mt_rows.specs.Laws.{Tree, IsRow, IsTended, GapsFrom, GapLawBy, longest_below}
 use Rattle.mt_gap.specs.declared.children.Child.{Child}

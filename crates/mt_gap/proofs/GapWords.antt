@@ -14,7 +14,6 @@ use Rattle.mt_rows.specs.Spans.{Table, base_of, column}
 use Rattle.mt_gap.specs.Children.{children_from, row_children}
 use Rattle.mt_gap.specs.Mending.{longest_gap, most_gap, told_by, MayTell}
 use Rattle.mt_gap.specs.Slots.{gap_in}
-use Rattle.mt_rows.proofs.GapStore.{gap_inside}
 
 -- ---- of items, and behind them
 

@@ -23,7 +23,6 @@ use Rattle.mt_path.specs.declared.paths.PathStep.{PathStep}
 use Rattle.mt_path.specs.Paths.{step_in, slot_for, step_at, span_at, path_in, path_of, below}
 use Rattle.mt_path.proofs.Steps.{Leads, path_of_leaf, path_of_inner, row_here, child_at, child_leads}
 use Rattle.mt_path.proofs.TreePaths.{top_row, row_of, step_of, levels, step, place, lawful, reached, root_leads}
-use Rattle.mt_path.proofs.Bounds.{greatest_fits}
 use Rattle.mt_rows.specs.Gaps.{HasGaps}
 use Rattle.mt_rows.specs.Laws.{Tree, IsRow, Stands, GapLaw, kind_at, longest_below, top_of}
 use Rattle.mt_rows.specs.Levels.{expand, Levels, SameSpans, times, is_row_of}
@@ -102,7 +101,7 @@ gap_stored was r arow slot gap row col Gap same low inside kept here = ⊎_elim
   where
     unchanged : (row ≡ arow → col ≡ gap_column (slots_of r.table.width Gapped) slot → ⊥) → (word_at (with_word r arow (gap_column (slots_of r.table.width Gapped) slot) gap) row col ≡ word_at was row col) ⊎ Gap
     unchanged other = subst (λ (n : ℕ). (n ≡ word_at was row col) ⊎ Gap)
-        (sym (other_word r.table.width r.table.words row col arow (gap_column (slots_of r.table.width Gapped) slot) gap (subst (λ (w : Width). col < columns w) (sym same) inside) (gap_inside r.table.width slot low) other)) kept
+        (sym (other_word r.table.width r.table.words row col arow (gap_column (slots_of r.table.width Gapped) slot) gap (subst (λ (w : Width). col < columns w) (sym same) inside) (gap_within r.table.width slot low) other)) kept
 
 -- ---- what a leaf may tell
 

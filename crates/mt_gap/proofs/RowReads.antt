@@ -18,7 +18,6 @@ use Rattle.mt_gap.specs.Reading.{loads_for}
 use Rattle.mt_gap.specs.Slots.{last_in, child_in}
 use Rattle.mt_path.proofs.Kept.{tree_kept}
 use Rattle.mt_path.proofs.Loads.{no_reads, reads_more, reads_up}
-use Rattle.mt_rows.proofs.FewSpans.{few_slots}
 
 -- the children from a slot on
 abbrev pub unread : Rooted → RowKind → ℕ → ℕ → ℕ → ℕ → List Child

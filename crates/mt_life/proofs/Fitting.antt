@@ -13,7 +13,7 @@ use Rattle.mt_rows.proofs.Lists.{all_expand}
 use Rattle.mt_rows.proofs.Heights.{level_rows}
 use Rattle.mt_rows.proofs.InnerKinds.{inner_not_named}
 use Rattle.mt_rows.proofs.Depth.{some_least}
-use Rattle.mt_rows.proofs.Reached.{all_one_of, OnLevel, inner_no_leaf}
+use Rattle.mt_rows.proofs.Reached.{all_one_of, OnLevel}
 use Rattle.mt_life.specs.declared.views.Extent.{Extent}
 use Rattle.mt_life.specs.declared.views.Moment.{Moment}
 use Rattle.mt_life.specs.Known.{State, spans_at, IsLive, Child, Known}

@@ -12,7 +12,7 @@ use Rattle.mt_rows.specs.Laws.{Tree, IsTree, IsLawful, Stands, IsTended, Parents
 use Rattle.mt_rows.specs.Sheet.{Rooted, life_of, is_buried}
 use Rattle.mt_rows.specs.Publish.{tree_as, is_reached, IsReached, IsLawfulOf, LiveAreReached, NoneBuried}
 use Rattle.mt_rows.specs.Replacement.{root_of}
-use Rattle.mt_rows.proofs.FewSpans.{row_most, few_slots}
+use Rattle.mt_rows.proofs.FewSpans.{row_most}
 use Rattle.mt_rows.proofs.Heights.{level_next, level_rows}
 use Rattle.mt_rows.proofs.Reached.{IsOneOf, all_one_of, expand_one_of, OnLevel, on_level_law, reached_times, reached_on_level, one_place}
 use Rattle.mt_life.specs.declared.views.Extent.{Extent}

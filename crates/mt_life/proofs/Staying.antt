@@ -18,7 +18,6 @@ use Rattle.mt_rows.specs.Publish.{tree_as, is_reached, IsReached, IsPlaceToPubli
 use Rattle.mt_rows.specs.Replacement.{root_of}
 use Rattle.mt_rows.proofs.Frames.{same_spans}
 use Rattle.mt_rows.proofs.Reached.{OnLevel, below_on_level, below_low, one_place, on_level_reached, times_reached}
-use Rattle.mt_rows.proofs.RowLaws.{other_place}
 
 pub true_false : (b : Bool) → b ≡ true → b ≡ false → ⊥
 true_false b t f = let e : true ≡ false = sym t ∙ f in cc

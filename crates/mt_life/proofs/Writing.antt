@@ -23,7 +23,6 @@ use Rattle.mt_rows.specs.Sheet.{Rooted, Sheet, IsPlace, IsFree, MayBury, MayTend
 use Rattle.mt_rows.proofs.Depth.{by_leaf, by_inner}
 use Rattle.mt_rows.proofs.Lists.{all_map}
 use Rattle.mt_rows.proofs.Reached.{one_of_get, all_one_of}
-use Rattle.mt_rows.proofs.RowLaws.{other_place}
 use Rattle.mt_life.specs.declared.views.Extent.{Extent}
 use Rattle.mt_life.specs.declared.views.Moment.{Moment}
 use Rattle.mt_life.specs.Moments.{PartOf}

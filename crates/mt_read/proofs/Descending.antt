@@ -31,7 +31,6 @@ use Rattle.mt_read.specs.Walks.{GoesOn, IsOn, IsPlaceIn, IsUnder, SeesMore}
 use Rattle.mt_life.proofs.Slots.{span_in_slot}
 use Rattle.mt_life.specs.Holding.{copy_of}
 use Rattle.mt_read.proofs.Finding.{count_is, slots_counted}
-use Rattle.mt_rows.proofs.FewSpans.{few_slots}
 
 -- ---- leaves and inner rows
 

@@ -16,6 +16,7 @@ use Rattle.mt_layout.specs.Columns.{slot_column}
 use Rattle.mt_layout.specs.declared.names.RowKind.TheVariants.{Leaf}
 use Rattle.mt_layout.specs.declared.spans.Span.{Span}
 use Rattle.mt_layout.specs.Sizes.{slots_of}
+use Rattle.mt_layout.proofs.RowSizes.{slot_within}
 use Rattle.mt_rows.specs.declared.rows.Place.TheVariants.{Slot}
 use Rattle.mt_rows.specs.Spans.{spans_in, root_span}
 use Rattle.mt_rows.specs.Levels.{level, map_of}

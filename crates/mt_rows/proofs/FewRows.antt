@@ -9,13 +9,12 @@ use Rattle.std.proofs.Math.Nat.{pow-succ'}
 use Rattle.mt_base.specs.declared.kinds.Kind.{Kind}
 use Rattle.mt_base.specs.declared.ranges.Range.{Range}
 use Rattle.mt_base.specs.Width.{deepest}
-use Rattle.mt_base.specs.declared.widths.Width.{Width}
-use Rattle.mt_base.specs.declared.widths.Width.TheVariants.{Long}
 use Rattle.mt_layout.specs.declared.names.RowKind.TheVariants.{Leaf}
 use Rattle.mt_layout.specs.Sizes.{least_items}
 use Rattle.mt_layout.specs.Rows.{row_in, named_kind}
 use Rattle.mt_layout.specs.declared.spans.Span.{Span}
 use Rattle.mt_layout.specs.Spans.{leaf_range, Fills, BeginsFull, Apart}
+use Rattle.mt_layout.proofs.RowSizes.{least_six}
 use Rattle.mt_rows.specs.Spans.{Table, spans_in, root_span}
 use Rattle.mt_rows.specs.Levels.{expand, map_of, Levels}
 use Rattle.mt_rows.specs.Trees.{rows_of, map_in, reached_in}
@@ -79,9 +78,6 @@ apart_halves (x ∷ xs) apart =
           record { any = rw hole (omega (arith, begins)); full = λ entry. absurd (entry (eqb-true x.word 0 hole)) }
       | inr entry ↦ let any = behind.any in record { any = rw entry (omega (arith, any)); full = λ _. rw entry (omega (arith, any)) }
     ]
-
-least_six : (width : Width) → 6 ≤ least_items width Leaf
-least_six Long = omega arith
 
 leaf_three : (t : Tree) (x : Span) → IsPart t x → IsRow t zero x → 3 ≤ length (flat_map leaf_range (spans_in t.table x))
 leaf_three t x part row =

@@ -1,9 +1,5 @@
--- No more spans stand in a row than it has slots, whatever its words are, and no row has more than 16.
-use Rattle.std.proofs.Common.{◌≡◌, ℕ, ◌≤◌, length, sym, ap, ◌∙◌, subst, arith}
-use Rattle.mt_base.specs.declared.widths.Width.{Width}
-use Rattle.mt_base.specs.declared.widths.Width.TheVariants.{Long}
-use Rattle.mt_layout.specs.declared.names.RowKind.{RowKind}
-use Rattle.mt_layout.specs.declared.names.RowKind.TheVariants.{Leaf, Inner, Gapped}
+-- No more spans stand in a row than it has slots, whatever its words are.
+use Rattle.std.proofs.Common.{◌≡◌, ℕ, ◌≤◌, length, sym, ap, ◌∙◌, subst}
 use Rattle.mt_layout.specs.declared.spans.Span.{Span}
 use Rattle.mt_layout.specs.Rows.{row_in}
 use Rattle.mt_layout.specs.Sizes.{slots_of, gaps_of}
@@ -11,11 +7,6 @@ use Rattle.mt_layout.proofs.Reading.{few_items}
 use Rattle.mt_layout.proofs.SpanLists.{length-spans_from}
 use Rattle.mt_rows.specs.Spans.{base_of, spans_by, spans_in}
 use Rattle.mt_rows.specs.Laws.{Tree, NameLaw, kind_at, items_in}
-
-pub few_slots : (width : Width) (kind : RowKind) → slots_of width kind ≤ 16
-few_slots Long Leaf = omega arith
-few_slots Long Inner = omega arith
-few_slots Long Gapped = omega arith
 
 pub row_most : {t : Tree} {h : ℕ} {x : Span} → NameLaw t h x → length (spans_in t.table x) ≤ slots_of t.table.width (kind_at t.kind h)
 row_most {t} {h} {x} name =

@@ -1,10 +1,9 @@
 -- One store of a gap word in a slot of a row that is reached: the tree keeps its rows and what stands in them.
-use Rattle.std.proofs.Common.{◌≡◌, ◌≢◌, ℕ, suc, ◌+◌, ◌*◌, ◌<◌, ◌≤◌, List, Option, length, refl, sym, ap, ◌∙◌, subst, ⊎_elim, arith, get_or-set_other, get_or-set_same}
+use Rattle.std.proofs.Common.{◌≡◌, ◌≢◌, ℕ, suc, ◌+◌, ◌*◌, ◌<◌, ◌≤◌, List, Option, length, sym, ap, ◌∙◌, subst, ⊎_elim, arith, get_or-set_other, get_or-set_same}
 use Rattle.std.specs.Prelude.{slice_index, slice_set}
 use Rattle.std.proofs.lemmas.Bool.{cases_eq}
 use Rattle.mt_base.specs.declared.kinds.Kind.TheVariants as trees
 use Rattle.mt_base.specs.declared.widths.Width.{Width}
-use Rattle.mt_base.specs.declared.widths.Width.TheVariants.{Long}
 use Rattle.mt_base.specs.Width.{columns, first_row}
 use Rattle.mt_layout.specs.declared.names.RowKind.{RowKind}
 use Rattle.mt_layout.specs.declared.names.RowKind.TheVariants.{Gapped}
@@ -13,7 +12,8 @@ use Rattle.mt_layout.specs.Columns.{gap_column, row_words}
 use Rattle.mt_layout.specs.Rows.{row_in}
 use Rattle.mt_layout.specs.Sizes.{slots_of, gaps_of}
 use Rattle.mt_layout.specs.Spans.{spans_from, Fills}
-use Rattle.mt_layout.proofs.RowSizes.{some_slots_of}
+use Rattle.mt_layout.proofs.Places.{other_place, place_within}
+use Rattle.mt_layout.proofs.RowSizes.{some_slots_of, all_gaps_of, gap_within}
 use Rattle.mt_layout.proofs.SpanLists.{length-spans_from}
 use Rattle.mt_rows.specs.Spans.{base_of, column, spans_by, spans_in}
 use Rattle.mt_rows.specs.Levels.{Levels, SameColumns, SameSpans}
@@ -27,16 +27,10 @@ use Rattle.mt_rows.proofs.GapWords.{put_gap, spans_from-put_gap, other_column, g
 use Rattle.mt_rows.proofs.Joins.{Shared, levels_shared}
 use Rattle.mt_rows.proofs.PlainReached.{levels_from}
 use Rattle.mt_rows.proofs.Reached.{OnLevel, on_level_law, one_place}
-use Rattle.mt_rows.proofs.RowLaws.{row_keeps, other_place}
-
-all_gaps : (width : Width) → gaps_of width Gapped ≡ slots_of width Gapped
-all_gaps Long = refl
+use Rattle.mt_rows.proofs.RowLaws.{row_keeps}
 
 gap_fits : (width : Width) (row rows slot : ℕ) → slot < slots_of width Gapped → row < first_row + rows → columns width * row + gap_column (slots_of width Gapped) slot < columns width * (first_row + rows)
-gap_fits Long row rows slot inside in_table = omega arith
-
-pub gap_inside : (width : Width) (slot : ℕ) → slot < slots_of width Gapped → gap_column (slots_of width Gapped) slot < columns width
-gap_inside Long slot inside = omega arith
+gap_fits width row rows slot inside in_table = place_within width row (first_row + rows) (gap_column (slots_of width Gapped) slot) in_table (gap_within width slot inside)
 
 module _ (r : Rooted) (k slot gap : ℕ) (x : Span) (has : HasWords (tree_as trees.Alloc r)) (row : IsRow (tree_as trees.Alloc r) (suc k) x) (used : slot < length (spans_in r.table x)) where
   abbrev t : Tree
@@ -68,17 +62,17 @@ module _ (r : Rooted) (k slot gap : ℕ) (x : Span) (has : HasWords (tree_as tre
   pub others_keep : (y : Span) → row_in y.word ≢ row_in x.word → SameColumns t.table then.table (columns t.table.width) (row_in y.word)
   others_keep y other c above within =
       get_or-set_other t.table.words (base + gap_column slots slot) (base_of t.table (row_in y.word) + c) gap 0
-      (other_place t.table.width (row_in x.word) (row_in y.word) c (gap_column slots slot) other within (gap_inside t.table.width slot inside))
+      (other_place t.table.width (row_in x.word) (row_in y.word) c (gap_column slots slot) other within (gap_within t.table.width slot inside))
 
   -- and this row all but one
   pub other_gap : (c : ℕ) → c ≢ gap_column slots slot → column then.table (row_in x.word) c ≡ column t.table (row_in x.word) c
-  other_gap c other = other_column slots gaps base slot gap t.table.words inside (all_gaps t.table.width) fits c other
+  other_gap c other = other_column slots gaps base slot gap t.table.words inside (all_gaps_of t.table.width) fits c other
 
   pub this_gap : column then.table (row_in x.word) (gap_column slots slot) ≡ gap
-  this_gap = gap_here slots gaps base slot gap t.table.words inside (all_gaps t.table.width) fits
+  this_gap = gap_here slots gaps base slot gap t.table.words inside (all_gaps_of t.table.width) fits
 
   items_put : items_in then.table Gapped x ≡ put_gap slot gap (items_in t.table Gapped x)
-  items_put = items_at-put_gap slots gaps base slot gap t.table.words inside (all_gaps t.table.width) fits x.last
+  items_put = items_at-put_gap slots gaps base slot gap t.table.words inside (all_gaps_of t.table.width) fits x.last
 
   pub spans_stay : spans_in then.table x ≡ spans_in t.table x
   spans_stay = subst (λ (k : Option RowKind). spans_by then.table k x ≡ spans_by t.table k x) (sym row.name.named)
@@ -92,7 +86,7 @@ module _ (r : Rooted) (k slot gap : ℕ) (x : Span) (has : HasWords (tree_as tre
       let some = some_slots_of t.table.width Gapped in
       let parent : column then.table (row_in x.word) 0 ≡ column t.table (row_in x.word) 0 = other_gap 0 (λ e. omega arith) in
       (λ i. row_words (columns t.table.width) slots gaps (parent i) (items_put i))
-      ∙ row_words-put_gap (columns t.table.width) slots gaps (column t.table (row_in x.word) 0) slot gap (items_in t.table Gapped x) some (all_gaps t.table.width) (omega (arith, length-items)) (omega (arith, length-items, (row_most row.name)))
+      ∙ row_words-put_gap (columns t.table.width) slots gaps (column t.table (row_in x.word) 0) slot gap (items_in t.table Gapped x) some (all_gaps_of t.table.width) (omega (arith, length-items)) (omega (arith, length-items, (row_most row.name)))
 
   unused_put : (c : ℕ) → c < columns t.table.width → column then.table (row_in x.word) c ≡ slice_index (words_in then.table Gapped x) c
   unused_put c within =
@@ -100,7 +94,7 @@ module _ (r : Rooted) (k slot gap : ℕ) (x : Span) (has : HasWords (tree_as tre
       (λ (here : c ≡ gap_column slots slot).
       ap (λ (n : ℕ). column then.table (row_in x.word) n) here
       ∙ (this_gap
-      ∙ (sym (get_or-set_same (words_in t.table Gapped x) (gap_column slots slot) gap 0 (row_words-gap_inside (columns t.table.width) slots gaps (column t.table (row_in x.word) 0) slot gap (items_in t.table Gapped x) (some_slots_of t.table.width Gapped) (all_gaps t.table.width) (omega (arith, length-items)) (omega (arith, length-items, (row_most row.name)))))
+      ∙ (sym (get_or-set_same (words_in t.table Gapped x) (gap_column slots slot) gap 0 (row_words-gap_inside (columns t.table.width) slots gaps (column t.table (row_in x.word) 0) slot gap (items_in t.table Gapped x) (some_slots_of t.table.width Gapped) (all_gaps_of t.table.width) (omega (arith, length-items)) (omega (arith, length-items, (row_most row.name)))))
       ∙ (ap (λ (n : ℕ). slice_index (slice_set (words_in t.table Gapped x) (gap_column slots slot) gap) n) (sym here) ∙ ap (λ (ws : List ℕ). slice_index ws c) (sym words_put)))))
       (λ (other : c ≡ gap_column slots slot → ⊥).
       other_gap c other

@@ -5,13 +5,10 @@ use Rattle.std.specs.Prelude.{if◌then◌else◌}
 use Rattle.std.specs.List.{AllByRecursion}
 use Rattle.std.proofs.lemmas.Bool.{cases_Bool, cases_lt, lt-ltb, ltb-true, ltb-false, le-ltb, eqb-false}
 use Rattle.mt_base.specs.Width.{deepest, most_rows, first_row}
-use Rattle.mt_base.specs.declared.widths.Width.{Width}
-use Rattle.mt_base.specs.declared.widths.Width.TheVariants.{Long}
 use Rattle.mt_base.proofs.Lists.{all_map}
-use Rattle.mt_layout.specs.declared.names.RowKind.{RowKind}
-use Rattle.mt_layout.specs.declared.names.RowKind.TheVariants.{Leaf, Inner, Gapped}
 use Rattle.mt_layout.specs.Rows.{row_in}
 use Rattle.mt_layout.proofs.NameLaws.{Names-named_kind}
+use Rattle.mt_layout.proofs.RowSizes.{least_four}
 use Rattle.mt_layout.specs.declared.spans.Span.{Span}
 use Rattle.mt_layout.specs.Spans.{Fills}
 use Rattle.mt_layout.specs.Sizes.{least_items}
@@ -24,11 +21,6 @@ use Rattle.mt_rows.proofs.Once.{IsPart, inner_wide, expand_parts, rows_wide, wid
 use Rattle.mt_rows.proofs.Reached.{here_le}
 
 -- ---- how many rows a level has at the least
-
-least_four : (width : Width) (kind : RowKind) → 4 ≤ least_items width kind
-least_four Long Leaf = omega arith
-least_four Long Inner = omega arith
-least_four Long Gapped = omega arith
 
 part_four : (t : Tree) (h : ℕ) (x : Span) → IsPart t x → IsRow t h x → 4 ≤ length (spans_in t.table x)
 part_four t h x part row =

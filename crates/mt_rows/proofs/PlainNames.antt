@@ -17,6 +17,7 @@ use Rattle.mt_layout.specs.Rows.{row_in}
 use Rattle.mt_layout.specs.declared.spans.Span.{Span}
 use Rattle.mt_layout.specs.Spans.{spans_from}
 use Rattle.mt_layout.proofs.RowWords.{item_or, get_or-padded, get_or-field, used, used-slot}
+use Rattle.mt_layout.proofs.Places.{row_within}
 use Rattle.mt_layout.specs.Sizes.{slots_of, gaps_of}
 use Rattle.mt_layout.proofs.RowSizes.{layout_of, some_slots, slots-fit, slot_within}
 use Rattle.mt_layout.proofs.SpanLists.{length-spans_from, spans-words}
@@ -71,16 +72,13 @@ read_names : (width : Width) (kind : Kind) (w : List ℕ) (row parent : ℕ) (it
 read_names Long trees.Range w row parent items fit within written = slots_read (columns Long) (columns Long * row) (slots_of Long Inner) (gaps_of Long Inner) parent w items (layout_of Long Inner) fit within written
 read_names Long trees.Alloc w row parent items fit within written = slots_read (columns Long) (columns Long * row) (slots_of Long Gapped) (gaps_of Long Gapped) parent w items (layout_of Long Gapped) fit within written
 
-row_inside : (width : Width) (row rows : ℕ) → row < first_row + rows → columns width * row + columns width ≤ columns width * (first_row + rows)
-row_inside Long row rows within = omega arith
-
 pub names_are : (t : Tree) (h : ℕ) (x : Span) → HasWords t → IsRow t (suc h) x → (n : ℕ) × (names_of t.table.words (row_in x.word) (inner_kind t.kind) ≡ map (λ (y : Span). y.word) (spans_in t.table x) ++ replicate n 0)
 names_are t h x has row =
     let items = items_in t.table (inner_kind t.kind) x in
     let n = slots_of t.table.width (inner_kind t.kind) - length items in
     let spans : spans_in t.table x ≡ spans_from x.first items = ap (λ (k : Option RowKind). spans_by t.table k x) row.name.named in
     let fit : length items ≤ slots_of t.table.width (inner_kind t.kind) = omega (arith, (row_most row.name), ap length spans, length-spans_from x.first items) in
-    let read = read_names t.table.width t.kind t.table.words (row_in x.word) (column t.table (row_in x.word) 0) items fit (omega (arith, has, row_inside t.table.width (row_in x.word) t.rows row.name.in_table)) row.pivots.unused in
+    let read = read_names t.table.width t.kind t.table.words (row_in x.word) (column t.table (row_in x.word) 0) items fit (omega (arith, has, row_within t.table.width (row_in x.word) (first_row + t.rows) row.name.in_table)) row.pivots.unused in
     (n, read ∙ ap (λ (l : List ℕ). l ++ replicate n 0) (sym (ap (map (λ (y : Span). y.word)) spans ∙ spans-words x.first items)))
 
 -- ---- the word of an item that is read is in its slot

@@ -5,12 +5,13 @@ use Rattle.std.specs.List.{flat_map, fold}
 use Rattle.std.proofs.lemmas.Bool.{cases_Bool, cases_eq, cases_lt, eq-eqb, ne_eqb, lt-ltb, le-ltb}
 use Rattle.std.proofs.lemmas.List.{get_or_past}
 use Rattle.std.proofs.lemmas.List.Folds.{length-flat_map-take}
-use Rattle.std.proofs.Math.Nat.{pow-succ', pow-le-pow_right, one-le-pow, mul-le-mul_right}
+use Rattle.std.proofs.Math.Nat.{pow-succ', pow-le-pow_right, one-le-pow, mul-le-mul_right, mul-add}
 use Rattle.mt_base.specs.declared.kinds.Kind.{Kind}
 use Rattle.mt_base.specs.declared.widths.Width.{Width}
 use Rattle.mt_base.specs.declared.widths.Width.TheVariants.{Long}
 use Rattle.mt_base.specs.Width.{columns, greatest, deepest, first_row}
 use Rattle.mt_layout.proofs.RowSizes.{slots_of-columns, some_columns}
+use Rattle.mt_base.proofs.WidthBounds.{many_columns, deepest_fits}
 use Rattle.mt_layout.specs.declared.names.RowKind.{RowKind}
 use Rattle.mt_layout.specs.declared.names.RowKind.TheVariants.{Leaf, Inner, Gapped}
 use Rattle.mt_layout.specs.Columns.{items_from, items_at, pivot_column}
@@ -60,10 +61,19 @@ below_few f most (x ∷ xs) few = let first = few x in let rest = below_few f mo
 
 -- a row and what its children give are fewer than a child gives at the most, for each column
 row_few : (width : Width) (kind : Option RowKind) (row p q : ℕ) (below : List ℕ) → 1 ≤ p → q ≡ columns width * p → length below ≤ columns width * (p - 1) → length (by_kind kind (row ∷ []) (row ∷ below)) < q
-row_few Long None row p q below some more few = omega arith
-row_few Long (Some Leaf) row p q below some more few = omega arith
-row_few Long (Some Inner) row p q below some more few = omega arith
-row_few Long (Some Gapped) row p q below some more few = omega arith
+row_few width kind row p q below some more few = by kind
+  where
+    most : length below + 32 ≤ q
+    most =
+        let before : p ≡ p - 1 + 1 = omega arith in
+        let one_more = ap (λ (n : ℕ). columns width * n) before ∙ mul-add (columns width) (p - 1) 1 in
+        omega (arith, one_more, many_columns width)
+
+    by : (kind : Option RowKind) → length (by_kind kind (row ∷ []) (row ∷ below)) < q
+    by None = let fit = most in omega arith
+    by (Some Leaf) = let fit = most in omega arith
+    by (Some Inner) = let fit = most in omega arith
+    by (Some Gapped) = let fit = most in omega arith
 
 pub rows_few : (t : Table) (depth : ℕ) (x : Span) → length (rows_of t depth x) < columns t.width ^ depth
 rows_few t zero x = omega (arith, one-le-pow zero (columns t.width) (some_columns t.width))
@@ -72,9 +82,6 @@ rows_few t (suc depth) x =
     let each = below_few (rows_of t depth) most (spans_in t x) (λ y. let few = rows_few t depth y in omega arith) in
     let wide = mul-le-mul_right most (children_few t x) in
     row_few t.width (named_kind x.word) (row_in x.word) (columns t.width ^ depth) (columns t.width ^ suc depth) (flat_map (rows_of t depth) (spans_in t x)) (one-le-pow depth (columns t.width) (some_columns t.width)) (pow-succ' (columns t.width) depth) (omega arith)
-
-pub deepest_fits : (width : Width) → columns width ^ deepest < 2 ^ 64
-deepest_fits Long = omega arith
 
 pub rows_fit : (t : Table) (depth : ℕ) (x : Span) → depth ≤ deepest → length (rows_of t depth x) < 2 ^ 64
 rows_fit t depth x low =

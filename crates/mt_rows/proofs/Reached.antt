@@ -2,14 +2,12 @@
 use Rattle.std.proofs.Common.{◌≡◌, ◌≢◌, ◌⊎◌, ℕ, zero, suc, ◌+◌, ◌<◌, ◌≤◌, ◌==◌, List, [], ◌∷◌, ◌++◌, Some, Bool, true, false, refl, sym, ap, ◌∙◌, subst, inl, inr, arith, eq-eqb, lt-ltb}
 use Rattle.std.specs.List.{AllByRecursion, slice_get}
 use Rattle.std.proofs.lemmas.Bool.{cases_Bool, eqb-true, ltb-true, ltb-false}
-use Rattle.mt_base.specs.declared.kinds.Kind.{Kind}
-use Rattle.mt_base.specs.declared.kinds.Kind.TheVariants as trees
 use Rattle.mt_base.specs.Width.{deepest, first_row}
 use Rattle.mt_layout.specs.declared.names.RowKind.TheVariants.{Leaf}
 use Rattle.mt_layout.specs.Rows.{row_in, named_kind}
 use Rattle.mt_layout.proofs.NameLaws.{Names-named_kind}
 use Rattle.mt_layout.specs.declared.spans.Span.{Span}
-use Rattle.mt_rows.specs.Spans.{Table, spans_in, inner_kind, root_span}
+use Rattle.mt_rows.specs.Spans.{Table, spans_in, root_span}
 use Rattle.mt_rows.specs.Levels.{expand, level, Levels, one_if, tally, times, is_row_of, IsBelow}
 use Rattle.mt_rows.specs.Trees.{reached_in, height_in}
 use Rattle.mt_rows.specs.Laws.{Tree, IsRow, Stands, kind_at}
@@ -19,6 +17,7 @@ use Rattle.mt_rows.specs.Replacement.{root_of}
 use Rattle.mt_rows.proofs.Depth.{rows_by_depth, height_by_depth}
 use Rattle.mt_rows.proofs.Once.{once}
 use Rattle.mt_rows.proofs.Heights.{level_rows}
+use Rattle.mt_rows.proofs.InnerKinds.{inner_not_named}
 
 -- ---- one of a list
 
@@ -85,12 +84,8 @@ expand_one_of t (x ∷ xs) z one = elim (one_of_either (spans_in t x) (expand t 
 
 -- ---- what stands below is on a level
 
-pub inner_no_leaf : (kind : Kind) → Some (inner_kind kind) ≢ Some Leaf
-inner_no_leaf trees.Range = λ e. cc
-inner_no_leaf trees.Alloc = λ e. cc
-
 no_leaf : (t : Tree) (h : ℕ) (x : Span) → IsRow t (suc h) x → named_kind x.word ≢ Some Leaf
-no_leaf t h x row = λ leaf. inner_no_leaf t.kind (sym row.name.named ∙ leaf)
+no_leaf t h x row = λ leaf. inner_not_named t.kind (sym row.name.named ∙ leaf)
 
 pub below_on_level : (t : Table) (d : ℕ) (xs : List Span) (top x : Span) → IsOneOf top xs → IsBelow t d top x → IsOneOf x (level t d xs)
 below_on_level t zero xs top x one below = subst (λ (y : Span). IsOneOf y xs) (sym below) one

@@ -1,10 +1,9 @@
 -- The gaps of the items that are read off a row stand in the row's gap columns, and a span covers its indexes. For the proofs of the
 -- crates above.
-use Rattle.std.proofs.Common.{◌≡◌, ℕ, zero, suc, ◌+◌, ◌*◌, ◌≤◌, List, [], ◌∷◌, true, nat_le, refl, inl, inr, arith}
+use Rattle.std.proofs.Common.{◌≡◌, ℕ, zero, suc, ◌+◌, ◌*◌, ◌≤◌, List, [], ◌∷◌, true, nat_le, refl, inl, inr}
 use Rattle.std.specs.Prelude.{slice_index}
 use Rattle.std.proofs.lemmas.Bool.{cases_Bool, le-leb}
 use Rattle.mt_base.specs.declared.widths.Width.{Width}
-use Rattle.mt_base.specs.declared.widths.Width.TheVariants.{Long}
 use Rattle.mt_base.specs.Width.{columns}
 use Rattle.mt_layout.specs.declared.items.Item.{Item}
 use Rattle.mt_layout.specs.declared.names.RowKind.TheVariants.{Gapped}
@@ -12,6 +11,7 @@ use Rattle.mt_layout.specs.Columns.{gap_column, pivot_column, items_from}
 use Rattle.mt_layout.specs.Sizes.{slots_of, gaps_of}
 use Rattle.mt_layout.specs.declared.spans.Span.{Span}
 use Rattle.mt_layout.proofs.Reading.{gap_at-some}
+use Rattle.mt_layout.proofs.RowSizes.{some_gaps_of}
 use Rattle.mt_rows.specs.Spans.{Table, column}
 use Rattle.mt_rows.specs.Gaps.{covers}
 
@@ -24,13 +24,10 @@ abbrev pub AreGapsAt : Table → ℕ → ℕ → List Item → Type 0
 AreGapsAt t row slot [] = Unit {0}
 AreGapsAt t row slot (x ∷ items) = (x.gap ≡ column t row (gap_column (slots_of t.width Gapped) slot)) × AreGapsAt t row (slot + 1) items
 
-pub some_gaps : (width : Width) → gaps_of width Gapped ≡ 0 → ⊥
-some_gaps Long none = absurd (omega arith)
-
 pub gaps_read : (width : Width) (w : List ℕ) (row max left i : ℕ) → AreGapsAt (record { width = width; words = w }) row i (items_from (slots_of width Gapped) (gaps_of width Gapped) w (columns width * row) max left i)
 gaps_read width w row max zero i = tt
-gaps_read width w row max (suc zero) i = (gap_at-some (slots_of width Gapped) (gaps_of width Gapped) w (columns width * row) i (some_gaps width), tt)
+gaps_read width w row max (suc zero) i = (gap_at-some (slots_of width Gapped) (gaps_of width Gapped) w (columns width * row) i (some_gaps_of width), tt)
 gaps_read width w row max (suc (suc left)) i = elim (cases_Bool (nat_le max (slice_index w (columns width * row + pivot_column i)))) [
-  | inl last ↦ rw last (gap_at-some (slots_of width Gapped) (gaps_of width Gapped) w (columns width * row) i (some_gaps width), tt)
-  | inr more ↦ rw more (gap_at-some (slots_of width Gapped) (gaps_of width Gapped) w (columns width * row) i (some_gaps width), gaps_read width w row max (suc left) (i + 1))
+  | inl last ↦ rw last (gap_at-some (slots_of width Gapped) (gaps_of width Gapped) w (columns width * row) i (some_gaps_of width), tt)
+  | inr more ↦ rw more (gap_at-some (slots_of width Gapped) (gaps_of width Gapped) w (columns width * row) i (some_gaps_of width), gaps_read width w row max (suc left) (i + 1))
 ]

@@ -4,18 +4,18 @@ use Rattle.std.specs.Prelude.{slice_index, slice_set}
 use Rattle.std.specs.List.{AllByRecursion, flat_map}
 use Rattle.std.proofs.lemmas.Bool.{cases_eq}
 use Rattle.mt_base.specs.declared.widths.Width.{Width}
-use Rattle.mt_base.specs.declared.widths.Width.TheVariants.{Long}
 use Rattle.mt_base.specs.Width.{columns, first_row}
 use Rattle.mt_base.specs.Entry.{reserved}
 use Rattle.mt_layout.specs.declared.names.RowKind.{RowKind}
 use Rattle.mt_layout.specs.Rows.{row_in, named_kind}
 use Rattle.mt_layout.specs.Columns.{slot_column, items_at, row_words}
 use Rattle.mt_layout.proofs.OwnColumns.{same_items}
+use Rattle.mt_layout.proofs.Places.{other_place, place_within}
 use Rattle.mt_layout.specs.declared.items.Item.{Item}
 use Rattle.mt_layout.specs.declared.spans.Span.{Span}
 use Rattle.mt_layout.specs.Spans.{spans_from, leaf_range, Fills, BeginsFull, Apart, EndsFull}
 use Rattle.mt_layout.specs.Sizes.{slots_of, gaps_of}
-use Rattle.mt_layout.proofs.RowSizes.{layout_of, some_slots_of, slots_of-columns, slot_within}
+use Rattle.mt_layout.proofs.RowSizes.{layout_of, some_slots_of, slot_within}
 use Rattle.mt_layout.proofs.SpanLists.{length-spans_from}
 use Rattle.mt_rows.specs.Spans.{base_of, column, spans_by, spans_in}
 use Rattle.mt_rows.specs.Levels.{SameColumns, SameSpans}
@@ -83,10 +83,7 @@ name_some word kind named is =
 
 -- a slot column of a row of the table is one of its words
 pub slot_fits : (width : Width) (kind : RowKind) (row rows slot : ℕ) → slot < slots_of width kind → row < first_row + rows → columns width * row + slot_column (slots_of width kind) slot < columns width * (first_row + rows)
-slot_fits Long kind row rows slot inside in_table = omega (arith, slots_of-columns Long kind)
-
-pub other_place : (width : Width) (row other c col : ℕ) → other ≢ row → c < columns width → col < columns width → columns width * other + c ≢ columns width * row + col
-other_place Long row other c col apart inside at = λ e. apart (omega arith)
+slot_fits width kind row rows slot inside in_table = place_within width row (first_row + rows) (slot_column (slots_of width kind) slot) in_table (slot_within width kind slot inside)
 
 pub length-put_span : (n word : ℕ) (xs : List Span) → length (put_span n word xs) ≡ length xs
 length-put_span n word [] = refl

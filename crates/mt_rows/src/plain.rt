@@ -106,7 +106,7 @@ fn is_draft(fates: &[Fate], row: u32) -> bool
 }
 
 /// The words in the slots of an inner row, which name its children.
-#[tactic(auto, using(crate::proofs::FewSpans::few_slots, crate::proofs::ZeroWords::range_more, crate::proofs::ZeroWords::none_in_range, crate::proofs::ZeroWords::names_of_inner))]
+#[tactic(auto, using(mt_layout::proofs::RowSizes::few_slots_of, crate::proofs::ZeroWords::range_more, crate::proofs::ZeroWords::none_in_range, crate::proofs::ZeroWords::names_of_inner))]
 fn names_in(words: &Words, row: u32, kind: RowKind) -> ArrayVec<u64, MOST_SLOTS>
     requires { columns Long * (row + 1) ≤ length words.now.items }
     ensures { result.items ≡ names_of words.now.items row kind }

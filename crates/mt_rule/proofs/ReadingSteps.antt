@@ -11,7 +11,6 @@ use lib.ListN.{get_elem?}
 use Rattle.atomic_table.specs.Table.{Me, Act, step, stepped, carried_after, Valid, keeps, Allows}
 use Rattle.mt_base.specs.declared.replies.Holder.{Holder}
 use Rattle.mt_base.specs.declared.widths.Width.{Width}
-use Rattle.mt_base.specs.Passes.{Begins}
 use Rattle.mt_base.specs.Passes as known
 use Rattle.mt_base.specs.Width.{kind_width, first_row}
 use Rattle.mt_base.proofs.Goings.{begins_long, begins_none}

@@ -21,7 +21,6 @@ use Rattle.mt_rows.proofs.Joins.{Shared, levels_shared}
 use Rattle.mt_rows.proofs.Lists.{levels_map}
 use Rattle.mt_rows.proofs.Heights.{levels_pair}
 use Rattle.mt_rows.proofs.Longest.{longest_shared}
-use Rattle.mt_rows.proofs.RowGaps.{some_gaps}
 use Rattle.mt_splice.specs.steps.Work.{Start, Work, now, table_with, tree_with}
 use Rattle.mt_splice.specs.steps.Endings.{with_root}
 use Rattle.mt_splice.specs.steps.Told.{IsGoodRow, GapsAs}

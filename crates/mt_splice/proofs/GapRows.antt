@@ -12,7 +12,7 @@ use Rattle.mt_layout.specs.Columns.{longest_hole}
 use Rattle.mt_layout.specs.Sizes.{slots_of, gaps_of}
 use Rattle.mt_layout.specs.Spans.{spans_from, longest_in}
 use Rattle.mt_layout.proofs.OwnColumns.{same_items}
-use Rattle.mt_layout.proofs.RowSizes.{layout_of, some_gaps_of}
+use Rattle.mt_layout.proofs.RowSizes.{layout_of}
 use Rattle.mt_rows.specs.Spans.{Table, inner_kind, spans_by, spans_in}
 use Rattle.mt_rows.specs.Levels.{expand, Levels, SameColumns}
 use Rattle.mt_rows.specs.Laws.{Tree, IsRow, GapLaw, GapLawBy, GapsFrom, items_in, longest_below}

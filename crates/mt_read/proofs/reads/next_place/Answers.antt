@@ -12,7 +12,6 @@ use Rattle.mt_read.proofs.Descending.{place_within}
 use Rattle.mt_read.proofs.Beside.{used, last_behind, pivot_behind}
 use Rattle.mt_read.proofs.Reading.{leaf_kind}
 use Rattle.mt_read.proofs.reads.next_place.Goals as goal
-use Rattle.mt_rows.proofs.FewSpans.{few_slots}
 
 pub overflow_add-first : goal.overflow_add-first
 overflow_add-first g c =
