@@ -208,14 +208,13 @@ fn sweep_agrees<R: Wait + Print>(
     print_sweep(rt, sweep, ranges, held, held == due)
 }
 
-/// Prints what threads come to on trees of this kind; whether all of it is as it is to be.
-pub fn threads_agree<R: Threads + Wait + Clock + Print + Sync>(
+/// Prints what crews of each duty come to on a tree of this kind; whether all of it is as it is to be.
+fn crews_agree<R: Threads + Wait + Clock + Print + Sync>(
     rt: &R,
     alloc: Global,
     kind: Kind,
-    ranges: u32,
+    extent: Extent,
 ) -> io::Result<bool> {
-    let extent = extent_of(ranges);
     let readers = READERS;
     let mut all_agree = true;
     for duty in [Duty::Readers, Duty::Conc, Duty::Slowest] {
@@ -226,11 +225,47 @@ pub fn threads_agree<R: Threads + Wait + Clock + Print + Sync>(
         };
         all_agree &= crew_agrees(rt, alloc, crew, extent)?;
     }
+    Ok(all_agree)
+}
+
+/// Prints what lanes on trees of this kind come to, on one thread and on more; whether all of it is as it is to be.
+fn threads_of_lanes_agree<R: Threads + Wait + Clock + Print + Sync>(
+    rt: &R,
+    alloc: Global,
+    kind: Kind,
+    extent: Extent,
+) -> io::Result<bool> {
+    let mut all_agree = true;
     for threads in [1, 2, TREES] {
         all_agree &= lanes_agree(rt, alloc, Lanes { kind, threads }, extent)?;
     }
+    Ok(all_agree)
+}
+
+/// Prints what a check and the copies of a tree of this kind tell; whether all of it is as it is to be.
+fn sweeps_agree<R: Wait + Print>(
+    rt: &R,
+    alloc: Global,
+    kind: Kind,
+    ranges: u32,
+) -> io::Result<bool> {
+    let mut all_agree = true;
     for deed in [Deed::Check, Deed::Dup(Room::Fitting), Deed::Dup(Room::Most)] {
         all_agree &= sweep_agrees(rt, alloc, Sweep { kind, deed }, ranges)?;
     }
     Ok(all_agree)
+}
+
+/// Prints what threads come to on trees of this kind; whether all of it is as it is to be.
+pub fn threads_agree<R: Threads + Wait + Clock + Print + Sync>(
+    rt: &R,
+    alloc: Global,
+    kind: Kind,
+    ranges: u32,
+) -> io::Result<bool> {
+    let extent = extent_of(ranges);
+    let crews_agree = crews_agree(rt, alloc, kind, extent)?;
+    let lanes_agree = threads_of_lanes_agree(rt, alloc, kind, extent)?;
+    let sweeps_agree = sweeps_agree(rt, alloc, kind, ranges)?;
+    Ok(crews_agree && lanes_agree && sweeps_agree)
 }
