@@ -1,7 +1,6 @@
 //! Trees of nodes that threads share, as a player makes them.
 
 ghost use Rattle.std.specs.Prelude.{◌≡◌, ℕ, ◌<◌, ◌≤◌, None, IfOk, IfErr};
-ghost use Rattle.mt_base.specs.declared.calls.Query.TheVariants.{Find, Load};
 ghost use Rattle.mt_base.specs.Passes as known;
 ghost use Rattle.mt_base.specs.Width.{most_rows};
 ghost use Rattle.mt_play.specs.Trees.{calls_taken, fewest_rows, most_passes};
@@ -27,46 +26,7 @@ pub struct LaneTree {
     ghost calls: { limit_of tree ≡ calls_taken },
 }
 
-/// The range that an index lies in, without the lock.
-fn load_range<L: Ledger>(
-    tree: &Tree,
-    pass: &mut Pass,
-    index: u64,
-    blank: Blank,
-) -> Read<Option<Range>>
-    requires of { IsPassOf tree.now pass.old }
-    requires name { blank.name ≡ L.name }
-    requires parts { blank.parts ≡ L.parts }
-    requires some { 0 < blank.parts }
-    ensures of { IsPassOf tree.now pass.new }
-    ensures read { (k : ℕ) × known.Read (opened tree.now) (pass_in pass.old) result.lo result.hi k (Load index) result.value (pass_in pass.new) }
-    ensures closed { (pass_in pass.new).standing ≡ None }
-{
-    let mut steps = Steps::<L>::new(blank);
-    tree.load_range(pass, index, &mut steps)
-}
-
-/// The first range that ends at an index or above, and begins at `max` or below, without the lock.
-fn find<L: Ledger>(
-    tree: &Tree,
-    pass: &mut Pass,
-    index: u64,
-    max: u64,
-    blank: Blank,
-) -> Read<Option<Range>>
-    requires of { IsPassOf tree.now pass.old }
-    requires name { blank.name ≡ L.name }
-    requires parts { blank.parts ≡ L.parts }
-    requires some { 0 < blank.parts }
-    ensures of { IsPassOf tree.now pass.new }
-    ensures read { (k : ℕ) × known.Read (opened tree.now) (pass_in pass.old) result.lo result.hi k (Find index max) result.value (pass_in pass.new) }
-    ensures closed { (pass_in pass.new).standing ≡ None }
-{
-    let mut steps = Steps::<L>::new(blank);
-    tree.find(pass, index, max, &mut steps)
-}
-
-/// What a query for a neighbour finds without the lock, or that the leaf of its index was replaced meanwhile.
+/// What a query finds without the lock; or that the leaf of its index was replaced meanwhile, where it looks for a neighbour.
 fn seek<L: Ledger>(
     tree: &Tree,
     pass: &mut Pass,
@@ -77,23 +37,24 @@ fn seek<L: Ledger>(
     requires name { blank.name ≡ L.name }
     requires parts { blank.parts ≡ L.parts }
     requires some { 0 < blank.parts }
-    requires neighbour { IsForNeighbour query.now }
     ensures of { IsPassOf tree.now pass.new }
     ensures read { IfOk result (λ r. (k : ℕ) × known.Read (opened tree.now) (pass_in pass.old) r.lo r.hi k query.now r.value (pass_in pass.new)) }
+    ensures neighbour { IfErr result (λ _. IsForNeighbour query.now) }
     ensures grows { IfErr result (λ _. known.Grows (pass_in pass.old) (pass_in pass.new)) }
     ensures closed { (pass_in pass.new).standing ≡ None }
 {
     let mut steps = Steps::<L>::new(blank);
     match query {
+        Query::Load { index } => Ok(tree.load_range(pass, *index, &mut steps)),
+        Query::Find { index, max } => Ok(tree.find(pass, *index, *max, &mut steps)),
         Query::Next { index, max } => tree.next(pass, *index, *max, &mut steps),
         Query::Prev { index, min } => tree.prev(pass, *index, *min, &mut steps),
         Query::Rfind { index, min } => tree.rfind(pass, *index, *min, &mut steps),
-        Query::Load { .. } | Query::Find { .. } => unreachable!(),
     }
 }
 
-/// What a query for a neighbour finds: without the lock where the leaf of its index stands, or else under it.
-fn neighbour<R: Wait, L: Ledger>(
+/// What a query finds, without the lock. A neighbour is looked for under it where the leaf of the index was replaced meanwhile.
+fn look<R: Wait, L: Ledger>(
     tree: &Tree,
     rt: &R,
     pass: &mut Pass,
@@ -104,7 +65,6 @@ fn neighbour<R: Wait, L: Ledger>(
     requires name { blank.name ≡ L.name }
     requires parts { blank.parts ≡ L.parts }
     requires some { 0 < blank.parts }
-    requires neighbour { IsForNeighbour query.now }
     ensures of { IsPassOf tree.now pass.new }
     ensures read { (k : ℕ) × known.Read (opened tree.now) (pass_in pass.old) result.lo result.hi k query.now result.value (pass_in pass.new) }
     ensures closed { (pass_in pass.new).standing ≡ None }
@@ -149,15 +109,7 @@ impl Shared<Pass> for LaneTree {
     }
 
     fn ask<R: Wait>(&self, rt: &R, pass: &mut Pass, query: &Query) -> Looked {
-        let read = match query {
-            Query::Load { index } => load_range::<Brand>(&self.tree, pass, *index, Blank::new(1)),
-            Query::Find { index, max } => {
-                find::<Brand>(&self.tree, pass, *index, *max, Blank::new(1))
-            }
-            Query::Next { .. } | Query::Prev { .. } | Query::Rfind { .. } => {
-                neighbour::<R, Brand>(&self.tree, rt, pass, query, Blank::new(1))
-            }
-        };
+        let read = look::<R, Brand>(&self.tree, rt, pass, query, Blank::new(1));
         Looked {
             lo: read.lo,
             hi: read.hi,

@@ -1,7 +1,7 @@
 use Rattle.mt_base.proofs.Goings.{grew_read}
 use Rattle.mt_rule.specs.Tokens.{pass_in}
 use Rattle.mt_tree.specs.Trees.{opened}
-use Rattle.mt_texts.proofs.trees.neighbour.Goals as goal
+use Rattle.mt_texts.proofs.trees.look.Goals as goal
 
 pub returns-in-Err-clause-read : goal.returns-in-Err-clause-read
 returns-in-Err-clause-read g c =
