@@ -27,7 +27,8 @@ pub fn call_keeps_map()
     ensures { (kind : Kind) (m : List Range) (call : Call) → IsMap kind m → IsMap kind (acted kind m call).0 }
 {}
 
-/// After a store an index of its range has the entry that was stored, none where that is 0, and every other index the entry it had.
+/// After a store an index of its range has the entry that was stored, none where that is 0, and every other index the entry it
+/// had.
 #[tactic(auto, using(crate::proofs::ReadingAfterStore::entry_inside, crate::proofs::ReadingAfterStore::entry_below, crate::proofs::ReadingAfterStore::entry_above))]
 pub fn load_after_store()
     ensures inside { (m : List Range) (first last entry index : ℕ) → first ≤ index → index ≤ last → option_map (λ r. r.entry) (holding (over m first last entry) index) ≡ (if entry == 0 then None else Some entry) }

@@ -64,8 +64,8 @@ fn are_zero<R: Rows>(rows: &mut R, row: u32, from: u32, end: u32) -> bool
     true
 }
 
-/// Whether a row of this kind, whose first slots hold so many items, has 0 in all columns but those of its parent word and of these
-/// items.
+/// Whether a row of this kind, whose first slots hold so many items, has 0 in all columns but those of its parent word and of
+/// these items.
 fn holds_no_more<R: Rows>(rows: &mut R, kind: RowKind, row: u32, count: u32) -> bool
     requires first { first_row ≤ row }
     requires last { row < first_row + (R.sheet rows.old).tree.rows }

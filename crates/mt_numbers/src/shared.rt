@@ -17,8 +17,8 @@ use std::sync::Wait;
 /// What the tree holds at a number that is taken.
 pub const TAKEN: u64 = 1;
 
-/// A tree with no number taken, and so many passes on it. It has more rows than the calls of all threads can want together, so that
-/// no call lacks one, whatever readers hold.
+/// A tree with no number taken, and so many passes on it. It has more rows than the calls of all threads can want together, so
+/// that no call lacks one, whatever readers hold.
 pub fn make(alloc: Global, passes: u32) -> io::Result<(Tree, Vec<Pass>)>
     ensures of { IfOk result (λ r. All (IsPassOf r.0) r.1.items) }
     ensures own { IfOk result (λ r. All (λ p. KnowsItsOwn (pass_in p)) r.1.items) }
