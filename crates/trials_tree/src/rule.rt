@@ -19,17 +19,17 @@ use std::thread::{Threads, join};
 
 /// The pen, joined with no pass, where no call is in flight.
 #[derive(Drop)]
-struct Desk {
+struct IdlePen {
     pen: Pen,
     ghost alone: { IsAlone pen },
     ghost idle: { (pen_in pen).in_flight ≡ false },
 }
 
-impl OfTable for Desk {
-    ghost table = { λ desk. identity_of_pen desk.pen };
+impl OfTable for IdlePen {
+    ghost table = { λ idle. identity_of_pen idle.pen };
 }
 
-impl Desk {
+impl IdlePen {
     ghost use Rattle.std.specs.Prelude.{◌≡◌, ◌≤◌};
     ghost use Rattle.mt_base.specs.declared.kinds.Kind.TheVariants as kinds;
     ghost use Rattle.mt_rule.specs.Limits.{most_calls};
@@ -64,7 +64,7 @@ impl Desk {
 #[derive(Drop)]
 struct Shared {
     table: MtTable,
-    turn: Turn<Desk>,
+    turn: Turn<IdlePen>,
     calls: u64,
     ghost serves: { served turn.table.shared.key ≡ identity_of table },
     ghost kind: { (identity_of table).shape.kind ≡ kinds.Range },
@@ -97,7 +97,7 @@ fn opened(alloc: Global, calls: u64) -> Result<(Shared, Vec<Pass>), Fail>
 {
     let rows = PlainRows::new(alloc, 4)?;
     let (table, pen, mut passes) = MtTable::make(alloc, Kind::Range, rows, 2, calls)?;
-    let turn = Turn::make(alloc, &table, Desk { pen }, passes.as_mut_slice())?;
+    let turn = Turn::make(alloc, &table, IdlePen { pen }, passes.as_mut_slice())?;
     Ok((Shared { table, turn, calls }, passes))
 }
 
@@ -167,7 +167,7 @@ fn moves_between_threads<T: Send>() {}
 #[test]
 fn tables_are_shared_and_passes_are_moved() {
     crosses_threads::<MtTable>();
-    crosses_threads::<Turn<Desk>>();
+    crosses_threads::<Turn<IdlePen>>();
     moves_between_threads::<Pass>();
     moves_between_threads::<Note>();
     moves_between_threads::<Pen>();
