@@ -6,4 +6,6 @@ mod log;
 #[cfg(test)]
 mod made;
 #[cfg(test)]
+mod transcripts;
+#[cfg(test)]
 mod words;

@@ -1,90 +1,13 @@
-use mt_base::{Holder, Kind, Query, Range, Reply, Shortage};
 use mt_log::*;
 use std::alloc::{AllocError, Global};
 use std::process::Abort;
 use std::test::Fail;
 
-/// Adds what a line that is no step of its phase says, in words.
-fn push_other(text: &mut String, number: u64, item: &Item) -> Result<(), AllocError> {
-    match item {
-        Item::Tree { name, kind } => writeln!(text, "{number}: declares {name} for {kind}"),
-        Item::Lane { lane } => writeln!(text, "{number}: lane {lane}"),
-        Item::Dup { from, name } => writeln!(text, "{number}: copies tree {from} as {name}"),
-        Item::Check { tree } => writeln!(text, "{number}: checks tree {tree}"),
-        _ => writeln!(text, "{number}: joins"),
-    }
-}
-
-/// Adds what a line says, in words.
-fn push_meaning(text: &mut String, line: &Line) -> Result<(), AllocError> {
-    let number = line.number;
-    match line.item {
-        Item::Write { tree, call } => writeln!(text, "{number}: tree {tree}, {call:?}"),
-        Item::Ask { tree, query } => writeln!(text, "{number}: tree {tree}, {query:?}"),
-        Item::Scan {
-            tree,
-            index,
-            max,
-            count,
-        } => writeln!(
-            text,
-            "{number}: tree {tree}, {count} steps from {index} to {max}"
-        ),
-        item => push_other(text, number, &item),
-    }
-}
-
-/// What the lines of a log say, or its fault as its line and its text.
-fn meaning(alloc: Global, log: &str) -> Result<String, AllocError> {
-    let log = match read_log(alloc, log.as_bytes()) {
-        Ok(log) => log,
-        Err(LogError::Bad { line, why }) => return format!(in alloc; "{line} {why}"),
-        Err(LogError::NoMemory) => return Err(AllocError),
-    };
-    let mut text = String::new(alloc);
-    for line in log.lines.as_slice() {
-        push_meaning(&mut text, line)?;
-    }
-    Ok(text)
-}
-
-fn expect(rt: &impl Abort, alloc: Global, log: &str, want: &str) -> Result<(), AllocError> {
-    assert_eq!(rt; meaning(alloc, log)?.as_str(), want, "of {log}");
-    Ok(())
-}
-
-/// Each row of a table is what stands in a log between these two texts, and behind an arrow the last line of what the log
-/// then says.
-fn expect_each(
-    rt: &impl Abort,
-    alloc: Global,
-    before: &str,
-    rows: &str,
-    behind: &str,
-) -> Result<(), Fail> {
-    for row in rows.lines() {
-        let Some((line, want)) = row.split_once(" -> ") else {
-            return Err("a row has no arrow".into());
-        };
-        let log = format!(in alloc; "{before}{line}{behind}")?;
-        let said = meaning(alloc, &log)?;
-        assert_eq!(rt; said.lines().last(), Some(want), "of {log}");
-    }
-    Ok(())
-}
-
-/// So many lines that are alike, behind the line that declares the tree `a`.
-fn alike(alloc: Global, lines: u32, line: &str) -> Result<String, AllocError> {
-    let mut log = String::from_str(alloc, "mtlog 1\ntree a range\n")?;
-    for _line in 0..lines {
-        log.push_str(line)?;
-    }
-    Ok(log)
-}
-
-#[test]
-fn each_word_is_read_with_its_fields(rt: HostRuntime) -> Result<(), Fail> {
-    let log = "mtlog 1
+/// Logs, and what their lines say in words.
+const LOGS: [(&str, &str); 4] = [
+    // Each word is read with its fields.
+    (
+        "mtlog 1
 # one tree
 
 tree abcdefghijklm_16 range
@@ -99,8 +22,8 @@ next abcdefghijklm_16 3 4
 prev abcdefghijklm_16 6 5
 rfind abcdefghijklm_16 8 7
 scan abcdefghijklm_16 5 0x9 6
-";
-    let want = "4: declares abcdefghijklm_16 for range
+",
+        "4: declares abcdefghijklm_16 for range
 5: tree 0, Store { first: 10, last: 19, entry: 5 }
 6: tree 0, Insert { first: 20, last: 29, entry: 18446744073709551615 }
 7: tree 0, Erase { index: 3 }
@@ -111,37 +34,29 @@ scan abcdefghijklm_16 5 0x9 6
 13: tree 0, Prev { index: 6, min: 5 }
 14: tree 0, Rfind { index: 8, min: 7 }
 15: tree 0, 6 steps from 5 to 9
-";
-    expect(&rt, rt.alloc(), log, want)?;
-    Ok(())
-}
-
-#[test]
-fn an_area_has_its_size_before_its_bounds(rt: HostRuntime) -> Result<(), Fail> {
-    let log = "mtlog 1
+",
+    ),
+    // An area has its size before its bounds.
+    (
+        "mtlog 1
 tree b alloc
 alloc b 1 2 3 4
 ralloc b 0x5 6 7 max
 gap b max 8 9
 rgap b 10 11 max
 store b 0 9 1
-";
-    let want = "2: declares b for alloc
+",
+        "2: declares b for alloc
 3: tree 0, Alloc { size: 1, min: 2, max: 3, entry: 4 }
 4: tree 0, Ralloc { size: 5, min: 6, max: 7, entry: 18446744073709551615 }
 5: tree 0, Gap { size: 18446744073709551615, min: 8, max: 9 }
 6: tree 0, Rgap { size: 10, min: 11, max: 18446744073709551615 }
 7: tree 0, Store { first: 0, last: 9, entry: 1 }
-";
-    expect(&rt, rt.alloc(), log, want)?;
-    Ok(())
-}
-
-#[test]
-fn a_phase_begins_with_trees_that_are_declared_copied_and_checked(
-    rt: HostRuntime,
-) -> Result<(), Fail> {
-    let log = "mtlog 1
+",
+    ),
+    // A phase begins with trees that are declared, copied and checked.
+    (
+        "mtlog 1
 tree a range
 dup a b
 check b
@@ -156,8 +71,8 @@ join
 tree d range
 dup c e
 load e 2
-";
-    let want = "2: declares a for range
+",
+        "2: declares a for range
 3: copies tree 0 as b
 4: checks tree 1
 5: tree 0, Store { first: 1, last: 1, entry: 5 }
@@ -171,14 +86,11 @@ load e 2
 13: declares d for range
 14: copies tree 2 as e
 15: tree 4, Load { index: 2 }
-";
-    expect(&rt, rt.alloc(), log, want)?;
-    Ok(())
-}
-
-#[test]
-fn a_lane_may_be_named_anywhere_in_a_phase(rt: HostRuntime) -> Result<(), Fail> {
-    let log = "mtlog 1
+",
+    ),
+    // A lane may be named anywhere in a phase.
+    (
+        "mtlog 1
 lane 0xF
 tree a range
 lane 0
@@ -189,8 +101,8 @@ load a 2
 join
 lane 3
 check a
-";
-    let want = "2: lane 15
+",
+        "2: lane 15
 3: declares a for range
 4: lane 0
 5: tree 0, Load { index: 1 }
@@ -200,113 +112,79 @@ check a
 9: joins
 10: lane 3
 11: checks tree 0
-";
-    expect(&rt, rt.alloc(), log, want)?;
-    Ok(())
-}
+",
+    ),
+];
 
-#[test]
-fn a_log_has_16_trees_at_the_most(rt: HostRuntime) -> Result<(), Fail> {
-    let trees = "mtlog 1
-tree t1 range
-dup t1 c1
-tree t2 range
-dup t2 c2
-tree t3 range
-dup t3 c3
-tree t4 range
-dup t4 c4
-tree t5 range
-dup t5 c5
-tree t6 range
-dup t6 c6
-tree t7 range
-dup t7 c7
-tree t8 range
-dup t8 c8
-";
-    let rows = "tree q range -> 18 too many trees
-dup t1 q -> 18 too many trees
-tree t1 range -> 18 tree declared twice
-dup t1 c8 -> 18 tree declared twice
-dup q t1 -> 18 unknown tree
-tree q heap -> 18 bad kind
-check c8 -> 19 no newline";
-    expect_each(&rt, rt.alloc(), trees, rows, "\nload t1 1")?;
-    let rows = "tree q range -> 19 not between phases
-dup t1 q -> 19 not between phases";
-    let stepped = format!(in rt.alloc(); "{trees}load c8 1\n")?;
-    expect_each(&rt, rt.alloc(), &stepped, rows, "\nload t1 1")
-}
-
-#[test]
-fn each_test_of_a_line_refuses_it(rt: HostRuntime) -> Result<(), Fail> {
-    let alloc = rt.alloc();
-    expect_each(
-        &rt,
-        alloc,
+/// Tables: each row is what stands in a log between the text before the table and the text behind it, and behind an arrow the
+/// last line of what the log then says.
+const TABLES: [(&str, &str, &str); 14] = [
+    // Each test of a line refuses it.
+    (
         "",
-        " -> 1 no header\nmtlog 1 -> 1 no newline",
+        " -> 1 no header
+mtlog 1 -> 1 no newline",
         "",
-    )?;
-    let rows = " -> 1 no header
+    ),
+    (
+        "",
+        " -> 1 no header
 mtlog 2 -> 1 no header
 mtlog 1  -> 1 no header
-mtlog 1\r -> 1 no header";
-    expect_each(&rt, alloc, "", rows, "\n")?;
-    let rows = " # a tree -> 2 unknown word
+mtlog 1\r -> 1 no header",
+        "\n",
+    ),
+    (
+        "mtlog 1\n",
+        " # a tree -> 2 unknown word
 tree A range -> 2 bad name
 tree abcdefghijklmn_17 range -> 2 bad name
 tree  range -> 2 bad name
-tree a heap -> 2 bad kind";
-    expect_each(&rt, alloc, "mtlog 1\n", rows, "\n")?;
-    let rows = "frob a 1 -> 3 unknown word
+tree a heap -> 2 bad kind",
+        "\n",
+    ),
+    (
+        "mtlog 1\ntree a range\n",
+        "frob a 1 -> 3 unknown word
 store a 1 1 -> 3 wrong number of fields
 load b 1 -> 3 unknown tree
 tree a range -> 3 tree declared twice
 store a 0 18446744073709551616 5 -> 3 bad number
-scan a 0 9 0 -> 3 bad count";
-    expect_each(&rt, alloc, "mtlog 1\ntree a range\n", rows, "\n")?;
-    let rows = "tree b range -> 4 not between phases
-check a -> 4 not between phases";
-    expect_each(&rt, alloc, "mtlog 1\ntree a range\nload a 1\n", rows, "\n")?;
-    let row = "tree b range -> 4 not between phases";
-    expect_each(
-        &rt,
-        alloc,
-        "mtlog 1\ntree a range\nscan a 0 9 1\n",
-        row,
+scan a 0 9 0 -> 3 bad count",
         "\n",
-    )?;
-    expect_each(
-        &rt,
-        alloc,
+    ),
+    (
+        "mtlog 1\ntree a range\nload a 1\n",
+        "tree b range -> 4 not between phases
+check a -> 4 not between phases",
+        "\n",
+    ),
+    (
+        "mtlog 1\ntree a range\nscan a 0 9 1\n",
+        "tree b range -> 4 not between phases",
+        "\n",
+    ),
+    (
         "mtlog 1\n",
         "load a 1 -> 2 unknown tree",
         "\ntree a range\n",
-    )?;
-    expect_each(
-        &rt,
-        alloc,
+    ),
+    (
         "mtlog 1\ntree a range\n\n#\n",
         "load a x -> 5 bad number",
         "\n",
-    )?;
-    expect_each(
-        &rt,
-        alloc,
+    ),
+    (
         "mtlog 1\ntree a range\n",
         "store a 0 9 5 -> 3 no newline",
         "",
-    )?;
-    expect_each(&rt, alloc, "#\n", "mtlog 1 -> 1 no header", "\n")?;
-    expect_each(&rt, alloc, "mtlog 1\n\n", "# -> 3 no newline", "")
-}
-
-#[test]
-fn a_line_is_refused_by_its_first_failed_test(rt: HostRuntime) -> Result<(), Fail> {
-    let before = "mtlog 1\n# a tree\ntree a range\nload a 1\n";
-    let rows = "frob A 1 2 3 4 5 6 7 8 9 -> 5 unknown word
+    ),
+    ("#\n", "mtlog 1 -> 1 no header", "\n"),
+    ("mtlog 1\n\n", "# -> 3 no newline", ""),
+    // A line is refused by its first failed test.
+    (
+        "mtlog 1\n# a tree\ntree a range\nload a 1\n",
+        "frob A 1 2 3 4 5 6 7 8 9 -> 5 unknown word
 Load a 1 -> 5 unknown word
  load a 1 -> 5 unknown word
 \r -> 5 unknown word
@@ -364,13 +242,13 @@ lane a -> 5 bad lane
 lane  -> 5 bad lane
 lane -> 5 wrong number of fields
 lane 1 2 -> 5 wrong number of fields
-lane 16 2 -> 5 wrong number of fields";
-    expect_each(&rt, rt.alloc(), before, rows, "\nload a 2")
-}
-
-#[test]
-fn numbers_are_read_up_to_the_greatest(rt: HostRuntime) -> Result<(), Fail> {
-    let rows = "0 -> 3: tree 0, Load { index: 0 }
+lane 16 2 -> 5 wrong number of fields",
+        "\nload a 2",
+    ),
+    // Numbers are read up to the greatest.
+    (
+        "mtlog 1\ntree a range\nload a ",
+        "0 -> 3: tree 0, Load { index: 0 }
 max -> 3: tree 0, Load { index: 18446744073709551615 }
 18446744073709551615 -> 3: tree 0, Load { index: 18446744073709551615 }
 00000000000000000007 -> 3: tree 0, Load { index: 7 }
@@ -394,19 +272,13 @@ x1 -> 3 bad number
 1a -> 3 bad number
 +1 -> 3 bad number
 -1 -> 3 bad number
- -> 3 bad number";
-    expect_each(
-        &rt,
-        rt.alloc(),
-        "mtlog 1\ntree a range\nload a ",
-        rows,
+ -> 3 bad number",
         "\n",
-    )
-}
-
-#[test]
-fn a_scan_has_from_1_to_65536_steps(rt: HostRuntime) -> Result<(), Fail> {
-    let rows = "1 -> 3: tree 0, 1 steps from 0 to 18446744073709551615
+    ),
+    // A scan has from 1 to 65536 steps.
+    (
+        "mtlog 1\ntree a range\nscan a 0 max ",
+        "1 -> 3: tree 0, 1 steps from 0 to 18446744073709551615
 65536 -> 3: tree 0, 65536 steps from 0 to 18446744073709551615
 0x10000 -> 3: tree 0, 65536 steps from 0 to 18446744073709551615
 00000000000000000007 -> 3: tree 0, 7 steps from 0 to 18446744073709551615
@@ -416,29 +288,197 @@ fn a_scan_has_from_1_to_65536_steps(rt: HostRuntime) -> Result<(), Fail> {
 max -> 3 bad count
 x -> 3 bad count
 000000000000000000007 -> 3 bad count
- -> 3 bad count";
-    let before = "mtlog 1\ntree a range\nscan a 0 max ";
-    expect_each(&rt, rt.alloc(), before, rows, "\n")
-}
+ -> 3 bad count",
+        "\n",
+    ),
+];
 
-#[test]
-fn all_scans_have_a_million_steps_at_the_most(rt: HostRuntime) -> Result<(), Fail> {
-    // A good line leaves the last line, which lacks its end, as the first bad one.
-    let full = alike(rt.alloc(), 16, "scan a 0 9 62500\n")?;
-    let rows = "load a 1 -> 20 no newline
+/// A log of 16 trees, and tables of what stands behind them, and behind them and a step.
+const TREES: &str = "mtlog 1
+tree t1 range
+dup t1 c1
+tree t2 range
+dup t2 c2
+tree t3 range
+dup t3 c3
+tree t4 range
+dup t4 c4
+tree t5 range
+dup t5 c5
+tree t6 range
+dup t6 c6
+tree t7 range
+dup t7 c7
+tree t8 range
+dup t8 c8
+";
+
+const BEHIND_TREES: &str = "tree q range -> 18 too many trees
+dup t1 q -> 18 too many trees
+tree t1 range -> 18 tree declared twice
+dup t1 c8 -> 18 tree declared twice
+dup q t1 -> 18 unknown tree
+tree q heap -> 18 bad kind
+check c8 -> 19 no newline";
+
+const BEHIND_A_STEP: &str = "tree q range -> 19 not between phases
+dup t1 q -> 19 not between phases";
+
+/// So many scans that are alike, and a table of what stands behind them. A good line leaves the last line, which lacks its end,
+/// as the first bad one.
+const SCANS: [(u32, &str, &str); 2] = [
+    (
+        16,
+        "scan a 0 9 62500\n",
+        "load a 1 -> 20 no newline
 scan a 0 9 1 -> 19 too many scan steps
 scan a 0 9 65536 -> 19 too many scan steps
 scan a 0 9 65537 -> 19 bad count
 scan a 0 9 0 -> 19 bad count
 scan a x 9 1 -> 19 bad number
 scan b 0 9 1 -> 19 unknown tree
-scan a 0 9 -> 19 wrong number of fields";
-    expect_each(&rt, rt.alloc(), &full, rows, "\nload a 2")?;
-    let lacking = alike(rt.alloc(), 15, "scan a 0 9 65536\n")?;
-    let rows = "scan a 0 max 16960 -> 19 no newline
+scan a 0 9 -> 19 wrong number of fields",
+    ),
+    (
+        15,
+        "scan a 0 9 65536\n",
+        "scan a 0 max 16960 -> 19 no newline
 scan a 0 max 16961 -> 18 too many scan steps
-scan a 0 max 65536 -> 18 too many scan steps";
-    expect_each(&rt, rt.alloc(), &lacking, rows, "\nload a 2")
+scan a 0 max 65536 -> 18 too many scan steps",
+    ),
+];
+
+/// The lines of a log, each with what is printed of it behind an arrow, where that is another text.
+const PRINTED: &str = "mtlog 1
+# two trees ->\x20
+
+tree abcdefghijklm_16 range
+tree b alloc
+lane 0x00f -> lane 15
+store b 010 0x13 5 -> store b 10 19 5
+pstore b 10 0 max -> pstore b 10 0 18446744073709551615
+insert abcdefghijklm_16 0x14 0x1D max -> insert abcdefghijklm_16 20 29 18446744073709551615
+erase b 3
+# ->\x20
+alloc b 1 2 3 4
+ralloc b 1 2 3 4
+gap b 1 0 max -> gap b 1 0 18446744073709551615
+rgap b 1 2 3
+join
+dup b c
+check c
+clear c
+
+
+load c 0
+find c 1 2
+next c 3 4
+prev b 6 5
+rfind b 8 7
+scan b 5 0x9 65536 -> scan b 5 9 65536";
+
+/// Adds what a line that is no step of its phase says, in words.
+fn push_other(text: &mut String, number: u64, item: &Item) -> Result<(), AllocError> {
+    match item {
+        Item::Tree { name, kind } => writeln!(text, "{number}: declares {name} for {kind}"),
+        Item::Lane { lane } => writeln!(text, "{number}: lane {lane}"),
+        Item::Dup { from, name } => writeln!(text, "{number}: copies tree {from} as {name}"),
+        Item::Check { tree } => writeln!(text, "{number}: checks tree {tree}"),
+        _ => writeln!(text, "{number}: joins"),
+    }
+}
+
+/// Adds what a line says, in words.
+fn push_meaning(text: &mut String, line: &Line) -> Result<(), AllocError> {
+    let number = line.number;
+    match line.item {
+        Item::Write { tree, call } => writeln!(text, "{number}: tree {tree}, {call:?}"),
+        Item::Ask { tree, query } => writeln!(text, "{number}: tree {tree}, {query:?}"),
+        Item::Scan {
+            tree,
+            index,
+            max,
+            count,
+        } => writeln!(
+            text,
+            "{number}: tree {tree}, {count} steps from {index} to {max}"
+        ),
+        item => push_other(text, number, &item),
+    }
+}
+
+/// What the lines of a log say, or its fault as its line and its text.
+fn meaning(alloc: Global, log: &str) -> Result<String, AllocError> {
+    let log = match read_log(alloc, log.as_bytes()) {
+        Ok(log) => log,
+        Err(LogError::Bad { line, why }) => return format!(in alloc; "{line} {why}"),
+        Err(LogError::NoMemory) => return Err(AllocError),
+    };
+    let mut text = String::new(alloc);
+    for line in log.lines.as_slice() {
+        push_meaning(&mut text, line)?;
+    }
+    Ok(text)
+}
+
+/// Each row of a table says what it tells, between these two texts.
+fn expect_each(
+    rt: &impl Abort,
+    alloc: Global,
+    before: &str,
+    rows: &str,
+    behind: &str,
+) -> Result<(), Fail> {
+    for row in rows.lines() {
+        let Some((line, want)) = row.split_once(" -> ") else {
+            return Err("a row has no arrow".into());
+        };
+        let log = format!(in alloc; "{before}{line}{behind}")?;
+        let said = meaning(alloc, &log)?;
+        assert_eq!(rt; said.lines().last(), Some(want), "of {log}");
+    }
+    Ok(())
+}
+
+#[test]
+fn logs_say_what_their_lines_mean(rt: HostRuntime) -> Result<(), Fail> {
+    for (log, want) in LOGS {
+        assert_eq!(rt; meaning(rt.alloc(), log)?.as_str(), want, "of {log}");
+    }
+    Ok(())
+}
+
+#[test]
+fn a_line_is_read_or_refused(rt: HostRuntime) -> Result<(), Fail> {
+    for (before, rows, behind) in TABLES {
+        expect_each(&rt, rt.alloc(), before, rows, behind)?;
+    }
+    Ok(())
+}
+
+#[test]
+fn a_log_has_16_trees_at_the_most(rt: HostRuntime) -> Result<(), Fail> {
+    expect_each(&rt, rt.alloc(), TREES, BEHIND_TREES, "\nload t1 1")?;
+    let stepped = format!(in rt.alloc(); "{TREES}load c8 1\n")?;
+    expect_each(&rt, rt.alloc(), &stepped, BEHIND_A_STEP, "\nload t1 1")
+}
+
+/// So many lines that are alike, behind the line that declares the tree `a`.
+fn alike(alloc: Global, lines: u32, line: &str) -> Result<String, AllocError> {
+    let mut log = String::from_str(alloc, "mtlog 1\ntree a range\n")?;
+    for _line in 0..lines {
+        log.push_str(line)?;
+    }
+    Ok(log)
+}
+
+#[test]
+fn all_scans_have_a_million_steps_at_the_most(rt: HostRuntime) -> Result<(), Fail> {
+    for (lines, line, rows) in SCANS {
+        let before = alike(rt.alloc(), lines, line)?;
+        expect_each(&rt, rt.alloc(), &before, rows, "\nload a 2")?;
+    }
+    Ok(())
 }
 
 /// A log that is read and printed again.
@@ -450,161 +490,25 @@ fn printed(alloc: Global, log: &str) -> Result<Vec<u8>, LogError> {
     }
 }
 
-#[test]
-fn each_line_is_printed_at_its_number(rt: HostRuntime) -> Result<(), Fail> {
-    let log = "mtlog 1
-# two trees
-
-tree abcdefghijklm_16 range
-tree b alloc
-lane 0x00f
-store b 010 0x13 5
-pstore b 10 0 max
-insert abcdefghijklm_16 0x14 0x1D max
-erase b 3
-#
-alloc b 1 2 3 4
-ralloc b 1 2 3 4
-gap b 1 0 max
-rgap b 1 2 3
-join
-dup b c
-check c
-clear c
-
-
-load c 0
-find c 1 2
-next c 3 4
-prev b 6 5
-rfind b 8 7
-scan b 5 0x9 65536
-# the end
-";
-    let want = "mtlog 1
-
-
-tree abcdefghijklm_16 range
-tree b alloc
-lane 15
-store b 10 19 5
-pstore b 10 0 18446744073709551615
-insert abcdefghijklm_16 20 29 18446744073709551615
-erase b 3
-
-alloc b 1 2 3 4
-ralloc b 1 2 3 4
-gap b 1 0 18446744073709551615
-rgap b 1 2 3
-join
-dup b c
-check c
-clear c
-
-
-load c 0
-find c 1 2
-next c 3 4
-prev b 6 5
-rfind b 8 7
-scan b 5 9 65536
-";
-    assert_eq!(rt; printed(rt.alloc(), log)?.as_slice(), want.as_bytes());
-    assert_eq!(rt; printed(rt.alloc(), want)?.as_slice(), want.as_bytes());
-    assert_eq!(rt;
-        printed(rt.alloc(), "mtlog 1\n\n#\n")?.as_slice(),
-        b"mtlog 1\n".as_slice()
-    );
+fn expect_printed(rt: &impl Abort, alloc: Global, log: &str, want: &str) -> Result<(), LogError> {
+    assert_eq!(rt; printed(alloc, log)?.as_slice(), want.as_bytes());
     Ok(())
 }
 
-pub fn wrote(line: u64, call: u64, reply: Reply) -> Entry {
-    let said = Said::Wrote { call, reply };
-    Entry { line, said }
-}
-
-pub fn got(line: u64, lo: u64, hi: u64, value: Answer) -> Entry {
-    let said = Said::Got { lo, hi, value };
-    Entry { line, said }
-}
-
 #[test]
-fn a_transcript_is_printed_line_by_line(rt: HostRuntime) -> Result<(), Fail> {
+fn each_line_is_printed_at_its_number(rt: HostRuntime) -> Result<(), Fail> {
     let alloc = rt.alloc();
-    let low = Range {
-        first: 0,
-        last: 9,
-        entry: 1,
-    };
-    let high = Range {
-        first: 10,
-        last: 18446744073709551615,
-        entry: 20,
-    };
-    let short = Shortage {
-        need: 7,
-        free: 6,
-        live: 4,
-        held: 20,
-        by: Some(Holder { pass: 3, epoch: 5 }),
-    };
-    let entries = vec![in alloc;
-        wrote(3, 1, Reply::Ok),
-        wrote(4, 2, Reply::Was(7)),
-        wrote(5, 3, Reply::None),
-        wrote(6, 4, Reply::Exists),
-        wrote(7, 5, Reply::Invalid),
-        wrote(8, 6, Reply::NoNodes(short)),
-        wrote(9, 7, Reply::Start(18446744073709551606)),
-        wrote(10, 8, Reply::Busy),
-        Entry {
-            line: 11,
-            said: Said::Copied { count: 3 },
-        },
-        Entry {
-            line: 12,
-            said: Said::Lawful { count: 0 },
-        },
-        got(50, 1, 2, Answer::None),
-        got(51, 2, 2, Answer::Entry(18446744073709551615)),
-        got(52, 0, 5, Answer::Range(high)),
-    ]?;
-    let name = Word::new(b"a_1".as_slice()).expect(&rt, "a name");
-    let lists = vec![in alloc;
-        Listing {
-            name,
-            kind: Kind::Range,
-            ranges: RangeList::new(vec![in alloc; low, high]?)
-        },
-        Listing {
-            name,
-            kind: Kind::Alloc,
-            ranges: RangeList::new(Vec::new(alloc))
-        },
-    ]?;
-    let transcript = Transcript {
-        entries: Entries::new(entries),
-        lists: Listings::new(lists),
-    };
-    let want = b"3 1 ok
-4 2 was 7
-5 3 none
-6 4 exists
-7 5 invalid
-8 6 nomem 7 6 4 20
-9 7 start 18446744073709551606
-10 8 busy
-11 copied 3
-12 lawful 0
-50 1 2 none
-51 2 2 entry 18446744073709551615
-52 0 5 range 10 18446744073709551615 20
-tree a_1 range 2
-0 9 1
-10 18446744073709551615 20
-tree a_1 alloc 0
-";
-    let text = render(alloc, 1, &transcript).ok();
-    assert_eq!(rt; text.expect(&rt, "memory").as_slice(), want.as_slice());
+    let (mut log, mut want) = (String::new(alloc), String::new(alloc));
+    for row in PRINTED.lines() {
+        let (line, print) = row.split_once(" -> ").unwrap_or((row, row));
+        log.push_str(line)?;
+        log.push_str("\n")?;
+        want.push_str(print)?;
+        want.push_str("\n")?;
+    }
+    expect_printed(&rt, alloc, &want, &want)?;
+    log.push_str("# the end\n")?;
+    expect_printed(&rt, alloc, &log, &want)?;
+    expect_printed(&rt, alloc, "mtlog 1\n\n#\n", "mtlog 1\n")?;
     Ok(())
 }

@@ -3,75 +3,39 @@ use mt_words::{Command, read_words};
 use std::alloc::Global;
 use std::test::Fail;
 
-/// Each row is one list of words, with a space between two.
-fn read_row(alloc: Global, row: &str) -> Result<Option<Command>, NoMemory> {
-    let mut words = Vec::new(alloc);
-    for word in row.split(' ') {
-        words.push(String::from_str(alloc, word)?)?;
-    }
-    read_words(alloc, &words)
+/// A command, by its word and its numbers.
+macro_rules! command {
+    (replay $rows:expr) => {
+        Command::Replay { rows: $rows }
+    };
+    (make $number:expr, $steps:expr, $lanes:expr) => {
+        Command::Make { number: $number, steps: $steps, lanes: $lanes }
+    };
+    (trial $number:expr, $steps:expr) => {
+        Command::Trial { number: $number, steps: $steps }
+    };
 }
 
-#[test]
-fn lists_of_words_are_commands(rt: HostRuntime) -> Result<(), Fail> {
-    let rows = [
-        ("replay", Command::Replay { rows: 65_504 }),
-        ("replay --rows 4", Command::Replay { rows: 4 }),
-        ("replay --rows=4", Command::Replay { rows: 4 }),
-        ("replay --rows 65504", Command::Replay { rows: 65_504 }),
-        ("replay --rows=65504", Command::Replay { rows: 65_504 }),
-        (
-            "replay --rows 00000000000000000017",
-            Command::Replay { rows: 17 },
-        ),
-        (
-            "make 0 1 1",
-            Command::Make {
-                number: 0,
-                steps: 1,
-                lanes: 1,
-            },
-        ),
-        (
-            "make 2147483647 100000 16",
-            Command::Make {
-                number: 2_147_483_647,
-                steps: 100_000,
-                lanes: 16,
-            },
-        ),
-        (
-            "make 007 03000 04",
-            Command::Make {
-                number: 7,
-                steps: 3_000,
-                lanes: 4,
-            },
-        ),
-        (
-            "trial 7 100000",
-            Command::Trial {
-                number: 7,
-                steps: 100_000,
-            },
-        ),
-        (
-            "trial 00000000000000000001 1",
-            Command::Trial {
-                number: 1,
-                steps: 1,
-            },
-        ),
-    ];
-    for (row, command) in rows {
-        assert_eq!(rt; read_row(rt.alloc(), row)?, Some(command), "{row}");
-    }
-    Ok(())
-}
+/// Lists of words, with a space between two, and the commands that they are.
+const COMMANDS: [(&str, Command); 11] = [
+    ("replay", command!(replay 65_504)),
+    ("replay --rows 4", command!(replay 4)),
+    ("replay --rows=4", command!(replay 4)),
+    ("replay --rows 65504", command!(replay 65_504)),
+    ("replay --rows=65504", command!(replay 65_504)),
+    ("replay --rows 00000000000000000017", command!(replay 17)),
+    ("make 0 1 1", command!(make 0, 1, 1)),
+    (
+        "make 2147483647 100000 16",
+        command!(make 2_147_483_647, 100_000, 16),
+    ),
+    ("make 007 03000 04", command!(make 7, 3_000, 4)),
+    ("trial 7 100000", command!(trial 7, 100_000)),
+    ("trial 00000000000000000001 1", command!(trial 1, 1)),
+];
 
-#[test]
-fn other_lists_of_words_are_none(rt: HostRuntime) -> Result<(), Fail> {
-    let rows = "
+/// Lists of words that are no commands.
+const OTHERS: &str = "
 help
 -h
 --help
@@ -130,7 +94,26 @@ trial 7 -- 3
 trial 7 --steps=3
 make 7  1
 replay --rows ٥";
-    for row in rows.lines() {
+
+fn read_row(alloc: Global, row: &str) -> Result<Option<Command>, NoMemory> {
+    let mut words = Vec::new(alloc);
+    for word in row.split(' ') {
+        words.push(String::from_str(alloc, word)?)?;
+    }
+    read_words(alloc, &words)
+}
+
+#[test]
+fn lists_of_words_are_commands(rt: HostRuntime) -> Result<(), Fail> {
+    for (row, command) in COMMANDS {
+        assert_eq!(rt; read_row(rt.alloc(), row)?, Some(command), "{row}");
+    }
+    Ok(())
+}
+
+#[test]
+fn other_lists_of_words_are_none(rt: HostRuntime) -> Result<(), Fail> {
+    for row in OTHERS.lines() {
         assert_eq!(rt; read_row(rt.alloc(), row)?, None, "{row}");
     }
     assert_eq!(rt; read_words(rt.alloc(), &[])?, None);

@@ -1,0 +1,164 @@
+use mt_base::{Holder, Kind, Range, Reply, Shortage};
+use mt_log::{
+    Answer, Entries, Entry, Listing, Listings, RangeList, Said, Transcript, Word, render,
+};
+use mt_made::summarise;
+use std::alloc::{AllocError, Global};
+use std::test::Fail;
+
+macro_rules! range {
+    ($first:expr, $last:expr, $entry:expr) => {
+        Range { first: $first, last: $last, entry: $entry }
+    };
+}
+
+/// The entry of a line, by what it was answered and its numbers.
+macro_rules! entry {
+    ($line:literal wrote $call:expr, $reply:expr) => {
+        Entry { line: $line, said: Said::Wrote { call: $call, reply: $reply } }
+    };
+    ($line:literal got $lo:expr, $hi:expr, $value:expr) => {
+        Entry { line: $line, said: Said::Got { lo: $lo, hi: $hi, value: $value } }
+    };
+    ($line:literal copied $count:expr) => {
+        Entry { line: $line, said: Said::Copied { count: $count } }
+    };
+    ($line:literal lawful $count:expr) => {
+        Entry { line: $line, said: Said::Lawful { count: $count } }
+    };
+}
+
+const LOW: Range = range!(0, 9, 1);
+
+const HIGH: Range = range!(10, 18_446_744_073_709_551_615, 20);
+
+const SHORT: Shortage = Shortage {
+    need: 7,
+    free: 6,
+    live: 4,
+    held: 20,
+    by: Some(Holder { pass: 3, epoch: 5 }),
+};
+
+const FEW: Shortage = Shortage {
+    need: 4,
+    free: 3,
+    live: 1,
+    held: 0,
+    by: None,
+};
+
+/// One entry of each kind.
+const ENTRIES: [Entry; 13] = [
+    entry!(3 wrote 1, Reply::Ok),
+    entry!(4 wrote 2, Reply::Was(7)),
+    entry!(5 wrote 3, Reply::None),
+    entry!(6 wrote 4, Reply::Exists),
+    entry!(7 wrote 5, Reply::Invalid),
+    entry!(8 wrote 6, Reply::NoNodes(SHORT)),
+    entry!(9 wrote 7, Reply::Start(18_446_744_073_709_551_606)),
+    entry!(10 wrote 8, Reply::Busy),
+    entry!(11 copied 3),
+    entry!(12 lawful 0),
+    entry!(50 got 1, 2, Answer::None),
+    entry!(51 got 2, 2, Answer::Entry(18_446_744_073_709_551_615)),
+    entry!(52 got 0, 5, Answer::Range(HIGH)),
+];
+
+const PRINTED: &str = "3 1 ok
+4 2 was 7
+5 3 none
+6 4 exists
+7 5 invalid
+8 6 nomem 7 6 4 20
+9 7 start 18446744073709551606
+10 8 busy
+11 copied 3
+12 lawful 0
+50 1 2 none
+51 2 2 entry 18446744073709551615
+52 0 5 range 10 18446744073709551615 20
+tree a_1 range 2
+0 9 1
+10 18446744073709551615 20
+tree a_1 alloc 0
+";
+
+/// A tree of each kind and its ranges, at the end.
+type Lists = &'static [(Kind, &'static [Range])];
+
+const FIRST: Range = range!(0, 275, 951_723);
+
+const SECOND: Range = range!(276, 636, 951_723);
+
+/// What three steps were told, the trees at the end, and the line that sums it up.
+const SUMMARIES: [(&[Entry], Lists, &str); 3] = [
+    (
+        &[
+            entry!(4 wrote 1, Reply::None),
+            entry!(4 wrote 1, Reply::Start(0)),
+            entry!(4 wrote 1, Reply::Start(276)),
+        ],
+        &[(Kind::Alloc, &[FIRST, SECOND])],
+        "trial 3 ok 0 start 2 was 0 none 1 exists 0 invalid 0 busy 0 nomem 0 entry 0 range 0 ranges 2",
+    ),
+    // Each word is counted by itself.
+    (
+        &[
+            entry!(4 wrote 1, Reply::Ok),
+            entry!(4 wrote 1, Reply::Was(5)),
+            entry!(4 wrote 1, Reply::None),
+            entry!(5 got 1, 2, Answer::None),
+            entry!(4 wrote 1, Reply::Exists),
+            entry!(4 wrote 1, Reply::Invalid),
+            entry!(4 wrote 1, Reply::Busy),
+            entry!(4 wrote 1, Reply::NoNodes(FEW)),
+            entry!(5 got 1, 2, Answer::Entry(5)),
+            entry!(5 got 1, 2, Answer::Range(FIRST)),
+            entry!(6 copied 1),
+            entry!(7 lawful 1),
+        ],
+        &[(Kind::Alloc, &[FIRST]), (Kind::Alloc, &[FIRST, SECOND])],
+        "trial 3 ok 1 start 0 was 1 none 2 exists 1 invalid 1 busy 1 nomem 1 entry 1 range 1 ranges 3",
+    ),
+    (
+        &[],
+        &[],
+        "trial 3 ok 0 start 0 was 0 none 0 exists 0 invalid 0 busy 0 nomem 0 entry 0 range 0 ranges 0",
+    ),
+];
+
+fn transcript(alloc: Global, entries: &[Entry], lists: Lists) -> Result<Transcript, AllocError> {
+    let name = Word::new(b"a_1".as_slice()).unwrap();
+    let mut listed = Vec::new(alloc);
+    for (kind, ranges) in lists {
+        listed.push(Listing {
+            name,
+            kind: *kind,
+            ranges: RangeList::new(ranges.to_vec(alloc)?),
+        })?;
+    }
+    Ok(Transcript {
+        entries: Entries::new(entries.to_vec(alloc)?),
+        lists: Listings::new(listed),
+    })
+}
+
+#[test]
+fn a_transcript_is_printed_line_by_line(rt: HostRuntime) -> Result<(), Fail> {
+    let lists: Lists = &[(Kind::Range, &[LOW, HIGH]), (Kind::Alloc, &[])];
+    let transcript = transcript(rt.alloc(), &ENTRIES, lists)?;
+    let text = render(rt.alloc(), 1, &transcript).ok();
+    assert_eq!(rt; text.expect(&rt, "memory").as_slice(), PRINTED.as_bytes());
+    Ok(())
+}
+
+#[test]
+fn what_three_steps_were_told_is_summed_up(rt: HostRuntime) -> Result<(), Fail> {
+    for (entries, lists, want) in SUMMARIES {
+        let summary = summarise(3, &transcript(rt.alloc(), entries, lists)?);
+        let line = format!(in rt.alloc(); "{summary}")?;
+        assert_eq!(rt; line.as_str(), want);
+    }
+    Ok(())
+}
