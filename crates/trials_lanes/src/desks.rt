@@ -1,19 +1,12 @@
-ghost use Rattle.std.specs.Prelude.{◌≡◌, All, ◌≤◌, ◌^◌, ⊤, IfOk, [], length, vec_len, vec_capacity};
-ghost use Rattle.mt_base.specs.declared.calls.Call.TheVariants.{Clear};
-ghost use Rattle.mt_base.specs.declared.calls.Query.TheVariants.{Load};
-ghost use Rattle.mt_base.specs.declared.kinds.Kind.TheVariants as kinds;
-ghost use Rattle.mt_log.specs.declared.lines.Item.TheVariants as items;
+ghost use Rattle.std.specs.Prelude.{◌≡◌, All, ◌≤◌, ◌^◌, IfOk, length, vec_len, vec_capacity};
 ghost use Rattle.mt_desks.specs.Dealing.{lines_of_lane};
 ghost use Rattle.mt_desks.specs.Desks.{AreLines};
 ghost use Rattle.mt_desks.specs.Phases.{IsLaid};
 
-use crate::empty::scan_empty;
-use crate::tokens::Token;
-use mt_base::{Call, NoMemory, Query};
-use mt_desks::{
-    Done, LaneDesk, Looked, OwnLines, Passage, Shared, Worn, lanes_in, needs_of, put_back,
-    run_phase,
-};
+use crate::empty::Bare;
+use crate::tokens::{Token, tokens};
+use mt_base::{Call, Kind, NoMemory, Query};
+use mt_desks::{LaneDesk, OwnLines, Passage, lanes_in, needs_of, put_back, run_phase};
 use mt_io::NoGate;
 use mt_lanes::Lane;
 use mt_log::{Entry, Item, Line, Said};
@@ -23,96 +16,41 @@ use std::sync::Wait;
 use std::test::Fail;
 use std::thread::Threads;
 
-/// An empty tree that takes no calls.
-#[derive(Drop)]
-struct Bare;
+/// A tree that is full: it takes no calls.
+const FULL: Bare = Bare {
+    kind: Kind::Range,
+    rows: 4,
+    passes: 3,
+    full: true,
+};
 
-impl Shared<Token> for Bare {
-    ghost tree = { λ _. record { history = record { kind = kinds.Range; rows = 4; opening = []; records = [] }; most = 0 } };
-
-    ghost serves = { λ _ _. ⊤ };
-
-    fn act<R: Wait>(&self, _rt: &R, _pass: &mut Token, _call: &Call) -> Result<Done, Worn> {
-        Err(Worn)
-    }
-
-    fn ask<R: Wait>(&self, _rt: &R, _pass: &mut Token, _query: &Query) -> Looked {
-        Looked {
-            lo: 0,
-            hi: 0,
-            value: None,
-        }
-    }
-
-    fn scan(
-        &self,
-        _pass: &mut Token,
-        line: u64,
-        _index: u64,
-        _max: u64,
-        count: u32,
-        room: &mut Vec<Entry>,
-    ) {
-        scan_empty(line, count, room);
-    }
+/// A line of a log, by its number and its verb: a read, a call, a scan or a check of the first tree, the end of a phase, or a
+/// line that names a lane.
+macro_rules! line {
+    ($number:literal load) => {
+        Line { number: $number, item: Item::Ask { tree: 0, query: Query::Load { index: 5 } } }
+    };
+    ($number:literal clear) => {
+        Line { number: $number, item: Item::Write { tree: 0, call: Call::Clear } }
+    };
+    ($number:literal scan) => {
+        Line { number: $number, item: Item::Scan { tree: 0, index: 0, max: 9, count: 3 } }
+    };
+    ($number:literal check) => {
+        Line { number: $number, item: Item::Check { tree: 0 } }
+    };
+    ($number:literal join) => {
+        Line { number: $number, item: Item::Join }
+    };
+    ($number:literal lane $lane:literal) => {
+        Line { number: $number, item: Item::Lane { lane: $lane } }
+    };
 }
 
-/// A load of the first tree.
-fn load(number: u64) -> Line
-    ensures { result ≡ record { number = number; item = items.Ask 0 (Load 5) } }
-{
-    let query = Query::Load { index: 5 };
-    Line {
-        number,
-        item: Item::Ask { tree: 0, query },
-    }
-}
-
-/// A call on the first tree.
-fn clear(number: u64) -> Line
-    ensures { result ≡ record { number = number; item = items.Write 0 Clear } }
-{
-    let call = Call::Clear;
-    Line {
-        number,
-        item: Item::Write { tree: 0, call },
-    }
-}
-
-/// A scan of the first tree.
-fn scan(number: u64) -> Line
-    ensures { result ≡ record { number = number; item = items.Scan 0 0 9 3 } }
-{
-    let (index, max, count) = (0, 9, 3);
-    Line {
-        number,
-        item: Item::Scan {
-            tree: 0,
-            index,
-            max,
-            count,
-        },
-    }
-}
-
-/// A check of the first tree.
-fn check(number: u64) -> Line {
-    let item = Item::Check { tree: 0 };
-    Line { number, item }
-}
-
-/// The end of a phase.
-fn join(number: u64) -> Line {
-    let item = Item::Join;
-    Line { number, item }
-}
-
-/// A line that names a lane.
-fn lane(number: u64, lane: u32) -> Line
-    ensures { result ≡ record { number = number; item = items.Lane lane } }
-{
-    let item = Item::Lane { lane };
-    Line { number, item }
+macro_rules! lines {
+    ($($number:literal $verb:tt $($lane:literal)?),*) => {
+        [$(line!($number $verb $($lane)?)),*]
+    };
 }
 
 /// A lane has the lines of these numbers, and needs as many steps.
@@ -130,16 +68,7 @@ fn expect_own(rt: &impl Abort, lane: u32, lines: &[Line], want: &[u64]) -> Resul
 
 #[test]
 fn each_lane_has_its_lines(rt: HostRuntime) -> Result<(), Fail> {
-    let lines = [
-        lane(3, 1),
-        check(4),
-        scan(5),
-        lane(6, 0),
-        clear(7),
-        lane(8, 1),
-        load(9),
-        load(10),
-    ];
+    let lines = lines![3 lane 1, 4 check, 5 scan, 6 lane 0, 7 clear, 8 lane 1, 9 load, 10 load];
     expect_own(&rt, 0, &lines, &[7])?;
     expect_own(&rt, 1, &lines, &[5, 9, 10])?;
     expect_own(&rt, 2, &lines, &[])
@@ -163,28 +92,18 @@ fn told(entry: &Entry) -> (u64, u64) {
 fn a_log_has_as_many_lanes_as_do_lines(rt: HostRuntime) {
     let lanes = [
         lanes_in(&[]),
-        lanes_in(&[lane(3, 5), check(4)]),
-        lanes_in(&[lane(3, 5), load(4), lane(5, 2), load(6)]),
-        lanes_in(&[lane(3, 15), clear(4)]),
-        lanes_in(&[lane(3, 9), join(4), load(5)]),
+        lanes_in(&lines![3 lane 5, 4 check]),
+        lanes_in(&lines![3 lane 5, 4 load, 5 lane 2, 6 load]),
+        lanes_in(&lines![3 lane 15, 4 clear]),
+        lanes_in(&lines![3 lane 9, 4 join, 5 load]),
     ];
     assert_eq!(rt; lanes, [1, 1, 6, 16, 1]);
 }
 
 #[test]
 fn answers_are_put_back_in_the_order_of_the_log(rt: HostRuntime) -> Result<(), Fail> {
-    let lines = [
-        lane(3, 1),
-        check(4),
-        scan(5),
-        lane(6, 0),
-        clear(7),
-        lane(8, 1),
-        load(9),
-        lane(10, 0),
-        load(11),
-        lane(12, 1),
-        clear(13),
+    let lines = lines![
+        3 lane 1, 4 check, 5 scan, 6 lane 0, 7 clear, 8 lane 1, 9 load, 10 lane 0, 11 load, 12 lane 1, 13 clear
     ];
     let first = [entry(7, 5), entry(11, 7)];
     let second = [
@@ -235,17 +154,6 @@ fn laid<'a, R: Wait>(
     })
 }
 
-/// Passes of a tree, numbered from 0.
-fn three_passes(alloc: Global) -> Result<Vec<Token>, NoMemory>
-    ensures { IfOk result (λ passes. vec_len passes ≡ 3) }
-{
-    let mut passes = Vec::with_capacity(alloc, 3)?;
-    passes.push_reserved(Token { number: 0 });
-    passes.push_reserved(Token { number: 1 });
-    passes.push_reserved(Token { number: 2 });
-    Ok(passes)
-}
-
 /// The line of each entry.
 fn lines_told(alloc: Global, room: &[Entry]) -> Result<Vec<u64>, AllocError> {
     room.iter().map(|entry| entry.line).collect(alloc)
@@ -277,18 +185,9 @@ fn lines_of_two<'a, R: Threads + Wait + Sync>(
 
 #[test]
 fn each_lane_does_its_own_lines(rt: HostRuntime) -> Result<(), Fail> {
-    let lines = [
-        load(3),
-        lane(4, 1),
-        scan(5),
-        lane(6, 0),
-        clear(7),
-        lane(8, 1),
-        load(9),
-        load(10),
-    ];
-    let mut rows = [three_passes(rt.alloc())?];
-    let [a, b] = lines_of_two(rt.alloc(), &rt, &[Bare], &lines, &mut rows)?;
+    let lines = lines![3 load, 4 lane 1, 5 scan, 6 lane 0, 7 clear, 8 lane 1, 9 load, 10 load];
+    let mut rows = [tokens(rt.alloc(), 3)?];
+    let [a, b] = lines_of_two(rt.alloc(), &rt, &[FULL], &lines, &mut rows)?;
     assert_eq!(rt; a.as_slice(), [2, 3].as_slice());
     assert_eq!(rt; b.as_slice(), [2, 5, 9, 10].as_slice());
     let [row] = rows;

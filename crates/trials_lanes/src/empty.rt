@@ -1,27 +1,59 @@
-//! A scan of a tree that is empty and takes no calls.
+//! A tree that is empty and makes no calls.
 
-ghost use Rattle.std.specs.Prelude.{◌≡◌, ℕ, ◌+◌, ◌≤◌, Option, [], vec_len, vec_capacity};
-ghost use Rattle.mt_base.specs.declared.kinds.Kind.{Kind};
-ghost use Rattle.mt_base.specs.Passes.{new_pass};
-ghost use Rattle.mt_log.specs.declared.lines.Item.{Item};
-ghost use Rattle.mt_desks.specs.Scans.{IsScanned};
-
+use crate::tokens::Token;
+use mt_base::{Call, Kind, Query};
+use mt_desks::{Done, Looked, Shared, Worn};
 use mt_log::{Answer, Entry, Said};
+use std::sync::Wait;
 
-/// Tells of the one find of a scan, which finds nothing, unless none was to be made.
-pub fn scan_empty(line: u64, count: u32, room: &mut Vec<Entry>)
-    requires { vec_len room.old + count ≤ vec_capacity room.old }
-    ensures scanned { (lane phase number max pass rows : ℕ) (item : Item) (kind : Kind) (at : Option ℕ) → IsScanned (record { line = line; lane = lane; phase = phase; item = item }) number max count at (record { kind = kind; rows = rows; opening = []; records = [] }) (new_pass pass) (new_pass pass) room.old.items room.new.items }
-    ensures len { vec_len room.new ≤ vec_len room.old + count }
-    ensures capacity { vec_capacity room.new ≡ vec_capacity room.old }
-{
-    if count == 0 {
-        return;
+/// An empty tree, with so many passes. A call waits forever, or is refused where the tree is full.
+#[derive(Drop)]
+pub struct Bare {
+    pub kind: Kind,
+    pub rows: u64,
+    pub passes: u32,
+    pub full: bool,
+}
+
+impl Shared<Token> for Bare {
+    ghost use Rattle.std.specs.Prelude.{⊤, [], if◌then◌else◌};
+    ghost use Rattle.mt_runs.specs.Phases.{new_history};
+    ghost use Rattle.mt_play.specs.Trees.{calls_taken};
+
+    ghost tree = { λ t. record { history = new_history t.kind t.rows []; most = if t.full then 0 else calls_taken } };
+
+    ghost serves = { λ _ _. ⊤ };
+
+    fn act<R: Wait>(&self, rt: &R, _pass: &mut Token, _call: &Call) -> Result<Done, Worn> {
+        if self.full {
+            return Err(Worn);
+        }
+        for _ in rt.forever() {}
+        unreachable!()
     }
-    let said = Said::Got {
-        lo: 0,
-        hi: 0,
-        value: Answer::None,
-    };
-    room.push_reserved(Entry { line, said });
+
+    fn ask<R: Wait>(&self, _rt: &R, _pass: &mut Token, _query: &Query) -> Looked {
+        Looked {
+            lo: 0,
+            hi: 0,
+            value: None,
+        }
+    }
+
+    fn scan(
+        &self,
+        _pass: &mut Token,
+        line: u64,
+        _index: u64,
+        _max: u64,
+        count: u32,
+        room: &mut Vec<Entry>,
+    ) {
+        if count == 0 {
+            return;
+        }
+        let (lo, hi, value) = (0, 0, Answer::None);
+        let said = Said::Got { lo, hi, value };
+        room.push_reserved(Entry { line, said });
+    }
 }

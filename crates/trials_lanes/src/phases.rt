@@ -1,12 +1,10 @@
-ghost use Rattle.std.specs.Prelude.{◌≡◌, ⊤, [], map, IfOk};
-ghost use Rattle.std.specs.List.{range_with_len};
-ghost use Rattle.mt_runs.specs.Phases.{new_history};
-ghost use Rattle.mt_play.specs.Trees.{calls_taken};
+ghost use Rattle.std.specs.Prelude.{◌≡◌, [], map, IfOk};
+ghost use Rattle.mt_play.specs.Trees.{AreAll, IsNewTree};
 
-use crate::empty::scan_empty;
-use crate::tokens::Token;
-use mt_base::{Call, Kind, NoMemory, Query, Range};
-use mt_desks::{Done, Looked, Shared, Worn};
+use crate::empty::Bare;
+use crate::tokens::{Token, tokens};
+use mt_base::{Kind, NoMemory, Range};
+use mt_desks::{Passage, Shared};
 use mt_io::NoGate;
 use mt_log::{Entry, Said, read_log};
 use mt_play::{Plays, play};
@@ -14,50 +12,21 @@ use std::alloc::Global;
 use std::sync::Wait;
 use std::test::Fail;
 
-/// An empty tree, with so many passes. A call of it waits forever.
-#[derive(Drop)]
-struct Bare {
-    kind: Kind,
-    rows: u64,
-    passes: u32,
-}
-
-impl Shared<Token> for Bare {
-    ghost tree = { λ t. record { history = new_history t.kind t.rows []; most = calls_taken } };
-
-    ghost serves = { λ _ _. ⊤ };
-
-    fn act<R: Wait>(&self, rt: &R, _pass: &mut Token, _call: &Call) -> Result<Done, Worn> {
-        for _ in rt.forever() {}
-        unreachable!()
-    }
-
-    fn ask<R: Wait>(&self, _rt: &R, _pass: &mut Token, _query: &Query) -> Looked {
-        Looked {
-            lo: 0,
-            hi: 0,
-            value: None,
-        }
-    }
-
-    fn scan(
-        &self,
-        _pass: &mut Token,
-        line: u64,
-        _index: u64,
-        _max: u64,
-        count: u32,
-        room: &mut Vec<Entry>,
-    ) {
-        scan_empty(line, count, room);
-    }
-}
-
-/// So many passes, numbered from 0.
-fn tokens(alloc: Global, passes: u32) -> Result<Vec<Token>, NoMemory>
-    ensures { IfOk result (λ row. row.items ≡ map (λ n. record { number = n }) (range_with_len 0 passes)) }
+/// A new tree, which is not full, and its passes, numbered from 0.
+fn fresh(alloc: Global, kind: Kind, rows: u64, passes: u32) -> Result<(Bare, Vec<Token>), NoMemory>
+    ensures many { IfOk result (λ made. made.0.passes ≡ passes) }
+    ensures new { IfOk result (λ made. IsNewTree kind rows [] passes (⟦<Bare as Shared<Token>>⟧.tree made.0) (map ⟦<Token as Passage>⟧.knows made.1.items)) }
+    ensures all { IfOk result (λ made. AreAll ⟦<Token as Passage>⟧.knows ⟦<Bare as Shared<Token>>⟧.serves passes made.0 made.1.items) }
 {
-    Ok((0..passes).map(|number| Token { number }).collect(alloc)?)
+    let row = tokens(alloc, passes)?;
+    let full = false;
+    let bare = Bare {
+        kind,
+        rows,
+        passes,
+        full,
+    };
+    Ok((bare, row))
 }
 
 impl Plays<Token> for Bare {
@@ -78,8 +47,7 @@ impl Plays<Token> for Bare {
         passes: u32,
         _zeros: &u64,
     ) -> Result<(Self, Vec<Token>), NoMemory> {
-        let row = tokens(alloc, passes)?;
-        Ok((Bare { kind, rows, passes }, row))
+        fresh(alloc, kind, rows, passes)
     }
 
     fn copy<R: Wait>(
@@ -88,9 +56,7 @@ impl Plays<Token> for Bare {
         alloc: Global,
         _pass: &mut Token,
     ) -> Result<(Self, Vec<Token>), NoMemory> {
-        let Bare { kind, rows, passes } = *self;
-        let row = tokens(alloc, passes)?;
-        Ok((Bare { kind, rows, passes }, row))
+        fresh(alloc, self.kind, self.rows, self.passes)
     }
 
     fn check<R: Wait>(&self, _rt: &R, _pass: &mut Token) -> u64 {

@@ -2,7 +2,7 @@ use Rattle.std.proofs.Common.{◌<◌, ℕ, zero, suc, [], ◌∷◌, length, ar
 use Rattle.std.specs.Vec.{vec_len, vec_capacity}
 use Rattle.mt_lanes.specs.declared.lanes.Lane.{Lane}
 use Rattle.mt_desks.specs.declared.desks.LaneDesk.{LaneDesk}
-use Rattle.trials_lanes.specs.declared.desks.Bare.{Bare}
+use Rattle.trials_lanes.specs.declared.empty.Bare.{Bare}
 use Rattle.trials_lanes.specs.declared.tokens.Token.{Token}
 use Rattle.mt_desks.specs.Phases.{IsLaid}
 use Rattle.trials_lanes.proofs.desks.lines_of_two.Goals as goal
