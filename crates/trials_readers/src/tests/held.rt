@@ -46,28 +46,6 @@ fn fill<R: Wait + Abort>(rt: &R, tree: &Tree, writer: &mut Pass)
     store(rt, tree, writer, 60, 6, Reply::NoNodes(held_by(1, 1)));
 }
 
-/// A cursor holds the rows until it is closed.
-fn close_the_cursor<R: Wait + Abort, L: Ledger>(
-    rt: &R,
-    blank: Blank,
-    tree: &Tree,
-    writer: &mut Pass,
-    reader: &mut Pass,
-)
-    requires name { blank.name ≡ L.name }
-    requires parts { blank.parts ≡ L.parts }
-    requires some { 0 < blank.parts }
-    requires passes { IsPassOf tree.now writer.old × IsPassOf tree.now reader.old }
-{
-    let mut steps = Steps::<L>::new(blank);
-    store_range(rt, tree, writer, 10, 10, 5, 1);
-    let mut cursor = tree.cursor(reader, 0, u64::MAX);
-    let _ = cursor.step(&mut steps);
-    fill(rt, tree, writer);
-    cursor.close(&mut steps);
-    store(rt, tree, writer, 60, 7, Reply::Ok);
-}
-
 /// The first step of a walk, whose cursor is dropped and not closed.
 fn step_once<L: Ledger>(tree: &Tree, pass: &mut Pass, steps: &mut Steps<L>)
     requires { IsPassOf tree.now pass.old }
@@ -77,37 +55,24 @@ fn step_once<L: Ledger>(tree: &Tree, pass: &mut Pass, steps: &mut Steps<L>)
     let _ = cursor.step(steps);
 }
 
-/// A cursor that is not closed holds the rows until its pass reads again.
-fn drop_the_cursor<R: Wait + Abort, L: Ledger>(
-    rt: &R,
-    blank: Blank,
-    tree: &Tree,
-    writer: &mut Pass,
-    reader: &mut Pass,
-)
-    requires name { blank.name ≡ L.name }
-    requires parts { blank.parts ≡ L.parts }
-    requires some { 0 < blank.parts }
-    requires passes { IsPassOf tree.now writer.old × IsPassOf tree.now reader.old }
-{
-    let mut steps = Steps::<L>::new(blank);
-    store_range(rt, tree, writer, 10, 10, 5, 1);
-    step_once(tree, reader, &mut steps);
-    fill(rt, tree, writer);
-    let (lo, hi, value) = (6, 6, Some(5));
-    assert_eq!(rt; tree.load(reader, 10, &mut steps), Read { lo, hi, value });
-    store(rt, tree, writer, 60, 7, Reply::Ok);
+/// What is done while a cursor holds the rows: it is closed, or dropped, and then its pass reads; or an entry is changed in its
+/// place, and the tree is not ready for more, where the first of the two comes first or second.
+#[derive(Clone, Copy, PartialEq)]
+enum Held {
+    Closed,
+    Dropped,
+    StoredFirst,
+    StoredLast,
 }
 
-/// While a cursor holds the rows, an entry is changed in its place, and the tree is not ready for more: the first of the two comes
-/// first or second.
-fn keep_the_cursor<R: Wait + Abort, L: Ledger>(
+/// A cursor holds the rows until it is closed, or until its pass reads again.
+fn hold<R: Wait + Abort, L: Ledger>(
     rt: &R,
     blank: Blank,
     tree: &Tree,
     writer: &mut Pass,
     reader: &mut Pass,
-    store_first: bool,
+    held: Held,
 )
     requires name { blank.name ≡ L.name }
     requires parts { blank.parts ≡ L.parts }
@@ -116,14 +81,27 @@ fn keep_the_cursor<R: Wait + Abort, L: Ledger>(
 {
     let mut steps = Steps::<L>::new(blank);
     store_range(rt, tree, writer, 10, 10, 5, 1);
+    if held == Held::Dropped {
+        step_once(tree, reader, &mut steps);
+        fill(rt, tree, writer);
+        let (lo, hi, value) = (6, 6, Some(5));
+        assert_eq!(rt; tree.load(reader, 10, &mut steps), Read { lo, hi, value });
+        store(rt, tree, writer, 60, 7, Reply::Ok);
+        return;
+    }
     let mut cursor = tree.cursor(reader, 0, u64::MAX);
     let _ = cursor.step(&mut steps);
     fill(rt, tree, writer);
-    if store_first {
+    if held == Held::Closed {
+        cursor.close(&mut steps);
+        store(rt, tree, writer, 60, 7, Reply::Ok);
+        return;
+    }
+    if held == Held::StoredFirst {
         store_range(rt, tree, writer, 10, 10, 7, 7);
     }
     assert_eq!(rt; prepared(rt, tree, writer), Err(held_by(1, 1)));
-    if !store_first {
+    if held == Held::StoredLast {
         store_range(rt, tree, writer, 10, 10, 7, 7);
     }
     cursor.close(&mut steps);
@@ -161,37 +139,17 @@ fn close_the_older_cursor<R: Wait + Abort, L: Ledger>(
 }
 
 #[test]
-fn rows_are_free_when_the_cursor_is_closed(rt: HostRuntime) -> Result<(), Fail> {
-    let (tree, mut passes) = made(rt.alloc(), Kind::Range, 8, 2, 9)?;
-    let mut reader = last_pass(&tree, &mut passes)?;
-    let mut writer = last_pass(&tree, &mut passes)?;
-    close_the_cursor::<HostRuntime, Brand>(&rt, Blank::new(1), &tree, &mut writer, &mut reader);
-    Ok(())
-}
-
-#[test]
-fn rows_are_free_when_the_pass_of_an_open_section_reads(rt: HostRuntime) -> Result<(), Fail> {
-    let (tree, mut passes) = made(rt.alloc(), Kind::Range, 8, 2, 9)?;
-    let mut reader = last_pass(&tree, &mut passes)?;
-    let mut writer = last_pass(&tree, &mut passes)?;
-    drop_the_cursor::<HostRuntime, Brand>(&rt, Blank::new(1), &tree, &mut writer, &mut reader);
-    Ok(())
-}
-
-#[test]
-fn an_entry_is_changed_while_no_row_is_free(rt: HostRuntime) -> Result<(), Fail> {
-    for store_first in [true, false] {
+fn rows_are_held_by_an_open_section(rt: HostRuntime) -> Result<(), Fail> {
+    for held in [
+        Held::Closed,
+        Held::Dropped,
+        Held::StoredFirst,
+        Held::StoredLast,
+    ] {
         let (tree, mut passes) = made(rt.alloc(), Kind::Range, 8, 2, 9)?;
         let mut reader = last_pass(&tree, &mut passes)?;
         let mut writer = last_pass(&tree, &mut passes)?;
-        keep_the_cursor::<HostRuntime, Brand>(
-            &rt,
-            Blank::new(1),
-            &tree,
-            &mut writer,
-            &mut reader,
-            store_first,
-        );
+        hold::<HostRuntime, Brand>(&rt, Blank::new(1), &tree, &mut writer, &mut reader, held);
     }
     Ok(())
 }
