@@ -69,13 +69,12 @@ pub fn right_at<R: Rows>(rows: &mut R, path: &Path, level: u32) -> Option<Path>
     ensures reads { IfSome result (λ right. ReadsUpTo (loads_on right.items) (R.sheet rows.old) (R.sheet rows.new)) }
     ensures unread { IfNone result (R.sheet rows.new ≡ R.sheet rows.old) }
 {
-    let last = path[level as usize].max;
-    if last == top(rows.width()) {
-        return None;
-    }
     let mut right = copy_of(path);
-    walk_on(rows, &mut right, last + 1);
-    Some(right)
+    if step_right(rows, &mut right, level) {
+        Some(right)
+    } else {
+        None
+    }
 }
 
 /// The way to the row that stands left of the path's at this level, and from there to its last leaf; none where the
@@ -90,11 +89,10 @@ pub fn left_at<R: Rows>(rows: &mut R, path: &Path, level: u32) -> Option<Path>
     ensures reads { IfSome result (λ left. ReadsUpTo (loads_on left.items) (R.sheet rows.old) (R.sheet rows.new)) }
     ensures unread { IfNone result (R.sheet rows.new ≡ R.sheet rows.old) }
 {
-    let first = path[level as usize].min;
-    if first == 0 {
-        return None;
-    }
     let mut left = copy_of(path);
-    walk_on(rows, &mut left, first - 1);
-    Some(left)
+    if step_left(rows, &mut left, level) {
+        Some(left)
+    } else {
+        None
+    }
 }
