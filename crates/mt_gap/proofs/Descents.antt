@@ -3,6 +3,7 @@ use Rattle.std.proofs.Common.{◌≡◌, ◌≢◌, ℕ, zero, suc, ◌+◌, ◌
 use Rattle.std.specs.List.{AllByRecursion, flat_map}
 use Rattle.std.proofs.lemmas.Bool.{cases_Bool}
 use Rattle.std.proofs.lemmas.List.Elements.{All-nil, All-cons}
+use Rattle.std.proofs.Math.Nat.{mul-le-mul_left}
 use Rattle.mt_base.specs.declared.kinds.Kind.{Kind}
 use Rattle.mt_base.specs.declared.kinds.Kind.TheVariants as trees
 use Rattle.mt_base.specs.Holes.{Hole, low, high, lowest_in, highest_in, holes, holes_from}
@@ -190,9 +191,6 @@ leaves_have t pick w answer (suc left) (x ∷ xs) leaves rows found = absurd (in
 
 -- ---- the whole way
 
-more_columns : (a b c : ℕ) → b ≤ c → a * b ≤ a * c
-more_columns a b c low = grind (arith, low)
-
 -- the rows that a search has come to
 pub record HasCome (s s' : Sheet) (pick : List Hole → Option ℕ) (w : Window) (answer : Option ℕ) (old new level : ℕ) (asked : List Child) : Type 0 where
   pub asks : Asks (tree_as trees.Alloc s.tree) pick w answer level asked
@@ -320,7 +318,7 @@ module _ (s s₀ s₁ : Sheet) (pick : List Hole → Option ℕ) (w : Window) (a
       (reads_more 1 (c * there.visited.count + c * length leaves) s s₀ s₂ (one_read s s₀ load) here)
     where
       at_most : (a b c n : ℕ) → b + c ≤ n → a * b + a * c ≤ n * a
-      at_most a b c n few = let low = more_columns a (b + c) n few in sums a b c n low
+      at_most a b c n few = let low = mul-le-mul_left a few in sums a b c n low
         where
           sums : (a b c n : ℕ) → a * (b + c) ≤ a * n → a * b + a * c ≤ n * a
           sums a b c n low = grind (arith, low)

@@ -6,8 +6,10 @@ use Rattle.std.specs.Option.{option_or, is_some}
 use Rattle.std.proofs.lemmas.Bool.{cases_Bool}
 use Rattle.std.proofs.lemmas.List.{take-append-drop}
 use Rattle.std.proofs.lemmas.Grind.{flat_map-append}
+use Rattle.std.proofs.Math.Nat.{mul-le-mul_left}
 use Rattle.mt_base.specs.Holes.{Hole, kept, lowest_in, highest_in}
 use Rattle.mt_base.specs.Width.{columns}
+use Rattle.mt_layout.proofs.Places.{one_row_more}
 use Rattle.mt_rows.specs.Spans.{Table}
 use Rattle.mt_rows.specs.Sheet.{Rooted, Sheet, ReadsUpTo}
 use Rattle.mt_path.proofs.Kept.{tree_kept}
@@ -33,21 +35,15 @@ loaded_none s steps = record { reads = reads_up 0 (columns s.tree.table.width * 
 
 pub loaded_next : (s t u : Sheet) (old before new i : ℕ) → WereLoaded s t old before i → new ≡ before + 1 → ReadsUpTo (columns t.tree.table.width) t u → WereLoaded s u old new (i + 1)
 loaded_next s t u old before new i done tick reads = record {
-  reads = reads_up (columns s.tree.table.width * i + columns s.tree.table.width) (columns s.tree.table.width * (i + 1)) s u (more (columns s.tree.table.width) i)
+  reads = reads_up (columns s.tree.table.width * i + columns s.tree.table.width) (columns s.tree.table.width * (i + 1)) s u (one_row_more (columns s.tree.table.width) i)
       (reads_more (columns s.tree.table.width * i) (columns s.tree.table.width) s t u done.reads
       (subst (λ (r : Rooted). ReadsUpTo (columns r.table.width) t u) (tree_kept (columns s.tree.table.width * i) s t done.reads) reads));
   steps = (let steps = done.steps in omega arith);
 }
-  where
-    more : (a b : ℕ) → a * b + a ≤ a * (b + 1)
-    more a b = grind arith
-
-more_columns : (a b c : ℕ) → b ≤ c → a * b ≤ a * c
-more_columns a b c low = grind (arith, low)
 
 -- so many, or fewer than these
 pub loaded_few : (s t : Sheet) (old new i n : ℕ) → WereLoaded s t old new i → i ≤ n → (new ≤ old + n) × ReadsUpTo (columns s.tree.table.width * n) s t
-loaded_few s t old new i n done few = (let steps = done.steps in omega arith, reads_up (columns s.tree.table.width * i) (columns s.tree.table.width * n) s t (more_columns (columns s.tree.table.width) i n few) done.reads)
+loaded_few s t old new i n done few = (let steps = done.steps in omega arith, reads_up (columns s.tree.table.width * i) (columns s.tree.table.width * n) s t (mul-le-mul_left (columns s.tree.table.width) few) done.reads)
 
 pub tree_loaded : (s t : Sheet) (old new i : ℕ) → WereLoaded s t old new i → t.tree ≡ s.tree
 tree_loaded s t old new i done = tree_kept (columns s.tree.table.width * i) s t done.reads

@@ -12,6 +12,7 @@ use Rattle.mt_layout.specs.declared.names.RowKind.TheVariants.{Leaf, Gapped}
 use Rattle.mt_layout.specs.declared.spans.Span.{Span}
 use Rattle.mt_layout.specs.Rows.{row_in, named_kind}
 use Rattle.mt_layout.specs.Spans.{Fills}
+use Rattle.mt_layout.proofs.Places.{one_row_more}
 use Rattle.mt_rows.specs.Laws.{Tree, IsRow, Stands, top_of}
 use Rattle.mt_rows.specs.Publish.{tree_as, IsTreeOf, IsLawfulOf, map_by}
 use Rattle.mt_rows.specs.Sheet.{Rooted, Sheet, ReadsUpTo, loaded}
@@ -280,11 +281,8 @@ module _ (s s' : Sheet) (w : Window) (size : 1 ≤ w.size) (tree : IsLawfulOf s.
 
     reads_more_rows : ReadsUpTo (columns s.tree.table.width * (level + 1)) s s''
     reads_more_rows =
-        reads_up (columns s.tree.table.width * level + columns s.tree.table.width) (columns s.tree.table.width * (level + 1)) s s'' (one_row (columns s.tree.table.width) level)
+        reads_up (columns s.tree.table.width * level + columns s.tree.table.width) (columns s.tree.table.width * (level + 1)) s s'' (one_row_more (columns s.tree.table.width) level)
         (reads_more (columns s.tree.table.width * level) (columns s.tree.table.width) s s' s'' goes.reads (subst (λ (t : Rooted). ReadsUpTo (columns t.table.width) s' s'') same_tree reads))
-      where
-        one_row : (a b : ℕ) → a * b + a ≤ a * (b + 1)
-        one_row a b = grind arith
 
     pub reads_there : ReadsUpTo (height_in s.tree.table s.tree.root * columns s.tree.table.width) s s''
     reads_there = reads_up (columns s.tree.table.width * (level + 1)) (height_in s.tree.table s.tree.root * columns s.tree.table.width) s s'' (times (columns s.tree.table.width) (level + 1) (height_in s.tree.table s.tree.root) level_in) reads_more_rows

@@ -9,6 +9,7 @@ use Rattle.mt_base.specs.Width.{columns}
 use Rattle.mt_layout.specs.Columns.{items_from}
 use Rattle.mt_layout.specs.Sizes.{slots_of, gaps_of}
 use Rattle.mt_layout.proofs.Reading.{IsItem, goes_on, ends}
+use Rattle.mt_layout.proofs.Places.{one_row_more}
 use Rattle.mt_layout.proofs.RowSizes.{sizes, all_gaps_of, few_slots_of}
 use Rattle.mt_rows.specs.Spans.{base_of}
 use Rattle.mt_rows.specs.Sheet.{Rooted, Sheet, ReadsUpTo}
@@ -80,10 +81,7 @@ module _ (s t u : Sheet) (kind : RowKind) (row first max slot begin last : ℕ) 
   left = let low = within in omega arith
 
   all_loads : ReadsUpTo (loads_for kind * (slot + 1)) s u
-  all_loads = reads_up (loads_for kind * slot + loads_for kind) (loads_for kind * (slot + 1)) s u (times (loads_for kind) slot) (reads_more (loads_for kind * slot) (loads_for kind) s t u done.reads loads)
-    where
-      times : (a b : ℕ) → a * b + a ≤ a * (b + 1)
-      times a b = grind arith
+  all_loads = reads_up (loads_for kind * slot + loads_for kind) (loads_for kind * (slot + 1)) s u (one_row_more (loads_for kind) slot) (reads_more (loads_for kind * slot) (loads_for kind) s t u done.reads loads)
 
   here_on : last < max → unread s.tree kind row max slot begin ≡ child ∷ unread s.tree kind row max (slot + 1) (last + 1)
   here_on more =

@@ -1,6 +1,6 @@
 -- Where the words of rows stand: column c of row r is the word columns * r + c. What is told is so for every number of columns.
 use Rattle.std.proofs.Common.{◌≡◌, ◌≢◌, ℕ, ◌+◌, ◌*◌, ◌/◌, ◌%◌, ◌<◌, ◌≤◌, ap, sym, subst, ◌∙◌, arith}
-use Rattle.std.proofs.Math.Nat.{mul_comm, mul-le-mul_left}
+use Rattle.std.proofs.Math.Nat.{mul_comm, mul-le-mul_left, mul-add}
 use Rattle.std.proofs.lemmas.Nat.{mul-add-lt, div-mul-add, mod-mul-add}
 use Rattle.mt_base.specs.declared.widths.Width.{Width}
 use Rattle.mt_base.specs.Width.{columns, first_row}
@@ -15,6 +15,10 @@ same_place words row other c col inside at same =
       sym (div-mul-add other words c inside) ∙ (ap (λ (n : ℕ). n / words) turned ∙ div-mul-add row words col at),
       sym (mod-mul-add other words c inside) ∙ (ap (λ (n : ℕ). n % words) turned ∙ mod-mul-add row words col at),
     )
+
+-- a row more is its words more
+pub one_row_more : (words rows : ℕ) → words * rows + words ≤ words * (rows + 1)
+one_row_more words rows = omega (arith, mul-add words rows 1)
 
 -- ---- of a width
 

@@ -15,7 +15,7 @@ use Rattle.mt_rows.specs.Laws as laws
 use Rattle.mt_rows.specs.Publish.{IsTreeOf, tree_as}
 use Rattle.mt_rows.specs.Sheet.{Rooted, IsPlace}
 use Rattle.mt_rows.specs.Spans.{Table, row_spans, spans_by, spans_in, root_span}
-use Rattle.mt_rows.proofs.InnerKinds.{inner_no_leaf}
+use Rattle.mt_rows.proofs.InnerKinds.{leaf_low}
 use Rattle.mt_path.specs.declared.paths.PathStep.{PathStep}
 use Rattle.mt_path.specs.declared.rows.Row.{Row}
 use Rattle.mt_path.specs.declared.rows.Found.{Found}
@@ -147,13 +147,9 @@ module _ (t : laws.Tree) (h : ℕ) (stands : laws.Stands t h) (index : ℕ) (wit
       let to = (place_of_row t h stands index depth within low).to in
       omega arith
 
-  leaf_by : (k : ℕ) → h - depth ≡ k → laws.kind_at t.kind (h - depth) ≡ Leaf → h ≡ depth
-  leaf_by zero is leaf = let few = low in omega arith
-  leaf_by (suc k) is leaf = absurd (inner_no_leaf t.kind (ap (laws.kind_at t.kind) (sym is) ∙ leaf))
-
   -- a leaf stands at the end
   leaf_last : row.kind ≡ Leaf → h ≡ depth
-  leaf_last leaf = leaf_by (h - depth) refl (sym is_kind ∙ leaf)
+  leaf_last leaf = let none = leaf_low t.kind (h - depth) (sym is_kind ∙ leaf) in let few = low in omega arith
 
   inner_by : (k : ℕ) → h - depth ≡ k → row.kind ≢ Leaf → depth < h
   inner_by zero is other = absurd (other (is_kind ∙ ap (laws.kind_at t.kind) is))

@@ -1,5 +1,5 @@
 -- How a walk comes from a row to the one below.
-use Rattle.std.proofs.Common.{◌≡◌, ◌≢◌, ℕ, zero, suc, ◌+◌, ◌<◌, ◌≤◌, List, [], ◌∷◌, length, Some, refl, sym, ap, ◌∙◌, subst, arith}
+use Rattle.std.proofs.Common.{◌≡◌, ◌≢◌, ℕ, suc, ◌+◌, ◌<◌, ◌≤◌, List, [], ◌∷◌, length, Some, refl, sym, ap, ◌∙◌, subst, arith}
 use Rattle.std.specs.List.{slice_get}
 use mathlib.Core.Option.{some}
 use lib.ListN.{get_elem?}
@@ -19,7 +19,7 @@ use Rattle.mt_layout.specs.Spans.{Fills}
 use Rattle.mt_layout.proofs.RowSizes.{few_slots_of}
 use Rattle.mt_layout.proofs.SpanLists.{fills_le, fills_split}
 use Rattle.mt_rows.specs.Laws.{kind_at}
-use Rattle.mt_rows.proofs.InnerKinds.{inner_no_leaf}
+use Rattle.mt_rows.proofs.InnerKinds.{leaf_low}
 use Rattle.mt_life.specs.declared.views.Held.{Held}
 use Rattle.mt_rule.specs.declared.views.PassPart.{PassPart}
 use Rattle.mt_rule.specs.declared.views.Shape.{Shape}
@@ -34,12 +34,8 @@ use Rattle.mt_read.proofs.Finding.{count_is, slots_counted}
 
 -- ---- leaves and inner rows
 
-leaf_by : (kind : Kind) (level : ℕ) → kind_at kind level ≡ Leaf → level ≡ 0
-leaf_by kind zero is = refl
-leaf_by kind (suc level) is = absurd (inner_no_leaf kind is)
-
 pub leaf_level : (q : PassPart) (row : Row) → IsOn q row → row.kind ≡ Leaf → (here q).extent.level ≡ 0
-leaf_level q row on leaf = leaf_by q.shape.kind (here q).extent.level (sym on.kind ∙ leaf)
+leaf_level q row on leaf = leaf_low q.shape.kind (here q).extent.level (sym on.kind ∙ leaf)
 
 pub inner_level : (q : PassPart) (row : Row) → IsOn q row → row.kind ≢ Leaf → (here q).extent.level ≢ 0
 inner_level q row on inner none = inner (on.kind ∙ ap (kind_at q.shape.kind) none)

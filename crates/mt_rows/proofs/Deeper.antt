@@ -33,10 +33,10 @@ by_kind_inner Leaf leaf inner other = absurd (other refl)
 by_kind_inner Inner leaf inner other = refl
 by_kind_inner Gapped leaf inner other = refl
 
-levels_by_inner : (kind : RowKind) (below : ℕ) → kind ≢ Leaf → levels_by (Some kind) below ≡ 1 + below
-levels_by_inner Leaf below other = absurd (other refl)
-levels_by_inner Inner below other = refl
-levels_by_inner Gapped below other = refl
+pub levels_by_kind_inner : (kind : RowKind) (below : ℕ) → kind ≢ Leaf → levels_by (Some kind) below ≡ 1 + below
+levels_by_kind_inner Leaf below other = absurd (other refl)
+levels_by_kind_inner Inner below other = refl
+levels_by_kind_inner Gapped below other = refl
 
 module _ (t : Table) (depth : ℕ) (x : Span) (kind : RowKind) (deep : 0 < depth) (named : named_kind x.word ≡ Some kind) (other : kind ≢ Leaf) where
   pub ranges_of_inner : ranges_of t depth x ≡ flat_map (ranges_of t (depth - 1)) (spans_in t x)
@@ -55,7 +55,7 @@ module _ (t : Table) (depth : ℕ) (x : Span) (kind : RowKind) (deep : 0 < depth
   height_of_inner =
       height_of_deeper t depth x deep
       ∙ (ap (λ (k : Option RowKind). levels_by k (of_first (height_of t (depth - 1)) (spans_in t x))) named
-      ∙ levels_by_inner kind (of_first (height_of t (depth - 1)) (spans_in t x)) other)
+      ∙ levels_by_kind_inner kind (of_first (height_of t (depth - 1)) (spans_in t x)) other)
 
 pub of_first_at : (f : Span → ℕ) (xs : List Span) (x : Span) → Some x ≡ slice_get xs 0 → of_first f xs ≡ f x
 of_first_at f [] x is = absurd (cc)

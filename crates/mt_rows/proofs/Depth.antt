@@ -4,7 +4,6 @@ use Rattle.std.specs.List.{AllByRecursion, flat_map}
 use Rattle.std.proofs.lemmas.Bool.{cases_Bool}
 use Rattle.std.proofs.lemmas.Grind.{flat_map-append}
 use Rattle.mt_base.specs.declared.kinds.Kind.{Kind}
-use Rattle.mt_base.specs.declared.kinds.Kind.TheVariants as trees
 use Rattle.mt_base.proofs.Lists.{all_map, all_front, all_back}
 use Rattle.mt_layout.specs.declared.names.RowKind.{RowKind}
 use Rattle.mt_layout.specs.declared.names.RowKind.TheVariants.{Leaf}
@@ -16,6 +15,8 @@ use Rattle.mt_rows.specs.Spans.{Table, spans_in, inner_kind}
 use Rattle.mt_rows.specs.Levels.{expand, map_of, Levels, one_if, tally, times, is_row_of}
 use Rattle.mt_rows.specs.Trees.{by_kind, ranges_of, rows_of, levels_by, of_first, height_of}
 use Rattle.mt_rows.specs.Laws.{Tree, IsRow, kind_at, covers_all, least_of_root, least_of}
+use Rattle.mt_rows.proofs.Deeper.{by_kind_inner, levels_by_kind_inner}
+use Rattle.mt_rows.proofs.InnerKinds.{inner_no_leaf}
 use Rattle.mt_rows.proofs.Lists.{tally-append}
 
 abbrev pub IsLeaf : Span → Type 0
@@ -36,12 +37,10 @@ pub by_leaf : {A : Type 0} (k : Option RowKind) (leaf inner : List A) → k ≡ 
 by_leaf k leaf inner is = ap (λ (k : Option RowKind). by_kind k leaf inner) is
 
 pub by_inner : {A : Type 0} (tree : Kind) (k : Option RowKind) (leaf inner : List A) → k ≡ Some (inner_kind tree) → by_kind k leaf inner ≡ inner
-by_inner trees.Range k leaf inner is = ap (λ (k : Option RowKind). by_kind k leaf inner) is
-by_inner trees.Alloc k leaf inner is = ap (λ (k : Option RowKind). by_kind k leaf inner) is
+by_inner tree k leaf inner is = ap (λ (k : Option RowKind). by_kind k leaf inner) is ∙ by_kind_inner (inner_kind tree) leaf inner (inner_no_leaf tree)
 
 levels_by_inner : (tree : Kind) (k : Option RowKind) (below : ℕ) → k ≡ Some (inner_kind tree) → levels_by k below ≡ 1 + below
-levels_by_inner trees.Range k below is = ap (λ (k : Option RowKind). levels_by k below) is
-levels_by_inner trees.Alloc k below is = ap (λ (k : Option RowKind). levels_by k below) is
+levels_by_inner tree k below is = ap (λ (k : Option RowKind). levels_by k below) is ∙ levels_by_kind_inner (inner_kind tree) below (inner_no_leaf tree)
 
 -- ---- ranges
 

@@ -37,8 +37,8 @@ use Rattle.mt_splice.proofs.LevelEnds.{tree_width}
 use Rattle.mt_splice.proofs.RootEndings as roots
 use Rattle.mt_splice.proofs.Runs.{some_gathered, leaves_hold_an_entry, cut_whole}
 use Rattle.mt_splice.proofs.Steps.{progress_reads, width_now}
-use Rattle.mt_splice.proofs.Widens.{leaf_height}
 use Rattle.mt_rows.proofs.Loads.{same_tree}
+use Rattle.mt_rows.proofs.InnerKinds.{leaf_low}
 
 -- ---- rows that were only read, and the tree's words
 
@@ -105,7 +105,7 @@ module _ {b : Before} {start : Start} {s : Sheet} {book : Book} {inner : List Ne
     from_within = let order = wide.gathered.paths.order in let within = wide.gathered.paths.within in omega arith
 
     leaf_is : kind ≡ Leaf → may.height ≡ 0
-    leaf_is leaf = leaf_height start.tree.kind may.height (sym may.may.of_kind ∙ leaf)
+    leaf_is leaf = leaf_low start.tree.kind may.height (sym may.may.of_kind ∙ leaf)
 
     pub left_is_deep : depth < length left₁
     left_is_deep =

@@ -25,6 +25,7 @@ use Rattle.mt_rows.specs.Laws.{Tree, IsRow, EntryLaw, HoleLaw, kind_at, least_of
 use Rattle.mt_rows.specs.Sheet.{Rooted, Sheet}
 use Rattle.mt_rows.specs.Publish.{is_reached}
 use Rattle.mt_rows.proofs.Frames.{same_spans}
+use Rattle.mt_rows.proofs.InnerKinds.{leaf_low}
 use Rattle.mt_splice.specs.declared.writes.NewRow.{NewRow}
 use Rattle.mt_splice.specs.steps.Seen.{Seen}
 use Rattle.mt_splice.specs.steps.Work.{Start, Work, now, Keeps}
@@ -38,7 +39,6 @@ use Rattle.mt_splice.proofs.LevelRuns.{IsRun, some_items}
 use Rattle.mt_splice.proofs.WrittenRows.{IsNewRow, as_held, new_items, new_named, new_spans, new_unused}
 use Rattle.mt_splice.proofs.NewTold.{item_up, new_told}
 use Rattle.mt_splice.proofs.ToldRows.{told_later}
-use Rattle.mt_splice.proofs.Widens.{leaf_height}
 use Rattle.mt_splice.proofs.StepSeen.{was_seen, seen_here, seen_more}
 use Rattle.mt_splice.proofs.Steps.{table_now, with_taken, row_number, row_was_unused, progress_taken, keeps_taken}
 
@@ -260,5 +260,5 @@ items_rise {lo = lo} {items = items} asked = fills_rise lo asked.hi items asked.
 
 pub leaf_has_entry : {b : Before} {start : Start} {s : Sheet} {book : Book} {kind : RowKind} {lo : ℕ} {items : List Item} {inner : List NewRow} → MayAddRow b start s book kind lo items inner → kind ≡ Leaf → Any (λ (x : Item). x.word ≢ 0) items
 leaf_has_entry {start = start} {lo = lo} {items = items} asked leaf =
-    let low = leaf_height start.tree.kind asked.height (sym asked.may.of_kind ∙ leaf) in
+    let low = leaf_low start.tree.kind asked.height (sym asked.may.of_kind ∙ leaf) in
     some_entry lo items (asked.may.run.leaves low).some

@@ -3,7 +3,6 @@ use Rattle.std.proofs.Common.{◌≡◌, ◌⊎◌, ℕ, zero, suc, ◌+◌, ◌
 use Rattle.std.specs.Prelude.{◌↔◌}
 use Rattle.std.proofs.lemmas.Bool.{ltb-true, ltb-false, cases_lt, cases_Bool}
 use Rattle.mt_base.specs.declared.kinds.Kind.{Kind}
-use Rattle.mt_base.specs.declared.kinds.Kind.TheVariants as trees
 use Rattle.mt_base.specs.declared.widths.Width.{Width}
 use Rattle.mt_base.specs.Width.{greatest, first_row}
 use Rattle.mt_layout.specs.declared.items.Item.{Item}
@@ -22,6 +21,7 @@ use Rattle.mt_rows.specs.Spans.{Table, spans_in}
 use Rattle.mt_rows.specs.Laws.{Tree, IsTree, IsRow, top_of, kind_at, covers_all, least_of}
 use Rattle.mt_rows.specs.Sheet.{Rooted}
 use Rattle.mt_rows.specs.Publish.{tree_as, IsTreeOf}
+use Rattle.mt_rows.proofs.InnerKinds.{leaf_low}
 use Rattle.mt_path.specs.declared.paths.PathStep.{PathStep}
 use Rattle.mt_path.specs.Paths.{step_at, path_in}
 use Rattle.mt_path.proofs.Places.{at_within}
@@ -356,11 +356,6 @@ is_leaf Leaf items holed = refl
 is_leaf Inner items holed = absurd (cc)
 is_leaf Gapped items holed = absurd (cc)
 
-pub leaf_height : (tree : Kind) (height : ℕ) → kind_at tree height ≡ Leaf → height ≡ 0
-leaf_height tree zero is = refl
-leaf_height trees.Range (suc height) is = absurd (cc)
-leaf_height trees.Alloc (suc height) is = absurd (cc)
-
 not_holed : (start : Start) (kind : RowKind) (height : ℕ) (items : List Item) → kind ≡ kind_at start.tree.kind height → height ≡ 0 → holed_run kind items ≡ false → ends_with_hole (spans_from 0 items) ≡ false
 not_holed start kind height items of_kind leaf no_hole =
     let is : kind ≡ Leaf = of_kind ∙ ap (kind_at start.tree.kind) leaf in
@@ -399,7 +394,7 @@ module _ {start : Start} {w : Work} {t : Rooted} {kind : RowKind} {left right : 
   few_if_wanted wanting more =
       ⊎_elim few_if_short
       (λ (holed : holed_run kind items ≡ true).
-      let leaf = leaf_height start.tree.kind height (sym may.of_kind ∙ is_leaf kind items holed) in
+      let leaf = leaf_low start.tree.kind height (sym may.of_kind ∙ is_leaf kind items holed) in
       ⊎_elim (λ (few : length items ≤ slots_of start.tree.table.width Leaf + 2). subst (λ (h : ℕ). length items ≤ most_beside start.tree.table.width (kind_at start.tree.kind h)) (sym leaf) few)
       (λ (full : EndsFull (spans_from (begin_of left depth) items)).
       let no_hole = no_hole_ends (spans_from (begin_of left depth) items) full in
