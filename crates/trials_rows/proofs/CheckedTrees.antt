@@ -1,9 +1,8 @@
--- A tree that was checked may be copied: the tests ask for no other proof of it.
-use Rattle.std.proofs.Common.{◌≡◌, ℕ, List, [], ◌∷◌, length, sym, ap, ◌∙◌, subst}
+-- A tree that was checked keeps the laws and has the form that was told: the tests ask for no other proof of it.
+use Rattle.std.proofs.Common.{◌≡◌, ℕ, List, [], ◌∷◌, sym, ap, ◌∙◌, subst}
 use Rattle.std.specs.Prelude.{Ok}
 use Rattle.mt_base.specs.declared.kinds.Kind.{Kind}
 use Rattle.mt_rows.specs.declared.rows.Place.TheVariants.{Root}
-use Rattle.mt_rows.specs.Trees.{reached_in}
 use Rattle.mt_rows.specs.Sheet.{Rooted, Sheet, OnlyReads}
 use Rattle.mt_rows.specs.Publish.{tree_as, with_published, IsLawfulOf}
 use Rattle.mt_check.specs.declared.faults.Fault.{Fault}
@@ -18,9 +17,8 @@ module _ (s s' : Sheet) (root : ℕ) (kind : Kind) (reads : OnlyReads s s') (roo
   pub lawful_as_checked : IsLawfulOf (with_published s.tree Root root) kind → IsLawfulOf s'.tree kind
   lawful_as_checked lawful = subst (λ (t : Rooted). IsLawfulOf t kind) tree_is lawful
 
-  pub rows_as_checked : (form : Form) → Ok form ≡ checked (tree_as kind (with_published s.tree Root root)) → form.rows ≡ length (reached_in s'.tree.table s'.tree.root)
-  rows_as_checked form answer =
-      ap (λ (f : Form). f.rows) (by (faults_in (tree_as kind (with_published s.tree Root root))) answer) ∙ ap (λ (t : Rooted). length (reached_in t.table t.root)) tree_is
+  pub form_as_checked : (form : Form) → Ok form ≡ checked (tree_as kind (with_published s.tree Root root)) → form ≡ form_of (tree_as kind s'.tree)
+  form_as_checked form answer = by (faults_in (tree_as kind (with_published s.tree Root root))) answer ∙ ap (λ (t : Rooted). form_of (tree_as kind t)) tree_is
     where
       by : (faults : List Fault) → Ok form ≡ first_or faults (form_of (tree_as kind (with_published s.tree Root root))) → form ≡ form_of (tree_as kind (with_published s.tree Root root))
       by [] is = cc

@@ -3,3 +3,4 @@ pub mod PlainExamples
 pub mod PlainHoles
 pub mod PlainWrites
 pub mod TestTrees
+pub mod TwoLeaves

@@ -1,22 +1,19 @@
 -- Small trees in memory: rows drafted column by column, trees that may be planted, and stores that may be published.
-use Rattle.std.proofs.Common.{◌≡◌, ℕ, zero, suc, ◌+◌, ◌<◌, List, [], ◌∷◌, ◌++◌, Bool, true, length, take, drop, refl, sym, ap, ◌∙◌, subst, inl, inr, arith, get_or-set_same}
+use Rattle.std.proofs.Common.{◌≡◌, ℕ, zero, suc, ◌+◌, ◌<◌, List, [], ◌∷◌, ◌++◌, Bool, true, length, refl, sym, ap, ◌∙◌, subst, inl, inr, arith, get_or-set_same}
 use Rattle.std.specs.Prelude.{replicate, slice_index, slice_index_or, slice_set, if◌then◌else◌}
 use Rattle.std.specs.List.{fold, range_with_len}
 use Rattle.std.proofs.lemmas.Bool.{cases_lt}
-use Rattle.std.proofs.lemmas.List.{get_or_past, length-set, get_or-take, get_or-drop}
+use Rattle.std.proofs.lemmas.List.{get_or_past, length-set}
 use Rattle.std.proofs.lemmas.List.Sums.{fold_push}
 use Rattle.mt_base.specs.declared.widths.Width.TheVariants.{Long}
 use Rattle.mt_base.specs.declared.kinds.Kind.{Kind}
 use Rattle.mt_base.specs.declared.kinds.Kind.TheVariants.{Alloc}
 use Rattle.mt_base.specs.Width.{columns}
-use Rattle.mt_layout.specs.declared.names.RowKind.TheVariants.{Leaf, Gapped}
-use Rattle.mt_layout.specs.declared.spans.Span.{Span}
-use Rattle.mt_rows.specs.Spans.{root_span}
-use Rattle.mt_rows.specs.Laws as laws
-use Rattle.mt_rows.specs.Publish.{MayPlant, Planted, is_reached}
+use Rattle.mt_rows.specs.Publish.{MayPlant, Planted, IsTreeOf, is_reached}
 use Rattle.mt_rows.specs.Plain.{new_sheet}
 use Rattle.mt_rows.specs.declared.rows.Life.{Life}
 use Rattle.mt_rows.specs.declared.rows.Life.TheVariants as lives
+use Rattle.trials_rows.proofs.TwoLeaves.{inner, left, right, eleven, longest, stands, eleven_lawful}
 use Rattle.mt_rows.specs.Sheet.{Sheet, IsPlace, IsFree, MayBury, life_of, loaded, begun, drafted}
 
 -- ---- rows drafted column by column
@@ -51,109 +48,33 @@ free_draft cleared ls row = elim (cases_lt row (length ls)) [
 pub free_stays : (s s' : Sheet) (row n word : ℕ) → s' ≡ drafted s row n word → IsFree s'.cleared (life_of s'.lives row)
 free_stays s s' row n word is = subst (λ (s : Sheet). IsFree s.cleared (life_of s.lives row)) (sym is) (free_draft s.cleared s.lives row)
 
--- ---- an allocation tree of two leaves
-
-abbrev inner : List ℕ
-inner = 1 ∷ 11 ∷ 18446744073709551615 ∷ 0 ∷ 0 ∷ 0 ∷ 0 ∷ 0 ∷ 0 ∷ 0 ∷ 4364 ∷ 4620 ∷ 0 ∷ 0 ∷ 0 ∷ 0 ∷ 0 ∷ 0 ∷ 0 ∷ 0 ∷ 0 ∷ 18446744073709551599 ∷ 0 ∷ 0 ∷ 0 ∷ 0 ∷ 0 ∷ 0 ∷ 0 ∷ 0 ∷ 0 ∷ 0 ∷ []
-
-abbrev left : List ℕ
-left = 4096 ∷ 0 ∷ 1 ∷ 2 ∷ 3 ∷ 4 ∷ 11 ∷ 0 ∷ 0 ∷ 0 ∷ 0 ∷ 0 ∷ 0 ∷ 0 ∷ 0 ∷ 0 ∷ 4096 ∷ 4096 ∷ 4096 ∷ 4096 ∷ 4096 ∷ 4096 ∷ 0 ∷ 0 ∷ 0 ∷ 0 ∷ 0 ∷ 0 ∷ 0 ∷ 0 ∷ 0 ∷ 0 ∷ []
-
-abbrev right : List ℕ
-right = 4097 ∷ 12 ∷ 13 ∷ 14 ∷ 15 ∷ 16 ∷ 18446744073709551615 ∷ 0 ∷ 0 ∷ 0 ∷ 0 ∷ 0 ∷ 0 ∷ 0 ∷ 0 ∷ 0 ∷ 4096 ∷ 4096 ∷ 4096 ∷ 4096 ∷ 4096 ∷ 0 ∷ 0 ∷ 0 ∷ 0 ∷ 0 ∷ 0 ∷ 0 ∷ 0 ∷ 0 ∷ 0 ∷ 0 ∷ []
-
-abbrev two_leaves : List ℕ
-two_leaves = replicate 512 0 ++ (inner ++ (left ++ right))
+-- ---- the tree of two leaves
 
 abbrev pub drafted_leaves : Sheet
-drafted_leaves = with_columns (with_columns (with_columns (new_sheet 3) 16 inner 32) 17 left 32) 18 right 32
+drafted_leaves = with_columns (with_columns (with_columns (new_sheet 3) 16 (inner 0 longest) 32) 17 left 32) 18 right 32
 
 abbrev ready_to_plant : Sheet
-ready_to_plant = record (new_sheet 3) { tree = record { rows = 3; table = record { width = Long; words = two_leaves }; root = 0 }; lives = replicate 16 lives.New ++ (lives.Draft ∷ lives.Draft ∷ lives.Draft ∷ []) }
+ready_to_plant = record (new_sheet 3) { tree = record { rows = 3; table = record { width = Long; words = replicate 512 0 ++ eleven 0 longest }; root = 0 }; lives = replicate 16 lives.New ++ (lives.Draft ∷ lives.Draft ∷ lives.Draft ∷ []) }
 
 pub is_ready : drafted_leaves ≡ ready_to_plant
 is_ready = refl
 
-pub column_in : (w : List ℕ) (base n : ℕ) (row : List ℕ) → take n (drop base w) ≡ row → (c : ℕ) → c < n → slice_index w (base + c) ≡ slice_index row c
-column_in w base n row is c within = sym (get_or-drop base w c 0) ∙ (sym (get_or-take n (drop base w) c 0 within) ∙ ap (λ (l : List ℕ). slice_index l c) is)
-
-abbrev tree : laws.Tree
-tree = record { rows = 3; kind = Alloc; table = record { width = Long; words = two_leaves }; root = 4124 }
-
-abbrev root : Span
-root = root_span tree.table 4124
-
-abbrev left_leaf : Span
-left_leaf = record { first = 0; last = 11; word = 4364 }
-
-abbrev right_leaf : Span
-right_leaf = record { first = 12; last = 18446744073709551615; word = 4620 }
-
-root_law : laws.IsRow tree 1 root
-root_law = record {
-  name = record { named = refl; in_table = omega arith };
-  pivots = record { fills = (refl, omega arith, (refl, omega arith, refl)); unused = column_in two_leaves 512 32 (laws.words_in tree.table Gapped root) refl };
-  count = record { least = omega arith };
-  entries = tt;
-  holes = tt;
-}
-
-abbrev entry : ℕ
-entry = 4096
-
-not_hole : {P : Type 0} → entry ≡ 0 → P
-not_hole hole = absurd (omega arith)
-
-left_law : laws.IsRow tree 0 left_leaf
-left_law = record {
-  name = record { named = refl; in_table = omega arith };
-  pivots = record {
-    fills = (refl, omega arith, (refl, omega arith, (refl, omega arith, (refl, omega arith, (refl, omega arith, (refl, omega arith, refl))))));
-    unused = column_in two_leaves 544 32 (laws.words_in tree.table Leaf left_leaf) refl;
-  };
-  count = record { least = omega arith };
-  entries = (refl, (refl, (refl, (refl, (refl, (refl, tt))))));
-  holes = record {
-    apart = (not_hole, (not_hole, (not_hole, (not_hole, (not_hole, (not_hole, tt))))));
-    ends = λ low hole. absurd (omega arith);
-    some = λ none. absurd (cc);
-  };
-}
-
-right_law : laws.IsRow tree 0 right_leaf
-right_law = record {
-  name = record { named = refl; in_table = omega arith };
-  pivots = record {
-    fills = (refl, omega arith, (refl, omega arith, (refl, omega arith, (refl, omega arith, (refl, omega arith, (refl, omega arith, refl))))));
-    unused = column_in two_leaves 576 32 (laws.words_in tree.table Leaf right_leaf) refl;
-  };
-  count = record { least = omega arith };
-  entries = (refl, (refl, (refl, (refl, (refl, (refl, tt))))));
-  holes = record {
-    apart = (not_hole, (not_hole, (not_hole, (not_hole, (not_hole, ((λ hole. tt), tt))))));
-    ends = λ low. absurd (omega arith);
-    some = λ none. absurd (cc);
-  };
-}
-
-lawful : laws.IsLawful tree
-lawful = inr (
-  1,
-  record { low = omega arith; rows = ((root_law, tt), (left_law, (right_law, tt))) },
-  refl,
-  ((record { parent = (refl, (refl, tt)); gaps = (refl, (refl, tt)) }, tt), (record { parent = tt; gaps = tt }, (record { parent = tt; gaps = tt }, tt))),
-)
-
 may_plant : MayPlant Alloc ready_to_plant 4124
-may_plant = record { idle = refl; first = refl; empty = refl; told = tt; lawful = record { width = refl; words = lawful } }
+may_plant = record { idle = refl; first = refl; empty = refl; told = tt; lawful = eleven_lawful }
 
 -- three rows drafted one after the other may be planted
-module _ (s s₁ s₂ s₃ : Sheet) (new : s ≡ new_sheet 3) (first : s₁ ≡ with_columns s 16 inner 32) (second : s₂ ≡ with_columns s₁ 17 left 32) (third : s₃ ≡ with_columns s₂ 18 right 32) where
+module _ (s s₁ s₂ s₃ : Sheet) (new : s ≡ new_sheet 3) (first : s₁ ≡ with_columns s 16 (inner 0 longest) 32) (second : s₂ ≡ with_columns s₁ 17 left 32) (third : s₃ ≡ with_columns s₂ 18 right 32) where
   leaves_are : s₃ ≡ ready_to_plant
-  leaves_are = third ∙ (ap (λ (s : Sheet). with_columns s 18 right 32) (second ∙ ap (λ (s : Sheet). with_columns s 17 left 32) (first ∙ ap (λ (s : Sheet). with_columns s 16 inner 32) new)) ∙ is_ready)
+  leaves_are = third ∙ (ap (λ (s : Sheet). with_columns s 18 right 32) (second ∙ ap (λ (s : Sheet). with_columns s 17 left 32) (first ∙ ap (λ (s : Sheet). with_columns s 16 (inner 0 longest) 32) new)) ∙ is_ready)
 
   pub leaves_may_plant : (kind : Kind) × MayPlant kind s₃ 4124
   leaves_may_plant = (Alloc, subst (λ (s : Sheet). MayPlant Alloc s 4124) (sym leaves_are) may_plant)
+
+  -- planted they are a tree
+  pub leaves_are_tree : (s₄ : Sheet) → Planted s₃ s₄ 4124 → IsTreeOf s₄.tree Alloc
+  leaves_are_tree s₄ planted =
+      let done : Planted ready_to_plant s₄ 4124 = subst (λ (s : Sheet). Planted s s₄ 4124) leaves_are planted in
+      subst (λ (s : Sheet). IsTreeOf s.tree Alloc) (sym done.rest) (record { width = refl; words = inr (1, stands 0 longest) })
 
   -- and a leaf may be buried then by the first call
   pub leaf_may_be_buried : (s₄ s₅ s₆ : Sheet) → Planted s₃ s₄ 4124 → s₅ ≡ loaded s₄ → s₆ ≡ begun s₅ → MayBury s₆ 17

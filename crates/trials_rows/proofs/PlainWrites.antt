@@ -29,7 +29,8 @@ use Rattle.mt_rows.specs.Sheet.{Sheet, Rooted, IsWhole, IsPlace, IsFree, MayBury
 use Rattle.mt_rows.specs.Publish.{tree_as, LiveAreReached, IsReached, is_reached, StandsAt, IsKnown, Changes, MayPublish, Published, finished, with_published, with_record, life_after}
 use Rattle.mt_rows.specs.Plain.{new_sheet}
 use Rattle.mt_rows.proofs.ExactStore as exact
-use Rattle.trials_rows.proofs.PlainExamples.{with_columns, column_in}
+use Rattle.trials_rows.proofs.PlainExamples.{with_columns}
+use Rattle.trials_rows.proofs.TwoLeaves.{column_in}
 
 -- ---- the words of two rows
 

@@ -1,212 +1,24 @@
--- The trees of the tests keep the laws, one of them with any gap words in its root.
-use Rattle.std.proofs.Common.{◌≡◌, ℕ, zero, suc, ◌+◌, ◌-◌, ◌<◌, ◌≤◌, List, [], ◌∷◌, ◌++◌, Bool, true, false, refl, sym, ap, ◌∙◌, subst, inl, inr, arith}
+-- Any gap words may be tended in the root of the tree of two leaves, and be mended from there.
+use Rattle.std.proofs.Common.{◌≡◌, ℕ, zero, suc, ◌+◌, ◌<◌, ◌≤◌, List, Bool, true, false, refl, sym, ap, ◌∙◌, subst, inl, inr, arith}
 use Rattle.std.specs.Prelude.{replicate, if◌then◌else◌}
 use Rattle.std.specs.List.{AllByRecursion}
 use Rattle.std.proofs.lemmas.Bool.{cases_Bool}
 use Rattle.mt_base.specs.declared.kinds.Kind.TheVariants as trees
 use Rattle.mt_base.specs.declared.widths.Width.TheVariants.{Long}
 use Rattle.mt_base.specs.Width.{greatest, first_row}
-use Rattle.mt_layout.specs.declared.names.RowKind.TheVariants.{Leaf, Gapped}
-use Rattle.mt_layout.specs.declared.spans.Span.{Span}
 use Rattle.mt_path.specs.declared.paths.PathStep.{PathStep}
 use Rattle.mt_path.specs.Paths.{path_in}
 use Rattle.mt_rows.specs.Laws as laws
-use Rattle.mt_rows.specs.OfWords.{IsMadeOf, tree_made}
+use Rattle.mt_rows.specs.OfWords.{IsMadeOf}
 use Rattle.mt_rows.specs.Publish.{IsLawfulOf, IsTreeOf, LiveAreReached, NoneBuried, tree_as, is_reached}
 use Rattle.mt_rows.specs.Sheet.{Rooted, Sheet, IsPlace, IsGapOf, MayTend, OnlyReads, life_of, is_buried, tended, with_word}
-use Rattle.mt_rows.specs.Trees.{height_in}
 use Rattle.mt_rows.specs.Gaps.{covers}
-use Rattle.mt_rows.specs.Spans.{root_span}
 use Rattle.mt_rows.specs.declared.rows.Life.{Life}
 use Rattle.mt_rows.specs.declared.rows.Life.TheVariants.{Live, New}
-use Rattle.trials_rows.proofs.PlainExamples.{column_in}
+use Rattle.trials_rows.proofs.TwoLeaves.{top, longest, eleven, rooted, tree, root, stands, eleven_lawful}
 use Rattle.mt_gap.specs.Mending.{HasGapsBeside, IsKept, MayMendGaps}
 use Rattle.mt_rows.proofs.RowGaps.{covers_it}
 use Rattle.mt_gap.proofs.MendGaps.{kept_if_live}
-
-abbrev top : ℕ
-top = 18446744073709551615
-
-abbrev longest : ℕ
-longest = 18446744073709551599
-
--- ---- the leaves of eleven ranges below a root with these gap words
-
-abbrev pub eleven : ℕ → ℕ → List ℕ
-eleven a b =
-    1
-    ∷ (11 ∷ top ∷ 0 ∷ 0 ∷ 0 ∷ 0 ∷ 0 ∷ 0 ∷ 0
-    ∷ (4364 ∷ 4620 ∷ 0 ∷ 0 ∷ 0 ∷ 0 ∷ 0 ∷ 0 ∷ 0 ∷ 0
-    ∷ (a ∷ b ∷ 0 ∷ 0 ∷ 0 ∷ 0 ∷ 0 ∷ 0 ∷ 0 ∷ 0
-    ∷ (0 ∷ 0
-    ∷ (4096
-    ∷ (0 ∷ 1 ∷ 2 ∷ 3 ∷ 4 ∷ 11 ∷ 0 ∷ 0 ∷ 0 ∷ 0 ∷ 0 ∷ 0 ∷ 0 ∷ 0 ∷ 0
-    ∷ (4096 ∷ 4096 ∷ 4096 ∷ 4096 ∷ 4096 ∷ 4096 ∷ 0 ∷ 0 ∷ 0 ∷ 0 ∷ 0 ∷ 0 ∷ 0 ∷ 0 ∷ 0 ∷ 0
-    ∷ (4097
-    ∷ (12 ∷ 13 ∷ 14 ∷ 15 ∷ 16 ∷ top ∷ 0 ∷ 0 ∷ 0 ∷ 0 ∷ 0 ∷ 0 ∷ 0 ∷ 0 ∷ 0
-    ∷ (4096 ∷ 4096 ∷ 4096 ∷ 4096 ∷ 4096 ∷ 0 ∷ 0 ∷ 0 ∷ 0 ∷ 0 ∷ 0 ∷ 0 ∷ 0 ∷ 0 ∷ 0 ∷ 0 ∷ []))))))))))
-
-abbrev pub rooted : List ℕ → Rooted
-rooted words = record { rows = 3; table = record { width = Long; words = replicate 512 0 ++ words }; root = 4124 }
-
-abbrev left_leaf : Span
-left_leaf = record { first = 0; last = 11; word = 4364 }
-
-abbrev right_leaf : Span
-right_leaf = record { first = 12; last = top; word = 4620 }
-
-abbrev entry : ℕ
-entry = 4096
-
-not_hole : {P : Type 0} → entry ≡ 0 → P
-not_hole hole = absurd (omega arith)
-
-module _ (a b : ℕ) where
-  abbrev tree : laws.Tree
-  tree = tree_as trees.Alloc (rooted (eleven a b))
-
-  abbrev root : Span
-  root = root_span tree.table 4124
-
-  root_law : laws.IsRow tree 1 root
-  root_law = record {
-    name = record { named = refl; in_table = omega arith };
-    pivots = record { fills = (refl, omega arith, (refl, omega arith, refl)); unused = column_in tree.table.words 512 32 (laws.words_in tree.table Gapped root) refl };
-    count = record { least = omega arith };
-    entries = tt;
-    holes = tt;
-  }
-
-  left_law : laws.IsRow tree 0 left_leaf
-  left_law = record {
-    name = record { named = refl; in_table = omega arith };
-    pivots = record {
-      fills = (refl, omega arith, (refl, omega arith, (refl, omega arith, (refl, omega arith, (refl, omega arith, (refl, omega arith, refl))))));
-      unused = column_in tree.table.words 544 32 (laws.words_in tree.table Leaf left_leaf) refl;
-    };
-    count = record { least = omega arith };
-    entries = (refl, (refl, (refl, (refl, (refl, (refl, tt))))));
-    holes = record {
-      apart = (not_hole, (not_hole, (not_hole, (not_hole, (not_hole, (not_hole, tt))))));
-      ends = λ low hole. absurd (omega arith);
-      some = λ none. absurd (cc);
-    };
-  }
-
-  right_law : laws.IsRow tree 0 right_leaf
-  right_law = record {
-    name = record { named = refl; in_table = omega arith };
-    pivots = record {
-      fills = (refl, omega arith, (refl, omega arith, (refl, omega arith, (refl, omega arith, (refl, omega arith, (refl, omega arith, refl))))));
-      unused = column_in tree.table.words 576 32 (laws.words_in tree.table Leaf right_leaf) refl;
-    };
-    count = record { least = omega arith };
-    entries = (refl, (refl, (refl, (refl, (refl, (refl, tt))))));
-    holes = record {
-      apart = (not_hole, (not_hole, (not_hole, (not_hole, (not_hole, ((λ hole. tt), tt))))));
-      ends = λ low. absurd (omega arith);
-      some = λ none. absurd (cc);
-    };
-  }
-
-  pub stands : laws.Stands tree 1
-  stands = record { low = omega arith; rows = ((root_law, tt), (left_law, (right_law, tt))) }
-
-pub eleven_lawful : IsLawfulOf (rooted (eleven 0 longest)) trees.Alloc
-eleven_lawful = record {
-  width = refl;
-  words = inr (
-    1,
-    stands 0 longest,
-    refl,
-    ((record { parent = (refl, (refl, tt)); gaps = (refl, (refl, tt)) }, tt), (record { parent = tt; gaps = tt }, (record { parent = tt; gaps = tt }, tt))),
-  );
-}
-
--- ---- leaves with seven holes
-
-abbrev pub holes : List ℕ
-holes =
-    1
-    ∷ (11 ∷ top ∷ 0 ∷ 0 ∷ 0 ∷ 0 ∷ 0 ∷ 0 ∷ 0
-    ∷ (4364 ∷ 4620 ∷ 0 ∷ 0 ∷ 0 ∷ 0 ∷ 0 ∷ 0 ∷ 0 ∷ 0
-    ∷ (3 ∷ 4 ∷ 0 ∷ 0 ∷ 0 ∷ 0 ∷ 0 ∷ 0 ∷ 0 ∷ 0
-    ∷ (0 ∷ 0
-    ∷ (4096
-    ∷ (1 ∷ 2 ∷ 5 ∷ 6 ∷ 8 ∷ 11 ∷ 0 ∷ 0 ∷ 0 ∷ 0 ∷ 0 ∷ 0 ∷ 0 ∷ 0 ∷ 0
-    ∷ (0 ∷ 4096 ∷ 0 ∷ 4096 ∷ 0 ∷ 4096 ∷ 0 ∷ 0 ∷ 0 ∷ 0 ∷ 0 ∷ 0 ∷ 0 ∷ 0 ∷ 0 ∷ 0
-    ∷ (4097
-    ∷ (15 ∷ 16 ∷ 17 ∷ 18 ∷ 20 ∷ (top - 1) ∷ top ∷ 0 ∷ 0 ∷ 0 ∷ 0 ∷ 0 ∷ 0 ∷ 0 ∷ 0
-    ∷ (0 ∷ 4096 ∷ 0 ∷ 4096 ∷ 0 ∷ 4096 ∷ 0 ∷ 0 ∷ 0 ∷ 0 ∷ 0 ∷ 0 ∷ 0 ∷ 0 ∷ 0 ∷ 0 ∷ []))))))))))
-
-abbrev holed : laws.Tree
-holed = tree_as trees.Alloc (rooted holes)
-
-holed_root : laws.IsRow holed 1 (root_span holed.table 4124)
-holed_root = record {
-  name = record { named = refl; in_table = omega arith };
-  pivots = record { fills = (refl, omega arith, (refl, omega arith, refl)); unused = column_in holed.table.words 512 32 (laws.words_in holed.table Gapped (root_span holed.table 4124)) refl };
-  count = record { least = omega arith };
-  entries = tt;
-  holes = tt;
-}
-
-holed_left : laws.IsRow holed 0 left_leaf
-holed_left = record {
-  name = record { named = refl; in_table = omega arith };
-  pivots = record {
-    fills = (refl, omega arith, (refl, omega arith, (refl, omega arith, (refl, omega arith, (refl, omega arith, (refl, omega arith, refl))))));
-    unused = column_in holed.table.words 544 32 (laws.words_in holed.table Leaf left_leaf) refl;
-  };
-  count = record { least = omega arith };
-  entries = (refl, (refl, (refl, (refl, (refl, (refl, tt))))));
-  holes = record {
-    apart = ((λ hole. not_hole), (not_hole, ((λ hole. not_hole), (not_hole, ((λ hole. not_hole), (not_hole, tt))))));
-    ends = λ low hole. absurd (omega arith);
-    some = λ none. absurd (cc);
-  };
-}
-
-holed_right : laws.IsRow holed 0 right_leaf
-holed_right = record {
-  name = record { named = refl; in_table = omega arith };
-  pivots = record {
-    fills = (refl, omega arith, (refl, omega arith, (refl, omega arith, (refl, omega arith, (refl, omega arith, (refl, omega arith, (refl, omega arith, refl)))))));
-    unused = column_in holed.table.words 576 32 (laws.words_in holed.table Leaf right_leaf) refl;
-  };
-  count = record { least = omega arith };
-  entries = (refl, (refl, (refl, (refl, (refl, (refl, (refl, tt)))))));
-  holes = record {
-    apart = ((λ hole. not_hole), (not_hole, ((λ hole. not_hole), (not_hole, ((λ hole. not_hole), (not_hole, ((λ hole. tt), tt)))))));
-    ends = λ low. absurd (omega arith);
-    some = λ none. absurd (cc);
-  };
-}
-
-pub holed_lawful : IsLawfulOf (rooted holes) trees.Alloc
-holed_lawful = record {
-  width = refl;
-  words = inr (
-    1,
-    record { low = omega arith; rows = ((holed_root, tt), (holed_left, (holed_right, tt))) },
-    refl,
-    ((record { parent = (refl, (refl, tt)); gaps = (refl, (refl, tt)) }, tt), (record { parent = tt; gaps = tt }, (record { parent = tt; gaps = tt }, tt))),
-  );
-}
-
-pub lawful_made : (words : List ℕ) (s : Sheet) → tree_made Long 4124 words ≡ rooted words → IsLawfulOf (rooted words) trees.Alloc → IsMadeOf Long 4124 words s → IsLawfulOf s.tree trees.Alloc
-lawful_made words s same lawful made = subst (λ (r : Rooted). IsLawfulOf r trees.Alloc) (sym (ap (λ (v : Sheet). v.tree) made.rest ∙ same)) lawful
-
-pub low_made : (words : List ℕ) (s : Sheet) → tree_made Long 4124 words ≡ rooted words → height_in (rooted words).table 4124 ≤ 2 → IsMadeOf Long 4124 words s → height_in s.tree.table s.tree.root ≤ 2
-low_made words s same low made = subst (λ (r : Rooted). height_in r.table r.root ≤ 2) (sym (ap (λ (v : Sheet). v.tree) made.rest ∙ same)) low
-
-pub eleven_low : height_in (rooted (eleven 0 longest)).table 4124 ≤ 2
-eleven_low = omega arith
-
-pub holed_low : height_in (rooted holes).table 4124 ≤ 2
-holed_low = omega arith
-
--- ---- with any gap words
 
 gap_at : (a b slot : ℕ) → slot < 2 → IsGapOf (rooted (eleven a b)) 16 (20 + slot)
 gap_at a b slot low = record { depth = 0; at = root a b; slot = slot; reached = refl; gapped = refl; number = refl; used = low; column = refl }

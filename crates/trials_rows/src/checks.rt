@@ -1,15 +1,11 @@
 use crate::asserts::same;
+use crate::small_trees::{ELEVEN, LONGEST, TOP};
 use mt_base::{Kind, MOST_ROWS, NoMemory, Width};
 use mt_check::{Fault, Form, Law, check};
 use mt_rows::PlainRows;
 use std::alloc::Global;
 use std::process::Abort;
 use std::test::Fail;
-
-const TOP: u64 = u64::MAX;
-
-/// The hole behind the last entry of a tree whose entries end at the index 16.
-const LONGEST: u64 = 18_446_744_073_709_551_599;
 
 /// The range 10 to 19 with the entry 5 in a leaf, and an unused row.
 #[rattlefmt::skip]
@@ -31,25 +27,7 @@ const ONE_CHILD: [u64; 64] = [
     0, 0, 0, 0, 0, 0, 0, 0, 0, 0, 0, 0, 0, 0, 0, 0,
 ];
 
-/// An allocation tree of a root and two leaves: eleven ranges up to the index 16.
-#[rattlefmt::skip]
-const ELEVEN: [u64; 96] = [
-    1,
-    11, TOP, 0, 0, 0, 0, 0, 0, 0,
-    4364, 4620, 0, 0, 0, 0, 0, 0, 0, 0,
-    0, LONGEST, 0, 0, 0, 0, 0, 0, 0, 0,
-    0, 0,
-
-    4096,
-    0, 1, 2, 3, 4, 11, 0, 0, 0, 0, 0, 0, 0, 0, 0,
-    4096, 4096, 4096, 4096, 4096, 4096, 0, 0, 0, 0, 0, 0, 0, 0, 0, 0,
-
-    4097,
-    12, 13, 14, 15, 16, TOP, 0, 0, 0, 0, 0, 0, 0, 0, 0,
-    4096, 4096, 4096, 4096, 4096, 0, 0, 0, 0, 0, 0, 0, 0, 0, 0, 0,
-];
-
-/// The same, but that an inner row stands beside the first leaf, and leaves below it.
+/// The tree of eleven ranges, but that an inner row stands beside the first leaf, and leaves below it.
 #[rattlefmt::skip]
 const UNEVEN: [u64; 128] = [
     1,

@@ -2,7 +2,8 @@ ghost use Rattle.std.specs.Prelude.{◌≡◌, ◌%◌, ◌/◌, ◌<◌, ◌≤
 ghost use Rattle.mt_base.specs.Width.{most_rows};
 
 use crate::asserts::same;
-use mt_base::{FIRST_ROW, Kind, NoMemory, Steps, Width};
+use crate::small_trees::{LONGEST, TOP, checked_rows};
+use mt_base::{FIRST_ROW, Kind, NoMemory, Steps};
 use mt_check::check;
 use mt_dup::copy_rows;
 use mt_free::RowBook;
@@ -12,11 +13,6 @@ use std::marker::Brand;
 use std::process::Abort;
 use std::sync::ledger::{Blank, Ledger};
 use std::test::Fail;
-
-const TOP: u64 = u64::MAX;
-
-/// The hole behind the last entry of a tree whose entries end at the index 16.
-const LONGEST: u64 = 18_446_744_073_709_551_599;
 
 /// An allocation tree: the row 19 with the leaves 18 and 16; the row 17 is unused. Inner rows have a parent word, 9 pivots, 10
 /// slots and 10 gaps, and leaves a parent word, 15 pivots and 16 slots.
@@ -107,8 +103,7 @@ fn make_copy<L: Ledger>(
     requires room { rows ≤ most_rows }
 {
     let mut steps = Steps::<L>::new(blank);
-    let mut src = PlainRows::of_words(alloc, Width::Long, root, words)?;
-    let form = check(&mut src, root, kind)?;
+    let (mut src, form) = checked_rows(alloc, words, root, kind)?;
     if rows < form.rows {
         return Err(Fail::new("too few rows"));
     }

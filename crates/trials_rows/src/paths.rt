@@ -218,46 +218,43 @@ fn ways_in_an_empty_tree(rt: HostRuntime) -> Result<(), Fail> {
     Ok(())
 }
 
-/// The path to the row right of the one at this level of the path to an index, which is empty where no row is there.
-fn right_of(rt: &impl Abort, alloc: Global, index: u64, level: u32) -> Result<Path, NoMemory> {
+/// The path to the row left of the one at this level of the path to an index, or right of it. It is empty where no row is there.
+fn beside(
+    rt: &impl Abort,
+    alloc: Global,
+    index: u64,
+    level: u32,
+    is_left: bool,
+) -> Result<Path, NoMemory> {
     let (mut rows, path) = on_the_way(alloc, index)?;
     assert!(rt; (level as usize) < path.len());
-    match right_at(&mut rows, &path, level) {
-        Some(right) => Ok(right),
+    let found = if is_left {
+        left_at(&mut rows, &path, level)
+    } else {
+        right_at(&mut rows, &path, level)
+    };
+    match found {
+        Some(path) => Ok(path),
         None => Ok(Path::new()),
     }
 }
 
-/// The same of the row left of it.
-fn left_of(rt: &impl Abort, alloc: Global, index: u64, level: u32) -> Result<Path, NoMemory> {
-    let (mut rows, path) = on_the_way(alloc, index)?;
-    assert!(rt; (level as usize) < path.len());
-    match left_at(&mut rows, &path, level) {
-        Some(left) => Ok(left),
-        None => Ok(Path::new()),
-    }
-}
-
-/// The path to the row right of it, gone to in place.
-fn stepped_right(rt: &impl Abort, alloc: Global, index: u64, level: u32) -> Result<Path, NoMemory> {
+/// The same path, gone to in place.
+fn stepped(
+    rt: &impl Abort,
+    alloc: Global,
+    index: u64,
+    level: u32,
+    is_left: bool,
+) -> Result<Path, NoMemory> {
     let (mut rows, mut path) = on_the_way(alloc, index)?;
     assert!(rt; (level as usize) < path.len());
-    if step_right(&mut rows, &mut path, level) {
-        Ok(path)
+    let is_there = if is_left {
+        step_left(&mut rows, &mut path, level)
     } else {
-        Ok(Path::new())
-    }
-}
-
-/// The path to the row left of it, gone to in place.
-fn stepped_left(rt: &impl Abort, alloc: Global, index: u64, level: u32) -> Result<Path, NoMemory> {
-    let (mut rows, mut path) = on_the_way(alloc, index)?;
-    assert!(rt; (level as usize) < path.len());
-    if step_left(&mut rows, &mut path, level) {
-        Ok(path)
-    } else {
-        Ok(Path::new())
-    }
+        step_right(&mut rows, &mut path, level)
+    };
+    if is_there { Ok(path) } else { Ok(Path::new()) }
 }
 
 /// The paths to the rows left and right of the one at this level of the path to an index.
@@ -269,31 +266,13 @@ fn expect_beside(
     left: &[PathStep],
     right: &[PathStep],
 ) -> Result<(), NoMemory> {
-    let place = (index, level);
-    same(
-        rt,
-        left_of(rt, alloc, index, level)?.as_slice(),
-        left,
-        place,
-    );
-    same(
-        rt,
-        right_of(rt, alloc, index, level)?.as_slice(),
-        right,
-        place,
-    );
-    same(
-        rt,
-        stepped_left(rt, alloc, index, level)?.as_slice(),
-        left,
-        place,
-    );
-    same(
-        rt,
-        stepped_right(rt, alloc, index, level)?.as_slice(),
-        right,
-        place,
-    );
+    for (is_left, want) in [(true, left), (false, right)] {
+        let place = (index, level, is_left);
+        let found = beside(rt, alloc, index, level, is_left)?;
+        same(rt, found.as_slice(), want, place);
+        let path = stepped(rt, alloc, index, level, is_left)?;
+        same(rt, path.as_slice(), want, place);
+    }
     Ok(())
 }
 

@@ -1,7 +1,9 @@
 //! The definitions as a plain, slow program: what the ranges hold, become and answer, by going over all of them.
 
-ghost use Rattle.std.specs.Prelude.{◌≡◌, ◌+◌, ◌≤◌, ◌^◌, ◌&&◌, IfOk, IfSome, max, min, map, filter, nat_lt, nat_le};
-ghost use Rattle.mt_base.specs.Call.{acted, found, placed, answer};
+ghost use Rattle.std.specs.Prelude.{◌≡◌, ◌+◌, ◌≤◌, ◌^◌, ◌&&◌, if◌then◌else◌, IfOk, IfSome, max, min, map, filter, nat_lt, nat_le};
+ghost use Rattle.mt_base.specs.declared.calls.Call.TheVariants.{Insert};
+ghost use Rattle.mt_base.specs.declared.replies.Reply.TheVariants as reply;
+ghost use Rattle.mt_base.specs.Call.{acted, found, placed, answer, is_bad_area, is_no_area};
 ghost use Rattle.mt_base.specs.Holes.{holes, kept, low, high, lowest_in, highest_in};
 ghost use Rattle.mt_base.specs.Map.{over, holds, holding, overlaps, is_held, without, parts_below, parts_above, first_range, last_range};
 
@@ -166,36 +168,24 @@ fn highest_in(size: u64, parts: &[Hole]) -> Option<u64>
     Some(part.last.saturating_sub(size - 1))
 }
 
-/// The lowest start of `size` indexes that lie in one hole and from `lo` to `hi`.
-fn low(
+/// The lowest start of `size` indexes that lie in one hole and from `lo` to `hi`, or the highest.
+fn start(
     alloc: Global,
     kind: Kind,
     ranges: &[Range],
-    size: u64,
-    lo: u64,
-    hi: u64,
-) -> Result<Option<u64>, AllocError>
-    ensures start { IfOk result (λ start. start ≡ low kind ranges.now size lo hi) }
-    ensures fits { IfOk result (λ start. IfSome start (λ s. s + size ≤ 2 ^ 64)) }
-{
-    let parts = room(alloc, kind, ranges, size, lo, hi)?;
-    Ok(lowest_in(&parts))
-}
-
-/// The highest start.
-fn high(
-    alloc: Global,
-    kind: Kind,
-    ranges: &[Range],
+    is_lowest: bool,
     size: u64,
     lo: u64,
     hi: u64,
 ) -> Result<Option<u64>, AllocError>
     requires { 1 ≤ size }
-    ensures start { IfOk result (λ start. start ≡ high kind ranges.now size lo hi) }
+    ensures start { IfOk result (λ start. start ≡ (if is_lowest then low kind ranges.now size lo hi else high kind ranges.now size lo hi)) }
     ensures fits { IfOk result (λ start. IfSome start (λ s. s + size ≤ 2 ^ 64)) }
 {
     let parts = room(alloc, kind, ranges, size, lo, hi)?;
+    if is_lowest {
+        return Ok(lowest_in(&parts));
+    }
     Ok(highest_in(size, &parts))
 }
 
@@ -239,6 +229,63 @@ fn unchanged(
     Ok((Vec::from_slice(alloc, ranges)?, reply))
 }
 
+/// The ranges after an insertion, and the reply.
+fn inserted(
+    alloc: Global,
+    kind: Kind,
+    ranges: &[Range],
+    stored: Range,
+) -> Result<(Vec<Range>, Reply), AllocError>
+    ensures { IfOk result (λ after. (after.0.items, after.1) ≡ acted kind ranges.now (Insert stored.first stored.last stored.entry)) }
+{
+    if is_invalid(kind, stored.first, stored.last, stored.entry) || stored.entry == 0 {
+        return unchanged(alloc, ranges, Reply::Invalid);
+    }
+    if is_held(ranges, stored.first, stored.last) {
+        return unchanged(alloc, ranges, Reply::Exists);
+    }
+    Ok((over(alloc, ranges, stored)?, Reply::Ok))
+}
+
+/// The ranges after a store at the lowest start that has room, or the highest, and the reply.
+fn allotted(
+    alloc: Global,
+    kind: Kind,
+    ranges: &[Range],
+    is_lowest: bool,
+    size: u64,
+    min: u64,
+    max: u64,
+    entry: u64,
+) -> Result<(Vec<Range>, Reply), AllocError>
+    ensures { IfOk result (λ after. (after.0.items, after.1) ≡ (if is_bad_area kind size min max entry then (ranges.now, reply.Invalid) else placed ranges.now size entry (if is_lowest then low kind ranges.now size min max else high kind ranges.now size min max))) }
+{
+    if is_bad_area(kind, size, min, max, entry) {
+        return unchanged(alloc, ranges, Reply::Invalid);
+    }
+    let start = start(alloc, kind, ranges, is_lowest, size, min, max)?;
+    placed(alloc, ranges, size, entry, start)
+}
+
+/// The ranges as they were, and the lowest start that has room, or the highest.
+fn sought(
+    alloc: Global,
+    kind: Kind,
+    ranges: &[Range],
+    is_lowest: bool,
+    size: u64,
+    min: u64,
+    max: u64,
+) -> Result<(Vec<Range>, Reply), AllocError>
+    ensures { IfOk result (λ after. (after.0.items ≡ ranges.now) × (after.1 ≡ (if is_no_area kind size min max then reply.Invalid else found (if is_lowest then low kind ranges.now size min max else high kind ranges.now size min max)))) }
+{
+    if is_no_area(kind, size, min, max) {
+        return unchanged(alloc, ranges, Reply::Invalid);
+    }
+    let start = start(alloc, kind, ranges, is_lowest, size, min, max)?;
+    unchanged(alloc, ranges, found(start))
+}
+
 /// The ranges of a tree of this kind after a call, and its reply.
 pub fn acted(
     alloc: Global,
@@ -257,14 +304,7 @@ pub fn acted(
             Ok((after, Reply::Ok))
         }
         Call::Insert { first, last, entry } => {
-            if is_invalid(kind, first, last, entry) || entry == 0 {
-                return unchanged(alloc, ranges, Reply::Invalid);
-            }
-            if is_held(ranges, first, last) {
-                return unchanged(alloc, ranges, Reply::Exists);
-            }
-            let after = over(alloc, ranges, Range { first, last, entry })?;
-            Ok((after, Reply::Ok))
+            inserted(alloc, kind, ranges, Range { first, last, entry })
         }
         Call::Erase { index } => match holding(ranges, index) {
             Some(range) => Ok((without(alloc, ranges, index)?, Reply::Was(range.entry))),
@@ -275,39 +315,15 @@ pub fn acted(
             min,
             max,
             entry,
-        } => {
-            if is_bad_area(kind, size, min, max, entry) {
-                return unchanged(alloc, ranges, Reply::Invalid);
-            }
-            let start = low(alloc, kind, ranges, size, min, max)?;
-            placed(alloc, ranges, size, entry, start)
-        }
+        } => allotted(alloc, kind, ranges, true, size, min, max, entry),
         Call::Ralloc {
             size,
             min,
             max,
             entry,
-        } => {
-            if is_bad_area(kind, size, min, max, entry) {
-                return unchanged(alloc, ranges, Reply::Invalid);
-            }
-            let start = high(alloc, kind, ranges, size, min, max)?;
-            placed(alloc, ranges, size, entry, start)
-        }
-        Call::Gap { size, min, max } => {
-            if is_no_area(kind, size, min, max) {
-                return unchanged(alloc, ranges, Reply::Invalid);
-            }
-            let start = low(alloc, kind, ranges, size, min, max)?;
-            unchanged(alloc, ranges, found(start))
-        }
-        Call::Rgap { size, min, max } => {
-            if is_no_area(kind, size, min, max) {
-                return unchanged(alloc, ranges, Reply::Invalid);
-            }
-            let start = high(alloc, kind, ranges, size, min, max)?;
-            unchanged(alloc, ranges, found(start))
-        }
+        } => allotted(alloc, kind, ranges, false, size, min, max, entry),
+        Call::Gap { size, min, max } => sought(alloc, kind, ranges, true, size, min, max),
+        Call::Rgap { size, min, max } => sought(alloc, kind, ranges, false, size, min, max),
         Call::Clear => Ok((Vec::new(alloc), Reply::Ok)),
     }
 }

@@ -1,13 +1,12 @@
-ghost use Rattle.std.specs.Prelude.{◌≡◌, ◌+◌, ◌<◌, ◌≤◌, IfOk};
+ghost use Rattle.std.specs.Prelude.{◌≡◌, ◌+◌, ◌<◌, ◌≤◌};
 ghost use Rattle.mt_base.specs.declared.kinds.Kind.TheVariants as trees;
-ghost use Rattle.mt_base.specs.declared.widths.Width.TheVariants.{Long};
 ghost use Rattle.mt_rows.specs.Memory.{sheet_in};
-ghost use Rattle.mt_rows.specs.OfWords.{IsMadeOf};
 ghost use Rattle.mt_rows.specs.Publish.{IsLawfulOf};
 ghost use Rattle.mt_rows.specs.Trees.{height_in};
 
 use crate::asserts::same;
-use mt_base::{NoMemory, Steps, Width};
+use crate::small_trees::{ELEVEN, LONGEST, TOP, checked_rows};
+use mt_base::{Kind, NoMemory, Steps, Width};
 use mt_gap::{highest, lowest, mend_gaps};
 use mt_path::walk;
 use mt_rows::{PlainRows, Rows};
@@ -17,31 +16,7 @@ use std::process::Abort;
 use std::sync::ledger::{Blank, Ledger};
 use std::test::Fail;
 
-const TOP: u64 = u64::MAX;
-
-/// The hole behind the last entry of a tree whose entries end at the index 16.
-const LONGEST: u64 = 18_446_744_073_709_551_599;
-
-/// An allocation tree: the row 16 over the leaves 17 and 18, with eleven ranges up to the index 16. An inner row has a
-/// parent word, 9 pivots, 10 slots and 10 gaps; a leaf a parent word, 15 pivots and 16 slots.
-#[rattlefmt::skip]
-const ELEVEN: [u64; 96] = [
-    1,
-    11, TOP, 0, 0, 0, 0, 0, 0, 0,
-    4364, 4620, 0, 0, 0, 0, 0, 0, 0, 0,
-    0, LONGEST, 0, 0, 0, 0, 0, 0, 0, 0,
-    0, 0,
-
-    4096,
-    0, 1, 2, 3, 4, 11, 0, 0, 0, 0, 0, 0, 0, 0, 0,
-    4096, 4096, 4096, 4096, 4096, 4096, 0, 0, 0, 0, 0, 0, 0, 0, 0, 0,
-
-    4097,
-    12, 13, 14, 15, 16, TOP, 0, 0, 0, 0, 0, 0, 0, 0, 0,
-    4096, 4096, 4096, 4096, 4096, 0, 0, 0, 0, 0, 0, 0, 0, 0, 0, 0,
-];
-
-/// The same rows with seven holes: 0 to 1, 3 to 5, 7 to 8, 12 to 15, 17, 19 to 20, and the last index.
+/// An allocation tree of the same form with seven holes: 0 to 1, 3 to 5, 7 to 8, 12 to 15, 17, 19 to 20, and the last index.
 #[rattlefmt::skip]
 const HOLES: [u64; 96] = [
     1,
@@ -59,31 +34,13 @@ const HOLES: [u64; 96] = [
     0, 4096, 0, 4096, 0, 4096, 0, 0, 0, 0, 0, 0, 0, 0, 0, 0,
 ];
 
-fn eleven(alloc: Global) -> Result<PlainRows, NoMemory>
-    ensures made { IfOk result (λ rows. IsMadeOf Long 4124 ELEVEN (sheet_in rows)) }
-    ensures tree { IfOk result (λ rows. IsLawfulOf (sheet_in rows).tree trees.Alloc) }
-    ensures levels { IfOk result (λ rows. height_in (sheet_in rows).tree.table (sheet_in rows).tree.root ≤ 2) }
-{
-    PlainRows::of_words(alloc, Width::Long, 4124, &ELEVEN)
-}
+/// The empty tree, in rows of no use.
+const NONE: [u64; 96] = [0; 96];
 
-fn seven_holes(alloc: Global) -> Result<PlainRows, NoMemory>
-    ensures tree { IfOk result (λ rows. IsLawfulOf (sheet_in rows).tree trees.Alloc) }
-    ensures levels { IfOk result (λ rows. height_in (sheet_in rows).tree.table (sheet_in rows).tree.root ≤ 2) }
-{
-    PlainRows::of_words(alloc, Width::Long, 4124, &HOLES)
-}
-
-fn none(alloc: Global) -> Result<PlainRows, NoMemory>
-    ensures tree { IfOk result (λ rows. IsLawfulOf (sheet_in rows).tree trees.Alloc) }
-    ensures levels { IfOk result (λ rows. height_in (sheet_in rows).tree.table (sheet_in rows).tree.root ≤ 2) }
-{
-    PlainRows::new(alloc, 3)
-}
-
-/// The lowest place in a tree of two levels, in six steps at the most.
-fn low_place<L: Ledger>(
+/// The lowest place in a tree of two levels, or the highest, in six steps at the most.
+fn place<L: Ledger>(
     rows: &mut PlainRows,
+    is_lowest: bool,
     size: u64,
     lo: u64,
     hi: u64,
@@ -94,65 +51,31 @@ fn low_place<L: Ledger>(
     requires size { 1 ≤ size }
     ensures { steps.new ≤ steps.old + 6 }
 {
-    lowest(rows, size, lo, hi, steps)
+    if is_lowest {
+        lowest(rows, size, lo, hi, steps)
+    } else {
+        highest(rows, size, lo, hi, steps)
+    }
 }
 
-/// The highest place in a tree of two levels, in six steps at the most.
-fn high_place<L: Ledger>(
-    rows: &mut PlainRows,
-    size: u64,
-    lo: u64,
-    hi: u64,
-    steps: &mut Steps<L>,
-) -> Option<u64>
-    requires tree { IsLawfulOf (sheet_in rows.old).tree trees.Alloc }
-    requires levels { height_in (sheet_in rows.old).tree.table (sheet_in rows.old).tree.root ≤ 2 }
-    requires size { 1 ≤ size }
-    ensures { steps.new ≤ steps.old + 6 }
-{
-    highest(rows, size, lo, hi, steps)
-}
-
-/// The lowest and the highest place for so many indexes, each in rows of its own.
-fn places<L: Ledger>(
+/// The same, with steps of its own.
+fn placed<L: Ledger>(
     blank: Blank,
-    left: PlainRows,
-    right: PlainRows,
+    rows: PlainRows,
+    is_lowest: bool,
     size: u64,
     lo: u64,
     hi: u64,
-) -> (Option<u64>, Option<u64>)
+) -> Option<u64>
     requires name { blank.name ≡ L.name }
     requires parts { blank.parts ≡ L.parts }
     requires some { 0 < blank.parts }
-    requires left { IsLawfulOf (sheet_in left).tree trees.Alloc }
-    requires left_levels { height_in (sheet_in left).tree.table (sheet_in left).tree.root ≤ 2 }
-    requires right { IsLawfulOf (sheet_in right).tree trees.Alloc }
-    requires right_levels { height_in (sheet_in right).tree.table (sheet_in right).tree.root ≤ 2 }
+    requires tree { IsLawfulOf (sheet_in rows).tree trees.Alloc }
+    requires levels { height_in (sheet_in rows).tree.table (sheet_in rows).tree.root ≤ 2 }
     requires size { 1 ≤ size }
 {
-    let mut steps = Steps::<L>::new(blank);
-    let (mut left, mut right) = (left, right);
-    let low = low_place(&mut left, size, lo, hi, &mut steps);
-    (low, high_place(&mut right, size, lo, hi, &mut steps))
-}
-
-/// A tree that is made for a test.
-enum Tree {
-    Eleven,
-    SevenHoles,
-    Empty,
-}
-
-fn made(alloc: Global, tree: &Tree) -> Result<PlainRows, NoMemory>
-    ensures tree { IfOk result (λ rows. IsLawfulOf (sheet_in rows).tree trees.Alloc) }
-    ensures levels { IfOk result (λ rows. height_in (sheet_in rows).tree.table (sheet_in rows).tree.root ≤ 2) }
-{
-    match tree {
-        Tree::Eleven => eleven(alloc),
-        Tree::SevenHoles => seven_holes(alloc),
-        Tree::Empty => none(alloc),
-    }
+    let (mut rows, mut steps) = (rows, Steps::<L>::new(blank));
+    place(&mut rows, is_lowest, size, lo, hi, &mut steps)
 }
 
 /// A size, a window, and the lowest and the highest place that must be found there.
@@ -203,33 +126,36 @@ const IN_NONE: &[Window] = windows! {
     TOP, 0, TOP => Some(0), Some(1);
 };
 
-/// The places in these windows of a tree.
+/// The places in these windows of the tree of these words.
 fn expect_places(
     rt: &impl Abort,
     alloc: Global,
-    tree: &Tree,
+    words: &[u64; 96],
+    root: u64,
     windows: &[Window],
-) -> Result<(), NoMemory> {
-    for &((size, lo, hi), want) in windows {
+) -> Result<(), Fail> {
+    for &((size, lo, hi), (low, high)) in windows {
         assert!(rt; 1 <= size);
-        let (left, right) = (made(alloc, tree)?, made(alloc, tree)?);
-        let found = places::<Brand>(Blank::new(1), left, right, size, lo, hi);
-        same(rt, found, want, (size, lo, hi));
+        for (is_lowest, want) in [(true, low), (false, high)] {
+            let (rows, form) = checked_rows(alloc, words, root, Kind::Alloc)?;
+            assert!(rt; form.height <= 2);
+            let found = placed::<Brand>(Blank::new(1), rows, is_lowest, size, lo, hi);
+            same(rt, found, want, (size, lo, hi, is_lowest));
+        }
     }
     Ok(())
 }
 
 #[test]
 fn places_in_trees(rt: HostRuntime) -> Result<(), Fail> {
-    expect_places(&rt, rt.alloc(), &Tree::Eleven, IN_TWO_LEAVES)?;
-    expect_places(&rt, rt.alloc(), &Tree::SevenHoles, BETWEEN_ENTRIES)?;
-    expect_places(&rt, rt.alloc(), &Tree::Empty, IN_NONE)?;
-    Ok(())
+    expect_places(&rt, rt.alloc(), &ELEVEN, 4124, IN_TWO_LEAVES)?;
+    expect_places(&rt, rt.alloc(), &HOLES, 4124, BETWEEN_ENTRIES)?;
+    expect_places(&rt, rt.alloc(), &NONE, 0, IN_NONE)
 }
 
 /// The gap words of the root over two leaves, after these were tended there and all on the way to an index mended.
 fn mended(alloc: Global, left: u64, right: u64, index: u64) -> Result<(u64, u64), NoMemory> {
-    let mut rows = eleven(alloc)?;
+    let mut rows = PlainRows::of_words(alloc, Width::Long, 4124, &ELEVEN)?;
     rows.tend(16, 20, left);
     rows.tend(16, 21, right);
     let path = walk(&mut rows, index);

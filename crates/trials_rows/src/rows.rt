@@ -14,6 +14,12 @@ const NEXT: [u64; 32] = [
     8, 7, 0, 0, 0, 0, 0, 0, 0, 0, 0, 0, 0, 0, 0, 0,
 ];
 
+macro_rules! store {
+    ($first:literal, $last:literal, $entry:literal) => {
+        Call::Store { first: $first, last: $last, entry: $entry }
+    };
+}
+
 /// The words of a table whose first rows are these.
 fn table(alloc: Global, rows: &[[u64; 32]]) -> Result<Vec<u64>, NoMemory> {
     let mut words = vec![in alloc; 0; 512]?;
@@ -120,30 +126,18 @@ fn a_planted_tree(rt: HostRuntime) -> Result<(), Fail> {
 #[test]
 fn a_leaf_is_written_and_replaced(rt: HostRuntime) -> Result<(), Fail> {
     let mut rows = PlainRows::new(rt.alloc(), 2)?;
-    let first = Call::Store {
-        first: 10,
-        last: 19,
-        entry: 5,
-    };
+    let first = store!(10, 19, 5);
     same(&rt, rows.begin(), 1, "the first call");
     draft_row(&mut rows, 16, &LONE);
     rows.publish(Place::Root, 4108, &first, &Reply::Ok);
     rows.finish(&first, &Reply::Ok);
 
-    let exact = Call::Store {
-        first: 10,
-        last: 19,
-        entry: 7,
-    };
+    let exact = store!(10, 19, 7);
     same(&rt, rows.begin(), 2, "the second call");
     rows.publish(Place::Slot { row: 16, col: 17 }, 7, &exact, &Reply::Ok);
     rows.finish(&exact, &Reply::Ok);
 
-    let more = Call::Store {
-        first: 0,
-        last: 9,
-        entry: 8,
-    };
+    let more = store!(0, 9, 8);
     same(&rt, rows.begin(), 3, "the third call");
     draft_row(&mut rows, 17, &NEXT);
     rows.bury(16);

@@ -1,11 +1,18 @@
-//! The rows of a small tree for allocation, and a row in memory that is written by drafts.
+//! The rows of a small tree for allocation; rows in memory that are checked, and a row that is written by drafts.
 
-ghost use Rattle.std.specs.Prelude.{◌≡◌, slice_index};
+ghost use Rattle.std.specs.Prelude.{◌≡◌, ◌%◌, ◌/◌, ◌≤◌, IfOk, length, slice_index};
 ghost use Rattle.std.specs.List.{fold, range_with_len};
+ghost use Rattle.mt_base.specs.Width.{most_rows};
+ghost use Rattle.mt_check.specs.Check.{form_of};
 ghost use Rattle.mt_rows.specs.Memory.{sheet_in};
+ghost use Rattle.mt_rows.specs.Publish.{IsLawfulOf, tree_as};
 ghost use Rattle.mt_rows.specs.Sheet.{IsPlace, IsFree, life_of, drafted};
 
+use mt_base::{Kind, Width};
+use mt_check::{Form, check};
 use mt_rows::{PlainRows, Rows};
+use std::alloc::Global;
+use std::test::Fail;
 
 /// The last index.
 pub const TOP: u64 = u64::MAX;
@@ -45,6 +52,41 @@ pub const RIGHT: [u64; 32] = [
     12, 13, 14, 15, 16, TOP, 0, 0, 0, 0, 0, 0, 0, 0, 0,
     4096, 4096, 4096, 4096, 4096, 0, 0, 0, 0, 0, 0, 0, 0, 0, 0, 0,
 ];
+
+/// The allocation tree of these three: the row 16 over the leaves 17 and 18, with eleven ranges up to the index 16.
+#[rattlefmt::skip]
+pub const ELEVEN: [u64; 96] = [
+    1,
+    11, TOP, 0, 0, 0, 0, 0, 0, 0,
+    4364, 4620, 0, 0, 0, 0, 0, 0, 0, 0,
+    0, LONGEST, 0, 0, 0, 0, 0, 0, 0, 0,
+    0, 0,
+
+    4096,
+    0, 1, 2, 3, 4, 11, 0, 0, 0, 0, 0, 0, 0, 0, 0,
+    4096, 4096, 4096, 4096, 4096, 4096, 0, 0, 0, 0, 0, 0, 0, 0, 0, 0,
+
+    4097,
+    12, 13, 14, 15, 16, TOP, 0, 0, 0, 0, 0, 0, 0, 0, 0,
+    4096, 4096, 4096, 4096, 4096, 0, 0, 0, 0, 0, 0, 0, 0, 0, 0, 0,
+];
+
+/// The rows of these words, which are a lawful tree of this kind, and its form.
+pub fn checked_rows(
+    alloc: Global,
+    words: &[u64],
+    root: u64,
+    kind: Kind,
+) -> Result<(PlainRows, Form), Fail>
+    requires whole { length words.now % 32 ≡ 0 }
+    requires few { length words.now / 32 ≤ most_rows }
+    ensures lawful { IfOk result (λ r. IsLawfulOf (sheet_in r.0).tree kind) }
+    ensures form { IfOk result (λ r. r.1 ≡ form_of (tree_as kind (sheet_in r.0).tree)) }
+{
+    let mut rows = PlainRows::of_words(alloc, Width::Long, root, words)?;
+    let form = check(&mut rows, root, kind)?;
+    Ok((rows, form))
+}
 
 /// Drafts each column of a row.
 pub fn draft_row(rows: &mut PlainRows, row: u32, words: &[u64; 32])

@@ -1,5 +1,0 @@
-use Rattle.trials_rows.proofs.PlainHoles.{low_fits_word}
-use Rattle.trials_rows.proofs.plain.low.Goals as goal
-
-pub returns-clause-fits : goal.returns-clause-fits
-returns-clause-fits c = low_fits_word c.args.kind c.args.ranges.now c.args.size c.args.lo c.args.hi _ c.ranges.hi.fits (rw (c.deref.ensures.value, c.in_ok-parts.ensures) at c.lowest_in.ensures)
