@@ -55,8 +55,39 @@ fn step_once<L: Ledger>(tree: &Tree, pass: &mut Pass, steps: &mut Steps<L>)
     let _ = cursor.step(steps);
 }
 
-/// What is done while a cursor holds the rows: it is closed, or dropped, and then its pass reads; or an entry is changed in its
-/// place, and the tree is not ready for more, where the first of the two comes first or second.
+/// A cursor that is dropped and not closed holds the rows until its pass reads again.
+fn drop_the_cursor<R: Wait + Abort, L: Ledger>(
+    rt: &R,
+    tree: &Tree,
+    writer: &mut Pass,
+    reader: &mut Pass,
+    steps: &mut Steps<L>,
+)
+    requires { IsPassOf tree.now writer.old × IsPassOf tree.now reader.old }
+{
+    step_once(tree, reader, steps);
+    fill(rt, tree, writer);
+    let (lo, hi, value) = (6, 6, Some(5));
+    assert_eq!(rt; tree.load(reader, 10, steps), Read { lo, hi, value });
+    store(rt, tree, writer, 60, 7, Reply::Ok);
+}
+
+/// While the rows are held, an entry is changed in its place, and the tree is not ready for more: the first of the two comes
+/// first or second.
+fn change_the_entry<R: Wait + Abort>(rt: &R, tree: &Tree, writer: &mut Pass, store_first: bool)
+    requires { IsPassOf tree.now writer.old }
+{
+    if store_first {
+        store_range(rt, tree, writer, 10, 10, 7, 7);
+    }
+    assert_eq!(rt; prepared(rt, tree, writer), Err(held_by(1, 1)));
+    if !store_first {
+        store_range(rt, tree, writer, 10, 10, 7, 7);
+    }
+}
+
+/// What becomes of a cursor that holds the rows: it is closed, or dropped, or kept while an entry is changed, before the tree is
+/// asked for more or after that.
 #[derive(Clone, Copy, PartialEq)]
 enum Held {
     Closed,
@@ -82,11 +113,7 @@ fn hold<R: Wait + Abort, L: Ledger>(
     let mut steps = Steps::<L>::new(blank);
     store_range(rt, tree, writer, 10, 10, 5, 1);
     if held == Held::Dropped {
-        step_once(tree, reader, &mut steps);
-        fill(rt, tree, writer);
-        let (lo, hi, value) = (6, 6, Some(5));
-        assert_eq!(rt; tree.load(reader, 10, &mut steps), Read { lo, hi, value });
-        store(rt, tree, writer, 60, 7, Reply::Ok);
+        drop_the_cursor(rt, tree, writer, reader, &mut steps);
         return;
     }
     let mut cursor = tree.cursor(reader, 0, u64::MAX);
@@ -97,13 +124,7 @@ fn hold<R: Wait + Abort, L: Ledger>(
         store(rt, tree, writer, 60, 7, Reply::Ok);
         return;
     }
-    if held == Held::StoredFirst {
-        store_range(rt, tree, writer, 10, 10, 7, 7);
-    }
-    assert_eq!(rt; prepared(rt, tree, writer), Err(held_by(1, 1)));
-    if held == Held::StoredLast {
-        store_range(rt, tree, writer, 10, 10, 7, 7);
-    }
+    change_the_entry(rt, tree, writer, held == Held::StoredFirst);
     cursor.close(&mut steps);
 }
 
