@@ -1,9 +1,9 @@
 use Rattle.std.proofs.Common.{◌+◌, max, min, map, nat_le, refl, ap, ◌∙◌}
 use Rattle.std.proofs.lemmas.Result.{IfOk-weaker}
 use Rattle.mt_base.specs.Holes.{Hole, kept}
-use Rattle.trials_rows.specs.declared.plain.Hole.{Hole as PlainHole}
+use Rattle.trials_rows.specs.declared.plain.rooms.Hole.{Hole as PlainHole}
 use Rattle.trials_rows.proofs.PlainHoles.{kept_parts}
-use Rattle.trials_rows.proofs.plain.room.Goals as goal
+use Rattle.trials_rows.proofs.plain.rooms.room.Goals as goal
 
 pub returns : goal.returns
 returns c =
