@@ -1,7 +1,6 @@
 -- A scan of an empty tree that has no call finds nothing.
-use Rattle.std.proofs.Common.{◌≡◌, ℕ, zero, suc, ◌<◌, Bool, true, false, List, [], ◌∷◌, ◌++◌, Option, Some, None, arith, refl, sym}
+use Rattle.std.proofs.Common.{◌≡◌, ℕ, zero, suc, ◌<◌, Bool, true, false, List, [], ◌∷◌, ◌++◌, Option, Some, None, arith, refl}
 use Rattle.std.specs.Prelude.{if◌then◌else◌, nat_lt}
-use Rattle.std.proofs.lemmas.List.{append-nil}
 use Rattle.mt_base.specs.declared.kinds.Kind.{Kind}
 use Rattle.mt_base.specs.declared.ranges.Range.{Range}
 use Rattle.mt_base.specs.Call.{answer}
@@ -12,7 +11,6 @@ use Rattle.mt_log.specs.declared.transcripts.Answer.TheVariants as answers
 use Rattle.mt_log.specs.declared.transcripts.Entry.{Entry}
 use Rattle.mt_log.specs.declared.transcripts.Said.TheVariants as said
 use Rattle.mt_log.specs.Run.{Asked, find_at}
-use Rattle.mt_runs.proofs.Leading.{learns_none}
 use Rattle.mt_desks.specs.Scans.{IsScanned}
 use Rattle.mt_desks.proofs.Scanning.{scan_finds_none, scan_starts}
 
@@ -49,7 +47,3 @@ none_scanned a number max (suc count) at kind rows pass room some =
     scan_finds_none a number max (suc count) at count at (empty kind rows) p p p room room (room ++ record { line = a.line; said = said.Got 0 0 answers.None } ∷ [])
     (scan_starts a number max (suc count) at (empty kind rows) p room)
     (record { lo = 0; hi = 0; k = 0; read = none_read kind rows pass max at; told = refl })
-
-pub nothing_scanned : (a : Asked) (number max count : ℕ) (at : Option ℕ) (tree : History) (p : Pass) (room : List Entry) → count ≡ 0 → IsScanned a number max count at tree p p room room
-nothing_scanned a number max zero at tree p room none = record { steps = []; scan = refl; leads = learns_none p; told = sym (append-nil room) }
-nothing_scanned a number max (suc count) at tree p room none = absurd (omega (arith, none))
