@@ -1,4 +1,4 @@
--- How wide rows are, and how large indexes are, as proofs use it: no file but this one names these numbers.
+-- How wide rows are and how large indexes are, as far as proofs rest on it.
 use Rattle.std.proofs.Common.{◌^◌, ◌<◌, ◌≤◌, arith}
 use Rattle.mt_base.specs.declared.widths.Width.{Width}
 use Rattle.mt_base.specs.declared.widths.Width.TheVariants.{Long}

@@ -9,13 +9,13 @@ use Rattle.std.specs.Str.Parse.{digits_value}
 use Rattle.std.proofs.lemmas.Bool.{and_parts, leb-true, ltb-true}
 use Rattle.std.proofs.lemmas.List.{append-nil}
 use Rattle.std.proofs.lemmas.Option.{slice_get_within}
-use Rattle.mt_base.specs.Width.{greatest_of}
+use Rattle.mt_base.specs.Width.{greatest_of, kind_width}
 use Rattle.mt_base.specs.declared.calls.Call.{Call}
 use Rattle.mt_base.specs.declared.calls.Call.TheVariants.{Store, StorePre, Insert, Erase, Alloc, Ralloc, Gap, Rgap, Clear}
 use Rattle.mt_base.specs.declared.calls.Query.{Query}
 use Rattle.mt_base.specs.declared.calls.Query.TheVariants.{Load, Find, Next, Prev, Rfind}
 use Rattle.mt_base.specs.declared.kinds.Kind.{Kind}
-use Rattle.mt_base.specs.declared.kinds.Kind.TheVariants as kinds
+use Rattle.mt_base.proofs.WidthBounds.{greatest_fits}
 use Rattle.mt_log.specs.Fault.{Fault, on_line, ◌>>=◌}
 use Rattle.mt_log.specs.LogText.{IsLog}
 use Rattle.mt_log.specs.Name.{is_name}
@@ -88,8 +88,7 @@ unfolding number_of
 number_below most field n hm h = either_number most n (bytes_eq field (codes "max")) (bytes_eq (take 2 field) (codes "0x")) (hexadecimal_of (drop 2 field)) (decimal_of field) hm (hexadecimal_below (drop 2 field) n) (decimal_below field n) h
 
 greatest_below : (kind : Kind) → IsNumber (greatest_of kind)
-greatest_below kinds.Range = omega arith
-greatest_below kinds.Alloc = omega arith
+greatest_below kind = greatest_fits (kind_width kind)
 
 index_below : (kind : Kind) (field : List ℕ) (n : ℕ) → index_of kind field ≡ Ok n → IsNumber n
 unfolding index_of
