@@ -116,7 +116,7 @@ module _ (kind : Kind) (s s' : Sheet) (place : Place) (word : ℕ) (call : Call)
   spans_stay : (row : ℕ) (e : Extent) → is_reached t' row ≡ false → spans_at kind t'.table row e ≡ spans_at kind s.tree.table row e
   spans_stay row e not =
       let off : IsAt place row → ⊥ = λ at. true_false (is_reached t' row) (place_stays kind s place word row may.at may.live may.tree.words may.after at) not in
-      same_spans_at kind s.tree.table.width t'.table.width s.tree.table.words t'.table.words row e (same_width s.tree place word)
+      same_spans_at kind s.tree.table.width t'.table.width s.tree.table.words t'.table.words row e (published_width s.tree place word)
       (λ c above low. others_stay s place word row c may.at off (two_slots s.tree.table.width (kind_at kind e.level) c low))
 
   leaf_stays : (row k : ℕ) → is_reached t' row ≡ false → k ≤ s.ended → HasPart kind s.tree.table row (before row) (m k) → HasPart kind t'.table row (after row) (m' k)
