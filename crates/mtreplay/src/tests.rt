@@ -20,6 +20,169 @@ const LOG: &str = "mtlog 1\ntree a range\nstore a 10 19 5\nload a 10\n";
 const USAGE: &str =
     "mtreplay: usage: replay [--rows N], make NUMBER STEPS LANES, trial NUMBER STEPS\n";
 
+/// Logs behind the header, and the texts that answer them.
+const LOGS: [(&str, &str); 21] = [
+    (
+        "tree a range\nstore a 10 19 5\nload a 9\nload a 10\nload a 19\nload a 20\n",
+        "3 1 ok\n4 1 1 none\n5 1 1 entry 5\n6 1 1 entry 5\n7 1 1 none\ntree a range 1\n10 19 5\n",
+    ),
+    (
+        "tree a range\nstore a 0 99 1\nstore a 40 49 3\n",
+        "3 1 ok\n4 2 ok\ntree a range 3\n0 39 1\n40 49 3\n50 99 1\n",
+    ),
+    (
+        "tree a range\nstore a 0 99 1\nstore a 40 49 0\nstore a 45 60 0\n",
+        "3 1 ok\n4 2 ok\n5 3 ok\ntree a range 2\n0 39 1\n61 99 1\n",
+    ),
+    (
+        "tree a range\nstore a 0 max 7\nload a max\nstore a max max 9\n",
+        "3 1 ok\n4 1 1 entry 7\n5 2 ok\ntree a range 2\n0 18446744073709551614 7\n18446744073709551615 18446744073709551615 9\n",
+    ),
+    (
+        "tree a range\ninsert a 20 29 3\ninsert a 29 29 4\ninsert a 30 30 4\n",
+        "3 1 ok\n4 2 exists\n5 3 ok\ntree a range 2\n20 29 3\n30 30 4\n",
+    ),
+    (
+        "tree a range\nstore a 5 4 1\nstore a 1 1 2\nstore a 1 1 4094\nstore a 1 1 4098\ninsert a 2 2 0\n",
+        "3 1 invalid\n4 2 invalid\n5 3 invalid\n6 4 ok\n7 5 invalid\ntree a range 1\n1 1 4098\n",
+    ),
+    (
+        "tree a range\nstore a 10 19 5\nerase a 15\nerase a 15\n",
+        "3 1 ok\n4 2 was 5\n5 3 none\ntree a range 0\n",
+    ),
+    (
+        "tree a range\nstore a 10 19 5\nfind a 5 9\nfind a 5 10\nfind a 20 max\nfind a 15 12\nfind a 12 12\n",
+        "3 1 ok\n4 1 1 none\n5 1 1 range 10 19 5\n6 1 1 none\n7 1 1 none\n8 1 1 range 10 19 5\ntree a range 1\n10 19 5\n",
+    ),
+    (
+        "tree a range\nstore a 0 9 1\nclear a\n\n# a store behind two lines that say nothing\nstore a 0x0A 0xff 0x1000\nload a 00255\n",
+        "3 1 ok\n4 2 ok\n7 3 ok\n8 3 3 entry 4096\ntree a range 1\n10 255 4096\n",
+    ),
+    (
+        "tree a range\nstore a 5 5 1\ninsert a 0 max 3\n",
+        "3 1 ok\n4 2 exists\ntree a range 1\n5 5 1\n",
+    ),
+    (
+        "tree a range\nstore a 0 0 5\nprev a 9 1\nrfind a 9 1\n",
+        "3 1 ok\n4 1 1 none\n5 1 1 none\ntree a range 1\n0 0 5\n",
+    ),
+    (
+        "tree a range\nstore a 0 9 1\nstore a 20 29 5\nscan a 5 max 5\nscan a 0 5 3\nscan a 5 25 1\n",
+        "3 1 ok\n4 2 ok\n5 2 2 range 0 9 1\n5 2 2 range 20 29 5\n5 2 2 none\n6 2 2 range 0 9 1\n6 2 2 none\n7 2 2 range 0 9 1\ntree a range 2\n0 9 1\n20 29 5\n",
+    ),
+    // A tree for allocation finds room.
+    (
+        "tree a alloc\nstore a 0 9 1\nstore a 20 29 1\nalloc a 10 0 max 3\nralloc a 10 0 max 4\n",
+        "3 1 ok\n4 2 ok\n5 3 start 10\n6 4 start 18446744073709551606\n\
+         tree a alloc 4\n0 9 1\n10 19 3\n20 29 1\n18446744073709551606 18446744073709551615 4\n",
+    ),
+    (
+        "tree a alloc\nstore a 0 9 1\nstore a 20 29 1\ngap a 11 5 25\ngap a 0 0 9\ngap a 11 0 9\ngap a 1 9 8\nrgap a 4 5 25\n",
+        "3 1 ok\n4 2 ok\n5 3 busy\n6 4 invalid\n7 5 invalid\n8 6 invalid\n9 7 start 16\n\
+         tree a alloc 2\n0 9 1\n20 29 1\n",
+    ),
+    (
+        "tree mm alloc\nstore mm 0x400000 0x401fff 8192\nstore mm 0x7ffff000 0x7fffffff 8196\n\
+         ralloc mm 0x3000 0x10000 0x7fffffff 8200\nnext mm 0x400000 max\nerase mm 0x400010\n",
+        "3 1 ok\n4 2 ok\n5 3 start 2147467264\n6 3 3 range 2147467264 2147479551 8200\n7 4 was 8192\n\
+         tree mm alloc 2\n2147467264 2147479551 8200\n2147479552 2147483647 8196\n",
+    ),
+    (
+        "tree a alloc\nstore a 10 max 1\nrgap a 1 0 max\n",
+        "3 1 ok\n4 2 start 9\ntree a alloc 1\n10 18446744073709551615 1\n",
+    ),
+    (
+        "tree a alloc\nstore a 0 max 7\nerase a 3\ngap a 1 0 max\n",
+        "3 1 ok\n4 2 was 7\n5 3 start 0\ntree a alloc 0\n",
+    ),
+    (
+        "tree a range\ngap a 1 0 max\nalloc a 1 0 max 3\n",
+        "3 1 invalid\n4 2 invalid\ntree a range 0\n",
+    ),
+    // Neighbours are found up and down.
+    (
+        "tree a range\nstore a 0 9 1\nstore a 20 29 5\nstore a max max 3\n\
+         next a 5 max\nnext a 10 max\nnext a 0 20\nnext a 0 19\n\
+         prev a 25 0\nprev a 20 0\nprev a 0 0\nnext a max max\n\
+         rfind a 15 0\nrfind a 15 10\nrfind a max 0\nprev a 15 10\n",
+        "3 1 ok\n4 2 ok\n5 3 ok\n\
+         6 3 3 range 20 29 5\n7 3 3 range 20 29 5\n8 3 3 range 20 29 5\n9 3 3 none\n\
+         10 3 3 range 0 9 1\n11 3 3 range 0 9 1\n12 3 3 none\n13 3 3 none\n\
+         14 3 3 range 0 9 1\n15 3 3 none\n16 3 3 range 18446744073709551615 18446744073709551615 3\n17 3 3 none\n\
+         tree a range 3\n0 9 1\n20 29 5\n18446744073709551615 18446744073709551615 3\n",
+    ),
+    // A scan goes on behind each range, and ends with none.
+    (
+        "tree a range\nstore a 0 9 1\nstore a 10 10 3\n\
+         scan a 0 9 2\nscan a 9 10 4\nscan a 0 10 2\nscan a 4 3 3\n\
+         erase a 0\nscan a 0 max 9\nstore a 10 max 7\nscan a 0 max 65536\n",
+        "3 1 ok\n4 2 ok\n\
+         5 2 2 range 0 9 1\n5 2 2 none\n\
+         6 2 2 range 0 9 1\n6 2 2 range 10 10 3\n6 2 2 none\n\
+         7 2 2 range 0 9 1\n7 2 2 range 10 10 3\n\
+         8 2 2 none\n\
+         9 3 was 1\n10 3 3 range 10 10 3\n10 3 3 none\n\
+         11 4 ok\n12 4 4 range 10 18446744073709551615 7\n12 4 4 none\n\
+         tree a range 1\n10 18446744073709551615 7\n",
+    ),
+    // A log without a tree prints nothing.
+    ("", ""),
+];
+
+/// Bad logs, the room to tell of them, and what is told.
+const BAD_LOGS: [(&str, usize, &str); 14] = [
+    ("", 256, "mtreplay: line 1: no header\n"),
+    ("mtlog 2\n", 256, "mtreplay: line 1: no header\n"),
+    ("mtlog 1", 256, "mtreplay: line 1: no newline\n"),
+    ("mtlog 1\r\n", 16, "mtreplay: line 1"),
+    ("mtlog 1\ntree a heap\n", 0, ""),
+    (
+        "mtlog 1\ntree a range\nstore a 1 1 5",
+        256,
+        "mtreplay: line 3: no newline\n",
+    ),
+    (
+        "mtlog 1\ntree a range\nfrob a 1\n",
+        256,
+        "mtreplay: line 3: unknown word\n",
+    ),
+    (
+        "mtlog 1\ntree a range\nstore a 0 18446744073709551616 5\n",
+        256,
+        "mtreplay: line 3: bad number\n",
+    ),
+    (
+        "mtlog 1\ntree a range\nload b 1\n",
+        256,
+        "mtreplay: line 3: unknown tree\n",
+    ),
+    (
+        "mtlog 1\ntree a range\nstore a 1 1\n",
+        256,
+        "mtreplay: line 3: wrong number of fields\n",
+    ),
+    (
+        "mtlog 1\ntree a range\nscan a 0 9 0\n",
+        256,
+        "mtreplay: line 3: bad count\n",
+    ),
+    (
+        "mtlog 1\n\n#\ntree a range\nload a 1\nlane 16\n",
+        256,
+        "mtreplay: line 6: bad lane\n",
+    ),
+    (
+        "mtlog 1\ntree a range\nload a 1\ncheck a\n",
+        256,
+        "mtreplay: line 4: not between phases\n",
+    ),
+    (
+        "mtlog 1\ntree a range\nlane 16\n",
+        256,
+        "mtreplay: line 3: bad lane\n",
+    ),
+];
+
 /// How many bytes a source gives at a call.
 const GIVEN: usize = 8;
 
@@ -98,141 +261,11 @@ fn steps(alloc: Global, lines: &str) -> Result<String, AllocError> {
 
 #[test]
 fn a_log_is_answered_line_by_line(rt: HostRuntime) -> Result<(), Fail> {
-    let rows = [
-        (
-            "store a 10 19 5\nload a 9\nload a 10\nload a 19\nload a 20\n",
-            "3 1 ok\n4 1 1 none\n5 1 1 entry 5\n6 1 1 entry 5\n7 1 1 none\ntree a range 1\n10 19 5\n",
-        ),
-        (
-            "store a 0 99 1\nstore a 40 49 3\n",
-            "3 1 ok\n4 2 ok\ntree a range 3\n0 39 1\n40 49 3\n50 99 1\n",
-        ),
-        (
-            "store a 0 99 1\nstore a 40 49 0\nstore a 45 60 0\n",
-            "3 1 ok\n4 2 ok\n5 3 ok\ntree a range 2\n0 39 1\n61 99 1\n",
-        ),
-        (
-            "store a 0 max 7\nload a max\nstore a max max 9\n",
-            "3 1 ok\n4 1 1 entry 7\n5 2 ok\ntree a range 2\n0 18446744073709551614 7\n18446744073709551615 18446744073709551615 9\n",
-        ),
-        (
-            "insert a 20 29 3\ninsert a 29 29 4\ninsert a 30 30 4\n",
-            "3 1 ok\n4 2 exists\n5 3 ok\ntree a range 2\n20 29 3\n30 30 4\n",
-        ),
-        (
-            "store a 5 4 1\nstore a 1 1 2\nstore a 1 1 4094\nstore a 1 1 4098\ninsert a 2 2 0\n",
-            "3 1 invalid\n4 2 invalid\n5 3 invalid\n6 4 ok\n7 5 invalid\ntree a range 1\n1 1 4098\n",
-        ),
-        (
-            "store a 10 19 5\nerase a 15\nerase a 15\n",
-            "3 1 ok\n4 2 was 5\n5 3 none\ntree a range 0\n",
-        ),
-        (
-            "store a 10 19 5\nfind a 5 9\nfind a 5 10\nfind a 20 max\nfind a 15 12\nfind a 12 12\n",
-            "3 1 ok\n4 1 1 none\n5 1 1 range 10 19 5\n6 1 1 none\n7 1 1 none\n8 1 1 range 10 19 5\ntree a range 1\n10 19 5\n",
-        ),
-        (
-            "store a 0 9 1\nclear a\n\n# a store behind two lines that say nothing\nstore a 0x0A 0xff 0x1000\nload a 00255\n",
-            "3 1 ok\n4 2 ok\n7 3 ok\n8 3 3 entry 4096\ntree a range 1\n10 255 4096\n",
-        ),
-        (
-            "store a 5 5 1\ninsert a 0 max 3\n",
-            "3 1 ok\n4 2 exists\ntree a range 1\n5 5 1\n",
-        ),
-        (
-            "store a 0 0 5\nprev a 9 1\nrfind a 9 1\n",
-            "3 1 ok\n4 1 1 none\n5 1 1 none\ntree a range 1\n0 0 5\n",
-        ),
-        (
-            "store a 0 9 1\nstore a 20 29 5\nscan a 5 max 5\nscan a 0 5 3\nscan a 5 25 1\n",
-            "3 1 ok\n4 2 ok\n5 2 2 range 0 9 1\n5 2 2 range 20 29 5\n5 2 2 none\n6 2 2 range 0 9 1\n6 2 2 none\n7 2 2 range 0 9 1\ntree a range 2\n0 9 1\n20 29 5\n",
-        ),
-    ];
-    for (lines, text) in rows {
-        let log = steps(rt.alloc(), lines)?;
-        expect_text(&rt, &log, text)?;
-    }
-    Ok(())
-}
-
-#[test]
-fn a_tree_for_allocation_finds_room(rt: HostRuntime) -> Result<(), Fail> {
-    let rows = [
-        (
-            "tree a alloc\nstore a 0 9 1\nstore a 20 29 1\nalloc a 10 0 max 3\nralloc a 10 0 max 4\n",
-            "3 1 ok\n4 2 ok\n5 3 start 10\n6 4 start 18446744073709551606\n\
-             tree a alloc 4\n0 9 1\n10 19 3\n20 29 1\n18446744073709551606 18446744073709551615 4\n",
-        ),
-        (
-            "tree a alloc\nstore a 0 9 1\nstore a 20 29 1\ngap a 11 5 25\ngap a 0 0 9\ngap a 11 0 9\ngap a 1 9 8\nrgap a 4 5 25\n",
-            "3 1 ok\n4 2 ok\n5 3 busy\n6 4 invalid\n7 5 invalid\n8 6 invalid\n9 7 start 16\n\
-             tree a alloc 2\n0 9 1\n20 29 1\n",
-        ),
-        (
-            "tree mm alloc\nstore mm 0x400000 0x401fff 8192\nstore mm 0x7ffff000 0x7fffffff 8196\n\
-             ralloc mm 0x3000 0x10000 0x7fffffff 8200\nnext mm 0x400000 max\nerase mm 0x400010\n",
-            "3 1 ok\n4 2 ok\n5 3 start 2147467264\n6 3 3 range 2147467264 2147479551 8200\n7 4 was 8192\n\
-             tree mm alloc 2\n2147467264 2147479551 8200\n2147479552 2147483647 8196\n",
-        ),
-        (
-            "tree a alloc\nstore a 10 max 1\nrgap a 1 0 max\n",
-            "3 1 ok\n4 2 start 9\ntree a alloc 1\n10 18446744073709551615 1\n",
-        ),
-        (
-            "tree a alloc\nstore a 0 max 7\nerase a 3\ngap a 1 0 max\n",
-            "3 1 ok\n4 2 was 7\n5 3 start 0\ntree a alloc 0\n",
-        ),
-        (
-            "tree a range\ngap a 1 0 max\nalloc a 1 0 max 3\n",
-            "3 1 invalid\n4 2 invalid\ntree a range 0\n",
-        ),
-    ];
-    for (lines, text) in rows {
+    for (lines, text) in LOGS {
         let log = format!(in rt.alloc(); "mtlog 1\n{lines}")?;
         expect_text(&rt, &log, text)?;
     }
     Ok(())
-}
-
-#[test]
-fn neighbours_are_found_up_and_down(rt: HostRuntime) -> Result<(), Fail> {
-    let log = steps(
-        rt.alloc(),
-        "store a 0 9 1\nstore a 20 29 5\nstore a max max 3\n\
-         next a 5 max\nnext a 10 max\nnext a 0 20\nnext a 0 19\n\
-         prev a 25 0\nprev a 20 0\nprev a 0 0\nnext a max max\n\
-         rfind a 15 0\nrfind a 15 10\nrfind a max 0\nprev a 15 10\n",
-    )?;
-    let text = "3 1 ok\n4 2 ok\n5 3 ok\n\
-         6 3 3 range 20 29 5\n7 3 3 range 20 29 5\n8 3 3 range 20 29 5\n9 3 3 none\n\
-         10 3 3 range 0 9 1\n11 3 3 range 0 9 1\n12 3 3 none\n13 3 3 none\n\
-         14 3 3 range 0 9 1\n15 3 3 none\n16 3 3 range 18446744073709551615 18446744073709551615 3\n17 3 3 none\n\
-         tree a range 3\n0 9 1\n20 29 5\n18446744073709551615 18446744073709551615 3\n";
-    expect_text(&rt, &log, text)
-}
-
-#[test]
-fn a_scan_goes_on_behind_each_range_and_ends_with_none(rt: HostRuntime) -> Result<(), Fail> {
-    let log = steps(
-        rt.alloc(),
-        "store a 0 9 1\nstore a 10 10 3\n\
-         scan a 0 9 2\nscan a 9 10 4\nscan a 0 10 2\nscan a 4 3 3\n\
-         erase a 0\nscan a 0 max 9\nstore a 10 max 7\nscan a 0 max 65536\n",
-    )?;
-    let text = "3 1 ok\n4 2 ok\n\
-         5 2 2 range 0 9 1\n5 2 2 none\n\
-         6 2 2 range 0 9 1\n6 2 2 range 10 10 3\n6 2 2 none\n\
-         7 2 2 range 0 9 1\n7 2 2 range 10 10 3\n\
-         8 2 2 none\n\
-         9 3 was 1\n10 3 3 range 10 10 3\n10 3 3 none\n\
-         11 4 ok\n12 4 4 range 10 18446744073709551615 7\n12 4 4 none\n\
-         tree a range 1\n10 18446744073709551615 7\n";
-    expect_text(&rt, &log, text)
-}
-
-#[test]
-fn a_log_without_a_tree_prints_nothing(rt: HostRuntime) -> Result<(), Fail> {
-    expect_text(&rt, "mtlog 1\n", "")
 }
 
 #[test]
@@ -254,59 +287,7 @@ fn a_fault_is_told(rt: HostRuntime) -> Result<(), Fail> {
 
 #[test]
 fn a_bad_log_is_told_by_its_line(rt: HostRuntime) -> Result<(), Fail> {
-    let rows = [
-        ("", 256, "mtreplay: line 1: no header\n"),
-        ("mtlog 2\n", 256, "mtreplay: line 1: no header\n"),
-        ("mtlog 1", 256, "mtreplay: line 1: no newline\n"),
-        ("mtlog 1\r\n", 16, "mtreplay: line 1"),
-        ("mtlog 1\ntree a heap\n", 0, ""),
-        (
-            "mtlog 1\ntree a range\nstore a 1 1 5",
-            256,
-            "mtreplay: line 3: no newline\n",
-        ),
-        (
-            "mtlog 1\ntree a range\nfrob a 1\n",
-            256,
-            "mtreplay: line 3: unknown word\n",
-        ),
-        (
-            "mtlog 1\ntree a range\nstore a 0 18446744073709551616 5\n",
-            256,
-            "mtreplay: line 3: bad number\n",
-        ),
-        (
-            "mtlog 1\ntree a range\nload b 1\n",
-            256,
-            "mtreplay: line 3: unknown tree\n",
-        ),
-        (
-            "mtlog 1\ntree a range\nstore a 1 1\n",
-            256,
-            "mtreplay: line 3: wrong number of fields\n",
-        ),
-        (
-            "mtlog 1\ntree a range\nscan a 0 9 0\n",
-            256,
-            "mtreplay: line 3: bad count\n",
-        ),
-        (
-            "mtlog 1\n\n#\ntree a range\nload a 1\nlane 16\n",
-            256,
-            "mtreplay: line 6: bad lane\n",
-        ),
-        (
-            "mtlog 1\ntree a range\nload a 1\ncheck a\n",
-            256,
-            "mtreplay: line 4: not between phases\n",
-        ),
-        (
-            "mtlog 1\ntree a range\nlane 16\n",
-            256,
-            "mtreplay: line 3: bad lane\n",
-        ),
-    ];
-    for (log, err_room, told) in rows {
+    for (log, err_room, told) in BAD_LOGS {
         let mut src = source(rt.alloc(), log, NEVER)?;
         let ending = run(&rt, &["replay"], &mut src, 256, err_room)?;
         assert_eq!(rt; ending.status, 1, "{log}");
