@@ -307,7 +307,6 @@ module _ (p q : State) (rows root opened : ℕ) (w : List ℕ) (plain : IsPlain 
     long = plain.long;
     words = words_long;
     fates = ap (λ (l : List Fate). length l) fates_are ∙ (length-map (walked_fates q.words.items root (first_row + p.rows)) renewed ∙ walked_long q.words.items root (first_row + p.rows));
-    scans = plain.scans;
     cleared = plain.cleared;
     room = plain.room;
     calm = plain.calm;

@@ -204,7 +204,6 @@ module _ (p q : State) (s : Sheet) (kind : Kind) (root opened : ℕ) (plain : Is
     long = plain.long;
     words = plain.words;
     fates = ap length settles ∙ (settled_length (reached_in (sheet_of p).tree.table root) p.fates.items ∙ plain.fates);
-    scans = plain.scans;
     cleared = plain.cleared;
     room = plain.room;
     calm = plain.calm;

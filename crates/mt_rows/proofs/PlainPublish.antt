@@ -134,7 +134,6 @@ module _ (p q : State) (s : Sheet) (kind : Kind) (place : Place) (word levels : 
     long = plain.long;
     words = plain.words;
     fates = long ∙ plain.fates;
-    scans = plain.scans;
     cleared = plain.cleared;
     room = plain.room;
     calm = λ idle. let in_flight : p.in_flight ≡ true = ap (λ (s : Sheet). s.in_flight) is ∙ may.in_flight in absurd (cc);

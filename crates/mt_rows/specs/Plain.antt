@@ -49,7 +49,6 @@ sheet_of p = record {
   shared = false;
   scan = p.scan;
   scans = p.scans;
-  scans_at_begin = p.scans_at_begin;
   reads = Some p.reads;
   kind = None;
   told = None;
@@ -62,7 +61,6 @@ pub record IsPlain (p : State) : Type 0 where
   pub long : p.width ≡ Long
   pub words : length p.words.items ≡ columns p.width * (first_row + p.rows)
   pub fates : length p.fates.items ≡ first_row + p.rows
-  pub scans : p.scans_at_begin ≤ p.scans
   pub cleared : p.cleared ≤ p.ended
   pub room : p.in_flight ≡ true → p.ended < 2 ^ 62 - 1
   pub calm : p.in_flight ≡ false → p.published ≡ false
@@ -83,7 +81,6 @@ new_sheet rows = record {
   shared = false;
   scan = record { least = 0; by = None };
   scans = 0;
-  scans_at_begin = 0;
   reads = Some 0;
   kind = None;
   told = None;

@@ -29,7 +29,6 @@ plain_whole p plain = record {
   lives = length-map p.fates.items (life_in (past_of p)) ∙ plain.fates;
   buried = length-map p.fates.items (buried_in (past_of p)) ∙ plain.fates;
   cleared = plain.cleared;
-  scans = plain.scans;
   dead = λ row. subst (HasDied p.ended p.in_flight) (sym (life_at (past_of p) p.fates.items row)) (died row (fate_of p row) refl);
 }
   where

@@ -150,7 +150,7 @@ pub record IsHeldBack (lives : List Life) (least : ℕ) (row : ℕ) : Type 0 whe
 
 -- a scan was made in the call in flight
 abbrev pub WasScanned : Sheet → Type 0
-WasScanned s = (s.scans_at_begin < s.scans) ⊎ (s.scans ≡ 2 ^ 64 - 1)
+WasScanned s = 1 ≤ s.scans
 
 -- A shortage is real: it tells the height and how many rows are reached, and so many rows are held back by the section that
 -- the last scan found.

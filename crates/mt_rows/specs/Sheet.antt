@@ -53,11 +53,10 @@ pub record Sheet : Type 0 where
   pub opened : ℕ
   -- a number that never falls: a row that is dead by a call up to it may be used again
   pub cleared : ℕ
-  -- whether others may read the rows; the last scan's answer, how many scans there were, and how many at the last `begin`
+  -- whether others may read the rows; the last scan's answer, and how many scans there were since the last `begin`
   pub shared : Bool
   pub scan : Scan
   pub scans : ℕ
-  pub scans_at_begin : ℕ
   -- where they are told: how many loads, the tree's kind, and who calls, with the history's records
   pub reads : Option ℕ
   pub kind : Option Kind
@@ -91,7 +90,6 @@ pub record IsWhole (s : Sheet) : Type 0 where
   pub lives : length s.lives ≡ first_row + s.tree.rows
   pub buried : length s.buried ≡ first_row + s.tree.rows
   pub cleared : s.cleared ≤ s.ended
-  pub scans : s.scans_at_begin ≤ s.scans
   pub dead : (row : ℕ) → HasDied s.ended s.in_flight (life_of s.lives row)
 
 -- a row and a column of the table
@@ -121,7 +119,7 @@ pub record MayBegin (s : Sheet) : Type 0 where
   pub room : s.ended < 2 ^ 62 - 1
 
 abbrev pub begun : Sheet → Sheet
-begun s = record s { in_flight = true; published = false; scans_at_begin = s.scans }
+begun s = record s { in_flight = true; published = false; scans = 0 }
 
 -- What a scan may answer. The least epoch is that of the holder that is told; it is the greatest number where no section
 -- stands open. The holder is one of the table's passes, and not the caller where the caller has no section open. Where

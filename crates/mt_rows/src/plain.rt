@@ -43,7 +43,6 @@ struct State {
     cleared: u64,
     scan: Scan,
     scans: u64,
-    scans_at_begin: u64,
     reads: Reads,
 }
 
@@ -237,7 +236,6 @@ impl PlainRows {
             cleared: 0,
             scan: Scan { least: 0, by: None },
             scans: 0,
-            scans_at_begin: 0,
             reads: Reads::new(),
         };
         Ok(PlainRows { state })
@@ -375,7 +373,7 @@ impl Rows for PlainRows {
     fn begin(&mut self) -> u64 {
         self.state.in_flight = true;
         self.state.published = false;
-        self.state.scans_at_begin = self.state.scans;
+        self.state.scans = 0;
         self.state.ended + 1
     }
 

@@ -159,7 +159,6 @@ module _ (e : ℕ → Extent) (p : PenPart) (q : PassPart) (place : Place) (word
     lives = s.lives;
     buried = s.buried;
     cleared = (let least = least_low p.cleared 0 (let n = s.passes in let o = s.some_pass in omega arith) in let first = s.cleared 0 s.some_pass in omega arith);
-    scans = omega arith;
     dead = s.dead;
   }
 

@@ -192,7 +192,6 @@ sheet_of p = record {
   shared = true;
   scan = record { least = 2 ^ 64 - 1; by = None };
   scans = 0;
-  scans_at_begin = 0;
   reads = None;
   kind = Some p.shape.kind;
   told = None;

@@ -90,7 +90,6 @@ whole_then {s} {s'} {row} only whole below = record {
   lives = ap length only.lives ∙ (length-set s.lives row Draft ∙ (whole.lives ∙ sym (ap (λ (t : Rooted). first_row + t.rows) only.tree)));
   buried = ap (λ (k : Sheet). length k.buried) only.rest ∙ (whole.buried ∙ sym (ap (λ (t : Rooted). first_row + t.rows) only.tree));
   cleared = subst (λ (k : Sheet). k.cleared ≤ k.ended) (sym only.rest) whole.cleared;
-  scans = subst (λ (k : Sheet). k.scans_at_begin ≤ k.scans) (sym only.rest) whole.scans;
   dead = λ r. ⊎_elim
       (λ (same : r ≡ row). subst (HasDied s'.ended s'.in_flight) (sym (ap (life_of s'.lives) same ∙ is_draft only whole below)) tt)
       (λ (other : r ≢ row). subst (HasDied s'.ended s'.in_flight) (sym (other_life only r other)) (subst (λ (k : Sheet). HasDied k.ended k.in_flight (life_of s.lives r)) (sym only.rest) (whole.dead r)))

@@ -295,7 +295,6 @@ module _ {b : Before} {start : Start} {s : Sheet} {book : Book} {w : Work} (seen
       lives = progress.whole.lives;
       buried = length-set s.buried row true ∙ progress.whole.buried;
       cleared = progress.whole.cleared;
-      scans = progress.whole.scans;
       dead = progress.whole.dead;
     };
     used = progress.used;
@@ -326,7 +325,7 @@ progress_read : (b : Before) (s : Sheet) (book : Book) (w : Work) (reads : Optio
 progress_read b s book w reads progress = record {
   rest = progress.rest;
   tree = progress.tree;
-  whole = record { few = progress.whole.few; words = progress.whole.words; lives = progress.whole.lives; buried = progress.whole.buried; cleared = progress.whole.cleared; scans = progress.whole.scans; dead = progress.whole.dead };
+  whole = record { few = progress.whole.few; words = progress.whole.words; lives = progress.whole.lives; buried = progress.whole.buried; cleared = progress.whole.cleared; dead = progress.whole.dead };
   used = progress.used;
   free = progress.free;
   held = progress.held;

@@ -24,7 +24,6 @@ no_sheet = record {
   shared = false;
   scan = record { least = 0; by = None };
   scans = 0;
-  scans_at_begin = 0;
   reads = None;
   kind = None;
   told = None;

@@ -13,7 +13,6 @@ invariant_of-self c =
         long = p.long;
         words = p.words;
         fates = p.fates;
-        scans = p.scans;
         cleared = (let low = p.cleared in omega arith);
         room = λ e. absurd (cc);
         calm = λ _. refl;
