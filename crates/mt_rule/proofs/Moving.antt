@@ -6,7 +6,7 @@ use lib.Seq.{set-get_or}
 use Rattle.std.proofs.lemmas.List.{length-map}
 use Rattle.std.proofs.lemmas.Option.{none-some}
 use Rattle.atomic_table.specs.Table.{Me, step, keeps, Allows, Splits, Joins}
-use Rattle.mt_base.specs.History.{IsLegal}
+use Rattle.mt_base.specs.History.{History, IsLegal}
 use Rattle.mt_base.specs.Passes.{Begins}
 use Rattle.mt_base.specs.Passes as ways
 use Rattle.mt_base.proofs.Goings.{begins_long, begins_none}
@@ -19,7 +19,8 @@ use Rattle.mt_rule.specs.declared.views.View.{View}
 use Rattle.mt_rule.specs.declared.views.PenPart.{PenPart}
 use Rattle.mt_rule.specs.declared.views.PassPart.{PassPart}
 use Rattle.mt_rule.specs.declared.views.NotePart.{NotePart}
-use Rattle.mt_rule.specs.Seats.{HasPen, HasPass, HasNote, pen_of, pass_of, note_of, new_part, record_of, records_of, tree_of, known_by, longer_of, no_view, dealing_view, dealt_view, with_pass, with_note, without_pass, pass_alone, note_alone}
+use Rattle.mt_rule.specs.declared.views.SectionWord.{SectionWord}
+use Rattle.mt_rule.specs.Seats.{HasPen, HasPass, HasNote, pen_of, pass_of, note_of, new_part, record_of, records_of, tree_of, known_by, longer_of, no_view, dealing_view, dealt_view, pen_joined, with_pass, with_note, without_pass, pass_alone, note_alone}
 use Rattle.mt_rule.specs.Places.{section_at}
 use Rattle.mt_rule.specs.Rule.{IsOneHistory, IsSound, WordsFit, PassFits, ViewFits, IsKept}
 use Rattle.mt_rule.specs.Steps.{all_seen, taught, sees_all, learns}
@@ -27,7 +28,7 @@ use Rattle.mt_rule.specs.Tokens.{WasShown}
 use Rattle.mt_rows.specs.Levels.{one_if}
 use Rattle.mt_rule.proofs.Beginnings.{begins_records, longer_fits, places_none, legal_within}
 use Rattle.mt_rule.proofs.Viewing.{each_set, each_split, each_join, other_view, pen_is, pass_is, note_is, owned, owned_here, owned_else, stays, nothing_fits, seat_fits, seen_fits}
-use Rattle.mt_rule.proofs.Carrying.{St, recast, reseated, still_sound}
+use Rattle.mt_rule.proofs.Carrying.{St, recast, reseated, still_history, still_sound}
 
 -- ---- a load, which leaves all words and all that the pen knows
 
@@ -130,22 +131,70 @@ dealing told by v has_pen room s r₀ at =
 
 -- ---- a pass beside the pen, and apart again
 
-pub joining : (told : Told) (id other : ℕ) (v w : View) → HasPass w → Joins (IsKept told) id v other w (with_pass v w) no_view
-joining told id other v w has_pass s r at apart at_other =
+-- what is known of sections that were loaded is no part of the rule
+module _ (e : ℕ → Extent) (p : PenPart) (sections : List SectionWord) where
+  abbrev with_sections : PenPart
+  with_sections = record p { sections = sections }
+
+  pub sound_with : IsSound e p → IsSound e with_sections
+  sound_with s = let one = s.history in still_sound e p with_sections s (still_history p with_sections one one.count one.calm one.few) s.known s.dead s.passes s.cleared
+
+  words_with : (words : List ℕ) → WordsFit words p → WordsFit words with_sections
+  words_with words w = record { size = w.size; commits = w.commits; begun = w.begun; root = w.root; sections = w.sections; undealt = w.undealt; columns = w.columns }
+
+  pass_with : (q : PassPart) → PassFits e p q → PassFits e with_sections q
+  pass_with q f = record {
+    shape = f.shape;
+    number = f.number;
+    seen = f.seen;
+    mine = f.mine;
+    all = f.all;
+    ended = f.ended;
+    over = f.over;
+    begun = f.begun;
+    risen = f.risen;
+    epoch = f.epoch;
+    loaded = f.loaded;
+    standing = f.standing;
+    closed = f.closed;
+    floor = λ n is. let t = f.floor n is in record { seen = t.seen; cleared = t.cleared; epoch = t.epoch };
+    held = λ j x is. let t = f.held j x is in record { row = t.row; met = t.met; floor = t.floor; has = t.has; since = t.since };
+  }
+
+pub joining : (told : Told) (id other : ℕ) (v w : View) → HasPen v → HasPass w → Joins (IsKept told) id v other w (with_pass v w) no_view
+joining told id other v w has_pen has_pass s r₀ at apart at_other =
+    let p = pen_of v in
+    let known = (r₀.each id v at).keeper p has_pen in
+    let r = recast told s r₀ p (sym known.1) in
     let there = other_view s.views id other (with_pass v w) w apart at_other in
-    let own = r.each id v at in let f = r.each other w there in let q = pass_of w in let p = r.part in
+    let own = r.each id v at in let f = r.each other w there in let q = pass_of w in
+    let p' : PenPart = pen_joined p in
     let owner' = owned r.owner q.number id in
-    reseated s r owner' r.words
-    (each_join (ViewFits r.pen owner' r.extents p s.words) s.views id other (with_pass v w) no_view
-    (λ j u a b e. stays r.pen r.owner r.extents p s.words q.number other id j u (f.at q has_pass) b (r.each j u e))
     record {
-      keeper = own.keeper;
-      at = λ x k. sym (owned_here r.owner q.number id x.number (sym (ap (λ (z : PassPart). z.number) (pass_is q x (sym has_pass ∙ k)))));
-      section = f.section;
-      passes = f.passes;
-      notes = own.notes;
+      pen = r.pen;
+      owner = owner';
+      extents = r.extents;
+      part = p';
+      shaped = r.shaped;
+      sound = sound_with r.extents p [] r.sound;
+      words = words_with r.extents p [] s.words r.words;
+      each = each_join (ViewFits r.pen owner' r.extents p' s.words) s.views id other (with_pass v w) no_view
+          (λ j u a b e. let g = stays r.pen r.owner r.extents p s.words q.number other id j u (f.at q has_pass) b (r.each j u e) in record {
+            keeper = λ x k. absurd (a ((g.keeper x k).0 ∙ sym known.0));
+            at = g.at;
+            section = g.section;
+            passes = λ x k. pass_with r.extents p [] x (g.passes x k);
+            notes = g.notes;
+          })
+          record {
+            keeper = λ x k. (known.0, sym (pen_is p' x k));
+            at = λ x k. sym (owned_here r.owner q.number id x.number (sym (ap (λ (z : PassPart). z.number) (pass_is q x (sym has_pass ∙ k)))));
+            section = f.section;
+            passes = λ x k. pass_with r.extents p [] x (f.passes x k);
+            notes = own.notes;
+          }
+          (nothing_fits r.pen owner' r.extents p' s.words other);
     }
-    (nothing_fits r.pen owner' r.extents p s.words other))
 
 pub parting : (told : Told) (by : ℕ) (v : View) → HasPass v → Splits (IsKept told) by v (without_pass v) (pass_alone v)
 parting told by v has_pass s r at =
@@ -226,6 +275,9 @@ was_shown t extents p q shaped idle sound f =
       extents = extents;
       sound = sound;
     }
+
+pub shown_with : (tree : History) (p : PenPart) (a b : ways.Pass) (sections : List SectionWord) → WasShown tree p a b → WasShown tree (record p { sections = sections }) a b
+shown_with tree p a b sections s = record { saw = s.saw; all = s.all; opened = s.opened; extents = s.extents; sound = sound_with s.extents p sections s.sound }
 
 -- ---- a note is learnt
 

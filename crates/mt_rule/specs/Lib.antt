@@ -2,6 +2,7 @@ pub mod Ends
 pub mod Limits
 pub mod Places
 pub mod Rule
+pub mod Scans
 pub mod Seats
 pub mod Sections
 pub mod Steps

@@ -1,6 +1,6 @@
 -- What a seat of a tree's table knows, part by part, and what each part stands for.
 -- Source: this project's own.
-use Rattle.std.specs.Prelude.{◌≡◌, ℕ, ◌+◌, List, [], ◌∷◌, length, map, min, nat_lt, replicate, slice_index_or, ◌-◌, ◌^◌, true, false, Option, Some, None, if◌then◌else◌}
+use Rattle.std.specs.Prelude.{◌≡◌, ℕ, ◌+◌, List, [], ◌∷◌, length, map, min, nat_lt, replicate, slice_index_or, true, false, Option, Some, None, if◌then◌else◌}
 use Rattle.std.specs.List.{range_with_len}
 use Rattle.mt_base.specs.Width.{kind_width, first_row}
 use Rattle.mt_base.specs.declared.calls.Call.{Call}
@@ -25,6 +25,7 @@ use Rattle.mt_rule.specs.declared.views.View.{View}
 use Rattle.mt_rule.specs.declared.views.PenPart.{PenPart}
 use Rattle.mt_rule.specs.declared.views.PassPart.{PassPart}
 use Rattle.mt_rule.specs.declared.views.NotePart.{NotePart}
+use Rattle.mt_rule.specs.Scans.{none_open}
 
 -- ---- what a table was told
 
@@ -90,10 +91,11 @@ new_pen shape t = record {
   buried = replicate (first_row + t.rows) false;
   cleared = replicate shape.passes 0;
   loaded = [];
+  sections = [];
 }
 
 abbrev pub no_pen : PenPart
-no_pen = record { shape = no_shape; dealt = 0; history = []; ended = 0; in_flight = false; published = false; root = 0; words = []; lives = []; buried = []; cleared = []; loaded = [] }
+no_pen = record { shape = no_shape; dealt = 0; history = []; ended = 0; in_flight = false; published = false; root = 0; words = []; lives = []; buried = []; cleared = []; loaded = []; sections = [] }
 
 abbrev pub new_part : Shape → ℕ → PassPart
 new_part shape number = record { shape = shape; number = number; seen = []; mine = []; opened = []; standing = None; begun = 0; ended = 0; epoch = 0; floor = None; risen = 0; held = [] }
@@ -148,9 +150,13 @@ dealing_view v = record v { pen = Some (record (pen_of v) { dealt = (pen_of v).d
 abbrev pub dealt_view : View → View
 dealt_view v = record no_view { pass = Some (new_part (pen_of v).shape (pen_of v).dealt) }
 
--- a pass's part, or a note's, beside what a seat knows; and apart from it again
+-- the pen that a pass is joined with: no section word was loaded since
+abbrev pub pen_joined : PenPart → PenPart
+pen_joined p = record p { sections = [] }
+
+-- a pass's part beside the pen's, or a note's beside what a seat knows; and apart from it again
 abbrev pub with_pass : View → View → View
-with_pass v w = record v { pass = w.pass }
+with_pass v w = record v { pen = Some (pen_joined (pen_of v)); pass = w.pass }
 
 abbrev pub with_note : View → View → View
 with_note v w = record v { note = w.note }
@@ -190,7 +196,7 @@ sheet_of p = record {
   opened = p.shape.opened;
   cleared = least_of p.cleared;
   shared = true;
-  scan = record { least = 2 ^ 64 - 1; by = None };
+  scan = none_open;
   scans = 0;
   reads = None;
   kind = Some p.shape.kind;

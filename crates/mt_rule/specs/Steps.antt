@@ -31,9 +31,9 @@ use Rattle.mt_rule.specs.Rule.{IsSound, PassFits}
 abbrev pub all_seen : PenPart → PassPart → PassPart
 all_seen p q = record q { seen = p.history; ended = p.ended }
 
--- a call was begun
+-- a call was begun, in which no section word was loaded yet
 abbrev pub pen_begun : PenPart → PenPart
-pen_begun p = record p { in_flight = true; published = false }
+pen_begun p = record p { in_flight = true; published = false; sections = [] }
 
 -- a column of a row was written, which is then a draft
 abbrev pub pen_drafted : ℕ → ℕ → ℕ → PenPart → PenPart
@@ -56,7 +56,11 @@ abbrev pub with_loaded : ℕ → ℕ → List Holder → List Holder
 with_loaded pass found loaded = if found == 0 then loaded else record { pass = pass; epoch = found / 2 } ∷ loaded
 
 abbrev pub pen_scanned : ℕ → ℕ → PenPart → PenPart
-pen_scanned pass found p = record p { cleared = slice_set p.cleared pass (raised p.ended (slice_index p.cleared pass) found); loaded = with_loaded pass found p.loaded }
+pen_scanned pass found p = record p {
+  cleared = slice_set p.cleared pass (raised p.ended (slice_index p.cleared pass) found);
+  loaded = with_loaded pass found p.loaded;
+  sections = p.sections ++ record { pass = pass; word = found } ∷ [];
+}
 
 -- a call published: it is the last of the history, with these words and lives behind it
 abbrev pub pen_published : Moment → PenPart → PenPart → PenPart

@@ -17,4 +17,4 @@ pub use passes::Pass;
 pub use pens::Pen;
 pub use table::{MOST_CALLS, MOST_PASSES, MtTable, opening_words};
 pub use turn::{OfTable, Taken, Turn};
-pub use views::{Moment, NotePart, PassPart, PenPart, Shape, Told, TurnView, View};
+pub use views::{Moment, NotePart, PassPart, PenPart, SectionWord, Shape, Told, TurnView, View};

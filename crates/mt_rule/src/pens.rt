@@ -59,17 +59,18 @@ impl MtTable {
     ghost use Rattle.mt_base.specs.Passes.{IsSound};
     ghost use Rattle.mt_life.specs.declared.views.Extent.{Extent};
     ghost use Rattle.mt_rule.specs.Rule as rule;
+    ghost use Rattle.mt_rule.specs.Seats.{pen_joined};
     ghost use Rattle.mt_rule.specs.Tokens.{identity_of, tree_in, IsPassOf, pass_in, pen_in, IsPenOf, IsAlone, IsJoined, joined_part, joined_in, joined_turn, part_of, turn_seat, WasShown};
 
-    /// Joins a pass with the pen, while no call is in flight. The pass has then seen the whole history. Answers how many calls
-    /// have ended.
+    /// Joins a pass with the pen, while no call is in flight. The pass has then seen the whole history, and no section word was
+    /// loaded since. Answers how many calls have ended.
     pub fn join_pen(&self, pen: &mut Pen, pass: Pass) -> u64
         requires pen { IsPenOf (identity_of self.now) pen.old }
         requires alone { IsAlone pen.old }
         requires idle { (pen_in pen.old).in_flight ≡ false }
         requires pass { IsPassOf (identity_of self.now) pass }
         ensures of { IsPenOf (identity_of self.now) pen.new }
-        ensures pen { pen_in pen.new ≡ pen_in pen.old }
+        ensures pen { pen_in pen.new ≡ pen_joined (pen_in pen.old) }
         ensures joined { IsJoined pen.new }
         ensures part { joined_part pen.new ≡ record (part_of pass) { seen = (pen_in pen.old).history; ended = (pen_in pen.old).ended } }
         ensures shown { WasShown (tree_in (identity_of self.now)) (pen_in pen.old) (pass_in pass) (joined_in pen.new) }

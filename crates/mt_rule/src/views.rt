@@ -68,6 +68,14 @@ pub struct PenPart {
     pub cleared: LinkedList<u64>,
     /// The sections that were found open.
     pub loaded: LinkedList<Holder>,
+    /// The section words that were loaded since a pass was joined or a call began, in their order.
+    pub sections: LinkedList<SectionWord>,
+}
+
+/// A section word that was loaded: whose it is, and what it was.
+pub struct SectionWord {
+    pub pass: u32,
+    pub word: u64,
 }
 
 /// What a pass knows.

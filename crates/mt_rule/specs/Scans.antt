@@ -1,0 +1,35 @@
+-- What the section words of all passes show that were loaded one after another.
+-- Source: this project's own; the kernel frees nodes when every reader has left its RCU read-side section.
+use Rattle.std.specs.Prelude.{◌≡◌, ℕ, ◌+◌, ◌-◌, ◌/◌, ◌^◌, ◌==◌, List, [], ◌∷◌, ◌++◌, Some, None, length, nat_lt, if◌then◌else◌}
+use Rattle.mt_rows.specs.declared.rows.Scan.{Scan}
+use Rattle.mt_rule.specs.declared.views.SectionWord.{SectionWord}
+
+-- no section is open
+abbrev pub none_open : Scan
+none_open = record { least = 2 ^ 64 - 1; by = None }
+
+-- The section word of a pass counts where it is open at an epoch below all so far.
+abbrev pub lesser : ℕ → ℕ → Scan → Scan
+lesser pass word scan = if word == 0 then scan else (if nat_lt (word / 2) scan.least then record { least = word / 2; by = Some (record { pass = pass; epoch = word / 2 }) } else scan)
+
+-- The words are those of the passes from this one on: the least epoch at which a section is open, and the first pass of those
+-- that have it.
+abbrev pub least_from : ℕ → List ℕ → Scan → Scan
+least_from pass [] scan = scan
+least_from pass (word ∷ words) scan = least_from (pass + 1) words (lesser pass word scan)
+
+abbrev pub scan_of : List ℕ → Scan
+scan_of words = least_from 0 words none_open
+
+-- the words of the passes from this one on, one of each
+abbrev pub words_from : ℕ → List ℕ → List SectionWord
+words_from pass [] = []
+words_from pass (word ∷ words) = record { pass = pass; word = word } ∷ words_from (pass + 1) words
+
+-- The last section words that were loaded are one of each of so many passes, in turn, and this is what they show.
+pub record IsScanOf (sections : List SectionWord) (passes : ℕ) (scan : Scan) : Type 0 where
+  pub before : List SectionWord
+  pub words : List ℕ
+  pub count : length words ≡ passes
+  pub loads : sections ≡ before ++ words_from 0 words
+  pub found : scan ≡ scan_of words
