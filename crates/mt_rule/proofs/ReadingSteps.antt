@@ -37,7 +37,7 @@ use Rattle.mt_rule.specs.declared.views.PassPart.{PassPart}
 use Rattle.mt_rule.specs.Places.{commits_at, begun_at, root_at, section_at, section_word, IsSectionWord, column_at}
 use Rattle.mt_rule.specs.Seats.{HasPass, known_by, least_of, moment_at, pass_of, state_in, tree_of}
 use Rattle.mt_rule.specs.Rule.{begun_by, HasFloor, IsHeldBy, IsKept, IsOneHistory, IsOpenAt, IsSound, PassFits, ViewFits, WordsFit}
-use Rattle.mt_rule.specs.Sections.{IsAt, behind_first, closed_section, floor_or, here, kind_of, opened_section, slots_in, spans_here, IsRead, ParentTells, loads_begun, loads_commits, loads_parent, loads_pivot, loads_root, loads_slot, opens_section, closes_section}
+use Rattle.mt_rule.specs.Sections.{IsAt, behind_first, closed_section, floor_or, here, kind_of, opened_section, slots_in, spans_here, IsRead, ParentTells, marks_with, loads_begun, loads_commits, loads_parent, loads_pivot, loads_root, loads_slot, opens_section, closes_section}
 use Rattle.mt_rule.proofs.Beginnings.{legal_within}
 use Rattle.mt_rule.proofs.Carrying.{St, least_low, recast}
 use Rattle.mt_rule.proofs.Holding.{pivot_now, slot_now}
@@ -556,9 +556,9 @@ slots_at told slots by me word row col is here_at row_is slot place =
 -- ---- the mark
 
 -- the parent word of each row that is held
-parent_tells : (e : ℕ → Extent) (p : PenPart) (q : PassPart) (x : Held) (n : ℕ) → IsSound e p → IsHeldBy e p q x → n ≡ word_at (state_in p).tree x.row 0
-    → ParentTells (record q { shape = p.shape; seen = p.history; risen = begun_by p }) x n
-parent_tells e p q x n sound h is = record {
+parent_tells : (e : ℕ → Extent) (p : PenPart) (q : PassPart) (marks : List ℕ) (x : Held) (n : ℕ) → IsSound e p → IsHeldBy e p q x → n ≡ word_at (state_in p).tree x.row 0
+    → ParentTells (record q { shape = p.shape; seen = p.history; risen = begun_by p; marks = marks }) x n
+parent_tells e p q marks x n sound h is = record {
   dead = λ mark. marked_held p.shape.kind (state_in p) e (moment_at p.shape p.history) sound.known x h.row (sym is ∙ mark);
   live = λ off. not_died x.died refl (unmarked off).0;
   past = λ off leaf k met high. let count = sound.history.count in (unmarked off).1 leaf k met (omega arith);
@@ -571,25 +571,46 @@ parent_tells e p q x n sound h is = record {
     not_died None died live = died
     not_died (Some d) died live = let dead : life_of p.lives x.row ≡ Dead d = h.row.died d died in absurd cc
 
-pub parents : (told : Told) (slots by : ℕ) (me : M) (word : ℕ) → HasPass me.0 → Allows (IsKept told) slots by me word (λ n. n) (loads_parent (step slots word 0 0 none) me)
-parents told slots by me word is s r₀ _ at _ =
+-- a pass that has loaded other dead marks
+marked_fits : (e : ℕ → Extent) (p : PenPart) (q : PassPart) (marks : List ℕ) → PassFits e p q → PassFits e p (record q { marks = marks })
+marked_fits e p q marks f = record {
+  shape = f.shape;
+  number = f.number;
+  seen = f.seen;
+  mine = f.mine;
+  all = f.all;
+  ended = f.ended;
+  over = f.over;
+  begun = f.begun;
+  risen = f.risen;
+  epoch = f.epoch;
+  loaded = f.loaded;
+  standing = λ o is. let h = f.standing o is in record { seen = h.seen; opened = h.opened };
+  closed = f.closed;
+  floor = λ n is. let h = f.floor n is in record { seen = h.seen; cleared = h.cleared; epoch = h.epoch };
+  held = λ j x at. let h = f.held j x at in record { row = h.row; met = h.met; floor = h.floor; has = h.has; since = h.since };
+}
+
+pub parents : (told : Told) (slots by : ℕ) (me : M) (row word : ℕ) → HasPass me.0 → Allows (IsKept told) slots by me word (λ n. n) (loads_parent row (step slots word 0 0 none) me)
+parents told slots by me row word is s r₀ _ at _ =
     let q = pass_of me.0 in
     let p : PenPart = part_by told s r₀ by me.0 at q is in
     let r : IsKept told s = kept_by told s r₀ by me.0 at q is in
     let f : PassFits r.extents p q = (r.each by me.0 at).passes q is in
     let more = begins_long q.seen p.history f.seen in
-    let q' : PassPart = record q { seen = p.history; risen = begun_by p } in (
+    let marks = marks_with row (slice_index s.words word) q.marks in
+    let q' : PassPart = record q { seen = p.history; risen = begun_by p; marks = marks } in (
       record me.0 { pass = Some q' },
       keeps,
       tt,
-      loads_to told s r₀ by me.0 at q is word q' refl refl (all_fit r.extents p q q.ended q.epoch (begun_by p) f (let a = f.ended in omega arith) f.over f.epoch (omega arith)),
+      loads_to told s r₀ by me.0 at q is word q' refl refl (marked_fits r.extents p (record q { seen = p.history; risen = begun_by p }) marks (all_fit r.extents p q q.ended q.epoch (begun_by p) f (let a = f.ended in omega arith) f.over f.epoch (omega arith))),
       (
         record { view = refl; slots = refl },
         record {
           reads = record { is = refl; seen = f.seen };
           risen = f.risen;
           tells = λ j x at_j there. let h = f.held j x at_j in
-              parent_tells r.extents p q x (slice_index s.words word) r.sound h (ap (slice_index s.words) there ∙ word_now s.words p x.row 0 r.words h.row.has.0);
+              parent_tells r.extents p q marks x (slice_index s.words word) r.sound h (ap (slice_index s.words) there ∙ word_now s.words p x.row 0 r.words h.row.has.0);
         },
       ),
     )

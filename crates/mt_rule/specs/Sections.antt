@@ -1,6 +1,6 @@
 -- What the steps of a pass that reads without the lock tell it.
 -- Source: this project's own; the kernel's readers walk between rcu_read_lock and rcu_read_unlock.
-use Rattle.std.specs.Prelude.{◌≡◌, ◌≢◌, ℕ, ◌+◌, ◌^◌, ◌<◌, ◌≤◌, List, [], ◌∷◌, ◌++◌, Option, Some, None, length, slice_index, slice_get}
+use Rattle.std.specs.Prelude.{◌≡◌, ◌≢◌, ℕ, ◌+◌, ◌^◌, ◌<◌, ◌≤◌, ◌==◌, List, [], ◌∷◌, ◌++◌, Option, Some, None, length, slice_index, slice_get, if◌then◌else◌}
 use mathlib.Core.Option.{some}
 use lib.ListN.{get_elem?}
 use Rattle.atomic_table.specs.Table.{Step}
@@ -167,9 +167,13 @@ pub record LoadedSlot (word found : ℕ) (q q' : PassPart) : Type 0 where
   pub entry : (here q).extent.level ≡ 0 → LoadedEntry word found q q'
   pub child : (here q).extent.level ≢ 0 → LoadedChild word found q q'
 
--- The parent word of a row, for each hold of it.
-pub record LoadedParent (word found : ℕ) (q q' : PassPart) : Type 0 where
-  pub reads : Reads q q' (record (with_seen q q'.seen) { risen = q'.risen })
+-- the rows whose dead marks were loaded, where a row's parent word was found so
+abbrev pub marks_with : ℕ → ℕ → List ℕ → List ℕ
+marks_with row found marks = if found == dead_mark row then row ∷ marks else marks
+
+-- The parent word of this row, for each hold of it.
+pub record LoadedParent (row word found : ℕ) (q q' : PassPart) : Type 0 where
+  pub reads : Reads q q' (record (with_seen q q'.seen) { risen = q'.risen; marks = marks_with row found q.marks })
   pub risen : q.risen ≤ q'.risen
   pub tells : (j : ℕ) (x : Held) → get_elem? q.held j ≡ some x → word ≡ column_at (kind_width q.shape.kind) x.row 0 → ParentTells q' x found
 
@@ -206,8 +210,8 @@ loads_pivot step me found me' = OfPass me me' × LoadedPivot step.word found (pa
 abbrev pub loads_slot : Step (Unit {0}) → Seat → ℕ → Seat → Type 0
 loads_slot step me found me' = OfPass me me' × LoadedSlot step.word found (pass_of me.0) (pass_of me'.0)
 
-abbrev pub loads_parent : Step (Unit {0}) → Seat → ℕ → Seat → Type 0
-loads_parent step me found me' = OfPass me me' × LoadedParent step.word found (pass_of me.0) (pass_of me'.0)
+abbrev pub loads_parent : ℕ → Step (Unit {0}) → Seat → ℕ → Seat → Type 0
+loads_parent row step me found me' = OfPass me me' × LoadedParent row step.word found (pass_of me.0) (pass_of me'.0)
 
 abbrev pub loads_begun : Step (Unit {0}) → Seat → ℕ → Seat → Type 0
 loads_begun step me found me' = OfPass me me' × LoadedBegun found (pass_of me.0) (pass_of me'.0)

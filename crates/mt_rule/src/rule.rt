@@ -286,12 +286,14 @@ impl Play<(), View> for LoadsSlot {
 }
 
 /// A pass loads the parent word of a row.
-pub(crate) struct LoadsParent;
+pub(crate) struct LoadsParent<M> {
+    announced: PhantomData<M>,
+}
 
-impl Play<(), View> for LoadsParent {
+impl<M: Announced> Play<(), View> for LoadsParent<M> {
     ghost use Rattle.mt_rule.specs.Sections.{loads_parent};
 
-    ghost then = { loads_parent };
+    ghost then = { loads_parent M.number };
 }
 
 /// A pass loads the number of calls that have begun.

@@ -11,12 +11,13 @@ ghost use Rattle.mt_rule.specs.Tokens.{identity_of, part_of, pass_in, tree_in, I
 
 use crate::passes::Pass;
 use crate::rule::{
-    ClosesSection, LoadsBegun, LoadsCommits, LoadsParent, LoadsPivot, LoadsRoot, LoadsSlot,
-    OpensSection,
+    Announced, ClosesSection, LoadsBegun, LoadsCommits, LoadsParent, LoadsPivot, LoadsRoot,
+    LoadsSlot, OpensSection,
 };
 use crate::table::{BEGUN, COMMITS, MtTable, ROOT, section_index};
 use atomic_table::Badge;
 use mt_base::Steps;
+use std::marker::Brand;
 use std::mem;
 use std::sync::ledger::Ledger;
 
@@ -128,14 +129,24 @@ impl MtTable {
         requires pass { IsPassOf (identity_of self.now) pass.old }
         requires row { HasRow (part_of pass.old).shape.rows row }
         ensures stepped { Stepped (identity_of self.now) pass.old pass.new }
-        ensures told { LoadedParent (column_at (kind_width (part_of pass.old).shape.kind) row 0) result (part_of pass.old) (part_of pass.new) }
+        ensures told { LoadedParent row (column_at (kind_width (part_of pass.old).shape.kind) row 0) result (part_of pass.old) (part_of pass.new) }
         ensures steps { steps.new ≡ steps.old + 1 }
     {
         steps.tick();
+        self.load_parent_of::<Brand>(pass, row)
+    }
+
+    fn load_parent_of<M: Announced>(&self, pass: &mut Pass, row: u32) -> u64
+        requires pass { IsPassOf (identity_of self.now) pass.old }
+        requires row { HasRow (part_of pass.old).shape.rows row }
+        requires announced { M.number ≡ row }
+        ensures stepped { Stepped (identity_of self.now) pass.old pass.new }
+        ensures told { LoadedParent row (column_at (kind_width (part_of pass.old).shape.kind) row 0) result (part_of pass.old) (part_of pass.new) }
+    {
         let badge = mem::replace(&mut pass.seat, Badge::blank());
         let mut seat = badge.into_seat::<()>();
         let at = self.column_index(row, 0);
-        let word = self.table.shared.load::<LoadsParent>(&mut seat, at);
+        let word = self.table.shared.load::<LoadsParent<M>>(&mut seat, at);
         pass.seat = seat.into_badge();
         word
     }

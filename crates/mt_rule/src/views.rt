@@ -100,6 +100,8 @@ pub struct PassPart {
     pub floor: Option<u64>,
     /// A number of calls that have begun, as a dead mark tells.
     pub risen: u64,
+    /// The rows whose parent word it loaded as their dead mark, the last one first.
+    pub marks: LinkedList<u32>,
     /// The rows that its section has come to, the last one first.
     pub held: LinkedList<Held>,
 }

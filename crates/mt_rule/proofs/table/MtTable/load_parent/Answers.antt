@@ -1,7 +1,0 @@
-use Rattle.std.proofs.Common.{rules}
-use Rattle.mt_rule.proofs.ReadingPlaces.{column_below}
-use Rattle.mt_rule.proofs.ReadingSteps.{parents}
-use Rattle.mt_rule.proofs.table.MtTable.load_parent.Goals as goal
-
-pub load-word-requires : goal.load-word-requires
-load-word-requires g c = (search rules, column_below c.args.self.now c.args.pass.now c.requires.pass c.args.row 0 _ c.requires.row (search rules) (search rules), parents _ _ _ _ _ (search rules))
