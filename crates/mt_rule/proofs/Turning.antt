@@ -3,16 +3,23 @@ use Rattle.std.proofs.Common.{◌≡◌, ℕ, zero, suc, List, [], ◌∷◌, se
 use mathlib.Core.Option.{none, some, some-ne-none, some-injective}
 use mathlib.Core.Option as maybe
 use lib.ListN.{get_elem?}
+use Rattle.atomic_table.proofs.Lists.{at_longer, set_again}
 use Rattle.atomic_table.specs.Table.{State, Me, Act, Valid, step, keeps, takes, gives, stepped, carried_after, Allows, Splits, opening}
 use Rattle.std.specs.declared.snapshot.Snapshot.{Snapshot}
 use Rattle.mt_rule.specs.declared.table.MtTable.{MtTable}
 use Rattle.mt_rule.specs.declared.views.TurnView.{TurnView}
 use Rattle.mt_rule.specs.Tokens.{Identity}
-use Rattle.mt_rule.specs.Turns.{served, waiting, holding, taken_bit, SeatFits, IsTurnKept, grabs}
+use Rattle.mt_rule.specs.Turns.{served, waiting, holding, taken_bit, SeatFits, IsTurnKept, grabs, releases}
 use Rattle.mt_rule.proofs.Viewing.{each_set, each_split}
 
 off : false ≡ true → ⊥
 off e = true≢false (sym e)
+
+-- a seat has the view that it is given
+view_set : {V : Type 0} (views : List V) (by : ℕ) (v w : V) → get_elem? views by ≡ some v → get_elem? (set views by w) by ≡ some w
+view_set [] by v w e = absurd (some-ne-none v (sym e))
+view_set (x ∷ views) zero v w e = refl
+view_set (x ∷ views) (suc by) v w e = view_set views by v w e
 
 module _ {C : Type 0} (table : C → Identity) (key : Snapshot MtTable) where
   abbrev M : Type 0
@@ -29,7 +36,7 @@ module _ {C : Type 0} (table : C → Identity) (key : Snapshot MtTable) where
   waits holder home by v of idle = record { of = of; holds = λ h. absurd (off (sym idle ∙ h)) }
 
   pub turn_starts : (c : C) → table c ≡ served key → Rule (opening (0 ∷ []) (Some c ∷ []) (waiting key))
-  turn_starts c is = record { holder = 0; home = some (Some c); words = refl; homes = refl; value = λ x e. (c, sym (some-injective _ _ e), is); each = one }
+  turn_starts c is = record { holder = 0; home = some (Some c); words = refl; homes = refl; value = λ x e. (c, sym (some-injective _ _ e), is); away = λ e. absurd (some-ne-none (Some c) e); each = one }
     where
       one : (by : ℕ) (v : TurnView) → get_elem? (waiting key ∷ []) by ≡ some v → Fits 0 (some (Some c)) by v
       one zero v e = subst (Fits 0 (some (Some c)) 0) (some-injective _ _ e) (waits 0 (some (Some c)) 0 (waiting key) refl refl)
@@ -42,6 +49,7 @@ module _ {C : Type 0} (table : C → Identity) (key : Snapshot MtTable) where
     words = r.words;
     homes = r.homes;
     value = r.value;
+    away = λ e. at_longer (set s.views by v) (v ∷ []) r.holder (holding key) (ap (λ (l : List TurnView). get_elem? l r.holder) (set_again s.views by v at) ∙ r.away e);
     each = let mine = r.each by v at in each_split (Fits r.holder r.home) s.views by v v (λ j u _ e. r.each j u e) mine (waits r.holder r.home _ v mine.of idle);
   }
 
@@ -63,6 +71,7 @@ module _ {C : Type 0} (table : C → Identity) (key : Snapshot MtTable) where
           words = ap (λ (l : List ℕ). set l 0 1) r.words;
           homes = r.homes ∙ ap (λ h. h ∷ []) is;
           value = λ x e. absurd (some-ne-none x (sym e));
+          away = λ _. ap (λ (l : List TurnView). get_elem? l r.holder) (set_again s.views by v at) ∙ r.away is;
           each = each_set (Fits r.holder none) s.views by v (λ j u _ e. let f = r.each j u e in record { of = f.of; holds = λ h. ((f.holds h).0, refl) }) (waits r.holder none by v mine.of idle);
         },
         record { free = λ e. let n = ap (λ (l : List ℕ). get_or l 0 0) r.words ∙ ap taken_bit is in absurd (omega arith); taken = λ _. refl },
@@ -77,12 +86,13 @@ module _ {C : Type 0} (table : C → Identity) (key : Snapshot MtTable) where
           words = ap (λ (l : List ℕ). set l 0 1) r.words;
           homes = ap (λ l. set l 0 none) r.homes;
           value = λ x e. absurd (some-ne-none x (sym e));
+          away = λ _. view_set s.views by v (holding v.of) at ∙ ap (λ (k : Snapshot MtTable). some (holding k)) mine.of;
           each = each_set (Fits by none) s.views by (holding v.of) (λ j u _ e. let f = r.each j u e in record { of = f.of; holds = λ h. absurd (some-ne-none x (sym is ∙ (f.holds h).1)) }) record { of = mine.of; holds = λ _. (refl, refl) };
         },
         record { free = λ _. (c.0, refl, c.2 ∙ ap served (sym mine.of)); taken = λ n. absurd (n (ap (λ (l : List ℕ). get_or l 0 0) r.words ∙ ap taken_bit is)) },
       )
 
-  releasing : (slots by : ℕ) (v : TurnView) (c : C) → v.holds ≡ true → table c ≡ served key → Allows Rule slots by (v, (0, Some c) ∷ []) 0 (λ _. 0) (λ _ _. Unit {0})
+  releasing : (slots by : ℕ) (v : TurnView) (c : C) → v.holds ≡ true → table c ≡ served key → Allows Rule slots by (v, (0, Some c) ∷ []) 0 (λ _. 0) (λ _. releases (step slots 0 0 0 none) (v, (0, Some c) ∷ []) 0)
   releasing slots by v c held is s r deep at _ = let mine = r.each by v at in let known = mine.holds held in (
     waiting v.of,
     gives,
@@ -93,9 +103,10 @@ module _ {C : Type 0} (table : C → Identity) (key : Snapshot MtTable) where
       words = ap (λ (l : List ℕ). set l 0 0) r.words;
       homes = ap (λ l. set l 0 (some (Some c))) r.homes;
       value = λ x e. (c, sym (some-injective _ _ e), is);
+      away = λ e. absurd (some-ne-none (Some c) e);
       each = each_set (Fits r.holder (some (Some c))) s.views by (waiting v.of) (λ j u apart e. let f = r.each j u e in record { of = f.of; holds = λ h. absurd (apart ((f.holds h).0 ∙ sym known.0)) }) (waits r.holder (some (Some c)) by (waiting v.of) mine.of refl);
     },
-    tt,
+    refl,
   )
 
   -- the same at a seat whose view and slots are known
@@ -105,8 +116,8 @@ module _ {C : Type 0} (table : C → Identity) (key : Snapshot MtTable) where
   pub grabs_value : (slots by : ℕ) (me : M) → me ≡ (waiting key, []) → Allows Rule slots by me 0 (λ _. 1) (grabs table (step slots 0 1 0 none) me)
   grabs_value slots by me is = subst (λ (m : M). Allows Rule slots by m 0 (λ _. 1) (grabs table (step slots 0 1 0 none) m)) (sym is) (grabbing slots by (waiting key) refl)
 
-  pub releases_value : (slots by : ℕ) (me : M) (c : C) → me ≡ (holding key, (0, Some c) ∷ []) → table c ≡ served key → Allows Rule slots by me 0 (λ _. 0) (λ _ _. Unit {0})
-  releases_value slots by me c is fits = subst (λ (m : M). Allows Rule slots by m 0 (λ _. 0) (λ _ _. Unit {0})) (sym is) (releasing slots by (holding key) c refl fits)
+  pub releases_value : (slots by : ℕ) (me : M) (c : C) → me ≡ (holding key, (0, Some c) ∷ []) → table c ≡ served key → Allows Rule slots by me 0 (λ _. 0) (λ _. releases (step slots 0 0 0 none) me 0)
+  releases_value slots by me c is fits = subst (λ (m : M). Allows Rule slots by m 0 (λ _. 0) (λ _. releases (step slots 0 0 0 none) m 0)) (sym is) (releasing slots by (holding key) c refl fits)
 
 pub only_view : (v w : TurnView) → v ∷ [] ≡ w ∷ [] → v ≡ w
 only_view v w e = ap (λ (l : List TurnView). get_or l 0 v) e

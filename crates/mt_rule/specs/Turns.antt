@@ -48,12 +48,14 @@ module _ {C : Type 0} (table : C → Identity) where
     pub of : v.of ≡ key
     pub holds : v.holds ≡ true → (by ≡ holder) × (home ≡ none)
 
+  -- While the slot is away one seat says that it holds the value: it goes on saying so until the slot is home and the word 0.
   pub record IsTurnKept (key : Snapshot MtTable) (s : State (Option C) TurnView) : Type 0 where
     pub holder : ℕ
     pub home : maybe.Option (Option C)
     pub words : s.words ≡ taken_bit home ∷ []
     pub homes : s.homes ≡ home ∷ []
     pub value : (slot : Option C) → home ≡ some slot → BelongsTo (served key) slot
+    pub away : home ≡ none → get_elem? s.views holder ≡ some (holding key)
     pub each : (by : ℕ) (v : TurnView) → get_elem? s.views by ≡ some v → SeatFits key holder home by v
 
   -- A swap of 1 into the word: where it was 0, the seat then holds the value; else nothing has changed.
@@ -67,3 +69,7 @@ module _ {C : Type 0} (table : C → Identity) where
 
   abbrev pub grabs : Step (Option C) → Me (Option C) TurnView → ℕ → Me (Option C) TurnView → Type 0
   grabs step me found me' = Grabbed me found me'
+
+-- the store of 0: the seat waits again, and no slot is away with it
+abbrev pub releases : {C : Type 0} → Step (Option C) → Me (Option C) TurnView → ℕ → Me (Option C) TurnView → Type 0
+releases step me stored me' = me' ≡ (waiting me.0.of, [])

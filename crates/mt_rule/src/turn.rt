@@ -53,7 +53,9 @@ impl<C: OfTable> Play<Option<C>, TurnView> for Grabs {
 struct Releases;
 
 impl<C: OfTable> Play<Option<C>, TurnView> for Releases {
-    ghost then = { λ _ _ _ _. Unit {0} };
+    ghost use Rattle.mt_rule.specs.Turns.{releases};
+
+    ghost then = { releases };
 }
 
 /// A seat beside another.
@@ -72,8 +74,7 @@ pub struct Turn<C: OfTable> {
     ghost one: { (table.shared.table_id.words ≡ 1) × (table.shared.table_id.slots ≡ 1) },
 }
 
-/// The value of a turn while it is taken. It is given back by [`Turn::give`].
-#[derive(Drop)]
+/// The value of a turn while it is taken. It cannot be dropped: whoever takes it gives it back, by [`Turn::give`].
 pub struct Taken<C: OfTable> {
     pub value: C,
     pub(crate) seat: Seat<Option<C>, TurnView>,
@@ -187,9 +188,20 @@ impl<C: OfTable> Turn<C> {
         requires taken { IsTakenOf self.now.table.shared.table_id self.now.table.shared.key taken.seat }
         requires value { C.table taken.value ≡ served self.now.table.shared.key }
     {
+        let _ = self.given(taken);
+    }
+
+    /// Gives the value back. Answers the seat that had it, which waits again: the slot has the value, and the word is 0.
+    fn given(&self, taken: Taken<C>) -> Seat<Option<C>, TurnView>
+        requires taken { IsTakenOf self.now.table.shared.table_id self.now.table.shared.key taken.seat }
+        requires value { C.table taken.value ≡ served self.now.table.shared.key }
+        ensures same { (result.table_id ≡ taken.seat.table_id) × (result.id ≡ taken.seat.id) }
+        ensures given { result.me ≡ (waiting self.now.table.shared.key, []) }
+    {
         let Taken { value, mut seat } = taken;
         let empty = self.table.shared.exchange(&mut seat, 0, Some(value));
         let None = empty else { unreachable!() };
         self.table.shared.store::<Releases>(&mut seat, 0, 0);
+        seat
     }
 }
