@@ -180,6 +180,7 @@ column_set words p n i new w size passes high low dealt ended begun root is = re
   root = get_or-set_other words i root_at new 0 (counter_off wide root_at i (omega arith) high) ∙ (w.root ∙ sym root);
   sections = λ k few. subst (λ (z : ℕ × ℕ). IsSectionWord z.0 z.1) (λ j. (sym ended j, sym (section k few) j)) (w.sections k few);
   undealt = λ k not few. section k few ∙ w.undealt k (omega arith) few;
+  unnamed = λ j above off. get_or-set_other words i j new 0 (λ e. omega arith) ∙ w.unnamed j above off;
   columns = λ j at. column j at ∙ ap (λ (l : List ℕ). slice_index l j) (sym is);
 }
   where

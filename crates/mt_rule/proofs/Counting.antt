@@ -4,7 +4,7 @@ use Rattle.std.specs.Prelude.{slice_index, slice_set}
 use Rattle.mt_base.specs.Width.{kind_width}
 use Rattle.mt_layout.proofs.Places.{words_before, words_in_all}
 use Rattle.mt_rule.specs.declared.views.PenPart.{PenPart}
-use Rattle.mt_rule.specs.Places.{begun_at, commits_at, root_at, section_at, IsSectionWord}
+use Rattle.mt_rule.specs.Places.{begun_at, commits_at, root_at, section_at, IsSectionWord, IsUnnamed}
 use Rattle.mt_rule.specs.declared.table.MtTable.{MtTable}
 use Rattle.mt_rule.specs.Rule.{begun_by, WordsFit}
 use Rattle.mt_rule.specs.Seats.{shape_told}
@@ -26,6 +26,10 @@ module _ (words : List ℕ) (p n : PenPart) (i new : ℕ) (w : WordsFit words p)
   pub counter_sections : (k : ℕ) → slice_index (slice_set words i new) (section_at k) ≡ slice_index words (section_at k)
   counter_sections k = there (section_at k) (λ e. omega arith)
 
+  -- the word that is set has a name
+  counter_apart : (j : ℕ) → IsUnnamed p.shape.passes j → j ≢ i
+  counter_apart j off e = let a = off.commits in let b = off.begun in let c = off.root in omega arith
+
   -- the three words are what the pen knows then
   pub counter_set : n.dealt ≡ p.dealt → p.ended ≤ n.ended → n.words ≡ p.words → slice_index (slice_set words i new) commits_at ≡ n.ended → slice_index (slice_set words i new) begun_at ≡ begun_by n
       → slice_index (slice_set words i new) root_at ≡ n.root → WordsFit (slice_set words i new) (shaped_as p n)
@@ -36,5 +40,6 @@ module _ (words : List ℕ) (p n : PenPart) (i new : ℕ) (w : WordsFit words p)
     root = root;
     sections = λ k few. subst (IsSectionWord n.ended) (sym (counter_sections k)) (section_later p.ended n.ended (slice_index words (section_at k)) up (w.sections k few));
     undealt = λ k not few. counter_sections k ∙ w.undealt k (omega arith) few;
+    unnamed = λ j above off. there j (counter_apart j off) ∙ w.unnamed j above off;
     columns = λ j at. (let far = words_before (kind_width p.shape.kind) in there j (λ e. omega arith)) ∙ (w.columns j at ∙ ap (λ (l : List ℕ). slice_index l j) (sym same));
   }

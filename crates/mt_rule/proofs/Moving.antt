@@ -63,7 +63,7 @@ dealt_sound : (extents : ℕ → Extent) (p : PenPart) → IsSound extents p →
 dealt_sound extents p s room = still_sound extents p (dealt_more p) s (dealt_history p s.history room) s.known s.dead s.passes s.cleared
 
 dealt_words : (words : List ℕ) (p : PenPart) → WordsFit words p → WordsFit words (dealt_more p)
-dealt_words words p w = record { size = w.size; commits = w.commits; begun = w.begun; root = w.root; sections = w.sections; undealt = λ k low high. w.undealt k (omega arith) high; columns = w.columns }
+dealt_words words p w = record { size = w.size; commits = w.commits; begun = w.begun; root = w.root; sections = w.sections; undealt = λ k low high. w.undealt k (omega arith) high; unnamed = w.unnamed; columns = w.columns }
 
 still_fits : (extents : ℕ → Extent) (p : PenPart) (q : PassPart) → PassFits extents p q → PassFits extents (dealt_more p) q
 still_fits extents p q f = record {

@@ -159,6 +159,7 @@ module _ (kind : Kind) (t : Rooted) (passes calls : ℕ) (lawful : IsLawfulOf t 
         root = o.root;
         sections = λ k low. inl (section k low);
         undealt = λ k _ low. section k low;
+        unnamed = λ i low off. o.none i off.root (subst (λ (w : Width). i < rows_at w) (sym lawful.width) low);
         columns = λ i high. o.columns i (subst (λ (w : Width). rows_at w ≤ i) (sym lawful.width) high);
       }
 

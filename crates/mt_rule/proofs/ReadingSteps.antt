@@ -107,6 +107,7 @@ module _ (told : Told) (s : St) (r₀ : IsKept told s) (by : ℕ) (v : View) (at
           | inr other ↦ subst (IsSectionWord part_by.ended) (sym (kept (section_at k) (λ e. other (let most = kept_by.sound.few_passes in omega arith)))) (kept_by.words.sections k low)
         ];
         undealt = λ k high low. let dealt = (mine.passes q is).number in let most = kept_by.sound.few_passes in kept (section_at k) (λ e. omega arith) ∙ kept_by.words.undealt k high low;
+        unnamed = λ i low off. kept i (off.section q.number (let a = (mine.passes q is).number in let b = kept_by.sound.history.dealt in omega arith)) ∙ kept_by.words.unnamed i low off;
         columns = λ i high. let first = words_before (kind_width q.shape.kind) in kept i (λ e. omega arith) ∙ kept_by.words.columns i high;
       }
       (stored ∙ word)

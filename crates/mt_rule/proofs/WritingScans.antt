@@ -152,7 +152,7 @@ module _ (e : ℕ → Extent) (p : PenPart) (k found : ℕ) (words : List ℕ) (
   scanned_goes = life.1
 
   pub scanned_fit : WordsFit words N
-  scanned_fit = record { size = fit.size; commits = fit.commits; begun = fit.begun; root = fit.root; sections = fit.sections; undealt = fit.undealt; columns = fit.columns }
+  scanned_fit = record { size = fit.size; commits = fit.commits; begun = fit.begun; root = fit.root; sections = fit.sections; undealt = fit.undealt; unnamed = fit.unnamed; columns = fit.columns }
 
   -- ---- and each pass
 

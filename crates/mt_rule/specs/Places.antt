@@ -45,6 +45,13 @@ section_word (Some epoch) = 2 * epoch + 1
 abbrev pub IsSectionWord : ℕ → ℕ → Type 0
 IsSectionWord ended word = (word ≡ 0) ⊎ ((epoch : ℕ) × (word ≡ 2 * epoch + 1) × (epoch ≤ ended))
 
+-- The index is of no word that has a name, where the tree has so many passes.
+pub record IsUnnamed (passes i : ℕ) : Type 0 where
+  pub commits : i ≢ commits_at
+  pub begun : i ≢ begun_at
+  pub root : i ≢ root_at
+  pub section : (k : ℕ) → k < passes → i ≢ section_at k
+
 -- the root word, or any column of a row
 abbrev pub IsWordPlace : Rooted → Place → Type 0
 IsWordPlace t Root = Unit {0}

@@ -23,7 +23,7 @@ use Rattle.mt_rule.specs.declared.views.PenPart.{PenPart}
 use Rattle.mt_rule.specs.declared.views.PassPart.{PassPart}
 use Rattle.mt_rule.specs.declared.views.NotePart.{NotePart}
 use Rattle.mt_rule.specs.Limits.{most_passes, most_calls}
-use Rattle.mt_rule.specs.Places.{commits_at, begun_at, root_at, section_at, rows_at, size_of, section_word, IsSectionWord}
+use Rattle.mt_rule.specs.Places.{commits_at, begun_at, root_at, section_at, rows_at, size_of, section_word, IsSectionWord, IsUnnamed}
 use Rattle.mt_rule.specs.Seats.{moment_at, records_of, rooted_in, shape_told, state_in, tree_of}
 
 -- how many calls have begun
@@ -62,7 +62,7 @@ pub record IsSound (extents : ℕ → Extent) (p : PenPart) : Type 0 where
   pub cleared : (k : ℕ) → k < p.shape.passes → slice_index p.cleared k ≤ p.ended
 
 -- The words of the table are what the pen knows. A section word is 0 or of an epoch that has been, and 0 of a pass that was not
--- dealt.
+-- dealt. A word above the rows that has no name is 0.
 pub record WordsFit (words : List ℕ) (p : PenPart) : Type 0 where
   pub size : length words ≡ size_of (kind_width p.shape.kind) p.shape.rows
   pub commits : slice_index words commits_at ≡ p.ended
@@ -70,6 +70,7 @@ pub record WordsFit (words : List ℕ) (p : PenPart) : Type 0 where
   pub root : slice_index words root_at ≡ p.root
   pub sections : (k : ℕ) → k < p.shape.passes → IsSectionWord p.ended (slice_index words (section_at k))
   pub undealt : (k : ℕ) → p.dealt ≤ k → k < p.shape.passes → slice_index words (section_at k) ≡ 0
+  pub unnamed : (i : ℕ) → i < rows_at (kind_width p.shape.kind) → IsUnnamed p.shape.passes i → slice_index words i ≡ 0
   pub columns : (i : ℕ) → rows_at (kind_width p.shape.kind) ≤ i → slice_index words i ≡ slice_index p.words i
 
 -- ---- what a pass knows
