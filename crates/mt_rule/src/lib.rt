@@ -2,6 +2,7 @@
 //! its writers.
 #![tactic(auto)]
 
+pub mod laws;
 mod notes;
 mod passes;
 mod pens;
