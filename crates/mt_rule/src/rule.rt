@@ -13,7 +13,7 @@ use atomic_table::{Join, Play, Split, TableRule};
 use std::marker::{Brand, PhantomData};
 
 /// A tree has one history, of which every pass and every note knows a beginning; its words stand for the map after it, and the
-/// rows that a pass is at are as they were when it came to them.
+/// rows that a section holds have the pivots and the empty slots that they had when it came to them.
 pub struct Ruled;
 
 impl TableRule<(), View, Told> for Ruled {
