@@ -69,14 +69,13 @@ stored_as kind s t lives buried reads book book' call reply flies idle rows acts
     ended = refl;
     record_told = refl;
     cleared = omega arith;
-    scans = inl refl;
     rows = rows;
     opened = refl;
     shared = refl;
     known = refl;
   };
   acts = acts;
-  unscanned = record { scans = refl; scan = refl; at_begin = refl };
+  unscanned = record { scans = refl; scan = refl };
   took = took;
 }
 

@@ -1,6 +1,5 @@
 -- What a call has come to by a store, at once or after a scan, and by the end of all ranges.
-use Rattle.std.proofs.Common.{◌≡◌, ◌≢◌, ℕ, ◌+◌, ◌*◌, ◌≤◌, ◌<◌, ◌++◌, ◌^◌, ◌-◌, List, [], Bool, true, false, length, refl, sym, ap, ◌∙◌, subst, inl, inr, arith, append-nil}
-use Rattle.std.specs.Prelude.{◌⊎◌}
+use Rattle.std.proofs.Common.{◌≡◌, ◌≢◌, ℕ, ◌+◌, ◌*◌, ◌≤◌, ◌++◌, List, [], Bool, true, false, length, refl, sym, ap, ◌∙◌, subst, inl, inr, arith, append-nil}
 use Rattle.mt_base.specs.declared.calls.Call.{Call}
 use Rattle.mt_base.specs.declared.calls.Call.TheVariants.{Clear}
 use Rattle.mt_base.specs.declared.kinds.Kind.{Kind}
@@ -15,7 +14,7 @@ use Rattle.mt_rows.specs.declared.rows.Place.{Place}
 use Rattle.mt_rows.specs.declared.rows.Place.TheVariants.{Root}
 use Rattle.mt_rows.specs.declared.rows.Scan.{Scan}
 use Rattle.mt_rows.specs.Trees.{height_in}
-use Rattle.mt_rows.specs.Sheet.{Sheet, IsWhole, OnlyReads, scanned}
+use Rattle.mt_rows.specs.Sheet.{Sheet, OnlyReads, scanned}
 use Rattle.mt_path.specs.declared.paths.PathStep.{PathStep}
 use Rattle.mt_path.specs.Paths.{path_in}
 use Rattle.mt_rows.specs.Publish.{IsTreeOf, WasScanned, map_by, finished}
@@ -25,25 +24,26 @@ use Rattle.mt_engine.specs.Mends.{MayMendAt, WasWay, IsMendedAt}
 use Rattle.mt_engine.specs.Rooms.{IsScanned, HasRoom}
 use Rattle.mt_engine.specs.Stores.{IsStored}
 use Rattle.mt_engine.proofs.AfterSplice.{replaced, stored_by}
-use Rattle.mt_engine.proofs.Moments.{in_call_if_read, answered_after_reads}
-use Rattle.mt_engine.proofs.Scanned.{was_scanned}
+use Rattle.mt_engine.proofs.Moments.{in_call_if_read, unscanned_if_read, answered_after_reads}
+use Rattle.mt_engine.proofs.Scanned.{was_scanned, first_scan}
 
 pub not_both : (b : Bool) → b ≡ true → b ≡ false → ⊥
 not_both b is not = absurd (cc)
 
 -- ---- a store at once
 
-pub at_once : (kind : Kind) (s s' : Sheet) (book book' : Book) (call : Call) (reply : Reply) → is_refusal reply ≡ false → (Wants kind (map_by s.tree) call → ⊥) → (Replaces kind (map_by s.tree) call → ⊥) → IsStored kind s s' book book' call reply → IsAnswered kind s s' book book' call reply
-at_once kind s s' book book' call reply success calm none stored = record {
+pub at_once : (kind : Kind) (s s' : Sheet) (book book' : Book) (call : Call) (reply : Reply) → s.scans ≡ 0 → is_refusal reply ≡ false → (Wants kind (map_by s.tree) call → ⊥) → (Replaces kind (map_by s.tree) call → ⊥) → IsStored kind s s' book book' call reply → IsAnswered kind s s' book book' call reply
+at_once kind s s' book book' call reply unscanned success calm none stored = record {
   may = stored.may;
   ended = stored.ended;
+  scans = (let same = stored.unscanned.scans in omega arith);
   answer =
       inl (record {
         acts = stored.acts;
         kept = λ refused. absurd (not_both (is_refusal reply) refused success);
         room = λ wants. absurd (calm wants);
         took = λ wants. absurd (calm wants);
-        calm = λ _. (stored.unscanned.scans, stored.unscanned.scan, sym (stored.took.free_were ∙ (ap (λ (l : List ℕ). book'.free ++ l) (stored.took.none none) ∙ append-nil book'.free)));
+        calm = λ _. (stored.unscanned.scans ∙ unscanned, stored.unscanned.scan, sym (stored.took.free_were ∙ (ap (λ (l : List ℕ). book'.free ++ l) (stored.took.none none) ∙ append-nil book'.free)));
       });
 }
 
@@ -64,30 +64,28 @@ module _ (kind : Kind) (s : Sheet) (answer : Scan) (cleared : ℕ) (s' : Sheet) 
         ended = is.ended;
         record_told = is.record_told;
         cleared = (let more = is.cleared in omega arith);
-        scans = inr stored.unscanned.scans;
         rows = is.rows;
         opened = is.opened;
         shared = is.shared;
         known = is.known;
       }
 
-  was_scanned_then : IsWhole s → IsStored kind found s' freed book' call reply → WasScanned done
-  was_scanned_then whole stored =
-      let was : WasScanned found = was_scanned s answer cleared whole in
-      subst (λ (p : ℕ × ℕ). (p.0 < p.1) ⊎ (p.1 ≡ 2 ^ 64 - 1)) (λ i. (sym stored.unscanned.at_begin i, sym stored.unscanned.scans i)) was
+  was_scanned_then : IsStored kind found s' freed book' call reply → WasScanned done
+  was_scanned_then stored = subst (λ (n : ℕ). 1 ≤ n) (sym stored.unscanned.scans) (was_scanned s answer cleared)
 
   least_is : IsStored kind found s' freed book' call reply → freed ≡ after_reclaim book answer.least → after_reclaim book done.scan.least ≡ freed
   least_is stored is = ap (λ (a : Scan). after_reclaim book a.least) stored.unscanned.scan ∙ sym is
 
-  after_scan_by : IsWhole s → s.cleared ≤ cleared → freed ≡ after_reclaim book answer.least → HasRoom s.tree freed → Wants kind (map_by s.tree) call → is_refusal reply ≡ false → IsStored kind found s' freed book' call reply → IsAnswered kind s s' book book' call reply
-  after_scan_by whole rises is room wants success stored = record {
+  after_scan_by : s.scans ≡ 0 → s.cleared ≤ cleared → freed ≡ after_reclaim book answer.least → HasRoom s.tree freed → Wants kind (map_by s.tree) call → is_refusal reply ≡ false → IsStored kind found s' freed book' call reply → IsAnswered kind s s' book book' call reply
+  after_scan_by unscanned rises is room wants success stored = record {
     may = stored.may;
     ended = ended_then rises stored;
+    scans = subst (λ (n : ℕ). n ≤ 1) (sym stored.unscanned.scans) (first_scan s answer cleared unscanned);
     answer =
         inl (record {
           acts = stored.acts;
           kept = λ refused. absurd (not_both (is_refusal reply) refused success);
-          room = λ _. record { scanned = was_scanned_then whole stored; room = subst (λ (b : Book). 3 * height_in s.tree.table s.tree.root + 1 ≤ length b.free) (sym (least_is stored is)) room };
+          room = λ _. record { scanned = was_scanned_then stored; room = subst (λ (b : Book). 3 * height_in s.tree.table s.tree.root + 1 ≤ length b.free) (sym (least_is stored is)) room };
           took = λ _.
               (let took = stored.took in
               record { taken = took.taken; free_were = ap (λ (b : Book). b.free) (least_is stored is) ∙ took.free_were; few = took.few; none = took.none });
@@ -95,9 +93,9 @@ module _ (kind : Kind) (s : Sheet) (answer : Scan) (cleared : ℕ) (s' : Sheet) 
         });
   }
 
-pub after_scan : (kind : Kind) (s s₂ s' : Sheet) (book book₂ book' : Book) (call : Call) (reply : Reply) → IsWhole s → IsScanned kind s s₂ book book₂ → HasRoom s₂.tree book₂ → Wants kind (map_by s.tree) call → is_refusal reply ≡ false → IsStored kind s₂ s' book₂ book' call reply → IsAnswered kind s s' book book' call reply
-after_scan kind s s₂ s' book book₂ book' call reply whole is room wants success stored =
-    after_scan_by kind s s₂.scan s₂.cleared s' book book₂ book' call reply whole is.rises is.freed (subst (λ (x : Sheet). HasRoom x.tree book₂) is.rest room) wants success
+pub after_scan : (kind : Kind) (s s₂ s' : Sheet) (book book₂ book' : Book) (call : Call) (reply : Reply) → s.scans ≡ 0 → IsScanned kind s s₂ book book₂ → HasRoom s₂.tree book₂ → Wants kind (map_by s.tree) call → is_refusal reply ≡ false → IsStored kind s₂ s' book₂ book' call reply → IsAnswered kind s s' book book' call reply
+after_scan kind s s₂ s' book book₂ book' call reply unscanned is room wants success stored =
+    after_scan_by kind s s₂.scan s₂.cleared s' book book₂ book' call reply unscanned is.rises is.freed (subst (λ (x : Sheet). HasRoom x.tree book₂) is.rest room) wants success
     (subst (λ (x : Sheet). IsStored kind x s' book₂ book' call reply) is.rest stored)
 
 -- ---- by new rows
@@ -140,9 +138,9 @@ rows_stored kind s s₁ s₂ book book' number call reply place first last in_ca
 
 -- ---- by the end of all ranges
 
-clears : (kind : Kind) (s s' : Sheet) (book book' : Book) {first last : ℕ} → IsInCall kind s book → IsSpliced kind s s' book book' (s.ended + 1) Clear reply.Ok Root first last → book'.free ≡ book.free → s'.tree.root ≡ 0 → IsAnswered kind s s' book book' Clear reply.Ok
-clears kind s s' book book' in_call spliced none_taken empty =
-    at_once kind s s' book book' Clear reply.Ok refl (λ wants. wants) (λ replaces. replaces)
+clears : (kind : Kind) (s s' : Sheet) (book book' : Book) {first last : ℕ} → IsInCall kind s book → s.scans ≡ 0 → IsSpliced kind s s' book book' (s.ended + 1) Clear reply.Ok Root first last → book'.free ≡ book.free → s'.tree.root ≡ 0 → IsAnswered kind s s' book book' Clear reply.Ok
+clears kind s s' book book' in_call unscanned spliced none_taken empty =
+    at_once kind s s' book book' Clear reply.Ok unscanned refl (λ wants. wants) (λ replaces. replaces)
     (stored_by kind s s' book book' Clear reply.Ok Root in_call.state spliced s' spliced.rest (record { width = spliced.tree.width; words = inl empty }) refl (λ row. refl) in_call.in_flight refl refl
     (record { taken = []; free_were = sym none_taken ∙ sym (append-nil book'.free); few = omega arith; none = λ _. refl }))
 
@@ -170,8 +168,8 @@ module _ (kind : Kind) (s s₁ : Sheet) (book : Book) (number : ℕ) (call : Cal
   pub may_clear_now : MayClear kind s₁ book number call reply.Ok
   may_clear_now = subst (λ (c : Call). MayClear kind s₁ book number c reply.Ok) (sym plan.0) (subst (λ (n : ℕ). MayClear kind s₁ book n Clear reply.Ok) (sym number_now) (may_clear_in kind s₁ book now some))
 
-  pub cleared_now : (s' : Sheet) (book' : Book) {first last : ℕ} → IsSpliced kind s₁ s' book book' number call reply.Ok Root first last → book'.free ≡ book.free → s'.tree.root ≡ 0 → IsAnswered kind s s' book book' call reply.Ok
-  cleared_now s' book' {first = first} {last = last} spliced none_taken empty =
+  pub cleared_now : (s' : Sheet) (book' : Book) {first last : ℕ} → s.scans ≡ 0 → IsSpliced kind s₁ s' book book' number call reply.Ok Root first last → book'.free ≡ book.free → s'.tree.root ≡ 0 → IsAnswered kind s s' book book' call reply.Ok
+  cleared_now s' book' {first = first} {last = last} unscanned spliced none_taken empty =
       let as_clear : IsSpliced kind s₁ s' book book' number Clear reply.Ok Root first last = subst (λ (c : Call). IsSpliced kind s₁ s' book book' number c reply.Ok Root first last) plan.0 spliced in
       let numbered : IsSpliced kind s₁ s' book book' (s₁.ended + 1) Clear reply.Ok Root first last = subst (λ (n : ℕ). IsSpliced kind s₁ s' book book' n Clear reply.Ok Root first last) number_now as_clear in
-      answered_after_reads kind s s₁ s' book book' call reply.Ok reads (subst (λ (c : Call). IsAnswered kind s₁ s' book book' c reply.Ok) (sym plan.0) (clears kind s₁ s' book book' now numbered none_taken empty))
+      answered_after_reads kind s s₁ s' book book' call reply.Ok reads (subst (λ (c : Call). IsAnswered kind s₁ s' book book' c reply.Ok) (sym plan.0) (clears kind s₁ s' book book' now (unscanned_if_read s s₁ reads unscanned) numbered none_taken empty))

@@ -10,12 +10,12 @@ use Rattle.mt_base.specs.Call.{acted}
 use Rattle.mt_base.specs.Nodes.{Wants, IsRefused}
 use Rattle.mt_free.specs.Book.{Book, after_reclaim}
 use Rattle.mt_rows.specs.declared.rows.Scan.{Scan}
-use Rattle.mt_rows.specs.Sheet.{Sheet, IsScan, IsWhole, limits_of, one_more, scanned}
+use Rattle.mt_rows.specs.Sheet.{Sheet, IsScan, limits_of, one_more, scanned}
 use Rattle.mt_rows.specs.Publish.{MayFinish, IsFoundShort, IsCounted, finished, map_by, with_record}
 use Rattle.mt_engine.specs.Engine.{IsEngineState, IsIdle, IsInCall, IsEnded, IsAnswered}
 use Rattle.mt_engine.specs.Rooms.{IsScanned, IsShortOf}
 use Rattle.mt_engine.specs.Stores.{IsStored}
-use Rattle.mt_engine.proofs.Scanned.{was_scanned}
+use Rattle.mt_engine.proofs.Scanned.{was_scanned, first_scan}
 
 -- the call's reply leaves the map
 abbrev StaysBy : Kind → Sheet → Call → Reply → Type 0
@@ -65,13 +65,12 @@ module _ (kind : Kind) (s : Sheet) (reads : Option ℕ) (scan : Scan) (scans cle
     record_is : done.told ≡ with_record s.told call reply
     record_is = rw is.before refl
 
-    ends : s.cleared ≤ cleared → (scans ≡ s.scans) ⊎ (scans ≡ one_more s.scans) → IsEnded kind s done next call reply
-    ends rises counts = record {
+    ends : s.cleared ≤ cleared → IsEnded kind s done next call reply
+    ends rises = record {
       idle = ends_idle;
       ended = refl;
       record_told = record_is;
       cleared = rises;
-      scans = counts;
       rows = refl;
       opened = refl;
       shared = refl;
@@ -80,17 +79,18 @@ module _ (kind : Kind) (s : Sheet) (reads : Option ℕ) (scan : Scan) (scans cle
 
 -- ---- the map stays
 
-pub leaves : (kind : Kind) (s : Sheet) (book : Book) (call : Call) (reply : Reply) → IsInCall kind s book → StaysBy kind s call reply → (Wants kind (map_by s.tree) call → ⊥) → IsAnswered kind s s book book call reply
-leaves kind s book call reply is stays calm = record {
+pub leaves : (kind : Kind) (s : Sheet) (book : Book) (call : Call) (reply : Reply) → IsInCall kind s book → s.scans ≡ 0 → StaysBy kind s call reply → (Wants kind (map_by s.tree) call → ⊥) → IsAnswered kind s s book book call reply
+leaves kind s book call reply is unscanned stays calm = record {
   may = may_end kind s s.reads s.scan s.scans s.cleared book call reply is (inl stays);
-  ended = ends kind s s.reads s.scan s.scans s.cleared book call reply is (omega arith) (inl refl);
+  ended = ends kind s s.reads s.scan s.scans s.cleared book call reply is (omega arith);
+  scans = (let none = unscanned in omega arith);
   answer =
       inl (record {
         acts = stays;
         kept = λ _. refl;
         room = λ wants. absurd (calm wants);
         took = λ wants. absurd (calm wants);
-        calm = λ _. (refl, refl, refl);
+        calm = λ _. (unscanned, refl, refl);
       });
 }
 
@@ -98,9 +98,9 @@ leaves kind s book call reply is stays calm = record {
 pub stays_stored : (kind : Kind) (s : Sheet) (book : Book) (call : Call) (reply : Reply) → IsInCall kind s book → StaysBy kind s call reply → IsStored kind s s book book call reply
 stays_stored kind s book call reply is stays = record {
   may = may_end kind s s.reads s.scan s.scans s.cleared book call reply is (inl stays);
-  ended = ends kind s s.reads s.scan s.scans s.cleared book call reply is (omega arith) (inl refl);
+  ended = ends kind s s.reads s.scan s.scans s.cleared book call reply is (omega arith);
   acts = stays;
-  unscanned = record { scans = refl; scan = refl; at_begin = refl };
+  unscanned = record { scans = refl; scan = refl };
   took = record { taken = []; free_were = sym (append-nil book.free); few = omega arith; none = λ _. refl };
 }
 
@@ -121,12 +121,13 @@ module _ (kind : Kind) (s : Sheet) (scan : Scan) (cleared : ℕ) (book next : Bo
   abbrev after : Sheet
   after = scanned s scan cleared
 
-  refuses_by : IsWhole s → IsInCall kind s book → IsScan s.shared s.told scan → s.cleared ≤ cleared → next ≡ after_reclaim book scan.least → IsEngineState kind after next → IsShortOf after next shortage → Wants kind (map_by s.tree) call
+  refuses_by : s.scans ≡ 0 → IsInCall kind s book → IsScan s.shared s.told scan → s.cleared ≤ cleared → next ≡ after_reclaim book scan.least → IsEngineState kind after next → IsShortOf after next shortage → Wants kind (map_by s.tree) call
       → IsAnswered kind s after book next call (NoNodes shortage)
-  refuses_by whole is answers rises freed state short wants = record {
-    may = may_end kind s s.reads scan (one_more s.scans) cleared next call (NoNodes shortage) now (inr (record { refused = refused; counted = short.counted; scanned = was_scanned s scan cleared whole }));
-    ended = ends kind s s.reads scan (one_more s.scans) cleared next call (NoNodes shortage) now rises (inr refl);
-    answer = inr (record { refused = refused; counted = counted_end after call (NoNodes shortage) shortage short.counted; scanned = was_scanned s scan cleared whole; answer = answers; freed = freed; tells = short.tells }, refl);
+  refuses_by unscanned is answers rises freed state short wants = record {
+    may = may_end kind s s.reads scan (one_more s.scans) cleared next call (NoNodes shortage) now (inr (record { refused = refused; counted = short.counted; scanned = was_scanned s scan cleared }));
+    ended = ends kind s s.reads scan (one_more s.scans) cleared next call (NoNodes shortage) now rises;
+    scans = first_scan s scan cleared unscanned;
+    answer = inr (record { refused = refused; counted = counted_end after call (NoNodes shortage) shortage short.counted; scanned = was_scanned s scan cleared; answer = answers; freed = freed; tells = short.tells }, refl);
   }
     where
       now : IsInCall kind after next
@@ -135,8 +136,8 @@ module _ (kind : Kind) (s : Sheet) (scan : Scan) (cleared : ℕ) (book next : Bo
       refused : IsRefused kind (limits_of s) (map_by s.tree) call (NoNodes shortage)
       refused = record { shortage = shortage; told = refl; wants = wants; short = short.short }
 
-pub refuses : (kind : Kind) (s s' : Sheet) (book next : Book) (call : Call) (shortage : Shortage) → IsWhole s → IsInCall kind s book → IsScanned kind s s' book next → IsShortOf s' next shortage → Wants kind (map_by s.tree) call
+pub refuses : (kind : Kind) (s s' : Sheet) (book next : Book) (call : Call) (shortage : Shortage) → s.scans ≡ 0 → IsInCall kind s book → IsScanned kind s s' book next → IsShortOf s' next shortage → Wants kind (map_by s.tree) call
     → IsAnswered kind s s' book next call (NoNodes shortage)
-refuses kind s s' book next call shortage whole is found short wants =
+refuses kind s s' book next call shortage unscanned is found short wants =
     subst (λ (x : Sheet). IsAnswered kind s x book next call (NoNodes shortage)) (sym found.rest)
-    (refuses_by kind s s'.scan s'.cleared book next call shortage whole is found.answer found.rises found.freed (subst (λ (x : Sheet). IsEngineState kind x next) found.rest found.state) (subst (λ (x : Sheet). IsShortOf x next shortage) found.rest short) wants)
+    (refuses_by kind s s'.scan s'.cleared book next call shortage unscanned is found.answer found.rises found.freed (subst (λ (x : Sheet). IsEngineState kind x next) found.rest found.state) (subst (λ (x : Sheet). IsShortOf x next shortage) found.rest short) wants)

@@ -1,5 +1,5 @@
 -- What holds of the rows and the book from the begin of a call on, and of a call whose rows were read before.
-use Rattle.std.proofs.Common.{◌≡◌, ℕ, ◌+◌, Bool, Option, Some, refl, sym, ap, subst, inl, inr, ⊎_elim}
+use Rattle.std.proofs.Common.{◌≡◌, ℕ, ◌+◌, Bool, Option, Some, refl, sym, ap, ◌∙◌, subst, inl, inr, ⊎_elim}
 use Rattle.mt_base.specs.declared.calls.Call.{Call}
 use Rattle.mt_base.specs.declared.kinds.Kind.{Kind}
 use Rattle.mt_base.specs.declared.replies.Reply.{Reply}
@@ -29,6 +29,9 @@ in_call_begun kind s s' book begins idle = subst (λ (x : Sheet). IsInCall kind 
 pub in_call_if_read : (kind : Kind) (s s' : Sheet) (book : Book) → OnlyReads s s' → IsInCall kind s book → IsInCall kind s' book
 in_call_if_read kind s s' book reads in_call = subst (λ (x : Sheet). IsInCall kind x book) (sym reads) in_call
 
+pub unscanned_if_read : (s s' : Sheet) → OnlyReads s s' → s.scans ≡ 0 → s'.scans ≡ 0
+unscanned_if_read s s' reads none = ap (λ (x : Sheet). x.scans) reads ∙ none
+
 pub idle_if_read : (kind : Kind) (s s' : Sheet) (book : Book) → OnlyReads s s' → IsIdle kind s book → IsIdle kind s' book
 idle_if_read kind s s' book reads idle = subst (λ (x : Sheet). IsIdle kind x book) (sym reads) idle
 
@@ -36,7 +39,7 @@ idle_if_read kind s s' book reads idle = subst (λ (x : Sheet). IsIdle kind x bo
 
 module _ (kind : Kind) (s s' : Sheet) (book book' : Book) (call : Call) (reply : Reply) (flies out : Bool) (scans : ℕ) (reads reads' : Option ℕ) where
   abbrev was : Sheet
-  was = record s { in_flight = flies; published = out; scans_at_begin = scans; reads = reads }
+  was = record s { in_flight = flies; published = out; scans = scans; reads = reads }
 
   abbrev later : Sheet
   later = record s' { reads = reads' }
@@ -68,7 +71,6 @@ module _ (kind : Kind) (s s' : Sheet) (book book' : Book) (call : Call) (reply :
     ended = is.ended;
     record_told = is.record_told;
     cleared = is.cleared;
-    scans = is.scans;
     rows = is.rows;
     opened = is.opened;
     shared = is.shared;
@@ -80,10 +82,11 @@ pub answered_after_reads : (kind : Kind) (s s₁ s' : Sheet) (book book' : Book)
 answered_after_reads kind s s₁ s' book book' call reply reads answered = record {
   may = answered.may;
   ended =
-      ended_from kind s (finished s' call reply) book book' call reply s.in_flight s.published s.scans_at_begin s₁.reads s'.reads
+      ended_from kind s (finished s' call reply) book book' call reply s.in_flight s.published s.scans s₁.reads s'.reads
       (subst (λ (x : Sheet). IsEnded kind x (finished s' call reply) book' call reply) reads answered.ended);
+  scans = answered.scans;
   answer =
-      answer_from kind s (finished s' call reply) book book' call reply s.in_flight s.published s.scans_at_begin s₁.reads s'.reads
+      answer_from kind s (finished s' call reply) book book' call reply s.in_flight s.published s.scans s₁.reads s'.reads
       (subst (λ (x : Sheet). DidOrLacked kind x (finished s' call reply) book book' call reply) reads answered.answer);
 }
 
@@ -92,10 +95,11 @@ pub applied_by : (kind : Kind) (s s₁ s' s″ : Sheet) (book book' : Book) (cal
 applied_by kind s s₁ s' s″ book book' call reply begins answered search ends =
     subst (λ (x : Sheet). IsApplied kind s x book book' call reply) (sym ends) (record {
       ended =
-          ended_from kind s (finished s' call reply) book book' call reply (begun s).in_flight (begun s).published (begun s).scans_at_begin s.reads s'.reads
+          ended_from kind s (finished s' call reply) book book' call reply (begun s).in_flight (begun s).published (begun s).scans s.reads s'.reads
           (subst (λ (x : Sheet). IsEnded kind x (finished s' call reply) book' call reply) begins answered.ended);
+      scans = answered.scans;
       answer =
-          answer_from kind s (finished s' call reply) book book' call reply (begun s).in_flight (begun s).published (begun s).scans_at_begin s.reads s'.reads
+          answer_from kind s (finished s' call reply) book book' call reply (begun s).in_flight (begun s).published (begun s).scans s.reads s'.reads
           (subst (λ (x : Sheet). DidOrLacked kind x (finished s' call reply) book book' call reply) begins answered.answer);
       search = λ only. (let sought = subst (λ (x : Sheet). OnlySought x s' book book') begins (search only) in record { tree = sought.tree; same_book = sought.same_book; reads = sought.reads });
     })

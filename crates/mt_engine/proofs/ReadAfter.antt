@@ -43,20 +43,20 @@ module _ (kind : Kind) (s s' : Sheet) (reads : Option ℕ) (book book' : Book) (
   }
 
   ended_read : IsEnded kind s (finished s' call reply) book' call reply → IsEnded kind s (finished read call reply) book' call reply
-  ended_read = ended_from kind s (finished s' call reply) book book' call reply s.in_flight s.published s.scans_at_begin s.reads reads
+  ended_read = ended_from kind s (finished s' call reply) book book' call reply s.in_flight s.published s.scans s.reads reads
 
   answer_read : DidOrLacked kind s (finished s' call reply) book book' call reply → DidOrLacked kind s (finished read call reply) book book' call reply
-  answer_read = answer_from kind s (finished s' call reply) book book' call reply s.in_flight s.published s.scans_at_begin s.reads reads
+  answer_read = answer_from kind s (finished s' call reply) book book' call reply s.in_flight s.published s.scans s.reads reads
 
   answered_read : IsAnswered kind s s' book book' call reply → IsAnswered kind s read book book' call reply
-  answered_read is = record { may = may_read is.may; ended = ended_read is.ended; answer = answer_read is.answer }
+  answered_read is = record { may = may_read is.may; ended = ended_read is.ended; scans = is.scans; answer = answer_read is.answer }
 
   stored_read : IsStored kind s s' book book' call reply → IsStored kind s read book book' call reply
   stored_read is = record {
     may = may_read is.may;
     ended = ended_read is.ended;
     acts = is.acts;
-    unscanned = record { scans = is.unscanned.scans; scan = is.unscanned.scan; at_begin = is.unscanned.at_begin };
+    unscanned = record { scans = is.unscanned.scans; scan = is.unscanned.scan };
     took = is.took;
   }
 
@@ -82,9 +82,9 @@ module _ (kind : Kind) (s s' : Sheet) (reads : Option ℕ) (book book' : Book) (
   stored_was : IsStored kind was s' book book' call reply → IsStored kind s s' book book' call reply
   stored_was is = record {
     may = is.may;
-    ended = ended_from kind s (finished s' call reply) book book' call reply s.in_flight s.published s.scans_at_begin reads s'.reads is.ended;
+    ended = ended_from kind s (finished s' call reply) book book' call reply s.in_flight s.published s.scans reads s'.reads is.ended;
     acts = is.acts;
-    unscanned = record { scans = is.unscanned.scans; scan = is.unscanned.scan; at_begin = is.unscanned.at_begin };
+    unscanned = record { scans = is.unscanned.scans; scan = is.unscanned.scan };
     took = record { taken = is.took.taken; free_were = is.took.free_were; few = is.took.few; none = is.took.none };
   }
 
@@ -96,7 +96,7 @@ stored_after_reads kind s s₁ s' book book' call reply reads is = stored_was ki
 module _ (kind : Kind) (s s' : Sheet) (book book' : Book) (call : Call) (reply : Reply) where
   prestored_from : IsStored kind (begun s) s' book book' call reply → (is_refusal reply ≡ true → s'.tree ≡ s.tree) → IsPrestored kind s (finished s' call reply) book book' call reply
   prestored_from is kept = record {
-    ended = ended_from kind s (finished s' call reply) book book' call reply (begun s).in_flight (begun s).published (begun s).scans_at_begin s.reads s'.reads is.ended;
+    ended = ended_from kind s (finished s' call reply) book book' call reply (begun s).in_flight (begun s).published (begun s).scans s.reads s'.reads is.ended;
     acts = is.acts;
     kept = kept;
     scans = is.unscanned.scans;

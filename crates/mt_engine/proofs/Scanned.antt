@@ -1,28 +1,25 @@
 -- The rows and the book after a scan, when the held rows that no section holds are free.
-use Rattle.std.proofs.Common.{◌≡◌, ℕ, ◌+◌, ◌-◌, ◌^◌, ◌<◌, ◌≤◌, nat_le, refl, sym, ap, ◌∙◌, subst, inl, inr, arith}
-use Rattle.std.specs.Prelude.{◌⊎◌, min}
-use Rattle.std.proofs.lemmas.Bool.{cases_Bool, leb-true, leb-false}
+use Rattle.std.proofs.Common.{◌≡◌, ℕ, ◌+◌, ◌≤◌, refl, sym, ap, ◌∙◌, subst, arith}
+use Rattle.std.specs.Prelude.{min}
 use Rattle.std.proofs.lemmas.List.Elements.{All-weaker}
 use Rattle.mt_base.specs.declared.kinds.Kind.{Kind}
 use Rattle.mt_free.specs.Book.{Book, after_reclaim}
 use Rattle.mt_free.proofs.StillOut.{out_after_reclaim}
 use Rattle.mt_rows.specs.declared.rows.Scan.{Scan}
-use Rattle.mt_rows.specs.Sheet.{Sheet, IsScan, IsWhole, life_of, scanned, one_more}
+use Rattle.mt_rows.specs.Sheet.{Sheet, IsScan, life_of, scanned}
 use Rattle.mt_rows.specs.Publish.{WasScanned}
 use Rattle.mt_splice.specs.Kept.{IsBookOf, IsSpare}
 use Rattle.mt_engine.specs.Engine.{IsEngineState}
 use Rattle.mt_engine.specs.Rooms.{IsScanned}
 use Rattle.mt_engine.proofs.Reclaims.{Freed, spare_rises, reclaimed}
 
--- the count of scans rose in this call, or stands at its last value
-scan_counts : (begun scans : ℕ) → begun ≤ scans → (begun < one_more scans) ⊎ (one_more scans ≡ 2 ^ 64 - 1)
-scan_counts begun scans rises = elim (cases_Bool (nat_le (2 ^ 64 - 1) (scans + 1))) [
-  | inl at_end ↦ (let full = leb-true (2 ^ 64 - 1) (scans + 1) at_end in inr (omega arith))
-  | inr before ↦ (let room = leb-false (2 ^ 64 - 1) (scans + 1) before in inl (omega (arith, rises)))
-]
+-- a scan was made, however many there were
+pub was_scanned : (s : Sheet) (answer : Scan) (cleared : ℕ) → WasScanned (scanned s answer cleared)
+was_scanned s answer cleared = omega arith
 
-pub was_scanned : (s : Sheet) (answer : Scan) (cleared : ℕ) → IsWhole s → WasScanned (scanned s answer cleared)
-was_scanned s answer cleared whole = scan_counts s.scans_at_begin s.scans whole.scans
+-- the first one
+pub first_scan : (s : Sheet) (answer : Scan) (cleared : ℕ) → s.scans ≡ 0 → (scanned s answer cleared).scans ≤ 1
+first_scan s answer cleared none = omega arith
 
 module _ (kind : Kind) (s : Sheet) (answer : Scan) (cleared : ℕ) (book : Book) (is : IsEngineState kind s book) (rises : s.cleared ≤ cleared) (reach : min answer.least s.ended ≤ cleared) where
   abbrev after : Sheet

@@ -15,7 +15,7 @@ use Rattle.mt_free.specs.Book.{Book, Held, live_count, after_reclaim}
 use Rattle.mt_rows.specs.declared.rows.Life.{Life}
 use Rattle.mt_rows.specs.declared.rows.Life.TheVariants.{Dead}
 use Rattle.mt_rows.specs.Trees.{height_in}
-use Rattle.mt_rows.specs.Sheet.{Rooted, Sheet, IsScan, RoseUpTo, life_of, limits_of, one_more}
+use Rattle.mt_rows.specs.Sheet.{Rooted, Sheet, IsScan, RoseUpTo, life_of, limits_of}
 use Rattle.mt_rows.specs.Publish.{IsTold, MayFinish, IsCounted, WasScanned, finished, map_by, with_record}
 use Rattle.mt_splice.specs.Kept.{IsKept}
 
@@ -100,7 +100,7 @@ pub record IsDone (kind : Kind) (s s' : Sheet) (book book' : Book) (call : Call)
   pub kept : is_refusal reply ≡ true → s'.tree ≡ s.tree
   pub room : Wants kind (map_by s.tree) call → HadRoom s s' book
   pub took : Wants kind (map_by s.tree) call → TookRows kind s (after_reclaim book s'.scan.least).free book' call
-  pub calm : (Wants kind (map_by s.tree) call → ⊥) → (s'.scans ≡ s.scans) × (s'.scan ≡ s.scan) × (book'.free ≡ book.free)
+  pub calm : (Wants kind (map_by s.tree) call → ⊥) → (s'.scans ≡ 0) × (s'.scan ≡ s.scan) × (book'.free ≡ book.free)
 
 -- so many rows of the book are free, live and held
 pub record TellsBook (book : Book) (short : Shortage) : Type 0 where
@@ -123,13 +123,12 @@ abbrev pub DidOrLacked : Kind → Sheet → Sheet → Book → Book → Call →
 DidOrLacked kind s s' book book' call reply = IsDone kind s s' book book' call reply ⊎ (IsShortFor kind s s' book book' call reply × (s'.tree ≡ s.tree))
 
 -- What every call leaves: the rows are between two calls again, one more call has ended, and it is told where records are, of
--- the same caller. There was one scan at the most.
+-- the same caller.
 pub record IsEnded (kind : Kind) (s s' : Sheet) (book' : Book) (call : Call) (reply : Reply) : Type 0 where
   pub idle : IsIdle kind s' book'
   pub ended : s'.ended ≡ s.ended + 1
   pub record_told : s'.told ≡ with_record s.told call reply
   pub cleared : s.cleared ≤ s'.cleared
-  pub scans : (s'.scans ≡ s.scans) ⊎ (s'.scans ≡ one_more s.scans)
   pub rows : s'.tree.rows ≡ s.tree.rows
   pub opened : s'.opened ≡ s.opened
   pub shared : s'.shared ≡ s.shared
@@ -157,9 +156,10 @@ pub record OnlySought (s s' : Sheet) (book book' : Book) : Type 0 where
   pub same_book : book' ≡ book
   pub reads : RoseUpTo (most_searched s.tree) s.reads s'.reads
 
--- What a call is and leaves.
+-- What a call is and leaves. It made one scan at the most.
 pub record IsApplied (kind : Kind) (s s' : Sheet) (book book' : Book) (call : Call) (reply : Reply) : Type 0 where
   pub ended : IsEnded kind s s' book' call reply
+  pub scans : s'.scans ≤ 1
   pub answer : DidOrLacked kind s s' book book' call reply
   pub search : OnlySearches call reply → OnlySought s s' book book'
 
@@ -167,4 +167,5 @@ pub record IsApplied (kind : Kind) (s s' : Sheet) (book book' : Book) (call : Ca
 pub record IsAnswered (kind : Kind) (s s' : Sheet) (book book' : Book) (call : Call) (reply : Reply) : Type 0 where
   pub may : MayFinish kind s' call reply
   pub ended : IsEnded kind s (finished s' call reply) book' call reply
+  pub scans : s'.scans ≤ 1
   pub answer : DidOrLacked kind s (finished s' call reply) book book' call reply

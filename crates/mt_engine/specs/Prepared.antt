@@ -16,6 +16,6 @@ pub record IsPrestored (kind : Kind) (s s' : Sheet) (book book' : Book) (call : 
   pub ended : IsEnded kind s s' book' call reply
   pub acts : acted kind (map_by s.tree) call ≡ (map_by s'.tree, reply)
   pub kept : is_refusal reply ≡ true → s'.tree ≡ s.tree
-  pub scans : s'.scans ≡ s.scans
+  pub scans : s'.scans ≡ 0
   pub scan : s'.scan ≡ s.scan
   pub took : TookRows kind s book.free book' call

@@ -22,7 +22,6 @@ HasRoomFor kind s book call = Replaces kind (map_by s.tree) call → HasRoom s.t
 pub record IsUnscanned (s s' : Sheet) : Type 0 where
   pub scans : s'.scans ≡ s.scans
   pub scan : s'.scan ≡ s.scan
-  pub at_begin : s'.scans_at_begin ≡ s.scans_at_begin
 
 -- A call in flight has done what it says by a store, with no scan, and may end so. It took rows only where it replaces some.
 pub record IsStored (kind : Kind) (s s' : Sheet) (book book' : Book) (call : Call) (reply : Reply) : Type 0 where

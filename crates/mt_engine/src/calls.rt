@@ -26,6 +26,7 @@ fn perform<R: Rows>(
     requires number { number ≡ (R.sheet rows.old).ended + 1 }
     requires few { (R.sheet rows.old).ended < 2 ^ 62 - 1 }
     requires height { HasHeight (R.sheet rows.old).tree height.old }
+    requires unscanned { (R.sheet rows.old).scans ≡ 0 }
     ensures height { HasHeight (R.sheet rows.new).tree height.new }
     ensures answered { IsAnswered kind (R.sheet rows.old) (R.sheet rows.new) book.old book.new call.now result }
     ensures search { OnlySearches call.now result → OnlySought (R.sheet rows.old) (R.sheet rows.new) book.old book.new }

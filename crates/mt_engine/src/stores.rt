@@ -104,6 +104,7 @@ pub fn store<R: Rows>(
     requires in_call { IsInCall kind (R.sheet rows.old) book.old }
     requires number { number ≡ (R.sheet rows.old).ended + 1 }
     requires few { (R.sheet rows.old).ended < 2 ^ 62 - 1 }
+    requires unscanned { (R.sheet rows.old).scans ≡ 0 }
     requires plan { IsStorePlan kind (R.sheet rows.old).tree call.now path.now.items first last entry reply.now here }
     ensures done { IfOk result (λ _. IsAnswered kind (R.sheet rows.old) (R.sheet rows.new) book.old book.new call.now reply.now) }
     ensures height { IfOk result (λ is_new_root. is_new_root ≡ false → SameHeight (R.sheet rows.old).tree (R.sheet rows.new).tree) }

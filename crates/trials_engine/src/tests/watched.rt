@@ -51,7 +51,6 @@ impl Rows for Watched {
       lives = (rows_whole w.rows).lives;
       buried = (rows_whole w.rows).buried;
       cleared = (rows_whole w.rows).cleared;
-      scans = (rows_whole w.rows).scans;
       dead = (rows_whole w.rows).dead;
     } };
 

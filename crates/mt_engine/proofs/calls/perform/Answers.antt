@@ -13,7 +13,7 @@ use Rattle.mt_engine.proofs.Answering.{may_clear_now, cleared_now}
 use Rattle.mt_engine.proofs.Finding.{store_is_no_search, success_is_not_busy, shortage_is_not_busy}
 use Rattle.mt_engine.proofs.Leaving.{leaves}
 use Rattle.mt_engine.proofs.Measured.{empty_height}
-use Rattle.mt_engine.proofs.Moments.{in_call_if_read, answered_after_reads, tree_if_lawful}
+use Rattle.mt_engine.proofs.Moments.{in_call_if_read, unscanned_if_read, answered_after_reads, tree_if_lawful}
 use Rattle.mt_engine.proofs.ReadAfter.{answered_before_reads, refusal_stays}
 use Rattle.mt_engine.proofs.calls.perform.Goals as goal
 use Rattle.mt_rows.proofs.Loads.{same_tree}
@@ -29,6 +29,9 @@ clear-requires g c =
 
 pub store-requires-clause-in_call : goal.store-requires-clause-in_call
 store-requires-clause-in_call g c = in_call_if_read c.args.kind (g.R.Rows.sheet c.args.rows.now) (g.R.Rows.sheet c.plan_of.new.rows) c.args.book.now c.plan_of.ensures.rest c.requires.in_call
+
+pub store-requires-clause-unscanned : goal.store-requires-clause-unscanned
+store-requires-clause-unscanned g c = unscanned_if_read (g.R.Rows.sheet c.args.rows.now) (g.R.Rows.sheet c.plan_of.new.rows) c.plan_of.ensures.rest c.requires.unscanned
 
 pub store-requires-clause-plan : goal.store-requires-clause-plan
 store-requires-clause-plan g c =
@@ -46,7 +49,7 @@ returns-in-Nothing g c =
       height = subst (λ (t : Rooted). HasHeight t c.args.height.now) (sym (same_tree s s₁ c.plan_of.ensures.rest)) c.requires.height;
       answered =
           answered_after_reads c.args.kind s s₁ s₁ c.args.book.now c.args.book.now c.args.call.now c.in-Nothing.reply c.plan_of.ensures.rest
-          (leaves c.args.kind s₁ c.args.book.now c.args.call.now c.in-Nothing.reply (in_call_if_read c.args.kind s s₁ c.args.book.now c.plan_of.ensures.rest c.requires.in_call) plan₁.0 plan₁.1);
+          (leaves c.args.kind s₁ c.args.book.now c.args.call.now c.in-Nothing.reply (in_call_if_read c.args.kind s s₁ c.args.book.now c.plan_of.ensures.rest c.requires.in_call) (unscanned_if_read s s₁ c.plan_of.ensures.rest c.requires.unscanned) plan₁.0 plan₁.1);
       search = λ only. record { tree = same_tree s s₁ c.plan_of.ensures.rest; same_book = refl; reads = (subst (IsSearched s s₁ c.args.call.now) c.in-Nothing.is c.plan_of.ensures.search) only };
     }
 
@@ -56,7 +59,7 @@ returns-in-Empty g c =
     let plan = subst (IsPlan c.args.kind s.tree c.args.call.now c.plan_of.new.path.items) c.in-Empty.is c.plan_of.ensures.plan in
     record {
       height = empty_height (g.R.Rows.sheet c.clear.new.rows).tree c.clear.ensures.root;
-      answered = cleared_now c.args.kind s (g.R.Rows.sheet c.plan_of.new.rows) c.args.book.now c.args.number c.args.call.now c.requires.in_call c.plan_of.ensures.rest c.requires.number plan (g.R.Rows.sheet c.clear.new.rows) c.clear.new.book c.clear.ensures.spliced c.clear.ensures.none_taken c.clear.ensures.root;
+      answered = cleared_now c.args.kind s (g.R.Rows.sheet c.plan_of.new.rows) c.args.book.now c.args.number c.args.call.now c.requires.in_call c.plan_of.ensures.rest c.requires.number plan (g.R.Rows.sheet c.clear.new.rows) c.clear.new.book c.requires.unscanned c.clear.ensures.spliced c.clear.ensures.none_taken c.clear.ensures.root;
       search = λ only. absurd (subst (λ (x : Call). OnlySearches x reply.Ok) plan.0 only);
     }
 

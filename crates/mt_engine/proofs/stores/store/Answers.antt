@@ -27,7 +27,7 @@ returns-in_err-make_room-clause-short g c =
     let wants = store_wants c.args.kind s.tree tree c.args.call.now c.args.path.now.items c.args.first c.args.last c.args.entry c.args.reply.now c.args.here c.requires.plan c.store_by.result c.store_by.ensures (sym c.wants_by.ensures ∙ c.if-wants_by.true) in
     let exit = err_from_is_err_and c.from_residual.result c.from_residual.ensures.1 in
     rw (exit.1, exit.2)
-    (refuses c.args.kind s (g.R.Rows.sheet c.make_room.new.rows) c.args.book.now c.make_room.new.book c.args.call.now c.in_err-make_room.field-0.0 (g.met.R.Rows.whole c.args.rows.now) c.requires.in_call (c.make_room.ensures.scanned c.args.kind c.requires.in_call.state)
+    (refuses c.args.kind s (g.R.Rows.sheet c.make_room.new.rows) c.args.book.now c.make_room.new.book c.args.call.now c.in_err-make_room.field-0.0 c.requires.unscanned c.requires.in_call (c.make_room.ensures.scanned c.args.kind c.requires.in_call.state)
     c.in_err-make_room.ensures.short wants)
 
 pub store_at_hand-requires-clause-room : goal.store_at_hand-requires-clause-room
@@ -53,14 +53,14 @@ returns-clause-done g c =
     elim c.if-wants_by.branch [
       | then-wants_by+in_ok-make_room w ↦
           (let wants = store_wants c.args.kind s.tree tree c.args.call.now c.args.path.now.items c.args.first c.args.last c.args.entry c.args.reply.now c.args.here c.requires.plan c.store_by.result c.store_by.ensures (sym c.wants_by.ensures ∙ w.if-wants_by.true) in
-          after_scan c.args.kind s (g.R.Rows.sheet w.make_room.new.rows) s' c.args.book.now w.make_room.new.book book' c.args.call.now c.args.reply.now (g.met.R.Rows.whole c.args.rows.now) (w.make_room.ensures.scanned c.args.kind c.requires.in_call.state) w.in_ok-make_room.ensures.room wants c.requires.plan.success
+          after_scan c.args.kind s (g.R.Rows.sheet w.make_room.new.rows) s' c.args.book.now w.make_room.new.book book' c.args.call.now c.args.reply.now c.requires.unscanned (w.make_room.ensures.scanned c.args.kind c.requires.in_call.state) w.in_ok-make_room.ensures.room wants c.requires.plan.success
           (subst (λ (b : Book). IsStored c.args.kind (g.R.Rows.sheet w.make_room.new.rows) s' b book' c.args.call.now c.args.reply.now) w.book-is
           (subst (λ (x : Sheet). IsStored c.args.kind x s' c.if-wants_by.book book' c.args.call.now c.args.reply.now) (ap g.R.Rows.sheet w.rows-is) c.store_at_hand.ensures.stored)))
       | else-wants_by w ↦
           (let not = sym c.wants_by.ensures ∙ w.if-wants_by.false in
           let calm = store_wants_none c.args.kind s.tree tree c.args.call.now c.args.path.now.items c.args.first c.args.last c.args.entry c.args.reply.now c.args.here c.requires.plan c.store_by.result c.store_by.ensures not in
           let none = store_replaces_none c.args.kind s.tree tree c.args.call.now c.args.path.now.items c.args.first c.args.last c.args.entry c.args.reply.now c.args.here c.requires.plan c.store_by.result c.store_by.ensures not in
-          at_once c.args.kind s s' c.args.book.now book' c.args.call.now c.args.reply.now c.requires.plan.success calm none
+          at_once c.args.kind s s' c.args.book.now book' c.args.call.now c.args.reply.now c.requires.unscanned c.requires.plan.success calm none
           (subst (λ (b : Book). IsStored c.args.kind s s' b book' c.args.call.now c.args.reply.now) w.book-is
           (subst (λ (x : Sheet). IsStored c.args.kind x s' c.if-wants_by.book book' c.args.call.now c.args.reply.now) (ap g.R.Rows.sheet w.rows-is) c.store_at_hand.ensures.stored)))
     ]
