@@ -140,7 +140,7 @@ module _ (e : ℕ → Extent) (p : PenPart) (sections : List SectionWord) where
   sound_with s = let one = s.history in still_sound e p with_sections s (still_history p with_sections one one.count one.calm one.few) s.known s.dead s.passes s.cleared
 
   words_with : (words : List ℕ) → WordsFit words p → WordsFit words with_sections
-  words_with words w = record { size = w.size; commits = w.commits; begun = w.begun; root = w.root; sections = w.sections; undealt = w.undealt; columns = w.columns }
+  words_with words w = record { size = w.size; commits = w.commits; begun = w.begun; root = w.root; sections = w.sections; undealt = w.undealt; unnamed = w.unnamed; columns = w.columns }
 
   pass_with : (q : PassPart) → PassFits e p q → PassFits e with_sections q
   pass_with q f = record {
