@@ -6,9 +6,10 @@ use Rattle.std.proofs.lemmas.Bool.Decides.{nat_tests, eqb_tells}
 use Rattle.mt_rows.specs.declared.rows.Scan.{Scan}
 use Rattle.mt_rule.specs.declared.views.PenPart.{PenPart}
 use Rattle.mt_rule.specs.declared.views.PassPart.{PassPart}
+use Rattle.mt_rule.specs.Scans.{least_from, lesser}
 use Rattle.mt_rule.specs.Seats.{least_of}
 use Rattle.mt_rule.specs.Steps.{raised}
-use Rattle.mt_pen.specs.Scans.{lesser, least_from, cleared_from, AreWordsFrom}
+use Rattle.mt_pen.specs.Scans.{cleared_from, AreWordsFrom}
 
 -- ---- lists of numbers
 

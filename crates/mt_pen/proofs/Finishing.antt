@@ -24,9 +24,9 @@ use Rattle.mt_base.proofs.Shortages.{still_short}
 use Rattle.mt_pen.proofs.Telling.{found_loaded, told_least}
 
 -- the shortage that the rows tell is one under the tree's limits
-found_short : (t : Identity) (p : PenPart) (q : known.Pass) (scan : Scan) (scans scans_at_begin : ℕ) (call : Call) (reply : Reply) → IsWorked p scan scans scans_at_begin
-    → rows.IsFoundShort p.shape.kind (sheet_worked t p q scan scans scans_at_begin) call reply → ends.IsFoundShort p call reply
-found_short t p q scan scans scans_at_begin call reply w short = record {
+found_short : (t : Identity) (p : PenPart) (q : known.Pass) (scan : Scan) (scans : ℕ) (call : Call) (reply : Reply) → IsWorked p scan scans
+    → rows.IsFoundShort p.shape.kind (sheet_worked t p q scan scans) call reply → ends.IsFoundShort p call reply
+found_short t p q scan scans call reply w short = record {
   scan = scan;
   refused = record {
     shortage = short.refused.shortage;
@@ -45,21 +45,22 @@ found_short t p q scan scans scans_at_begin call reply w short = record {
   };
   least = told_least scan.by scan.least w.least;
   found = found_loaded scan.by p.loaded w.holder;
+  scanned = w.scanned short.scanned;
 }
 
-pub may_end : (t : Identity) (p : PenPart) (q : known.Pass) (scan : Scan) (scans scans_at_begin : ℕ) (kind : Kind) (call : Call) (reply : Reply) → IsWorked p scan scans scans_at_begin
-    → MayFinish kind (sheet_worked t p q scan scans scans_at_begin) call reply → MayEnd p call reply
-may_end t p q scan scans scans_at_begin kind call reply w may = record { in_flight = may.in_flight; quiet = λ e. quietly (may.kept e) }
+pub may_end : (t : Identity) (p : PenPart) (q : known.Pass) (scan : Scan) (scans : ℕ) (kind : Kind) (call : Call) (reply : Reply) → IsWorked p scan scans
+    → MayFinish kind (sheet_worked t p q scan scans) call reply → MayEnd p call reply
+may_end t p q scan scans kind call reply w may = record { in_flight = may.in_flight; quiet = λ e. quietly (may.kept e) }
   where
-    answered : (acted p.shape.kind (map_by (rooted_in p)) call ≡ (map_by (rooted_in p), reply)) ⊎ rows.IsFoundShort p.shape.kind (sheet_worked t p q scan scans scans_at_begin) call reply
+    answered : (acted p.shape.kind (map_by (rooted_in p)) call ≡ (map_by (rooted_in p), reply)) ⊎ rows.IsFoundShort p.shape.kind (sheet_worked t p q scan scans) call reply
         → (acted p.shape.kind (map_by (rooted_in p)) call ≡ (map_by (rooted_in p), reply)) ⊎ ends.IsFoundShort p call reply
     answered (inl x) = inl x
-    answered (inr x) = inr (found_short t p q scan scans scans_at_begin call reply w x)
+    answered (inr x) = inr (found_short t p q scan scans call reply w x)
 
-    quietly : LeavesMap kind (sheet_worked t p q scan scans scans_at_begin) call reply → EndsQuietly p call reply
+    quietly : LeavesMap kind (sheet_worked t p q scan scans) call reply → EndsQuietly p call reply
     quietly l = record {
       none_buried = l.none_buried;
-      answer = answered (subst (λ (k : Kind). (acted k (map_by (rooted_in p)) call ≡ (map_by (rooted_in p), reply)) ⊎ rows.IsFoundShort k (sheet_worked t p q scan scans scans_at_begin) call reply) (sym l.told) l.answer);
+      answer = answered (subst (λ (k : Kind). (acted k (map_by (rooted_in p)) call ≡ (map_by (rooted_in p), reply)) ⊎ rows.IsFoundShort k (sheet_worked t p q scan scans) call reply) (sym l.told) l.answer);
     }
 
 -- what is told then
@@ -71,9 +72,9 @@ ended_told false t p q m call reply of =
     ap (λ records. let told : Told = record { caller = caller_of t (known_by q); records = records } in Some told)
     (map-append record_of p.history (m ∷ []) ∙ ap (λ (x : Moment). records_of p.history ++ record_of x ∷ []) of)
 
-pub ended_sheet : (t : Identity) (p p' : PenPart) (q q' : PassPart) (scan : Scan) (scans scans_at_begin : ℕ) (call : Call) (reply : Reply) → p' ≡ pen_ended (quiet_moment p q call reply) p → q' ≡ pass_ended (quiet_moment p q call reply) p q
-    → sheet_worked t p' (known_by q') scan scans scans_at_begin ≡ finished (sheet_worked t p (known_by q) scan scans scans_at_begin) call reply
-ended_sheet t p p' q q' scan scans scans_at_begin call reply pen pass =
-    ap (λ (x : PenPart). sheet_worked t x (known_by q') scan scans scans_at_begin) pen
-    ∙ ap (λ (x : PassPart). sheet_worked t (pen_ended (quiet_moment p q call reply) p) (known_by x) scan scans scans_at_begin) pass
-    ∙ ap (λ told. let s : Sheet = sheet_worked t p (known_by q) scan scans scans_at_begin in record s { ended = p.ended + 1; in_flight = false; published = false; told = told }) (ended_told p.published t p q (quiet_moment p q call reply) call reply refl)
+pub ended_sheet : (t : Identity) (p p' : PenPart) (q q' : PassPart) (scan : Scan) (scans : ℕ) (call : Call) (reply : Reply) → p' ≡ pen_ended (quiet_moment p q call reply) p → q' ≡ pass_ended (quiet_moment p q call reply) p q
+    → sheet_worked t p' (known_by q') scan scans ≡ finished (sheet_worked t p (known_by q) scan scans) call reply
+ended_sheet t p p' q q' scan scans call reply pen pass =
+    ap (λ (x : PenPart). sheet_worked t x (known_by q') scan scans) pen
+    ∙ ap (λ (x : PassPart). sheet_worked t (pen_ended (quiet_moment p q call reply) p) (known_by x) scan scans) pass
+    ∙ ap (λ told. let s : Sheet = sheet_worked t p (known_by q) scan scans in record s { ended = p.ended + 1; in_flight = false; published = false; told = told }) (ended_told p.published t p q (quiet_moment p q call reply) call reply refl)

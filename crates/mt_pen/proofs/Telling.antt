@@ -8,8 +8,9 @@ use Rattle.mt_rows.specs.declared.rows.Scan.{Scan}
 use Rattle.mt_rule.specs.declared.views.PenPart.{PenPart}
 use Rattle.mt_rule.specs.declared.views.PassPart.{PassPart}
 use Rattle.mt_rule.specs.Places.{section_word}
+use Rattle.mt_rule.specs.Scans.{least_from, lesser, none_open}
 use Rattle.mt_rule.specs.Steps.{with_loaded}
-use Rattle.mt_pen.specs.Scans.{lesser, least_from, loaded_from, none_open, epoch_told, is_among, is_loaded, IsWordOf, AreWordsFrom}
+use Rattle.mt_pen.specs.Scans.{loaded_from, epoch_told, is_among, is_loaded, IsWordOf, AreWordsFrom}
 
 holder_at : ℕ → ℕ → Holder
 holder_at pass word = record { pass = pass; epoch = word / 2 }

@@ -1,31 +1,15 @@
--- What a scan of all section words finds, and what it makes of what the pen knows.
+-- What a scan of all section words makes of what the pen knows.
 -- Source: this project's own; the kernel frees nodes when every reader has left its RCU read-side section.
-use Rattle.std.specs.Prelude.{◌≡◌, ◌⊎◌, ℕ, ◌+◌, ◌-◌, ◌*◌, ◌/◌, ◌^◌, ◌≤◌, ◌==◌, List, [], ◌∷◌, Some, None, Bool, true, false, ◌&&◌, ◌||◌, Option, length, nat_lt, slice_index, slice_set, if◌then◌else◌}
+use Rattle.std.specs.Prelude.{◌≡◌, ◌⊎◌, ℕ, ◌+◌, ◌-◌, ◌*◌, ◌^◌, ◌≤◌, ◌==◌, List, [], ◌∷◌, ◌++◌, Some, None, Bool, true, false, ◌&&◌, ◌||◌, Option, length, slice_index, slice_set}
 use Rattle.mt_base.specs.declared.replies.Holder.{Holder}
 use Rattle.mt_rows.specs.declared.rows.Scan.{Scan}
 use Rattle.mt_rule.specs.declared.views.PenPart.{PenPart}
 use Rattle.mt_rule.specs.declared.views.PassPart.{PassPart}
 use Rattle.mt_rule.specs.Places.{section_word}
+use Rattle.mt_rule.specs.Scans.{scan_of, words_from}
 use Rattle.mt_rule.specs.Steps.{raised, with_loaded}
 
--- no section is open
-abbrev pub none_open : Scan
-none_open = record { least = 2 ^ 64 - 1; by = None }
-
--- The section word of a pass counts where it is open at an epoch below all so far.
-abbrev pub lesser : ℕ → ℕ → Scan → Scan
-lesser pass word scan = if word == 0 then scan else (if nat_lt (word / 2) scan.least then record { least = word / 2; by = Some (record { pass = pass; epoch = word / 2 }) } else scan)
-
--- The words are those of the passes from this one on: the least epoch at which a section is open, and the first pass of those
--- that have it.
-abbrev pub least_from : ℕ → List ℕ → Scan → Scan
-least_from pass [] scan = scan
-least_from pass (word ∷ words) scan = least_from (pass + 1) words (lesser pass word scan)
-
-abbrev pub scan_of : List ℕ → Scan
-scan_of words = least_from 0 words none_open
-
--- what was known to be cleared, and which sections were found open, after the same words
+-- what was known to be cleared, and which sections were found open, after the words of the passes from this one on
 abbrev pub cleared_from : ℕ → ℕ → List ℕ → List ℕ → List ℕ
 cleared_from ended pass [] cleared = cleared
 cleared_from ended pass (word ∷ words) cleared = cleared_from ended (pass + 1) words (slice_set cleared pass (raised ended (slice_index cleared pass) word))
@@ -36,7 +20,11 @@ loaded_from pass (word ∷ words) loaded = loaded_from (pass + 1) words (with_lo
 
 -- what the pen knows after the section words of the first passes
 abbrev pub pen_scanning : List ℕ → PenPart → PenPart
-pen_scanning words p = record p { cleared = cleared_from p.ended 0 words p.cleared; loaded = loaded_from 0 words p.loaded }
+pen_scanning words p = record p {
+  cleared = cleared_from p.ended 0 words p.cleared;
+  loaded = loaded_from 0 words p.loaded;
+  sections = p.sections ++ words_from 0 words;
+}
 
 -- A word is that of a closed section, or of one that stands open at an epoch that has been; the joined pass's is of its own
 -- section.

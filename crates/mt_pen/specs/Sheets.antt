@@ -5,9 +5,9 @@ use Rattle.mt_base.specs.Passes as known
 use Rattle.mt_rows.specs.declared.rows.Scan.{Scan}
 use Rattle.mt_rows.specs.Sheet.{Sheet, Caller, Told}
 use Rattle.mt_rule.specs.declared.views.PenPart.{PenPart}
+use Rattle.mt_rule.specs.Scans.{none_open}
 use Rattle.mt_rule.specs.Seats.{records_of, sheet_of}
 use Rattle.mt_rule.specs.Tokens.{Identity}
-use Rattle.mt_pen.specs.Scans.{none_open}
 
 -- a number that no other table has
 abbrev pub table_number : Identity → ℕ
@@ -28,12 +28,12 @@ abbrev pub shown_all : PenPart → known.Pass → known.Pass
 shown_all p q = record q { seen = records_of p.history; ended = p.ended }
 
 -- the same rows with the scans that were made
-abbrev pub sheet_worked : Identity → PenPart → known.Pass → Scan → ℕ → ℕ → Sheet
-sheet_worked t p q scan scans scans_at_begin = record (sheet_told t p q) { scan = scan; scans = scans; scans_at_begin = scans_at_begin }
+abbrev pub sheet_worked : Identity → PenPart → known.Pass → Scan → ℕ → Sheet
+sheet_worked t p q scan scans = record (sheet_told t p q) { scan = scan; scans = scans }
 
 -- a sheet without the scans that were made
 abbrev pub unscanned : Sheet → Sheet
-unscanned s = record s { scan = none_open; scans = 0; scans_at_begin = 0 }
+unscanned s = record s { scan = none_open; scans = 0 }
 
 -- The pass has seen the whole history of the pen, in which it has these places, and all its calls have ended.
 pub record HasSeenAll (p : PenPart) (q : known.Pass) : Type 0 where

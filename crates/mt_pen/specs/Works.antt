@@ -12,6 +12,7 @@ use Rattle.mt_rows.specs.Sheet.{HasDied, IsWhole, life_of}
 use Rattle.mt_rule.specs.declared.views.Shape.{Shape}
 use Rattle.mt_rule.specs.declared.views.PenPart.{PenPart}
 use Rattle.mt_rule.specs.Places.{size_of}
+use Rattle.mt_rule.specs.Scans.{IsScanOf}
 use Rattle.mt_rule.specs.Seats.{least_of}
 use Rattle.mt_rule.specs.Tokens.{Identity}
 use Rattle.mt_pen.specs.Scans.{epoch_told, is_loaded}
@@ -24,8 +25,9 @@ OpensSmall shape = shape.opened ≤ length shape.opening / 2 + 2
 
 -- Of what the pen knows: there are as many words, lives and numbers of passes as there must be, no row died by a call that was not
 -- begun, and the history has the calls that have ended or published. The last scan's least epoch is that of the holder that it
--- told, who was found with a section open; it is the greatest number where it told none.
-pub record IsWorked (p : PenPart) (scan : Scan) (scans scans_at_begin : ℕ) : Type 0 where
+-- told, who was found with a section open; it is the greatest number where it told none. Where scans were made, the last words of
+-- sections that were loaded are those of the last scan; where none was, no such word was loaded.
+pub record IsWorked (p : PenPart) (scan : Scan) (scans : ℕ) : Type 0 where
   pub rows : p.shape.rows ≤ most_rows
   pub words : length p.words ≡ size_of (kind_width p.shape.kind) p.shape.rows
   pub lives : length p.lives ≡ first_row + p.shape.rows
@@ -37,9 +39,10 @@ pub record IsWorked (p : PenPart) (scan : Scan) (scans scans_at_begin : ℕ) : T
   pub count : length p.history ≡ p.ended + one_if p.published
   pub calm : p.in_flight ≡ false → p.published ≡ false
   pub opens : OpensSmall p.shape
-  pub risen : scans_at_begin ≤ scans
   pub least : scan.least ≡ epoch_told scan.by
   pub holder : is_loaded scan.by p.loaded ≡ true
+  pub scanned : 1 ≤ scans → IsScanOf p.sections p.shape.passes scan
+  pub unscanned : scans ≡ 0 → p.sections ≡ []
 
 died : (ended : ℕ) (in_flight : Bool) (life : Life) → ((call : ℕ) → life ≡ Dead call → (1 ≤ call) × (call ≤ ended + one_if in_flight)) → HasDied ended in_flight life
 died ended in_flight New by = tt
@@ -52,13 +55,12 @@ least_most [] most some each = absurd (omega arith)
 least_most (x ∷ []) most some each = each 0 (omega (arith))
 least_most (x ∷ y ∷ xs) most some each = let h : x ≤ most = each 0 (omega arith) in omega (arith, h)
 
-pub worked_whole : (t : Identity) (p : PenPart) (q : known.Pass) (scan : Scan) (scans scans_at_begin : ℕ) → IsWorked p scan scans scans_at_begin → IsWhole (sheet_worked t p q scan scans scans_at_begin)
-worked_whole t p q scan scans scans_at_begin w = record {
+pub worked_whole : (t : Identity) (p : PenPart) (q : known.Pass) (scan : Scan) (scans : ℕ) → IsWorked p scan scans → IsWhole (sheet_worked t p q scan scans)
+worked_whole t p q scan scans w = record {
   few = w.rows;
   words = w.words;
   lives = w.lives;
   buried = w.buried;
   cleared = least_most p.cleared p.ended (rw w.passes w.some_pass) (λ k l. w.cleared k (rw (← w.passes) l));
-  scans = w.risen;
   dead = λ row. died p.ended p.in_flight (life_of p.lives row) (w.dead row);
 }

@@ -16,27 +16,26 @@ use std::marker::PhantomData;
 pub struct PenRows<'a, W: Writer> {
     table: &'a MtTable,
     pen: Pen,
-    /// The last scan's answer, how many scans there were, and how many when a call was begun last.
+    /// The last scan's answer, and how many scans there were since a call was begun.
     scan: Scan,
     scans: u64,
-    scans_at_begin: u64,
     writer: PhantomData<W>,
     ghost at: { identity_of table.now ≡ W.table },
     ghost of: { IsPenOf W.table pen },
     ghost joined: { IsJoined pen },
     ghost turn: { joined_turn pen ≡ W.turn },
     ghost dealt: { (pen_in pen).dealt ≡ W.table.shape.passes },
-    ghost worked: { IsWorked (pen_in pen) scan scans scans_at_begin },
+    ghost worked: { IsWorked (pen_in pen) scan scans },
 }
 
 impl<'a, W: Writer> PenRows<'a, W> {
-    ghost use Rattle.std.specs.Prelude.{◌≡◌, ℕ, false};
+    ghost use Rattle.std.specs.Prelude.{◌≡◌, ◌≤◌, ℕ, false, []};
     ghost use Rattle.mt_base.specs.Passes.{IsSound};
     ghost use Rattle.mt_life.specs.declared.views.Extent.{Extent};
     ghost use Rattle.mt_rule.specs.Rule as rule;
+    ghost use Rattle.mt_rule.specs.Scans.{none_open, IsScanOf};
     ghost use Rattle.mt_rule.specs.Tokens.{identity_of, tree_in, pass_in, turn_seat, IsPassOf, pen_in, IsPenOf, IsAlone, IsJoined, joined_in, joined_turn, WasShown};
     ghost use Rattle.mt_pen.specs.Sheets.{sheet_told, shown_all, unscanned, HasSeenAll};
-    ghost use Rattle.mt_pen.specs.Scans.{none_open};
     ghost use Rattle.mt_pen.specs.Works.{IsWorked, OpensSmall};
 
     /// Joins a pass with the pen of its table, while no call is in flight.
@@ -64,7 +63,7 @@ impl<'a, W: Writer> PenRows<'a, W> {
         requires joined { IsJoined pen }
         requires turn { joined_turn pen ≡ W.turn }
         requires dealt { (pen_in pen).dealt ≡ W.table.shape.passes }
-        requires worked { IsWorked (pen_in pen) none_open 0 0 }
+        requires worked { IsWorked (pen_in pen) none_open 0 }
         ensures { ⟦<PenRows<'a, W> as Rows>⟧.sheet result ≡ sheet_told W.table (pen_in pen) (joined_in pen) }
     {
         PenRows {
@@ -75,7 +74,6 @@ impl<'a, W: Writer> PenRows<'a, W> {
                 by: None,
             },
             scans: 0,
-            scans_at_begin: 0,
             writer: PhantomData,
         }
     }
@@ -92,6 +90,10 @@ impl<'a, W: Writer> PenRows<'a, W> {
         ensures sound { IsSound (tree_in W.table) (pass_in result.1) }
         ensures dealt { (pen_in result.0).dealt ≡ W.table.shape.passes }
         ensures whole { (extents : ℕ → Extent) × rule.IsSound extents (pen_in result.0) }
+
+        // The words of the last scan were loaded last; where none was made no section word was loaded.
+        ensures scanned { 1 ≤ (⟦<PenRows<'a, W> as Rows>⟧.sheet self.entry).scans → IsScanOf (pen_in result.0).sections W.table.shape.passes (⟦<PenRows<'a, W> as Rows>⟧.sheet self.entry).scan }
+        ensures unscanned { (⟦<PenRows<'a, W> as Rows>⟧.sheet self.entry).scans ≡ 0 → (pen_in result.0).sections ≡ [] }
     {
         let PenRows { table, mut pen, .. } = self;
         let pass = table.split_pen(&mut pen);
@@ -107,9 +109,9 @@ impl<'a, W: Writer> Rows for PenRows<'a, W> {
     ghost use Rattle.mt_pen.specs.Sheets.{sheet_worked};
     ghost use Rattle.mt_pen.specs.Works.{worked_whole};
 
-    ghost sheet = { λ r. sheet_worked W.table (pen_in r.pen) (joined_in r.pen) r.scan r.scans r.scans_at_begin };
+    ghost sheet = { λ r. sheet_worked W.table (pen_in r.pen) (joined_in r.pen) r.scan r.scans };
 
-    ghost whole = { λ r. worked_whole W.table (pen_in r.pen) (joined_in r.pen) r.scan r.scans r.scans_at_begin r.worked };
+    ghost whole = { λ r. worked_whole W.table (pen_in r.pen) (joined_in r.pen) r.scan r.scans r.worked };
 
     fn size(&self) -> u64 {
         self.table.rows()
@@ -129,7 +131,7 @@ impl<'a, W: Writer> Rows for PenRows<'a, W> {
     }
 
     fn begin(&mut self) -> u64 {
-        self.scans_at_begin = self.scans;
+        self.scans = 0;
         self.table.store_begun(&mut self.pen)
     }
 

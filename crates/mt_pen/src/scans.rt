@@ -2,7 +2,8 @@
 
 ghost use Rattle.std.specs.Prelude.{◌≡◌, ◌<◌};
 ghost use Rattle.mt_rule.specs.Tokens.{identity_of, pen_in, IsPenOf, IsJoined, GoesOn, joined_part};
-ghost use Rattle.mt_pen.specs.Scans.{lesser, HasScanned};
+ghost use Rattle.mt_rule.specs.Scans.{lesser};
+ghost use Rattle.mt_pen.specs.Scans.{HasScanned};
 
 use mt_base::Holder;
 use mt_rows::Scan;

@@ -1,6 +1,6 @@
 -- What the section words of all passes show that were loaded one after another.
 -- Source: this project's own; the kernel frees nodes when every reader has left its RCU read-side section.
-use Rattle.std.specs.Prelude.{◌≡◌, ℕ, ◌+◌, ◌-◌, ◌/◌, ◌^◌, ◌==◌, List, [], ◌∷◌, ◌++◌, Some, None, length, nat_lt, if◌then◌else◌}
+use Rattle.std.specs.Prelude.{◌≡◌, ℕ, ◌+◌, ◌-◌, ◌/◌, ◌^◌, ◌≤◌, ◌==◌, List, [], ◌∷◌, Some, None, drop, length, map, nat_lt, if◌then◌else◌}
 use Rattle.mt_rows.specs.declared.rows.Scan.{Scan}
 use Rattle.mt_rule.specs.declared.views.SectionWord.{SectionWord}
 
@@ -26,10 +26,18 @@ abbrev pub words_from : ℕ → List ℕ → List SectionWord
 words_from pass [] = []
 words_from pass (word ∷ words) = record { pass = pass; word = word } ∷ words_from (pass + 1) words
 
+-- the last so many section words that were loaded, and what they were
+abbrev pub last_loaded : ℕ → List SectionWord → List SectionWord
+last_loaded n sections = drop (length sections - n) sections
+
+abbrev pub word_of : SectionWord → ℕ
+word_of s = s.word
+
+abbrev pub last_words : ℕ → List SectionWord → List ℕ
+last_words n sections = map word_of (last_loaded n sections)
+
 -- The last section words that were loaded are one of each of so many passes, in turn, and this is what they show.
 pub record IsScanOf (sections : List SectionWord) (passes : ℕ) (scan : Scan) : Type 0 where
-  pub before : List SectionWord
-  pub words : List ℕ
-  pub count : length words ≡ passes
-  pub loads : sections ≡ before ++ words_from 0 words
-  pub found : scan ≡ scan_of words
+  pub many : passes ≤ length sections
+  pub turns : last_loaded passes sections ≡ words_from 0 (last_words passes sections)
+  pub found : scan ≡ scan_of (last_words passes sections)

@@ -7,7 +7,7 @@ use Rattle.mt_pen.proofs.rows.PenRowsRows.scan.Goals as goal
 pub invariant_of-self-clause-worked : goal.invariant_of-self-clause-worked
 invariant_of-self-clause-worked g c =
     let s = c.args.self.now in
-    worked_scan _ _ _ _ _ _ _ _ _ c.scan_sections-self.ensures.scanned (omega (arith, c.saturating_add-self.ensures)) s.worked
+    worked_scan _ _ _ _ _ _ _ _ c.scan_sections-self.ensures.scanned (ap (λ (x : Identity). x.shape.passes) (s.at ∙ sym s.of)) (omega (arith, c.saturating_add-self.ensures)) s.worked
 
 pub returns-clause-answer : goal.returns-clause-answer
 returns-clause-answer g c =
@@ -19,9 +19,9 @@ returns-clause-answer g c =
 pub returns-clause-kept : goal.returns-clause-kept
 returns-clause-kept g c =
     let s = c.args.self.now in
-    scan_kept _ _ _ _ _ _ _ _ c.scan_sections-self.ensures.scanned s.worked
+    scan_kept _ _ _ _ _ _ _ c.scan_sections-self.ensures.scanned s.worked
 
 pub returns-clause-cleared : goal.returns-clause-cleared
 returns-clause-cleared g c =
     let s = c.args.self.now in
-    scan_cleared _ _ _ _ _ _ _ _ c.scan_sections-self.ensures.scanned (ap (λ (x : Identity). x.shape.passes) (s.at ∙ sym s.of)) s.worked
+    scan_cleared _ _ _ _ _ _ _ c.scan_sections-self.ensures.scanned (ap (λ (x : Identity). x.shape.passes) (s.at ∙ sym s.of)) s.worked
