@@ -85,7 +85,7 @@ module _ (q q' : PassPart) (place : Place) (index : ℕ) (from : place.first ≤
   crosses_beside (Some value) least h = crosses least value h.answers h.stood
 
 -- the leaf x was not found marked after the leaf beside it was read: it stood at the moment of which that one answers
-module _ (q q' : PassPart) (word found : ℕ) (told : LoadedParent word found q q') where
+module _ (q q' : PassPart) (number word found : ℕ) (told : LoadedParent number word found q q') where
   pub beside_by : (x : Held) (least since : ℕ) → x.met ≤ least → least ≤ since → (query : Query) (value : Option Range) → Answers q since query value
       → ((k : ℕ) → x.met ≤ k → k ≤ length q'.seen → Snapshot q'.shape.kind x (moment_seen q' k)) → AnswersBy q' x least query value
   beside_by x least since met low query value a past =

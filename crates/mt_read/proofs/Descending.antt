@@ -1,5 +1,6 @@
 -- How a walk comes from a row to the one below.
-use Rattle.std.proofs.Common.{◌≡◌, ◌≢◌, ℕ, suc, ◌+◌, ◌<◌, ◌≤◌, List, [], ◌∷◌, length, Some, refl, sym, ap, ◌∙◌, subst, arith}
+use Rattle.std.proofs.Common.{◌≡◌, ◌≢◌, ℕ, suc, ◌+◌, ◌<◌, ◌≤◌, List, [], ◌∷◌, length, Option, Some, None, refl, sym, ap, ◌∙◌, subst, arith}
+use Rattle.std.specs.Prelude.{IfSome}
 use Rattle.std.specs.List.{slice_get}
 use mathlib.Core.Option.{some}
 use lib.ListN.{get_elem?}
@@ -27,7 +28,7 @@ use Rattle.mt_rule.specs.Places.{column_at}
 use Rattle.mt_rule.specs.Sections.{Comes, LoadedChild, LoadedEntry, LoadedRootRow, LoadedSlot, behind_first, floor_or, IsAt, Reads, here, kind_of, slots_in, spans_here, with_seen}
 use Rattle.mt_read.specs.declared.descent.Row.{Row}
 use Rattle.mt_read.specs.declared.descent.Place.{Place}
-use Rattle.mt_read.specs.Walks.{GoesOn, IsOn, IsPlaceIn, IsUnder, SeesMore}
+use Rattle.mt_read.specs.Walks.{GoesOn, GoesOnTo, IsOn, IsPlaceIn, IsUnder, SeesMore, WasMarked}
 use Rattle.mt_life.proofs.Slots.{span_in_slot}
 use Rattle.mt_life.specs.Holding.{copy_of}
 use Rattle.mt_read.proofs.Finding.{count_is, slots_counted}
@@ -118,10 +119,10 @@ module _ (q q' : PassPart) (row : Row) (place : Place) (col name : ℕ) (on : Is
 
 -- ---- going on
 
-pub goes_by : (q q' part : PassPart) → Reads q q' part → part ≡ record q { seen = q'.seen; floor = part.floor; held = part.held; risen = part.risen } → q.risen ≤ part.risen
-    → ((x : Held) → IsUnder q x → IsUnder part x) → GoesOn q q'
+pub goes_by : (q q' part : PassPart) → Reads q q' part → part ≡ record q { seen = q'.seen; floor = part.floor; held = part.held; risen = part.risen; marks = part.marks } → q.risen ≤ part.risen
+    → ((x : Held) → IsUnder q x → IsUnder part x) → GoesOnTo q q' part.marks
 goes_by q q' part r same risen under = record {
-  is = r.is ∙ (same ∙ (λ i. record q { seen = q'.seen; floor = (sym r.is i).floor; held = (sym r.is i).held; risen = (sym r.is i).risen }));
+  is = r.is ∙ (same ∙ (λ i. record q { seen = q'.seen; floor = (sym r.is i).floor; held = (sym r.is i).held; risen = (sym r.is i).risen; marks = part.marks }));
   seen = r.seen;
   risen = subst (λ (z : PassPart). q.risen ≤ z.risen) (sym r.is) risen;
   under = λ x u. subst (λ (z : PassPart). IsUnder z x) (sym r.is) (under x u);
@@ -130,13 +131,36 @@ goes_by q q' part r same risen under = record {
 pub goes_sees : (q q' : PassPart) → SeesMore q q' → GoesOn q q'
 goes_sees q q' s = goes_by q q' (with_seen q q'.seen) s refl (omega arith) (λ x u. u)
 
-pub goes_on : (q q' q'' : PassPart) → GoesOn q q' → GoesOn q' q'' → GoesOn q q''
-goes_on q q' q'' s t = record {
-  is = t.is ∙ ap (λ (z : PassPart). record z { seen = q''.seen; floor = q''.floor; held = q''.held; risen = q''.risen }) s.is;
+-- the dead marks are those that were loaded last
+pub goes_to : (q q' q'' : PassPart) (m m' : List ℕ) → GoesOnTo q q' m → GoesOnTo q' q'' m' → GoesOnTo q q'' m'
+goes_to q q' q'' m m' s t = record {
+  is = t.is ∙ ap (λ (z : PassPart). record z { seen = q''.seen; floor = q''.floor; held = q''.held; risen = q''.risen; marks = m' }) s.is;
   seen = begins_on q.seen q'.seen q''.seen s.seen t.seen;
   risen = (let less = s.risen in let more = t.risen in omega arith);
   under = λ x u. t.under x (s.under x u);
 }
+
+pub marks_are : (q q' : PassPart) (m : List ℕ) → GoesOnTo q q' m → q'.marks ≡ m
+marks_are q q' m s = ap (λ (z : PassPart). z.marks) s.is
+
+pub goes_on : (q q' q'' : PassPart) → GoesOn q q' → GoesOn q' q'' → GoesOn q q''
+goes_on q q' q'' s t = subst (GoesOnTo q q'') (marks_are q q' q.marks s) (goes_to q q' q'' q.marks q'.marks s t)
+
+-- where a dead mark is loaded then
+pub marked_then : (x : Held) (q q' q'' : PassPart) → GoesOn q q' → WasMarked x q' q'' → WasMarked x q q''
+marked_then x q q' q'' s w = record {
+  goes = subst (λ (m : List ℕ). GoesOnTo q q'' (x.row ∷ m)) (marks_are q q' q.marks s) (goes_to q q' q'' q.marks (x.row ∷ q'.marks) s w.goes);
+  begun = w.begun;
+}
+
+-- by another hold of the row
+pub marked_same : (x y : Held) (q q' : PassPart) → x.row ≡ y.row → x.since ≡ y.since → WasMarked x q q' → WasMarked y q q'
+marked_same x y q q' row since w = record { goes = subst (λ (n : ℕ). GoesOnTo q q' (n ∷ q.marks)) row w.goes; begun = subst (λ (n : ℕ). n < q'.risen) since w.begun }
+
+-- with an answer
+pub goes_some : {A : Type 0} (o : Option A) (q q' q'' : PassPart) → GoesOn q q' → IfSome o (λ x. GoesOn q' q'') → IfSome o (λ x. GoesOn q q'')
+goes_some None q q' q'' s t = tt
+goes_some (Some x) q q' q'' s t = goes_on q q' q'' s t
 
 pub here_more : (q q' : PassPart) → SeesMore q q' → here q' ≡ here q
 here_more q q' s = ap here s.is

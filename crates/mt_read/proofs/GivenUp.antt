@@ -1,8 +1,9 @@
 -- What is left of a read that was given up, and a bound of what begins behind an index.
-use Rattle.std.proofs.Common.{◌≡◌, ℕ, ◌+◌, ◌≤◌, [], ◌∷◌, length, Option, refl, sym, ap, ◌∙◌, subst, arith}
+use Rattle.std.proofs.Common.{◌≡◌, ℕ, [], ◌∷◌, length, Option, refl, sym, ap, ◌∙◌, subst, arith}
 use Rattle.std.proofs.lemmas.List.{length-map}
 use Rattle.mt_base.specs.declared.kinds.Kind.{Kind}
 use Rattle.mt_base.specs.declared.ranges.Range.{Range}
+use Rattle.mt_base.specs.declared.calls.Query.{Query}
 use Rattle.mt_base.specs.declared.calls.Query.TheVariants.{Next, Prev, Rfind}
 use Rattle.mt_base.specs.Map.{IsMap}
 use Rattle.mt_base.specs.Passes as known
@@ -13,12 +14,11 @@ use Rattle.mt_rule.specs.Seats.{known_by, record_of}
 use Rattle.mt_rule.specs.Sections.{moment_seen}
 use Rattle.mt_rule.specs.Tokens.{Identity, tree_in}
 use Rattle.mt_read.specs.Answers.{Answers, within}
-use Rattle.mt_read.specs.Neighbours.{WasMoved, not_below}
-use Rattle.mt_read.specs.Walks.{GoesOn}
+use Rattle.mt_read.specs.Neighbours.{LeftMarked, WasLeftMarked, WasMoved, not_below}
 use Rattle.mt_read.specs.Windows.{Began, Ended}
 use Rattle.mt_read.proofs.LastAnswers.{prev_within, rfind_within}
 use Rattle.mt_read.proofs.NextAnswers.{next_within}
-use Rattle.mt_read.proofs.Windows.{has_read}
+use Rattle.mt_read.proofs.Windows.{has_read, marks_after}
 
 pub next_bounded : (q : PassPart) (kind : Kind) (least index max : ℕ) (value : Option Range) → q.shape.kind ≡ kind → Answers q least (Next index (greatest_of kind)) value → Answers q least (Next index max) (within 0 max value)
 next_bounded q kind least index max value same a = record {
@@ -47,9 +47,22 @@ prev_bounded q least index min value a = record {
   is = ap (not_below min min) a.is ∙ prev_within q.shape.kind (moment_seen q a.k).ranges index min a.map;
 }
 
-pub was_moved : (t : Identity) (q q₁ q₂ q₃ : PassPart) (lo hi : ℕ) → q.shape ≡ t.shape → Began lo q q₁ → GoesOn q₁ q₂ → Ended hi q₂ q₃ → length q₁.seen + 1 ≤ q₂.risen → known.IsSound (tree_in t) (known_by q₃) → WasMoved (tree_in t) (known_by q) lo hi (known_by q₃)
-was_moved t q q₁ q₂ q₃ lo hi of began goes ended risen sound =
-    let h = has_read t q q₁ q₂ q₃ lo hi of began goes ended in
+-- ---- given up
+
+pub was_left : (t : Identity) (q q₁ q₂ q₃ : PassPart) (query : Query) (lo hi : ℕ) → q.shape ≡ t.shape → Began lo q q₁ → LeftMarked query (length q₁.seen) q₁ q₂ → Ended hi q₂ q₃ → WasLeftMarked query lo hi q q₃
+was_left t q q₁ q₂ q₃ query lo hi of began left ended = record {
+  opened = q₁;
+  left = q₂;
+  began = began;
+  marked = left;
+  ended = ended;
+  marks = marks_after t q q₁ q₂ q₃ lo hi of began (left.x.row ∷ q₁.marks) left.beside.marked.goes ended ∙ ap (λ (z : PassPart). left.x.row ∷ z.marks) began.is;
+}
+
+pub was_moved : (t : Identity) (q q₁ q₂ q₃ : PassPart) (query : Query) (lo hi : ℕ) → q.shape ≡ t.shape → Began lo q q₁ → LeftMarked query (length q₁.seen) q₁ q₂ → Ended hi q₂ q₃ → known.IsSound (tree_in t) (known_by q₃) → WasMoved (tree_in t) (known_by q) lo hi (known_by q₃)
+was_moved t q q₁ q₂ q₃ query lo hi of began left ended sound =
+    let goes = left.beside.marked.goes in let since = left.since in let risen = left.beside.marked.begun in
+    let h = has_read t q q₁ q₂ q₃ lo hi of began (left.x.row ∷ q₁.marks) goes ended in
     let begun : q₂.begun ≡ q.begun = ap (λ (z : PassPart). z.begun) goes.is ∙ ap (λ (z : PassPart). z.begun) began.is in
     let before = ended.before in let most = began.most in let least = began.least in let top = ended.risen in
     let first = begins_long q.seen q₁.seen began.seen in let long = length-map q.seen record_of in

@@ -1,6 +1,7 @@
 -- What is known of a kept leaf, from step to step.
-use Rattle.std.proofs.Common.{◌≡◌, ℕ, suc, ◌≤◌, List, length, Option, Some, None, refl, sym, ap, ◌∙◌, subst, arith, append-nil, []}
+use Rattle.std.proofs.Common.{◌≡◌, ◌≢◌, ℕ, suc, ◌≤◌, ◌==◌, true, false, List, length, Option, Some, None, refl, sym, ap, ◌∙◌, subst, arith, append-nil, [], ◌∷◌}
 use Rattle.std.specs.Prelude.{IfSome}
+use Rattle.std.proofs.lemmas.Bool.{eq-eqb, ne_eqb}
 use Rattle.mt_base.specs.declared.ranges.Range.{Range}
 use Rattle.mt_base.specs.declared.calls.Query.{Query}
 use Rattle.mt_base.specs.Call.{answer}
@@ -8,24 +9,25 @@ use Rattle.mt_base.specs.Map.{IsMap}
 use Rattle.mt_base.specs.Passes.{Begins}
 use Rattle.mt_base.specs.Width.{kind_width}
 use Rattle.mt_base.proofs.Goings.{begins_long}
+use Rattle.mt_layout.specs.Rows.{dead_mark}
 use Rattle.mt_life.specs.declared.views.Held.{Held}
 use Rattle.mt_life.specs.declared.views.Moment as life
 use Rattle.mt_rule.specs.declared.views.Moment.{Moment}
 use Rattle.mt_rule.specs.declared.views.PassPart.{PassPart}
 use Rattle.mt_rule.specs.declared.views.Shape.{Shape}
 use Rattle.mt_rule.specs.Places.{column_at}
-use Rattle.mt_rule.specs.Sections.{IsAt, LoadedParent, ParentTells, here, moment_seen, with_seen}
+use Rattle.mt_rule.specs.Sections.{IsAt, LoadedParent, ParentTells, here, marks_with, moment_seen, with_seen}
 use Rattle.mt_read.specs.declared.descent.Row.{Row}
 use Rattle.mt_read.specs.declared.cursor.KeptLeaf.{KeptLeaf}
 use Rattle.mt_read.specs.Answers.{Answers, LeafAnswers}
 use Rattle.mt_read.specs.Cursors.{IsKept}
-use Rattle.mt_read.specs.Walks.{GoesOn, IsOnLeaf, IsUnder}
+use Rattle.mt_read.specs.Walks.{GoesOn, GoesOnTo, IsOnLeaf, IsUnder, WasMarked}
 use Rattle.mt_read.proofs.Descending.{goes_by}
 use Rattle.mt_read.proofs.Moments.{moment_stays}
 
 -- ---- a pass of which nothing but numbers has changed
 
-module _ (q q' : PassPart) (seen : List Moment) (begun ended epoch risen : ℕ) (is : q' ≡ record q { seen = seen; begun = begun; ended = ended; epoch = epoch; risen = risen }) (more : length q.seen ≤ length seen) where
+module _ (q q' : PassPart) (seen : List Moment) (begun ended epoch risen : ℕ) (marks : List ℕ) (is : q' ≡ record q { seen = seen; begun = begun; ended = ended; epoch = epoch; risen = risen; marks = marks }) (more : length q.seen ≤ length seen) where
   pub leaf_around : (leaf : Row) → IsOnLeaf q leaf → IsOnLeaf q' leaf
   leaf_around leaf at = subst (λ (z : PassPart). IsOnLeaf z leaf) (sym is) (let on = at.on in let met = on.met in record {
     on = record { at = on.at; number = on.number; kind = on.kind; min = on.min; max = on.max; within = on.within; has = on.has; old = on.old; met = omega arith; width = on.width; shape = on.shape };
@@ -51,15 +53,26 @@ answers_later q q' least query value shape b a =
       is = a.is ∙ ap (λ (m : life.Moment). answer m.ranges query) (sym stays);
     }
 
-module _ (q q' : PassPart) (word found : ℕ) (told : LoadedParent word found q q') where
-  pub goes_parent : GoesOn q q'
-  goes_parent = goes_by q q' (record (with_seen q q'.seen) { risen = q'.risen }) told.reads refl told.risen (λ x u. u)
+module _ (q q' : PassPart) (number word found : ℕ) (told : LoadedParent number word found q q') where
+  goes_parent : GoesOnTo q q' (marks_with number found q.marks)
+  goes_parent = goes_by q q' (record (with_seen q q'.seen) { risen = q'.risen; marks = marks_with number found q.marks }) told.reads refl told.risen (λ x u. u)
+
+  -- it is not the dead mark
+  pub goes_unmarked : found ≢ dead_mark number → GoesOn q q'
+  goes_unmarked off = subst (GoesOnTo q q') (let test : (found == dead_mark number) ≡ false = ne_eqb found (dead_mark number) off in rw test refl) goes_parent
+
+  -- it is
+  pub goes_marked : (x : Held) → found ≡ dead_mark number → number ≡ x.row → ParentTells q' x found → WasMarked x q q'
+  goes_marked x mark same tells = record {
+    goes = subst (GoesOnTo q q') (let test : (found == dead_mark number) ≡ true = eq-eqb found (dead_mark number) mark in rw test (ap (λ (n : ℕ). n ∷ q.marks) same)) goes_parent;
+    begun = (let more = tells.dead (mark ∙ ap dead_mark same) in omega arith);
+  }
 
   parent_shape : q'.shape ≡ q.shape
   parent_shape = ap (λ (z : PassPart). z.shape) told.reads.is
 
   pub leaf_parent : (leaf : Row) → IsOnLeaf q leaf → IsOnLeaf q' leaf
-  leaf_parent leaf at = leaf_around q q' q'.seen q.begun q.ended q.epoch q'.risen told.reads.is (begins_long q.seen q'.seen told.reads.seen) leaf at
+  leaf_parent leaf at = leaf_around q q' q'.seen q.begun q.ended q.epoch q'.risen (marks_with number found q.marks) told.reads.is (begins_long q.seen q'.seen told.reads.seen) leaf at
 
   pub parent_tells : (row : ℕ) → IsAt q → word ≡ column_at (kind_width q.shape.kind) row 0 → row ≡ (here q).row → ParentTells q' (here q) found
   parent_tells row at is same = told.tells 0 (here q) at (is ∙ ap (λ (r : ℕ). column_at (kind_width q.shape.kind) r 0) same)

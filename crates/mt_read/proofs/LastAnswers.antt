@@ -40,10 +40,10 @@ keep_last p (r ∷ front) x back passes each = elim (cases_Bool (p r)) [
 
 -- ---- the last range that begins at an index or below
 
-abbrev rfind_test : ℕ → ℕ → Range → Bool
+abbrev pub rfind_test : ℕ → ℕ → Range → Bool
 rfind_test index min r = nat_le r.first index && nat_le min r.last
 
-abbrev prev_test : ℕ → ℕ → Range → Bool
+abbrev pub prev_test : ℕ → ℕ → Range → Bool
 prev_test index min r = nat_lt r.last index && nat_le min r.last
 
 pub rfind_all : (m : List Range) (index : ℕ) → answer m (Rfind index 0) ≡ last_range (filter (rfind_test index 0) m)

@@ -6,12 +6,14 @@ pub mod Descending
 pub mod Finding
 pub mod GivenUp
 pub mod Keeping
+pub mod Leaving
 pub mod LastAnswers
 pub mod Preceding
 pub mod MapAnswers
 pub mod Reading
 pub mod NextAnswers
 pub mod SlotAnswers
+pub mod Silent
 pub mod Standing
 pub mod Stepping
 pub mod Windows

@@ -13,7 +13,7 @@ use Rattle.mt_base.proofs.Lists.{all_map}
 use Rattle.mt_read.specs.Answers.{within}
 use Rattle.mt_read.proofs.MapAnswers.{Beside, same_filter, none_pass}
 
-abbrev next_test : ℕ → ℕ → Range → Bool
+abbrev pub next_test : ℕ → ℕ → Range → Bool
 next_test index max r = nat_lt index r.first && nat_le r.first max
 
 abbrev find_test : ℕ → ℕ → Range → Bool

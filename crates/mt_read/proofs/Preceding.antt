@@ -144,11 +144,11 @@ no_hole q₂ q₃ place x to was level wide cut from upto next small =
     let less : e.last < greatest (here q₃).width = subst (λ (w : Width). e.last < greatest w) (sym width) (omega arith) in
     full_back parts.0 (span ∷ []) (omega arith) (subst EndsFull (parts.2 ∙ ap (λ (l : List Span). parts.0 ++ (span ∷ l)) none) (was.read.shape.ends level less)) hole
 
-module _ (q₂ q₃ q₄ : PassPart) (word found : ℕ) (told : LoadedParent word found q₃ q₄) (place : Place) (x : Held) (to least : ℕ) (level : (here q₂).extent.level ≡ 0) (wide : (here q₂).width ≡ kind_width q₃.shape.kind)
+module _ (q₂ q₃ q₄ : PassPart) (number word found : ℕ) (told : LoadedParent number word found q₃ q₄) (place : Place) (x : Held) (to least : ℕ) (level : (here q₂).extent.level ≡ 0) (wide : (here q₂).width ≡ kind_width q₃.shape.kind)
     (from : place.first ≤ to) (upto : to ≤ place.last) (next : to + 1 ≡ x.extent.first) (small : x.extent.first ≤ greatest_of q₃.shape.kind) (met : x.met ≤ least) (low : least ≤ (here q₂).since)
     (past : (k : ℕ) → x.met ≤ k → k ≤ length q₄.seen → Snapshot q₄.shape.kind x (moment_seen q₄ k)) where
   pub last_by : (o : Option Range) (slot : Type 0) → IfSome o (λ (r : Range). LeafAnswers q₃ (here q₂) (Rfind to 0) (Some r)) → IfNone o (slot × WasRead q₂ q₃ place None) → AnswersBy q₄ x least (Rfind to 0) o
-  last_by (Some r) slot a none = beside_by q₃ q₄ word found told x least (here q₂).since met low (Rfind to 0) (Some r) a.answers past
+  last_by (Some r) slot a none = beside_by q₃ q₄ number word found told x least (here q₂).since met low (Rfind to 0) (Some r) a.answers past
   last_by None slot a none =
       let was = none.1 in
       let first = was.read.low in
@@ -164,10 +164,7 @@ here_by q q' index r a = record { answers = a.answers; stood = inr a.stood }
 
 -- the leaf begins with a hole there: what is before the leaf answers
 module _ (q q₁ q' : PassPart) (place : Place) (was : WasRead q q₁ place None) (same : IsSameHold (here q) (here q₁)) (filled : Fills (here q₁).extent.first ((here q₁).extent.last + 1) (spans_here q₁ (here q₁)))
-    (goes : GoesOn q₁ q') (index : ℕ) (from : place.first ≤ index) (to : index ≤ place.last) (some : 0 < place.first) where
-  kind : q'.shape.kind ≡ q₁.shape.kind
-  kind = ap (λ (z : PassPart). z.shape.kind) goes.is
-
+    (kind : q'.shape.kind ≡ q₁.shape.kind) (index : ℕ) (from : place.first ≤ index) (to : index ≤ place.last) (some : 0 < place.first) where
   by_moment : (m : life.Moment) (value : Option Range) → IsMap q'.shape.kind m.ranges → value ≡ answer m.ranges (Rfind (place.first - 1) 0) → (m.ranges ≡ []) ⊎ Snapshot q'.shape.kind (here q₁) m
       → (value ≡ answer m.ranges (Rfind index 0)) × ((m.ranges ≡ []) ⊎ Snapshot q'.shape.kind (here q) m)
   by_moment m value map is (inl none) = (is ∙ (sym (nothing_before m.ranges (place.first - 1) none) ∙ nothing_before m.ranges index none), inl none)

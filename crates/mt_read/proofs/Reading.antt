@@ -1,6 +1,6 @@
 -- What a load of a leaf's slot tells.
 use Rattle.std.proofs.Common.{◌≡◌, ◌≢◌, ℕ, ◌+◌, ◌*◌, ◌≤◌, ◌==◌, List, [], length, nat_lt, Option, Some, None, inl, inr, refl, sym, ap, ◌∙◌, subst, arith}
-use Rattle.std.specs.Prelude.{IfSome, slice_index}
+use Rattle.std.specs.Prelude.{IfNone, IfSome, slice_index}
 use Rattle.std.specs.List.{slice_get}
 use Rattle.std.proofs.lemmas.Bool.{cases_Bool, eqb-true, eqb-false, eq-eqb, ne_eqb}
 use Rattle.mt_base.specs.declared.kinds.Kind.{Kind}
@@ -103,6 +103,10 @@ ends_in_leaf q q' leaf place (Some r) on is was =
 
 pub kind_goes : (q q' : PassPart) → GoesOn q q' → q'.shape.kind ≡ q.shape.kind
 kind_goes q q' goes = ap (λ (z : PassPart). z.shape.kind) goes.is
+
+pub kind_told : {A : Type 0} (o : Option A) (q q' : PassPart) (P : Type 0) → IfSome o (λ x. GoesOn q q') → IfNone o P → (P → q'.shape.kind ≡ q.shape.kind) → q'.shape.kind ≡ q.shape.kind
+kind_told None q q' P goes none of = of none
+kind_told (Some x) q q' P goes none of = kind_goes q q' goes
 
 module _ (q q' : PassPart) (place : Place) (found : Option Range) (level : (here q).extent.level ≡ 0) (was : WasRead q q' place found) (index : ℕ) (from : place.first ≤ index) (to : index ≤ place.last) where
   abbrev m : List Range

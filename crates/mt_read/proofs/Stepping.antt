@@ -15,7 +15,7 @@ use Rattle.mt_rule.specs.Seats.{known_by, record_of, tree_of}
 use Rattle.mt_rule.specs.Sections.{LoadedBegun, moment_seen}
 use Rattle.mt_rule.specs.Tokens.{Identity, tree_in}
 use Rattle.mt_read.specs.Cursors.{Resumed, epoch_or, opened_with, query_at}
-use Rattle.mt_read.specs.Walks.{GoesOn}
+use Rattle.mt_read.specs.Walks.{GoesOnTo}
 use Rattle.mt_read.proofs.Windows.{begins_records}
 
 -- what the query at a place is
@@ -29,17 +29,17 @@ opened_more : (epoch : Option ℕ) (opened : List ℕ) (lo : ℕ) → known.Begi
 opened_more None opened lo = (lo ∷ [], refl)
 opened_more (Some epoch) opened lo = ([], sym (append-nil opened))
 
-module _ (t : Identity) (q q₁ q₂ q₃ : PassPart) (lo hi : ℕ) (epoch : Option ℕ) (of : q.shape ≡ t.shape) (standing : IfSome epoch (λ (e : ℕ). q.standing ≡ Some e)) (resumed : Resumed lo epoch q q₁) (goes : GoesOn q₁ q₂) (begun : LoadedBegun hi q₂ q₃) where
+module _ (t : Identity) (q q₁ q₂ q₃ : PassPart) (lo hi : ℕ) (epoch : Option ℕ) (of : q.shape ≡ t.shape) (standing : IfSome epoch (λ (e : ℕ). q.standing ≡ Some e)) (resumed : Resumed lo epoch q q₁) (marks : List ℕ) (goes : GoesOnTo q₁ q₂ marks) (begun : LoadedBegun hi q₂ q₃) where
   -- what the pass knows after it
   abbrev after : PassPart
-  after = record q { seen = q₂.seen; opened = opened_with epoch q.opened lo; standing = Some (epoch_or epoch lo); begun = hi; ended = lo; epoch = lo; floor = q₂.floor; risen = q₂.risen; held = q₂.held }
+  after = record q { seen = q₂.seen; opened = opened_with epoch q.opened lo; standing = Some (epoch_or epoch lo); begun = hi; ended = lo; epoch = lo; floor = q₂.floor; risen = q₂.risen; marks = marks; held = q₂.held }
 
   middle : (e : Option ℕ) → IfSome e (λ (n : ℕ). q.standing ≡ Some n) → Resumed lo e q q₁
-      → q₂ ≡ record q { seen = q₂.seen; opened = opened_with e q.opened lo; standing = Some (epoch_or e lo); ended = lo; epoch = lo; floor = q₂.floor; risen = q₂.risen; held = q₂.held }
-  middle None standing r = goes.is ∙ ap (λ (z : PassPart). record z { seen = q₂.seen; floor = q₂.floor; held = q₂.held; risen = q₂.risen }) r.is
+      → q₂ ≡ record q { seen = q₂.seen; opened = opened_with e q.opened lo; standing = Some (epoch_or e lo); ended = lo; epoch = lo; floor = q₂.floor; risen = q₂.risen; marks = marks; held = q₂.held }
+  middle None standing r = goes.is ∙ ap (λ (z : PassPart). record z { seen = q₂.seen; floor = q₂.floor; held = q₂.held; risen = q₂.risen; marks = marks }) r.is
   middle (Some n) standing r =
-      goes.is ∙ (ap (λ (z : PassPart). record z { seen = q₂.seen; floor = q₂.floor; held = q₂.held; risen = q₂.risen }) r.is
-      ∙ (λ i. record q { seen = q₂.seen; standing = standing i; ended = lo; epoch = lo; floor = q₂.floor; risen = q₂.risen; held = q₂.held }))
+      goes.is ∙ (ap (λ (z : PassPart). record z { seen = q₂.seen; floor = q₂.floor; held = q₂.held; risen = q₂.risen; marks = marks }) r.is
+      ∙ (λ i. record q { seen = q₂.seen; standing = standing i; ended = lo; epoch = lo; floor = q₂.floor; risen = q₂.risen; marks = marks; held = q₂.held }))
 
   is_after : q₃ ≡ after
   is_after = begun.is ∙ ap (λ (z : PassPart). record z { begun = hi }) (middle epoch standing resumed)

@@ -18,7 +18,7 @@ use Rattle.mt_rule.specs.Seats.{known_by, record_of, records_of, tree_of}
 use Rattle.mt_rule.specs.Sections.{closed_section, moment_seen}
 use Rattle.mt_rule.specs.Tokens.{Identity, tree_in}
 use Rattle.mt_read.specs.Answers.{Answers, within}
-use Rattle.mt_read.specs.Walks.{GoesOn}
+use Rattle.mt_read.specs.Walks.{GoesOnTo}
 use Rattle.mt_read.specs.Windows.{Began, Ended, HasRead}
 use Rattle.mt_read.proofs.MapAnswers.{find_within}
 
@@ -34,16 +34,19 @@ bounded q kind least index max value same low a = record {
   is = ap (within index max) a.is ∙ find_within kind (moment_seen q a.k).ranges index max (subst (λ (k : Kind). IsMap k (moment_seen q a.k).ranges) same a.map) low;
 }
 
-module _ (t : Identity) (q q₁ q₂ q₃ : PassPart) (lo hi : ℕ) (of : q.shape ≡ t.shape) (began : Began lo q q₁) (goes : GoesOn q₁ q₂) (ended : Ended hi q₂ q₃) where
+module _ (t : Identity) (q q₁ q₂ q₃ : PassPart) (lo hi : ℕ) (of : q.shape ≡ t.shape) (began : Began lo q q₁) (marks : List ℕ) (goes : GoesOnTo q₁ q₂ marks) (ended : Ended hi q₂ q₃) where
   -- what the pass knows after it
   abbrev after : PassPart
-  after = record q { seen = q₂.seen; opened = q.opened ++ lo ∷ []; standing = None; begun = hi; ended = lo; epoch = lo; floor = None; risen = q₂.risen; held = [] }
+  after = record q { seen = q₂.seen; opened = q.opened ++ lo ∷ []; standing = None; begun = hi; ended = lo; epoch = lo; floor = None; risen = q₂.risen; marks = marks; held = [] }
 
-  middle : q₂ ≡ record q { seen = q₂.seen; opened = q.opened ++ lo ∷ []; standing = Some lo; ended = lo; epoch = lo; floor = q₂.floor; risen = q₂.risen; held = q₂.held }
-  middle = goes.is ∙ ap (λ (z : PassPart). record z { seen = q₂.seen; floor = q₂.floor; held = q₂.held; risen = q₂.risen }) began.is
+  middle : q₂ ≡ record q { seen = q₂.seen; opened = q.opened ++ lo ∷ []; standing = Some lo; ended = lo; epoch = lo; floor = q₂.floor; risen = q₂.risen; marks = marks; held = q₂.held }
+  middle = goes.is ∙ ap (λ (z : PassPart). record z { seen = q₂.seen; floor = q₂.floor; held = q₂.held; risen = q₂.risen; marks = marks }) began.is
 
   is_after : q₃ ≡ after
   is_after = ended.is ∙ ap (λ (z : PassPart). closed_section (record z { begun = hi })) middle
+
+  pub marks_after : q₃.marks ≡ marks
+  marks_after = ap (λ (z : PassPart). z.marks) is_after
 
   seen_all : known.Begins q.seen q₂.seen
   seen_all = begins_on q.seen q₁.seen q₂.seen began.seen goes.seen

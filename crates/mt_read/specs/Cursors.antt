@@ -1,6 +1,6 @@
 -- What a cursor keeps from step to step, and what a step makes of a pass.
 -- Source: the kernel's documentation of the maple tree, mas_find, which goes on from the node that it is at, and mas_pause.
-use Rattle.std.specs.Prelude.{◌≡◌, ℕ, ◌+◌, ◌≤◌, List, [], ◌∷◌, ◌++◌, Option, Some, None, IfSome, length, nat_le, nat_lt, if◌then◌else◌}
+use Rattle.std.specs.Prelude.{◌≡◌, ◌⊎◌, ℕ, ◌+◌, ◌<◌, ◌≤◌, List, [], ◌∷◌, ◌++◌, Option, Some, None, IfSome, length, nat_le, nat_lt, if◌then◌else◌}
 use Rattle.mt_base.specs.declared.calls.Query.{Query}
 use Rattle.mt_base.specs.declared.calls.Query.TheVariants.{Find}
 use Rattle.mt_base.specs.declared.ranges.Range.{Range}
@@ -30,6 +30,21 @@ IsOverPlace leaf (Some index) = IsOver leaf index
 abbrev pub lo_of : Option KeptLeaf → ℕ
 lo_of None = 0
 lo_of (Some kept) = kept.lo
+
+abbrev pub row_of : Option KeptLeaf → ℕ
+row_of None = 0
+row_of (Some kept) = kept.leaf.number
+
+-- The kept leaf covers the place, and the pass has loaded its dead mark and no other: more than `lo` calls have begun, of which
+-- it knows now that `begun` have.
+pub record LeafWasMarked (leaf : Option KeptLeaf) (at : Option ℕ) (begun : ℕ) (q q' : PassPart) : Type 0 where
+  pub over : IsOverPlace leaf at
+  pub marks : q'.marks ≡ row_of leaf ∷ q.marks
+  pub later : lo_of leaf < begun
+
+-- the dead marks that the pass has loaded are as before, or the kept leaf's is one more
+abbrev pub MarksKeptLeaf : Option KeptLeaf → Option ℕ → ℕ → PassPart → PassPart → Type 0
+MarksKeptLeaf leaf at begun q q' = (q'.marks ≡ q.marks) ⊎ LeafWasMarked leaf at begun q q'
 
 -- ---- places
 

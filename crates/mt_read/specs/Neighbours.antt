@@ -1,9 +1,90 @@
--- What is left of a read that was given up.
+-- Why a read is given up, and what is left of it.
 -- Source: this project's own; the kernel's mas_next begins again at the root where it finds a node dead.
-use Rattle.std.specs.Prelude.{ℕ, ◌+◌, ◌<◌, ◌≤◌, Option, Some, None, length, ◌&&◌, nat_le, if◌then◌else◌}
+use Rattle.std.specs.Prelude.{◌≡◌, ◌≢◌, ℕ, ◌+◌, ◌-◌, ◌<◌, ◌≤◌, List, ◌∷◌, Option, Some, None, length, ◌&&◌, nat_le, if◌then◌else◌}
+use Rattle.std.specs.List.{flat_map}
 use Rattle.mt_base.specs.declared.ranges.Range.{Range}
+use Rattle.mt_base.specs.declared.calls.Query.{Query}
+use Rattle.mt_base.specs.declared.calls.Query.TheVariants.{Load, Find, Next, Prev, Rfind}
+use Rattle.mt_base.specs.Call.{answer}
 use Rattle.mt_base.specs.History.{History}
 use Rattle.mt_base.specs.Passes as known
+use Rattle.mt_base.specs.Width.{greatest_of}
+use Rattle.mt_layout.specs.Spans.{leaf_range}
+use Rattle.mt_life.specs.declared.views.Held.{Held}
+use Rattle.mt_rule.specs.declared.views.PassPart.{PassPart}
+use Rattle.mt_rule.specs.Sections.{here, spans_here}
+use Rattle.mt_read.specs.declared.descent.Place.{Place}
+use Rattle.mt_read.specs.Walks.{GoesOn, IsSameHold, IsUnder, WasMarked, WasRead}
+use Rattle.mt_read.specs.Windows.{Began, Ended}
+
+-- ---- a leaf and the leaf beside it
+
+-- a leaf that covers the index
+abbrev pub IsLeafOver : Held → ℕ → Type 0
+IsLeafOver x index = (x.extent.level ≡ 0) × (x.extent.first ≤ index) × (index ≤ x.extent.last)
+
+-- the section is at the leaf behind x, and at the leaf before it
+abbrev pub IsBehind : PassPart → Held → Type 0
+IsBehind q x = (x.extent.last < greatest_of q.shape.kind) × IsLeafOver (here q) (x.extent.last + 1)
+
+abbrev pub IsBefore : PassPart → Held → Type 0
+IsBefore q x = (x.extent.first ≢ 0) × IsLeafOver (here q) (x.extent.first - 1)
+
+-- The section has come from the leaf x to the leaf beside it, and the pass has loaded the dead mark of x then, and no other.
+pub record MarkedBeside (IsBeside : PassPart → Held → Type 0) (x : Held) (q q' : PassPart) : Type 0 where
+  pub marked : WasMarked x q q'
+  pub under : IsUnder q' x
+  pub beside : IsBeside q' x
+
+-- The place is the first of the leaf that the section was at, and was read: it is a hole. Then the section has come to the leaf
+-- before that one, and the pass has loaded the dead mark of the first leaf, and no other.
+pub record LeftHole (place : Place) (q q' : PassPart) : Type 0 where
+  pub read : PassPart
+  pub first : place.slot ≡ 0
+  pub goes : GoesOn q read
+  pub same : IsSameHold (here q) (here read)
+  pub hole : WasRead q read place None
+  pub beside : MarkedBeside IsBefore (here read) read q'
+
+-- ---- a read that is given up
+
+-- the ranges that stand in the leaf
+abbrev pub ranges_here : PassPart → Held → List Range
+ranges_here q x = flat_map leaf_range (spans_here q x)
+
+-- the index that is asked about
+abbrev pub index_of : Query → ℕ
+index_of (Load index) = index
+index_of (Find index max) = index
+index_of (Next index max) = index
+index_of (Prev index min) = index
+index_of (Rfind index min) = index
+
+-- where the answer is looked for that the leaf of the index does not have
+abbrev pub IsAside : Query → PassPart → Held → Type 0
+IsAside (Load index) q x = ⊥
+IsAside (Find index max) q x = ⊥
+IsAside (Next index max) q x = IsBehind q x
+IsAside (Prev index min) q x = IsBefore q x
+IsAside (Rfind index min) q x = IsBefore q x
+
+-- By a walk from a root that was loaded no earlier than after `least` calls the section came to the leaf x, which covers the
+-- index, and of whose ranges none answers; then to the leaf beside it; and then the dead mark of x was loaded, and no other.
+pub record LeftMarked (query : Query) (least : ℕ) (q q' : PassPart) : Type 0 where
+  pub x : Held
+  pub since : least ≤ x.since
+  pub over : IsLeafOver x (index_of query)
+  pub none : answer (ranges_here q' x) query ≡ None
+  pub beside : MarkedBeside (IsAside query) x q q'
+
+-- The pass has opened a section at `lo`, has left a leaf in it that it then found marked, and has closed it.
+pub record WasLeftMarked (query : Query) (lo begun : ℕ) (q q' : PassPart) : Type 0 where
+  pub opened : PassPart
+  pub left : PassPart
+  pub began : Began lo q opened
+  pub marked : LeftMarked query (length opened.seen) opened left
+  pub ended : Ended begun left q'
+  pub marks : q'.marks ≡ marked.x.row ∷ q.marks
 
 -- The pass knows no less than before, and that a call has begun since `lo` calls had ended.
 pub record WasMoved (tree : History) (p : known.Pass) (lo begun : ℕ) (q : known.Pass) : Type 0 where

@@ -1,6 +1,6 @@
 -- What a pass knows of the row that its section is at, and how far a walk brings it.
 -- Source: the kernel's lib/maple_tree.c, mtree_range_walk, by which readers walk beside a writer.
-use Rattle.std.specs.Prelude.{◌≡◌, ℕ, suc, ◌≤◌, ◌==◌, Option, Some, None, length, if◌then◌else◌}
+use Rattle.std.specs.Prelude.{◌≡◌, ℕ, suc, ◌<◌, ◌≤◌, ◌==◌, List, ◌∷◌, Option, Some, None, length, if◌then◌else◌}
 use Rattle.std.specs.List.{slice_get}
 use mathlib.Core.Option.{some}
 use lib.ListN.{get_elem?}
@@ -24,12 +24,21 @@ abbrev pub IsUnder : PassPart → Held → Type 0
 IsUnder q x = (j : ℕ) × (get_elem? q.held (suc j) ≡ some x)
 
 -- Within its section the pass has gone on: it has seen more, and holds other rows, and those that it held below the one that it
--- was at.
-pub record GoesOn (q q' : PassPart) : Type 0 where
-  pub is : q' ≡ record q { seen = q'.seen; floor = q'.floor; held = q'.held; risen = q'.risen }
+-- was at. The dead marks that it has loaded are these then.
+pub record GoesOnTo (q q' : PassPart) (marks : List ℕ) : Type 0 where
+  pub is : q' ≡ record q { seen = q'.seen; floor = q'.floor; held = q'.held; risen = q'.risen; marks = marks }
   pub seen : Begins q.seen q'.seen
   pub risen : q.risen ≤ q'.risen
   pub under : (x : Held) → IsUnder q x → IsUnder q' x
+
+-- It has gone on, and has loaded no dead mark.
+abbrev pub GoesOn : PassPart → PassPart → Type 0
+GoesOn q q' = GoesOnTo q q' q.marks
+
+-- It has gone on, and has loaded the dead mark of the row x and no other: a call has begun since the walk to x.
+pub record WasMarked (x : Held) (q q' : PassPart) : Type 0 where
+  pub goes : GoesOnTo q q' (x.row ∷ q.marks)
+  pub begun : x.since < q'.risen
 
 -- The section is at this row, whose words it has as they were at some moment since it came to it.
 pub record IsOn (q : PassPart) (row : Row) : Type 0 where

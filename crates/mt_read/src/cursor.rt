@@ -1,14 +1,14 @@
 //! Walks from range to range, which keep the leaf that they are at.
 
-ghost use Rattle.std.specs.Prelude.{◌≡◌, ◌≢◌, ◌⊎◌, ℕ, ◌+◌, ◌<◌, ◌≤◌, Some, None, IfSome, IfNone, length};
+ghost use Rattle.std.specs.Prelude.{◌≡◌, ◌≢◌, ◌⊎◌, ℕ, ◌+◌, ◌≤◌, Some, None, IfSome, IfNone, length};
 ghost use Rattle.mt_base.specs.Width.{greatest_of};
 ghost use Rattle.mt_base.specs.declared.calls.Query.TheVariants.{Find};
 ghost use Rattle.mt_base.specs.Passes.{Read};
 ghost use Rattle.mt_rule.specs.Sections.{closed_section, here};
 ghost use Rattle.mt_rule.specs.Tokens.{identity_of, part_of, pass_in, tree_in, IsPassOf, Stepped};
 ghost use Rattle.mt_read.specs.Answers.{Answers};
-ghost use Rattle.mt_read.specs.Cursors.{HasStepped, IsCursorOf, IsKept, IsOver, IsOverPlace, Resumed, epoch_or, lo_of, place_behind, place_from, query_at};
-ghost use Rattle.mt_read.specs.Walks.{GoesOn};
+ghost use Rattle.mt_read.specs.Cursors.{HasStepped, IsCursorOf, IsKept, IsOver, IsOverPlace, LeafWasMarked, MarksKeptLeaf, Resumed, epoch_or, place_behind, place_from, query_at};
+ghost use Rattle.mt_read.specs.Walks.{GoesOn, GoesOnTo, WasMarked};
 
 use crate::answers::Answer;
 use crate::descent::{Row, find_slot, walk};
@@ -46,11 +46,11 @@ fn first_at_kept<L: Ledger>(
     requires kept { IsKept (part_of pass.old) kept.now }
     requires over { IsOver (Some kept.now) index }
     ensures stepped { Stepped (identity_of table.now) pass.old pass.new }
-    ensures goes { GoesOn (part_of pass.old) (part_of pass.new) }
+    ensures goes { IfSome result (λ found. GoesOn (part_of pass.old) (part_of pass.new)) }
     ensures kept { IsKept (part_of pass.new) kept.now }
     ensures answer { IfSome result (Answers (part_of pass.new) (length (part_of pass.old).seen) (Find index (greatest_of (part_of pass.old).shape.kind))) }
     ensures within { IfSome result (λ found. IfSome found (λ range. IsOver (Some kept.now) range.last)) }
-    ensures marked { IfNone result (kept.now.lo + 1 ≤ (part_of pass.new).risen) }
+    ensures marked { IfNone result (WasMarked (here (part_of pass.old)) (part_of pass.old) (part_of pass.new)) }
     ensures steps { steps.new ≤ steps.old + 19 }
 {
     let leaf = kept.leaf;
@@ -113,12 +113,13 @@ fn first_behind<L: Ledger>(
     requires kept { IfSome leaf (IsKept (part_of pass.old)) }
     requires lo { lo ≤ length (part_of pass.old).seen }
     ensures stepped { Stepped (identity_of table.now) pass.old pass.new }
-    ensures goes { GoesOn (part_of pass.old) (part_of pass.new) }
+    ensures goes { GoesOnTo (part_of pass.old) (part_of pass.new) (part_of pass.new).marks }
     ensures kept { IfSome result.leaf (IsKept (part_of pass.new)) }
     ensures lo { (result.leaf ≡ leaf) ⊎ IfSome result.leaf (λ kept. kept.lo ≡ lo) }
     ensures answer { Answers (part_of pass.new) (length (part_of pass.old).seen) (Find index (greatest_of (part_of pass.old).shape.kind)) result.range }
     ensures within { IfSome result.range (λ range. IsOver result.leaf range.last) }
-    ensures short { IsOver leaf index → (steps.new ≤ steps.old + 19) ⊎ (lo_of leaf + 1 ≤ (part_of pass.new).risen) }
+    ensures marks { MarksKeptLeaf leaf (Some index) (part_of pass.new).risen (part_of pass.old) (part_of pass.new) }
+    ensures short { IsOver leaf index → (steps.new ≤ steps.old + 19) ⊎ LeafWasMarked leaf (Some index) (part_of pass.new).risen (part_of pass.old) (part_of pass.new) }
     ensures steps { steps.new ≤ steps.old + 166 }
 {
     let Some(kept) = leaf else {
@@ -157,15 +158,15 @@ pub struct Cursor {
 }
 
 impl Cursor {
-    ghost use Rattle.std.specs.Prelude.{◌≡◌, ◌≢◌, ◌⊎◌, ℕ, ◌+◌, ◌<◌, ◌≤◌, Some, None, IfSome, length};
+    ghost use Rattle.std.specs.Prelude.{◌≡◌, ◌≢◌, ◌⊎◌, ℕ, ◌+◌, ◌≤◌, Some, None, IfSome, length};
     ghost use Rattle.mt_base.specs.Width.{greatest_of};
     ghost use Rattle.mt_base.specs.declared.calls.Query.TheVariants.{Find};
     ghost use Rattle.mt_base.specs.Passes.{Read};
     ghost use Rattle.mt_rule.specs.Sections.{closed_section};
     ghost use Rattle.mt_rule.specs.Tokens.{identity_of, part_of, pass_in, tree_in, IsPassOf, Stepped};
     ghost use Rattle.mt_read.specs.Answers.{Answers};
-    ghost use Rattle.mt_read.specs.Cursors.{HasStepped, IsCursorOf, IsKept, IsOver, IsOverPlace, Resumed, epoch_or, lo_of, place_behind, place_from, query_at};
-    ghost use Rattle.mt_read.specs.Walks.{GoesOn};
+    ghost use Rattle.mt_read.specs.Cursors.{HasStepped, IsCursorOf, IsKept, IsOver, IsOverPlace, LeafWasMarked, MarksKeptLeaf, Resumed, epoch_or, place_behind, place_from, query_at};
+    ghost use Rattle.mt_read.specs.Walks.{GoesOnTo};
 
     /// A walk from an index up to a bound. It opens no section yet.
     pub fn new(from: u64, max: u64) -> Cursor
@@ -222,13 +223,14 @@ impl Cursor {
         requires kept { IfSome self.old.leaf (IsKept (part_of pass.old)) }
         requires lo { lo ≤ length (part_of pass.old).seen }
         ensures stepped { Stepped (identity_of table.now) pass.old pass.new }
-        ensures goes { GoesOn (part_of pass.old) (part_of pass.new) }
+        ensures goes { GoesOnTo (part_of pass.old) (part_of pass.new) (part_of pass.new).marks }
         ensures kept { IfSome self.new.leaf (IsKept (part_of pass.new)) }
         ensures same { self.new ≡ record self.old { leaf = self.new.leaf } }
         ensures lo { (self.new.leaf ≡ self.old.leaf) ⊎ IfSome self.new.leaf (λ kept. kept.lo ≡ lo) }
         ensures answer { Answers (part_of pass.new) (length (part_of pass.old).seen) (Find index self.old.max) result }
         ensures within { IfSome result (λ range. IsOver self.new.leaf range.last) }
-        ensures short { IsOver self.old.leaf index → (steps.new ≤ steps.old + 19) ⊎ (lo_of self.old.leaf + 1 ≤ (part_of pass.new).risen) }
+        ensures marks { MarksKeptLeaf self.old.leaf (Some index) (part_of pass.new).risen (part_of pass.old) (part_of pass.new) }
+        ensures short { IsOver self.old.leaf index → (steps.new ≤ steps.old + 19) ⊎ LeafWasMarked self.old.leaf (Some index) (part_of pass.new).risen (part_of pass.old) (part_of pass.new) }
         ensures steps { steps.new ≤ steps.old + 166 }
     {
         let found = first_behind(table, pass, self.leaf, lo, index, steps);
@@ -254,7 +256,8 @@ impl Cursor {
         ensures epoch { self.new.epoch ≡ Some (epoch_or self.old.epoch result.lo) }
         ensures leaf { IfSome result.value (λ range. IsOver self.new.leaf range.last) }
         ensures lo { (self.new.leaf ≡ self.old.leaf) ⊎ IfSome self.new.leaf (λ kept. kept.lo ≡ result.lo) }
-        ensures short { IsOverPlace self.old.leaf self.old.at → (steps.new ≤ steps.old + 40) ⊎ (lo_of self.old.leaf < result.hi) }
+        ensures marks { MarksKeptLeaf self.old.leaf self.old.at result.hi (part_of pass.old) (part_of pass.new) }
+        ensures short { IsOverPlace self.old.leaf self.old.at → (steps.new ≤ steps.old + 40) ⊎ LeafWasMarked self.old.leaf self.old.at result.hi (part_of pass.old) (part_of pass.new) }
         ensures steps { steps.new ≤ steps.old + 220 }
     {
         let lo = self.resume(table, pass, steps);

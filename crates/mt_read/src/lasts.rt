@@ -7,7 +7,7 @@ ghost use Rattle.mt_base.specs.Passes.{Read};
 ghost use Rattle.mt_rule.specs.Sections.{here};
 ghost use Rattle.mt_rule.specs.Tokens.{identity_of, part_of, pass_in, tree_in, IsPassOf, Stepped};
 ghost use Rattle.mt_read.specs.Answers.{Answers, AnswersBy, LeafAnswers};
-ghost use Rattle.mt_read.specs.Neighbours.{WasMoved, not_below};
+ghost use Rattle.mt_read.specs.Neighbours.{IsBefore, LeftHole, LeftMarked, MarkedBeside, WasLeftMarked, WasMoved, not_below};
 ghost use Rattle.mt_read.specs.Walks.{GoesOn, IsOnLeaf, IsPlaceIn, IsSameHold, SeesMore, WasRead};
 ghost use Rattle.mt_read.specs.Windows.{HasRead};
 
@@ -103,9 +103,9 @@ fn last_beside<L: Ledger>(
     requires leaf { IsOnLeaf (part_of pass.old) leaf.now }
     requires some { leaf.now.min ≢ 0 }
     ensures stepped { Stepped (identity_of table.now) pass.old pass.new }
-    ensures goes { GoesOn (part_of pass.old) (part_of pass.new) }
+    ensures goes { IfSome result (λ found. GoesOn (part_of pass.old) (part_of pass.new)) }
     ensures answer { IfSome result (AnswersBy (part_of pass.new) (here (part_of pass.old)) (length (part_of pass.old).seen) (Rfind (leaf.now.min - 1) 0)) }
-    ensures moved { IfNone result ((here (part_of pass.old)).since + 1 ≤ (part_of pass.new).risen) }
+    ensures moved { IfNone result (MarkedBeside IsBefore (here (part_of pass.old)) (part_of pass.old) (part_of pass.new)) }
     ensures steps { steps.new ≤ steps.old + 148 }
 {
     let to = leaf.min - 1;
@@ -138,9 +138,9 @@ fn last_from<L: Ledger>(
     requires from { place.now.first ≤ index }
     requires to { index ≤ place.now.last }
     ensures stepped { Stepped (identity_of table.now) pass.old pass.new }
-    ensures goes { GoesOn (part_of pass.old) (part_of pass.new) }
+    ensures goes { IfSome result (λ found. GoesOn (part_of pass.old) (part_of pass.new)) }
     ensures answer { IfSome result (AnswersBy (part_of pass.new) (here (part_of pass.old)) (here (part_of pass.old)).since (Rfind index 0)) }
-    ensures moved { IfNone result ((here (part_of pass.old)).since + 1 ≤ (part_of pass.new).risen) }
+    ensures moved { IfNone result (LeftHole place.now (part_of pass.old) (part_of pass.new)) }
     ensures steps { steps.new ≤ steps.old + 151 }
 {
     if let Some(range) = last_at(table, pass, leaf, place, index, steps) {
@@ -164,9 +164,9 @@ fn rfind_from<L: Ledger>(
     requires open { (part_of pass.old).standing ≢ None }
     requires index { index ≤ greatest_of (part_of pass.old).shape.kind }
     ensures stepped { Stepped (identity_of table.now) pass.old pass.new }
-    ensures goes { GoesOn (part_of pass.old) (part_of pass.new) }
+    ensures goes { IfSome result (λ found. GoesOn (part_of pass.old) (part_of pass.new)) }
     ensures answer { IfSome result (Answers (part_of pass.new) (length (part_of pass.old).seen) (Rfind index 0)) }
-    ensures moved { IfNone result (length (part_of pass.old).seen + 1 ≤ (part_of pass.new).risen) }
+    ensures moved { IfNone result (LeftMarked (Rfind index 0) (length (part_of pass.old).seen) (part_of pass.old) (part_of pass.new)) }
     ensures steps { steps.new ≤ steps.old + 295 }
 {
     let Some(leaf) = walk(table, pass, index, steps) else {
@@ -190,9 +190,9 @@ fn prev_at_leaf<L: Ledger>(
     requires from { leaf.now.min ≤ index }
     requires to { index ≤ leaf.now.max }
     ensures stepped { Stepped (identity_of table.now) pass.old pass.new }
-    ensures goes { GoesOn (part_of pass.old) (part_of pass.new) }
+    ensures goes { IfSome result (λ found. GoesOn (part_of pass.old) (part_of pass.new)) }
     ensures answer { IfSome result (Answers (part_of pass.new) (here (part_of pass.old)).since (Prev index 0)) }
-    ensures moved { IfNone result ((here (part_of pass.old)).since + 1 ≤ (part_of pass.new).risen) }
+    ensures moved { IfNone result (LeftMarked (Prev index 0) (here (part_of pass.old)).since (part_of pass.old) (part_of pass.new)) }
     ensures steps { steps.new ≤ steps.old + 167 }
 {
     let place = find_slot(table, pass, leaf, index, steps);
@@ -219,9 +219,9 @@ fn prev_from<L: Ledger>(
     requires open { (part_of pass.old).standing ≢ None }
     requires index { index ≤ greatest_of (part_of pass.old).shape.kind }
     ensures stepped { Stepped (identity_of table.now) pass.old pass.new }
-    ensures goes { GoesOn (part_of pass.old) (part_of pass.new) }
+    ensures goes { IfSome result (λ found. GoesOn (part_of pass.old) (part_of pass.new)) }
     ensures answer { IfSome result (Answers (part_of pass.new) (length (part_of pass.old).seen) (Prev index 0)) }
-    ensures moved { IfNone result (length (part_of pass.old).seen + 1 ≤ (part_of pass.new).risen) }
+    ensures moved { IfNone result (LeftMarked (Prev index 0) (length (part_of pass.old).seen) (part_of pass.old) (part_of pass.new)) }
     ensures steps { steps.new ≤ steps.old + 296 }
 {
     let Some(leaf) = walk(table, pass, index, steps) else {
@@ -241,7 +241,8 @@ fn not_below(range: Option<Range>, index: u64, min: u64) -> Option<Range>
 ///
 /// # Errors
 ///
-/// `Moved` where the answer does not lie in the leaf of the index, and that leaf was replaced while the one beside it was read.
+/// `Moved` where the leaf of the index has no answer, and was found marked as dead after the leaf beside it was read: more than
+/// `lo` calls have begun.
 pub fn rfind<L: Ledger>(
     table: &MtTable,
     pass: &mut Pass,
@@ -255,6 +256,7 @@ pub fn rfind<L: Ledger>(
     ensures section { IfOk result (λ answer. HasRead answer.lo answer.hi (pass_in pass.old) (pass_in pass.new)) }
     ensures moved { IfErr result (λ moved. WasMoved (tree_in (identity_of table.now)) (pass_in pass.old) moved.lo moved.begun (pass_in pass.new)) }
     ensures given_up { IfErr result (λ moved. HasRead moved.lo moved.begun (pass_in pass.old) (pass_in pass.new)) }
+    ensures left { IfErr result (λ moved. WasLeftMarked (Rfind index 0) moved.lo moved.begun (part_of pass.old) (part_of pass.new)) }
     ensures steps { steps.new ≤ steps.old + 360 }
 {
     let section = Section::begin(table, pass, steps);
@@ -273,7 +275,8 @@ pub fn rfind<L: Ledger>(
 ///
 /// # Errors
 ///
-/// `Moved` where the answer does not lie in the leaf of the index, and that leaf was replaced while the one beside it was read.
+/// `Moved` where the leaf of the index has no answer, and was found marked as dead after the leaf beside it was read: more than
+/// `lo` calls have begun.
 pub fn prev<L: Ledger>(
     table: &MtTable,
     pass: &mut Pass,
@@ -287,6 +290,7 @@ pub fn prev<L: Ledger>(
     ensures section { IfOk result (λ answer. HasRead answer.lo answer.hi (pass_in pass.old) (pass_in pass.new)) }
     ensures moved { IfErr result (λ moved. WasMoved (tree_in (identity_of table.now)) (pass_in pass.old) moved.lo moved.begun (pass_in pass.new)) }
     ensures given_up { IfErr result (λ moved. HasRead moved.lo moved.begun (pass_in pass.old) (pass_in pass.new)) }
+    ensures left { IfErr result (λ moved. WasLeftMarked (Prev index 0) moved.lo moved.begun (part_of pass.old) (part_of pass.new)) }
     ensures steps { steps.new ≤ steps.old + 360 }
 {
     let section = Section::begin(table, pass, steps);

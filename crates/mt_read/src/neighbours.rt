@@ -7,7 +7,7 @@ ghost use Rattle.mt_base.specs.Passes.{Read};
 ghost use Rattle.mt_rule.specs.Sections.{here};
 ghost use Rattle.mt_rule.specs.Tokens.{identity_of, part_of, pass_in, tree_in, IsPassOf, Stepped};
 ghost use Rattle.mt_read.specs.Answers.{Answers, AnswersBy};
-ghost use Rattle.mt_read.specs.Neighbours.{WasMoved};
+ghost use Rattle.mt_read.specs.Neighbours.{IsBehind, LeftMarked, MarkedBeside, WasLeftMarked, WasMoved};
 ghost use Rattle.mt_read.specs.Walks.{GoesOn, IsOnLeaf};
 ghost use Rattle.mt_read.specs.Windows.{HasRead};
 
@@ -21,12 +21,13 @@ use mt_layout::is_dead_mark;
 use mt_rule::{MtTable, Pass};
 use std::sync::ledger::Ledger;
 
-/// A read was given up, since the leaf that covers its index was replaced while the leaf beside it was read.
+/// A read was given up: the leaf that covers its index has no answer, and was found marked as dead after the leaf beside it was
+/// read.
 #[derive(Clone, Copy, Debug, PartialEq, Eq)]
 pub struct Moved {
     /// How many calls had ended before the read.
     pub lo: u64,
-    /// How many have begun.
+    /// How many have begun, which is more.
     pub begun: u64,
 }
 
@@ -42,9 +43,9 @@ fn first_beside<L: Ledger>(
     requires leaf { IsOnLeaf (part_of pass.old) leaf.now }
     requires more { leaf.now.max < greatest_of (part_of pass.old).shape.kind }
     ensures stepped { Stepped (identity_of table.now) pass.old pass.new }
-    ensures goes { GoesOn (part_of pass.old) (part_of pass.new) }
+    ensures goes { IfSome result (λ found. GoesOn (part_of pass.old) (part_of pass.new)) }
     ensures answer { IfSome result (AnswersBy (part_of pass.new) (here (part_of pass.old)) (length (part_of pass.old).seen) (Find (leaf.now.max + 1) (greatest_of (part_of pass.old).shape.kind))) }
-    ensures moved { IfNone result ((here (part_of pass.old)).since + 1 ≤ (part_of pass.new).risen) }
+    ensures moved { IfNone result (MarkedBeside IsBehind (here (part_of pass.old)) (part_of pass.old) (part_of pass.new)) }
     ensures steps { steps.new ≤ steps.old + 148 }
 {
     let from = leaf.max + 1;
@@ -74,9 +75,9 @@ fn next_at_leaf<L: Ledger>(
     requires from { leaf.now.min ≤ index }
     requires to { index ≤ leaf.now.max }
     ensures stepped { Stepped (identity_of table.now) pass.old pass.new }
-    ensures goes { GoesOn (part_of pass.old) (part_of pass.new) }
+    ensures goes { IfSome result (λ found. GoesOn (part_of pass.old) (part_of pass.new)) }
     ensures answer { IfSome result (Answers (part_of pass.new) (here (part_of pass.old)).since (Next index (greatest_of (part_of pass.old).shape.kind))) }
-    ensures moved { IfNone result ((here (part_of pass.old)).since + 1 ≤ (part_of pass.new).risen) }
+    ensures moved { IfNone result (LeftMarked (Next index (greatest_of (part_of pass.old).shape.kind)) (here (part_of pass.old)).since (part_of pass.old) (part_of pass.new)) }
     ensures steps { steps.new ≤ steps.old + 163 }
 {
     let place = find_slot(table, pass, leaf, index, steps);
@@ -103,9 +104,9 @@ fn next_from<L: Ledger>(
     requires open { (part_of pass.old).standing ≢ None }
     requires index { index ≤ greatest_of (part_of pass.old).shape.kind }
     ensures stepped { Stepped (identity_of table.now) pass.old pass.new }
-    ensures goes { GoesOn (part_of pass.old) (part_of pass.new) }
+    ensures goes { IfSome result (λ found. GoesOn (part_of pass.old) (part_of pass.new)) }
     ensures answer { IfSome result (Answers (part_of pass.new) (length (part_of pass.old).seen) (Next index (greatest_of (part_of pass.old).shape.kind))) }
-    ensures moved { IfNone result (length (part_of pass.old).seen + 1 ≤ (part_of pass.new).risen) }
+    ensures moved { IfNone result (LeftMarked (Next index (greatest_of (part_of pass.old).shape.kind)) (length (part_of pass.old).seen) (part_of pass.old) (part_of pass.new)) }
     ensures steps { steps.new ≤ steps.old + 292 }
 {
     let Some(leaf) = walk(table, pass, index, steps) else {
@@ -118,7 +119,8 @@ fn next_from<L: Ledger>(
 ///
 /// # Errors
 ///
-/// `Moved` where the answer does not lie in the leaf of the index, and that leaf was replaced while the one beside it was read.
+/// `Moved` where the leaf of the index has no answer, and was found marked as dead after the leaf beside it was read: more than
+/// `lo` calls have begun.
 pub fn next<L: Ledger>(
     table: &MtTable,
     pass: &mut Pass,
@@ -132,6 +134,7 @@ pub fn next<L: Ledger>(
     ensures section { IfOk result (λ answer. HasRead answer.lo answer.hi (pass_in pass.old) (pass_in pass.new)) }
     ensures moved { IfErr result (λ moved. WasMoved (tree_in (identity_of table.now)) (pass_in pass.old) moved.lo moved.begun (pass_in pass.new)) }
     ensures given_up { IfErr result (λ moved. HasRead moved.lo moved.begun (pass_in pass.old) (pass_in pass.new)) }
+    ensures left { IfErr result (λ moved. WasLeftMarked (Next index (greatest_of (part_of pass.old).shape.kind)) moved.lo moved.begun (part_of pass.old) (part_of pass.new)) }
     ensures steps { steps.new ≤ steps.old + 360 }
 {
     let section = Section::begin(table, pass, steps);

@@ -8,7 +8,9 @@ use Rattle.mt_rule.specs.Tokens.{part_of}
 use Rattle.mt_read.specs.Walks.{IsUnder}
 use Rattle.mt_read.proofs.Descending.{greatest_fits, goes_on, goes_sees, here_more}
 use Rattle.mt_read.proofs.Reading.{kind_goes}
-use Rattle.mt_read.proofs.Keeping.{goes_parent, under_tells}
+use Rattle.mt_read.specs.Neighbours.{IsBefore}
+use Rattle.mt_read.proofs.Keeping.{goes_marked, goes_unmarked, leaf_parent, under_tells}
+use Rattle.mt_read.proofs.Leaving.{before_leaf, come_beside}
 use Rattle.mt_read.proofs.Preceding.{last_by, lefts_nothing}
 use Rattle.mt_read.proofs.lasts.last_beside.Goals as goal
 
@@ -18,23 +20,24 @@ returns-in_default-clause-answer g c =
     let none : (moment_seen q' (length q'.seen)).ranges ≡ [] = search rules in
     lefts_nothing q q' c.walk.ensures.goes none (here q) (c.args.leaf.now.min - 1)
 
-pub returns-then-is_dead_mark-clause-goes : goal.returns-then-is_dead_mark-clause-goes
-returns-then-is_dead_mark-clause-goes g c =
-    goes_on _ _ _ c.walk.ensures.goes (goes_on _ _ _ (goes_sees _ _ c.find_slot-place.ensures.sees) (goes_on _ _ _ c.last_at-range.ensures.goes (goes_parent _ _ _ _ c.load_parent-parent.ensures.told)))
-
 pub returns-clause-goes : goal.returns-clause-goes
 returns-clause-goes g c =
-    goes_on _ _ _ c.walk.ensures.goes (goes_on _ _ _ (goes_sees _ _ c.find_slot-place.ensures.sees) (goes_on _ _ _ c.last_at-range.ensures.goes (goes_parent _ _ _ _ c.load_parent-parent.ensures.told)))
+    goes_on _ _ _ c.walk.ensures.goes (goes_on _ _ _ (goes_sees _ _ c.find_slot-place.ensures.sees) (goes_on _ _ _ c.last_at-range.ensures.goes (goes_unmarked _ _ _ _ _ c.load_parent-parent.ensures.told (search rules))))
 
 pub returns-then-is_dead_mark-clause-moved : goal.returns-then-is_dead_mark-clause-moved
 returns-then-is_dead_mark-clause-moved g c =
-    let q = part_of c.args.pass.now in let q₁ = part_of c.walk.new.pass in let q₃ = part_of c.last_at-range.new.pass in
+    let q = part_of c.args.pass.now in let q₁ = part_of c.walk.new.pass in let q₃ = part_of c.last_at-range.new.pass in let q₄ = part_of c.load_parent-parent.new.pass in
     let under : IsAt q → IsUnder q₁ (here q) = search rules in
     let held = c.last_at-range.ensures.goes.under (here q) ((goes_sees _ _ c.find_slot-place.ensures.sees).under (here q) (under c.requires.leaf.on.at)) in
     let word : column_at (kind_width q₃.shape.kind) c.args.leaf.now.number 0 ≡ column_at (kind_width q₃.shape.kind) (here q).row 0 = ap (λ (r : ℕ). column_at (kind_width q₃.shape.kind) r 0) c.requires.leaf.on.number in
-    let tells = under_tells q₃ _ _ _ c.load_parent-parent.ensures.told (here q) held word in
+    let tells = under_tells q₃ _ _ _ _ c.load_parent-parent.ensures.told (here q) held word in
     let mark : c.load_parent-parent.result ≡ dead_mark c.args.leaf.now.number = search rules in
-    tells.dead (mark ∙ ap dead_mark c.requires.leaf.on.number)
+    let goes = goes_on _ _ _ c.walk.ensures.goes (goes_on _ _ _ (goes_sees _ _ c.find_slot-place.ensures.sees) c.last_at-range.ensures.goes) in
+    let min = c.requires.leaf.on.min in let some = c.requires.some in
+    let from : c.in-Some.before.min ≤ c.args.leaf.now.min - 1 = search rules in
+    let to : c.args.leaf.now.min - 1 ≤ c.in-Some.before.max = search rules in
+    come_beside IsBefore (here q) q q₃ q₄ goes held (goes_marked q₃ q₄ _ _ _ c.load_parent-parent.ensures.told (here q) mark c.requires.leaf.on.number tells)
+    (before_leaf (here q) q₄ c.in-Some.before (leaf_parent q₃ q₄ _ _ _ c.load_parent-parent.ensures.told c.in-Some.before c.last_at-range.ensures.leaf) (omega arith) (omega arith) (omega arith))
 
 pub returns-clause-answer : goal.returns-clause-answer
 returns-clause-answer g c =
@@ -42,7 +45,7 @@ returns-clause-answer g c =
     let under : IsAt q → IsUnder q₁ (here q) = search rules in
     let held = c.last_at-range.ensures.goes.under (here q) ((goes_sees _ _ c.find_slot-place.ensures.sees).under (here q) (under c.requires.leaf.on.at)) in
     let word : column_at (kind_width q₃.shape.kind) c.args.leaf.now.number 0 ≡ column_at (kind_width q₃.shape.kind) (here q).row 0 = ap (λ (r : ℕ). column_at (kind_width q₃.shape.kind) r 0) c.requires.leaf.on.number in
-    let tells = under_tells q₃ _ _ _ c.load_parent-parent.ensures.told (here q) held word in
+    let tells = under_tells q₃ _ _ _ _ c.load_parent-parent.ensures.told (here q) held word in
     let alive : c.load_parent-parent.result ≢ dead_mark (here q).row = search rules in
     let since₁ : length q.seen ≤ (here q₁).since = search rules in
     let since : length q.seen ≤ (here q₂).since = subst (λ (x : Held). length q.seen ≤ x.since) (sym (here_more q₁ q₂ c.find_slot-place.ensures.sees)) since₁ in
@@ -54,5 +57,5 @@ returns-clause-answer g c =
     let min = on.min in let some = c.requires.some in
     let fits : c.args.leaf.now.min < 18446744073709551616 = search rules in
     let top = greatest_fits q₃.shape.kind in
-    last_by q₂ q₃ q₄ _ _ c.load_parent-parent.ensures.told c.find_slot-place.result (here q) (c.args.leaf.now.min - 1) (length q.seen) level wide c.find_slot-place.ensures.from c.find_slot-place.ensures.to (omega arith) (omega arith) on.met since
+    last_by q₂ q₃ q₄ _ _ _ c.load_parent-parent.ensures.told c.find_slot-place.result (here q) (c.args.leaf.now.min - 1) (length q.seen) level wide c.find_slot-place.ensures.from c.find_slot-place.ensures.to (omega arith) (omega arith) on.met since
     (tells.past alive c.requires.leaf.level) c.last_at-range.result (c.find_slot-place.result.slot ≡ 0) c.last_at-range.ensures.found c.last_at-range.ensures.none

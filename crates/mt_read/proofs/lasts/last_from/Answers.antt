@@ -5,7 +5,10 @@ use Rattle.mt_base.proofs.Goings.{begins_long}
 use Rattle.mt_rule.specs.Sections.{here}
 use Rattle.mt_rule.specs.Tokens.{part_of}
 use Rattle.mt_read.specs.Answers.{AnswersBy}
-use Rattle.mt_read.proofs.Descending.{goes_on}
+use Rattle.mt_read.specs.Neighbours.{IsBefore}
+use Rattle.mt_read.proofs.Descending.{goes_some}
+use Rattle.mt_read.proofs.Leaving.{kind_beside, left_hole}
+use Rattle.mt_read.proofs.Reading.{kind_told}
 use Rattle.mt_read.proofs.Before.{first_place}
 use Rattle.mt_read.proofs.Preceding.{here_by, left_by, no_last}
 use Rattle.mt_read.proofs.lasts.last_from.Goals as goal
@@ -14,7 +17,11 @@ pub returns-in-Some-clause-answer : goal.returns-in-Some-clause-answer
 returns-in-Some-clause-answer g c = here_by (part_of c.args.pass.now) (part_of c.last_at.new.pass) c.args.index c.in-Some.range c.in-Some.ensures.found
 
 pub returns-clause-goes : goal.returns-clause-goes
-returns-clause-goes g c = goes_on _ _ _ c.last_at.ensures.goes c.last_beside.ensures.goes
+returns-clause-goes g c = goes_some c.last_beside.result _ _ _ c.last_at.ensures.goes c.last_beside.ensures.goes
+
+pub returns-clause-moved : goal.returns-clause-moved
+returns-clause-moved g c =
+    left_hole c.last_beside.result (part_of c.args.pass.now) (part_of c.last_at.new.pass) (part_of c.last_beside.new.pass) c.args.place.now c.last_at.ensures.goes c.last_at.ensures.same c.in_default.ensures.none c.last_beside.ensures.moved
 
 pub returns-then-leaf-eq0-clause-answer : goal.returns-then-leaf-eq0-clause-answer
 returns-then-leaf-eq0-clause-answer g c =
@@ -32,4 +39,4 @@ returns-clause-answer g c =
     let first = first_place q c.args.leaf.now c.args.place.now on c.requires.place none.0 in
     let other : c.args.leaf.now.min ≢ 0 = search rules in
     let found = subst (λ (n : ℕ). IfSome c.last_beside.result (AnswersBy q₂ (here q₁) (length q₁.seen) (Rfind (n - 1) 0))) (sym first) c.last_beside.ensures.answer in
-    left_by q q₁ q₂ c.args.place.now none.1 c.last_at.ensures.same c.last_at.ensures.leaf.on.shape.fills c.last_beside.ensures.goes c.args.index c.requires.from c.requires.to (omega arith) c.last_beside.result (length q₁.seen) (here q).since (omega arith) found
+    left_by q q₁ q₂ c.args.place.now none.1 c.last_at.ensures.same c.last_at.ensures.leaf.on.shape.fills (kind_told c.last_beside.result q₁ q₂ _ c.last_beside.ensures.goes c.last_beside.ensures.moved (kind_beside IsBefore (here q₁) q₁ q₂)) c.args.index c.requires.from c.requires.to (omega arith) c.last_beside.result (length q₁.seen) (here q).since (omega arith) found

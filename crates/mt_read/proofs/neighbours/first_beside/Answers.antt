@@ -1,4 +1,4 @@
-use Rattle.std.proofs.Common.{rules, ◌≡◌, ◌≢◌, ◌+◌, ◌≤◌, ◌∙◌, ℕ, [], length, sym, ap, subst}
+use Rattle.std.proofs.Common.{rules, ◌≡◌, ◌≢◌, ◌+◌, ◌<◌, ◌≤◌, ◌∙◌, ℕ, [], length, sym, ap, subst, arith}
 use Rattle.mt_base.specs.declared.kinds.Kind.{Kind}
 use Rattle.mt_base.specs.declared.calls.Query.TheVariants.{Find}
 use Rattle.mt_base.specs.Width.{greatest_of, kind_width}
@@ -11,7 +11,10 @@ use Rattle.mt_rule.specs.Tokens.{part_of}
 use Rattle.mt_read.specs.Answers.{AnswersBy}
 use Rattle.mt_read.specs.Walks.{IsUnder}
 use Rattle.mt_read.proofs.Descending.{goes_on, goes_sees, here_more}
-use Rattle.mt_read.proofs.Keeping.{goes_parent, under_tells}
+use Rattle.mt_read.specs.Neighbours.{IsBehind}
+use Rattle.mt_read.proofs.Keeping.{goes_marked, goes_unmarked, leaf_parent, under_tells}
+use Rattle.mt_read.proofs.Leaving.{behind_leaf, come_beside}
+use Rattle.mt_read.proofs.Reading.{kind_goes}
 use Rattle.mt_read.proofs.Crossing.{nothing_by, beside_by}
 use Rattle.mt_read.proofs.neighbours.first_beside.Goals as goal
 
@@ -21,23 +24,26 @@ returns-in_default-clause-answer g c =
     let none : (moment_seen q' (length q'.seen)).ranges ≡ [] = search rules in
     nothing_by q q' c.walk.ensures.goes none (here q) (c.args.leaf.now.max + 1)
 
-pub returns-then-is_dead_mark-clause-goes : goal.returns-then-is_dead_mark-clause-goes
-returns-then-is_dead_mark-clause-goes g c =
-    goes_on _ _ _ c.walk.ensures.goes (goes_on _ _ _ (goes_sees _ _ c.find_slot-place.ensures.sees) (goes_on _ _ _ c.first_at-range.ensures.goes (goes_parent _ _ _ _ c.load_parent-parent.ensures.told)))
-
 pub returns-clause-goes : goal.returns-clause-goes
 returns-clause-goes g c =
-    goes_on _ _ _ c.walk.ensures.goes (goes_on _ _ _ (goes_sees _ _ c.find_slot-place.ensures.sees) (goes_on _ _ _ c.first_at-range.ensures.goes (goes_parent _ _ _ _ c.load_parent-parent.ensures.told)))
+    goes_on _ _ _ c.walk.ensures.goes (goes_on _ _ _ (goes_sees _ _ c.find_slot-place.ensures.sees) (goes_on _ _ _ c.first_at-range.ensures.goes (goes_unmarked _ _ _ _ _ c.load_parent-parent.ensures.told (search rules))))
 
 pub returns-then-is_dead_mark-clause-moved : goal.returns-then-is_dead_mark-clause-moved
 returns-then-is_dead_mark-clause-moved g c =
-    let q = part_of c.args.pass.now in let q₁ = part_of c.walk.new.pass in let q₃ = part_of c.first_at-range.new.pass in
+    let q = part_of c.args.pass.now in let q₁ = part_of c.walk.new.pass in let q₃ = part_of c.first_at-range.new.pass in let q₄ = part_of c.load_parent-parent.new.pass in
     let under : IsAt q → IsUnder q₁ (here q) = search rules in
     let held = c.first_at-range.ensures.goes.under (here q) ((goes_sees _ _ c.find_slot-place.ensures.sees).under (here q) (under c.requires.leaf.on.at)) in
     let word : column_at (kind_width q₃.shape.kind) c.args.leaf.now.number 0 ≡ column_at (kind_width q₃.shape.kind) (here q).row 0 = ap (λ (r : ℕ). column_at (kind_width q₃.shape.kind) r 0) c.requires.leaf.on.number in
-    let tells = under_tells q₃ _ _ _ c.load_parent-parent.ensures.told (here q) held word in
+    let tells = under_tells q₃ _ _ _ _ c.load_parent-parent.ensures.told (here q) held word in
     let mark : c.load_parent-parent.result ≡ dead_mark c.args.leaf.now.number = search rules in
-    tells.dead (mark ∙ ap dead_mark c.requires.leaf.on.number)
+    let goes = goes_on _ _ _ c.walk.ensures.goes (goes_on _ _ _ (goes_sees _ _ c.find_slot-place.ensures.sees) c.first_at-range.ensures.goes) in
+    let kind : q₄.shape.kind ≡ q.shape.kind = ap (λ (z : PassPart). z.shape.kind) c.load_parent-parent.ensures.told.reads.is ∙ kind_goes q q₃ goes in
+    let max = c.requires.leaf.on.max in
+    let more : (here q).extent.last < greatest_of q₄.shape.kind = subst (λ (k : Kind). (here q).extent.last < greatest_of k) (sym kind) (subst (λ (n : ℕ). n < greatest_of q.shape.kind) max c.requires.more) in
+    let from : c.in-Some.behind.min ≤ c.args.leaf.now.max + 1 = search rules in
+    let to : c.args.leaf.now.max + 1 ≤ c.in-Some.behind.max = search rules in
+    come_beside IsBehind (here q) q q₃ q₄ goes held (goes_marked q₃ q₄ _ _ _ c.load_parent-parent.ensures.told (here q) mark c.requires.leaf.on.number tells)
+    (behind_leaf (here q) q₄ c.in-Some.behind (leaf_parent q₃ q₄ _ _ _ c.load_parent-parent.ensures.told c.in-Some.behind c.first_at-range.ensures.leaf) more (omega arith) (omega arith))
 
 pub returns-clause-answer : goal.returns-clause-answer
 returns-clause-answer g c =
@@ -45,10 +51,10 @@ returns-clause-answer g c =
     let under : IsAt q → IsUnder q₁ (here q) = search rules in
     let held = c.first_at-range.ensures.goes.under (here q) ((goes_sees _ _ c.find_slot-place.ensures.sees).under (here q) (under c.requires.leaf.on.at)) in
     let word : column_at (kind_width q₃.shape.kind) c.args.leaf.now.number 0 ≡ column_at (kind_width q₃.shape.kind) (here q).row 0 = ap (λ (r : ℕ). column_at (kind_width q₃.shape.kind) r 0) c.requires.leaf.on.number in
-    let tells = under_tells q₃ _ _ _ c.load_parent-parent.ensures.told (here q) held word in
+    let tells = under_tells q₃ _ _ _ _ c.load_parent-parent.ensures.told (here q) held word in
     let alive : c.load_parent-parent.result ≢ dead_mark (here q).row = search rules in
     let since₁ : length q.seen ≤ (here q₁).since = search rules in
     let since : length q.seen ≤ (here q₂).since = subst (λ (x : Held). length q.seen ≤ x.since) (sym (here_more q₁ q₂ c.find_slot-place.ensures.sees)) since₁ in
     let kind : q₂.shape.kind ≡ q.shape.kind = ap (λ (z : PassPart). z.shape.kind) c.find_slot-place.ensures.sees.is ∙ ap (λ (z : PassPart). z.shape.kind) c.walk.ensures.goes.is in
     subst (λ (k : Kind). AnswersBy q₄ (here q) (length q.seen) (Find (c.args.leaf.now.max + 1) (greatest_of k)) c.first_at-range.result) kind
-    (beside_by q₃ q₄ _ _ c.load_parent-parent.ensures.told (here q) (length q.seen) (here q₂).since c.requires.leaf.on.met since _ _ c.first_at-range.ensures.answer.answers (tells.past alive c.requires.leaf.level))
+    (beside_by q₃ q₄ _ _ _ c.load_parent-parent.ensures.told (here q) (length q.seen) (here q₂).since c.requires.leaf.on.met since _ _ c.first_at-range.ensures.answer.answers (tells.past alive c.requires.leaf.level))

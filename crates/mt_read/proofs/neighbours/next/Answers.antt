@@ -1,14 +1,18 @@
-use Rattle.std.proofs.Common.{rules, ℕ, sym, subst, length, Option}
+use Rattle.std.proofs.Common.{rules, ◌≡◌, ap, ℕ, sym, subst, length, Option}
 use Rattle.mt_base.specs.declared.ranges.Range.{Range}
 use Rattle.mt_base.specs.Width.{greatest_of}
 use Rattle.mt_base.specs.declared.calls.Query.TheVariants.{Next}
+use Rattle.mt_base.specs.declared.kinds.Kind.{Kind}
+use Rattle.mt_rule.specs.declared.views.PassPart.{PassPart}
 use Rattle.mt_rule.specs.Tokens.{identity_of, part_of}
 use Rattle.mt_read.specs.Answers.{Answers}
+use Rattle.mt_read.specs.Neighbours.{LeftMarked, WasLeftMarked}
+use Rattle.mt_read.specs.Walks.{GoesOn}
 use Rattle.mt_read.specs.Windows.{Began}
 use Rattle.mt_read.proofs.Finding.{shape_is}
 use Rattle.mt_read.proofs.Reading.{kind_goes}
-use Rattle.mt_read.proofs.Windows.{read_by}
-use Rattle.mt_read.proofs.GivenUp.{next_bounded}
+use Rattle.mt_read.proofs.Windows.{has_read, read_by}
+use Rattle.mt_read.proofs.GivenUp.{next_bounded, was_left, was_moved}
 use Rattle.mt_read.proofs.neighbours.next.Goals as goal
 
 pub returns-clause-read : goal.returns-clause-read
@@ -16,7 +20,36 @@ returns-clause-read g c =
     let t = identity_of c.args.table.now in
     let q = part_of c.args.pass.now in let q₁ = part_of c.begin-section.new.pass in let q₂ = part_of c.next_from-found.new.pass in let q₃ = part_of c.end-begun.new.pass in
     let began = subst (λ (n : ℕ). Began n q q₁) (sym c.epoch-lo.ensures) c.begin-section.ensures.began in
+    let goes : GoesOn q₁ q₂ = search rules in
     let found : Answers q₂ (length q₁.seen) (Next c.args.index (greatest_of q₁.shape.kind)) c.in_ok-range.range = search rules in
-    let answers = next_bounded q₂ q₁.shape.kind (length q₁.seen) c.args.index c.args.max c.in_ok-range.range (kind_goes q₁ q₂ c.next_from-found.ensures.goes) found in
-    read_by t q q₁ q₂ q₃ c.epoch-lo.result c.end-begun.result (shape_is t c.args.pass.now c.requires.pass) began c.next_from-found.ensures.goes c.end-begun.ensures.ended (Next c.args.index c.args.max) c.within.result
+    let answers = next_bounded q₂ q₁.shape.kind (length q₁.seen) c.args.index c.args.max c.in_ok-range.range (kind_goes q₁ q₂ goes) found in
+    read_by t q q₁ q₂ q₃ c.epoch-lo.result c.end-begun.result (shape_is t c.args.pass.now c.requires.pass) began _ goes c.end-begun.ensures.ended (Next c.args.index c.args.max) c.within.result
     (subst (λ (v : Option Range). Answers q₂ (length q₁.seen) (Next c.args.index c.args.max) v) (sym c.within.ensures) answers) c.end-begun.ensures.sound
+
+pub returns-in_err-range-clause-moved : goal.returns-in_err-range-clause-moved
+returns-in_err-range-clause-moved g c =
+    let t = identity_of c.args.table.now in
+    let q = part_of c.args.pass.now in let q₁ = part_of c.begin-section.new.pass in let q₂ = part_of c.next_from-found.new.pass in let q₃ = part_of c.end-begun.new.pass in
+    let began = subst (λ (n : ℕ). Began n q q₁) (sym c.epoch-lo.ensures) c.begin-section.ensures.began in
+    let left : LeftMarked (Next c.args.index (greatest_of q₁.shape.kind)) (length q₁.seen) q₁ q₂ = search rules in
+    let told = was_moved t q q₁ q₂ q₃ (Next c.args.index (greatest_of q₁.shape.kind)) c.epoch-lo.result c.end-begun.result (shape_is t c.args.pass.now c.requires.pass) began left c.end-begun.ensures.ended c.end-begun.ensures.sound in
+    search rules
+
+pub returns-in_err-range-clause-given_up : goal.returns-in_err-range-clause-given_up
+returns-in_err-range-clause-given_up g c =
+    let t = identity_of c.args.table.now in
+    let q = part_of c.args.pass.now in let q₁ = part_of c.begin-section.new.pass in let q₂ = part_of c.next_from-found.new.pass in let q₃ = part_of c.end-begun.new.pass in
+    let began = subst (λ (n : ℕ). Began n q q₁) (sym c.epoch-lo.ensures) c.begin-section.ensures.began in
+    let left : LeftMarked (Next c.args.index (greatest_of q₁.shape.kind)) (length q₁.seen) q₁ q₂ = search rules in
+    let told = has_read t q q₁ q₂ q₃ c.epoch-lo.result c.end-begun.result (shape_is t c.args.pass.now c.requires.pass) began _ left.beside.marked.goes c.end-begun.ensures.ended in
+    search rules
+
+pub returns-in_err-range-clause-left : goal.returns-in_err-range-clause-left
+returns-in_err-range-clause-left g c =
+    let t = identity_of c.args.table.now in
+    let q = part_of c.args.pass.now in let q₁ = part_of c.begin-section.new.pass in let q₂ = part_of c.next_from-found.new.pass in let q₃ = part_of c.end-begun.new.pass in
+    let began = subst (λ (n : ℕ). Began n q q₁) (sym c.epoch-lo.ensures) c.begin-section.ensures.began in
+    let left : LeftMarked (Next c.args.index (greatest_of q₁.shape.kind)) (length q₁.seen) q₁ q₂ = search rules in
+    let kind : q₁.shape.kind ≡ q.shape.kind = ap (λ (z : PassPart). z.shape.kind) c.begin-section.ensures.began.is in
+    let told = subst (λ (k : Kind). WasLeftMarked (Next c.args.index (greatest_of k)) c.epoch-lo.result c.end-begun.result q q₃) kind (was_left t q q₁ q₂ q₃ (Next c.args.index (greatest_of q₁.shape.kind)) c.epoch-lo.result c.end-begun.result (shape_is t c.args.pass.now c.requires.pass) began left c.end-begun.ensures.ended) in
+    search rules

@@ -7,9 +7,11 @@ use Rattle.mt_rule.specs.declared.views.Shape.{Shape}
 use Rattle.mt_rule.specs.Sections.{here}
 use Rattle.mt_rule.specs.Tokens.{identity_of, part_of}
 use Rattle.mt_read.specs.Answers.{Answers, AnswersBy, LeafAnswers}
+use Rattle.mt_read.specs.Neighbours.{IsBehind}
 use Rattle.mt_read.proofs.Finding.{place_more, sees_on, shape_is}
-use Rattle.mt_read.proofs.Descending.{goes_on, goes_sees, place_within}
-use Rattle.mt_read.proofs.Reading.{kind_goes, stood_here}
+use Rattle.mt_read.proofs.Descending.{goes_on, goes_sees, goes_some, place_within}
+use Rattle.mt_read.proofs.Reading.{kind_goes, kind_told, stood_here}
+use Rattle.mt_read.proofs.Leaving.{kind_beside, left_next}
 use Rattle.mt_read.proofs.Crossing.{crosses, crosses_beside, ends, from_fewer}
 use Rattle.mt_read.proofs.neighbours.next_at_leaf.Goals as goal
 
@@ -20,7 +22,12 @@ pub returns-then-leaf-top-clause-goes : goal.returns-then-leaf-top-clause-goes
 returns-then-leaf-top-clause-goes g c = goes_on _ _ _ (goes_sees _ _ c.find_slot-place.ensures.sees) c.range_at.ensures.goes
 
 pub returns-clause-goes : goal.returns-clause-goes
-returns-clause-goes g c = goes_on _ _ _ (goes_sees _ _ c.find_slot-place.ensures.sees) c.first_beside.ensures.goes
+returns-clause-goes g c = goes_some c.first_beside.result _ _ _ (goes_sees _ _ c.find_slot-place.ensures.sees) c.first_beside.ensures.goes
+
+pub returns-clause-moved : goal.returns-clause-moved
+returns-clause-moved g c =
+    let q = part_of c.args.pass.now in let q₁ = part_of c.find_slot-place.new.pass in let q₂ = part_of c.first_beside.new.pass in
+    left_next q q₁ q₂ c.args.leaf.now c.find_slot-place.result c.args.index c.find_slot-place.ensures.sees c.requires.leaf c.requires.from c.requires.to c.find_slot-place.ensures.place c.first_beside.result c.find_slot-place.ensures.from (search rules) c.first_beside.ensures.moved
 
 pub returns-then-place-leaf-clause-answer : goal.returns-then-place-leaf-clause-answer
 returns-then-place-leaf-clause-answer g c =
@@ -55,7 +62,7 @@ returns-clause-answer g c =
     let found = subst (λ (n : ℕ). IfSome c.first_beside.result (AnswersBy q₂ (here q₁) (length q₁.seen) (Find (n + 1) (greatest_of q₁.shape.kind)))) (sym end) c.first_beside.ensures.answer in
     subst (λ (z : PassPart). IfSome c.first_beside.result (Answers q₂ (here z).since (Next c.args.index (greatest_of z.shape.kind)))) c.find_slot-place.ensures.sees.is
     (from_fewer c.first_beside.result q₂ (length q₁.seen) (here q₁).since _ (omega arith)
-    (crosses_beside q₁ q₂ place c.args.index c.find_slot-place.ensures.from c.find_slot-place.ensures.to c.find_slot-place.ensures.place on.shape.fills (kind_goes q₁ q₂ c.first_beside.ensures.goes) c.first_beside.result (length q₁.seen) found))
+    (crosses_beside q₁ q₂ place c.args.index c.find_slot-place.ensures.from c.find_slot-place.ensures.to c.find_slot-place.ensures.place on.shape.fills (kind_told c.first_beside.result q₁ q₂ _ c.first_beside.ensures.goes c.first_beside.ensures.moved (kind_beside IsBehind (here q₁) q₁ q₂)) c.first_beside.result (length q₁.seen) found))
 
 pub first_at-requires-clause-to : goal.first_at-requires-clause-to
 first_at-requires-clause-to g c = (place_within (part_of c.next_place-next.new.pass) c.args.leaf.now c.next_place-next.result c.next_place-next.ensures.leaf.on c.next_place-next.ensures.place).1

@@ -20,5 +20,5 @@ returns-clause-read g c =
     let fits = c.ranges.index.fits in
     let low : c.args.index ≤ greatest_of q₁.shape.kind = omega arith in
     let answers = bounded q₂ q₁.shape.kind (length q₁.seen) c.args.index c.args.max c.first_from-range.result (kind_goes q₁ q₂ c.first_from-range.ensures.goes) low c.first_from-range.ensures.answer in
-    read_by t q q₁ q₂ q₃ c.epoch-lo.result c.end-hi.result (shape_is t c.args.pass.now c.requires.pass) began c.first_from-range.ensures.goes c.end-hi.ensures.ended (Find c.args.index c.args.max) c.within.result
+    read_by t q q₁ q₂ q₃ c.epoch-lo.result c.end-hi.result (shape_is t c.args.pass.now c.requires.pass) began _ c.first_from-range.ensures.goes c.end-hi.ensures.ended (Find c.args.index c.args.max) c.within.result
     (subst (λ (v : Option Range). Answers q₂ (length q₁.seen) (Find c.args.index c.args.max) v) (sym c.within.ensures) answers) c.end-hi.ensures.sound

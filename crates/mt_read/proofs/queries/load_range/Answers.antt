@@ -11,4 +11,4 @@ returns-clause-read g c =
     let t = identity_of c.args.table.now in
     let q = part_of c.args.pass.now in let q₁ = part_of c.begin-section.new.pass in let q₂ = part_of c.range_of-value.new.pass in let q₃ = part_of c.end-hi.new.pass in
     let began = subst (λ (n : ℕ). Began n q q₁) (sym c.epoch-lo.ensures) c.begin-section.ensures.began in
-    read_by t q q₁ q₂ q₃ c.epoch-lo.result c.end-hi.result (shape_is t c.args.pass.now c.requires.pass) began c.range_of-value.ensures.goes c.end-hi.ensures.ended (Load c.args.index) c.range_of-value.result c.range_of-value.ensures.answer c.end-hi.ensures.sound
+    read_by t q q₁ q₂ q₃ c.epoch-lo.result c.end-hi.result (shape_is t c.args.pass.now c.requires.pass) began _ c.range_of-value.ensures.goes c.end-hi.ensures.ended (Load c.args.index) c.range_of-value.result c.range_of-value.ensures.answer c.end-hi.ensures.sound
