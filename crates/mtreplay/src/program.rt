@@ -1,4 +1,4 @@
-ghost use Rattle.std.specs.Prelude.{◌≡◌, ◌≢◌, ◌⊎◌, ◌<◌, ◌≤◌, ◌^◌, ℕ, List, Some, None, true, false, IsOk, IsErr, IfOk, IfErr, IfSome, length, map, string_bytes};
+ghost use Rattle.std.specs.Prelude.{◌≡◌, ◌≢◌, ◌⊎◌, ◌<◌, ◌≤◌, ◌^◌, ℕ, List, Some, None, Err, true, false, IsOk, IsErr, IfOk, IfErr, IfSome, OnOk, length, map, string_bytes};
 ghost use Rattle.std.specs.Io.KnownBytes.{IsAtEnd};
 ghost use Rattle.mt_base.specs.Width.{most_rows};
 ghost use Rattle.mt_io.specs.Faults.{Rose};
@@ -28,6 +28,7 @@ fn read<S: Source>(alloc: Global, src: &mut S) -> Result<Log, Failure>
     ensures readable { IfOk result (λ log. IsReadable log.lines) }
     ensures count { IfOk result (λ log. length log.lines ≤ LONGEST) }
     ensures fails { IfErr result (λ e. FailsToRead e (S.left src.old) (S.left src.new) (S.faults src.old) (S.faults src.new)) }
+    ensures quiet { result ≢ Err Failure.ReadFault → S.faults src.new ≡ S.faults src.old }
     ensures reach { ReadsNoFurther (S.left src.old) (S.left src.new) }
     ensures in_time { S.faults src.old ≡ 0 → S.late src.old ≡ 0 → S.late src.new ≡ 0 }
 {
@@ -38,6 +39,7 @@ fn read<S: Source>(alloc: Global, src: &mut S) -> Result<Log, Failure>
 /// Prints a text.
 fn print<O: Sink>(out: &mut O, text: &[u8]) -> Result<(), Failure>
     ensures ends { EndsPrint text.now result (O.written out.old) (O.written out.new) (O.faults out.old) (O.faults out.new) }
+    ensures out_quiet { OnOk result (O.faults out.new ≡ O.faults out.old) }
     ensures out_in_time { O.faults out.old ≡ 0 → O.late out.old ≡ 0 → O.late out.new ≡ 0 }
 {
     write_output(out, text).map_err(|_| Failure::WriteFault)
@@ -58,6 +60,8 @@ fn replay<R: Threads + Wait + Sync, S: Source, O: Sink, G: Gate + Sync>(
         (streams (S.left src.new) (S.faults src.new) (O.written out.new) (O.faults out.new)) }
     ensures reach { ReadsNoFurther (S.left src.old) (S.left src.new) }
     ensures out_kept { IfErr result (λ e. e ≢ Failure.WriteFault → out.new ≡ out.old) }
+    ensures src_quiet { result ≢ Err Failure.ReadFault → S.faults src.new ≡ S.faults src.old }
+    ensures out_quiet { OnOk result (O.faults out.new ≡ O.faults out.old) }
     ensures src_in_time { S.faults src.old ≡ 0 → S.late src.old ≡ 0 → S.late src.new ≡ 0 }
     ensures out_in_time { O.faults out.old ≡ 0 → O.late out.old ≡ 0 → O.late out.new ≡ 0 }
 {
@@ -80,6 +84,7 @@ fn make<O: Sink>(
     requires few_lanes { lanes ≤ most_lanes }
     ensures ends { EndsMaking (IsMadeText number steps lanes) result (O.written out.old) (O.written out.new) (O.faults out.old) (O.faults out.new) }
     ensures out_kept { IfErr result (λ e. e ≢ Failure.WriteFault → out.new ≡ out.old) }
+    ensures out_quiet { OnOk result (O.faults out.new ≡ O.faults out.old) }
     ensures out_in_time { O.faults out.old ≡ 0 → O.late out.old ≡ 0 → O.late out.new ≡ 0 }
 {
     let text = made_text(alloc, number, steps, lanes)?;
@@ -99,6 +104,7 @@ fn trial<R: Threads + Wait + Sync, O: Sink, G: Gate + Sync>(
     requires steps { steps ≤ 100000 }
     ensures ends { EndsMaking (IsTrialText number steps) result (O.written out.old) (O.written out.new) (O.faults out.old) (O.faults out.new) }
     ensures out_kept { IfErr result (λ e. e ≢ Failure.WriteFault → out.new ≡ out.old) }
+    ensures out_quiet { OnOk result (O.faults out.new ≡ O.faults out.old) }
     ensures out_in_time { O.faults out.old ≡ 0 → O.late out.old ≡ 0 → O.late out.new ≡ 0 }
 {
     let text = trial_text(rt, alloc, number, steps, gate)?;
@@ -120,6 +126,8 @@ fn run<R: Threads + Wait + Sync, S: Source, O: Sink, G: Gate + Sync>(
     ensures reach { ReadsNoFurther (S.left src.old) (S.left src.new) }
     ensures unread { reads (command_of (map string_bytes words.now)) ≡ false → src.new ≡ src.old }
     ensures out_kept { IfErr result (λ e. e ≢ Failure.WriteFault → out.new ≡ out.old) }
+    ensures src_quiet { result ≢ Err Failure.ReadFault → S.faults src.new ≡ S.faults src.old }
+    ensures out_quiet { OnOk result (O.faults out.new ≡ O.faults out.old) }
     ensures src_in_time { S.faults src.old ≡ 0 → S.late src.old ≡ 0 → S.late src.new ≡ 0 }
     ensures out_in_time { O.faults out.old ≡ 0 → O.late out.old ≡ 0 → O.late out.new ≡ 0 }
 {
@@ -175,6 +183,10 @@ pub fn mtreplay<R: Threads + Wait + Sync, S: Source, O: Sink, E: Sink, G: Gate +
         → (result ≡ status_due bytes) ⊎ (result ≡ 5) }
     ensures complete_too { (command : Command) → command_of (map string_bytes words.now) ≡ Some command → reads (Some command) ≡ false
         → ¬ Rose (O.faults out.old) (O.faults out.new) → (result ≡ 0) ⊎ (result ≡ 5) }
+
+    // A fault of a stream is told by its status.
+    ensures src_quiet { result ≢ 3 → S.faults src.new ≡ S.faults src.old }
+    ensures out_quiet { result ≢ 4 → O.faults out.new ≡ O.faults out.old }
 
     // The input is read to its end, and no further than an input may reach, and by one command alone.
     ensures at_end { reads (command_of (map string_bytes words.now)) ≡ true → result < 2 → IsAtEnd (S.left src.new) }
