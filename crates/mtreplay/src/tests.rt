@@ -1,6 +1,7 @@
 mod commands;
 mod desk;
 mod drawn;
+mod hostile;
 mod lanes;
 mod played;
 mod short;
@@ -223,12 +224,24 @@ fn run_held<R: Threads + Wait + Sync + AllocGlobal, G: Gate + Sync>(
     err_room: usize,
     gate: &G,
 ) -> Result<Ending, AllocError> {
+    let out = MemSink::new(rt.alloc(), room, 5, Vec::new(rt.alloc()))?;
+    run_into(rt, words, src, out, err_room, gate)
+}
+
+/// The same, into this sink.
+fn run_into<R: Threads + Wait + Sync + AllocGlobal, G: Gate + Sync>(
+    rt: &R,
+    words: &[&str],
+    src: &mut MemSource,
+    mut out: MemSink,
+    err_room: usize,
+    gate: &G,
+) -> Result<Ending, AllocError> {
     let alloc = rt.alloc();
     let mut strings = Vec::new(alloc);
     for word in words {
         strings.push(String::from_str(alloc, word)?)?;
     }
-    let mut out = MemSink::new(alloc, room, 5, Vec::new(alloc))?;
     let mut err = MemSink::new(alloc, err_room, 5, Vec::new(alloc))?;
     let status = mtreplay(rt, alloc, &strings, src, &mut out, &mut err, gate);
     Ok(Ending { status, out, err })

@@ -1,7 +1,7 @@
 //! Logs of one lane: of several trees, of phases and of many calls, answered by the program and by lists alike.
 
 use crate::tests::{expect_text, steps};
-use std::alloc::AllocError;
+use std::alloc::{AllocError, Global};
 use std::test::Fail;
 
 #[test]
@@ -79,14 +79,26 @@ fn a_tree_is_lawful_where_it_grew_and_where_it_is_empty_again(rt: HostRuntime) -
     expect_text(&rt, &log, &text)
 }
 
-#[test]
-fn a_store_over_a_thousand_ranges_leaves_one(rt: HostRuntime) -> Result<(), Fail> {
-    let mut log = steps(rt.alloc(), "")?;
+/// A thousand stores, and then one over all of them.
+pub fn thousand_ranges(alloc: Global) -> Result<String, AllocError> {
+    let mut log = steps(alloc, "")?;
     push_stores(&mut log, "a", 1000)?;
     log.push_str("store a 0 max 8\n")?;
-    let mut text = String::new(rt.alloc());
+    Ok(log)
+}
+
+/// What they are answered.
+pub fn thousand_said(alloc: Global) -> Result<String, AllocError> {
+    let mut text = String::new(alloc);
     push_said(&mut text, 3, 1, 1001, "ok")?;
     text.push_str("tree a range 1\n0 18446744073709551615 8\n")?;
+    Ok(text)
+}
+
+#[test]
+fn a_store_over_a_thousand_ranges_leaves_one(rt: HostRuntime) -> Result<(), Fail> {
+    let log = thousand_ranges(rt.alloc())?;
+    let text = thousand_said(rt.alloc())?;
     expect_text(&rt, &log, &text)
 }
 
