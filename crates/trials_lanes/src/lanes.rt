@@ -76,12 +76,6 @@ fn each_step_is_answered_once_and_in_order(rt: HostRuntime) -> Result<(), Fail> 
     expect_asked(&rt, [0, 1, 4], [&[], &[0], &[0, 1, 2, 3]])
 }
 
-#[test]
-fn no_lanes_run(rt: HostRuntime) {
-    let mut none: [Lane<Journal>; 0] = [];
-    run_lanes(&rt, &mut none, &NoGate);
-}
-
 /// Where three lanes meet: each is held in its turn 1 until all have come to theirs.
 #[derive(Drop)]
 struct Meeting {
@@ -138,6 +132,14 @@ impl Gate for Turns {
 }
 
 impl Turns {
+    fn new() -> Self {
+        Turns {
+            count: AtomicU64::new(0),
+            lane: AtomicU32::new(0),
+            number: AtomicU64::new(0),
+        }
+    }
+
     /// How many turns were taken, and of the last the lane and the number.
     fn seen(&self) -> (u64, u32, u64) {
         (
@@ -171,11 +173,7 @@ impl<'a> Desk for Watcher<'a> {
 
 #[test]
 fn each_step_stands_between_two_turns(rt: HostRuntime) {
-    let gate = Turns {
-        count: AtomicU64::new(0),
-        lane: AtomicU32::new(0),
-        number: AtomicU64::new(0),
-    };
+    let gate = Turns::new();
     let desk = Watcher {
         gate: &gate,
         seen: [(0, 0, 0); 3],
@@ -189,4 +187,12 @@ fn each_step_stands_between_two_turns(rt: HostRuntime) {
     let [lane] = lanes;
     assert_eq!(rt; lane.desk.seen, [(1, 7, 0), (3, 7, 2), (5, 7, 4)]);
     assert_eq!(rt; gate.seen(), (6, 7, 5));
+}
+
+#[test]
+fn where_there_are_no_lanes_no_turn_is_taken(rt: HostRuntime) {
+    let gate = Turns::new();
+    let mut none: [Lane<Journal>; 0] = [];
+    run_lanes(&rt, &mut none, &gate);
+    assert_eq!(rt; gate.seen(), (0, 0, 0));
 }

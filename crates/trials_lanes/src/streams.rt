@@ -2,7 +2,7 @@
 
 ghost use Rattle.std.specs.Prelude.{◌≡◌};
 
-use mt_io::{Failed, Gate, MemSink, MemSource, NoGate, Sink, Source, StdSink, StdSource};
+use mt_io::{Failed, MemSink, MemSource, Sink, Source, StdSink, StdSource};
 use std::alloc::{AllocError, Global};
 use std::fmt::Debug;
 use std::io::{self, ErrorKind, Read};
@@ -193,9 +193,4 @@ fn a_standard_sink_fails_where_its_writer_is_full(rt: HostRuntime) -> Result<(),
     expect_writes(&rt, rt.alloc(), &mut narrow, 3, " abcdefg ! !")?;
     same(&rt, room.as_slice(), &LETTERS[..7]);
     Ok(())
-}
-
-#[test]
-fn no_gate_holds_nobody() {
-    NoGate.turn(0, 1);
 }

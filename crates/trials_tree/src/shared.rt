@@ -268,29 +268,32 @@ fn copies_open_with_the_same_ranges(rt: HostRuntime) -> Result<(), Fail> {
     expect_copy(&rt, rt.alloc(), &tree, &mut pass)
 }
 
+/// A pass that a thread took along, and what it was answered there.
+type Stored = (Pass, Result<Done, Worn>);
+
 /// One call of a pass that a thread takes along.
-fn storing(rt: &impl Wait, tree: &Tree, mut pass: Pass, index: u64) -> Pass
+fn storing(rt: &impl Wait, tree: &Tree, mut pass: Pass, index: u64) -> Stored
     requires { IsPassOf tree.now pass }
-    ensures { IsPassOf tree.now result }
+    ensures { IsPassOf tree.now result.0 }
 {
-    let _ = tree.store_range(rt, &mut pass, index, index, 7);
-    pass
+    let stored = tree.store_range(rt, &mut pass, index, index, 7);
+    (pass, stored)
 }
 
 /// A call of each pass, in two threads.
-fn both<R: Threads + Wait + Sync>(rt: &R, tree: &Tree, one: Pass, two: Pass) -> (Pass, Pass)
+fn both<R: Threads + Wait + Sync>(rt: &R, tree: &Tree, one: Pass, two: Pass) -> (Stored, Stored)
     requires { IsPassOf tree.now one × IsPassOf tree.now two }
-    ensures { IsPassOf tree.now result.0 × IsPassOf tree.now result.1 }
+    ensures { IsPassOf tree.now result.0.0 × IsPassOf tree.now result.1.0 }
 {
     join(
         rt,
-        || -> Pass
+        || -> Stored
             requires { IsSync R.row × IsPassOf tree.now one }
-            ensures { IsPassOf tree.entry.now result }
+            ensures { IsPassOf tree.entry.now result.0 }
         { storing(rt, tree, one, 1) },
-        || -> Pass
+        || -> Stored
             requires { IsSync R.row × IsPassOf tree.now two }
-            ensures { IsPassOf tree.entry.now result }
+            ensures { IsPassOf tree.entry.now result.0 }
         { storing(rt, tree, two, 5) },
     )
 }
@@ -300,7 +303,10 @@ fn two_threads_write_one_tree(rt: HostRuntime) -> Result<(), Fail> {
     let (tree, mut passes) = made(rt.alloc(), shape_of(64, 2, 3))?;
     let two = last_pass(&tree, &mut passes)?;
     let one = last_pass(&tree, &mut passes)?;
-    let (mut one, mut two) = both(&rt, &tree, one, two);
+    let ((mut one, of_one), (mut two, of_two)) = both(&rt, &tree, one, two);
+    let first = done(1, Reply::Ok);
+    let in_turn = if of_one == first { [of_one, of_two] } else { [of_two, of_one] };
+    same(&rt, in_turn, [first, done(2, Reply::Ok)], "the stores");
     let note = tree.note(&mut one);
     tree.learn(&mut two, note);
     let erased = tree.erase(&rt, &mut two, 5);
@@ -311,11 +317,13 @@ fn two_threads_write_one_tree(rt: HostRuntime) -> Result<(), Fail> {
 }
 
 #[test]
-fn passes_are_settled(rt: HostRuntime) -> Result<(), Fail> {
+fn a_tree_takes_calls_when_its_passes_were_settled(rt: HostRuntime) -> Result<(), Fail> {
     let (tree, mut passes) = made(rt.alloc(), shape_of(64, 3, 9))?;
     tree.settle(&rt, passes.as_mut_slice());
-    same(&rt, passes.len(), 3, "the passes");
-    Ok(())
+    let mut pass = last_pass(&tree, &mut passes)?;
+    let stored = tree.store_range(&rt, &mut pass, 1, 1, 7);
+    same(&rt, stored, done(1, Reply::Ok), "the store");
+    expect_one_range(&rt, rt.alloc(), &tree, &mut pass, 7)
 }
 
 fn crosses_threads<T: Send + Sync>() {}
