@@ -11,7 +11,7 @@ use std::alloc::{AllocError, Global};
 /// Puts the numbers of a shortage in front.
 fn put_shortage(line: &mut LineEnd, shortage: Shortage)
     requires { length line.old + 90 ≤ ROOM }
-    ensures text { line.new ≡ reply_text 1 (Reply.NoNodes shortage) ++ line.old }
+    ensures text { line.new ≡ reply_text (Reply.NoNodes shortage) ++ line.old }
     ensures long { length line.new ≤ 90 + length line.old }
 {
     line.number(shortage.held);
@@ -24,10 +24,10 @@ fn put_shortage(line: &mut LineEnd, shortage: Shortage)
     line.text(b"nomem ");
 }
 
-/// Puts a reply in front, as a log of this version has it printed. There is one version yet.
-fn put_reply(line: &mut LineEnd, _version: u32, reply: Reply)
+/// Puts a reply in front.
+fn put_reply(line: &mut LineEnd, reply: Reply)
     requires { length line.old + 90 ≤ ROOM }
-    ensures text { line.new ≡ reply_text _version reply ++ line.old }
+    ensures text { line.new ≡ reply_text reply ++ line.old }
     ensures long { length line.new ≤ 90 + length line.old }
 {
     match reply {
@@ -81,14 +81,14 @@ fn put_answer(line: &mut LineEnd, value: Answer)
 }
 
 /// Puts in front what a line of a log was answered.
-fn put_said(line: &mut LineEnd, version: u32, said: Said)
+fn put_said(line: &mut LineEnd, said: Said)
     requires { length line.old + 111 ≤ ROOM }
-    ensures text { line.new ≡ said_text version said ++ line.old }
+    ensures text { line.new ≡ said_text said ++ line.old }
     ensures long { length line.new ≤ 111 + length line.old }
 {
     match said {
         Said::Wrote { call, reply } => {
-            put_reply(line, version, reply);
+            put_reply(line, reply);
             line.text(b" ");
             line.number(call);
         }
@@ -111,16 +111,11 @@ fn put_said(line: &mut LineEnd, version: u32, said: Said)
 }
 
 /// Adds the line of an entry.
-fn push_entry(
-    text: &mut Vec<u8>,
-    line: &mut LineEnd,
-    version: u32,
-    entry: &Entry,
-) -> Result<(), AllocError>
-    ensures { OnOk result (text.new.items ≡ text.old.items ++ entry_text version entry.now) }
+fn push_entry(text: &mut Vec<u8>, line: &mut LineEnd, entry: &Entry) -> Result<(), AllocError>
+    ensures { OnOk result (text.new.items ≡ text.old.items ++ entry_text entry.now) }
 {
     line.begin();
-    put_said(line, version, entry.said);
+    put_said(line, entry.said);
     line.text(b" ");
     line.number(entry.line);
     text.extend_from_slice(line.as_bytes())
@@ -172,16 +167,11 @@ fn push_listing(text: &mut Vec<u8>, line: &mut LineEnd, listing: &Listing) -> Re
     push_ranges(text, line, ranges)
 }
 
-fn push_entries(
-    text: &mut Vec<u8>,
-    line: &mut LineEnd,
-    version: u32,
-    entries: &[Entry],
-) -> Result<(), AllocError>
-    ensures { OnOk result (text.new.items ≡ text.old.items ++ flat_map (entry_text version) entries.now) }
+fn push_entries(text: &mut Vec<u8>, line: &mut LineEnd, entries: &[Entry]) -> Result<(), AllocError>
+    ensures { OnOk result (text.new.items ≡ text.old.items ++ flat_map entry_text entries.now) }
 {
     for entry in entries {
-        push_entry(text, line, version, entry)?;
+        push_entry(text, line, entry)?;
     }
     Ok(())
 }
@@ -199,17 +189,17 @@ fn push_listings(
     Ok(())
 }
 
-/// The text of a transcript of a log of this version.
+/// The text of a transcript.
 ///
 /// # Errors
 ///
 /// `NoMemory` where memory ran out.
-pub fn render(alloc: Global, version: u32, transcript: &Transcript) -> Result<Vec<u8>, NoMemory>
-    ensures { IfOk result (λ v. v.items ≡ text_of version transcript.now) }
+pub fn render(alloc: Global, transcript: &Transcript) -> Result<Vec<u8>, NoMemory>
+    ensures { IfOk result (λ v. v.items ≡ text_of transcript.now) }
 {
     let mut text = Vec::new(alloc);
     let mut line = LineEnd::new();
-    push_entries(&mut text, &mut line, version, transcript.entries.as_slice())?;
+    push_entries(&mut text, &mut line, transcript.entries.as_slice())?;
     push_listings(&mut text, &mut line, transcript.lists.as_slice())?;
     Ok(text)
 }

@@ -12,7 +12,7 @@ use Rattle.mt_made.specs.Summary.{counted, summary_text}
 
 -- this is the text of a transcript that is a run of the log, over trees of so many rows
 abbrev pub TellsRun : ℕ → Log → List ℕ → Type 0
-TellsRun rows log text = (t : Transcript) × IsRun log rows t × (text ≡ text_of log.version t)
+TellsRun rows log text = (t : Transcript) × IsRun log rows t × (text ≡ text_of t)
 
 -- this is the text of the log that is made of a number
 abbrev pub IsMadeText : ℕ → ℕ → ℕ → List ℕ → Type 0

@@ -56,9 +56,8 @@ pub fn answers<R: Threads + Wait + Sync, G: Gate + Sync>(
     requires count { length log.lines < 2 ^ 62 - 1 }
     ensures { IfOk result (λ text. TellsRun rows log text.items) }
 {
-    let version = log.version;
     let transcript = played(rt, alloc, log, rows, gate)?;
-    render(alloc, version, &transcript)
+    render(alloc, &transcript)
 }
 
 /// The text of the log that is made of a number.

@@ -148,7 +148,7 @@ fn transcript(alloc: Global, entries: &[Entry], lists: Lists) -> Result<Transcri
 fn a_transcript_is_printed_line_by_line(rt: HostRuntime) -> Result<(), Fail> {
     let lists: Lists = &[(Kind::Range, &[LOW, HIGH]), (Kind::Alloc, &[])];
     let transcript = transcript(rt.alloc(), &ENTRIES, lists)?;
-    let text = render(rt.alloc(), 1, &transcript).ok();
+    let text = render(rt.alloc(), &transcript).ok();
     assert_eq!(rt; text.expect(&rt, "memory").as_slice(), PRINTED.as_bytes());
     Ok(())
 }

@@ -28,7 +28,7 @@ pub fn text_in_rows<R: Threads + Wait + Sync + Abort>(
     assert!(rt; log.len() <= LONGEST);
     let log = read_log(alloc, log.as_bytes())?;
     let transcript = mt_play::play::<R, Pass, LaneTree, NoGate>(rt, alloc, &log, rows, &NoGate)?;
-    Ok(render(alloc, log.version, &transcript)?)
+    Ok(render(alloc, &transcript)?)
 }
 
 /// The text of what one thread answers the lines of a log, in their order, over sorted lists.
@@ -36,5 +36,5 @@ pub fn listed_text(rt: &impl Abort, alloc: Global, log: &str) -> Result<Vec<u8>,
     assert!(rt; log.len() <= LONGEST);
     let log = read_log(alloc, log.as_bytes())?;
     let transcript = mt_plain::play::<ListMap>(alloc, &log, MOST_ROWS)?;
-    Ok(render(alloc, log.version, &transcript)?)
+    Ok(render(alloc, &transcript)?)
 }
