@@ -3,7 +3,7 @@ use Rattle.std.proofs.Common.{◌≡◌, ℕ, ◌+◌, Bool, Option, Some, refl,
 use Rattle.mt_base.specs.declared.calls.Call.{Call}
 use Rattle.mt_base.specs.declared.kinds.Kind.{Kind}
 use Rattle.mt_base.specs.declared.replies.Reply.{Reply}
-use Rattle.mt_base.specs.Nodes.{IsMade}
+use Rattle.mt_base.specs.Nodes.{IsMade, one_call_more}
 use Rattle.mt_base.specs.declared.replies.Shortage.{Shortage}
 use Rattle.mt_free.specs.Book.{Book}
 use Rattle.mt_rows.specs.Laws.{Tree, IsLawful, IsTree}
@@ -112,5 +112,5 @@ made_by kind s s' book book' call reply applied =
     (λ (done : IsDone kind s s' book book' call reply). inl done.acts)
     (λ (short : IsShortFor kind s s' book book' call reply × (s'.tree ≡ s.tree)). inr (short.0.refused, ap (λ (t : Rooted). map_by t) short.1)) applied.answer
 
-pub limits_by : (kind : Kind) (s s' : Sheet) (book book' : Book) (call : Call) (reply : Reply) → IsApplied kind s s' book book' call reply → limits_of s' ≡ record (limits_of s) { ended = s.ended + 1 }
-limits_by kind s s' book book' call reply applied = λ i. record { rows = applied.ended.rows i; opened = applied.ended.opened i; ended = applied.ended.ended i; may_hold = applied.ended.shared i }
+pub limits_by : (kind : Kind) (s s' : Sheet) (book book' : Book) (call : Call) (reply : Reply) → IsApplied kind s s' book book' call reply → Some (limits_of s') ≡ one_call_more (Some (limits_of s))
+limits_by kind s s' book book' call reply applied = λ i. Some (record { rows = applied.ended.rows i; opened = applied.ended.opened i; ended = applied.ended.ended i; may_hold = applied.ended.shared i })

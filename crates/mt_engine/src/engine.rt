@@ -1,8 +1,9 @@
 //! A tree on one thread.
 
-ghost use Rattle.std.specs.Prelude.{◌≡◌, ◌↔◌, ◌+◌, ◌-◌, ◌*◌, ◌^◌, ◌<◌, Some, IsTrue, IsOk, IfOk, IfErr, IfSome};
+ghost use Rattle.std.specs.Prelude.{◌≡◌, ◌↔◌, ◌+◌, ◌-◌, ◌*◌, ◌^◌, ◌<◌, ◌≤◌, Some, IsTrue, IsOk, IfOk, IfErr, IfSome, OnOk, OnErr};
 ghost use Rattle.mt_base.specs.declared.calls.Call.TheVariants.{StorePre};
 ghost use Rattle.mt_base.specs.Call.{answer};
+ghost use Rattle.mt_base.specs.Nodes.{IsMade, one_call_more};
 ghost use Rattle.mt_base.specs.Width.{greatest};
 ghost use Rattle.mt_rows.specs.Publish.{map_by};
 ghost use Rattle.mt_rows.specs.Sheet.{OnlyReads, ReadsUpTo, limits_of};
@@ -214,7 +215,21 @@ impl<R: Rows> Ranges for Engine<R> {
 
     ghost limits = { λ e. Some (limits_of e.sheet) };
 
-    fn act(&mut self, call: &Call) -> Result<Reply, NoMemory> {
+    #[tactic(auto, using(crate::proofs::Moments::limits_by))]
+    fn act(&mut self, call: &Call) -> Result<Reply, NoMemory>
+        // As of all maps.
+        requires { self.old.sheet.ended < 2 ^ 62 - 1 }
+        ensures acts { IfOk result (λ reply. IsMade self.old.kind (Some (limits_of self.old.sheet)) (map_by self.old.sheet.tree) call.now (map_by self.new.sheet.tree) reply) }
+        ensures err { OnErr result (map_by self.new.sheet.tree ≡ map_by self.old.sheet.tree) }
+        ensures kind { self.new.kind ≡ self.old.kind }
+        ensures used { self.new.sheet.ended ≤ self.old.sheet.ended + 1 }
+        ensures ended { OnOk result (Some (limits_of self.new.sheet) ≡ one_call_more (Some (limits_of self.old.sheet))) }
+        ensures not_ended { OnErr result (Some (limits_of self.new.sheet) ≡ Some (limits_of self.old.sheet)) }
+
+        // It wants no memory, and does what `apply` does.
+        ensures ok { IsOk result }
+        ensures applied { IfOk result (λ reply. IsApplied self.old.kind self.old.sheet self.new.sheet self.old.book self.new.book call.now reply) }
+    {
         Ok(self.apply(call))
     }
 
