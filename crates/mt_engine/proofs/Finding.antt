@@ -33,6 +33,7 @@ use Rattle.mt_engine.specs.Engine.{OnlySearches, is_refusal, most_searched}
 use Rattle.mt_engine.specs.Here.{IsHereAt}
 use Rattle.mt_engine.specs.Plans.{IsSearched, IsStoreOf, IsStorePlan}
 use Rattle.mt_engine.proofs.Moments.{tree_if_lawful}
+use Rattle.mt_gap.proofs.Readings.{within_steps}
 use Rattle.mt_engine.proofs.Planning.{ComesToNothing}
 use Rattle.mt_engine.proofs.Slots.{tree_map}
 use Rattle.mt_engine.proofs.Wanting.{stays_replaces_none}
@@ -136,8 +137,10 @@ few_loaded s s' reads = twice (3 * height_in s.tree.table s.tree.root * columns 
     twice : (n : ℕ) → RoseUpTo n s.reads s'.reads → RoseUpTo (2 * n) s.reads s'.reads
     twice n rose = rose_up n (2 * n) s.reads s'.reads (omega arith) rose
 
-pub few_searched : (s s' : Sheet) → ReadsUpTo (3 * height_in s.tree.table s.tree.root * columns s.tree.table.width + 1) s s' → ReadsUpTo (most_searched s.tree) s s'
-few_searched s s' reads = record { rest = reads.rest; reads = few_loaded s s' reads }
+pub few_searched : (s s' : Sheet) (old new : ℕ) → new ≤ old + 3 * height_in s.tree.table s.tree.root → ReadsUpTo (columns s.tree.table.width * (new - old) + 1) s s' → ReadsUpTo (most_searched s.tree) s s'
+few_searched s s' old new steps reads =
+    let few = within_steps (columns s.tree.table.width) (3 * height_in s.tree.table s.tree.root) old new s s' steps reads in
+    record { rest = few.rest; reads = few_loaded s s' few }
 
 pub none_loaded : (s : Sheet) → RoseFew s s
 none_loaded s = rose_none (most_searched s.tree) s.reads

@@ -31,6 +31,7 @@ pub enum Sought {
 }
 
 /// The start of the place that is sought, with a blank for a count of the steps, of which nothing is told.
+#[tactic(auto, using(mt_gap::proofs::Readings::within_steps))]
 fn start_by<R: Rows, L: Ledger>(
     rows: &mut R,
     sought: Sought,

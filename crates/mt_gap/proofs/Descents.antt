@@ -1,9 +1,8 @@
 -- A search from level to level: what it asks keeps the answer, and at most two rows of a level are asked.
-use Rattle.std.proofs.Common.{◌≡◌, ◌≢◌, ℕ, zero, suc, ◌+◌, ◌*◌, ◌<◌, ◌≤◌, All, List, [], ◌∷◌, Option, length, take, refl, sym, ap, ◌∙◌, subst, inl, inr, arith}
+use Rattle.std.proofs.Common.{◌≡◌, ◌≢◌, ℕ, zero, suc, ◌+◌, ◌-◌, ◌*◌, ◌<◌, ◌≤◌, All, List, [], ◌∷◌, Option, length, take, refl, sym, ap, ◌∙◌, subst, inl, inr, arith}
 use Rattle.std.specs.List.{AllByRecursion, flat_map}
 use Rattle.std.proofs.lemmas.Bool.{cases_Bool}
 use Rattle.std.proofs.lemmas.List.Elements.{All-nil, All-cons}
-use Rattle.std.proofs.Math.Nat.{mul-le-mul_left}
 use Rattle.mt_base.specs.declared.kinds.Kind.{Kind}
 use Rattle.mt_base.specs.declared.kinds.Kind.TheVariants as trees
 use Rattle.mt_base.specs.Holes.{Hole, low, high, lowest_in, highest_in, holes, holes_from}
@@ -28,7 +27,7 @@ use Rattle.mt_gap.specs.declared.children.Child.{Child}
 use Rattle.mt_gap.specs.declared.windows.Window.{Window}
 use Rattle.mt_gap.specs.Below.{holes_below, leaf_hole, child_hole}
 use Rattle.mt_gap.specs.Children.{spans, children_below, root_child}
-use Rattle.mt_gap.specs.Descents.{MayLoad, picked, place_in, Asks, Visited, Arrives, AreLeaves}
+use Rattle.mt_gap.specs.Descents.{MayLoad, picked, place_in, Asks, LoadedUpTo, Visited, Arrives, AreLeaves}
 use Rattle.mt_gap.specs.Narrow.{may_have, inside, narrow, narrow_up, Rising}
 use Rattle.mt_gap.proofs.ChildLists.{spans_below, gaps_below, holes_of_children}
 use Rattle.mt_gap.proofs.HolesBelow.{holes_are}
@@ -216,38 +215,40 @@ module _ (s s' : Sheet) (pick : List Hole → Option ℕ) (w : Window) (answer :
     visited = come.visited;
   }
 
-  visited_next : (s'' : Sheet) (newer : ℕ) (next : List Child) → newer ≤ new + length asked → ReadsUpTo (columns s'.tree.table.width * length asked) s' s'' → length next ≤ 2 → Visited s s'' old newer (level + 1) next
-  visited_next s'' newer next steps reads few =
+  visited_next : (s'' : Sheet) (newer : ℕ) (next : List Child) → LoadedUpTo (length asked) s' s'' new newer → length next ≤ 2 → Visited s s'' old newer (level + 1) next
+  visited_next s'' newer next more few =
       let before = come.visited.few in
       let taken = come.visited.steps in
+      let low = more.few in
+      let steps = more.steps in
       record {
-        count = come.visited.count + length asked;
+        count = come.visited.count + more.count;
         few = omega arith;
         steps = omega arith;
-        reads = reads_up (columns s.tree.table.width * come.visited.count + columns s.tree.table.width * length asked) (columns s.tree.table.width * (come.visited.count + length asked)) s s''
-            (sums (columns s.tree.table.width) come.visited.count (length asked))
-            (reads_more (columns s.tree.table.width * come.visited.count) (columns s.tree.table.width * length asked) s s' s'' come.visited.reads
-            (subst (λ (t : Rooted). ReadsUpTo (columns t.table.width * length asked) s' s'') same_there reads));
+        reads = reads_up (columns s.tree.table.width * come.visited.count + columns s.tree.table.width * more.count) (columns s.tree.table.width * (come.visited.count + more.count)) s s''
+            (sums (columns s.tree.table.width) come.visited.count more.count)
+            (reads_more (columns s.tree.table.width * come.visited.count) (columns s.tree.table.width * more.count) s s' s'' come.visited.reads
+            (subst (λ (t : Rooted). ReadsUpTo (columns t.table.width * more.count) s' s'') same_there more.reads));
       }
     where
       sums : (a b c : ℕ) → a * b + a * c ≤ a * (b + c)
       sums a b c = grind arith
 
 pub low_come : (s s' s'' : Sheet) (w : Window) (answer : Option ℕ) (old new newer level : ℕ) (asked next : List Child) → 1 ≤ w.size → HasCome s s' lowest_in w answer old new level asked → (AreLeaves asked → ⊥)
-    → next ≡ narrow w.size w.lo w.hi (children_below s'.tree.table asked) → newer ≤ new + length asked → ReadsUpTo (columns s'.tree.table.width * length asked) s' s''
+    → next ≡ narrow w.size w.lo w.hi (children_below s'.tree.table asked) → LoadedUpTo (length asked) s' s'' new newer
     → HasCome s s'' lowest_in w answer old newer (level + 1) next
-low_come s s' s'' w answer old new newer level asked next some come not is steps reads =
+low_come s s' s'' w answer old new newer level asked next some come not is more =
     let there = is ∙ ap (λ (t : Rooted). narrow w.size w.lo w.hi (children_below t.table asked)) (same_there s s' lowest_in w answer old new level asked come) in
     let asks = subst (Asks (tree_as trees.Alloc s.tree) lowest_in w answer (level + 1)) (sym there) (low_next (tree_as trees.Alloc s.tree) w refl some asked answer level come.asks not) in
-    record { asks = asks; visited = visited_next s s' lowest_in w answer old new level asked come s'' newer next steps reads asks.few }
+    record { asks = asks; visited = visited_next s s' lowest_in w answer old new level asked come s'' newer next more asks.few }
 
 pub high_come : (s s' s'' : Sheet) (w : Window) (answer : Option ℕ) (old new newer level : ℕ) (asked next : List Child) → 1 ≤ w.size → HasCome s s' (highest_in w.size) w answer old new level asked → (AreLeaves asked → ⊥)
-    → next ≡ narrow_up w.size w.lo w.hi [] (children_below s'.tree.table asked) → newer ≤ new + length asked → ReadsUpTo (columns s'.tree.table.width * length asked) s' s''
+    → next ≡ narrow_up w.size w.lo w.hi [] (children_below s'.tree.table asked) → LoadedUpTo (length asked) s' s'' new newer
     → HasCome s s'' (highest_in w.size) w answer old newer (level + 1) next
-high_come s s' s'' w answer old new newer level asked next some come not is steps reads =
+high_come s s' s'' w answer old new newer level asked next some come not is more =
     let there = is ∙ ap (λ (t : Rooted). narrow_up w.size w.lo w.hi [] (children_below t.table asked)) (same_there s s' (highest_in w.size) w answer old new level asked come) in
     let asks = subst (Asks (tree_as trees.Alloc s.tree) (highest_in w.size) w answer (level + 1)) (sym there) (high_next (tree_as trees.Alloc s.tree) w refl some asked answer level come.asks not) in
-    record { asks = asks; visited = visited_next s s' (highest_in w.size) w answer old new level asked come s'' newer next steps reads asks.few }
+    record { asks = asks; visited = visited_next s s' (highest_in w.size) w answer old new level asked come s'' newer next more asks.few }
 
 pub come_low_few : (s s' : Sheet) (w : Window) (answer : Option ℕ) (old new level : ℕ) (asked : List Child) → 1 ≤ w.size → HasCome s s' lowest_in w answer old new level asked → (AreLeaves asked → ⊥)
     → length (narrow w.size w.lo w.hi (children_below s'.tree.table asked)) ≤ 3
@@ -299,29 +300,29 @@ module _ (s s₀ s₁ : Sheet) (pick : List Hole → Option ℕ) (w : Window) (a
       let height = subst (λ (t : Rooted). there.level + 1 ≤ height_in t.table t.root) same_before there.height in
       omega arith
 
-  pub few_steps : (new : ℕ) → new ≤ middle + length leaves → new ≤ old + 3 * height_in s.tree.table s.tree.root
-  few_steps new more =
+  pub few_steps : (s₂ : Sheet) (new : ℕ) → LoadedUpTo (length leaves) s₁ s₂ middle new → new ≤ old + 3 * height_in s.tree.table s.tree.root
+  few_steps s₂ new more =
       let few = few_visits in
-      let steps = there.visited.steps in
+      let before = there.visited.steps in
+      let low = more.few in
+      let steps = more.steps in
       omega arith
 
-  pub few_reads : (s₂ : Sheet) → ReadsUpTo (columns s₁.tree.table.width * length leaves) s₁ s₂ → ReadsUpTo (3 * height_in s.tree.table s.tree.root * columns s.tree.table.width + 1) s s₂
-  few_reads s₂ reads =
+  -- each step is a row whose words were loaded, and the root word was
+  pub stepped_reads : (s₂ : Sheet) (new : ℕ) → LoadedUpTo (length leaves) s₁ s₂ middle new → ReadsUpTo (columns s.tree.table.width * (new - old) + 1) s s₂
+  stepped_reads s₂ new more =
       let c = columns s₀.tree.table.width in
-      let c' = columns s.tree.table.width in
+      let n = there.visited.count + more.count in
       let wide : columns s₀.tree.table.width ≡ columns s.tree.table.width = ap (λ (t : Rooted). columns t.table.width) same_before in
-      let here = reads_more (c * there.visited.count) (c * length leaves) s₀ s₁ s₂ there.visited.reads (subst (λ (t : Rooted). ReadsUpTo (columns t.table.width * length leaves) s₁ s₂) same_after reads) in
-      reads_up (1 + (c * there.visited.count + c * length leaves)) (3 * height_in s.tree.table s.tree.root * c' + 1) s s₂
-      (let low = at_most c there.visited.count (length leaves) (3 * height_in s.tree.table s.tree.root) few_visits in
-      let same : 3 * height_in s.tree.table s.tree.root * c ≡ 3 * height_in s.tree.table s.tree.root * c' = ap (λ (k : ℕ). 3 * height_in s.tree.table s.tree.root * k) wide in
-      omega (arith, low, same))
-      (reads_more 1 (c * there.visited.count + c * length leaves) s s₀ s₂ (one_read s s₀ load) here)
+      let count : new - old ≡ there.visited.count + more.count = (let before = there.visited.steps in let steps = more.steps in omega arith) in
+      let same : c * n ≡ columns s.tree.table.width * (new - old) = (λ i. wide i * sym count i) in
+      let here = reads_more (c * there.visited.count) (c * more.count) s₀ s₁ s₂ there.visited.reads (subst (λ (t : Rooted). ReadsUpTo (columns t.table.width * more.count) s₁ s₂) same_after more.reads) in
+      reads_up (1 + (c * there.visited.count + c * more.count)) (columns s.tree.table.width * (new - old) + 1) s s₂
+      (let low = sums c there.visited.count more.count in omega (arith, low, same))
+      (reads_more 1 (c * there.visited.count + c * more.count) s s₀ s₂ (one_read s s₀ load) here)
     where
-      at_most : (a b c n : ℕ) → b + c ≤ n → a * b + a * c ≤ n * a
-      at_most a b c n few = let low = mul-le-mul_left a few in sums a b c n low
-        where
-          sums : (a b c n : ℕ) → a * (b + c) ≤ a * n → a * b + a * c ≤ n * a
-          sums a b c n low = grind (arith, low)
+      sums : (a b d : ℕ) → a * b + a * d ≤ a * (b + d)
+      sums a b d = grind arith
 
 -- the empty tree is one hole
 pub low_empty : (t : Rooted) (w : Window) → IsLawfulOf t trees.Alloc → t.root ≡ 0

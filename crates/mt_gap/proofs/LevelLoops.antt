@@ -6,7 +6,6 @@ use Rattle.std.specs.Option.{option_or, is_some}
 use Rattle.std.proofs.lemmas.Bool.{cases_Bool}
 use Rattle.std.proofs.lemmas.List.{take-append-drop}
 use Rattle.std.proofs.lemmas.Grind.{flat_map-append}
-use Rattle.std.proofs.Math.Nat.{mul-le-mul_left}
 use Rattle.mt_base.specs.Holes.{Hole, kept, lowest_in, highest_in}
 use Rattle.mt_base.specs.Width.{columns}
 use Rattle.mt_layout.proofs.Places.{one_row_more}
@@ -18,35 +17,32 @@ use Rattle.mt_gap.specs.declared.children.Child.{Child}
 use Rattle.mt_gap.specs.declared.windows.Window.{Window}
 use Rattle.mt_gap.specs.Below.{child_hole}
 use Rattle.mt_gap.specs.Children.{children_in, children_below}
-use Rattle.mt_gap.specs.Descents.{picked}
+use Rattle.mt_gap.specs.Descents.{LoadedUpTo, picked}
 use Rattle.mt_gap.specs.Narrow.{narrow, narrow_up, has_sure}
 use Rattle.mt_gap.proofs.Kept.{kept-append}
 use Rattle.mt_gap.proofs.NarrowedUp.{highest_back, highest_more}
 use Rattle.mt_gap.proofs.RowLoops.{drop_at, narrow_stops, narrow_goes_on}
 use Rattle.mt_gap.proofs.Asking.{up-append}
 
--- so many rows were loaded
-pub record WereLoaded (s t : Sheet) (old new i : ℕ) : Type 0 where
-  pub reads : ReadsUpTo (columns s.tree.table.width * i) s t
-  pub steps : new ≡ old + i
+pub loaded_none : (s : Sheet) (steps : ℕ) → LoadedUpTo 0 s s steps steps
+loaded_none s steps = record { count = 0; few = omega arith; steps = omega arith; reads = reads_up 0 (columns s.tree.table.width * 0) s s (omega arith) (no_reads s) }
 
-pub loaded_none : (s : Sheet) (steps : ℕ) → WereLoaded s s steps steps 0
-loaded_none s steps = record { reads = reads_up 0 (columns s.tree.table.width * 0) s s (omega arith) (no_reads s); steps = omega arith }
-
-pub loaded_next : (s t u : Sheet) (old before new i : ℕ) → WereLoaded s t old before i → new ≡ before + 1 → ReadsUpTo (columns t.tree.table.width) t u → WereLoaded s u old new (i + 1)
+pub loaded_next : (s t u : Sheet) (old before new i : ℕ) → LoadedUpTo i s t old before → new ≡ before + 1 → ReadsUpTo (columns t.tree.table.width) t u → LoadedUpTo (i + 1) s u old new
 loaded_next s t u old before new i done tick reads = record {
-  reads = reads_up (columns s.tree.table.width * i + columns s.tree.table.width) (columns s.tree.table.width * (i + 1)) s u (one_row_more (columns s.tree.table.width) i)
-      (reads_more (columns s.tree.table.width * i) (columns s.tree.table.width) s t u done.reads
-      (subst (λ (r : Rooted). ReadsUpTo (columns r.table.width) t u) (tree_kept (columns s.tree.table.width * i) s t done.reads) reads));
+  count = done.count + 1;
+  few = (let few = done.few in omega arith);
   steps = (let steps = done.steps in omega arith);
+  reads = reads_up (columns s.tree.table.width * done.count + columns s.tree.table.width) (columns s.tree.table.width * (done.count + 1)) s u (one_row_more (columns s.tree.table.width) done.count)
+      (reads_more (columns s.tree.table.width * done.count) (columns s.tree.table.width) s t u done.reads
+      (subst (λ (r : Rooted). ReadsUpTo (columns r.table.width) t u) (tree_kept (columns s.tree.table.width * done.count) s t done.reads) reads));
 }
 
 -- so many, or fewer than these
-pub loaded_few : (s t : Sheet) (old new i n : ℕ) → WereLoaded s t old new i → i ≤ n → (new ≤ old + n) × ReadsUpTo (columns s.tree.table.width * n) s t
-loaded_few s t old new i n done few = (let steps = done.steps in omega arith, reads_up (columns s.tree.table.width * i) (columns s.tree.table.width * n) s t (mul-le-mul_left (columns s.tree.table.width) few) done.reads)
+pub loaded_few : (s t : Sheet) (old new i n : ℕ) → LoadedUpTo i s t old new → i ≤ n → LoadedUpTo n s t old new
+loaded_few s t old new i n done few = record { count = done.count; few = (let low = done.few in omega arith); steps = done.steps; reads = done.reads }
 
-pub tree_loaded : (s t : Sheet) (old new i : ℕ) → WereLoaded s t old new i → t.tree ≡ s.tree
-tree_loaded s t old new i done = tree_kept (columns s.tree.table.width * i) s t done.reads
+pub tree_loaded : (s t : Sheet) (old new i : ℕ) → LoadedUpTo i s t old new → t.tree ≡ s.tree
+tree_loaded s t old new i done = tree_kept (columns s.tree.table.width * done.count) s t done.reads
 
 -- ---- from the left
 

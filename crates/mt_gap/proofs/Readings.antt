@@ -1,5 +1,6 @@
 -- Loads of a row's words, counted.
-use Rattle.std.proofs.Common.{◌≡◌, ℕ, ◌≤◌, sym, subst, arith}
+use Rattle.std.proofs.Common.{◌≡◌, ℕ, ◌+◌, ◌-◌, ◌*◌, ◌≤◌, sym, subst, arith}
+use Rattle.std.proofs.Math.Nat.{mul-le-mul_left}
 use Rattle.mt_rows.specs.Sheet.{Sheet, loaded, ReadsUpTo}
 use Rattle.mt_path.proofs.Loads.{no_reads, one_read, reads_more, reads_up}
 
@@ -14,3 +15,13 @@ three_loads n s t u v low first second third = reads_up 3 n s v low (reads_more 
 
 pub no_load : (s t : Sheet) → t ≡ s → ReadsUpTo 1 s t
 no_load s t same = subst (λ (r : Sheet). ReadsUpTo 1 s r) (sym same) (reads_up 0 1 s s (omega arith) (no_reads s))
+
+-- the loads of so few steps
+pub within_steps : (c n old new : ℕ) (s s' : Sheet) → new ≤ old + n → ReadsUpTo (c * (new - old) + 1) s s' → ReadsUpTo (n * c + 1) s s'
+within_steps c n old new s s' few reads = reads_up (c * (new - old) + 1) (n * c + 1) s s' (let low = times c (new - old) n (omega arith) in omega (arith, low)) reads
+  where
+    times : (a b m : ℕ) → b ≤ m → a * b ≤ m * a
+    times a b m few = let low = mul-le-mul_left a few in turned a b m low
+      where
+        turned : (a b m : ℕ) → a * b ≤ a * m → a * b ≤ m * a
+        turned a b m low = grind (arith, low)

@@ -43,11 +43,18 @@ pub record Asks (t : Tree) (pick : List Hole → Option ℕ) (w : Window) (answe
   pub few : length asked ≤ 2
   pub found : picked pick w (holes_below t.table left (spans asked)) ≡ answer
 
--- How many rows were loaded before these: each is a step, and its words are loaded once at the most.
+-- So many rows were loaded at the most: each is a step, and its words are loaded once at the most.
+pub record LoadedUpTo (most : ℕ) (s s' : Sheet) (old new : ℕ) : Type 0 where
+  pub count : ℕ
+  pub few : count ≤ most
+  pub steps : new ≡ old + count
+  pub reads : ReadsUpTo (columns s.tree.table.width * count) s s'
+
+-- How many rows were loaded before these, so too.
 pub record Visited (s s' : Sheet) (old new level : ℕ) (asked : List Child) : Type 0 where
   pub count : ℕ
   pub few : count + length asked ≤ 2 * level + 1
-  pub steps : new ≤ old + count
+  pub steps : new ≡ old + count
   pub reads : ReadsUpTo (columns s.tree.table.width * count) s s'
 
 -- the leaves that a search comes to, and the answer that is found in them

@@ -5,7 +5,7 @@ ghost use Rattle.mt_base.specs.Width.{columns};
 ghost use Rattle.mt_rows.specs.Sheet.{ReadsUpTo};
 ghost use Rattle.mt_gap.specs.declared.children.Child.{Child};
 ghost use Rattle.mt_gap.specs.Children.{children_in, children_below};
-ghost use Rattle.mt_gap.specs.Descents.{MayLoad};
+ghost use Rattle.mt_gap.specs.Descents.{LoadedUpTo, MayLoad};
 ghost use Rattle.mt_gap.specs.Narrow.{narrow, narrow_up, has_sure};
 
 use crate::children::Child;
@@ -34,7 +34,7 @@ fn ask_lower<R: Rows>(rows: &mut R, row: Span, window: Window, next: &mut Asked)
 }
 
 /// Fills an empty list with the rows to be asked one level below these, for the lowest place. Each of these is a step.
-#[tactic(auto, using(crate::proofs::LevelLoops::lower_all, crate::proofs::LevelLoops::loaded_none))]
+#[tactic(auto, using(crate::proofs::LevelLoops::lower_all, crate::proofs::LevelLoops::loaded_none, crate::proofs::LevelLoops::loaded_few))]
 pub(crate) fn next_lower<R: Rows, L: Ledger>(
     rows: &mut R,
     asked: &[Child],
@@ -47,8 +47,7 @@ pub(crate) fn next_lower<R: Rows, L: Ledger>(
     requires size { 1 ≤ window.size }
     requires few { length (narrow window.size window.lo window.hi (children_below (R.sheet rows.old).tree.table asked.now)) ≤ 3 }
     ensures items { next.new.items ≡ narrow window.size window.lo window.hi (children_below (R.sheet rows.old).tree.table asked.now) }
-    ensures steps { steps.new ≤ steps.old + length asked.now }
-    ensures reads { ReadsUpTo (columns (R.sheet rows.old).tree.table.width * length asked.now) (R.sheet rows.old) (R.sheet rows.new) }
+    ensures loaded { LoadedUpTo (length asked.now) (R.sheet rows.old) (R.sheet rows.new) steps.old steps.new }
 {
     for row in asked {
         steps.tick();
@@ -76,7 +75,7 @@ fn ask_higher<R: Rows>(rows: &mut R, row: Span, window: Window, next: &mut Asked
 }
 
 /// Fills an empty list with the rows to be asked one level below these, for the highest place. Each of these is a step.
-#[tactic(auto, using(crate::proofs::LevelLoops::higher_all, crate::proofs::LevelLoops::loaded_none))]
+#[tactic(auto, using(crate::proofs::LevelLoops::higher_all, crate::proofs::LevelLoops::loaded_none, crate::proofs::LevelLoops::loaded_few))]
 pub(crate) fn next_higher<R: Rows, L: Ledger>(
     rows: &mut R,
     asked: &[Child],
@@ -89,11 +88,10 @@ pub(crate) fn next_higher<R: Rows, L: Ledger>(
     requires size { 1 ≤ window.size }
     requires few { (k : ℕ) → length (narrow_up window.size window.lo window.hi [] (take k (children_below (R.sheet rows.old).tree.table asked.now))) ≤ 3 }
     ensures items { next.new.items ≡ narrow_up window.size window.lo window.hi [] (children_below (R.sheet rows.old).tree.table asked.now) }
-    ensures steps { steps.new ≤ steps.old + length asked.now }
-    ensures reads { ReadsUpTo (columns (R.sheet rows.old).tree.table.width * length asked.now) (R.sheet rows.old) (R.sheet rows.new) }
+    ensures loaded { LoadedUpTo (length asked.now) (R.sheet rows.old) (R.sheet rows.new) steps.old steps.new }
 {
     for row in asked {
-        steps.tick();
         ask_higher(rows, row.span, window, next);
+        steps.tick();
     }
 }

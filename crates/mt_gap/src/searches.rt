@@ -1,6 +1,6 @@
 //! The lowest and the highest place with room for so many indexes.
 
-ghost use Rattle.std.specs.Prelude.{◌≡◌, ◌≢◌, ◌↔◌, ◌+◌, ◌*◌, ◌≤◌, ℕ, All, IsTrue, [], ◌∷◌, length, IsNone, IfSome};
+ghost use Rattle.std.specs.Prelude.{◌≡◌, ◌≢◌, ◌↔◌, ◌+◌, ◌-◌, ◌*◌, ◌≤◌, ℕ, All, IsTrue, [], ◌∷◌, length, IsNone, IfSome};
 ghost use Rattle.std.specs.List.{flat_map};
 ghost use Rattle.std.specs.Option.{option_map};
 ghost use Rattle.mt_base.specs.declared.kinds.Kind.TheVariants as trees;
@@ -12,7 +12,7 @@ ghost use Rattle.mt_rows.specs.Trees.{height_in};
 ghost use Rattle.mt_gap.specs.declared.children.Child.{Child};
 ghost use Rattle.mt_gap.specs.Below.{child_hole};
 ghost use Rattle.mt_gap.specs.Children.{children_in, children_below, root_child};
-ghost use Rattle.mt_gap.specs.Descents.{MayLoad, picked, place_in, Arrives, AreLeaves};
+ghost use Rattle.mt_gap.specs.Descents.{LoadedUpTo, MayLoad, picked, place_in, Arrives, AreLeaves};
 ghost use Rattle.mt_gap.specs.Ways.{EndsInLeaf, IsAreaAt};
 ghost use Rattle.mt_gap.specs.declared.searches.Area.{Area};
 
@@ -123,7 +123,7 @@ fn lowest_in_leaf<R: Rows>(rows: &mut R, leaf: Span, window: Window) -> Option<u
 }
 
 /// The lowest place in leaves side by side. Each that is loaded is a step.
-#[tactic(auto, using(crate::proofs::LevelLoops::loaded_none, crate::proofs::LevelLoops::low_nowhere))]
+#[tactic(auto, using(crate::proofs::LevelLoops::loaded_none, crate::proofs::LevelLoops::loaded_few, crate::proofs::LevelLoops::low_nowhere))]
 fn lowest_in_leaves<R: Rows, L: Ledger>(
     rows: &mut R,
     leaves: &[Child],
@@ -133,8 +133,7 @@ fn lowest_in_leaves<R: Rows, L: Ledger>(
     requires rows { All (λ (x : Child). MayLoad (R.sheet rows.old).tree x.span) leaves.now }
     requires size { 1 ≤ window.size }
     ensures place { result ≡ picked lowest_in window (flat_map child_hole (children_below (R.sheet rows.old).tree.table leaves.now)) }
-    ensures steps { steps.new ≤ steps.old + length leaves.now }
-    ensures reads { ReadsUpTo (columns (R.sheet rows.old).tree.table.width * length leaves.now) (R.sheet rows.old) (R.sheet rows.new) }
+    ensures loaded { LoadedUpTo (length leaves.now) (R.sheet rows.old) (R.sheet rows.new) steps.old steps.new }
 {
     for leaf in leaves {
         steps.tick();
@@ -160,7 +159,7 @@ fn highest_in_leaf<R: Rows>(rows: &mut R, leaf: Span, window: Window) -> Option<
 }
 
 /// The highest place in leaves side by side. Each is a step.
-#[tactic(auto, using(crate::proofs::LevelLoops::loaded_none, crate::proofs::LevelLoops::high_all))]
+#[tactic(auto, using(crate::proofs::LevelLoops::loaded_none, crate::proofs::LevelLoops::loaded_few, crate::proofs::LevelLoops::high_all))]
 fn highest_in_leaves<R: Rows, L: Ledger>(
     rows: &mut R,
     leaves: &[Child],
@@ -170,8 +169,7 @@ fn highest_in_leaves<R: Rows, L: Ledger>(
     requires rows { All (λ (x : Child). MayLoad (R.sheet rows.old).tree x.span) leaves.now }
     requires size { 1 ≤ window.size }
     ensures place { result ≡ picked (highest_in window.size) window (flat_map child_hole (children_below (R.sheet rows.old).tree.table leaves.now)) }
-    ensures steps { steps.new ≤ steps.old + length leaves.now }
-    ensures reads { ReadsUpTo (columns (R.sheet rows.old).tree.table.width * length leaves.now) (R.sheet rows.old) (R.sheet rows.new) }
+    ensures loaded { LoadedUpTo (length leaves.now) (R.sheet rows.old) (R.sheet rows.new) steps.old steps.new }
 {
     let mut found = None;
     for leaf in leaves {
@@ -182,7 +180,7 @@ fn highest_in_leaves<R: Rows, L: Ledger>(
 }
 
 /// The lowest start of so many indexes that lie in one hole and in the window `lo` to `hi`, and none where no hole has room.
-/// Each row that is loaded is a step.
+/// Each row that is loaded is a step, and beside their words the root word alone is loaded.
 pub fn lowest<R: Rows, L: Ledger>(
     rows: &mut R,
     size: u64,
@@ -194,7 +192,7 @@ pub fn lowest<R: Rows, L: Ledger>(
     requires size { 1 ≤ size }
     ensures place { result ≡ low trees.Alloc (map_by (R.sheet rows.old).tree) size lo hi }
     ensures steps { steps.new ≤ steps.old + 3 * height_in (R.sheet rows.old).tree.table (R.sheet rows.old).tree.root }
-    ensures reads { ReadsUpTo (3 * height_in (R.sheet rows.old).tree.table (R.sheet rows.old).tree.root * columns (R.sheet rows.old).tree.table.width + 1) (R.sheet rows.old) (R.sheet rows.new) }
+    ensures reads { ReadsUpTo (columns (R.sheet rows.old).tree.table.width * (steps.new - steps.old) + 1) (R.sheet rows.old) (R.sheet rows.new) }
 {
     let window = Window { size, lo, hi };
     let word = rows.root();
@@ -225,6 +223,7 @@ fn area_in_leaf<R: Rows>(rows: &mut R, leaf: Span, window: Window, path: &mut Pa
 }
 
 /// The lowest place where a search goes into more than one row of a level, and the way there, which is walked then.
+#[tactic(auto, using(crate::proofs::Readings::within_steps))]
 fn area_by_levels<R: Rows, L: Ledger>(
     rows: &mut R,
     window: Window,
@@ -276,7 +275,7 @@ pub fn lowest_way<R: Rows, L: Ledger>(
 }
 
 /// The highest start of so many indexes that lie in one hole and in the window `lo` to `hi`, and none where no hole has room.
-/// Each row that is loaded is a step.
+/// Each row that is loaded is a step, and beside their words the root word alone is loaded.
 pub fn highest<R: Rows, L: Ledger>(
     rows: &mut R,
     size: u64,
@@ -288,7 +287,7 @@ pub fn highest<R: Rows, L: Ledger>(
     requires size { 1 ≤ size }
     ensures place { result ≡ high trees.Alloc (map_by (R.sheet rows.old).tree) size lo hi }
     ensures steps { steps.new ≤ steps.old + 3 * height_in (R.sheet rows.old).tree.table (R.sheet rows.old).tree.root }
-    ensures reads { ReadsUpTo (3 * height_in (R.sheet rows.old).tree.table (R.sheet rows.old).tree.root * columns (R.sheet rows.old).tree.table.width + 1) (R.sheet rows.old) (R.sheet rows.new) }
+    ensures reads { ReadsUpTo (columns (R.sheet rows.old).tree.table.width * (steps.new - steps.old) + 1) (R.sheet rows.old) (R.sheet rows.new) }
 {
     let window = Window { size, lo, hi };
     let word = rows.root();

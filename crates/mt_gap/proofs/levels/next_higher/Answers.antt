@@ -1,9 +1,9 @@
-use Rattle.std.proofs.Common.{length, take, sym, subst, ◌≤◌}
+use Rattle.std.proofs.Common.{rules, length, take, sym, ap, ◌∙◌, subst, ◌≤◌}
 use Rattle.std.specs.Prelude.{slice_index_or}
 use Rattle.mt_rows.specs.Sheet.{Rooted}
 use Rattle.mt_gap.specs.Children.{children_in, no_child}
 use Rattle.mt_gap.specs.Narrow.{narrow_up}
-use Rattle.mt_gap.proofs.LevelLoops.{tree_loaded, higher_room}
+use Rattle.mt_gap.proofs.LevelLoops.{tree_loaded, loaded_next, higher_room, higher_on}
 use Rattle.mt_gap.proofs.levels.next_higher.Goals as goal
 
 pub ask_higher-requires-clause-room : goal.ask_higher-requires-clause-room
@@ -14,3 +14,15 @@ ask_higher-requires-clause-room g c k =
     subst (λ (t : Rooted). length (narrow_up w.size w.lo w.hi c.loop-row.next.items (take k (children_in t.table (slice_index_or c.args.asked.now c.loop-row.row-index no_child).span))) ≤ 3)
     (sym (tree_loaded s (g.R.Rows.sheet c.loop-row.rows) c.args.steps.now c.loop-row.steps c.loop-row.row-index done.0))
     (higher_room s.tree.table w.size w.lo w.hi c.args.asked.now c.loop-row.row-index no_child c.loop-row.next.items done.1 c.loop-row-test.true c.requires.few k)
+
+pub loop-row-preserved : goal.loop-row-preserved
+loop-row-preserved g c =
+    let s = g.R.Rows.sheet c.args.rows.now in
+    let w = c.args.window in
+    let done = c.loop-row.invariant in
+    let same = tree_loaded s (g.R.Rows.sheet c.loop-row.rows) c.args.steps.now c.loop-row.steps c.loop-row.row-index done.0 in
+    let row = (slice_index_or c.args.asked.now c.loop-row.row-index no_child).span in (
+      loaded_next s (g.R.Rows.sheet c.loop-row.rows) (g.R.Rows.sheet c.ask_higher.new.rows) c.args.steps.now c.loop-row.steps _ c.loop-row.row-index done.0 (search rules) c.ask_higher.ensures.reads,
+      higher_on s.tree.table w.size w.lo w.hi c.args.asked.now c.loop-row.row-index no_child c.loop-row.next.items done.1 c.loop-row-test.true c.ask_higher.new.next.items
+          (c.ask_higher.ensures.items ∙ ap (λ (t : Rooted). narrow_up w.size w.lo w.hi c.loop-row.next.items (children_in t.table row)) same),
+    )

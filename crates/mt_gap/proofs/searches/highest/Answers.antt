@@ -1,15 +1,14 @@
-use Rattle.std.proofs.Common.{◌≤◌, ◌+◌, ◌*◌, All, List, length, sym, ap, ◌∙◌, subst}
+use Rattle.std.proofs.Common.{All, List, length, sym, ap, ◌∙◌, subst}
 use Rattle.mt_base.specs.declared.kinds.Kind.TheVariants as trees
 use Rattle.mt_base.specs.Holes.{high, highest_in}
-use Rattle.mt_base.specs.Width.{columns}
 use Rattle.std.specs.List.{flat_map}
 use Rattle.mt_rows.specs.Publish.{map_by}
-use Rattle.mt_rows.specs.Sheet.{Rooted, ReadsUpTo}
+use Rattle.mt_rows.specs.Sheet.{Rooted}
 use Rattle.mt_gap.specs.declared.children.Child.{Child}
 use Rattle.mt_gap.specs.Below.{child_hole}
 use Rattle.mt_gap.specs.Children.{children_below}
-use Rattle.mt_gap.specs.Descents.{MayLoad, picked, place_in}
-use Rattle.mt_gap.proofs.Descents.{leaves_may_load, place_found, few_steps, few_reads, same_before, high_in_tree}
+use Rattle.mt_gap.specs.Descents.{LoadedUpTo, MayLoad, picked, place_in}
+use Rattle.mt_gap.proofs.Descents.{leaves_may_load, place_found, few_steps, stepped_reads, same_before, high_in_tree}
 use Rattle.mt_gap.proofs.searches.highest.Goals as goal
 
 pub highest_in_leaves-requires-clause-rows : goal.highest_in_leaves-requires-clause-rows
@@ -25,10 +24,10 @@ returns-clause-place g c =
 
 pub returns-clause-steps : goal.returns-clause-steps
 returns-clause-steps g c =
-    few_steps (g.R.Rows.sheet c.args.rows.now) (g.R.Rows.sheet c.root-word.new.self) (g.R.Rows.sheet c.to_highest-leaves.new.rows) (highest_in c.args.size) (record { size = c.args.size; lo = c.args.lo; hi = c.args.hi }) (place_in (highest_in c.args.size) (record { size = c.args.size; lo = c.args.lo; hi = c.args.hi }) (g.R.Rows.sheet c.root-word.new.self).tree) c.args.steps.now c.to_highest-leaves.new.steps c.to_highest-leaves.result.items c.root-word.ensures.rest c.to_highest-leaves.ensures c.highest_in_leaves.new.steps
-    (subst (λ (l : List Child). c.highest_in_leaves.new.steps ≤ c.to_highest-leaves.new.steps + length l) c.deref.ensures.0 c.highest_in_leaves.ensures.steps)
+    few_steps (g.R.Rows.sheet c.args.rows.now) (g.R.Rows.sheet c.root-word.new.self) (g.R.Rows.sheet c.to_highest-leaves.new.rows) (highest_in c.args.size) (record { size = c.args.size; lo = c.args.lo; hi = c.args.hi }) (place_in (highest_in c.args.size) (record { size = c.args.size; lo = c.args.lo; hi = c.args.hi }) (g.R.Rows.sheet c.root-word.new.self).tree) c.args.steps.now c.to_highest-leaves.new.steps c.to_highest-leaves.result.items c.root-word.ensures.rest c.to_highest-leaves.ensures (g.R.Rows.sheet c.highest_in_leaves.new.rows) c.highest_in_leaves.new.steps
+    (subst (λ (l : List Child). LoadedUpTo (length l) (g.R.Rows.sheet c.to_highest-leaves.new.rows) (g.R.Rows.sheet c.highest_in_leaves.new.rows) c.to_highest-leaves.new.steps c.highest_in_leaves.new.steps) c.deref.ensures.0 c.highest_in_leaves.ensures.loaded)
 
 pub returns-clause-reads : goal.returns-clause-reads
 returns-clause-reads g c =
-    few_reads (g.R.Rows.sheet c.args.rows.now) (g.R.Rows.sheet c.root-word.new.self) (g.R.Rows.sheet c.to_highest-leaves.new.rows) (highest_in c.args.size) (record { size = c.args.size; lo = c.args.lo; hi = c.args.hi }) (place_in (highest_in c.args.size) (record { size = c.args.size; lo = c.args.lo; hi = c.args.hi }) (g.R.Rows.sheet c.root-word.new.self).tree) c.args.steps.now c.to_highest-leaves.new.steps c.to_highest-leaves.result.items c.root-word.ensures.rest c.to_highest-leaves.ensures (g.R.Rows.sheet c.highest_in_leaves.new.rows)
-    (subst (λ (l : List Child). ReadsUpTo (columns (g.R.Rows.sheet c.to_highest-leaves.new.rows).tree.table.width * length l) (g.R.Rows.sheet c.to_highest-leaves.new.rows) (g.R.Rows.sheet c.highest_in_leaves.new.rows)) c.deref.ensures.0 c.highest_in_leaves.ensures.reads)
+    stepped_reads (g.R.Rows.sheet c.args.rows.now) (g.R.Rows.sheet c.root-word.new.self) (g.R.Rows.sheet c.to_highest-leaves.new.rows) (highest_in c.args.size) (record { size = c.args.size; lo = c.args.lo; hi = c.args.hi }) (place_in (highest_in c.args.size) (record { size = c.args.size; lo = c.args.lo; hi = c.args.hi }) (g.R.Rows.sheet c.root-word.new.self).tree) c.args.steps.now c.to_highest-leaves.new.steps c.to_highest-leaves.result.items c.root-word.ensures.rest c.to_highest-leaves.ensures (g.R.Rows.sheet c.highest_in_leaves.new.rows) c.highest_in_leaves.new.steps
+    (subst (λ (l : List Child). LoadedUpTo (length l) (g.R.Rows.sheet c.to_highest-leaves.new.rows) (g.R.Rows.sheet c.highest_in_leaves.new.rows) c.to_highest-leaves.new.steps c.highest_in_leaves.new.steps) c.deref.ensures.0 c.highest_in_leaves.ensures.loaded)

@@ -1,4 +1,4 @@
-use Rattle.std.proofs.Common.{sym, ap, ◌∙◌}
+use Rattle.std.proofs.Common.{◌+◌, length, sym, ap, ◌∙◌, arith}
 use Rattle.std.specs.Prelude.{slice_index_or}
 use Rattle.std.specs.List.{flat_map}
 use Rattle.mt_base.specs.Holes.{lowest_in}
@@ -6,7 +6,7 @@ use Rattle.mt_rows.specs.Sheet.{Rooted}
 use Rattle.mt_gap.specs.Below.{child_hole}
 use Rattle.mt_gap.specs.Children.{children_in, no_child}
 use Rattle.mt_gap.specs.Descents.{picked}
-use Rattle.mt_gap.proofs.LevelLoops.{tree_loaded, loaded_next, low_found, low_not_found}
+use Rattle.mt_gap.proofs.LevelLoops.{tree_loaded, loaded_next, loaded_few, low_found, low_not_found}
 use Rattle.mt_gap.proofs.searches.lowest_in_leaves.Goals as goal
 
 pub returns-then-is_some-clause-place : goal.returns-then-is_some-clause-place
@@ -19,6 +19,13 @@ returns-then-is_some-clause-place g c =
     let leaf = (slice_index_or c.args.leaves.now c.loop-leaf.leaf-index no_child).span in
     low_found w s.tree.table c.args.leaves.now c.loop-leaf.leaf-index no_child c.loop-leaf-test.true c.lowest_in_leaf-found.result done.1
     (c.lowest_in_leaf-found.ensures.place ∙ ap (λ (r : Rooted). picked lowest_in w (flat_map child_hole (children_in r.table leaf))) same) (sym c.is_some.ensures ∙ c.if-is_some.true)
+
+pub returns-then-is_some-clause-loaded : goal.returns-then-is_some-clause-loaded
+returns-then-is_some-clause-loaded g c =
+    let s = g.R.Rows.sheet c.args.rows.now in
+    let u = g.R.Rows.sheet c.lowest_in_leaf-found.new.rows in
+    loaded_few s u c.args.steps.now c.tick.new.self (c.loop-leaf.leaf-index + 1) (length c.args.leaves.now)
+    (loaded_next s (g.R.Rows.sheet c.loop-leaf.rows) u c.args.steps.now c.loop-leaf.steps c.tick.new.self c.loop-leaf.leaf-index c.loop-leaf.invariant.0 c.tick.ensures c.lowest_in_leaf-found.ensures.reads) (let within = c.loop-leaf-test.true in omega arith)
 
 pub loop-leaf-preserved : goal.loop-leaf-preserved
 loop-leaf-preserved g c =

@@ -1,10 +1,8 @@
-use Rattle.std.proofs.Common.{◌≤◌, ◌+◌, ◌*◌, All, IsTrue, List, length, sym, ap, ◌∙◌, subst, rules}
+use Rattle.std.proofs.Common.{◌≤◌, All, IsTrue, List, length, sym, ap, ◌∙◌, subst, rules}
 use Rattle.mt_base.specs.Holes.{lowest_in}
-use Rattle.mt_base.specs.Width.{columns}
-use Rattle.mt_rows.specs.Sheet.{ReadsUpTo}
 use Rattle.mt_gap.specs.declared.children.Child.{Child}
 use Rattle.mt_gap.specs.Children.{children_below}
-use Rattle.mt_gap.specs.Descents.{MayLoad, AreLeaves, place_in}
+use Rattle.mt_gap.specs.Descents.{LoadedUpTo, MayLoad, AreLeaves, place_in}
 use Rattle.mt_gap.specs.Narrow.{narrow}
 use Rattle.mt_gap.proofs.Descents.{all_may_load, arrives, come_root, low_come, come_low_few}
 use Rattle.mt_gap.proofs.searches.to_lowest.Goals as goal
@@ -35,5 +33,4 @@ loop-preserved g c =
     let w = c.args.window in
     low_come (g.R.Rows.sheet c.args.rows.now) (g.R.Rows.sheet c.loop.rows) (g.R.Rows.sheet c.next_lower.new.rows) w (place_in lowest_in w (g.R.Rows.sheet c.args.rows.now).tree) c.args.steps.now c.loop.steps c.next_lower.new.steps c.loop.counter c.loop.asked.items c.next_lower.new.next.items c.requires.size c.loop.invariant not
     (c.next_lower.ensures.items ∙ ap (λ (l : List Child). narrow w.size w.lo w.hi (children_below t l)) c.deref-in-loop.ensures.0)
-    (subst (λ (l : List Child). c.next_lower.new.steps ≤ c.loop.steps + length l) c.deref-in-loop.ensures.0 c.next_lower.ensures.steps)
-    (subst (λ (l : List Child). ReadsUpTo (columns t.width * length l) (g.R.Rows.sheet c.loop.rows) (g.R.Rows.sheet c.next_lower.new.rows)) c.deref-in-loop.ensures.0 c.next_lower.ensures.reads)
+    (subst (λ (l : List Child). LoadedUpTo (length l) (g.R.Rows.sheet c.loop.rows) (g.R.Rows.sheet c.next_lower.new.rows) c.loop.steps c.next_lower.new.steps) c.deref-in-loop.ensures.0 c.next_lower.ensures.loaded)
