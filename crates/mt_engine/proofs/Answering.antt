@@ -1,5 +1,5 @@
 -- What a call has come to by a store, at once or after a scan, and by the end of all ranges.
-use Rattle.std.proofs.Common.{◌≡◌, ◌≢◌, ℕ, ◌+◌, ◌*◌, ◌≤◌, ◌++◌, List, [], Bool, true, false, length, refl, sym, ap, ◌∙◌, subst, inl, inr, arith, append-nil}
+use Rattle.std.proofs.Common.{◌≡◌, ◌≢◌, ℕ, ◌+◌, ◌*◌, ◌≤◌, ◌++◌, List, [], Bool, true, false, length, refl, sym, ap, ◌∙◌, subst, inl, arith, append-nil}
 use Rattle.mt_base.specs.declared.calls.Call.{Call}
 use Rattle.mt_base.specs.declared.calls.Call.TheVariants.{Clear}
 use Rattle.mt_base.specs.declared.kinds.Kind.{Kind}

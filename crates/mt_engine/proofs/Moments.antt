@@ -1,5 +1,5 @@
 -- What holds of the rows and the book from the begin of a call on, and of a call whose rows were read before.
-use Rattle.std.proofs.Common.{◌≡◌, ℕ, ◌+◌, Bool, Option, Some, refl, sym, ap, ◌∙◌, subst, inl, inr, ⊎_elim}
+use Rattle.std.proofs.Common.{◌≡◌, ℕ, Bool, Option, Some, refl, sym, ap, ◌∙◌, subst, inl, inr, ⊎_elim}
 use Rattle.mt_base.specs.declared.calls.Call.{Call}
 use Rattle.mt_base.specs.declared.kinds.Kind.{Kind}
 use Rattle.mt_base.specs.declared.replies.Reply.{Reply}
@@ -9,7 +9,7 @@ use Rattle.mt_free.specs.Book.{Book}
 use Rattle.mt_rows.specs.Laws.{Tree, IsLawful, IsTree}
 use Rattle.mt_rows.specs.Publish.{IsLawfulOf, IsTreeOf, tree_as, map_by, finished, IsCounted}
 use Rattle.mt_rows.specs.Sheet.{Rooted, Sheet, OnlyReads, begun, limits_of}
-use Rattle.mt_engine.specs.Engine.{IsIdle, IsInCall, IsDone, IsShortFor, IsEnded, DidOrLacked, IsApplied, IsAnswered, OnlySearches, OnlySought}
+use Rattle.mt_engine.specs.Engine.{IsIdle, IsInCall, IsDone, IsShortFor, IsEnded, DidOrLacked, IsApplied, IsAnswered, OnlySearches, OnlySought, StoresExactly}
 
 -- ---- the state
 
@@ -91,8 +91,8 @@ answered_after_reads kind s s₁ s' book book' call reply reads answered = recor
 }
 
 -- the end of a call
-pub applied_by : (kind : Kind) (s s₁ s' s″ : Sheet) (book book' : Book) (call : Call) (reply : Reply) → s₁ ≡ begun s → IsAnswered kind s₁ s' book book' call reply → (OnlySearches call reply → OnlySought s₁ s' book book') → s″ ≡ finished s' call reply → IsApplied kind s s″ book book' call reply
-applied_by kind s s₁ s' s″ book book' call reply begins answered search ends =
+pub applied_by : (kind : Kind) (s s₁ s' s″ : Sheet) (book book' : Book) (call : Call) (reply : Reply) → s₁ ≡ begun s → IsAnswered kind s₁ s' book book' call reply → (OnlySearches call reply → OnlySought s₁ s' book book') → StoresExactly s₁ s' book book' call reply → s″ ≡ finished s' call reply → IsApplied kind s s″ book book' call reply
+applied_by kind s s₁ s' s″ book book' call reply begins answered search exact ends =
     subst (λ (x : Sheet). IsApplied kind s x book book' call reply) (sym ends) (record {
       ended =
           ended_from kind s (finished s' call reply) book book' call reply (begun s).in_flight (begun s).published (begun s).scans s.reads s'.reads
@@ -102,6 +102,7 @@ applied_by kind s s₁ s' s″ book book' call reply begins answered search ends
           answer_from kind s (finished s' call reply) book book' call reply (begun s).in_flight (begun s).published (begun s).scans s.reads s'.reads
           (subst (λ (x : Sheet). DidOrLacked kind x (finished s' call reply) book book' call reply) begins answered.answer);
       search = λ only. (let sought = subst (λ (x : Sheet). OnlySought x s' book book') begins (search only) in record { tree = sought.tree; same_book = sought.same_book; reads = sought.reads });
+      exact = subst (λ (x : Sheet). StoresExactly x s' book book' call reply) begins exact;
     })
 
 -- ---- as a map of ranges tells it

@@ -44,14 +44,14 @@ use Rattle.mt_rows.proofs.Reached as reached
 use Rattle.mt_rows.proofs.SlotEntry as exact
 use Rattle.mt_rows.proofs.SlotStore as store
 use Rattle.mt_path.specs.declared.handles.Handle.{Handle}
-use Rattle.mt_path.specs.Handles.{IsHandleOf}
+use Rattle.mt_path.specs.Handles.{IsHandleOf, handle_in}
 use Rattle.mt_path.specs.Paths.{slot_for, below, step_in}
 use Rattle.mt_path.proofs.Places.{at_get}
 use Rattle.mt_path.proofs.TreePaths.{row_of, place, holds}
 use Rattle.mt_splice.specs.Kept.{IsBookOf, IsSpare}
 use Rattle.mt_splice.specs.Splice.{IsStoreBy}
 use Rattle.mt_engine.specs.Heights.{SameHeight}
-use Rattle.mt_engine.specs.Engine.{IsInCall, IsIdle}
+use Rattle.mt_engine.specs.Engine.{ChangesEntry, IsInCall, IsIdle}
 use Rattle.mt_engine.specs.Stores.{IsStored}
 use Rattle.mt_engine.proofs.GapsStay.{SameGaps, gaps_stay, no_gaps_in_leaves}
 use Rattle.mt_engine.proofs.Slots.{end_is, slot_holds}
@@ -354,3 +354,18 @@ module _ (kind : Kind) (s : Sheet) (book : Book) (handle : Handle) (entry : ℕ)
 
   pub entry_height : (s' : Sheet) → Published s s' (Slot handle.leaf.row (slot_column (slots_of s.tree.table.width Leaf) handle.leaf.slot)) entry call reply → SameHeight s.tree s'.tree
   entry_height s' done = height_there s' (subst (λ (p : Place). Published s s' p entry call reply) place_is done)
+
+  same_lives : (s' : Sheet) → Published s s' (where_published kind s stood.0 is.index entry whole stood.1 is.within) entry call reply → (row : ℕ) → first_row ≤ row → row < first_row + s.tree.rows → life_of s'.lives row ≡ life_of s.lives row
+  same_lives s' done =
+      same_life kind s book (written kind s stood.0 is.index entry whole stood.1 is.within) s'.lives s'.buried call reply in_call refl
+      (reached_stay kind s stood.0 is.index entry whole stood.1 is.within full new stores.lawful) done.lives done.buried refl
+      (lawful_after kind s stood.0 is.index entry whole stood.1 is.within full new stores.lawful stood.2 stood.3) may_there.answer
+
+  -- no other word than that in the slot of the index of the handle has changed
+  pub changes_entry : (s' : Sheet) (index : ℕ) → handle ≡ handle_in s.tree index → Published s s' (Slot handle.leaf.row (slot_column (slots_of s.tree.table.width Leaf) handle.leaf.slot)) entry call reply
+      → ChangesEntry s.tree s'.tree s.lives s'.lives book book index entry
+  changes_entry s' index at done = record {
+    tree = ap (λ (x : Sheet). x.tree) done.rest ∙ ap (λ (x : Handle). with_word s.tree x.leaf.row (slot_column (slots_of s.tree.table.width Leaf) x.leaf.slot) entry) at;
+    each_life = same_lives s' (subst (λ (p : Place). Published s s' p entry call reply) place_is done);
+    same_book = refl;
+  }

@@ -1,15 +1,18 @@
 -- A call in flight that has come to an end so far, after which words were only loaded.
 use Rattle.std.proofs.Common.{◌≡◌, ℕ, Option, true, sym, ap, ◌∙◌, subst, inl, inr, ⊎_elim}
 use Rattle.mt_base.specs.declared.calls.Call.{Call}
+use Rattle.mt_base.specs.declared.calls.Call.TheVariants.{Store}
 use Rattle.mt_base.specs.declared.kinds.Kind.{Kind}
 use Rattle.mt_base.specs.declared.replies.Reply.{Reply}
 use Rattle.mt_base.specs.declared.replies.Shortage.{Shortage}
 use Rattle.mt_base.specs.Call.{acted}
+use Rattle.mt_base.specs.Nodes.{is_exact_store}
 use Rattle.mt_free.specs.Book.{Book}
 use Rattle.mt_rows.specs.Publish.{MayFinish, IsCounted, IsFoundShort, map_by, finished}
 use Rattle.mt_rows.specs.Sheet.{Rooted, Sheet, OnlyReads, begun}
-use Rattle.mt_engine.specs.Engine.{IsDone, IsShortFor, IsEnded, DidOrLacked, IsAnswered, is_refusal}
+use Rattle.mt_engine.specs.Engine.{ChangesEntry, StoresExactly, IsDone, IsShortFor, IsEnded, DidOrLacked, IsAnswered, is_refusal}
 use Rattle.mt_engine.specs.Heights.{HasHeight, IsMeasured}
+use Rattle.mt_engine.specs.Plans.{IsStoreOf}
 use Rattle.mt_engine.specs.Prepared.{IsPrestored}
 use Rattle.mt_engine.specs.Stores.{IsStored}
 use Rattle.mt_engine.proofs.Moments.{ended_from, answer_from}
@@ -90,6 +93,19 @@ module _ (kind : Kind) (s s' : Sheet) (reads : Option ℕ) (book book' : Book) (
 
 pub stored_after_reads : (kind : Kind) (s s₁ s' : Sheet) (book book' : Book) (call : Call) (reply : Reply) → OnlyReads s s₁ → IsStored kind s₁ s' book book' call reply → IsStored kind s s' book book' call reply
 stored_after_reads kind s s₁ s' book book' call reply reads is = stored_was kind s s' s₁.reads book book' call reply (subst (λ (x : Sheet). IsStored kind x s' book book' call reply) reads is)
+
+-- ---- a store over just one range, which is the plan's
+
+pub stores_exactly : (s s₁ s₂ s' : Sheet) (book book' : Book) (call : Call) (reply : Reply) (first last entry : ℕ) → OnlyReads s s₁ → OnlyReads s₂ s' → IsStoreOf (map_by s.tree) call first last entry
+    → (call ≡ Store first last entry → is_exact_store (map_by s₁.tree) first last entry ≡ true → ChangesEntry s₁.tree s₂.tree s₁.lives s₂.lives book book' first entry) → StoresExactly s s' book book' call reply
+stores_exactly s s₁ s₂ s' book book' call reply first last entry before after own changes f l e is exact success =
+    let same : (f ≡ first) × (l ≡ last) × (e ≡ entry) = subst (λ (c : Call). IsStoreOf (map_by s.tree) c first last entry) is own in
+    let planned : call ≡ Store first last entry = is ∙ (λ i. Store (same.0 i) (same.1 i) (same.2 i)) in
+    let over : is_exact_store (map_by s.tree) first last entry ≡ true = (λ i. is_exact_store (map_by s.tree) (sym same.0 i) (sym same.1 i) (sym same.2 i)) ∙ exact in
+    let there = changes planned (subst (λ (x : Sheet). is_exact_store (map_by x.tree) first last entry ≡ true) (sym before) over) in
+    let here = subst (λ (x : Sheet). ChangesEntry x.tree s₂.tree x.lives s₂.lives book book' first entry) before there in
+    subst (λ (p : ℕ × ℕ). ChangesEntry s.tree s'.tree s.lives s'.lives book book' p.0 p.1) (λ i. (sym same.0 i, sym same.2 i))
+    (subst (λ (x : Sheet). ChangesEntry s.tree x.tree s.lives x.lives book book' first entry) (sym after) here)
 
 -- ---- from the begin of a call to its end
 

@@ -1,5 +1,5 @@
 -- By what a store is carried out, and what is known then.
-use Rattle.std.proofs.Common.{◌≡◌, ◌≢◌, ℕ, ◌+◌, ◌≤◌, List, Some, None, Option, true, false, length, refl, sym, ap, ◌∙◌, subst, inl, inr, arith}
+use Rattle.std.proofs.Common.{◌≡◌, ◌≢◌, ℕ, ◌+◌, ◌≤◌, List, Some, None, Option, true, false, length, refl, sym, ap, ◌∙◌, subst, inl, inr, arith, ne_eqb}
 use Rattle.mt_base.specs.declared.calls.Call.{Call}
 use Rattle.mt_base.specs.declared.calls.Call.TheVariants.{Store, StorePre, Insert, Erase, Alloc, Ralloc, Gap, Rgap, Clear}
 use Rattle.mt_base.specs.declared.kinds.Kind.{Kind}
@@ -7,7 +7,7 @@ use Rattle.mt_base.specs.declared.ranges.Range.{Range}
 use Rattle.mt_base.specs.declared.replies.Reply.{Reply}
 use Rattle.mt_base.specs.Call.{acted}
 use Rattle.mt_base.specs.Map.{IsMapFrom, over}
-use Rattle.mt_base.specs.Nodes.{Wants}
+use Rattle.mt_base.specs.Nodes.{Wants, is_exact_store}
 use Rattle.mt_base.specs.Width.{greatest, deepest}
 use Rattle.mt_free.specs.Book.{Book}
 use Rattle.mt_layout.specs.Rows.{named_kind}
@@ -35,7 +35,7 @@ use Rattle.mt_engine.specs.StoreBy.{IsExactly, IsDoneBy}
 use Rattle.mt_engine.proofs.Planning.{span_at_handle}
 use Rattle.mt_engine.proofs.SlotQueries.{not_none}
 use Rattle.mt_engine.proofs.Slots.{none_at_root, tree_map}
-use Rattle.mt_engine.proofs.Wanting.{unwanted, wanted, hole_over_hole, stays_replaces_none, exact_replaces_none, store_replaces, first_store_replaces}
+use Rattle.mt_engine.proofs.Wanting.{unwanted, wanted, hole_over_hole, stays_replaces_none, exact_replaces_none, inexact, store_replaces, first_store_replaces}
 
 module _ (kind : Kind) (t : Rooted) (tree : IsTreeOf t kind) (call : Call) (path : List PathStep) (first last entry : ℕ) (reply : Reply) (here : Option Handle) (plan : IsStorePlan kind t call path first last entry reply here) where
   abbrev m : List Range
@@ -67,7 +67,7 @@ module _ (kind : Kind) (t : Rooted) (tree : IsTreeOf t kind) (call : Call) (path
   exact_by (Some handle) at stands by = subst (λ (h : Handle). IsHereAt t first (Some h) × IsExactly h first last entry) (sym by.0) (stands, by.1)
 
   module _ (at : Handle) (by : IsDoneBy here first last entry (OneWord at)) where
-    one_stands : IsHereAt t first (Some at)
+    pub one_stands : IsHereAt t first (Some at)
     one_stands = (exact_by here at plan.stands by).0
 
     pub one_exact : IsExactly at first last entry
@@ -99,6 +99,25 @@ module _ (kind : Kind) (t : Rooted) (tree : IsTreeOf t kind) (call : Call) (path
 
   pub new_rows_replace : IsDoneBy here first last entry NewRows → Replaces kind m call
   new_rows_replace by = replaces_by here plan.stands by
+
+  -- ---- a store over just one range is by one word
+
+  no_word_inexact_at : (o : Option Handle) → IsDoneBy o first last entry NoWord → is_exact_store m first last entry ≡ false
+  no_word_inexact_at None none = ap (is_exact_store m first last) none
+  no_word_inexact_at (Some handle) by = ap (is_exact_store m first last) by.no_entry
+
+  pub no_word_inexact : IsDoneBy here first last entry NoWord → is_exact_store m first last entry ≡ false
+  no_word_inexact by = no_word_inexact_at here by
+
+  new_rows_inexact_at : (o : Option Handle) → IsHereAt t first o → IsDoneBy o first last entry NewRows → is_exact_store m first last entry ≡ false
+  new_rows_inexact_at None stands some = ap (λ (x : List Range). is_exact_store x first last entry) (none_at_root t (stands.none.0 refl)) ∙ rw (ne_eqb entry 0 some) refl
+  new_rows_inexact_at (Some handle) stands by =
+      inexact m top first last entry handle.span rise (span_at_handle t kind tree first handle within stands) plan.store.order plan.store.within
+      (λ hole. by.0 (record { no_entry = hole.0; hole = hole.1; over = hole.2 }))
+      (λ exact. by.1 (record { some_entry = exact.0; range = exact.1; from = exact.2; to = exact.3 }))
+
+  pub new_rows_inexact : IsDoneBy here first last entry NewRows → is_exact_store m first last entry ≡ false
+  new_rows_inexact by = new_rows_inexact_at here plan.stands by
 
   -- ---- which want some
 

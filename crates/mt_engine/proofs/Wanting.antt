@@ -187,7 +187,7 @@ module _ (m : List Range) (top first last entry : ℕ) (x : Span) (rise : IsMapF
   changes : over m first last entry ≢ m
   changes same = elim (cases_Bool (entry == 0)) [ inl none ↦ hole_changes same (eqb-true entry 0 none) | inr some ↦ entry_changes same (eqb-false entry 0 some) ]
 
-  inexact : is_exact_store m first last entry ≡ false
+  pub inexact : is_exact_store m first last entry ≡ false
   inexact = elim (cases_Bool (entry == 0)) [
     | inl none ↦ rw none refl
     | inr some ↦ elim (cases_Bool (x.word == 0)) [

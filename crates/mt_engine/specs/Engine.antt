@@ -1,6 +1,6 @@
 -- The rows of a tree and the book of them, between two calls of an engine and within one; and what a call does to them.
 -- Source: this project's own.
-use Rattle.std.specs.Prelude.{◌≡◌, ◌⊎◌, ℕ, ◌+◌, ◌*◌, ◌≤◌, Bool, true, false, List, [], ◌++◌, All, Option, length}
+use Rattle.std.specs.Prelude.{◌≡◌, ◌⊎◌, ℕ, ◌+◌, ◌*◌, ◌<◌, ◌≤◌, Bool, true, false, List, [], ◌++◌, All, Option, length}
 use Rattle.mt_base.specs.declared.calls.Call.{Call}
 use Rattle.mt_base.specs.declared.calls.Call.TheVariants.{Store, StorePre, Insert, Erase, Alloc, Ralloc, Gap, Rgap, Clear}
 use Rattle.mt_base.specs.declared.kinds.Kind.{Kind}
@@ -9,13 +9,17 @@ use Rattle.mt_base.specs.declared.replies.Reply.{Reply}
 use Rattle.mt_base.specs.declared.replies.Reply.TheVariants as answers
 use Rattle.mt_base.specs.declared.replies.Shortage.{Shortage}
 use Rattle.mt_base.specs.Call.{acted}
-use Rattle.mt_base.specs.Nodes.{Wants, IsRefused}
-use Rattle.mt_base.specs.Width.{columns, most_taken}
+use Rattle.mt_base.specs.Nodes.{Wants, IsRefused, is_exact_store}
+use Rattle.mt_base.specs.Width.{columns, most_taken, first_row}
 use Rattle.mt_free.specs.Book.{Book, Held, live_count, after_reclaim}
+use Rattle.mt_layout.specs.declared.names.RowKind.TheVariants.{Leaf}
+use Rattle.mt_layout.specs.Columns.{slot_column}
+use Rattle.mt_layout.specs.Sizes.{slots_of}
+use Rattle.mt_path.specs.Handles.{leaf_in}
 use Rattle.mt_rows.specs.declared.rows.Life.{Life}
 use Rattle.mt_rows.specs.declared.rows.Life.TheVariants.{Dead}
 use Rattle.mt_rows.specs.Trees.{height_in}
-use Rattle.mt_rows.specs.Sheet.{Rooted, Sheet, IsScan, RoseUpTo, life_of, limits_of}
+use Rattle.mt_rows.specs.Sheet.{Rooted, Sheet, IsScan, RoseUpTo, life_of, limits_of, with_word}
 use Rattle.mt_rows.specs.Publish.{IsTold, MayFinish, IsCounted, WasScanned, finished, map_by, with_record}
 use Rattle.mt_splice.specs.Kept.{IsKept}
 
@@ -156,12 +160,29 @@ pub record OnlySought (s s' : Sheet) (book book' : Book) : Type 0 where
   pub same_book : book' ≡ book
   pub reads : RoseUpTo (most_searched s.tree) s.reads s'.reads
 
+-- the words with another entry in the slot in which an index stands
+abbrev pub with_entry : Rooted → ℕ → ℕ → Rooted
+with_entry t index entry = with_word t (leaf_in t index).row (slot_column (slots_of t.table.width Leaf) (leaf_in t index).slot) entry
+
+-- The entry at an index is another, and nothing else: no other word, no row's life, and not the book.
+pub record ChangesEntry (t t' : Rooted) (lives lives' : List Life) (book book' : Book) (index entry : ℕ) : Type 0 where
+  pub tree : t' ≡ with_entry t index entry
+  pub each_life : (row : ℕ) → first_row ≤ row → row < first_row + t.rows → life_of lives' row ≡ life_of lives row
+  pub same_book : book' ≡ book
+
+-- a store of an entry over just the indexes of one range, where it is not refused, changes that range's entry
+abbrev pub StoresExactly : Sheet → Sheet → Book → Book → Call → Reply → Type 0
+StoresExactly s s' book book' call reply =
+    (first last entry : ℕ) → call ≡ Store first last entry → is_exact_store (map_by s.tree) first last entry ≡ true → is_refusal reply ≡ false
+    → ChangesEntry s.tree s'.tree s.lives s'.lives book book' first entry
+
 -- What a call is and leaves. It made one scan at the most.
 pub record IsApplied (kind : Kind) (s s' : Sheet) (book book' : Book) (call : Call) (reply : Reply) : Type 0 where
   pub ended : IsEnded kind s s' book' call reply
   pub scans : s'.scans ≤ 1
   pub answer : DidOrLacked kind s s' book book' call reply
   pub search : OnlySearches call reply → OnlySought s s' book book'
+  pub exact : StoresExactly s s' book book' call reply
 
 -- What a call in flight has come to when it may end with this reply: what it leaves by its end, and what it did.
 pub record IsAnswered (kind : Kind) (s s' : Sheet) (book book' : Book) (call : Call) (reply : Reply) : Type 0 where

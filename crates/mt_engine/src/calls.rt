@@ -1,7 +1,7 @@
 //! The calls that write, each by one publishing store at the most.
 
 ghost use Rattle.std.specs.Prelude.{◌≡◌, ◌+◌, ◌-◌, ◌^◌, ◌<◌};
-ghost use Rattle.mt_engine.specs.Engine.{IsInCall, IsAnswered, IsApplied, OnlySearches, OnlySought};
+ghost use Rattle.mt_engine.specs.Engine.{IsInCall, IsAnswered, IsApplied, OnlySearches, OnlySought, StoresExactly};
 ghost use Rattle.mt_engine.specs.Heights.{HasHeight, IsMeasured};
 
 use crate::heights::height_after;
@@ -30,6 +30,7 @@ fn perform<R: Rows>(
     ensures height { HasHeight (R.sheet rows.new).tree height.new }
     ensures answered { IsAnswered kind (R.sheet rows.old) (R.sheet rows.new) book.old book.new call.now result }
     ensures search { OnlySearches call.now result → OnlySought (R.sheet rows.old) (R.sheet rows.new) book.old book.new }
+    ensures exact { StoresExactly (R.sheet rows.old) (R.sheet rows.new) book.old book.new call.now result }
 {
     let mut path = Path::new();
     match plan_of(rows, kind, call, &mut path) {

@@ -1,11 +1,13 @@
 //! What a call comes to on the tree as it stands.
 
-ghost use Rattle.std.specs.Prelude.{◌≡◌, List, []};
+ghost use Rattle.std.specs.Prelude.{◌≡◌, ℕ, List, [], true};
 ghost use Rattle.mt_base.specs.declared.kinds.Kind.{Kind};
 ghost use Rattle.mt_base.specs.declared.calls.Call.TheVariants.{Store, StorePre, Insert, Erase, Clear};
+ghost use Rattle.mt_base.specs.declared.replies.Reply.{Reply};
 ghost use Rattle.mt_rows.specs.Publish.{IsTreeOf, IsLawfulOf};
 ghost use Rattle.mt_rows.specs.Sheet.{OnlyReads};
 ghost use Rattle.mt_path.specs.declared.paths.PathStep.{PathStep};
+ghost use Rattle.mt_engine.specs.Engine.{is_refusal};
 ghost use Rattle.mt_engine.specs.Plans.{IsPlan, IsSearched, is_taken};
 
 use crate::areas::{Sought, plan_allocation, plan_search};
@@ -45,6 +47,7 @@ pub fn plan_store<R: Rows>(
     requires empty { path.old.items ≡ [] }
     ensures plan { IsPlan kind (R.sheet rows.old).tree (Store first last entry) path.new.items result }
     ensures at_hand { IsPlan kind (R.sheet rows.old).tree (StorePre first last entry) path.new.items result }
+    ensures refused { (reply : Reply) → result ≡ Plan.Nothing reply → is_refusal reply ≡ true }
     ensures rest { OnlyReads (R.sheet rows.old) (R.sheet rows.new) }
 {
     if is_invalid(kind, first, last, entry) {
@@ -147,6 +150,7 @@ pub fn plan_of<R: Rows>(rows: &mut R, kind: Kind, call: &Call, path: &mut Path) 
     requires empty { path.old.items ≡ [] }
     ensures plan { IsPlan kind (R.sheet rows.old).tree call.now path.new.items result }
     ensures search { IsSearched (R.sheet rows.old) (R.sheet rows.new) call.now result }
+    ensures refused { (first last entry : ℕ) (reply : Reply) → call.now ≡ Store first last entry → result ≡ Plan.Nothing reply → is_refusal reply ≡ true }
     ensures rest { OnlyReads (R.sheet rows.old) (R.sheet rows.new) }
 {
     match *call {

@@ -1,15 +1,17 @@
 //! Stores into a tree: by no word, by one word, or by new rows.
 
-ghost use Rattle.std.specs.Prelude.{◌≡◌, ◌≢◌, ◌+◌, ◌-◌, ◌^◌, ◌<◌, IfOk, IfErr, false};
+ghost use Rattle.std.specs.Prelude.{◌≡◌, ◌≢◌, ◌+◌, ◌-◌, ◌^◌, ◌<◌, IfOk, IfErr, false, true};
 ghost use Rattle.mt_base.specs.declared.kinds.Kind.{Kind};
+ghost use Rattle.mt_base.specs.declared.calls.Call.TheVariants.{Store};
 ghost use Rattle.mt_base.specs.declared.replies.Reply.TheVariants.{NoNodes};
+ghost use Rattle.mt_base.specs.Nodes.{is_exact_store};
 ghost use Rattle.mt_layout.specs.declared.names.RowKind.TheVariants.{Leaf};
 ghost use Rattle.mt_layout.specs.Columns.{slot_column};
 ghost use Rattle.mt_layout.specs.Sizes.{slots_of};
 ghost use Rattle.mt_rows.specs.declared.rows.Place.TheVariants.{Slot};
-ghost use Rattle.mt_rows.specs.Publish.{IsTreeOf};
+ghost use Rattle.mt_rows.specs.Publish.{IsTreeOf, map_by};
 ghost use Rattle.mt_path.specs.Handles.{IsHandleOf};
-ghost use Rattle.mt_engine.specs.Engine.{IsInCall, IsAnswered};
+ghost use Rattle.mt_engine.specs.Engine.{IsInCall, IsAnswered, ChangesEntry};
 ghost use Rattle.mt_engine.specs.Heights.{SameHeight};
 ghost use Rattle.mt_engine.specs.Plans.{IsStorePlan};
 ghost use Rattle.mt_engine.specs.Stores.{HasRoomFor, IsStored, wants_by};
@@ -68,6 +70,7 @@ pub fn store_at_hand<R: Rows>(
     requires plan { IsStorePlan kind (R.sheet rows.old).tree call.now path.now.items first last entry reply.now here }
     requires room { HasRoomFor kind (R.sheet rows.old) book.old call.now }
     ensures stored { IsStored kind (R.sheet rows.old) (R.sheet rows.new) book.old book.new call.now reply.now }
+    ensures exact { is_exact_store (map_by (R.sheet rows.old).tree) first last entry ≡ true → ChangesEntry (R.sheet rows.old).tree (R.sheet rows.new).tree (R.sheet rows.old).lives (R.sheet rows.new).lives book.old book.new first entry }
     ensures height { result ≡ false → SameHeight (R.sheet rows.old).tree (R.sheet rows.new).tree }
 {
     match store_by(here, first, last, entry) {
@@ -107,6 +110,7 @@ pub fn store<R: Rows>(
     requires unscanned { (R.sheet rows.old).scans ≡ 0 }
     requires plan { IsStorePlan kind (R.sheet rows.old).tree call.now path.now.items first last entry reply.now here }
     ensures done { IfOk result (λ _. IsAnswered kind (R.sheet rows.old) (R.sheet rows.new) book.old book.new call.now reply.now) }
+    ensures exact { IfOk result (λ _. call.now ≡ Store first last entry → is_exact_store (map_by (R.sheet rows.old).tree) first last entry ≡ true → ChangesEntry (R.sheet rows.old).tree (R.sheet rows.new).tree (R.sheet rows.old).lives (R.sheet rows.new).lives book.old book.new first entry) }
     ensures height { IfOk result (λ is_new_root. is_new_root ≡ false → SameHeight (R.sheet rows.old).tree (R.sheet rows.new).tree) }
     ensures short { IfErr result (λ shortage. IsAnswered kind (R.sheet rows.old) (R.sheet rows.new) book.old book.new call.now (NoNodes shortage)) }
 {

@@ -16,5 +16,5 @@ returns g c =
     let s = g.R.Rows.sheet c.args.rows.now in
     let s' = g.R.Rows.sheet c.perform-reply.new.rows in
     let s″ = g.R.Rows.sheet c.finish.new.self in
-    let applied = applied_by c.args.kind s (g.R.Rows.sheet c.begin-number.new.self) s' s″ c.args.book.now c.perform-reply.new.book c.args.call.now c.perform-reply.result c.begin-number.ensures.rest c.perform-reply.ensures.answered c.perform-reply.ensures.search c.finish.ensures in
+    let applied = applied_by c.args.kind s (g.R.Rows.sheet c.begin-number.new.self) s' s″ c.args.book.now c.perform-reply.new.book c.args.call.now c.perform-reply.result c.begin-number.ensures.rest c.perform-reply.ensures.answered c.perform-reply.ensures.search c.perform-reply.ensures.exact c.finish.ensures in
     record { applied = applied; measured = measured_end c.args.kind s s' s″ c.perform-reply.new.book c.args.call.now c.perform-reply.result c.perform-reply.new.height applied.ended c.perform-reply.ensures.height c.finish.ensures }

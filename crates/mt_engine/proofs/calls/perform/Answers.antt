@@ -1,20 +1,21 @@
-use Rattle.std.proofs.Common.{refl, sym, ap, ◌∙◌, subst}
+use Rattle.std.proofs.Common.{◌≡◌, true, refl, sym, ap, ◌∙◌, subst}
 use Rattle.mt_base.specs.declared.calls.Call.{Call}
+use Rattle.mt_base.specs.declared.calls.Call.TheVariants.{Store, Clear}
 use Rattle.mt_base.specs.declared.replies.Reply.TheVariants.{NoNodes}
 use Rattle.mt_base.specs.declared.replies.Reply.TheVariants as reply
 use Rattle.mt_rows.specs.Publish.{map_by}
 use Rattle.mt_rows.specs.Sheet.{Rooted}
 use Rattle.mt_rows.specs.Trees.{height_in}
 use Rattle.mt_engine.specs.declared.plans.Plan.TheVariants.{Nothing}
-use Rattle.mt_engine.specs.Engine.{OnlySearches}
+use Rattle.mt_engine.specs.Engine.{OnlySearches, is_refusal}
 use Rattle.mt_engine.specs.Heights.{HasHeight}
 use Rattle.mt_engine.specs.Plans.{IsPlan, IsSearched, IsStorePlan}
-use Rattle.mt_engine.proofs.Answering.{may_clear_now, cleared_now}
+use Rattle.mt_engine.proofs.Answering.{not_both, may_clear_now, cleared_now}
 use Rattle.mt_engine.proofs.Finding.{store_is_no_search, success_is_not_busy, shortage_is_not_busy}
 use Rattle.mt_engine.proofs.Leaving.{leaves}
 use Rattle.mt_engine.proofs.Measured.{empty_height}
 use Rattle.mt_engine.proofs.Moments.{in_call_if_read, unscanned_if_read, answered_after_reads, tree_if_lawful}
-use Rattle.mt_engine.proofs.ReadAfter.{answered_before_reads, refusal_stays}
+use Rattle.mt_engine.proofs.ReadAfter.{answered_before_reads, refusal_stays, stores_exactly}
 use Rattle.mt_engine.proofs.calls.perform.Goals as goal
 use Rattle.mt_rows.proofs.Loads.{same_tree}
 
@@ -51,6 +52,7 @@ returns-in-Nothing g c =
           answered_after_reads c.args.kind s s₁ s₁ c.args.book.now c.args.book.now c.args.call.now c.in-Nothing.reply c.plan_of.ensures.rest
           (leaves c.args.kind s₁ c.args.book.now c.args.call.now c.in-Nothing.reply (in_call_if_read c.args.kind s s₁ c.args.book.now c.plan_of.ensures.rest c.requires.in_call) (unscanned_if_read s s₁ c.plan_of.ensures.rest c.requires.unscanned) plan₁.0 plan₁.1);
       search = λ only. record { tree = same_tree s s₁ c.plan_of.ensures.rest; same_book = refl; reads = (subst (IsSearched s s₁ c.args.call.now) c.in-Nothing.is c.plan_of.ensures.search) only };
+      exact = λ first last entry is over success. absurd (not_both (is_refusal c.in-Nothing.reply) (c.plan_of.ensures.refused first last entry c.in-Nothing.reply is c.in-Nothing.is) success);
     }
 
 pub returns-in-Empty : goal.returns-in-Empty
@@ -61,6 +63,7 @@ returns-in-Empty g c =
       height = empty_height (g.R.Rows.sheet c.clear.new.rows).tree c.clear.ensures.root;
       answered = cleared_now c.args.kind s (g.R.Rows.sheet c.plan_of.new.rows) c.args.book.now c.args.number c.args.call.now c.requires.in_call c.plan_of.ensures.rest c.requires.number plan (g.R.Rows.sheet c.clear.new.rows) c.clear.new.book c.requires.unscanned c.clear.ensures.spliced c.clear.ensures.none_taken c.clear.ensures.root;
       search = λ only. absurd (subst (λ (x : Call). OnlySearches x reply.Ok) plan.0 only);
+      exact = λ first last entry is over success. (let clash : Clear ≡ Store first last entry = sym plan.0 ∙ is in absurd (cc));
     }
 
 pub returns-in-Ok : goal.returns-in-Ok
@@ -75,6 +78,9 @@ returns-in-Ok g c =
           answered_after_reads c.args.kind s (g.R.Rows.sheet c.plan_of.new.rows) (g.R.Rows.sheet c.height_after.new.rows) c.args.book.now c.store.new.book c.args.call.now c.in-Store.reply c.plan_of.ensures.rest
           (answered_before_reads c.args.kind (g.R.Rows.sheet c.plan_of.new.rows) (g.R.Rows.sheet c.store.new.rows) (g.R.Rows.sheet c.height_after.new.rows) c.args.book.now c.store.new.book c.args.call.now c.in-Store.reply c.height_after.ensures.rest c.in-Ok.ensures.done);
       search = λ only. absurd (store_is_no_search (map_by s.tree) c.args.call.now c.in-Store.first c.in-Store.last c.in-Store.entry c.in-Store.reply plan.own (success_is_not_busy c.in-Store.reply plan.success) only);
+      exact =
+          stores_exactly s (g.R.Rows.sheet c.plan_of.new.rows) (g.R.Rows.sheet c.store.new.rows) (g.R.Rows.sheet c.height_after.new.rows) c.args.book.now c.store.new.book c.args.call.now c.in-Store.reply c.in-Store.first c.in-Store.last c.in-Store.entry
+          c.plan_of.ensures.rest c.height_after.ensures.rest plan.own c.in-Ok.ensures.exact;
     }
 
 pub returns-in-Err : goal.returns-in-Err
@@ -87,6 +93,7 @@ returns-in-Err g c =
           (sym (refusal_stays c.args.kind (g.R.Rows.sheet c.plan_of.new.rows) (g.R.Rows.sheet c.store.new.rows) c.args.book.now c.store.new.book c.args.call.now (NoNodes c.in-Err.shortage) refl c.in-Err.ensures.short.answer ∙ same_tree s (g.R.Rows.sheet c.plan_of.new.rows) c.plan_of.ensures.rest)) c.requires.height;
       answered = answered_after_reads c.args.kind s (g.R.Rows.sheet c.plan_of.new.rows) (g.R.Rows.sheet c.store.new.rows) c.args.book.now c.store.new.book c.args.call.now (NoNodes c.in-Err.shortage) c.plan_of.ensures.rest c.in-Err.ensures.short;
       search = λ only. absurd (store_is_no_search (map_by s.tree) c.args.call.now c.in-Store.first c.in-Store.last c.in-Store.entry (NoNodes c.in-Err.shortage) plan.own (shortage_is_not_busy c.in-Err.shortage) only);
+      exact = λ first last entry is over success. absurd (not_both true refl success);
     }
 
 -- ---- the height behind a store

@@ -1,13 +1,14 @@
-use Rattle.std.proofs.Common.{sym, ap, ◌∙◌, subst}
+use Rattle.std.proofs.Common.{◌≡◌, true, sym, ap, ◌∙◌, subst}
 use Rattle.std.proofs.lemmas.Result.{err_from_is_err_and}
+use Rattle.mt_base.specs.Nodes.{Wants, is_exact_store}
 use Rattle.mt_free.specs.Book.{Book}
 use Rattle.mt_rows.specs.Publish.{map_by}
 use Rattle.mt_rows.specs.Sheet.{Sheet}
 use Rattle.mt_rows.specs.Trees.{height_in}
-use Rattle.mt_engine.specs.Engine.{Replaces}
+use Rattle.mt_engine.specs.Engine.{ChangesEntry, Replaces}
 use Rattle.mt_engine.specs.Rooms.{HasRoom}
 use Rattle.mt_engine.specs.Stores.{IsStored}
-use Rattle.mt_engine.proofs.Answering.{at_once, after_scan}
+use Rattle.mt_engine.proofs.Answering.{not_both, at_once, after_scan}
 use Rattle.mt_engine.proofs.Leaving.{refuses}
 use Rattle.mt_engine.proofs.Moments.{tree_in_call}
 use Rattle.mt_engine.proofs.Storing.{path_height, store_wants, store_wants_none, store_replaces_none}
@@ -63,6 +64,26 @@ returns-clause-done g c =
           at_once c.args.kind s s' c.args.book.now book' c.args.call.now c.args.reply.now c.requires.unscanned c.requires.plan.success calm none
           (subst (λ (b : Book). IsStored c.args.kind s s' b book' c.args.call.now c.args.reply.now) w.book-is
           (subst (λ (x : Sheet). IsStored c.args.kind x s' c.if-wants_by.book book' c.args.call.now c.args.reply.now) (ap g.R.Rows.sheet w.rows-is) c.store_at_hand.ensures.stored)))
+    ]
+
+pub returns-clause-exact : goal.returns-clause-exact
+returns-clause-exact g c =
+    let s = g.R.Rows.sheet c.args.rows.now in
+    let s' = g.R.Rows.sheet c.store_at_hand.new.rows in
+    let book' = c.store_at_hand.new.book in
+    let first = c.args.first in
+    let last = c.args.last in
+    let entry = c.args.entry in
+    let tree = tree_in_call c.args.kind s c.args.book.now c.requires.in_call in
+    λ is exact.
+    elim c.if-wants_by.branch [
+      | then-wants_by+in_ok-make_room w ↦
+          (let wants = store_wants c.args.kind s.tree tree c.args.call.now c.args.path.now.items first last entry c.args.reply.now c.args.here c.requires.plan c.store_by.result c.store_by.ensures (sym c.wants_by.ensures ∙ w.if-wants_by.true) in
+          let inexact = (subst (Wants c.args.kind (map_by s.tree)) is wants).1 in
+          absurd (not_both (is_exact_store (map_by s.tree) first last entry) exact inexact))
+      | else-wants_by w ↦
+          (subst (λ (b : Book). ChangesEntry s.tree s'.tree s.lives s'.lives b book' first entry) w.book-is
+          (subst (λ (x : Sheet). is_exact_store (map_by x.tree) first last entry ≡ true → ChangesEntry x.tree s'.tree x.lives s'.lives c.if-wants_by.book book' first entry) (ap g.R.Rows.sheet w.rows-is) c.store_at_hand.ensures.exact exact))
     ]
 
 pub returns-clause-height : goal.returns-clause-height

@@ -1,15 +1,16 @@
 use Rattle.std.proofs.Common.{List, sym, ap, ◌∙◌, subst}
 use Rattle.mt_base.specs.declared.ranges.Range.{Range}
 use Rattle.mt_base.specs.declared.replies.Reply.{Reply}
+use Rattle.mt_base.specs.Nodes.{is_exact_store}
 use Rattle.mt_rows.specs.declared.rows.Place.{Place}
-use Rattle.mt_rows.specs.Publish.{MayPublish, Published}
+use Rattle.mt_rows.specs.Publish.{MayPublish, Published, map_by}
 use Rattle.mt_engine.specs.StoreBy.{IsDoneBy}
-use Rattle.mt_engine.proofs.Answering.{may_mend, was_way, rows_stored}
+use Rattle.mt_engine.proofs.Answering.{not_both, may_mend, was_way, rows_stored}
 use Rattle.mt_engine.proofs.Leaving.{stays_stored}
 use Rattle.mt_engine.proofs.Moments.{tree_in_call}
-use Rattle.mt_engine.proofs.OneWord.{may_publish_entry, entry_stored, entry_height}
+use Rattle.mt_engine.proofs.OneWord.{may_publish_entry, entry_stored, entry_height, changes_entry}
 use Rattle.mt_engine.proofs.SameHeight.{height_stays}
-use Rattle.mt_engine.proofs.Storing.{no_word_acts, one_exact, one_handle, one_store, new_rows_replace, may_replace_now}
+use Rattle.mt_engine.proofs.Storing.{no_word_acts, no_word_inexact, new_rows_inexact, one_stands, one_exact, one_handle, one_store, new_rows_replace, may_replace_now}
 use Rattle.mt_engine.proofs.stores.store_at_hand.Goals as goal
 
 -- ---- by no word
@@ -20,6 +21,15 @@ returns-in-NoWord-clause-stored g c =
     let tree = tree_in_call c.args.kind s c.args.book.now c.requires.in_call in
     let by = subst (IsDoneBy c.args.here c.args.first c.args.last c.args.entry) c.in-NoWord.is c.store_by.ensures in
     stays_stored c.args.kind s c.args.book.now c.args.call.now c.args.reply.now c.requires.in_call (no_word_acts c.args.kind s.tree tree c.args.call.now c.args.path.now.items c.args.first c.args.last c.args.entry c.args.reply.now c.args.here c.requires.plan by)
+
+pub returns-in-NoWord-clause-exact : goal.returns-in-NoWord-clause-exact
+returns-in-NoWord-clause-exact g c =
+    let s = g.R.Rows.sheet c.args.rows.now in
+    let tree = tree_in_call c.args.kind s c.args.book.now c.requires.in_call in
+    let by = subst (IsDoneBy c.args.here c.args.first c.args.last c.args.entry) c.in-NoWord.is c.store_by.ensures in
+    λ exact.
+    absurd (not_both (is_exact_store (map_by s.tree) c.args.first c.args.last c.args.entry) exact
+    (no_word_inexact c.args.kind s.tree tree c.args.call.now c.args.path.now.items c.args.first c.args.last c.args.entry c.args.reply.now c.args.here c.requires.plan by))
 
 -- ---- by one word
 
@@ -50,6 +60,19 @@ returns-in-OneWord-clause-stored g c =
     let s' = g.R.Rows.sheet c.publish.new.self in
     entry_stored c.args.kind s c.args.book.now c.in-OneWord.at c.args.entry c.args.call.now c.args.reply.now (g.met.R.Rows.whole c.args.rows.now) c.requires.in_call (one_handle c.args.kind s.tree tree c.args.call.now c.args.path.now.items c.args.first c.args.last c.args.entry c.args.reply.now c.args.here c.requires.plan c.in-OneWord.at by) exact.range exact.some_entry
     (one_store c.args.kind s.tree tree c.args.call.now c.args.path.now.items c.args.first c.args.last c.args.entry c.args.reply.now c.args.here c.requires.plan c.in-OneWord.at by) s' (subst (λ (p : Place). Published s s' p c.args.entry c.args.call.now c.args.reply.now) c.place_of-place.ensures c.publish.ensures)
+
+pub returns-in-OneWord-clause-exact : goal.returns-in-OneWord-clause-exact
+returns-in-OneWord-clause-exact g c =
+    let s = g.R.Rows.sheet c.args.rows.now in
+    let tree = tree_in_call c.args.kind s c.args.book.now c.requires.in_call in
+    let by = subst (IsDoneBy c.args.here c.args.first c.args.last c.args.entry) c.in-OneWord.is c.store_by.ensures in
+    let exact = one_exact c.args.kind s.tree tree c.args.call.now c.args.path.now.items c.args.first c.args.last c.args.entry c.args.reply.now c.args.here c.requires.plan c.in-OneWord.at by in
+    let s' = g.R.Rows.sheet c.publish.new.self in
+    λ _.
+    changes_entry c.args.kind s c.args.book.now c.in-OneWord.at c.args.entry c.args.call.now c.args.reply.now (g.met.R.Rows.whole c.args.rows.now) c.requires.in_call (one_handle c.args.kind s.tree tree c.args.call.now c.args.path.now.items c.args.first c.args.last c.args.entry c.args.reply.now c.args.here c.requires.plan c.in-OneWord.at by) exact.range exact.some_entry
+    (one_store c.args.kind s.tree tree c.args.call.now c.args.path.now.items c.args.first c.args.last c.args.entry c.args.reply.now c.args.here c.requires.plan c.in-OneWord.at by) s' c.args.first
+    (one_stands c.args.kind s.tree tree c.args.call.now c.args.path.now.items c.args.first c.args.last c.args.entry c.args.reply.now c.args.here c.requires.plan c.in-OneWord.at by).some
+    (subst (λ (p : Place). Published s s' p c.args.entry c.args.call.now c.args.reply.now) c.place_of-place.ensures c.publish.ensures)
 
 pub returns-in-OneWord-clause-height : goal.returns-in-OneWord-clause-height
 returns-in-OneWord-clause-height g c =
@@ -93,6 +116,15 @@ returns-in-NewRows-clause-stored g c =
     let replaces = new_rows_replace c.args.kind s.tree tree c.args.call.now c.args.path.now.items c.args.first c.args.last c.args.entry c.args.reply.now c.args.here c.requires.plan by in
     rows_stored c.args.kind s (g.R.Rows.sheet c.replace_range-spliced.new.rows) (g.R.Rows.sheet c.mend_at.new.rows) c.args.book.now c.replace_range-spliced.new.book c.args.number c.args.call.now c.args.reply.now c.replace_range-spliced.result.place c.args.first c.args.last
     c.requires.in_call c.requires.number replaces (ap (λ (was : List Range × Reply). was.1) c.requires.plan.store.acts) c.replace_range-spliced.ensures.spliced c.mend_at.ensures
+
+pub returns-in-NewRows-clause-exact : goal.returns-in-NewRows-clause-exact
+returns-in-NewRows-clause-exact g c =
+    let s = g.R.Rows.sheet c.args.rows.now in
+    let tree = tree_in_call c.args.kind s c.args.book.now c.requires.in_call in
+    let by = subst (IsDoneBy c.args.here c.args.first c.args.last c.args.entry) c.in-NewRows.is c.store_by.ensures in
+    λ exact.
+    absurd (not_both (is_exact_store (map_by s.tree) c.args.first c.args.last c.args.entry) exact
+    (new_rows_inexact c.args.kind s.tree tree c.args.call.now c.args.path.now.items c.args.first c.args.last c.args.entry c.args.reply.now c.args.here c.requires.plan by))
 
 pub returns-in-NewRows-clause-height : goal.returns-in-NewRows-clause-height
 returns-in-NewRows-clause-height g c =
