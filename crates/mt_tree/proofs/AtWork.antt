@@ -38,7 +38,7 @@ pub record AtWork (t : Tree) (i : Identity) (b : Behind) (p : known.Pass) (e : P
   pub sheet : e.sheet ≡ sheet_told i b.pen (shown_pass b.pen p)
   pub shown : WasShown (opened t) b.pen p (shown_pass b.pen p)
 
-at_rest : (tools : Option Tools) → IsAtRest tools → (height : ℕ) × IsKept (behind_of tools).pen (behind_of tools).parts height
+pub at_rest : (tools : Option Tools) → IsAtRest tools → (height : ℕ) × IsKept (behind_of tools).pen (behind_of tools).parts height
 at_rest None rest = absurd rest
 at_rest (Some t) rest = (t.height, rest.1)
 

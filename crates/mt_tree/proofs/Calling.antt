@@ -68,7 +68,7 @@ module _ (t : Tree) (i : Identity) (b : Behind) (p : known.Pass) (e e' : Parts) 
     abbrev made : Record
     made = record { pass = p.number; call = call; reply = reply }
 
-    known_then : (q ≡ pass_of_told (told_after t i b p e w call reply)) × (records_of (behind_of tools).pen.history ≡ seen ++ made ∷ [])
+    pub known_then : (q ≡ pass_of_told (told_after t i b p e w call reply)) × (records_of (behind_of tools).pen.history ≡ seen ++ made ∷ [])
     known_then = back.knows (told_after t i b p e w call reply) (told_more t i b p e w e' call reply ended.record_told)
 
     pub seen_then : q.seen ≡ records_of (behind_of tools).pen.history
@@ -182,6 +182,7 @@ module _ (t : Tree) (i : Identity) (b : Behind) (p : known.Pass) (e e' : Parts) 
           sheet = ap (λ (x : Parts). x.sheet) back.parts ∙ (ap (λ (s : Sheet). record (unscanned s) { told = None }) scan.rest ∙ (λ k. record (bare_is k).sheet { cleared = sym cleared k }));
           rises = omega (arith, rises, cleared, was);
           scan = e'.sheet.scan;
+          scanned = back.scanned (let more = ap (λ (s : Sheet). s.scans) scan.rest in omega (arith, more));
           least = scan.answer.least;
           of = subst (λ (n : ℕ). IsAmong e'.sheet.scan.by n) (passes_is t i b p e w) (scan_among e.sheet.shared e'.sheet (told_at t i b p e w) e.sheet.told scan.answer (told_is t i b p e w));
           freed = ap (λ (x : Parts). x.book) back.parts ∙ (scan.freed ∙ ap (λ (x : Book). after_reclaim x e'.sheet.scan.least) w.book);

@@ -18,7 +18,7 @@ use Rattle.mt_rows.specs.Sheet.{Sheet, Told}
 use Rattle.mt_rule.specs.declared.views.PenPart.{PenPart}
 use Rattle.mt_rule.specs.declared.views.Shape.{Shape}
 use Rattle.mt_rule.specs.Rule as rule
-use Rattle.mt_rule.specs.Seats.{record_of, records_of, sheet_of, tree_of, rooted_in}
+use Rattle.mt_rule.specs.Seats.{pen_joined, record_of, records_of, sheet_of, tree_of, rooted_in}
 use Rattle.mt_rule.specs.Tokens.{Identity}
 use Rattle.mt_engine.proofs.Levelled.{levelled}
 use Rattle.mt_engine.proofs.Moments.{tree_if_lawful}
@@ -81,6 +81,9 @@ module _ (i : Identity) (p : PenPart) (q : known.Pass) (s : Sheet) (kind : Kind)
     }
 
 -- ---- behind the lock
+
+pub kept_shown : (p : PenPart) (e : Parts) (height : ℕ) → IsKept p e height → IsKept (pen_joined p) e height
+kept_shown p e height k = record { dealt = k.dealt; of = k.of; idle = k.idle; few = k.few; levels = k.levels }
 
 pub few_levels : (p : PenPart) (e : Parts) (height : ℕ) → IsKept p e height → height ≤ deepest
 few_levels p e height kept = (let low = (levelled e.sheet.tree e.kind (tree_if_lawful e.sheet.tree e.kind kept.idle.state.kept.lawful)).low in omega (arith, low, kept.levels))

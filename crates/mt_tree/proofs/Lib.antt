@@ -1,3 +1,4 @@
+pub mod Answering
 pub mod AtWork
 pub mod Calling
 pub mod Copying

@@ -14,9 +14,11 @@ use Rattle.mt_rule.specs.declared.passes.Pass.{Pass}
 use Rattle.mt_rule.specs.declared.views.PenPart.{PenPart}
 use Rattle.mt_rule.specs.declared.views.Shape.{Shape}
 use Rattle.mt_rule.specs.Rule.{IsOneHistory}
-use Rattle.mt_rule.specs.Seats.{records_of}
+use Rattle.mt_rule.specs.Seats.{pen_joined, records_of}
 use Rattle.mt_rule.specs.Tokens.{pass_in, WasShown}
+use Rattle.mt_rule.proofs.Moving.{shown_with}
 use Rattle.mt_tree.specs.declared.trees.Tree.{Tree}
+use Rattle.mt_tree.specs.Behind.{Behind, after_show}
 use Rattle.mt_tree.specs.Trees.{opened, place_of, passes_of, seen_by, IsPassOf, AreAll}
 use Rattle.mt_tree.proofs.Lists.{some_same, get_set, from_map}
 
@@ -67,6 +69,12 @@ one_more t pen n ps qs d x s low of shown =
           (λ (y : (i ≢ n) × (slice_get qs i ≡ Some q)). s.left i p q is y.1 (omega arith))
           (get_set qs n i x q is');
     }
+
+-- a pen that was shown since is told of no section words, and what it has shown is the same
+pub shown_since : (t : Tree) (a b : Behind) (p q : known.Pass) → after_show a ≡ after_show b → Shown t a.pen p q → Shown t b.pen p q
+shown_since t a b p q same shown =
+    let there : Shown t (after_show b).pen p q = subst (λ (x : Behind). Shown t x.pen p q) same (shown_with (opened t) a.pen p q [] shown.0, shown.1) in
+    (shown_with (opened t) (pen_joined b.pen) p q b.pen.sections there.0, there.1)
 
 -- ---- all have seen it
 

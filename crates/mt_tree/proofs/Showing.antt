@@ -4,10 +4,10 @@ use Rattle.mt_base.specs.History.{History}
 use Rattle.mt_base.specs.Passes as known
 use Rattle.mt_rule.specs.declared.views.PassPart.{PassPart}
 use Rattle.mt_rule.specs.declared.views.PenPart.{PenPart}
-use Rattle.mt_rule.specs.Seats.{known_by}
+use Rattle.mt_rule.specs.Seats.{known_by, pen_joined}
 use Rattle.mt_rule.specs.Tokens.{WasShown}
 
-pub shown_parted : (tree : History) (pen pen' : PenPart) (p : known.Pass) (before joined q : PassPart) → WasShown tree pen p (known_by joined) → joined ≡ record before { seen = pen.history; ended = pen.ended } → pen' ≡ pen
+pub shown_parted : (tree : History) (pen pen' : PenPart) (p : known.Pass) (before joined q : PassPart) → WasShown tree pen p (known_by joined) → joined ≡ record before { seen = pen.history; ended = pen.ended } → pen' ≡ pen_joined pen
     → q ≡ record joined { ended = pen'.ended } → WasShown tree pen p (known_by q)
 shown_parted tree pen pen' p before joined q shown one two three =
     let ended = ap (λ (x : PenPart). x.ended) two ∙ sym (ap (λ (x : PassPart). x.ended) one) in

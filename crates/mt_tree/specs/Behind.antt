@@ -14,7 +14,7 @@ use Rattle.mt_rows.specs.Publish.{map_by}
 use Rattle.mt_rule.specs.declared.views.Moment.{Moment}
 use Rattle.mt_rule.specs.declared.views.PenPart.{PenPart}
 use Rattle.mt_rule.specs.declared.views.Shape.{Shape}
-use Rattle.mt_rule.specs.Seats.{no_pen, records_of, sheet_of, tree_of}
+use Rattle.mt_rule.specs.Seats.{no_pen, pen_joined, records_of, sheet_of, tree_of}
 use Rattle.mt_rule.specs.Tokens.{Identity, IsAlone, identity_of_pen, pen_in}
 use Rattle.mt_tree.specs.declared.behind.Tools.{Tools}
 
@@ -55,6 +55,10 @@ pub record IsKept (p : PenPart) (e : Parts) (height : ℕ) : Type 0 where
 abbrev pub IsAtRest : Option Tools → Type 0
 IsAtRest (Some t) = IsAlone t.pen × IsKept (pen_in t.pen) (parts_of (pen_in t.pen) t.book) t.height
 IsAtRest None = ⊥
+
+-- the same when a pass was shown the history: no section word was loaded since
+abbrev pub after_show : Behind → Behind
+after_show b = record b { pen = pen_joined b.pen }
 
 -- a store may be made for which rows are at hand
 abbrev pub IsReady : Parts → Type 0

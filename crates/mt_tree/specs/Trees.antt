@@ -1,31 +1,36 @@
 -- A tree that threads share, its passes, and what its calls say of the words that lie behind its lock.
 -- Source: this project's own; the kernel's struct maple_tree and its spinlock.
-use Rattle.std.specs.Prelude.{◌≡◌, ◌≢◌, ◌⊎◌, ℕ, ◌-◌, ◌^◌, ◌≤◌, ◌<◌, Option, Some, None, IfSome, List, [], ◌∷◌, All, length, map, slice_get}
+use Rattle.std.specs.Prelude.{◌≡◌, ◌≢◌, ◌⊎◌, ℕ, ◌-◌, ◌^◌, ◌≤◌, ◌<◌, Option, Some, None, IfSome, List, [], ◌∷◌, All, length, map, slice_get, take}
 use Rattle.std.specs.List.{range_with_len}
 use Rattle.atomic_table.specs.declared.shared.Seat.{Seat}
+use Rattle.mt_base.specs.declared.calls.Call.{Call}
 use Rattle.mt_base.specs.declared.ranges.Range.{Range}
 use Rattle.mt_base.specs.declared.replies.Holder.{Holder}
 use Rattle.mt_base.specs.declared.replies.Reply.{Reply}
 use Rattle.mt_base.specs.declared.replies.Shortage.{Shortage}
-use Rattle.mt_base.specs.History.{History, last_map, limits_after}
-use Rattle.mt_base.specs.Nodes.{IsShort}
+use Rattle.mt_base.specs.Call.{acted}
+use Rattle.mt_base.specs.History.{History, Record, last_map, limits_after}
+use Rattle.mt_base.specs.Nodes.{IsRefused, IsShort, Wants}
 use Rattle.mt_base.specs.Passes as known
 use Rattle.mt_base.specs.Passes.{holder_of, with_records, new_pass}
 use Rattle.mt_engine.specs.Engine.{TellsBook}
+use Rattle.mt_engine.specs.Rooms.{HasRoom}
 use Rattle.mt_free.specs.Book.{after_reclaim}
 use Rattle.mt_rows.specs.declared.rows.Scan.{Scan}
-use Rattle.mt_rows.specs.Publish.{IsCounted}
+use Rattle.mt_rows.specs.Publish.{IsCounted, map_by}
 use Rattle.mt_rule.specs.declared.passes.Pass.{Pass}
 use Rattle.mt_rule.specs.declared.notes.Note.{Note}
 use Rattle.mt_rule.specs.declared.views.TurnView.{TurnView}
+use Rattle.mt_rule.specs.Scans.{IsScanOf}
 use Rattle.mt_rule.specs.Seats.{records_of}
 use Rattle.mt_rule.specs.Tokens as rule
 use Rattle.mt_rule.specs.Tokens.{Identity, identity_of, tree_in, pass_in}
 use Rattle.mt_rule.specs.Turns.{IsSeatedAt, IsTakenOf}
+use Rattle.mt_tree.specs.declared.shapes.Done.{Done}
 use Rattle.mt_tree.specs.declared.shapes.Shape.{Shape}
 use Rattle.mt_tree.specs.declared.shapes.Worn.{Worn}
 use Rattle.mt_tree.specs.declared.trees.Tree.{Tree}
-use Rattle.mt_tree.specs.Behind.{Behind}
+use Rattle.mt_tree.specs.Behind.{Behind, IsKept}
 
 abbrev pub place_of : Tree → Identity
 place_of t = identity_of t.table
@@ -89,9 +94,9 @@ pub record IsOpen (t : Tree) (p : Pass) (behind : Behind) (seat : Seat (Option B
 abbrev pub NamesPass : Tree → Reply → Type 0
 NamesPass t reply = IfSome (holder_of reply) (λ holder. holder.pass < passes_of t)
 
--- The section words were scanned, and the held rows are free that no section holds. The least epoch is that of the holder that
--- the scan found, a pass of the tree; it is the greatest number where no section stands open. All words, and the history, are as
--- they were.
+-- The section words were scanned, as those show that were loaded last, and the held rows are free that no section holds. The least
+-- epoch is that of the holder that the scan found, a pass of the tree; it is the greatest number where no section stands open. All
+-- words, and the history, are as they were.
 pub record WasPrepared (t : Tree) (b b' : Behind) : Type 0 where
   pub table : b'.table ≡ b.table
   pub records : records_of b'.pen.history ≡ records_of b.pen.history
@@ -99,6 +104,7 @@ pub record WasPrepared (t : Tree) (b b' : Behind) : Type 0 where
   pub sheet : b'.parts.sheet ≡ record b.parts.sheet { cleared = b'.parts.sheet.cleared }
   pub rises : b.parts.sheet.cleared ≤ b'.parts.sheet.cleared
   pub scan : Scan
+  pub scanned : IsScanOf b'.pen.sections (passes_of t) scan
   pub least : ((scan.by ≡ None) × (scan.least ≡ 2 ^ 64 - 1)) ⊎ ((holder : Holder) × (scan.by ≡ Some holder) × (scan.least ≡ holder.epoch))
   pub of : IfSome scan.by (λ holder. holder.pass < passes_of t)
   pub freed : b'.parts.book ≡ after_reclaim b.parts.book scan.least
@@ -112,3 +118,52 @@ pub record IsShortNow (t : Tree) (p : known.Pass) (b b' : Behind) (shortage : Sh
   pub counted : IsCounted (record b'.parts.sheet { scan = prepared.scan }) shortage
   pub tells : TellsBook b'.parts.book shortage
   pub by : p.standing ≡ None → IfSome shortage.by (λ holder. holder.pass ≢ p.number)
+
+-- ---- how a call is answered by what lies behind the lock
+
+-- This lies behind the lock of the tree after these calls: no call is in flight, and the words, of which the book tells, are lawful
+-- and stand for the map then.
+pub record LiesBehind (t : Tree) (calls : List Record) (b : Behind) : Type 0 where
+  pub table : b.table ≡ place_of t
+  pub shape : b.pen.shape ≡ (place_of t).shape
+  pub records : records_of b.pen.history ≡ calls
+  pub height : ℕ
+  pub kept : IsKept b.pen b.parts height
+
+-- the call makes the words what it says, and is answered so
+abbrev pub Acts : Behind → Behind → Call → Reply → Type 0
+Acts b b' call reply = acted b.parts.kind (map_by b.parts.sheet.tree) call ≡ (map_by b'.parts.sheet.tree, reply)
+
+-- rows enough are free for any call, when the held ones were freed that no section holds, as the scan found
+abbrev pub LeavesRoom : Scan → Behind → Type 0
+LeavesRoom scan b = HasRoom b.parts.sheet.tree (after_reclaim b.parts.book scan.least)
+
+-- The call is refused for want of rows. The shortage tells the height and the book of the rows, when the held ones were freed, and
+-- whose section holds rows back, as the scan found it. All words are as they were.
+pub record LacksRows (t : Tree) (b b' : Behind) (scan : Scan) (call : Call) (reply : Reply) : Type 0 where
+  pub refused : IsRefused b.parts.kind (limits_after (opened t) (length b.pen.history)) (map_by b.parts.sheet.tree) call reply
+  pub counted : IsCounted (record b'.parts.sheet { scan = scan }) refused.shortage
+  pub tells : TellsBook (after_reclaim b.parts.book scan.least) refused.shortage
+  pub kept : b'.parts.sheet.tree ≡ b.parts.sheet.tree
+
+-- The section words were scanned for the call, as those show that were loaded last. It is made where the scan leaves room, and
+-- only there; else it is refused.
+pub record IsDecided (t : Tree) (b b' : Behind) (call : Call) (reply : Reply) : Type 0 where
+  pub scan : Scan
+  pub scanned : IsScanOf b'.pen.sections (passes_of t) scan
+  pub room : LeavesRoom scan b → Acts b b' call reply
+  pub lacks : ¬ LeavesRoom scan b → LacksRows t b b' scan call reply
+
+-- A call that wants rows is decided by how many are free. Any other is made, and no section word is loaded for it.
+pub record IsAnswered (t : Tree) (b b' : Behind) (call : Call) (reply : Reply) : Type 0 where
+  pub wants : Wants b.parts.kind (map_by b.parts.sheet.tree) call → IsDecided t b b' call reply
+  pub calm : ¬ Wants b.parts.kind (map_by b.parts.sheet.tree) call → Acts b b' call reply × (b'.pen.sections ≡ [])
+
+-- The call, the last that the pass has seen, was answered by what lay behind the lock after the calls before it, and left this.
+pub record WasAnsweredBy (t : Tree) (q : known.Pass) (b b' : Behind) (call : Call) (d : Done) : Type 0 where
+  pub before : LiesBehind t (take (d.call - 1) q.seen) b
+  pub after : LiesBehind t q.seen b'
+  pub answer : IsAnswered t b b' call d.reply
+
+abbrev pub WasAnswered : Tree → known.Pass → Call → Done → Type 0
+WasAnswered t q call d = (b : Behind) × (b' : Behind) × WasAnsweredBy t q b b' call d

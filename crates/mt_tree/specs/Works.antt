@@ -1,6 +1,6 @@
 -- A call at work on the rows of a tree: what it begins with, and what it leaves behind the lock.
 -- Source: this project's own.
-use Rattle.std.specs.Prelude.{◌≡◌, Option, Some, None, List, [], ◌∷◌, length}
+use Rattle.std.specs.Prelude.{◌≡◌, ◌≤◌, Option, Some, None, List, [], ◌∷◌, length}
 use Rattle.atomic_table.specs.declared.badge.Badge.{Badge}
 use Rattle.mt_base.specs.History.{Record}
 use Rattle.mt_base.specs.Passes as known
@@ -10,13 +10,14 @@ use Rattle.mt_rows.specs.Sheet.{Told}
 use Rattle.mt_rule.specs.declared.passes.Pass.{Pass}
 use Rattle.mt_rule.specs.declared.views.PenPart.{PenPart}
 use Rattle.mt_rule.specs.declared.views.TurnView.{TurnView}
+use Rattle.mt_rule.specs.Scans.{IsScanOf}
 use Rattle.mt_rule.specs.Seats.{records_of}
 use Rattle.mt_rule.specs.Tokens.{Identity, pass_in, turn_seat}
 use Rattle.mt_rule.specs.Turns.{waiting}
 use Rattle.mt_tree.specs.declared.behind.Tools.{Tools}
 use Rattle.mt_tree.specs.declared.trees.Tree.{Tree}
 use Rattle.mt_tree.specs.Behind.{behind_of, IsAtRest}
-use Rattle.mt_tree.specs.Trees.{opened, place_of, IsPassOf}
+use Rattle.mt_tree.specs.Trees.{opened, passes_of, place_of, IsPassOf}
 
 -- The tools lie behind the tree's lock, and the pass, which is one of the tree's, is the one that works with them.
 pub record IsWorker (t : Tree) (tools : Option Tools) (p : Pass) (table : Identity) (turn : Badge TurnView) : Type 0 where
@@ -44,7 +45,8 @@ abbrev pub records_told : Option Told → List Record
 records_told None = []
 records_told (Some t) = t.records
 
--- The tools are back behind the tree's lock, with these rows and their book; and the pass knows what its rows told.
+-- The tools are back behind the tree's lock, with these rows and their book; and the pass knows what its rows told. Where scans
+-- were made, the section words that were loaded last are those of the last scan; where none was, no such word was loaded.
 pub record AreBack (t : Tree) (e : Parts) (tools : Option Tools) (p : Pass) : Type 0 where
   pub rest : IsAtRest tools
   pub of : (behind_of tools).table ≡ place_of t
@@ -52,3 +54,5 @@ pub record AreBack (t : Tree) (e : Parts) (tools : Option Tools) (p : Pass) : Ty
   pub pass : IsPassOf t p
   pub sound : known.IsSound (opened t) (pass_in p)
   pub knows : (told : Told) → e.sheet.told ≡ Some told → (pass_in p ≡ pass_of_told told) × (records_of (behind_of tools).pen.history ≡ told.records)
+  pub scanned : 1 ≤ e.sheet.scans → IsScanOf (behind_of tools).pen.sections (passes_of t) e.sheet.scan
+  pub unscanned : e.sheet.scans ≡ 0 → (behind_of tools).pen.sections ≡ []

@@ -1,14 +1,14 @@
 //! What lies behind the lock of a tree.
 
-ghost use Rattle.std.specs.Prelude.{◌≡◌, ◌↔◌, ◌<◌, ◌≤◌, Some, None, true, length, IsOk, IsTrue, IfOk, IfErr};
+ghost use Rattle.std.specs.Prelude.{◌≡◌, ◌↔◌, ◌<◌, ◌≤◌, Some, None, true, [], length, IsOk, IsTrue, IfOk, IfErr};
 ghost use Rattle.mt_base.specs.declared.calls.Call.TheVariants.{StorePre};
 ghost use Rattle.mt_base.specs.Passes as known;
 ghost use Rattle.mt_base.specs.Passes.{Wrote};
 ghost use Rattle.mt_engine.specs.Engine.{is_refusal};
 ghost use Rattle.mt_rule.specs.Seats.{records_of};
 ghost use Rattle.mt_rule.specs.Tokens.{pass_in, WasShown};
-ghost use Rattle.mt_tree.specs.Behind.{IsReady, IsRead, IsStored};
-ghost use Rattle.mt_tree.specs.Trees.{opened, limit_of, map_seen, place_of, IsPassOf, IsShortNow, IsWorn, NamesPass, WasPrepared};
+ghost use Rattle.mt_tree.specs.Behind.{after_show, IsReady, IsRead, IsStored};
+ghost use Rattle.mt_tree.specs.Trees.{opened, limit_of, map_seen, place_of, IsPassOf, IsShortNow, IsWorn, NamesPass, WasAnsweredBy, WasPrepared};
 
 use crate::shapes::{Done, Read, Worn};
 use crate::trees::Tree;
@@ -54,7 +54,7 @@ impl WriterState {
     pub(crate) fn show(&mut self, tree: &Tree, pass: &mut Pass) -> u64
         requires table { self.old.table ≡ place_of tree.now }
         requires pass { IsPassOf tree.now pass.old }
-        ensures state { self.new ≡ self.old }
+        ensures state { self.new ≡ after_show self.old }
         ensures of { IsPassOf tree.now pass.new }
         ensures shown { WasShown (opened tree.now) self.old.pen (pass_in pass.old) (pass_in pass.new) }
         ensures count { result ≡ length self.old.pen.history }
@@ -97,8 +97,9 @@ impl WriterState {
         ensures seen { (pass_in pass.new).seen ≡ records_of self.new.pen.history }
         ensures done { IfOk result (λ d. Wrote (opened tree.now) (pass_in pass.old) d.call call.now d.reply (pass_in pass.new) × (d.call ≤ limit_of tree.now)) }
         ensures named { IfOk result (λ d. NamesPass tree.now d.reply) }
-        ensures worn { IfErr result (λ w. IsWorn tree.now (pass_in pass.old) w (pass_in pass.new) × (self.new ≡ self.old)) }
+        ensures worn { IfErr result (λ w. IsWorn tree.now (pass_in pass.old) w (pass_in pass.new) × (self.new ≡ after_show self.old)) }
         ensures kept { IfOk result (λ d. is_refusal d.reply ≡ true → self.new.parts.sheet.tree ≡ self.old.parts.sheet.tree) }
+        ensures answered { IfOk result (λ d. WasAnsweredBy tree.now (pass_in pass.new) self.old self.new call.now d) }
     {
         let calls = self.calls();
         if calls == tree.shape.calls {
@@ -130,8 +131,9 @@ impl WriterState {
         ensures done { IfOk result (λ d. Wrote (opened tree.now) (pass_in pass.old) d.call (StorePre first last entry) d.reply (pass_in pass.new) × (d.call ≤ limit_of tree.now)) }
         ensures named { IfOk result (λ d. NamesPass tree.now d.reply) }
         ensures stored { IfOk result (λ d. IsStored d.reply) }
-        ensures worn { IfErr result (λ w. IsWorn tree.now (pass_in pass.old) w (pass_in pass.new) × (self.new ≡ self.old)) }
+        ensures worn { IfErr result (λ w. IsWorn tree.now (pass_in pass.old) w (pass_in pass.new) × (self.new ≡ after_show self.old)) }
         ensures kept { IfOk result (λ d. is_refusal d.reply ≡ true → self.new.parts.sheet.tree ≡ self.old.parts.sheet.tree) }
+        ensures unscanned { self.new.pen.sections ≡ [] }
     {
         let calls = self.calls();
         if calls == tree.shape.calls {

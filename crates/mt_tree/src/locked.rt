@@ -1,6 +1,6 @@
 //! Several calls under one lock.
 
-ghost use Rattle.std.specs.Prelude.{◌≡◌, ◌↔◌, ◌≤◌, Option, true, length, IsOk, IsTrue, IfOk, IfErr};
+ghost use Rattle.std.specs.Prelude.{◌≡◌, ◌↔◌, ◌≤◌, Option, true, [], length, IsOk, IsTrue, IfOk, IfErr};
 ghost use Rattle.atomic_table.specs.declared.shared.Seat.{Seat};
 ghost use Rattle.mt_base.specs.declared.calls.Call.TheVariants.{StorePre};
 ghost use Rattle.mt_base.specs.Passes as known;
@@ -8,8 +8,8 @@ ghost use Rattle.mt_base.specs.Passes.{Saw, Wrote};
 ghost use Rattle.mt_engine.specs.Engine.{is_refusal};
 ghost use Rattle.mt_rule.specs.declared.views.TurnView.{TurnView};
 ghost use Rattle.mt_rule.specs.Tokens.{pass_in};
-ghost use Rattle.mt_tree.specs.Behind.{Behind, IsReady, IsRead, IsStored};
-ghost use Rattle.mt_tree.specs.Trees.{opened, limit_of, map_seen, IsPassOf, IsOpen, IsShortNow, IsWorn, NamesPass, WasPrepared};
+ghost use Rattle.mt_tree.specs.Behind.{Behind, after_show, IsReady, IsRead, IsStored};
+ghost use Rattle.mt_tree.specs.Trees.{opened, limit_of, map_seen, IsPassOf, IsOpen, IsShortNow, IsWorn, NamesPass, WasAnsweredBy, WasPrepared};
 
 use crate::behind::WriterState;
 use crate::shapes::{Done, Read, Worn};
@@ -73,8 +73,9 @@ fn act_under(
     ensures open { IsOpen tree.now pass.new taken.new.value taken.new.seat }
     ensures done { IfOk result (λ d. Wrote (opened tree.now) (pass_in pass.old) d.call call.now d.reply (pass_in pass.new) × (d.call ≤ limit_of tree.now)) }
     ensures named { IfOk result (λ d. NamesPass tree.now d.reply) }
-    ensures worn { IfErr result (λ w. IsWorn tree.now (pass_in pass.old) w (pass_in pass.new) × (taken.new.value ≡ taken.old.value)) }
+    ensures worn { IfErr result (λ w. IsWorn tree.now (pass_in pass.old) w (pass_in pass.new) × (taken.new.value ≡ after_show taken.old.value)) }
     ensures kept { IfOk result (λ d. is_refusal d.reply ≡ true → taken.new.value.parts.sheet.tree ≡ taken.old.value.parts.sheet.tree) }
+    ensures answered { IfOk result (λ d. WasAnsweredBy tree.now (pass_in pass.new) taken.old.value taken.new.value call.now d) }
 {
     taken.value.act(tree, pass, call)
 }
@@ -93,8 +94,9 @@ fn store_under(
     ensures done { IfOk result (λ d. Wrote (opened tree.now) (pass_in pass.old) d.call (StorePre first last entry) d.reply (pass_in pass.new) × (d.call ≤ limit_of tree.now)) }
     ensures named { IfOk result (λ d. NamesPass tree.now d.reply) }
     ensures stored { IfOk result (λ d. IsStored d.reply) }
-    ensures worn { IfErr result (λ w. IsWorn tree.now (pass_in pass.old) w (pass_in pass.new) × (taken.new.value ≡ taken.old.value)) }
+    ensures worn { IfErr result (λ w. IsWorn tree.now (pass_in pass.old) w (pass_in pass.new) × (taken.new.value ≡ after_show taken.old.value)) }
     ensures kept { IfOk result (λ d. is_refusal d.reply ≡ true → taken.new.value.parts.sheet.tree ≡ taken.old.value.parts.sheet.tree) }
+    ensures unscanned { taken.new.value.pen.sections ≡ [] }
 {
     taken.value.store_prealloc(tree, pass, first, last, entry)
 }
@@ -146,14 +148,16 @@ fn list_under(
 }
 
 impl<'a> Locked<'a, Taken<WriterState>> {
-    /// Makes one call. One that is refused leaves every word.
+    /// Makes one call. One that wants rows is refused with `NoNodes` where too few are free, when those were freed that no section
+    /// holds, as the section words show that it loads; any other call loads none. A call that is refused leaves every word.
     pub fn act(&mut self, call: &Call) -> Result<Done, Worn>
         ensures same_reference { self.new.pass.ghost_name ≡ self.old.pass.ghost_name }
         ensures tree { self.new.tree ≡ self.old.tree }
         ensures done { IfOk result (λ d. Wrote (opened self.old.tree.now) (pass_in self.old.pass.now) d.call call.now d.reply (pass_in self.new.pass.now) × (d.call ≤ limit_of self.old.tree.now)) }
         ensures named { IfOk result (λ d. NamesPass self.old.tree.now d.reply) }
-        ensures worn { IfErr result (λ w. IsWorn self.old.tree.now (pass_in self.old.pass.now) w (pass_in self.new.pass.now) × (self.new.taken.value ≡ self.old.taken.value)) }
+        ensures worn { IfErr result (λ w. IsWorn self.old.tree.now (pass_in self.old.pass.now) w (pass_in self.new.pass.now) × (self.new.taken.value ≡ after_show self.old.taken.value)) }
         ensures kept { IfOk result (λ d. is_refusal d.reply ≡ true → self.new.taken.value.parts.sheet.tree ≡ self.old.taken.value.parts.sheet.tree) }
+        ensures answered { IfOk result (λ d. WasAnsweredBy self.old.tree.now (pass_in self.new.pass.now) self.old.taken.value self.new.taken.value call.now d) }
     {
         act_under(&mut self.taken, self.tree, self.pass, call)
     }
@@ -190,7 +194,7 @@ impl<'a> Locked<'a, Taken<WriterState>> {
         self.taken.value.ready()
     }
 
-    /// Makes a store for which the tree is ready. It is never refused for want of rows.
+    /// Makes a store for which the tree is ready. It is never refused for want of rows, and loads no section word.
     pub fn store_prealloc(&mut self, first: u64, last: u64, entry: u64) -> Result<Done, Worn>
         requires { IsReady self.old.taken.value.parts }
         ensures same_reference { self.new.pass.ghost_name ≡ self.old.pass.ghost_name }
@@ -198,8 +202,9 @@ impl<'a> Locked<'a, Taken<WriterState>> {
         ensures done { IfOk result (λ d. Wrote (opened self.old.tree.now) (pass_in self.old.pass.now) d.call (StorePre first last entry) d.reply (pass_in self.new.pass.now) × (d.call ≤ limit_of self.old.tree.now)) }
         ensures named { IfOk result (λ d. NamesPass self.old.tree.now d.reply) }
         ensures stored { IfOk result (λ d. IsStored d.reply) }
-        ensures worn { IfErr result (λ w. IsWorn self.old.tree.now (pass_in self.old.pass.now) w (pass_in self.new.pass.now) × (self.new.taken.value ≡ self.old.taken.value)) }
+        ensures worn { IfErr result (λ w. IsWorn self.old.tree.now (pass_in self.old.pass.now) w (pass_in self.new.pass.now) × (self.new.taken.value ≡ after_show self.old.taken.value)) }
         ensures kept { IfOk result (λ d. is_refusal d.reply ≡ true → self.new.taken.value.parts.sheet.tree ≡ self.old.taken.value.parts.sheet.tree) }
+        ensures unscanned { self.new.taken.value.pen.sections ≡ [] }
     {
         store_under(&mut self.taken, self.tree, self.pass, first, last, entry)
     }

@@ -4,6 +4,7 @@ ghost use Rattle.std.specs.Prelude.{◌≡◌, map, length, flat_map, IsPermutat
 ghost use Rattle.std.specs.List.{range_with_len};
 ghost use Rattle.mt_base.specs.Passes.{Settled};
 ghost use Rattle.mt_rule.specs.Tokens.{pass_in};
+ghost use Rattle.mt_tree.specs.Behind.{after_show};
 ghost use Rattle.mt_tree.specs.Trees.{place_of, seen_by, AreAll};
 
 use crate::behind::WriterState;
@@ -16,7 +17,7 @@ impl WriterState {
     fn show_all(&mut self, tree: &Tree, passes: &mut [Pass])
         requires table { self.old.table ≡ place_of tree.now }
         requires all { AreAll tree.now passes.old }
-        ensures state { self.new ≡ self.old }
+        ensures state { after_show self.new ≡ after_show self.old }
         ensures all { AreAll tree.now passes.new }
         ensures settled { Settled (seen_by tree.now (map pass_in passes.new)) (map pass_in passes.old) (map pass_in passes.new) }
     {

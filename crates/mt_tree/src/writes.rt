@@ -4,7 +4,7 @@ ghost use Rattle.std.specs.Prelude.{◌≡◌, ◌≤◌, IfOk, IfErr};
 ghost use Rattle.mt_base.specs.declared.calls.Call.TheVariants as calls;
 ghost use Rattle.mt_base.specs.Passes.{Wrote, Learned};
 ghost use Rattle.mt_rule.specs.Tokens.{pass_in, note_in};
-ghost use Rattle.mt_tree.specs.Trees.{opened, limit_of, IsPassOf, IsNoteOf, IsWorn, NamesPass};
+ghost use Rattle.mt_tree.specs.Trees.{opened, limit_of, IsPassOf, IsNoteOf, IsWorn, NamesPass, WasAnswered};
 
 use crate::shapes::{Done, Worn};
 use crate::trees::Tree;
@@ -13,7 +13,8 @@ use mt_rule::{Note, Pass};
 use std::sync::Wait;
 
 impl Tree {
-    /// Makes one call, any of those below, under a lock of its own.
+    /// Makes one call, any of those below, under a lock of its own. One that wants rows is refused with `NoNodes` where too few are
+    /// free, when those were freed that no section holds, as the section words show that it loads; any other call loads none.
     ///
     /// # Errors
     ///
@@ -23,6 +24,7 @@ impl Tree {
         ensures of { IsPassOf self.now pass.new }
         ensures done { IfOk result (λ d. Wrote (opened self.now) (pass_in pass.old) d.call call.now d.reply (pass_in pass.new) × (d.call ≤ limit_of self.now)) }
         ensures named { IfOk result (λ d. NamesPass self.now d.reply) }
+        ensures answered { IfOk result (λ d. WasAnswered self.now (pass_in pass.new) call.now d) }
         ensures worn { IfErr result (λ w. IsWorn self.now (pass_in pass.old) w (pass_in pass.new)) }
     {
         let mut taken = self.turn.take(rt, pass);
@@ -48,6 +50,7 @@ impl Tree {
         ensures of { IsPassOf self.now pass.new }
         ensures done { IfOk result (λ d. Wrote (opened self.now) (pass_in pass.old) d.call (calls.Store first last entry) d.reply (pass_in pass.new) × (d.call ≤ limit_of self.now)) }
         ensures named { IfOk result (λ d. NamesPass self.now d.reply) }
+        ensures answered { IfOk result (λ d. WasAnswered self.now (pass_in pass.new) (calls.Store first last entry) d) }
         ensures worn { IfErr result (λ w. IsWorn self.now (pass_in pass.old) w (pass_in pass.new)) }
     {
         self.act(rt, pass, &Call::Store { first, last, entry })
@@ -71,6 +74,7 @@ impl Tree {
         ensures of { IsPassOf self.now pass.new }
         ensures done { IfOk result (λ d. Wrote (opened self.now) (pass_in pass.old) d.call (calls.StorePre first last entry) d.reply (pass_in pass.new) × (d.call ≤ limit_of self.now)) }
         ensures named { IfOk result (λ d. NamesPass self.now d.reply) }
+        ensures answered { IfOk result (λ d. WasAnswered self.now (pass_in pass.new) (calls.StorePre first last entry) d) }
         ensures worn { IfErr result (λ w. IsWorn self.now (pass_in pass.old) w (pass_in pass.new)) }
     {
         self.act(rt, pass, &Call::StorePre { first, last, entry })
@@ -93,6 +97,7 @@ impl Tree {
         ensures of { IsPassOf self.now pass.new }
         ensures done { IfOk result (λ d. Wrote (opened self.now) (pass_in pass.old) d.call (calls.Insert first last entry) d.reply (pass_in pass.new) × (d.call ≤ limit_of self.now)) }
         ensures named { IfOk result (λ d. NamesPass self.now d.reply) }
+        ensures answered { IfOk result (λ d. WasAnswered self.now (pass_in pass.new) (calls.Insert first last entry) d) }
         ensures worn { IfErr result (λ w. IsWorn self.now (pass_in pass.old) w (pass_in pass.new)) }
     {
         self.act(rt, pass, &Call::Insert { first, last, entry })
@@ -108,6 +113,7 @@ impl Tree {
         ensures of { IsPassOf self.now pass.new }
         ensures done { IfOk result (λ d. Wrote (opened self.now) (pass_in pass.old) d.call (calls.Erase index) d.reply (pass_in pass.new) × (d.call ≤ limit_of self.now)) }
         ensures named { IfOk result (λ d. NamesPass self.now d.reply) }
+        ensures answered { IfOk result (λ d. WasAnswered self.now (pass_in pass.new) (calls.Erase index) d) }
         ensures worn { IfErr result (λ w. IsWorn self.now (pass_in pass.old) w (pass_in pass.new)) }
     {
         self.act(rt, pass, &Call::Erase { index })
@@ -131,6 +137,7 @@ impl Tree {
         ensures of { IsPassOf self.now pass.new }
         ensures done { IfOk result (λ d. Wrote (opened self.now) (pass_in pass.old) d.call (calls.Alloc size min max entry) d.reply (pass_in pass.new) × (d.call ≤ limit_of self.now)) }
         ensures named { IfOk result (λ d. NamesPass self.now d.reply) }
+        ensures answered { IfOk result (λ d. WasAnswered self.now (pass_in pass.new) (calls.Alloc size min max entry) d) }
         ensures worn { IfErr result (λ w. IsWorn self.now (pass_in pass.old) w (pass_in pass.new)) }
     {
         self.act(
@@ -163,6 +170,7 @@ impl Tree {
         ensures of { IsPassOf self.now pass.new }
         ensures done { IfOk result (λ d. Wrote (opened self.now) (pass_in pass.old) d.call (calls.Ralloc size min max entry) d.reply (pass_in pass.new) × (d.call ≤ limit_of self.now)) }
         ensures named { IfOk result (λ d. NamesPass self.now d.reply) }
+        ensures answered { IfOk result (λ d. WasAnswered self.now (pass_in pass.new) (calls.Ralloc size min max entry) d) }
         ensures worn { IfErr result (λ w. IsWorn self.now (pass_in pass.old) w (pass_in pass.new)) }
     {
         self.act(
@@ -195,6 +203,7 @@ impl Tree {
         ensures of { IsPassOf self.now pass.new }
         ensures done { IfOk result (λ d. Wrote (opened self.now) (pass_in pass.old) d.call (calls.Gap size min max) d.reply (pass_in pass.new) × (d.call ≤ limit_of self.now)) }
         ensures named { IfOk result (λ d. NamesPass self.now d.reply) }
+        ensures answered { IfOk result (λ d. WasAnswered self.now (pass_in pass.new) (calls.Gap size min max) d) }
         ensures worn { IfErr result (λ w. IsWorn self.now (pass_in pass.old) w (pass_in pass.new)) }
     {
         self.act(rt, pass, &Call::Gap { size, min, max })
@@ -218,6 +227,7 @@ impl Tree {
         ensures of { IsPassOf self.now pass.new }
         ensures done { IfOk result (λ d. Wrote (opened self.now) (pass_in pass.old) d.call (calls.Rgap size min max) d.reply (pass_in pass.new) × (d.call ≤ limit_of self.now)) }
         ensures named { IfOk result (λ d. NamesPass self.now d.reply) }
+        ensures answered { IfOk result (λ d. WasAnswered self.now (pass_in pass.new) (calls.Rgap size min max) d) }
         ensures worn { IfErr result (λ w. IsWorn self.now (pass_in pass.old) w (pass_in pass.new)) }
     {
         self.act(rt, pass, &Call::Rgap { size, min, max })
@@ -233,6 +243,7 @@ impl Tree {
         ensures of { IsPassOf self.now pass.new }
         ensures done { IfOk result (λ d. Wrote (opened self.now) (pass_in pass.old) d.call calls.Clear d.reply (pass_in pass.new) × (d.call ≤ limit_of self.now)) }
         ensures named { IfOk result (λ d. NamesPass self.now d.reply) }
+        ensures answered { IfOk result (λ d. WasAnswered self.now (pass_in pass.new) calls.Clear d) }
         ensures worn { IfErr result (λ w. IsWorn self.now (pass_in pass.old) w (pass_in pass.new)) }
     {
         self.act(rt, pass, &Call::Clear)

@@ -1,3 +1,4 @@
+use Rattle.mt_tree.proofs.Answering.{was_answered}
 use Rattle.mt_tree.proofs.AtWork.{at_work, one_more_fits}
 use Rattle.mt_tree.proofs.Calling.{by_answer, named_by_answer, refused_still, seen_then, tree_back, wrote}
 use Rattle.mt_tree.proofs.works.act.Goals as goal
@@ -29,3 +30,8 @@ pub returns-clause-kept : goal.returns-clause-kept
 returns-clause-kept g c =
     let w = at_work c.args.tree.now c.args.tools.now c.args.pass.now g.W.Writer.table g.W.Writer.turn c.begin-engine.result c.requires.worker c.begin-engine.ensures.kind c.begin-engine.ensures.book c.begin-engine.ensures.sheet c.begin-engine.ensures.shown in
     λ is. tree_back _ _ _ _ _ _ _ _ w c.end.ensures (refused_still c.begin-engine.result c.applied-engine.result.0 c.args.call.now c.applied-engine.result.1 c.applied-engine.ensures.applied.answer is)
+
+pub returns-clause-answered : goal.returns-clause-answered
+returns-clause-answered g c =
+    let w = at_work c.args.tree.now c.args.tools.now c.args.pass.now g.W.Writer.table g.W.Writer.turn c.begin-engine.result c.requires.worker c.begin-engine.ensures.kind c.begin-engine.ensures.book c.begin-engine.ensures.sheet c.begin-engine.ensures.shown in
+    was_answered _ _ _ _ _ _ _ _ w c.end.ensures c.args.call.now c.applied-engine.result.1 c.applied-engine.ensures.applied

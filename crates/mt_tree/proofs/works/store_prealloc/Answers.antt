@@ -47,3 +47,6 @@ pub returns-clause-kept : goal.returns-clause-kept
 returns-clause-kept g c =
     let w = at_work c.args.tree.now c.args.tools.now c.args.pass.now g.W.Writer.table g.W.Writer.turn c.begin-engine.result c.requires.worker c.begin-engine.ensures.kind c.begin-engine.ensures.book c.begin-engine.ensures.sheet c.begin-engine.ensures.shown in
     λ is. tree_back _ _ _ _ _ _ _ _ w c.end.ensures (c.store_prealloc-reply.ensures.stored.kept is)
+
+pub returns-clause-unscanned : goal.returns-clause-unscanned
+returns-clause-unscanned g c = c.end.ensures.unscanned c.store_prealloc-reply.ensures.stored.scans

@@ -1,15 +1,14 @@
-use Rattle.std.proofs.Common.{rules, ◌∙◌, subst, get_or}
-use Rattle.mt_rule.specs.Tokens.{pass_in}
-use Rattle.mt_tree.specs.Behind.{Behind}
-use Rattle.mt_tree.proofs.Settling.{Shown, one_more, still_all, settled}
+use Rattle.std.proofs.Common.{rules, ap, ◌∙◌}
+use Rattle.mt_tree.specs.Behind.{after_show}
+use Rattle.mt_tree.proofs.Settling.{one_more, shown_since, still_all, settled}
 use Rattle.mt_tree.proofs.behind.WriterState.show_all.Goals as goal
 
 pub loop-i-preserved : goal.loop-i-preserved
 loop-i-preserved c =
     let inv = c.loop-i.invariant in
     let next = one_more c.args.tree.now c.args.self.now.pen c.loop-i.i c.args.passes.now c.loop-i.passes c.index-passes-i.result c.show.new.pass inv.2 (search rules) c.show.ensures.of
-    (subst (λ (b : Behind). Shown c.args.tree.now b.pen (pass_in (get_or c.loop-i.passes c.loop-i.i c.index-passes-i.result)) (pass_in c.show.new.pass)) inv.0 (c.show.ensures.shown, c.show.ensures.shape)) in
-    (c.show.ensures.state ∙ inv.0, search rules, next)
+    (shown_since c.args.tree.now c.loop-i.self c.args.self.now _ _ inv.0 (c.show.ensures.shown, c.show.ensures.shape)) in
+    (ap after_show c.show.ensures.state ∙ inv.0, search rules, next)
 
 pub returns-clause-all : goal.returns-clause-all
 returns-clause-all c = still_all c.args.tree.now c.args.self.now.pen c.loop-i.i c.args.passes.now c.loop-i.passes c.requires.all c.loop-i.invariant.2
