@@ -1,5 +1,5 @@
 -- A scan goes on read after read.
-use Rattle.std.proofs.Common.{◌≡◌, ℕ, zero, suc, true, false, List, [], ◌∷◌, ◌++◌, Option, Some, None, map, refl, sym, ap, ◌∙◌, subst, append_assoc, arith}
+use Rattle.std.proofs.Common.{◌≡◌, ℕ, zero, suc, List, [], ◌∷◌, ◌++◌, Option, Some, None, map, refl, sym, ap, ◌∙◌, subst, append_assoc, arith}
 use Rattle.std.proofs.lemmas.Bool.{eq-eqb}
 use Rattle.std.proofs.lemmas.List.{append-nil, map-append}
 use Rattle.std.proofs.lemmas.List.Elements.{filter_map-append}
@@ -11,7 +11,7 @@ use Rattle.mt_log.specs.Run.{Asked, Step, Outcome, Looked, IsScan, entry_of, ste
 use Rattle.mt_runs.specs.Leads.{Does, Leads, Learns, by_lane_on, outcomes_of}
 use Rattle.mt_runs.proofs.Leading.{learns_none, leads_last, leads_one, leads_on, stands_otherwise}
 use Rattle.mt_desks.specs.Scans.{IsLooked, IsScanned, KeepsOne, ScansSoFar}
-use Rattle.mt_desks.specs.Walks.{Walk, place_after}
+use Rattle.mt_desks.specs.Walks.{Walk, HasWalked, OpensOnce, opened_at, place_after}
 
 -- one step of a line, on its tree
 pub step_leads : (tree : History) (number : ℕ) (a : Asked) (p q : Pass) (o : Outcome) → Does tree p o q → Leads tree p (outcomes_of number a.lane (step_of a number o ∷ [])) q
@@ -61,23 +61,38 @@ scan_ends a number max count at here tree p q room room' f = record {
 
 -- ---- a scan by a walk
 
--- the same walk, but for its pass, its section and its place
+-- the same walk, but for its pass and its place
 abbrev pub IsSameWalk : Walk → Walk → Type 0
-IsSameWalk w w' = w' ≡ record w { pass = w'.pass; stands = w'.stands; at = w'.at }
+IsSameWalk w w' = w' ≡ record w { pass = w'.pass; at = w'.at }
 
 -- a walk that has made a step
 abbrev pub HasGoneOn : Walk → Option Range → Walk → Type 0
-HasGoneOn w value w' = w' ≡ record w { pass = w'.pass; stands = true; at = place_after w.max value }
+HasGoneOn w value w' = w' ≡ record w { pass = w'.pass; at = place_after w.max value }
 
 pub walk_starts : (w : Walk) → KeepsOne w.pass w
 walk_starts w = record { once = record { epochs = []; opened = sym (append-nil w.pass.opened); once = omega arith }; none = λ shut. refl }
+
+pub keeps_one : (lo hi : ℕ) (value : Option Range) (w w' : Walk) → HasWalked lo hi value w w' → (p : Pass) → KeepsOne p w → KeepsOne p w'
+keeps_one lo hi value w w' walked p keeps = record { once = by w.pass.standing refl; none = λ shut. absurd (walked.stands shut) }
+  where
+    by : (o : Option ℕ) → w.pass.standing ≡ o → OpensOnce p w'.pass
+    by None is = record {
+      epochs = lo ∷ [];
+      opened = walked.opened ∙ (ap (λ (z : Option ℕ). opened_at lo z w.pass.opened) is ∙ ap (λ (epochs : List ℕ). epochs ++ lo ∷ []) (keeps.none is));
+      once = omega arith;
+    }
+    by (Some epoch) is = record {
+      epochs = keeps.once.epochs;
+      opened = walked.opened ∙ (ap (λ (z : Option ℕ). opened_at lo z w.pass.opened) is ∙ keeps.once.opened);
+      once = keeps.once.once;
+    }
 
 pub same_walk : (w here next : Walk) (value : Option Range) → IsSameWalk w here → HasGoneOn here value next → IsSameWalk w next
 same_walk w here next value one two =
     let history : next.history ≡ w.history = ap (λ (z : Walk). z.history) two ∙ ap (λ (z : Walk). z.history) one in
     let reference : next.reference ≡ w.reference = ap (λ (z : Walk). z.reference) two ∙ ap (λ (z : Walk). z.reference) one in
     let max : next.max ≡ w.max = ap (λ (z : Walk). z.max) two ∙ ap (λ (z : Walk). z.max) one in
-    λ i. record { history = history i; reference = reference i; pass = next.pass; stands = next.stands; at = next.at; max = max i }
+    λ i. record { history = history i; reference = reference i; pass = next.pass; at = next.at; max = max i }
 
 looked_there : (line : ℕ) (w here : Walk) (value : Option Range) (q : Pass) (room room' : List Entry) → IsSameWalk w here → IsLooked line here.history (find_at here.at here.max) value here.pass q room room' → IsLooked line w.history (find_at here.at w.max) value here.pass q room room'
 looked_there line w here value q room room' same looked = subst (λ (z : Walk). IsLooked line z.history (find_at here.at z.max) value here.pass q room room') same looked
@@ -94,7 +109,7 @@ pub walk_finds_none : (a : Asked) (number count left : ℕ) (w here next : Walk)
 walk_finds_none a number count left w here next room room' room'' same so_far looked =
     scan_finds_none a number w.max count w.at left here.at w.history w.pass here.pass next.pass room room' room'' so_far (looked_there a.line w here None next.pass room' room'' same looked)
 
-pub scan_closes : (a : Asked) (number count : ℕ) (w here next : Walk) (room room' : List Entry) → next ≡ record here { pass = record here.pass { standing = None }; stands = false }
+pub scan_closes : (a : Asked) (number count : ℕ) (w here next : Walk) (room room' : List Entry) → next ≡ record here { pass = record here.pass { standing = None } }
     → IsScanned a number w.max count w.at w.history w.pass here.pass room room' → IsScanned a number w.max count w.at w.history w.pass next.pass room room'
 scan_closes a number count w here next room room' closed s = record {
   steps = s.steps;

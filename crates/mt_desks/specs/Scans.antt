@@ -1,6 +1,6 @@
 -- What a read and a scan of a lane come to, and how far a scan has come.
 -- Source: this project's own, the language of logs.
-use Rattle.std.specs.Prelude.{◌≡◌, ℕ, false, List, [], ◌∷◌, ◌++◌, Option, map}
+use Rattle.std.specs.Prelude.{◌≡◌, ℕ, List, [], ◌∷◌, ◌++◌, Option, None, map}
 use Rattle.mt_base.specs.declared.ranges.Range.{Range}
 use Rattle.mt_base.specs.declared.calls.Query.{Query}
 use Rattle.mt_base.specs.History.{History}
@@ -33,7 +33,7 @@ pub record ScansSoFar (a : Asked) (number max count : ℕ) (at : Option ℕ) (le
   pub leads : Leads tree p (outcomes_of number a.lane steps) q
   pub told : room' ≡ room ++ map entry_of steps
 
--- the walk of a scan since its pass was this one: it has opened its section once at the most, and not where it is closed
+-- the walk of a scan since its pass was this one: it has opened its section once at the most, and not where none stands open
 pub record KeepsOne (p : Pass) (w : Walk) : Type 0 where
   pub once : OpensOnce p w.pass
-  pub none : w.stands ≡ false → w.pass.opened ≡ p.opened
+  pub none : w.pass.standing ≡ None → w.pass.opened ≡ p.opened

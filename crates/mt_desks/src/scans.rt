@@ -1,6 +1,6 @@
 //! A read of a lane, and a scan, which is one walk.
 
-ghost use Rattle.std.specs.Prelude.{◌≡◌, ℕ, ◌+◌, ◌<◌, ◌≤◌, None, Option, false, true, vec_len, vec_capacity};
+ghost use Rattle.std.specs.Prelude.{◌≡◌, ℕ, ◌+◌, ◌<◌, ◌≤◌, None, Option, vec_len, vec_capacity};
 ghost use Rattle.mt_base.specs.Passes.{Pass};
 ghost use Rattle.mt_log.specs.declared.lines.Item.{Item};
 ghost use Rattle.mt_log.specs.Run.{find_at, shown, shown_range};
@@ -75,9 +75,11 @@ pub(crate) fn look<R: Wait, P: Passage, T: Shared<P>>(
 
 /// Makes one step of a walk, tells its answer in the room, and gives it.
 fn look_on<T, W: Walks<T>>(walk: &mut W, line: u64, room: &mut Vec<Entry>) -> Option<Range>
+    requires own { W.own walk.old }
     requires room { vec_len room.old < vec_capacity room.old }
+    ensures own { W.own walk.new }
     ensures on { (tree : T) → W.on walk.old tree → W.on walk.new tree }
-    ensures is { W.walk walk.new ≡ record (W.walk walk.old) { pass = (W.walk walk.new).pass; stands = true; at = place_after (W.walk walk.old).max result } }
+    ensures is { W.walk walk.new ≡ record (W.walk walk.old) { pass = (W.walk walk.new).pass; at = place_after (W.walk walk.old).max result } }
     ensures looked { IsLooked line (W.walk walk.old).history (find_at (W.walk walk.old).at (W.walk walk.old).max) result (W.walk walk.old).pass (W.walk walk.new).pass room.old.items room.new.items }
     ensures once { (p : Pass) → KeepsOne p (W.walk walk.old) → KeepsOne p (W.walk walk.new) }
     ensures len { vec_len room.new ≡ vec_len room.old + 1 }
@@ -95,9 +97,11 @@ fn look_on<T, W: Walks<T>>(walk: &mut W, line: u64, room: &mut Vec<Entry>) -> Op
 
 /// Makes so many steps of a walk at the most, and none behind the first that finds nothing.
 fn read_on<T, W: Walks<T>>(walk: &mut W, line: u64, count: u32, room: &mut Vec<Entry>)
+    requires own { W.own walk.old }
     requires room { vec_len room.old + count ≤ vec_capacity room.old }
+    ensures own { W.own walk.new }
     ensures on { (tree : T) → W.on walk.old tree → W.on walk.new tree }
-    ensures is { W.walk walk.new ≡ record (W.walk walk.old) { pass = (W.walk walk.new).pass; stands = (W.walk walk.new).stands; at = (W.walk walk.new).at } }
+    ensures is { W.walk walk.new ≡ record (W.walk walk.old) { pass = (W.walk walk.new).pass; at = (W.walk walk.new).at } }
     ensures scanned { (lane phase number : ℕ) (item : Item) → IsScanned (record { line = line; lane = lane; phase = phase; item = item }) number (W.walk walk.old).max count (W.walk walk.old).at (W.walk walk.old).history (W.walk walk.old).pass (W.walk walk.new).pass room.old.items room.new.items }
     ensures once { OpensOnce (W.walk walk.old).pass (W.walk walk.new).pass }
     ensures len { vec_len room.new ≤ vec_len room.old + count }
@@ -113,9 +117,11 @@ fn read_on<T, W: Walks<T>>(walk: &mut W, line: u64, count: u32, room: &mut Vec<E
 
 /// Makes a scan by a walk, so many steps at the most, tells them behind what the room holds, and closes the walk's section.
 pub fn scan<T, W: Walks<T>>(walk: &mut W, line: u64, count: u32, room: &mut Vec<Entry>)
+    requires own { W.own walk.old }
     requires room { vec_len room.old + count ≤ vec_capacity room.old }
+    ensures own { W.own walk.new }
     ensures on { (tree : T) → W.on walk.old tree → W.on walk.new tree }
-    ensures is { W.walk walk.new ≡ record (W.walk walk.old) { pass = (W.walk walk.new).pass; stands = false; at = (W.walk walk.new).at } }
+    ensures is { W.walk walk.new ≡ record (W.walk walk.old) { pass = (W.walk walk.new).pass; at = (W.walk walk.new).at } }
     ensures closed { (W.walk walk.new).pass.standing ≡ None }
     ensures scanned { (lane phase number : ℕ) (item : Item) → IsScanned (record { line = line; lane = lane; phase = phase; item = item }) number (W.walk walk.old).max count (W.walk walk.old).at (W.walk walk.old).history (W.walk walk.old).pass (W.walk walk.new).pass room.old.items room.new.items }
     ensures once { OpensOnce (W.walk walk.old).pass (W.walk walk.new).pass }

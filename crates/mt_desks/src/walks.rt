@@ -1,25 +1,31 @@
 //! A walk over the ranges of a tree that several share.
 
-ghost use Rattle.std.specs.Prelude.{◌≡◌, None, false};
+ghost use Rattle.std.specs.Prelude.{◌≡◌, None};
 ghost use Rattle.mt_desks.specs.Walks.{Walk, HasWalked};
 
 use crate::shared::Looked;
 
 /// A walk over the ranges of a tree `T`, from an index up to a bound, by one pass and in one section.
 ///
-/// Its meanings are `walk`, what it has come to; and `on`, that it goes over this tree.
+/// Its meanings are `walk`, what it has come to; `on`, that it goes over this tree; and `own`, that no section of its pass stands
+/// open but its own.
 pub trait Walks<T> {
     ghost walk: { Self → Walk };
 
     ghost on: { Self → T → Type 0 };
 
+    ghost own: { Self → Type 0 };
+
     /// Reads the first range from the walk's place on, and goes on behind it. The section is open then.
     fn step(&mut self) -> Looked
+        requires { own self.old }
+        ensures own { own self.new }
         ensures on { (tree : T) → on self.old tree → on self.new tree }
         ensures walked { HasWalked result.lo result.hi result.value (walk self.old) (walk self.new) };
 
     /// Closes the section.
     fn close(&mut self)
+        ensures own { own self.new }
         ensures on { (tree : T) → on self.old tree → on self.new tree }
-        ensures closed { walk self.new ≡ record (walk self.old) { pass = record (walk self.old).pass { standing = None }; stands = false } };
+        ensures closed { walk self.new ≡ record (walk self.old) { pass = record (walk self.old).pass { standing = None } } };
 }

@@ -20,10 +20,12 @@ use mt_base::{Range, Steps, top};
 use mt_layout::is_dead_mark;
 use mt_rule::{MtTable, Pass};
 use std::sync::ledger::Ledger;
+use thiserror::Error;
 
 /// A read was given up: the leaf that covers its index has no answer, and was found marked as dead after the leaf beside it was
 /// read.
-#[derive(Clone, Copy, Debug, PartialEq, Eq)]
+#[derive(Clone, Copy, Debug, PartialEq, Eq, Error)]
+#[error("the leaf was marked as dead while it was read: {lo} calls had ended before, and {begun} have begun")]
 pub struct Moved {
     /// How many calls had ended before the read.
     pub lo: u64,

@@ -7,13 +7,11 @@ use Rattle.mt_base.specs.declared.ranges.Range.{Range}
 use Rattle.mt_base.specs.Passes.{new_pass}
 use Rattle.mt_base.specs.Width.{most_rows}
 use Rattle.mt_play.specs.Trees.{IsNewTree, calls_taken, fewest_rows, most_passes}
-use Rattle.mt_rule.specs.Limits as limits
-use Rattle.mt_rule.specs.Tokens.{pass_in}
-use Rattle.mt_rule.specs.declared.passes.Pass.{Pass}
 use Rattle.mt_tree.specs.declared.shapes.Shape.{Shape}
 use Rattle.mt_tree.specs.declared.trees.Tree.{Tree}
+use Rattle.mt_tree.specs.Shapes as limits
 use Rattle.mt_tree.specs.Shapes.{first_bad}
-use Rattle.mt_tree.specs.Trees.{IsNew, limit_of, opened, passes_of}
+use Rattle.mt_tree.specs.Trees.{IsNew, Pass, limit_of, opened, pass_in, passes_of}
 
 -- a player's tree is in range
 pub in_range : (s : Shape) → fewest_rows ≤ s.rows → s.rows ≤ most_rows → 1 ≤ s.passes → s.passes ≤ most_passes → s.calls ≡ calls_taken → first_bad s ≡ None

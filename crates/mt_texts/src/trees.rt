@@ -1,23 +1,19 @@
 //! Trees of nodes that threads share, as a player makes them.
 
-ghost use Rattle.std.specs.Prelude.{◌≡◌, ℕ, ◌<◌, ◌≤◌, None, IfOk, IfErr};
+ghost use Rattle.std.specs.Prelude.{◌≡◌, ℕ, ◌≤◌, None, IfOk};
 ghost use Rattle.mt_base.specs.Passes as known;
 ghost use Rattle.mt_base.specs.Width.{most_rows};
 ghost use Rattle.mt_play.specs.Trees.{calls_taken, fewest_rows, most_passes};
-ghost use Rattle.mt_rule.specs.Tokens.{pass_in};
-ghost use Rattle.mt_texts.specs.Lines.{IsForNeighbour};
-ghost use Rattle.mt_tree.specs.Trees.{IsPassOf, limit_of, opened, passes_of};
+ghost use Rattle.mt_tree.specs.Trees.{IsPassOf, limit_of, opened, pass_in, passes_of};
 
 use crate::walks::scan_by;
-use mt_base::{Call, Kind, NoMemory, Query, Range, Steps};
+use mt_base::{Call, Kind, NoMemory, Query, Range};
 use mt_desks::{Done, Looked, Shared, Worn};
 use mt_log::Entry;
 use mt_play::Plays;
-use mt_tree::{DupError, MOST_CALLS, MakeError, Moved, Pass, Read, Shape, Tree, Zeros};
+use mt_tree::{DupError, MOST_CALLS, MakeError, Pass, Read, Shape, Tree, Zeros};
 use std::alloc::Global;
-use std::marker::Brand;
 use std::sync::Wait;
-use std::sync::ledger::{Blank, Ledger};
 
 /// A tree that the lanes share. It takes as many calls as a tree may.
 #[derive(Drop)]
@@ -26,50 +22,14 @@ pub struct LaneTree {
     ghost calls: { limit_of tree ≡ calls_taken },
 }
 
-/// What a query finds without the lock; or that the leaf of its index was replaced meanwhile, where it looks for a neighbour.
-fn seek<L: Ledger>(
-    tree: &Tree,
-    pass: &mut Pass,
-    query: &Query,
-    blank: Blank,
-) -> Result<Read<Option<Range>>, Moved>
-    requires of { IsPassOf tree.now pass.old }
-    requires name { blank.name ≡ L.name }
-    requires parts { blank.parts ≡ L.parts }
-    requires some { 0 < blank.parts }
-    ensures of { IsPassOf tree.now pass.new }
-    ensures read { IfOk result (λ r. (k : ℕ) × known.Read (opened tree.now) (pass_in pass.old) r.lo r.hi k query.now r.value (pass_in pass.new)) }
-    ensures neighbour { IfErr result (λ _. IsForNeighbour query.now) }
-    ensures grows { IfErr result (λ _. known.Grows (pass_in pass.old) (pass_in pass.new)) }
-    ensures closed { (pass_in pass.new).standing ≡ None }
-{
-    let mut steps = Steps::<L>::new(blank);
-    match query {
-        Query::Load { index } => Ok(tree.load_range(pass, *index, &mut steps)),
-        Query::Find { index, max } => Ok(tree.find(pass, *index, *max, &mut steps)),
-        Query::Next { index, max } => tree.next(pass, *index, *max, &mut steps),
-        Query::Prev { index, min } => tree.prev(pass, *index, *min, &mut steps),
-        Query::Rfind { index, min } => tree.rfind(pass, *index, *min, &mut steps),
-    }
-}
-
-/// What a query finds, without the lock. A neighbour is looked for under it where the leaf of the index was replaced meanwhile.
-fn look<R: Wait, L: Ledger>(
-    tree: &Tree,
-    rt: &R,
-    pass: &mut Pass,
-    query: &Query,
-    blank: Blank,
-) -> Read<Option<Range>>
-    requires of { IsPassOf tree.now pass.old }
-    requires name { blank.name ≡ L.name }
-    requires parts { blank.parts ≡ L.parts }
-    requires some { 0 < blank.parts }
+/// What a query finds, without the lock. A neighbour is looked for under it where the leaf of the index was found marked as dead.
+fn look<R: Wait>(tree: &Tree, rt: &R, pass: &mut Pass, query: &Query) -> Read<Option<Range>>
+    requires { IsPassOf tree.now pass.old }
     ensures of { IsPassOf tree.now pass.new }
     ensures read { (k : ℕ) × known.Read (opened tree.now) (pass_in pass.old) result.lo result.hi k query.now result.value (pass_in pass.new) }
     ensures closed { (pass_in pass.new).standing ≡ None }
 {
-    match seek::<L>(tree, pass, query, blank) {
+    match tree.ask(pass, query) {
         Ok(read) => read,
         Err(_) => ask_under_lock(tree, rt, pass, query),
     }
@@ -109,7 +69,7 @@ impl Shared<Pass> for LaneTree {
     }
 
     fn ask<R: Wait>(&self, rt: &R, pass: &mut Pass, query: &Query) -> Looked {
-        let read = look::<R, Brand>(&self.tree, rt, pass, query, Blank::new(1));
+        let read = look(&self.tree, rt, pass, query);
         Looked {
             lo: read.lo,
             hi: read.hi,

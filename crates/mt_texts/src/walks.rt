@@ -1,63 +1,36 @@
 //! Scans of a lane, each by one cursor of its tree.
 
-ghost use Rattle.std.specs.Prelude.{◌≡◌, ℕ, ◌+◌, ◌<◌, ◌≤◌, None, false, vec_len, vec_capacity};
+ghost use Rattle.std.specs.Prelude.{◌≡◌, ℕ, ◌+◌, ◌≤◌, None, vec_len, vec_capacity};
 ghost use Rattle.mt_log.specs.declared.lines.Item.{Item};
-ghost use Rattle.mt_rule.specs.Tokens.{pass_in};
-ghost use Rattle.mt_tree.specs.Trees.{opened};
+ghost use Rattle.mt_tree.specs.Asks.{OwnsSection};
+ghost use Rattle.mt_tree.specs.Trees.{opened, pass_in};
 ghost use Rattle.mt_desks.specs.Scans.{IsScanned};
-ghost use Rattle.mt_desks.specs.Walks.{HasWalked, OpensOnce};
+ghost use Rattle.mt_desks.specs.Walks.{OpensOnce};
 ghost use Rattle.mt_texts.specs.Walks.{walk_of};
 
 use crate::trees::LaneTree;
-use mt_base::Steps;
 use mt_desks::{Looked, Walks, scan};
 use mt_log::Entry;
 use mt_tree::Cursor;
-use std::marker::Brand;
-use std::sync::ledger::{Blank, Ledger};
-
-/// One step of a cursor, in a number of atomic steps that is counted.
-fn step<L: Ledger>(cursor: &mut Cursor<'_>, blank: Blank) -> Looked
-    requires name { blank.name ≡ L.name }
-    requires parts { blank.parts ≡ L.parts }
-    requires some { 0 < blank.parts }
-    ensures tree { cursor.new.tree ≡ cursor.old.tree }
-    ensures same_reference { cursor.new.pass.ghost_name ≡ cursor.old.pass.ghost_name }
-    ensures walked { HasWalked result.lo result.hi result.value (walk_of cursor.old) (walk_of cursor.new) }
-{
-    let mut steps = Steps::<L>::new(blank);
-    let read = cursor.step(&mut steps);
-    Looked {
-        lo: read.lo,
-        hi: read.hi,
-        value: read.value,
-    }
-}
-
-/// Closes the section of a cursor, in a number of atomic steps that is counted.
-fn close<L: Ledger>(cursor: &mut Cursor<'_>, blank: Blank)
-    requires name { blank.name ≡ L.name }
-    requires parts { blank.parts ≡ L.parts }
-    requires some { 0 < blank.parts }
-    ensures tree { cursor.new.tree ≡ cursor.old.tree }
-    ensures same_reference { cursor.new.pass.ghost_name ≡ cursor.old.pass.ghost_name }
-    ensures closed { walk_of cursor.new ≡ record (walk_of cursor.old) { pass = record (walk_of cursor.old).pass { standing = None }; stands = false } }
-{
-    let mut steps = Steps::<L>::new(blank);
-    cursor.pause(&mut steps);
-}
 
 impl<'a> Walks<LaneTree> for Cursor<'a> {
     ghost walk = { walk_of };
 
     ghost on = { λ c t. c.tree.now ≡ t.tree };
 
+    ghost own = { λ c. OwnsSection c };
+
     fn step(&mut self) -> Looked {
-        step::<Brand>(self, Blank::new(1))
+        let read = self.advance();
+        Looked {
+            lo: read.lo,
+            hi: read.hi,
+            value: read.value,
+        }
     }
 
     fn close(&mut self) {
-        close::<Brand>(self, Blank::new(1));
+        self.halt();
     }
 }
 
@@ -70,6 +43,7 @@ pub(crate) fn scan_by(
     room: &mut Vec<Entry>,
 )
     requires tree { cursor.old.tree.now ≡ tree.now.tree }
+    requires own { OwnsSection cursor.old }
     requires room { vec_len room.old + count ≤ vec_capacity room.old }
     ensures same_reference { cursor.new.pass.ghost_name ≡ cursor.old.pass.ghost_name }
     ensures tree { cursor.new.tree.now ≡ tree.now.tree }

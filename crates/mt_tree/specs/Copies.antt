@@ -1,6 +1,6 @@
 -- What is told of the words of a tree without showing them: their form, and how many rows they have.
 -- Source: this project's own.
-use Rattle.std.specs.Prelude.{◌≡◌, ℕ, ◌+◌, ◌/◌, ◌<◌, ◌≤◌, List, length}
+use Rattle.std.specs.Prelude.{◌≡◌, ℕ, ◌+◌, ◌/◌, ◌<◌, ◌≤◌, List, Result, Err, IsOk, length}
 use Rattle.mt_base.specs.declared.kinds.Kind.{Kind}
 use Rattle.mt_base.specs.declared.ranges.Range.{Range}
 use Rattle.mt_check.specs.declared.faults.Form.{Form}
@@ -13,36 +13,43 @@ use Rattle.mt_rows.specs.Trees.{reached_in}
 use Rattle.mt_tree.specs.declared.shapes.DupError.{DupError}
 use Rattle.mt_tree.specs.declared.shapes.DupError.TheVariants as errors
 
--- The form is that of the lawful words of a tree of so many rows that stand for this map.
-pub record IsFormOf (kind : Kind) (rows : ℕ) (m : List Range) (form : Form) : Type 0 where
-  pub words : Rooted
+-- Lawful words of a tree of so many rows, which stand for this map.
+pub record AreWordsOf (kind : Kind) (rows : ℕ) (m : List Range) (words : Rooted) : Type 0 where
   pub lawful : IsLawfulOf words kind
   pub many : words.rows ≡ rows
   pub map : map_by words ≡ m
+
+-- so many rows are in use in these words
+abbrev pub live_rows : Rooted → ℕ
+live_rows words = length (reached_in words.table words.root)
+
+-- The form is that of such words.
+pub record IsFormOf (kind : Kind) (rows : ℕ) (m : List Range) (form : Form) : Type 0 where
+  pub words : Rooted
+  pub of : AreWordsOf kind rows m words
   pub form_is : form ≡ form_of (tree_as kind words)
   pub ranges : form.ranges ≡ length m
 
--- So many rows are in use in lawful words of a tree of so many rows that stand for this map, and no more than it has.
+-- So many rows are in use in such words, and no more than the tree has.
 pub record IsRowCount (kind : Kind) (rows : ℕ) (m : List Range) (live : ℕ) : Type 0 where
   pub words : Rooted
-  pub lawful : IsLawfulOf words kind
-  pub many : words.rows ≡ rows
-  pub map : map_by words ≡ m
-  pub live_is : live ≡ length (reached_in words.table words.root)
+  pub of : AreWordsOf kind rows m words
+  pub live_is : live ≡ live_rows words
   pub within : live ≤ rows
 
--- A copy of so many rows has no room for a tree of this map, which has more in use.
-pub record IsTooFew (kind : Kind) (rows : ℕ) (m : List Range) (wanted told live : ℕ) : Type 0 where
-  pub count : IsRowCount kind rows m live
-  pub told_is : told ≡ wanted
-  pub few : told < live
+-- The copy was made only where as many rows as wanted are enough for those that are in use; and it was refused for want of rows
+-- only where they are too few, and told both numbers then.
+pub record IsCopyCounted {X : Type 0} (kind : Kind) (rows : ℕ) (m : List Range) (wanted : ℕ) (made : Result X DupError) : Type 0 where
+  pub live : ℕ
+  pub enough : IsOk made → IsRowCount kind rows m live × (live ≤ wanted)
+  pub few : (told counted : ℕ) → made ≡ Err (errors.NoNodes told counted) → IsRowCount kind rows m live × (told ≡ wanted) × (counted ≡ live) × (wanted < live)
 
--- where the shape is in range and of the tree's kind
-abbrev pub IsCopyError : Kind → ℕ → List Range → ℕ → DupError → Type 0
-IsCopyError kind rows m wanted (errors.NoNodes told live) = IsTooFew kind rows m wanted told live
-IsCopyError kind rows m wanted errors.NoMemory = Unit {0}
-IsCopyError kind rows m wanted errors.Invalid = ⊥
-IsCopyError kind rows m wanted (errors.BadShape field) = ⊥
+-- a refusal for want of rows or of memory
+abbrev pub IsForRoom : DupError → Type 0
+IsForRoom (errors.NoNodes told live) = Unit {0}
+IsForRoom errors.NoMemory = Unit {0}
+IsForRoom errors.Invalid = ⊥
+IsForRoom (errors.BadShape field) = ⊥
 
 -- An engine may be made of these rows and this book, and a tree opens with it: no call was begun, and the rows that are live
 -- are no more than a map of so many ranges may have.

@@ -1,3 +1,4 @@
+pub mod Asks
 pub mod Behind
 pub mod Copies
 pub mod Cursors

@@ -2,7 +2,7 @@
 -- Source: this project's own; the kernel's trees grow as memory lasts.
 use Rattle.std.specs.Prelude.{ℕ, ◌&&◌, not, nat_le, Bool, Option, Some, None, if◌then◌else◌}
 use Rattle.mt_base.specs.Width.{most_rows}
-use Rattle.mt_rule.specs.Limits.{most_passes, most_calls}
+pub use Rattle.mt_rule.specs.Limits.{most_passes, most_calls}
 use Rattle.mt_tree.specs.declared.shapes.Field.{Field}
 use Rattle.mt_tree.specs.declared.shapes.Field.TheVariants.{Rows, Passes, Calls}
 use Rattle.mt_tree.specs.declared.shapes.Shape.{Shape}

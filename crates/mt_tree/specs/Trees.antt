@@ -18,13 +18,14 @@ use Rattle.mt_engine.specs.Rooms.{HasRoom}
 use Rattle.mt_free.specs.Book.{after_reclaim}
 use Rattle.mt_rows.specs.declared.rows.Scan.{Scan}
 use Rattle.mt_rows.specs.Publish.{IsCounted, map_by}
-use Rattle.mt_rule.specs.declared.passes.Pass.{Pass}
+pub use Rattle.mt_rule.specs.declared.passes.Pass.{Pass}
 use Rattle.mt_rule.specs.declared.notes.Note.{Note}
 use Rattle.mt_rule.specs.declared.views.TurnView.{TurnView}
 use Rattle.mt_rule.specs.Scans.{IsScanOf}
 use Rattle.mt_rule.specs.Seats.{records_of}
 use Rattle.mt_rule.specs.Tokens as rule
-use Rattle.mt_rule.specs.Tokens.{Identity, identity_of, tree_in, pass_in}
+use Rattle.mt_rule.specs.Tokens.{Identity, identity_of, tree_in}
+pub use Rattle.mt_rule.specs.Tokens.{pass_in}
 use Rattle.mt_rule.specs.Turns.{IsSeatedAt, IsTakenOf}
 use Rattle.mt_tree.specs.declared.shapes.Done.{Done}
 use Rattle.mt_tree.specs.declared.shapes.Shape.{Shape}

@@ -15,7 +15,7 @@ ghost use Rattle.mt_rule.specs.Seats.{records_of};
 ghost use Rattle.mt_rule.specs.Tokens.{pass_in};
 ghost use Rattle.mt_tree.specs.declared.shapes.Field.{Field};
 ghost use Rattle.mt_tree.specs.Behind.{behind_of, IsAtRest, IsRead};
-ghost use Rattle.mt_tree.specs.Copies.{IsFormOf, IsRowCount, IsCopyError, IsTooFew, IsReadyToOpen};
+ghost use Rattle.mt_tree.specs.Copies.{live_rows, AreWordsOf, IsCopyCounted, IsForRoom, IsFormOf, IsReadyToOpen, IsRowCount};
 ghost use Rattle.mt_tree.specs.Shapes.{first_bad};
 ghost use Rattle.mt_tree.specs.Trees.{opened, map_seen, place_of, IsPassOf, IsNew};
 ghost use Rattle.mt_tree.specs.Works.{IsWorker};
@@ -58,7 +58,7 @@ fn copy_into<R: Rows, L: Ledger>(blank: Blank, src: &mut R, dst: &mut PlainRows,
     requires lawful { (kind : Kind) × IsLawfulOf (R.sheet src.old).tree kind }
     requires rows { sheet_in dst.old ≡ new_sheet book.old.rows }
     requires book { book.old ≡ new_book book.old.rows }
-    requires room { length (reached_in (R.sheet src.old).tree.table (R.sheet src.old).tree.root) ≤ book.old.rows }
+    requires room { live_rows (R.sheet src.old).tree ≤ book.old.rows }
     requires width { (sheet_in dst.old).tree.table.width ≡ (R.sheet src.old).tree.table.width }
     ensures copy { (kind : Kind) → IsLawfulOf (R.sheet src.old).tree kind → IsReadyToOpen kind book.old.rows (map_by (R.sheet src.old).tree) (sheet_in dst.new) book.new }
     ensures rest { OnlyReads (R.sheet src.old) (R.sheet src.new) }
@@ -71,7 +71,7 @@ fn copy_into<R: Rows, L: Ledger>(blank: Blank, src: &mut R, dst: &mut PlainRows,
 /// Copies a tree that has so many rows in use into new rows, where they are as many.
 fn copy_out<R: Rows>(src: &mut R, live: u64, dst: &mut PlainRows, book: &mut RowBook)
     requires lawful { (kind : Kind) × IsLawfulOf (R.sheet src.old).tree kind }
-    requires live { live ≡ length (reached_in (R.sheet src.old).tree.table (R.sheet src.old).tree.root) }
+    requires live { live ≡ live_rows (R.sheet src.old).tree }
     requires rows { sheet_in dst.old ≡ new_sheet book.old.rows }
     requires book { book.old ≡ new_book book.old.rows }
     requires width { (sheet_in dst.old).tree.table.width ≡ (R.sheet src.old).tree.table.width }
@@ -90,7 +90,8 @@ fn check_at_work<W: Writer>(tools: &mut Option<Tools>, tree: &Tree, pass: &mut P
     ensures read { IsRead (behind_of tools.old) (behind_of tools.new) }
     ensures of { IsPassOf tree.now pass.new }
     ensures saw { Saw (opened tree.now) (pass_in pass.old) (pass_in pass.new) }
-    ensures form { IsFormOf (opened tree.now).kind (opened tree.now).rows (map_seen tree.now (pass_in pass.new)) result }
+    ensures words { AreWordsOf (opened tree.now).kind (opened tree.now).rows (map_seen tree.now (pass_in pass.new)) (behind_of tools.old).parts.sheet.tree }
+    ensures form { result ≡ form_of (tree_as (opened tree.now).kind (behind_of tools.old).parts.sheet.tree) }
 {
     let engine = begin::<W>(tools, tree, pass);
     let height = engine.height();
@@ -116,7 +117,9 @@ fn copy_at_work<W: Writer>(
     ensures read { IsRead (behind_of tools.old) (behind_of tools.new) }
     ensures of { IsPassOf tree.now pass.new }
     ensures saw { Saw (opened tree.now) (pass_in pass.old) (pass_in pass.new) }
-    ensures live { IsRowCount (opened tree.now).kind (opened tree.now).rows (map_seen tree.now (pass_in pass.new)) result }
+    ensures words { AreWordsOf (opened tree.now).kind (opened tree.now).rows (map_seen tree.now (pass_in pass.new)) (behind_of tools.old).parts.sheet.tree }
+    ensures live { result ≡ live_rows (behind_of tools.old).parts.sheet.tree }
+    ensures within { result ≤ (opened tree.now).rows }
     ensures copy { result ≤ own.old.rows → IsReadyToOpen (opened tree.now).kind own.old.rows (map_seen tree.now (pass_in pass.new)) (sheet_in dst.new) own.new }
 {
     let engine = begin::<W>(tools, tree, pass);
@@ -137,7 +140,8 @@ impl WriterState {
         ensures state { IsRead self.old self.new }
         ensures of { IsPassOf tree.now pass.new }
         ensures saw { Saw (opened tree.now) (pass_in pass.old) (pass_in pass.new) }
-        ensures form { IsFormOf (opened tree.now).kind (opened tree.now).rows (map_seen tree.now (pass_in pass.new)) result }
+        ensures words { AreWordsOf (opened tree.now).kind (opened tree.now).rows (map_seen tree.now (pass_in pass.new)) self.old.parts.sheet.tree }
+        ensures form { result ≡ form_of (tree_as (opened tree.now).kind self.old.parts.sheet.tree) }
     {
         check_at_work::<Brand>(&mut self.tools, tree, pass)
     }
@@ -151,7 +155,9 @@ impl WriterState {
         ensures state { IsRead self.old self.new }
         ensures of { IsPassOf tree.now pass.new }
         ensures saw { Saw (opened tree.now) (pass_in pass.old) (pass_in pass.new) }
-        ensures live { IsRowCount (opened tree.now).kind (opened tree.now).rows (map_seen tree.now (pass_in pass.new)) result }
+        ensures words { AreWordsOf (opened tree.now).kind (opened tree.now).rows (map_seen tree.now (pass_in pass.new)) self.old.parts.sheet.tree }
+        ensures live { result ≡ live_rows self.old.parts.sheet.tree }
+        ensures within { result ≤ (opened tree.now).rows }
         ensures copy { result ≤ own.old.rows → IsReadyToOpen (opened tree.now).kind own.old.rows (map_seen tree.now (pass_in pass.new)) (sheet_in dst.new) own.new }
     {
         copy_at_work::<Brand>(&mut self.tools, tree, pass, dst, own)
@@ -160,6 +166,7 @@ impl WriterState {
 
 impl Tree {
     /// The form of the tree's words, whose map is that after all that the pass has then seen.
+    #[tactic(auto, using(crate::proofs::Forms::form_known))]
     pub fn check(&self, rt: &impl Wait, pass: &mut Pass) -> Form
         requires { IsPassOf self.now pass.old }
         ensures of { IsPassOf self.now pass.new }
@@ -195,6 +202,7 @@ impl Tree {
     }
 
     /// The same where this shape is in range and of the tree's kind: the copy's rows and their book.
+    #[tactic(auto, using(crate::proofs::Forms::uncounted, crate::proofs::Forms::count_known, crate::proofs::Forms::made_counted, crate::proofs::Forms::few_counted))]
     fn copied(
         &self,
         rt: &impl Wait,
@@ -208,7 +216,8 @@ impl Tree {
         ensures of { IsPassOf self.now pass.new }
         ensures pass { (pass_in pass.new ≡ pass_in pass.old) ⊎ Saw (opened self.now) (pass_in pass.old) (pass_in pass.new) }
         ensures new { IfOk result (λ r. Saw (opened self.now) (pass_in pass.old) (pass_in pass.new) × IsNew shape (map_seen self.now (pass_in pass.new)) r.0 r.1.items) }
-        ensures none { IfErr result (λ e. IsCopyError (opened self.now).kind (opened self.now).rows (map_seen self.now (pass_in pass.new)) shape.rows e) }
+        ensures counted { IsCopyCounted (opened self.now).kind (opened self.now).rows (map_seen self.now (pass_in pass.new)) shape.rows result }
+        ensures room { IfErr result IsForRoom }
     {
         let Ok(mut rows) = PlainRows::new(alloc, shape.rows) else {
             return Err(DupError::NoMemory);
@@ -237,6 +246,7 @@ impl Tree {
     ///
     /// `BadShape`; `Invalid` where the kind is another; `NoMemory` where there is none for the new rows; `NoNodes` where they are
     /// too few; `NoMemory` where there is none for the new tree.
+    #[tactic(auto, using(crate::proofs::Forms::uncounted))]
     pub fn dup(
         &self,
         rt: &impl Wait,
@@ -249,7 +259,7 @@ impl Tree {
         ensures pass { (pass_in pass.new ≡ pass_in pass.old) ⊎ Saw (opened self.now) (pass_in pass.old) (pass_in pass.new) }
         ensures bad { (field : Field) → (result ≡ Err (DupError.BadShape field)) ↔ (first_bad shape ≡ Some field) }
         ensures invalid { (result ≡ Err DupError.Invalid) ↔ ((first_bad shape ≡ None) × (shape.kind ≢ (opened self.now).kind)) }
-        ensures few { (rows live : ℕ) → result ≡ Err (DupError.NoNodes rows live) → IsTooFew (opened self.now).kind (opened self.now).rows (map_seen self.now (pass_in pass.new)) shape.rows rows live }
+        ensures counted { IsCopyCounted (opened self.now).kind (opened self.now).rows (map_seen self.now (pass_in pass.new)) shape.rows result }
         ensures new { IfOk result (λ r. Saw (opened self.now) (pass_in pass.old) (pass_in pass.new) × IsNew shape (map_seen self.now (pass_in pass.new)) r.0 r.1.items) }
     {
         if let Some(field) = shape.first_bad() {

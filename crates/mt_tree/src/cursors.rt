@@ -15,8 +15,10 @@ use std::sync::ledger::Ledger;
 
 /// A walk of a pass over the ranges of a tree, from an index up to a bound, in one section. It takes no memory.
 ///
-/// One that is dropped or forgotten leaves its section open, which holds rows of the tree: until the next read of the pass,
-/// which opens a section of its own and closes it.
+/// Rows that die while the section is open are not free before it is closed. So `close` a cursor that is done; that gives the pass
+/// back. `pause` one that is to stay at its place while its thread does something else: its next step opens a section again, and
+/// walks from the root. One that is dropped or forgotten leaves its section open: until the next read of the pass, which opens a
+/// section of its own and closes it, or for good where the pass is dropped too.
 #[derive(Drop)]
 pub struct Cursor<'a> {
     pub(crate) tree: &'a Tree,

@@ -1,6 +1,29 @@
 //! The tree that threads share: one history of calls, of which each pass knows a beginning, and a lock over the rows.
+//!
+//! ```
+//! let kind = Kind::Range;
+//! let (rows, passes, calls) = (64, 1, 100);
+//! let shape = Shape {
+//!     kind,
+//!     rows,
+//!     passes,
+//!     calls,
+//! };
+//! let (tree, mut passes) = Tree::make(rt.alloc(), shape)?;
+//! let mut pass = passes.pop().ok_or("the tree has no pass")?;
+//!
+//! // The first call of the tree's history.
+//! let stored = tree.store_range(&rt, &mut pass, 10, 19, 7)?;
+//! same(&rt, (stored.call, stored.reply), (1, Reply::Ok), "stored");
+//!
+//! // A read without the lock, after that call.
+//! let read = tree.ask(&mut pass, &Query::Load { index: 12 })?;
+//! let found = read.value.map(|range| (range.first, range.last, range.entry));
+//! same(&rt, (read.lo, found), (1, Some((10, 19, 7))), "read");
+//! ```
 #![tactic(auto)]
 
+mod asks;
 mod behind;
 mod copies;
 mod cursors;
@@ -18,9 +41,10 @@ mod zeros;
 pub use behind::WriterState;
 pub use cursors::Cursor;
 pub use locked::{Held, Locked, Write};
+pub use mt_base::{Call, Holder, Kind, MOST_ROWS, NoMemory, Query, Range, Reply, Shortage, Steps};
 pub use mt_check::Form;
 pub use mt_read::Moved;
-pub use mt_rule::{MOST_CALLS, Note, Pass};
+pub use mt_rule::{MOST_CALLS, MOST_PASSES, Note, Pass};
 pub use shapes::{Done, DupError, Field, MakeError, Read, Shape, Worn};
 pub use trees::Tree;
 pub use zeros::Zeros;

@@ -5,6 +5,8 @@ ghost use Rattle.mt_tree.specs.Shapes as defined;
 
 use mt_base::{Kind, MOST_ROWS, Reply};
 use mt_rule::{MOST_CALLS, MOST_PASSES};
+use std::fmt;
+use thiserror::Error;
 
 /// What a tree is made of.
 #[derive(Clone, Copy, Debug, PartialEq, Eq)]
@@ -26,6 +28,17 @@ pub enum Field {
     Calls,
 }
 
+/// What is wanted of the field.
+impl fmt::Display for Field {
+    fn fmt<W: fmt::Write>(&self, f: &mut fmt::Formatter<W>) -> fmt::Result {
+        match self {
+            Field::Rows => write!(f, "a tree has 4 to {MOST_ROWS} rows"),
+            Field::Passes => write!(f, "a tree has 1 to {MOST_PASSES} passes"),
+            Field::Calls => write!(f, "a tree has 1 to {MOST_CALLS} calls"),
+        }
+    }
+}
+
 impl Shape {
     /// The first field that is out of range.
     pub(crate) fn first_bad(&self) -> Option<Field>
@@ -44,20 +57,26 @@ impl Shape {
 }
 
 /// Why no tree was made.
-#[derive(Clone, Copy, Debug, PartialEq, Eq)]
+#[derive(Clone, Copy, Debug, PartialEq, Eq, Error)]
 pub enum MakeError {
+    #[error("the shape is out of range: {field}")]
     BadShape { field: Field },
+    #[error("there is no memory for the tree")]
     NoMemory,
 }
 
 /// Why no copy was made.
-#[derive(Clone, Copy, Debug, PartialEq, Eq)]
+#[derive(Clone, Copy, Debug, PartialEq, Eq, Error)]
 pub enum DupError {
+    #[error("the copy's shape is out of range: {field}")]
     BadShape { field: Field },
     /// The copy is of another kind.
+    #[error("the copy is to be of another kind than the tree")]
     Invalid,
     /// The copy's rows are fewer than those that the tree has in use.
+    #[error("the copy is to have {rows} rows, and the tree has {live} in use")]
     NoNodes { rows: u64, live: u64 },
+    #[error("there is no memory for the copy")]
     NoMemory,
 }
 
@@ -69,7 +88,8 @@ pub struct Done {
 }
 
 /// The tree has as many calls as it may have.
-#[derive(Clone, Copy, Debug, PartialEq, Eq)]
+#[derive(Clone, Copy, Debug, PartialEq, Eq, Error)]
+#[error("the tree has had all of its {calls} calls")]
 pub struct Worn {
     pub calls: u64,
 }

@@ -4,6 +4,10 @@
 #[cfg(test)]
 mod asserts;
 #[cfg(test)]
+mod errors;
+#[cfg(test)]
+mod example;
+#[cfg(test)]
 mod pen;
 #[cfg(test)]
 mod rule;

@@ -1,17 +1,17 @@
 //! Trees on one thread and on two.
 
-ghost use Rattle.std.specs.Prelude.{◌≡◌, ◌<◌, All, IfOk};
+ghost use Rattle.std.specs.Prelude.{All, IfOk};
 ghost use Rattle.std.specs.Thread.{IsSync};
 ghost use Rattle.mt_tree.specs.Trees.{AreAll, IsPassOf};
 
 use crate::asserts::same;
-use mt_base::{Kind, Range, Reply, Shortage, Steps};
-use mt_tree::{Done, DupError, Field, Form, MakeError, Pass, Read, Shape, Tree, Worn};
+use mt_tree::{
+    Done, DupError, Field, Form, Kind, MakeError, Pass, Query, Range, Read, Reply, Shape, Shortage,
+    Tree, Worn,
+};
 use std::alloc::Global;
-use std::marker::Brand;
 use std::process::Abort;
 use std::sync::Wait;
-use std::sync::ledger::{Blank, Ledger};
 use std::test::Fail;
 use std::thread::{Threads, join};
 
@@ -64,18 +64,6 @@ fn listed(rt: &impl Wait, alloc: Global, tree: &Tree, pass: &mut Pass) -> Result
     let ranges = write.list(alloc);
     write.unlock();
     Ok(ranges?)
-}
-
-/// The entry that an index holds, read without the lock.
-fn loaded<L: Ledger>(blank: Blank, tree: &Tree, pass: &mut Pass, index: u64) -> Read<Option<u64>>
-    requires name { blank.name ≡ L.name }
-    requires parts { blank.parts ≡ L.parts }
-    requires some { 0 < blank.parts }
-    requires pass { IsPassOf tree.now pass.old }
-    ensures { IsPassOf tree.now pass.new }
-{
-    let mut steps = Steps::<L>::new(blank);
-    tree.load(pass, index, &mut steps)
 }
 
 const BAD_ROWS: Option<MakeError> = Some(MakeError::BadShape { field: Field::Rows });
@@ -136,6 +124,17 @@ const SHORT: Shortage = Shortage {
     by: None,
 };
 
+/// What is loaded behind two calls.
+const LOADED: Read<Option<Range>> = Read {
+    lo: 2,
+    hi: 2,
+    value: Some(Range {
+        first: 1,
+        last: 1,
+        entry: 5,
+    }),
+};
+
 /// So many calls were made, of which this one is the last.
 fn done(call: u64, reply: Reply) -> Result<Done, Worn> {
     Ok(Done { call, reply })
@@ -151,18 +150,8 @@ fn a_small_tree_runs_short_and_is_worn(rt: HostRuntime) -> Result<(), Fail> {
     same(&rt, erased, done(2, Reply::NoNodes(SHORT)), "the erase");
     let cleared = tree.clear(&rt, &mut pass);
     same(&rt, cleared, Err(Worn { calls: 2 }), "the clear");
-    let loaded = loaded::<Brand>(Blank::new(1), &tree, &mut pass, 1);
-    let value = Some(5);
-    same(
-        &rt,
-        loaded,
-        Read {
-            lo: 2,
-            hi: 2,
-            value,
-        },
-        "the load",
-    );
+    let loaded = tree.ask(&mut pass, &Query::Load { index: 1 });
+    same(&rt, loaded, Ok(LOADED), "the load");
     expect_one_range(&rt, rt.alloc(), &tree, &mut pass, 5)
 }
 

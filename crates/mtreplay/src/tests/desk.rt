@@ -6,8 +6,7 @@ ghost use Rattle.mt_desks.specs.Dealing.{lines_of_lane};
 ghost use Rattle.mt_desks.specs.Desks.{AreLines};
 ghost use Rattle.mt_desks.specs.Phases.{CanPass, IsLaid};
 ghost use Rattle.mt_log.specs.declared.lines.Item.TheVariants as items;
-ghost use Rattle.mt_rule.specs.Tokens.{pass_in};
-ghost use Rattle.mt_tree.specs.Trees.{IsPassOf};
+ghost use Rattle.mt_tree.specs.Trees.{IsPassOf, pass_in};
 
 use mt_base::{Kind, NoMemory, Query};
 use mt_desks::{LaneDesk, needs_of, run_phase};

@@ -10,6 +10,7 @@ loop-read-init g c =
       (λ lane phase number item. rw e (scan_starts (record { line = c.args.line; lane = lane; phase = phase; item = item }) number w.max c.args.count w.at w.history w.pass c.args.room.now.items)),
       refl,
       walk_starts w,
+      c.requires.own,
       (λ tree on. on),
       rw e c.requires.room,
       omega arith,
@@ -17,7 +18,7 @@ loop-read-init g c =
     )
 
 pub returns-in-None-clause-on : goal.returns-in-None-clause-on
-returns-in-None-clause-on g c = λ tree on. c.look_on.ensures.on tree (c.loop-read.invariant.3 tree on)
+returns-in-None-clause-on g c = λ tree on. c.look_on.ensures.on tree (c.loop-read.invariant.4 tree on)
 
 pub returns-in-None-clause-is : goal.returns-in-None-clause-is
 returns-in-None-clause-is g c = same_walk (g.W.Walks.walk c.args.walk.now) (g.W.Walks.walk c.loop-read.walk) (g.W.Walks.walk c.look_on.new.walk) None c.loop-read.invariant.1 c.in-None.ensures.is
@@ -48,10 +49,11 @@ loop-read-preserved g c =
           c.in-Some.ensures.looked),
       same_walk w here next (Some c.in-Some._range) c.loop-read.invariant.1 c.in-Some.ensures.is,
       c.look_on.ensures.once w.pass c.loop-read.invariant.2,
-      (λ tree on. c.look_on.ensures.on tree (c.loop-read.invariant.3 tree on)),
-      omega (arith, c.loop-read.invariant.4, e, c.look_on.ensures.len, c.look_on.ensures.capacity),
-      omega (arith, c.loop-read.invariant.5, c.look_on.ensures.len),
-      omega (arith, c.loop-read.invariant.6, c.look_on.ensures.capacity),
+      c.look_on.ensures.own,
+      (λ tree on. c.look_on.ensures.on tree (c.loop-read.invariant.4 tree on)),
+      omega (arith, c.loop-read.invariant.5, e, c.look_on.ensures.len, c.look_on.ensures.capacity),
+      omega (arith, c.loop-read.invariant.6, c.look_on.ensures.len),
+      omega (arith, c.loop-read.invariant.7, c.look_on.ensures.capacity),
     )
 
 pub returns-clause-scanned : goal.returns-clause-scanned

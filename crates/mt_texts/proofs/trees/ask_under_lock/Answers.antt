@@ -1,10 +1,8 @@
 use Rattle.std.proofs.Common.{rules, ◌≡◌, ap, ◌∙◌, subst}
 use Rattle.mt_base.specs.Passes.{Read}
 use Rattle.mt_base.proofs.Goings.{grew_read, saw_grows}
-use Rattle.mt_rule.specs.Tokens.{pass_in}
-use Rattle.mt_rule.specs.declared.passes.Pass.{Pass}
 use Rattle.mt_tree.specs.declared.trees.Tree.{Tree}
-use Rattle.mt_tree.specs.Trees.{opened}
+use Rattle.mt_tree.specs.Trees.{Pass, opened, pass_in}
 use Rattle.mt_tree.proofs.Lending.{still_of}
 use Rattle.mt_texts.proofs.trees.ask_under_lock.Goals as goal
 

@@ -1,9 +1,8 @@
 use Rattle.mt_base.proofs.Goings.{grew_read}
-use Rattle.mt_rule.specs.Tokens.{pass_in}
-use Rattle.mt_tree.specs.Trees.{opened}
+use Rattle.mt_tree.specs.Trees.{opened, pass_in}
 use Rattle.mt_texts.proofs.trees.look.Goals as goal
 
 pub returns-in-Err-clause-read : goal.returns-in-Err-clause-read
 returns-in-Err-clause-read g c =
     let read = c.ask_under_lock.ensures.read in
-    (read.0, grew_read (opened c.args.tree.now) (pass_in c.args.pass.now) (pass_in c.seek.new.pass) _ _ _ _ _ (pass_in c.ask_under_lock.new.pass) c.in-Err.ensures.grows read.1)
+    (read.0, grew_read (opened c.args.tree.now) (pass_in c.args.pass.now) (pass_in c.ask.new.pass) _ _ _ _ _ (pass_in c.ask_under_lock.new.pass) c.in-Err.ensures.moved.grows read.1)

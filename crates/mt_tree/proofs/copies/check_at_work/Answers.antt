@@ -1,8 +1,8 @@
 use Rattle.std.proofs.Common.{sym, ap, ◌∙◌}
 use Rattle.mt_rows.specs.Sheet.{Sheet}
-use Rattle.mt_tree.proofs.AtWork.{at_work, kind_still, rows_still, still_few}
+use Rattle.mt_tree.proofs.AtWork.{at_work, kind_still, still_few}
 use Rattle.mt_tree.proofs.Calling.{map_still, only_read, saw_all, told_still}
-use Rattle.mt_tree.proofs.Forms.{form_there, form_told, high_as, idle_as, lawful_as, reads_through}
+use Rattle.mt_tree.proofs.Forms.{form_behind, high_as, idle_as, lawful_as, reads_through, words_behind}
 use Rattle.mt_tree.proofs.copies.check_at_work.Goals as goal
 
 pub form_of_rows-form-requires : goal.form_of_rows-form-requires
@@ -46,13 +46,16 @@ returns-clause-saw g c =
     let kind' = c.of_height-engine.ensures.kind ∙ sym kind in
     saw_all _ _ _ _ _ _ _ _ w c.end.ensures (told_still _ _ _ _ _ _ _ _ w c.end.ensures reads book kind')
 
-pub returns-clause-form : goal.returns-clause-form
-returns-clause-form g c =
+pub returns-clause-words : goal.returns-clause-words
+returns-clause-words g c =
     let w = at_work c.args.tree.now c.args.tools.now c.args.pass.now g.W.Writer.table g.W.Writer.turn c.begin-engine.result c.requires c.begin-engine.ensures.kind c.begin-engine.ensures.book c.begin-engine.ensures.sheet c.begin-engine.ensures.shown in
     let kind = kind_still _ _ _ _ _ w ∙ sym c.args.tree.now.kind in
     let reads = reads_through _ _ _ _ c.parts-rows.ensures.rows c.form_of_rows-form.ensures.rest c.of_height-engine.ensures.sheet in
     let book = c.of_height-engine.ensures.book ∙ c.parts-rows.ensures.book in
     let kind' = c.of_height-engine.ensures.kind ∙ sym kind in
-    let lawful = lawful_as _ _ _ _ _ c.parts-rows.ensures.rows kind c.parts-rows.ensures.idle in
-    let told = form_told c.args.tree.now.shape.kind c.begin-engine.result.sheet _ c.form_of_rows-form.result c.parts-rows.ensures.rows lawful c.form_of_rows-form.ensures.form in
-    form_there _ _ _ _ _ _ c.args.tree.now.kind (rows_still _ _ _ _ _ w) (map_still _ _ _ _ _ _ _ _ w c.end.ensures (told_still _ _ _ _ _ _ _ _ w c.end.ensures reads book kind')) c.form_of_rows-form.result told
+    words_behind _ _ _ _ _ w _ (map_still _ _ _ _ _ _ _ _ w c.end.ensures (told_still _ _ _ _ _ _ _ _ w c.end.ensures reads book kind'))
+
+pub returns-clause-form : goal.returns-clause-form
+returns-clause-form g c =
+    let w = at_work c.args.tree.now c.args.tools.now c.args.pass.now g.W.Writer.table g.W.Writer.turn c.begin-engine.result c.requires c.begin-engine.ensures.kind c.begin-engine.ensures.book c.begin-engine.ensures.sheet c.begin-engine.ensures.shown in
+    form_behind _ _ _ _ _ w _ c.parts-rows.ensures.rows _ c.form_of_rows-form.result c.args.tree.now.kind c.form_of_rows-form.ensures.form

@@ -1,8 +1,7 @@
 use Rattle.std.proofs.Common.{ℕ, Err, map, sym, ap, ◌∙◌, subst, arith}
 use Rattle.mt_base.specs.declared.kinds.Kind.{Kind}
 use Rattle.mt_play.specs.Trees.{IsNewTree, map_seen}
-use Rattle.mt_rule.specs.Tokens.{pass_in}
-use Rattle.mt_tree.specs.Trees.{limit_of, opened}
+use Rattle.mt_tree.specs.Trees.{limit_of, opened, pass_in}
 use Rattle.mt_texts.proofs.Lanes.{many, new_tree}
 use Rattle.mt_texts.proofs.trees.LaneTreePlaysPass.copy.Goals as goal
 
@@ -13,8 +12,8 @@ unreachable-requires g c =
 
 pub unreachable-requires-in-Err-NoNodes : goal.unreachable-requires-in-Err-NoNodes
 unreachable-requires-in-Err-NoNodes g c =
-    let few = c.dup.ensures.few c.in-Err-NoNodes.field-0-0 c.in-Err-NoNodes.field-0-1 (c.in-Err-NoNodes.is ∙ ap Err c.in-Err-NoNodes.field-0-is) in
-    omega (arith, few.few, few.told_is, few.count.within, c.shape.ensures.rows)
+    let few = c.dup.ensures.counted.few c.in-Err-NoNodes.field-0-0 c.in-Err-NoNodes.field-0-1 (c.in-Err-NoNodes.is ∙ ap Err c.in-Err-NoNodes.field-0-is) in
+    omega (arith, few.0.within, few.3, c.shape.ensures.rows)
 
 pub returns-in-Ok-clause-new : goal.returns-in-Ok-clause-new
 returns-in-Ok-clause-new g c =

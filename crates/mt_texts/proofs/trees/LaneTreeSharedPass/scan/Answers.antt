@@ -1,13 +1,14 @@
-use Rattle.std.proofs.Common.{rules, ◌≡◌, ℕ, Option, subst}
+use Rattle.std.proofs.Common.{rules, ◌≡◌, ℕ, Option, sym, ap, ◌∙◌, subst}
 use Rattle.mt_log.specs.declared.lines.Item.TheVariants.{Scan}
 use Rattle.mt_log.specs.Run.{Asked}
-use Rattle.mt_rule.specs.Tokens.{pass_in}
-use Rattle.mt_rule.specs.declared.passes.Pass.{Pass}
 use Rattle.mt_tree.specs.declared.trees.Tree.{Tree}
-use Rattle.mt_tree.specs.Trees.{opened}
+use Rattle.mt_tree.specs.Trees.{Pass, opened, pass_in}
 use Rattle.mt_tree.proofs.Lending.{still_of}
 use Rattle.mt_desks.specs.Scans.{IsScanned}
 use Rattle.mt_texts.proofs.trees.LaneTreeSharedPass.scan.Goals as goal
+
+pub scan_by-requires-clause-own : goal.scan_by-requires-clause-own
+scan_by-requires-clause-own c = c.cursor-cursor.ensures.epoch ∙ sym (ap (λ (p : Pass). (pass_in p).standing) c.cursor-cursor.ensures.pass ∙ c.requires.closed)
 
 pub returns-clause-of : goal.returns-clause-of
 returns-clause-of c = still_of c.scan_by.new.cursor.tree.now c.args.self.now.tree _ c.scan_by.ensures.tree (search rules)

@@ -1,9 +1,7 @@
 use Rattle.std.proofs.Common.{List, [], ◌∷◌, ◌++◌, Vec, ap, sym, subst, ◌∙◌}
 use Rattle.std.specs.Global.{Global}
 use Rattle.mt_desks.specs.Phases.{CanPass}
-use Rattle.mt_rule.specs.declared.passes.Pass.{Pass}
-use Rattle.mt_rule.specs.Tokens.{pass_in}
-use Rattle.mt_tree.specs.Trees.{IsPassOf}
+use Rattle.mt_tree.specs.Trees.{IsPassOf, Pass, pass_in}
 use Rattle.mtreplay.proofs.Closed.{can_pass_one}
 use Rattle.mtreplay.proofs.tests.desk.answers.Goals as goal
 use Rattle.mt_texts.specs.declared.trees.LaneTree.{LaneTree}

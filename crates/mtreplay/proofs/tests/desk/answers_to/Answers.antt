@@ -3,7 +3,7 @@ use Rattle.std.specs.Vec.{vec_len, vec_capacity}
 use Rattle.mt_desks.specs.declared.desks.LaneDesk.{LaneDesk}
 use Rattle.mt_desks.specs.Phases.{IsLaid}
 use Rattle.mt_lanes.specs.declared.lanes.Lane.{Lane}
-use Rattle.mt_rule.specs.declared.passes.Pass.{Pass}
+use Rattle.mt_tree.specs.Trees.{Pass}
 use Rattle.mtreplay.proofs.Closed.{at_only}
 use Rattle.mtreplay.proofs.tests.desk.answers_to.Goals as goal
 use Rattle.mt_texts.specs.declared.trees.LaneTree.{LaneTree}

@@ -1,4 +1,4 @@
-use Rattle.mt_texts.proofs.trees.seek.Goals as goal
+use Rattle.mt_tree.proofs.asks.seek.Goals as goal
 
 pub returns-in-Load-clause-read : goal.returns-in-Load-clause-read
 returns-in-Load-clause-read g c = rw c.in-Load.is c.load_range.ensures.read

@@ -1,0 +1,9 @@
+use Rattle.std.proofs.Common.{ap, ◌∙◌}
+use Rattle.mt_check.specs.Check.{form_of}
+use Rattle.mt_rows.specs.Publish.{tree_as}
+use Rattle.mt_tree.specs.Behind.{Behind}
+use Rattle.mt_tree.specs.Trees.{opened}
+use Rattle.mt_tree.proofs.behind.WriterState.check.Goals as goal
+
+pub returns-clause-form : goal.returns-clause-form
+returns-clause-form c = c.check_at_work.ensures.form ∙ ap (λ (b : Behind). form_of (tree_as (opened c.args.tree.now).kind b.parts.sheet.tree)) c.self.view_is

@@ -1,0 +1,7 @@
+use Rattle.std.proofs.Common.{ap, ◌∙◌}
+use Rattle.mt_tree.specs.Behind.{Behind}
+use Rattle.mt_tree.specs.Copies.{live_rows}
+use Rattle.mt_tree.proofs.behind.WriterState.copy.Goals as goal
+
+pub returns-clause-live : goal.returns-clause-live
+returns-clause-live c = c.copy_at_work.ensures.live ∙ ap (λ (b : Behind). live_rows b.parts.sheet.tree) c.self.view_is

@@ -1,0 +1,20 @@
+-- Reads without the lock: which queries look for a neighbour of an index, and may be given up where its leaf is found marked as
+-- dead; and what a step of a cursor makes of its pass.
+-- Source: the kernel's core-api/maple_tree, mt_next, mt_prev, mas_find_rev and mas_find.
+use Rattle.std.specs.Prelude.{◌≡◌}
+use Rattle.mt_base.specs.declared.calls.Query.{Query}
+use Rattle.mt_base.specs.declared.calls.Query.TheVariants.{Load, Find, Next, Prev, Rfind}
+use Rattle.mt_tree.specs.declared.cursors.Cursor.{Cursor}
+use Rattle.mt_tree.specs.Trees.{pass_in}
+pub use Rattle.mt_read.specs.Cursors.{HasStepped, opened_with, place_behind, query_at}
+
+abbrev pub IsForNeighbour : Query → Type 0
+IsForNeighbour (Load index) = ⊥
+IsForNeighbour (Find index max) = ⊥
+IsForNeighbour (Next index max) = Unit {0}
+IsForNeighbour (Prev index min) = Unit {0}
+IsForNeighbour (Rfind index min) = Unit {0}
+
+-- no section of the cursor's pass stands open but its own
+abbrev pub OwnsSection : Cursor → Type 0
+OwnsSection c = c.walk.epoch ≡ (pass_in c.pass.now).standing

@@ -1,0 +1,145 @@
+//! Reads without the lock whose steps nobody counts: they ask for no `Steps`.
+
+ghost use Rattle.std.specs.Prelude.{◌≡◌, ℕ, ◌<◌, Some, None, IfOk, IfErr};
+ghost use Rattle.mt_base.specs.Passes as known;
+ghost use Rattle.mt_read.specs.Cursors.{HasStepped, epoch_or, place_behind, query_at};
+ghost use Rattle.mt_read.specs.Neighbours.{WasMoved};
+ghost use Rattle.mt_read.specs.Windows.{HasRead};
+ghost use Rattle.mt_rule.specs.Tokens.{pass_in};
+ghost use Rattle.mt_tree.specs.Asks.{IsForNeighbour};
+ghost use Rattle.mt_tree.specs.Trees.{opened, IsPassOf};
+
+use crate::cursors::Cursor;
+use crate::shapes::Read;
+use crate::trees::Tree;
+use mt_base::{Query, Range, Steps};
+use mt_read::Moved;
+use mt_rule::Pass;
+use std::marker::Brand;
+use std::sync::ledger::{Blank, Ledger};
+
+/// Answers one query by the read of its name.
+fn seek<L: Ledger>(
+    tree: &Tree,
+    pass: &mut Pass,
+    query: &Query,
+    blank: Blank,
+) -> Result<Read<Option<Range>>, Moved>
+    requires of { IsPassOf tree.now pass.old }
+    requires name { blank.name ≡ L.name }
+    requires parts { blank.parts ≡ L.parts }
+    requires some { 0 < blank.parts }
+    ensures of { IsPassOf tree.now pass.new }
+    ensures read { IfOk result (λ r. (k : ℕ) × known.Read (opened tree.now) (pass_in pass.old) r.lo r.hi k query.now r.value (pass_in pass.new)) }
+    ensures section { IfOk result (λ r. HasRead r.lo r.hi (pass_in pass.old) (pass_in pass.new)) }
+    ensures moved { IfErr result (λ m. WasMoved (opened tree.now) (pass_in pass.old) m.lo m.begun (pass_in pass.new)) }
+    ensures given_up { IfErr result (λ m. HasRead m.lo m.begun (pass_in pass.old) (pass_in pass.new)) }
+    ensures neighbour { IfErr result (λ _. IsForNeighbour query.now) }
+{
+    let mut steps = Steps::<L>::new(blank);
+    match query {
+        Query::Load { index } => Ok(tree.load_range(pass, *index, &mut steps)),
+        Query::Find { index, max } => Ok(tree.find(pass, *index, *max, &mut steps)),
+        Query::Next { index, max } => tree.next(pass, *index, *max, &mut steps),
+        Query::Prev { index, min } => tree.prev(pass, *index, *min, &mut steps),
+        Query::Rfind { index, min } => tree.rfind(pass, *index, *min, &mut steps),
+    }
+}
+
+impl Tree {
+    /// Answers one query without the lock, as the read of its name does.
+    ///
+    /// # Errors
+    ///
+    /// `Moved` where a neighbour is asked for, and the leaf of the index, which has no answer, was found marked as dead after the one
+    /// beside it was read. The caller asks again, or under the lock.
+    pub fn ask(&self, pass: &mut Pass, query: &Query) -> Result<Read<Option<Range>>, Moved>
+        requires { IsPassOf self.now pass.old }
+        ensures of { IsPassOf self.now pass.new }
+        ensures read { IfOk result (λ r. (k : ℕ) × known.Read (opened self.now) (pass_in pass.old) r.lo r.hi k query.now r.value (pass_in pass.new)) }
+        ensures section { IfOk result (λ r. HasRead r.lo r.hi (pass_in pass.old) (pass_in pass.new)) }
+        ensures moved { IfErr result (λ m. WasMoved (opened self.now) (pass_in pass.old) m.lo m.begun (pass_in pass.new)) }
+        ensures given_up { IfErr result (λ m. HasRead m.lo m.begun (pass_in pass.old) (pass_in pass.new)) }
+        ensures neighbour { IfErr result (λ _. IsForNeighbour query.now) }
+    {
+        seek::<Brand>(self, pass, query, Blank::new(1))
+    }
+}
+
+/// Makes one step of a cursor.
+fn step<L: Ledger>(cursor: &mut Cursor<'_>, blank: Blank) -> Read<Option<Range>>
+    requires name { blank.name ≡ L.name }
+    requires parts { blank.parts ≡ L.parts }
+    requires some { 0 < blank.parts }
+    ensures same_reference { cursor.new.pass.ghost_name ≡ cursor.old.pass.ghost_name }
+    ensures tree { cursor.new.tree ≡ cursor.old.tree }
+    ensures of { IsPassOf cursor.old.tree.now cursor.new.pass.now }
+    ensures read { (k : ℕ) × known.Read (opened cursor.old.tree.now) (pass_in cursor.old.pass.now) result.lo result.hi k (query_at cursor.old.walk.at cursor.old.walk.max) result.value (pass_in cursor.new.pass.now) }
+    ensures section { HasStepped result.lo result.hi cursor.old.walk.epoch (pass_in cursor.old.pass.now) (pass_in cursor.new.pass.now) }
+    ensures at { cursor.new.walk.at ≡ place_behind result.value cursor.old.walk.max }
+    ensures max { cursor.new.walk.max ≡ cursor.old.walk.max }
+    ensures epoch { cursor.new.walk.epoch ≡ Some (epoch_or cursor.old.walk.epoch result.lo) }
+{
+    let mut steps = Steps::<L>::new(blank);
+    cursor.step(&mut steps)
+}
+
+/// Closes the section of a cursor.
+fn pause<L: Ledger>(cursor: &mut Cursor<'_>, blank: Blank)
+    requires name { blank.name ≡ L.name }
+    requires parts { blank.parts ≡ L.parts }
+    requires some { 0 < blank.parts }
+    ensures same_reference { cursor.new.pass.ghost_name ≡ cursor.old.pass.ghost_name }
+    ensures tree { cursor.new.tree ≡ cursor.old.tree }
+    ensures of { IsPassOf cursor.old.tree.now cursor.new.pass.now }
+    ensures closed { pass_in cursor.new.pass.now ≡ record (pass_in cursor.old.pass.now) { standing = None } }
+    ensures same { cursor.new.walk ≡ record cursor.old.walk { leaf = None; epoch = None } }
+{
+    let mut steps = Steps::<L>::new(blank);
+    cursor.pause(&mut steps);
+}
+
+impl<'a> Cursor<'a> {
+    ghost use Rattle.std.specs.Prelude.{◌≡◌, ℕ, Some, None};
+    ghost use Rattle.mt_base.specs.Passes as known;
+    ghost use Rattle.mt_read.specs.Cursors.{HasStepped, epoch_or, place_behind, query_at};
+    ghost use Rattle.mt_rule.specs.Tokens.{pass_in};
+    ghost use Rattle.mt_tree.specs.Trees.{opened, IsPassOf};
+
+    /// Goes on to the next range, as `step` does.
+    pub fn advance(&mut self) -> Read<Option<Range>>
+        ensures same_reference { self.new.pass.ghost_name ≡ self.old.pass.ghost_name }
+        ensures tree { self.new.tree ≡ self.old.tree }
+        ensures of { IsPassOf self.old.tree.now self.new.pass.now }
+        ensures read { (k : ℕ) × known.Read (opened self.old.tree.now) (pass_in self.old.pass.now) result.lo result.hi k (query_at self.old.walk.at self.old.walk.max) result.value (pass_in self.new.pass.now) }
+        ensures section { HasStepped result.lo result.hi self.old.walk.epoch (pass_in self.old.pass.now) (pass_in self.new.pass.now) }
+        ensures at { self.new.walk.at ≡ place_behind result.value self.old.walk.max }
+        ensures max { self.new.walk.max ≡ self.old.walk.max }
+        ensures epoch { self.new.walk.epoch ≡ Some (epoch_or self.old.walk.epoch result.lo) }
+    {
+        step::<Brand>(self, Blank::new(1))
+    }
+
+    /// Closes the section and keeps the place, as `pause` does.
+    pub fn halt(&mut self)
+        ensures same_reference { self.new.pass.ghost_name ≡ self.old.pass.ghost_name }
+        ensures tree { self.new.tree ≡ self.old.tree }
+        ensures of { IsPassOf self.old.tree.now self.new.pass.now }
+        ensures closed { pass_in self.new.pass.now ≡ record (pass_in self.old.pass.now) { standing = None } }
+        ensures same { self.new.walk ≡ record self.old.walk { leaf = None; epoch = None } }
+    {
+        pause::<Brand>(self, Blank::new(1));
+    }
+
+    /// Ends the walk and gives the pass back, as `close` does.
+    pub fn end(self) -> &'a mut Pass
+        ensures same_reference { result.ghost_name ≡ self.entry.pass.ghost_name }
+        ensures of { IsPassOf self.entry.tree.now result.now }
+        ensures closed { pass_in result.now ≡ record (pass_in self.entry.pass.now) { standing = None } }
+    {
+        let mut cursor = self;
+        cursor.halt();
+        let Cursor { pass, .. } = cursor;
+        pass
+    }
+}
