@@ -49,10 +49,10 @@ impl Tree {
 }
 
 impl<'a> Cursor<'a> {
-    ghost use Rattle.std.specs.Prelude.{◌≡◌, ◌⊎◌, ℕ, ◌+◌, ◌<◌, ◌≤◌, Some, None, IfSome};
+    ghost use Rattle.std.specs.Prelude.{◌≡◌, ◌⊎◌, ℕ, ◌+◌, ◌≤◌, Some, None, IfSome};
     ghost use Rattle.mt_base.specs.Passes as known;
-    ghost use Rattle.mt_read.specs.Cursors.{HasStepped, IsOver, IsOverPlace, epoch_or, lo_of, place_behind, query_at};
-    ghost use Rattle.mt_rule.specs.Tokens.{pass_in};
+    ghost use Rattle.mt_read.specs.Cursors.{HasStepped, IsOver, IsOverPlace, LeafWasMarked, MarksKeptLeaf, epoch_or, place_behind, query_at};
+    ghost use Rattle.mt_rule.specs.Tokens.{part_of, pass_in};
     ghost use Rattle.mt_tree.specs.Trees.{opened, IsPassOf};
 
     /// Where the next step looks from. There is no place once the walk has ended.
@@ -75,7 +75,8 @@ impl<'a> Cursor<'a> {
         ensures epoch { self.new.walk.epoch ≡ Some (epoch_or self.old.walk.epoch result.lo) }
         ensures leaf { IfSome result.value (λ range. IsOver self.new.walk.leaf range.last) }
         ensures lo { (self.new.walk.leaf ≡ self.old.walk.leaf) ⊎ IfSome self.new.walk.leaf (λ kept. kept.lo ≡ result.lo) }
-        ensures short { IsOverPlace self.old.walk.leaf self.old.walk.at → (steps.new ≤ steps.old + 40) ⊎ (lo_of self.old.walk.leaf < result.hi) }
+        ensures marks { MarksKeptLeaf self.old.walk.leaf self.old.walk.at result.hi (part_of self.old.pass.now) (part_of self.new.pass.now) }
+        ensures short { IsOverPlace self.old.walk.leaf self.old.walk.at → (steps.new ≤ steps.old + 40) ⊎ LeafWasMarked self.old.walk.leaf self.old.walk.at result.hi (part_of self.old.pass.now) (part_of self.new.pass.now) }
         ensures steps { steps.new ≤ steps.old + 220 }
     {
         let answer = self.walk.step(&self.tree.table, self.pass, steps);

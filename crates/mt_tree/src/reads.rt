@@ -4,9 +4,10 @@ ghost use Rattle.std.specs.Prelude.{◌≡◌, ℕ, ◌+◌, ◌≤◌, IfOk, If
 ghost use Rattle.mt_base.specs.declared.calls.Query.TheVariants.{Load, Find, Next, Prev, Rfind};
 ghost use Rattle.mt_base.specs.declared.ranges.Range.{Range};
 ghost use Rattle.mt_base.specs.Passes as known;
-ghost use Rattle.mt_read.specs.Neighbours.{WasMoved};
+ghost use Rattle.mt_base.specs.Width.{greatest_of};
+ghost use Rattle.mt_read.specs.Neighbours.{WasLeftMarked, WasMoved};
 ghost use Rattle.mt_read.specs.Windows.{HasRead};
-ghost use Rattle.mt_rule.specs.Tokens.{pass_in};
+ghost use Rattle.mt_rule.specs.Tokens.{part_of, pass_in};
 ghost use Rattle.mt_tree.specs.Trees.{opened, IsPassOf};
 
 use crate::shapes::Read;
@@ -75,8 +76,8 @@ impl Tree {
     ///
     /// # Errors
     ///
-    /// `Moved` where the answer does not lie in the leaf of the index, and that leaf was replaced while the one beside it was
-    /// read. What the pass knows then has only grown.
+    /// `Moved` where the leaf of the index has no answer, and was found marked as dead after the leaf beside it was read: more
+    /// than `lo` calls have begun. What the pass knows then has only grown.
     pub fn next<L: Ledger>(
         &self,
         pass: &mut Pass,
@@ -90,6 +91,7 @@ impl Tree {
         ensures section { IfOk result (λ r. HasRead r.lo r.hi (pass_in pass.old) (pass_in pass.new)) }
         ensures moved { IfErr result (λ m. WasMoved (opened self.now) (pass_in pass.old) m.lo m.begun (pass_in pass.new)) }
         ensures given_up { IfErr result (λ m. HasRead m.lo m.begun (pass_in pass.old) (pass_in pass.new)) }
+        ensures left { IfErr result (λ m. WasLeftMarked (Next index (greatest_of (part_of pass.old).shape.kind)) m.lo m.begun (part_of pass.old) (part_of pass.new)) }
         ensures steps { steps.new ≤ steps.old + 360 }
     {
         let Answer { lo, hi, value } = mt_read::next(&self.table, pass, index, max, steps)?;
@@ -100,8 +102,8 @@ impl Tree {
     ///
     /// # Errors
     ///
-    /// `Moved` where the answer does not lie in the leaf of the index, and that leaf was replaced while the one beside it was
-    /// read. What the pass knows then has only grown.
+    /// `Moved` where the leaf of the index has no answer, and was found marked as dead after the leaf beside it was read: more
+    /// than `lo` calls have begun. What the pass knows then has only grown.
     pub fn prev<L: Ledger>(
         &self,
         pass: &mut Pass,
@@ -115,6 +117,7 @@ impl Tree {
         ensures section { IfOk result (λ r. HasRead r.lo r.hi (pass_in pass.old) (pass_in pass.new)) }
         ensures moved { IfErr result (λ m. WasMoved (opened self.now) (pass_in pass.old) m.lo m.begun (pass_in pass.new)) }
         ensures given_up { IfErr result (λ m. HasRead m.lo m.begun (pass_in pass.old) (pass_in pass.new)) }
+        ensures left { IfErr result (λ m. WasLeftMarked (Prev index 0) m.lo m.begun (part_of pass.old) (part_of pass.new)) }
         ensures steps { steps.new ≤ steps.old + 360 }
     {
         let Answer { lo, hi, value } = mt_read::prev(&self.table, pass, index, min, steps)?;
@@ -125,8 +128,8 @@ impl Tree {
     ///
     /// # Errors
     ///
-    /// `Moved` where the answer does not lie in the leaf of the index, and that leaf was replaced while the one beside it was
-    /// read. What the pass knows then has only grown.
+    /// `Moved` where the leaf of the index has no answer, and was found marked as dead after the leaf beside it was read: more
+    /// than `lo` calls have begun. What the pass knows then has only grown.
     pub fn rfind<L: Ledger>(
         &self,
         pass: &mut Pass,
@@ -140,6 +143,7 @@ impl Tree {
         ensures section { IfOk result (λ r. HasRead r.lo r.hi (pass_in pass.old) (pass_in pass.new)) }
         ensures moved { IfErr result (λ m. WasMoved (opened self.now) (pass_in pass.old) m.lo m.begun (pass_in pass.new)) }
         ensures given_up { IfErr result (λ m. HasRead m.lo m.begun (pass_in pass.old) (pass_in pass.new)) }
+        ensures left { IfErr result (λ m. WasLeftMarked (Rfind index 0) m.lo m.begun (part_of pass.old) (part_of pass.new)) }
         ensures steps { steps.new ≤ steps.old + 360 }
     {
         let Answer { lo, hi, value } = mt_read::rfind(&self.table, pass, index, min, steps)?;
