@@ -96,7 +96,7 @@ pub record IsHeldBy (extents : ℕ → Extent) (p : PenPart) (q : PassPart) (x :
 
 -- What a pass knows fits what the pen knows: it has seen a beginning of the history, and its own calls are all that the
 -- whole history has of its number. Each epoch at which its section was found open is one at which it opened one. The rows
--- that its section holds are live, or died no earlier than when the section came to them.
+-- that its section holds are live, or died behind the load of the root from which it came to them.
 pub record PassFits (extents : ℕ → Extent) (p : PenPart) (q : PassPart) : Type 0 where
   pub shape : q.shape ≡ p.shape
   pub number : q.number < p.dealt

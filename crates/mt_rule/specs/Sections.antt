@@ -58,7 +58,7 @@ kind_of q x = kind_at q.shape.kind x.extent.level
 abbrev pub slots_in : PassPart → Held → ℕ
 slots_in q x = slots_of (kind_width q.shape.kind) (kind_of q x)
 
--- what stood in the row when the section came to it
+-- what stood in the row, by the section's copy of it
 abbrev pub spans_here : PassPart → Held → List Span
 spans_here q x = spans_at q.shape.kind (copy_of x) x.row x.extent
 
@@ -74,7 +74,7 @@ pub record Comes (q : PassPart) (x : Held) (name since : ℕ) : Type 0 where
   pub shape : Shape q.shape.kind (copy_of x) x.row x.extent
 
 -- The leaf x as it is known now, y: it has what the map had there after k calls, no fewer than when the root was loaded; after
--- all calls, unless the leaf is dead.
+-- all calls, unless the leaf was found dead.
 pub record IsRead (q : PassPart) (x y : Held) : Type 0 where
   pub same : y ≡ record x { width = y.width; copy = y.copy; died = y.died }
   pub k : ℕ
@@ -87,8 +87,9 @@ pub record IsRead (q : PassPart) (x y : Held) : Type 0 where
   pub map : IsMap q.shape.kind (moment_seen q k).ranges
   pub part : HasPart q.shape.kind (copy_of y) x.row x.extent (moment_seen q k)
 
--- What a row's parent word tells: by the dead mark, that a call has begun since the walk to it; without it, that the row is
--- live, and a leaf of its form had what the map had after each number of calls since it was come to.
+-- What a row's parent word tells: by the dead mark, that more calls have begun than the map had seen at the load of the root;
+-- without it, that the row was not found dead before, and a leaf of its form had what the map had after each number of calls
+-- since it was come to.
 pub record ParentTells (q : PassPart) (x : Held) (word : ℕ) : Type 0 where
   pub dead : word ≡ dead_mark x.row → x.since + 1 ≤ q.risen
   pub live : word ≢ dead_mark x.row → x.died ≡ None
