@@ -18,14 +18,14 @@ pub record Answers (q : PassPart) (least : ℕ) (query : Query) (value : Option 
   pub map : IsMap q.shape.kind (moment_seen q k).ranges
   pub is : value ≡ answer (moment_seen q k).ranges query
 
--- The leaf that the section is at answers: after all calls that the pass has seen, unless the leaf is dead. It stood then, as the
--- section held it before, x.
+-- The leaf that the section is at answers: after all calls that the pass has seen, unless the leaf was found dead. A leaf of the
+-- form of x, as the section held it before, had then what the map had.
 pub record LeafAnswers (q : PassPart) (x : Held) (query : Query) (value : Option Range) : Type 0 where
   pub answers : Answers q x.since query value
   pub now : (here q).died ≡ None → answers.k ≡ length q.seen
   pub stood : Snapshot q.shape.kind x (moment_seen q answers.k)
 
--- The range answers at a moment at which the leaf x stood, or no leaf did.
+-- The range answers at a moment at which a leaf of the form of x had what the map had, or the map was empty.
 pub record AnswersBy (q : PassPart) (x : Held) (least : ℕ) (query : Query) (value : Option Range) : Type 0 where
   pub answers : Answers q least query value
   pub stood : ((moment_seen q answers.k).ranges ≡ []) ⊎ Snapshot q.shape.kind x (moment_seen q answers.k)

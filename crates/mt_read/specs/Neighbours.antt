@@ -86,7 +86,7 @@ pub record WasLeftMarked (query : Query) (lo begun : ℕ) (q q' : PassPart) : Ty
   pub ended : Ended begun left q'
   pub marks : q'.marks ≡ marked.x.row ∷ q.marks
 
--- The pass knows no less than before, and that a call has begun since `lo` calls had ended.
+-- The pass knows no less than before, and that more than `lo` calls have begun: one that was in flight before counts too.
 pub record WasMoved (tree : History) (p : known.Pass) (lo begun : ℕ) (q : known.Pass) : Type 0 where
   pub grows : known.Grows p q
   pub floor : length p.seen ≤ lo + 1

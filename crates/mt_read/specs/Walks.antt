@@ -35,12 +35,13 @@ pub record GoesOnTo (q q' : PassPart) (marks : List ℕ) : Type 0 where
 abbrev pub GoesOn : PassPart → PassPart → Type 0
 GoesOn q q' = GoesOnTo q q' q.marks
 
--- It has gone on, and has loaded the dead mark of the row x and no other: a call has begun since the walk to x.
+-- It has gone on, and has loaded the dead mark of the row x and no other: more calls have begun than the map had seen at the load
+-- of the root from which x was reached.
 pub record WasMarked (x : Held) (q q' : PassPart) : Type 0 where
   pub goes : GoesOnTo q q' (x.row ∷ q.marks)
   pub begun : x.since < q'.risen
 
--- The section is at this row, whose words it has as they were at some moment since it came to it.
+-- The section is at this row, and has a copy of its words in which it fills its extent.
 pub record IsOn (q : PassPart) (row : Row) : Type 0 where
   pub at : IsAt q
   pub number : row.number ≡ (here q).row
