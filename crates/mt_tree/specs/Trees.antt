@@ -95,9 +95,9 @@ pub record IsOpen (t : Tree) (p : Pass) (behind : Behind) (seat : Seat (Option B
 abbrev pub NamesPass : Tree → Reply → Type 0
 NamesPass t reply = IfSome (holder_of reply) (λ holder. holder.pass < passes_of t)
 
--- The section words were scanned, as those show that were loaded last, and the held rows are free that no section holds. The least
--- epoch is that of the holder that the scan found, a pass of the tree; it is the greatest number where no section stands open. All
--- words, and the history, are as they were.
+-- The section words were scanned, as those show that were loaded last, and the held rows are free that died up to the least epoch.
+-- That is the epoch of the holder that the scan found, a pass of the tree; it is the greatest number where no section stands open.
+-- All words, and the history, are as they were.
 pub record WasPrepared (t : Tree) (b b' : Behind) : Type 0 where
   pub table : b'.table ≡ b.table
   pub records : records_of b'.pen.history ≡ records_of b.pen.history

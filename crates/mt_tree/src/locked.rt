@@ -174,8 +174,9 @@ impl<'a> Locked<'a, Taken<WriterState>> {
         ask_under(&mut self.taken, self.tree, self.pass, query)
     }
 
-    /// Makes the tree ready for a store, which is then not refused for want of rows: it frees the rows that no section holds.
-    /// Where too few rows are free then, the shortage tells so. It is no call of the history.
+    /// Makes the tree ready for a store, which is then not refused for want of rows: it frees the held rows that died up to the
+    /// least epoch at which a section stands open. Where too few rows are free then, the shortage tells so. It is no call of the
+    /// history.
     pub fn preallocate(&mut self) -> Result<(), Shortage>
         ensures same_reference { self.new.pass.ghost_name ≡ self.old.pass.ghost_name }
         ensures tree { self.new.tree ≡ self.old.tree }
