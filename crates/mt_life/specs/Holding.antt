@@ -14,7 +14,7 @@ use Rattle.mt_life.specs.declared.views.Held.{Held}
 use Rattle.mt_life.specs.declared.views.Moment.{Moment}
 use Rattle.mt_life.specs.Known.{State, calls, Alive, Later, HasRow, HasPart, Shape, SameForm}
 
--- the table as it was when a word of the row was loaded last
+-- the table as it was when the row's name was loaded, or since then a slot of it where it is a leaf
 abbrev pub copy_of : Held → Table
 copy_of x = record { width = x.width; words = x.copy }
 
@@ -25,7 +25,8 @@ pub record Snapshot (kind : Kind) (x : Held) (m : Moment) : Type 0 where
   pub form : SameForm (copy_of x) table (kind_at kind x.extent.level) x.row
   pub part : HasPart kind table x.row x.extent m
 
--- What is known of a row that is held: it has not died before the walk to it began, and stands where it stood.
+-- What is known of a row that is held: it had not died at the load of the root from which it was reached, and stands where it
+-- stood, with the pivots and the empty slots that it had.
 pub record HoldsRow (kind : Kind) (s : State) (extents : ℕ → Extent) (moments : ℕ → Moment) (x : Held) : Type 0 where
   pub has : HasRow s.tree.rows x.row
   pub life : Later (x.since + 1) (life_of s.lives x.row)

@@ -105,7 +105,8 @@ pub fn all_is_known_at_the_start()
         → ((row d : ℕ) → HasRow s.tree.rows row → life_of s.lives row ≢ Dead d) → s.ended ≡ 0 → s.published ≡ false → Follows s.tree before e → m 0 ≡ moment_of s.tree → Known kind s e m }
 {}
 
-/// What a section knows of a row that it holds stays true by each step.
+/// What a section knows of a row that it holds stays true by each step, while no row is cleared that died behind the load of
+/// the root from which it was reached.
 pub fn a_held_row_stays_known()
     ensures { (kind : Kind) (s s' : State) (e e' : ℕ → Extent) (m m' : ℕ → Moment) (x : Held) → Known kind s e m → Known kind s' e' m' → Goes kind s s' e e' m m' → s'.cleared ≤ x.since
         → HoldsRow kind s e m x → HoldsRow kind s' e' m' x }
@@ -113,7 +114,7 @@ pub fn a_held_row_stays_known()
 
 /// The root may be held at the load of its word, and the row that a slot of a held row names at the load of that slot. A
 /// leaf that is held has what the map had after some number of calls, no fewer than at the load of the root. Its parent
-/// word tells by the dead mark that a call has begun since then, and without it that the row is live.
+/// word tells by the dead mark that more calls have begun than the map had seen then, and without it that the row is live.
 pub fn held_rows_tell()
     ensures root { (kind : Kind) (s : State) (e : ℕ → Extent) (m : ℕ → Moment) → Known kind s e m → s.cleared ≤ calls s → s.tree.root ≢ 0
         → (level : ℕ) × (level < deepest) × LeadsTo kind s e m s.tree.root (calls s) (extent_at (root_span s.tree.table s.tree.root) level) }

@@ -26,7 +26,8 @@ pub struct Held {
     /// How many it had seen when the row's name was loaded.
     pub met: u64,
     pub extent: Extent,
-    /// The words of all rows, as they were when one of the row was loaded last, and how wide they are.
+    /// The words of all rows, as they were when the row's name was loaded, or since then a slot of it where it is a leaf; and
+    /// how wide they are.
     pub width: Width,
     pub copy: LinkedList<u64>,
     /// The call by which the row died, where it was found dead.
