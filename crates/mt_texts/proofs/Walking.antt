@@ -36,5 +36,5 @@ module _ (history history' : History) (reference reference' : ℕ) (p q : Pass) 
         k = read.0;
         read = subst (λ (z : Query). Read history p lo hi read.0 z value q) (same_query at max) read.1;
         opened = ap (λ (z : Pass). z.opened) stepped.pass ∙ (same_opened epoch p.opened lo ∙ ap (λ (z : Option ℕ). opened_at lo z p.opened) own);
-        stands = λ none. absurd (let open = sym (ap (λ (z : Pass). z.standing) stepped.pass) ∙ none in cc);
+        stands = λ none. absurd (let some = sym (ap (λ (z : Pass). z.standing) stepped.pass) ∙ none in cc);
       }

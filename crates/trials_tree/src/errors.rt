@@ -72,6 +72,7 @@ fn a_copy_that_is_not_made_tells_why(rt: HostRuntime) -> Result<(), Fail> {
 fn calls_and_reads_that_are_not_made_tell_why(rt: HostRuntime) -> Result<(), Fail> {
     let text = "the tree has had all of its 9 calls";
     expect_text(&rt, rt.alloc(), Worn { calls: 9 }, text)?;
-    let text = "the leaf was marked as dead while it was read: 3 calls had ended before, and 5 have begun";
+    let text =
+        "the leaf was marked as dead while it was read: 3 calls had ended before, and 5 have begun";
     expect_text(&rt, rt.alloc(), Moved { lo: 3, begun: 5 }, text)
 }

@@ -294,7 +294,11 @@ fn two_threads_write_one_tree(rt: HostRuntime) -> Result<(), Fail> {
     let one = last_pass(&tree, &mut passes)?;
     let ((mut one, of_one), (mut two, of_two)) = both(&rt, &tree, one, two);
     let first = done(1, Reply::Ok);
-    let in_turn = if of_one == first { [of_one, of_two] } else { [of_two, of_one] };
+    let in_turn = if of_one == first {
+        [of_one, of_two]
+    } else {
+        [of_two, of_one]
+    };
     same(&rt, in_turn, [first, done(2, Reply::Ok)], "the stores");
     let note = tree.note(&mut one);
     tree.learn(&mut two, note);
