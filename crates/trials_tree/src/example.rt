@@ -23,9 +23,7 @@ fn a_tree_is_made_stored_in_and_read(rt: HostRuntime) -> Result<(), Fail> {
 
     // A read without the lock, after that call.
     let read = tree.ask(&mut pass, &Query::Load { index: 12 })?;
-    let found = read
-        .value
-        .map(|range| (range.first, range.last, range.entry));
-    same(&rt, (read.lo, found), (1, Some((10, 19, 7))), "read");
+    let found = read.value.map(|range| range.entry);
+    same(&rt, (read.lo, read.hi, found), (1, 1, Some(7)), "read");
     Ok(())
 }
