@@ -50,12 +50,7 @@ const LOG: &str = "mtlog 1\ntree a range\nstore a 0 99 1\nstore a 40 49 3\n";
 const TEXT: &str = "3 1 ok\n4 2 ok\ntree a range 3\n0 39 1\n40 49 3\n50 99 1\n";
 
 /// A source that gives these bytes, so many at a call.
-fn given(
-    alloc: Global,
-    log: &[u8],
-    piece: usize,
-    fails: Vec<u64>,
-) -> Result<MemSource, AllocError>
+fn given(alloc: Global, log: &[u8], piece: usize, fails: Vec<u64>) -> Result<MemSource, AllocError>
     requires { 0 < piece }
 {
     Ok(MemSource::new(Vec::from_slice(alloc, log)?, piece, fails))
