@@ -51,28 +51,47 @@ const UNEVEN: [u64; 128] = [
     4096, 0, 0, 0, 0, 0, 0, 0, 0, 0, 0, 0, 0, 0, 0, 0,
 ];
 
-/// A tree's words, of which one is changed where its place and a word are given; the root word; the kind; and what a check
-/// answers.
+/// Ten levels, of which each row's first child alone stands there, the last a leaf.
+#[rattlefmt::skip]
+const DEEP: [u64; 320] = [
+    1, 40, TOP, 0, 0, 0, 0, 0, 0, 0, 0, 0, 0, 0, 0, 0,
+    4372, 0, 0, 0, 0, 0, 0, 0, 0, 0, 0, 0, 0, 0, 0, 0,
+    4096, 35, 36, 37, 38, 39, 40, 0, 0, 0, 0, 0, 0, 0, 0, 0,
+    4628, 0, 0, 0, 0, 0, 0, 0, 0, 0, 0, 0, 0, 0, 0, 0,
+    4352, 30, 31, 32, 33, 34, 35, 0, 0, 0, 0, 0, 0, 0, 0, 0,
+    4884, 0, 0, 0, 0, 0, 0, 0, 0, 0, 0, 0, 0, 0, 0, 0,
+    4608, 25, 26, 27, 28, 29, 30, 0, 0, 0, 0, 0, 0, 0, 0, 0,
+    5140, 0, 0, 0, 0, 0, 0, 0, 0, 0, 0, 0, 0, 0, 0, 0,
+    4864, 20, 21, 22, 23, 24, 25, 0, 0, 0, 0, 0, 0, 0, 0, 0,
+    5396, 0, 0, 0, 0, 0, 0, 0, 0, 0, 0, 0, 0, 0, 0, 0,
+    5120, 15, 16, 17, 18, 19, 20, 0, 0, 0, 0, 0, 0, 0, 0, 0,
+    5652, 0, 0, 0, 0, 0, 0, 0, 0, 0, 0, 0, 0, 0, 0, 0,
+    5376, 10, 11, 12, 13, 14, 15, 0, 0, 0, 0, 0, 0, 0, 0, 0,
+    5908, 0, 0, 0, 0, 0, 0, 0, 0, 0, 0, 0, 0, 0, 0, 0,
+    5632, 5, 6, 7, 8, 9, 10, 0, 0, 0, 0, 0, 0, 0, 0, 0,
+    6164, 0, 0, 0, 0, 0, 0, 0, 0, 0, 0, 0, 0, 0, 0, 0,
+    5888, 0, 1, 2, 3, 4, 5, 0, 0, 0, 0, 0, 0, 0, 0, 0,
+    6412, 0, 0, 0, 0, 0, 0, 0, 0, 0, 0, 0, 0, 0, 0, 0,
+    6144, 0, 0, 0, 0, 0, 0, 0, 0, 0, 0, 0, 0, 0, 0, 0,
+    4096, 0, 0, 0, 0, 0, 0, 0, 0, 0, 0, 0, 0, 0, 0, 0,
+];
+
+/// A tree's words, of which those are changed whose places are given with other words; the root word; the kind; and what a
+/// check answers.
 struct Case {
     words: &'static [u64],
-    change: Option<(usize, u64)>,
+    changes: &'static [(usize, u64)],
     root: u64,
     kind: Kind,
     want: Result<Form, Fault>,
 }
 
-/// Another word in a column of a row, if any.
-macro_rules! change {
-    () => { None };
-    ([$row:literal, $col:literal] = $word:expr) => { Some((32 * ($row - 16) + $col, $word)) };
-}
-
-/// Trees, each with a word that is changed, if any, the root word, the kind and what a check answers.
+/// Trees, each with other words in columns of rows, if any, the root word, the kind and what a check answers.
 macro_rules! cases {
-    ($($words:ident $([$row:literal, $col:literal] = $word:expr)?, $root:literal, $kind:ident => $want:expr;)*) => {
+    ($($words:ident $([$row:literal, $col:literal] = $word:tt)*, $root:literal, $kind:ident => $want:expr;)*) => {
         &[$(Case {
             words: &$words,
-            change: change!($([$row, $col] = $word)?),
+            changes: &[$((32 * ($row - 16) + $col, $word)),*],
             root: $root,
             kind: Kind::$kind,
             want: $want,
@@ -94,12 +113,14 @@ macro_rules! form {
 const LAWFUL: &[Case] = cases! {
     LONE, 4108, Range => form!(1, 1, 1);
     LONE, 0, Range => form!(0, 0, 0);
+    LONE [16, 1] = TOP [16, 2] = 0 [16, 3] = 0 [16, 16] = 5 [16, 17] = 0, 4108, Range => form!(1, 1, 1);
     ELEVEN, 4124, Alloc => form!(2, 3, 11);
 };
 
 /// One word breaks a law.
 const BROKEN: &[Case] = cases! {
     LONE, 4109, Range => fault!(0, Name);
+    LONE, 4620, Range => fault!(0, Name);
     LONE [16, 0] = 2, 4108, Range => fault!(16, Parent);
     LONE [16, 2] = 9, 4108, Range => fault!(16, Pivots);
     ONE_CHILD, 4116, Range => fault!(16, Count);
@@ -116,18 +137,30 @@ const BROKEN_TWICE: &[Case] = cases! {
     ONE_CHILD [16, 1] = 9, 4116, Range => fault!(16, Pivots);
     ELEVEN [18, 0] = 2, 4124, Range => fault!(0, Name);
     UNEVEN [16, 21] = 0, 4124, Alloc => fault!(19, Depth);
+    DEEP, 4116, Range => fault!(25, Depth);
 };
 
-/// A fault of a child's name is told with the row that holds it.
+/// Rows beside others have one item too few: a leaf, and inner rows of both kinds.
+const TOO_FEW: &[Case] = cases! {
+    ELEVEN [17, 5] = 11 [17, 6] = 0 [17, 21] = 0, 4124, Alloc => fault!(17, Count);
+    UNEVEN [18, 3] = TOP [18, 4] = 0 [18, 13] = 0 [18, 23] = 0, 4124, Alloc => fault!(18, Count);
+    DEEP [17, 5] = 40 [17, 6] = 0, 4116, Range => fault!(17, Count);
+};
+
+/// A fault of a child's name is told with the row that holds it: of one that is no name, of no child, of a row behind the last
+/// one, and of that below nine levels.
 const BROKEN_BELOW: &[Case] = cases! {
     ELEVEN [16, 11] = 4621, 4124, Alloc => fault!(16, Name);
+    ELEVEN [16, 11] = 0, 4124, Alloc => fault!(16, Name);
+    ELEVEN [16, 11] = 4876, 4124, Alloc => fault!(16, Name);
+    DEEP [24, 16] = 6668, 4116, Range => fault!(24, Name);
     UNEVEN, 4124, Alloc => fault!(19, Depth);
 };
 
 /// What a check answers of the tree of a case.
 fn answer(rt: &impl Abort, alloc: Global, case: &Case) -> Result<Result<Form, Fault>, NoMemory> {
     let mut words = Vec::from_slice(alloc, case.words)?;
-    if let Some((at, word)) = case.change {
+    for &(at, word) in case.changes {
         assert!(rt; at < words.len());
         words[at] = word;
     }
@@ -139,14 +172,14 @@ fn answer(rt: &impl Abort, alloc: Global, case: &Case) -> Result<Result<Form, Fa
 fn expect_answers(rt: &impl Abort, alloc: Global, cases: &[Case]) -> Result<(), NoMemory> {
     for case in cases {
         let answer = answer(rt, alloc, case)?;
-        same(rt, answer, case.want, (case.change, case.root));
+        same(rt, answer, case.want, (case.changes, case.root));
     }
     Ok(())
 }
 
 #[test]
 fn trees_are_checked(rt: HostRuntime) -> Result<(), Fail> {
-    for cases in [LAWFUL, BROKEN, BROKEN_TWICE, BROKEN_BELOW] {
+    for cases in [LAWFUL, BROKEN, BROKEN_TWICE, TOO_FEW, BROKEN_BELOW] {
         expect_answers(&rt, rt.alloc(), cases)?;
     }
     Ok(())
