@@ -44,10 +44,10 @@ fn a_book_of_no_rows_counts_none(rt: HostRuntime) -> Result<(), Fail> {
 #[test]
 fn every_row_comes_back_once(rt: HostRuntime) -> Result<(), Fail> {
     let mut book = RowBook::new(rt.alloc(), 4)?;
-    take_and_retire(&mut book, 1);
-    take_and_retire(&mut book, 1);
-    take_and_retire(&mut book, 2);
-    take_and_retire(&mut book, 5);
+    same(&rt, take_and_retire(&mut book, 1), 16, 16);
+    same(&rt, take_and_retire(&mut book, 1), 17, 17);
+    same(&rt, take_and_retire(&mut book, 2), 18, 18);
+    same(&rt, take_and_retire(&mut book, 5), 19, 19);
     same(&rt, counts(&book), [0, 0, 4, 4], "all held");
     for (least, freed) in [(1, 2), (4, 1), (5, 1)] {
         same(&rt, book.reclaim(least), freed, least);

@@ -145,8 +145,10 @@ fn a_leaf_is_written_and_replaced(rt: HostRuntime) -> Result<(), Fail> {
     rows.finish(&more, &Reply::Ok);
     same(&rt, rows.root(), 4364, "the root");
 
-    // The first leaf is dead by call 3.
+    // The first leaf is dead by call 3, and its row is free then.
     rows.scan();
-    rows.draft(16, 1, 9);
+    rows.draft(16, 1, 8);
+    same(&rt, rows.load(16, 1), 8, "the row that is free again");
+    same(&rt, rows.load(17, 17), 7, "the row that is live");
     Ok(())
 }
