@@ -1,20 +1,20 @@
 -- What a call of a pass adds to the count of its calls.
-use Rattle.std.specs.Prelude.{All, IfErr, IfOk, IfSome, IsTrue, MatchOption, Option, Some, None, Result, Ok, Err, is_some, map}
+use Rattle.std.specs.Prelude.{All, IfErr, IfOk, MatchOption, Option, Some, None, Result, Ok, Err, is_some, map}
 use Rattle.std.specs.List.{AllByRecursion}
 use Rattle.std.proofs.lemmas.List.Elements.{All-from_recursion}
-use Rattle.std.proofs.lemmas.Option.{none-some, same_Some}
 use Rattle.std.proofs.Common.{◌≡◌, ℕ, ◌+◌, ◌==◌, ◌≤◌, Bool, true, List, [], ◌∷◌, ◌++◌, length, length-append, if◌then◌else◌, eq-eqb, refl, sym, ap, ◌∙◌, subst, arith}
 use Rattle.mt_base.specs.declared.calls.Call.{Call}
-use Rattle.mt_base.specs.declared.calls.Call.TheVariants.{Alloc, Erase}
+use Rattle.mt_base.specs.declared.calls.Call.TheVariants.{Erase}
+use Rattle.mt_base.specs.declared.kinds.Kind.TheVariants as kinds
 use Rattle.mt_base.specs.declared.replies.Reply.{Reply}
-use Rattle.mt_base.specs.declared.replies.Reply.TheVariants as replies
 use Rattle.mt_base.specs.History.{Record, History}
 use Rattle.mt_base.specs.Passes.{Pass, Saw, Wrote, new_pass, places, places_from}
 use Rattle.mt_tree.specs.declared.shapes.Done.{Done}
 use Rattle.mt_tree.specs.declared.shapes.Worn.{Worn}
 use Rattle.mt_tree.specs.declared.trees.Tree.{Tree}
 use Rattle.mt_tree.specs.Trees.{limit_of, opened, IsWorn}
-use Rattle.mt_numbers.specs.Calls.{count_of, gave_one, given_back_by, removed, start_of, started, taken_by, took_one, was_there, JustGave, JustTook, KnowsItsOwn, WasLast}
+use Rattle.mt_numbers.specs.Calls.{asking, count_of, gave_one, given_back_by, removed, start_of, started, taken_by, took_one, Asked, GaveBack, KnowsItsOwn}
+use Rattle.mt_numbers.proofs.Telling.{asked_tells, gave_tells}
 
 abbrev any : Record → Bool
 any _ = true
@@ -70,67 +70,45 @@ saw test tree p q own s =
     let more : count_of test p.number q.seen ≡ count_of test p.number (p.seen ++ s.seen.0) = ap (count_of test p.number) s.seen.1 in
     same ∙ more ∙ none_more test p.number p.mine p.seen s.seen.0 own (own' ∙ ap (places p.number) s.seen.1)
 
-was_last : (tree : History) (p q : Pass) (n : ℕ) (call : Call) (reply : Reply) → Wrote tree p n call reply q → WasLast q call reply
-was_last tree p q n call reply w = subst (λ (z : Pass). WasLast z call reply) (sym w.pass) (record { before = p.seen ++ w.others; seen = refl })
+-- ---- what a taker is told of its call
 
-start_is : (reply : Reply) (number : ℕ) → start_of reply ≡ Some number → reply ≡ replies.Start number
-start_is (replies.Start start) number same = ap replies.Start (same_Some start number same)
-start_is replies.Ok number same = absurd (none-some number same)
-start_is (replies.Was entry) number same = absurd (none-some number same)
-start_is replies.None number same = absurd (none-some number same)
-start_is replies.Exists number same = absurd (none-some number same)
-start_is replies.Invalid number same = absurd (none-some number same)
-start_is replies.Busy number same = absurd (none-some number same)
-start_is (replies.NoNodes shortage) number same = absurd (none-some number same)
+taken_as : (told : Option ℕ) (n n' : ℕ) → n' ≡ n + (if is_some told then 1 else 0) → MatchOption told (n' ≡ n) (λ _. n' ≡ n + 1)
+taken_as None n n' more = omega arith
+taken_as (Some number) n n' more = more
 
-was_is : (reply : Reply) → was_there reply ≡ true → (entry : ℕ) × (reply ≡ replies.Was entry)
-was_is (replies.Was entry) same = (entry, refl)
-was_is replies.Ok same = absurd (cc)
-was_is (replies.Start start) same = absurd (cc)
-was_is replies.None same = absurd (cc)
-was_is replies.Exists same = absurd (cc)
-was_is replies.Invalid same = absurd (cc)
-was_is replies.Busy same = absurd (cc)
-was_is (replies.NoNodes shortage) same = absurd (cc)
+abbrev pub Took : Tree → Pass → Option ℕ → Pass → Type 0
+Took t p told q = Asked t p told q × MatchOption told (taken_by q ≡ taken_by p) (λ _. taken_by q ≡ taken_by p + 1) × (given_back_by q ≡ given_back_by p)
 
--- what a taker is told of its call
-abbrev pub Took : Pass → Pass → Option ℕ → Type 0
-Took p q told = IfSome told (JustTook q) × MatchOption told (taken_by q ≡ taken_by p) (λ _. taken_by q ≡ taken_by p + 1) × (given_back_by q ≡ given_back_by p)
+took_as : (t : Tree) (p q : Pass) (answer : Result Done Worn) → KnowsItsOwn p → (opened t).kind ≡ kinds.Alloc → IfOk answer (λ d. Wrote (opened t) p d.call asking d.reply q × (d.call ≤ limit_of t)) → IfErr answer (λ w. IsWorn t p w q) → Took t p (started answer) q
+took_as t p q (Ok d) own kind done worn =
+    let given : given_back_by q ≡ given_back_by p + 0 = called gave_one (opened t) p q d.call asking d.reply own done.0 in (
+      (Ok d, (done.0, asked_tells (opened t) p q d.call d.reply kind done.0)),
+      taken_as (start_of d.reply) (taken_by p) (taken_by q) (called took_one (opened t) p q d.call asking d.reply own done.0),
+      omega arith,
+    )
+took_as t p q (Err w) own kind done worn = ((Err w, (worn, refl)), saw took_one (opened t) p q own worn.saw, saw gave_one (opened t) p q own worn.saw)
 
-took_as : (p q : Pass) (min max entry : ℕ) (reply : Reply) (told : Option ℕ) → told ≡ start_of reply → WasLast q (Alloc 1 min max entry) reply → taken_by q ≡ taken_by p + (if is_some (start_of reply) then 1 else 0) → given_back_by q ≡ given_back_by p → Took p q told
-took_as p q min max entry reply None same last more gave =
-    let none : taken_by q ≡ taken_by p + 0 = subst (λ (o : Option ℕ). taken_by q ≡ taken_by p + (if is_some o then 1 else 0)) (sym same) more in
-    let still : taken_by q ≡ taken_by p = omega arith in
-    (tt, still, gave)
-took_as p q min max entry reply (Some number) same last more gave =
-    let one : taken_by q ≡ taken_by p + 1 = subst (λ (o : Option ℕ). taken_by q ≡ taken_by p + (if is_some o then 1 else 0)) (sym same) more in
-    ((min, max, entry, subst (WasLast q (Alloc 1 min max entry)) (start_is reply number (sym same)) last), one, gave)
+pub took : (t : Tree) (p q : Pass) (answer : Result Done Worn) (told : Option ℕ) → KnowsItsOwn p → (opened t).kind ≡ kinds.Alloc → IfOk answer (λ d. Wrote (opened t) p d.call asking d.reply q × (d.call ≤ limit_of t)) → IfErr answer (λ w. IsWorn t p w q) → told ≡ started answer → Took t p told q
+took t p q answer told own kind done worn same = subst (λ (o : Option ℕ). Took t p o q) (sym same) (took_as t p q answer own kind done worn)
 
-pub took : (t : Tree) (p q : Pass) (min max entry : ℕ) (answer : Result Done Worn) (told : Option ℕ) → KnowsItsOwn p → IfOk answer (λ d. Wrote (opened t) p d.call (Alloc 1 min max entry) d.reply q × (d.call ≤ limit_of t)) → IfErr answer (λ w. IsWorn t p w q) → told ≡ started answer → Took p q told
-took t p q min max entry (Ok d) told own done worn same =
-    let given : given_back_by q ≡ given_back_by p + 0 = called gave_one (opened t) p q d.call (Alloc 1 min max entry) d.reply own done.0 in
-    let still : given_back_by q ≡ given_back_by p = omega arith in
-    took_as p q min max entry d.reply told same (was_last (opened t) p q d.call (Alloc 1 min max entry) d.reply done.0) (called took_one (opened t) p q d.call (Alloc 1 min max entry) d.reply own done.0) still
-took t p q min max entry (Err w) told own done worn same = subst (Took p q) (sym same) (tt, saw took_one (opened t) p q own worn.saw, saw gave_one (opened t) p q own worn.saw)
+-- ---- what one is told that gives a number back
 
--- what one is told that gives a number back
-abbrev pub Gave : Pass → Pass → ℕ → Bool → Type 0
-Gave p q number told = (IsTrue told → JustGave q number) × (taken_by q ≡ taken_by p) × (given_back_by q ≡ given_back_by p + (if told then 1 else 0))
+abbrev pub Gave : Tree → Pass → ℕ → Bool → Pass → Type 0
+Gave t p number told q = GaveBack t p number told q × (taken_by q ≡ taken_by p) × (given_back_by q ≡ given_back_by p + (if told then 1 else 0))
 
-gave_last : (q : Pass) (number : ℕ) (reply : Reply) → WasLast q (Erase number) reply → was_there reply ≡ true → JustGave q number
-gave_last q number reply last same = let was = was_is reply same in (was.0, subst (WasLast q (Erase number)) was.1 last)
+gave_as : (t : Tree) (p q : Pass) (number : ℕ) (answer : Result Done Worn) → KnowsItsOwn p → IfOk answer (λ d. Wrote (opened t) p d.call (Erase number) d.reply q × (d.call ≤ limit_of t)) → IfErr answer (λ w. IsWorn t p w q) → Gave t p number (removed answer) q
+gave_as t p q number (Ok d) own done worn =
+    let taken : taken_by q ≡ taken_by p + 0 = called took_one (opened t) p q d.call (Erase number) d.reply own done.0 in (
+      (Ok d, (done.0, gave_tells (opened t) p q number d.call d.reply done.0)),
+      omega arith,
+      called gave_one (opened t) p q d.call (Erase number) d.reply own done.0,
+    )
+gave_as t p q number (Err w) own done worn =
+    let given : given_back_by q ≡ given_back_by p = saw gave_one (opened t) p q own worn.saw in
+    ((Err w, (worn, refl)), saw took_one (opened t) p q own worn.saw, omega arith)
 
-pub gave : (t : Tree) (p q : Pass) (number : ℕ) (answer : Result Done Worn) (told : Bool) → KnowsItsOwn p → IfOk answer (λ d. Wrote (opened t) p d.call (Erase number) d.reply q × (d.call ≤ limit_of t)) → IfErr answer (λ w. IsWorn t p w q) → told ≡ removed answer → Gave p q number told
-gave t p q number (Ok d) told own done worn same =
-    let taken : taken_by q ≡ taken_by p + 0 = called took_one (opened t) p q d.call (Erase number) d.reply own done.0 in
-    let still : taken_by q ≡ taken_by p = omega arith in
-    let more : given_back_by q ≡ given_back_by p + (if was_there d.reply then 1 else 0) = called gave_one (opened t) p q d.call (Erase number) d.reply own done.0 in
-    let last = was_last (opened t) p q d.call (Erase number) d.reply done.0 in
-    subst (Gave p q number) (sym same) ((λ yes. gave_last q number d.reply last yes), still, more)
-gave t p q number (Err w) told own done worn same =
-    let none : given_back_by q ≡ given_back_by p = saw gave_one (opened t) p q own worn.saw in
-    let more : given_back_by q ≡ given_back_by p + 0 = omega arith in
-    subst (Gave p q number) (sym same) ((λ yes. absurd (cc)), saw took_one (opened t) p q own worn.saw, more)
+pub gave : (t : Tree) (p q : Pass) (number : ℕ) (answer : Result Done Worn) (told : Bool) → KnowsItsOwn p → IfOk answer (λ d. Wrote (opened t) p d.call (Erase number) d.reply q × (d.call ≤ limit_of t)) → IfErr answer (λ w. IsWorn t p w q) → told ≡ removed answer → Gave t p number told q
+gave t p q number answer told own done worn same = subst (λ (b : Bool). Gave t p number b q) (sym same) (gave_as t p q number answer own done worn)
 
 -- whatever a call was answered, its pass knows its own calls
 pub still_own : (t : Tree) (p q : Pass) (call : Call) (answer : Result Done Worn) → IfOk answer (λ d. Wrote (opened t) p d.call call d.reply q × (d.call ≤ limit_of t)) → IfErr answer (λ w. IsWorn t p w q) → KnowsItsOwn q

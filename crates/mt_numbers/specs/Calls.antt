@@ -1,14 +1,24 @@
--- What a call did to the numbers, and how often a pass took one and gave one back, by the history that it has seen.
+-- How often a pass took a number and gave one back, by the history that it has seen; and what it is told when it asks for one, or
+-- gives one back, by the map before its call.
 -- Source: this project's own.
-use Rattle.std.specs.Prelude.{◌≡◌, ℕ, ◌+◌, ◌==◌, ◌&&◌, Bool, true, false, is_some, List, [], ◌∷◌, ◌++◌, Option, Some, None, Result, Ok, Err, if◌then◌else◌}
+use Rattle.std.specs.Prelude.{◌≡◌, ℕ, ◌+◌, ◌-◌, ◌==◌, ◌&&◌, Bool, true, false, is_some, List, [], ◌∷◌, Option, Some, None, option_map, Result, Ok, Err, if◌then◌else◌}
 use Rattle.mt_base.specs.declared.calls.Call.{Call}
 use Rattle.mt_base.specs.declared.calls.Call.TheVariants as calls
 use Rattle.mt_base.specs.declared.replies.Reply.{Reply}
 use Rattle.mt_base.specs.declared.replies.Reply.TheVariants as replies
-use Rattle.mt_base.specs.History.{Record}
-use Rattle.mt_base.specs.Passes.{Pass, places}
+use Rattle.mt_base.specs.declared.kinds.Kind.TheVariants as kinds
+use Rattle.mt_base.specs.declared.ranges.Range.{Range}
+use Rattle.mt_base.specs.History.{Record, limits_after, map_at}
+use Rattle.mt_base.specs.Holes.{low}
+use Rattle.mt_base.specs.Map.{holding}
+use Rattle.mt_base.specs.Nodes.{Limits, IsShort}
+use Rattle.mt_base.specs.Passes.{Pass, Wrote, places, with_records}
+use Rattle.mt_numbers.specs.declared.numbers.TheConstants.{NUMBERS}
+use Rattle.mt_numbers.specs.declared.shared.TheConstants.{TAKEN}
 use Rattle.mt_tree.specs.declared.shapes.Done.{Done}
 use Rattle.mt_tree.specs.declared.shapes.Worn.{Worn}
+use Rattle.mt_tree.specs.declared.trees.Tree.{Tree}
+use Rattle.mt_tree.specs.Trees.{opened, IsWorn}
 
 -- the number that was taken, where one was
 abbrev pub start_of : Reply → Option ℕ
@@ -57,14 +67,48 @@ given_back_by p = count_of gave_one p.number p.seen
 abbrev pub KnowsItsOwn : Pass → Type 0
 KnowsItsOwn p = p.mine ≡ places p.number p.seen
 
--- the last call that the pass has seen is its own: this one, which was answered so
-pub record WasLast (p : Pass) (call : Call) (reply : Reply) : Type 0 where
-  pub before : List Record
-  pub seen : p.seen ≡ before ++ record { pass = p.number; call = call; reply = reply } ∷ []
+-- ---- what one is told who asks for a number, or gives one back
 
--- by it the pass took this number, the lowest that was free; or gave it back
-abbrev pub JustTook : Pass → ℕ → Type 0
-JustTook p number = (min : ℕ) × (max : ℕ) × (entry : ℕ) × WasLast p (calls.Alloc 1 min max entry) (replies.Start number)
+-- a number is asked for: room for one index
+abbrev pub asking : Call
+asking = calls.Alloc 1 0 (NUMBERS - 1) TAKEN
 
-abbrev pub JustGave : Pass → ℕ → Type 0
-JustGave p number = (entry : ℕ) × WasLast p (calls.Erase number) (replies.Was entry)
+-- the lowest of the numbers that is free in a map
+abbrev pub lowest_free : List Range → Option ℕ
+lowest_free m = low kinds.Alloc m 1 0 (NUMBERS - 1)
+
+-- what a map has at a number
+abbrev pub entry_at : List Range → ℕ → Option ℕ
+entry_at m number = option_map (λ r. r.entry) (holding m number)
+
+-- By a call's reply, and by the map before the call, the lowest number is told that was free; and none where none was, or where
+-- rows were short.
+abbrev pub TellsLowest : Limits → List Range → Reply → Option ℕ → Type 0
+TellsLowest l m (replies.Start number) told = (lowest_free m ≡ Some number) × (told ≡ Some number)
+TellsLowest l m replies.Busy told = (lowest_free m ≡ None) × (told ≡ None)
+TellsLowest l m (replies.NoNodes shortage) told = IsShort l m shortage × (told ≡ None)
+TellsLowest l m _ told = ⊥
+
+-- And it is told whether the number was taken that is given back; not so where rows were short.
+abbrev pub TellsTaken : ℕ → Limits → List Range → Reply → Bool → Type 0
+TellsTaken number l m (replies.Was entry) told = (entry_at m number ≡ Some entry) × (told ≡ true)
+TellsTaken number l m replies.None told = (entry_at m number ≡ None) × (told ≡ false)
+TellsTaken number l m (replies.NoNodes shortage) told = IsShort l m shortage × (told ≡ false)
+TellsTaken number l m _ told = ⊥
+
+-- the map before a call, by all that the pass has seen with this call
+abbrev pub map_before : Tree → ℕ → Pass → List Range
+map_before t number q = map_at (with_records (opened t) q.seen) (number - 1)
+
+-- The pass made this call, and was told so by its reply and the map before it; or the tree had no call left, and it was told so.
+abbrev pub Called : (Limits → List Range → Reply → Type 0) → Type 0 → Tree → Pass → Call → Pass → Result Done Worn → Type 0
+Called told spent t p call q (Ok d) = Wrote (opened t) p d.call call d.reply q × told (limits_after (opened t) (d.call - 1)) (map_before t d.call q) d.reply
+Called told spent t p call q (Err w) = IsWorn t p w q × spent
+
+-- a pass asked for a number by one call, and was told this one
+abbrev pub Asked : Tree → Pass → Option ℕ → Pass → Type 0
+Asked t p told q = (answer : Result Done Worn) × Called (λ l m reply. TellsLowest l m reply told) (told ≡ None) t p asking q answer
+
+-- a pass gave a number back by one call, and was told whether it was taken
+abbrev pub GaveBack : Tree → Pass → ℕ → Bool → Pass → Type 0
+GaveBack t p number told q = (answer : Result Done Worn) × Called (λ l m reply. TellsTaken number l m reply told) (told ≡ false) t p (calls.Erase number) q answer

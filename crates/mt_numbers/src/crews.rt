@@ -1,10 +1,11 @@
 //! Threads at work on the numbers of one tree, and what is printed of it.
 
-ghost use Rattle.std.specs.Prelude.{All, Some};
+ghost use Rattle.std.specs.Prelude.{◌≡◌, All, Some};
+ghost use Rattle.mt_base.specs.declared.kinds.Kind.TheVariants.{Alloc};
 ghost use Rattle.mt_numbers.specs.Calls.{KnowsItsOwn};
 ghost use Rattle.mt_numbers.specs.Tallies.{outcome_text};
 ghost use Rattle.mt_rule.specs.Tokens.{pass_in};
-ghost use Rattle.mt_tree.specs.Trees.{IsPassOf};
+ghost use Rattle.mt_tree.specs.Trees.{opened, IsPassOf};
 
 use crate::marks::Marks;
 use crate::numbers::Numbers;
@@ -141,6 +142,7 @@ fn tasks_of<'a, R: Wait>(
 ) -> Result<Vec<Task<'a, Caller<'a, R>>>, AllocError>
     requires of { All (IsPassOf tree.now) passes.items }
     requires own { All (λ p. KnowsItsOwn (pass_in p)) passes.items }
+    requires kind { (opened tree.now).kind ≡ Alloc }
 {
     let mut tasks = Vec::new(alloc);
     for pass in passes {

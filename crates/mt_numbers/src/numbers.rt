@@ -1,32 +1,32 @@
 //! Numbers that threads share.
 
-ghost use Rattle.std.specs.Prelude.{◌≡◌, ◌+◌, ℕ, IfSome, IsTrue, MatchOption, if◌then◌else◌};
+ghost use Rattle.std.specs.Prelude.{◌≡◌, ◌+◌, ℕ, Bool, MatchOption, Option, if◌then◌else◌};
 
 /// So many numbers are shared, from 0 on.
 pub const NUMBERS: u64 = 64;
 
 /// A thread's way to the numbers that threads share.
 ///
-/// Its meanings are how often it took a number, and how often it gave one back; and that the last of all was to take or to give
-/// back this number.
+/// Its meanings are how often it took a number, and how often it gave one back; and of two moments, that a number was asked for
+/// and this one was told, and that this number was given back and it was told whether it was taken.
 pub trait Numbers {
     ghost taken: { Self → ℕ };
 
     ghost given_back: { Self → ℕ };
 
-    ghost just_took: { Self → ℕ → Type 0 };
+    ghost asked: { Self → Option ℕ → Self → Type 0 };
 
-    ghost just_gave: { Self → ℕ → Type 0 };
+    ghost gave: { Self → ℕ → Bool → Self → Type 0 };
 
     /// Takes the lowest number that is free, where one is.
     fn take(&mut self) -> Option<u64>
-        ensures number { IfSome result (just_took self.new) }
+        ensures number { asked self.old result self.new }
         ensures taken { MatchOption result (taken self.new ≡ taken self.old) (λ _. taken self.new ≡ taken self.old + 1) }
         ensures given_back { given_back self.new ≡ given_back self.old };
 
     /// Gives a number back. It tells whether the number was taken.
     fn give_back(&mut self, number: u64) -> bool
-        ensures number { IsTrue result → just_gave self.new number }
+        ensures number { gave self.old number result self.new }
         ensures taken { taken self.new ≡ taken self.old }
         ensures given_back { given_back self.new ≡ given_back self.old + (if result then 1 else 0) };
 }

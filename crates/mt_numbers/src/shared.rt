@@ -1,10 +1,11 @@
 //! The tree that keeps the numbers: a number is taken where the tree has an entry at it.
 
 ghost use Rattle.std.specs.Prelude.{◌≡◌, All, IfOk};
+ghost use Rattle.mt_base.specs.declared.kinds.Kind.TheVariants.{Alloc};
 ghost use Rattle.mt_rule.specs.Tokens.{pass_in};
 ghost use Rattle.mt_numbers.specs.Calls as defined;
-ghost use Rattle.mt_numbers.specs.Calls.{given_back_by, taken_by, JustGave, JustTook, KnowsItsOwn};
-ghost use Rattle.mt_tree.specs.Trees.{IsPassOf};
+ghost use Rattle.mt_numbers.specs.Calls.{given_back_by, taken_by, Asked, GaveBack, KnowsItsOwn};
+ghost use Rattle.mt_tree.specs.Trees.{opened, IsPassOf};
 
 use crate::numbers::{NUMBERS, Numbers};
 use mt_base::{Kind, MOST_ROWS, Reply};
@@ -22,6 +23,7 @@ pub const TAKEN: u64 = 1;
 pub fn make(alloc: Global, passes: u32) -> io::Result<(Tree, Vec<Pass>)>
     ensures of { IfOk result (λ r. All (IsPassOf r.0) r.1.items) }
     ensures own { IfOk result (λ r. All (λ p. KnowsItsOwn (pass_in p)) r.1.items) }
+    ensures kind { IfOk result (λ r. (opened r.0).kind ≡ Alloc) }
 {
     let shape = Shape {
         kind: Kind::Alloc,
@@ -43,12 +45,14 @@ pub struct Caller<'a, R> {
     pass: Pass,
     ghost of: { IsPassOf tree.now pass },
     ghost own: { KnowsItsOwn (pass_in pass) },
+    ghost kind: { (opened tree.now).kind ≡ Alloc },
 }
 
 impl<'a, R> Caller<'a, R> {
     pub fn new(rt: &'a R, tree: &'a Tree, pass: Pass) -> Self
         requires of { IsPassOf tree.now pass }
         requires own { KnowsItsOwn (pass_in pass) }
+        requires kind { (opened tree.now).kind ≡ Alloc }
     {
         Caller { rt, tree, pass }
     }
@@ -59,9 +63,9 @@ impl<'a, R: Wait> Numbers for Caller<'a, R> {
 
     ghost given_back = { λ caller. given_back_by (pass_in caller.pass) };
 
-    ghost just_took = { λ caller. JustTook (pass_in caller.pass) };
+    ghost asked = { λ caller told after. Asked caller.tree.now (pass_in caller.pass) told (pass_in after.pass) };
 
-    ghost just_gave = { λ caller. JustGave (pass_in caller.pass) };
+    ghost gave = { λ caller number told after. GaveBack caller.tree.now (pass_in caller.pass) number told (pass_in after.pass) };
 
     fn take(&mut self) -> Option<u64> {
         let answer = self

@@ -21,9 +21,9 @@ impl Numbers for Twice {
 
     ghost given_back = { λ numbers. numbers.given_back };
 
-    ghost just_took = { λ _ _. ⊤ };
+    ghost asked = { λ _ _ _. ⊤ };
 
-    ghost just_gave = { λ _ _. ⊤ };
+    ghost gave = { λ _ _ _ _. ⊤ };
 
     fn take(&mut self) -> Option<u64> {
         let number = self.taken / 2 % NUMBERS;
