@@ -7,8 +7,8 @@ mod worn;
 ghost use Rattle.std.specs.Prelude.{◌≡◌, All, IfOk};
 ghost use Rattle.mt_tree.specs.Trees.{IsPassOf};
 
-use mt_base::{Kind, Reply};
-use mt_tree::{Done, Pass, Shape, Tree};
+use mt_base::{Kind, Range, Reply};
+use mt_tree::{Done, Pass, Read, Shape, Tree};
 use std::alloc::Global;
 use std::process::Abort;
 use std::sync::Wait;
@@ -73,4 +73,13 @@ fn store<R: Wait + Abort>(rt: &R, tree: &Tree, pass: &mut Pass, index: u64, call
 {
     let done = tree.store_range(rt, pass, index, index, 9);
     assert_eq!(rt; done, Ok(Done { call, reply }), "the store at {index}");
+}
+
+/// What a step is answered where its window is one number of calls.
+fn read(calls: u64, found: Option<(u64, u64, u64)>) -> Read<Option<Range>> {
+    Read {
+        lo: calls,
+        hi: calls,
+        value: found.map(|(first, last, entry)| Range { first, last, entry }),
+    }
 }

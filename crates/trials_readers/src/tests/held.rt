@@ -3,7 +3,7 @@
 ghost use Rattle.std.specs.Prelude.{◌≡◌, ◌<◌};
 ghost use Rattle.mt_tree.specs.Trees.{IsPassOf};
 
-use crate::tests::{last_pass, made, store, store_range};
+use crate::tests::{last_pass, made, read, store, store_range};
 use mt_base::{Holder, Kind, Reply, Shortage, Steps};
 use mt_tree::{Pass, Read, Tree};
 use std::marker::Brand;
@@ -47,12 +47,12 @@ fn fill<R: Wait + Abort>(rt: &R, tree: &Tree, writer: &mut Pass)
 }
 
 /// The first step of a walk, whose cursor is dropped and not closed.
-fn step_once<L: Ledger>(tree: &Tree, pass: &mut Pass, steps: &mut Steps<L>)
+fn step_once<R: Abort, L: Ledger>(rt: &R, tree: &Tree, pass: &mut Pass, steps: &mut Steps<L>)
     requires { IsPassOf tree.now pass.old }
     ensures { IsPassOf tree.now pass.new }
 {
     let mut cursor = tree.cursor(pass, 0, u64::MAX);
-    let _ = cursor.step(steps);
+    assert_eq!(rt; cursor.step(steps), read(1, Some((10, 10, 5))));
 }
 
 /// A cursor that is dropped and not closed holds the rows until its pass reads again.
@@ -65,7 +65,7 @@ fn drop_the_cursor<R: Wait + Abort, L: Ledger>(
 )
     requires { IsPassOf tree.now writer.old × IsPassOf tree.now reader.old }
 {
-    step_once(tree, reader, steps);
+    step_once(rt, tree, reader, steps);
     fill(rt, tree, writer);
     let (lo, hi, value) = (6, 6, Some(5));
     assert_eq!(rt; tree.load(reader, 10, steps), Read { lo, hi, value });
@@ -117,7 +117,7 @@ fn hold<R: Wait + Abort, L: Ledger>(
         return;
     }
     let mut cursor = tree.cursor(reader, 0, u64::MAX);
-    let _ = cursor.step(&mut steps);
+    assert_eq!(rt; cursor.step(&mut steps), read(1, Some((10, 10, 5))));
     fill(rt, tree, writer);
     if held == Held::Closed {
         cursor.close(&mut steps);
@@ -145,10 +145,10 @@ fn close_the_older_cursor<R: Wait + Abort, L: Ledger>(
     let mut steps = Steps::<L>::new(blank);
     store(rt, tree, writer, 10, 1, Reply::Ok);
     let mut two = tree.cursor(older, 0, u64::MAX);
-    let _ = two.step(&mut steps);
+    assert_eq!(rt; two.step(&mut steps), read(1, Some((10, 10, 9))));
     store(rt, tree, writer, 20, 2, Reply::Ok);
     let mut one = tree.cursor(younger, 0, u64::MAX);
-    let _ = one.step(&mut steps);
+    assert_eq!(rt; one.step(&mut steps), read(2, Some((10, 10, 9))));
     store(rt, tree, writer, 30, 3, Reply::Ok);
     store(rt, tree, writer, 40, 4, Reply::Ok);
     store(rt, tree, writer, 50, 5, Reply::Ok);

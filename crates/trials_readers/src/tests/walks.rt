@@ -3,23 +3,14 @@
 ghost use Rattle.std.specs.Prelude.{◌≡◌, ◌<◌};
 ghost use Rattle.mt_tree.specs.Trees.{IsPassOf};
 
-use crate::tests::{last_pass, made, store_range};
-use mt_base::{Kind, Range, Steps};
-use mt_tree::{Pass, Read, Tree};
+use crate::tests::{last_pass, made, read, store_range};
+use mt_base::{Kind, Steps};
+use mt_tree::{Pass, Tree};
 use std::marker::Brand;
 use std::process::Abort;
 use std::sync::Wait;
 use std::sync::ledger::{Blank, Ledger};
 use std::test::Fail;
-
-/// What a step is answered where its window is one number of calls.
-fn read(calls: u64, found: Option<(u64, u64, u64)>) -> Read<Option<Range>> {
-    Read {
-        lo: calls,
-        hi: calls,
-        value: found.map(|(first, last, entry)| Range { first, last, entry }),
-    }
-}
 
 /// A walk of one pass, between whose steps another pass stores.
 fn walk<R: Wait + Abort, L: Ledger>(
