@@ -4,8 +4,7 @@ ghost use Rattle.std.specs.Prelude.{◌≡◌, All, Some};
 ghost use Rattle.mt_base.specs.declared.kinds.Kind.TheVariants.{Alloc};
 ghost use Rattle.mt_numbers.specs.Calls.{KnowsItsOwn};
 ghost use Rattle.mt_numbers.specs.Tallies.{outcome_text};
-ghost use Rattle.mt_rule.specs.Tokens.{pass_in};
-ghost use Rattle.mt_tree.specs.Trees.{opened, IsPassOf};
+ghost use Rattle.mt_tree.specs.Trees.{opened, pass_in, IsPassOf};
 
 use crate::marks::Marks;
 use crate::numbers::Numbers;

@@ -2,10 +2,9 @@
 
 ghost use Rattle.std.specs.Prelude.{◌≡◌, All, IfOk};
 ghost use Rattle.mt_base.specs.declared.kinds.Kind.TheVariants.{Alloc};
-ghost use Rattle.mt_rule.specs.Tokens.{pass_in};
 ghost use Rattle.mt_numbers.specs.Calls as defined;
 ghost use Rattle.mt_numbers.specs.Calls.{given_back_by, taken_by, Asked, GaveBack, KnowsItsOwn};
-ghost use Rattle.mt_tree.specs.Trees.{opened, IsPassOf};
+ghost use Rattle.mt_tree.specs.Trees.{opened, pass_in, IsPassOf};
 
 use crate::numbers::{NUMBERS, Numbers};
 use mt_base::{Kind, MOST_ROWS, Reply};
