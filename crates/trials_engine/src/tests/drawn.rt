@@ -2,7 +2,7 @@ ghost use Rattle.std.specs.Prelude.{◌≡◌, ◌<◌, ◌+◌, ◌-◌, ◌^�
 ghost use Rattle.mt_base.specs.declared.kinds.Kind.TheVariants as kinds;
 
 use crate::tests::{TOP, expect_answers, fresh, fresh_of, same};
-use mt_base::{Call, Kind, MOST_ROWS, NoMemory, Query};
+use mt_base::{Call, Kind, MOST_ROWS, NoMemory, Query, Reply};
 use mt_engine::Engine;
 use mt_list::{ListMap, Ranges};
 use mt_rows::PlainRows;
@@ -159,15 +159,19 @@ fn a_hundred_thousand_calls_are_answered_as_by_a_list(rt: HostRuntime) -> Result
 }
 
 /// Stores a thousand ranges of ten indexes, each behind a hole of ten.
-fn fill(engine: &mut Engine<PlainRows>, list: &mut ListMap) -> Result<(), NoMemory>
+fn fill(
+    rt: &impl Abort,
+    engine: &mut Engine<PlainRows>,
+    list: &mut ListMap,
+) -> Result<(), NoMemory>
     requires few { engine.old.sheet.ended + 1000 < 2 ^ 62 }
     ensures ended { OnOk result (engine.new.sheet.ended ≡ engine.old.sheet.ended + 1000) }
     ensures kind { engine.new.kind ≡ engine.old.kind }
 {
     for n in 0..1000_u64 {
         let call = call!(store 20 * n + 10, 20 * n + 19, 1);
-        engine.apply(&call);
-        list.act(&call)?;
+        same(rt, engine.apply(&call), Reply::Ok, n);
+        same(rt, list.act(&call)?, Reply::Ok, n);
     }
     Ok(())
 }
@@ -177,7 +181,7 @@ fn ten_thousand_calls_on_areas_are_answered_as_by_a_list(rt: HostRuntime) -> Res
     let mut engine = fresh_of(rt.alloc(), Kind::Alloc, MOST_ROWS)?;
     let mut list = ListMap::new(rt.alloc(), Kind::Alloc);
     let mut draws = Draws { state: 3 };
-    fill(&mut engine, &mut list)?;
+    fill(&rt, &mut engine, &mut list)?;
     for _ in 0..10_u64 {
         expect_calls(&rt, rt.alloc(), &mut engine, &mut list, &mut draws)?;
     }

@@ -81,7 +81,7 @@ fn played(
     let mut list = ListMap::new(alloc, kind);
     for call in calls {
         same(rt, engine.apply(call), Reply::Ok, *call);
-        list.act(call)?;
+        same(rt, list.act(call)?, Reply::Ok, *call);
     }
     Ok((engine, list))
 }
