@@ -5,7 +5,7 @@ use Rattle.mt_texts.proofs.Walking.{walked}
 use Rattle.mt_texts.proofs.walks.CursorWalksLaneTree.step.Goals as goal
 
 pub returns-clause-walked : goal.returns-clause-walked
-returns-clause-walked g c =
+returns-clause-walked c =
     let old = c.args.self.now in
     let new = c.advance-read.new.self in
     let read = c.advance-read.result in
@@ -14,4 +14,4 @@ returns-clause-walked g c =
     (ap (λ t. opened t.now) ensured.tree) ensured.same_reference ensured.read ensured.section ensured.at ensured.max c.requires
 
 pub returns-clause-own : goal.returns-clause-own
-returns-clause-own g c = c.advance-read.ensures.epoch ∙ sym (ap (λ (p : Pass). p.standing) c.advance-read.ensures.section.pass)
+returns-clause-own c = c.advance-read.ensures.epoch ∙ sym (ap (λ (p : Pass). p.standing) c.advance-read.ensures.section.pass)
