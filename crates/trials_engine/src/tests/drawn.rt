@@ -159,11 +159,7 @@ fn a_hundred_thousand_calls_are_answered_as_by_a_list(rt: HostRuntime) -> Result
 }
 
 /// Stores a thousand ranges of ten indexes, each behind a hole of ten.
-fn fill(
-    rt: &impl Abort,
-    engine: &mut Engine<PlainRows>,
-    list: &mut ListMap,
-) -> Result<(), NoMemory>
+fn fill(rt: &impl Abort, engine: &mut Engine<PlainRows>, list: &mut ListMap) -> Result<(), NoMemory>
     requires few { engine.old.sheet.ended + 1000 < 2 ^ 62 }
     ensures ended { OnOk result (engine.new.sheet.ended ≡ engine.old.sheet.ended + 1000) }
     ensures kind { engine.new.kind ≡ engine.old.kind }
