@@ -1,3 +1,4 @@
+pub mod AboveTop
 pub mod AreasWant
 pub mod CallsKeepOrder
 pub mod FreeAreas

@@ -29,6 +29,8 @@ erased m index (Some r) = (without m index, reply.Was r.entry)
 abbrev pub finds_room : Kind → Bool
 finds_room kinds.Range = false
 finds_room kinds.Alloc = true
+finds_room kinds.Range32 = false
+finds_room kinds.Alloc32 = true
 
 -- what a search for so many indexes in a window cannot mean: one in a tree whose holes are not searched; or for no index; or
 -- in a window that ends before it begins, or above the greatest index, or that has fewer indexes

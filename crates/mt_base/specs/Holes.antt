@@ -21,9 +21,12 @@ abbrev pub holes_from : ℕ → ℕ → List Range → List Hole
 holes_from lo hi [] = hole_between lo hi
 holes_from lo hi (r ∷ m) = hole_between lo r.first ++ holes_from (r.last + 1) hi m
 
--- the holes of a map of a tree of this kind, each as long as it can be
+-- the holes of a map up to an index, each as long as it can be; and those of a map of a tree of this kind
+abbrev pub holes_to : ℕ → List Range → List Hole
+holes_to top m = holes_from 0 (top + 1) m
+
 abbrev pub holes : Kind → List Range → List Hole
-holes kind m = holes_from 0 (greatest_of kind + 1) m
+holes kind = holes_to (greatest_of kind)
 
 -- the part of a hole in a window; where it has none, the part ends before it begins
 abbrev pub clip : ℕ → ℕ → Hole → Hole
@@ -45,12 +48,19 @@ lowest_in xs = option_map (λ x. x.first) (slice_get xs 0)
 abbrev pub highest_in : ℕ → List Hole → Option ℕ
 highest_in n xs = option_map (λ x. x.last + 1 - n) (slice_get xs (length xs - 1))
 
--- the lowest and the highest start of so many indexes that lie in one hole and in the window
+-- the lowest and the highest start of so many indexes that lie in one hole up to an index and in the window
+abbrev pub low_to : ℕ → List Range → ℕ → ℕ → ℕ → Option ℕ
+low_to top m n lo hi = lowest_in (kept n lo hi (holes_to top m))
+
+abbrev pub high_to : ℕ → List Range → ℕ → ℕ → ℕ → Option ℕ
+high_to top m n lo hi = highest_in n (kept n lo hi (holes_to top m))
+
+-- and those in a tree of this kind
 abbrev pub low : Kind → List Range → ℕ → ℕ → ℕ → Option ℕ
-low kind m n lo hi = lowest_in (kept n lo hi (holes kind m))
+low kind = low_to (greatest_of kind)
 
 abbrev pub high : Kind → List Range → ℕ → ℕ → ℕ → Option ℕ
-high kind m n lo hi = highest_in n (kept n lo hi (holes kind m))
+high kind = high_to (greatest_of kind)
 
 -- so many indexes from a start lie in the window, and no range holds one of them
 pub record IsRoom (m : List Range) (n lo hi start : ℕ) : Type 0 where

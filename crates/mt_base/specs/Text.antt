@@ -8,6 +8,8 @@ use Rattle.mt_base.specs.declared.ranges.Range.{Range}
 abbrev pub kind_text : Kind → List ℕ
 kind_text kinds.Range = codes "range"
 kind_text kinds.Alloc = codes "alloc"
+kind_text kinds.Range32 = codes "range32"
+kind_text kinds.Alloc32 = codes "alloc32"
 
 -- a range as its first and last index and its entry
 abbrev pub range_text : Range → List ℕ

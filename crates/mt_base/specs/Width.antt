@@ -1,19 +1,22 @@
 -- How wide the words of a tree's rows are, and how large a tree can be.
--- Source: the kernel's include/linux/maple_tree.h, for machines of 64 bits; that rows are numbered in 16 bits, from which
--- number on, and how many of them a call takes, are this project's.
+-- Source: the kernel's include/linux/maple_tree.h, for machines of 64 bits; the narrow width, that rows are numbered in 16 bits,
+-- from which number on, and how many of them a call takes, are this project's.
 use Rattle.std.specs.Prelude.{ℕ, ◌+◌, ◌-◌, ◌*◌, ◌^◌}
 use Rattle.mt_base.specs.declared.kinds.Kind.{Kind}
 use Rattle.mt_base.specs.declared.kinds.Kind.TheVariants as kinds
 use Rattle.mt_base.specs.declared.widths.Width.{Width}
-use Rattle.mt_base.specs.declared.widths.Width.TheVariants.{Long}
+use Rattle.mt_base.specs.declared.widths.Width.TheVariants.{Long, Short}
 
 abbrev pub kind_width : Kind → Width
 kind_width kinds.Range = Long
 kind_width kinds.Alloc = Long
+kind_width kinds.Range32 = Short
+kind_width kinds.Alloc32 = Short
 
 -- the greatest index
 abbrev pub greatest : Width → ℕ
 greatest Long = 2 ^ 64 - 1
+greatest Short = 2 ^ 32 - 1
 
 -- the greatest index of a tree of this kind
 abbrev pub greatest_of : Kind → ℕ
@@ -22,6 +25,7 @@ greatest_of kind = greatest (kind_width kind)
 -- how many words a row has
 abbrev pub columns : Width → ℕ
 columns Long = 32
+columns Short = 64
 
 -- rows are numbered from here
 abbrev pub first_row : ℕ

@@ -93,12 +93,12 @@ pub fn is_invalid(kind: Kind, first: u64, last: u64, entry: u64) -> bool
 }
 
 /// Whether the holes of a tree of this kind are searched.
-fn finds_room(kind: Kind) -> bool
+pub fn finds_room(kind: Kind) -> bool
     ensures { result ≡ finds_room kind }
 {
     match kind {
-        Kind::Range => false,
-        Kind::Alloc => true,
+        Kind::Range | Kind::Range32 => false,
+        Kind::Alloc | Kind::Alloc32 => true,
     }
 }
 

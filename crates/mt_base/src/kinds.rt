@@ -7,6 +7,10 @@ pub enum Kind {
     Range,
     /// The tree can also find room for a range.
     Alloc,
+    /// Ranges are stored where the caller says, and indexes have 32 bits.
+    Range32,
+    /// The tree can also find room for a range, and indexes have 32 bits.
+    Alloc32,
 }
 
 impl fmt::Display for Kind {
@@ -19,6 +23,8 @@ impl fmt::Display for Kind {
         match self {
             Kind::Range => write!(f, "range"),
             Kind::Alloc => write!(f, "alloc"),
+            Kind::Range32 => write!(f, "range32"),
+            Kind::Alloc32 => write!(f, "alloc32"),
         }
     }
 }

@@ -77,6 +77,8 @@ pub fn worked_searches()
     ensures full { low kinds.Alloc (record { first = 0; last = 16; entry = 4096 } ∷ []) 1 0 16 ≡ None }
     ensures high { high kinds.Alloc (record { first = 0; last = 16; entry = 4096 } ∷ []) 4 0 (2 ^ 64 - 1) ≡ Some 18446744073709551612 }
     ensures empty { low kinds.Alloc [] 1 0 (2 ^ 64 - 1) ≡ Some 0 }
+    ensures narrow { high kinds.Alloc32 (record { first = 0; last = 9; entry = 1 } ∷ []) 10 0 (2 ^ 32 - 1) ≡ Some 4294967286 }
+    ensures narrow_full { low kinds.Alloc32 (record { first = 0; last = 4294967294; entry = 1 } ∷ []) 2 0 (2 ^ 32 - 1) ≡ None }
 {}
 
 /// A call that stores an entry where it finds room wants rows exactly where it finds some.

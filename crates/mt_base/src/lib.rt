@@ -10,7 +10,7 @@ mod replies;
 mod steps;
 mod widths;
 
-pub use calls::{Call, Query, is_bad_area, is_invalid, is_no_area, is_reserved};
+pub use calls::{Call, Query, finds_room, is_bad_area, is_invalid, is_no_area, is_reserved};
 pub use kinds::Kind;
 pub use memory::NoMemory;
 pub use ranges::Range;

@@ -20,6 +20,8 @@ pub const MOST_TAKEN: usize = 28;
 pub enum Width {
     /// Indexes of 64 bits, and rows of 32 words.
     Long,
+    /// Indexes of 32 bits, and rows of 64 words.
+    Short,
 }
 
 /// The width of the rows of a tree of this kind.
@@ -28,6 +30,7 @@ pub fn width_of(kind: Kind) -> Width
 {
     match kind {
         Kind::Range | Kind::Alloc => Width::Long,
+        Kind::Range32 | Kind::Alloc32 => Width::Short,
     }
 }
 
@@ -37,6 +40,7 @@ pub fn top(width: Width) -> u64
 {
     match width {
         Width::Long => u64::MAX,
+        Width::Short => 4_294_967_295,
     }
 }
 
@@ -46,5 +50,6 @@ pub fn cols(width: Width) -> u32
 {
     match width {
         Width::Long => 32,
+        Width::Short => 64,
     }
 }
