@@ -2,7 +2,7 @@
 use Rattle.std.proofs.Common.{◌≡◌, ◌≢◌, ℕ, ◌+◌, ◌*◌, ◌<◌, ◌≤◌, Some, inl, inr, refl, ap, arith}
 use Rattle.std.specs.Prelude.{◌⊎◌}
 use Rattle.mt_base.specs.declared.widths.Width.{Width}
-use Rattle.mt_base.specs.declared.widths.Width.TheVariants.{Long}
+use Rattle.mt_base.specs.declared.widths.Width.TheVariants.{Long, Short}
 use Rattle.mt_base.specs.Width.{columns}
 use Rattle.mt_layout.specs.declared.names.RowKind.{RowKind}
 use Rattle.mt_layout.specs.declared.names.RowKind.TheVariants as kinds
@@ -13,27 +13,41 @@ pub sizes : (width : Width) (kind : RowKind) → AreSizes width kind
 sizes Long kinds.Leaf = record { least = omega arith; some = omega arith; room = omega arith; columns_fit = omega arith; gaps = inl refl }
 sizes Long kinds.Inner = record { least = omega arith; some = omega arith; room = omega arith; columns_fit = omega arith; gaps = inl refl }
 sizes Long kinds.Gapped = record { least = omega arith; some = omega arith; room = omega arith; columns_fit = omega arith; gaps = inr refl }
+sizes Short kinds.Leaf = record { least = omega arith; some = omega arith; room = omega arith; columns_fit = omega arith; gaps = inl refl }
+sizes Short kinds.Inner = record { least = omega arith; some = omega arith; room = omega arith; columns_fit = omega arith; gaps = inl refl }
+sizes Short kinds.Gapped = record { least = omega arith; some = omega arith; room = omega arith; columns_fit = omega arith; gaps = inr refl }
 
 pub all_gaps_of : (width : Width) → gaps_of width kinds.Gapped ≡ slots_of width kinds.Gapped
 all_gaps_of Long = refl
+all_gaps_of Short = refl
 
 pub no_gaps_of : (width : Width) (kind : RowKind) → kind ≢ kinds.Gapped → gaps_of width kind ≡ 0
 no_gaps_of Long kinds.Leaf other = refl
 no_gaps_of Long kinds.Inner other = refl
 no_gaps_of Long kinds.Gapped other = absurd (other refl)
+no_gaps_of Short kinds.Leaf other = refl
+no_gaps_of Short kinds.Inner other = refl
+no_gaps_of Short kinds.Gapped other = absurd (other refl)
 
-pub few_slots_of : (width : Width) (kind : RowKind) → slots_of width kind ≤ 16
+pub few_slots_of : (width : Width) (kind : RowKind) → slots_of width kind ≤ 32
 few_slots_of Long kinds.Leaf = omega arith
 few_slots_of Long kinds.Inner = omega arith
 few_slots_of Long kinds.Gapped = omega arith
+few_slots_of Short kinds.Leaf = omega arith
+few_slots_of Short kinds.Inner = omega arith
+few_slots_of Short kinds.Gapped = omega arith
 
 pub least_four : (width : Width) (kind : RowKind) → 4 ≤ least_items width kind
 least_four Long kinds.Leaf = omega arith
 least_four Long kinds.Inner = omega arith
 least_four Long kinds.Gapped = omega arith
+least_four Short kinds.Leaf = omega arith
+least_four Short kinds.Inner = omega arith
+least_four Short kinds.Gapped = omega arith
 
 pub least_six : (width : Width) → 6 ≤ least_items width kinds.Leaf
 least_six Long = omega arith
+least_six Short = omega arith
 
 -- ---- of a width and a kind
 

@@ -5,7 +5,7 @@ ghost use Rattle.mt_layout.specs.Rows.{IsRowNumber, Names, name_at, row_in, name
 use mt_base::{FIRST_ROW, MOST_ROWS};
 use std::marker::Model;
 
-/// A row's address is its number times this: as many bytes as a row has.
+/// A row's address is its number times this, whatever the row's width.
 const ROW_SIZE: u64 = 256;
 
 /// The low bytes of names, which tell the kind of the row.

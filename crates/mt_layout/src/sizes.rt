@@ -15,10 +15,10 @@ use mt_base::Width;
 pub const RUN_ROOM: usize = 72;
 
 /// A row of any width and kind has so many words at the most.
-pub const MOST_WORDS: usize = 32;
+pub const MOST_WORDS: usize = 64;
 
 /// A row of any width and kind has so many slots at the most.
-pub const MOST_SLOTS: usize = 16;
+pub const MOST_SLOTS: usize = 32;
 
 /// How many slots a row of this kind has. They stand in the columns from that number on, behind the parent word and the
 /// pivots.
@@ -28,6 +28,8 @@ pub fn slots(width: Width, kind: RowKind) -> u32
     match (width, kind) {
         (Width::Long, RowKind::Leaf | RowKind::Inner) => 16,
         (Width::Long, RowKind::Gapped) => 10,
+        (Width::Short, RowKind::Leaf | RowKind::Inner) => 32,
+        (Width::Short, RowKind::Gapped) => 21,
     }
 }
 
@@ -38,6 +40,8 @@ pub fn gaps(width: Width, kind: RowKind) -> u32
     match (width, kind) {
         (Width::Long, RowKind::Leaf | RowKind::Inner) => 0,
         (Width::Long, RowKind::Gapped) => 10,
+        (Width::Short, RowKind::Leaf | RowKind::Inner) => 0,
+        (Width::Short, RowKind::Gapped) => 21,
     }
 }
 
@@ -48,6 +52,8 @@ pub fn least_items(width: Width, kind: RowKind) -> u32
     match (width, kind) {
         (Width::Long, RowKind::Leaf | RowKind::Inner) => 6,
         (Width::Long, RowKind::Gapped) => 4,
+        (Width::Short, RowKind::Leaf | RowKind::Inner) => 14,
+        (Width::Short, RowKind::Gapped) => 9,
     }
 }
 
@@ -74,6 +80,8 @@ pub fn items_of(width: Width, kind: RowKind, words: &[u64], max: u64) -> ArrayVe
     match (width, kind) {
         (Width::Long, RowKind::Leaf | RowKind::Inner) => items_by::<16, 0>(words, max),
         (Width::Long, RowKind::Gapped) => items_by::<10, 10>(words, max),
+        (Width::Short, RowKind::Leaf | RowKind::Inner) => items_by::<32, 0>(words, max),
+        (Width::Short, RowKind::Gapped) => items_by::<21, 21>(words, max),
     }
 }
 
@@ -88,5 +96,9 @@ pub fn words_of(width: Width, kind: RowKind, items: &[Item], parent: u64, words:
             Layout::<16, 0>::words_of(items, parent, words);
         }
         (Width::Long, RowKind::Gapped) => Layout::<10, 10>::words_of(items, parent, words),
+        (Width::Short, RowKind::Leaf | RowKind::Inner) => {
+            Layout::<32, 0>::words_of(items, parent, words);
+        }
+        (Width::Short, RowKind::Gapped) => Layout::<21, 21>::words_of(items, parent, words),
     }
 }
