@@ -6,7 +6,6 @@ use Rattle.std.specs.List.{AllByRecursion, flat_map}
 use Rattle.std.proofs.lemmas.Bool.{cases_Bool, eqb-true}
 use Rattle.std.proofs.lemmas.Grind.{flat_map-append}
 use Rattle.std.proofs.Math.Nat.{pow-succ'}
-use Rattle.mt_base.specs.declared.kinds.Kind.{Kind}
 use Rattle.mt_base.specs.declared.ranges.Range.{Range}
 use Rattle.mt_base.specs.Width.{deepest}
 use Rattle.mt_layout.specs.declared.names.RowKind.TheVariants.{Leaf}
@@ -38,14 +37,14 @@ leaf_rows t depth (x ∷ xs) leaf =
     let behind = leaf_rows t depth xs leaf.1 in
     omega (arith, here, behind)
 
-inner_rows : (tree : Kind) (t : Table) (depth : ℕ) (xs : List Span) → AllByRecursion (IsInner tree) xs
+inner_rows : (gapped : Bool) (t : Table) (depth : ℕ) (xs : List Span) → AllByRecursion (IsInner gapped) xs
     → length (flat_map (rows_of t (suc depth)) xs) ≡ length xs + length (flat_map (rows_of t depth) (expand t xs))
-inner_rows tree t depth [] inner = refl
-inner_rows tree t depth (x ∷ xs) inner =
-    let first : rows_of t (suc depth) x ≡ row_in x.word ∷ flat_map (rows_of t depth) (spans_in t x) = by_inner tree (named_kind x.word) (row_in x.word ∷ []) (row_in x.word ∷ flat_map (rows_of t depth) (spans_in t x)) inner.0 in
+inner_rows gapped t depth [] inner = refl
+inner_rows gapped t depth (x ∷ xs) inner =
+    let first : rows_of t (suc depth) x ≡ row_in x.word ∷ flat_map (rows_of t depth) (spans_in t x) = by_inner gapped (named_kind x.word) (row_in x.word ∷ []) (row_in x.word ∷ flat_map (rows_of t depth) (spans_in t x)) inner.0 in
     let here = ap (λ (l : List ℕ). length (l ++ flat_map (rows_of t (suc depth)) xs)) first in
     let apart = length-append (flat_map (rows_of t depth) (spans_in t x)) (flat_map (rows_of t (suc depth)) xs) in
-    let behind = inner_rows tree t depth xs inner.1 in
+    let behind = inner_rows gapped t depth xs inner.1 in
     let below = ap (λ (l : List ℕ). length l) (flat_map-append (rows_of t depth) (spans_in t x) (expand t xs)) ∙ length-append (flat_map (rows_of t depth) (spans_in t x)) (flat_map (rows_of t depth) (expand t xs)) in
     omega (arith, here, apart, behind, below)
 
@@ -53,7 +52,7 @@ rows_by_levels : (t : Tree) (depth h : ℕ) (xs : List Span) → h < depth → L
 rows_by_levels t zero h xs deep rows = absurd (omega arith)
 rows_by_levels t (suc depth) zero xs deep rows = leaf_rows t.table depth xs (leaves t xs rows)
 rows_by_levels t (suc depth) (suc h) xs deep rows =
-    let here = inner_rows t.kind t.table depth xs (inners t h xs rows.0) in
+    let here = inner_rows t.gapped t.table depth xs (inners t h xs rows.0) in
     let below = rows_by_levels t depth h (expand t.table xs) (omega arith) rows.1 in
     omega (arith, here, below)
 

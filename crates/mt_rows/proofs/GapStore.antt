@@ -1,8 +1,7 @@
 -- One store of a gap word in a slot of a row that is reached: the tree keeps its rows and what stands in them.
-use Rattle.std.proofs.Common.{◌≡◌, ◌≢◌, ℕ, suc, ◌+◌, ◌*◌, ◌<◌, ◌≤◌, List, Option, length, sym, ap, ◌∙◌, subst, ⊎_elim, arith, get_or-set_other, get_or-set_same, refl}
+use Rattle.std.proofs.Common.{◌≡◌, ◌≢◌, ℕ, suc, ◌+◌, ◌*◌, ◌<◌, ◌≤◌, List, Option, true, length, sym, ap, ◌∙◌, subst, ⊎_elim, arith, get_or-set_other, get_or-set_same, refl}
 use Rattle.std.specs.Prelude.{slice_index, slice_set}
 use Rattle.std.proofs.lemmas.Bool.{cases_eq}
-use Rattle.mt_base.specs.declared.kinds.Kind.TheVariants as trees
 use Rattle.mt_base.specs.declared.widths.Width.{Width}
 use Rattle.mt_base.specs.Width.{columns, first_row}
 use Rattle.mt_layout.specs.declared.names.RowKind.{RowKind}
@@ -18,7 +17,7 @@ use Rattle.mt_layout.proofs.SpanLists.{length-spans_from}
 use Rattle.mt_rows.specs.Spans.{base_of, column, spans_by, spans_in}
 use Rattle.mt_rows.specs.Levels.{Levels, SameColumns, SameSpans}
 use Rattle.mt_rows.specs.Laws.{Tree, HasWords, IsRow, Stands, least_of, items_in, words_in}
-use Rattle.mt_rows.specs.Publish.{tree_as}
+use Rattle.mt_rows.specs.Publish.{tree_on}
 use Rattle.mt_rows.specs.Replacement.{root_of}
 use Rattle.mt_rows.specs.Sheet.{Rooted, with_word}
 use Rattle.mt_rows.proofs.FewSpans.{row_most}
@@ -32,9 +31,9 @@ use Rattle.mt_rows.proofs.RowLaws.{row_keeps}
 gap_fits : (width : Width) (row rows slot : ℕ) → slot < slots_of width Gapped → row < first_row + rows → columns width * row + gap_column (slots_of width Gapped) slot < columns width * (first_row + rows)
 gap_fits width row rows slot inside in_table = place_within width row (first_row + rows) (gap_column (slots_of width Gapped) slot) in_table (gap_within width slot inside)
 
-module _ (r : Rooted) (k slot gap : ℕ) (x : Span) (has : HasWords (tree_as trees.Alloc r)) (row : IsRow (tree_as trees.Alloc r) (suc k) x) (used : slot < length (spans_in r.table x)) where
+module _ (r : Rooted) (k slot gap : ℕ) (x : Span) (has : HasWords (tree_on true r)) (row : IsRow (tree_on true r) (suc k) x) (used : slot < length (spans_in r.table x)) where
   abbrev t : Tree
-  t = tree_as trees.Alloc r
+  t = tree_on true r
 
   abbrev slots : ℕ
   slots = slots_of t.table.width Gapped
@@ -50,7 +49,7 @@ module _ (r : Rooted) (k slot gap : ℕ) (x : Span) (has : HasWords (tree_as tre
   gap_stored = with_word r (row_in x.word) (gap_column (slots_of r.table.width Gapped) slot) gap
 
   abbrev then : Tree
-  then = tree_as trees.Alloc gap_stored
+  then = tree_on true gap_stored
 
   inside : slot < slots
   inside = omega (arith, (row_most row.name))
@@ -113,13 +112,13 @@ module _ (r : Rooted) (k slot gap : ℕ) (x : Span) (has : HasWords (tree_as tre
 
 -- ---- the whole tree
 
-module _ (r : Rooted) (h k slot gap : ℕ) (x : Span) (has : HasWords (tree_as trees.Alloc r)) (stands : Stands (tree_as trees.Alloc r) h) (on : OnLevel r.table h (root_of (tree_as trees.Alloc r)) (suc k) x)
+module _ (r : Rooted) (h k slot gap : ℕ) (x : Span) (has : HasWords (tree_on true r)) (stands : Stands (tree_on true r) h) (on : OnLevel r.table h (root_of (tree_on true r)) (suc k) x)
     (used : slot < length (spans_in r.table x)) where
   abbrev before : Tree
-  before = tree_as trees.Alloc r
+  before = tree_on true r
 
   abbrev after : Tree
-  after = tree_as trees.Alloc (with_word r (row_in x.word) (gap_column (slots_of r.table.width Gapped) slot) gap)
+  after = tree_on true (with_word r (row_in x.word) (gap_column (slots_of r.table.width Gapped) slot) gap)
 
   this : IsRow before (suc k) x
   this = on_level_law before h stands (suc k) x on

@@ -1,3 +1,4 @@
+mod ZeroWords
 pub mod Between
 pub mod Deeper
 pub mod Depth
@@ -16,6 +17,7 @@ pub mod Longest
 pub mod NineLevels
 pub mod Once
 pub mod OneItem
+pub mod OneWord
 pub mod PlainFates
 pub mod PlainMade
 pub mod PlainNames
@@ -35,4 +37,3 @@ pub mod SlotChild
 pub mod SlotEntry
 pub mod SlotStore
 pub mod SlotWords
-mod ZeroWords

@@ -1,9 +1,13 @@
--- A tree of as many rows as can be named has nine levels at the most: each level below the first two has four times as
--- many rows as the one above it, or more, and no row is reached twice.
+-- A tree of as many rows as can be named has nine levels at the most: each level below the first two has as many times the
+-- rows of the one above it as an inner row has items at the least, or more, and no row is reached twice. So a way from the
+-- root passes few slots.
 use Rattle.std.proofs.Common.{◌≡◌, ℕ, zero, suc, ◌+◌, ◌-◌, ◌*◌, ◌^◌, ◌<◌, ◌≤◌, ◌==◌, List, [], ◌∷◌, Bool, length, nat_lt, refl, subst, inl, inr, ⊎_elim, arith, length-append}
-use Rattle.std.specs.Prelude.{if◌then◌else◌}
+use Rattle.std.proofs.Math.Nat.{mul-le-mul_left}
+use Rattle.std.specs.Prelude.{if◌then◌else◌, true, false}
 use Rattle.std.specs.List.{AllByRecursion}
 use Rattle.std.proofs.lemmas.Bool.{cases_Bool, cases_lt, lt-ltb, ltb-true, ltb-false, le-ltb, eqb-false}
+use Rattle.mt_base.specs.declared.widths.Width.{Width}
+use Rattle.mt_base.specs.declared.widths.Width.TheVariants.{Long, Short}
 use Rattle.mt_base.specs.Width.{deepest, most_rows, first_row}
 use Rattle.mt_base.proofs.Lists.{all_map}
 use Rattle.mt_layout.specs.Rows.{row_in}
@@ -11,10 +15,10 @@ use Rattle.mt_layout.proofs.NameLaws.{Names-named_kind}
 use Rattle.mt_layout.proofs.RowSizes.{least_four}
 use Rattle.mt_layout.specs.declared.spans.Span.{Span}
 use Rattle.mt_layout.specs.Spans.{Fills}
-use Rattle.mt_layout.specs.Sizes.{least_items}
-use Rattle.mt_rows.specs.Spans.{spans_in, root_span}
+use Rattle.mt_layout.specs.Sizes.{least_items, slots_of}
+use Rattle.mt_rows.specs.Spans.{spans_in, root_span, inner_of}
 use Rattle.mt_rows.specs.Levels.{expand, level, Levels, tally, is_row_of}
-use Rattle.mt_rows.specs.Laws.{Tree, IsRow, top_of, kind_at, least_of_root}
+use Rattle.mt_rows.specs.Laws.{Tree, IsRow, top_of, kind_on, least_of_root}
 use Rattle.mt_rows.specs.Replacement.{root_of}
 use Rattle.mt_rows.proofs.Heights.{times_split, level_rows}
 use Rattle.mt_rows.proofs.Once.{IsPart, inner_wide, expand_parts, rows_wide, wide_fills, once}
@@ -22,37 +26,39 @@ use Rattle.mt_rows.proofs.Reached.{here_le}
 
 -- ---- how many rows a level has at the least
 
-part_four : (t : Tree) (h : ℕ) (x : Span) → IsPart t x → IsRow t h x → 4 ≤ length (spans_in t.table x)
-part_four t h x part row =
-    let least : least_items t.table.width (kind_at t.kind h) ≤ length (spans_in t.table x) = subst (λ (b : Bool). (if b then least_of_root h else least_items t.table.width (kind_at t.kind h)) ≤ length (spans_in t.table x)) part row.count.least in
-    omega (arith, least, least_four t.table.width (kind_at t.kind h))
+part_least : (t : Tree) (h : ℕ) (x : Span) → IsPart t x → IsRow t h x → least_items t.table.width (kind_on t.gapped h) ≤ length (spans_in t.table x)
+part_least t h x part row = subst (λ (b : Bool). (if b then least_of_root h else least_items t.table.width (kind_on t.gapped h)) ≤ length (spans_in t.table x)) part row.count.least
+
+expand_least : (t : Tree) (f h : ℕ) (xs : List Span) → f ≤ least_items t.table.width (kind_on t.gapped h) → AllByRecursion (IsPart t) xs → AllByRecursion (IsRow t h) xs → f * length xs ≤ length (expand t.table xs)
+expand_least t f h [] low parts rows = omega arith
+expand_least t f h (x ∷ xs) low parts rows =
+    omega (arith, low, length-append (spans_in t.table x) (expand t.table xs), part_least t h x parts.0 rows.0, expand_least t f h xs low parts.1 rows.1)
 
 pub expand_four : (t : Tree) (h : ℕ) (xs : List Span) → AllByRecursion (IsPart t) xs → AllByRecursion (IsRow t h) xs → 4 * length xs ≤ length (expand t.table xs)
-expand_four t h [] parts rows = omega arith
-expand_four t h (x ∷ xs) parts rows =
-    omega (arith, length-append (spans_in t.table x) (expand t.table xs), part_four t h x parts.0 rows.0, expand_four t h xs parts.1 rows.1)
+expand_four t h xs = expand_least t 4 h xs (least_four t.table.width (kind_on t.gapped h))
 
--- n, multiplied by four d times
-abbrev grown : ℕ → ℕ → ℕ
-grown zero n = n
-grown (suc d) n = grown d (4 * n)
+-- n, multiplied by f so many times
+abbrev pub grown : ℕ → ℕ → ℕ → ℕ
+grown f zero n = n
+grown f (suc d) n = grown f d (f * n)
 
-parts_grow : (t : Tree) (d k h n lo hi : ℕ) (xs : List Span) → h ≡ d + k → hi ≤ top_of t + 1 → n ≤ length xs → AllByRecursion (IsPart t) xs → Levels (IsRow t) t.table h xs → Fills lo hi xs
-    → grown d n ≤ length (level t.table d xs)
-parts_grow t zero k h n lo hi xs height within some parts rows fills = some
-parts_grow t (suc d) k zero n lo hi xs height within some parts rows fills = absurd (omega arith)
-parts_grow t (suc d) k (suc h) n lo hi xs height within some parts rows fills =
+parts_grow : (t : Tree) (f d k h n lo hi : ℕ) (xs : List Span) → f ≤ least_items t.table.width (inner_of t.gapped) → h ≡ d + k → hi ≤ top_of t + 1 → n ≤ length xs → AllByRecursion (IsPart t) xs → Levels (IsRow t) t.table h xs → Fills lo hi xs
+    → grown f d n ≤ length (level t.table d xs)
+parts_grow t f zero k h n lo hi xs low height within some parts rows fills = some
+parts_grow t f (suc d) k zero n lo hi xs low height within some parts rows fills = absurd (omega arith)
+parts_grow t f (suc d) k (suc h) n lo hi xs low height within some parts rows fills =
     let wide = rows_wide t (suc h) xs parts rows.0 in
-    let more = expand_four t (suc h) xs parts rows.0 in
-    parts_grow t d k h (4 * n) lo hi (expand t.table xs) (omega arith) within (omega (arith, more, some)) (expand_parts t lo hi xs within wide fills) rows.1 (wide_fills t.table lo hi xs wide fills)
+    let more = expand_least t f (suc h) xs low parts rows.0 in
+    let many = mul-le-mul_left f some in
+    parts_grow t f d k h (f * n) lo hi (expand t.table xs) low (omega arith) within (omega (arith, more, many)) (expand_parts t lo hi xs within wide fills) rows.1 (wide_fills t.table lo hi xs wide fills)
 
-long_level : (t : Tree) (d k h : ℕ) → h ≡ suc d + k → Levels (IsRow t) t.table h (root_of t) → grown d 2 ≤ length (level t.table (suc d) (root_of t))
-long_level t d k zero height rows = absurd (omega arith)
-long_level t d k (suc h) height rows =
+long_level : (t : Tree) (f d k h : ℕ) → f ≤ least_items t.table.width (inner_of t.gapped) → h ≡ suc d + k → Levels (IsRow t) t.table h (root_of t) → grown f d 2 ≤ length (level t.table (suc d) (root_of t))
+long_level t f d k zero low height rows = absurd (omega arith)
+long_level t f d k (suc h) low height rows =
     let root = root_span t.table t.root in
     let wide = inner_wide t h root rows.0.0 in
     let fills : Fills 0 (top_of t + 1) (root_of t) = (refl, omega arith, refl) in
-    parts_grow t d k h 2 0 (top_of t + 1) (expand t.table (root_of t)) (omega arith) (omega arith) (omega (arith, length-append (spans_in t.table root) [], wide.two))
+    parts_grow t f d k h 2 0 (top_of t + 1) (expand t.table (root_of t)) low (omega arith) (omega arith) (omega (arith, length-append (spans_in t.table root) [], wide.two))
     (expand_parts t 0 (top_of t + 1) (root_of t) (omega arith) (wide, tt) fills) rows.1 (wide_fills t.table 0 (top_of t + 1) (root_of t) (wide, tt) fills)
 
 -- ---- how many rows a level has at the most
@@ -105,17 +111,40 @@ pub level_fits : (t : Tree) (d k h : ℕ) → h ≡ d + k → Levels (IsRow t) t
 level_fits t d k h height rows =
     let here = level_rows (IsRow t) t.table d k h (root_of t) height rows in
     few (λ (x : Span). row_in x.word) first_row t.rows (level t.table d (root_of t))
-    (all_map (IsRow t k) (λ (x : Span). first_row ≤ row_in x.word) (λ x row. (Names-named_kind x.word (kind_at t.kind k) row.name.named).0.0) (level t.table d (root_of t)) here)
+    (all_map (IsRow t k) (λ (x : Span). first_row ≤ row_in x.word) (λ x row. (Names-named_kind x.word (kind_on t.gapped k) row.name.named).0.0) (level t.table d (root_of t)) here)
     (all_map (IsRow t k) (λ (x : Span). row_in x.word < first_row + t.rows) (λ x row. row.name.in_table) (level t.table d (root_of t)) here)
     (λ row. once_in_level t d k h row height rows)
 
 -- ---- so that the levels are few
 
-pub grown_fits : (t : Tree) (d k h : ℕ) → h ≡ suc d + k → Levels (IsRow t) t.table h (root_of t) → grown d 2 ≤ t.rows
-grown_fits t d k h height rows = omega (arith, long_level t d k h height rows, level_fits t (suc d) k h height rows)
+-- f is at most the least number of items of an inner row
+pub grown_fits : (t : Tree) (f d k h : ℕ) → f ≤ least_items t.table.width (inner_of t.gapped) → h ≡ suc d + k → Levels (IsRow t) t.table h (root_of t) → grown f d 2 ≤ t.rows
+grown_fits t f d k h low height rows = omega (arith, long_level t f d k h low height rows, level_fits t (suc d) k h height rows)
 
 pub nine_levels : (t : Tree) (h : ℕ) → t.rows ≤ most_rows → Levels (IsRow t) t.table h (root_of t) → h < deepest
 nine_levels t h named rows = ⊎_elim
     (λ (low : h < deepest). low)
-    (λ (high : deepest ≤ h). let many : 2 * 4 ^ (deepest - 1) ≤ t.rows = grown_fits t (deepest - 1) (h - deepest) h (omega arith) rows in absurd (omega arith))
+    (λ (high : deepest ≤ h).
+    let many : 2 * 4 ^ (deepest - 1) ≤ t.rows = grown_fits t 4 (deepest - 1) (h - deepest) h (least_four t.table.width (inner_of t.gapped)) (omega arith) rows in
+    absurd (omega arith))
     (cases_lt h deepest)
+
+-- ---- and a way passes few slots
+
+-- the slots of as many inner rows as a way has above its leaf: the rows of the levels that a narrow tree cannot have are more than there are
+few_slots : (w : Width) (gapped : Bool) (h rows : ℕ) → rows ≤ most_rows → h < deepest → ((d : ℕ) → suc d ≤ h → grown (least_items w (inner_of gapped)) d 2 ≤ rows) → slots_of w (inner_of gapped) * h ≤ 128
+few_slots Long false h rows named low many = omega arith
+few_slots Long true h rows named low many = omega arith
+few_slots Short false h rows named low many = ⊎_elim
+    (λ (below : h < 5). let goal : 32 * h ≤ 128 = omega arith in goal)
+    (λ (high : 5 ≤ h). let most : grown 14 4 2 ≤ rows = many 4 high in absurd (omega arith))
+    (cases_lt h 5)
+few_slots Short true h rows named low many = ⊎_elim
+    (λ (below : h < 6). let goal : 21 * h ≤ 128 = omega arith in goal)
+    (λ (high : 6 ≤ h). let most : grown 9 5 2 ≤ rows = many 5 high in absurd (omega arith))
+    (cases_lt h 6)
+
+pub few_slots_passed : (t : Tree) (h : ℕ) → t.rows ≤ most_rows → Levels (IsRow t) t.table h (root_of t) → slots_of t.table.width (inner_of t.gapped) * h ≤ 128
+few_slots_passed t h named rows =
+    few_slots t.table.width t.gapped h t.rows named (nine_levels t h named rows)
+    (λ d low. grown_fits t (least_items t.table.width (inner_of t.gapped)) d (h - suc d) h (omega arith) (omega arith) rows)

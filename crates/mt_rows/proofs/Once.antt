@@ -17,7 +17,7 @@ use Rattle.mt_layout.proofs.SpanLists.{fills_le}
 use Rattle.mt_rows.specs.Spans.{Table, base_of, column, spans_by, spans_in, root_span}
 use Rattle.mt_rows.specs.Levels.{expand, Levels, one_if, tally, times, is_row_of}
 use Rattle.mt_rows.specs.Trees.{reached_in}
-use Rattle.mt_rows.specs.Laws.{Tree, IsRow, Stands, top_of, kind_at, covers_all, least_of_root}
+use Rattle.mt_rows.specs.Laws.{Tree, IsRow, Stands, top_of, kind_on, covers_all, least_of_root}
 use Rattle.mt_rows.proofs.Lists.{Filled, expand_fills, levels_map, levels_here}
 use Rattle.mt_rows.proofs.Depth.{rows_by_depth}
 
@@ -35,15 +35,15 @@ part_wide : (t : Tree) (h : ℕ) (x : Span) → IsPart t x → IsRow t h x → W
 part_wide t h x part row = record {
   fills = row.pivots.fills;
   two =
-      let least : least_items t.table.width (kind_at t.kind h) ≤ length (spans_in t.table x) = subst (λ (b : Bool). (if b then least_of_root h else least_items t.table.width (kind_at t.kind h)) ≤ length (spans_in t.table x)) part row.count.least in
-      omega (arith, least, some_least t.table.width (kind_at t.kind h));
+      let least : least_items t.table.width (kind_on t.gapped h) ≤ length (spans_in t.table x) = subst (λ (b : Bool). (if b then least_of_root h else least_items t.table.width (kind_on t.gapped h)) ≤ length (spans_in t.table x)) part row.count.least in
+      omega (arith, least, some_least t.table.width (kind_on t.gapped h));
 }
 
 pub inner_wide : (t : Tree) (h : ℕ) (x : Span) → IsRow t (suc h) x → Wide t.table x
 inner_wide t h x row = record {
   fills = row.pivots.fills;
   two = elim (cases_Bool (covers_all t x)) [
-    | inl all ↦ subst (λ (b : Bool). (if b then 2 else least_items t.table.width (kind_at t.kind (suc h))) ≤ length (spans_in t.table x)) all row.count.least
+    | inl all ↦ subst (λ (b : Bool). (if b then 2 else least_items t.table.width (kind_on t.gapped (suc h))) ≤ length (spans_in t.table x)) all row.count.least
     | inr part ↦ (part_wide t (suc h) x part row).two
   ];
 }

@@ -5,10 +5,10 @@ use Rattle.std.specs.List.{AllByRecursion, fold}
 use Rattle.std.proofs.lemmas.Bool.{cases_Bool, cases_lt, cases_eq, ltb-true, ltb-false, lt-ltb, le-ltb, eq-eqb, ne_eqb}
 use Rattle.std.proofs.lemmas.List.{get_or-replicate, length-replicate, length-append, take_all, take-replicate, length-map}
 use Rattle.std.proofs.lemmas.List.Filters.{length-filter_more}
-use Rattle.std.proofs.Math.Nat.{mul-div_cancel_left}
+use Rattle.std.proofs.Math.Nat.{mul-div_cancel_left, mul-le-mul_left, mul-add}
 use Rattle.mt_base.specs.declared.widths.Width.{Width}
-use Rattle.mt_base.specs.declared.widths.Width.TheVariants.{Long}
 use Rattle.mt_base.specs.Width.{columns, deepest, first_row}
+use Rattle.mt_layout.proofs.RowSizes.{some_columns}
 use Rattle.mt_layout.specs.declared.names.RowKind.{RowKind}
 use Rattle.mt_layout.specs.declared.spans.Span.{Span}
 use Rattle.mt_layout.specs.Rows.{row_in, named_kind}
@@ -16,7 +16,7 @@ use Rattle.mt_rows.specs.declared.rows.Life.TheVariants as lives
 use Rattle.mt_rows.specs.declared.plain.Fate.{Fate}
 use Rattle.mt_rows.specs.declared.plain.Fate.TheVariants.{New, Draft, Live, Buried}
 use Rattle.mt_rows.specs.declared.plain.State.{State}
-use Rattle.mt_rows.specs.Spans.{root_span}
+use Rattle.mt_rows.specs.Spans.{Table, root_span}
 use Rattle.mt_rows.specs.Levels.{one_if, tally}
 use Rattle.mt_rows.specs.Trees.{reached_in}
 use Rattle.mt_rows.specs.Laws as laws
@@ -64,32 +64,32 @@ opened_fold : (below : List Fate → ℕ → List Fate) → ((fs : List Fate) (w
 opened_fold below each [] fates = opened_none fates
 opened_fold below each (word ∷ names) fates = opened_more fates (below fates word) (fold below (below fates word) names) (each fates word) (opened_fold below each names (below fates word))
 
-opened_by : (w : List ℕ) (depth word : ℕ) → ((fs : List Fate) (word : ℕ) → Opened fs (enlivened w depth word fs)) → (fates : List Fate) (kind : Option RowKind) → Opened fates (enlivened_by w (enlivened w depth) kind (row_in word) fates)
-opened_by w depth word each fates None = opened_none fates
-opened_by w depth word each fates (Some kind) = elim (cases_Bool (is_draft (slice_index_or fates (row_in word) New))) [
-  | inl draft ↦ rw draft (opened_more fates (slice_set fates (row_in word) Live) _ (opened_set fates (row_in word)) (opened_fold (λ (fs : List Fate) (word : ℕ). enlivened w depth word fs) each (names_of w (row_in word) kind) (slice_set fates (row_in word) Live)))
+opened_by : (t : Table) (depth word : ℕ) → ((fs : List Fate) (word : ℕ) → Opened fs (enlivened t depth word fs)) → (fates : List Fate) (kind : Option RowKind) → Opened fates (enlivened_by t (enlivened t depth) kind (row_in word) fates)
+opened_by t depth word each fates None = opened_none fates
+opened_by t depth word each fates (Some kind) = elim (cases_Bool (is_draft (slice_index_or fates (row_in word) New))) [
+  | inl draft ↦ rw draft (opened_more fates (slice_set fates (row_in word) Live) _ (opened_set fates (row_in word)) (opened_fold (λ (fs : List Fate) (word : ℕ). enlivened t depth word fs) each (names_of t (row_in word) kind) (slice_set fates (row_in word) Live)))
   | inr other ↦ rw other (opened_none fates)
 ]
 
-opened_walk : (w : List ℕ) (depth word : ℕ) (fates : List Fate) → Opened fates (enlivened w depth word fates)
-opened_walk w zero word fates = opened_none fates
-opened_walk w (suc depth) word fates = opened_by w depth word (λ fs word. opened_walk w depth word fs) fates (named_kind word)
+opened_walk : (t : Table) (depth word : ℕ) (fates : List Fate) → Opened fates (enlivened t depth word fates)
+opened_walk t zero word fates = opened_none fates
+opened_walk t (suc depth) word fates = opened_by t depth word (λ fs word. opened_walk t depth word fs) fates (named_kind word)
 
 all_drafts : (n : ℕ) → AllByRecursion IsOpen (replicate n Draft)
 all_drafts zero = tt
 all_drafts (suc n) = (inl refl, all_drafts n)
 
-module _ (w : List ℕ) (root many : ℕ) where
+module _ (t : Table) (root many : ℕ) where
   abbrev walked : List Fate
-  walked = walked_fates w root many
+  walked = walked_fates t root many
 
   pub walked_long : length walked ≡ many
   unfolding walked_fates
-  walked_long = (opened_walk w deepest root (replicate many Draft)).long ∙ length-replicate many Draft
+  walked_long = (opened_walk t deepest root (replicate many Draft)).long ∙ length-replicate many Draft
 
   walked_open : AllByRecursion IsOpen walked
   unfolding walked_fates
-  walked_open = (opened_walk w deepest root (replicate many Draft)).open_still (all_drafts many)
+  walked_open = (opened_walk t deepest root (replicate many Draft)).open_still (all_drafts many)
 
 -- once drafts are new again no row is buried
 none_buried : (past : ℕ) (fates : List Fate) → AllByRecursion IsOpen fates → map (buried_in past) (map renewed fates) ≡ replicate (length fates) false
@@ -115,10 +115,10 @@ renewed_at (f ∷ fates) zero = refl
 renewed_at (f ∷ fates) (suc row) = renewed_at fates row
 
 -- where nothing is reached no row is live
-none_live : (w : List ℕ) (root many row : ℕ) → root ≡ 0 → slice_index_or (map renewed (walked_fates w root many)) row New ≢ Live
+none_live : (t : Table) (root many row : ℕ) → root ≡ 0 → slice_index_or (map renewed (walked_fates t root many)) row New ≢ Live
 unfolding walked_fates
-none_live w root many row empty live =
-    let same = ap (λ (r : ℕ). slice_index_or (map renewed (enlivened w deepest r (replicate many Draft))) row New) empty ∙ (ap (λ (fs : List Fate). slice_index_or (map renewed fs) row New) (no_name w deepest (replicate many Draft)) ∙ drafts_new many row) in
+none_live t root many row empty live =
+    let same = ap (λ (r : ℕ). slice_index_or (map renewed (enlivened t deepest r (replicate many Draft))) row New) empty ∙ (ap (λ (fs : List Fate). slice_index_or (map renewed fs) row New) (no_name t deepest (replicate many Draft)) ∙ drafts_new many row) in
     cc
   where
     drafts_new : (many row : ℕ) → slice_index_or (map renewed (replicate many Draft)) row New ≡ New
@@ -136,7 +136,7 @@ module _ (t : laws.Tree) (has : laws.HasWords t) (h : ℕ) (stands : laws.Stands
   drafts = replicate many Draft
 
   abbrev after : List Fate
-  after = walked_fates t.table.words t.root many
+  after = walked_fates t.table t.root many
 
   ready_row : (k : ℕ) (x : Span) → laws.IsRow t k x → Ready t.table drafts k x
   ready_row zero x row = inl (get_or-replicate many (row_in x.word) Draft New row.name.in_table)
@@ -209,13 +209,13 @@ module _ (t : laws.Tree) (has : laws.HasWords t) where
   numbers = first_row + t.rows
 
   abbrev fates : List Fate
-  fates = walked_fates t.table.words t.root numbers
+  fates = walked_fates t.table t.root numbers
 
   empty_reaches : t.root ≡ 0 → Reaches rooted (replicate numbers Draft) fates
   unfolding walked_fates
   empty_reaches empty row = inr (
     ap (λ (root : ℕ). is_reached (record { rows = t.rows; table = t.table; root = root }) row) empty,
-    ap (λ (fs : List Fate). fate_at fs row) (ap (λ (root : ℕ). enlivened t.table.words deepest root (replicate numbers Draft)) empty ∙ no_name t.table.words deepest (replicate numbers Draft)),
+    ap (λ (fs : List Fate). fate_at fs row) (ap (λ (root : ℕ). enlivened t.table deepest root (replicate numbers Draft)) empty ∙ no_name t.table deepest (replicate numbers Draft)),
   )
 
   tree_reaches : laws.IsTree t → Reaches rooted (replicate numbers Draft) fates
@@ -245,7 +245,7 @@ module _ (t : laws.Tree) (has : laws.HasWords t) where
 
     live_once : (row : ℕ) → row < length fates → cond (is_live (slice_index_or fates row New)) 1 0 ≡ tally (λ (r : ℕ). r == row) (reached_in t.table t.root)
     live_once row within =
-        let long = walked_long t.table.words t.root numbers in
+        let long = walked_long t.table t.root numbers in
         let most = (counted tree row).0 in
         elim (tree_reaches tree row) [
           | inl here ↦
@@ -258,7 +258,7 @@ module _ (t : laws.Tree) (has : laws.HasWords t) where
 
     pub made_count : length (filter is_live fates) ≡ length (reached_in t.table t.root)
     made_count =
-        let long = walked_long t.table.words t.root numbers in
+        let long = walked_long t.table t.root numbers in
         live_counted (reached_in t.table t.root) fates live_once (all_counted (λ (r : ℕ). r < length fates) (reached_in t.table t.root) (λ r some. let within = (counted tree r).1 some in omega arith))
 
 pub lawful_tree : (t : laws.Tree) → laws.IsLawful t → laws.IsTree t
@@ -271,65 +271,73 @@ lawful_tree t (inr tree) = inr (tree.0, tree.1)
 abbrev pub made : State → State → ℕ → ℕ → State
 made p q root opened = record p { words = q.words; root = root; opened = opened; fates = q.fates }
 
-module _ (p q : State) (rows root opened : ℕ) (w : List ℕ) (plain : IsPlain p) (is : sheet_of p ≡ new_sheet rows) (wide : length w ≡ columns Long * rows)
-    (put : q.words.items ≡ take (columns Long * first_row) p.words.items ++ w) (walks : q.fates.items ≡ map renewed (walked_fates q.words.items root (length p.fates.items)))
-    (counts : opened ≡ length (filter is_live (walked_fates q.words.items root (length p.fates.items)))) where
+module _ (p q : State) (width : Width) (rows root opened : ℕ) (w : List ℕ) (plain : IsPlain p) (is : sheet_of p ≡ new_sheet width rows) (wide : length w ≡ columns width * rows)
+    (put : q.words.items ≡ take (columns width * first_row) p.words.items ++ w) (walks : q.fates.items ≡ map renewed (walked_fates (record { width = width; words = q.words.items }) root (length p.fates.items)))
+    (counts : opened ≡ length (filter is_live (walked_fates (record { width = width; words = q.words.items }) root (length p.fates.items)))) where
   abbrev after_words : State
   after_words = made p q root opened
+
+  abbrev table : Table
+  table = record { width = p.width; words = q.words.items }
+
+  abbrev walked_now : List Fate
+  walked_now = walked_fates table root (first_row + p.rows)
 
   rows_are : p.rows ≡ rows
   rows_are = ap (λ (s : Sheet). s.tree.rows) is
 
-  rows_counted : rows ≡ length w / columns Long
-  rows_counted = sym (mul-div_cancel_left rows (omega arith)) ∙ ap (λ (n : ℕ). n / columns Long) (sym wide)
+  width_is : p.width ≡ width
+  width_is = ap (λ (s : Sheet). s.tree.table.width) is
 
-  words_are : q.words.items ≡ replicate (columns Long * first_row) 0 ++ w
+  rows_counted : rows ≡ length w / columns width
+  rows_counted = sym (mul-div_cancel_left rows (some_columns width)) ∙ ap (λ (n : ℕ). n / columns width) (sym wide)
+
+  words_are : q.words.items ≡ replicate (columns width * first_row) 0 ++ w
   words_are =
-      put ∙ ap (λ (l : List ℕ). l ++ w) (ap (take (columns Long * first_row)) (ap (λ (s : Sheet). s.tree.table.words) is) ∙ take-replicate (columns Long * first_row) (columns Long * (first_row + rows)) 0 (omega arith))
+      let before : columns width * first_row ≤ columns width * (first_row + rows) = mul-le-mul_left (columns width) (let low : first_row ≤ first_row + rows = omega arith in low) in
+      put ∙ ap (λ (l : List ℕ). l ++ w) (ap (take (columns width * first_row)) (ap (λ (s : Sheet). s.tree.table.words) is) ∙ take-replicate (columns width * first_row) (columns width * (first_row + rows)) 0 before)
 
   words_long : length q.words.items ≡ columns p.width * (first_row + p.rows)
   words_long =
-      let all = ap (λ (l : List ℕ). length l) words_are ∙ length-append (replicate (columns Long * first_row) 0) w in
-      let zeros = length-replicate {A = ℕ} (columns Long * first_row) 0 in
-      let same = rows_are in
-      let sum : length q.words.items ≡ columns Long * (first_row + p.rows) = omega arith in
-      sum ∙ ap (λ (width : Width). columns width * (first_row + p.rows)) (sym plain.long)
+      let sum : length q.words.items ≡ columns width * (first_row + rows) =
+      ap (λ (l : List ℕ). length l) words_are
+      ∙ (length-append (replicate (columns width * first_row) 0) w
+      ∙ ((λ i. length-replicate {A = ℕ} (columns width * first_row) 0 i + wide i) ∙ sym (mul-add (columns width) first_row rows))) in
+      sum ∙ (λ i. columns (sym width_is i) * (first_row + sym rows_are i))
 
-  walked_as : walked_fates q.words.items root (length p.fates.items) ≡ walked_fates q.words.items root (first_row + p.rows)
-  walked_as = ap (walked_fates q.words.items root) plain.fates
+  walked_as : walked_fates (record { width = width; words = q.words.items }) root (length p.fates.items) ≡ walked_now
+  walked_as = λ i. walked_fates (record { width = sym width_is i; words = q.words.items }) root (plain.fates i)
 
-  fates_are : q.fates.items ≡ map renewed (walked_fates q.words.items root (first_row + p.rows))
+  fates_are : q.fates.items ≡ map renewed walked_now
   fates_are = walks ∙ ap (map renewed) walked_as
 
   pub made_plain : IsPlain after_words
   made_plain = record {
     few = plain.few;
-    long = plain.long;
     words = words_long;
-    fates = ap (λ (l : List Fate). length l) fates_are ∙ (length-map (walked_fates q.words.items root (first_row + p.rows)) renewed ∙ walked_long q.words.items root (first_row + p.rows));
+    fates = ap (λ (l : List Fate). length l) fates_are ∙ (length-map walked_now renewed ∙ walked_long table root (first_row + p.rows));
     cleared = plain.cleared;
     room = plain.room;
     calm = plain.calm;
-    buried = λ row call at. absurd (not_buried call row (walked_fates q.words.items root (first_row + p.rows)) (walked_open q.words.items root (first_row + p.rows)) (sym (ap (λ (l : List Fate). slice_index_or l row New) fates_are) ∙ at));
-    fresh = λ row first idle empty alive. none_live q.words.items root (first_row + p.rows) row empty (sym (ap (λ (l : List Fate). slice_index_or l row New) fates_are) ∙ alive);
+    buried = λ row call at. absurd (not_buried call row walked_now (walked_open table root (first_row + p.rows)) (sym (ap (λ (l : List Fate). slice_index_or l row New) fates_are) ∙ at));
+    fresh = λ row first idle empty alive. none_live table root (first_row + p.rows) row empty (sym (ap (λ (l : List Fate). slice_index_or l row New) fates_are) ∙ alive);
   }
 
   none_past : past_of after_words ≡ 0
   none_past = λ i. (is i).ended + one_if (is i).published
 
-  tree_is : (sheet_of after_words).tree ≡ tree_made Long root w
-  tree_is = λ i. record { rows = (rows_are ∙ rows_counted) i; table = record { width = plain.long i; words = words_are i }; root = root }
+  tree_is : (sheet_of after_words).tree ≡ tree_made width root w
+  tree_is = λ i. record { rows = (rows_are ∙ rows_counted) i; table = record { width = width_is i; words = words_are i }; root = root }
 
-  buried_is : map (buried_in (past_of after_words)) q.fates.items ≡ replicate (first_row + length w / columns Long) false
+  buried_is : map (buried_in (past_of after_words)) q.fates.items ≡ replicate (first_row + length w / columns width) false
   buried_is =
-      let walked = walked_fates q.words.items root (first_row + p.rows) in
       ap (map (buried_in (past_of after_words))) fates_are
-      ∙ (none_buried (past_of after_words) walked (walked_open q.words.items root (first_row + p.rows))
-      ∙ ap (λ (n : ℕ). replicate n false) (walked_long q.words.items root (first_row + p.rows) ∙ ap (λ (n : ℕ). first_row + n) (rows_are ∙ rows_counted)))
+      ∙ (none_buried (past_of after_words) walked_now (walked_open table root (first_row + p.rows))
+      ∙ ap (λ (n : ℕ). replicate n false) (walked_long table root (first_row + p.rows) ∙ ap (λ (n : ℕ). first_row + n) (rows_are ∙ rows_counted)))
 
-  pub made_is : IsMadeOf Long root w (sheet_of after_words)
+  pub made_is : IsMadeOf width root w (sheet_of after_words)
   made_is = record {
-    rest = λ i. record ((is ∙ ap new_sheet rows_counted) i) { tree = tree_is i; lives = (sheet_of after_words).lives; buried = buried_is i; opened = opened };
+    rest = λ i. record ((is ∙ ap (new_sheet width) rows_counted) i) { tree = tree_is i; lives = (sheet_of after_words).lives; buried = buried_is i; opened = opened };
     lives = λ kind lawful row first within.
         (λ i. life_of (map (life_in (none_past i)) (fates_are i)) row) ∙ made_life (tree_as kind (sheet_of after_words).tree) words_long (lawful_tree (tree_as kind (sheet_of after_words).tree) lawful.words) row within;
     opened = λ kind lawful. counts ∙ (ap (λ (l : List Fate). length (filter is_live l)) walked_as ∙ made_count (tree_as kind (sheet_of after_words).tree) words_long (lawful_tree (tree_as kind (sheet_of after_words).tree) lawful.words));

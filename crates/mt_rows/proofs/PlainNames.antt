@@ -1,13 +1,10 @@
 -- The words in the slots of an inner row are those of its items, and zeros behind them.
-use Rattle.std.proofs.Common.{◌≡◌, ℕ, zero, suc, ◌+◌, ◌-◌, ◌*◌, ◌<◌, ◌≤◌, List, [], ◌∷◌, ◌++◌, Option, Some, length, map, drop, replicate, refl, sym, ap, ◌∙◌, arith, length-append, length-take, length-drop}
+use Rattle.std.proofs.Common.{◌≡◌, ℕ, zero, suc, ◌+◌, ◌-◌, ◌*◌, ◌<◌, ◌≤◌, List, [], ◌∷◌, ◌++◌, Option, Some, Bool, true, false, length, map, drop, replicate, refl, sym, ap, ◌∙◌, arith, length-append, length-take, length-drop}
 use Rattle.std.specs.Prelude.{slice_index}
 use Rattle.std.specs.List.{slice_get, slice_range}
 use Rattle.std.proofs.lemmas.Option.{slice_get_within}
 use Rattle.std.proofs.lemmas.List.{ext_get_or, get_or-take, get_or-drop, length-map, length-replicate}
-use Rattle.mt_base.specs.declared.kinds.Kind.{Kind}
-use Rattle.mt_base.specs.declared.kinds.Kind.TheVariants as trees
 use Rattle.mt_base.specs.declared.widths.Width.{Width}
-use Rattle.mt_base.specs.declared.widths.Width.TheVariants.{Long}
 use Rattle.mt_base.specs.Width.{columns, first_row}
 use Rattle.mt_layout.specs.declared.names.RowKind.{RowKind}
 use Rattle.mt_layout.specs.declared.names.RowKind.TheVariants.{Inner, Gapped}
@@ -21,8 +18,8 @@ use Rattle.mt_layout.proofs.Places.{row_within}
 use Rattle.mt_layout.specs.Sizes.{slots_of, gaps_of}
 use Rattle.mt_layout.proofs.RowSizes.{layout_of, some_slots, slots-fit, slot_within}
 use Rattle.mt_layout.proofs.SpanLists.{length-spans_from, spans-words}
-use Rattle.mt_rows.specs.Spans.{column, spans_by, spans_in, inner_kind}
-use Rattle.mt_rows.specs.Laws.{Tree, HasWords, IsRow, kind_at, items_in}
+use Rattle.mt_rows.specs.Spans.{column, spans_by, spans_in, inner_of}
+use Rattle.mt_rows.specs.Laws.{Tree, HasWords, IsRow, kind_on, items_in}
 use Rattle.mt_rows.specs.Plain.{names_of}
 use Rattle.mt_rows.proofs.FewSpans.{row_most}
 
@@ -65,20 +62,20 @@ module _ (all base slots gaps parent : ℕ) (w : List ℕ) (items : List Item) (
   slots_read : words ≡ expected
   slots_read = ext_get_or 0 words expected (long ∙ sym long') each
 
--- a row of this kind of tree, where its words are those of its items
-read_names : (width : Width) (kind : Kind) (w : List ℕ) (row parent : ℕ) (items : List Item) → length items ≤ slots_of width (inner_kind kind) → columns width * row + columns width ≤ length w
-    → ((c : ℕ) → c < columns width → slice_index w (columns width * row + c) ≡ slice_index (row_words (columns width) (slots_of width (inner_kind kind)) (gaps_of width (inner_kind kind)) parent items) c)
-    → names_of w row (inner_kind kind) ≡ map (λ (x : Item). x.word) items ++ replicate (slots_of width (inner_kind kind) - length items) 0
-read_names Long trees.Range w row parent items fit within written = slots_read (columns Long) (columns Long * row) (slots_of Long Inner) (gaps_of Long Inner) parent w items (layout_of Long Inner) fit within written
-read_names Long trees.Alloc w row parent items fit within written = slots_read (columns Long) (columns Long * row) (slots_of Long Gapped) (gaps_of Long Gapped) parent w items (layout_of Long Gapped) fit within written
+-- an inner row of a tree with or without gaps, where its words are those of its items
+read_names : (width : Width) (gapped : Bool) (w : List ℕ) (row parent : ℕ) (items : List Item) → length items ≤ slots_of width (inner_of gapped) → columns width * row + columns width ≤ length w
+    → ((c : ℕ) → c < columns width → slice_index w (columns width * row + c) ≡ slice_index (row_words (columns width) (slots_of width (inner_of gapped)) (gaps_of width (inner_of gapped)) parent items) c)
+    → names_of (record { width = width; words = w }) row (inner_of gapped) ≡ map (λ (x : Item). x.word) items ++ replicate (slots_of width (inner_of gapped) - length items) 0
+read_names width false w row parent items fit within written = slots_read (columns width) (columns width * row) (slots_of width Inner) (gaps_of width Inner) parent w items (layout_of width Inner) fit within written
+read_names width true w row parent items fit within written = slots_read (columns width) (columns width * row) (slots_of width Gapped) (gaps_of width Gapped) parent w items (layout_of width Gapped) fit within written
 
-pub names_are : (t : Tree) (h : ℕ) (x : Span) → HasWords t → IsRow t (suc h) x → (n : ℕ) × (names_of t.table.words (row_in x.word) (inner_kind t.kind) ≡ map (λ (y : Span). y.word) (spans_in t.table x) ++ replicate n 0)
+pub names_are : (t : Tree) (h : ℕ) (x : Span) → HasWords t → IsRow t (suc h) x → (n : ℕ) × (names_of t.table (row_in x.word) (inner_of t.gapped) ≡ map (λ (y : Span). y.word) (spans_in t.table x) ++ replicate n 0)
 names_are t h x has row =
-    let items = items_in t.table (inner_kind t.kind) x in
-    let n = slots_of t.table.width (inner_kind t.kind) - length items in
+    let items = items_in t.table (inner_of t.gapped) x in
+    let n = slots_of t.table.width (inner_of t.gapped) - length items in
     let spans : spans_in t.table x ≡ spans_from x.first items = ap (λ (k : Option RowKind). spans_by t.table k x) row.name.named in
-    let fit : length items ≤ slots_of t.table.width (inner_kind t.kind) = omega (arith, (row_most row.name), ap length spans, length-spans_from x.first items) in
-    let read = read_names t.table.width t.kind t.table.words (row_in x.word) (column t.table (row_in x.word) 0) items fit (omega (arith, has, row_within t.table.width (row_in x.word) (first_row + t.rows) row.name.in_table)) row.pivots.unused in
+    let fit : length items ≤ slots_of t.table.width (inner_of t.gapped) = omega (arith, (row_most row.name), ap length spans, length-spans_from x.first items) in
+    let read = read_names t.table.width t.gapped t.table.words (row_in x.word) (column t.table (row_in x.word) 0) items fit (omega (arith, has, row_within t.table.width (row_in x.word) (first_row + t.rows) row.name.in_table)) row.pivots.unused in
     (n, read ∙ ap (λ (l : List ℕ). l ++ replicate n 0) (sym (ap (map (λ (y : Span). y.word)) spans ∙ spans-words x.first items)))
 
 -- ---- the word of an item that is read is in its slot
@@ -88,9 +85,9 @@ span_word first [] i y at = absurd (cc)
 span_word first (x ∷ items) zero y at = let same : record { first = first; last = x.last; word = x.word } ≡ y = cc in ap (λ (z : Span). z.word) (sym same)
 span_word first (x ∷ items) (suc i) y at = span_word (x.last + 1) items i y at
 
-pub slot_read : (t : Tree) (h slot : ℕ) (x y : Span) → IsRow t h x → slice_get (spans_in t.table x) slot ≡ Some y → y.word ≡ column t.table (row_in x.word) (slot_column (slots_of t.table.width (kind_at t.kind h)) slot)
+pub slot_read : (t : Tree) (h slot : ℕ) (x y : Span) → IsRow t h x → slice_get (spans_in t.table x) slot ≡ Some y → y.word ≡ column t.table (row_in x.word) (slot_column (slots_of t.table.width (kind_on t.gapped h)) slot)
 slot_read t h slot x y row at =
-    let kind = kind_at t.kind h in
+    let kind = kind_on t.gapped h in
     let slots = slots_of t.table.width kind in
     let gaps = gaps_of t.table.width kind in
     let items = items_in t.table kind x in

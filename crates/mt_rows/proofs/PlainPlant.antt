@@ -8,8 +8,7 @@ use Rattle.std.proofs.lemmas.List.Folds.{length-flat_map-take}
 use Rattle.std.proofs.Math.Nat.{pow-succ', pow-le-pow_right, one-le-pow, mul-le-mul_right, mul-add}
 use Rattle.mt_base.specs.declared.kinds.Kind.{Kind}
 use Rattle.mt_base.specs.declared.widths.Width.{Width}
-use Rattle.mt_base.specs.declared.widths.Width.TheVariants.{Long}
-use Rattle.mt_base.specs.Width.{columns, greatest, deepest, first_row}
+use Rattle.mt_base.specs.Width.{columns, deepest, first_row}
 use Rattle.mt_layout.proofs.RowSizes.{slots_of-columns, some_columns}
 use Rattle.mt_base.proofs.WidthBounds.{many_columns, deepest_fits}
 use Rattle.mt_layout.specs.declared.names.RowKind.{RowKind}
@@ -201,7 +200,6 @@ module _ (p q : State) (s : Sheet) (kind : Kind) (root opened : ℕ) (plain : Is
   pub planted_plain : IsPlain (planted p root opened q)
   planted_plain = record {
     few = plain.few;
-    long = plain.long;
     words = plain.words;
     fates = ap length settles ∙ (settled_length (reached_in (sheet_of p).tree.table root) p.fates.items ∙ plain.fates);
     cleared = plain.cleared;
@@ -243,8 +241,3 @@ module _ (p q : State) (s : Sheet) (kind : Kind) (root opened : ℕ) (plain : Is
         ∙ ap (λ (l : Life). if nat_lt 0 (tally (λ (r : ℕ). r == row) (reached_in (sheet_of p).tree.table root)) then lives.Live else l) (sym (life_at (past_of p) p.fates.items row)));
     live = live_are_reached;
   })
-
--- the rows that are counted from the root's span
-pub reached_as : (width : Width) (words words' : List ℕ) (root last : ℕ) → words' ≡ words → last ≡ greatest width
-    → rows_of (record { width = Long; words = words' }) deepest (record { first = 0; last = last; word = root }) ≡ reached_in (record { width = width; words = words }) root
-reached_as Long words words' root last same top = λ i. rows_of (record { width = Long; words = same i }) deepest (record { first = 0; last = top i; word = root })

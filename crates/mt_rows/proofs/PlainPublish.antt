@@ -1,5 +1,5 @@
 -- What a publishing store leaves: the rows that are reached are live, and the buried rows are dead.
-use Rattle.std.proofs.Common.{◌≡◌, ℕ, ◌+◌, ◌*◌, ◌<◌, ◌≤◌, List, Bool, true, false, length, refl, sym, ap, ◌∙◌, subst, inl, inr, arith, length-set}
+use Rattle.std.proofs.Common.{◌≡◌, ℕ, ◌+◌, ◌*◌, ◌<◌, ◌≤◌, Bool, true, false, length, refl, sym, ap, ◌∙◌, subst, inl, inr, arith, length-set}
 use Rattle.std.specs.Prelude.{if◌then◌else◌}
 use Rattle.std.proofs.lemmas.Bool.{cases_lt, le-leb, le-ltb, lt-ltb}
 use Rattle.std.proofs.lemmas.List.{get_or_past}
@@ -13,6 +13,7 @@ use Rattle.mt_rows.specs.declared.rows.Life.TheVariants as lives
 use Rattle.mt_rows.specs.declared.plain.Fate.{Fate}
 use Rattle.mt_rows.specs.declared.plain.Fate.TheVariants.{New, Draft, Live, Buried}
 use Rattle.mt_rows.specs.declared.plain.State.{State}
+use Rattle.mt_rows.specs.Spans.{Table}
 use Rattle.mt_rows.specs.Levels.{one_if}
 use Rattle.mt_rows.specs.Laws as laws
 use Rattle.mt_rows.specs.Sheet.{Sheet, Rooted, life_of, is_buried}
@@ -53,7 +54,7 @@ buried_fate past (Buried call) is = (call, refl)
 
 place_reaches : (b : Before) (place : Place) (word levels : ℕ) → ((r : ℕ) → is_buried b.sheet.buried r ≡ true → (first_row ≤ r) × (r < first_row + b.sheet.tree.rows)) → IsPlaceToPublish b.sheet place
     → Changes b.sheet (with_published b.sheet.tree place word) → laws.IsTree (tree_as b.kind (with_published b.sheet.tree place word)) → levels ≡ (if opens b.sheet place then deepest else 0)
-    → Reaches (with_published b.sheet.tree place word) b.fates (enlivened (with_published b.sheet.tree place word).table.words levels word b.fates)
+    → Reaches (with_published b.sheet.tree place word) b.fates (enlivened (with_published b.sheet.tree place word).table levels word b.fates)
 place_reaches b Root word levels inside at rows tree walks = root_reaches b word levels (omega arith) tree rows
 place_reaches b (Slot row col) word levels inside at rows tree walks =
     slot_reaches b inside word levels row col at.2 rows tree (
@@ -69,7 +70,7 @@ published p q = record p { fates = q.fates; published = true }
 
 -- p is what the sheet tells, with the word stored
 module _ (p q : State) (s : Sheet) (kind : Kind) (place : Place) (word levels : ℕ) (call : Call) (reply : Reply) (plain : IsPlain p) (is : sheet_of p ≡ record s { tree = with_published s.tree place word })
-    (may : MayPublish kind s place word call reply) (walks : levels ≡ (if opens s place then deepest else 0)) (walked : q.fates.items ≡ enlivened p.words.items levels word p.fates.items)
+    (may : MayPublish kind s place word call reply) (walks : levels ≡ (if opens s place then deepest else 0)) (walked : q.fates.items ≡ enlivened (sheet_of p).tree.table levels word p.fates.items)
     (long : length q.fates.items ≡ length p.fates.items) where
   abbrev after : Rooted
   after = with_published s.tree place word
@@ -98,11 +99,11 @@ module _ (p q : State) (s : Sheet) (kind : Kind) (place : Place) (word levels : 
         elim (cases_lt row (length p.fates.items)) [ inl within ↦ omega arith | inr beyond ↦ let new = get_or_past p.fates.items row New beyond in let at = fate.1 in absurd (cc) ],
       )
 
-  words_are : p.words.items ≡ after.table.words
-  words_are = ap (λ (s : Sheet). s.tree.table.words) is
+  table_is : (sheet_of p).tree.table ≡ after.table
+  table_is = ap (λ (s : Sheet). s.tree.table) is
 
   has_after : laws.HasWords (tree_as kind after)
-  has_after = sym (ap length words_are) ∙ (plain.words ∙ ap (λ (s : Sheet). columns s.tree.table.width * (first_row + s.tree.rows)) is)
+  has_after = sym (ap (λ (t : Table). length t.words) table_is) ∙ (plain.words ∙ ap (λ (s : Sheet). columns s.tree.table.width * (first_row + s.tree.rows)) is)
 
   has : (place : Place) → laws.HasWords (tree_as kind (with_published s.tree place word)) → laws.HasWords (tree_as kind s.tree)
   has Root long = long
@@ -123,7 +124,7 @@ module _ (p q : State) (s : Sheet) (kind : Kind) (place : Place) (word levels : 
 
   reaches : Reaches after p.fates.items q.fates.items
   unfolding before
-  reaches = subst (Reaches after p.fates.items) (sym (walked ∙ ap (λ (w : List ℕ). enlivened w levels word p.fates.items) words_are)) (place_reaches before place word levels inside may.at may.rows may.after walks)
+  reaches = subst (Reaches after p.fates.items) (sym (walked ∙ ap (λ (t : Table). enlivened t levels word p.fates.items) table_is)) (place_reaches before place word levels inside may.at may.rows may.after walks)
 
   buried_stays : (row call : ℕ) → fate_at q.fates.items row ≡ Buried call → fate_of p row ≡ Buried call
   buried_stays row call at = elim (reaches row) [ inl here ↦ let live = here.1 in absurd (cc) | inr not ↦ sym not.1 ∙ at ]
@@ -131,7 +132,6 @@ module _ (p q : State) (s : Sheet) (kind : Kind) (place : Place) (word levels : 
   pub published_plain : IsPlain (published p q)
   published_plain = record {
     few = plain.few;
-    long = plain.long;
     words = plain.words;
     fates = long ∙ plain.fates;
     cleared = plain.cleared;

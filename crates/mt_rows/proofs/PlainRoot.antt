@@ -43,12 +43,12 @@ module _ (b : Before) (word depth : ℕ) (deep : deepest ≤ depth) where
   t' = tree_as b.kind after
 
   abbrev fates' : List Fate
-  fates' = enlivened s.tree.table.words depth word b.fates
+  fates' = enlivened s.tree.table depth word b.fates
 
   empty_reaches : word ≡ 0 → Reaches after b.fates fates'
   empty_reaches empty row = inr (
     ap (λ (root : ℕ). is_reached (record { rows = s.tree.rows; table = s.tree.table; root = root }) row) empty,
-    ap (λ (fs : List Fate). fate_at fs row) (ap (λ (root : ℕ). enlivened s.tree.table.words depth root b.fates) empty ∙ no_name s.tree.table.words depth b.fates),
+    ap (λ (fs : List Fate). fate_at fs row) (ap (λ (root : ℕ). enlivened s.tree.table depth root b.fates) empty ∙ no_name s.tree.table depth b.fates),
   )
 
   module _ (rows : Changes s after) (h' : ℕ) (stands' : laws.Stands t' h') where

@@ -204,7 +204,7 @@ module _ (b : Before) (h k d slot word : ℕ) (at child : Span) (stands : laws.S
 
   -- ---- the walk from the word
 
-  pub inner_reaches : (depth : ℕ) → deepest ≤ depth → Reaches inner_after b.fates (enlivened inner_after.table.words depth word b.fates)
+  pub inner_reaches : (depth : ℕ) → deepest ≤ depth → Reaches inner_after b.fates (enlivened inner_after.table depth word b.fates)
   inner_reaches depth deep r =
       let low = stands.low in
       let has' : laws.HasWords inner_tree' = length-set b.sheet.tree.table.words (base_of b.sheet.tree.table (row_in at.word) + slot_column (slots_of b.sheet.tree.table.width (laws.kind_at b.kind (suc k))) slot) word ∙ b.has in
@@ -277,8 +277,8 @@ module _ (b : Before) (h k d slot word : ℕ) (at child : Span) (stands : laws.S
 
 -- ---- in any slot
 
-same_kind : (t : laws.Tree) (low : ℕ) (x : Span) (kind : RowKind) → laws.IsRow t low x → named_kind x.word ≡ Some kind → laws.kind_at t.kind low ≡ kind
-same_kind t low x kind law named = let same : Some (laws.kind_at t.kind low) ≡ Some kind = sym law.name.named ∙ named in cc
+same_kind : (t : laws.Tree) (low : ℕ) (x : Span) (kind : RowKind) → laws.IsRow t low x → named_kind x.word ≡ Some kind → laws.kind_on t.gapped low ≡ kind
+same_kind t low x kind law named = let same : Some (laws.kind_on t.gapped low) ≡ Some kind = sym law.name.named ∙ named in cc
 
 module _ (b : Before) (inside : (r : ℕ) → is_buried b.sheet.buried r ≡ true → (first_row ≤ r) × (r < first_row + b.sheet.tree.rows)) (word levels : ℕ) where
   -- how many levels are walked where a word is stored in this slot
@@ -286,12 +286,12 @@ module _ (b : Before) (inside : (r : ℕ) → is_buried b.sheet.buried r ≡ tru
   Walks row col = (opens b.sheet (Slot row col) ≡ true → deepest ≤ levels) × (opens b.sheet (Slot row col) ≡ false → levels ≡ 0)
 
   abbrev SlotReaches : ℕ → ℕ → Type 0
-  SlotReaches row col = let after = with_word b.sheet.tree row col word in Changes b.sheet after → laws.IsTree (tree_as b.kind after) → Walks row col → Reaches after b.fates (enlivened after.table.words levels word b.fates)
+  SlotReaches row col = let after = with_word b.sheet.tree row col word in Changes b.sheet after → laws.IsTree (tree_as b.kind after) → Walks row col → Reaches after b.fates (enlivened after.table levels word b.fates)
 
   -- where nothing is walked
-  still : (after : Rooted) → levels ≡ 0 → ((r : ℕ) → IsReached after r → fate_at b.fates r ≡ Live) → Reaches after b.fates (enlivened after.table.words levels word b.fates)
+  still : (after : Rooted) → levels ≡ 0 → ((r : ℕ) → IsReached after r → fate_at b.fates r ≡ Live) → Reaches after b.fates (enlivened after.table levels word b.fates)
   still after none alive r =
-      let same : fate_at (enlivened after.table.words levels word b.fates) r ≡ fate_at b.fates r = ap (λ (n : ℕ). fate_at (enlivened after.table.words n word b.fates) r) none in
+      let same : fate_at (enlivened after.table levels word b.fates) r ≡ fate_at b.fates r = ap (λ (n : ℕ). fate_at (enlivened after.table n word b.fates) r) none in
       elim (cases_Bool (is_reached after r)) [ inl is ↦ inl (is, same ∙ alive r is) | inr not ↦ inr (not, same) ]
 
   none_opens : (name : Option ℕ) → ((r : ℕ) → is_buried b.sheet.buried r ≡ true → ⊥) → buried_by b.sheet name ≡ true → ⊥

@@ -9,9 +9,9 @@ use Rattle.mt_base.proofs.Lists.{all_join, none_or_some}
 use Rattle.mt_layout.specs.Rows.{row_in, named_kind}
 use Rattle.mt_layout.specs.declared.names.RowKind.{RowKind}
 use Rattle.mt_layout.specs.declared.spans.Span.{Span}
-use Rattle.mt_rows.specs.Spans.{Table, spans_in, inner_kind}
+use Rattle.mt_rows.specs.Spans.{Table, spans_in, inner_of}
 use Rattle.mt_rows.specs.Levels.{expand, Levels, one_if, tally, times, is_row_of}
-use Rattle.mt_rows.specs.Laws.{Tree, HasWords, IsRow, kind_at}
+use Rattle.mt_rows.specs.Laws.{Tree, HasWords, IsRow, kind_on}
 use Rattle.mt_rows.specs.declared.plain.Fate.{Fate}
 use Rattle.mt_rows.specs.declared.plain.Fate.TheVariants.{New, Draft, Live}
 use Rattle.mt_rows.specs.Plain.{is_draft, names_of, enlivened_by, enlivened}
@@ -107,41 +107,41 @@ draft_inside fates row draft = elim (cases_lt row (length fates)) [
   | inr beyond ↦ let past = get_or_past fates row New beyond in absurd (cc)
 ]
 
-module _ (w : List ℕ) (depth : ℕ) (kind : RowKind) (x : Span) (fates : List Fate) (named : named_kind x.word ≡ Some kind) where
+module _ (t : Table) (depth : ℕ) (kind : RowKind) (x : Span) (fates : List Fate) (named : named_kind x.word ≡ Some kind) where
   abbrev below : List Fate → ℕ → List Fate
-  below fs word = enlivened w depth word fs
+  below fs word = enlivened t depth word fs
 
   abbrev by_draft : Bool → List Fate
-  by_draft draft = if draft then fold below (slice_set fates (row_in x.word) Live) (names_of w (row_in x.word) kind) else fates
+  by_draft draft = if draft then fold below (slice_set fates (row_in x.word) Live) (names_of t (row_in x.word) kind) else fates
 
-  step : enlivened w (suc depth) x.word fates ≡ by_draft (is_draft (fate_at fates (row_in x.word)))
-  step = ap (λ (k : Option RowKind). enlivened_by w (enlivened w depth) k (row_in x.word) fates) named
+  step : enlivened t (suc depth) x.word fates ≡ by_draft (is_draft (fate_at fates (row_in x.word)))
+  step = ap (λ (k : Option RowKind). enlivened_by t (enlivened t depth) k (row_in x.word) fates) named
 
-  step_draft : fate_at fates (row_in x.word) ≡ Draft → enlivened w (suc depth) x.word fates ≡ fold below (slice_set fates (row_in x.word) Live) (names_of w (row_in x.word) kind)
+  step_draft : fate_at fates (row_in x.word) ≡ Draft → enlivened t (suc depth) x.word fates ≡ fold below (slice_set fates (row_in x.word) Live) (names_of t (row_in x.word) kind)
   step_draft draft = step ∙ ap (λ (f : Fate). by_draft (is_draft f)) draft
 
-  step_live : fate_at fates (row_in x.word) ≡ Live → enlivened w (suc depth) x.word fates ≡ fates
+  step_live : fate_at fates (row_in x.word) ≡ Live → enlivened t (suc depth) x.word fates ≡ fates
   step_live live = step ∙ ap (λ (f : Fate). by_draft (is_draft f)) live
 
-fold-map : (w : List ℕ) (depth : ℕ) (xs : List Span) (fates : List Fate)
-    → fold (λ (fs : List Fate) (word : ℕ). enlivened w depth word fs) fates (map (λ (y : Span). y.word) xs) ≡ fold (λ (fs : List Fate) (y : Span). enlivened w depth y.word fs) fates xs
-fold-map w depth [] fates = refl
-fold-map w depth (x ∷ xs) fates = fold-map w depth xs (enlivened w depth x.word fates)
+fold-map : (t : Table) (depth : ℕ) (xs : List Span) (fates : List Fate)
+    → fold (λ (fs : List Fate) (word : ℕ). enlivened t depth word fs) fates (map (λ (y : Span). y.word) xs) ≡ fold (λ (fs : List Fate) (y : Span). enlivened t depth y.word fs) fates xs
+fold-map t depth [] fates = refl
+fold-map t depth (x ∷ xs) fates = fold-map t depth xs (enlivened t depth x.word fates)
 
-pub no_name : (w : List ℕ) (depth : ℕ) (fates : List Fate) → enlivened w depth 0 fates ≡ fates
-no_name w zero fates = refl
-no_name w (suc depth) fates = refl
+pub no_name : (t : Table) (depth : ℕ) (fates : List Fate) → enlivened t depth 0 fates ≡ fates
+no_name t zero fates = refl
+no_name t (suc depth) fates = refl
 
-fold-zeros : (w : List ℕ) (depth n : ℕ) (fates : List Fate) → fold (λ (fs : List Fate) (word : ℕ). enlivened w depth word fs) fates (replicate n 0) ≡ fates
-fold-zeros w depth zero fates = refl
-fold-zeros w depth (suc n) fates = ap (λ (fs : List Fate). fold (λ (fs : List Fate) (word : ℕ). enlivened w depth word fs) fs (replicate n 0)) (no_name w depth fates) ∙ fold-zeros w depth n fates
+fold-zeros : (t : Table) (depth n : ℕ) (fates : List Fate) → fold (λ (fs : List Fate) (word : ℕ). enlivened t depth word fs) fates (replicate n 0) ≡ fates
+fold-zeros t depth zero fates = refl
+fold-zeros t depth (suc n) fates = ap (λ (fs : List Fate). fold (λ (fs : List Fate) (word : ℕ). enlivened t depth word fs) fs (replicate n 0)) (no_name t depth fates) ∙ fold-zeros t depth n fates
 
-fold-names : (w : List ℕ) (depth n : ℕ) (xs : List Span) (names : List ℕ) (fates : List Fate) → names ≡ map (λ (y : Span). y.word) xs ++ replicate n 0
-    → fold (λ (fs : List Fate) (word : ℕ). enlivened w depth word fs) fates names ≡ fold (λ (fs : List Fate) (y : Span). enlivened w depth y.word fs) fates xs
-fold-names w depth n xs names fates are =
-    ap (fold (λ (fs : List Fate) (word : ℕ). enlivened w depth word fs) fates) are
-    ∙ (fold-append (λ (fs : List Fate) (word : ℕ). enlivened w depth word fs) fates (map (λ (y : Span). y.word) xs) (replicate n 0)
-    ∙ (fold-zeros w depth n (fold (λ (fs : List Fate) (word : ℕ). enlivened w depth word fs) fates (map (λ (y : Span). y.word) xs)) ∙ fold-map w depth xs fates))
+fold-names : (t : Table) (depth n : ℕ) (xs : List Span) (names : List ℕ) (fates : List Fate) → names ≡ map (λ (y : Span). y.word) xs ++ replicate n 0
+    → fold (λ (fs : List Fate) (word : ℕ). enlivened t depth word fs) fates names ≡ fold (λ (fs : List Fate) (y : Span). enlivened t depth y.word fs) fates xs
+fold-names t depth n xs names fates are =
+    ap (fold (λ (fs : List Fate) (word : ℕ). enlivened t depth word fs) fates) are
+    ∙ (fold-append (λ (fs : List Fate) (word : ℕ). enlivened t depth word fs) fates (map (λ (y : Span). y.word) xs) (replicate n 0)
+    ∙ (fold-zeros t depth n (fold (λ (fs : List Fate) (word : ℕ). enlivened t depth word fs) fates (map (λ (y : Span). y.word) xs)) ∙ fold-map t depth xs fates))
 
 -- ---- the walk over rows side by side, by the walk from one
 
@@ -149,7 +149,7 @@ abbrev Once : Table → ℕ → List Span → Type 0
 Once t h xs = (row : ℕ) → times (is_row_of row) t h xs ≤ 1
 
 abbrev WalksOne : Tree → ℕ → ℕ → Type 0
-WalksOne t depth h = (x : Span) (fates : List Fate) → Levels (IsRow t) t.table h (x ∷ []) → Levels (Ready t.table fates) t.table h (x ∷ []) → Once t.table h (x ∷ []) → Walked t.table fates (enlivened t.table.words depth x.word fates) h (x ∷ [])
+WalksOne t depth h = (x : Span) (fates : List Fate) → Levels (IsRow t) t.table h (x ∷ []) → Levels (Ready t.table fates) t.table h (x ∷ []) → Once t.table h (x ∷ []) → Walked t.table fates (enlivened t.table depth x.word fates) h (x ∷ [])
 
 module _ (t : Table) (h : ℕ) (x : Span) (xs : List Span) where
   parts : (row : ℕ) → times (is_row_of row) t h (x ∷ xs) ≡ times (is_row_of row) t h (x ∷ []) + times (is_row_of row) t h xs
@@ -180,12 +180,12 @@ module _ (t : Table) (h : ℕ) (x : Span) (xs : List Span) where
 
 module _ (t : Tree) (depth h : ℕ) (one : WalksOne t depth h) where
   abbrev walked : List Fate → List Span → List Fate
-  walked fates xs = fold (λ (fs : List Fate) (y : Span). enlivened t.table.words depth y.word fs) fates xs
+  walked fates xs = fold (λ (fs : List Fate) (y : Span). enlivened t.table depth y.word fs) fates xs
 
   walk_all : (xs : List Span) (fates : List Fate) → Levels (IsRow t) t.table h xs → Levels (Ready t.table fates) t.table h xs → Once t.table h xs → Walked t.table fates (walked fates xs) h xs
   walk_all [] fates rows ready once = λ row. inr (times-nil (is_row_of row) t.table h, refl)
   walk_all (x ∷ xs) fates rows ready once =
-      let next : List Fate = enlivened t.table.words depth x.word fates in
+      let next : List Fate = enlivened t.table depth x.word fates in
       let first : Walked t.table fates next h (x ∷ []) = one x fates (levels_front (IsRow t) t.table h (x ∷ []) xs rows) (levels_front (Ready t.table fates) t.table h (x ∷ []) xs ready) (once_first t.table h x xs once) in
       let still = ready_stays t.table fates next h xs (kept_beside t.table h x xs fates next once first) (levels_back (Ready t.table fates) t.table h (x ∷ []) xs ready) in
       let rest = walk_all xs next (levels_back (IsRow t) t.table h (x ∷ []) xs rows) still (once_rest t.table h x xs once) in
@@ -240,20 +240,20 @@ module _ (t : Tree) (has : HasWords t) where
   walk_one h zero deep = absurd (omega arith)
   walk_one zero (suc depth) deep = λ x fates rows ready once. leaf x fates rows ready ready.0
     where
-      leaf : (x : Span) (fates : List Fate) → Levels (IsRow t) t.table zero (x ∷ []) → Levels (Ready t.table fates) t.table zero (x ∷ []) → Ready t.table fates zero x → Walked t.table fates (enlivened t.table.words (suc depth) x.word fates) zero (x ∷ [])
-      leaf x fates rows ready (inl draft) = subst (λ (fs : List Fate). Walked t.table fates fs zero (x ∷ [])) (sym (step_draft t.table.words depth (kind_at t.kind zero) x fates rows.0.name.named draft)) (walk_leaf t.table fates x draft)
-      leaf x fates rows ready (inr live) = subst (λ (fs : List Fate). Walked t.table fates fs zero (x ∷ [])) (sym (step_live t.table.words depth (kind_at t.kind zero) x fates rows.0.name.named live)) (walk_live t.table fates zero x ready live)
+      leaf : (x : Span) (fates : List Fate) → Levels (IsRow t) t.table zero (x ∷ []) → Levels (Ready t.table fates) t.table zero (x ∷ []) → Ready t.table fates zero x → Walked t.table fates (enlivened t.table (suc depth) x.word fates) zero (x ∷ [])
+      leaf x fates rows ready (inl draft) = subst (λ (fs : List Fate). Walked t.table fates fs zero (x ∷ [])) (sym (step_draft t.table depth (kind_on t.gapped zero) x fates rows.0.name.named draft)) (walk_leaf t.table fates x draft)
+      leaf x fates rows ready (inr live) = subst (λ (fs : List Fate). Walked t.table fates fs zero (x ∷ [])) (sym (step_live t.table depth (kind_on t.gapped zero) x fates rows.0.name.named live)) (walk_live t.table fates zero x ready live)
   walk_one (suc h) (suc depth) deep = λ x fates rows ready once. inner (walk_one h depth (omega arith)) x fates rows ready once ready.0.0
     where
       inner : WalksOne t depth h → (x : Span) (fates : List Fate) → Levels (IsRow t) t.table (suc h) (x ∷ []) → Levels (Ready t.table fates) t.table (suc h) (x ∷ []) → Once t.table (suc h) (x ∷ []) → Ready t.table fates (suc h) x
-          → Walked t.table fates (enlivened t.table.words (suc depth) x.word fates) (suc h) (x ∷ [])
+          → Walked t.table fates (enlivened t.table (suc depth) x.word fates) (suc h) (x ∷ [])
       inner one x fates rows ready once (inl draft) =
           let xs = spans_in t.table x in
           let names = names_are t h x has rows.0.0 in
           let start : List Fate = marked t.table fates x draft in
-          let is = step_draft t.table.words depth (kind_at t.kind (suc h)) x fates rows.0.0.name.named draft ∙ fold-names t.table.words depth names.0 xs (names_of t.table.words (row_in x.word) (inner_kind t.kind)) start names.1 in
+          let is = step_draft t.table depth (kind_on t.gapped (suc h)) x fates rows.0.0.name.named draft ∙ fold-names t.table depth names.0 xs (names_of t.table (row_in x.word) (inner_of t.gapped)) start names.1 in
           let still = ready_stays t.table fates start h xs (marked_below t.table fates x draft h once) (children_hold (Ready t.table fates) t.table h x ready) in
           let below = walk_all t depth h one xs start (children_hold (IsRow t) t.table h x rows) still (once_below t.table fates x draft h once) in
           subst (λ (fs : List Fate). Walked t.table fates fs (suc h) (x ∷ [])) (sym is) (walk_inner t.table fates x draft h (walked t depth h one start xs) once below)
       inner one x fates rows ready once (inr both) =
-          subst (λ (fs : List Fate). Walked t.table fates fs (suc h) (x ∷ [])) (sym (step_live t.table.words depth (kind_at t.kind (suc h)) x fates rows.0.0.name.named both.0)) (walk_live t.table fates (suc h) x ready both.0)
+          subst (λ (fs : List Fate). Walked t.table fates fs (suc h) (x ∷ [])) (sym (step_live t.table depth (kind_on t.gapped (suc h)) x fates rows.0.0.name.named both.0)) (walk_live t.table fates (suc h) x ready both.0)

@@ -3,6 +3,7 @@ use Rattle.std.proofs.Common.{◌≡◌, ℕ, zero, suc, ◌+◌, ◌≤◌, ◌
 use Rattle.std.specs.List.{AllByRecursion, flat_map}
 use Rattle.std.proofs.lemmas.Bool.{cases_Bool, eqb-false}
 use Rattle.mt_base.specs.declared.ranges.Range.{Range}
+use Rattle.mt_base.specs.declared.kinds.Kind.{Kind}
 use Rattle.mt_base.specs.declared.widths.Width.{Width}
 use Rattle.mt_base.specs.Map.{IsMapFrom, IsMap}
 use Rattle.mt_base.proofs.StoredOrder.{IsMapFrom-lower}
@@ -52,5 +53,5 @@ module _ (t : Tree) (h : ℕ) (stands : Stands t h) where
       (all_map (Between 0 (top_of t + 1)) (λ (r : Range). r.last ≤ top_of t) (λ r between. let ends = between.2 in omega arith) (map_of t.table h (root_span t.table t.root ∷ []))
       (map_between t h 0 (top_of t + 1) (root_span t.table t.root ∷ []) stands.rows (refl, omega arith, refl)))
 
-  pub tree_map : t.table.width ≡ kind_width t.kind → IsMap t.kind (map_in t.table t.root)
-  tree_map wide = record { rise = tree_rises; within = subst (λ (w : Width). AllByRecursion (λ (r : Range). r.last ≤ greatest w) (map_in t.table t.root)) wide tree_within }
+  pub tree_map : (kind : Kind) → t.table.width ≡ kind_width kind → IsMap kind (map_in t.table t.root)
+  tree_map kind wide = record { rise = tree_rises; within = subst (λ (w : Width). AllByRecursion (λ (r : Range). r.last ≤ greatest w) (map_in t.table t.root)) wide tree_within }

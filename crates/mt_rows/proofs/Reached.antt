@@ -10,7 +10,7 @@ use Rattle.mt_layout.specs.declared.spans.Span.{Span}
 use Rattle.mt_rows.specs.Spans.{Table, spans_in, root_span}
 use Rattle.mt_rows.specs.Levels.{expand, level, Levels, one_if, tally, times, is_row_of, IsBelow}
 use Rattle.mt_rows.specs.Trees.{reached_in, height_in}
-use Rattle.mt_rows.specs.Laws.{Tree, IsRow, Stands, kind_at}
+use Rattle.mt_rows.specs.Laws.{Tree, IsRow, Stands, kind_on}
 use Rattle.mt_rows.specs.Sheet as sheet
 use Rattle.mt_rows.specs.Publish.{is_reached, StandsAt}
 use Rattle.mt_rows.specs.Replacement.{root_of}
@@ -85,7 +85,7 @@ expand_one_of t (x ∷ xs) z one = elim (one_of_either (spans_in t x) (expand t 
 -- ---- what stands below is on a level
 
 no_leaf : (t : Tree) (h : ℕ) (x : Span) → IsRow t (suc h) x → named_kind x.word ≢ Some Leaf
-no_leaf t h x row = λ leaf. inner_not_named t.kind (sym row.name.named ∙ leaf)
+no_leaf t h x row = λ leaf. inner_not_named t.gapped (sym row.name.named ∙ leaf)
 
 pub below_on_level : (t : Table) (d : ℕ) (xs : List Span) (top x : Span) → IsOneOf top xs → IsBelow t d top x → IsOneOf x (level t d xs)
 below_on_level t zero xs top x one below = subst (λ (y : Span). IsOneOf y xs) (sym below) one
@@ -269,7 +269,7 @@ module _ (t : Tree) (h : ℕ) (stands : Stands t h) where
   reached_number row some =
       let place = reached_on_level row some in
       let law = on_level_law place.0 place.1 place.2 in
-      let number = (Names-named_kind place.1.word (kind_at t.kind place.0) law.name.named).0.0 in
+      let number = (Names-named_kind place.1.word (kind_on t.gapped place.0) law.name.named).0.0 in
       subst (λ (r : ℕ). (first_row ≤ r) × (r < first_row + t.rows)) place.3 (number, law.name.in_table)
 
   -- and on just one

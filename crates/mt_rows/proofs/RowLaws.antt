@@ -19,14 +19,14 @@ use Rattle.mt_layout.proofs.RowSizes.{layout_of, some_slots_of, slot_within}
 use Rattle.mt_layout.proofs.SpanLists.{length-spans_from}
 use Rattle.mt_rows.specs.Spans.{base_of, column, spans_by, spans_in}
 use Rattle.mt_rows.specs.Levels.{SameColumns, SameSpans}
-use Rattle.mt_rows.specs.Laws.{Tree, HasWords, IsRow, EntryLaw, HoleLaw, kind_at, least_of, items_in, words_in}
+use Rattle.mt_rows.specs.Laws.{Tree, HasWords, IsRow, EntryLaw, HoleLaw, kind_on, least_of, items_in, words_in}
 use Rattle.mt_rows.proofs.Frames.{same_spans}
 use Rattle.mt_rows.proofs.SlotWords.{put_item, put_span, spans_from-put, other_column, slot_here, items_at-put, row_words-parent, row_words-put, row_words-inside}
 use Rattle.mt_rows.proofs.FewSpans.{row_most}
 
 -- the tree with other words and another root word
 abbrev pub with_words : Tree → List ℕ → ℕ → Tree
-with_words t words root = record { rows = t.rows; kind = t.kind; table = record { width = t.table.width; words = words }; root = root }
+with_words t words root = record { rows = t.rows; gapped = t.gapped; table = record { width = t.table.width; words = words }; root = root }
 
 items_same : (width : Width) (kind : RowKind) (w w' : List ℕ) (row last : ℕ) → SameColumns (record { width = width; words = w }) (record { width = width; words = w' }) (columns width) row
     → items_at (slots_of width kind) (gaps_of width kind) w' (columns width * row) last ≡ items_at (slots_of width kind) (gaps_of width kind) w (columns width * row) last
@@ -64,13 +64,13 @@ module _ (t : Tree) (words : List ℕ) (root : ℕ) where
         holes = holes_keep h x spans row.holes;
       }
     where
-      unused : (c : ℕ) → c < columns t.table.width → column later.table (row_in x.word) c ≡ slice_index (words_in later.table (kind_at t.kind h) x) c
+      unused : (c : ℕ) → c < columns t.table.width → column later.table (row_in x.word) c ≡ slice_index (words_in later.table (kind_on t.gapped h) x) c
       unused zero inside = refl
       unused (suc c) inside =
           same (suc c) (omega arith) inside ∙ (row.pivots.unused (suc c) inside
-          ∙ (row_words-parent (columns t.table.width) (slots_of t.table.width (kind_at t.kind h)) (gaps_of t.table.width (kind_at t.kind h)) (column later.table (row_in x.word) 0) (column t.table (row_in x.word) 0) (items_in t.table (kind_at t.kind h) x) (suc c) (omega arith)
-          ∙ ap (λ (items : List Item). slice_index (row_words (columns t.table.width) (slots_of t.table.width (kind_at t.kind h)) (gaps_of t.table.width (kind_at t.kind h)) (column later.table (row_in x.word) 0) items) (suc c))
-          (sym (items_same t.table.width (kind_at t.kind h) t.table.words words (row_in x.word) x.last same))))
+          ∙ (row_words-parent (columns t.table.width) (slots_of t.table.width (kind_on t.gapped h)) (gaps_of t.table.width (kind_on t.gapped h)) (column later.table (row_in x.word) 0) (column t.table (row_in x.word) 0) (items_in t.table (kind_on t.gapped h) x) (suc c) (omega arith)
+          ∙ ap (λ (items : List Item). slice_index (row_words (columns t.table.width) (slots_of t.table.width (kind_on t.gapped h)) (gaps_of t.table.width (kind_on t.gapped h)) (column later.table (row_in x.word) 0) items) (suc c))
+          (sym (items_same t.table.width (kind_on t.gapped h) t.table.words words (row_in x.word) x.last same))))
 
 -- 0 names no row
 pub name_some : (word : ℕ) (kind : RowKind) → named_kind word ≡ Some kind → word ≢ 0
@@ -97,7 +97,7 @@ fills-put (suc n) word lo hi (x ∷ xs) fills = (fills.0, fills.1, fills-put n w
 
 module _ (t : Tree) (h slot word : ℕ) (x : Span) (has : HasWords t) (row : IsRow t h x) (used : slot < length (spans_in t.table x)) where
   abbrev here_kind : RowKind
-  here_kind = kind_at t.kind h
+  here_kind = kind_on t.gapped h
 
   abbrev slots : ℕ
   slots = slots_of t.table.width here_kind

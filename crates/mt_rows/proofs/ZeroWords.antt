@@ -1,21 +1,16 @@
 -- Words of which only the first are written down: those behind them are 0.
-use Rattle.std.proofs.Common.{◌≡◌, ◌≢◌, ℕ, zero, suc, ◌+◌, ◌-◌, ◌*◌, ◌<◌, ◌≤◌, List, [], ◌∷◌, ◌++◌, Option, Some, None, length, take, drop, length-append, refl, sym, ap, ◌∙◌, ◌⊎◌, inl, inr, ⊎_elim, arith, get_or-set_other, get_or-set_same}
-use Rattle.std.specs.Prelude.{◌==◌, nat_le, replicate, slice_index, slice_set, if◌then◌else◌}
+use Rattle.std.proofs.Common.{◌≡◌, ◌≢◌, ℕ, zero, suc, ◌+◌, ◌-◌, ◌*◌, ◌<◌, ◌≤◌, List, [], ◌∷◌, ◌++◌, length, take, drop, length-append, refl, sym, ap, ◌∙◌, ◌⊎◌, inl, inr, ⊎_elim, arith, get_or-set_other, get_or-set_same}
+use Rattle.std.specs.Prelude.{replicate, slice_index, slice_set}
 use Rattle.std.specs.List.{slice_range}
 use Rattle.std.proofs.Math.ListN.{get_or-eq_default}
 use Rattle.std.proofs.lemmas.Bool.{cases_eq}
 use Rattle.std.proofs.lemmas.List.{take_more, get_or-drop, length-drop, get_or_append_left, get_or-append-add}
-use Rattle.mt_base.specs.declared.widths.Width.TheVariants.{Long}
+use Rattle.mt_base.specs.declared.widths.Width.{Width}
 use Rattle.mt_base.specs.Width.{columns}
-use Rattle.mt_layout.specs.Columns.{item_at, items_from, gap_column, pivot_column, slot_column}
 use Rattle.mt_layout.specs.declared.names.RowKind.{RowKind}
 use Rattle.mt_layout.specs.declared.names.RowKind.TheVariants as kinds
-use Rattle.mt_layout.specs.declared.spans.Span.{Span}
-use Rattle.mt_layout.specs.Rows.{row_in, named_kind}
-use Rattle.mt_layout.specs.Sizes.{slots_of, gaps_of}
-use Rattle.mt_layout.specs.Spans.{spans_from}
+use Rattle.mt_layout.specs.Sizes.{slots_of}
 use Rattle.mt_rows.specs.Plain.{names_of}
-use Rattle.mt_rows.specs.Spans.{spans_by, spans_in}
 use Rattle.mt_rows.specs.Words.{with_zeros, ArePut}
 
 -- ---- zeros behind a list
@@ -129,28 +124,8 @@ range_more w from at low within =
 pub none_in_range : (w : List ℕ) (from : ℕ) → slice_range w from from ≡ []
 none_in_range w from = let none : from - from ≡ 0 = omega arith in ap (λ (n : ℕ). take n (drop from w)) none
 
-pub names_of_inner : (w : List ℕ) (row : ℕ) (kind : RowKind) → kind ≢ kinds.Leaf → names_of w row kind ≡ slice_range w (columns Long * row + slots_of Long kind) (columns Long * row + 2 * slots_of Long kind)
-names_of_inner w row kinds.Leaf inner = absurd (inner refl)
-names_of_inner w row kinds.Inner inner = refl
-names_of_inner w row kinds.Gapped inner = refl
-
--- ---- words that are the same at each place
-
-module _ (w w' : List ℕ) (same : (at : ℕ) → slice_index w at ≡ slice_index w' at) where
-  same_item : (slots gaps base i last : ℕ) → item_at slots gaps w base i last ≡ item_at slots gaps w' base i last
-  same_item slots gaps base i last = λ k. record { last = last; word = same (base + slot_column slots i) k; gap = if gaps == 0 then 0 else same (base + gap_column slots i) k }
-
-  same_items : (slots gaps base max left i : ℕ) → items_from slots gaps w base max left i ≡ items_from slots gaps w' base max left i
-  same_items slots gaps base max zero i = refl
-  same_items slots gaps base max (suc zero) i = λ k. same_item slots gaps base i max k ∷ []
-  same_items slots gaps base max (suc (suc left)) i = λ k.
-      if nat_le max (same (base + pivot_column i) k)
-      then same_item slots gaps base i (same (base + pivot_column i) k) k ∷ []
-      else same_item slots gaps base i (same (base + pivot_column i) k) k ∷ same_items slots gaps base max (suc left) (i + 1) k
-
-  pub same_spans : (x : Span) → spans_in (record { width = Long; words = w }) x ≡ spans_in (record { width = Long; words = w' }) x
-  same_spans x = by (named_kind x.word)
-    where
-      by : (kind : Option RowKind) → spans_by (record { width = Long; words = w }) kind x ≡ spans_by (record { width = Long; words = w' }) kind x
-      by None = refl
-      by (Some kind) = λ k. spans_from x.first (same_items (slots_of Long kind) (gaps_of Long kind) (32 * row_in x.word) x.last (slots_of Long kind) 0 k)
+pub names_of_inner : (width : Width) (w : List ℕ) (row : ℕ) (kind : RowKind) → kind ≢ kinds.Leaf
+    → names_of (record { width = width; words = w }) row kind ≡ slice_range w (columns width * row + slots_of width kind) (columns width * row + 2 * slots_of width kind)
+names_of_inner width w row kinds.Leaf inner = absurd (inner refl)
+names_of_inner width w row kinds.Inner inner = refl
+names_of_inner width w row kinds.Gapped inner = refl

@@ -10,7 +10,7 @@ use Rattle.mt_layout.specs.Sizes.{slots_of}
 use Rattle.mt_rows.specs.Laws.{Tree, Stands, GapLaw, longest_below}
 use Rattle.mt_rows.specs.Levels.{Levels}
 use Rattle.mt_rows.specs.Replacement.{root_of}
-use Rattle.mt_rows.specs.Spans.{Table, column, inner_kind, spans_in}
+use Rattle.mt_rows.specs.Spans.{Table, column, inner_of, spans_in}
 
 -- the span covers the index
 abbrev pub covers : ℕ → Span → Bool
@@ -29,7 +29,7 @@ GapLawButBy index Gapped t h x = GapsFromBut index t h (row_in x.word) 0 (spans_
 
 abbrev pub GapLawBut : ℕ → Tree → ℕ → Span → Type 0
 GapLawBut index t zero x = Unit {0}
-GapLawBut index t (suc h) x = GapLawButBy index (inner_kind t.kind) t.table h x
+GapLawBut index t (suc h) x = GapLawButBy index (inner_of t.gapped) t.table h x
 
 -- a new row keeps the law of gaps, and any row but for the slot that covers the index
 pub record KeepsGaps (is_new : ℕ → Bool) (index : ℕ) (t : Tree) (h : ℕ) (x : Span) : Type 0 where

@@ -4,6 +4,7 @@
 use Rattle.std.specs.Prelude.{◌≡◌, ◌≢◌, ◌⊎◌, ℕ, zero, suc, ◌+◌, ◌*◌, ◌<◌, ◌≤◌, ◌==◌, ◌&&◌, List, [], ◌∷◌, Some, Bool, false, length, slice_index, if◌then◌else◌}
 use Rattle.std.specs.List.{AllByRecursion, flat_map}
 use Rattle.mt_base.specs.declared.kinds.Kind.{Kind}
+use Rattle.mt_base.specs.Call.{finds_room}
 use Rattle.mt_base.specs.Entry.{reserved}
 use Rattle.mt_base.specs.Width.{columns, greatest, deepest, first_row}
 use Rattle.mt_layout.specs.declared.names.RowKind.{RowKind}
@@ -14,13 +15,13 @@ use Rattle.mt_layout.specs.Columns.{items_at, row_words, gap_column}
 use Rattle.mt_layout.specs.Rows.{row_in, named_kind, parent_at}
 use Rattle.mt_layout.specs.declared.spans.Span.{Span}
 use Rattle.mt_layout.specs.Spans.{leaf_range, longest_in, Fills, Apart, EndsFull}
-use Rattle.mt_rows.specs.Spans.{Table, base_of, column, inner_kind, spans_in, root_span}
+use Rattle.mt_rows.specs.Spans.{Table, base_of, column, inner_of, spans_in, root_span}
 use Rattle.mt_rows.specs.Levels.{Levels, expand}
 
--- A tree of rows: how many there are, and which kind of tree it is.
+-- A tree of rows: how many there are, and whether its inner rows have gaps.
 pub record Tree : Type 0 where
   pub rows : ℕ
-  pub kind : Kind
+  pub gapped : Bool
   pub table : Table
   pub root : ℕ
 
@@ -31,14 +32,17 @@ top_of t = greatest t.table.width
 abbrev pub HasWords : Tree → Type 0
 HasWords t = length t.table.words ≡ columns t.table.width * (first_row + t.rows)
 
--- the kind that a row of this height has
+-- the kind that a row of this height has, in a tree with gaps or without; and in a tree of a kind
+abbrev pub kind_on : Bool → ℕ → RowKind
+kind_on gapped zero = Leaf
+kind_on gapped (suc h) = inner_of gapped
+
 abbrev pub kind_at : Kind → ℕ → RowKind
-kind_at tree zero = Leaf
-kind_at tree (suc h) = inner_kind tree
+kind_at kind = kind_on (finds_room kind)
 
 -- Name: the word that leads here names a row of the table, of the kind of its height in this tree.
 pub record NameLaw (t : Tree) (h : ℕ) (x : Span) : Type 0 where
-  pub named : named_kind x.word ≡ Some (kind_at t.kind h)
+  pub named : named_kind x.word ≡ Some (kind_on t.gapped h)
   pub in_table : row_in x.word < first_row + t.rows
 
 -- Parent: each child's parent word names this row and the child's slot.
@@ -60,7 +64,7 @@ words_in t kind x = row_words (columns t.width) (slots_of t.width kind) (gaps_of
 
 pub record PivotLaw (t : Tree) (h : ℕ) (x : Span) : Type 0 where
   pub fills : Fills x.first (x.last + 1) (spans_in t.table x)
-  pub unused : (c : ℕ) → c < columns t.table.width → column t.table (row_in x.word) c ≡ slice_index (words_in t.table (kind_at t.kind h) x) c
+  pub unused : (c : ℕ) → c < columns t.table.width → column t.table (row_in x.word) c ≡ slice_index (words_in t.table (kind_on t.gapped h) x) c
 
 -- A row that covers every index is the root, since every other row has a neighbour.
 abbrev pub covers_all : Tree → Span → Bool
@@ -72,7 +76,7 @@ least_of_root zero = 1
 least_of_root (suc h) = 2
 
 abbrev pub least_of : Tree → ℕ → Span → ℕ
-least_of t h x = if covers_all t x then least_of_root h else least_items t.table.width (kind_at t.kind h)
+least_of t h x = if covers_all t x then least_of_root h else least_items t.table.width (kind_on t.gapped h)
 
 pub record CountLaw (t : Tree) (h : ℕ) (x : Span) : Type 0 where
   pub least : least_of t h x ≤ length (spans_in t.table x)
@@ -110,7 +114,7 @@ GapLawBy Gapped t h x = GapsFrom t h (row_in x.word) 0 (spans_in t x)
 
 abbrev pub GapLaw : Tree → ℕ → Span → Type 0
 GapLaw t zero x = Unit {0}
-GapLaw t (suc h) x = GapLawBy (inner_kind t.kind) t.table h x
+GapLaw t (suc h) x = GapLawBy (inner_of t.gapped) t.table h x
 
 -- ---- lawful words
 

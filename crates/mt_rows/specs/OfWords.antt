@@ -7,6 +7,7 @@ use Rattle.mt_base.specs.Width.{columns, deepest, first_row}
 use Rattle.mt_rows.specs.declared.rows.Life.TheVariants as lives
 use Rattle.mt_rows.specs.declared.plain.Fate.{Fate}
 use Rattle.mt_rows.specs.declared.plain.Fate.TheVariants.{New, Draft, Live, Buried}
+use Rattle.mt_rows.specs.Spans.{Table}
 use Rattle.mt_rows.specs.Trees.{reached_in}
 use Rattle.mt_rows.specs.Sheet.{Sheet, Rooted, life_of}
 use Rattle.mt_rows.specs.Publish.{IsLawfulOf, is_reached}
@@ -28,8 +29,8 @@ renewed Live = Live
 renewed (Buried call) = Buried call
 
 -- of so many rows, those that are reached from the root word are live; to be walked, all are drafts
-unfoldable pub walked_fates : List ℕ → ℕ → ℕ → List Fate
-walked_fates w root many = enlivened w deepest root (replicate many Draft)
+unfoldable pub walked_fates : Table → ℕ → ℕ → List Fate
+walked_fates t root many = enlivened t deepest root (replicate many Draft)
 
 -- ---- the rows
 
@@ -43,6 +44,6 @@ tree_made width root words = record {
 -- The rows hold these words from the first on, and no call was begun. Where the words are lawful, the rows that are reached
 -- from the root word are live, and all others are new.
 pub record IsMadeOf (width : Width) (root : ℕ) (words : List ℕ) (s : Sheet) : Type 0 where
-  pub rest : s ≡ record (new_sheet (length words / columns width)) { tree = tree_made width root words; lives = s.lives; opened = s.opened }
+  pub rest : s ≡ record (new_sheet width (length words / columns width)) { tree = tree_made width root words; lives = s.lives; opened = s.opened }
   pub lives : (kind : Kind) → IsLawfulOf s.tree kind → (row : ℕ) → first_row ≤ row → row < first_row + s.tree.rows → life_of s.lives row ≡ (if is_reached s.tree row then lives.Live else lives.New)
   pub opened : (kind : Kind) → IsLawfulOf s.tree kind → s.opened ≡ length (reached_in s.tree.table s.tree.root)

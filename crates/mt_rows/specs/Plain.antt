@@ -1,7 +1,7 @@
 -- What rows in memory stand for. Source: this project's own.
 use Rattle.std.specs.Prelude.{◌≡◌, ◌≢◌, ℕ, ◌+◌, ◌-◌, ◌*◌, ◌^◌, ◌<◌, ◌≤◌, Bool, true, false, Option, Some, None, List, [], zero, suc, length, map, replicate, nat_le, nat_lt, slice_index_or, slice_set, if◌then◌else◌}
 use Rattle.std.specs.List.{fold, slice_range}
-use Rattle.mt_base.specs.declared.widths.Width.TheVariants.{Long}
+use Rattle.mt_base.specs.declared.widths.Width.{Width}
 use Rattle.mt_base.specs.Width.{columns, most_rows, first_row}
 use Rattle.mt_layout.specs.declared.names.RowKind.{RowKind}
 use Rattle.mt_layout.specs.declared.names.RowKind.TheVariants as kinds
@@ -14,6 +14,7 @@ use Rattle.mt_rows.specs.declared.rows.Life.TheVariants as lives
 use Rattle.mt_rows.specs.declared.plain.Fate.{Fate}
 use Rattle.mt_rows.specs.declared.plain.Fate.TheVariants.{New, Draft, Live, Buried}
 use Rattle.mt_rows.specs.declared.plain.State.{State}
+use Rattle.mt_rows.specs.Spans.{Table, base_of}
 use Rattle.mt_rows.specs.Levels.{one_if}
 use Rattle.mt_rows.specs.Sheet.{Rooted, Sheet, IsPlace, is_buried, word_at}
 
@@ -58,7 +59,6 @@ sheet_of p = record {
 -- call to come; and before the first call an empty tree has no live row
 pub record IsPlain (p : State) : Type 0 where
   pub few : p.rows ≤ most_rows
-  pub long : p.width ≡ Long
   pub words : length p.words.items ≡ columns p.width * (first_row + p.rows)
   pub fates : length p.fates.items ≡ first_row + p.rows
   pub cleared : p.cleared ≤ p.ended
@@ -67,10 +67,10 @@ pub record IsPlain (p : State) : Type 0 where
   pub buried : (row call : ℕ) → fate_of p row ≡ Buried call → (first_row ≤ row) × (1 ≤ call) × (call ≤ p.ended + one_if p.in_flight)
   pub fresh : (row : ℕ) → p.ended ≡ 0 → p.in_flight ≡ false → p.root ≡ 0 → fate_of p row ≢ Live
 
--- so many rows, none of which was used, and no call
-abbrev pub new_sheet : ℕ → Sheet
-new_sheet rows = record {
-  tree = record { rows = rows; table = record { width = Long; words = replicate (columns Long * (first_row + rows)) 0 }; root = 0 };
+-- so many rows of a width, none of which was used, and no call
+abbrev pub new_sheet : Width → ℕ → Sheet
+new_sheet width rows = record {
+  tree = record { rows = rows; table = record { width = width; words = replicate (columns width * (first_row + rows)) 0 }; root = 0 };
   ended = 0;
   in_flight = false;
   published = false;
@@ -95,21 +95,21 @@ is_draft Live = false
 is_draft (Buried call) = false
 
 -- the words in the slots of an inner row, which name its children
-abbrev pub names_of : List ℕ → ℕ → RowKind → List ℕ
-names_of w row kinds.Leaf = []
-names_of w row kind = slice_range w (columns Long * row + slots_of Long kind) (columns Long * row + 2 * slots_of Long kind)
+abbrev pub names_of : Table → ℕ → RowKind → List ℕ
+names_of t row kinds.Leaf = []
+names_of t row kind = slice_range t.words (base_of t row + slots_of t.width kind) (base_of t row + 2 * slots_of t.width kind)
 
-abbrev pub enlivened_by : (List ℕ) → (ℕ → List Fate → List Fate) → Option RowKind → ℕ → List Fate → List Fate
-enlivened_by w below None row fates = fates
-enlivened_by w below (Some kind) row fates =
+abbrev pub enlivened_by : Table → (ℕ → List Fate → List Fate) → Option RowKind → ℕ → List Fate → List Fate
+enlivened_by t below None row fates = fates
+enlivened_by t below (Some kind) row fates =
     if is_draft (slice_index_or fates row New)
-    then fold (λ (fs : List Fate) (word : ℕ). below word fs) (slice_set fates row Live) (names_of w row kind)
+    then fold (λ (fs : List Fate) (word : ℕ). below word fs) (slice_set fates row Live) (names_of t row kind)
     else fates
 
 -- A draft that a word names is live, and so are the drafts below it, at most so many levels deep.
-abbrev pub enlivened : List ℕ → ℕ → ℕ → List Fate → List Fate
-enlivened w zero word fates = fates
-enlivened w (suc depth) word fates = enlivened_by w (enlivened w depth) (named_kind word) (row_in word) fates
+abbrev pub enlivened : Table → ℕ → ℕ → List Fate → List Fate
+enlivened t zero word fates = fates
+enlivened t (suc depth) word fates = enlivened_by t (enlivened t depth) (named_kind word) (row_in word) fates
 
 -- the row, where there is one, was buried by a call behind the first `past`
 abbrev pub names_buried : ℕ → List Fate → Option ℕ → Bool

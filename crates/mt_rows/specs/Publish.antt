@@ -8,7 +8,7 @@ use Rattle.mt_base.specs.declared.calls.Call.{Call}
 use Rattle.mt_base.specs.declared.replies.Reply.{Reply}
 use Rattle.mt_base.specs.declared.replies.Shortage.{Shortage}
 use Rattle.mt_base.specs.Width.{kind_width, first_row}
-use Rattle.mt_base.specs.Call.{acted}
+use Rattle.mt_base.specs.Call.{acted, finds_room}
 use Rattle.mt_base.specs.Nodes.{IsRefused}
 use Rattle.mt_layout.specs.declared.names.RowKind.{RowKind}
 use Rattle.mt_layout.specs.declared.spans.Span.{Span}
@@ -27,9 +27,12 @@ use Rattle.mt_rows.specs.Sheet.{Told, Rooted, Sheet, IsPlace, life_of, is_buried
 
 -- ---- the tree that words are
 
--- the words as a tree of this kind
+-- the words as a tree with gaps or without, and as a tree of this kind
+abbrev pub tree_on : Bool → Rooted → Tree
+tree_on gapped t = record { rows = t.rows; gapped = gapped; table = t.table; root = t.root }
+
 abbrev pub tree_as : Kind → Rooted → Tree
-tree_as kind t = record { rows = t.rows; kind = kind; table = t.table; root = t.root }
+tree_as kind = tree_on (finds_room kind)
 
 -- rows of this kind: of the kind that they tell, where they tell one
 abbrev pub IsTold : Option Kind → Kind → Type 0

@@ -9,7 +9,7 @@ use Rattle.mt_layout.specs.Sizes.{slots_of}
 use Rattle.mt_layout.specs.Columns.{slot_column}
 use Rattle.mt_rows.specs.Spans.{base_of, spans_in, root_span}
 use Rattle.mt_rows.specs.Levels.{level, map_of, times, is_row_of}
-use Rattle.mt_rows.specs.Laws.{Tree, Stands, kind_at}
+use Rattle.mt_rows.specs.Laws.{Tree, Stands, kind_on}
 
 -- the root of a tree, as the one row of its level
 abbrev pub root_of : Tree → List Span
@@ -25,7 +25,7 @@ pub record IsSlotAt (t : Tree) (depth : ℕ) (row : Span) (slot : ℕ) (child : 
 -- the tree after a word is stored in a slot of a row of this height
 abbrev pub with_slot : Tree → ℕ → Span → ℕ → ℕ → Tree
 with_slot t height row slot word = record t {
-  table = record { width = t.table.width; words = slice_set t.table.words (base_of t.table (row_in row.word) + slot_column (slots_of t.table.width (kind_at t.kind height)) slot) word };
+  table = record { width = t.table.width; words = slice_set t.table.words (base_of t.table (row_in row.word) + slot_column (slots_of t.table.width (kind_on t.gapped height)) slot) word };
 }
 
 abbrev pub with_child : Span → ℕ → Span

@@ -1,9 +1,9 @@
 -- The spans of a row, read off the words of a tree.
 -- Source: the kernel's include/linux/maple_tree.h, the layout of its nodes.
-use Rattle.std.specs.Prelude.{ℕ, ◌+◌, ◌*◌, List, [], Option, Some, None, slice_index}
+use Rattle.std.specs.Prelude.{ℕ, Bool, true, false, ◌+◌, ◌*◌, List, [], Option, Some, None, slice_index}
 use Rattle.mt_base.specs.declared.kinds.Kind.{Kind}
-use Rattle.mt_base.specs.declared.kinds.Kind.TheVariants as trees
 use Rattle.mt_base.specs.declared.widths.Width.{Width}
+use Rattle.mt_base.specs.Call.{finds_room}
 use Rattle.mt_base.specs.Width.{columns, greatest}
 use Rattle.mt_layout.specs.declared.names.RowKind.{RowKind}
 use Rattle.mt_layout.specs.declared.names.RowKind.TheVariants as kinds
@@ -24,10 +24,13 @@ base_of t row = columns t.width * row
 abbrev pub column : Table → ℕ → ℕ → ℕ
 column t row c = slice_index t.words (base_of t row + c)
 
--- the kind of the inner rows of a tree
+-- the kind of the inner rows of a tree with gaps, or without; a tree whose holes are searched has gaps
+abbrev pub inner_of : Bool → RowKind
+inner_of false = kinds.Inner
+inner_of true = kinds.Gapped
+
 abbrev pub inner_kind : Kind → RowKind
-inner_kind trees.Range = kinds.Inner
-inner_kind trees.Alloc = kinds.Gapped
+inner_kind kind = inner_of (finds_room kind)
 
 -- what stands in a row of this kind that covers first..last
 abbrev pub row_spans : Table → ℕ → RowKind → ℕ → ℕ → List Span

@@ -14,7 +14,7 @@ ghost use Rattle.mt_layout.specs.Rows.{row_in};
 ghost use Rattle.mt_layout.specs.Sizes.{slots_of};
 ghost use Rattle.mt_layout.specs.Columns.{slot_column};
 ghost use Rattle.mt_rows.specs.declared.rows.Place.TheVariants.{Slot};
-ghost use Rattle.mt_rows.specs.Spans.{Table};
+ghost use Rattle.mt_rows.specs.Spans.{Table, inner_of};
 ghost use Rattle.mt_rows.specs.Levels.{map_of, Levels, tally, times, is_row_of, SameColumns, SameSpans};
 ghost use Rattle.mt_rows.specs.Trees.{ranges_of, rows_of, height_of, map_in, reached_in};
 ghost use Rattle.mt_rows.specs.Laws.{Tree, IsRow, IsTree, Stands, HasWords, top_of, kind_at};
@@ -43,7 +43,7 @@ pub fn rows_not_reached_do_not_count()
 /// A tree stands for a map of its kind, and an empty one for the empty map.
 pub fn words_stand_for_maps()
     ensures empty { (t : Table) → map_in t 0 ≡ [] }
-    ensures tree { (t : Tree) (h : ℕ) → Stands t h → t.table.width ≡ kind_width t.kind → IsMap t.kind (map_in t.table t.root) }
+    ensures tree { (kind : Kind) (t : Tree) (h : ℕ) → Stands t h → t.table.width ≡ kind_width kind → IsMap kind (map_in t.table t.root) }
 {}
 
 /// Rows of a height that stand side by side stand for the map of the first, and behind it that of the others.
@@ -98,9 +98,11 @@ pub fn an_exact_store_may_be_published()
         → MayPublish kind s (Slot row col) entry (Store item.first item.last entry) reply.Ok }
 {}
 
-/// A tree of as many rows as can be named has nine levels at the most.
+/// A tree of as many rows as can be named has nine levels at the most; and the inner rows on a way from the root to a leaf have 128
+/// slots at the most, whatever the width.
 pub fn a_tree_has_nine_levels_at_most()
-    ensures { (t : Tree) (h : ℕ) → t.rows ≤ most_rows → Levels (IsRow t) t.table h (root_of t) → h < deepest }
+    ensures levels { (t : Tree) (h : ℕ) → t.rows ≤ most_rows → Levels (IsRow t) t.table h (root_of t) → h < deepest }
+    ensures slots { (t : Tree) (h : ℕ) → t.rows ≤ most_rows → Levels (IsRow t) t.table h (root_of t) → slots_of t.table.width (inner_of t.gapped) * h ≤ 128 }
 {}
 
 /// A tree has at most half as many rows as ranges, rounded down, and two more; and with so many levels it has so many

@@ -1,6 +1,5 @@
 ghost use Rattle.std.specs.Prelude.{◌≡◌, ◌+◌, ◌*◌, ◌<◌, ◌≤◌, ◌++◌, IfOk, length, map, filter, take, slice_index_or, slice_set, if◌then◌else◌};
 ghost use Rattle.std.specs.List.{fold};
-ghost use Rattle.mt_base.specs.declared.widths.Width.TheVariants.{Long};
 ghost use Rattle.mt_base.specs.Width.{columns, deepest, most_rows, first_row};
 ghost use Rattle.mt_layout.specs.Rows.{named_row};
 ghost use Rattle.mt_rows.specs.Trees.{rows_of};
@@ -9,12 +8,12 @@ ghost use Rattle.mt_rows.specs.OfWords.{is_live, walked_fates};
 ghost use Rattle.mt_rows.specs.Plain as defined;
 ghost use Rattle.mt_rows.specs.Plain.{IsPlain, names_of, enlivened, names_buried};
 
-use crate::plain_trees::spans_in;
+use crate::plain_trees::{root_span, spans_in};
 use crate::reads::Reads;
 use crate::rows::{Place, Rows, Scan};
 use crate::words::{Words, clear_first};
 use arrayvec::ArrayVec;
-use mt_base::{Call, DEEPEST, FIRST_ROW, NoMemory, Reply, Width, cols, top};
+use mt_base::{Call, DEEPEST, FIRST_ROW, NoMemory, Reply, Width, cols};
 use mt_layout::{MOST_SLOTS, RowKind, Span, kind_of, parent_word, row_of, slots};
 use std::alloc::Global;
 
@@ -74,10 +73,10 @@ fn set_fate(fates: &mut [Fate], row: u32, fate: Fate)
 }
 
 /// Makes the rows live that a span reaches, at most so many levels deep, and counts them.
-fn settle(words: &Words, depth: u32, span: &Span, fates: &mut [Fate]) -> u64
+fn settle(width: Width, words: &Words, depth: u32, span: &Span, fates: &mut [Fate]) -> u64
     requires { depth ≤ deepest }
-    ensures count { result ≡ length (rows_of (record { width = Long; words = words.now.items }) depth span.now) }
-    ensures lives { fates.new ≡ fold (λ fs row. slice_set fs row Fate.Live) fates.old (rows_of (record { width = Long; words = words.now.items }) depth span.now) }
+    ensures count { result ≡ length (rows_of (record { width = width; words = words.now.items }) depth span.now) }
+    ensures lives { fates.new ≡ fold (λ fs row. slice_set fs row Fate.Live) fates.old (rows_of (record { width = width; words = words.now.items }) depth span.now) }
 {
     let (Some(row), Some(kind)) = (row_of(span.word), kind_of(span.word)) else {
         return 0;
@@ -90,8 +89,8 @@ fn settle(words: &Words, depth: u32, span: &Span, fates: &mut [Fate]) -> u64
         RowKind::Leaf => 1,
         _ => {
             let mut count = 1;
-            for child in spans_in(words.written(), span).as_slice() {
-                count += settle(words, depth - 1, child, fates);
+            for child in spans_in(width, words.written(), span).as_slice() {
+                count += settle(width, words, depth - 1, child, fates);
             }
             count
         }
@@ -106,16 +105,16 @@ fn is_draft(fates: &[Fate], row: u32) -> bool
 
 /// The words in the slots of an inner row, which name its children.
 #[tactic(auto, using(mt_layout::proofs::RowSizes::few_slots_of, crate::proofs::ZeroWords::range_more, crate::proofs::ZeroWords::none_in_range, crate::proofs::ZeroWords::names_of_inner))]
-fn names_in(words: &Words, row: u32, kind: RowKind) -> ArrayVec<u64, MOST_SLOTS>
-    requires { columns Long * (row + 1) ≤ length words.now.items }
-    ensures { result.items ≡ names_of words.now.items row kind }
+fn names_in(width: Width, words: &Words, row: u32, kind: RowKind) -> ArrayVec<u64, MOST_SLOTS>
+    requires { columns width * (row + 1) ≤ length words.now.items }
+    ensures { result.items ≡ names_of (record { width = width; words = words.now.items }) row kind }
 {
     let mut names = ArrayVec::new();
     if kind == RowKind::Leaf {
         return names;
     }
-    let base = cols(Width::Long) as usize * row as usize;
-    let slots = slots(Width::Long, kind) as usize;
+    let base = cols(width) as usize * row as usize;
+    let slots = slots(width, kind) as usize;
     for at in base + slots..base + 2 * slots {
         names.push(words.get(at));
     }
@@ -124,9 +123,9 @@ fn names_in(words: &Words, row: u32, kind: RowKind) -> ArrayVec<u64, MOST_SLOTS>
 
 /// Makes the drafts live that are reached from a word, at most so many levels deep. Below a row that is no draft there is
 /// none.
-fn enliven(words: &Words, depth: u32, word: u64, fates: &mut [Fate])
-    requires { length words.now.items ≡ columns Long * length fates.old }
-    ensures { fates.new ≡ enlivened words.now.items depth word fates.old }
+fn enliven(width: Width, words: &Words, depth: u32, word: u64, fates: &mut [Fate])
+    requires { length words.now.items ≡ columns width * length fates.old }
+    ensures { fates.new ≡ enlivened (record { width = width; words = words.now.items }) depth word fates.old }
 {
     let (Some(row), Some(kind)) = (row_of(word), kind_of(word)) else {
         return;
@@ -138,8 +137,8 @@ fn enliven(words: &Words, depth: u32, word: u64, fates: &mut [Fate])
     if kind == RowKind::Leaf {
         return;
     }
-    for child in names_in(words, row, kind).as_slice() {
-        enliven(words, depth - 1, *child, fates);
+    for child in names_in(width, words, row, kind).as_slice() {
+        enliven(width, words, depth - 1, *child, fates);
     }
 }
 
@@ -188,13 +187,13 @@ fn renew(fates: &mut [Fate])
 
 /// Makes the rows live that are reached from the root word, and all others new, and counts the live ones. No row is entered
 /// twice, whatever the words.
-fn enliven_all(words: &Words, root: u64, fates: &mut [Fate]) -> u64
-    requires { length words.now.items ≡ columns Long * length fates.old }
-    ensures fates { fates.new ≡ map made.renewed (walked_fates words.now.items root (length fates.old)) }
-    ensures count { result ≡ length (filter is_live (walked_fates words.now.items root (length fates.old))) }
+fn enliven_all(width: Width, words: &Words, root: u64, fates: &mut [Fate]) -> u64
+    requires { length words.now.items ≡ columns width * length fates.old }
+    ensures fates { fates.new ≡ map made.renewed (walked_fates (record { width = width; words = words.now.items }) root (length fates.old)) }
+    ensures count { result ≡ length (filter is_live (walked_fates (record { width = width; words = words.now.items }) root (length fates.old))) }
 {
     fates.fill(Fate::Draft);
-    enliven(words, DEEPEST as u32, root, fates);
+    enliven(width, words, DEEPEST as u32, root, fates);
     let count = count_live(fates);
     renew(fates);
     count
@@ -203,7 +202,7 @@ fn enliven_all(words: &Words, root: u64, fates: &mut [Fate]) -> u64
 impl PlainRows {
     ghost use Rattle.std.specs.Prelude.{◌≡◌, ℕ, ◌*◌, ◌/◌, ◌%◌, ◌<◌, ◌≤◌, IfOk, true, false, length, slice_index, if◌then◌else◌};
     ghost use Rattle.mt_base.specs.declared.kinds.Kind.{Kind};
-    ghost use Rattle.mt_base.specs.declared.widths.Width.TheVariants.{Long};
+    ghost use Rattle.mt_base.specs.declared.widths.Width.TheVariants.{Long, Short};
     ghost use Rattle.mt_base.specs.Width.{columns, deepest, first_row, most_rows};
     ghost use Rattle.mt_rows.specs.OfWords.{IsMadeOf};
     ghost use Rattle.mt_rows.specs.Plain.{new_sheet, IsPlaceIn, opens};
@@ -212,16 +211,39 @@ impl PlainRows {
     ghost use Rattle.mt_rows.specs.Publish.{MayPlant, Planted, with_published};
     ghost use Rattle.mt_rows.specs.Sheet.{IsPlace, IsFree, life_of};
 
-    /// So many rows, none of which was ever used, and an empty tree. There are `MOST_ROWS` at the most.
+    /// So many wide rows, none of which was ever used, and an empty tree. There are `MOST_ROWS` at the most.
     ///
     /// # Errors
     ///
     /// `NoMemory` where memory ran out.
     pub fn new(alloc: Global, rows: u64) -> Result<PlainRows, NoMemory>
         requires { rows ≤ most_rows }
-        ensures { IfOk result (λ p. sheet_in p ≡ new_sheet rows) }
+        ensures { IfOk result (λ p. sheet_in p ≡ new_sheet Long rows) }
     {
-        let width = Width::Long;
+        PlainRows::of_width(alloc, Width::Long, rows)
+    }
+
+    /// As `new`, but of narrow rows.
+    ///
+    /// # Errors
+    ///
+    /// `NoMemory` where memory ran out.
+    pub fn short(alloc: Global, rows: u64) -> Result<PlainRows, NoMemory>
+        requires { rows ≤ most_rows }
+        ensures { IfOk result (λ p. sheet_in p ≡ new_sheet Short rows) }
+    {
+        PlainRows::of_width(alloc, Width::Short, rows)
+    }
+
+    /// As `new`, but of rows of this width.
+    ///
+    /// # Errors
+    ///
+    /// `NoMemory` where memory ran out.
+    pub fn of_width(alloc: Global, width: Width, rows: u64) -> Result<PlainRows, NoMemory>
+        requires { rows ≤ most_rows }
+        ensures { IfOk result (λ p. sheet_in p ≡ new_sheet width rows) }
+    {
         let numbers = FIRST_ROW as usize + rows as usize;
         let state = State {
             rows,
@@ -257,21 +279,26 @@ impl PlainRows {
         ensures { IfOk result (λ p. IsMadeOf width root words.now (sheet_in p)) }
     {
         let rows = words.len() / cols(width) as usize;
-        let mut made = PlainRows::new(alloc, rows as u64)?;
-        made.put_words(root, words);
+        let mut made = PlainRows::of_width(alloc, width, rows as u64)?;
+        made.put_words(width, root, words);
         Ok(made)
     }
 
     /// Puts words over all rows of a new table, and a root word.
-    fn put_words(&mut self, root: u64, words: &[u64])
-        requires whole { length words.now % columns Long ≡ 0 }
-        requires new { sheet_in self.old ≡ new_sheet (length words.now / columns Long) }
-        ensures { IsMadeOf Long root words.now (sheet_in self.new) }
+    fn put_words(&mut self, width: Width, root: u64, words: &[u64])
+        requires whole { length words.now % columns width ≡ 0 }
+        requires new { sheet_in self.old ≡ new_sheet width (length words.now / columns width) }
+        ensures { IsMadeOf width root words.now (sheet_in self.new) }
     {
-        let before = cols(Width::Long) as usize * FIRST_ROW as usize;
+        let before = cols(width) as usize * FIRST_ROW as usize;
         self.state.words.set_last(before, words);
         self.state.root = root;
-        self.state.opened = enliven_all(&self.state.words, root, self.state.fates.as_mut_slice());
+        self.state.opened = enliven_all(
+            width,
+            &self.state.words,
+            root,
+            self.state.fates.as_mut_slice(),
+        );
     }
 
     /// Sets the root word before the first call. The rows that are reached from it are live then.
@@ -280,15 +307,11 @@ impl PlainRows {
         ensures { Planted (sheet_in self.old) (sheet_in self.new) root }
     {
         self.state.root = root;
-        let span = Span {
-            first: 0,
-            last: top(self.state.width),
-            word: root,
-        };
         self.state.opened = settle(
+            self.state.width,
             &self.state.words,
             DEEPEST as u32,
-            &span,
+            &root_span(self.state.width, root),
             self.state.fates.as_mut_slice(),
         );
     }
@@ -416,6 +439,7 @@ impl Rows for PlainRows {
     fn publish(&mut self, place: Place, word: u64, _call: &Call, _reply: &Reply) {
         let levels = self.store(place, word);
         enliven(
+            self.state.width,
             &self.state.words,
             levels,
             word,

@@ -2,7 +2,6 @@
 
 ghost use Rattle.std.specs.Prelude.{◌≡◌, ◌+◌, ◌-◌, ◌^◌, ◌<◌, ◌≤◌, [], ◌++◌, IfOk, length, slice_index};
 ghost use Rattle.std.specs.List.{flat_map};
-ghost use Rattle.mt_base.specs.declared.widths.Width.TheVariants.{Long};
 ghost use Rattle.mt_layout.specs.Columns.{items_from};
 ghost use Rattle.mt_layout.specs.Sizes.{slots_of, gaps_of, run_room};
 ghost use Rattle.mt_layout.specs.Spans.{spans_from, leaf_range};
@@ -31,6 +30,7 @@ fn word_at(words: &[u64], at: usize) -> u64
 
 /// Appends the spans of a row from slot `i` on, the first of which begins at `first`.
 fn push_spans(
+    width: Width,
     words: &[u64],
     row: Columns,
     i: usize,
@@ -38,11 +38,11 @@ fn push_spans(
     spans: &mut ArrayVec<Span, RUN_ROOM>,
 )
     requires base { row.base < 2 ^ 32 }
-    requires slot { i < slots_of Long row.kind }
-    requires room { length spans.old.items + (slots_of Long row.kind - i) ≤ run_room }
-    ensures { spans.new.items ≡ spans.old.items ++ spans_from first (items_from (slots_of Long row.kind) (gaps_of Long row.kind) words.now row.base row.last (slots_of Long row.kind - i) i) }
+    requires slot { i < slots_of width row.kind }
+    requires room { length spans.old.items + (slots_of width row.kind - i) ≤ run_room }
+    ensures { spans.new.items ≡ spans.old.items ++ spans_from first (items_from (slots_of width row.kind) (gaps_of width row.kind) words.now row.base row.last (slots_of width row.kind - i) i) }
 {
-    let slots = slots(Width::Long, row.kind) as usize;
+    let slots = slots(width, row.kind) as usize;
     let word = word_at(words, row.base + (slots + i));
     if i + 1 == slots {
         spans.push(Span {
@@ -55,35 +55,35 @@ fn push_spans(
     let last = word_at(words, row.base + (1 + i));
     spans.push(Span { first, last, word });
     if last < row.last {
-        push_spans(words, row, i + 1, last + 1, spans);
+        push_spans(width, words, row, i + 1, last + 1, spans);
     }
 }
 
 /// What stands in the row that a span names, and nothing where its word is no name.
 #[tactic(auto, using(mt_layout::proofs::RowSizes::some_slots_of, mt_layout::proofs::RowSizes::sizes))]
-pub fn spans_in(words: &[u64], span: &Span) -> ArrayVec<Span, RUN_ROOM>
-    ensures { result.items ≡ defined.spans_in (record { width = Long; words = words.now }) span.now }
+pub fn spans_in(width: Width, words: &[u64], span: &Span) -> ArrayVec<Span, RUN_ROOM>
+    ensures { result.items ≡ defined.spans_in (record { width = width; words = words.now }) span.now }
 {
     let mut spans = ArrayVec::new();
     let (Some(row), Some(kind)) = (row_of(span.word), kind_of(span.word)) else {
         return spans;
     };
     let columns = Columns {
-        base: cols(Width::Long) as usize * row as usize,
+        base: cols(width) as usize * row as usize,
         kind,
         last: span.last,
     };
-    push_spans(words, columns, 0, span.first, &mut spans);
+    push_spans(width, words, columns, 0, span.first, &mut spans);
     spans
 }
 
 /// The span of a tree's root, which covers every index.
-fn root_span(root: u64) -> Span
-    ensures { result ≡ defined.root_span (record { width = Long; words = [] }) root }
+pub(crate) fn root_span(width: Width, root: u64) -> Span
+    ensures { result ≡ defined.root_span (record { width = width; words = [] }) root }
 {
     Span {
         first: 0,
-        last: top(Width::Long),
+        last: top(width),
         word: root,
     }
 }
@@ -107,12 +107,13 @@ fn push_leaf_ranges(spans: &[Span], ranges: &mut Vec<Range>) -> Result<(), NoMem
 /// Appends the ranges below a row, at most so many levels deep.
 #[tactic(auto, using(crate::proofs::Deeper::ranges_of_deeper, crate::proofs::Deeper::ranges_of_inner))]
 fn push_ranges(
+    width: Width,
     words: &[u64],
     depth: u32,
     span: &Span,
     ranges: &mut Vec<Range>,
 ) -> Result<(), NoMemory>
-    ensures { IfOk result (λ _. ranges.new.items ≡ ranges.old.items ++ trees.ranges_of (record { width = Long; words = words.now }) depth span.now) }
+    ensures { IfOk result (λ _. ranges.new.items ≡ ranges.old.items ++ trees.ranges_of (record { width = width; words = words.now }) depth span.now) }
 {
     let Some(kind) = kind_of(span.word) else {
         return Ok(());
@@ -120,12 +121,12 @@ fn push_ranges(
     if depth == 0 {
         return Ok(());
     }
-    let spans = spans_in(words, span);
+    let spans = spans_in(width, words, span);
     match kind {
         RowKind::Leaf => push_leaf_ranges(spans.as_slice(), ranges),
         _ => {
             for child in spans.as_slice() {
-                push_ranges(words, depth - 1, child, ranges)?;
+                push_ranges(width, words, depth - 1, child, ranges)?;
             }
             Ok(())
         }
@@ -134,8 +135,14 @@ fn push_ranges(
 
 /// Appends the rows that are reached, at most so many levels deep: each row before its children, children from the left.
 #[tactic(auto, using(crate::proofs::Deeper::rows_of_deeper, crate::proofs::Deeper::rows_of_inner))]
-fn push_rows(words: &[u64], depth: u32, span: &Span, rows: &mut Vec<u32>) -> Result<(), NoMemory>
-    ensures { IfOk result (λ _. rows.new.items ≡ rows.old.items ++ trees.rows_of (record { width = Long; words = words.now }) depth span.now) }
+fn push_rows(
+    width: Width,
+    words: &[u64],
+    depth: u32,
+    span: &Span,
+    rows: &mut Vec<u32>,
+) -> Result<(), NoMemory>
+    ensures { IfOk result (λ _. rows.new.items ≡ rows.old.items ++ trees.rows_of (record { width = width; words = words.now }) depth span.now) }
 {
     let (Some(row), Some(kind)) = (row_of(span.word), kind_of(span.word)) else {
         return Ok(());
@@ -147,9 +154,9 @@ fn push_rows(words: &[u64], depth: u32, span: &Span, rows: &mut Vec<u32>) -> Res
     match kind {
         RowKind::Leaf => Ok(()),
         _ => {
-            let spans = spans_in(words, span);
+            let spans = spans_in(width, words, span);
             for child in spans.as_slice() {
-                push_rows(words, depth - 1, child, rows)?;
+                push_rows(width, words, depth - 1, child, rows)?;
             }
             Ok(())
         }
@@ -158,8 +165,8 @@ fn push_rows(words: &[u64], depth: u32, span: &Span, rows: &mut Vec<u32>) -> Res
 
 /// The number of levels below and with a row, at most so many, counted along the first children.
 #[tactic(auto, using(crate::proofs::Deeper::height_of_deeper, crate::proofs::Deeper::height_of_inner))]
-fn height_of(words: &[u64], depth: u32, span: &Span) -> u32
-    ensures height { result ≡ trees.height_of (record { width = Long; words = words.now }) depth span.now }
+fn height_of(width: Width, words: &[u64], depth: u32, span: &Span) -> u32
+    ensures height { result ≡ trees.height_of (record { width = width; words = words.now }) depth span.now }
     ensures low { result ≤ depth }
 {
     let Some(kind) = kind_of(span.word) else {
@@ -168,37 +175,44 @@ fn height_of(words: &[u64], depth: u32, span: &Span) -> u32
     if depth == 0 {
         return 0;
     }
-    let spans = spans_in(words, span);
+    let spans = spans_in(width, words, span);
     match kind {
         RowKind::Leaf => 1,
         _ => match spans.as_slice().first() {
             None => 1,
-            Some(child) => 1 + height_of(words, depth - 1, child),
+            Some(child) => 1 + height_of(width, words, depth - 1, child),
         },
     }
 }
 
 /// The map that words stand for, from the root word.
-pub fn map_in(alloc: Global, words: &[u64], root: u64) -> Result<Vec<Range>, NoMemory>
-    ensures { IfOk result (λ m. m.items ≡ trees.map_in (record { width = Long; words = words.now }) root) }
+pub fn map_in(alloc: Global, width: Width, words: &[u64], root: u64) -> Result<Vec<Range>, NoMemory>
+    ensures { IfOk result (λ m. m.items ≡ trees.map_in (record { width = width; words = words.now }) root) }
 {
     let mut ranges = Vec::new(alloc);
-    push_ranges(words, DEEPEST as u32, &root_span(root), &mut ranges)?;
+    let span = root_span(width, root);
+    push_ranges(width, words, DEEPEST as u32, &span, &mut ranges)?;
     Ok(ranges)
 }
 
 /// The rows that are reached from the root word.
-pub fn reached_in(alloc: Global, words: &[u64], root: u64) -> Result<Vec<u32>, NoMemory>
-    ensures { IfOk result (λ rows. rows.items ≡ trees.reached_in (record { width = Long; words = words.now }) root) }
+pub fn reached_in(
+    alloc: Global,
+    width: Width,
+    words: &[u64],
+    root: u64,
+) -> Result<Vec<u32>, NoMemory>
+    ensures { IfOk result (λ rows. rows.items ≡ trees.reached_in (record { width = width; words = words.now }) root) }
 {
     let mut rows = Vec::new(alloc);
-    push_rows(words, DEEPEST as u32, &root_span(root), &mut rows)?;
+    let span = root_span(width, root);
+    push_rows(width, words, DEEPEST as u32, &span, &mut rows)?;
     Ok(rows)
 }
 
 /// The number of levels of a tree, from the root word.
-pub fn height_in(words: &[u64], root: u64) -> u32
-    ensures { result ≡ trees.height_in (record { width = Long; words = words.now }) root }
+pub fn height_in(width: Width, words: &[u64], root: u64) -> u32
+    ensures { result ≡ trees.height_in (record { width = width; words = words.now }) root }
 {
-    height_of(words, DEEPEST as u32, &root_span(root))
+    height_of(width, words, DEEPEST as u32, &root_span(width, root))
 }

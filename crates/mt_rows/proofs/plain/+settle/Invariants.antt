@@ -1,6 +1,5 @@
 use Rattle.std.proofs.Common.{◌≡◌, ◌+◌, ◌-◌, ℕ, List, length, slice_set, take}
 use Rattle.std.specs.List.{fold, flat_map}
-use Rattle.mt_base.specs.declared.widths.Width.TheVariants.{Long}
 use Rattle.mt_rows.specs.Trees.{rows_of}
 use Rattle.mt_rows.specs.declared.plain.Fate.{Fate}
 use Rattle.mt_rows.specs.declared.plain.Fate.TheVariants.{Live}
@@ -11,7 +10,7 @@ decreases-settle l = l.depth
 
 abbrev pub invariant-loop-child : goal.invariant-loop-child
 invariant-loop-child l =
-    let below = flat_map (rows_of (record { width = Long; words = l.words.items }) (l.depth - 1)) (take l.child-index l.child-items) in
+    let below = flat_map (rows_of (record { width = l.width; words = l.words.items }) (l.depth - 1)) (take l.child-index l.child-items) in
     record {
       count : l.count ≡ 1 + length below;
       lives : l.fates ≡ fold (λ (fs : List Fate) (row : ℕ). slice_set fs row Live) l.initial.fates below;

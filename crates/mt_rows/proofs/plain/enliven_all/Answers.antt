@@ -11,10 +11,10 @@ pub returns-clause-fates : goal.returns-clause-fates
 unfolding walked_fates
 returns-clause-fates c =
     let filled : c.fill.new.self ≡ replicate (length c.args.fates.now) Draft = c.fill.ensures.after (search rules) in
-    c.renew.ensures ∙ ap (map renewed) (c.enliven.ensures ∙ ap (enlivened c.args.words.now.items deepest c.args.root) filled)
+    c.renew.ensures ∙ ap (map renewed) (c.enliven.ensures ∙ ap (enlivened (record { width = c.args.width; words = c.args.words.now.items }) deepest c.args.root) filled)
 
 pub returns-clause-count : goal.returns-clause-count
 unfolding walked_fates
 returns-clause-count c =
     let filled : c.fill.new.self ≡ replicate (length c.args.fates.now) Draft = c.fill.ensures.after (search rules) in
-    c.count_live-count.ensures ∙ ap (λ (fs : List Fate). length (filter is_live fs)) (c.enliven.ensures ∙ ap (enlivened c.args.words.now.items deepest c.args.root) filled)
+    c.count_live-count.ensures ∙ ap (λ (fs : List Fate). length (filter is_live fs)) (c.enliven.ensures ∙ ap (enlivened (record { width = c.args.width; words = c.args.words.now.items }) deepest c.args.root) filled)

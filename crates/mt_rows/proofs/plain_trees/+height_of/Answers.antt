@@ -1,5 +1,4 @@
 use Rattle.std.proofs.Common.{◌≡◌, ◌+◌, ◌-◌, ◌<◌, ℕ, ap, ◌∙◌, sym, arith}
-use Rattle.mt_base.specs.declared.widths.Width.TheVariants.{Long}
 use Rattle.mt_rows.specs.Spans.{Table, spans_in}
 use Rattle.mt_rows.specs.Trees.{height_of, of_first}
 use Rattle.mt_rows.proofs.Deeper.{height_of_inner, of_first_at}
@@ -7,7 +6,7 @@ use Rattle.mt_rows.proofs.plain_trees.+height_of.Goals as goal
 
 pub returns-in-Some-first : goal.returns-in-Some-first
 returns-in-Some-first t c =
-    let table : Table = record { width = Long; words = c.args.words.now } in
+    let table : Table = record { width = c.args.width; words = c.args.words.now } in
     let deep : 0 < c.args.depth = omega arith in
     let spans = c.as_slice.ensures.value ∙ c.spans_in-spans.ensures in
     let first = of_first_at (height_of table (c.args.depth - 1)) c.as_slice.result.now c.in-Some-first.child.now c.in-Some-first.ensures.value in

@@ -2,7 +2,6 @@ use Rattle.std.proofs.Common.{◌++◌, List, ap, ◌∙◌, sym, ◌-◌, ◌<�
 use Rattle.std.specs.List.{flat_map}
 use Rattle.std.proofs.lemmas.List.{take_all}
 use Rattle.mt_base.specs.declared.ranges.Range.{Range}
-use Rattle.mt_base.specs.declared.widths.Width.TheVariants.{Long}
 use Rattle.mt_rows.specs.Spans.{Table}
 use Rattle.mt_rows.specs.Trees.{ranges_of}
 use Rattle.mt_rows.proofs.Deeper.{ranges_of_inner}
@@ -10,7 +9,7 @@ use Rattle.mt_rows.proofs.plain_trees.+push_ranges.Goals as goal
 
 pub returns-after-loop-child : goal.returns-after-loop-child
 returns-after-loop-child t c =
-    let table : Table = record { width = Long; words = c.args.words.now } in
+    let table : Table = record { width = c.args.width; words = c.args.words.now } in
     let all = take_all c.loop-child.child-index c.as_slice-child-items.result.now c.loop-child-test.false ∙ (c.as_slice-child-items.ensures.value ∙ c.spans_in-spans.ensures) in
     let deep : 0 < c.args.depth = omega arith in
     c.loop-child.invariant

@@ -1,7 +1,6 @@
 use Rattle.std.proofs.Common.{◌≡◌, ◌++◌, ◌∷◌, [], ℕ, List, ap, ◌∙◌, sym, take, ◌-◌, ◌<◌, arith, append_assoc}
 use Rattle.std.specs.List.{flat_map}
 use Rattle.std.proofs.lemmas.List.{take_all}
-use Rattle.mt_base.specs.declared.widths.Width.TheVariants.{Long}
 use Rattle.mt_layout.specs.Rows.{row_in}
 use Rattle.mt_rows.specs.Spans.{Table}
 use Rattle.mt_rows.specs.Trees.{rows_of}
@@ -10,7 +9,7 @@ use Rattle.mt_rows.proofs.plain_trees.+push_rows.Goals as goal
 
 pub returns-after-loop-child : goal.returns-after-loop-child
 returns-after-loop-child t c =
-    let table : Table = record { width = Long; words = c.args.words.now } in
+    let table : Table = record { width = c.args.width; words = c.args.words.now } in
     let all = take_all c.loop-child.child-index c.as_slice-child-items.result.now c.loop-child-test.false ∙ (c.as_slice-child-items.ensures.value ∙ c.spans_in-spans.ensures) in
     let deep : 0 < c.args.depth = omega arith in
     let below : List ℕ = flat_map (rows_of table (c.args.depth - 1)) (take c.loop-child.child-index c.as_slice-child-items.result.now) in

@@ -1,7 +1,6 @@
 use Rattle.std.proofs.Common.{◌-◌}
-use Rattle.mt_base.specs.declared.widths.Width.TheVariants.{Long}
 use Rattle.mt_layout.specs.Sizes.{slots_of}
 use Rattle.mt_rows.proofs.plain_trees.+push_spans.Given as goal
 
 abbrev pub decreases-push_spans : goal.decreases-push_spans
-decreases-push_spans l = slots_of Long l.row.kind - l.i
+decreases-push_spans l = slots_of l.width l.row.kind - l.i

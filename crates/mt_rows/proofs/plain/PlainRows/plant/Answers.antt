@@ -1,16 +1,19 @@
 use Rattle.std.proofs.Common.{◌≡◌, ◌∙◌, ap, length, refl}
 use Rattle.std.specs.Vec.{with_items}
 use Rattle.std.proofs.lemmas.List.{with_items_is}
+use Rattle.mt_base.specs.Width.{deepest}
 use Rattle.mt_rows.specs.declared.plain.State.{State}
+use Rattle.mt_rows.specs.Plain.{sheet_of}
+use Rattle.mt_rows.specs.Trees.{rows_of}
 use Rattle.mt_rows.specs.Memory.{sheet_in}
-use Rattle.mt_rows.proofs.PlainPlant.{settled, planted_plain, planted_is, reached_as}
+use Rattle.mt_rows.proofs.PlainPlant.{settled, planted_plain, planted_is}
 use Rattle.mt_rows.proofs.plain.PlainRows.plant.Goals as goal
 
 pub invariant_of-self : goal.invariant_of-self
 invariant_of-self c =
     let p = c.args.self.now.state in
     let q : State = record p { fates = with_items p.fates c.settle-self.new.fates } in
-    let rows = reached_as p.width p.words.items p.words.items c.args.root c.top.result refl c.top.ensures in
+    let rows = ap (rows_of (sheet_of p).tree.table deepest) c.root_span.ensures in
     let count = c.settle-self.ensures.count ∙ ap length rows in
     let kept : q.fates.items ≡ c.settle-self.new.fates = with_items_is p.fates c.settle-self.new.fates (c.settle-self.auto.fates ∙ c.as_mut_slice.ensures.len) in
     let fates = kept ∙ (c.settle-self.ensures.lives ∙ (λ i. settled (c.as_mut_slice.ensures.value i) (rows i))) in
@@ -20,7 +23,7 @@ pub returns : goal.returns
 returns c =
     let p = c.args.self.now.state in
     let q : State = record p { fates = with_items p.fates c.settle-self.new.fates } in
-    let rows = reached_as p.width p.words.items p.words.items c.args.root c.top.result refl c.top.ensures in
+    let rows = ap (rows_of (sheet_of p).tree.table deepest) c.root_span.ensures in
     let count = c.settle-self.ensures.count ∙ ap length rows in
     let kept : q.fates.items ≡ c.settle-self.new.fates = with_items_is p.fates c.settle-self.new.fates (c.settle-self.auto.fates ∙ c.as_mut_slice.ensures.len) in
     let fates = kept ∙ (c.settle-self.ensures.lives ∙ (λ i. settled (c.as_mut_slice.ensures.value i) (rows i))) in

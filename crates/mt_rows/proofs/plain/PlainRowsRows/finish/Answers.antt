@@ -10,7 +10,6 @@ invariant_of-self c =
     record {
       plain = record {
         few = p.few;
-        long = p.long;
         words = p.words;
         fates = p.fates;
         cleared = (let low = p.cleared in omega arith);

@@ -2,7 +2,7 @@ use Rattle.std.proofs.Common.{◌≡◌, ◌∙◌, ap, length}
 use Rattle.std.specs.Vec.{with_items}
 use Rattle.std.proofs.lemmas.List.{with_items_is}
 use Rattle.mt_rows.specs.declared.plain.State.{State}
-use Rattle.mt_rows.specs.Plain.{enlivened}
+use Rattle.mt_rows.specs.Plain.{sheet_of, enlivened}
 use Rattle.mt_rows.specs.Memory.{sheet_in}
 use Rattle.mt_rows.proofs.PlainPublish.{published_plain, published_is}
 use Rattle.mt_rows.proofs.plain.PlainRowsRows.publish.Goals as goal
@@ -12,7 +12,7 @@ invariant_of-self c =
     let p = c.store-levels.new.self.state in
     let q : State = record p { fates = with_items p.fates c.enliven.new.fates } in
     let kept : q.fates.items ≡ c.enliven.new.fates = with_items_is p.fates c.enliven.new.fates (c.enliven.auto.fates ∙ c.as_mut_slice.ensures.len) in
-    let walked : q.fates.items ≡ enlivened p.words.items c.store-levels.result c.args.word p.fates.items = kept ∙ (c.enliven.ensures ∙ ap (enlivened p.words.items c.store-levels.result c.args.word) c.as_mut_slice.ensures.value) in
+    let walked : q.fates.items ≡ enlivened (sheet_of p).tree.table c.store-levels.result c.args.word p.fates.items = kept ∙ (c.enliven.ensures ∙ ap (enlivened (sheet_of p).tree.table c.store-levels.result c.args.word) c.as_mut_slice.ensures.value) in
     let long : length q.fates.items ≡ length p.fates.items = ap length kept ∙ (c.enliven.auto.fates ∙ ap length c.as_mut_slice.ensures.value) in
     let is = c.store-levels.ensures.rest in
     record { plain = published_plain p q (sheet_in c.args.self.now) c.requires.0 c.args.place c.args.word c.store-levels.result c.args._call.now c.args._reply.now c.store-levels.new.self.plain is c.requires.1 c.store-levels.ensures.levels walked long }
@@ -22,7 +22,7 @@ returns c =
     let p = c.store-levels.new.self.state in
     let q : State = record p { fates = with_items p.fates c.enliven.new.fates } in
     let kept : q.fates.items ≡ c.enliven.new.fates = with_items_is p.fates c.enliven.new.fates (c.enliven.auto.fates ∙ c.as_mut_slice.ensures.len) in
-    let walked : q.fates.items ≡ enlivened p.words.items c.store-levels.result c.args.word p.fates.items = kept ∙ (c.enliven.ensures ∙ ap (enlivened p.words.items c.store-levels.result c.args.word) c.as_mut_slice.ensures.value) in
+    let walked : q.fates.items ≡ enlivened (sheet_of p).tree.table c.store-levels.result c.args.word p.fates.items = kept ∙ (c.enliven.ensures ∙ ap (enlivened (sheet_of p).tree.table c.store-levels.result c.args.word) c.as_mut_slice.ensures.value) in
     let long : length q.fates.items ≡ length p.fates.items = ap length kept ∙ (c.enliven.auto.fates ∙ ap length c.as_mut_slice.ensures.value) in
     let is = c.store-levels.ensures.rest in
     published_is p q (sheet_in c.args.self.now) c.requires.0 c.args.place c.args.word c.store-levels.result c.args._call.now c.args._reply.now c.store-levels.new.self.plain is c.requires.1 c.store-levels.ensures.levels walked long

@@ -1,19 +1,18 @@
 use Rattle.std.proofs.Common.{◌≡◌, ◌+◌, ◌*◌, ◌∙◌, ap, rules, map}
 use Rattle.std.specs.Prelude.{Some, replicate}
-use Rattle.mt_base.specs.declared.widths.Width.TheVariants.{Long}
 use Rattle.mt_base.specs.Width.{columns, first_row}
 use Rattle.mt_rows.specs.Plain.{new_sheet, life_in, buried_in}
 use Rattle.mt_rows.specs.declared.plain.Fate.TheVariants.{New}
 use Rattle.mt_rows.proofs.PlainFates.{map-replicate}
-use Rattle.mt_rows.proofs.plain.PlainRows.new.Goals as goal
+use Rattle.mt_rows.proofs.plain.PlainRows.of_width.Goals as goal
 
 pub returns : goal.returns
 returns c =
     let words = c.in_ok-new.ensures in
     let fates : c.in_ok-vec.field-0.items ≡ replicate (first_row + c.args.rows) New = c.in_ok-vec.ensures.items_if_clones_equal (search rules) in
-    let size : c.cols.result * (first_row + c.args.rows) ≡ columns Long * (first_row + c.args.rows) = ap (λ n. n * (first_row + c.args.rows)) c.cols.ensures in
-    λ i. record (new_sheet c.args.rows) {
-      tree = record { rows = c.args.rows; table = record { width = Long; words = (words ∙ ap (λ n. replicate n 0) size) i }; root = 0 };
+    let size : c.cols.result * (first_row + c.args.rows) ≡ columns c.args.width * (first_row + c.args.rows) = ap (λ n. n * (first_row + c.args.rows)) c.cols.ensures in
+    λ i. record (new_sheet c.args.width c.args.rows) {
+      tree = record { rows = c.args.rows; table = record { width = c.args.width; words = (words ∙ ap (λ n. replicate n 0) size) i }; root = 0 };
       lives = (ap (map (life_in 0)) fates ∙ map-replicate (life_in 0) (first_row + c.args.rows) New) i;
       buried = (ap (map (buried_in 0)) fates ∙ map-replicate (buried_in 0) (first_row + c.args.rows) New) i;
       reads = ap Some c.new-2.ensures i;
