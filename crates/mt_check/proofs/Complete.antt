@@ -1,17 +1,15 @@
 -- Lawful words have no faults.
-use Rattle.std.proofs.Common.{◌≡◌, ℕ, zero, suc, ◌+◌, ◌<◌, ◌≤◌, ◌==◌, List, [], ◌∷◌, ◌++◌, true, refl, ap, ◌∙◌, subst, inl, inr, arith, append-nil}
+use Rattle.std.proofs.Common.{◌≡◌, ℕ, zero, suc, ◌+◌, ◌<◌, ◌≤◌, ◌==◌, List, [], ◌∷◌, ◌++◌, Bool, true, false, refl, ap, ◌∙◌, subst, inl, inr, arith, append-nil}
 use Rattle.std.specs.Prelude.{nat_le}
 use Rattle.std.specs.List.{AllByRecursion}
 use Rattle.std.proofs.lemmas.Bool.{cases_Bool, and_from, le-leb, eq-eqb}
-use Rattle.mt_base.specs.declared.kinds.Kind.{Kind}
-use Rattle.mt_base.specs.declared.kinds.Kind.TheVariants as trees
 use Rattle.mt_base.specs.Width.{deepest}
 use Rattle.mt_layout.specs.declared.spans.Span.{Span}
 use Rattle.mt_layout.specs.Rows.{row_in, named_kind, parent_at}
-use Rattle.mt_rows.specs.Spans.{column, inner_kind, spans_in, root_span}
+use Rattle.mt_rows.specs.Spans.{column, inner_of, spans_in, root_span}
 use Rattle.mt_rows.specs.Levels.{Levels}
 use Rattle.mt_rows.specs.Trees.{by_kind}
-use Rattle.mt_rows.specs.Laws.{Tree, IsRow, IsTended, IsLawful, ParentsFrom, GapLaw, GapLawBy, kind_at}
+use Rattle.mt_rows.specs.Laws.{Tree, IsRow, IsTended, IsLawful, ParentsFrom, GapLaw, GapLawBy, kind_on}
 use Rattle.mt_rows.proofs.Depth.{by_leaf, by_inner, height_by_depth}
 use Rattle.mt_rows.proofs.Joins.{levels_front, levels_back}
 use Rattle.mt_check.specs.declared.faults.Fault.{Fault}
@@ -39,22 +37,22 @@ module _ (t : Tree) where
       (complete_below left h complete row (slot + 1) xs placed.1 (levels_back (IsRow t) t.table h (x ∷ []) xs rows) parents.1 (levels_back (IsTended t) t.table h (x ∷ []) xs tended))
 
   -- a row of a height stands at its depth
-  deep_enough : (left h : ℕ) → left ≤ deepest → depth_at left + h ≡ height t → has_depth (height t) left (kind_at t.kind h) ≡ true
+  deep_enough : (left h : ℕ) → left ≤ deepest → depth_at left + h ≡ height t → has_depth (height t) left (kind_on t.gapped h) ≡ true
   deep_enough left zero low deep =
       let fits = height_fits t in
       and_from (nat_le (depth_at left) deepest) (depth_at left == height t) (le-leb (depth_at left) deepest (omega arith)) (eq-eqb (depth_at left) (height t) (omega arith))
-  deep_enough left (suc h) low deep = by t.kind
+  deep_enough left (suc h) low deep = by t.gapped
     where
-      by : (kind : Kind) → has_depth (height t) left (inner_kind kind) ≡ true
-      by trees.Range = le-leb (depth_at left) deepest (let fits = height_fits t in omega arith)
-      by trees.Alloc = le-leb (depth_at left) deepest (let fits = height_fits t in omega arith)
+      by : (gapped : Bool) → has_depth (height t) left (inner_of gapped) ≡ true
+      by false = le-leb (depth_at left) deepest (let fits = height_fits t in omega arith)
+      by true = le-leb (depth_at left) deepest (let fits = height_fits t in omega arith)
 
-  gap_test : (left h : ℕ) (x : Span) → h < left → Levels (IsRow t) t.table h (spans_in t.table x) → GapLaw t (suc h) x → has_gaps (longest_at t.table left) t.table (inner_kind t.kind) x ≡ true
-  gap_test left h x low rows law = by t.kind law
+  gap_test : (left h : ℕ) (x : Span) → h < left → Levels (IsRow t) t.table h (spans_in t.table x) → GapLaw t (suc h) x → has_gaps (longest_at t.table left) t.table (inner_of t.gapped) x ≡ true
+  gap_test left h x low rows law = by t.gapped law
     where
-      by : (kind : Kind) → GapLawBy (inner_kind kind) t.table h x → has_gaps (longest_at t.table left) t.table (inner_kind kind) x ≡ true
-      by trees.Range law = none_told (longest_at t.table left) t.table (row_in x.word) 0 (spans_in t.table x)
-      by trees.Alloc law = told_gaps (longest_at t.table left) t.table (row_in x.word) h 0 (spans_in t.table x) (each_longest t left h (spans_in t.table x) low rows) law
+      by : (gapped : Bool) → GapLawBy (inner_of gapped) t.table h x → has_gaps (longest_at t.table left) t.table (inner_of gapped) x ≡ true
+      by false law = none_told (longest_at t.table left) t.table (row_in x.word) 0 (spans_in t.table x)
+      by true law = told_gaps (longest_at t.table left) t.table (row_in x.word) h 0 (spans_in t.table x) (each_longest t left h (spans_in t.table x) low rows) law
 
   complete_at : (left h : ℕ) → left ≤ deepest → depth_at left + h ≡ height t → Complete left h
   unfolding faults_at
@@ -71,8 +69,8 @@ module _ (t : Tree) where
       let rows_below = subst (Levels (IsRow t) t.table h) (append-nil (spans_in t.table x)) rows.1 in
       let tended_below = subst (Levels (IsTended t) t.table h) (append-nil (spans_in t.table x)) tended.1 in
       let first : children ≡ [] = complete_below left h (complete_at left h (omega arith) (omega arith)) (row_in x.word) 0 (spans_in t.table x) (children_placed t left h x (omega arith) placed rows.0.0) rows_below tended.0.0.parent tended_below in
-      let last : gaps ≡ [] = ap (at_row (row_in x.word)) (ap (gaps_by (longest_at t.table left) t x) named ∙ holds (has_gaps (longest_at t.table left) t.table (inner_kind t.kind) x) law.Gaps (gap_test left h x (omega arith) rows_below tended.0.0.gaps)) in
-      both_none (own_faults t (suc left) way x) (by_kind (named_kind x.word) [] (children ++ gaps)) own (by_inner t.kind (named_kind x.word) [] (children ++ gaps) named ∙ both_none children gaps first last)
+      let last : gaps ≡ [] = ap (at_row (row_in x.word)) (ap (gaps_by (longest_at t.table left) t x) named ∙ holds (has_gaps (longest_at t.table left) t.table (inner_of t.gapped) x) law.Gaps (gap_test left h x (omega arith) rows_below tended.0.0.gaps)) in
+      both_none (own_faults t (suc left) way x) (by_kind (named_kind x.word) [] (children ++ gaps)) own (by_inner t.gapped (named_kind x.word) [] (children ++ gaps) named ∙ both_none children gaps first last)
 
   pub complete : IsLawful t → faults_in t ≡ []
   unfolding faults_in

@@ -45,7 +45,7 @@ first_told row [] law first = absurd (cc)
 first_told row (l ∷ laws) law first = let same : l ≡ law = cc in ap (λ (l : Law). Some (record { row = row; law = l })) same
 
 module _ (t : Tree) (walk : Walk) (visit : Visit) (named : Named) (low : visit.left ≤ deepest) (leads : LeadsTo (height_from t) (depth_from t visit.left visit.span) walk.leaf_depth) (numbered : named.row ≡ row_in visit.span.word)
-    (kind : Some named.kind ≡ named_kind visit.span.word) (names : names_row t.kind t.rows visit.span.word ≡ true) (deep : has_depth (unwrap_or walk.leaf_depth (depth_at visit.left)) visit.left named.kind ≡ true) where
+    (kind : Some named.kind ≡ named_kind visit.span.word) (names : names_row t.gapped t.rows visit.span.word ≡ true) (deep : has_depth (unwrap_or walk.leaf_depth (depth_at visit.left)) visit.left named.kind ≡ true) where
   own_here : own_faults t visit.left (way_of visit) visit.span ≡ at_row (row_in visit.span.word) (broken_in t visit.left visit.parent visit.span named.kind)
   own_here =
       let depth : has_depth (height_from t) visit.left named.kind ≡ true = sym (same_depth t visit.left visit.span named.kind walk.leaf_depth low leads (sym kind)) ∙ deep in

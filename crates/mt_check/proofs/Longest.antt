@@ -1,15 +1,13 @@
 -- By depth and by levels the longest hole below rows is the same.
-use Rattle.std.proofs.Common.{◌≡◌, ℕ, zero, suc, ◌<◌, List, [], ◌∷◌, ◌++◌, Option, Some, refl, ap, ◌∙◌, arith}
+use Rattle.std.proofs.Common.{◌≡◌, ℕ, zero, suc, ◌<◌, List, [], ◌∷◌, ◌++◌, Option, Some, Bool, true, false, refl, ap, ◌∙◌, arith}
 use Rattle.std.specs.Prelude.{max}
 use Rattle.std.specs.List.{AllByRecursion}
-use Rattle.mt_base.specs.declared.kinds.Kind.{Kind}
-use Rattle.mt_base.specs.declared.kinds.Kind.TheVariants as trees
 use Rattle.mt_layout.specs.declared.names.RowKind.{RowKind}
 use Rattle.mt_layout.specs.declared.names.RowKind.TheVariants.{Leaf}
 use Rattle.mt_layout.specs.declared.spans.Span.{Span}
 use Rattle.mt_layout.specs.Rows.{named_kind}
 use Rattle.mt_layout.specs.Spans.{longest_in}
-use Rattle.mt_rows.specs.Spans.{Table, spans_in, inner_kind}
+use Rattle.mt_rows.specs.Spans.{Table, spans_in, inner_of}
 use Rattle.mt_rows.specs.Levels.{expand, Levels}
 use Rattle.mt_rows.specs.Laws.{Tree, IsRow, longest_below}
 use Rattle.mt_rows.proofs.Depth.{IsLeaf, IsInner, leaves, inners}
@@ -24,17 +22,17 @@ longest_of-append f (x ∷ xs) ys = let behind = longest_of-append f xs ys in om
 by_leaf : (k : Option RowKind) (leaf inner : ℕ) → k ≡ Some Leaf → longest_by k leaf inner ≡ leaf
 by_leaf k leaf inner is = ap (λ (k : Option RowKind). longest_by k leaf inner) is
 
-by_inner : (tree : Kind) (k : Option RowKind) (leaf inner : ℕ) → k ≡ Some (inner_kind tree) → longest_by k leaf inner ≡ inner
-by_inner trees.Range k leaf inner is = ap (λ (k : Option RowKind). longest_by k leaf inner) is
-by_inner trees.Alloc k leaf inner is = ap (λ (k : Option RowKind). longest_by k leaf inner) is
+by_inner : (gapped : Bool) (k : Option RowKind) (leaf inner : ℕ) → k ≡ Some (inner_of gapped) → longest_by k leaf inner ≡ inner
+by_inner false k leaf inner is = ap (λ (k : Option RowKind). longest_by k leaf inner) is
+by_inner true k leaf inner is = ap (λ (k : Option RowKind). longest_by k leaf inner) is
 
 pub longest_at-leaf : (t : Table) (left : ℕ) (x : Span) → IsLeaf x → longest_at t (suc left) x ≡ longest_in (spans_in t x)
 unfolding longest_at
 longest_at-leaf t left x leaf = by_leaf (named_kind x.word) (longest_in (spans_in t x)) (longest_of (longest_at t left) (spans_in t x)) leaf
 
-pub longest_at-inner : (tree : Kind) (t : Table) (left : ℕ) (x : Span) → IsInner tree x → longest_at t (suc left) x ≡ longest_of (longest_at t left) (spans_in t x)
+pub longest_at-inner : (gapped : Bool) (t : Table) (left : ℕ) (x : Span) → IsInner gapped x → longest_at t (suc left) x ≡ longest_of (longest_at t left) (spans_in t x)
 unfolding longest_at
-longest_at-inner tree t left x inner = by_inner tree (named_kind x.word) (longest_in (spans_in t x)) (longest_of (longest_at t left) (spans_in t x)) inner
+longest_at-inner gapped t left x inner = by_inner gapped (named_kind x.word) (longest_in (spans_in t x)) (longest_of (longest_at t left) (spans_in t x)) inner
 
 leaf_longest : (t : Table) (left : ℕ) (xs : List Span) → AllByRecursion IsLeaf xs → longest_of (longest_at t (suc left)) xs ≡ longest_in (expand t xs)
 leaf_longest t left [] leaf = refl
@@ -44,11 +42,11 @@ leaf_longest t left (x ∷ xs) leaf =
     let both = longest_in-append (spans_in t x) (expand t xs) in
     omega arith
 
-inner_longest : (tree : Kind) (t : Table) (left : ℕ) (xs : List Span) → AllByRecursion (IsInner tree) xs → longest_of (longest_at t (suc left)) xs ≡ longest_of (longest_at t left) (expand t xs)
-inner_longest tree t left [] inner = refl
-inner_longest tree t left (x ∷ xs) inner =
-    let first = longest_at-inner tree t left x inner.0 in
-    let behind = inner_longest tree t left xs inner.1 in
+inner_longest : (gapped : Bool) (t : Table) (left : ℕ) (xs : List Span) → AllByRecursion (IsInner gapped) xs → longest_of (longest_at t (suc left)) xs ≡ longest_of (longest_at t left) (expand t xs)
+inner_longest gapped t left [] inner = refl
+inner_longest gapped t left (x ∷ xs) inner =
+    let first = longest_at-inner gapped t left x inner.0 in
+    let behind = inner_longest gapped t left xs inner.1 in
     let both = longest_of-append (longest_at t left) (spans_in t x) (expand t xs) in
     omega arith
 
@@ -56,7 +54,7 @@ longest_by_levels : (t : Tree) (left h : ℕ) (xs : List Span) → h < left → 
 longest_by_levels t zero h xs deep rows = absurd (omega arith)
 longest_by_levels t (suc left) zero xs deep rows = leaf_longest t.table left xs (leaves t xs rows)
 longest_by_levels t (suc left) (suc h) xs deep rows =
-    inner_longest t.kind t.table left xs (inners t h xs rows.0) ∙ longest_by_levels t left h (expand t.table xs) (omega arith) rows.1
+    inner_longest t.gapped t.table left xs (inners t h xs rows.0) ∙ longest_by_levels t left h (expand t.table xs) (omega arith) rows.1
 
 -- of each of these rows
 pub each_longest : (t : Tree) (left h : ℕ) (xs : List Span) → h < left → Levels (IsRow t) t.table h xs → AllByRecursion (λ (x : Span). longest_at t.table left x ≡ longest_below t.table h (x ∷ [])) xs

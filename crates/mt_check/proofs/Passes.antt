@@ -4,8 +4,6 @@ use Rattle.std.specs.Prelude.{nat_eq, nat_le, nat_lt, if◌then◌else◌}
 use Rattle.std.specs.List.{AllByRecursion, list_any, flat_map}
 use Rattle.std.specs.Cmp.Lexicographic.{pointwise}
 use Rattle.std.proofs.lemmas.Bool.{and_parts, and_from, leb-true, le-leb, leb-false, lt-leb, ltb-true, lt-ltb, eqb-true, eq-eqb}
-use Rattle.mt_base.specs.declared.kinds.Kind.{Kind}
-use Rattle.mt_base.specs.declared.kinds.Kind.TheVariants as trees
 use Rattle.mt_base.specs.Entry.{reserved}
 use Rattle.mt_base.specs.Width.{first_row}
 use Rattle.mt_layout.specs.declared.names.RowKind.{RowKind}
@@ -16,9 +14,9 @@ use Rattle.mt_layout.specs.Rows.{row_in, named_kind}
 use Rattle.mt_layout.specs.Sizes.{least_items}
 use Rattle.mt_layout.specs.Spans.{spans_from, leaf_range, Fills, EndsFull}
 use Rattle.mt_layout.proofs.SpanLists.{length-spans_from}
-use Rattle.mt_rows.specs.Spans.{column, inner_kind, spans_in}
+use Rattle.mt_rows.specs.Spans.{column, inner_of, spans_in}
 use Rattle.mt_rows.specs.Trees.{height_in}
-use Rattle.mt_rows.specs.Laws.{Tree, top_of, kind_at, PivotLaw, CountLaw, EntryLaw, HoleLaw, IsRow, covers_all, least_of, least_of_root, items_in, words_in}
+use Rattle.mt_rows.specs.Laws.{Tree, top_of, kind_on, PivotLaw, CountLaw, EntryLaw, HoleLaw, IsRow, covers_all, least_of, least_of_root, items_in, words_in}
 use Rattle.mt_rows.proofs.InnerKinds.{inner_no_leaf}
 use Rattle.mt_check.specs.declared.faults.Law.{Law}
 use Rattle.mt_check.specs.declared.faults.Law.TheVariants as law
@@ -31,7 +29,7 @@ use Rattle.mt_check.proofs.OneRow.{EndsOr, spans_are, some_in, rising_fills, fil
 pub record Passes (t : Tree) (left : ℕ) (way : Way) (x : Span) : Type 0 where
   pub kind : RowKind
   pub named : named_kind x.word ≡ Some kind
-  pub stands : may_stand t.kind kind ≡ true
+  pub stands : may_stand t.gapped kind ≡ true
   pub in_table : row_in x.word < first_row + t.rows
   pub depth : has_depth (height_in t.table t.root) left kind ≡ true
   pub parent : column t.table (row_in x.word) 0 ≡ way.parent
@@ -67,7 +65,7 @@ module _ (t : Tree) (left : ℕ) (way : Way) (x : Span) where
   height = height_in t.table t.root
 
   abbrev name : Bool
-  name = names_row t.kind t.rows x.word
+  name = names_row t.gapped t.rows x.word
 
   abbrev deep : RowKind → Bool
   deep kind = has_depth height left kind
@@ -90,10 +88,10 @@ module _ (t : Tree) (left : ℕ) (way : Way) (x : Span) where
   pub none_passes : own_faults t left way x ≡ [] → Passes t left way x
   none_passes none =
       let parts = append_none (at_row way.from (unless name law.Name)) (at_row (row_in x.word) (broken (named_kind x.word))) none in
-      let named = and_parts (may_be_named t.kind (named_kind x.word)) (nat_lt (row_in x.word) (first_row + t.rows)) (held name law.Name (map_none _ (unless name law.Name) parts.0)) in
+      let named = and_parts (may_be_named t.gapped (named_kind x.word)) (nat_lt (row_in x.word) (first_row + t.rows)) (held name law.Name (map_none _ (unless name law.Name) parts.0)) in
       by (named_kind x.word) refl named.0 (ltb-true (row_in x.word) (first_row + t.rows) named.1) (map_none _ (broken (named_kind x.word)) parts.1)
     where
-      by : (k : Option RowKind) → named_kind x.word ≡ k → may_be_named t.kind k ≡ true → row_in x.word < first_row + t.rows → broken k ≡ [] → Passes t left way x
+      by : (k : Option RowKind) → named_kind x.word ≡ k → may_be_named t.gapped k ≡ true → row_in x.word < first_row + t.rows → broken k ≡ [] → Passes t left way x
       by None is stands in_table none = absurd (cc)
       by (Some kind) is stands in_table none =
           let all = append_none (unless (deep kind) law.Depth) (broken_in t left way.parent x kind) none in
@@ -113,7 +111,7 @@ module _ (t : Tree) (left : ℕ) (way : Way) (x : Span) where
 
   pub passes_none : Passes t left way x → own_faults t left way x ≡ []
   passes_none p =
-      let names : name ≡ true = and_from (may_be_named t.kind (named_kind x.word)) (nat_lt (row_in x.word) (first_row + t.rows)) (ap (may_be_named t.kind) p.named ∙ p.stands) (lt-ltb (row_in x.word) (first_row + t.rows) p.in_table) in
+      let names : name ≡ true = and_from (may_be_named t.gapped (named_kind x.word)) (nat_lt (row_in x.word) (first_row + t.rows)) (ap (may_be_named t.gapped) p.named ∙ p.stands) (lt-ltb (row_in x.word) (first_row + t.rows) p.in_table) in
       let five = five_none parent (has_pivots t.table p.kind x) (count p.kind) (entries p.kind) (holes p.kind) (record {
         parent = eq-eqb (column t.table (row_in x.word) 0) way.parent p.parent;
         pivots = p.pivots;
@@ -130,19 +128,19 @@ module _ (t : Tree) (left : ℕ) (way : Way) (x : Span) where
 abbrev pub RootCovers : Tree → ℕ → Span → Type 0
 RootCovers t left x = covers_all t x ≡ (depth_at left == 1)
 
-root_least : (tree : Kind) (h : ℕ) → least_in_root (kind_at tree h) ≡ least_of_root h
-root_least tree zero = refl
-root_least trees.Range (suc h) = refl
-root_least trees.Alloc (suc h) = refl
+root_least : (gapped : Bool) (h : ℕ) → least_in_root (kind_on gapped h) ≡ least_of_root h
+root_least gapped zero = refl
+root_least false (suc h) = refl
+root_least true (suc h) = refl
 
-least_same : (t : Tree) (left h : ℕ) (x : Span) → RootCovers t left x → least_of t h x ≡ least_at t.table.width left (kind_at t.kind h)
+least_same : (t : Tree) (left h : ℕ) (x : Span) → RootCovers t left x → least_of t h x ≡ least_at t.table.width left (kind_on t.gapped h)
 least_same t left h x root =
-    ap (λ (b : Bool). if b then least_of_root h else least_items t.table.width (kind_at t.kind h)) root
-    ∙ ap (λ (n : ℕ). if depth_at left == 1 then n else least_items t.table.width (kind_at t.kind h)) (sym (root_least t.kind h))
+    ap (λ (b : Bool). if b then least_of_root h else least_items t.table.width (kind_on t.gapped h)) root
+    ∙ ap (λ (n : ℕ). if depth_at left == 1 then n else least_items t.table.width (kind_on t.gapped h)) (sym (root_least t.gapped h))
 
 module _ (t : Tree) (left h : ℕ) (way : Way) (x : Span) (root : RootCovers t left x) where
   abbrev kind : RowKind
-  kind = kind_at t.kind h
+  kind = kind_on t.gapped h
 
   abbrev items : List Item
   items = items_in t.table kind x
@@ -226,24 +224,24 @@ inner_holes bare Leaf xs other = absurd (other refl)
 inner_holes bare Inner xs other = refl
 inner_holes bare Gapped xs other = refl
 
--- a row that may stand in the tree and is no leaf is of the tree's kind
-pub stands_inner : (tree : Kind) (kind : RowKind) → may_stand tree kind ≡ true → kind ≢ Leaf → kind ≡ inner_kind tree
-stands_inner tree Leaf stands other = absurd (other refl)
-stands_inner trees.Range Inner stands other = refl
-stands_inner trees.Range Gapped stands other = absurd (cc)
-stands_inner trees.Alloc Inner stands other = absurd (cc)
-stands_inner trees.Alloc Gapped stands other = refl
+-- a row that may stand in the tree and is no leaf has gaps where the tree has them
+pub stands_inner : (gapped : Bool) (kind : RowKind) → may_stand gapped kind ≡ true → kind ≢ Leaf → kind ≡ inner_of gapped
+stands_inner gapped Leaf stands other = absurd (other refl)
+stands_inner false Inner stands other = refl
+stands_inner false Gapped stands other = absurd (cc)
+stands_inner true Inner stands other = absurd (cc)
+stands_inner true Gapped stands other = refl
 
-kind_stands : (tree : Kind) (h : ℕ) → may_stand tree (kind_at tree h) ≡ true
-kind_stands tree zero = refl
-kind_stands trees.Range (suc h) = refl
-kind_stands trees.Alloc (suc h) = refl
+kind_stands : (gapped : Bool) (h : ℕ) → may_stand gapped (kind_on gapped h) ≡ true
+kind_stands gapped zero = refl
+kind_stands false (suc h) = refl
+kind_stands true (suc h) = refl
 
 -- ---- a row of a height
 
 module _ (t : Tree) (left h : ℕ) (way : Way) (x : Span) (root : RootCovers t left x) where
   -- the row passes, and has the kind of its height: so it keeps the laws
-  pub passes_row : (p : Passes t left way x) → p.kind ≡ kind_at t.kind h → IsRow t h x
+  pub passes_row : (p : Passes t left way x) → p.kind ≡ kind_on t.gapped h → IsRow t h x
   passes_row p is = record {
     name = record { named = named; in_table = p.in_table };
     pivots = pivots_kept t left h way x root named (subst (λ (k : RowKind). has_pivots t.table k x ≡ true) is p.pivots);
@@ -252,23 +250,23 @@ module _ (t : Tree) (left h : ℕ) (way : Way) (x : Span) (root : RootCovers t l
     holes = holes_of h named (subst (λ (k : RowKind). has_holes (nat_le (top_of t) x.last) k (items_in t.table k x) ≡ true) is p.holes);
   }
     where
-      named : named_kind x.word ≡ Some (kind_at t.kind h)
+      named : named_kind x.word ≡ Some (kind_on t.gapped h)
       named = p.named ∙ ap (λ (k : RowKind). Some k) is
 
-      entries_of : (h : ℕ) → named_kind x.word ≡ Some (kind_at t.kind h) → has_entries (kind_at t.kind h) (items_in t.table (kind_at t.kind h) x) ≡ true → EntryLaw t h x
+      entries_of : (h : ℕ) → named_kind x.word ≡ Some (kind_on t.gapped h) → has_entries (kind_on t.gapped h) (items_in t.table (kind_on t.gapped h) x) ≡ true → EntryLaw t h x
       entries_of zero named has = leaf_entries t x named has
       entries_of (suc h) named has = tt
 
-      holes_of : (h : ℕ) → named_kind x.word ≡ Some (kind_at t.kind h) → has_holes (nat_le (top_of t) x.last) (kind_at t.kind h) (items_in t.table (kind_at t.kind h) x) ≡ true → HoleLaw t h x
+      holes_of : (h : ℕ) → named_kind x.word ≡ Some (kind_on t.gapped h) → has_holes (nat_le (top_of t) x.last) (kind_on t.gapped h) (items_in t.table (kind_on t.gapped h) x) ≡ true → HoleLaw t h x
       holes_of zero named has = leaf_holes t x named has
       holes_of (suc h) named has = tt
 
   -- a row that keeps the laws passes, where it has its depth and its parent word
-  pub row_passes : IsRow t h x → has_depth (height_in t.table t.root) left (kind_at t.kind h) ≡ true → column t.table (row_in x.word) 0 ≡ way.parent → Passes t left way x
+  pub row_passes : IsRow t h x → has_depth (height_in t.table t.root) left (kind_on t.gapped h) ≡ true → column t.table (row_in x.word) 0 ≡ way.parent → Passes t left way x
   row_passes row depth parent = record {
-    kind = kind_at t.kind h;
+    kind = kind_on t.gapped h;
     named = row.name.named;
-    stands = kind_stands t.kind h;
+    stands = kind_stands t.gapped h;
     in_table = row.name.in_table;
     depth = depth;
     parent = parent;
@@ -278,10 +276,10 @@ module _ (t : Tree) (left h : ℕ) (way : Way) (x : Span) (root : RootCovers t l
     holes = of_holes h row.name.named row.holes;
   }
     where
-      of_entries : (h : ℕ) → named_kind x.word ≡ Some (kind_at t.kind h) → EntryLaw t h x → has_entries (kind_at t.kind h) (items_in t.table (kind_at t.kind h) x) ≡ true
+      of_entries : (h : ℕ) → named_kind x.word ≡ Some (kind_on t.gapped h) → EntryLaw t h x → has_entries (kind_on t.gapped h) (items_in t.table (kind_on t.gapped h) x) ≡ true
       of_entries zero named law = entries_leaf t x named law
-      of_entries (suc h) named law = inner_entries (inner_kind t.kind) (items_in t.table (inner_kind t.kind) x) (inner_no_leaf t.kind)
+      of_entries (suc h) named law = inner_entries (inner_of t.gapped) (items_in t.table (inner_of t.gapped) x) (inner_no_leaf t.gapped)
 
-      of_holes : (h : ℕ) → named_kind x.word ≡ Some (kind_at t.kind h) → HoleLaw t h x → has_holes (nat_le (top_of t) x.last) (kind_at t.kind h) (items_in t.table (kind_at t.kind h) x) ≡ true
+      of_holes : (h : ℕ) → named_kind x.word ≡ Some (kind_on t.gapped h) → HoleLaw t h x → has_holes (nat_le (top_of t) x.last) (kind_on t.gapped h) (items_in t.table (kind_on t.gapped h) x) ≡ true
       of_holes zero named law = holes_leaf t x named law
-      of_holes (suc h) named law = inner_holes (nat_le (top_of t) x.last) (inner_kind t.kind) (items_in t.table (inner_kind t.kind) x) (inner_no_leaf t.kind)
+      of_holes (suc h) named law = inner_holes (nat_le (top_of t) x.last) (inner_of t.gapped) (items_in t.table (inner_of t.gapped) x) (inner_no_leaf t.gapped)

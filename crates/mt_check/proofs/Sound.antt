@@ -1,16 +1,14 @@
 -- Words without faults are lawful.
-use Rattle.std.proofs.Common.{◌≡◌, ◌≢◌, ◌⊎◌, ℕ, zero, suc, ◌+◌, ◌-◌, ◌<◌, ◌≤◌, ◌==◌, List, [], ◌∷◌, ◌++◌, Some, true, length, refl, sym, ap, ◌∙◌, subst, inl, inr, arith, append-nil}
+use Rattle.std.proofs.Common.{◌≡◌, ◌≢◌, ◌⊎◌, ℕ, zero, suc, ◌+◌, ◌-◌, ◌<◌, ◌≤◌, ◌==◌, List, [], ◌∷◌, ◌++◌, Some, Bool, true, false, length, refl, sym, ap, ◌∙◌, subst, inl, inr, arith, append-nil}
 use Rattle.std.specs.Prelude.{nat_le}
 use Rattle.std.specs.List.{AllByRecursion}
 use Rattle.std.proofs.lemmas.Bool.{cases_Bool, and_parts, eqb-true}
-use Rattle.mt_base.specs.declared.kinds.Kind.{Kind}
-use Rattle.mt_base.specs.declared.kinds.Kind.TheVariants as trees
 use Rattle.mt_base.specs.Width.{deepest}
 use Rattle.mt_layout.specs.declared.names.RowKind.{RowKind}
 use Rattle.mt_layout.specs.declared.names.RowKind.TheVariants.{Leaf, Inner, Gapped}
 use Rattle.mt_layout.specs.declared.spans.Span.{Span}
 use Rattle.mt_layout.specs.Rows.{row_in, named_kind, parent_at}
-use Rattle.mt_rows.specs.Spans.{column, inner_kind, spans_in, root_span}
+use Rattle.mt_rows.specs.Spans.{column, inner_of, spans_in, root_span}
 use Rattle.mt_rows.specs.Levels.{Levels}
 use Rattle.mt_rows.specs.Trees.{by_kind, height_in}
 use Rattle.mt_rows.specs.Laws.{Tree, IsRow, IsTended, IsLawful, ParentsFrom, GapLaw, GapLawBy}
@@ -83,13 +81,13 @@ module _ (t : Tree) where
   too_deep Inner deep = cc
   too_deep Gapped deep = cc
 
-  gap_law : (left h : ℕ) (x : Span) → named_kind x.word ≡ Some (inner_kind t.kind) → h < left → Levels (IsRow t) t.table h (spans_in t.table x)
+  gap_law : (left h : ℕ) (x : Span) → named_kind x.word ≡ Some (inner_of t.gapped) → h < left → Levels (IsRow t) t.table h (spans_in t.table x)
       → gaps_by (longest_at t.table left) t x (named_kind x.word) ≡ [] → GapLaw t (suc h) x
-  gap_law left h x named low rows none = by t.kind (held (has_gaps (longest_at t.table left) t.table (inner_kind t.kind) x) law.Gaps (sym (ap (gaps_by (longest_at t.table left) t x) named) ∙ none))
+  gap_law left h x named low rows none = by t.gapped (held (has_gaps (longest_at t.table left) t.table (inner_of t.gapped) x) law.Gaps (sym (ap (gaps_by (longest_at t.table left) t x) named) ∙ none))
     where
-      by : (kind : Kind) → has_gaps (longest_at t.table left) t.table (inner_kind kind) x ≡ true → GapLawBy (inner_kind kind) t.table h x
-      by trees.Range told = tt
-      by trees.Alloc told = gaps_told (longest_at t.table left) t.table (row_in x.word) h 0 (spans_in t.table x) (each_longest t left h (spans_in t.table x) low rows) told
+      by : (gapped : Bool) → has_gaps (longest_at t.table left) t.table (inner_of gapped) x ≡ true → GapLawBy (inner_of gapped) t.table h x
+      by false told = tt
+      by true told = gaps_told (longest_at t.table left) t.table (row_in x.word) h 0 (spans_in t.table x) (each_longest t left h (spans_in t.table x) low rows) told
 
   -- ---- one row
 
@@ -108,12 +106,12 @@ module _ (t : Tree) where
   inner_kept : (left : ℕ) → suc left ≤ deepest → Sound left → (way : Way) (x : Span) → Placed t (suc left) x → (p : Passes t (suc left) way x) → p.kind ≢ Leaf → faults_at t (suc left) way x ≡ [] → Kept (suc left) way x
   unfolding faults_at
   inner_kept left low sound way x placed p other none =
-      let kind : p.kind ≡ inner_kind t.kind = stands_inner t.kind p.kind p.stands other in
-      let named : named_kind x.word ≡ Some (inner_kind t.kind) = p.named ∙ ap (λ (k : RowKind). Some k) kind in
+      let kind : p.kind ≡ inner_of t.gapped = stands_inner t.gapped p.kind p.stands other in
+      let named : named_kind x.word ≡ Some (inner_of t.gapped) = p.named ∙ ap (λ (k : RowKind). Some k) kind in
       let children : List Fault = faults_below (faults_at t left) (row_in x.word) 0 (spans_in t.table x) in
       let gaps : List Fault = at_row (row_in x.word) (gaps_by (longest_at t.table left) t x (named_kind x.word)) in
       let below = append_none (own_faults t (suc left) way x) (by_kind (named_kind x.word) [] (children ++ gaps)) none in
-      let parts = append_none children gaps (sym (by_inner t.kind (named_kind x.word) [] (children ++ gaps) named) ∙ below.1) in
+      let parts = append_none children gaps (sym (by_inner t.gapped (named_kind x.word) [] (children ++ gaps) named) ∙ below.1) in
       let row : IsRow t (suc (above left)) x = passes_row t (suc left) (suc (above left)) way x placed.root p kind in
       let kept = sound_below left sound (row_in x.word) 0 (spans_in t.table x) (children_placed t left (above left) x (omega arith) placed row) parts.0 in
       let deep : depth_at left ≤ height = kept.deep (omega (arith, some_least t (suc (above left)) x, row.count.least)) in

@@ -43,7 +43,7 @@ at_row row laws = map (λ law. record { row = row; law = law }) laws
 
 -- the faults of a row, but for those of its gaps
 abbrev pub own_faults : Tree → ℕ → Way → Span → List Fault
-own_faults t left way x = at_row way.from (unless (names_row t.kind t.rows x.word) Name) ++ at_row (row_in x.word) (broken_by t left way.parent x (named_kind x.word))
+own_faults t left way x = at_row way.from (unless (names_row t.gapped t.rows x.word) Name) ++ at_row (row_in x.word) (broken_by t left way.parent x (named_kind x.word))
 
 abbrev pub gaps_by : (Span → ℕ) → Tree → Span → Option RowKind → List Law
 gaps_by longest t x None = []

@@ -4,8 +4,6 @@
 use Rattle.std.specs.Prelude.{ℕ, zero, suc, ◌+◌, ◌-◌, ◌==◌, ◌&&◌, ◌||◌, not, nat_eq, nat_le, nat_lt, max, map, List, [], ◌∷◌, Option, Some, None, Bool, true, false, if◌then◌else◌}
 use Rattle.std.specs.List.{list_all, list_any, range_with_len}
 use Rattle.std.specs.Cmp.Lexicographic.{pointwise}
-use Rattle.mt_base.specs.declared.kinds.Kind.{Kind}
-use Rattle.mt_base.specs.declared.kinds.Kind.TheVariants as trees
 use Rattle.mt_base.specs.declared.widths.Width.{Width}
 use Rattle.mt_base.specs.Entry.{reserved}
 use Rattle.mt_base.specs.Width.{columns, deepest, first_row}
@@ -20,21 +18,19 @@ use Rattle.mt_layout.specs.Spans.{longest_in}
 use Rattle.mt_rows.specs.Spans.{Table, column, spans_in}
 use Rattle.mt_rows.specs.Laws.{items_in, words_in}
 
--- ---- Name: a row of the table, and a leaf or an inner row of the tree's kind
+-- ---- Name: a row of the table, and a leaf or an inner row as the tree has them, with gaps or without
 
-abbrev pub may_stand : Kind → RowKind → Bool
-may_stand tree Leaf = true
-may_stand trees.Range Inner = true
-may_stand trees.Range Gapped = false
-may_stand trees.Alloc Inner = false
-may_stand trees.Alloc Gapped = true
+abbrev pub may_stand : Bool → RowKind → Bool
+may_stand gapped Leaf = true
+may_stand gapped Inner = not gapped
+may_stand gapped Gapped = gapped
 
-abbrev pub may_be_named : Kind → Option RowKind → Bool
-may_be_named tree None = false
-may_be_named tree (Some kind) = may_stand tree kind
+abbrev pub may_be_named : Bool → Option RowKind → Bool
+may_be_named gapped None = false
+may_be_named gapped (Some kind) = may_stand gapped kind
 
-abbrev pub names_row : Kind → ℕ → ℕ → Bool
-names_row tree rows word = may_be_named tree (named_kind word) && nat_lt (row_in word) (first_row + rows)
+abbrev pub names_row : Bool → ℕ → ℕ → Bool
+names_row gapped rows word = may_be_named gapped (named_kind word) && nat_lt (row_in word) (first_row + rows)
 
 -- ---- Depth: the root's is 1; it is at most the deepest, and that of a leaf is the tree's height
 

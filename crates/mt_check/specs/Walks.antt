@@ -2,6 +2,7 @@
 -- Source: this project's own.
 use Rattle.std.specs.Prelude.{◌≡◌, ℕ, ◌+◌, ◌-◌, List, [], Option, Some, None, Result, Ok, Err, length, unwrap_or}
 use Rattle.std.specs.List.{slice_get}
+use Rattle.mt_base.specs.Call.{finds_room}
 use Rattle.mt_base.specs.Width.{deepest}
 use Rattle.mt_layout.specs.declared.names.RowKind.{RowKind}
 use Rattle.mt_layout.specs.declared.names.RowKind.TheVariants.{Leaf, Inner, Gapped}
@@ -21,7 +22,7 @@ use Rattle.mt_check.specs.Check.{Way, own_faults, faults_at}
 
 -- the tree that is walked
 abbrev pub tree_from : Walk → Rooted → Tree
-tree_from walk t = record { rows = t.rows; kind = walk.kind; table = t.table; root = walk.root }
+tree_from walk t = record { rows = t.rows; gapped = finds_room walk.kind; table = t.table; root = walk.root }
 
 abbrev pub way_of : Visit → Way
 way_of visit = record { from = visit.from; parent = visit.parent }

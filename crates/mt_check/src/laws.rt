@@ -1,10 +1,12 @@
 //! What the definition of a check comes to. Each law is the contract of a function that does nothing.
 
 ghost use Rattle.std.specs.Prelude.{◌≡◌, Ok, Err, []};
+ghost use Rattle.mt_base.specs.declared.widths.Width.TheVariants.{Long};
+ghost use Rattle.mt_base.specs.Width.{greatest};
 ghost use Rattle.mt_rows.specs.Laws.{Tree, IsLawful};
 ghost use Rattle.mt_check.specs.declared.faults.Law.TheVariants.{Name, Parent, Pivots, Count, Entries, Holes, Gaps};
 ghost use Rattle.mt_check.specs.Check.{faults_in, checked};
-ghost use Rattle.mt_check.specs.Examples.{one_leaf, one_child, two_leaves, with_column};
+ghost use Rattle.mt_check.specs.Examples.{one_leaf, one_child, two_leaves, narrow_leaf, narrow_leaves, with_column};
 
 /// Words have no fault exactly where they are lawful.
 pub fn words_without_faults_are_lawful()
@@ -23,4 +25,10 @@ pub fn worked_trees_are_checked_by_hand()
     ensures entries { checked (with_column one_leaf 16 17 6) ≡ Err (record { row = 16; law = Entries }) }
     ensures holes { checked (with_column one_leaf 16 17 0) ≡ Err (record { row = 16; law = Holes }) }
     ensures gaps { checked (with_column two_leaves 16 21 0) ≡ Err (record { row = 16; law = Gaps }) }
+    ensures narrow { checked narrow_leaf ≡ Ok (record { height = 1; rows = 1; ranges = 1 }) }
+    ensures narrow_top { checked (with_column narrow_leaf 16 3 (greatest Long)) ≡ Err (record { row = 16; law = Pivots }) }
+    ensures narrow_unused { checked (with_column narrow_leaf 16 63 1) ≡ Err (record { row = 16; law = Pivots }) }
+    ensures narrow_leaves { checked (narrow_leaves 14) ≡ Ok (record { height = 2; rows = 3; ranges = 27 }) }
+    ensures narrow_count { checked (narrow_leaves 13) ≡ Err (record { row = 17; law = Count }) }
+    ensures narrow_gaps { checked (with_column (narrow_leaves 14) 16 43 0) ≡ Err (record { row = 16; law = Gaps }) }
 {}

@@ -2,6 +2,7 @@
 
 ghost use Rattle.std.specs.Prelude.{◌≡◌, ◌+◌, ◌<◌, ◌≤◌, ◌==◌, ◌↔◌, true, false, not, [], Some, IsSome, IfSome, IfErr, OnOk, slice_get};
 ghost use Rattle.std.specs.List.{list_all, list_any};
+ghost use Rattle.mt_base.specs.Call.{finds_room};
 ghost use Rattle.mt_base.specs.Entry.{reserved};
 ghost use Rattle.mt_base.specs.Width.{first_row};
 ghost use Rattle.mt_layout.specs.Rows.{row_in, named_kind};
@@ -13,7 +14,7 @@ use crate::faults::Law;
 use crate::reads::{Items, items_in};
 use mt_base::{DEEPEST, FIRST_ROW, Kind, Width, is_reserved, top};
 use mt_layout::{Item, RowKind, Span, kind_of, least_items, row_of};
-use mt_rows::Rows;
+use mt_rows::{Rows, inner_kind};
 
 /// Whether no entry among these items is reserved.
 fn none_reserved(items: &[Item]) -> bool
@@ -86,18 +87,14 @@ pub(crate) struct Named {
 
 /// Whether a row of this kind may stand in a tree of that kind.
 fn may_stand(tree: Kind, kind: RowKind) -> bool
-    ensures { result ≡ tests.may_stand tree kind }
+    ensures { result ≡ tests.may_stand (finds_room tree) kind }
 {
-    match kind {
-        RowKind::Leaf => true,
-        RowKind::Inner => matches!(tree, Kind::Range),
-        RowKind::Gapped => matches!(tree, Kind::Alloc),
-    }
+    kind == RowKind::Leaf || kind == inner_kind(tree)
 }
 
 /// The row that a word names, where it is one of so many rows and may stand in a tree of this kind.
 pub(crate) fn row_named(tree: Kind, rows: u64, word: u64) -> Option<Named>
-    ensures is { IsSome result ↔ (tests.names_row tree rows word ≡ true) }
+    ensures is { IsSome result ↔ (tests.names_row (finds_room tree) rows word ≡ true) }
     ensures row { IfSome result (λ n. n.row ≡ row_in word) }
     ensures kind { IfSome result (λ n. Some n.kind ≡ named_kind word) }
 {

@@ -55,11 +55,11 @@ abbrev pub slots_in : Sheet → Pair → ℕ
 slots_in s pair = slots_of s.tree.table.width pair.kind
 
 abbrev pub names_in : Sheet → Pair → List ℕ
-names_in s pair = names_of s.tree.table.words pair.row pair.kind
+names_in s pair = names_of s.tree.table pair.row pair.kind
 
 -- the names below the first children
 abbrev pub done : Sheet → Pair → ℕ → ℕ → List ℕ
-done s pair depth slot = flat_map (names_from s.tree.table.words (depth - 1)) (take slot (names_in s pair))
+done s pair depth slot = flat_map (names_from s.tree.table (depth - 1)) (take slot (names_in s pair))
 
 -- under numbers that serve the first children their names are written, and they are copied
 abbrev pub HasFirst : (ℕ → ℕ) → Sheet → Sheet → Pair → ℕ → ℕ → Type 0
@@ -82,7 +82,7 @@ pub record Begins (s d : Sheet) (b : Book) (pair : Pair) (depth : ℕ) : Type 0 
   pub inner : pair.kind ≢ Leaf
   pub may : MayCopyBelow s.tree depth pair
   pub unused : IsOpen b d
-  pub room : length (names_below s.tree.table.words depth pair) ≤ length b.free
+  pub room : length (names_below s.tree.table depth pair) ≤ length b.free
   pub to : next_row b ≡ pair.to + 1
   pub first : first_row ≤ pair.to
   pub draft : life_of d.lives pair.to ≡ Draft
@@ -120,7 +120,7 @@ module _ (s d : Sheet) (b : Book) (pair : Pair) (depth : ℕ) (begins : Begins s
   names = names_in s pair
 
   abbrev child_names : ℕ → List ℕ
-  child_names word = names_from t.words (depth - 1) word
+  child_names word = names_from t (depth - 1) word
 
   long : length names ≡ slots
   long = names_long t pair.kind pair.row s.tree.rows begins.whole.words begins.inner begins.may.inside
@@ -156,8 +156,8 @@ module _ (s d : Sheet) (b : Book) (pair : Pair) (depth : ℕ) (begins : Begins s
     pub open_child : IsOpen b₁ d₁
     open_child = open_after (length (done s pair depth slot)) pair.to (next_row b₁) b b₁ d d₁ begins.unused going.taken (omega arith) going.written
 
-    pub room_child : length (names_from s₁.tree.table.words (depth - 1) (word_of slot)) ≤ length b₁.free
-    room_child = subst (λ (r : Rooted). length (names_from r.table.words (depth - 1) (word_of slot)) ≤ length b₁.free) (sym (same_tree s s₁ going.reads)) few
+    pub room_child : length (names_from s₁.tree.table (depth - 1) (word_of slot)) ≤ length b₁.free
+    room_child = subst (λ (r : Rooted). length (names_from r.table (depth - 1) (word_of slot)) ≤ length b₁.free) (sym (same_tree s s₁ going.reads)) few
       where
         few : length (child_names (word_of slot)) ≤ length b₁.free
         few =
@@ -175,14 +175,14 @@ module _ (s d : Sheet) (b : Book) (pair : Pair) (depth : ℕ) (begins : Begins s
 
     module _ (s₂ d₂ : Sheet) (b₂ : Book) (count₂ word parent name : ℕ) (is_loaded : word ≡ word_of slot) (parent_of : parent ≡ parent_at pair.to slot) (reads : OnlyReads s₁ s₂)
         (copy : LeavesCopy s₁.tree.table d₂.tree.table (next_row b₁) (record { depth = depth - 1; word = word; parent = parent }) name)
-        (taken : HasTaken (length (names_from s₁.tree.table.words (depth - 1) word)) b₁ b₂) (written : IsWritten (next_row b₁) (next_row b₂) d₁ d₂)
-        (steps : count₂ ≡ count₁ + length (names_from s₁.tree.table.words (depth - 1) word)) where
+        (taken : HasTaken (length (names_from s₁.tree.table (depth - 1) word)) b₁ b₂) (written : IsWritten (next_row b₁) (next_row b₂) d₁ d₂)
+        (steps : count₂ ≡ count₁ + length (names_from s₁.tree.table (depth - 1) word)) where
       -- of the words as they were
       taken' : HasTaken (length (child_names (word_of slot))) b₁ b₂
-      taken' = subst (λ (n : ℕ). HasTaken (length (child_names n)) b₁ b₂) is_loaded (subst (λ (r : Rooted). HasTaken (length (names_from r.table.words (depth - 1) word)) b₁ b₂) (same_tree s s₁ going.reads) taken)
+      taken' = subst (λ (n : ℕ). HasTaken (length (child_names n)) b₁ b₂) is_loaded (subst (λ (r : Rooted). HasTaken (length (names_from r.table (depth - 1) word)) b₁ b₂) (same_tree s s₁ going.reads) taken)
 
       steps' : count₂ ≡ count₁ + length (child_names (word_of slot))
-      steps' = subst (λ (n : ℕ). count₂ ≡ count₁ + length (child_names n)) is_loaded (subst (λ (r : Rooted). count₂ ≡ count₁ + length (names_from r.table.words (depth - 1) word)) (same_tree s s₁ going.reads) steps)
+      steps' = subst (λ (n : ℕ). count₂ ≡ count₁ + length (child_names n)) is_loaded (subst (λ (r : Rooted). count₂ ≡ count₁ + length (names_from r.table (depth - 1) word)) (same_tree s s₁ going.reads) steps)
 
       copy' : LeavesCopy t d₂.tree.table (next_row b₁) (record { depth = depth - 1; word = word_of slot; parent = parent_at pair.to slot }) name
       copy' = subst (λ (n : ℕ). LeavesCopy t d₂.tree.table (next_row b₁) (record { depth = depth - 1; word = word_of slot; parent = n }) name) parent_of
@@ -297,7 +297,7 @@ module _ (s d : Sheet) (b : Book) (pair : Pair) (depth : ℕ) (begins : Begins s
 
   -- all children are copied
   module _ (s₁ d₁ : Sheet) (b₁ : Book) (count count₁ : ℕ) (going : Going s s₁ d d₁ b b₁ pair depth slots count count₁) where
-    all_is : done s pair depth slots ≡ names_below t.words depth pair
+    all_is : done s pair depth slots ≡ names_below t depth pair
     all_is = all_done child_names names slots (omega (arith, long))
 
     pub children_copied : LeavesChildren t d₁.tree.table (next_row b) depth pair
@@ -305,8 +305,8 @@ module _ (s d : Sheet) (b : Book) (pair : Pair) (depth : ℕ) (begins : Begins s
         let all = going.copied number zero_is to_is (subst (AreNumbered number (next_row b)) (sym all_is) numbered) in
         ((λ inner. all.0), subst (AreCopied number t d₁.tree.table) all_is all.1)
 
-    pub children_taken : HasTaken (length (names_below t.words depth pair)) b b₁
+    pub children_taken : HasTaken (length (names_below t depth pair)) b b₁
     children_taken = subst (λ (l : List ℕ). HasTaken (length l) b b₁) all_is going.taken
 
-    pub children_steps : count₁ ≡ count + length (names_below t.words depth pair)
+    pub children_steps : count₁ ≡ count + length (names_below t depth pair)
     children_steps = going.steps ∙ ap (λ (l : List ℕ). count + length l) all_is

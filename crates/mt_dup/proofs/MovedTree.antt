@@ -1,11 +1,9 @@
 -- A tree whose rows have other numbers, row by row: it stands for the same map, and keeps the same laws.
-use Rattle.std.proofs.Common.{◌≡◌, ◌≢◌, ◌⊎◌, ℕ, zero, suc, ◌+◌, ◌-◌, ◌*◌, ◌<◌, ◌≤◌, List, [], ◌∷◌, ◌++◌, Option, Some, false, length, map, refl, sym, ap, ◌∙◌, subst, inl, inr, arith}
+use Rattle.std.proofs.Common.{◌≡◌, ◌≢◌, ◌⊎◌, ℕ, zero, suc, ◌+◌, ◌-◌, ◌*◌, ◌<◌, ◌≤◌, List, [], ◌∷◌, ◌++◌, Option, Some, Bool, true, false, length, map, refl, sym, ap, ◌∙◌, subst, inl, inr, arith}
 use Rattle.std.specs.Prelude.{slice_index}
 use Rattle.std.specs.List.{AllByRecursion, flat_map}
 use Rattle.std.proofs.lemmas.Bool.{cases_eq, cases_lt}
 use Rattle.std.proofs.lemmas.List.{map-append, length-map}
-use Rattle.mt_base.specs.declared.kinds.Kind.{Kind}
-use Rattle.mt_base.specs.declared.kinds.Kind.TheVariants as trees
 use Rattle.mt_base.specs.declared.widths.Width.{Width}
 use Rattle.mt_base.specs.Entry.{reserved}
 use Rattle.mt_base.specs.Width.{columns, first_row, most_rows}
@@ -20,11 +18,11 @@ use Rattle.mt_layout.specs.Spans.{spans_from, leaf_range, longest_in, Fills, Apa
 use Rattle.mt_layout.proofs.NameLaws.{named_kind-name_at, row_in-name_at}
 use Rattle.mt_layout.proofs.RowSizes.{layout_of, slot_within, few_slots_of, gap_within}
 use Rattle.mt_layout.proofs.SpanLists.{length-spans_from}
-use Rattle.mt_rows.specs.Spans.{base_of, column, spans_by, spans_in, inner_kind}
+use Rattle.mt_rows.specs.Spans.{base_of, column, spans_by, spans_in, inner_of}
 use Rattle.mt_rows.specs.Levels.{expand, map_of, Levels}
 use Rattle.mt_rows.specs.Trees.{rows_of}
 use Rattle.mt_rows.specs.Laws as laws
-use Rattle.mt_rows.specs.Laws.{Tree, IsRow, IsTended, ParentsFrom, GapsFrom, GapLawBy, kind_at, least_of, items_in, words_in, longest_below}
+use Rattle.mt_rows.specs.Laws.{Tree, IsRow, IsTended, ParentsFrom, GapsFrom, GapLawBy, kind_on, least_of, items_in, words_in, longest_below}
 use Rattle.mt_rows.proofs.Depth.{by_leaf, by_inner}
 use Rattle.mt_rows.proofs.FewSpans.{row_most}
 use Rattle.mt_rows.proofs.Joins.{levels_front, levels_back}
@@ -36,7 +34,7 @@ use Rattle.mt_dup.proofs.MovedItems as items
 module _ (t : Tree) (number : ℕ → ℕ) (none : number 0 ≡ 0) (rows : ℕ) (few : rows ≤ most_rows) (words : List ℕ) where
   -- the copy
   abbrev pub later : Tree
-  later = record { rows = rows; kind = t.kind; table = record { width = t.table.width; words = words }; root = renamed number t.root }
+  later = record { rows = rows; gapped = t.gapped; table = record { width = t.table.width; words = words }; root = renamed number t.root }
 
   -- a span of an inner row, as it stands in the copy
   abbrev pub move : Span → Span
@@ -50,7 +48,7 @@ module _ (t : Tree) (number : ℕ → ℕ) (none : number 0 ≡ 0) (rows : ℕ) 
   -- the row has a row of the copy
   pub record IsMoved (h : ℕ) (x : Span) : Type 0 where
     pub row : IsRow t h x
-    pub copy : IsRowCopy number t.table later.table (kind_at t.kind h) (row_in x.word)
+    pub copy : IsRowCopy number t.table later.table (kind_on t.gapped h) (row_in x.word)
     pub first : first_row ≤ number (row_in x.word)
     pub last : number (row_in x.word) < first_row + rows
 
@@ -58,7 +56,7 @@ module _ (t : Tree) (number : ℕ → ℕ) (none : number 0 ≡ 0) (rows : ℕ) 
 
   module _ (h : ℕ) (x : Span) (moved : IsMoved h x) where
     abbrev kind : RowKind
-    kind = kind_at t.kind h
+    kind = kind_on t.gapped h
 
     abbrev width : Width
     width = t.table.width
@@ -149,11 +147,11 @@ module _ (t : Tree) (number : ℕ → ℕ) (none : number 0 ≡ 0) (rows : ℕ) 
   -- what stands in the row of the copy
   pub spans_moved : (h : ℕ) (x : Span) → IsMoved h x → spans_in later.table (move x) ≡ moved_spans h (spans_in t.table x)
   spans_moved zero x moved = spans_put zero x moved ∙ items.put_same (spans_in t.table x)
-  spans_moved (suc h) x moved = spans_put (suc h) x moved ∙ inner t.kind
+  spans_moved (suc h) x moved = spans_put (suc h) x moved ∙ inner t.gapped
     where
-      inner : (tree : Kind) → map (items.put_span (slot_renamed number (inner_kind tree))) (spans_in t.table x) ≡ map move (spans_in t.table x)
-      inner trees.Range = refl
-      inner trees.Alloc = refl
+      inner : (gapped : Bool) → map (items.put_span (slot_renamed number (inner_of gapped))) (spans_in t.table x) ≡ map move (spans_in t.table x)
+      inner false = refl
+      inner true = refl
 
   fills_moved : (h lo hi : ℕ) (xs : List Span) → Fills lo hi xs → Fills lo hi (moved_spans h xs)
   fills_moved zero lo hi xs fills = fills
@@ -238,20 +236,20 @@ module _ (t : Tree) (number : ℕ → ℕ) (none : number 0 ≡ 0) (rows : ℕ) 
   tended_moved (suc h) x moved below tended = record {
     parent =
         let short = row_most moved.row.name in
-        let parents = parents_moved h (row_in x.word) 0 (spans_in t.table x) (omega (arith, short, few_slots_of t.table.width (kind_at t.kind (suc h)))) (levels_here IsMoved t.table h (spans_in t.table x) children) tended.parent in
+        let parents = parents_moved h (row_in x.word) 0 (spans_in t.table x) (omega (arith, short, few_slots_of t.table.width (kind_on t.gapped (suc h)))) (levels_here IsMoved t.table h (spans_in t.table x) children) tended.parent in
         subst (λ (xs : List Span). ParentsFrom later.table (row_in (renamed number x.word)) 0 xs) (sym (spans_moved (suc h) x moved))
         (subst (λ (r : ℕ). ParentsFrom later.table r 0 (map move (spans_in t.table x))) (sym (row_moved (suc h) x moved)) parents);
-    gaps = by t.kind refl tended.gaps;
+    gaps = by t.gapped refl tended.gaps;
   }
     where
       children : Levels IsMoved t.table h (spans_in t.table x)
       children = children_hold IsMoved t.table h x below
 
-      by : (tree : Kind) → t.kind ≡ tree → GapLawBy (inner_kind tree) t.table h x → GapLawBy (inner_kind tree) later.table h (move x)
-      by trees.Range is law = tt
-      by trees.Alloc is law =
-          let most : length (spans_in t.table x) ≤ slots_of t.table.width Gapped = subst (λ (k : Kind). length (spans_in t.table x) ≤ slots_of t.table.width (inner_kind k)) is (row_most moved.row.name) in
-          let copy : IsRowCopy number t.table later.table Gapped (row_in x.word) = subst (λ (k : Kind). IsRowCopy number t.table later.table (inner_kind k) (row_in x.word)) is moved.copy in
+      by : (gapped : Bool) → t.gapped ≡ gapped → GapLawBy (inner_of gapped) t.table h x → GapLawBy (inner_of gapped) later.table h (move x)
+      by false is law = tt
+      by true is law =
+          let most : length (spans_in t.table x) ≤ slots_of t.table.width Gapped = subst (λ (b : Bool). length (spans_in t.table x) ≤ slots_of t.table.width (inner_of b)) is (row_most moved.row.name) in
+          let copy : IsRowCopy number t.table later.table Gapped (row_in x.word) = subst (λ (b : Bool). IsRowCopy number t.table later.table (inner_of b) (row_in x.word)) is moved.copy in
           subst (λ (xs : List Span). GapsFrom later.table h (row_in (renamed number x.word)) 0 xs) (sym (spans_moved (suc h) x moved))
           (subst (λ (r : ℕ). GapsFrom later.table h r 0 (map move (spans_in t.table x))) (sym (row_moved (suc h) x moved)) (gaps_moved h (row_in x.word) 0 (spans_in t.table x) (omega arith) children copy.behind law))
 
@@ -290,5 +288,5 @@ module _ (t : Tree) (number : ℕ → ℕ) (none : number 0 ≡ 0) (rows : ℕ) 
       let moved = each.0.0 in
       let below = ap (flat_map (rows_of later.table depth)) (spans_moved (suc h) x moved) ∙ list_rows depth h (λ y. rows_moved depth h y (omega arith)) (spans_in t.table x) (children_hold IsMoved t.table h x each) in
       let here = row_moved (suc h) x moved in
-      by_inner t.kind (named_kind (renamed number x.word)) (row_in (renamed number x.word) ∷ []) (row_in (renamed number x.word) ∷ flat_map (rows_of later.table depth) (spans_in later.table (move x))) (named_moved (suc h) x moved)
-      ∙ ((λ i. here i ∷ below i) ∙ sym (ap (map number) (by_inner t.kind (named_kind x.word) (row_in x.word ∷ []) (row_in x.word ∷ flat_map (rows_of t.table depth) (spans_in t.table x)) moved.row.name.named)))
+      by_inner t.gapped (named_kind (renamed number x.word)) (row_in (renamed number x.word) ∷ []) (row_in (renamed number x.word) ∷ flat_map (rows_of later.table depth) (spans_in later.table (move x))) (named_moved (suc h) x moved)
+      ∙ ((λ i. here i ∷ below i) ∙ sym (ap (map number) (by_inner t.gapped (named_kind x.word) (row_in x.word ∷ []) (row_in x.word ∷ flat_map (rows_of t.table depth) (spans_in t.table x)) moved.row.name.named)))

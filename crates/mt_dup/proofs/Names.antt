@@ -1,11 +1,10 @@
 -- The names that the walk of a copy comes to, and what it leaves of them.
 use Rattle.std.proofs.Common.{◌≡◌, ◌≢◌, ℕ, zero, suc, ◌+◌, ◌-◌, ◌*◌, ◌%◌, ◌<◌, ◌≤◌, List, [], ◌∷◌, ◌++◌, Some, None, length, take, drop, refl, sym, ap, ◌∙◌, subst, arith, append-nil, length-append, length-take, length-drop}
 use Rattle.std.specs.Prelude.{slice_index}
-use Rattle.std.specs.List.{flat_map}
+use Rattle.std.specs.List.{flat_map, slice_range}
 use Rattle.std.proofs.lemmas.List.{take_more, take_all, get_or-take, get_or-drop}
 use Rattle.std.proofs.lemmas.Grind.{flat_map-append}
 use Rattle.mt_base.specs.declared.widths.Width.{Width}
-use Rattle.mt_base.specs.declared.widths.Width.TheVariants.{Long}
 use Rattle.mt_base.specs.Width.{columns, first_row}
 use Rattle.mt_layout.specs.declared.names.RowKind.{RowKind}
 use Rattle.mt_layout.specs.declared.names.RowKind.TheVariants.{Leaf, Inner, Gapped}
@@ -13,8 +12,9 @@ use Rattle.mt_layout.specs.Columns.{slot_column}
 use Rattle.mt_layout.specs.Rows.{row_in, named_kind, name_at, kind_number, parent_at}
 use Rattle.mt_layout.specs.Sizes.{slots_of}
 use Rattle.mt_layout.proofs.NameLaws.{Names-named_kind}
+use Rattle.mt_layout.proofs.Places.{row_within}
 use Rattle.mt_layout.proofs.RowSizes.{some_columns, slots_of-columns, slot_within}
-use Rattle.mt_rows.specs.Spans.{Table, column}
+use Rattle.mt_rows.specs.Spans.{Table, base_of, column}
 use Rattle.mt_rows.specs.Plain.{names_of}
 use Rattle.mt_dup.specs.Copy.{renamed, IsRowCopy}
 use Rattle.mt_dup.specs.Walks.{names_by, names_from, ParentsAre, AreNumbered, AreCopied}
@@ -46,46 +46,49 @@ done_most f (x ∷ words) (suc i) within =
 
 -- ---- the words in the slots of an inner row
 
-module _ (w : List ℕ) (row n slots : ℕ) (within : 32 * row + 2 * slots ≤ length w) where
+module _ (w : List ℕ) (base slots : ℕ) (within : base + 2 * slots ≤ length w) where
   abbrev words : List ℕ
-  words = take (32 * row + 2 * slots - (32 * row + slots)) (drop (32 * row + slots) w)
+  words = slice_range w (base + slots) (base + 2 * slots)
 
   words_long : length words ≡ slots
-  words_long = omega (arith, length-take (32 * row + 2 * slots - (32 * row + slots)) (drop (32 * row + slots) w), length-drop (32 * row + slots) w)
+  words_long = omega (arith, within, length-take (base + 2 * slots - (base + slots)) (drop (base + slots) w), length-drop (base + slots) w)
 
-  words_at : (i : ℕ) → i < slots → slice_index words i ≡ slice_index w (32 * row + (slots + i))
+  words_at : (i : ℕ) → i < slots → slice_index words i ≡ slice_index w (base + (slots + i))
   words_at i inside =
-      let same : 32 * row + slots + i ≡ 32 * row + (slots + i) = omega arith in
-      get_or-take (32 * row + 2 * slots - (32 * row + slots)) (drop (32 * row + slots) w) i 0 (omega arith)
-      ∙ (get_or-drop (32 * row + slots) w i 0 ∙ ap (slice_index w) same)
+      let same : base + slots + i ≡ base + (slots + i) = omega arith in
+      get_or-take (base + 2 * slots - (base + slots)) (drop (base + slots) w) i 0 (omega arith)
+      ∙ (get_or-drop (base + slots) w i 0 ∙ ap (slice_index w) same)
 
 module _ (t : Table) (kind : RowKind) (row rows : ℕ) (has : length t.words ≡ columns t.width * (first_row + rows)) (inner : kind ≢ Leaf) (inside : row < first_row + rows) where
-  pub names_long : length (names_of t.words row kind) ≡ slots_of t.width kind
-  names_long = by t.width kind has inner
-    where
-      by : (v : Width) (kind : RowKind) → length t.words ≡ columns v * (first_row + rows) → kind ≢ Leaf → length (names_of t.words row kind) ≡ slots_of v kind
-      by Long Leaf has inner = absurd (inner refl)
-      by Long Inner has inner = words_long t.words row 0 16 (omega arith)
-      by Long Gapped has inner = words_long t.words row 0 10 (omega arith)
+  fit : (kind : RowKind) → base_of t row + 2 * slots_of t.width kind ≤ length t.words
+  fit kind = omega (arith, has, row_within t.width row (first_row + rows) inside, slots_of-columns t.width kind)
 
-  pub names_at : (i : ℕ) → i < slots_of t.width kind → slice_index (names_of t.words row kind) i ≡ column t row (slot_column (slots_of t.width kind) i)
-  names_at i slot = by t.width kind has inner slot
+  pub names_long : length (names_of t row kind) ≡ slots_of t.width kind
+  names_long = by kind inner
     where
-      by : (v : Width) (kind : RowKind) → length t.words ≡ columns v * (first_row + rows) → kind ≢ Leaf → i < slots_of v kind → slice_index (names_of t.words row kind) i ≡ slice_index t.words (columns v * row + slot_column (slots_of v kind) i)
-      by Long Leaf has inner slot = absurd (inner refl)
-      by Long Inner has inner slot = words_at t.words row 0 16 (omega arith) i slot
-      by Long Gapped has inner slot = words_at t.words row 0 10 (omega arith) i slot
+      by : (kind : RowKind) → kind ≢ Leaf → length (names_of t row kind) ≡ slots_of t.width kind
+      by Leaf inner = absurd (inner refl)
+      by Inner inner = words_long t.words (base_of t row) (slots_of t.width Inner) (fit Inner)
+      by Gapped inner = words_long t.words (base_of t row) (slots_of t.width Gapped) (fit Gapped)
 
-pub names_deeper : (w : List ℕ) (depth word : ℕ) → 0 < depth → names_from w depth word ≡ names_by (names_from w (depth - 1)) w word (named_kind word)
+  pub names_at : (i : ℕ) → i < slots_of t.width kind → slice_index (names_of t row kind) i ≡ column t row (slot_column (slots_of t.width kind) i)
+  names_at i slot = by kind inner slot
+    where
+      by : (kind : RowKind) → kind ≢ Leaf → i < slots_of t.width kind → slice_index (names_of t row kind) i ≡ column t row (slot_column (slots_of t.width kind) i)
+      by Leaf inner slot = absurd (inner refl)
+      by Inner inner slot = words_at t.words (base_of t row) (slots_of t.width Inner) (fit Inner) i slot
+      by Gapped inner slot = words_at t.words (base_of t row) (slots_of t.width Gapped) (fit Gapped) i slot
+
+pub names_deeper : (t : Table) (depth word : ℕ) → 0 < depth → names_from t depth word ≡ names_by (names_from t (depth - 1)) t word (named_kind word)
 unfolding names_from
-names_deeper w zero word deep = absurd (omega arith)
-names_deeper w (suc depth) word deep = let same : depth ≡ suc depth - 1 = omega arith in ap (λ (n : ℕ). names_by (names_from w n) w word (named_kind word)) same
+names_deeper t zero word deep = absurd (omega arith)
+names_deeper t (suc depth) word deep = let same : depth ≡ suc depth - 1 = omega arith in ap (λ (n : ℕ). names_by (names_from t n) t word (named_kind word)) same
 
 -- no names where a word is none
-pub names_none : (w : List ℕ) (depth word : ℕ) → named_kind word ≡ None → names_from w depth word ≡ []
+pub names_none : (t : Table) (depth word : ℕ) → named_kind word ≡ None → names_from t depth word ≡ []
 unfolding names_from
-names_none w zero word none = refl
-names_none w (suc depth) word none = ap (names_by (names_from w depth) w word) none
+names_none t zero word none = refl
+names_none t (suc depth) word none = ap (names_by (names_from t depth) t word) none
 
 -- ---- new numbers
 

@@ -44,8 +44,8 @@ new_in zero i = refl
 new_in (suc n) zero = refl
 new_in (suc n) (suc i) = new_in n i
 
-pub new_open : (n : ℕ) → IsOpen (new_book n) (new_sheet n)
-new_open n = record {
+pub new_open : (width : Width) (n : ℕ) → IsOpen (new_book n) (new_sheet width n)
+new_open width n = record {
   filling = record {
     fit = omega (arith, new_long n);
     free = down_above n ∙ (λ i. rows_above (sym (new_next n) i) (sym (new_long n) i));
@@ -69,13 +69,13 @@ above_has low n row from to =
 above_low : (low n row : ℕ) → Contains (rows_above low n) row → low ≤ row
 above_low low n row (k, within, is) = omega (arith, is, above_at low n k row (omega (arith, within, length-rows_above low n)))
 
-module _ (kind : Kind) (s d₀ d : Sheet) (b₀ b : Book) (n root count : ℕ) (new : d₀ ≡ new_sheet n) (new_is : b₀ ≡ new_book n) (facts : Facts kind s d root count) (taken : HasTaken count b₀ b)
+module _ (kind : Kind) (width : Width) (s d₀ d : Sheet) (b₀ b : Book) (n root count : ℕ) (new : d₀ ≡ new_sheet width n) (new_is : b₀ ≡ new_book n) (facts : Facts kind s d root count) (taken : HasTaken count b₀ b)
     (written : IsWritten (next_row b₀) (next_row b) d₀ d) where
   from : next_row b₀ ≡ first_row
   from = ap next_row new_is ∙ new_next n
 
   filling : IsFilling b₀
-  filling = subst IsFilling (sym new_is) (new_open n).filling
+  filling = subst IsFilling (sym new_is) (new_open width n).filling
 
   to : next_row b ≡ first_row + count
   to = next_after count b₀ b filling taken ∙ ap (λ (r : ℕ). r + count) from
@@ -105,7 +105,10 @@ module _ (kind : Kind) (s d₀ d : Sheet) (b₀ b : Book) (n root count : ℕ) (
     ]
   ]
 
-  rest : d ≡ record (new_sheet n) { tree = record (new_sheet n).tree { table = record (new_sheet n).tree.table { words = d.tree.table.words } }; lives = d.lives }
+  abbrev NewOf : Width → Type 0
+  NewOf v = let of_width = new_sheet v n in d ≡ record of_width { tree = record of_width.tree { table = record of_width.tree.table { words = d.tree.table.words } }; lives = d.lives }
+
+  rest : NewOf width
   rest = written.rest ∙ ap (λ (x : Sheet). record x { tree = record x.tree { table = record x.tree.table { words = d.tree.table.words } }; lives = d.lives }) new
 
   pub may_plant : MayPlant kind d root
@@ -119,10 +122,10 @@ module _ (kind : Kind) (s d₀ d : Sheet) (b₀ b : Book) (n root count : ℕ) (
 
   pub is_new_but : IsNewBut (copied_to d root) n d
   is_new_but = record {
-    rest = rest;
+    rest = subst NewOf (sym (ap (λ (x : Sheet). x.tree.table.width) rest)) rest;
     zeros = λ row c not within.
         written.words row c (is_outside row not) (subst (λ (v : Width). c < columns v) (written_width (next_row b₀) (next_row b) d₀ d written) within)
-        ∙ (ap (λ (x : Sheet). column x.tree.table row c) new ∙ zero_in (columns (new_sheet n).tree.table.width * (first_row + n)) (columns (new_sheet n).tree.table.width * row + c));
+        ∙ (ap (λ (x : Sheet). column x.tree.table row c) new ∙ zero_in (columns width * (first_row + n)) (columns width * row + c));
     new = λ row not. written.lives row (is_outside row not) ∙ (ap (λ (x : Sheet). life_of x.lives row) new ∙ new_in (first_row + n) row);
     drafts = λ row is. let inside = is_inside row is in written.drafts row (omega (arith, from, inside.0)) (omega (arith, to, inside.1));
   }
@@ -159,9 +162,9 @@ module _ (kind : Kind) (s d₀ d : Sheet) (b₀ b : Book) (n root count : ℕ) (
 
 -- ---- what a copy of a whole tree leaves
 
-module _ (s s₁ d₀ d : Sheet) (b₀ b : Book) (word root : ℕ) (whole : IsWhole s) (new_whole : IsWhole d) (loads : s₁ ≡ loaded s) (word_is : word ≡ s.tree.root) (new_rows : d₀ ≡ new_sheet b₀.rows) (new_free : b₀ ≡ new_book b₀.rows)
-    (some : (kind : Kind) × IsLawfulOf s.tree kind) (asked : length (reached_in s.tree.table s.tree.root) ≤ length b₀.free) (wide : d₀.tree.table.width ≡ s.tree.table.width) (copy : LeavesCopy s₁.tree.table d.tree.table (next_row b₀) (record { depth = deepest; word = word; parent = 1 }) root)
-    (took : HasTaken (length (names_from s₁.tree.table.words deepest word)) b₀ b) (wrote : IsWritten (next_row b₀) (next_row b) d₀ d) where
+module _ (s s₁ d₀ d : Sheet) (b₀ b : Book) (word root : ℕ) (whole : IsWhole s) (new_whole : IsWhole d) (loads : s₁ ≡ loaded s) (word_is : word ≡ s.tree.root) (new_rows : d₀ ≡ new_sheet s.tree.table.width b₀.rows) (new_free : b₀ ≡ new_book b₀.rows)
+    (some : (kind : Kind) × IsLawfulOf s.tree kind) (asked : length (reached_in s.tree.table s.tree.root) ≤ length b₀.free) (copy : LeavesCopy s₁.tree.table d.tree.table (next_row b₀) (record { depth = deepest; word = word; parent = 1 }) root)
+    (took : HasTaken (length (names_from s₁.tree.table deepest word)) b₀ b) (wrote : IsWritten (next_row b₀) (next_row b) d₀ d) where
   reads : OnlyReads s s₁
   reads = one_read s s₁ loads
 
@@ -176,7 +179,7 @@ module _ (s s₁ d₀ d : Sheet) (b₀ b : Book) (word root : ℕ) (whole : IsWh
       omega (arith, asked, rows, many, free, new_long b₀.rows)
 
   facts : (kind : Kind) → IsLawfulOf s.tree kind → Facts kind s d root (length (all_names s))
-  facts kind lawful = facts_of s s₁ word reads word_is kind d (next_row b₀) root whole new_whole lawful (written_width (next_row b₀) (next_row b) d₀ d wrote ∙ wide) room (ap next_row new_free ∙ new_next b₀.rows) copy
+  facts kind lawful = facts_of s s₁ word reads word_is kind d (next_row b₀) root whole new_whole lawful (written_width (next_row b₀) (next_row b) d₀ d wrote ∙ ap (λ (x : Sheet). x.tree.table.width) new_rows) room (ap next_row new_free ∙ new_next b₀.rows) copy
 
   pub is_copy : IsCopy s.tree (copied_to d root)
   is_copy = (facts some.0 some.1).copy
@@ -185,10 +188,10 @@ module _ (s s₁ d₀ d : Sheet) (b₀ b : Book) (word root : ℕ) (whole : IsWh
   same_map = (facts some.0 some.1).same_map
 
   pub may_be_planted : (kind : Kind) → IsLawfulOf s.tree kind → MayPlant kind d root
-  may_be_planted kind lawful = may_plant kind s d₀ d b₀ b b₀.rows root (length (all_names s)) new_rows new_free (facts kind lawful) took_all wrote
+  may_be_planted kind lawful = may_plant kind s.tree.table.width s d₀ d b₀ b b₀.rows root (length (all_names s)) new_rows new_free (facts kind lawful) took_all wrote
 
   pub others_new : IsNewBut (copied_to d root) b₀.rows d
-  others_new = is_new_but some.0 s d₀ d b₀ b b₀.rows root (length (all_names s)) new_rows new_free (facts some.0 some.1) took_all wrote
+  others_new = is_new_but some.0 s.tree.table.width s d₀ d b₀ b b₀.rows root (length (all_names s)) new_rows new_free (facts some.0 some.1) took_all wrote
 
   pub has_book : b₀.rows ≤ most_rows → IsBookOfCopy (copied_to d root) b
-  has_book few = book_of_copy some.0 s d₀ d b₀ b b₀.rows root (length (all_names s)) new_rows new_free (facts some.0 some.1) took_all wrote few
+  has_book few = book_of_copy some.0 s.tree.table.width s d₀ d b₀ b b₀.rows root (length (all_names s)) new_rows new_free (facts some.0 some.1) took_all wrote few

@@ -38,38 +38,38 @@ pub none_copied : (t t' : Table) (from : ℕ) (way : Way) (rooted : Rooted) → 
 none_copied t t' from way rooted none may number zero_is numbered parent =
     let word_zero = no_name_is_zero rooted way.depth way.word none may in
     let renamed_zero : renamed number 0 ≡ 0 = omega (arith, zero_is) in
-    (sym (ap (renamed number) word_zero ∙ renamed_zero), subst (AreCopied number t t') (sym (names_none t.words way.depth way.word none)) tt)
+    (sym (ap (renamed number) word_zero ∙ renamed_zero), subst (AreCopied number t t') (sym (names_none t way.depth way.word none)) tt)
 
 -- ---- a word that names a row
 
 named_some : (t : Rooted) (depth word : ℕ) (kind : RowKind) → named_kind word ≡ Some kind → MayCopy t depth word
-    → (0 < depth) × ((row_in word < first_row + t.rows) × (ParentsAre t.table (row_in word) 0 (names_of t.table.words (row_in word) kind) × AllByRecursion (MayCopy t (depth - 1)) (names_of t.table.words (row_in word) kind)))
+    → (0 < depth) × ((row_in word < first_row + t.rows) × (ParentsAre t.table (row_in word) 0 (names_of t.table (row_in word) kind) × AllByRecursion (MayCopy t (depth - 1)) (names_of t.table (row_in word) kind)))
 unfolding MayCopy
 named_some t zero word kind named may = let none : named_kind word ≡ None = ap named_kind may in absurd (let clash = sym named ∙ none in cc)
 named_some t (suc depth) word kind named may =
     let all = subst (MayCopyBy (MayCopy t depth) t word) named may in
     let same : depth ≡ suc depth - 1 = omega arith in
-    (omega arith, (all.0, (all.1.0, subst (λ (n : ℕ). AllByRecursion (MayCopy t n) (names_of t.table.words (row_in word) kind)) same all.1.1)))
+    (omega arith, (all.0, (all.1.0, subst (λ (n : ℕ). AllByRecursion (MayCopy t n) (names_of t.table (row_in word) kind)) same all.1.1)))
 
 module _ (s : Sheet) (b : Book) (way : Way) (pair : Pair) (whole : IsWhole s) (named : named_kind way.word ≡ Some pair.kind) (row : pair.row ≡ row_in way.word) (to : pair.to ≡ next_row b)
     (may : MayCopy s.tree way.depth way.word) where
   abbrev t : Table
   t = s.tree.table
 
-  facts : (0 < way.depth) × ((pair.row < first_row + s.tree.rows) × (ParentsAre t pair.row 0 (names_of t.words pair.row pair.kind) × AllByRecursion (MayCopy s.tree (way.depth - 1)) (names_of t.words pair.row pair.kind)))
-  facts = subst (λ (r : ℕ). (0 < way.depth) × ((r < first_row + s.tree.rows) × (ParentsAre t r 0 (names_of t.words r pair.kind) × AllByRecursion (MayCopy s.tree (way.depth - 1)) (names_of t.words r pair.kind)))) (sym row)
+  facts : (0 < way.depth) × ((pair.row < first_row + s.tree.rows) × (ParentsAre t pair.row 0 (names_of t pair.row pair.kind) × AllByRecursion (MayCopy s.tree (way.depth - 1)) (names_of t pair.row pair.kind)))
+  facts = subst (λ (r : ℕ). (0 < way.depth) × ((r < first_row + s.tree.rows) × (ParentsAre t r 0 (names_of t r pair.kind) × AllByRecursion (MayCopy s.tree (way.depth - 1)) (names_of t r pair.kind)))) (sym row)
       (named_some s.tree way.depth way.word pair.kind named may)
 
   numbered_row : IsRowNumber pair.row
   numbered_row = subst IsRowNumber (sym row) (Names-named_kind way.word pair.kind named).0
 
-  pub names_are : names_from t.words way.depth way.word ≡ way.word ∷ names_below t.words way.depth pair
+  pub names_are : names_from t way.depth way.word ≡ way.word ∷ names_below t way.depth pair
   names_are =
-      names_deeper t.words way.depth way.word facts.0
-      ∙ (ap (λ (k : Option RowKind). names_by (names_from t.words (way.depth - 1)) t.words way.word k) named
-      ∙ ap (λ (r : ℕ). way.word ∷ flat_map (names_from t.words (way.depth - 1)) (names_of t.words r pair.kind)) (sym row))
+      names_deeper t way.depth way.word facts.0
+      ∙ (ap (λ (k : Option RowKind). names_by (names_from t (way.depth - 1)) t way.word k) named
+      ∙ ap (λ (r : ℕ). way.word ∷ flat_map (names_from t (way.depth - 1)) (names_of t r pair.kind)) (sym row))
 
-  pub length_is : length (names_from t.words way.depth way.word) ≡ 1 + length (names_below t.words way.depth pair)
+  pub length_is : length (names_from t way.depth way.word) ≡ 1 + length (names_below t way.depth pair)
   length_is = omega (arith, ap length names_are)
 
   pub may_below : MayCopyBelow s.tree way.depth pair
@@ -113,10 +113,10 @@ module _ (s : Sheet) (b : Book) (way : Way) (pair : Pair) (whole : IsWhole s) (n
 
     pub row_copied : LeavesCopy t d₂.tree.table (next_row b) way (name_at pair.to pair.kind)
     row_copied number zero_is numbered parent =
-        let all : AreNumbered number (next_row b) (way.word ∷ names_below t.words way.depth pair) = subst (AreNumbered number (next_row b)) names_are numbered in
+        let all : AreNumbered number (next_row b) (way.word ∷ names_below t way.depth pair) = subst (AreNumbered number (next_row b)) names_are numbered in
         let to_is : number pair.row ≡ pair.to = ap number row ∙ (all.0 ∙ sym to) in
         let parent_is : way.parent ≡ renamed number (column t pair.row 0) = parent (name_some way.word pair.kind named) ∙ ap (λ (r : ℕ). renamed number (column t r 0)) (sym row) in
-        let below = children number zero_is to_is (subst (λ (n : ℕ). AreNumbered number n (names_below t.words way.depth pair)) (sym next_is) all.1) in
+        let below = children number zero_is to_is (subst (λ (n : ℕ). AreNumbered number n (names_below t way.depth pair)) (sym next_is) all.1) in
         let here = here_copied number to_is parent_is below.0 in (
           name_is number to_is,
           subst (AreCopied number t d₂.tree.table) (sym names_are) (
@@ -127,19 +127,19 @@ module _ (s : Sheet) (b : Book) (way : Way) (pair : Pair) (whole : IsWhole s) (n
 
   -- what stands below is asked for as it is at the call
   module _ (s₁ d d₁ : Sheet) (b₁ : Book) (reads : OnlyReads s s₁) (unused : IsOpen b d) (one : HasTaken 1 b b₁) (written : IsWritten pair.to (pair.to + 1) d d₁)
-      (room : length (names_from t.words way.depth way.word) ≤ length b.free) (width : d.tree.table.width ≡ t.width) where
+      (room : length (names_from t way.depth way.word) ≤ length b.free) (width : d.tree.table.width ≡ t.width) where
     after : next_row b₁ ≡ next_row b + 1
     after = next_after 1 b b₁ unused.filling one
 
     pub children_asked : MayCopyBelow s₁.tree way.depth pair
-        × (IsOpen b₁ d₁ × ((length (names_below s₁.tree.table.words way.depth pair) ≤ length b₁.free) × ((next_row b₁ ≡ pair.to + 1) × ((first_row ≤ pair.to) × ((life_of d₁.lives pair.to ≡ Draft) × (d₁.tree.table.width ≡ s₁.tree.table.width))))))
+        × (IsOpen b₁ d₁ × ((length (names_below s₁.tree.table way.depth pair) ≤ length b₁.free) × ((next_row b₁ ≡ pair.to + 1) × ((first_row ≤ pair.to) × ((life_of d₁.lives pair.to ≡ Draft) × (d₁.tree.table.width ≡ s₁.tree.table.width))))))
     children_asked =
         let less = one.taken in (
           subst (λ (r : Rooted). MayCopyBelow r way.depth pair) (sym (same_tree s s₁ reads)) may_below,
           (
             open_after 1 pair.to (pair.to + 1) b b₁ d d₁ unused one (omega (arith, after, to)) written,
             (
-              subst (λ (r : Rooted). length (names_below r.table.words way.depth pair) ≤ length b₁.free) (sym (same_tree s s₁ reads)) (omega (arith, length_is)),
+              subst (λ (r : Rooted). length (names_below r.table way.depth pair) ≤ length b₁.free) (sym (same_tree s s₁ reads)) (omega (arith, length_is)),
               (omega (arith, after, to), (omega (arith, to), (written.drafts pair.to (omega arith) (omega arith), written_width pair.to (pair.to + 1) d d₁ written ∙ (width ∙ ap (λ (r : Rooted). r.table.width) (sym (same_tree s s₁ reads)))))),
             ),
           ),

@@ -30,9 +30,9 @@ zeros_may t depth zero = tt
 zeros_may t zero (suc n) = (refl, zeros_may t zero n)
 zeros_may t (suc depth) (suc n) = (refl, zeros_may t (suc depth) n)
 
-zeros_none : (w : List ℕ) (depth n : ℕ) → flat_map (names_from w depth) (replicate n 0) ≡ []
-zeros_none w depth zero = refl
-zeros_none w depth (suc n) = let first = names_none w depth 0 refl in rw first (zeros_none w depth n)
+zeros_none : (t : Table) (depth n : ℕ) → flat_map (names_from t depth) (replicate n 0) ≡ []
+zeros_none t depth zero = refl
+zeros_none t depth (suc n) = let first = names_none t depth 0 refl in rw first (zeros_none t depth n)
 
 zeros_parents : (t : Table) (row slot n : ℕ) → ParentsAre t row slot (replicate n 0)
 zeros_parents t row slot zero = tt
@@ -43,23 +43,20 @@ parents_are t row slot n [] parents = zeros_parents t row slot n
 parents_are t row slot n (x ∷ xs) parents = ((λ some. parents.0), parents_are t row (slot + 1) n xs parents.1)
 
 module _ (t : Tree) (has : HasWords t) where
-  abbrev w : List ℕ
-  w = t.table.words
-
   abbrev words_and : ℕ → List Span → List ℕ
   words_and n xs = map (λ (x : Span). x.word) xs ++ replicate n 0
 
   -- ---- what is named from a row on
 
-  leaf_names : (depth : ℕ) (x : Span) → IsRow t zero x → names_from w (suc depth) x.word ≡ x.word ∷ []
+  leaf_names : (depth : ℕ) (x : Span) → IsRow t zero x → names_from t.table (suc depth) x.word ≡ x.word ∷ []
   unfolding names_from
-  leaf_names depth x row = ap (λ (k : Option RowKind). names_by (names_from w depth) w x.word k) row.name.named
+  leaf_names depth x row = ap (λ (k : Option RowKind). names_by (names_from t.table depth) t.table x.word k) row.name.named
 
-  inner_names : (depth h : ℕ) (x : Span) → IsRow t (suc h) x → (n : ℕ) × (names_from w (suc depth) x.word ≡ x.word ∷ flat_map (names_from w depth) (words_and n (spans_in t.table x)))
+  inner_names : (depth h : ℕ) (x : Span) → IsRow t (suc h) x → (n : ℕ) × (names_from t.table (suc depth) x.word ≡ x.word ∷ flat_map (names_from t.table depth) (words_and n (spans_in t.table x)))
   unfolding names_from
   inner_names depth h x row =
       let names = names_are t h x has row in
-      (names.0, ap (λ (k : Option RowKind). names_by (names_from w depth) w x.word k) row.name.named ∙ ap (λ (l : List ℕ). x.word ∷ flat_map (names_from w depth) l) names.1)
+      (names.0, ap (λ (k : Option RowKind). names_by (names_from t.table depth) t.table x.word k) row.name.named ∙ ap (λ (l : List ℕ). x.word ∷ flat_map (names_from t.table depth) l) names.1)
 
   -- ---- the tree may be copied
 
@@ -87,14 +84,14 @@ module _ (t : Tree) (has : HasWords t) where
   -- ---- the rows that are named are those that are reached
 
   abbrev RowsOne : ℕ → ℕ → Span → Type 0
-  RowsOne depth h x = Levels (IsRow t) t.table h (x ∷ []) → map row_in (names_from w depth x.word) ≡ rows_of t.table depth x
+  RowsOne depth h x = Levels (IsRow t) t.table h (x ∷ []) → map row_in (names_from t.table depth x.word) ≡ rows_of t.table depth x
 
-  rows_list : (depth h n : ℕ) → ((x : Span) → RowsOne depth h x) → (xs : List Span) → Levels (IsRow t) t.table h xs → map row_in (flat_map (names_from w depth) (words_and n xs)) ≡ flat_map (rows_of t.table depth) xs
-  rows_list depth h n each [] rows = ap (map row_in) (zeros_none w depth n)
+  rows_list : (depth h n : ℕ) → ((x : Span) → RowsOne depth h x) → (xs : List Span) → Levels (IsRow t) t.table h xs → map row_in (flat_map (names_from t.table depth) (words_and n xs)) ≡ flat_map (rows_of t.table depth) xs
+  rows_list depth h n each [] rows = ap (map row_in) (zeros_none t.table depth n)
   rows_list depth h n each (x ∷ xs) rows =
       let first = each x (levels_front (IsRow t) t.table h (x ∷ []) xs rows) in
       let behind = rows_list depth h n each xs (levels_back (IsRow t) t.table h (x ∷ []) xs rows) in
-      map-append row_in (names_from w depth x.word) (flat_map (names_from w depth) (words_and n xs)) ∙ (λ i. first i ++ behind i)
+      map-append row_in (names_from t.table depth x.word) (flat_map (names_from t.table depth) (words_and n xs)) ∙ (λ i. first i ++ behind i)
 
   pub rows_named : (depth h : ℕ) (x : Span) → h < depth → RowsOne depth h x
   rows_named zero h x deep rows = absurd (omega arith)
@@ -104,7 +101,7 @@ module _ (t : Tree) (has : HasWords t) where
       let names = inner_names depth h x rows.0.0 in
       let below = rows_list depth h names.0 (λ y. rows_named depth h y (omega arith)) (spans_in t.table x) (children_hold (IsRow t) t.table h x rows) in
       ap (map row_in) names.1
-      ∙ (ap (λ (l : List ℕ). row_in x.word ∷ l) below ∙ sym (by_inner t.kind (named_kind x.word) (row_in x.word ∷ []) (row_in x.word ∷ flat_map (rows_of t.table depth) (spans_in t.table x)) rows.0.0.name.named))
+      ∙ (ap (λ (l : List ℕ). row_in x.word ∷ l) below ∙ sym (by_inner t.gapped (named_kind x.word) (row_in x.word ∷ []) (row_in x.word ∷ flat_map (rows_of t.table depth) (spans_in t.table x)) rows.0.0.name.named))
 
   -- ---- what holds of all names holds of the rows of all levels
 
@@ -113,14 +110,14 @@ module _ (t : Tree) (has : HasWords t) where
     Each h x = Q x.word
 
     abbrev HoldsOne : ℕ → ℕ → Span → Type 0
-    HoldsOne depth h x = Levels (IsRow t) t.table h (x ∷ []) → AllByRecursion Q (names_from w depth x.word) → Levels Each t.table h (x ∷ [])
+    HoldsOne depth h x = Levels (IsRow t) t.table h (x ∷ []) → AllByRecursion Q (names_from t.table depth x.word) → Levels Each t.table h (x ∷ [])
 
-    holds_list : (depth h n : ℕ) → ((x : Span) → HoldsOne depth h x) → (xs : List Span) → Levels (IsRow t) t.table h xs → AllByRecursion Q (flat_map (names_from w depth) (words_and n xs)) → Levels Each t.table h xs
+    holds_list : (depth h n : ℕ) → ((x : Span) → HoldsOne depth h x) → (xs : List Span) → Levels (IsRow t) t.table h xs → AllByRecursion Q (flat_map (names_from t.table depth) (words_and n xs)) → Levels Each t.table h xs
     holds_list depth h n each [] rows all = levels_none Each t.table h
     holds_list depth h n each (x ∷ xs) rows all =
         levels_join Each t.table h (x ∷ []) xs
-        (each x (levels_front (IsRow t) t.table h (x ∷ []) xs rows) (all_front Q (names_from w depth x.word) (flat_map (names_from w depth) (words_and n xs)) all))
-        (holds_list depth h n each xs (levels_back (IsRow t) t.table h (x ∷ []) xs rows) (all_back Q (names_from w depth x.word) (flat_map (names_from w depth) (words_and n xs)) all))
+        (each x (levels_front (IsRow t) t.table h (x ∷ []) xs rows) (all_front Q (names_from t.table depth x.word) (flat_map (names_from t.table depth) (words_and n xs)) all))
+        (holds_list depth h n each xs (levels_back (IsRow t) t.table h (x ∷ []) xs rows) (all_back Q (names_from t.table depth x.word) (flat_map (names_from t.table depth) (words_and n xs)) all))
 
     pub holds_below : (depth h : ℕ) (x : Span) → h < depth → HoldsOne depth h x
     holds_below zero h x deep rows all = absurd (omega arith)

@@ -4,6 +4,7 @@ use Rattle.std.specs.Prelude.{nat_lt}
 use Rattle.std.specs.List.{AllByRecursion}
 use Rattle.std.proofs.lemmas.Bool.{ltb-true}
 use Rattle.std.proofs.lemmas.List.{length-map}
+use Rattle.mt_base.specs.Call.{finds_room}
 use Rattle.mt_base.specs.declared.kinds.Kind.{Kind}
 use Rattle.mt_base.specs.declared.widths.Width.{Width}
 use Rattle.mt_base.specs.Width.{deepest, first_row, kind_width}
@@ -32,7 +33,7 @@ use Rattle.mt_dup.proofs.TreeNames.{may_copy, rows_named, holds_below}
 use Rattle.mt_dup.proofs.MovedTree as moved
 
 abbrev pub all_names : Sheet → List ℕ
-all_names s = names_from s.tree.table.words deepest s.tree.root
+all_names s = names_from s.tree.table deepest s.tree.root
 
 abbrev pub copied_to : Sheet → ℕ → Rooted
 copied_to d root = with_published d.tree Root root
@@ -65,8 +66,8 @@ names_many kind s whole lawful = elim lawful.words [
       sym (length-map (all_names s) row_in) ∙ ap length (rows_named (tree_as kind s.tree) whole.words deepest h (root_span s.tree.table s.tree.root) stands.low stands.rows)
 ]
   where
-    none : (root : ℕ) → root ≡ 0 → length (names_from s.tree.table.words deepest root) ≡ length (reached_in s.tree.table root)
-    none root empty = subst (λ (r : ℕ). length (names_from s.tree.table.words deepest r) ≡ length (reached_in s.tree.table r)) (sym empty) (ap length (names_none s.tree.table.words deepest 0 refl))
+    none : (root : ℕ) → root ≡ 0 → length (names_from s.tree.table deepest root) ≡ length (reached_in s.tree.table root)
+    none root empty = subst (λ (r : ℕ). length (names_from s.tree.table deepest r) ≡ length (reached_in s.tree.table r)) (sym empty) (ap length (names_none s.tree.table deepest 0 refl))
 
 -- ---- behind it
 
@@ -117,7 +118,7 @@ module _ (kind : Kind) (s d : Sheet) (root : ℕ) (whole : IsWhole s) (new_whole
   }
     where
       names_empty : names ≡ []
-      names_empty = ap (names_from s.tree.table.words deepest) empty ∙ names_none s.tree.table.words deepest 0 refl
+      names_empty = ap (names_from s.tree.table deepest) empty ∙ names_none s.tree.table deepest 0 refl
 
       no_names : length names ≡ 0
       no_names = ap length names_empty
@@ -173,7 +174,7 @@ module _ (kind : Kind) (s d : Sheet) (root : ℕ) (whole : IsWhole s) (new_whole
     later = moved.later t number (number_zero rows) d.tree.rows new_whole.few d.tree.table.words
 
     later_is : later ≡ tree_as kind after
-    later_is = λ i. record { rows = d.tree.rows; kind = kind; table = sym table_is i; root = sym copied.0 i }
+    later_is = λ i. record { rows = d.tree.rows; gapped = finds_room kind; table = sym table_is i; root = sym copied.0 i }
 
     later_stands : Stands later h
     later_stands = record { low = stands.low; rows = moved.levels_moved t number (number_zero rows) d.tree.rows new_whole.few d.tree.table.words h (root_span s.tree.table s.tree.root ∷ []) levels }
@@ -235,8 +236,8 @@ module _ (kind : Kind) (s d : Sheet) (root : ℕ) (whole : IsWhole s) (new_whole
 -- ---- as the walk is called
 
 module _ (s s' : Sheet) (word : ℕ) (reads : OnlyReads s s') (word_is : word ≡ s.tree.root) where
-  pub names_same : names_from s'.tree.table.words deepest word ≡ all_names s
-  names_same = ap (λ (x : Rooted). names_from x.table.words deepest word) (same_tree s s' reads) ∙ ap (names_from s.tree.table.words deepest) word_is
+  pub names_same : names_from s'.tree.table deepest word ≡ all_names s
+  names_same = ap (λ (x : Rooted). names_from x.table deepest word) (same_tree s s' reads) ∙ ap (names_from s.tree.table deepest) word_is
 
   pub may_same : MayCopy s.tree deepest s.tree.root → MayCopy s'.tree deepest word
   may_same may = subst (λ (x : Rooted). MayCopy x deepest word) (sym (same_tree s s' reads)) (subst (MayCopy s.tree deepest) (sym word_is) may)

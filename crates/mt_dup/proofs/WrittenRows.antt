@@ -1,11 +1,10 @@
 -- The columns of one row of a copy, read one by one and written at once.
-use Rattle.std.proofs.Common.{◌≡◌, ℕ, ◌+◌, ◌*◌, ◌<◌, ◌≤◌, ◌⊎◌, List, length, add-zero, refl, sym, ap, ◌∙◌, subst, inl, inr, arith, length-set, get_or-set_other, get_or-set_same, length-take, take}
+use Rattle.std.proofs.Common.{◌≡◌, ℕ, ◌+◌, ◌*◌, ◌<◌, ◌≤◌, ◌⊎◌, List, length, add-zero, refl, sym, ap, ◌∙◌, subst, inl, inr, arith, length-set, get_or-set_other, get_or-set_same}
 use Rattle.std.specs.Prelude.{replicate, slice_index, slice_set}
 use Rattle.std.proofs.lemmas.Bool.{cases_eq, cases_lt}
-use Rattle.std.proofs.lemmas.List.{get_or-take}
+use Rattle.std.proofs.lemmas.List.{get_or-replicate, length-replicate}
 use Rattle.mt_base.specs.declared.widths.Width.{Width}
 use Rattle.mt_base.specs.Width.{columns}
-use Rattle.mt_base.proofs.WidthBounds.{few_columns}
 use Rattle.mt_layout.proofs.Places.{place_within, row_within}
 use Rattle.mt_rows.specs.declared.rows.Life.{Life}
 use Rattle.mt_rows.specs.declared.rows.Life.TheVariants.{New, Draft}
@@ -78,18 +77,23 @@ nothing_written row s draft = record {
 
 pub record Reading (s s' : Sheet) (first row col : ℕ) (words : List ℕ) : Type 0 where
   pub reads : OnlyReads s s'
-  pub size : length words ≡ 32
+  pub size : length words ≡ columns s.tree.table.width
   pub here : slice_index words 0 ≡ first
   pub others : (c : ℕ) → 0 < c → c < col → slice_index words c ≡ column s.tree.table row c
 
-pub none_read : (s : Sheet) (first row col : ℕ) → col ≡ 1 → Reading s s first row col (replicate 32 first)
-none_read s first row col one = record { reads = refl; size = refl; here = refl; others = λ c some below. absurd (omega arith) }
+pub none_read : (s : Sheet) (all first row col : ℕ) → all ≡ columns s.tree.table.width → col ≡ 1 → Reading s s first row col (replicate all first)
+none_read s all first row col many one = record {
+  reads = refl;
+  size = length-replicate all first ∙ many;
+  here = get_or-replicate all 0 first 0 (omega (arith, many, some_columns s.tree.table.width));
+  others = λ c some below. absurd (omega arith);
+}
 
 pub read_place : (s s' : Sheet) (first row col : ℕ) (words : List ℕ) → IsPlace s.tree row 0 → Reading s s' first row col words → col < columns s.tree.table.width → IsPlace s'.tree row col
 read_place s s' first row col words place so_far within =
     subst (λ (t : Rooted). IsPlace t row col) (sym (same_tree s s' so_far.reads)) (record { first = place.first; last = place.last; column = within })
 
-pub read_next : (s s' s'' : Sheet) (first row col word : ℕ) (words : List ℕ) → Reading s s' first row col words → 0 < col → col < 32 → OnlyReads s' s'' → word ≡ column s'.tree.table row col
+pub read_next : (s s' s'' : Sheet) (first row col word : ℕ) (words : List ℕ) → Reading s s' first row col words → 0 < col → col < columns s.tree.table.width → OnlyReads s' s'' → word ≡ column s'.tree.table row col
     → Reading s s'' first row (col + 1) (slice_set words col word)
 read_next s s' s'' first row col word words so_far some within more is = record {
   reads = reads_on s s' s'' so_far.reads more;
@@ -114,23 +118,20 @@ apart : (v : Width) (to row c n : ℕ) → c < columns v → n ≤ columns v →
 apart v to row c n within few (inl below) = inl (omega (arith, place_within v row to c below within))
 apart v to row c n within few (inr above) = let most = row_within v to row (let next : to < row = omega arith in next) in inr (omega (arith, most))
 
-module _ (pair : Pair) (s s' d d' : Sheet) (parent col n : ℕ) (words : List ℕ) (read : Reading s s' parent pair.row col words) (all : n ≡ columns s.tree.table.width) (past : n ≤ col) (drafted : AreDrafted pair.to 0 (take n words) d d') where
+module _ (pair : Pair) (s s' d d' : Sheet) (parent col : ℕ) (words : List ℕ) (read : Reading s s' parent pair.row col words) (past : columns s.tree.table.width ≤ col) (drafted : AreDrafted pair.to 0 words d d') where
   drafted_width : d'.tree.table.width ≡ d.tree.table.width
   drafted_width = ap (λ (x : Sheet). x.tree.table.width) drafted.rest
-
-  many : length (take n words) ≡ columns s.tree.table.width
-  many = omega (arith, length-take n words, read.size, all, few_columns s.tree.table.width)
 
   column_is : (c : ℕ) → c < columns s.tree.table.width → column d'.tree.table pair.to c ≡ slice_index words c
   column_is c within =
       ap (λ (v : Width). slice_index d'.tree.table.words (columns v * pair.to + c)) drafted_width
       ∙ (ap (λ (n : ℕ). slice_index d'.tree.table.words (n + c)) (sym (add-zero (columns d.tree.table.width * pair.to)))
-      ∙ (drafted.put.here c (omega (arith, many)) ∙ get_or-take n words c 0 (omega (arith, all))))
+      ∙ drafted.put.here c (omega (arith, read.size)))
 
   pub own_copied : HasOwn parent pair s.tree.table d'.tree.table
   own_copied = record {
     first = column_is 0 (some_columns s.tree.table.width) ∙ read.here;
-    others = λ c some within. column_is c within ∙ read.others c some (omega (arith, all));
+    others = λ c some within. column_is c within ∙ read.others c some (omega arith);
   }
 
   module _ (inside : pair.to < length d.lives) (wide : d.tree.table.width ≡ s.tree.table.width) where
@@ -142,7 +143,7 @@ module _ (pair : Pair) (s s' d d' : Sheet) (parent col n : ℕ) (words : List �
       rest = drafted.rest ∙ ap (λ (l : List Life). record d { tree = record d.tree { table = record d.tree.table { words = d'.tree.table.words } }; lives = l }) (sym lives_are);
       words = λ row c outside within.
           ap (λ (v : Width). slice_index d'.tree.table.words (columns v * row + c)) drafted_width
-          ∙ drafted.put.others (columns d.tree.table.width * row + c) (apart d.tree.table.width pair.to row c (length (take n words)) within (omega (arith, many, ap columns wide)) outside);
+          ∙ drafted.put.others (columns d.tree.table.width * row + c) (apart d.tree.table.width pair.to row c (length words) within (omega (arith, read.size, ap columns wide)) outside);
       lives = λ row outside. ap (λ (l : List Life). life_of l row) lives_are ∙ get_or-set_other d.lives pair.to row Draft New (λ e. other row outside e);
       drafts = λ row from to. let same : pair.to ≡ row = omega arith in subst (λ (n : ℕ). life_of d'.lives n ≡ Draft) same (ap (λ (l : List Life). life_of l pair.to) lives_are ∙ get_or-set_same d.lives pair.to Draft New inside);
     }

@@ -46,10 +46,10 @@ pub record IsCopy (t t' : Rooted) : Type 0 where
   pub root : t'.root ≡ renamed number t.root
   pub words : (h : ℕ) (x : Span) (kind : RowKind) → StandsAt t h x → named_kind x.word ≡ Some kind → IsRowCopy number t.table t'.table kind (row_in x.word)
 
--- new rows, but for those that are reached from the root word, which are drafts; no call was begun, and the root word that they
--- have is 0
+-- new rows of the copy's width, but for those that are reached from the root word, which are drafts; no call was begun, and
+-- the root word that they have is 0
 pub record IsNewBut (t' : Rooted) (rows : ℕ) (s : Sheet) : Type 0 where
-  pub rest : s ≡ record (new_sheet rows) { tree = record (new_sheet rows).tree { table = record (new_sheet rows).tree.table { words = s.tree.table.words } }; lives = s.lives }
+  pub rest : let new = new_sheet t'.table.width rows in s ≡ record new { tree = record new.tree { table = record new.tree.table { words = s.tree.table.words } }; lives = s.lives }
   pub zeros : (row c : ℕ) → is_reached t' row ≡ false → c < columns s.tree.table.width → column s.tree.table row c ≡ 0
   pub new : (row : ℕ) → is_reached t' row ≡ false → life_of s.lives row ≡ New
   pub drafts : (row : ℕ) → IsReached t' row → life_of s.lives row ≡ Draft

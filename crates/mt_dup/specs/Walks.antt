@@ -17,18 +17,18 @@ use Rattle.mt_dup.specs.Copy.{renamed, IsRowCopy}
 
 -- ---- the names that the walk comes to
 
-abbrev pub names_by : (ℕ → List ℕ) → List ℕ → ℕ → Option RowKind → List ℕ
-names_by below w word None = []
-names_by below w word (Some kind) = word ∷ flat_map below (names_of w (row_in word) kind)
+abbrev pub names_by : (ℕ → List ℕ) → Table → ℕ → Option RowKind → List ℕ
+names_by below t word None = []
+names_by below t word (Some kind) = word ∷ flat_map below (names_of t (row_in word) kind)
 
 -- a word, where it is a name, and the names from those in the slots of its row on, at most so many levels deep
-unfoldable pub names_from : List ℕ → ℕ → ℕ → List ℕ
-names_from w zero word = []
-names_from w (suc depth) word = names_by (names_from w depth) w word (named_kind word)
+unfoldable pub names_from : Table → ℕ → ℕ → List ℕ
+names_from t zero word = []
+names_from t (suc depth) word = names_by (names_from t depth) t word (named_kind word)
 
 -- the names from those in the slots of a row on
-abbrev pub names_below : List ℕ → ℕ → Pair → List ℕ
-names_below w depth pair = flat_map (names_from w (depth - 1)) (names_of w pair.row pair.kind)
+abbrev pub names_below : Table → ℕ → Pair → List ℕ
+names_below t depth pair = flat_map (names_from t (depth - 1)) (names_of t pair.row pair.kind)
 
 -- ---- what the walk asks for
 
@@ -40,7 +40,7 @@ ParentsAre t row slot (word ∷ words) = (word ≢ 0 → column t (row_in word) 
 abbrev pub MayCopyBy : (ℕ → Type 0) → Rooted → ℕ → Option RowKind → Type 0
 MayCopyBy below t word None = word ≡ 0
 MayCopyBy below t word (Some kind) =
-    (row_in word < first_row + t.rows) × (ParentsAre t.table (row_in word) 0 (names_of t.table.words (row_in word) kind) × AllByRecursion below (names_of t.table.words (row_in word) kind))
+    (row_in word < first_row + t.rows) × (ParentsAre t.table (row_in word) 0 (names_of t.table (row_in word) kind) × AllByRecursion below (names_of t.table (row_in word) kind))
 
 -- a word is 0 or names a row of the table, and so do those in the slots of that row, at most so many levels deep
 unfoldable pub MayCopy : Rooted → ℕ → ℕ → Type 0
@@ -52,8 +52,8 @@ pub record MayCopyBelow (t : Rooted) (depth : ℕ) (pair : Pair) : Type 0 where
   pub deep : 0 < depth
   pub first : first_row ≤ pair.row
   pub inside : pair.row < first_row + t.rows
-  pub parents : ParentsAre t.table pair.row 0 (names_of t.table.words pair.row pair.kind)
-  pub below : AllByRecursion (MayCopy t (depth - 1)) (names_of t.table.words pair.row pair.kind)
+  pub parents : ParentsAre t.table pair.row 0 (names_of t.table pair.row pair.kind)
+  pub below : AllByRecursion (MayCopy t (depth - 1)) (names_of t.table pair.row pair.kind)
 
 -- ---- what the walk leaves
 
@@ -71,8 +71,8 @@ AreCopied number t t' words = AllByRecursion (IsCopied number t t') words
 -- Under the numbers that rows have from `from` on, what a word names is copied, and this is its name in the copy.
 abbrev pub LeavesCopy : Table → Table → ℕ → Way → ℕ → Type 0
 LeavesCopy t t' from way name =
-    (number : ℕ → ℕ) → number 0 ≡ 0 → AreNumbered number from (names_from t.words way.depth way.word) → (way.word ≢ 0 → way.parent ≡ renamed number (column t (row_in way.word) 0))
-    → (name ≡ renamed number way.word) × AreCopied number t t' (names_from t.words way.depth way.word)
+    (number : ℕ → ℕ) → number 0 ≡ 0 → AreNumbered number from (names_from t way.depth way.word) → (way.word ≢ 0 → way.parent ≡ renamed number (column t (row_in way.word) 0))
+    → (name ≡ renamed number way.word) × AreCopied number t t' (names_from t way.depth way.word)
 
 -- the names in the slots of a row are written
 abbrev pub HasNames : (ℕ → ℕ) → Table → Table → Pair → Type 0
@@ -81,7 +81,7 @@ HasNames number t t' pair = (i : ℕ) → i < slots_of t.width pair.kind
 
 abbrev pub LeavesChildren : Table → Table → ℕ → ℕ → Pair → Type 0
 LeavesChildren t t' from depth pair =
-    (number : ℕ → ℕ) → number 0 ≡ 0 → number pair.row ≡ pair.to → AreNumbered number from (names_below t.words depth pair) → (pair.kind ≢ Leaf → HasNames number t t' pair) × AreCopied number t t' (names_below t.words depth pair)
+    (number : ℕ → ℕ) → number 0 ≡ 0 → number pair.row ≡ pair.to → AreNumbered number from (names_below t depth pair) → (pair.kind ≢ Leaf → HasNames number t t' pair) × AreCopied number t t' (names_below t depth pair)
 
 -- no name of a row stands in the column of a row of this kind
 abbrev pub IsNoName : RowKind → ℕ → ℕ → Type 0

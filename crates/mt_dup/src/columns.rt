@@ -1,13 +1,14 @@
 //! The columns of one row.
 
 ghost use Rattle.std.specs.Prelude.{◌≡◌, ◌+◌};
+ghost use Rattle.mt_base.specs.Width.{columns};
 ghost use Rattle.mt_rows.specs.Memory.{sheet_in};
 ghost use Rattle.mt_rows.specs.Sheet.{IsPlace, OnlyReads, IsFree, life_of};
 ghost use Rattle.mt_dup.specs.Filling.{IsWritten};
 ghost use Rattle.mt_dup.specs.Pairs.{IsWrittenAt, HasOwn};
 
-use mt_base::cols;
-use mt_layout::{MOST_WORDS, RowKind};
+use mt_base::Width;
+use mt_layout::RowKind;
 use mt_rows::{PlainRows, Rows};
 
 /// A row of this kind that is copied, and the row of the copy.
@@ -28,8 +29,27 @@ pub(crate) fn write(rows: &mut PlainRows, row: u32, col: u32, word: u64)
     rows.draft(row, col, word);
 }
 
-/// Writes a row of the copy, which has this parent word. The names in its slots are still those of the tree.
+/// Writes a row of the copy, which has this parent word and so many columns. The names in its slots are still those of the
+/// tree.
 #[tactic(auto, using(crate::proofs::WrittenRows::none_read, mt_rows::proofs::Loads::one_read, crate::proofs::WrittenRows::read_place, crate::proofs::WrittenRows::read_next, crate::proofs::WrittenRows::own_copied, crate::proofs::WrittenRows::row_written))]
+fn copy_by<R: Rows, const COLS: usize>(src: &mut R, dst: &mut PlainRows, pair: Pair, parent: u64)
+    requires columns { COLS ≡ columns (R.sheet src.old).tree.table.width }
+    requires row { IsPlace (R.sheet src.old).tree pair.row 0 }
+    requires place { IsPlace (sheet_in dst.old).tree pair.to 0 }
+    requires free { IsFree (sheet_in dst.old).cleared (life_of (sheet_in dst.old).lives pair.to) }
+    requires width { (sheet_in dst.old).tree.table.width ≡ (R.sheet src.old).tree.table.width }
+    ensures own { HasOwn parent pair (R.sheet src.old).tree.table (sheet_in dst.new).tree.table }
+    ensures written { IsWritten pair.to (pair.to + 1) (sheet_in dst.old) (sheet_in dst.new) }
+    ensures rest { OnlyReads (R.sheet src.old) (R.sheet src.new) }
+{
+    let mut words = [parent; COLS];
+    for col in 1..COLS {
+        words[col] = src.load(pair.row, col as u32);
+    }
+    dst.draft_columns(pair.to, 0, &words);
+}
+
+/// Writes a row of the copy, which has this parent word. The names in its slots are still those of the tree.
 pub(crate) fn copy_own<R: Rows>(src: &mut R, dst: &mut PlainRows, pair: Pair, parent: u64)
     requires row { IsPlace (R.sheet src.old).tree pair.row 0 }
     requires place { IsPlace (sheet_in dst.old).tree pair.to 0 }
@@ -39,10 +59,8 @@ pub(crate) fn copy_own<R: Rows>(src: &mut R, dst: &mut PlainRows, pair: Pair, pa
     ensures written { IsWritten pair.to (pair.to + 1) (sheet_in dst.old) (sheet_in dst.new) }
     ensures rest { OnlyReads (R.sheet src.old) (R.sheet src.new) }
 {
-    let columns = cols(src.width()) as usize;
-    let mut words = [parent; MOST_WORDS];
-    for col in 1..columns {
-        words[col] = src.load(pair.row, col as u32);
+    match src.width() {
+        Width::Long => copy_by::<R, 32>(src, dst, pair, parent),
+        Width::Short => copy_by::<R, 64>(src, dst, pair, parent),
     }
-    dst.draft_columns(pair.to, 0, &words[..columns]);
 }

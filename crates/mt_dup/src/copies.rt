@@ -30,10 +30,9 @@ pub fn copy_rows<R: Rows, L: Ledger>(
     steps: &mut Steps<L>,
 ) -> u64
     requires lawful { (kind : Kind) × IsLawfulOf (R.sheet src.old).tree kind }
-    requires rows { sheet_in dst.old ≡ new_sheet book.old.rows }
+    requires rows { sheet_in dst.old ≡ new_sheet (R.sheet src.old).tree.table.width book.old.rows }
     requires book { book.old ≡ new_book book.old.rows }
     requires room { length (reached_in (R.sheet src.old).tree.table (R.sheet src.old).tree.root) ≤ length book.old.free }
-    requires width { (sheet_in dst.old).tree.table.width ≡ (R.sheet src.old).tree.table.width }
 
     // The words of the copy are those of the tree, but for the numbers of its rows.
     ensures copy { IsCopy (R.sheet src.old).tree (with_published (sheet_in dst.new).tree Root result) }

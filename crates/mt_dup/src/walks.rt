@@ -46,12 +46,12 @@ pub(crate) fn copy_row<R: Rows, L: Ledger>(
 ) -> u64
     requires may { MayCopy (R.sheet src.old).tree way.depth way.word }
     requires open { IsOpen book.old (sheet_in dst.old) }
-    requires room { length (names_from (R.sheet src.old).tree.table.words way.depth way.word) ≤ length book.old.free }
+    requires room { length (names_from (R.sheet src.old).tree.table way.depth way.word) ≤ length book.old.free }
     requires width { (sheet_in dst.old).tree.table.width ≡ (R.sheet src.old).tree.table.width }
     ensures copy { LeavesCopy (R.sheet src.old).tree.table (sheet_in dst.new).tree.table (next_row book.old) way result }
-    ensures taken { HasTaken (length (names_from (R.sheet src.old).tree.table.words way.depth way.word)) book.old book.new }
+    ensures taken { HasTaken (length (names_from (R.sheet src.old).tree.table way.depth way.word)) book.old book.new }
     ensures written { IsWritten (next_row book.old) (next_row book.new) (sheet_in dst.old) (sheet_in dst.new) }
-    ensures steps { steps.new ≡ steps.old + length (names_from (R.sheet src.old).tree.table.words way.depth way.word) }
+    ensures steps { steps.new ≡ steps.old + length (names_from (R.sheet src.old).tree.table way.depth way.word) }
     ensures rest { OnlyReads (R.sheet src.old) (R.sheet src.new) }
 {
     let (Some(row), Some(kind)) = (row_of(way.word), kind_of(way.word)) else {
@@ -80,16 +80,16 @@ fn copy_children<R: Rows, L: Ledger>(
 )
     requires may { MayCopyBelow (R.sheet src.old).tree depth pair }
     requires open { IsOpen book.old (sheet_in dst.old) }
-    requires room { length (names_below (R.sheet src.old).tree.table.words depth pair) ≤ length book.old.free }
+    requires room { length (names_below (R.sheet src.old).tree.table depth pair) ≤ length book.old.free }
     requires to { next_row book.old ≡ pair.to + 1 }
     requires first { first_row ≤ pair.to }
     requires draft { life_of (sheet_in dst.old).lives pair.to ≡ Draft }
     requires width { (sheet_in dst.old).tree.table.width ≡ (R.sheet src.old).tree.table.width }
     ensures children { LeavesChildren (R.sheet src.old).tree.table (sheet_in dst.new).tree.table (next_row book.old) depth pair }
     ensures own { KeepsOwn (sheet_in dst.old).tree.table (sheet_in dst.new).tree.table pair }
-    ensures taken { HasTaken (length (names_below (R.sheet src.old).tree.table.words depth pair)) book.old book.new }
+    ensures taken { HasTaken (length (names_below (R.sheet src.old).tree.table depth pair)) book.old book.new }
     ensures written { IsWritten pair.to (next_row book.new) (sheet_in dst.old) (sheet_in dst.new) }
-    ensures steps { steps.new ≡ steps.old + length (names_below (R.sheet src.old).tree.table.words depth pair) }
+    ensures steps { steps.new ≡ steps.old + length (names_below (R.sheet src.old).tree.table depth pair) }
     ensures rest { OnlyReads (R.sheet src.old) (R.sheet src.new) }
 {
     if pair.kind == RowKind::Leaf {

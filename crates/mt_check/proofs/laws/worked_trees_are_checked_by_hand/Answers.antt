@@ -38,3 +38,27 @@ returns-clause-holes c = refl
 pub returns-clause-gaps : goal.returns-clause-gaps
 unfolding faults_at faults_in longest_at
 returns-clause-gaps c = refl
+
+pub returns-clause-narrow : goal.returns-clause-narrow
+unfolding faults_at faults_in longest_at
+returns-clause-narrow c = refl
+
+pub returns-clause-narrow_top : goal.returns-clause-narrow_top
+unfolding faults_at faults_in longest_at
+returns-clause-narrow_top c = refl
+
+pub returns-clause-narrow_unused : goal.returns-clause-narrow_unused
+unfolding faults_at faults_in longest_at
+returns-clause-narrow_unused c = refl
+
+pub returns-clause-narrow_leaves : goal.returns-clause-narrow_leaves
+unfolding faults_at faults_in longest_at
+returns-clause-narrow_leaves c = refl
+
+pub returns-clause-narrow_count : goal.returns-clause-narrow_count
+unfolding faults_at faults_in longest_at
+returns-clause-narrow_count c = refl
+
+pub returns-clause-narrow_gaps : goal.returns-clause-narrow_gaps
+unfolding faults_at faults_in longest_at
+returns-clause-narrow_gaps c = refl

@@ -16,7 +16,7 @@ copy_row-requires-clause-may g c =
     may_same s s₁ c.root.result (one_read s s₁ c.root.ensures.rest) c.root.ensures.word (tree_may c.requires.lawful.0 s (g.met.R.Rows.whole c.args.src.now) c.requires.lawful.1)
 
 pub copy_row-requires-clause-open : goal.copy_row-requires-clause-open
-copy_row-requires-clause-open g c = subst (λ (b : Book). IsOpen b (sheet_in c.args.dst.now)) (sym c.requires.book) (subst (IsOpen (new_book c.args.book.now.rows)) (sym c.requires.rows) (new_open c.args.book.now.rows))
+copy_row-requires-clause-open g c = subst (λ (b : Book). IsOpen b (sheet_in c.args.dst.now)) (sym c.requires.book) (subst (IsOpen (new_book c.args.book.now.rows)) (sym c.requires.rows) (new_open (g.R.Rows.sheet c.args.src.now).tree.table.width c.args.book.now.rows))
 
 pub copy_row-requires-clause-room : goal.copy_row-requires-clause-room
 copy_row-requires-clause-room g c =
@@ -30,31 +30,31 @@ copy_row-requires-clause-room g c =
 pub returns-clause-copy : goal.returns-clause-copy
 returns-clause-copy g c =
     is_copy (g.R.Rows.sheet c.args.src.now) (g.R.Rows.sheet c.root.new.self) (sheet_in c.args.dst.now) (sheet_in c.copy_row.new.dst) c.args.book.now c.copy_row.new.book c.root.result c.copy_row.result
-    (g.met.R.Rows.whole c.args.src.now) (rows_whole c.copy_row.new.dst) c.root.ensures.rest c.root.ensures.word c.requires.rows c.requires.book c.requires.lawful c.requires.room c.requires.width
+    (g.met.R.Rows.whole c.args.src.now) (rows_whole c.copy_row.new.dst) c.root.ensures.rest c.root.ensures.word c.requires.rows c.requires.book c.requires.lawful c.requires.room
     c.copy_row.ensures.copy c.copy_row.ensures.taken c.copy_row.ensures.written
 
 pub returns-clause-map : goal.returns-clause-map
 returns-clause-map g c =
     same_map (g.R.Rows.sheet c.args.src.now) (g.R.Rows.sheet c.root.new.self) (sheet_in c.args.dst.now) (sheet_in c.copy_row.new.dst) c.args.book.now c.copy_row.new.book c.root.result c.copy_row.result
-    (g.met.R.Rows.whole c.args.src.now) (rows_whole c.copy_row.new.dst) c.root.ensures.rest c.root.ensures.word c.requires.rows c.requires.book c.requires.lawful c.requires.room c.requires.width
+    (g.met.R.Rows.whole c.args.src.now) (rows_whole c.copy_row.new.dst) c.root.ensures.rest c.root.ensures.word c.requires.rows c.requires.book c.requires.lawful c.requires.room
     c.copy_row.ensures.copy c.copy_row.ensures.taken c.copy_row.ensures.written
 
 pub returns-clause-lawful : goal.returns-clause-lawful
 returns-clause-lawful g c =
     may_be_planted (g.R.Rows.sheet c.args.src.now) (g.R.Rows.sheet c.root.new.self) (sheet_in c.args.dst.now) (sheet_in c.copy_row.new.dst) c.args.book.now c.copy_row.new.book c.root.result c.copy_row.result
-    (g.met.R.Rows.whole c.args.src.now) (rows_whole c.copy_row.new.dst) c.root.ensures.rest c.root.ensures.word c.requires.rows c.requires.book c.requires.lawful c.requires.room c.requires.width
+    (g.met.R.Rows.whole c.args.src.now) (rows_whole c.copy_row.new.dst) c.root.ensures.rest c.root.ensures.word c.requires.rows c.requires.book c.requires.lawful c.requires.room
     c.copy_row.ensures.copy c.copy_row.ensures.taken c.copy_row.ensures.written
 
 pub returns-clause-rows : goal.returns-clause-rows
 returns-clause-rows g c =
     others_new (g.R.Rows.sheet c.args.src.now) (g.R.Rows.sheet c.root.new.self) (sheet_in c.args.dst.now) (sheet_in c.copy_row.new.dst) c.args.book.now c.copy_row.new.book c.root.result c.copy_row.result
-    (g.met.R.Rows.whole c.args.src.now) (rows_whole c.copy_row.new.dst) c.root.ensures.rest c.root.ensures.word c.requires.rows c.requires.book c.requires.lawful c.requires.room c.requires.width
+    (g.met.R.Rows.whole c.args.src.now) (rows_whole c.copy_row.new.dst) c.root.ensures.rest c.root.ensures.word c.requires.rows c.requires.book c.requires.lawful c.requires.room
     c.copy_row.ensures.copy c.copy_row.ensures.taken c.copy_row.ensures.written
 
 pub returns-clause-book : goal.returns-clause-book
 returns-clause-book g c =
     has_book (g.R.Rows.sheet c.args.src.now) (g.R.Rows.sheet c.root.new.self) (sheet_in c.args.dst.now) (sheet_in c.copy_row.new.dst) c.args.book.now c.copy_row.new.book c.root.result c.copy_row.result
-    (g.met.R.Rows.whole c.args.src.now) (rows_whole c.copy_row.new.dst) c.root.ensures.rest c.root.ensures.word c.requires.rows c.requires.book c.requires.lawful c.requires.room c.requires.width
+    (g.met.R.Rows.whole c.args.src.now) (rows_whole c.copy_row.new.dst) c.root.ensures.rest c.root.ensures.word c.requires.rows c.requires.book c.requires.lawful c.requires.room
     c.copy_row.ensures.copy c.copy_row.ensures.taken c.copy_row.ensures.written
     (let whole = (rows_whole c.args.dst.now).few in let same = ap (λ (x : Sheet). x.tree.rows) c.requires.rows in omega (arith, whole, same))
 

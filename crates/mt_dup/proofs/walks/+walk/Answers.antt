@@ -46,7 +46,7 @@ copy_children-copy_row-name-requires g t c κs within =
             (
               open_child s d b pair depth begins s₂ d₁ b₁ slot c.args.steps.now c.loop-slot.steps going inside,
               (
-                subst (λ n. length (names_from s₂.tree.table.words (depth - 1) n) ≤ length b₁.free) (sym word) (room_child s d b pair depth begins s₂ d₁ b₁ slot c.args.steps.now c.loop-slot.steps going inside),
+                subst (λ n. length (names_from s₂.tree.table (depth - 1) n) ≤ length b₁.free) (sym word) (room_child s d b pair depth begins s₂ d₁ b₁ slot c.args.steps.now c.loop-slot.steps going inside),
                 wide_child s d b pair depth begins s₂ d₁ b₁ slot c.args.steps.now c.loop-slot.steps going inside,
               ),
             ),
@@ -87,13 +87,13 @@ copy_row-returns-in_default-2-clause-copy g t c =
 pub copy_row-returns-in_default-2-clause-taken : goal.copy_row-returns-in_default-2-clause-taken
 copy_row-returns-in_default-2-clause-taken g t c =
     let none : named_kind c.args.way.word ≡ None = search rules in
-    let empty = names_none (g.R.Rows.sheet c.args.src.now).tree.table.words c.args.way.depth c.args.way.word none in
+    let empty = names_none (g.R.Rows.sheet c.args.src.now).tree.table c.args.way.depth c.args.way.word none in
     rw empty (none_taken c.args.book.now c.requires.open.filling)
 
 pub copy_row-returns-in_default-2-clause-steps : goal.copy_row-returns-in_default-2-clause-steps
 copy_row-returns-in_default-2-clause-steps g t c =
     let none : named_kind c.args.way.word ≡ None = search rules in
-    let empty = names_none (g.R.Rows.sheet c.args.src.now).tree.table.words c.args.way.depth c.args.way.word none in
+    let empty = names_none (g.R.Rows.sheet c.args.src.now).tree.table c.args.way.depth c.args.way.word none in
     rw empty (omega arith)
 
 pub copy_row-take_next-requires-clause-some : goal.copy_row-take_next-requires-clause-some
@@ -150,9 +150,9 @@ copy_row-returns-clause-taken g t c =
     let s₁ = g.R.Rows.sheet c.copy_own.new.src in
     let pair : Pair = record { kind = c.in-Some-Some.kind; row = c.in-Some-Some.row; to = c.take_next.result } in
     let row = row_named c.args.way.word c.in-Some-Some.row c.in-Some-Some.kind c.in-Some-Some.ensures.row c.in-Some-Some.ensures'.kind in
-    let below : HasTaken (length (names_below s.tree.table.words c.args.way.depth pair)) c.take_next.new.book c.copy_children.new.book =
-    subst (λ (r : Rooted). HasTaken (length (names_below r.table.words c.args.way.depth pair)) c.take_next.new.book c.copy_children.new.book) (same_tree s s₁ c.copy_own.ensures.rest) c.copy_children.ensures.taken in
-    taken_more 1 (length (names_below s.tree.table.words c.args.way.depth pair)) (length (names_from s.tree.table.words c.args.way.depth c.args.way.word)) c.args.book.now c.take_next.new.book c.copy_children.new.book
+    let below : HasTaken (length (names_below s.tree.table c.args.way.depth pair)) c.take_next.new.book c.copy_children.new.book =
+    subst (λ (r : Rooted). HasTaken (length (names_below r.table c.args.way.depth pair)) c.take_next.new.book c.copy_children.new.book) (same_tree s s₁ c.copy_own.ensures.rest) c.copy_children.ensures.taken in
+    taken_more 1 (length (names_below s.tree.table c.args.way.depth pair)) (length (names_from s.tree.table c.args.way.depth c.args.way.word)) c.args.book.now c.take_next.new.book c.copy_children.new.book
     (length_is s c.args.book.now c.args.way pair (g.met.R.Rows.whole c.args.src.now) (sym c.in-Some-Some.ensures'.kind) row c.take_next.ensures.row c.requires.may) c.take_next.ensures.taken below
 
 pub copy_row-returns-clause-steps : goal.copy_row-returns-clause-steps
@@ -161,5 +161,5 @@ copy_row-returns-clause-steps g t c =
     let s₁ = g.R.Rows.sheet c.copy_own.new.src in
     let pair : Pair = record { kind = c.in-Some-Some.kind; row = c.in-Some-Some.row; to = c.take_next.result } in
     let row = row_named c.args.way.word c.in-Some-Some.row c.in-Some-Some.kind c.in-Some-Some.ensures.row c.in-Some-Some.ensures'.kind in
-    let below = ap (λ (r : Rooted). c.tick.new.self + length (names_below r.table.words c.args.way.depth pair)) (same_tree s s₁ c.copy_own.ensures.rest) in
+    let below = ap (λ (r : Rooted). c.tick.new.self + length (names_below r.table c.args.way.depth pair)) (same_tree s s₁ c.copy_own.ensures.rest) in
     omega (arith, c.copy_children.ensures.steps, below, c.tick.ensures, length_is s c.args.book.now c.args.way pair (g.met.R.Rows.whole c.args.src.now) (sym c.in-Some-Some.ensures'.kind) row c.take_next.ensures.row c.requires.may)

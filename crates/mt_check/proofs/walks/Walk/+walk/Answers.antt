@@ -7,7 +7,7 @@ use Rattle.mt_check.specs.declared.walks.Below.{Below}
 use Rattle.mt_check.specs.Walks.{tree_from, IsAnswerAt}
 use Rattle.mt_rows.proofs.Loads.{reads_on}
 use Rattle.mt_check.proofs.Descending.{risen, leaf_entry, leaf_answer, leaf_depth}
-use Rattle.mt_check.proofs.Children.{child_low, child_falls, child_depth, child_answer, rows_fit_in, ranges_fit_in, goes_next, gaps_answer, last_answer, inner_walk, still_leads, still_entered, answer_back, depth_back, walk_back, own_first, not_leaf}
+use Rattle.mt_check.proofs.Children.{child_low, child_falls, child_depth, child_answer, rows_fit_in, ranges_fit_in, goes_next, gaps_answer, last_answer, last_depth, inner_walk, still_leads, still_entered, answer_back, depth_back, walk_back, own_first, not_leaf}
 use Rattle.mt_check.proofs.walks.Walk.+walk.Goals as goal
 
 pub check_children-child-requires-clause-rise : goal.check_children-child-requires-clause-rise
@@ -44,6 +44,11 @@ pub check_children-returns-clause-answer : goal.check_children-returns-clause-an
 check_children-returns-clause-answer g t c =
     let past : length c.args.row.now.items.items ≤ c.loop-slot.slot = search rules in
     last_answer (g.R.Rows.sheet c.args.rows.now) (g.R.Rows.sheet c.loop-slot.rows) c.args.self.now c.loop-slot.self c.args.visit c.args.row.now c.loop-slot.slot c.loop-slot.below c.loop-slot.gaps_hold c.requires.left c.requires.depth c.requires.row c.requires.inner c.loop-slot.invariant past (search rules)
+
+pub check_children-returns-clause-depth : goal.check_children-returns-clause-depth
+check_children-returns-clause-depth g t c =
+    let past : length c.args.row.now.items.items ≤ c.loop-slot.slot = search rules in
+    last_depth (g.R.Rows.sheet c.args.rows.now) (g.R.Rows.sheet c.loop-slot.rows) c.args.self.now c.loop-slot.self c.args.visit c.args.row.now c.loop-slot.slot c.loop-slot.below c.loop-slot.gaps_hold c.requires.left c.requires.depth c.requires.row c.requires.inner c.loop-slot.invariant past
 
 pub check_row-returns-in_err-enter-clause-answer : goal.check_row-returns-in_err-enter-clause-answer
 check_row-returns-in_err-enter-clause-answer g t c =

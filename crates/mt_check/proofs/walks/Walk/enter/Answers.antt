@@ -12,7 +12,7 @@ returns-in-Ok-clause-ok g c =
     let visit = c.args.visit in
     let named = c.in-Some.named in
     let row : Row = record { number = named.row; kind = named.kind; items = c.check_words.new.items } in
-    let names : names_row t.kind t.rows visit.span.word ≡ true = search rules in
+    let names : names_row t.gapped t.rows visit.span.word ≡ true = search rules in
     let deep : has_depth (unwrap_or c.args.self.now.leaf_depth (depth_at visit.left)) visit.left named.kind ≡ true = search rules in
     entered t c.args.self.now visit named c.requires.left c.requires.depth c.in-Some.ensures.row c.in-Some.ensures.kind names deep row refl refl c.in-Ok.ensures.items c.in-Ok.ensures.kept
 
@@ -21,6 +21,6 @@ returns-in-Err-clause-err g c =
     let t = tree_from c.args.self.now (g.R.Rows.sheet c.args.rows.now).tree in
     let visit = c.args.visit in
     let named = c.in-Some.named in
-    let names : names_row t.kind t.rows visit.span.word ≡ true = search rules in
+    let names : names_row t.gapped t.rows visit.span.word ≡ true = search rules in
     let deep : has_depth (unwrap_or c.args.self.now.leaf_depth (depth_at visit.left)) visit.left named.kind ≡ true = search rules in
     first_broken t c.args.self.now visit named c.requires.left c.requires.depth c.in-Some.ensures.row c.in-Some.ensures.kind names deep c.in-Err.law c.in-Err.ensures.broken
