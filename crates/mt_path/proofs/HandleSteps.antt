@@ -1,8 +1,9 @@
 -- The slots before and behind an index's in its leaf, and what stands there. For the proofs of the crates above, too.
-use Rattle.std.proofs.Common.{◌≡◌, ◌≢◌, ℕ, suc, ◌+◌, ◌-◌, ◌<◌, ◌≤◌, List, Some, true, false, length, refl, sym, ap, ◌∙◌, subst, arith}
+use Rattle.std.proofs.Common.{◌≡◌, ◌≢◌, ℕ, suc, ◌+◌, ◌-◌, ◌^◌, ◌<◌, ◌≤◌, List, Some, true, false, length, refl, sym, ap, ◌∙◌, subst, arith}
 use Rattle.std.specs.Prelude.{◌↔◌, IsNone}
 use Rattle.mt_base.specs.declared.kinds.Kind.{Kind}
 use Rattle.mt_base.specs.Width.{greatest}
+use Rattle.mt_base.proofs.WidthBounds.{greatest_fits}
 use Rattle.mt_layout.specs.declared.names.RowKind.TheVariants.{Leaf}
 use Rattle.mt_layout.specs.declared.spans.Span.{Span}
 use Rattle.mt_layout.specs.Sizes.{slots_of}
@@ -101,6 +102,13 @@ module _ (t : Rooted) (kind : Kind) (tree : IsTreeOf t kind) where
         let within = fills_within leaf_of_is.min (leaf_of_is.max + 1) spans leaf_of_is.slot leaf.fills facts.used in
         let order = within.1 in let high = within.2 in let top = leaf.within in
         subst (λ (x : Span). (x.first ≤ x.last) × (x.last ≤ greatest t.table.width)) (sym span_is) (order, omega arith)
+
+    -- what is not the last index has one behind it, which is a number of the machine
+    pub one_behind : (top : ℕ) → top ≡ greatest t.table.width → handle.span.last ≢ top → (handle.span.last + 1 ≤ greatest t.table.width) × (handle.span.last + 1 < 2 ^ 64)
+    one_behind top is other =
+        let end = handle_within.1 in let fits = greatest_fits t.table.width in
+        let low : handle.span.last + 1 ≤ greatest t.table.width = omega arith in
+        (low, omega arith)
 
     pub slot_fits : handle.leaf.slot < slots_of t.table.width Leaf
     slot_fits = subst (λ (x : PathStep). x.slot < slots_of t.table.width Leaf) (sym leaf_is) (slot_low t kind leaf_of_is tree (step_of_index is.index is.some is.within))

@@ -139,7 +139,7 @@ module _ (t : laws.Tree) (h : ℕ) (stands : laws.Stands t h) (index : ℕ) (wit
       let low : depth ≤ h = omega arith in
       let law = lawful t h stands index depth (h - depth) within (omega arith) in
       let names = named x row way.named in
-      let kind : row.kind ≡ laws.kind_at t.kind (h - depth) = (let same : Some row.kind ≡ Some (laws.kind_at t.kind (h - depth)) = sym names.0 ∙ law.name.named in cc) in
+      let kind : row.kind ≡ laws.kind_on t.gapped (h - depth) = (let same : Some row.kind ≡ Some (laws.kind_on t.gapped (h - depth)) = sym names.0 ∙ law.name.named in cc) in
       subst (IsLawfulRow t.table) (sym names.1)
       (record {
         fills = subst (λ (k : Option RowKind). Fills x.first (x.last + 1) (spans_by t.table k x)) names.0 law.pivots.fills;

@@ -98,7 +98,7 @@ module _ (t : laws.Tree) (h : ℕ) (stands : laws.Stands t h) (i index : ℕ) (o
       ∙ (sym (agree.1 e below)
       ∙ sym (get_or-take d (path_in t.table t.root index) e no_step below))))
 
-  way_by : (k : RowKind) → k ≡ laws.kind_at t.kind (h - d) → IsOnWay (rooted t) index d (record { number = at.row; kind = k; min = at.min; max = at.max })
+  way_by : (k : RowKind) → k ≡ laws.kind_on t.gapped (h - d) → IsOnWay (rooted t) index d (record { number = at.row; kind = k; min = at.min; max = at.max })
   way_by k is =
       let few = low in
       let all = levels t h stands index within in
@@ -110,18 +110,18 @@ module _ (t : laws.Tree) (h : ℕ) (stands : laws.Stands t h) (i index : ℕ) (o
       }
 
   -- the last row is a leaf, and all above are of the root's kind
-  kind_by : (j : ℕ) → h - d ≡ j → (k : RowKind) → (length above + 1 ≡ length (path_in t.table t.root i) → k ≡ Leaf) → (length above + 1 ≢ length (path_in t.table t.root i) → Some k ≡ named_kind t.root) → k ≡ laws.kind_at t.kind (h - d)
+  kind_by : (j : ℕ) → h - d ≡ j → (k : RowKind) → (length above + 1 ≡ length (path_in t.table t.root i) → k ≡ Leaf) → (length above + 1 ≢ length (path_in t.table t.root i) → Some k ≡ named_kind t.root) → k ≡ laws.kind_on t.gapped (h - d)
   kind_by zero is k leaf inner =
       let all = levels t h stands i old in
       let few = low in
-      leaf (omega arith) ∙ ap (laws.kind_at t.kind) (sym is)
+      leaf (omega arith) ∙ ap (laws.kind_on t.gapped) (sym is)
   kind_by (suc j) is k leaf inner =
       let all = levels t h stands i old in
       let one : length above + 1 ≢ length (path_in t.table t.root i) = λ same. omega arith in
       let some : h ≡ suc (h - 1) = omega arith in
-      let root : Some k ≡ Some (laws.kind_at t.kind (suc j)) = inner one ∙ (root_named t h stands ∙ ap (λ (n : ℕ). Some (laws.kind_at t.kind n)) some) in
-      let same : k ≡ laws.kind_at t.kind (suc j) = cc in
-      same ∙ ap (laws.kind_at t.kind) (sym is)
+      let root : Some k ≡ Some (laws.kind_on t.gapped (suc j)) = inner one ∙ (root_named t h stands ∙ ap (λ (n : ℕ). Some (laws.kind_on t.gapped n)) some) in
+      let same : k ≡ laws.kind_on t.gapped (suc j) = cc in
+      same ∙ ap (laws.kind_on t.gapped) (sym is)
 
 -- ---- as the tree is told
 

@@ -6,7 +6,7 @@ use Rattle.mt_layout.specs.declared.names.RowKind.TheVariants.{Leaf}
 use Rattle.mt_layout.specs.Rows.{named_kind}
 use Rattle.mt_layout.specs.declared.spans.Span.{Span}
 use Rattle.mt_layout.specs.Spans.{Fills}
-use Rattle.mt_rows.specs.Spans.{Table, spans_in, inner_kind}
+use Rattle.mt_rows.specs.Spans.{Table, spans_in, inner_of}
 use Rattle.mt_rows.specs.Levels.{expand, level, Levels, IsBelow}
 use Rattle.mt_rows.specs.Trees.{by_kind}
 use Rattle.mt_rows.specs.Laws.{Tree, IsRow}
@@ -70,7 +70,7 @@ module _ (t : Tree) where
   leaf_path depth x index leads = path_of_leaf t.table depth x index (row_here zero x index leads).name.named
 
   inner_path : (depth h : ℕ) (x : Span) (index j : ℕ) → Leads (suc h) x index → path_of t.table (suc depth) x j ≡ step_in t.table x j ∷ path_of t.table depth (below t.table x j) j
-  inner_path depth h x index j leads = path_of_inner t.table depth x j (inner_kind t.kind) (row_here (suc h) x index leads).name.named (inner_no_leaf t.kind)
+  inner_path depth h x index j leads = path_of_inner t.table depth x j (inner_of t.gapped) (row_here (suc h) x index leads).name.named (inner_no_leaf t.gapped)
 
   pub path_length : (depth h : ℕ) (x : Span) (index : ℕ) → h < depth → Leads h x index → length (path_of t.table depth x index) ≡ h + 1
   path_length zero h x index deep leads = absurd (omega arith)
@@ -139,7 +139,7 @@ module _ (t : Tree) where
   row_below zero h x index low leads = refl
   row_below (suc d) zero x index low leads = absurd (omega arith)
   row_below (suc d) (suc h) x index low leads = (
-    (λ leaf. inner_not_named t.kind (sym (row_here (suc h) x index leads).name.named ∙ leaf)),
+    (λ leaf. inner_not_named t.gapped (sym (row_here (suc h) x index leads).name.named ∙ leaf)),
     (
       slot_for (spans_in t.table x) index,
       below t.table x index,

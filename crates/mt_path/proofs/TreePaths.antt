@@ -10,7 +10,7 @@ use Rattle.mt_layout.specs.Spans.{Fills}
 use Rattle.mt_layout.proofs.SpanLists.{fills_split}
 use Rattle.mt_rows.specs.Spans.{spans_in, root_span}
 use Rattle.mt_rows.specs.Levels.{level, IsBelow}
-use Rattle.mt_rows.specs.Laws.{Tree, IsRow, Stands, top_of, kind_at}
+use Rattle.mt_rows.specs.Laws.{Tree, IsRow, Stands, top_of, kind_on}
 use Rattle.mt_rows.specs.Publish.{IsSlotOf}
 use Rattle.mt_rows.specs.Sheet.{Rooted}
 use Rattle.mt_path.specs.declared.paths.PathStep.{PathStep}
@@ -82,11 +82,11 @@ module _ (t : Tree) (h : ℕ) (stands : Stands t h) where
       subst (λ (s : PathStep). s.slot < length (spans_in t.table row)) (sym (step index d within low)) used
 
   pub is_slot : (index d k : ℕ) → index ≤ top_of t → h ≡ d + k
-      → IsSlotOf (rooted t) (step_of t d index).row (slot_column (slots_of t.table.width (kind_at t.kind k)) (step_of t d index).slot)
+      → IsSlotOf (rooted t) (step_of t d index).row (slot_column (slots_of t.table.width (kind_on t.gapped k)) (step_of t d index).slot)
   is_slot index d k within high = record {
     depth = d;
     at = row_of t d index;
-    kind = kind_at t.kind k;
+    kind = kind_on t.gapped k;
     slot = (step_of t d index).slot;
     reached = reached index d within (omega arith);
     named = (lawful index d k within high).name.named;

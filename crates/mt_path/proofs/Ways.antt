@@ -74,18 +74,18 @@ some_tree t (inl empty) some = absurd (some empty)
 some_tree t (inr stands) some = stands
 
 -- of a tree that is not empty the root word is the name of a row
-pub root_named : (t : laws.Tree) (h : ℕ) → laws.Stands t h → named_kind t.root ≡ Some (laws.kind_at t.kind h)
-root_named t h stands = subst (λ (x : Span). named_kind x.word ≡ Some (laws.kind_at t.kind h)) (row_on_top t.table (top_row t) 0) (lawful t h stands 0 0 h (omega arith) (omega arith)).name.named
+pub root_named : (t : laws.Tree) (h : ℕ) → laws.Stands t h → named_kind t.root ≡ Some (laws.kind_on t.gapped h)
+root_named t h stands = subst (λ (x : Span). named_kind x.word ≡ Some (laws.kind_on t.gapped h)) (row_on_top t.table (top_row t) 0) (lawful t h stands 0 0 h (omega arith) (omega arith)).name.named
 
 no_row_by : (t : laws.Tree) (o : Option Row) → laws.IsTree t → o ≡ row_for (top_row t) → IsNone o ↔ (t.root ≡ 0)
 no_row_by t o (inl empty) is =
     let none : row_for (top_row t) ≡ None = ap (λ (k : Option RowKind). option_map (row_as (top_row t)) k) (ap named_kind empty) in
     ((λ _. empty), (λ _. ap is_some (is ∙ none)))
 no_row_by t o (inr (h, stands)) is =
-    let some : row_for (top_row t) ≡ Some (row_as (top_row t) (laws.kind_at t.kind h)) = sym (row_named (top_row t) (laws.kind_at t.kind h) (root_named t h stands)) in
+    let some : row_for (top_row t) ≡ Some (row_as (top_row t) (laws.kind_on t.gapped h)) = sym (row_named (top_row t) (laws.kind_on t.gapped h) (root_named t h stands)) in
     let test : is_some o ≡ true = ap is_some (is ∙ some) in (
       (λ none. let clash : true ≡ false = sym test ∙ none in absurd (cc)),
-      (λ empty. let clash : Some (laws.kind_at t.kind h) ≡ None = sym (root_named t h stands) ∙ ap named_kind empty in absurd (cc)),
+      (λ empty. let clash : Some (laws.kind_on t.gapped h) ≡ None = sym (root_named t h stands) ∙ ap named_kind empty in absurd (cc)),
     )
 
 -- a walk enters no row where the tree is empty
@@ -131,8 +131,8 @@ module _ (t : laws.Tree) (h : ℕ) (stands : laws.Stands t h) (index : ℕ) (wit
   names : (named_kind x.word ≡ Some row.kind) × (row ≡ row_as x row.kind)
   names = named x row way.named
 
-  is_kind : row.kind ≡ laws.kind_at t.kind (h - depth)
-  is_kind = let one = names.0 in let other = law.name.named in let same : Some row.kind ≡ Some (laws.kind_at t.kind (h - depth)) = sym one ∙ other in cc
+  is_kind : row.kind ≡ laws.kind_on t.gapped (h - depth)
+  is_kind = let one = names.0 in let other = law.name.named in let same : Some row.kind ≡ Some (laws.kind_on t.gapped (h - depth)) = sym one ∙ other in cc
 
   place_by : IsPlace (rooted t) row.number 0
   place_by =
@@ -149,10 +149,10 @@ module _ (t : laws.Tree) (h : ℕ) (stands : laws.Stands t h) (index : ℕ) (wit
 
   -- a leaf stands at the end
   leaf_last : row.kind ≡ Leaf → h ≡ depth
-  leaf_last leaf = let none = leaf_low t.kind (h - depth) (sym is_kind ∙ leaf) in let few = low in omega arith
+  leaf_last leaf = let none = leaf_low t.gapped (h - depth) (sym is_kind ∙ leaf) in let few = low in omega arith
 
   inner_by : (k : ℕ) → h - depth ≡ k → row.kind ≢ Leaf → depth < h
-  inner_by zero is other = absurd (other (is_kind ∙ ap (laws.kind_at t.kind) is))
+  inner_by zero is other = absurd (other (is_kind ∙ ap (laws.kind_on t.gapped) is))
   inner_by (suc k) is other = omega arith
 
   -- and no other row does

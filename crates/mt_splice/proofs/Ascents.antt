@@ -6,8 +6,8 @@ use Rattle.mt_layout.specs.declared.spans.Span.{Span}
 use Rattle.mt_layout.specs.Sizes.{slots_of}
 use Rattle.mt_layout.specs.Spans.{spans_from, Fills}
 use Rattle.mt_layout.proofs.SpanLists.{after, some_filled, none_filled, length-spans_from, spans-take, spans-drop, fills_end, last_ends}
-use Rattle.mt_rows.specs.Spans.{Table, inner_kind}
-use Rattle.mt_rows.specs.Laws.{top_of, kind_at}
+use Rattle.mt_rows.specs.Spans.{Table, inner_of}
+use Rattle.mt_rows.specs.Laws.{top_of, kind_on}
 use Rattle.mt_rows.specs.Sheet.{Rooted}
 use Rattle.mt_path.specs.declared.paths.PathStep.{PathStep}
 use Rattle.mt_path.specs.Paths.{path_in, step_at}
@@ -79,7 +79,7 @@ module _ {start : Start} {w : Work} {t : Rooted} {left right : List PathStep} {d
   from_within : from ≤ top_of start.tree
   from_within = let order = climbed.paths.order in let within = climbed.paths.within in omega arith
 
-  kind_here : inner_kind start.tree.kind ≡ kind_at start.tree.kind (suc height)
+  kind_here : inner_of start.tree.gapped ≡ kind_on start.tree.gapped (suc height)
   kind_here = refl
 
   pub left_deep : depth < length left
@@ -94,7 +94,7 @@ module _ {start : Start} {w : Work} {t : Rooted} {left right : List PathStep} {d
   pub right_number : (first_row ≤ (step_at right depth).row) × ((step_at right depth).row < first_row + t.rows)
   right_number = row_now may.is_now (row_number start w holds right to climbed.paths.within climbed.paths.is_right depth (suc height) levels_here)
 
-  pub left_slot : (step_at left depth).slot ≤ slots_of t.table.width (inner_kind start.tree.kind)
+  pub left_slot : (step_at left depth).slot ≤ slots_of t.table.width (inner_of start.tree.gapped)
   left_slot =
       let few = left_few start w left right depth height new_spans climbed in
       let used = slot_used start w left right depth height new_spans climbed in
@@ -104,22 +104,22 @@ module _ {start : Start} {w : Work} {t : Rooted} {left right : List PathStep} {d
   -- ---- their items
 
   abbrev left_items : List Item
-  left_items = items_of_row t.table (inner_kind start.tree.kind) (step_at left depth).row (step_at left depth).max
+  left_items = items_of_row t.table (inner_of start.tree.gapped) (step_at left depth).row (step_at left depth).max
 
   abbrev right_items : List Item
-  right_items = items_of_row t.table (inner_kind start.tree.kind) (step_at right depth).row (step_at right depth).max
+  right_items = items_of_row t.table (inner_of start.tree.gapped) (step_at right depth).row (step_at right depth).max
 
   abbrev left_spans : List Span
-  left_spans = spans_on (now start w).table (kind_at start.tree.kind (suc height)) (step_at left depth)
+  left_spans = spans_on (now start w).table (kind_on start.tree.gapped (suc height)) (step_at left depth)
 
   abbrev right_spans : List Span
-  right_spans = spans_on (now start w).table (kind_at start.tree.kind (suc height)) (step_at right depth)
+  right_spans = spans_on (now start w).table (kind_on start.tree.gapped (suc height)) (step_at right depth)
 
   left_are : left_spans ≡ spans_from (step_at left depth).min left_items
-  left_are = spans_by_items start w holds left from from_within climbed.paths.is_left depth (suc height) levels_here t.table (inner_kind start.tree.kind) left_items (table_now may.is_now) kind_here refl
+  left_are = spans_by_items start w holds left from from_within climbed.paths.is_left depth (suc height) levels_here t.table (inner_of start.tree.gapped) left_items (table_now may.is_now) kind_here refl
 
   right_are : right_spans ≡ spans_from (step_at right depth).min right_items
-  right_are = spans_by_items start w holds right to climbed.paths.within climbed.paths.is_right depth (suc height) levels_here t.table (inner_kind start.tree.kind) right_items (table_now may.is_now) kind_here refl
+  right_are = spans_by_items start w holds right to climbed.paths.within climbed.paths.is_right depth (suc height) levels_here t.table (inner_of start.tree.gapped) right_items (table_now may.is_now) kind_here refl
 
   -- ---- what stands behind the right path's slot
 
@@ -174,9 +174,9 @@ module _ {start : Start} {w : Work} {t : Rooted} {left right : List PathStep} {d
   fills_behind_it : Fills (behind_of right (suc depth)) (behind_of right depth) (drop ((step_at right depth).slot + 1) (spans_from (step_at right depth).min right_items))
   fills_behind_it = subst (λ (xs : List Span). Fills (behind_of right (suc depth)) (behind_of right depth) (drop ((step_at right depth).slot + 1) xs)) right_are fills_right
 
-  row_is_told : (path : List PathStep) (i : ℕ) → i ≤ top_of start.tree → path ≡ path_in start.tree.table start.tree.root i → AreTold start w height (step_at path depth).min (items_of_row t.table (inner_kind start.tree.kind) (step_at path depth).row (step_at path depth).max)
+  row_is_told : (path : List PathStep) (i : ℕ) → i ≤ top_of start.tree → path ≡ path_in start.tree.table start.tree.root i → AreTold start w height (step_at path depth).min (items_of_row t.table (inner_of start.tree.gapped) (step_at path depth).row (step_at path depth).max)
   row_is_told path i within is_path =
-      subst (λ (table : Table). AreTold start w height (step_at path depth).min (items_of_row table (inner_kind start.tree.kind) (step_at path depth).row (step_at path depth).max)) (sym (table_now may.is_now))
+      subst (λ (table : Table). AreTold start w height (step_at path depth).min (items_of_row table (inner_of start.tree.gapped) (step_at path depth).row (step_at path depth).max)) (sym (table_now may.is_now))
       (row_told start w holds may.had_gaps path i within is_path depth (suc height) levels_here)
 
   run_told : AreTold start w height (begin_of left depth) (take (step_at left depth).slot left_items ++ (new ++ drop ((step_at right depth).slot + 1) right_items))
@@ -195,7 +195,7 @@ module _ {start : Start} {w : Work} {t : Rooted} {left right : List PathStep} {d
     count_run : length run ≡ length gathered_spans
     count_run = sym (length-spans_from (begin_of left depth) run) ∙ ap length spans_are
 
-    pub goes_up : MayTakeIn start w t (inner_kind start.tree.kind) left right depth (suc height) run
+    pub goes_up : MayTakeIn start w t (inner_of start.tree.gapped) left right depth (suc height) run
     goes_up = record {
       is_now = may.is_now;
       of_kind = kind_here;

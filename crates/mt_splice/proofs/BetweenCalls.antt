@@ -2,13 +2,12 @@
 use Rattle.std.proofs.Common.{◌≡◌, ◌≢◌, ℕ, zero, suc, ◌+◌, ◌*◌, ◌≤◌, List, Option, true, false, length, refl, sym, ap, ◌∙◌, subst, inl, inr, arith}
 use Rattle.std.proofs.lemmas.Bool.{le-ltb}
 use Rattle.mt_base.specs.declared.kinds.Kind.{Kind}
-use Rattle.mt_base.specs.declared.kinds.Kind.TheVariants as trees
 use Rattle.mt_base.specs.declared.calls.Call.{Call}
 use Rattle.mt_base.specs.declared.calls.Call.TheVariants.{Store, Clear}
 use Rattle.mt_base.specs.declared.replies.Reply.{Reply}
 use Rattle.mt_base.specs.declared.replies.Reply.TheVariants as reply
 use Rattle.mt_base.specs.declared.ranges.Range.{Range}
-use Rattle.mt_base.specs.Call.{acted}
+use Rattle.mt_base.specs.Call.{acted, finds_room}
 use Rattle.mt_base.specs.Entry.{reserved}
 use Rattle.mt_base.specs.Map.{over}
 use Rattle.mt_base.specs.Width.{greatest, greatest_of, deepest, most_taken}
@@ -61,12 +60,12 @@ lawful_by t (inr (h, stands, parent, levels)) (inr (k, stood, gaps)) =
     let same : k ≡ h = (let one = height_is t k stood in let two = height_is t h stands in omega arith) in
     inr (h, stands, parent, tended_by t h (root_of t) levels (subst (λ (j : ℕ). Levels (GapLaw t) t.table j (root_of t)) same gaps))
 
-gapless : (t : Tree) → t.kind ≡ trees.Range → (h : ℕ) (x : Span) → GapLaw t h x
+gapless : (t : Tree) → t.gapped ≡ false → (h : ℕ) (x : Span) → GapLaw t h x
 gapless t is zero x = tt
 gapless t is (suc h) x = rw is tt
 
--- a tree of ranges has no gap words
-pub has_no_gaps : (t : Tree) → t.kind ≡ trees.Range → HasParents t → HasGaps t
+-- a tree without gaps has no gap words
+pub has_no_gaps : (t : Tree) → t.gapped ≡ false → HasParents t → HasGaps t
 has_no_gaps t is (inl empty) = inl empty
 has_no_gaps t is (inr (h, stands, parent, levels)) = inr (h, stands, levels_all (GapLaw t) t.table (gapless t is) h (root_of t))
 
@@ -238,21 +237,21 @@ module _ {kind : Kind} {s s' s″ : Sheet} {book book' : Book} {number : ℕ} {c
   ended_is : s'.ended ≡ s.ended
   ended_is = ap (λ (x : Sheet). x.ended) spliced.rest
 
-  -- in a tree of ranges
-  done_ready : kind ≡ trees.Range → IsBetweenCalls kind (finished s' call reply) book'
-  done_ready range = record {
+  -- in a tree without gaps
+  done_ready : finds_room kind ≡ false → IsBetweenCalls kind (finished s' call reply) book'
+  done_ready gapless_kind = record {
     idle = refl;
     told = subst (λ (k : Option Kind). IsTold k kind) (sym (ap (λ (x : Sheet). x.kind) spliced.rest)) told;
     kept = record {
-      lawful = record { width = spliced.tree.width; words = lawful_by (tree_as kind s'.tree) spliced.parents (has_no_gaps (tree_as kind s'.tree) range spliced.parents) };
+      lawful = record { width = spliced.tree.width; words = lawful_by (tree_as kind s'.tree) spliced.parents (has_no_gaps (tree_as kind s'.tree) gapless_kind spliced.parents) };
       live = spliced.live;
       none_buried = spliced.none_buried;
       booked = subst (IsBookOf s'.tree s'.lives s'.cleared book') (let same = ended_is in omega arith) spliced.booked;
     };
   }
 
-  pub ready_again : kind ≡ trees.Range → IsBetweenCalls kind s″ book'
-  ready_again range = subst (λ (x : Sheet). IsBetweenCalls kind x book') (sym ends) (done_ready range)
+  pub ready_again : finds_room kind ≡ false → IsBetweenCalls kind s″ book'
+  ready_again gapless_kind = subst (λ (x : Sheet). IsBetweenCalls kind x book') (sym ends) (done_ready gapless_kind)
 
   pub map_after_call : map_by s″.tree ≡ (acted kind (map_by s.tree) call).0
   map_after_call = ap (λ (x : Sheet). map_by x.tree) ends ∙ spliced.map

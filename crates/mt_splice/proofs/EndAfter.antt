@@ -67,7 +67,7 @@ fewest_kept : (is_new : ℕ → Bool) (t : Tree) (words : List ℕ) (o : Option 
 fewest_kept is_new t words None keep few = few
 fewest_kept is_new t words (Some h) keep few =
     let t' = tree_with t words in
-    fewest_later is_new is_new t.kind t.table t'.table refl h (root_of t)
+    fewest_later is_new is_new t.gapped t.table t'.table refl h (root_of t)
     (levels_all (Shared t.table t'.table) t.table (λ _ x. same_spans t.table t'.table x refl (keep (row_in x.word))) h (root_of t))
     (levels_all (SameNews is_new is_new) t.table (λ _ x. refl) h (root_of t)) few
 

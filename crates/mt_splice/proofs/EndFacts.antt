@@ -76,7 +76,7 @@ root_counts t h stands = reached.on_level_reached t h stands h (root_span t.tabl
 
 pub root_named : (t : laws.Tree) (h : ℕ) → laws.Stands t h → t.root ≢ 0
 root_named t h stands =
-    name_some t.root (laws.kind_at t.kind h) (reached.on_level_law t h stands h (root_span t.table t.root) (record { depth = zero; height = omega arith; one = inl refl })).name.named
+    name_some t.root (laws.kind_on t.gapped h) (reached.on_level_law t h stands h (root_span t.table t.root) (record { depth = zero; height = omega arith; one = inl refl })).name.named
 
 module _ (f : ends.Finish) (s' : Sheet) (o : Outcome f s') where
   abbrev b : Before
@@ -356,7 +356,7 @@ module _ (f : ends.Finish) (s' : Sheet) (o : Outcome f s') where
     child_was = counted_now (row_in place.child.word) (reached.on_level_reached t h stands place.low place.child (child_on_level t h row col (ends.words_now f) stands place 0))
 
     child_named : place.child.word ≢ 0
-    child_named = name_some place.child.word (laws.kind_at t.kind place.low) (reached.on_level_law t h stands place.low place.child (child_on_level t h row col (ends.words_now f) stands place 0)).name.named
+    child_named = name_some place.child.word (laws.kind_on t.gapped place.low) (reached.on_level_law t h stands place.low place.child (child_on_level t h row col (ends.words_now f) stands place 0)).name.named
 
     row_law : laws.IsRow t (suc place.low) place.at
     row_law = reached.on_level_law t h stands (suc place.low) place.at (at_on_level t h row col (ends.words_now f) stands place 0)
@@ -364,7 +364,7 @@ module _ (f : ends.Finish) (s' : Sheet) (o : Outcome f s') where
     word_now : column t.table row col ≡ place.child.word
     word_now =
         (λ i. column t.table (sym place.number i) (place.column i))
-        ∙ slot_word t.table (laws.kind_at t.kind (suc place.low)) place.at place.child place.slot row_law.name.named place.here.holds
+        ∙ slot_word t.table (laws.kind_on t.gapped (suc place.low)) place.at place.child place.slot row_law.name.named place.here.holds
 
     word_was : (0 < col) × (col < columns b.sheet.tree.table.width) → word_at b.sheet.tree row col ≡ place.child.word
     word_was within =
@@ -448,7 +448,7 @@ module _ (f : ends.Finish) (s' : Sheet) (o : Outcome f s') where
   fewest_as (Some h) standing few = inr (
     h,
     standing,
-    fewest_later (is_taken w) (is_unreached b.sheet.tree) b.kind s'.tree.table s'.tree.table refl h (root_of tree_now)
+    fewest_later (is_taken w) (is_unreached b.sheet.tree) tree_now.gapped s'.tree.table s'.tree.table refl h (root_of tree_now)
         (levels_all (Shared s'.tree.table s'.tree.table) s'.tree.table (λ _ x. refl) h (root_of tree_now))
         (levels_from (SameNews (is_taken w) (is_unreached b.sheet.tree)) s'.tree.table h (root_of tree_now) h 0 (omega arith)
         (λ k x _ on. new_is_taken (row_in x.word) (count_reached tree_now (Some h) (row_in x.word) standing (reached.on_level_reached tree_now h standing k x on)))) few,

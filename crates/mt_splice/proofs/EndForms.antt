@@ -4,9 +4,9 @@ use Rattle.mt_layout.specs.declared.spans.Span.{Span}
 use Rattle.mt_free.specs.Book.{Book}
 use Rattle.mt_rows.specs.declared.rows.Place.TheVariants.{Root, Slot}
 use Rattle.mt_rows.specs.Levels.{is_row_of}
-use Rattle.mt_rows.specs.Laws.{Tree, HasWords, kind_at}
+use Rattle.mt_rows.specs.Laws.{Tree, HasWords, kind_on}
 use Rattle.mt_rows.specs.Sheet.{Sheet}
-use Rattle.mt_rows.specs.Publish.{tree_as, with_published}
+use Rattle.mt_rows.specs.Publish.{tree_as, tree_on, with_published}
 use Rattle.mt_path.specs.declared.paths.PathStep.{PathStep}
 use Rattle.mt_splice.specs.steps.Seen.{passing}
 use Rattle.mt_splice.specs.steps.Work.{Start, Work, tree_with, now, times_in}
@@ -33,12 +33,12 @@ module _ {b : Before} {start : Start} {s : Sheet} {book : Book} {w : Work} (was 
 
   -- in the slot of a path's row
   pub ends_in_slot : (depth low word : ℕ) (step : PathStep) → start.height ≡ depth + suc low → IsStepIn (now start w) depth step → passing (is_row_of step.row) w.gone ≡ 0
-      → IsReplaced start.tree (with_step (now start w) (kind_at start.tree.kind (suc low)) step word) start.map w.taken w.gone (Some start.height) (Some start.height)
-      → IsReplaced start.tree (tree_as b.kind (with_published s.tree (Slot step.row (column_of (now start w) (kind_at start.tree.kind (suc low)) step)) word)) start.map w.taken w.gone (Some start.height) (Some start.height)
-      × IsEndPlace start w (Some start.height) (Slot step.row (column_of (now start w) (kind_at start.tree.kind (suc low)) step))
+      → IsReplaced start.tree (with_step (now start w) (kind_on start.tree.gapped (suc low)) step word) start.map w.taken w.gone (Some start.height) (Some start.height)
+      → IsReplaced start.tree (tree_as b.kind (with_published s.tree (Slot step.row (column_of (now start w) (kind_on start.tree.gapped (suc low)) step)) word)) start.map w.taken w.gone (Some start.height) (Some start.height)
+      × IsEndPlace start w (Some start.height) (Slot step.row (column_of (now start w) (kind_on start.tree.gapped (suc low)) step))
   ends_in_slot depth low word step levels at kept replaced = (
     subst
-        (λ (t : Tree). IsReplaced start.tree (tree_as t.kind (with_published (words_of t) (Slot step.row (column_of (now start w) (kind_at start.tree.kind (suc low)) step)) word)) start.map w.taken w.gone (Some start.height) (Some start.height))
+        (λ (t : Tree). IsReplaced start.tree (tree_on t.gapped (with_published (words_of t) (Slot step.row (column_of (now start w) (kind_on start.tree.gapped (suc low)) step)) word)) start.map w.taken w.gone (Some start.height) (Some start.height))
         (now_is was progress) replaced,
     (record { depth = depth; low = low; slot = step.slot; at = at.row; child = at.child; levels = levels; here = at.at; number = at.number; column = refl }, kept),
   )
@@ -47,16 +47,16 @@ module _ {b : Before} {start : Start} {s : Sheet} {book : Book} {w : Work} (was 
   pub gaps_at_root : (is_new : ℕ → Bool) (new : Option ℕ) (word : ℕ) → GapsBeside start is_new (with_root (now start w) word) new → GapsBeside start is_new (tree_as b.kind (with_published s.tree Root word)) new
   gaps_at_root is_new new word gaps = subst (λ (t : Tree). GapsBeside start is_new (with_root t word) new) (now_is was progress) gaps
 
-  pub gaps_in_slot : (is_new : ℕ → Bool) (low word : ℕ) (step : PathStep) (new : Option ℕ) → GapsBeside start is_new (with_step (now start w) (kind_at start.tree.kind (suc low)) step word) new
-      → GapsBeside start is_new (tree_as b.kind (with_published s.tree (Slot step.row (column_of (now start w) (kind_at start.tree.kind (suc low)) step)) word)) new
+  pub gaps_in_slot : (is_new : ℕ → Bool) (low word : ℕ) (step : PathStep) (new : Option ℕ) → GapsBeside start is_new (with_step (now start w) (kind_on start.tree.gapped (suc low)) step word) new
+      → GapsBeside start is_new (tree_as b.kind (with_published s.tree (Slot step.row (column_of (now start w) (kind_on start.tree.gapped (suc low)) step)) word)) new
   gaps_in_slot is_new low word step new gaps =
-      subst (λ (t : Tree). GapsBeside start is_new (tree_as t.kind (with_published (words_of t) (Slot step.row (column_of (now start w) (kind_at start.tree.kind (suc low)) step)) word)) new) (now_is was progress) gaps
+      subst (λ (t : Tree). GapsBeside start is_new (tree_on t.gapped (with_published (words_of t) (Slot step.row (column_of (now start w) (kind_on start.tree.gapped (suc low)) step)) word)) new) (now_is was progress) gaps
 
   -- what the row there tells
-  pub tells_in_slot : (low word gap : ℕ) (step : PathStep) → TellsBelow b.kind (words_of (with_step (now start w) (kind_at start.tree.kind (suc low)) step word)) word gap
-      → TellsBelow b.kind (with_published s.tree (Slot step.row (column_of (now start w) (kind_at start.tree.kind (suc low)) step)) word) word gap
+  pub tells_in_slot : (low word gap : ℕ) (step : PathStep) → TellsBelow b.kind (words_of (with_step (now start w) (kind_on start.tree.gapped (suc low)) step word)) word gap
+      → TellsBelow b.kind (with_published s.tree (Slot step.row (column_of (now start w) (kind_on start.tree.gapped (suc low)) step)) word) word gap
   tells_in_slot low word gap step tells =
-      subst (λ (t : Tree). TellsBelow b.kind (with_published (words_of t) (Slot step.row (column_of (now start w) (kind_at start.tree.kind (suc low)) step)) word) word gap) (now_is was progress) tells
+      subst (λ (t : Tree). TellsBelow b.kind (with_published (words_of t) (Slot step.row (column_of (now start w) (kind_on start.tree.gapped (suc low)) step)) word) word gap) (now_is was progress) tells
 
   -- nothing is left
   pub ends_empty : start.map ≡ [] → w.taken ≡ [] → ((p : ℕ → Span → Bool) → passing p w.gone ≡ times_in p start.tree start.height)

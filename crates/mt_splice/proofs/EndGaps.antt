@@ -11,7 +11,7 @@ use Rattle.mt_layout.specs.Rows.{row_in}
 use Rattle.mt_layout.specs.Columns.{gap_column}
 use Rattle.mt_layout.specs.Sizes.{slots_of, gaps_of}
 use Rattle.mt_layout.proofs.RowSizes.{sizes, some_gaps_of}
-use Rattle.mt_rows.specs.Spans.{Table, column, inner_kind, spans_in}
+use Rattle.mt_rows.specs.Spans.{Table, column, inner_of, spans_in}
 use Rattle.mt_rows.specs.Levels.{expand, Levels}
 use Rattle.mt_rows.specs.Laws.{Tree, IsRow, GapLaw, top_of}
 use Rattle.mt_rows.specs.Gaps.{GapsFromBut, GapLawButBy, KeepsGaps}
@@ -82,7 +82,7 @@ module _ (is_new : ℕ → Bool) (index : ℕ) (t : Tree) (words : List ℕ) (ke
         from_but h row (slot + 1) xs (omega arith) law.1,
       )
 
-  but_of_kind : (kind : RowKind) (h : ℕ) (x : Span) → kind ≡ inner_kind t.kind → IsRow t (suc h) x → GapLawButBy index kind t.table h x → GapLawButBy index kind t'.table h x
+  but_of_kind : (kind : RowKind) (h : ℕ) (x : Span) → kind ≡ inner_of t.gapped → IsRow t (suc h) x → GapLawButBy index kind t.table h x → GapLawButBy index kind t'.table h x
   but_of_kind Leaf h x is row law = tt
   but_of_kind Inner h x is row law = tt
   but_of_kind Gapped h x is row law =
@@ -93,7 +93,7 @@ module _ (is_new : ℕ → Bool) (index : ℕ) (t : Tree) (words : List ℕ) (ke
   keeps_then : (h : ℕ) (x : Span) → IsRow t h x → KeepsGaps is_new index t h x → KeepsGaps is_new index t' h x
   keeps_then zero x row keeps = record { beside = tt; new = λ _. tt }
   keeps_then (suc h) x row keeps = record {
-    beside = but_of_kind (inner_kind t.kind) h x refl row keeps.beside;
+    beside = but_of_kind (inner_of t.gapped) h x refl row keeps.beside;
     new = λ is. gap_law_stays t words h x row (keep (row_in x.word)) (levels_all (Kept t words) t.table (λ _ y. keep (row_in y.word)) h (spans_in t.table x)) (keeps.new is);
   }
 

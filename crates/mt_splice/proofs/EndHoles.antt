@@ -8,7 +8,7 @@ use Rattle.mt_layout.specs.Rows.{row_in}
 use Rattle.mt_rows.specs.declared.rows.Place.TheVariants.{Slot}
 use Rattle.mt_rows.specs.Spans.{Table, spans_in}
 use Rattle.mt_rows.specs.Levels.{level}
-use Rattle.mt_rows.specs.Laws.{Tree, HasWords, Stands, kind_at}
+use Rattle.mt_rows.specs.Laws.{Tree, HasWords, Stands, kind_on}
 use Rattle.mt_rows.specs.Sheet.{Rooted}
 use Rattle.mt_rows.specs.Publish.{SameHoles, StandsAt, with_published}
 use Rattle.mt_rows.specs.Replacement.{root_of}
@@ -53,7 +53,7 @@ module _ (t : Tree) (h row col : ℕ) (has : HasWords t) (stands : Stands t h) (
   }
 
   child_some : place.child.word ≢ 0
-  child_some = name_some place.child.word (kind_at t.kind place.low) (reached.on_level_law t h stands place.low place.child child_on_level).name.named
+  child_some = name_some place.child.word (kind_on t.gapped place.low) (reached.on_level_law t h stands place.low place.child child_on_level).name.named
 
   -- what is stored is the tree with another child
   is_store : with_published (words_of t) (Slot row col) word ≡ words_of (store.after_store st)

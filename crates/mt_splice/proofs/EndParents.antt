@@ -313,8 +313,8 @@ module _ (f : ends.Finish) where
           old = subst (λ (n : ℕ). is_taken w n ≡ false) (place.number ∙ rows) (ends.old_is_not_taken f (row_in place.at.word) was);
         }
       where
-        kind_here : (low : ℕ) → laws.kind_at (now f.start w).kind (suc low) ≡ (inner_kind b.kind)
-        kind_here low = ap (λ (t : laws.Tree). laws.kind_at t.kind (suc low)) f.may.case.was.tree ∙ inner low
+        kind_here : (low : ℕ) → laws.kind_on (now f.start w).gapped (suc low) ≡ (inner_kind b.kind)
+        kind_here low = ap (λ (t : laws.Tree). laws.kind_on t.gapped (suc low)) f.may.case.was.tree ∙ inner low
 
     top_at : (row col : ℕ) → f.place ≡ Slot row col → TopAt row col
     top_at row col is = top_in f.may.old f.place row col refl refl is f.may.at
@@ -376,8 +376,8 @@ module _ (f : ends.Finish) where
               )
             ]
           where
-            kind_here : (low : ℕ) → laws.kind_at (now f.start w).kind (suc low) ≡ (inner_kind b.kind)
-            kind_here low = ap (λ (t : laws.Tree). laws.kind_at t.kind (suc low)) f.may.case.was.tree ∙ inner low
+            kind_here : (low : ℕ) → laws.kind_on (now f.start w).gapped (suc low) ≡ (inner_kind b.kind)
+            kind_here low = ap (λ (t : laws.Tree). laws.kind_on t.gapped (suc low)) f.may.case.was.tree ∙ inner low
 
     kept_children : (k i : ℕ) (x y : Span) → reached.OnLevel later.table h (root_of later) (suc k) x → ends.taken_count f (row_in x.word) ≡ 0 → slice_get (spans_in later.table x) i ≡ Some y → IsOldChild x i y ⊎ IsTopChild x i y
     kept_children k i x y on none get = kept_in f.may.old f.place k i x y refl refl f.may.at on none get

@@ -21,7 +21,7 @@ use Rattle.mt_rows.specs.declared.rows.Place.{Place}
 use Rattle.mt_rows.specs.declared.rows.Place.TheVariants.{Root, Slot}
 use Rattle.mt_rows.specs.Spans.{spans_in}
 use Rattle.mt_rows.specs.Levels.{tally, is_row_of}
-use Rattle.mt_rows.specs.Laws.{HasWords, Stands, kind_at}
+use Rattle.mt_rows.specs.Laws.{HasWords, Stands, kind_on}
 use Rattle.mt_rows.specs.Laws as laws
 use Rattle.mt_rows.specs.Sheet.{Rooted, Sheet, life_of, is_buried}
 use Rattle.mt_rows.specs.Publish.{tree_as, IsTold, LiveAreReached, is_reached, IsReached, map_by, StandsAt, KeepsPlace, SameHoles, IsKnown, Changes, MayPublish, IsPlaceToPublish, IsSlotOf, with_published}
@@ -281,14 +281,14 @@ module _ (f : Finish) where
           first = here.0;
           last = here.1;
           column = subst (λ (c : ℕ). c < columns s.tree.table.width) (sym place.column)
-              (subst (λ (v : Width). slot_column (slots_of t.table.width (kind_at t.kind (suc place.low))) place.slot < columns v) (sym (ap (λ (v : Rooted). v.table.width) tree_is))
-              (slot_within t.table.width (kind_at t.kind (suc place.low)) place.slot (omega arith)));
+              (subst (λ (v : Width). slot_column (slots_of t.table.width (kind_on t.gapped (suc place.low))) place.slot < columns v) (sym (ap (λ (v : Rooted). v.table.width) tree_is))
+              (slot_within t.table.width (kind_on t.gapped (suc place.low)) place.slot (omega arith)));
         },
         here.2,
         subst (λ (v : Rooted). IsSlotOf v (row_in place.at.word) col) (sym tree_is) (record {
           depth = place.depth;
           at = place.at;
-          kind = kind_at t.kind (suc place.low);
+          kind = kind_on t.gapped (suc place.low);
           slot = place.slot;
           reached = reached.below_root t h stands place.depth (suc place.low) place.at place.levels (at_one t h row col words_now stands place 0);
           named = law.name.named;

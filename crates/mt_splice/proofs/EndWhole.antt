@@ -12,7 +12,7 @@ use Rattle.mt_rows.specs.declared.rows.Life.{Life}
 use Rattle.mt_rows.specs.declared.rows.Life.TheVariants.{New, Live, Dead}
 use Rattle.mt_rows.specs.declared.rows.Place.{Place}
 use Rattle.mt_rows.specs.declared.rows.Place.TheVariants.{Root, Slot}
-use Rattle.mt_rows.specs.Spans.{column, inner_kind}
+use Rattle.mt_rows.specs.Spans.{column, inner_kind, inner_of}
 use Rattle.mt_rows.specs.Levels.{is_row_of}
 use Rattle.mt_rows.specs.Laws as laws
 use Rattle.mt_rows.specs.Sheet.{Sheet, life_of, word_at}
@@ -121,9 +121,9 @@ module _ {b : Before} {start : Start} {s : Sheet} {book : Book} {inner : List Ne
   may_publish_end = ends.may_publish f
 
   -- the kind of the inner rows, as the caller names it
-  module _ {kind : RowKind} (is : kind ≡ inner_kind start.tree.kind) where
+  module _ {kind : RowKind} (is : kind ≡ inner_of start.tree.gapped) where
     is_inner : inner_kind b.kind ≡ kind
-    is_inner = sym (is ∙ ap (λ (t : Tree). inner_kind t.kind) may.case.was.tree)
+    is_inner = sym (is ∙ ap (λ (t : Tree). inner_of t.gapped) may.case.was.tree)
 
     pub may_tend_rows : {s₁ : Sheet} → Published s s₁ place word call reply → MayTendRows s₁ kind inner
     may_tend_rows {s₁} done = subst (λ (k : RowKind). MayTendRows s₁ k inner) is_inner (tend_rows_by f s₁ may.new refl done)

@@ -2,7 +2,6 @@
 use Rattle.std.proofs.Common.{◌≡◌, ◌≢◌, ℕ, zero, suc, ◌≤◌, List, [], ◌∷◌, ◌++◌, Bool, true, false, refl, sym, ◌∙◌, subst, length, arith, append-nil}
 use Rattle.std.specs.List.{AllByRecursion}
 use Rattle.mt_base.proofs.Lists.{all_front, all_back}
-use Rattle.mt_base.specs.declared.kinds.Kind.{Kind}
 use Rattle.mt_base.specs.declared.widths.Width.{Width}
 use Rattle.mt_layout.specs.declared.items.Item.{Item}
 use Rattle.mt_layout.specs.declared.names.RowKind.{RowKind}
@@ -13,7 +12,7 @@ use Rattle.mt_layout.specs.Rows.{row_in}
 use Rattle.mt_layout.specs.Spans.{spans_from}
 use Rattle.mt_rows.specs.Spans.{Table}
 use Rattle.mt_rows.specs.Levels.{expand, Levels}
-use Rattle.mt_rows.specs.Laws.{kind_at}
+use Rattle.mt_rows.specs.Laws.{kind_on}
 use Rattle.mt_rows.proofs.Joins.{Shared, expand_shared}
 use Rattle.mt_splice.specs.Fewest.{IsCutOf, AreFewestOf, FewestBelow}
 
@@ -46,12 +45,12 @@ fewest_same is_new is_new' kind t t' h xs width shared same few =
     }
 
 -- what stands in the rows stays, and so do the fewest
-pub fewest_later : (is_new is_new' : ℕ → Bool) (kind : Kind) (t t' : Table) → t'.width ≡ t.width → (h : ℕ) (xs : List Span) → Levels (Shared t t') t h xs → Levels (SameNews is_new is_new') t h xs
-    → FewestBelow is_new kind t h xs → FewestBelow is_new' kind t' h xs
-fewest_later is_new is_new' kind t t' width zero xs shared same few = fewest_same is_new is_new' (kind_at kind zero) t t' zero xs width shared same few
-fewest_later is_new is_new' kind t t' width (suc h) xs shared same few = (
-  fewest_same is_new is_new' (kind_at kind (suc h)) t t' (suc h) xs width shared.0 same.0 few.0,
-  subst (FewestBelow is_new' kind t' h) (sym (expand_shared t t' xs shared.0)) (fewest_later is_new is_new' kind t t' width h (expand t xs) shared.1 same.1 few.1),
+pub fewest_later : (is_new is_new' : ℕ → Bool) (gapped : Bool) (t t' : Table) → t'.width ≡ t.width → (h : ℕ) (xs : List Span) → Levels (Shared t t') t h xs → Levels (SameNews is_new is_new') t h xs
+    → FewestBelow is_new gapped t h xs → FewestBelow is_new' gapped t' h xs
+fewest_later is_new is_new' gapped t t' width zero xs shared same few = fewest_same is_new is_new' (kind_on gapped zero) t t' zero xs width shared same few
+fewest_later is_new is_new' gapped t t' width (suc h) xs shared same few = (
+  fewest_same is_new is_new' (kind_on gapped (suc h)) t t' (suc h) xs width shared.0 same.0 few.0,
+  subst (FewestBelow is_new' gapped t' h) (sym (expand_shared t t' xs shared.0)) (fewest_later is_new is_new' gapped t t' width h (expand t xs) shared.1 same.1 few.1),
 )
 
 -- rows of which none is new

@@ -4,8 +4,6 @@ use Rattle.std.specs.Prelude.{Contains, slice_index_or}
 use Rattle.std.proofs.lemmas.Bool.{cases_lt}
 use Rattle.std.proofs.lemmas.List.Elements.{All-nil}
 use Rattle.mt_base.specs.declared.kinds.Kind.{Kind}
-use Rattle.mt_base.specs.declared.kinds.Kind.TheVariants as kinds
-use Rattle.mt_base.specs.declared.widths.Width.TheVariants.{Long}
 use Rattle.mt_base.specs.Width.{kind_width, first_row}
 use Rattle.mt_free.specs.Book.{Held, rows_down, IsBook, new_book}
 use Rattle.mt_rows.specs.declared.rows.Life.TheVariants as lives
@@ -25,17 +23,12 @@ in_down (suc n) m low =
     ⊎_elim (λ (less : m < n). let here = in_down n m less in (suc here.0, let below = here.1 in omega arith, here.2))
     (λ (last : n ≤ m). (0, omega arith, let same : n ≡ m = omega arith in subst (λ (k : ℕ). first_row + n ≡ first_row + k) same refl)) (cases_lt m n)
 
--- new rows have the width of each kind
-pub wide_words : (kind : Kind) → Long ≡ kind_width kind
-wide_words kinds.Range = refl
-wide_words kinds.Alloc = refl
-
-pub fresh_is_ready : (kind : Kind) (n : ℕ) → IsBook (new_book n) → IsBetweenCalls kind (new_sheet n) (new_book n)
+pub fresh_is_ready : (kind : Kind) (n : ℕ) → IsBook (new_book n) → IsBetweenCalls kind (new_sheet (kind_width kind) n) (new_book n)
 fresh_is_ready kind n sound = record {
   idle = refl;
   told = tt;
   kept = record {
-    lawful = record { width = wide_words kind; words = inl refl };
+    lawful = record { width = refl; words = inl refl };
     live = λ row low high. ((λ is. let none = same_anywhere (first_row + n) row lives.New in absurd (cc)), (λ is. absurd (cc)));
     none_buried = λ row low high. same_anywhere (first_row + n) row false;
     booked = record {

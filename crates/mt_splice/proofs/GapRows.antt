@@ -13,7 +13,7 @@ use Rattle.mt_layout.specs.Sizes.{slots_of, gaps_of}
 use Rattle.mt_layout.specs.Spans.{spans_from, longest_in}
 use Rattle.mt_layout.proofs.OwnColumns.{same_items}
 use Rattle.mt_layout.proofs.RowSizes.{layout_of}
-use Rattle.mt_rows.specs.Spans.{Table, inner_kind, spans_by, spans_in}
+use Rattle.mt_rows.specs.Spans.{Table, inner_of, spans_by, spans_in}
 use Rattle.mt_rows.specs.Levels.{expand, Levels, SameColumns}
 use Rattle.mt_rows.specs.Laws.{Tree, IsRow, GapLaw, GapLawBy, GapsFrom, items_in, longest_below}
 use Rattle.mt_rows.proofs.Joins.{Shared, expand_shared, levels_front, levels_back}
@@ -95,7 +95,7 @@ module _ (t : Tree) (words : List ℕ) where
 
   -- one row
   pub gap_law_stays : (h : ℕ) (x : Span) → IsRow t (suc h) x → Kept (suc h) x → Levels Kept t.table h (spans_in t.table x) → GapLaw t (suc h) x → GapLaw t' (suc h) x
-  gap_law_stays h x row same below law = law_stays (inner_kind t.kind) t.table words h x row.name.named same (kept_shared h (spans_in t.table x) below) law
+  gap_law_stays h x row same below law = law_stays (inner_of t.gapped) t.table words h x row.name.named same (kept_shared h (spans_in t.table x) below) law
 
   -- the rows of a height and all below
   pub gap_laws_stay : (h : ℕ) (xs : List Span) → Levels Kept t.table h xs → Levels (IsRow t) t.table h xs → Levels (GapLaw t) t.table h xs → Levels (GapLaw t') t'.table h xs

@@ -46,5 +46,17 @@ behind_slot t kind row max k below =
     let few = few_items (slots_of t.width kind) (gaps_of t.width kind) t.words (base_of t row) max (slots_of t.width kind) 0 in
     items_behind (slots_of t.width kind) (gaps_of t.width kind) t.words (base_of t row) max k (slots_of t.width kind - k) below (omega arith)
 
+-- a row has no more items than slots, and those in its slots are all
+pub few_in_row : (t : Table) (kind : RowKind) (row max : ℕ) → length (items_of_row t kind row max) ≤ slots_of t.width kind
+few_in_row t kind row max = few_items (slots_of t.width kind) (gaps_of t.width kind) t.words (base_of t row) max (slots_of t.width kind) 0
+
+pub whole_row : (t : Table) (kind : RowKind) (row max slots : ℕ) → slots ≡ slots_of t.width kind
+    → take (slots - 0) (items_from (slots_of t.width kind) (gaps_of t.width kind) t.words (base_of t row) max (slots_of t.width kind - 0) 0) ≡ items_of_row t kind row max
+whole_row t kind row max slots is =
+    let few = few_in_row t kind row max in
+    let all : slots_of t.width kind - 0 ≡ slots_of t.width kind = omega arith in
+    ap (λ (n : ℕ). take (slots - 0) (items_from (slots_of t.width kind) (gaps_of t.width kind) t.words (base_of t row) max n 0)) all
+    ∙ take_all (slots - 0) (items_of_row t kind row max) (omega arith)
+
 pub none_behind : (k : ℕ) (xs : List Item) → length xs ≤ k → drop k xs ≡ []
 none_behind k xs past = drop_of_length-le xs past

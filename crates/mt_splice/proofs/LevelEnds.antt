@@ -3,7 +3,7 @@ use Rattle.std.proofs.Common.{◌≡◌, ℕ, suc, ◌+◌, ◌-◌, ◌*◌, �
 use Rattle.std.specs.Prelude.{slice_index_or, if◌then◌else◌}
 use Rattle.mt_base.specs.declared.calls.Call.{Call}
 use Rattle.mt_base.specs.declared.replies.Reply.{Reply}
-use Rattle.mt_base.specs.declared.kinds.Kind.TheVariants as trees
+use Rattle.mt_base.specs.Call.{finds_room}
 use Rattle.mt_base.specs.declared.widths.Width.{Width}
 use Rattle.mt_base.specs.Width.{greatest, most_rows, most_taken}
 use Rattle.mt_layout.specs.declared.items.Item.{Item}
@@ -19,10 +19,10 @@ use Rattle.mt_layout.proofs.SpanLists.{length-spans_from}
 use Rattle.mt_free.specs.Book.{Book}
 use Rattle.mt_rows.specs.declared.rows.Place.{Place}
 use Rattle.mt_rows.specs.declared.rows.Place.TheVariants.{Root, Slot}
-use Rattle.mt_rows.specs.Spans.{inner_kind}
+use Rattle.mt_rows.specs.Spans.{inner_of}
 use Rattle.mt_rows.specs.Levels.{Levels, is_row_of}
 use Rattle.mt_rows.specs.Trees.{height_in}
-use Rattle.mt_rows.specs.Laws.{Tree, top_of, kind_at, covers_all, longest_below}
+use Rattle.mt_rows.specs.Laws.{Tree, top_of, kind_on, covers_all, longest_below}
 use Rattle.mt_rows.specs.Sheet.{Sheet}
 use Rattle.mt_rows.specs.Publish.{tree_as, with_published}
 use Rattle.mt_rows.proofs.Reached.{height_is}
@@ -66,7 +66,7 @@ only_item (x ∷ y ∷ new) d one = absurd (omega arith)
 pub tree_width : {b : Before} {start : Start} {s : Sheet} {book : Book} {w : Work} → IsBefore b start → IsProgress b s book w → s.tree.table.width ≡ start.tree.table.width
 tree_width was progress = width_now was progress ∙ sym (ap (λ (t : Tree). t.table.width) was.tree)
 
-inner_is : (start : Start) (w : Work) (h : ℕ) → Holds start w → inner_kind start.tree.kind ≡ kind_at start.tree.kind (suc h)
+inner_is : (start : Start) (w : Work) (h : ℕ) → Holds start w → inner_of start.tree.gapped ≡ kind_on start.tree.gapped (suc h)
 inner_is start w h holds = refl
 
 -- ---- what all ends have in common
@@ -198,7 +198,7 @@ module _ {b : Before} {start : Start} {s : Sheet} {book : Book} {inner : List Ne
   covers : covers_all start.tree (span_to from to) ≡ true
   covers = let end : to - 1 ≡ top_of start.tree = (let at = whole_index.1 in omega arith) in λ i. eq-eqb from 0 whole_index.0 i && eq-eqb (to - 1) (top_of start.tree) end i
 
-  new_root : MayWriteRow b start s₁ book₁ rows.0 (inner_kind start.tree.kind) (suc end.height) from to new inner₁
+  new_root : MayWriteRow b start s₁ book₁ rows.0 (inner_of start.tree.gapped) (suc end.height) from to new inner₁
   new_root = record {
     before = rows.1.under.case.was;
     progress = rows.1.under.progress;
@@ -207,22 +207,22 @@ module _ {b : Before} {start : Start} {s : Sheet} {book : Book} {inner : List Ne
     run = record {
       fills = rows.1.climbed.fills;
       some = let some = rows.1.some in let same = length-spans_from from new in omega arith;
-      few = let few = rows.1.few in let size = sizes start.tree.table.width (kind_at start.tree.kind (suc end.height)) in let same = length-spans_from from new in omega (arith, size.least, size.some);
-      least = let is = ap (λ (c : Bool). if c then 2 else least_items start.tree.table.width (kind_at start.tree.kind (suc end.height))) covers in let many = rows.1.many in let same = length-spans_from from new in omega arith;
+      few = let few = rows.1.few in let size = sizes start.tree.table.width (kind_on start.tree.gapped (suc end.height)) in let same = length-spans_from from new in omega (arith, size.least, size.some);
+      least = let is = ap (λ (c : Bool). if c then 2 else least_items start.tree.table.width (kind_on start.tree.gapped (suc end.height))) covers in let many = rows.1.many in let same = length-spans_from from new in omega arith;
       fit = tt;
       leaves = λ none. absurd (omega arith);
     };
-    fit = let few = rows.1.few in let size = sizes s₁.tree.table.width (inner_kind start.tree.kind) in omega (arith, size.least, size.some);
+    fit = let few = rows.1.few in let size = sizes s₁.tree.table.width (inner_of start.tree.gapped) in omega (arith, size.least, size.some);
     told = rows.1.told;
     known = rows.1.under.inner_rows;
   }
 
-  root_added : MayAddRow b start s₁ book₁ (inner_kind start.tree.kind) 0 new inner₁
-  root_added = subst (λ (n : ℕ). MayAddRow b start s₁ book₁ (inner_kind start.tree.kind) n new inner₁) whole_index.0 (record { work = rows.0; height = suc end.height; hi = to; may = new_root })
+  root_added : MayAddRow b start s₁ book₁ (inner_of start.tree.gapped) 0 new inner₁
+  root_added = subst (λ (n : ℕ). MayAddRow b start s₁ book₁ (inner_of start.tree.gapped) n new inner₁) whole_index.0 (record { work = rows.0; height = suc end.height; hi = to; may = new_root })
 
-  module _ {s₂ : Sheet} {book₂ : Book} {inner₂ : List NewRow} {root : Item} (added : IsRowAdded b start s₁ s₂ book₁ book₂ (inner_kind start.tree.kind) 0 new inner₁ inner₂ root) where
+  module _ {s₂ : Sheet} {book₂ : Book} {inner₂ : List NewRow} {root : Item} (added : IsRowAdded b start s₁ s₂ book₁ book₂ (inner_of start.tree.gapped) 0 new inner₁ inner₂ root) where
     one : (w₂ : Work) × IsOneWritten b start s₂ book₁ book₂ rows.0 w₂ (suc end.height) from to new inner₂ root
-    one = (subst (λ (n : ℕ). IsRowAdded b start s₁ s₂ book₁ book₂ (inner_kind start.tree.kind) n new inner₁ inner₂ root) (sym whole_index.0) added).each new_root
+    one = (subst (λ (n : ℕ). IsRowAdded b start s₁ s₂ book₁ book₂ (inner_of start.tree.gapped) n new inner₁ inner₂ root) (sym whole_index.0) added).each new_root
 
     -- the root, and all below it, keep the law of gaps
     grown_gaps : GapsBeside start (is_taken one.0) (with_root (now start one.0) root.word) (Some (suc start.height))
@@ -243,7 +243,7 @@ module _ {b : Before} {start : Start} {s : Sheet} {book : Book} {inner : List Ne
         (let few = rows.1.under.few in let earlier = free_and_taken rows.1.under.progress in let later = free_and_taken one.1.progress in let less = one.1.free in omega arith)
         end.answer (suc start.height) Root root.word same
         (forms.ends_at_root case.was one.1.progress (Some start.height) (Some (suc start.height)) root.word (roots.ends_grown start rows.0 one.0 left right end.height spans top rows.1.climbed one.1.written few_rows from new refl
-        (let few = rows.1.few in let size = sizes start.tree.table.width (kind_at start.tree.kind (suc end.height)) in omega (arith, size.least, size.some))))
+        (let few = rows.1.few in let size = sizes start.tree.table.width (kind_on start.tree.gapped (suc end.height)) in omega (arith, size.least, size.some))))
         (forms.gaps_at_root case.was one.1.progress (is_taken one.0) (Some (suc start.height)) root.word grown_gaps)
         tt (are_taken start rows.0 one.0 (suc end.height) spans (top ∷ []) one.1.written).0
 
@@ -260,13 +260,13 @@ module _ {b : Before} {start : Start} {s : Sheet} {book : Book} {inner : List Ne
   pub above_room : length inner₁ < most_taken
   above_room = let room = room_to_note (done₀.each end₀.may).1.under in omega arith
 
-  pub root_may_be_added : {new' : List Item} → new' ≡ new → MayAddRow b start s₁ book₁ (inner_kind start.tree.kind) 0 new' inner₁
-  root_may_be_added same = subst (λ (l : List Item). MayAddRow b start s₁ book₁ (inner_kind start.tree.kind) 0 l inner₁) (sym same) (root_added end₀ may.two done₀)
+  pub root_may_be_added : {new' : List Item} → new' ≡ new → MayAddRow b start s₁ book₁ (inner_of start.tree.gapped) 0 new' inner₁
+  root_may_be_added same = subst (λ (l : List Item). MayAddRow b start s₁ book₁ (inner_of start.tree.gapped) 0 l inner₁) (sym same) (root_added end₀ may.two done₀)
 
-  pub above_is_published : {s₂ : Sheet} {book₂ : Book} {inner₂ inner' : List NewRow} {new' : List Item} {root : Item} → new' ≡ new → IsRowAdded b start s₁ s₂ book₁ book₂ (inner_kind start.tree.kind) 0 new' inner₁ inner₂ root → inner' ≡ inner₂
+  pub above_is_published : {s₂ : Sheet} {book₂ : Book} {inner₂ inner' : List NewRow} {new' : List Item} {root : Item} → new' ≡ new → IsRowAdded b start s₁ s₂ book₁ book₂ (inner_of start.tree.gapped) 0 new' inner₁ inner₂ root → inner' ≡ inner₂
       → MayPublishEnd b start s₂ book₂ inner' Root root.word call reply
   above_is_published {s₂ = s₂} {book₂ = book₂} {inner₂ = inner₂} {root = root} same added noted =
-      root_ends end₀ may.two done₀ (subst (λ (l : List Item). IsRowAdded b start s₁ s₂ book₁ book₂ (inner_kind start.tree.kind) 0 l inner₁ inner₂ root) same added) noted
+      root_ends end₀ may.two done₀ (subst (λ (l : List Item). IsRowAdded b start s₁ s₂ book₁ book₂ (inner_of start.tree.gapped) 0 l inner₁ inner₂ root) same added) noted
 
 -- ---- in the slot of the row above
 
@@ -279,7 +279,7 @@ module _ {b : Before} {start : Start} {s : Sheet} {book : Book} {inner : List Ne
   levels = let below = end.may.gathered.levels in omega arith
 
   -- the slot is one of the row above
-  slot_below : step.slot < slots_of start.tree.table.width (inner_kind start.tree.kind)
+  slot_below : step.slot < slots_of start.tree.table.width (inner_of start.tree.gapped)
   slot_below =
       let w = end.work in
       let holds = end.may.under.holds in
@@ -301,16 +301,16 @@ module _ {b : Before} {start : Start} {s : Sheet} {book : Book} {inner : List Ne
     one_level = done.each end.may
 
     -- what the new row tells
-    one_gap : (d : Item) → b.kind ≡ trees.Alloc → (slice_index_or new 0 d).gap ≡ longest_below (now start one_level.0).table end.height (one_span left (suc depth) (slice_index_or new 0 d) ∷ [])
+    one_gap : (d : Item) → finds_room b.kind ≡ true → (slice_index_or new 0 d).gap ≡ longest_below (now start one_level.0).table end.height (one_span left (suc depth) (slice_index_or new 0 d) ∷ [])
     one_gap d gapped =
         let item = slice_index_or new 0 d in
         let t = (now start one_level.0).table in
         let told : AreTold start one_level.0 end.height (begin_of left (suc depth)) (item ∷ []) = subst (AreTold start one_level.0 end.height (begin_of left (suc depth))) (only_item new d (one_level.1.many ∙ one)) one_level.1.told in
-        let kinds : inner_kind start.tree.kind ≡ Gapped = ap (λ (t : Tree). inner_kind t.kind) one_level.1.under.case.was.tree ∙ ap inner_kind gapped in
+        let kinds : inner_of start.tree.gapped ≡ Gapped = ap (λ (t : Tree). inner_of t.gapped) one_level.1.under.case.was.tree ∙ ap inner_of gapped in
         let gaps : item.gap ∷ [] ≡ longest_below t end.height (one_span left (suc depth) item ∷ []) ∷ [] = subst (λ (k : RowKind). TellGaps k t end.height (begin_of left (suc depth)) (item ∷ [])) kinds told.gaps in
         cc
 
-    told_in_place : (d : Item) {n : ℕ} → n ≡ slots_of start.tree.table.width (inner_kind start.tree.kind)
+    told_in_place : (d : Item) {n : ℕ} → n ≡ slots_of start.tree.table.width (inner_of start.tree.gapped)
         → TellsBelow b.kind (with_published s₁.tree (Slot step.row (n + step.slot)) (slice_index_or new 0 d).word) (slice_index_or new 0 d).word (slice_index_or new 0 d).gap
     told_in_place d {n = n} many =
         let w = one_level.0 in
@@ -320,12 +320,12 @@ module _ {b : Before} {start : Start} {s : Sheet} {book : Book} {inner : List Ne
         let x : Span = one_span left (suc depth) item in
         let climbed = one_climbed end done d one in
         let has = forms.has_words was under.progress in
-        let column : column_of (now start w) (kind_at start.tree.kind (suc end.height)) step ≡ n + step.slot =
+        let column : column_of (now start w) (kind_on start.tree.gapped (suc end.height)) step ≡ n + step.slot =
         ap (λ (k : ℕ). slot_column k step.slot) (sym (many ∙ ap (slots_of start.tree.table.width) (inner_is start w end.height under.holds))) in
         subst (λ (col : ℕ). TellsBelow b.kind (with_published s₁.tree (Slot step.row col) item.word) item.word item.gap) column
         (forms.tells_in_slot was under.progress end.height item.word item.gap step (slots.tells_at_step start w left right depth end.height x climbed same has b.kind item.gap (one_gap d)))
 
-    in_place : (d : Item) {n : ℕ} {inner' : List NewRow} → inner' ≡ inner₁ → n ≡ slots_of start.tree.table.width (inner_kind start.tree.kind) → MayPublishEnd b start s₁ book₁ inner' (Slot step.row (n + step.slot)) (slice_index_or new 0 d).word call reply
+    in_place : (d : Item) {n : ℕ} {inner' : List NewRow} → inner' ≡ inner₁ → n ≡ slots_of start.tree.table.width (inner_of start.tree.gapped) → MayPublishEnd b start s₁ book₁ inner' (Slot step.row (n + step.slot)) (slice_index_or new 0 d).word call reply
     in_place d {n = n} {inner' = inner'} noted many =
         let w = one_level.0 in
         let under = one_level.1.under in
@@ -335,10 +335,10 @@ module _ {b : Before} {start : Start} {s : Sheet} {book : Book} {inner : List Ne
         let has = forms.has_words was under.progress in
         let stays = slots.step_stays start w left right depth end.height x climbed same has in
         let ends = forms.ends_in_slot was under.progress depth end.height x.word step levels stays.0 stays.1 (slots.ends_at_step start w left right depth end.height x climbed same has) in
-        let column : column_of (now start w) (kind_at start.tree.kind (suc end.height)) step ≡ n + step.slot =
+        let column : column_of (now start w) (kind_on start.tree.gapped (suc end.height)) step ≡ n + step.slot =
         ap (λ (k : ℕ). slot_column k step.slot) (sym (many ∙ ap (slots_of start.tree.table.width) (inner_is start w end.height under.holds))) in
         subst (λ (col : ℕ). MayPublishEnd b start s₁ book₁ inner' (Slot step.row col) x.word call reply) column
-        (may_publish call reply (burying under) (let few = under.few in omega arith) end.answer start.height (Slot step.row (column_of (now start w) (kind_at start.tree.kind (suc end.height)) step)) x.word noted ends.0
+        (may_publish call reply (burying under) (let few = under.few in omega arith) end.answer start.height (Slot step.row (column_of (now start w) (kind_on start.tree.gapped (suc end.height)) step)) x.word noted ends.0
         (forms.gaps_in_slot was under.progress (is_taken w) end.height x.word step (Some start.height)
         (λ index from to. slots.gaps_at_step start w left right depth end.height x climbed same has (one_good end done d one) (gaps_were was under.holds.stands) index from to)) ends.1 climbed.taken.0)
 
@@ -357,23 +357,23 @@ module _ {b : Before} {start : Start} {s : Sheet} {book : Book} {inner : List Ne
   pub parent_is_deep : depth - 1 < length left
   parent_is_deep = let deep = left_deep may.end in omega arith
 
-  pub slot_fits : {step : PathStep} → step ≡ step_at left (depth - 1) → (2 * slots_of start.tree.table.width (inner_kind start.tree.kind) + 8 ≤ run_room) × (step.slot < slots_of start.tree.table.width (inner_kind start.tree.kind))
-  slot_fits is = ((sizes start.tree.table.width (inner_kind start.tree.kind)).room, subst (λ (z : PathStep). z.slot < slots_of start.tree.table.width (inner_kind start.tree.kind)) (sym is) (slot_below end₁ may.one same₁))
+  pub slot_fits : {step : PathStep} → step ≡ step_at left (depth - 1) → (2 * slots_of start.tree.table.width (inner_of start.tree.gapped) + 8 ≤ run_room) × (step.slot < slots_of start.tree.table.width (inner_of start.tree.gapped))
+  slot_fits is = ((sizes start.tree.table.width (inner_of start.tree.gapped)).room, subst (λ (z : PathStep). z.slot < slots_of start.tree.table.width (inner_of start.tree.gapped)) (sym is) (slot_below end₁ may.one same₁))
 
   module _ {s₁ : Sheet} {book₁ : Book} {inner₁ : List NewRow} {new : List Item} (done : AreLevelRowsReplaced b start s s₁ book book₁ inner inner₁ kind left right depth items ends number new) where
     done₁ : AreLevelRowsReplaced b start s s₁ book book₁ inner inner₁ kind left right (suc (depth - 1)) items ends number new
     done₁ = subst (λ (d : ℕ). AreLevelRowsReplaced b start s s₁ book book₁ inner inner₁ kind left right d items ends number new) deeper done
 
     -- the rows have the slots of the tree
-    pub slots_same : {width : Width} {n : ℕ} → width ≡ s₁.tree.table.width → n ≡ slots_of width (inner_kind start.tree.kind) → n ≡ slots_of start.tree.table.width (inner_kind start.tree.kind)
-    slots_same is many = let under = (done₁.each end₁.may).1.under in many ∙ ap (λ (v : Width). slots_of v (inner_kind start.tree.kind)) (is ∙ tree_width under.case.was under.progress)
+    pub slots_same : {width : Width} {n : ℕ} → width ≡ s₁.tree.table.width → n ≡ slots_of width (inner_of start.tree.gapped) → n ≡ slots_of start.tree.table.width (inner_of start.tree.gapped)
+    slots_same is many = let under = (done₁.each end₁.may).1.under in many ∙ ap (λ (v : Width). slots_of v (inner_of start.tree.gapped)) (is ∙ tree_width under.case.was under.progress)
 
-    pub slot_is_published : (d : Item) {step : PathStep} {n : ℕ} {inner' : List NewRow} → step ≡ step_at left (depth - 1) → inner' ≡ inner₁ → n ≡ slots_of start.tree.table.width (inner_kind start.tree.kind)
+    pub slot_is_published : (d : Item) {step : PathStep} {n : ℕ} {inner' : List NewRow} → step ≡ step_at left (depth - 1) → inner' ≡ inner₁ → n ≡ slots_of start.tree.table.width (inner_of start.tree.gapped)
         → MayPublishEnd b start s₁ book₁ inner' (Slot step.row (n + step.slot)) (slice_index_or new 0 d).word call reply
     slot_is_published d {n = n} {inner' = inner'} is noted many =
         subst (λ (z : PathStep). MayPublishEnd b start s₁ book₁ inner' (Slot z.row (n + z.slot)) (slice_index_or new 0 d).word call reply) (sym is) (in_place end₁ may.one same₁ done₁ d noted many)
 
-    pub slot_is_told : (d : Item) {step : PathStep} {n : ℕ} → step ≡ step_at left (depth - 1) → n ≡ slots_of start.tree.table.width (inner_kind start.tree.kind)
+    pub slot_is_told : (d : Item) {step : PathStep} {n : ℕ} → step ≡ step_at left (depth - 1) → n ≡ slots_of start.tree.table.width (inner_of start.tree.gapped)
         → TellsBelow b.kind (with_published s₁.tree (Slot step.row (n + step.slot)) (slice_index_or new 0 d).word) (slice_index_or new 0 d).word (slice_index_or new 0 d).gap
     slot_is_told d {n = n} is many =
         subst (λ (z : PathStep). TellsBelow b.kind (with_published s₁.tree (Slot z.row (n + z.slot)) (slice_index_or new 0 d).word) (slice_index_or new 0 d).word (slice_index_or new 0 d).gap) (sym is) (told_in_place end₁ may.one same₁ done₁ d many)

@@ -8,7 +8,7 @@ use Rattle.mt_layout.specs.Spans.{spans_from}
 use Rattle.mt_layout.proofs.SpanLists.{fills_le, length-spans_from}
 use Rattle.mt_free.specs.Book.{Book}
 use Rattle.mt_rows.specs.Levels.{tally}
-use Rattle.mt_rows.specs.Laws.{Tree, kind_at, top_of}
+use Rattle.mt_rows.specs.Laws.{Tree, kind_on, top_of}
 use Rattle.mt_rows.specs.Sheet.{Sheet}
 use Rattle.mt_path.specs.declared.paths.PathStep.{PathStep}
 use Rattle.mt_path.proofs.TreePaths.{levels}
@@ -65,7 +65,7 @@ module _ {b : Before} {start : Start} {s : Sheet} {book : Book} {w : Work} {inne
     width_is : s.tree.table.width ≡ start.tree.table.width
     width_is = width_now may.under.case.was may.under.progress ∙ sym (ap (λ (t : Tree). t.table.width) may.under.case.was.tree)
 
-    cut_here : IsCutOf start.tree.table.width (kind_at start.tree.kind height) items ends
+    cut_here : IsCutOf start.tree.table.width (kind_on start.tree.gapped height) items ends
     cut_here = subst (λ (x : Width × RowKind). IsCutOf x.0 x.1 items ends) (λ i. (width_is i, may.of_kind i)) may.cut
 
     -- and once these are buried the level is replaced

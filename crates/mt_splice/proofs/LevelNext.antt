@@ -4,7 +4,7 @@ use Rattle.std.specs.List.{flat_map}
 use Rattle.mt_base.specs.declared.calls.Call.{Call}
 use Rattle.mt_base.specs.declared.replies.Reply.{Reply}
 use Rattle.mt_base.specs.declared.widths.Width.{Width}
-use Rattle.mt_base.specs.Width.{greatest, kind_width}
+use Rattle.mt_base.specs.Width.{greatest}
 use Rattle.mt_layout.specs.declared.items.Item.{Item}
 use Rattle.mt_layout.specs.declared.names.RowKind.{RowKind}
 use Rattle.mt_layout.specs.declared.names.RowKind.TheVariants.{Leaf}
@@ -14,8 +14,8 @@ use Rattle.mt_layout.specs.Spans.{spans_from, leaf_range, Apart}
 use Rattle.mt_layout.proofs.RowSizes.{sizes}
 use Rattle.mt_layout.proofs.SpanLists.{length-spans_from, apart_anywhere}
 use Rattle.mt_free.specs.Book.{Book}
-use Rattle.mt_rows.specs.Spans.{inner_kind}
-use Rattle.mt_rows.specs.Laws.{Tree, top_of, kind_at, least_of_root}
+use Rattle.mt_rows.specs.Spans.{inner_of}
+use Rattle.mt_rows.specs.Laws.{Tree, top_of, kind_on, least_of_root}
 use Rattle.mt_rows.specs.Sheet.{Rooted, Sheet, OnlyReads}
 use Rattle.mt_path.specs.declared.paths.PathStep.{PathStep}
 use Rattle.mt_path.specs.Paths.{step_at}
@@ -55,9 +55,11 @@ under_read {s = s} {s' = s'} {w = w} reads under = record {
 
 -- the rows have the tree's words as they are
 words_are_now : {b : Before} {start : Start} {s : Sheet} {book : Book} {w : Work} → IsBefore b start → IsProgress b s book w → IsNow start w s.tree
-words_are_now was progress = record {
+words_are_now {b} was progress = record {
   words = ap words_of (sym (now_is was progress));
-  width = width_now was progress ∙ (was.kept.lawful.width ∙ sym (ap (λ (t : Tree). kind_width t.kind) was.tree));
+  kind = b.kind;
+  gapped = ap (λ (t : Tree). t.gapped) was.tree;
+  width = width_now was progress ∙ was.kept.lawful.width;
 }
 
 -- the words of items are those of their spans
@@ -98,14 +100,14 @@ module _ {b : Before} {start : Start} {s : Sheet} {book : Book} {inner : List Ne
     same_width : width ≡ start.tree.table.width
     same_width = is_width ∙ tree_width under.case.was under.progress
 
-    same_slots : slots_of width kind ≡ slots_of start.tree.table.width (kind_at start.tree.kind may.height)
+    same_slots : slots_of width kind ≡ slots_of start.tree.table.width (kind_on start.tree.gapped may.height)
     same_slots = λ i. slots_of (same_width i) (may.may.of_kind i)
 
     from_within : wide.gathered.paths.from ≤ top_of start.tree
     from_within = let order = wide.gathered.paths.order in let within = wide.gathered.paths.within in omega arith
 
     leaf_is : kind ≡ Leaf → may.height ≡ 0
-    leaf_is leaf = leaf_low start.tree.kind may.height (sym may.may.of_kind ∙ leaf)
+    leaf_is leaf = leaf_low start.tree.gapped may.height (sym may.may.of_kind ∙ leaf)
 
     pub left_is_deep : depth < length left₁
     left_is_deep =
@@ -127,11 +129,11 @@ module _ {b : Before} {start : Start} {s : Sheet} {book : Book} {inner : List Ne
 
     pub few_items : length items₁ + 3 ≤ 3 * slots_of width kind
     few_items =
-        let size = sizes start.tree.table.width (kind_at start.tree.kind may.height) in
+        let size = sizes start.tree.table.width (kind_on start.tree.gapped may.height) in
         let slots = same_slots in
         let same = length-spans_from (begin_of left₁ depth) items₁ in
         ⊎_elim (λ (cut : MayBeCut start.tree may.height (begin_of left₁ depth) (behind_of right₁ depth) spans). let few = cut.few in omega (arith, size.least, size.some))
-        (λ (whole : (begin_of left₁ depth ≡ 0) × ((step_at right₁ depth).max ≡ top_of start.tree) × (length items₁ ≤ most_items start.tree.table.width (kind_at start.tree.kind may.height))).
+        (λ (whole : (begin_of left₁ depth ≡ 0) × ((step_at right₁ depth).max ≡ top_of start.tree) × (length items₁ ≤ most_items start.tree.table.width (kind_on start.tree.gapped may.height))).
         let few = whole.2 in omega (arith, size.least, size.some)) wide.cut
 
     pub apart_items : kind ≡ Leaf → Apart (spans_from 0 items₁)
@@ -154,7 +156,7 @@ module _ {b : Before} {start : Start} {s : Sheet} {book : Book} {inner : List Ne
       some_entry first last leaf =
           leaves_hold_an_entry start may.work left₁ right₁ depth spans (subst (λ (n : ℕ). Gathered start may.work left₁ right₁ depth n spans) leaf wide.gathered)
           (λ x one hole. not (record {
-            leaf = may.may.of_kind ∙ ap (kind_at start.tree.kind) leaf;
+            leaf = may.may.of_kind ∙ ap (kind_on start.tree.gapped) leaf;
             all = record { first = first; last = last ∙ sym (ap greatest same_width) };
             hole = words_by_spans (begin_of left₁ depth) items₁ ∙ (ap (map (λ (x : Span). x.word)) one ∙ ap (λ (word : ℕ). word ∷ []) hole);
           }))
@@ -162,7 +164,7 @@ module _ {b : Before} {start : Start} {s : Sheet} {book : Book} {inner : List Ne
       run : MayBeCut start.tree may.height (begin_of left₁ depth) (behind_of right₁ depth) spans
       run =
           ⊎_elim (λ (cut : MayBeCut start.tree may.height (begin_of left₁ depth) (behind_of right₁ depth) spans). cut)
-          (λ (whole : (begin_of left₁ depth ≡ 0) × ((step_at right₁ depth).max ≡ top_of start.tree) × (length items₁ ≤ most_items start.tree.table.width (kind_at start.tree.kind may.height))).
+          (λ (whole : (begin_of left₁ depth ≡ 0) × ((step_at right₁ depth).max ≡ top_of start.tree) × (length items₁ ≤ most_items start.tree.table.width (kind_on start.tree.gapped may.height))).
           cut_whole start may.work left₁ right₁ depth may.height spans wide.gathered (let few = whole.2 in let same = length-spans_from (begin_of left₁ depth) items₁ in omega arith) whole.0 whole.1 (enough may.height refl whole.0 whole.1) (some_entry whole.0 whole.1)) wide.cut
 
       module _ {cut ends : List ℕ} (is_cut : IsCutOf width kind items₁ cut) (few : length cut ≤ 3) (same_ends : ends ≡ cut) where
@@ -236,14 +238,14 @@ module _ {b : Before} {start : Start} {s : Sheet} {book : Book} {inner : List Ne
             items_may_be_gathered same = subst (MayGather start s₂.tree left₁ right₁ (depth - 1)) (sym same) (record { work = rows.0; height = may.height; may = goes_up })
 
             pub next_level : {s₃ : Sheet} {left₃ right₃ : List PathStep} {items₃ new' : List Item} → new' ≡ new → IsGathered start s₂.tree left₁ right₁ (depth - 1) new' items₃ → OnlyReads s₂ s₃ → left₃ ≡ left₁ → right₃ ≡ right₁
-                → MayReplaceLevel b start s₃ book₂ inner₂ (inner_kind start.tree.kind) left₃ right₃ (depth - 1) items₃ number call reply
+                → MayReplaceLevel b start s₃ book₂ inner₂ (inner_of start.tree.gapped) left₃ right₃ (depth - 1) items₃ number call reply
             next_level {s₃ = s₃} {left₃ = left₃} {right₃ = right₃} {items₃ = items₃} same gathered reads₃ is_left is_right = record {
               work = rows.0;
               height = suc may.height;
               under = subst (IsUnderWay b start s₃ book₂ rows.0 inner₂) deeper (under_read reads₃ rows.1.under);
               may =
                   let here : IsGathered start s₂.tree left₁ right₁ (depth - 1) new items₃ = subst (λ (l : List Item). IsGathered start s₂.tree left₁ right₁ (depth - 1) l items₃) same gathered in
-                  subst (λ (x : Rooted × List PathStep × List PathStep). MayTakeIn start rows.0 x.0 (inner_kind start.tree.kind) x.1 x.2 (depth - 1) (suc may.height) items₃) (λ i. (sym (same_tree s₂ s₃ reads₃) i, sym is_left i, sym is_right i)) (here.each goes_up);
+                  subst (λ (x : Rooted × List PathStep × List PathStep). MayTakeIn start rows.0 x.0 (inner_of start.tree.gapped) x.1 x.2 (depth - 1) (suc may.height) items₃) (λ i. (sym (same_tree s₂ s₃ reads₃) i, sym is_left i, sym is_right i)) (here.each goes_up);
               in_call = may.in_call;
               answer = may.answer;
             }

@@ -3,8 +3,6 @@ use Rattle.std.proofs.Common.{◌≡◌, ◌≢◌, ℕ, zero, suc, ◌+◌, ◌
 use Rattle.std.specs.Prelude.{Any, slice_index, slice_index_or, ◌||◌}
 use Rattle.std.proofs.lemmas.Bool.{cases_Bool, eqb-false}
 use Rattle.std.specs.List.{AllByRecursion, flat_map}
-use Rattle.mt_base.specs.declared.kinds.Kind.{Kind}
-use Rattle.mt_base.specs.declared.kinds.Kind.TheVariants.{Range, Alloc}
 use Rattle.mt_base.specs.declared.widths.Width.{Width}
 use Rattle.mt_base.specs.Entry.{reserved}
 use Rattle.mt_base.specs.Width.{columns, first_row}
@@ -19,9 +17,9 @@ use Rattle.mt_layout.specs.Spans.{spans_from, leaf_range, Fills, Apart, EndsFull
 use Rattle.mt_layout.proofs.NameLaws.{named_row-name_at, row_in-name_at}
 use Rattle.mt_layout.proofs.SpanLists.{fills_le, length-spans_from, fills_end, fills_rise, rise_from_zero, last_ends}
 use Rattle.mt_free.specs.Book.{Book}
-use Rattle.mt_rows.specs.Spans.{Table, inner_kind, spans_in}
+use Rattle.mt_rows.specs.Spans.{Table, inner_of, spans_in}
 use Rattle.mt_rows.specs.Levels.{SameColumns, SameSpans}
-use Rattle.mt_rows.specs.Laws.{Tree, IsRow, EntryLaw, HoleLaw, kind_at, least_of, items_in, words_in}
+use Rattle.mt_rows.specs.Laws.{Tree, IsRow, EntryLaw, HoleLaw, kind_on, least_of, items_in, words_in}
 use Rattle.mt_rows.specs.Sheet.{Rooted, Sheet}
 use Rattle.mt_rows.specs.Publish.{is_reached}
 use Rattle.mt_rows.proofs.Frames.{same_spans}
@@ -63,7 +61,7 @@ run_now start w height lo hi items run = record {
 
 -- ---- a row by its laws
 
-module _ (t : Tree) (height lo hi : ℕ) (kind : RowKind) (row : ℕ) (items : List Item) (new : IsNewRow t.table kind row items) (is : kind ≡ kind_at t.kind height) (in_table : row < first_row + t.rows)
+module _ (t : Tree) (height lo hi : ℕ) (kind : RowKind) (row : ℕ) (items : List Item) (new : IsNewRow t.table kind row items) (is : kind ≡ kind_on t.gapped height) (in_table : row < first_row + t.rows)
     (run : IsRun t height lo hi items) where
   abbrev at : Span
   at = record { first = lo; last = end_of 0 items; word = name_at row kind }
@@ -200,30 +198,30 @@ module _ {b : Before} {start : Start} {s s' : Sheet} {book book' : Book} {w : Wo
     gone = refl;
   }
 
-  noted_is : (h : ℕ) (k : RowKind) → k ≡ kind_at start.tree.kind h → noted k word (length items) ≡ new_row_by h s'.tree.table (record { height = h; at = new_at })
+  noted_is : (h : ℕ) (k : RowKind) → k ≡ kind_on start.tree.gapped h → noted k word (length items) ≡ new_row_by h s'.tree.table (record { height = h; at = new_at })
   noted_is zero k is = ap (λ (k : RowKind). noted k word (length items)) is
-  noted_is (suc h) k is = ap (λ (k : RowKind). noted k word (length items)) is ∙ (of_inner start.tree.kind ∙ ap (λ (n : ℕ). record { row = row_in word; count = n } ∷ []) (sym (length-spans_from lo items) ∙ sym (ap length spans_then)))
+  noted_is (suc h) k is = ap (λ (k : RowKind). noted k word (length items)) is ∙ (of_inner start.tree.gapped ∙ ap (λ (n : ℕ). record { row = row_in word; count = n } ∷ []) (sym (length-spans_from lo items) ∙ sym (ap length spans_then)))
     where
-      of_inner : (tree : Kind) → noted (inner_kind tree) word (length items) ≡ record { row = row_in word; count = length items } ∷ []
-      of_inner Range = refl
-      of_inner Alloc = refl
+      of_inner : (gapped : Bool) → noted (inner_of gapped) word (length items) ≡ record { row = row_in word; count = length items } ∷ []
+      of_inner false = refl
+      of_inner true = refl
 
   pub word_is_named : named_row word ≡ Some (row_in word)
   word_is_named = ap named_row written.named ∙ (named_row-name_at written.row kind number_then ∙ ap (λ (r : ℕ). Some r) (sym (ap row_in written.named ∙ row_in-name_at written.row kind)))
 
   -- the row keeps the law of gaps, and tells its gap
-  items_then : items_in (now start work_then).table (kind_at start.tree.kind height) new_at ≡ as_held (gaps_of (now start work_then).table.width (kind_at start.tree.kind height)) items
-  items_then = subst (λ (n : ℕ). items_in (now start work_then).table (kind_at start.tree.kind height) (record { first = lo; last = end_of 0 items; word = n }) ≡ as_held (gaps_of (now start work_then).table.width (kind_at start.tree.kind height)) items) (sym written.named)
+  items_then : items_in (now start work_then).table (kind_on start.tree.gapped height) new_at ≡ as_held (gaps_of (now start work_then).table.width (kind_on start.tree.gapped height)) items
+  items_then = subst (λ (n : ℕ). items_in (now start work_then).table (kind_on start.tree.gapped height) (record { first = lo; last = end_of 0 items; word = n }) ≡ as_held (gaps_of (now start work_then).table.width (kind_on start.tree.gapped height)) items) (sym written.named)
       (subst (λ (k : RowKind). items_in (now start work_then).table k (record { first = lo; last = end_of 0 items; word = name_at written.row kind }) ≡ as_held (gaps_of (now start work_then).table.width k) items) may.of_kind
       (new_items (now start work_then).table kind written.row items (subst (λ (t : Table). IsNewRow t kind written.row items) (sym table_then) new_then) lo))
 
-  told_then : AreTold start work_then height lo (item_up (inner_kind start.tree.kind) kind new_at items ∷ [])
-  told_then = subst (λ (k : RowKind). AreTold start work_then height lo (item_up (inner_kind start.tree.kind) k new_at items ∷ [])) (sym may.of_kind)
+  told_then : AreTold start work_then height lo (item_up (inner_of start.tree.gapped) kind new_at items ∷ [])
+  told_then = subst (λ (k : RowKind). AreTold start work_then height lo (item_up (inner_of start.tree.gapped) k new_at items ∷ [])) (sym may.of_kind)
       (new_told start work_then new_at items height
       (record { used = one_written.used.0; row = lawful_then; spans = sym (append-nil (spans_in (now start work_then).table new_at)) ∙ one_written.hold; items_are = items_then })
       (told_later start w work_then keeps_then height lo items may.told))
 
-  one_more_written : (inner' : List NewRow) (item : Item) → inner' ≡ inner ++ noted kind word (length items) → item ≡ item_up (inner_kind start.tree.kind) kind new_at items → IsOneWritten b start s' book book' w work_then height lo hi items inner' item
+  one_more_written : (inner' : List NewRow) (item : Item) → inner' ≡ inner ++ noted kind word (length items) → item ≡ item_up (inner_of start.tree.gapped) kind new_at items → IsOneWritten b start s' book book' w work_then height lo hi items inner' item
   one_more_written inner' item made_is item_is = record {
     progress = progress_then;
     written = subst (λ (x : Item). AreWritten start w work_then height (spans_from lo items) (spans_from lo (x ∷ []))) (sym item_is) one_written;
@@ -235,7 +233,7 @@ module _ {b : Before} {start : Start} {s s' : Sheet} {book book' : Book} {w : Wo
 
 -- what stands of the row that was written, one level up
 pub row_added : {b : Before} {start : Start} {s s' : Sheet} {book book' : Book} {above kind : RowKind} {lo gap : ℕ} {items : List Item} {inner inner' : List NewRow} {word : ℕ} (d : Item)
-    → IsRowWritten s s' book book' kind items word → inner' ≡ inner ++ noted kind word (length items) → above ≡ inner_kind start.tree.kind → gap ≡ told_gap above kind lo items
+    → IsRowWritten s s' book book' kind items word → inner' ≡ inner ++ noted kind word (length items) → above ≡ inner_of start.tree.gapped → gap ≡ told_gap above kind lo items
     → IsRowAdded b start s s' book book' kind lo items inner inner' (record { last = (slice_index_or items (length items - 1) d).last; word = word; gap = gap })
 row_added {b} {start} {s} {s'} {book} {book'} {above} {kind} {lo} {gap} {items} {inner} {inner'} {word} d written made_is above_is gap_is = record {
   each = λ {w} {height} {hi} may.
@@ -260,5 +258,5 @@ items_rise {lo = lo} {items = items} asked = fills_rise lo asked.hi items asked.
 
 pub leaf_has_entry : {b : Before} {start : Start} {s : Sheet} {book : Book} {kind : RowKind} {lo : ℕ} {items : List Item} {inner : List NewRow} → MayAddRow b start s book kind lo items inner → kind ≡ Leaf → Any (λ (x : Item). x.word ≢ 0) items
 leaf_has_entry {start = start} {lo = lo} {items = items} asked leaf =
-    let low = leaf_low start.tree.kind asked.height (sym asked.may.of_kind ∙ leaf) in
+    let low = leaf_low start.tree.gapped asked.height (sym asked.may.of_kind ∙ leaf) in
     some_entry lo items (asked.may.run.leaves low).some

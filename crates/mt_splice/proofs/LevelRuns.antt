@@ -14,7 +14,7 @@ use Rattle.mt_layout.specs.Spans.{spans_from, Fills, Apart, EndsFull}
 use Rattle.mt_layout.proofs.RowSizes.{some_least}
 use Rattle.mt_layout.proofs.SpanLists.{length-spans_from, after, after-append, spans-append, fills_after, fills_items, apart_front, apart_back, full_back, two_hold_an_entry}
 use Rattle.mt_leaf.specs.Cuts.{word_of, IsPiece, ArePieces}
-use Rattle.mt_rows.specs.Laws.{Tree, top_of, kind_at, least_of, least_of_root, covers_all}
+use Rattle.mt_rows.specs.Laws.{Tree, top_of, kind_on, least_of, least_of_root, covers_all}
 use Rattle.mt_splice.specs.steps.Climbs.{MayBeIn}
 use Rattle.mt_splice.specs.Fewest.{IsCutOf}
 use Rattle.mt_splice.specs.steps.Runs.{most_in_three, MayBeLeaves, span_to, MayBeCut}
@@ -36,10 +36,10 @@ some_items {t} {height} {lo} {hi} items run = subst (λ (n : ℕ). 1 ≤ n) (len
 
 -- the kind of the rows of a height, and how many items these have
 abbrev pub least_in : Tree → ℕ → ℕ
-least_in t height = least_items t.table.width (kind_at t.kind height)
+least_in t height = least_items t.table.width (kind_on t.gapped height)
 
 abbrev pub most_in : Tree → ℕ → ℕ
-most_in t height = slots_of t.table.width (kind_at t.kind height)
+most_in t height = slots_of t.table.width (kind_on t.gapped height)
 
 least_is_few : (t : Tree) (height n : ℕ) (x : Span) → least_in t height ≤ n → 2 ≤ n → least_of t height x ≤ n
 least_is_few t height n x least two = by (covers_all t x) (of_root height)
@@ -61,7 +61,7 @@ module _ {t : Tree} {height lo hi : ℕ} (front part back : List Item) (run : Is
   end = after begin part
 
   two : 2 ≤ length part
-  two = omega (arith, some_least t.table.width (kind_at t.kind height), least)
+  two = omega (arith, some_least t.table.width (kind_on t.gapped height), least)
 
   fills_all : Fills begin end (spans_from begin part) × Fills end hi (spans_from end back)
   fills_all = fills_items begin hi part back (fills_items lo hi front (part ++ back) run.fills).1
@@ -90,7 +90,7 @@ module _ {t : Tree} {height lo hi : ℕ} (front part back : List Item) (run : Is
   fit_part zero fit = (apart_part fit.0, of_part _ fit.1)
   fit_part (suc h) fit = tt
 
-  few_in_part : length (spans_from begin part) ≤ most_in_three t.table.width (kind_at t.kind height)
+  few_in_part : length (spans_from begin part) ≤ most_in_three t.table.width (kind_on t.gapped height)
   few_in_part =
       let few = run.few in let all = length-spans_from lo (front ++ (part ++ back)) in let here = length-spans_from begin part in
       let long = length-append front (part ++ back) in let rest = length-append part back in
@@ -197,9 +197,9 @@ module _ {t : Tree} {height lo hi : ℕ} (items : List Item) (leaf : Bool) (run 
       )
 
 -- a cut makes parts of the items
-pub cut_makes_parts : {t : Tree} {height lo hi : ℕ} {ends : List ℕ} (items : List Item) → IsRun t height lo hi items → IsCutOf t.table.width (kind_at t.kind height) items ends → AreParts t height lo items 0 ends
+pub cut_makes_parts : {t : Tree} {height lo hi : ℕ} {ends : List ℕ} (items : List Item) → IsRun t height lo hi items → IsCutOf t.table.width (kind_on t.gapped height) items ends → AreParts t height lo items 0 ends
 cut_makes_parts {t} {height} {lo} {hi} {ends} items run cut =
-    let leaf_is : height ≡ 0 → cut.leaf ≡ true = λ zero. cut.of_leaf (ap (kind_at t.kind) zero) in
+    let leaf_is : height ≡ 0 → cut.leaf ≡ true = λ zero. cut.of_leaf (ap (kind_on t.gapped) zero) in
     ⊎_elim
     (λ (many : most_in t height < length items). pieces_are_parts items cut.leaf run leaf_is 0 lo ends refl (cut.cut.more many).pieces)
     (λ (few : length items ≤ most_in t height). subst (AreParts t height lo items 0) (sym (cut.cut.one few)) (one_part items cut.leaf run leaf_is few))

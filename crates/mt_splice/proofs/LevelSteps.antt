@@ -15,8 +15,8 @@ use Rattle.mt_layout.proofs.SpanLists.{fills-append, fills_le, fills_parts, afte
 use Rattle.mt_leaf.specs.Places.{first_of}
 use Rattle.mt_base.proofs.WidthBounds.{greatest_fits}
 use Rattle.mt_free.specs.Book.{Book}
-use Rattle.mt_rows.specs.Spans.{inner_kind}
-use Rattle.mt_rows.specs.Laws.{Tree, IsRow, kind_at}
+use Rattle.mt_rows.specs.Spans.{inner_of}
+use Rattle.mt_rows.specs.Laws.{Tree, IsRow, kind_on}
 use Rattle.mt_rows.specs.Sheet.{Rooted, Sheet}
 use Rattle.mt_rows.proofs.Lists.{tally-append, expand-append, levels_none}
 use Rattle.mt_splice.specs.declared.writes.NewRow.{NewRow}
@@ -64,7 +64,7 @@ more_written start w w₁ w₂ height spans rows spans' rows' first then' = reco
     was_free row free = ⊎_elim (λ (is : w.used row ≡ true). absurd (not_both (w₁.used row) (first.keeps.used row is) free)) (λ (not : w.used row ≡ false). not) (cases_Bool (w.used row))
 
 none_told : (start : Start) (w : Work) (height lo : ℕ) → AreTold start w height lo []
-none_told start w height lo = record { rows = levels_none (IsGoodRow start w) (now start w).table height; gaps = nothing (inner_kind start.tree.kind) }
+none_told start w height lo = record { rows = levels_none (IsGoodRow start w) (now start w).table height; gaps = nothing (inner_of start.tree.gapped) }
   where
     nothing : (kind : RowKind) → TellGaps kind (now start w).table height lo []
     nothing Leaf = tt
@@ -130,7 +130,7 @@ module _ {b : Before} {start : Start} {s' : Sheet} {book book' : Book} {w w' : W
   abbrev end_now : ℕ
   end_now = after begin_now part_now
 
-  may_write_next : {kind : RowKind} → IsBefore b start → kind ≡ kind_at start.tree.kind height → 0 < length book'.free → MayWriteRow b start s' book' w' kind height begin_now end_now part_now inner'
+  may_write_next : {kind : RowKind} → IsBefore b start → kind ≡ kind_on start.tree.gapped height → 0 < length book'.free → MayWriteRow b start s' book' w' kind height begin_now end_now part_now inner'
   may_write_next {kind} before is free = record {
     before = before;
     progress = so.progress;
@@ -138,7 +138,7 @@ module _ {b : Before} {start : Start} {s' : Sheet} {book book' : Book} {w w' : W
     free = free;
     run = so.parts.0.run;
     fit =
-        let same : slots_of start.tree.table.width (kind_at start.tree.kind height) ≡ slots_of s'.tree.table.width kind
+        let same : slots_of start.tree.table.width (kind_on start.tree.gapped height) ≡ slots_of s'.tree.table.width kind
         = λ i. slots_of ((ap (λ (t : Tree). t.table.width) before.tree ∙ sym (ap (λ (t : Rooted). t.table.width) so.progress.tree)) i) (sym is i) in
         let long = length-part items from to so.parts.0.within in let fit = so.parts.0.fit in
         omega arith;

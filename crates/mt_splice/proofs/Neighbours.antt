@@ -10,7 +10,7 @@ use Rattle.mt_layout.specs.Spans.{leaf_range, Fills}
 use Rattle.mt_layout.proofs.SpanLists.{fills-append, fills_le, fills_split}
 use Rattle.mt_rows.specs.Spans.{spans_in}
 use Rattle.mt_rows.specs.Levels.{expand}
-use Rattle.mt_rows.specs.Laws.{Tree, IsRow, Stands, top_of, kind_at}
+use Rattle.mt_rows.specs.Laws.{Tree, IsRow, Stands, top_of, kind_on}
 use Rattle.mt_rows.proofs.Lists.{expand-append}
 use Rattle.mt_leaf.specs.Edits.{joined}
 use Rattle.mt_leaf.proofs.Joined.{ranges_joined, fills_joined, apart_joined}
@@ -117,7 +117,7 @@ module _ (start : Start) (s : Work) (left right right' : List PathStep) (depth h
   ends_then = sym (ap (λ (z : PathStep). z.max + 1) next_step)
 
   abbrev spans_behind : List Span
-  spans_behind = spans_on (now start s).table (kind_at t.kind height) (step_at right' depth)
+  spans_behind = spans_on (now start s).table (kind_on t.gapped height) (step_at right' depth)
 
   spans_are : spans_behind ≡ spans_in t.table row_behind
   spans_are = spans_here start s gathered.holds right' behind behind_within is_right depth height gathered.levels
@@ -210,7 +210,7 @@ module _ (start : Start) (s : Work) (left right left' : List PathStep) (depth he
   begins_then = sym (ap (λ (z : PathStep). z.min) step_before)
 
   abbrev spans_ahead : List Span
-  spans_ahead = spans_on (now start s).table (kind_at old_tree.kind height) (step_at left' depth)
+  spans_ahead = spans_on (now start s).table (kind_on old_tree.gapped height) (step_at left' depth)
 
   spans_ahead_are : spans_ahead ≡ spans_in old_tree.table row_ahead
   spans_ahead_are = spans_here start s gathered.holds left' ahead ahead_within is_left depth height gathered.levels

@@ -7,9 +7,9 @@ use Rattle.mt_layout.specs.declared.spans.Span.{Span}
 use Rattle.mt_layout.specs.Sizes.{gaps_of}
 use Rattle.mt_layout.specs.Spans.{spans_from}
 use Rattle.mt_layout.proofs.RowSizes.{some_gaps_of}
-use Rattle.mt_rows.specs.Spans.{Table, inner_kind, spans_in}
+use Rattle.mt_rows.specs.Spans.{Table, inner_of, spans_in}
 use Rattle.mt_rows.specs.Levels.{Levels}
-use Rattle.mt_rows.specs.Laws.{IsRow, GapLaw, items_in, kind_at}
+use Rattle.mt_rows.specs.Laws.{IsRow, GapLaw, items_in, kind_on}
 use Rattle.mt_splice.specs.steps.Work.{Start, Work, now, IsUsed}
 use Rattle.mt_splice.specs.steps.Told.{TellGaps, told_gap, IsGoodRow, AreTold, AreToldIn}
 use Rattle.mt_splice.proofs.GapRows.{row_keeps_gaps, leaf_longest, inner_longest}
@@ -50,12 +50,12 @@ module _ (start : Start) (w : Work) (x : Span) (items : List Item) where
     pub used : IsUsed w h x
     pub row : IsRow (now start w) h x
     pub spans : spans_in t x ≡ spans_from x.first items
-    pub items_are : items_in t (kind_at start.tree.kind h) x ≡ as_held (gaps_of t.width (kind_at start.tree.kind h)) items
+    pub items_are : items_in t (kind_on start.tree.gapped h) x ≡ as_held (gaps_of t.width (kind_on start.tree.gapped h)) items
 
   new_law : (h : ℕ) → HoldsItems h → AreToldIn start w h x.first items → GapLaw (now start w) h x
   new_law zero holds told = tt
   new_law (suc h) holds told =
-      let kind = inner_kind start.tree.kind in
+      let kind = inner_of start.tree.gapped in
       row_keeps_gaps kind t h x holds.row.name.named (subst (TellGaps kind t h x.first) (sym holds.items_are) (tells_held kind t h x.first items told.gaps))
 
   new_good : (h : ℕ) → HoldsItems h → AreToldIn start w h x.first items → Levels (IsGoodRow start w) t h (x ∷ [])
@@ -65,6 +65,6 @@ module _ (start : Start) (w : Work) (x : Span) (items : List Item) where
     subst (Levels (IsGoodRow start w) t h) (sym (append-nil (spans_in t x) ∙ holds.spans)) told.rows,
   )
 
-  pub new_told : (h : ℕ) → HoldsItems h → AreToldIn start w h x.first items → AreTold start w h x.first (item_up (inner_kind start.tree.kind) (kind_at start.tree.kind h) x items ∷ [])
-  new_told zero holds told = record { rows = new_good zero holds told; gaps = tells_leaf (inner_kind start.tree.kind) t x items holds.spans }
-  new_told (suc h) holds told = record { rows = new_good (suc h) holds told; gaps = tells_inner (inner_kind start.tree.kind) t h x items holds.spans told.gaps }
+  pub new_told : (h : ℕ) → HoldsItems h → AreToldIn start w h x.first items → AreTold start w h x.first (item_up (inner_of start.tree.gapped) (kind_on start.tree.gapped h) x items ∷ [])
+  new_told zero holds told = record { rows = new_good zero holds told; gaps = tells_leaf (inner_of start.tree.gapped) t x items holds.spans }
+  new_told (suc h) holds told = record { rows = new_good (suc h) holds told; gaps = tells_inner (inner_of start.tree.gapped) t h x items holds.spans told.gaps }

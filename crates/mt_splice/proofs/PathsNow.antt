@@ -2,7 +2,7 @@
 use Rattle.std.proofs.Common.{◌≡◌, ℕ, zero, suc, ◌<◌, ◌≤◌, List, [], ◌∷◌, sym, ap, ◌∙◌, subst, arith, append-nil}
 use Rattle.mt_layout.specs.declared.spans.Span.{Span}
 use Rattle.mt_layout.specs.Rows.{row_in}
-use Rattle.mt_rows.specs.Spans.{Table, inner_kind, spans_in}
+use Rattle.mt_rows.specs.Spans.{Table, inner_of, spans_in}
 use Rattle.mt_rows.specs.Levels.{Levels, SameSpans}
 use Rattle.mt_base.specs.Width.{deepest}
 use Rattle.mt_rows.specs.Laws.{Tree, top_of}
@@ -40,9 +40,9 @@ module _ (t : Tree) (t' : Table) where
       let named = (row_here t (suc h) x index leads).name.named in
       let here = (levels_here (Shared t.table t') t.table (suc h) (x ∷ []) same).0 in
       let rest = path_shared depth h (below t.table x index) index (omega arith) (child_leads t h x index leads) (child_shared h x index leads same) in
-      path_of_inner t' depth x index (inner_kind t.kind) named (inner_no_leaf t.kind)
+      path_of_inner t' depth x index (inner_of t.gapped) named (inner_no_leaf t.gapped)
       ∙ ((λ i. step_shared x index here i ∷ path_of t' depth (below_shared x index here i) index)
-      ∙ (ap (λ (l : List PathStep). step_in t.table x index ∷ l) rest ∙ sym (path_of_inner t.table depth x index (inner_kind t.kind) named (inner_no_leaf t.kind))))
+      ∙ (ap (λ (l : List PathStep). step_in t.table x index ∷ l) rest ∙ sym (path_of_inner t.table depth x index (inner_of t.gapped) named (inner_no_leaf t.gapped))))
 
 pub path_now : (start : Start) (s : Work) → Holds start s → (index : ℕ) → index ≤ top_of start.tree → path_in (now start s).table start.tree.root index ≡ path_in start.tree.table start.tree.root index
 path_now start s holds index within =

@@ -8,7 +8,7 @@ use Rattle.mt_layout.specs.Spans.{Fills}
 use Rattle.mt_layout.proofs.SpanLists.{fills-append, fills_le}
 use Rattle.mt_rows.specs.Spans.{spans_in}
 use Rattle.mt_rows.specs.Levels.{expand, Levels}
-use Rattle.mt_rows.specs.Laws.{Tree, IsRow, Stands, top_of, kind_at}
+use Rattle.mt_rows.specs.Laws.{Tree, IsRow, Stands, top_of, kind_on}
 use Rattle.mt_rows.specs.Replacement.{root_of}
 use Rattle.mt_rows.proofs.Frames.{same_spans}
 use Rattle.mt_rows.proofs.Heights.{level_rows}
@@ -45,9 +45,9 @@ module _ (start : Start) (s : Work) (holds : Holds start s) (path : List PathSte
       (subst (AllByRecursion (RowsKeep start.tree start.tree.table.words s.words k)) at_here.parts (level_rows (RowsKeep start.tree start.tree.table.words s.words) start.tree.table d k start.height (root_of start.tree) levels holds.words))).0
 
   -- what is read in it now
-  pub spans_here : spans_on (now start s).table (kind_at start.tree.kind k) (step_at path d) ≡ spans_in start.tree.table row_here
+  pub spans_here : spans_on (now start s).table (kind_on start.tree.gapped k) (step_at path d) ≡ spans_in start.tree.table row_here
   spans_here =
-      spans_of_step start.tree.table row_here (kind_at start.tree.kind k) (step_at path d) i row_is_lawful.name.named step_here (now start s).table
+      spans_of_step start.tree.table row_here (kind_on start.tree.gapped k) (step_at path d) i row_is_lawful.name.named step_here (now start s).table
       ∙ same_spans start.tree.table (now start s).table row_here refl row_keeps_words
 
 -- ---- one level up
@@ -139,10 +139,10 @@ module _ (start : Start) (s : Work) (left right : List PathStep) (depth height :
       (subst (λ (ends : ℕ × ℕ). Fills ends.0 ends.1 new) (λ k. (left_below k, right_below k)) climbed.fills) right_at.after))
 
   abbrev left_spans : List Span
-  left_spans = spans_on (now start s).table (kind_at t.kind (suc height)) (step_at left depth)
+  left_spans = spans_on (now start s).table (kind_on t.gapped (suc height)) (step_at left depth)
 
   abbrev right_spans : List Span
-  right_spans = spans_on (now start s).table (kind_at t.kind (suc height)) (step_at right depth)
+  right_spans = spans_on (now start s).table (kind_on t.gapped (suc height)) (step_at right depth)
 
   taken : take (step_at left depth).slot left_spans ≡ left_at.front
   taken =
@@ -186,6 +186,6 @@ module _ (start : Start) (s : Work) (left right : List PathStep) (depth height :
         level = (
           subst (IsHalfReplaced t s.words start.map s.taken s.gone height (rows_at t (suc depth))) level climbed.half,
           subst (Levels (IsUsed s) (now start s).table height) level climbed.used,
-          subst (FewestBelow (is_taken s) t.kind (now start s).table height) level climbed.fewest,
+          subst (FewestBelow (is_taken s) t.gapped (now start s).table height) level climbed.fewest,
         );
       }

@@ -16,7 +16,7 @@ use Rattle.mt_layout.specs.Spans.{leaf_range, spans_from, Fills}
 use Rattle.mt_rows.specs.Spans.{root_span}
 use Rattle.mt_rows.specs.Levels.{expand, map_of, Levels, tally, times, is_row_of, one_if}
 use Rattle.mt_base.specs.Width.{deepest, most_rows}
-use Rattle.mt_rows.specs.Laws.{Tree, IsRow, Stands, top_of, kind_at}
+use Rattle.mt_rows.specs.Laws.{Tree, IsRow, Stands, top_of, kind_on}
 use Rattle.mt_rows.specs.Replacement.{root_of}
 use Rattle.mt_rows.proofs.Lists.{levels_map}
 use Rattle.mt_rows.proofs.RowLaws.{row_keeps}
@@ -78,14 +78,14 @@ module _ (start : Start) (s s' : Work) (left right : List PathStep) (depth heigh
       (subst (IsHalfReplaced start.tree s.words start.map s.taken s.gone height (rows_at start.tree depth)) alone climbed.half)
 
   -- on each level of the tree, the new rows are the fewest
-  pub fewest_at_root : FewestBelow (is_taken s') start.tree.kind (now start s').table height (root_of (with_root (now start s') x.word))
+  pub fewest_at_root : FewestBelow (is_taken s') start.tree.gapped (now start s').table height (root_of (with_root (now start s') x.word))
   fewest_at_root =
       let used = subst (Levels (IsUsed s) (now start s).table height) alone climbed.used in
-      subst (FewestBelow (is_taken s') start.tree.kind (now start s').table height) (at_root start s' x first last)
-      (fewest_later (is_taken s) (is_taken s') start.tree.kind (now start s).table (now start s').table refl height (x ∷ [])
+      subst (FewestBelow (is_taken s') start.tree.gapped (now start s').table height) (at_root start s' x first last)
+      (fewest_later (is_taken s) (is_taken s') start.tree.gapped (now start s).table (now start s').table refl height (x ∷ [])
       (levels_map (IsUsed s) (Shared (now start s).table (now start s').table) (now start s).table (λ _ y u. same_spans (now start s).table (now start s').table y refl (levels.keeps.words (row_in y.word) u)) height (x ∷ []) used)
       (levels_map (IsUsed s) (SameNews (is_taken s) (is_taken s')) (now start s).table (λ _ y u. ap (λ (seen : List Seen). nat_lt 0 (passing (is_row_of (row_in y.word)) seen)) levels.taken) height (x ∷ []) used)
-      (subst (FewestBelow (is_taken s) start.tree.kind (now start s).table height) alone climbed.fewest))
+      (subst (FewestBelow (is_taken s) start.tree.gapped (now start s).table height) alone climbed.fewest))
 
   pub ends_at_root : IsReplaced start.tree (with_root (now start s') x.word) start.map s'.taken s'.gone (Some start.height) (Some height)
   ends_at_root =
@@ -154,20 +154,20 @@ module _ (start : Start) (s s' : Work) (left right : List PathStep) (height : �
       (cases_Bool (row_in x.word == row_in y.word))
 
   -- the new rows stay the fewest, and the root is one row
-  fewest_grown : (lo : ℕ) (items : List Item) → new ≡ spans_from lo items → length items ≤ slots_of start.tree.table.width (kind_at start.tree.kind (suc height))
-      → FewestBelow (is_taken s') start.tree.kind (now start s').table (suc height) (root_of (with_root (now start s') x.word))
+  fewest_grown : (lo : ℕ) (items : List Item) → new ≡ spans_from lo items → length items ≤ slots_of start.tree.table.width (kind_on start.tree.gapped (suc height))
+      → FewestBelow (is_taken s') start.tree.gapped (now start s').table (suc height) (root_of (with_root (now start s') x.word))
   fewest_grown lo items is_new few =
       let used = subst (Levels (IsUsed s) (now start s).table height) all_new climbed.used in
-      subst (FewestBelow (is_taken s') start.tree.kind (now start s').table (suc height)) (at_root start s' x whole.0 x_last) (
-        one_new (is_taken s') (now start s').table (kind_at start.tree.kind (suc height)) x lo items (lt-ltb 0 (passing (is_row_of (row_in x.word)) s'.taken) (are_taken start s s' (suc height) new (x ∷ []) written).0) (written.hold ∙ is_new) few,
-        subst (FewestBelow (is_taken s') start.tree.kind (now start s').table height) (sym written.hold)
-            (fewest_later (is_taken s) (is_taken s') start.tree.kind (now start s).table (now start s').table refl height new
+      subst (FewestBelow (is_taken s') start.tree.gapped (now start s').table (suc height)) (at_root start s' x whole.0 x_last) (
+        one_new (is_taken s') (now start s').table (kind_on start.tree.gapped (suc height)) x lo items (lt-ltb 0 (passing (is_row_of (row_in x.word)) s'.taken) (are_taken start s s' (suc height) new (x ∷ []) written).0) (written.hold ∙ is_new) few,
+        subst (FewestBelow (is_taken s') start.tree.gapped (now start s').table height) (sym written.hold)
+            (fewest_later (is_taken s) (is_taken s') start.tree.gapped (now start s).table (now start s').table refl height new
             (levels_map (IsUsed s) (Shared (now start s).table (now start s').table) (now start s).table (λ _ y u. same_spans (now start s).table (now start s').table y refl (written.keeps.words (row_in y.word) u)) height new used)
             (levels_map (IsUsed s) (SameNews (is_taken s) (is_taken s')) (now start s).table (λ _ y u. news_same y u) height new used)
-            (subst (FewestBelow (is_taken s) start.tree.kind (now start s).table height) all_new climbed.fewest)),
+            (subst (FewestBelow (is_taken s) start.tree.gapped (now start s).table height) all_new climbed.fewest)),
       )
 
-  pub ends_grown : (lo : ℕ) (items : List Item) → new ≡ spans_from lo items → length items ≤ slots_of start.tree.table.width (kind_at start.tree.kind (suc height))
+  pub ends_grown : (lo : ℕ) (items : List Item) → new ≡ spans_from lo items → length items ≤ slots_of start.tree.table.width (kind_on start.tree.gapped (suc height))
       → IsReplaced start.tree (with_root (now start s') x.word) start.map s'.taken s'.gone (Some start.height) (Some (suc start.height))
   ends_grown lo items is_new fit =
       let same : height ≡ start.height = (let all = climbed.levels in omega arith) in

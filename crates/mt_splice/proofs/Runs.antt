@@ -13,7 +13,7 @@ use Rattle.mt_layout.specs.Spans.{leaf_range, Fills, Apart, EndsFull}
 use Rattle.mt_layout.proofs.RowSizes.{sizes}
 use Rattle.mt_layout.proofs.SpanLists.{some_filled, full-append, two_hold_an_entry}
 use Rattle.mt_rows.specs.Spans.{spans_in}
-use Rattle.mt_rows.specs.Laws.{Tree, IsRow, top_of, kind_at, covers_all, least_of_root, least_of}
+use Rattle.mt_rows.specs.Laws.{Tree, IsRow, top_of, kind_on, covers_all, least_of_root, least_of}
 use Rattle.mt_leaf.specs.Edits.{stored, joined, edited, ends_with_hole}
 use Rattle.mt_leaf.proofs.Stored.{ranges_edited, fills_edited, length_edited}
 use Rattle.mt_leaf.proofs.Holes.{ends_joined, full_unless_hole, no_hole_ends}
@@ -34,8 +34,8 @@ use Rattle.mt_rows.proofs.FewSpans.{row_most}
 
 -- ---- rows that are not the root
 
-part_least : (t : Tree) (h : ℕ) (x : Span) → covers_all t x ≡ false → IsRow t h x → least_items t.table.width (kind_at t.kind h) ≤ length (spans_in t.table x)
-part_least t h x part row = subst (λ (b : Bool). (if b then least_of_root h else least_items t.table.width (kind_at t.kind h)) ≤ length (spans_in t.table x)) part row.count.least
+part_least : (t : Tree) (h : ℕ) (x : Span) → covers_all t x ≡ false → IsRow t h x → least_items t.table.width (kind_on t.gapped h) ≤ length (spans_in t.table x)
+part_least t h x part row = subst (λ (b : Bool). (if b then least_of_root h else least_items t.table.width (kind_on t.gapped h)) ≤ length (spans_in t.table x)) part row.count.least
 
 late_part : (t : Tree) (x : Span) → 0 < x.first → covers_all t x ≡ false
 late_part t x late = let not : (x.first == 0) ≡ false = ne_eqb x.first 0 (λ none. omega arith) in rw not refl
@@ -109,15 +109,15 @@ leaf_entry (suc height) run leaf fit two = absurd (omega arith)
 -- ---- as they are
 
 -- the least number of items of other rows is enough for the root
-least_enough : (t : Tree) (height lo hi : ℕ) (run : List Span) → least_items t.table.width (kind_at t.kind height) ≤ length run → least_of t height (span_to lo hi) ≤ length run
+least_enough : (t : Tree) (height lo hi : ℕ) (run : List Span) → least_items t.table.width (kind_on t.gapped height) ≤ length run → least_of t height (span_to lo hi) ≤ length run
 least_enough t height lo hi run enough = by (covers_all t (span_to lo hi))
   where
     root_least : (height : ℕ) → least_of_root height ≤ 2
     root_least zero = omega arith
     root_least (suc height) = omega arith
 
-    by : (b : Bool) → (if b then least_of_root height else least_items t.table.width (kind_at t.kind height)) ≤ length run
-    by true = let two = root_least height in let some = (sizes t.table.width (kind_at t.kind height)).some in omega arith
+    by : (b : Bool) → (if b then least_of_root height else least_items t.table.width (kind_on t.gapped height)) ≤ length run
+    by true = let two = root_least height in let some = (sizes t.table.width (kind_on t.gapped height)).some in omega arith
     by false = enough
 
 all_enough : (t : Tree) (height lo hi : ℕ) (run : List Span) → lo ≡ 0 → hi ≡ top_of t + 1 → least_of_root height ≤ length run → least_of t height (span_to lo hi) ≤ length run
@@ -138,10 +138,10 @@ leaves_hold_an_entry start s left right depth run gathered not_hole = by run (so
     by (x ∷ y ∷ ys) some apart not_hole = two_hold_an_entry (x ∷ y ∷ ys) apart (omega arith)
 
 -- enough spans, which end with an entry or with the greatest index
-pub cut_alone : (start : Start) (s : Work) (left right : List PathStep) (depth height : ℕ) (run : List Span) → Gathered start s left right depth height run → length run ≤ most_items start.tree.table.width (kind_at start.tree.kind height)
-    → least_items start.tree.table.width (kind_at start.tree.kind height) ≤ length run → (height ≡ 0 → (step_at right depth).max < top_of start.tree → ends_with_hole run ≡ false) → MayBeCut start.tree height (begin_of left depth) (behind_of right depth) run
+pub cut_alone : (start : Start) (s : Work) (left right : List PathStep) (depth height : ℕ) (run : List Span) → Gathered start s left right depth height run → length run ≤ most_items start.tree.table.width (kind_on start.tree.gapped height)
+    → least_items start.tree.table.width (kind_on start.tree.gapped height) ≤ length run → (height ≡ 0 → (step_at right depth).max < top_of start.tree → ends_with_hole run ≡ false) → MayBeCut start.tree height (begin_of left depth) (behind_of right depth) run
 cut_alone start s left right depth height run gathered few least ends =
-    let enough = sizes start.tree.table.width (kind_at start.tree.kind height) in
+    let enough = sizes start.tree.table.width (kind_on start.tree.gapped height) in
     record {
       fills = gathered.fills;
       some = omega arith;
@@ -152,13 +152,13 @@ cut_alone start s left right depth height run gathered few least ends =
     }
 
 -- spans that stand for every index
-pub cut_whole : (start : Start) (s : Work) (left right : List PathStep) (depth height : ℕ) (run : List Span) → Gathered start s left right depth height run → length run ≤ most_items start.tree.table.width (kind_at start.tree.kind height)
+pub cut_whole : (start : Start) (s : Work) (left right : List PathStep) (depth height : ℕ) (run : List Span) → Gathered start s left right depth height run → length run ≤ most_items start.tree.table.width (kind_on start.tree.gapped height)
     → begin_of left depth ≡ 0 → (step_at right depth).max ≡ top_of start.tree → least_of_root height ≤ length run → (height ≡ 0 → flat_map leaf_range run ≢ [])
     → MayBeCut start.tree height (begin_of left depth) (behind_of right depth) run
 cut_whole start s left right depth height run gathered few first last least some = record {
   fills = gathered.fills;
   some = some_gathered start s left right depth height run gathered;
-  few = let enough = sizes start.tree.table.width (kind_at start.tree.kind height) in omega arith;
+  few = let enough = sizes start.tree.table.width (kind_on start.tree.gapped height) in omega arith;
   least = all_enough start.tree height (begin_of left depth) (behind_of right depth) run first (let same = last in omega arith) least;
   fit = gathered.fit;
   leaves = λ leaf. record { ends = λ more. absurd (omega arith); some = some leaf };
@@ -199,7 +199,7 @@ empty_run t right first last entry order within free some =
 -- ---- with the row on the right
 
 module _ (start : Start) (s : Work) (left right right' : List PathStep) (depth height : ℕ) (run : List Span) (gathered : Gathered start s left right depth height run)
-    (more : (step_at right depth).max < top_of start.tree) (is_right : right' ≡ path_in start.tree.table start.tree.root ((step_at right depth).max + 1)) (few : length run + slots_of start.tree.table.width (kind_at start.tree.kind height) ≤ most_in_three start.tree.table.width (kind_at start.tree.kind height)) where
+    (more : (step_at right depth).max < top_of start.tree) (is_right : right' ≡ path_in start.tree.table start.tree.root ((step_at right depth).max + 1)) (few : length run + slots_of start.tree.table.width (kind_on start.tree.gapped height) ≤ most_in_three start.tree.table.width (kind_on start.tree.gapped height)) where
   abbrev t : Tree
   t = start.tree
 
@@ -213,7 +213,7 @@ module _ (start : Start) (s : Work) (left right right' : List PathStep) (depth h
   row_behind = row_of t depth behind
 
   abbrev spans_behind : List Span
-  spans_behind = spans_on (now start s).table (kind_at t.kind height) (step_at right' depth)
+  spans_behind = spans_on (now start s).table (kind_on t.gapped height) (step_at right' depth)
 
   spans_are : spans_behind ≡ spans_in t.table row_behind
   spans_are = spans_here start s gathered.holds right' behind behind_within is_right depth height gathered.levels
@@ -230,10 +230,10 @@ module _ (start : Start) (s : Work) (left right right' : List PathStep) (depth h
       omega arith
 
   abbrev least_behind : ℕ
-  least_behind = least_items t.table.width (kind_at t.kind height)
+  least_behind = least_items t.table.width (kind_on t.gapped height)
 
   abbrev slots_behind : ℕ
-  slots_behind = slots_of t.table.width (kind_at t.kind height)
+  slots_behind = slots_of t.table.width (kind_on t.gapped height)
 
   counts : (least_behind ≤ length spans_behind) × (length spans_behind ≤ slots_behind)
   counts = subst (λ (xs : List Span). (least_behind ≤ length xs) × (length xs ≤ slots_behind)) (sym spans_are) (part_least t height row_behind (late_part t row_behind starts_late) law_behind, (row_most law_behind.name))
@@ -241,7 +241,7 @@ module _ (start : Start) (s : Work) (left right right' : List PathStep) (depth h
   pub cut_with_right : MayBeCut t height (begin_of left depth) (behind_of right' depth) (beside height run spans_behind)
   cut_with_right =
       let some = some_gathered start s left right depth height run gathered in
-      let enough = sizes t.table.width (kind_at t.kind height) in
+      let enough = sizes t.table.width (kind_on t.gapped height) in
       let least = counts.0 in let most = counts.1 in
       let few_all = beside_few height run spans_behind in
       let many_all = beside_many height run spans_behind (run_apart height run gathered.fit) (row_apart t height row_behind spans_behind law_behind spans_are) in
@@ -262,7 +262,7 @@ module _ (start : Start) (s : Work) (left right right' : List PathStep) (depth h
 -- ---- with the row on the left, where none stands on the right
 
 module _ (start : Start) (s : Work) (left right left' : List PathStep) (depth height : ℕ) (run : List Span) (gathered : Gathered start s left right depth height run)
-    (more : 0 < (step_at left depth).min) (is_left : left' ≡ path_in start.tree.table start.tree.root ((step_at left depth).min - 1)) (last : (step_at right depth).max ≡ top_of start.tree) (few : length run + slots_of start.tree.table.width (kind_at start.tree.kind height) ≤ most_in_three start.tree.table.width (kind_at start.tree.kind height)) where
+    (more : 0 < (step_at left depth).min) (is_left : left' ≡ path_in start.tree.table start.tree.root ((step_at left depth).min - 1)) (last : (step_at right depth).max ≡ top_of start.tree) (few : length run + slots_of start.tree.table.width (kind_on start.tree.gapped height) ≤ most_in_three start.tree.table.width (kind_on start.tree.gapped height)) where
   abbrev old : Tree
   old = start.tree
 
@@ -285,7 +285,7 @@ module _ (start : Start) (s : Work) (left right left' : List PathStep) (depth he
   row_ahead = row_of old depth ahead
 
   abbrev spans_ahead : List Span
-  spans_ahead = spans_on (now start s).table (kind_at old.kind height) (step_at left' depth)
+  spans_ahead = spans_on (now start s).table (kind_on old.gapped height) (step_at left' depth)
 
   ahead_are : spans_ahead ≡ spans_in old.table row_ahead
   ahead_are = spans_here start s gathered.holds left' ahead ahead_within is_left depth height gathered.levels
@@ -303,10 +303,10 @@ module _ (start : Start) (s : Work) (left right left' : List PathStep) (depth he
       omega arith
 
   abbrev least_ahead : ℕ
-  least_ahead = least_items old.table.width (kind_at old.kind height)
+  least_ahead = least_items old.table.width (kind_on old.gapped height)
 
   abbrev slots_ahead : ℕ
-  slots_ahead = slots_of old.table.width (kind_at old.kind height)
+  slots_ahead = slots_of old.table.width (kind_on old.gapped height)
 
   counts_ahead : (least_ahead ≤ length spans_ahead) × (length spans_ahead ≤ slots_ahead)
   counts_ahead = subst (λ (xs : List Span). (least_ahead ≤ length xs) × (length xs ≤ slots_ahead)) (sym ahead_are) (part_least old height row_ahead (early_part old row_ahead ends_early) law_ahead, (row_most law_ahead.name))
@@ -314,7 +314,7 @@ module _ (start : Start) (s : Work) (left right left' : List PathStep) (depth he
   pub cut_with_left : MayBeCut old height (begin_of left' depth) (behind_of right depth) (beside height spans_ahead run)
   cut_with_left =
       let some = some_gathered start s left right depth height run gathered in
-      let enough = sizes old.table.width (kind_at old.kind height) in
+      let enough = sizes old.table.width (kind_on old.gapped height) in
       let least = counts_ahead.0 in let most = counts_ahead.1 in
       let few_all = beside_few height spans_ahead run in
       let many_all = beside_many height spans_ahead run (row_apart old height row_ahead spans_ahead law_ahead ahead_are) (run_apart height run gathered.fit) in
@@ -338,10 +338,10 @@ module _ (start : Start) (s : Work) (left right : List PathStep) (depth height :
   here = suc height
 
   abbrev left_spans : List Span
-  left_spans = spans_on (now start s).table (kind_at start.tree.kind here) (step_at left depth)
+  left_spans = spans_on (now start s).table (kind_on start.tree.gapped here) (step_at left depth)
 
   abbrev right_spans : List Span
-  right_spans = spans_on (now start s).table (kind_at start.tree.kind here) (step_at right depth)
+  right_spans = spans_on (now start s).table (kind_on start.tree.gapped here) (step_at right depth)
 
   levels : start.height ≡ depth + here
   levels = let below = climbed.levels in omega arith
@@ -350,7 +350,7 @@ module _ (start : Start) (s : Work) (left right : List PathStep) (depth height :
   left_within = let order = climbed.paths.order in let within = climbed.paths.within in omega arith
 
   abbrev slots_here : ℕ
-  slots_here = slots_of start.tree.table.width (kind_at start.tree.kind here)
+  slots_here = slots_of start.tree.table.width (kind_on start.tree.gapped here)
 
   pub left_few : length left_spans ≤ slots_here
   left_few =
@@ -372,7 +372,7 @@ module _ (start : Start) (s : Work) (left right : List PathStep) (depth height :
       let many = ap (λ (xs : List Span). length xs) (spans_here start s climbed.holds left climbed.paths.from left_within climbed.paths.is_left depth here levels ∙ left_at.parts) in
       omega (arith, many, step, at, length-append left_at.front (row_of start.tree (suc depth) climbed.paths.from ∷ left_at.back))
 
-  pub few_gathered : length new ≤ 3 → length (take (step_at left depth).slot left_spans ++ (new ++ drop ((step_at right depth).slot + 1) right_spans)) ≤ most_items start.tree.table.width (kind_at start.tree.kind here)
+  pub few_gathered : length new ≤ 3 → length (take (step_at left depth).slot left_spans ++ (new ++ drop ((step_at right depth).slot + 1) right_spans)) ≤ most_items start.tree.table.width (kind_on start.tree.gapped here)
   few_gathered few =
       omega (
         arith,

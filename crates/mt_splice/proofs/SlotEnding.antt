@@ -1,7 +1,7 @@
 -- A replacement ends in place: one new row stands where one old row stood, by one store in the row above.
 use Rattle.std.proofs.Common.{◌≡◌, ℕ, suc, ◌+◌, ◌≤◌, ◌==◌, List, [], ◌∷◌, ◌++◌, Bool, false, Some, map, refl, ne_eqb, sym, ap, ◌∙◌, subst, ⊎_elim, arith, zero, true, inl, inr}
 use Rattle.mt_base.specs.declared.kinds.Kind.{Kind}
-use Rattle.mt_base.specs.declared.kinds.Kind.TheVariants as trees
+use Rattle.mt_base.specs.Call.{finds_room}
 use Rattle.mt_splice.specs.Splice.{TellsBelow}
 use Rattle.mt_splice.proofs.FewestRows.{SameNews, fewest_later, none_new}
 use Rattle.mt_splice.specs.steps.Progress.{is_taken}
@@ -19,7 +19,7 @@ use Rattle.mt_base.proofs.Lists.{none_or_some, all_map}
 use Rattle.mt_rows.specs.Spans.{Table, spans_in}
 use Rattle.mt_layout.specs.Sizes.{slots_of}
 use Rattle.mt_rows.specs.Levels.{map_of, Levels, tally, times, is_row_of, level, expand}
-use Rattle.mt_rows.specs.Laws.{Tree, HasWords, IsRow, GapLaw, top_of, kind_at, longest_below}
+use Rattle.mt_rows.specs.Laws.{Tree, HasWords, IsRow, GapLaw, top_of, kind_on, longest_below}
 use Rattle.mt_rows.specs.Publish.{StandsAt, SameHoles, IsSlotOf}
 use Rattle.mt_rows.specs.Replacement.{root_of, IsSlotAt, with_slot, with_child, ReplacesChild}
 use Rattle.mt_rows.proofs.Lists.{tally-append, levels_map, levels_here}
@@ -55,14 +55,14 @@ use Rattle.mt_splice.proofs.Written.{counts_itself, each_counted}
 use Rattle.mt_splice.proofs.Rises.{at_here, step_here, row_is_lawful, row_keeps_words}
 
 -- Where each row stands once, and the new ones stand at a level or below it, none stands above.
-fewest_from : (is_new : ℕ → Bool) (kind : Kind) (t : Table) (d k h : ℕ) (xs : List Span) → h ≡ d + k → ((row : ℕ) → times (is_row_of row) t h xs ≤ 1) → ((row : ℕ) → is_new row ≡ true → 1 ≤ times (is_row_of row) t k (level t d xs))
-    → FewestBelow is_new kind t k (level t d xs) → FewestBelow is_new kind t h xs
-fewest_from is_new kind t zero k h xs height once here below = let same : k ≡ h = omega arith in subst (λ (n : ℕ). FewestBelow is_new kind t n xs) same below
-fewest_from is_new kind t (suc d) k zero xs height once here below = absurd (omega arith)
-fewest_from is_new kind t (suc d) k (suc h) xs height once here below = (
-  none_new is_new t (kind_at kind (suc h)) xs
+fewest_from : (is_new : ℕ → Bool) (gapped : Bool) (t : Table) (d k h : ℕ) (xs : List Span) → h ≡ d + k → ((row : ℕ) → times (is_row_of row) t h xs ≤ 1) → ((row : ℕ) → is_new row ≡ true → 1 ≤ times (is_row_of row) t k (level t d xs))
+    → FewestBelow is_new gapped t k (level t d xs) → FewestBelow is_new gapped t h xs
+fewest_from is_new gapped t zero k h xs height once here below = let same : k ≡ h = omega arith in subst (λ (n : ℕ). FewestBelow is_new gapped t n xs) same below
+fewest_from is_new gapped t (suc d) k zero xs height once here below = absurd (omega arith)
+fewest_from is_new gapped t (suc d) k (suc h) xs height once here below = (
+  none_new is_new t (kind_on gapped (suc h)) xs
       (all_map (λ (x : Span). 1 ≤ tally (is_row_of (row_in x.word) (suc h)) xs) (λ (x : Span). is_new (row_in x.word) ≡ false) old_here xs (each_counted (suc h) xs xs (λ p. omega arith))),
-  fewest_from is_new kind t d k h (expand t xs) (omega arith) (λ row. let all = once row in omega arith) here below,
+  fewest_from is_new gapped t d k h (expand t xs) (omega arith) (λ row. let all = once row in omega arith) here below,
 )
   where
     old_here : (x : Span) → 1 ≤ tally (is_row_of (row_in x.word) (suc h)) xs → is_new (row_in x.word) ≡ false
@@ -240,16 +240,16 @@ module _ (start : Start) (s : Work) (left right : List PathStep) (depth height :
   level_shared_then : Levels (Shared t.table t'.table) t.table height (front ++ (x ∷ back))
   level_shared_then = levels_map (store.IsOther its_store) (Shared t.table t'.table) t.table (store.others_same its_store) height (front ++ (x ∷ back)) (times_nowhere is_parent t.table height (front ++ (x ∷ back)) not_beside)
 
-  pub fewest_in_place : FewestBelow (is_taken s) old.kind t'.table height (rows_at t' (suc depth))
+  pub fewest_in_place : FewestBelow (is_taken s) old.gapped t'.table height (rows_at t' (suc depth))
   fewest_in_place =
-      subst (FewestBelow (is_taken s) old.kind t'.table height) (sym (replaces.after ∙ (λ k. beside.0 k ++ (sym child_is k ∷ back_same k))))
-      (fewest_later (is_taken s) (is_taken s) old.kind t.table t'.table refl height (front ++ (x ∷ back)) level_shared_then
+      subst (FewestBelow (is_taken s) old.gapped t'.table height) (sym (replaces.after ∙ (λ k. beside.0 k ++ (sym child_is k ∷ back_same k))))
+      (fewest_later (is_taken s) (is_taken s) old.gapped t.table t'.table refl height (front ++ (x ∷ back)) level_shared_then
       (levels_map (Shared t.table t'.table) (SameNews (is_taken s) (is_taken s)) t.table (λ _ y same. refl) height (front ++ (x ∷ back)) level_shared_then)
-      (subst (FewestBelow (is_taken s) old.kind t.table height) (λ k. front_is k ++ (x ∷ back_is k)) climbed.fewest))
+      (subst (FewestBelow (is_taken s) old.gapped t.table height) (λ k. front_is k ++ (x ∷ back_is k)) climbed.fewest))
 
   -- and no new row stands above that level
-  fewest_at_step : FewestBelow (is_taken s) old.kind t'.table h (root_of t')
-  fewest_at_step = fewest_from (is_taken s) old.kind t'.table (suc depth) height h (root_of t') climbed.levels (λ row. times_in_once t' h replaces.stands row) new_here fewest_in_place
+  fewest_at_step : FewestBelow (is_taken s) old.gapped t'.table h (root_of t')
+  fewest_at_step = fewest_from (is_taken s) old.gapped t'.table (suc depth) height h (root_of t') climbed.levels (λ row. times_in_once t' h replaces.stands row) new_here fewest_in_place
     where
       new_here : (row : ℕ) → is_taken s row ≡ true → 1 ≤ times (is_row_of row) t'.table height (rows_at t' (suc depth))
       new_here row taken =
@@ -297,10 +297,10 @@ module _ (start : Start) (s : Work) (left right : List PathStep) (depth height :
   named_is_some word kind named = ne_eqb word 0 (λ none. let clash = ap named_kind (sym none) ∙ named in absurd (cc))
 
   child_is_some : (replaced.word == 0) ≡ false
-  child_is_some = named_is_some replaced.word (kind_at old.kind height) (row_is_lawful start s holds left i within climbed.paths.is_left (suc depth) height climbed.levels).name.named
+  child_is_some = named_is_some replaced.word (kind_on old.gapped height) (row_is_lawful start s holds left i within climbed.paths.is_left (suc depth) height climbed.levels).name.named
 
   new_is_some : (x.word == 0) ≡ false
-  new_is_some = named_is_some x.word (kind_at t.kind height) (levels_here (IsRow t) t.table height (x ∷ []) new_rows).0.name.named
+  new_is_some = named_is_some x.word (kind_on t.gapped height) (levels_here (IsRow t) t.table height (x ∷ []) new_rows).0.name.named
 
   abbrev is_hole : Span → Bool
   is_hole y = y.word == 0
@@ -326,11 +326,11 @@ module _ (start : Start) (s : Work) (left right : List PathStep) (depth height :
       (λ (other : row_in y.word ≡ row_in parent.word → ⊥). ap (map is_hole) (sym (store.others_same its_store 0 y (ne_eqb (row_in y.word) (row_in parent.word) other))))
       (cases_eq (row_in y.word) (row_in parent.word))
 
-  slot_used : IsSlotOf (words_of t) (row_in parent.word) (slot_column (slots_of t.table.width (kind_at t.kind (suc height))) slot)
+  slot_used : IsSlotOf (words_of t) (row_in parent.word) (slot_column (slots_of t.table.width (kind_on t.gapped (suc height))) slot)
   slot_used = record {
     depth = depth;
     at = parent;
-    kind = kind_at t.kind (suc height);
+    kind = kind_on t.gapped (suc height);
     slot = slot;
     reached = below_root t h (old_stands start s holds) depth (suc height) parent levels (one_of_parts (rows_at t depth) parent_at.front parent_at.back parent is_slot.stands);
     named = (row_is_lawful start s holds left i within climbed.paths.is_left depth (suc height) levels).name.named;
@@ -343,15 +343,15 @@ module _ (start : Start) (s : Work) (left right : List PathStep) (depth height :
   left_step : step_at left depth ≡ step_in old.table parent i
   left_step = step_here start s holds left i within climbed.paths.is_left depth (suc height) levels
 
-  pub ends_at_step : IsReplaced old (with_step t (kind_at t.kind (suc height)) (step_at left depth) x.word) start.map s.taken s.gone (Some h) (Some h)
-  ends_at_step = subst (λ (z : PathStep). IsReplaced old (with_step t (kind_at t.kind (suc height)) z x.word) start.map s.taken s.gone (Some h) (Some h)) (sym left_step) ends_in_place
+  pub ends_at_step : IsReplaced old (with_step t (kind_on t.gapped (suc height)) (step_at left depth) x.word) start.map s.taken s.gone (Some h) (Some h)
+  ends_at_step = subst (λ (z : PathStep). IsReplaced old (with_step t (kind_on t.gapped (suc height)) z x.word) start.map s.taken s.gone (Some h) (Some h)) (sym left_step) ends_in_place
 
   -- the row of that step stays
   pub step_stays : IsStepIn t depth (step_at left depth) × (passing (is_row_of (step_at left depth).row) s.gone ≡ 0)
   step_stays = subst (λ (z : PathStep). IsStepIn t depth z × (passing (is_row_of z.row) s.gone ≡ 0)) (sym left_step) (record { row = parent; child = replaced; at = is_slot; number = refl }, not_below.1)
 
-  pub published_at_step : IsPublished t (kind_at t.kind (suc height)) (step_at left depth) x.word
-  published_at_step = subst (λ (z : PathStep). IsPublished t (kind_at t.kind (suc height)) z x.word) (sym left_step) (record { slot = slot_used; holes = holes_stay })
+  pub published_at_step : IsPublished t (kind_on t.gapped (suc height)) (step_at left depth) x.word
+  published_at_step = subst (λ (z : PathStep). IsPublished t (kind_on t.gapped (suc height)) z x.word) (sym left_step) (record { slot = slot_used; holes = holes_stay })
 
   -- ---- what stands there
 
@@ -359,7 +359,7 @@ module _ (start : Start) (s : Work) (left right : List PathStep) (depth height :
   new_stands = stands_at t' h replaces.stands (suc depth) height x climbed.levels
       (one_of_parts (level t'.table (suc depth) (root_of t')) replaces.front replaces.back x (replaces.after ∙ (λ k. replaces.front ++ (sym child_is k ∷ replaces.back))))
 
-  new_tells : (kind : Kind) (gap : ℕ) → (kind ≡ trees.Alloc → gap ≡ longest_below t.table height (x ∷ [])) → TellsBelow kind (words_of t') x.word gap
+  new_tells : (kind : Kind) (gap : ℕ) → (finds_room kind ≡ true → gap ≡ longest_below t.table height (x ∷ [])) → TellsBelow kind (words_of t') x.word gap
   new_tells kind gap longest = record {
     height = height;
     row = x;
@@ -368,8 +368,8 @@ module _ (start : Start) (s : Work) (left right : List PathStep) (depth height :
     longest = λ gapped. longest gapped ∙ sym (longest_shared t.table t'.table height (x ∷ []) new_shared);
   }
 
-  pub tells_at_step : (kind : Kind) (gap : ℕ) → (kind ≡ trees.Alloc → gap ≡ longest_below t.table height (x ∷ [])) → TellsBelow kind (words_of (with_step t (kind_at t.kind (suc height)) (step_at left depth) x.word)) x.word gap
-  tells_at_step kind gap longest = subst (λ (z : PathStep). TellsBelow kind (words_of (with_step t (kind_at t.kind (suc height)) z x.word)) x.word gap) (sym left_step) (new_tells kind gap longest)
+  pub tells_at_step : (kind : Kind) (gap : ℕ) → (finds_room kind ≡ true → gap ≡ longest_below t.table height (x ∷ [])) → TellsBelow kind (words_of (with_step t (kind_on t.gapped (suc height)) (step_at left depth) x.word)) x.word gap
+  tells_at_step kind gap longest = subst (λ (z : PathStep). TellsBelow kind (words_of (with_step t (kind_on t.gapped (suc height)) z x.word)) x.word gap) (sym left_step) (new_tells kind gap longest)
 
   -- ---- the law of gaps
 
@@ -410,5 +410,5 @@ module _ (start : Start) (s : Work) (left right : List PathStep) (depth height :
         let begin = begins in let end = ends in let around = climbed.around in
         gaps_after t h height depth slot x.word index parent replaced has (old_stands start s holds) levels is_slot (omega (arith, around.first)) (omega (arith, around.last)) (is_taken s) old_laws olds laws_then
 
-    pub gaps_at_step : GapsAs (is_taken s) index (with_step t (kind_at t.kind (suc height)) (step_at left depth) x.word) (Some h)
-    gaps_at_step = subst (λ (z : PathStep). GapsAs (is_taken s) index (with_step t (kind_at t.kind (suc height)) z x.word) (Some h)) (sym left_step) gaps_in_place
+    pub gaps_at_step : GapsAs (is_taken s) index (with_step t (kind_on t.gapped (suc height)) (step_at left depth) x.word) (Some h)
+    gaps_at_step = subst (λ (z : PathStep). GapsAs (is_taken s) index (with_step t (kind_on t.gapped (suc height)) z x.word) (Some h)) (sym left_step) gaps_in_place

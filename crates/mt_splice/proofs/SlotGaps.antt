@@ -12,7 +12,7 @@ use Rattle.mt_layout.specs.Rows.{row_in, named_kind}
 use Rattle.mt_layout.specs.Sizes.{slots_of, gaps_of}
 use Rattle.mt_layout.specs.Spans.{spans_from, Fills}
 use Rattle.mt_layout.proofs.SpanLists.{fills_le, fills_split}
-use Rattle.mt_rows.specs.Spans.{Table, base_of, inner_kind, spans_by, spans_in}
+use Rattle.mt_rows.specs.Spans.{Table, base_of, inner_of, spans_by, spans_in}
 use Rattle.mt_rows.specs.Levels.{expand, level, Levels}
 use Rattle.mt_rows.specs.Laws.{Tree, HasWords, IsRow, Stands, GapLaw, GapLawBy, GapsFrom, items_in, longest_below}
 use Rattle.mt_rows.specs.Gaps.{covers, GapsFromBut, GapLawBut, GapLawButBy, KeepsGaps}
@@ -113,7 +113,7 @@ put_of Gapped index t h first n word items x at on told = tell_put index t h fir
 -- the law but for a slot follows from the law
 pub weaker : (index : ℕ) (t : Tree) (h : ℕ) (x : Span) → GapLaw t h x → GapLawBut index t h x
 weaker index t zero x law = tt
-weaker index t (suc h) x law = by_kind (inner_kind t.kind) law
+weaker index t (suc h) x law = by_kind (inner_of t.gapped) law
   where
     from : (row slot : ℕ) (xs : List Span) → GapsFrom t.table h row slot xs → GapsFromBut index t.table h row slot xs
     from row slot [] law = tt
@@ -142,7 +142,7 @@ module _ (t : Tree) (h k depth slot word index : ℕ) (row child : Span) (has : 
   t' = with_slot t (suc k) row slot word
 
   abbrev kind : RowKind
-  kind = inner_kind t.kind
+  kind = inner_of t.gapped
 
   row_law : IsRow t (suc k) row
   row_law = store.row_law s

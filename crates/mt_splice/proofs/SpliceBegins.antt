@@ -187,7 +187,7 @@ module _ {kind : Kind} {s : Sheet} {book : Book} {left right : List PathStep} {i
 
     takes_in : MayTakeIn start (work_of s) s.tree Leaf left right start.height 0 items
     takes_in = record {
-      is_now = record { words = refl; width = may.kept.lawful.width };
+      is_now = record { words = refl; kind = kind; gapped = refl; width = may.kept.lawful.width };
       of_kind = refl;
       gathered = run_gathered;
       few = let few = run_few.few in let same = length-spans_from (step_at left start.height).min items in omega arith;
@@ -306,7 +306,7 @@ module _ {kind : Kind} {s : Sheet} {book : Book} {right : List PathStep} {items 
             let root = ap (λ (x : Span). tally (p 0) (x ∷ [])) (root_is tree₀ leaf refl leaf_last) in
             omega arith;
         were = λ p. (let gone = ap (passing p) one.written.gone in omega arith);
-        fewest = subst (FewestBelow (is_taken w') tree₀.kind (now start₀ w').table 0) (at_root start₀ w' leaf refl leaf_last)
+        fewest = subst (FewestBelow (is_taken w') tree₀.gapped (now start₀ w').table 0) (at_root start₀ w' leaf refl leaf_last)
             (one_new (is_taken w') (now start₀ w').table Leaf leaf 0 items (lt-ltb 0 (passing (is_row_of (row_in item.word)) w'.taken) leaf_stands.2) one.written.hold
             (let few = ap length may.edits in let most = empty_cut.2 in let same = length-spans_from 0 items in let wide = sizes s.tree.table.width Leaf in omega (arith, wide.least, wide.some)));
       }

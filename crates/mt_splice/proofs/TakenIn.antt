@@ -1,13 +1,11 @@
 -- The items of a row taken in beside others, as spans.
-use Rattle.std.proofs.Common.{◌≡◌, ℕ, zero, suc, ◌+◌, ◌-◌, List, [], ◌∷◌, ◌++◌, length, sym, ap, ◌∙◌, refl, arith}
-use Rattle.mt_base.specs.declared.kinds.Kind.{Kind}
-use Rattle.mt_base.specs.declared.kinds.Kind.TheVariants as trees
+use Rattle.std.proofs.Common.{◌≡◌, ℕ, Bool, true, false, zero, suc, ◌+◌, ◌-◌, List, [], ◌∷◌, ◌++◌, length, sym, ap, ◌∙◌, refl, arith}
 use Rattle.mt_layout.specs.declared.items.Item.{Item}
 use Rattle.mt_layout.specs.Spans.{spans_from, Fills}
 use Rattle.mt_layout.proofs.SpanLists.{fills_after, spans-append}
 use Rattle.mt_leaf.specs.Edits.{joined, ends_with_hole}
 use Rattle.mt_leaf.proofs.Pushes.{pushed_onto}
-use Rattle.mt_rows.specs.Laws.{kind_at}
+use Rattle.mt_rows.specs.Laws.{kind_on}
 use Rattle.mt_splice.specs.steps.Climbs.{MayBeIn, beside}
 use Rattle.mt_splice.specs.steps.TakingIn.{is_hole_at, beside_items}
 
@@ -28,8 +26,8 @@ ends_at_last first (x ∷ y ∷ items) =
 pub spans_behind : (lo middle : ℕ) (items row : List Item) → Fills lo middle (spans_from lo items) → spans_from lo (items ++ row) ≡ spans_from lo items ++ spans_from middle row
 spans_behind lo middle items row here = spans-append lo items row ∙ ap (λ (k : ℕ). spans_from lo items ++ spans_from k row) (sym (fills_after lo middle items here))
 
-pub beside_spans : (lo middle : ℕ) (items row : List Item) → Fills lo middle (spans_from lo items) → (tree : Kind) (height : ℕ) → MayBeIn height (spans_from lo items)
-    → spans_from lo (beside_items (kind_at tree height) items row) ≡ beside height (spans_from lo items) (spans_from middle row)
-beside_spans lo middle items row here tree zero fit = pushed_onto lo items row fit.0 ∙ ap joined (spans_behind lo middle items row here)
-beside_spans lo middle items row here trees.Range (suc height) fit = spans_behind lo middle items row here
-beside_spans lo middle items row here trees.Alloc (suc height) fit = spans_behind lo middle items row here
+pub beside_spans : (lo middle : ℕ) (items row : List Item) → Fills lo middle (spans_from lo items) → (gapped : Bool) (height : ℕ) → MayBeIn height (spans_from lo items)
+    → spans_from lo (beside_items (kind_on gapped height) items row) ≡ beside height (spans_from lo items) (spans_from middle row)
+beside_spans lo middle items row here gapped zero fit = pushed_onto lo items row fit.0 ∙ ap joined (spans_behind lo middle items row here)
+beside_spans lo middle items row here false (suc height) fit = spans_behind lo middle items row here
+beside_spans lo middle items row here true (suc height) fit = spans_behind lo middle items row here

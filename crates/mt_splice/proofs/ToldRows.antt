@@ -1,17 +1,15 @@
 -- Items that tell their gaps: at a later moment, side by side, and in the rows of the tree as it was.
-use Rattle.std.proofs.Common.{refl, ◌≡◌, ℕ, zero, suc, ◌+◌, ◌≤◌, List, [], ◌∷◌, ◌++◌, take, drop, sym, ap, ◌∙◌, subst, append-nil, take-append-drop, inl, inr, arith}
+use Rattle.std.proofs.Common.{refl, ◌≡◌, ℕ, Bool, true, false, zero, suc, ◌+◌, ◌≤◌, List, [], ◌∷◌, ◌++◌, take, drop, sym, ap, ◌∙◌, subst, append-nil, take-append-drop, inl, inr, arith}
 use Rattle.std.proofs.lemmas.List.{map-append, take-map, drop-map}
-use Rattle.mt_base.specs.declared.kinds.Kind.{Kind}
-use Rattle.mt_base.specs.declared.kinds.Kind.TheVariants as trees
 use Rattle.mt_layout.specs.declared.items.Item.{Item}
 use Rattle.mt_layout.specs.declared.names.RowKind.{RowKind}
 use Rattle.mt_layout.specs.declared.names.RowKind.TheVariants.{Leaf, Inner, Gapped}
 use Rattle.mt_layout.specs.declared.spans.Span.{Span}
 use Rattle.mt_layout.specs.Spans.{spans_from, Fills}
 use Rattle.mt_layout.proofs.SpanLists.{spans-take}
-use Rattle.mt_rows.specs.Spans.{Table, inner_kind, spans_in}
+use Rattle.mt_rows.specs.Spans.{Table, inner_of, spans_in}
 use Rattle.mt_rows.specs.Levels.{Levels}
-use Rattle.mt_rows.specs.Laws.{Tree, IsRow, IsLawful, IsTended, Stands, GapLaw, top_of, kind_at, longest_below}
+use Rattle.mt_rows.specs.Laws.{Tree, IsRow, IsLawful, IsTended, Stands, GapLaw, top_of, kind_on, longest_below}
 use Rattle.mt_rows.specs.Replacement.{root_of}
 use Rattle.mt_rows.proofs.Lists.{levels_map}
 use Rattle.mt_rows.proofs.Joins.{levels_front, levels_back, levels_join, levels_shared}
@@ -68,7 +66,7 @@ module _ (start : Start) (w w' : Work) (keeps : Keeps start w w') where
   told_later zero first items told = tt
   told_later (suc h) first items told = record {
     rows = good_later h (spans_from first items) told.rows;
-    gaps = tells_later (inner_kind start.tree.kind) (now start w).table (now start w').table h first items (rows_shared start.tree w.words w'.words h (spans_from first items) (good_stay h (spans_from first items) told.rows)) told.gaps;
+    gaps = tells_later (inner_of start.tree.gapped) (now start w).table (now start w').table h first items (rows_shared start.tree w.words w'.words h (spans_from first items) (good_stay h (spans_from first items) told.rows)) told.gaps;
   }
 
 -- ---- side by side
@@ -108,19 +106,19 @@ module _ (start : Start) (w : Work) (h : ℕ) where
   pub told_append : (lo mid : ℕ) (xs ys : List Item) → spans_from lo (xs ++ ys) ≡ spans_from lo xs ++ spans_from mid ys → AreTold start w h lo xs → AreTold start w h mid ys → AreTold start w h lo (xs ++ ys)
   told_append lo mid xs ys spans front back = record {
     rows = subst Good (sym spans) (levels_join (IsGoodRow start w) (now start w).table h (spans_from lo xs) (spans_from mid ys) front.rows back.rows);
-    gaps = tells_append (inner_kind start.tree.kind) (now start w).table h lo mid xs ys spans front.gaps back.gaps;
+    gaps = tells_append (inner_of start.tree.gapped) (now start w).table h lo mid xs ys spans front.gaps back.gaps;
   }
 
   pub told_take : (lo k : ℕ) (xs : List Item) → AreTold start w h lo xs → AreTold start w h lo (take k xs)
   told_take lo k xs told = record {
     rows = subst Good (sym (spans-take k lo xs)) (levels_take (IsGoodRow start w) (now start w).table h k (spans_from lo xs) told.rows);
-    gaps = tells_take (inner_kind start.tree.kind) (now start w).table h lo k xs told.gaps;
+    gaps = tells_take (inner_of start.tree.gapped) (now start w).table h lo k xs told.gaps;
   }
 
   pub told_drop : (lo mid k : ℕ) (xs : List Item) → spans_from mid (drop k xs) ≡ drop k (spans_from lo xs) → AreTold start w h lo xs → AreTold start w h mid (drop k xs)
   told_drop lo mid k xs spans told = record {
     rows = subst Good (sym spans) (levels_drop (IsGoodRow start w) (now start w).table h k (spans_from lo xs) told.rows);
-    gaps = tells_drop (inner_kind start.tree.kind) (now start w).table h lo mid k xs spans told.gaps;
+    gaps = tells_drop (inner_of start.tree.gapped) (now start w).table h lo mid k xs spans told.gaps;
   }
 
 -- ---- the tree as it was
@@ -147,33 +145,33 @@ module _ (start : Start) (w : Work) (holds : Holds start w) (had : HadGaps start
         (levels_back (IsGoodRow start w) (now start w).table (suc k) at.front (x ∷ at.back) all)
 
     -- the items of a path's row tell their gaps
-    pub old_told : AreTold start w k (step_at path d).min (items_of_row (now start w).table (kind_at start.tree.kind (suc k)) (step_at path d).row (step_at path d).max)
+    pub old_told : AreTold start w k (step_at path d).min (items_of_row (now start w).table (kind_on start.tree.gapped (suc k)) (step_at path d).row (step_at path d).max)
     old_told =
         let step = step_here start w holds path i within is_path d (suc k) levels in
         let law = row_is_lawful start w holds path i within is_path d (suc k) levels in
-        let spans : spans_in (now start w).table x ≡ spans_on (now start w).table (kind_at start.tree.kind (suc k)) (step_at path d) = sym (spans_of_step start.tree.table x (kind_at start.tree.kind (suc k)) (step_at path d) i law.name.named step (now start w).table) in
+        let spans : spans_in (now start w).table x ≡ spans_on (now start w).table (kind_on start.tree.gapped (suc k)) (step_at path d) = sym (spans_of_step start.tree.table x (kind_on start.tree.gapped (suc k)) (step_at path d) i law.name.named step (now start w).table) in
         record {
           rows = subst (Levels (IsGoodRow start w) (now start w).table k) (append-nil (spans_in (now start w).table x) ∙ spans) good_here.1;
-          gaps = subst (λ (z : PathStep). TellGaps (inner_kind start.tree.kind) (now start w).table k z.min (items_of_row (now start w).table (kind_at start.tree.kind (suc k)) z.row z.max)) (sym step)
-              (row_tells (inner_kind start.tree.kind) (now start w).table k x law.name.named good_here.0.0.gaps);
+          gaps = subst (λ (z : PathStep). TellGaps (inner_of start.tree.gapped) (now start w).table k z.min (items_of_row (now start w).table (kind_on start.tree.gapped (suc k)) z.row z.max)) (sym step)
+              (row_tells (inner_of start.tree.gapped) (now start w).table k x law.name.named good_here.0.0.gaps);
         }
 
   pub row_told : (path : List PathStep) (i : ℕ) → i ≤ top_of start.tree → path ≡ path_in start.tree.table start.tree.root i → (d height : ℕ) → start.height ≡ d + height
-      → AreToldIn start w height (step_at path d).min (items_of_row (now start w).table (kind_at start.tree.kind height) (step_at path d).row (step_at path d).max)
+      → AreToldIn start w height (step_at path d).min (items_of_row (now start w).table (kind_on start.tree.gapped height) (step_at path d).row (step_at path d).max)
   row_told path i within is_path d zero levels = tt
   row_told path i within is_path d (suc k) levels = old_told path i within is_path d k levels
 
 -- ---- those of two rows
 
-inner_beside : (tree : Kind) (xs ys : List Item) → beside_items (inner_kind tree) xs ys ≡ xs ++ ys
-inner_beside trees.Range xs ys = refl
-inner_beside trees.Alloc xs ys = refl
+inner_beside : (gapped : Bool) (xs ys : List Item) → beside_items (inner_of gapped) xs ys ≡ xs ++ ys
+inner_beside false xs ys = refl
+inner_beside true xs ys = refl
 
 pub told_beside : (start : Start) (w : Work) (height lo mid : ℕ) (xs ys : List Item) → Fills lo mid (spans_from lo xs) → AreToldIn start w height lo xs → AreToldIn start w height mid ys
-    → AreToldIn start w height lo (beside_items (kind_at start.tree.kind height) xs ys)
+    → AreToldIn start w height lo (beside_items (kind_on start.tree.gapped height) xs ys)
 told_beside start w zero lo mid xs ys fills front back = tt
 told_beside start w (suc h) lo mid xs ys fills front back =
-    subst (AreTold start w h lo) (sym (inner_beside start.tree.kind xs ys)) (told_append start w h lo mid xs ys (spans_behind lo mid xs ys fills) front back)
+    subst (AreTold start w h lo) (sym (inner_beside start.tree.gapped xs ys)) (told_append start w h lo mid xs ys (spans_behind lo mid xs ys fills) front back)
 
 -- ---- between two calls all rows keep the law of gaps
 

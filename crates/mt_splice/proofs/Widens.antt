@@ -18,9 +18,9 @@ use Rattle.mt_layout.proofs.SpanLists.{length-spans_from}
 use Rattle.mt_leaf.specs.Edits.{ends_with_hole}
 use Rattle.mt_leaf.proofs.Holes.{no_hole_ends}
 use Rattle.mt_rows.specs.Spans.{Table, spans_in}
-use Rattle.mt_rows.specs.Laws.{Tree, IsTree, IsRow, top_of, kind_at, covers_all, least_of}
+use Rattle.mt_rows.specs.Laws.{Tree, IsTree, IsRow, top_of, kind_on, covers_all, least_of}
 use Rattle.mt_rows.specs.Sheet.{Rooted}
-use Rattle.mt_rows.specs.Publish.{tree_as, IsTreeOf}
+use Rattle.mt_rows.specs.Publish.{tree_on, IsTreeOf}
 use Rattle.mt_rows.proofs.InnerKinds.{leaf_low}
 use Rattle.mt_path.specs.declared.paths.PathStep.{PathStep}
 use Rattle.mt_path.specs.Paths.{step_at, path_in}
@@ -50,7 +50,7 @@ module _ {start : Start} {w : Work} {t : Rooted} (is : IsNow start w t) where
   pub top_now : greatest t.table.width ≡ top_of start.tree
   top_now = ap (λ (x : Table). greatest x.width) table_now
 
-  pub slots_now : {kind : RowKind} (height : ℕ) → kind ≡ kind_at start.tree.kind height → slots_of t.table.width kind ≡ slots_of start.tree.table.width (kind_at start.tree.kind height)
+  pub slots_now : {kind : RowKind} (height : ℕ) → kind ≡ kind_on start.tree.gapped height → slots_of t.table.width kind ≡ slots_of start.tree.table.width (kind_on start.tree.gapped height)
   slots_now height of_kind = λ i. slots_of (table_now i).width (of_kind i)
 
   pub row_now : {row : ℕ} → (first_row ≤ row) × (row < first_row + start.tree.rows) → (first_row ≤ row) × (row < first_row + t.rows)
@@ -58,7 +58,9 @@ module _ {start : Start} {w : Work} {t : Rooted} (is : IsNow start w t) where
 
   module _ (holds : Holds start w) where
     tree_now : (kind : Kind) × IsTreeOf t kind
-    tree_now = (start.tree.kind, record { width = is.width; words = subst (λ (x : Rooted). IsTree (tree_as start.tree.kind x)) (sym is.words) (inr (start.height, old_stands start w holds)) })
+    tree_now =
+        let words : IsTree (tree_on start.tree.gapped t) = subst (λ (x : Rooted). IsTree (tree_on start.tree.gapped x)) (sym is.words) (inr (start.height, old_stands start w holds)) in
+        (is.kind, record { width = is.width; words = subst (λ (g : Bool). IsTree (tree_on g t)) is.gapped words })
 
     paths_now : (index : ℕ) → index ≤ top_of start.tree → path_in t.table t.root index ≡ path_in start.tree.table start.tree.root index
     paths_now index within = ap (λ (x : Rooted). path_in x.table x.root index) is.words ∙ path_now start w holds index within
@@ -75,7 +77,7 @@ module _ (start : Start) (w : Work) (holds : Holds start w) (path : List PathSte
   pub row_number : (first_row ≤ (step_at path d).row) × ((step_at path d).row < first_row + start.tree.rows)
   row_number =
       let law = row_is_lawful start w holds path i within is_path d k high in
-      let number = (Names-named_kind x.word (kind_at start.tree.kind k) law.name.named).0 in
+      let number = (Names-named_kind x.word (kind_on start.tree.gapped k) law.name.named).0 in
       let inside = law.name.in_table in
       let same = is_step in
       let low = number.0 in
@@ -85,23 +87,23 @@ module _ (start : Start) (w : Work) (holds : Holds start w) (path : List PathSte
   deep_enough = let all = ap length is_path ∙ levels start.tree start.height holds.stands i within in omega arith
 
   -- what stands in it, by its items
-  pub spans_by_items : (t : Table) (kind : RowKind) (row : List Item) → t ≡ (now start w).table → kind ≡ kind_at start.tree.kind k → row ≡ items_of_row t kind (step_at path d).row (step_at path d).max
-      → spans_on (now start w).table (kind_at start.tree.kind k) (step_at path d) ≡ spans_from (step_at path d).min row
+  pub spans_by_items : (t : Table) (kind : RowKind) (row : List Item) → t ≡ (now start w).table → kind ≡ kind_on start.tree.gapped k → row ≡ items_of_row t kind (step_at path d).row (step_at path d).max
+      → spans_on (now start w).table (kind_on start.tree.gapped k) (step_at path d) ≡ spans_from (step_at path d).min row
   spans_by_items t kind row table of_kind is =
-      let items : row ≡ items_of_row (now start w).table (kind_at start.tree.kind k) (step_at path d).row (step_at path d).max =
+      let items : row ≡ items_of_row (now start w).table (kind_on start.tree.gapped k) (step_at path d).row (step_at path d).max =
       is ∙ (λ j. items_of_row (table j) (of_kind j) (step_at path d).row (step_at path d).max) in
       ap (spans_from (step_at path d).min) (sym items)
 
-  pub spans_fill : Fills (step_at path d).min ((step_at path d).max + 1) (spans_on (now start w).table (kind_at start.tree.kind k) (step_at path d))
+  pub spans_fill : Fills (step_at path d).min ((step_at path d).max + 1) (spans_on (now start w).table (kind_on start.tree.gapped k) (step_at path d))
   spans_fill =
       let step = step_here start w holds path i within is_path d k high in
       let law = row_is_lawful start w holds path i within is_path d k high in
       let spans = spans_here start w holds path i within is_path d k high in
-      subst (λ (ends : ℕ × ℕ). Fills ends.0 (ends.1 + 1) (spans_on (now start w).table (kind_at start.tree.kind k) (step_at path d)))
+      subst (λ (ends : ℕ × ℕ). Fills ends.0 (ends.1 + 1) (spans_on (now start w).table (kind_on start.tree.gapped k) (step_at path d)))
       (λ j. (sym (ap (λ (z : PathStep). z.min) step) j, sym (ap (λ (z : PathStep). z.max) step) j))
       (subst (Fills x.first (x.last + 1)) (sym spans) law.pivots.fills)
 
-  fit_here : MayBeIn k (spans_on (now start w).table (kind_at start.tree.kind k) (step_at path d))
+  fit_here : MayBeIn k (spans_on (now start w).table (kind_on start.tree.gapped k) (step_at path d))
   fit_here = subst (MayBeIn k) (sym (spans_here start w holds path i within is_path d k high)) (row_fit k (row_is_lawful start w holds path i within is_path d k high))
     where
       row_fit : (k : ℕ) → IsRow start.tree k (row_of start.tree d i) → MayBeIn k (spans_in start.tree.table (row_of start.tree d i))
@@ -113,7 +115,7 @@ module _ (start : Start) (w : Work) (holds : Holds start w) (path : List PathSte
 pub two_least : (t : Tree) (h : ℕ) (x : Span) → 2 ≤ least_of t (suc h) x
 two_least t h x = elim (cases_Bool (covers_all t x)) [
   | inl all ↦ rw all (omega arith)
-  | inr part ↦ let some = (sizes t.table.width (kind_at t.kind (suc h))).some in rw part some
+  | inr part ↦ let some = (sizes t.table.width (kind_on t.gapped (suc h))).some in rw part some
 ]
 
 two_enough : (start : Start) (lo hi h height : ℕ) (items : List Item) → height ≡ suc h → MayBeCut start.tree height lo hi (spans_from lo items) → 2 ≤ length items
@@ -137,10 +139,10 @@ module _ {start : Start} {w : Work} {t : Rooted} {kind : RowKind} {left right : 
   holds = may.gathered.holds
 
   abbrev least : ℕ
-  least = least_items start.tree.table.width (kind_at start.tree.kind height)
+  least = least_items start.tree.table.width (kind_on start.tree.gapped height)
 
   abbrev most : ℕ
-  most = most_beside start.tree.table.width (kind_at start.tree.kind height)
+  most = most_beside start.tree.table.width (kind_on start.tree.gapped height)
 
   from_within : gathered.paths.from ≤ top_of start.tree
   from_within = let order = gathered.paths.order in let within = gathered.paths.within in omega arith
@@ -215,17 +217,17 @@ module _ {start : Start} {w : Work} {t : Rooted} {kind : RowKind} {left right : 
 
   -- few enough for a row beside them
   row_fits : length items ≤ most
-      → length (spans_from (begin_of left depth) items) + slots_of start.tree.table.width (kind_at start.tree.kind height) ≤ most_in_three start.tree.table.width (kind_at start.tree.kind height)
-  row_fits few = let same = length-spans_from (begin_of left depth) items in let enough = sizes start.tree.table.width (kind_at start.tree.kind height) in omega arith
+      → length (spans_from (begin_of left depth) items) + slots_of start.tree.table.width (kind_on start.tree.gapped height) ≤ most_in_three start.tree.table.width (kind_on start.tree.gapped height)
+  row_fits few = let same = length-spans_from (begin_of left depth) items in let enough = sizes start.tree.table.width (kind_on start.tree.gapped height) in omega arith
 
   pub room_beside : length items ≤ most → length items + slots_of t.table.width kind ≤ run_room
-  room_beside few = let slots = slots_now may.is_now height may.of_kind in let enough = sizes start.tree.table.width (kind_at start.tree.kind height) in omega arith
+  room_beside few = let slots = slots_now may.is_now height may.of_kind in let enough = sizes start.tree.table.width (kind_on start.tree.gapped height) in omega arith
 
   -- the items of a path's row tell their gaps
   row_is_told : (path : List PathStep) (i : ℕ) → i ≤ top_of start.tree → path ≡ path_in start.tree.table start.tree.root i → {t' : Table} {row : List Item} → t' ≡ t.table
       → row ≡ items_of_row t' kind (step_at path depth).row (step_at path depth).max → AreToldIn start w height (step_at path depth).min row
   row_is_told path i within is_path {t'} {row} same is =
-      let items : row ≡ items_of_row (now start w).table (kind_at start.tree.kind height) (step_at path depth).row (step_at path depth).max =
+      let items : row ≡ items_of_row (now start w).table (kind_on start.tree.gapped height) (step_at path depth).row (step_at path depth).max =
       is ∙ (λ j. items_of_row ((same ∙ table_now may.is_now) j) (may.of_kind j) (step_at path depth).row (step_at path depth).max) in
       subst (AreToldIn start w height (step_at path depth).min) (sym items) (row_told start w holds may.had_gaps path i within is_path depth height gathered.levels)
 
@@ -265,8 +267,8 @@ module _ {start : Start} {w : Work} {t : Rooted} {kind : RowKind} {left right : 
         let spans_behind = spans ∙ ap (λ (k : ℕ). spans_from k row) begins_behind in
         let both : spans_from (begin_of left depth) (beside_items kind items row) ≡ beside height (spans_from (begin_of left depth) items) (spans_from (behind_of right depth) row) =
         ap (λ (k : RowKind). spans_from (begin_of left depth) (beside_items k items row)) may.of_kind
-        ∙ beside_spans (begin_of left depth) (behind_of right depth) items row gathered.fills start.tree.kind height gathered.fit in
-        let all : beside height (spans_from (begin_of left depth) items) (spans_on (now start w).table (kind_at start.tree.kind height) (step_at right' depth)) ≡ spans_from (begin_of left depth) (beside_items kind items row) =
+        ∙ beside_spans (begin_of left depth) (behind_of right depth) items row gathered.fills start.tree.gapped height gathered.fit in
+        let all : beside height (spans_from (begin_of left depth) items) (spans_on (now start w).table (kind_on start.tree.gapped height) (step_at right' depth)) ≡ spans_from (begin_of left depth) (beside_items kind items row) =
         ap (beside height (spans_from (begin_of left depth) items)) spans_behind ∙ sym both in
         let cut = subst (MayBeCut start.tree height (begin_of left depth) (behind_of right' depth)) all
         (cut_with_right start w left right right' depth height (spans_from (begin_of left depth) items) gathered more is_right_then (row_fits few)) in
@@ -323,8 +325,8 @@ module _ {start : Start} {w : Work} {t : Rooted} {kind : RowKind} {left right : 
         let fit = subst (MayBeIn height) spans (fit_here start w holds left' ahead ahead_within is_left_then depth height gathered.levels) in
         let both : spans_from (begin_of left' depth) (beside_items kind row items) ≡ beside height (spans_from (begin_of left' depth) row) (spans_from (begin_of left depth) items) =
         ap (λ (k : RowKind). spans_from (begin_of left' depth) (beside_items k row items)) may.of_kind
-        ∙ beside_spans (begin_of left' depth) (begin_of left depth) row items fills start.tree.kind height fit in
-        let all : beside height (spans_on (now start w).table (kind_at start.tree.kind height) (step_at left' depth)) (spans_from (begin_of left depth) items) ≡ spans_from (begin_of left' depth) (beside_items kind row items) =
+        ∙ beside_spans (begin_of left' depth) (begin_of left depth) row items fills start.tree.gapped height fit in
+        let all : beside height (spans_on (now start w).table (kind_on start.tree.gapped height) (step_at left' depth)) (spans_from (begin_of left depth) items) ≡ spans_from (begin_of left' depth) (beside_items kind row items) =
         ap (λ (xs : List Span). beside height xs (spans_from (begin_of left depth) items)) spans ∙ sym both in
         let cut = subst (MayBeCut start.tree height (begin_of left' depth) (behind_of right depth)) all
         (cut_with_left start w left right left' depth height (spans_from (begin_of left depth) items) gathered some is_left_then last (row_fits few)) in
@@ -356,25 +358,25 @@ is_leaf Leaf items holed = refl
 is_leaf Inner items holed = absurd (cc)
 is_leaf Gapped items holed = absurd (cc)
 
-not_holed : (start : Start) (kind : RowKind) (height : ℕ) (items : List Item) → kind ≡ kind_at start.tree.kind height → height ≡ 0 → holed_run kind items ≡ false → ends_with_hole (spans_from 0 items) ≡ false
+not_holed : (start : Start) (kind : RowKind) (height : ℕ) (items : List Item) → kind ≡ kind_on start.tree.gapped height → height ≡ 0 → holed_run kind items ≡ false → ends_with_hole (spans_from 0 items) ≡ false
 not_holed start kind height items of_kind leaf no_hole =
-    let is : kind ≡ Leaf = of_kind ∙ ap (kind_at start.tree.kind) leaf in
+    let is : kind ≡ Leaf = of_kind ∙ ap (kind_on start.tree.gapped) leaf in
     ends_at_last 0 items ∙ (sym (ap (λ (k : RowKind). holed_run k items) is) ∙ no_hole)
 
 module _ {start : Start} {w : Work} {t : Rooted} {kind : RowKind} {left right : List PathStep} {depth height : ℕ} {items : List Item} (may : MayTakeIn start w t kind left right depth height items) where
   abbrev wanted : Bool
   wanted = short_run t.table.width kind items || holed_run kind items
 
-  least_is : least_items t.table.width kind ≡ least_items start.tree.table.width (kind_at start.tree.kind height)
+  least_is : least_items t.table.width kind ≡ least_items start.tree.table.width (kind_on start.tree.gapped height)
   least_is = λ i. least_items (table_now may.is_now i).width (may.of_kind i)
 
-  many_of : short_run t.table.width kind items ≡ false → least_items start.tree.table.width (kind_at start.tree.kind height) ≤ length items
+  many_of : short_run t.table.width kind items ≡ false → least_items start.tree.table.width (kind_on start.tree.gapped height) ≤ length items
   many_of not = let many = ltb-false (length items) (least_items t.table.width kind) not in let least = least_is in omega arith
 
-  pub few_if_short : short_run t.table.width kind items ≡ true → length items ≤ most_beside start.tree.table.width (kind_at start.tree.kind height)
+  pub few_if_short : short_run t.table.width kind items ≡ true → length items ≤ most_beside start.tree.table.width (kind_on start.tree.gapped height)
   few_if_short short =
       let few = ltb-true (length items) (least_items t.table.width kind) short in
-      let least = least_is in let enough = sizes start.tree.table.width (kind_at start.tree.kind height) in omega arith
+      let least = least_is in let enough = sizes start.tree.table.width (kind_on start.tree.gapped height) in omega arith
 
   -- as the width is told
   pub short_is : {width : Width} {b : Bool} → width ≡ t.table.width → b ≡ short_run width kind items → short_run t.table.width kind items ≡ b
@@ -390,12 +392,12 @@ module _ {start : Start} {w : Work} {t : Rooted} {kind : RowKind} {left right : 
       stays_as_it_is may (inl (many_of both.0)) (λ leaf more. not_holed start kind height items may.of_kind leaf both.1)
 
   -- few enough to take in the row behind
-  pub few_if_wanted : wanted ≡ true → (step_at right depth).max < top_of start.tree → length items ≤ most_beside start.tree.table.width (kind_at start.tree.kind height)
+  pub few_if_wanted : wanted ≡ true → (step_at right depth).max < top_of start.tree → length items ≤ most_beside start.tree.table.width (kind_on start.tree.gapped height)
   few_if_wanted wanting more =
       ⊎_elim few_if_short
       (λ (holed : holed_run kind items ≡ true).
-      let leaf = leaf_low start.tree.kind height (sym may.of_kind ∙ is_leaf kind items holed) in
-      ⊎_elim (λ (few : length items ≤ slots_of start.tree.table.width Leaf + 2). subst (λ (h : ℕ). length items ≤ most_beside start.tree.table.width (kind_at start.tree.kind h)) (sym leaf) few)
+      let leaf = leaf_low start.tree.gapped height (sym may.of_kind ∙ is_leaf kind items holed) in
+      ⊎_elim (λ (few : length items ≤ slots_of start.tree.table.width Leaf + 2). subst (λ (h : ℕ). length items ≤ most_beside start.tree.table.width (kind_on start.tree.gapped h)) (sym leaf) few)
       (λ (full : EndsFull (spans_from (begin_of left depth) items)).
       let no_hole = no_hole_ends (spans_from (begin_of left depth) items) full in
       let hole = ends_from (begin_of left depth) 0 items ∙ holed_leaf kind items holed in

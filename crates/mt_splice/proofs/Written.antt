@@ -8,7 +8,7 @@ use Rattle.mt_layout.specs.declared.spans.Span.{Span}
 use Rattle.mt_layout.specs.Spans.{spans_from}
 use Rattle.mt_layout.specs.Rows.{row_in}
 use Rattle.mt_rows.specs.Levels.{expand, Levels, one_if, tally, is_row_of, SameSpans}
-use Rattle.mt_rows.specs.Laws.{Tree, IsRow, kind_at}
+use Rattle.mt_rows.specs.Laws.{Tree, IsRow, kind_on}
 use Rattle.mt_rows.specs.Replacement.{root_of}
 use Rattle.mt_base.proofs.Lists.{none_or_some, all_map, all_front, all_back, all_join}
 use Rattle.mt_rows.proofs.Lists.{levels_map, tally-append}
@@ -198,7 +198,7 @@ module _ (start : Start) (s s₁ s₂ : Work) (left right : List PathStep) where
       absurd (cc)) (none_or_some (tally (is_row_of (row_in x.word) height) rows))
 
   fewest_here : (depth height : ℕ) (run rows : List Span) (parts : Parts depth height run rows) → Holds start s₂ → (lo : ℕ) (items : List Item) (ends : List ℕ) → run ≡ spans_from lo items
-      → IsCutOf start.tree.table.width (kind_at start.tree.kind height) items ends → length rows ≡ length ends → AreFewestOf (is_taken s₂) (now start s₂).table (kind_at start.tree.kind height) (parts.0.front ++ (rows ++ parts.0.back))
+      → IsCutOf start.tree.table.width (kind_on start.tree.gapped height) items ends → length rows ≡ length ends → AreFewestOf (is_taken s₂) (now start s₂).table (kind_on start.tree.gapped height) (parts.0.front ++ (rows ++ parts.0.back))
   fewest_here depth height run rows parts holds lo items ends is_run cut many =
       let buried = parts.2 in
       record {
@@ -218,23 +218,23 @@ module _ (start : Start) (s s₁ s₂ : Work) (left right : List PathStep) where
         fewest = λ some. (ends, cut, many);
       }
 
-  fewest_then : (depth height : ℕ) (run rows : List Span) (parts : Parts depth height run rows) → AreFewestOf (is_taken s₂) (now start s₂).table (kind_at start.tree.kind height) (parts.0.front ++ (rows ++ parts.0.back))
-      → FewestBelow (is_taken s₂) start.tree.kind (now start s₂).table height (parts.0.front ++ (rows ++ parts.0.back))
+  fewest_then : (depth height : ℕ) (run rows : List Span) (parts : Parts depth height run rows) → AreFewestOf (is_taken s₂) (now start s₂).table (kind_on start.tree.gapped height) (parts.0.front ++ (rows ++ parts.0.back))
+      → FewestBelow (is_taken s₂) start.tree.gapped (now start s₂).table height (parts.0.front ++ (rows ++ parts.0.back))
   unfolding new_level
   fewest_then depth zero run rows parts here = here
   fewest_then depth (suc height) run rows parts here =
       let below = run_between start parts.0.front run parts.0.back in
       let keeps = keeps_all start s s₁ s₂ left right depth (suc height) run rows parts.0 parts.1 parts.2 in (
         here,
-        subst (FewestBelow (is_taken s₂) start.tree.kind (now start s₂).table height) (sym (level_holds start s₂ depth (suc height) (level_of depth (suc height) run rows parts)))
-            (fewest_later (is_taken s) (is_taken s₂) start.tree.kind (now start s).table (now start s₂).table refl height below
+        subst (FewestBelow (is_taken s₂) start.tree.gapped (now start s₂).table height) (sym (level_holds start s₂ depth (suc height) (level_of depth (suc height) run rows parts)))
+            (fewest_later (is_taken s) (is_taken s₂) start.tree.gapped (now start s).table (now start s₂).table refl height below
             (levels_map (IsUsed s) (Shared (now start s).table (now start s₂).table) (now start s).table (λ _ x used. same_spans (now start s).table (now start s₂).table x refl (keeps.words (row_in x.word) used)) height below parts.0.level.1)
             (levels_map (IsUsed s) (SameNews (is_taken s) (is_taken s₂)) (now start s).table (λ _ x used. news_same depth (suc height) run rows parts x used) height below parts.0.level.1) parts.0.level.2),
       )
 
 pub level_replaced : (start : Start) (s s₁ s₂ : Work) (left right : List PathStep) (depth height : ℕ) (run rows : List Span) → Gathered start s left right depth height run → AreWritten start s s₁ height run rows
     → AreBuried start s₁ s₂ depth height (begin_of left depth) (behind_of right depth) → (lo : ℕ) (items : List Item) (ends : List ℕ) → run ≡ spans_from lo items
-    → IsCutOf start.tree.table.width (kind_at start.tree.kind height) items ends → length rows ≡ length ends → Climbed start s₂ left right depth height rows
+    → IsCutOf start.tree.table.width (kind_on start.tree.gapped height) items ends → length rows ≡ length ends → Climbed start s₂ left right depth height rows
 level_replaced start s s₁ s₂ left right depth height run rows gathered written buried lo items ends is_run cut many =
     let holds = holds_later start s₁ s₂ buried.keeps buried.taken (holds_written start s s₁ height run rows gathered.holds written) in
     let all : AllByRecursion (IsUsed s₂ height) (gathered.front ++ (gathered.old ++ gathered.back)) = subst (AllByRecursion (IsUsed s₂ height)) gathered.stretch.parts

@@ -2,7 +2,6 @@
 -- Source: this project's own; the kernel's mab_calc_split cuts a big node's items into two nodes, or three.
 use Rattle.std.specs.Prelude.{◌≡◌, ◌≢◌, ℕ, zero, suc, Bool, true, false, List, [], ◌++◌, length}
 use Rattle.std.specs.List.{AllByRecursion}
-use Rattle.mt_base.specs.declared.kinds.Kind.{Kind}
 use Rattle.mt_base.specs.declared.widths.Width.{Width}
 use Rattle.mt_layout.specs.declared.items.Item.{Item}
 use Rattle.mt_layout.specs.declared.names.RowKind.{RowKind}
@@ -13,7 +12,7 @@ use Rattle.mt_layout.specs.Sizes.{slots_of, least_items}
 use Rattle.mt_layout.specs.Spans.{spans_from}
 use Rattle.mt_rows.specs.Spans.{Table}
 use Rattle.mt_rows.specs.Levels.{expand}
-use Rattle.mt_rows.specs.Laws.{kind_at}
+use Rattle.mt_rows.specs.Laws.{kind_on}
 use Rattle.mt_leaf.specs.Cuts.{IsCut}
 
 -- the items are cut into the fewest rows of a kind at these places
@@ -37,7 +36,7 @@ pub record AreFewestOf (is_new : ℕ → Bool) (t : Table) (kind : RowKind) (row
   pub hold : expand t new ≡ spans_from first items
   pub fewest : new ≢ [] → (ends : List ℕ) × IsCutOf t.width kind items ends × (length new ≡ length ends)
 
--- so it is of rows of a height, and on each level below them
-abbrev pub FewestBelow : (ℕ → Bool) → Kind → Table → ℕ → List Span → Type 0
-FewestBelow is_new kind t zero xs = AreFewestOf is_new t (kind_at kind zero) xs
-FewestBelow is_new kind t (suc h) xs = AreFewestOf is_new t (kind_at kind (suc h)) xs × FewestBelow is_new kind t h (expand t xs)
+-- so it is of rows of a height, in a tree with gaps or without, and on each level below them
+abbrev pub FewestBelow : (ℕ → Bool) → Bool → Table → ℕ → List Span → Type 0
+FewestBelow is_new gapped t zero xs = AreFewestOf is_new t (kind_on gapped zero) xs
+FewestBelow is_new gapped t (suc h) xs = AreFewestOf is_new t (kind_on gapped (suc h)) xs × FewestBelow is_new gapped t h (expand t xs)

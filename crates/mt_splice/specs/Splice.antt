@@ -3,13 +3,12 @@
 -- published by one store of one word is this project's.
 use Rattle.std.specs.Prelude.{◌≡◌, ◌≢◌, ◌⊎◌, ℕ, ◌+◌, ◌*◌, ◌<◌, ◌≤◌, ◌==◌, Bool, true, false, List, [], ◌∷◌, ◌++◌, All, Contains, length, map, if◌then◌else◌}
 use Rattle.mt_base.specs.declared.kinds.Kind.{Kind}
-use Rattle.mt_base.specs.declared.kinds.Kind.TheVariants as trees
 use Rattle.mt_base.specs.declared.ranges.Range.{Range}
 use Rattle.mt_base.specs.declared.calls.Call.{Call}
 use Rattle.mt_base.specs.declared.replies.Reply.{Reply}
 use Rattle.mt_base.specs.Entry.{reserved}
 use Rattle.mt_base.specs.Map.{over}
-use Rattle.mt_base.specs.Call.{acted}
+use Rattle.mt_base.specs.Call.{acted, finds_room}
 use Rattle.mt_base.specs.Width.{columns, greatest, first_row}
 use Rattle.mt_layout.specs.declared.items.Item.{Item}
 use Rattle.mt_layout.specs.declared.spans.Span.{Span}
@@ -98,7 +97,7 @@ is_unreached t row = if is_reached t row then false else true
 
 -- on each level of the tree, the new rows stand side by side and are the fewest that what stands in them can be cut into
 abbrev pub HasFewest : (ℕ → Bool) → Tree → Type 0
-HasFewest is_new t = (t.root ≡ 0) ⊎ ((h : ℕ) × Stands t h × FewestBelow is_new t.kind t.table h (root_of t))
+HasFewest is_new t = (t.root ≡ 0) ⊎ ((h : ℕ) × Stands t h × FewestBelow is_new t.gapped t.table h (root_of t))
 
 -- the one store that published was at this place
 abbrev pub WasPublishedAt : Sheet → Sheet → Place → Type 0
@@ -111,7 +110,7 @@ pub record TellsBelow (kind : Kind) (t : Rooted) (word gap : ℕ) : Type 0 where
   pub row : Span
   pub stands : StandsAt t height row
   pub named : row.word ≡ word
-  pub longest : kind ≡ trees.Alloc → gap ≡ longest_below t.table height (row ∷ [])
+  pub longest : finds_room kind ≡ true → gap ≡ longest_below t.table height (row ∷ [])
 
 -- the same of the row that is named at a place; above the root none is told
 abbrev pub TellsAt : Kind → Rooted → Place → ℕ → Type 0

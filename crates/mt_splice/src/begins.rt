@@ -2,7 +2,7 @@
 
 ghost use Rattle.std.specs.Prelude.{◌≡◌, [], List};
 ghost use Rattle.mt_rows.specs.declared.rows.Place.TheVariants.{Root};
-ghost use Rattle.mt_rows.specs.Spans.{inner_kind};
+ghost use Rattle.mt_rows.specs.Spans.{inner_of};
 ghost use Rattle.mt_splice.specs.steps.Entries.{IsFirst};
 ghost use Rattle.mt_splice.specs.Splice.{IsSpliced};
 
@@ -23,7 +23,7 @@ pub fn begin_tree<R: Rows, B: Begun>(
     call: &Call,
     reply: &Reply,
 ) -> Place
-    requires kind { kind ≡ inner_kind B.start.tree.kind }
+    requires kind { kind ≡ inner_of B.start.tree.gapped }
     requires first { IsFirst B.before B.start (R.sheet rows.old) book.old items.now call.now reply.now }
     ensures spliced { IsSpliced B.before.kind B.before.sheet (R.sheet rows.new) B.before.book book.new B.before.number call.now reply.now result B.start.first B.start.last }
     ensures root { result ≡ Root }

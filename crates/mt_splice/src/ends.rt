@@ -3,7 +3,7 @@
 ghost use Rattle.std.specs.Prelude.{◌≡◌, ℕ};
 ghost use Rattle.mt_rows.specs.declared.rows.Place.TheVariants.{Slot};
 ghost use Rattle.mt_rows.specs.Publish.{with_published};
-ghost use Rattle.mt_rows.specs.Spans.{inner_kind};
+ghost use Rattle.mt_rows.specs.Spans.{inner_of};
 ghost use Rattle.mt_splice.specs.Splice.{IsSpliced, TellsBelow, TellsAt};
 ghost use Rattle.mt_splice.specs.steps.Ends.{MayPublishEnd, MayTendRows, AreRowsTended, MayTendTopAt, IsTopTendedAt};
 
@@ -54,7 +54,7 @@ pub fn publish_at<R: Rows, B: Begun>(
     call: &Call,
     reply: &Reply,
 )
-    requires kind { kind ≡ inner_kind B.start.tree.kind }
+    requires kind { kind ≡ inner_of B.start.tree.gapped }
     requires end { MayPublishEnd B.before B.start (R.sheet rows.old) book.now inner.now place word call.now reply.now }
     ensures spliced { IsSpliced B.before.kind B.before.sheet (R.sheet rows.new) B.before.book book.now B.before.number call.now reply.now place B.start.first B.start.last }
     ensures told { (row col gap : ℕ) → place ≡ Slot row col → TellsBelow B.before.kind (with_published (R.sheet rows.old).tree place word) word gap → TellsAt B.before.kind (R.sheet rows.new).tree place gap }

@@ -4,7 +4,7 @@ ghost use Rattle.std.specs.Prelude.{◌≡◌, ◌<◌, ◌≤◌, ◌+◌, ◌+
 ghost use Rattle.mt_base.specs.Width.{first_row};
 ghost use Rattle.mt_layout.specs.Sizes.{run_room, slots_of};
 ghost use Rattle.mt_rows.specs.Sheet.{OnlyReads};
-ghost use Rattle.mt_rows.specs.Spans.{inner_kind};
+ghost use Rattle.mt_rows.specs.Spans.{inner_of};
 ghost use Rattle.mt_splice.specs.steps.Replacing.{MayGather, IsGathered};
 ghost use Rattle.mt_splice.specs.steps.Writes.{items_of_row};
 
@@ -72,7 +72,7 @@ fn towards_of(left: &PathStep, last: u64, right: &PathStep) -> Towards {
 /// Fills a region with what is to stand in the rows of a level: the new rows of the level below, and what stands beside
 /// them.
 pub fn parent_items<R: Rows, B: Begun>(rows: &mut R, region: &mut Region, new: &[Item], depth: u32)
-    requires inner { region.old.inner ≡ inner_kind B.start.tree.kind }
+    requires inner { region.old.inner ≡ inner_of B.start.tree.gapped }
     requires level { MayGather B.start (R.sheet rows.old).tree region.old.left.items region.old.right.items depth new.now }
     ensures level { IsGathered B.start (R.sheet rows.old).tree region.old.left.items region.old.right.items depth new.now region.new.run.items }
     ensures left { region.new.left ≡ region.old.left }

@@ -14,7 +14,7 @@ ghost use Rattle.mt_layout.specs.declared.spans.Span.{Span};
 ghost use Rattle.mt_leaf.specs.Edits.{edited, ends_with_hole};
 ghost use Rattle.mt_path.specs.Paths.{path_in, row_on, step_at};
 ghost use Rattle.mt_path.specs.declared.paths.PathStep.{PathStep};
-ghost use Rattle.mt_rows.specs.Laws.{HasWords, Stands, Tree, kind_at, least_of_root, top_of};
+ghost use Rattle.mt_rows.specs.Laws.{HasWords, Stands, Tree, kind_on, least_of_root, top_of};
 ghost use Rattle.mt_rows.specs.Levels.{Levels, is_row_of, map_of, tally};
 ghost use Rattle.mt_rows.specs.Publish.{IsTreeOf, is_reached};
 ghost use Rattle.mt_rows.specs.Replacement.{root_of};
@@ -73,16 +73,16 @@ pub fn the_row_beside_is_taken_in()
 pub fn gathered_spans_may_be_cut()
     ensures some { (start : Start) (s : Work) (left right : List PathStep) (depth height : ℕ) (run : List Span) → Gathered start s left right depth height run → 1 ≤ length run }
     ensures entry { (start : Start) (s : Work) (left right : List PathStep) (depth : ℕ) (run : List Span) → Gathered start s left right depth 0 run → ((x : Span) → run ≡ x ∷ [] → x.word ≢ 0) → flat_map leaf_range run ≢ [] }
-    ensures alone { (start : Start) (s : Work) (left right : List PathStep) (depth height : ℕ) (run : List Span) → Gathered start s left right depth height run → length run ≤ most_items start.tree.table.width (kind_at start.tree.kind height) → least_items start.tree.table.width (kind_at start.tree.kind height) ≤ length run
+    ensures alone { (start : Start) (s : Work) (left right : List PathStep) (depth height : ℕ) (run : List Span) → Gathered start s left right depth height run → length run ≤ most_items start.tree.table.width (kind_on start.tree.gapped height) → least_items start.tree.table.width (kind_on start.tree.gapped height) ≤ length run
         → (height ≡ 0 → (step_at right depth).max < top_of start.tree → ends_with_hole run ≡ false) → MayBeCut start.tree height (begin_of left depth) (behind_of right depth) run }
-    ensures whole { (start : Start) (s : Work) (left right : List PathStep) (depth height : ℕ) (run : List Span) → Gathered start s left right depth height run → length run ≤ most_items start.tree.table.width (kind_at start.tree.kind height)
+    ensures whole { (start : Start) (s : Work) (left right : List PathStep) (depth height : ℕ) (run : List Span) → Gathered start s left right depth height run → length run ≤ most_items start.tree.table.width (kind_on start.tree.gapped height)
         → begin_of left depth ≡ 0 → (step_at right depth).max ≡ top_of start.tree → least_of_root height ≤ length run → (height ≡ 0 → flat_map leaf_range run ≢ [])
         → MayBeCut start.tree height (begin_of left depth) (behind_of right depth) run }
     ensures with_right { (start : Start) (s : Work) (left right right' : List PathStep) (depth height : ℕ) (run : List Span) → Gathered start s left right depth height run
-        → (step_at right depth).max < top_of start.tree → IsPathBehind start right depth right' → length run + slots_of start.tree.table.width (kind_at start.tree.kind height) ≤ most_in_three start.tree.table.width (kind_at start.tree.kind height)
+        → (step_at right depth).max < top_of start.tree → IsPathBehind start right depth right' → length run + slots_of start.tree.table.width (kind_on start.tree.gapped height) ≤ most_in_three start.tree.table.width (kind_on start.tree.gapped height)
         → MayBeCut start.tree height (begin_of left depth) (behind_of right' depth) (beside height run (spans_now start s right' depth height)) }
     ensures with_left { (start : Start) (s : Work) (left right left' : List PathStep) (depth height : ℕ) (run : List Span) → Gathered start s left right depth height run
-        → 0 < begin_of left depth → IsPathAhead start left depth left' → (step_at right depth).max ≡ top_of start.tree → length run + slots_of start.tree.table.width (kind_at start.tree.kind height) ≤ most_in_three start.tree.table.width (kind_at start.tree.kind height)
+        → 0 < begin_of left depth → IsPathAhead start left depth left' → (step_at right depth).max ≡ top_of start.tree → length run + slots_of start.tree.table.width (kind_on start.tree.gapped height) ≤ most_in_three start.tree.table.width (kind_on start.tree.gapped height)
         → MayBeCut start.tree height (begin_of left' depth) (behind_of right depth) (beside height (spans_now start s left' depth height) run) }
 {}
 
@@ -90,7 +90,7 @@ pub fn gathered_spans_may_be_cut()
 pub fn a_level_is_replaced()
     ensures { (start : Start) (s s₁ s₂ : Work) (left right : List PathStep) (depth height : ℕ) (run rows : List Span) → Gathered start s left right depth height run → AreWritten start s s₁ height run rows
         → AreBuried start s₁ s₂ depth height (begin_of left depth) (behind_of right depth) → (lo : ℕ) (items : List Item) (ends : List ℕ) → run ≡ spans_from lo items
-        → IsCutOf start.tree.table.width (kind_at start.tree.kind height) items ends → length rows ≡ length ends → Climbed start s₂ left right depth height rows }
+        → IsCutOf start.tree.table.width (kind_on start.tree.gapped height) items ends → length rows ≡ length ends → Climbed start s₂ left right depth height rows }
 {}
 
 /// When a level is left, what stands beside the replaced rows in the rows above them is gathered with the new ones; it is
@@ -100,7 +100,7 @@ pub fn a_level_is_left()
         → (run : List Span) → run ≡ between_slots start s left right depth (suc height) new
         → Gathered start s left right depth (suc height) run }
     ensures few { (start : Start) (s : Work) (left right : List PathStep) (depth height : ℕ) (new : List Span) → Climbed start s left right (suc depth) height new → length new ≤ 3
-        → length (between_slots start s left right depth (suc height) new) ≤ most_items start.tree.table.width (kind_at start.tree.kind (suc height)) }
+        → length (between_slots start s left right depth (suc height) new) ≤ most_items start.tree.table.width (kind_on start.tree.gapped (suc height)) }
     ensures two { (start : Start) (s : Work) (left right : List PathStep) (depth height : ℕ) (new : List Span) → Climbed start s left right (suc depth) height new
         → begin_of left depth ≡ 0 → (step_at right depth).max ≡ top_of start.tree → ((x : Span) → new ≡ x ∷ [] → x.first ≡ 0 → x.last ≡ top_of start.tree → ⊥)
         → 2 ≤ length (between_slots start s left right depth (suc height) new) }
@@ -143,7 +143,7 @@ pub fn one_row_becomes_the_root()
 /// The rows that replace the root stand in a new root, and the tree is one level higher.
 pub fn a_root_stands_above_the_new_rows()
     ensures { (start : Start) (s s' : Work) (left right : List PathStep) (height : ℕ) (new : List Span) (x : Span) → Climbed start s left right 0 height new → AreWritten start s s' (suc height) new (x ∷ [])
-        → start.tree.rows ≤ most_rows → (lo : ℕ) (items : List Item) → new ≡ spans_from lo items → length items ≤ slots_of start.tree.table.width (kind_at start.tree.kind (suc height))
+        → start.tree.rows ≤ most_rows → (lo : ℕ) (items : List Item) → new ≡ spans_from lo items → length items ≤ slots_of start.tree.table.width (kind_on start.tree.gapped (suc height))
         → IsReplaced start.tree (with_root (now start s') x.word) start.map s'.taken s'.gone (Some start.height) (Some (suc start.height)) }
 {}
 
@@ -151,9 +151,9 @@ pub fn a_root_stands_above_the_new_rows()
 pub fn one_row_takes_the_place_of_one()
     ensures replaced { (start : Start) (s : Work) (left right : List PathStep) (depth height : ℕ) (x : Span) → Climbed start s left right (suc depth) height (x ∷ []) → begin_of left (suc depth) ≡ begin_of right (suc depth)
         → HasWords (now start s)
-        → IsReplaced start.tree (with_step (now start s) (kind_at start.tree.kind (suc height)) (step_at left depth) x.word) start.map s.taken s.gone (Some start.height) (Some start.height) }
+        → IsReplaced start.tree (with_step (now start s) (kind_on start.tree.gapped (suc height)) (step_at left depth) x.word) start.map s.taken s.gone (Some start.height) (Some start.height) }
     ensures published { (start : Start) (s : Work) (left right : List PathStep) (depth height : ℕ) (x : Span) → Climbed start s left right (suc depth) height (x ∷ []) → begin_of left (suc depth) ≡ begin_of right (suc depth)
-        → HasWords (now start s) → IsPublished (now start s) (kind_at start.tree.kind (suc height)) (step_at left depth) x.word }
+        → HasWords (now start s) → IsPublished (now start s) (kind_on start.tree.gapped (suc height)) (step_at left depth) x.word }
     ensures stays { (start : Start) (s : Work) (left right : List PathStep) (depth height : ℕ) (x : Span) → Climbed start s left right (suc depth) height (x ∷ []) → begin_of left (suc depth) ≡ begin_of right (suc depth)
         → HasWords (now start s) → IsStepIn (now start s) depth (step_at left depth) × (passing (is_row_of (step_at left depth).row) s.gone ≡ 0) }
 {}
@@ -191,9 +191,9 @@ pub fn a_book_counts_the_rows_reached()
 pub fn items_tell_their_gaps()
     ensures later { (start : Start) (s s' : Work) → Keeps start s s' → (height first : ℕ) (items : List Item) → AreToldIn start s height first items → AreToldIn start s' height first items }
     ensures were { (start : Start) (s : Work) → Holds start s → HadGaps start → (path : List PathStep) (i : ℕ) → i ≤ top_of start.tree → path ≡ path_in start.tree.table start.tree.root i → (depth height : ℕ) → start.height ≡ depth + height
-        → AreToldIn start s height (step_at path depth).min (items_of_row (now start s).table (kind_at start.tree.kind height) (step_at path depth).row (step_at path depth).max) }
+        → AreToldIn start s height (step_at path depth).min (items_of_row (now start s).table (kind_on start.tree.gapped height) (step_at path depth).row (step_at path depth).max) }
     ensures beside { (start : Start) (s : Work) (height lo mid : ℕ) (xs ys : List Item) → Fills lo mid (spans_from lo xs) → AreToldIn start s height lo xs → AreToldIn start s height mid ys
-        → AreToldIn start s height lo (beside_items (kind_at start.tree.kind height) xs ys) }
+        → AreToldIn start s height lo (beside_items (kind_on start.tree.gapped height) xs ys) }
 {}
 
 /// When a replacement has ended in place, the law of gaps holds but in the slots that cover what changes: of new rows in
@@ -201,7 +201,7 @@ pub fn items_tell_their_gaps()
 pub fn gap_words_are_right_beside_what_changes()
     ensures slot { (start : Start) (s : Work) (left right : List PathStep) (depth height : ℕ) (x : Span) → Climbed start s left right (suc depth) height (x ∷ []) → begin_of left (suc depth) ≡ begin_of right (suc depth)
         → HasWords (now start s) → Levels (IsGoodRow start s) (now start s).table height (x ∷ []) → HadGaps start → (index : ℕ) → start.first ≤ index → index ≤ start.last
-        → GapsAs (is_taken s) index (with_step (now start s) (kind_at start.tree.kind (suc height)) (step_at left depth) x.word) (Some start.height) }
+        → GapsAs (is_taken s) index (with_step (now start s) (kind_on start.tree.gapped (suc height)) (step_at left depth) x.word) (Some start.height) }
     ensures root { (is_new : ℕ → Bool) (index : ℕ) (start : Start) (s : Work) (height : ℕ) (x : Span) → x.first ≡ 0 → x.last ≡ top_of start.tree → Levels (IsGoodRow start s) (now start s).table height (x ∷ [])
         → GapsAs is_new index (with_root (now start s) x.word) (Some height) }
 {}

@@ -11,7 +11,7 @@ ghost use Rattle.mt_layout.specs.Sizes.{slots_of};
 ghost use Rattle.mt_layout.specs.Spans.{spans_from, Apart};
 ghost use Rattle.mt_path.specs.Paths.{path_in, step_at};
 ghost use Rattle.mt_rows.specs.Publish.{IsTreeOf};
-ghost use Rattle.mt_rows.specs.Spans.{inner_kind};
+ghost use Rattle.mt_rows.specs.Spans.{inner_of};
 ghost use Rattle.mt_rows.specs.Sheet.{after_bury, OnlyReads};
 ghost use Rattle.mt_splice.specs.steps.Levels.{MayAddRow, IsRowAdded, noted, MayAddRows, AreRowsAdded, MayBeBuried, MayBuryLevel, IsLevelBuried, IsRowBehind};
 ghost use Rattle.mt_splice.specs.steps.Told.{greatest_gap, told_gap};
@@ -99,7 +99,7 @@ pub fn write_piece<R: Rows, B: Begun>(
     inner: &mut NewRows,
 ) -> Item
     requires room { length inner.old.items < most_taken }
-    requires above { above ≡ inner_kind B.start.tree.kind }
+    requires above { above ≡ inner_of B.start.tree.gapped }
     requires row { MayAddRow B.before B.start (R.sheet rows.old) book.old kind first items.now inner.old.items }
     ensures row { IsRowAdded B.before B.start (R.sheet rows.old) (R.sheet rows.new) book.old book.new kind first items.now inner.old.items inner.new.items result }
     ensures few { length inner.new.items ≤ length inner.old.items + 1 }
@@ -126,7 +126,7 @@ pub fn write_rows<R: Rows, B: Begun>(
     inner: &mut NewRows,
 ) -> ArrayVec<Item, 3>
     requires room { length inner.old.items + 3 ≤ most_taken }
-    requires above { above ≡ inner_kind B.start.tree.kind }
+    requires above { above ≡ inner_of B.start.tree.gapped }
     requires rows { MayAddRows B.before B.start (R.sheet rows.old) book.old kind first items.now ends.now inner.old.items }
     ensures rows { AreRowsAdded B.before B.start (R.sheet rows.old) (R.sheet rows.new) book.old book.new kind first items.now ends.now inner.old.items inner.new.items result.items }
     ensures made { length inner.new.items ≤ length inner.old.items + 3 }

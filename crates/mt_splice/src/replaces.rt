@@ -3,7 +3,7 @@
 ghost use Rattle.std.specs.Prelude.{◌≡◌, ◌<◌, ◌≤◌, ◌+◌, ◌*◌, ℕ, length};
 ghost use Rattle.mt_base.specs.Width.{most_taken};
 ghost use Rattle.mt_rows.specs.declared.rows.Place.TheVariants.{Root};
-ghost use Rattle.mt_rows.specs.Spans.{inner_kind};
+ghost use Rattle.mt_rows.specs.Spans.{inner_of};
 ghost use Rattle.mt_splice.specs.steps.Replacing.{MayReplaceLevelRows, AreLevelRowsReplaced, MayBuryLevels, AreLevelsDone, MayReplaceLevel, MayEndEmpty, MayEndAtRoot, MayEndAbove, MayEndInSlot};
 ghost use Rattle.mt_splice.specs.Splice.{IsSpliced, TellsAt};
 
@@ -33,7 +33,7 @@ fn replace_rows<R: Rows, B: Begun>(
     kind: RowKind,
     number: u64,
 ) -> ArrayVec<Item, 3>
-    requires inner { region.now.inner ≡ inner_kind B.start.tree.kind }
+    requires inner { region.now.inner ≡ inner_of B.start.tree.gapped }
     requires level { MayReplaceLevelRows B.before B.start (R.sheet rows.old) book.old inner.old.items kind region.now.left.items region.now.right.items depth region.now.run.items ends.now number }
     ensures level { AreLevelRowsReplaced B.before B.start (R.sheet rows.old) (R.sheet rows.new) book.old book.new inner.old.items inner.new.items kind region.now.left.items region.now.right.items depth region.now.run.items ends.now number result.items }
     ensures few { length result.items ≤ 3 }
@@ -79,7 +79,7 @@ pub fn end_empty<R: Rows, B: Begun>(
     call: &Call,
     reply: &Reply,
 ) -> Place
-    requires kind { kind ≡ inner_kind B.start.tree.kind }
+    requires kind { kind ≡ inner_of B.start.tree.gapped }
     requires end { MayEndEmpty B.before B.start (R.sheet rows.old) book.old inner.now.items left.now.items right.now.items depth number call.now reply.now }
     ensures spliced { IsSpliced B.before.kind B.before.sheet (R.sheet rows.new) B.before.book book.new B.before.number call.now reply.now result B.start.first B.start.last }
     ensures root { result ≡ Root }
@@ -105,7 +105,7 @@ fn end_at_root<R: Rows, B: Begun>(
     call: &Call,
     reply: &Reply,
 ) -> Place
-    requires inner { region.now.inner ≡ inner_kind B.start.tree.kind }
+    requires inner { region.now.inner ≡ inner_of B.start.tree.gapped }
     requires end { MayEndAtRoot B.before B.start (R.sheet rows.old) book.old inner.old.items kind region.now.left.items region.now.right.items depth region.now.run.items ends.now number call.now reply.now }
     ensures spliced { IsSpliced B.before.kind B.before.sheet (R.sheet rows.new) B.before.book book.new B.before.number call.now reply.now result B.start.first B.start.last }
     ensures root { result ≡ Root }
@@ -146,7 +146,7 @@ fn end_above<R: Rows, B: Begun>(
     call: &Call,
     reply: &Reply,
 ) -> Place
-    requires inner { region.now.inner ≡ inner_kind B.start.tree.kind }
+    requires inner { region.now.inner ≡ inner_of B.start.tree.gapped }
     requires end { MayEndAbove B.before B.start (R.sheet rows.old) book.old inner.old.items kind region.now.left.items region.now.right.items depth region.now.run.items ends.now number call.now reply.now }
     ensures spliced { IsSpliced B.before.kind B.before.sheet (R.sheet rows.new) B.before.book book.new B.before.number call.now reply.now result B.start.first B.start.last }
     ensures root { result ≡ Root }
@@ -181,7 +181,7 @@ fn end_in_slot<R: Rows, B: Begun>(
     call: &Call,
     reply: &Reply,
 ) -> Spliced
-    requires inner { region.now.inner ≡ inner_kind B.start.tree.kind }
+    requires inner { region.now.inner ≡ inner_of B.start.tree.gapped }
     requires end { MayEndInSlot B.before B.start (R.sheet rows.old) book.old inner.old.items kind region.now.left.items region.now.right.items depth region.now.run.items ends.now number call.now reply.now }
     ensures spliced { IsSpliced B.before.kind B.before.sheet (R.sheet rows.new) B.before.book book.new B.before.number call.now reply.now result.place B.start.first B.start.last }
     ensures told { TellsAt B.before.kind (R.sheet rows.new).tree result.place result.gap }
@@ -220,7 +220,7 @@ pub fn replace_level<R: Rows, B: Begun>(
     call: &Call,
     reply: &Reply,
 ) -> Spliced
-    requires inner { region.old.inner ≡ inner_kind B.start.tree.kind }
+    requires inner { region.old.inner ≡ inner_of B.start.tree.gapped }
     requires level { MayReplaceLevel B.before B.start (R.sheet rows.old) book.old inner.old.items kind region.old.left.items region.old.right.items depth region.old.run.items number call.now reply.now }
     ensures spliced { IsSpliced B.before.kind B.before.sheet (R.sheet rows.new) B.before.book book.new B.before.number call.now reply.now result.place B.start.first B.start.last }
     ensures told { TellsAt B.before.kind (R.sheet rows.new).tree result.place result.gap }

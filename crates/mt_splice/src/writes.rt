@@ -6,7 +6,7 @@ ghost use Rattle.mt_rows.specs.declared.rows.Life.TheVariants.{Draft};
 ghost use Rattle.mt_rows.specs.Sheet.{IsPlace, IsFree, life_of, drafted};
 ghost use Rattle.mt_splice.specs.steps.Writes.{IsItemDrafted, IsRestDrafted, IsRowDrafted, IsRowWritten};
 
-use mt_base::cols;
+use mt_base::{Width, cols};
 use mt_free::RowBook;
 use mt_layout::{Item, RowKind, gaps, name_of, slots};
 use mt_rows::Rows;
@@ -33,15 +33,15 @@ fn draft_if<R: Rows>(rows: &mut R, has: bool, row: u32, col: u32, word: u64)
     }
 }
 
-/// Writes an item into a slot of a row that may be written anew.
+/// Writes an item into a slot of a row that may be written anew, in rows of this width.
 #[inline(always)]
-fn draft_item<R: Rows>(rows: &mut R, row: u32, kind: RowKind, slot: u32, item: Item)
+fn draft_item<R: Rows>(rows: &mut R, width: Width, row: u32, kind: RowKind, slot: u32, item: Item)
+    requires width { width ≡ (R.sheet rows.old).tree.table.width }
     requires place { IsPlace (R.sheet rows.old).tree row 0 }
     requires free { IsFree (R.sheet rows.old).cleared (life_of (R.sheet rows.old).lives row) }
     requires slot { slot < slots_of (R.sheet rows.old).tree.table.width kind }
     ensures { IsItemDrafted (R.sheet rows.old) (R.sheet rows.new) row kind slot item }
 {
-    let width = rows.width();
     let slots = slots(width, kind);
     let gaps = gaps(width, kind);
     rows.draft(row, slots + slot, item.word);
@@ -51,12 +51,12 @@ fn draft_item<R: Rows>(rows: &mut R, row: u32, kind: RowKind, slot: u32, item: I
 
 /// Writes 0 into the columns of a draft that no item of this kind of row uses.
 #[inline(always)]
-fn draft_unused<R: Rows>(rows: &mut R, row: u32, kind: RowKind)
+fn draft_unused<R: Rows>(rows: &mut R, width: Width, row: u32, kind: RowKind)
+    requires width { width ≡ (R.sheet rows.old).tree.table.width }
     requires place { IsPlace (R.sheet rows.old).tree row 0 }
     requires draft { life_of (R.sheet rows.old).lives row ≡ Draft }
     ensures { IsRestDrafted (R.sheet rows.old) (R.sheet rows.new) row kind }
 {
-    let width = rows.width();
     for col in 2 * slots(width, kind) + gaps(width, kind)..cols(width) {
         rows.draft(row, col, 0);
     }
@@ -64,31 +64,41 @@ fn draft_unused<R: Rows>(rows: &mut R, row: u32, kind: RowKind)
 
 /// Writes all words of a row that may be written anew: of these items, without a parent. What is unused is 0.
 #[inline(always)]
-fn draft_row<R: Rows>(rows: &mut R, row: u32, kind: RowKind, items: &[Item])
+fn draft_row<R: Rows>(rows: &mut R, width: Width, row: u32, kind: RowKind, items: &[Item])
+    requires width { width ≡ (R.sheet rows.old).tree.table.width }
     requires place { IsPlace (R.sheet rows.old).tree row 0 }
     requires free { IsFree (R.sheet rows.old).cleared (life_of (R.sheet rows.old).lives row) }
     requires fit { length items.now ≤ slots_of (R.sheet rows.old).tree.table.width kind }
     ensures { IsRowDrafted (R.sheet rows.old) (R.sheet rows.new) row kind items.now }
 {
     rows.draft(row, 0, NO_PARENT);
-    for slot in 0..slots(rows.width(), kind) {
+    for slot in 0..slots(width, kind) {
         let item = items.get(slot as usize).copied().unwrap_or_default();
-        draft_item(rows, row, kind, slot, item);
+        draft_item(rows, width, row, kind, slot, item);
     }
-    draft_unused(rows, row, kind);
+    draft_unused(rows, width, row, kind);
 }
 
-/// The same. The loop of each kind is compiled by itself.
+/// The same. The loop of each width and kind is compiled by itself.
 fn draft_row_of<R: Rows>(rows: &mut R, row: u32, kind: RowKind, items: &[Item])
     requires place { IsPlace (R.sheet rows.old).tree row 0 }
     requires free { IsFree (R.sheet rows.old).cleared (life_of (R.sheet rows.old).lives row) }
     requires fit { length items.now ≤ slots_of (R.sheet rows.old).tree.table.width kind }
     ensures { IsRowDrafted (R.sheet rows.old) (R.sheet rows.new) row kind items.now }
 {
-    match kind {
-        RowKind::Leaf => draft_row(rows, row, RowKind::Leaf, items),
-        RowKind::Inner => draft_row(rows, row, RowKind::Inner, items),
-        RowKind::Gapped => draft_row(rows, row, RowKind::Gapped, items),
+    match (rows.width(), kind) {
+        (Width::Long, RowKind::Leaf) => draft_row(rows, Width::Long, row, RowKind::Leaf, items),
+        (Width::Long, RowKind::Inner) => draft_row(rows, Width::Long, row, RowKind::Inner, items),
+        (Width::Long, RowKind::Gapped) => draft_row(rows, Width::Long, row, RowKind::Gapped, items),
+        (Width::Short, RowKind::Leaf) => draft_row(rows, Width::Short, row, RowKind::Leaf, items),
+        (Width::Short, RowKind::Inner) => draft_row(rows, Width::Short, row, RowKind::Inner, items),
+        (Width::Short, RowKind::Gapped) => draft_row(
+            rows,
+            Width::Short,
+            row,
+            RowKind::Gapped,
+            items,
+        ),
     }
 }
 

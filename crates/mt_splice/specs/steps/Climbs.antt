@@ -7,7 +7,7 @@ use Rattle.mt_layout.specs.declared.spans.Span.{Span}
 use Rattle.mt_layout.specs.Rows.{row_in}
 use Rattle.mt_layout.specs.Spans.{leaf_range, Fills, Apart}
 use Rattle.mt_rows.specs.Levels.{expand, Levels}
-use Rattle.mt_rows.specs.Laws.{IsRow, kind_at}
+use Rattle.mt_rows.specs.Laws.{IsRow, kind_on}
 use Rattle.mt_leaf.specs.Edits.{joined}
 use Rattle.mt_path.specs.declared.paths.PathStep.{PathStep}
 use Rattle.mt_path.specs.Paths.{path_in, step_at}
@@ -32,7 +32,7 @@ pub record IsAround (start : Start) (left right : List PathStep) (depth : ℕ) :
 
 -- what stands now in a path's row of a depth and a height
 abbrev pub spans_now : Start → Work → List PathStep → ℕ → ℕ → List Span
-spans_now start s path depth height = spans_on (now start s).table (kind_at start.tree.kind height) (step_at path depth)
+spans_now start s path depth height = spans_on (now start s).table (kind_on start.tree.gapped height) (step_at path depth)
 
 -- the row behind the right path's, and the row ahead of the left path's, by the paths that lead to them
 abbrev pub IsPathBehind : Start → List PathStep → ℕ → List PathStep → Type 0
@@ -60,7 +60,7 @@ beside (suc h) xs ys = xs ++ ys
 -- in inner rows they are the rows of the level below, of which all are replaced, and of which the new ones are the fewest.
 abbrev pub MayStandIn : Start → Work → ℕ → ℕ → List Span → Type 0
 MayStandIn start s depth zero ys = (flat_map leaf_range ys ≡ start.map) × (s.taken ≡ []) × (s.gone ≡ [])
-MayStandIn start s depth (suc h) ys = IsHalfReplaced start.tree s.words start.map s.taken s.gone h (rows_at start.tree (suc depth)) ys × Levels (IsUsed s) (now start s).table h ys × FewestBelow (is_taken s) start.tree.kind (now start s).table h ys
+MayStandIn start s depth (suc h) ys = IsHalfReplaced start.tree s.words start.map s.taken s.gone h (rows_at start.tree (suc depth)) ys × Levels (IsUsed s) (now start s).table h ys × FewestBelow (is_taken s) start.tree.gapped (now start s).table h ys
 
 -- The spans are gathered that replace what stands in the rows of this depth from the left path's to the right path's.
 pub record Gathered (start : Start) (s : Work) (left right : List PathStep) (depth height : ℕ) (run : List Span) : Type 0 where
@@ -101,4 +101,4 @@ pub record Climbed (start : Start) (s : Work) (left right : List PathStep) (dept
   pub taken : AllByRecursion (IsTaken s height) new
   pub half : IsHalfReplaced start.tree s.words start.map s.taken s.gone height (rows_at start.tree depth) (front ++ (new ++ back))
   pub used : Levels (IsUsed s) (now start s).table height (front ++ (new ++ back))
-  pub fewest : FewestBelow (is_taken s) start.tree.kind (now start s).table height (front ++ (new ++ back))
+  pub fewest : FewestBelow (is_taken s) start.tree.gapped (now start s).table height (front ++ (new ++ back))

@@ -16,7 +16,7 @@ use Rattle.mt_layout.specs.Sizes.{slots_of}
 
 -- the tree with another root word
 abbrev pub with_root : Tree → ℕ → Tree
-with_root t word = record { rows = t.rows; kind = t.kind; table = t.table; root = word }
+with_root t word = record { rows = t.rows; gapped = t.gapped; table = t.table; root = word }
 
 -- the tree after a word is stored in the slot of a path's row, which is of this kind
 abbrev pub with_step : Tree → RowKind → PathStep → ℕ → Tree

@@ -18,7 +18,7 @@ use Rattle.mt_rows.specs.declared.rows.Place.TheVariants.{Root, Slot}
 use Rattle.mt_rows.specs.Spans.{column}
 use Rattle.mt_rows.specs.Levels.{is_row_of}
 use Rattle.mt_rows.specs.Trees.{height_in}
-use Rattle.mt_rows.specs.Laws.{Tree, kind_at}
+use Rattle.mt_rows.specs.Laws.{Tree, kind_on}
 use Rattle.mt_rows.specs.Sheet.{Sheet, IsPlace, life_of, is_buried}
 use Rattle.mt_rows.specs.Publish.{tree_as, map_by, with_published}
 use Rattle.mt_rows.specs.Replacement.{IsSlotAt}
@@ -48,7 +48,7 @@ pub record IsChildSlot (t : Tree) (height row col : ℕ) : Type 0 where
   pub levels : height ≡ depth + suc low
   pub here : IsSlotAt t depth at slot child
   pub number : row_in at.word ≡ row
-  pub column : col ≡ slot_column (slots_of t.table.width (kind_at t.kind (suc low))) slot
+  pub column : col ≡ slot_column (slots_of t.table.width (kind_on t.gapped (suc low))) slot
 
 abbrev pub IsEndPlace : Start → Work → Option ℕ → Place → Type 0
 IsEndPlace start w old Root = Unit {0}

@@ -9,7 +9,7 @@ use Rattle.mt_layout.specs.Rows.{row_in}
 use Rattle.mt_layout.specs.Spans.{spans_from}
 use Rattle.mt_free.specs.Book.{Book, Held, IsOut}
 use Rattle.mt_rows.specs.Levels.{tally}
-use Rattle.mt_rows.specs.Laws.{kind_at, top_of}
+use Rattle.mt_rows.specs.Laws.{kind_on, top_of}
 use Rattle.mt_rows.specs.Sheet.{Sheet, MayBury}
 use Rattle.mt_path.specs.declared.paths.PathStep.{PathStep}
 use Rattle.mt_path.specs.Paths.{path_in, step_at}
@@ -32,7 +32,7 @@ use Rattle.mt_layout.specs.Sizes.{slots_of}
 pub record MayWriteRow (b : Before) (start : Start) (s : Sheet) (book : Book) (w : Work) (kind : RowKind) (height lo hi : ℕ) (items : List Item) (inner : List NewRow) : Type 0 where
   pub before : IsBefore b start
   pub progress : IsProgress b s book w
-  pub of_kind : kind ≡ kind_at start.tree.kind height
+  pub of_kind : kind ≡ kind_on start.tree.gapped height
   pub free : 0 < length book.free
   pub run : MayBeCut start.tree height lo hi (spans_from lo items)
   pub fit : length items ≤ slots_of s.tree.table.width kind
@@ -70,7 +70,7 @@ noted Gapped word count = record { row = row_in word; count = count } ∷ []
 pub record MayWriteRows (b : Before) (start : Start) (s : Sheet) (book : Book) (w : Work) (kind : RowKind) (height lo hi : ℕ) (items : List Item) (ends : List ℕ) (inner : List NewRow) : Type 0 where
   pub before : IsBefore b start
   pub progress : IsProgress b s book w
-  pub of_kind : kind ≡ kind_at start.tree.kind height
+  pub of_kind : kind ≡ kind_on start.tree.gapped height
   pub free : 3 ≤ length book.free
   pub within : hi ≤ top_of start.tree + 1
   pub run : MayBeCut start.tree height lo hi (spans_from lo items)

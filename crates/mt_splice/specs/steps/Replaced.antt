@@ -37,7 +37,7 @@ map_as t (Some h) = map_of t.table h (root_of t)
 -- in a tree, or in the empty tree, the new rows of each level are the fewest
 abbrev pub FewestAs : (ℕ → Bool) → Tree → Option ℕ → Type 0
 FewestAs is_new t None = Unit {0}
-FewestAs is_new t (Some h) = FewestBelow is_new t.kind t.table h (root_of t)
+FewestAs is_new t (Some h) = FewestBelow is_new t.gapped t.table h (root_of t)
 
 -- The tree t' stands for the map in place of t, where either may be the empty tree.
 pub record IsReplaced (t t' : Tree) (map : List Range) (taken gone : List Seen) (old new : Option ℕ) : Type 0 where

@@ -10,8 +10,8 @@ use Rattle.mt_layout.specs.declared.spans.Span.{Span}
 use Rattle.mt_layout.specs.Spans.{spans_from}
 use Rattle.mt_free.specs.Book.{Book}
 use Rattle.mt_rows.specs.Levels.{times}
-use Rattle.mt_rows.specs.Spans.{inner_kind}
-use Rattle.mt_rows.specs.Laws.{kind_at, top_of}
+use Rattle.mt_rows.specs.Spans.{inner_of}
+use Rattle.mt_rows.specs.Laws.{kind_on, top_of}
 use Rattle.mt_rows.specs.Sheet.{Rooted, Sheet}
 use Rattle.mt_rows.specs.Publish.{map_by}
 use Rattle.mt_path.specs.declared.paths.PathStep.{PathStep}
@@ -63,7 +63,7 @@ pub record IsTakenBeside (start : Start) (t : Rooted) (kind : RowKind) (left rig
 -- the items that are to stand in the rows of a level may be cut into rows, and are, at these places
 pub record MayReplaceRows (b : Before) (start : Start) (s : Sheet) (book : Book) (w : Work) (inner : List NewRow) (kind : RowKind) (left right : List PathStep) (depth height : ℕ) (items : List Item) (ends : List ℕ) (number : ℕ) : Type 0 where
   pub under : IsUnderWay b start s book w inner (suc depth)
-  pub of_kind : kind ≡ kind_at start.tree.kind height
+  pub of_kind : kind ≡ kind_on start.tree.gapped height
   pub gathered : Gathered start w left right depth height (spans_from (begin_of left depth) items)
   pub run : MayBeCut start.tree height (begin_of left depth) (behind_of right depth) (spans_from (begin_of left depth) items)
   pub cut : IsCutOf s.tree.table.width kind items ends
@@ -107,7 +107,7 @@ pub record MayGather (start : Start) (t : Rooted) (left right : List PathStep) (
 
 -- what is to stand in the rows of the next level is gathered
 pub record IsGathered (start : Start) (t : Rooted) (left right : List PathStep) (depth : ℕ) (new items : List Item) : Type 0 where
-  pub each : {w : Work} {height : ℕ} → MayGoUp start w t left right depth height new → MayTakeIn start w t (inner_kind start.tree.kind) left right depth (suc height) items
+  pub each : {w : Work} {height : ℕ} → MayGoUp start w t left right depth height new → MayTakeIn start w t (inner_of start.tree.gapped) left right depth (suc height) items
 
 -- ---- the levels above
 

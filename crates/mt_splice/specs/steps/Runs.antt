@@ -8,7 +8,7 @@ use Rattle.mt_layout.specs.declared.names.RowKind.{RowKind}
 use Rattle.mt_layout.specs.declared.names.RowKind.TheVariants.{Leaf}
 use Rattle.mt_layout.specs.declared.spans.Span.{Span}
 use Rattle.mt_layout.specs.Spans.{leaf_range, Fills, EndsFull}
-use Rattle.mt_rows.specs.Laws.{Tree, top_of, kind_at, least_of}
+use Rattle.mt_rows.specs.Laws.{Tree, top_of, kind_on, least_of}
 use Rattle.mt_leaf.specs.Edits.{ends_with_hole}
 use Rattle.mt_splice.specs.steps.Climbs.{MayBeIn}
 use Rattle.mt_layout.specs.Sizes.{slots_of}
@@ -47,7 +47,7 @@ span_to lo hi = record { first = lo; last = hi - 1; word = 0 }
 pub record MayBeCut (t : Tree) (height lo hi : ℕ) (run : List Span) : Type 0 where
   pub fills : Fills lo hi run
   pub some : 1 ≤ length run
-  pub few : length run ≤ most_in_three t.table.width (kind_at t.kind height)
+  pub few : length run ≤ most_in_three t.table.width (kind_on t.gapped height)
   pub least : least_of t height (span_to lo hi) ≤ length run
   pub fit : MayBeIn height run
   pub leaves : height ≡ 0 → MayBeLeaves t hi run

@@ -7,7 +7,7 @@ use Rattle.mt_layout.specs.declared.names.RowKind.TheVariants.{Leaf, Inner, Gapp
 use Rattle.mt_layout.specs.declared.spans.Span.{Span}
 use Rattle.mt_layout.specs.Columns.{longest_hole}
 use Rattle.mt_layout.specs.Spans.{spans_from}
-use Rattle.mt_rows.specs.Spans.{Table, inner_kind}
+use Rattle.mt_rows.specs.Spans.{Table, inner_of}
 use Rattle.mt_rows.specs.Levels.{Levels}
 use Rattle.mt_rows.specs.Laws.{Tree, IsRow, GapLaw, longest_below}
 use Rattle.mt_rows.specs.Gaps.{KeepsGaps}
@@ -49,7 +49,7 @@ pub record IsGoodRow (start : Start) (w : Work) (h : ℕ) (x : Span) : Type 0 wh
 -- the items tell their gaps.
 pub record AreTold (start : Start) (w : Work) (h first : ℕ) (items : List Item) : Type 0 where
   pub rows : Levels (IsGoodRow start w) (now start w).table h (spans_from first items)
-  pub gaps : TellGaps (inner_kind start.tree.kind) (now start w).table h first items
+  pub gaps : TellGaps (inner_of start.tree.gapped) (now start w).table h first items
 
 -- items that are to stand in rows of a height: those of leaves tell nothing
 abbrev pub AreToldIn : Start → Work → ℕ → ℕ → List Item → Type 0

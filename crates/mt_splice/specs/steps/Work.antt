@@ -33,7 +33,7 @@ abbrev pub table_with : Table → List ℕ → Table
 table_with t words = record { width = t.width; words = words }
 
 abbrev pub tree_with : Tree → List ℕ → Tree
-tree_with t words = record { rows = t.rows; kind = t.kind; table = table_with t.table words; root = t.root }
+tree_with t words = record { rows = t.rows; gapped = t.gapped; table = table_with t.table words; root = t.root }
 
 abbrev pub with_words : Rooted → List ℕ → Rooted
 with_words t words = record { rows = t.rows; table = table_with t.table words; root = t.root }

@@ -1,13 +1,34 @@
 use Rattle.std.proofs.Common.{◌+◌, ap, ◌∙◌, sym, subst, arith}
+use Rattle.mt_base.specs.Width.{greatest}
 use Rattle.mt_layout.specs.declared.names.RowKind.TheVariants.{Leaf}
 use Rattle.mt_layout.proofs.RowSizes.{slots_of-room}
 use Rattle.mt_rows.specs.Sheet.{Rooted}
 use Rattle.mt_path.specs.declared.paths.PathStep.{PathStep}
 use Rattle.mt_path.specs.Handles.{IsStepOfLeaf}
-use Rattle.mt_path.proofs.HandleSteps.{slot_fits, step_behind, handle_behind}
+use Rattle.mt_path.proofs.HandleSteps.{one_behind, slot_fits, step_behind, handle_behind}
 use Rattle.mt_path.proofs.LeafSteps.{here_in}
 use Rattle.mt_rows.proofs.Loads.{same_tree}
 use Rattle.mt_path.proofs.handles.behind.Goals as goal
+
+pub overflow_add-last : goal.overflow_add-last
+overflow_add-last g c =
+    let t = (g.R.Rows.sheet c.args.rows.now).tree in
+    let end = one_behind t c.requires.tree.0 c.requires.tree.1 c.args.here.now c.requires.here c.top.result (c.top.ensures ∙ ap greatest c.width.ensures) c.if-last-top.false in
+    let fits = end.1 in
+    omega arith
+
+pub handle_at-requires-clause-index : goal.handle_at-requires-clause-index
+handle_at-requires-clause-index g c =
+    let t = (g.R.Rows.sheet c.args.rows.now).tree in
+    let end = one_behind t c.requires.tree.0 c.requires.tree.1 c.args.here.now c.requires.here c.top.result (c.top.ensures ∙ ap greatest c.width.ensures) c.if-last-top.false in
+    end.0
+
+pub overflow_add-result : goal.overflow_add-result
+overflow_add-result g c =
+    let t = (g.R.Rows.sheet c.args.rows.now).tree in
+    let end = one_behind t c.requires.tree.0 c.requires.tree.1 c.args.here.now c.requires.here c.top.result (c.top.ensures ∙ ap greatest c.width.ensures) c.if-last-top.false in
+    let fits = end.1 in
+    omega arith
 
 pub overflow_add-leaf : goal.overflow_add-leaf
 overflow_add-leaf g c =

@@ -6,8 +6,11 @@ use Rattle.mt_rows.specs.Sheet.{Rooted}
 use Rattle.mt_path.specs.Middles.{IsPassed}
 use Rattle.mt_path.proofs.Kept.{tree_kept}
 use Rattle.mt_path.proofs.Loads.{one_read, reads_more, reads_up}
-use Rattle.mt_path.proofs.Middles.{passed_to}
+use Rattle.mt_path.proofs.Middles.{none_passed, passed_to}
 use Rattle.mt_path.proofs.rows.find_in_half.Goals as goal
+
+pub find_from-requires-clause-passed : goal.find_from-requires-clause-passed
+find_from-requires-clause-passed g c = none_passed (g.R.Rows.sheet c.load-pivot.new.self).tree.table c.args.row c.args.index
 
 pub find_from-requires-2-clause-passed : goal.find_from-requires-2-clause-passed
 find_from-requires-2-clause-passed g c =
