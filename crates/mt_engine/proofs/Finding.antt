@@ -2,7 +2,6 @@
 use Rattle.std.proofs.Common.{◌≡◌, ◌≢◌, ℕ, ◌+◌, ◌-◌, ◌*◌, ◌^◌, ◌<◌, ◌≤◌, ◌==◌, ◌||◌, not, true, false, List, Option, Some, None, refl, sym, ap, ◌∙◌, subst, arith}
 use Rattle.std.proofs.lemmas.Bool.{or_parts, eqb-false}
 use Rattle.mt_base.specs.declared.kinds.Kind.{Kind}
-use Rattle.mt_base.specs.declared.kinds.Kind.TheVariants as trees
 use Rattle.mt_base.specs.declared.ranges.Range.{Range}
 use Rattle.mt_base.specs.declared.calls.Call.{Call}
 use Rattle.mt_base.specs.declared.calls.Call.TheVariants.{Store, StorePre, Insert, Erase, Alloc, Ralloc, Gap, Rgap, Clear}
@@ -18,6 +17,7 @@ use Rattle.mt_base.specs.Width.{columns, greatest}
 use Rattle.mt_base.proofs.CallsKeepOrder.{is_area}
 use Rattle.mt_base.proofs.FreeAreas.{low_is_room, high_is_room}
 use Rattle.mt_base.proofs.WidthBounds.{greatest_fits}
+use Rattle.mt_gap.specs.Descents.{IsGapped}
 use Rattle.mt_rows.specs.Publish.{IsLawfulOf, map_by}
 use Rattle.mt_rows.specs.Sheet.{Rooted, Sheet, ReadsUpTo, RoseUpTo}
 use Rattle.mt_rows.specs.Trees.{height_in}
@@ -28,7 +28,7 @@ use Rattle.mt_engine.specs.declared.areas.Sought.{Sought}
 use Rattle.mt_engine.specs.declared.areas.Sought.TheVariants.{Lowest, Highest}
 use Rattle.mt_engine.specs.declared.plans.Plan.{Plan}
 use Rattle.mt_engine.specs.declared.plans.Plan.TheVariants as plans
-use Rattle.mt_engine.specs.Areas.{start_for, allocation, search}
+use Rattle.mt_engine.specs.Areas.{start_to, start_for, allocation, search}
 use Rattle.mt_engine.specs.Engine.{OnlySearches, is_refusal, most_searched}
 use Rattle.mt_engine.specs.Here.{IsHereAt}
 use Rattle.mt_engine.specs.Plans.{IsSearched, IsStoreOf, IsStorePlan}
@@ -41,15 +41,26 @@ use Rattle.mt_path.proofs.Loads.{rose_up}
 
 -- ---- the conditions
 
-pub is_allocated : (kind : Kind) (size lo hi : ℕ) → is_no_area kind size lo hi ≡ false → kind ≡ trees.Alloc
-is_allocated trees.Range size lo hi good = absurd (cc)
-is_allocated trees.Alloc size lo hi good = refl
-
 pub good_area : (kind : Kind) (size lo hi entry : ℕ) → is_bad_area kind size lo hi entry ≡ false → (is_no_area kind size lo hi ≡ false) × ((reserved entry ≡ false) × (entry ≢ 0))
 good_area kind size lo hi entry good =
     let parts = or_parts (is_no_area kind size lo hi) (reserved entry || (entry == 0)) good in
     let entries = or_parts (reserved entry) (entry == 0) parts.1 in
     (parts.0, (entries.0, eqb-false entry 0 entries.1))
+
+-- ---- a tree of which an area is asked
+
+module _ (t : Rooted) (kind : Kind) (lawful : IsLawfulOf t kind) (size lo hi : ℕ) where
+  -- its holes are searched
+  pub is_gapped : is_no_area kind size lo hi ≡ false → IsGapped t
+  is_gapped area = record { kind = kind; room = (is_area kind size lo hi area).finds; lawful = lawful }
+
+  -- and its window lies in the tree
+  pub window_within : is_no_area kind size lo hi ≡ false → hi ≤ greatest t.table.width
+  window_within area = subst (λ (w : Width). hi ≤ greatest w) (sym lawful.width) (is_area kind size lo hi area).within
+
+  -- what is found up to the greatest index of the words is what is found in a tree of this kind
+  pub start_is : (sought : Sought) (start : Option ℕ) → start ≡ start_to sought (greatest t.table.width) (map_by t) size lo hi → start_for sought kind (map_by t) size lo hi ≡ start
+  start_is sought start found = ap (λ (w : Width). start_to sought (greatest w) (map_by t) size lo hi) (sym lawful.width) ∙ sym found
 
 -- ---- what an allocation does
 
@@ -73,6 +84,13 @@ allocation_busy sought kind m size lo hi entry good none = allocation_stays soug
 room_is : (sought : Sought) (kind : Kind) (m : List Range) (size lo hi start : ℕ) → IsMap kind m → 1 ≤ size → start_for sought kind m size lo hi ≡ Some start → IsRoom m size lo hi start
 room_is Lowest kind m size lo hi start map some is = low_is_room kind m size lo hi start map some is
 room_is Highest kind m size lo hi start map some is = high_is_room kind m size lo hi start map some is
+
+-- the highest place of a window that lies in the tree lies there too
+pub highest_within : (t : Rooted) (size lo hi start : ℕ) → IsGapped t → 1 ≤ size → hi ≤ greatest t.table.width → Some start ≡ start_to Highest (greatest t.table.width) (map_by t) size lo hi → start ≤ greatest t.table.width
+highest_within t size lo hi start tree some within is =
+    let found = start_is t tree.kind tree.lawful size lo hi Highest (Some start) is in
+    let room = room_is Highest tree.kind (map_by t) size lo hi start (tree_map t tree.kind (tree_if_lawful t tree.kind tree.lawful)) some found in
+    let to = room.to in omega arith
 
 module _ (t : Rooted) (kind : Kind) (lawful : IsLawfulOf t kind) (sought : Sought) (size lo hi : ℕ) (area : is_no_area kind size lo hi ≡ false) (start : ℕ) (is : start_for sought kind (map_by t) size lo hi ≡ Some start) where
   room : IsRoom (map_by t) size lo hi start

@@ -1,7 +1,8 @@
 -- A path along which the way to an index goes when its leaf was replaced, as the tree tells it.
-use Rattle.std.proofs.Common.{◌≡◌, ◌≢◌, ℕ, suc, ◌+◌, ◌-◌, ◌<◌, ◌≤◌, List, Some, length, sym, ap, ◌∙◌, subst, arith}
-use Rattle.mt_base.specs.declared.kinds.Kind.TheVariants as trees
+use Rattle.std.proofs.Common.{◌≡◌, ◌≢◌, ℕ, suc, ◌+◌, ◌-◌, ◌<◌, ◌≤◌, List, Bool, Some, true, length, sym, ap, ◌∙◌, subst, arith}
+use Rattle.mt_base.specs.declared.kinds.Kind.{Kind}
 use Rattle.mt_base.specs.declared.widths.Width.{Width}
+use Rattle.mt_base.specs.Call.{finds_room}
 use Rattle.mt_base.specs.Width.{columns, greatest}
 use Rattle.mt_layout.specs.declared.names.RowKind.TheVariants.{Gapped}
 use Rattle.mt_layout.specs.Rows.{named_row}
@@ -14,18 +15,22 @@ use Rattle.mt_path.proofs.Ways.{some_root, some_tree}
 use Rattle.mt_rows.specs.declared.rows.Place.{Place}
 use Rattle.mt_rows.specs.declared.rows.Place.TheVariants.{Slot}
 use Rattle.mt_rows.specs.Spans.{spans_in}
-use Rattle.mt_rows.specs.Laws.{Tree, IsRow, Stands}
+use Rattle.mt_rows.specs.Laws.{Tree, IsTree, IsRow, Stands}
 use Rattle.mt_rows.specs.Sheet.{Rooted, word_at}
-use Rattle.mt_rows.specs.Publish.{tree_as, IsTreeOf, IsReached}
+use Rattle.mt_rows.specs.Publish.{tree_on, IsTreeOf, IsReached}
 use Rattle.mt_rows.proofs.FewSpans.{row_most}
 use Rattle.mt_gap.specs.Mending.{IsAlong}
 use Rattle.mt_engine.specs.Mends.{WasWay}
 use Rattle.mt_engine.proofs.NewLeaf.{along_now}
 use Rattle.mt_engine.proofs.SameHeight.{levels_same}
 
-module _ (was now : Rooted) (place : Place) (path : List PathStep) (index : ℕ) (w : WasWay trees.Alloc was now place path index) (tree : IsTreeOf now trees.Alloc) (within : index ≤ greatest now.table.width) (many : 2 ≤ length path) where
+module _ (kind : Kind) (room : finds_room kind ≡ true) (was now : Rooted) (place : Place) (path : List PathStep) (index : ℕ) (w : WasWay kind was now place path index) (tree : IsTreeOf now kind) (within : index ≤ greatest now.table.width) (many : 2 ≤ length path) where
   abbrev t : Tree
-  t = tree_as trees.Alloc was
+  t = tree_on true was
+
+  -- its inner rows have gaps
+  gapped : (r : Rooted) → IsTreeOf r kind → IsTree (tree_on true r)
+  gapped r is = subst (λ (b : Bool). IsTree (tree_on b r)) room is.words
 
   width : now.table.width ≡ was.table.width
   width = tree.width ∙ sym w.tree.width
@@ -37,7 +42,7 @@ module _ (was now : Rooted) (place : Place) (path : List PathStep) (index : ℕ)
   some = let long = ap length w.way in some_root was index 0 (omega arith)
 
   stood : (h : ℕ) × Stands t h
-  stood = some_tree t w.tree.words some
+  stood = some_tree t (gapped was w.tree) some
 
   abbrev d : ℕ
   d = length path - 2
@@ -73,7 +78,7 @@ module _ (was now : Rooted) (place : Place) (path : List PathStep) (index : ℕ)
       let root = w.root above.row col at in
       let kept : (r c : ℕ) → IsReached was r → 0 < c → c < columns was.table.width → Slot above.row col ≢ Slot r c → word_at now r c ≡ word_at was r c =
       λ r c reached some_column inside other. w.kept r c reached some_column inside (λ same. other (sym at ∙ same)) in
-      let stood' = some_tree (tree_as trees.Alloc now) tree.words (λ empty. some (sym root ∙ empty)) in
-      let same = levels_same trees.Alloc was now (suc d) stood'.0 above.row col stands stood'.1 width root kept in
+      let stood' = some_tree (tree_on true now) (gapped now tree) (λ empty. some (sym root ∙ empty)) in
+      let same = levels_same true was now (suc d) stood'.0 above.row col stands stood'.1 width root kept in
       subst (λ (l : List PathStep). IsAlong l leaf (path_in now.table now.root index)) (sym w.way)
-      (along_now was now d above.row col index stands (subst (Stands (tree_as trees.Alloc now)) same stood'.1) width root within_then kept (ap (λ (s : PathStep). s.row) above_is) (λ i. slots_of (width i) Gapped + (above_is i).slot) leaf named)
+      (along_now was now d above.row col index stands (subst (Stands (tree_on true now)) same stood'.1) width root within_then kept (ap (λ (s : PathStep). s.row) above_is) (λ i. slots_of (width i) Gapped + (above_is i).slot) leaf named)

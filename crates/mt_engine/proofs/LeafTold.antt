@@ -1,6 +1,7 @@
 -- A leaf on the way to an index, whose longest hole was told when it was published.
-use Rattle.std.proofs.Common.{◌≡◌, ◌≢◌, ℕ, ◌+◌, ◌-◌, ◌≤◌, List, [], ◌∷◌, Some, length, refl, sym, ap, ◌∙◌, subst, arith}
-use Rattle.mt_base.specs.declared.kinds.Kind.TheVariants as trees
+use Rattle.std.proofs.Common.{◌≡◌, ◌≢◌, ℕ, ◌+◌, ◌-◌, ◌≤◌, List, [], ◌∷◌, Bool, Some, true, length, refl, sym, ap, ◌∙◌, subst, arith}
+use Rattle.mt_base.specs.declared.kinds.Kind.{Kind}
+use Rattle.mt_base.specs.Call.{finds_room}
 use Rattle.mt_base.specs.Width.{greatest}
 use Rattle.mt_layout.specs.declared.names.RowKind.TheVariants.{Gapped}
 use Rattle.mt_layout.specs.declared.spans.Span.{Span}
@@ -14,8 +15,8 @@ use Rattle.mt_path.specs.Handles.{leaf_in, leaf_spans}
 use Rattle.mt_path.proofs.TreePaths.{rows_at, row_of, step_of, levels, step, place, lawful}
 use Rattle.mt_path.proofs.Ways.{some_root, some_tree}
 use Rattle.mt_rows.specs.declared.rows.Place.{Place}
-use Rattle.mt_rows.specs.Laws.{Tree, Stands, kind_at, longest_below}
-use Rattle.mt_rows.specs.Publish.{tree_as, IsTreeOf}
+use Rattle.mt_rows.specs.Laws.{Tree, IsTree, Stands, kind_on, longest_below}
+use Rattle.mt_rows.specs.Publish.{tree_on, IsTreeOf}
 use Rattle.mt_rows.specs.Replacement.{root_of}
 use Rattle.mt_rows.specs.Sheet.{Rooted, Sheet, word_at}
 use Rattle.mt_rows.proofs.Reached.{OnLevel, one_of_parts, on_level, on_level_law, one_place}
@@ -27,20 +28,20 @@ use Rattle.mt_engine.proofs.LeafReplaced.{goes_along}
 
 -- ---- a row that tells, and the leaf of that number on the way
 
-module _ (now : Rooted) (tree : IsTreeOf now trees.Alloc) (some : now.root ≢ 0) (word gap : ℕ) (tells : TellsBelow trees.Alloc now word gap) where
+module _ (kind : Kind) (room : finds_room kind ≡ true) (now : Rooted) (tree : IsTreeOf now kind) (some : now.root ≢ 0) (word gap : ℕ) (tells : TellsBelow kind now word gap) where
   abbrev t : Tree
-  t = tree_as trees.Alloc now
+  t = tree_on true now
 
   stood : (h : ℕ) × Stands t h
-  stood = some_tree t tree.words some
+  stood = some_tree t (subst (λ (b : Bool). IsTree (tree_on b now)) room tree.words) some
 
   on_tells : OnLevel now.table stood.0 (root_of t) tells.height tells.row
   on_tells = on_level t stood.0 stood.1 tells.height tells.row tells.stands
 
   pub is_named : named_row word ≡ Some (row_in tells.row.word)
   is_named =
-      let kind : named_kind tells.row.word ≡ Some (kind_at trees.Alloc tells.height) = (on_level_law t stood.0 stood.1 tells.height tells.row on_tells).name.named in
-      let whole : named_row tells.row.word ≡ Some (row_in tells.row.word) = rw kind refl in
+      let named : named_kind tells.row.word ≡ Some (kind_on true tells.height) = (on_level_law t stood.0 stood.1 tells.height tells.row on_tells).name.named in
+      let whole : named_row tells.row.word ≡ Some (row_in tells.row.word) = rw named refl in
       subst (λ (w : ℕ). named_row w ≡ Some (row_in tells.row.word)) tells.named whole
 
   module _ (index : ℕ) (within : index ≤ greatest now.table.width) (path : List PathStep) (along : IsAlong path (row_in tells.row.word) (path_in now.table now.root index)) where
@@ -74,21 +75,21 @@ module _ (now : Rooted) (tree : IsTreeOf now trees.Alloc) (some : now.root ≢ 0
 
     pub told_leaf : gap ≡ longest_in (leaf_spans now.table (leaf_in now index))
     told_leaf =
-        tells.longest refl
+        tells.longest room
         ∙ ((λ i. longest_below now.table (same.0 i) (same.1 i ∷ []))
         ∙ (sym (child_tells now 0 index x (lawful t stood.0 stood.1 index stood.0 0 within (omega arith)) tt) ∙ ap (λ (s : PathStep). longest_in (leaf_spans now.table s)) (sym leaf_is)))
 
 -- ---- the way, where the place is the leaf's
 
-module _ (was : Rooted) (s : Sheet) (place : Place) (path : List PathStep) (index gap : ℕ) (w : WasWay trees.Alloc was s.tree place path index) (may : MayMendAt trees.Alloc s index) (of_leaf : IsPlaceOfLeaf s.tree.table.width place path) (told : TellsAt trees.Alloc s.tree place gap) where
+module _ (kind : Kind) (room : finds_room kind ≡ true) (was : Rooted) (s : Sheet) (place : Place) (path : List PathStep) (index gap : ℕ) (w : WasWay kind was s.tree place path index) (may : MayMendAt kind s index) (of_leaf : IsPlaceOfLeaf s.tree.table.width place path) (told : TellsAt kind s.tree place gap) where
   abbrev above : PathStep
   above = step_at path (length path - 2)
 
   abbrev col : ℕ
   col = slot_column (slots_of s.tree.table.width Gapped) above.slot
 
-  tells : TellsBelow trees.Alloc s.tree (word_at s.tree above.row col) gap
-  tells = subst (λ (p : Place). TellsAt trees.Alloc s.tree p gap) of_leaf.at told
+  tells : TellsBelow kind s.tree (word_at s.tree above.row col) gap
+  tells = subst (λ (p : Place). TellsAt kind s.tree p gap) of_leaf.at told
 
   some : s.tree.root ≢ 0
   some empty =
@@ -98,11 +99,11 @@ module _ (was : Rooted) (s : Sheet) (place : Place) (path : List PathStep) (inde
       some_root was index 0 (omega arith) (sym root ∙ empty)
 
   along : IsAlong path (row_in tells.row.word) (path_in s.tree.table s.tree.root index)
-  along = goes_along was s.tree place path index w may.tree may.within of_leaf.many (row_in tells.row.word) of_leaf.at (is_named s.tree may.tree some (word_at s.tree above.row col) gap tells)
+  along = goes_along kind room was s.tree place path index w may.tree may.within of_leaf.many (row_in tells.row.word) of_leaf.at (is_named kind room s.tree may.tree some (word_at s.tree above.row col) gap tells)
 
-  pub told_way : IsToldWay trees.Alloc s path gap
+  pub told_way : IsToldWay (finds_room kind) s path gap
   told_way = record {
     leaf = row_in tells.row.word;
     way = record { is_new = may.is_new; index = index; within = may.within; gaps = may.gaps; steps = along; live = may.live; none_buried = may.none_buried };
-    told = told_leaf s.tree may.tree some (word_at s.tree above.row col) gap tells index may.within path along;
+    told = told_leaf kind room s.tree may.tree some (word_at s.tree above.row col) gap tells index may.within path along;
   }

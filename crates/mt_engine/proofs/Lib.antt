@@ -4,6 +4,7 @@ pub mod Finding
 pub mod FirstWay
 pub mod FreshEngine
 pub mod GapsStay
+pub mod IndexesAbove
 pub mod LeafEnds
 pub mod LeafReplaced
 pub mod LeafTold

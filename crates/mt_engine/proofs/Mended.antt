@@ -1,7 +1,7 @@
 -- A tree whose gap words were mended: it is lawful, and has the same rows and the same map.
-use Rattle.std.proofs.Common.{◌≡◌, ℕ, zero, suc, ◌+◌, ◌≤◌, ◌==◌, List, [], ◌∷◌, ◌++◌, nat_lt, length, refl, sym, ap, ◌∙◌, subst, inl, inr, arith}
+use Rattle.std.proofs.Common.{◌≡◌, ℕ, zero, suc, ◌+◌, ◌≤◌, ◌==◌, List, [], ◌∷◌, ◌++◌, Bool, false, nat_lt, length, refl, sym, ap, ◌∙◌, subst, inl, inr, arith}
 use Rattle.mt_base.specs.declared.kinds.Kind.{Kind}
-use Rattle.mt_base.specs.declared.kinds.Kind.TheVariants as trees
+use Rattle.mt_base.specs.Call.{finds_room}
 use Rattle.mt_base.specs.Width.{deepest}
 use Rattle.mt_layout.specs.declared.names.RowKind.TheVariants.{Gapped}
 use Rattle.mt_layout.specs.declared.spans.Span.{Span}
@@ -15,7 +15,7 @@ use Rattle.mt_rows.specs.Laws.{Tree, IsRow, IsTended, IsLawful, Stands, ParentLa
 use Rattle.mt_rows.specs.Gaps.{HasGaps}
 use Rattle.mt_rows.specs.Replacement.{root_of}
 use Rattle.mt_rows.specs.Sheet.{Rooted, Sheet, OnlyReads}
-use Rattle.mt_rows.specs.Publish.{tree_as, IsLawfulOf, map_by, is_reached}
+use Rattle.mt_rows.specs.Publish.{tree_on, tree_as, IsLawfulOf, map_by, is_reached}
 use Rattle.mt_rows.specs.Trees.{map_in, reached_in, height_in}
 use Rattle.mt_rows.proofs.Depth.{some_least, ranges_by_depth}
 use Rattle.mt_rows.proofs.Heights.{levels_pair}
@@ -28,20 +28,20 @@ use Rattle.mt_gap.specs.Mending.{KeepsWords, OnlyWords, IsAlong, IsWay}
 use Rattle.mt_engine.specs.Mends.{MayMendAt, IsMendedAt}
 use Rattle.mt_engine.proofs.OneWord.{parent_stays_in}
 
--- ---- a tree of ranges has no gap words
+-- ---- a tree without gaps has no gap words
 
-tended_by : (t : Tree) → t.kind ≡ trees.Range → (h : ℕ) (x : Span) → ParentLaw t h x → IsTended t h x
-tended_by t range zero x parent = record { parent = parent; gaps = tt }
-tended_by t range (suc h) x parent = record { parent = parent; gaps = rw range tt }
+tended_by : (t : Tree) → t.gapped ≡ false → (h : ℕ) (x : Span) → ParentLaw t h x → IsTended t h x
+tended_by t plain zero x parent = record { parent = parent; gaps = tt }
+tended_by t plain (suc h) x parent = record { parent = parent; gaps = rw plain tt }
 
-lawful_by : (t : Tree) → t.kind ≡ trees.Range → HasParents t → IsLawful t
-lawful_by t range (inl empty) = inl empty
-lawful_by t range (inr (h, stands, parent, levels)) = inr (h, stands, parent, levels_map (ParentLaw t) (IsTended t) t.table (tended_by t range) h (root_of t) levels)
+lawful_by : (t : Tree) → t.gapped ≡ false → HasParents t → IsLawful t
+lawful_by t plain (inl empty) = inl empty
+lawful_by t plain (inr (h, stands, parent, levels)) = inr (h, stands, parent, levels_map (ParentLaw t) (IsTended t) t.table (tended_by t plain) h (root_of t) levels)
 
-pub ranges_mended : (s : Sheet) (index : ℕ) → MayMendAt trees.Range s index → IsMendedAt trees.Range s s
-ranges_mended s index may = record {
+pub none_to_mend : (kind : Kind) (s : Sheet) (index : ℕ) → finds_room kind ≡ false → MayMendAt kind s index → IsMendedAt kind s s
+none_to_mend kind s index plain may = record {
   rest = refl;
-  lawful = record { width = may.tree.width; words = lawful_by (tree_as trees.Range s.tree) refl may.parents };
+  lawful = record { width = may.tree.width; words = lawful_by (tree_as kind s.tree) plain may.parents };
   map = refl;
   height = refl;
   reached = λ row. refl;
@@ -49,9 +49,9 @@ ranges_mended s index may = record {
 
 -- ---- the way
 
-pub is_way : (s s₁ : Sheet) (index : ℕ) (path : List PathStep) (leaf : ℕ) → MayMendAt trees.Alloc s index → OnlyReads s s₁ → IsAlong path leaf (path_in s.tree.table s.tree.root index) → IsWay trees.Alloc s₁ path leaf
-is_way s s₁ index path leaf may reads way =
-    subst (λ (x : Sheet). IsWay trees.Alloc x path leaf) (sym reads)
+pub is_way : (kind : Kind) (s s₁ : Sheet) (index : ℕ) (path : List PathStep) (leaf : ℕ) → MayMendAt kind s index → OnlyReads s s₁ → IsAlong path leaf (path_in s.tree.table s.tree.root index) → IsWay (finds_room kind) s₁ path leaf
+is_way kind s s₁ index path leaf may reads way =
+    subst (λ (x : Sheet). IsWay (finds_room kind) x path leaf) (sym reads)
     (record { is_new = may.is_new; index = index; within = may.within; gaps = may.gaps; steps = way; live = may.live; none_buried = may.none_buried })
 
 -- a way goes along itself, to its leaf
@@ -71,11 +71,11 @@ some_first : (xs : List Span) → 1 ≤ length xs → (x : Span) × (ys : List S
 some_first [] some = absurd (omega (arith, some))
 some_first (x ∷ ys) some = (x, ys, refl)
 
-module _ (t t' : Tree) (kinds : t'.kind ≡ t.kind) where
+module _ (t t' : Tree) where
   levels_same : (h h' : ℕ) (x : Span) (xs : List Span) → Levels (IsRow t) t.table h (x ∷ xs) → Levels (IsRow t') t'.table h' (x ∷ xs) → Levels (Shared t.table t'.table) t.table h (x ∷ xs) → h' ≡ h
   levels_same zero zero x xs rows rows' same = refl
-  levels_same zero (suc h') x xs rows rows' same = absurd (inner_not_named t'.kind (sym rows'.0.0.name.named ∙ rows.0.name.named))
-  levels_same (suc h) zero x xs rows rows' same = absurd (inner_not_named t.kind (sym rows.0.0.name.named ∙ rows'.0.name.named))
+  levels_same zero (suc h') x xs rows rows' same = absurd (inner_not_named t'.gapped (sym rows'.0.0.name.named ∙ rows.0.name.named))
+  levels_same (suc h) zero x xs rows rows' same = absurd (inner_not_named t.gapped (sym rows.0.0.name.named ∙ rows'.0.name.named))
   levels_same (suc h) (suc h') x xs rows rows' same =
       let some : 1 ≤ length (spans_in t.table x) = (let least = some_least t (suc h) x in let count = rows.0.0.count.least in omega arith) in
       let first = some_first (spans_in t.table x) some in
@@ -85,15 +85,15 @@ module _ (t t' : Tree) (kinds : t'.kind ≡ t.kind) where
 
 -- ---- the words after
 
-module _ (r : Rooted) (words : List ℕ) where
+module _ (gapped : Bool) (r : Rooted) (words : List ℕ) where
   abbrev r' : Rooted
   r' = record { rows = r.rows; table = record { width = r.table.width; words = words }; root = r.root }
 
   abbrev t : Tree
-  t = tree_as trees.Alloc r
+  t = tree_on gapped r
 
   abbrev t' : Tree
-  t' = tree_as trees.Alloc r'
+  t' = tree_on gapped r'
 
   record Same : Type 0 where
     lawful : IsLawful t'
@@ -140,34 +140,34 @@ module _ (r : Rooted) (words : List ℕ) where
   same_by path (inr parents) (inl empty) keeps spans = of_none empty
   same_by path (inr (h, stands, one, parents)) (inr (h', stands', gaps)) keeps spans =
       let same = spans h stands in
-      let is = levels_same t t' refl h h' (root_span r.table r.root) [] stands.rows stands'.rows same in
+      let is = levels_same t t' h h' (root_span r.table r.root) [] stands.rows stands'.rows same in
       of_levels h stands (subst (Stands t') is stands') same (parents_kept path keeps) one parents (subst (λ (n : ℕ). Levels (GapLaw t') t'.table n root) is gaps)
 
 -- ---- of sheets
 
-mended_in : (s s' : Sheet) (path : List PathStep) (index : ℕ) → MayMendAt trees.Alloc s index → OnlyWords s s' → HasGaps (tree_as trees.Alloc s'.tree) → KeepsWords s.tree s'.tree path
-    → ((h : ℕ) → Stands (tree_as trees.Alloc s.tree) h → Levels (Shared s.tree.table s'.tree.table) s.tree.table h (root_of (tree_as trees.Alloc s.tree))) → IsMendedAt trees.Alloc s s'
-mended_in s s' path index may rest gaps keeps spans =
-    let is : s'.tree ≡ r' s.tree s'.tree.table.words = ap (λ (x : Sheet). x.tree) rest in
+mended_in : (kind : Kind) (s s' : Sheet) (path : List PathStep) (index : ℕ) → MayMendAt kind s index → OnlyWords s s' → HasGaps (tree_as kind s'.tree) → KeepsWords s.tree s'.tree path
+    → ((h : ℕ) → Stands (tree_as kind s.tree) h → Levels (Shared s.tree.table s'.tree.table) s.tree.table h (root_of (tree_as kind s.tree))) → IsMendedAt kind s s'
+mended_in kind s s' path index may rest gaps keeps spans =
+    let is : s'.tree ≡ r' (finds_room kind) s.tree s'.tree.table.words = ap (λ (x : Sheet). x.tree) rest in
     let same =
-    same_by s.tree s'.tree.table.words path may.parents (subst (λ (q : Rooted). HasGaps (tree_as trees.Alloc q)) is gaps) (subst (λ (q : Rooted). KeepsWords s.tree q path) is keeps)
-    (λ h stands. subst (λ (q : Rooted). Levels (Shared s.tree.table q.table) s.tree.table h (root_of (tree_as trees.Alloc s.tree))) is (spans h stands)) in
+    same_by (finds_room kind) s.tree s'.tree.table.words path may.parents (subst (λ (q : Rooted). HasGaps (tree_as kind q)) is gaps) (subst (λ (q : Rooted). KeepsWords s.tree q path) is keeps)
+    (λ h stands. subst (λ (q : Rooted). Levels (Shared s.tree.table q.table) s.tree.table h (root_of (tree_as kind s.tree))) is (spans h stands)) in
     record {
       rest = rest;
-      lawful = subst (λ (q : Rooted). IsLawfulOf q trees.Alloc) (sym is) (record { width = may.tree.width; words = same.lawful });
+      lawful = subst (λ (q : Rooted). IsLawfulOf q kind) (sym is) (record { width = may.tree.width; words = same.lawful });
       map = ap (λ (q : Rooted). map_by q) is ∙ same.map;
       height = ap (λ (q : Rooted). height_in q.table q.root) is ∙ same.height;
       reached = λ row. ap (λ (q : Rooted). is_reached q row) is ∙ same.reach row;
     }
 
-pub mended : (s s₁ s' : Sheet) (path : List PathStep) (index : ℕ) → MayMendAt trees.Alloc s index → OnlyReads s s₁ → OnlyWords s₁ s' → HasGaps (tree_as trees.Alloc s'.tree) → KeepsWords s₁.tree s'.tree path
-    → ((h : ℕ) → Stands (tree_as trees.Alloc s₁.tree) h → Levels (Shared s₁.tree.table s'.tree.table) s₁.tree.table h (root_of (tree_as trees.Alloc s₁.tree))) → IsMendedAt trees.Alloc s s'
-mended s s₁ s' path index may reads rest gaps keeps spans =
+pub mended : (kind : Kind) (s s₁ s' : Sheet) (path : List PathStep) (index : ℕ) → MayMendAt kind s index → OnlyReads s s₁ → OnlyWords s₁ s' → HasGaps (tree_as kind s'.tree) → KeepsWords s₁.tree s'.tree path
+    → ((h : ℕ) → Stands (tree_as kind s₁.tree) h → Levels (Shared s₁.tree.table s'.tree.table) s₁.tree.table h (root_of (tree_as kind s₁.tree))) → IsMendedAt kind s s'
+mended kind s s₁ s' path index may reads rest gaps keeps spans =
     let tree : s₁.tree ≡ s.tree = ap (λ (x : Sheet). x.tree) reads in
-    mended_in s s' path index may
+    mended_in kind s s' path index may
     (rest ∙ ap (λ (x : Sheet). record x { tree = record { rows = x.tree.rows; table = record { width = x.tree.table.width; words = s'.tree.table.words }; root = x.tree.root }; reads = s'.reads }) reads) gaps
     (subst (λ (q : Rooted). KeepsWords q s'.tree path) tree keeps)
-    (subst (λ (q : Rooted). (h : ℕ) → Stands (tree_as trees.Alloc q) h → Levels (Shared q.table s'.tree.table) q.table h (root_of (tree_as trees.Alloc q))) tree spans)
+    (subst (λ (q : Rooted). (h : ℕ) → Stands (tree_as kind q) h → Levels (Shared q.table s'.tree.table) q.table h (root_of (tree_as kind q))) tree spans)
 
 -- ---- after reads
 

@@ -1,8 +1,7 @@
 -- A leaf replaced by one store in the slot that it stood in: all rows above it, and their slots, are on the way as before.
-use Rattle.std.proofs.Common.{◌≡◌, ◌≢◌, ℕ, zero, suc, ◌+◌, ◌-◌, ◌*◌, ◌<◌, ◌≤◌, List, [], ◌∷◌, Some, length, nat_le, refl, sym, ap, ◌∙◌, subst, inl, inr, arith}
+use Rattle.std.proofs.Common.{◌≡◌, ◌≢◌, ℕ, zero, suc, ◌+◌, ◌-◌, ◌*◌, ◌<◌, ◌≤◌, List, [], ◌∷◌, Some, true, length, nat_le, refl, sym, ap, ◌∙◌, subst, inl, inr, arith}
 use Rattle.std.specs.Prelude.{slice_index}
 use Rattle.std.proofs.lemmas.Bool.{cases_Bool, cases_lt}
-use Rattle.mt_base.specs.declared.kinds.Kind.TheVariants as trees
 use Rattle.mt_base.specs.declared.widths.Width.{Width}
 use Rattle.mt_base.specs.Width.{columns, greatest}
 use Rattle.mt_layout.specs.declared.names.RowKind.TheVariants.{Gapped}
@@ -16,7 +15,7 @@ use Rattle.mt_rows.specs.declared.rows.Place.TheVariants.{Slot}
 use Rattle.mt_rows.specs.Spans.{Table, base_of, column, spans_by, spans_in}
 use Rattle.mt_rows.specs.Laws.{Tree, Stands, top_of}
 use Rattle.mt_rows.specs.Sheet.{Rooted, word_at}
-use Rattle.mt_rows.specs.Publish.{tree_as, IsReached}
+use Rattle.mt_rows.specs.Publish.{tree_on, IsReached}
 use Rattle.mt_rows.specs.Replacement.{root_of}
 use Rattle.mt_rows.proofs.FewSpans.{row_most}
 use Rattle.mt_rows.proofs.Reached as reached
@@ -80,14 +79,14 @@ module _ (slots gaps : ℕ) (w w' : List ℕ) (base max : ℕ) where
 
 -- ---- one word published in a slot of the row above a leaf
 
-module _ (t t' : Rooted) (d row col index : ℕ) (stands : Stands (tree_as trees.Alloc t) (suc d)) (stands' : Stands (tree_as trees.Alloc t') (suc d)) (width : t'.table.width ≡ t.table.width) (root : t'.root ≡ t.root) (within : index ≤ greatest t.table.width)
+module _ (t t' : Rooted) (d row col index : ℕ) (stands : Stands (tree_on true t) (suc d)) (stands' : Stands (tree_on true t') (suc d)) (width : t'.table.width ≡ t.table.width) (root : t'.root ≡ t.root) (within : index ≤ greatest t.table.width)
     (kept : (r c : ℕ) → IsReached t r → 0 < c → c < columns t.table.width → Slot row col ≢ Slot r c → word_at t' r c ≡ word_at t r c)
-    (row_is : row ≡ (step_of (tree_as trees.Alloc t) d index).row) (col_is : col ≡ slots_of t.table.width Gapped + (step_of (tree_as trees.Alloc t) d index).slot) where
+    (row_is : row ≡ (step_of (tree_on true t) d index).row) (col_is : col ≡ slots_of t.table.width Gapped + (step_of (tree_on true t) d index).slot) where
   abbrev was : Tree
-  was = tree_as trees.Alloc t
+  was = tree_on true t
 
   abbrev now : Tree
-  now = tree_as trees.Alloc t'
+  now = tree_on true t'
 
   abbrev slots : ℕ
   slots = slots_of t.table.width Gapped

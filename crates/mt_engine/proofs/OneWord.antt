@@ -6,13 +6,12 @@ use Rattle.std.proofs.lemmas.Bool.{cases_Bool, eqb-false}
 use Rattle.std.proofs.lemmas.List.Elements.{All-weaker, All-contains, All-contains_itself}
 use Rattle.mt_base.specs.declared.widths.Width.{Width}
 use Rattle.mt_base.specs.declared.kinds.Kind.{Kind}
-use Rattle.mt_base.specs.declared.kinds.Kind.TheVariants as trees
 use Rattle.mt_base.specs.declared.ranges.Range.{Range}
 use Rattle.mt_base.specs.declared.calls.Call.{Call}
 use Rattle.mt_base.specs.declared.calls.Call.TheVariants.{Store}
 use Rattle.mt_base.specs.declared.replies.Reply.{Reply}
 use Rattle.mt_base.specs.declared.replies.Reply.TheVariants as reply
-use Rattle.mt_base.specs.Call.{acted}
+use Rattle.mt_base.specs.Call.{acted, finds_room}
 use Rattle.mt_base.specs.Entry.{reserved}
 use Rattle.mt_base.specs.Map.{over}
 use Rattle.mt_base.proofs.Lists.{all_front, all_back, all_join}
@@ -165,11 +164,11 @@ module _ (kind : Kind) (s : Sheet) (h index entry : ℕ) (whole : IsWhole s) (st
 
     -- each row but the one that is written is the same, and that one has as long a hole as before
     abbrev Same : ℕ → Span → Type 0
-    Same = SameGaps kind s.tree.table written.table
+    Same = SameGaps (finds_room kind) s.tree.table written.table
 
-    gap_same : (n : ℕ) (y : Span) → IsOther (suc n) y → laws.IsRow t (suc n) y → kind ≡ trees.Alloc → (c : ℕ) → c < length (spans_in s.tree.table y) → column written.table (row_in y.word) (gap_column (slots_of s.tree.table.width Gapped) c) ≡ column s.tree.table (row_in y.word) (gap_column (slots_of s.tree.table.width Gapped) c)
+    gap_same : (n : ℕ) (y : Span) → IsOther (suc n) y → laws.IsRow t (suc n) y → finds_room kind ≡ true → (c : ℕ) → c < length (spans_in s.tree.table y) → column written.table (row_in y.word) (gap_column (slots_of s.tree.table.width Gapped) c) ≡ column s.tree.table (row_in y.word) (gap_column (slots_of s.tree.table.width Gapped) c)
     gap_same n y other row is c within =
-        let most : length (spans_in s.tree.table y) ≤ slots_of s.tree.table.width Gapped = subst (λ (k : Kind). length (spans_in s.tree.table y) ≤ slots_of s.tree.table.width (laws.kind_at k (suc n))) is (row_most row.name) in
+        let most : length (spans_in s.tree.table y) ≤ slots_of s.tree.table.width Gapped = subst (λ (b : Bool). length (spans_in s.tree.table y) ≤ slots_of s.tree.table.width (laws.kind_on b (suc n))) is (row_most row.name) in
         gap_stays s.tree.table.width s.tree.table.words (row_in leaf.word) slot entry (row_in y.word) c slot_low (omega arith) (eqb-false (row_in y.word) (row_in leaf.word) other)
 
     same_here : (n : ℕ) (y : Span) → IsOther n y → laws.IsRow t n y → Same n y
@@ -194,10 +193,10 @@ module _ (kind : Kind) (s : Sheet) (h index entry : ℕ) (whole : IsWhole s) (st
 
     gaps_after : Levels (laws.GapLaw t) t.table h root → Levels (laws.GapLaw t') t'.table h root
     gaps_after gaps =
-        let stay = gaps_stay kind s.tree.table.width s.tree.table.words written.table.words s.tree.rows s.tree.root h root same_levels gaps in
+        let stay = gaps_stay (finds_room kind) s.tree.table.width s.tree.table.words written.table.words s.tree.rows s.tree.root h root same_levels gaps in
         levels_both (laws.GapLaw t') t'.table h zero h root (omega arith)
         (upper_shared (laws.GapLaw t') t.table t'.table h zero root (store.upper_same st) (levels_upper (laws.GapLaw t') t.table h zero h root (omega arith) stay))
-        (no_gaps_in_leaves kind s.tree.table.width s.tree.table.words written.table.words s.tree.rows s.tree.root _)
+        (no_gaps_in_leaves (finds_room kind) s.tree.table.width s.tree.table.words written.table.words s.tree.rows s.tree.root _)
 
     tended_after : Levels (laws.IsTended t) t.table h root → Levels (laws.IsTended t') t'.table h root
     tended_after tended =

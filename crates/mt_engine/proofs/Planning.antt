@@ -1,10 +1,9 @@
 -- What each call comes to on a tree.
-use Rattle.std.proofs.Common.{◌≡◌, ◌≢◌, ℕ, ◌+◌, ◌^◌, ◌<◌, ◌≤◌, ◌==◌, ◌||◌, true, false, List, Option, Some, None, refl, sym, ap, ◌∙◌, subst, inl, inr, arith, ne_eqb}
+use Rattle.std.proofs.Common.{◌≡◌, ◌≢◌, ℕ, ◌+◌, ◌<◌, ◌≤◌, ◌==◌, ◌||◌, true, false, List, Option, Some, None, refl, sym, ap, ◌∙◌, subst, inl, inr, arith, ne_eqb}
 use Rattle.std.specs.Prelude.{IsSome}
 use Rattle.std.proofs.lemmas.Bool.{cases_Bool, cases_lt, eqb-true, eqb-false, lt-ltb, le-ltb}
 use Rattle.mt_base.specs.declared.kinds.Kind.{Kind}
 use Rattle.mt_base.specs.declared.widths.Width.{Width}
-use Rattle.mt_base.specs.declared.widths.Width.TheVariants.{Long}
 use Rattle.mt_base.specs.declared.ranges.Range.{Range}
 use Rattle.mt_base.specs.declared.calls.Call.{Call}
 use Rattle.mt_base.specs.declared.calls.Call.TheVariants.{Store, StorePre, Insert, Erase}
@@ -24,6 +23,7 @@ use Rattle.mt_path.specs.Paths.{path_in}
 use Rattle.mt_engine.specs.Here.{IsHereAt}
 use Rattle.mt_engine.specs.MapSpans.{range_of, IsSpanAt}
 use Rattle.mt_engine.specs.Plans.{IsStorePlan, is_taken}
+use Rattle.mt_engine.proofs.IndexesAbove.{load_above}
 use Rattle.mt_engine.proofs.MapQueries.{load_hole}
 use Rattle.mt_engine.proofs.MapStores.{without_is_store}
 use Rattle.mt_engine.proofs.SameWay.{same_way}
@@ -50,9 +50,6 @@ module _ (kind : Kind) (m : List Range) (first last entry : ℕ) where
   insert_invalid bad =
       let acts : acted kind m (Insert first last entry) ≡ (m, reply.Invalid) = rw bad refl in
       (acts, stays_replaces_none kind m (Insert first last entry) reply.Invalid acts)
-
-pub within_all : (width : Width) (index : ℕ) → index < 2 ^ 64 → index ≤ greatest width
-within_all Long index fits = omega arith
 
 module _ (t : Rooted) (kind : Kind) (tree : IsTreeOf t kind) where
   abbrev m : List Range
@@ -144,19 +141,23 @@ module _ (t : Rooted) (kind : Kind) (tree : IsTreeOf t kind) where
 
   -- ---- erase
 
-  module _ (index : ℕ) (inside : index ≤ top) where
-    erases_none : acted kind m (Erase index) ≡ (m, reply.None) → ComesToNothing kind m (Erase index) reply.None
-    erases_none acts = (acts, stays_replaces_none kind m (Erase index) reply.None acts)
+  -- no range holds the index
+  erases_none : (index : ℕ) → holding m index ≡ None → ComesToNothing kind m (Erase index) reply.None
+  erases_none index none = let acts : acted kind m (Erase index) ≡ (m, reply.None) = ap (erased m index) none in (acts, stays_replaces_none kind m (Erase index) reply.None acts)
 
+  pub erase_above : (index : ℕ) → top < index → ComesToNothing kind m (Erase index) reply.None
+  erase_above index above = erases_none index (sym (load_above t (kind, tree) index above))
+
+  module _ (index : ℕ) (inside : index ≤ top) where
     pub erase_nothing : t.root ≡ 0 → ComesToNothing kind m (Erase index) reply.None
-    erase_nothing none = let empty = none_at_root t none in erases_none (ap (erased m index) (ap (λ (l : List Range). holding l index) empty))
+    erase_nothing none = let empty = none_at_root t none in erases_none index (ap (λ (l : List Range). holding l index) empty)
 
     module _ (handle : Handle) (stands : IsHereAt t index (Some handle)) where
       at : IsSpanAt m top index handle.span
       at = span_at_handle index handle inside stands
 
       pub erase_hole : handle.span.word ≡ 0 → ComesToNothing kind m (Erase index) reply.None
-      erase_hole hole = erases_none (ap (erased m index) (sym (load_hole m top index handle.span rise at hole)))
+      erase_hole hole = erases_none index (sym (load_hole m top index handle.span rise at hole))
 
       some : t.root ≢ 0
       some empty = not_none handle (t.root ≡ 0) stands.none empty

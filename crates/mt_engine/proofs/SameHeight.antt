@@ -1,10 +1,11 @@
 -- A store in a slot leaves the height: of two slots of a row on the way down, one keeps its word.
-use Rattle.std.proofs.Common.{◌≡◌, ◌≢◌, ℕ, zero, suc, ◌+◌, ◌<◌, List, [], ◌∷◌, Some, false, length, refl, sym, ap, ◌∙◌, subst, inl, inr, arith}
+use Rattle.std.proofs.Common.{◌≡◌, ◌≢◌, ℕ, zero, suc, ◌+◌, ◌<◌, List, [], ◌∷◌, Bool, Some, false, length, refl, sym, ap, ◌∙◌, subst, inl, inr, arith}
 use Rattle.std.proofs.lemmas.Bool.{cases_eq}
 use Rattle.mt_base.specs.declared.kinds.Kind.{Kind}
 use Rattle.mt_base.specs.declared.calls.Call.{Call}
 use Rattle.mt_base.specs.declared.replies.Reply.{Reply}
 use Rattle.mt_base.specs.declared.widths.Width.{Width}
+use Rattle.mt_base.specs.Call.{finds_room}
 use Rattle.mt_base.specs.Width.{columns}
 use Rattle.mt_free.specs.Book.{Book}
 use Rattle.mt_layout.specs.declared.names.RowKind.{RowKind}
@@ -16,12 +17,12 @@ use Rattle.mt_layout.proofs.RowSizes as sizes
 use Rattle.mt_layout.proofs.SpanLists.{length-spans_from}
 use Rattle.mt_rows.specs.declared.rows.Place.{Place}
 use Rattle.mt_rows.specs.declared.rows.Place.TheVariants.{Root, Slot}
-use Rattle.mt_rows.specs.Spans.{Table, base_of, column, inner_kind, spans_by, spans_in, root_span}
+use Rattle.mt_rows.specs.Spans.{Table, base_of, column, inner_of, spans_by, spans_in, root_span}
 use Rattle.mt_rows.specs.Levels.{level}
 use Rattle.mt_rows.specs.Trees.{height_in}
 use Rattle.mt_rows.specs.Laws.{Tree, IsTree, Stands}
 use Rattle.mt_rows.specs.Sheet.{Rooted, Sheet, word_at}
-use Rattle.mt_rows.specs.Publish.{tree_as, IsTreeOf, IsReached}
+use Rattle.mt_rows.specs.Publish.{tree_on, tree_as, IsTreeOf, IsReached}
 use Rattle.mt_rows.specs.Replacement.{root_of}
 use Rattle.mt_rows.proofs.Heights.{level_next}
 use Rattle.mt_rows.proofs.InnerKinds.{inner_not_named}
@@ -57,13 +58,13 @@ one_kept col first = elim (cases_eq col (first + 0)) [
 
 -- ---- two trees whose rows keep their words but at one place
 
-module _ (kind : Kind) (t t' : Rooted) (h h' row col : ℕ) (stands : Stands (tree_as kind t) h) (stands' : Stands (tree_as kind t') h') (width : t'.table.width ≡ t.table.width) (root : t'.root ≡ t.root)
+module _ (gapped : Bool) (t t' : Rooted) (h h' row col : ℕ) (stands : Stands (tree_on gapped t) h) (stands' : Stands (tree_on gapped t') h') (width : t'.table.width ≡ t.table.width) (root : t'.root ≡ t.root)
     (kept : (r c : ℕ) → IsReached t r → 0 < c → c < columns t.table.width → Slot row col ≢ Slot r c → word_at t' r c ≡ word_at t r c) where
   abbrev was : Tree
-  was = tree_as kind t
+  was = tree_on gapped t
 
   abbrev now : Tree
-  now = tree_as kind t'
+  now = tree_on gapped t'
 
   abbrev Before : ℕ → Span → Type 0
   Before k x = reached.OnLevel t.table h (root_of was) k x
@@ -72,7 +73,7 @@ module _ (kind : Kind) (t t' : Rooted) (h h' row col : ℕ) (stands : Stands (tr
   After k x = reached.OnLevel t'.table h' (root_of now) k x
 
   abbrev inner : RowKind
-  inner = inner_kind kind
+  inner = inner_of gapped
 
   abbrev slots : ℕ
   slots = slots_of t.table.width inner
@@ -118,9 +119,9 @@ module _ (kind : Kind) (t t' : Rooted) (h h' row col : ℕ) (stands : Stands (tr
   same_level : (k k' : ℕ) (x x' : Span) → Before k x → After k' x' → x'.word ≡ x.word → k' ≡ k
   same_level zero zero x x' on on' same = refl
   same_level zero (suc k') x x' on on' same =
-      absurd (inner_not_named kind (sym (reached.on_level_law now h' stands' (suc k') x' on').name.named ∙ (ap named_kind same ∙ (reached.on_level_law was h stands zero x on).name.named)))
+      absurd (inner_not_named gapped (sym (reached.on_level_law now h' stands' (suc k') x' on').name.named ∙ (ap named_kind same ∙ (reached.on_level_law was h stands zero x on).name.named)))
   same_level (suc k) zero x x' on on' same =
-      absurd (inner_not_named kind (sym (reached.on_level_law was h stands (suc k) x on).name.named ∙ (ap named_kind (sym same) ∙ (reached.on_level_law now h' stands' zero x' on').name.named)))
+      absurd (inner_not_named gapped (sym (reached.on_level_law was h stands (suc k) x on).name.named ∙ (ap named_kind (sym same) ∙ (reached.on_level_law now h' stands' zero x' on').name.named)))
   same_level (suc k) (suc k') x x' on on' same =
       let slot = one_kept col slots in
       let child = child_word k k' x x' slot.0 slot.1 slot.2 on on' same in
@@ -139,7 +140,7 @@ module _ (kind : Kind) (s s' : Sheet) (row col : ℕ) (tree : IsTreeOf s.tree ki
   same_in_slot : IsTree (tree_as kind s.tree) → IsTree (tree_as kind s'.tree) → height_in s'.tree.table s'.tree.root ≡ height_in s.tree.table s.tree.root
   same_in_slot (inl empty) words' = ap (height_in s'.tree.table) (root ∙ empty) ∙ sym (ap (height_in s.tree.table) empty)
   same_in_slot (inr stood) (inl empty) = ap (height_in s'.tree.table) empty ∙ sym (ap (height_in s.tree.table) (sym root ∙ empty))
-  same_in_slot (inr (h, stands)) (inr (h', stands')) = same_height kind s.tree s'.tree h h' row col stands stands' (tree'.width ∙ sym tree.width) root kept
+  same_in_slot (inr (h, stands)) (inr (h', stands')) = same_height (finds_room kind) s.tree s'.tree h h' row col stands stands' (tree'.width ∙ sym tree.width) root kept
 
 pub height_stays : (kind : Kind) (s s' : Sheet) (book book' : Book) (number : ℕ) (call : Call) (reply : Reply) (place : Place) (first last : ℕ) → IsTreeOf s.tree kind → IsSpliced kind s s' book book' number call reply place first last → is_root place ≡ false → SameHeight s.tree s'.tree
 height_stays kind s s' book book' number call reply Root first last tree spliced not = absurd (cc)

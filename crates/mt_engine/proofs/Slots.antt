@@ -109,7 +109,7 @@ tree_map t kind tree = by tree.words
   where
     by : IsTree (tree_as kind t) → IsMap kind (map_by t)
     by (inl empty) = subst (IsMap kind) (sym (none_at_root t empty)) (record { rise = tt; within = tt })
-    by (inr (h, stands)) = maps.tree_map (tree_as kind t) h stands tree.width
+    by (inr (h, stands)) = maps.tree_map (tree_as kind t) h stands kind tree.width
 
 -- its ranges, by the width of the words
 pub tree_within : (t : Rooted) (kind : Kind) → IsTreeOf t kind → AllByRecursion (λ (r : Range). r.last ≤ greatest t.table.width) (map_by t)

@@ -24,7 +24,7 @@ use Rattle.mt_engine.specs.Nearest.{nearest_from}
 use Rattle.mt_engine.specs.RangeWalks.{found_from, index_behind, range_at, StepsWithin, WalksFrom}
 use Rattle.mt_engine.proofs.LeafEnds.{hole_ends}
 use Rattle.mt_engine.proofs.SlotQueries.{IsNearest, first_none}
-use Rattle.mt_engine.proofs.Slots.{none_at_root, tree_map, tree_within}
+use Rattle.mt_engine.proofs.Slots.{none_at_root, tree_map, tree_within, slot_tells}
 use Rattle.mt_rows.proofs.Loads.{reads_on, same_tree}
 
 -- ---- the ranges of a map from an index on
@@ -192,6 +192,27 @@ module _ (t : Rooted) (kind : Kind) (tree : IsTreeOf t kind) where
     -- else the nearest range is
     pub nearest_found : (here : Handle) (found : Option Range) → IsHereIf t walk.next (Some here) → ((index : ℕ) → index ≤ top → here ≡ handle_in t index → found ≡ nearest_from m index) → found ≡ found_from m top walk.next
     nearest_found here found stands nearest = found_if walk.next here found walks.within stands nearest
+
+-- ---- the walk behind a slot
+
+-- what stands in a slot of a tree ends at the greatest index or below
+pub ends_within : (t : Rooted) (kind : Kind) (given : Handle) → IsTreeOf t kind → IsHandleOf t given → given.span.last ≤ greatest t.table.width
+ends_within t kind given tree is = subst (λ (h : Handle). h.span.last ≤ greatest t.table.width) (sym is.is) (slot_tells t kind is.index tree is.some is.within).within
+
+pub walks_on : (t : Rooted) (kind : Kind) (given : Handle) (next : Option ℕ) → IsTreeOf t kind → IsHandleOf t given → next ≡ index_behind (greatest t.table.width) (range_at (Some given)) → WalksFrom t (record { next = next; last = Some given })
+walks_on t kind given next tree is next_is = record { within = both.0; given = (is, both.1) }
+  where
+    Goes : Option ℕ → Type 0
+    Goes o = IfSome o (λ i. i ≤ greatest t.table.width) × IfSome o (λ i. i ≡ given.span.last + 1)
+
+    goes : Goes (index_behind (greatest t.table.width) (range_at (Some given)))
+    goes = elim (cases_Bool (given.span.last == greatest t.table.width)) [
+      | inl end ↦ rw end (tt, tt)
+      | inr more ↦ (let low = ends_within t kind given tree is in let other = eqb-false given.span.last (greatest t.table.width) more in rw more (omega (arith, low, other), refl))
+    ]
+
+    both : Goes next
+    both = subst Goes (sym next_is) goes
 
 -- ---- how many words are loaded
 

@@ -1,6 +1,6 @@
 -- A walk over the ranges of a tree, in rising order: which range comes next, and where the walk stands then.
 -- Source: the kernel's include/linux/maple_tree.h, mas_for_each, whose mas_find goes on in the leaf where it stands.
-use Rattle.std.specs.Prelude.{◌≡◌, ◌≢◌, ◌==◌, ℕ, ◌+◌, ◌≤◌, List, Option, Some, None, IfSome, if◌then◌else◌}
+use Rattle.std.specs.Prelude.{◌≡◌, ◌≢◌, ◌==◌, ℕ, ◌+◌, ◌≤◌, nat_le, List, Option, Some, None, IfSome, if◌then◌else◌}
 use Rattle.std.specs.Option.{option_map}
 use Rattle.mt_base.specs.declared.ranges.Range.{Range}
 use Rattle.mt_base.specs.declared.calls.Query.TheVariants.{Find}
@@ -16,6 +16,10 @@ use Rattle.mt_engine.specs.declared.range_walk.RangeWalk.{RangeWalk}
 abbrev pub found_from : List Range → ℕ → Option ℕ → Option Range
 found_from m top None = None
 found_from m top (Some index) = answer m (Find index top)
+
+-- the index, where it is one of a tree that ends there
+abbrev pub index_in : ℕ → ℕ → Option ℕ
+index_in top index = if nat_le index top then Some index else None
 
 -- the index behind a range, where there is one
 abbrev pub index_behind : ℕ → Option Range → Option ℕ

@@ -2,16 +2,16 @@
 
 ghost use Rattle.std.specs.Prelude.{◌≡◌, ◌+◌, ◌*◌, ◌<◌, ◌≤◌, List, [], IsNone, IfSome};
 ghost use Rattle.std.specs.Option.{option_map};
-ghost use Rattle.mt_base.specs.declared.kinds.Kind.TheVariants as trees;
-ghost use Rattle.mt_base.specs.Holes.{high};
-ghost use Rattle.mt_base.specs.Width.{columns};
+ghost use Rattle.mt_base.specs.Holes.{high_to};
+ghost use Rattle.mt_base.specs.Width.{columns, greatest};
 ghost use Rattle.mt_rows.specs.Publish.{IsLawfulOf, map_by};
 ghost use Rattle.mt_rows.specs.Sheet.{OnlyReads, ReadsUpTo};
 ghost use Rattle.mt_rows.specs.Trees.{height_in};
 ghost use Rattle.mt_path.specs.declared.paths.PathStep.{PathStep};
 ghost use Rattle.mt_gap.specs.declared.searches.Area.{Area};
+ghost use Rattle.mt_gap.specs.Descents.{IsGapped};
 ghost use Rattle.mt_gap.specs.Ways.{IsAreaAt};
-ghost use Rattle.mt_engine.specs.Areas.{start_for, allocation, search};
+ghost use Rattle.mt_engine.specs.Areas.{start_to, allocation, search};
 ghost use Rattle.mt_engine.specs.Engine.{most_searched};
 ghost use Rattle.mt_engine.specs.Plans.{IsPlan, IsSearched};
 
@@ -43,9 +43,9 @@ fn start_by<R: Rows, L: Ledger>(
     requires name { blank.name ≡ L.name }
     requires parts { blank.parts ≡ L.parts }
     requires some { 0 < blank.parts }
-    requires tree { IsLawfulOf (R.sheet rows.old).tree trees.Alloc }
+    requires tree { IsGapped (R.sheet rows.old).tree }
     requires size { 1 ≤ size }
-    ensures start { result ≡ start_for sought trees.Alloc (map_by (R.sheet rows.old).tree) size min max }
+    ensures start { result ≡ start_to sought (greatest (R.sheet rows.old).tree.table.width) (map_by (R.sheet rows.old).tree) size min max }
     ensures reads { ReadsUpTo (3 * height_in (R.sheet rows.old).tree.table (R.sheet rows.old).tree.root * columns (R.sheet rows.old).tree.table.width + 1) (R.sheet rows.old) (R.sheet rows.new) }
 {
     let mut steps = Steps::<L>::new(blank);
@@ -57,9 +57,9 @@ fn start_by<R: Rows, L: Ledger>(
 
 /// The start of the place that is sought: so many indexes from there lie in one hole and in the window from `min` to `max`.
 fn start_of<R: Rows>(rows: &mut R, sought: Sought, size: u64, min: u64, max: u64) -> Option<u64>
-    requires tree { IsLawfulOf (R.sheet rows.old).tree trees.Alloc }
+    requires tree { IsGapped (R.sheet rows.old).tree }
     requires size { 1 ≤ size }
-    ensures start { result ≡ start_for sought trees.Alloc (map_by (R.sheet rows.old).tree) size min max }
+    ensures start { result ≡ start_to sought (greatest (R.sheet rows.old).tree.table.width) (map_by (R.sheet rows.old).tree) size min max }
     ensures reads { ReadsUpTo (3 * height_in (R.sheet rows.old).tree.table (R.sheet rows.old).tree.root * columns (R.sheet rows.old).tree.table.width + 1) (R.sheet rows.old) (R.sheet rows.new) }
 {
     start_by::<R, Brand>(rows, sought, size, min, max, Blank::new(1))
@@ -75,10 +75,11 @@ fn highest_way<R: Rows, L: Ledger>(
     steps: &mut Steps<L>,
     path: &mut Path,
 ) -> Option<Area>
-    requires tree { IsLawfulOf (R.sheet rows.old).tree trees.Alloc }
+    requires tree { IsGapped (R.sheet rows.old).tree }
     requires size { 1 ≤ size }
+    requires within { max ≤ greatest (R.sheet rows.old).tree.table.width }
     requires empty { path.old.items ≡ [] }
-    ensures start { option_map (λ (area : Area). area.start) result ≡ high trees.Alloc (map_by (R.sheet rows.old).tree) size min max }
+    ensures start { option_map (λ (area : Area). area.start) result ≡ high_to (greatest (R.sheet rows.old).tree.table.width) (map_by (R.sheet rows.old).tree) size min max }
     ensures way { IfSome result (λ area. IsAreaAt (R.sheet rows.old).tree path.new.items area) }
     ensures rest { OnlyReads (R.sheet rows.old) (R.sheet rows.new) }
     ensures reads { IsNone result → ReadsUpTo (most_searched (R.sheet rows.old).tree) (R.sheet rows.old) (R.sheet rows.new) }
@@ -101,10 +102,11 @@ fn area_by<R: Rows, L: Ledger>(
     requires name { blank.name ≡ L.name }
     requires parts { blank.parts ≡ L.parts }
     requires some { 0 < blank.parts }
-    requires tree { IsLawfulOf (R.sheet rows.old).tree trees.Alloc }
+    requires tree { IsGapped (R.sheet rows.old).tree }
     requires size { 1 ≤ size }
+    requires within { max ≤ greatest (R.sheet rows.old).tree.table.width }
     requires empty { path.old.items ≡ [] }
-    ensures start { option_map (λ (area : Area). area.start) result ≡ start_for sought trees.Alloc (map_by (R.sheet rows.old).tree) size min max }
+    ensures start { option_map (λ (area : Area). area.start) result ≡ start_to sought (greatest (R.sheet rows.old).tree.table.width) (map_by (R.sheet rows.old).tree) size min max }
     ensures way { IfSome result (λ area. IsAreaAt (R.sheet rows.old).tree path.new.items area) }
     ensures rest { OnlyReads (R.sheet rows.old) (R.sheet rows.new) }
     ensures reads { IsNone result → ReadsUpTo (most_searched (R.sheet rows.old).tree) (R.sheet rows.old) (R.sheet rows.new) }
@@ -125,10 +127,11 @@ fn area_of<R: Rows>(
     max: u64,
     path: &mut Path,
 ) -> Option<Area>
-    requires tree { IsLawfulOf (R.sheet rows.old).tree trees.Alloc }
+    requires tree { IsGapped (R.sheet rows.old).tree }
     requires size { 1 ≤ size }
+    requires within { max ≤ greatest (R.sheet rows.old).tree.table.width }
     requires empty { path.old.items ≡ [] }
-    ensures start { option_map (λ (area : Area). area.start) result ≡ start_for sought trees.Alloc (map_by (R.sheet rows.old).tree) size min max }
+    ensures start { option_map (λ (area : Area). area.start) result ≡ start_to sought (greatest (R.sheet rows.old).tree.table.width) (map_by (R.sheet rows.old).tree) size min max }
     ensures way { IfSome result (λ area. IsAreaAt (R.sheet rows.old).tree path.new.items area) }
     ensures rest { OnlyReads (R.sheet rows.old) (R.sheet rows.new) }
     ensures reads { IsNone result → ReadsUpTo (most_searched (R.sheet rows.old).tree) (R.sheet rows.old) (R.sheet rows.new) }

@@ -12,11 +12,11 @@ ghost use Rattle.mt_engine.specs.Engine.{IsIdle, IsApplied};
 ghost use Rattle.mt_engine.specs.Heights.{HasHeight};
 ghost use Rattle.mt_engine.specs.Prepared.{IsPrestored};
 ghost use Rattle.mt_engine.specs.Rooms.{HasRoom, IsScanned, IsShortOf};
-ghost use Rattle.mt_engine.specs.RangeWalks.{found_from, index_behind, StepsWithin, WalksFrom};
+ghost use Rattle.mt_engine.specs.RangeWalks.{found_from, index_behind, index_in, StepsWithin, WalksFrom};
 
 use crate::heights::height_of;
 use crate::prepared::store_prepared;
-use crate::range_walk::{RangeWalk, next_range};
+use crate::range_walk::{RangeWalk, next_range, walk_from};
 use crate::rooms::{has_room, make_room};
 use crate::{calls, lists, queries};
 use mt_base::{Call, Kind, NoMemory, Query, Range, Reply, Shortage};
@@ -166,12 +166,12 @@ impl<R: Rows> Engine<R> {
         queries::ask(&mut self.rows, query)
     }
 
-    /// A walk over the ranges from an index on. It loads nothing.
+    /// A walk over the ranges from an index on; there is none where the index is above the greatest one. It loads nothing.
     pub fn walk_from(&self, index: u64) -> RangeWalk
         ensures walk { WalksFrom self.now.sheet.tree result }
-        ensures next { result.next ≡ Some index }
+        ensures next { result.next ≡ index_in (greatest self.now.sheet.tree.table.width) index }
     {
-        RangeWalk::from_index(index)
+        walk_from(&self.rows, index)
     }
 
     /// The first range at a walk's index or above, from behind which the walk goes on then. The walk is one of the tree as it

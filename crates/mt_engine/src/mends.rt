@@ -1,7 +1,7 @@
 //! Gap words behind a replacement of rows.
 
 ghost use Rattle.std.specs.Prelude.{◌≡◌, ◌+◌, ◌-◌, ◌≤◌, ◌<◌, ℕ, IsTrue, length};
-ghost use Rattle.mt_base.specs.declared.kinds.Kind.TheVariants as trees;
+ghost use Rattle.mt_base.specs.declared.kinds.Kind.{Kind};
 ghost use Rattle.mt_path.specs.Paths.{step_at};
 ghost use Rattle.mt_layout.specs.declared.names.RowKind.TheVariants.{Gapped};
 ghost use Rattle.mt_layout.specs.Sizes.{slots_of};
@@ -9,7 +9,7 @@ ghost use Rattle.mt_rows.specs.Sheet.{Rooted};
 ghost use Rattle.mt_splice.specs.Splice.{TellsAt};
 ghost use Rattle.mt_engine.specs.Mends.{MayMendAt, WasWay, IsPlaceOfLeaf, IsMendedAt};
 
-use mt_base::{Kind, Width};
+use mt_base::{Kind, Width, finds_room};
 use mt_gap::{mend_along, mend_way};
 use mt_layout::{RowKind, slots};
 use mt_path::{Path, walk_by_halves};
@@ -43,10 +43,10 @@ fn leaf_on(path: &Path) -> u32
     path[path.len() - 1].row
 }
 
-/// Mends the gap words on the way to an index in a tree for allocation. The way is walked.
+/// Mends the gap words on the way to an index. The way is walked.
 fn mend_walked<R: Rows>(rows: &mut R, index: u64)
-    requires { MayMendAt trees.Alloc (R.sheet rows.old) index }
-    ensures { IsMendedAt trees.Alloc (R.sheet rows.old) (R.sheet rows.new) }
+    requires { (kind : Kind) × MayMendAt kind (R.sheet rows.old) index }
+    ensures { (kind : Kind) → MayMendAt kind (R.sheet rows.old) index → IsMendedAt kind (R.sheet rows.old) (R.sheet rows.new) }
 {
     let mut path = Path::new();
     walk_by_halves(rows, index, &mut path);
@@ -54,21 +54,19 @@ fn mend_walked<R: Rows>(rows: &mut R, index: u64)
 }
 
 /// Mends the gap words on the way to an index, where all others are right: along a path that led there before a replacement,
-/// if only its leaf was replaced, which is not loaded. A tree of ranges has none, and no word is loaded.
+/// if only its leaf was replaced, which is not loaded. A tree without gaps has none, and no word is loaded.
 pub fn mend_at<R: Rows>(rows: &mut R, kind: Kind, spliced: &Spliced, path: &Path, index: u64)
     requires may { MayMendAt kind (R.sheet rows.old) index }
     requires was { (was : Rooted) × WasWay kind was (R.sheet rows.old).tree spliced.now.place path.now.items index }
     requires told { TellsAt kind (R.sheet rows.old).tree spliced.now.place spliced.now.gap }
     ensures { IsMendedAt kind (R.sheet rows.old) (R.sheet rows.new) }
 {
-    match kind {
-        Kind::Range => {}
-        Kind::Alloc => {
-            if is_of_leaf(rows.width(), spliced.place, path) {
-                mend_along(rows, path, spliced.gap);
-            } else {
-                mend_walked(rows, index);
-            }
-        }
+    if !finds_room(kind) {
+        return;
+    }
+    if is_of_leaf(rows.width(), spliced.place, path) {
+        mend_along(rows, path, spliced.gap);
+    } else {
+        mend_walked(rows, index);
     }
 }

@@ -11,6 +11,7 @@ ghost use Rattle.mt_engine.specs.Engine.{is_refusal};
 ghost use Rattle.mt_engine.specs.Plans.{IsPlan, IsSearched, is_taken};
 
 use crate::areas::{Sought, plan_allocation, plan_search};
+use crate::queries::top_of;
 use mt_base::{Call, Kind, Reply, is_invalid};
 use mt_path::{Handle, Path, walk_to};
 use mt_rows::Rows;
@@ -117,6 +118,9 @@ fn plan_erase<R: Rows>(rows: &mut R, kind: Kind, index: u64, path: &mut Path) ->
     ensures plan { IsPlan kind (R.sheet rows.old).tree (Erase index) path.new.items result }
     ensures rest { OnlyReads (R.sheet rows.old) (R.sheet rows.new) }
 {
+    if index > top_of(rows) {
+        return Plan::Nothing { reply: Reply::None };
+    }
     let Some(handle) = walk_to(rows, index, path) else {
         return Plan::Nothing { reply: Reply::None };
     };

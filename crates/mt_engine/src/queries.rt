@@ -13,10 +13,17 @@ ghost use Rattle.mt_engine.specs.MapSpans.{range_of};
 ghost use Rattle.mt_engine.specs.Nearest.{nearest_from, nearest_up_to};
 ghost use Rattle.mt_engine.specs.RangeWalks.{range_at};
 
-use mt_base::{Query, Range};
+use mt_base::{Query, Range, top};
 use mt_layout::Span;
 use mt_path::{Handle, before, behind, handle_at};
 use mt_rows::Rows;
+
+/// The greatest index of the tree that rows hold.
+pub fn top_of<R: Rows>(rows: &R) -> u64
+    ensures { result ≡ greatest (R.sheet rows.now).tree.table.width }
+{
+    top(rows.width())
+}
 
 /// The range of a span that is no hole.
 pub fn range_in(span: Span) -> Range
@@ -88,10 +95,12 @@ fn nearest_up_to<R: Rows>(rows: &mut R, here: &Handle) -> Option<Range>
 /// The range that holds an index.
 fn load<R: Rows>(rows: &mut R, index: u64) -> Option<Range>
     requires tree { (kind : Kind) × IsTreeOf (R.sheet rows.old).tree kind }
-    requires index { index ≤ greatest (R.sheet rows.old).tree.table.width }
     ensures answer { result ≡ answer (map_by (R.sheet rows.old).tree) (Load index) }
     ensures rest { OnlyReads (R.sheet rows.old) (R.sheet rows.new) }
 {
+    if index > top_of(rows) {
+        return None;
+    }
     let here = handle_at(rows, index)?;
     if here.span.word == 0 {
         return None;
@@ -102,11 +111,13 @@ fn load<R: Rows>(rows: &mut R, index: u64) -> Option<Range>
 /// The first range that ends at `index` or above and begins at `max` or below, where `index` is at most `max`.
 fn find<R: Rows>(rows: &mut R, index: u64, max: u64) -> Option<Range>
     requires tree { (kind : Kind) × IsTreeOf (R.sheet rows.old).tree kind }
-    requires index { index ≤ greatest (R.sheet rows.old).tree.table.width }
     ensures answer { result ≡ answer (map_by (R.sheet rows.old).tree) (Find index max) }
     ensures rest { OnlyReads (R.sheet rows.old) (R.sheet rows.new) }
 {
     if index > max {
+        return None;
+    }
+    if index > top_of(rows) {
         return None;
     }
     let here = handle_at(rows, index)?;
@@ -116,38 +127,45 @@ fn find<R: Rows>(rows: &mut R, index: u64, max: u64) -> Option<Range>
 /// The first range that begins above `index`, and at `max` or below.
 fn next<R: Rows>(rows: &mut R, index: u64, max: u64) -> Option<Range>
     requires tree { (kind : Kind) × IsTreeOf (R.sheet rows.old).tree kind }
-    requires index { index ≤ greatest (R.sheet rows.old).tree.table.width }
     ensures answer { result ≡ answer (map_by (R.sheet rows.old).tree) (Next index max) }
     ensures rest { OnlyReads (R.sheet rows.old) (R.sheet rows.new) }
 {
+    if index > top_of(rows) {
+        return None;
+    }
     let here = handle_at(rows, index)?;
     let above = behind(rows, &here)?;
     up_to(nearest_from(rows, &above), max)
 }
 
-/// The last range that ends below `index`, and at `min` or above.
+/// The last range that ends below `index`, and at `min` or above. It is sought from the greatest index where `index` is above
+/// that.
 fn prev<R: Rows>(rows: &mut R, index: u64, min: u64) -> Option<Range>
     requires tree { (kind : Kind) × IsTreeOf (R.sheet rows.old).tree kind }
-    requires index { index ≤ greatest (R.sheet rows.old).tree.table.width }
     ensures answer { result ≡ answer (map_by (R.sheet rows.old).tree) (Prev index min) }
     ensures rest { OnlyReads (R.sheet rows.old) (R.sheet rows.new) }
 {
+    let top = top_of(rows);
+    if index > top {
+        return rfind(rows, top, min);
+    }
     let here = handle_at(rows, index)?;
     let below = before(rows, &here)?;
     down_to(nearest_up_to(rows, &below), min)
 }
 
-/// The last range that begins at `index` or below and ends at `min` or above, where `index` is at least `min`.
+/// The last range that begins at `index` or below and ends at `min` or above, where `index` is at least `min`. It is sought
+/// from the greatest index where `index` is above that.
 fn rfind<R: Rows>(rows: &mut R, index: u64, min: u64) -> Option<Range>
     requires tree { (kind : Kind) × IsTreeOf (R.sheet rows.old).tree kind }
-    requires index { index ≤ greatest (R.sheet rows.old).tree.table.width }
     ensures answer { result ≡ answer (map_by (R.sheet rows.old).tree) (Rfind index min) }
     ensures rest { OnlyReads (R.sheet rows.old) (R.sheet rows.new) }
 {
-    if index < min {
+    let from = index.min(top_of(rows));
+    if from < min {
         return None;
     }
-    let here = handle_at(rows, index)?;
+    let here = handle_at(rows, from)?;
     down_to(nearest_up_to(rows, &here), min)
 }
 

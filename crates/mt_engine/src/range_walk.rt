@@ -7,9 +7,9 @@ ghost use Rattle.mt_rows.specs.Publish.{IsTreeOf, map_by};
 ghost use Rattle.mt_rows.specs.Sheet.{OnlyReads, ReadsUpTo};
 ghost use Rattle.mt_path.specs.Handles.{IsHandleOf};
 ghost use Rattle.mt_engine.specs.Here.{IsHereIf};
-ghost use Rattle.mt_engine.specs.RangeWalks.{found_from, index_behind, range_at, StepsWithin, WalksFrom};
+ghost use Rattle.mt_engine.specs.RangeWalks.{found_from, index_behind, index_in, range_at, StepsWithin, WalksFrom};
 
-use crate::queries::{range_in, slot_from};
+use crate::queries::{range_in, slot_from, top_of};
 use mt_base::{Range, Width, top};
 use mt_path::{Handle, behind, handle_at};
 use mt_rows::Rows;
@@ -33,6 +33,20 @@ impl RangeWalk {
             last: None,
         }
     }
+}
+
+/// A walk over a tree from an index, which gives no range where the index is above the greatest one.
+pub fn walk_from<R: Rows>(rows: &R, index: u64) -> RangeWalk
+    ensures walk { WalksFrom (R.sheet rows.now).tree result }
+    ensures next { result.next ≡ index_in (greatest (R.sheet rows.now).tree.table.width) index }
+{
+    if index > top_of(rows) {
+        return RangeWalk {
+            next: None,
+            last: None,
+        };
+    }
+    RangeWalk::from_index(index)
 }
 
 /// What stands at the index that a walk goes on from: in the slot behind the one that it gave last, or by a way from the

@@ -1,6 +1,5 @@
 -- Gap words mended on a path that goes along a way, whose leaf may be another.
-use Rattle.std.proofs.Common.{◌≡◌, ℕ, ◌+◌, ◌-◌, ◌<◌, ◌≤◌, List, length, sym, ap, ◌∙◌, subst, inl, inr, arith}
-use Rattle.mt_base.specs.declared.kinds.Kind.{Kind}
+use Rattle.std.proofs.Common.{◌≡◌, ℕ, ◌+◌, ◌-◌, ◌<◌, ◌≤◌, Bool, List, length, sym, ap, ◌∙◌, subst, inl, inr, arith}
 use Rattle.mt_layout.specs.declared.names.RowKind.{RowKind}
 use Rattle.mt_layout.specs.declared.names.RowKind.TheVariants.{Leaf, Inner, Gapped}
 use Rattle.mt_layout.specs.Columns.{gap_column}
@@ -10,7 +9,7 @@ use Rattle.mt_path.specs.Paths.{step_at, path_in}
 use Rattle.mt_rows.specs.Gaps.{HasGaps}
 use Rattle.mt_rows.specs.Laws.{Stands}
 use Rattle.mt_rows.specs.Levels.{Levels}
-use Rattle.mt_rows.specs.Publish.{tree_as}
+use Rattle.mt_rows.specs.Publish.{tree_on}
 use Rattle.mt_rows.specs.Replacement.{root_of}
 use Rattle.mt_rows.specs.Sheet.{Sheet, IsPlace, MayTend, IsWhole, with_word, loaded, tended}
 use Rattle.mt_rows.specs.Spans.{Table}
@@ -93,27 +92,27 @@ module _ (s s' : Sheet) (path : List PathStep) (leaf : ℕ) (kind : RowKind) (le
 
 -- ---- the first and the last
 
-pub begin_on : (kind : Kind) (s s' : Sheet) (path : List PathStep) (leaf : ℕ) → IsWay kind s path leaf → RootIs s Gapped → s' ≡ loaded s → HasMendedOn s s' path leaf Leaf (length path) (record (step_at path (length path - 1)) { row = leaf })
-begin_on kind s s' path leaf way gapped is =
-    let m = begin_way kind s s' path leaf way gapped is in
+pub begin_on : (gapped : Bool) (s s' : Sheet) (path : List PathStep) (leaf : ℕ) → IsWay gapped s path leaf → RootIs s Gapped → s' ≡ loaded s → HasMendedOn s s' path leaf Leaf (length path) (record (step_at path (length path - 1)) { row = leaf })
+begin_on gapped s s' path leaf way root is =
+    let m = begin_way gapped s s' path leaf way root is in
     let some = m.low in
     record { way = path_in s.tree.table s.tree.root way.index; along = way.steps; mended = m; row = way.steps.end (length path - 1) (omega arith) }
 
-pub end_on : (kind : Kind) (s s' : Sheet) (path : List PathStep) (leaf : ℕ) (k : RowKind) (level : ℕ) (below : PathStep) → IsWay kind s path leaf → RootIs s Gapped → HasMendedOn s s' path leaf k level below → level ≤ 1 → HasGaps (tree_as kind s'.tree)
-end_on kind s s' path leaf k level below way gapped m last = end_way kind s s' path leaf m.way k level way gapped m.mended last
+pub end_on : (gapped : Bool) (s s' : Sheet) (path : List PathStep) (leaf : ℕ) (k : RowKind) (level : ℕ) (below : PathStep) → IsWay gapped s path leaf → RootIs s Gapped → HasMendedOn s s' path leaf k level below → level ≤ 1 → HasGaps (tree_on gapped s'.tree)
+end_on gapped s s' path leaf k level below way root m last = end_way gapped s s' path leaf m.way k level way root m.mended last
 
-pub spans_on : (kind : Kind) (s s' : Sheet) (path : List PathStep) (leaf : ℕ) (k : RowKind) (level : ℕ) (below : PathStep) (h : ℕ) → HasMendedOn s s' path leaf k level below → Stands (tree_as kind s.tree) h
-    → Levels (Shared s.tree.table s'.tree.table) s.tree.table h (root_of (tree_as kind s.tree))
-spans_on kind s s' path leaf k level below h m stands = end_spans kind s s' m.way k level h m.mended stands
+pub spans_on : (gapped : Bool) (s s' : Sheet) (path : List PathStep) (leaf : ℕ) (k : RowKind) (level : ℕ) (below : PathStep) (h : ℕ) → HasMendedOn s s' path leaf k level below → Stands (tree_on gapped s.tree) h
+    → Levels (Shared s.tree.table s'.tree.table) s.tree.table h (root_of (tree_on gapped s.tree))
+spans_on gapped s s' path leaf k level below h m stands = end_spans gapped s s' m.way k level h m.mended stands
 
 -- ---- a leaf whose longest hole is told
 
-module _ (kind : Kind) (s s' : Sheet) (path : List PathStep) (gap : ℕ) (w : IsToldWay kind s path gap) (gapped : RootIs s Gapped) (is : s' ≡ loaded s) where
+module _ (gapped : Bool) (s s' : Sheet) (path : List PathStep) (gap : ℕ) (w : IsToldWay gapped s path gap) (root : RootIs s Gapped) (is : s' ≡ loaded s) where
   begun : HasMendedOn s s' path w.leaf Leaf (length path) (record (step_at path (length path - 1)) { row = w.leaf })
-  begun = begin_on kind s s' path w.leaf w.way gapped is
+  begun = begin_on gapped s s' path w.leaf w.way root is
 
   pub leaf_below : 2 ≤ length path
-  leaf_below = two_levels kind s path w.leaf w.way gapped
+  leaf_below = two_levels gapped s path w.leaf w.way root
 
   abbrev above : PathStep
   above = step_at path (length path - 1 - 1)

@@ -1,8 +1,6 @@
 -- Children of rows: the spans that they are, and the gap words of a row that keeps the law of gaps.
-use Rattle.std.proofs.Common.{◌≡◌, ℕ, suc, ◌+◌, List, [], ◌∷◌, ◌++◌, Option, Some, None, refl, sym, ap, ◌∙◌, subst}
+use Rattle.std.proofs.Common.{◌≡◌, ℕ, suc, ◌+◌, Bool, true, List, [], ◌∷◌, ◌++◌, Option, Some, None, refl, sym, ap, ◌∙◌, subst}
 use Rattle.std.specs.List.{AllByRecursion, flat_map}
-use Rattle.mt_base.specs.declared.kinds.Kind.{Kind}
-use Rattle.mt_base.specs.declared.kinds.Kind.TheVariants as trees
 use Rattle.mt_base.specs.Holes.{Hole}
 use Rattle.mt_base.proofs.Lists.{all_join}
 use Rattle.mt_layout.specs.declared.items.Item.{Item}
@@ -12,7 +10,7 @@ use Rattle.mt_layout.specs.declared.spans.Span.{Span}
 use Rattle.mt_layout.specs.Rows.{row_in, named_kind}
 use Rattle.mt_layout.specs.Sizes.{slots_of}
 use Rattle.mt_layout.specs.Spans.{spans_from}
-use Rattle.mt_rows.specs.Spans.{Table, inner_kind, spans_by, spans_in}
+use Rattle.mt_rows.specs.Spans.{Table, inner_of, spans_by, spans_in}
 use Rattle.mt_rows.specs.Levels.{expand}
 use Rattle.mt_rows.specs.Laws.{Tree, IsRow, IsTended, GapsFrom, GapLawBy, longest_below}
 use Rattle.mt_gap.specs.declared.children.Child.{Child}
@@ -61,10 +59,10 @@ row_gaps t h x named law =
     (law_tells t h (row_in x.word) 0 x.first _ (gaps_read t.width t.words (row_in x.word) x.last (slots_of t.width Gapped) 0)
     (subst (λ (k : Option RowKind). GapsFrom t h (row_in x.word) 0 (spans_by t k x)) named law))
 
--- in the rows of an allocation tree the gap words are those of the children one level lower
-pub gaps_below : (t : Tree) (h : ℕ) (xs : List Child) → t.kind ≡ trees.Alloc → AllByRecursion (IsRow t (suc h)) (spans xs) → AllByRecursion (IsTended t (suc h)) (spans xs) → AllByRecursion (GapIs t.table h) (children_below t.table xs)
-gaps_below t h [] kind rows each = tt
-gaps_below t h (x ∷ xs) kind rows each =
+-- in the rows of a tree with gaps the gap words are those of the children one level lower
+pub gaps_below : (t : Tree) (h : ℕ) (xs : List Child) → t.gapped ≡ true → AllByRecursion (IsRow t (suc h)) (spans xs) → AllByRecursion (IsTended t (suc h)) (spans xs) → AllByRecursion (GapIs t.table h) (children_below t.table xs)
+gaps_below t h [] gapped rows each = tt
+gaps_below t h (x ∷ xs) gapped rows each =
     all_join (GapIs t.table h) (children_in t.table x.span) (children_below t.table xs)
-    (row_gaps t.table h x.span (rows.0.name.named ∙ ap (λ (k : Kind). Some (inner_kind k)) kind) (subst (λ (k : Kind). GapLawBy (inner_kind k) t.table h x.span) kind each.0.gaps))
-    (gaps_below t h xs kind rows.1 each.1)
+    (row_gaps t.table h x.span (rows.0.name.named ∙ ap (λ (b : Bool). Some (inner_of b)) gapped) (subst (λ (b : Bool). GapLawBy (inner_of b) t.table h x.span) gapped each.0.gaps))
+    (gaps_below t h xs gapped rows.1 each.1)

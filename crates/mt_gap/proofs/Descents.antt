@@ -1,19 +1,17 @@
 -- A search from level to level: what it asks keeps the answer, and at most two rows of a level are asked.
-use Rattle.std.proofs.Common.{◌≡◌, ◌≢◌, ℕ, zero, suc, ◌+◌, ◌-◌, ◌*◌, ◌<◌, ◌≤◌, All, List, [], ◌∷◌, Option, length, take, refl, sym, ap, ◌∙◌, subst, inl, inr, arith}
+use Rattle.std.proofs.Common.{◌≡◌, ◌≢◌, ℕ, zero, suc, ◌+◌, ◌-◌, ◌*◌, ◌<◌, ◌≤◌, Bool, true, All, List, [], ◌∷◌, Option, length, take, refl, sym, ap, ◌∙◌, subst, inl, inr, arith}
 use Rattle.std.specs.List.{AllByRecursion, flat_map}
 use Rattle.std.proofs.lemmas.Bool.{cases_Bool}
 use Rattle.std.proofs.lemmas.List.Elements.{All-nil, All-cons}
-use Rattle.mt_base.specs.declared.kinds.Kind.{Kind}
-use Rattle.mt_base.specs.declared.kinds.Kind.TheVariants as trees
-use Rattle.mt_base.specs.Holes.{Hole, low, high, lowest_in, highest_in, holes, holes_from}
+use Rattle.mt_base.specs.Holes.{Hole, low_to, high_to, lowest_in, highest_in, holes_to, holes_from}
 use Rattle.mt_base.specs.Width.{columns, deepest, greatest}
 use Rattle.mt_layout.specs.declared.spans.Span.{Span}
 use Rattle.mt_layout.proofs.NameLaws.{Names-named_kind}
 use Rattle.mt_layout.proofs.RowSizes.{some_columns}
 use Rattle.mt_rows.specs.Spans.{Table, root_span}
 use Rattle.mt_rows.specs.Levels.{map_of, Levels}
-use Rattle.mt_rows.specs.Laws.{Tree, IsRow, IsTended, Stands}
-use Rattle.mt_rows.specs.Publish.{tree_as, IsLawfulOf, map_by}
+use Rattle.mt_rows.specs.Laws.{Tree, IsRow, IsTended, IsLawful, Stands}
+use Rattle.mt_rows.specs.Publish.{tree_on, map_by}
 use Rattle.mt_rows.specs.Sheet.{Rooted, Sheet, ReadsUpTo, loaded}
 use Rattle.mt_rows.specs.Trees.{map_in, height_in}
 use Rattle.mt_rows.proofs.Depth.{ranges_by_depth, height_by_depth}
@@ -27,21 +25,21 @@ use Rattle.mt_gap.specs.declared.children.Child.{Child}
 use Rattle.mt_gap.specs.declared.windows.Window.{Window}
 use Rattle.mt_gap.specs.Below.{holes_below, leaf_hole, child_hole}
 use Rattle.mt_gap.specs.Children.{spans, children_below, root_child}
-use Rattle.mt_gap.specs.Descents.{MayLoad, picked, place_in, Asks, LoadedUpTo, Visited, Arrives, AreLeaves}
+use Rattle.mt_gap.specs.Descents.{IsGapped, MayLoad, picked, place_in, Asks, LoadedUpTo, Visited, Arrives, AreLeaves}
 use Rattle.mt_gap.specs.Narrow.{may_have, inside, narrow, narrow_up, Rising}
 use Rattle.mt_gap.proofs.ChildLists.{spans_below, gaps_below, holes_of_children}
-use Rattle.mt_gap.proofs.HolesBelow.{holes_are}
+use Rattle.mt_gap.proofs.HolesBelow.{holes_are, one_hole}
 use Rattle.mt_gap.proofs.Narrowed.{narrow_keeps, narrow_two, rising_narrow, rising_expand}
 use Rattle.mt_gap.proofs.NarrowedUp.{levels_up, rising_up, up_two, up_keeps}
 
 -- ---- rows of the table
 
-pub row_may_load : (kind : Kind) (t : Rooted) (h : ℕ) (x : Span) → IsRow (tree_as kind t) h x → MayLoad t x
-row_may_load kind t h x row = λ k named. record { first = (Names-named_kind x.word k named).0.0; last = row.name.in_table; column = some_columns t.table.width }
+pub row_may_load : (gapped : Bool) (t : Rooted) (h : ℕ) (x : Span) → IsRow (tree_on gapped t) h x → MayLoad t x
+row_may_load gapped t h x row = λ k named. record { first = (Names-named_kind x.word k named).0.0; last = row.name.in_table; column = some_columns t.table.width }
 
-rows_may_load : (kind : Kind) (t : Rooted) (h : ℕ) (xs : List Child) → AllByRecursion (IsRow (tree_as kind t) h) (spans xs) → All (λ (x : Child). MayLoad t x.span) xs
-rows_may_load kind t h [] rows = All-nil (λ (x : Child). MayLoad t x.span)
-rows_may_load kind t h (x ∷ xs) rows = All-cons (λ (y : Child). MayLoad t y.span) x xs (row_may_load kind t h x.span rows.0) (rows_may_load kind t h xs rows.1)
+rows_may_load : (gapped : Bool) (t : Rooted) (h : ℕ) (xs : List Child) → AllByRecursion (IsRow (tree_on gapped t) h) (spans xs) → All (λ (x : Child). MayLoad t x.span) xs
+rows_may_load gapped t h [] rows = All-nil (λ (x : Child). MayLoad t x.span)
+rows_may_load gapped t h (x ∷ xs) rows = All-cons (λ (y : Child). MayLoad t y.span) x xs (row_may_load gapped t h x.span rows.0) (rows_may_load gapped t h xs rows.1)
 
 -- ---- one level lower
 
@@ -69,7 +67,7 @@ record IsInner (t : Tree) (pick : List Hole → Option ℕ) (w : Window) (answer
   pub low : level + suc k < deepest
   pub found : picked pick w (holes_below t.table (suc k) (spans xs)) ≡ answer
 
-module _ (t : Tree) (w : Window) (kind : t.kind ≡ trees.Alloc) (some : 1 ≤ w.size) (xs : List Child) where
+module _ (t : Tree) (w : Window) (gapped : t.gapped ≡ true) (some : 1 ≤ w.size) (xs : List Child) where
   abbrev children : List Child
   children = children_below t.table xs
 
@@ -84,11 +82,11 @@ module _ (t : Tree) (w : Window) (kind : t.kind ≡ trees.Alloc) (some : 1 ≤ w
     rising_there = subst (Rising 0) (sym (spans_below t.table xs)) (rising_expand t.table 0 (spans xs) (rows_filled t (suc k) (spans xs) rows.0) rising)
 
     low_there : picked lowest_in w (holes_below t.table k (spans (narrow w.size w.lo w.hi children))) ≡ picked lowest_in w (holes_below t.table (suc k) (spans xs))
-    low_there = narrow_keeps t w.size w.lo w.hi some k 0 children rows_there rising_there (gaps_below t k xs kind rows.0 tended.0)
+    low_there = narrow_keeps t w.size w.lo w.hi some k 0 children rows_there rising_there (gaps_below t k xs gapped rows.0 tended.0)
         ∙ ap (λ (l : List Span). picked lowest_in w (holes_below t.table k l)) (spans_below t.table xs)
 
     high_there : picked (highest_in w.size) w (holes_below t.table k (spans (narrow_up w.size w.lo w.hi [] children))) ≡ picked (highest_in w.size) w (holes_below t.table (suc k) (spans xs))
-    high_there = up_keeps t w.size w.lo w.hi some k 0 [] children rows_there rising_there (gaps_below t k xs kind rows.0 tended.0)
+    high_there = up_keeps t w.size w.lo w.hi some k 0 [] children rows_there rising_there (gaps_below t k xs gapped rows.0 tended.0)
         ∙ ap (λ (l : List Span). picked (highest_in w.size) w (holes_below t.table k l)) (spans_below t.table xs)
 
   module _ (answer : Option ℕ) (level : ℕ) where
@@ -152,11 +150,15 @@ module _ (t : Tree) (w : Window) (kind : t.kind ≡ trees.Alloc) (some : 1 ≤ w
 
 -- ---- at the root
 
-module _ (s : Rooted) (tree : IsLawfulOf s trees.Alloc) (root : s.root ≢ 0) (w : Window) (pick : List Hole → Option ℕ) where
-  abbrev whole : Tree
-  whole = tree_as trees.Alloc s
+-- all laws of a tree with gaps
+pub gapped_words : (t : Rooted) → IsGapped t → IsLawful (tree_on true t)
+gapped_words t tree = subst (λ (b : Bool). IsLawful (tree_on b t)) tree.room tree.lawful.words
 
-  begins : (h : ℕ) → Stands whole h → Levels (IsTended whole) s.table h (root_span s.table s.root ∷ []) → Asks whole pick w (picked pick w (holes trees.Alloc (map_by s))) 0 (root_child s.table s.root ∷ [])
+module _ (s : Rooted) (tree : IsGapped s) (root : s.root ≢ 0) (w : Window) (pick : List Hole → Option ℕ) where
+  abbrev whole : Tree
+  whole = tree_on true s
+
+  begins : (h : ℕ) → Stands whole h → Levels (IsTended whole) s.table h (root_span s.table s.root ∷ []) → Asks whole pick w (picked pick w (holes_to (greatest s.table.width) (map_by s))) 0 (root_child s.table s.root ∷ [])
   begins h stands tended = record {
     left = h;
     height = (let tall = height_by_depth whole deepest h (root_span s.table s.root) stands.low stands.rows in omega arith);
@@ -165,14 +167,14 @@ module _ (s : Rooted) (tree : IsLawfulOf s trees.Alloc) (root : s.root ≢ 0) (w
     tended = tended;
     rising = (omega arith, omega arith, tt);
     few = omega arith;
-    found = ap (picked pick w) (sym (holes_are whole h 0 (root_span s.table s.root ∷ []) stands.rows (refl, omega arith, refl)) ∙ (λ i. holes_from 0 (greatest (tree.width i) + 1) (by_levels i)));
+    found = ap (picked pick w) (sym (holes_are whole h 0 (root_span s.table s.root ∷ []) stands.rows (refl, omega arith, refl)) ∙ ap (holes_from 0 (greatest s.table.width + 1)) by_levels);
   }
     where
       by_levels : map_of s.table h (root_span s.table s.root ∷ []) ≡ map_in s.table s.root
       by_levels = sym (ranges_by_depth whole deepest h (root_span s.table s.root) stands.low stands.rows)
 
-  pub asks_root : Asks whole pick w (picked pick w (holes trees.Alloc (map_by s))) 0 (root_child s.table s.root ∷ [])
-  asks_root = elim tree.words [ inl empty ↦ absurd (root empty) | inr full ↦ begins full.0 full.1 full.3 ]
+  pub asks_root : Asks whole pick w (picked pick w (holes_to (greatest s.table.width) (map_by s))) 0 (root_child s.table s.root ∷ [])
+  asks_root = elim (gapped_words s tree) [ inl empty ↦ absurd (root empty) | inr full ↦ begins full.0 full.1 full.3 ]
 
 -- ---- at the leaves
 
@@ -186,13 +188,13 @@ pub leaves_have : (t : Tree) (pick : List Hole → Option ℕ) (w : Window) (ans
 leaves_have t pick w answer left [] leaves rows found = ap (picked pick w) (sym (no_holes t.table left)) ∙ found
 leaves_have t pick w answer zero (x ∷ xs) leaves rows found =
     ap (picked pick w) (holes_of_children (children_below t.table (x ∷ xs)) ∙ ap (flat_map leaf_hole) (spans_below t.table (x ∷ xs))) ∙ found
-leaves_have t pick w answer (suc left) (x ∷ xs) leaves rows found = absurd (inner_not_named t.kind (sym rows.0.0.name.named ∙ leaves))
+leaves_have t pick w answer (suc left) (x ∷ xs) leaves rows found = absurd (inner_not_named t.gapped (sym rows.0.0.name.named ∙ leaves))
 
 -- ---- the whole way
 
 -- the rows that a search has come to
 pub record HasCome (s s' : Sheet) (pick : List Hole → Option ℕ) (w : Window) (answer : Option ℕ) (old new level : ℕ) (asked : List Child) : Type 0 where
-  pub asks : Asks (tree_as trees.Alloc s.tree) pick w answer level asked
+  pub asks : Asks (tree_on true s.tree) pick w answer level asked
   pub visited : Visited s s' old new level asked
 
 module _ (s s' : Sheet) (pick : List Hole → Option ℕ) (w : Window) (answer : Option ℕ) (old new level : ℕ) (asked : List Child) (come : HasCome s s' pick w answer old new level asked) where
@@ -201,15 +203,15 @@ module _ (s s' : Sheet) (pick : List Hole → Option ℕ) (w : Window) (answer :
 
   pub all_may_load : All (λ (x : Child). MayLoad s'.tree x.span) asked
   all_may_load = subst (λ (t : Rooted). All (λ (x : Child). MayLoad t x.span) asked) (sym same_there)
-      (rows_may_load trees.Alloc s.tree come.asks.left asked (levels_here (IsRow (tree_as trees.Alloc s.tree)) s.tree.table come.asks.left (spans asked) come.asks.rows))
+      (rows_may_load true s.tree come.asks.left asked (levels_here (IsRow (tree_on true s.tree)) s.tree.table come.asks.left (spans asked) come.asks.rows))
 
   pub not_so_deep : level < deepest
   not_so_deep = let low = come.asks.low in omega arith
 
   pub arrives : AreLeaves asked → Arrives s s' pick w answer old new asked
   arrives leaves = record {
-    rows = rows_may_load trees.Alloc s.tree come.asks.left asked (levels_here (IsRow (tree_as trees.Alloc s.tree)) s.tree.table come.asks.left (spans asked) come.asks.rows);
-    found = leaves_have (tree_as trees.Alloc s.tree) pick w answer come.asks.left asked leaves come.asks.rows come.asks.found;
+    rows = rows_may_load true s.tree come.asks.left asked (levels_here (IsRow (tree_on true s.tree)) s.tree.table come.asks.left (spans asked) come.asks.rows);
+    found = leaves_have (tree_on true s.tree) pick w answer come.asks.left asked leaves come.asks.rows come.asks.found;
     level = level;
     height = (let height = come.asks.height in omega arith);
     visited = come.visited;
@@ -239,7 +241,7 @@ pub low_come : (s s' s'' : Sheet) (w : Window) (answer : Option ℕ) (old new ne
     → HasCome s s'' lowest_in w answer old newer (level + 1) next
 low_come s s' s'' w answer old new newer level asked next some come not is more =
     let there = is ∙ ap (λ (t : Rooted). narrow w.size w.lo w.hi (children_below t.table asked)) (same_there s s' lowest_in w answer old new level asked come) in
-    let asks = subst (Asks (tree_as trees.Alloc s.tree) lowest_in w answer (level + 1)) (sym there) (low_next (tree_as trees.Alloc s.tree) w refl some asked answer level come.asks not) in
+    let asks = subst (Asks (tree_on true s.tree) lowest_in w answer (level + 1)) (sym there) (low_next (tree_on true s.tree) w refl some asked answer level come.asks not) in
     record { asks = asks; visited = visited_next s s' lowest_in w answer old new level asked come s'' newer next more asks.few }
 
 pub high_come : (s s' s'' : Sheet) (w : Window) (answer : Option ℕ) (old new newer level : ℕ) (asked next : List Child) → 1 ≤ w.size → HasCome s s' (highest_in w.size) w answer old new level asked → (AreLeaves asked → ⊥)
@@ -247,37 +249,37 @@ pub high_come : (s s' s'' : Sheet) (w : Window) (answer : Option ℕ) (old new n
     → HasCome s s'' (highest_in w.size) w answer old newer (level + 1) next
 high_come s s' s'' w answer old new newer level asked next some come not is more =
     let there = is ∙ ap (λ (t : Rooted). narrow_up w.size w.lo w.hi [] (children_below t.table asked)) (same_there s s' (highest_in w.size) w answer old new level asked come) in
-    let asks = subst (Asks (tree_as trees.Alloc s.tree) (highest_in w.size) w answer (level + 1)) (sym there) (high_next (tree_as trees.Alloc s.tree) w refl some asked answer level come.asks not) in
+    let asks = subst (Asks (tree_on true s.tree) (highest_in w.size) w answer (level + 1)) (sym there) (high_next (tree_on true s.tree) w refl some asked answer level come.asks not) in
     record { asks = asks; visited = visited_next s s' (highest_in w.size) w answer old new level asked come s'' newer next more asks.few }
 
 pub come_low_few : (s s' : Sheet) (w : Window) (answer : Option ℕ) (old new level : ℕ) (asked : List Child) → 1 ≤ w.size → HasCome s s' lowest_in w answer old new level asked → (AreLeaves asked → ⊥)
     → length (narrow w.size w.lo w.hi (children_below s'.tree.table asked)) ≤ 3
 come_low_few s s' w answer old new level asked some come not =
     subst (λ (t : Rooted). length (narrow w.size w.lo w.hi (children_below t.table asked)) ≤ 3) (sym (same_there s s' lowest_in w answer old new level asked come))
-    (low_few (tree_as trees.Alloc s.tree) w refl some asked answer level lowest_in come.asks not)
+    (low_few (tree_on true s.tree) w refl some asked answer level lowest_in come.asks not)
 
 pub come_high_few : (s s' : Sheet) (w : Window) (answer : Option ℕ) (old new level : ℕ) (asked : List Child) → 1 ≤ w.size → HasCome s s' (highest_in w.size) w answer old new level asked → (AreLeaves asked → ⊥)
     → (k : ℕ) → length (narrow_up w.size w.lo w.hi [] (take k (children_below s'.tree.table asked))) ≤ 3
 come_high_few s s' w answer old new level asked some come not k =
     subst (λ (t : Rooted). length (narrow_up w.size w.lo w.hi [] (take k (children_below t.table asked))) ≤ 3) (sym (same_there s s' (highest_in w.size) w answer old new level asked come))
-    (high_few (tree_as trees.Alloc s.tree) w refl some asked answer level (highest_in w.size) come.asks not k)
+    (high_few (tree_on true s.tree) w refl some asked answer level (highest_in w.size) come.asks not k)
 
-pub come_root : (s : Sheet) (w : Window) (pick : List Hole → Option ℕ) (steps : ℕ) (asked : List Child) → IsLawfulOf s.tree trees.Alloc → s.tree.root ≢ 0 → asked ≡ root_child s.tree.table s.tree.root ∷ []
+pub come_root : (s : Sheet) (w : Window) (pick : List Hole → Option ℕ) (steps : ℕ) (asked : List Child) → IsGapped s.tree → s.tree.root ≢ 0 → asked ≡ root_child s.tree.table s.tree.root ∷ []
     → HasCome s s pick w (place_in pick w s.tree) steps steps 0 asked
 unfolding place_in
 come_root s w pick steps asked tree root is =
-    subst (HasCome s s pick w (picked pick w (holes trees.Alloc (map_by s.tree))) steps steps 0) (sym is) (record {
+    subst (HasCome s s pick w (picked pick w (holes_to (greatest s.tree.table.width) (map_by s.tree))) steps steps 0) (sym is) (record {
       asks = asks_root s.tree tree root w pick;
       visited = record { count = 0; few = omega arith; steps = omega arith; reads = reads_up 0 (columns s.tree.table.width * 0) s s (omega arith) (no_reads s) };
     })
 
 -- ---- the search
 
-pub low_in_tree : (w : Window) (t : Rooted) → place_in lowest_in w t ≡ low trees.Alloc (map_by t) w.size w.lo w.hi
+pub low_in_tree : (w : Window) (t : Rooted) → place_in lowest_in w t ≡ low_to (greatest t.table.width) (map_by t) w.size w.lo w.hi
 unfolding place_in
 low_in_tree w t = refl
 
-pub high_in_tree : (w : Window) (t : Rooted) → place_in (highest_in w.size) w t ≡ high trees.Alloc (map_by t) w.size w.lo w.hi
+pub high_in_tree : (w : Window) (t : Rooted) → place_in (highest_in w.size) w t ≡ high_to (greatest t.table.width) (map_by t) w.size w.lo w.hi
 unfolding place_in
 high_in_tree w t = refl
 
@@ -325,12 +327,10 @@ module _ (s s₀ s₁ : Sheet) (pick : List Hole → Option ℕ) (w : Window) (a
       sums a b d = grind arith
 
 -- the empty tree is one hole
-pub low_empty : (t : Rooted) (w : Window) → IsLawfulOf t trees.Alloc → t.root ≡ 0
-    → picked lowest_in w (flat_map child_hole (record { span = record { first = 0; last = greatest t.table.width; word = 0 }; gap = 0 } ∷ [])) ≡ low trees.Alloc (map_by t) w.size w.lo w.hi
-low_empty t w tree empty = (λ i. picked lowest_in w (flat_map child_hole (record { span = record { first = 0; last = greatest (tree.width i); word = 0 }; gap = 0 } ∷ [])))
-    ∙ ap (λ (root : ℕ). low trees.Alloc (map_in t.table root) w.size w.lo w.hi) (sym empty)
+pub low_empty : (t : Rooted) (w : Window) → t.root ≡ 0
+    → picked lowest_in w (flat_map child_hole (record { span = record { first = 0; last = greatest t.table.width; word = 0 }; gap = 0 } ∷ [])) ≡ low_to (greatest t.table.width) (map_by t) w.size w.lo w.hi
+low_empty t w empty = ap (picked lowest_in w) (sym (one_hole (greatest t.table.width))) ∙ ap (λ (root : ℕ). low_to (greatest t.table.width) (map_in t.table root) w.size w.lo w.hi) (sym empty)
 
-pub high_empty : (t : Rooted) (w : Window) → IsLawfulOf t trees.Alloc → t.root ≡ 0
-    → picked (highest_in w.size) w (flat_map child_hole (record { span = record { first = 0; last = greatest t.table.width; word = 0 }; gap = 0 } ∷ [])) ≡ high trees.Alloc (map_by t) w.size w.lo w.hi
-high_empty t w tree empty = (λ i. picked (highest_in w.size) w (flat_map child_hole (record { span = record { first = 0; last = greatest (tree.width i); word = 0 }; gap = 0 } ∷ [])))
-    ∙ ap (λ (root : ℕ). high trees.Alloc (map_in t.table root) w.size w.lo w.hi) (sym empty)
+pub high_empty : (t : Rooted) (w : Window) → t.root ≡ 0
+    → picked (highest_in w.size) w (flat_map child_hole (record { span = record { first = 0; last = greatest t.table.width; word = 0 }; gap = 0 } ∷ [])) ≡ high_to (greatest t.table.width) (map_by t) w.size w.lo w.hi
+high_empty t w empty = ap (picked (highest_in w.size) w) (sym (one_hole (greatest t.table.width))) ∙ ap (λ (root : ℕ). high_to (greatest t.table.width) (map_in t.table root) w.size w.lo w.hi) (sym empty)

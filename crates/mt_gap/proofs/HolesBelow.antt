@@ -9,7 +9,7 @@ use Rattle.mt_rows.specs.Levels.{expand, map_of, Levels}
 use Rattle.mt_rows.specs.Laws.{Tree, IsRow, top_of}
 use Rattle.mt_rows.proofs.Lists.{fills_le, expand_fills}
 use Rattle.mt_rows.proofs.Ranges.{rows_filled}
-use Rattle.mt_base.specs.Holes.{hole_between, holes_from}
+use Rattle.mt_base.specs.Holes.{hole_between, holes_from, holes_to}
 use Rattle.mt_gap.specs.Below.{leaf_hole, holes_below}
 use Rattle.mt_layout.proofs.SpanLists.{apart-append}
 
@@ -24,6 +24,10 @@ as_hole : (lo next : ℕ) (x : Span) → x.first ≡ lo → lo ≤ x.last → ne
 as_hole lo next x begins ends behind =
     let last : next - 1 ≡ x.last = omega arith in
     hole_here lo next (omega arith) ∙ (λ i. record { first = sym begins i; last = last i } ∷ [])
+
+-- where nothing is held all indexes are one hole
+pub one_hole : (top : ℕ) → holes_to top [] ≡ record { first = 0; last = top } ∷ []
+one_hole top = as_hole 0 (top + 1) (record { first = 0; last = top; word = 0 }) refl (omega arith) refl
 
 pub holes_of_spans : (lo hi : ℕ) (xs : List Span) → Fills lo hi xs → Apart xs → holes_from lo hi (flat_map leaf_range xs) ≡ flat_map leaf_hole xs
 holes_of_spans lo hi [] fills apart = ap (hole_between lo) (sym fills) ∙ no_hole lo

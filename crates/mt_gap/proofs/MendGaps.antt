@@ -1,10 +1,8 @@
 -- All gap words of a path's rows mended: what holds from one slot to the next, and from one row to the next.
-use Rattle.std.proofs.Common.{◌≡◌, ◌≢◌, ℕ, zero, suc, ◌+◌, ◌-◌, ◌<◌, ◌≤◌, List, [], ◌∷◌, true, Some, None, length, refl, sym, ap, ◌∙◌, subst, ⊎_elim, inl, inr, arith}
+use Rattle.std.proofs.Common.{◌≡◌, ◌≢◌, ℕ, zero, suc, ◌+◌, ◌-◌, ◌<◌, ◌≤◌, List, [], ◌∷◌, Bool, true, false, Some, None, length, refl, sym, ap, ◌∙◌, subst, ⊎_elim, inl, inr, arith}
 use Rattle.std.specs.Prelude.{◌⊎◌, slice_index_or}
 use Rattle.std.specs.List.{AllByRecursion}
 use Rattle.std.proofs.lemmas.Bool.{cases_Bool, cases_eq}
-use Rattle.mt_base.specs.declared.kinds.Kind.{Kind}
-use Rattle.mt_base.specs.declared.kinds.Kind.TheVariants as trees
 use Rattle.mt_base.specs.declared.widths.Width.{Width}
 use Rattle.mt_base.specs.Width.{deepest, greatest}
 use Rattle.mt_layout.specs.declared.names.RowKind.{RowKind}
@@ -20,9 +18,9 @@ use Rattle.mt_path.specs.declared.paths.PathStep.{PathStep}
 use Rattle.mt_path.specs.Paths.{step_in, span_at, step_at, path_in}
 use Rattle.mt_path.proofs.TreePaths.{top_row, rows_at, row_of, levels, step, place, lawful, reached, root_leads, rows_fill, step_of}
 use Rattle.mt_rows.specs.Gaps.{covers, HasGaps}
-use Rattle.mt_rows.specs.Laws.{Tree, IsRow, Stands, GapLaw, kind_at, longest_below, top_of}
+use Rattle.mt_rows.specs.Laws.{Tree, IsRow, Stands, GapLaw, kind_on, longest_below, top_of}
 use Rattle.mt_rows.specs.Levels.{Levels}
-use Rattle.mt_rows.specs.Publish.{tree_as, LiveAreReached, NoneBuried}
+use Rattle.mt_rows.specs.Publish.{tree_on, LiveAreReached, NoneBuried}
 use Rattle.mt_rows.specs.Replacement.{root_of}
 use Rattle.mt_rows.specs.Sheet.{Rooted, Sheet, IsPlace, OnlyReads, MayTend, IsWhole, life_of, is_buried, with_word, word_at, loaded}
 use Rattle.mt_rows.specs.Spans.{Table, root_span, spans_in, spans_by, row_spans}
@@ -69,7 +67,7 @@ module _ (s s' : Sheet) (path : List PathStep) (kind : RowKind) (d slots : ℕ) 
   r = s'.tree
 
   abbrev t : Tree
-  t = tree_as trees.Alloc s'.tree
+  t = tree_on true s'.tree
 
   abbrev pub x : Span
   x = row_of t d m.index
@@ -106,7 +104,7 @@ module _ (s s' : Sheet) (path : List PathStep) (kind : RowKind) (d slots : ℕ) 
 
   pub above_place : IsPlace s'.tree (step_at path d).row 0
   above_place = subst (λ (p : PathStep). IsPlace s'.tree p.row 0) (sym above_is)
-      (record { first = (Names-named_kind x.word (kind_at trees.Alloc (suc m.done)) x_row.name.named).0.0; last = x_row.name.in_table; column = some_columns r.table.width })
+      (record { first = (Names-named_kind x.word (kind_on true (suc m.done)) x_row.name.named).0.0; last = x_row.name.in_table; column = some_columns r.table.width })
 
   pub x_spans : row_spans r.table (step_at path d).row Gapped (step_at path d).min (step_at path d).max ≡ spans_in r.table x
   x_spans = (λ i. row_spans r.table (above_is i).row Gapped (above_is i).min (above_is i).max) ∙ sym (ap (λ k. spans_by r.table k x) x_row.name.named)
@@ -135,7 +133,7 @@ module _ (s s' : Sheet) (path : List PathStep) (kind : RowKind) (d slots : ℕ) 
     c_low = let end = begins_at x.first (x.last + 1) (spans_in r.table x) c x_row.pivots.fills (slot_one (spans_in r.table x) slots used) in let low = x_low in let to = end.1 in omega arith
 
     pub c_named : named_kind c.word ≢ None
-    c_named = λ none. (let no : Some (kind_at trees.Alloc m.done) ≡ None = sym c_row.name.named ∙ none in absurd (cc))
+    c_named = λ none. (let no : Some (kind_on true m.done) ≡ None = sym c_row.name.named ∙ none in absurd (cc))
 
     pub slot_low : slots < slots_of r.table.width Gapped
     slot_low = let few = row_most x_row.name in let u = used in omega arith
@@ -145,7 +143,7 @@ module _ (s s' : Sheet) (path : List PathStep) (kind : RowKind) (d slots : ℕ) 
 
     may_tend_it : (gap : ℕ) → MayTend s' (row_in x.word) (gap_column (slots_of r.table.width Gapped) slots) gap
     may_tend_it gap = record {
-      at = record { first = (Names-named_kind x.word (kind_at trees.Alloc (suc m.done)) x_row.name.named).0.0; last = x_row.name.in_table; column = gap_within r.table.width slots slot_low };
+      at = record { first = (Names-named_kind x.word (kind_on true (suc m.done)) x_row.name.named).0.0; last = x_row.name.in_table; column = gap_within r.table.width slots slot_low };
       live = ap (λ (v : Sheet). life_of v.lives (row_in x.word)) m.only ∙ x_kept.0;
       kept = ap (λ (v : Sheet). is_buried v.buried (row_in x.word)) m.only ∙ x_kept.1;
       column = inr (record { depth = d; at = x; slot = slots; reached = reached t m.height m.stands m.index d within' (let h = high in omega arith); gapped = x_row.name.named; number = refl; used = used; column = refl });
@@ -157,8 +155,8 @@ module _ (s s' : Sheet) (path : List PathStep) (kind : RowKind) (d slots : ℕ) 
 
     pub may_mend_it : MayMend s' kind (at_slot (step_at path d)) (step_to c)
     may_mend_it = subst (λ (p : PathStep). MayMend s' kind (at_slot p) (step_to c)) (sym above_is) (record {
-      place = record { first = (Names-named_kind c.word (kind_at trees.Alloc m.done) c_row.name.named).0.0; last = c_row.name.in_table; column = some_columns r.table.width };
-      tells = subst (λ (k : RowKind). MayTell k r.table (step_to c)) (sym m.kind_is) (may_same (kind_at trees.Alloc m.done) r.table c m.index (row_may_tell r m.done m.index c c_row c_low));
+      place = record { first = (Names-named_kind c.word (kind_on true m.done) c_row.name.named).0.0; last = c_row.name.in_table; column = some_columns r.table.width };
+      tells = subst (λ (k : RowKind). MayTell k r.table (step_to c)) (sym m.kind_is) (may_same (kind_on true m.done) r.table c m.index (row_may_tell r m.done m.index c c_row c_low));
       slot = slot_low;
       tend = may_tend_it;
     })
@@ -179,7 +177,7 @@ module _ (s s' : Sheet) (path : List PathStep) (kind : RowKind) (d slots : ℕ) 
       gap_is : gap ≡ longest_below r.table m.done (c ∷ [])
       gap_is =
           ap (λ (k : RowKind). told_by k r.table (step_to c)) m.kind_is
-          ∙ (tells_same (kind_at trees.Alloc m.done) r.table c m.index
+          ∙ (tells_same (kind_on true m.done) r.table c m.index
           ∙ child_tells r m.done m.index c c_row (law_of_right (IsDone m.index m.done slots) r m.done c c_right (λ i within. inr (inl (omega arith)))))
 
       shared_then : Levels (Shared r.table r'.table) r.table m.height (root_of t)
@@ -209,7 +207,7 @@ module _ (s s' : Sheet) (path : List PathStep) (kind : RowKind) (d slots : ℕ) 
         col_is = same_col ∙ ap (λ (w : Width). gap_column (slots_of w Gapped) slots) width_same;
       })
 
-      root_of_s : root_of t ≡ root_of (tree_as trees.Alloc s.tree)
+      root_of_s : root_of t ≡ root_of (tree_on true s.tree)
       root_of_s = λ i. root_span (m.only i).tree.table (m.only i).tree.root ∷ []
 
       pub mended_one : HasMendedRows s s'' path kind (d + 2) (slots + 1)
@@ -222,15 +220,15 @@ module _ (s s' : Sheet) (path : List PathStep) (kind : RowKind) (d slots : ℕ) 
         levels_are = m.levels_are;
         kind_is = m.kind_is;
         stood = m.stood;
-        stands = subst (λ (v : Rooted). Stands (tree_as trees.Alloc v) m.height) (sym tree_then) (still_stands r m.height m.done slots gap x whole.words m.stands on used);
+        stands = subst (λ (v : Rooted). Stands (tree_on true v) m.height) (sym tree_then) (still_stands r m.height m.done slots gap x whole.words m.stands on used);
         steps = subst (λ (v : Rooted). path ≡ path_in v.table v.root m.index) (sym tree_then)
-            (m.steps ∙ sym (paths_shared t (tree_as trees.Alloc r') m.index deepest m.height (top_row t) m.stands.low (root_leads t m.height m.stands m.index within') shared_then));
-        right = subst (λ (v : Rooted). Levels (AreRight (IsDone m.index m.done (slots + 1)) (tree_as trees.Alloc v)) v.table m.height (root_of (tree_as trees.Alloc v))) (sym tree_then)
+            (m.steps ∙ sym (paths_shared t (tree_on true r') m.index deepest m.height (top_row t) m.stands.low (root_leads t m.height m.stands m.index within') shared_then));
+        right = subst (λ (v : Rooted). Levels (AreRight (IsDone m.index m.done (slots + 1)) (tree_on true v)) v.table m.height (root_of (tree_on true v))) (sym tree_then)
             (right_then r m.height m.done slots gap x whole.words m.stands on used gap_is (IsDone m.index m.done slots) (IsDone m.index m.done (slots + 1)) m.right more);
         only = only_next s s' s'' (row_in x.word) (gap_column (slots_of r.table.width Gapped) slots) gap m.only stored;
         words = subst (λ (v : Rooted). KeepsOtherWords s.tree v path) (sym tree_then) keeps;
-        spans = subst (λ (v : Rooted). Levels (Shared s.tree.table v.table) s.tree.table m.height (root_of (tree_as trees.Alloc s.tree))) (sym tree_then)
-            (shared_twice s.tree.table r.table r'.table m.height (root_of (tree_as trees.Alloc s.tree)) m.spans (subst (Levels (Shared r.table r'.table) r.table m.height) root_of_s shared_then));
+        spans = subst (λ (v : Rooted). Levels (Shared s.tree.table v.table) s.tree.table m.height (root_of (tree_on true s.tree))) (sym tree_then)
+            (shared_twice s.tree.table r.table r'.table m.height (root_of (tree_on true s.tree)) m.spans (subst (Levels (Shared r.table r'.table) r.table m.height) root_of_s shared_then));
         kept = m.kept;
       }
 
@@ -365,13 +363,13 @@ kept_each P [] each = tt
 kept_each P (p ∷ path) each = (each 0 (omega arith), kept_each P path (λ d within. each (suc d) (omega arith)))
 
 -- where the rows that are reached are live, and none is buried, the rows of a path are so
-pub kept_if_live : (kind : Kind) (s : Sheet) (h index : ℕ) → Stands (tree_as kind s.tree) h → LiveAreReached s.tree s.lives → NoneBuried s.tree.rows s.buried → index ≤ greatest s.tree.table.width
+pub kept_if_live : (gapped : Bool) (s : Sheet) (h index : ℕ) → Stands (tree_on gapped s.tree) h → LiveAreReached s.tree s.lives → NoneBuried s.tree.rows s.buried → index ≤ greatest s.tree.table.width
     → AllByRecursion (IsKept s) (path_in s.tree.table s.tree.root index)
-kept_if_live kind s h index stands live none within = kept_each (IsKept s) (path_in s.tree.table s.tree.root index) (λ d deep. at d (omega (arith, levels (tree_as kind s.tree) h stands index within)))
+kept_if_live gapped s h index stands live none within = kept_each (IsKept s) (path_in s.tree.table s.tree.root index) (λ d deep. at d (omega (arith, levels (tree_on gapped s.tree) h stands index within)))
   where
-    at : (d : ℕ) → d ≤ h → IsKept s (step_of (tree_as kind s.tree) d index)
+    at : (d : ℕ) → d ≤ h → IsKept s (step_of (tree_on gapped s.tree) d index)
     at d low =
-        let t = tree_as kind s.tree in
+        let t = tree_on gapped s.tree in
         let y = row_of t d index in
         let here = place t h stands index d within low in
         let on : OnLevel t.table h (root_of t) (h - d) y = record { depth = d; height = omega arith; one = one_of_parts (rows_at t d) here.front here.back y here.parts } in
@@ -381,19 +379,19 @@ kept_if_live kind s h index stands live none within = kept_each (IsKept s) (path
 
 -- ---- the first and the last
 
-no_range : (s : Sheet) (path : List PathStep) → MayMendGaps trees.Range s path → RootIs s Gapped → ⊥
-no_range s path may gapped = elim may.gaps [ inl empty ↦ no_root s empty gapped | inr full ↦ not_gapped full.0 (sym (root_named trees.Range s full.0 full.1) ∙ gapped) ]
+no_plain : (s : Sheet) (path : List PathStep) → MayMendGaps false s path → RootIs s Gapped → ⊥
+no_plain s path may root = elim may.gaps [ inl empty ↦ no_root s empty root | inr full ↦ not_gapped full.0 (sym (root_named false s full.0 full.1) ∙ root) ]
 
-begun_rows : (r : Rooted) (index l : ℕ) (y : Span) → GapLawBeside index (tree_as trees.Alloc r) l y → AreRight (IsDone index 0 0) (tree_as trees.Alloc r) l y
+begun_rows : (r : Rooted) (index l : ℕ) (y : Span) → GapLawBeside index (tree_on true r) l y → AreRight (IsDone index 0 0) (tree_on true r) l y
 begun_rows r index l y law i within (inl beside) = are_right (IsDone index 0 0) r l y (law beside) i within (inl beside)
 begun_rows r index zero y law i within (inr (inl low)) = tt
 begun_rows r index (suc l) y law i within (inr (inl low)) = absurd (omega arith)
 begun_rows r index l y law i within (inr (inr next)) = absurd (omega (arith, next.1))
 
-begin_alloc : (s s' : Sheet) (path : List PathStep) → MayMendGaps trees.Alloc s path → RootIs s Gapped → s' ≡ loaded s → HasMendedRows s s' path Leaf (length path) 0
-begin_alloc s s' path may gapped is = elim may.gaps [
-  | inl empty ↦ absurd (no_root s empty gapped)
-  | inr full ↦ (let many = ap length may.steps ∙ levels (tree_as trees.Alloc s.tree) full.0 full.1 may.index may.within in record {
+begin_gapped : (s s' : Sheet) (path : List PathStep) → MayMendGaps true s path → RootIs s Gapped → s' ≡ loaded s → HasMendedRows s s' path Leaf (length path) 0
+begin_gapped s s' path may root is = elim may.gaps [
+  | inl empty ↦ absurd (no_root s empty root)
+  | inr full ↦ (let many = ap length may.steps ∙ levels (tree_on true s.tree) full.0 full.1 may.index may.within in record {
     index = may.index;
     height = full.0;
     done = 0;
@@ -402,45 +400,45 @@ begin_alloc s s' path may gapped is = elim may.gaps [
     levels_are = omega arith;
     kind_is = refl;
     stood = full.1;
-    stands = subst (λ (v : Sheet). Stands (tree_as trees.Alloc v.tree) full.0) (sym is) full.1;
+    stands = subst (λ (v : Sheet). Stands (tree_on true v.tree) full.0) (sym is) full.1;
     steps = subst (λ (v : Sheet). path ≡ path_in v.tree.table v.tree.root may.index) (sym is) may.steps;
-    right = subst (λ (v : Sheet). Levels (AreRight (IsDone may.index 0 0) (tree_as trees.Alloc v.tree)) v.tree.table full.0 (root_of (tree_as trees.Alloc v.tree))) (sym is)
-        (levels_map (GapLawBeside may.index (tree_as trees.Alloc s.tree)) (AreRight (IsDone may.index 0 0) (tree_as trees.Alloc s.tree)) s.tree.table (λ l y law. begun_rows s.tree may.index l y law) full.0 (root_of (tree_as trees.Alloc s.tree)) full.2);
+    right = subst (λ (v : Sheet). Levels (AreRight (IsDone may.index 0 0) (tree_on true v.tree)) v.tree.table full.0 (root_of (tree_on true v.tree))) (sym is)
+        (levels_map (GapLawBeside may.index (tree_on true s.tree)) (AreRight (IsDone may.index 0 0) (tree_on true s.tree)) s.tree.table (λ l y law. begun_rows s.tree may.index l y law) full.0 (root_of (tree_on true s.tree)) full.2);
     only = only_loaded s s' is;
     words = (λ row col low. inl (ap (λ (v : Sheet). word_at v.tree row col) is));
-    spans = subst (λ (v : Sheet). Levels (Shared s.tree.table v.tree.table) s.tree.table full.0 (root_of (tree_as trees.Alloc s.tree))) (sym is) (shared_self trees.Alloc s full.0 full.1);
+    spans = subst (λ (v : Sheet). Levels (Shared s.tree.table v.tree.table) s.tree.table full.0 (root_of (tree_on true s.tree))) (sym is) (shared_self true s full.0 full.1);
     kept = may.kept;
   })
 ]
 
-pub begin_rows : (kind : Kind) (s s' : Sheet) (path : List PathStep) → MayMendGaps kind s path → RootIs s Gapped → s' ≡ loaded s → HasMendedRows s s' path Leaf (length path) 0
-begin_rows trees.Range s s' path may gapped is = absurd (no_range s path may gapped)
-begin_rows trees.Alloc s s' path may gapped is = begin_alloc s s' path may gapped is
+pub begin_rows : (gapped : Bool) (s s' : Sheet) (path : List PathStep) → MayMendGaps gapped s path → RootIs s Gapped → s' ≡ loaded s → HasMendedRows s s' path Leaf (length path) 0
+begin_rows false s s' path may root is = absurd (no_plain s path may root)
+begin_rows true s s' path may root is = begin_gapped s s' path may root is
 
-pub end_rows : (kind : Kind) (s s' : Sheet) (path : List PathStep) (k : RowKind) (left : ℕ) → MayMendGaps kind s path → RootIs s Gapped → HasMendedRows s s' path k left 0 → left ≤ 1 → HasGaps (tree_as kind s'.tree)
-end_rows trees.Range s s' path k left may gapped m last = absurd (no_range s path may gapped)
-end_rows trees.Alloc s s' path k left may gapped m last =
+pub end_rows : (gapped : Bool) (s s' : Sheet) (path : List PathStep) (k : RowKind) (left : ℕ) → MayMendGaps gapped s path → RootIs s Gapped → HasMendedRows s s' path k left 0 → left ≤ 1 → HasGaps (tree_on gapped s'.tree)
+end_rows false s s' path k left may root m last = absurd (no_plain s path may root)
+end_rows true s s' path k left may root m last =
     let low = m.low in let levels = m.levels_are in
     let all : m.done ≡ m.height = omega arith in
     inr (
       m.height,
       m.stands,
-      levels_from (GapLaw (tree_as trees.Alloc s'.tree)) s'.tree.table m.height (root_of (tree_as trees.Alloc s'.tree)) m.height 0 (omega arith)
-          (λ l y below at. law_of_right (IsDone m.index m.done 0) s'.tree l y (levels_at (AreRight (IsDone m.index m.done 0) (tree_as trees.Alloc s'.tree)) s'.tree.table m.height l (root_of (tree_as trees.Alloc s'.tree)) y m.right at)
+      levels_from (GapLaw (tree_on true s'.tree)) s'.tree.table m.height (root_of (tree_on true s'.tree)) m.height 0 (omega arith)
+          (λ l y below at. law_of_right (IsDone m.index m.done 0) s'.tree l y (levels_at (AreRight (IsDone m.index m.done 0) (tree_on true s'.tree)) s'.tree.table m.height l (root_of (tree_on true s'.tree)) y m.right at)
           (λ i within. inr (inl (omega arith)))),
     )
 
-pub end_row_spans : (kind : Kind) (s s' : Sheet) (path : List PathStep) (k : RowKind) (left h : ℕ) → HasMendedRows s s' path k left 0 → Stands (tree_as kind s.tree) h → Levels (Shared s.tree.table s'.tree.table) s.tree.table h (root_of (tree_as kind s.tree))
-end_row_spans kind s s' path k left h m stands =
-    let tall = height_by_depth (tree_as trees.Alloc s.tree) deepest m.height (root_span s.tree.table s.tree.root) m.stood.low m.stood.rows in
-    let tall' = height_by_depth (tree_as kind s.tree) deepest h (root_span s.tree.table s.tree.root) stands.low stands.rows in
+pub end_row_spans : (gapped : Bool) (s s' : Sheet) (path : List PathStep) (k : RowKind) (left h : ℕ) → HasMendedRows s s' path k left 0 → Stands (tree_on gapped s.tree) h → Levels (Shared s.tree.table s'.tree.table) s.tree.table h (root_of (tree_on gapped s.tree))
+end_row_spans gapped s s' path k left h m stands =
+    let tall = height_by_depth (tree_on true s.tree) deepest m.height (root_span s.tree.table s.tree.root) m.stood.low m.stood.rows in
+    let tall' = height_by_depth (tree_on gapped s.tree) deepest h (root_span s.tree.table s.tree.root) stands.low stands.rows in
     let same : m.height ≡ h = omega arith in
-    subst (λ (n : ℕ). Levels (Shared s.tree.table s'.tree.table) s.tree.table n (root_of (tree_as kind s.tree))) same m.spans
+    subst (λ (n : ℕ). Levels (Shared s.tree.table s'.tree.table) s.tree.table n (root_of (tree_on gapped s.tree))) same m.spans
 
-pub no_rows_to_mend : (kind : Kind) (s s' : Sheet) (path : List PathStep) → MayMendGaps kind s path → (RootIs s Gapped → ⊥) → s' ≡ loaded s → HasGaps (tree_as kind s'.tree)
-no_rows_to_mend kind s s' path may plain is = subst (λ (v : Sheet). HasGaps (tree_as kind v.tree)) (sym is) (elim may.gaps [
+pub no_rows_to_mend : (gapped : Bool) (s s' : Sheet) (path : List PathStep) → MayMendGaps gapped s path → (RootIs s Gapped → ⊥) → s' ≡ loaded s → HasGaps (tree_on gapped s'.tree)
+no_rows_to_mend gapped s s' path may plain is = subst (λ (v : Sheet). HasGaps (tree_on gapped v.tree)) (sym is) (elim may.gaps [
   | inl empty ↦ inl empty
-  | inr full ↦ inr (full.0, full.1, plain_law kind s full.0 full.1 plain)
+  | inr full ↦ inr (full.0, full.1, plain_law gapped s full.0 full.1 plain)
 ])
 
 -- ---- by the number of rows that are left

@@ -1,10 +1,8 @@
 -- Gap words mended on the way to an index: what holds from one row to the next.
-use Rattle.std.proofs.Common.{◌≡◌, ◌≢◌, ℕ, zero, suc, ◌+◌, ◌-◌, ◌*◌, ◌^◌, ◌<◌, ◌≤◌, ◌==◌, List, [], ◌∷◌, false, Some, length, refl, sym, ap, ◌∙◌, subst, ⊎_elim, inl, inr, arith, append-nil, get_or-set_other}
+use Rattle.std.proofs.Common.{◌≡◌, ◌≢◌, ℕ, zero, suc, ◌+◌, ◌-◌, ◌*◌, ◌^◌, ◌<◌, ◌≤◌, ◌==◌, List, [], ◌∷◌, Bool, true, false, Some, length, refl, sym, ap, ◌∙◌, subst, ⊎_elim, inl, inr, arith, append-nil, get_or-set_other}
 use Rattle.std.specs.Prelude.{◌⊎◌, slice_index, slice_set}
 use Rattle.std.specs.List.{AllByRecursion, flat_map}
 use Rattle.std.proofs.lemmas.Bool.{cases_Bool, cases_eq}
-use Rattle.mt_base.specs.declared.kinds.Kind.{Kind}
-use Rattle.mt_base.specs.declared.kinds.Kind.TheVariants as trees
 use Rattle.mt_base.specs.declared.widths.Width.{Width}
 use Rattle.mt_base.specs.Width.{columns, deepest, greatest, first_row}
 use Rattle.mt_base.proofs.WidthBounds.{greatest_fits}
@@ -24,9 +22,9 @@ use Rattle.mt_path.specs.Paths.{step_in, slot_for, step_at, span_at, path_in, pa
 use Rattle.mt_path.proofs.Steps.{Leads, path_of_leaf, path_of_inner, row_here, child_at, child_leads}
 use Rattle.mt_path.proofs.TreePaths.{top_row, row_of, step_of, levels, step, place, lawful, reached, root_leads}
 use Rattle.mt_rows.specs.Gaps.{HasGaps}
-use Rattle.mt_rows.specs.Laws.{Tree, IsRow, Stands, GapLaw, kind_at, longest_below, top_of}
+use Rattle.mt_rows.specs.Laws.{Tree, IsRow, Stands, GapLaw, kind_on, longest_below, top_of}
 use Rattle.mt_rows.specs.Levels.{expand, Levels, SameSpans, times, is_row_of}
-use Rattle.mt_rows.specs.Publish.{tree_as, LiveAreReached, NoneBuried}
+use Rattle.mt_rows.specs.Publish.{tree_on, LiveAreReached, NoneBuried}
 use Rattle.mt_rows.specs.Replacement.{root_of}
 use Rattle.mt_rows.specs.Sheet.{Rooted, Sheet, MayTend, IsWhole, life_of, is_buried, with_word, word_at, loaded}
 use Rattle.mt_rows.specs.Spans.{Table, base_of, root_span, spans_in, spans_by, row_spans}
@@ -60,11 +58,11 @@ module _ (t t' : Tree) (index : ℕ) where
   paths_shared (suc depth) (suc k) x deep leads rows =
       let named = (row_here t (suc k) x index leads).name.named in
       let below_same : below t'.table x index ≡ below t.table x index = ap (λ (l : List Span). span_at l (slot_for l index)) rows.0.0 in
-      path_of_inner t'.table depth x index (kind_at t.kind (suc k)) named (inner_no_leaf t.kind)
+      path_of_inner t'.table depth x index (kind_on t.gapped (suc k)) named (inner_no_leaf t.gapped)
       ∙ ((λ i. record { row = row_in x.word; slot = slot_for (rows.0.0 i) index; min = x.first; max = x.last } ∷ path_of t'.table depth (below_same i) index)
       ∙ (ap (λ (l : List PathStep). step_in t.table x index ∷ l)
       (paths_shared depth k (below t.table x index) (omega arith) (child_leads t k x index leads) (below_shared x k leads (subst (Levels (Shared t.table t'.table) t.table k) (append-nil (spans_in t.table x)) rows.1)))
-      ∙ sym (path_of_inner t.table depth x index (kind_at t.kind (suc k)) named (inner_no_leaf t.kind))))
+      ∙ sym (path_of_inner t.table depth x index (kind_on t.gapped (suc k)) named (inner_no_leaf t.gapped))))
 
 -- ---- two stores one after the other
 
@@ -129,7 +127,7 @@ all_rise : (lo hi : ℕ) (xs : List Span) → Fills lo hi xs → AllByRecursion 
 all_rise lo hi [] fills = tt
 all_rise lo hi (x ∷ xs) fills = let begins = fills.0 in let order = fills.1 in (omega arith, all_rise (x.last + 1) hi xs fills.2)
 
-pub row_may_tell : (r : Rooted) (k index : ℕ) (c : Span) → IsRow (tree_as trees.Alloc r) k c → c.last ≤ greatest r.table.width → MayTell (kind_at trees.Alloc k) r.table (step_in r.table c index)
+pub row_may_tell : (r : Rooted) (k index : ℕ) (c : Span) → IsRow (tree_on true r) k c → c.last ≤ greatest r.table.width → MayTell (kind_on true k) r.table (step_in r.table c index)
 row_may_tell r zero index c row low =
     let is : spans_in r.table c ≡ row_spans r.table (row_in c.word) Leaf c.first c.last = ap (λ k. spans_by r.table k c) row.name.named in
     let less = longest_less c.first (c.last + 1) (spans_in r.table c) row.pivots.fills row.holes.some in
@@ -146,14 +144,14 @@ pub record HasMended (s s' : Sheet) (path : List PathStep) (kind : RowKind) (lev
   pub within : index ≤ greatest s.tree.table.width
   pub low : 1 ≤ level
   pub levels_are : done + level ≡ height + 1
-  pub kind_is : kind ≡ kind_at trees.Alloc done
-  pub stood : Stands (tree_as trees.Alloc s.tree) height
-  pub stands : Stands (tree_as trees.Alloc s'.tree) height
+  pub kind_is : kind ≡ kind_on true done
+  pub stood : Stands (tree_on true s.tree) height
+  pub stands : Stands (tree_on true s'.tree) height
   pub steps : path ≡ path_in s'.tree.table s'.tree.root index
-  pub mended : Levels (IsMendedUpTo index done (tree_as trees.Alloc s'.tree)) s'.tree.table height (root_of (tree_as trees.Alloc s'.tree))
+  pub mended : Levels (IsMendedUpTo index done (tree_on true s'.tree)) s'.tree.table height (root_of (tree_on true s'.tree))
   pub only : OnlyWords s s'
   pub words : KeepsWords s.tree s'.tree path
-  pub spans : Levels (Shared s.tree.table s'.tree.table) s.tree.table height (root_of (tree_as trees.Alloc s.tree))
+  pub spans : Levels (Shared s.tree.table s'.tree.table) s.tree.table height (root_of (tree_on true s.tree))
   pub live : LiveAreReached s.tree s.lives
   pub none_buried : NoneBuried s.tree.rows s.buried
 
@@ -162,7 +160,7 @@ module _ (s s' : Sheet) (path : List PathStep) (kind : RowKind) (d : ℕ) (m : H
   r = s'.tree
 
   abbrev t : Tree
-  t = tree_as trees.Alloc s'.tree
+  t = tree_on true s'.tree
 
   abbrev x : Span
   x = row_of t d m.index
@@ -214,23 +212,23 @@ module _ (s s' : Sheet) (path : List PathStep) (kind : RowKind) (d : ℕ) (m : H
   x_live : life_of s'.lives (row_in x.word) ≡ Live
   x_live =
       let times' = on_level_reached t m.height m.stands (suc m.done) x (on r m.height whole.words m.stands m.index d m.done within' high) in
-      let same = times_shared (is_row_of (row_in x.word)) s.tree.table s'.tree.table m.height (root_of (tree_as trees.Alloc s.tree)) m.spans in
-      let root_same : root_of t ≡ root_of (tree_as trees.Alloc s.tree) = (λ i. root_span (m.only i).tree.table (m.only i).tree.root ∷ []) in
-      let times₀ : 1 ≤ times (is_row_of (row_in x.word)) s.tree.table m.height (root_of (tree_as trees.Alloc s.tree)) =
+      let same = times_shared (is_row_of (row_in x.word)) s.tree.table s'.tree.table m.height (root_of (tree_on true s.tree)) m.spans in
+      let root_same : root_of t ≡ root_of (tree_on true s.tree) = (λ i. root_span (m.only i).tree.table (m.only i).tree.root ∷ []) in
+      let times₀ : 1 ≤ times (is_row_of (row_in x.word)) s.tree.table m.height (root_of (tree_on true s.tree)) =
       subst (λ (n : ℕ). 1 ≤ n) (ap (times (is_row_of (row_in x.word)) s'.tree.table m.height) root_same ∙ same) times' in
-      let number = reached_number (tree_as trees.Alloc s.tree) m.height m.stood (row_in x.word) times₀ in
+      let number = reached_number (tree_on true s.tree) m.height m.stood (row_in x.word) times₀ in
       ap (λ (v : Sheet). life_of v.lives (row_in x.word)) m.only
-      ∙ (m.live (row_in x.word) number.0 number.1).1 (times_reached (tree_as trees.Alloc s.tree) m.height m.stood (row_in x.word) times₀)
+      ∙ (m.live (row_in x.word) number.0 number.1).1 (times_reached (tree_on true s.tree) m.height m.stood (row_in x.word) times₀)
 
   x_kept : is_buried s'.buried (row_in x.word) ≡ false
   x_kept =
       ap (λ (v : Sheet). is_buried v.buried (row_in x.word)) m.only
-      ∙ m.none_buried (row_in x.word) (Names-named_kind x.word (kind_at trees.Alloc (suc m.done)) x_row.name.named).0.0
+      ∙ m.none_buried (row_in x.word) (Names-named_kind x.word (kind_on true (suc m.done)) x_row.name.named).0.0
       (subst (λ (n : ℕ). row_in x.word < first_row + n) (ap (λ (v : Sheet). v.tree.rows) m.only) x_row.name.in_table)
 
   may_tend_it : (gap : ℕ) → MayTend s' (row_in x.word) (gap_column (slots_of r.table.width Gapped) slot) gap
   may_tend_it gap = record {
-    at = record { first = (Names-named_kind x.word (kind_at trees.Alloc (suc m.done)) x_row.name.named).0.0; last = x_row.name.in_table; column = gap_within r.table.width slot slot_low };
+    at = record { first = (Names-named_kind x.word (kind_on true (suc m.done)) x_row.name.named).0.0; last = x_row.name.in_table; column = gap_within r.table.width slot slot_low };
     live = x_live;
     kept = x_kept;
     column = inr (record { depth = d; at = x; slot = slot; reached = reached t m.height m.stands m.index d within' (let h = high in omega arith); gapped = x_row.name.named; number = refl; used = used; column = refl });
@@ -240,7 +238,7 @@ module _ (s s' : Sheet) (path : List PathStep) (kind : RowKind) (d : ℕ) (m : H
   pub may_mend : MayMend s' kind (step_at path d) (step_at path (d + 1))
   may_mend =
       subst (λ (p : PathStep × PathStep). MayMend s' kind p.0 p.1) (λ i. (sym above_is i, sym low_is i)) (record {
-        place = record { first = (Names-named_kind y.word (kind_at trees.Alloc m.done) y_row.name.named).0.0; last = y_row.name.in_table; column = some_columns r.table.width };
+        place = record { first = (Names-named_kind y.word (kind_on true m.done) y_row.name.named).0.0; last = y_row.name.in_table; column = some_columns r.table.width };
         tells = subst (λ (k : RowKind). MayTell k r.table (step_in r.table y m.index)) (sym m.kind_is) (row_may_tell r m.done m.index y y_row y_low);
         slot = slot_low;
         tend = may_tend_it;
@@ -263,7 +261,7 @@ module _ (s s' : Sheet) (path : List PathStep) (kind : RowKind) (d : ℕ) (m : H
     gap_is =
         let at : d + 1 ≡ suc d = omega arith in
         ap (λ (k : RowKind). told_by k r.table (step_at path (d + 1))) m.kind_is
-        ∙ (ap (told_by (kind_at trees.Alloc m.done) r.table) (ap (λ (l : List PathStep). step_at l (d + 1)) m.steps ∙ ap (λ (n : ℕ). step_of t n m.index) at)
+        ∙ (ap (told_by (kind_on true m.done) r.table) (ap (λ (l : List PathStep). step_at l (d + 1)) m.steps ∙ ap (λ (n : ℕ). step_of t n m.index) at)
         ∙ told r m.height whole.words m.stands m.index d m.done within' high m.mended)
 
     at_row : OnLevel r.table m.height (root_of t) (suc m.done) x
@@ -280,7 +278,7 @@ module _ (s s' : Sheet) (path : List PathStep) (kind : RowKind) (d : ℕ) (m : H
       col_is = same_col ∙ (λ i. gap_column (slots_of (width_same i) Gapped) (sym above_is i).slot);
     })
 
-    root_of_s : root_of t ≡ root_of (tree_as trees.Alloc s.tree)
+    root_of_s : root_of t ≡ root_of (tree_on true s.tree)
     root_of_s = λ i. root_span (m.only i).tree.table (m.only i).tree.root ∷ []
 
     pub mended_one : HasMended s s'' path Gapped (d + 1)
@@ -293,15 +291,15 @@ module _ (s s' : Sheet) (path : List PathStep) (kind : RowKind) (d : ℕ) (m : H
       levels_are = (let levels = m.levels_are in omega arith);
       kind_is = refl;
       stood = m.stood;
-      stands = subst (λ (v : Rooted). Stands (tree_as trees.Alloc v) m.height) (sym tree_then) (still_stands r m.height m.done slot gap x whole.words m.stands at_row used);
+      stands = subst (λ (v : Rooted). Stands (tree_on true v) m.height) (sym tree_then) (still_stands r m.height m.done slot gap x whole.words m.stands at_row used);
       steps = subst (λ (v : Rooted). path ≡ path_in v.table v.root m.index) (sym tree_then)
-          (m.steps ∙ sym (paths_shared t (tree_as trees.Alloc r') m.index deepest m.height (top_row t) m.stands.low (root_leads t m.height m.stands m.index within') shared_then));
-      mended = subst (λ (v : Rooted). Levels (IsMendedUpTo m.index (suc m.done) (tree_as trees.Alloc v)) v.table m.height (root_of (tree_as trees.Alloc v))) (sym tree_then)
+          (m.steps ∙ sym (paths_shared t (tree_on true r') m.index deepest m.height (top_row t) m.stands.low (root_leads t m.height m.stands m.index within') shared_then));
+      mended = subst (λ (v : Rooted). Levels (IsMendedUpTo m.index (suc m.done) (tree_on true v)) v.table m.height (root_of (tree_on true v))) (sym tree_then)
           (mended_next r m.height whole.words m.stands m.index d m.done within' high m.mended gap gap_is);
       only = only_next s s' s'' (row_in x.word) (gap_column (slots_of r.table.width Gapped) slot) gap m.only stored;
       words = subst (λ (v : Rooted). KeepsWords s.tree v path) (sym tree_then) keeps;
-      spans = subst (λ (v : Rooted). Levels (Shared s.tree.table v.table) s.tree.table m.height (root_of (tree_as trees.Alloc s.tree))) (sym tree_then)
-          (shared_twice s.tree.table r.table r'.table m.height (root_of (tree_as trees.Alloc s.tree)) m.spans (subst (Levels (Shared r.table r'.table) r.table m.height) root_of_s shared_then));
+      spans = subst (λ (v : Rooted). Levels (Shared s.tree.table v.table) s.tree.table m.height (root_of (tree_on true s.tree))) (sym tree_then)
+          (shared_twice s.tree.table r.table r'.table m.height (root_of (tree_on true s.tree)) m.spans (subst (Levels (Shared r.table r'.table) r.table m.height) root_of_s shared_then));
       live = m.live;
       none_buried = m.none_buried;
     }
@@ -311,18 +309,18 @@ module _ (s s' : Sheet) (path : List PathStep) (kind : RowKind) (d : ℕ) (m : H
 abbrev pub RootIs : Sheet → RowKind → Type 0
 RootIs s kind = named_kind s.tree.root ≡ Some kind
 
-pub not_gapped : (h : ℕ) → Some (kind_at trees.Range h) ≡ Some Gapped → ⊥
+pub not_gapped : (h : ℕ) → Some (kind_on false h) ≡ Some Gapped → ⊥
 not_gapped zero same = absurd (cc)
 not_gapped (suc h) same = absurd (cc)
 
-pub root_named : (kind : Kind) (s : Sheet) (h : ℕ) → Stands (tree_as kind s.tree) h → RootIs s (kind_at kind h)
-root_named kind s h stands = (levels_here (IsRow (tree_as kind s.tree)) s.tree.table h (root_of (tree_as kind s.tree)) stands.rows).0.name.named
+pub root_named : (gapped : Bool) (s : Sheet) (h : ℕ) → Stands (tree_on gapped s.tree) h → RootIs s (kind_on gapped h)
+root_named gapped s h stands = (levels_here (IsRow (tree_on gapped s.tree)) s.tree.table h (root_of (tree_on gapped s.tree)) stands.rows).0.name.named
 
 pub no_root : (s : Sheet) → s.tree.root ≡ 0 → RootIs s Gapped → ⊥
-no_root s empty gapped = let none : named_kind 0 ≡ Some Gapped = subst (λ (w : ℕ). named_kind w ≡ Some Gapped) empty gapped in absurd (cc)
+no_root s empty root = let none : named_kind 0 ≡ Some Gapped = subst (λ (w : ℕ). named_kind w ≡ Some Gapped) empty root in absurd (cc)
 
-pub no_range : (s : Sheet) (path : List PathStep) (leaf : ℕ) → IsWay trees.Range s path leaf → RootIs s Gapped → ⊥
-no_range s path leaf way gapped = elim way.gaps [ inl empty ↦ no_root s empty gapped | inr full ↦ not_gapped full.0 (sym (root_named trees.Range s full.0 full.1) ∙ gapped) ]
+pub no_plain : (s : Sheet) (path : List PathStep) (leaf : ℕ) → IsWay false s path leaf → RootIs s Gapped → ⊥
+no_plain s path leaf way root = elim way.gaps [ inl empty ↦ no_root s empty root | inr full ↦ not_gapped full.0 (sym (root_named false s full.0 full.1) ∙ root) ]
 
 pub only_loaded : (s s' : Sheet) → s' ≡ loaded s → OnlyWords s s'
 only_loaded s s' is = subst (OnlyWords s) (sym is) refl
@@ -330,16 +328,16 @@ only_loaded s s' is = subst (OnlyWords s) (sym is) refl
 pub words_loaded : (s s' : Sheet) (path : List PathStep) → s' ≡ loaded s → KeepsWords s.tree s'.tree path
 words_loaded s s' path is = λ row col low. inl (ap (λ (v : Sheet). word_at v.tree row col) is)
 
-pub shared_self : (kind : Kind) (s : Sheet) (h : ℕ) → Stands (tree_as kind s.tree) h → Levels (Shared s.tree.table s.tree.table) s.tree.table h (root_of (tree_as kind s.tree))
-shared_self kind s h stands = levels_map (IsRow (tree_as kind s.tree)) (Shared s.tree.table s.tree.table) s.tree.table (λ h x row. refl) h (root_of (tree_as kind s.tree)) stands.rows
+pub shared_self : (gapped : Bool) (s : Sheet) (h : ℕ) → Stands (tree_on gapped s.tree) h → Levels (Shared s.tree.table s.tree.table) s.tree.table h (root_of (tree_on gapped s.tree))
+shared_self gapped s h stands = levels_map (IsRow (tree_on gapped s.tree)) (Shared s.tree.table s.tree.table) s.tree.table (λ h x row. refl) h (root_of (tree_on gapped s.tree)) stands.rows
 
-pub spans_loaded : (s s' : Sheet) (kind : Kind) (h : ℕ) → s' ≡ loaded s → Stands (tree_as kind s.tree) h → Levels (Shared s.tree.table s'.tree.table) s.tree.table h (root_of (tree_as kind s.tree))
-spans_loaded s s' kind h is stands = subst (λ (v : Sheet). Levels (Shared s.tree.table v.tree.table) s.tree.table h (root_of (tree_as kind s.tree))) (sym is) (shared_self kind s h stands)
+pub spans_loaded : (s s' : Sheet) (gapped : Bool) (h : ℕ) → s' ≡ loaded s → Stands (tree_on gapped s.tree) h → Levels (Shared s.tree.table s'.tree.table) s.tree.table h (root_of (tree_on gapped s.tree))
+spans_loaded s s' gapped h is stands = subst (λ (v : Sheet). Levels (Shared s.tree.table v.tree.table) s.tree.table h (root_of (tree_on gapped s.tree))) (sym is) (shared_self gapped s h stands)
 
-begin_alloc : (s s' : Sheet) (path : List PathStep) (leaf : ℕ) (way : IsWay trees.Alloc s path leaf) → RootIs s Gapped → s' ≡ loaded s → HasMended s s' (path_in s.tree.table s.tree.root way.index) Leaf (length path)
-begin_alloc s s' path leaf way gapped is = elim way.gaps [
-  | inl empty ↦ absurd (no_root s empty gapped)
-  | inr full ↦ (let many = way.steps.many ∙ levels (tree_as trees.Alloc s.tree) full.0 full.1 way.index way.within in record {
+begin_gapped : (s s' : Sheet) (path : List PathStep) (leaf : ℕ) (way : IsWay true s path leaf) → RootIs s Gapped → s' ≡ loaded s → HasMended s s' (path_in s.tree.table s.tree.root way.index) Leaf (length path)
+begin_gapped s s' path leaf way root is = elim way.gaps [
+  | inl empty ↦ absurd (no_root s empty root)
+  | inr full ↦ (let many = way.steps.many ∙ levels (tree_on true s.tree) full.0 full.1 way.index way.within in record {
     index = way.index;
     height = full.0;
     done = 0;
@@ -348,62 +346,62 @@ begin_alloc s s' path leaf way gapped is = elim way.gaps [
     levels_are = omega arith;
     kind_is = refl;
     stood = full.1;
-    stands = subst (λ (v : Sheet). Stands (tree_as trees.Alloc v.tree) full.0) (sym is) full.1;
+    stands = subst (λ (v : Sheet). Stands (tree_on true v.tree) full.0) (sym is) full.1;
     steps = subst (λ (v : Sheet). path_in s.tree.table s.tree.root way.index ≡ path_in v.tree.table v.tree.root way.index) (sym is) refl;
-    mended = subst (λ (v : Sheet). Levels (IsMendedUpTo way.index 0 (tree_as trees.Alloc v.tree)) v.tree.table full.0 (root_of (tree_as trees.Alloc v.tree))) (sym is)
-        (begun_mending way.is_new way.index full.0 (tree_as trees.Alloc s.tree) full.2);
+    mended = subst (λ (v : Sheet). Levels (IsMendedUpTo way.index 0 (tree_on true v.tree)) v.tree.table full.0 (root_of (tree_on true v.tree))) (sym is)
+        (begun_mending way.is_new way.index full.0 (tree_on true s.tree) full.2);
     only = only_loaded s s' is;
     words = words_loaded s s' (path_in s.tree.table s.tree.root way.index) is;
-    spans = spans_loaded s s' trees.Alloc full.0 is full.1;
+    spans = spans_loaded s s' true full.0 is full.1;
     live = way.live;
     none_buried = way.none_buried;
   })
 ]
 
-pub begin_way : (kind : Kind) (s s' : Sheet) (path : List PathStep) (leaf : ℕ) (way : IsWay kind s path leaf) → RootIs s Gapped → s' ≡ loaded s → HasMended s s' (path_in s.tree.table s.tree.root way.index) Leaf (length path)
-begin_way trees.Range s s' path leaf way gapped is = absurd (no_range s path leaf way gapped)
-begin_way trees.Alloc s s' path leaf way gapped is = begin_alloc s s' path leaf way gapped is
+pub begin_way : (gapped : Bool) (s s' : Sheet) (path : List PathStep) (leaf : ℕ) (way : IsWay gapped s path leaf) → RootIs s Gapped → s' ≡ loaded s → HasMended s s' (path_in s.tree.table s.tree.root way.index) Leaf (length path)
+begin_way false s s' path leaf way root is = absurd (no_plain s path leaf way root)
+begin_way true s s' path leaf way root is = begin_gapped s s' path leaf way root is
 
 -- where the root has gaps, the leaf stands below it
-pub two_levels : (kind : Kind) (s : Sheet) (path : List PathStep) (leaf : ℕ) → IsWay kind s path leaf → RootIs s Gapped → 2 ≤ length path
-two_levels trees.Range s path leaf way gapped = absurd (no_range s path leaf way gapped)
-two_levels trees.Alloc s path leaf way gapped = elim way.gaps [
-  | inl empty ↦ absurd (no_root s empty gapped)
-  | inr full ↦ (let many = way.steps.many ∙ levels (tree_as trees.Alloc s.tree) full.0 full.1 way.index way.within in let tall = some_levels full.0 (root_named trees.Alloc s full.0 full.1) in omega arith)
+pub two_levels : (gapped : Bool) (s : Sheet) (path : List PathStep) (leaf : ℕ) → IsWay gapped s path leaf → RootIs s Gapped → 2 ≤ length path
+two_levels false s path leaf way root = absurd (no_plain s path leaf way root)
+two_levels true s path leaf way root = elim way.gaps [
+  | inl empty ↦ absurd (no_root s empty root)
+  | inr full ↦ (let many = way.steps.many ∙ levels (tree_on true s.tree) full.0 full.1 way.index way.within in let tall = some_levels full.0 (root_named true s full.0 full.1) in omega arith)
 ]
   where
-    some_levels : (h : ℕ) → RootIs s (kind_at trees.Alloc h) → 1 ≤ h
-    some_levels zero named = absurd (let both : Some Leaf ≡ Some Gapped = sym named ∙ gapped in cc)
+    some_levels : (h : ℕ) → RootIs s (kind_on true h) → 1 ≤ h
+    some_levels zero named = absurd (let both : Some Leaf ≡ Some Gapped = sym named ∙ root in cc)
     some_levels (suc h) named = omega arith
 
-pub end_way : (kind : Kind) (s s' : Sheet) (path : List PathStep) (leaf : ℕ) (steps : List PathStep) (k : RowKind) (level : ℕ) → IsWay kind s path leaf → RootIs s Gapped → HasMended s s' steps k level → level ≤ 1 → HasGaps (tree_as kind s'.tree)
-end_way trees.Range s s' path leaf steps k level way gapped m last = absurd (no_range s path leaf way gapped)
-end_way trees.Alloc s s' path leaf steps k level way gapped m last =
+pub end_way : (gapped : Bool) (s s' : Sheet) (path : List PathStep) (leaf : ℕ) (steps : List PathStep) (k : RowKind) (level : ℕ) → IsWay gapped s path leaf → RootIs s Gapped → HasMended s s' steps k level → level ≤ 1 → HasGaps (tree_on gapped s'.tree)
+end_way false s s' path leaf steps k level way root m last = absurd (no_plain s path leaf way root)
+end_way true s s' path leaf steps k level way root m last =
     let low = m.low in let levels = m.levels_are in
     let all : m.done ≡ m.height = omega arith in
-    all_mended s'.tree m.index m.height m.stands (subst (λ (n : ℕ). Levels (IsMendedUpTo m.index n (tree_as trees.Alloc s'.tree)) s'.tree.table m.height (root_of (tree_as trees.Alloc s'.tree))) all m.mended)
+    all_mended s'.tree m.index m.height m.stands (subst (λ (n : ℕ). Levels (IsMendedUpTo m.index n (tree_on true s'.tree)) s'.tree.table m.height (root_of (tree_on true s'.tree))) all m.mended)
 
-pub end_spans : (kind : Kind) (s s' : Sheet) (path : List PathStep) (k : RowKind) (level h : ℕ) → HasMended s s' path k level → Stands (tree_as kind s.tree) h → Levels (Shared s.tree.table s'.tree.table) s.tree.table h (root_of (tree_as kind s.tree))
-end_spans kind s s' path k level h m stands =
-    let tall = height_by_depth (tree_as trees.Alloc s.tree) deepest m.height (root_span s.tree.table s.tree.root) m.stood.low m.stood.rows in
-    let tall' = height_by_depth (tree_as kind s.tree) deepest h (root_span s.tree.table s.tree.root) stands.low stands.rows in
+pub end_spans : (gapped : Bool) (s s' : Sheet) (path : List PathStep) (k : RowKind) (level h : ℕ) → HasMended s s' path k level → Stands (tree_on gapped s.tree) h → Levels (Shared s.tree.table s'.tree.table) s.tree.table h (root_of (tree_on gapped s.tree))
+end_spans gapped s s' path k level h m stands =
+    let tall = height_by_depth (tree_on true s.tree) deepest m.height (root_span s.tree.table s.tree.root) m.stood.low m.stood.rows in
+    let tall' = height_by_depth (tree_on gapped s.tree) deepest h (root_span s.tree.table s.tree.root) stands.low stands.rows in
     let same : m.height ≡ h = omega arith in
-    subst (λ (n : ℕ). Levels (Shared s.tree.table s'.tree.table) s.tree.table n (root_of (tree_as kind s.tree))) same m.spans
+    subst (λ (n : ℕ). Levels (Shared s.tree.table s'.tree.table) s.tree.table n (root_of (tree_on gapped s.tree))) same m.spans
 
 -- where the root has no gaps there is nothing to be mended
-pub range_law : (s : Sheet) (h : ℕ) (x : Span) → GapLaw (tree_as trees.Range s.tree) h x
-range_law s zero x = tt
-range_law s (suc h) x = tt
+pub plain_row : (s : Sheet) (h : ℕ) (x : Span) → GapLaw (tree_on false s.tree) h x
+plain_row s zero x = tt
+plain_row s (suc h) x = tt
 
-pub plain_law : (kind : Kind) (s : Sheet) (h : ℕ) → Stands (tree_as kind s.tree) h → (RootIs s Gapped → ⊥) → Levels (GapLaw (tree_as kind s.tree)) s.tree.table h (root_of (tree_as kind s.tree))
-plain_law trees.Range s h stands plain = levels_map (IsRow (tree_as trees.Range s.tree)) (GapLaw (tree_as trees.Range s.tree)) s.tree.table (λ l x row. range_law s l x) h (root_of (tree_as trees.Range s.tree)) stands.rows
-plain_law trees.Alloc s zero stands plain = (tt, tt)
-plain_law trees.Alloc s (suc h) stands plain = absurd (plain (root_named trees.Alloc s (suc h) stands))
+pub plain_law : (gapped : Bool) (s : Sheet) (h : ℕ) → Stands (tree_on gapped s.tree) h → (RootIs s Gapped → ⊥) → Levels (GapLaw (tree_on gapped s.tree)) s.tree.table h (root_of (tree_on gapped s.tree))
+plain_law false s h stands plain = levels_map (IsRow (tree_on false s.tree)) (GapLaw (tree_on false s.tree)) s.tree.table (λ l x row. plain_row s l x) h (root_of (tree_on false s.tree)) stands.rows
+plain_law true s zero stands plain = (tt, tt)
+plain_law true s (suc h) stands plain = absurd (plain (root_named true s (suc h) stands))
 
-pub nothing_to_mend : (kind : Kind) (s s' : Sheet) (path : List PathStep) (leaf : ℕ) → IsWay kind s path leaf → (RootIs s Gapped → ⊥) → s' ≡ loaded s → HasGaps (tree_as kind s'.tree)
-nothing_to_mend kind s s' path leaf way plain is = subst (λ (v : Sheet). HasGaps (tree_as kind v.tree)) (sym is) (elim way.gaps [
+pub nothing_to_mend : (gapped : Bool) (s s' : Sheet) (path : List PathStep) (leaf : ℕ) → IsWay gapped s path leaf → (RootIs s Gapped → ⊥) → s' ≡ loaded s → HasGaps (tree_on gapped s'.tree)
+nothing_to_mend gapped s s' path leaf way plain is = subst (λ (v : Sheet). HasGaps (tree_on gapped v.tree)) (sym is) (elim way.gaps [
   | inl empty ↦ inl empty
-  | inr full ↦ inr (full.0, full.1, plain_law kind s full.0 full.1 plain)
+  | inr full ↦ inr (full.0, full.1, plain_law gapped s full.0 full.1 plain)
 ])
 
 -- ---- by the number of rows that are left
@@ -412,7 +410,7 @@ module _ (s s' : Sheet) (path : List PathStep) (kind : RowKind) (level : ℕ) (m
   pub level_low : level ≤ length path
   level_low =
       let width : s'.tree.table.width ≡ s.tree.table.width = ap (λ (v : Sheet). v.tree.table.width) m.only in
-      let many = ap length m.steps ∙ levels (tree_as trees.Alloc s'.tree) m.height m.stands m.index (subst (λ (w : Width). m.index ≤ greatest w) (sym width) m.within) in
+      let many = ap length m.steps ∙ levels (tree_on true s'.tree) m.height m.stands m.index (subst (λ (w : Width). m.index ≤ greatest w) (sym width) m.within) in
       let levels = m.levels_are in
       omega arith
 

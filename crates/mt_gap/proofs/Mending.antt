@@ -3,7 +3,6 @@ use Rattle.std.proofs.Common.{◌≡◌, ◌≢◌, ℕ, zero, suc, ◌+◌, ◌
 use Rattle.std.specs.Prelude.{◌⊎◌}
 use Rattle.std.specs.List.{AllByRecursion}
 use Rattle.std.proofs.lemmas.Bool.{cases_Bool, cases_eq, leb-false, leb-true}
-use Rattle.mt_base.specs.declared.kinds.Kind.TheVariants as trees
 use Rattle.mt_layout.specs.declared.names.RowKind.TheVariants.{Gapped}
 use Rattle.mt_layout.specs.declared.spans.Span.{Span}
 use Rattle.mt_layout.specs.Columns.{gap_column}
@@ -16,9 +15,9 @@ use Rattle.mt_path.specs.declared.paths.PathStep.{PathStep}
 use Rattle.mt_path.specs.Paths.{step_in, slot_for}
 use Rattle.mt_path.proofs.TreePaths.{rows_at, row_of, step_of, step, place, lawful, child, slot_used, rows_fill}
 use Rattle.mt_rows.specs.Gaps.{covers, GapsFromBut, KeepsGaps, HasGaps}
-use Rattle.mt_rows.specs.Laws.{Tree, HasWords, IsRow, Stands, GapLaw, GapsFrom, kind_at, longest_below, top_of}
+use Rattle.mt_rows.specs.Laws.{Tree, HasWords, IsRow, Stands, GapLaw, GapsFrom, kind_on, longest_below, top_of}
 use Rattle.mt_rows.specs.Levels.{expand, level, Levels}
-use Rattle.mt_rows.specs.Publish.{tree_as}
+use Rattle.mt_rows.specs.Publish.{tree_on}
 use Rattle.mt_rows.specs.Replacement.{root_of}
 use Rattle.mt_rows.specs.Sheet.{Rooted, with_word}
 use Rattle.mt_rows.specs.Spans.{Table, column, spans_in, spans_by}
@@ -43,7 +42,7 @@ gaps_tell : (t : Table) (h : ℕ) (xs : List Child) → AllByRecursion (GapIs t 
 gaps_tell t h [] gaps = sym (longest_none t h)
 gaps_tell t h (x ∷ xs) gaps = (λ i. max (gaps.0 i) (gaps_tell t h xs gaps.1 i)) ∙ sym (longest_below-append t h (x.span ∷ []) (spans xs))
 
-pub child_tells : (r : Rooted) (k index : ℕ) (c : Span) → IsRow (tree_as trees.Alloc r) k c → GapLaw (tree_as trees.Alloc r) k c → told_by (kind_at trees.Alloc k) r.table (step_in r.table c index) ≡ longest_below r.table k (c ∷ [])
+pub child_tells : (r : Rooted) (k index : ℕ) (c : Span) → IsRow (tree_on true r) k c → GapLaw (tree_on true r) k c → told_by (kind_on true k) r.table (step_in r.table c index) ≡ longest_below r.table k (c ∷ [])
 child_tells r zero index c row law =
     subst (λ (l : List Span). longest_in l ≡ longest_in (spans_in r.table c ++ [])) (ap (λ k. spans_by r.table k c) row.name.named) (ap longest_in (sym (append-nil (spans_in r.table c))))
 child_tells r (suc k) index c row law =
@@ -106,14 +105,14 @@ begun_mending is_new index h t rows = levels_map (KeepsGaps is_new index t) (IsM
     at_leaf zero y low = tt
     at_leaf (suc l) y low = absurd (omega arith)
 
-pub all_mended : (r : Rooted) (index h : ℕ) → Stands (tree_as trees.Alloc r) h → Levels (IsMendedUpTo index h (tree_as trees.Alloc r)) r.table h (root_of (tree_as trees.Alloc r)) → HasGaps (tree_as trees.Alloc r)
-all_mended r index h stands rows = inr (h, stands, levels_from (GapLaw (tree_as trees.Alloc r)) r.table h (root_of (tree_as trees.Alloc r)) h 0 (omega arith) (λ l y low on. law l y low on))
+pub all_mended : (r : Rooted) (index h : ℕ) → Stands (tree_on true r) h → Levels (IsMendedUpTo index h (tree_on true r)) r.table h (root_of (tree_on true r)) → HasGaps (tree_on true r)
+all_mended r index h stands rows = inr (h, stands, levels_from (GapLaw (tree_on true r)) r.table h (root_of (tree_on true r)) h 0 (omega arith) (λ l y low on. law l y low on))
   where
-    law : (l : ℕ) (y : Span) → l ≤ h → OnLevel r.table h (root_of (tree_as trees.Alloc r)) l y → GapLaw (tree_as trees.Alloc r) l y
+    law : (l : ℕ) (y : Span) → l ≤ h → OnLevel r.table h (root_of (tree_on true r)) l y → GapLaw (tree_on true r) l y
     law zero y low on = tt
     law (suc l) y low on =
-        let mended = levels_at (IsMendedUpTo index h (tree_as trees.Alloc r)) r.table h (suc l) (root_of (tree_as trees.Alloc r)) y rows on in
-        let row = on_level_law (tree_as trees.Alloc r) h stands (suc l) y on in
+        let mended = levels_at (IsMendedUpTo index h (tree_on true r)) r.table h (suc l) (root_of (tree_on true r)) y rows on in
+        let row = on_level_law (tree_on true r) h stands (suc l) y on in
         elim (cases_Bool (covers index y)) [
           | inl over ↦ mended.done_there over low
           | inr beside ↦ law_beside r.table l index (row_in y.word) y.first (y.last + 1) (spans_in r.table y) row.pivots.fills (covers_not index y beside) mended.beside
@@ -121,9 +120,9 @@ all_mended r index h stands rows = inr (h, stands, levels_from (GapLaw (tree_as 
 
 -- ---- one row more
 
-module _ (r : Rooted) (h : ℕ) (has : HasWords (tree_as trees.Alloc r)) (stands : Stands (tree_as trees.Alloc r) h) (index d k : ℕ) (within : index ≤ top_of (tree_as trees.Alloc r)) (high : h ≡ d + suc k) where
+module _ (r : Rooted) (h : ℕ) (has : HasWords (tree_on true r)) (stands : Stands (tree_on true r) h) (index d k : ℕ) (within : index ≤ top_of (tree_on true r)) (high : h ≡ d + suc k) where
   abbrev t : Tree
-  t = tree_as trees.Alloc r
+  t = tree_on true r
 
   abbrev x : Span
   x = row_of t d index
@@ -154,9 +153,9 @@ module _ (r : Rooted) (h : ℕ) (has : HasWords (tree_as trees.Alloc r)) (stands
 
   module _ (mended : Levels (IsMendedUpTo index k t) r.table h (root_of t)) where
     -- what is told is the longest hole below the slot
-    pub told : told_by (kind_at trees.Alloc k) r.table (step_of t (suc d) index) ≡ longest_below r.table k (below_x ∷ [])
+    pub told : told_by (kind_on true k) r.table (step_of t (suc d) index) ≡ longest_below r.table k (below_x ∷ [])
     told =
-        ap (told_by (kind_at trees.Alloc k) r.table) (step t h stands index (suc d) within (omega arith))
+        ap (told_by (kind_on true k) r.table) (step t h stands index (suc d) within (omega arith))
         ∙ child_tells r k index below_x (lawful t h stands index (suc d) k within (omega arith))
         ((levels_at (IsMendedUpTo index k t) r.table h k (root_of t) below_x mended child_on).done_there (covers_it index below_x child_over.0 child_over.1) (omega arith))
 
@@ -165,7 +164,7 @@ module _ (r : Rooted) (h : ℕ) (has : HasWords (tree_as trees.Alloc r)) (stands
       r' = with_word r (row_in x.word) (gap_column (slots_of r.table.width Gapped) slot) gap
 
       abbrev t' : Tree
-      t' = tree_as trees.Alloc r'
+      t' = tree_on true r'
 
       x_row : IsRow t (suc k) x
       x_row = on_level_law t h stands (suc k) x on

@@ -4,8 +4,7 @@ use Rattle.std.specs.List.{AllByRecursion, flat_map}
 use Rattle.std.proofs.lemmas.Bool.{cases_Bool}
 use Rattle.std.proofs.lemmas.List.{take_more}
 use Rattle.mt_base.specs.declared.kinds.Kind.{Kind}
-use Rattle.mt_base.specs.declared.kinds.Kind.TheVariants as trees
-use Rattle.mt_base.specs.Holes.{low, lowest_in}
+use Rattle.mt_base.specs.Holes.{low_to, lowest_in}
 use Rattle.mt_base.specs.Width.{columns, deepest, greatest}
 use Rattle.mt_layout.specs.declared.names.RowKind.{RowKind}
 use Rattle.mt_layout.specs.declared.names.RowKind.TheVariants.{Leaf, Gapped}
@@ -14,7 +13,7 @@ use Rattle.mt_layout.specs.Rows.{row_in, named_kind}
 use Rattle.mt_layout.specs.Spans.{Fills}
 use Rattle.mt_layout.proofs.Places.{one_row_more}
 use Rattle.mt_rows.specs.Laws.{Tree, IsRow, Stands, top_of}
-use Rattle.mt_rows.specs.Publish.{tree_as, IsTreeOf, IsLawfulOf, map_by}
+use Rattle.mt_rows.specs.Publish.{tree_on, IsTreeOf, map_by}
 use Rattle.mt_rows.specs.Sheet.{Rooted, Sheet, ReadsUpTo, loaded}
 use Rattle.mt_rows.specs.Spans.{root_span, spans_in}
 use Rattle.mt_rows.specs.Trees.{height_in}
@@ -38,12 +37,12 @@ use Rattle.mt_gap.specs.declared.ways.Below.TheVariants as below_row
 use Rattle.mt_gap.specs.declared.windows.Window.{Window}
 use Rattle.mt_gap.specs.Below.{holes_below, leaf_hole, child_hole}
 use Rattle.mt_gap.specs.Children.{children_in, children_by, children_below, row_children, root_child, spans}
-use Rattle.mt_gap.specs.Descents.{MayLoad, picked, place_in, Asks, AreLeaves}
+use Rattle.mt_gap.specs.Descents.{IsGapped, MayLoad, picked, place_in, Asks, AreLeaves}
 use Rattle.mt_gap.specs.Narrow.{may_have, narrow, has_sure}
 use Rattle.mt_gap.specs.Ways.{one_more, with_room, StandsIn, AreAsked, IsBelow, LeadsTo, EndsInLeaf, IsAreaAt}
 use Rattle.mt_gap.proofs.Asking.{ask_on, ask_stops, one_asked}
 use Rattle.mt_gap.proofs.ChildLists.{spans-append, spans_of_row, holes_of_children}
-use Rattle.mt_gap.proofs.Descents.{asks_root, come_root, low_empty, low_next, leaves_have, row_may_load}
+use Rattle.mt_gap.proofs.Descents.{asks_root, come_root, gapped_words, low_empty, low_next, leaves_have, row_may_load}
 use Rattle.mt_gap.proofs.Kept.{Between, leaf_between, holes_between, lowest_between}
 
 -- ---- in a row
@@ -116,9 +115,9 @@ seen_all w b before all seen same = subst (λ (l : List Child). IsBelow w l b) s
 
 -- ---- from level to level
 
-module _ (t : Rooted) (h : ℕ) (stands : Stands (tree_as trees.Alloc t) h) where
+module _ (t : Rooted) (h : ℕ) (stands : Stands (tree_on true t) h) where
   abbrev tree : Tree
-  tree = tree_as trees.Alloc t
+  tree = tree_on true t
 
   abbrev to : ℕ → List PathStep
   to index = path_in t.table t.root index
@@ -205,15 +204,15 @@ module _ (t : Rooted) (h : ℕ) (stands : Stands (tree_as trees.Alloc t) h) wher
 pub record GoesOn (s s' : Sheet) (w : Window) (level : ℕ) (path : List PathStep) (x : Span) : Type 0 where
   pub child : Child
   pub is : child.span ≡ x
-  pub asks : Asks (tree_as trees.Alloc s.tree) lowest_in w (place_in lowest_in w s.tree) level (child ∷ [])
+  pub asks : Asks (tree_on true s.tree) lowest_in w (place_in lowest_in w s.tree) level (child ∷ [])
   pub leads : LeadsTo s.tree path x
   pub long : length path ≡ level
   pub reads : ReadsUpTo (columns s.tree.table.width * level) s s'
 
-standing : (t : Rooted) → IsLawfulOf t trees.Alloc → t.root ≢ 0 → (h : ℕ) × Stands (tree_as trees.Alloc t) h
-standing t tree some = elim tree.words [ inl empty ↦ absurd (some empty) | inr full ↦ (full.0, full.1) ]
+standing : (t : Rooted) → IsGapped t → t.root ≢ 0 → (h : ℕ) × Stands (tree_on true t) h
+standing t tree some = elim (gapped_words t tree) [ inl empty ↦ absurd (some empty) | inr full ↦ (full.0, full.1) ]
 
-pub goes_root : (s : Sheet) (w : Window) (path : List PathStep) (x : Span) → IsLawfulOf s.tree trees.Alloc → s.tree.root ≢ 0 → x ≡ root_span s.tree.table s.tree.root → path ≡ [] → GoesOn s s w 0 path x
+pub goes_root : (s : Sheet) (w : Window) (path : List PathStep) (x : Span) → IsGapped s.tree → s.tree.root ≢ 0 → x ≡ root_span s.tree.table s.tree.root → path ≡ [] → GoesOn s s w 0 path x
 goes_root s w path x tree some is none =
     let full = standing s.tree tree some in
     record {
@@ -225,9 +224,9 @@ goes_root s w path x tree some is none =
       reads = reads_up 0 (columns s.tree.table.width * 0) s s (omega arith) (no_reads s);
     }
 
-module _ (s s' : Sheet) (w : Window) (size : 1 ≤ w.size) (tree : IsLawfulOf s.tree trees.Alloc) (some : s.tree.root ≢ 0) (level : ℕ) (path : List PathStep) (x : Span) (goes : GoesOn s s' w level path x) where
+module _ (s s' : Sheet) (w : Window) (size : 1 ≤ w.size) (tree : IsGapped s.tree) (some : s.tree.root ≢ 0) (level : ℕ) (path : List PathStep) (x : Span) (goes : GoesOn s s' w level path x) where
   abbrev whole : Tree
-  whole = tree_as trees.Alloc s.tree
+  whole = tree_on true s.tree
 
   abbrev answer : Option ℕ
   answer = place_in lowest_in w s.tree
@@ -239,7 +238,7 @@ module _ (s s' : Sheet) (w : Window) (size : 1 ≤ w.size) (tree : IsLawfulOf s.
   row_here = subst (IsRow whole goes.asks.left) goes.is (levels_here (IsRow whole) s.tree.table goes.asks.left (goes.child.span ∷ []) goes.asks.rows).0
 
   pub may_load_it : MayLoad s'.tree x
-  may_load_it = subst (λ (t : Rooted). MayLoad t x) (sym same_tree) (row_may_load trees.Alloc s.tree goes.asks.left x row_here)
+  may_load_it = subst (λ (t : Rooted). MayLoad t x) (sym same_tree) (row_may_load true s.tree goes.asks.left x row_here)
 
   pub shallow : length path < deepest
   shallow = let low = goes.asks.low in let long = goes.long in omega arith
@@ -265,7 +264,7 @@ module _ (s s' : Sheet) (w : Window) (size : 1 ≤ w.size) (tree : IsLawfulOf s.
       record {
         leads = goes.leads;
         is_leaf = leaf;
-        row = row_may_load trees.Alloc s.tree goes.asks.left x row_here;
+        row = row_may_load true s.tree goes.asks.left x row_here;
         fills = row_here.pivots.fills;
         found = ap (λ (l : List Child). picked lowest_in w (flat_map child_hole l)) (ap (children_in s.tree.table) (sym goes.is) ∙ sym (append-nil (children_in s.tree.table goes.child.span)))
             ∙ leaves_have whole lowest_in w answer goes.asks.left (goes.child ∷ []) (ap (λ (y : Span). named_kind y.word) goes.is ∙ leaf) goes.asks.rows goes.asks.found;
@@ -337,11 +336,8 @@ module _ (s s' : Sheet) (w : Window) (size : 1 ≤ w.size) (tree : IsLawfulOf s.
 
 -- ---- the place
 
-is_tree : (t : Rooted) → IsLawfulOf t trees.Alloc → IsTreeOf t trees.Alloc
-is_tree t lawful = record { width = lawful.width; words = elim lawful.words [ inl empty ↦ inl empty | inr full ↦ inr (full.0, full.1) ] }
-
-pub some_kind : (t : Rooted) → IsLawfulOf t trees.Alloc → (kind : Kind) × IsTreeOf t kind
-some_kind t lawful = (trees.Alloc, is_tree t lawful)
+pub some_kind : (t : Rooted) → IsGapped t → (kind : Kind) × IsTreeOf t kind
+some_kind t tree = (tree.kind, record { width = tree.lawful.width; words = elim tree.lawful.words [ inl empty ↦ inl empty | inr full ↦ inr (full.0, full.1) ] })
 
 module _ (t : Rooted) (w : Window) (path : List PathStep) (leaf : Span) (ends : EndsInLeaf t w path leaf) (size : 1 ≤ w.size) (start : ℕ) (is : Some start ≡ picked lowest_in w (flat_map child_hole (children_in t.table leaf))) where
   in_leaf : (leaf.first ≤ start) × (start < leaf.last + 1)
@@ -369,15 +365,15 @@ module _ (t : Rooted) (w : Window) (path : List PathStep) (leaf : Span) (ends : 
   }
 
 -- every place lies in the tree
-pub low_within : (t : Rooted) (n lo hi start : ℕ) → IsLawfulOf t trees.Alloc → 1 ≤ n → Some start ≡ low trees.Alloc (map_by t) n lo hi → start ≤ greatest t.table.width
-low_within t n lo hi start lawful some is = elim (cases_root t.root) [
+pub low_within : (t : Rooted) (n lo hi start : ℕ) → IsGapped t → 1 ≤ n → Some start ≡ low_to (greatest t.table.width) (map_by t) n lo hi → start ≤ greatest t.table.width
+low_within t n lo hi start tree some is = elim (cases_root t.root) [
   | inl empty ↦ (
       let hole : AllByRecursion (Between 0 (greatest t.table.width + 1)) (flat_map child_hole (record { span = record { first = 0; last = greatest t.table.width; word = 0 }; gap = 0 } ∷ [])) = ((omega arith, omega arith, omega arith), tt) in
-      let found = lowest_between n lo hi 0 (greatest t.table.width + 1) start (flat_map child_hole (record { span = record { first = 0; last = greatest t.table.width; word = 0 }; gap = 0 } ∷ [])) some hole (low_empty t (record { size = n; lo = lo; hi = hi }) lawful empty ∙ sym is) in
+      let found = lowest_between n lo hi 0 (greatest t.table.width + 1) start (flat_map child_hole (record { span = record { first = 0; last = greatest t.table.width; word = 0 }; gap = 0 } ∷ [])) some hole (low_empty t (record { size = n; lo = lo; hi = hi }) empty ∙ sym is) in
       let high = found.1 in omega arith)
   | inr more ↦ (
-      let asks = asks_root t lawful more (record { size = n; lo = lo; hi = hi }) lowest_in in
-      let found = lowest_between n lo hi 0 (greatest t.table.width + 1) start (holes_below t.table asks.left (root_span t.table t.root ∷ [])) some (holes_between (tree_as trees.Alloc t) asks.left 0 (greatest t.table.width + 1) (root_span t.table t.root ∷ []) asks.rows (refl, omega arith, refl)) (asks.found ∙ sym is) in
+      let asks = asks_root t tree more (record { size = n; lo = lo; hi = hi }) lowest_in in
+      let found = lowest_between n lo hi 0 (greatest t.table.width + 1) start (holes_below t.table asks.left (root_span t.table t.root ∷ [])) some (holes_between (tree_on true t) asks.left 0 (greatest t.table.width + 1) (root_span t.table t.root ∷ []) asks.rows (refl, omega arith, refl)) (asks.found ∙ sym is) in
       let high = found.1 in omega arith)
 ]
   where
@@ -412,7 +408,7 @@ module _ (s s₀ s₁ : Sheet) (load : s₀ ≡ loaded s) (one_way : ReadsUpTo (
   pub few_nowhere : ReadsUpTo (2 * (3 * h * c + 1)) s s₁
   few_nowhere = let all = triple h c in reads_up (1 + h * c) (2 * (3 * h * c + 1)) s s₁ (omega (arith, all)) way_reads
 
-  pub few_leaf : IsLawfulOf s.tree trees.Alloc → s.tree.root ≢ 0 → (s₂ : Sheet) → ReadsUpTo (columns s₁.tree.table.width) s₁ s₂ → ReadsUpTo (2 * (3 * h * c + 1)) s s₂
+  pub few_leaf : IsGapped s.tree → s.tree.root ≢ 0 → (s₂ : Sheet) → ReadsUpTo (columns s₁.tree.table.width) s₁ s₂ → ReadsUpTo (2 * (3 * h * c + 1)) s s₂
   few_leaf tree some s₂ reads =
       let asks = asks_root s.tree tree some (record { size = 1; lo = 0; hi = 0 }) lowest_in in
       let tall = asks.height in

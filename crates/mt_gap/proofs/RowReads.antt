@@ -29,7 +29,7 @@ pub record AreRead (s t : Sheet) (kind : RowKind) (row first max slot begin : �
   pub reads : ReadsUpTo (loads_for kind * slot) s t
   pub parts : before ++ unread s.tree kind row max slot begin ≡ row_children s.tree.table row kind first max
   pub count : length before ≡ slot
-  pub slots : slots_of s.tree.table.width kind ≤ 16
+  pub slots : slots_of s.tree.table.width kind ≤ 32
 
 -- the same, and this holds of them
 pub record IsReadTo (P : List Child → Type 0) (s t : Sheet) (kind : RowKind) (row first max slot begin : ℕ) : Type 0 where

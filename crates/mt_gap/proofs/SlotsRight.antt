@@ -1,8 +1,7 @@
 -- A gap word that is stored in a slot of a row of a tree makes that slot right, and leaves all others as they were.
-use Rattle.std.proofs.Common.{◌≡◌, ◌≢◌, ℕ, zero, suc, ◌+◌, ◌<◌, List, [], ◌∷◌, length, refl, sym, ap, ◌∙◌, subst, ⊎_elim, inl, inr, arith}
+use Rattle.std.proofs.Common.{◌≡◌, ◌≢◌, ℕ, zero, suc, ◌+◌, ◌<◌, true, List, [], ◌∷◌, length, refl, sym, ap, ◌∙◌, subst, ⊎_elim, inl, inr, arith}
 use Rattle.std.specs.Prelude.{◌⊎◌}
 use Rattle.std.proofs.lemmas.Bool.{cases_eq}
-use Rattle.mt_base.specs.declared.kinds.Kind.TheVariants as trees
 use Rattle.mt_layout.specs.declared.names.RowKind.TheVariants.{Gapped}
 use Rattle.mt_layout.specs.declared.spans.Span.{Span}
 use Rattle.mt_layout.specs.Columns.{gap_column}
@@ -12,7 +11,7 @@ use Rattle.mt_layout.proofs.RowSizes.{gap_within}
 use Rattle.mt_path.specs.Paths.{span_at}
 use Rattle.mt_rows.specs.Laws.{Tree, HasWords, IsRow, Stands, GapLaw, GapsFrom, longest_below}
 use Rattle.mt_rows.specs.Levels.{Levels}
-use Rattle.mt_rows.specs.Publish.{tree_as}
+use Rattle.mt_rows.specs.Publish.{tree_on}
 use Rattle.mt_rows.specs.Replacement.{root_of}
 use Rattle.mt_rows.specs.Sheet.{Rooted, with_word}
 use Rattle.mt_rows.specs.Spans.{Table, column, spans_in}
@@ -56,30 +55,30 @@ law_of_slots t h row first (x ∷ xs) each = (
       ap (λ n. column t row (gap_column (slots_of t.width Gapped) n)) (sym at) ∙ each (suc i) (omega arith))),
 )
 
-pub are_right : (done : ℕ → Span → ℕ → Type 0) (r : Rooted) (h : ℕ) (x : Span) → GapLaw (tree_as trees.Alloc r) h x → AreRight done (tree_as trees.Alloc r) h x
+pub are_right : (done : ℕ → Span → ℕ → Type 0) (r : Rooted) (h : ℕ) (x : Span) → GapLaw (tree_on true r) h x → AreRight done (tree_on true r) h x
 are_right done r zero x law i within is = tt
 are_right done r (suc h) x law i within is =
     let at : 0 + i ≡ i = omega arith in
     ap (λ n. column r.table (row_in x.word) (gap_column (slots_of r.table.width Gapped) n)) (sym at) ∙ slots_of_law r.table h (row_in x.word) 0 (spans_in r.table x) law i within
 
-pub law_of_right : (done : ℕ → Span → ℕ → Type 0) (r : Rooted) (h : ℕ) (x : Span) → AreRight done (tree_as trees.Alloc r) h x → ((i : ℕ) → i < length (spans_in r.table x) → done h x i)
-    → GapLaw (tree_as trees.Alloc r) h x
+pub law_of_right : (done : ℕ → Span → ℕ → Type 0) (r : Rooted) (h : ℕ) (x : Span) → AreRight done (tree_on true r) h x → ((i : ℕ) → i < length (spans_in r.table x) → done h x i)
+    → GapLaw (tree_on true r) h x
 law_of_right done r zero x right all = tt
 law_of_right done r (suc h) x right all = law_of_slots r.table h (row_in x.word) 0 (spans_in r.table x) (λ i within. (let at : 0 + i ≡ i = omega arith in
     ap (λ n. column r.table (row_in x.word) (gap_column (slots_of r.table.width Gapped) n)) at ∙ right i within (all i within)))
 
 -- ---- one slot more
 
-module _ (r : Rooted) (h k slot gap : ℕ) (x : Span) (has : HasWords (tree_as trees.Alloc r)) (stands : Stands (tree_as trees.Alloc r) h) (on : OnLevel r.table h (root_of (tree_as trees.Alloc r)) (suc k) x)
+module _ (r : Rooted) (h k slot gap : ℕ) (x : Span) (has : HasWords (tree_on true r)) (stands : Stands (tree_on true r) h) (on : OnLevel r.table h (root_of (tree_on true r)) (suc k) x)
     (used : slot < length (spans_in r.table x)) (is : gap ≡ longest_below r.table k (span_at (spans_in r.table x) slot ∷ [])) where
   abbrev t : Tree
-  t = tree_as trees.Alloc r
+  t = tree_on true r
 
   abbrev r' : Rooted
   r' = with_word r (row_in x.word) (gap_column (slots_of r.table.width Gapped) slot) gap
 
   abbrev t' : Tree
-  t' = tree_as trees.Alloc r'
+  t' = tree_on true r'
 
   shared : Levels (Shared r.table r'.table) r.table h (root_of t)
   shared = all_spans_stay r h k slot gap x has stands on used

@@ -1,17 +1,18 @@
 -- How far a search has come: the rows of a level that it goes into, what is found below them, and what they cost.
 -- Source: this project's own.
-use Rattle.std.specs.Prelude.{◌≡◌, ℕ, ◌+◌, ◌*◌, ◌<◌, ◌≤◌, All, List, [], ◌∷◌, Option, Some, length}
+use Rattle.std.specs.Prelude.{◌≡◌, ℕ, ◌+◌, ◌*◌, ◌<◌, ◌≤◌, true, All, List, [], ◌∷◌, Option, Some, length}
 use Rattle.std.specs.List.{flat_map}
-use Rattle.mt_base.specs.Holes.{Hole, kept, holes}
-use Rattle.mt_base.specs.declared.kinds.Kind.TheVariants as trees
-use Rattle.mt_base.specs.Width.{columns, deepest}
+use Rattle.mt_base.specs.declared.kinds.Kind.{Kind}
+use Rattle.mt_base.specs.Call.{finds_room}
+use Rattle.mt_base.specs.Holes.{Hole, kept, holes_to}
+use Rattle.mt_base.specs.Width.{columns, deepest, greatest}
 use Rattle.mt_layout.specs.declared.names.RowKind.{RowKind}
 use Rattle.mt_layout.specs.declared.names.RowKind.TheVariants.{Leaf}
 use Rattle.mt_layout.specs.declared.spans.Span.{Span}
 use Rattle.mt_layout.specs.Rows.{row_in, named_kind}
 use Rattle.mt_rows.specs.Levels.{Levels}
 use Rattle.mt_rows.specs.Laws.{Tree, IsRow, IsTended}
-use Rattle.mt_rows.specs.Publish.{map_by}
+use Rattle.mt_rows.specs.Publish.{IsLawfulOf, map_by}
 use Rattle.mt_rows.specs.Sheet.{Sheet, Rooted, IsPlace, ReadsUpTo}
 use Rattle.mt_rows.specs.Trees.{height_in}
 use Rattle.mt_gap.specs.declared.children.Child.{Child}
@@ -19,6 +20,12 @@ use Rattle.mt_gap.specs.declared.windows.Window.{Window}
 use Rattle.mt_gap.specs.Below.{holes_below, child_hole}
 use Rattle.mt_gap.specs.Children.{spans, children_below}
 use Rattle.mt_gap.specs.Narrow.{Rising}
+
+-- a tree whose holes are searched, and which keeps all laws
+pub record IsGapped (t : Rooted) : Type 0 where
+  pub kind : Kind
+  pub room : finds_room kind ≡ true
+  pub lawful : IsLawfulOf t kind
 
 -- what the span names, if it is a row, is a row of the table
 abbrev pub MayLoad : Rooted → Span → Type 0
@@ -30,7 +37,7 @@ picked pick w xs = pick (kept w.size w.lo w.hi xs)
 
 -- where a search that picks so finds room in a tree
 unfoldable pub place_in : (List Hole → Option ℕ) → Window → Rooted → Option ℕ
-place_in pick w t = picked pick w (holes trees.Alloc (map_by t))
+place_in pick w t = picked pick w (holes_to (greatest t.table.width) (map_by t))
 
 -- The rows that are asked so many levels below the root, and the answer that is found below them.
 pub record Asks (t : Tree) (pick : List Hole → Option ℕ) (w : Window) (answer : Option ℕ) (level : ℕ) (asked : List Child) : Type 0 where

@@ -1,8 +1,7 @@
 -- How far the gap words of a path's rows are mended: those of the rows up to a height, and of the next row some from the left.
 -- Source: this project's own.
-use Rattle.std.specs.Prelude.{◌≡◌, ◌⊎◌, ℕ, zero, suc, ◌+◌, ◌<◌, ◌≤◌, false, List, [], ◌∷◌, length}
+use Rattle.std.specs.Prelude.{◌≡◌, ◌⊎◌, ℕ, zero, suc, ◌+◌, ◌<◌, ◌≤◌, true, false, List, [], ◌∷◌, length}
 use Rattle.std.specs.List.{AllByRecursion}
-use Rattle.mt_base.specs.declared.kinds.Kind.TheVariants as trees
 use Rattle.mt_base.specs.Width.{greatest}
 use Rattle.mt_layout.specs.declared.names.RowKind.{RowKind}
 use Rattle.mt_layout.specs.declared.names.RowKind.TheVariants.{Gapped}
@@ -13,9 +12,9 @@ use Rattle.mt_layout.specs.Sizes.{slots_of}
 use Rattle.mt_path.specs.declared.paths.PathStep.{PathStep}
 use Rattle.mt_path.specs.Paths.{span_at, path_in}
 use Rattle.mt_rows.specs.Gaps.{covers}
-use Rattle.mt_rows.specs.Laws.{Tree, Stands, longest_below, kind_at}
+use Rattle.mt_rows.specs.Laws.{Tree, Stands, longest_below, kind_on}
 use Rattle.mt_rows.specs.Levels.{Levels, SameSpans}
-use Rattle.mt_rows.specs.Publish.{tree_as}
+use Rattle.mt_rows.specs.Publish.{tree_on}
 use Rattle.mt_rows.specs.Replacement.{root_of}
 use Rattle.mt_rows.specs.Sheet.{Sheet}
 use Rattle.mt_rows.specs.Spans.{column, spans_in}
@@ -44,12 +43,12 @@ pub record HasMendedRows (before s : Sheet) (path : List PathStep) (kind : RowKi
   pub within : index ≤ greatest before.tree.table.width
   pub low : 1 ≤ left
   pub levels_are : done + left ≡ height + 1
-  pub kind_is : kind ≡ kind_at trees.Alloc done
-  pub stood : Stands (tree_as trees.Alloc before.tree) height
-  pub stands : Stands (tree_as trees.Alloc s.tree) height
+  pub kind_is : kind ≡ kind_on true done
+  pub stood : Stands (tree_on true before.tree) height
+  pub stands : Stands (tree_on true s.tree) height
   pub steps : path ≡ path_in s.tree.table s.tree.root index
-  pub right : Levels (AreRight (IsDone index done slots) (tree_as trees.Alloc s.tree)) s.tree.table height (root_of (tree_as trees.Alloc s.tree))
+  pub right : Levels (AreRight (IsDone index done slots) (tree_on true s.tree)) s.tree.table height (root_of (tree_on true s.tree))
   pub only : OnlyWords before s
   pub words : KeepsOtherWords before.tree s.tree path
-  pub spans : Levels (λ (_ : ℕ) (x : Span). SameSpans before.tree.table s.tree.table x) before.tree.table height (root_of (tree_as trees.Alloc before.tree))
+  pub spans : Levels (λ (_ : ℕ) (x : Span). SameSpans before.tree.table s.tree.table x) before.tree.table height (root_of (tree_on true before.tree))
   pub kept : AllByRecursion (IsKept before) path

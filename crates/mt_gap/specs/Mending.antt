@@ -2,7 +2,6 @@
 -- Source: the kernel's lib/maple_tree.c, mas_parent_gap and mas_update_gap.
 use Rattle.std.specs.Prelude.{◌≡◌, ◌⊎◌, ℕ, zero, suc, ◌+◌, ◌^◌, ◌<◌, ◌≤◌, Bool, true, false, List, [], ◌∷◌, length, max}
 use Rattle.std.specs.List.{AllByRecursion}
-use Rattle.mt_base.specs.declared.kinds.Kind.{Kind}
 use Rattle.mt_base.specs.Width.{columns, greatest}
 use Rattle.mt_layout.specs.declared.names.RowKind.{RowKind}
 use Rattle.mt_layout.specs.declared.names.RowKind.TheVariants.{Leaf, Inner, Gapped}
@@ -16,7 +15,7 @@ use Rattle.mt_path.specs.Handles.{leaf_in, leaf_spans}
 use Rattle.mt_rows.specs.Gaps.{covers, GapLawBut, HasGapsBut}
 use Rattle.mt_rows.specs.Laws.{Tree, Stands, GapLaw}
 use Rattle.mt_rows.specs.Levels.{Levels}
-use Rattle.mt_rows.specs.Publish.{tree_as, LiveAreReached, NoneBuried}
+use Rattle.mt_rows.specs.Publish.{tree_on, LiveAreReached, NoneBuried}
 use Rattle.mt_rows.specs.Replacement.{root_of}
 use Rattle.mt_rows.specs.Spans.{Table, row_spans}
 use Rattle.mt_rows.specs.Sheet.{Sheet, Rooted, IsPlace, MayTend, life_of, is_buried, word_at, with_word}
@@ -69,19 +68,19 @@ pub record IsAlong (path : List PathStep) (leaf : ℕ) (way : List PathStep) : T
 
 -- A way on which gap words are mended, to this leaf: the law of gaps may fail in the slots on the way to an index alone, the rows
 -- that are reached are live, and none is buried.
-pub record IsWay (kind : Kind) (s : Sheet) (path : List PathStep) (leaf : ℕ) : Type 0 where
+pub record IsWay (gapped : Bool) (s : Sheet) (path : List PathStep) (leaf : ℕ) : Type 0 where
   pub is_new : ℕ → Bool
   pub index : ℕ
   pub within : index ≤ greatest s.tree.table.width
-  pub gaps : HasGapsBut is_new index (tree_as kind s.tree)
+  pub gaps : HasGapsBut is_new index (tree_on gapped s.tree)
   pub steps : IsAlong path leaf (path_in s.tree.table s.tree.root index)
   pub live : LiveAreReached s.tree s.lives
   pub none_buried : NoneBuried s.tree.rows s.buried
 
 -- The same, where it is told how long the longest hole of that leaf is.
-pub record IsToldWay (kind : Kind) (s : Sheet) (path : List PathStep) (gap : ℕ) : Type 0 where
+pub record IsToldWay (gapped : Bool) (s : Sheet) (path : List PathStep) (gap : ℕ) : Type 0 where
   pub leaf : ℕ
-  pub way : IsWay kind s path leaf
+  pub way : IsWay gapped s path leaf
   pub told : gap ≡ longest_in (leaf_spans s.tree.table (leaf_in s.tree way.index))
 
 -- A row can tell its longest hole: that of a leaf is a word, and the greatest gap word of a row's slots is the greatest of all,
@@ -117,10 +116,10 @@ abbrev pub IsKept : Sheet → PathStep → Type 0
 IsKept s step = (life_of s.lives step.row ≡ Live) × (is_buried s.buried step.row ≡ false)
 
 -- A path of whose rows all gap words may be wrong, but none of other rows; its rows are live, and none is buried.
-pub record MayMendGaps (kind : Kind) (s : Sheet) (path : List PathStep) : Type 0 where
+pub record MayMendGaps (gapped : Bool) (s : Sheet) (path : List PathStep) : Type 0 where
   pub index : ℕ
   pub within : index ≤ greatest s.tree.table.width
-  pub gaps : HasGapsBeside index (tree_as kind s.tree)
+  pub gaps : HasGapsBeside index (tree_on gapped s.tree)
   pub steps : path ≡ path_in s.tree.table s.tree.root index
   pub kept : AllByRecursion (IsKept s) path
 

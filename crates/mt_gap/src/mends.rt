@@ -1,8 +1,7 @@
 //! Gap words mended on the way to an index: in the slots on the way, or in all slots of the rows there.
 
-ghost use Rattle.std.specs.Prelude.{◌≡◌, ◌≢◌, ◌↔◌, ◌+◌, ◌^◌, ◌<◌, ◌≤◌, ℕ, IsTrue, None, Some};
+ghost use Rattle.std.specs.Prelude.{◌≡◌, ◌≢◌, ◌↔◌, ◌+◌, ◌^◌, ◌<◌, ◌≤◌, ℕ, Bool, IsTrue, None, Some};
 ghost use Rattle.std.specs.List.{AllByRecursion};
-ghost use Rattle.mt_base.specs.declared.kinds.Kind.{Kind};
 ghost use Rattle.mt_base.specs.Width.{columns};
 ghost use Rattle.mt_layout.specs.declared.names.RowKind.{RowKind};
 ghost use Rattle.mt_layout.specs.declared.spans.Span.{Span};
@@ -13,7 +12,7 @@ ghost use Rattle.mt_layout.specs.Spans.{hole_length, longest_in};
 ghost use Rattle.mt_rows.specs.Gaps.{HasGaps};
 ghost use Rattle.mt_rows.specs.Laws.{Stands};
 ghost use Rattle.mt_rows.specs.Levels.{Levels, SameSpans};
-ghost use Rattle.mt_rows.specs.Publish.{tree_as};
+ghost use Rattle.mt_rows.specs.Publish.{tree_on};
 ghost use Rattle.mt_rows.specs.Replacement.{root_of};
 ghost use Rattle.mt_rows.specs.Spans.{row_spans};
 ghost use Rattle.mt_layout.specs.declared.names.RowKind.TheVariants.{Leaf, Gapped};
@@ -125,13 +124,13 @@ fn has_gaps<R: Rows>(rows: &mut R) -> bool
 /// is tended by what the row below tells. In a tree without gaps no row is loaded. The way ends in this leaf; the leaf of the path
 /// may be the one that it has replaced.
 pub fn mend_way<R: Rows>(rows: &mut R, path: &Path, leaf: u32)
-    requires way { (kind : Kind) × IsWay kind (R.sheet rows.old) path.now.items leaf }
-    ensures gaps { (kind : Kind) → IsWay kind (R.sheet rows.old) path.now.items leaf → HasGaps (tree_as kind (R.sheet rows.new).tree) }
+    requires way { (gapped : Bool) × IsWay gapped (R.sheet rows.old) path.now.items leaf }
+    ensures gaps { (gapped : Bool) → IsWay gapped (R.sheet rows.old) path.now.items leaf → HasGaps (tree_on gapped (R.sheet rows.new).tree) }
     ensures rest { OnlyWords (R.sheet rows.old) (R.sheet rows.new) }
     ensures words { KeepsWords (R.sheet rows.old).tree (R.sheet rows.new).tree path.now.items }
     ensures plain { named_kind (R.sheet rows.old).tree.root ≢ Some RowKind.Gapped → R.sheet rows.new ≡ loaded (R.sheet rows.old) }
-    ensures spans { (kind : Kind) (h : ℕ) → Stands (tree_as kind (R.sheet rows.old).tree) h
-        → Levels (λ (_ : ℕ) (x : Span). SameSpans (R.sheet rows.old).tree.table (R.sheet rows.new).tree.table x) (R.sheet rows.old).tree.table h (root_of (tree_as kind (R.sheet rows.old).tree)) }
+    ensures spans { (gapped : Bool) (h : ℕ) → Stands (tree_on gapped (R.sheet rows.old).tree) h
+        → Levels (λ (_ : ℕ) (x : Span). SameSpans (R.sheet rows.old).tree.table (R.sheet rows.new).tree.table x) (R.sheet rows.old).tree.table h (root_of (tree_on gapped (R.sheet rows.old).tree)) }
 {
     if !has_gaps(rows) {
         return;
@@ -151,13 +150,13 @@ pub fn mend_way<R: Rows>(rows: &mut R, path: &Path, leaf: u32)
 
 /// The same along a path whose leaf is replaced: by one whose longest hole is `gap`, and of which no word is loaded.
 pub fn mend_along<R: Rows>(rows: &mut R, path: &Path, gap: u64)
-    requires way { (kind : Kind) × IsToldWay kind (R.sheet rows.old) path.now.items gap }
-    ensures gaps { (kind : Kind) → IsToldWay kind (R.sheet rows.old) path.now.items gap → HasGaps (tree_as kind (R.sheet rows.new).tree) }
+    requires way { (gapped : Bool) × IsToldWay gapped (R.sheet rows.old) path.now.items gap }
+    ensures gaps { (gapped : Bool) → IsToldWay gapped (R.sheet rows.old) path.now.items gap → HasGaps (tree_on gapped (R.sheet rows.new).tree) }
     ensures rest { OnlyWords (R.sheet rows.old) (R.sheet rows.new) }
     ensures words { KeepsWords (R.sheet rows.old).tree (R.sheet rows.new).tree path.now.items }
     ensures plain { named_kind (R.sheet rows.old).tree.root ≢ Some RowKind.Gapped → R.sheet rows.new ≡ loaded (R.sheet rows.old) }
-    ensures spans { (kind : Kind) (h : ℕ) → Stands (tree_as kind (R.sheet rows.old).tree) h
-        → Levels (λ (_ : ℕ) (x : Span). SameSpans (R.sheet rows.old).tree.table (R.sheet rows.new).tree.table x) (R.sheet rows.old).tree.table h (root_of (tree_as kind (R.sheet rows.old).tree)) }
+    ensures spans { (gapped : Bool) (h : ℕ) → Stands (tree_on gapped (R.sheet rows.old).tree) h
+        → Levels (λ (_ : ℕ) (x : Span). SameSpans (R.sheet rows.old).tree.table (R.sheet rows.new).tree.table x) (R.sheet rows.old).tree.table h (root_of (tree_on gapped (R.sheet rows.old).tree)) }
 {
     if !has_gaps(rows) {
         return;
@@ -206,13 +205,13 @@ fn mend_row<R: Rows>(rows: &mut R, kind: RowKind, path: &Path, level: usize)
 /// Mends all gap words of the rows of a path, where those of all other rows are right: from the leaf's parent up to the
 /// root the gap word of each slot is tended by what the row there tells. In a tree without gaps no row is loaded.
 pub fn mend_gaps<R: Rows>(rows: &mut R, path: &Path)
-    requires may { (kind : Kind) × MayMendGaps kind (R.sheet rows.old) path.now.items }
-    ensures gaps { (kind : Kind) → MayMendGaps kind (R.sheet rows.old) path.now.items → HasGaps (tree_as kind (R.sheet rows.new).tree) }
+    requires may { (gapped : Bool) × MayMendGaps gapped (R.sheet rows.old) path.now.items }
+    ensures gaps { (gapped : Bool) → MayMendGaps gapped (R.sheet rows.old) path.now.items → HasGaps (tree_on gapped (R.sheet rows.new).tree) }
     ensures rest { OnlyWords (R.sheet rows.old) (R.sheet rows.new) }
     ensures words { KeepsOtherWords (R.sheet rows.old).tree (R.sheet rows.new).tree path.now.items }
     ensures plain { named_kind (R.sheet rows.old).tree.root ≢ Some RowKind.Gapped → R.sheet rows.new ≡ loaded (R.sheet rows.old) }
-    ensures spans { (kind : Kind) (h : ℕ) → Stands (tree_as kind (R.sheet rows.old).tree) h
-        → Levels (λ (_ : ℕ) (x : Span). SameSpans (R.sheet rows.old).tree.table (R.sheet rows.new).tree.table x) (R.sheet rows.old).tree.table h (root_of (tree_as kind (R.sheet rows.old).tree)) }
+    ensures spans { (gapped : Bool) (h : ℕ) → Stands (tree_on gapped (R.sheet rows.old).tree) h
+        → Levels (λ (_ : ℕ) (x : Span). SameSpans (R.sheet rows.old).tree.table (R.sheet rows.new).tree.table x) (R.sheet rows.old).tree.table h (root_of (tree_on gapped (R.sheet rows.old).tree)) }
 {
     if !has_gaps(rows) {
         return;

@@ -3,16 +3,15 @@
 ghost use Rattle.std.specs.Prelude.{◌≡◌, ◌≢◌, ◌↔◌, ◌+◌, ◌-◌, ◌*◌, ◌≤◌, ℕ, All, IsTrue, [], ◌∷◌, length, IsNone, IfSome};
 ghost use Rattle.std.specs.List.{flat_map};
 ghost use Rattle.std.specs.Option.{option_map};
-ghost use Rattle.mt_base.specs.declared.kinds.Kind.TheVariants as trees;
-ghost use Rattle.mt_base.specs.Holes.{low, high, lowest_in, highest_in};
+ghost use Rattle.mt_base.specs.Holes.{low_to, high_to, lowest_in, highest_in};
 ghost use Rattle.mt_base.specs.Width.{columns, greatest};
-ghost use Rattle.mt_rows.specs.Publish.{IsLawfulOf, map_by};
+ghost use Rattle.mt_rows.specs.Publish.{map_by};
 ghost use Rattle.mt_rows.specs.Sheet.{OnlyReads, ReadsUpTo};
 ghost use Rattle.mt_rows.specs.Trees.{height_in};
 ghost use Rattle.mt_gap.specs.declared.children.Child.{Child};
 ghost use Rattle.mt_gap.specs.Below.{child_hole};
 ghost use Rattle.mt_gap.specs.Children.{children_in, children_below, root_child};
-ghost use Rattle.mt_gap.specs.Descents.{LoadedUpTo, MayLoad, picked, place_in, Arrives, AreLeaves};
+ghost use Rattle.mt_gap.specs.Descents.{IsGapped, LoadedUpTo, MayLoad, picked, place_in, Arrives, AreLeaves};
 ghost use Rattle.mt_gap.specs.Ways.{EndsInLeaf, IsAreaAt};
 ghost use Rattle.mt_gap.specs.declared.searches.Area.{Area};
 
@@ -64,7 +63,7 @@ fn to_lowest<R: Rows, L: Ledger>(
     window: Window,
     steps: &mut Steps<L>,
 ) -> Asked
-    requires tree { IsLawfulOf (R.sheet rows.old).tree trees.Alloc }
+    requires tree { IsGapped (R.sheet rows.old).tree }
     requires some { (R.sheet rows.old).tree.root ≢ 0 }
     requires root { root ≡ root_child (R.sheet rows.old).tree.table (R.sheet rows.old).tree.root }
     requires size { 1 ≤ window.size }
@@ -90,7 +89,7 @@ fn to_highest<R: Rows, L: Ledger>(
     window: Window,
     steps: &mut Steps<L>,
 ) -> Asked
-    requires tree { IsLawfulOf (R.sheet rows.old).tree trees.Alloc }
+    requires tree { IsGapped (R.sheet rows.old).tree }
     requires some { (R.sheet rows.old).tree.root ≢ 0 }
     requires root { root ≡ root_child (R.sheet rows.old).tree.table (R.sheet rows.old).tree.root }
     requires size { 1 ≤ window.size }
@@ -188,9 +187,9 @@ pub fn lowest<R: Rows, L: Ledger>(
     hi: u64,
     steps: &mut Steps<L>,
 ) -> Option<u64>
-    requires tree { IsLawfulOf (R.sheet rows.old).tree trees.Alloc }
+    requires tree { IsGapped (R.sheet rows.old).tree }
     requires size { 1 ≤ size }
-    ensures place { result ≡ low trees.Alloc (map_by (R.sheet rows.old).tree) size lo hi }
+    ensures place { let t = (R.sheet rows.old).tree in result ≡ low_to (greatest t.table.width) (map_by t) size lo hi }
     ensures steps { steps.new ≤ steps.old + 3 * height_in (R.sheet rows.old).tree.table (R.sheet rows.old).tree.root }
     ensures reads { ReadsUpTo (columns (R.sheet rows.old).tree.table.width * (steps.new - steps.old) + 1) (R.sheet rows.old) (R.sheet rows.new) }
 {
@@ -206,7 +205,7 @@ pub fn lowest<R: Rows, L: Ledger>(
 
 /// The lowest place in a leaf, to which the path leads, and the end of the way there.
 fn area_in_leaf<R: Rows>(rows: &mut R, leaf: Span, window: Window, path: &mut Path) -> Option<Area>
-    requires tree { IsLawfulOf (R.sheet rows.old).tree trees.Alloc }
+    requires tree { IsGapped (R.sheet rows.old).tree }
     requires size { 1 ≤ window.size }
     requires leaf { EndsInLeaf (R.sheet rows.old).tree window path.old.items leaf }
     ensures place { option_map (λ (area : Area). area.start) result ≡ place_in lowest_in window (R.sheet rows.old).tree }
@@ -230,9 +229,9 @@ fn area_by_levels<R: Rows, L: Ledger>(
     steps: &mut Steps<L>,
     path: &mut Path,
 ) -> Option<Area>
-    requires tree { IsLawfulOf (R.sheet rows.old).tree trees.Alloc }
+    requires tree { IsGapped (R.sheet rows.old).tree }
     requires size { 1 ≤ window.size }
-    ensures place { option_map (λ (area : Area). area.start) result ≡ low trees.Alloc (map_by (R.sheet rows.old).tree) window.size window.lo window.hi }
+    ensures place { let t = (R.sheet rows.old).tree in option_map (λ (area : Area). area.start) result ≡ low_to (greatest t.table.width) (map_by t) window.size window.lo window.hi }
     ensures way { IfSome result (λ area. IsAreaAt (R.sheet rows.old).tree path.new.items area) }
     ensures rest { OnlyReads (R.sheet rows.old) (R.sheet rows.new) }
     ensures reads { IsNone result → ReadsUpTo (3 * height_in (R.sheet rows.old).tree.table (R.sheet rows.old).tree.root * columns (R.sheet rows.old).tree.table.width + 1) (R.sheet rows.old) (R.sheet rows.new) }
@@ -253,10 +252,10 @@ pub fn lowest_way<R: Rows, L: Ledger>(
     steps: &mut Steps<L>,
     path: &mut Path,
 ) -> Option<Area>
-    requires tree { IsLawfulOf (R.sheet rows.old).tree trees.Alloc }
+    requires tree { IsGapped (R.sheet rows.old).tree }
     requires size { 1 ≤ size }
     requires empty { path.old.items ≡ [] }
-    ensures place { option_map (λ (area : Area). area.start) result ≡ low trees.Alloc (map_by (R.sheet rows.old).tree) size lo hi }
+    ensures place { let t = (R.sheet rows.old).tree in option_map (λ (area : Area). area.start) result ≡ low_to (greatest t.table.width) (map_by t) size lo hi }
     ensures way { IfSome result (λ area. IsAreaAt (R.sheet rows.old).tree path.new.items area) }
     ensures rest { OnlyReads (R.sheet rows.old) (R.sheet rows.new) }
     ensures reads { IsNone result → ReadsUpTo (2 * (3 * height_in (R.sheet rows.old).tree.table (R.sheet rows.old).tree.root * columns (R.sheet rows.old).tree.table.width + 1)) (R.sheet rows.old) (R.sheet rows.new) }
@@ -283,9 +282,9 @@ pub fn highest<R: Rows, L: Ledger>(
     hi: u64,
     steps: &mut Steps<L>,
 ) -> Option<u64>
-    requires tree { IsLawfulOf (R.sheet rows.old).tree trees.Alloc }
+    requires tree { IsGapped (R.sheet rows.old).tree }
     requires size { 1 ≤ size }
-    ensures place { result ≡ high trees.Alloc (map_by (R.sheet rows.old).tree) size lo hi }
+    ensures place { let t = (R.sheet rows.old).tree in result ≡ high_to (greatest t.table.width) (map_by t) size lo hi }
     ensures steps { steps.new ≤ steps.old + 3 * height_in (R.sheet rows.old).tree.table (R.sheet rows.old).tree.root }
     ensures reads { ReadsUpTo (columns (R.sheet rows.old).tree.table.width * (steps.new - steps.old) + 1) (R.sheet rows.old) (R.sheet rows.new) }
 {

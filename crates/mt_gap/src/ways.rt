@@ -1,16 +1,15 @@
 //! A search that goes into one row in each level, and keeps the way that it goes.
 
 ghost use Rattle.std.specs.Prelude.{◌≡◌, ◌≢◌, ◌<◌, ◌≤◌, ◌+◌, ◌*◌, ◌∷◌, [], IfSome, IfNone, Some, if◌then◌else◌};
-ghost use Rattle.mt_base.specs.declared.kinds.Kind.TheVariants as trees;
 ghost use Rattle.mt_base.specs.Width.{columns};
 ghost use Rattle.mt_layout.specs.declared.names.RowKind.TheVariants.{Gapped};
 ghost use Rattle.mt_layout.specs.Rows.{row_in, named_kind};
 ghost use Rattle.mt_layout.specs.Sizes.{slots_of};
-ghost use Rattle.mt_rows.specs.Publish.{IsLawfulOf};
 ghost use Rattle.mt_rows.specs.Sheet.{IsPlace, ReadsUpTo};
 ghost use Rattle.mt_rows.specs.Spans.{root_span};
 ghost use Rattle.mt_rows.specs.Trees.{height_in};
 ghost use Rattle.mt_gap.specs.Children.{row_children};
+ghost use Rattle.mt_gap.specs.Descents.{IsGapped};
 ghost use Rattle.mt_gap.specs.Narrow.{has_sure};
 ghost use Rattle.mt_gap.specs.Slots.{child_in};
 ghost use Rattle.mt_gap.specs.Ways.{one_more, with_room, IsBelow, EndsIn};
@@ -106,7 +105,7 @@ fn gapped_row(span: Span) -> Option<u32>
 
 /// Goes down from the root as long as there is one row to go into, and puts the steps to where that ends into an empty path.
 pub(crate) fn go_one_way<R: Rows>(rows: &mut R, root: Span, window: Window, path: &mut Path) -> End
-    requires tree { IsLawfulOf (R.sheet rows.old).tree trees.Alloc }
+    requires tree { IsGapped (R.sheet rows.old).tree }
     requires some { (R.sheet rows.old).tree.root ≢ 0 }
     requires root { root ≡ root_span (R.sheet rows.old).tree.table (R.sheet rows.old).tree.root }
     requires size { 1 ≤ window.size }

@@ -1,16 +1,24 @@
-use Rattle.std.proofs.Common.{sym, ap, subst}
+use Rattle.std.proofs.Common.{◌≤◌, sym, ap, subst}
 use Rattle.mt_base.specs.declared.kinds.Kind.{Kind}
-use Rattle.mt_base.specs.declared.kinds.Kind.TheVariants as trees
+use Rattle.mt_base.specs.Width.{greatest}
 use Rattle.mt_rows.specs.Publish.{IsTreeOf}
 use Rattle.mt_rows.specs.Sheet.{Rooted, Sheet}
 use Rattle.mt_gap.specs.Ways.{IsAreaAt}
+use Rattle.mt_engine.proofs.Finding.{highest_within}
 use Rattle.mt_engine.proofs.Moments.{tree_if_lawful}
 use Rattle.mt_engine.proofs.areas.highest_way.Goals as goal
 
 pub walk_to-here-requires-clause-tree : goal.walk_to-here-requires-clause-tree
 walk_to-here-requires-clause-tree g c =
     let same = ap (λ (r : Sheet). r.tree) c.highest.ensures.reads.rest in
-    subst (λ (t : Rooted). (kind : Kind) × IsTreeOf t kind) (sym same) (trees.Alloc, tree_if_lawful (g.R.Rows.sheet c.args.rows.now).tree trees.Alloc c.requires.tree)
+    subst (λ (t : Rooted). (kind : Kind) × IsTreeOf t kind) (sym same) (c.requires.tree.kind, tree_if_lawful (g.R.Rows.sheet c.args.rows.now).tree c.requires.tree.kind c.requires.tree.lawful)
+
+pub walk_to-here-requires-clause-index : goal.walk_to-here-requires-clause-index
+walk_to-here-requires-clause-index g c =
+    let t = (g.R.Rows.sheet c.args.rows.now).tree in
+    let same = ap (λ (r : Sheet). r.tree) c.highest.ensures.reads.rest in
+    subst (λ (x : Rooted). c.in_ok-start.start ≤ greatest x.table.width) (sym same)
+    (highest_within t c.args.size c.args.min c.args.max c.in_ok-start.start c.requires.tree c.requires.size c.requires.within c.in_ok-start.ensures.place)
 
 pub returns-clause-way : goal.returns-clause-way
 returns-clause-way g c =

@@ -1,23 +1,27 @@
-use Rattle.std.proofs.Common.{ap}
+use Rattle.std.proofs.Common.{ℕ, ◌<◌, ◌≤◌, ap, subst}
 use Rattle.std.specs.Prelude.{is_some}
-use Rattle.mt_engine.proofs.Planning.{within_all, erase_nothing, erase_hole, erase_plan}
+use Rattle.mt_engine.proofs.Planning.{erase_above, erase_nothing, erase_hole, erase_plan}
 use Rattle.mt_engine.proofs.plans.plan_erase.Goals as goal
 
+pub returns-then-index-top_of-clause-plan : goal.returns-then-index-top_of-clause-plan
+returns-then-index-top_of-clause-plan g c =
+    erase_above (g.R.Rows.sheet c.args.rows.now).tree c.args.kind c.requires.tree c.args.index (subst (λ (n : ℕ). n < c.args.index) c.top_of.ensures c.if-index-top_of.true)
+
 pub walk_to-requires-clause-index : goal.walk_to-requires-clause-index
-walk_to-requires-clause-index g c = within_all (g.R.Rows.sheet c.args.rows.now).tree.table.width c.args.index c.ranges.index.fits
+walk_to-requires-clause-index g c = subst (λ (n : ℕ). c.args.index ≤ n) c.top_of.ensures c.if-index-top_of.false
 
 pub returns-in_default-clause-plan : goal.returns-in_default-clause-plan
 returns-in_default-clause-plan g c =
     let t = (g.R.Rows.sheet c.args.rows.now).tree in
-    erase_nothing t c.args.kind c.requires.tree c.args.index (within_all t.table.width c.args.index c.ranges.index.fits) (c.walk_to.ensures.none.0 (ap is_some c.in_default.is))
+    erase_nothing t c.args.kind c.requires.tree c.args.index (subst (λ (n : ℕ). c.args.index ≤ n) c.top_of.ensures c.if-index-top_of.false) (c.walk_to.ensures.none.0 (ap is_some c.in_default.is))
 
 pub returns-then-span-eq0-clause-plan : goal.returns-then-span-eq0-clause-plan
 returns-then-span-eq0-clause-plan g c =
     let t = (g.R.Rows.sheet c.args.rows.now).tree in
-    erase_hole t c.args.kind c.requires.tree c.args.index (within_all t.table.width c.args.index c.ranges.index.fits) c.in-Some.handle (record { none = c.in-Some.ensures.none; some = c.in-Some.ensures.some }) c.if-span-eq0.true
+    erase_hole t c.args.kind c.requires.tree c.args.index (subst (λ (n : ℕ). c.args.index ≤ n) c.top_of.ensures c.if-index-top_of.false) c.in-Some.handle (record { none = c.in-Some.ensures.none; some = c.in-Some.ensures.some }) c.if-span-eq0.true
 
 pub returns-clause-plan : goal.returns-clause-plan
 returns-clause-plan g c =
     let t = (g.R.Rows.sheet c.args.rows.now).tree in
-    erase_plan t c.args.kind c.requires.tree c.args.index (within_all t.table.width c.args.index c.ranges.index.fits) c.in-Some.handle (record { none = c.in-Some.ensures.none; some = c.in-Some.ensures.some }) c.walk_to.new.path.items c.if-span-eq0.false
+    erase_plan t c.args.kind c.requires.tree c.args.index (subst (λ (n : ℕ). c.args.index ≤ n) c.top_of.ensures c.if-index-top_of.false) c.in-Some.handle (record { none = c.in-Some.ensures.none; some = c.in-Some.ensures.some }) c.walk_to.new.path.items c.if-span-eq0.false
     c.in-Some.ensures.path

@@ -12,62 +12,62 @@ use Rattle.mt_gap.proofs.MendWay.{end_way, nothing_to_mend, spans_loaded}
 use Rattle.mt_gap.proofs.mends.mend_along.Goals as goal
 
 pub returns-then-not-has_gaps-clause-gaps : goal.returns-then-not-has_gaps-clause-gaps
-returns-then-not-has_gaps-clause-gaps g c kind told =
-    nothing_to_mend kind (g.R.Rows.sheet c.args.rows.now) (g.R.Rows.sheet c.has_gaps.new.rows) c.args.path.now.items told.leaf told.way
-    (λ gapped. let is : IsTrue c.has_gaps.result = c.has_gaps.ensures.gapped.1 gapped in absurd (search rules)) c.has_gaps.ensures.rest
+returns-then-not-has_gaps-clause-gaps g c gapped told =
+    nothing_to_mend gapped (g.R.Rows.sheet c.args.rows.now) (g.R.Rows.sheet c.has_gaps.new.rows) c.args.path.now.items told.leaf told.way
+    (λ root. let is : IsTrue c.has_gaps.result = c.has_gaps.ensures.gapped.1 root in absurd (search rules)) c.has_gaps.ensures.rest
 
 pub returns-then-not-has_gaps-clause-spans : goal.returns-then-not-has_gaps-clause-spans
-returns-then-not-has_gaps-clause-spans g c kind h stands = spans_loaded (g.R.Rows.sheet c.args.rows.now) (g.R.Rows.sheet c.has_gaps.new.rows) kind h c.has_gaps.ensures.rest stands
+returns-then-not-has_gaps-clause-spans g c gapped h stands = spans_loaded (g.R.Rows.sheet c.args.rows.now) (g.R.Rows.sheet c.has_gaps.new.rows) gapped h c.has_gaps.ensures.rest stands
 
 pub overflow_sub-level : goal.overflow_sub-level
 overflow_sub-level g c =
-    let gapped : named_kind (g.R.Rows.sheet c.args.rows.now).tree.root ≡ Some Gapped = c.has_gaps.ensures.gapped.0 (search rules) in
-    let two = leaf_below c.requires.way.0 (g.R.Rows.sheet c.args.rows.now) (g.R.Rows.sheet c.has_gaps.new.rows) c.args.path.now.items c.args.gap c.requires.way.1 gapped c.has_gaps.ensures.rest in
+    let root : named_kind (g.R.Rows.sheet c.args.rows.now).tree.root ≡ Some Gapped = c.has_gaps.ensures.gapped.0 (search rules) in
+    let two = leaf_below c.requires.way.0 (g.R.Rows.sheet c.args.rows.now) (g.R.Rows.sheet c.has_gaps.new.rows) c.args.path.now.items c.args.gap c.requires.way.1 root c.has_gaps.ensures.rest in
     let many = c.len-level.ensures.value in
     omega arith
 
 pub overflow_sub-level-2 : goal.overflow_sub-level-2
 overflow_sub-level-2 g c =
-    let gapped : named_kind (g.R.Rows.sheet c.args.rows.now).tree.root ≡ Some Gapped = c.has_gaps.ensures.gapped.0 (search rules) in
-    let two = leaf_below c.requires.way.0 (g.R.Rows.sheet c.args.rows.now) (g.R.Rows.sheet c.has_gaps.new.rows) c.args.path.now.items c.args.gap c.requires.way.1 gapped c.has_gaps.ensures.rest in
+    let root : named_kind (g.R.Rows.sheet c.args.rows.now).tree.root ≡ Some Gapped = c.has_gaps.ensures.gapped.0 (search rules) in
+    let two = leaf_below c.requires.way.0 (g.R.Rows.sheet c.args.rows.now) (g.R.Rows.sheet c.has_gaps.new.rows) c.args.path.now.items c.args.gap c.requires.way.1 root c.has_gaps.ensures.rest in
     let many = c.len-level.ensures.value in
     omega arith
 
 pub bounds-deref-level : goal.bounds-deref-level
 bounds-deref-level g c =
-    let gapped : named_kind (g.R.Rows.sheet c.args.rows.now).tree.root ≡ Some Gapped = c.has_gaps.ensures.gapped.0 (search rules) in
-    let two = leaf_below c.requires.way.0 (g.R.Rows.sheet c.args.rows.now) (g.R.Rows.sheet c.has_gaps.new.rows) c.args.path.now.items c.args.gap c.requires.way.1 gapped c.has_gaps.ensures.rest in
+    let root : named_kind (g.R.Rows.sheet c.args.rows.now).tree.root ≡ Some Gapped = c.has_gaps.ensures.gapped.0 (search rules) in
+    let two = leaf_below c.requires.way.0 (g.R.Rows.sheet c.args.rows.now) (g.R.Rows.sheet c.has_gaps.new.rows) c.args.path.now.items c.args.gap c.requires.way.1 root c.has_gaps.ensures.rest in
     let many = c.len-level.ensures.value in
     subst (λ (l : List PathStep). c.len-level.result - 1 - 1 < length l) (sym c.deref.ensures.0) (omega arith)
 
 pub tend_gap-requires-clause-slot : goal.tend_gap-requires-clause-slot
 tend_gap-requires-clause-slot g c =
     let s' = g.R.Rows.sheet c.has_gaps.new.rows in
-    let gapped : named_kind (g.R.Rows.sheet c.args.rows.now).tree.root ≡ Some Gapped = c.has_gaps.ensures.gapped.0 (search rules) in
+    let root : named_kind (g.R.Rows.sheet c.args.rows.now).tree.root ≡ Some Gapped = c.has_gaps.ensures.gapped.0 (search rules) in
     subst (λ (p : List PathStep × ℕ). (step_at p.0 (p.1 - 1 - 1)).slot < slots_of (g.R.Rows.sheet c.has_gaps.new.rows).tree.table.width Gapped)
     (λ i. (sym c.deref.ensures.0 i, sym c.len-level.ensures.value i))
-    (first_slot c.requires.way.0 (g.R.Rows.sheet c.args.rows.now) s' c.args.path.now.items c.args.gap c.requires.way.1 gapped c.has_gaps.ensures.rest (g.met.R.Rows.whole c.has_gaps.new.rows))
+    (first_slot c.requires.way.0 (g.R.Rows.sheet c.args.rows.now) s' c.args.path.now.items c.args.gap c.requires.way.1 root c.has_gaps.ensures.rest (g.met.R.Rows.whole c.has_gaps.new.rows))
 
 pub tend_gap-requires-clause-tend : goal.tend_gap-requires-clause-tend
 tend_gap-requires-clause-tend g c =
     let s' = g.R.Rows.sheet c.has_gaps.new.rows in
-    let gapped : named_kind (g.R.Rows.sheet c.args.rows.now).tree.root ≡ Some Gapped = c.has_gaps.ensures.gapped.0 (search rules) in
+    let root : named_kind (g.R.Rows.sheet c.args.rows.now).tree.root ≡ Some Gapped = c.has_gaps.ensures.gapped.0 (search rules) in
     subst (λ (p : List PathStep × ℕ). MayTend (g.R.Rows.sheet c.has_gaps.new.rows) (step_at p.0 (p.1 - 1 - 1)).row (gap_column (slots_of (g.R.Rows.sheet c.has_gaps.new.rows).tree.table.width Gapped) (step_at p.0 (p.1 - 1 - 1)).slot) c.args.gap)
     (λ i. (sym c.deref.ensures.0 i, sym c.len-level.ensures.value i))
-    (first_tend c.requires.way.0 (g.R.Rows.sheet c.args.rows.now) s' c.args.path.now.items c.args.gap c.requires.way.1 gapped c.has_gaps.ensures.rest (g.met.R.Rows.whole c.has_gaps.new.rows))
+    (first_tend c.requires.way.0 (g.R.Rows.sheet c.args.rows.now) s' c.args.path.now.items c.args.gap c.requires.way.1 root c.has_gaps.ensures.rest (g.met.R.Rows.whole c.has_gaps.new.rows))
 
 pub loop-level-init : goal.loop-level-init
 loop-level-init g c =
     let s = g.R.Rows.sheet c.args.rows.now in
     let s' = g.R.Rows.sheet c.has_gaps.new.rows in
     let s'' = g.R.Rows.sheet c.tend_gap.new.rows in
-    let gapped : named_kind s.tree.root ≡ Some Gapped = c.has_gaps.ensures.gapped.0 (search rules) in
+    let root : named_kind s.tree.root ≡ Some Gapped = c.has_gaps.ensures.gapped.0 (search rules) in
     let tends =
     subst (λ (p : List PathStep × ℕ). s'' ≡ tended s' (step_at p.0 (p.1 - 1 - 1)).row (gap_column (slots_of s'.tree.table.width Gapped) (step_at p.0 (p.1 - 1 - 1)).slot) c.args.gap)
     (λ i. (c.deref.ensures.0 i, c.len-level.ensures.value i)) c.tend_gap.ensures in (
       c.requires.way.1.leaf,
       subst (λ (n : ℕ). HasMendedOn s s'' c.args.path.now.items c.requires.way.1.leaf Gapped (n - 1) (step_at c.args.path.now.items (n - 1 - 1))) (sym c.len-level.ensures.value)
-          (told_first c.requires.way.0 s s' c.args.path.now.items c.args.gap c.requires.way.1 gapped c.has_gaps.ensures.rest (g.met.R.Rows.whole c.has_gaps.new.rows) s'' tends),
+          (told_first c.requires.way.0 s s' c.args.path.now.items c.args.gap c.requires.way.1 root c.has_gaps.ensures.rest (g.met.R.Rows.whole c.has_gaps.new.rows) s'' tends),
     )
 
 pub bounds-deref-level-in-loop-level : goal.bounds-deref-level-in-loop-level
@@ -104,11 +104,11 @@ loop-level-preserved g c =
     )
 
 pub returns-clause-gaps : goal.returns-clause-gaps
-returns-clause-gaps g c kind told =
+returns-clause-gaps g c gapped told =
     let l = c.loop-level in
-    let gapped : named_kind (g.R.Rows.sheet c.args.rows.now).tree.root ≡ Some Gapped = c.has_gaps.ensures.gapped.0 (search rules) in
+    let root : named_kind (g.R.Rows.sheet c.args.rows.now).tree.root ≡ Some Gapped = c.has_gaps.ensures.gapped.0 (search rules) in
     let last = c.loop-level-test.false in
-    end_way kind (g.R.Rows.sheet c.args.rows.now) (g.R.Rows.sheet l.rows) c.args.path.now.items told.leaf l.invariant.1.way Gapped l.level told.way gapped l.invariant.1.mended (omega arith)
+    end_way gapped (g.R.Rows.sheet c.args.rows.now) (g.R.Rows.sheet l.rows) c.args.path.now.items told.leaf l.invariant.1.way Gapped l.level told.way root l.invariant.1.mended (omega arith)
 
 pub returns-clause-words : goal.returns-clause-words
 returns-clause-words g c =
@@ -116,6 +116,6 @@ returns-clause-words g c =
     words_on (g.R.Rows.sheet c.args.rows.now) (g.R.Rows.sheet l.rows) c.args.path.now.items l.invariant.0 Gapped l.level (step_at c.args.path.now.items (l.level - 1)) l.invariant.1
 
 pub returns-clause-spans : goal.returns-clause-spans
-returns-clause-spans g c kind h stands =
+returns-clause-spans g c gapped h stands =
     let l = c.loop-level in
-    spans_on kind (g.R.Rows.sheet c.args.rows.now) (g.R.Rows.sheet l.rows) c.args.path.now.items l.invariant.0 Gapped l.level (step_at c.args.path.now.items (l.level - 1)) h l.invariant.1 stands
+    spans_on gapped (g.R.Rows.sheet c.args.rows.now) (g.R.Rows.sheet l.rows) c.args.path.now.items l.invariant.0 Gapped l.level (step_at c.args.path.now.items (l.level - 1)) h l.invariant.1 stands

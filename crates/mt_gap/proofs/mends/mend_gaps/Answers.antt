@@ -7,18 +7,18 @@ use Rattle.mt_gap.proofs.MendGaps.{begin_rows, end_rows, end_row_spans, mended_b
 use Rattle.mt_gap.proofs.mends.mend_gaps.Goals as goal
 
 pub returns-then-not-has_gaps-clause-gaps : goal.returns-then-not-has_gaps-clause-gaps
-returns-then-not-has_gaps-clause-gaps g c kind may =
-    no_rows_to_mend kind (g.R.Rows.sheet c.args.rows.now) (g.R.Rows.sheet c.has_gaps.new.rows) c.args.path.now.items may
-    (λ gapped. let is : IsTrue c.has_gaps.result = c.has_gaps.ensures.gapped.1 gapped in absurd (search rules)) c.has_gaps.ensures.rest
+returns-then-not-has_gaps-clause-gaps g c gapped may =
+    no_rows_to_mend gapped (g.R.Rows.sheet c.args.rows.now) (g.R.Rows.sheet c.has_gaps.new.rows) c.args.path.now.items may
+    (λ root. let is : IsTrue c.has_gaps.result = c.has_gaps.ensures.gapped.1 root in absurd (search rules)) c.has_gaps.ensures.rest
 
 pub returns-then-not-has_gaps-clause-spans : goal.returns-then-not-has_gaps-clause-spans
-returns-then-not-has_gaps-clause-spans g c kind h stands = spans_loaded (g.R.Rows.sheet c.args.rows.now) (g.R.Rows.sheet c.has_gaps.new.rows) kind h c.has_gaps.ensures.rest stands
+returns-then-not-has_gaps-clause-spans g c gapped h stands = spans_loaded (g.R.Rows.sheet c.args.rows.now) (g.R.Rows.sheet c.has_gaps.new.rows) gapped h c.has_gaps.ensures.rest stands
 
 pub loop-level-init : goal.loop-level-init
 loop-level-init g c =
-    let gapped : named_kind (g.R.Rows.sheet c.args.rows.now).tree.root ≡ Some Gapped = c.has_gaps.ensures.gapped.0 (search rules) in
+    let root : named_kind (g.R.Rows.sheet c.args.rows.now).tree.root ≡ Some Gapped = c.has_gaps.ensures.gapped.0 (search rules) in
     subst (λ n. HasMendedRows (g.R.Rows.sheet c.args.rows.now) (g.R.Rows.sheet c.has_gaps.new.rows) c.args.path.now.items _ n 0) (sym c.len-level.ensures.value)
-    (begin_rows c.requires.may.0 (g.R.Rows.sheet c.args.rows.now) (g.R.Rows.sheet c.has_gaps.new.rows) c.args.path.now.items c.requires.may.1 gapped c.has_gaps.ensures.rest)
+    (begin_rows c.requires.may.0 (g.R.Rows.sheet c.args.rows.now) (g.R.Rows.sheet c.has_gaps.new.rows) c.args.path.now.items c.requires.may.1 root c.has_gaps.ensures.rest)
 
 pub loop-level-preserved : goal.loop-level-preserved
 loop-level-preserved g c =
@@ -26,10 +26,10 @@ loop-level-preserved g c =
     (c.mend_row.ensures.mends (g.R.Rows.sheet c.args.rows.now))
 
 pub returns-clause-gaps : goal.returns-clause-gaps
-returns-clause-gaps g c kind may =
-    let gapped : named_kind (g.R.Rows.sheet c.args.rows.now).tree.root ≡ Some Gapped = c.has_gaps.ensures.gapped.0 (search rules) in
+returns-clause-gaps g c gapped may =
+    let root : named_kind (g.R.Rows.sheet c.args.rows.now).tree.root ≡ Some Gapped = c.has_gaps.ensures.gapped.0 (search rules) in
     let last = c.loop-level-test.false in
-    end_rows kind (g.R.Rows.sheet c.args.rows.now) (g.R.Rows.sheet c.loop-level.rows) c.args.path.now.items c.loop-level.kind c.loop-level.level may gapped c.loop-level.invariant (omega arith)
+    end_rows gapped (g.R.Rows.sheet c.args.rows.now) (g.R.Rows.sheet c.loop-level.rows) c.args.path.now.items c.loop-level.kind c.loop-level.level may root c.loop-level.invariant (omega arith)
 
 pub returns-clause-spans : goal.returns-clause-spans
-returns-clause-spans g c kind h stands = end_row_spans kind (g.R.Rows.sheet c.args.rows.now) (g.R.Rows.sheet c.loop-level.rows) c.args.path.now.items c.loop-level.kind c.loop-level.level h c.loop-level.invariant stands
+returns-clause-spans g c gapped h stands = end_row_spans gapped (g.R.Rows.sheet c.args.rows.now) (g.R.Rows.sheet c.loop-level.rows) c.args.path.now.items c.loop-level.kind c.loop-level.level h c.loop-level.invariant stands

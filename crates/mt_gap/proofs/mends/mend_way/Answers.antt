@@ -9,25 +9,25 @@ use Rattle.mt_gap.proofs.MendWay.{nothing_to_mend, spans_loaded}
 use Rattle.mt_gap.proofs.mends.mend_way.Goals as goal
 
 pub returns-then-not-has_gaps-clause-gaps : goal.returns-then-not-has_gaps-clause-gaps
-returns-then-not-has_gaps-clause-gaps g c kind way =
-    nothing_to_mend kind (g.R.Rows.sheet c.args.rows.now) (g.R.Rows.sheet c.has_gaps.new.rows) c.args.path.now.items c.args.leaf way
-    (λ gapped. let is : IsTrue c.has_gaps.result = c.has_gaps.ensures.gapped.1 gapped in absurd (search rules)) c.has_gaps.ensures.rest
+returns-then-not-has_gaps-clause-gaps g c gapped way =
+    nothing_to_mend gapped (g.R.Rows.sheet c.args.rows.now) (g.R.Rows.sheet c.has_gaps.new.rows) c.args.path.now.items c.args.leaf way
+    (λ root. let is : IsTrue c.has_gaps.result = c.has_gaps.ensures.gapped.1 root in absurd (search rules)) c.has_gaps.ensures.rest
 
 pub returns-then-not-has_gaps-clause-spans : goal.returns-then-not-has_gaps-clause-spans
-returns-then-not-has_gaps-clause-spans g c kind h stands = spans_loaded (g.R.Rows.sheet c.args.rows.now) (g.R.Rows.sheet c.has_gaps.new.rows) kind h c.has_gaps.ensures.rest stands
+returns-then-not-has_gaps-clause-spans g c gapped h stands = spans_loaded (g.R.Rows.sheet c.args.rows.now) (g.R.Rows.sheet c.has_gaps.new.rows) gapped h c.has_gaps.ensures.rest stands
 
 pub overflow_sub-last : goal.overflow_sub-last
 overflow_sub-last g c =
-    let gapped : named_kind (g.R.Rows.sheet c.args.rows.now).tree.root ≡ Some Gapped = c.has_gaps.ensures.gapped.0 (search rules) in
-    let begun = begin_on c.requires.way.0 (g.R.Rows.sheet c.args.rows.now) (g.R.Rows.sheet c.has_gaps.new.rows) c.args.path.now.items c.args.leaf c.requires.way.1 gapped c.has_gaps.ensures.rest in
+    let root : named_kind (g.R.Rows.sheet c.args.rows.now).tree.root ≡ Some Gapped = c.has_gaps.ensures.gapped.0 (search rules) in
+    let begun = begin_on c.requires.way.0 (g.R.Rows.sheet c.args.rows.now) (g.R.Rows.sheet c.has_gaps.new.rows) c.args.path.now.items c.args.leaf c.requires.way.1 root c.has_gaps.ensures.rest in
     let some = begun.mended.low in
     let many = c.len-level.ensures.value in
     omega arith
 
 pub bounds-deref-level : goal.bounds-deref-level
 bounds-deref-level g c =
-    let gapped : named_kind (g.R.Rows.sheet c.args.rows.now).tree.root ≡ Some Gapped = c.has_gaps.ensures.gapped.0 (search rules) in
-    let begun = begin_on c.requires.way.0 (g.R.Rows.sheet c.args.rows.now) (g.R.Rows.sheet c.has_gaps.new.rows) c.args.path.now.items c.args.leaf c.requires.way.1 gapped c.has_gaps.ensures.rest in
+    let root : named_kind (g.R.Rows.sheet c.args.rows.now).tree.root ≡ Some Gapped = c.has_gaps.ensures.gapped.0 (search rules) in
+    let begun = begin_on c.requires.way.0 (g.R.Rows.sheet c.args.rows.now) (g.R.Rows.sheet c.has_gaps.new.rows) c.args.path.now.items c.args.leaf c.requires.way.1 root c.has_gaps.ensures.rest in
     let some = begun.mended.low in
     let many = c.len-level.ensures.value in
     subst (λ (l : List PathStep). c.len-level.result - 1 < length l) (sym c.deref.ensures.0) (omega arith)
@@ -36,10 +36,10 @@ pub loop-level-init : goal.loop-level-init
 loop-level-init g c =
     let s = g.R.Rows.sheet c.args.rows.now in
     let s' = g.R.Rows.sheet c.has_gaps.new.rows in
-    let gapped : named_kind s.tree.root ≡ Some Gapped = c.has_gaps.ensures.gapped.0 (search rules) in
+    let root : named_kind s.tree.root ≡ Some Gapped = c.has_gaps.ensures.gapped.0 (search rules) in
     subst (λ (l : List PathStep). HasMendedOn s s' c.args.path.now.items c.args.leaf Leaf c.len-level.result (record (step_at l (c.len-level.result - 1)) { row = c.args.leaf })) (sym c.deref.ensures.0)
     (subst (λ (n : ℕ). HasMendedOn s s' c.args.path.now.items c.args.leaf Leaf n (record (step_at c.args.path.now.items (n - 1)) { row = c.args.leaf })) (sym c.len-level.ensures.value)
-    (begin_on c.requires.way.0 s s' c.args.path.now.items c.args.leaf c.requires.way.1 gapped c.has_gaps.ensures.rest))
+    (begin_on c.requires.way.0 s s' c.args.path.now.items c.args.leaf c.requires.way.1 root c.has_gaps.ensures.rest))
 
 pub bounds-deref-level-in-loop-level : goal.bounds-deref-level-in-loop-level
 bounds-deref-level-in-loop-level g c =
@@ -65,11 +65,11 @@ loop-level-preserved g c =
     (subst (λ (steps : List PathStep). IsMended s' s'' c.loop-level.kind (step_at steps (c.loop-level.level - 1 - 1)) c.loop-level.below) c.deref-in-loop-level.ensures.0 c.mend_slot.ensures))
 
 pub returns-clause-gaps : goal.returns-clause-gaps
-returns-clause-gaps g c kind way =
+returns-clause-gaps g c gapped way =
     let l = c.loop-level in
-    let gapped : named_kind (g.R.Rows.sheet c.args.rows.now).tree.root ≡ Some Gapped = c.has_gaps.ensures.gapped.0 (search rules) in
+    let root : named_kind (g.R.Rows.sheet c.args.rows.now).tree.root ≡ Some Gapped = c.has_gaps.ensures.gapped.0 (search rules) in
     let last = c.loop-level-test.false in
-    end_on kind (g.R.Rows.sheet c.args.rows.now) (g.R.Rows.sheet l.rows) c.args.path.now.items c.args.leaf l.kind l.level l.below way gapped l.invariant (omega arith)
+    end_on gapped (g.R.Rows.sheet c.args.rows.now) (g.R.Rows.sheet l.rows) c.args.path.now.items c.args.leaf l.kind l.level l.below way root l.invariant (omega arith)
 
 pub returns-clause-words : goal.returns-clause-words
 returns-clause-words g c =
@@ -77,6 +77,6 @@ returns-clause-words g c =
     words_on (g.R.Rows.sheet c.args.rows.now) (g.R.Rows.sheet l.rows) c.args.path.now.items c.args.leaf l.kind l.level l.below l.invariant
 
 pub returns-clause-spans : goal.returns-clause-spans
-returns-clause-spans g c kind h stands =
+returns-clause-spans g c gapped h stands =
     let l = c.loop-level in
-    spans_on kind (g.R.Rows.sheet c.args.rows.now) (g.R.Rows.sheet l.rows) c.args.path.now.items c.args.leaf l.kind l.level l.below h l.invariant stands
+    spans_on gapped (g.R.Rows.sheet c.args.rows.now) (g.R.Rows.sheet l.rows) c.args.path.now.items c.args.leaf l.kind l.level l.below h l.invariant stands

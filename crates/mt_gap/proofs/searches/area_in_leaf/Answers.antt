@@ -1,11 +1,12 @@
-use Rattle.std.proofs.Common.{sym, ap, ◌∙◌, subst}
+use Rattle.std.proofs.Common.{◌≤◌, sym, ap, ◌∙◌, subst}
 use Rattle.mt_base.specs.declared.kinds.Kind.{Kind}
+use Rattle.mt_base.specs.Width.{greatest}
 use Rattle.mt_rows.specs.Publish.{IsTreeOf}
 use Rattle.mt_rows.specs.Sheet.{Rooted, Sheet}
 use Rattle.mt_path.specs.Handles.{handle_in}
 use Rattle.mt_path.specs.Paths.{path_in}
 use Rattle.mt_path.specs.Walks.{EntersLeaf}
-use Rattle.mt_gap.proofs.OneWay.{some_kind, enters_leaf, is_area}
+use Rattle.mt_gap.proofs.OneWay.{some_kind, start_within, enters_leaf, is_area}
 use Rattle.mt_gap.proofs.searches.area_in_leaf.Goals as goal
 
 pub end_by_halves-here-requires-clause-tree : goal.end_by_halves-here-requires-clause-tree
@@ -13,6 +14,13 @@ end_by_halves-here-requires-clause-tree g c =
     let s = g.R.Rows.sheet c.args.rows.now in
     let same = ap (λ (r : Sheet). r.tree) c.lowest_in_leaf.ensures.reads.rest in
     subst (λ (t : Rooted). (kind : Kind) × IsTreeOf t kind) (sym same) (some_kind s.tree c.requires.tree)
+
+pub end_by_halves-here-requires-clause-index : goal.end_by_halves-here-requires-clause-index
+end_by_halves-here-requires-clause-index g c =
+    let s = g.R.Rows.sheet c.args.rows.now in
+    let same = ap (λ (r : Sheet). r.tree) c.lowest_in_leaf.ensures.reads.rest in
+    subst (λ (t : Rooted). c.in_ok-start.start ≤ greatest t.table.width) (sym same)
+    (start_within s.tree c.args.window c.args.path.now.items c.args.leaf c.requires.leaf c.requires.size c.in_ok-start.start c.in_ok-start.ensures.place)
 
 pub end_by_halves-here-requires-clause-way : goal.end_by_halves-here-requires-clause-way
 end_by_halves-here-requires-clause-way g c =

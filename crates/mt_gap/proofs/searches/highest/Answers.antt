@@ -1,6 +1,6 @@
 use Rattle.std.proofs.Common.{All, List, length, sym, ap, ◌∙◌, subst}
-use Rattle.mt_base.specs.declared.kinds.Kind.TheVariants as trees
-use Rattle.mt_base.specs.Holes.{high, highest_in}
+use Rattle.mt_base.specs.Holes.{high_to, highest_in}
+use Rattle.mt_base.specs.Width.{greatest}
 use Rattle.std.specs.List.{flat_map}
 use Rattle.mt_rows.specs.Publish.{map_by}
 use Rattle.mt_rows.specs.Sheet.{Rooted}
@@ -20,7 +20,7 @@ pub returns-clause-place : goal.returns-clause-place
 returns-clause-place g c =
     place_found (g.R.Rows.sheet c.args.rows.now) (g.R.Rows.sheet c.root-word.new.self) (g.R.Rows.sheet c.to_highest-leaves.new.rows) (highest_in c.args.size) (record { size = c.args.size; lo = c.args.lo; hi = c.args.hi }) (place_in (highest_in c.args.size) (record { size = c.args.size; lo = c.args.lo; hi = c.args.hi }) (g.R.Rows.sheet c.root-word.new.self).tree) c.args.steps.now c.to_highest-leaves.new.steps c.to_highest-leaves.result.items c.root-word.ensures.rest c.to_highest-leaves.ensures c.highest_in_leaves.result
     (c.highest_in_leaves.ensures.place ∙ ap (λ (l : List Child). picked (highest_in c.args.size) (record { size = c.args.size; lo = c.args.lo; hi = c.args.hi }) (flat_map child_hole (children_below (g.R.Rows.sheet c.to_highest-leaves.new.rows).tree.table l))) c.deref.ensures.0)
-    ∙ (high_in_tree (record { size = c.args.size; lo = c.args.lo; hi = c.args.hi }) (g.R.Rows.sheet c.root-word.new.self).tree ∙ ap (λ (t : Rooted). high trees.Alloc (map_by t) c.args.size c.args.lo c.args.hi) (same_before (g.R.Rows.sheet c.args.rows.now) (g.R.Rows.sheet c.root-word.new.self) (g.R.Rows.sheet c.to_highest-leaves.new.rows) (highest_in c.args.size) (record { size = c.args.size; lo = c.args.lo; hi = c.args.hi }) (place_in (highest_in c.args.size) (record { size = c.args.size; lo = c.args.lo; hi = c.args.hi }) (g.R.Rows.sheet c.root-word.new.self).tree) c.args.steps.now c.to_highest-leaves.new.steps c.to_highest-leaves.result.items c.root-word.ensures.rest c.to_highest-leaves.ensures))
+    ∙ (high_in_tree (record { size = c.args.size; lo = c.args.lo; hi = c.args.hi }) (g.R.Rows.sheet c.root-word.new.self).tree ∙ ap (λ (t : Rooted). high_to (greatest t.table.width) (map_by t) c.args.size c.args.lo c.args.hi) (same_before (g.R.Rows.sheet c.args.rows.now) (g.R.Rows.sheet c.root-word.new.self) (g.R.Rows.sheet c.to_highest-leaves.new.rows) (highest_in c.args.size) (record { size = c.args.size; lo = c.args.lo; hi = c.args.hi }) (place_in (highest_in c.args.size) (record { size = c.args.size; lo = c.args.lo; hi = c.args.hi }) (g.R.Rows.sheet c.root-word.new.self).tree) c.args.steps.now c.to_highest-leaves.new.steps c.to_highest-leaves.result.items c.root-word.ensures.rest c.to_highest-leaves.ensures))
 
 pub returns-clause-steps : goal.returns-clause-steps
 returns-clause-steps g c =

@@ -1,6 +1,6 @@
 use Rattle.std.proofs.Common.{All, List, length, sym, ap, ◌∙◌, subst}
-use Rattle.mt_base.specs.declared.kinds.Kind.TheVariants as trees
-use Rattle.mt_base.specs.Holes.{low, lowest_in}
+use Rattle.mt_base.specs.Holes.{low_to, lowest_in}
+use Rattle.mt_base.specs.Width.{greatest}
 use Rattle.std.specs.List.{flat_map}
 use Rattle.mt_rows.specs.Publish.{map_by}
 use Rattle.mt_rows.specs.Sheet.{Rooted}
@@ -20,7 +20,7 @@ pub returns-clause-place : goal.returns-clause-place
 returns-clause-place g c =
     place_found (g.R.Rows.sheet c.args.rows.now) (g.R.Rows.sheet c.root-word.new.self) (g.R.Rows.sheet c.to_lowest-leaves.new.rows) lowest_in (record { size = c.args.size; lo = c.args.lo; hi = c.args.hi }) (place_in lowest_in (record { size = c.args.size; lo = c.args.lo; hi = c.args.hi }) (g.R.Rows.sheet c.root-word.new.self).tree) c.args.steps.now c.to_lowest-leaves.new.steps c.to_lowest-leaves.result.items c.root-word.ensures.rest c.to_lowest-leaves.ensures c.lowest_in_leaves.result
     (c.lowest_in_leaves.ensures.place ∙ ap (λ (l : List Child). picked lowest_in (record { size = c.args.size; lo = c.args.lo; hi = c.args.hi }) (flat_map child_hole (children_below (g.R.Rows.sheet c.to_lowest-leaves.new.rows).tree.table l))) c.deref.ensures.0)
-    ∙ (low_in_tree (record { size = c.args.size; lo = c.args.lo; hi = c.args.hi }) (g.R.Rows.sheet c.root-word.new.self).tree ∙ ap (λ (t : Rooted). low trees.Alloc (map_by t) c.args.size c.args.lo c.args.hi) (same_before (g.R.Rows.sheet c.args.rows.now) (g.R.Rows.sheet c.root-word.new.self) (g.R.Rows.sheet c.to_lowest-leaves.new.rows) lowest_in (record { size = c.args.size; lo = c.args.lo; hi = c.args.hi }) (place_in lowest_in (record { size = c.args.size; lo = c.args.lo; hi = c.args.hi }) (g.R.Rows.sheet c.root-word.new.self).tree) c.args.steps.now c.to_lowest-leaves.new.steps c.to_lowest-leaves.result.items c.root-word.ensures.rest c.to_lowest-leaves.ensures))
+    ∙ (low_in_tree (record { size = c.args.size; lo = c.args.lo; hi = c.args.hi }) (g.R.Rows.sheet c.root-word.new.self).tree ∙ ap (λ (t : Rooted). low_to (greatest t.table.width) (map_by t) c.args.size c.args.lo c.args.hi) (same_before (g.R.Rows.sheet c.args.rows.now) (g.R.Rows.sheet c.root-word.new.self) (g.R.Rows.sheet c.to_lowest-leaves.new.rows) lowest_in (record { size = c.args.size; lo = c.args.lo; hi = c.args.hi }) (place_in lowest_in (record { size = c.args.size; lo = c.args.lo; hi = c.args.hi }) (g.R.Rows.sheet c.root-word.new.self).tree) c.args.steps.now c.to_lowest-leaves.new.steps c.to_lowest-leaves.result.items c.root-word.ensures.rest c.to_lowest-leaves.ensures))
 
 pub returns-clause-steps : goal.returns-clause-steps
 returns-clause-steps g c =
