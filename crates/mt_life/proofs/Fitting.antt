@@ -1,18 +1,24 @@
 -- What is known of rows tells where each row that is reached stands.
-use Rattle.std.proofs.Common.{◌≡◌, ◌≢◌, ℕ, zero, suc, ◌≤◌, List, [], ◌∷◌, length, length-append, refl, sym, ap, ◌∙◌, subst, arith}
+use Rattle.std.proofs.Common.{◌≡◌, ◌≢◌, ℕ, zero, suc, ◌≤◌, List, [], ◌∷◌, length, length-append, refl, sym, ap, ◌∙◌, subst, ⊎_elim, arith}
+use Rattle.std.specs.Prelude.{◌*◌}
 use Rattle.std.specs.List.{AllByRecursion}
 use Rattle.mt_base.specs.declared.kinds.Kind.{Kind}
+use Rattle.mt_base.specs.declared.widths.Width.{Width}
+use Rattle.mt_base.specs.Call.{finds_room}
+use Rattle.mt_base.specs.Width.{kind_width, most_rows}
 use Rattle.mt_layout.specs.Rows.{row_in}
+use Rattle.mt_layout.specs.Sizes.{slots_of}
 use Rattle.mt_layout.specs.declared.spans.Span.{Span}
-use Rattle.mt_rows.specs.Spans.{spans_in}
+use Rattle.mt_rows.specs.Spans.{inner_kind, spans_in}
 use Rattle.mt_rows.specs.Levels.{expand, level, Levels}
-use Rattle.mt_rows.specs.Laws.{Tree, IsRow, Stands}
+use Rattle.mt_rows.specs.Laws.{Tree, IsRow, IsTree, Stands}
 use Rattle.mt_rows.specs.Publish.{tree_as}
 use Rattle.mt_rows.specs.Replacement.{root_of}
 use Rattle.mt_rows.proofs.Lists.{all_expand}
 use Rattle.mt_rows.proofs.Heights.{level_rows}
 use Rattle.mt_rows.proofs.InnerKinds.{inner_not_named}
 use Rattle.mt_rows.proofs.Depth.{some_least}
+use Rattle.mt_rows.proofs.NineLevels.{few_slots_passed}
 use Rattle.mt_rows.proofs.Reached.{all_one_of, OnLevel}
 use Rattle.mt_life.specs.declared.views.Extent.{Extent}
 use Rattle.mt_life.specs.declared.views.Moment.{Moment}
@@ -43,9 +49,9 @@ module _ (kind : Kind) (s : State) (e : ℕ → Extent) (m : ℕ → Moment) (kn
   pub levels_fit : (h level : ℕ) (xs : List Span) → Levels (IsRow T) T.table h xs → AllByRecursion (Fits level) xs → 1 ≤ length xs → (level ≡ h) × Levels Fits T.table h xs
   levels_fit zero zero xs rows fits some = (refl, fits)
   levels_fit zero (suc level) [] rows fits some = absurd (omega arith)
-  levels_fit zero (suc level) (x ∷ xs) rows fits some = absurd (inner_not_named kind (sym fits.0.named ∙ rows.0.name.named))
+  levels_fit zero (suc level) (x ∷ xs) rows fits some = absurd (inner_not_named (finds_room kind) (sym fits.0.named ∙ rows.0.name.named))
   levels_fit (suc h) level [] rows fits some = absurd (omega arith)
-  levels_fit (suc h) zero (x ∷ xs) rows fits some = absurd (inner_not_named kind (sym rows.0.0.name.named ∙ fits.0.named))
+  levels_fit (suc h) zero (x ∷ xs) rows fits some = absurd (inner_not_named (finds_room kind) (sym rows.0.0.name.named ∙ fits.0.named))
   levels_fit (suc h) (suc level) (x ∷ xs) rows fits some =
       let behind = levels_fit h level (expand T.table (x ∷ xs)) rows.1 (all_expand (Fits level) T.table (x ∷ xs) (all_children_known level (x ∷ xs) fits)) (some_children (suc h) x xs rows.0.0) in
       (ap suc behind.0, (subst (λ (k : ℕ). AllByRecursion (Fits k) (x ∷ xs)) (ap suc behind.0) fits, behind.1))
@@ -56,3 +62,14 @@ module _ (kind : Kind) (s : State) (e : ℕ → Extent) (m : ℕ → Moment) (kn
 
   pub placed : (h : ℕ) → Stands T h → s.tree.root ≢ 0 → (k : ℕ) (x : Span) → OnLevel T.table h (root_of T) k x → Fits k x
   placed h stands some k x on = all_one_of (Fits k) (level T.table on.depth (root_of T)) x (level_rows Fits T.table on.depth k h (root_of T) on.height (all_fit h stands some)) on.one
+
+  -- the inner rows on a way from the root have few slots together
+  pub few_slots_below : IsTree T → s.tree.rows ≤ most_rows → s.tree.root ≢ 0 → slots_of (kind_width kind) (inner_kind kind) * (e (row_in s.tree.root)).level ≤ 128
+  few_slots_below tree named some = ⊎_elim
+      (λ (empty : s.tree.root ≡ 0). absurd (some empty))
+      (λ (at : (h : ℕ) × Stands T h).
+      let root = known.root some in
+      let level : (e (row_in s.tree.root)).level ≡ at.0 = ap (λ (n : Extent). n.level) root.2.extent ∙ (levels_fit at.0 root.0 (root_of T) at.1.rows (root.2, tt) (omega arith)).0 in
+      subst (λ (w : Width). slots_of w (inner_kind kind) * (e (row_in s.tree.root)).level ≤ 128) known.width
+      (subst (λ (h : ℕ). slots_of s.tree.table.width (inner_kind kind) * h ≤ 128) (sym level) (few_slots_passed T at.0 named at.1.rows)))
+      tree

@@ -28,17 +28,17 @@ use Rattle.mt_life.proofs.Staying.{true_false, none_reached}
 
 -- ---- of a tree alone
 
-spans_here : (t : Tree) (k : ℕ) (x : Span) → IsRow t k x → spans_at t.kind t.table (row_in x.word) (extent_at x k) ≡ spans_in t.table x
-spans_here t k x row = spans_named t.kind t.table k x row.name.named
+spans_here : (kind : Kind) (t : Rooted) (k : ℕ) (x : Span) → IsRow (tree_as kind t) k x → spans_at kind t.table (row_in x.word) (extent_at x k) ≡ spans_in t.table x
+spans_here kind t k x row = spans_named kind t.table k x row.name.named
 
 -- a row that stands in a tree has the shape of its extent
-pub shape_here : (t : Tree) (k : ℕ) (x : Span) → IsRow t k x → Shape t.kind t.table (row_in x.word) (extent_at x k)
-shape_here t zero x row = let same = sym (spans_here t zero x row) in record {
+pub shape_here : (kind : Kind) (t : Rooted) (k : ℕ) (x : Span) → IsRow (tree_as kind t) k x → Shape kind t.table (row_in x.word) (extent_at x k)
+shape_here kind t zero x row = let same = sym (spans_here kind t zero x row) in record {
   fills = subst (Fills x.first (x.last + 1)) same row.pivots.fills;
   apart = λ _. subst Apart same row.holes.apart;
   ends = λ _ low. subst EndsFull same (row.holes.ends low);
 }
-shape_here t (suc k) x row = let same = sym (spans_here t (suc k) x row) in record {
+shape_here kind t (suc k) x row = let same = sym (spans_here kind t (suc k) x row) in record {
   fills = subst (Fills x.first (x.last + 1)) same row.pivots.fills;
   apart = λ none. absurd (omega arith);
   ends = λ none _. absurd (omega arith);
@@ -47,7 +47,7 @@ shape_here t (suc k) x row = let same = sym (spans_here t (suc k) x row) in reco
 pub map_here : (kind : Kind) (t : Rooted) → t.table.width ≡ kind_width kind → IsTree (tree_as kind t) → IsMap kind (map_by t)
 map_here kind t wide tree = ⊎_elim
     (λ (empty : t.root ≡ 0). subst (λ (r : ℕ). IsMap kind (map_in t.table r)) (sym empty) (record { rise = tt; within = tt }))
-    (λ (at : (h : ℕ) × Stands (tree_as kind t) h). tree_map (tree_as kind t) at.0 at.1 wide)
+    (λ (at : (h : ℕ) × Stands (tree_as kind t) h). tree_map (tree_as kind t) at.0 at.1 kind wide)
     tree
 
 -- ---- where the rows that are reached are live, and their extents their places
@@ -93,12 +93,12 @@ module _ (kind : Kind) (t : Rooted) (lives : List Life) (e : ℕ → Extent) (tr
   pub shape_reached : (row : ℕ) → PlaceOf row → Shape kind t.table row (e row)
   shape_reached row p =
       subst (Shape kind t.table row) (sym (extent_reached row p))
-      (subst (λ (r : ℕ). Shape kind t.table r (extent_at p.span p.level)) p.is (shape_here T p.level p.span (on_level_law T p.height p.stands p.level p.span p.on)))
+      (subst (λ (r : ℕ). Shape kind t.table r (extent_at p.span p.level)) p.is (shape_here kind t p.level p.span (on_level_law T p.height p.stands p.level p.span p.on)))
 
   spans_reached : (row : ℕ) (p : PlaceOf row) → spans_at kind t.table row (e row) ≡ spans_in t.table p.span
   spans_reached row p =
       ap (spans_at kind t.table row) (extent_reached row p)
-      ∙ subst (λ (r : ℕ). spans_at kind t.table r (extent_at p.span p.level) ≡ spans_in t.table p.span) p.is (spans_here T p.level p.span (on_level_law T p.height p.stands p.level p.span p.on))
+      ∙ subst (λ (r : ℕ). spans_at kind t.table r (extent_at p.span p.level) ≡ spans_in t.table p.span) p.is (spans_here kind t p.level p.span (on_level_law T p.height p.stands p.level p.span p.on))
 
   pub leaf_reached : (row : ℕ) (now : Moment) → now ≡ moment_of t → PlaceOf row → (e row).level ≡ 0 → HasPart kind t.table row (e row) now
   leaf_reached row now is_now p leaf =

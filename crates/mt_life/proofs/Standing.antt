@@ -1,8 +1,8 @@
 -- A draft, a burying and a tending leave the words a tree: they keep all laws but those of parents and gaps.
-use Rattle.std.proofs.Common.{◌≡◌, ◌≢◌, ℕ, zero, suc, ◌<◌, List, length, Some, refl, sym, ap, ◌∙◌, subst, inl, inr, ⊎_elim, arith}
+use Rattle.std.proofs.Common.{◌≡◌, ◌≢◌, ℕ, zero, suc, ◌<◌, Bool, true, false, List, length, Some, refl, sym, ap, ◌∙◌, subst, inl, inr, ⊎_elim, arith}
 use Rattle.std.proofs.lemmas.Bool.{cases_eq}
 use Rattle.mt_base.specs.declared.kinds.Kind.{Kind}
-use Rattle.mt_base.specs.declared.kinds.Kind.TheVariants as trees
+use Rattle.mt_base.specs.Call.{finds_room}
 use Rattle.mt_base.specs.Width.{columns}
 use Rattle.mt_layout.specs.declared.names.RowKind.TheVariants.{Gapped}
 use Rattle.mt_layout.specs.Rows.{row_in, dead_mark}
@@ -11,9 +11,9 @@ use Rattle.mt_layout.specs.Sizes.{slots_of}
 use Rattle.mt_layout.specs.declared.spans.Span.{Span}
 use Rattle.mt_rows.specs.Spans.{spans_in}
 use Rattle.mt_rows.specs.Levels.{SameColumns, SameSpans}
-use Rattle.mt_rows.specs.Laws.{Tree, HasWords, IsTree, IsRow, Stands, kind_at}
+use Rattle.mt_rows.specs.Laws.{Tree, HasWords, IsTree, IsRow, Stands, kind_at, kind_on}
 use Rattle.mt_rows.specs.Sheet.{Rooted, Sheet, IsPlace, IsFree, MayBury, MayTend, IsGapOf, life_of, with_word, drafted, after_bury, tended}
-use Rattle.mt_rows.specs.Publish.{tree_as, IsTreeOf}
+use Rattle.mt_rows.specs.Publish.{tree_as, tree_on, IsTreeOf}
 use Rattle.mt_rows.specs.Replacement.{root_of}
 use Rattle.mt_rows.proofs.Frames.{same_spans}
 use Rattle.mt_rows.proofs.GapStore.{spans_stay, row_stays}
@@ -33,13 +33,13 @@ keeps : (t : Tree) (words : List ℕ) (k : ℕ) (x : Span) → IsRow t k x → S
 keeps t words k x row same = (row_keeps t words t.root k x same row, same_spans t.table (with_words t words t.root).table x refl same)
 
 -- a row in which a gap word is stored
-gap_keeps : (kind : Kind) (t : Rooted) (row col slot word k : ℕ) (x : Span) → row_in x.word ≡ row → col ≡ gap_column (slots_of t.table.width Gapped) slot
-    → HasWords (tree_as kind t) → IsRow (tree_as kind t) k x → kind_at kind k ≡ Gapped → slot < length (spans_in t.table x)
-    → IsRow (tree_as kind (with_word t row col word)) k x × SameSpans t.table (with_word t row col word).table x
-gap_keeps kind t row col slot word zero x is at has law gapped used = absurd cc
-gap_keeps trees.Range t row col slot word (suc k) x is at has law gapped used = absurd cc
-gap_keeps trees.Alloc t row col slot word (suc k) x is at has law gapped used =
-    subst (λ (q : ℕ × ℕ). IsRow (tree_as trees.Alloc (with_word t q.0 q.1 word)) (suc k) x × SameSpans t.table (with_word t q.0 q.1 word).table x)
+gap_keeps : (gaps : Bool) (t : Rooted) (row col slot word k : ℕ) (x : Span) → row_in x.word ≡ row → col ≡ gap_column (slots_of t.table.width Gapped) slot
+    → HasWords (tree_on gaps t) → IsRow (tree_on gaps t) k x → kind_on gaps k ≡ Gapped → slot < length (spans_in t.table x)
+    → IsRow (tree_on gaps (with_word t row col word)) k x × SameSpans t.table (with_word t row col word).table x
+gap_keeps gaps t row col slot word zero x is at has law gapped used = absurd cc
+gap_keeps false t row col slot word (suc k) x is at has law gapped used = absurd cc
+gap_keeps true t row col slot word (suc k) x is at has law gapped used =
+    subst (λ (q : ℕ × ℕ). IsRow (tree_on true (with_word t q.0 q.1 word)) (suc k) x × SameSpans t.table (with_word t q.0 q.1 word).table x)
     (λ i. (is i, sym at i))
     (row_stays t k slot word x has law used, spans_stay t k slot word x has law used)
 
@@ -112,7 +112,7 @@ module _ (kind : Kind) (s : Sheet) (e : ℕ → Extent) (m : ℕ → Moment) (kn
         (λ (here : row_in x.word ≡ row).
         let gapped : kind_at kind k ≡ Gapped =
         let some : Some (kind_at kind k) ≡ Some Gapped = ap (λ (n : Extent). Some (kind_at kind n.level)) (sym fits.extent) ∙ (ap (λ (r : ℕ). Some (kind_at kind (e r).level)) here ∙ gap_row kind (state_of s) e m known row col gap) in cc in
-        gap_keeps kind s.tree row col gap.slot word k x here gap.column full.words law gapped (gap_used row col k x gap fits here))
+        gap_keeps (finds_room kind) s.tree row col gap.slot word k x here gap.column full.words law gapped (gap_used row col k x gap fits here))
         (λ (apart : row_in x.word ≢ row). keeps T (tended s row col word).tree.table.words k x law (λ c above inside. row_others s.tree row col word may.at (row_in x.word) c apart inside))
         (cases_eq (row_in x.word) row))
         may.column)

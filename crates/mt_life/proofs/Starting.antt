@@ -8,7 +8,7 @@ use Rattle.mt_layout.proofs.RowSizes.{few_slots_of}
 use Rattle.mt_rows.specs.declared.rows.Life.TheVariants.{Live, Dead}
 use Rattle.mt_rows.specs.Spans.{Table, column, spans_in}
 use Rattle.mt_rows.specs.Levels.{level, Levels}
-use Rattle.mt_rows.specs.Laws.{Tree, IsTree, IsLawful, Stands, IsTended, ParentsFrom, kind_at}
+use Rattle.mt_rows.specs.Laws.{Tree, IsTree, IsLawful, Stands, IsTended, ParentsFrom, kind_on}
 use Rattle.mt_rows.specs.Sheet.{Rooted, life_of, is_buried}
 use Rattle.mt_rows.specs.Publish.{tree_as, is_reached, IsReached, IsLawfulOf, LiveAreReached, NoneBuried}
 use Rattle.mt_rows.specs.Replacement.{root_of}
@@ -42,7 +42,7 @@ module _ (t : Tree) (h : ℕ) (stands : Stands t h) (root : column t.table (row_
       let law = on_level_law t h stands (suc k) above.0 on_above in
       let parents = all_one_of (IsTended t (suc k)) (level t.table d (root_of t)) above.0 (level_rows (IsTended t) t.table d (suc k) h (root_of t) (omega arith) tended) above.1 in
       let place = parents_at t.table (row_in above.0.word) 0 (spans_in t.table above.0) x parents.parent above.2 in
-      let most = row_most law.name in let few = few_slots_of t.table.width (kind_at t.kind (suc k)) in let high = place.2 in let is = place.3 in
+      let most = row_most law.name in let few = few_slots_of t.table.width (kind_on t.gapped (suc k)) in let high = place.2 in let is = place.3 in
       let same : row_in x.word ≡ row_in above.0.word = omega arith in
       let level = (one_place t h stands k (suc k) x above.0 on_here on_above same).0 in
       absurd (omega arith)

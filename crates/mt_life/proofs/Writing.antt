@@ -5,6 +5,7 @@ use Rattle.std.proofs.lemmas.Bool.{cases_eq}
 use Rattle.std.specs.List.{AllByRecursion, flat_map}
 use Rattle.mt_base.specs.declared.ranges.Range.{Range}
 use Rattle.mt_base.specs.declared.kinds.Kind.{Kind}
+use Rattle.mt_base.specs.Call.{finds_room}
 use Rattle.mt_base.specs.Width.{columns, first_row, deepest}
 use Rattle.mt_layout.specs.declared.names.RowKind.TheVariants as kinds
 use Rattle.mt_layout.specs.Rows.{row_in, named_kind, dead_mark}
@@ -117,10 +118,10 @@ module _ (kind : Kind) (s : State) (e : ℕ → Extent) (m : ℕ → Moment) (kn
         ∙ (ap (λ (xs : List Span). flat_map leaf_range xs) (spans_kept zero x fits)
         ∙ sym (by_leaf (named_kind x.word) (flat_map leaf_range (spans_in s.tree.table x)) (flat_map (ranges_of s.tree.table depth) (spans_in s.tree.table x)) fits.named))
     ranges_kept (suc depth) (suc level) x fits =
-        by_inner kind (named_kind x.word) (flat_map leaf_range (spans_in u.tree.table x)) (flat_map (ranges_of u.tree.table depth) (spans_in u.tree.table x)) fits.named
+        by_inner (finds_room kind) (named_kind x.word) (flat_map leaf_range (spans_in u.tree.table x)) (flat_map (ranges_of u.tree.table depth) (spans_in u.tree.table x)) fits.named
         ∙ (ap (flat_map (ranges_of u.tree.table depth)) (spans_kept (suc level) x fits)
         ∙ (flat_kept (ranges_of u.tree.table depth) (ranges_of s.tree.table depth) level (ranges_kept depth level) (spans_in s.tree.table x) (children_known kind s e m known level x fits)
-        ∙ sym (by_inner kind (named_kind x.word) (flat_map leaf_range (spans_in s.tree.table x)) (flat_map (ranges_of s.tree.table depth) (spans_in s.tree.table x)) fits.named)))
+        ∙ sym (by_inner (finds_room kind) (named_kind x.word) (flat_map leaf_range (spans_in s.tree.table x)) (flat_map (ranges_of s.tree.table depth) (spans_in s.tree.table x)) fits.named)))
 
     map_kept : map_by s.tree ≡ map_by u.tree
     map_kept = ⊎_elim

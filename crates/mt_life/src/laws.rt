@@ -1,11 +1,11 @@
 //! What is known of rows from call to call. Each law is the contract of a function that does nothing.
 
-ghost use Rattle.std.specs.Prelude.{◌≡◌, ◌≢◌, ℕ, suc, ◌+◌, ◌<◌, ◌≤◌, ◌==◌, false, List, Some, length};
+ghost use Rattle.std.specs.Prelude.{◌≡◌, ◌≢◌, ℕ, suc, ◌+◌, ◌*◌, ◌<◌, ◌≤◌, ◌==◌, false, List, Some, length};
 ghost use Rattle.std.specs.List.{AllByRecursion, flat_map, slice_get};
 ghost use Rattle.mt_base.specs.declared.calls.Call.{Call};
 ghost use Rattle.mt_base.specs.declared.kinds.Kind.{Kind};
 ghost use Rattle.mt_base.specs.declared.replies.Reply.{Reply};
-ghost use Rattle.mt_base.specs.Width.{deepest, first_row};
+ghost use Rattle.mt_base.specs.Width.{deepest, first_row, kind_width, most_rows};
 ghost use Rattle.mt_layout.specs.declared.spans.Span.{Span};
 ghost use Rattle.mt_layout.specs.Rows.{dead_mark, named_kind, row_in};
 ghost use Rattle.mt_layout.specs.Columns.{slot_column};
@@ -17,7 +17,7 @@ ghost use Rattle.mt_rows.specs.declared.rows.Scan.{Scan};
 ghost use Rattle.mt_rows.specs.Laws.{IsTree, NameLaw, Stands, kind_at};
 ghost use Rattle.mt_rows.specs.Publish.{IsLawfulOf, IsTreeOf, LiveAreReached, MayFinish, MayPublish, NoneBuried, Published, StandsAt, finished, tree_as, with_published};
 ghost use Rattle.mt_rows.specs.Sheet.{IsFree, IsPlace, MayBegin, MayBury, MayTend, Rooted, Sheet, after_bury, begun, drafted, life_of, scanned, tended, word_at};
-ghost use Rattle.mt_rows.specs.Spans.{Table, column, root_span, spans_in};
+ghost use Rattle.mt_rows.specs.Spans.{Table, column, inner_kind, root_span, spans_in};
 ghost use Rattle.mt_life.specs.declared.views.Extent.{Extent};
 ghost use Rattle.mt_life.specs.declared.views.Held.{Held};
 ghost use Rattle.mt_life.specs.declared.views.Moment.{Moment};
@@ -38,6 +38,12 @@ pub fn a_tree_is_in_parts()
 /// The extents that are known are those at which rows stand.
 pub fn extents_are_places()
     ensures { (kind : Kind) (s : State) (e : ℕ → Extent) (m : ℕ → Moment) (h k : ℕ) (x : Span) → Known kind s e m → Stands (tree_as kind s.tree) h → StandsAt s.tree k x → Child kind s.tree.rows s.lives e IsLive k x }
+{}
+
+/// The root's level is known to be so low that the inner rows on a way from it have few slots together, of whatever kind.
+pub fn a_way_from_the_root_has_few_slots()
+    ensures { (kind : Kind) (s : State) (e : ℕ → Extent) (m : ℕ → Moment) → Known kind s e m → IsTree (tree_as kind s.tree) → s.tree.rows ≤ most_rows → s.tree.root ≢ 0
+        → slots_of (kind_width kind) (inner_kind kind) * (e (row_in s.tree.root)).level ≤ 128 }
 {}
 
 /// Each tree has extents of its rows, also as a list.

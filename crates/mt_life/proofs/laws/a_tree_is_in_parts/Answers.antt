@@ -29,5 +29,5 @@ returns c = record {
   low = λ kind h t stands. stands.low;
   leaf = λ kind h t x stands at. leaf_part (tree_as kind t) h stands x (on_level (tree_as kind t) h stands 0 x at);
   inner = inner_parts;
-  shape = λ kind h k t x stands at. shape_here (tree_as kind t) k x (on_level_law (tree_as kind t) h stands k x (on_level (tree_as kind t) h stands k x at));
+  shape = λ kind h k t x stands at. shape_here kind t k x (on_level_law (tree_as kind t) h stands k x (on_level (tree_as kind t) h stands k x at));
 }
