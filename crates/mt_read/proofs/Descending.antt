@@ -1,14 +1,15 @@
 -- How a walk comes from a row to the one below.
-use Rattle.std.proofs.Common.{◌≡◌, ◌≢◌, ℕ, suc, ◌+◌, ◌<◌, ◌≤◌, List, [], ◌∷◌, length, Option, Some, None, refl, sym, ap, ◌∙◌, subst, arith}
+use Rattle.std.proofs.Common.{◌≡◌, ◌≢◌, ℕ, zero, suc, ◌+◌, ◌*◌, ◌<◌, ◌≤◌, List, [], ◌∷◌, length, Option, Some, None, refl, sym, ap, ◌∙◌, subst, arith}
 use Rattle.std.specs.Prelude.{IfSome}
 use Rattle.std.specs.List.{slice_get}
 use mathlib.Core.Option.{some}
 use lib.ListN.{get_elem?}
+use Rattle.std.proofs.Math.Nat.{mul-add}
 use Rattle.std.proofs.lemmas.Option.{slice_get_within}
 use Rattle.mt_base.specs.declared.kinds.Kind.{Kind}
-use Rattle.mt_base.specs.declared.kinds.Kind.TheVariants as trees
 use Rattle.mt_base.specs.declared.widths.Width.{Width}
-use Rattle.mt_base.specs.Width.{greatest_of, kind_width}
+use Rattle.mt_base.specs.Call.{finds_room}
+use Rattle.mt_base.specs.Width.{greatest, greatest_of, kind_width}
 use Rattle.mt_base.proofs.Lists.{get_parts}
 use Rattle.mt_base.proofs.Goings.{begins_on}
 use Rattle.mt_layout.specs.declared.names.RowKind.TheVariants.{Leaf}
@@ -20,15 +21,16 @@ use Rattle.mt_layout.specs.Spans.{Fills}
 use Rattle.mt_layout.proofs.RowSizes.{few_slots_of}
 use Rattle.mt_layout.proofs.SpanLists.{fills_le, fills_split}
 use Rattle.mt_rows.specs.Laws.{kind_at}
+use Rattle.mt_rows.specs.Spans.{inner_kind}
 use Rattle.mt_rows.proofs.InnerKinds.{leaf_low}
 use Rattle.mt_life.specs.declared.views.Held.{Held}
 use Rattle.mt_rule.specs.declared.views.PassPart.{PassPart}
 use Rattle.mt_rule.specs.declared.views.Shape.{Shape}
-use Rattle.mt_rule.specs.Places.{column_at}
+use Rattle.mt_rule.specs.Places.{column_at, IsRowAt}
 use Rattle.mt_rule.specs.Sections.{Comes, LoadedChild, LoadedEntry, LoadedRootRow, LoadedSlot, behind_first, floor_or, IsAt, Reads, here, kind_of, slots_in, spans_here, with_seen}
 use Rattle.mt_read.specs.declared.descent.Row.{Row}
 use Rattle.mt_read.specs.declared.descent.Place.{Place}
-use Rattle.mt_read.specs.Walks.{GoesOn, GoesOnTo, IsOn, IsPlaceIn, IsUnder, SeesMore, WasMarked}
+use Rattle.mt_read.specs.Walks.{GoesOn, GoesOnTo, IsOn, IsPlaceIn, IsUnder, SeesMore, WasMarked, steps_down}
 use Rattle.mt_life.proofs.Slots.{span_in_slot}
 use Rattle.mt_life.specs.Holding.{copy_of}
 use Rattle.mt_read.proofs.Finding.{count_is, slots_counted}
@@ -36,30 +38,30 @@ use Rattle.mt_read.proofs.Finding.{count_is, slots_counted}
 -- ---- leaves and inner rows
 
 pub leaf_level : (q : PassPart) (row : Row) → IsOn q row → row.kind ≡ Leaf → (here q).extent.level ≡ 0
-leaf_level q row on leaf = leaf_low q.shape.kind (here q).extent.level (sym on.kind ∙ leaf)
+leaf_level q row on leaf = leaf_low (finds_room q.shape.kind) (here q).extent.level (sym on.kind ∙ leaf)
 
 pub inner_level : (q : PassPart) (row : Row) → IsOn q row → row.kind ≢ Leaf → (here q).extent.level ≢ 0
 inner_level q row on inner none = inner (on.kind ∙ ap (kind_at q.shape.kind) none)
 
 -- ---- the slot's column
 
-pub column_of_slot : (q : PassPart) (row : Row) (place : Place) (shape : Shape) (n : ℕ) (w : Width) → IsOn q row → q.shape ≡ shape → w ≡ kind_width shape.kind → n ≡ slots_of w row.kind → n + place.slot ≡ slot_column (slots_in q (here q)) place.slot
-column_of_slot q row place shape n w on same wide count = ap (λ (m : ℕ). m + place.slot) (slots_counted q row on n w (wide ∙ ap (λ (s : Shape). kind_width s.kind) (sym same)) count)
+pub column_of_slot : (q : PassPart) (row : Row) (place : Place) (n : ℕ) → IsOn q row → n ≡ slots_of row.width row.kind → n + place.slot ≡ slot_column (slots_in q (here q)) place.slot
+column_of_slot q row place n on count = ap (λ (m : ℕ). m + place.slot) (slots_counted q row on n count)
 
 -- a place's slot, as a load of it has it
-pub slot_is : (q : PassPart) (row : Row) (place : Place) (shape : Shape) (n : ℕ) (w : Width) → IsOn q row → IsPlaceIn q place → q.shape ≡ shape → w ≡ kind_width shape.kind → n ≡ slots_of w row.kind
+pub slot_is : (q : PassPart) (row : Row) (place : Place) (n : ℕ) → IsOn q row → IsPlaceIn q place → n ≡ slots_of row.width row.kind
     → (i : ℕ) × (n + place.slot ≡ slot_column (slots_in q (here q)) i) × (i < length (spans_here q (here q)))
-slot_is q row place shape n w on is same wide count = (
+slot_is q row place n on is count = (
   place.slot,
-  column_of_slot q row place shape n w on same wide count,
+  column_of_slot q row place n on count,
   slice_get_within (spans_here q (here q)) place.slot _ is.stands,
 )
 
 -- and it is a column's number
-pub slot_fits : (q : PassPart) (row : Row) (place : Place) (shape : Shape) (n : ℕ) (w : Width) → IsOn q row → IsPlaceIn q place → q.shape ≡ shape → w ≡ kind_width shape.kind → n ≡ slots_of w row.kind → n + place.slot < 32
-slot_fits q row place shape n w on is same wide count =
+pub slot_fits : (q : PassPart) (row : Row) (place : Place) (n : ℕ) → IsOn q row → IsPlaceIn q place → n ≡ slots_of row.width row.kind → n + place.slot < 64
+slot_fits q row place n on is count =
     let used = (span_in_slot q.shape.kind (copy_of (here q)) (here q).row place.slot (here q).extent _ is.stands).0 in
-    let counted = count_is q row on shape n w same wide count in
+    let counted = count_is q row on n count in
     let few = few_slots_of (here q).width (kind_of q (here q)) in
     omega arith
 
@@ -81,19 +83,23 @@ place_within q row place on is =
 -- ---- the child
 
 -- the row that a name was read as
-pub record IsNamed (name min max : ℕ) (row : Row) : Type 0 where
-  pub number : row.number ≡ row_in name
+pub record IsNamed (name : ℕ) (width : Width) (min max : ℕ) (row : Row) : Type 0 where
+  pub number : row.at.number ≡ row_in name
+  pub base_is : IsRowAt width row.at
   pub kind : Some row.kind ≡ named_kind name
+  pub width_is : row.width ≡ width
   pub min_is : row.min ≡ min
   pub max_is : row.max ≡ max
 
-pub on_come : (q : PassPart) (row : Row) (name since min max : ℕ) → IsAt q → Comes q (here q) name since → IsNamed name min max row → (here q).extent.first ≡ min → (here q).extent.last ≡ max → max ≤ greatest_of q.shape.kind → IsOn q row
-on_come q row name since min max at comes named first last within =
+pub on_come : (q : PassPart) (row : Row) (name since : ℕ) (width : Width) (min max : ℕ) → IsAt q → Comes q (here q) name since → IsNamed name width min max row → width ≡ kind_width q.shape.kind → (here q).extent.first ≡ min → (here q).extent.last ≡ max → max ≤ greatest_of q.shape.kind → IsOn q row
+on_come q row name since width min max at comes named wide first last within =
     let met = comes.met in
     record {
       at = at;
       number = named.number ∙ sym comes.row;
+      base = subst (λ (w : Width). IsRowAt w row.at) wide named.base_is;
       kind = (let same : Some row.kind ≡ Some (kind_of q (here q)) = named.kind ∙ comes.named in cc);
+      wide = named.width_is ∙ wide;
       min = named.min_is ∙ sym first;
       max = named.max_is ∙ sym last;
       within = omega arith;
@@ -105,17 +111,18 @@ on_come q row name since min max at comes named first last within =
     }
 
 module _ (q q' : PassPart) (row : Row) (place : Place) (col name : ℕ) (on : IsOn q row) (is : IsPlaceIn q place) (column : col ≡ slot_column (slots_in q (here q)) place.slot)
-    (inner : row.kind ≢ Leaf) (told : LoadedSlot (column_at (kind_width q.shape.kind) row.number col) name q q') where
-  pub comes_to : LoadedChild (column_at (kind_width q.shape.kind) row.number col) name q q'
+    (inner : row.kind ≢ Leaf) (told : LoadedSlot (column_at (kind_width q.shape.kind) row.at.number col) name q q') where
+  pub comes_to : LoadedChild (column_at (kind_width q.shape.kind) row.at.number col) name q q'
   comes_to = told.child (inner_level q row on inner)
 
-  pub child_on : (child : Row) → IsNamed name place.first place.last child → IsOn q' child
+  pub child_on : (child : Row) → IsNamed name row.width place.first place.last child → IsOn q' child
   child_on child named =
-      let word : column_at (kind_width q.shape.kind) row.number col ≡ column_at (kind_width q.shape.kind) (here q).row (slot_column (slots_in q (here q)) place.slot) = (λ i. column_at (kind_width q.shape.kind) (on.number i) (column i)) in
+      let word : column_at (kind_width q.shape.kind) row.at.number col ≡ column_at (kind_width q.shape.kind) (here q).row (slot_column (slots_in q (here q)) place.slot) = (λ i. column_at (kind_width q.shape.kind) (on.number i) (column i)) in
       let covers = comes_to.covers place.slot _ word is.stands in
       let ends = (place_within q row place on is).2 in let within = on.within in
       let shape : q'.shape ≡ q.shape = ap (λ (z : PassPart). z.shape) comes_to.reads.is in
-      on_come q' child name (here q).since place.first place.last comes_to.at comes_to.comes named covers.0 covers.1 (subst (λ (s : Shape). place.last ≤ greatest_of s.kind) (sym shape) (omega arith))
+      on_come q' child name (here q).since row.width place.first place.last comes_to.at comes_to.comes named (on.wide ∙ ap (λ (s : Shape). kind_width s.kind) (sym shape)) covers.0 covers.1
+      (subst (λ (s : Shape). place.last ≤ greatest_of s.kind) (sym shape) (omega arith))
 
 -- ---- going on
 
@@ -183,13 +190,28 @@ pub root_under : (q q' : PassPart) (found : ℕ) → LoadedRootRow found q q' �
 root_under q q' found told at = subst (λ (z : PassPart). IsUnder z (here q)) (sym told.reads.is) (0, at)
 
 -- the root row covers every index
-pub root_on : (q q' : PassPart) (name top : ℕ) (row : Row) → LoadedRootRow name q q' → top ≡ greatest_of q.shape.kind → IsNamed name 0 top row → IsOn q' row
-root_on q q' name top row told all named =
-    let shape : q'.shape ≡ q.shape = ap (λ (z : PassPart). z.shape) told.reads.is in
-    let end : top ≡ greatest_of q'.shape.kind = all ∙ ap (λ (s : Shape). greatest_of s.kind) (sym shape) in
-    on_come q' row name (length q'.seen) 0 top told.at told.comes named told.first (told.last ∙ sym end) (omega arith)
+pub root_on : (q q' : PassPart) (name : ℕ) (width : Width) (top : ℕ) (row : Row) → LoadedRootRow name q q' → width ≡ kind_width q'.shape.kind → top ≡ greatest width → IsNamed name width 0 top row → IsOn q' row
+root_on q q' name width top row told wide all named =
+    let end : top ≡ greatest_of q'.shape.kind = all ∙ ap greatest wide in
+    on_come q' row name (length q'.seen) width 0 top told.at told.comes named wide told.first (told.last ∙ sym end) (omega arith)
 
--- the greatest index of a tree is a number of the machine, and every such number is an index
-pub greatest_fits : (kind : Kind) → greatest_of kind ≡ 18446744073709551615
-greatest_fits trees.Range = refl
-greatest_fits trees.Alloc = refl
+-- ---- steps
+
+-- an inner row has as many slots as each other
+pub inner_slots : (q : PassPart) → (here q).extent.level ≢ 0 → slots_in q (here q) ≡ slots_of (kind_width q.shape.kind) (inner_kind q.shape.kind)
+inner_slots q inner = by_level (here q).extent.level inner
+  where
+    by_level : (level : ℕ) → level ≢ 0 → slots_of (kind_width q.shape.kind) (kind_at q.shape.kind level) ≡ slots_of (kind_width q.shape.kind) (inner_kind q.shape.kind)
+    by_level zero inner = absurd (inner refl)
+    by_level (suc level) inner = refl
+
+one_level : (s t below level before middle after : ℕ) → below + 1 ≡ level → s ≡ t → middle + 1 ≤ before + t → after ≡ middle + 1 → after + s * below ≤ before + t * level
+one_level s t below level before middle after next same few last =
+    let more = ap (λ (n : ℕ). t * n) next in let turned = ap (λ (n : ℕ). n * below) same in omega (arith, more, turned, mul-add t below 1)
+
+-- the pivots of an inner row and the slot that they lead to: a walk goes a level down
+pub level_down : (q q' : PassPart) (before middle after : ℕ) → (here q).extent.level ≢ 0 → (here q').extent.level + 1 ≡ (here q).extent.level → q'.shape.kind ≡ q.shape.kind
+    → middle + 1 ≤ before + slots_in q (here q) → after ≡ middle + 1 → after + steps_down q' ≤ before + steps_down q
+level_down q q' before middle after inner next kind few last =
+    one_level (slots_of (kind_width q'.shape.kind) (inner_kind q'.shape.kind)) (slots_of (kind_width q.shape.kind) (inner_kind q.shape.kind)) (here q').extent.level (here q).extent.level before middle after
+    next (ap (λ (k : Kind). slots_of (kind_width k) (inner_kind k)) kind) (subst (λ (n : ℕ). middle + 1 ≤ before + n) (inner_slots q inner) few) last

@@ -17,7 +17,6 @@ use Rattle.mt_path.proofs.Searches.{Passed, Ends, passed_more, ends_at_pivot, en
 use Rattle.mt_rows.specs.Spans.{base_of}
 use Rattle.mt_rule.specs.declared.passes.Pass.{Pass}
 use Rattle.mt_rule.specs.declared.views.PassPart.{PassPart}
-use Rattle.mt_rule.specs.declared.views.Shape.{Shape}
 use Rattle.mt_rule.specs.Places.{column_at}
 use Rattle.mt_rule.specs.Sections.{LoadedPivot, here, kind_of, slots_in, spans_here, with_seen}
 use Rattle.mt_rule.specs.Tokens.{Identity, IsPassOf, part_of}
@@ -36,7 +35,9 @@ on_more q q' row s on =
     subst (λ (z : PassPart). IsOn z row) (sym s.is) (record {
       at = on.at;
       number = on.number;
+      base = on.base;
       kind = on.kind;
+      wide = on.wide;
       min = on.min;
       max = on.max;
       within = on.within;
@@ -64,10 +65,10 @@ module _ (q : PassPart) (row : Row) (on : IsOn q row) where
   slots_are = ap (λ (w : Width). slots_of w (kind_of q x)) (sym on.width)
 
   -- so many as the code counts
-  pub slots_counted : (n : ℕ) (w : Width) → w ≡ kind_width q.shape.kind → n ≡ slots_of w row.kind → n ≡ slots_in q x
-  slots_counted n w wide count = count ∙ (λ i. slots_of (wide i) (on.kind i))
+  pub slots_counted : (n : ℕ) → n ≡ slots_of row.width row.kind → n ≡ slots_in q x
+  slots_counted n count = count ∙ (λ i. slots_of (on.wide i) (on.kind i))
 
-  pub column_is : (col : ℕ) → column_at (kind_width q.shape.kind) row.number col ≡ base_of (copy_of x) x.row + col
+  pub column_is : (col : ℕ) → column_at (kind_width q.shape.kind) row.at.number col ≡ base_of (copy_of x) x.row + col
   column_is col = (λ i. columns (sym on.width i) * on.number i + col)
 
 -- The slots below this one do not hold the index, and it begins at `first`.
@@ -128,11 +129,11 @@ module _ (q : PassPart) (index : ℕ) where
 -- ---- as the code finds it
 
 module _ (q : PassPart) (row : Row) (on : IsOn q row) where
-  pub pivot_is : (q₁ q₂ : PassPart) (slot found : ℕ) → SeesMore q q₁ → LoadedPivot (column_at (kind_width q₁.shape.kind) row.number (1 + slot)) found q₁ q₂
+  pub pivot_is : (q₁ q₂ : PassPart) (slot found : ℕ) → SeesMore q q₁ → LoadedPivot (column_at (kind_width q₁.shape.kind) row.at.number (1 + slot)) found q₁ q₂
       → found ≡ slice_index (here q).copy (base_of (copy_of (here q)) (here q).row + pivot_column slot)
   pivot_is q₁ q₂ slot found s told =
-      told.found_is ∙ ((λ i. slice_index (here (s.is i)).copy (column_at (kind_width (s.is i).shape.kind) row.number (1 + slot))) ∙ ap (slice_index (here q).copy) (column_is q row on (1 + slot)))
+      told.found_is ∙ ((λ i. slice_index (here (s.is i)).copy (column_at (kind_width (s.is i).shape.kind) row.at.number (1 + slot))) ∙ ap (slice_index (here q).copy) (column_is q row on (1 + slot)))
 
   -- the code's number of slots
-  pub count_is : (shape : Shape) (n : ℕ) (w : Width) → q.shape ≡ shape → w ≡ kind_width shape.kind → n ≡ slots_of w row.kind → n ≡ slots_of (here q).width (kind_of q (here q))
-  count_is shape n w same wide count = slots_counted q row on n w (wide ∙ ap (λ (s : Shape). kind_width s.kind) (sym same)) count ∙ slots_are q row on
+  pub count_is : (n : ℕ) → n ≡ slots_of row.width row.kind → n ≡ slots_of (here q).width (kind_of q (here q))
+  count_is n count = slots_counted q row on n count ∙ slots_are q row on

@@ -13,8 +13,8 @@ use Rattle.mt_rule.specs.declared.views.PassPart.{PassPart}
 use Rattle.mt_rule.specs.Seats.{known_by, record_of}
 use Rattle.mt_rule.specs.Sections.{moment_seen}
 use Rattle.mt_rule.specs.Tokens.{Identity, tree_in}
-use Rattle.mt_read.specs.Answers.{Answers, within}
-use Rattle.mt_read.specs.Neighbours.{LeftMarked, WasLeftMarked, WasMoved, not_below}
+use Rattle.mt_read.specs.Answers.{Answers, not_below, within}
+use Rattle.mt_read.specs.Neighbours.{LeftMarked, WasLeftMarked, WasMoved, asked}
 use Rattle.mt_read.specs.Windows.{Began, Ended}
 use Rattle.mt_read.proofs.LastAnswers.{prev_within, rfind_within}
 use Rattle.mt_read.proofs.NextAnswers.{next_within}
@@ -49,15 +49,16 @@ prev_bounded q least index min value a = record {
 
 -- ---- given up
 
-pub was_left : (t : Identity) (q q₁ q₂ q₃ : PassPart) (query : Query) (lo hi : ℕ) → q.shape ≡ t.shape → Began lo q q₁ → LeftMarked query (length q₁.seen) q₁ q₂ → Ended hi q₂ q₃ → WasLeftMarked query lo hi q q₃
-was_left t q q₁ q₂ q₃ query lo hi of began left ended = record {
-  opened = q₁;
-  left = q₂;
-  began = began;
-  marked = left;
-  ended = ended;
-  marks = marks_after t q q₁ q₂ q₃ lo hi of began (left.x.row ∷ q₁.marks) left.beside.marked.goes ended ∙ ap (λ (z : PassPart). left.x.row ∷ z.marks) began.is;
-}
+pub was_left : (t : Identity) (q q₁ q₂ q₃ : PassPart) (query : Query) (lo hi : ℕ) → q.shape ≡ t.shape → Began lo q q₁ → LeftMarked (asked q₁.shape.kind query) (length q₁.seen) q₁ q₂ → Ended hi q₂ q₃ → WasLeftMarked query lo hi q q₃
+was_left t q q₁ q₂ q₃ query lo hi of began left ended =
+    let marked = subst (λ (k : Kind). LeftMarked (asked k query) (length q₁.seen) q₁ q₂) (ap (λ (z : PassPart). z.shape.kind) began.is) left in record {
+      opened = q₁;
+      left = q₂;
+      began = began;
+      marked = marked;
+      ended = ended;
+      marks = marks_after t q q₁ q₂ q₃ lo hi of began (marked.x.row ∷ q₁.marks) marked.beside.marked.goes ended ∙ ap (λ (z : PassPart). marked.x.row ∷ z.marks) began.is;
+    }
 
 pub was_moved : (t : Identity) (q q₁ q₂ q₃ : PassPart) (query : Query) (lo hi : ℕ) → q.shape ≡ t.shape → Began lo q q₁ → LeftMarked query (length q₁.seen) q₁ q₂ → Ended hi q₂ q₃ → known.IsSound (tree_in t) (known_by q₃) → WasMoved (tree_in t) (known_by q) lo hi (known_by q₃)
 was_moved t q q₁ q₂ q₃ query lo hi of began left ended sound =

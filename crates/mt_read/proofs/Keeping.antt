@@ -30,7 +30,7 @@ use Rattle.mt_read.proofs.Moments.{moment_stays}
 module _ (q q' : PassPart) (seen : List Moment) (begun ended epoch risen : ℕ) (marks : List ℕ) (is : q' ≡ record q { seen = seen; begun = begun; ended = ended; epoch = epoch; risen = risen; marks = marks }) (more : length q.seen ≤ length seen) where
   pub leaf_around : (leaf : Row) → IsOnLeaf q leaf → IsOnLeaf q' leaf
   leaf_around leaf at = subst (λ (z : PassPart). IsOnLeaf z leaf) (sym is) (let on = at.on in let met = on.met in record {
-    on = record { at = on.at; number = on.number; kind = on.kind; min = on.min; max = on.max; within = on.within; has = on.has; old = on.old; met = omega arith; width = on.width; shape = on.shape };
+    on = record { at = on.at; number = on.number; base = on.base; kind = on.kind; wide = on.wide; min = on.min; max = on.max; within = on.within; has = on.has; old = on.old; met = omega arith; width = on.width; shape = on.shape };
     level = at.level;
   })
 

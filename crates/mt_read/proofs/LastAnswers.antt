@@ -10,7 +10,7 @@ use Rattle.mt_base.specs.Call.{answer}
 use Rattle.mt_base.specs.Map.{IsMap, IsMapFrom, last_range}
 use Rattle.mt_base.proofs.Lists.{all_map}
 use Rattle.mt_life.specs.Moments.{IsPart}
-use Rattle.mt_read.specs.Neighbours.{not_below}
+use Rattle.mt_read.specs.Answers.{not_below}
 use Rattle.mt_read.proofs.MapAnswers.{Beside, Outside, same_filter, none_pass}
 
 -- ---- the last range of a list

@@ -54,7 +54,7 @@ kind_beside Beside x q q' m = ap (λ (z : PassPart). z.shape.kind) m.marked.goes
 pub kind_hole : (place : Place) (q q' : PassPart) → LeftHole place q q' → q'.shape.kind ≡ q.shape.kind
 kind_hole place q q' h = kind_beside IsBefore (here h.read) h.read q' h.beside ∙ kind_goes q h.read h.goes
 
-leaf_more : (q q' : PassPart) (leaf : Row) → SeesMore q q' → IsOnLeaf q leaf → IsOnLeaf q' leaf
+pub leaf_more : (q q' : PassPart) (leaf : Row) → SeesMore q q' → IsOnLeaf q leaf → IsOnLeaf q' leaf
 leaf_more q q' leaf s at = record { on = on_more q q' leaf s at.on; level = ap (λ (x : Held). x.extent.level) (here_more q q' s) ∙ at.level }
 
 -- ---- a leaf that is held as it was come to

@@ -13,7 +13,9 @@ pub mod MapAnswers
 pub mod Reading
 pub mod NextAnswers
 pub mod SlotAnswers
+pub mod Sought
 pub mod Silent
 pub mod Standing
 pub mod Stepping
+pub mod Upward
 pub mod Windows

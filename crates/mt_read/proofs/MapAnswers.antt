@@ -9,6 +9,7 @@ use Rattle.mt_base.specs.declared.calls.Query.TheVariants.{Load, Find}
 use Rattle.mt_base.specs.Call.{answer}
 use Rattle.mt_base.specs.Map.{IsMap, IsMapFrom, holds, holding, first_range}
 use Rattle.mt_base.specs.Width.{greatest_of}
+use Rattle.mt_base.proofs.AboveTop.{none_found_above}
 use Rattle.mt_base.proofs.Lists.{all_map, all_front, all_back, all_join}
 use Rattle.mt_layout.specs.declared.spans.Span.{Span}
 use Rattle.mt_layout.specs.Spans.{leaf_range}
@@ -39,7 +40,7 @@ module _ (kind : Kind) (m : List Range) (map : IsMap kind m) where
   abbrev top : ℕ
   top = greatest_of kind
 
-  in_order : AllByRecursion (Ordered top) m
+  pub in_order : AllByRecursion (Ordered top) m
   in_order = ordered 0 top m map.rise map.within
 
   -- of a hole
@@ -131,14 +132,14 @@ load_range m x index part from to = sym (ap (λ (l : List Range). holding l inde
 
 -- ---- the first range that ends at an index or above
 
-abbrev find_test : ℕ → ℕ → Range → Bool
+abbrev pub find_test : ℕ → ℕ → Range → Bool
 find_test index max r = nat_le index r.last && nat_le r.first max
 
 module _ (kind : Kind) (m : List Range) (map : IsMap kind m) (index : ℕ) where
   abbrev end : ℕ
   end = greatest_of kind
 
-  find_is : (i : ℕ) → i ≤ end → answer m (Find i end) ≡ first_range (filter (find_test i end) m)
+  pub find_is : (i : ℕ) → i ≤ end → answer m (Find i end) ≡ first_range (filter (find_test i end) m)
   find_is i low = rw (le-ltb end i low) refl
 
   pub find_range : (x : Range) → IsPart m x.first x.last (x ∷ []) → x.first ≤ index → index ≤ x.last → Some x ≡ answer m (Find index end)
@@ -199,11 +200,17 @@ nothing_within : (index max : ℕ) (o : Option Range) → max < index → within
 nothing_within index max None above = refl
 nothing_within index max (Some r) above = rw (lt-leb index max above) refl
 
-pub find_within : (kind : Kind) (m : List Range) (index max : ℕ) → IsMap kind m → index ≤ greatest_of kind → within index max (answer m (Find index (greatest_of kind))) ≡ answer m (Find index max)
-find_within kind m index max map low = elim (cases_Bool (nat_lt max index)) [
+low_within : (kind : Kind) (m : List Range) (index max : ℕ) → IsMap kind m → index ≤ greatest_of kind → within index max (answer m (Find index (greatest_of kind))) ≡ answer m (Find index max)
+low_within kind m index max map low = elim (cases_Bool (nat_lt max index)) [
   | inl above ↦ (let lt = ltb-true max index above in nothing_within index max (answer m (Find index (greatest_of kind))) lt ∙ rw above refl)
   | inr upto ↦ elim (cases_lt max index) [
     | inl lt ↦ (let clash : true ≡ false = sym (lt-ltb max index lt) ∙ upto in absurd cc)
     | inr le ↦ ap (within index max) (find_is kind m map index index low) ∙ (bounded index max 0 (greatest_of kind) m le map.rise map.within ∙ rw upto refl)
   ]
+]
+
+pub find_within : (kind : Kind) (m : List Range) (index max : ℕ) → IsMap kind m → within index max (answer m (Find index (greatest_of kind))) ≡ answer m (Find index max)
+find_within kind m index max map = elim (cases_lt (greatest_of kind) index) [
+  | inl above ↦ ap (within index max) (none_found_above kind m index (greatest_of kind) map above) ∙ sym (none_found_above kind m index max map above)
+  | inr low ↦ low_within kind m index max map low
 ]

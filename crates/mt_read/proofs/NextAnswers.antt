@@ -11,13 +11,10 @@ use Rattle.mt_base.specs.Map.{IsMap, IsMapFrom, first_range}
 use Rattle.mt_base.specs.Width.{greatest_of}
 use Rattle.mt_base.proofs.Lists.{all_map}
 use Rattle.mt_read.specs.Answers.{within}
-use Rattle.mt_read.proofs.MapAnswers.{Beside, same_filter, none_pass}
+use Rattle.mt_read.proofs.MapAnswers.{Beside, find_test, same_filter, none_pass}
 
 abbrev pub next_test : ℕ → ℕ → Range → Bool
 next_test index max r = nat_lt index r.first && nat_le r.first max
-
-abbrev find_test : ℕ → ℕ → Range → Bool
-find_test index max r = nat_le index r.last && nat_le r.first max
 
 -- what begins behind an index of a slot is what ends behind the slot
 module _ (m : List Range) (top a b index max : ℕ) (each : AllByRecursion (Beside top a b) m) (from : a ≤ index) (to : index ≤ b) where

@@ -37,14 +37,14 @@ pub leaf_kind : (q : PassPart) (leaf : Row) → IsOnLeaf q leaf → leaf.kind �
 leaf_kind q leaf at = at.on.kind ∙ ap (kind_at q.shape.kind) at.level
 
 module _ (q q' : PassPart) (leaf : Row) (place : Place) (col entry : ℕ) (at : IsOnLeaf q leaf) (is : IsPlaceIn q place) (slot : col ≡ slot_column (slots_in q (here q)) place.slot)
-    (told : LoadedSlot (column_at (kind_width q.shape.kind) leaf.number col) entry q q') where
+    (told : LoadedSlot (column_at (kind_width q.shape.kind) leaf.at.number col) entry q q') where
   abbrev x : Held
   x = here q
 
   abbrev y : Held
   y = here q'
 
-  enters : LoadedEntry (column_at (kind_width q.shape.kind) leaf.number col) entry q q'
+  enters : LoadedEntry (column_at (kind_width q.shape.kind) leaf.at.number col) entry q q'
   enters = told.entry at.level
 
   kind : q'.shape.kind ≡ q.shape.kind

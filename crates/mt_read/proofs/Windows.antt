@@ -25,13 +25,13 @@ use Rattle.mt_read.proofs.MapAnswers.{find_within}
 pub begins_records : (xs ys : List Moment) → known.Begins xs ys → known.Begins (records_of xs) (records_of ys)
 begins_records xs ys b = (records_of b.0, ap records_of b.1 ∙ map-append record_of xs b.0)
 
-pub bounded : (q : PassPart) (kind : Kind) (least index max : ℕ) (value : Option Range) → q.shape.kind ≡ kind → index ≤ greatest_of kind → Answers q least (Find index (greatest_of kind)) value → Answers q least (Find index max) (within index max value)
-bounded q kind least index max value same low a = record {
+pub bounded : (q : PassPart) (kind : Kind) (least index max : ℕ) (value : Option Range) → q.shape.kind ≡ kind → Answers q least (Find index (greatest_of kind)) value → Answers q least (Find index max) (within index max value)
+bounded q kind least index max value same a = record {
   k = a.k;
   low = a.low;
   high = a.high;
   map = a.map;
-  is = ap (within index max) a.is ∙ find_within kind (moment_seen q a.k).ranges index max (subst (λ (k : Kind). IsMap k (moment_seen q a.k).ranges) same a.map) low;
+  is = ap (within index max) a.is ∙ find_within kind (moment_seen q a.k).ranges index max (subst (λ (k : Kind). IsMap k (moment_seen q a.k).ranges) same a.map);
 }
 
 module _ (t : Identity) (q q₁ q₂ q₃ : PassPart) (lo hi : ℕ) (of : q.shape ≡ t.shape) (began : Began lo q q₁) (marks : List ℕ) (goes : GoesOnTo q₁ q₂ marks) (ended : Ended hi q₂ q₃) where

@@ -34,3 +34,8 @@ pub record AnswersBy (q : PassPart) (x : Held) (least : ℕ) (query : Query) (va
 abbrev pub within : ℕ → ℕ → Option Range → Option Range
 within index max None = None
 within index max (Some r) = if nat_le index max && nat_le r.first max then Some r else None
+
+-- the range, where the index is not below min and the range does not end below it
+abbrev pub not_below : ℕ → ℕ → Option Range → Option Range
+not_below index min None = None
+not_below index min (Some r) = if nat_le min index && nat_le min r.last then Some r else None

@@ -33,7 +33,7 @@ lo_of (Some kept) = kept.lo
 
 abbrev pub row_of : Option KeptLeaf → ℕ
 row_of None = 0
-row_of (Some kept) = kept.leaf.number
+row_of (Some kept) = kept.leaf.at.number
 
 -- The kept leaf covers the place, and the pass has loaded its dead mark and no other: more than `lo` calls have begun, of which
 -- it knows now that `begun` have.

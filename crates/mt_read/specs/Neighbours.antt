@@ -1,7 +1,8 @@
 -- Why a read is given up, and what is left of it.
 -- Source: this project's own; the kernel's mas_next begins again at the root where it finds a node dead.
-use Rattle.std.specs.Prelude.{◌≡◌, ◌≢◌, ℕ, ◌+◌, ◌-◌, ◌<◌, ◌≤◌, List, ◌∷◌, Option, Some, None, length, ◌&&◌, nat_le, if◌then◌else◌}
+use Rattle.std.specs.Prelude.{◌≡◌, ◌≢◌, ℕ, ◌+◌, ◌-◌, ◌<◌, ◌≤◌, List, ◌∷◌, None, length, nat_lt, if◌then◌else◌}
 use Rattle.std.specs.List.{flat_map}
+use Rattle.mt_base.specs.declared.kinds.Kind.{Kind}
 use Rattle.mt_base.specs.declared.ranges.Range.{Range}
 use Rattle.mt_base.specs.declared.calls.Query.{Query}
 use Rattle.mt_base.specs.declared.calls.Query.TheVariants.{Load, Find, Next, Prev, Rfind}
@@ -14,7 +15,7 @@ use Rattle.mt_life.specs.declared.views.Held.{Held}
 use Rattle.mt_rule.specs.declared.views.PassPart.{PassPart}
 use Rattle.mt_rule.specs.Sections.{here, spans_here}
 use Rattle.mt_read.specs.declared.descent.Place.{Place}
-use Rattle.mt_read.specs.Walks.{GoesOn, IsSameHold, IsUnder, WasMarked, WasRead}
+use Rattle.mt_read.specs.Walks.{GoesOn, IsSameHold, IsUnder, WasMarked, WasRead, sought}
 use Rattle.mt_read.specs.Windows.{Began, Ended}
 
 -- ---- a leaf and the leaf beside it
@@ -60,6 +61,15 @@ index_of (Next index max) = index
 index_of (Prev index min) = index
 index_of (Rfind index min) = index
 
+-- The query as a tree of this kind is asked it: from an index above the greatest a neighbour is looked for at the greatest. None
+-- begins behind that, and the last that ends below the index is the last that begins at the greatest or below.
+abbrev pub asked : Kind → Query → Query
+asked kind (Load index) = Load index
+asked kind (Find index max) = Find index max
+asked kind (Next index max) = Next (sought kind index) max
+asked kind (Prev index min) = if nat_lt (greatest_of kind) index then Rfind (greatest_of kind) min else Prev index min
+asked kind (Rfind index min) = Rfind (sought kind index) min
+
 -- where the answer is looked for that the leaf of the index does not have
 abbrev pub IsAside : Query → PassPart → Held → Type 0
 IsAside (Load index) q x = ⊥
@@ -77,12 +87,13 @@ pub record LeftMarked (query : Query) (least : ℕ) (q q' : PassPart) : Type 0 w
   pub none : answer (ranges_here q' x) query ≡ None
   pub beside : MarkedBeside (IsAside query) x q q'
 
--- The pass has opened a section at `lo`, has left a leaf in it that it then found marked, and has closed it.
+-- The pass has opened a section at `lo`, has left a leaf in it that it then found marked, and has closed it. The leaf covers the index
+-- that the tree was asked about.
 pub record WasLeftMarked (query : Query) (lo begun : ℕ) (q q' : PassPart) : Type 0 where
   pub opened : PassPart
   pub left : PassPart
   pub began : Began lo q opened
-  pub marked : LeftMarked query (length opened.seen) opened left
+  pub marked : LeftMarked (asked q.shape.kind query) (length opened.seen) opened left
   pub ended : Ended begun left q'
   pub marks : q'.marks ≡ marked.x.row ∷ q.marks
 
@@ -93,8 +104,3 @@ pub record WasMoved (tree : History) (p : known.Pass) (lo begun : ℕ) (q : know
   pub before : p.ended ≤ lo
   pub later : lo < begun
   pub sound : known.IsSound tree q
-
--- the range, where the index is not below min and the range does not end below it
-abbrev pub not_below : ℕ → ℕ → Option Range → Option Range
-not_below index min None = None
-not_below index min (Some r) = if nat_le min index && nat_le min r.last then Some r else None

@@ -1,19 +1,27 @@
 -- What a pass knows of the row that its section is at, and how far a walk brings it.
 -- Source: the kernel's lib/maple_tree.c, mtree_range_walk, by which readers walk beside a writer.
-use Rattle.std.specs.Prelude.{◌≡◌, ℕ, suc, ◌<◌, ◌≤◌, ◌==◌, List, ◌∷◌, Option, Some, None, length, if◌then◌else◌}
+use Rattle.std.specs.Prelude.{◌≡◌, ℕ, suc, ◌*◌, ◌<◌, ◌≤◌, ◌==◌, List, ◌∷◌, Option, Some, None, length, min, if◌then◌else◌}
 use Rattle.std.specs.List.{slice_get}
 use mathlib.Core.Option.{some}
 use lib.ListN.{get_elem?}
+use Rattle.mt_base.specs.declared.kinds.Kind.{Kind}
 use Rattle.mt_base.specs.declared.ranges.Range.{Range}
 use Rattle.mt_base.specs.Passes.{Begins}
 use Rattle.mt_base.specs.Width.{greatest_of, kind_width}
+use Rattle.mt_layout.specs.Sizes.{slots_of}
 use Rattle.mt_life.specs.declared.views.Held.{Held}
 use Rattle.mt_life.specs.Holding.{copy_of}
 use Rattle.mt_life.specs.Known.{HasRow, Shape, spans_at}
+use Rattle.mt_rows.specs.Spans.{inner_kind}
 use Rattle.mt_rule.specs.declared.views.PassPart.{PassPart}
+use Rattle.mt_rule.specs.Places.{IsRowAt}
 use Rattle.mt_rule.specs.Sections.{IsAt, IsRead, Reads, here, kind_of, spans_here, with_seen}
 use Rattle.mt_read.specs.declared.descent.Row.{Row}
 use Rattle.mt_read.specs.declared.descent.Place.{Place}
+
+-- the index that a walk goes to: the greatest of a tree of this kind, where an index is above that
+abbrev pub sought : Kind → ℕ → ℕ
+sought kind index = min index (greatest_of kind)
 
 -- the pass has only seen more
 abbrev pub SeesMore : PassPart → PassPart → Type 0
@@ -44,8 +52,10 @@ pub record WasMarked (x : Held) (q q' : PassPart) : Type 0 where
 -- The section is at this row, and has a copy of its words in which it fills its extent.
 pub record IsOn (q : PassPart) (row : Row) : Type 0 where
   pub at : IsAt q
-  pub number : row.number ≡ (here q).row
+  pub number : row.at.number ≡ (here q).row
+  pub base : IsRowAt (kind_width q.shape.kind) row.at
   pub kind : row.kind ≡ kind_of q (here q)
+  pub wide : row.width ≡ kind_width q.shape.kind
   pub min : row.min ≡ (here q).extent.first
   pub max : row.max ≡ (here q).extent.last
   pub within : (here q).extent.last ≤ greatest_of q.shape.kind
@@ -59,6 +69,10 @@ pub record IsOn (q : PassPart) (row : Row) : Type 0 where
 pub record IsOnLeaf (q : PassPart) (leaf : Row) : Type 0 where
   pub on : IsOn q leaf
   pub level : (here q).extent.level ≡ 0
+
+-- A walk down from the row that the section is at takes so many steps at the most: as many for each level as an inner row has slots.
+abbrev pub steps_down : PassPart → ℕ
+steps_down q = slots_of (kind_width q.shape.kind) (inner_kind q.shape.kind) * (here q).extent.level
 
 -- The section holds the row that it held, of which it may know more.
 pub record IsSameHold (x y : Held) : Type 0 where

@@ -11,8 +11,8 @@ ghost use Rattle.mt_read.specs.Cursors.{HasStepped, IsCursorOf, IsKept, IsOver, 
 ghost use Rattle.mt_read.specs.Walks.{GoesOn, GoesOnTo, WasMarked};
 
 use crate::answers::Answer;
-use crate::descent::{Row, find_slot, walk};
-use crate::queries::within;
+use crate::bounds::{not_below, within};
+use crate::descent::{Row, find_slot, sought, walk};
 use crate::reads::first_at;
 use mt_base::{Range, Steps};
 use mt_layout::is_dead_mark;
@@ -51,13 +51,13 @@ fn first_at_kept<L: Ledger>(
     ensures answer { IfSome result (Answers (part_of pass.new) (length (part_of pass.old).seen) (Find index (greatest_of (part_of pass.old).shape.kind))) }
     ensures within { IfSome result (λ found. IfSome found (λ range. IsOver (Some kept.now) range.last)) }
     ensures marked { IfNone result (WasMarked (here (part_of pass.old)) (part_of pass.old) (part_of pass.new)) }
-    ensures steps { steps.new ≤ steps.old + 19 }
+    ensures steps { steps.new ≤ steps.old + 35 }
 {
     let leaf = kept.leaf;
     let place = find_slot(table, pass, &leaf, index, steps);
     let range = first_at(table, pass, &leaf, &place, index, steps);
-    let parent = table.load_parent(pass, leaf.number, steps);
-    if is_dead_mark(leaf.number, parent) {
+    let parent = table.load_parent(pass, leaf.at, steps);
+    if is_dead_mark(leaf.at.number, parent) {
         return None;
     }
     Some(range)
@@ -73,7 +73,6 @@ fn first_anew<L: Ledger>(
 ) -> Found
     requires pass { IsPassOf (identity_of table.now) pass.old }
     requires open { (part_of pass.old).standing ≢ None }
-    requires index { index ≤ greatest_of (part_of pass.old).shape.kind }
     requires lo { lo ≤ length (part_of pass.old).seen }
     ensures stepped { Stepped (identity_of table.now) pass.old pass.new }
     ensures goes { GoesOn (part_of pass.old) (part_of pass.new) }
@@ -81,18 +80,19 @@ fn first_anew<L: Ledger>(
     ensures lo { IfSome result.leaf (λ kept. kept.lo ≡ lo) }
     ensures answer { Answers (part_of pass.new) (length (part_of pass.old).seen) (Find index (greatest_of (part_of pass.old).shape.kind)) result.range }
     ensures within { IfSome result.range (λ range. IsOver result.leaf range.last) }
-    ensures steps { steps.new ≤ steps.old + 147 }
+    ensures steps { steps.new ≤ steps.old + 163 }
 {
-    let Some(leaf) = walk(table, pass, index, steps) else {
+    let to = sought(table, index);
+    let Some(leaf) = walk(table, pass, to, steps) else {
         return Found {
             range: None,
             leaf: None,
         };
     };
-    let place = find_slot(table, pass, &leaf, index, steps);
-    let range = first_at(table, pass, &leaf, &place, index, steps);
+    let place = find_slot(table, pass, &leaf, to, steps);
+    let range = first_at(table, pass, &leaf, &place, to, steps);
     Found {
-        range,
+        range: not_below(range, index, index),
         leaf: Some(KeptLeaf { leaf, lo }),
     }
 }
@@ -109,7 +109,6 @@ fn first_behind<L: Ledger>(
 ) -> Found
     requires pass { IsPassOf (identity_of table.now) pass.old }
     requires open { (part_of pass.old).standing ≢ None }
-    requires index { index ≤ greatest_of (part_of pass.old).shape.kind }
     requires kept { IfSome leaf (IsKept (part_of pass.old)) }
     requires lo { lo ≤ length (part_of pass.old).seen }
     ensures stepped { Stepped (identity_of table.now) pass.old pass.new }
@@ -119,8 +118,8 @@ fn first_behind<L: Ledger>(
     ensures answer { Answers (part_of pass.new) (length (part_of pass.old).seen) (Find index (greatest_of (part_of pass.old).shape.kind)) result.range }
     ensures within { IfSome result.range (λ range. IsOver result.leaf range.last) }
     ensures marks { MarksKeptLeaf leaf (Some index) (part_of pass.new).risen (part_of pass.old) (part_of pass.new) }
-    ensures short { IsOver leaf index → (steps.new ≤ steps.old + 19) ⊎ LeafWasMarked leaf (Some index) (part_of pass.new).risen (part_of pass.old) (part_of pass.new) }
-    ensures steps { steps.new ≤ steps.old + 166 }
+    ensures short { IsOver leaf index → (steps.new ≤ steps.old + 35) ⊎ LeafWasMarked leaf (Some index) (part_of pass.new).risen (part_of pass.old) (part_of pass.new) }
+    ensures steps { steps.new ≤ steps.old + 198 }
 {
     let Some(kept) = leaf else {
         return first_anew(table, pass, lo, index, steps);
@@ -230,8 +229,8 @@ impl Cursor {
         ensures answer { Answers (part_of pass.new) (length (part_of pass.old).seen) (Find index self.old.max) result }
         ensures within { IfSome result (λ range. IsOver self.new.leaf range.last) }
         ensures marks { MarksKeptLeaf self.old.leaf (Some index) (part_of pass.new).risen (part_of pass.old) (part_of pass.new) }
-        ensures short { IsOver self.old.leaf index → (steps.new ≤ steps.old + 19) ⊎ LeafWasMarked self.old.leaf (Some index) (part_of pass.new).risen (part_of pass.old) (part_of pass.new) }
-        ensures steps { steps.new ≤ steps.old + 166 }
+        ensures short { IsOver self.old.leaf index → (steps.new ≤ steps.old + 35) ⊎ LeafWasMarked self.old.leaf (Some index) (part_of pass.new).risen (part_of pass.old) (part_of pass.new) }
+        ensures steps { steps.new ≤ steps.old + 198 }
     {
         let found = first_behind(table, pass, self.leaf, lo, index, steps);
         self.leaf = found.leaf;

@@ -1,23 +1,25 @@
 //! Walks from the root to the leaf that covers an index.
 
-ghost use Rattle.std.specs.Prelude.{◌≡◌, ◌≢◌, ℕ, ◌+◌, ◌-◌, ◌*◌, ◌<◌, ◌≤◌, Some, None, IsSome, IfSome, IfNone, [], length};
+ghost use Rattle.std.specs.Prelude.{◌≡◌, ◌≢◌, ℕ, ◌+◌, ◌-◌, ◌<◌, ◌≤◌, Some, None, IsSome, IfSome, IfNone, [], length};
 ghost use Rattle.mt_base.specs.Width.{greatest_of};
 ghost use Rattle.mt_layout.specs.Rows.{row_in, named_kind};
 ghost use Rattle.mt_layout.specs.declared.names.RowKind.TheVariants.{Leaf};
+ghost use Rattle.mt_rule.specs.Places.{IsRowAt};
 ghost use Rattle.mt_rule.specs.Sections.{IsAt, here, slots_in, moment_seen};
 ghost use Rattle.mt_rule.specs.Tokens.{identity_of, part_of, IsPassOf, Stepped};
-ghost use Rattle.mt_read.specs.Walks.{GoesOn, IsOn, IsOnLeaf, IsPlaceIn, IsUnder, SeesMore};
+ghost use Rattle.mt_read.specs.Walks.{GoesOn, IsOn, IsOnLeaf, IsPlaceIn, IsUnder, SeesMore, sought, steps_down};
 
-use mt_base::{Steps, top};
+use mt_base::{Steps, Width, top};
 use mt_layout::{RowKind, kind_of, row_of, slots};
-use mt_rule::{MtTable, Pass};
+use mt_rule::{MtTable, Pass, RowAt};
 use std::sync::ledger::Ledger;
 
-/// A row that a walk comes to: its number and its kind, and the first and the last index that it covers.
+/// A row that a walk comes to: where it stands, its kind and its width, and the first and the last index that it covers.
 #[derive(Clone, Copy)]
 pub struct Row {
-    pub number: u32,
+    pub at: RowAt,
     pub kind: RowKind,
+    pub width: Width,
     pub min: u64,
     pub max: u64,
 }
@@ -30,11 +32,20 @@ pub struct Place {
     pub last: u64,
 }
 
-/// The row with this name, which covers `min` to `max`.
-fn row_named(name: u64, min: u64, max: u64) -> Row
+/// The index that a walk goes to: the greatest of the tree, where an index is above that.
+pub fn sought(table: &MtTable, index: u64) -> u64
+    ensures { result ≡ sought (identity_of table.now).shape.kind index }
+{
+    index.min(top(table.width()))
+}
+
+/// The row of this width with this name, which covers `min` to `max`.
+fn row_named(name: u64, width: Width, min: u64, max: u64) -> Row
     requires name { IsSome (named_kind name) }
-    ensures number { result.number ≡ row_in name }
+    ensures number { result.at.number ≡ row_in name }
+    ensures base { IsRowAt width result.at }
     ensures kind { Some result.kind ≡ named_kind name }
+    ensures width { result.width ≡ width }
     ensures min { result.min ≡ min }
     ensures max { result.max ≡ max }
 {
@@ -45,8 +56,9 @@ fn row_named(name: u64, min: u64, max: u64) -> Row
         unreachable!()
     };
     Row {
-        number,
+        at: RowAt::of_width(width, number),
         kind,
+        width,
         min,
         max,
     }
@@ -70,12 +82,13 @@ pub fn find_slot<L: Ledger>(
     ensures place { IsPlaceIn (part_of pass.new) result }
     ensures from { result.first ≤ index }
     ensures to { index ≤ result.last }
-    ensures steps { steps.new ≤ steps.old + 15 }
+    ensures pivots { steps.new + 1 ≤ steps.old + slots_in (part_of pass.old) (here (part_of pass.old)) }
+    ensures steps { steps.new ≤ steps.old + 31 }
 {
-    let last_slot = slots(table.width(), row.kind) - 1;
+    let last_slot = slots(row.width, row.kind) - 1;
     let mut first = row.min;
     for slot in 0..last_slot {
-        let pivot = table.load_pivot(pass, row.number, 1 + slot, steps);
+        let pivot = table.load_pivot(pass, row.at, 1 + slot, steps);
         if index <= pivot {
             return Place {
                 slot,
@@ -112,12 +125,12 @@ fn child_at<L: Ledger>(
     ensures level { (here (part_of pass.new)).extent.level + 1 ≡ (here (part_of pass.old)).extent.level }
     ensures from { result.min ≤ index }
     ensures to { index ≤ result.max }
-    ensures steps { steps.new ≤ steps.old + 16 }
+    ensures steps { steps.new + steps_down (part_of pass.new) ≤ steps.old + steps_down (part_of pass.old) }
 {
     let place = find_slot(table, pass, row, index, steps);
-    let column = slots(table.width(), row.kind) + place.slot;
-    let name = table.load_slot(pass, row.number, column, steps);
-    row_named(name, place.first, place.last)
+    let column = slots(row.width, row.kind) + place.slot;
+    let name = table.load_slot(pass, row.at, column, steps);
+    row_named(name, row.width, place.first, place.last)
 }
 
 /// The leaf that covers an index, by a walk from the row that the section is at.
@@ -138,7 +151,7 @@ fn descend<L: Ledger>(
     ensures since { (here (part_of pass.new)).since ≡ (here (part_of pass.old)).since }
     ensures from { result.min ≤ index }
     ensures to { index ≤ result.max }
-    ensures steps { steps.new ≤ steps.old + 16 * (here (part_of pass.old)).extent.level }
+    ensures steps { steps.new ≤ steps.old + steps_down (part_of pass.old) }
 {
     let mut row = row;
     while row.kind != RowKind::Leaf {
@@ -167,10 +180,11 @@ pub fn walk<L: Ledger>(
     ensures to { IfSome result (λ leaf. index ≤ leaf.max) }
     ensures steps { steps.new ≤ steps.old + 129 }
 {
+    let width = table.width();
     let name = table.load_root(pass, steps);
     if name == 0 {
         return None;
     }
-    let root = row_named(name, 0, top(table.width()));
+    let root = row_named(name, width, 0, top(width));
     Some(descend(table, pass, root, index, steps))
 }

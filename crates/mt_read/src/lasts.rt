@@ -1,22 +1,22 @@
 //! Reads that look for the last range before an index.
 
 ghost use Rattle.std.specs.Prelude.{◌≡◌, ◌≢◌, ℕ, ◌+◌, ◌-◌, ◌<◌, ◌≤◌, Some, None, IfSome, IfNone, IfOk, IfErr, length};
-ghost use Rattle.mt_base.specs.Width.{greatest_of};
 ghost use Rattle.mt_base.specs.declared.calls.Query.TheVariants.{Prev, Rfind};
 ghost use Rattle.mt_base.specs.Passes.{Read};
 ghost use Rattle.mt_rule.specs.Sections.{here};
 ghost use Rattle.mt_rule.specs.Tokens.{identity_of, part_of, pass_in, tree_in, IsPassOf, Stepped};
 ghost use Rattle.mt_read.specs.Answers.{Answers, AnswersBy, LeafAnswers};
-ghost use Rattle.mt_read.specs.Neighbours.{IsBefore, LeftHole, LeftMarked, MarkedBeside, WasLeftMarked, WasMoved, not_below};
+ghost use Rattle.mt_read.specs.Neighbours.{IsBefore, LeftHole, LeftMarked, MarkedBeside, WasLeftMarked, WasMoved, asked};
 ghost use Rattle.mt_read.specs.Walks.{GoesOn, IsOnLeaf, IsPlaceIn, IsSameHold, SeesMore, WasRead};
 ghost use Rattle.mt_read.specs.Windows.{HasRead};
 
 use crate::answers::Answer;
-use crate::descent::{Place, Row, find_slot, walk};
+use crate::bounds::not_below;
+use crate::descent::{Place, Row, find_slot, sought, walk};
 use crate::neighbours::Moved;
 use crate::reads::range_at;
 use crate::sections::Section;
-use mt_base::{Range, Steps};
+use mt_base::{Range, Steps, top};
 use mt_layout::is_dead_mark;
 use mt_rule::{MtTable, Pass};
 use std::sync::ledger::Ledger;
@@ -50,7 +50,7 @@ fn place_before<L: Ledger>(
             last,
         };
     }
-    let pivot = table.load_pivot(pass, leaf.number, slot, steps);
+    let pivot = table.load_pivot(pass, leaf.at, slot, steps);
     Place {
         slot,
         first: pivot + 1,
@@ -102,11 +102,12 @@ fn last_beside<L: Ledger>(
     requires open { (part_of pass.old).standing ≢ None }
     requires leaf { IsOnLeaf (part_of pass.old) leaf.now }
     requires some { leaf.now.min ≢ 0 }
+    requires order { leaf.now.min ≤ leaf.now.max }
     ensures stepped { Stepped (identity_of table.now) pass.old pass.new }
     ensures goes { IfSome result (λ found. GoesOn (part_of pass.old) (part_of pass.new)) }
     ensures answer { IfSome result (AnswersBy (part_of pass.new) (here (part_of pass.old)) (length (part_of pass.old).seen) (Rfind (leaf.now.min - 1) 0)) }
     ensures moved { IfNone result (MarkedBeside IsBefore (here (part_of pass.old)) (part_of pass.old) (part_of pass.new)) }
-    ensures steps { steps.new ≤ steps.old + 148 }
+    ensures steps { steps.new ≤ steps.old + 164 }
 {
     let to = leaf.min - 1;
     let Some(before) = walk(table, pass, to, steps) else {
@@ -114,8 +115,8 @@ fn last_beside<L: Ledger>(
     };
     let place = find_slot(table, pass, &before, to, steps);
     let range = last_at(table, pass, &before, &place, to, steps);
-    let parent = table.load_parent(pass, leaf.number, steps);
-    if is_dead_mark(leaf.number, parent) {
+    let parent = table.load_parent(pass, leaf.at, steps);
+    if is_dead_mark(leaf.at.number, parent) {
         return None;
     }
     Some(range)
@@ -141,7 +142,7 @@ fn last_from<L: Ledger>(
     ensures goes { IfSome result (λ found. GoesOn (part_of pass.old) (part_of pass.new)) }
     ensures answer { IfSome result (AnswersBy (part_of pass.new) (here (part_of pass.old)) (here (part_of pass.old)).since (Rfind index 0)) }
     ensures moved { IfNone result (LeftHole place.now (part_of pass.old) (part_of pass.new)) }
-    ensures steps { steps.new ≤ steps.old + 151 }
+    ensures steps { steps.new ≤ steps.old + 167 }
 {
     if let Some(range) = last_at(table, pass, leaf, place, index, steps) {
         return Some(Some(range));
@@ -162,18 +163,18 @@ fn rfind_from<L: Ledger>(
 ) -> Option<Option<Range>>
     requires pass { IsPassOf (identity_of table.now) pass.old }
     requires open { (part_of pass.old).standing ≢ None }
-    requires index { index ≤ greatest_of (part_of pass.old).shape.kind }
     ensures stepped { Stepped (identity_of table.now) pass.old pass.new }
     ensures goes { IfSome result (λ found. GoesOn (part_of pass.old) (part_of pass.new)) }
     ensures answer { IfSome result (Answers (part_of pass.new) (length (part_of pass.old).seen) (Rfind index 0)) }
-    ensures moved { IfNone result (LeftMarked (Rfind index 0) (length (part_of pass.old).seen) (part_of pass.old) (part_of pass.new)) }
-    ensures steps { steps.new ≤ steps.old + 295 }
+    ensures moved { IfNone result (LeftMarked (asked (part_of pass.old).shape.kind (Rfind index 0)) (length (part_of pass.old).seen) (part_of pass.old) (part_of pass.new)) }
+    ensures steps { steps.new ≤ steps.old + 327 }
 {
-    let Some(leaf) = walk(table, pass, index, steps) else {
+    let to = sought(table, index);
+    let Some(leaf) = walk(table, pass, to, steps) else {
         return Some(None);
     };
-    let place = find_slot(table, pass, &leaf, index, steps);
-    last_from(table, pass, &leaf, &place, index, steps)
+    let place = find_slot(table, pass, &leaf, to, steps);
+    last_from(table, pass, &leaf, &place, to, steps)
 }
 
 /// The last range that ends below an index, which the leaf that the section is at covers.
@@ -193,7 +194,7 @@ fn prev_at_leaf<L: Ledger>(
     ensures goes { IfSome result (λ found. GoesOn (part_of pass.old) (part_of pass.new)) }
     ensures answer { IfSome result (Answers (part_of pass.new) (here (part_of pass.old)).since (Prev index 0)) }
     ensures moved { IfNone result (LeftMarked (Prev index 0) (here (part_of pass.old)).since (part_of pass.old) (part_of pass.new)) }
-    ensures steps { steps.new ≤ steps.old + 167 }
+    ensures steps { steps.new ≤ steps.old + 199 }
 {
     let place = find_slot(table, pass, leaf, index, steps);
     if place.first == 0 {
@@ -208,7 +209,7 @@ fn prev_at_leaf<L: Ledger>(
 }
 
 /// The last range that ends below an index, by a walk from the root. There is no answer where the leaf that covers the index is
-/// found marked after the leaf before it was read.
+/// found marked after the leaf before it was read. Below an index above the greatest end those that begin at that or below.
 fn prev_from<L: Ledger>(
     table: &MtTable,
     pass: &mut Pass,
@@ -217,24 +218,20 @@ fn prev_from<L: Ledger>(
 ) -> Option<Option<Range>>
     requires pass { IsPassOf (identity_of table.now) pass.old }
     requires open { (part_of pass.old).standing ≢ None }
-    requires index { index ≤ greatest_of (part_of pass.old).shape.kind }
     ensures stepped { Stepped (identity_of table.now) pass.old pass.new }
     ensures goes { IfSome result (λ found. GoesOn (part_of pass.old) (part_of pass.new)) }
     ensures answer { IfSome result (Answers (part_of pass.new) (length (part_of pass.old).seen) (Prev index 0)) }
-    ensures moved { IfNone result (LeftMarked (Prev index 0) (length (part_of pass.old).seen) (part_of pass.old) (part_of pass.new)) }
-    ensures steps { steps.new ≤ steps.old + 296 }
+    ensures moved { IfNone result (LeftMarked (asked (part_of pass.old).shape.kind (Prev index 0)) (length (part_of pass.old).seen) (part_of pass.old) (part_of pass.new)) }
+    ensures steps { steps.new ≤ steps.old + 328 }
 {
+    let end = top(table.width());
+    if end < index {
+        return rfind_from(table, pass, end, steps);
+    }
     let Some(leaf) = walk(table, pass, index, steps) else {
         return Some(None);
     };
     prev_at_leaf(table, pass, &leaf, index, steps)
-}
-
-/// The range, where the index is not below `min` and the range does not end below it.
-fn not_below(range: Option<Range>, index: u64, min: u64) -> Option<Range>
-    ensures { result ≡ not_below index min range }
-{
-    range.filter(|r| min <= index && min <= r.last)
 }
 
 /// The last range that begins at an index or below, and ends at `min` or above. There is none where the index is below `min`.

@@ -2,6 +2,7 @@
 #![tactic(auto)]
 
 mod answers;
+mod bounds;
 mod cursor;
 mod descent;
 mod lasts;

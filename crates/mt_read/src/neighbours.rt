@@ -7,13 +7,13 @@ ghost use Rattle.mt_base.specs.Passes.{Read};
 ghost use Rattle.mt_rule.specs.Sections.{here};
 ghost use Rattle.mt_rule.specs.Tokens.{identity_of, part_of, pass_in, tree_in, IsPassOf, Stepped};
 ghost use Rattle.mt_read.specs.Answers.{Answers, AnswersBy};
-ghost use Rattle.mt_read.specs.Neighbours.{IsBehind, LeftMarked, MarkedBeside, WasLeftMarked, WasMoved};
+ghost use Rattle.mt_read.specs.Neighbours.{IsBehind, LeftMarked, MarkedBeside, WasLeftMarked, WasMoved, asked};
 ghost use Rattle.mt_read.specs.Walks.{GoesOn, IsOnLeaf};
 ghost use Rattle.mt_read.specs.Windows.{HasRead};
 
 use crate::answers::Answer;
-use crate::descent::{Row, find_slot, walk};
-use crate::queries::within;
+use crate::bounds::within;
+use crate::descent::{Row, find_slot, sought, walk};
 use crate::reads::{first_at, next_place, range_at};
 use crate::sections::Section;
 use mt_base::{Range, Steps, top};
@@ -48,7 +48,7 @@ fn first_beside<L: Ledger>(
     ensures goes { IfSome result (λ found. GoesOn (part_of pass.old) (part_of pass.new)) }
     ensures answer { IfSome result (AnswersBy (part_of pass.new) (here (part_of pass.old)) (length (part_of pass.old).seen) (Find (leaf.now.max + 1) (greatest_of (part_of pass.old).shape.kind))) }
     ensures moved { IfNone result (MarkedBeside IsBehind (here (part_of pass.old)) (part_of pass.old) (part_of pass.new)) }
-    ensures steps { steps.new ≤ steps.old + 148 }
+    ensures steps { steps.new ≤ steps.old + 164 }
 {
     let from = leaf.max + 1;
     let Some(behind) = walk(table, pass, from, steps) else {
@@ -56,8 +56,8 @@ fn first_beside<L: Ledger>(
     };
     let place = find_slot(table, pass, &behind, from, steps);
     let range = first_at(table, pass, &behind, &place, from, steps);
-    let parent = table.load_parent(pass, leaf.number, steps);
-    if is_dead_mark(leaf.number, parent) {
+    let parent = table.load_parent(pass, leaf.at, steps);
+    if is_dead_mark(leaf.at.number, parent) {
         return None;
     }
     Some(range)
@@ -80,14 +80,14 @@ fn next_at_leaf<L: Ledger>(
     ensures goes { IfSome result (λ found. GoesOn (part_of pass.old) (part_of pass.new)) }
     ensures answer { IfSome result (Answers (part_of pass.new) (here (part_of pass.old)).since (Next index (greatest_of (part_of pass.old).shape.kind))) }
     ensures moved { IfNone result (LeftMarked (Next index (greatest_of (part_of pass.old).shape.kind)) (here (part_of pass.old)).since (part_of pass.old) (part_of pass.new)) }
-    ensures steps { steps.new ≤ steps.old + 163 }
+    ensures steps { steps.new ≤ steps.old + 195 }
 {
     let place = find_slot(table, pass, leaf, index, steps);
     if place.last != leaf.max {
         let next = next_place(table, pass, leaf, &place, steps);
         return Some(first_at(table, pass, leaf, &next, next.first, steps));
     }
-    if leaf.max == top(table.width()) {
+    if leaf.max == top(leaf.width) {
         range_at(table, pass, leaf, &place, steps);
         return Some(None);
     }
@@ -104,17 +104,17 @@ fn next_from<L: Ledger>(
 ) -> Option<Option<Range>>
     requires pass { IsPassOf (identity_of table.now) pass.old }
     requires open { (part_of pass.old).standing ≢ None }
-    requires index { index ≤ greatest_of (part_of pass.old).shape.kind }
     ensures stepped { Stepped (identity_of table.now) pass.old pass.new }
     ensures goes { IfSome result (λ found. GoesOn (part_of pass.old) (part_of pass.new)) }
     ensures answer { IfSome result (Answers (part_of pass.new) (length (part_of pass.old).seen) (Next index (greatest_of (part_of pass.old).shape.kind))) }
-    ensures moved { IfNone result (LeftMarked (Next index (greatest_of (part_of pass.old).shape.kind)) (length (part_of pass.old).seen) (part_of pass.old) (part_of pass.new)) }
-    ensures steps { steps.new ≤ steps.old + 292 }
+    ensures moved { IfNone result (LeftMarked (asked (part_of pass.old).shape.kind (Next index (greatest_of (part_of pass.old).shape.kind))) (length (part_of pass.old).seen) (part_of pass.old) (part_of pass.new)) }
+    ensures steps { steps.new ≤ steps.old + 324 }
 {
-    let Some(leaf) = walk(table, pass, index, steps) else {
+    let to = sought(table, index);
+    let Some(leaf) = walk(table, pass, to, steps) else {
         return Some(None);
     };
-    next_at_leaf(table, pass, &leaf, index, steps)
+    next_at_leaf(table, pass, &leaf, to, steps)
 }
 
 /// The first range that begins behind an index, and at `max` or below.

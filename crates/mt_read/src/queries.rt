@@ -5,10 +5,10 @@ ghost use Rattle.mt_base.specs.declared.ranges.Range.{Range};
 ghost use Rattle.mt_base.specs.declared.calls.Query.TheVariants.{Load, Find};
 ghost use Rattle.mt_base.specs.Passes.{Read};
 ghost use Rattle.mt_rule.specs.Tokens.{identity_of, pass_in, tree_in, IsPassOf, Stepped};
-ghost use Rattle.mt_read.specs.Answers.{within};
 ghost use Rattle.mt_read.specs.Windows.{HasRead};
 
 use crate::answers::Answer;
+use crate::bounds::within;
 use crate::reads::{first_from, range_of};
 use crate::sections::Section;
 use mt_base::{Range, Steps};
@@ -20,13 +20,6 @@ fn entry_of(range: Option<Range>) -> Option<u64>
     ensures { result ≡ option_map (λ r. r.entry) range }
 {
     range.map(|r| r.entry)
-}
-
-/// The range, where the index is not above `max` and the range does not begin above it.
-pub fn within(range: Option<Range>, index: u64, max: u64) -> Option<Range>
-    ensures { result ≡ within index max range }
-{
-    range.filter(|r| index <= max && r.first <= max)
 }
 
 /// The range that an index lies in. There is none where it lies in a hole.

@@ -8,7 +8,8 @@ ghost use Rattle.mt_rule.specs.Tokens.{identity_of, part_of, IsPassOf, Stepped};
 ghost use Rattle.mt_read.specs.Answers.{Answers, LeafAnswers};
 ghost use Rattle.mt_read.specs.Walks.{GoesOn, IsOnLeaf, IsPlaceIn, IsSameHold, SeesMore, WasRead, range_or_hole};
 
-use crate::descent::{Place, Row, find_slot, walk};
+use crate::bounds::not_below;
+use crate::descent::{Place, Row, find_slot, sought, walk};
 use mt_base::{Range, Steps};
 use mt_layout::{RowKind, slots};
 use mt_rule::{MtTable, Pass};
@@ -46,8 +47,8 @@ pub fn range_at<L: Ledger>(
     ensures read { WasRead (part_of pass.old) (part_of pass.new) place.now result }
     ensures steps { steps.new ≡ steps.old + 1 }
 {
-    let column = slots(table.width(), RowKind::Leaf) + place.slot;
-    let entry = table.load_slot(pass, leaf.number, column, steps);
+    let column = slots(leaf.width, RowKind::Leaf) + place.slot;
+    let entry = table.load_slot(pass, leaf.at, column, steps);
     range_or_hole(place, entry)
 }
 
@@ -73,14 +74,14 @@ pub fn next_place<L: Ledger>(
 {
     let slot = place.slot + 1;
     let first = place.last + 1;
-    if slot + 1 == slots(table.width(), RowKind::Leaf) {
+    if slot + 1 == slots(leaf.width, RowKind::Leaf) {
         return Place {
             slot,
             first,
             last: leaf.max,
         };
     }
-    let last = table.load_pivot(pass, leaf.number, 1 + slot, steps);
+    let last = table.load_pivot(pass, leaf.at, 1 + slot, steps);
     Place { slot, first, last }
 }
 
@@ -126,15 +127,16 @@ pub fn first_from<L: Ledger>(
 ) -> Option<Range>
     requires pass { IsPassOf (identity_of table.now) pass.old }
     requires open { (part_of pass.old).standing ≢ None }
-    requires index { index ≤ greatest_of (part_of pass.old).shape.kind }
     ensures stepped { Stepped (identity_of table.now) pass.old pass.new }
     ensures goes { GoesOn (part_of pass.old) (part_of pass.new) }
     ensures answer { Answers (part_of pass.new) (length (part_of pass.old).seen) (Find index (greatest_of (part_of pass.old).shape.kind)) result }
-    ensures steps { steps.new ≤ steps.old + 147 }
+    ensures steps { steps.new ≤ steps.old + 163 }
 {
-    let leaf = walk(table, pass, index, steps)?;
-    let place = find_slot(table, pass, &leaf, index, steps);
-    first_at(table, pass, &leaf, &place, index, steps)
+    let to = sought(table, index);
+    let leaf = walk(table, pass, to, steps)?;
+    let place = find_slot(table, pass, &leaf, to, steps);
+    let range = first_at(table, pass, &leaf, &place, to, steps);
+    not_below(range, index, index)
 }
 
 /// The range that holds an index, by a walk from the root.
@@ -146,13 +148,14 @@ pub fn range_of<L: Ledger>(
 ) -> Option<Range>
     requires pass { IsPassOf (identity_of table.now) pass.old }
     requires open { (part_of pass.old).standing ≢ None }
-    requires index { index ≤ greatest_of (part_of pass.old).shape.kind }
     ensures stepped { Stepped (identity_of table.now) pass.old pass.new }
     ensures goes { GoesOn (part_of pass.old) (part_of pass.new) }
     ensures answer { Answers (part_of pass.new) (length (part_of pass.old).seen) (Load index) result }
-    ensures steps { steps.new ≤ steps.old + 145 }
+    ensures steps { steps.new ≤ steps.old + 161 }
 {
-    let leaf = walk(table, pass, index, steps)?;
-    let place = find_slot(table, pass, &leaf, index, steps);
-    range_at(table, pass, &leaf, &place, steps)
+    let to = sought(table, index);
+    let leaf = walk(table, pass, to, steps)?;
+    let place = find_slot(table, pass, &leaf, to, steps);
+    let range = range_at(table, pass, &leaf, &place, steps);
+    not_below(range, index, index)
 }

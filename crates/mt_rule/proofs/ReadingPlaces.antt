@@ -16,10 +16,11 @@ use Rattle.mt_life.specs.declared.views.Extent.{Extent}
 use Rattle.mt_life.specs.declared.views.Held.{Held}
 use Rattle.mt_life.specs.Known.{HasRow, spans_at}
 use Rattle.mt_rule.specs.declared.passes.Pass.{Pass}
+use Rattle.mt_rule.specs.declared.places.RowAt.{RowAt}
 use Rattle.mt_rule.specs.declared.table.MtTable.{MtTable}
 use Rattle.mt_rule.specs.declared.views.Shape.{Shape}
 use Rattle.mt_rule.specs.Limits.{most_passes}
-use Rattle.mt_rule.specs.Places.{column_at, section_at, size_of}
+use Rattle.mt_rule.specs.Places.{column_at, section_at, size_of, IsRowAt}
 use Rattle.mt_rule.specs.Seats.{shape_told}
 use Rattle.mt_rule.specs.Sections.{slots_in, spans_here}
 use Rattle.mt_rule.specs.Tokens.{Identity, identity_of, part_of, IsPassOf}
@@ -40,6 +41,10 @@ module _ (t : MtTable) (p : Pass) (of : IsPassOf (identity_of t) p) where
 
   width_is : t.width ≡ kind_width (part_of p).shape.kind
   width_is = t.wide ∙ sym (ap (λ (z : Shape). kind_width z.kind) shape_is)
+
+  -- a row's place by the pass's table is one by the table
+  pub row_here : (row : RowAt) → IsRowAt (kind_width (part_of p).shape.kind) row → IsRowAt t.width row
+  row_here row = subst (λ (w : Width). IsRowAt w row) (sym width_is)
 
   -- where a column of a row stands, and that a pivot and a slot have one
   pub column_below : (row col at : ℕ) → HasRow (part_of p).shape.rows row → col < columns t.width → at ≡ column_at t.width row col → at < t.table.shared.table_id.words

@@ -16,17 +16,19 @@ use Rattle.mt_base.specs.Width.{kind_width, first_row}
 use Rattle.mt_base.proofs.Goings.{begins_long, begins_none}
 use Rattle.mt_layout.specs.Columns.{pivot_column, slot_column}
 use Rattle.mt_layout.specs.Rows.{dead_mark, named_kind, row_in}
+use Rattle.mt_layout.specs.Sizes.{slots_of}
 use Rattle.mt_layout.proofs.Places.{place_behind, words_before, words_in_all}
 use Rattle.mt_rows.specs.declared.rows.Life.TheVariants.{Live, Dead}
 use Rattle.mt_rows.specs.Levels.{one_if}
 use Rattle.mt_rows.specs.Sheet.{life_of, word_at}
-use Rattle.mt_rows.specs.Spans.{root_span}
+use Rattle.mt_rows.specs.Spans.{inner_kind, root_span}
 use Rattle.mt_rows.specs.Trees.{map_in}
 use Rattle.mt_rows.proofs.Reached.{one_of_get}
 use Rattle.mt_life.specs.declared.views.Extent.{Extent}
 use Rattle.mt_life.specs.declared.views.Held.{Held}
 use Rattle.mt_life.specs.Holding.{HoldsRow, Snapshot, come, renewed}
 use Rattle.mt_life.specs.Known.{calls, extent_at, spans_at}
+use Rattle.mt_life.proofs.Fitting.{few_slots_below}
 use Rattle.mt_life.proofs.Holding.{child_held, leaf_held, marked_held, renewed_held, root_held, unmarked_held}
 use Rattle.mt_rule.specs.declared.views.Moment.{Moment}
 use Rattle.mt_rule.specs.declared.views.Shape.{Shape}
@@ -375,7 +377,8 @@ module _ (told : Told) (slots by : ℕ) (me : M) (is : HasPass me.0) (stands : (
               };
               first = refl;
               last = refl;
-              level = root.1;
+              level = subst (λ (e : Extent). slots_of (kind_width p₀.shape.kind) (inner_kind p₀.shape.kind) * e.level ≤ 128) holds.extent
+                  (few_slots_below p₀.shape.kind (state_in p₀) r₁.extents (moment_at p₀.shape p₀.history) r₁.sound.known r₁.sound.tree.words r₁.sound.rows there);
             };
           },
         ),

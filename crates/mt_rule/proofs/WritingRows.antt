@@ -7,6 +7,7 @@ use Rattle.std.specs.List.{AllByRecursion, flat_map}
 use Rattle.std.proofs.lemmas.Bool.{cases_eq}
 use Rattle.atomic_table.specs.Table.{step, stepped, keeps, Allows}
 use Rattle.mt_base.specs.declared.kinds.Kind.{Kind}
+use Rattle.mt_base.specs.Call.{finds_room}
 use Rattle.mt_base.specs.Width.{deepest, kind_width}
 use Rattle.mt_layout.specs.Rows.{row_in, named_kind, dead_mark}
 use Rattle.mt_layout.specs.declared.spans.Span.{Span}
@@ -68,11 +69,11 @@ module _ (kind : Kind) (s : State) (e : ℕ → Extent) (m : ℕ → Moment) (kn
         by_leaf (named_kind x.word) (row_in x.word ∷ []) (row_in x.word ∷ flat_map (rows_of then depth) (spans_in then x)) fits.named
         ∙ sym (by_leaf (named_kind x.word) (row_in x.word ∷ []) (row_in x.word ∷ flat_map (rows_of s.tree.table depth) (spans_in s.tree.table x)) fits.named)
     rows_kept (suc depth) (suc level) x fits =
-        by_inner kind (named_kind x.word) (row_in x.word ∷ []) (row_in x.word ∷ flat_map (rows_of then depth) (spans_in then x)) fits.named
+        by_inner (finds_room kind) (named_kind x.word) (row_in x.word ∷ []) (row_in x.word ∷ flat_map (rows_of then depth) (spans_in then x)) fits.named
         ∙ (ap (λ (xs : List ℕ). row_in x.word ∷ xs)
         (ap (flat_map (rows_of then depth)) (spans_kept (suc level) x fits)
         ∙ flat_kept (rows_of then depth) (rows_of s.tree.table depth) level (rows_kept depth level) (spans_in s.tree.table x) (children_known kind s e m known level x fits))
-        ∙ sym (by_inner kind (named_kind x.word) (row_in x.word ∷ []) (row_in x.word ∷ flat_map (rows_of s.tree.table depth) (spans_in s.tree.table x)) fits.named))
+        ∙ sym (by_inner (finds_room kind) (named_kind x.word) (row_in x.word ∷ []) (row_in x.word ∷ flat_map (rows_of s.tree.table depth) (spans_in s.tree.table x)) fits.named))
 
     reached_kept : reached_in then s.tree.root ≡ reached_in s.tree.table s.tree.root
     reached_kept = ⊎_elim

@@ -6,6 +6,7 @@ use Rattle.mt_base.specs.Width.{columns, first_row}
 use Rattle.mt_rows.specs.declared.rows.Place.{Place}
 use Rattle.mt_rows.specs.declared.rows.Place.TheVariants.{Root, Slot}
 use Rattle.mt_rows.specs.Sheet.{Rooted, IsPlace, word_at}
+use Rattle.mt_rule.specs.declared.places.RowAt.{RowAt}
 
 -- how many calls have ended, how many have begun, and the name of the root row
 abbrev pub commits_at : ℕ
@@ -28,6 +29,10 @@ section_at pass = 16 * (pass % paired_passes) + 8 * (1 - pass / paired_passes) +
 -- a column of a row
 abbrev pub column_at : Width → ℕ → ℕ → ℕ
 column_at width row col = columns width * row + col
+
+-- the row's columns begin there, in a table of this width
+abbrev pub IsRowAt : Width → RowAt → Type 0
+IsRowAt width row = row.base ≡ column_at width row.number 0
 
 -- the first column of the first row, and how many words there are
 abbrev pub rows_at : Width → ℕ

@@ -1,6 +1,6 @@
 -- What the steps of a pass that reads without the lock tell it.
 -- Source: this project's own; the kernel's readers walk between rcu_read_lock and rcu_read_unlock.
-use Rattle.std.specs.Prelude.{◌≡◌, ◌≢◌, ℕ, ◌+◌, ◌^◌, ◌<◌, ◌≤◌, ◌==◌, List, [], ◌∷◌, ◌++◌, Option, Some, None, length, slice_index, slice_get, if◌then◌else◌}
+use Rattle.std.specs.Prelude.{◌≡◌, ◌≢◌, ℕ, ◌+◌, ◌*◌, ◌^◌, ◌<◌, ◌≤◌, ◌==◌, List, [], ◌∷◌, ◌++◌, Option, Some, None, length, slice_index, slice_get, if◌then◌else◌}
 use mathlib.Core.Option.{some}
 use lib.ListN.{get_elem?}
 use Rattle.atomic_table.specs.Table.{Step}
@@ -8,7 +8,7 @@ use Rattle.mt_base.specs.declared.widths.Width.TheVariants.{Long}
 use Rattle.mt_base.specs.Map.{IsMap}
 use Rattle.mt_base.specs.Passes.{Begins}
 use Rattle.mt_base.specs.Passes as known
-use Rattle.mt_base.specs.Width.{kind_width, deepest, greatest}
+use Rattle.mt_base.specs.Width.{kind_width, greatest}
 use Rattle.mt_layout.specs.declared.names.RowKind.{RowKind}
 use Rattle.mt_layout.specs.declared.spans.Span.{Span}
 use Rattle.mt_layout.specs.Columns.{slot_column}
@@ -19,6 +19,7 @@ use Rattle.mt_life.specs.declared.views.Moment as life
 use Rattle.mt_life.specs.Holding.{Snapshot, copy_of}
 use Rattle.mt_life.specs.Known.{HasPart, HasRow, SameForm, Shape, spans_at}
 use Rattle.mt_rows.specs.Laws.{kind_at}
+use Rattle.mt_rows.specs.Spans.{inner_kind}
 use Rattle.mt_rule.specs.declared.views.Moment.{Moment}
 use Rattle.mt_rule.specs.declared.views.PassPart.{PassPart}
 use Rattle.mt_rule.specs.Places.{column_at}
@@ -138,7 +139,7 @@ pub record LoadedRootRow (found : ℕ) (q q' : PassPart) : Type 0 where
   pub comes : Comes q' (here q') found (length q'.seen)
   pub first : (here q').extent.first ≡ 0
   pub last : (here q').extent.last ≡ greatest (kind_width q'.shape.kind)
-  pub level : (here q').extent.level < deepest
+  pub level : slots_of (kind_width q'.shape.kind) (inner_kind q'.shape.kind) * (here q').extent.level ≤ 128
 
 pub record LoadedRoot (found : ℕ) (q q' : PassPart) : Type 0 where
   pub empty : found ≡ 0 → LoadedNoRoot q q'

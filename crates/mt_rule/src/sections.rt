@@ -2,14 +2,15 @@
 
 ghost use Rattle.std.specs.Prelude.{◌≡◌, ◌≢◌, ℕ, ◌+◌, ◌^◌, ◌<◌, None, length};
 ghost use Rattle.mt_base.specs.Passes.{IsSound};
-ghost use Rattle.mt_base.specs.Width.{kind_width};
+ghost use Rattle.mt_base.specs.Width.{columns, first_row, kind_width, most_rows};
 ghost use Rattle.mt_layout.specs.Columns.{pivot_column, slot_column};
 ghost use Rattle.mt_life.specs.Known.{HasRow};
-ghost use Rattle.mt_rule.specs.Places.{column_at};
+ghost use Rattle.mt_rule.specs.Places.{column_at, IsRowAt};
 ghost use Rattle.mt_rule.specs.Sections.{IsAt, here, slots_in, spans_here, opened_section, closed_section, LoadedBegun, LoadedCommits, LoadedParent, LoadedPivot, LoadedRoot, LoadedSlot};
 ghost use Rattle.mt_rule.specs.Tokens.{identity_of, part_of, pass_in, tree_in, IsPassOf, Stepped};
 
 use crate::passes::Pass;
+use crate::places::RowAt;
 use crate::rule::{
     Announced, ClosesSection, LoadsBegun, LoadsCommits, LoadsParent, LoadsPivot, LoadsRoot,
     LoadsSlot, OpensSection,
@@ -22,6 +23,16 @@ use std::mem;
 use std::sync::ledger::Ledger;
 
 impl MtTable {
+    /// Where a column of a row stands.
+    fn column_in(&self, row: RowAt, col: u32) -> usize
+        requires row { row.number < first_row + most_rows }
+        requires base { IsRowAt self.now.width row }
+        requires column { col < columns self.now.width }
+        ensures { result ≡ column_at self.now.width row.number col }
+    {
+        row.base + col as usize
+    }
+
     /// How many calls have ended.
     pub fn load_commits<L: Ledger>(&self, pass: &mut Pass, steps: &mut Steps<L>) -> u64
         requires pass { IsPassOf (identity_of self.now) pass.old }
@@ -75,23 +86,24 @@ impl MtTable {
     pub fn load_pivot<L: Ledger>(
         &self,
         pass: &mut Pass,
-        row: u32,
+        row: RowAt,
         col: u32,
         steps: &mut Steps<L>,
     ) -> u64
         requires pass { IsPassOf (identity_of self.now) pass.old }
         requires at { IsAt (part_of pass.old) }
-        requires row { row ≡ (here (part_of pass.old)).row }
-        requires has { HasRow (part_of pass.old).shape.rows row }
+        requires row { row.number ≡ (here (part_of pass.old)).row }
+        requires base { IsRowAt (kind_width (part_of pass.old).shape.kind) row }
+        requires has { HasRow (part_of pass.old).shape.rows row.number }
         requires pivot { (i : ℕ) × (col ≡ pivot_column i) × (i + 1 < slots_in (part_of pass.old) (here (part_of pass.old))) }
         ensures stepped { Stepped (identity_of self.now) pass.old pass.new }
-        ensures told { LoadedPivot (column_at (kind_width (part_of pass.old).shape.kind) row col) result (part_of pass.old) (part_of pass.new) }
+        ensures told { LoadedPivot (column_at (kind_width (part_of pass.old).shape.kind) row.number col) result (part_of pass.old) (part_of pass.new) }
         ensures steps { steps.new ≡ steps.old + 1 }
     {
         steps.tick();
         let badge = mem::replace(&mut pass.seat, Badge::blank());
         let mut seat = badge.into_seat::<()>();
-        let at = self.column_index(row, col);
+        let at = self.column_in(row, col);
         let word = self.table.shared.load::<LoadsPivot>(&mut seat, at);
         pass.seat = seat.into_badge();
         word
@@ -101,51 +113,54 @@ impl MtTable {
     pub fn load_slot<L: Ledger>(
         &self,
         pass: &mut Pass,
-        row: u32,
+        row: RowAt,
         col: u32,
         steps: &mut Steps<L>,
     ) -> u64
         requires pass { IsPassOf (identity_of self.now) pass.old }
         requires at { IsAt (part_of pass.old) }
-        requires row { row ≡ (here (part_of pass.old)).row }
-        requires has { HasRow (part_of pass.old).shape.rows row }
+        requires row { row.number ≡ (here (part_of pass.old)).row }
+        requires base { IsRowAt (kind_width (part_of pass.old).shape.kind) row }
+        requires has { HasRow (part_of pass.old).shape.rows row.number }
         requires width { (here (part_of pass.old)).width ≡ kind_width (part_of pass.old).shape.kind }
         requires slot { (i : ℕ) × (col ≡ slot_column (slots_in (part_of pass.old) (here (part_of pass.old))) i) × (i < length (spans_here (part_of pass.old) (here (part_of pass.old)))) }
         ensures stepped { Stepped (identity_of self.now) pass.old pass.new }
-        ensures told { LoadedSlot (column_at (kind_width (part_of pass.old).shape.kind) row col) result (part_of pass.old) (part_of pass.new) }
+        ensures told { LoadedSlot (column_at (kind_width (part_of pass.old).shape.kind) row.number col) result (part_of pass.old) (part_of pass.new) }
         ensures steps { steps.new ≡ steps.old + 1 }
     {
         steps.tick();
         let badge = mem::replace(&mut pass.seat, Badge::blank());
         let mut seat = badge.into_seat::<()>();
-        let at = self.column_index(row, col);
+        let at = self.column_in(row, col);
         let word = self.table.shared.load::<LoadsSlot>(&mut seat, at);
         pass.seat = seat.into_badge();
         word
     }
 
     /// The parent column of a row, which shows the dead mark.
-    pub fn load_parent<L: Ledger>(&self, pass: &mut Pass, row: u32, steps: &mut Steps<L>) -> u64
+    pub fn load_parent<L: Ledger>(&self, pass: &mut Pass, row: RowAt, steps: &mut Steps<L>) -> u64
         requires pass { IsPassOf (identity_of self.now) pass.old }
-        requires row { HasRow (part_of pass.old).shape.rows row }
+        requires base { IsRowAt (kind_width (part_of pass.old).shape.kind) row }
+        requires row { HasRow (part_of pass.old).shape.rows row.number }
         ensures stepped { Stepped (identity_of self.now) pass.old pass.new }
-        ensures told { LoadedParent row (column_at (kind_width (part_of pass.old).shape.kind) row 0) result (part_of pass.old) (part_of pass.new) }
+        ensures told { LoadedParent row.number (column_at (kind_width (part_of pass.old).shape.kind) row.number 0) result (part_of pass.old) (part_of pass.new) }
         ensures steps { steps.new ≡ steps.old + 1 }
     {
         steps.tick();
         self.load_parent_of::<Brand>(pass, row)
     }
 
-    fn load_parent_of<M: Announced>(&self, pass: &mut Pass, row: u32) -> u64
+    fn load_parent_of<M: Announced>(&self, pass: &mut Pass, row: RowAt) -> u64
         requires pass { IsPassOf (identity_of self.now) pass.old }
-        requires row { HasRow (part_of pass.old).shape.rows row }
-        requires announced { M.number ≡ row }
+        requires base { IsRowAt (kind_width (part_of pass.old).shape.kind) row }
+        requires row { HasRow (part_of pass.old).shape.rows row.number }
+        requires announced { M.number ≡ row.number }
         ensures stepped { Stepped (identity_of self.now) pass.old pass.new }
-        ensures told { LoadedParent row (column_at (kind_width (part_of pass.old).shape.kind) row 0) result (part_of pass.old) (part_of pass.new) }
+        ensures told { LoadedParent row.number (column_at (kind_width (part_of pass.old).shape.kind) row.number 0) result (part_of pass.old) (part_of pass.new) }
     {
         let badge = mem::replace(&mut pass.seat, Badge::blank());
         let mut seat = badge.into_seat::<()>();
-        let at = self.column_index(row, 0);
+        let at = self.column_in(row, 0);
         let word = self.table.shared.load::<LoadsParent<M>>(&mut seat, at);
         pass.seat = seat.into_badge();
         word

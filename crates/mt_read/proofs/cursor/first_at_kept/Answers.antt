@@ -20,8 +20,8 @@ pub returns-then-is_dead_mark-clause-marked : goal.returns-then-is_dead_mark-cla
 returns-then-is_dead_mark-clause-marked g c =
     let q = part_of c.args.pass.now in let q₁ = part_of c.find_slot-place.new.pass in let q₂ = part_of c.first_at-range.new.pass in let q₃ = part_of c.load_parent-parent.new.pass in
     let on = c.first_at-range.ensures.leaf.on in
-    let tells = parent_tells q₂ _ _ _ _ c.load_parent-parent.ensures.told c.args.kept.now.leaf.number on.at (search rules) on.number in
-    let mark : c.load_parent-parent.result ≡ dead_mark c.args.kept.now.leaf.number = search rules in
+    let tells = parent_tells q₂ _ _ _ _ c.load_parent-parent.ensures.told c.args.kept.now.leaf.at.number on.at (search rules) on.number in
+    let mark : c.load_parent-parent.result ≡ dead_mark c.args.kept.now.leaf.at.number = search rules in
     let since : (here q₂).since ≡ (here q).since = ap (λ (x : Held). x.since) c.first_at-range.ensures.same.is ∙ ap (λ (x : Held). x.since) (here_more q q₁ c.find_slot-place.ensures.sees) in
     let row : (here q₂).row ≡ (here q).row = ap (λ (x : Held). x.row) c.first_at-range.ensures.same.is ∙ ap (λ (x : Held). x.row) (here_more q q₁ c.find_slot-place.ensures.sees) in
     let goes = goes_on q q₁ q₂ (goes_sees q q₁ c.find_slot-place.ensures.sees) c.first_at-range.ensures.goes in
@@ -31,7 +31,7 @@ pub returns-clause-answer : goal.returns-clause-answer
 returns-clause-answer g c =
     let q = part_of c.args.pass.now in let q₁ = part_of c.find_slot-place.new.pass in let q₂ = part_of c.first_at-range.new.pass in let q₃ = part_of c.load_parent-parent.new.pass in
     let on = c.first_at-range.ensures.leaf.on in
-    let tells = parent_tells q₂ _ _ _ _ c.load_parent-parent.ensures.told c.args.kept.now.leaf.number on.at (search rules) on.number in
+    let tells = parent_tells q₂ _ _ _ _ c.load_parent-parent.ensures.told c.args.kept.now.leaf.at.number on.at (search rules) on.number in
     let alive : c.load_parent-parent.result ≢ dead_mark (here q₂).row = search rules in
     let live = tells.live alive in
     let kind : q₁.shape.kind ≡ q.shape.kind = ap (λ (z : PassPart). z.shape.kind) c.find_slot-place.ensures.sees.is in

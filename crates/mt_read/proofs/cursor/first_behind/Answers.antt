@@ -1,5 +1,14 @@
-use Rattle.std.proofs.Common.{inl}
+use Rattle.std.proofs.Common.{inl, subst, sym}
+use Rattle.mt_rule.specs.Tokens.{part_of}
+use Rattle.mt_read.specs.Walks.{GoesOnTo}
+use Rattle.mt_read.proofs.Descending.{goes_to, marks_are}
 use Rattle.mt_read.proofs.cursor.first_behind.Goals as goal
 
 pub returns-in-Some-first_at_kept-clause-short : goal.returns-in-Some-first_at_kept-clause-short
 returns-in-Some-first_at_kept-clause-short g c over = inl c.first_at_kept.ensures.steps
+
+pub returns-in-None-clause-goes : goal.returns-in-None-clause-goes
+returns-in-None-clause-goes g c =
+    let q = part_of c.args.pass.now in let q₁ = part_of c.first_at_kept.new.pass in let q₂ = part_of c.first_anew-in-None.new.pass in
+    let anew = c.first_anew-in-None.ensures.goes in
+    subst (GoesOnTo q q₂) (sym (marks_are q₁ q₂ q₁.marks anew)) (goes_to q q₁ q₂ _ q₁.marks c.in-None.ensures.marked.goes anew)

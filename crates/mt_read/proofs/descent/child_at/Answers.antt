@@ -1,33 +1,47 @@
-use Rattle.std.proofs.Common.{arith, ◌+◌}
-use Rattle.mt_rule.specs.Sections.{LoadedChild}
-use Rattle.mt_rule.specs.Places.{column_at}
-use Rattle.mt_rule.specs.Tokens.{identity_of, part_of}
+use Rattle.std.proofs.Common.{arith, ◌≡◌, ◌∙◌, ◌+◌, Option, refl, ap, subst, sym}
+use Rattle.std.specs.Prelude.{IsSome}
 use Rattle.mt_base.specs.Width.{kind_width}
-use Rattle.mt_read.proofs.Finding.{shape_is}
-use Rattle.mt_read.proofs.Descending.{slot_is, slot_fits, column_of_slot, inner_level, child_on, goes_sees, goes_down, goes_on}
+use Rattle.mt_layout.specs.declared.names.RowKind.{RowKind}
+use Rattle.mt_life.specs.declared.views.Held.{Held}
+use Rattle.mt_rule.specs.declared.views.PassPart.{PassPart}
+use Rattle.mt_rule.specs.Places.{column_at}
+use Rattle.mt_rule.specs.Sections.{LoadedChild}
+use Rattle.mt_rule.specs.Tokens.{part_of}
+use Rattle.mt_read.proofs.Descending.{slot_is, slot_fits, column_of_slot, inner_level, child_on, goes_sees, goes_down, goes_on, here_more, level_down}
 use Rattle.mt_read.proofs.descent.child_at.Goals as goal
 
 pub overflow_add-column : goal.overflow_add-column
 overflow_add-column g c =
-    let q = part_of c.find_slot-place.new.pass in
-    let few = slot_fits q c.args.row.now c.find_slot-place.result _ c.slots.result c.width.result c.find_slot-place.ensures.on c.find_slot-place.ensures.place (shape_is (identity_of c.args.table.now) c.find_slot-place.new.pass c.find_slot-place.ensures.stepped.of) c.width.ensures c.slots.ensures in
+    let few = slot_fits (part_of c.find_slot-place.new.pass) c.args.row.now c.find_slot-place.result c.slots.result c.find_slot-place.ensures.on c.find_slot-place.ensures.place c.slots.ensures in
     omega arith
 
 pub load_slot-name-requires-clause-slot : goal.load_slot-name-requires-clause-slot
-load_slot-name-requires-clause-slot g c =
-    slot_is (part_of c.find_slot-place.new.pass) c.args.row.now c.find_slot-place.result _ c.slots.result c.width.result c.find_slot-place.ensures.on c.find_slot-place.ensures.place
-    (shape_is (identity_of c.args.table.now) c.find_slot-place.new.pass c.find_slot-place.ensures.stepped.of) c.width.ensures c.slots.ensures
+load_slot-name-requires-clause-slot g c = slot_is (part_of c.find_slot-place.new.pass) c.args.row.now c.find_slot-place.result c.slots.result c.find_slot-place.ensures.on c.find_slot-place.ensures.place c.slots.ensures
+
+pub row_named-requires : goal.row_named-requires
+row_named-requires g c =
+    let told = c.load_slot-name.ensures.told.child (inner_level (part_of c.find_slot-place.new.pass) c.args.row.now c.find_slot-place.ensures.on c.requires.inner) in
+    record { name = subst (λ (o : Option RowKind). IsSome o) (sym told.comes.named) refl }
 
 pub returns-clause-goes : goal.returns-clause-goes
 returns-clause-goes g c =
     let q = part_of c.find_slot-place.new.pass in
-    let told : LoadedChild (column_at (kind_width q.shape.kind) c.args.row.now.number (c.slots.result + c.find_slot-place.result.slot)) c.load_slot-name.result q (part_of c.load_slot-name.new.pass) =
+    let told : LoadedChild (column_at (kind_width q.shape.kind) c.args.row.now.at.number (c.slots.result + c.find_slot-place.result.slot)) c.load_slot-name.result q (part_of c.load_slot-name.new.pass) =
     c.load_slot-name.ensures.told.child (inner_level q c.args.row.now c.find_slot-place.ensures.on c.requires.inner) in
     goes_on _ _ _ (goes_sees _ _ c.find_slot-place.ensures.sees) (goes_down _ _ _ _ told)
 
 pub returns-clause-on : goal.returns-clause-on
 returns-clause-on g c =
     let q = part_of c.find_slot-place.new.pass in
-    let column = column_of_slot q c.args.row.now c.find_slot-place.result _ c.slots.result c.width.result c.find_slot-place.ensures.on (shape_is (identity_of c.args.table.now) c.find_slot-place.new.pass c.find_slot-place.ensures.stepped.of) c.width.ensures c.slots.ensures in
+    let column = column_of_slot q c.args.row.now c.find_slot-place.result c.slots.result c.find_slot-place.ensures.on c.slots.ensures in
     child_on q (part_of c.load_slot-name.new.pass) c.args.row.now c.find_slot-place.result _ c.load_slot-name.result c.find_slot-place.ensures.on c.find_slot-place.ensures.place column c.requires.inner c.load_slot-name.ensures.told
-    c.row_named.result (record { number = c.row_named.ensures.number; kind = c.row_named.ensures.kind; min_is = c.row_named.ensures.min; max_is = c.row_named.ensures.max })
+    c.row_named.result (record { number = c.row_named.ensures.number; base_is = c.row_named.ensures.base; kind = c.row_named.ensures.kind; width_is = c.row_named.ensures.width; min_is = c.row_named.ensures.min; max_is = c.row_named.ensures.max })
+
+pub returns-clause-steps : goal.returns-clause-steps
+returns-clause-steps g c =
+    let q = part_of c.args.pass.now in let q₁ = part_of c.find_slot-place.new.pass in let q₂ = part_of c.load_slot-name.new.pass in
+    let sees = c.find_slot-place.ensures.sees in
+    let told : LoadedChild (column_at (kind_width q₁.shape.kind) c.args.row.now.at.number (c.slots.result + c.find_slot-place.result.slot)) c.load_slot-name.result q₁ q₂ =
+    c.load_slot-name.ensures.told.child (inner_level q₁ c.args.row.now c.find_slot-place.ensures.on c.requires.inner) in
+    let kind : q₂.shape.kind ≡ q.shape.kind = ap (λ (z : PassPart). z.shape.kind) told.reads.is ∙ ap (λ (z : PassPart). z.shape.kind) sees.is in
+    level_down q q₂ _ _ _ (inner_level q c.args.row.now c.requires.on c.requires.inner) (told.level ∙ ap (λ (x : Held). x.extent.level) (here_more q q₁ sees)) kind c.find_slot-place.ensures.pivots c.load_slot-name.ensures.steps

@@ -1,7 +1,7 @@
-use Rattle.std.proofs.Common.{◌≡◌, ◌+◌, ◌*◌, ◌≤◌}
+use Rattle.std.proofs.Common.{◌≡◌, ◌+◌, ◌≤◌}
 use Rattle.mt_rule.specs.Sections.{here}
 use Rattle.mt_rule.specs.Tokens.{identity_of, part_of, Stepped}
-use Rattle.mt_read.specs.Walks.{IsOn, GoesOn}
+use Rattle.mt_read.specs.Walks.{IsOn, GoesOn, steps_down}
 use Rattle.mt_read.proofs.descent.descend.Given as goal
 
 abbrev pub invariant-loop-pass : goal.invariant-loop-pass
@@ -12,7 +12,7 @@ invariant-loop-pass g l = record {
   since : (here (part_of l.pass)).since ≡ (here (part_of l.fn.pass)).since;
   from : l.row.min ≤ l.index;
   to : l.index ≤ l.row.max;
-  steps : l.steps + 16 * (here (part_of l.pass)).extent.level ≤ l.fn.steps + 16 * (here (part_of l.fn.pass)).extent.level;
+  steps : l.steps + steps_down (part_of l.pass) ≤ l.fn.steps + steps_down (part_of l.fn.pass);
 }
 
 abbrev pub decreases-loop-pass : goal.decreases-loop-pass

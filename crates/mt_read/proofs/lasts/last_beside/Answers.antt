@@ -1,18 +1,22 @@
-use Rattle.std.proofs.Common.{rules, arith, ◌≡◌, ◌≢◌, ◌-◌, ◌<◌, ◌≤◌, ◌∙◌, ℕ, [], length, sym, ap, subst}
-use Rattle.mt_base.specs.Width.{kind_width}
+use Rattle.std.proofs.Common.{rules, arith, ◌≡◌, ◌≢◌, ◌-◌, ◌≤◌, ◌∙◌, ℕ, [], length, sym, ap, subst}
+use Rattle.mt_base.specs.declared.kinds.Kind.{Kind}
+use Rattle.mt_base.specs.Width.{greatest_of, kind_width}
 use Rattle.mt_layout.specs.Rows.{dead_mark}
 use Rattle.mt_life.specs.declared.views.Held.{Held}
 use Rattle.mt_rule.specs.Places.{column_at}
 use Rattle.mt_rule.specs.Sections.{IsAt, here, moment_seen}
 use Rattle.mt_rule.specs.Tokens.{part_of}
 use Rattle.mt_read.specs.Walks.{IsUnder}
-use Rattle.mt_read.proofs.Descending.{greatest_fits, goes_on, goes_sees, here_more}
+use Rattle.mt_read.proofs.Descending.{goes_on, goes_sees, here_more}
 use Rattle.mt_read.proofs.Reading.{kind_goes}
 use Rattle.mt_read.specs.Neighbours.{IsBefore}
 use Rattle.mt_read.proofs.Keeping.{goes_marked, goes_unmarked, leaf_parent, under_tells}
 use Rattle.mt_read.proofs.Leaving.{before_leaf, come_beside}
 use Rattle.mt_read.proofs.Preceding.{last_by, lefts_nothing}
 use Rattle.mt_read.proofs.lasts.last_beside.Goals as goal
+
+pub walk-requires-clause-index : goal.walk-requires-clause-index
+walk-requires-clause-index g c = let on = c.requires.leaf.on in let max = on.max in let within = on.within in let order = c.requires.order in omega arith
 
 pub returns-in_default-clause-answer : goal.returns-in_default-clause-answer
 returns-in_default-clause-answer g c =
@@ -29,9 +33,9 @@ returns-then-is_dead_mark-clause-moved g c =
     let q = part_of c.args.pass.now in let q₁ = part_of c.walk.new.pass in let q₃ = part_of c.last_at-range.new.pass in let q₄ = part_of c.load_parent-parent.new.pass in
     let under : IsAt q → IsUnder q₁ (here q) = search rules in
     let held = c.last_at-range.ensures.goes.under (here q) ((goes_sees _ _ c.find_slot-place.ensures.sees).under (here q) (under c.requires.leaf.on.at)) in
-    let word : column_at (kind_width q₃.shape.kind) c.args.leaf.now.number 0 ≡ column_at (kind_width q₃.shape.kind) (here q).row 0 = ap (λ (r : ℕ). column_at (kind_width q₃.shape.kind) r 0) c.requires.leaf.on.number in
+    let word : column_at (kind_width q₃.shape.kind) c.args.leaf.now.at.number 0 ≡ column_at (kind_width q₃.shape.kind) (here q).row 0 = ap (λ (r : ℕ). column_at (kind_width q₃.shape.kind) r 0) c.requires.leaf.on.number in
     let tells = under_tells q₃ _ _ _ _ c.load_parent-parent.ensures.told (here q) held word in
-    let mark : c.load_parent-parent.result ≡ dead_mark c.args.leaf.now.number = search rules in
+    let mark : c.load_parent-parent.result ≡ dead_mark c.args.leaf.now.at.number = search rules in
     let goes = goes_on _ _ _ c.walk.ensures.goes (goes_on _ _ _ (goes_sees _ _ c.find_slot-place.ensures.sees) c.last_at-range.ensures.goes) in
     let min = c.requires.leaf.on.min in let some = c.requires.some in
     let from : c.in-Some.before.min ≤ c.args.leaf.now.min - 1 = search rules in
@@ -44,7 +48,7 @@ returns-clause-answer g c =
     let q = part_of c.args.pass.now in let q₁ = part_of c.walk.new.pass in let q₂ = part_of c.find_slot-place.new.pass in let q₃ = part_of c.last_at-range.new.pass in let q₄ = part_of c.load_parent-parent.new.pass in
     let under : IsAt q → IsUnder q₁ (here q) = search rules in
     let held = c.last_at-range.ensures.goes.under (here q) ((goes_sees _ _ c.find_slot-place.ensures.sees).under (here q) (under c.requires.leaf.on.at)) in
-    let word : column_at (kind_width q₃.shape.kind) c.args.leaf.now.number 0 ≡ column_at (kind_width q₃.shape.kind) (here q).row 0 = ap (λ (r : ℕ). column_at (kind_width q₃.shape.kind) r 0) c.requires.leaf.on.number in
+    let word : column_at (kind_width q₃.shape.kind) c.args.leaf.now.at.number 0 ≡ column_at (kind_width q₃.shape.kind) (here q).row 0 = ap (λ (r : ℕ). column_at (kind_width q₃.shape.kind) r 0) c.requires.leaf.on.number in
     let tells = under_tells q₃ _ _ _ _ c.load_parent-parent.ensures.told (here q) held word in
     let alive : c.load_parent-parent.result ≢ dead_mark (here q).row = search rules in
     let since₁ : length q.seen ≤ (here q₁).since = search rules in
@@ -55,7 +59,8 @@ returns-clause-answer g c =
     let kind = kind_goes q₂ q₃ c.last_at-range.ensures.goes in
     let wide : (here q₂).width ≡ kind_width q₃.shape.kind = c.find_slot-place.ensures.on.width ∙ ap kind_width (sym kind) in
     let min = on.min in let some = c.requires.some in
-    let fits : c.args.leaf.now.min < 18446744073709551616 = search rules in
-    let top = greatest_fits q₃.shape.kind in
-    last_by q₂ q₃ q₄ _ _ _ c.load_parent-parent.ensures.told c.find_slot-place.result (here q) (c.args.leaf.now.min - 1) (length q.seen) level wide c.find_slot-place.ensures.from c.find_slot-place.ensures.to (omega arith) (omega arith) on.met since
+    let whole = goes_on _ _ _ c.walk.ensures.goes (goes_on _ _ _ (goes_sees _ _ c.find_slot-place.ensures.sees) c.last_at-range.ensures.goes) in
+    let max = on.max in let within = on.within in let order = c.requires.order in
+    let small : (here q).extent.first ≤ greatest_of q₃.shape.kind = subst (λ (k : Kind). (here q).extent.first ≤ greatest_of k) (sym (kind_goes q q₃ whole)) (omega arith) in
+    last_by q₂ q₃ q₄ _ _ _ c.load_parent-parent.ensures.told c.find_slot-place.result (here q) (c.args.leaf.now.min - 1) (length q.seen) level wide c.find_slot-place.ensures.from c.find_slot-place.ensures.to (omega arith) small on.met since
     (tells.past alive c.requires.leaf.level) c.last_at-range.result (c.find_slot-place.result.slot ≡ 0) c.last_at-range.ensures.found c.last_at-range.ensures.none

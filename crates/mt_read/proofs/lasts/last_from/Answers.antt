@@ -6,12 +6,18 @@ use Rattle.mt_rule.specs.Sections.{here}
 use Rattle.mt_rule.specs.Tokens.{part_of}
 use Rattle.mt_read.specs.Answers.{AnswersBy}
 use Rattle.mt_read.specs.Neighbours.{IsBefore}
-use Rattle.mt_read.proofs.Descending.{goes_some}
+use Rattle.mt_read.proofs.Descending.{goes_some, place_within}
 use Rattle.mt_read.proofs.Leaving.{kind_beside, left_hole}
 use Rattle.mt_read.proofs.Reading.{kind_told}
 use Rattle.mt_read.proofs.Before.{first_place}
 use Rattle.mt_read.proofs.Preceding.{here_by, left_by, no_last}
 use Rattle.mt_read.proofs.lasts.last_from.Goals as goal
+
+pub last_beside-requires-clause-order : goal.last_beside-requires-clause-order
+last_beside-requires-clause-order g c =
+    let on = c.requires.leaf.on in let min = on.min in let max = on.max in
+    let inside = place_within (part_of c.args.pass.now) c.args.leaf.now c.args.place.now on c.requires.place in
+    let low = inside.0 in let order = inside.1 in let high = inside.2 in omega arith
 
 pub returns-in-Some-clause-answer : goal.returns-in-Some-clause-answer
 returns-in-Some-clause-answer g c = here_by (part_of c.args.pass.now) (part_of c.last_at.new.pass) c.args.index c.in-Some.range c.in-Some.ensures.found

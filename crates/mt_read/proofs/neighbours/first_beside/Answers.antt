@@ -33,9 +33,9 @@ returns-then-is_dead_mark-clause-moved g c =
     let q = part_of c.args.pass.now in let q₁ = part_of c.walk.new.pass in let q₃ = part_of c.first_at-range.new.pass in let q₄ = part_of c.load_parent-parent.new.pass in
     let under : IsAt q → IsUnder q₁ (here q) = search rules in
     let held = c.first_at-range.ensures.goes.under (here q) ((goes_sees _ _ c.find_slot-place.ensures.sees).under (here q) (under c.requires.leaf.on.at)) in
-    let word : column_at (kind_width q₃.shape.kind) c.args.leaf.now.number 0 ≡ column_at (kind_width q₃.shape.kind) (here q).row 0 = ap (λ (r : ℕ). column_at (kind_width q₃.shape.kind) r 0) c.requires.leaf.on.number in
+    let word : column_at (kind_width q₃.shape.kind) c.args.leaf.now.at.number 0 ≡ column_at (kind_width q₃.shape.kind) (here q).row 0 = ap (λ (r : ℕ). column_at (kind_width q₃.shape.kind) r 0) c.requires.leaf.on.number in
     let tells = under_tells q₃ _ _ _ _ c.load_parent-parent.ensures.told (here q) held word in
-    let mark : c.load_parent-parent.result ≡ dead_mark c.args.leaf.now.number = search rules in
+    let mark : c.load_parent-parent.result ≡ dead_mark c.args.leaf.now.at.number = search rules in
     let goes = goes_on _ _ _ c.walk.ensures.goes (goes_on _ _ _ (goes_sees _ _ c.find_slot-place.ensures.sees) c.first_at-range.ensures.goes) in
     let kind : q₄.shape.kind ≡ q.shape.kind = ap (λ (z : PassPart). z.shape.kind) c.load_parent-parent.ensures.told.reads.is ∙ kind_goes q q₃ goes in
     let max = c.requires.leaf.on.max in
@@ -50,7 +50,7 @@ returns-clause-answer g c =
     let q = part_of c.args.pass.now in let q₁ = part_of c.walk.new.pass in let q₂ = part_of c.find_slot-place.new.pass in let q₃ = part_of c.first_at-range.new.pass in let q₄ = part_of c.load_parent-parent.new.pass in
     let under : IsAt q → IsUnder q₁ (here q) = search rules in
     let held = c.first_at-range.ensures.goes.under (here q) ((goes_sees _ _ c.find_slot-place.ensures.sees).under (here q) (under c.requires.leaf.on.at)) in
-    let word : column_at (kind_width q₃.shape.kind) c.args.leaf.now.number 0 ≡ column_at (kind_width q₃.shape.kind) (here q).row 0 = ap (λ (r : ℕ). column_at (kind_width q₃.shape.kind) r 0) c.requires.leaf.on.number in
+    let word : column_at (kind_width q₃.shape.kind) c.args.leaf.now.at.number 0 ≡ column_at (kind_width q₃.shape.kind) (here q).row 0 = ap (λ (r : ℕ). column_at (kind_width q₃.shape.kind) r 0) c.requires.leaf.on.number in
     let tells = under_tells q₃ _ _ _ _ c.load_parent-parent.ensures.told (here q) held word in
     let alive : c.load_parent-parent.result ≢ dead_mark (here q).row = search rules in
     let since₁ : length q.seen ≤ (here q₁).since = search rules in

@@ -6,7 +6,7 @@ use Rattle.mt_base.specs.declared.kinds.Kind.{Kind}
 use Rattle.mt_rule.specs.declared.views.PassPart.{PassPart}
 use Rattle.mt_rule.specs.Tokens.{identity_of, part_of}
 use Rattle.mt_read.specs.Answers.{Answers}
-use Rattle.mt_read.specs.Neighbours.{LeftMarked, WasLeftMarked}
+use Rattle.mt_read.specs.Neighbours.{LeftMarked, WasLeftMarked, asked}
 use Rattle.mt_read.specs.Walks.{GoesOn}
 use Rattle.mt_read.specs.Windows.{Began}
 use Rattle.mt_read.proofs.Finding.{shape_is}
@@ -31,8 +31,8 @@ returns-in_err-range-clause-moved g c =
     let t = identity_of c.args.table.now in
     let q = part_of c.args.pass.now in let q₁ = part_of c.begin-section.new.pass in let q₂ = part_of c.next_from-found.new.pass in let q₃ = part_of c.end-begun.new.pass in
     let began = subst (λ (n : ℕ). Began n q q₁) (sym c.epoch-lo.ensures) c.begin-section.ensures.began in
-    let left : LeftMarked (Next c.args.index (greatest_of q₁.shape.kind)) (length q₁.seen) q₁ q₂ = search rules in
-    let told = was_moved t q q₁ q₂ q₃ (Next c.args.index (greatest_of q₁.shape.kind)) c.epoch-lo.result c.end-begun.result (shape_is t c.args.pass.now c.requires.pass) began left c.end-begun.ensures.ended c.end-begun.ensures.sound in
+    let left : LeftMarked (asked q₁.shape.kind (Next c.args.index (greatest_of q₁.shape.kind))) (length q₁.seen) q₁ q₂ = search rules in
+    let told = was_moved t q q₁ q₂ q₃ (asked q₁.shape.kind (Next c.args.index (greatest_of q₁.shape.kind))) c.epoch-lo.result c.end-begun.result (shape_is t c.args.pass.now c.requires.pass) began left c.end-begun.ensures.ended c.end-begun.ensures.sound in
     search rules
 
 pub returns-in_err-range-clause-given_up : goal.returns-in_err-range-clause-given_up
@@ -40,7 +40,7 @@ returns-in_err-range-clause-given_up g c =
     let t = identity_of c.args.table.now in
     let q = part_of c.args.pass.now in let q₁ = part_of c.begin-section.new.pass in let q₂ = part_of c.next_from-found.new.pass in let q₃ = part_of c.end-begun.new.pass in
     let began = subst (λ (n : ℕ). Began n q q₁) (sym c.epoch-lo.ensures) c.begin-section.ensures.began in
-    let left : LeftMarked (Next c.args.index (greatest_of q₁.shape.kind)) (length q₁.seen) q₁ q₂ = search rules in
+    let left : LeftMarked (asked q₁.shape.kind (Next c.args.index (greatest_of q₁.shape.kind))) (length q₁.seen) q₁ q₂ = search rules in
     let told = has_read t q q₁ q₂ q₃ c.epoch-lo.result c.end-begun.result (shape_is t c.args.pass.now c.requires.pass) began _ left.beside.marked.goes c.end-begun.ensures.ended in
     search rules
 
@@ -49,7 +49,7 @@ returns-in_err-range-clause-left g c =
     let t = identity_of c.args.table.now in
     let q = part_of c.args.pass.now in let q₁ = part_of c.begin-section.new.pass in let q₂ = part_of c.next_from-found.new.pass in let q₃ = part_of c.end-begun.new.pass in
     let began = subst (λ (n : ℕ). Began n q q₁) (sym c.epoch-lo.ensures) c.begin-section.ensures.began in
-    let left : LeftMarked (Next c.args.index (greatest_of q₁.shape.kind)) (length q₁.seen) q₁ q₂ = search rules in
+    let left : LeftMarked (asked q₁.shape.kind (Next c.args.index (greatest_of q₁.shape.kind))) (length q₁.seen) q₁ q₂ = search rules in
     let kind : q₁.shape.kind ≡ q.shape.kind = ap (λ (z : PassPart). z.shape.kind) c.begin-section.ensures.began.is in
     let told = subst (λ (k : Kind). WasLeftMarked (Next c.args.index (greatest_of k)) c.epoch-lo.result c.end-begun.result q q₃) kind (was_left t q q₁ q₂ q₃ (Next c.args.index (greatest_of q₁.shape.kind)) c.epoch-lo.result c.end-begun.result (shape_is t c.args.pass.now c.requires.pass) began left c.end-begun.ensures.ended) in
     search rules

@@ -3,12 +3,11 @@ use Rattle.std.specs.Prelude.{IfSome}
 use Rattle.mt_base.specs.declared.calls.Query.TheVariants.{Find, Next}
 use Rattle.mt_base.specs.Width.{greatest, greatest_of}
 use Rattle.mt_rule.specs.declared.views.PassPart.{PassPart}
-use Rattle.mt_rule.specs.declared.views.Shape.{Shape}
 use Rattle.mt_rule.specs.Sections.{here}
-use Rattle.mt_rule.specs.Tokens.{identity_of, part_of}
+use Rattle.mt_rule.specs.Tokens.{part_of}
 use Rattle.mt_read.specs.Answers.{Answers, AnswersBy, LeafAnswers}
 use Rattle.mt_read.specs.Neighbours.{IsBehind}
-use Rattle.mt_read.proofs.Finding.{place_more, sees_on, shape_is}
+use Rattle.mt_read.proofs.Finding.{place_more, sees_on}
 use Rattle.mt_read.proofs.Descending.{goes_on, goes_sees, goes_some, place_within}
 use Rattle.mt_read.proofs.Reading.{kind_goes, kind_told, stood_here}
 use Rattle.mt_read.proofs.Leaving.{kind_beside, left_next}
@@ -45,10 +44,9 @@ returns-then-leaf-top-clause-answer g c =
     let place = c.find_slot-place.result in let on = c.find_slot-place.ensures.on in
     let was = c.range_at.ensures.read in
     let level : (here q₁).extent.level ≡ 0 = ap (λ (z : PassPart). (here z).extent.level) c.find_slot-place.ensures.sees.is ∙ c.requires.leaf.level in
-    let shape = shape_is (identity_of c.args.table.now) c.find_slot-place.new.pass c.find_slot-place.ensures.stepped.of in
     let end : place.last ≡ c.args.leaf.now.max = search rules in
     let top : c.args.leaf.now.max ≡ c.top.result = search rules in
-    let last : place.last ≡ greatest_of q₁.shape.kind = end ∙ (top ∙ (c.top.ensures ∙ (ap greatest c.width.ensures ∙ ap (λ (s : Shape). greatest_of s.kind) (sym shape)))) in
+    let last : place.last ≡ greatest_of q₁.shape.kind = end ∙ (top ∙ (c.top.ensures ∙ ap greatest on.wide)) in
     subst (λ (z : PassPart). Answers q₂ (here z).since (Next c.args.index (greatest_of z.shape.kind)) None) c.find_slot-place.ensures.sees.is
     (ends q₁ q₂ place c.args.index c.find_slot-place.ensures.from c.find_slot-place.ensures.to c.find_slot-place.ensures.place on.shape.fills (kind_goes q₁ q₂ c.range_at.ensures.goes)
     (here q₁).since was.read.k was.read.low was.read.high last was.read.map (stood_here q₁ q₂ place c.range_at.result level was c.args.index c.find_slot-place.ensures.from c.find_slot-place.ensures.to))

@@ -6,10 +6,11 @@ use Rattle.mt_layout.specs.declared.names.RowKind.{RowKind}
 use Rattle.mt_layout.specs.Sizes.{slots_of}
 use Rattle.mt_layout.proofs.RowSizes.{few_slots_of}
 use Rattle.mt_rule.specs.Sections.{here, kind_of}
-use Rattle.mt_rule.specs.Tokens.{identity_of, part_of}
-use Rattle.mt_read.proofs.Finding.{shape_is, count_is, column_is, slots_are, place_more}
+use Rattle.mt_rule.specs.Tokens.{part_of}
+use Rattle.mt_read.proofs.Finding.{count_is, column_is, slots_are, place_more}
 use Rattle.mt_read.proofs.Descending.{place_within}
 use Rattle.mt_read.proofs.Beside.{used, last_behind, pivot_behind}
+use Rattle.mt_read.proofs.Leaving.{leaf_more}
 use Rattle.mt_read.proofs.Reading.{leaf_kind}
 use Rattle.mt_read.proofs.reads.next_place.Goals as goal
 
@@ -23,6 +24,13 @@ overflow_add-first g c =
     let top = greatest_fits (kind_width q.shape.kind) in
     omega arith
 
+pub overflow_add-slot : goal.overflow_add-slot
+overflow_add-slot g c =
+    let q = part_of c.args.pass.now in
+    let low = used q c.args.leaf.now c.args.place.now c.requires.leaf.on c.requires.place (λ e. c.requires.more (e ∙ sym c.requires.leaf.on.max)) in
+    let few = few_slots_of (here q).width (kind_of q (here q)) in
+    omega arith
+
 pub overflow_add-slot-2 : goal.overflow_add-slot-2
 overflow_add-slot-2 g c =
     let q = part_of c.args.pass.now in
@@ -33,8 +41,7 @@ overflow_add-slot-2 g c =
 pub returns-then-slot-slots-clause-place : goal.returns-then-slot-slots-clause-place
 returns-then-slot-slots-clause-place g c =
     let q = part_of c.args.pass.now in
-    let count = count_is q c.args.leaf.now c.requires.leaf.on _ c.slots.result c.width.result (shape_is (identity_of c.args.table.now) c.args.pass.now c.requires.pass) c.width.ensures
-    (c.slots.ensures ∙ ap (λ (k : RowKind). slots_of c.width.result k) (sym (leaf_kind q c.args.leaf.now c.requires.leaf))) in
+    let count = count_is q c.args.leaf.now c.requires.leaf.on c.slots.result (c.slots.ensures ∙ ap (λ (k : RowKind). slots_of c.args.leaf.now.width k) (sym (leaf_kind q c.args.leaf.now c.requires.leaf))) in
     last_behind q c.args.leaf.now c.args.place.now c.requires.leaf.on c.requires.place (λ e. c.requires.more (e ∙ sym c.requires.leaf.on.max))
     (c.args.place.now.slot + 1) (c.args.place.now.last + 1) c.args.leaf.now.max refl refl (c.if-slot-slots.true ∙ count) c.requires.leaf.on.max
 
@@ -48,8 +55,7 @@ overflow_add-slot-3 g c =
 pub load_pivot-last-requires-clause-pivot : goal.load_pivot-last-requires-clause-pivot
 load_pivot-last-requires-clause-pivot g c =
     let q = part_of c.args.pass.now in
-    let count = count_is q c.args.leaf.now c.requires.leaf.on _ c.slots.result c.width.result (shape_is (identity_of c.args.table.now) c.args.pass.now c.requires.pass) c.width.ensures
-    (c.slots.ensures ∙ ap (λ (k : RowKind). slots_of c.width.result k) (sym (leaf_kind q c.args.leaf.now c.requires.leaf))) in
+    let count = count_is q c.args.leaf.now c.requires.leaf.on c.slots.result (c.slots.ensures ∙ ap (λ (k : RowKind). slots_of c.args.leaf.now.width k) (sym (leaf_kind q c.args.leaf.now c.requires.leaf))) in
     let low = used q c.args.leaf.now c.args.place.now c.requires.leaf.on c.requires.place (λ e. c.requires.more (e ∙ sym c.requires.leaf.on.max)) in
     let same = slots_are q c.args.leaf.now c.requires.leaf.on in
     let other = c.if-slot-slots.false in
@@ -60,10 +66,12 @@ returns-clause-place g c =
     let q = part_of c.args.pass.now in
     let on = c.requires.leaf.on in
     let more : c.args.place.now.last ≢ (here q).extent.last = λ e. c.requires.more (e ∙ sym on.max) in
-    let count = count_is q c.args.leaf.now on _ c.slots.result c.width.result (shape_is (identity_of c.args.table.now) c.args.pass.now c.requires.pass) c.width.ensures
-    (c.slots.ensures ∙ ap (λ (k : RowKind). slots_of c.width.result k) (sym (leaf_kind q c.args.leaf.now c.requires.leaf))) in
+    let count = count_is q c.args.leaf.now on c.slots.result (c.slots.ensures ∙ ap (λ (k : RowKind). slots_of c.args.leaf.now.width k) (sym (leaf_kind q c.args.leaf.now c.requires.leaf))) in
     let low = used q c.args.leaf.now c.args.place.now on c.requires.place more in
     let other = c.if-slot-slots.false in
     let last = c.load_pivot-last.ensures.told.found_is ∙ ap (slice_index (here q).copy) (column_is q c.args.leaf.now on (1 + (c.args.place.now.slot + 1))) in
     place_more q (part_of c.load_pivot-last.new.pass) _ c.load_pivot-last.ensures.told.reads
     (pivot_behind q c.args.leaf.now c.args.place.now on c.requires.place more (c.args.place.now.slot + 1) (c.args.place.now.last + 1) c.load_pivot-last.result refl refl (omega arith) last)
+
+pub returns-clause-leaf : goal.returns-clause-leaf
+returns-clause-leaf g c = leaf_more _ _ _ c.load_pivot-last.ensures.told.reads c.requires.leaf

@@ -1,20 +1,30 @@
-use Rattle.std.proofs.Common.{arith, ◌≡◌, ◌≤◌, ◌∙◌, ap, length}
+use Rattle.std.proofs.Common.{arith, ◌≡◌, ◌≤◌, ◌∙◌, Option, ap, length, subst, sym}
+use Rattle.mt_base.specs.declared.ranges.Range.{Range}
+use Rattle.mt_base.specs.declared.calls.Query.TheVariants.{Load}
 use Rattle.mt_rule.specs.declared.views.PassPart.{PassPart}
 use Rattle.mt_rule.specs.Sections.{here}
-use Rattle.mt_rule.specs.Tokens.{part_of}
+use Rattle.mt_rule.specs.Tokens.{identity_of, part_of}
+use Rattle.mt_read.specs.Answers.{Answers}
 use Rattle.mt_read.proofs.Descending.{goes_on, goes_sees}
 use Rattle.mt_read.proofs.Reading.{loads, answers_from}
+use Rattle.mt_read.proofs.Upward.{loads_sought, sought_within}
 use Rattle.mt_read.proofs.reads.range_of.Goals as goal
+
+pub walk-requires-clause-index : goal.walk-requires-clause-index
+walk-requires-clause-index g c = sought_within (identity_of c.args.table.now) c.args.pass.now c.args.index c.sought-to.result c.requires.pass c.sought-to.ensures
 
 pub returns-clause-answer : goal.returns-clause-answer
 returns-clause-answer g c =
-    let q₂ = part_of c.find_slot-place.new.pass in let q₃ = part_of c.range_at.new.pass in
+    let t = identity_of c.args.table.now in
+    let q = part_of c.args.pass.now in let q₂ = part_of c.find_slot-place.new.pass in let q₃ = part_of c.range_at-range.new.pass in
     let same = c.find_slot-place.ensures.sees.is in
     let level : (here q₂).extent.level ≡ 0 = ap (λ (z : PassPart). (here z).extent.level) same ∙ c.in_ok-leaf.ensures.leaf.level in
     let since = ap (λ (z : PassPart). (here z).since) same in
-    let least : length (part_of c.args.pass.now).seen ≤ (here (part_of c.walk.new.pass)).since = c.in_ok-leaf.ensures.since in
-    answers_from q₃ (here q₂).since (length (part_of c.args.pass.now).seen) _ c.range_at.result (omega arith)
-    (loads q₂ q₃ c.find_slot-place.result c.range_at.result level c.range_at.ensures.read c.args.index c.find_slot-place.ensures.from c.find_slot-place.ensures.to)
+    let least : length q.seen ≤ (here (part_of c.walk.new.pass)).since = c.in_ok-leaf.ensures.since in
+    let found = answers_from q₃ (here q₂).since (length q.seen) (Load c.sought-to.result) c.range_at-range.result (omega arith)
+    (loads q₂ q₃ c.find_slot-place.result c.range_at-range.result level c.range_at-range.ensures.read c.sought-to.result c.find_slot-place.ensures.from c.find_slot-place.ensures.to) in
+    subst (λ (v : Option Range). Answers q₃ (length q.seen) (Load c.args.index) v) (sym c.not_below.ensures)
+    (loads_sought t c.range_at-range.new.pass c.args.pass.now c.range_at-range.ensures.stepped.of c.requires.pass (length q.seen) c.args.index c.sought-to.result c.sought-to.ensures c.range_at-range.result found)
 
 pub returns-clause-goes : goal.returns-clause-goes
-returns-clause-goes g c = goes_on _ _ _ c.walk.ensures.goes (goes_on _ _ _ (goes_sees _ _ c.find_slot-place.ensures.sees) c.range_at.ensures.goes)
+returns-clause-goes g c = goes_on _ _ _ c.walk.ensures.goes (goes_on _ _ _ (goes_sees _ _ c.find_slot-place.ensures.sees) c.range_at-range.ensures.goes)

@@ -4,4 +4,4 @@ use Rattle.mt_rows.specs.declared.rows.Place.TheVariants.{Root}
 use Rattle.mt_rule.proofs.table.MtTable.load_parent.Given as goal
 
 abbrev pub ghosts-load_parent_of : goal.ghosts-load_parent_of
-ghosts-load_parent_of g a = record { call = calls.Clear; reply = replies.Ok; place = Root; number = a.row; column = 0; word = 0 }
+ghosts-load_parent_of g a = record { call = calls.Clear; reply = replies.Ok; place = Root; number = a.row.number; column = 0; word = 0 }

@@ -1,17 +1,20 @@
 use Rattle.std.proofs.Common.{rules}
 use Rattle.mt_rule.specs.Sections.{here}
 use Rattle.mt_rule.specs.Tokens.{part_of}
-use Rattle.mt_rule.proofs.ReadingPlaces.{column_below, pivot_low}
+use Rattle.mt_rule.proofs.ReadingPlaces.{column_below, pivot_low, row_here}
 use Rattle.mt_rule.proofs.ReadingSteps.{pivots}
 use Rattle.mt_rule.proofs.table.MtTable.load_pivot.Goals as goal
 
-pub column_index-at-requires-clause-column : goal.column_index-at-requires-clause-column
-column_index-at-requires-clause-column g c = pivot_low c.args.self.now c.args.pass.now c.requires.pass (here (part_of c.args.pass.now)) c.requires.pivot.0 c.args.col c.requires.pivot.1 c.requires.pivot.2
+pub column_in-at-requires-clause-base : goal.column_in-at-requires-clause-base
+column_in-at-requires-clause-base g c = row_here c.args.self.now c.args.pass.now c.requires.pass c.args.row c.requires.base
+
+pub column_in-at-requires-clause-column : goal.column_in-at-requires-clause-column
+column_in-at-requires-clause-column g c = pivot_low c.args.self.now c.args.pass.now c.requires.pass (here (part_of c.args.pass.now)) c.requires.pivot.0 c.args.col c.requires.pivot.1 c.requires.pivot.2
 
 pub load-word-requires : goal.load-word-requires
 load-word-requires g c =
     let low = pivot_low c.args.self.now c.args.pass.now c.requires.pass (here (part_of c.args.pass.now)) c.requires.pivot.0 c.args.col c.requires.pivot.1 c.requires.pivot.2 in (
       search rules,
-      column_below c.args.self.now c.args.pass.now c.requires.pass c.args.row c.args.col c.column_index-at.result c.requires.has low (search rules),
-      pivots _ _ _ _ _ c.args.row c.args.col (search rules) (search rules) (search rules) (search rules) (search rules),
+      column_below c.args.self.now c.args.pass.now c.requires.pass c.args.row.number c.args.col c.column_in-at.result c.requires.has low (search rules),
+      pivots _ _ _ _ _ c.args.row.number c.args.col (search rules) (search rules) (search rules) (search rules) (search rules),
     )

@@ -1,0 +1,105 @@
+-- What a read at the index that is walked to answers of an index above the greatest.
+use Rattle.std.proofs.Common.{◌≡◌, ℕ, ◌<◌, ◌≤◌, Option, Some, None, refl, sym, ap, ◌∙◌, arith, lt-ltb, le-ltb}
+use Rattle.std.specs.Prelude.{IfSome}
+use Rattle.mt_base.specs.declared.kinds.Kind.{Kind}
+use Rattle.mt_base.specs.declared.ranges.Range.{Range}
+use Rattle.mt_base.specs.declared.calls.Query.{Query}
+use Rattle.mt_base.specs.declared.calls.Query.TheVariants.{Load, Find, Next, Prev, Rfind}
+use Rattle.mt_base.specs.Width.{greatest_of}
+use Rattle.mt_base.specs.Call.{answer}
+use Rattle.mt_base.specs.Map.{IsMap}
+use Rattle.mt_base.proofs.AboveTop.{prev_above}
+use Rattle.mt_rule.specs.declared.passes.Pass.{Pass}
+use Rattle.mt_rule.specs.declared.views.PassPart.{PassPart}
+use Rattle.mt_rule.specs.declared.views.Shape.{Shape}
+use Rattle.mt_rule.specs.Sections.{moment_seen}
+use Rattle.mt_rule.specs.Tokens.{Identity, IsPassOf, part_of}
+use Rattle.mt_read.specs.Answers.{Answers, not_below}
+use Rattle.mt_read.specs.Neighbours.{asked}
+use Rattle.mt_read.specs.Walks.{sought}
+use Rattle.mt_read.proofs.Finding.{shape_is}
+use Rattle.mt_read.proofs.Sought as maps
+
+-- ---- the index that is walked to
+
+pub kind_is : (t : Identity) (p : Pass) → IsPassOf t p → (part_of p).shape.kind ≡ t.shape.kind
+kind_is t p of = ap (λ (s : Shape). s.kind) (shape_is t p of)
+
+pub sought_is : (t : Identity) (p : Pass) (index to : ℕ) → IsPassOf t p → to ≡ sought t.shape.kind index → to ≡ sought (part_of p).shape.kind index
+sought_is t p index to of is = is ∙ ap (λ (k : Kind). sought k index) (sym (kind_is t p of))
+
+pub sought_within : (t : Identity) (p : Pass) (index to : ℕ) → IsPassOf t p → to ≡ sought t.shape.kind index → to ≤ greatest_of (part_of p).shape.kind
+sought_within t p index to of is = let same = sought_is t p index to of is in omega arith
+
+pub end_is : (t : Identity) (p : Pass) (end : ℕ) → IsPassOf t p → end ≡ greatest_of t.shape.kind → end ≡ greatest_of (part_of p).shape.kind
+end_is t p end of is = is ∙ ap greatest_of (sym (kind_is t p of))
+
+-- ---- a query as a tree of a kind is asked it
+
+pub asked_low : (kind : Kind) (index : ℕ) → index ≤ greatest_of kind → asked kind (Prev index 0) ≡ Prev index 0
+asked_low kind index low = rw (le-ltb (greatest_of kind) index low) refl
+
+pub asked_above : (kind : Kind) (index end : ℕ) → end ≡ greatest_of kind → end < index → asked kind (Rfind end 0) ≡ asked kind (Prev index 0)
+asked_above kind index end is above =
+    let top : sought kind end ≡ greatest_of kind = omega arith in
+    ap (λ (n : ℕ). Rfind n 0) top ∙ sym (rw (lt-ltb (greatest_of kind) index (omega arith)) refl)
+
+-- ---- answers
+
+-- what answers one query answers another, where a map answers both alike
+alike : (q : PassPart) (least : ℕ) (query other : Query) (f : Option Range → Option Range) (value : Option Range) → ((k : ℕ) → IsMap q.shape.kind (moment_seen q k).ranges → f (answer (moment_seen q k).ranges query) ≡ answer (moment_seen q k).ranges other)
+    → Answers q least query value → Answers q least other (f value)
+alike q least query other f value same a = record { k = a.k; low = a.low; high = a.high; map = a.map; is = ap f a.is ∙ same a.k a.map }
+
+alike_some : (q : PassPart) (least : ℕ) (query other : Query) (o : Option (Option Range)) → ((k : ℕ) → IsMap q.shape.kind (moment_seen q k).ranges → answer (moment_seen q k).ranges query ≡ answer (moment_seen q k).ranges other)
+    → IfSome o (Answers q least query) → IfSome o (Answers q least other)
+alike_some q least query other None same a = tt
+alike_some q least query other (Some value) same a = alike q least query other (λ (v : Option Range). v) value same a
+
+-- the pass has made a walk to the index, and was of the tree before
+module _ (t : Identity) (p p₀ : Pass) (of : IsPassOf t p) (before : IsPassOf t p₀) (least index to : ℕ) (is : to ≡ sought t.shape.kind index) where
+  abbrev q : PassPart
+  q = part_of p
+
+  abbrev kind : Kind
+  kind = q.shape.kind
+
+  there : to ≡ sought kind index
+  there = sought_is t p index to of is
+
+  -- the greatest index, as it was known before
+  top_is : greatest_of (part_of p₀).shape.kind ≡ greatest_of kind
+  top_is = ap greatest_of (kind_is t p₀ before ∙ sym (kind_is t p of))
+
+  pub loads_sought : (value : Option Range) → Answers q least (Load to) value → Answers q least (Load index) (not_below index index value)
+  loads_sought value a =
+      alike q least (Load to) (Load index) (not_below index index) value
+      (λ k map. ap (λ (n : ℕ). not_below index index (answer (moment_seen q k).ranges (Load n))) there ∙ maps.load_sought kind (moment_seen q k).ranges index map) a
+
+  pub finds_sought : (p₂ : Pass) (value : Option Range) → IsPassOf t p₂ → Answers q least (Find to (greatest_of (part_of p₂).shape.kind)) value
+      → Answers q least (Find index (greatest_of (part_of p₀).shape.kind)) (not_below index index value)
+  finds_sought p₂ value of₂ a =
+      let top₂ : greatest_of (part_of p₂).shape.kind ≡ greatest_of kind = ap greatest_of (kind_is t p₂ of₂ ∙ sym (kind_is t p of)) in
+      alike q least (Find to (greatest_of (part_of p₂).shape.kind)) (Find index (greatest_of (part_of p₀).shape.kind)) (not_below index index) value
+      (λ k map. (λ i. not_below index index (answer (moment_seen q k).ranges (Find (there i) (top₂ i))))
+      ∙ (maps.find_sought kind (moment_seen q k).ranges index map ∙ ap (λ (n : ℕ). answer (moment_seen q k).ranges (Find index n)) (sym top_is))) a
+
+  pub nexts_sought : (o : Option (Option Range)) → IfSome o (Answers q least (Next to (greatest_of (part_of p₀).shape.kind))) → IfSome o (Answers q least (Next index (greatest_of (part_of p₀).shape.kind)))
+  nexts_sought o a =
+      alike_some q least (Next to (greatest_of (part_of p₀).shape.kind)) (Next index (greatest_of (part_of p₀).shape.kind)) o
+      (λ k map. (λ i. answer (moment_seen q k).ranges (Next (there i) (top_is i)))
+      ∙ (maps.next_sought kind (moment_seen q k).ranges index map ∙ ap (λ (n : ℕ). answer (moment_seen q k).ranges (Next index n)) (sym top_is))) a
+
+  pub rfinds_sought : (o : Option (Option Range)) → IfSome o (Answers q least (Rfind to 0)) → IfSome o (Answers q least (Rfind index 0))
+  rfinds_sought o a =
+      alike_some q least (Rfind to 0) (Rfind index 0) o
+      (λ k map. ap (λ (n : ℕ). answer (moment_seen q k).ranges (Rfind n 0)) there ∙ maps.rfind_sought kind (moment_seen q k).ranges index map) a
+
+-- what begins at the greatest index or below ends below an index above that
+pub prevs_above : (t : Identity) (p : Pass) (least index end : ℕ) (o : Option (Option Range)) → IsPassOf t p → end ≡ greatest_of t.shape.kind → end < index → IfSome o (Answers (part_of p) least (Rfind end 0)) → IfSome o (Answers (part_of p) least (Prev index 0))
+prevs_above t p least index end o of is above a =
+    let q = part_of p in
+    let top = end_is t p end of is in
+    let high : greatest_of q.shape.kind < index = omega arith in
+    alike_some q least (Rfind end 0) (Prev index 0) o
+    (λ k map. ap (λ (n : ℕ). answer (moment_seen q k).ranges (Rfind n 0)) top ∙ sym (prev_above q.shape.kind (moment_seen q k).ranges index 0 map high)) a
