@@ -1,6 +1,6 @@
 //! The empty trees that the lines of a phase declare, which are made before the lines are gone through.
 
-ghost use Rattle.std.specs.Prelude.{◌≡◌, ◌<◌, ◌≤◌, IfOk, length, slice_index_or, vec_len};
+ghost use Rattle.std.specs.Prelude.{◌≡◌, ◌<◌, ◌≤◌, All, IfOk, length, slice_index_or, vec_len};
 ghost use Rattle.mt_base.specs.Width.{most_rows};
 ghost use Rattle.mt_base.specs.declared.kinds.Kind.{Kind};
 ghost use Rattle.mt_play.specs.Makes.{AreMade, IsMade, kinds_in};
@@ -51,12 +51,12 @@ fn make_at_once<R: Threads + Sync, P: Passage + Drop + Send, T: Plays<P> + Send>
     requires rows { rows ≤ most_rows }
     requires some_pass { 1 ≤ passes }
     requires passes { passes ≤ most_passes }
-    requires zeros { T.rows_of zeros.now ≡ rows }
+    requires zeros { All (λ kind. T.zeros_serve zeros.now kind rows) kinds.now }
     ensures count { IfOk result (λ made. vec_len made ≡ length kinds.now) }
     ensures made { IfOk result (λ made. AreMade T.tree P.knows T.serves T.many rows passes kinds.now made.items) }
 {
     let make = |at: usize| -> Made<P, T>
-        requires { (at < length kinds.now) × (fewest_rows ≤ rows) × (rows ≤ most_rows) × (1 ≤ passes) × (passes ≤ most_passes) × (T.rows_of zeros.now ≡ rows) }
+        requires { (at < length kinds.now) × (fewest_rows ≤ rows) × (rows ≤ most_rows) × (1 ≤ passes) × (passes ≤ most_passes) × All (λ kind. T.zeros_serve zeros.now kind rows) kinds.now }
         ensures { (kind : Kind) → IfOk result (IsMade T.tree P.knows T.serves T.many rows passes (slice_index_or kinds.entry.now at kind)) }
     { T::make(alloc, kinds[at], rows, passes, zeros) };
     let made = thread::map_indices(rt, alloc, kinds.len(), &make)?;
@@ -86,7 +86,7 @@ fn make_all<R: Threads + Sync, P: Passage + Drop + Send, T: Plays<P> + Send>(
     if kinds.is_empty() {
         return Ok(made);
     }
-    let zeros = T::zeros(alloc, rows)?;
+    let zeros = T::zeros(alloc, kinds, rows)?;
     while made.len() < kinds.len() {
         let from = made.len();
         let to = kinds.len() - (kinds.len() - from) / 2;

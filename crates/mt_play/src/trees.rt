@@ -1,6 +1,7 @@
 //! The trees of a player.
 
-ghost use Rattle.std.specs.Prelude.{◌≡◌, ◌⊎◌, ◌≤◌, ℕ, [], length, map, IfOk};
+ghost use Rattle.std.specs.Prelude.{◌≡◌, ◌⊎◌, ◌≤◌, ℕ, [], All, length, map, IfOk};
+ghost use Rattle.mt_base.specs.declared.kinds.Kind.{Kind};
 ghost use Rattle.mt_base.specs.Width.{most_rows};
 ghost use Rattle.mt_base.specs.Passes.{Saw, Settled};
 ghost use Rattle.mt_play.specs.Trees.{AreAll, IsNewTree, fewest_rows, map_seen, most_passes, seen_by};
@@ -12,23 +13,24 @@ use std::sync::Wait;
 
 /// A shared tree that a player makes, copies, checks, lists and settles.
 ///
-/// Its meaning is the number of its passes, and of how many rows a tree is that is made over its `Zeros`. It takes 2^62 - 1 calls.
+/// Its meanings are `many`, the number of its passes; and `zeros_serve`, that a tree of a kind, of so many rows, can be made over
+/// some `Zeros`. It takes 2^62 - 1 calls.
 pub trait Plays<P: Passage>: Shared<P> + Drop + Sized {
-    /// What new trees of so many rows are made over.
+    /// What new trees are made over.
     type Zeros: Drop + Sync;
 
     ghost many: { Self → ℕ };
 
-    ghost rows_of: { Self.Zeros → ℕ };
+    ghost zeros_serve: { Self.Zeros → Kind → ℕ → Type 0 };
 
-    /// What trees of so many rows are made over.
+    /// What trees of all these kinds, of so many rows, are made over.
     ///
     /// # Errors
     ///
     /// `NoMemory` where memory ran out.
-    fn zeros(alloc: Global, rows: u64) -> Result<Self::Zeros, NoMemory>
+    fn zeros(alloc: Global, kinds: &[Kind], rows: u64) -> Result<Self::Zeros, NoMemory>
         requires { rows ≤ most_rows }
-        ensures { IfOk result (λ zeros. rows_of zeros ≡ rows) };
+        ensures { IfOk result (λ zeros. All (λ kind. zeros_serve zeros kind rows) kinds.now) };
 
     /// A tree of this kind that opens empty, in so many rows, and its passes, numbered from 0.
     ///
@@ -46,7 +48,7 @@ pub trait Plays<P: Passage>: Shared<P> + Drop + Sized {
         requires rows { rows ≤ most_rows }
         requires some_pass { 1 ≤ passes }
         requires passes { passes ≤ most_passes }
-        requires zeros { rows_of zeros.now ≡ rows }
+        requires zeros { zeros_serve zeros.now kind rows }
         ensures new { IfOk result (λ made. IsNewTree kind rows [] passes (Self.tree made.0) (map P.knows made.1.items)) }
         ensures all { IfOk result (λ made. AreAll P.knows Self.serves passes made.0 made.1.items) }
         ensures many { IfOk result (λ made. Self.many made.0 ≡ passes) };

@@ -5,6 +5,7 @@ ghost use Rattle.mt_base.specs.Passes as known;
 ghost use Rattle.mt_base.specs.Width.{most_rows};
 ghost use Rattle.mt_play.specs.Trees.{calls_taken, fewest_rows, most_passes};
 ghost use Rattle.mt_tree.specs.Trees.{IsPassOf, limit_of, opened, pass_in, passes_of};
+ghost use Rattle.mt_tree.specs.Zeros.{Serve};
 
 use crate::walks::scan_by;
 use mt_base::{Call, Kind, NoMemory, Query, Range};
@@ -96,10 +97,10 @@ impl Plays<Pass> for LaneTree {
 
     ghost many = { λ t. passes_of t.tree };
 
-    ghost rows_of = { λ zeros. zeros.rows };
+    ghost zeros_serve = { λ zeros kind rows. Serve zeros.words.items kind rows };
 
-    fn zeros(alloc: Global, rows: u64) -> Result<Zeros, NoMemory> {
-        Zeros::new(alloc, rows)
+    fn zeros(alloc: Global, kinds: &[Kind], rows: u64) -> Result<Zeros, NoMemory> {
+        Zeros::new(alloc, kinds, rows)
     }
 
     fn make(

@@ -7,6 +7,7 @@ pub mod Forms
 pub mod Lending
 pub mod Lists
 pub mod NoShortage
+pub mod NoneWritten
 pub mod Opening
 pub mod Reading
 pub mod Settling

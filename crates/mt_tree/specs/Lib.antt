@@ -5,3 +5,4 @@ pub mod Cursors
 pub mod Shapes
 pub mod Trees
 pub mod Works
+pub mod Zeros

@@ -1,8 +1,9 @@
 //! Checks and copies of a tree's words.
 
-ghost use Rattle.std.specs.Prelude.{◌≡◌, ◌≢◌, ◌↔◌, ◌⊎◌, ◌<◌, ◌≤◌, ℕ, Some, None, length, IfOk, IfErr};
+ghost use Rattle.std.specs.Prelude.{◌≡◌, ◌≢◌, ◌↔◌, ◌⊎◌, ◌<◌, ◌≤◌, ℕ, Some, None, length, IfOk, IfErr, IsTrue};
 ghost use Rattle.mt_base.specs.History.{last_map};
 ghost use Rattle.mt_base.specs.Passes.{Saw, with_records};
+ghost use Rattle.mt_base.specs.Width.{kind_width};
 ghost use Rattle.mt_base.specs.declared.kinds.Kind.{Kind};
 ghost use Rattle.mt_free.specs.Book.{new_book};
 ghost use Rattle.mt_rows.specs.Memory.{sheet_in};
@@ -50,16 +51,15 @@ fn form_of_rows<R: Rows>(rows: &mut R, kind: Kind) -> Form
     form
 }
 
-/// Copies a tree into new rows, and plants it there.
+/// Copies a tree into new rows of its width, and plants it there.
 fn copy_into<R: Rows, L: Ledger>(blank: Blank, src: &mut R, dst: &mut PlainRows, book: &mut RowBook)
     requires name { blank.name ≡ L.name }
     requires parts { blank.parts ≡ L.parts }
     requires some { 0 < blank.parts }
     requires lawful { (kind : Kind) × IsLawfulOf (R.sheet src.old).tree kind }
-    requires rows { sheet_in dst.old ≡ new_sheet book.old.rows }
+    requires rows { sheet_in dst.old ≡ new_sheet (R.sheet src.old).tree.table.width book.old.rows }
     requires book { book.old ≡ new_book book.old.rows }
     requires room { live_rows (R.sheet src.old).tree ≤ book.old.rows }
-    requires width { (sheet_in dst.old).tree.table.width ≡ (R.sheet src.old).tree.table.width }
     ensures copy { (kind : Kind) → IsLawfulOf (R.sheet src.old).tree kind → IsReadyToOpen kind book.old.rows (map_by (R.sheet src.old).tree) (sheet_in dst.new) book.new }
     ensures rest { OnlyReads (R.sheet src.old) (R.sheet src.new) }
 {
@@ -68,13 +68,12 @@ fn copy_into<R: Rows, L: Ledger>(blank: Blank, src: &mut R, dst: &mut PlainRows,
     dst.plant(root);
 }
 
-/// Copies a tree that has so many rows in use into new rows, where they are as many.
+/// Copies a tree that has so many rows in use into new rows of its width, where they are as many.
 fn copy_out<R: Rows>(src: &mut R, live: u64, dst: &mut PlainRows, book: &mut RowBook)
     requires lawful { (kind : Kind) × IsLawfulOf (R.sheet src.old).tree kind }
     requires live { live ≡ live_rows (R.sheet src.old).tree }
-    requires rows { sheet_in dst.old ≡ new_sheet book.old.rows }
+    requires rows { sheet_in dst.old ≡ new_sheet (R.sheet src.old).tree.table.width book.old.rows }
     requires book { book.old ≡ new_book book.old.rows }
-    requires width { (sheet_in dst.old).tree.table.width ≡ (R.sheet src.old).tree.table.width }
     ensures copy { live ≤ book.old.rows → (kind : Kind) → IsLawfulOf (R.sheet src.old).tree kind → IsReadyToOpen kind book.old.rows (map_by (R.sheet src.old).tree) (sheet_in dst.new) book.new }
     ensures rest { OnlyReads (R.sheet src.old) (R.sheet src.new) }
 {
@@ -111,7 +110,7 @@ fn copy_at_work<W: Writer>(
     own: &mut RowBook,
 ) -> u64
     requires worker { IsWorker tree.now tools.old pass.old W.table W.turn }
-    requires rows { sheet_in dst.old ≡ new_sheet own.old.rows }
+    requires rows { sheet_in dst.old ≡ new_sheet (kind_width (opened tree.now).kind) own.old.rows }
     requires book { own.old ≡ new_book own.old.rows }
     ensures rest { IsAtRest tools.new }
     ensures read { IsRead (behind_of tools.old) (behind_of tools.new) }
@@ -150,7 +149,7 @@ impl WriterState {
     fn copy(&mut self, tree: &Tree, pass: &mut Pass, dst: &mut PlainRows, own: &mut RowBook) -> u64
         requires table { self.old.table ≡ place_of tree.now }
         requires pass { IsPassOf tree.now pass.old }
-        requires rows { sheet_in dst.old ≡ new_sheet own.old.rows }
+        requires rows { sheet_in dst.old ≡ new_sheet (kind_width (opened tree.now).kind) own.old.rows }
         requires book { own.old ≡ new_book own.old.rows }
         ensures state { IsRead self.old self.new }
         ensures of { IsPassOf tree.now pass.new }
@@ -188,7 +187,7 @@ impl Tree {
         book: &mut RowBook,
     ) -> u64
         requires pass { IsPassOf self.now pass.old }
-        requires rows { sheet_in dst.old ≡ new_sheet book.old.rows }
+        requires rows { sheet_in dst.old ≡ new_sheet (kind_width (opened self.now).kind) book.old.rows }
         requires book { book.old ≡ new_book book.old.rows }
         ensures of { IsPassOf self.now pass.new }
         ensures saw { Saw (opened self.now) (pass_in pass.old) (pass_in pass.new) }
@@ -199,6 +198,13 @@ impl Tree {
         let live = taken.value.copy(self, pass, dst, book);
         self.turn.give(taken);
         live
+    }
+
+    /// Whether the tree is of this kind.
+    fn is_of(&self, kind: Kind) -> bool
+        ensures { IsTrue result ↔ (kind ≡ (opened self.now).kind) }
+    {
+        kind == self.shape.kind
     }
 
     /// The same where this shape is in range and of the tree's kind: the copy's rows and their book.
@@ -219,7 +225,7 @@ impl Tree {
         ensures counted { IsCopyCounted (opened self.now).kind (opened self.now).rows (map_seen self.now (pass_in pass.new)) shape.rows result }
         ensures room { IfErr result IsForRoom }
     {
-        let Ok(mut rows) = PlainRows::new(alloc, shape.rows) else {
+        let Ok(mut rows) = shape.new_rows(alloc) else {
             return Err(DupError::NoMemory);
         };
         let Ok(mut book) = RowBook::new(alloc, shape.rows) else {
@@ -265,7 +271,7 @@ impl Tree {
         if let Some(field) = shape.first_bad() {
             return Err(DupError::BadShape { field });
         }
-        if shape.kind != self.shape.kind {
+        if !self.is_of(shape.kind) {
             return Err(DupError::Invalid);
         }
         self.copied(rt, alloc, pass, shape)

@@ -12,6 +12,7 @@ ghost use Rattle.mt_rule.specs.Turns.{served, IsSeatedAt};
 ghost use Rattle.mt_tree.specs.declared.shapes.Field.{Field};
 ghost use Rattle.mt_tree.specs.Shapes.{first_bad};
 ghost use Rattle.mt_tree.specs.Trees.{IsNew};
+ghost use Rattle.mt_tree.specs.Zeros.{Serve};
 
 use crate::behind::{Tools, WriterState};
 use crate::shapes::{MakeError, Shape};
@@ -50,12 +51,12 @@ impl Tree {
         requires { first_bad shape ≡ None }
         ensures { IfOk result (λ r. IsNew shape [] r.0 r.1.items) }
     {
-        let rows = PlainRows::new(alloc, shape.rows)?;
+        let rows = shape.new_rows(alloc)?;
         let book = RowBook::new(alloc, shape.rows)?;
         Tree::open(alloc, shape, rows, book)
     }
 
-    /// The same as `make`, with the words of an empty tree of as many rows at hand: none are written for this tree alone.
+    /// The same as `make`, with zeros at hand that are words enough for this tree: none are written for it alone.
     ///
     /// # Errors
     ///
@@ -65,7 +66,7 @@ impl Tree {
         shape: Shape,
         zeros: &Zeros,
     ) -> Result<(Tree, Vec<Pass>), MakeError>
-        requires rows { zeros.now.rows ≡ shape.rows }
+        requires zeros { Serve zeros.now.words.items shape.kind shape.rows }
         ensures bad { (field : Field) → (result ≡ Err (MakeError.BadShape field)) ↔ (first_bad shape ≡ Some field) }
         ensures new { IfOk result (λ r. IsNew shape [] r.0 r.1.items) }
     {
@@ -81,14 +82,15 @@ impl Tree {
     /// The same of a shape in range.
     fn empty_over(alloc: Global, shape: Shape, zeros: &Zeros) -> Result<(Tree, Vec<Pass>), NoMemory>
         requires shape { first_bad shape ≡ None }
-        requires rows { zeros.now.rows ≡ shape.rows }
+        requires zeros { Serve zeros.now.words.items shape.kind shape.rows }
         ensures { IfOk result (λ r. IsNew shape [] r.0 r.1.items) }
     {
-        let rows = PlainRows::new(alloc, shape.rows)?;
+        let rows = shape.new_rows(alloc)?;
         let book = RowBook::new(alloc, shape.rows)?;
         let opening = Snapshot::of(&rows);
         let (height, _rows, book) = measured(rows, book, shape.kind);
-        Tree::open_over(alloc, shape, opening, &zeros.words, book, height)
+        let words = zeros.words_for(shape.kind, shape.rows);
+        Tree::open_over(alloc, shape, opening, words, book, height)
     }
 
     /// A tree that opens with these rows, on which no call was begun.

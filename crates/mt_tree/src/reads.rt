@@ -77,7 +77,8 @@ impl Tree {
     /// # Errors
     ///
     /// `Moved` where the leaf of the index has no answer, and was found marked as dead after the leaf beside it was read: more
-    /// than `lo` calls have begun. What the pass knows then has only grown.
+    /// than `lo` calls have begun. What the pass knows then has only grown. For an index above the greatest of the tree it is the
+    /// leaf of the greatest.
     pub fn next<L: Ledger>(
         &self,
         pass: &mut Pass,
@@ -103,7 +104,8 @@ impl Tree {
     /// # Errors
     ///
     /// `Moved` where the leaf of the index has no answer, and was found marked as dead after the leaf beside it was read: more
-    /// than `lo` calls have begun. What the pass knows then has only grown.
+    /// than `lo` calls have begun. What the pass knows then has only grown. For an index above the greatest of the tree it is the
+    /// leaf of the greatest.
     pub fn prev<L: Ledger>(
         &self,
         pass: &mut Pass,
@@ -129,7 +131,8 @@ impl Tree {
     /// # Errors
     ///
     /// `Moved` where the leaf of the index has no answer, and was found marked as dead after the leaf beside it was read: more
-    /// than `lo` calls have begun. What the pass knows then has only grown.
+    /// than `lo` calls have begun. What the pass knows then has only grown. For an index above the greatest of the tree it is the
+    /// leaf of the greatest.
     pub fn rfind<L: Ledger>(
         &self,
         pass: &mut Pass,

@@ -1,10 +1,15 @@
 //! What a tree is made of, and what its calls answer.
 
-ghost use Rattle.std.specs.Prelude.{◌≡◌};
+ghost use Rattle.std.specs.Prelude.{◌≡◌, None, IfOk};
+ghost use Rattle.mt_base.specs.Width.{kind_width};
+ghost use Rattle.mt_rows.specs.Memory.{sheet_in};
+ghost use Rattle.mt_rows.specs.Plain.{new_sheet};
 ghost use Rattle.mt_tree.specs.Shapes as defined;
 
-use mt_base::{Kind, MOST_ROWS, Reply};
+use mt_base::{Kind, MOST_ROWS, NoMemory, Reply, width_of};
+use mt_rows::PlainRows;
 use mt_rule::{MOST_CALLS, MOST_PASSES};
+use std::alloc::Global;
 use std::fmt;
 use thiserror::Error;
 
@@ -12,7 +17,7 @@ use thiserror::Error;
 #[derive(Clone, Copy, Debug, PartialEq, Eq)]
 pub struct Shape {
     pub kind: Kind,
-    /// How many rows of 32 words, 256 bytes, it has: 4 to 65,504.
+    /// How many rows it has: 4 to 65,504. A row has 256 bytes, and 512 where indexes have 32 bits.
     pub rows: u64,
     /// How many threads can use it at once: 1 to 62.
     pub passes: u32,
@@ -53,6 +58,14 @@ impl Shape {
         } else {
             None
         }
+    }
+
+    /// The rows of such a tree, none of which was used.
+    pub(crate) fn new_rows(&self, alloc: Global) -> Result<PlainRows, NoMemory>
+        requires { defined.first_bad self.now ≡ None }
+        ensures { IfOk result (λ rows. sheet_in rows ≡ new_sheet (kind_width self.now.kind) self.now.rows) }
+    {
+        PlainRows::of_width(alloc, width_of(self.kind), self.rows)
     }
 }
 

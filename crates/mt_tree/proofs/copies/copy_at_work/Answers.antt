@@ -1,8 +1,10 @@
 use Rattle.std.proofs.Common.{sym, ap, ◌∙◌}
+use Rattle.mt_base.specs.declared.widths.Width.{Width}
+use Rattle.mt_base.specs.Width.{kind_width}
 use Rattle.mt_rows.specs.Memory.{sheet_in}
+use Rattle.mt_rows.specs.Plain.{new_sheet}
 use Rattle.mt_rows.specs.Publish.{map_by}
 use Rattle.mt_rows.specs.Sheet.{Sheet}
-use Rattle.mt_splice.proofs.Fresh.{wide_words}
 use Rattle.mt_tree.proofs.AtWork.{at_work, kind_still, rows_still, still_few}
 use Rattle.mt_tree.proofs.Calling.{map_still, only_read, saw_all, told_still}
 use Rattle.mt_tree.proofs.Forms.{high_as, idle_as, lawful_as, live_as, live_behind, live_within, ready_there, reads_through, within_behind, words_behind}
@@ -14,8 +16,10 @@ copy_out-requires-clause-lawful g c = (c.begin-engine.result.kind, c.parts-rows.
 pub copy_out-requires-clause-live : goal.copy_out-requires-clause-live
 copy_out-requires-clause-live g c = c.live-live.ensures ∙ live_as _ _ _ _ c.parts-rows.ensures.rows c.parts-rows.ensures.idle
 
-pub copy_out-requires-clause-width : goal.copy_out-requires-clause-width
-copy_out-requires-clause-width g c = ap (λ (s : Sheet). s.tree.table.width) c.requires.rows ∙ (wide_words c.begin-engine.result.kind ∙ sym c.parts-rows.ensures.idle.state.kept.lawful.width)
+pub copy_out-requires-clause-rows : goal.copy_out-requires-clause-rows
+copy_out-requires-clause-rows g c =
+    let w = at_work c.args.tree.now c.args.tools.now c.args.pass.now g.W.Writer.table g.W.Writer.turn c.begin-engine.result c.requires.worker c.begin-engine.ensures.kind c.begin-engine.ensures.book c.begin-engine.ensures.sheet c.begin-engine.ensures.shown in
+    c.requires.rows ∙ ap (λ (width : Width). new_sheet width c.args.own.now.rows) (sym (c.parts-rows.ensures.idle.state.kept.lawful.width ∙ ap kind_width (kind_still _ _ _ _ _ w)))
 
 pub of_height-engine-requires-clause-idle : goal.of_height-engine-requires-clause-idle
 of_height-engine-requires-clause-idle g c =
