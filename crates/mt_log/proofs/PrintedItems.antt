@@ -54,6 +54,8 @@ kind_reads : (kind : Kind) → kind_of (kind_text kind) ≡ Ok kind
 unfolding kind_of
 kind_reads kinds.Range = refl
 kind_reads kinds.Alloc = refl
+kind_reads kinds.Range32 = refl
+kind_reads kinds.Alloc32 = refl
 
 -- ---- the fields behind a word
 

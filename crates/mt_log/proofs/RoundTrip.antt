@@ -70,6 +70,8 @@ query_line name (Rfind index min) named h = line_by (codes "rfind") _ (rw named 
 kind_is_field : (kind : Kind) → are_fields (kind_text kind ∷ []) ≡ true
 kind_is_field kinds.Range = refl
 kind_is_field kinds.Alloc = refl
+kind_is_field kinds.Range32 = refl
+kind_is_field kinds.Alloc32 = refl
 
 name_of_tree : (trees : List KnownTree) (tree : ℕ) → AreNamed trees → tree < length trees → are_above 32 (name_at (names_of trees) tree) ≡ true
 name_of_tree trees tree named below =

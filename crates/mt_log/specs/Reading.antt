@@ -1,7 +1,7 @@
 -- The log that bytes are, or the first line that is bad and why. It is read off the list of lines, cut at each LF,
 -- and the list of a line's fields, cut at each space.
 use Rattle.std.specs.Prelude.{ℕ, Bool, true, false, List, [], ◌∷◌, ◌++◌, Option, Result, Ok, Err, ◌+◌, ◌-◌, ◌^◌, ◌==◌, ◌&&◌, nat_lt, nat_le, is_some, length, map, take, drop, position, slice_get, codes, if◌then◌else◌}
-use Rattle.std.specs.List.{slice_split, list_all}
+use Rattle.std.specs.List.{find, slice_split, list_all}
 use Rattle.std.specs.Option.{ok_or, option_map, option_and_then}
 use Rattle.std.specs.Char.{is_ascii_digit, is_ascii_hexdigit}
 use Rattle.std.specs.Str.{bytes_eq}
@@ -12,6 +12,7 @@ use Rattle.mt_base.specs.declared.calls.Call.{Call}
 use Rattle.mt_base.specs.declared.calls.Call.TheVariants.{Store, StorePre, Insert, Erase, Alloc, Ralloc, Gap, Rgap, Clear}
 use Rattle.mt_base.specs.declared.calls.Query.{Query}
 use Rattle.mt_base.specs.declared.calls.Query.TheVariants.{Load, Find, Next, Prev, Rfind}
+use Rattle.mt_base.specs.Text.{kind_text}
 use Rattle.mt_base.specs.Width.{greatest_of}
 use Rattle.mt_log.specs.Keywords.{keywords, named}
 use Rattle.mt_log.specs.Name.{is_name}
@@ -89,12 +90,13 @@ new_name_of trees name =
     if is_name name then (if is_some (place_of trees name) then Err why.Twice else Ok name)
     else Err why.Name
 
--- the kind of a tree that is to be declared
+-- the kinds of trees, in the order in which a text is looked for
+abbrev pub all_kinds : List Kind
+all_kinds = kinds.Range ∷ kinds.Alloc ∷ kinds.Range32 ∷ kinds.Alloc32 ∷ []
+
+-- the kind of a tree that is to be declared, by its text
 unfoldable pub kind_of : List ℕ → Result Kind Why
-kind_of field =
-    if bytes_eq field (codes "range") then Ok kinds.Range
-    else (if bytes_eq field (codes "alloc") then Ok kinds.Alloc
-    else Err why.BadKind)
+kind_of field = ok_or (find (λ kind. bytes_eq field (kind_text kind)) all_kinds) why.BadKind
 
 -- what was read so far: the declared trees, whether a step of this phase stands there, the sum of the counts of all
 -- scans, the lines that say something, and the number of the next line

@@ -8,7 +8,8 @@ ghost use Rattle.mt_log.specs.Reader.{MayFollow};
 ghost use Rattle.mt_log.specs.Trees.{most_lanes};
 
 use crate::faults::Why;
-use crate::fields::{kind_of, new_name_of, tree_of};
+use crate::fields::{new_name_of, tree_of};
+use crate::kinds::kind_of;
 use crate::lines::Item;
 use crate::numbers::lane_number_of;
 use crate::reader::Reader;

@@ -1,12 +1,11 @@
 ghost use Rattle.std.specs.Prelude.{◌≡◌, ◌<◌, ◌^◌, [], IfOk, None, length, map, take};
-ghost use Rattle.mt_log.specs.Reading.{fields_of, place_of, tree_of, new_name_of, kind_of};
+ghost use Rattle.mt_log.specs.Reading.{fields_of, place_of, tree_of, new_name_of};
 
 use crate::cuts::cut;
 use crate::faults::Why;
 use crate::names::Word;
 use crate::trees::{NumberedTree, Trees};
 use arrayvec::ArrayVec;
-use mt_base::Kind;
 
 /// More fields than a line of any word has.
 const MOST_FIELDS: usize = 8;
@@ -55,18 +54,4 @@ pub fn new_name_of(trees: &Trees, name: &[u8]) -> Result<Word, Why>
         return Err(Why::Twice);
     }
     Ok(name)
-}
-
-/// The kind of a tree that is to be declared.
-#[tactic(auto, unfolding(crate::specs::Reading::kind_of))]
-pub fn kind_of(field: &[u8]) -> Result<Kind, Why>
-    ensures { result ≡ kind_of field.now }
-{
-    if field == b"range".as_slice() {
-        Ok(Kind::Range)
-    } else if field == b"alloc".as_slice() {
-        Ok(Kind::Alloc)
-    } else {
-        Err(Why::BadKind)
-    }
 }

@@ -8,6 +8,7 @@ mod faults;
 mod fields;
 mod items;
 mod keywords;
+mod kinds;
 mod line_ends;
 mod lines;
 mod names;

@@ -182,7 +182,7 @@ fn put_scan(line: &mut LineEnd, name: &[u8], index: u64, max: u64, count: u32)
 /// Puts the declaration of a tree in front.
 #[tactic(auto, using(crate::proofs::Padding::name_is_short))]
 fn put_tree(line: &mut LineEnd, name: &Word, kind: Kind)
-    requires { length line.old + 29 ≤ ROOM }
+    requires { length line.old + 31 ≤ ROOM }
     ensures { line.new ≡ join_with_byte 32 (codes "tree" ∷ name.now ∷ kind_text kind ∷ []) ++ line.old }
 {
     put_kind(line, kind);

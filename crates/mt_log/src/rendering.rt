@@ -3,6 +3,7 @@ ghost use Rattle.std.specs.List.{flat_map};
 ghost use Rattle.mt_base.specs.Text.{kind_text, range_text};
 ghost use Rattle.mt_log.specs.Text.{answer_text, entry_text, reply_text, said_text, range_line, listing_text, text_of};
 
+use crate::kinds::kind_text;
 use crate::line_ends::{LineEnd, ROOM};
 use crate::transcripts::{Answer, Entry, Listing, Said, Transcript};
 use mt_base::{Kind, NoMemory, Range, Reply, Shortage};
@@ -140,14 +141,11 @@ fn push_ranges(text: &mut Vec<u8>, line: &mut LineEnd, ranges: &[Range]) -> Resu
 
 /// Puts a kind in front.
 pub fn put_kind(line: &mut LineEnd, kind: Kind)
-    requires { length line.old + 5 ≤ ROOM }
+    requires { length line.old + 7 ≤ ROOM }
     ensures text { line.new ≡ kind_text kind ++ line.old }
-    ensures long { length line.new ≡ 5 + length line.old }
+    ensures long { length line.new ≤ 7 + length line.old }
 {
-    match kind {
-        Kind::Range => line.text(b"range"),
-        Kind::Alloc => line.text(b"alloc"),
-    }
+    line.text(kind_text(kind));
 }
 
 /// Adds the line of a tree, and one for each range.
