@@ -55,11 +55,13 @@ pub struct Work {
     pub job: Job,
 }
 
-/// The letter of a kind of trees.
+/// The letter of a kind of trees, behind an `n` where the rows are narrow.
 fn letter_of(kind: Kind) -> &'static str {
     match kind {
         Kind::Range => "r",
         Kind::Alloc => "a",
+        Kind::Range32 => "nr",
+        Kind::Alloc32 => "na",
     }
 }
 

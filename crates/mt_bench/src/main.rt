@@ -1,8 +1,8 @@
 //! Times works on a tree of N ranges. `mt_bench WORK N` prints `WORK N NANOSECONDS`, the time of one operation on one thread, or
 //! for `rnodes_seq` and its like how many nodes the tree has for each range. The first letter of a work is the kind of the tree:
-//! `r` for ranges, `a` for allocation. The tree is the engine's, or where `t` stands before that letter the one that threads
-//! share, of which a pass makes each call. `rcheck`, `rdup` and `rdup_most` are of such a tree too: a check of its words, and
-//! copies of it.
+//! `r` for ranges, `a` for allocation, and `n` before either for narrow rows. The tree is the engine's, or where `t` stands
+//! before the kind the one that threads share, of which a pass makes each call. `rcheck`, `rdup` and `rdup_most` are of such a
+//! tree too: a check of its words, and copies of it.
 //!
 //! `mt_bench DUTY N READERS` has so many threads load from one shared tree at once, 4,000,000 times each. `rreaders` and
 //! `rconc` print how many million loads and writes a second there were, `rconc` and `rslowest` beside one thread that writes
@@ -58,7 +58,10 @@ use std::{env, io};
 
 /// What is written where the words are no command.
 const USAGE: &str =
-    "usage: mt_bench [t][ra]{load,iter,store_seq,store_rand,overwrite,erase} N, [t]a{alloc,ralloc,holes,churn} N, [ra]{nodes_seq,nodes_rand,check,dup,dup_most} N, [ra]{readers,conc,slowest} N READERS, [ra]lanes N LANES, sums N";
+    "usage: mt_bench [t][n][ra]{load,iter,store_seq,store_rand,overwrite,erase} N, [t][n]a{alloc,ralloc,holes,churn} N, [n][ra]{nodes_seq,nodes_rand,check,dup,dup_most} N, [n][ra]{readers,conc,slowest} N READERS, [n][ra]lanes N LANES, sums N";
+
+/// The kinds of trees on which `sums` has all works done.
+const KINDS: [Kind; 4] = [Kind::Range, Kind::Alloc, Kind::Range32, Kind::Alloc32];
 
 /// Each reader loads so often.
 const LOADS: u64 = 4_000_000;
@@ -117,7 +120,7 @@ fn print_sums<R: Threads + Wait + Clock + Input + Print + Sync>(
 ) -> io::Result<bool> {
     print_draws(rt)?;
     let mut all_agree = true;
-    for kind in [Kind::Range, Kind::Alloc] {
+    for kind in KINDS {
         all_agree &= works_agree(rt, alloc, kind, ranges)?;
         all_agree &= threads_agree(rt, alloc, kind, ranges)?;
     }

@@ -145,7 +145,7 @@ pub fn alone<R: Clock + Wait>(
     ranges: u32,
 ) -> io::Result<Option<Report>> {
     let times = TIMES.max(u64::from(ranges));
-    let mut setting = Setting::new(alloc, ranges, times)?;
+    let mut setting = Setting::new(alloc, work.kind, ranges, times)?;
     let figure = match work.job {
         Job::NodesSeq => nodes_for(alloc, work.kind, &setting.numbers.seq)?,
         Job::NodesRand => nodes_for(alloc, work.kind, &setting.numbers.rand)?,

@@ -7,12 +7,12 @@ use crate::owners::Owner;
 use crate::rounds::fresh;
 use crate::trees::{Tree, Visit};
 use crate::works::visit;
-use mt_base::Kind;
+use mt_base::{Kind, finds_room};
 use std::alloc::{AllocError, Global};
 use std::sync::Wait;
 use std::{fmt, io};
 
-/// The jobs, each of which begins with what the one before left. The first ones can be done on a tree of either kind.
+/// The jobs, each of which begins with what the one before left. The first ones can be done on a tree of any kind.
 const JOBS: [Job; 11] = [
     Job::StoreSeq,
     Job::Erase,
@@ -29,10 +29,7 @@ const JOBS: [Job; 11] = [
 
 /// How many of the jobs can be done on a tree of a kind.
 fn jobs_on(kind: Kind) -> usize {
-    match kind {
-        Kind::Range => 6,
-        Kind::Alloc => JOBS.len(),
-    }
+    if finds_room(kind) { JOBS.len() } else { 6 }
 }
 
 /// What is done for each range where a job is not done once for each.
@@ -73,7 +70,7 @@ fn outcomes_on(
     ranges: u32,
 ) -> Result<Vec<Outcome>, AllocError> {
     let times = u64::from(ranges).saturating_mul(TIMES_EACH);
-    let mut setting = Setting::new(alloc, ranges, times)?;
+    let mut setting = Setting::new(alloc, kind, ranges, times)?;
     let mut outcomes = Vec::new(alloc);
     for job in JOBS.iter().take(jobs_on(kind)) {
         outcomes.push(Outcome {

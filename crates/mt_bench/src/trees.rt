@@ -2,7 +2,7 @@
 
 ghost use Rattle.mt_rows.specs.Sheet.{OnlyReads};
 
-use mt_base::{Call, Kind, MOST_ROWS, NoMemory, Query, Range, Reply};
+use mt_base::{Call, Kind, MOST_ROWS, NoMemory, Query, Range, Reply, width_of};
 use mt_engine::Engine;
 use mt_free::RowBook;
 use mt_rows::PlainRows;
@@ -72,7 +72,7 @@ impl Model for Nodes {
 impl Nodes {
     /// An empty tree of this kind.
     pub fn new(alloc: Global, kind: Kind) -> Result<Self, NoMemory> {
-        let rows = PlainRows::new(alloc, MOST_ROWS)?;
+        let rows = PlainRows::of_width(alloc, width_of(kind), MOST_ROWS)?;
         let book = RowBook::new(alloc, MOST_ROWS)?;
         Ok(Nodes {
             engine: Engine::new(rows, book, kind),

@@ -2,7 +2,7 @@
 
 use crate::command::{Command, Crew, Deed, Duty, Host, Job, Lanes, Room, Sweep, Timing, Work};
 use crate::lanes::TREES;
-use mt_base::Kind;
+use mt_base::{Kind, finds_room};
 
 /// More ranges than the rows hold are not asked for.
 const MOST_RANGES: u32 = 200_000;
@@ -10,7 +10,7 @@ const MOST_RANGES: u32 = 200_000;
 /// A tree has so many passes at the most, and one is the writer's.
 const MOST_READERS: u32 = 61;
 
-/// The job of a word, on a tree of either kind.
+/// The job of a word, on a tree of any kind.
 fn job_of(word: &str) -> Option<Job> {
     match word {
         "store_seq" => Some(Job::StoreSeq),
@@ -41,20 +41,29 @@ fn counts_nodes(job: Job) -> bool {
     matches!(job, Job::NodesSeq | Job::NodesRand)
 }
 
-/// The kind of a word's letter, and the rest of the word.
-fn kind_of(word: &str) -> Option<(Kind, &str)> {
+/// Which of these two kinds is that of a word's letter, and the rest of the word.
+fn kind_among(word: &str, of_ranges: Kind, of_areas: Kind) -> Option<(Kind, &str)> {
     match word.strip_prefix("r") {
-        Some(rest) => Some((Kind::Range, rest)),
-        None => word.strip_prefix("a").map(|rest| (Kind::Alloc, rest)),
+        Some(rest) => Some((of_ranges, rest)),
+        None => word.strip_prefix("a").map(|rest| (of_areas, rest)),
+    }
+}
+
+/// The kind of a word's letter, before which `n` stands where the rows are narrow, and the rest of the word.
+fn kind_of(word: &str) -> Option<(Kind, &str)> {
+    match word.strip_prefix("n") {
+        Some(narrow) => kind_among(narrow, Kind::Range32, Kind::Alloc32),
+        None => kind_among(word, Kind::Range, Kind::Alloc),
     }
 }
 
 /// The work of a word on a tree of this host.
 fn work_on(host: Host, word: &str) -> Option<Work> {
     let (kind, rest) = kind_of(word)?;
-    let job = match kind {
-        Kind::Range => job_of(rest)?,
-        Kind::Alloc => area_job_of(rest)?,
+    let job = if finds_room(kind) {
+        area_job_of(rest)?
+    } else {
+        job_of(rest)?
     };
     Some(Work { host, kind, job })
 }

@@ -4,7 +4,7 @@ ghost use Rattle.std.specs.Prelude.{◌≡◌, ◌*◌};
 
 use crate::draws::Draws;
 use crate::trees::{Tree, Visit};
-use mt_base::{Call, Reply};
+use mt_base::{Call, Kind, Reply, top, width_of};
 
 /// Allocations lie below 2^48.
 const HIGHEST: u64 = (1 << 48) - 1;
@@ -103,9 +103,14 @@ pub fn erase_all(tree: &mut impl Tree, order: &[u32]) -> bool {
     done
 }
 
-/// Allocates so many indexes, and tells where they begin.
-fn allocate(tree: &mut impl Tree, size: u64, end: End) -> Option<u64> {
-    let (min, max, entry) = (0, HIGHEST, ALLOCATED);
+/// The greatest index that is allocated on a tree of this kind.
+pub fn highest_of(kind: Kind) -> u64 {
+    HIGHEST.min(top(width_of(kind)))
+}
+
+/// Allocates so many indexes, none above `max`, and tells where they begin.
+fn allocate(tree: &mut impl Tree, size: u64, end: End, max: u64) -> Option<u64> {
+    let (min, entry) = (0, ALLOCATED);
     let call = match end {
         End::Lowest => Call::Alloc {
             size,
@@ -132,11 +137,11 @@ fn drawn_size(draws: &mut Draws, most: u32) -> u64 {
 }
 
 /// Allocates areas of 1 to 64 indexes, and notes where each begins; whether each was found.
-pub fn allocate_all(tree: &mut impl Tree, end: End, starts: &mut [u64]) -> bool {
+pub fn allocate_all(tree: &mut impl Tree, end: End, highest: u64, starts: &mut [u64]) -> bool {
     let mut draws = Draws::new(7);
     let mut done = true;
     for start in starts {
-        match allocate(tree, drawn_size(&mut draws, 64), end) {
+        match allocate(tree, drawn_size(&mut draws, 64), end, highest) {
             Some(found) => *start = found,
             None => done = false,
         }
@@ -145,19 +150,20 @@ pub fn allocate_all(tree: &mut impl Tree, end: End, starts: &mut [u64]) -> bool 
 }
 
 /// Allocates so many areas of 1 to 6 indexes; whether each was found.
-pub fn fill_holes(tree: &mut impl Tree, areas: u32) -> bool {
+pub fn fill_holes(tree: &mut impl Tree, highest: u64, areas: u32) -> bool {
     let mut draws = Draws::new(7);
     let mut done = true;
     for _ in 0..areas {
-        done &= allocate(tree, drawn_size(&mut draws, 6), End::Lowest).is_some();
+        let size = drawn_size(&mut draws, 6);
+        done &= allocate(tree, size, End::Lowest, highest).is_some();
     }
     done
 }
 
 /// Erases the area at a start and allocates one of so many indexes, whose start is noted; whether both were done.
-fn reallocate(tree: &mut impl Tree, start: &mut u64, size: u64) -> bool {
+fn reallocate(tree: &mut impl Tree, highest: u64, start: &mut u64, size: u64) -> bool {
     let erased = matches!(tree.act(&Call::Erase { index: *start }), Reply::Was(_));
-    match allocate(tree, size, End::Lowest) {
+    match allocate(tree, size, End::Lowest, highest) {
         Some(found) => {
             *start = found;
             erased
@@ -167,7 +173,7 @@ fn reallocate(tree: &mut impl Tree, start: &mut u64, size: u64) -> bool {
 }
 
 /// Erases an area and allocates another of 1 to 64 indexes, `times` times; whether all were done.
-pub fn churn(tree: &mut impl Tree, starts: &mut [u64], times: u64) -> bool {
+pub fn churn(tree: &mut impl Tree, highest: u64, starts: &mut [u64], times: u64) -> bool {
     let mut draws = Draws::new(8);
     let areas = u32::try_from(starts.len()).unwrap_or(u32::MAX);
     let mut done = true;
@@ -175,7 +181,7 @@ pub fn churn(tree: &mut impl Tree, starts: &mut [u64], times: u64) -> bool {
         let k = draws.below(areas) as usize;
         let size = drawn_size(&mut draws, 64);
         done &= match starts.get_mut(k) {
-            Some(start) => reallocate(tree, start, size),
+            Some(start) => reallocate(tree, highest, start, size),
             None => false,
         };
     }
