@@ -39,12 +39,13 @@ macro_rules! range {
 mod drawn;
 mod prepared;
 mod replaced;
+mod shapes;
 mod stories;
 mod watched;
 
 use crate::tests::stories::{NUMBERS, STORIES, Story, WATCHED};
 use crate::tests::watched::Watched;
-use mt_base::{Call, Kind, MOST_ROWS, NoMemory, Query, Range, Reply, errno};
+use mt_base::{Call, Kind, MOST_ROWS, NoMemory, Query, Range, Reply, errno, width_of};
 use mt_engine::Engine;
 use mt_free::RowBook;
 use mt_list::{ListMap, Ranges};
@@ -56,6 +57,12 @@ use std::test::Fail;
 
 /// The last index.
 const TOP: u64 = u64::MAX;
+
+/// The last index of a narrow tree.
+const TOP32: u64 = u32::MAX as u64;
+
+/// The kinds of trees that hold ranges alone, and the last index of each.
+const RANGES: &[(Kind, u64)] = &[(Kind::Range, TOP), (Kind::Range32, TOP32)];
 
 /// What came out at a place of a test is what is wanted. It asserts for all tests, so that the code of an assertion is proved
 /// once, and not in each.
@@ -79,16 +86,18 @@ fn fresh_of(alloc: Global, kind: Kind, rows: u64) -> Result<Engine<PlainRows>, N
     ensures kind { IfOk result (λ engine. engine.kind ≡ kind) }
 {
     let book = RowBook::new(alloc, rows)?;
-    Ok(Engine::new(PlainRows::new(alloc, rows)?, book, kind))
+    let rows = PlainRows::of_width(alloc, width_of(kind), rows)?;
+    Ok(Engine::new(rows, book, kind))
 }
 
 /// The same over rows of which a section stands open.
-fn fresh_watched(alloc: Global, rows: u64) -> Result<Engine<Watched>, NoMemory>
+fn fresh_watched(alloc: Global, kind: Kind, rows: u64) -> Result<Engine<Watched>, NoMemory>
     requires { rows ≤ most_rows }
     ensures { IfOk result (λ engine. engine.sheet.ended ≡ 0) }
 {
     let book = RowBook::new(alloc, rows)?;
-    Ok(Engine::new(Watched::new(alloc, rows)?, book, Kind::Range))
+    let rows = Watched::new(alloc, width_of(kind), rows)?;
+    Ok(Engine::new(rows, book, kind))
 }
 
 /// Asks each kind of query at an index, with bounds, of the engine and of the list, which answer the same.
@@ -164,10 +173,12 @@ fn expect_same(
     expect_walk(rt, engine, 0, ranges.as_slice());
     expect_answers(rt, engine, list, 15, TOP);
     expect_answers(rt, engine, list, 30, 12);
+    expect_answers(rt, engine, list, TOP32 + 1, 12);
+    expect_answers(rt, engine, list, TOP, TOP32);
     Ok(())
 }
 
-/// Calls that store in, over and beside what is there, and that are refused.
+/// Calls that store in, over and beside what is there, that are refused, and that reach over the last index of a narrow tree.
 const CALLS: &[Call] = &[
     call!(erase 3),
     Call::Clear,
@@ -190,6 +201,13 @@ const CALLS: &[Call] = &[
     call!(erase TOP),
     call!(erase 6),
     call!(erase 0),
+    call!(store 30, TOP32, 4),
+    call!(store TOP32, TOP32, 3),
+    call!(store 40, TOP32 + 1, 9),
+    call!(insert TOP32 + 1, TOP32 + 1, 9),
+    call!(store TOP32 + 1, TOP, 0),
+    call!(erase TOP32 + 1),
+    call!(erase TOP32),
 ];
 
 /// So many stores at the even indexes.
@@ -231,30 +249,50 @@ fn expect_all_same(
 
 #[test]
 fn answers_as_a_list_does(rt: HostRuntime) -> Result<(), Fail> {
-    let mut engine = fresh(rt.alloc(), 400)?;
-    let mut list = ListMap::new(rt.alloc(), Kind::Range);
-    assert!(rt; CALLS.len() < 1000);
-    expect_all_same(&rt, rt.alloc(), &mut engine, &mut list, CALLS)?;
     let calls = stores_and_erases(rt.alloc())?;
+    assert!(rt; CALLS.len() < 1000);
     assert!(rt; calls.len() < 1000);
-    expect_all_same(&rt, rt.alloc(), &mut engine, &mut list, calls.as_slice())?;
+    for (kind, _) in RANGES {
+        let mut engine = fresh_of(rt.alloc(), *kind, 400)?;
+        let mut list = ListMap::new(rt.alloc(), *kind);
+        expect_all_same(&rt, rt.alloc(), &mut engine, &mut list, CALLS)?;
+        expect_all_same(&rt, rt.alloc(), &mut engine, &mut list, calls.as_slice())?;
+    }
+    Ok(())
+}
+
+/// Walks over two ranges, of which the second ends at the last index of a tree of this kind.
+fn expect_walks(rt: &impl Abort, alloc: Global, kind: Kind, last: u64) -> Result<(), NoMemory> {
+    let mut engine = fresh_of(alloc, kind, 8)?;
+    expect_walk(rt, &mut engine, 3, &[]);
+    let calls = [
+        (call!(store 10, 19, 5), Reply::Ok),
+        (call!(store 30, last, 7), Reply::Ok),
+    ];
+    expect_replies(rt, &mut engine, &calls);
+    let ranges = [range!(10, 19, 5), range!(30, last, 7)];
+    expect_walk(rt, &mut engine, 0, &ranges);
+    expect_walk(rt, &mut engine, 12, &ranges);
+    expect_walk(rt, &mut engine, 20, &ranges[1..]);
+    expect_walk(rt, &mut engine, last, &ranges[1..]);
     Ok(())
 }
 
 #[test]
 fn walks_from_within(rt: HostRuntime) -> Result<(), Fail> {
-    let mut engine = fresh(rt.alloc(), 8)?;
-    expect_walk(&rt, &mut engine, 3, &[]);
-    let calls = [
-        (call!(store 10, 19, 5), Reply::Ok),
-        (call!(store 30, TOP, 7), Reply::Ok),
-    ];
+    for (kind, last) in RANGES {
+        expect_walks(&rt, rt.alloc(), *kind, *last)?;
+    }
+    Ok(())
+}
+
+#[test]
+fn a_walk_from_above_the_last_index_gives_nothing(rt: HostRuntime) -> Result<(), Fail> {
+    let mut engine = fresh_of(rt.alloc(), Kind::Range32, 8)?;
+    let calls = [(call!(store 30, TOP32, 7), Reply::Ok)];
     expect_replies(&rt, &mut engine, &calls);
-    let ranges = [range!(10, 19, 5), range!(30, TOP, 7)];
-    expect_walk(&rt, &mut engine, 0, &ranges);
-    expect_walk(&rt, &mut engine, 12, &ranges);
-    expect_walk(&rt, &mut engine, 20, &ranges[1..]);
-    expect_walk(&rt, &mut engine, TOP, &ranges[1..]);
+    expect_walk(&rt, &mut engine, TOP32 + 1, &[]);
+    expect_walk(&rt, &mut engine, TOP, &[]);
     Ok(())
 }
 
@@ -284,8 +322,10 @@ fn stories_come_out_as_told(rt: HostRuntime) -> Result<(), Fail> {
 
 #[test]
 fn tells_who_holds_rows_back(rt: HostRuntime) -> Result<(), Fail> {
-    let mut engine = fresh_watched(rt.alloc(), 8)?;
-    expect_story(&rt, rt.alloc(), &mut engine, &WATCHED)?;
+    for (kind, _) in RANGES {
+        let mut engine = fresh_watched(rt.alloc(), *kind, 8)?;
+        expect_story(&rt, rt.alloc(), &mut engine, &WATCHED)?;
+    }
     Ok(())
 }
 

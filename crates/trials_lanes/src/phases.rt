@@ -1,4 +1,4 @@
-ghost use Rattle.std.specs.Prelude.{◌≡◌, [], map, IfOk};
+ghost use Rattle.std.specs.Prelude.{◌≡◌, [], All, map, IfOk};
 ghost use Rattle.mt_play.specs.Trees.{AreAll, IsNewTree};
 
 use crate::empty::Bare;
@@ -34,9 +34,9 @@ impl Plays<Token> for Bare {
 
     ghost many = { λ t. t.passes };
 
-    ghost rows_of = { λ rows. rows };
+    ghost zeros_serve = { λ zeros _ rows. zeros ≡ rows };
 
-    fn zeros(_alloc: Global, rows: u64) -> Result<u64, NoMemory> {
+    fn zeros(_alloc: Global, _kinds: &[Kind], rows: u64) -> Result<u64, NoMemory> {
         Ok(rows)
     }
 
@@ -87,7 +87,7 @@ fn told(entry: &Entry) -> (u64, bool) {
 fn a_phase_begins_with_its_copies_and_checks(rt: HostRuntime) -> Result<(), Fail> {
     let text = b"mtlog 1
 tree a range
-tree b range
+tree b alloc32
 check b
 dup a c
 check c

@@ -82,6 +82,9 @@ tree a_1 range 2
 0 9 1
 10 18446744073709551615 20
 tree a_1 alloc 0
+tree a_1 range32 1
+0 9 1
+tree a_1 alloc32 0
 ";
 
 /// A tree of each kind and its ranges, at the end.
@@ -146,7 +149,12 @@ fn transcript(alloc: Global, entries: &[Entry], lists: Lists) -> Result<Transcri
 
 #[test]
 fn a_transcript_is_printed_line_by_line(rt: HostRuntime) -> Result<(), Fail> {
-    let lists: Lists = &[(Kind::Range, &[LOW, HIGH]), (Kind::Alloc, &[])];
+    let lists: Lists = &[
+        (Kind::Range, &[LOW, HIGH]),
+        (Kind::Alloc, &[]),
+        (Kind::Range32, &[LOW]),
+        (Kind::Alloc32, &[]),
+    ];
     let transcript = transcript(rt.alloc(), &ENTRIES, lists)?;
     let text = render(rt.alloc(), &transcript).ok();
     assert_eq!(rt; text.expect(&rt, "memory").as_slice(), PRINTED.as_bytes());

@@ -14,6 +14,9 @@ use std::process::Abort;
 use std::sync::Wait;
 use std::test::Fail;
 
+/// The kinds of trees.
+const KINDS: &[Kind] = &[Kind::Range, Kind::Alloc, Kind::Range32, Kind::Alloc32];
+
 /// A tree of this kind, and its passes.
 fn made(
     alloc: Global,

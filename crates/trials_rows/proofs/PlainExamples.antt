@@ -9,11 +9,11 @@ use Rattle.mt_base.specs.declared.widths.Width.TheVariants.{Long}
 use Rattle.mt_base.specs.declared.kinds.Kind.{Kind}
 use Rattle.mt_base.specs.declared.kinds.Kind.TheVariants.{Alloc}
 use Rattle.mt_base.specs.Width.{columns}
-use Rattle.mt_rows.specs.Publish.{MayPlant, Planted, IsTreeOf, is_reached}
+use Rattle.mt_rows.specs.Publish.{MayPlant, Planted, is_reached}
 use Rattle.mt_rows.specs.Plain.{new_sheet}
 use Rattle.mt_rows.specs.declared.rows.Life.{Life}
 use Rattle.mt_rows.specs.declared.rows.Life.TheVariants as lives
-use Rattle.trials_rows.proofs.TwoLeaves.{inner, left, right, eleven, longest, stands, eleven_lawful}
+use Rattle.trials_rows.proofs.TwoLeaves.{inner, left, right, eleven, longest, eleven_lawful}
 use Rattle.mt_rows.specs.Sheet.{Sheet, IsPlace, IsFree, MayBury, life_of, loaded, begun, drafted}
 
 -- ---- rows drafted column by column
@@ -51,10 +51,10 @@ free_stays s s' row n word is = subst (λ (s : Sheet). IsFree s.cleared (life_of
 -- ---- the tree of two leaves
 
 abbrev pub drafted_leaves : Sheet
-drafted_leaves = with_columns (with_columns (with_columns (new_sheet 3) 16 (inner 0 longest) 32) 17 left 32) 18 right 32
+drafted_leaves = with_columns (with_columns (with_columns (new_sheet Long 3) 16 (inner 0 longest) 32) 17 left 32) 18 right 32
 
 abbrev ready_to_plant : Sheet
-ready_to_plant = record (new_sheet 3) { tree = record { rows = 3; table = record { width = Long; words = replicate 512 0 ++ eleven 0 longest }; root = 0 }; lives = replicate 16 lives.New ++ (lives.Draft ∷ lives.Draft ∷ lives.Draft ∷ []) }
+ready_to_plant = record (new_sheet Long 3) { tree = record { rows = 3; table = record { width = Long; words = replicate 512 0 ++ eleven 0 longest }; root = 0 }; lives = replicate 16 lives.New ++ (lives.Draft ∷ lives.Draft ∷ lives.Draft ∷ []) }
 
 pub is_ready : drafted_leaves ≡ ready_to_plant
 is_ready = refl
@@ -63,20 +63,14 @@ may_plant : MayPlant Alloc ready_to_plant 4124
 may_plant = record { idle = refl; first = refl; empty = refl; told = tt; lawful = eleven_lawful }
 
 -- three rows drafted one after the other may be planted
-module _ (s s₁ s₂ s₃ : Sheet) (new : s ≡ new_sheet 3) (first : s₁ ≡ with_columns s 16 (inner 0 longest) 32) (second : s₂ ≡ with_columns s₁ 17 left 32) (third : s₃ ≡ with_columns s₂ 18 right 32) where
+module _ (s s₁ s₂ s₃ : Sheet) (new : s ≡ new_sheet Long 3) (first : s₁ ≡ with_columns s 16 (inner 0 longest) 32) (second : s₂ ≡ with_columns s₁ 17 left 32) (third : s₃ ≡ with_columns s₂ 18 right 32) where
   leaves_are : s₃ ≡ ready_to_plant
   leaves_are = third ∙ (ap (λ (s : Sheet). with_columns s 18 right 32) (second ∙ ap (λ (s : Sheet). with_columns s 17 left 32) (first ∙ ap (λ (s : Sheet). with_columns s 16 (inner 0 longest) 32) new)) ∙ is_ready)
 
   pub leaves_may_plant : (kind : Kind) × MayPlant kind s₃ 4124
   leaves_may_plant = (Alloc, subst (λ (s : Sheet). MayPlant Alloc s 4124) (sym leaves_are) may_plant)
 
-  -- planted they are a tree
-  pub leaves_are_tree : (s₄ : Sheet) → Planted s₃ s₄ 4124 → IsTreeOf s₄.tree Alloc
-  leaves_are_tree s₄ planted =
-      let done : Planted ready_to_plant s₄ 4124 = subst (λ (s : Sheet). Planted s s₄ 4124) leaves_are planted in
-      subst (λ (s : Sheet). IsTreeOf s.tree Alloc) (sym done.rest) (record { width = refl; words = inr (1, stands 0 longest) })
-
-  -- and a leaf may be buried then by the first call
+  -- and a leaf may be buried by the first call
   pub leaf_may_be_buried : (s₄ s₅ s₆ : Sheet) → Planted s₃ s₄ 4124 → s₅ ≡ loaded s₄ → s₆ ≡ begun s₅ → MayBury s₆ 17
   leaf_may_be_buried s₄ s₅ s₆ planted read begins =
       let done : Planted ready_to_plant s₄ 4124 = subst (λ (s : Sheet). Planted s s₄ 4124) leaves_are planted in

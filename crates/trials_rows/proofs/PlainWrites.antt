@@ -64,7 +64,7 @@ of_rows P first second row low high = elim (cases_eq row 16) [
   | inr other ↦ let at : 17 ≡ row = omega arith in subst P at second
 ]
 
-pub knows_new : (s : Sheet) → s ≡ new_sheet 2 → Knows s (tree_of zeros zeros 0) 0 false false lives.New lives.New false
+pub knows_new : (s : Sheet) → s ≡ new_sheet Long 2 → Knows s (tree_of zeros zeros 0) 0 false false lives.New lives.New false
 knows_new s is = subst (λ (s : Sheet). Knows s (tree_of zeros zeros 0) 0 false false lives.New lives.New false) (sym is) (record { is = refl; two = refl; life_16 = refl; life_17 = refl; buried_16 = refl; buried_17 = refl })
 
 -- ---- columns drafted one after the other
@@ -336,7 +336,7 @@ module _ (s : Sheet) (ended : ℕ) (k : Knows s (tree_of (lone 4096 0 7) (lone 1
 
 -- ---- from write to write
 
-pub drafted_first : (s s₁ s₂ : Sheet) → s ≡ new_sheet 2 → s₁ ≡ begun s → IsWhole s₁ → s₂ ≡ with_columns s₁ 16 (lone 1 0 5) 32 → Knows s₂ (tree_of (lone 1 0 5) zeros 0) 0 true false lives.Draft lives.New false
+pub drafted_first : (s s₁ s₂ : Sheet) → s ≡ new_sheet Long 2 → s₁ ≡ begun s → IsWhole s₁ → s₂ ≡ with_columns s₁ 16 (lone 1 0 5) 32 → Knows s₂ (tree_of (lone 1 0 5) zeros 0) 0 true false lives.Draft lives.New false
 drafted_first s s₁ s₂ new begins whole drafts =
     let begun = knows_begun s s₁ (tree_of zeros zeros 0) 0 false false lives.New lives.New false (knows_new s new) begins in
     knows_first s₁ s₂ (tree_of zeros zeros 0) 0 true false lives.New lives.New false begun (lone 1 0 5) (tree_of (lone 1 0 5) zeros 0) refl refl drafts whole

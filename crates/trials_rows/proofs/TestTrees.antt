@@ -120,12 +120,12 @@ module _ (s s₁ s₂ : Sheet) (a b : ℕ) (made : IsMadeOf Long 4124 (eleven 0 
         beside : HasGapsBeside index (tree a b)
         beside = inr (1, stands a b, (((λ off. (let over : covers index (root a b) ≡ true = covers_it index (root a b) (omega arith) within in absurd (cc))), tt), ((λ off. tt), ((λ off. tt), tt))))
 
-        pub may_mend_all : MayMendGaps trees.Alloc s₃ path
+        pub may_mend_all : MayMendGaps true s₃ path
         may_mend_all = record {
           index = index;
           within = (let t = top_is in omega arith);
           gaps = subst (λ (r : Rooted). HasGapsBeside index (tree_as trees.Alloc r)) (sym all) beside;
           steps = subst (λ (r : Rooted). path ≡ path_in r.table r.root index) (sym tree₃) steps;
           kept = subst (AllByRecursion (IsKept s₃)) (sym (subst (λ (r : Rooted). path ≡ path_in r.table r.root index) (sym tree₃) steps))
-              (kept_if_live trees.Alloc s₃ 1 index stands₃ live₃ none₃ (let t = top_is in omega arith));
+              (kept_if_live true s₃ 1 index stands₃ live₃ none₃ (let t = top_is in omega arith));
         }

@@ -1,6 +1,6 @@
 use crate::asserts::same;
-use crate::small_trees::{ELEVEN, LONGEST, TOP};
-use mt_base::{Kind, MOST_ROWS, NoMemory, Width};
+use crate::small_trees::{ELEVEN, LONGEST, LONGEST32, TOP, TOP32, TWENTY_SEVEN};
+use mt_base::{FIRST_ROW, Kind, MOST_ROWS, NoMemory, cols, width_of};
 use mt_check::{Fault, Form, Law, check};
 use mt_rows::PlainRows;
 use std::alloc::Global;
@@ -76,11 +76,69 @@ const DEEP: [u64; 320] = [
     4096, 0, 0, 0, 0, 0, 0, 0, 0, 0, 0, 0, 0, 0, 0, 0,
 ];
 
-/// A tree's words, of which those are changed whose places are given with other words; the root word; the kind; and what a
-/// check answers.
+/// A narrow leaf with the range 10 to 19 and the entry 5, and an unused row.
+#[rattlefmt::skip]
+const NARROW_LONE: [u64; 128] = [
+    1,
+    9, 19, TOP32, 0, 0, 0, 0, 0, 0, 0, 0, 0, 0, 0, 0,
+    0, 0, 0, 0, 0, 0, 0, 0, 0, 0, 0, 0, 0, 0, 0, 0,
+    0, 5, 0, 0, 0, 0, 0, 0, 0, 0, 0, 0, 0, 0, 0, 0,
+    0, 0, 0, 0, 0, 0, 0, 0, 0, 0, 0, 0, 0, 0, 0, 0,
+
+    0, 0, 0, 0, 0, 0, 0, 0, 0, 0, 0, 0, 0, 0, 0, 0,
+    0, 0, 0, 0, 0, 0, 0, 0, 0, 0, 0, 0, 0, 0, 0, 0,
+    0, 0, 0, 0, 0, 0, 0, 0, 0, 0, 0, 0, 0, 0, 0, 0,
+    0, 0, 0, 0, 0, 0, 0, 0, 0, 0, 0, 0, 0, 0, 0, 0,
+];
+
+/// A narrow inner row with one child.
+#[rattlefmt::skip]
+const NARROW_ONE_CHILD: [u64; 128] = [
+    1,
+    TOP32, 0, 0, 0, 0, 0, 0, 0, 0, 0, 0, 0, 0, 0, 0,
+    0, 0, 0, 0, 0, 0, 0, 0, 0, 0, 0, 0, 0, 0, 0, 0,
+    4364, 0, 0, 0, 0, 0, 0, 0, 0, 0, 0, 0, 0, 0, 0, 0,
+    0, 0, 0, 0, 0, 0, 0, 0, 0, 0, 0, 0, 0, 0, 0, 0,
+
+    0, 0, 0, 0, 0, 0, 0, 0, 0, 0, 0, 0, 0, 0, 0, 0,
+    0, 0, 0, 0, 0, 0, 0, 0, 0, 0, 0, 0, 0, 0, 0, 0,
+    0, 0, 0, 0, 0, 0, 0, 0, 0, 0, 0, 0, 0, 0, 0, 0,
+    0, 0, 0, 0, 0, 0, 0, 0, 0, 0, 0, 0, 0, 0, 0, 0,
+];
+
+/// The narrow tree of 27 ranges, but that an inner row stands beside the first leaf, and leaves below it.
+#[rattlefmt::skip]
+const NARROW_UNEVEN: [u64; 256] = [
+    1,
+    23, TOP32, 0, 0, 0, 0, 0, 0, 0, 0, 0, 0, 0, 0, 0, 0, 0, 0, 0, 0,
+    4364, 4636, 0, 0, 0, 0, 0, 0, 0, 0, 0, 0, 0, 0, 0, 0, 0, 0, 0, 0, 0,
+    0, LONGEST32, 0, 0, 0, 0, 0, 0, 0, 0, 0, 0, 0, 0, 0, 0, 0, 0, 0, 0, 0,
+    0,
+
+    4096,
+    0, 1, 2, 3, 4, 5, 6, 7, 8, 9, 10, 11, 12, 23, 0,
+    0, 0, 0, 0, 0, 0, 0, 0, 0, 0, 0, 0, 0, 0, 0, 0,
+    4096, 4096, 4096, 4096, 4096, 4096, 4096, 4096, 4096, 4096, 4096, 4096, 4096, 4096, 0, 0,
+    0, 0, 0, 0, 0, 0, 0, 0, 0, 0, 0, 0, 0, 0, 0, 0,
+
+    4097,
+    24, 25, 26, 27, 28, 29, 30, 31, TOP32, 0, 0, 0, 0, 0, 0, 0, 0, 0, 0, 0,
+    4876, 4876, 4876, 4876, 4876, 4876, 4876, 4876, 4876, 0, 0, 0, 0, 0, 0, 0, 0, 0, 0, 0, 0,
+    0, 0, 0, 0, 0, 0, 0, 0, LONGEST32, 0, 0, 0, 0, 0, 0, 0, 0, 0, 0, 0, 0,
+    0,
+
+    4608,
+    24, 0, 0, 0, 0, 0, 0, 0, 0, 0, 0, 0, 0, 0, 0,
+    0, 0, 0, 0, 0, 0, 0, 0, 0, 0, 0, 0, 0, 0, 0, 0,
+    4096, 0, 0, 0, 0, 0, 0, 0, 0, 0, 0, 0, 0, 0, 0, 0,
+    0, 0, 0, 0, 0, 0, 0, 0, 0, 0, 0, 0, 0, 0, 0, 0,
+];
+
+/// A tree's words, of which those are changed whose rows and columns are given with other words; the root word; the kind; and
+/// what a check answers.
 struct Case {
     words: &'static [u64],
-    changes: &'static [(usize, u64)],
+    changes: &'static [(u32, u32, u64)],
     root: u64,
     kind: Kind,
     want: Result<Form, Fault>,
@@ -91,7 +149,7 @@ macro_rules! cases {
     ($($words:ident $([$row:literal, $col:literal] = $word:tt)*, $root:literal, $kind:ident => $want:expr;)*) => {
         &[$(Case {
             words: &$words,
-            changes: &[$((32 * ($row - 16) + $col, $word)),*],
+            changes: &[$(($row, $col, $word)),*],
             root: $root,
             kind: Kind::$kind,
             want: $want,
@@ -115,6 +173,10 @@ const LAWFUL: &[Case] = cases! {
     LONE, 0, Range => form!(0, 0, 0);
     LONE [16, 1] = TOP [16, 2] = 0 [16, 3] = 0 [16, 16] = 5 [16, 17] = 0, 4108, Range => form!(1, 1, 1);
     ELEVEN, 4124, Alloc => form!(2, 3, 11);
+    NARROW_LONE, 4108, Range32 => form!(1, 1, 1);
+    NARROW_LONE, 0, Range32 => form!(0, 0, 0);
+    NARROW_LONE [16, 1] = TOP32 [16, 2] = 0 [16, 3] = 0 [16, 32] = 5 [16, 33] = 0, 4108, Range32 => form!(1, 1, 1);
+    TWENTY_SEVEN, 4124, Alloc32 => form!(2, 3, 27);
 };
 
 /// One word breaks a law.
@@ -127,6 +189,23 @@ const BROKEN: &[Case] = cases! {
     LONE [16, 17] = 6, 4108, Range => fault!(16, Entries);
     LONE [16, 17] = 0, 4108, Range => fault!(16, Holes);
     ELEVEN [16, 21] = 0, 4124, Alloc => fault!(16, Gaps);
+};
+
+/// One word breaks a law of a narrow tree: also where the last index is that of a wide tree, and where a name is of an inner row
+/// of the other kind.
+const BROKEN_NARROW: &[Case] = cases! {
+    NARROW_LONE, 4109, Range32 => fault!(0, Name);
+    NARROW_LONE, 4620, Range32 => fault!(0, Name);
+    NARROW_LONE [16, 0] = 2, 4108, Range32 => fault!(16, Parent);
+    NARROW_LONE [16, 2] = 9, 4108, Range32 => fault!(16, Pivots);
+    NARROW_LONE [16, 3] = TOP, 4108, Range32 => fault!(16, Pivots);
+    NARROW_LONE [16, 63] = 5, 4108, Range32 => fault!(16, Pivots);
+    NARROW_ONE_CHILD, 4116, Range32 => fault!(16, Count);
+    NARROW_LONE [16, 33] = 6, 4108, Range32 => fault!(16, Entries);
+    NARROW_LONE [16, 33] = 0, 4108, Range32 => fault!(16, Holes);
+    TWENTY_SEVEN [16, 43] = 0, 4124, Alloc32 => fault!(16, Gaps);
+    TWENTY_SEVEN, 4124, Range32 => fault!(0, Name);
+    NARROW_UNEVEN, 4124, Alloc32 => fault!(19, Depth);
 };
 
 /// Of two broken laws the first is told.
@@ -143,6 +222,7 @@ const BROKEN_TWICE: &[Case] = cases! {
 /// Rows beside others have one item too few: a leaf, and inner rows of both kinds.
 const TOO_FEW: &[Case] = cases! {
     ELEVEN [17, 5] = 11 [17, 6] = 0 [17, 21] = 0, 4124, Alloc => fault!(17, Count);
+    TWENTY_SEVEN [17, 13] = 23 [17, 14] = 0 [17, 45] = 0, 4124, Alloc32 => fault!(17, Count);
     UNEVEN [18, 3] = TOP [18, 4] = 0 [18, 13] = 0 [18, 23] = 0, 4124, Alloc => fault!(18, Count);
     DEEP [17, 5] = 40 [17, 6] = 0, 4116, Range => fault!(17, Count);
 };
@@ -159,13 +239,16 @@ const BROKEN_BELOW: &[Case] = cases! {
 
 /// What a check answers of the tree of a case.
 fn answer(rt: &impl Abort, alloc: Global, case: &Case) -> Result<Result<Form, Fault>, NoMemory> {
+    let columns = cols(width_of(case.kind)) as usize;
     let mut words = Vec::from_slice(alloc, case.words)?;
-    for &(at, word) in case.changes {
+    for &(row, col, word) in case.changes {
+        assert!(rt; FIRST_ROW <= row);
+        let at = columns * (row - FIRST_ROW) as usize + col as usize;
         assert!(rt; at < words.len());
         words[at] = word;
     }
-    assert!(rt; words.len() % 32 == 0 && words.len() / 32 <= MOST_ROWS as usize);
-    let mut rows = PlainRows::of_words(alloc, Width::Long, case.root, words.as_slice())?;
+    assert!(rt; words.len() % columns == 0 && words.len() / columns <= MOST_ROWS as usize);
+    let mut rows = PlainRows::of_words(alloc, width_of(case.kind), case.root, words.as_slice())?;
     Ok(check(&mut rows, case.root, case.kind))
 }
 
@@ -179,7 +262,14 @@ fn expect_answers(rt: &impl Abort, alloc: Global, cases: &[Case]) -> Result<(), 
 
 #[test]
 fn trees_are_checked(rt: HostRuntime) -> Result<(), Fail> {
-    for cases in [LAWFUL, BROKEN, BROKEN_TWICE, TOO_FEW, BROKEN_BELOW] {
+    for cases in [
+        LAWFUL,
+        BROKEN,
+        BROKEN_NARROW,
+        BROKEN_TWICE,
+        TOO_FEW,
+        BROKEN_BELOW,
+    ] {
         expect_answers(&rt, rt.alloc(), cases)?;
     }
     Ok(())

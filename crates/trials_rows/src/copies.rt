@@ -1,9 +1,9 @@
 ghost use Rattle.std.specs.Prelude.{◌≡◌, ◌%◌, ◌/◌, ◌<◌, ◌≤◌, length};
-ghost use Rattle.mt_base.specs.Width.{most_rows};
+ghost use Rattle.mt_base.specs.Width.{columns, kind_width, most_rows};
 
 use crate::asserts::same;
-use crate::small_trees::{LONGEST, TOP, checked_rows};
-use mt_base::{FIRST_ROW, Kind, NoMemory, Steps};
+use crate::small_trees::{LONGEST, LONGEST32, TOP, TOP32, checked_rows, push_row};
+use mt_base::{FIRST_ROW, Kind, NoMemory, Steps, cols, width_of};
 use mt_check::check;
 use mt_dup::copy_rows;
 use mt_free::RowBook;
@@ -75,6 +75,85 @@ const LONE_COPIED: [u64; 32] = [
     0, 4108, 0, 0, 0, 0, 0, 0, 0, 0, 0, 0, 0, 0, 0, 0,
 ];
 
+/// A narrow allocation tree: the row 19 with the leaves 18 and 16; the row 17 is unused. Inner rows have a parent word, 20
+/// pivots, 21 slots, 21 gaps and a word that is not used, and leaves a parent word, 31 pivots and 32 slots.
+#[rattlefmt::skip]
+const NARROW_LEAVES: [u64; 256] = [
+    4865,
+    24, 25, 26, 27, 28, 29, 30, 31, 32, 33, 34, 35, 36, TOP32, 0,
+    0, 0, 0, 0, 0, 0, 0, 0, 0, 0, 0, 0, 0, 0, 0, 0,
+    4096, 8192, 4096, 4096, 4096, 4096, 4096, 4096, 4096, 4096, 4096, 4096, 4096, 0, 0, 0,
+    0, 0, 0, 0, 0, 0, 0, 0, 0, 0, 0, 0, 0, 0, 0, 0,
+
+    0, 0, 0, 0, 0, 0, 0, 0, 0, 0, 0, 0, 0, 0, 0, 0,
+    0, 0, 0, 0, 0, 0, 0, 0, 0, 0, 0, 0, 0, 0, 0, 0,
+    0, 0, 0, 0, 0, 0, 0, 0, 0, 0, 0, 0, 0, 0, 0, 0,
+    0, 0, 0, 0, 0, 0, 0, 0, 0, 0, 0, 0, 0, 0, 0, 0,
+
+    4864,
+    0, 1, 2, 3, 4, 5, 6, 7, 8, 9, 10, 11, 12, 23, 0,
+    0, 0, 0, 0, 0, 0, 0, 0, 0, 0, 0, 0, 0, 0, 0, 0,
+    4096, 4100, 4096, 4096, 4096, 4096, 4096, 4096, 4096, 4096, 4096, 4096, 4096, 4096, 0, 0,
+    0, 0, 0, 0, 0, 0, 0, 0, 0, 0, 0, 0, 0, 0, 0, 0,
+
+    1,
+    23, TOP32, 0, 0, 0, 0, 0, 0, 0, 0, 0, 0, 0, 0, 0, 0, 0, 0, 0, 0,
+    4620, 4108, 0, 0, 0, 0, 0, 0, 0, 0, 0, 0, 0, 0, 0, 0, 0, 0, 0, 0, 0,
+    0, LONGEST32, 0, 0, 0, 0, 0, 0, 0, 0, 0, 0, 0, 0, 0, 0, 0, 0, 0, 0, 0,
+    0,
+];
+
+/// Its copy: the row 16 with the leaves 17 and 18.
+#[rattlefmt::skip]
+const NARROW_LEAVES_COPIED: [u64; 256] = [
+    1,
+    23, TOP32, 0, 0, 0, 0, 0, 0, 0, 0, 0, 0, 0, 0, 0, 0, 0, 0, 0, 0,
+    4364, 4620, 0, 0, 0, 0, 0, 0, 0, 0, 0, 0, 0, 0, 0, 0, 0, 0, 0, 0, 0,
+    0, LONGEST32, 0, 0, 0, 0, 0, 0, 0, 0, 0, 0, 0, 0, 0, 0, 0, 0, 0, 0, 0,
+    0,
+
+    4096,
+    0, 1, 2, 3, 4, 5, 6, 7, 8, 9, 10, 11, 12, 23, 0,
+    0, 0, 0, 0, 0, 0, 0, 0, 0, 0, 0, 0, 0, 0, 0, 0,
+    4096, 4100, 4096, 4096, 4096, 4096, 4096, 4096, 4096, 4096, 4096, 4096, 4096, 4096, 0, 0,
+    0, 0, 0, 0, 0, 0, 0, 0, 0, 0, 0, 0, 0, 0, 0, 0,
+
+    4097,
+    24, 25, 26, 27, 28, 29, 30, 31, 32, 33, 34, 35, 36, TOP32, 0,
+    0, 0, 0, 0, 0, 0, 0, 0, 0, 0, 0, 0, 0, 0, 0, 0,
+    4096, 8192, 4096, 4096, 4096, 4096, 4096, 4096, 4096, 4096, 4096, 4096, 4096, 0, 0, 0,
+    0, 0, 0, 0, 0, 0, 0, 0, 0, 0, 0, 0, 0, 0, 0, 0,
+
+    0, 0, 0, 0, 0, 0, 0, 0, 0, 0, 0, 0, 0, 0, 0, 0,
+    0, 0, 0, 0, 0, 0, 0, 0, 0, 0, 0, 0, 0, 0, 0, 0,
+    0, 0, 0, 0, 0, 0, 0, 0, 0, 0, 0, 0, 0, 0, 0, 0,
+    0, 0, 0, 0, 0, 0, 0, 0, 0, 0, 0, 0, 0, 0, 0, 0,
+];
+
+/// The same range in the leaf 17 of a narrow tree; the row 16 is unused.
+#[rattlefmt::skip]
+const NARROW_LONE: [u64; 128] = [
+    0, 0, 0, 0, 0, 0, 0, 0, 0, 0, 0, 0, 0, 0, 0, 0,
+    0, 0, 0, 0, 0, 0, 0, 0, 0, 0, 0, 0, 0, 0, 0, 0,
+    0, 0, 0, 0, 0, 0, 0, 0, 0, 0, 0, 0, 0, 0, 0, 0,
+    0, 0, 0, 0, 0, 0, 0, 0, 0, 0, 0, 0, 0, 0, 0, 0,
+
+    1,
+    9, 19, TOP32, 0, 0, 0, 0, 0, 0, 0, 0, 0, 0, 0, 0,
+    0, 0, 0, 0, 0, 0, 0, 0, 0, 0, 0, 0, 0, 0, 0, 0,
+    0, 4108, 0, 0, 0, 0, 0, 0, 0, 0, 0, 0, 0, 0, 0, 0,
+    0, 0, 0, 0, 0, 0, 0, 0, 0, 0, 0, 0, 0, 0, 0, 0,
+];
+
+#[rattlefmt::skip]
+const NARROW_LONE_COPIED: [u64; 64] = [
+    1,
+    9, 19, TOP32, 0, 0, 0, 0, 0, 0, 0, 0, 0, 0, 0, 0,
+    0, 0, 0, 0, 0, 0, 0, 0, 0, 0, 0, 0, 0, 0, 0, 0,
+    0, 4108, 0, 0, 0, 0, 0, 0, 0, 0, 0, 0, 0, 0, 0, 0,
+    0, 0, 0, 0, 0, 0, 0, 0, 0, 0, 0, 0, 0, 0, 0, 0,
+];
+
 /// The copy of the empty tree, which has no row.
 const NONE_COPIED: [u64; 0] = [];
 
@@ -98,8 +177,8 @@ fn make_copy<L: Ledger>(
     requires name { blank.name ≡ L.name }
     requires parts { blank.parts ≡ L.parts }
     requires some { 0 < blank.parts }
-    requires whole { length words.now % 32 ≡ 0 }
-    requires few { length words.now / 32 ≤ most_rows }
+    requires whole { length words.now % columns (kind_width kind) ≡ 0 }
+    requires few { length words.now / columns (kind_width kind) ≤ most_rows }
     requires room { rows ≤ most_rows }
 {
     let mut steps = Steps::<L>::new(blank);
@@ -107,7 +186,7 @@ fn make_copy<L: Ledger>(
     if rows < form.rows {
         return Err(Fail::new("too few rows"));
     }
-    let mut dst = PlainRows::new(alloc, rows)?;
+    let mut dst = PlainRows::of_width(alloc, src.width(), rows)?;
     let mut book = RowBook::new(alloc, rows)?;
     let copy = copy_rows(&mut src, &mut dst, &mut book, &mut steps);
     dst.plant(copy);
@@ -118,12 +197,13 @@ fn make_copy<L: Ledger>(
     })
 }
 
-/// The first words of rows, from the first row on.
+/// The words of the first rows, as many of them as there are.
+#[tactic(auto, using(mt_layout::proofs::RowSizes::some_columns))]
 fn first_words(alloc: Global, rows: &mut PlainRows, count: u32) -> Result<Vec<u64>, NoMemory> {
     let mut words = Vec::new(alloc);
-    for at in 0..count {
-        if u64::from(at / 32) < rows.size() {
-            words.push(rows.load(FIRST_ROW as u32 + at / 32, at % 32))?;
+    for row in 0..count {
+        if u64::from(row) < rows.size() {
+            push_row(rows, FIRST_ROW + row, &mut words)?;
         }
     }
     Ok(words)
@@ -142,7 +222,7 @@ struct Case {
     form: [u64; 3],
 }
 
-const CASES: [Case; 3] = [
+const CASES: [Case; 6] = [
     Case {
         words: &TWO_LEAVES,
         root: 4892,
@@ -173,6 +253,36 @@ const CASES: [Case; 3] = [
         counts: [0, 0, 0],
         form: [0, 0, 0],
     },
+    Case {
+        words: &NARROW_LEAVES,
+        root: 4892,
+        kind: Kind::Alloc32,
+        rows: 4,
+        copy: 4124,
+        copied: &NARROW_LEAVES_COPIED,
+        counts: [1, 3, 0],
+        form: [2, 3, 27],
+    },
+    Case {
+        words: &NARROW_LONE,
+        root: 4364,
+        kind: Kind::Range32,
+        rows: 1,
+        copy: 4108,
+        copied: &NARROW_LONE_COPIED,
+        counts: [0, 1, 0],
+        form: [1, 1, 1],
+    },
+    Case {
+        words: &NARROW_LONE,
+        root: 0,
+        kind: Kind::Range32,
+        rows: 0,
+        copy: 0,
+        copied: &NONE_COPIED,
+        counts: [0, 0, 0],
+        form: [0, 0, 0],
+    },
 ];
 
 /// The copy of a case, which has the words, the counts and the form that it tells.
@@ -186,7 +296,9 @@ fn expect_copy<L: Ledger>(
     requires parts { blank.parts ≡ L.parts }
     requires some { 0 < blank.parts }
 {
-    assert!(rt; case.words.len() % 32 == 0 && case.words.len() / 32 <= 4 && case.rows <= 4);
+    let columns = cols(width_of(case.kind)) as usize;
+    assert!(rt; case.words.len() % columns == 0 && case.words.len() / columns <= 4);
+    assert!(rt; case.rows <= 4);
     let mut copy = make_copy::<L>(
         blank,
         alloc,
@@ -195,8 +307,9 @@ fn expect_copy<L: Ledger>(
         case.kind,
         u64::from(case.rows),
     )?;
-    let words = first_words(alloc, &mut copy.rows, 32 * case.rows)?;
+    let words = first_words(alloc, &mut copy.rows, case.rows)?;
     same(rt, words.as_slice(), case.copied, case.root);
+    assert!(rt; copy.rows.width() == width_of(case.kind));
     let form = check(&mut copy.rows, copy.root, case.kind)?;
     let told = (
         [u64::from(form.height), form.rows, form.ranges],

@@ -1,12 +1,12 @@
-ghost use Rattle.std.specs.Prelude.{◌≡◌, ◌≤◌, ◌+◌, length};
+ghost use Rattle.std.specs.Prelude.{◌≡◌, ◌≤◌, ◌+◌, ◌*◌, length};
 ghost use Rattle.mt_layout.specs.Columns.{RiseFrom, end_of};
-ghost use Rattle.mt_layout.specs.Sizes.{edit_room};
+ghost use Rattle.mt_layout.specs.Sizes.{edit_room, run_room, slots_of};
 ghost use Rattle.mt_layout.specs.Spans.{spans_from, Apart};
 
 use crate::asserts::same;
 use arrayvec::ArrayVec;
-use mt_base::Range;
-use mt_layout::{Item, Run};
+use mt_base::{Range, Width};
+use mt_layout::{Item, RUN_ROOM, RowKind, Run, least_items, slots};
 use mt_leaf::{Towards, cut, cut_towards, edit, exact_slot};
 use std::process::Abort;
 
@@ -99,35 +99,41 @@ fn slots_of_exact_ranges(rt: HostRuntime) {
     }
 }
 
-/// The ends of rows of 6 to 16 of these items, which are leaves or not, and meet where they are asked to, if anywhere.
+/// The ends of rows of this width and kind with these items, which meet where they are asked to, if anywhere.
+#[tactic(auto, using(mt_layout::proofs::RowSizes::sizes))]
 fn ends_of(
     rt: &impl Abort,
+    width: Width,
+    kind: RowKind,
     items: &[Item],
-    leaf: bool,
     towards: Option<Towards>,
 ) -> ArrayVec<u32, 3>
     requires some { 1 ≤ length items.now }
-    requires few { length items.now + 3 ≤ 48 }
+    requires room { length items.now ≤ run_room }
+    requires few { length items.now + 3 ≤ 3 * slots_of width kind }
     requires apart { Apart (spans_from 0 items.now) }
 {
+    let (most, least) = (slots(width, kind), least_items(width, kind));
+    let leaf = kind == RowKind::Leaf;
     match towards {
-        Some(towards) => cut_towards(items, 16, 6, leaf, towards),
-        None => cut(&run_of(rt, items), 16, 6, leaf),
+        Some(towards) => cut_towards(items, most, least, leaf, towards),
+        None => cut(&run_of(rt, items), most, least, leaf),
     }
 }
 
-/// Where rows meet, if that is asked, whether they are leaves, and their ends.
-type Cut = (Option<Towards>, bool, &'static [u32]);
+/// Where rows meet, if that is asked, their kind, and their ends.
+type Cut = (Option<Towards>, RowKind, &'static [u32]);
 
 /// Each of these cuts of the same items.
-fn expect_cuts(rt: &impl Abort, items: &[Item], cuts: &[Cut])
+fn expect_cuts(rt: &impl Abort, width: Width, items: &[Item], cuts: &[Cut])
     requires some { 1 ≤ length items.now }
-    requires few { length items.now + 3 ≤ 48 }
     requires apart { Apart (spans_from 0 items.now) }
 {
-    for &(towards, leaf, want) in cuts {
-        let ends = ends_of(rt, items, leaf, towards);
-        same(rt, ends.as_slice(), want, (towards, leaf));
+    for &(towards, kind, want) in cuts {
+        let fit = items.len() + 3 <= 3 * slots(width, kind) as usize;
+        assert!(rt; fit && items.len() <= RUN_ROOM);
+        let ends = ends_of(rt, width, kind, items, towards);
+        same(rt, ends.as_slice(), want, (width, towards, kind));
     }
 }
 
@@ -147,8 +153,8 @@ const HOLE: Item = Item {
 macro_rules! meetings {
     ($count:literal; $($towards:ident at $leaf:literal or $inner:literal;)*) => {
         &[$(
-            (Some(Towards::$towards), true, &[$leaf, $count]),
-            (Some(Towards::$towards), false, &[$inner, $count]),
+            (Some(Towards::$towards), RowKind::Leaf, &[$leaf, $count]),
+            (Some(Towards::$towards), RowKind::Inner, &[$inner, $count]),
         )*]
     };
 }
@@ -160,27 +166,90 @@ const TWENTY_SIX: &[Cut] =
 
 const HOLED: &[Cut] = meetings! { 17; First at 7 or 6; Middle at 8 or 9; Last at 10 or 11; };
 
+/// Cuts of narrow rows.
+const THIRTY_THREE: &[Cut] =
+    meetings! { 33; First at 14 or 14; Middle at 17 or 17; Last at 19 or 19; };
+
+const FIFTY: &[Cut] = meetings! { 50; First at 18 or 18; Middle at 25 or 25; Last at 32 or 32; };
+
+const HOLED_NARROW: &[Cut] =
+    meetings! { 33; First at 15 or 14; Middle at 16 or 17; Last at 18 or 19; };
+
+/// Cuts of 11 items of a wide tree with gaps, and of 22 of a narrow one.
+const ELEVEN_CHILDREN: &[Cut] = &[
+    (Some(Towards::First), RowKind::Gapped, &[4, 11]),
+    (Some(Towards::Middle), RowKind::Gapped, &[6, 11]),
+    (Some(Towards::Last), RowKind::Gapped, &[7, 11]),
+];
+
+const TWENTY_TWO_CHILDREN: &[Cut] = &[
+    (Some(Towards::First), RowKind::Gapped, &[9, 22]),
+    (Some(Towards::Middle), RowKind::Gapped, &[11, 22]),
+    (Some(Towards::Last), RowKind::Gapped, &[13, 22]),
+];
+
 /// Cuts of 32 items, of which the sixteenth is a hole.
 const MANY: &[Cut] = &[
-    (None, true, &[11, 22, 32]),
-    (None, false, &[16, 32]),
-    (Some(Towards::First), true, &[11, 22, 32]),
-    (Some(Towards::Last), true, &[11, 22, 32]),
-    (Some(Towards::Last), false, &[16, 32]),
+    (None, RowKind::Leaf, &[11, 22, 32]),
+    (None, RowKind::Inner, &[16, 32]),
+    (Some(Towards::First), RowKind::Leaf, &[11, 22, 32]),
+    (Some(Towards::Last), RowKind::Leaf, &[11, 22, 32]),
+    (Some(Towards::Last), RowKind::Inner, &[16, 32]),
 ];
+
+/// Cuts of 64 items of a narrow tree, of which the thirty-second is a hole.
+const MANY_NARROW: &[Cut] = &[
+    (None, RowKind::Leaf, &[22, 43, 64]),
+    (None, RowKind::Inner, &[32, 64]),
+    (Some(Towards::First), RowKind::Leaf, &[22, 43, 64]),
+    (Some(Towards::Last), RowKind::Leaf, &[22, 43, 64]),
+    (Some(Towards::Last), RowKind::Inner, &[32, 64]),
+];
+
+/// The cuts of so many entries of rows of a kind, at no place that is asked for.
+macro_rules! entries {
+    ($rt:expr, $width:ident: $($kind:ident of $count:literal into $ends:expr;)*) => {
+        $(expect_cuts($rt, Width::$width, &[ENTRY; $count], &[(None, RowKind::$kind, &$ends)]);)*
+    };
+}
 
 #[test]
 fn cuts_of_entries(rt: HostRuntime) {
-    expect_cuts(&rt, &[ENTRY; 16], &[(None, true, &[16])]);
-    expect_cuts(&rt, &[ENTRY; 17], &[(None, true, &[9, 17])]);
-    expect_cuts(&rt, &[ENTRY; 32], &[(None, true, &[16, 32])]);
-    expect_cuts(&rt, &[ENTRY; 45], &[(None, false, &[15, 30, 45])]);
+    entries! { &rt, Long:
+        Leaf of 16 into [16];
+        Leaf of 17 into [9, 17];
+        Leaf of 32 into [16, 32];
+        Inner of 45 into [15, 30, 45];
+        Gapped of 10 into [10];
+        Gapped of 20 into [10, 20];
+        Gapped of 21 into [7, 14, 21];
+        Gapped of 27 into [9, 18, 27];
+    }
+}
+
+#[test]
+fn cuts_of_entries_of_narrow_rows(rt: HostRuntime) {
+    entries! { &rt, Short:
+        Leaf of 32 into [32];
+        Leaf of 33 into [17, 33];
+        Leaf of 64 into [32, 64];
+        Leaf of 66 into [22, 44, 66];
+        Inner of 65 into [22, 44, 65];
+        Gapped of 21 into [21];
+        Gapped of 42 into [21, 42];
+        Gapped of 43 into [15, 29, 43];
+        Gapped of 60 into [20, 40, 60];
+    }
 }
 
 #[test]
 fn cuts_towards_an_end(rt: HostRuntime) {
-    expect_cuts(&rt, &[ENTRY; 17], SEVENTEEN);
-    expect_cuts(&rt, &[ENTRY; 26], TWENTY_SIX);
+    expect_cuts(&rt, Width::Long, &[ENTRY; 17], SEVENTEEN);
+    expect_cuts(&rt, Width::Long, &[ENTRY; 26], TWENTY_SIX);
+    expect_cuts(&rt, Width::Long, &[ENTRY; 11], ELEVEN_CHILDREN);
+    expect_cuts(&rt, Width::Short, &[ENTRY; 33], THIRTY_THREE);
+    expect_cuts(&rt, Width::Short, &[ENTRY; 50], FIFTY);
+    expect_cuts(&rt, Width::Short, &[ENTRY; 22], TWENTY_TWO_CHILDREN);
 }
 
 #[test]
@@ -189,11 +258,26 @@ fn cuts_around_holes(rt: HostRuntime) {
     items[5] = HOLE;
     items[8] = HOLE;
     items[10] = HOLE;
-    expect_cuts(&rt, &items, HOLED);
+    expect_cuts(&rt, Width::Long, &items, HOLED);
     let mut many = [ENTRY; 32];
     many[15] = HOLE;
-    expect_cuts(&rt, &many, MANY);
-    expect_cuts(&rt, &many[..16], &[(Some(Towards::Last), true, &[16])]);
+    expect_cuts(&rt, Width::Long, &many, MANY);
+    let whole: &[Cut] = &[(Some(Towards::Last), RowKind::Leaf, &[16])];
+    expect_cuts(&rt, Width::Long, &many[..16], whole);
+}
+
+#[test]
+fn cuts_around_holes_of_narrow_rows(rt: HostRuntime) {
+    let mut items = [ENTRY; 33];
+    items[13] = HOLE;
+    items[16] = HOLE;
+    items[18] = HOLE;
+    expect_cuts(&rt, Width::Short, &items, HOLED_NARROW);
+    let mut many = [ENTRY; 64];
+    many[31] = HOLE;
+    expect_cuts(&rt, Width::Short, &many, MANY_NARROW);
+    let whole: &[Cut] = &[(Some(Towards::Last), RowKind::Leaf, &[32])];
+    expect_cuts(&rt, Width::Short, &many[..32], whole);
 }
 
 #[test]
@@ -202,7 +286,7 @@ fn cuts_of_entries_and_holes_by_turns(rt: HostRuntime) {
         ENTRY, HOLE, ENTRY, HOLE, ENTRY, HOLE, ENTRY, HOLE, ENTRY, HOLE, ENTRY, HOLE, ENTRY, HOLE,
         ENTRY, HOLE, ENTRY,
     ];
-    let ends = ends_of(&rt, &by_turns, true, None);
+    let ends = ends_of(&rt, Width::Long, RowKind::Leaf, &by_turns, None);
     let lawful = matches!(ends.as_slice(), [7 | 9 | 11, 17]);
     assert!(rt; lawful, "{ends:?}");
 }

@@ -28,16 +28,14 @@ mod stories;
 
 use crate::asserts::same;
 use crate::lists::draws::Draws;
-use crate::lists::stories::{STORIES, Story};
+use crate::lists::stories::{ABOVE, NARROW, Story, WIDE};
 use crate::plain;
-use mt_base::{Call, Kind, NoMemory, Query, Range, Reply};
+use crate::small_trees::{TOP, TOP32};
+use mt_base::{Call, Kind, NoMemory, Query, Range, Reply, top, width_of};
 use mt_list::{ListMap, Ranges};
 use std::alloc::Global;
 use std::process::Abort;
 use std::test::Fail;
-
-/// The last index.
-pub const TOP: u64 = u64::MAX;
 
 /// Makes a call on the map and by the plain program, which answer the same and then hold the same ranges.
 fn act(
@@ -75,15 +73,18 @@ fn expect_answers(rt: &impl Abort, map: &mut ListMap, queries: &[(Query, Option<
 
 #[test]
 fn stories_come_out_as_told(rt: HostRuntime) -> Result<(), Fail> {
-    for story in STORIES {
-        let mut map = map_of(&rt, rt.alloc(), story)?;
-        expect_answers(&rt, &mut map, story.queries);
+    for stories in [WIDE, NARROW, ABOVE] {
+        for story in stories {
+            let mut map = map_of(&rt, rt.alloc(), story)?;
+            expect_answers(&rt, &mut map, story.queries);
+        }
     }
     Ok(())
 }
 
-/// Calls that lie below, above and inside of what is there, over its ends and over all of it, and that fill holes.
-const MIXED: [Call; 20] = [
+/// Calls that lie below, above and inside of what is there, over its ends and over all of it, and that fill holes; and calls up
+/// to the last index of a narrow tree, and behind it.
+const MIXED: [Call; 24] = [
     call!(store 100, 199, 1),
     call!(store 40, 49, 3),
     call!(insert 300, 399, 4),
@@ -101,13 +102,18 @@ const MIXED: [Call; 20] = [
     call!(erase 205),
     call!(store 45, 350, 15),
     call!(store 60, 350, 0),
+    call!(store 0, TOP32, 16),
     call!(store 0, TOP, 16),
     Call::Clear,
+    call!(insert TOP32, TOP32, 17),
     call!(insert TOP, TOP, 17),
+    call!(erase TOP32 + 1),
+    call!(erase TOP),
 ];
 
-const INDEXES: [u64; 16] = [
-    0, 39, 40, 49, 50, 99, 100, 140, 149, 150, 160, 199, 300, 399, 400, TOP,
+#[rattlefmt::skip]
+const INDEXES: [u64; 18] = [
+    0, 39, 40, 49, 50, 99, 100, 140, 149, 150, 160, 199, 300, 399, 400, TOP32, TOP32 + 1, TOP,
 ];
 
 /// The map answers each kind of query at an index, with an end, as the plain program does.
@@ -132,15 +138,15 @@ fn expect_same_answers(
     Ok(())
 }
 
-#[test]
-fn agrees_with_the_plain_program(rt: HostRuntime) -> Result<(), Fail> {
-    let mut map = ListMap::new(rt.alloc(), Kind::Range);
-    let mut ranges = Vec::new(rt.alloc());
+/// A map of this kind answers as the plain program does behind each of the mixed calls.
+fn expect_agreement(rt: &impl Abort, alloc: Global, kind: Kind) -> Result<(), NoMemory> {
+    let mut map = ListMap::new(alloc, kind);
+    let mut ranges = Vec::new(alloc);
     for call in &MIXED {
-        act(&rt, rt.alloc(), Kind::Range, &mut map, &mut ranges, call)?;
+        act(rt, alloc, kind, &mut map, &mut ranges, call)?;
         for index in INDEXES {
             for end in INDEXES {
-                expect_same_answers(&rt, rt.alloc(), &mut map, &ranges, index, end)?;
+                expect_same_answers(rt, alloc, &mut map, &ranges, index, end)?;
             }
         }
     }
@@ -148,9 +154,17 @@ fn agrees_with_the_plain_program(rt: HostRuntime) -> Result<(), Fail> {
 }
 
 #[test]
+fn agrees_with_the_plain_program(rt: HostRuntime) -> Result<(), Fail> {
+    for kind in [Kind::Range, Kind::Range32] {
+        expect_agreement(&rt, rt.alloc(), kind)?;
+    }
+    Ok(())
+}
+
+#[test]
 fn agrees_with_the_plain_program_on_random_calls(rt: HostRuntime) -> Result<(), Fail> {
-    for kind in [Kind::Alloc, Kind::Range] {
-        let mut draws = Draws::new(1);
+    for kind in [Kind::Alloc, Kind::Range, Kind::Alloc32, Kind::Range32] {
+        let mut draws = Draws::new(1, top(width_of(kind)));
         let mut map = ListMap::new(rt.alloc(), kind);
         let mut ranges = Vec::new(rt.alloc());
         for _ in 0..3000 {

@@ -1,13 +1,13 @@
-ghost use Rattle.std.specs.Prelude.{◌≡◌, IfOk, IfSome};
-ghost use Rattle.mt_base.specs.declared.kinds.Kind.TheVariants as trees;
+ghost use Rattle.std.specs.Prelude.{◌≡◌, ◌≤◌, IfOk, IfSome};
+ghost use Rattle.mt_base.specs.Width.{greatest_of};
 ghost use Rattle.mt_rows.specs.Memory.{sheet_in};
 ghost use Rattle.mt_rows.specs.Publish.{IsTreeOf};
 ghost use Rattle.mt_path.specs.Handles.{IsHandleOf};
 ghost use Rattle.mt_path.specs.Paths.{path_in};
 
 use crate::asserts::same;
-use crate::small_trees::{INNER, LEFT, RIGHT, TOP, draft_row};
-use mt_base::NoMemory;
+use crate::small_trees::{ELEVEN, TOP, TOP32, TWENTY_SEVEN, checked_rows};
+use mt_base::{Kind, NoMemory, cols, top, width_of};
 use mt_layout::Span;
 use mt_path::{
     Handle, Path, PathStep, before, behind, handle_at, left_at, load_span, right_at, step_left,
@@ -18,15 +18,17 @@ use std::alloc::Global;
 use std::process::Abort;
 use std::test::Fail;
 
-/// An allocation tree: the row 16 with the leaves 17 and 18.
-fn two_leaves(alloc: Global) -> Result<PlainRows, NoMemory>
-    ensures { IfOk result (λ rows. IsTreeOf (sheet_in rows).tree trees.Alloc) }
+/// An allocation tree: the row 16 with the leaves 17 and 18. It is a wide one, or a narrow one.
+fn two_leaves(rt: &impl Abort, alloc: Global, kind: Kind) -> Result<PlainRows, Fail>
+    ensures { IfOk result (λ rows. IsTreeOf (sheet_in rows).tree kind) }
 {
-    let mut rows = PlainRows::new(alloc, 3)?;
-    draft_row(&mut rows, 16, &INNER);
-    draft_row(&mut rows, 17, &LEFT);
-    draft_row(&mut rows, 18, &RIGHT);
-    rows.plant(4124);
+    let words = match kind {
+        Kind::Range | Kind::Alloc => &ELEVEN[..],
+        Kind::Range32 | Kind::Alloc32 => &TWENTY_SEVEN[..],
+    };
+    let columns = cols(width_of(kind)) as usize;
+    assert!(rt; words.len() % columns == 0 && words.len() / columns <= 3);
+    let (rows, _) = checked_rows(alloc, words, 4124, kind)?;
     Ok(rows)
 }
 
@@ -40,11 +42,13 @@ macro_rules! step {
 /// The path to an index of the leaf 17, in this slot.
 macro_rules! in_left {
     ($slot:expr) => { &[step!(16, 0, 0, TOP), step!(17, $slot, 0, 11)] };
+    (narrow $slot:expr) => { &[step!(16, 0, 0, TOP32), step!(17, $slot, 0, 23)] };
 }
 
 /// The path to an index of the leaf 18, in this slot.
 macro_rules! in_right {
     ($slot:expr) => { &[step!(16, 1, 0, TOP), step!(18, $slot, 12, TOP)] };
+    (narrow $slot:expr) => { &[step!(16, 1, 0, TOP32), step!(18, $slot, 24, TOP32)] };
 }
 
 /// What stands in the leaf 17, at this slot.
@@ -55,6 +59,12 @@ macro_rules! held_left {
             span: Span { first: $first, last: $last, word: 4096 },
         }
     };
+    (narrow $slot:expr, $first:expr, $last:expr) => {
+        Handle {
+            leaf: step!(17, $slot, 0, 23),
+            span: Span { first: $first, last: $last, word: 4096 },
+        }
+    };
 }
 
 /// What stands in the leaf 18, at this slot.
@@ -62,6 +72,12 @@ macro_rules! held_right {
     ($slot:expr, $first:expr, $last:expr, $word:expr) => {
         Handle {
             leaf: step!(18, $slot, 12, TOP),
+            span: Span { first: $first, last: $last, word: $word },
+        }
+    };
+    (narrow $slot:expr, $first:expr, $last:expr, $word:expr) => {
+        Handle {
+            leaf: step!(18, $slot, 24, TOP32),
             span: Span { first: $first, last: $last, word: $word },
         }
     };
@@ -79,7 +95,8 @@ struct Way {
     right: &'static [PathStep],
 }
 
-const WAYS: [Way; 8] = [
+/// Ways in the wide tree.
+const WAYS: &[Way] = &[
     Way {
         index: 0,
         path: in_left!(0),
@@ -154,32 +171,127 @@ const WAYS: [Way; 8] = [
     },
 ];
 
-/// The tree of two leaves, and the path to an index in it.
-fn on_the_way(alloc: Global, index: u64) -> Result<(PlainRows, Path), NoMemory>
-    ensures tree { IfOk result (λ r. IsTreeOf (sheet_in r.0).tree trees.Alloc) }
-    ensures path { IfOk result (λ r. r.1.items ≡ path_in (sheet_in r.0).tree.table (sheet_in r.0).tree.root index) }
+/// Ways in the narrow tree.
+const NARROW_WAYS: &[Way] = &[
+    Way {
+        index: 0,
+        path: in_left!(narrow 0),
+        here: held_left!(narrow 0, 0, 0),
+        before: None,
+        behind: Some(held_left!(narrow 1, 1, 1)),
+        left: &[],
+        right: in_right!(narrow 0),
+    },
+    Way {
+        index: 12,
+        path: in_left!(narrow 12),
+        here: held_left!(narrow 12, 12, 12),
+        before: Some(held_left!(narrow 11, 11, 11)),
+        behind: Some(held_left!(narrow 13, 13, 23)),
+        left: &[],
+        right: in_right!(narrow 0),
+    },
+    Way {
+        index: 13,
+        path: in_left!(narrow 13),
+        here: held_left!(narrow 13, 13, 23),
+        before: Some(held_left!(narrow 12, 12, 12)),
+        behind: Some(held_right!(narrow 0, 24, 24, 4096)),
+        left: &[],
+        right: in_right!(narrow 0),
+    },
+    Way {
+        index: 23,
+        path: in_left!(narrow 13),
+        here: held_left!(narrow 13, 13, 23),
+        before: Some(held_left!(narrow 12, 12, 12)),
+        behind: Some(held_right!(narrow 0, 24, 24, 4096)),
+        left: &[],
+        right: in_right!(narrow 0),
+    },
+    Way {
+        index: 24,
+        path: in_right!(narrow 0),
+        here: held_right!(narrow 0, 24, 24, 4096),
+        before: Some(held_left!(narrow 13, 13, 23)),
+        behind: Some(held_right!(narrow 1, 25, 25, 4096)),
+        left: in_left!(narrow 13),
+        right: &[],
+    },
+    Way {
+        index: 36,
+        path: in_right!(narrow 12),
+        here: held_right!(narrow 12, 36, 36, 4096),
+        before: Some(held_right!(narrow 11, 35, 35, 4096)),
+        behind: Some(held_right!(narrow 13, 37, TOP32, 0)),
+        left: in_left!(narrow 13),
+        right: &[],
+    },
+    Way {
+        index: 37,
+        path: in_right!(narrow 13),
+        here: held_right!(narrow 13, 37, TOP32, 0),
+        before: Some(held_right!(narrow 12, 36, 36, 4096)),
+        behind: None,
+        left: in_left!(narrow 13),
+        right: &[],
+    },
+    Way {
+        index: TOP32,
+        path: in_right!(narrow 13),
+        here: held_right!(narrow 13, 37, TOP32, 0),
+        before: Some(held_right!(narrow 12, 36, 36, 4096)),
+        behind: None,
+        left: in_left!(narrow 13),
+        right: &[],
+    },
+];
+
+const TREES: [(Kind, &[Way]); 2] = [(Kind::Alloc, WAYS), (Kind::Alloc32, NARROW_WAYS)];
+
+/// The index is one of a tree of this kind.
+fn expect_within(rt: &impl Abort, kind: Kind, index: u64)
+    ensures { index ≤ greatest_of kind }
 {
-    let mut rows = two_leaves(alloc)?;
+    assert!(rt; index <= top(width_of(kind)));
+}
+
+/// The tree of two leaves, and the path to an index in it.
+fn on_the_way(
+    rt: &impl Abort,
+    alloc: Global,
+    kind: Kind,
+    index: u64,
+) -> Result<(PlainRows, Path), Fail>
+    ensures tree { IfOk result (λ r. IsTreeOf (sheet_in r.0).tree kind) }
+    ensures path { IfOk result (λ r. r.1.items ≡ path_in (sheet_in r.0).tree.table (sheet_in r.0).tree.root index) }
+    ensures index { IfOk result (λ _. index ≤ greatest_of kind) }
+{
+    let mut rows = two_leaves(rt, alloc, kind)?;
+    expect_within(rt, kind, index);
     let path = walk(&mut rows, index);
     Ok((rows, path))
 }
 
 /// The path to an index, gone on to from the path to another.
-fn gone_on(alloc: Global, from: u64, to: u64) -> Result<Path, NoMemory> {
-    let (mut rows, mut path) = on_the_way(alloc, from)?;
+fn gone_on(rt: &impl Abort, alloc: Global, kind: Kind, from: u64, to: u64) -> Result<Path, Fail> {
+    let (mut rows, mut path) = on_the_way(rt, alloc, kind, from)?;
+    expect_within(rt, kind, to);
     walk_on(&mut rows, &mut path, to);
     Ok(path)
 }
 
 #[test]
 fn paths_to_indexes_and_on_from_others(rt: HostRuntime) -> Result<(), Fail> {
-    for from in &WAYS {
-        for to in &WAYS {
-            let path = gone_on(rt.alloc(), from.index, to.index)?;
-            same(&rt, path.as_slice(), to.path, (from.index, to.index));
+    for (kind, ways) in TREES {
+        for from in ways {
+            for to in ways {
+                let path = gone_on(&rt, rt.alloc(), kind, from.index, to.index)?;
+                same(&rt, path.as_slice(), to.path, (kind, from.index, to.index));
+            }
+            let (_, path) = on_the_way(&rt, rt.alloc(), kind, from.index)?;
+            same(&rt, path.as_slice(), from.path, (kind, from.index));
         }
-        let (_, path) = on_the_way(rt.alloc(), from.index)?;
-        same(&rt, path.as_slice(), from.path, from.index);
     }
     Ok(())
 }
@@ -222,11 +334,12 @@ fn ways_in_an_empty_tree(rt: HostRuntime) -> Result<(), Fail> {
 fn beside(
     rt: &impl Abort,
     alloc: Global,
+    kind: Kind,
     index: u64,
     level: u32,
     is_left: bool,
-) -> Result<Path, NoMemory> {
-    let (mut rows, path) = on_the_way(alloc, index)?;
+) -> Result<Path, Fail> {
+    let (mut rows, path) = on_the_way(rt, alloc, kind, index)?;
     assert!(rt; (level as usize) < path.len());
     let found = if is_left {
         left_at(&mut rows, &path, level)
@@ -243,11 +356,12 @@ fn beside(
 fn stepped(
     rt: &impl Abort,
     alloc: Global,
+    kind: Kind,
     index: u64,
     level: u32,
     is_left: bool,
-) -> Result<Path, NoMemory> {
-    let (mut rows, mut path) = on_the_way(alloc, index)?;
+) -> Result<Path, Fail> {
+    let (mut rows, mut path) = on_the_way(rt, alloc, kind, index)?;
     assert!(rt; (level as usize) < path.len());
     let is_there = if is_left {
         step_left(&mut rows, &mut path, level)
@@ -261,16 +375,17 @@ fn stepped(
 fn expect_beside(
     rt: &impl Abort,
     alloc: Global,
+    kind: Kind,
     index: u64,
     level: u32,
     left: &[PathStep],
     right: &[PathStep],
-) -> Result<(), NoMemory> {
+) -> Result<(), Fail> {
     for (is_left, want) in [(true, left), (false, right)] {
-        let place = (index, level, is_left);
-        let found = beside(rt, alloc, index, level, is_left)?;
+        let place = (kind, index, level, is_left);
+        let found = beside(rt, alloc, kind, index, level, is_left)?;
         same(rt, found.as_slice(), want, place);
-        let path = stepped(rt, alloc, index, level, is_left)?;
+        let path = stepped(rt, alloc, kind, index, level, is_left)?;
         same(rt, path.as_slice(), want, place);
     }
     Ok(())
@@ -278,50 +393,79 @@ fn expect_beside(
 
 #[test]
 fn paths_to_rows_beside(rt: HostRuntime) -> Result<(), Fail> {
-    for way in &WAYS {
-        expect_beside(&rt, rt.alloc(), way.index, 0, &[], &[])?;
-        expect_beside(&rt, rt.alloc(), way.index, 1, way.left, way.right)?;
+    for (kind, ways) in TREES {
+        for way in ways {
+            expect_beside(&rt, rt.alloc(), kind, way.index, 0, &[], &[])?;
+            expect_beside(&rt, rt.alloc(), kind, way.index, 1, way.left, way.right)?;
+        }
     }
     Ok(())
 }
 
 /// The tree of two leaves, and what stands at an index in it.
-fn held_at(alloc: Global, index: u64) -> Result<Option<(PlainRows, Handle)>, NoMemory>
-    ensures tree { IfOk result (λ o. IfSome o (λ r. IsTreeOf (sheet_in r.0).tree trees.Alloc)) }
+fn held_at(
+    rt: &impl Abort,
+    alloc: Global,
+    kind: Kind,
+    index: u64,
+) -> Result<Option<(PlainRows, Handle)>, Fail>
+    ensures tree { IfOk result (λ o. IfSome o (λ r. IsTreeOf (sheet_in r.0).tree kind)) }
     ensures handle { IfOk result (λ o. IfSome o (λ r. IsHandleOf (sheet_in r.0).tree r.1)) }
 {
-    let mut rows = two_leaves(alloc)?;
+    let mut rows = two_leaves(rt, alloc, kind)?;
+    expect_within(rt, kind, index);
     match handle_at(&mut rows, index) {
         Some(here) => Ok(Some((rows, here))),
         None => Ok(None),
     }
 }
 
-fn behind_index(alloc: Global, index: u64) -> Result<Option<Handle>, NoMemory> {
-    match held_at(alloc, index)? {
+fn behind_index(
+    rt: &impl Abort,
+    alloc: Global,
+    kind: Kind,
+    index: u64,
+) -> Result<Option<Handle>, Fail> {
+    match held_at(rt, alloc, kind, index)? {
         Some((mut rows, here)) => Ok(behind(&mut rows, &here)),
         None => Ok(None),
     }
 }
 
-fn before_index(alloc: Global, index: u64) -> Result<Option<Handle>, NoMemory> {
-    match held_at(alloc, index)? {
+fn before_index(
+    rt: &impl Abort,
+    alloc: Global,
+    kind: Kind,
+    index: u64,
+) -> Result<Option<Handle>, Fail> {
+    match held_at(rt, alloc, kind, index)? {
         Some((mut rows, here)) => Ok(before(&mut rows, &here)),
         None => Ok(None),
     }
 }
 
 /// What stands at an index, and its span, loaded once more.
-fn span_of_index(alloc: Global, index: u64) -> Result<Option<(Handle, Span)>, NoMemory> {
-    match held_at(alloc, index)? {
+fn span_of_index(
+    rt: &impl Abort,
+    alloc: Global,
+    kind: Kind,
+    index: u64,
+) -> Result<Option<(Handle, Span)>, Fail> {
+    match held_at(rt, alloc, kind, index)? {
         Some((mut rows, here)) => Ok(Some((here, load_span(&mut rows, here.leaf)))),
         None => Ok(None),
     }
 }
 
 /// The handle at the end of the path to an index, and the last step of that path.
-fn walked_to(alloc: Global, index: u64) -> Result<(Option<Handle>, Option<PathStep>), NoMemory> {
-    let mut rows = two_leaves(alloc)?;
+fn walked_to(
+    rt: &impl Abort,
+    alloc: Global,
+    kind: Kind,
+    index: u64,
+) -> Result<(Option<Handle>, Option<PathStep>), Fail> {
+    let mut rows = two_leaves(rt, alloc, kind)?;
+    expect_within(rt, kind, index);
     let mut path = Path::new();
     let end = walk_to(&mut rows, index, &mut path);
     Ok((end, path.as_slice().last().copied()))
@@ -329,23 +473,19 @@ fn walked_to(alloc: Global, index: u64) -> Result<(Option<Handle>, Option<PathSt
 
 #[test]
 fn handles_of_indexes_and_beside(rt: HostRuntime) -> Result<(), Fail> {
-    for way in &WAYS {
-        let end = (Some(way.here), Some(way.here.leaf));
-        same(&rt, walked_to(rt.alloc(), way.index)?, end, way.index);
-        let held = span_of_index(rt.alloc(), way.index)?;
-        same(&rt, held, Some((way.here, way.here.span)), way.index);
-        same(
-            &rt,
-            before_index(rt.alloc(), way.index)?,
-            way.before,
-            way.index,
-        );
-        same(
-            &rt,
-            behind_index(rt.alloc(), way.index)?,
-            way.behind,
-            way.index,
-        );
+    for (kind, ways) in TREES {
+        for way in ways {
+            let place = (kind, way.index);
+            let end = (Some(way.here), Some(way.here.leaf));
+            let walked = walked_to(&rt, rt.alloc(), kind, way.index)?;
+            same(&rt, walked, end, place);
+            let held = span_of_index(&rt, rt.alloc(), kind, way.index)?;
+            same(&rt, held, Some((way.here, way.here.span)), place);
+            let before = before_index(&rt, rt.alloc(), kind, way.index)?;
+            same(&rt, before, way.before, place);
+            let behind = behind_index(&rt, rt.alloc(), kind, way.index)?;
+            same(&rt, behind, way.behind, place);
+        }
     }
     Ok(())
 }

@@ -1,12 +1,11 @@
 ghost use Rattle.std.specs.Prelude.{◌≡◌, ◌+◌, ◌<◌, ◌≤◌};
-ghost use Rattle.mt_base.specs.declared.kinds.Kind.TheVariants as trees;
 ghost use Rattle.mt_rows.specs.Memory.{sheet_in};
-ghost use Rattle.mt_rows.specs.Publish.{IsLawfulOf};
 ghost use Rattle.mt_rows.specs.Trees.{height_in};
+ghost use Rattle.mt_gap.specs.Descents.{IsGapped};
 
 use crate::asserts::same;
-use crate::small_trees::{ELEVEN, LONGEST, TOP, checked_rows};
-use mt_base::{Kind, NoMemory, Steps, Width};
+use crate::small_trees::{ELEVEN, LONGEST, LONGEST32, TOP, TOP32, TWENTY_SEVEN, checked_rows};
+use mt_base::{Kind, NoMemory, Steps, Width, cols, finds_room, width_of};
 use mt_gap::{highest, lowest, mend_gaps};
 use mt_path::walk;
 use mt_rows::{PlainRows, Rows};
@@ -34,8 +33,32 @@ const HOLES: [u64; 96] = [
     0, 4096, 0, 4096, 0, 4096, 0, 0, 0, 0, 0, 0, 0, 0, 0, 0,
 ];
 
-/// The empty tree, in rows of no use.
+/// A narrow tree of the same form with seven holes: 0 to 1, 3 to 5, 7 to 8, 24 to 27, 29, 31 to 32, and the last index.
+#[rattlefmt::skip]
+const NARROW_HOLES: [u64; 192] = [
+    1,
+    23, TOP32, 0, 0, 0, 0, 0, 0, 0, 0, 0, 0, 0, 0, 0, 0, 0, 0, 0, 0,
+    4364, 4620, 0, 0, 0, 0, 0, 0, 0, 0, 0, 0, 0, 0, 0, 0, 0, 0, 0, 0, 0,
+    3, 4, 0, 0, 0, 0, 0, 0, 0, 0, 0, 0, 0, 0, 0, 0, 0, 0, 0, 0, 0,
+    0,
+
+    4096,
+    1, 2, 5, 6, 8, 11, 12, 13, 14, 15, 16, 17, 18, 23, 0,
+    0, 0, 0, 0, 0, 0, 0, 0, 0, 0, 0, 0, 0, 0, 0, 0,
+    0, 4096, 0, 4096, 0, 4096, 4096, 4096, 4096, 4096, 4096, 4096, 4096, 4096, 0, 0,
+    0, 0, 0, 0, 0, 0, 0, 0, 0, 0, 0, 0, 0, 0, 0, 0,
+
+    4097,
+    27, 28, 29, 30, 32, 40, 41, 42, 43, 44, 45, 46, TOP32 - 1, TOP32, 0,
+    0, 0, 0, 0, 0, 0, 0, 0, 0, 0, 0, 0, 0, 0, 0, 0,
+    0, 4096, 0, 4096, 0, 4096, 4096, 4096, 4096, 4096, 4096, 4096, 4096, 0, 0, 0,
+    0, 0, 0, 0, 0, 0, 0, 0, 0, 0, 0, 0, 0, 0, 0, 0,
+];
+
+/// The empty tree, in rows of no use: three wide ones, or a narrow one.
 const NONE: [u64; 96] = [0; 96];
+
+const NARROW_NONE: [u64; 64] = [0; 64];
 
 /// The lowest place in a tree of two levels, or the highest, in six steps at the most.
 fn place<L: Ledger>(
@@ -46,7 +69,7 @@ fn place<L: Ledger>(
     hi: u64,
     steps: &mut Steps<L>,
 ) -> Option<u64>
-    requires tree { IsLawfulOf (sheet_in rows.old).tree trees.Alloc }
+    requires tree { IsGapped (sheet_in rows.old).tree }
     requires levels { height_in (sheet_in rows.old).tree.table (sheet_in rows.old).tree.root ≤ 2 }
     requires size { 1 ≤ size }
     ensures { steps.new ≤ steps.old + 6 }
@@ -70,7 +93,7 @@ fn placed<L: Ledger>(
     requires name { blank.name ≡ L.name }
     requires parts { blank.parts ≡ L.parts }
     requires some { 0 < blank.parts }
-    requires tree { IsLawfulOf (sheet_in rows).tree trees.Alloc }
+    requires tree { IsGapped (sheet_in rows).tree }
     requires levels { height_in (sheet_in rows).tree.table (sheet_in rows).tree.root ≤ 2 }
     requires size { 1 ≤ size }
 {
@@ -126,21 +149,69 @@ const IN_NONE: &[Window] = windows! {
     TOP, 0, TOP => Some(0), Some(1);
 };
 
-/// The places in these windows of the tree of these words.
+const IN_NARROW_LEAVES: &[Window] = windows! {
+    1, 0, TOP32 => Some(37), Some(TOP32);
+    4, 0, TOP32 => Some(37), Some(TOP32 - 3);
+    1, 0, 36 => None, None;
+    4, 38, 41 => Some(38), Some(38);
+    5, 38, 41 => None, None;
+    2, 10, 39 => Some(37), Some(38);
+    LONGEST32, 0, TOP32 => Some(37), Some(37);
+    LONGEST32 + 1, 0, TOP32 => None, None;
+    TOP32, 0, TOP32 => None, None;
+    1, 0, TOP => Some(37), Some(TOP32);
+    4, 10, TOP => Some(37), Some(TOP32 - 3);
+    1, TOP32 + 1, TOP => None, None;
+};
+
+const BETWEEN_NARROW_ENTRIES: &[Window] = windows! {
+    1, 0, TOP32 => Some(0), Some(TOP32);
+    2, 0, TOP32 => Some(0), Some(31);
+    3, 0, TOP32 => Some(3), Some(25);
+    4, 0, TOP32 => Some(24), Some(24);
+    5, 0, TOP32 => None, None;
+    2, 1, TOP32 => Some(3), Some(31);
+    2, 0, 31 => Some(0), Some(26);
+    3, 4, 26 => Some(24), Some(24);
+    2, 4, 26 => Some(4), Some(25);
+    2, 7, 25 => Some(7), Some(24);
+    2, 8, 24 => None, None;
+    3, 25, 27 => Some(25), Some(25);
+    1, 29, 29 => Some(29), Some(29);
+    1, 2, 2 => None, None;
+    2, 0, 0 => None, None;
+    1, 33, TOP32 => Some(TOP32), Some(TOP32);
+    1, 33, TOP => Some(TOP32), Some(TOP32);
+    2, TOP32 - 1, TOP => None, None;
+};
+
+const IN_NARROW_NONE: &[Window] = windows! {
+    4, 10, 13 => Some(10), Some(10);
+    4, 10, 20 => Some(10), Some(17);
+    4, 10, 12 => None, None;
+    TOP32, 0, TOP32 => Some(0), Some(1);
+    TOP32 + 1, 0, TOP => Some(0), Some(0);
+    TOP32 + 2, 0, TOP => None, None;
+};
+
+/// The places in these windows of the tree of this kind with these words.
 fn expect_places(
     rt: &impl Abort,
     alloc: Global,
-    words: &[u64; 96],
+    kind: Kind,
+    words: &[u64],
     root: u64,
     windows: &[Window],
 ) -> Result<(), Fail> {
+    let columns = cols(width_of(kind)) as usize;
+    assert!(rt; words.len() % columns == 0 && words.len() / columns <= 3 && finds_room(kind));
     for &((size, lo, hi), (low, high)) in windows {
         assert!(rt; 1 <= size);
         for (is_lowest, want) in [(true, low), (false, high)] {
-            let (rows, form) = checked_rows(alloc, words, root, Kind::Alloc)?;
+            let (rows, form) = checked_rows(alloc, words, root, kind)?;
             assert!(rt; form.height <= 2);
             let found = placed::<Brand>(Blank::new(1), rows, is_lowest, size, lo, hi);
-            same(rt, found, want, (size, lo, hi, is_lowest));
+            same(rt, found, want, (kind, size, lo, hi, is_lowest));
         }
     }
     Ok(())
@@ -148,9 +219,21 @@ fn expect_places(
 
 #[test]
 fn places_in_trees(rt: HostRuntime) -> Result<(), Fail> {
-    expect_places(&rt, rt.alloc(), &ELEVEN, 4124, IN_TWO_LEAVES)?;
-    expect_places(&rt, rt.alloc(), &HOLES, 4124, BETWEEN_ENTRIES)?;
-    expect_places(&rt, rt.alloc(), &NONE, 0, IN_NONE)
+    expect_places(&rt, rt.alloc(), Kind::Alloc, &ELEVEN, 4124, IN_TWO_LEAVES)?;
+    expect_places(&rt, rt.alloc(), Kind::Alloc, &HOLES, 4124, BETWEEN_ENTRIES)?;
+    expect_places(&rt, rt.alloc(), Kind::Alloc, &NONE, 0, IN_NONE)
+}
+
+#[test]
+fn places_in_narrow_trees(rt: HostRuntime) -> Result<(), Fail> {
+    for (words, root, windows) in [
+        (&TWENTY_SEVEN[..], 4124, IN_NARROW_LEAVES),
+        (&NARROW_HOLES[..], 4124, BETWEEN_NARROW_ENTRIES),
+        (&NARROW_NONE[..], 0, IN_NARROW_NONE),
+    ] {
+        expect_places(&rt, rt.alloc(), Kind::Alloc32, words, root, windows)?;
+    }
+    Ok(())
 }
 
 /// The gap words of the root over two leaves, after these were tended there and all on the way to an index mended.

@@ -1,6 +1,6 @@
 use crate::asserts::same;
-use crate::small_trees::{INNER, LEFT, LONE, RIGHT, TOP, draft_row};
-use mt_base::{Call, NoMemory, Range, Reply, Width};
+use crate::small_trees::{ELEVEN, INNER, LEFT, LONE, LONE32, RIGHT, TOP, TWENTY_SEVEN, draft_row};
+use mt_base::{Call, FIRST_ROW, NoMemory, Range, Reply, Width, cols};
 use mt_rows::plain_trees::{height_in, map_in, reached_in};
 use mt_rows::{Place, PlainRows, Rows, Scan};
 use std::alloc::Global;
@@ -20,81 +20,132 @@ macro_rules! store {
     };
 }
 
-/// The words of a table whose first rows are these.
-fn table(alloc: Global, rows: &[[u64; 32]]) -> Result<Vec<u64>, NoMemory> {
-    let mut words = vec![in alloc; 0; 512]?;
-    for row in rows {
-        words.extend_from_slice(row)?;
-    }
+/// The words of a table of rows of this width, the first of which have these words.
+fn table(alloc: Global, width: Width, rows: &[u64]) -> Result<Vec<u64>, NoMemory> {
+    let mut words = vec![in alloc; 0; cols(width) as usize * FIRST_ROW as usize]?;
+    words.extend_from_slice(rows)?;
     Ok(words)
 }
 
-fn range(first: u64, last: u64, entry: u64) -> Range {
-    Range { first, last, entry }
+macro_rules! range {
+    ($first:literal, $last:literal, $entry:literal) => {
+        Range { first: $first, last: $last, entry: $entry }
+    };
 }
 
-/// What the words of a table stand for from this root word: the ranges, the rows that are reached, and the height.
+/// The ranges of the wide tree of two leaves.
+const IN_ELEVEN: [Range; 11] = [
+    range!(0, 0, 4096),
+    range!(1, 1, 4096),
+    range!(2, 2, 4096),
+    range!(3, 3, 4096),
+    range!(4, 4, 4096),
+    range!(5, 11, 4096),
+    range!(12, 12, 4096),
+    range!(13, 13, 4096),
+    range!(14, 14, 4096),
+    range!(15, 15, 4096),
+    range!(16, 16, 4096),
+];
+
+/// The ranges of the narrow tree of two leaves.
+const IN_TWENTY_SEVEN: [Range; 27] = [
+    range!(0, 0, 4096),
+    range!(1, 1, 4096),
+    range!(2, 2, 4096),
+    range!(3, 3, 4096),
+    range!(4, 4, 4096),
+    range!(5, 5, 4096),
+    range!(6, 6, 4096),
+    range!(7, 7, 4096),
+    range!(8, 8, 4096),
+    range!(9, 9, 4096),
+    range!(10, 10, 4096),
+    range!(11, 11, 4096),
+    range!(12, 12, 4096),
+    range!(13, 23, 4096),
+    range!(24, 24, 4096),
+    range!(25, 25, 4096),
+    range!(26, 26, 4096),
+    range!(27, 27, 4096),
+    range!(28, 28, 4096),
+    range!(29, 29, 4096),
+    range!(30, 30, 4096),
+    range!(31, 31, 4096),
+    range!(32, 32, 4096),
+    range!(33, 33, 4096),
+    range!(34, 34, 4096),
+    range!(35, 35, 4096),
+    range!(36, 36, 4096),
+];
+
+/// What rows of these words stand for from this root word: the ranges, the rows that are reached, and the height.
 fn expect_tree(
     rt: &impl Abort,
     alloc: Global,
-    words: &[u64],
+    width: Width,
+    rows: &[u64],
     root: u64,
-    (ranges, rows, height): (&[Range], &[u32], u32),
+    (ranges, reached, height): (&[Range], &[u32], u32),
 ) -> Result<(), NoMemory> {
-    same(rt, map_in(alloc, words, root)?.as_slice(), ranges, root);
-    same(rt, reached_in(alloc, words, root)?.as_slice(), rows, root);
-    same(rt, height_in(words, root), height, root);
+    let words = table(alloc, width, rows)?;
+    let held = map_in(alloc, width, &words, root)?;
+    same(rt, held.as_slice(), ranges, (width, root));
+    let found = reached_in(alloc, width, &words, root)?;
+    same(rt, found.as_slice(), reached, (width, root));
+    same(rt, height_in(width, &words, root), height, (width, root));
     Ok(())
 }
 
 #[test]
 fn trees_of_words(rt: HostRuntime) -> Result<(), Fail> {
-    let eleven = [
-        range(0, 0, 4096),
-        range(1, 1, 4096),
-        range(2, 2, 4096),
-        range(3, 3, 4096),
-        range(4, 4, 4096),
-        range(5, 11, 4096),
-        range(12, 12, 4096),
-        range(13, 13, 4096),
-        range(14, 14, 4096),
-        range(15, 15, 4096),
-        range(16, 16, 4096),
-    ];
-    let words = table(rt.alloc(), &[INNER, LEFT, RIGHT])?;
-    expect_tree(&rt, rt.alloc(), &words, 4124, (&eleven, &[16, 17, 18], 2))?;
-    let words = table(rt.alloc(), &[LONE])?;
-    expect_tree(
-        &rt,
-        rt.alloc(),
-        &words,
-        4108,
-        (&[range(10, 19, 5)], &[16], 1),
-    )?;
-    expect_tree(&rt, rt.alloc(), &words, 0, (&[], &[], 0))?;
+    for (width, two, ranges, lone) in [
+        (Width::Long, &ELEVEN[..], &IN_ELEVEN[..], &LONE[..]),
+        (
+            Width::Short,
+            &TWENTY_SEVEN[..],
+            &IN_TWENTY_SEVEN[..],
+            &LONE32[..],
+        ),
+    ] {
+        let want = (ranges, &[16, 17, 18][..], 2);
+        expect_tree(&rt, rt.alloc(), width, two, 4124, want)?;
+        let want = (&[range!(10, 19, 5)][..], &[16][..], 1);
+        expect_tree(&rt, rt.alloc(), width, lone, 4108, want)?;
+        expect_tree(&rt, rt.alloc(), width, lone, 0, (&[], &[], 0))?;
+    }
+    Ok(())
+}
+
+/// New rows of a width, the last column of which is written in one row, and in no other.
+#[tactic(auto, using(mt_base::proofs::WidthBounds::many_columns))]
+fn expect_new_rows(rt: &impl Abort, alloc: Global, width: Width) -> Result<(), NoMemory> {
+    let mut rows = PlainRows::of_width(alloc, width, 3)?;
+    same(rt, (rows.size(), rows.width()), (3, width), "the sizes");
+    same(rt, rows.root(), 0, "the root");
+    let none = Scan {
+        least: u64::MAX,
+        by: None,
+    };
+    same(rt, rows.scan(), none, "the scan");
+    same(rt, rows.begin(), 1, "the first call");
+    let last = cols(width) - 1;
+    rows.draft(17, last, 4096);
+    same(rt, rows.load(17, last), 4096, (width, 17));
+    same(rt, rows.load(18, 0), 0, (width, 18));
+    same(rt, rows.load(18, last), 0, (width, 18));
     Ok(())
 }
 
 #[test]
 fn rows_in_memory(rt: HostRuntime) -> Result<(), Fail> {
-    let mut rows = PlainRows::new(rt.alloc(), 3)?;
-    same(
-        &rt,
-        (rows.size(), rows.width()),
-        (3, Width::Long),
-        "the sizes",
-    );
-    same(&rt, rows.root(), 0, "the root");
-    let none = Scan {
-        least: u64::MAX,
-        by: None,
-    };
-    same(&rt, rows.scan(), none, "the scan");
-    same(&rt, rows.begin(), 1, "the first call");
-    rows.draft(17, 5, 4096);
-    same(&rt, rows.load(17, 5), 4096, 17);
-    same(&rt, rows.load(18, 5), 0, 18);
+    for width in [Width::Long, Width::Short] {
+        expect_new_rows(&rt, rt.alloc(), width)?;
+    }
+    let wide = PlainRows::new(rt.alloc(), 1)?;
+    same(&rt, wide.width(), Width::Long, "the rows of `new`");
+    let narrow = PlainRows::short(rt.alloc(), 1)?;
+    same(&rt, narrow.width(), Width::Short, "the rows of `short`");
     Ok(())
 }
 

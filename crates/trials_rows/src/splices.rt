@@ -1,14 +1,19 @@
 ghost use Rattle.std.specs.Prelude.{◌≡◌, ◌≢◌, false, ◌<◌, ◌≤◌, ◌+◌, ◌-◌, ◌^◌, IfOk, length};
 ghost use Rattle.mt_base.specs.Entry.{reserved};
 ghost use Rattle.mt_base.specs.Map.{over};
-ghost use Rattle.mt_base.specs.Width.{most_taken};
+ghost use Rattle.mt_base.specs.Call.{finds_room};
+ghost use Rattle.mt_base.specs.Width.{greatest_of, most_taken};
 ghost use Rattle.mt_rows.specs.Memory.{sheet_in};
 ghost use Rattle.mt_rows.specs.Publish.{map_by};
-ghost use Rattle.mt_rows.specs.Sheet.{IsPlace, OnlyReads};
+ghost use Rattle.mt_rows.specs.Sheet.{OnlyReads};
 ghost use Rattle.mt_splice.specs.Between.{IsBetweenCalls};
 
 use crate::asserts::same;
-use mt_base::{Call, FIRST_ROW, Kind, MOST_TAKEN, NoMemory, Range, Reply, cols, is_reserved};
+use crate::small_trees::{TOP, TOP32, push_row};
+use mt_base::{
+    Call, FIRST_ROW, Kind, MOST_TAKEN, NoMemory, Range, Reply, cols, finds_room, is_reserved, top,
+    width_of,
+};
 use mt_free::RowBook;
 use mt_list::{ListMap, Ranges};
 use mt_path::walk;
@@ -19,27 +24,13 @@ use std::alloc::Global;
 use std::process::Abort;
 use std::test::Fail;
 
-/// The last index.
-const TOP: u64 = u64::MAX;
-
 /// As many rows as the trees of these tests have.
-const ROWS: u64 = 400;
+const ROWS: u64 = 1000;
 
 macro_rules! range {
     ($first:expr, $last:expr, $entry:expr) => {
         Range { first: $first, last: $last, entry: $entry }
     };
-}
-
-/// Appends the words of a row.
-fn push_row(rows: &mut PlainRows, row: u32, words: &mut Vec<u64>) -> Result<(), NoMemory>
-    requires { IsPlace (sheet_in rows.old).tree row 0 }
-    ensures { OnlyReads (sheet_in rows.old) (sheet_in rows.new) }
-{
-    for col in 0..cols(rows.width()) {
-        words.push(rows.load(row, col))?;
-    }
-    Ok(())
 }
 
 /// All words of the rows, with those of the numbers below the first row's.
@@ -63,14 +54,23 @@ fn root_of(rows: &mut PlainRows) -> u64
 }
 
 /// A whole store as one call: of an entry, or of a hole into a tree that is not empty.
-fn store(rows: &mut PlainRows, book: &mut RowBook, first: u64, last: u64, entry: u64) -> Place
-    requires ready { IsBetweenCalls Kind.Range (sheet_in rows.old) book.old }
+fn store(
+    rows: &mut PlainRows,
+    book: &mut RowBook,
+    kind: Kind,
+    first: u64,
+    last: u64,
+    entry: u64,
+) -> Place
+    requires plain { finds_room kind ≡ false }
+    requires ready { IsBetweenCalls kind (sheet_in rows.old) book.old }
     requires order { first ≤ last }
+    requires top { last ≤ greatest_of kind }
     requires some { (sheet_in rows.old).tree.root ≡ 0 → entry ≢ 0 }
     requires lawful { reserved entry ≡ false }
     requires free { most_taken ≤ length book.old.free }
     requires room { (sheet_in rows.old).ended < 2 ^ 62 - 1 }
-    ensures ready { IsBetweenCalls Kind.Range (sheet_in rows.new) book.new }
+    ensures ready { IsBetweenCalls kind (sheet_in rows.new) book.new }
     ensures ended { (sheet_in rows.new).ended ≡ (sheet_in rows.old).ended + 1 }
     ensures map { map_by (sheet_in rows.new).tree ≡ over (map_by (sheet_in rows.old).tree) first last entry }
 {
@@ -80,7 +80,7 @@ fn store(rows: &mut PlainRows, book: &mut RowBook, first: u64, last: u64, entry:
     let spliced = replace_range(
         rows,
         book,
-        Kind::Range,
+        kind,
         &left,
         first,
         last,
@@ -94,17 +94,18 @@ fn store(rows: &mut PlainRows, book: &mut RowBook, first: u64, last: u64, entry:
 }
 
 /// The emptying of a tree that is not empty, as one call.
-fn empty(rows: &mut PlainRows, book: &mut RowBook)
-    requires ready { IsBetweenCalls Kind.Range (sheet_in rows.old) book.old }
+fn empty(rows: &mut PlainRows, book: &mut RowBook, kind: Kind)
+    requires plain { finds_room kind ≡ false }
+    requires ready { IsBetweenCalls kind (sheet_in rows.old) book.old }
     requires some { (sheet_in rows.old).tree.root ≢ 0 }
     requires room { (sheet_in rows.old).ended < 2 ^ 62 - 1 }
-    ensures ready { IsBetweenCalls Kind.Range (sheet_in rows.new) book.new }
+    ensures ready { IsBetweenCalls kind (sheet_in rows.new) book.new }
     ensures ended { (sheet_in rows.new).ended ≡ (sheet_in rows.old).ended + 1 }
     ensures none_taken { book.new.free ≡ book.old.free }
     ensures root { (sheet_in rows.new).tree.root ≡ 0 }
 {
     let number = rows.begin();
-    clear(rows, book, Kind::Range, number, &Call::Clear, &Reply::Ok);
+    clear(rows, book, kind, number, &Call::Clear, &Reply::Ok);
     rows.finish(&Call::Clear, &Reply::Ok);
 }
 
@@ -128,31 +129,32 @@ struct Shape {
 }
 
 impl Tree {
-    /// The empty tree.
-    fn new(alloc: Global) -> Result<Tree, NoMemory>
-        ensures ready { IfOk result (λ t. IsBetweenCalls Kind.Range (sheet_in t.rows) t.book) }
+    /// The empty tree of this kind.
+    fn new(alloc: Global, kind: Kind) -> Result<Tree, NoMemory>
+        ensures ready { IfOk result (λ t. IsBetweenCalls kind (sheet_in t.rows) t.book) }
         ensures ended { IfOk result (λ t. (sheet_in t.rows).ended ≡ 0) }
     {
-        let rows = PlainRows::new(alloc, ROWS)?;
+        let rows = PlainRows::of_width(alloc, width_of(kind), ROWS)?;
         let book = RowBook::new(alloc, ROWS)?;
-        let list = ListMap::new(alloc, Kind::Range);
+        let list = ListMap::new(alloc, kind);
         Ok(Tree { rows, book, list })
     }
 
     /// Stores into the nodes.
-    fn store_in_nodes(&mut self, rt: &impl Abort, range: Range) -> Place
-        requires ready { IsBetweenCalls Kind.Range (sheet_in self.old.rows) self.old.book }
+    fn store_in_nodes(&mut self, rt: &impl Abort, kind: Kind, range: Range) -> Place
+        requires plain { finds_room kind ≡ false }
+        requires ready { IsBetweenCalls kind (sheet_in self.old.rows) self.old.book }
         requires room { (sheet_in self.old.rows).ended < 2 ^ 62 - 1 }
-        ensures ready { IsBetweenCalls Kind.Range (sheet_in self.new.rows) self.new.book }
+        ensures ready { IsBetweenCalls kind (sheet_in self.new.rows) self.new.book }
         ensures ended { (sheet_in self.new.rows).ended ≡ (sheet_in self.old.rows).ended + 1 }
     {
         let Range { first, last, entry } = range;
         let root = root_of(&mut self.rows);
-        assert!(rt; first <= last);
+        assert!(rt; first <= last && last <= top(width_of(kind)));
         assert!(rt; !is_reserved(entry));
         assert!(rt; root != 0 || entry != 0);
         assert!(rt; self.book.free() >= MOST_TAKEN as u64);
-        store(&mut self.rows, &mut self.book, first, last, entry)
+        store(&mut self.rows, &mut self.book, kind, first, last, entry)
     }
 
     /// By the plain program the nodes stand for the ranges of the list, and as many rows are reached as are live.
@@ -162,26 +164,33 @@ impl Tree {
     {
         let root = root_of(&mut self.rows);
         let words = words_of(&mut self.rows, alloc)?;
-        let ranges = map_in(alloc, words.as_slice(), root)?;
+        let ranges = map_in(alloc, self.rows.width(), words.as_slice(), root)?;
         same(
             rt,
             ranges.as_slice(),
             self.list.list(alloc)?.as_slice(),
             last,
         );
-        let reached = reached_in(alloc, words.as_slice(), root)?;
+        let reached = reached_in(alloc, self.rows.width(), words.as_slice(), root)?;
         same(rt, reached.len() as u64, self.book.live(), last);
         Ok(())
     }
 
     /// Stores into the nodes and into the list, which then are the same.
-    fn store(&mut self, rt: &impl Abort, alloc: Global, range: Range) -> Result<Place, NoMemory>
-        requires ready { IsBetweenCalls Kind.Range (sheet_in self.old.rows) self.old.book }
+    fn store(
+        &mut self,
+        rt: &impl Abort,
+        alloc: Global,
+        kind: Kind,
+        range: Range,
+    ) -> Result<Place, NoMemory>
+        requires plain { finds_room kind ≡ false }
+        requires ready { IsBetweenCalls kind (sheet_in self.old.rows) self.old.book }
         requires room { (sheet_in self.old.rows).ended < 2 ^ 62 - 1 }
-        ensures ready { IsBetweenCalls Kind.Range (sheet_in self.new.rows) self.new.book }
+        ensures ready { IsBetweenCalls kind (sheet_in self.new.rows) self.new.book }
         ensures ended { (sheet_in self.new.rows).ended ≡ (sheet_in self.old.rows).ended + 1 }
     {
-        let place = self.store_in_nodes(rt, range);
+        let place = self.store_in_nodes(rt, kind, range);
         let Range { first, last, entry } = range;
         self.list.act(&Call::Store { first, last, entry })?;
         self.expect_same(rt, alloc, range)?;
@@ -189,15 +198,16 @@ impl Tree {
     }
 
     /// Empties the nodes and the list.
-    fn clear(&mut self, rt: &impl Abort, alloc: Global) -> Result<(), NoMemory>
-        requires ready { IsBetweenCalls Kind.Range (sheet_in self.old.rows) self.old.book }
+    fn clear(&mut self, rt: &impl Abort, alloc: Global, kind: Kind) -> Result<(), NoMemory>
+        requires plain { finds_room kind ≡ false }
+        requires ready { IsBetweenCalls kind (sheet_in self.old.rows) self.old.book }
         requires room { (sheet_in self.old.rows).ended < 2 ^ 62 - 1 }
-        ensures ready { IsBetweenCalls Kind.Range (sheet_in self.new.rows) self.new.book }
+        ensures ready { IsBetweenCalls kind (sheet_in self.new.rows) self.new.book }
         ensures ended { (sheet_in self.new.rows).ended ≡ (sheet_in self.old.rows).ended + 1 }
     {
         let root = root_of(&mut self.rows);
         assert!(rt; root != 0);
-        empty(&mut self.rows, &mut self.book);
+        empty(&mut self.rows, &mut self.book, kind);
         self.list.act(&Call::Clear)?;
         self.expect_same(rt, alloc, range!(0, TOP, 0))
     }
@@ -207,15 +217,17 @@ impl Tree {
         &mut self,
         rt: &impl Abort,
         alloc: Global,
+        kind: Kind,
         ranges: &[Range],
     ) -> Result<(), NoMemory>
-        requires ready { IsBetweenCalls Kind.Range (sheet_in self.old.rows) self.old.book }
+        requires plain { finds_room kind ≡ false }
+        requires ready { IsBetweenCalls kind (sheet_in self.old.rows) self.old.book }
         requires room { (sheet_in self.old.rows).ended + length ranges.now < 2 ^ 62 }
-        ensures ready { IsBetweenCalls Kind.Range (sheet_in self.new.rows) self.new.book }
+        ensures ready { IsBetweenCalls kind (sheet_in self.new.rows) self.new.book }
         ensures ended { (sheet_in self.new.rows).ended ≤ (sheet_in self.old.rows).ended + length ranges.now }
     {
         for range in ranges {
-            self.store(rt, alloc, *range)?;
+            self.store(rt, alloc, kind, *range)?;
         }
         Ok(())
     }
@@ -227,7 +239,7 @@ impl Tree {
     {
         let root = root_of(&mut self.rows);
         let words = words_of(&mut self.rows, alloc)?;
-        Ok(height_in(words.as_slice(), root))
+        Ok(height_in(self.rows.width(), words.as_slice(), root))
     }
 
     /// Stores a range, and tells what that made of the tree.
@@ -235,13 +247,15 @@ impl Tree {
         &mut self,
         rt: &impl Abort,
         alloc: Global,
+        kind: Kind,
         range: Range,
     ) -> Result<Shape, NoMemory>
-        requires ready { IsBetweenCalls Kind.Range (sheet_in self.old.rows) self.old.book }
+        requires plain { finds_room kind ≡ false }
+        requires ready { IsBetweenCalls kind (sheet_in self.old.rows) self.old.book }
         requires room { (sheet_in self.old.rows).ended < 2 ^ 62 - 1 }
     {
         let (free, held) = (self.book.free(), self.book.held());
-        let place = self.store(rt, alloc, range)?;
+        let place = self.store(rt, alloc, kind, range)?;
         Ok(Shape {
             at_root: place == Place::Root,
             height: self.height(alloc)?,
@@ -252,19 +266,20 @@ impl Tree {
     }
 }
 
-/// Tries each of these stores on a tree of its own, into which the ranges `before` were stored.
+/// Tries each of these stores on a tree of its own of this kind, into which the ranges `before` were stored.
 fn expect_each(
     rt: &impl Abort,
     alloc: Global,
+    kind: Kind,
     before: &[Range],
     cases: &[Case],
 ) -> Result<(), NoMemory> {
-    assert!(rt; before.len() < 1000);
+    assert!(rt; before.len() < 1000 && !finds_room(kind));
     for (range, want) in cases {
-        let mut tree = Tree::new(alloc)?;
-        tree.store_all(rt, alloc, before)?;
-        let shape = tree.shape_after(rt, alloc, *range)?;
-        same(rt, shape, *want, *range);
+        let mut tree = Tree::new(alloc, kind)?;
+        tree.store_all(rt, alloc, kind, before)?;
+        let shape = tree.shape_after(rt, alloc, kind, *range)?;
+        same(rt, shape, *want, (kind, *range));
     }
     Ok(())
 }
@@ -364,6 +379,47 @@ const THREE_LEVELS: &[Case] = &[
     (range!(0, TOP, 8), at_root!(1, 1, 1, 26)),
 ];
 
+/// No leaf of a narrow tree.
+const NARROW_EMPTY: &[Case] = &[
+    (range!(5, 5, 1), at_root!(1, 1, 1, 0)),
+    (range!(0, TOP32, 8), at_root!(1, 1, 1, 0)),
+];
+
+/// One narrow leaf, of 32 items.
+const NARROW_LEAF: &[Case] = &[
+    (range!(0, 0, 9), at_root!(1, 1, 1, 1)),
+    (range!(32, 32, 1), at_root!(2, 3, 3, 1)),
+    (range!(0, TOP32, 0), at_root!(0, 0, 0, 1)),
+    (range!(0, TOP32, 8), at_root!(1, 1, 1, 1)),
+];
+
+/// Narrow leaves of 19, 18, 18 and 31 items, which end at 18, 36 and 54. The stores are of the same forms as with wide ones.
+const BELOW_A_NARROW_ROOT: &[Case] = &[
+    (range!(0, 0, 9), in_slot!(2, 5, 1, 1)),
+    (range!(86, 86, 1), at_root!(2, 6, 3, 2)),
+    (range!(0, 7, 3), at_root!(2, 4, 2, 3)),
+    (range!(56, 82, 0), at_root!(2, 4, 2, 3)),
+    (range!(18, 18, 0), at_root!(2, 5, 3, 3)),
+    (range!(19, 54, 0), at_root!(2, 3, 2, 4)),
+    (range!(17, 54, 0), at_root!(2, 3, 3, 5)),
+    (range!(5, 60, 7), at_root!(1, 1, 1, 5)),
+    (range!(0, TOP32, 0), at_root!(0, 0, 0, 5)),
+    (range!(0, TOP32, 8), at_root!(1, 1, 1, 5)),
+];
+
+/// Two narrow inner rows, of 19 leaves and of 20; the last leaf has 31 items, and each other ends at a multiple of 18.
+const THREE_NARROW_LEVELS: &[Case] = &[
+    (range!(0, 0, 9), in_slot!(3, 42, 1, 1)),
+    (range!(716, 716, 1), in_slot!(3, 43, 3, 2)),
+    (range!(2, 36, 0), in_slot!(3, 40, 2, 4)),
+    (range!(0, 112, 3), at_root!(3, 36, 4, 10)),
+    (range!(378, 630, 0), at_root!(2, 26, 3, 19)),
+    (range!(15, 504, 5), at_root!(2, 13, 2, 31)),
+    (range!(1, 714, 0), at_root!(1, 1, 1, 42)),
+    (range!(0, TOP32, 0), at_root!(0, 0, 0, 42)),
+    (range!(0, TOP32, 8), at_root!(1, 1, 1, 42)),
+];
+
 /// So many ranges of one index, at the even indexes, and what stores make of them.
 type Trial = (u32, &'static [Case]);
 
@@ -379,38 +435,58 @@ const FULL: &[Trial] = &[(83, &[(range!(166, 166, 1), at_root!(3, 20, 5, 2))])];
 
 const HIGH: &[Trial] = &[(118, THREE_LEVELS)];
 
-fn expect_trials(rt: &impl Abort, alloc: Global, trials: &[Trial]) -> Result<(), NoMemory> {
+const NARROW_SMALL: &[Trial] = &[
+    (0, NARROW_EMPTY),
+    (16, NARROW_LEAF),
+    (33, &[(range!(0, TOP32, 8), at_root!(1, 1, 1, 4))]),
+    (43, BELOW_A_NARROW_ROOT),
+];
+
+/// A root of 32 narrow leaves, of which the last has 31 items.
+const NARROW_FULL: &[Trial] = &[(295, &[(range!(590, 590, 1), at_root!(3, 36, 5, 2))])];
+
+const NARROW_HIGH: &[Trial] = &[(358, THREE_NARROW_LEVELS)];
+
+fn expect_trials(
+    rt: &impl Abort,
+    alloc: Global,
+    kind: Kind,
+    trials: &[Trial],
+) -> Result<(), NoMemory> {
     for &(count, cases) in trials {
         let before = singles(alloc, count)?;
-        expect_each(rt, alloc, before.as_slice(), cases)?;
+        expect_each(rt, alloc, kind, before.as_slice(), cases)?;
     }
     Ok(())
 }
 
 #[test]
 fn replaces_no_leaf_and_those_below_a_root(rt: HostRuntime) -> Result<(), Fail> {
-    expect_trials(&rt, rt.alloc(), SMALL)?;
+    expect_trials(&rt, rt.alloc(), Kind::Range, SMALL)?;
+    expect_trials(&rt, rt.alloc(), Kind::Range32, NARROW_SMALL)?;
     Ok(())
 }
 
 #[test]
 fn splits_a_full_root(rt: HostRuntime) -> Result<(), Fail> {
-    expect_trials(&rt, rt.alloc(), FULL)?;
+    expect_trials(&rt, rt.alloc(), Kind::Range, FULL)?;
+    expect_trials(&rt, rt.alloc(), Kind::Range32, NARROW_FULL)?;
     Ok(())
 }
 
 #[test]
 fn replaces_rows_of_three_levels(rt: HostRuntime) -> Result<(), Fail> {
-    expect_trials(&rt, rt.alloc(), HIGH)?;
+    expect_trials(&rt, rt.alloc(), Kind::Range, HIGH)?;
+    expect_trials(&rt, rt.alloc(), Kind::Range32, NARROW_HIGH)?;
     Ok(())
 }
 
 #[test]
 fn stores_of_single_indexes(rt: HostRuntime) -> Result<(), Fail> {
-    let mut tree = Tree::new(rt.alloc())?;
+    let mut tree = Tree::new(rt.alloc(), Kind::Range)?;
     let ranges = singles(rt.alloc(), 17)?;
     assert!(&rt; ranges.len() == 17);
-    tree.store_all(&rt, rt.alloc(), ranges.as_slice())?;
+    tree.store_all(&rt, rt.alloc(), Kind::Range, ranges.as_slice())?;
     let listed = tree.list.list(rt.alloc())?;
     same(&rt, listed.as_slice(), ranges.as_slice(), "the list");
     Ok(())
@@ -424,18 +500,36 @@ fn splits_two_leaves_in_three(rt: HostRuntime) -> Result<(), Fail> {
         before.push(range!(at, at, 1))?;
     }
     let cases = [(range!(109, 110, 9), at_root!(2, 5, 4, 3))];
-    expect_each(&rt, rt.alloc(), before.as_slice(), &cases)?;
+    expect_each(&rt, rt.alloc(), Kind::Range, before.as_slice(), &cases)?;
     Ok(())
 }
 
-/// Empties a tree with so many ranges of one index, of which so many rows are live then, and none behind it.
-fn expect_emptied(rt: &impl Abort, alloc: Global, count: u32, live: u64) -> Result<(), NoMemory> {
+/// Narrow leaves of 32, 32 and 15 items, without a hole but the last; the first ends at 189.
+#[test]
+fn splits_two_narrow_leaves_in_three(rt: HostRuntime) -> Result<(), Fail> {
+    let mut before = tens(rt.alloc(), 52)?;
+    for at in [5, 15, 25, 35, 45, 55, 60, 195, 205, 215, 225, 235, 245, 250] {
+        before.push(range!(at, at, 1))?;
+    }
+    let cases = [(range!(189, 190, 9), at_root!(2, 5, 4, 3))];
+    expect_each(&rt, rt.alloc(), Kind::Range32, before.as_slice(), &cases)?;
+    Ok(())
+}
+
+/// Empties a tree of this kind with so many ranges of one index, of which so many rows are live then, and none behind it.
+fn expect_emptied(
+    rt: &impl Abort,
+    alloc: Global,
+    kind: Kind,
+    count: u32,
+    live: u64,
+) -> Result<(), NoMemory> {
     let ranges = singles(alloc, count)?;
-    assert!(rt; ranges.len() < 1000);
-    let mut tree = Tree::new(alloc)?;
-    tree.store_all(rt, alloc, ranges.as_slice())?;
+    assert!(rt; ranges.len() < 1000 && !finds_room(kind));
+    let mut tree = Tree::new(alloc, kind)?;
+    tree.store_all(rt, alloc, kind, ranges.as_slice())?;
     let (free, held) = (tree.book.free(), tree.book.held());
-    tree.clear(rt, alloc)?;
+    tree.clear(rt, alloc, kind)?;
     let after = (tree.book.free(), tree.book.live(), tree.book.held());
     same(rt, after, (free, 0, held.saturating_add(live)), count);
     same(rt, tree.height(alloc)?, 0, count);
@@ -444,8 +538,15 @@ fn expect_emptied(rt: &impl Abort, alloc: Global, count: u32, live: u64) -> Resu
 
 #[test]
 fn empties_whole_trees(rt: HostRuntime) -> Result<(), Fail> {
-    for (count, live) in [(8, 1), (23, 5), (118, 26)] {
-        expect_emptied(&rt, rt.alloc(), count, live)?;
+    for (kind, count, live) in [
+        (Kind::Range, 8, 1),
+        (Kind::Range, 23, 5),
+        (Kind::Range, 118, 26),
+        (Kind::Range32, 16, 1),
+        (Kind::Range32, 43, 5),
+        (Kind::Range32, 358, 42),
+    ] {
+        expect_emptied(&rt, rt.alloc(), kind, count, live)?;
     }
     Ok(())
 }

@@ -1,5 +1,9 @@
+use mt_base::Kind;
 use std::fmt::Debug;
 use std::process::Abort;
+
+/// The kinds of trees.
+pub const KINDS: &[Kind] = &[Kind::Range, Kind::Alloc, Kind::Range32, Kind::Alloc32];
 
 /// What came out at a place of a test is what is wanted. It asserts for all tests, so that the code of an assertion is proved
 /// once, and not in each.

@@ -1,15 +1,16 @@
 //! The writer's rows of small tables.
 
 ghost use Rattle.std.specs.Prelude.{◌≡◌, ◌≤◌, ◌<◌, All, IfOk, false, length};
-ghost use Rattle.mt_base.specs.declared.kinds.Kind.TheVariants as trees;
+ghost use Rattle.mt_base.specs.Width.{kind_width};
+ghost use Rattle.mt_base.specs.declared.kinds.Kind.{Kind};
 ghost use Rattle.mt_rows.specs.Plain.{new_sheet};
 ghost use Rattle.mt_rule.specs.Limits.{most_passes};
 ghost use Rattle.mt_rule.specs.Seats.{new_pen};
 ghost use Rattle.mt_rule.specs.Tokens.{identity_of, shape_opened, turn_seat, IsPassOf, pen_in, IsPenOf, IsAlone};
 ghost use Rattle.mt_pen.specs.Works.{OpensSmall};
 
-use crate::asserts::same;
-use mt_base::{Call, Holder, Kind, NoMemory, Reply, Steps, Width};
+use crate::asserts::{KINDS, same};
+use mt_base::{Call, Holder, Kind, NoMemory, Reply, Steps, cols, width_of};
 use mt_pen::{PenRows, Writer};
 use mt_rows::{PlainRows, Rows, Scan};
 use mt_rule::{MtTable, Pass, Pen};
@@ -19,16 +20,16 @@ use std::process::Abort;
 use std::sync::ledger::{Blank, Ledger};
 use std::test::Fail;
 
-/// A table of three new rows, its pen and its passes.
-fn table_of(alloc: Global, passes: u32) -> Result<(MtTable, Pen, Vec<Pass>), NoMemory>
+/// A table of three new rows for a tree of this kind, its pen and its passes.
+fn table_of(alloc: Global, kind: Kind, passes: u32) -> Result<(MtTable, Pen, Vec<Pass>), NoMemory>
     requires some { 1 ≤ passes }
     requires few { passes ≤ most_passes }
-    ensures shape { IfOk result (λ r. (identity_of r.0).shape ≡ shape_opened trees.Range (new_sheet 3) passes 8) }
-    ensures pen { IfOk result (λ r. IsPenOf (identity_of r.0) r.1 × IsAlone r.1 × (pen_in r.1 ≡ record (new_pen (identity_of r.0).shape (new_sheet 3).tree) { dealt = passes })) }
+    ensures shape { IfOk result (λ r. (identity_of r.0).shape ≡ shape_opened kind (new_sheet (kind_width kind) 3) passes 8) }
+    ensures pen { IfOk result (λ r. IsPenOf (identity_of r.0) r.1 × IsAlone r.1 × (pen_in r.1 ≡ record (new_pen (identity_of r.0).shape (new_sheet (kind_width kind) 3).tree) { dealt = passes })) }
     ensures of { IfOk result (λ r. All (IsPassOf (identity_of r.0)) r.2.items) }
 {
-    let rows = PlainRows::new(alloc, 3)?;
-    MtTable::make(alloc, Kind::Range, rows, passes, 8)
+    let rows = PlainRows::of_width(alloc, width_of(kind), 3)?;
+    MtTable::make(alloc, kind, rows, passes, 8)
 }
 
 /// The last pass that is left.
@@ -44,22 +45,23 @@ fn last_pass(table: &MtTable, passes: &mut Vec<Pass>) -> Result<Pass, Fail>
 }
 
 /// Works on new rows: a call that drafts a word and changes nothing, and another that does not even that.
-fn work<W: Writer>(rt: &impl Abort, table: &MtTable, pen: Pen, pass: Pass)
+fn work<W: Writer>(rt: &impl Abort, table: &MtTable, kind: Kind, pen: Pen, pass: Pass)
     requires table { identity_of table.now ≡ W.table }
     requires turn { turn_seat pass ≡ W.turn }
-    requires shape { (identity_of table.now).shape ≡ shape_opened trees.Range (new_sheet 3) 1 8 }
+    requires shape { (identity_of table.now).shape ≡ shape_opened kind (new_sheet (kind_width kind) 3) 1 8 }
     requires pen { IsPenOf (identity_of table.now) pen }
     requires alone { IsAlone pen }
-    requires new { pen_in pen ≡ record (new_pen (identity_of table.now).shape (new_sheet 3).tree) { dealt = 1 } }
+    requires new { pen_in pen ≡ record (new_pen (identity_of table.now).shape (new_sheet (kind_width kind) 3).tree) { dealt = 1 } }
     requires pass { IsPassOf (identity_of table.now) pass }
 {
     let mut rows: PenRows<'_, W> = PenRows::new(table, pen, pass);
     same(rt, rows.size(), 3, "the size");
-    same(rt, rows.width(), Width::Long, "the width");
+    same(rt, rows.width(), width_of(kind), "the width");
+    let last = cols(rows.width()) - 1;
     same(rt, rows.begin(), 1, "the first call");
-    rows.draft(17, 5, 4096);
-    same(rt, rows.load(17, 5), 4096, "the word");
-    same(rt, rows.load(18, 5), 0, "another word");
+    rows.draft(17, last, 4096);
+    same(rt, rows.load(17, last), 4096, "the word");
+    same(rt, rows.load(18, last), 0, "another word");
     rows.finish(&Call::Erase { index: 5 }, &Reply::None);
     same(rt, rows.begin(), 2, "the second call");
     same(rt, rows.root(), 0, "the root");
@@ -67,11 +69,19 @@ fn work<W: Writer>(rt: &impl Abort, table: &MtTable, pen: Pen, pass: Pass)
     let _ = rows.end();
 }
 
+/// Works on the new rows of a tree of this kind.
+fn work_on_rows(rt: &impl Abort, alloc: Global, kind: Kind) -> Result<(), Fail> {
+    let (table, pen, mut passes) = table_of(alloc, kind, 1)?;
+    let pass = last_pass(&table, &mut passes)?;
+    work::<Brand>(rt, &table, kind, pen, pass);
+    Ok(())
+}
+
 #[test]
 fn rows_of_a_table(rt: HostRuntime) -> Result<(), Fail> {
-    let (table, pen, mut passes) = table_of(rt.alloc(), 1)?;
-    let pass = last_pass(&table, &mut passes)?;
-    work::<Brand>(&rt, &table, pen, pass);
+    for &kind in KINDS {
+        work_on_rows(&rt, rt.alloc(), kind)?;
+    }
     Ok(())
 }
 
@@ -131,7 +141,7 @@ fn held_by(pass: u32) -> Scan {
 
 #[test]
 fn a_scan_finds_who_reads(rt: HostRuntime) -> Result<(), Fail> {
-    let (table, pen, mut passes) = table_of(rt.alloc(), 3)?;
+    let (table, pen, mut passes) = table_of(rt.alloc(), Kind::Range32, 3)?;
     let mut last = last_pass(&table, &mut passes)?;
     let mut middle = last_pass(&table, &mut passes)?;
     let pass = last_pass(&table, &mut passes)?;

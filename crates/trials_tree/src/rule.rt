@@ -2,17 +2,17 @@
 
 ghost use Rattle.std.specs.Prelude.{◌≡◌, ◌≤◌, false, All, IfOk};
 ghost use Rattle.std.specs.Thread.{IsSync};
-ghost use Rattle.mt_base.specs.declared.kinds.Kind.TheVariants as kinds;
 ghost use Rattle.mt_rule.specs.Limits.{most_calls};
 ghost use Rattle.mt_rule.specs.Tokens.{identity_of, identity_of_pen, pen_in, IsAlone, IsPassOf};
 ghost use Rattle.mt_rule.specs.Turns.{served, IsSeatedAt};
 
-use crate::asserts::same;
-use mt_base::{Call, Kind, Reply};
+use crate::asserts::{KINDS, same};
+use mt_base::{Call, Kind, Reply, width_of};
 use mt_rows::PlainRows;
 use mt_rule::{MtTable, Note, OfTable, Pass, Pen, Turn};
 use std::alloc::Global;
 use std::mem;
+use std::process::Abort;
 use std::sync::Wait;
 use std::test::Fail;
 use std::thread::{Threads, join};
@@ -31,25 +31,23 @@ impl OfTable for IdlePen {
 
 impl IdlePen {
     ghost use Rattle.std.specs.Prelude.{◌≡◌, ◌≤◌};
-    ghost use Rattle.mt_base.specs.declared.kinds.Kind.TheVariants as kinds;
     ghost use Rattle.mt_rule.specs.Limits.{most_calls};
     ghost use Rattle.mt_rule.specs.Tokens.{identity_of, IsPenOf, IsPassOf, turn_seat};
 
-    /// Seeks room in a tree of ranges, where one more call may be made. Tells how many were made before.
-    fn seek(&mut self, table: &MtTable, pass: &mut Pass, calls: u64) -> u64
+    /// Stores over a range that ends before it begins, where one more call may be made. Tells how many were made before.
+    fn call(&mut self, table: &MtTable, pass: &mut Pass, calls: u64) -> u64
         requires pen { IsPenOf (identity_of table.now) self.old.pen }
         requires pass { IsPassOf (identity_of table.now) pass.old }
-        requires kind { (identity_of table.now).shape.kind ≡ kinds.Range }
         requires calls { calls ≤ most_calls }
         ensures pen { IsPenOf (identity_of table.now) self.new.pen }
         ensures pass { IsPassOf (identity_of table.now) pass.new }
         ensures turn { turn_seat pass.new ≡ turn_seat pass.old }
     {
         let before = table.join_pen(&mut self.pen, mem::replace(pass, Pass::away()));
-        let call = Call::Gap {
-            size: 1,
-            min: 0,
-            max: 9,
+        let call = Call::Store {
+            first: 9,
+            last: 0,
+            entry: 1,
         };
         if before < calls {
             table.store_begun(&mut self.pen);
@@ -67,7 +65,6 @@ struct Shared {
     turn: Turn<IdlePen>,
     calls: u64,
     ghost serves: { served turn.table.shared.key ≡ identity_of table },
-    ghost kind: { (identity_of table).shape.kind ≡ kinds.Range },
     ghost limit: { calls ≤ most_calls },
 }
 
@@ -76,27 +73,27 @@ impl Shared {
     ghost use Rattle.mt_rule.specs.Turns.{IsSeatedAt};
 
     /// The same under the lock.
-    fn seek(&self, rt: &impl Wait, pass: &mut Pass) -> u64
+    fn call(&self, rt: &impl Wait, pass: &mut Pass) -> u64
         requires of { IsPassOf (identity_of self.now.table) pass.old }
         requires seated { IsSeatedAt self.now.turn.table.shared.table_id self.now.turn.table.shared.key pass.old }
         ensures of { IsPassOf (identity_of self.now.table) pass.new }
         ensures seated { IsSeatedAt self.now.turn.table.shared.table_id self.now.turn.table.shared.key pass.new }
     {
         let mut taken = self.turn.take(rt, pass);
-        let before = taken.value.seek(&self.table, pass, self.calls);
+        let before = taken.value.call(&self.table, pass, self.calls);
         self.turn.give(taken);
         before
     }
 }
 
-/// A table for a tree of so many calls at the most, and its two passes.
-fn opened(alloc: Global, calls: u64) -> Result<(Shared, Vec<Pass>), Fail>
+/// A table for a tree of this kind and of so many calls at the most, and its two passes.
+fn opened(alloc: Global, kind: Kind, calls: u64) -> Result<(Shared, Vec<Pass>), Fail>
     requires { (1 ≤ calls) × (calls ≤ most_calls) }
     ensures of { IfOk result (λ r. All (IsPassOf (identity_of r.0.table)) r.1.items) }
     ensures seated { IfOk result (λ r. All (IsSeatedAt r.0.turn.table.shared.table_id r.0.turn.table.shared.key) r.1.items) }
 {
-    let rows = PlainRows::new(alloc, 4)?;
-    let (table, pen, mut passes) = MtTable::make(alloc, Kind::Range, rows, 2, calls)?;
+    let rows = PlainRows::of_width(alloc, width_of(kind), 4)?;
+    let (table, pen, mut passes) = MtTable::make(alloc, kind, rows, 2, calls)?;
     let turn = Turn::make(alloc, &table, IdlePen { pen }, passes.as_mut_slice())?;
     Ok((Shared { table, turn, calls }, passes))
 }
@@ -115,13 +112,13 @@ fn last_pass(shared: &Shared, passes: &mut Vec<Pass>) -> Result<Pass, Fail>
 }
 
 /// One call of a pass that a thread takes along.
-fn seeking(rt: &impl Wait, shared: &Shared, mut pass: Pass) -> Pass
+fn calling(rt: &impl Wait, shared: &Shared, mut pass: Pass) -> Pass
     requires of { IsPassOf (identity_of shared.now.table) pass }
     requires seated { IsSeatedAt shared.now.turn.table.shared.table_id shared.now.turn.table.shared.key pass }
     ensures of { IsPassOf (identity_of shared.now.table) result }
     ensures seated { IsSeatedAt shared.now.turn.table.shared.table_id shared.now.turn.table.shared.key result }
 {
-    let _ = shared.seek(rt, &mut pass);
+    let _ = shared.call(rt, &mut pass);
     pass
 }
 
@@ -137,26 +134,43 @@ fn both<R: Threads + Wait + Sync>(rt: &R, shared: &Shared, one: Pass, two: Pass)
         || -> Pass
             requires { IsSync R.row × IsPassOf (identity_of shared.now.table) one × IsSeatedAt shared.now.turn.table.shared.table_id shared.now.turn.table.shared.key one }
             ensures { IsPassOf (identity_of shared.entry.now.table) result × IsSeatedAt shared.entry.now.turn.table.shared.table_id shared.entry.now.turn.table.shared.key result }
-        { seeking(rt, shared, one) },
+        { calling(rt, shared, one) },
         || -> Pass
             requires { IsSync R.row × IsPassOf (identity_of shared.now.table) two × IsSeatedAt shared.now.turn.table.shared.table_id shared.now.turn.table.shared.key two }
             ensures { IsPassOf (identity_of shared.entry.now.table) result × IsSeatedAt shared.entry.now.turn.table.shared.table_id shared.entry.now.turn.table.shared.key result }
-        { seeking(rt, shared, two) },
+        { calling(rt, shared, two) },
     )
+}
+
+/// The calls of two passes of a tree of this kind, in two threads and then in this one.
+fn take_turns<R: Threads + Wait + Sync + Abort>(
+    rt: &R,
+    alloc: Global,
+    kind: Kind,
+) -> Result<(), Fail> {
+    let (shared, mut passes) = opened(alloc, kind, 3)?;
+    let two = last_pass(&shared, &mut passes)?;
+    let one = last_pass(&shared, &mut passes)?;
+    same(
+        rt,
+        (one.number(), two.number()),
+        (0, 1),
+        (kind, "the start"),
+    );
+    let (mut one, mut two) = both(rt, &shared, one, two);
+    same(rt, shared.call(rt, &mut two), 2, (kind, "the third call"));
+    same(rt, shared.call(rt, &mut one), 3, (kind, "a fourth call"));
+    // No fourth call was made.
+    same(rt, shared.call(rt, &mut two), 3, (kind, "another"));
+    same(rt, (one.number(), two.number()), (0, 1), (kind, "the end"));
+    Ok(())
 }
 
 #[test]
 fn two_threads_make_their_calls_by_turns(rt: HostRuntime) -> Result<(), Fail> {
-    let (shared, mut passes) = opened(rt.alloc(), 3)?;
-    let two = last_pass(&shared, &mut passes)?;
-    let one = last_pass(&shared, &mut passes)?;
-    same(&rt, (one.number(), two.number()), (0, 1), "the start");
-    let (mut one, mut two) = both(&rt, &shared, one, two);
-    same(&rt, shared.seek(&rt, &mut two), 2, "the third call");
-    same(&rt, shared.seek(&rt, &mut one), 3, "a fourth call");
-    // No fourth call was made.
-    same(&rt, shared.seek(&rt, &mut two), 3, "another");
-    same(&rt, (one.number(), two.number()), (0, 1), "the end");
+    for &kind in KINDS {
+        take_turns(&rt, rt.alloc(), kind)?;
+    }
     Ok(())
 }
 

@@ -4,7 +4,7 @@ ghost use Rattle.std.specs.Prelude.{All, IfOk};
 ghost use Rattle.std.specs.Thread.{IsSync};
 ghost use Rattle.mt_tree.specs.Trees.{AreAll, IsPassOf};
 
-use crate::asserts::same;
+use crate::asserts::{KINDS, same};
 use mt_tree::{
     Done, DupError, Field, Form, Kind, MakeError, Pass, Query, Range, Read, Reply, Shape, Shortage,
     Tree, Worn,
@@ -15,10 +15,10 @@ use std::sync::Wait;
 use std::test::Fail;
 use std::thread::{Threads, join};
 
-/// A shape of a tree of ranges.
-fn shape_of(rows: u64, passes: u32, calls: u64) -> Shape {
+/// A shape of a tree of this kind.
+fn shape_of(kind: Kind, rows: u64, passes: u32, calls: u64) -> Shape {
     Shape {
-        kind: Kind::Range,
+        kind,
         rows,
         passes,
         calls,
@@ -90,7 +90,7 @@ const SHAPES: &[(u64, u32, u64, Option<MakeError>)] = &[
 #[test]
 fn shapes_out_of_range_are_refused(rt: HostRuntime) {
     for &(rows, passes, calls, why) in SHAPES {
-        let refused = refused(rt.alloc(), shape_of(rows, passes, calls));
+        let refused = refused(rt.alloc(), shape_of(Kind::Alloc32, rows, passes, calls));
         same(&rt, refused, why, (rows, passes, calls));
     }
 }
@@ -140,19 +140,119 @@ fn done(call: u64, reply: Reply) -> Result<Done, Worn> {
     Ok(Done { call, reply })
 }
 
+/// A tree of this kind with four rows runs short at its second call, which is its last.
+fn expect_short<R: Abort + Wait>(rt: &R, alloc: Global, kind: Kind) -> Result<(), Fail> {
+    let (tree, mut passes) = made(alloc, shape_of(kind, 4, 1, 2))?;
+    let mut pass = last_pass(&tree, &mut passes)?;
+    let stored = tree.store_range(rt, &mut pass, 1, 1, 5);
+    same(rt, stored, done(1, Reply::Ok), "the store");
+    let erased = tree.erase(rt, &mut pass, 1);
+    same(rt, erased, done(2, Reply::NoNodes(SHORT)), "the erase");
+    let cleared = tree.clear(rt, &mut pass);
+    same(rt, cleared, Err(Worn { calls: 2 }), "the clear");
+    let loaded = tree.ask(&mut pass, &Query::Load { index: 1 });
+    same(rt, loaded, Ok(LOADED), "the load");
+    expect_one_range(rt, alloc, &tree, &mut pass, 5)
+}
+
 #[test]
 fn a_small_tree_runs_short_and_is_worn(rt: HostRuntime) -> Result<(), Fail> {
-    let (tree, mut passes) = made(rt.alloc(), shape_of(4, 1, 2))?;
+    for &kind in KINDS {
+        expect_short(&rt, rt.alloc(), kind)?;
+    }
+    Ok(())
+}
+
+/// The greatest index of a narrow tree.
+const TOP: u64 = u32::MAX as u64;
+
+/// What stands at that index.
+const LAST: Option<Range> = Some(Range {
+    first: TOP,
+    last: TOP,
+    entry: 5,
+});
+
+macro_rules! asked {
+    ($($verb:ident { $($field:ident: $value:expr),* } => $want:expr;)*) => {
+        &[$((Query::$verb { $($field: $value),* }, $want)),*]
+    };
+}
+
+/// Queries of a narrow tree that holds its greatest index alone, from there and from above, and what they find.
+const ABOVE: &[(Query, Option<Range>)] = asked! {
+    Load { index: TOP } => LAST;
+    Load { index: TOP + 1 } => None;
+    Load { index: u64::MAX } => None;
+    Find { index: TOP, max: u64::MAX } => LAST;
+    Find { index: TOP + 1, max: u64::MAX } => None;
+    Next { index: TOP - 1, max: u64::MAX } => LAST;
+    Next { index: TOP, max: u64::MAX } => None;
+    Next { index: TOP + 1, max: u64::MAX } => None;
+    Prev { index: TOP, min: 0 } => None;
+    Prev { index: TOP + 1, min: 0 } => LAST;
+    Prev { index: u64::MAX, min: TOP } => LAST;
+    Prev { index: u64::MAX, min: TOP + 1 } => None;
+    Rfind { index: u64::MAX, min: TOP } => LAST;
+    Rfind { index: u64::MAX, min: TOP + 1 } => None;
+};
+
+/// What a query finds under the lock.
+fn found(rt: &impl Wait, tree: &Tree, pass: &mut Pass, query: &Query) -> Option<Range>
+    requires { IsPassOf tree.now pass.old }
+    ensures { IsPassOf tree.now pass.new }
+{
+    let mut write = tree.lock(rt, pass);
+    let read = write.ask(query);
+    write.unlock();
+    read.value
+}
+
+/// A query finds this without the lock and under it.
+fn expect_found<R: Abort + Wait>(
+    rt: &R,
+    tree: &Tree,
+    pass: &mut Pass,
+    query: &Query,
+    want: Option<Range>,
+)
+    requires { IsPassOf tree.now pass.old }
+    ensures { IsPassOf tree.now pass.new }
+{
+    let read = tree.ask(pass, query).map(|read| read.value);
+    same(rt, read, Ok(want), "without the lock");
+    let found = found(rt, tree, pass, query);
+    same(rt, found, want, "under the lock");
+}
+
+/// The queries find what they should.
+fn expect_above<R: Abort + Wait>(rt: &R, tree: &Tree, pass: &mut Pass)
+    requires { IsPassOf tree.now pass.old }
+    ensures { IsPassOf tree.now pass.new }
+{
+    for asked in ABOVE {
+        expect_found(rt, tree, pass, &asked.0, asked.1);
+    }
+}
+
+/// A narrow tree of this kind ends at its greatest index.
+fn expect_end<R: Abort + Wait>(rt: &R, alloc: Global, kind: Kind) -> Result<(), Fail> {
+    let (tree, mut passes) = made(alloc, shape_of(kind, 64, 1, 9))?;
     let mut pass = last_pass(&tree, &mut passes)?;
-    let stored = tree.store_range(&rt, &mut pass, 1, 1, 5);
-    same(&rt, stored, done(1, Reply::Ok), "the store");
-    let erased = tree.erase(&rt, &mut pass, 1);
-    same(&rt, erased, done(2, Reply::NoNodes(SHORT)), "the erase");
-    let cleared = tree.clear(&rt, &mut pass);
-    same(&rt, cleared, Err(Worn { calls: 2 }), "the clear");
-    let loaded = tree.ask(&mut pass, &Query::Load { index: 1 });
-    same(&rt, loaded, Ok(LOADED), "the load");
-    expect_one_range(&rt, rt.alloc(), &tree, &mut pass, 5)
+    let stored = tree.store_range(rt, &mut pass, TOP, TOP, 5);
+    same(rt, stored, done(1, Reply::Ok), "the store");
+    let stored = tree.store_range(rt, &mut pass, TOP, TOP + 1, 5);
+    same(rt, stored, done(2, Reply::Invalid), "a store above");
+    let erased = tree.erase(rt, &mut pass, TOP + 1);
+    same(rt, erased, done(3, Reply::None), "an erase above");
+    expect_above(rt, &tree, &mut pass);
+    Ok(())
+}
+
+#[test]
+fn a_narrow_tree_ends_at_its_greatest_index(rt: HostRuntime) -> Result<(), Fail> {
+    expect_end(&rt, rt.alloc(), Kind::Range32)?;
+    expect_end(&rt, rt.alloc(), Kind::Alloc32)
 }
 
 /// Stores an entry at each even index below 200.
@@ -207,20 +307,44 @@ fn copied(
     }
 }
 
-/// No copy of another kind or with too few rows is made of a tree with an entry at each even index below 200.
-fn expect_not_copied<R: Abort + Wait>(rt: &R, alloc: Global, tree: &Tree, pass: &mut Pass)
+/// A kind of trees, another kind, and how many rows a tree of the first has at the least that has an entry at each even index
+/// below 200: a leaf has 16 items at the most, or 32, and one hole lies between two ranges.
+#[derive(Clone, Copy)]
+struct Filled {
+    kind: Kind,
+    other: Kind,
+    least: u64,
+}
+
+macro_rules! filled {
+    ($($kind:ident $other:ident $least:literal),*) => {
+        &[$(Filled { kind: Kind::$kind, other: Kind::$other, least: $least }),*]
+    };
+}
+
+const FILLED: &[Filled] = filled![
+    Range Alloc 14, Alloc Alloc32 14, Range32 Range 8, Alloc32 Range32 8
+];
+
+/// No copy of another kind or with too few rows is made of such a tree.
+fn expect_not_copied<R: Abort + Wait>(
+    rt: &R,
+    alloc: Global,
+    tree: &Tree,
+    pass: &mut Pass,
+    filled: Filled,
+)
     requires { IsPassOf tree.now pass.old }
     ensures { IsPassOf tree.now pass.new }
 {
-    let why = not_copied(rt, alloc, tree, pass, Kind::Alloc, 4);
+    let why = not_copied(rt, alloc, tree, pass, filled.other, 4);
     same(rt, why, Some(DupError::Invalid), 4);
-    let why = not_copied(rt, alloc, tree, pass, Kind::Alloc, 3);
+    let why = not_copied(rt, alloc, tree, pass, filled.other, 3);
     let field = Field::Rows;
     same(rt, why, Some(DupError::BadShape { field }), 3);
     let Form { rows, ranges, .. } = tree.check(rt, pass);
-    // A leaf has at most 16 items, and here one hole lies between two ranges.
-    same(rt, (rows >= 14, ranges), (true, 100), rows);
-    let why = not_copied(rt, alloc, tree, pass, Kind::Range, 4);
+    same(rt, (rows >= filled.least, ranges), (true, 100), rows);
+    let why = not_copied(rt, alloc, tree, pass, filled.kind, 4);
     let (rows, live) = (4, rows);
     same(rt, why, Some(DupError::NoNodes { rows, live }), rows);
 }
@@ -231,11 +355,12 @@ fn expect_copy<R: Abort + Wait>(
     alloc: Global,
     tree: &Tree,
     pass: &mut Pass,
+    kind: Kind,
 ) -> Result<(), Fail>
     requires { IsPassOf tree.now pass.old }
 {
     let form = tree.check(rt, pass);
-    let (copy, mut others) = copied(rt, alloc, tree, pass, shape_of(4096, 1, 9))?;
+    let (copy, mut others) = copied(rt, alloc, tree, pass, shape_of(kind, 4096, 1, 9))?;
     let mut other = last_pass(&copy, &mut others)?;
     let ranges = listed(rt, alloc, tree, pass)?;
     let copied = listed(rt, alloc, &copy, &mut other)?;
@@ -248,13 +373,22 @@ fn expect_copy<R: Abort + Wait>(
     Ok(())
 }
 
+/// A tree of this kind is copied, where the copy is of its kind and has rows enough.
+fn expect_copied<R: Abort + Wait>(rt: &R, alloc: Global, filled: Filled) -> Result<(), Fail> {
+    let kind = filled.kind;
+    let (tree, mut passes) = made(alloc, shape_of(kind, 4096, 1, 1000))?;
+    let mut pass = last_pass(&tree, &mut passes)?;
+    fill(rt, &tree, &mut pass);
+    expect_not_copied(rt, alloc, &tree, &mut pass, filled);
+    expect_copy(rt, alloc, &tree, &mut pass, kind)
+}
+
 #[test]
 fn copies_open_with_the_same_ranges(rt: HostRuntime) -> Result<(), Fail> {
-    let (tree, mut passes) = made(rt.alloc(), shape_of(4096, 1, 1000))?;
-    let mut pass = last_pass(&tree, &mut passes)?;
-    fill(&rt, &tree, &mut pass);
-    expect_not_copied(&rt, rt.alloc(), &tree, &mut pass);
-    expect_copy(&rt, rt.alloc(), &tree, &mut pass)
+    for filled in FILLED {
+        expect_copied(&rt, rt.alloc(), *filled)?;
+    }
+    Ok(())
 }
 
 /// A pass that a thread took along, and what it was answered there.
@@ -289,7 +423,7 @@ fn both<R: Threads + Wait + Sync>(rt: &R, tree: &Tree, one: Pass, two: Pass) -> 
 
 #[test]
 fn two_threads_write_one_tree(rt: HostRuntime) -> Result<(), Fail> {
-    let (tree, mut passes) = made(rt.alloc(), shape_of(64, 2, 3))?;
+    let (tree, mut passes) = made(rt.alloc(), shape_of(Kind::Alloc32, 64, 2, 3))?;
     let two = last_pass(&tree, &mut passes)?;
     let one = last_pass(&tree, &mut passes)?;
     let ((mut one, of_one), (mut two, of_two)) = both(&rt, &tree, one, two);
@@ -311,7 +445,7 @@ fn two_threads_write_one_tree(rt: HostRuntime) -> Result<(), Fail> {
 
 #[test]
 fn a_tree_takes_calls_when_its_passes_were_settled(rt: HostRuntime) -> Result<(), Fail> {
-    let (tree, mut passes) = made(rt.alloc(), shape_of(64, 3, 9))?;
+    let (tree, mut passes) = made(rt.alloc(), shape_of(Kind::Range, 64, 3, 9))?;
     tree.settle(&rt, passes.as_mut_slice());
     let mut pass = last_pass(&tree, &mut passes)?;
     let stored = tree.store_range(&rt, &mut pass, 1, 1, 7);

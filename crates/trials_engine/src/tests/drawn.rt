@@ -1,7 +1,7 @@
 ghost use Rattle.std.specs.Prelude.{◌≡◌, ◌<◌, ◌+◌, ◌-◌, ◌^◌, OnOk};
 ghost use Rattle.mt_base.specs.declared.kinds.Kind.TheVariants as kinds;
 
-use crate::tests::{TOP, expect_answers, fresh, fresh_of, same};
+use crate::tests::{TOP, TOP32, expect_answers, fresh_of, same};
 use mt_base::{Call, Kind, MOST_ROWS, NoMemory, Query, Reply};
 use mt_engine::Engine;
 use mt_list::{ListMap, Ranges};
@@ -10,15 +10,16 @@ use std::alloc::Global;
 use std::process::Abort;
 use std::test::Fail;
 
-/// So many indexes from 0 on are drawn, and so many of the last.
+/// So many indexes from 0 on are drawn, and so many of the last and right above them.
 const INDEXES: u32 = 20_000;
 
 const LAST_INDEXES: u32 = 8;
 
-/// A stream of numbers that looks random, and is the same at each run.
+/// A stream of numbers that looks random, and is the same at each run; for a tree with this last index.
 #[derive(Drop)]
 struct Draws {
     state: u64,
+    last: u64,
 }
 
 impl Draws {
@@ -32,11 +33,17 @@ impl Draws {
         (scaled >> 32) as u32
     }
 
+    /// An index: now and then one of the last, one right above them, or one of the greatest that are asked of any tree.
     fn index(&mut self) -> u64 {
-        if self.below(32) == 0 {
-            TOP - u64::from(self.below(LAST_INDEXES))
-        } else {
-            u64::from(self.below(INDEXES))
+        match self.below(96) {
+            0 => self
+                .last
+                .saturating_sub(u64::from(self.below(LAST_INDEXES))),
+            1 => self
+                .last
+                .saturating_add(1 + u64::from(self.below(LAST_INDEXES))),
+            2 => TOP - u64::from(self.below(LAST_INDEXES)),
+            _ => u64::from(self.below(INDEXES)),
         }
     }
 
@@ -55,10 +62,10 @@ impl Draws {
     fn search(&mut self) -> Call {
         let size = u64::from(self.below(14));
         let min = self.index();
-        let max = if self.below(4) == 0 {
-            TOP
-        } else {
-            min.saturating_add(u64::from(self.below(200)))
+        let max = match self.below(8) {
+            0 => TOP,
+            1 => self.last,
+            _ => min.saturating_add(u64::from(self.below(200))),
         };
         let entry = self.entry();
         match self.below(4) {
@@ -147,14 +154,33 @@ fn expect_calls(
     Ok(())
 }
 
+/// A hundred thousand drawn calls on a tree of this kind, with this last index.
+fn expect_ranges(
+    rt: &impl Abort,
+    alloc: Global,
+    kind: Kind,
+    draws: &mut Draws,
+) -> Result<(), NoMemory> {
+    let mut engine = fresh_of(alloc, kind, MOST_ROWS)?;
+    let mut list = ListMap::new(alloc, kind);
+    for _ in 0..100_u64 {
+        expect_calls(rt, alloc, &mut engine, &mut list, draws)?;
+    }
+    Ok(())
+}
+
 #[test]
 fn a_hundred_thousand_calls_are_answered_as_by_a_list(rt: HostRuntime) -> Result<(), Fail> {
-    let mut engine = fresh(rt.alloc(), MOST_ROWS)?;
-    let mut list = ListMap::new(rt.alloc(), Kind::Range);
-    let mut draws = Draws { state: 1 };
-    for _ in 0..100_u64 {
-        expect_calls(&rt, rt.alloc(), &mut engine, &mut list, &mut draws)?;
-    }
+    let mut wide = Draws {
+        state: 1,
+        last: TOP,
+    };
+    expect_ranges(&rt, rt.alloc(), Kind::Range, &mut wide)?;
+    let mut narrow = Draws {
+        state: 4,
+        last: TOP32,
+    };
+    expect_ranges(&rt, rt.alloc(), Kind::Range32, &mut narrow)?;
     Ok(())
 }
 
@@ -172,27 +198,49 @@ fn fill(rt: &impl Abort, engine: &mut Engine<PlainRows>, list: &mut ListMap) -> 
     Ok(())
 }
 
-#[test]
-fn ten_thousand_calls_on_areas_are_answered_as_by_a_list(rt: HostRuntime) -> Result<(), Fail> {
-    let mut engine = fresh_of(rt.alloc(), Kind::Alloc, MOST_ROWS)?;
-    let mut list = ListMap::new(rt.alloc(), Kind::Alloc);
-    let mut draws = Draws { state: 3 };
-    fill(&rt, &mut engine, &mut list)?;
+/// Ten thousand drawn calls on a tree of this kind, with a thousand ranges.
+fn expect_areas(
+    rt: &impl Abort,
+    alloc: Global,
+    kind: Kind,
+    draws: &mut Draws,
+) -> Result<(), NoMemory> {
+    let mut engine = fresh_of(alloc, kind, MOST_ROWS)?;
+    let mut list = ListMap::new(alloc, kind);
+    fill(rt, &mut engine, &mut list)?;
     for _ in 0..10_u64 {
-        expect_calls(&rt, rt.alloc(), &mut engine, &mut list, &mut draws)?;
+        expect_calls(rt, alloc, &mut engine, &mut list, draws)?;
     }
     Ok(())
 }
 
 #[test]
+fn ten_thousand_calls_on_areas_are_answered_as_by_a_list(rt: HostRuntime) -> Result<(), Fail> {
+    let mut wide = Draws {
+        state: 3,
+        last: TOP,
+    };
+    expect_areas(&rt, rt.alloc(), Kind::Alloc, &mut wide)?;
+    let mut narrow = Draws {
+        state: 5,
+        last: TOP32,
+    };
+    expect_areas(&rt, rt.alloc(), Kind::Alloc32, &mut narrow)?;
+    Ok(())
+}
+
+#[test]
 fn an_engine_made_again_of_its_parts_goes_on(rt: HostRuntime) -> Result<(), Fail> {
-    let mut engine = fresh(rt.alloc(), MOST_ROWS)?;
-    let mut list = ListMap::new(rt.alloc(), Kind::Range);
-    let mut draws = Draws { state: 2 };
-    for _ in 0..100_u64 {
+    let mut engine = fresh_of(rt.alloc(), Kind::Range32, MOST_ROWS)?;
+    let mut list = ListMap::new(rt.alloc(), Kind::Range32);
+    let mut draws = Draws {
+        state: 2,
+        last: TOP32,
+    };
+    for _ in 0..20_u64 {
         expect_calls(&rt, rt.alloc(), &mut engine, &mut list, &mut draws)?;
         let (rows, book) = engine.parts();
-        engine = Engine::new(rows, book, Kind::Range);
+        engine = Engine::new(rows, book, Kind::Range32);
     }
     Ok(())
 }

@@ -58,10 +58,12 @@ const STORES: &[(u64, u64, u64, Reply)] = &[
 
 #[test]
 fn stores_with_rows_at_hand(rt: HostRuntime) -> Result<(), Fail> {
-    let mut engine = fresh_of(rt.alloc(), Kind::Alloc, 8)?;
     assert!(rt; STORES.len() == 3);
-    expect_ready(&rt, rt.alloc(), &mut engine, STORES)?;
-    expect_ranges(&rt, rt.alloc(), &mut engine, &[range!(10, 10, 7)])?;
+    for kind in [Kind::Alloc, Kind::Alloc32] {
+        let mut engine = fresh_of(rt.alloc(), kind, 8)?;
+        expect_ready(&rt, rt.alloc(), &mut engine, STORES)?;
+        expect_ranges(&rt, rt.alloc(), &mut engine, &[range!(10, 10, 7)])?;
+    }
     Ok(())
 }
 
@@ -114,7 +116,7 @@ fn tells_that_it_cannot_be_ready(rt: HostRuntime) -> Result<(), Fail> {
 
 #[test]
 fn tells_who_keeps_it_from_being_ready(rt: HostRuntime) -> Result<(), Fail> {
-    let mut engine = fresh_watched(rt.alloc(), 8)?;
+    let mut engine = fresh_watched(rt.alloc(), Kind::Range32, 8)?;
     let shortage = Shortage {
         need: 4,
         free: 3,

@@ -4,10 +4,13 @@ ghost use Rattle.std.specs.Prelude.{◌≡◌, ◌<◌, ◌+◌, ◌-◌, ◌^�
 ghost use Rattle.mt_rows.specs.Memory.{sheet_in};
 ghost use Rattle.mt_rows.specs.Sheet.{IsPlace, OnlyReads};
 
-use crate::tests::{TOP, fresh_of, same, stores};
-use mt_base::{Call, DEEPEST, FIRST_ROW, Kind, NoMemory, Reply, cols};
+use crate::tests::shapes::{
+    Case, FILLING, NARROW, NARROW_FILLING, NARROW_SPLIT, SPLIT, Shape, TRIALS, WIDE,
+};
+use crate::tests::{fresh_of, same, stores};
+use mt_base::{Call, DEEPEST, FIRST_ROW, Kind, NoMemory, Reply, Width, cols, top};
 use mt_engine::Engine;
-use mt_layout::{RowKind, Span, kind_of, row_of};
+use mt_layout::{RowKind, Span, kind_of, row_of, slots};
 use mt_list::{ListMap, Ranges};
 use mt_rows::plain_trees::{height_in, map_in, reached_in, spans_in};
 use mt_rows::{PlainRows, Rows};
@@ -39,20 +42,29 @@ fn words_of(rows: &mut PlainRows, alloc: Global) -> Result<Vec<u64>, NoMemory> {
     Ok(words)
 }
 
+/// Where the gap word of a slot stands, behind the pivots and the slots of its row.
+fn gap_place(width: Width, row: u32, slot: usize) -> usize
+    requires { slot < 2 ^ 32 }
+{
+    let pivots_and_slots = 2 * slots(width, RowKind::Gapped) as usize;
+    cols(width) as usize * row as usize + pivots_and_slots + slot
+}
+
 /// The longest hole below a row, at most so many levels deep, and none where a gap word there is another.
-fn longest_hole(words: &[u64], depth: u32, row: &Span) -> Option<u64> {
+fn longest_hole(width: Width, words: &[u64], depth: u32, row: &Span) -> Option<u64> {
     if depth == 0 {
         return None;
     }
-    let (number, kind) = (row_of(row.word)? as usize, kind_of(row.word)?);
+    let (number, kind) = (row_of(row.word)?, kind_of(row.word)?);
     let mut longest = 0;
-    for (slot, child) in spans_in(words, row).as_slice().iter().enumerate() {
+    for (slot, child) in spans_in(width, words, row).as_slice().iter().enumerate() {
         let hole = match kind {
             RowKind::Leaf if child.word == 0 => child.last.abs_diff(child.first).saturating_add(1),
             RowKind::Leaf => 0,
-            _ => longest_hole(words, depth - 1, child)?,
+            _ => longest_hole(width, words, depth - 1, child)?,
         };
-        if kind == RowKind::Gapped && words.get(32 * number + 20 + slot) != Some(&hole) {
+        let gap = words.get(gap_place(width, number, slot));
+        if kind == RowKind::Gapped && gap != Some(&hole) {
             return None;
         }
         longest = hole.max(longest);
@@ -87,16 +99,16 @@ fn played(
 }
 
 /// The longest hole of the tree with this root word; 0 where there is no root, and none where a gap word is wrong.
-fn hole_of(words: &[u64], root: u64) -> Option<u64> {
+fn hole_of(width: Width, words: &[u64], root: u64) -> Option<u64> {
     if root == 0 {
         return Some(0);
     }
     let whole = Span {
         first: 0,
-        last: TOP,
+        last: top(width),
         word: root,
     };
-    longest_hole(words, DEEPEST as u32, &whole)
+    longest_hole(width, words, DEEPEST as u32, &whole)
 }
 
 /// The tree of this kind behind these calls on the empty one. By the plain program its words stand for the ranges of the list
@@ -106,30 +118,20 @@ fn tree_after(rt: &impl Abort, alloc: Global, kind: Kind, calls: &[Call]) -> Res
 {
     let (engine, mut list) = played(rt, alloc, kind, calls)?;
     let (mut rows, book) = engine.parts();
-    let root = rows.root();
+    let (width, root) = (rows.width(), rows.root());
     let words = words_of(&mut rows, alloc)?;
-    let ranges = map_in(alloc, words.as_slice(), root)?;
+    let ranges = map_in(alloc, width, words.as_slice(), root)?;
     same(rt, ranges.as_slice(), list.list(alloc)?.as_slice(), root);
-    let reached = reached_in(alloc, words.as_slice(), root)?;
+    let reached = reached_in(alloc, width, words.as_slice(), root)?;
     same(rt, reached.len() as u64, book.live(), root);
-    same(rt, hole_of(words.as_slice(), root).is_some(), true, root);
-    let height = height_in(words.as_slice(), root);
+    let hole = hole_of(width, words.as_slice(), root);
+    same(rt, hole.is_some(), true, root);
+    let height = height_in(width, words.as_slice(), root);
     Ok(Tree {
         root,
         height,
         rows: reached,
     })
-}
-
-/// What a call made of a tree: whether it was published at the root word, the tree's levels and rows, and how many rows
-/// were taken and retired.
-#[derive(Debug, Clone, Copy, PartialEq, Eq)]
-struct Shape {
-    at_root: bool,
-    height: u32,
-    live: usize,
-    taken: usize,
-    gone: usize,
 }
 
 /// How many of these rows are none of those.
@@ -168,23 +170,6 @@ fn expect_each(
     Ok(())
 }
 
-/// A call, and what it made of a tree.
-type Case = (Call, Shape);
-
-/// A call that was published at the root word.
-macro_rules! at_root {
-    ($height:expr, $live:expr, $taken:expr, $gone:expr) => {
-        Shape { at_root: true, height: $height, live: $live, taken: $taken, gone: $gone }
-    };
-}
-
-/// A call that was published in a slot.
-macro_rules! in_slot {
-    ($height:expr, $live:expr, $taken:expr, $gone:expr) => {
-        Shape { at_root: false, height: $height, live: $live, taken: $taken, gone: $gone }
-    };
-}
-
 /// So many ranges of ten indexes, side by side.
 fn tens(alloc: Global, count: u64) -> Result<Vec<Call>, NoMemory>
     requires { count < 2 ^ 32 }
@@ -195,148 +180,6 @@ fn tens(alloc: Global, count: u64) -> Result<Vec<Call>, NoMemory>
     }
     Ok(calls)
 }
-
-/// So many ranges of one index, at the even indexes, in trees of each of these kinds, and what calls make of them.
-struct Trial {
-    kinds: &'static [Kind],
-    singles: u32,
-    cases: &'static [Case],
-}
-
-const BOTH: &[Kind] = &[Kind::Range, Kind::Alloc];
-
-/// No leaf.
-const EMPTY: &[Case] = &[
-    (call!(store 5, 5, 1), at_root!(1, 1, 1, 0)),
-    (call!(store 0, TOP, 8), at_root!(1, 1, 1, 0)),
-];
-
-/// One leaf, of 16 items.
-const LEAF: &[Case] = &[
-    // its items are others
-    (call!(store 1, 1, 9), at_root!(1, 1, 1, 1)),
-    // an entry is another, by one word
-    (call!(store 0, 0, 9), in_slot!(1, 1, 0, 0)),
-    // 17 items: two leaves, and a root above them
-    (call!(store 16, 16, 1), at_root!(2, 3, 3, 1)),
-    (call!(store 0, TOP, 0), at_root!(0, 0, 0, 1)),
-    (call!(store 0, TOP, 8), at_root!(1, 1, 1, 1)),
-    (Call::Clear, at_root!(0, 0, 0, 1)),
-];
-
-/// Leaves of 11, 10, 10 and 15 items, which end at 10, 20 and 30.
-const BELOW_A_ROOT: &[Case] = &[
-    // in place
-    (call!(store 1, 1, 9), in_slot!(2, 5, 1, 1)),
-    (call!(store 0, 0, 9), in_slot!(2, 5, 0, 0)),
-    // the last leaf is split in two
-    (call!(store 46, 46, 1), at_root!(2, 6, 3, 2)),
-    // the first leaf has too few items, and takes those of the leaf behind
-    (call!(store 0, 7, 3), at_root!(2, 4, 2, 3)),
-    // the last leaf has too few items, and takes those of the leaf before
-    (call!(store 32, 44, 0), at_root!(2, 4, 2, 3)),
-    // the first leaf would end with a hole: with the leaf behind these are two new ones
-    (call!(store 10, 10, 0), at_root!(2, 5, 3, 3)),
-    // two leaves go, and the leaf behind is taken in
-    (call!(store 11, 30, 0), at_root!(2, 3, 2, 4)),
-    // three leaves go, and the leaf behind is taken in: two new ones
-    (call!(store 9, 30, 0), at_root!(2, 3, 3, 5)),
-    // one leaf is left, and is the root
-    (call!(store 5, 36, 7), at_root!(1, 1, 1, 5)),
-    (call!(store 0, TOP, 0), at_root!(0, 0, 0, 5)),
-    (call!(store 0, TOP, 8), at_root!(1, 1, 1, 5)),
-    (Call::Clear, at_root!(0, 0, 0, 5)),
-];
-
-/// Two inner rows of a tree of ranges, of 11 leaves and of 12; the last leaf has 15 items.
-const RANGE_LEVELS: &[Case] = &[
-    // in place
-    (call!(store 1, 1, 9), in_slot!(3, 26, 1, 1)),
-    (call!(store 0, 0, 9), in_slot!(3, 26, 0, 0)),
-    // the last leaf is split in two, below the same root
-    (call!(store 236, 236, 1), in_slot!(3, 27, 3, 2)),
-    // the second leaf goes, and the first takes the items of the third
-    (call!(store 2, 20, 0), in_slot!(3, 24, 2, 4)),
-    // the first inner row has too few leaves, and takes those of the row behind: two new ones
-    (call!(store 0, 64, 3), at_root!(3, 20, 4, 10)),
-    // the second inner row has too few leaves, and takes those of the row before: one, which is the root
-    (call!(store 130, 210, 0), at_root!(2, 16, 3, 13)),
-    // leaves of both inner rows go: two levels are left
-    (call!(store 8, 160, 5), at_root!(2, 9, 2, 19)),
-    // two levels are lost
-    (call!(store 1, 234, 0), at_root!(1, 1, 1, 26)),
-    (call!(store 0, TOP, 0), at_root!(0, 0, 0, 26)),
-    (call!(store 0, TOP, 8), at_root!(1, 1, 1, 26)),
-    (Call::Clear, at_root!(0, 0, 0, 26)),
-];
-
-/// Two inner rows of a tree for allocation, of 7 leaves and of 9; the last leaf has 15 items.
-const ALLOC_LEVELS: &[Case] = &[
-    // in place
-    (call!(store 1, 1, 9), in_slot!(3, 19, 1, 1)),
-    (call!(store 0, 0, 9), in_slot!(3, 19, 0, 0)),
-    // the last leaf is split in two, below the same root
-    (call!(store 166, 166, 1), in_slot!(3, 20, 3, 2)),
-    // the second leaf goes, and the first takes the items of the third
-    (call!(store 2, 20, 0), in_slot!(3, 17, 2, 4)),
-    // the first inner row keeps four leaves, as few as it may
-    (call!(store 0, 34, 3), in_slot!(3, 16, 2, 5)),
-    // the first inner row has too few leaves, and takes those of the row behind: two new ones
-    (call!(store 0, 44, 3), at_root!(3, 15, 4, 8)),
-    // the second inner row has too few leaves, and takes those of the row before: one, which is the root
-    (call!(store 90, 150, 0), at_root!(2, 11, 3, 11)),
-    // leaves of both inner rows go: two levels are left
-    (call!(store 8, 120, 5), at_root!(2, 6, 2, 15)),
-    // two levels are lost
-    (call!(store 1, 164, 0), at_root!(1, 1, 1, 19)),
-    (call!(store 0, TOP, 0), at_root!(0, 0, 0, 19)),
-    (call!(store 0, TOP, 8), at_root!(1, 1, 1, 19)),
-    (Call::Clear, at_root!(0, 0, 0, 19)),
-];
-
-const TRIALS: &[Trial] = &[
-    Trial {
-        kinds: BOTH,
-        singles: 0,
-        cases: EMPTY,
-    },
-    Trial {
-        kinds: BOTH,
-        singles: 8,
-        cases: LEAF,
-    },
-    Trial {
-        kinds: BOTH,
-        singles: 17,
-        cases: &[(call!(store 0, TOP, 8), at_root!(1, 1, 1, 4))],
-    },
-    Trial {
-        kinds: BOTH,
-        singles: 23,
-        cases: BELOW_A_ROOT,
-    },
-    // a root of as many leaves as it has slots, of which the last has 15 items
-    Trial {
-        kinds: &[Kind::Range],
-        singles: 83,
-        cases: &[(call!(store 166, 166, 1), at_root!(3, 20, 5, 2))],
-    },
-    Trial {
-        kinds: &[Kind::Alloc],
-        singles: 53,
-        cases: &[(call!(store 106, 106, 1), at_root!(3, 14, 5, 2))],
-    },
-    Trial {
-        kinds: &[Kind::Range],
-        singles: 118,
-        cases: RANGE_LEVELS,
-    },
-    Trial {
-        kinds: &[Kind::Alloc],
-        singles: 83,
-        cases: ALLOC_LEVELS,
-    },
-];
 
 /// Tries the calls on trees of each of these kinds.
 fn expect_all(
@@ -361,14 +204,28 @@ fn rows_are_replaced(rt: HostRuntime) -> Result<(), Fail> {
     Ok(())
 }
 
-/// Leaves of 16, 16 and 9 items, without a hole but the last; the first ends at 109.
+/// Tries the calls on trees of each of these kinds of two full leaves without a hole, and one behind them: so many ranges of ten
+/// indexes, of which stores at these indexes make more.
+fn expect_split(
+    rt: &impl Abort,
+    alloc: Global,
+    kinds: &[Kind],
+    count: u64,
+    at: &[u64],
+    cases: &[Case],
+) -> Result<(), NoMemory>
+    requires { count < 2 ^ 32 }
+{
+    let mut before = tens(alloc, count)?;
+    for &index in at {
+        before.push(call!(store index, index, 1))?;
+    }
+    expect_all(rt, alloc, kinds, before.as_slice(), cases)
+}
+
 #[test]
 fn two_leaves_are_split_in_three(rt: HostRuntime) -> Result<(), Fail> {
-    let mut before = tens(rt.alloc(), 30)?;
-    for at in [5, 15, 20, 115, 125, 130] {
-        before.push(call!(store at, at, 1))?;
-    }
-    let cases = [(call!(store 109, 110, 9), at_root!(2, 5, 4, 3))];
-    expect_all(&rt, rt.alloc(), BOTH, before.as_slice(), &cases)?;
+    expect_split(&rt, rt.alloc(), WIDE, 30, FILLING, SPLIT)?;
+    expect_split(&rt, rt.alloc(), NARROW, 60, NARROW_FILLING, NARROW_SPLIT)?;
     Ok(())
 }

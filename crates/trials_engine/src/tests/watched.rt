@@ -26,13 +26,13 @@ pub struct Watched {
 }
 
 impl Watched {
-    /// So many rows, none of which was ever used.
-    pub fn new(alloc: Global, rows: u64) -> Result<Watched, NoMemory>
+    /// So many rows of a width, none of which was ever used.
+    pub fn new(alloc: Global, width: Width, rows: u64) -> Result<Watched, NoMemory>
         requires { rows ≤ most_rows }
-        ensures { IfOk result (λ w. sheet_in w.rows ≡ new_sheet rows) }
+        ensures { IfOk result (λ w. sheet_in w.rows ≡ new_sheet width rows) }
     {
         Ok(Watched {
-            rows: PlainRows::new(alloc, rows)?,
+            rows: PlainRows::of_width(alloc, width, rows)?,
             scan: Scan { least: 0, by: None },
         })
     }

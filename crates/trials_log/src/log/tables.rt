@@ -115,7 +115,7 @@ check a
 
 /// Tables: each row is what stands in a log between the text before the table and the text behind it, and behind an arrow the
 /// last line of what the log then says.
-pub const TABLES: [(&str, &str, &str); 14] = [
+pub const TABLES: [(&str, &str, &str); 17] = [
     // Each test of a line refuses it.
     (
         "",
@@ -272,6 +272,72 @@ x1 -> 3 bad number
  -> 3 bad number",
         "\n",
     ),
+    // A tree is of one of four kinds.
+    (
+        "mtlog 1\n",
+        "tree a range -> 2: declares a for range
+tree a alloc -> 2: declares a for alloc
+tree a range32 -> 2: declares a for range32
+tree a alloc32 -> 2: declares a for alloc32
+tree a range64 -> 2 bad kind
+tree a alloc64 -> 2 bad kind
+tree a Range32 -> 2 bad kind
+tree a ALLOC32 -> 2 bad kind
+tree a range3 -> 2 bad kind
+tree a range2 -> 2 bad kind
+tree a range320 -> 2 bad kind
+tree a range032 -> 2 bad kind
+tree a range_32 -> 2 bad kind
+tree a range32\r -> 2 bad kind
+tree a 32 -> 2 bad kind
+tree a rang -> 2 bad kind
+tree a allo -> 2 bad kind
+tree a max -> 2 bad kind
+tree a  -> 2 bad kind
+tree a  range32 -> 2 wrong number of fields
+tree a range 32 -> 2 wrong number of fields
+tree a range32  -> 2 wrong number of fields",
+        "\n",
+    ),
+    // In an index of a narrow tree `max` is the greatest one, and elsewhere it is 2^64 - 1. Numbers are read as they are.
+    (
+        "mtlog 1\ntree n range32\ntree m alloc32\n",
+        "load n max -> 4: tree 0, Load { index: 4294967295 }
+load m max -> 4: tree 1, Load { index: 4294967295 }
+load n 4294967296 -> 4: tree 0, Load { index: 4294967296 }
+load n 18446744073709551615 -> 4: tree 0, Load { index: 18446744073709551615 }
+load n 0xffffffffffffffff -> 4: tree 0, Load { index: 18446744073709551615 }
+load n 18446744073709551616 -> 4 bad number
+store n max max max -> 4: tree 0, Store { first: 4294967295, last: 4294967295, entry: 18446744073709551615 }
+pstore n 1 max max -> 4: tree 0, StorePre { first: 1, last: 4294967295, entry: 18446744073709551615 }
+insert m 1 max 5 -> 4: tree 1, Insert { first: 1, last: 4294967295, entry: 5 }
+insert m 1 4294967296 5 -> 4: tree 1, Insert { first: 1, last: 4294967296, entry: 5 }
+erase n max -> 4: tree 0, Erase { index: 4294967295 }
+find n max max -> 4: tree 0, Find { index: 4294967295, max: 4294967295 }
+next n 0 max -> 4: tree 0, Next { index: 0, max: 4294967295 }
+prev n max max -> 4: tree 0, Prev { index: 4294967295, min: 4294967295 }
+rfind n max 0 -> 4: tree 0, Rfind { index: 4294967295, min: 0 }
+scan n max max 3 -> 4: tree 0, 3 steps from 4294967295 to 4294967295
+scan n 0 4294967296 3 -> 4: tree 0, 3 steps from 0 to 4294967296
+scan n 0 max max -> 4 bad count
+alloc m max max max max -> 4: tree 1, Alloc { size: 18446744073709551615, min: 4294967295, max: 4294967295, entry: 18446744073709551615 }
+ralloc m max 0 max 5 -> 4: tree 1, Ralloc { size: 18446744073709551615, min: 0, max: 4294967295, entry: 5 }
+gap m max 0 max -> 4: tree 1, Gap { size: 18446744073709551615, min: 0, max: 4294967295 }
+rgap n 1 max 4294967296 -> 4: tree 0, Rgap { size: 1, min: 4294967295, max: 4294967296 }
+lane max -> 4 bad lane",
+        "\n",
+    ),
+    // Each tree has the greatest index of its own kind, and a copy that of its source.
+    (
+        "mtlog 1\ntree a range\ntree b range32\ntree c alloc\ntree d alloc32\ndup b e\ndup c f\n",
+        "load a max -> 8: tree 0, Load { index: 18446744073709551615 }
+load b max -> 8: tree 1, Load { index: 4294967295 }
+load c max -> 8: tree 2, Load { index: 18446744073709551615 }
+load d max -> 8: tree 3, Load { index: 4294967295 }
+load e max -> 8: tree 4, Load { index: 4294967295 }
+load f max -> 8: tree 5, Load { index: 18446744073709551615 }",
+        "\n",
+    ),
     // A scan has from 1 to 65536 steps.
     (
         "mtlog 1\ntree a range\nscan a 0 max ",
@@ -372,4 +438,11 @@ find c 1 2
 next c 3 4
 prev b 6 5
 rfind b 8 7
-scan b 5 0x9 65536 -> scan b 5 9 65536";
+scan b 5 0x9 65536 -> scan b 5 9 65536
+join
+tree n range32
+tree m alloc32
+store n 0 max max -> store n 0 4294967295 18446744073709551615
+ralloc m max 0 max 5 -> ralloc m 18446744073709551615 0 4294967295 5
+load n 0x100000000 -> load n 4294967296
+prev b max max -> prev b 18446744073709551615 18446744073709551615";

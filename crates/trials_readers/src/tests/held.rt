@@ -3,9 +3,10 @@
 ghost use Rattle.std.specs.Prelude.{◌≡◌, ◌<◌};
 ghost use Rattle.mt_tree.specs.Trees.{IsPassOf};
 
-use crate::tests::{last_pass, made, read, store, store_range};
+use crate::tests::{KINDS, last_pass, made, read, store, store_range};
 use mt_base::{Holder, Kind, Reply, Shortage, Steps};
 use mt_tree::{Pass, Read, Tree};
+use std::alloc::Global;
 use std::marker::Brand;
 use std::process::Abort;
 use std::sync::Wait;
@@ -159,35 +160,47 @@ fn close_the_older_cursor<R: Wait + Abort, L: Ledger>(
     one.close(&mut steps);
 }
 
-#[test]
-fn rows_are_held_by_an_open_section(rt: HostRuntime) -> Result<(), Fail> {
-    for held in [
-        Held::Closed,
-        Held::Dropped,
-        Held::StoredFirst,
-        Held::StoredLast,
-    ] {
-        let (tree, mut passes) = made(rt.alloc(), Kind::Range, 8, 2, 9)?;
-        let mut reader = last_pass(&tree, &mut passes)?;
-        let mut writer = last_pass(&tree, &mut passes)?;
-        hold::<HostRuntime, Brand>(&rt, Blank::new(1), &tree, &mut writer, &mut reader, held);
-    }
+/// The rows of a tree of this kind are held by one cursor.
+fn hold_by_one<R: Wait + Abort>(rt: &R, alloc: Global, kind: Kind, held: Held) -> Result<(), Fail> {
+    let (tree, mut passes) = made(alloc, kind, 8, 2, 9)?;
+    let mut reader = last_pass(&tree, &mut passes)?;
+    let mut writer = last_pass(&tree, &mut passes)?;
+    hold::<R, Brand>(rt, Blank::new(1), &tree, &mut writer, &mut reader, held);
     Ok(())
 }
 
 #[test]
-fn rows_are_held_by_the_oldest_open_section(rt: HostRuntime) -> Result<(), Fail> {
-    let (tree, mut passes) = made(rt.alloc(), Kind::Range, 8, 3, 9)?;
+fn rows_are_held_by_an_open_section(rt: HostRuntime) -> Result<(), Fail> {
+    for &kind in KINDS {
+        hold_by_one(&rt, rt.alloc(), kind, Held::Closed)?;
+        hold_by_one(&rt, rt.alloc(), kind, Held::Dropped)?;
+        hold_by_one(&rt, rt.alloc(), kind, Held::StoredFirst)?;
+        hold_by_one(&rt, rt.alloc(), kind, Held::StoredLast)?;
+    }
+    Ok(())
+}
+
+/// The rows of a tree of this kind are held by two cursors.
+fn hold_by_two<R: Wait + Abort>(rt: &R, alloc: Global, kind: Kind) -> Result<(), Fail> {
+    let (tree, mut passes) = made(alloc, kind, 8, 3, 9)?;
     let mut older = last_pass(&tree, &mut passes)?;
     let mut younger = last_pass(&tree, &mut passes)?;
     let mut writer = last_pass(&tree, &mut passes)?;
-    close_the_older_cursor::<HostRuntime, Brand>(
-        &rt,
+    close_the_older_cursor::<R, Brand>(
+        rt,
         Blank::new(1),
         &tree,
         &mut writer,
         &mut younger,
         &mut older,
     );
+    Ok(())
+}
+
+#[test]
+fn rows_are_held_by_the_oldest_open_section(rt: HostRuntime) -> Result<(), Fail> {
+    for &kind in KINDS {
+        hold_by_two(&rt, rt.alloc(), kind)?;
+    }
     Ok(())
 }

@@ -2,9 +2,10 @@
 
 ghost use Rattle.mt_tree.specs.Trees.{IsPassOf};
 
-use crate::tests::{last_pass, made, store_range};
+use crate::tests::{KINDS, last_pass, made, store_range};
 use mt_base::{Kind, Query, Range};
 use mt_tree::{Done, Pass, Read, Tree, Worn};
+use std::alloc::Global;
 use std::process::Abort;
 use std::sync::Wait;
 use std::test::Fail;
@@ -48,14 +49,22 @@ fn reads_under_the_lock<R: Wait + Abort>(rt: &R, tree: &Tree, pass: &mut Pass)
     assert_eq!(rt; ready, Ok(()));
 }
 
-#[test]
-fn each_call_of_a_worn_tree_is_refused(rt: HostRuntime) -> Result<(), Fail> {
-    let (tree, mut passes) = made(rt.alloc(), Kind::Alloc, 64, 1, 1)?;
+/// A tree of this kind that may have one call, and has had it.
+fn wear<R: Wait + Abort>(rt: &R, alloc: Global, kind: Kind) -> Result<(), Fail> {
+    let (tree, mut passes) = made(alloc, kind, 64, 1, 1)?;
     let mut pass = last_pass(&tree, &mut passes)?;
-    store_range(&rt, &tree, &mut pass, 1, 1, 5, 1);
-    for (number, answer) in nine_calls(&rt, &tree, &mut pass).iter().enumerate() {
+    store_range(rt, &tree, &mut pass, 1, 1, 5, 1);
+    for (number, answer) in nine_calls(rt, &tree, &mut pass).iter().enumerate() {
         assert_eq!(rt; *answer, Err(Worn { calls: 1 }), "call {number}");
     }
-    reads_under_the_lock(&rt, &tree, &mut pass);
+    reads_under_the_lock(rt, &tree, &mut pass);
+    Ok(())
+}
+
+#[test]
+fn each_call_of_a_worn_tree_is_refused(rt: HostRuntime) -> Result<(), Fail> {
+    for &kind in KINDS {
+        wear(&rt, rt.alloc(), kind)?;
+    }
     Ok(())
 }

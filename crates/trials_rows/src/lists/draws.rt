@@ -1,17 +1,18 @@
 ghost use Rattle.std.specs.Prelude.{◌<◌};
 
-use crate::lists::TOP;
 use mt_base::Call;
 
 /// Calls that look random and are the same on every machine.
 #[derive(Drop)]
 pub struct Draws {
     state: u64,
+    top: u64,
 }
 
 impl Draws {
-    pub fn new(seed: u64) -> Self {
-        Draws { state: seed }
+    /// Calls on a tree with this last index.
+    pub fn new(seed: u64, top: u64) -> Self {
+        Draws { state: seed, top }
     }
 
     fn below(&mut self, bound: u64) -> u64
@@ -25,13 +26,13 @@ impl Draws {
         (self.state >> 33) % bound
     }
 
-    /// One of the lowest indexes, or, one time in eight, of the greatest.
+    /// One of the lowest indexes, or, one time in eight, of the greatest, or, one time in sixteen, above those.
     fn index(&mut self) -> u64 {
         let index = self.below(150);
-        if self.below(8) == 0 {
-            TOP - index
-        } else {
-            index
+        match self.below(16) {
+            0 | 1 => self.top.saturating_sub(index),
+            2 => self.top.saturating_add(index),
+            _ => index,
         }
     }
 

@@ -1,4 +1,4 @@
-use Rattle.std.proofs.Common.{arith}
+use Rattle.std.proofs.Common.{true, arith}
 use Rattle.mt_base.specs.declared.kinds.Kind.TheVariants as trees
 use Rattle.mt_rows.specs.Memory.{sheet_in}
 use Rattle.trials_rows.proofs.TestTrees.{may_first, may_second, is_tree, may_mend_all}
@@ -18,7 +18,7 @@ mend_gaps-requires c =
     let fits = c.ranges.index.fits in
     record {
       may = (
-        trees.Alloc,
+        true,
         may_mend_all (sheet_in c.in_ok-rows.rows) (sheet_in c.tend.new.self) (sheet_in c.tend-2.new.self) c.args.left c.args.right c.in_ok-rows.ensures c.tend.ensures c.tend-2.ensures (sheet_in c.walk-path.new.rows)
             c.args.index c.walk-path.result.items c.walk-path.ensures.reads.rest (omega arith) c.walk-path.ensures.path,
       );

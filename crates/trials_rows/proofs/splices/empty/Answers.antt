@@ -1,4 +1,3 @@
-use Rattle.std.proofs.Common.{refl}
 use Rattle.mt_splice.proofs.BetweenCalls.{may_clear, may_finish, ready_again}
 use Rattle.trials_rows.proofs.splices.empty.Goals as goal
 
@@ -13,4 +12,4 @@ finish-requires c =
 pub returns-clause-ready : goal.returns-clause-ready
 returns-clause-ready c =
     let may = may_clear c.requires.ready c.begin-number.ensures.rest c.begin-number.ensures.number c.requires.some in
-    ready_again may.told may.unpublished.numbered c.clear.ensures.spliced c.finish.ensures refl
+    ready_again may.told may.unpublished.numbered c.clear.ensures.spliced c.finish.ensures c.requires.plain

@@ -1,5 +1,5 @@
-use Rattle.std.proofs.Common.{sym, subst, lit≤}
-use Rattle.mt_base.specs.declared.kinds.Kind.TheVariants.{Range}
+use Rattle.std.proofs.Common.{sym, ap, ◌∙◌, subst, lit≤}
+use Rattle.mt_rows.specs.Plain.{new_sheet}
 use Rattle.mt_free.specs.Book.{Book}
 use Rattle.mt_free.proofs.Books.{new_is_book}
 use Rattle.mt_rows.specs.Sheet.{Sheet}
@@ -9,4 +9,5 @@ use Rattle.trials_rows.proofs.splices.Tree.new.Goals as goal
 
 pub returns-clause-ready : goal.returns-clause-ready
 returns-clause-ready c =
-    subst (λ (both : Sheet × Book). IsBetweenCalls Range both.0 both.1) (λ i. (sym c.in_ok-rows.ensures i, sym c.in_ok-book.ensures i)) (fresh_is_ready Range 400 (new_is_book 400 (lit≤ tt)))
+    let rows = c.in_ok-rows.ensures ∙ ap (λ v. new_sheet v 1000) c.width_of.ensures in
+    subst (λ (both : Sheet × Book). IsBetweenCalls c.args.kind both.0 both.1) (λ i. (sym rows i, sym c.in_ok-book.ensures i)) (fresh_is_ready c.args.kind 1000 (new_is_book 1000 (lit≤ tt)))

@@ -1,8 +1,7 @@
 use Rattle.std.proofs.Common.{◌≡◌, ◌+◌}
-use Rattle.mt_base.specs.declared.kinds.Kind.TheVariants.{Range}
 use Rattle.mt_rows.specs.Memory.{sheet_in}
 use Rattle.mt_splice.specs.Between.{IsBetweenCalls}
 use Rattle.trials_rows.proofs.splices.Tree.store_all.Given as goal
 
 abbrev pub invariant-loop-range : goal.invariant-loop-range
-invariant-loop-range g l = record { ready : IsBetweenCalls Range (sheet_in l.self.rows) l.self.book; count : (sheet_in l.self.rows).ended ≡ (sheet_in l.initial.self.rows).ended + l.range-index }
+invariant-loop-range g l = record { ready : IsBetweenCalls l.kind (sheet_in l.self.rows) l.self.book; count : (sheet_in l.self.rows).ended ≡ (sheet_in l.initial.self.rows).ended + l.range-index }

@@ -1,5 +1,5 @@
 use Rattle.mt_rule.specs.Tokens.{identity_of, turn_seat}
-use Rattle.trials_tree.proofs.pen.rows_of_a_table.Given as goal
+use Rattle.trials_tree.proofs.pen.work_on_rows.Given as goal
 
 abbrev pub ghosts-work : goal.ghosts-work
 ghosts-work g a = record { table = identity_of a.table.now; turn = turn_seat a.pass }

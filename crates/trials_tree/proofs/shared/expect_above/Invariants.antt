@@ -1,0 +1,5 @@
+use Rattle.mt_tree.specs.Trees.{IsPassOf}
+use Rattle.trials_tree.proofs.shared.expect_above.Given as goal
+
+abbrev pub invariant-loop-asked : goal.invariant-loop-asked
+invariant-loop-asked g l = IsPassOf l.fn.tree l.pass
