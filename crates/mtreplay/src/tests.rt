@@ -3,6 +3,7 @@ mod desk;
 mod drawn;
 mod hostile;
 mod lanes;
+mod narrow;
 mod played;
 mod short;
 mod trees;
@@ -21,8 +22,16 @@ const LOG: &str = "mtlog 1\ntree a range\nstore a 10 19 5\nload a 10\n";
 const USAGE: &str =
     "mtreplay: usage: replay [--rows N], make NUMBER STEPS LANES, trial NUMBER STEPS\n";
 
+/// The kinds of trees, each with its greatest index.
+const KINDS: [(&str, &str); 4] = [
+    ("range", "18446744073709551615"),
+    ("alloc", "18446744073709551615"),
+    ("range32", "4294967295"),
+    ("alloc32", "4294967295"),
+];
+
 /// Logs behind the header, and the texts that answer them.
-const LOGS: [(&str, &str); 21] = [
+const LOGS: [(&str, &str); 20] = [
     (
         "tree a range\nstore a 10 19 5\nload a 9\nload a 10\nload a 19\nload a 20\n",
         "3 1 ok\n4 1 1 none\n5 1 1 entry 5\n6 1 1 entry 5\n7 1 1 none\ntree a range 1\n10 19 5\n",
@@ -99,18 +108,6 @@ const LOGS: [(&str, &str); 21] = [
     (
         "tree a range\ngap a 1 0 max\nalloc a 1 0 max 3\n",
         "3 1 invalid\n4 2 invalid\ntree a range 0\n",
-    ),
-    // Neighbours are found up and down.
-    (
-        "tree a range\nstore a 0 9 1\nstore a 20 29 5\nstore a max max 3\n\
-         next a 5 max\nnext a 10 max\nnext a 0 20\nnext a 0 19\n\
-         prev a 25 0\nprev a 20 0\nprev a 0 0\nnext a max max\n\
-         rfind a 15 0\nrfind a 15 10\nrfind a max 0\nprev a 15 10\n",
-        "3 1 ok\n4 2 ok\n5 3 ok\n\
-         6 3 3 range 20 29 5\n7 3 3 range 20 29 5\n8 3 3 range 20 29 5\n9 3 3 none\n\
-         10 3 3 range 0 9 1\n11 3 3 range 0 9 1\n12 3 3 none\n13 3 3 none\n\
-         14 3 3 range 0 9 1\n15 3 3 none\n16 3 3 range 18446744073709551615 18446744073709551615 3\n17 3 3 none\n\
-         tree a range 3\n0 9 1\n20 29 5\n18446744073709551615 18446744073709551615 3\n",
     ),
     // A scan goes on behind each range, and ends with none.
     (
@@ -267,9 +264,12 @@ fn expect_text<R: Threads + Wait + Sync + AllocGlobal + Abort>(
 
 /// The log of these steps behind the header and the line that declares the range tree `a`, from line 3 on.
 fn steps(alloc: Global, lines: &str) -> Result<String, AllocError> {
-    let mut log = String::from_str(alloc, "mtlog 1\ntree a range\n")?;
-    log.push_str(lines)?;
-    Ok(log)
+    steps_on("range", alloc, lines)
+}
+
+/// The same, where the tree is of this kind.
+fn steps_on(kind: &str, alloc: Global, lines: &str) -> Result<String, AllocError> {
+    format!(in alloc; "mtlog 1\ntree a {kind}\n{lines}")
 }
 
 #[test]

@@ -32,7 +32,7 @@ fn tree_and_passes(alloc: Global) -> Result<(LaneTree, Vec<Pass>), Fail>
     ensures of { IfOk result (λ r. All (IsPassOf r.0.tree) r.1.items) }
     ensures closed { IfOk result (λ r. All (λ p. (pass_in p).standing ≡ None) r.1.items) }
 {
-    let zeros = LaneTree::zeros(alloc, 64)?;
+    let zeros = LaneTree::zeros(alloc, &[Kind::Range], 64)?;
     match LaneTree::make(alloc, Kind::Range, 64, 2, &zeros) {
         Ok(made) => Ok(made),
         Err(_) => Err("no tree was made".into()),

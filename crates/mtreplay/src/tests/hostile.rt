@@ -137,7 +137,8 @@ fn each_write_that_fails_is_told(rt: HostRuntime) -> Result<(), Fail> {
 #[test]
 fn a_log_and_its_text_go_in_pieces_of_any_size(rt: HostRuntime) -> Result<(), Fail> {
     let alloc = rt.alloc();
-    let (log, text) = (thousand_ranges(alloc)?, thousand_said(alloc)?);
+    let log = thousand_ranges("range", alloc)?;
+    let text = thousand_said("range", "18446744073709551615", alloc)?;
     for piece in [1, 7, 4096] {
         let mut src = given(alloc, log.as_bytes(), piece, Vec::new(alloc))?;
         let out = MemSink::new(alloc, 1 << 16, piece, Vec::new(alloc))?;
