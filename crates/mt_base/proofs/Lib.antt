@@ -1,6 +1,7 @@
 pub mod AboveTop
 pub mod AreasWant
 pub mod CallsKeepOrder
+pub mod FirstMet
 pub mod FreeAreas
 pub mod Goings
 pub mod Lists

@@ -7,16 +7,20 @@ use Rattle.mt_base.specs.declared.calls.Call.{Call}
 use Rattle.mt_base.specs.declared.calls.Call.TheVariants.{Store, StorePre, Insert, Erase, Alloc, Ralloc, Gap, Rgap, Clear}
 use Rattle.mt_base.specs.declared.replies.Reply.{Reply}
 use Rattle.mt_base.specs.declared.replies.Reply.TheVariants as reply
-use Rattle.mt_base.specs.Call.{acted, erased, found, is_bad_area, is_invalid, is_no_area, placed}
+use Rattle.mt_base.specs.Call.{acted, erased, found, is_bad_area, is_invalid, is_no_area, placed, replied}
 use Rattle.mt_base.specs.Holes.{high, low}
 use Rattle.mt_base.specs.History.{Record, map_after, map_by_reply}
-use Rattle.mt_base.specs.Map.{holding, is_held}
+use Rattle.mt_base.specs.Map.{first_met, holding, is_held}
 use Rattle.mt_base.specs.Passes.{holder_of}
 
 -- the reply tells no shortage
 abbrev IsPlain : Reply → Type 0
 IsPlain (reply.NoNodes shortage) = ⊥
 IsPlain r = Unit {0}
+
+replied_plainly : (met : Option Range) → IsPlain (replied met)
+replied_plainly None = tt
+replied_plainly (Some r) = tt
 
 erased_plainly : (m : List Range) (index : ℕ) (held : Option Range) → IsPlain (erased m index held).1
 erased_plainly m index None = tt
@@ -32,9 +36,9 @@ found_plainly (Some start) = tt
 
 acted_plainly : (kind : Kind) (m : List Range) (call : Call) → IsPlain (acted kind m call).1
 acted_plainly kind m (Store first last entry) =
-    cond_both (is_invalid kind first last entry) _ _ (λ (after : List Range × Reply). IsPlain after.1) (λ invalid. tt) (λ valid. tt)
+    cond_both (is_invalid kind first last entry) _ _ (λ (after : List Range × Reply). IsPlain after.1) (λ invalid. tt) (λ valid. replied_plainly (first_met m first last))
 acted_plainly kind m (StorePre first last entry) =
-    cond_both (is_invalid kind first last entry) _ _ (λ (after : List Range × Reply). IsPlain after.1) (λ invalid. tt) (λ valid. tt)
+    cond_both (is_invalid kind first last entry) _ _ (λ (after : List Range × Reply). IsPlain after.1) (λ invalid. tt) (λ valid. replied_plainly (first_met m first last))
 acted_plainly kind m (Insert first last entry) =
     cond_both (is_invalid kind first last entry || (entry == 0)) _ _ (λ (after : List Range × Reply). IsPlain after.1)
     (λ invalid. tt)

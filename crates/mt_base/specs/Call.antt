@@ -14,16 +14,21 @@ use Rattle.mt_base.specs.declared.replies.Reply.TheVariants as reply
 use Rattle.mt_base.specs.Entry.{reserved}
 use Rattle.mt_base.specs.Width.{greatest_of}
 use Rattle.mt_base.specs.Holes.{low, high}
-use Rattle.mt_base.specs.Map.{over, holding, is_held, without, first_range, last_range}
+use Rattle.mt_base.specs.Map.{over, holding, is_held, first_met, without, first_range, last_range}
 
 -- what a call that stores cannot mean: a range that ends before it begins, or above the greatest index, or a reserved entry
 abbrev pub is_invalid : Kind → ℕ → ℕ → ℕ → Bool
 is_invalid kind first last entry = nat_lt last first || (nat_lt (greatest_of kind) last || reserved entry)
 
+-- what a store that meets this range first, or none, is answered: the entry that it overwrites
+abbrev pub replied : Option Range → Reply
+replied None = reply.Ok
+replied (Some r) = reply.Over r.entry
+
 -- the map and the reply after the range that holds an index was removed
 abbrev pub erased : List Range → ℕ → Option Range → List Range × Reply
 erased m index None = (m, reply.None)
-erased m index (Some r) = (without m index, reply.Was r.entry)
+erased m index (Some r) = (without m index, reply.Was r)
 
 -- a tree whose holes are searched
 abbrev pub finds_room : Kind → Bool
@@ -53,8 +58,8 @@ found (Some start) = reply.Start start
 
 -- the map and the reply after a call on a tree of this kind
 abbrev pub acted : Kind → List Range → Call → List Range × Reply
-acted kind m (Store first last entry) = if is_invalid kind first last entry then (m, reply.Invalid) else (over m first last entry, reply.Ok)
-acted kind m (StorePre first last entry) = if is_invalid kind first last entry then (m, reply.Invalid) else (over m first last entry, reply.Ok)
+acted kind m (Store first last entry) = if is_invalid kind first last entry then (m, reply.Invalid) else (over m first last entry, replied (first_met m first last))
+acted kind m (StorePre first last entry) = if is_invalid kind first last entry then (m, reply.Invalid) else (over m first last entry, replied (first_met m first last))
 acted kind m (Insert first last entry) =
     if is_invalid kind first last entry || (entry == 0) then (m, reply.Invalid)
     else (if is_held m first last then (m, reply.Exists)

@@ -23,6 +23,13 @@ holds index r = nat_le r.first index && nat_le index r.last
 abbrev pub holding : List Range → ℕ → Option Range
 holding m index = find (holds index) m
 
+-- the first and the last range of a list
+abbrev pub first_range : List Range → Option Range
+first_range m = slice_get m 0
+
+abbrev pub last_range : List Range → Option Range
+last_range m = slice_get m (length m - 1)
+
 -- whether a range holds some index of first..last
 abbrev pub overlaps : ℕ → ℕ → Range → Bool
 overlaps first last r = nat_le r.first last && nat_le first r.last
@@ -31,16 +38,13 @@ overlaps first last r = nat_le r.first last && nat_le first r.last
 abbrev pub is_held : List Range → ℕ → ℕ → Bool
 is_held m first last = list_any (overlaps first last) m
 
+-- the first range that a store over first..last meets
+abbrev pub first_met : List Range → ℕ → ℕ → Option Range
+first_met m first last = first_range (filter (λ r. nat_le first r.last && nat_le r.first last) m)
+
 -- the map without the range that holds an index
 abbrev pub without : List Range → ℕ → List Range
 without m index = filter (λ r. not (holds index r)) m
-
--- the first and the last range of a list
-abbrev pub first_range : List Range → Option Range
-first_range m = slice_get m 0
-
-abbrev pub last_range : List Range → Option Range
-last_range m = slice_get m (length m - 1)
 
 -- what is left of a range below `first`, and above `last`
 abbrev pub cut_below : ℕ → Range → Range

@@ -53,8 +53,9 @@ pub record IsSound (tree : History) (p : Pass) : Type 0 where
 abbrev pub holder_of : Reply → Option Holder
 holder_of (replies.NoNodes shortage) = shortage.by
 holder_of replies.Ok = None
+holder_of (replies.Over entry) = None
 holder_of (replies.Start start) = None
-holder_of (replies.Was entry) = None
+holder_of (replies.Was range) = None
 holder_of replies.None = None
 holder_of replies.Exists = None
 holder_of replies.Invalid = None

@@ -1,6 +1,6 @@
 //! What holds of every map of ranges. Each law is the contract of a function that does nothing.
 
-ghost use Rattle.std.specs.Prelude.{◌≡◌, ◌↔◌, ◌<◌, ◌≤◌, ◌+◌, ◌-◌, ◌*◌, ◌/◌, ◌^◌, ◌==◌, ℕ, Bool, Option, true, List, [], ◌∷◌, length, option_map, slice_get, IsPermutation, IsTrue, flat_map, if◌then◌else◌};
+ghost use Rattle.std.specs.Prelude.{◌≡◌, ◌↔◌, ◌<◌, ◌≤◌, ◌+◌, ◌-◌, ◌*◌, ◌/◌, ◌^◌, ◌==◌, ℕ, Bool, Option, true, List, [], ◌∷◌, length, option_map, slice_get, is_some, IsPermutation, IsTrue, flat_map, if◌then◌else◌};
 ghost use Rattle.std.specs.List.{range_with_len};
 ghost use Rattle.mt_base.specs.declared.kinds.Kind.{Kind};
 ghost use Rattle.mt_base.specs.declared.kinds.Kind.TheVariants as kinds;
@@ -9,10 +9,10 @@ ghost use Rattle.mt_base.specs.declared.calls.Call.{Call};
 ghost use Rattle.mt_base.specs.declared.calls.Query.{Query};
 ghost use Rattle.mt_base.specs.declared.replies.Reply.{Reply};
 ghost use Rattle.mt_base.specs.declared.replies.Shortage.{Shortage};
-ghost use Rattle.mt_base.specs.Call.{acted};
+ghost use Rattle.mt_base.specs.Call.{acted, answer};
 ghost use Rattle.mt_base.specs.History.{Record, History, IsLegal, map_at, limits_after};
 ghost use Rattle.mt_base.specs.Holes.{IsRoom, low, high};
-ghost use Rattle.mt_base.specs.Map.{IsMap, holds, holding, over};
+ghost use Rattle.mt_base.specs.Map.{IsMap, first_met, holds, holding, is_held, over};
 ghost use Rattle.mt_base.specs.Nodes.{Limits, IsShort, Wants};
 ghost use Rattle.mt_base.specs.Passes.{Pass, Grows, IsSettled, Learned, Read, Saw, Wrote};
 ghost use Rattle.mt_base.specs.Width.{greatest_of, most_rows, most_taken};
@@ -50,6 +50,25 @@ pub fn worked_stores()
         ≡ record { first = 0; last = 39; entry = 1 } ∷ record { first = 61; last = 99; entry = 1 } ∷ [] }
     ensures top { over (over [] 0 (2 ^ 64 - 1) 7) (2 ^ 64 - 1) (2 ^ 64 - 1) 9
         ≡ record { first = 0; last = 2 ^ 64 - 2; entry = 7 } ∷ record { first = 2 ^ 64 - 1; last = 2 ^ 64 - 1; entry = 9 } ∷ [] }
+{}
+
+/// The range that a store meets first is the one that a find from its first index to its last answers, and there is one
+/// exactly where some range holds one of these indexes.
+#[tactic(auto, using(crate::proofs::FirstMet::met_is_found, crate::proofs::FirstMet::is_held_where_met))]
+pub fn a_store_meets_what_a_find_finds()
+    ensures found { (m : List Range) (first last : ℕ) → first ≤ last → first_met m first last ≡ answer m (Query.Find first last) }
+    ensures met { (m : List Range) (first last : ℕ) → is_held m first last ≡ is_some (first_met m first last) }
+{}
+
+/// Worked replies: stores onto nothing, over one range, from a hole into two, and an erasure of a range that was cut.
+pub fn worked_replies()
+    ensures hole { (acted kinds.Range [] (Call.Store 10 19 5)).1 ≡ Reply.Ok }
+    ensures within { (acted kinds.Range (record { first = 10; last = 19; entry = 5 } ∷ []) (Call.Store 0 99 7)).1 ≡ Reply.Over 5 }
+    ensures first { (acted kinds.Range32 (record { first = 5; last = 9; entry = 5 } ∷ record { first = 20; last = 29; entry = 6 } ∷ []) (Call.StorePre 6 20 0)).1 ≡ Reply.Over 5 }
+    ensures behind { (acted kinds.Alloc (record { first = 20; last = 29; entry = 6 } ∷ record { first = 30; last = 39; entry = 7 } ∷ []) (Call.Store 10 30 8)).1 ≡ Reply.Over 6 }
+    ensures beside { (acted kinds.Range (record { first = 20; last = 29; entry = 6 } ∷ []) (Call.Store 10 19 8)).1 ≡ Reply.Ok }
+    ensures whole { acted kinds.Range (record { first = 0; last = 49; entry = 7 } ∷ record { first = 200; last = 249; entry = 8 } ∷ []) (Call.Erase 20)
+        ≡ (record { first = 200; last = 249; entry = 8 } ∷ [], Reply.Was (record { first = 0; last = 49; entry = 7 })) }
 {}
 
 /// Where a search finds a start, so many indexes from there lie in the window, and no range holds one of them.

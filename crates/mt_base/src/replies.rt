@@ -1,15 +1,19 @@
 ghost use Rattle.std.specs.Prelude.{◌≡◌};
 ghost use Rattle.mt_base.specs.Errno.{errno_of};
 
+use crate::ranges::Range;
+
 /// The answer of a [`Call`].
 #[derive(Clone, Copy, Debug, PartialEq, Eq)]
 pub enum Reply {
-    /// The call was done.
+    /// The call was done. A store that answers so met no range: it overwrote nothing.
     Ok,
+    /// The store was done, and this is the entry of the first range that it met: it stands there no more.
+    Over(u64),
     /// The area that was sought begins here.
     Start(u64),
-    /// The range that held the index is removed, and this was its entry.
-    Was(u64),
+    /// The range that held the index is removed, and this was it.
+    Was(Range),
     /// No range held the index. Nothing was changed.
     None,
     /// Some index of the call's range is held already. Nothing was changed.
@@ -51,6 +55,6 @@ pub fn errno(reply: &Reply) -> Option<u32>
         Reply::Busy => Some(16),
         Reply::Exists => Some(17),
         Reply::Invalid => Some(22),
-        Reply::Ok | Reply::Start(_) | Reply::Was(_) | Reply::None => None,
+        Reply::Ok | Reply::Over(_) | Reply::Start(_) | Reply::Was(_) | Reply::None => None,
     }
 }

@@ -43,22 +43,6 @@ first_from_place m index max ordered = first_past (λ r. nat_lt r.last index) (�
 pub first_above_place : (m : List Range) (index max : ℕ) → IsMapFrom 0 m → first_range (filter (λ r. nat_lt index r.first && nat_le r.first max) m) ≡ up_to max (slice_get m (place_above m index))
 first_above_place m index max ordered = first_past (λ r. nat_le r.first index) (λ r. nat_lt index r.first) m 0 max (λ r. begins_above r.first index) ordered
 
--- whether some range passes a test is whether there is a first that does
-any_is_first : (p q : Range → Bool) (m : List Range) → ((r : Range) → p r ≡ q r) → list_any p m ≡ is_some (first_range (filter q m))
-any_is_first p q [] same = refl
-any_is_first p q (r ∷ m) same =
-    elim (cases_Bool (q r)) [ inl passes ↦ rw (same r, passes) refl | inr fails ↦ rw (same r, fails) (any_is_first p q m same) ]
-
-and_swap : (a b : Bool) → (a && b) ≡ (b && a)
-and_swap true true = refl
-and_swap true false = refl
-and_swap false true = refl
-and_swap false false = refl
-
--- some range holds an index of `first` to `last` where the query from `first` up to `last` finds a range
-pub is_held_where_found : (m : List Range) (first last : ℕ) → is_held m first last ≡ is_some (first_range (filter (λ r. nat_le first r.last && nat_le r.first last) m))
-is_held_where_found m first last = any_is_first (overlaps first last) (λ r. nat_le first r.last && nat_le r.first last) m (λ r. and_swap (nat_le r.first last) (nat_le first r.last))
-
 -- where a range stops a front, so does each range above it
 abbrev Stops : (Range → Bool) → Type 0
 Stops front = (r s : Range) → r.last < s.first → r.first ≤ r.last → s.first ≤ s.last → front r ≡ false → front s ≡ false

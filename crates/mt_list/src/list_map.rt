@@ -72,8 +72,9 @@ impl ListMap {
         if is_invalid(self.kind, first, last, entry) {
             return Ok(Reply::Invalid);
         }
+        let met = first_from(&self.ranges, first, last);
         store(&mut self.ranges, first, last, entry)?;
-        Ok(Reply::Ok)
+        Ok(met.map_or(Reply::Ok, |range| Reply::Over(range.entry)))
     }
 
     /// The same, where no range holds any of these indexes.
@@ -98,7 +99,7 @@ impl ListMap {
         ensures kind { self.new.kind ≡ self.old.kind }
     {
         match erase(&mut self.ranges, index) {
-            Some(range) => Reply::Was(range.entry),
+            Some(range) => Reply::Was(range),
             None => Reply::None,
         }
     }

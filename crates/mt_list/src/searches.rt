@@ -60,7 +60,7 @@ pub fn last_up_to(ranges: &[Range], index: u64, min: u64) -> Option<Range>
 }
 
 /// Whether a range holds some index of `first` to `last`.
-#[tactic(auto, using(crate::proofs::QueriesAtPlaces::is_held_where_found))]
+#[tactic(auto, using(mt_base::proofs::FirstMet::is_held_where_met))]
 pub fn is_held(ranges: &[Range], first: u64, last: u64) -> bool
     requires map { IsMapFrom 0 ranges.now }
     requires order { first ≤ last }
