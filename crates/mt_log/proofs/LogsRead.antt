@@ -1,5 +1,5 @@
 -- A log that can be read has lines that can follow, one behind the other.
-use Rattle.std.proofs.Common.{◌≡◌, ℕ, ◌+◌, ◌-◌, ◌≤◌, ◌<◌, ◌^◌, Bool, true, false, List, [], ◌∷◌, ◌++◌, Option, Some, None, Ok, Err, Result, length, slice_get, take, drop, codes, cond, append_assoc, arith, refl, sym, ap, ◌∙◌, subst}
+use Rattle.std.proofs.Common.{◌≡◌, inl, inr, ℕ, ◌+◌, ◌-◌, ◌≤◌, ◌<◌, ◌^◌, Bool, true, false, List, [], ◌∷◌, ◌++◌, Option, Some, None, Ok, Err, Result, length, slice_get, take, drop, codes, cond, append_assoc, arith, refl, sym, ap, ◌∙◌, subst}
 use Rattle.std.specs.Prelude.{◌==◌, ◌&&◌, is_some, nat_le, nat_lt}
 use Rattle.std.specs.Char.{is_ascii_digit, is_ascii_hexdigit}
 use Rattle.std.specs.List.{slice_split, list_all}
@@ -19,7 +19,7 @@ use Rattle.mt_base.proofs.WidthBounds.{greatest_fits}
 use Rattle.mt_log.specs.Fault.{Fault, on_line, ◌>>=◌}
 use Rattle.mt_log.specs.LogText.{IsLog}
 use Rattle.mt_log.specs.Name.{is_name}
-use Rattle.mt_log.specs.Reading.{Read, after_item, after_line, after_pieces, after_skipped, before_steps, room_for_tree, room_for_scan, most_scan_steps, place_of, tree_at, tree_of, new_name_of, kind_of, number_of, decimal_of, hexadecimal_of, index_of, size_of, entry_number_of, as_count, count_of, as_lane, lane_number_of, keyword_of, is_skipped, item_of, item_by, fields_of, tree_item, dup_item, check_item, lane_item, join_item, range_item, area_of, area_item, area_entry_item, index_item, bound_item, scan_item, whole_item, log_of_pieces, nothing_read}
+use Rattle.mt_log.specs.Reading.{Read, after_item, after_line, after_pieces, after_skipped, before_steps, room_for_tree, room_for_scan, most_scan_steps, place_of, tree_at, tree_of, new_name_of, kind_of, number_of, decimal_of, hexadecimal_of, index_of, size_of, entry_number_of, as_count, count_of, as_lane, lane_number_of, keyword_of, is_skipped, item_of, item_by, fields_of, tree_item, dup_item, check_item, lane_item, join_item, range_item, area_of, area_item, area_entry_item, index_item, bound_item, scan_item, whole_item, log_of_pieces, headed, nothing_read}
 use Rattle.mt_log.specs.Trees.{most_lanes, most_trees}
 use Rattle.mt_log.specs.declared.areas.Area.{Area}
 use Rattle.mt_log.specs.declared.faults.Why.{Why}
@@ -33,6 +33,7 @@ use Rattle.mt_log.specs.declared.trees.KnownTree.{KnownTree}
 use Rattle.mt_log.specs.declared.trees.NumberedTree.{NumberedTree}
 use Rattle.mt_log.proofs.Digits.{all_told, hexadecimal_is_short, tells_hexadecimal}
 use Rattle.mt_log.proofs.Following.{CallSays, CanAllFollow, CanFollow, IsNumber, QuerySays}
+use Rattle.mt_log.proofs.Pieces.{IsVersion}
 
 -- ---- what was read was read in each of its parts
 
@@ -389,23 +390,28 @@ abbrev the_log : ℕ → List Line → Log
 the_log version lines = record { version = version; lines = lines }
 
 -- the lines of a log, behind its first line
-behind : (named : Bool) (pieces : List (List ℕ)) (fault : Fault) (log : Log) → cond named (after_pieces nothing_read pieces >>= λ r. Ok (the_log 1 r.lines)) (Err fault) ≡ Ok log → (log.version ≡ 1) × CanAllFollow nothing_read log.lines
-behind false pieces fault log h = absurd (cc)
-behind true pieces fault log h =
+behind : (version : ℕ) → IsVersion version → (pieces : List (List ℕ)) (log : Log) → headed (Some version) pieces ≡ Ok log → IsVersion log.version × CanAllFollow nothing_read log.lines
+behind version is_version pieces log h =
     let read = bound (after_pieces nothing_read pieces) _ log h in
     let on : ReadsOn nothing_read read.0 = pieces_follow pieces nothing_read read.0 read.1 in
-    let is : the_log 1 read.0.lines ≡ log = (cc) in
-    subst (λ (l : Log). (l.version ≡ 1) × CanAllFollow nothing_read l.lines) is (refl, rw on.told on.follow)
+    let is : the_log version read.0.lines ≡ log = (cc) in
+    subst (λ (l : Log). IsVersion l.version × CanAllFollow nothing_read l.lines) is (is_version, rw on.told on.follow)
 
-log_pieces : (header piece : List ℕ) (pieces : List (List ℕ)) (log : Log) → log_of_pieces (header ∷ piece ∷ pieces) ≡ Ok log → (log.version ≡ 1) × CanAllFollow nothing_read log.lines
+-- by which of the versions its first line names
+versions : (first second : Bool) (pieces : List (List ℕ)) (log : Log) → headed (cond first (Some 1) (cond second (Some 2) None)) pieces ≡ Ok log → IsVersion log.version × CanAllFollow nothing_read log.lines
+versions true second pieces log h = behind 1 (inl refl) pieces log h
+versions false true pieces log h = behind 2 (inr refl) pieces log h
+versions false false pieces log h = absurd (cc)
+
+log_pieces : (header piece : List ℕ) (pieces : List (List ℕ)) (log : Log) → log_of_pieces (header ∷ piece ∷ pieces) ≡ Ok log → IsVersion log.version × CanAllFollow nothing_read log.lines
 log_pieces [] piece pieces log h = absurd (cc)
-log_pieces (b ∷ header) piece pieces log h = behind (bytes_eq (b ∷ header) (codes "mtlog 1")) (piece ∷ pieces) _ log h
+log_pieces (b ∷ header) piece pieces log h = versions (bytes_eq (b ∷ header) (codes "mtlog 1")) (bytes_eq (b ∷ header) (codes "mtlog 2")) (piece ∷ pieces) log h
 
-all_pieces : (pieces : List (List ℕ)) (log : Log) → log_of_pieces pieces ≡ Ok log → (log.version ≡ 1) × CanAllFollow nothing_read log.lines
+all_pieces : (pieces : List (List ℕ)) (log : Log) → log_of_pieces pieces ≡ Ok log → IsVersion log.version × CanAllFollow nothing_read log.lines
 all_pieces [] log h = absurd (cc)
 all_pieces ([] ∷ []) log h = absurd (cc)
 all_pieces ((b ∷ bytes) ∷ []) log h = absurd (cc)
 all_pieces (header ∷ piece ∷ pieces) log h = log_pieces header piece pieces log h
 
-pub log_follows : (log : Log) → IsLog log → (log.version ≡ 1) × CanAllFollow nothing_read log.lines
+pub log_follows : (log : Log) → IsLog log → IsVersion log.version × CanAllFollow nothing_read log.lines
 log_follows log h = all_pieces (slice_split (λ b. b == 10) h.0) log h.1

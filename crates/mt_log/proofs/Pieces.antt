@@ -1,11 +1,10 @@
-use Rattle.std.proofs.Common.{◌≡◌, ℕ, ◌+◌, ◌<◌, ◌≤◌, Bool, true, false, List, [], ◌∷◌, Ok, Err, Result, length, arith, refl, cond, ap, codes, length-append}
+use Rattle.std.proofs.Common.{◌≡◌, ◌⊎◌, ℕ, ◌+◌, ◌<◌, ◌≤◌, Bool, true, false, List, [], ◌∷◌, Ok, Err, Result, length, arith, refl, cond, ap, length-append}
 use Rattle.std.specs.List.{slice_split, onto_first}
-use Rattle.std.specs.Str.{bytes_eq}
 use Rattle.mt_log.specs.declared.faults.Why.{Why}
-use Rattle.mt_log.specs.declared.faults.Why.TheVariants.{NoNewline, Header}
+use Rattle.mt_log.specs.declared.faults.Why.TheVariants.{NoNewline}
 use Rattle.mt_log.specs.declared.lines.Item.{Item}
 use Rattle.mt_log.specs.Fault.{fault_at, on_line, ◌>>=◌}
-use Rattle.mt_log.specs.Reading.{Read, is_skipped, after_skipped, after_item, after_line, after_pieces, log_of_pieces, nothing_read, item_of, fields_of}
+use Rattle.mt_log.specs.Reading.{Read, is_skipped, after_skipped, after_item, after_line, after_pieces, log_of_pieces, headed, version_in, item_of, fields_of}
 
 -- there is a first part
 some_part : (p : ℕ → Bool) (xs : List ℕ) → (part : List ℕ) × (parts : List (List ℕ)) × (slice_split p xs ≡ part ∷ parts)
@@ -34,13 +33,17 @@ pub left_over : (r : Read) (rest : List ℕ) → 0 < length rest → after_piece
 left_over r [] h = absurd (omega arith)
 left_over r (b ∷ rest) h = refl
 
--- behind the first line stand the others
-pub behind_header : (p : ℕ → Bool) (header rest : List ℕ) → bytes_eq header (codes "mtlog 1") ≡ true → log_of_pieces (header ∷ slice_split p rest) ≡ (after_pieces nothing_read (slice_split p rest) >>= λ r. Ok (record { version = 1; lines = r.lines }))
-behind_header p header rest named = let first = some_part p rest in rw (first.2, named) refl
+-- there are these versions
+abbrev pub IsVersion : ℕ → Type 0
+IsVersion version = (version ≡ 1) ⊎ (version ≡ 2)
 
--- another first line is no header
-pub other_header : (p : ℕ → Bool) (header rest : List ℕ) → bytes_eq header (codes "mtlog 1") ≡ false → log_of_pieces (header ∷ slice_split p rest) ≡ Err (fault_at 1 Header)
-other_header p header rest other = let first = some_part p rest in rw (first.2, other) refl
+headed_by : (header piece : List ℕ) (pieces : List (List ℕ)) → log_of_pieces (header ∷ piece ∷ pieces) ≡ headed (version_in header) (piece ∷ pieces)
+headed_by [] piece pieces = refl
+headed_by (b ∷ header) piece pieces = refl
+
+-- behind the first line, which names the version, stand the others
+pub behind_header : (p : ℕ → Bool) (header rest : List ℕ) → log_of_pieces (header ∷ slice_split p rest) ≡ headed (version_in header) (slice_split p rest)
+behind_header p header rest = let first = some_part p rest in rw first.2 (headed_by header first.0 first.1)
 
 grown : (r s : Read) (skipped : Bool) (said : Result Item Why) → cond skipped (Ok (after_skipped r)) (on_line r.next said >>= λ item. Ok (after_item r item)) ≡ Ok s → (s.next ≡ r.next + 1) × (length s.lines ≤ length r.lines + 1)
 grown r s true said h = let is : after_skipped r ≡ s = (cc) in rw (← is) (refl, omega arith)

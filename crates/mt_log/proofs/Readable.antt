@@ -1,5 +1,5 @@
 -- Lines that can follow, one behind the other, are those of a log that can be read.
-use Rattle.std.proofs.Common.{◌≡◌, ℕ, ◌≤◌, List, [], ◌∷◌, ◌++◌, append_assoc, arith, sym, subst}
+use Rattle.std.proofs.Common.{ℕ, ◌≤◌, List, [], ◌∷◌, ◌++◌, append_assoc, arith, sym, subst}
 use Rattle.std.proofs.lemmas.List.{append-nil}
 use Rattle.mt_log.specs.LogText.{IsLog, log_text}
 use Rattle.mt_log.specs.Reader.{IsSound}
@@ -8,6 +8,7 @@ use Rattle.mt_log.specs.Trees.{IsReadable}
 use Rattle.mt_log.specs.declared.lines.Line.{Line}
 use Rattle.mt_log.specs.declared.lines.Log.{Log}
 use Rattle.mt_log.proofs.Following.{CanAllFollow, at_line}
+use Rattle.mt_log.proofs.Pieces.{IsVersion}
 use Rattle.mt_log.proofs.RoundTrip.{at_line_too, prints}
 use Rattle.mt_log.proofs.Soundness.{sound_more, sound_nothing}
 
@@ -25,5 +26,5 @@ pub are_readable : (lines : List Line) → CanAllFollow nothing_read lines → I
 are_readable lines h = sound_behind nothing_read lines sound_nothing h
 
 -- and they make a log, which its own text is
-pub is_log : (log : Log) → log.version ≡ 1 → CanAllFollow nothing_read log.lines → IsLog log
+pub is_log : (log : Log) → IsVersion log.version → CanAllFollow nothing_read log.lines → IsLog log
 is_log log version h = (log_text log, prints log version h)

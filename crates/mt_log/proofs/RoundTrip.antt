@@ -1,8 +1,9 @@
 -- A log in print reads as this very log.
-use Rattle.std.proofs.Common.{◌≡◌, ℕ, zero, suc, ◌+◌, ◌-◌, ◌<◌, true, false, List, [], ◌∷◌, ◌++◌, Ok, length, replicate, codes, add-zero, append_assoc, arith, refl, sym, ap, ◌∙◌}
+use Rattle.std.proofs.Common.{◌≡◌, inl, inr, ℕ, zero, suc, ◌+◌, ◌-◌, ◌<◌, true, false, List, [], ◌∷◌, ◌++◌, Ok, length, replicate, codes, add-zero, append_assoc, arith, refl, sym, ap, ◌∙◌}
 use Rattle.std.specs.Prelude.{◌==◌}
 use Rattle.std.specs.Fmt.{decimal}
 use Rattle.std.specs.List.{join_with_byte, slice_split}
+use Rattle.std.proofs.lemmas.Fmt.{decimal_digit}
 use Rattle.std.proofs.lemmas.List.{append-nil}
 use Rattle.mt_base.specs.Text.{kind_text}
 use Rattle.mt_base.specs.declared.calls.Call.{Call}
@@ -11,6 +12,7 @@ use Rattle.mt_base.specs.declared.calls.Query.{Query}
 use Rattle.mt_base.specs.declared.calls.Query.TheVariants.{Load, Find, Next, Prev, Rfind}
 use Rattle.mt_base.specs.declared.kinds.Kind.{Kind}
 use Rattle.mt_base.specs.declared.kinds.Kind.TheVariants as kinds
+use Rattle.mt_log.specs.Fault.{◌>>=◌}
 use Rattle.mt_log.specs.LogText.{IsLog, call_fields, query_fields, item_fields, line_text, lines_text, log_text, name_at, names_after}
 use Rattle.mt_log.specs.Reading.{Read, after_item, after_line, after_pieces, after_skipped, fields_of, is_skipped, log_of, nothing_read}
 use Rattle.mt_log.specs.Trees.{known_after}
@@ -21,7 +23,7 @@ use Rattle.mt_log.specs.declared.lines.Log.{Log}
 use Rattle.mt_log.specs.declared.trees.KnownTree.{KnownTree}
 use Rattle.mt_log.proofs.Following.{AreNamed, CallSays, CanAllFollow, CanFollow, IsNumber, QuerySays, at_line}
 use Rattle.mt_log.proofs.LogsRead.{log_follows}
-use Rattle.mt_log.proofs.Pieces.{behind_header, first_line}
+use Rattle.mt_log.proofs.Pieces.{IsVersion, behind_header, first_line}
 use Rattle.mt_log.proofs.PrintedItems.{item_reads, names_of, some_tree}
 use Rattle.mt_log.proofs.PrintedLines.{are_above, are_fields, fields_again, line_of_fields, name_is_field, number_is_field, split_here}
 use Rattle.mt_log.proofs.PrintedTrees.{named_after, names_kept}
@@ -153,13 +155,16 @@ the_log version lines = record { version = version; lines = lines }
 none_named : AreNamed []
 none_named place tree h = absurd (cc)
 
+-- behind a header in print stand the lines
+headed : (version : ℕ) → IsVersion version → (rest : List ℕ) → log_of (codes "mtlog " ++ (decimal version ++ 10 ∷ rest)) ≡ (after_pieces nothing_read (pieces rest) >>= λ r. Ok (the_log version r.lines))
+headed version (inl is) rest = let told : decimal version ≡ codes "1" = rw is (decimal_digit 1 (omega arith)) in rw (told, is) (behind_header (λ b. b == 10) (codes "mtlog 1") rest)
+headed version (inr is) rest = let told : decimal version ≡ codes "2" = rw is (decimal_digit 2 (omega arith)) in rw (told, is) (behind_header (λ b. b == 10) (codes "mtlog 2") rest)
+
 -- a log of lines that can follow, one behind the other, is read as it is printed
-pub prints : (log : Log) → log.version ≡ 1 → CanAllFollow nothing_read log.lines → log_of (log_text log) ≡ Ok log
+pub prints : (log : Log) → IsVersion log.version → CanAllFollow nothing_read log.lines → log_of (log_text log) ≡ Ok log
 prints log version h =
     let read : AreRead nothing_read (lines_text [] 1 log.lines) log.lines = lines_read log.lines nothing_read 1 none_named refl h in
-    let whole : Log = record { version = 1; lines = read.last.lines } in
-    let same : whole ≡ log = ap (λ (ls : List Line). the_log 1 ls) read.told ∙ ap (λ (v : ℕ). the_log v log.lines) (sym version) in
-    behind_header (λ b. b == 10) (codes "mtlog 1") (lines_text [] 1 log.lines) refl ∙ rw read.read (ap (λ (l : Log). Ok l) same)
+    headed log.version version (lines_text [] 1 log.lines) ∙ rw read.read (ap (λ (ls : List Line). Ok (the_log log.version ls)) read.told)
 
 pub reads_again : (log : Log) → IsLog log → log_of (log_text log) ≡ Ok log
 reads_again log h = let follows = log_follows log h in prints log follows.0 follows.1

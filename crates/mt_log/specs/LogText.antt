@@ -66,7 +66,7 @@ lines_text names number (line ∷ lines) = replicate (line.number - number - 1) 
 
 -- the text of a log
 abbrev pub log_text : Log → List ℕ
-log_text log = codes "mtlog 1" ++ 10 ∷ lines_text [] 1 log.lines
+log_text log = codes "mtlog " ++ (decimal log.version ++ (10 ∷ lines_text [] 1 log.lines))
 
 -- it is a log that some bytes are
 abbrev pub IsLog : Log → Type 0

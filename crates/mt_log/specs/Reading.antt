@@ -1,6 +1,6 @@
 -- The log that bytes are, or the first line that is bad and why. It is read off the list of lines, cut at each LF,
 -- and the list of a line's fields, cut at each space.
-use Rattle.std.specs.Prelude.{ℕ, Bool, true, false, List, [], ◌∷◌, ◌++◌, Option, Result, Ok, Err, ◌+◌, ◌-◌, ◌^◌, ◌==◌, ◌&&◌, nat_lt, nat_le, is_some, length, map, take, drop, position, slice_get, codes, if◌then◌else◌}
+use Rattle.std.specs.Prelude.{ℕ, Bool, true, false, List, [], ◌∷◌, ◌++◌, Option, Result, Some, None, Ok, Err, ◌+◌, ◌-◌, ◌^◌, ◌==◌, ◌&&◌, nat_lt, nat_le, is_some, length, map, take, drop, position, slice_get, codes, if◌then◌else◌}
 use Rattle.std.specs.List.{find, slice_split, list_all}
 use Rattle.std.specs.Option.{ok_or, option_map, option_and_then}
 use Rattle.std.specs.Char.{is_ascii_digit, is_ascii_hexdigit}
@@ -300,13 +300,20 @@ after_pieces r ([] ∷ []) = Ok r
 after_pieces r ((b ∷ bytes) ∷ []) = Err (fault_at r.next why.NoNewline)
 after_pieces r (line ∷ piece ∷ pieces) = after_line r line >>= λ s. after_pieces s (piece ∷ pieces)
 
+-- the version that line 1 names
+abbrev pub version_in : List ℕ → Option ℕ
+version_in header = if bytes_eq header (codes "mtlog 1") then Some 1 else (if bytes_eq header (codes "mtlog 2") then Some 2 else None)
+
+-- the log of this version that the pieces behind line 1 are
+abbrev pub headed : Option ℕ → List (List ℕ) → Result Log Fault
+headed None pieces = Err (fault_at 1 why.Header)
+headed (Some version) pieces = after_pieces nothing_read pieces >>= λ r. Ok (record { version = version; lines = r.lines })
+
 abbrev pub log_of_pieces : List (List ℕ) → Result Log Fault
 log_of_pieces [] = Err (fault_at 1 why.Header)
 log_of_pieces ([] ∷ []) = Err (fault_at 1 why.Header)
 log_of_pieces ((b ∷ bytes) ∷ []) = Err (fault_at 1 why.NoNewline)
-log_of_pieces (header ∷ piece ∷ pieces) =
-    if bytes_eq header (codes "mtlog 1") then (after_pieces nothing_read (piece ∷ pieces) >>= λ r. Ok (record { version = 1; lines = r.lines }))
-    else Err (fault_at 1 why.Header)
+log_of_pieces (header ∷ piece ∷ pieces) = headed (version_in header) (piece ∷ pieces)
 
 -- the log that the bytes are
 abbrev pub log_of : List ℕ → Result Log Fault

@@ -6,7 +6,7 @@ use std::fmt;
 pub enum Why {
     /// The last line is not ended.
     NoNewline,
-    /// The first line is not `mtlog 1`.
+    /// The first line is neither `mtlog 1` nor `mtlog 2`.
     Header,
     /// The first field is no word of the language.
     Unknown,

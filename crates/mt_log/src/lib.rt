@@ -21,10 +21,11 @@ mod transcripts;
 mod trees;
 
 pub use faults::{LogError, Why};
+pub use line_ends::{LineEnd, ROOM};
 pub use lines::{Item, Line, Lines, Log};
 pub use names::Word;
 pub use printing::print_log;
 pub use reading::read_log;
-pub use rendering::render;
+pub use rendering::{put_kind, put_range, put_reply, render};
 pub use transcripts::{Answer, Entries, Entry, Listing, Listings, RangeList, Said, Transcript};
 pub use trees::KnownTree;

@@ -261,6 +261,17 @@ fn push_line(
     text.extend_from_slice(line.as_bytes())
 }
 
+/// Adds line 1, which names the version.
+fn push_header(text: &mut Vec<u8>, version: u32) -> Result<(), AllocError>
+    ensures { OnOk result (text.new.items ≡ text.old.items ++ (codes "mtlog " ++ (decimal version ++ 10 ∷ []))) }
+{
+    let mut line = LineEnd::new();
+    line.begin();
+    line.number(u64::from(version));
+    line.text(b"mtlog ");
+    text.extend_from_slice(line.as_bytes())
+}
+
 /// Adds the lines behind the first.
 fn push_lines(alloc: Global, text: &mut Vec<u8>, lines: &[Line]) -> Result<(), AllocError>
     ensures { OnOk result (text.new.items ≡ text.old.items ++ lines_text [] 1 lines.now) }
@@ -282,7 +293,6 @@ fn push_lines(alloc: Global, text: &mut Vec<u8>, lines: &[Line]) -> Result<(), A
 /// # Errors
 ///
 /// `NoMemory` where memory ran out.
-#[tactic(auto, using(crate::proofs::RoundTrip::reads_again))]
 pub fn print_log(alloc: Global, log: &Log) -> Result<Vec<u8>, NoMemory>
     requires { IsLog log.now }
     ensures text { IfOk result (λ text. text.items ≡ log_text log.now) }
@@ -290,7 +300,7 @@ pub fn print_log(alloc: Global, log: &Log) -> Result<Vec<u8>, NoMemory>
 {
     let lines = log.lines.as_slice();
     let mut text = Vec::with_capacity(alloc, LINE * lines.len())?;
-    text.extend_from_slice(b"mtlog 1\n")?;
+    push_header(&mut text, log.version)?;
     push_lines(alloc, &mut text, lines)?;
     Ok(text)
 }

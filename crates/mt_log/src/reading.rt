@@ -2,7 +2,7 @@ ghost use Rattle.std.specs.Prelude.{◌≡◌, ◌≤◌, ◌<◌, ◌^◌, ◌-
 ghost use Rattle.std.specs.List.{slice_split};
 ghost use Rattle.mt_log.specs.Fault.{Reads};
 ghost use Rattle.mt_log.specs.Reader.{IsSound, MayFollow};
-ghost use Rattle.mt_log.specs.Reading.{fields_of, item_of, nothing_read, is_skipped, after_line, after_pieces, log_of};
+ghost use Rattle.mt_log.specs.Reading.{fields_of, item_of, nothing_read, is_skipped, after_line, after_pieces, log_of, version_in};
 ghost use Rattle.mt_log.specs.Trees.{IsReadable};
 
 use crate::cuts::cut_line;
@@ -79,12 +79,25 @@ fn read_lines(alloc: Global, text: &[u8]) -> Result<Reader, LogError>
     Ok(reader)
 }
 
+/// The version that line 1 names.
+fn version_in(header: &[u8]) -> Option<u32>
+    ensures { result ≡ version_in header.now }
+{
+    if header == b"mtlog 1".as_slice() {
+        return Some(1);
+    }
+    if header == b"mtlog 2".as_slice() {
+        return Some(2);
+    }
+    None
+}
+
 /// The log that the bytes are.
 ///
 /// # Errors
 ///
 /// `Bad` where the bytes are no log, with the first bad line and the first failed test of it; `NoMemory` where memory ran out.
-#[tactic(auto, using(crate::proofs::Pieces::behind_header, crate::proofs::Pieces::other_header))]
+#[tactic(auto, using(crate::proofs::Pieces::behind_header))]
 pub fn read_log(alloc: Global, bytes: &[u8]) -> Result<Log, LogError>
     ensures log { Reads (λ log. log) result (log_of bytes.now) }
     ensures readable { IfOk result (λ log. IsReadable log.lines) }
@@ -98,15 +111,15 @@ pub fn read_log(alloc: Global, bytes: &[u8]) -> Result<Log, LogError>
         };
         return Err(LogError::Bad { line: 1, why });
     };
-    if header != b"mtlog 1".as_slice() {
+    let Some(version) = version_in(header) else {
         return Err(LogError::Bad {
             line: 1,
             why: Why::Header,
         });
-    }
+    };
     let reader = read_lines(alloc, text)?;
     Ok(Log {
-        version: 1,
+        version,
         lines: Lines::new(reader.into_lines()),
     })
 }

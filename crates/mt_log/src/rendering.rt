@@ -1,7 +1,7 @@
 ghost use Rattle.std.specs.Prelude.{◌≡◌, ◌≤◌, ◌+◌, ◌++◌, IfOk, OnOk, length};
 ghost use Rattle.std.specs.List.{flat_map};
 ghost use Rattle.mt_base.specs.Text.{kind_text, range_text};
-ghost use Rattle.mt_log.specs.Text.{answer_text, entry_text, reply_text, said_text, range_line, listing_text, text_of};
+ghost use Rattle.mt_log.specs.Text.{answer_text, entry_text, over_text, reply_text, said_text, shortage_text, was_text, range_line, listing_text, text_of};
 
 use crate::kinds::kind_text;
 use crate::line_ends::{LineEnd, ROOM};
@@ -12,7 +12,7 @@ use std::alloc::{AllocError, Global};
 /// Puts the numbers of a shortage in front.
 fn put_shortage(line: &mut LineEnd, shortage: Shortage)
     requires { length line.old + 90 ≤ ROOM }
-    ensures text { line.new ≡ reply_text (Reply.NoNodes shortage) ++ line.old }
+    ensures text { line.new ≡ shortage_text shortage ++ line.old }
     ensures long { length line.new ≤ 90 + length line.old }
 {
     line.number(shortage.held);
@@ -25,22 +25,48 @@ fn put_shortage(line: &mut LineEnd, shortage: Shortage)
     line.text(b"nomem ");
 }
 
-/// Puts a reply in front.
-fn put_reply(line: &mut LineEnd, reply: Reply)
+/// Puts in front that a store was done, and from the second version on which entry it overwrote.
+fn put_over(line: &mut LineEnd, version: u32, entry: u64)
     requires { length line.old + 90 ≤ ROOM }
-    ensures text { line.new ≡ reply_text reply ++ line.old }
+    ensures text { line.new ≡ over_text version entry ++ line.old }
+    ensures long { length line.new ≤ 90 + length line.old }
+{
+    if version == 1 {
+        line.text(b"ok");
+        return;
+    }
+    line.number(entry);
+    line.text(b"over ");
+}
+
+/// Puts in front the range that an erasure removed; in the first version its entry alone.
+fn put_was(line: &mut LineEnd, version: u32, range: &Range)
+    requires { length line.old + 90 ≤ ROOM }
+    ensures text { line.new ≡ was_text version range.now ++ line.old }
+    ensures long { length line.new ≤ 90 + length line.old }
+{
+    if version == 1 {
+        line.number(range.entry);
+    } else {
+        put_range(line, range);
+    }
+    line.text(b"was ");
+}
+
+/// Puts a reply in front.
+pub fn put_reply(line: &mut LineEnd, version: u32, reply: Reply)
+    requires { length line.old + 90 ≤ ROOM }
+    ensures text { line.new ≡ reply_text version reply ++ line.old }
     ensures long { length line.new ≤ 90 + length line.old }
 {
     match reply {
         Reply::Ok => line.text(b"ok"),
+        Reply::Over(entry) => put_over(line, version, entry),
         Reply::Start(start) => {
             line.number(start);
             line.text(b"start ");
         }
-        Reply::Was(entry) => {
-            line.number(entry);
-            line.text(b"was ");
-        }
+        Reply::Was(range) => put_was(line, version, &range),
         Reply::None => line.text(b"none"),
         Reply::Exists => line.text(b"exists"),
         Reply::Invalid => line.text(b"invalid"),
@@ -50,7 +76,7 @@ fn put_reply(line: &mut LineEnd, reply: Reply)
 }
 
 /// Puts a range in front.
-fn put_range(line: &mut LineEnd, range: &Range)
+pub fn put_range(line: &mut LineEnd, range: &Range)
     requires { length line.old + 62 ≤ ROOM }
     ensures text { line.new ≡ range_text range.now ++ line.old }
     ensures long { length line.new ≤ 62 + length line.old }
@@ -82,14 +108,14 @@ fn put_answer(line: &mut LineEnd, value: Answer)
 }
 
 /// Puts in front what a line of a log was answered.
-fn put_said(line: &mut LineEnd, said: Said)
+fn put_said(line: &mut LineEnd, version: u32, said: Said)
     requires { length line.old + 111 ≤ ROOM }
-    ensures text { line.new ≡ said_text said ++ line.old }
+    ensures text { line.new ≡ said_text version said ++ line.old }
     ensures long { length line.new ≤ 111 + length line.old }
 {
     match said {
         Said::Wrote { call, reply } => {
-            put_reply(line, reply);
+            put_reply(line, version, reply);
             line.text(b" ");
             line.number(call);
         }
@@ -112,11 +138,16 @@ fn put_said(line: &mut LineEnd, said: Said)
 }
 
 /// Adds the line of an entry.
-fn push_entry(text: &mut Vec<u8>, line: &mut LineEnd, entry: &Entry) -> Result<(), AllocError>
-    ensures { OnOk result (text.new.items ≡ text.old.items ++ entry_text entry.now) }
+fn push_entry(
+    text: &mut Vec<u8>,
+    line: &mut LineEnd,
+    version: u32,
+    entry: &Entry,
+) -> Result<(), AllocError>
+    ensures { OnOk result (text.new.items ≡ text.old.items ++ entry_text version entry.now) }
 {
     line.begin();
-    put_said(line, entry.said);
+    put_said(line, version, entry.said);
     line.text(b" ");
     line.number(entry.line);
     text.extend_from_slice(line.as_bytes())
@@ -165,11 +196,16 @@ fn push_listing(text: &mut Vec<u8>, line: &mut LineEnd, listing: &Listing) -> Re
     push_ranges(text, line, ranges)
 }
 
-fn push_entries(text: &mut Vec<u8>, line: &mut LineEnd, entries: &[Entry]) -> Result<(), AllocError>
-    ensures { OnOk result (text.new.items ≡ text.old.items ++ flat_map entry_text entries.now) }
+fn push_entries(
+    text: &mut Vec<u8>,
+    line: &mut LineEnd,
+    version: u32,
+    entries: &[Entry],
+) -> Result<(), AllocError>
+    ensures { OnOk result (text.new.items ≡ text.old.items ++ flat_map (entry_text version) entries.now) }
 {
     for entry in entries {
-        push_entry(text, line, entry)?;
+        push_entry(text, line, version, entry)?;
     }
     Ok(())
 }
@@ -197,7 +233,12 @@ pub fn render(alloc: Global, transcript: &Transcript) -> Result<Vec<u8>, NoMemor
 {
     let mut text = Vec::new(alloc);
     let mut line = LineEnd::new();
-    push_entries(&mut text, &mut line, transcript.entries.as_slice())?;
+    push_entries(
+        &mut text,
+        &mut line,
+        transcript.version,
+        transcript.entries.as_slice(),
+    )?;
     push_listings(&mut text, &mut line, transcript.lists.as_slice())?;
     Ok(text)
 }

@@ -13,10 +13,12 @@ use Rattle.mt_log.specs.declared.transcripts.Said.TheVariants.{Wrote, Got, Lawfu
 use Rattle.mt_log.specs.declared.transcripts.Transcript.{Transcript}
 use Rattle.mt_made.specs.declared.summaries.Summary.{Summary}
 
+-- a store counts as done, whatever it overwrote
 abbrev pub reply_word : Reply → List ℕ
 reply_word replies.Ok = codes "ok"
+reply_word (replies.Over entry) = codes "ok"
 reply_word (replies.Start start) = codes "start"
-reply_word (replies.Was entry) = codes "was"
+reply_word (replies.Was range) = codes "was"
 reply_word replies.None = codes "none"
 reply_word replies.Exists = codes "exists"
 reply_word replies.Invalid = codes "invalid"

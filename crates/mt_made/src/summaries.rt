@@ -79,7 +79,7 @@ impl Summary {
         ensures { self.new ≡ one_more (reply_word reply.now) self.old }
     {
         match reply {
-            Reply::Ok => self.ok += 1,
+            Reply::Ok | Reply::Over(_) => self.ok += 1,
             Reply::Start(_) => self.start += 1,
             Reply::Was(_) => self.was += 1,
             Reply::None => self.none += 1,

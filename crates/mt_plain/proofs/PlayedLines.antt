@@ -314,6 +314,6 @@ listed (t ∷ ts) (d ∷ ds) (h ∷ hs) of held =
     let named = of.0 in let holds = held.0 in
     λ i. record { name = named.name i; kind = named.kind i; ranges = holds.ranges i } ∷ behind i
 
-pub run_of : (rows : ℕ) (log : Log) (t : Transcript) (player : PlayerState) → IsPlayed rows log.lines player → t.entries ≡ player.entries → t.lists ≡ map listing_of player.trees → IsRun log rows t
-run_of rows log t player (steps, trees, p) entries lists =
-    played_is_run most_lanes rows (phase_behind 0 log.lines) (stepped_from false log.lines) log t steps trees p.played p.done (entries ∙ p.told) (lists ∙ listed player.trees (trees_of log.lines) trees p.declared p.held)
+pub run_of : (rows : ℕ) (log : Log) (t : Transcript) (player : PlayerState) → IsPlayed rows log.lines player → t.version ≡ log.version → t.entries ≡ player.entries → t.lists ≡ map listing_of player.trees → IsRun log rows t
+run_of rows log t player (steps, trees, p) version entries lists =
+    played_is_run most_lanes rows (phase_behind 0 log.lines) (stepped_from false log.lines) log t steps trees p.played p.done version (entries ∙ p.told) (lists ∙ listed player.trees (trees_of log.lines) trees p.declared p.held)

@@ -293,6 +293,7 @@ pub fn play<M: Plain>(alloc: Global, log: &Log, rows: u64) -> Result<Transcript,
     let mut player = play_lines::<M>(alloc, log.lines.as_slice(), rows)?;
     let lists = list_trees(alloc, &mut player.trees)?;
     Ok(Transcript {
+        version: log.version,
         entries: Entries::new(player.entries),
         lists: Listings::new(lists),
     })

@@ -220,9 +220,9 @@ phase_played passes rows phase stepped declared steps trees p = record {
   still = λ none. refl;
 }
 
-pub played_is_run : (passes rows phase : ℕ) (stepped : Bool) (log : Log) (t : Transcript) (steps : List Step) (trees : List History) → HasPlayed passes rows phase stepped (trees_of log.lines) steps trees → AreDone (steps_of log.lines) steps → t.entries ≡ map entry_of steps → t.lists ≡ listings_of (trees_of log.lines) trees → IsRun log rows t
-played_is_run passes rows phase stepped log t steps trees p asked told lists =
-    ran_is_run passes rows (phase + 1) log t steps (map (known_to_all passes) trees) (phase_over passes rows phase stepped (trees_of log.lines) steps trees p) asked told (lists ∙ ap (listings_of (trees_of log.lines)) (sym (histories_known passes trees)))
+pub played_is_run : (passes rows phase : ℕ) (stepped : Bool) (log : Log) (t : Transcript) (steps : List Step) (trees : List History) → HasPlayed passes rows phase stepped (trees_of log.lines) steps trees → AreDone (steps_of log.lines) steps → t.version ≡ log.version → t.entries ≡ map entry_of steps → t.lists ≡ listings_of (trees_of log.lines) trees → IsRun log rows t
+played_is_run passes rows phase stepped log t steps trees p asked version told lists =
+    ran_is_run passes rows (phase + 1) log t steps (map (known_to_all passes) trees) (phase_over passes rows phase stepped (trees_of log.lines) steps trees p) asked version told (lists ∙ ap (listings_of (trees_of log.lines)) (sym (histories_known passes trees)))
 
 -- ---- the trees are those that were declared
 

@@ -115,8 +115,8 @@ step_stands steps trees s h is holds upto counts = (h, is, stands s.outcome hold
 at_step : (P : ℕ → Step → Type 0) (steps : List Step) (k : ℕ) (d : Step) → k < length steps → AllByRecursion (λ (s : Step). s.tree ≡ (get_or steps k d).tree → P (get_or steps k d).tree s) steps → P (get_or steps k d).tree (get_or steps k d)
 at_step P steps k d l h = All-from_recursion (λ (s : Step). s.tree ≡ (get_or steps k d).tree → P (get_or steps k d).tree s) steps h k d l refl
 
-pub ran_is_run : (passes rows phase : ℕ) (log : Log) (t : Transcript) (steps : List Step) (trees : List Tracked) → Ran passes rows phase (trees_of log.lines) steps trees → AreDone (steps_of log.lines) steps → t.entries ≡ map entry_of steps → t.lists ≡ listings_of (trees_of log.lines) (histories_of trees) → IsRun log rows t
-ran_is_run passes rows phase log t steps trees r asked told lists =
+pub ran_is_run : (passes rows phase : ℕ) (log : Log) (t : Transcript) (steps : List Step) (trees : List Tracked) → Ran passes rows phase (trees_of log.lines) steps trees → AreDone (steps_of log.lines) steps → t.version ≡ log.version → t.entries ≡ map entry_of steps → t.lists ≡ listings_of (trees_of log.lines) (histories_of trees) → IsRun log rows t
+ran_is_run passes rows phase log t steps trees r asked version told lists =
     let within : AllByRecursion (λ (s : Step). s.lane < passes) steps = lanes_below passes phase steps r.placed in
     let named : All (λ (s : Step). s.tree < length trees) steps = All-from_recursion (λ (s : Step). s.tree < length trees) steps r.named in
     let long : length (histories_of trees) ≡ length trees = length-map trees (λ (t : Tracked). t.history) in
@@ -124,6 +124,7 @@ ran_is_run passes rows phase log t steps trees r asked told lists =
       steps,
       histories_of trees,
       record {
+        version = version;
         asked = asked;
         told = told;
         count = long ∙ r.count;

@@ -34,7 +34,7 @@ abbrev earlier : Record
 earlier = record { pass = 0; call = calls.Store 0 9 1; reply = replies.Ok }
 
 abbrev later : Record
-later = record { pass = 1; call = calls.Store 5 5 3; reply = replies.Ok }
+later = record { pass = 1; call = calls.Store 5 5 3; reply = replies.Over 1 }
 
 abbrev tree_after : List Record → History
 tree_after records = record { kind = kinds.Range; rows = 65504; opening = []; records = records }
@@ -49,7 +49,7 @@ abbrev checked : Step
 checked = step_in 1 0 5 0 (Counted said.Lawful one_range)
 
 abbrev stored : Step
-stored = step_in 1 1 7 0 (Called 2 (calls.Store 5 5 3) replies.Ok)
+stored = step_in 1 1 7 0 (Called 2 (calls.Store 5 5 3) (replies.Over 1))
 
 abbrev loaded : Step
 loaded = step_in 1 0 9 0 (Looked 1 1 1 (queries.Load 5) (Some (record { first = 0; last = 9; entry = 1 })))
@@ -72,7 +72,7 @@ first_next : IsNext (tree_after []) earlier one_range
 first_next = done_is_next (tree_after []) 0 (calls.Store 0 9 1) one_range replies.Ok refl
 
 next : IsNext tree_before later three_ranges
-next = done_is_next tree_before 1 (calls.Store 5 5 3) three_ranges replies.Ok refl
+next = done_is_next tree_before 1 (calls.Store 5 5 3) three_ranges (replies.Over 1) refl
 
 settled_before : IsSettled tree_before (known_to_all 2 tree_before).passes
 settled_before = settled_next 2 (tree_after []) earlier one_range (omega arith) (informed_are_settled 2 (tree_after []) (λ k d l. absurd (omega arith)) (λ k d l. absurd (omega arith)) tt) first_next
@@ -87,7 +87,7 @@ gone = record { count = refl; leads = leads }
   where
     leads : (lane : ℕ) (p m : Pass) → slice_get (known_to_all 2 tree_before).passes lane ≡ Some p → slice_get halfway lane ≡ Some m → Leads tree_before p (outcomes_of 0 lane (joined (told lane))) m
     leads zero p m was is = rw (same_some p (informed (earlier ∷ []) 0) (sym was), same_some m (informed (earlier ∷ []) 0) (sym is)) (leads_one tree_before (informed (earlier ∷ []) 0) loaded.outcome (informed (earlier ∷ []) 0) (informed_reads tree_before 0 (queries.Load 5) settled_before.legal))
-    leads (suc zero) p m was is = rw (same_some p (informed (earlier ∷ []) 1) (sym was), same_some m (informed (earlier ∷ later ∷ []) 1) (sym is)) (leads_one tree_before (informed (earlier ∷ []) 1) stored.outcome (informed (earlier ∷ later ∷ []) 1) (refl, informed_wrote tree_before 1 (calls.Store 5 5 3) replies.Ok three_ranges settled_before.legal next))
+    leads (suc zero) p m was is = rw (same_some p (informed (earlier ∷ []) 1) (sym was), same_some m (informed (earlier ∷ later ∷ []) 1) (sym is)) (leads_one tree_before (informed (earlier ∷ []) 1) stored.outcome (informed (earlier ∷ later ∷ []) 1) (refl, informed_wrote tree_before 1 (calls.Store 5 5 3) (replies.Over 1) three_ranges settled_before.legal next))
     leads (suc (suc lane)) p m was is = cc
 
 settled : Settled tree_behind halfway (known_to_all 2 tree_behind).passes
@@ -111,7 +111,7 @@ settled = record { count = refl; each = each; settled = settled_behind }
 
 answered : (lane : ℕ) → AreAnswered (asked_of_lane lane the_steps) (told lane)
 answered zero = ((1, 1, 1, Some (record { first = 0; last = 9; entry = 1 }), refl), tt)
-answered (suc zero) = ((2, replies.Ok, refl), tt)
+answered (suc zero) = ((2, replies.Over 1, refl), tt)
 answered (suc (suc lane)) = rw (ne_eqb 1 (suc (suc lane)) (λ same. absurd (omega arith)), ne_eqb 0 (suc (suc lane)) (λ same. absurd (omega arith))) tt
 
 of_tree : (tree : ℕ) (b a : Tracked) → slice_get (known_to_all 2 tree_before ∷ []) tree ≡ Some b → slice_get (known_to_all 2 tree_behind ∷ []) tree ≡ Some a → (length b.passes ≡ 2) × IsPhaseGone tree b a told

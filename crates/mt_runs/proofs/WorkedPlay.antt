@@ -28,7 +28,7 @@ abbrev first_call : Record
 first_call = record { pass = 0; call = calls.Store 0 9 1; reply = replies.Ok }
 
 abbrev second_call : Record
-second_call = record { pass = 0; call = calls.Store 5 5 3; reply = replies.Ok }
+second_call = record { pass = 0; call = calls.Store 5 5 3; reply = replies.Over 1 }
 
 abbrev one_range : List Range
 one_range = record { first = 0; last = 9; entry = 1 } ∷ []
@@ -55,7 +55,7 @@ abbrev copied : Step
 copied = step_in 1 0 5 0 (Counted said.Copied one_range)
 
 abbrev stored_again : Step
-stored_again = step_in 1 0 6 0 (Called 2 (calls.Store 5 5 3) replies.Ok)
+stored_again = step_in 1 0 6 0 (Called 2 (calls.Store 5 5 3) (replies.Over 1))
 
 abbrev loaded : Step
 loaded = step_in 1 0 7 1 (Looked 0 0 0 (queries.Load 5) (Some (record { first = 0; last = 9; entry = 1 })))
@@ -64,7 +64,7 @@ next_one : IsNext (a_after []) first_call one_range
 next_one = done_is_next (a_after []) 0 (calls.Store 0 9 1) one_range replies.Ok refl
 
 next_two : IsNext (a_after (first_call ∷ [])) second_call three_ranges
-next_two = done_is_next (a_after (first_call ∷ [])) 0 (calls.Store 5 5 3) three_ranges replies.Ok refl
+next_two = done_is_next (a_after (first_call ∷ [])) 0 (calls.Store 5 5 3) three_ranges (replies.Over 1) refl
 
 after_store : HasPlayed 1 65504 0 true (a_declared ∷ []) (stored ∷ []) (a_after (first_call ∷ []) ∷ [])
 after_store =
@@ -79,14 +79,14 @@ after_dup =
 
 pub worked : HasPlayed 1 65504 1 true (a_declared ∷ b_declared ∷ []) (stored ∷ copied ∷ stored_again ∷ loaded ∷ []) (a_after (first_call ∷ second_call ∷ []) ∷ b_copied ∷ [])
 worked =
-    let called : HasPlayed 1 65504 1 true (a_declared ∷ b_declared ∷ []) (stored ∷ copied ∷ stored_again ∷ []) (a_after (first_call ∷ second_call ∷ []) ∷ b_copied ∷ []) = call_played 1 65504 1 false (a_declared ∷ b_declared ∷ []) (stored ∷ copied ∷ []) (a_after (first_call ∷ []) ∷ b_copied ∷ []) 0 6 0 (a_after (first_call ∷ [])) (calls.Store 5 5 3) replies.Ok three_ranges after_dup refl (omega arith) next_two in
+    let called : HasPlayed 1 65504 1 true (a_declared ∷ b_declared ∷ []) (stored ∷ copied ∷ stored_again ∷ []) (a_after (first_call ∷ second_call ∷ []) ∷ b_copied ∷ []) = call_played 1 65504 1 false (a_declared ∷ b_declared ∷ []) (stored ∷ copied ∷ []) (a_after (first_call ∷ []) ∷ b_copied ∷ []) 0 6 0 (a_after (first_call ∷ [])) (calls.Store 5 5 3) (replies.Over 1) three_ranges after_dup refl (omega arith) next_two in
     read_played 1 65504 1 true (a_declared ∷ b_declared ∷ []) (stored ∷ copied ∷ stored_again ∷ []) (a_after (first_call ∷ second_call ∷ []) ∷ b_copied ∷ []) 0 7 1 b_copied (queries.Load 5) called refl (omega arith)
 
 -- ---- and the log of which it is a run
 
 abbrev worked_log : Log
 worked_log = record {
-  version = 1;
+  version = 2;
   lines = record { number = 2; item = items.Tree (97 ∷ []) kinds.Range }
       ∷ record { number = 3; item = items.Write 0 (calls.Store 0 9 1) }
       ∷ record { number = 4; item = items.Join }
@@ -97,7 +97,8 @@ worked_log = record {
 
 abbrev worked_transcript : Transcript
 worked_transcript = record {
-  entries = record { line = 3; said = said.Wrote 1 replies.Ok } ∷ record { line = 5; said = said.Copied 1 } ∷ record { line = 6; said = said.Wrote 2 replies.Ok } ∷ record { line = 7; said = said.Got 0 0 (answers.Entry 1) } ∷ [];
+  version = 2;
+  entries = record { line = 3; said = said.Wrote 1 replies.Ok } ∷ record { line = 5; said = said.Copied 1 } ∷ record { line = 6; said = said.Wrote 2 (replies.Over 1) } ∷ record { line = 7; said = said.Got 0 0 (answers.Entry 1) } ∷ [];
   lists = record { name = 97 ∷ []; kind = kinds.Range; ranges = three_ranges } ∷ record { name = 98 ∷ []; kind = kinds.Range; ranges = one_range } ∷ [];
 }
 
@@ -112,9 +113,9 @@ worked_done = (
     stored_again ∷ loaded ∷ [],
     refl,
     (one_range, refl),
-    (stored_again ∷ [], loaded ∷ [], refl, (2, replies.Ok, refl), (loaded ∷ [], [], refl, (0, 0, 0, Some (record { first = 0; last = 9; entry = 1 }), refl), refl)),
+    (stored_again ∷ [], loaded ∷ [], refl, (2, replies.Over 1, refl), (loaded ∷ [], [], refl, (0, 0, 0, Some (record { first = 0; last = 9; entry = 1 }), refl), refl)),
   ),
 )
 
 pub worked_run : IsRun worked_log 65504 worked_transcript
-worked_run = played_is_run 1 65504 1 true worked_log worked_transcript (stored ∷ copied ∷ stored_again ∷ loaded ∷ []) (a_after (first_call ∷ second_call ∷ []) ∷ b_copied ∷ []) worked worked_done refl refl
+worked_run = played_is_run 1 65504 1 true worked_log worked_transcript (stored ∷ copied ∷ stored_again ∷ loaded ∷ []) (a_after (first_call ∷ second_call ∷ []) ∷ b_copied ∷ []) worked worked_done refl refl refl

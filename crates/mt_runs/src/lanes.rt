@@ -100,9 +100,9 @@ pub fn lanes_make_no_more_calls_than_lines()
 pub fn a_worked_phase()
     ensures phase { IsPhase 2 1
         (step_in 1 0 5 0 (Counted said.Lawful (record { first = 0; last = 9; entry = 1 } ∷ []))
-        ∷ step_in 1 1 7 0 (Called 2 (calls.Store 5 5 3) replies.Ok)
+        ∷ step_in 1 1 7 0 (Called 2 (calls.Store 5 5 3) (replies.Over 1))
         ∷ step_in 1 0 9 0 (Looked 1 1 1 (queries.Load 5) (Some (record { first = 0; last = 9; entry = 1 }))) ∷ [])
         (known_to_all 2 (record { kind = kinds.Range; rows = 65504; opening = []; records = record { pass = 0; call = calls.Store 0 9 1; reply = replies.Ok } ∷ [] }) ∷ [])
-        (known_to_all 2 (record { kind = kinds.Range; rows = 65504; opening = []; records = record { pass = 0; call = calls.Store 0 9 1; reply = replies.Ok } ∷ record { pass = 1; call = calls.Store 5 5 3; reply = replies.Ok } ∷ [] }) ∷ []) }
+        (known_to_all 2 (record { kind = kinds.Range; rows = 65504; opening = []; records = record { pass = 0; call = calls.Store 0 9 1; reply = replies.Ok } ∷ record { pass = 1; call = calls.Store 5 5 3; reply = replies.Over 1 } ∷ [] }) ∷ []) }
     ensures sum { sum_below 3 (λ n. n + 4) ≡ 15 }
 {}

@@ -34,5 +34,5 @@ pub fn a_phase_goes_by()
 /// Where no phase is left, it is a run of the log.
 pub fn what_ran_is_a_run()
     ensures { (passes rows phase : ℕ) (log : Log) (t : Transcript) (steps : List Step) (trees : List Tracked) → Ran passes rows phase (trees_of log.lines) steps trees
-        → AreDone (steps_of log.lines) steps → t.entries ≡ map entry_of steps → t.lists ≡ listings_of (trees_of log.lines) (histories_of trees) → IsRun log rows t }
+        → AreDone (steps_of log.lines) steps → t.version ≡ log.version → t.entries ≡ map entry_of steps → t.lists ≡ listings_of (trees_of log.lines) (histories_of trees) → IsRun log rows t }
 {}

@@ -96,7 +96,7 @@ pub fn the_trees_are_as_declared()
 /// What was played of all lines of a log is a run of it.
 pub fn what_was_played_is_a_run()
     ensures { (passes rows phase : ℕ) (stepped : Bool) (log : Log) (t : Transcript) (steps : List Step) (trees : List History) → HasPlayed passes rows phase stepped (trees_of log.lines) steps trees → AreDone (steps_of log.lines) steps
-        → t.entries ≡ map entry_of steps → t.lists ≡ listings_of (trees_of log.lines) trees → IsRun log rows t }
+        → t.version ≡ log.version → t.entries ≡ map entry_of steps → t.lists ≡ listings_of (trees_of log.lines) trees → IsRun log rows t }
 {}
 
 /// A worked play: `tree a range / store a 0 9 1 / join / dup a b / store a 5 5 3 / load b 5`, from line 2 on, by lane 0. The
@@ -106,13 +106,13 @@ pub fn a_worked_play()
         (record { tree = record { name = 97 ∷ []; kind = kinds.Range }; opening = Empty } ∷ record { tree = record { name = 98 ∷ []; kind = kinds.Range }; opening = CopyOf 0 1 } ∷ [])
         (step_in 0 0 3 0 (Called 1 (calls.Store 0 9 1) replies.Ok)
         ∷ step_in 1 0 5 0 (Counted said.Copied (record { first = 0; last = 9; entry = 1 } ∷ []))
-        ∷ step_in 1 0 6 0 (Called 2 (calls.Store 5 5 3) replies.Ok)
+        ∷ step_in 1 0 6 0 (Called 2 (calls.Store 5 5 3) (replies.Over 1))
         ∷ step_in 1 0 7 1 (Looked 0 0 0 (queries.Load 5) (Some (record { first = 0; last = 9; entry = 1 }))) ∷ [])
-        (record { kind = kinds.Range; rows = 65504; opening = []; records = record { pass = 0; call = calls.Store 0 9 1; reply = replies.Ok } ∷ record { pass = 0; call = calls.Store 5 5 3; reply = replies.Ok } ∷ [] }
+        (record { kind = kinds.Range; rows = 65504; opening = []; records = record { pass = 0; call = calls.Store 0 9 1; reply = replies.Ok } ∷ record { pass = 0; call = calls.Store 5 5 3; reply = replies.Over 1 } ∷ [] }
         ∷ record { kind = kinds.Range; rows = 65504; opening = record { first = 0; last = 9; entry = 1 } ∷ []; records = [] } ∷ []) }
     ensures run { IsRun
         (record {
-          version = 1;
+          version = 2;
           lines = record { number = 2; item = items.Tree (97 ∷ []) kinds.Range }
               ∷ record { number = 3; item = items.Write 0 (calls.Store 0 9 1) }
               ∷ record { number = 4; item = items.Join }
@@ -122,7 +122,8 @@ pub fn a_worked_play()
         })
         65504
         (record {
-          entries = record { line = 3; said = said.Wrote 1 replies.Ok } ∷ record { line = 5; said = said.Copied 1 } ∷ record { line = 6; said = said.Wrote 2 replies.Ok } ∷ record { line = 7; said = said.Got 0 0 (answers.Entry 1) } ∷ [];
+          version = 2;
+          entries = record { line = 3; said = said.Wrote 1 replies.Ok } ∷ record { line = 5; said = said.Copied 1 } ∷ record { line = 6; said = said.Wrote 2 (replies.Over 1) } ∷ record { line = 7; said = said.Got 0 0 (answers.Entry 1) } ∷ [];
           lists = record { name = 97 ∷ []; kind = kinds.Range; ranges = record { first = 0; last = 4; entry = 1 } ∷ record { first = 5; last = 5; entry = 3 } ∷ record { first = 6; last = 9; entry = 1 } ∷ [] }
               ∷ record { name = 98 ∷ []; kind = kinds.Range; ranges = record { first = 0; last = 9; entry = 1 } ∷ [] } ∷ [];
         }) }
