@@ -144,7 +144,7 @@ none_above : (m : List Range) (low index : ℕ) → index < low → IsMapFrom lo
 none_above [] low index le ordered = refl
 none_above (r ∷ m) low index le ordered = let begins = ordered.0 in rw (lt-leb r.first index (omega arith)) refl
 
-range_there : (range : Option Range) (index : ℕ) (r : Range) → up_to index range ≡ Some r → range ≡ Some r
+pub range_there : (range : Option Range) (index : ℕ) (r : Range) → up_to index range ≡ Some r → range ≡ Some r
 range_there None index r held = absurd (cc)
 range_there (Some s) index r held = ap Some (cond_some (nat_le s.first index) s r held).1
 

@@ -10,7 +10,6 @@ use Rattle.mt_base.specs.declared.ranges.Range.{Range}
 use Rattle.mt_base.specs.declared.calls.Call.{Call}
 use Rattle.mt_base.specs.declared.calls.Call.TheVariants.{Store}
 use Rattle.mt_base.specs.declared.replies.Reply.{Reply}
-use Rattle.mt_base.specs.declared.replies.Reply.TheVariants as reply
 use Rattle.mt_base.specs.Call.{acted, finds_room}
 use Rattle.mt_base.specs.Entry.{reserved}
 use Rattle.mt_base.specs.Map.{over}
@@ -213,7 +212,7 @@ module _ (kind : Kind) (s : Sheet) (h index entry : ℕ) (whole : IsWhole s) (st
 
     -- ---- it may be published, by whichever call
 
-    stores_so : (m : List Range) → item.first ≤ item.last → item.last ≤ greatest_of kind → acted kind m (Store item.first item.last entry) ≡ (over m item.first item.last entry, reply.Ok)
+    stores_so : (m : List Range) → item.first ≤ item.last → item.last ≤ greatest_of kind → acted kind m (Store item.first item.last entry) ≡ (over m item.first item.last entry, (acted kind m (Store item.first item.last entry)).1)
     stores_so m order within = rw (le-ltb item.last item.first order, le-ltb (greatest_of kind) item.last within, free) refl
 
     pub may_as : (call : Call) (reply : Reply) (book : Book) → IsInCall kind s book → IsStoreBy kind (greatest s.tree.table.width) (map_by s.tree) call reply item.first item.last entry → MayPublish kind s where_published entry call reply

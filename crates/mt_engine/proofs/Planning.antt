@@ -1,6 +1,6 @@
 -- What each call comes to on a tree.
 use Rattle.std.proofs.Common.{◌≡◌, ◌≢◌, ℕ, ◌+◌, ◌<◌, ◌≤◌, ◌==◌, ◌||◌, true, false, List, Option, Some, None, refl, sym, ap, ◌∙◌, subst, inl, inr, arith, ne_eqb}
-use Rattle.std.specs.Prelude.{IsSome}
+use Rattle.std.specs.Prelude.{IsSome, IfSome, is_some}
 use Rattle.std.proofs.lemmas.Bool.{cases_Bool, cases_lt, eqb-true, eqb-false, lt-ltb, le-ltb}
 use Rattle.mt_base.specs.declared.kinds.Kind.{Kind}
 use Rattle.mt_base.specs.declared.widths.Width.{Width}
@@ -9,27 +9,39 @@ use Rattle.mt_base.specs.declared.calls.Call.{Call}
 use Rattle.mt_base.specs.declared.calls.Call.TheVariants.{Store, StorePre, Insert, Erase}
 use Rattle.mt_base.specs.declared.replies.Reply.{Reply}
 use Rattle.mt_base.specs.declared.replies.Reply.TheVariants as reply
-use Rattle.mt_base.specs.Call.{acted, erased, is_invalid}
-use Rattle.mt_base.specs.Map.{IsMapFrom, holding, is_held}
+use Rattle.mt_base.specs.Call.{acted, erased, is_invalid, replied}
+use Rattle.mt_base.specs.Map.{IsMapFrom, first_met, holding, is_held, over}
 use Rattle.mt_base.specs.Nodes.{Wants}
 use Rattle.mt_base.specs.Width.{greatest}
 use Rattle.mt_base.proofs.CallsKeepOrder.{valid_order, valid_within, valid_entry}
+use Rattle.mt_base.proofs.FirstMet.{is_held_where_met}
+use Rattle.mt_list.specs.Places.{up_to}
+use Rattle.mt_list.proofs.QueriesAtPlaces.{first_from_place}
 use Rattle.mt_rows.specs.Publish.{IsTreeOf, map_by}
-use Rattle.mt_rows.specs.Sheet.{Rooted}
+use Rattle.mt_rows.specs.Sheet.{Rooted, Sheet, OnlyReads}
+use Rattle.mt_rows.proofs.Loads.{same_tree}
 use Rattle.mt_path.specs.declared.handles.Handle.{Handle}
 use Rattle.mt_path.specs.declared.paths.PathStep.{PathStep}
-use Rattle.mt_path.specs.Handles.{last_step, handle_of}
+use Rattle.mt_path.specs.Handles.{last_step, handle_in, handle_of}
 use Rattle.mt_path.specs.Paths.{path_in}
+use Rattle.mt_engine.specs.Engine.{is_refusal}
 use Rattle.mt_engine.specs.Here.{IsHereAt}
 use Rattle.mt_engine.specs.MapSpans.{range_of, IsSpanAt}
-use Rattle.mt_engine.specs.Plans.{IsStorePlan, is_taken}
+use Rattle.mt_engine.specs.Nearest.{nearest_from}
+use Rattle.mt_engine.specs.Plans.{IsMet, IsStorePlan, is_taken}
 use Rattle.mt_engine.proofs.IndexesAbove.{load_above}
+use Rattle.mt_engine.proofs.MapPlaces.{range_there}
 use Rattle.mt_engine.proofs.MapQueries.{load_hole}
 use Rattle.mt_engine.proofs.MapStores.{without_is_store}
 use Rattle.mt_engine.proofs.SameWay.{same_way}
-use Rattle.mt_engine.proofs.SlotQueries.{not_none}
+use Rattle.mt_engine.proofs.SlotQueries.{not_none, IsNearest}
 use Rattle.mt_engine.proofs.Slots.{none_at_root, tree_map, slot_tells}
 use Rattle.mt_engine.proofs.Wanting.{held_around, none_in_hole, stays_replaces_none}
+
+-- a store that is answered by what it met was done
+replied_done : (met : Option Range) → is_refusal (replied met) ≡ false
+replied_done None = refl
+replied_done (Some r) = refl
 
 -- the call leaves the map, and wants no rows
 abbrev pub ComesToNothing : Kind → List Range → Call → Reply → Type 0
@@ -67,44 +79,18 @@ module _ (t : Rooted) (kind : Kind) (tree : IsTreeOf t kind) where
   rise : IsMapFrom 0 m
   rise = (tree_map t kind tree).rise
 
-  -- ---- store
+  -- ---- what a store meets
 
-  module _ (first last entry : ℕ) (valid : is_invalid kind first last entry ≡ false) where
-    order : first ≤ last
-    order = valid_order kind first last entry valid
+  some_range : (o : Option Range) → IsSome o → (r : Range) × (o ≡ Some r)
+  some_range None some = absurd (cc)
+  some_range (Some r) some = (r, refl)
 
-    within : last ≤ top
-    within = subst (λ (w : Width). last ≤ greatest w) (sym tree.width) (valid_within kind first last entry valid)
-
-    pub first_within : first ≤ top
-    first_within = let le = order in let most = within in omega arith
-
-    pub store_plan : (path : List PathStep) (here : Option Handle) → path ≡ path_in t.table t.root first → IsHereAt t first here → IsStorePlan kind t (Store first last entry) path first last entry reply.Ok here
-    store_plan path here way stands = record {
-      store = record { acts = rw valid refl; order = order; within = within; lawful = valid_entry kind first last entry valid };
-      own = (refl, refl, refl);
-      success = refl;
-      way = way;
-      stands = stands;
-    }
-
-    -- the same of a store that is to have its rows at hand
-    pub store_pre_plan : (path : List PathStep) (here : Option Handle) → path ≡ path_in t.table t.root first → IsHereAt t first here → IsStorePlan kind t (StorePre first last entry) path first last entry reply.Ok here
-    store_pre_plan path here way stands = record {
-      store = record { acts = rw valid refl; order = order; within = within; lawful = valid_entry kind first last entry valid };
-      own = (refl, refl, refl);
-      success = refl;
-      way = way;
-      stands = stands;
-    }
-
-    -- ---- insert
-
+  module _ (first last : ℕ) (order : first ≤ last) (within : last ≤ top) where
     -- a range holds an index of the store's where one stands in the slot of the first, or right behind a hole there
-    taken_is : (here : Option Handle) → IsHereAt t first here → is_held m first last ≡ is_taken here last
+    pub taken_is : (here : Option Handle) → IsHereAt t first here → is_held m first last ≡ is_taken here last
     taken_is None stands = ap (λ (l : List Range). is_held l first last) (none_at_root t (stands.none.0 refl))
     taken_is (Some handle) stands =
-        let at = span_at_handle first handle first_within stands in
+        let at = span_at_handle first handle (omega arith) stands in
         elim (cases_Bool (handle.span.word == 0)) [
           | inr word ↦ rw word (held_around m first last first (range_of handle.span) (omega arith) order (at.held (eqb-false handle.span.word 0 word)))
           | inl hole ↦
@@ -117,22 +103,68 @@ module _ (t : Rooted) (kind : Kind) (tree : IsTreeOf t kind) where
                 | inr over ↦ rw (hole, le-ltb handle.span.last last over) (none_in_hole m top first last handle.span rise at no_word over)
               ])
         ]
+
+    met_where_taken : (here : Option Handle) → IsHereAt t first here → is_some (first_met m first last) ≡ is_taken here last
+    met_where_taken here stands = sym (is_held_where_met m first last) ∙ taken_is here stands
+
+    pub met_none : (here : Option Handle) → IsHereAt t first here → is_taken here last ≡ false → None ≡ first_met m first last
+    met_none here stands free = none_met (first_met m first last) (met_where_taken here stands ∙ free)
       where
-        some_range : (o : Option Range) → IsSome o → (r : Range) × (o ≡ Some r)
-        some_range None some = absurd (cc)
-        some_range (Some r) some = (r, refl)
+        none_met : (o : Option Range) → is_some o ≡ false → None ≡ o
+        none_met None none = refl
+        none_met (Some r) none = absurd (cc)
+
+    pub met_nearest : (here : Option Handle) (handle : Handle) (found : Option Range) → here ≡ Some handle → IsHereAt t first here → is_taken here last ≡ true → IsNearest nearest_from t handle found → found ≡ first_met m first last
+    met_nearest here handle found some stands taken known =
+        let at : handle ≡ handle_in t first = subst (λ (o : Option Handle). IfSome o (λ h. h ≡ handle_in t first)) some stands.some in
+        let met : first_met m first last ≡ up_to last found = first_from_place m first last rise ∙ ap (up_to last) (sym (known first (omega arith) at)) in
+        let there = some_range (first_met m first last) (met_where_taken here stands ∙ taken) in
+        range_there found last there.0 (sym met ∙ there.1) ∙ sym there.1
+
+  -- ---- store
+
+  module _ (first last entry : ℕ) (valid : is_invalid kind first last entry ≡ false) where
+    order : first ≤ last
+    order = valid_order kind first last entry valid
+
+    within : last ≤ top
+    within = subst (λ (w : Width). last ≤ greatest w) (sym tree.width) (valid_within kind first last entry valid)
+
+    pub first_within : first ≤ top
+    first_within = let le = order in let most = within in omega arith
+
+    pub store_plan : (path : List PathStep) (answer : Reply) (here : Option Handle) → path ≡ path_in t.table t.root first → IsHereAt t first here → answer ≡ replied (first_met m first last) → IsStorePlan kind t (Store first last entry) path first last entry answer here
+    store_plan path answer here way stands is = record {
+      store = record { acts = rw valid (ap (λ (r : Reply). (over m first last entry, r)) (sym is)); order = order; within = within; lawful = valid_entry kind first last entry valid };
+      own = (refl, refl, refl);
+      success = ap is_refusal is ∙ replied_done (first_met m first last);
+      way = way;
+      stands = stands;
+    }
+
+    -- the same of a store that is to have its rows at hand
+    pub store_pre_plan : (path : List PathStep) (answer : Reply) (here : Option Handle) → path ≡ path_in t.table t.root first → IsHereAt t first here → answer ≡ replied (first_met m first last) → IsStorePlan kind t (StorePre first last entry) path first last entry answer here
+    store_pre_plan path answer here way stands is = record {
+      store = record { acts = rw valid (ap (λ (r : Reply). (over m first last entry, r)) (sym is)); order = order; within = within; lawful = valid_entry kind first last entry valid };
+      own = (refl, refl, refl);
+      success = ap is_refusal is ∙ replied_done (first_met m first last);
+      way = way;
+      stands = stands;
+    }
+
+    -- ---- insert
 
     good : entry ≢ 0 → (is_invalid kind first last entry || (entry == 0)) ≡ false
     good some = rw (valid, ne_eqb entry 0 some) refl
 
     pub insert_exists : (here : Option Handle) → entry ≢ 0 → IsHereAt t first here → is_taken here last ≡ true → ComesToNothing kind m (Insert first last entry) reply.Exists
     insert_exists here some stands taken =
-        let acts : acted kind m (Insert first last entry) ≡ (m, reply.Exists) = rw (good some, taken_is here stands ∙ taken) refl in
+        let acts : acted kind m (Insert first last entry) ≡ (m, reply.Exists) = rw (good some, taken_is first last order within here stands ∙ taken) refl in
         (acts, stays_replaces_none kind m (Insert first last entry) reply.Exists acts)
 
     pub insert_plan : (path : List PathStep) (here : Option Handle) → entry ≢ 0 → path ≡ path_in t.table t.root first → IsHereAt t first here → is_taken here last ≡ false → IsStorePlan kind t (Insert first last entry) path first last entry reply.Ok here
     insert_plan path here some way stands free = record {
-      store = record { acts = rw (good some, taken_is here stands ∙ free) refl; order = order; within = within; lawful = valid_entry kind first last entry valid };
+      store = record { acts = rw (good some, taken_is first last order within here stands ∙ free) refl; order = order; within = within; lawful = valid_entry kind first last entry valid };
       own = (refl, refl, refl);
       success = refl;
       way = way;
@@ -165,15 +197,23 @@ module _ (t : Rooted) (kind : Kind) (tree : IsTreeOf t kind) where
       same : path_in t.table t.root handle.span.first ≡ path_in t.table t.root index
       same = ap (λ (h : Handle). path_in t.table t.root h.span.first) stands.some ∙ same_way t kind index tree some inside
 
-      pub erase_plan : (path : List PathStep) → handle.span.word ≢ 0 → path ≡ path_in t.table t.root index → IsStorePlan kind t (Erase index) path handle.span.first handle.span.last 0 (reply.Was handle.span.word) (Some handle)
-      erase_plan path word way =
+      pub erase_plan : (path : List PathStep) (was : Range) → handle.span.word ≢ 0 → path ≡ path_in t.table t.root index → was ≡ range_of handle.span → IsStorePlan kind t (Erase index) path handle.span.first handle.span.last 0 (reply.Was was) (Some handle)
+      erase_plan path was word way is =
           let held = at.held word in
           let from = at.from in let to = at.to in
           let less = without_is_store m 0 index (range_of handle.span) rise held in
           record {
-            store = record { acts = ap (erased m index) held ∙ (λ i. (less i, reply.Was handle.span.word)); order = omega arith; within = at.within; lawful = refl };
+            store = record { acts = ap (erased m index) held ∙ (λ i. (less i, reply.Was (sym is i))); order = omega arith; within = at.within; lawful = refl };
             own = refl;
             success = refl;
             way = way ∙ sym same;
             stands = record { none = stands.none; some = stands.some ∙ ap (λ (p : List PathStep). handle_of t.table (last_step p)) (sym same) };
           }
+
+-- ---- after calls that only read
+
+-- what a store meets in the tree as it was when its path was walked
+pub store_meets : (s s' : Sheet) (kind : Kind) (tree : IsTreeOf s.tree kind) (first last entry : ℕ) → is_invalid kind first last entry ≡ false → (here : Option Handle) (met : Option Range) → IsHereAt s.tree first here → OnlyReads s s' → IsMet s'.tree here last met
+    → met ≡ first_met (map_by s.tree) first last
+store_meets s s' kind tree first last entry valid here met stands reads known =
+    subst (λ (t : Rooted). IsMet t here last met) (same_tree s s' reads) known first (order s.tree kind tree first last entry valid) (within s.tree kind tree first last entry valid) stands

@@ -89,8 +89,9 @@ pub record TookRows (kind : Kind) (s : Sheet) (free : List ℕ) (book' : Book) (
 -- a reply that says that nothing was changed
 abbrev pub is_refusal : Reply → Bool
 is_refusal answers.Ok = false
+is_refusal (answers.Over entry) = false
 is_refusal (answers.Start start) = false
-is_refusal (answers.Was entry) = false
+is_refusal (answers.Was range) = false
 is_refusal answers.None = true
 is_refusal answers.Exists = true
 is_refusal answers.Invalid = true

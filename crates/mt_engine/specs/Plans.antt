@@ -1,13 +1,13 @@
 -- What a call comes to on a tree: nothing, a store, or the end of all ranges.
 -- Source: the kernel's documentation of the maple tree; an erase is a store of no entry over the range.
-use Rattle.std.specs.Prelude.{◌≡◌, ◌≢◌, ◌||◌, ◌==◌, not, ℕ, Bool, false, List, Option, Some, None, nat_lt}
+use Rattle.std.specs.Prelude.{◌≡◌, ◌≢◌, ◌≤◌, ◌||◌, ◌==◌, not, ℕ, Bool, false, List, Option, Some, None, nat_lt}
 use Rattle.mt_base.specs.declared.calls.Call.{Call}
 use Rattle.mt_base.specs.declared.calls.Call.TheVariants.{Store, StorePre, Insert, Erase, Alloc, Ralloc, Gap, Rgap, Clear}
 use Rattle.mt_base.specs.declared.kinds.Kind.{Kind}
 use Rattle.mt_base.specs.declared.ranges.Range.{Range}
 use Rattle.mt_base.specs.declared.replies.Reply.{Reply}
 use Rattle.mt_base.specs.Call.{acted}
-use Rattle.mt_base.specs.Map.{is_held}
+use Rattle.mt_base.specs.Map.{first_met, is_held}
 use Rattle.mt_base.specs.Nodes.{Wants}
 use Rattle.mt_base.specs.Width.{greatest}
 use Rattle.mt_rows.specs.Sheet.{Rooted, Sheet, RoseUpTo}
@@ -57,6 +57,10 @@ abbrev pub IsSearched : Sheet → Sheet → Call → Plan → Type 0
 IsSearched s s' call (plans.Nothing reply) = OnlySearches call reply → RoseUpTo (most_searched s.tree) s.reads s'.reads
 IsSearched s s' call (plans.Store first last entry reply here) = Unit {0}
 IsSearched s s' call plans.Empty = Unit {0}
+
+-- the range is the first that a store meets which begins at an index of the slot and ends at `last`
+abbrev pub IsMet : Rooted → Option Handle → ℕ → Option Range → Type 0
+IsMet t here last met = (first : ℕ) → first ≤ last → last ≤ greatest t.table.width → IsHereAt t first here → met ≡ first_met (map_by t) first last
 
 -- A range holds an index from that of a slot up to `last`: one stands in the slot, or right behind a hole there that ends
 -- before `last`.

@@ -1,18 +1,20 @@
 //! What a call comes to on the tree as it stands.
 
-ghost use Rattle.std.specs.Prelude.{◌≡◌, ℕ, List, [], true};
+ghost use Rattle.std.specs.Prelude.{◌≡◌, ℕ, List, [], true, IfSome};
 ghost use Rattle.mt_base.specs.declared.kinds.Kind.{Kind};
 ghost use Rattle.mt_base.specs.declared.calls.Call.TheVariants.{Store, StorePre, Insert, Erase, Clear};
 ghost use Rattle.mt_base.specs.declared.replies.Reply.{Reply};
+ghost use Rattle.mt_base.specs.Call.{replied};
 ghost use Rattle.mt_rows.specs.Publish.{IsTreeOf, IsLawfulOf};
 ghost use Rattle.mt_rows.specs.Sheet.{OnlyReads};
 ghost use Rattle.mt_path.specs.declared.paths.PathStep.{PathStep};
+ghost use Rattle.mt_path.specs.Handles.{IsHandleOf};
 ghost use Rattle.mt_engine.specs.Engine.{is_refusal};
-ghost use Rattle.mt_engine.specs.Plans.{IsPlan, IsSearched, is_taken};
+ghost use Rattle.mt_engine.specs.Plans.{IsMet, IsPlan, IsSearched, is_taken};
 
 use crate::areas::{Sought, plan_allocation, plan_search};
-use crate::queries::top_of;
-use mt_base::{Call, Kind, Reply, is_invalid};
+use crate::queries::{nearest_from, range_in, top_of};
+use mt_base::{Call, Kind, Range, Reply, is_invalid};
 use mt_path::{Handle, Path, walk_to};
 use mt_rows::Rows;
 
@@ -35,7 +37,41 @@ pub enum Plan {
     Empty,
 }
 
+/// Whether a range holds an index from that of a slot up to `last`: one stands in the slot, or right behind the hole there.
+fn is_taken(here: &Option<Handle>, last: u64) -> bool
+    ensures { result ≡ is_taken here.now last }
+{
+    match here {
+        Some(handle) => handle.span.word != 0 || handle.span.last < last,
+        None => false,
+    }
+}
+
+/// The first range that holds an index from that of a slot up to `last`. A hole that reaches `last` is told by the slot alone.
+fn met<R: Rows>(rows: &mut R, here: &Option<Handle>, last: u64) -> Option<Range>
+    requires tree { (kind : Kind) × IsTreeOf (R.sheet rows.old).tree kind }
+    requires here { IfSome here.now (IsHandleOf (R.sheet rows.old).tree) }
+    ensures met { IsMet (R.sheet rows.old).tree here.now last result }
+    ensures rest { OnlyReads (R.sheet rows.old) (R.sheet rows.new) }
+{
+    let Some(handle) = here else {
+        return None;
+    };
+    if !is_taken(here, last) {
+        return None;
+    }
+    nearest_from(rows, handle)
+}
+
+/// What a store is answered that meets this range first, or none.
+fn replied(met: Option<Range>) -> Reply
+    ensures { result ≡ replied met }
+{
+    met.map_or(Reply::Ok, |range| Reply::Over(range.entry))
+}
+
 /// What a store comes to, with the path to its first index.
+#[inline(always)]
 pub fn plan_store<R: Rows>(
     rows: &mut R,
     kind: Kind,
@@ -57,22 +93,13 @@ pub fn plan_store<R: Rows>(
         };
     }
     let here = walk_to(rows, first, path);
+    let met = met(rows, &here, last);
     Plan::Store {
         first,
         last,
         entry,
-        reply: Reply::Ok,
+        reply: replied(met),
         here,
-    }
-}
-
-/// Whether a range holds an index from that of a slot up to `last`: one stands in the slot, or right behind the hole there.
-fn is_taken(here: &Option<Handle>, last: u64) -> bool
-    ensures { result ≡ is_taken here.now last }
-{
-    match here {
-        Some(handle) => handle.span.word != 0 || handle.span.last < last,
-        None => false,
     }
 }
 
@@ -132,7 +159,7 @@ fn plan_erase<R: Rows>(rows: &mut R, kind: Kind, index: u64, path: &mut Path) ->
         first: span.first,
         last: span.last,
         entry: 0,
-        reply: Reply::Was(span.word),
+        reply: Reply::Was(range_in(span)),
         here: Some(handle),
     }
 }

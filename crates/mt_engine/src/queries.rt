@@ -15,7 +15,7 @@ ghost use Rattle.mt_engine.specs.RangeWalks.{range_at};
 
 use mt_base::{Query, Range, top};
 use mt_layout::Span;
-use mt_path::{Handle, before, behind, handle_at};
+use mt_path::{Handle, before, behind, handle_at, span_for};
 use mt_rows::Rows;
 
 /// The greatest index of the tree that rows hold.
@@ -68,7 +68,7 @@ pub fn slot_from<R: Rows>(rows: &mut R, here: &Handle) -> Option<Handle>
 }
 
 /// The first range that ends at an index of a slot or above.
-fn nearest_from<R: Rows>(rows: &mut R, here: &Handle) -> Option<Range>
+pub fn nearest_from<R: Rows>(rows: &mut R, here: &Handle) -> Option<Range>
     requires tree { (kind : Kind) × IsTreeOf (R.sheet rows.old).tree kind }
     requires here { IsHandleOf (R.sheet rows.old).tree here.now }
     ensures range { (index : ℕ) → index ≤ greatest (R.sheet rows.old).tree.table.width → here.now ≡ handle_in (R.sheet rows.old).tree index → result ≡ nearest_from (map_by (R.sheet rows.old).tree) index }
@@ -101,11 +101,11 @@ fn load<R: Rows>(rows: &mut R, index: u64) -> Option<Range>
     if index > top_of(rows) {
         return None;
     }
-    let here = handle_at(rows, index)?;
-    if here.span.word == 0 {
+    let here = span_for(rows, index)?;
+    if here.word == 0 {
         return None;
     }
-    Some(range_in(here.span))
+    Some(range_in(here))
 }
 
 /// The first range that ends at `index` or above and begins at `max` or below, where `index` is at most `max`.

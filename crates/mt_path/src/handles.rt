@@ -48,6 +48,27 @@ pub fn handle_at<R: Rows>(rows: &mut R, index: u64) -> Option<Handle>
     unreachable!()
 }
 
+/// What stands at an index; none in the empty tree. Where it stands is not told.
+pub fn span_for<R: Rows>(rows: &mut R, index: u64) -> Option<Span>
+    requires tree { (kind : Kind) × IsTreeOf (R.sheet rows.old).tree kind }
+    requires index { index ≤ greatest (R.sheet rows.old).tree.table.width }
+    ensures none { IsNone result ↔ ((R.sheet rows.old).tree.root ≡ 0) }
+    ensures some { IfSome result (λ span. span ≡ (handle_in (R.sheet rows.old).tree index).span) }
+    ensures rest { OnlyReads (R.sheet rows.old) (R.sheet rows.new) }
+    ensures reads { ReadsUpTo (loads_on (path_in (R.sheet rows.old).tree.table (R.sheet rows.old).tree.root index)) (R.sheet rows.old) (R.sheet rows.new) }
+{
+    let mut row = root_row(rows)?;
+    for _ in 0..DEEPEST {
+        let found = find_slot(rows, row, index);
+        let span = load_found(rows, row.kind, found);
+        if row.kind == RowKind::Leaf {
+            return Some(span);
+        }
+        row = child_for(span);
+    }
+    unreachable!()
+}
+
 /// The way to an index, into an empty path, and the slot at its end and what stands there; none in the empty tree.
 pub fn walk_to<R: Rows>(rows: &mut R, index: u64, path: &mut Path) -> Option<Handle>
     requires tree { (kind : Kind) × IsTreeOf (R.sheet rows.old).tree kind }

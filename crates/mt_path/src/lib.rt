@@ -10,7 +10,7 @@ mod rows;
 mod walks;
 
 pub use halves::{end_by_halves, walk_by_halves};
-pub use handles::{Handle, before, behind, go_on, handle_at, load_span, walk_to};
+pub use handles::{Handle, before, behind, go_on, handle_at, load_span, span_for, walk_to};
 pub use neighbours::{left_at, right_at, step_left, step_right};
 pub use paths::{Path, PathStep, copy_into, copy_of};
 pub use walks::{walk, walk_on};

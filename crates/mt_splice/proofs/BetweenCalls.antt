@@ -190,10 +190,10 @@ may_replace {kind = kind} {s₀ = s₀} {s₂ = s₂} {book = book} {left = left
     (begun_may s₂.reads ready is room store some (path ∙ ap (λ (x : Sheet). path_in x.tree.table x.tree.root first) begins))
 
 -- a store of an entry that is not reserved
-acts_so : (kind : Kind) (m : List Range) (first last entry : ℕ) → first ≤ last → last ≤ greatest_of kind → reserved entry ≡ false → acted kind m (Store first last entry) ≡ (over m first last entry, reply.Ok)
+acts_so : (kind : Kind) (m : List Range) (first last entry : ℕ) → first ≤ last → last ≤ greatest_of kind → reserved entry ≡ false → acted kind m (Store first last entry) ≡ (over m first last entry, (acted kind m (Store first last entry)).1)
 acts_so kind m first last entry order within free = rw (le-ltb last first order, le-ltb (greatest_of kind) last within, free) refl
 
-stores_so : {kind : Kind} {t : Rooted} {first last entry : ℕ} → IsLawfulOf t kind → first ≤ last → last ≤ greatest_of kind → reserved entry ≡ false → IsStoreBy kind (greatest t.table.width) (map_by t) (Store first last entry) reply.Ok first last entry
+stores_so : {kind : Kind} {t : Rooted} {first last entry : ℕ} → IsLawfulOf t kind → first ≤ last → last ≤ greatest_of kind → reserved entry ≡ false → IsStoreBy kind (greatest t.table.width) (map_by t) (Store first last entry) (acted kind (map_by t) (Store first last entry)).1 first last entry
 stores_so {kind = kind} {t = t} {first = first} {last = last} {entry = entry} lawful order within free = record {
   acts = acts_so kind (map_by t) first last entry order within free;
   order = order;
@@ -203,7 +203,7 @@ stores_so {kind = kind} {t = t} {first = first} {last = last} {entry = entry} la
 
 -- a store of an entry or a hole, with room for any tree
 pub store_begins : {kind : Kind} {s₀ s₁ s₂ : Sheet} {book : Book} {left : List PathStep} {first last entry number : ℕ} → IsBetweenCalls kind s₀ book → s₁ ≡ begun s₀ → OnlyReads s₁ s₂ → number ≡ s₀.ended + 1 → most_taken ≤ length book.free
-    → first ≤ last → last ≤ greatest_of kind → reserved entry ≡ false → (s₀.tree.root ≡ 0 → entry ≢ 0) → left ≡ path_in s₁.tree.table s₁.tree.root first → MayReplace kind s₂ book left first last entry number (Store first last entry) reply.Ok
+    → first ≤ last → last ≤ greatest_of kind → reserved entry ≡ false → (s₀.tree.root ≡ 0 → entry ≢ 0) → left ≡ path_in s₁.tree.table s₁.tree.root first → MayReplace kind s₂ book left first last entry number (Store first last entry) (acted kind (map_by s₀.tree) (Store first last entry)).1
 store_begins {book = book} ready begins reads is many order within free some path = may_replace ready begins reads is (room_enough book ready.kept.lawful many) (stores_so ready.kept.lawful order within free) some path
 
 -- the tree of a call that has begun

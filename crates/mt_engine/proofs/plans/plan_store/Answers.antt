@@ -1,5 +1,7 @@
-use Rattle.std.proofs.Common.{sym, ◌∙◌}
-use Rattle.mt_engine.proofs.Planning.{first_within, store_invalid, store_pre_invalid, store_plan, store_pre_plan}
+use Rattle.std.proofs.Common.{sym, ap, ◌∙◌}
+use Rattle.mt_base.specs.Call.{replied}
+use Rattle.mt_engine.specs.Here.{IsHereAt}
+use Rattle.mt_engine.proofs.Planning.{first_within, store_invalid, store_pre_invalid, store_meets, store_plan, store_pre_plan}
 use Rattle.mt_engine.proofs.plans.plan_store.Goals as goal
 
 pub walk_to-here-requires-clause-index : goal.walk_to-here-requires-clause-index
@@ -13,10 +15,16 @@ returns-then-is_invalid-clause-at_hand g c = store_pre_invalid c.args.kind _ c.a
 
 pub returns-clause-plan : goal.returns-clause-plan
 returns-clause-plan g c =
-    store_plan _ c.args.kind c.requires.tree c.args.first c.args.last c.args.entry (sym c.is_invalid.ensures ∙ c.if-is_invalid.false) c.walk_to-here.new.path.items c.walk_to-here.result c.walk_to-here.ensures.path
-    (record { none = c.walk_to-here.ensures.none; some = c.walk_to-here.ensures.some })
+    let s = g.R.Rows.sheet c.args.rows.now in
+    let valid = sym c.is_invalid.ensures ∙ c.if-is_invalid.false in
+    let stands : IsHereAt s.tree c.args.first c.walk_to-here.result = record { none = c.walk_to-here.ensures.none; some = c.walk_to-here.ensures.some } in
+    store_plan s.tree c.args.kind c.requires.tree c.args.first c.args.last c.args.entry valid c.walk_to-here.new.path.items c.replied.result c.walk_to-here.result c.walk_to-here.ensures.path stands
+    (c.replied.ensures ∙ ap replied (store_meets s (g.R.Rows.sheet c.walk_to-here.new.rows) c.args.kind c.requires.tree c.args.first c.args.last c.args.entry valid c.walk_to-here.result c.met-met.result stands c.walk_to-here.ensures.rest c.met-met.ensures.met))
 
 pub returns-clause-at_hand : goal.returns-clause-at_hand
 returns-clause-at_hand g c =
-    store_pre_plan _ c.args.kind c.requires.tree c.args.first c.args.last c.args.entry (sym c.is_invalid.ensures ∙ c.if-is_invalid.false) c.walk_to-here.new.path.items c.walk_to-here.result c.walk_to-here.ensures.path
-    (record { none = c.walk_to-here.ensures.none; some = c.walk_to-here.ensures.some })
+    let s = g.R.Rows.sheet c.args.rows.now in
+    let valid = sym c.is_invalid.ensures ∙ c.if-is_invalid.false in
+    let stands : IsHereAt s.tree c.args.first c.walk_to-here.result = record { none = c.walk_to-here.ensures.none; some = c.walk_to-here.ensures.some } in
+    store_pre_plan s.tree c.args.kind c.requires.tree c.args.first c.args.last c.args.entry valid c.walk_to-here.new.path.items c.replied.result c.walk_to-here.result c.walk_to-here.ensures.path stands
+    (c.replied.ensures ∙ ap replied (store_meets s (g.R.Rows.sheet c.walk_to-here.new.rows) c.args.kind c.requires.tree c.args.first c.args.last c.args.entry valid c.walk_to-here.result c.met-met.result stands c.walk_to-here.ensures.rest c.met-met.ensures.met))

@@ -62,3 +62,7 @@ returns-in-Nothing-clause-stored g c =
     stored_after_reads c.args.kind s s₁ s₁ c.args.book.now c.args.book.now call c.in-Nothing.reply c.plan_store.ensures.rest
     (stays_stored c.args.kind s₁ c.args.book.now call c.in-Nothing.reply (in_call_if_read c.args.kind s s₁ c.args.book.now c.plan_store.ensures.rest c.requires.in_call)
     (subst (λ (t : Rooted). IsPlan c.args.kind t call c.plan_store.new.path.items (Nothing c.in-Nothing.reply)) (sym (same_tree s s₁ c.plan_store.ensures.rest)) plan).0)
+
+pub returns-in-Nothing-clause-height : goal.returns-in-Nothing-clause-height
+returns-in-Nothing-clause-height g c =
+    c.requires.height ∙ sym (ap (λ (t : Rooted). height_in t.table t.root) (same_tree (g.R.Rows.sheet c.args.rows.now) (g.R.Rows.sheet c.plan_store.new.rows) c.plan_store.ensures.rest))

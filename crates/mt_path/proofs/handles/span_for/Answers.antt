@@ -1,0 +1,64 @@
+use Rattle.std.proofs.Common.{◌≡◌, ◌≢◌, ap, rules, sym, arith}
+use denote.Enum.Bare.{same_true}
+use Rattle.mt_layout.specs.contracts.names.RowKind.{the_type}
+use Rattle.mt_layout.specs.declared.names.RowKind.TheVariants.{Leaf}
+use Rattle.mt_path.specs.declared.handles.Handle.{Handle}
+use Rattle.mt_path.proofs.Descents.{may_find, reaches, may_load, has_child, handle_here, not_deepest, passage_ends, passage_goes_on}
+use Rattle.mt_path.proofs.handles.span_for.Goals as goal
+
+pub find_slot-found-requires-clause-row : goal.find_slot-found-requires-clause-row
+find_slot-found-requires-clause-row g c =
+    let before = c.loop.invariant in
+    may_find (g.R.Rows.sheet c.args.rows.now) (g.R.Rows.sheet c.loop.rows) c.requires.tree.0 c.requires.tree.1 c.args.index c.requires.index _ before.reads _ c.loop.row before.way
+
+pub find_slot-found-requires-clause-index : goal.find_slot-found-requires-clause-index
+find_slot-found-requires-clause-index g c =
+    let before = c.loop.invariant in
+    reaches (g.R.Rows.sheet c.args.rows.now) (g.R.Rows.sheet c.loop.rows) c.requires.tree.0 c.requires.tree.1 c.args.index c.requires.index _ before.reads _ c.loop.row before.way
+
+pub load_found-span-requires-clause-row : goal.load_found-span-requires-clause-row
+load_found-span-requires-clause-row g c =
+    let before = c.loop.invariant in
+    let found = c.find_slot-found in
+    may_load (g.R.Rows.sheet c.args.rows.now) (g.R.Rows.sheet c.loop.rows) c.requires.tree.0 c.requires.tree.1 c.args.index c.requires.index _ before.reads _ c.loop.row before.way
+    found.result found.ensures.found (g.R.Rows.sheet found.new.rows) found.ensures.reads
+
+pub returns-then-eq-clause-some : goal.returns-then-eq-clause-some
+returns-then-eq-clause-some g c =
+    let before = c.loop.invariant in
+    let found = c.find_slot-found in
+    let leaf : c.loop.row.kind ≡ Leaf = same_true the_type (search rules) c.loop.row.kind Leaf (sym c.if-eq.ensures) in
+    ap (λ (handle : Handle). handle.span) (handle_here (g.R.Rows.sheet c.args.rows.now) (g.R.Rows.sheet c.loop.rows) c.requires.tree.0 c.requires.tree.1 c.args.index c.requires.index _ before.reads _ c.loop.row before.way
+    found.result found.ensures.found (g.R.Rows.sheet found.new.rows) found.ensures.reads
+    c.load_found-span.result c.load_found-span.ensures.span (g.R.Rows.sheet c.load_found-span.new.rows) c.load_found-span.ensures.rest leaf)
+
+pub returns-then-eq-clause-reads : goal.returns-then-eq-clause-reads
+returns-then-eq-clause-reads g c =
+    let found = c.find_slot-found in
+    let leaf : c.loop.row.kind ≡ Leaf = same_true the_type (search rules) c.loop.row.kind Leaf (sym c.if-eq.ensures) in
+    passage_ends (g.R.Rows.sheet c.args.rows.now) (g.R.Rows.sheet c.loop.rows) c.requires.tree.0 c.requires.tree.1 c.args.index c.requires.index c.loop.counter c.loop.row c.loop.invariant
+    found.result found.ensures.found (g.R.Rows.sheet found.new.rows) found.ensures.reads
+    c.load_found-span.result c.load_found-span.ensures.span (g.R.Rows.sheet c.load_found-span.new.rows) c.load_found-span.ensures.rest leaf
+
+pub child_for-row-requires : goal.child_for-row-requires
+child_for-row-requires g c =
+    let before = c.loop.invariant in
+    let found = c.find_slot-found in
+    let other : c.loop.row.kind ≢ Leaf = search rules in
+    has_child (g.R.Rows.sheet c.args.rows.now) (g.R.Rows.sheet c.loop.rows) c.requires.tree.0 c.requires.tree.1 c.args.index c.requires.index _ before.reads _ c.loop.row before.way
+    found.result found.ensures.found (g.R.Rows.sheet found.new.rows) found.ensures.reads
+    c.load_found-span.result c.load_found-span.ensures.span (g.R.Rows.sheet c.load_found-span.new.rows) c.load_found-span.ensures.rest other
+
+pub loop-preserved : goal.loop-preserved
+loop-preserved g c =
+    let found = c.find_slot-found in
+    let other : c.loop.row.kind ≢ Leaf = search rules in
+    passage_goes_on (g.R.Rows.sheet c.args.rows.now) (g.R.Rows.sheet c.loop.rows) c.requires.tree.0 c.requires.tree.1 c.args.index c.requires.index c.loop.counter c.loop.row c.loop.invariant
+    found.result found.ensures.found (g.R.Rows.sheet found.new.rows) found.ensures.reads
+    c.load_found-span.result c.load_found-span.ensures.span (g.R.Rows.sheet c.load_found-span.new.rows) c.load_found-span.ensures.rest other c.child_for-row.result c.child_for-row.ensures
+
+pub unreachable-requires : goal.unreachable-requires
+unreachable-requires g c =
+    let low =
+    not_deepest (g.R.Rows.sheet c.args.rows.now) (g.R.Rows.sheet c.loop.rows) c.requires.tree.0 c.requires.tree.1 c.args.index c.requires.index c.loop.counter c.loop.row c.loop.invariant in
+    omega (arith, low, c.loop-test.false)
