@@ -1,7 +1,8 @@
 //! Walks from the root to the leaf that covers an index.
 
 ghost use Rattle.std.specs.Prelude.{◌≡◌, ◌≢◌, ℕ, ◌+◌, ◌-◌, ◌<◌, ◌≤◌, Some, None, IsSome, IfSome, IfNone, [], length};
-ghost use Rattle.mt_base.specs.Width.{greatest_of};
+ghost use Rattle.mt_base.specs.Width.{columns, greatest_of, kind_width};
+ghost use Rattle.mt_base.specs.declared.widths.Width.{Width};
 ghost use Rattle.mt_layout.specs.Rows.{row_in, named_kind};
 ghost use Rattle.mt_layout.specs.declared.names.RowKind.TheVariants.{Leaf};
 ghost use Rattle.mt_rule.specs.Places.{IsRowAt};
@@ -37,6 +38,17 @@ pub fn sought(table: &MtTable, index: u64) -> u64
     ensures { result ≡ sought (identity_of table.now).shape.kind index }
 {
     index.min(top(table.width()))
+}
+
+/// The width of rows of so many words.
+pub fn width_with<const COLS: u32>() -> Width
+    ensures { (width : Width) → COLS ≡ columns width → result ≡ width }
+{
+    if COLS == 32 {
+        Width::Long
+    } else {
+        Width::Short
+    }
 }
 
 /// The row of this width with this name, which covers `min` to `max`.
@@ -160,6 +172,36 @@ fn descend<L: Ledger>(
     row
 }
 
+/// The leaf that covers an index, by a walk from the root over rows of so many words; none where the tree is empty.
+pub fn walk_by<const COLS: u32, L: Ledger>(
+    table: &MtTable,
+    pass: &mut Pass,
+    index: u64,
+    steps: &mut Steps<L>,
+) -> Option<Row>
+    requires columns { COLS ≡ columns (kind_width (identity_of table.now).shape.kind) }
+    requires pass { IsPassOf (identity_of table.now) pass.old }
+    requires open { (part_of pass.old).standing ≢ None }
+    requires index { index ≤ greatest_of (part_of pass.old).shape.kind }
+    ensures stepped { Stepped (identity_of table.now) pass.old pass.new }
+    ensures goes { GoesOn (part_of pass.old) (part_of pass.new) }
+    ensures empty { IfNone result ((moment_seen (part_of pass.new) (length (part_of pass.new).seen)).ranges ≡ []) }
+    ensures leaf { IfSome result (IsOnLeaf (part_of pass.new)) }
+    ensures since { IfSome result (λ leaf. length (part_of pass.old).seen ≤ (here (part_of pass.new)).since) }
+    ensures under { IfSome result (λ leaf. IsAt (part_of pass.old) → IsUnder (part_of pass.new) (here (part_of pass.old))) }
+    ensures from { IfSome result (λ leaf. leaf.min ≤ index) }
+    ensures to { IfSome result (λ leaf. index ≤ leaf.max) }
+    ensures steps { steps.new ≤ steps.old + 129 }
+{
+    let width = width_with::<COLS>();
+    let name = table.load_root(pass, steps);
+    if name == 0 {
+        return None;
+    }
+    let root = row_named(name, width, 0, top(width));
+    Some(descend(table, pass, root, index, steps))
+}
+
 /// The leaf that covers an index, by a walk from the root; none where the tree is empty.
 pub fn walk<L: Ledger>(
     table: &MtTable,
@@ -180,11 +222,8 @@ pub fn walk<L: Ledger>(
     ensures to { IfSome result (λ leaf. index ≤ leaf.max) }
     ensures steps { steps.new ≤ steps.old + 129 }
 {
-    let width = table.width();
-    let name = table.load_root(pass, steps);
-    if name == 0 {
-        return None;
+    match table.width() {
+        Width::Long => walk_by::<32, L>(table, pass, index, steps),
+        Width::Short => walk_by::<64, L>(table, pass, index, steps),
     }
-    let root = row_named(name, width, 0, top(width));
-    Some(descend(table, pass, root, index, steps))
 }

@@ -1,7 +1,8 @@
 //! Reads at the leaf that a walk comes to.
 
 ghost use Rattle.std.specs.Prelude.{◌≡◌, ◌≢◌, ℕ, ◌+◌, ◌<◌, ◌≤◌, None, IfSome, length};
-ghost use Rattle.mt_base.specs.Width.{greatest_of};
+ghost use Rattle.mt_base.specs.Width.{columns, greatest_of, kind_width};
+ghost use Rattle.mt_layout.specs.declared.names.RowKind.TheVariants.{Leaf};
 ghost use Rattle.mt_base.specs.declared.calls.Query.TheVariants.{Load, Find};
 ghost use Rattle.mt_rule.specs.Sections.{here};
 ghost use Rattle.mt_rule.specs.Tokens.{identity_of, part_of, IsPassOf, Stepped};
@@ -9,8 +10,8 @@ ghost use Rattle.mt_read.specs.Answers.{Answers, LeafAnswers};
 ghost use Rattle.mt_read.specs.Walks.{GoesOn, IsOnLeaf, IsPlaceIn, IsSameHold, SeesMore, WasRead, range_or_hole};
 
 use crate::bounds::not_below;
-use crate::descent::{Place, Row, find_slot, sought, walk};
-use mt_base::{Range, Steps};
+use crate::descent::{Place, Row, find_slot, sought, walk, walk_by, width_with};
+use mt_base::{Range, Steps, Width, top};
 use mt_layout::{RowKind, slots};
 use mt_rule::{MtTable, Pass};
 use std::sync::ledger::Ledger;
@@ -139,6 +140,43 @@ pub fn first_from<L: Ledger>(
     not_below(range, index, index)
 }
 
+/// The same leaf, of which it is told again that it is one, and how wide it is.
+fn leaf_with(width: Width, leaf: Row) -> Row
+    requires kind { leaf.kind ≡ Leaf }
+    requires width { leaf.width ≡ width }
+    ensures { result ≡ leaf }
+{
+    Row {
+        kind: RowKind::Leaf,
+        width,
+        ..leaf
+    }
+}
+
+/// The range that holds an index, by a walk from the root over rows of so many words.
+fn range_by<const COLS: u32, L: Ledger>(
+    table: &MtTable,
+    pass: &mut Pass,
+    index: u64,
+    steps: &mut Steps<L>,
+) -> Option<Range>
+    requires columns { COLS ≡ columns (kind_width (identity_of table.now).shape.kind) }
+    requires pass { IsPassOf (identity_of table.now) pass.old }
+    requires open { (part_of pass.old).standing ≢ None }
+    ensures stepped { Stepped (identity_of table.now) pass.old pass.new }
+    ensures goes { GoesOn (part_of pass.old) (part_of pass.new) }
+    ensures answer { Answers (part_of pass.new) (length (part_of pass.old).seen) (Load index) result }
+    ensures steps { steps.new ≤ steps.old + 161 }
+{
+    let width = width_with::<COLS>();
+    let to = index.min(top(width));
+    let found = walk_by::<COLS, L>(table, pass, to, steps)?;
+    let leaf = leaf_with(width, found);
+    let place = find_slot(table, pass, &leaf, to, steps);
+    let range = range_at(table, pass, &leaf, &place, steps);
+    not_below(range, index, index)
+}
+
 /// The range that holds an index, by a walk from the root.
 pub fn range_of<L: Ledger>(
     table: &MtTable,
@@ -153,9 +191,8 @@ pub fn range_of<L: Ledger>(
     ensures answer { Answers (part_of pass.new) (length (part_of pass.old).seen) (Load index) result }
     ensures steps { steps.new ≤ steps.old + 161 }
 {
-    let to = sought(table, index);
-    let leaf = walk(table, pass, to, steps)?;
-    let place = find_slot(table, pass, &leaf, to, steps);
-    let range = range_at(table, pass, &leaf, &place, steps);
-    not_below(range, index, index)
+    match table.width() {
+        Width::Long => range_by::<32, L>(table, pass, index, steps),
+        Width::Short => range_by::<64, L>(table, pass, index, steps),
+    }
 }

@@ -5,15 +5,15 @@ use Rattle.mt_rule.specs.Sections.{here}
 use Rattle.mt_rule.specs.Tokens.{identity_of, part_of}
 use Rattle.mt_read.proofs.Finding.{shape_is}
 use Rattle.mt_read.proofs.Descending.{root_on, root_under, goes_root, goes_on}
-use Rattle.mt_read.proofs.descent.walk.Goals as goal
+use Rattle.mt_read.proofs.descent.walk_by.Goals as goal
 
 pub descend-requires-clause-on : goal.descend-requires-clause-on
 descend-requires-clause-on g c =
     let t = identity_of c.args.table.now in
     let q = part_of c.args.pass.now in let q' = part_of c.load_root-name.new.pass in
     let told = c.load_root-name.ensures.told.row (search rules) in
-    let wide : c.width-width.result ≡ kind_width q'.shape.kind = c.width-width.ensures ∙ ap (λ (s : Shape). kind_width s.kind) (sym (shape_is t c.load_root-name.new.pass c.load_root-name.ensures.stepped.of)) in
-    root_on q q' c.load_root-name.result c.width-width.result c.top.result c.row_named-root.result told wide c.top.ensures
+    let wide : c.width_with-width.result ≡ kind_width q'.shape.kind = c.width_with-width.ensures (kind_width t.shape.kind) c.requires.columns ∙ ap (λ (s : Shape). kind_width s.kind) (sym (shape_is t c.load_root-name.new.pass c.load_root-name.ensures.stepped.of)) in
+    root_on q q' c.load_root-name.result c.width_with-width.result c.top.result c.row_named-root.result told wide c.top.ensures
     (record { number = c.row_named-root.ensures.number; base_is = c.row_named-root.ensures.base; kind = c.row_named-root.ensures.kind; width_is = c.row_named-root.ensures.width; min_is = c.row_named-root.ensures.min; max_is = c.row_named-root.ensures.max })
 
 pub returns-clause-under : goal.returns-clause-under
