@@ -14,3 +14,4 @@ pub mod Onward
 pub mod Descending
 pub mod Children
 pub mod Whole
+pub mod Forms

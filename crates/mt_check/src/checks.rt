@@ -5,6 +5,7 @@ ghost use Rattle.mt_base.specs.Width.{kind_width};
 ghost use Rattle.mt_rows.specs.declared.rows.Place.TheVariants.{Root};
 ghost use Rattle.mt_rows.specs.Publish.{tree_as, with_published, IsLawfulOf};
 ghost use Rattle.mt_rows.specs.Sheet.{OnlyReads};
+ghost use Rattle.mt_check.specs.Check as defined;
 ghost use Rattle.mt_check.specs.Check.{checked};
 
 use crate::faults::{Fault, Form};
@@ -56,4 +57,17 @@ pub fn check<R: Rows>(rows: &mut R, root: u64, kind: Kind) -> Result<Form, Fault
         rows: below.rows,
         ranges: below.ranges,
     })
+}
+
+/// The form of lawful words.
+pub fn form_of<R: Rows>(rows: &mut R, kind: Kind) -> Form
+    requires { IsLawfulOf (R.sheet rows.old).tree kind }
+    ensures form { result ≡ defined.form_of (tree_as kind (R.sheet rows.old).tree) }
+    ensures rest { OnlyReads (R.sheet rows.old) (R.sheet rows.new) }
+{
+    let root = rows.root();
+    let Ok(form) = check(rows, root, kind) else {
+        unreachable!()
+    };
+    form
 }

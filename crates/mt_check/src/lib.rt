@@ -8,5 +8,5 @@ mod reads;
 mod row_laws;
 mod walks;
 
-pub use checks::check;
+pub use checks::{check, form_of};
 pub use faults::{Fault, Form, Law};

@@ -1,7 +1,7 @@
 -- The number that a row gets is the place where the walk comes to it.
 use Rattle.std.proofs.Common.{◌≡◌, ◌≢◌, ◌⊎◌, ℕ, suc, ◌+◌, ◌<◌, ◌≤◌, ◌==◌, List, [], ◌∷◌, ◌++◌, Bool, true, false, length, map, get_or, refl, sym, ap, ◌∙◌, subst, inl, inr, arith, length-append, append_assoc, eq-eqb, ne_eqb}
 use Rattle.std.specs.Prelude.{if◌then◌else◌}
-use Rattle.std.specs.List.{AllByRecursion}
+use Rattle.std.specs.List.{range_with_len, AllByRecursion}
 use Rattle.std.proofs.lemmas.Bool.{cases_Bool, eqb-true, cases_eq}
 use Rattle.mt_base.specs.Width.{first_row}
 use Rattle.mt_base.proofs.Lists.{all_map}
@@ -104,3 +104,11 @@ given_outside number from row (x ∷ names) numbered outside =
     further : (row < from) ⊎ (from + suc (length names) ≤ row) → (row < from + 1) ⊎ (from + 1 + length names ≤ row)
     further (inl below) = inl (omega arith)
     further (inr above) = inr (omega arith)
+
+-- rows that are numbered one by one have their numbers in the order of the walk
+pub numbered_in_order : (number : ℕ → ℕ) (from : ℕ) (names : List ℕ) → AreNumbered number from names → map number (map row_in names) ≡ range_with_len from (length names)
+numbered_in_order number from [] numbered = refl
+numbered_in_order number from (x ∷ names) numbered =
+    let first = numbered.0 in
+    let behind = numbered_in_order number (from + 1) names numbered.1 in
+    (λ i. first i ∷ behind i)

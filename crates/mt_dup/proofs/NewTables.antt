@@ -1,8 +1,9 @@
 -- New rows and a new book, before a copy and behind it.
 use Rattle.std.proofs.Common.{◌≡◌, ℕ, zero, suc, ◌+◌, ◌-◌, ◌*◌, ◌<◌, ◌≤◌, List, [], ◌∷◌, false, Option, length, map, get_or, refl, sym, ap, ◌∙◌, subst, inl, inr, arith}
 use Rattle.std.specs.Prelude.{replicate, slice_index}
-use Rattle.std.specs.List.{Contains}
+use Rattle.std.specs.List.{range_with_len, Contains}
 use Rattle.std.proofs.lemmas.Bool.{cases_lt}
+use Rattle.std.proofs.lemmas.List.FromFn.{length-range_with_len}
 use Rattle.mt_base.specs.declared.kinds.Kind.{Kind}
 use Rattle.mt_base.specs.declared.widths.Width.{Width}
 use Rattle.mt_base.specs.Width.{columns, first_row, most_rows, deepest}
@@ -13,7 +14,7 @@ use Rattle.mt_rows.specs.Plain.{new_sheet}
 use Rattle.mt_rows.specs.Sheet.{Sheet, life_of, IsWhole, OnlyReads, loaded}
 use Rattle.mt_rows.specs.Publish.{is_reached, IsReached, IsTold, MayPlant, IsLawfulOf, map_by}
 use Rattle.mt_rows.specs.Trees.{reached_in}
-use Rattle.mt_dup.specs.Copy.{IsNewBut, IsBookOfCopy, IsCopy}
+use Rattle.mt_dup.specs.Copy.{AreInOrder, IsNewBut, IsBookOfCopy, IsCopy}
 use Rattle.mt_dup.specs.Filling.{rows_above, next_row, IsFilling, HasTaken, IsOpen, IsOutside, IsWritten}
 use Rattle.mt_dup.specs.Walks.{LeavesCopy, names_from}
 use Rattle.mt_dup.proofs.Filling.{length-rows_above, filling_is_book}
@@ -183,6 +184,12 @@ module _ (s s₁ d₀ d : Sheet) (b₀ b : Book) (word root : ℕ) (whole : IsWh
 
   pub is_copy : IsCopy s.tree (copied_to d root)
   is_copy = (facts some.0 some.1).copy
+
+  pub in_order : AreInOrder (copied_to d root)
+  in_order = by_count (facts some.0 some.1).order
+    where
+      by_count : reached_in d.tree.table root ≡ range_with_len first_row (length (all_names s)) → AreInOrder (copied_to d root)
+      by_count rows = rows ∙ ap (range_with_len first_row) (sym (ap length rows ∙ length-range_with_len first_row (length (all_names s))))
 
   pub same_map : map_by (copied_to d root) ≡ map_by s.tree
   same_map = (facts some.0 some.1).same_map

@@ -1,7 +1,7 @@
 -- A whole tree is copied.
 use Rattle.std.proofs.Common.{◌≡◌, ◌≢◌, ◌⊎◌, ℕ, ◌+◌, ◌<◌, ◌≤◌, ◌==◌, List, [], ◌∷◌, ◌++◌, Some, false, length, map, refl, sym, ap, ◌∙◌, subst, inl, inr, arith, lt-ltb, eq-eqb, append_assoc}
 use Rattle.std.specs.Prelude.{nat_lt}
-use Rattle.std.specs.List.{AllByRecursion}
+use Rattle.std.specs.List.{AllByRecursion, range_with_len}
 use Rattle.std.proofs.lemmas.Bool.{ltb-true}
 use Rattle.std.proofs.lemmas.List.{length-map}
 use Rattle.mt_base.specs.Call.{finds_room}
@@ -28,7 +28,7 @@ use Rattle.mt_rows.proofs.Loads.{same_tree}
 use Rattle.mt_dup.specs.Copy.{renamed, IsRowCopy, IsCopy}
 use Rattle.mt_dup.specs.Walks.{names_from, MayCopy, AreNumbered, IsCopied, AreCopied, LeavesCopy}
 use Rattle.mt_dup.proofs.Names.{names_none}
-use Rattle.mt_dup.proofs.NewNumbers.{times_of, number_in, number_zero, numbered_on, numbered_once, IsGiven, all_given, given_inside, given_outside}
+use Rattle.mt_dup.proofs.NewNumbers.{times_of, number_in, number_zero, numbered_on, numbered_once, IsGiven, all_given, given_inside, given_outside, numbered_in_order}
 use Rattle.mt_dup.proofs.TreeNames.{may_copy, rows_named, holds_below}
 use Rattle.mt_dup.proofs.MovedTree as moved
 
@@ -41,6 +41,7 @@ copied_to d root = with_published d.tree Root root
 -- what a copy has come to, of so many rows
 pub record Facts (kind : Kind) (s d : Sheet) (root count : ℕ) : Type 0 where
   pub copy : IsCopy s.tree (copied_to d root)
+  pub order : reached_in d.tree.table root ≡ range_with_len first_row count
   pub same_map : map_by (copied_to d root) ≡ map_by s.tree
   pub lawful : IsLawfulOf (copied_to d root) kind
   pub inside : (row : ℕ) → first_row ≤ row → row < first_row + count → IsReached (copied_to d root) row
@@ -111,6 +112,7 @@ module _ (kind : Kind) (s d : Sheet) (root : ℕ) (whole : IsWhole s) (new_whole
       root = root_zero ∙ sym (ap (renamed (λ r. r)) empty);
       words = λ h x k at. absurd (let levels = at.levels in let low = ap (height_in s.tree.table) empty in omega arith);
     };
+    order = ap (reached_in d.tree.table) root_zero ∙ sym (ap (range_with_len first_row) no_names);
     same_map = ap (map_in d.tree.table) root_zero ∙ sym (ap (map_in s.tree.table) empty);
     lawful = record { width = one_width ∙ width; words = inl root_zero };
     inside = λ row low high. absurd (let few = no_names in omega arith);
@@ -219,6 +221,7 @@ module _ (kind : Kind) (s d : Sheet) (root : ℕ) (whole : IsWhole s) (new_whole
         root = copied.0;
         words = row_copied;
       };
+      order = rows_are ∙ (ap (map number) (sym named_rows) ∙ numbered_in_order number first_row names numbered);
       same_map =
           ap (λ (x : Tree). map_in x.table x.root) (sym later_is)
           ∙ (ranges_by_depth later deepest h (root_span later.table later.root) stands.low later_stands.rows

@@ -1,7 +1,8 @@
 -- A copy of a tree, row by row: it has the same width and the same words, but for the numbers of its rows.
 -- Source: the kernel's lib/maple_tree.c, __mt_dup, which copies each node and then writes the new addresses into it.
-use Rattle.std.specs.Prelude.{◌≡◌, ◌↔◌, ℕ, ◌*◌, ◌%◌, ◌<◌, ◌≤◌, false, Some, [], map}
-use Rattle.mt_base.specs.Width.{columns}
+use Rattle.std.specs.Prelude.{◌≡◌, ◌↔◌, ℕ, ◌*◌, ◌%◌, ◌<◌, ◌≤◌, false, Some, [], length, map}
+use Rattle.std.specs.List.{range_with_len}
+use Rattle.mt_base.specs.Width.{columns, first_row}
 use Rattle.mt_free.specs.Book.{Book, IsBook, IsOut}
 use Rattle.mt_layout.specs.declared.names.RowKind.{RowKind}
 use Rattle.mt_layout.specs.declared.names.RowKind.TheVariants.{Leaf, Inner, Gapped}
@@ -45,6 +46,11 @@ pub record IsCopy (t t' : Rooted) : Type 0 where
   pub once : (row other : ℕ) → IsReached t row → IsReached t other → number row ≡ number other → row ≡ other
   pub root : t'.root ≡ renamed number t.root
   pub words : (h : ℕ) (x : Span) (kind : RowKind) → StandsAt t h x → named_kind x.word ≡ Some kind → IsRowCopy number t.table t'.table kind (row_in x.word)
+
+-- the rows that are reached are the first ones, numbered in the order of the walk: each row before its children, children from
+-- the left
+abbrev pub AreInOrder : Rooted → Type 0
+AreInOrder t = reached_in t.table t.root ≡ range_with_len first_row (length (reached_in t.table t.root))
 
 -- new rows of the copy's width, but for those that are reached from the root word, which are drafts; no call was begun, and
 -- the root word that they have is 0

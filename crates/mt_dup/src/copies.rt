@@ -9,7 +9,7 @@ ghost use Rattle.mt_rows.specs.Plain.{new_sheet};
 ghost use Rattle.mt_rows.specs.Publish.{with_published, map_by, IsLawfulOf, MayPlant};
 ghost use Rattle.mt_rows.specs.Sheet.{OnlyReads};
 ghost use Rattle.mt_rows.specs.Trees.{reached_in};
-ghost use Rattle.mt_dup.specs.Copy.{IsCopy, IsBookOfCopy, IsNewBut};
+ghost use Rattle.mt_dup.specs.Copy.{AreInOrder, IsCopy, IsBookOfCopy, IsNewBut};
 
 use crate::walks::{Way, copy_row};
 use mt_base::{DEEPEST, Steps};
@@ -36,6 +36,8 @@ pub fn copy_rows<R: Rows, L: Ledger>(
 
     // The words of the copy are those of the tree, but for the numbers of its rows.
     ensures copy { IsCopy (R.sheet src.old).tree (with_published (sheet_in dst.new).tree Root result) }
+    // They are numbered in the order of the walk.
+    ensures order { AreInOrder (with_published (sheet_in dst.new).tree Root result) }
     ensures map { map_by (with_published (sheet_in dst.new).tree Root result) ≡ map_by (R.sheet src.old).tree }
     ensures lawful { (kind : Kind) → IsLawfulOf (R.sheet src.old).tree kind → MayPlant kind (sheet_in dst.new) result }
 

@@ -5,11 +5,11 @@ use Rattle.std.proofs.lemmas.List.{map-append}
 use Rattle.mt_base.specs.declared.ranges.Range.{Range}
 use Rattle.mt_base.specs.declared.widths.Width.{Width}
 use Rattle.mt_base.specs.declared.kinds.Kind.{Kind}
+use Rattle.mt_base.specs.declared.calls.Call.{Call}
 use Rattle.mt_base.specs.declared.calls.Call.TheVariants.{Store}
-use Rattle.mt_base.specs.declared.replies.Reply.TheVariants as reply
 use Rattle.mt_base.specs.Entry.{reserved}
-use Rattle.mt_base.specs.Map.{over}
-use Rattle.mt_base.specs.Call.{acted}
+use Rattle.mt_base.specs.Map.{first_met, over}
+use Rattle.mt_base.specs.Call.{acted, replied}
 use Rattle.mt_base.specs.Width.{kind_width, greatest, greatest_of, deepest, first_row}
 use Rattle.mt_layout.specs.Rows.{row_in}
 use Rattle.mt_layout.specs.Columns.{slot_column}
@@ -94,13 +94,16 @@ module _ (kind : Kind) (s : Sheet) (h slot entry : ℕ) (leaf item : Span) (whol
   map_is' : map_by written ≡ map_of t'.table h (root_of t')
   map_is' = ranges_by_depth t' deepest h (root_span t'.table t'.root) stands'.low stands'.rows
 
-  answer : acted kind (map_by s.tree) (Store item.first item.last entry) ≡ (map_by written, reply.Ok)
+  abbrev pub call : Call
+  call = Store item.first item.last entry
+
+  answer : acted kind (map_by s.tree) call ≡ (map_by written, (acted kind (map_by s.tree) call).1)
   answer =
       let order = exact.order t h slot entry leaf item whole.words stands at old new free in
       let within : item.last ≤ greatest_of kind = subst (λ (w : Width). item.last ≤ greatest w) width (exact.within t h slot entry leaf item whole.words stands at old new free) in
       let stored : over (map_by s.tree) item.first item.last entry ≡ map_by written =
       ap (λ (m : List Range). over m item.first item.last entry) map_is ∙ (exact.is_over t h slot entry leaf item whole.words stands at old new free ∙ sym map_is') in
-      rw (le-ltb item.last item.first order, le-ltb (greatest_of kind) item.last within, free) (λ i. (stored i, reply.Ok))
+      rw (le-ltb item.last item.first order, le-ltb (greatest_of kind) item.last within, free) (λ i. (stored i, replied (first_met (map_by s.tree) item.first item.last)))
 
   -- ---- what becomes of rows
 
@@ -154,7 +157,7 @@ module _ (kind : Kind) (s : Sheet) (h slot entry : ℕ) (leaf item : Span) (whol
     buried = λ r first last is. let not = none_buried r first last in absurd (cc);
   }
 
-  pub may_publish : s.in_flight ≡ true → s.published ≡ false → MayPublish kind s (Slot row col) entry (Store item.first item.last entry) reply.Ok
+  pub may_publish : s.in_flight ≡ true → s.published ≡ false → MayPublish kind s (Slot row col) entry call (acted kind (map_by s.tree) call).1
   may_publish in_flight before = record {
     in_flight = in_flight;
     before = before;

@@ -3,8 +3,8 @@
 ghost use Rattle.std.specs.Prelude.{◌≡◌, ◌≢◌, ℕ, suc, ◌+◌, ◌*◌, ◌/◌, ◌^◌, ◌<◌, ◌≤◌, ◌==◌, Bool, true, false, List, [], ◌∷◌, ◌++◌, length};
 ghost use Rattle.std.specs.List.{AllByRecursion};
 ghost use Rattle.mt_base.specs.declared.calls.Call.TheVariants.{Store};
-ghost use Rattle.mt_base.specs.declared.replies.Reply.TheVariants as reply;
 ghost use Rattle.mt_base.specs.declared.kinds.Kind.{Kind};
+ghost use Rattle.mt_base.specs.Call.{acted};
 ghost use Rattle.mt_base.specs.Entry.{reserved};
 ghost use Rattle.mt_base.specs.Map.{IsMap};
 ghost use Rattle.mt_base.specs.Width.{columns, deepest, kind_width, most_rows};
@@ -19,7 +19,7 @@ ghost use Rattle.mt_rows.specs.Levels.{map_of, Levels, tally, times, is_row_of, 
 ghost use Rattle.mt_rows.specs.Trees.{ranges_of, rows_of, height_of, map_in, reached_in};
 ghost use Rattle.mt_rows.specs.Laws.{Tree, IsRow, IsTree, Stands, HasWords, top_of, kind_at};
 ghost use Rattle.mt_rows.specs.Sheet.{Sheet, IsPlace, IsWhole, drafted, after_bury, tended};
-ghost use Rattle.mt_rows.specs.Publish.{tree_as, IsTold, LiveAreReached, NoneBuried, MayPublish};
+ghost use Rattle.mt_rows.specs.Publish.{tree_as, IsTold, LiveAreReached, NoneBuried, MayPublish, map_by};
 ghost use Rattle.mt_rows.specs.Replacement.{root_of, IsSlotAt, with_slot, with_child, IsNewBelow, ReplacesChild, ReplacesEntry};
 
 /// What stands below a row by depth and by levels is the same: the ranges, how often each row is reached, and the height.
@@ -95,7 +95,7 @@ pub fn an_exact_store_may_be_published()
     ensures { (kind : Kind) (s : Sheet) (h slot entry row col : ℕ) (leaf item : Span) → IsWhole s → s.in_flight ≡ true → s.published ≡ false → LiveAreReached s.tree s.lives → NoneBuried s.tree.rows s.buried → IsTold s.kind kind → s.tree.table.width ≡ kind_width kind
         → Stands (tree_as kind s.tree) h → IsSlotAt (tree_as kind s.tree) h leaf slot item → row ≡ row_in leaf.word → col ≡ slot_column (slots_of s.tree.table.width (kind_at kind 0)) slot
         → item.word ≢ 0 → entry ≢ 0 → reserved entry ≡ false
-        → MayPublish kind s (Slot row col) entry (Store item.first item.last entry) reply.Ok }
+        → let call = Store item.first item.last entry in MayPublish kind s (Slot row col) entry call (acted kind (map_by s.tree) call).1 }
 {}
 
 /// A tree of as many rows as can be named has nine levels at the most; and the inner rows on a way from the root to a leaf have 128

@@ -5,7 +5,7 @@ use Rattle.mt_rows.specs.PlainWhole.{rows_whole}
 use Rattle.mt_rows.specs.Sheet.{Sheet}
 use Rattle.mt_dup.specs.Filling.{IsOpen}
 use Rattle.mt_dup.proofs.WholeCopies.{tree_may, names_many, names_same, may_same}
-use Rattle.mt_dup.proofs.NewTables.{new_open, is_copy, same_map, may_be_planted, others_new, has_book}
+use Rattle.mt_dup.proofs.NewTables.{new_open, is_copy, in_order, same_map, may_be_planted, others_new, has_book}
 use Rattle.mt_dup.proofs.copies.copy_rows.Goals as goal
 use Rattle.mt_rows.proofs.Loads.{one_read}
 
@@ -30,6 +30,12 @@ copy_row-requires-clause-room g c =
 pub returns-clause-copy : goal.returns-clause-copy
 returns-clause-copy g c =
     is_copy (g.R.Rows.sheet c.args.src.now) (g.R.Rows.sheet c.root.new.self) (sheet_in c.args.dst.now) (sheet_in c.copy_row.new.dst) c.args.book.now c.copy_row.new.book c.root.result c.copy_row.result
+    (g.met.R.Rows.whole c.args.src.now) (rows_whole c.copy_row.new.dst) c.root.ensures.rest c.root.ensures.word c.requires.rows c.requires.book c.requires.lawful c.requires.room
+    c.copy_row.ensures.copy c.copy_row.ensures.taken c.copy_row.ensures.written
+
+pub returns-clause-order : goal.returns-clause-order
+returns-clause-order g c =
+    in_order (g.R.Rows.sheet c.args.src.now) (g.R.Rows.sheet c.root.new.self) (sheet_in c.args.dst.now) (sheet_in c.copy_row.new.dst) c.args.book.now c.copy_row.new.book c.root.result c.copy_row.result
     (g.met.R.Rows.whole c.args.src.now) (rows_whole c.copy_row.new.dst) c.root.ensures.rest c.root.ensures.word c.requires.rows c.requires.book c.requires.lawful c.requires.room
     c.copy_row.ensures.copy c.copy_row.ensures.taken c.copy_row.ensures.written
 

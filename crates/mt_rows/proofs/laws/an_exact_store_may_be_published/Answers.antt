@@ -1,12 +1,12 @@
 use Rattle.std.proofs.Common.{ℕ, sym, subst}
 use Rattle.mt_base.specs.declared.calls.Call.TheVariants.{Store}
-use Rattle.mt_base.specs.declared.replies.Reply.TheVariants as reply
+use Rattle.mt_base.specs.Call.{acted}
 use Rattle.mt_rows.specs.declared.rows.Place.TheVariants.{Slot}
-use Rattle.mt_rows.specs.Publish.{MayPublish}
+use Rattle.mt_rows.specs.Publish.{MayPublish, map_by}
 use Rattle.mt_rows.proofs.ExactStore.{may_publish}
 use Rattle.mt_rows.proofs.laws.an_exact_store_may_be_published.Goals as goal
 
 pub returns : goal.returns
 returns c = λ kind s h slot entry row col leaf item whole in_flight before live none_buried told width stands at is_row is_col old new free.
-    subst (λ (r : ℕ × ℕ). MayPublish kind s (Slot r.0 r.1) entry (Store item.first item.last entry) reply.Ok) (λ i. (sym is_row i, sym is_col i))
+    subst (λ (r : ℕ × ℕ). MayPublish kind s (Slot r.0 r.1) entry (Store item.first item.last entry) (acted kind (map_by s.tree) (Store item.first item.last entry)).1) (λ i. (sym is_row i, sym is_col i))
     (may_publish kind s h slot entry leaf item whole live none_buried told width stands at old new free in_flight before)
