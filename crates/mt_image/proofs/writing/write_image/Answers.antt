@@ -1,0 +1,9 @@
+use Rattle.std.proofs.Common.{length, ap, ◌∙◌, sym}
+use Rattle.mt_check.specs.declared.faults.Form.{Form}
+use Rattle.mt_rows.specs.Sheet.{Sheet}
+use Rattle.mt_rows.specs.Trees.{reached_in}
+use Rattle.mt_image.proofs.writing.write_image.Goals as goal
+
+pub copy_in_order-requires-clause-live : goal.copy_in_order-requires-clause-live
+copy_in_order-requires-clause-live g c =
+    ap (λ (f : Form). f.rows) c.form_of-live.ensures.form ∙ ap (λ (s : Sheet). length (reached_in s.tree.table s.tree.root)) (sym c.form_of-live.ensures.rest)

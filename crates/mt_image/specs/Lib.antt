@@ -1,0 +1,5 @@
+pub mod Bytes
+pub mod Images
+pub mod Orders
+pub mod Reading
+pub mod Texts

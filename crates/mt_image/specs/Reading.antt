@@ -1,0 +1,84 @@
+-- What bytes are an image of, or why they are none: the first of the reasons, in this order.
+-- Source: this project's own.
+use Rattle.std.specs.Prelude.{ℕ, zero, suc, ◌+◌, ◌*◌, ◌==◌, ◌<◌, nat_lt, slice_index, List, [], ◌∷◌, ◌++◌, Option, Some, None, Result, Ok, Err, length, take, replicate, codes, if◌then◌else◌}
+use Rattle.std.specs.List.{find, slice_range}
+use Rattle.std.specs.Int.{w64, from_le_bytes}
+use Rattle.std.specs.Str.{bytes_eq}
+use Rattle.mt_base.specs.declared.kinds.Kind.{Kind}
+use Rattle.mt_base.specs.declared.kinds.Kind.TheVariants as kinds
+use Rattle.mt_base.specs.Width.{columns, first_row, kind_width, most_rows}
+use Rattle.mt_check.specs.declared.faults.Fault.{Fault}
+use Rattle.mt_check.specs.declared.faults.Form.{Form}
+use Rattle.mt_check.specs.Check.{checked}
+use Rattle.mt_rows.specs.Sheet.{Rooted}
+use Rattle.mt_rows.specs.Publish.{tree_as}
+use Rattle.mt_image.specs.Bytes.{kind_code, tree_of}
+use Rattle.mt_image.specs.Orders.{stray_in}
+use Rattle.mt_image.specs.declared.errors.ImageError.{ImageError}
+use Rattle.mt_image.specs.declared.errors.ImageError.TheVariants.{Length, Head, Broken, Stray}
+
+-- the kind and the words of a tree
+pub record Image : Type 0 where
+  pub kind : Kind
+  pub tree : Rooted
+
+abbrev pub AreBytes : List ℕ → Type 0
+AreBytes bytes = (i : ℕ) → slice_index bytes i < 256
+
+-- the number in the 8 bytes from a place on
+abbrev pub number_at : List ℕ → ℕ → ℕ
+number_at bytes at = from_le_bytes w64 (slice_range bytes at (at + 8))
+
+-- so many numbers from a place on
+unfoldable pub numbers_from : List ℕ → ℕ → ℕ → List ℕ
+numbers_from bytes at zero = []
+numbers_from bytes at (suc n) = number_at bytes at ∷ numbers_from bytes (at + 8) n
+
+abbrev pub all_kinds : List Kind
+all_kinds = kinds.Range ∷ (kinds.Alloc ∷ (kinds.Range32 ∷ (kinds.Alloc32 ∷ [])))
+
+-- the kind of this number
+unfoldable pub kind_numbered : ℕ → Option Kind
+kind_numbered n = find (λ kind. kind_code kind == n) all_kinds
+
+-- where the head ends and the rows begin
+abbrev pub head_length : ℕ
+head_length = 32
+
+-- the tree of the words in an image of this kind: no row has those before the first row
+abbrev pub words_in : List ℕ → Kind → List ℕ
+words_in bytes kind = replicate (columns (kind_width kind) * first_row) 0 ++ numbers_from bytes head_length (number_at bytes 16 * columns (kind_width kind))
+
+abbrev pub tree_in : List ℕ → Kind → Rooted
+tree_in bytes kind = tree_of kind (number_at bytes 16) (number_at bytes 24) (words_in bytes kind)
+
+-- no row may be stray
+abbrev pub placed : Image → Option ℕ → Result Image ImageError
+placed image None = Ok image
+placed image (Some row) = Err (Stray row)
+
+-- and before that, the words have to be lawful
+abbrev pub lawful : Image → Result Form Fault → Result Image ImageError
+lawful image (Ok form) = placed image (stray_in image.tree)
+lawful image (Err fault) = Err (Broken fault.row fault.law)
+
+abbrev pub length_of : Kind → ℕ → ℕ
+length_of kind rows = head_length + 8 * (rows * columns (kind_width kind))
+
+-- behind the head and its length
+abbrev pub behind_head : List ℕ → Kind → Result Image ImageError
+behind_head bytes kind = lawful (record { kind = kind; tree = tree_in bytes kind }) (checked (tree_as kind (tree_in bytes kind)))
+
+-- behind the kind, where it is one
+abbrev pub image_of_kind : List ℕ → Option Kind → Result Image ImageError
+image_of_kind bytes None = Err (Head 8)
+image_of_kind bytes (Some kind) =
+    if nat_lt most_rows (number_at bytes 16) then Err (Head 16)
+    else (if length bytes == length_of kind (number_at bytes 16) then behind_head bytes kind
+    else Err (Length (length_of kind (number_at bytes 16)) (length bytes)))
+
+unfoldable pub image_in : List ℕ → Result Image ImageError
+image_in bytes =
+    if nat_lt (length bytes) head_length then Err (Length head_length (length bytes))
+    else (if bytes_eq (take 8 bytes) (codes "mtimage1") then image_of_kind bytes (kind_numbered (number_at bytes 8))
+    else Err (Head 0))
