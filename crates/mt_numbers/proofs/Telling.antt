@@ -1,5 +1,5 @@
 -- What the reply of a call tells, which the map before it answered.
-use Rattle.std.specs.Prelude.{Option, Some, None, option_map, take, fold}
+use Rattle.std.specs.Prelude.{Option, Some, None, take, fold}
 use Rattle.std.proofs.Common.{◌≡◌, ℕ, ◌+◌, ◌-◌, List, [], ◌∷◌, ◌++◌, length, inl, inr, refl, sym, ap, ◌∙◌, subst, arith}
 use Rattle.std.proofs.Math.Seq.{take-append_seam}
 use Rattle.mt_base.specs.declared.calls.Call.{Call}
@@ -53,8 +53,8 @@ asked_tells tree p q number reply kind w = asked_by _ _ tree.kind (record { pass
 -- ---- a number that is given back
 
 held_tells : (l : Limits) (m : List Range) (number : ℕ) (o : Option Range) → holding m number ≡ o → TellsTaken number l m (erased m number o).1 (was_there (erased m number o).1)
-held_tells l m number None is = (ap (option_map (λ (r : Range). r.entry)) is, refl)
-held_tells l m number (Some r) is = (ap (option_map (λ (r : Range). r.entry)) is, refl)
+held_tells l m number None is = (is, refl)
+held_tells l m number (Some r) is = (is, refl)
 
 gave_by : (l : Limits) (m : List Range) (kind : Kind) (number : ℕ) (r : Record) → r.call ≡ Erase number → IsAnswered kind l m r → TellsTaken number l m r.reply (was_there r.reply)
 gave_by l m kind number r same (inl answered) =

@@ -1,7 +1,7 @@
 -- How often a pass took a number and gave one back, by the history that it has seen; and what it is told when it asks for one, or
 -- gives one back, by the map before its call.
 -- Source: this project's own.
-use Rattle.std.specs.Prelude.{◌≡◌, ℕ, ◌+◌, ◌-◌, ◌==◌, ◌&&◌, Bool, true, false, is_some, List, [], ◌∷◌, Option, Some, None, option_map, Result, Ok, Err, if◌then◌else◌}
+use Rattle.std.specs.Prelude.{◌≡◌, ℕ, ◌+◌, ◌-◌, ◌==◌, ◌&&◌, Bool, true, false, is_some, List, [], ◌∷◌, Option, Some, None, Result, Ok, Err, if◌then◌else◌}
 use Rattle.mt_base.specs.declared.calls.Call.{Call}
 use Rattle.mt_base.specs.declared.calls.Call.TheVariants as calls
 use Rattle.mt_base.specs.declared.replies.Reply.{Reply}
@@ -31,7 +31,7 @@ started (Err w) = None
 
 -- a number was given back
 abbrev pub was_there : Reply → Bool
-was_there (replies.Was entry) = true
+was_there (replies.Was range) = true
 was_there _ = false
 
 abbrev pub removed : Result Done Worn → Bool
@@ -77,10 +77,6 @@ asking = calls.Alloc 1 0 (NUMBERS - 1) TAKEN
 abbrev pub lowest_free : List Range → Option ℕ
 lowest_free m = low kinds.Alloc m 1 0 (NUMBERS - 1)
 
--- what a map has at a number
-abbrev pub entry_at : List Range → ℕ → Option ℕ
-entry_at m number = option_map (λ r. r.entry) (holding m number)
-
 -- By a call's reply, and by the map before the call, the lowest number is told that was free; and none where none was, or where
 -- rows were short.
 abbrev pub TellsLowest : Limits → List Range → Reply → Option ℕ → Type 0
@@ -91,8 +87,8 @@ TellsLowest l m _ told = ⊥
 
 -- And it is told whether the number was taken that is given back; not so where rows were short.
 abbrev pub TellsTaken : ℕ → Limits → List Range → Reply → Bool → Type 0
-TellsTaken number l m (replies.Was entry) told = (entry_at m number ≡ Some entry) × (told ≡ true)
-TellsTaken number l m replies.None told = (entry_at m number ≡ None) × (told ≡ false)
+TellsTaken number l m (replies.Was range) told = (holding m number ≡ Some range) × (told ≡ true)
+TellsTaken number l m replies.None told = (holding m number ≡ None) × (told ≡ false)
 TellsTaken number l m (replies.NoNodes shortage) told = IsShort l m shortage × (told ≡ false)
 TellsTaken number l m _ told = ⊥
 

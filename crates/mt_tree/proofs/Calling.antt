@@ -1,5 +1,5 @@
 -- A call at work was made by its pass, and the rows that a read saw lie behind the lock again.
-use Rattle.std.proofs.Common.{◌≡◌, ◌≢◌, ℕ, ◌+◌, ◌/◌, ◌≤◌, ◌<◌, ◌∷◌, ◌++◌, List, [], Bool, true, false, Option, None, length, refl, sym, ap, ◌∙◌, subst, inl, inr, arith}
+use Rattle.std.proofs.Common.{◌≡◌, ◌≢◌, ℕ, ◌+◌, ◌/◌, ◌≤◌, ◌<◌, ◌∷◌, ◌++◌, List, [], Bool, true, false, Option, Some, None, length, refl, sym, ap, ◌∙◌, subst, inl, inr, arith}
 use Rattle.std.specs.Prelude.{◌↔◌, IfErr, IfSome, IsOk, Result, Ok, Err, if◌then◌else◌}
 use Rattle.std.proofs.lemmas.List.{append-nil, length-map, length-append}
 use Rattle.mt_base.specs.declared.calls.Call.{Call}
@@ -11,9 +11,9 @@ use Rattle.mt_base.specs.declared.replies.Holder.{Holder}
 use Rattle.mt_base.specs.declared.replies.Reply.{Reply}
 use Rattle.mt_base.specs.declared.replies.Reply.TheVariants as replies
 use Rattle.mt_base.specs.declared.replies.Shortage.{Shortage}
-use Rattle.mt_base.specs.Call.{acted, answer, is_invalid}
+use Rattle.mt_base.specs.Call.{acted, answer, is_invalid, replied}
 use Rattle.mt_base.specs.History.{Record}
-use Rattle.mt_base.specs.Map.{over}
+use Rattle.mt_base.specs.Map.{first_met, over}
 use Rattle.mt_base.specs.Nodes.{IsShort}
 use Rattle.mt_base.specs.Passes as known
 use Rattle.mt_base.specs.Passes.{Saw, Read, Wrote, places, with_records, holder_of}
@@ -236,13 +236,17 @@ pub refused_still : (e e' : Parts) (call : Call) (reply : Reply) → DidOrLacked
 refused_still e e' call reply (inl did) is = did.kept is
 refused_still e e' call reply (inr lacked) is = lacked.1
 
--- such a store is made, or refused as invalid
+-- such a store is made, onto nothing or over some range, or refused as invalid
 abbrev reply_of : List Range × Reply → Reply
 reply_of after = after.1
 
-store_ends : (m n : List Range) (reply : Reply) (b : Bool) → reply_of (if b then (m, replies.Invalid) else (n, replies.Ok)) ≡ reply → IsStored reply
-store_ends m n reply true is = inr (sym is)
-store_ends m n reply false is = inl (sym is)
+made_ends : (met : Option Range) (reply : Reply) → replied met ≡ reply → IsStored reply
+made_ends None reply is = inl (sym is)
+made_ends (Some r) reply is = inr (inl (r.entry, sym is))
+
+store_ends : (m n : List Range) (met : Option Range) (reply : Reply) (b : Bool) → reply_of (if b then (m, replies.Invalid) else (n, replied met)) ≡ reply → IsStored reply
+store_ends m n met reply true is = inr (inr (sym is))
+store_ends m n met reply false is = made_ends met reply is
 
 pub is_stored : (kind : Kind) (m m' : List Range) (first last entry : ℕ) (reply : Reply) → acted kind m (StorePre first last entry) ≡ (m', reply) → IsStored reply
-is_stored kind m m' first last entry reply is = store_ends m (over m first last entry) reply (is_invalid kind first last entry) (ap reply_of is)
+is_stored kind m m' first last entry reply is = store_ends m (over m first last entry) (first_met m first last) reply (is_invalid kind first last entry) (ap reply_of is)

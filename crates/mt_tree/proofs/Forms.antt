@@ -1,39 +1,33 @@
--- What a check of lawful words answers is their form.
-use Rattle.std.proofs.Common.{◌≡◌, ℕ, List, [], ◌∷◌, length, sym, ap, ◌∙◌, subst, ◌≤◌}
+-- What is told of the words behind the lock: their form, their image, how many rows they have, and of a copy.
+use Rattle.std.proofs.Common.{◌≡◌, ◌≢◌, ◌↔◌, ℕ, List, Some, None, length, refl, sym, ap, ◌∙◌, subst, ◌≤◌}
 use Rattle.std.specs.Prelude.{◌<◌, Result, Ok, Err}
 use Rattle.mt_base.specs.declared.kinds.Kind.{Kind}
 use Rattle.mt_base.specs.declared.ranges.Range.{Range}
 use Rattle.mt_base.specs.Passes as known
-use Rattle.mt_rows.specs.declared.rows.Place.TheVariants.{Root}
 use Rattle.mt_rows.specs.Sheet.{Rooted, Sheet, OnlyReads}
 use Rattle.mt_rows.specs.Trees.{reached_in}
-use Rattle.mt_rows.specs.Publish.{tree_as, with_published, map_by, IsLawfulOf}
+use Rattle.mt_rows.specs.Publish.{tree_as, map_by, IsLawfulOf}
 use Rattle.mt_free.specs.Book.{Book, live_count}
 use Rattle.mt_engine.specs.Engine.{IsIdle, Parts}
 use Rattle.mt_engine.specs.Heights.{HasHeight}
 use Rattle.mt_tree.proofs.Copying.{live_reached, reached_within}
 use Rattle.mt_tree.specs.declared.trees.Tree.{Tree}
 use Rattle.mt_tree.specs.Behind.{Behind}
+use Rattle.mt_tree.specs.declared.shapes.Field.{Field}
+use Rattle.mt_tree.specs.declared.shapes.Shape.{Shape}
+use Rattle.mt_tree.specs.Shapes.{first_bad}
+use Rattle.mt_image.specs.Images.{IsImageOf, IsImageOfMap}
+use Rattle.mt_image.proofs.ReadBack.{image_of_map}
+use Rattle.mt_image.proofs.FewReached.{few_reached}
 use Rattle.mt_tree.specs.declared.shapes.DupError.{DupError}
 use Rattle.mt_tree.specs.declared.shapes.DupError.TheVariants as errors
-use Rattle.mt_tree.specs.Copies.{live_rows, AreWordsOf, IsCopyCounted, IsFormOf, IsRowCount, IsReadyToOpen}
+use Rattle.mt_tree.specs.Copies.{live_rows, AreWordsOf, IsCopyCounted, IsFormOf, IsImageIn, IsLiveCounted, IsReadyToOpen, IsRefusal, IsRowCount}
 use Rattle.mt_tree.specs.Trees.{opened}
 use Rattle.mt_tree.proofs.AtWork.{AtWork, kind_still, rows_still, tree_is}
-use Rattle.mt_check.specs.declared.faults.Fault.{Fault}
 use Rattle.mt_check.specs.declared.faults.Form.{Form}
-use Rattle.mt_check.specs.Check.{checked, first_or, faults_in, form_of}
+use Rattle.mt_check.specs.Check.{form_of}
 use Rattle.mt_engine.proofs.Moments.{idle_if_read}
 use Rattle.mt_rule.specs.Tokens.{Identity}
-
-pub form_by : (s read : Sheet) (kind : Kind) (root : ℕ) (form : Form) → read.tree ≡ s.tree → root ≡ s.tree.root → Ok form ≡ checked (tree_as kind (with_published read.tree Root root)) → form ≡ form_of (tree_as kind s.tree)
-form_by s read kind root form same root_is answer = by (faults_in (tree_as kind (with_published read.tree Root root))) answer ∙ ap (λ (t : Rooted). form_of (tree_as kind t)) tree_is
-  where
-    tree_is : with_published read.tree Root root ≡ s.tree
-    tree_is = (λ i. record { rows = (same i).rows; table = (same i).table; root = root_is i })
-
-    by : (faults : List Fault) → Ok form ≡ first_or faults (form_of (tree_as kind (with_published read.tree Root root))) → form ≡ form_of (tree_as kind (with_published read.tree Root root))
-    by [] is = cc
-    by (fault ∷ faults) is = absurd (cc)
 
 -- ---- rows that were only read
 
@@ -75,6 +69,9 @@ module _ (t : Tree) (i : Identity) (b : Behind) (p : known.Pass) (e : Parts) (w 
     pub form_behind : (kind : Kind) (form : Form) → kind ≡ (opened t).kind → form ≡ form_of (tree_as kind read.tree) → form ≡ form_of (tree_as (opened t).kind b.parts.sheet.tree)
     form_behind kind form same is = is ∙ (λ k. form_of (tree_as (same k) (read_is k)))
 
+    pub image_behind : (kind : Kind) (bytes : List ℕ) → kind ≡ (opened t).kind → IsImageOf kind read.tree bytes → IsImageOf (opened t).kind b.parts.sheet.tree bytes
+    image_behind kind bytes same image = subst (λ (x : Kind × Rooted). IsImageOf x.0 x.1 bytes) (λ k. (same k, read_is k)) image
+
     pub live_behind : (live : ℕ) → live ≡ live_rows read.tree → live ≡ live_rows b.parts.sheet.tree
     live_behind live is = is ∙ ap live_rows read_is
 
@@ -97,8 +94,33 @@ form_known kind rows m words form of is = record {
   ranges = ap (λ (f : Form). f.ranges) is ∙ ap length of.map;
 }
 
+pub image_known : (kind : Kind) (rows : ℕ) (m : List Range) (words : Rooted) (bytes : List ℕ) → AreWordsOf kind rows m words → IsImageOf kind words bytes → IsImageIn kind rows m bytes
+image_known kind rows m words bytes of image = record { words = words; of = of; image = image }
+
+pub map_imaged : (kind : Kind) (rows : ℕ) (m : List Range) (words : Rooted) (bytes : List ℕ) → AreWordsOf kind rows m words → IsImageOf kind words bytes → IsImageOfMap kind m bytes
+map_imaged kind rows m words bytes of image = subst (λ (x : List Range). IsImageOfMap kind x bytes) of.map (image_of_map kind words bytes image)
+
 pub count_known : (kind : Kind) (rows : ℕ) (m : List Range) (words : Rooted) (live : ℕ) → AreWordsOf kind rows m words → live ≡ live_rows words → live ≤ rows → IsRowCount kind rows m live
 count_known kind rows m words live of is within = record { words = words; of = of; live_is = is; within = within }
+
+-- of words that are told
+pub own_count : (kind : Kind) (t : Rooted) (live : ℕ) → IsLawfulOf t kind → live ≡ live_rows t → IsRowCount kind t.rows (map_by t) live
+own_count kind t live lawful is = record {
+  words = t;
+  of = record { lawful = lawful; many = refl; map = refl };
+  live_is = is;
+  within = subst (λ (n : ℕ). n ≤ t.rows) (sym is) (few_reached kind t lawful);
+}
+
+pub copy_ready : (kind : Kind) (t read : Rooted) (live wanted rows : ℕ) (s : Sheet) (book : Book) → read ≡ t → rows ≡ wanted → IsLawfulOf t kind
+    → (live ≤ rows → (k : Kind) → IsLawfulOf read k → IsReadyToOpen k rows (map_by read) s book) → live ≤ wanted → IsReadyToOpen kind wanted (map_by t) s book
+copy_ready kind t read live wanted rows s book same many lawful =
+    subst (λ (x : Rooted × ℕ). (live ≤ x.1 → (k : Kind) → IsLawfulOf x.0 k → IsReadyToOpen k x.1 (map_by x.0) s book) → live ≤ wanted → IsReadyToOpen kind wanted (map_by t) s book) (λ i. (sym same i, sym many i))
+    (λ copy enough. copy enough kind lawful)
+
+pub ready_for : (kind kind' : Kind) (m : List Range) (live rows wanted : ℕ) (s : Sheet) (book : Book) → kind' ≡ kind → rows ≡ wanted → (live ≤ rows → IsReadyToOpen kind rows m s book) → live ≤ wanted → IsReadyToOpen kind' wanted m s book
+ready_for kind kind' m live rows wanted s book same many =
+    subst (λ (x : Kind × ℕ). (live ≤ x.1 → IsReadyToOpen x.0 x.1 m s book) → live ≤ wanted → IsReadyToOpen kind' wanted m s book) (λ i. (same i, sym many i)) (λ copy. copy)
 
 -- ---- copies that were made, or refused
 
@@ -118,8 +140,48 @@ module _ {X : Type 0} (kind : Kind) (rows : ℕ) (m : List Range) (wanted : ℕ)
   uncounted (Err errors.Invalid) not = record { live = 0; enough = λ ok. absurd (cc); few = λ told counted is. absurd (cc) }
   uncounted (Err (errors.BadShape field)) not = record { live = 0; enough = λ ok. absurd (cc); few = λ told counted is. absurd (cc) }
 
-  pub made_counted : (live : ℕ) (x : X) → IsRowCount kind rows m live → live ≤ wanted → IsCopyCounted kind rows m wanted (Ok x)
-  made_counted live x count enough = record { live = live; enough = λ ok. (count, enough); few = λ told counted is. absurd (cc) }
+  -- behind the count
+  pub counted_behind : (live : ℕ) (made : Result X DupError) → IsRowCount kind rows m live → IsLiveCounted live wanted made → IsCopyCounted kind rows m wanted made
+  counted_behind live made count counted = record {
+    live = live;
+    enough = λ ok. (count, counted.enough ok);
+    few = λ told other is. let lacks = counted.few told other is in (count, lacks.0, lacks.1, lacks.2);
+  }
 
-  pub few_counted : (live : ℕ) → IsRowCount kind rows m live → wanted < live → IsCopyCounted {X = X} kind rows m wanted (Err (errors.NoNodes wanted live))
-  few_counted live count few = record { live = live; enough = λ ok. absurd (cc); few = λ told counted is. (count, cc, cc, few) }
+  -- a copy that was refused before a row was counted
+  module _ (shape : Shape) (source : Kind) where
+    abbrev made_of : DupError → Result X DupError
+    made_of e = Err e
+
+    pub bad_refused : (e : DupError) → IsRefusal shape source (Some e) → (field : Field) → (made_of e ≡ Err (errors.BadShape field)) ↔ (first_bad shape ≡ Some field)
+    bad_refused (errors.BadShape f) is field = (
+      λ same. is ∙ (let one : f ≡ field = cc in ap (λ (g : Field). Some g) one),
+      λ found. let both : Some f ≡ Some field = sym is ∙ found in let one : f ≡ field = cc in ap (λ (g : Field). Err (errors.BadShape g)) one,
+    )
+    bad_refused errors.Invalid is field = (λ same. absurd (cc), λ found. absurd (let both : None ≡ Some field = sym is.0 ∙ found in cc))
+    bad_refused (errors.NoNodes told live) is field = absurd is
+    bad_refused errors.NoMemory is field = absurd is
+
+    pub invalid_refused : (e : DupError) → IsRefusal shape source (Some e) → (made_of e ≡ Err errors.Invalid) ↔ ((first_bad shape ≡ None) × (shape.kind ≢ source))
+    invalid_refused (errors.BadShape f) is = (λ same. absurd (cc), λ two. absurd (let both : Some f ≡ None = sym is ∙ two.0 in cc))
+    invalid_refused errors.Invalid is = (λ same. is, λ two. refl)
+    invalid_refused (errors.NoNodes told live) is = absurd is
+    invalid_refused errors.NoMemory is = absurd is
+
+    pub refused_uncounted : (e : DupError) → IsRefusal shape source (Some e) → IsCopyCounted kind rows m wanted (made_of e)
+    refused_uncounted (errors.BadShape f) is = uncounted (Err (errors.BadShape f)) tt
+    refused_uncounted errors.Invalid is = uncounted (Err errors.Invalid) tt
+    refused_uncounted (errors.NoNodes told live) is = absurd is
+    refused_uncounted errors.NoMemory is = absurd is
+
+-- ---- a copy that is opened
+
+module _ {X : Type 0} (live wanted : ℕ) where
+  pub copy_made : (x : X) → live ≤ wanted → IsLiveCounted live wanted (Ok x)
+  copy_made x enough = record { enough = λ ok. enough; few = λ told counted is. absurd (cc) }
+
+  pub copy_few : wanted < live → IsLiveCounted {X = X} live wanted (Err (errors.NoNodes wanted live))
+  copy_few few = record { enough = λ ok. absurd (cc); few = λ told counted is. (cc, cc, few) }
+
+  pub copy_lacks_memory : IsLiveCounted {X = X} live wanted (Err errors.NoMemory)
+  copy_lacks_memory = record { enough = λ ok. absurd (cc); few = λ told counted is. absurd (cc) }

@@ -64,9 +64,9 @@ after_show b = record b { pen = pen_joined b.pen }
 abbrev pub IsReady : Parts → Type 0
 IsReady e = HasRoom e.sheet.tree e.book
 
--- such a store is made, or it is refused as invalid
+-- such a store is made, onto nothing or over some range, or it is refused as invalid
 abbrev pub IsStored : Reply → Type 0
-IsStored reply = (reply ≡ replies.Ok) ⊎ (reply ≡ replies.Invalid)
+IsStored reply = (reply ≡ replies.Ok) ⊎ ((entry : ℕ) × (reply ≡ replies.Over entry)) ⊎ (reply ≡ replies.Invalid)
 
 -- The words were only read.
 pub record IsRead (b b' : Behind) : Type 0 where

@@ -1,6 +1,6 @@
 -- What is told of the words of a tree without showing them: their form, and how many rows they have.
 -- Source: this project's own.
-use Rattle.std.specs.Prelude.{◌≡◌, ℕ, ◌+◌, ◌/◌, ◌<◌, ◌≤◌, List, Result, Err, IsOk, length}
+use Rattle.std.specs.Prelude.{◌≡◌, ◌≢◌, ℕ, ◌+◌, ◌/◌, ◌<◌, ◌≤◌, List, Option, Some, None, Result, Err, IsOk, length}
 use Rattle.mt_base.specs.declared.kinds.Kind.{Kind}
 use Rattle.mt_base.specs.declared.ranges.Range.{Range}
 use Rattle.mt_check.specs.declared.faults.Form.{Form}
@@ -10,6 +10,9 @@ use Rattle.mt_check.specs.Check.{form_of}
 use Rattle.mt_rows.specs.Publish.{tree_as, IsLawfulOf, map_by}
 use Rattle.mt_rows.specs.Sheet.{Rooted, Sheet}
 use Rattle.mt_rows.specs.Trees.{reached_in}
+use Rattle.mt_image.specs.Images.{IsImageOf}
+use Rattle.mt_tree.specs.declared.shapes.Shape.{Shape}
+use Rattle.mt_tree.specs.Shapes.{first_bad}
 use Rattle.mt_tree.specs.declared.shapes.DupError.{DupError}
 use Rattle.mt_tree.specs.declared.shapes.DupError.TheVariants as errors
 
@@ -30,6 +33,12 @@ pub record IsFormOf (kind : Kind) (rows : ℕ) (m : List Range) (form : Form) : 
   pub form_is : form ≡ form_of (tree_as kind words)
   pub ranges : form.ranges ≡ length m
 
+-- The bytes are the image of such words.
+pub record IsImageIn (kind : Kind) (rows : ℕ) (m : List Range) (bytes : List ℕ) : Type 0 where
+  pub words : Rooted
+  pub of : AreWordsOf kind rows m words
+  pub image : IsImageOf kind words bytes
+
 -- So many rows are in use in such words, and no more than the tree has.
 pub record IsRowCount (kind : Kind) (rows : ℕ) (m : List Range) (live : ℕ) : Type 0 where
   pub words : Rooted
@@ -43,6 +52,20 @@ pub record IsCopyCounted {X : Type 0} (kind : Kind) (rows : ℕ) (m : List Range
   pub live : ℕ
   pub enough : IsOk made → IsRowCount kind rows m live × (live ≤ wanted)
   pub few : (told counted : ℕ) → made ≡ Err (errors.NoNodes told counted) → IsRowCount kind rows m live × (told ≡ wanted) × (counted ≡ live) × (wanted < live)
+
+-- The same of a count that is known.
+pub record IsLiveCounted {X : Type 0} (live wanted : ℕ) (made : Result X DupError) : Type 0 where
+  pub enough : IsOk made → live ≤ wanted
+  pub few : (told counted : ℕ) → made ≡ Err (errors.NoNodes told counted) → (told ≡ wanted) × (counted ≡ live) × (wanted < live)
+
+-- Why there is no copy of this shape of a tree of this kind, whatever its rows: the first field of the shape that is out of range,
+-- or else another kind.
+abbrev pub IsRefusal : Shape → Kind → Option DupError → Type 0
+IsRefusal shape kind None = (first_bad shape ≡ None) × (shape.kind ≡ kind)
+IsRefusal shape kind (Some (errors.BadShape field)) = first_bad shape ≡ Some field
+IsRefusal shape kind (Some errors.Invalid) = (first_bad shape ≡ None) × (shape.kind ≢ kind)
+IsRefusal shape kind (Some (errors.NoNodes told live)) = ⊥
+IsRefusal shape kind (Some errors.NoMemory) = ⊥
 
 -- a refusal for want of rows or of memory
 abbrev pub IsForRoom : DupError → Type 0

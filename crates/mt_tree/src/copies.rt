@@ -1,10 +1,11 @@
 //! Checks and copies of a tree's words.
 
-ghost use Rattle.std.specs.Prelude.{◌≡◌, ◌≢◌, ◌↔◌, ◌⊎◌, ◌<◌, ◌≤◌, ℕ, Some, None, length, IfOk, IfErr, IsTrue};
+ghost use Rattle.std.specs.Prelude.{◌≡◌, ◌≢◌, ◌↔◌, ◌⊎◌, ◌<◌, ◌≤◌, ℕ, List, Some, None, length, IfOk, IfErr, IsTrue};
 ghost use Rattle.mt_base.specs.History.{last_map};
 ghost use Rattle.mt_base.specs.Passes.{Saw, with_records};
 ghost use Rattle.mt_base.specs.Width.{kind_width};
 ghost use Rattle.mt_base.specs.declared.kinds.Kind.{Kind};
+ghost use Rattle.mt_base.specs.declared.ranges.Range.{Range};
 ghost use Rattle.mt_free.specs.Book.{new_book};
 ghost use Rattle.mt_rows.specs.Memory.{sheet_in};
 ghost use Rattle.mt_rows.specs.Plain.{new_sheet};
@@ -16,7 +17,7 @@ ghost use Rattle.mt_rule.specs.Seats.{records_of};
 ghost use Rattle.mt_rule.specs.Tokens.{pass_in};
 ghost use Rattle.mt_tree.specs.declared.shapes.Field.{Field};
 ghost use Rattle.mt_tree.specs.Behind.{behind_of, IsAtRest, IsRead};
-ghost use Rattle.mt_tree.specs.Copies.{live_rows, AreWordsOf, IsCopyCounted, IsForRoom, IsFormOf, IsReadyToOpen, IsRowCount};
+ghost use Rattle.mt_tree.specs.Copies.{live_rows, AreWordsOf, IsCopyCounted, IsForRoom, IsFormOf, IsLiveCounted, IsReadyToOpen, IsRefusal, IsRowCount};
 ghost use Rattle.mt_tree.specs.Shapes.{first_bad};
 ghost use Rattle.mt_tree.specs.Trees.{opened, map_seen, place_of, IsPassOf, IsNew};
 ghost use Rattle.mt_tree.specs.Works.{IsWorker};
@@ -25,8 +26,8 @@ use crate::behind::{Tools, WriterState};
 use crate::shapes::{DupError, Shape};
 use crate::trees::Tree;
 use crate::works::{begin, end};
-use mt_base::{Kind, Steps};
-use mt_check::{Form, check};
+use mt_base::{Kind, NoMemory, Steps};
+use mt_check::{Form, form_of};
 use mt_dup::copy_rows;
 use mt_engine::Engine;
 use mt_free::RowBook;
@@ -37,19 +38,6 @@ use std::alloc::Global;
 use std::marker::Brand;
 use std::sync::Wait;
 use std::sync::ledger::{Blank, Ledger};
-
-/// The form of lawful words.
-fn form_of_rows<R: Rows>(rows: &mut R, kind: Kind) -> Form
-    requires { IsLawfulOf (R.sheet rows.old).tree kind }
-    ensures form { result ≡ form_of (tree_as kind (R.sheet rows.old).tree) }
-    ensures rest { OnlyReads (R.sheet rows.old) (R.sheet rows.new) }
-{
-    let root = rows.root();
-    let Ok(form) = check(rows, root, kind) else {
-        unreachable!()
-    };
-    form
-}
 
 /// Copies a tree into new rows of its width, and plants it there.
 fn copy_into<R: Rows, L: Ledger>(blank: Blank, src: &mut R, dst: &mut PlainRows, book: &mut RowBook)
@@ -95,7 +83,7 @@ fn check_at_work<W: Writer>(tools: &mut Option<Tools>, tree: &Tree, pass: &mut P
     let engine = begin::<W>(tools, tree, pass);
     let height = engine.height();
     let (mut rows, book) = engine.parts();
-    let form = form_of_rows(&mut rows, tree.shape.kind);
+    let form = form_of(&mut rows, tree.shape.kind);
     let engine = Engine::of_height(rows, book, tree.shape.kind, height);
     end(tools, tree, engine, pass);
     form
@@ -129,6 +117,80 @@ fn copy_at_work<W: Writer>(
     let engine = Engine::of_height(rows, book, tree.shape.kind, height);
     end(tools, tree, engine, pass);
     live
+}
+
+/// Why there is no copy of this shape of a tree of this kind, whatever its rows.
+fn refusal(shape: &Shape, kind: Kind) -> Option<DupError>
+    ensures { IsRefusal shape.now kind result }
+{
+    if let Some(field) = shape.first_bad() {
+        return Some(DupError::BadShape { field });
+    }
+    if shape.kind != kind {
+        return Some(DupError::Invalid);
+    }
+    None
+}
+
+/// New rows for a tree of this shape, which is in range, and their book.
+fn room(alloc: Global, shape: &Shape) -> Result<(PlainRows, RowBook), NoMemory>
+    requires { first_bad shape.now ≡ None }
+    ensures rows { IfOk result (λ r. sheet_in r.0 ≡ new_sheet (kind_width shape.now.kind) shape.now.rows) }
+    ensures book { IfOk result (λ r. r.1 ≡ new_book shape.now.rows) }
+{
+    let rows = shape.new_rows(alloc)?;
+    let book = RowBook::new(alloc, shape.rows)?;
+    Ok((rows, book))
+}
+
+/// Opens a tree of this shape with a copy of a tree that has so many rows in use, which was made where they are no more than it
+/// is to have.
+#[tactic(auto, using(crate::proofs::Forms::copy_made, crate::proofs::Forms::copy_few, crate::proofs::Forms::copy_lacks_memory))]
+fn open_copy(
+    alloc: Global,
+    shape: Shape,
+    live: u64,
+    rows: PlainRows,
+    book: RowBook,
+) -> Result<(Tree, Vec<Pass>), DupError>
+    requires shape { first_bad shape ≡ None }
+    requires ready { (m : List Range) × (live ≤ shape.rows → IsReadyToOpen shape.kind shape.rows m (sheet_in rows) book) }
+    ensures new { (m : List Range) → (live ≤ shape.rows → IsReadyToOpen shape.kind shape.rows m (sheet_in rows) book) → IfOk result (λ r. IsNew shape m r.0 r.1.items) }
+    ensures counted { IsLiveCounted live shape.rows result }
+    ensures room { IfErr result IsForRoom }
+{
+    if shape.rows < live {
+        return Err(DupError::NoNodes {
+            rows: shape.rows,
+            live,
+        });
+    }
+    match Tree::open(alloc, shape, rows, book) {
+        Ok(made) => Ok(made),
+        Err(_) => Err(DupError::NoMemory),
+    }
+}
+
+/// A tree of this shape, which is in range, that opens with the map of these rows.
+#[tactic(auto, using(crate::proofs::Forms::uncounted, crate::proofs::Forms::counted_behind))]
+fn copied_of(
+    alloc: Global,
+    shape: Shape,
+    rows: &mut PlainRows,
+) -> Result<(Tree, Vec<Pass>), DupError>
+    requires shape { first_bad shape ≡ None }
+    requires lawful { IsLawfulOf (sheet_in rows.old).tree shape.kind }
+    ensures new { IfOk result (λ r. IsNew shape (map_by (sheet_in rows.old).tree) r.0 r.1.items) }
+    ensures counted { IsCopyCounted shape.kind (sheet_in rows.old).tree.rows (map_by (sheet_in rows.old).tree) shape.rows result }
+    ensures room { IfErr result IsForRoom }
+    ensures rest { OnlyReads (sheet_in rows.old) (sheet_in rows.new) }
+{
+    let Ok((mut copy, mut book)) = room(alloc, &shape) else {
+        return Err(DupError::NoMemory);
+    };
+    let live = form_of(rows, shape.kind).rows;
+    copy_out(rows, live, &mut copy, &mut book);
+    open_copy(alloc, shape, live, copy, book)
 }
 
 impl WriterState {
@@ -200,15 +262,8 @@ impl Tree {
         live
     }
 
-    /// Whether the tree is of this kind.
-    fn is_of(&self, kind: Kind) -> bool
-        ensures { IsTrue result ↔ (kind ≡ (opened self.now).kind) }
-    {
-        kind == self.shape.kind
-    }
-
     /// The same where this shape is in range and of the tree's kind: the copy's rows and their book.
-    #[tactic(auto, using(crate::proofs::Forms::uncounted, crate::proofs::Forms::count_known, crate::proofs::Forms::made_counted, crate::proofs::Forms::few_counted))]
+    #[tactic(auto, using(crate::proofs::Forms::uncounted, crate::proofs::Forms::counted_behind))]
     fn copied(
         &self,
         rt: &impl Wait,
@@ -225,23 +280,11 @@ impl Tree {
         ensures counted { IsCopyCounted (opened self.now).kind (opened self.now).rows (map_seen self.now (pass_in pass.new)) shape.rows result }
         ensures room { IfErr result IsForRoom }
     {
-        let Ok(mut rows) = shape.new_rows(alloc) else {
-            return Err(DupError::NoMemory);
-        };
-        let Ok(mut book) = RowBook::new(alloc, shape.rows) else {
+        let Ok((mut rows, mut book)) = room(alloc, &shape) else {
             return Err(DupError::NoMemory);
         };
         let live = self.copy_rows(rt, pass, &mut rows, &mut book);
-        if shape.rows < live {
-            return Err(DupError::NoNodes {
-                rows: shape.rows,
-                live,
-            });
-        }
-        match Tree::open(alloc, shape, rows, book) {
-            Ok(made) => Ok(made),
-            Err(_) => Err(DupError::NoMemory),
-        }
+        open_copy(alloc, shape, live, rows, book)
     }
 
     /// A new tree of the same kind that opens with this tree's map, as it is after all that the pass has then seen, and the new
@@ -252,7 +295,7 @@ impl Tree {
     ///
     /// `BadShape`; `Invalid` where the kind is another; `NoMemory` where there is none for the new rows; `NoNodes` where they are
     /// too few; `NoMemory` where there is none for the new tree.
-    #[tactic(auto, using(crate::proofs::Forms::uncounted))]
+    #[tactic(auto, using(crate::proofs::Forms::uncounted, crate::proofs::Forms::bad_refused, crate::proofs::Forms::invalid_refused, crate::proofs::Forms::refused_uncounted))]
     pub fn dup(
         &self,
         rt: &impl Wait,
@@ -268,12 +311,36 @@ impl Tree {
         ensures counted { IsCopyCounted (opened self.now).kind (opened self.now).rows (map_seen self.now (pass_in pass.new)) shape.rows result }
         ensures new { IfOk result (λ r. Saw (opened self.now) (pass_in pass.old) (pass_in pass.new) × IsNew shape (map_seen self.now (pass_in pass.new)) r.0 r.1.items) }
     {
-        if let Some(field) = shape.first_bad() {
-            return Err(DupError::BadShape { field });
+        match refusal(&shape, self.shape.kind) {
+            Some(error) => Err(error),
+            None => self.copied(rt, alloc, pass, shape),
         }
-        if !self.is_of(shape.kind) {
-            return Err(DupError::Invalid);
+    }
+
+    /// A new tree of this kind that opens with the map of these rows, and its passes. It is refused as a `dup` of a tree of this kind
+    /// that has these rows in use. The rows are only read.
+    ///
+    /// # Errors
+    ///
+    /// `BadShape`; `Invalid` where the shape is of another kind; `NoMemory` where there is none for the new rows; `NoNodes` where
+    /// they are too few; `NoMemory` where there is none for the new tree.
+    #[tactic(auto, using(crate::proofs::Forms::uncounted, crate::proofs::Forms::bad_refused, crate::proofs::Forms::invalid_refused, crate::proofs::Forms::refused_uncounted))]
+    pub fn of_rows(
+        alloc: Global,
+        shape: Shape,
+        kind: Kind,
+        rows: &mut PlainRows,
+    ) -> Result<(Tree, Vec<Pass>), DupError>
+        requires { IsLawfulOf (sheet_in rows.old).tree kind }
+        ensures bad { (field : Field) → (result ≡ Err (DupError.BadShape field)) ↔ (first_bad shape ≡ Some field) }
+        ensures invalid { (result ≡ Err DupError.Invalid) ↔ ((first_bad shape ≡ None) × (shape.kind ≢ kind)) }
+        ensures counted { IsCopyCounted kind (sheet_in rows.old).tree.rows (map_by (sheet_in rows.old).tree) shape.rows result }
+        ensures new { IfOk result (λ r. IsNew shape (map_by (sheet_in rows.old).tree) r.0 r.1.items) }
+        ensures rest { OnlyReads (sheet_in rows.old) (sheet_in rows.new) }
+    {
+        match refusal(&shape, kind) {
+            Some(error) => Err(error),
+            None => copied_of(alloc, shape, rows),
         }
-        self.copied(rt, alloc, pass, shape)
     }
 }

@@ -1,0 +1,6 @@
+use Rattle.mt_rule.specs.Tokens.{turn_seat}
+use Rattle.mt_tree.specs.Trees.{place_of}
+use Rattle.mt_tree.proofs.behind.WriterState.image.Given as goal
+
+abbrev pub ghosts-image_at_work : goal.ghosts-image_at_work
+ghosts-image_at_work a = record { table = place_of a.tree.now; turn = turn_seat a.pass.now }

@@ -1,0 +1,10 @@
+use Rattle.std.proofs.Common.{ap}
+use Rattle.mt_free.specs.Book.{Book}
+use Rattle.mt_rule.specs.Tokens.{pass_in}
+use Rattle.mt_tree.specs.Trees.{map_seen}
+use Rattle.mt_tree.proofs.Forms.{ready_for}
+use Rattle.mt_tree.proofs.trees.Tree.copied.Goals as goal
+
+pub open_copy-requires-clause-ready : goal.open_copy-requires-clause-ready
+open_copy-requires-clause-ready g c =
+    (map_seen c.args.self.now (pass_in c.copy_rows-live.new.pass), ready_for _ _ _ _ _ _ _ _ c.requires.kind (ap (λ (b : Book). b.rows) c.in-Ok.ensures.book) c.copy_rows-live.ensures.copy)

@@ -1,0 +1,82 @@
+//! Images of a tree's words.
+
+ghost use Rattle.std.specs.Prelude.{◌≡◌, IfOk};
+ghost use Rattle.mt_base.specs.Passes.{Saw};
+ghost use Rattle.mt_image.specs.Images.{IsImageOf, IsImageOfMap};
+ghost use Rattle.mt_rule.specs.Tokens.{pass_in};
+ghost use Rattle.mt_tree.specs.Behind.{behind_of, IsAtRest, IsRead};
+ghost use Rattle.mt_tree.specs.Copies.{AreWordsOf, IsImageIn};
+ghost use Rattle.mt_tree.specs.Trees.{opened, map_seen, place_of, IsPassOf};
+ghost use Rattle.mt_tree.specs.Works.{IsWorker};
+
+use crate::behind::{Tools, WriterState};
+use crate::trees::Tree;
+use crate::works::{begin, end};
+use mt_base::NoMemory;
+use mt_engine::Engine;
+use mt_image::write_image;
+use mt_pen::Writer;
+use mt_rule::Pass;
+use std::alloc::Global;
+use std::marker::Brand;
+use std::sync::Wait;
+
+/// The image of the tree's words.
+fn image_at_work<W: Writer>(
+    tools: &mut Option<Tools>,
+    tree: &Tree,
+    pass: &mut Pass,
+    alloc: Global,
+) -> Result<Vec<u8>, NoMemory>
+    requires { IsWorker tree.now tools.old pass.old W.table W.turn }
+    ensures rest { IsAtRest tools.new }
+    ensures read { IsRead (behind_of tools.old) (behind_of tools.new) }
+    ensures of { IsPassOf tree.now pass.new }
+    ensures saw { Saw (opened tree.now) (pass_in pass.old) (pass_in pass.new) }
+    ensures words { AreWordsOf (opened tree.now).kind (opened tree.now).rows (map_seen tree.now (pass_in pass.new)) (behind_of tools.old).parts.sheet.tree }
+    ensures image { IfOk result (λ bytes. IsImageOf (opened tree.now).kind (behind_of tools.old).parts.sheet.tree bytes.items) }
+{
+    let engine = begin::<W>(tools, tree, pass);
+    let height = engine.height();
+    let (mut rows, book) = engine.parts();
+    let image = write_image(alloc, &mut rows, tree.shape.kind);
+    let engine = Engine::of_height(rows, book, tree.shape.kind, height);
+    end(tools, tree, engine, pass);
+    image
+}
+
+impl WriterState {
+    /// The image of the tree's words.
+    fn image(&mut self, tree: &Tree, pass: &mut Pass, alloc: Global) -> Result<Vec<u8>, NoMemory>
+        requires table { self.old.table ≡ place_of tree.now }
+        requires pass { IsPassOf tree.now pass.old }
+        ensures state { IsRead self.old self.new }
+        ensures of { IsPassOf tree.now pass.new }
+        ensures saw { Saw (opened tree.now) (pass_in pass.old) (pass_in pass.new) }
+        ensures words { AreWordsOf (opened tree.now).kind (opened tree.now).rows (map_seen tree.now (pass_in pass.new)) self.old.parts.sheet.tree }
+        ensures image { IfOk result (λ bytes. IsImageOf (opened tree.now).kind self.old.parts.sheet.tree bytes.items) }
+    {
+        image_at_work::<Brand>(&mut self.tools, tree, pass, alloc)
+    }
+}
+
+impl Tree {
+    /// The image of the tree's words, whose map is that after all that the pass has then seen: they are copied to be in the order
+    /// of a walk from the root, so that the tree has these rows in another order.
+    ///
+    /// # Errors
+    ///
+    /// `NoMemory` where memory ran out.
+    pub fn image(&self, rt: &impl Wait, alloc: Global, pass: &mut Pass) -> Result<Vec<u8>, NoMemory>
+        requires { IsPassOf self.now pass.old }
+        ensures of { IsPassOf self.now pass.new }
+        ensures saw { Saw (opened self.now) (pass_in pass.old) (pass_in pass.new) }
+        ensures map { IfOk result (λ bytes. IsImageOfMap (opened self.now).kind (map_seen self.now (pass_in pass.new)) bytes.items) }
+        ensures image { IfOk result (λ bytes. IsImageIn (opened self.now).kind (opened self.now).rows (map_seen self.now (pass_in pass.new)) bytes.items) }
+    {
+        let mut taken = self.turn.take(rt, pass);
+        let image = taken.value.image(self, pass, alloc);
+        self.turn.give(taken);
+        image
+    }
+}
