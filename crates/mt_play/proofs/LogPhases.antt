@@ -163,10 +163,11 @@ log_begins log = record { within = omega arith; low = omega arith; lane_is = ref
 pub log_lanes : (lines : List Line) → IsReadable lines → (1 ≤ lanes_in 0 lines) × (lanes_in 0 lines ≤ most_lanes)
 log_lanes lines readable = (some_lane 0 lines, few_lanes 0 0 lines readable.named (omega arith))
 
-pub run_of : (log : Log) (lines : List Line) (rows phase : ℕ) (t : Transcript) (p : PlayerState) → lines ≡ log.lines → p.rows ≡ rows → IsPlayed phase lines p → t.entries ≡ p.entries → (p.known ≡ map (λ d. d.tree) (trees_of lines) → t.lists ≡ listings_of (trees_of lines) (histories_of p.trees)) → IsRun log rows t
-run_of log lines rows phase t p lines_are rows_are (steps, played) entries lists =
+pub run_of : (log : Log) (lines : List Line) (rows phase : ℕ) (t : Transcript) (p : PlayerState) → lines ≡ log.lines → p.rows ≡ rows → IsPlayed phase lines p → t.version ≡ log.version → t.entries ≡ p.entries → (p.known ≡ map (λ d. d.tree) (trees_of lines) → t.lists ≡ listings_of (trees_of lines) (histories_of p.trees)) → IsRun log rows t
+run_of log lines rows phase t p lines_are rows_are (steps, played) version entries lists =
     let ran : Ran p.passes rows phase (trees_of log.lines) steps p.trees = subst (λ (ls : List Line). Ran p.passes rows phase (trees_of ls) steps p.trees) lines_are (subst (λ (n : ℕ). Ran p.passes n phase (trees_of lines) steps p.trees) rows_are played.ran) in
     ran_is_run p.passes rows phase log t steps p.trees ran
     (subst (λ (ls : List Line). AreDone (steps_of ls) steps) lines_are played.done)
+    version
     (entries ∙ played.told)
     (subst (λ (ls : List Line). t.lists ≡ listings_of (trees_of ls) (histories_of p.trees)) lines_are (lists played.known))

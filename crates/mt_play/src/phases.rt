@@ -197,6 +197,7 @@ pub fn play<
     play_lines(&mut player, rt, alloc, lanes, lines, gate)?;
     let lists = player.list(rt, alloc)?;
     Ok(Transcript {
+        version: log.version,
         entries: Entries::new(player.entries),
         lists: Listings::new(lists),
     })

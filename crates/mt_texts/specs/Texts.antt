@@ -2,17 +2,11 @@
 -- Source: this project's own; a run is that of the log's definitions.
 use Rattle.std.specs.Prelude.{◌≡◌, ℕ, List, [], ◌∷◌, ◌++◌}
 use Rattle.mt_base.specs.Width.{most_rows}
-use Rattle.mt_log.specs.declared.lines.Log.{Log}
 use Rattle.mt_log.specs.declared.transcripts.Transcript.{Transcript}
 use Rattle.mt_log.specs.LogText.{log_text}
 use Rattle.mt_log.specs.Run.{IsRun}
-use Rattle.mt_log.specs.Text.{text_of}
 use Rattle.mt_made.specs.Made.{made}
 use Rattle.mt_made.specs.Summary.{counted, summary_text}
-
--- this is the text of a transcript that is a run of the log, over trees of so many rows
-abbrev pub TellsRun : ℕ → Log → List ℕ → Type 0
-TellsRun rows log text = (t : Transcript) × IsRun log rows t × (text ≡ text_of t)
 
 -- this is the text of the log that is made of a number
 abbrev pub IsMadeText : ℕ → ℕ → ℕ → List ℕ → Type 0

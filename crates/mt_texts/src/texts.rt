@@ -2,13 +2,13 @@
 
 ghost use Rattle.std.specs.Prelude.{◌≡◌, ◌≤◌, ◌<◌, ◌-◌, ◌^◌, IfOk, length, string_bytes};
 ghost use Rattle.mt_base.specs.Width.{most_rows};
-ghost use Rattle.mt_log.specs.Run.{IsRun};
+ghost use Rattle.mt_log.specs.Run.{IsRun, TellsRun};
 ghost use Rattle.mt_log.specs.Trees.{IsReadable, most_lanes};
 ghost use Rattle.mt_made.specs.Made.{made};
 ghost use Rattle.mt_made.specs.Summary.{counted};
 ghost use Rattle.mt_log.specs.declared.transcripts.Transcript.{Transcript};
 ghost use Rattle.mt_play.specs.Trees.{fewest_rows};
-ghost use Rattle.mt_texts.specs.Texts.{IsMadeText, IsTrialText, TellsRun};
+ghost use Rattle.mt_texts.specs.Texts.{IsMadeText, IsTrialText};
 
 use crate::trees::LaneTree;
 use mt_base::{MOST_ROWS, NoMemory};
