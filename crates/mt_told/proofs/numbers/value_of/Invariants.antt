@@ -1,0 +1,6 @@
+use Rattle.std.proofs.Common.{take}
+use Rattle.mt_log.proofs.Digits.{IsRead}
+use Rattle.mt_told.proofs.numbers.value_of.Given as goal
+
+abbrev pub invariant-loop-byte : goal.invariant-loop-byte
+invariant-loop-byte l = IsRead 10 (take l.byte-index l.digits) l.value

@@ -1,0 +1,17 @@
+-- What is read off a text of a line of the log.
+-- Source: this project's own.
+use Rattle.std.specs.Prelude.{◌≡◌, ℕ, ◌<◌, List, [], ◌∷◌}
+use Rattle.mt_log.specs.declared.lines.Line.{Line}
+use Rattle.mt_log.specs.Run.{AreDone, Step, asked_from, lane_of}
+use Rattle.mt_log.specs.Trees.{NamesBelow}
+use Rattle.mt_told.specs.declared.told.Told.{Told}
+
+-- these steps are what came of a line that stands in this lane and this phase
+abbrev pub IsLineDone : ℕ → ℕ → Line → List Step → Type 0
+IsLineDone lane phase line steps = AreDone (asked_from lane phase (line ∷ [])) steps
+
+-- what is told is of this lane, this phase and the tree that the line names
+pub record IsPlacedBy (lane phase : ℕ) (line : Line) (t : Told) : Type 0 where
+  pub done_in : t.lane ≡ lane_of lane line.item
+  pub done_at : t.phase ≡ phase
+  pub done_on : (count : ℕ) → NamesBelow count line.item → t.tree < count

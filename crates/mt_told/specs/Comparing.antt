@@ -1,0 +1,10 @@
+-- The first line of a listing.
+-- Source: this project's own.
+use Rattle.std.specs.Prelude.{ℕ, List, [], ◌∷◌, ◌++◌, codes}
+use Rattle.std.specs.Fmt.{decimal}
+use Rattle.mt_base.specs.declared.kinds.Kind.{Kind}
+use Rattle.mt_base.specs.Text.{kind_text}
+
+-- the line of a tree of so many ranges
+abbrev pub head_line : List ℕ → Kind → ℕ → List ℕ
+head_line name kind count = codes "tree " ++ (name ++ (codes " " ++ (kind_text kind ++ (codes " " ++ (decimal count ++ (10 ∷ []))))))

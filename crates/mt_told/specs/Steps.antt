@@ -1,0 +1,105 @@
+-- What is read off a text of one step, and of the steps of several lines.
+-- Source: this project's own.
+use Rattle.std.specs.Prelude.{◌≡◌, ℕ, ◌+◌, ◌≤◌, List, [], ◌∷◌, ◌++◌, All, length, map}
+use Rattle.std.specs.List.{flat_map}
+use Rattle.mt_log.specs.declared.lines.Item.{Item}
+use Rattle.mt_log.specs.declared.transcripts.Said.TheVariants as said
+use Rattle.mt_log.specs.Run.{Asked, Outcome, Called, Looked, Counted, Step, entry_of, said_of}
+use Rattle.mt_log.specs.Text.{entry_text, said_text}
+use Rattle.mt_told.specs.declared.steps.Deed.{Deed}
+use Rattle.mt_told.specs.declared.steps.Deed.TheVariants.{Call, Look, Copy, Check}
+use Rattle.mt_told.specs.declared.steps.Place.{Place}
+use Rattle.mt_told.specs.declared.told.Told.{Told}
+use Rattle.mt_told.specs.declared.told.What.{What}
+use Rattle.mt_told.specs.Telling.{AreTold, IsSmall, IsToldOf, told_text, what_text}
+
+-- ---- what came of one deed
+
+-- it is an outcome of this deed
+abbrev pub IsOutcomeOf : Deed → Outcome → Type 0
+IsOutcomeOf (Call call) (Called n c r) = c ≡ call
+IsOutcomeOf (Call call) (Looked lo hi k q v) = ⊥
+IsOutcomeOf (Call call) (Counted s ranges) = ⊥
+IsOutcomeOf (Look query) (Called n c r) = ⊥
+IsOutcomeOf (Look query) (Looked lo hi k q v) = q ≡ query
+IsOutcomeOf (Look query) (Counted s ranges) = ⊥
+IsOutcomeOf Copy (Called n c r) = ⊥
+IsOutcomeOf Copy (Looked lo hi k q v) = ⊥
+IsOutcomeOf Copy (Counted s ranges) = s ≡ said.Copied
+IsOutcomeOf Check (Called n c r) = ⊥
+IsOutcomeOf Check (Looked lo hi k q v) = ⊥
+IsOutcomeOf Check (Counted s ranges) = s ≡ said.Lawful
+
+-- what a line says of an outcome, behind its number, and its LF
+abbrev pub outcome_text : ℕ → Outcome → List ℕ
+outcome_text version o = said_text version (said_of o) ++ (10 ∷ [])
+
+-- The text begins with what is said of an outcome of this deed, whichever is told so, and goes on with the rest; and any
+-- outcome of the deed with which the text begins is told so.
+pub record TellsOf (deed : Deed) (text : List ℕ) (what : What) (rest : List ℕ) : Type 0 where
+  pub only : (version : ℕ) (o : Outcome) (after : List ℕ) → IsOutcomeOf deed o → IsSmall o → text ≡ outcome_text version o ++ after → IsToldOf version what o × (rest ≡ after)
+  pub its : (version : ℕ) (o : Outcome) → IsToldOf version what o → IsOutcomeOf deed o
+  pub printed : (version : ℕ) (o : Outcome) → IsToldOf version what o → text ≡ outcome_text version o ++ rest
+  pub written : text ≡ (what_text what ++ (10 ∷ [])) ++ rest
+  pub shorter : length rest ≤ length text
+
+-- it begins with what is said of no outcome of this deed
+abbrev pub TellsNothingOf : Deed → List ℕ → Type 0
+TellsNothingOf deed text = (version : ℕ) (o : Outcome) (after : List ℕ) → IsOutcomeOf deed o → IsSmall o → text ≡ outcome_text version o ++ after → ⊥
+
+-- ---- steps
+
+-- a step at this place
+abbrev pub step_at : Place → Outcome → Step
+step_at p o = record { line = p.line; lane = p.lane; phase = p.phase; tree = p.tree; outcome = o }
+
+-- what is told of it
+abbrev pub told_at : Place → What → Told
+told_at p what = record { line = p.line; lane = p.lane; phase = p.phase; tree = p.tree; what = what }
+
+-- these steps are one of this deed at this place
+abbrev pub IsStepAt : Place → Deed → List Step → Type 0
+IsStepAt place deed steps = (o : Outcome) × (steps ≡ step_at place o ∷ []) × IsOutcomeOf deed o
+
+-- the lines of these steps
+abbrev pub steps_text : ℕ → List Step → List ℕ
+steps_text version steps = flat_map (entry_text version) (map entry_of steps)
+
+abbrev pub AreSmall : List Step → Type 0
+AreSmall steps = All (λ s. IsSmall s.outcome) steps
+
+-- The text begins with the lines of steps that are done so, whichever are told so, and goes on with the rest; and any steps
+-- that are done so with whose lines the text begins are told so.
+pub record TellsDone (IsDoneSo : List Step → Type 0) (text : List ℕ) (told : List Told) (rest : List ℕ) : Type 0 where
+  pub only : (version : ℕ) (steps : List Step) (after : List ℕ) → IsDoneSo steps → AreSmall steps → text ≡ steps_text version steps ++ after → AreTold version told steps × (rest ≡ after)
+  pub its : (version : ℕ) (steps : List Step) → AreTold version told steps → IsDoneSo steps
+  pub printed : (version : ℕ) (steps : List Step) → AreTold version told steps → text ≡ steps_text version steps ++ rest
+  pub written : text ≡ flat_map told_text told ++ rest
+  pub shorter : length told + length rest ≤ length text
+
+-- it begins with the lines of no steps that are done so
+abbrev pub TellsNotDone : (List Step → Type 0) → List ℕ → Type 0
+TellsNotDone IsDoneSo text = (version : ℕ) (steps : List Step) (after : List ℕ) → IsDoneSo steps → AreSmall steps → text ≡ steps_text version steps ++ after → ⊥
+
+-- what is told stands at this place
+pub record StandsAt (place : Place) (t : Told) : Type 0 where
+  pub line : t.line ≡ place.line
+  pub lane : t.lane ≡ place.lane
+  pub phase : t.phase ≡ place.phase
+  pub tree : t.tree ≡ place.tree
+
+-- the text begins with a line of this deed at this place, which is told so
+pub record TellsStepAt (place : Place) (deed : Deed) (text : List ℕ) (t : Told) (rest : List ℕ) : Type 0 where
+  pub told : TellsDone (IsStepAt place deed) text (t ∷ []) rest
+  pub stands : StandsAt place t
+
+-- the line at this place, with what it asks for
+abbrev pub asked_at : Place → Item → Asked
+asked_at p item = record { line = p.line; lane = p.lane; phase = p.phase; item = item }
+
+-- Behind what was told before stands what the text tells of steps that are done so, each in its place, up to the rest.
+pub record AddsTold (IsDoneSo : List Step → Type 0) (IsPlaced : Told → Type 0) (text : List ℕ) (old new : List Told) (rest : List ℕ) : Type 0 where
+  pub mine : List Told
+  pub whole : new ≡ old ++ mine
+  pub told : TellsDone IsDoneSo text mine rest
+  pub placed : All IsPlaced mine

@@ -1,0 +1,89 @@
+//! The lines of a scan: the text tells how many there are.
+
+ghost use Rattle.std.specs.Prelude.{◌≡◌, IfNone, IfOk, IfSome};
+ghost use Rattle.mt_log.specs.Run.{find_at, place_behind, place_within};
+ghost use Rattle.mt_told.specs.Scans.{IsScanAt, range_told};
+ghost use Rattle.mt_told.specs.Steps.{AddsTold, StandsAt, TellsNotDone};
+
+use crate::steps::{Deed, Place, step_in_front};
+use crate::told::{Told, What};
+use mt_base::{Query, Range};
+use mt_log::Answer;
+use std::alloc::AllocError;
+
+/// What a scan goes through: the indexes from `index` to `max`, and so many steps at the most.
+#[derive(Clone, Copy)]
+pub struct Stretch {
+    pub index: u64,
+    pub max: u64,
+    pub count: u32,
+}
+
+/// Where a scan begins, if anywhere.
+fn place_within(index: u64, max: u64) -> Option<u64>
+    ensures { result ≡ place_within index max }
+{
+    if index <= max { Some(index) } else { None }
+}
+
+/// Where it goes on behind a range, if anywhere.
+fn place_behind(max: u64, range: &Range) -> Option<u64>
+    ensures { result ≡ place_behind max range.now }
+{
+    if range.last < max {
+        Some(range.last + 1)
+    } else {
+        None
+    }
+}
+
+/// The find that a step of a scan is, from this place on.
+fn find_at(at: Option<u64>, max: u64) -> Query
+    ensures { result ≡ find_at at max }
+{
+    match at {
+        Some(index) => Query::Find { index, max },
+        None => Query::Find { index: 1, max: 0 },
+    }
+}
+
+/// The range that is told of, if one is.
+fn range_told(what: &What<'_>) -> Option<Range>
+    ensures { result ≡ range_told what.now }
+{
+    match what {
+        What::Got {
+            answer: Answer::Range(range),
+            ..
+        } => Some(*range),
+        _ => None,
+    }
+}
+
+/// Reads the lines of a scan: none behind the first that tells of nothing, and so many at the most. Gives the text behind them,
+/// if it tells of a scan.
+pub fn read_scan<'t>(
+    told: &mut Vec<Told<'t>>,
+    text: &'t [u8],
+    place: &Place,
+    scan: &Stretch,
+) -> Result<Option<&'t [u8]>, AllocError>
+    ensures some { IfOk result (λ found. IfSome found (λ rest. AddsTold (IsScanAt place.now scan.now) (StandsAt place.now) text.now told.old.items told.new.items rest.now)) }
+    ensures none { IfOk result (λ found. IfNone found (TellsNotDone (IsScanAt place.now scan.now) text.now)) }
+{
+    let mut at = place_within(scan.index, scan.max);
+    let mut rest = text;
+    for _step in 0..scan.count {
+        let look = Deed::Look(find_at(at, scan.max));
+        let Some((step, behind)) = step_in_front(rest, place, &look) else {
+            return Ok(None);
+        };
+        told.push(step)?;
+        rest = behind;
+        let Some(range) = range_told(&step.what) else {
+            return Ok(Some(rest));
+        };
+        at = place_behind(scan.max, &range);
+    }
+    Ok(Some(rest))
+}
