@@ -1,0 +1,22 @@
+-- In which phase each lane reads each tree first.
+use Rattle.std.proofs.Common.{◌≡◌, ◌↔◌, ℕ, ◌+◌, ◌*◌, ◌<◌, ◌≤◌, true, false, List, [], ◌∷◌, Option, None, All, get_or, replicate, arith, subst, inl, inr}
+use Rattle.std.specs.List.{list_any}
+use Rattle.std.proofs.lemmas.Bool.{and_parts, cases_Bool, eqb-true}
+use Rattle.std.proofs.lemmas.List.{get_or-replicate}
+use Rattle.std.proofs.lemmas.List.Elements.{All-head, All-tail}
+use Rattle.mt_log.specs.Trees.{most_lanes, most_trees}
+use Rattle.mt_told.specs.declared.told.Told.{Told}
+use Rattle.mt_verify.specs.Heard.{Reads, reads_by}
+
+pub none_read : (tree lane phase : ℕ) (other : Option ℕ) → tree < most_trees → lane < most_lanes → Reads (get_or (replicate 256 None) (16 * tree + lane) other) phase ↔ (false ≡ true)
+none_read tree lane phase other below beside =
+    let is : get_or (replicate 256 None) (16 * tree + lane) other ≡ None = get_or-replicate 256 (16 * tree + lane) None other (omega arith) in
+    (λ reads. absurd (subst (λ (o : Option ℕ). Reads o phase) is reads), λ no. absurd (cc))
+
+-- a lane that there is not has read nothing
+pub no_lane : (tree lane phase : ℕ) (told : List Told) → All (λ t. t.lane < most_lanes) told → most_lanes ≤ lane → list_any (reads_by tree lane phase) told ≡ true → ⊥
+no_lane tree lane phase [] lanes past reads = absurd (cc)
+no_lane tree lane phase (t ∷ told) lanes past reads = elim (cases_Bool (reads_by tree lane phase t)) [
+  | inl here ↦ (let same : t.lane ≡ lane = eqb-true t.lane lane (and_parts _ _ here).0 in omega (arith, same, past, All-head (λ (s : Told). s.lane < most_lanes) t told lanes))
+  | inr not ↦ no_lane tree lane phase told (All-tail (λ (s : Told). s.lane < most_lanes) t told lanes) past (rw not at reads)
+]

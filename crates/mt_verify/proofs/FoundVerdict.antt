@@ -1,0 +1,90 @@
+-- What is found of a text is the verdict on it.
+use Rattle.std.proofs.Common.{◌≡◌, ℕ, List, [], ◌++◌, length, map, get_or, sym, ap, ◌∙◌, subst, arith, IsPermutation}
+use Rattle.std.specs.List.{All, AllPairs, enumerate_from, flat_map, filter_map}
+use Rattle.std.proofs.lemmas.List.{append-nil}
+use Rattle.std.proofs.lemmas.List.FromFn.{length-enumerate_from}
+use Rattle.std.proofs.lemmas.List.Sorted.{length_permutation}
+use Rattle.mt_base.specs.History.{History, Record}
+use Rattle.mt_log.specs.declared.lines.Log.{Log}
+use Rattle.mt_log.specs.declared.transcripts.Transcript.{Transcript}
+use Rattle.mt_log.specs.Run.{Outcome, Called, Looked, Counted, Step, IsRun, IsRunBy, IsTrueOf, calls_before, entry_of, listings_of, numbered_on}
+use Rattle.mt_log.specs.Text.{entry_text, listing_text, text_of}
+use Rattle.mt_log.specs.Trees.{IsReadable, trees_of}
+use Rattle.mt_told.specs.declared.told.Told.{Told}
+use Rattle.mt_told.specs.Telling.{AreTold, IsSmall, IsToldBy, TellsNone, TellsSteps}
+use Rattle.mt_verify.specs.AllGone.{HaveGoneTo, IsToldRun, NoneIsTold, history_by, listings_by}
+use Rattle.mt_verify.specs.Filled.{filled}
+use Rattle.mt_verify.specs.Found.{IsFound}
+use Rattle.mt_verify.specs.GoneTrees.{GoneTree}
+use Rattle.mt_verify.specs.Points.{AreLeastPoints, AreUpTo}
+use Rattle.mt_verify.specs.PrintedOrder.{EndsInTree, InPrintedOrder}
+use Rattle.mt_verify.specs.Windows as of_steps
+use Rattle.mt_verify.proofs.AllFound.{listings_are}
+use Rattle.mt_verify.proofs.FilledReads.{all_points}
+use Rattle.mt_verify.proofs.FoundRun.{are_told, each_right, is_run, least_of_all}
+use Rattle.mt_verify.proofs.Ordered.{order_splits}
+use Rattle.mt_verify.proofs.ToldSteps.{ends_told, order_told}
+
+-- ---- a run keeps the windows
+
+same_many : (h : History) (list : List (ℕ × Record)) → IsPermutation (enumerate_from 1 h.records) list → length list ≡ length h.records
+same_many h list is = length_permutation (enumerate_from 1 h.records) list is ∙ length-enumerate_from 1 h.records
+
+ends_by : (h : History) (before calls : ℕ) (o : Outcome) → calls ≡ length h.records → IsTrueOf h before o → of_steps.EndsWithin calls o
+ends_by h before calls (Called number call reply) same is = tt
+ends_by h before calls (Looked lo hi k query value) same is = omega (arith, same, is.1)
+ends_by h before calls (Counted said ranges) same is = tt
+
+run_ends : (log : Log) (rows : ℕ) (t : Transcript) (steps : List Step) (trees : List History) → IsRunBy log rows t steps trees → All (of_steps.EndsInTree steps) steps
+run_ends log rows t steps trees run k d within =
+    let s : Step = get_or steps k d in
+    let stands = run.reads k d within in
+    ends_by stands.0 (calls_before steps s.tree s.phase) (length (filter_map (numbered_on s.tree) steps)) s.outcome (same_many stands.0 (filter_map (numbered_on s.tree) steps) (run.once s.tree stands.0 stands.1)) stands.2
+
+module _ (log : Log) (rows : ℕ) (text : List ℕ) (small : (t : Transcript) (steps : List Step) (trees : List History) → IsRunBy log rows t steps trees → All (λ (s : Step). IsSmall s.outcome) steps) where
+  printed_so : (t : Transcript) (steps : List Step) → t.version ≡ log.version → t.entries ≡ map entry_of steps → text_of t ≡ flat_map (entry_text log.version) (map entry_of steps) ++ flat_map listing_text t.lists
+  printed_so t steps version entries = λ i. flat_map (entry_text (version i)) (entries i) ++ flat_map listing_text t.lists
+
+  tells : (t : Transcript) (steps : List Step) (trees : List History) → text ≡ text_of t → IsRunBy log rows t steps trees → TellsSteps log text steps t.lists
+  tells t steps trees printed run = record { done = run.asked; small = small t steps trees run; printed = printed ∙ printed_so t steps run.version run.told }
+
+  pub no_steps : TellsNone log text → (t : Transcript) → text ≡ text_of t → IsRun log rows t → ⊥
+  no_steps none t printed is = none is.0 t.lists (tells t is.0 is.1 printed is.2)
+
+  module _ (told : List Told) (behind : List ℕ) (told_by : IsToldBy log text told behind) where
+    told_run : (t : Transcript) (steps : List Step) (trees : List History) → text ≡ text_of t → IsRunBy log rows t steps trees → IsToldRun log rows told behind t steps trees
+    told_run t steps trees printed run = let only = told_by.only steps t.lists (tells t steps trees printed run) in record { run = run; are = only.0; lists = only.1 }
+
+    pub no_run : NoneIsTold log rows told behind → (t : Transcript) → text ≡ text_of t → IsRun log rows t → ⊥
+    no_run none t printed is = none t is.0 is.1 (told_run t is.0 is.1 printed is.2)
+
+    pub not_in_order : (AllPairs InPrintedOrder told → ⊥) → NoneIsTold log rows told behind
+    not_in_order not t steps trees is =
+        not ((order_told log.version told steps is.are).1 (order_splits steps is.run.order).printed)
+
+    pub not_ended : (All (EndsInTree told) told → ⊥) → NoneIsTold log rows told behind
+    not_ended not t steps trees is = not ((ends_told log.version told steps is.are).1 (run_ends log rows t steps trees is.run))
+
+    module _ (readable : IsReadable log.lines) (gone : List GoneTree) (numbers : List ℕ) (to : HaveGoneTo log rows told behind gone []) (found : IsFound log rows told (map (history_by rows) gone) numbers) where
+      abbrev trees : List History
+      trees = map (history_by rows) gone
+
+      abbrev steps : List Step
+      steps = filled trees told told numbers
+
+      abbrev told_so : Transcript
+      told_so = record { version = log.version; entries = map entry_of steps; lists = listings_of (trees_of log.lines) trees }
+
+      are : AreTold log.version told steps
+      are = are_told log rows told trees numbers found
+
+      pub is_least : AreLeastPoints log rows text numbers
+      is_least = record {
+        transcript = told_so;
+        printed = told_by.printed steps are ∙ ap (λ (l : List ℕ). flat_map (entry_text log.version) (map entry_of steps) ++ l)
+            (to.listed ∙ (append-nil (flat_map listing_text (listings_by (trees_of log.lines) gone)) ∙ ap (flat_map listing_text) (sym (listings_are rows (trees_of log.lines) gone))));
+        told = record { steps = steps; trees = trees; run = is_run log rows told trees numbers found (told_by.done steps are); list = sym (all_points log.version trees told told numbers (each_right log rows told trees numbers found)) };
+        least = λ t others printed list.
+            (let run = told_run t list.steps list.trees printed list.run in
+            subst (AreUpTo numbers) (sym list.list) (least_of_all log rows told trees numbers found readable (told_by.done steps are) t list.steps list.trees list.run run.are));
+      }

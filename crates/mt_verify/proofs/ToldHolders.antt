@@ -1,0 +1,69 @@
+-- Who held rows, among steps that are told so.
+use Rattle.std.proofs.Common.{◌≡◌, ◌≢◌, ◌↔◌, ℕ, ◌==◌, ◌&&◌, ◌||◌, Bool, true, List, [], ◌∷◌, Option, Some, None, IfSome, refl, sym, ap, ◌∙◌}
+use Rattle.std.specs.Prelude.{nat_le, if◌then◌else◌}
+use Rattle.std.specs.List.{list_any}
+use Rattle.mt_base.specs.declared.replies.Holder.{Holder}
+use Rattle.mt_log.specs.Run.{Outcome, Called, Looked, Counted, Step, IsHeldRightly, holder_in, is_read, is_read_by}
+use Rattle.mt_told.specs.declared.told.Told.{Told}
+use Rattle.mt_told.specs.declared.told.What.{What}
+use Rattle.mt_told.specs.declared.told.What.TheVariants.{Wrote, Got, Copied, Lawful}
+use Rattle.mt_told.specs.Telling.{AreTold, IsTold, IsToldOf}
+use Rattle.mt_verify.specs.declared.calls.Numbered.{Numbered}
+use Rattle.mt_verify.specs.Heard.{IsReader, is_got, reads_by}
+use Rattle.mt_verify.specs.ToldCalls.{numbered_of, numbered_on_told}
+use Rattle.mt_verify.proofs.Placed.{same_number}
+
+module _ (version : ℕ) where
+  same_read : (w : What) (o : Outcome) → IsToldOf version w o → is_got w ≡ is_read o
+  same_read (Wrote number call reply) (Called n c r) is = refl
+  same_read (Wrote number call reply) (Looked lo hi k q v) is = absurd is
+  same_read (Wrote number call reply) (Counted s ranges) is = absurd is
+  same_read (Got lo hi query answer) (Called n c r) is = absurd is
+  same_read (Got lo hi query answer) (Looked l h k q v) is = refl
+  same_read (Got lo hi query answer) (Counted s ranges) is = absurd is
+  same_read (Copied count) (Called n c r) is = absurd is
+  same_read (Copied count) (Looked lo hi k q v) is = absurd is
+  same_read (Copied count) (Counted s ranges) is = refl
+  same_read (Lawful count) (Called n c r) is = absurd is
+  same_read (Lawful count) (Looked lo hi k q v) is = absurd is
+  same_read (Lawful count) (Counted s ranges) is = refl
+
+  module _ (lane : ℕ) (t : Told) (s : Step) (same : IsTold version t s) where
+    read_alike : (r : Told) (step : Step) → IsTold version r step → reads_by t.tree lane t.phase r ≡ is_read_by lane s step
+    read_alike r step is = λ i.
+        (sym is.lane i == lane) && ((sym is.tree i == sym same.tree i) && (nat_le (sym is.phase i) (sym same.phase i) && same_read r.what step.outcome is.outcome i))
+
+    reads_alike : (told : List Told) (steps : List Step) → AreTold version told steps → list_any (reads_by t.tree lane t.phase) told ≡ list_any (is_read_by lane s) steps
+    reads_alike [] [] are = refl
+    reads_alike [] (step ∷ steps) are = absurd are
+    reads_alike (r ∷ told) [] are = absurd are
+    reads_alike (r ∷ told) (step ∷ steps) are = λ i. read_alike r step are.0 i || reads_alike told steps are.1 i
+
+-- the call is of the line's lane and phase
+abbrev IsOfLine : Told → Numbered → Type 0
+IsOfLine t call = (call.lane ≡ t.lane) × (call.phase ≡ t.phase)
+
+of_line : (t : Told) (w : What) (number : ℕ) (call : Numbered) → numbered_of t.lane t.phase w ≡ Some (number, call) → IsOfLine t call
+of_line t (Wrote n c r) number call is =
+    let same : (n, record { lane = t.lane; phase = t.phase; call = c; reply = r }) ≡ (number, call) = cc in
+    (sym (ap (λ (x : ℕ × Numbered). x.1.lane) same), sym (ap (λ (x : ℕ × Numbered). x.1.phase) same))
+of_line t (Got lo hi query answer) number call is = absurd (cc)
+of_line t (Copied count) number call is = absurd (cc)
+of_line t (Lawful count) number call is = absurd (cc)
+
+module _ (version : ℕ) (told : List Told) (steps : List Step) (t : Told) (s : Step) (are : AreTold version told steps) (is : IsTold version t s) (call : Numbered) (of : IsOfLine t call) where
+  told_so : (lane : ℕ) → list_any (reads_by t.tree lane call.phase) told ≡ list_any (is_read_by lane s) steps
+  told_so lane = ap (λ (p : ℕ). list_any (reads_by t.tree lane p) told) of.1 ∙ reads_alike version lane t s is told steps are
+
+  held_alike : (o : Option Holder) → IfSome o (λ holder. (holder.pass ≢ s.lane) × (list_any (is_read_by holder.pass s) steps ≡ true)) ↔ IfSome o (λ holder. IsReader told t.tree call holder.pass)
+  held_alike None = (λ h. tt, λ h. tt)
+  held_alike (Some holder) = (
+    λ h. record { other = λ same. h.0 (same ∙ (of.0 ∙ sym is.lane)); reads = told_so holder.pass ∙ h.1 },
+    λ h. (λ same. h.other (same ∙ (is.lane ∙ sym of.0)), sym (told_so holder.pass) ∙ h.reads),
+  )
+
+pub holders_told : (version : ℕ) (told : List Told) (steps : List Step) (t : Told) (s : Step) (number : ℕ) (call : Numbered) → AreTold version told steps → IsTold version t s → numbered_on_told t.tree t ≡ Some (number, call)
+    → IsHeldRightly steps s ↔ IfSome (holder_in s.outcome) (λ holder. IsReader told t.tree call holder.pass)
+holders_told version told steps t s number call are is numbered =
+    let mine : numbered_of t.lane t.phase t.what ≡ Some (number, call) = sym (ap (λ (b : Bool). if b then numbered_of t.lane t.phase t.what else None) (same_number t.tree)) ∙ numbered in
+    held_alike version told steps t s are is call (of_line t t.what number call mine) (holder_in s.outcome)

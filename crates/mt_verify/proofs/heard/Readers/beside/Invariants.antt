@@ -1,0 +1,8 @@
+use Rattle.std.proofs.Common.{◌≡◌, ◌≢◌, ℕ, ◌<◌, List, true}
+use Rattle.std.specs.List.{list_any}
+use Rattle.mt_told.specs.declared.told.Told.{Told}
+use Rattle.mt_verify.specs.Heard.{AreReaders, reads_by}
+use Rattle.mt_verify.proofs.heard.Readers.beside.Given as goal
+
+abbrev pub invariant-loop-other : goal.invariant-loop-other
+invariant-loop-other l = (told : List Told) → AreReaders l.self told → (k : ℕ) → k < l.other → k ≢ l.lane → list_any (reads_by l.tree k l.phase) told ≡ true → ⊥

@@ -1,0 +1,8 @@
+use Rattle.std.proofs.Common.{List, take}
+use Rattle.mt_told.specs.declared.told.Told.{Told}
+use Rattle.mt_verify.specs.Heard.{AreReaders}
+use Rattle.mt_verify.specs.Hearing.{AreNotedOf}
+use Rattle.mt_verify.proofs.hearing.all_noted.Given as goal
+
+abbrev pub invariant-loop-call : goal.invariant-loop-call
+invariant-loop-call l = (told : List Told) → AreReaders l.fn.readers told → AreNotedOf told l.fn.tree (take l.call-index l.fn.calls) l.all.items

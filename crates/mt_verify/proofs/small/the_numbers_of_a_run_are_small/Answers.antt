@@ -1,0 +1,8 @@
+use Rattle.mt_log.proofs.LogsRead.{log_follows}
+use Rattle.mt_log.proofs.Readable.{are_readable}
+use Rattle.mt_verify.proofs.CopiedTrees.{copies_are_earlier}
+use Rattle.mt_verify.proofs.SmallRuns.{run_small}
+use Rattle.mt_verify.proofs.small.the_numbers_of_a_run_are_small.Goals as goal
+
+pub returns : goal.returns
+returns c = λ log rows t steps trees is lines run. run_small log rows t steps trees is lines run (copies_are_earlier log.lines (are_readable log.lines (log_follows log is).1))

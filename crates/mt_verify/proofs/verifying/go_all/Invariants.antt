@@ -1,0 +1,6 @@
+use Rattle.std.proofs.Common.{◌≡◌, length}
+use Rattle.mt_verify.specs.AllGone.{HaveGoneTo}
+use Rattle.mt_verify.proofs.verifying.go_all.Given as goal
+
+abbrev pub invariant-loop-declared : goal.invariant-loop-declared
+invariant-loop-declared l = (length l.gone.items ≡ l.declared-index) × HaveGoneTo l.fn.log l.fn.rows l.fn.account.told.items l.fn.account.rest.now l.gone.items l.rest

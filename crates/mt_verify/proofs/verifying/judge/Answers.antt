@@ -1,0 +1,85 @@
+use Rattle.std.proofs.Common.{◌≡◌, ℕ, List, [], Option, Some, Vec, Global, length, slice_get, sym, ap, ◌∙◌, subst}
+use Rattle.std.specs.Prelude.{IfNone, IfSome}
+use Rattle.std.specs.List.{All, AllPairs}
+use Rattle.std.proofs.lemmas.Bool.{true≢false}
+use Rattle.mt_log.specs.Trees.{trees_of}
+use Rattle.mt_told.specs.declared.told.Told.{Told}
+use Rattle.mt_verify.specs.AllGone.{HaveGoneTo, NoneIsTold}
+use Rattle.mt_verify.specs.Filled.{reads_count}
+use Rattle.mt_verify.specs.Found.{own_points}
+use Rattle.mt_verify.specs.Going.{Lane}
+use Rattle.mt_verify.specs.GoneTrees.{GoneTree, HasGone, lane_looks}
+use Rattle.mt_verify.specs.Points.{AreLeastPoints}
+use Rattle.mt_verify.specs.PrintedOrder.{EndsInTree, InPrintedOrder}
+use Rattle.mt_verify.proofs.AllFound.{all_found, has_gone}
+use Rattle.mt_verify.proofs.FoundVerdict.{is_least, no_run, not_ended, not_in_order}
+use Rattle.mt_verify.proofs.verifying.judge.Goals as goal
+use Rattle.mt_verify.proofs.verifying.judge.Goals.{then-not-windows_keep-via-then-not-windows_keep, then-not-windows_keep-via-else-not-windows_keep+then-not-windows_end}
+
+pub go_all-requires-clause-case : goal.go_all-requires-clause-case
+go_all-requires-clause-case c = record {
+  readable = c.requires.log;
+  few_rows = c.requires.rows;
+  few = c.requires.few;
+  trees = c.requires.told.trees;
+  lanes = c.requires.told.lanes;
+  phases = c.requires.told.phases;
+  within = subst (λ (l : List Told). All (EndsInTree l) l) c.deref-else-not-windows_keep.ensures.value (c.windows_end.ensures.0 c.if-not-windows_end.false);
+}
+
+pub returns-then-not-windows_keep : goal.returns-then-not-windows_keep
+returns-then-not-windows_keep c = elim c.then-not-windows_keep.branch [
+  | then-not-windows_keep-via-then-not-windows_keep w ↦
+      no_run c.args.log.now c.args.rows c.args.text.now c.requires.small c.args.account.now.told.items c.args.account.now.rest.now c.requires.told
+      (not_in_order c.args.log.now c.args.rows c.args.text.now c.requires.small c.args.account.now.told.items c.args.account.now.rest.now c.requires.told
+      (λ pairs. true≢false (sym (c.windows_keep.ensures.1 (subst (AllPairs InPrintedOrder) (sym c.deref.ensures.value) pairs)) ∙ w.if-not-windows_keep.true)))
+  | then-not-windows_keep-via-else-not-windows_keep+then-not-windows_end w ↦
+      no_run c.args.log.now c.args.rows c.args.text.now c.requires.small c.args.account.now.told.items c.args.account.now.rest.now c.requires.told
+      (not_ended c.args.log.now c.args.rows c.args.text.now c.requires.small c.args.account.now.told.items c.args.account.now.rest.now c.requires.told
+      (λ all. true≢false (sym (w.windows_end.ensures.1 (subst (λ (l : List Told). All (EndsInTree l) l) (sym w.deref-else-not-windows_keep.ensures.value) all)) ∙ w.if-not-windows_end.true)))
+]
+
+pub returns-in_default : goal.returns-in_default
+returns-in_default c =
+    no_run c.args.log.now c.args.rows c.args.text.now c.requires.small c.args.account.now.told.items c.args.account.now.rest.now c.requires.told
+    (subst (λ (o : Option (Vec GoneTree Global)). IfNone o (NoneIsTold c.args.log.now c.args.rows c.args.account.now.told.items c.args.account.now.rest.now)) c.in_default.is c.in_ok-gone.ensures.none)
+
+pub points_of-requires-clause-looks : goal.points_of-requires-clause-looks
+points_of-requires-clause-looks c tree g is =
+    let lines : c.in_ok-trees.trees.items ≡ trees_of c.args.log.now.lines = c.in_ok-trees.ensures ∙ ap trees_of c.as_slice.ensures in
+    let count : length c.in-Some.gone.items ≡ length (trees_of c.args.log.now.lines) =
+    subst (λ (o : Option (Vec GoneTree Global)). IfSome o (λ gone. length gone.items ≡ length c.deref-2.result.now)) c.in-Some.is c.in_ok-gone.ensures.count ∙ ap length (c.deref-2.ensures.value ∙ lines) in
+    let to : HaveGoneTo c.args.log.now c.args.rows c.args.account.now.told.items c.args.account.now.rest.now c.in-Some.gone.items [] =
+    subst (λ (o : Option (Vec GoneTree Global)). IfSome o (λ gone. HaveGoneTo c.args.log.now c.args.rows c.args.account.now.told.items c.args.account.now.rest.now gone.items [])) c.in-Some.is c.in_ok-gone.ensures.some in
+    let at_tree : slice_get c.in-Some.gone.items tree ≡ Some g = ap (λ (l : List GoneTree). slice_get l tree) (sym c.deref-4.ensures.value) ∙ is in
+    let has : HasGone c.args.log.now.version c.args.rows c.args.account.now.told.items tree g =
+    has_gone c.args.log.now c.args.rows c.args.text.now c.args.account.now.told.items c.args.account.now.rest.now c.in-Some.gone.items [] c.requires.told to count tree g at_tree in
+    has.looks ∙ ap (lane_looks tree) (sym c.deref-3.ensures.value)
+
+pub points_of-requires-clause-done : goal.points_of-requires-clause-done
+points_of-requires-clause-done c tree g is j lane at =
+    let lines : c.in_ok-trees.trees.items ≡ trees_of c.args.log.now.lines = c.in_ok-trees.ensures ∙ ap trees_of c.as_slice.ensures in
+    let count : length c.in-Some.gone.items ≡ length (trees_of c.args.log.now.lines) =
+    subst (λ (o : Option (Vec GoneTree Global)). IfSome o (λ gone. length gone.items ≡ length c.deref-2.result.now)) c.in-Some.is c.in_ok-gone.ensures.count ∙ ap length (c.deref-2.ensures.value ∙ lines) in
+    let to : HaveGoneTo c.args.log.now c.args.rows c.args.account.now.told.items c.args.account.now.rest.now c.in-Some.gone.items [] =
+    subst (λ (o : Option (Vec GoneTree Global)). IfSome o (λ gone. HaveGoneTo c.args.log.now c.args.rows c.args.account.now.told.items c.args.account.now.rest.now gone.items [])) c.in-Some.is c.in_ok-gone.ensures.some in
+    let at_tree : slice_get c.in-Some.gone.items tree ≡ Some g = ap (λ (l : List GoneTree). slice_get l tree) (sym c.deref-4.ensures.value) ∙ is in
+    let has : HasGone c.args.log.now.version c.args.rows c.args.account.now.told.items tree g =
+    has_gone c.args.log.now c.args.rows c.args.text.now c.args.account.now.told.items c.args.account.now.rest.now c.in-Some.gone.items [] c.requires.told to count tree g at_tree in
+    (has.least j lane at).count
+
+pub returns : goal.returns
+returns c =
+    let lines : c.in_ok-trees.trees.items ≡ trees_of c.args.log.now.lines = c.in_ok-trees.ensures ∙ ap trees_of c.as_slice.ensures in
+    let count : length c.in-Some.gone.items ≡ length (trees_of c.args.log.now.lines) =
+    subst (λ (o : Option (Vec GoneTree Global)). IfSome o (λ gone. length gone.items ≡ length c.deref-2.result.now)) c.in-Some.is c.in_ok-gone.ensures.count ∙ ap length (c.deref-2.ensures.value ∙ lines) in
+    let to : HaveGoneTo c.args.log.now c.args.rows c.args.account.now.told.items c.args.account.now.rest.now c.in-Some.gone.items [] =
+    subst (λ (o : Option (Vec GoneTree Global)). IfSome o (λ gone. HaveGoneTo c.args.log.now c.args.rows c.args.account.now.told.items c.args.account.now.rest.now gone.items [])) c.in-Some.is c.in_ok-gone.ensures.some in
+    let order : AllPairs InPrintedOrder c.args.account.now.told.items = subst (AllPairs InPrintedOrder) c.deref.ensures.value (c.windows_keep.ensures.0 c.if-not-windows_keep.false) in
+    let ends : All (EndsInTree c.args.account.now.told.items) c.args.account.now.told.items = subst (λ (l : List Told). All (EndsInTree l) l) c.deref-else-not-windows_keep.ensures.value (c.windows_end.ensures.0 c.if-not-windows_end.false) in
+    let numbered : length c.in_ok-points.points.items ≡ reads_count c.args.account.now.told.items = c.in_ok-points.ensures.count ∙ ap reads_count c.deref-3.ensures.value in
+    let own : (tree lane : ℕ) (g : GoneTree) (l : Lane) → slice_get c.in-Some.gone.items tree ≡ Some g → slice_get g.lanes lane ≡ Some l → own_points tree lane c.args.account.now.told.items c.in_ok-points.points.items ≡ l.points =
+    λ tree lane g l is at. ap (λ (t : List Told). own_points tree lane t c.in_ok-points.points.items) (sym c.deref-3.ensures.value) ∙ c.in_ok-points.ensures.lanes tree lane g l (ap (λ (x : List GoneTree). slice_get x tree) c.deref-4.ensures.value ∙ is) at in
+    let found = all_found c.args.log.now c.args.rows c.args.text.now c.args.account.now.told.items c.args.account.now.rest.now c.in-Some.gone.items c.in_ok-points.points.items c.requires.told to count order ends numbered own in
+    subst (AreLeastPoints c.args.log.now c.args.rows c.args.text.now) (sym c.new.ensures)
+    (is_least c.args.log.now c.args.rows c.args.text.now c.requires.small c.args.account.now.told.items c.args.account.now.rest.now c.requires.told c.requires.log c.in-Some.gone.items c.in_ok-points.points.items to found)

@@ -1,0 +1,6 @@
+use Rattle.std.proofs.Common.{◌≡◌, ℕ, ◌<◌, length, slice_index}
+use Rattle.mt_verify.specs.ToldCalls.{calls_told}
+use Rattle.mt_verify.proofs.windows.counts_of.Given as goal
+
+abbrev pub invariant-loop-tree : goal.invariant-loop-tree
+invariant-loop-tree l = (length l.counts ≡ 16) × ((k : ℕ) → k < l.tree → slice_index l.counts k ≡ length (calls_told k l.told))

@@ -1,0 +1,8 @@
+use Rattle.std.proofs.Common.{ℕ, ◌<◌, ◌≤◌, length, take, AllPairs, get_or}
+use Rattle.mt_told.specs.declared.told.Told.{Told}
+use Rattle.mt_verify.specs.Marked.{AreMarked}
+use Rattle.mt_verify.specs.PrintedOrder.{InPrintedOrder}
+use Rattle.mt_verify.proofs.windows.windows_keep.Given as goal
+
+abbrev pub invariant-loop-one : goal.invariant-loop-one
+invariant-loop-one l = AreMarked l.marks (take l.one-index l.told) × AllPairs InPrintedOrder (take l.one-index l.told) × ((k : ℕ) (d : Told) → l.one-index ≤ k → k < length l.told → l.marks.phase ≤ (get_or l.told k d).phase)

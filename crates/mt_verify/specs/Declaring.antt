@@ -1,0 +1,9 @@
+-- How a declared tree opens, as the code keeps it.
+-- Source: this project's own.
+use Rattle.std.specs.Prelude.{Option, Some, None}
+use Rattle.mt_log.specs.Trees.{Opening, Empty, CopyOf}
+use Rattle.mt_verify.specs.declared.declared.Source.{Source}
+
+abbrev pub opening_of : Option Source → Opening
+opening_of None = Empty
+opening_of (Some source) = CopyOf source.tree source.phase

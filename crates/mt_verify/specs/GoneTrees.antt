@@ -1,0 +1,76 @@
+-- A tree of a log whose history was gone through, and why one cannot be.
+-- Source: this project's own.
+use Rattle.std.specs.Prelude.{◌≡◌, ◌⊎◌, ℕ, List, length, map}
+use Rattle.std.specs.List.{range_with_len}
+use Rattle.mt_base.specs.declared.kinds.Kind.{Kind}
+use Rattle.mt_base.specs.declared.ranges.Range.{Range}
+use Rattle.mt_list.specs.ListMap.{Contents}
+use Rattle.mt_log.specs.Trees.{most_lanes}
+use Rattle.mt_told.specs.declared.told.Told.{Told}
+use Rattle.mt_verify.specs.declared.calls.Numbered.{Numbered}
+use Rattle.mt_verify.specs.declared.looks.Look.{Look}
+use Rattle.mt_verify.specs.declared.noted.Noted.{Noted}
+use Rattle.mt_verify.specs.Going.{AllLeast, AllStopped, AreAnswered, IsLastMap, Lane, SomeHasNone, looks_of}
+use Rattle.mt_verify.specs.Hearing.{AreNotedOf, SomeMisheard}
+use Rattle.mt_verify.specs.Histories.{map_by}
+use Rattle.mt_verify.specs.OwnLines.{lines_on, looks_by_lane, stops_told}
+use Rattle.mt_verify.specs.Stops.{SomeMiscounted}
+use Rattle.mt_verify.specs.ToldCalls.{AreCallsOf}
+
+-- a tree: its kind, the map with which it opened, its calls, and the reads of each lane with their numbers
+pub record GoneTree : Type 0 where
+  pub kind : Kind
+  pub opening : List Range
+  pub noted : List Noted
+  pub lanes : List Lane
+
+-- the map after so many calls of the tree
+abbrev pub map_of : GoneTree → ℕ → List Range
+map_of g k = map_by g.kind g.opening g.noted k
+
+-- the reads of each lane of a log, as they are told of a tree
+abbrev pub lane_looks : ℕ → List Told → List (List Look)
+lane_looks tree told = map (looks_by_lane (lines_on tree told)) (range_with_len 0 most_lanes)
+
+-- The tree's calls stand by their numbers and were answered as the maps before them answer, the reads of each lane have
+-- the least numbers that they may have, and each check and copy tells how many ranges the tree had.
+pub record HasGone (version rows : ℕ) (told : List Told) (tree : ℕ) (g : GoneTree) : Type 0 where
+  pub calls : List Numbered
+  pub are : AreCallsOf tree told calls
+  pub heard : AreNotedOf told tree calls g.noted
+  pub answered : AreAnswered g.kind version rows g.opening g.noted (length g.noted)
+  pub looks : looks_of g.lanes ≡ lane_looks tree told
+  pub least : AllLeast (map_of g) g.lanes
+  pub counted : AllStopped (map_of g) (stops_told (lines_on tree told))
+
+-- from this map on, with that one at its end
+pub record IsGoneFrom (version rows : ℕ) (told : List Told) (tree : ℕ) (from : Contents) (g : GoneTree)
+    (to : Contents) : Type 0 where
+  pub gone : HasGone version rows told tree g
+  pub of_kind : g.kind ≡ from.kind
+  pub opening : g.opening ≡ from.ranges
+  pub last : IsLastMap g.kind g.opening g.noted to
+
+-- Of a tree of this kind that opens with this map: its calls do not stand by their numbers; or one is told to be
+-- refused for want of rows, and cannot be; or one was not answered as the map before it answers; or the reads of some
+-- lane can have no numbers; or a check or a copy tells another number of ranges.
+pub record IsHindered (version rows : ℕ) (told : List Told) (tree : ℕ) (kind : Kind)
+    (opening : List Range) : Type 0 where
+  pub calls : List Numbered
+  pub are : AreCallsOf tree told calls
+  pub noted : List Noted
+  pub heard : AreNotedOf told tree calls noted
+  pub lanes : List Lane
+  pub looks : looks_of lanes ≡ lane_looks tree told
+  pub why : (AreAnswered kind version rows opening noted (length noted) → ⊥)
+      ⊎ (SomeHasNone (map_by kind opening noted) lanes
+      ⊎ SomeMiscounted (map_by kind opening noted) (stops_told (lines_on tree told)))
+
+pub record AreMisheard (told : List Told) (tree : ℕ) : Type 0 where
+  pub calls : List Numbered
+  pub are : AreCallsOf tree told calls
+  pub some : SomeMisheard told tree calls
+
+abbrev pub CannotGo : ℕ → ℕ → List Told → ℕ → Kind → List Range → Type 0
+CannotGo version rows told tree kind opening = ((list : List Numbered) → AreCallsOf tree told list → ⊥)
+    ⊎ (AreMisheard told tree ⊎ IsHindered version rows told tree kind opening)

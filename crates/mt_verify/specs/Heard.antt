@@ -1,0 +1,76 @@
+-- What is heard of a call that was refused for want of rows, and who may have held rows.
+-- Source: this project's own.
+use Rattle.std.specs.Prelude.{◌≡◌, ◌≢◌, ◌↔◌, ℕ, ◌+◌, ◌*◌, ◌==◌, ◌&&◌, ◌<◌, ◌≤◌, ◌^◌, Bool, true, false, List, Option, None, IsSome, IfSome, IsSomeAnd, nat_le, slice_index_or}
+use Rattle.std.specs.Fmt.{decimal}
+use Rattle.std.specs.List.{list_any}
+use Rattle.mt_base.specs.declared.replies.Shortage.{Shortage}
+use Rattle.mt_base.specs.declared.replies.Reply.TheVariants.{NoNodes}
+use Rattle.mt_log.specs.Text.{reply_text}
+use Rattle.mt_log.specs.Trees.{most_lanes, most_trees}
+use Rattle.mt_told.specs.declared.told.Told.{Told}
+use Rattle.mt_told.specs.declared.told.What.{What}
+use Rattle.mt_told.specs.declared.told.What.TheVariants.{Wrote, Got, Copied, Lawful}
+use Rattle.mt_verify.specs.declared.calls.Numbered.{Numbered}
+use Rattle.mt_verify.specs.declared.heard.Readers.{Readers}
+
+abbrev pub is_got : What → Bool
+is_got (Wrote number call reply) = false
+is_got (Got lo hi query answer) = true
+is_got (Copied count) = false
+is_got (Lawful count) = false
+
+-- the line tells that this lane read this tree, in a phase that was not later
+abbrev pub reads_by : ℕ → ℕ → ℕ → Told → Bool
+reads_by tree lane phase r = (r.lane == lane) && ((r.tree == tree) && (nat_le r.phase phase && is_got r.what))
+
+-- another lane than a call's, which read the tree in a phase that was not later
+pub record IsReader (told : List Told) (tree : ℕ) (call : Numbered) (lane : ℕ) : Type 0 where
+  pub other : lane ≢ call.lane
+  pub reads : list_any (reads_by tree lane call.phase) told ≡ true
+
+-- ---- a shortage
+
+-- its numbers are of 64 bits
+pub record IsSmallShortage (s : Shortage) : Type 0 where
+  pub need : s.need < 2 ^ 64
+  pub free : s.free < 2 ^ 64
+  pub live : s.live < 2 ^ 64
+  pub held : s.held < 2 ^ 64
+
+-- the text is this number, and no other below 2^64
+pub record IsNumberAlone (text : List ℕ) (number : ℕ) : Type 0 where
+  pub printed : text ≡ decimal number
+  pub only : (n : ℕ) → n < 2 ^ 64 → text ≡ decimal n → n ≡ number
+
+-- how it is printed, by a log of any version
+abbrev pub shortage_text : Shortage → List ℕ
+shortage_text s = reply_text 2 (NoNodes s)
+
+-- the text says these numbers, and they are the only ones that it says
+pub record SaysShortage (text : List ℕ) (s : Shortage) : Type 0 where
+  pub printed : text ≡ shortage_text s
+  pub none : s.by ≡ None
+  pub only : (other : Shortage) → IsSmallShortage other → text ≡ shortage_text other → other.held ≡ s.held
+
+-- The reply that is told is this shortage. Where rows were held, and only there, someone is named: another lane that
+-- had read the tree.
+pub record IsToldShortage (told : List Told) (tree : ℕ) (call : Numbered) (s : Shortage) : Type 0 where
+  pub printed : call.reply.now ≡ shortage_text s
+  pub some : IsSome s.by ↔ (0 < s.held)
+  pub by : IfSome s.by (λ holder. IsReader told tree call holder.pass)
+
+-- what is heard of it: someone who read before any call is named
+pub record IsHeard (told : List Told) (tree : ℕ) (call : Numbered) (s : Shortage) : Type 0 where
+  pub is : IsToldShortage told tree call s
+  pub epoch : IfSome s.by (λ holder. holder.epoch ≡ 0)
+
+-- ---- the first phases in which lanes read trees
+
+abbrev pub Reads : Option ℕ → ℕ → Type 0
+Reads first phase = IsSomeAnd first (λ p. p ≤ phase)
+
+-- each lane has read a tree by a phase exactly where its first phase there is that one or lower
+abbrev pub AreReaders : Readers → List Told → Type 0
+AreReaders readers told = (tree lane phase : ℕ) (other : Option ℕ) → tree < most_trees → lane < most_lanes
+    → Reads (slice_index_or readers.first (16 * tree + lane) other) phase
+    ↔ (list_any (reads_by tree lane phase) told ≡ true)

@@ -1,0 +1,102 @@
+-- The calls of a tree, as a transcript tells them, and the history that they are.
+-- Source: this project's own.
+use Rattle.std.specs.Prelude.{◌≡◌, ◌↔◌, ℕ, ◌<◌, Bool, true, false, List, [], ◌∷◌, IsSome, IfSome, fold, take}
+use Rattle.mt_base.specs.declared.kinds.Kind.{Kind}
+use Rattle.mt_base.specs.declared.ranges.Range.{Range}
+use Rattle.mt_base.specs.declared.calls.Call.{Call}
+use Rattle.mt_base.specs.declared.replies.Reply.{Reply}
+use Rattle.mt_base.specs.declared.replies.Reply.TheVariants.{NoNodes}
+use Rattle.mt_base.specs.declared.replies.Shortage.{Shortage}
+use Rattle.mt_base.specs.Call.{acted}
+use Rattle.mt_base.specs.History.{Record, History}
+use Rattle.mt_base.specs.Nodes.{Limits, IsRefused}
+use Rattle.mt_log.specs.Text.{reply_text}
+use Rattle.mt_verify.specs.declared.noted.Heard.{Heard}
+use Rattle.mt_verify.specs.declared.noted.Heard.TheVariants.{Reply as Printed, Short}
+use Rattle.mt_verify.specs.declared.noted.Noted.{Noted}
+
+-- ---- the maps
+
+-- a refusal for want of rows leaves the map
+abbrev pub map_heard : Heard → List Range → List Range → List Range
+map_heard (Printed bytes) before after = after
+map_heard (Short s) before after = before
+
+-- the map after one more call
+abbrev pub map_after : Kind → List Range → Noted → List Range
+map_after kind m n = map_heard n.heard m (acted kind m n.call).0
+
+-- the map after the first k calls
+abbrev pub map_by : Kind → List Range → List Noted → ℕ → List Range
+map_by kind opening noted k = fold (map_after kind) opening (take k noted)
+
+-- ---- the history
+
+-- the reply of the map before the call, or the refusal
+abbrev pub reply_heard : Heard → Reply → Reply
+reply_heard (Printed bytes) answer = answer
+reply_heard (Short s) answer = NoNodes s
+
+-- a call as a record of its tree's history
+abbrev pub record_of : Kind → List Range → Noted → Record
+record_of kind m n = record { pass = n.lane; call = n.call; reply = reply_heard n.heard (acted kind m n.call).1 }
+
+abbrev pub records_of : Kind → List Range → List Noted → List Record
+records_of kind m [] = []
+records_of kind m (n ∷ noted) = record_of kind m n ∷ records_of kind (map_after kind m n) noted
+
+abbrev pub history_of : Kind → ℕ → List Range → List Noted → History
+history_of kind rows opening noted =
+    record { kind = kind; rows = rows; opening = opening; records = records_of kind opening noted }
+
+-- ---- whether a call was answered so
+
+-- the map before the call answers so, in print, or may refuse it with these numbers
+abbrev pub IsHeardAt : Kind → ℕ → Limits → List Range → Call → Heard → Type 0
+IsHeardAt kind version l m call (Printed bytes) = reply_text version (acted kind m call).1 ≡ bytes.now
+IsHeardAt kind version l m call (Short s) = IsRefused kind l m call (NoNodes s)
+
+-- ---- which histories a transcript may tell
+
+abbrev pub is_nomem : Reply → Bool
+is_nomem (NoNodes shortage) = true
+is_nomem reply = false
+
+-- The refusal has these numbers, whoever held rows. Where rows were held, someone is named here who read before any
+-- call.
+pub record IsShortAs (s : Shortage) (r : Reply) : Type 0 where
+  pub other : Shortage
+  pub is : r ≡ NoNodes other
+  pub same : s ≡ record other { by = s.by }
+  pub holder : IsSome s.by ↔ (0 < s.held)
+  pub epoch : IfSome s.by (λ h. h.epoch ≡ 0)
+
+-- a reply that a transcript may tell so
+abbrev pub IsHeard : ℕ → Heard → Reply → Type 0
+IsHeard version (Printed bytes) r = (is_nomem r ≡ false) × (reply_text version r ≡ bytes.now)
+IsHeard version (Short s) r = IsShortAs s r
+
+-- these calls, with replies that a transcript may tell so
+abbrev pub AreHeard : ℕ → List Noted → List Record → Type 0
+AreHeard version [] [] = Unit {0}
+AreHeard version [] (r ∷ records) = ⊥
+AreHeard version (n ∷ noted) [] = ⊥
+AreHeard version (n ∷ noted) (r ∷ records) = (r.call ≡ n.call) × IsHeard version n.heard r.reply
+    × AreHeard version noted records
+
+-- the very reply
+abbrev pub IsReplyOf : ℕ → Heard → Reply → Type 0
+IsReplyOf version (Printed bytes) r = (is_nomem r ≡ false) × (reply_text version r ≡ bytes.now)
+IsReplyOf version (Short s) r = r ≡ NoNodes s
+
+pub record IsRecordOf (version : ℕ) (n : Noted) (r : Record) : Type 0 where
+  pub pass : r.pass ≡ n.lane
+  pub call : r.call ≡ n.call
+  pub reply : IsReplyOf version n.heard r.reply
+
+-- these very calls, one by one
+abbrev pub AreRecordsOf : ℕ → List Noted → List Record → Type 0
+AreRecordsOf version [] [] = Unit {0}
+AreRecordsOf version [] (r ∷ records) = ⊥
+AreRecordsOf version (n ∷ noted) [] = ⊥
+AreRecordsOf version (n ∷ noted) (r ∷ records) = IsRecordOf version n r × AreRecordsOf version noted records

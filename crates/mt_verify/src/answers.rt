@@ -1,0 +1,89 @@
+//! Whether a call was answered by the map before it, or rightly refused for want of rows.
+
+ghost use Rattle.std.specs.Prelude.{◌≡◌, ◌↔◌, ◌≤◌, ◌<◌, ◌^◌, IfOk, IsTrue, OnOk};
+ghost use Rattle.mt_base.specs.Call.{acted};
+ghost use Rattle.mt_base.specs.Map.{IsMap};
+ghost use Rattle.mt_base.specs.Nodes.{IsRefused};
+ghost use Rattle.mt_log.specs.Text.{reply_text};
+ghost use Rattle.mt_verify.specs.Going.{IsAnsweredAt};
+ghost use Rattle.mt_verify.specs.Histories.{map_after};
+ghost use Rattle.mt_verify.specs.Shortages.{limits_of};
+
+use crate::noted::{Heard, Noted};
+use crate::shortages::is_short;
+use crate::wants::wants_rows;
+use mt_base::{Call, Kind, NoMemory, Reply, Shortage};
+use mt_list::{ListMap, Ranges};
+use mt_told::is_reply;
+
+/// The call is made. It tells whether its answer is these bytes in print.
+fn is_answer(map: &mut ListMap, version: u32, call: &Call, bytes: &[u8]) -> Result<bool, NoMemory>
+    ensures kind { map.new.kind ≡ map.old.kind }
+    ensures map { OnOk result (map.new.ranges ≡ (acted map.old.kind map.old.ranges call.now).0) }
+    ensures same { IfOk result (λ same. IsTrue same
+        ↔ (reply_text version (acted map.old.kind map.old.ranges call.now).1 ≡ bytes.now)) }
+{
+    let reply = map.act(call)?;
+    Ok(is_reply(version, &reply, bytes))
+}
+
+/// Whether the call may be refused for want of rows with these numbers, where so many calls have ended on a tree that
+/// opened with so many rows at the most.
+fn is_refused(
+    map: &mut ListMap,
+    kind: Kind,
+    rows: u64,
+    opened: u64,
+    ended: u64,
+    call: &Call,
+    shortage: &Shortage,
+) -> Result<bool, NoMemory>
+    requires kind { kind ≡ map.old.kind }
+    requires map { IsMap map.old.kind map.old.ranges }
+    requires rows { rows ≤ 65504 }
+    requires opened { opened < 2 ^ 62 }
+    requires ended { ended < 2 ^ 57 }
+    ensures kind { map.new.kind ≡ map.old.kind }
+    ensures map { map.new.ranges ≡ map.old.ranges }
+    ensures refused { IfOk result (λ yes. IsTrue yes
+        ↔ IsRefused map.old.kind (limits_of rows opened ended) map.old.ranges call.now (Reply.NoNodes shortage.now)) }
+{
+    if !wants_rows(map, kind, call)? {
+        return Ok(false);
+    }
+    Ok(is_short(rows, opened, ended, map.count(), shortage))
+}
+
+/// A call is made, unless it was refused for want of rows. It tells whether it was answered or refused rightly.
+pub fn agrees(
+    map: &mut ListMap,
+    kind: Kind,
+    version: u32,
+    rows: u64,
+    opened: u64,
+    ended: u64,
+    noted: &Noted<'_>,
+) -> Result<bool, NoMemory>
+    requires kind { kind ≡ map.old.kind }
+    requires map { IsMap map.old.kind map.old.ranges }
+    requires rows { rows ≤ 65504 }
+    requires opened { opened < 2 ^ 62 }
+    requires ended { ended < 2 ^ 57 }
+    ensures kind { map.new.kind ≡ map.old.kind }
+    ensures map { OnOk result (map.new.ranges ≡ map_after map.old.kind map.old.ranges noted.now) }
+    ensures same { IfOk result (λ same. IsTrue same
+        ↔ IsAnsweredAt map.old.kind version rows opened ended map.old.ranges noted.now) }
+{
+    match noted.heard {
+        Heard::Reply(bytes) => is_answer(map, version, &noted.call, bytes),
+        Heard::Short(shortage) => is_refused(
+            map,
+            kind,
+            rows,
+            opened,
+            ended,
+            &noted.call,
+            &shortage,
+        ),
+    }
+}

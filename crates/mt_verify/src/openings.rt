@@ -1,0 +1,72 @@
+//! The map with which a tree of a log opens.
+
+ghost use Rattle.std.specs.Prelude.{◌≡◌, ◌<◌, ℕ, IfOk, length};
+ghost use Rattle.mt_log.specs.Trees.{CopyOf, Empty};
+ghost use Rattle.mt_verify.specs.Openings.{OpensAsMap, is_call_before};
+ghost use Rattle.mt_verify.specs.Filled.{calls_told};
+ghost use Rattle.mt_verify.specs.GoneTrees.{map_of};
+
+use crate::declared::Declared;
+use crate::gone::Gone;
+use crate::replays::make_all_again;
+use mt_base::NoMemory;
+use mt_list::ListMap;
+use mt_told::{Told, What};
+use std::alloc::Global;
+
+/// Whether a line tells of a call on a tree in a phase before this one.
+fn is_call_before(told: &Told, tree: u32, phase: u64) -> bool
+    ensures { result ≡ is_call_before tree phase told.now }
+{
+    if told.tree != tree || told.phase >= phase {
+        return false;
+    }
+    match told.what {
+        What::Wrote { .. } => true,
+        What::Got { .. } | What::Copied { .. } | What::Lawful { .. } => false,
+    }
+}
+
+/// How many calls on a tree are told of phases before this one.
+fn calls_before(told: &[Told], tree: u32, phase: u64) -> usize
+    ensures { result ≡ calls_told told.now tree phase }
+{
+    told.iter()
+        .filter(|one| is_call_before(one, tree, phase))
+        .count()
+}
+
+/// The map of a tree that was gone through, after so many of its calls.
+#[tactic(auto, using(crate::proofs::OpenedMaps::first_calls))]
+fn map_after(alloc: Global, gone: &Gone, calls: usize) -> Result<ListMap, NoMemory>
+    ensures kind { IfOk result (λ map. map.kind ≡ gone.now.kind) }
+    ensures map { IfOk result (λ map. map.ranges ≡ map_of gone.now calls) }
+{
+    let mut map = gone.opening.copied(alloc)?;
+    make_all_again(&mut map, &gone.noted[..calls.min(gone.noted.len())])?;
+    Ok(map)
+}
+
+/// The map with which a tree opens that is declared so: empty, or as the tree that it is a copy of stands when its phase begins.
+///
+/// # Errors
+///
+/// `NoMemory` where memory ran out.
+pub fn opening_of(
+    alloc: Global,
+    declared: &Declared,
+    told: &[Told],
+    gone: &[Gone],
+) -> Result<ListMap, NoMemory>
+    requires { (tree phase : ℕ) → declared.now.opening ≡ CopyOf tree phase → tree < length gone.now }
+    ensures map { IfOk result (λ map. OpensAsMap told.now gone.now declared.now map) }
+    ensures empty { IfOk result (λ map. declared.now.opening ≡ Empty → map.kind ≡ declared.now.tree.kind) }
+{
+    let Some(source) = declared.source else {
+        return Ok(ListMap::new(alloc, declared.kind));
+    };
+    let Some(tree) = gone.get(source.tree as usize) else {
+        unreachable!()
+    };
+    map_after(alloc, tree, calls_before(told, source.tree, source.phase))
+}
