@@ -1,0 +1,3 @@
+pub mod Loops
+pub mod Tables
+pub mod Walks

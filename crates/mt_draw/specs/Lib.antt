@@ -1,0 +1,5 @@
+pub mod Asked
+pub mod Drawn
+pub mod Marks
+pub mod Texts
+pub mod Trees

@@ -1,0 +1,13 @@
+-- What a slot of a row is drawn as.
+-- Source: this project's own.
+use Rattle.std.specs.Prelude.{ℕ, ◌==◌, if◌then◌else◌}
+use Rattle.mt_layout.specs.declared.names.RowKind.{RowKind}
+use Rattle.mt_layout.specs.declared.names.RowKind.TheVariants.{Leaf, Inner, Gapped}
+use Rattle.mt_draw.specs.declared.boxes.Mark.{Mark}
+use Rattle.mt_draw.specs.declared.boxes.Mark.TheVariants.{Hole, Range, Child}
+
+-- in a leaf a word is an entry, or 0 for a hole; in an inner row it leads to a row
+abbrev pub mark_of : RowKind → ℕ → Mark
+mark_of Leaf word = if word == 0 then Hole else Range
+mark_of Inner word = Child
+mark_of Gapped word = Child

@@ -1,0 +1,44 @@
+-- The rows of a tree in the order of a walk, with the indexes that each covers.
+-- Source: this project's own.
+use Rattle.std.specs.Prelude.{ℕ, zero, suc, ◌+◌, List, [], ◌∷◌, Option, Some, None}
+use Rattle.std.specs.List.{flat_map}
+use Rattle.mt_base.specs.Width.{deepest, kind_width}
+use Rattle.mt_layout.specs.declared.names.RowKind.{RowKind}
+use Rattle.mt_layout.specs.declared.names.RowKind.TheVariants.{Leaf, Inner, Gapped}
+use Rattle.mt_layout.specs.declared.spans.Span.{Span}
+use Rattle.mt_layout.specs.Columns.{gap_column}
+use Rattle.mt_layout.specs.Rows.{row_in, named_kind}
+use Rattle.mt_layout.specs.Sizes.{slots_of}
+use Rattle.mt_rows.specs.Spans.{Table, column, spans_in, root_span}
+use Rattle.mt_draw.specs.declared.trees.Node.{Node}
+use Rattle.mt_draw.specs.declared.trees.Tree.{Tree}
+
+abbrev pub table_of : Tree → Table
+table_of tree = record { width = kind_width tree.kind; words = tree.words.items }
+
+-- the row that a span names, below so many others
+abbrev pub node_at : ℕ → RowKind → Span → Node
+node_at depth kind x = record { span = x; row = row_in x.word; kind = kind; depth = depth }
+
+-- a leaf by itself, and an inner row before what is below it
+abbrev pub with_below : ℕ → Option RowKind → Span → List Node → List Node
+with_below depth None x below = []
+with_below depth (Some Leaf) x below = node_at depth Leaf x ∷ []
+with_below depth (Some Inner) x below = node_at depth Inner x ∷ below
+with_below depth (Some Gapped) x below = node_at depth Gapped x ∷ below
+
+-- the rows that are reached, at most so many levels deep, each row before its children, children from the left
+abbrev pub nodes_of : Table → ℕ → ℕ → Span → List Node
+nodes_of t zero depth x = []
+nodes_of t (suc levels) depth x = with_below depth (named_kind x.word) x (flat_map (nodes_of t levels (depth + 1)) (spans_in t x))
+
+abbrev pub nodes_in : Table → ℕ → List Node
+nodes_in t root = nodes_of t deepest 0 (root_span t root)
+
+-- the gap word of a slot, and 0 in a row without gaps
+abbrev pub gap_in : Table → Node → ℕ → ℕ
+gap_in t x slot = gap_by t x.kind x.row slot where
+  gap_by : Table → RowKind → ℕ → ℕ → ℕ
+  gap_by t Leaf row slot = 0
+  gap_by t Inner row slot = 0
+  gap_by t Gapped row slot = column t row (gap_column (slots_of t.width Gapped) slot)

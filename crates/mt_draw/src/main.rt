@@ -1,0 +1,141 @@
+//! Draws the image of a tree, which it reads from its input: each row as a box, or where there are many as a map of levels.
+//! `--text` prints the rows as the kernel's `mt_dump` does, and `--ranges` draws the ranges along a line.
+#![tactic(auto)]
+
+ghost use Rattle.std.specs.Prelude.{◌≡◌, Err, IfOk, string_bytes};
+ghost use Rattle.mt_image.specs.Reading.{image_in};
+ghost use Rattle.mt_image.specs.declared.errors.ImageError.{ImageError};
+ghost use Rattle.mt_draw.specs.Drawn.{IsDrawn, IsTreeIn};
+ghost use Rattle.mt_draw.specs.Texts.{tree_text};
+
+mod blocks;
+mod boxes;
+mod failures;
+mod forms;
+mod layouts;
+mod levels;
+mod shapes;
+mod texts;
+mod trees;
+
+use crate::blocks::AddressMap;
+use crate::boxes::Boxes;
+use crate::failures::Failure;
+use crate::forms::{Form, HELP, form_of};
+use crate::layouts::Layout;
+use crate::levels::Levels;
+use crate::texts::Dump;
+use crate::trees::Tree;
+use mt_image::read_image;
+use std::alloc::{AllocError, Global};
+use std::io::{ErrorKind, Read, Write};
+use std::process::ExitCode;
+use std::rt::Env;
+use std::{env, io};
+
+/// A tree with more rows is drawn as a map of its levels.
+const MOST_BOXES: usize = 200;
+
+/// An image has so many bytes at the most: those of 65,504 narrow rows behind its head.
+const LONGEST: u64 = 33_538_080;
+
+/// What fails, where that is not for want of memory.
+fn unless_memory(error: &io::Error, other: Failure) -> Failure {
+    match error.kind() {
+        ErrorKind::OutOfMemory => Failure::NoMemory,
+        _ => other,
+    }
+}
+
+/// The words after the program's name. Where one is no text, they ask for nothing.
+fn words_of(rt: &(impl Env + AllocGlobal)) -> Result<Vec<String>, Failure> {
+    let words = env::args(rt).map_err(|error| unless_memory(&error, Failure::Usage))?;
+    words
+        .skip(1)
+        .collect(rt.alloc())
+        .map_err(|_| Failure::NoMemory)
+}
+
+/// The bytes of the input, and of one that is longer than any image no more than tell it.
+fn read_input(rt: &(impl Input + AllocGlobal)) -> Result<Vec<u8>, Failure> {
+    let mut bytes = Vec::new(rt.alloc());
+    match rt.reader().take(LONGEST + 1).read_to_end(&mut bytes) {
+        Ok(_) => Ok(bytes),
+        Err(error) => Err(unless_memory(&error, Failure::ReadFault)),
+    }
+}
+
+/// A tree as the picture of its rows: each as a box where there are few.
+fn picture(alloc: Global, tree: &Tree) -> Result<String, AllocError> {
+    if tree.nodes.len() <= MOST_BOXES {
+        let layout = Layout::of(alloc, tree)?;
+        let boxes = Boxes {
+            tree,
+            layout: &layout,
+        };
+        format!(in alloc; "{boxes}")
+    } else {
+        let levels = Levels::of(alloc, tree)?;
+        format!(in alloc; "{levels}")
+    }
+}
+
+/// The tree whose image these bytes are.
+fn read_tree(alloc: Global, bytes: &[u8]) -> Result<Tree, Failure>
+    ensures tree { IfOk result (λ tree. IsTreeIn bytes.now tree) }
+    ensures no_image { (error : ImageError) → result ≡ Err (Failure.NoImage error) → image_in bytes.now ≡ Err error }
+{
+    let (kind, rows) = read_image(alloc, bytes)?;
+    Ok(Tree::of(alloc, kind, rows)?)
+}
+
+/// What is written of a tree.
+fn text_of(alloc: Global, form: Form, tree: &Tree) -> Result<String, AllocError>
+    ensures { form ≡ Form.Text → IfOk result (λ text. string_bytes text ≡ tree_text tree.now) }
+{
+    match form {
+        Form::Help => String::from_str(alloc, HELP),
+        Form::Rows => picture(alloc, tree),
+        Form::Text => {
+            let dump = Dump { tree };
+            format!(in alloc; "{dump}")
+        }
+        Form::Ranges => {
+            let map = AddressMap::of(alloc, tree)?;
+            format!(in alloc; "{map}")
+        }
+    }
+}
+
+/// What is written of the tree whose image these bytes are.
+fn drawn(alloc: Global, form: Form, bytes: &[u8]) -> Result<String, Failure>
+    ensures drawn { IfOk result (λ text. IsDrawn form bytes.now (string_bytes text)) }
+    ensures no_image { (error : ImageError) → result ≡ Err (Failure.NoImage error) → image_in bytes.now ≡ Err error }
+{
+    let tree = read_tree(alloc, bytes)?;
+    Ok(text_of(alloc, form, &tree)?)
+}
+
+/// Does what the words say.
+fn run(rt: &(impl Env + Input + Print + AllocGlobal)) -> Result<(), Failure> {
+    let words = words_of(rt)?;
+    let form = form_of(&words).ok_or(Failure::Usage)?;
+    let text = match form {
+        Form::Help => String::from_str(rt.alloc(), HELP)?,
+        _ => drawn(rt.alloc(), form, &read_input(rt)?)?,
+    };
+    match io::writer(rt).write_all(text.as_str().as_bytes()) {
+        Ok(()) => Ok(()),
+        Err(_) => Err(Failure::WriteFault),
+    }
+}
+
+fn main(rt: HostRuntime) -> io::Result<ExitCode> {
+    match run(&rt) {
+        Ok(()) => Ok(ExitCode::from(0)),
+        Err(failure) => {
+            eprintln!(rt; "mt_draw: {failure}")?;
+            Ok(ExitCode::from(failure.status()))
+        }
+    }
+}
