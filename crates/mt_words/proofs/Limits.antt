@@ -5,10 +5,10 @@ use Rattle.std.specs.Str.{bytes_eq}
 use Rattle.std.specs.Str.Parse.{digits_value}
 use Rattle.std.proofs.lemmas.Bool.{leb-true}
 use Rattle.mt_base.specs.Width.{most_rows}
-use Rattle.mt_words.specs.Commands.{IsWithin, command_of, make_of, replay_of, trial_of, with_rows}
+use Rattle.mt_words.specs.Commands.{IsWithin, command_of, make_of, rows_said, rows_word, trial_of}
 use Rattle.mt_words.specs.Numbers.{fewest_rows, greatest_number, is_number, most_lanes, most_steps, number_in}
 use Rattle.mt_words.specs.declared.commands.Command.{Command}
-use Rattle.mt_words.specs.declared.commands.Command.TheVariants.{Make, Replay, Trial}
+use Rattle.mt_words.specs.declared.commands.Command.TheVariants.{Make, Replay, Trial, Verify}
 
 abbrev IsBetween : ℕ → ℕ → ℕ → Type 0
 IsBetween least most n = (least ≤ n) × (n ≤ most)
@@ -31,18 +31,21 @@ chained : {X Y : Type 0} (o : Option X) (f : X → Option Y) (P : X → Type 0) 
 chained None f P Q some so = tt
 chained (Some x) f P Q some so = so x some
 
-either : (b : Bool) (x y : Option Command) → IfSome x IsWithin → IfSome y IsWithin → IfSome (if b then x else y) IsWithin
-either true x y here there = here
-either false x y here there = there
+either : {X : Type 0} (P : X → Type 0) (b : Bool) (x y : Option X) → IfSome x P → IfSome y P → IfSome (if b then x else y) P
+either P true x y here there = here
+either P false x y here there = there
 
-rows_within : (word : List ℕ) → IfSome (with_rows word) IsWithin
-rows_within word = mapped (number_in fewest_rows most_rows word) Replay (IsBetween fewest_rows most_rows) IsWithin (number_within fewest_rows most_rows word) (λ n within. within)
+rows_within : (words : List (List ℕ)) → IfSome (rows_said words) (IsBetween fewest_rows most_rows)
+rows_within [] = (leb-true fewest_rows most_rows refl, leb-true most_rows most_rows refl)
+rows_within (word ∷ []) = either (IsBetween fewest_rows most_rows) (bytes_eq (take 7 word) (codes "--rows=")) (rows_word (drop 7 word)) None (number_within fewest_rows most_rows (drop 7 word)) tt
+rows_within (option ∷ word ∷ []) = either (IsBetween fewest_rows most_rows) (bytes_eq option (codes "--rows")) (rows_word word) None (number_within fewest_rows most_rows word) tt
+rows_within (first ∷ second ∷ third ∷ words) = tt
 
-replay_within : (words : List (List ℕ)) → IfSome (replay_of words) IsWithin
-replay_within [] = (leb-true fewest_rows most_rows refl, leb-true most_rows most_rows refl)
-replay_within (word ∷ []) = either (bytes_eq (take 7 word) (codes "--rows=")) (with_rows (drop 7 word)) None (rows_within (drop 7 word)) tt
-replay_within (option ∷ word ∷ []) = either (bytes_eq option (codes "--rows")) (with_rows word) None (rows_within word) tt
-replay_within (first ∷ second ∷ third ∷ words) = tt
+replay_within : (words : List (List ℕ)) → IfSome (option_map Replay (rows_said words)) IsWithin
+replay_within words = mapped (rows_said words) Replay (IsBetween fewest_rows most_rows) IsWithin (rows_within words) (λ rows within. within)
+
+verify_within : (words : List (List ℕ)) → IfSome (option_map Verify (rows_said words)) IsWithin
+verify_within words = mapped (rows_said words) Verify (IsBetween fewest_rows most_rows) IsWithin (rows_within words) (λ rows within. within)
 
 make_within : (words : List (List ℕ)) → IfSome (make_of words) IsWithin
 make_within [] = tt
@@ -67,10 +70,13 @@ trial_within (number ∷ steps ∷ more ∷ words) = tt
 of_words : (words : List (List ℕ)) → IfSome (command_of words) IsWithin
 of_words [] = tt
 of_words (word ∷ words) =
-    let tried : Option Command = if bytes_eq word (codes "trial") then trial_of words else None in
+    let judged : Option Command = if bytes_eq word (codes "verify") then option_map Verify (rows_said words) else None in
+    let tried : Option Command = if bytes_eq word (codes "trial") then trial_of words else judged in
     let made : Option Command = if bytes_eq word (codes "make") then make_of words else tried in
-    either (bytes_eq word (codes "replay")) (replay_of words) made (replay_within words)
-    (either (bytes_eq word (codes "make")) (make_of words) tried (make_within words) (either (bytes_eq word (codes "trial")) (trial_of words) None (trial_within words) tt))
+    either IsWithin (bytes_eq word (codes "replay")) (option_map Replay (rows_said words)) made (replay_within words)
+    (either IsWithin (bytes_eq word (codes "make")) (make_of words) tried (make_within words)
+    (either IsWithin (bytes_eq word (codes "trial")) (trial_of words) judged (trial_within words)
+    (either IsWithin (bytes_eq word (codes "verify")) (option_map Verify (rows_said words)) None (verify_within words) tt)))
 
 pub command_within : (command : Option Command) (words : List (List ℕ)) → command ≡ command_of words → IfSome command IsWithin
 command_within command words is = subst (λ (c : Option Command). IfSome c IsWithin) (sym is) (of_words words)

@@ -4,16 +4,15 @@ use Rattle.std.specs.Prelude.{if◌then◌else◌, option_and_then, option_map}
 use Rattle.std.specs.List.{list_any}
 use Rattle.std.specs.Str.{bytes_eq}
 use Rattle.std.proofs.lemmas.Slice.Eq.{bytes_eq-Decides}
-use Rattle.mt_words.specs.Commands.{command_of, in_two_words, make_of, replay_of, trial_of, with_rows}
+use Rattle.mt_words.specs.Commands.{command_of, in_two_words, make_of, rows_said, rows_word, trial_of}
 use Rattle.mt_words.specs.Grammar.{is_end_of_options}
 use Rattle.mt_words.specs.Numbers.{greatest_number, is_number, most_lanes, most_steps, number_in}
-use Rattle.mt_words.specs.declared.commands.Command.{Command}
-use Rattle.mt_words.specs.declared.commands.Command.TheVariants.{Make, Trial}
+use Rattle.mt_words.specs.declared.commands.Command.TheVariants.{Make, Replay, Trial, Verify}
 
 abbrev Text : Type 0
 Text = List ℕ
 
-pub no_rows : (word : Text) → is_number word ≡ false → with_rows word ≡ None
+pub no_rows : (word : Text) → is_number word ≡ false → rows_word word ≡ None
 no_rows word is = rw is refl
 
 pub make_no_number : (number : Text) (words : List Text) → is_number number ≡ false → make_of (number ∷ words) ≡ None
@@ -58,24 +57,25 @@ no_number word end = ap is_number ((bytes_eq-Decides word (codes "--")).0 end)
 abbrev HasEnd : List Text → Type 0
 HasEnd words = list_any is_end_of_options words ≡ true
 
-none_either : (b : Bool) (x : Option Command) → x ≡ None → (if b then x else None) ≡ None
-none_either true x none = none
-none_either false x none = refl
+-- one of two that are none
+chosen : {X : Type 0} (b : Bool) (x y : Option X) → x ≡ None → y ≡ None → (if b then x else y) ≡ None
+chosen true x y no_x no_y = no_x
+chosen false x y no_x no_y = no_y
 
-end_in_replay : (words : List Text) → HasEnd words → replay_of words ≡ None
-end_in_replay [] ends = absurd (true≢false (sym ends))
-end_in_replay (word ∷ []) ends = elim (or_cases _ _ ends) [
-  | inl end ↦ subst (λ (w : Text). replay_of (w ∷ []) ≡ None) (sym ((bytes_eq-Decides word (codes "--")).0 end)) refl
+end_in_rows : (words : List Text) → HasEnd words → rows_said words ≡ None
+end_in_rows [] ends = absurd (true≢false (sym ends))
+end_in_rows (word ∷ []) ends = elim (or_cases _ _ ends) [
+  | inl end ↦ subst (λ (w : Text). rows_said (w ∷ []) ≡ None) (sym ((bytes_eq-Decides word (codes "--")).0 end)) refl
   | inr end ↦ absurd (true≢false (sym end))
 ]
-end_in_replay (option ∷ word ∷ []) ends = elim (or_cases _ _ ends) [
+end_in_rows (option ∷ word ∷ []) ends = elim (or_cases _ _ ends) [
   | inl end ↦ subst (λ (w : Text). in_two_words w word ≡ None) (sym ((bytes_eq-Decides option (codes "--")).0 end)) refl
   | inr rest ↦ elim (or_cases _ _ rest) [
-    | inl end ↦ none_either (bytes_eq option (codes "--rows")) (with_rows word) (no_rows word (no_number word end))
+    | inl end ↦ chosen (bytes_eq option (codes "--rows")) (rows_word word) None (no_rows word (no_number word end)) refl
     | inr end ↦ absurd (true≢false (sym end))
   ]
 ]
-end_in_replay (first ∷ second ∷ third ∷ words) ends = refl
+end_in_rows (first ∷ second ∷ third ∷ words) ends = refl
 
 end_in_make : (words : List Text) → HasEnd words → make_of words ≡ None
 end_in_make [] ends = refl
@@ -99,17 +99,14 @@ end_in_trial (number ∷ steps ∷ []) ends = elim (or_cases _ _ ends) [
 ]
 end_in_trial (number ∷ steps ∷ more ∷ words) ends = refl
 
-chosen : (a b c : Bool) (x y z : Option Command) → x ≡ None → y ≡ None → z ≡ None → (if a then x else (if b then y else (if c then z else None))) ≡ None
-chosen true b c x y z no_x no_y no_z = no_x
-chosen false true c x y z no_x no_y no_z = no_y
-chosen false false true x y z no_x no_y no_z = no_z
-chosen false false false x y z no_x no_y no_z = refl
-
 -- a list with `--` is no command
 pub ended : (words : List Text) → HasEnd words → command_of words ≡ None
 ended [] ends = refl
 ended (word ∷ words) ends = elim (or_cases _ _ ends) [
   | inl end ↦ subst (λ (w : Text). command_of (w ∷ words) ≡ None) (sym ((bytes_eq-Decides word (codes "--")).0 end)) refl
-  | inr rest ↦ chosen (bytes_eq word (codes "replay")) (bytes_eq word (codes "make")) (bytes_eq word (codes "trial")) (replay_of words) (make_of words) (trial_of words)
-      (end_in_replay words rest) (end_in_make words rest) (end_in_trial words rest)
+  | inr rest ↦
+      chosen (bytes_eq word (codes "replay")) (option_map Replay (rows_said words)) _ (ap (option_map Replay) (end_in_rows words rest))
+      (chosen (bytes_eq word (codes "make")) (make_of words) _ (end_in_make words rest)
+      (chosen (bytes_eq word (codes "trial")) (trial_of words) _ (end_in_trial words rest)
+      (chosen (bytes_eq word (codes "verify")) (option_map Verify (rows_said words)) None (ap (option_map Verify) (end_in_rows words rest)) refl)))
 ]

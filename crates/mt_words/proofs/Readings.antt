@@ -17,11 +17,12 @@ use Rattle.clap.proofs.WalkLemmas.{walk_stopped}
 use Rattle.mt_words.specs.Commands.{command_of}
 use Rattle.mt_words.specs.Grammar.{command_met, grammar, is_end_of_options}
 use Rattle.mt_words.specs.declared.commands.Command.{Command}
+use Rattle.mt_words.specs.declared.commands.Command.TheVariants.{Replay, Verify}
 use Rattle.mt_words.proofs.Agreements.{Agrees, HasNoEnd}
 use Rattle.mt_words.proofs.Positionals.{make_agrees, trial_agrees}
 use Rattle.mt_words.proofs.Refusals.{IsRefused, or_else_none, refused_first}
-use Rattle.mt_words.proofs.Replays.{replay_agrees}
-use Rattle.mt_words.proofs.Shapes.{make_shape, replay_shape, simple, simple_and_free, trial_shape}
+use Rattle.mt_words.proofs.Replays.{rows_agree}
+use Rattle.mt_words.proofs.Shapes.{make_shape, rows_shape, simple, simple_and_free, trial_shape}
 use Rattle.mt_words.proofs.Sorts.{NoShorts, held, is_flags, is_long, is_value, sort_of}
 use Rattle.mt_words.proofs.Walks.{at, fault_from}
 
@@ -58,7 +59,7 @@ AgreesOn words = Agrees (fault_of grammar words) (command_met (subcommand_of gra
 abbrev told : Walk → Option Command
 told w = command_met (entered (built grammar) w.stopped)
 
--- the words after `replay`, `make` and `trial` are left to it
+-- the words after a command's word are left to it
 module _ (words : List Text) where
   after_name : (name : Text) (fault : Kinds) → let above : Walk = walk top.rules names nothing_held (name ∷ words) in above ≡ met name words
       → fault_of grammar (name ∷ words) ≡ or_else (walk_fault top names (met name []) words) (behind above) → behind (met name words) ≡ fault → Agrees fault (told (met name words)) (command_of (name ∷ words))
@@ -69,8 +70,14 @@ module _ (words : List Text) where
   after_replay : HasNoEnd words → AgreesOn (codes "replay" ∷ words)
   unfolding clap_on_literals
   after_replay ends =
-      let fault : Kinds = fault_from replay_shape (at (held [] None) idle 1) words in
-      after_name (codes "replay") fault (sym (walk_stopped top.rules names start (codes "replay") [] words)) refl (or_else_none fault) (replay_agrees words ends)
+      let fault : Kinds = fault_from (rows_shape (codes "replay")) (at (held [] None) idle 1) words in
+      after_name (codes "replay") fault (sym (walk_stopped top.rules names start (codes "replay") [] words)) refl (or_else_none fault) (rows_agree (codes "replay") Replay words ends)
+
+  after_verify : HasNoEnd words → AgreesOn (codes "verify" ∷ words)
+  unfolding clap_on_literals
+  after_verify ends =
+      let fault : Kinds = fault_from (rows_shape (codes "verify")) (at (held [] None) idle 1) words in
+      after_name (codes "verify") fault (sym (walk_stopped top.rules names start (codes "verify") [] words)) refl (or_else_none fault) (rows_agree (codes "verify") Verify words ends)
 
   after_make : HasNoEnd words → AgreesOn (codes "make" ∷ words)
   unfolding clap_on_literals
@@ -106,11 +113,11 @@ stranger word end none = elim (sort_of word end) [
 ]
 
 other : (word : Text) (words : List Text) → is_end_of_options word ≡ false → bytes_eq word (codes "replay") ≡ false → bytes_eq word (codes "make") ≡ false → bytes_eq word (codes "trial") ≡ false
-    → AgreesOn (word ∷ words)
+    → bytes_eq word (codes "verify") ≡ false → AgreesOn (word ∷ words)
 unfolding walk_fault
-other word words end replay make trial =
-    let none : subcommand_met names idle word ≡ None = rw (differs word (codes "replay") replay, differs word (codes "make") make, differs word (codes "trial") trial) refl in
-    inr (refused_first (walk_fault top names start (word ∷ words)) _ (refused_first (turn_fault top names start word) _ (stranger word end none)), rw (replay, make, trial) refl)
+other word words end replay make trial verify =
+    let none : subcommand_met names idle word ≡ None = rw (differs word (codes "replay") replay, differs word (codes "make") make, differs word (codes "trial") trial, differs word (codes "verify") verify) refl in
+    inr (refused_first (walk_fault top names start (word ∷ words)) _ (refused_first (turn_fault top names start word) _ (stranger word end none)), rw (replay, make, trial, verify) refl)
 
 no_words : AgreesOn []
 unfolding clap_on_literals
@@ -118,16 +125,18 @@ no_words = inl (refl, refl)
 
 pub agrees : (words : List Text) → HasNoEnd words → AgreesOn words
 agrees [] ends = no_words
-agrees (word ∷ words) (end, ends) = go (bytes_eq word (codes "replay")) refl (bytes_eq word (codes "make")) refl (bytes_eq word (codes "trial")) refl
+agrees (word ∷ words) (end, ends) = go (bytes_eq word (codes "replay")) refl (bytes_eq word (codes "make")) refl (bytes_eq word (codes "trial")) refl (bytes_eq word (codes "verify")) refl
   where
     at_name : (name : Text) → bytes_eq word name ≡ true → AgreesOn (name ∷ words) → AgreesOn (word ∷ words)
     at_name name same = subst (λ (w : Text). AgreesOn (w ∷ words)) (sym ((bytes_eq-Decides word name).0 same))
 
-    go : (a : Bool) → bytes_eq word (codes "replay") ≡ a → (b : Bool) → bytes_eq word (codes "make") ≡ b → (c : Bool) → bytes_eq word (codes "trial") ≡ c → AgreesOn (word ∷ words)
-    go true is b _ c _ = at_name (codes "replay") is (after_replay words ends)
-    go false _ true is c _ = at_name (codes "make") is (after_make words ends)
-    go false _ false _ true is = at_name (codes "trial") is (after_trial words ends)
-    go false replay false make false trial = other word words end replay make trial
+    go : (a : Bool) → bytes_eq word (codes "replay") ≡ a → (b : Bool) → bytes_eq word (codes "make") ≡ b → (c : Bool) → bytes_eq word (codes "trial") ≡ c
+        → (d : Bool) → bytes_eq word (codes "verify") ≡ d → AgreesOn (word ∷ words)
+    go true is b _ c _ d _ = at_name (codes "replay") is (after_replay words ends)
+    go false _ true is c _ d _ = at_name (codes "make") is (after_make words ends)
+    go false _ false _ true is d _ = at_name (codes "trial") is (after_trial words ends)
+    go false _ false _ false _ true is = at_name (codes "verify") is (after_verify words ends)
+    go false replay false make false trial false verify = other word words end replay make trial verify
 
 no_end : (words : List Text) → list_any is_end_of_options words ≡ false → HasNoEnd words
 no_end [] none = tt

@@ -1,15 +1,16 @@
 -- The subcommands as `clap` builds them.
-use Rattle.std.proofs.Common.{◌≡◌, [], ◌∷◌, refl, true}
+use Rattle.std.proofs.Common.{◌≡◌, [], ◌∷◌, refl, true, codes}
 use Rattle.clap.specs.Faults.{is_simple_and_free}
 use Rattle.clap.specs.Simple.{Shape, built, built_leaf, inherited, is_simple, marked_built, on_top, with_leaf_noted}
-use Rattle.mt_words.specs.Grammar.{grammar, make_app, replay_app, trial_app}
+use Rattle.clap.specs.Words.{Text}
+use Rattle.mt_words.specs.Grammar.{grammar, make_app, rows_app, trial_app}
 use Rattle.mt_words.proofs.Sorts.{NoShorts}
 
 abbrev above : Shape
 above = (on_top with_leaf_noted (on_top marked_built grammar)).top
 
-abbrev pub replay_shape : Shape
-replay_shape = built_leaf (inherited above replay_app.top)
+abbrev pub rows_shape : Text → Shape
+rows_shape verb = built_leaf (inherited above (rows_app verb).top)
 
 abbrev pub make_shape : Shape
 make_shape = built_leaf (inherited above make_app.top)
@@ -17,7 +18,7 @@ make_shape = built_leaf (inherited above make_app.top)
 abbrev pub trial_shape : Shape
 trial_shape = built_leaf (inherited above trial_app.top)
 
-pub subs_are : (built grammar).subs ≡ replay_shape ∷ make_shape ∷ trial_shape ∷ []
+pub subs_are : (built grammar).subs ≡ rows_shape (codes "replay") ∷ make_shape ∷ trial_shape ∷ rows_shape (codes "verify") ∷ []
 subs_are = refl
 
 pub simple : is_simple grammar ≡ true
@@ -26,8 +27,8 @@ simple = refl
 pub simple_and_free : is_simple_and_free grammar ≡ true
 simple_and_free = refl
 
-pub replay_no_shorts : NoShorts replay_shape
-replay_no_shorts x = refl
+pub rows_no_shorts : (verb : Text) → NoShorts (rows_shape verb)
+rows_no_shorts verb x = refl
 
 pub make_no_shorts : NoShorts make_shape
 make_no_shorts x = refl

@@ -5,26 +5,26 @@ use Rattle.std.specs.Str.{bytes_eq}
 use Rattle.mt_base.specs.Width.{most_rows}
 use Rattle.mt_words.specs.Numbers.{fewest_rows, greatest_number, most_lanes, most_steps, number_in}
 use Rattle.mt_words.specs.declared.commands.Command.{Command}
-use Rattle.mt_words.specs.declared.commands.Command.TheVariants.{Make, Replay, Trial}
+use Rattle.mt_words.specs.declared.commands.Command.TheVariants.{Make, Replay, Trial, Verify}
 
--- a run with as many rows as a word says
-abbrev pub with_rows : List ℕ → Option Command
-with_rows word = option_map Replay (number_in fewest_rows most_rows word)
+-- as many rows as a word says
+abbrev pub rows_word : List ℕ → Option ℕ
+rows_word word = number_in fewest_rows most_rows word
 
 -- `--rows=N` in one word
-abbrev pub in_one_word : List ℕ → Option Command
-in_one_word word = if bytes_eq (take 7 word) (codes "--rows=") then with_rows (drop 7 word) else None
+abbrev pub in_one_word : List ℕ → Option ℕ
+in_one_word word = if bytes_eq (take 7 word) (codes "--rows=") then rows_word (drop 7 word) else None
 
 -- `--rows N` in two words
-abbrev pub in_two_words : List ℕ → List ℕ → Option Command
-in_two_words option word = if bytes_eq option (codes "--rows") then with_rows word else None
+abbrev pub in_two_words : List ℕ → List ℕ → Option ℕ
+in_two_words option word = if bytes_eq option (codes "--rows") then rows_word word else None
 
--- `replay`, alone or with a number of rows
-abbrev pub replay_of : List (List ℕ) → Option Command
-replay_of [] = Some (Replay most_rows)
-replay_of (word ∷ []) = in_one_word word
-replay_of (option ∷ word ∷ []) = in_two_words option word
-replay_of (first ∷ second ∷ third ∷ words) = None
+-- the number of rows behind `replay` or `verify`: as many as a tree may have, if no word says another
+abbrev pub rows_said : List (List ℕ) → Option ℕ
+rows_said [] = Some most_rows
+rows_said (word ∷ []) = in_one_word word
+rows_said (option ∷ word ∷ []) = in_two_words option word
+rows_said (first ∷ second ∷ third ∷ words) = None
 
 abbrev pub make_with : List ℕ → List ℕ → List ℕ → Option Command
 make_with number steps lanes = option_and_then (λ n. option_and_then (λ s. option_map (Make n s) (number_in 1 most_lanes lanes))
@@ -46,12 +46,14 @@ trial_of words = None
 -- the command that the words after the program's name are, if they are one
 abbrev pub command_of : List (List ℕ) → Option Command
 command_of [] = None
-command_of (word ∷ words) = if bytes_eq word (codes "replay") then replay_of words
+command_of (word ∷ words) = if bytes_eq word (codes "replay") then option_map Replay (rows_said words)
     else (if bytes_eq word (codes "make") then make_of words
-    else (if bytes_eq word (codes "trial") then trial_of words else None))
+    else (if bytes_eq word (codes "trial") then trial_of words
+    else (if bytes_eq word (codes "verify") then option_map Verify (rows_said words) else None)))
 
 -- the numbers of a command lie within their limits
 abbrev pub IsWithin : Command → Type 0
 IsWithin (Replay rows) = (fewest_rows ≤ rows) × (rows ≤ most_rows)
 IsWithin (Make number steps lanes) = (number ≤ greatest_number) × (1 ≤ steps) × (steps ≤ most_steps) × (1 ≤ lanes) × (lanes ≤ most_lanes)
 IsWithin (Trial number steps) = (number ≤ greatest_number) × (1 ≤ steps) × (steps ≤ most_steps)
+IsWithin (Verify rows) = (fewest_rows ≤ rows) × (rows ≤ most_rows)

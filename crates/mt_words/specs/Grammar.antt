@@ -1,12 +1,12 @@
 -- What `clap` is told of the program's words, and what its answer says.
 -- Source: this project's own, the command line of its program; the crate `clap`.
-use Rattle.std.specs.Prelude.{true, Bool, List, Option, Some, None, codes, if◌then◌else◌, option_and_then}
+use Rattle.std.specs.Prelude.{true, Bool, ℕ, List, Option, Some, None, codes, if◌then◌else◌, option_and_then, option_map}
 use Rattle.std.specs.Str.{bytes_eq}
 use Rattle.clap.specs.Words.{App, Row, Rule, Text, first_of, new_app, new_rule, with_rule, with_subcommand}
 use Rattle.mt_base.specs.Width.{most_rows}
-use Rattle.mt_words.specs.Commands.{make_with, trial_with, with_rows}
+use Rattle.mt_words.specs.Commands.{make_with, rows_word, trial_with}
 use Rattle.mt_words.specs.declared.commands.Command.{Command}
-use Rattle.mt_words.specs.declared.commands.Command.TheVariants.{Replay}
+use Rattle.mt_words.specs.declared.commands.Command.TheVariants.{Replay, Verify}
 
 -- an option with a value
 abbrev pub option_rule : Text → Rule
@@ -16,14 +16,21 @@ option_rule name = record (new_rule name) { long = Some name }
 abbrev pub word_rule : Text → Rule
 word_rule name = record (new_rule name) { required = true }
 
+-- a word, and perhaps a number of rows
+abbrev pub rows_app : Text → App
+rows_app verb = with_rule (new_app verb) (option_rule (codes "rows"))
+
 abbrev pub replay_app : App
-replay_app = with_rule (new_app (codes "replay")) (option_rule (codes "rows"))
+replay_app = rows_app (codes "replay")
 
 abbrev pub make_app : App
 make_app = with_rule (with_rule (with_rule (new_app (codes "make")) (word_rule (codes "number"))) (word_rule (codes "steps"))) (word_rule (codes "lanes"))
 
 abbrev pub trial_app : App
 trial_app = with_rule (with_rule (new_app (codes "trial")) (word_rule (codes "number"))) (word_rule (codes "steps"))
+
+abbrev pub verify_app : App
+verify_app = rows_app (codes "verify")
 
 -- the program's words: no name before them, and no help
 abbrev pub plain_app : App
@@ -32,12 +39,13 @@ plain_app = record (new_app (codes "mtreplay")) {
 }
 
 abbrev pub grammar : App
-grammar = with_subcommand (with_subcommand (with_subcommand plain_app replay_app.top) make_app.top) trial_app.top
+grammar = with_subcommand (with_subcommand (with_subcommand (with_subcommand plain_app replay_app.top) make_app.top) trial_app.top) verify_app.top
 
--- the command that the matches of a subcommand are
-abbrev pub replay_in : List Row → Option Command
-replay_in rows = elim (first_of (codes "rows") rows) as (λ _. Option Command) [ None ↦ Some (Replay most_rows) | Some word ↦ with_rows word ]
+-- the number of rows that the matches of a subcommand say
+abbrev pub rows_in : List Row → Option ℕ
+rows_in rows = elim (first_of (codes "rows") rows) as (λ _. Option ℕ) [ None ↦ Some most_rows | Some word ↦ rows_word word ]
 
+-- the command that they are
 abbrev pub make_in : List Row → Option Command
 make_in rows = option_and_then (λ number. option_and_then (λ steps. option_and_then (λ lanes. make_with number steps lanes) (first_of (codes "lanes") rows))
     (first_of (codes "steps") rows)) (first_of (codes "number") rows)
@@ -46,9 +54,10 @@ abbrev pub trial_in : List Row → Option Command
 trial_in rows = option_and_then (λ number. option_and_then (λ steps. trial_with number steps) (first_of (codes "steps") rows)) (first_of (codes "number") rows)
 
 abbrev pub command_in : Text → List Row → Option Command
-command_in name rows = if bytes_eq name (codes "replay") then replay_in rows
+command_in name rows = if bytes_eq name (codes "replay") then option_map Replay (rows_in rows)
     else (if bytes_eq name (codes "make") then make_in rows
-    else (if bytes_eq name (codes "trial") then trial_in rows else None))
+    else (if bytes_eq name (codes "trial") then trial_in rows
+    else (if bytes_eq name (codes "verify") then option_map Verify (rows_in rows) else None)))
 
 abbrev pub command_met : Option (Text × List Row) → Option Command
 command_met = option_and_then (λ p. command_in p.0 p.1)

@@ -7,4 +7,6 @@ pub enum Command {
     Make { number: u32, steps: u32, lanes: u32 },
     /// Runs such a log of one lane, and writes how often each answer came.
     Trial { number: u32, steps: u32 },
+    /// Judges a transcript of the log before it, with so many rows for each tree.
+    Verify { rows: u64 },
 }

@@ -2,8 +2,8 @@
 
 ghost use Rattle.std.specs.Prelude.{◌≡◌, IfOk, option_map};
 ghost use Rattle.clap.specs.Words.{app_of, first_of, found_of, rows_of, subcommand_rows_of};
-ghost use Rattle.mt_words.specs.Commands.{make_with, trial_with, with_rows};
-ghost use Rattle.mt_words.specs.Grammar.{command_in, command_met, grammar, make_app, make_in, replay_app, replay_in, trial_app, trial_in};
+ghost use Rattle.mt_words.specs.Commands.{make_with, trial_with};
+ghost use Rattle.mt_words.specs.Grammar.{command_in, command_met, grammar, make_app, make_in, rows_app, rows_in, trial_app, trial_in};
 
 use crate::commands::Command;
 use crate::numbers::number_in;
@@ -23,10 +23,11 @@ const MOST_STEPS: u64 = 100_000;
 /// The most lanes of a log that is made.
 const MOST_LANES: u64 = 16;
 
-fn replay_words<'a>(alloc: Global) -> Result<clap::Command<'a>, AllocError>
-    ensures { IfOk result (λ c. app_of c ≡ replay_app) }
+/// A word, and perhaps a number of rows.
+fn rows_words<'a>(alloc: Global, verb: &'a str) -> Result<clap::Command<'a>, AllocError>
+    ensures { IfOk result (λ c. app_of c ≡ rows_app verb.now) }
 {
-    clap::Command::new(alloc, "replay").arg(Arg::new(alloc, "rows").long("rows"))
+    clap::Command::new(alloc, verb).arg(Arg::new(alloc, "rows").long("rows"))
 }
 
 fn make_words<'a>(alloc: Global) -> Result<clap::Command<'a>, AllocError>
@@ -54,9 +55,10 @@ pub fn grammar<'a>(alloc: Global) -> Result<clap::Command<'a>, AllocError>
         .no_binary_name(true)
         .disable_help_flag(true)
         .disable_help_subcommand(true)
-        .subcommand(replay_words(alloc)?)?
+        .subcommand(rows_words(alloc, "replay")?)?
         .subcommand(make_words(alloc)?)?
-        .subcommand(trial_words(alloc)?)
+        .subcommand(trial_words(alloc)?)?
+        .subcommand(rows_words(alloc, "verify")?)
 }
 
 /// The word that was given for this name.
@@ -66,20 +68,28 @@ fn word_of<'a>(matches: &ArgMatches<'a>, name: &str) -> Option<&'a str>
     matches.get_str(name)
 }
 
-fn with_rows(word: &str) -> Option<Command>
-    ensures { result ≡ with_rows word.now }
+/// How many rows the words say, or all that there may be.
+fn rows_in(matches: &ArgMatches) -> Option<u64>
+    ensures { result ≡ rows_in (rows_of (found_of matches.now)) }
 {
-    let rows = number_in(word, FEWEST_ROWS, MOST_ROWS)?;
-    Some(Command::Replay { rows })
+    match word_of(matches, "rows") {
+        Some(word) => number_in(word, FEWEST_ROWS, MOST_ROWS),
+        None => Some(MOST_ROWS),
+    }
 }
 
 fn replay_in(matches: &ArgMatches) -> Option<Command>
-    ensures { result ≡ replay_in (rows_of (found_of matches.now)) }
+    ensures { result ≡ option_map Command.Replay (rows_in (rows_of (found_of matches.now))) }
 {
-    match word_of(matches, "rows") {
-        Some(word) => with_rows(word),
-        None => Some(Command::Replay { rows: MOST_ROWS }),
-    }
+    let rows = rows_in(matches)?;
+    Some(Command::Replay { rows })
+}
+
+fn verify_in(matches: &ArgMatches) -> Option<Command>
+    ensures { result ≡ option_map Command.Verify (rows_in (rows_of (found_of matches.now))) }
+{
+    let rows = rows_in(matches)?;
+    Some(Command::Verify { rows })
 }
 
 fn make_with(number: &str, steps: &str, lanes: &str) -> Option<Command>
@@ -127,6 +137,7 @@ fn command_in(name: &str, matches: &ArgMatches) -> Option<Command>
         "replay" => replay_in(matches),
         "make" => make_in(matches),
         "trial" => trial_in(matches),
+        "verify" => verify_in(matches),
         _ => None,
     }
 }

@@ -8,43 +8,42 @@ use Rattle.mt_io.specs.Faults.{Rose}
 use Rattle.mtreplay.specs.Input.{ReadsAll, ReadFails}
 use Rattle.mtreplay.specs.declared.streams.ReadError.{ReadError}
 use Rattle.mtreplay.specs.declared.streams.ReadError.TheVariants as reads
-use Rattle.mtreplay.specs.declared.streams.TheConstants.{LONGEST}
 
 -- one more piece was read
 pub read_more : (before now after : Option (List ℕ)) (bytes piece longer : List ℕ) → Consumes before now bytes → Consumes now after piece → longer ≡ bytes ++ piece → Consumes before after longer
 read_more before now after bytes piece longer so_far more is = subst (Consumes before after) (sym is) (Consumes-trans before now after bytes piece so_far more)
 
 -- a read of no bytes ended the input
-pub read_all : (before now after : Option (List ℕ)) (bytes : List ℕ) → Consumes before now bytes → Consumes now after [] → IsAtEnd after → length bytes ≤ LONGEST → ReadsAll before after bytes
-read_all before now after bytes so_far none at_end within = record {
+pub read_all : (limit : ℕ) (before now after : Option (List ℕ)) (bytes : List ℕ) → Consumes before now bytes → Consumes now after [] → IsAtEnd after → length bytes ≤ limit → ReadsAll limit before after bytes
+read_all limit before now after bytes so_far none at_end within = record {
   taken = subst (Consumes before after) (append-nil bytes) (Consumes-trans before now after bytes [] so_far none);
   at_end = at_end;
   within = within;
 }
 
 -- a read failed
-pub read_within : (before now after : Option (List ℕ)) (bytes : List ℕ) → Consumes before now bytes → Keeps now after → length bytes ≤ LONGEST → ReadsWithin before after
-read_within before now after bytes so_far kept within = (bytes, Consumes-kept before now after bytes so_far kept, within)
+pub read_within : (limit : ℕ) (before now after : Option (List ℕ)) (bytes : List ℕ) → Consumes before now bytes → Keeps now after → length bytes ≤ limit → ReadsWithin limit before after
+read_within limit before now after bytes so_far kept within = (bytes, Consumes-kept before now after bytes so_far kept, within)
 
-pub read_too_many : (before after : Option (List ℕ)) (bytes : List ℕ) → Consumes before after bytes → length bytes ≡ LONGEST + 1 → ReadsTooMany before after
-read_too_many before after bytes taken long = (bytes, taken, long)
+pub read_too_many : (limit : ℕ) (before after : Option (List ℕ)) (bytes : List ℕ) → Consumes before after bytes → length bytes ≡ limit + 1 → ReadsTooMany limit before after
+read_too_many limit before after bytes taken long = (bytes, taken, long)
 
 -- the error of a failed read
-pub fault_fails : {T : Type 0} (result : Result T ReadError) (left rest : Option (List ℕ)) (before after : ℕ) → IsErrAnd result (λ e. e ≡ reads.Fault) → ReadsWithin left rest → Rose before after → IfErr result (λ e. ReadFails e left rest before after)
-fault_fails (Ok x) left rest before after is within rose = tt
-fault_fails (Err e) left rest before after is within rose = let P : ReadError → Type 0 = λ x. ReadFails x left rest before after in subst P (sym is) (within, rose)
+pub fault_fails : {T : Type 0} (limit : ℕ) (result : Result T ReadError) (left rest : Option (List ℕ)) (before after : ℕ) → IsErrAnd result (λ e. e ≡ reads.Fault) → ReadsWithin limit left rest → Rose before after → IfErr result (λ e. ReadFails limit e left rest before after)
+fault_fails limit (Ok x) left rest before after is within rose = tt
+fault_fails limit (Err e) left rest before after is within rose = let P : ReadError → Type 0 = λ x. ReadFails limit x left rest before after in subst P (sym is) (within, rose)
 
 -- nothing was read
-pub reads_none : (left : Option (List ℕ)) → ReadsNoFurther left left
-reads_none left = ([], Consumes-nil left, omega arith)
+pub reads_none : (limit : ℕ) (left : Option (List ℕ)) → ReadsNoFurther limit left left
+reads_none limit left = ([], Consumes-nil left, omega arith)
 
 -- so many bytes were read and kept, and then as many more as had room
-pub reads_no_further : (before now after : Option (List ℕ)) (bytes piece : List ℕ) → Consumes before now bytes → Consumes now after piece → length bytes + length piece ≤ LONGEST + 1 → ReadsNoFurther before after
-reads_no_further before now after bytes piece so_far more room = (bytes ++ piece, Consumes-trans before now after bytes piece so_far more, omega (arith, length-append bytes piece))
+pub reads_no_further : (limit : ℕ) (before now after : Option (List ℕ)) (bytes piece : List ℕ) → Consumes before now bytes → Consumes now after piece → length bytes + length piece ≤ limit + 1 → ReadsNoFurther limit before after
+reads_no_further limit before now after bytes piece so_far more room = (bytes ++ piece, Consumes-trans before now after bytes piece so_far more, omega (arith, length-append bytes piece))
 
 -- a read failed
-pub fails_no_further : (before now after : Option (List ℕ)) (bytes : List ℕ) → Consumes before now bytes → Keeps now after → length bytes ≤ LONGEST → ReadsNoFurther before after
-fails_no_further before now after bytes so_far kept within = (bytes, Consumes-kept before now after bytes so_far kept, omega arith)
+pub fails_no_further : (limit : ℕ) (before now after : Option (List ℕ)) (bytes : List ℕ) → Consumes before now bytes → Keeps now after → length bytes ≤ limit → ReadsNoFurther limit before after
+fails_no_further limit before now after bytes so_far kept within = (bytes, Consumes-kept before now after bytes so_far kept, omega arith)
 
 pub ruleset reading = (Consumes-nil, read_more, read_all, read_within, read_too_many, reads_none, reads_no_further, fails_no_further)
 

@@ -7,11 +7,13 @@ use Rattle.mt_log.specs.declared.faults.LogError.{LogError}
 use Rattle.mt_log.specs.declared.faults.LogError.TheVariants as logs
 use Rattle.mt_log.specs.declared.lines.Log.{Log}
 use Rattle.mt_words.specs.declared.commands.Command.{Command}
-use Rattle.mt_words.specs.declared.commands.Command.TheVariants.{Replay, Make, Trial}
+use Rattle.mt_words.specs.declared.commands.Command.TheVariants.{Replay, Make, Trial, Verify}
+use Rattle.mtreplay.specs.Command.{limit_of}
 use Rattle.mtreplay.specs.Ending.{ReadsTooMany, ReadsWithin}
 use Rattle.mt_texts.specs.Texts.{IsMadeText, IsTrialText}
-use Rattle.mtreplay.specs.Headline.{IsTextOfRun}
+use Rattle.mtreplay.specs.Headline.{IsOutput}
 use Rattle.mtreplay.specs.Input.{ReadsAll}
+use Rattle.mtreplay.specs.Verdicts.{Refuses}
 use Rattle.mtreplay.specs.declared.failures.Failure.{Failure}
 use Rattle.mtreplay.specs.declared.failures.Failure.TheVariants as failures
 use Rattle.mtreplay.specs.declared.streams.ReadError.{ReadError}
@@ -26,18 +28,30 @@ abbrev pub failure_of_log : LogError → Failure
 failure_of_log (logs.Bad line why) = failures.BadLog line why
 failure_of_log logs.NoMemory = failures.NoMemory
 
--- the whole input was read, and is this log
-abbrev pub ReadsLog : Option (List ℕ) → Option (List ℕ) → Log → Type 0
-ReadsLog left rest log = (bytes : List ℕ) × ReadsAll left rest bytes × (log_of bytes ≡ Ok log)
+-- the whole input was read, no more than an input may have, and is this log
+abbrev pub ReadsLog : ℕ → Option (List ℕ) → Option (List ℕ) → Log → Type 0
+ReadsLog limit left rest log = (bytes : List ℕ) × ReadsAll limit left rest bytes × (log_of bytes ≡ Ok log)
 
--- why no log was read, by what was left of the source and its faults, before and after
-abbrev pub FailsToRead : Failure → Option (List ℕ) → Option (List ℕ) → ℕ → ℕ → Type 0
-FailsToRead (failures.BadLog line why) left rest before after = (bytes : List ℕ) × ReadsAll left rest bytes × (log_of bytes ≡ Err (record { line = line; why = why }))
-FailsToRead failures.Usage left rest before after = ⊥
-FailsToRead failures.ReadFault left rest before after = ReadsWithin left rest × Rose before after
-FailsToRead failures.WriteFault left rest before after = ⊥
-FailsToRead failures.NoMemory left rest before after = Unit {0}
-FailsToRead failures.TooLong left rest before after = ReadsTooMany left rest
+-- the whole input was read, and is refused for this cause, by which bytes are refused for which
+abbrev pub RefusesInput : ℕ → (List ℕ → Failure → Type 0) → Failure → Option (List ℕ) → Option (List ℕ) → Type 0
+RefusesInput limit Refused failure left rest = (bytes : List ℕ) × ReadsAll limit left rest bytes × Refused bytes failure
+
+-- Why nothing was made of an input of so many bytes at the most, by which bytes are refused for which cause, and by what was left
+-- of the source and its faults, before and after.
+abbrev pub FailsToRead : ℕ → (List ℕ → Failure → Type 0) → Failure → Option (List ℕ) → Option (List ℕ) → ℕ → ℕ → Type 0
+FailsToRead limit Refused (failures.BadLog line why) left rest before after = RefusesInput limit Refused (failures.BadLog line why) left rest
+FailsToRead limit Refused (failures.NoTranscript line) left rest before after = RefusesInput limit Refused (failures.NoTranscript line) left rest
+FailsToRead limit Refused failures.Usage left rest before after = ⊥
+FailsToRead limit Refused failures.ReadFault left rest before after = ReadsWithin limit left rest × Rose before after
+FailsToRead limit Refused failures.WriteFault left rest before after = ⊥
+FailsToRead limit Refused failures.NoMemory left rest before after = Unit {0}
+FailsToRead limit Refused failures.TooLong left rest before after = ReadsTooMany limit left rest
+FailsToRead limit Refused failures.Refused left rest before after = RefusesInput limit Refused failures.Refused left rest
+
+-- memory ran out, or the bytes are refused for this cause
+abbrev pub FailsOn : (List ℕ → Failure → Type 0) → List ℕ → Failure → Type 0
+FailsOn Refused bytes failures.NoMemory = Unit {0}
+FailsOn Refused bytes failure = Refused bytes failure
 
 -- what is left of a source and what a sink holds, with their faults
 pub record Streams : Type 0 where
@@ -49,22 +63,24 @@ pub record Streams : Type 0 where
 abbrev pub streams : Option (List ℕ) → ℕ → Option (List ℕ) → ℕ → Streams
 streams left source_faults written sink_faults = record { left = left; source_faults = source_faults; written = written; sink_faults = sink_faults }
 
--- the whole input was read, and the text of a run of its log was written
-abbrev pub Finishes : ℕ → Streams → Streams → Type 0
-Finishes rows old new = (bytes text : List ℕ) × ReadsAll old.left new.left bytes × IsTextOfRun rows bytes text × Appends old.written new.written text
+-- the whole input was read, and what the command prints of it was written
+abbrev pub Finishes : Command → Streams → Streams → Type 0
+Finishes command old new = (bytes text : List ℕ) × ReadsAll (limit_of command) old.left new.left bytes × IsOutput command bytes text × Appends old.written new.written text
 
--- the same, but only the first part of the text was written
-abbrev pub FailsToWrite : ℕ → Streams → Streams → Type 0
-FailsToWrite rows old new = (bytes part rest : List ℕ) × ReadsAll old.left new.left bytes × IsTextOfRun rows bytes (part ++ rest) × Appends old.written new.written part × Rose old.sink_faults new.sink_faults
+-- the same, but only the first part of it was written
+abbrev pub FailsToWrite : Command → Streams → Streams → Type 0
+FailsToWrite command old new =
+    (bytes part rest : List ℕ) × ReadsAll (limit_of command) old.left new.left bytes × IsOutput command bytes (part ++ rest)
+    × Appends old.written new.written part × Rose old.sink_faults new.sink_faults
 
-abbrev pub Fails : ℕ → Failure → Streams → Streams → Type 0
-Fails rows failures.WriteFault old new = FailsToWrite rows old new
-Fails rows failure old new = FailsToRead failure old.left new.left old.source_faults new.source_faults
+abbrev pub Fails : Command → Failure → Streams → Streams → Type 0
+Fails command failures.WriteFault old new = FailsToWrite command old new
+Fails command failure old new = FailsToRead (limit_of command) (Refuses command) failure old.left new.left old.source_faults new.source_faults
 
--- how a run of the log that is read ended
-abbrev pub EndsReplay : ℕ → Result (Unit {0}) Failure → Streams → Streams → Type 0
-EndsReplay rows (Ok done) old new = Finishes rows old new
-EndsReplay rows (Err failure) old new = Fails rows failure old new
+-- how a command ended that reads the source
+abbrev pub EndsReading : Command → Result (Unit {0}) Failure → Streams → Streams → Type 0
+EndsReading command (Ok done) old new = Finishes command old new
+EndsReading command (Err failure) old new = Fails command failure old new
 
 -- how it ended to print a text: whole, or its first part where the sink failed
 abbrev pub EndsPrint : List ℕ → Result (Unit {0}) Failure → Option (List ℕ) → Option (List ℕ) → ℕ → ℕ → Type 0
@@ -81,9 +97,10 @@ EndsMaking IsText (Err failure) before after faults_before faults_after = failur
 
 -- how it ended where the words are this command, or none
 abbrev pub Ends : Option Command → Result (Unit {0}) Failure → Streams → Streams → Type 0
-Ends (Some (Replay rows)) result old new = EndsReplay rows result old new
+Ends (Some (Replay rows)) result old new = EndsReading (Replay rows) result old new
 Ends (Some (Make number steps lanes)) result old new = EndsMaking (IsMadeText number steps lanes) result old.written new.written old.sink_faults new.sink_faults
 Ends (Some (Trial number steps)) result old new = EndsMaking (IsTrialText number steps) result old.written new.written old.sink_faults new.sink_faults
+Ends (Some (Verify rows)) result old new = EndsReading (Verify rows) result old new
 Ends None result old new = (result ≡ Err failures.Usage) ⊎ (result ≡ Err failures.NoMemory)
 
 -- the same, as a fact that tells of which streams it speaks

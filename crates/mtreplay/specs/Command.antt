@@ -1,7 +1,7 @@
--- Which commands read the source.
-use Rattle.std.specs.Prelude.{Bool, true, false, Option, Some, None}
+-- Which commands read the source, and how much of it.
+use Rattle.std.specs.Prelude.{ℕ, Bool, true, false, Option, Some, None}
 use Rattle.mt_words.specs.declared.commands.Command.{Command}
-use Rattle.mt_words.specs.declared.commands.Command.TheVariants.{Replay, Make, Trial}
+use Rattle.mt_words.specs.declared.commands.Command.TheVariants.{Replay, Make, Trial, Verify}
 
 -- the words are a command that reads the source
 abbrev pub reads : Option Command → Bool
@@ -9,3 +9,16 @@ reads None = false
 reads (Some (Replay rows)) = true
 reads (Some (Make number steps lanes)) = false
 reads (Some (Trial number steps)) = false
+reads (Some (Verify rows)) = true
+
+-- the most bytes that the input of a command may have: one that reads nothing has none
+abbrev pub limit_of : Command → ℕ
+limit_of (Replay rows) = 8388608
+limit_of (Make number steps lanes) = 0
+limit_of (Trial number steps) = 0
+limit_of (Verify rows) = 67108864
+
+-- the same of words, which may be no command
+abbrev pub longest : Option Command → ℕ
+longest None = 0
+longest (Some command) = limit_of command

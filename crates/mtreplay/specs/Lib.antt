@@ -3,3 +3,5 @@ pub mod Command
 pub mod Ending
 pub mod Headline
 pub mod Input
+pub mod Parts
+pub mod Verdicts

@@ -1,5 +1,5 @@
-ghost use Rattle.std.specs.Prelude.{◌≡◌, []};
-ghost use Rattle.mtreplay.specs.Ending.{Tells, failure_text};
+ghost use Rattle.std.specs.Prelude.{◌≡◌, ◌≤◌, [], length};
+ghost use Rattle.mtreplay.specs.Ending.{Tells, failure_text, line_text};
 
 use crate::streams::{ReadError, write_output};
 use arrayvec::ArrayString;
@@ -9,13 +9,15 @@ use mt_io::Sink;
 use mt_log::{LogError, Why};
 
 /// Room for the longest line that tells a failure.
-const TEXT_ROOM: usize = 96;
+const TEXT_ROOM: usize = 128;
 
 /// Why nothing, or only a part, was printed.
 #[derive(Clone, Copy, Debug, PartialEq, Eq)]
 pub enum Failure {
     /// The input is no log: its first bad line, and why.
     BadLog { line: u64, why: Why },
+    /// No line of the input is `---`: the number of the line behind all that are ended.
+    NoTranscript { line: u64 },
     /// The words are no command.
     Usage,
     /// The source failed.
@@ -26,6 +28,8 @@ pub enum Failure {
     NoMemory,
     /// The input is longer than an input may be.
     TooLong,
+    /// The text behind the log is that of no transcript of a run of it.
+    Refused,
 }
 
 impl Failure {
@@ -37,12 +41,13 @@ impl Failure {
         ensures { result ≡ status_of self.now }
     {
         match self {
-            Failure::BadLog { .. } => 1,
+            Failure::BadLog { .. } | Failure::NoTranscript { .. } => 1,
             Failure::Usage => 2,
             Failure::ReadFault => 3,
             Failure::WriteFault => 4,
             Failure::NoMemory => 5,
             Failure::TooLong => 6,
+            Failure::Refused => 7,
         }
     }
 
@@ -52,27 +57,31 @@ impl Failure {
     {
         let mut text = ArrayString::new();
         match *self {
-            Failure::BadLog { line, why } => push_bad_log(&mut text, line, why),
+            Failure::BadLog { line, why } => push_line(&mut text, line, why.text()),
+            Failure::NoTranscript { line } => push_line(&mut text, line, "no transcript"),
             Failure::Usage => text.push_str(
-                "mtreplay: usage: replay [--rows N], make NUMBER STEPS LANES, trial NUMBER STEPS\n",
+                "mtreplay: usage: replay [--rows N], make NUMBER STEPS LANES, trial NUMBER STEPS, verify [--rows N]\n",
             ),
             Failure::ReadFault => text.push_str("mtreplay: read fault\n"),
             Failure::WriteFault => text.push_str("mtreplay: write fault\n"),
             Failure::NoMemory => text.push_str("mtreplay: out of memory\n"),
             Failure::TooLong => text.push_str("mtreplay: input too long\n"),
+            Failure::Refused => text.push_str("mtreplay: transcript refused\n"),
         }
         text
     }
 }
 
-fn push_bad_log(text: &mut ArrayString<TEXT_ROOM>, line: u64, why: Why)
-    requires { text.old.bytes ≡ [] }
-    ensures { text.new.bytes ≡ failure_text (Failure.BadLog line why) }
+/// What is wrong with a line of the input, in at most 23 bytes.
+fn push_line(text: &mut ArrayString<TEXT_ROOM>, line: u64, why: &str)
+    requires empty { text.old.bytes ≡ [] }
+    requires short { length why.now ≤ 23 }
+    ensures { text.new.bytes ≡ line_text line why.now }
 {
     text.push_str("mtreplay: line ");
     text.push_str(Buffer::new().format(line));
     text.push_str(": ");
-    text.push_str(why.text());
+    text.push_str(why);
     text.push_str("\n");
 }
 

@@ -1,38 +1,43 @@
-ghost use Rattle.std.specs.Prelude.{◌≡◌, ◌≢◌, ◌⊎◌, ◌<◌, ◌≤◌, ◌^◌, ℕ, List, Some, None, Err, true, false, IsOk, IsErr, IfOk, IfErr, IfSome, OnOk, length, map, string_bytes};
+ghost use Rattle.std.specs.Prelude.{◌≡◌, ◌≢◌, ◌⊎◌, ◌<◌, ◌≤◌, ◌^◌, ℕ, List, Some, None, Err, true, false, IfOk, IfErr, IfSome, OnOk, length, map, string_bytes};
 ghost use Rattle.std.specs.Io.KnownBytes.{IsAtEnd};
 ghost use Rattle.mt_base.specs.Width.{most_rows};
 ghost use Rattle.mt_io.specs.Faults.{Rose};
-ghost use Rattle.mt_log.specs.Reading.{log_of};
 ghost use Rattle.mt_log.specs.Trees.{IsReadable, most_lanes};
 ghost use Rattle.mt_play.specs.Trees.{fewest_rows};
 ghost use Rattle.mt_words.specs.Commands.{command_of};
-ghost use Rattle.mtreplay.specs.Causes.{ReadsLog, FailsToRead, EndsMaking, EndsPrint, EndsReplay, HasEnded, streams};
-ghost use Rattle.mtreplay.specs.Command.{reads};
-ghost use Rattle.mtreplay.specs.Ending.{TellsStatus, status_due, ReadsNoFurther, ReadsTooMany, ReadsWithin};
+ghost use Rattle.mtreplay.specs.Causes.{ReadsLog, FailsOn, FailsToRead, EndsMaking, EndsPrint, EndsReading, HasEnded, streams};
+ghost use Rattle.mtreplay.specs.Command.{limit_of, longest, reads};
+ghost use Rattle.mtreplay.specs.Ending.{ReadsNoFurther, ReadsTooMany, ReadsWithin, status_of};
 ghost use Rattle.mt_texts.specs.Texts.{IsMadeText, IsTrialText};
-ghost use Rattle.mtreplay.specs.Headline.{Writes, WritesPart};
+ghost use Rattle.mtreplay.specs.Headline.{IsVerifiedText, Writes, WritesPart};
+ghost use Rattle.mtreplay.specs.Verdicts.{IsBadLog, IsDue, IsRefused, IsTaken, IsUnverified, TellsStatus};
 
 use crate::failures::{Failure, report};
-use crate::streams::{LONGEST, read_input, write_output};
+use crate::limits::limit_of;
+use crate::parts::{cut, line_behind};
+use crate::streams::{read_input, write_output};
+use crate::verified::verified_text;
 use mt_io::{Gate, Sink, Source};
 use mt_log::{Log, read_log};
 use mt_texts::{answers, made_text, trial_text};
+use mt_verify::{Verdict, calls_of, verify};
 use mt_words::{Command, read_words};
 use std::alloc::Global;
 use std::sync::Wait;
 use std::thread::Threads;
 
-/// Reads a log.
-fn read<S: Source>(alloc: Global, src: &mut S) -> Result<Log, Failure>
-    ensures log { IfOk result (λ log. ReadsLog (S.left src.old) (S.left src.new) log) }
+/// Reads a log of so many bytes at the most.
+fn read<S: Source>(alloc: Global, src: &mut S, limit: usize) -> Result<Log, Failure>
+    requires limit { limit < 2 ^ 32 }
+    ensures log { IfOk result (λ log. ReadsLog limit (S.left src.old) (S.left src.new) log) }
     ensures readable { IfOk result (λ log. IsReadable log.lines) }
-    ensures count { IfOk result (λ log. length log.lines ≤ LONGEST) }
-    ensures fails { IfErr result (λ e. FailsToRead e (S.left src.old) (S.left src.new) (S.faults src.old) (S.faults src.new)) }
+    ensures count { IfOk result (λ log. length log.lines ≤ limit) }
+    ensures fails { IfErr result (λ e. FailsToRead limit IsBadLog e (S.left src.old) (S.left src.new) (S.faults src.old) (S.faults src.new)) }
     ensures quiet { result ≢ Err Failure.ReadFault → S.faults src.new ≡ S.faults src.old }
-    ensures reach { ReadsNoFurther (S.left src.old) (S.left src.new) }
+    ensures reach { ReadsNoFurther limit (S.left src.old) (S.left src.new) }
     ensures in_time { S.faults src.old ≡ 0 → S.late src.old ≡ 0 → S.late src.new ≡ 0 }
 {
-    let bytes = read_input(alloc, src)?;
+    let bytes = read_input(alloc, src, limit)?;
     Ok(read_log(alloc, &bytes)?)
 }
 
@@ -56,18 +61,62 @@ fn replay<R: Threads + Wait + Sync, S: Source, O: Sink, G: Gate + Sync>(
 ) -> Result<(), Failure>
     requires few_rows { fewest_rows ≤ rows }
     requires rows { rows ≤ most_rows }
-    ensures ends { EndsReplay rows result (streams (S.left src.old) (S.faults src.old) (O.written out.old) (O.faults out.old))
+    ensures ends { EndsReading (Command.Replay rows) result (streams (S.left src.old) (S.faults src.old) (O.written out.old) (O.faults out.old))
         (streams (S.left src.new) (S.faults src.new) (O.written out.new) (O.faults out.new)) }
-    ensures reach { ReadsNoFurther (S.left src.old) (S.left src.new) }
+    ensures reach { ReadsNoFurther (limit_of (Command.Replay rows)) (S.left src.old) (S.left src.new) }
     ensures out_kept { IfErr result (λ e. e ≢ Failure.WriteFault → out.new ≡ out.old) }
     ensures src_quiet { result ≢ Err Failure.ReadFault → S.faults src.new ≡ S.faults src.old }
     ensures out_quiet { OnOk result (O.faults out.new ≡ O.faults out.old) }
     ensures src_in_time { S.faults src.old ≡ 0 → S.late src.old ≡ 0 → S.late src.new ≡ 0 }
     ensures out_in_time { O.faults out.old ≡ 0 → O.late out.old ≡ 0 → O.late out.new ≡ 0 }
 {
-    let log = read(alloc, src)?;
+    let log = read(alloc, src, limit_of(&Command::Replay { rows }))?;
     let text = answers(rt, alloc, log, rows, gate)?;
     print(out, &text)
+}
+
+/// Tells how many calls and reads a transcript tells, if the bytes are a log, the line that cuts, and the text of a transcript of
+/// a run of the log over trees of so many rows.
+fn verified(alloc: Global, rows: u64, bytes: &[u8]) -> Result<String, Failure>
+    requires few_rows { fewest_rows ≤ rows }
+    requires rows { rows ≤ most_rows }
+    requires count { length bytes.now < 2 ^ 32 }
+    ensures fine { IfOk result (λ text. IsVerifiedText rows bytes.now (string_bytes text)) }
+    ensures fails { IfErr result (FailsOn (IsUnverified rows) bytes.now) }
+{
+    let Some((front, text)) = cut(bytes) else {
+        let line = line_behind(bytes);
+        return Err(Failure::NoTranscript { line });
+    };
+    let log = read_log(alloc, front)?;
+    match verify(alloc, &log, rows, text)? {
+        Verdict::Yes { points } => Ok(verified_text(alloc, calls_of(&log), points.count())?),
+        Verdict::No => Err(Failure::Refused),
+    }
+}
+
+/// Reads a log and the text of a transcript, and prints how much that tells if it is one of a run of the log over trees of so
+/// many rows.
+fn judge<S: Source, O: Sink>(
+    alloc: Global,
+    rows: u64,
+    src: &mut S,
+    out: &mut O,
+) -> Result<(), Failure>
+    requires few_rows { fewest_rows ≤ rows }
+    requires rows { rows ≤ most_rows }
+    ensures ends { EndsReading (Command.Verify rows) result (streams (S.left src.old) (S.faults src.old) (O.written out.old) (O.faults out.old))
+        (streams (S.left src.new) (S.faults src.new) (O.written out.new) (O.faults out.new)) }
+    ensures reach { ReadsNoFurther (limit_of (Command.Verify rows)) (S.left src.old) (S.left src.new) }
+    ensures out_kept { IfErr result (λ e. e ≢ Failure.WriteFault → out.new ≡ out.old) }
+    ensures src_quiet { result ≢ Err Failure.ReadFault → S.faults src.new ≡ S.faults src.old }
+    ensures out_quiet { OnOk result (O.faults out.new ≡ O.faults out.old) }
+    ensures src_in_time { S.faults src.old ≡ 0 → S.late src.old ≡ 0 → S.late src.new ≡ 0 }
+    ensures out_in_time { O.faults out.old ≡ 0 → O.late out.old ≡ 0 → O.late out.new ≡ 0 }
+{
+    let input = read_input(alloc, src, limit_of(&Command::Verify { rows }))?;
+    let text = verified(alloc, rows, &input)?;
+    print(out, text.as_str().as_bytes())
 }
 
 /// Prints the log that is made of a number.
@@ -123,7 +172,7 @@ fn run<R: Threads + Wait + Sync, S: Source, O: Sink, G: Gate + Sync>(
     ensures ends { HasEnded (command_of (map string_bytes words.now)) result
         (streams (S.left src.old) (S.faults src.old) (O.written out.old) (O.faults out.old))
         (streams (S.left src.new) (S.faults src.new) (O.written out.new) (O.faults out.new)) }
-    ensures reach { ReadsNoFurther (S.left src.old) (S.left src.new) }
+    ensures reach { ReadsNoFurther (longest (command_of (map string_bytes words.now))) (S.left src.old) (S.left src.new) }
     ensures unread { reads (command_of (map string_bytes words.now)) ≡ false → src.new ≡ src.old }
     ensures out_kept { IfErr result (λ e. e ≢ Failure.WriteFault → out.new ≡ out.old) }
     ensures src_quiet { result ≢ Err Failure.ReadFault → S.faults src.new ≡ S.faults src.old }
@@ -141,14 +190,16 @@ fn run<R: Threads + Wait + Sync, S: Source, O: Sink, G: Gate + Sync>(
             },
         ) => make(alloc, number, steps, lanes, out),
         Some(Command::Trial { number, steps }) => trial(rt, alloc, number, steps, out, gate),
+        Some(Command::Verify { rows }) => judge(alloc, rows, src, out),
         None => Err(Failure::Usage),
     }
 }
 
 /// Does what the words after the program's name say, and gives the status to end with.
 ///
-/// 0: done. 1: the input is no log. 2: the words are no command. 3: a fault of reading. 4: a fault of writing.
-/// 5: want of memory. 6: the input is longer than 8,388,608 bytes. At every status but 0 a line on `err` says so.
+/// 0: done. 1: the input is no log, or has no transcript. 2: the words are no command. 3: a fault of reading. 4: a fault of
+/// writing. 5: want of memory. 6: the input is longer than 8,388,608 bytes, or 67,108,864 with a transcript. 7: the transcript is
+/// refused. At every status but 0 a line on `err` says so.
 pub fn mtreplay<R: Threads + Wait + Sync, S: Source, O: Sink, E: Sink, G: Gate + Sync>(
     rt: &R,
     alloc: Global,
@@ -159,28 +210,30 @@ pub fn mtreplay<R: Threads + Wait + Sync, S: Source, O: Sink, E: Sink, G: Gate +
     gate: &G,
 ) -> u8
     // What is printed is what the command prints: the text of a run of the log that was read, the log that is made of a number,
-    // or what a run of that came to.
+    // what a run of that came to, or how much the transcript tells that was read, which is one of a run.
     ensures prints { (command : Command) → command_of (map string_bytes words.now) ≡ Some command → result ≡ 0
         → Writes command (S.left src.old) (O.written out.old) (O.written out.new) }
 
     // Each status has its cause.
-    ensures good_log { reads (command_of (map string_bytes words.now)) ≡ true → result ≡ 0 → IfSome (S.left src.old) (λ bytes. IsOk (log_of bytes)) }
-    ensures bad_log { result ≡ 1 → IfSome (S.left src.old) (λ bytes. IsErr (log_of bytes)) }
+    ensures taken { result ≡ 0 → IsTaken (command_of (map string_bytes words.now)) (S.left src.old) }
+    ensures refused { result ≡ 1 → (failure : Failure) × IsRefused (command_of (map string_bytes words.now)) (S.left src.old) failure × (result ≡ status_of failure) }
     ensures usage { result ≡ 2 → command_of (map string_bytes words.now) ≡ None }
     ensures read_fault { result ≡ 3 → Rose (S.faults src.old) (S.faults src.new) }
     ensures write_fault { result ≡ 4 → Rose (O.faults out.old) (O.faults out.new) }
-    ensures good_log_too { reads (command_of (map string_bytes words.now)) ≡ true → result ≡ 4 → IfSome (S.left src.old) (λ bytes. IsOk (log_of bytes)) }
+    ensures taken_too { result ≡ 4 → IsTaken (command_of (map string_bytes words.now)) (S.left src.old) }
     ensures part { (command : Command) → command_of (map string_bytes words.now) ≡ Some command → result ≡ 4
         → WritesPart command (S.left src.old) (O.written out.old) (O.written out.new) }
-    ensures too_long { result ≡ 6 → ReadsTooMany (S.left src.old) (S.left src.new) }
-    ensures within { result ≤ 6 }
-    ensures of_reading { reads (command_of (map string_bytes words.now)) ≡ false → (result ≢ 1) × (result ≢ 3) × (result ≢ 6) }
+    ensures too_long { result ≡ 6 → ReadsTooMany (longest (command_of (map string_bytes words.now))) (S.left src.old) (S.left src.new) }
+    ensures refused_too { result ≡ 7 → (rows : ℕ) × (command_of (map string_bytes words.now) ≡ Some (Command.Verify rows))
+        × IfSome (S.left src.old) (λ bytes. IsUnverified rows bytes Failure.Refused) }
+    ensures within { result ≤ 7 }
+    ensures of_reading { reads (command_of (map string_bytes words.now)) ≡ false → (result ≢ 1) × (result ≢ 3) × (result ≢ 6) × (result ≢ 7) }
 
     // And it comes where its cause is, unless memory runs out.
     ensures usage_too { command_of (map string_bytes words.now) ≡ None → (result ≡ 2) ⊎ (result ≡ 5) }
-    ensures complete { (bytes : List ℕ) → reads (command_of (map string_bytes words.now)) ≡ true → S.left src.old ≡ Some bytes
-        → ¬ Rose (S.faults src.old) (S.faults src.new) → ¬ Rose (O.faults out.old) (O.faults out.new)
-        → (result ≡ status_due bytes) ⊎ (result ≡ 5) }
+    ensures complete { (command : Command) → command_of (map string_bytes words.now) ≡ Some command → reads (Some command) ≡ true
+        → (bytes : List ℕ) → S.left src.old ≡ Some bytes → ¬ Rose (S.faults src.old) (S.faults src.new) → ¬ Rose (O.faults out.old) (O.faults out.new)
+        → IsDue command bytes result ⊎ (result ≡ 5) }
     ensures complete_too { (command : Command) → command_of (map string_bytes words.now) ≡ Some command → reads (Some command) ≡ false
         → ¬ Rose (O.faults out.old) (O.faults out.new) → (result ≡ 0) ⊎ (result ≡ 5) }
 
@@ -188,17 +241,17 @@ pub fn mtreplay<R: Threads + Wait + Sync, S: Source, O: Sink, E: Sink, G: Gate +
     ensures src_quiet { result ≢ 3 → S.faults src.new ≡ S.faults src.old }
     ensures out_quiet { result ≢ 4 → O.faults out.new ≡ O.faults out.old }
 
-    // The input is read to its end, and no further than an input may reach, and by one command alone.
+    // The input is read to its end, and no further than an input may reach, and by the commands alone that ask for one.
     ensures at_end { reads (command_of (map string_bytes words.now)) ≡ true → result < 2 → IsAtEnd (S.left src.new) }
-    ensures at_end_too { reads (command_of (map string_bytes words.now)) ≡ true → result ≡ 4 → IsAtEnd (S.left src.new) }
-    ensures reach { ReadsNoFurther (S.left src.old) (S.left src.new) }
-    ensures limit { result ≢ 5 → result ≢ 6 → ReadsWithin (S.left src.old) (S.left src.new) }
+    ensures at_end_too { reads (command_of (map string_bytes words.now)) ≡ true → (result ≡ 4) ⊎ (result ≡ 7) → IsAtEnd (S.left src.new) }
+    ensures reach { ReadsNoFurther (longest (command_of (map string_bytes words.now))) (S.left src.old) (S.left src.new) }
+    ensures limit { result ≢ 5 → result ≢ 6 → ReadsWithin (longest (command_of (map string_bytes words.now))) (S.left src.old) (S.left src.new) }
     ensures unread { reads (command_of (map string_bytes words.now)) ≡ false → src.new ≡ src.old }
 
     // Nothing is printed but what the command prints, or its first part, and on `err` the text of the status.
     ensures out_kept { result ≢ 0 → result ≢ 4 → out.new ≡ out.old }
     ensures err_kept { result ≡ 0 → err.new ≡ err.old }
-    ensures told { result ≢ 0 → TellsStatus result (S.left src.old) (E.written err.old) (E.written err.new) (E.faults err.old) (E.faults err.new) }
+    ensures told { result ≢ 0 → TellsStatus (command_of (map string_bytes words.now)) (S.left src.old) result (E.written err.old) (E.written err.new) (E.faults err.old) (E.faults err.new) }
 
     // After a fault no further call is made on that object.
     ensures src_in_time { S.faults src.old ≡ 0 → S.late src.old ≡ 0 → S.late src.new ≡ 0 }

@@ -1,4 +1,4 @@
-ghost use Rattle.std.specs.Prelude.{◌≡◌, vec_len, OnOk, OnErr, IfOk, IfErr};
+ghost use Rattle.std.specs.Prelude.{◌≡◌, ◌<◌, ◌^◌, vec_len, OnOk, OnErr, IfOk, IfErr};
 ghost use Rattle.std.specs.Io.KnownBytes.{Appends};
 ghost use Rattle.mt_io.specs.Faults.{Rose};
 ghost use Rattle.mtreplay.specs.Ending.{ReadsNoFurther, Tells};
@@ -6,9 +6,6 @@ ghost use Rattle.mtreplay.specs.Input.{ReadsAll, ReadFails};
 
 use mt_io::{Failed, Sink, Source};
 use std::alloc::{AllocError, Global};
-
-/// The most bytes that an input may have.
-pub const LONGEST: usize = 8_388_608;
 
 /// How many bytes are read at a call, where so many are left.
 const PIECE: usize = 65_536;
@@ -52,31 +49,32 @@ fn new_buffer(alloc: Global) -> Result<Vec<u8>, AllocError>
     vec![in alloc; 0; PIECE]
 }
 
-/// Reads the input to its end. One byte more than an input may have is the last that is read.
+/// Reads an input of so many bytes at the most to its end. One byte more is the last that is read.
 ///
 /// # Errors
 ///
 /// The source failed, there is a byte too many, or memory ran out. What was read is lost.
 #[tactic(auto, using(crate::proofs::Pieces::reading))]
-pub fn read_input<S: Source>(alloc: Global, src: &mut S) -> Result<Vec<u8>, ReadError>
-    ensures all { IfOk result (λ v. ReadsAll (S.left src.old) (S.left src.new) v.items) }
+pub fn read_input<S: Source>(alloc: Global, src: &mut S, limit: usize) -> Result<Vec<u8>, ReadError>
+    requires limit { limit < 2 ^ 32 }
+    ensures all { IfOk result (λ v. ReadsAll limit (S.left src.old) (S.left src.new) v.items) }
     ensures quiet { OnOk result (S.faults src.new ≡ S.faults src.old) }
-    ensures fails { IfErr result (λ e. ReadFails e (S.left src.old) (S.left src.new) (S.faults src.old) (S.faults src.new)) }
-    ensures reach { ReadsNoFurther (S.left src.old) (S.left src.new) }
+    ensures fails { IfErr result (λ e. ReadFails limit e (S.left src.old) (S.left src.new) (S.faults src.old) (S.faults src.new)) }
+    ensures reach { ReadsNoFurther limit (S.left src.old) (S.left src.new) }
     ensures in_time { S.faults src.old ≡ 0 → S.late src.old ≡ 0 → S.late src.new ≡ 0 }
 {
     let mut storage = new_buffer(alloc)?;
     let buf = storage.as_mut_slice();
     let mut bytes = Vec::new(alloc);
-    for _turn in 0..=LONGEST {
-        let room = buf.len().min(LONGEST + 1 - bytes.len());
+    for _turn in 0..=limit {
+        let room = buf.len().min(limit + 1 - bytes.len());
         let piece = &mut buf[..room];
         let count = src.read(piece)?;
         if count == 0 {
             return Ok(bytes);
         }
         bytes.extend_from_slice(&piece[..count])?;
-        if bytes.len() > LONGEST {
+        if bytes.len() > limit {
             return Err(ReadError::TooLong);
         }
     }

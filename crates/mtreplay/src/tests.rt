@@ -1,12 +1,15 @@
 mod commands;
+mod cuts;
 mod desk;
 mod drawn;
 mod hostile;
+mod judged;
 mod lanes;
 mod narrow;
 mod played;
 mod short;
 mod trees;
+mod versions;
 
 use crate::program::mtreplay;
 use crate::tests::played::listed_text;
@@ -20,7 +23,7 @@ use std::thread::Threads;
 const LOG: &str = "mtlog 1\ntree a range\nstore a 10 19 5\nload a 10\n";
 
 const USAGE: &str =
-    "mtreplay: usage: replay [--rows N], make NUMBER STEPS LANES, trial NUMBER STEPS\n";
+    "mtreplay: usage: replay [--rows N], make NUMBER STEPS LANES, trial NUMBER STEPS, verify [--rows N]\n";
 
 /// The kinds of trees, each with its greatest index.
 const KINDS: [(&str, &str); 4] = [
@@ -130,7 +133,7 @@ const LOGS: [(&str, &str); 20] = [
 /// Bad logs, the room to tell of them, and what is told.
 const BAD_LOGS: [(&str, usize, &str); 14] = [
     ("", 256, "mtreplay: line 1: no header\n"),
-    ("mtlog 2\n", 256, "mtreplay: line 1: no header\n"),
+    ("mtlog 3\n", 256, "mtreplay: line 1: no header\n"),
     ("mtlog 1", 256, "mtreplay: line 1: no newline\n"),
     ("mtlog 1\r\n", 16, "mtreplay: line 1"),
     ("mtlog 1\ntree a heap\n", 0, ""),
@@ -313,15 +316,38 @@ fn a_bad_log_is_told_by_its_line(rt: HostRuntime) -> Result<(), Fail> {
 #[test]
 fn an_input_is_read_no_further_than_one_byte_too_many(rt: HostRuntime) -> Result<(), Fail> {
     let rows = [
-        (8_388_608, 1, 0, "mtreplay: line 1: no newline\n"),
-        (8_388_609, 6, 0, "mtreplay: input too long\n"),
-        (8_388_612, 6, 3, "mtreplay: input too long\n"),
+        (
+            "replay",
+            129,
+            8_388_608,
+            1,
+            0,
+            "mtreplay: line 1: no newline\n",
+        ),
+        ("replay", 129, 8_388_609, 6, 0, "mtreplay: input too long\n"),
+        ("replay", 129, 8_388_612, 6, 3, "mtreplay: input too long\n"),
+        (
+            "verify",
+            1025,
+            67_108_864,
+            1,
+            0,
+            "mtreplay: line 1: no transcript\n",
+        ),
+        (
+            "verify",
+            1025,
+            67_108_865,
+            6,
+            0,
+            "mtreplay: input too long\n",
+        ),
     ];
-    for (len, status, left, told) in rows {
+    for (word, reads, len, status, left, told) in rows {
         let bytes = vec![in rt.alloc(); b'#'; len]?;
-        // 128 reads give 65,536 bytes, and the next one more byte or the end.
-        let mut src = MemSource::new(bytes, usize::MAX, vec![in rt.alloc(); 129]?);
-        let ending = run(&rt, &["replay"], &mut src, 256, 256)?;
+        // All reads but the last give 65,536 bytes, and that one more byte or the end.
+        let mut src = MemSource::new(bytes, usize::MAX, vec![in rt.alloc(); reads]?);
+        let ending = run(&rt, &[word], &mut src, 256, 256)?;
         assert_eq!(rt; ending.status, status, "{len}");
         assert_eq!(rt; ending.err.bytes(), told.as_bytes(), "{len}");
         assert_eq!(rt; src.read(&mut [0; GIVEN]), Err(Failed), "{len}");

@@ -117,7 +117,7 @@ fn expect_unread(rt: &impl Abort, src: &mut MemSource) {
 
 #[test]
 fn words_that_are_no_command_read_nothing(rt: HostRuntime) -> Result<(), Fail> {
-    let rows: [&[&str]; 17] = [
+    let rows: [&[&str]; 20] = [
         &[],
         &["help"],
         &["--help"],
@@ -135,6 +135,9 @@ fn words_that_are_no_command_read_nothing(rt: HostRuntime) -> Result<(), Fail> {
         &["make", "--", "7", "3", "1"],
         &["trial", "2147483648", "3"],
         &["trial", "7", "100001"],
+        &["verify", "x"],
+        &["verify", "--rows", "3"],
+        &["verify", "--rows", "65505"],
     ];
     for words in rows {
         let mut src = source(rt.alloc(), "mtlog 1\ntree a range\n", 0)?;

@@ -72,8 +72,8 @@ fn a_mebibyte_of_stores_is_answered_as_by_a_list(rt: HostRuntime) -> Result<(), 
     expect_listed(&rt, &log, 1 << 21)
 }
 
-/// A tree of each kind.
-const TREES: &str = "mtlog 1\ntree a range\ntree b alloc\ntree c range32\ntree d alloc32\n";
+/// A tree of each kind, in a log that is told what is overwritten and removed.
+const TREES: &str = "mtlog 2\ntree a range\ntree b alloc\ntree c range32\ntree d alloc32\n";
 
 /// So many steps are drawn on these trees.
 const STEPS: u32 = 30_000;

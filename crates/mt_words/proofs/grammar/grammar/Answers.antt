@@ -1,12 +1,13 @@
 use Rattle.std.proofs.Common.{◌∙◌, ap, ap₂, refl}
 use Rattle.clap.specs.Words.{App, with_subcommand}
-use Rattle.mt_words.specs.Grammar.{make_app, replay_app, trial_app}
+use Rattle.mt_words.specs.Grammar.{make_app, replay_app, trial_app, verify_app}
 use Rattle.mt_words.proofs.Building.{local, plain, with_sub}
 use Rattle.mt_words.proofs.grammar.grammar.Goals as goal
 
 pub returns : goal.returns
 returns c =
     let none = plain _ _ _ _ c.new.ensures.app c.no_binary_name.ensures c.disable_help_flag.ensures c.disable_help_subcommand.ensures in
-    let one = c.in_ok-subcommand.ensures.shape (local _ replay_app c.in_ok-replay_words.ensures refl) ∙ ap₂ with_subcommand none (ap (λ (a : App). a.top) c.in_ok-replay_words.ensures) in
+    let one = c.in_ok-subcommand.ensures.shape (local _ replay_app c.in_ok-rows_words.ensures refl) ∙ ap₂ with_subcommand none (ap (λ (a : App). a.top) c.in_ok-rows_words.ensures) in
     let two = c.in_ok-subcommand-2.ensures.shape (local _ make_app c.in_ok-make_words.ensures refl) ∙ ap₂ with_subcommand one (ap (λ (a : App). a.top) c.in_ok-make_words.ensures) in
-    with_sub _ _ _ trial_app c.subcommand-3.result two c.in_ok-trial_words.ensures refl c.subcommand-3.ensures
+    let three = c.in_ok-subcommand-3.ensures.shape (local _ trial_app c.in_ok-trial_words.ensures refl) ∙ ap₂ with_subcommand two (ap (λ (a : App). a.top) c.in_ok-trial_words.ensures) in
+    with_sub _ _ _ verify_app c.subcommand-4.result three c.in_ok-rows_words-2.ensures refl c.subcommand-4.ensures

@@ -1,0 +1,75 @@
+-- What a command says of the bytes that it read: it takes them, or refuses them for a cause; and which status they call for.
+use Rattle.std.specs.Prelude.{◌≡◌, ◌⊎◌, ◌<◌, ◌≤◌, ℕ, List, Option, Some, None, Err, length, IfSome, IsOk}
+use Rattle.mt_log.specs.Fault.{fault_at}
+use Rattle.mt_log.specs.Reading.{log_of}
+use Rattle.mt_log.specs.Run.{TellsRun}
+use Rattle.mt_log.specs.declared.lines.Log.{Log}
+use Rattle.mt_words.specs.declared.commands.Command.{Command}
+use Rattle.mt_words.specs.declared.commands.Command.TheVariants.{Replay, Make, Trial, Verify}
+use Rattle.mtreplay.specs.Command.{limit_of}
+use Rattle.mtreplay.specs.Ending.{Tells, failure_text, status_of}
+use Rattle.mtreplay.specs.Parts.{AreParts, line_behind, parts_of}
+use Rattle.mtreplay.specs.declared.failures.Failure.{Failure}
+use Rattle.mtreplay.specs.declared.failures.Failure.TheVariants as failures
+
+-- the bytes are no log, for this cause
+abbrev pub IsBadLog : List ℕ → Failure → Type 0
+IsBadLog bytes (failures.BadLog line why) = log_of bytes ≡ Err (fault_at line why)
+IsBadLog bytes failure = ⊥
+
+-- the bytes are no log and text of a transcript of a run of it, over trees of so many rows, for this cause
+abbrev pub IsUnverified : ℕ → List ℕ → Failure → Type 0
+IsUnverified rows bytes (failures.NoTranscript line) = (parts_of bytes ≡ None) × (line ≡ line_behind bytes)
+IsUnverified rows bytes (failures.BadLog line why) = (front text : List ℕ) × (parts_of bytes ≡ Some (front, text)) × IsBadLog front (failures.BadLog line why)
+IsUnverified rows bytes failures.Refused = (log : Log) × (text : List ℕ) × AreParts bytes log text × ¬ TellsRun rows log text
+IsUnverified rows bytes failure = ⊥
+
+-- the bytes are what the command asks for: one that reads nothing takes any
+abbrev pub Takes : Command → List ℕ → Type 0
+Takes (Replay rows) bytes = IsOk (log_of bytes)
+Takes (Make number steps lanes) bytes = Unit {0}
+Takes (Trial number steps) bytes = Unit {0}
+Takes (Verify rows) bytes = (log : Log) × (text : List ℕ) × AreParts bytes log text × TellsRun rows log text
+
+-- the command refuses the bytes, for this cause
+abbrev pub Refuses : Command → List ℕ → Failure → Type 0
+Refuses (Replay rows) bytes failure = IsBadLog bytes failure
+Refuses (Make number steps lanes) bytes failure = ⊥
+Refuses (Trial number steps) bytes failure = ⊥
+Refuses (Verify rows) bytes failure = IsUnverified rows bytes failure
+
+-- the status of the command's verdict on its bytes
+abbrev pub IsJudged : Command → List ℕ → ℕ → Type 0
+IsJudged command bytes status = (Takes command bytes × (status ≡ 0)) ⊎ ((failure : Failure) × Refuses command bytes failure × (status ≡ status_of failure))
+
+-- the status that these bytes call for, where nothing fails
+abbrev pub IsDue : Command → List ℕ → ℕ → Type 0
+IsDue command bytes status = ((limit_of command < length bytes) × (status ≡ 6)) ⊎ ((length bytes ≤ limit_of command) × IsJudged command bytes status)
+
+-- ---- where the words are a command, or none, and the source's bytes may be known
+
+-- the words are a command, which takes the bytes that the source has
+abbrev pub IsTaken : Option Command → Option (List ℕ) → Type 0
+IsTaken None left = ⊥
+IsTaken (Some command) left = IfSome left (Takes command)
+
+-- they are one that refuses them, for this cause
+abbrev pub IsRefused : Option Command → Option (List ℕ) → Failure → Type 0
+IsRefused None left failure = ⊥
+IsRefused (Some command) left failure = IfSome left (λ bytes. Refuses command bytes failure)
+
+-- what is told is so: the bytes are refused as the command refuses them
+abbrev pub IsToldOf : Option Command → Option (List ℕ) → Failure → Type 0
+IsToldOf command left (failures.BadLog line why) = IsRefused command left (failures.BadLog line why)
+IsToldOf command left (failures.NoTranscript line) = IsRefused command left (failures.NoTranscript line)
+IsToldOf command left failures.Usage = Unit {0}
+IsToldOf command left failures.ReadFault = Unit {0}
+IsToldOf command left failures.WriteFault = Unit {0}
+IsToldOf command left failures.NoMemory = Unit {0}
+IsToldOf command left failures.TooLong = Unit {0}
+IsToldOf command left failures.Refused = IsRefused command left failures.Refused
+
+-- err got the text of the status
+abbrev pub TellsStatus : Option Command → Option (List ℕ) → ℕ → Option (List ℕ) → Option (List ℕ) → ℕ → ℕ → Type 0
+TellsStatus command left status before after faults_before faults_after =
+    (failure : Failure) × (status_of failure ≡ status) × IsToldOf command left failure × Tells before after faults_before faults_after (failure_text failure)

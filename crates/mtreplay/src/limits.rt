@@ -1,0 +1,15 @@
+ghost use Rattle.std.specs.Prelude.{◌≡◌};
+ghost use Rattle.mtreplay.specs.Command.{limit_of};
+
+use mt_words::Command;
+
+/// The most bytes that the input of a command may have: one that reads nothing has none.
+pub fn limit_of(command: &Command) -> usize
+    ensures { result ≡ limit_of command.now }
+{
+    match command {
+        Command::Replay { .. } => 8_388_608,
+        Command::Verify { .. } => 67_108_864,
+        Command::Make { .. } | Command::Trial { .. } => 0,
+    }
+}
