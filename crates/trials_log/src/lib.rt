@@ -1,10 +1,13 @@
-//! Trials of texts: logs that are read, printed and made, what a run comes to, and the words of commands.
+//! Trials of texts: logs that are read, printed and made, what a text tells of them, what a run comes to, and the words of
+//! commands.
 #![tactic(auto)]
 
 #[cfg(test)]
 mod log;
 #[cfg(test)]
 mod made;
+#[cfg(test)]
+mod told;
 #[cfg(test)]
 mod transcripts;
 #[cfg(test)]

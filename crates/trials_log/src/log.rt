@@ -1,6 +1,8 @@
 mod tables;
 
-use crate::log::tables::{BEHIND_A_STEP, BEHIND_TREES, LOGS, PRINTED, SCANS, TABLES, TREES};
+use crate::log::tables::{
+    BEHIND_A_STEP, BEHIND_TREES, LOGS, PRINTED, PRINTED_SECOND, SCANS, SECOND, TABLES, TREES,
+};
 use mt_log::*;
 use std::alloc::{AllocError, Global};
 use std::process::Abort;
@@ -139,5 +141,6 @@ fn each_line_is_printed_at_its_number(rt: HostRuntime) -> Result<(), Fail> {
     log.push_str("# the end\n")?;
     expect_printed(&rt, alloc, &log, &want)?;
     expect_printed(&rt, alloc, "mtlog 1\n\n#\n", "mtlog 1\n")?;
+    expect_printed(&rt, alloc, SECOND, PRINTED_SECOND)?;
     Ok(())
 }

@@ -48,10 +48,10 @@ const FEW: Shortage = Shortage {
     by: None,
 };
 
-/// One entry of each kind.
-const ENTRIES: [Entry; 13] = [
+/// One entry of each kind at the least.
+const ENTRIES: [Entry; 16] = [
     entry!(3 wrote 1, Reply::Ok),
-    entry!(4 wrote 2, Reply::Was(7)),
+    entry!(4 wrote 2, Reply::Was(range!(3, 12, 7))),
     entry!(5 wrote 3, Reply::None),
     entry!(6 wrote 4, Reply::Exists),
     entry!(7 wrote 5, Reply::Invalid),
@@ -60,12 +60,19 @@ const ENTRIES: [Entry; 13] = [
     entry!(10 wrote 8, Reply::Busy),
     entry!(11 copied 3),
     entry!(12 lawful 0),
+    entry!(13 wrote 9, Reply::Over(18_446_744_073_709_551_615)),
+    entry!(14 wrote 10, Reply::Was(HIGH)),
+    entry!(15 wrote 11, Reply::Over(1)),
     entry!(50 got 1, 2, Answer::None),
     entry!(51 got 2, 2, Answer::Entry(18_446_744_073_709_551_615)),
     entry!(52 got 0, 5, Answer::Range(HIGH)),
 ];
 
-const PRINTED: &str = "3 1 ok
+/// The versions of logs, and what the entries and the trees are printed as in each.
+const PRINTED: [(u32, &str); 2] = [
+    (
+        1,
+        "3 1 ok
 4 2 was 7
 5 3 none
 6 4 exists
@@ -75,6 +82,9 @@ const PRINTED: &str = "3 1 ok
 10 8 busy
 11 copied 3
 12 lawful 0
+13 9 ok
+14 10 was 20
+15 11 ok
 50 1 2 none
 51 2 2 entry 18446744073709551615
 52 0 5 range 10 18446744073709551615 20
@@ -85,7 +95,36 @@ tree a_1 alloc 0
 tree a_1 range32 1
 0 9 1
 tree a_1 alloc32 0
-";
+",
+    ),
+    (
+        2,
+        "3 1 ok
+4 2 was 3 12 7
+5 3 none
+6 4 exists
+7 5 invalid
+8 6 nomem 7 6 4 20
+9 7 start 18446744073709551606
+10 8 busy
+11 copied 3
+12 lawful 0
+13 9 over 18446744073709551615
+14 10 was 10 18446744073709551615 20
+15 11 over 1
+50 1 2 none
+51 2 2 entry 18446744073709551615
+52 0 5 range 10 18446744073709551615 20
+tree a_1 range 2
+0 9 1
+10 18446744073709551615 20
+tree a_1 alloc 0
+tree a_1 range32 1
+0 9 1
+tree a_1 alloc32 0
+",
+    ),
+];
 
 /// A tree of each kind and its ranges, at the end.
 type Lists = &'static [(Kind, &'static [Range])];
@@ -95,7 +134,7 @@ const FIRST: Range = range!(0, 275, 951_723);
 const SECOND: Range = range!(276, 636, 951_723);
 
 /// What three steps were told, the trees at the end, and the line that sums it up.
-const SUMMARIES: [(&[Entry], Lists, &str); 3] = [
+const SUMMARIES: [(&[Entry], Lists, &str); 4] = [
     (
         &[
             entry!(4 wrote 1, Reply::None),
@@ -109,7 +148,7 @@ const SUMMARIES: [(&[Entry], Lists, &str); 3] = [
     (
         &[
             entry!(4 wrote 1, Reply::Ok),
-            entry!(4 wrote 1, Reply::Was(5)),
+            entry!(4 wrote 1, Reply::Was(range!(4, 4, 5))),
             entry!(4 wrote 1, Reply::None),
             entry!(5 got 1, 2, Answer::None),
             entry!(4 wrote 1, Reply::Exists),
@@ -124,6 +163,17 @@ const SUMMARIES: [(&[Entry], Lists, &str); 3] = [
         &[(Kind::Alloc, &[FIRST]), (Kind::Alloc, &[FIRST, SECOND])],
         "trial 3 ok 1 start 0 was 1 none 2 exists 1 invalid 1 busy 1 nomem 1 entry 1 range 1 ranges 3",
     ),
+    // A store is done, whether it overwrote an entry or not.
+    (
+        &[
+            entry!(4 wrote 1, Reply::Over(5)),
+            entry!(5 wrote 2, Reply::Ok),
+            entry!(6 wrote 3, Reply::Over(6)),
+            entry!(7 wrote 4, Reply::Was(FIRST)),
+        ],
+        &[],
+        "trial 3 ok 3 start 0 was 1 none 0 exists 0 invalid 0 busy 0 nomem 0 entry 0 range 0 ranges 0",
+    ),
     (
         &[],
         &[],
@@ -131,7 +181,12 @@ const SUMMARIES: [(&[Entry], Lists, &str); 3] = [
     ),
 ];
 
-fn transcript(alloc: Global, entries: &[Entry], lists: Lists) -> Result<Transcript, AllocError> {
+fn transcript(
+    alloc: Global,
+    version: u32,
+    entries: &[Entry],
+    lists: Lists,
+) -> Result<Transcript, AllocError> {
     let name = Word::new(b"a_1".as_slice()).unwrap();
     let mut listed = Vec::new(alloc);
     for (kind, ranges) in lists {
@@ -142,6 +197,7 @@ fn transcript(alloc: Global, entries: &[Entry], lists: Lists) -> Result<Transcri
         })?;
     }
     Ok(Transcript {
+        version,
         entries: Entries::new(entries.to_vec(alloc)?),
         lists: Listings::new(listed),
     })
@@ -155,16 +211,18 @@ fn a_transcript_is_printed_line_by_line(rt: HostRuntime) -> Result<(), Fail> {
         (Kind::Range32, &[LOW]),
         (Kind::Alloc32, &[]),
     ];
-    let transcript = transcript(rt.alloc(), &ENTRIES, lists)?;
-    let text = render(rt.alloc(), &transcript).ok();
-    assert_eq!(rt; text.expect(&rt, "memory").as_slice(), PRINTED.as_bytes());
+    for (version, want) in PRINTED {
+        let transcript = transcript(rt.alloc(), version, &ENTRIES, lists)?;
+        let text = render(rt.alloc(), &transcript).ok();
+        assert_eq!(rt; text.expect(&rt, "memory").as_slice(), want.as_bytes());
+    }
     Ok(())
 }
 
 #[test]
 fn what_three_steps_were_told_is_summed_up(rt: HostRuntime) -> Result<(), Fail> {
     for (entries, lists, want) in SUMMARIES {
-        let summary = summarise(3, &transcript(rt.alloc(), entries, lists)?);
+        let summary = summarise(3, &transcript(rt.alloc(), 1, entries, lists)?);
         let line = format!(in rt.alloc(); "{summary}")?;
         assert_eq!(rt; line.as_str(), want);
     }

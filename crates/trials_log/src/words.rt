@@ -14,10 +14,13 @@ macro_rules! command {
     (trial $number:expr, $steps:expr) => {
         Command::Trial { number: $number, steps: $steps }
     };
+    (verify $rows:expr) => {
+        Command::Verify { rows: $rows }
+    };
 }
 
 /// Lists of words, with a space between two, and the commands that they are.
-const COMMANDS: [(&str, Command); 11] = [
+const COMMANDS: [(&str, Command); 15] = [
     ("replay", command!(replay 65_504)),
     ("replay --rows 4", command!(replay 4)),
     ("replay --rows=4", command!(replay 4)),
@@ -32,6 +35,10 @@ const COMMANDS: [(&str, Command); 11] = [
     ("make 007 03000 04", command!(make 7, 3_000, 4)),
     ("trial 7 100000", command!(trial 7, 100_000)),
     ("trial 00000000000000000001 1", command!(trial 1, 1)),
+    ("verify", command!(verify 65_504)),
+    ("verify --rows 4", command!(verify 4)),
+    ("verify --rows=65504", command!(verify 65_504)),
+    ("verify --rows=0017", command!(verify 17)),
 ];
 
 /// Lists of words that are no commands.
@@ -93,6 +100,20 @@ trial 7 3 1
 trial 7 -- 3
 trial 7 --steps=3
 make 7  1
+Verify
+verify 4
+verify x
+verify --
+verify --rows
+verify --rows=
+verify --rows 3
+verify --rows=65505
+verify --rows +5
+verify --rows 5 --rows=6
+verify -- --rows 5
+verify --help
+replay verify
+verify replay
 replay --rows ٥";
 
 fn read_row(alloc: Global, row: &str) -> Result<Option<Command>, NoMemory> {

@@ -51,7 +51,7 @@ fn last_pass(tree: &Tree, passes: &mut Vec<Pass>) -> Result<Pass, Fail>
     }
 }
 
-/// A store over a range, which is done as the call of this number.
+/// A store over a range, which is answered so as the call of this number.
 fn store_range<R: Wait + Abort>(
     rt: &R,
     tree: &Tree,
@@ -60,12 +60,12 @@ fn store_range<R: Wait + Abort>(
     last: u64,
     entry: u64,
     call: u64,
+    reply: Reply,
 )
     requires { IsPassOf tree.now pass.old }
     ensures { IsPassOf tree.now pass.new }
 {
     let done = tree.store_range(rt, pass, first, last, entry);
-    let reply = Reply::Ok;
     assert_eq!(rt; done, Ok(Done { call, reply }));
 }
 

@@ -274,13 +274,13 @@ module _ (s : Sheet) (ended : ℕ) (k : Knows s (tree_of (lone 1 0 5) zeros 4108
   live₂ : LiveAreReached s₂.tree s₂.lives
   live₂ = of_rows (λ (r : ℕ). (life_of s.lives r ≡ lives.Live → IsReached first_tree r) × (IsReached first_tree r → life_of s.lives r ≡ lives.Live)) ((λ e. refl), (λ e. k.life_16)) ((λ e. let new = k.life_17 in absurd (cc)), (λ e. absurd (cc)))
 
-  pub may_publish_entry : MayPublish trees.Range s (Slot 16 17) 7 (Store 10 19 7) reply.Ok
-  may_publish_entry = subst (λ (s : Sheet). MayPublish trees.Range s (Slot 16 17) 7 (Store 10 19 7) reply.Ok) (sym k.is)
+  pub may_publish_entry : MayPublish trees.Range s (Slot 16 17) 7 (Store 10 19 7) (reply.Over 5)
+  may_publish_entry = subst (λ (s : Sheet). MayPublish trees.Range s (Slot 16 17) 7 (Store 10 19 7) (reply.Over 5)) (sym k.is)
       (exact.may_publish trees.Range s₂ 0 1 7 leaf (record { first = 10; last = 19; word = 5 }) (subst IsWhole k.is whole) live₂ (none_buried s first_tree ended true false lives.Live lives.New false k refl)
       tt refl first_stands (record { front = []; back = []; stands = refl; holds = refl }) (λ e. absurd (omega arith)) (λ e. absurd (omega arith)) refl refl refl)
 
-  pub knows_entry_published : (s' : Sheet) → Published s s' (Slot 16 17) 7 (Store 10 19 7) reply.Ok → Knows s' second_tree ended true true lives.Live lives.New false
-  knows_entry_published s' = knows_published s first_tree ended true false lives.Live lives.New false k s' (Slot 16 17) 7 (Store 10 19 7) reply.Ok second_tree lives.Live lives.New refl refl refl
+  pub knows_entry_published : (s' : Sheet) → Published s s' (Slot 16 17) 7 (Store 10 19 7) (reply.Over 5) → Knows s' second_tree ended true true lives.Live lives.New false
+  knows_entry_published s' = knows_published s first_tree ended true false lives.Live lives.New false k s' (Slot 16 17) 7 (Store 10 19 7) (reply.Over 5) second_tree lives.Live lives.New refl refl refl
       (ap (λ (b : Bool). if b then lives.Dead (ended + 1) else life_of s.lives 17) k.buried_17 ∙ k.life_17)
 
 -- ---- the leaf is replaced
@@ -355,8 +355,8 @@ drafted_next s s' k whole drafts = (
 pub stored_first : (s s₁ s₂ s₃ : Sheet) → Knows s (tree_of (lone 1 0 5) zeros 0) 0 true false lives.Draft lives.New false → Published s s₁ Root 4108 (Store 10 19 5) reply.Ok → s₂ ≡ finished s₁ (Store 10 19 5) reply.Ok → s₃ ≡ begun s₂ → Knows s₃ first_tree 1 true false lives.Live lives.New false
 stored_first s s₁ s₂ s₃ k done ends begins = next_call s₁ s₂ s₃ first_tree 0 lives.Live lives.New (Store 10 19 5) reply.Ok (knows_first_published s 0 k s₁ done) ends begins
 
-pub stored_entry : (s s₁ s₂ s₃ : Sheet) → Knows s first_tree 1 true false lives.Live lives.New false → IsWhole s → Published s s₁ (Slot 16 17) 7 (Store 10 19 7) reply.Ok → s₂ ≡ finished s₁ (Store 10 19 7) reply.Ok → s₃ ≡ begun s₂ → Knows s₃ second_tree 2 true false lives.Live lives.New false
-stored_entry s s₁ s₂ s₃ k whole done ends begins = next_call s₁ s₂ s₃ second_tree 1 lives.Live lives.New (Store 10 19 7) reply.Ok (knows_entry_published s 1 k whole s₁ done) ends begins
+pub stored_entry : (s s₁ s₂ s₃ : Sheet) → Knows s first_tree 1 true false lives.Live lives.New false → IsWhole s → Published s s₁ (Slot 16 17) 7 (Store 10 19 7) (reply.Over 5) → s₂ ≡ finished s₁ (Store 10 19 7) (reply.Over 5) → s₃ ≡ begun s₂ → Knows s₃ second_tree 2 true false lives.Live lives.New false
+stored_entry s s₁ s₂ s₃ k whole done ends begins = next_call s₁ s₂ s₃ second_tree 1 lives.Live lives.New (Store 10 19 7) (reply.Over 5) (knows_entry_published s 1 k whole s₁ done) ends begins
 
 -- the leaf that was replaced by call 3 may be written again once a scan has found nobody
 pub first_free : (s s₁ s₂ s₃ s₄ : Sheet) (call : Call) (reply : Reply) (scan : Scan) → Knows s buried_tree 2 true false lives.Live lives.Draft true → Published s s₁ Root 4364 call reply → s₂ ≡ finished s₁ call reply → s₃ ≡ loaded s₂

@@ -17,7 +17,7 @@ use std::test::Fail;
 /// An allocation tree: the row 19 with the leaves 18 and 16; the row 17 is unused. Inner rows have a parent word, 9 pivots, 10
 /// slots and 10 gaps, and leaves a parent word, 15 pivots and 16 slots.
 #[rattlefmt::skip]
-const TWO_LEAVES: [u64; 128] = [
+pub const TWO_LEAVES: [u64; 128] = [
     4865,
     12, 13, 14, 15, 16, TOP, 0, 0, 0, 0, 0, 0, 0, 0, 0,
     4096, 8192, 4096, 4096, 4096, 0, 0, 0, 0, 0, 0, 0, 0, 0, 0, 0,
@@ -199,7 +199,7 @@ fn make_copy<L: Ledger>(
 
 /// The words of the first rows, as many of them as there are.
 #[tactic(auto, using(mt_layout::proofs::RowSizes::some_columns))]
-fn first_words(alloc: Global, rows: &mut PlainRows, count: u32) -> Result<Vec<u64>, NoMemory> {
+pub fn first_words(alloc: Global, rows: &mut PlainRows, count: u32) -> Result<Vec<u64>, NoMemory> {
     let mut words = Vec::new(alloc);
     for row in 0..count {
         if u64::from(row) < rows.size() {
@@ -211,18 +211,18 @@ fn first_words(alloc: Global, rows: &mut PlainRows, count: u32) -> Result<Vec<u6
 
 /// A tree's words, its root word, its kind, and how many rows the copy may have; and of the copy the root word and its words,
 /// how many rows of its book are free, live and held, and its height, rows and ranges.
-struct Case {
-    words: &'static [u64],
-    root: u64,
-    kind: Kind,
-    rows: u32,
-    copy: u64,
-    copied: &'static [u64],
-    counts: [u64; 3],
-    form: [u64; 3],
+pub struct Case {
+    pub words: &'static [u64],
+    pub root: u64,
+    pub kind: Kind,
+    pub rows: u32,
+    pub copy: u64,
+    pub copied: &'static [u64],
+    pub counts: [u64; 3],
+    pub form: [u64; 3],
 }
 
-const CASES: [Case; 6] = [
+pub const CASES: [Case; 6] = [
     Case {
         words: &TWO_LEAVES,
         root: 4892,

@@ -1,5 +1,5 @@
-//! Trials of the rows of a tree: their words, the ways through them, and what searches, checks, copies and replaces them;
-//! and of the sorted list beside them.
+//! Trials of the rows of a tree: their words, the ways through them, and what searches, checks, copies and replaces them,
+//! or makes images of them; and of the sorted list beside them.
 #![tactic(auto)]
 
 #[cfg(test)]
@@ -10,6 +10,8 @@ mod book;
 mod checks;
 #[cfg(test)]
 mod copies;
+#[cfg(test)]
+mod images;
 #[cfg(test)]
 mod layout;
 #[cfg(test)]

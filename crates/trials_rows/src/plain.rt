@@ -3,9 +3,9 @@
 mod rooms;
 
 ghost use Rattle.std.specs.Prelude.{◌≡◌, ◌+◌, ◌≤◌, ◌^◌, ◌&&◌, if◌then◌else◌, IfOk, IfSome, max, min, map, filter, nat_lt, nat_le};
-ghost use Rattle.mt_base.specs.declared.calls.Call.TheVariants.{Insert};
+ghost use Rattle.mt_base.specs.declared.calls.Call.TheVariants.{Store, Insert};
 ghost use Rattle.mt_base.specs.declared.replies.Reply.TheVariants as reply;
-ghost use Rattle.mt_base.specs.Call.{acted, found, placed, answer, is_bad_area, is_no_area};
+ghost use Rattle.mt_base.specs.Call.{acted, found, placed, replied, answer, is_bad_area, is_no_area};
 ghost use Rattle.mt_base.specs.Holes.{low, high};
 ghost use Rattle.mt_base.specs.Map.{over, holds, holding, overlaps, is_held, without, parts_below, parts_above, first_range, last_range};
 
@@ -119,6 +119,13 @@ fn found(start: Option<u64>) -> Reply
     start.map_or(Reply::Busy, Reply::Start)
 }
 
+/// What a store is answered that meets this range first, or none.
+fn replied(met: Option<Range>) -> Reply
+    ensures { result ≡ replied met }
+{
+    met.map_or(Reply::Ok, |range| Reply::Over(range.entry))
+}
+
 /// The ranges as they were, and the reply.
 fn unchanged(
     alloc: Global,
@@ -128,6 +135,22 @@ fn unchanged(
     ensures { IfOk result (λ after. (after.0.items ≡ ranges.now) × (after.1 ≡ reply)) }
 {
     Ok((Vec::from_slice(alloc, ranges)?, reply))
+}
+
+/// The ranges after a store, and the reply.
+fn stored(
+    alloc: Global,
+    kind: Kind,
+    ranges: &[Range],
+    stored: Range,
+) -> Result<(Vec<Range>, Reply), AllocError>
+    ensures { IfOk result (λ after. (after.0.items, after.1) ≡ acted kind ranges.now (Store stored.first stored.last stored.entry)) }
+{
+    if is_invalid(kind, stored.first, stored.last, stored.entry) {
+        return unchanged(alloc, ranges, Reply::Invalid);
+    }
+    let met = first_ending_from(alloc, ranges, stored.first, stored.last)?;
+    Ok((over(alloc, ranges, stored)?, replied(met)))
 }
 
 /// The ranges after an insertion, and the reply.
@@ -198,17 +221,13 @@ pub fn acted(
 {
     match *call {
         Call::Store { first, last, entry } | Call::StorePre { first, last, entry } => {
-            if is_invalid(kind, first, last, entry) {
-                return unchanged(alloc, ranges, Reply::Invalid);
-            }
-            let after = over(alloc, ranges, Range { first, last, entry })?;
-            Ok((after, Reply::Ok))
+            stored(alloc, kind, ranges, Range { first, last, entry })
         }
         Call::Insert { first, last, entry } => {
             inserted(alloc, kind, ranges, Range { first, last, entry })
         }
         Call::Erase { index } => match holding(ranges, index) {
-            Some(range) => Ok((without(alloc, ranges, index)?, Reply::Was(range.entry))),
+            Some(range) => Ok((without(alloc, ranges, index)?, Reply::Was(range))),
             None => unchanged(alloc, ranges, Reply::None),
         },
         Call::Alloc {

@@ -185,8 +185,9 @@ fn a_leaf_is_written_and_replaced(rt: HostRuntime) -> Result<(), Fail> {
 
     let exact = store!(10, 19, 7);
     same(&rt, rows.begin(), 2, "the second call");
-    rows.publish(Place::Slot { row: 16, col: 17 }, 7, &exact, &Reply::Ok);
-    rows.finish(&exact, &Reply::Ok);
+    let over = Reply::Over(5);
+    rows.publish(Place::Slot { row: 16, col: 17 }, 7, &exact, &over);
+    rows.finish(&exact, &over);
 
     let more = store!(0, 9, 8);
     same(&rt, rows.begin(), 3, "the third call");

@@ -1,12 +1,13 @@
-ghost use Rattle.std.specs.Prelude.{◌≡◌, ◌≢◌, false, ◌<◌, ◌≤◌, ◌+◌, ◌-◌, ◌^◌, IfOk, length};
+ghost use Rattle.std.specs.Prelude.{◌≡◌, ◌≢◌, false, ◌<◌, ◌≤◌, ◌+◌, ◌-◌, ◌^◌, IfOk, OnOk, length};
+ghost use Rattle.mt_base.specs.declared.calls.Call.TheVariants.{Store};
 ghost use Rattle.mt_base.specs.Entry.{reserved};
-ghost use Rattle.mt_base.specs.Map.{over};
-ghost use Rattle.mt_base.specs.Call.{finds_room};
+ghost use Rattle.mt_base.specs.Call.{acted, finds_room};
 ghost use Rattle.mt_base.specs.Width.{greatest_of, most_taken};
 ghost use Rattle.mt_rows.specs.Memory.{sheet_in};
 ghost use Rattle.mt_rows.specs.Publish.{map_by};
 ghost use Rattle.mt_rows.specs.Sheet.{OnlyReads};
 ghost use Rattle.mt_splice.specs.Between.{IsBetweenCalls};
+ghost use Rattle.trials_rows.specs.Listed.{IsListed};
 
 use crate::asserts::same;
 use crate::small_trees::{TOP, TOP32, push_row};
@@ -53,7 +54,7 @@ fn root_of(rows: &mut PlainRows) -> u64
     rows.root()
 }
 
-/// A whole store as one call: of an entry, or of a hole into a tree that is not empty.
+/// A whole store as one call, which is answered so: of an entry, or of a hole into a tree that is not empty.
 fn store(
     rows: &mut PlainRows,
     book: &mut RowBook,
@@ -61,35 +62,28 @@ fn store(
     first: u64,
     last: u64,
     entry: u64,
+    reply: &Reply,
 ) -> Place
     requires plain { finds_room kind ≡ false }
     requires ready { IsBetweenCalls kind (sheet_in rows.old) book.old }
     requires order { first ≤ last }
     requires top { last ≤ greatest_of kind }
     requires some { (sheet_in rows.old).tree.root ≡ 0 → entry ≢ 0 }
+    requires reply { reply.now ≡ (acted kind (map_by (sheet_in rows.old).tree) (Store first last entry)).1 }
     requires lawful { reserved entry ≡ false }
     requires free { most_taken ≤ length book.old.free }
     requires room { (sheet_in rows.old).ended < 2 ^ 62 - 1 }
     ensures ready { IsBetweenCalls kind (sheet_in rows.new) book.new }
     ensures ended { (sheet_in rows.new).ended ≡ (sheet_in rows.old).ended + 1 }
-    ensures map { map_by (sheet_in rows.new).tree ≡ over (map_by (sheet_in rows.old).tree) first last entry }
+    ensures map { map_by (sheet_in rows.new).tree ≡ (acted kind (map_by (sheet_in rows.old).tree) (Store first last entry)).0 }
 {
     let call = Call::Store { first, last, entry };
     let number = rows.begin();
     let left = walk(rows, first);
     let spliced = replace_range(
-        rows,
-        book,
-        kind,
-        &left,
-        first,
-        last,
-        entry,
-        number,
-        &call,
-        &Reply::Ok,
+        rows, book, kind, &left, first, last, entry, number, &call, reply,
     );
-    rows.finish(&call, &Reply::Ok);
+    rows.finish(&call, reply);
     spliced.place
 }
 
@@ -133,6 +127,7 @@ impl Tree {
     fn new(alloc: Global, kind: Kind) -> Result<Tree, NoMemory>
         ensures ready { IfOk result (λ t. IsBetweenCalls kind (sheet_in t.rows) t.book) }
         ensures ended { IfOk result (λ t. (sheet_in t.rows).ended ≡ 0) }
+        ensures list { IfOk result (λ t. IsListed kind t.list (sheet_in t.rows).tree) }
     {
         let rows = PlainRows::of_width(alloc, width_of(kind), ROWS)?;
         let book = RowBook::new(alloc, ROWS)?;
@@ -140,13 +135,16 @@ impl Tree {
         Ok(Tree { rows, book, list })
     }
 
-    /// Stores into the nodes.
-    fn store_in_nodes(&mut self, rt: &impl Abort, kind: Kind, range: Range) -> Place
+    /// Stores into the nodes, which is answered so.
+    fn store_in_nodes(&mut self, rt: &impl Abort, kind: Kind, range: Range, reply: &Reply) -> Place
         requires plain { finds_room kind ≡ false }
         requires ready { IsBetweenCalls kind (sheet_in self.old.rows) self.old.book }
         requires room { (sheet_in self.old.rows).ended < 2 ^ 62 - 1 }
+        requires reply { reply.now ≡ (acted kind (map_by (sheet_in self.old.rows).tree) (Store range.first range.last range.entry)).1 }
         ensures ready { IsBetweenCalls kind (sheet_in self.new.rows) self.new.book }
         ensures ended { (sheet_in self.new.rows).ended ≡ (sheet_in self.old.rows).ended + 1 }
+        ensures map { map_by (sheet_in self.new.rows).tree ≡ (acted kind (map_by (sheet_in self.old.rows).tree) (Store range.first range.last range.entry)).0 }
+        ensures list { self.new.list ≡ self.old.list }
     {
         let Range { first, last, entry } = range;
         let root = root_of(&mut self.rows);
@@ -154,13 +152,15 @@ impl Tree {
         assert!(rt; !is_reserved(entry));
         assert!(rt; root != 0 || entry != 0);
         assert!(rt; self.book.free() >= MOST_TAKEN as u64);
-        store(&mut self.rows, &mut self.book, kind, first, last, entry)
+        let (rows, book) = (&mut self.rows, &mut self.book);
+        store(rows, book, kind, first, last, entry, reply)
     }
 
     /// By the plain program the nodes stand for the ranges of the list, and as many rows are reached as are live.
     fn expect_same(&mut self, rt: &impl Abort, alloc: Global, last: Range) -> Result<(), NoMemory>
         ensures rows { OnlyReads (sheet_in self.old.rows) (sheet_in self.new.rows) }
         ensures book { self.new.book ≡ self.old.book }
+        ensures list { self.new.list ≡ self.old.list }
     {
         let root = root_of(&mut self.rows);
         let words = words_of(&mut self.rows, alloc)?;
@@ -176,7 +176,7 @@ impl Tree {
         Ok(())
     }
 
-    /// Stores into the nodes and into the list, which then are the same.
+    /// Stores into the list and into the nodes, which is answered as by the list. Then they are the same.
     fn store(
         &mut self,
         rt: &impl Abort,
@@ -187,12 +187,14 @@ impl Tree {
         requires plain { finds_room kind ≡ false }
         requires ready { IsBetweenCalls kind (sheet_in self.old.rows) self.old.book }
         requires room { (sheet_in self.old.rows).ended < 2 ^ 62 - 1 }
-        ensures ready { IsBetweenCalls kind (sheet_in self.new.rows) self.new.book }
-        ensures ended { (sheet_in self.new.rows).ended ≡ (sheet_in self.old.rows).ended + 1 }
+        requires list { IsListed kind self.old.list (sheet_in self.old.rows).tree }
+        ensures ready { OnOk result (IsBetweenCalls kind (sheet_in self.new.rows) self.new.book) }
+        ensures ended { OnOk result ((sheet_in self.new.rows).ended ≡ (sheet_in self.old.rows).ended + 1) }
+        ensures list { OnOk result (IsListed kind self.new.list (sheet_in self.new.rows).tree) }
     {
-        let place = self.store_in_nodes(rt, kind, range);
         let Range { first, last, entry } = range;
-        self.list.act(&Call::Store { first, last, entry })?;
+        let reply = self.list.act(&Call::Store { first, last, entry })?;
+        let place = self.store_in_nodes(rt, kind, range, &reply);
         self.expect_same(rt, alloc, range)?;
         Ok(place)
     }
@@ -223,8 +225,10 @@ impl Tree {
         requires plain { finds_room kind ≡ false }
         requires ready { IsBetweenCalls kind (sheet_in self.old.rows) self.old.book }
         requires room { (sheet_in self.old.rows).ended + length ranges.now < 2 ^ 62 }
-        ensures ready { IsBetweenCalls kind (sheet_in self.new.rows) self.new.book }
-        ensures ended { (sheet_in self.new.rows).ended ≤ (sheet_in self.old.rows).ended + length ranges.now }
+        requires list { IsListed kind self.old.list (sheet_in self.old.rows).tree }
+        ensures ready { OnOk result (IsBetweenCalls kind (sheet_in self.new.rows) self.new.book) }
+        ensures ended { OnOk result ((sheet_in self.new.rows).ended ≤ (sheet_in self.old.rows).ended + length ranges.now) }
+        ensures list { OnOk result (IsListed kind self.new.list (sheet_in self.new.rows).tree) }
     {
         for range in ranges {
             self.store(rt, alloc, kind, *range)?;
@@ -253,6 +257,7 @@ impl Tree {
         requires plain { finds_room kind ≡ false }
         requires ready { IsBetweenCalls kind (sheet_in self.old.rows) self.old.book }
         requires room { (sheet_in self.old.rows).ended < 2 ^ 62 - 1 }
+        requires list { IsListed kind self.old.list (sheet_in self.old.rows).tree }
     {
         let (free, held) = (self.book.free(), self.book.held());
         let place = self.store(rt, alloc, kind, range)?;

@@ -8,6 +8,8 @@ mod errors;
 #[cfg(test)]
 mod example;
 #[cfg(test)]
+mod images;
+#[cfg(test)]
 mod pen;
 #[cfg(test)]
 mod rule;

@@ -16,7 +16,7 @@ use std::test::Fail;
 use std::thread::{Threads, join};
 
 /// A shape of a tree of this kind.
-fn shape_of(kind: Kind, rows: u64, passes: u32, calls: u64) -> Shape {
+pub fn shape_of(kind: Kind, rows: u64, passes: u32, calls: u64) -> Shape {
     Shape {
         kind,
         rows,
@@ -34,7 +34,7 @@ fn refused(alloc: Global, shape: Shape) -> Option<MakeError> {
 }
 
 /// A tree and its passes.
-fn made(alloc: Global, shape: Shape) -> Result<(Tree, Vec<Pass>), Fail>
+pub fn made(alloc: Global, shape: Shape) -> Result<(Tree, Vec<Pass>), Fail>
     ensures { IfOk result (λ r. AreAll r.0 r.1.items) }
 {
     match Tree::make(alloc, shape) {
@@ -44,7 +44,7 @@ fn made(alloc: Global, shape: Shape) -> Result<(Tree, Vec<Pass>), Fail>
 }
 
 /// The last pass that is left.
-fn last_pass(tree: &Tree, passes: &mut Vec<Pass>) -> Result<Pass, Fail>
+pub fn last_pass(tree: &Tree, passes: &mut Vec<Pass>) -> Result<Pass, Fail>
     requires { All (IsPassOf tree.now) passes.old.items }
     ensures rest { All (IsPassOf tree.now) passes.new.items }
     ensures pass { IfOk result (IsPassOf tree.now) }
@@ -56,7 +56,12 @@ fn last_pass(tree: &Tree, passes: &mut Vec<Pass>) -> Result<Pass, Fail>
 }
 
 /// The ranges of a tree.
-fn listed(rt: &impl Wait, alloc: Global, tree: &Tree, pass: &mut Pass) -> Result<Vec<Range>, Fail>
+pub fn listed(
+    rt: &impl Wait,
+    alloc: Global,
+    tree: &Tree,
+    pass: &mut Pass,
+) -> Result<Vec<Range>, Fail>
     requires { IsPassOf tree.now pass.old }
     ensures { IsPassOf tree.now pass.new }
 {
@@ -256,7 +261,7 @@ fn a_narrow_tree_ends_at_its_greatest_index(rt: HostRuntime) -> Result<(), Fail>
 }
 
 /// Stores an entry at each even index below 200.
-fn fill(rt: &impl Wait, tree: &Tree, pass: &mut Pass)
+pub fn fill(rt: &impl Wait, tree: &Tree, pass: &mut Pass)
     requires { IsPassOf tree.now pass.old }
     ensures { IsPassOf tree.now pass.new }
 {
@@ -310,10 +315,10 @@ fn copied(
 /// A kind of trees, another kind, and how many rows a tree of the first has at the least that has an entry at each even index
 /// below 200: a leaf has 16 items at the most, or 32, and one hole lies between two ranges.
 #[derive(Clone, Copy)]
-struct Filled {
-    kind: Kind,
-    other: Kind,
-    least: u64,
+pub struct Filled {
+    pub kind: Kind,
+    pub other: Kind,
+    pub least: u64,
 }
 
 macro_rules! filled {
@@ -322,7 +327,7 @@ macro_rules! filled {
     };
 }
 
-const FILLED: &[Filled] = filled![
+pub const FILLED: &[Filled] = filled![
     Range Alloc 14, Alloc Alloc32 14, Range32 Range 8, Alloc32 Range32 8
 ];
 
@@ -437,7 +442,9 @@ fn two_threads_write_one_tree(rt: HostRuntime) -> Result<(), Fail> {
     let note = tree.note(&mut one);
     tree.learn(&mut two, note);
     let erased = tree.erase(&rt, &mut two, 5);
-    same(&rt, erased, done(3, Reply::Was(7)), "the erase");
+    let (first, last, entry) = (5, 5, 7);
+    let was = Range { first, last, entry };
+    same(&rt, erased, done(3, Reply::Was(was)), "the erase");
     let cleared = tree.clear(&rt, &mut one);
     same(&rt, cleared, Err(Worn { calls: 3 }), "the clear");
     expect_one_range(&rt, rt.alloc(), &tree, &mut one, 7)

@@ -53,7 +53,7 @@ fn expect_ready(
 const STORES: &[(u64, u64, u64, Reply)] = &[
     (10, 10, 5, Reply::Ok),
     (5, 4, 1, Reply::Invalid),
-    (10, 10, 7, Reply::Ok),
+    (10, 10, 7, Reply::Over(5)),
 ];
 
 #[test]
@@ -96,7 +96,7 @@ const FEW: Shortage = Shortage {
 const UNREADY: &[(Call, Reply)] = &[
     (call!(store 10, 10, 5), Reply::Ok),
     (call!(store 20, 20, 7), Reply::NoNodes(FEW)),
-    (call!(store 10, 10, 4), Reply::Ok),
+    (call!(store 10, 10, 4), Reply::Over(5)),
     (call!(store_pre 10, 10, 8), Reply::NoNodes(FEW)),
     (call!(store_pre 30, TOP, 0), Reply::NoNodes(FEW)),
     (call!(erase 10), Reply::NoNodes(FEW)),

@@ -8,7 +8,7 @@ use crate::tests::shapes::{
     Case, FILLING, NARROW, NARROW_FILLING, NARROW_SPLIT, SPLIT, Shape, TRIALS, WIDE,
 };
 use crate::tests::{fresh_of, same, stores};
-use mt_base::{Call, DEEPEST, FIRST_ROW, Kind, NoMemory, Reply, Width, cols, top};
+use mt_base::{Call, DEEPEST, FIRST_ROW, Kind, NoMemory, Width, cols, errno, top};
 use mt_engine::Engine;
 use mt_layout::{RowKind, Span, kind_of, row_of, slots};
 use mt_list::{ListMap, Ranges};
@@ -92,8 +92,9 @@ fn played(
     let mut engine = fresh_of(alloc, kind, ROWS)?;
     let mut list = ListMap::new(alloc, kind);
     for call in calls {
-        same(rt, engine.apply(call), Reply::Ok, *call);
-        same(rt, list.act(call)?, Reply::Ok, *call);
+        let reply = engine.apply(call);
+        same(rt, errno(&reply), None, *call);
+        same(rt, list.act(call)?, reply, *call);
     }
     Ok((engine, list))
 }

@@ -39,7 +39,7 @@ macro_rules! few_rows {
             calls: &[
                 (call!(store 10, 10, 5), Reply::Ok),
                 (call!(store 20, 20, 7), Reply::NoNodes(FEW)),
-                (call!(store 10, 10, 9), Reply::Ok),
+                (call!(store 10, 10, 9), Reply::Over(5)),
                 (call!(store_pre 10, 10, 8), Reply::NoNodes(FEW)),
                 (call!(store_pre 12, 11, 8), Reply::Invalid),
                 (call!(insert 10, 12, 9), Reply::Exists),
@@ -60,9 +60,37 @@ macro_rules! at_hand {
             calls: &[
                 (call!(store_pre 10, 10, 5), Reply::Ok),
                 (call!(store_pre 5, 4, 1), Reply::Invalid),
-                (call!(store_pre 10, 10, 7), Reply::Ok),
+                (call!(store_pre 10, 10, 7), Reply::Over(5)),
             ],
             ranges: &[range!(10, 10, 7)],
+        }
+    };
+}
+
+/// A store tells the entry of the first range that it meets, from a hole or from within a range, and an erase the whole range.
+macro_rules! what_was_there {
+    ($kind:expr, $last:expr) => {
+        Story {
+            kind: $kind,
+            rows: 400,
+            calls: &[
+                (call!(store 10, 19, 5), Reply::Ok),
+                (call!(store 30, 39, 7), Reply::Ok),
+                (call!(store 20, 29, 0), Reply::Ok),
+                (call!(store 0, 9, 0), Reply::Ok),
+                (call!(store 40, $last, 0), Reply::Ok),
+                (call!(store 5, 34, 9), Reply::Over(5)),
+                (call!(store 5, 34, 11), Reply::Over(9)),
+                (call!(store 20, 20, 0), Reply::Over(11)),
+                (call!(store 20, 36, 13), Reply::Over(11)),
+                (call!(store_pre 37, $last, 0), Reply::Over(7)),
+                (call!(store 20, $last, 15), Reply::Over(13)),
+                (call!(erase 19), Reply::Was(range!(5, 19, 11))),
+                (call!(store_pre 0, $last, 0), Reply::Over(15)),
+                (call!(store_pre 0, $last, 0), Reply::Ok),
+                (call!(store 3, 3, 17), Reply::Ok),
+            ],
+            ranges: &[range!(3, 3, 17)],
         }
     };
 }
@@ -107,9 +135,9 @@ macro_rules! room_below {
                 (call!(gap 1, 0, $last), Reply::Start(0)),
                 (call!(store 10, $last, 1), Reply::Ok),
                 (call!(rgap 1, 0, $last), Reply::Start(9)),
-                (call!(store 0, $last, 7), Reply::Ok),
+                (call!(store 0, $last, 7), Reply::Over(1)),
                 (call!(gap 1, 0, $last), Reply::Busy),
-                (call!(erase 3), Reply::Was(7)),
+                (call!(erase 3), Reply::Was(range!(0, $last, 7))),
                 (call!(gap 1, 0, $last), Reply::Start(0)),
                 (call!(store 5, 9, 1), Reply::Ok),
                 (Call::Clear, Reply::Ok),
@@ -168,7 +196,7 @@ macro_rules! few_rows_for_areas {
                 (call!(alloc 1, 10, 10), Reply::Busy),
                 (call!(alloc 2, 10, 10), Reply::Invalid),
                 (call!(gap 1, 10, 20), Reply::Start(11)),
-                (call!(store 10, 10, 4), Reply::Ok),
+                (call!(store 10, 10, 4), Reply::Over(1)),
                 (call!(store_pre 10, 10, 8), Reply::NoNodes(FEW)),
                 (call!(erase 10), Reply::NoNodes(FEW)),
                 (Call::Clear, Reply::Ok),
@@ -199,6 +227,8 @@ pub const STORIES: &[Story] = &[
     few_rows!(Kind::Range32),
     at_hand!(Kind::Range),
     at_hand!(Kind::Range32),
+    what_was_there!(Kind::Range, TOP),
+    what_was_there!(Kind::Alloc32, TOP32),
     room_between!(Kind::Alloc, TOP),
     room_between!(Kind::Alloc32, TOP32),
     room_below!(Kind::Alloc, TOP),
@@ -240,7 +270,7 @@ pub const WATCHED: Story = Story {
         (call!(store 50, 50, 5), Reply::Ok),
         (call!(store 60, 60, 5), Reply::NoNodes(HELD)),
         (call!(erase 30), Reply::NoNodes(HELD)),
-        (call!(store 30, 30, 9), Reply::Ok),
+        (call!(store 30, 30, 9), Reply::Over(5)),
         (call!(store 60, 69, 0), Reply::Ok),
         (Call::Clear, Reply::Ok),
         (call!(store 60, 60, 5), Reply::Ok),
@@ -251,6 +281,8 @@ pub const WATCHED: Story = Story {
 /// Replies, and the kernel's error of each, if it is one.
 pub const NUMBERS: &[(Reply, Option<u32>)] = &[
     (Reply::Ok, None),
+    (Reply::Over(5), None),
+    (Reply::Was(range!(0, 9, 5)), None),
     (Reply::NoNodes(FEW), Some(12)),
     (Reply::Busy, Some(16)),
     (Reply::Exists, Some(17)),

@@ -115,20 +115,35 @@ check a
 
 /// Tables: each row is what stands in a log between the text before the table and the text behind it, and behind an arrow the
 /// last line of what the log then says.
-pub const TABLES: [(&str, &str, &str); 17] = [
+pub const TABLES: [(&str, &str, &str); 19] = [
     // Each test of a line refuses it.
     (
         "",
         " -> 1 no header
-mtlog 1 -> 1 no newline",
+mtlog 1 -> 1 no newline
+mtlog 2 -> 1 no newline
+mtlog 3 -> 1 no newline",
         "",
     ),
     (
         "",
         " -> 1 no header
-mtlog 2 -> 1 no header
+mtlog 0 -> 1 no header
+mtlog 3 -> 1 no header
+mtlog 02 -> 1 no header
+mtlog 12 -> 1 no header
+mtlog 0x2 -> 1 no header
+mtlog 2\t -> 1 no header
+mtlog 2  -> 1 no header
+mtlog  2 -> 1 no header
+ mtlog 2 -> 1 no header
+Mtlog 2 -> 1 no header
+mtlog2 -> 1 no header
+mtlog -> 1 no header
+mtlog  -> 1 no header
 mtlog 1  -> 1 no header
-mtlog 1\r -> 1 no header",
+mtlog 1\r -> 1 no header
+mtlog 2\r -> 1 no header",
         "\n",
     ),
     (
@@ -177,6 +192,16 @@ check a -> 4 not between phases",
         "",
     ),
     ("#\n", "mtlog 1 -> 1 no header", "\n"),
+    ("mtlog 2\n", "mtlog 2 -> 2 unknown word", "\n"),
+    // A log of the second version is read as one of the first.
+    (
+        "mtlog 2\ntree a range\n",
+        "store a 0 9 5 -> 3: tree 0, Store { first: 0, last: 9, entry: 5 }
+erase a 9 -> 3: tree 0, Erase { index: 9 }
+load b 1 -> 3 unknown tree
+join  -> 3 wrong number of fields",
+        "\n",
+    ),
     ("mtlog 1\n\n", "# -> 3 no newline", ""),
     // A line is refused by its first failed test.
     (
@@ -446,3 +471,20 @@ store n 0 max max -> store n 0 4294967295 18446744073709551615
 ralloc m max 0 max 5 -> ralloc m 18446744073709551615 0 4294967295 5
 load n 0x100000000 -> load n 4294967296
 prev b max max -> prev b 18446744073709551615 18446744073709551615";
+
+/// A log of the second version, and what is printed of it.
+pub const SECOND: &str = "mtlog 2
+
+tree a range
+# a range
+store a 0x0 9 5
+erase a 010
+";
+
+pub const PRINTED_SECOND: &str = "mtlog 2
+
+tree a range
+
+store a 0 9 5
+erase a 10
+";

@@ -79,11 +79,11 @@ fn change_the_entry<R: Wait + Abort>(rt: &R, tree: &Tree, writer: &mut Pass, sto
     requires { IsPassOf tree.now writer.old }
 {
     if store_first {
-        store_range(rt, tree, writer, 10, 10, 7, 7);
+        store_range(rt, tree, writer, 10, 10, 7, 7, Reply::Over(5));
     }
     assert_eq!(rt; prepared(rt, tree, writer), Err(held_by(1, 1)));
     if !store_first {
-        store_range(rt, tree, writer, 10, 10, 7, 7);
+        store_range(rt, tree, writer, 10, 10, 7, 7, Reply::Over(5));
     }
 }
 
@@ -112,7 +112,7 @@ fn hold<R: Wait + Abort, L: Ledger>(
     requires passes { IsPassOf tree.now writer.old × IsPassOf tree.now reader.old }
 {
     let mut steps = Steps::<L>::new(blank);
-    store_range(rt, tree, writer, 10, 10, 5, 1);
+    store_range(rt, tree, writer, 10, 10, 5, 1, Reply::Ok);
     if held == Held::Dropped {
         drop_the_cursor(rt, tree, writer, reader, &mut steps);
         return;

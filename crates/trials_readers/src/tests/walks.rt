@@ -4,7 +4,7 @@ ghost use Rattle.std.specs.Prelude.{◌≡◌, ◌<◌};
 ghost use Rattle.mt_tree.specs.Trees.{IsPassOf};
 
 use crate::tests::{KINDS, last_pass, made, read, store_range};
-use mt_base::{Kind, Steps};
+use mt_base::{Kind, Reply, Steps};
 use mt_tree::{Pass, Tree};
 use std::alloc::Global;
 use std::marker::Brand;
@@ -27,13 +27,13 @@ fn walk<R: Wait + Abort, L: Ledger>(
     requires passes { IsPassOf tree.now writer.old × IsPassOf tree.now reader.old }
 {
     let mut steps = Steps::<L>::new(blank);
-    store_range(rt, tree, writer, 0, 9, 1, 1);
-    store_range(rt, tree, writer, 20, 29, 5, 2);
+    store_range(rt, tree, writer, 0, 9, 1, 1, Reply::Ok);
+    store_range(rt, tree, writer, 20, 29, 5, 2, Reply::Ok);
     let mut cursor = tree.cursor(reader, 0, u64::MAX);
     assert_eq!(rt; cursor.step(&mut steps), read(2, Some((0, 9, 1))));
-    store_range(rt, tree, writer, 12, 12, 3, 3);
+    store_range(rt, tree, writer, 12, 12, 3, 3, Reply::Ok);
     assert_eq!(rt; cursor.step(&mut steps), read(3, Some((12, 12, 3))));
-    store_range(rt, tree, writer, 20, 29, 4, 4);
+    store_range(rt, tree, writer, 20, 29, 4, 4, Reply::Over(5));
     assert_eq!(rt; cursor.step(&mut steps), read(4, Some((20, 29, 4))));
     assert_eq!(rt; cursor.step(&mut steps), read(4, None));
     cursor.close(&mut steps);
@@ -103,11 +103,11 @@ fn walk_to_the_end<R: Wait + Abort, L: Ledger>(
 {
     let (_, top, from, max, found) = end;
     let mut steps = Steps::<L>::new(blank);
-    store_range(rt, tree, writer, top, top, 5, 1);
+    store_range(rt, tree, writer, top, top, 5, 1, Reply::Ok);
     let mut cursor = tree.cursor(reader, from, max);
     assert_eq!(rt; cursor.step(&mut steps), read(1, found));
     assert_eq!(rt; cursor.step(&mut steps), read(1, None));
-    store_range(rt, tree, writer, top, top, 7, 2);
+    store_range(rt, tree, writer, top, top, 7, 2, Reply::Over(5));
     assert_eq!(rt; cursor.step(&mut steps), read(2, None));
     cursor.close(&mut steps);
 }

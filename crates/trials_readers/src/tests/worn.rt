@@ -3,7 +3,7 @@
 ghost use Rattle.mt_tree.specs.Trees.{IsPassOf};
 
 use crate::tests::{KINDS, last_pass, made, store_range};
-use mt_base::{Kind, Query, Range};
+use mt_base::{Kind, Query, Range, Reply};
 use mt_tree::{Done, Pass, Read, Tree, Worn};
 use std::alloc::Global;
 use std::process::Abort;
@@ -53,7 +53,7 @@ fn reads_under_the_lock<R: Wait + Abort>(rt: &R, tree: &Tree, pass: &mut Pass)
 fn wear<R: Wait + Abort>(rt: &R, alloc: Global, kind: Kind) -> Result<(), Fail> {
     let (tree, mut passes) = made(alloc, kind, 64, 1, 1)?;
     let mut pass = last_pass(&tree, &mut passes)?;
-    store_range(rt, &tree, &mut pass, 1, 1, 5, 1);
+    store_range(rt, &tree, &mut pass, 1, 1, 5, 1, Reply::Ok);
     for (number, answer) in nine_calls(rt, &tree, &mut pass).iter().enumerate() {
         assert_eq!(rt; *answer, Err(Worn { calls: 1 }), "call {number}");
     }

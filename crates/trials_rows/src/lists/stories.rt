@@ -36,7 +36,7 @@ macro_rules! stories {
             kind: Kind::$range,
             calls: &[
                 (call!(store 0, 99, 1), Reply::Ok),
-                (call!(store 40, 49, 3), Reply::Ok),
+                (call!(store 40, 49, 3), Reply::Over(1)),
             ],
             ranges: &[range!(0, 39, 1), range!(40, 49, 3), range!(50, 99, 1)],
             queries: &[],
@@ -46,10 +46,26 @@ macro_rules! stories {
             kind: Kind::$range,
             calls: &[
                 (call!(store 0, 99, 1), Reply::Ok),
-                (call!(store 40, 49, 0), Reply::Ok),
-                (call!(store 45, 60, 0), Reply::Ok),
+                (call!(store 40, 49, 0), Reply::Over(1)),
+                (call!(store 45, 60, 0), Reply::Over(1)),
             ],
             ranges: &[range!(0, 39, 1), range!(61, 99, 1)],
+            queries: &[],
+        },
+        Story {
+            name: "tells the first entry that a store overwrites",
+            kind: Kind::$range,
+            calls: &[
+                (call!(store 10, 19, 5), Reply::Ok),
+                (call!(store 30, 39, 7), Reply::Ok),
+                (call!(store 20, 29, 0), Reply::Ok),
+                (call!(store 0, 9, 9), Reply::Ok),
+                (call!(store 19, 30, 0), Reply::Over(5)),
+                (call!(store 19, 31, 11), Reply::Over(7)),
+                (call!(store 5, $top, 13), Reply::Over(9)),
+                (call!(erase 7), Reply::Was(range!(5, $top, 13))),
+            ],
+            ranges: &[range!(0, 4, 9)],
             queries: &[],
         },
         Story {
@@ -57,7 +73,7 @@ macro_rules! stories {
             kind: Kind::$range,
             calls: &[
                 (call!(store 0, $top, 7), Reply::Ok),
-                (call!(store $top, $top, 9), Reply::Ok),
+                (call!(store $top, $top, 9), Reply::Over(7)),
             ],
             ranges: &[range!(0, $top - 1, 7), range!($top, $top, 9)],
             queries: &[],
@@ -91,7 +107,7 @@ macro_rules! stories {
             kind: Kind::$range,
             calls: &[
                 (call!(store 10, 19, 5), Reply::Ok),
-                (call!(erase 15), Reply::Was(5)),
+                (call!(erase 15), Reply::Was(range!(10, 19, 5))),
                 (call!(erase 15), Reply::None),
             ],
             ranges: &[],
@@ -308,7 +324,10 @@ macro_rules! stories {
                     call!(ralloc 0x3000, 0x1_0000, 0x7fff_ffff, 8200),
                     Reply::Start(2_147_467_264),
                 ),
-                (call!(erase 0x40_0010), Reply::Was(8192)),
+                (
+                    call!(erase 0x40_0010),
+                    Reply::Was(range!(0x40_0000, 0x40_1fff, 8192)),
+                ),
             ],
             ranges: &[
                 range!(2_147_467_264, 2_147_479_551, 8200),
@@ -349,7 +368,7 @@ macro_rules! stories {
             kind: Kind::$alloc,
             calls: &[
                 (call!(store 0, $top, 7), Reply::Ok),
-                (call!(erase 3), Reply::Was(7)),
+                (call!(erase 3), Reply::Was(range!(0, $top, 7))),
                 (call!(gap 1, 0, $top), Reply::Start(0)),
             ],
             ranges: &[],

@@ -1,0 +1,187 @@
+//! Images of small trees, written, read and refused. The answers to changed bytes are those that `bench/images.py changes`
+//! prints.
+
+use crate::asserts::same;
+use crate::copies::{CASES, Case, TWO_LEAVES, first_words};
+use crate::small_trees::{LONE, checked_rows};
+use mt_base::{Kind, NoMemory, cols, width_of};
+use mt_check::{Law, form_of};
+use mt_image::{ImageError, read_image, write_image};
+use std::alloc::Global;
+use std::process::Abort;
+use std::test::Fail;
+
+/// The kind and the number of ranges of an image, or why it is none.
+type Answer = Result<(Kind, u64), ImageError>;
+
+/// The text of an image, and then these numbers.
+fn image(alloc: Global, head: [u64; 3], words: &[u64]) -> Result<Vec<u8>, NoMemory> {
+    let mut bytes = Vec::new(alloc);
+    bytes.extend_from_slice(b"mtimage1")?;
+    for number in &head {
+        bytes.extend_from_slice(&number.to_le_bytes())?;
+    }
+    for word in words {
+        bytes.extend_from_slice(&word.to_le_bytes())?;
+    }
+    Ok(bytes)
+}
+
+/// What these bytes are read as.
+fn answer(alloc: Global, bytes: &[u8]) -> Answer {
+    let (kind, mut rows) = read_image(alloc, bytes)?;
+    let form = form_of(&mut rows, kind);
+    Ok((kind, form.ranges))
+}
+
+/// The number of a kind in an image.
+fn number_of(kind: Kind) -> u64 {
+    match kind {
+        Kind::Range => 0,
+        Kind::Alloc => 1,
+        Kind::Range32 => 2,
+        Kind::Alloc32 => 3,
+    }
+}
+
+/// The image of a case's tree is that of its copy, and it is read as that copy.
+fn expect_image(rt: &impl Abort, alloc: Global, case: &Case) -> Result<(), Fail> {
+    let columns = cols(width_of(case.kind)) as usize;
+    assert!(rt; case.words.len() % columns == 0 && case.words.len() / columns <= 4);
+    let (mut rows, form) = checked_rows(alloc, case.words, case.root, case.kind)?;
+    let bytes = write_image(alloc, &mut rows, case.kind)?;
+    assert!(rt; form.rows <= 4 && form.rows as usize * columns <= case.copied.len());
+    let words = &case.copied[..form.rows as usize * columns];
+    let head = [number_of(case.kind), form.rows, case.copy];
+    let want = image(alloc, head, words)?;
+    same(rt, bytes.as_slice(), want.as_slice(), case.root);
+    let (kind, mut read) = read_image(alloc, &bytes)?;
+    let again = first_words(alloc, &mut read, form.rows as u32)?;
+    same(rt, again.as_slice(), words, case.root);
+    same(rt, kind, case.kind, case.root);
+    Ok(())
+}
+
+#[test]
+fn images_are_written_and_read(rt: HostRuntime) -> Result<(), Fail> {
+    for case in &CASES {
+        expect_image(&rt, rt.alloc(), case)?;
+    }
+    Ok(())
+}
+
+/// The answer to each change of a byte from one place up to, but without, another: the byte is greater by one.
+#[rattlefmt::skip]
+const CHANGED: [(usize, usize, Answer); 16] = [
+    (0, 8, Err(ImageError::Head { at: 0 })),
+    (8, 9, Ok((Kind::Alloc, 1))),
+    (9, 16, Err(ImageError::Head { at: 8 })),
+    (16, 17, Err(ImageError::Length { want: 544, got: 288 })),
+    (17, 18, Err(ImageError::Length { want: 65_824, got: 288 })),
+    (18, 24, Err(ImageError::Head { at: 16 })),
+    (24, 32, Err(ImageError::Broken { row: 0, law: Law::Name })),
+    (32, 40, Err(ImageError::Broken { row: 16, law: Law::Parent })),
+    (40, 41, Ok((Kind::Range, 1))),
+    (41, 48, Err(ImageError::Broken { row: 16, law: Law::Pivots })),
+    (48, 56, Ok((Kind::Range, 1))),
+    (56, 160, Err(ImageError::Broken { row: 16, law: Law::Pivots })),
+    (160, 168, Ok((Kind::Range, 2))),
+    (168, 169, Err(ImageError::Broken { row: 16, law: Law::Entries })),
+    (169, 176, Ok((Kind::Range, 1))),
+    (176, 184, Ok((Kind::Range, 2))),
+];
+
+/// The answer to a byte that is greater by one, which it is not any longer then.
+fn expect_changed(
+    rt: &impl Abort,
+    alloc: Global,
+    bytes: &mut [u8],
+    at: usize,
+    want: Answer,
+) -> Result<(), Fail> {
+    let Some(byte) = bytes.get_mut(at) else {
+        return Err(Fail::new("no such byte"));
+    };
+    let old = *byte;
+    *byte = old.wrapping_add(1);
+    same(rt, answer(alloc, bytes), want, at);
+    if let Some(byte) = bytes.get_mut(at) {
+        *byte = old;
+    }
+    Ok(())
+}
+
+#[test]
+fn changed_bytes_are_refused_or_read(rt: HostRuntime) -> Result<(), Fail> {
+    let mut bytes = image(rt.alloc(), [0, 1, 4108], &LONE)?;
+    for (from, to, want) in &CHANGED {
+        for at in *from..*to {
+            expect_changed(&rt, rt.alloc(), &mut bytes, at, *want)?;
+        }
+    }
+    for at in 184..288 {
+        let want = Err(ImageError::Broken {
+            row: 16,
+            law: Law::Pivots,
+        });
+        expect_changed(&rt, rt.alloc(), &mut bytes, at, want)?;
+    }
+    Ok(())
+}
+
+/// An image that is cut after so many bytes.
+fn expect_cut(rt: &impl Abort, alloc: Global, bytes: &[u8], got: usize) {
+    assert!(rt; got <= bytes.len());
+    let want = ImageError::Length {
+        want: if got < 32 { 32 } else { 288 },
+        got: got as u64,
+    };
+    same(rt, answer(alloc, &bytes[..got]), Err(want), got);
+}
+
+#[test]
+fn cut_images_are_refused(rt: HostRuntime) -> Result<(), Fail> {
+    let bytes = image(rt.alloc(), [0, 1, 4108], &LONE)?;
+    for got in 0..288 {
+        expect_cut(&rt, rt.alloc(), &bytes, got);
+    }
+    Ok(())
+}
+
+/// The numbers of an image, and the answer to them.
+struct Told {
+    head: [u64; 3],
+    words: &'static [u64],
+    want: Answer,
+}
+
+#[rattlefmt::skip]
+const TOLD: [Told; 6] = [
+    Told { head: [0, 0, 0], words: &[], want: Ok((Kind::Range, 0)) },
+    Told { head: [0, 0, 4108], words: &[], want: Err(ImageError::Broken { row: 0, law: Law::Name }) },
+    Told { head: [4, 1, 4108], words: &LONE, want: Err(ImageError::Head { at: 8 }) },
+    Told { head: [0, 65_505, 4108], words: &LONE, want: Err(ImageError::Head { at: 16 }) },
+    Told { head: [2, 1, 4108], words: &LONE, want: Err(ImageError::Length { want: 544, got: 288 }) },
+    Told { head: [1, 4, 4892], words: &TWO_LEAVES, want: Err(ImageError::Stray { row: 16 }) },
+];
+
+#[test]
+fn images_of_other_trees_are_refused(rt: HostRuntime) -> Result<(), Fail> {
+    for told in &TOLD {
+        let bytes = image(rt.alloc(), told.head, told.words)?;
+        same(&rt, answer(rt.alloc(), &bytes), told.want, told.head[2]);
+    }
+    Ok(())
+}
+
+/// A row that no walk comes to, whatever its words.
+#[test]
+fn rows_that_are_not_reached_are_stray(rt: HostRuntime) -> Result<(), Fail> {
+    let mut bytes = image(rt.alloc(), [0, 2, 4108], &LONE)?;
+    for _ in 0..32 {
+        bytes.extend_from_slice(&9_u64.to_le_bytes())?;
+    }
+    let want = Err(ImageError::Stray { row: 17 });
+    same(&rt, answer(rt.alloc(), &bytes), want, 17);
+    Ok(())
+}
