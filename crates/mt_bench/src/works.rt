@@ -34,7 +34,7 @@ pub fn store(tree: &mut impl Tree, i: u32, entry: u64) -> bool {
         last: first + 9,
         entry,
     };
-    matches!(tree.act(&call), Reply::Ok)
+    matches!(tree.act(&call), Reply::Ok | Reply::Over(_))
 }
 
 /// The entry that range number `i` has first.
