@@ -14,40 +14,40 @@ use Rattle.mt_base.specs.Map.{IsMapFrom, IsMap}
 
 -- ---- holes joined
 
-no_hole : (lo hi : ℕ) → hi ≤ lo → hole_between lo hi ≡ []
+pub no_hole : (lo hi : ℕ) → hi ≤ lo → hole_between lo hi ≡ []
 no_hole lo hi le = rw (le-ltb lo hi le) refl
 
 -- the holes of a map up to its last range, and behind that
-holes_back : (lo hi : ℕ) (front : List Range) (r : Range) → holes_from lo hi (front ++ (r ∷ [])) ≡ holes_from lo r.first front ++ hole_between (r.last + 1) hi
+pub holes_back : (lo hi : ℕ) (front : List Range) (r : Range) → holes_from lo hi (front ++ (r ∷ [])) ≡ holes_from lo r.first front ++ hole_between (r.last + 1) hi
 holes_back lo hi [] r = refl
 holes_back lo hi (x ∷ front) r =
     ap (λ (rest : List Hole). hole_between lo x.first ++ rest) (holes_back (x.last + 1) hi front r)
     ∙ sym (append_assoc (hole_between lo x.first) (holes_from (x.last + 1) r.first front) (hole_between (r.last + 1) hi))
 
-kept-append : (n lo hi : ℕ) (xs ys : List Hole) → kept n lo hi (xs ++ ys) ≡ kept n lo hi xs ++ kept n lo hi ys
+pub kept-append : (n lo hi : ℕ) (xs ys : List Hole) → kept n lo hi (xs ++ ys) ≡ kept n lo hi xs ++ kept n lo hi ys
 kept-append n lo hi xs ys = ap (filter (fits n)) (map-append (clip lo hi) xs ys) ∙ filter-append (fits n) (map (clip lo hi) xs) (map (clip lo hi) ys)
 
 -- ---- the first and the last of joined lists
 
-lowest_front : (xs ys : List Hole) (s : ℕ) → Some s ≡ lowest_in xs → Some s ≡ lowest_in (xs ++ ys)
+pub lowest_front : (xs ys : List Hole) (s : ℕ) → Some s ≡ lowest_in xs → Some s ≡ lowest_in (xs ++ ys)
 lowest_front [] ys s at = absurd (cc)
 lowest_front (x ∷ xs) ys s at = at
 
-lowest_behind : (xs ys : List Hole) → None ≡ lowest_in xs → lowest_in (xs ++ ys) ≡ lowest_in ys
+pub lowest_behind : (xs ys : List Hole) → None ≡ lowest_in xs → lowest_in (xs ++ ys) ≡ lowest_in ys
 lowest_behind [] ys none = refl
 lowest_behind (x ∷ xs) ys none = absurd (cc)
 
-get_behind : (xs ys : List Hole) (i : ℕ) → slice_get (xs ++ ys) (length xs + i) ≡ slice_get ys i
+pub get_behind : {X : Type 0} (xs ys : List X) (i : ℕ) → slice_get (xs ++ ys) (length xs + i) ≡ slice_get ys i
 get_behind [] ys i = let same : 0 + i ≡ i = omega arith in ap (slice_get ys) same
 get_behind (x ∷ xs) ys i = let next : suc (length xs) + i ≡ suc (length xs + i) = omega arith in ap (slice_get (x ∷ (xs ++ ys))) next ∙ get_behind xs ys i
 
-highest_back : (n : ℕ) (xs ys : List Hole) (s : ℕ) → Some s ≡ highest_in n ys → Some s ≡ highest_in n (xs ++ ys)
+pub highest_back : (n : ℕ) (xs ys : List Hole) (s : ℕ) → Some s ≡ highest_in n ys → Some s ≡ highest_in n (xs ++ ys)
 highest_back n xs [] s at = absurd (cc)
 highest_back n xs (y ∷ ys) s at =
     let last : length (xs ++ (y ∷ ys)) - 1 ≡ length xs + (length (y ∷ ys) - 1) = omega (arith, length-append xs (y ∷ ys)) in
     at ∙ ap (option_map (λ (x : Hole). x.last + 1 - n)) (sym (ap (slice_get (xs ++ (y ∷ ys))) last ∙ get_behind xs (y ∷ ys) (length (y ∷ ys) - 1)))
 
-highest_before : (n : ℕ) (xs ys : List Hole) → None ≡ highest_in n ys → highest_in n (xs ++ ys) ≡ highest_in n xs
+pub highest_before : (n : ℕ) (xs ys : List Hole) → None ≡ highest_in n ys → highest_in n (xs ++ ys) ≡ highest_in n xs
 highest_before n xs [] none = ap (highest_in n) (append-nil xs)
 highest_before n xs (y ∷ ys) none = absurd (some_at (y ∷ ys) (length (y ∷ ys) - 1) (omega arith) none)
   where
@@ -109,7 +109,7 @@ pub record IsSoughtDown (kind : Kind) (m rest : List Range) (n lo hi last : ℕ)
 pub sought_down : (kind : Kind) (m : List Range) (n lo hi : ℕ) → IsMap kind m → IsSoughtDown kind m m n lo hi (greatest_of kind)
 sought_down kind m n lo hi is = record { rise = is.rise; answer = refl }
 
-IsMapFrom-front : (lo : ℕ) (front back : List Range) → IsMapFrom lo (front ++ back) → IsMapFrom lo front
+pub IsMapFrom-front : (lo : ℕ) (front back : List Range) → IsMapFrom lo (front ++ back) → IsMapFrom lo front
 IsMapFrom-front lo [] back rise = tt
 IsMapFrom-front lo (x ∷ front) back rise = (rise.0, rise.1, rise.2, IsMapFrom-front (x.last + 1) front back rise.3)
 

@@ -35,7 +35,7 @@ impl Window {
     }
 
     /// The lowest start of room in what lies from `first` to `last`.
-    fn lowest_in(self, first: u64, last: u64) -> Option<u64>
+    pub fn lowest_in(self, first: u64, last: u64) -> Option<u64>
         requires { 1 ≤ self.size }
         ensures { result ≡ lowest_in (kept self.size self.min self.max (hole_between first (last + 1))) }
     {
@@ -43,7 +43,7 @@ impl Window {
     }
 
     /// The highest start of room in what lies from `first` to `last`.
-    fn highest_in(self, first: u64, last: u64) -> Option<u64>
+    pub fn highest_in(self, first: u64, last: u64) -> Option<u64>
         requires { 1 ≤ self.size }
         ensures { result ≡ highest_in self.size (kept self.size self.min self.max (hole_between first (last + 1))) }
     {
@@ -52,7 +52,7 @@ impl Window {
     }
 
     /// The lowest start of room in what lies from `first` up to, but without, `end`.
-    fn lowest_below(self, first: u64, end: u64) -> Option<u64>
+    pub fn lowest_below(self, first: u64, end: u64) -> Option<u64>
         requires { 1 ≤ self.size }
         ensures { result ≡ lowest_in (kept self.size self.min self.max (hole_between first end)) }
     {
@@ -60,7 +60,7 @@ impl Window {
     }
 
     /// The highest start of room in what lies above `before`, up to `last`.
-    fn highest_above(self, before: u64, last: u64) -> Option<u64>
+    pub fn highest_above(self, before: u64, last: u64) -> Option<u64>
         requires { 1 ≤ self.size }
         ensures { result ≡ highest_in self.size (kept self.size self.min self.max (hole_between (before + 1) (last + 1))) }
     {

@@ -10,5 +10,8 @@ mod places;
 mod ranges;
 mod searches;
 
+pub use areas::{Window, highest, lowest, reply_of};
+pub use edits::{erase, store};
 pub use list_map::ListMap;
 pub use ranges::Ranges;
+pub use searches::answered;

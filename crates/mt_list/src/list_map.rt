@@ -3,7 +3,7 @@ ghost use Rattle.std.specs.Prelude.{None};
 use crate::areas::{Window, highest, lowest, reply_of};
 use crate::edits::{erase, store};
 use crate::ranges::Ranges;
-use crate::searches::{first_above, first_from, is_held, last_below, last_up_to, range_holding};
+use crate::searches::{answered, first_from, is_held};
 use mt_base::{Call, Kind, NoMemory, Query, Range, Reply, is_bad_area, is_invalid, is_no_area};
 use std::alloc::Global;
 use std::marker::Model;
@@ -210,13 +210,7 @@ impl Ranges for ListMap {
     }
 
     fn ask(&mut self, query: &Query) -> Option<Range> {
-        match *query {
-            Query::Load { index } => range_holding(&self.ranges, index),
-            Query::Find { index, max } => first_from(&self.ranges, index, max),
-            Query::Next { index, max } => first_above(&self.ranges, index, max),
-            Query::Prev { index, min } => last_below(&self.ranges, index, min),
-            Query::Rfind { index, min } => last_up_to(&self.ranges, index, min),
-        }
+        answered(&self.ranges, query)
     }
 
     fn list(&mut self, alloc: Global) -> Result<Vec<Range>, NoMemory> {

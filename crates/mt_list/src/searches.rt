@@ -6,7 +6,7 @@ ghost use Rattle.mt_base.specs.Call.{answer};
 ghost use Rattle.mt_base.specs.Map.{IsMapFrom, holding, is_held};
 
 use crate::places::{down_to, last_of, place_above, place_below, range_at, up_to};
-use mt_base::Range;
+use mt_base::{Query, Range};
 
 /// The range that holds `index`.
 #[tactic(auto, using(crate::proofs::HoldingAtPlace::holding_at_place))]
@@ -67,4 +67,18 @@ pub fn is_held(ranges: &[Range], first: u64, last: u64) -> bool
     ensures { result ≡ is_held ranges.now first last }
 {
     first_from(ranges, first, last).is_some()
+}
+
+/// The range that answers a query.
+pub fn answered(ranges: &[Range], query: &Query) -> Option<Range>
+    requires { IsMapFrom 0 ranges.now }
+    ensures { result ≡ answer ranges.now query.now }
+{
+    match *query {
+        Query::Load { index } => range_holding(ranges, index),
+        Query::Find { index, max } => first_from(ranges, index, max),
+        Query::Next { index, max } => first_above(ranges, index, max),
+        Query::Prev { index, min } => last_below(ranges, index, min),
+        Query::Rfind { index, min } => last_up_to(ranges, index, min),
+    }
 }

@@ -1,0 +1,11 @@
+use Rattle.std.proofs.Common.{◌≤◌, ap, subst, sym, arith}
+use Rattle.mt_base.specs.declared.kinds.Kind.{Kind}
+use Rattle.mt_base.specs.Width.{greatest_of}
+use Rattle.mt_list.specs.ListMap.{Contents}
+use Rattle.mt_shelves.proofs.ShelvesKept.{put_in}
+use Rattle.mt_shelves.proofs.shelf_map.ShelfMap.put.Goals as goal
+
+pub invariant_of-self-2 : goal.invariant_of-self-2
+invariant_of-self-2 c =
+    put_in c.self.inside.kind c.self.inside.most c.self.inside.shelves.items c.store.new.shelves.items c.args.first c.args.last c.args.entry c.requires.order
+    (subst (λ (kind : Kind). c.args.last ≤ greatest_of kind) (ap (λ (m : Contents). m.kind) (sym c.self.view_is)) c.requires.within) (omega (arith, c.if-self-ge-MOST.false)) c.self.invariant c.in_ok-store.ensures.ok c.store.ensures.filled
