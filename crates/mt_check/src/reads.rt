@@ -12,7 +12,7 @@ ghost use Rattle.mt_check.specs.Reads as reads;
 use arrayvec::ArrayVec;
 use mt_base::cols;
 use mt_layout::{Item, MOST_SLOTS, RowKind, Span, gaps, slots};
-use mt_rows::{Rows, load_item};
+use mt_rows::{Rows, load_item_of};
 
 pub(crate) type Items = ArrayVec<Item, MOST_SLOTS>;
 
@@ -25,8 +25,9 @@ fn read_items<R: Rows>(rows: &mut R, kind: RowKind, row: u32, max: u64, items: &
     ensures rest { OnlyReads (R.sheet rows.old) (R.sheet rows.new) }
 {
     items.clear();
-    for slot in 0..slots(rows.width(), kind) {
-        let item = load_item(rows, kind, row, max, slot);
+    let width = rows.width();
+    for slot in 0..slots(width, kind) {
+        let item = load_item_of(rows, width, kind, row, max, slot);
         items.push(item);
         if max <= item.last {
             return;

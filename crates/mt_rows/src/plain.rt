@@ -10,6 +10,7 @@ ghost use Rattle.mt_rows.specs.Plain.{IsPlain, names_of, enlivened, names_buried
 
 use crate::plain_trees::{root_span, spans_in};
 use crate::reads::Reads;
+use crate::row_widths::RowWidth;
 use crate::rows::{Place, Rows, Scan};
 use crate::words::{Words, clear_first};
 use arrayvec::ArrayVec;
@@ -31,7 +32,7 @@ enum Fate {
 #[derive(Drop)]
 struct State {
     rows: u64,
-    width: Width,
+    width: RowWidth,
     words: Words,
     root: u64,
     fates: Vec<Fate>,
@@ -50,15 +51,6 @@ struct State {
 pub struct PlainRows {
     state: State,
     ghost plain: { IsPlain state },
-}
-
-/// Where the word in this column of this row stands.
-fn place_of(width: Width, row: u32, col: u32) -> usize
-    requires row { row < first_row + most_rows }
-    requires column { col < columns width }
-    ensures { result ≡ columns width * row + col }
-{
-    cols(width) as usize * row as usize + col as usize
 }
 
 /// Writes a row's fate, and nothing where there is no such row.
@@ -245,9 +237,10 @@ impl PlainRows {
         ensures { IfOk result (λ p. sheet_in p ≡ new_sheet width rows) }
     {
         let numbers = FIRST_ROW as usize + rows as usize;
+        let wide = RowWidth::of_width(width);
         let state = State {
             rows,
-            width,
+            width: wide,
             words: Words::new(alloc, cols(width) as usize * numbers)?,
             root: 0,
             fates: vec![in alloc; Fate::New; numbers]?,
@@ -306,12 +299,13 @@ impl PlainRows {
         requires { (kind : Kind) × MayPlant kind (sheet_in self.old) root }
         ensures { Planted (sheet_in self.old) (sheet_in self.new) root }
     {
+        let width = self.state.width.width();
         self.state.root = root;
         self.state.opened = settle(
-            self.state.width,
+            width,
             &self.state.words,
             DEEPEST as u32,
-            &root_span(self.state.width, root),
+            &root_span(width, root),
             self.state.fates.as_mut_slice(),
         );
     }
@@ -323,7 +317,7 @@ impl PlainRows {
         requires free { IsFree (sheet_in self.old).cleared (life_of (sheet_in self.old).lives row) }
         ensures { AreDrafted row col words.now (sheet_in self.old) (sheet_in self.new) }
     {
-        let at = place_of(self.state.width, row, col);
+        let at = self.state.width.place_of(row, col);
         self.state.words.put(at, words);
         let row = row as usize;
         self.state.fates[row] = Fate::Draft;
@@ -336,7 +330,7 @@ impl PlainRows {
         ensures rows { (at : ℕ) → columns (sheet_in self).tree.table.width * first_row ≤ at → slice_index result.items at ≡ slice_index (sheet_in self).tree.table.words at }
     {
         let PlainRows { state } = self;
-        let first = cols(state.width) as usize * FIRST_ROW as usize;
+        let first = cols(state.width.width()) as usize * FIRST_ROW as usize;
         let mut words = state.words.into_vec();
         clear_first(words.as_mut_slice(), first);
         words
@@ -356,7 +350,7 @@ impl PlainRows {
                 DEEPEST as u32
             }
             Place::Slot { row, col } => {
-                let slot = place_of(self.state.width, row, col);
+                let slot = self.state.width.place_of(row, col);
                 let old = self.state.words.get(slot);
                 self.state.words.set(slot, word);
                 levels_in_place_of(self.state.fates.as_slice(), self.state.ended, old)
@@ -380,12 +374,12 @@ impl Rows for PlainRows {
     }
 
     fn width(&self) -> Width {
-        self.state.width
+        self.state.width.width()
     }
 
     fn load(&mut self, row: u32, col: u32) -> u64 {
         self.state.reads.tick();
-        self.state.words.get(place_of(self.state.width, row, col))
+        self.state.words.get(self.state.width.place_of(row, col))
     }
 
     fn root(&mut self) -> u64 {
@@ -419,27 +413,28 @@ impl Rows for PlainRows {
     }
 
     fn draft(&mut self, row: u32, col: u32, word: u64) {
-        let at = place_of(self.state.width, row, col);
+        let at = self.state.width.place_of(row, col);
         self.state.words.set(at, word);
         self.state.fates[row as usize] = Fate::Draft;
     }
 
     fn bury(&mut self, row: u32) {
         // A dead row is its own parent.
-        let at = place_of(self.state.width, row, 0);
+        let at = self.state.width.place_of(row, 0);
         self.state.words.set(at, parent_word(row, 0));
         self.state.fates[row as usize] = Fate::Buried(self.state.ended + 1);
     }
 
     fn tend(&mut self, row: u32, col: u32, word: u64) {
-        let at = place_of(self.state.width, row, col);
+        let at = self.state.width.place_of(row, col);
         self.state.words.set(at, word);
     }
 
     fn publish(&mut self, place: Place, word: u64, _call: &Call, _reply: &Reply) {
         let levels = self.store(place, word);
+        let width = self.state.width.width();
         enliven(
-            self.state.width,
+            width,
             &self.state.words,
             levels,
             word,

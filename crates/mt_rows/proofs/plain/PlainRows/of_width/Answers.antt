@@ -12,7 +12,7 @@ returns c =
     let fates : c.in_ok-vec.field-0.items ≡ replicate (first_row + c.args.rows) New = c.in_ok-vec.ensures.items_if_clones_equal (search rules) in
     let size : c.cols.result * (first_row + c.args.rows) ≡ columns c.args.width * (first_row + c.args.rows) = ap (λ n. n * (first_row + c.args.rows)) c.cols.ensures in
     λ i. record (new_sheet c.args.width c.args.rows) {
-      tree = record { rows = c.args.rows; table = record { width = c.args.width; words = (words ∙ ap (λ n. replicate n 0) size) i }; root = 0 };
+      tree = record { rows = c.args.rows; table = record { width = c.of_width-wide.ensures i; words = (words ∙ ap (λ n. replicate n 0) size) i }; root = 0 };
       lives = (ap (map (life_in 0)) fates ∙ map-replicate (life_in 0) (first_row + c.args.rows) New) i;
       buried = (ap (map (buried_in 0)) fates ∙ map-replicate (buried_in 0) (first_row + c.args.rows) New) i;
       reads = ap Some c.new-2.ensures i;

@@ -1,10 +1,12 @@
-use Rattle.std.proofs.Common.{◌≡◌, ◌∙◌, ap, length, refl}
+use Rattle.std.proofs.Common.{◌≡◌, ◌∙◌, ap, [], length, refl}
 use Rattle.std.specs.Vec.{with_items}
 use Rattle.std.proofs.lemmas.List.{with_items_is}
 use Rattle.mt_base.specs.Width.{deepest}
+use Rattle.mt_base.specs.declared.widths.Width.{Width}
 use Rattle.mt_rows.specs.declared.plain.State.{State}
 use Rattle.mt_rows.specs.Plain.{sheet_of}
-use Rattle.mt_rows.specs.Trees.{rows_of}
+use Rattle.mt_rows.specs.Spans.{root_span}
+use Rattle.mt_rows.specs.Trees.{rows_of, reached_in}
 use Rattle.mt_rows.specs.Memory.{sheet_in}
 use Rattle.mt_rows.proofs.PlainPlant.{settled, planted_plain, planted_is}
 use Rattle.mt_rows.proofs.plain.PlainRows.plant.Goals as goal
@@ -13,7 +15,9 @@ pub invariant_of-self : goal.invariant_of-self
 invariant_of-self c =
     let p = c.args.self.now.state in
     let q : State = record p { fates = with_items p.fates c.settle-self.new.fates } in
-    let rows = ap (rows_of (sheet_of p).tree.table deepest) c.root_span.ensures in
+    let wide = c.width-width.ensures in
+    let span = c.root_span.ensures ∙ ap (λ (w : Width). root_span (record { width = w; words = [] }) c.args.root) wide in
+    let rows : rows_of (record { width = c.width-width.result; words = p.words.items }) deepest c.root_span.result ≡ reached_in (sheet_of p).tree.table c.args.root = λ i. rows_of (record { width = wide i; words = p.words.items }) deepest (span i) in
     let count = c.settle-self.ensures.count ∙ ap length rows in
     let kept : q.fates.items ≡ c.settle-self.new.fates = with_items_is p.fates c.settle-self.new.fates (c.settle-self.auto.fates ∙ c.as_mut_slice.ensures.len) in
     let fates = kept ∙ (c.settle-self.ensures.lives ∙ (λ i. settled (c.as_mut_slice.ensures.value i) (rows i))) in
@@ -23,7 +27,9 @@ pub returns : goal.returns
 returns c =
     let p = c.args.self.now.state in
     let q : State = record p { fates = with_items p.fates c.settle-self.new.fates } in
-    let rows = ap (rows_of (sheet_of p).tree.table deepest) c.root_span.ensures in
+    let wide = c.width-width.ensures in
+    let span = c.root_span.ensures ∙ ap (λ (w : Width). root_span (record { width = w; words = [] }) c.args.root) wide in
+    let rows : rows_of (record { width = c.width-width.result; words = p.words.items }) deepest c.root_span.result ≡ reached_in (sheet_of p).tree.table c.args.root = λ i. rows_of (record { width = wide i; words = p.words.items }) deepest (span i) in
     let count = c.settle-self.ensures.count ∙ ap length rows in
     let kept : q.fates.items ≡ c.settle-self.new.fates = with_items_is p.fates c.settle-self.new.fates (c.settle-self.auto.fates ∙ c.as_mut_slice.ensures.len) in
     let fates = kept ∙ (c.settle-self.ensures.lives ∙ (λ i. settled (c.as_mut_slice.ensures.value i) (rows i))) in
