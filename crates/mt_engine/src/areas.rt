@@ -140,6 +140,7 @@ fn area_of<R: Rows>(
 }
 
 /// What an allocation comes to, with the path to the place that was found.
+#[inline(always)]
 pub fn plan_allocation<R: Rows>(
     rows: &mut R,
     kind: Kind,

@@ -194,7 +194,8 @@ pub fn behind<R: Rows>(rows: &mut R, here: &Handle) -> Option<Handle>
         return None;
     }
     if last == here.leaf.max {
-        return handle_at(rows, last + 1);
+        let far = handle_at(rows, last + 1)?;
+        return Some(far);
     }
     let leaf = PathStep {
         slot: here.leaf.slot + 1,
@@ -228,7 +229,8 @@ pub fn before<R: Rows>(rows: &mut R, here: &Handle) -> Option<Handle>
         return None;
     }
     if here.leaf.slot == 0 {
-        return handle_at(rows, first - 1);
+        let far = handle_at(rows, first - 1)?;
+        return Some(far);
     }
     let leaf = PathStep {
         slot: here.leaf.slot - 1,

@@ -44,6 +44,7 @@ fn tend_top<R: Rows>(rows: &mut R, kind: RowKind, place: Place, word: u64)
 
 /// Publishes the replacement by one store, and writes the parent words of all rows that have another parent then. The tree's
 /// inner rows are of this kind, and the book is as it is then.
+#[inline(always)]
 pub fn publish_at<R: Rows, B: Begun>(
     rows: &mut R,
     book: &RowBook,
