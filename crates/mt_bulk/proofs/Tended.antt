@@ -1,0 +1,114 @@
+-- The parent words and the gap words of rows that are built.
+use Rattle.std.proofs.Common.{◌≡◌, ℕ, zero, suc, ◌+◌, ◌*◌, ◌≤◌, Bool, List, [], ◌∷◌, ◌++◌, length, map, max, refl, sym, ap, ◌∙◌, subst, arith, length-append, append_assoc}
+use Rattle.std.specs.Prelude.{slice_index}
+use Rattle.std.specs.List.{AllByRecursion, range_with_len}
+use Rattle.mt_base.specs.declared.widths.Width.{Width}
+use Rattle.mt_base.specs.Width.{columns}
+use Rattle.mt_layout.specs.declared.items.Item.{Item}
+use Rattle.mt_layout.specs.declared.names.RowKind.{RowKind}
+use Rattle.mt_layout.specs.declared.spans.Span.{Span}
+use Rattle.mt_layout.specs.Columns.{end_of, row_words, FitRow}
+use Rattle.mt_layout.specs.Rows.{name_at, parent_at, row_in}
+use Rattle.mt_layout.specs.Sizes.{slots_of, gaps_of}
+use Rattle.mt_layout.specs.Spans.{spans_from, longest_in}
+use Rattle.mt_layout.proofs.NameLaws.{row_in-name_at}
+use Rattle.mt_layout.proofs.RowSizes.{layout_of, some_columns}
+use Rattle.mt_layout.proofs.RowWords.{length-row_words}
+use Rattle.mt_rows.specs.Spans.{Table, column}
+use Rattle.mt_rows.specs.Levels.{expand}
+use Rattle.mt_rows.specs.Laws.{ParentsFrom, longest_below}
+use Rattle.mt_rows.proofs.Lists.{expand-append}
+use Rattle.mt_bulk.specs.Bulk.{greatest_gap, heads, words_of}
+use Rattle.mt_bulk.proofs.Placed.{in_middle, next_row}
+
+-- ---- names one after another
+
+abbrev pub AreNamed : RowKind → ℕ → List Item → Type 0
+AreNamed kind number [] = Unit {0}
+AreNamed kind number (x ∷ items) = (x.word ≡ name_at number kind) × AreNamed kind (number + 1) items
+
+pub heads_named : (gapped : Bool) (kind : RowKind) (first number : ℕ) (rows : List (List Item)) → AreNamed kind number (heads gapped kind first number rows)
+heads_named gapped kind first number [] = tt
+heads_named gapped kind first number (row ∷ rows) = (refl, heads_named gapped kind (end_of first row + 1) (number + 1) rows)
+
+pub named_front : (kind : RowKind) (number : ℕ) (xs ys : List Item) → AreNamed kind number (xs ++ ys) → AreNamed kind number xs
+named_front kind number [] ys named = tt
+named_front kind number (x ∷ xs) ys named = (named.0, named_front kind (number + 1) xs ys named.1)
+
+pub named_back : (kind : RowKind) (number : ℕ) (xs ys : List Item) → AreNamed kind number (xs ++ ys) → AreNamed kind (number + length xs) ys
+named_back kind number [] ys named = let same : number ≡ number + zero = omega arith in subst (λ (n : ℕ). AreNamed kind n ys) same named
+named_back kind number (x ∷ xs) ys named = let same : number + 1 + length xs ≡ number + suc (length xs) = omega arith in subst (λ (n : ℕ). AreNamed kind n ys) same (named_back kind (number + 1) xs ys named.1)
+
+-- ---- parent words one after another
+
+abbrev pub HaveParents : Table → ℕ → List ℕ → Type 0
+HaveParents t number [] = Unit {0}
+HaveParents t number (parent ∷ parents) = (column t number 0 ≡ parent) × HaveParents t (number + 1) parents
+
+pub have_front : (t : Table) (number : ℕ) (ps qs : List ℕ) → HaveParents t number (ps ++ qs) → HaveParents t number ps
+have_front t number [] qs have = tt
+have_front t number (p ∷ ps) qs have = (have.0, have_front t (number + 1) ps qs have.1)
+
+pub have_back : (t : Table) (number : ℕ) (ps qs : List ℕ) → HaveParents t number (ps ++ qs) → HaveParents t (number + length ps) qs
+have_back t number [] qs have = let same : number ≡ number + zero = omega arith in subst (λ (n : ℕ). HaveParents t n qs) same have
+have_back t number (p ∷ ps) qs have = let same : number + 1 + length ps ≡ number + suc (length ps) = omega arith in subst (λ (n : ℕ). HaveParents t n qs) same (have_back t (number + 1) ps qs have.1)
+
+-- the rows that are named have the parent words of the slots of a row, from one on
+pub parents_from : (t : Table) (kind : RowKind) (number row slot first : ℕ) (items : List Item) → AreNamed kind number items → HaveParents t number (map (parent_at row) (range_with_len slot (length items))) → ParentsFrom t row slot (spans_from first items)
+parents_from t kind number row slot first [] named have = tt
+parents_from t kind number row slot first (x ∷ items) named have = (
+  ap (λ (w : ℕ). column t (row_in w) 0) named.0 ∙ (ap (λ (r : ℕ). column t r 0) (row_in-name_at number kind) ∙ have.0),
+  parents_from t kind (number + 1) row (slot + 1) (x.last + 1) items named.1 have.1,
+)
+
+-- the parent words of rows that are written
+pub have_parents : (width : Width) (kind : RowKind) (number : ℕ) (parents : List ℕ) (rows : List (List Item)) (front back : List ℕ) → length parents ≡ length rows → AllByRecursion (FitRow (slots_of width kind) (gaps_of width kind)) rows
+    → length front ≡ columns width * number → HaveParents (record { width = width; words = front ++ (words_of width kind parents rows ++ back) }) number parents
+have_parents width kind number [] rows front back same fit at = tt
+have_parents width kind number (parent ∷ parents) [] front back same fit at = absurd (omega arith)
+have_parents width kind number (parent ∷ parents) (row ∷ rows) front back same fit at =
+    let here = row_words (columns width) (slots_of width kind) (gaps_of width kind) parent row in
+    let others = words_of width kind parents rows in
+    let long = length-row_words (columns width) (slots_of width kind) (gaps_of width kind) parent row (layout_of width kind) fit.0.fit in
+    let some = some_columns width in
+    let moved : front ++ ((here ++ others) ++ back) ≡ (front ++ here) ++ (others ++ back) = ap (λ (l : List ℕ). front ++ l) (append_assoc here others back) ∙ sym (append_assoc front here (others ++ back)) in
+    let next = have_parents width kind (number + 1) parents rows (front ++ here) back (omega arith) fit.1 (omega (arith, length-append front here, long, next_row width number)) in (
+      ap (λ (l : List ℕ). slice_index (front ++ l) (columns width * number + 0)) (append_assoc here others back)
+          ∙ (ap (λ (n : ℕ). slice_index (front ++ (here ++ (others ++ back))) (n + 0)) (sym at) ∙ in_middle front here (others ++ back) 0 (omega (arith, long, some))),
+      subst (λ (w : List ℕ). HaveParents (record { width = width; words = w }) (number + 1) parents) (sym moved) next,
+    )
+
+-- ---- the longest holes
+
+longest_in_both : (xs ys : List Span) → longest_in (xs ++ ys) ≡ max (longest_in xs) (longest_in ys)
+longest_in_both [] ys = omega arith
+longest_in_both (x ∷ xs) ys = let behind = longest_in_both xs ys in omega arith
+
+pub longest_both : (t : Table) (h : ℕ) (xs ys : List Span) → longest_below t h (xs ++ ys) ≡ max (longest_below t h xs) (longest_below t h ys)
+longest_both t zero xs ys = ap longest_in (expand-append t xs ys) ∙ longest_in_both (expand t xs) (expand t ys)
+longest_both t (suc h) xs ys = ap (longest_below t h) (expand-append t xs ys) ∙ longest_both t h (expand t xs) (expand t ys)
+
+pub longest_none : (t : Table) (h : ℕ) → longest_below t h [] ≡ 0
+longest_none t zero = refl
+longest_none t (suc h) = longest_none t h
+
+-- each item tells the longest hole below it
+abbrev pub AreTold : Table → ℕ → ℕ → List Item → Type 0
+AreTold t h first [] = Unit {0}
+AreTold t h first (x ∷ items) = (x.gap ≡ longest_below t h (record { first = first; last = x.last; word = x.word } ∷ [])) × AreTold t h (x.last + 1) items
+
+pub greatest_told : (t : Table) (h first : ℕ) (items : List Item) → AreTold t h first items → longest_below t h (spans_from first items) ≡ greatest_gap items
+greatest_told t h first [] told = longest_none t h
+greatest_told t h first (x ∷ items) told =
+    let here = told.0 in
+    let behind = greatest_told t h (x.last + 1) items told.1 in
+    longest_both t h (record { first = first; last = x.last; word = x.word } ∷ []) (spans_from (x.last + 1) items) ∙ (λ i. max (sym here i) (behind i))
+
+pub told_front : (t : Table) (h first : ℕ) (xs ys : List Item) → AreTold t h first (xs ++ ys) → AreTold t h first xs
+told_front t h first [] ys told = tt
+told_front t h first (x ∷ xs) ys told = (told.0, told_front t h (x.last + 1) xs ys told.1)
+
+pub told_back : (t : Table) (h first d : ℕ) (xs ys : List Item) → 1 ≤ length xs → AreTold t h first (xs ++ ys) → AreTold t h (end_of d xs + 1) ys
+told_back t h first d [] ys some told = absurd (omega arith)
+told_back t h first d (x ∷ []) ys some told = told.1
+told_back t h first d (x ∷ y ∷ xs) ys some told = told_back t h (x.last + 1) x.last (y ∷ xs) ys (omega arith) told.1

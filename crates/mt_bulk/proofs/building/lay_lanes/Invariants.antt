@@ -1,0 +1,12 @@
+use Rattle.std.proofs.Common.{◌≡◌, ◌≤◌, length, vec_len, vec_capacity}
+use Rattle.mt_bulk.specs.Builds.{AreLaid, whole_of}
+use Rattle.mt_bulk.proofs.building.lay_lanes.Given as goal
+
+abbrev pub invariant-loop-worker : goal.invariant-loop-worker
+invariant-loop-worker l = record {
+  laid : AreLaid (whole_of l.fn.leaves) 0 l.from l.lanes.items;
+  inside : l.from ≤ length l.fn.leaves.ends.items;
+  all : l.worker ≡ l.fn.workers → l.from ≡ length l.fn.leaves.ends.items;
+  len : vec_len l.lanes ≡ l.worker;
+  room : l.fn.workers ≤ vec_capacity l.lanes;
+}

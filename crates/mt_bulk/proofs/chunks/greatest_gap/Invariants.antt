@@ -1,0 +1,6 @@
+use Rattle.std.proofs.Common.{◌≡◌, drop, max}
+use Rattle.mt_bulk.specs.Bulk.{greatest_gap}
+use Rattle.mt_bulk.proofs.chunks.greatest_gap.Given as goal
+
+abbrev pub invariant-loop-at : goal.invariant-loop-at
+invariant-loop-at l = max l.greatest (greatest_gap (drop l.at l.items)) ≡ greatest_gap l.items

@@ -1,0 +1,93 @@
+-- A chunk of the rows of a level: what it is given, and what is made of it.
+-- Source: this project's own.
+use Rattle.std.specs.Prelude.{◌≡◌, ◌≢◌, ℕ, zero, suc, ◌+◌, ◌-◌, ◌*◌, ◌<◌, ◌≤◌, ◌++◌, Any, List, [], ◌∷◌, length, map, take, drop, slice_index}
+use Rattle.std.specs.List.{AllByRecursion}
+use Rattle.mt_rows.specs.Spans.{inner_kind}
+use Rattle.mt_base.specs.declared.kinds.Kind.{Kind}
+use Rattle.mt_base.specs.Call.{finds_room}
+use Rattle.mt_base.specs.Width.{columns, first_row, kind_width, most_rows}
+use Rattle.mt_layout.specs.declared.items.Item.{Item}
+use Rattle.mt_layout.specs.declared.names.RowKind.{RowKind}
+use Rattle.mt_layout.specs.Columns.{FitRow, NoGaps, RiseFrom}
+use Rattle.mt_layout.specs.Sizes.{slots_of, gaps_of}
+use Rattle.mt_bulk.specs.declared.chunks.Chunk.{Chunk}
+use Rattle.mt_bulk.specs.Bulk.{heads, raised, words_of}
+
+-- the rows of items from a place on that end at these places
+abbrev pub rows_between : List Item → ℕ → List ℕ → List (List Item)
+rows_between items from [] = []
+rows_between items from (end ∷ ends) = take (end - from) (drop from items) ∷ rows_between items end ends
+
+-- the first index behind the items in front of a place
+abbrev pub begins_at : List Item → ℕ → ℕ
+begins_at items zero = 0
+begins_at items (suc at) = slice_index (map (λ x. x.last) items) at + 1
+
+-- rows of a level: those with these ends, from this number on, with these parent words
+pub record ChunkView : Type 0 where
+  pub tree : Kind
+  pub kind : RowKind
+  pub number : ℕ
+  pub items : List Item
+  pub from : ℕ
+  pub ends : List ℕ
+  pub parents : List ℕ
+
+abbrev pub view_of : Chunk → ChunkView
+view_of c = record { tree = c.tree; kind = c.kind; number = c.number; items = c.items.now; from = c.from; ends = c.ends.now; parents = c.parents.now }
+
+-- where row number `at` of these begins, counted from 0, and the first at 0
+abbrev pub place_at : List ℕ → ℕ → ℕ
+place_at ends zero = 0
+place_at ends (suc at) = slice_index ends at
+
+-- the rows of a whole level from the one at a place up to another
+abbrev pub part_of : ChunkView → ℕ → ℕ → ChunkView
+part_of c from to = record c { number = c.number + from; from = place_at c.ends from; ends = take (to - from) (drop from c.ends); parents = take (to - from) (drop from c.parents) }
+
+abbrev pub rows_of : ChunkView → List (List Item)
+rows_of c = rows_between c.items c.from c.ends
+
+abbrev pub words_in : ChunkView → List ℕ
+words_in c = words_of (kind_width c.tree) c.kind c.parents (rows_of c)
+
+abbrev pub heads_in : ChunkView → List Item
+heads_in c = heads (finds_room c.tree) c.kind (begins_at c.items c.from) c.number (rows_of c)
+
+-- each row ends behind its begin and among the items, can hold its items, and one of them is an entry or a name
+abbrev pub CanFill : Kind → RowKind → List Item → ℕ → List ℕ → Type 0
+CanFill tree kind items from [] = Unit {0}
+CanFill tree kind items from (end ∷ ends) =
+    (from < end) × (end ≤ length items)
+    × FitRow (slots_of (kind_width tree) kind) (gaps_of (kind_width tree) kind) (take (end - from) (drop from items))
+    × Any (λ x. x.word ≢ 0) (take (end - from) (drop from items))
+    × CanFill tree kind items end ends
+
+-- rows that can be filled: the items rise, and there is a parent word for each row and a number that can be named
+pub record AreRows (c : ChunkView) : Type 0 where
+  pub rise : RiseFrom 0 c.items
+  pub fill : CanFill c.tree c.kind c.items c.from c.ends
+  pub parents : length c.parents ≡ length c.ends
+  pub first : first_row ≤ c.number
+  pub named : c.number + length c.ends ≤ first_row + most_rows
+
+-- they can be filled, and there is room for their words and their items on the level above
+pub record IsReady (c : ChunkView) (used room heads heads_room : ℕ) : Type 0 where
+  pub rows : AreRows c
+  pub for_words : used + columns (kind_width c.tree) * length c.ends ≤ room
+  pub for_heads : heads + length c.ends ≤ heads_room
+
+-- their words, and their items on the level above, stand behind what was there
+pub record HasFilled (c : ChunkView) (before after : List ℕ) (heads heads' : List Item) : Type 0 where
+  pub words : after ≡ before ++ words_in c
+  pub above : heads' ≡ heads ++ heads_in c
+
+-- Items of inner rows that are to be numbered from here on: they rise, each is named, gaps are told only where rows have them, and
+-- there are numbers for the rows and for those above them.
+pub record IsLevel (tree : Kind) (number : ℕ) (items : List Item) : Type 0 where
+  pub some : 1 ≤ length items
+  pub rise : RiseFrom 0 items
+  pub named : AllByRecursion (λ (x : Item). x.word ≢ 0) items
+  pub gaps : gaps_of (kind_width tree) (inner_kind tree) ≡ 0 → NoGaps items
+  pub first : first_row ≤ number
+  pub last : columns (kind_width tree) * number + length (raised tree (inner_kind tree) number items).words ≤ columns (kind_width tree) * (first_row + most_rows)

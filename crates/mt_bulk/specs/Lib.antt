@@ -1,0 +1,6 @@
+pub mod Builds
+pub mod Bulk
+pub mod Chunks
+pub mod Cuts
+pub mod Examples
+pub mod Items

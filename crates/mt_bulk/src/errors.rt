@@ -1,0 +1,38 @@
+//! Why no tree is built of ranges.
+
+use mt_base::NoMemory;
+use std::alloc::AllocError;
+
+/// Why no tree is built of ranges.
+#[derive(Clone, Copy, Debug, PartialEq, Eq)]
+pub enum BulkError {
+    /// The range at this place, counted from 0, is none of a tree of this kind, or does not stand above the one before it: the first
+    /// that is so.
+    Order { at: u64 },
+    /// The ranges are in good order, and their tree has so many rows, which are more than can be named.
+    TooMany { rows: u64 },
+    /// Memory ran out.
+    NoMemory,
+}
+
+impl From<NoMemory> for BulkError {
+    ghost use Rattle.std.specs.Prelude.{◌≡◌};
+    ghost use Rattle.mt_bulk.specs.declared.errors.BulkError.TheVariants as errors;
+
+    ghost from_gives = { λ _ e. e ≡ errors.NoMemory };
+
+    fn from(_: NoMemory) -> Self {
+        BulkError::NoMemory
+    }
+}
+
+impl From<AllocError> for BulkError {
+    ghost use Rattle.std.specs.Prelude.{◌≡◌};
+    ghost use Rattle.mt_bulk.specs.declared.errors.BulkError.TheVariants as errors;
+
+    ghost from_gives = { λ _ e. e ≡ errors.NoMemory };
+
+    fn from(_: AllocError) -> Self {
+        BulkError::NoMemory
+    }
+}

@@ -1,0 +1,171 @@
+//! The levels above the leaves: where their rows end, their parent words, how many they are, and their words.
+
+ghost use Rattle.std.specs.Prelude.{◌≡◌, ◌+◌, ◌*◌, ◌<◌, ◌≤◌, ◌++◌, ℕ, List, length, map, IfOk, OnOk, ◌^◌, vec_len, vec_capacity};
+ghost use Rattle.std.specs.List.{range_with_len};
+ghost use Rattle.mt_base.specs.Call.{finds_room};
+ghost use Rattle.mt_base.specs.Width.{kind_width};
+ghost use Rattle.mt_layout.specs.declared.items.Item.{Item};
+ghost use Rattle.mt_layout.specs.Rows.{parent_at};
+ghost use Rattle.mt_bulk.specs.Bulk as defined;
+ghost use Rattle.mt_rows.specs.Spans.{inner_kind};
+ghost use Rattle.mt_bulk.specs.Bulk.{parents_in, raised, rows_up};
+ghost use Rattle.mt_bulk.specs.Chunks.{IsLevel};
+ghost use Rattle.mt_bulk.specs.Cuts as cuts;
+ghost use Rattle.mt_bulk.specs.Cuts.{cut, ends_from, inner_size};
+
+use crate::chunks::{Chunk, fill_rows};
+use mt_base::{Kind, NoMemory, width_of};
+use mt_layout::{Item, name_of, parent_word, slots};
+use mt_rows::inner_kind;
+use std::alloc::Global;
+
+/// How many items an inner row of a tree of this kind has at the most.
+pub(crate) fn inner_slots(tree: Kind) -> usize
+    ensures { result ≡ defined.inner_slots (kind_width tree) (finds_room tree) }
+{
+    slots(width_of(tree), inner_kind(tree)) as usize
+}
+
+/// How many of so many items the first inner row has.
+fn inner_count(most: usize, count: usize) -> usize
+    requires { most ≤ 64 }
+    ensures { result ≡ cuts.inner_count most count }
+{
+    if 2 * most < count {
+        most
+    } else if most < count {
+        (count + 1) / 2
+    } else {
+        count
+    }
+}
+
+/// Where each inner row ends that so many items are cut into.
+///
+/// # Errors
+///
+/// `NoMemory` where memory ran out.
+pub(crate) fn inner_ends(alloc: Global, most: usize, count: usize) -> Result<Vec<usize>, NoMemory>
+    requires two { 2 ≤ most }
+    requires few { most ≤ 64 }
+    ensures { IfOk result (λ ends. (items : List Item) → length items ≡ count → ends.items ≡ ends_from 0 (cut (inner_size most) items)) }
+{
+    let mut ends = Vec::with_capacity(alloc, count / most + 1)?;
+    let mut at = 0;
+    while at < count {
+        at += inner_count(most, count - at);
+        ends.push(at)?;
+    }
+    Ok(ends)
+}
+
+/// Appends the parent words of what stands in the first so many slots of a row.
+fn push_parents(parents: &mut Vec<u64>, row: u32, count: u32) -> Result<(), NoMemory>
+    ensures { OnOk result (parents.new.items ≡ parents.old.items ++ map (parent_at row) (range_with_len 0 count)) }
+{
+    for slot in 0..count {
+        parents.push(parent_word(row, slot))?;
+    }
+    Ok(())
+}
+
+/// The parent words of so many rows, where the inner rows above them are numbered from `next` on.
+///
+/// # Errors
+///
+/// `NoMemory` where memory ran out.
+pub(crate) fn parents_above(
+    alloc: Global,
+    next: u32,
+    most: usize,
+    count: usize,
+) -> Result<Vec<u64>, NoMemory>
+    requires two { 2 ≤ most }
+    requires few { most ≤ 64 }
+    requires room { next + count < 2 ^ 32 }
+    ensures { IfOk result (λ parents. (items : List Item) → length items ≡ count → parents.items ≡ parents_in next (cut (inner_size most) items)) }
+{
+    let mut parents = Vec::with_capacity(alloc, count)?;
+    let mut row = next;
+    let mut at = 0;
+    while at < count {
+        let size = inner_count(most, count - at);
+        push_parents(&mut parents, row, size as u32)?;
+        at += size;
+        row += 1;
+    }
+    Ok(parents)
+}
+
+/// How many rows so many rows of a level and those above them are.
+#[tactic(auto, using(crate::proofs::Counts::half_at_most, crate::proofs::Counts::some_rows))]
+pub(crate) fn count_rows(tree: Kind, level: u64) -> u64
+    requires some { 1 ≤ level }
+    requires few { level ≤ 1000000000000000000 }
+    ensures rows { (left : ℕ) → level ≤ left → result ≡ rows_up (kind_width tree) (finds_room tree) left level }
+    ensures few { result < 2 * level }
+{
+    if level == 1 {
+        return 1;
+    }
+    level + count_rows(tree, level.div_ceil(inner_slots(tree) as u64))
+}
+
+/// The parent words of so many rows of a level, behind which rows are numbered from `next` on. A row that is alone is the root.
+///
+/// # Errors
+///
+/// `NoMemory` where memory ran out.
+pub(crate) fn parents_over(
+    alloc: Global,
+    next: u32,
+    tree: Kind,
+    count: usize,
+) -> Result<Vec<u64>, NoMemory>
+    requires room { next + count < 2 ^ 32 }
+    ensures { IfOk result (λ parents. (items : List Item) → length items ≡ count → parents.items ≡ defined.parents_over tree next items) }
+{
+    if count == 1 {
+        let root = vec![in alloc; 1; 1]?;
+        return Ok(root);
+    }
+    parents_above(alloc, next, inner_slots(tree), count)
+}
+
+/// Appends the words of the inner rows that hold these items, and of those above them, and answers the root word.
+///
+/// # Errors
+///
+/// `NoMemory` where memory ran out.
+pub(crate) fn raise(
+    alloc: Global,
+    tree: Kind,
+    number: u32,
+    items: &[Item],
+    words: &mut Vec<u64>,
+) -> Result<u64, NoMemory>
+    requires level { IsLevel tree number items.now }
+    requires room { vec_len words.old + length (raised tree (inner_kind tree) number items.now).words ≤ vec_capacity words.old }
+    ensures root { IfOk result (λ root. root ≡ (raised tree (inner_kind tree) number items.now).root) }
+    ensures words { OnOk result (words.new.items ≡ words.old.items ++ (raised tree (inner_kind tree) number items.now).words) }
+{
+    let kind = inner_kind(tree);
+    let ends = inner_ends(alloc, inner_slots(tree), items.len())?;
+    let next = number + ends.len() as u32;
+    let parents = parents_over(alloc, next, tree, ends.len())?;
+    let mut heads = Vec::with_capacity(alloc, ends.len())?;
+    let chunk = Chunk {
+        tree,
+        kind,
+        number,
+        items,
+        from: 0,
+        ends: &ends,
+        parents: &parents,
+    };
+    fill_rows(&chunk, words, &mut heads);
+    if ends.len() == 1 {
+        return Ok(name_of(number, kind).word());
+    }
+    raise(alloc, tree, next, &heads, words)
+}
