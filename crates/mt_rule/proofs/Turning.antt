@@ -1,15 +1,15 @@
 -- Each step at the turn keeps its rule.
-use Rattle.std.proofs.Common.{◌≡◌, ℕ, zero, suc, List, [], ◌∷◌, set, get_or, true, false, true≢false, refl, sym, ap, ◌∙◌, subst, arith, Option, Some, None}
+use Rattle.std.proofs.Common.{◌≡◌, ◌≢◌, Bool, ℕ, zero, suc, List, [], ◌∷◌, set, get_or, true, false, true≢false, refl, sym, ap, ◌∙◌, subst, arith, Option, Some, None}
 use mathlib.Core.Option.{none, some, some-ne-none, some-injective}
 use mathlib.Core.Option as maybe
 use lib.ListN.{get_elem?}
-use Rattle.atomic_table.proofs.Lists.{at_longer, set_again}
+use Rattle.atomic_table.proofs.Lists.{at_longer, set_again, set_else}
 use Rattle.atomic_table.specs.Table.{State, Me, Act, Valid, step, keeps, takes, gives, stepped, carried_after, Allows, Splits, opening}
 use Rattle.std.specs.declared.snapshot.Snapshot.{Snapshot}
 use Rattle.mt_rule.specs.declared.table.MtTable.{MtTable}
 use Rattle.mt_rule.specs.declared.views.TurnView.{TurnView}
 use Rattle.mt_rule.specs.Tokens.{Identity}
-use Rattle.mt_rule.specs.Turns.{served, waiting, holding, taken_bit, SeatFits, IsTurnKept, grabs, releases}
+use Rattle.mt_rule.specs.Turns.{served, waiting, holding, given_back, refused, taken_bit, HasGrabbed, SeatFits, IsTurnKept, grabs, releases}
 use Rattle.mt_rule.proofs.Viewing.{each_set, each_split}
 
 off : false ≡ true → ⊥
@@ -28,54 +28,65 @@ module _ {C : Type 0} (table : C → Identity) (key : Snapshot MtTable) where
   abbrev Rule : State (Option C) TurnView → Type 0
   Rule = IsTurnKept table key
 
-  abbrev Fits : ℕ → maybe.Option (Option C) → ℕ → TurnView → Type 0
+  abbrev Fits : ℕ → maybe.Option (Option C) → Bool → ℕ → TurnView → Type 0
   Fits = SeatFits table key
 
-  -- a seat that waits fits, whoever holds the value
-  waits : (holder : ℕ) (home : maybe.Option (Option C)) (by : ℕ) (v : TurnView) → v.of ≡ key → v.holds ≡ false → Fits holder home by v
-  waits holder home by v of idle = record { of = of; holds = λ h. absurd (off (sym idle ∙ h)) }
+  -- a seat that does not hold the value fits, whoever does
+  idles : (holder : ℕ) (home : maybe.Option (Option C)) (ever : Bool) (by : ℕ) (v : TurnView) → v.of ≡ key → v.holds ≡ false → (v.met ≡ true → ever ≡ true) → Fits holder home ever by v
+  idles holder home ever by v of idle met = record { of = of; holds = λ h. absurd (off (sym idle ∙ h)); met = met }
 
   pub turn_starts : (c : C) → table c ≡ served key → Rule (opening (0 ∷ []) (Some c ∷ []) (waiting key))
-  turn_starts c is = record { holder = 0; home = some (Some c); words = refl; homes = refl; value = λ x e. (c, sym (some-injective _ _ e), is); away = λ e. absurd (some-ne-none (Some c) e); each = one }
+  turn_starts c is = record { holder = 0; home = some (Some c); ever = false; words = refl; homes = refl; value = λ x e. (c, sym (some-injective _ _ e), is); away = λ e. absurd (some-ne-none (Some c) e); taken = λ e. absurd (off e); each = one }
     where
-      one : (by : ℕ) (v : TurnView) → get_elem? (waiting key ∷ []) by ≡ some v → Fits 0 (some (Some c)) by v
-      one zero v e = subst (Fits 0 (some (Some c)) 0) (some-injective _ _ e) (waits 0 (some (Some c)) 0 (waiting key) refl refl)
+      one : (by : ℕ) (v : TurnView) → get_elem? (waiting key ∷ []) by ≡ some v → Fits 0 (some (Some c)) false by v
+      one zero v e = subst (Fits 0 (some (Some c)) false 0) (some-injective _ _ e) (idles 0 (some (Some c)) false 0 (waiting key) refl refl (λ m. m))
       one (suc by) v e = absurd (some-ne-none v (sym e))
 
   sitting : (by : ℕ) (v : TurnView) → v.holds ≡ false → Splits Rule by v v v
-  sitting by v idle s r at = record {
-    holder = r.holder;
-    home = r.home;
-    words = r.words;
-    homes = r.homes;
-    value = r.value;
-    away = λ e. at_longer (set s.views by v) (v ∷ []) r.holder (holding key) (ap (λ (l : List TurnView). get_elem? l r.holder) (set_again s.views by v at) ∙ r.away e);
-    each = let mine = r.each by v at in each_split (Fits r.holder r.home) s.views by v v (λ j u _ e. r.each j u e) mine (waits r.holder r.home _ v mine.of idle);
-  }
+  sitting by v idle s r at =
+      let as_was : get_elem? (set s.views by v) r.holder ≡ get_elem? s.views r.holder = ap (λ (l : List TurnView). get_elem? l r.holder) (set_again s.views by v at) in
+      let mine = r.each by v at in record {
+        holder = r.holder;
+        home = r.home;
+        ever = r.ever;
+        words = r.words;
+        homes = r.homes;
+        value = r.value;
+        away = λ e. at_longer (set s.views by v) (v ∷ []) r.holder (holding key) (as_was ∙ r.away e);
+        taken = λ e. let t = r.taken e in (t.0, at_longer (set s.views by v) (v ∷ []) r.holder t.0 (as_was ∙ t.1), t.2);
+        each = each_split (Fits r.holder r.home r.ever) s.views by v v (λ j u _ e. r.each j u e) mine (idles r.holder r.home r.ever _ v mine.of idle mine.met);
+      }
 
   grabbing : (slots by : ℕ) (v : TurnView) → v.holds ≡ false → Allows Rule slots by (v, []) 0 (λ _. 1) (grabs table (step slots 0 1 0 none) (v, []))
   grabbing slots by v idle s r deep at _ = by_home r.home refl
     where
-      mine : Fits r.holder r.home by v
+      mine : Fits r.holder r.home r.ever by v
       mine = r.each by v at
+
+      -- whoever holds the value is another
+      apart : r.home ≡ none → r.holder ≢ by
+      apart is e = off (sym idle ∙ ap (λ (z : TurnView). z.holds) (some-injective v (holding key) (sym at ∙ (ap (get_elem? s.views) (sym e) ∙ r.away is))))
 
       by_home : (h : maybe.Option (Option C)) → r.home ≡ h
           → (w : TurnView) × (a : Act (Option C)) × Valid s.homes [] a × Rule (stepped s 0 1 by [] w a) × grabs table (step slots 0 1 0 none) (v, []) (get_or s.words 0 0) (w, carried_after [] a)
-      by_home none is = (
-        v,
-        keeps,
-        tt,
-        record {
-          holder = r.holder;
-          home = none;
-          words = ap (λ (l : List ℕ). set l 0 1) r.words;
-          homes = r.homes ∙ ap (λ h. h ∷ []) is;
-          value = λ x e. absurd (some-ne-none x (sym e));
-          away = λ _. ap (λ (l : List TurnView). get_elem? l r.holder) (set_again s.views by v at) ∙ r.away is;
-          each = each_set (Fits r.holder none) s.views by v (λ j u _ e. let f = r.each j u e in record { of = f.of; holds = λ h. ((f.holds h).0, refl) }) (waits r.holder none by v mine.of idle);
-        },
-        record { free = λ e. let n = ap (λ (l : List ℕ). get_or l 0 0) r.words ∙ ap taken_bit is in absurd (omega arith); taken = λ _. refl },
-      )
+      by_home none is =
+          let held : get_elem? (set s.views by (refused v.of)) r.holder ≡ some (holding key) = set_else s.views by r.holder (refused v.of) (apart is) ∙ r.away is in (
+            refused v.of,
+            keeps,
+            tt,
+            record {
+              holder = r.holder;
+              home = none;
+              ever = true;
+              words = ap (λ (l : List ℕ). set l 0 1) r.words;
+              homes = r.homes ∙ ap (λ h. h ∷ []) is;
+              value = λ x e. absurd (some-ne-none x (sym e));
+              away = λ _. held;
+              taken = λ _. (holding key, held, refl);
+              each = each_set (Fits r.holder none true) s.views by (refused v.of) (λ j u _ e. let f = r.each j u e in record { of = f.of; holds = λ h. ((f.holds h).0, refl); met = λ _. refl }) (idles r.holder none true by (refused v.of) mine.of refl (λ _. refl));
+            },
+            record { free = λ e. let n = ap (λ (l : List ℕ). get_or l 0 0) r.words ∙ ap taken_bit is in absurd (omega arith); taken = λ _. refl },
+          )
       by_home (some x) is = let c = r.value x is in (
         holding v.of,
         takes 0 (Some c.0),
@@ -83,28 +94,32 @@ module _ {C : Type 0} (table : C → Identity) (key : Snapshot MtTable) where
         record {
           holder = by;
           home = none;
+          ever = true;
           words = ap (λ (l : List ℕ). set l 0 1) r.words;
           homes = ap (λ l. set l 0 none) r.homes;
           value = λ x e. absurd (some-ne-none x (sym e));
           away = λ _. view_set s.views by v (holding v.of) at ∙ ap (λ (k : Snapshot MtTable). some (holding k)) mine.of;
-          each = each_set (Fits by none) s.views by (holding v.of) (λ j u _ e. let f = r.each j u e in record { of = f.of; holds = λ h. absurd (some-ne-none x (sym is ∙ (f.holds h).1)) }) record { of = mine.of; holds = λ _. (refl, refl) };
+          taken = λ _. (holding v.of, view_set s.views by v (holding v.of) at, refl);
+          each = each_set (Fits by none true) s.views by (holding v.of) (λ j u _ e. let f = r.each j u e in record { of = f.of; holds = λ h. absurd (some-ne-none x (sym is ∙ (f.holds h).1)); met = λ _. refl }) record { of = mine.of; holds = λ _. (refl, refl); met = λ _. refl };
         },
         record { free = λ _. (c.0, refl, c.2 ∙ ap served (sym mine.of)); taken = λ n. absurd (n (ap (λ (l : List ℕ). get_or l 0 0) r.words ∙ ap taken_bit is)) },
       )
 
   releasing : (slots by : ℕ) (v : TurnView) (c : C) → v.holds ≡ true → table c ≡ served key → Allows Rule slots by (v, (0, Some c) ∷ []) 0 (λ _. 0) (λ _. releases (step slots 0 0 0 none) (v, (0, Some c) ∷ []) 0)
   releasing slots by v c held is s r deep at _ = let mine = r.each by v at in let known = mine.holds held in (
-    waiting v.of,
+    given_back v.of,
     gives,
     tt,
     record {
-      holder = r.holder;
+      holder = by;
       home = some (Some c);
+      ever = true;
       words = ap (λ (l : List ℕ). set l 0 0) r.words;
       homes = ap (λ l. set l 0 (some (Some c))) r.homes;
       value = λ x e. (c, sym (some-injective _ _ e), is);
       away = λ e. absurd (some-ne-none (Some c) e);
-      each = each_set (Fits r.holder (some (Some c))) s.views by (waiting v.of) (λ j u apart e. let f = r.each j u e in record { of = f.of; holds = λ h. absurd (apart ((f.holds h).0 ∙ sym known.0)) }) (waits r.holder (some (Some c)) by (waiting v.of) mine.of refl);
+      taken = λ _. (given_back v.of, view_set s.views by v (given_back v.of) at, refl);
+      each = each_set (Fits by (some (Some c)) true) s.views by (given_back v.of) (λ j u apart e. let f = r.each j u e in record { of = f.of; holds = λ h. absurd (apart ((f.holds h).0 ∙ sym known.0)); met = λ _. refl }) (idles by (some (Some c)) true by (given_back v.of) mine.of refl (λ _. refl));
     },
     refl,
   )
@@ -113,8 +128,12 @@ module _ {C : Type 0} (table : C → Identity) (key : Snapshot MtTable) where
   pub sits : (by : ℕ) (v : TurnView) → v ≡ waiting key → Splits Rule by v v v
   sits by v is = sitting by v (ap (λ (z : TurnView). z.holds) is)
 
-  pub grabs_value : (slots by : ℕ) (me : M) → me ≡ (waiting key, []) → Allows Rule slots by me 0 (λ _. 1) (grabs table (step slots 0 1 0 none) me)
-  grabs_value slots by me is = subst (λ (m : M). Allows Rule slots by m 0 (λ _. 1) (grabs table (step slots 0 1 0 none) m)) (sym is) (grabbing slots by (waiting key) refl)
+  pub grabs_value : (slots by : ℕ) (me : M) → me.0.holds ≡ false → me.1 ≡ [] → Allows Rule slots by me 0 (λ _. 1) (grabs table (step slots 0 1 0 none) me)
+  grabs_value slots by me idle bare = subst (λ (l : List (ℕ × Option C)). Allows Rule slots by (me.0, l) 0 (λ _. 1) (grabs table (step slots 0 1 0 none) (me.0, l))) (sym bare) (grabbing slots by me.0 idle)
+
+  -- the seat at this table's turn has grabbed the value
+  pub has_grabbed : (me me' : M) → me.0.of ≡ key → me.1 ≡ [] → (value : C) × (me' ≡ (holding me.0.of, (0, Some value) ∷ me.1)) × (table value ≡ served me.0.of) → HasGrabbed table key me'
+  has_grabbed me me' of bare got = (got.0, got.1 ∙ (λ i. (holding (of i), (0, Some got.0) ∷ bare i)), got.2 ∙ ap served of)
 
   pub releases_value : (slots by : ℕ) (me : M) (c : C) → me ≡ (holding key, (0, Some c) ∷ []) → table c ≡ served key → Allows Rule slots by me 0 (λ _. 0) (λ _. releases (step slots 0 0 0 none) me 0)
   releases_value slots by me c is fits = subst (λ (m : M). Allows Rule slots by m 0 (λ _. 0) (λ _. releases (step slots 0 0 0 none) m 0)) (sym is) (releasing slots by (holding key) c refl fits)

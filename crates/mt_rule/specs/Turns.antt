@@ -1,6 +1,6 @@
 -- The rule of the turn: one seat at most holds the value, which is of the table that the turn serves.
 -- Source: the kernel's ma_lock, which a writer of a tree holds.
-use Rattle.std.specs.Prelude.{◌≡◌, ◌≢◌, ℕ, [], ◌∷◌, true, false, Option, Some}
+use Rattle.std.specs.Prelude.{◌≡◌, ◌≢◌, ℕ, [], ◌∷◌, Bool, true, false, List, Option, Some}
 use mathlib.Core.Option.{some, none}
 use mathlib.Core.Option as maybe
 use lib.ListN.{get_elem?}
@@ -10,6 +10,7 @@ use Rattle.atomic_table.specs.declared.shared.Seat.{Seat}
 use Rattle.std.specs.declared.snapshot.Snapshot.{Snapshot}
 use Rattle.mt_rule.specs.declared.table.MtTable.{MtTable}
 use Rattle.mt_rule.specs.declared.passes.Pass.{Pass}
+use Rattle.mt_rule.specs.declared.busy.Busy.{Busy}
 use Rattle.mt_rule.specs.declared.views.TurnView.{TurnView}
 use Rattle.mt_rule.specs.Tokens.{Identity, identity_of, turn_seat}
 
@@ -18,10 +19,18 @@ abbrev pub served : Snapshot MtTable → Identity
 served key = identity_of key.value
 
 abbrev pub waiting : Snapshot MtTable → TurnView
-waiting key = record { holds = false; of = key }
+waiting key = record { holds = false; held = false; met = false; of = key }
 
 abbrev pub holding : Snapshot MtTable → TurnView
-holding key = record { holds = true; of = key }
+holding key = record { holds = true; held = true; met = false; of = key }
+
+-- it has given the value back
+abbrev pub given_back : Snapshot MtTable → TurnView
+given_back key = record { holds = false; held = true; met = false; of = key }
+
+-- it has found the value away
+abbrev pub refused : Snapshot MtTable → TurnView
+refused key = record { holds = false; held = false; met = true; of = key }
 
 -- The pass has a seat at this turn, and may wait for its value.
 pub record IsSeatedAt (turn : TableId) (key : Snapshot MtTable) (p : Pass) : Type 0 where
@@ -33,35 +42,49 @@ pub record IsTakenOf {S : Type 0} (turn : TableId) (key : Snapshot MtTable) (sea
   pub table : seat.table_id ≡ turn
   pub view : seat.me.0 ≡ holding key
 
+-- It is of a seat that has found the value of this turn away.
+pub record IsBusyAt (turn : TableId) (key : Snapshot MtTable) (busy : Busy) : Type 0 where
+  pub table : busy.seat.table_id ≡ turn
+  pub views : busy.seat.views ≡ refused key ∷ []
+
 -- the word is 0 while the value is in the slot
 abbrev pub taken_bit : {X : Type 0} → maybe.Option X → ℕ
 taken_bit none = 1
 taken_bit (some x) = 0
+
+-- this seat has held the value
+abbrev pub HasHeld : List TurnView → ℕ → Type 0
+HasHeld views j = (v : TurnView) × (get_elem? views j ≡ some v) × (v.held ≡ true)
 
 module _ {C : Type 0} (table : C → Identity) where
   -- a value that is there and is of this table
   abbrev pub BelongsTo : Identity → Option C → Type 0
   BelongsTo t slot = (value : C) × (slot ≡ Some value) × (table value ≡ t)
 
-  -- a seat knows the table that is served; the one that holds the value is the holder, and then the slot is away
-  pub record SeatFits (key : Snapshot MtTable) (holder : ℕ) (home : maybe.Option (Option C)) (by : ℕ) (v : TurnView) : Type 0 where
+  -- A seat knows the table that is served. The one that holds the value is the holder, and then the slot is away. One has found
+  -- the value away only where it was ever taken.
+  pub record SeatFits (key : Snapshot MtTable) (holder : ℕ) (home : maybe.Option (Option C)) (ever : Bool) (by : ℕ) (v : TurnView) : Type 0 where
     pub of : v.of ≡ key
     pub holds : v.holds ≡ true → (by ≡ holder) × (home ≡ none)
+    pub met : v.met ≡ true → ever ≡ true
 
   -- While the slot is away one seat says that it holds the value: it goes on saying so until the slot is home and the word 0.
+  -- Where the value was ever taken, the seat that took it last says that it has held it.
   pub record IsTurnKept (key : Snapshot MtTable) (s : State (Option C) TurnView) : Type 0 where
     pub holder : ℕ
     pub home : maybe.Option (Option C)
+    pub ever : Bool
     pub words : s.words ≡ taken_bit home ∷ []
     pub homes : s.homes ≡ home ∷ []
     pub value : (slot : Option C) → home ≡ some slot → BelongsTo (served key) slot
     pub away : home ≡ none → get_elem? s.views holder ≡ some (holding key)
-    pub each : (by : ℕ) (v : TurnView) → get_elem? s.views by ≡ some v → SeatFits key holder home by v
+    pub taken : ever ≡ true → HasHeld s.views holder
+    pub each : (by : ℕ) (v : TurnView) → get_elem? s.views by ≡ some v → SeatFits key holder home ever by v
 
-  -- A swap of 1 into the word: where it was 0, the seat then holds the value; else nothing has changed.
+  -- A swap of 1 into the word: where it was 0, the seat then holds the value; else it has found it away.
   pub record Grabbed (me : Me (Option C) TurnView) (found : ℕ) (me' : Me (Option C) TurnView) : Type 0 where
     pub free : found ≡ 0 → (value : C) × (me' ≡ (holding me.0.of, (0, Some value) ∷ me.1)) × (table value ≡ served me.0.of)
-    pub taken : found ≢ 0 → me' ≡ me
+    pub taken : found ≢ 0 → me' ≡ (refused me.0.of, me.1)
 
   -- the value has just been grabbed, and its slot is away with this seat
   abbrev pub HasGrabbed : Snapshot MtTable → Me (Option C) TurnView → Type 0
@@ -70,6 +93,6 @@ module _ {C : Type 0} (table : C → Identity) where
   abbrev pub grabs : Step (Option C) → Me (Option C) TurnView → ℕ → Me (Option C) TurnView → Type 0
   grabs step me found me' = Grabbed me found me'
 
--- the store of 0: the seat waits again, and no slot is away with it
+-- the store of 0: the seat has given the value back, and no slot is away with it
 abbrev pub releases : {C : Type 0} → Step (Option C) → Me (Option C) TurnView → ℕ → Me (Option C) TurnView → Type 0
-releases step me stored me' = me' ≡ (waiting me.0.of, [])
+releases step me stored me' = me' ≡ (given_back me.0.of, [])

@@ -2,6 +2,7 @@
 //! its writers.
 #![tactic(auto)]
 
+mod busy;
 pub mod laws;
 mod notes;
 mod passes;
@@ -14,6 +15,7 @@ mod turn;
 mod views;
 mod writes;
 
+pub use busy::Busy;
 pub use notes::Note;
 pub use passes::Pass;
 pub use pens::Pen;

@@ -13,8 +13,8 @@ use crate::pens::Pen;
 use crate::rule::{Deals, Ruled};
 use crate::views::{Told, View};
 use atomic_table::{Badge, Table};
-use mt_base::{Kind, NoMemory, Width, cols, width_of};
-use mt_rows::{PlainRows, Rows};
+use mt_base::{Kind, NoMemory, Width, width_of};
+use mt_rows::{PlainRows, RowWidth, Rows};
 use std::alloc::Global;
 use std::snapshot::Snapshot;
 
@@ -53,7 +53,7 @@ pub(crate) fn section_index(pass: u32) -> usize
 #[derive(Drop)]
 pub struct MtTable {
     pub(crate) table: Table<(), View, Told, Ruled, Global>,
-    width: Width,
+    width: RowWidth,
     passes: u32,
     rows: u64,
     ghost many: { passes ≡ table.shared.key.passes },
@@ -80,7 +80,7 @@ impl MtTable {
         requires column { col < columns self.now.width }
         ensures { result ≡ column_at self.now.width row col }
     {
-        cols(self.width) as usize * row as usize + col as usize
+        self.width.place_of(row, col)
     }
 
     /// How many passes the tree has.
@@ -101,7 +101,7 @@ impl MtTable {
     pub fn width(&self) -> Width
         ensures { result ≡ kind_width (identity_of self.now).shape.kind }
     {
-        self.width
+        self.width.width()
     }
 
     /// A table of the words of these rows, for a tree that opens with them; its pen, and its passes, numbered from 0. Rows that
@@ -184,7 +184,7 @@ impl MtTable {
         let (table, seat) = Table::of_words(alloc, words, &told)?;
         let table = MtTable {
             table,
-            width: width_of(kind),
+            width: RowWidth::of_width(width_of(kind)),
             passes,
             rows,
         };

@@ -1,9 +1,10 @@
 //! The turn of a tree's writers: a lock whose value is of the tree's table.
 
-ghost use Rattle.std.specs.Prelude.{◌≡◌, IfOk, IfErr, All, map, None, [], ◌∷◌};
+ghost use Rattle.std.specs.Prelude.{◌≡◌, IfOk, IfErr, All, map, None, true, false, [], ◌∷◌};
 ghost use Rattle.mt_rule.specs.Tokens.{Identity, identity_of, identity_of_pass, identity_of_pen, tree_seat, IsPassOf, pass_in};
-ghost use Rattle.mt_rule.specs.Turns.{HasGrabbed, IsSeatedAt, IsTakenOf, waiting, served};
+ghost use Rattle.mt_rule.specs.Turns.{HasGrabbed, IsBusyAt, IsSeatedAt, IsTakenOf, given_back, refused, waiting, served};
 
+use crate::busy::Busy;
 use crate::passes::Pass;
 use crate::pens::Pen;
 use crate::table::MtTable;
@@ -163,12 +164,47 @@ impl<C: OfTable> Turn<C> {
     {
         let mut seat = self.seat(pass);
         for _ in rt.forever() {
-            if self.table.shared.swap::<Grabs>(&mut seat, 0, 1) == 0 {
+            if self.grab(&mut seat) {
                 return self.grabbed(seat);
             }
             thread::yield_now();
         }
         unreachable!()
+    }
+
+    /// Takes the value, if it is in the slot: by one swap, and without a wait.
+    ///
+    /// # Errors
+    ///
+    /// `Busy` where the swap found it away. Only a seat that has found it away says so, and none has before the value was ever
+    /// taken: so that no answer is `Busy` but by a step at the turn.
+    pub fn try_take(&self, pass: &mut Pass) -> Result<Taken<C>, Busy>
+        requires seated { IsSeatedAt self.now.table.shared.table_id self.now.table.shared.key pass.old }
+        ensures pass { pass.new ≡ pass.old }
+        ensures value { IfOk result (λ taken. C.table taken.value ≡ served self.now.table.shared.key) }
+        ensures taken { IfOk result (λ taken. IsTakenOf self.now.table.shared.table_id self.now.table.shared.key taken.seat) }
+        ensures busy { IfErr result (IsBusyAt self.now.table.shared.table_id self.now.table.shared.key) }
+    {
+        let mut seat = self.seat(pass);
+        if !self.grab(&mut seat) {
+            return Err(Busy {
+                seat: seat.into_badge(),
+            });
+        }
+        Ok(self.grabbed(seat))
+    }
+
+    /// Swaps 1 into the word. Where the value was in its slot, that is then away with the seat; else the seat has found it away.
+    fn grab(&self, seat: &mut Seat<Option<C>, TurnView>) -> bool
+        requires table { seat.old.table_id ≡ self.now.table.shared.table_id }
+        requires of { seat.old.me.0.of ≡ self.now.table.shared.key }
+        requires idle { seat.old.me.0.holds ≡ false }
+        requires bare { seat.old.me.1 ≡ [] }
+        ensures table { seat.new.table_id ≡ seat.old.table_id }
+        ensures away { result ≡ true → HasGrabbed C.table self.now.table.shared.key seat.new.me }
+        ensures refused { result ≡ false → seat.new.me ≡ (refused self.now.table.shared.key, []) }
+    {
+        self.table.shared.swap::<Grabs>(seat, 0, 1) == 0
     }
 
     /// Takes the value out of the slot, which is away with the seat. It is moved behind the swap that grabs it, and not across
@@ -191,12 +227,12 @@ impl<C: OfTable> Turn<C> {
         let _ = self.given(taken);
     }
 
-    /// Gives the value back. Answers the seat that had it, which waits again: the slot has the value, and the word is 0.
+    /// Gives the value back. Answers the seat that had it: the slot has the value, and the word is 0.
     fn given(&self, taken: Taken<C>) -> Seat<Option<C>, TurnView>
         requires taken { IsTakenOf self.now.table.shared.table_id self.now.table.shared.key taken.seat }
         requires value { C.table taken.value ≡ served self.now.table.shared.key }
         ensures same { (result.table_id ≡ taken.seat.table_id) × (result.id ≡ taken.seat.id) }
-        ensures given { result.me ≡ (waiting self.now.table.shared.key, []) }
+        ensures given { result.me ≡ (given_back self.now.table.shared.key, []) }
     {
         let Taken { value, mut seat } = taken;
         let empty = self.table.shared.exchange(&mut seat, 0, Some(value));

@@ -113,8 +113,11 @@ pub struct NotePart {
 
 /// What a seat at the turn knows.
 pub struct TurnView {
-    /// Whether it holds the value.
+    /// Whether it holds the value, and whether it has held it.
     pub holds: bool,
+    pub held: bool,
+    /// Whether it has found the value away.
+    pub met: bool,
     /// The table that the turn serves.
     pub of: Snapshot<MtTable>,
 }

@@ -1,6 +1,5 @@
-use Rattle.std.proofs.Common.{◌≡◌, []}
-use Rattle.mt_rule.specs.Turns.{waiting}
+use Rattle.std.proofs.Common.{◌≡◌, [], false}
 use Rattle.mt_rule.proofs.turn.Turn.take.Given as goal
 
 abbrev pub invariant-loop : goal.invariant-loop
-invariant-loop g l = (l.seat.table_id ≡ l.fn.self.table.shared.table_id) × (l.seat.me ≡ (waiting l.fn.self.table.shared.key, []))
+invariant-loop g l = (l.seat.table_id ≡ l.fn.self.table.shared.table_id) × (l.seat.me.0.of ≡ l.fn.self.table.shared.key) × (l.seat.me.0.holds ≡ false) × (l.seat.me.1 ≡ [])

@@ -1,0 +1,10 @@
+//! That a lock was found taken.
+
+use crate::views::TurnView;
+use atomic_table::Badge;
+
+/// What is told by who has found a turn's value away. Only a step at the turn makes one: it has no bytes.
+#[derive(Drop)]
+pub struct Busy {
+    pub(crate) seat: Badge<TurnView>,
+}
