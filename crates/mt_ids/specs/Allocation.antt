@@ -1,0 +1,50 @@
+-- A tree as one sees it who takes single indexes of it.
+-- Source: the kernel's lib/maple_tree.c, mas_alloc_cyclic, which takes one index at a time.
+use Rattle.std.specs.Prelude.{◌≡◌, ℕ, ◌+◌, ◌/◌, ◌<◌, Bool, true, List, Option, Some}
+use Rattle.mt_base.specs.declared.kinds.Kind.{Kind}
+use Rattle.mt_base.specs.declared.ranges.Range.{Range}
+use Rattle.mt_base.specs.declared.calls.Call.{Call}
+use Rattle.mt_base.specs.declared.replies.Reply.{Reply}
+use Rattle.mt_base.specs.declared.replies.Reply.TheVariants.{NoNodes}
+use Rattle.mt_base.specs.declared.replies.Shortage.{Shortage}
+use Rattle.mt_base.specs.History.{Record, IsAnswered, map_after}
+use Rattle.mt_base.specs.Nodes.{Limits}
+
+-- a call and what it was answered
+pub record Made : Type 0 where
+  pub call : Call
+  pub reply : Reply
+
+-- The tree's kind, its rows, how many ranges it opened with and the greatest number of its calls; whether nobody else may hold
+-- rows back; its map, the number of its calls, and the last of them.
+pub record Allocation : Type 0 where
+  pub kind : Kind
+  pub rows : ℕ
+  pub opening : ℕ
+  pub limit : ℕ
+  pub alone : Bool
+  pub map : List Range
+  pub calls : ℕ
+  pub last : Option Made
+
+-- the limits of the tree's rows after so many calls
+abbrev pub limits_at : Allocation → ℕ → Limits
+limits_at s ended = record { rows = s.rows; opened = s.opening / 2 + 2; ended = ended; may_hold = true }
+
+-- as a record of the tree's history, of whatever pass
+abbrev pub recorded : Call → Reply → Record
+recorded call reply = record { pass = 0; call = call; reply = reply }
+
+-- One call more: it was answered by the map, or refused for want of rows, and where nobody else may hold rows none is held.
+pub record IsCalled (s : Allocation) (call : Call) (reply : Reply) (s' : Allocation) : Type 0 where
+  pub room : s.calls < s.limit
+  pub answered : IsAnswered s.kind (limits_at s s.calls) s.map (recorded call reply)
+  pub unheld : s.alone ≡ true → (shortage : Shortage) → reply ≡ NoNodes shortage → shortage.held ≡ 0
+  pub after : s' ≡ record s { map = map_after s.kind s.map (recorded call reply); calls = s.calls + 1; last = Some (record { call = call; reply = reply }) }
+
+-- only calls were made since; and they left the map
+abbrev pub IsAfter : Allocation → Allocation → Type 0
+IsAfter s t = t ≡ record s { map = t.map; calls = t.calls; last = t.last }
+
+abbrev pub IsSince : Allocation → Allocation → Type 0
+IsSince s t = t ≡ record s { calls = t.calls; last = t.last }

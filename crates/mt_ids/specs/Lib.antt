@@ -1,0 +1,4 @@
+pub mod Allocation
+pub mod Draws
+pub mod Runs
+pub mod Window
