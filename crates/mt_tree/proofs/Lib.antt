@@ -1,3 +1,4 @@
+pub mod Allocations
 pub mod Answering
 pub mod AtWork
 pub mod Calling

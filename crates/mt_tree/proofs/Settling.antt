@@ -1,5 +1,5 @@
 -- All passes see the whole history, one after another.
-use Rattle.std.proofs.Common.{◌≡◌, ◌≢◌, ℕ, ◌+◌, ◌<◌, ◌≤◌, List, [], ◌∷◌, Option, Some, None, length, map, set, get_or, refl, sym, ap, ◌∙◌, subst, ⊎_elim, arith, length-set}
+use Rattle.std.proofs.Common.{◌≡◌, ◌≢◌, ℕ, zero, suc, ◌+◌, ◌<◌, ◌≤◌, List, [], ◌∷◌, Option, Some, None, length, map, set, get_or, refl, sym, ap, ◌∙◌, subst, ⊎_elim, arith, length-set}
 use Rattle.std.specs.Prelude.{All, slice_get, IfSome}
 use Rattle.std.specs.List.{Contains}
 use Rattle.std.proofs.lemmas.List.{length-map}
@@ -14,36 +14,34 @@ use Rattle.mt_rule.specs.declared.passes.Pass.{Pass}
 use Rattle.mt_rule.specs.declared.views.PenPart.{PenPart}
 use Rattle.mt_rule.specs.declared.views.Shape.{Shape}
 use Rattle.mt_rule.specs.Rule.{IsOneHistory}
-use Rattle.mt_rule.specs.Seats.{pen_joined, records_of}
-use Rattle.mt_rule.specs.Tokens.{pass_in, WasShown}
+use Rattle.mt_rule.specs.Seats.{pen_joined, record_of, records_of}
+use Rattle.mt_rule.specs.Tokens.{pass_in}
 use Rattle.mt_rule.proofs.Moving.{shown_with}
 use Rattle.mt_tree.specs.declared.trees.Tree.{Tree}
 use Rattle.mt_tree.specs.Behind.{Behind, after_show}
+use Rattle.mt_tree.specs.Meeting.{Shown, AreShown, HaveMet}
 use Rattle.mt_tree.specs.Trees.{opened, place_of, passes_of, seen_by, IsPassOf, AreAll}
 use Rattle.mt_tree.proofs.Lists.{some_same, get_set, from_map}
-
-abbrev pub Shown : Tree → PenPart → known.Pass → known.Pass → Type 0
-Shown t pen p q = WasShown (opened t) pen p q × (pen.shape ≡ (place_of t).shape)
 
 -- the passes below n have seen the history, and what the others know is as before
 pub record Seeing (t : Tree) (pen : PenPart) (n : ℕ) (ps qs : List Pass) : Type 0 where
   pub count : length qs ≡ length ps
-  pub of : (i : ℕ) (q : Pass) → slice_get qs i ≡ Some q → IsPassOf t q × ((pass_in q).number ≡ i)
+  pub of : (i : ℕ) (q : Pass) → slice_get qs i ≡ Some q → IsPassOf t q
   pub done : (i : ℕ) (p q : Pass) → slice_get ps i ≡ Some p → slice_get qs i ≡ Some q → i < n → Shown t pen (pass_in p) (pass_in q)
   pub left : (i : ℕ) (p q : Pass) → slice_get ps i ≡ Some p → slice_get qs i ≡ Some q → n ≤ i → pass_in q ≡ pass_in p
 
 pub pass_at : (t : Tree) (pen : PenPart) (n : ℕ) (ps qs : List Pass) (d : Pass) → Seeing t pen n ps qs → n < length qs → IsPassOf t (get_or qs n d)
-pass_at t pen n ps qs d s low = (s.of n (get_or qs n d) (slice_get-get_or qs n d low)).0
+pass_at t pen n ps qs d s low = s.of n (get_or qs n d) (slice_get-get_or qs n d low)
 
-of_all : (t : Tree) (ps : List Pass) (i : ℕ) (p : Pass) → AreAll t ps → slice_get ps i ≡ Some p → IsPassOf t p
-of_all t ps i p all is =
+of_all : (t : Tree) (ps : List Pass) (i : ℕ) (p : Pass) → All (IsPassOf t) ps → slice_get ps i ≡ Some p → IsPassOf t p
+of_all t ps i p of is =
     let low = slice_get_within ps i p is in
-    subst (IsPassOf t) (some_same (get_or ps i p) p (sym (slice_get-get_or ps i p low) ∙ is)) (all.of i p low)
+    subst (IsPassOf t) (some_same (get_or ps i p) p (sym (slice_get-get_or ps i p low) ∙ is)) (of i p low)
 
-pub none_yet : (t : Tree) (pen : PenPart) (ps : List Pass) → AreAll t ps → Seeing t pen 0 ps ps
-none_yet t pen ps all = record {
+pub none_yet : (t : Tree) (pen : PenPart) (ps : List Pass) → All (IsPassOf t) ps → Seeing t pen 0 ps ps
+none_yet t pen ps of = record {
   count = refl;
-  of = λ i q is. (of_all t ps i q all is, all.numbered i q is);
+  of = λ i q is. of_all t ps i q of is;
   done = λ i p q is is' low. absurd (omega arith);
   left = λ i p q is is' low. ap pass_in (some_same q p (sym is' ∙ is));
 }
@@ -51,11 +49,10 @@ none_yet t pen ps all = record {
 pub one_more : (t : Tree) (pen : PenPart) (n : ℕ) (ps qs : List Pass) (d x : Pass) → Seeing t pen n ps qs → n < length qs → IsPassOf t x → Shown t pen (pass_in (get_or qs n d)) (pass_in x) → Seeing t pen (n + 1) ps (set qs n x)
 one_more t pen n ps qs d x s low of shown =
     let here = slice_get-get_or qs n d low in
-    let number : (pass_in x).number ≡ n = ap (λ (q : known.Pass). q.number) shown.0.saw.pass ∙ (s.of n (get_or qs n d) here).1 in
     record {
       count = length-set qs n x ∙ s.count;
       of = λ i q is. ⊎_elim
-          (λ (y : (i ≡ n) × (x ≡ q)). subst (λ (z : ℕ × Pass). IsPassOf t z.1 × ((pass_in z.1).number ≡ z.0)) (λ k. (sym y.0 k, y.1 k)) (of, number))
+          (λ (y : (i ≡ n) × (x ≡ q)). subst (IsPassOf t) y.1 of)
           (λ (y : (i ≢ n) × (slice_get qs i ≡ Some q)). s.of i q y.1)
           (get_set qs n i x q is);
       done = λ i p q is is' below. ⊎_elim
@@ -78,17 +75,56 @@ shown_since t a b p q same shown =
 
 -- ---- all have seen it
 
-pub still_all : (t : Tree) (pen : PenPart) (n : ℕ) (ps qs : List Pass) → AreAll t ps → Seeing t pen n ps qs → AreAll t qs
-still_all t pen n ps qs all s = record {
+pub still_of : (t : Tree) (pen : PenPart) (n : ℕ) (ps qs : List Pass) → Seeing t pen n ps qs → All (IsPassOf t) qs
+still_of t pen n ps qs s = λ i d low. s.of i (get_or qs i d) (slice_get-get_or qs i d low)
+
+pub all_shown : (t : Tree) (pen : PenPart) (n : ℕ) (ps qs : List Pass) → Seeing t pen n ps qs → length qs ≤ n → AreShown t pen ps qs
+all_shown t pen n ps qs s whole = record { count = s.count; each = λ i p q is is'. let low = slice_get_within qs i q is' in s.done i p q is is' (omega (arith, low, whole)) }
+
+-- the pass at this place, before and after
+before : (t : Tree) (pen : PenPart) (ps qs : List Pass) (i : ℕ) (q : Pass) → AreShown t pen ps qs → slice_get qs i ≡ Some q → (p : Pass) × (slice_get ps i ≡ Some p) × Shown t pen (pass_in p) (pass_in q)
+before t pen ps qs i q s is =
+    let low = slice_get_within qs i q is in
+    let count = s.count in
+    let here : slice_get ps i ≡ Some (get_or ps i q) = slice_get-get_or ps i q (omega (arith, low, count)) in
+    (get_or ps i q, here, s.each i (get_or ps i q) q here is)
+
+same_number : (t : Tree) (pen : PenPart) (p q : known.Pass) → Shown t pen p q → q.number ≡ p.number
+same_number t pen p q shown = ap (λ (x : known.Pass). x.number) shown.0.saw.pass
+
+pub still_all : (t : Tree) (pen : PenPart) (ps qs : List Pass) → AreAll t ps → All (IsPassOf t) qs → AreShown t pen ps qs → AreAll t qs
+still_all t pen ps qs all of s = record {
   count = s.count ∙ all.count;
-  of = λ i d low. (s.of i (get_or qs i d) (slice_get-get_or qs i d low)).0;
-  numbered = λ i q is. (s.of i q is).1;
+  of = of;
+  numbered = λ i q is. let b = before t pen ps qs i q s is in same_number t pen (pass_in b.0) (pass_in q) b.2 ∙ all.numbered i b.0 b.1;
 }
+
+-- the second is the first one when it has seen the whole history
+abbrev Met : Tree → Behind → known.Pass × known.Pass → Type 0
+Met t a z = Saw (opened t) z.0 z.1 × (z.1.seen ≡ records_of a.pen.history)
+
+-- a pass that was shown the history, and others that the same pen has shown it since, have met
+pub have_met : (t : Tree) (a b : Behind) (p q : Pass) (ps qs : List Pass) (calls : ℕ) → b ≡ after_show a → calls ≡ length a.pen.history → Shown t a.pen (pass_in p) (pass_in q) → AreShown t b.pen ps qs
+    → HaveMet t (map pass_in (p ∷ ps)) (map pass_in (q ∷ qs)) calls
+have_met t a b p q ps qs calls joined count own s = record {
+  count = ap suc (length-map qs pass_in ∙ (s.count ∙ sym (length-map ps pass_in)));
+  history = records_of a.pen.history;
+  all = length-map a.pen.history record_of ∙ sym count;
+  each = each;
+}
+  where
+    each : (i : ℕ) (x y : known.Pass) → slice_get (map pass_in (p ∷ ps)) i ≡ Some x → slice_get (map pass_in (q ∷ qs)) i ≡ Some y → Met t a (x, y)
+    each zero x y is is' = subst (Met t a) (λ k. (some_same (pass_in p) x is k, some_same (pass_in q) y is' k)) (own.0.saw, own.0.all)
+    each (suc i) x y is is' =
+        let from = from_map pass_in (slice_get ps i) x (sym (slice_get-map pass_in ps i) ∙ is) in
+        let to = from_map pass_in (slice_get qs i) y (sym (slice_get-map pass_in qs i) ∙ is') in
+        let shown = s.each i from.0 to.0 from.1.0 to.1.0 in
+        subst (Met t a) (λ k. (from.1.1 k, to.1.1 k)) (shown.0.saw, shown.0.all ∙ ap (λ (z : Behind). records_of z.pen.history) joined)
 
 each_all : {A : Type 0} (P : A → Type 0) (xs : List A) → ((i : ℕ) (x : A) → slice_get xs i ≡ Some x → P x) → All P xs
 each_all P xs each = λ i d low. each i (get_or xs i d) (slice_get-get_or xs i d low)
 
-module _ (t : Tree) (pen : PenPart) (n : ℕ) (ps qs : List Pass) (s : Seeing t pen n ps qs) (whole : length qs ≤ n) where
+module _ (t : Tree) (pen : PenPart) (ps qs : List Pass) (every : AreAll t ps) (s : AreShown t pen ps qs) where
   abbrev history : History
   history = with_records (opened t) (records_of pen.history)
 
@@ -100,11 +136,8 @@ module _ (t : Tree) (pen : PenPart) (n : ℕ) (ps qs : List Pass) (s : Seeing t 
   was : (i : ℕ) (q : known.Pass) → slice_get (map pass_in qs) i ≡ Some q → Was i q
   was i q is =
       let from = from_map pass_in (slice_get qs i) q (sym (slice_get-map pass_in qs i) ∙ is) in
-      let low = slice_get_within qs i from.0 from.1.0 in
-      let count = s.count in
-      let p = get_or ps i from.0 in
-      let here : slice_get ps i ≡ Some p = slice_get-get_or ps i from.0 (omega (arith, low, count)) in
-      subst (Was i) from.1.1 (record { number = (s.of i from.0 from.1.0).1; before = pass_in p; shown = s.done i p from.0 here from.1.0 (omega (arith, low)) })
+      let b = before t pen ps qs i from.0 s from.1.0 in
+      subst (Was i) from.1.1 (record { number = same_number t pen (pass_in b.0) (pass_in from.0) b.2 ∙ every.numbered i b.0 b.1; before = pass_in b.0; shown = b.2 })
 
   saw_whole : (p q : known.Pass) → Saw (opened t) p q → Saw history p q
   saw_whole p q saw = record { seen = saw.seen; pass = saw.pass; begun = saw.begun; ended = saw.ended; sound = record { own = saw.sound.own; legal = saw.sound.legal } }
@@ -129,8 +162,7 @@ module _ (t : Tree) (pen : PenPart) (n : ℕ) (ps qs : List Pass) (s : Seeing t 
   each_saw i p q is is' =
       let from = from_map pass_in (slice_get ps i) p (sym (slice_get-map pass_in ps i) ∙ is) in
       let to = from_map pass_in (slice_get qs i) q (sym (slice_get-map pass_in qs i) ∙ is') in
-      let low = slice_get_within qs i to.0 to.1.0 in
-      subst (λ (z : known.Pass × known.Pass). Saw history z.0 z.1) (λ k. (from.1.1 k, to.1.1 k)) (saw_whole (pass_in from.0) (pass_in to.0) (s.done i from.0 to.0 from.1.0 to.1.0 (omega (arith, low))).0.saw)
+      subst (λ (z : known.Pass × known.Pass). Saw history z.0 z.1) (λ k. (from.1.1 k, to.1.1 k)) (saw_whole (pass_in from.0) (pass_in to.0) (s.each i from.0 to.0 from.1.0 to.1.0).0.saw)
 
   module _ (one : IsOneHistory pen) (many : pen.shape.passes ≡ length qs) (legal : IsLegal history) where
     all_settled : IsSettled history (map pass_in qs)
@@ -150,12 +182,12 @@ module _ (t : Tree) (pen : PenPart) (n : ℕ) (ps qs : List Pass) (s : Seeing t 
     all_of : Settled history (map pass_in ps) (map pass_in qs)
     all_of = record { count = length-map qs pass_in ∙ (s.count ∙ sym (length-map ps pass_in)); each = each_saw; settled = all_settled }
 
-pub settled : (t : Tree) (pen : PenPart) (n : ℕ) (ps qs : List Pass) → Seeing t pen n ps qs → length qs ≤ n → AreAll t ps → 1 ≤ passes_of t → Settled (seen_by t (map pass_in qs)) (map pass_in ps) (map pass_in qs)
-settled t pen n ps [] s whole all some = let a = all.count in let b = s.count in absurd (omega (arith, a, b, some))
-settled t pen n ps (q ∷ qs) s whole all some =
-    let w = was t pen n ps (q ∷ qs) s whole 0 (pass_in q) refl in
+pub settled : (t : Tree) (pen : PenPart) (ps qs : List Pass) → AreAll t ps → AreShown t pen ps qs → 1 ≤ passes_of t → Settled (seen_by t (map pass_in qs)) (map pass_in ps) (map pass_in qs)
+settled t pen ps [] all s some = let a = all.count in let b = s.count in absurd (omega (arith, a, b, some))
+settled t pen ps (q ∷ qs) all s some =
+    let w = was t pen ps (q ∷ qs) all s 0 (pass_in q) refl in
     let one = w.shown.0.sound.history in
     let many : pen.shape.passes ≡ length (q ∷ qs) = ap (λ (x : Shape). x.passes) w.shown.1 ∙ (sym all.count ∙ sym s.count) in
     let seen : (pass_in q).seen ≡ records_of pen.history = w.shown.0.all in
     let legal : IsLegal (with_records (opened t) (records_of pen.history)) = subst (λ (rs : List Record). IsLegal (with_records (opened t) rs)) seen w.shown.0.saw.sound.legal in
-    subst (λ (rs : List Record). Settled (with_records (opened t) rs) (map pass_in ps) (map pass_in (q ∷ qs))) (sym seen) (all_of t pen n ps (q ∷ qs) s whole one many legal)
+    subst (λ (rs : List Record). Settled (with_records (opened t) rs) (map pass_in ps) (map pass_in (q ∷ qs))) (sym seen) (all_of t pen ps (q ∷ qs) all s one many legal)

@@ -1,8 +1,13 @@
+pub mod Allocations
 pub mod Asks
 pub mod Behind
+pub mod Calls
 pub mod Copies
 pub mod Cursors
+pub mod Meeting
 pub mod Shapes
 pub mod Trees
+pub mod Tries
+pub mod Walks
 pub mod Works
 pub mod Zeros

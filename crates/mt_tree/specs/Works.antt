@@ -1,6 +1,7 @@
 -- A call at work on the rows of a tree: what it begins with, and what it leaves behind the lock.
 -- Source: this project's own.
-use Rattle.std.specs.Prelude.{◌≡◌, ◌≤◌, Option, Some, None, List, [], ◌∷◌, length}
+use Rattle.std.specs.Prelude.{◌≡◌, ◌≤◌, ◌<◌, Option, Some, None, List, [], ◌∷◌, length}
+use Rattle.std.specs.List.{AllByRecursion}
 use Rattle.atomic_table.specs.declared.badge.Badge.{Badge}
 use Rattle.mt_base.specs.History.{Record}
 use Rattle.mt_base.specs.Passes as known
@@ -45,7 +46,8 @@ abbrev pub records_told : Option Told → List Record
 records_told None = []
 records_told (Some t) = t.records
 
--- The tools are back behind the tree's lock, with these rows and their book; and the pass knows what its rows told. Where scans
+-- The tools are back behind the tree's lock, with these rows and their book; all calls are of the tree's passes, and the pass
+-- knows what its rows told. Where scans
 -- were made, the section words that were loaded last are those of the last scan; where none was, no such word was loaded.
 pub record AreBack (t : Tree) (e : Parts) (tools : Option Tools) (p : Pass) : Type 0 where
   pub rest : IsAtRest tools
@@ -53,6 +55,7 @@ pub record AreBack (t : Tree) (e : Parts) (tools : Option Tools) (p : Pass) : Ty
   pub parts : (behind_of tools).parts ≡ record e { sheet = record (unscanned e.sheet) { told = None } }
   pub pass : IsPassOf t p
   pub sound : known.IsSound (opened t) (pass_in p)
+  pub callers : AllByRecursion (λ r. r.pass < passes_of t) (records_of (behind_of tools).pen.history)
   pub knows : (told : Told) → e.sheet.told ≡ Some told → (pass_in p ≡ pass_of_told told) × (records_of (behind_of tools).pen.history ≡ told.records)
   pub scanned : 1 ≤ e.sheet.scans → IsScanOf (behind_of tools).pen.sections (passes_of t) e.sheet.scan
   pub unscanned : e.sheet.scans ≡ 0 → (behind_of tools).pen.sections ≡ []

@@ -1,6 +1,7 @@
 //! What lies behind the lock of a tree.
 
-ghost use Rattle.std.specs.Prelude.{◌≡◌, ◌↔◌, ◌<◌, ◌≤◌, Some, None, true, [], length, IsOk, IsTrue, IfOk, IfErr};
+ghost use Rattle.std.specs.Prelude.{◌≡◌, ◌↔◌, ◌+◌, ◌<◌, ◌≤◌, Some, None, true, [], length, IsOk, IsTrue, IfOk, IfErr};
+ghost use Rattle.std.specs.List.{AllByRecursion};
 ghost use Rattle.mt_base.specs.declared.calls.Call.TheVariants.{StorePre};
 ghost use Rattle.mt_base.specs.Passes as known;
 ghost use Rattle.mt_base.specs.Passes.{Wrote};
@@ -8,7 +9,7 @@ ghost use Rattle.mt_engine.specs.Engine.{is_refusal};
 ghost use Rattle.mt_rule.specs.Seats.{records_of};
 ghost use Rattle.mt_rule.specs.Tokens.{pass_in, WasShown};
 ghost use Rattle.mt_tree.specs.Behind.{after_show, IsReady, IsRead, IsStored};
-ghost use Rattle.mt_tree.specs.Trees.{opened, limit_of, map_seen, place_of, IsPassOf, IsShortNow, IsWorn, NamesPass, WasAnsweredBy, WasPrepared};
+ghost use Rattle.mt_tree.specs.Trees.{opened, limit_of, map_seen, passes_of, place_of, IsPassOf, IsShortNow, IsWorn, NamesPass, WasAnsweredBy, WasPrepared};
 
 use crate::shapes::{Done, Read, Worn};
 use crate::trees::Tree;
@@ -96,6 +97,8 @@ impl WriterState {
         ensures of { IsPassOf tree.now pass.new }
         ensures seen { (pass_in pass.new).seen ≡ records_of self.new.pen.history }
         ensures done { IfOk result (λ d. Wrote (opened tree.now) (pass_in pass.old) d.call call.now d.reply (pass_in pass.new) × (d.call ≤ limit_of tree.now)) }
+        ensures number { IfOk result (λ d. d.call ≡ length self.old.pen.history + 1) }
+        ensures callers { IfOk result (λ d. AllByRecursion (λ r. r.pass < passes_of tree.now) (pass_in pass.new).seen) }
         ensures named { IfOk result (λ d. NamesPass tree.now d.reply) }
         ensures worn { IfErr result (λ w. IsWorn tree.now (pass_in pass.old) w (pass_in pass.new) × (self.new ≡ after_show self.old)) }
         ensures kept { IfOk result (λ d. is_refusal d.reply ≡ true → self.new.parts.sheet.tree ≡ self.old.parts.sheet.tree) }

@@ -23,6 +23,7 @@
 //! ```
 #![tactic(auto)]
 
+mod allocs;
 mod asks;
 mod behind;
 mod copies;
@@ -35,6 +36,8 @@ mod settle;
 mod shaped;
 mod shapes;
 mod trees;
+mod tries;
+mod walks;
 mod works;
 mod writes;
 mod zeros;
@@ -44,9 +47,9 @@ pub use cursors::Cursor;
 pub use locked::{Held, Locked, Write};
 pub use mt_base::{Call, Holder, Kind, MOST_ROWS, NoMemory, Query, Range, Reply, Shortage, Steps};
 pub use mt_check::Form;
-pub use mt_read::Moved;
+pub use mt_read::{Cursor as Walk, Moved};
 pub use mt_rows::PlainRows;
-pub use mt_rule::{MOST_CALLS, MOST_PASSES, Note, Pass};
+pub use mt_rule::{Busy, MOST_CALLS, MOST_PASSES, Note, Pass};
 pub use shapes::{Done, DupError, Field, MakeError, Read, Shape, Worn};
 pub use trees::Tree;
 pub use zeros::Zeros;

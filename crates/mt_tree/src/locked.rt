@@ -1,6 +1,7 @@
 //! Several calls under one lock.
 
-ghost use Rattle.std.specs.Prelude.{◌≡◌, ◌↔◌, ◌≤◌, Option, true, [], length, IsOk, IsTrue, IfOk, IfErr};
+ghost use Rattle.std.specs.Prelude.{◌≡◌, ◌↔◌, ◌+◌, ◌≤◌, ◌<◌, Option, true, [], length, IsOk, IsTrue, IfOk, IfErr};
+ghost use Rattle.std.specs.List.{AllByRecursion};
 ghost use Rattle.atomic_table.specs.declared.shared.Seat.{Seat};
 ghost use Rattle.mt_base.specs.declared.calls.Call.TheVariants.{StorePre};
 ghost use Rattle.mt_base.specs.Passes as known;
@@ -9,7 +10,7 @@ ghost use Rattle.mt_engine.specs.Engine.{is_refusal};
 ghost use Rattle.mt_rule.specs.declared.views.TurnView.{TurnView};
 ghost use Rattle.mt_rule.specs.Tokens.{pass_in};
 ghost use Rattle.mt_tree.specs.Behind.{Behind, after_show, IsReady, IsRead, IsStored};
-ghost use Rattle.mt_tree.specs.Trees.{opened, limit_of, map_seen, IsPassOf, IsOpen, IsShortNow, IsWorn, NamesPass, WasAnsweredBy, WasPrepared};
+ghost use Rattle.mt_tree.specs.Trees.{opened, limit_of, map_seen, passes_of, IsPassOf, IsOpen, IsShortNow, IsWorn, NamesPass, WasAnsweredBy, WasPrepared};
 
 use crate::behind::WriterState;
 use crate::shapes::{Done, Read, Worn};
@@ -46,12 +47,13 @@ pub struct Locked<'a, K: Held> {
 pub type Write<'a> = Locked<'a, Taken<WriterState>>;
 
 impl Tree {
-    /// Waits for the lock. The pass has then seen the whole history.
+    /// Waits for the lock. The pass has then seen the whole history, all of whose calls are of the tree's passes.
     pub fn lock<'a>(&'a self, rt: &impl Wait, pass: &'a mut Pass) -> Write<'a>
         requires { IsPassOf self.now pass.old }
         ensures same_reference { result.pass.ghost_name ≡ pass.entry.ghost_name }
         ensures tree { result.tree.now ≡ self.now }
         ensures saw { Saw (opened self.now) (pass_in pass.old) (pass_in result.pass.now) }
+        ensures callers { AllByRecursion (λ r. r.pass < passes_of self.now) (pass_in result.pass.now).seen }
     {
         let mut taken = self.turn.take(rt, pass);
         taken.value.show(self, pass);
@@ -63,6 +65,7 @@ impl Tree {
     }
 }
 
+#[tactic(auto, using(crate::proofs::Lending::next_call, crate::proofs::Lending::none_since))]
 fn act_under(
     taken: &mut Taken<WriterState>,
     tree: &Tree,
@@ -72,6 +75,9 @@ fn act_under(
     requires { IsOpen tree.now pass.old taken.old.value taken.old.seat }
     ensures open { IsOpen tree.now pass.new taken.new.value taken.new.seat }
     ensures done { IfOk result (λ d. Wrote (opened tree.now) (pass_in pass.old) d.call call.now d.reply (pass_in pass.new) × (d.call ≤ limit_of tree.now)) }
+    ensures number { IfOk result (λ d. d.call ≡ length (pass_in pass.old).seen + 1) }
+    ensures callers { IfOk result (λ d. AllByRecursion (λ r. r.pass < passes_of tree.now) (pass_in pass.new).seen) }
+    ensures still { IfErr result (λ w. (pass_in pass.new).seen ≡ (pass_in pass.old).seen) }
     ensures named { IfOk result (λ d. NamesPass tree.now d.reply) }
     ensures worn { IfErr result (λ w. IsWorn tree.now (pass_in pass.old) w (pass_in pass.new) × (taken.new.value ≡ after_show taken.old.value)) }
     ensures kept { IfOk result (λ d. is_refusal d.reply ≡ true → taken.new.value.parts.sheet.tree ≡ taken.old.value.parts.sheet.tree) }
@@ -149,11 +155,15 @@ fn list_under(
 
 impl<'a> Locked<'a, Taken<WriterState>> {
     /// Makes one call. One that wants rows is refused with `NoNodes` where too few are free, when those were freed that no section
-    /// holds, as the section words show that it loads; any other call loads none. A call that is refused leaves every word.
+    /// holds, as the section words show that it loads; any other call loads none. A call that is refused leaves every word. Its
+    /// number is the next: no call of another pass comes between.
     pub fn act(&mut self, call: &Call) -> Result<Done, Worn>
         ensures same_reference { self.new.pass.ghost_name ≡ self.old.pass.ghost_name }
         ensures tree { self.new.tree ≡ self.old.tree }
         ensures done { IfOk result (λ d. Wrote (opened self.old.tree.now) (pass_in self.old.pass.now) d.call call.now d.reply (pass_in self.new.pass.now) × (d.call ≤ limit_of self.old.tree.now)) }
+        ensures number { IfOk result (λ d. d.call ≡ length (pass_in self.old.pass.now).seen + 1) }
+        ensures callers { IfOk result (λ d. AllByRecursion (λ r. r.pass < passes_of self.old.tree.now) (pass_in self.new.pass.now).seen) }
+        ensures still { IfErr result (λ w. (pass_in self.new.pass.now).seen ≡ (pass_in self.old.pass.now).seen) }
         ensures named { IfOk result (λ d. NamesPass self.old.tree.now d.reply) }
         ensures worn { IfErr result (λ w. IsWorn self.old.tree.now (pass_in self.old.pass.now) w (pass_in self.new.pass.now) × (self.new.taken.value ≡ after_show self.old.taken.value)) }
         ensures kept { IfOk result (λ d. is_refusal d.reply ≡ true → self.new.taken.value.parts.sheet.tree ≡ self.old.taken.value.parts.sheet.tree) }

@@ -1,19 +1,34 @@
 //! All passes of a tree see the whole history.
 
-ghost use Rattle.std.specs.Prelude.{◌≡◌, map, length, flat_map, IsPermutation};
+ghost use Rattle.std.specs.Prelude.{◌≡◌, ◌∷◌, All, map, length, flat_map, IfErr, IfOk, IsPermutation};
 ghost use Rattle.std.specs.List.{range_with_len};
 ghost use Rattle.mt_base.specs.Passes.{Settled};
 ghost use Rattle.mt_rule.specs.Tokens.{pass_in};
 ghost use Rattle.mt_tree.specs.Behind.{after_show};
-ghost use Rattle.mt_tree.specs.Trees.{place_of, seen_by, AreAll};
+ghost use Rattle.mt_tree.specs.Meeting.{AreShown, HaveMet};
+ghost use Rattle.mt_tree.specs.Trees.{place_of, seen_by, AreAll, IsPassOf};
+ghost use Rattle.mt_tree.specs.Tries.{IsBusyOf};
 
 use crate::behind::WriterState;
 use crate::trees::Tree;
-use mt_rule::Pass;
+use mt_rule::{Busy, Pass};
 use std::sync::Wait;
 
 impl WriterState {
-    /// Each pass sees the whole history.
+    /// Each of these passes sees the whole history.
+    fn show_each(&mut self, tree: &Tree, passes: &mut [Pass])
+        requires table { self.old.table ≡ place_of tree.now }
+        requires of { All (IsPassOf tree.now) passes.old }
+        ensures state { after_show self.new ≡ after_show self.old }
+        ensures of { All (IsPassOf tree.now) passes.new }
+        ensures shown { AreShown tree.now self.old.pen passes.old passes.new }
+    {
+        for i in 0..passes.len() {
+            self.show(tree, &mut passes[i]);
+        }
+    }
+
+    /// All passes see the whole history.
     fn show_all(&mut self, tree: &Tree, passes: &mut [Pass])
         requires table { self.old.table ≡ place_of tree.now }
         requires all { AreAll tree.now passes.old }
@@ -21,9 +36,22 @@ impl WriterState {
         ensures all { AreAll tree.now passes.new }
         ensures settled { Settled (seen_by tree.now (map pass_in passes.new)) (map pass_in passes.old) (map pass_in passes.new) }
     {
-        for i in 0..passes.len() {
-            self.show(tree, &mut passes[i]);
-        }
+        self.show_each(tree, passes);
+    }
+
+    /// A pass and others see the whole history. Answers how many calls it has.
+    fn meet(&mut self, tree: &Tree, pass: &mut Pass, others: &mut [Pass]) -> u64
+        requires table { self.old.table ≡ place_of tree.now }
+        requires pass { IsPassOf tree.now pass.old }
+        requires others { All (IsPassOf tree.now) others.old }
+        ensures state { after_show self.new ≡ after_show self.old }
+        ensures pass { IsPassOf tree.now pass.new }
+        ensures others { All (IsPassOf tree.now) others.new }
+        ensures met { HaveMet tree.now (map pass_in (pass.old ∷ others.old)) (map pass_in (pass.new ∷ others.new)) result }
+    {
+        let calls = self.show(tree, pass);
+        self.show_each(tree, others);
+        calls
     }
 }
 
@@ -38,5 +66,45 @@ impl Tree {
         let mut taken = self.turn.take(rt, &mut passes[0]);
         taken.value.show_all(self, passes);
         self.turn.give(taken);
+    }
+
+    /// `settle`, if the lock is free. It does not wait.
+    ///
+    /// # Errors
+    ///
+    /// `Busy` where the lock was found taken; nothing is changed, and no pass has seen more.
+    pub fn try_settle(&self, passes: &mut [Pass]) -> Result<(), Busy>
+        requires { AreAll self.now passes.old }
+        ensures all { AreAll self.now passes.new }
+        ensures settled { IfOk result (λ _. Settled (seen_by self.now (map pass_in passes.new)) (map pass_in passes.old) (map pass_in passes.new)) }
+        ensures once { IfOk result (λ _. IsPermutation (range_with_len 1 (length (seen_by self.now (map pass_in passes.new)).records)) (flat_map (λ q. q.mine) (map pass_in passes.new))) }
+        ensures busy { IfErr result (IsBusyOf self.now) }
+        ensures kept { IfErr result (λ _. passes.new ≡ passes.old) }
+    {
+        let mut taken = self.turn.try_take(&mut passes[0])?;
+        taken.value.show_all(self, passes);
+        self.turn.give(taken);
+        Ok(())
+    }
+
+    /// A pass of the tree meets others under its lock, if that is free: each of them has then seen its whole history, of so many
+    /// calls. It does not wait.
+    ///
+    /// # Errors
+    ///
+    /// `Busy` where the lock was found taken; nothing is changed, and no pass has seen more.
+    pub fn try_meet(&self, pass: &mut Pass, others: &mut [Pass]) -> Result<u64, Busy>
+        requires pass { IsPassOf self.now pass.old }
+        requires others { All (IsPassOf self.now) others.old }
+        ensures pass { IsPassOf self.now pass.new }
+        ensures others { All (IsPassOf self.now) others.new }
+        ensures met { IfOk result (HaveMet self.now (map pass_in (pass.old ∷ others.old)) (map pass_in (pass.new ∷ others.new))) }
+        ensures busy { IfErr result (IsBusyOf self.now) }
+        ensures kept { IfErr result (λ _. (pass.new ≡ pass.old) × (others.new ≡ others.old)) }
+    {
+        let mut taken = self.turn.try_take(pass)?;
+        let calls = taken.value.meet(self, pass, others);
+        self.turn.give(taken);
+        Ok(calls)
     }
 }

@@ -1,6 +1,7 @@
 //! Calls at work: the tools are taken from behind the lock, an engine works on the table's rows, and they are put back.
 
 ghost use Rattle.std.specs.Prelude.{◌≡◌, ◌↔◌, ◌+◌, ◌-◌, ◌^◌, ◌<◌, ◌≤◌, None, true, [], length, IsOk, IfOk, IfErr};
+ghost use Rattle.std.specs.List.{AllByRecursion};
 ghost use Rattle.mt_base.specs.declared.calls.Call.TheVariants.{StorePre};
 ghost use Rattle.mt_base.specs.Passes as known;
 ghost use Rattle.mt_engine.specs.Engine.{is_refusal, IsApplied};
@@ -8,7 +9,7 @@ ghost use Rattle.mt_rule.specs.Seats.{records_of};
 ghost use Rattle.mt_rule.specs.Tokens.{pass_in, turn_seat, WasShown};
 ghost use Rattle.mt_pen.specs.Sheets.{sheet_told};
 ghost use Rattle.mt_tree.specs.Behind.{behind_of, IsAtRest, IsReady, IsRead, IsStored};
-ghost use Rattle.mt_tree.specs.Trees.{opened, limit_of, map_seen, place_of, IsPassOf, IsShortNow, NamesPass, WasAnsweredBy, WasPrepared};
+ghost use Rattle.mt_tree.specs.Trees.{opened, limit_of, map_seen, passes_of, place_of, IsPassOf, IsShortNow, NamesPass, WasAnsweredBy, WasPrepared};
 ghost use Rattle.mt_tree.specs.Works.{AreBack, IsSeatOf, IsWorker, records_told, shown_pass};
 
 use crate::behind::Tools;
@@ -86,6 +87,7 @@ pub(crate) fn act<W: Writer>(
     ensures of { IsPassOf tree.now pass.new }
     ensures seen { (pass_in pass.new).seen ≡ records_of (behind_of tools.new).pen.history }
     ensures wrote { known.Wrote (opened tree.now) (pass_in pass.old) (length (behind_of tools.old).pen.history + 1) call.now result (pass_in pass.new) }
+    ensures callers { AllByRecursion (λ r. r.pass < passes_of tree.now) (pass_in pass.new).seen }
     ensures named { NamesPass tree.now result }
     ensures kept { is_refusal result ≡ true → (behind_of tools.new).parts.sheet.tree ≡ (behind_of tools.old).parts.sheet.tree }
     ensures answered { WasAnsweredBy tree.now (pass_in pass.new) (behind_of tools.old) (behind_of tools.new) call.now (record { call = length (behind_of tools.old).pen.history + 1; reply = result }) }

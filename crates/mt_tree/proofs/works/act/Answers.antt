@@ -1,3 +1,7 @@
+use Rattle.std.proofs.Common.{◌<◌, List, sym, subst}
+use Rattle.std.specs.List.{AllByRecursion}
+use Rattle.mt_base.specs.History.{Record}
+use Rattle.mt_tree.specs.Trees.{passes_of}
 use Rattle.mt_tree.proofs.Answering.{was_answered}
 use Rattle.mt_tree.proofs.AtWork.{at_work, one_more_fits}
 use Rattle.mt_tree.proofs.Calling.{by_answer, named_by_answer, refused_still, seen_then, tree_back, wrote}
@@ -35,3 +39,9 @@ pub returns-clause-answered : goal.returns-clause-answered
 returns-clause-answered g c =
     let w = at_work c.args.tree.now c.args.tools.now c.args.pass.now g.W.Writer.table g.W.Writer.turn c.begin-engine.result c.requires.worker c.begin-engine.ensures.kind c.begin-engine.ensures.book c.begin-engine.ensures.sheet c.begin-engine.ensures.shown in
     was_answered _ _ _ _ _ _ _ _ w c.end.ensures c.args.call.now c.applied-engine.result.1 c.applied-engine.ensures.applied
+
+pub returns-clause-callers : goal.returns-clause-callers
+returns-clause-callers g c =
+    let w = at_work c.args.tree.now c.args.tools.now c.args.pass.now g.W.Writer.table g.W.Writer.turn c.begin-engine.result c.requires.worker c.begin-engine.ensures.kind c.begin-engine.ensures.book c.begin-engine.ensures.sheet c.begin-engine.ensures.shown in
+    let seen = seen_then _ _ _ _ _ _ _ _ w c.end.ensures c.args.call.now c.applied-engine.result.1 c.applied-engine.ensures.applied.ended in
+    subst (λ (rs : List Record). AllByRecursion (λ r. r.pass < passes_of c.args.tree.now) rs) (sym seen) c.end.ensures.callers

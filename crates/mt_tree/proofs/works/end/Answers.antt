@@ -1,4 +1,5 @@
-use Rattle.std.proofs.Common.{◌≡◌, ◌≤◌, None, [], length, sym, ap, ◌∙◌, subst}
+use Rattle.std.proofs.Common.{◌≡◌, ℕ, ◌≤◌, ◌<◌, None, [], length, sym, ap, ◌∙◌, subst}
+use Rattle.std.specs.List.{AllByRecursion}
 use Rattle.atomic_table.specs.declared.badge.Badge.{Badge}
 use Rattle.mt_base.specs.Passes.{IsSound}
 use Rattle.mt_engine.specs.Engine.{IsIdle}
@@ -7,6 +8,7 @@ use Rattle.mt_pen.specs.Works.{OpensSmall}
 use Rattle.mt_rows.specs.Sheet.{Sheet}
 use Rattle.mt_rule.specs.declared.views.TurnView.{TurnView}
 use Rattle.mt_rule.specs.Scans.{IsScanOf}
+use Rattle.mt_rule.specs.Seats.{records_of}
 use Rattle.mt_rule.specs.Tokens.{Identity, IsPassOf, pen_in, pass_in, tree_in}
 use Rattle.mt_tree.specs.Works.{records_told}
 use Rattle.mt_tree.proofs.Ending.{kept_again, knows_again, parts_again}
@@ -36,6 +38,7 @@ returns g c =
         };
       };
       sound = subst (λ (x : Identity). IsSound (tree_in x) q) c.requires.table after.sound;
+      callers = subst (λ (n : ℕ). AllByRecursion (λ r. r.pass < n) (records_of p.history)) (after.dealt ∙ ap (λ (x : Identity). x.shape.passes) c.requires.table) after.whole.1.history.callers;
       knows = λ told is. knows_again i p q e.sheet e.kind book same idle after.seen told is;
       scanned = subst (λ (x : Sheet × Identity). 1 ≤ x.0.scans → IsScanOf p.sections x.1.shape.passes x.0.scan) (λ k. (c.parts-rows.ensures.rows k, c.requires.table k)) after.scanned;
       unscanned = subst (λ (s : Sheet). s.scans ≡ 0 → p.sections ≡ []) c.parts-rows.ensures.rows after.unscanned;

@@ -1,18 +1,9 @@
-use Rattle.std.proofs.Common.{rules, ap, ◌∙◌}
-use Rattle.mt_tree.specs.Behind.{after_show}
-use Rattle.mt_tree.proofs.Settling.{one_more, shown_since, still_all, settled}
+use Rattle.std.proofs.Common.{rules}
+use Rattle.mt_tree.proofs.Settling.{still_all, settled}
 use Rattle.mt_tree.proofs.behind.WriterState.show_all.Goals as goal
 
-pub loop-i-preserved : goal.loop-i-preserved
-loop-i-preserved c =
-    let inv = c.loop-i.invariant in
-    let next = one_more c.args.tree.now c.args.self.now.pen c.loop-i.i c.args.passes.now c.loop-i.passes c.index-passes-i.result c.show.new.pass inv.2 (search rules) c.show.ensures.of
-    (shown_since c.args.tree.now c.loop-i.self c.args.self.now _ _ inv.0 (c.show.ensures.shown, c.show.ensures.shape)) in
-    (ap after_show c.show.ensures.state ∙ inv.0, search rules, next)
-
 pub returns-clause-all : goal.returns-clause-all
-returns-clause-all c = still_all c.args.tree.now c.args.self.now.pen c.loop-i.i c.args.passes.now c.loop-i.passes c.requires.all c.loop-i.invariant.2
+returns-clause-all c = still_all c.args.tree.now c.args.self.now.pen c.args.passes.now c.show_each.new.passes c.requires.all c.show_each.ensures.of c.show_each.ensures.shown
 
 pub returns-clause-settled : goal.returns-clause-settled
-returns-clause-settled c =
-    settled c.args.tree.now c.args.self.now.pen c.loop-i.i c.args.passes.now c.loop-i.passes c.loop-i.invariant.2 (search rules) c.requires.all (search rules)
+returns-clause-settled c = settled c.args.tree.now c.args.self.now.pen c.args.passes.now c.show_each.new.passes c.requires.all c.show_each.ensures.shown (search rules)

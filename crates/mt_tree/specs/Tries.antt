@@ -1,0 +1,23 @@
+-- A call that is tried under a lock of its own, and what it makes of the pass where the lock was free.
+-- Source: this project's own; the kernel's spin_trylock.
+use Rattle.std.specs.Prelude.{◌≤◌, IfOk, IfErr, Result}
+use Rattle.mt_base.specs.declared.calls.Call.{Call}
+use Rattle.mt_base.specs.Passes as known
+use Rattle.mt_base.specs.Passes.{Wrote}
+use Rattle.mt_rule.specs.declared.busy.Busy.{Busy}
+use Rattle.mt_rule.specs.Turns.{IsBusyAt}
+use Rattle.mt_tree.specs.declared.shapes.Done.{Done}
+use Rattle.mt_tree.specs.declared.shapes.Worn.{Worn}
+use Rattle.mt_tree.specs.declared.trees.Tree.{Tree}
+use Rattle.mt_tree.specs.Trees.{opened, limit_of, IsWorn, NamesPass, WasAnswered}
+
+-- it tells that the lock of this tree was found taken
+abbrev pub IsBusyOf : Tree → Busy → Type 0
+IsBusyOf t busy = IsBusyAt t.turn.table.shared.table_id t.turn.table.shared.key busy
+
+-- The pass made the call under a lock of its own, as one that waits for it; or it has seen all the calls that the tree may have.
+pub record WasMade (t : Tree) (p : known.Pass) (call : Call) (made : Result Done Worn) (q : known.Pass) : Type 0 where
+  pub done : IfOk made (λ d. Wrote (opened t) p d.call call d.reply q × (d.call ≤ limit_of t))
+  pub named : IfOk made (λ d. NamesPass t d.reply)
+  pub answered : IfOk made (λ d. WasAnswered t q call d)
+  pub worn : IfErr made (λ w. IsWorn t p w q)
