@@ -13,11 +13,12 @@ use crate::noted::{Heard, Noted};
 use crate::shortages::is_short;
 use crate::wants::wants_rows;
 use mt_base::{Call, Kind, NoMemory, Reply, Shortage};
-use mt_list::{ListMap, Ranges};
+use mt_list::Ranges;
+use mt_shelves::ShelfMap;
 use mt_told::is_reply;
 
 /// The call is made. It tells whether its answer is these bytes in print.
-fn is_answer(map: &mut ListMap, version: u32, call: &Call, bytes: &[u8]) -> Result<bool, NoMemory>
+fn is_answer(map: &mut ShelfMap, version: u32, call: &Call, bytes: &[u8]) -> Result<bool, NoMemory>
     ensures kind { map.new.kind ≡ map.old.kind }
     ensures map { OnOk result (map.new.ranges ≡ (acted map.old.kind map.old.ranges call.now).0) }
     ensures same { IfOk result (λ same. IsTrue same
@@ -30,7 +31,7 @@ fn is_answer(map: &mut ListMap, version: u32, call: &Call, bytes: &[u8]) -> Resu
 /// Whether the call may be refused for want of rows with these numbers, where so many calls have ended on a tree that
 /// opened with so many rows at the most.
 fn is_refused(
-    map: &mut ListMap,
+    map: &mut ShelfMap,
     kind: Kind,
     rows: u64,
     opened: u64,
@@ -56,7 +57,7 @@ fn is_refused(
 
 /// A call is made, unless it was refused for want of rows. It tells whether it was answered or refused rightly.
 pub fn agrees(
-    map: &mut ListMap,
+    map: &mut ShelfMap,
     kind: Kind,
     version: u32,
     rows: u64,

@@ -20,7 +20,7 @@ use crate::noted::Noted;
 use crate::stops::Stops;
 use crate::trees::go_through;
 use mt_base::{Kind, NoMemory};
-use mt_list::ListMap;
+use mt_shelves::ShelfMap;
 use mt_told::Told;
 use std::alloc::Global;
 use std::marker::Model;
@@ -29,7 +29,7 @@ use std::marker::Model;
 /// numbers.
 #[derive(Drop)]
 pub struct Gone<'t> {
-    pub opening: ListMap,
+    pub opening: ShelfMap,
     pub noted: Vec<Noted<'t>>,
     pub tracks: Vec<Track>,
 }
@@ -46,7 +46,7 @@ impl<'t> Gone<'t> {
     ghost use Rattle.std.specs.Prelude.{◌≡◌};
 
     /// A tree that opened so, with these calls and these reads.
-    fn new(opening: ListMap, noted: Vec<Noted<'t>>, tracks: Vec<Track>) -> Self
+    fn new(opening: ShelfMap, noted: Vec<Noted<'t>>, tracks: Vec<Track>) -> Self
         ensures { result ≡ record {
           kind = opening.kind;
           opening = opening.ranges;
@@ -76,7 +76,7 @@ fn go_calls<'t>(
     told: &[Told<'t>],
     tree: u32,
     kind: Kind,
-    map: &mut ListMap,
+    map: &mut ShelfMap,
     calls: &[Numbered<'t>],
     noted: Vec<Noted<'t>>,
 ) -> Result<Option<Gone<'t>>, NoMemory>
@@ -125,7 +125,7 @@ pub fn go_tree<'t>(
     readers: &Readers,
     tree: u32,
     kind: Kind,
-    map: &mut ListMap,
+    map: &mut ShelfMap,
 ) -> Result<Option<Gone<'t>>, NoMemory>
     requires kind { kind ≡ map.old.kind }
     requires map { IsMap map.old.kind map.old.ranges }

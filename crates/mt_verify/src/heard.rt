@@ -112,7 +112,7 @@ fn whole_number(text: &[u8]) -> Option<u64>
 
 /// The numbers of a reply that was refused for want of rows, if the bytes say so: how many rows the call needed, and
 /// how many were free, live and held.
-fn shortage_in(text: &[u8]) -> Option<Shortage>
+pub fn shortage_in(text: &[u8]) -> Option<Shortage>
     ensures some { IfSome result (λ s. SaysShortage text.now s) }
     ensures small { IfSome result (λ s. IsSmallShortage s) }
     ensures none { IfNone result ((s : Shortage) → IsSmallShortage s → text.now ≡ shortage_text s → ⊥) }

@@ -7,7 +7,7 @@ ghost use Rattle.mt_verify.specs.Going.{AreDone, AreOn, HavePassed, looks_of};
 use crate::looks::Look;
 use crate::tracks::advance;
 use mt_base::NoMemory;
-use mt_list::ListMap;
+use mt_shelves::ShelfMap;
 use std::alloc::Global;
 use std::marker::Model;
 
@@ -32,7 +32,7 @@ impl Track {
     ghost use Rattle.mt_verify.specs.Looks.{IsOn, Passed};
 
     /// The lane goes through a number, whose map this is. It tells whether it is not stuck.
-    pub fn advance(&mut self, map: &mut ListMap, number: u64) -> Result<bool, NoMemory>
+    pub fn advance(&mut self, map: &mut ShelfMap, number: u64) -> Result<bool, NoMemory>
         ensures map { map.new ≡ map.old }
         ensures looks { self.new.looks ≡ self.old.looks }
         ensures passed { IfOk result (λ fine. (m : ℕ → List Range) → m number ≡ map.old.ranges
@@ -69,7 +69,7 @@ impl Track {
 }
 
 /// All lanes go through a number, whose map this is. It tells whether none is stuck.
-pub fn advance_all(map: &mut ListMap, tracks: &mut [Track], number: u64) -> Result<bool, NoMemory>
+pub fn advance_all(map: &mut ShelfMap, tracks: &mut [Track], number: u64) -> Result<bool, NoMemory>
     ensures map { map.new ≡ map.old }
     ensures looks { looks_of tracks.new ≡ looks_of tracks.old }
     ensures passed { IfOk result (λ fine. (m : ℕ → List Range) → m number ≡ map.old.ranges → AreOn m number tracks.old

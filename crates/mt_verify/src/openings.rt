@@ -10,7 +10,7 @@ use crate::declared::Declared;
 use crate::gone::Gone;
 use crate::replays::make_all_again;
 use mt_base::NoMemory;
-use mt_list::ListMap;
+use mt_shelves::ShelfMap;
 use mt_told::{Told, What};
 use std::alloc::Global;
 
@@ -38,7 +38,7 @@ fn calls_before(told: &[Told], tree: u32, phase: u64) -> usize
 
 /// The map of a tree that was gone through, after so many of its calls.
 #[tactic(auto, using(crate::proofs::OpenedMaps::first_calls))]
-fn map_after(alloc: Global, gone: &Gone, calls: usize) -> Result<ListMap, NoMemory>
+fn map_after(alloc: Global, gone: &Gone, calls: usize) -> Result<ShelfMap, NoMemory>
     ensures kind { IfOk result (λ map. map.kind ≡ gone.now.kind) }
     ensures map { IfOk result (λ map. map.ranges ≡ map_of gone.now calls) }
 {
@@ -57,13 +57,13 @@ pub fn opening_of(
     declared: &Declared,
     told: &[Told],
     gone: &[Gone],
-) -> Result<ListMap, NoMemory>
+) -> Result<ShelfMap, NoMemory>
     requires { (tree phase : ℕ) → declared.now.opening ≡ CopyOf tree phase → tree < length gone.now }
     ensures map { IfOk result (λ map. OpensAsMap told.now gone.now declared.now map) }
     ensures empty { IfOk result (λ map. declared.now.opening ≡ Empty → map.kind ≡ declared.now.tree.kind) }
 {
     let Some(source) = declared.source else {
-        return Ok(ListMap::new(alloc, declared.kind));
+        return Ok(ShelfMap::new(alloc, declared.kind));
     };
     let Some(tree) = gone.get(source.tree as usize) else {
         unreachable!()

@@ -6,10 +6,11 @@ ghost use Rattle.mt_verify.specs.Histories.{map_after, map_by};
 
 use crate::noted::{Heard, Noted};
 use mt_base::NoMemory;
-use mt_list::{ListMap, Ranges};
+use mt_list::Ranges;
+use mt_shelves::ShelfMap;
 
 /// Makes a call again, unless it was refused for want of rows.
-fn make_again(map: &mut ListMap, noted: &Noted) -> Result<(), NoMemory>
+fn make_again(map: &mut ShelfMap, noted: &Noted) -> Result<(), NoMemory>
     ensures kind { map.new.kind ≡ map.old.kind }
     ensures map { OnOk result (map.new.ranges ≡ map_after map.old.kind map.old.ranges noted.now) }
 {
@@ -24,7 +25,7 @@ fn make_again(map: &mut ListMap, noted: &Noted) -> Result<(), NoMemory>
 /// # Errors
 ///
 /// `NoMemory` where memory ran out.
-pub fn make_all_again(map: &mut ListMap, noted: &[Noted]) -> Result<(), NoMemory>
+pub fn make_all_again(map: &mut ShelfMap, noted: &[Noted]) -> Result<(), NoMemory>
     ensures kind { map.new.kind ≡ map.old.kind }
     ensures map { OnOk result (map.new.ranges ≡ map_by map.old.kind map.old.ranges noted.now (length noted.now)) }
 {

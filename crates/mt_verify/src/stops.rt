@@ -1,7 +1,7 @@
 ghost use Rattle.std.specs.Prelude.{◌≡◌, slice_get};
 ghost use Rattle.mt_verify.specs.Stops.{is_at};
 
-use mt_list::ListMap;
+use mt_shelves::ShelfMap;
 use mt_told::is_number;
 use std::marker::Model;
 
@@ -53,7 +53,7 @@ impl<'t> Stops<'t> {
     }
 
     /// The next stop is passed with this map. It tells whether the map has so many ranges.
-    fn stop(&mut self, map: &ListMap) -> bool
+    fn stop(&mut self, map: &ShelfMap) -> bool
         requires { self.old.next < length self.old.stops }
         ensures stops { self.new.stops ≡ self.old.stops }
         ensures stopped { (s : Stop) → slice_get self.old.stops self.old.next ≡ Some s
@@ -68,7 +68,7 @@ impl<'t> Stops<'t> {
 
     /// The stops after so many calls are passed with this map. It tells whether it has the ranges that each of them
     /// tells.
-    pub fn pass(&mut self, map: &ListMap, number: u64) -> bool
+    pub fn pass(&mut self, map: &ShelfMap, number: u64) -> bool
         ensures stops { self.new.stops ≡ self.old.stops }
         ensures passed { (m : ℕ → List Range) → m number ≡ map.now.ranges → AreStopped m number self.old
             → HavePassedStops m number self.new result }

@@ -4,7 +4,7 @@ ghost use Rattle.mt_verify.specs.Looks.{IsOn, CanTake, ComesTo, Passed, is_took}
 
 use crate::looks::{Look, is_true};
 use mt_base::NoMemory;
-use mt_list::ListMap;
+use mt_shelves::ShelfMap;
 
 /// What one try at a number comes to: the next look took it, or waits for a higher one, or can have none.
 #[derive(Clone, Copy, Debug, PartialEq, Eq)]
@@ -31,7 +31,7 @@ fn take(looks: &[Look], points: &mut Vec<u64>, number: u64) -> Result<Fate, NoMe
 
 /// One try of the look that comes next at a number, whose map this is.
 fn try_next(
-    map: &mut ListMap,
+    map: &mut ShelfMap,
     looks: &[Look],
     points: &mut Vec<u64>,
     number: u64,
@@ -58,7 +58,7 @@ fn try_next(
 /// A lane goes through a number, whose map this is: its looks take it, one after another, up to the first that waits
 /// for a higher one. It tells whether none of them is stuck.
 pub fn advance(
-    map: &mut ListMap,
+    map: &mut ShelfMap,
     looks: &[Look],
     points: &mut Vec<u64>,
     number: u64,

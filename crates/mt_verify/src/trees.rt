@@ -10,12 +10,12 @@ use crate::lanes::{Track, advance_all, are_done};
 use crate::noted::Noted;
 use crate::stops::Stops;
 use mt_base::{Kind, NoMemory};
-use mt_list::ListMap;
+use mt_shelves::ShelfMap;
 
 /// All lanes and stops go through a number of calls, with the map after these. It tells whether no lane is stuck and
 /// each stop there tells how many ranges the map has.
 fn pass_all(
-    map: &mut ListMap,
+    map: &mut ShelfMap,
     tracks: &mut [Track],
     stops: &mut Stops<'_>,
     number: u64,
@@ -40,7 +40,7 @@ fn pass_all(
 ///
 /// `NoMemory` where memory ran out.
 pub fn go_through(
-    map: &mut ListMap,
+    map: &mut ShelfMap,
     kind: Kind,
     version: u32,
     rows: u64,

@@ -141,7 +141,8 @@ fn judge(
 ///
 /// # Errors
 ///
-/// `NoMemory` where memory ran out.
+/// `NoMemory` where memory ran out, and where the log or the text has more lines, or a map more ranges, than any memory holds
+/// (2^57 lines, 2^62 ranges). It says nothing of the text.
 pub fn verify(alloc: Global, log: &Log, rows: u64, text: &[u8]) -> Result<Verdict, NoMemory>
     requires log { IsLog log.now }
     requires few_rows { 4 ≤ rows }

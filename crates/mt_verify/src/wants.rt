@@ -8,11 +8,12 @@ ghost use Rattle.mt_base.specs.Nodes.{is_exactly};
 ghost use Rattle.mt_verify.specs.Wanting.{is_start, store_wants, wants};
 
 use mt_base::{Call, Kind, NoMemory, Query, Range, Reply, is_bad_area, is_invalid};
-use mt_list::{ListMap, Ranges};
+use mt_list::Ranges;
+use mt_shelves::ShelfMap;
 
 /// Whether a range holds some index of `first` to `last`.
 #[tactic(auto, using(crate::proofs::Asked::met_is))]
-fn is_met(map: &mut ListMap, first: u64, last: u64) -> bool
+fn is_met(map: &mut ShelfMap, first: u64, last: u64) -> bool
     requires { first ≤ last }
     ensures map { map.new ≡ map.old }
     ensures met { result ≡ is_held map.old.ranges first last }
@@ -35,7 +36,7 @@ fn is_exactly(first: u64, last: u64, range: &Option<Range>) -> bool
 }
 
 /// Whether a valid store wants rows.
-fn store_wants(map: &mut ListMap, first: u64, last: u64, entry: u64) -> bool
+fn store_wants(map: &mut ShelfMap, first: u64, last: u64, entry: u64) -> bool
     requires { first ≤ last }
     ensures map { map.new ≡ map.old }
     ensures wants { result ≡ store_wants map.old.ranges first last entry }
@@ -56,7 +57,7 @@ fn is_start(reply: &Reply) -> bool
 
 /// Whether a search of a window from below, or from above, finds room: the map answers as it does to a caller.
 #[tactic(auto, using(crate::proofs::Asked::start_is))]
-fn has_low(map: &mut ListMap, kind: Kind, size: u64, min: u64, max: u64) -> Result<bool, NoMemory>
+fn has_low(map: &mut ShelfMap, kind: Kind, size: u64, min: u64, max: u64) -> Result<bool, NoMemory>
     requires kind { kind ≡ map.old.kind }
     requires area { is_no_area kind size min max ≡ false }
     ensures kind { map.new.kind ≡ map.old.kind }
@@ -69,7 +70,7 @@ fn has_low(map: &mut ListMap, kind: Kind, size: u64, min: u64, max: u64) -> Resu
 
 /// The same from above.
 #[tactic(auto, using(crate::proofs::Asked::start_is))]
-fn has_high(map: &mut ListMap, kind: Kind, size: u64, min: u64, max: u64) -> Result<bool, NoMemory>
+fn has_high(map: &mut ShelfMap, kind: Kind, size: u64, min: u64, max: u64) -> Result<bool, NoMemory>
     requires kind { kind ≡ map.old.kind }
     requires area { is_no_area kind size min max ≡ false }
     ensures kind { map.new.kind ≡ map.old.kind }
@@ -82,7 +83,7 @@ fn has_high(map: &mut ListMap, kind: Kind, size: u64, min: u64, max: u64) -> Res
 
 /// Whether a call wants rows. The map answers to it, and stays.
 #[tactic(auto, using(mt_base::proofs::CallsKeepOrder::valid_order))]
-pub fn wants_rows(map: &mut ListMap, kind: Kind, call: &Call) -> Result<bool, NoMemory>
+pub fn wants_rows(map: &mut ShelfMap, kind: Kind, call: &Call) -> Result<bool, NoMemory>
     requires { kind ≡ map.old.kind }
     ensures kind { map.new.kind ≡ map.old.kind }
     ensures map { map.new.ranges ≡ map.old.ranges }
