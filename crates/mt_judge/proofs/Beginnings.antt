@@ -1,0 +1,59 @@
+-- The log of the first lines of another can be read, and nothing is told of no lines.
+use Rattle.std.proofs.Common.{◌≡◌, ℕ, zero, suc, ◌+◌, ◌≤◌, ◌<◌, Bool, List, [], ◌∷◌, ◌++◌, length, length-append, take, ap, subst, sym, arith}
+use Rattle.std.specs.Option.{option_to_list}
+use Rattle.std.proofs.lemmas.List.{take_all}
+use Rattle.std.specs.List.{All}
+use Rattle.mt_log.specs.declared.lines.Line.{Line}
+use Rattle.mt_log.specs.declared.lines.Log.{Log}
+use Rattle.mt_log.specs.Phases.{AreInPlaceFrom, phase_after, stepped_after}
+use Rattle.mt_log.specs.Trees.{AreNamedFrom, Declared, IsReadable, RiseFrom, count_after, declared_by, most_trees, trees_from, trees_of}
+use Rattle.mt_told.specs.declared.told.Told.{Told}
+use Rattle.mt_told.specs.Telling.{IsToldBy, TellsNone}
+use Rattle.mt_told.proofs.LineByLine.{lines_begin, told_by}
+use Rattle.mt_judge.specs.Judged.{first_lines}
+
+named_first : (k count : ℕ) (lines : List Line) → AreNamedFrom count lines → AreNamedFrom count (take k lines)
+named_first zero count lines named = tt
+named_first (suc k) count [] named = tt
+named_first (suc k) count (line ∷ lines) named = (named.0, named_first k (count_after count line.item) lines named.1)
+
+placed_first : (k : ℕ) (stepped : Bool) (lines : List Line) → AreInPlaceFrom stepped lines → AreInPlaceFrom stepped (take k lines)
+placed_first zero stepped lines placed = tt
+placed_first (suc k) stepped [] placed = tt
+placed_first (suc k) stepped (line ∷ lines) placed = (placed.0, placed_first k (stepped_after stepped line.item) lines placed.1)
+
+rising_first : (k least : ℕ) (lines : List Line) → RiseFrom least lines → RiseFrom least (take k lines)
+rising_first zero least lines rise = tt
+rising_first (suc k) least [] rise = tt
+rising_first (suc k) least (line ∷ lines) rise = (rise.0, rising_first k (line.number + 1) lines rise.1)
+
+trees_first : (k : ℕ) (trees : List Declared) (phase : ℕ) (lines : List Line) → length (trees_from trees phase (take k lines)) ≤ length (trees_from trees phase lines)
+trees_first zero trees phase [] = omega arith
+trees_first zero trees phase (line ∷ lines) =
+    let one : List Declared = option_to_list (declared_by trees phase line.item) in
+    let rest : length (trees ++ one) ≤ length (trees_from (trees ++ one) (phase_after phase line.item) lines) = trees_first zero (trees ++ one) (phase_after phase line.item) lines in
+    omega (arith, rest, length-append trees one)
+trees_first (suc k) trees phase [] = omega arith
+trees_first (suc k) trees phase (line ∷ lines) =
+    trees_first k (trees ++ option_to_list (declared_by trees phase line.item)) (phase_after phase line.item) lines
+
+pub readable_first : (k : ℕ) (lines : List Line) → IsReadable lines → IsReadable (take k lines)
+readable_first k lines h =
+    let fewer : length (trees_of (take k lines)) ≤ length (trees_of lines) = trees_first k [] 0 lines in
+    record {
+      named = named_first k 0 lines h.named;
+      placed = placed_first k _ lines h.placed;
+      few = omega (arith, fewer, h.few);
+      rising = rising_first k 2 lines h.rising;
+    }
+
+pub nothing_told : (log : Log) (text : List ℕ) → IsToldBy (first_lines 0 log) text [] text
+nothing_told log text = told_by (first_lines 0 log) text text [] 0 0 0 (lines_begin [] text) (omega arith)
+
+pub all_untold : (log : Log) (text : List ℕ) (n : ℕ) → n ≡ length log.lines → TellsNone log text → TellsNone (first_lines n log) text
+all_untold log text n all none =
+    subst (λ (lines : List Line). TellsNone (record { version = log.version; lines = lines }) text) (sym (take_all n log.lines (omega (arith, all)))) none
+
+-- the trees that are told of are those that a log may have
+pub few_trees : (log : Log) (text rest : List ℕ) (told : List Told) → IsReadable log.lines → IsToldBy log text told rest → All (λ t. t.tree < most_trees) told
+few_trees log text rest told readable h k d within = let below = h.trees k d within in omega (arith, below, readable.few)

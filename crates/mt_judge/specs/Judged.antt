@@ -1,0 +1,67 @@
+-- What a judgment says of a text.
+-- Source: this project's own.
+use Rattle.std.specs.Prelude.{◌≡◌, ◌⊎◌, ℕ, ◌+◌, ◌≤◌, nat_lt, Bool, false, List, ◌++◌, Ok, codes, length, take}
+use Rattle.std.specs.List.{filter}
+use Rattle.mt_log.specs.declared.lines.Log.{Log}
+use Rattle.mt_log.specs.Reading.{log_of}
+use Rattle.mt_told.specs.declared.told.Told.{Told}
+use Rattle.mt_told.specs.declared.told.What.{What}
+use Rattle.mt_told.specs.declared.told.What.TheVariants.{Wrote, Got, Copied, Lawful}
+use Rattle.mt_told.specs.Telling.{IsToldBy, TellsNone}
+use Rattle.mt_verify.specs.declared.verdicts.Verdict.TheVariants.{Yes, No}
+use Rattle.mt_verify.specs.Filled.{is_got, is_wrote}
+use Rattle.mt_verify.specs.Points.{IsVerdict}
+use Rattle.mt_judge.specs.declared.causes.Fault.{Fault}
+use Rattle.mt_judge.specs.declared.judging.Found.{Found}
+use Rattle.mt_judge.specs.declared.judging.Found.TheVariants.{Verified, Refused}
+use Rattle.mt_judge.specs.declared.judging.Judgment.{Judgment}
+use Rattle.mt_judge.specs.declared.tallies.Tally.{Tally}
+
+-- ---- how much is told
+
+-- a read met a call: its window is wider than one number of calls
+abbrev pub overlaps : What → Bool
+overlaps (Got lo hi query answer) = nat_lt lo hi
+overlaps (Wrote number call reply) = false
+overlaps (Copied count) = false
+overlaps (Lawful count) = false
+
+abbrev pub how_many : (What → Bool) → List Told → ℕ
+how_many p told = length (filter (λ t. p t.what) told)
+
+abbrev pub tally_of : List Told → Tally
+tally_of told = record { calls = how_many is_wrote told; reads = how_many is_got told; overlapped = how_many overlaps told }
+
+-- ---- where a text stops
+
+-- the log of the first lines of another
+abbrev pub first_lines : ℕ → Log → Log
+first_lines count log = record { version = log.version; lines = take count log.lines }
+
+-- the text tells so of so many lines of the log, and of one more it tells nothing
+pub record StopsAt (log : Log) (text : List ℕ) (count : ℕ) (told : List Told) (rest : List ℕ) : Type 0 where
+  pub first : IsToldBy (first_lines count log) text told rest
+  pub next : ℕ
+  pub near : next ≤ count + 1
+  pub none : TellsNone (first_lines next log) text
+
+-- ---- a judgment
+
+-- verified where the text is that of a transcript of a run, and refused where it is of none
+abbrev pub IsFound : Log → ℕ → List ℕ → Found → Type 0
+IsFound log rows text Verified = (points : List ℕ) × IsVerdict log rows text (Yes points)
+IsFound log rows text (Refused fault) = IsVerdict log rows text No
+
+-- the tally is that of what the text tells of the log; of one that stops to tell, of what it tells before
+abbrev pub IsTallied : Log → List ℕ → Tally → Type 0
+IsTallied log text tally = (told : List Told) × (rest : List ℕ) × (tally ≡ tally_of told)
+    × (IsToldBy log text told rest ⊎ ((count : ℕ) × StopsAt log text count told rest))
+
+pub record IsJudged (log : Log) (rows : ℕ) (text : List ℕ) (j : Judgment) : Type 0 where
+  pub found : IsFound log rows text j.found
+  pub tally : IsTallied log text j.tally
+
+-- the bytes are a log, a line, and a text of which this is found
+abbrev pub IsJudgedIn : ℕ → List ℕ → Judgment → Type 0
+IsJudgedIn rows bytes j = (log : Log) × (front text : List ℕ) × (bytes ≡ front ++ (codes "---\n" ++ text))
+    × (log_of front ≡ Ok log) × IsJudged log rows text j

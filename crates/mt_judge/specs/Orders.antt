@@ -1,0 +1,13 @@
+-- Whether the lines of a transcript keep to those that they know of, and the first that does not.
+-- Source: this project's own.
+use Rattle.std.specs.Prelude.{ℕ, ◌+◌, ◌<◌, List, AllPairs, length, take}
+use Rattle.mt_told.specs.declared.told.Told.{Told}
+use Rattle.mt_verify.specs.PrintedOrder.{InPrintedOrder}
+
+abbrev pub IsInOrder : List Told → Type 0
+IsInOrder told = AllPairs InPrintedOrder told
+
+-- the lines up to the one at this place do not keep to one another
+pub record IsOutOfOrder (told : List Told) (place : ℕ) : Type 0 where
+  pub within : place < length told
+  pub out : IsInOrder (take (place + 1) told) → ⊥

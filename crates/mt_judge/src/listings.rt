@@ -1,0 +1,54 @@
+//! The listings of trees at the end of a transcript.
+
+use crate::causes::{Cause, Fault};
+use crate::trees::Declared;
+use mt_base::{NoMemory, Range};
+use mt_log::{Entries, Listing, Listings, RangeList, Transcript, render};
+use mt_told::Account;
+use std::alloc::Global;
+
+/// A tree as it is listed at the end.
+pub fn listing_of(declared: &Declared, ranges: Vec<Range>) -> Listing {
+    Listing {
+        name: declared.name,
+        kind: declared.kind,
+        ranges: RangeList::new(ranges),
+    }
+}
+
+/// How many lines two texts begin with both.
+fn lines_alike(text: &[u8], other: &[u8]) -> usize {
+    let mut lines = 0_usize;
+    for (byte, same) in text.iter().zip(other.iter()) {
+        if byte != same {
+            return lines;
+        }
+        if *byte == b'\n' {
+            lines = lines.saturating_add(1);
+        }
+    }
+    lines
+}
+
+/// The first line behind those that are told that is not as these trees are listed.
+pub fn listing_fault(
+    alloc: Global,
+    version: u32,
+    account: &Account,
+    lists: Vec<Listing>,
+) -> Result<Option<Fault>, NoMemory> {
+    let listed = Transcript {
+        version,
+        entries: Entries::new(Vec::new(alloc)),
+        lists: Listings::new(lists),
+    };
+    let text = render(alloc, &listed)?;
+    if text.as_slice() == account.rest {
+        return Ok(None);
+    }
+    let place = account
+        .told
+        .len()
+        .saturating_add(lines_alike(&text, account.rest));
+    Ok(Some(Fault::at(place, Cause::Listing)))
+}

@@ -1,0 +1,96 @@
+//! Tells of a transcript whether it is that of a run of a log, where it is wrong if it is none, and how many of its reads met a
+//! call. It reads what `mtreplay verify` reads.
+#![tactic(auto)]
+
+ghost use Rattle.std.specs.Prelude.{◌≤◌, ◌≡◌, ℕ, List, IfOk};
+ghost use Rattle.mt_base.specs.Width.{most_rows};
+ghost use Rattle.mt_judge.specs.Judged.{IsJudgedIn};
+
+mod causes;
+mod cuts;
+mod failures;
+mod forms;
+mod histories;
+mod judging;
+mod lanes;
+mod listings;
+mod maps;
+mod orders;
+mod tallies;
+mod trees;
+
+use crate::cuts::{cut, rows_of};
+use crate::failures::Failure;
+use crate::judging::{Judgment, judge};
+use mt_log::read_log;
+use std::alloc::Global;
+use std::io::{ErrorKind, Read, Write};
+use std::process::ExitCode;
+use std::rt::Env;
+use std::{env, io};
+
+/// An input has so many bytes at the most.
+const LONGEST: u64 = 67_108_864;
+
+/// What fails, where that is not for want of memory.
+fn unless_memory(error: &io::Error, other: Failure) -> Failure {
+    match error.kind() {
+        ErrorKind::OutOfMemory => Failure::NoMemory,
+        _ => other,
+    }
+}
+
+/// The words after the program's name. Where one is no text, they ask for nothing.
+fn words_of(rt: &(impl Env + AllocGlobal)) -> Result<Vec<String>, Failure> {
+    let words = env::args(rt).map_err(|error| unless_memory(&error, Failure::Usage))?;
+    words
+        .skip(1)
+        .collect(rt.alloc())
+        .map_err(|_| Failure::NoMemory)
+}
+
+/// The bytes of the input, which are so many at the most.
+fn read_input(rt: &(impl Input + AllocGlobal)) -> Result<Vec<u8>, Failure> {
+    let mut bytes = Vec::new(rt.alloc());
+    match rt.reader().take(LONGEST + 1).read_to_end(&mut bytes) {
+        Ok(_) if bytes.len() as u64 > LONGEST => Err(Failure::TooLong),
+        Ok(_) => Ok(bytes),
+        Err(error) => Err(unless_memory(&error, Failure::ReadFault)),
+    }
+}
+
+/// What is found of these bytes: of the text behind the log, on trees of so many rows.
+fn judged(alloc: Global, rows: u64, bytes: &[u8]) -> Result<Judgment, Failure>
+    requires few_rows { 4 ≤ rows }
+    requires rows { rows ≤ most_rows }
+    ensures { IfOk result (IsJudgedIn rows bytes.now) }
+{
+    let (front, text) = cut(bytes).ok_or(Failure::NoTranscript)?;
+    let log = read_log(alloc, front)?;
+    Ok(judge(alloc, &log, rows, text)?)
+}
+
+/// Does what the words say, and tells the status to end with.
+fn run(rt: &(impl Env + Input + Print + AllocGlobal)) -> Result<u8, Failure> {
+    let words = words_of(rt)?;
+    let rows = rows_of(&words).ok_or(Failure::Usage)?;
+    let judgment = judged(rt.alloc(), rows, &read_input(rt)?)?;
+    let text = format!(in rt.alloc(); "{judgment}")?;
+    match io::writer(rt).write_all(text.as_str().as_bytes()) {
+        Ok(()) => Ok(judgment.status()),
+        Err(_) => Err(Failure::WriteFault),
+    }
+}
+
+fn main(rt: HostRuntime) -> io::Result<ExitCode> {
+    match run(&rt) {
+        Ok(status) => Ok(ExitCode::from(status)),
+        Err(failure) => {
+            eprintln!(rt; "mt_judge: {failure}")?;
+            Ok(ExitCode::from(2))
+        }
+    }
+}
+
+#[cfg(test)]
+mod tests;

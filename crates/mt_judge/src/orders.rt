@@ -1,0 +1,126 @@
+//! Whether the call numbers and the windows of a transcript are in order, which needs no map.
+
+ghost use Rattle.std.specs.Prelude.{◌≤◌, ◌<◌, All, AllPairs, IfNone, IfSome};
+ghost use Rattle.mt_log.specs.Trees.{most_lanes, most_trees};
+ghost use Rattle.mt_judge.specs.Orders.{IsInOrder, IsOutOfOrder};
+
+use crate::causes::{Cause, Fault};
+use crate::trees::{MOST_TREES, is_call_on};
+use mt_base::NoMemory;
+use mt_told::{Told, What};
+use mt_verify::windows_keep;
+use std::alloc::Global;
+
+/// The place of the first line that does not keep to those that it knows of, if one does not.
+#[tactic(auto, using(crate::proofs::Firsts::order_of_none))]
+fn first_out(told: &[Told]) -> Option<usize>
+    requires trees { All (λ t. t.tree < most_trees) told.now }
+    requires lanes { All (λ t. t.lane < most_lanes) told.now }
+    requires phases { AllPairs (λ s t. s.phase ≤ t.phase) told.now }
+    ensures some { IfSome result (IsOutOfOrder told.now) }
+    ensures none { IfNone result (IsInOrder told.now) }
+{
+    if windows_keep(told) {
+        return None;
+    }
+    let count = told.len();
+    if count == 0 {
+        return None;
+    }
+    let mut low = 0;
+    let mut last = count - 1;
+    while low < last {
+        let middle = low + (last - low) / 2;
+        if windows_keep(&told[..middle + 1]) {
+            low = middle + 1;
+        } else {
+            last = middle;
+        }
+    }
+    Some(last)
+}
+
+/// What is wrong at a line that does not keep to those before it: a call's number, or where a read's window begins.
+fn cause_of(told: &Told) -> Cause {
+    match told.what {
+        What::Wrote { .. } => Cause::Order,
+        What::Got { .. } | What::Copied { .. } | What::Lawful { .. } => Cause::Below,
+    }
+}
+
+/// The first line that does not keep to those that it knows of.
+fn order_fault(told: &[Told]) -> Option<Fault>
+    requires trees { All (λ t. t.tree < most_trees) told.now }
+    requires lanes { All (λ t. t.lane < most_lanes) told.now }
+    requires phases { AllPairs (λ s t. s.phase ≤ t.phase) told.now }
+{
+    let place = first_out(told)?;
+    let one = told.get(place)?;
+    Some(Fault::at(place, cause_of(one)))
+}
+
+/// How many calls are told on a tree.
+fn count_calls(told: &[Told], tree: u32) -> usize {
+    told.iter().filter(|one| is_call_on(one, tree)).count()
+}
+
+/// Whether a call's number is one of those that are not taken yet; it is taken then.
+fn takes(taken: &mut [bool], number: u64) -> bool {
+    let Some(place) = number.checked_sub(1) else {
+        return false;
+    };
+    match taken.get_mut(place as usize) {
+        Some(one) if !*one => {
+            *one = true;
+            true
+        }
+        _ => false,
+    }
+}
+
+/// The first call on a tree whose number is 0, is above the number of calls, or was taken before.
+fn number_fault(alloc: Global, told: &[Told], tree: u32) -> Result<Option<Fault>, NoMemory> {
+    let mut taken = vec![in alloc; false; count_calls(told, tree)]?;
+    for (place, one) in told.iter().enumerate() {
+        if one.tree == tree {
+            if let What::Wrote { number, .. } = one.what {
+                if !takes(&mut taken, number) {
+                    return Ok(Some(Fault::at(place, Cause::Number)));
+                }
+            }
+        }
+    }
+    Ok(None)
+}
+
+/// The first read on a tree whose window ends behind the last call.
+fn end_fault(told: &[Told], tree: u32) -> Option<Fault> {
+    let count = count_calls(told, tree) as u64;
+    for (place, one) in told.iter().enumerate() {
+        if one.tree == tree {
+            if let What::Got { hi, .. } = one.what {
+                if hi > count {
+                    return Some(Fault::at(place, Cause::Beyond));
+                }
+            }
+        }
+    }
+    None
+}
+
+/// The first line whose number or window cannot be.
+pub fn window_fault(alloc: Global, told: &[Told]) -> Result<Option<Fault>, NoMemory>
+    requires trees { All (λ t. t.tree < most_trees) told.now }
+    requires lanes { All (λ t. t.lane < most_lanes) told.now }
+    requires phases { AllPairs (λ s t. s.phase ≤ t.phase) told.now }
+{
+    let mut found = order_fault(told);
+    for tree in 0..MOST_TREES {
+        for fault in [number_fault(alloc, told, tree)?, end_fault(told, tree)] {
+            if let Some(fault) = fault {
+                found = Some(fault.or_earlier(found));
+            }
+        }
+    }
+    Ok(found)
+}

@@ -1,0 +1,89 @@
+//! How much a transcript tells, and how much of it says something of threads.
+
+ghost use Rattle.std.specs.Prelude.{◌≡◌};
+ghost use Rattle.mt_verify.specs.Filled.{is_got, is_wrote};
+ghost use Rattle.mt_judge.specs.Judged.{how_many, overlaps, tally_of};
+
+use mt_told::{Told, What};
+use std::fmt;
+
+/// How many calls and how many reads a transcript tells, and how many of the reads met a call on their tree: their windows are
+/// wider than one number of calls.
+#[derive(Clone, Copy, Debug, PartialEq, Eq)]
+pub struct Tally {
+    pub calls: u64,
+    pub reads: u64,
+    pub overlapped: u64,
+}
+
+impl fmt::Display for Tally {
+    ghost use Rattle.std.specs.Prelude.{Some};
+    ghost use Rattle.mt_judge.specs.Printed.{tally_text};
+
+    ghost output = { λ t. Some (tally_text t) };
+
+    fn fmt<W: fmt::Write>(&self, f: &mut fmt::Formatter<W>) -> fmt::Result {
+        let Tally {
+            calls,
+            reads,
+            overlapped,
+        } = *self;
+        write!(f, "calls {calls} reads {reads} overlapped {overlapped}")
+    }
+}
+
+/// Whether a line tells of a call.
+fn is_call(told: &Told) -> bool
+    ensures { result ≡ is_wrote told.now.what }
+{
+    matches!(told.what, What::Wrote { .. })
+}
+
+/// Whether it tells of a read.
+fn is_read(told: &Told) -> bool
+    ensures { result ≡ is_got told.now.what }
+{
+    matches!(told.what, What::Got { .. })
+}
+
+/// Whether it tells of a read that met a call.
+fn overlaps(told: &Told) -> bool
+    ensures { result ≡ overlaps told.now.what }
+{
+    match told.what {
+        What::Got { lo, hi, .. } => lo < hi,
+        What::Wrote { .. } | What::Copied { .. } | What::Lawful { .. } => false,
+    }
+}
+
+/// How many of these lines tell of a call.
+fn count_calls(told: &[Told]) -> u64
+    ensures { result ≡ how_many is_wrote told.now }
+{
+    told.iter().filter(|one| is_call(one)).count() as u64
+}
+
+/// How many tell of a read.
+fn count_reads(told: &[Told]) -> u64
+    ensures { result ≡ how_many is_got told.now }
+{
+    told.iter().filter(|one| is_read(one)).count() as u64
+}
+
+/// How many tell of a read that met a call.
+fn count_overlapped(told: &[Told]) -> u64
+    ensures { result ≡ how_many overlaps told.now }
+{
+    told.iter().filter(|one| overlaps(one)).count() as u64
+}
+
+/// How much these lines tell.
+pub fn tally_of(told: &[Told]) -> Tally
+    ensures { result ≡ tally_of told.now }
+{
+    Tally {
+        calls: count_calls(told),
+        reads: count_reads(told),
+        overlapped: count_overlapped(told),
+    }
+}

@@ -1,0 +1,49 @@
+//! The trees of a log, and what a transcript tells of one.
+
+use mt_base::{Kind, NoMemory};
+use mt_log::{Item, Line, Word};
+use mt_told::{Told, What};
+use std::alloc::Global;
+
+/// A log has so many trees, and so many lanes, at the most.
+pub const MOST_TREES: u32 = 16;
+
+pub const MOST_LANES: u32 = 16;
+
+/// A tree of a log: the number of the line that declares it, its name and its kind.
+#[derive(Clone, Copy)]
+pub struct Declared {
+    pub line: u64,
+    pub name: Word,
+    pub kind: Kind,
+}
+
+/// The tree that a line declares, where these were declared before it.
+fn declared_by(trees: &[Declared], line: &Line) -> Option<Declared> {
+    let (name, kind) = match line.item {
+        Item::Tree { name, kind } => (name, kind),
+        Item::Dup { from, name } => (name, trees.get(from as usize)?.kind),
+        _ => return None,
+    };
+    Some(Declared {
+        line: line.number,
+        name,
+        kind,
+    })
+}
+
+/// The trees that these lines declare.
+pub fn trees_of(alloc: Global, lines: &[Line]) -> Result<Vec<Declared>, NoMemory> {
+    let mut trees = Vec::new(alloc);
+    for line in lines {
+        if let Some(tree) = declared_by(&trees, line) {
+            trees.push(tree)?;
+        }
+    }
+    Ok(trees)
+}
+
+/// Whether a line tells of a call on a tree.
+pub fn is_call_on(told: &Told, tree: u32) -> bool {
+    told.tree == tree && matches!(told.what, What::Wrote { .. })
+}
