@@ -1,5 +1,6 @@
 pub mod Beginning
 pub mod FewCalls
+pub mod Imaging
 pub mod LanesGone
 pub mod LanesRun
 pub mod Laying

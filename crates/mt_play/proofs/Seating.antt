@@ -87,7 +87,7 @@ pub new_ranges : (kind : Kind) (rows : ℕ) (opening : List Range) (many : ℕ) 
 new_ranges kind rows opening many t passes new = ap (λ (z : Tracked). last_map z.history) (new_is kind rows opening many t passes new)
 
 -- how many calls the passes have seen is all that they tell of a tree
-seen_kind : (h : History) (passes : List Pass) → h.kind ≡ (seen_by h passes).kind
+pub seen_kind : (h : History) (passes : List Pass) → h.kind ≡ (seen_by h passes).kind
 seen_kind h [] = refl
 seen_kind h (p ∷ passes) = refl
 

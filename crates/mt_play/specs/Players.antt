@@ -7,6 +7,7 @@ use Rattle.mt_base.specs.declared.ranges.Range.{Range}
 use Rattle.mt_base.specs.History.{last_map}
 use Rattle.mt_base.specs.Passes.{Pass, IsSettled}
 use Rattle.mt_base.specs.Width.{most_rows}
+use Rattle.mt_image.specs.Images.{IsImageOfMap}
 use Rattle.mt_log.specs.declared.lines.Item.{Item}
 use Rattle.mt_log.specs.declared.lines.Item.TheVariants.{Tree, Dup, Check}
 use Rattle.mt_log.specs.declared.lines.Line.{Line}
@@ -78,6 +79,12 @@ pub record IsAtRest {P T : Type 0} (tree : T → SharedTree) (knows : P → Pass
   pub seated : IsSeated tree knows serves many p
   pub settled : All (λ t. IsSettled t.history t.passes) (tracked_in (map tree p.trees.items) (rows_known knows p.seats.items))
   pub closed : All IsClosed (tracked_in (map tree p.trees.items) (rows_known knows p.seats.items))
+
+-- the bytes are an image of the tree of this number
+pub record HasImage (p : PlayerState) (number : ℕ) (bytes : List ℕ) : Type 0 where
+  pub tree : Tracked
+  pub tree_is : slice_get p.trees number ≡ Some tree
+  pub image : IsImageOfMap tree.history.kind (last_map tree.history) bytes
 
 -- this holds of the ranges of the tree of this number
 pub record HasRanges (p : PlayerState) (number : ℕ) (P : List Range → Type 0) : Type 0 where

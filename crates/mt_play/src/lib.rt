@@ -8,5 +8,6 @@ mod players;
 mod rows;
 mod trees;
 
-pub use phases::play;
+pub use phases::{play, play_image};
+pub use rows::{image_settled, list_settled};
 pub use trees::Plays;

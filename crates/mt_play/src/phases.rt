@@ -1,12 +1,13 @@
 //! A log is played phase by phase.
 
-ghost use Rattle.std.specs.Prelude.{◌≡◌, ◌<◌, ◌≤◌, ◌+◌, ◌-◌, ◌^◌, ◌++◌, ℕ, true, List, [], length, take, slice_index_or, slice_range, IfOk, OnOk};
+ghost use Rattle.std.specs.Prelude.{◌≡◌, ◌≢◌, ◌<◌, ◌≤◌, ◌+◌, ◌-◌, ◌^◌, ◌++◌, ℕ, true, List, [], length, take, slice_index_or, slice_range, IfOk, OnOk};
 ghost use Rattle.mt_base.specs.Width.{most_rows};
 ghost use Rattle.mt_log.specs.declared.lines.Line.{Line};
 ghost use Rattle.mt_log.specs.Run.{IsRun, Step};
-ghost use Rattle.mt_log.specs.Trees.{IsReadable, most_lanes};
+ghost use Rattle.mt_log.specs.Trees.{IsReadable, most_lanes, trees_of};
 ghost use Rattle.mt_desks.specs.Dealing.{is_join, lanes_in};
 ghost use Rattle.mt_play.specs.Trees.{calls_taken, fewest_rows};
+ghost use Rattle.mt_play.specs.Images.{IsImageOfRun};
 ghost use Rattle.mt_play.specs.Lanes.{CanDo, IsPhaseBehind};
 ghost use Rattle.mt_play.specs.Phases.{NoJoinBetween};
 ghost use Rattle.mt_play.specs.Players.{IsAtRest, IsBegun, IsPlayed, state_of};
@@ -173,6 +174,29 @@ fn lanes_of(lines: &[Line]) -> u32
     lanes_in(lines) as u32
 }
 
+/// A player behind all lines of a log, on shared trees of so many rows: phase by phase, each lane of a phase in a thread of its
+/// own.
+fn played<
+    R: Threads + Wait + Sync,
+    P: Passage + Drop + Send,
+    T: Plays<P> + Send + Sync,
+    G: Gate + Sync,
+>(rt: &R, alloc: Global, log: &Log, rows: u64, gate: &G) -> Result<Player<P, T>, NoMemory>
+    requires few_rows { fewest_rows ≤ rows }
+    requires rows { rows ≤ most_rows }
+    requires readable { IsReadable log.now.lines }
+    requires count { length log.now.lines < calls_taken }
+    ensures rest { IfOk result (IsAtRest T.tree P.knows T.serves T.many) }
+    ensures rows { IfOk result (λ player. player.rows ≡ rows) }
+    ensures played { IfOk result (λ player. (phase : ℕ) × IsPlayed phase log.now.lines (state_of T.tree P.knows player)) }
+{
+    let lines = log.lines.as_slice();
+    let lanes = lanes_of(lines);
+    let mut player = Player::<P, T>::new(alloc, rows, lanes + 1);
+    play_lines(&mut player, rt, alloc, lanes, lines, gate)?;
+    Ok(player)
+}
+
 /// Plays the lines of a log on shared trees of so many rows, phase by phase, each lane of a phase in a thread of its own,
 /// and lists the trees.
 ///
@@ -191,14 +215,34 @@ pub fn play<
     requires count { length log.now.lines < 2 ^ 62 - 1 }
     ensures { IfOk result (λ t. IsRun log.now rows t) }
 {
-    let lines = log.lines.as_slice();
-    let lanes = lanes_of(lines);
-    let mut player = Player::<P, T>::new(alloc, rows, lanes + 1);
-    play_lines(&mut player, rt, alloc, lanes, lines, gate)?;
+    let mut player = played::<R, P, T, G>(rt, alloc, log, rows, gate)?;
     let lists = player.list(rt, alloc)?;
     Ok(Transcript {
         version: log.version,
         entries: Entries::new(player.entries),
         lists: Listings::new(lists),
     })
+}
+
+/// Plays the lines of a log that declares a tree as `play` does, and writes an image of the first tree in place of the list of
+/// them all.
+///
+/// # Errors
+///
+/// `NoMemory` where memory ran out.
+pub fn play_image<
+    R: Threads + Wait + Sync,
+    P: Passage + Drop + Send,
+    T: Plays<P> + Send + Sync,
+    G: Gate + Sync,
+>(rt: &R, alloc: Global, log: &Log, rows: u64, gate: &G) -> Result<Vec<u8>, NoMemory>
+    requires few_rows { fewest_rows ≤ rows }
+    requires rows { rows ≤ most_rows }
+    requires readable { IsReadable log.now.lines }
+    requires count { length log.now.lines < 2 ^ 62 - 1 }
+    requires tree { trees_of log.now.lines ≢ [] }
+    ensures { IfOk result (λ bytes. IsImageOfRun rows log.now bytes.items) }
+{
+    let mut player = played::<R, P, T, G>(rt, alloc, log, rows, gate)?;
+    player.image_of(rt, alloc, 0)
 }

@@ -11,10 +11,10 @@ ghost use Rattle.mt_runs.specs.Phases.{histories_of};
 ghost use Rattle.mt_desks.specs.Dealing.{IsOnePhase};
 ghost use Rattle.mt_play.specs.Makes.{BeginAs, kind_in};
 ghost use Rattle.mt_play.specs.Trees.{AreAll, fewest_rows, most_passes};
-ghost use Rattle.mt_play.specs.Players.{Begins, Checks, Copies, HasRanges, IsAtRest, IsBegun, IsCopyIn, IsPlayedBy, Opens, rows_known, state_of};
+ghost use Rattle.mt_play.specs.Players.{Begins, Checks, Copies, HasImage, HasRanges, IsAtRest, IsBegun, IsCopyIn, IsPlayedBy, Opens, rows_known, state_of};
 
 use crate::makes::{Made, make_declared};
-use crate::rows::{copy_settled, count_settled, list_settled};
+use crate::rows::{copy_settled, count_settled, image_settled, list_settled};
 use crate::trees::Plays;
 use mt_base::{Kind, NoMemory, Range};
 use mt_desks::Passage;
@@ -139,6 +139,24 @@ impl<P: Passage + Drop + Send, T: Plays<P> + Send> Player<P, T> {
         ensures ranges { IfOk result (λ v. HasRanges (state_of T.tree P.knows self.old) number (λ ranges. v.items ≡ ranges)) }
     {
         list_settled(rt, alloc, &self.trees[number], &mut self.seats[number])
+    }
+
+    /// An image of the tree of this number.
+    ///
+    /// # Errors
+    ///
+    /// `NoMemory` where memory ran out.
+    pub(crate) fn image_of<R: Wait>(
+        &mut self,
+        rt: &R,
+        alloc: Global,
+        number: usize,
+    ) -> Result<Vec<u8>, NoMemory>
+        requires rest { IsAtRest T.tree P.knows T.serves T.many self.old }
+        requires declared { number < length self.old.trees.items }
+        ensures { IfOk result (λ bytes. HasImage (state_of T.tree P.knows self.old) number bytes.items) }
+    {
+        image_settled(rt, alloc, &self.trees[number], &mut self.seats[number])
     }
 
     /// Declares a copy of a tree, and tells how many ranges it has.

@@ -3,6 +3,7 @@
 ghost use Rattle.std.specs.Prelude.{◌≡◌, ◌≤◌, length, map, IfOk};
 ghost use Rattle.mt_base.specs.History.{last_map};
 ghost use Rattle.mt_base.specs.Passes.{IsSettled, Settled};
+ghost use Rattle.mt_image.specs.Images.{IsImageOfMap};
 ghost use Rattle.mt_play.specs.Trees.{AreAll, IsNewTree, seen_by};
 
 use crate::trees::Plays;
@@ -74,7 +75,7 @@ pub(crate) fn copy_settled<R: Wait, P: Passage + Drop, T: Plays<P>>(
 /// # Errors
 ///
 /// `NoMemory` where memory ran out.
-pub(crate) fn list_settled<R: Wait, P: Passage + Drop, T: Plays<P>>(
+pub fn list_settled<R: Wait, P: Passage + Drop, T: Plays<P>>(
     rt: &R,
     alloc: Global,
     tree: &T,
@@ -91,4 +92,28 @@ pub(crate) fn list_settled<R: Wait, P: Passage + Drop, T: Plays<P>>(
     let ranges = tree.list(rt, alloc, &mut row[own]);
     tree.settle(rt, row.as_mut_slice());
     ranges
+}
+
+/// An image of the map of a tree.
+///
+/// # Errors
+///
+/// `NoMemory` where memory ran out.
+pub fn image_settled<R: Wait, P: Passage + Drop, T: Plays<P>>(
+    rt: &R,
+    alloc: Global,
+    tree: &T,
+    row: &mut Vec<P>,
+) -> Result<Vec<u8>, NoMemory>
+    requires some_pass { 1 ≤ T.many tree.now }
+    requires all { AreAll P.knows T.serves (T.many tree.now) tree.now row.old.items }
+    requires settled { IsSettled (seen_by (T.tree tree.now).history (map P.knows row.old.items)) (map P.knows row.old.items) }
+    ensures all { AreAll P.knows T.serves (T.many tree.now) tree.now row.new.items }
+    ensures stays { map P.knows row.new.items ≡ map P.knows row.old.items }
+    ensures image { IfOk result (λ bytes. IsImageOfMap (T.tree tree.now).history.kind (last_map (seen_by (T.tree tree.now).history (map P.knows row.old.items))) bytes.items) }
+{
+    let own = row.len() - 1;
+    let image = tree.image(rt, alloc, &mut row[own]);
+    tree.settle(rt, row.as_mut_slice());
+    image
 }

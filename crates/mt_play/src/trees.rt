@@ -4,6 +4,7 @@ ghost use Rattle.std.specs.Prelude.{◌≡◌, ◌⊎◌, ◌≤◌, ℕ, [], Al
 ghost use Rattle.mt_base.specs.declared.kinds.Kind.{Kind};
 ghost use Rattle.mt_base.specs.Width.{most_rows};
 ghost use Rattle.mt_base.specs.Passes.{Saw, Settled};
+ghost use Rattle.mt_image.specs.Images.{IsImageOfMap};
 ghost use Rattle.mt_play.specs.Trees.{AreAll, IsNewTree, fewest_rows, map_seen, most_passes, seen_by};
 
 use mt_base::{Kind, NoMemory, Range};
@@ -11,7 +12,7 @@ use mt_desks::{Passage, Shared};
 use std::alloc::Global;
 use std::sync::Wait;
 
-/// A shared tree that a player makes, copies, checks, lists and settles.
+/// A shared tree that a player makes, copies, checks, lists, writes as an image and settles.
 ///
 /// Its meanings are `many`, the number of its passes; and `zeros_serve`, that a tree of a kind, of so many rows, can be made over
 /// some `Zeros`. It takes 2^62 - 1 calls.
@@ -84,6 +85,17 @@ pub trait Plays<P: Passage>: Shared<P> + Drop + Sized {
         ensures of { Self.serves self.now pass.new }
         ensures saw { Saw (Self.tree self.now).history (P.knows pass.old) (P.knows pass.new) }
         ensures ranges { IfOk result (λ ranges. ranges.items ≡ map_seen (Self.tree self.now) (P.knows pass.new)) };
+
+    /// An image of the map of the tree after all that the pass has then seen.
+    ///
+    /// # Errors
+    ///
+    /// `NoMemory` where memory ran out.
+    fn image<R: Wait>(&self, rt: &R, alloc: Global, pass: &mut P) -> Result<Vec<u8>, NoMemory>
+        requires of { Self.serves self.now pass.old }
+        ensures of { Self.serves self.now pass.new }
+        ensures saw { Saw (Self.tree self.now).history (P.knows pass.old) (P.knows pass.new) }
+        ensures image { IfOk result (λ bytes. IsImageOfMap (Self.tree self.now).history.kind (map_seen (Self.tree self.now) (P.knows pass.new)) bytes.items) };
 
     /// All passes of the tree have then seen its whole history, whose calls are just theirs.
     fn settle<R: Wait>(&self, rt: &R, passes: &mut [P])

@@ -1,12 +1,15 @@
 -- What the texts are that the program prints.
 -- Source: this project's own; a run is that of the log's definitions.
-use Rattle.std.specs.Prelude.{◌≡◌, ℕ, List, [], ◌∷◌, ◌++◌}
+use Rattle.std.specs.Prelude.{◌≡◌, ℕ, List, [], ◌∷◌, ◌++◌, Ok, codes}
 use Rattle.mt_base.specs.Width.{most_rows}
+use Rattle.mt_image.specs.Reading.{Image, image_in}
 use Rattle.mt_log.specs.declared.transcripts.Transcript.{Transcript}
 use Rattle.mt_log.specs.LogText.{log_text}
 use Rattle.mt_log.specs.Run.{IsRun}
+use Rattle.mt_log.specs.Text.{listing_text}
 use Rattle.mt_made.specs.Made.{made}
 use Rattle.mt_made.specs.Summary.{counted, summary_text}
+use Rattle.mt_rows.specs.Publish.{map_by}
 
 -- this is the text of the log that is made of a number
 abbrev pub IsMadeText : ℕ → ℕ → ℕ → List ℕ → Type 0
@@ -16,3 +19,7 @@ IsMadeText number steps lanes text = text ≡ log_text (made number steps lanes)
 -- tree may have
 abbrev pub IsTrialText : ℕ → ℕ → List ℕ → Type 0
 IsTrialText number steps text = (t : Transcript) × IsRun (made number steps 1) most_rows t × (text ≡ summary_text (counted steps t) ++ 10 ∷ [])
+
+-- the bytes are an image, and this is the listing of its tree, under the name `image`
+abbrev pub IsImageListing : List ℕ → List ℕ → Type 0
+IsImageListing bytes text = (x : Image) × (image_in bytes ≡ Ok x) × (text ≡ listing_text (record { name = codes "image"; kind = x.kind; ranges = map_by x.tree }))

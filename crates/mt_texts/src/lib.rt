@@ -1,10 +1,12 @@
-//! The texts that the program's commands print: of a run on trees of nodes that threads share, of a made log, and of what a run of
-//! that came to.
+//! What the program's commands print: the text of a run on trees of nodes that threads share, an image of its first tree, the
+//! listing of an image's tree, the text of a made log, and that of what a run of it came to.
 #![tactic(auto)]
 
+mod images;
 mod texts;
 mod trees;
 mod walks;
 
-pub use texts::{answers, made_text, trial_text};
+pub use images::image_listing;
+pub use texts::{answers, image_of_run, made_text, trial_text};
 pub use trees::LaneTree;

@@ -1,12 +1,13 @@
 //! The texts that the program prints: of a run of a log, of a log that is made of a number, and of what a run of that came to.
 
-ghost use Rattle.std.specs.Prelude.{◌≡◌, ◌≤◌, ◌<◌, ◌-◌, ◌^◌, IfOk, length, string_bytes};
+ghost use Rattle.std.specs.Prelude.{◌≡◌, ◌≢◌, ◌≤◌, ◌<◌, ◌-◌, ◌^◌, [], IfOk, length, string_bytes};
 ghost use Rattle.mt_base.specs.Width.{most_rows};
 ghost use Rattle.mt_log.specs.Run.{IsRun, TellsRun};
-ghost use Rattle.mt_log.specs.Trees.{IsReadable, most_lanes};
+ghost use Rattle.mt_log.specs.Trees.{IsReadable, most_lanes, trees_of};
 ghost use Rattle.mt_made.specs.Made.{made};
 ghost use Rattle.mt_made.specs.Summary.{counted};
 ghost use Rattle.mt_log.specs.declared.transcripts.Transcript.{Transcript};
+ghost use Rattle.mt_play.specs.Images.{IsImageOfRun};
 ghost use Rattle.mt_play.specs.Trees.{fewest_rows};
 ghost use Rattle.mt_texts.specs.Texts.{IsMadeText, IsTrialText};
 
@@ -15,7 +16,7 @@ use mt_base::{MOST_ROWS, NoMemory};
 use mt_io::Gate;
 use mt_log::{Log, Transcript, print_log, render};
 use mt_made::{Summary, made_log, summarise};
-use mt_play::play;
+use mt_play::{play, play_image};
 use mt_tree::Pass;
 use std::alloc::Global;
 use std::sync::Wait;
@@ -58,6 +59,28 @@ pub fn answers<R: Threads + Wait + Sync, G: Gate + Sync>(
 {
     let transcript = played(rt, alloc, log, rows, gate)?;
     render(alloc, &transcript)
+}
+
+/// An image of the first tree of a run of a log that declares one, over trees of so many rows.
+///
+/// # Errors
+///
+/// `NoMemory` where memory ran out.
+pub fn image_of_run<R: Threads + Wait + Sync, G: Gate + Sync>(
+    rt: &R,
+    alloc: Global,
+    log: Log,
+    rows: u64,
+    gate: &G,
+) -> Result<Vec<u8>, NoMemory>
+    requires few_rows { fewest_rows ≤ rows }
+    requires rows { rows ≤ most_rows }
+    requires readable { IsReadable log.lines }
+    requires count { length log.lines < 2 ^ 62 - 1 }
+    requires tree { trees_of log.lines ≢ [] }
+    ensures { IfOk result (λ bytes. IsImageOfRun rows log bytes.items) }
+{
+    play_image::<R, Pass, LaneTree, G>(rt, alloc, &log, rows, gate)
 }
 
 /// The text of the log that is made of a number.

@@ -3,16 +3,19 @@
 ghost use Rattle.std.specs.Prelude.{◌≡◌, ℕ, ◌≤◌, None, IfOk};
 ghost use Rattle.mt_base.specs.Passes as known;
 ghost use Rattle.mt_base.specs.Width.{most_rows};
+ghost use Rattle.mt_rows.specs.Memory.{sheet_in};
+ghost use Rattle.mt_rows.specs.Publish.{map_by, IsLawfulOf};
+ghost use Rattle.mt_rows.specs.Sheet.{OnlyReads};
 ghost use Rattle.mt_play.specs.Trees.{calls_taken, fewest_rows, most_passes};
 ghost use Rattle.mt_tree.specs.Trees.{IsPassOf, limit_of, opened, pass_in, passes_of};
 ghost use Rattle.mt_tree.specs.Zeros.{Serve};
 
 use crate::walks::scan_by;
-use mt_base::{Call, Kind, NoMemory, Query, Range};
-use mt_desks::{Done, Looked, Shared, Worn};
+use mt_base::{Call, Kind, MOST_ROWS, NoMemory, Query, Range};
+use mt_desks::{Done, Looked, Passage, Shared, Worn};
 use mt_log::Entry;
 use mt_play::Plays;
-use mt_tree::{DupError, MOST_CALLS, MakeError, Pass, Read, Shape, Tree, Zeros};
+use mt_tree::{DupError, MOST_CALLS, MakeError, Pass, PlainRows, Read, Shape, Tree, Zeros};
 use std::alloc::Global;
 use std::sync::Wait;
 
@@ -52,6 +55,43 @@ fn ask_under_lock(
     let read = write.ask(query);
     write.unlock();
     read
+}
+
+impl LaneTree {
+    ghost use Rattle.std.specs.Prelude.{map};
+    ghost use Rattle.mt_play.specs.Trees.{AreAll, IsNewTree};
+
+    /// A tree of this kind, of as many rows as a tree may have and one pass, that opens with the map of these rows; and its pass. The
+    /// rows are only read.
+    ///
+    /// # Errors
+    ///
+    /// `NoMemory` where memory ran out.
+    pub fn of_rows(
+        alloc: Global,
+        kind: Kind,
+        rows: &mut PlainRows,
+    ) -> Result<(LaneTree, Vec<Pass>), NoMemory>
+        requires { IsLawfulOf (sheet_in rows.old).tree kind }
+        ensures new { IfOk result (λ made. IsNewTree kind most_rows (map_by (sheet_in rows.old).tree) 1 (⟦<LaneTree as Shared<Pass>>⟧.tree made.0) (map ⟦<Pass as Passage>⟧.knows made.1.items)) }
+        ensures all { IfOk result (λ made. AreAll ⟦<Pass as Passage>⟧.knows ⟦<LaneTree as Shared<Pass>>⟧.serves 1 made.0 made.1.items) }
+        ensures many { IfOk result (λ made. passes_of made.0.tree ≡ 1) }
+        ensures rest { OnlyReads (sheet_in rows.old) (sheet_in rows.new) }
+    {
+        let shape = Shape {
+            kind,
+            rows: MOST_ROWS,
+            passes: 1,
+            calls: MOST_CALLS,
+        };
+        match Tree::of_rows(alloc, shape, kind, rows) {
+            Ok((tree, passes)) => Ok((LaneTree { tree }, passes)),
+            Err(DupError::NoMemory) => Err(NoMemory),
+            Err(DupError::BadShape { .. }) => unreachable!(),
+            Err(DupError::Invalid) => unreachable!(),
+            Err(DupError::NoNodes { .. }) => unreachable!(),
+        }
+    }
 }
 
 impl Shared<Pass> for LaneTree {
@@ -152,6 +192,10 @@ impl Plays<Pass> for LaneTree {
         let ranges = write.list(alloc);
         write.unlock();
         ranges
+    }
+
+    fn image<R: Wait>(&self, rt: &R, alloc: Global, pass: &mut Pass) -> Result<Vec<u8>, NoMemory> {
+        self.tree.image(rt, alloc, pass)
     }
 
     fn settle<R: Wait>(&self, rt: &R, passes: &mut [Pass]) {

@@ -6,7 +6,8 @@ use Rattle.mt_play.proofs.phases.play.Goals as goal
 
 pub returns : goal.returns
 returns g c =
-    run_of c.args.log.now c.as_slice-lines.result.now c.args.rows c.in_ok-play_lines.ensures.played.0 (record { version = c.args.log.now.version; entries = c.new.result; lists = c.new-2.result }) (state_of g.T.Shared.tree g.P.Passage.knows c.play_lines.new.player)
-    c.as_slice-lines.ensures (c.in_ok-play_lines.ensures.rows ∙ c.new-player.ensures.rows_are) c.in_ok-play_lines.ensures.played.1 refl
+    let (phase, played) = c.in_ok-player.ensures.played in
+    run_of c.args.log.now c.args.log.now.lines c.args.rows phase (record { version = c.args.log.now.version; entries = c.new.result; lists = c.new-2.result }) (state_of g.T.Shared.tree g.P.Passage.knows c.in_ok-player.player)
+    refl c.in_ok-player.ensures.rows played refl
     (c.new.ensures ∙ ap (λ z. z.items) c.in_ok-lists.ensures.entries)
-    (λ known. c.new-2.ensures ∙ c.in_ok-lists.ensures.lists (trees_of c.as_slice-lines.result.now) known)
+    (λ known. c.new-2.ensures ∙ c.in_ok-lists.ensures.lists (trees_of c.args.log.now.lines) known)
