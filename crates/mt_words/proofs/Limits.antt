@@ -5,10 +5,10 @@ use Rattle.std.specs.Str.{bytes_eq}
 use Rattle.std.specs.Str.Parse.{digits_value}
 use Rattle.std.proofs.lemmas.Bool.{leb-true}
 use Rattle.mt_base.specs.Width.{most_rows}
-use Rattle.mt_words.specs.Commands.{IsWithin, command_of, make_of, rows_said, rows_word, trial_of}
+use Rattle.mt_words.specs.Commands.{IsWithin, command_of, make_of, rows_said, rows_word, show_of, trial_of}
 use Rattle.mt_words.specs.Numbers.{fewest_rows, greatest_number, is_number, most_lanes, most_steps, number_in}
 use Rattle.mt_words.specs.declared.commands.Command.{Command}
-use Rattle.mt_words.specs.declared.commands.Command.TheVariants.{Make, Replay, Trial, Verify}
+use Rattle.mt_words.specs.declared.commands.Command.TheVariants.{Image, Make, Replay, Trial, Verify}
 
 abbrev IsBetween : ℕ → ℕ → ℕ → Type 0
 IsBetween least most n = (least ≤ n) × (n ≤ most)
@@ -47,6 +47,13 @@ replay_within words = mapped (rows_said words) Replay (IsBetween fewest_rows mos
 verify_within : (words : List (List ℕ)) → IfSome (option_map Verify (rows_said words)) IsWithin
 verify_within words = mapped (rows_said words) Verify (IsBetween fewest_rows most_rows) IsWithin (rows_within words) (λ rows within. within)
 
+image_within : (words : List (List ℕ)) → IfSome (option_map Image (rows_said words)) IsWithin
+image_within words = mapped (rows_said words) Image (IsBetween fewest_rows most_rows) IsWithin (rows_within words) (λ rows within. within)
+
+show_within : (words : List (List ℕ)) → IfSome (show_of words) IsWithin
+show_within [] = tt
+show_within (word ∷ words) = tt
+
 make_within : (words : List (List ℕ)) → IfSome (make_of words) IsWithin
 make_within [] = tt
 make_within (number ∷ []) = tt
@@ -70,13 +77,17 @@ trial_within (number ∷ steps ∷ more ∷ words) = tt
 of_words : (words : List (List ℕ)) → IfSome (command_of words) IsWithin
 of_words [] = tt
 of_words (word ∷ words) =
-    let judged : Option Command = if bytes_eq word (codes "verify") then option_map Verify (rows_said words) else None in
+    let shown : Option Command = if bytes_eq word (codes "show") then show_of words else None in
+    let drawn : Option Command = if bytes_eq word (codes "image") then option_map Image (rows_said words) else shown in
+    let judged : Option Command = if bytes_eq word (codes "verify") then option_map Verify (rows_said words) else drawn in
     let tried : Option Command = if bytes_eq word (codes "trial") then trial_of words else judged in
     let made : Option Command = if bytes_eq word (codes "make") then make_of words else tried in
     either IsWithin (bytes_eq word (codes "replay")) (option_map Replay (rows_said words)) made (replay_within words)
     (either IsWithin (bytes_eq word (codes "make")) (make_of words) tried (make_within words)
     (either IsWithin (bytes_eq word (codes "trial")) (trial_of words) judged (trial_within words)
-    (either IsWithin (bytes_eq word (codes "verify")) (option_map Verify (rows_said words)) None (verify_within words) tt)))
+    (either IsWithin (bytes_eq word (codes "verify")) (option_map Verify (rows_said words)) drawn (verify_within words)
+    (either IsWithin (bytes_eq word (codes "image")) (option_map Image (rows_said words)) shown (image_within words)
+    (either IsWithin (bytes_eq word (codes "show")) (show_of words) None (show_within words) tt)))))
 
 pub command_within : (command : Option Command) (words : List (List ℕ)) → command ≡ command_of words → IfSome command IsWithin
 command_within command words is = subst (λ (c : Option Command). IfSome c IsWithin) (sym is) (of_words words)

@@ -4,10 +4,10 @@ use Rattle.std.specs.Prelude.{if◌then◌else◌, option_and_then, option_map}
 use Rattle.std.specs.List.{list_any}
 use Rattle.std.specs.Str.{bytes_eq}
 use Rattle.std.proofs.lemmas.Slice.Eq.{bytes_eq-Decides}
-use Rattle.mt_words.specs.Commands.{command_of, in_two_words, make_of, rows_said, rows_word, trial_of}
+use Rattle.mt_words.specs.Commands.{command_of, in_two_words, make_of, rows_said, rows_word, show_of, trial_of}
 use Rattle.mt_words.specs.Grammar.{is_end_of_options}
 use Rattle.mt_words.specs.Numbers.{greatest_number, is_number, most_lanes, most_steps, number_in}
-use Rattle.mt_words.specs.declared.commands.Command.TheVariants.{Make, Replay, Trial, Verify}
+use Rattle.mt_words.specs.declared.commands.Command.TheVariants.{Image, Make, Replay, Trial, Verify}
 
 abbrev Text : Type 0
 Text = List ℕ
@@ -99,6 +99,10 @@ end_in_trial (number ∷ steps ∷ []) ends = elim (or_cases _ _ ends) [
 ]
 end_in_trial (number ∷ steps ∷ more ∷ words) ends = refl
 
+end_in_show : (words : List Text) → HasEnd words → show_of words ≡ None
+end_in_show [] ends = absurd (true≢false (sym ends))
+end_in_show (word ∷ words) ends = refl
+
 -- a list with `--` is no command
 pub ended : (words : List Text) → HasEnd words → command_of words ≡ None
 ended [] ends = refl
@@ -108,5 +112,7 @@ ended (word ∷ words) ends = elim (or_cases _ _ ends) [
       chosen (bytes_eq word (codes "replay")) (option_map Replay (rows_said words)) _ (ap (option_map Replay) (end_in_rows words rest))
       (chosen (bytes_eq word (codes "make")) (make_of words) _ (end_in_make words rest)
       (chosen (bytes_eq word (codes "trial")) (trial_of words) _ (end_in_trial words rest)
-      (chosen (bytes_eq word (codes "verify")) (option_map Verify (rows_said words)) None (ap (option_map Verify) (end_in_rows words rest)) refl)))
+      (chosen (bytes_eq word (codes "verify")) (option_map Verify (rows_said words)) _ (ap (option_map Verify) (end_in_rows words rest))
+      (chosen (bytes_eq word (codes "image")) (option_map Image (rows_said words)) _ (ap (option_map Image) (end_in_rows words rest))
+      (chosen (bytes_eq word (codes "show")) (show_of words) None (end_in_show words rest) refl)))))
 ]

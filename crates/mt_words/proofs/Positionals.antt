@@ -1,4 +1,4 @@
--- `make` and `trial` and the words after them: which of them `clap` refuses, and what it tells of the others.
+-- `make`, `trial` and `show` and the words after them: which of them `clap` refuses, and what it tells of the others.
 use Rattle.std.proofs.Common.{◌≡◌, ◌⊎◌, ℕ, false, List, [], ◌∷◌, Option, Some, None, refl, sym, subst, inl, inr, codes, fold}
 use Rattle.clap.specs.Faults.{step_fault}
 use Rattle.clap.specs.Kinds.{Kinds}
@@ -7,14 +7,15 @@ use Rattle.clap.specs.Walk.{Held, Row, Step, Text, Walk, after_step, arg_by_long
 use Rattle.clap.specs.declared.parser.matches.ValueSource.TheVariants.{CommandLine}
 use Rattle.clap.specs.declared.builder.value_parser.Reading.TheVariants.{AsWritten}
 use Rattle.clap.proofs.OnLiterals.{clap_on_literals}
-use Rattle.mt_words.specs.Commands.{make_of, trial_of}
+use Rattle.mt_words.specs.Commands.{make_of, show_of, trial_of}
 use Rattle.mt_words.specs.Grammar.{is_end_of_options, make_in, trial_in}
 use Rattle.mt_words.specs.Numbers.{is_number}
 use Rattle.mt_words.specs.declared.commands.Command.{Command}
+use Rattle.mt_words.specs.declared.commands.Command.TheVariants.{Show}
 use Rattle.mt_words.proofs.Agreements.{Agrees, HasNoEnd}
 use Rattle.mt_words.proofs.NoCommands.{make_no_lanes, make_no_number, make_no_steps, trial_no_number, trial_no_steps}
 use Rattle.mt_words.proofs.Refusals.{IsRefused}
-use Rattle.mt_words.proofs.Shapes.{make_no_shorts, make_shape, trial_no_shorts, trial_shape}
+use Rattle.mt_words.proofs.Shapes.{make_no_shorts, make_shape, show_no_shorts, show_shape, trial_no_shorts, trial_shape}
 use Rattle.mt_words.proofs.Sorts.{IsValue, NoShorts, held, is_flags, is_long, is_value, sort_of}
 use Rattle.mt_words.proofs.Walks.{at, fault_from, flags_refused, long_refused, value_from, value_refused, value_walked}
 
@@ -147,3 +148,11 @@ pub trial_agrees : (words : List Text) → HasNoEnd words → TrialAgrees none w
 unfolding clap_on_literals
 trial_agrees [] ends = inr (tt, refl)
 trial_agrees (word ∷ words) (end, ends) = next_agrees trial_shape trial_no_shorts trial_no_longs trial_in (trial_of (word ∷ words)) [] None 1 word words end refl (trial_one word words ends) (trial_no_number word words)
+
+show_no_longs : NoLongs show_shape
+show_no_longs name = refl
+
+pub show_agrees : (words : List Text) → HasNoEnd words → Agrees (fault_from show_shape none words) (Some Show) (show_of words)
+unfolding clap_on_literals
+show_agrees [] ends = inl (refl, refl)
+show_agrees (word ∷ words) ends = inr (full_lost show_shape show_no_shorts show_no_longs [] None 1 tt word words ends, refl)

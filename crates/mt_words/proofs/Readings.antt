@@ -17,12 +17,12 @@ use Rattle.clap.proofs.WalkLemmas.{walk_stopped}
 use Rattle.mt_words.specs.Commands.{command_of}
 use Rattle.mt_words.specs.Grammar.{command_met, grammar, is_end_of_options}
 use Rattle.mt_words.specs.declared.commands.Command.{Command}
-use Rattle.mt_words.specs.declared.commands.Command.TheVariants.{Replay, Verify}
+use Rattle.mt_words.specs.declared.commands.Command.TheVariants.{Image, Replay, Verify}
 use Rattle.mt_words.proofs.Agreements.{Agrees, HasNoEnd}
-use Rattle.mt_words.proofs.Positionals.{make_agrees, trial_agrees}
+use Rattle.mt_words.proofs.Positionals.{make_agrees, show_agrees, trial_agrees}
 use Rattle.mt_words.proofs.Refusals.{IsRefused, or_else_none, refused_first}
 use Rattle.mt_words.proofs.Replays.{rows_agree}
-use Rattle.mt_words.proofs.Shapes.{make_shape, rows_shape, simple, simple_and_free, trial_shape}
+use Rattle.mt_words.proofs.Shapes.{make_shape, rows_shape, show_shape, simple, simple_and_free, trial_shape}
 use Rattle.mt_words.proofs.Sorts.{NoShorts, held, is_flags, is_long, is_value, sort_of}
 use Rattle.mt_words.proofs.Walks.{at, fault_from}
 
@@ -79,6 +79,18 @@ module _ (words : List Text) where
       let fault : Kinds = fault_from (rows_shape (codes "verify")) (at (held [] None) idle 1) words in
       after_name (codes "verify") fault (sym (walk_stopped top.rules names start (codes "verify") [] words)) refl (or_else_none fault) (rows_agree (codes "verify") Verify words ends)
 
+  after_image : HasNoEnd words → AgreesOn (codes "image" ∷ words)
+  unfolding clap_on_literals
+  after_image ends =
+      let fault : Kinds = fault_from (rows_shape (codes "image")) (at (held [] None) idle 1) words in
+      after_name (codes "image") fault (sym (walk_stopped top.rules names start (codes "image") [] words)) refl (or_else_none fault) (rows_agree (codes "image") Image words ends)
+
+  after_show : HasNoEnd words → AgreesOn (codes "show" ∷ words)
+  unfolding clap_on_literals
+  after_show ends =
+      let fault : Kinds = fault_from show_shape (at (held [] None) idle 1) words in
+      after_name (codes "show") fault (sym (walk_stopped top.rules names start (codes "show") [] words)) refl (or_else_none fault) (show_agrees words ends)
+
   after_make : HasNoEnd words → AgreesOn (codes "make" ∷ words)
   unfolding clap_on_literals
   after_make ends =
@@ -113,11 +125,18 @@ stranger word end none = elim (sort_of word end) [
 ]
 
 other : (word : Text) (words : List Text) → is_end_of_options word ≡ false → bytes_eq word (codes "replay") ≡ false → bytes_eq word (codes "make") ≡ false → bytes_eq word (codes "trial") ≡ false
-    → bytes_eq word (codes "verify") ≡ false → AgreesOn (word ∷ words)
+    → bytes_eq word (codes "verify") ≡ false → bytes_eq word (codes "image") ≡ false → bytes_eq word (codes "show") ≡ false → AgreesOn (word ∷ words)
 unfolding walk_fault
-other word words end replay make trial verify =
-    let none : subcommand_met names idle word ≡ None = rw (differs word (codes "replay") replay, differs word (codes "make") make, differs word (codes "trial") trial, differs word (codes "verify") verify) refl in
-    inr (refused_first (walk_fault top names start (word ∷ words)) _ (refused_first (turn_fault top names start word) _ (stranger word end none)), rw (replay, make, trial, verify) refl)
+other word words end replay make trial verify image show =
+    let none : subcommand_met names idle word ≡ None = rw (
+      differs word (codes "replay") replay,
+      differs word (codes "make") make,
+      differs word (codes "trial") trial,
+      differs word (codes "verify") verify,
+      differs word (codes "image") image,
+      differs word (codes "show") show,
+    ) refl in
+    inr (refused_first (walk_fault top names start (word ∷ words)) _ (refused_first (turn_fault top names start word) _ (stranger word end none)), rw (replay, make, trial, verify, image, show) refl)
 
 no_words : AgreesOn []
 unfolding clap_on_literals
@@ -125,18 +144,21 @@ no_words = inl (refl, refl)
 
 pub agrees : (words : List Text) → HasNoEnd words → AgreesOn words
 agrees [] ends = no_words
-agrees (word ∷ words) (end, ends) = go (bytes_eq word (codes "replay")) refl (bytes_eq word (codes "make")) refl (bytes_eq word (codes "trial")) refl (bytes_eq word (codes "verify")) refl
+agrees (word ∷ words) (end, ends) =
+    go (bytes_eq word (codes "replay")) refl (bytes_eq word (codes "make")) refl (bytes_eq word (codes "trial")) refl (bytes_eq word (codes "verify")) refl (bytes_eq word (codes "image")) refl (bytes_eq word (codes "show")) refl
   where
     at_name : (name : Text) → bytes_eq word name ≡ true → AgreesOn (name ∷ words) → AgreesOn (word ∷ words)
     at_name name same = subst (λ (w : Text). AgreesOn (w ∷ words)) (sym ((bytes_eq-Decides word name).0 same))
 
     go : (a : Bool) → bytes_eq word (codes "replay") ≡ a → (b : Bool) → bytes_eq word (codes "make") ≡ b → (c : Bool) → bytes_eq word (codes "trial") ≡ c
-        → (d : Bool) → bytes_eq word (codes "verify") ≡ d → AgreesOn (word ∷ words)
-    go true is b _ c _ d _ = at_name (codes "replay") is (after_replay words ends)
-    go false _ true is c _ d _ = at_name (codes "make") is (after_make words ends)
-    go false _ false _ true is d _ = at_name (codes "trial") is (after_trial words ends)
-    go false _ false _ false _ true is = at_name (codes "verify") is (after_verify words ends)
-    go false replay false make false trial false verify = other word words end replay make trial verify
+        → (d : Bool) → bytes_eq word (codes "verify") ≡ d → (e : Bool) → bytes_eq word (codes "image") ≡ e → (f : Bool) → bytes_eq word (codes "show") ≡ f → AgreesOn (word ∷ words)
+    go true is b _ c _ d _ e _ f _ = at_name (codes "replay") is (after_replay words ends)
+    go false _ true is c _ d _ e _ f _ = at_name (codes "make") is (after_make words ends)
+    go false _ false _ true is d _ e _ f _ = at_name (codes "trial") is (after_trial words ends)
+    go false _ false _ false _ true is e _ f _ = at_name (codes "verify") is (after_verify words ends)
+    go false _ false _ false _ false _ true is f _ = at_name (codes "image") is (after_image words ends)
+    go false _ false _ false _ false _ false _ true is = at_name (codes "show") is (after_show words ends)
+    go false replay false make false trial false verify false image false show = other word words end replay make trial verify image show
 
 no_end : (words : List Text) → list_any is_end_of_options words ≡ false → HasNoEnd words
 no_end [] none = tt

@@ -1,4 +1,4 @@
--- `replay` or `verify` and the words after it: which of them `clap` refuses, and what it tells of the others.
+-- `replay`, `verify` or `image` and the words after it: which of them `clap` refuses, and what it tells of the others.
 use Rattle.std.proofs.Common.{◌≡◌, ◌∙◌, ◌⊎◌, ℕ, Bool, true, false, List, [], ◌∷◌, ◌++◌, Option, Some, None, refl, sym, ap, ap₂, subst, inl, inr, codes, true≢false, take-append-drop, take, drop, length}
 use Rattle.std.specs.Str.{bytes_eq}
 use Rattle.std.specs.List.{after_first, before_first, position_or_len}

@@ -3,7 +3,7 @@ use Rattle.std.proofs.Common.{◌≡◌, [], ◌∷◌, refl, true, codes}
 use Rattle.clap.specs.Faults.{is_simple_and_free}
 use Rattle.clap.specs.Simple.{Shape, built, built_leaf, inherited, is_simple, marked_built, on_top, with_leaf_noted}
 use Rattle.clap.specs.Words.{Text}
-use Rattle.mt_words.specs.Grammar.{grammar, make_app, rows_app, trial_app}
+use Rattle.mt_words.specs.Grammar.{grammar, make_app, rows_app, show_app, trial_app}
 use Rattle.mt_words.proofs.Sorts.{NoShorts}
 
 abbrev above : Shape
@@ -18,7 +18,10 @@ make_shape = built_leaf (inherited above make_app.top)
 abbrev pub trial_shape : Shape
 trial_shape = built_leaf (inherited above trial_app.top)
 
-pub subs_are : (built grammar).subs ≡ rows_shape (codes "replay") ∷ make_shape ∷ trial_shape ∷ rows_shape (codes "verify") ∷ []
+abbrev pub show_shape : Shape
+show_shape = built_leaf (inherited above show_app.top)
+
+pub subs_are : (built grammar).subs ≡ rows_shape (codes "replay") ∷ make_shape ∷ trial_shape ∷ rows_shape (codes "verify") ∷ rows_shape (codes "image") ∷ show_shape ∷ []
 subs_are = refl
 
 pub simple : is_simple grammar ≡ true
@@ -35,3 +38,6 @@ make_no_shorts x = refl
 
 pub trial_no_shorts : NoShorts trial_shape
 trial_no_shorts x = refl
+
+pub show_no_shorts : NoShorts show_shape
+show_no_shorts x = refl

@@ -5,7 +5,7 @@ use Rattle.std.specs.Str.{bytes_eq}
 use Rattle.mt_base.specs.Width.{most_rows}
 use Rattle.mt_words.specs.Numbers.{fewest_rows, greatest_number, most_lanes, most_steps, number_in}
 use Rattle.mt_words.specs.declared.commands.Command.{Command}
-use Rattle.mt_words.specs.declared.commands.Command.TheVariants.{Make, Replay, Trial, Verify}
+use Rattle.mt_words.specs.declared.commands.Command.TheVariants.{Image, Make, Replay, Show, Trial, Verify}
 
 -- as many rows as a word says
 abbrev pub rows_word : List ℕ → Option ℕ
@@ -19,7 +19,7 @@ in_one_word word = if bytes_eq (take 7 word) (codes "--rows=") then rows_word (d
 abbrev pub in_two_words : List ℕ → List ℕ → Option ℕ
 in_two_words option word = if bytes_eq option (codes "--rows") then rows_word word else None
 
--- the number of rows behind `replay` or `verify`: as many as a tree may have, if no word says another
+-- the number of rows behind `replay`, `verify` or `image`: as many as a tree may have, if no word says another
 abbrev pub rows_said : List (List ℕ) → Option ℕ
 rows_said [] = Some most_rows
 rows_said (word ∷ []) = in_one_word word
@@ -43,13 +43,20 @@ abbrev pub trial_of : List (List ℕ) → Option Command
 trial_of (number ∷ steps ∷ []) = trial_with number steps
 trial_of words = None
 
+-- `show` and no word more
+abbrev pub show_of : List (List ℕ) → Option Command
+show_of [] = Some Show
+show_of (word ∷ words) = None
+
 -- the command that the words after the program's name are, if they are one
 abbrev pub command_of : List (List ℕ) → Option Command
 command_of [] = None
 command_of (word ∷ words) = if bytes_eq word (codes "replay") then option_map Replay (rows_said words)
     else (if bytes_eq word (codes "make") then make_of words
     else (if bytes_eq word (codes "trial") then trial_of words
-    else (if bytes_eq word (codes "verify") then option_map Verify (rows_said words) else None)))
+    else (if bytes_eq word (codes "verify") then option_map Verify (rows_said words)
+    else (if bytes_eq word (codes "image") then option_map Image (rows_said words)
+    else (if bytes_eq word (codes "show") then show_of words else None)))))
 
 -- the numbers of a command lie within their limits
 abbrev pub IsWithin : Command → Type 0
@@ -57,3 +64,5 @@ IsWithin (Replay rows) = (fewest_rows ≤ rows) × (rows ≤ most_rows)
 IsWithin (Make number steps lanes) = (number ≤ greatest_number) × (1 ≤ steps) × (steps ≤ most_steps) × (1 ≤ lanes) × (lanes ≤ most_lanes)
 IsWithin (Trial number steps) = (number ≤ greatest_number) × (1 ≤ steps) × (steps ≤ most_steps)
 IsWithin (Verify rows) = (fewest_rows ≤ rows) × (rows ≤ most_rows)
+IsWithin (Image rows) = (fewest_rows ≤ rows) × (rows ≤ most_rows)
+IsWithin Show = Unit {0}

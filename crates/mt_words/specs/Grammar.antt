@@ -6,7 +6,7 @@ use Rattle.clap.specs.Words.{App, Row, Rule, Text, first_of, new_app, new_rule, 
 use Rattle.mt_base.specs.Width.{most_rows}
 use Rattle.mt_words.specs.Commands.{make_with, rows_word, trial_with}
 use Rattle.mt_words.specs.declared.commands.Command.{Command}
-use Rattle.mt_words.specs.declared.commands.Command.TheVariants.{Replay, Verify}
+use Rattle.mt_words.specs.declared.commands.Command.TheVariants.{Image, Replay, Show, Verify}
 
 -- an option with a value
 abbrev pub option_rule : Text → Rule
@@ -32,6 +32,12 @@ trial_app = with_rule (with_rule (new_app (codes "trial")) (word_rule (codes "nu
 abbrev pub verify_app : App
 verify_app = rows_app (codes "verify")
 
+abbrev pub image_app : App
+image_app = rows_app (codes "image")
+
+abbrev pub show_app : App
+show_app = new_app (codes "show")
+
 -- the program's words: no name before them, and no help
 abbrev pub plain_app : App
 plain_app = record (new_app (codes "mtreplay")) {
@@ -39,7 +45,7 @@ plain_app = record (new_app (codes "mtreplay")) {
 }
 
 abbrev pub grammar : App
-grammar = with_subcommand (with_subcommand (with_subcommand (with_subcommand plain_app replay_app.top) make_app.top) trial_app.top) verify_app.top
+grammar = with_subcommand (with_subcommand (with_subcommand (with_subcommand (with_subcommand (with_subcommand plain_app replay_app.top) make_app.top) trial_app.top) verify_app.top) image_app.top) show_app.top
 
 -- the number of rows that the matches of a subcommand say
 abbrev pub rows_in : List Row → Option ℕ
@@ -57,7 +63,9 @@ abbrev pub command_in : Text → List Row → Option Command
 command_in name rows = if bytes_eq name (codes "replay") then option_map Replay (rows_in rows)
     else (if bytes_eq name (codes "make") then make_in rows
     else (if bytes_eq name (codes "trial") then trial_in rows
-    else (if bytes_eq name (codes "verify") then option_map Verify (rows_in rows) else None)))
+    else (if bytes_eq name (codes "verify") then option_map Verify (rows_in rows)
+    else (if bytes_eq name (codes "image") then option_map Image (rows_in rows)
+    else (if bytes_eq name (codes "show") then Some Show else None)))))
 
 abbrev pub command_met : Option (Text × List Row) → Option Command
 command_met = option_and_then (λ p. command_in p.0 p.1)

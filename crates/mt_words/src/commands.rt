@@ -9,4 +9,8 @@ pub enum Command {
     Trial { number: u32, steps: u32 },
     /// Judges a transcript of the log before it, with so many rows for each tree.
     Verify { rows: u64 },
+    /// Runs the log that is read, with so many rows for each tree, and writes the image of its first tree.
+    Image { rows: u64 },
+    /// Writes the listing of the tree whose image is read.
+    Show,
 }

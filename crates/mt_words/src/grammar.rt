@@ -3,7 +3,7 @@
 ghost use Rattle.std.specs.Prelude.{◌≡◌, IfOk, option_map};
 ghost use Rattle.clap.specs.Words.{app_of, first_of, found_of, rows_of, subcommand_rows_of};
 ghost use Rattle.mt_words.specs.Commands.{make_with, trial_with};
-ghost use Rattle.mt_words.specs.Grammar.{command_in, command_met, grammar, make_app, make_in, rows_app, rows_in, trial_app, trial_in};
+ghost use Rattle.mt_words.specs.Grammar.{command_in, command_met, grammar, make_app, make_in, rows_app, rows_in, show_app, trial_app, trial_in};
 
 use crate::commands::Command;
 use crate::numbers::number_in;
@@ -47,6 +47,12 @@ fn trial_words<'a>(alloc: Global) -> Result<clap::Command<'a>, AllocError>
         .arg(Arg::new(alloc, "steps").required(true))
 }
 
+fn show_words<'a>(alloc: Global) -> Result<clap::Command<'a>, AllocError>
+    ensures { IfOk result (λ c. app_of c ≡ show_app) }
+{
+    Ok(clap::Command::new(alloc, "show"))
+}
+
 /// The commands, as `clap` is told of them.
 pub fn grammar<'a>(alloc: Global) -> Result<clap::Command<'a>, AllocError>
     ensures { IfOk result (λ c. app_of c ≡ grammar) }
@@ -58,7 +64,9 @@ pub fn grammar<'a>(alloc: Global) -> Result<clap::Command<'a>, AllocError>
         .subcommand(rows_words(alloc, "replay")?)?
         .subcommand(make_words(alloc)?)?
         .subcommand(trial_words(alloc)?)?
-        .subcommand(rows_words(alloc, "verify")?)
+        .subcommand(rows_words(alloc, "verify")?)?
+        .subcommand(rows_words(alloc, "image")?)?
+        .subcommand(show_words(alloc)?)
 }
 
 /// The word that was given for this name.
@@ -90,6 +98,13 @@ fn verify_in(matches: &ArgMatches) -> Option<Command>
 {
     let rows = rows_in(matches)?;
     Some(Command::Verify { rows })
+}
+
+fn image_in(matches: &ArgMatches) -> Option<Command>
+    ensures { result ≡ option_map Command.Image (rows_in (rows_of (found_of matches.now))) }
+{
+    let rows = rows_in(matches)?;
+    Some(Command::Image { rows })
 }
 
 fn make_with(number: &str, steps: &str, lanes: &str) -> Option<Command>
@@ -138,6 +153,8 @@ fn command_in(name: &str, matches: &ArgMatches) -> Option<Command>
         "make" => make_in(matches),
         "trial" => trial_in(matches),
         "verify" => verify_in(matches),
+        "image" => image_in(matches),
+        "show" => Some(Command::Show),
         _ => None,
     }
 }

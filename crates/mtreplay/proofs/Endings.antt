@@ -1,5 +1,5 @@
 -- How a run that prints ends, by how its printing ended.
-use Rattle.std.proofs.Common.{◌≡◌, ◌∙◌, ℕ, List, Option, Some, Result, Ok, Err, ap, ap₂, IsErrAnd, length, subst, sym}
+use Rattle.std.proofs.Common.{◌≡◌, ◌∙◌, ℕ, List, Option, Some, None, Result, Ok, Err, ap, ap₂, inr, IsErrAnd, length, refl, subst, sym}
 use Rattle.mt_log.specs.Reading.{log_of}
 use Rattle.mt_log.specs.Run.{IsRun}
 use Rattle.mt_log.specs.declared.lines.Log.{Log}
@@ -8,13 +8,13 @@ use Rattle.mt_verify.specs.Points.{AreLeastPoints}
 use Rattle.mt_verify.specs.Tellings.{calls_told, reads_told}
 use Rattle.mt_verify.proofs.Tellings.{reads_are_points}
 use Rattle.mt_words.specs.declared.commands.Command.{Command}
-use Rattle.mt_words.specs.declared.commands.Command.TheVariants.{Verify}
-use Rattle.mtreplay.specs.Causes.{EndsMaking, EndsPrint, EndsReading, FailsOn, Streams}
+use Rattle.mt_words.specs.declared.commands.Command.TheVariants.{Replay, Make, Trial, Verify, Image, Show}
+use Rattle.mtreplay.specs.Causes.{Ends, EndsMaking, EndsPrint, EndsReading, FailsOn, HasEnded, Streams}
 use Rattle.mtreplay.specs.Command.{limit_of}
 use Rattle.mtreplay.specs.Headline.{IsOutput, IsVerifiedText, verified_text}
 use Rattle.mtreplay.specs.Input.{ReadsAll}
 use Rattle.mtreplay.specs.Parts.{parts_of}
-use Rattle.mtreplay.specs.Verdicts.{IsUnverified}
+use Rattle.mtreplay.specs.Verdicts.{Refuses}
 use Rattle.mtreplay.specs.declared.failures.Failure.{Failure}
 use Rattle.mtreplay.specs.declared.failures.Failure.TheVariants as failures
 
@@ -26,17 +26,34 @@ reading_ends command (Err failure) old new bytes text all is (kind, part, rest, 
     let P : Failure → Type 0 = λ f. EndsReading command (Err f) old new in
     subst P (sym kind) (bytes, part, rest, all, subst (IsOutput command bytes) split is, wrote, rose)
 
+-- no bytes are the cause of these failures
+record IsOfBytes (Refused : Failure → Type 0) : Type 0 where
+  pub usage : Refused failures.Usage → ⊥
+  pub read_fault : Refused failures.ReadFault → ⊥
+  pub write_fault : Refused failures.WriteFault → ⊥
+  pub too_long : Refused failures.TooLong → ⊥
+
+of_bytes : (command : Command) (bytes : List ℕ) → IsOfBytes (Refuses command bytes)
+of_bytes (Replay rows) bytes = record { usage = λ no. no; read_fault = λ no. no; write_fault = λ no. no; too_long = λ no. no }
+of_bytes (Make number steps lanes) bytes = record { usage = λ no. no; read_fault = λ no. no; write_fault = λ no. no; too_long = λ no. no }
+of_bytes (Trial number steps) bytes = record { usage = λ no. no; read_fault = λ no. no; write_fault = λ no. no; too_long = λ no. no }
+of_bytes (Verify rows) bytes = record { usage = λ no. no; read_fault = λ no. no; write_fault = λ no. no; too_long = λ no. no }
+of_bytes (Image rows) bytes = record { usage = λ no. no; read_fault = λ no. no; write_fault = λ no. no; too_long = λ no. no }
+of_bytes Show bytes = record { usage = λ no. no; read_fault = λ no. no; write_fault = λ no. no; too_long = λ no. no }
+
 -- the bytes were refused, or memory ran out
-pub unverified_ends : (rows : ℕ) (failure : Failure) (old new : Streams) (bytes : List ℕ) → ReadsAll (limit_of (Verify rows)) old.left new.left bytes
-    → FailsOn (IsUnverified rows) bytes failure → EndsReading (Verify rows) (Err failure) old new
-unverified_ends rows (failures.BadLog line why) old new bytes all is = (bytes, all, is)
-unverified_ends rows (failures.NoTranscript line) old new bytes all is = (bytes, all, is)
-unverified_ends rows failures.Refused old new bytes all is = (bytes, all, is)
-unverified_ends rows failures.NoMemory old new bytes all is = tt
-unverified_ends rows failures.Usage old new bytes all is = absurd is
-unverified_ends rows failures.ReadFault old new bytes all is = absurd is
-unverified_ends rows failures.WriteFault old new bytes all is = absurd is
-unverified_ends rows failures.TooLong old new bytes all is = absurd is
+pub refused_ends : (command : Command) (failure : Failure) (old new : Streams) (bytes : List ℕ) → ReadsAll (limit_of command) old.left new.left bytes
+    → FailsOn (Refuses command) bytes failure → EndsReading command (Err failure) old new
+refused_ends command (failures.BadLog line why) old new bytes all is = (bytes, all, is)
+refused_ends command (failures.NoTranscript line) old new bytes all is = (bytes, all, is)
+refused_ends command (failures.NoTree line) old new bytes all is = (bytes, all, is)
+refused_ends command failures.Refused old new bytes all is = (bytes, all, is)
+refused_ends command (failures.BadImage error) old new bytes all is = (bytes, all, is)
+refused_ends command failures.NoMemory old new bytes all is = tt
+refused_ends command failures.Usage old new bytes all is = absurd ((of_bytes command bytes).usage is)
+refused_ends command failures.ReadFault old new bytes all is = absurd ((of_bytes command bytes).read_fault is)
+refused_ends command failures.WriteFault old new bytes all is = absurd ((of_bytes command bytes).write_fault is)
+refused_ends command failures.TooLong old new bytes all is = absurd ((of_bytes command bytes).too_long is)
 
 -- a text that was made went to the sink
 pub making_ends : (IsText : List ℕ → Type 0) (result : Result (Unit {0}) Failure) (before after : Option (List ℕ)) (faults_before faults_after : ℕ) (text : List ℕ) → IsText text
@@ -51,6 +68,20 @@ pub fails_so : (command : Command) (result : Result (Unit {0}) Failure) (failure
     → EndsReading command result old new
 fails_so command (Ok done) failure old new is ends = absurd is
 fails_so command (Err e) failure old new is ends = let P : Failure → Type 0 = λ f. EndsReading command (Err f) old new in subst P (sym is) ends
+
+-- memory ran out before anything was done
+memory_ends : (command : Option Command) (old new : Streams) → Ends command (Err failures.NoMemory) old new
+memory_ends None old new = inr refl
+memory_ends (Some (Replay rows)) old new = tt
+memory_ends (Some (Make number steps lanes)) old new = refl
+memory_ends (Some (Trial number steps)) old new = refl
+memory_ends (Some (Verify rows)) old new = tt
+memory_ends (Some (Image rows)) old new = tt
+memory_ends (Some Show) old new = tt
+
+pub has_no_memory : (command : Option Command) (result : Result (Unit {0}) Failure) (old new : Streams) → IsErrAnd result (λ e. e ≡ failures.NoMemory) → HasEnded command result old new
+has_no_memory command (Ok done) old new is = absurd is
+has_no_memory command (Err e) old new is = record { ends = subst (λ (f : Failure). Ends command (Err f) old new) (sym is) (memory_ends command old new) }
 
 -- a transcript that is one of a run, by the points of its reads
 pub verified_is : (rows : ℕ) (bytes front text : List ℕ) (log : Log) (points : List ℕ) (calls reads : ℕ) (printed : List ℕ) → parts_of bytes ≡ Some (front, text) → log_of front ≡ Ok log

@@ -1,12 +1,14 @@
 -- From how a run ended to what its status says.
-use Rattle.std.proofs.Common.{◌≡◌, ◌≢◌, ◌⊎◌, ◌<◌, ◌++◌, ◌∙◌, ℕ, Bool, true, false, List, [], length, Option, Some, None, Result, Ok, Err, refl, sym, ap, subst, inl, inr, arith, append-nil, length-append, true≢false}
+use Rattle.std.proofs.Common.{◌≡◌, ◌≢◌, ◌⊎◌, ◌<◌, ◌≤◌, ◌++◌, ◌∙◌, ℕ, Bool, true, false, List, [], length, Option, Some, None, Result, Ok, Err, refl, sym, ap, subst, inl, inr, arith, append-nil, length-append, true≢false}
 use Rattle.std.specs.Prelude.{IfSome, is_ok}
 use Rattle.std.specs.Io.KnownBytes.{Appends, Consumes, IsAtEnd}
 use Rattle.std.proofs.KnownBytes.{Consumes-nil}
+use Rattle.mt_image.specs.declared.errors.ImageError.{ImageError}
+use Rattle.mt_image.specs.Reading.{image_in}
 use Rattle.mt_io.specs.Faults.{Rose}
 use Rattle.mt_log.specs.Text.{text_of}
 use Rattle.mt_words.specs.declared.commands.Command.{Command}
-use Rattle.mt_words.specs.declared.commands.Command.TheVariants.{Replay, Make, Trial, Verify}
+use Rattle.mt_words.specs.declared.commands.Command.TheVariants.{Replay, Make, Trial, Verify, Image, Show}
 use Rattle.mtreplay.specs.Causes.{Ends, EndsMaking, EndsReading, Fails, FailsToRead, HasEnded, RefusesInput, Streams}
 use Rattle.mtreplay.specs.Command.{limit_of, longest, reads}
 use Rattle.mtreplay.specs.Ending.{ReadsTooMany, ReadsWithin, status_of}
@@ -15,6 +17,7 @@ use Rattle.mtreplay.specs.Input.{ReadsAll}
 use Rattle.mtreplay.specs.Verdicts.{IsDue, IsRefused, IsTaken, IsToldOf, IsUnverified, Refuses, Takes}
 use Rattle.mtreplay.specs.declared.failures.Failure.{Failure}
 use Rattle.mtreplay.specs.declared.failures.Failure.TheVariants as failures
+use Rattle.mtreplay.proofs.FirstTrees.{has_tree}
 
 -- ---- what holds by the command
 
@@ -24,6 +27,8 @@ takes (Replay rows) bytes text (log, is, told) = ap (λ r. is_ok r) is
 takes (Make number steps lanes) bytes text made = tt
 takes (Trial number steps) bytes text tried = tt
 takes (Verify rows) bytes text (log, t, parts, run, told) = (log, text_of t, parts, (t, run, refl))
+takes (Image rows) bytes text (log, is, image) = (log, is, has_tree rows log text image)
+takes Show bytes text (x, is, told) = ap (λ r. is_ok r) is
 
 module _ (old new : Streams) where
   -- a command reads the source, or makes its text of its words alone
@@ -32,6 +37,8 @@ module _ (old new : Streams) where
   ends_reading (Make number steps lanes) result read ends = absurd (true≢false (sym read))
   ends_reading (Trial number steps) result read ends = absurd (true≢false (sym read))
   ends_reading (Verify rows) result read ends = ends
+  ends_reading (Image rows) result read ends = ends
+  ends_reading Show result read ends = ends
 
   ends_making : (command : Command) (result : Result (Unit {0}) Failure) → reads (Some command) ≡ false → Ends (Some command) result old new
       → EndsMaking (Prints command old.left) result old.written new.written old.sink_faults new.sink_faults
@@ -39,6 +46,8 @@ module _ (old new : Streams) where
   ends_making (Make number steps lanes) result unread ends = ends
   ends_making (Trial number steps) result unread ends = ends
   ends_making (Verify rows) result unread ends = absurd (true≢false unread)
+  ends_making (Image rows) result unread ends = absurd (true≢false unread)
+  ends_making Show result unread ends = absurd (true≢false unread)
 
 -- a command that makes its text takes any bytes
 takes_any : (command : Command) (bytes : List ℕ) → reads (Some command) ≡ false → Takes command bytes
@@ -46,6 +55,8 @@ takes_any (Replay rows) bytes unread = absurd (true≢false unread)
 takes_any (Make number steps lanes) bytes unread = tt
 takes_any (Trial number steps) bytes unread = tt
 takes_any (Verify rows) bytes unread = absurd (true≢false unread)
+takes_any (Image rows) bytes unread = absurd (true≢false unread)
+takes_any Show bytes unread = absurd (true≢false unread)
 
 -- ---- what was read and written, where the bytes are known
 
@@ -67,6 +78,8 @@ prints (Replay rows) limit left rest bytes text all is = known limit left rest b
 prints (Make number steps lanes) limit left rest bytes text all is = is
 prints (Trial number steps) limit left rest bytes text all is = is
 prints (Verify rows) limit left rest bytes text all is = known limit left rest bytes (λ b. IsOutput (Verify rows) b text) all is
+prints (Image rows) limit left rest bytes text all is = known limit left rest bytes (λ b. IsOutput (Image rows) b text) all is
+prints Show limit left rest bytes text all is = known limit left rest bytes (λ b. IsOutput Show b text) all is
 
 -- what holds of all bytes holds of those that were left
 any_known : (left : Option (List ℕ)) (P : List ℕ → Type 0) → ((bytes : List ℕ) → P bytes) → IfSome left P
@@ -84,18 +97,22 @@ appended before after held bytes wrote is = appended_to after held bytes (subst 
 abbrev is_refusal : Failure → Bool
 is_refusal (failures.BadLog line why) = true
 is_refusal (failures.NoTranscript line) = true
+is_refusal (failures.NoTree line) = true
 is_refusal failures.Usage = false
 is_refusal failures.ReadFault = false
 is_refusal failures.WriteFault = false
 is_refusal failures.NoMemory = false
 is_refusal failures.TooLong = false
 is_refusal failures.Refused = true
+is_refusal (failures.BadImage error) = true
 
 -- failures of which the source, or its bytes, are the cause
 abbrev of_source : Failure → Bool
 of_source (failures.BadLog line why) = true
 of_source (failures.NoTranscript line) = true
+of_source (failures.NoTree line) = true
 of_source failures.Refused = true
+of_source (failures.BadImage error) = true
 of_source failures.Usage = false
 of_source failures.ReadFault = true
 of_source failures.WriteFault = false
@@ -189,7 +206,9 @@ module _ (old new : Streams) where
       → FailsToRead (limit_of command) (Refuses command) failure old.left new.left old.source_faults new.source_faults
   fails_here command (failures.BadLog line why) source fails = fails
   fails_here command (failures.NoTranscript line) source fails = fails
+  fails_here command (failures.NoTree line) source fails = fails
   fails_here command failures.Refused source fails = fails
+  fails_here command (failures.BadImage error) source fails = fails
   fails_here command failures.ReadFault source fails = fails
   fails_here command failures.TooLong source fails = fails
   fails_here command failures.Usage source fails = absurd (true≢false (sym source))
@@ -202,7 +221,9 @@ module _ (old new : Streams) where
   makes_here : (IsText : List ℕ → Type 0) (failure : Failure) → of_source failure ≡ true → EndsMaking IsText (Err failure) old.written new.written old.sink_faults new.sink_faults → ⊥
   makes_here IsText (failures.BadLog line why) source ends = no_memory (failures.BadLog line why) source ends
   makes_here IsText (failures.NoTranscript line) source ends = no_memory (failures.NoTranscript line) source ends
+  makes_here IsText (failures.NoTree line) source ends = no_memory (failures.NoTree line) source ends
   makes_here IsText failures.Refused source ends = no_memory failures.Refused source ends
+  makes_here IsText (failures.BadImage error) source ends = no_memory (failures.BadImage error) source ends
   makes_here IsText failures.ReadFault source ends = no_memory failures.ReadFault source ends
   makes_here IsText failures.TooLong source ends = no_memory failures.TooLong source ends
   makes_here IsText failures.Usage source ends = true≢false (sym source)
@@ -268,6 +289,18 @@ module _ (command : Option Command) (old new : Streams) where
   unverified (Make number steps lanes) at (bytes, all, refuses) = absurd refuses
   unverified (Trial number steps) at (bytes, all, refuses) = absurd refuses
   unverified (Verify rows) at (bytes, all, refuses) = (rows, at, known (limit_of (Verify rows)) old.left new.left bytes (λ b. IsUnverified rows b failures.Refused) all refuses)
+  unverified (Image rows) at (bytes, all, refuses) = absurd refuses
+  unverified Show at (bytes, all, refuses) = absurd refuses
+
+  -- and an image by another alone
+  no_image : (error : ImageError) (c : Command) → command ≡ Some c → RefusesInput (limit_of c) (Refuses c) (failures.BadImage error) old.left new.left
+      → (command ≡ Some Show) × IfSome old.left (λ bytes. image_in bytes ≡ Err error)
+  no_image error (Replay rows) at (bytes, all, refuses) = absurd refuses
+  no_image error (Make number steps lanes) at (bytes, all, refuses) = absurd refuses
+  no_image error (Trial number steps) at (bytes, all, refuses) = absurd refuses
+  no_image error (Verify rows) at (bytes, all, refuses) = absurd refuses
+  no_image error (Image rows) at (bytes, all, refuses) = absurd refuses
+  no_image error Show at (bytes, all, refuses) = (at, known (limit_of Show) old.left new.left bytes (λ b. image_in b ≡ Err error) all refuses)
 
 module _ {command : Option Command} {old new : Streams} where
   -- ---- what the status 0 says
@@ -304,7 +337,9 @@ module _ {command : Option Command} {old new : Streams} where
   refusal : (failure : Failure) → is_refusal failure ≡ true → HasEnded command (Err failure) old new → Refusal command old new failure
   refusal (failures.BadLog line why) own ends = let (c, at, f) = failed old new command (failures.BadLog line why) refl ends.ends in record { by = c; is = at; input = f.cause }
   refusal (failures.NoTranscript line) own ends = let (c, at, f) = failed old new command (failures.NoTranscript line) refl ends.ends in record { by = c; is = at; input = f.cause }
+  refusal (failures.NoTree line) own ends = let (c, at, f) = failed old new command (failures.NoTree line) refl ends.ends in record { by = c; is = at; input = f.cause }
   refusal failures.Refused own ends = let (c, at, f) = failed old new command failures.Refused refl ends.ends in record { by = c; is = at; input = f.cause }
+  refusal (failures.BadImage error) own ends = let (c, at, f) = failed old new command (failures.BadImage error) refl ends.ends in record { by = c; is = at; input = f.cause }
   refusal failures.Usage own ends = absurd (true≢false (sym own))
   refusal failures.ReadFault own ends = absurd (true≢false (sym own))
   refusal failures.WriteFault own ends = absurd (true≢false (sym own))
@@ -317,7 +352,9 @@ module _ {command : Option Command} {old new : Streams} where
   pub err_refused : (failure : Failure) → HasEnded command (Err failure) old new → status_of failure ≡ 1 → IsRefused command old.left failure
   err_refused (failures.BadLog line why) ends is = refused_by (failures.BadLog line why) refl ends
   err_refused (failures.NoTranscript line) ends is = refused_by (failures.NoTranscript line) refl ends
+  err_refused (failures.NoTree line) ends is = refused_by (failures.NoTree line) refl ends
   err_refused failures.Refused ends is = absurd (omega (arith, is))
+  err_refused (failures.BadImage error) ends is = absurd (omega (arith, is))
   err_refused failures.Usage ends is = absurd (omega (arith, is))
   err_refused failures.ReadFault ends is = absurd (omega (arith, is))
   err_refused failures.WriteFault ends is = absurd (omega (arith, is))
@@ -328,17 +365,34 @@ module _ {command : Option Command} {old new : Streams} where
       → (rows : ℕ) × (command ≡ Some (Verify rows)) × IfSome old.left (λ bytes. IsUnverified rows bytes failures.Refused)
   err_unverified (failures.BadLog line why) ends is = absurd (omega (arith, is))
   err_unverified (failures.NoTranscript line) ends is = absurd (omega (arith, is))
+  err_unverified (failures.NoTree line) ends is = absurd (omega (arith, is))
   err_unverified failures.Refused ends is = let r = refusal failures.Refused refl ends in unverified command old new r.by r.is r.input
+  err_unverified (failures.BadImage error) ends is = absurd (omega (arith, is))
   err_unverified failures.Usage ends is = absurd (omega (arith, is))
   err_unverified failures.ReadFault ends is = absurd (omega (arith, is))
   err_unverified failures.WriteFault ends is = absurd (omega (arith, is))
   err_unverified failures.NoMemory ends is = absurd (omega (arith, is))
   err_unverified failures.TooLong ends is = absurd (omega (arith, is))
 
+  pub err_no_image : (failure : Failure) → HasEnded command (Err failure) old new → status_of failure ≡ 8
+      → (error : ImageError) × (command ≡ Some Show) × IfSome old.left (λ bytes. image_in bytes ≡ Err error)
+  err_no_image (failures.BadLog line why) ends is = absurd (omega (arith, is))
+  err_no_image (failures.NoTranscript line) ends is = absurd (omega (arith, is))
+  err_no_image (failures.NoTree line) ends is = absurd (omega (arith, is))
+  err_no_image failures.Refused ends is = absurd (omega (arith, is))
+  err_no_image (failures.BadImage error) ends is = let r = refusal (failures.BadImage error) refl ends in let is_none = no_image command old new error r.by r.is r.input in (error, is_none.0, is_none.1)
+  err_no_image failures.Usage ends is = absurd (omega (arith, is))
+  err_no_image failures.ReadFault ends is = absurd (omega (arith, is))
+  err_no_image failures.WriteFault ends is = absurd (omega (arith, is))
+  err_no_image failures.NoMemory ends is = absurd (omega (arith, is))
+  err_no_image failures.TooLong ends is = absurd (omega (arith, is))
+
   pub err_usage : (failure : Failure) → HasEnded command (Err failure) old new → status_of failure ≡ 2 → command ≡ None
   err_usage (failures.BadLog line why) ends is = absurd (omega (arith, is))
   err_usage (failures.NoTranscript line) ends is = absurd (omega (arith, is))
+  err_usage (failures.NoTree line) ends is = absurd (omega (arith, is))
   err_usage failures.Refused ends is = absurd (omega (arith, is))
+  err_usage (failures.BadImage error) ends is = absurd (omega (arith, is))
   err_usage failures.Usage ends is = no_command old new command ends.ends
   err_usage failures.ReadFault ends is = absurd (omega (arith, is))
   err_usage failures.WriteFault ends is = absurd (omega (arith, is))
@@ -354,7 +408,9 @@ module _ {command : Option Command} {old new : Streams} where
   pub err_read_fault : (failure : Failure) → HasEnded command (Err failure) old new → status_of failure ≡ 3 → Rose old.source_faults new.source_faults
   err_read_fault (failures.BadLog line why) ends is = absurd (omega (arith, is))
   err_read_fault (failures.NoTranscript line) ends is = absurd (omega (arith, is))
+  err_read_fault (failures.NoTree line) ends is = absurd (omega (arith, is))
   err_read_fault failures.Refused ends is = absurd (omega (arith, is))
+  err_read_fault (failures.BadImage error) ends is = absurd (omega (arith, is))
   err_read_fault failures.Usage ends is = absurd (omega (arith, is))
   err_read_fault failures.ReadFault ends is = (read_fault ends).1
   err_read_fault failures.WriteFault ends is = absurd (omega (arith, is))
@@ -366,7 +422,9 @@ module _ {command : Option Command} {old new : Streams} where
       → (c : Command) × (command ≡ Some c) × (part rest : List ℕ) × Printed old new c part rest × Rose old.sink_faults new.sink_faults
   write_fault (failures.BadLog line why) ends is = absurd (omega (arith, is))
   write_fault (failures.NoTranscript line) ends is = absurd (omega (arith, is))
+  write_fault (failures.NoTree line) ends is = absurd (omega (arith, is))
   write_fault failures.Refused ends is = absurd (omega (arith, is))
+  write_fault (failures.BadImage error) ends is = absurd (omega (arith, is))
   write_fault failures.Usage ends is = absurd (omega (arith, is))
   write_fault failures.ReadFault ends is = absurd (omega (arith, is))
   write_fault failures.WriteFault ends is = broken old new command ends.ends
@@ -392,7 +450,9 @@ module _ {command : Option Command} {old new : Streams} where
   pub err_too_long : (failure : Failure) → HasEnded command (Err failure) old new → status_of failure ≡ 6 → ReadsTooMany (longest command) old.left new.left
   err_too_long (failures.BadLog line why) ends is = absurd (omega (arith, is))
   err_too_long (failures.NoTranscript line) ends is = absurd (omega (arith, is))
+  err_too_long (failures.NoTree line) ends is = absurd (omega (arith, is))
   err_too_long failures.Refused ends is = absurd (omega (arith, is))
+  err_too_long (failures.BadImage error) ends is = absurd (omega (arith, is))
   err_too_long failures.Usage ends is = absurd (omega (arith, is))
   err_too_long failures.ReadFault ends is = absurd (omega (arith, is))
   err_too_long failures.WriteFault ends is = absurd (omega (arith, is))
@@ -406,14 +466,16 @@ module _ {command : Option Command} {old new : Streams} where
   reads_it failure source ends = let (c, at, f) = failed old new command failure source ends.ends in ap reads at ∙ f.read
 
   -- a command that reads nothing ends with none of the statuses of reading
-  pub err_unread : (failure : Failure) → HasEnded command (Err failure) old new → reads command ≡ false → (status_of failure ≢ 1) × (status_of failure ≢ 3) × (status_of failure ≢ 6) × (status_of failure ≢ 7)
+  pub err_unread : (failure : Failure) → HasEnded command (Err failure) old new → reads command ≡ false → (status_of failure ≢ 1) × (status_of failure ≢ 3) × (status_of failure ≢ 6) × (status_of failure ≢ 7) × (status_of failure ≢ 8)
   err_unread (failures.BadLog line why) ends unreads = absurd (never_reads command unreads (reads_it (failures.BadLog line why) refl ends))
   err_unread (failures.NoTranscript line) ends unreads = absurd (never_reads command unreads (reads_it (failures.NoTranscript line) refl ends))
+  err_unread (failures.NoTree line) ends unreads = absurd (never_reads command unreads (reads_it (failures.NoTree line) refl ends))
   err_unread failures.Refused ends unreads = absurd (never_reads command unreads (reads_it failures.Refused refl ends))
-  err_unread failures.Usage ends unreads = (λ is. omega (arith, is), λ is. omega (arith, is), λ is. omega (arith, is), λ is. omega (arith, is))
+  err_unread (failures.BadImage error) ends unreads = absurd (never_reads command unreads (reads_it (failures.BadImage error) refl ends))
+  err_unread failures.Usage ends unreads = (λ is. omega (arith, is), λ is. omega (arith, is), λ is. omega (arith, is), λ is. omega (arith, is), λ is. omega (arith, is))
   err_unread failures.ReadFault ends unreads = absurd (never_reads command unreads (reads_it failures.ReadFault refl ends))
-  err_unread failures.WriteFault ends unreads = (λ is. omega (arith, is), λ is. omega (arith, is), λ is. omega (arith, is), λ is. omega (arith, is))
-  err_unread failures.NoMemory ends unreads = (λ is. omega (arith, is), λ is. omega (arith, is), λ is. omega (arith, is), λ is. omega (arith, is))
+  err_unread failures.WriteFault ends unreads = (λ is. omega (arith, is), λ is. omega (arith, is), λ is. omega (arith, is), λ is. omega (arith, is), λ is. omega (arith, is))
+  err_unread failures.NoMemory ends unreads = (λ is. omega (arith, is), λ is. omega (arith, is), λ is. omega (arith, is), λ is. omega (arith, is), λ is. omega (arith, is))
   err_unread failures.TooLong ends unreads = absurd (never_reads command unreads (reads_it failures.TooLong refl ends))
 
   due_by : (failure : Failure) → is_refusal failure ≡ true → HasEnded command (Err failure) old new → (c : Command) → command ≡ Some c → (bytes : List ℕ) → old.left ≡ Some bytes → IsDue c bytes (status_of failure)
@@ -423,7 +485,9 @@ module _ {command : Option Command} {old new : Streams} where
       → ¬ Rose old.source_faults new.source_faults → ¬ Rose old.sink_faults new.sink_faults → IsDue c bytes (status_of failure) ⊎ (status_of failure ≡ 5)
   err_complete (failures.BadLog line why) ends c is bytes left no_source no_sink = inl (due_by (failures.BadLog line why) refl ends c is bytes left)
   err_complete (failures.NoTranscript line) ends c is bytes left no_source no_sink = inl (due_by (failures.NoTranscript line) refl ends c is bytes left)
+  err_complete (failures.NoTree line) ends c is bytes left no_source no_sink = inl (due_by (failures.NoTree line) refl ends c is bytes left)
   err_complete failures.Refused ends c is bytes left no_source no_sink = inl (due_by failures.Refused refl ends c is bytes left)
+  err_complete (failures.BadImage error) ends c is bytes left no_source no_sink = inl (due_by (failures.BadImage error) refl ends c is bytes left)
   err_complete failures.Usage ends c is bytes left no_source no_sink = let none = no_command old new command ends.ends in absurd (cc (none, is))
   err_complete failures.ReadFault ends c is bytes left no_source no_sink = absurd (no_source (read_fault ends).1)
   err_complete failures.WriteFault ends c is bytes left no_source no_sink = absurd (no_sink (err_write_fault failures.WriteFault ends refl))
@@ -440,17 +504,21 @@ module _ {command : Option Command} {old new : Streams} where
   pub err_ended : (failure : Failure) → HasEnded command (Err failure) old new → status_of failure < 2 → IsAtEnd new.left
   err_ended (failures.BadLog line why) ends is = ended_by (failures.BadLog line why) refl ends
   err_ended (failures.NoTranscript line) ends is = ended_by (failures.NoTranscript line) refl ends
+  err_ended (failures.NoTree line) ends is = ended_by (failures.NoTree line) refl ends
   err_ended failures.Refused ends is = absurd (omega (arith, is))
+  err_ended (failures.BadImage error) ends is = absurd (omega (arith, is))
   err_ended failures.Usage ends is = absurd (omega (arith, is))
   err_ended failures.ReadFault ends is = absurd (omega (arith, is))
   err_ended failures.WriteFault ends is = absurd (omega (arith, is))
   err_ended failures.NoMemory ends is = absurd (omega (arith, is))
   err_ended failures.TooLong ends is = absurd (omega (arith, is))
 
-  pub err_ended_too : (failure : Failure) → HasEnded command (Err failure) old new → reads command ≡ true → (status_of failure ≡ 4) ⊎ (status_of failure ≡ 7) → IsAtEnd new.left
+  pub err_ended_too : (failure : Failure) → HasEnded command (Err failure) old new → reads command ≡ true → (status_of failure ≡ 4) ⊎ (7 ≤ status_of failure) → IsAtEnd new.left
   err_ended_too (failures.BadLog line why) ends read is = ended_by (failures.BadLog line why) refl ends
   err_ended_too (failures.NoTranscript line) ends read is = ended_by (failures.NoTranscript line) refl ends
+  err_ended_too (failures.NoTree line) ends read is = ended_by (failures.NoTree line) refl ends
   err_ended_too failures.Refused ends read is = ended_by failures.Refused refl ends
+  err_ended_too (failures.BadImage error) ends read is = ended_by (failures.BadImage error) refl ends
   err_ended_too failures.Usage ends read is = elim is [ inl e ↦ absurd (omega (arith, e)) | inr e ↦ absurd (omega (arith, e)) ]
   err_ended_too failures.ReadFault ends read is = elim is [ inl e ↦ absurd (omega (arith, e)) | inr e ↦ absurd (omega (arith, e)) ]
   err_ended_too failures.WriteFault ends read is = let (c, at, part, rest, printed, rose) = broken old new command ends.ends in printed.ended (sym (ap reads at) ∙ read)
@@ -464,7 +532,9 @@ module _ {command : Option Command} {old new : Streams} where
       → ReadsWithin (longest command) old.left new.left
   err_within (failures.BadLog line why) ends kept memory long = within_all (failures.BadLog line why) refl ends
   err_within (failures.NoTranscript line) ends kept memory long = within_all (failures.NoTranscript line) refl ends
+  err_within (failures.NoTree line) ends kept memory long = within_all (failures.NoTree line) refl ends
   err_within failures.Refused ends kept memory long = within_all failures.Refused refl ends
+  err_within (failures.BadImage error) ends kept memory long = within_all (failures.BadImage error) refl ends
   err_within failures.Usage ends kept memory long = reads_nothing (longest command) old.left new.left (kept (ap reads (no_command old new command ends.ends)))
   err_within failures.ReadFault ends kept memory long = (read_fault ends).0
   err_within failures.WriteFault ends kept memory long =
@@ -477,7 +547,9 @@ module _ {command : Option Command} {old new : Streams} where
   pub err_told : (failure : Failure) → HasEnded command (Err failure) old new → IsToldOf command old.left failure
   err_told (failures.BadLog line why) ends = refused_by (failures.BadLog line why) refl ends
   err_told (failures.NoTranscript line) ends = refused_by (failures.NoTranscript line) refl ends
+  err_told (failures.NoTree line) ends = refused_by (failures.NoTree line) refl ends
   err_told failures.Refused ends = refused_by failures.Refused refl ends
+  err_told (failures.BadImage error) ends = refused_by (failures.BadImage error) refl ends
   err_told failures.Usage ends = tt
   err_told failures.ReadFault ends = tt
   err_told failures.WriteFault ends = tt

@@ -2,12 +2,12 @@
 use Rattle.std.specs.Prelude.{◌≡◌, ◌⊎◌, ◌++◌, ℕ, List, Option, Some, None, Result, Ok, Err}
 use Rattle.std.specs.Io.KnownBytes.{Appends}
 use Rattle.mt_io.specs.Faults.{Rose}
-use Rattle.mt_log.specs.Reading.{log_of}
+use Rattle.mt_image.specs.declared.errors.ImageError.{ImageError}
+use Rattle.mt_image.specs.declared.errors.ImageError.TheVariants as images
 use Rattle.mt_log.specs.declared.faults.LogError.{LogError}
 use Rattle.mt_log.specs.declared.faults.LogError.TheVariants as logs
-use Rattle.mt_log.specs.declared.lines.Log.{Log}
 use Rattle.mt_words.specs.declared.commands.Command.{Command}
-use Rattle.mt_words.specs.declared.commands.Command.TheVariants.{Replay, Make, Trial, Verify}
+use Rattle.mt_words.specs.declared.commands.Command.TheVariants.{Replay, Make, Trial, Verify, Image, Show}
 use Rattle.mtreplay.specs.Command.{limit_of}
 use Rattle.mtreplay.specs.Ending.{ReadsTooMany, ReadsWithin}
 use Rattle.mt_texts.specs.Texts.{IsMadeText, IsTrialText}
@@ -28,9 +28,9 @@ abbrev pub failure_of_log : LogError → Failure
 failure_of_log (logs.Bad line why) = failures.BadLog line why
 failure_of_log logs.NoMemory = failures.NoMemory
 
--- the whole input was read, no more than an input may have, and is this log
-abbrev pub ReadsLog : ℕ → Option (List ℕ) → Option (List ℕ) → Log → Type 0
-ReadsLog limit left rest log = (bytes : List ℕ) × ReadsAll limit left rest bytes × (log_of bytes ≡ Ok log)
+abbrev pub failure_of_image : ImageError → Failure
+failure_of_image images.NoMemory = failures.NoMemory
+failure_of_image error = failures.BadImage error
 
 -- the whole input was read, and is refused for this cause, by which bytes are refused for which
 abbrev pub RefusesInput : ℕ → (List ℕ → Failure → Type 0) → Failure → Option (List ℕ) → Option (List ℕ) → Type 0
@@ -41,12 +41,14 @@ RefusesInput limit Refused failure left rest = (bytes : List ℕ) × ReadsAll li
 abbrev pub FailsToRead : ℕ → (List ℕ → Failure → Type 0) → Failure → Option (List ℕ) → Option (List ℕ) → ℕ → ℕ → Type 0
 FailsToRead limit Refused (failures.BadLog line why) left rest before after = RefusesInput limit Refused (failures.BadLog line why) left rest
 FailsToRead limit Refused (failures.NoTranscript line) left rest before after = RefusesInput limit Refused (failures.NoTranscript line) left rest
+FailsToRead limit Refused (failures.NoTree line) left rest before after = RefusesInput limit Refused (failures.NoTree line) left rest
 FailsToRead limit Refused failures.Usage left rest before after = ⊥
 FailsToRead limit Refused failures.ReadFault left rest before after = ReadsWithin limit left rest × Rose before after
 FailsToRead limit Refused failures.WriteFault left rest before after = ⊥
 FailsToRead limit Refused failures.NoMemory left rest before after = Unit {0}
 FailsToRead limit Refused failures.TooLong left rest before after = ReadsTooMany limit left rest
 FailsToRead limit Refused failures.Refused left rest before after = RefusesInput limit Refused failures.Refused left rest
+FailsToRead limit Refused (failures.BadImage error) left rest before after = RefusesInput limit Refused (failures.BadImage error) left rest
 
 -- memory ran out, or the bytes are refused for this cause
 abbrev pub FailsOn : (List ℕ → Failure → Type 0) → List ℕ → Failure → Type 0
@@ -101,6 +103,8 @@ Ends (Some (Replay rows)) result old new = EndsReading (Replay rows) result old 
 Ends (Some (Make number steps lanes)) result old new = EndsMaking (IsMadeText number steps lanes) result old.written new.written old.sink_faults new.sink_faults
 Ends (Some (Trial number steps)) result old new = EndsMaking (IsTrialText number steps) result old.written new.written old.sink_faults new.sink_faults
 Ends (Some (Verify rows)) result old new = EndsReading (Verify rows) result old new
+Ends (Some (Image rows)) result old new = EndsReading (Image rows) result old new
+Ends (Some Show) result old new = EndsReading Show result old new
 Ends None result old new = (result ≡ Err failures.Usage) ⊎ (result ≡ Err failures.NoMemory)
 
 -- the same, as a fact that tells of which streams it speaks

@@ -1,7 +1,7 @@
 -- Which commands read the source, and how much of it.
 use Rattle.std.specs.Prelude.{ℕ, Bool, true, false, Option, Some, None}
 use Rattle.mt_words.specs.declared.commands.Command.{Command}
-use Rattle.mt_words.specs.declared.commands.Command.TheVariants.{Replay, Make, Trial, Verify}
+use Rattle.mt_words.specs.declared.commands.Command.TheVariants.{Replay, Make, Trial, Verify, Image, Show}
 
 -- the words are a command that reads the source
 abbrev pub reads : Option Command → Bool
@@ -10,6 +10,8 @@ reads (Some (Replay rows)) = true
 reads (Some (Make number steps lanes)) = false
 reads (Some (Trial number steps)) = false
 reads (Some (Verify rows)) = true
+reads (Some (Image rows)) = true
+reads (Some Show) = true
 
 -- the most bytes that the input of a command may have: one that reads nothing has none
 abbrev pub limit_of : Command → ℕ
@@ -17,6 +19,8 @@ limit_of (Replay rows) = 8388608
 limit_of (Make number steps lanes) = 0
 limit_of (Trial number steps) = 0
 limit_of (Verify rows) = 67108864
+limit_of (Image rows) = 8388608
+limit_of Show = 67108864
 
 -- the same of words, which may be no command
 abbrev pub longest : Option Command → ℕ

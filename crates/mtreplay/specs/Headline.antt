@@ -1,5 +1,5 @@
--- What the program promises: what it prints is the text of a run of the log that it read, what its command makes of a number, or
--- how much a transcript of a run tells.
+-- What the program promises: what it prints is the text of a run of the log that it read, or an image of that run's first tree,
+-- what its command makes of a number, how much a transcript of a run tells, or the listing of the tree whose image it read.
 use Rattle.std.specs.Prelude.{◌≡◌, ℕ, List, [], ◌∷◌, ◌++◌, Option, Some, Ok, IfSome, codes}
 use Rattle.std.specs.Fmt.{decimal}
 use Rattle.mt_log.specs.declared.lines.Log.{Log}
@@ -7,10 +7,11 @@ use Rattle.mt_log.specs.Reading.{log_of}
 use Rattle.mt_log.specs.Run.{IsRun, TellsRun}
 use Rattle.mt_log.specs.Text.{text_of}
 use Rattle.mt_log.specs.declared.transcripts.Transcript.{Transcript}
-use Rattle.mt_texts.specs.Texts.{IsMadeText, IsTrialText}
+use Rattle.mt_play.specs.Images.{IsImageOfRun}
+use Rattle.mt_texts.specs.Texts.{IsImageListing, IsMadeText, IsTrialText}
 use Rattle.mt_verify.specs.Tellings.{calls_told, reads_told}
 use Rattle.mt_words.specs.declared.commands.Command.{Command}
-use Rattle.mt_words.specs.declared.commands.Command.TheVariants.{Replay, Make, Trial, Verify}
+use Rattle.mt_words.specs.declared.commands.Command.TheVariants.{Replay, Make, Trial, Verify, Image, Show}
 use Rattle.mtreplay.specs.Parts.{AreParts}
 
 -- this is the text of a run of the log that these bytes are, over trees of so many rows
@@ -26,12 +27,18 @@ abbrev pub IsVerifiedText : ℕ → List ℕ → List ℕ → Type 0
 IsVerifiedText rows bytes text =
     (log : Log) × (t : Transcript) × AreParts bytes log (text_of t) × IsRun log rows t × (text ≡ verified_text (calls_told t) (reads_told t))
 
+-- this is an image of the first tree of a run of the log that these bytes are, over trees of so many rows
+abbrev pub IsImageOfLog : ℕ → List ℕ → List ℕ → Type 0
+IsImageOfLog rows bytes image = (log : Log) × (log_of bytes ≡ Ok log) × IsImageOfRun rows log image
+
 -- this is what a command prints of the bytes that it read
 abbrev pub IsOutput : Command → List ℕ → List ℕ → Type 0
 IsOutput (Replay rows) bytes text = IsTextOfRun rows bytes text
 IsOutput (Make number steps lanes) bytes text = IsMadeText number steps lanes text
 IsOutput (Trial number steps) bytes text = IsTrialText number steps text
 IsOutput (Verify rows) bytes text = IsVerifiedText rows bytes text
+IsOutput (Image rows) bytes text = IsImageOfLog rows bytes text
+IsOutput Show bytes text = IsImageListing bytes text
 
 -- this is what a command prints, by the bytes that the source has left, if they are known
 abbrev pub Prints : Command → Option (List ℕ) → List ℕ → Type 0
@@ -39,6 +46,8 @@ Prints (Replay rows) left text = IfSome left (λ bytes. IsTextOfRun rows bytes t
 Prints (Make number steps lanes) left text = IsMadeText number steps lanes text
 Prints (Trial number steps) left text = IsTrialText number steps text
 Prints (Verify rows) left text = IfSome left (λ bytes. IsVerifiedText rows bytes text)
+Prints (Image rows) left text = IfSome left (λ bytes. IsImageOfLog rows bytes text)
+Prints Show left text = IfSome left (λ bytes. IsImageListing bytes text)
 
 -- From a source that has these bytes left, a sink that held some bytes holds also what the command prints.
 abbrev pub Writes : Command → Option (List ℕ) → Option (List ℕ) → Option (List ℕ) → Type 0

@@ -1,11 +1,13 @@
 -- What a command says of the bytes that it read: it takes them, or refuses them for a cause; and which status they call for.
-use Rattle.std.specs.Prelude.{◌≡◌, ◌⊎◌, ◌<◌, ◌≤◌, ℕ, List, Option, Some, None, Err, length, IfSome, IsOk}
+use Rattle.std.specs.Prelude.{◌≡◌, ◌≢◌, ◌⊎◌, ◌<◌, ◌≤◌, ℕ, List, [], Option, Some, None, Ok, Err, length, IfSome, IsOk}
+use Rattle.mt_image.specs.Reading.{image_in}
 use Rattle.mt_log.specs.Fault.{fault_at}
 use Rattle.mt_log.specs.Reading.{log_of}
 use Rattle.mt_log.specs.Run.{TellsRun}
+use Rattle.mt_log.specs.Trees.{trees_of}
 use Rattle.mt_log.specs.declared.lines.Log.{Log}
 use Rattle.mt_words.specs.declared.commands.Command.{Command}
-use Rattle.mt_words.specs.declared.commands.Command.TheVariants.{Replay, Make, Trial, Verify}
+use Rattle.mt_words.specs.declared.commands.Command.TheVariants.{Replay, Make, Trial, Verify, Image, Show}
 use Rattle.mtreplay.specs.Command.{limit_of}
 use Rattle.mtreplay.specs.Ending.{Tells, failure_text, status_of}
 use Rattle.mtreplay.specs.Parts.{AreParts, line_behind, parts_of}
@@ -24,12 +26,25 @@ IsUnverified rows bytes (failures.BadLog line why) = (front text : List ℕ) × 
 IsUnverified rows bytes failures.Refused = (log : Log) × (text : List ℕ) × AreParts bytes log text × ¬ TellsRun rows log text
 IsUnverified rows bytes failure = ⊥
 
+-- the bytes are no log that declares a tree, for this cause
+abbrev pub IsTreeless : List ℕ → Failure → Type 0
+IsTreeless bytes (failures.BadLog line why) = IsBadLog bytes (failures.BadLog line why)
+IsTreeless bytes (failures.NoTree line) = (log : Log) × (log_of bytes ≡ Ok log) × (trees_of log.lines ≡ []) × (line ≡ line_behind bytes)
+IsTreeless bytes failure = ⊥
+
+-- the bytes are no image, for this cause
+abbrev pub IsNoImage : List ℕ → Failure → Type 0
+IsNoImage bytes (failures.BadImage error) = image_in bytes ≡ Err error
+IsNoImage bytes failure = ⊥
+
 -- the bytes are what the command asks for: one that reads nothing takes any
 abbrev pub Takes : Command → List ℕ → Type 0
 Takes (Replay rows) bytes = IsOk (log_of bytes)
 Takes (Make number steps lanes) bytes = Unit {0}
 Takes (Trial number steps) bytes = Unit {0}
 Takes (Verify rows) bytes = (log : Log) × (text : List ℕ) × AreParts bytes log text × TellsRun rows log text
+Takes (Image rows) bytes = (log : Log) × (log_of bytes ≡ Ok log) × (trees_of log.lines ≢ [])
+Takes Show bytes = IsOk (image_in bytes)
 
 -- the command refuses the bytes, for this cause
 abbrev pub Refuses : Command → List ℕ → Failure → Type 0
@@ -37,6 +52,8 @@ Refuses (Replay rows) bytes failure = IsBadLog bytes failure
 Refuses (Make number steps lanes) bytes failure = ⊥
 Refuses (Trial number steps) bytes failure = ⊥
 Refuses (Verify rows) bytes failure = IsUnverified rows bytes failure
+Refuses (Image rows) bytes failure = IsTreeless bytes failure
+Refuses Show bytes failure = IsNoImage bytes failure
 
 -- the status of the command's verdict on its bytes
 abbrev pub IsJudged : Command → List ℕ → ℕ → Type 0
@@ -62,12 +79,14 @@ IsRefused (Some command) left failure = IfSome left (λ bytes. Refuses command b
 abbrev pub IsToldOf : Option Command → Option (List ℕ) → Failure → Type 0
 IsToldOf command left (failures.BadLog line why) = IsRefused command left (failures.BadLog line why)
 IsToldOf command left (failures.NoTranscript line) = IsRefused command left (failures.NoTranscript line)
+IsToldOf command left (failures.NoTree line) = IsRefused command left (failures.NoTree line)
 IsToldOf command left failures.Usage = Unit {0}
 IsToldOf command left failures.ReadFault = Unit {0}
 IsToldOf command left failures.WriteFault = Unit {0}
 IsToldOf command left failures.NoMemory = Unit {0}
 IsToldOf command left failures.TooLong = Unit {0}
 IsToldOf command left failures.Refused = IsRefused command left failures.Refused
+IsToldOf command left (failures.BadImage error) = IsRefused command left (failures.BadImage error)
 
 -- err got the text of the status
 abbrev pub TellsStatus : Option Command → Option (List ℕ) → ℕ → Option (List ℕ) → Option (List ℕ) → ℕ → ℕ → Type 0

@@ -1,15 +1,18 @@
-ghost use Rattle.std.specs.Prelude.{◌≡◌, ◌≤◌, [], length};
-ghost use Rattle.mtreplay.specs.Ending.{Tells, failure_text, line_text};
+ghost use Rattle.std.specs.Prelude.{◌≡◌, ◌≤◌, ◌+◌, ◌++◌, [], length};
+ghost use Rattle.mt_image.specs.Texts.{error_text, law_text};
+ghost use Rattle.mtreplay.specs.Ending.{Tells, failure_text, line_text, refusal_text};
 
 use crate::streams::{ReadError, write_output};
 use arrayvec::ArrayString;
 use itoa::Buffer;
 use mt_base::NoMemory;
+use mt_check::Law;
+use mt_image::ImageError;
 use mt_io::Sink;
 use mt_log::{LogError, Why};
 
 /// Room for the longest line that tells a failure.
-const TEXT_ROOM: usize = 128;
+const TEXT_ROOM: usize = 192;
 
 /// Why nothing, or only a part, was printed.
 #[derive(Clone, Copy, Debug, PartialEq, Eq)]
@@ -18,6 +21,8 @@ pub enum Failure {
     BadLog { line: u64, why: Why },
     /// No line of the input is `---`: the number of the line behind all that are ended.
     NoTranscript { line: u64 },
+    /// The log declares no tree: the number of the line behind all that are ended.
+    NoTree { line: u64 },
     /// The words are no command.
     Usage,
     /// The source failed.
@@ -30,6 +35,8 @@ pub enum Failure {
     TooLong,
     /// The text behind the log is that of no transcript of a run of it.
     Refused,
+    /// The input is no image.
+    BadImage { error: ImageError },
 }
 
 impl Failure {
@@ -41,13 +48,14 @@ impl Failure {
         ensures { result ≡ status_of self.now }
     {
         match self {
-            Failure::BadLog { .. } | Failure::NoTranscript { .. } => 1,
+            Failure::BadLog { .. } | Failure::NoTranscript { .. } | Failure::NoTree { .. } => 1,
             Failure::Usage => 2,
             Failure::ReadFault => 3,
             Failure::WriteFault => 4,
             Failure::NoMemory => 5,
             Failure::TooLong => 6,
             Failure::Refused => 7,
+            Failure::BadImage { .. } => 8,
         }
     }
 
@@ -59,14 +67,16 @@ impl Failure {
         match *self {
             Failure::BadLog { line, why } => push_line(&mut text, line, why.text()),
             Failure::NoTranscript { line } => push_line(&mut text, line, "no transcript"),
+            Failure::NoTree { line } => push_line(&mut text, line, "no tree"),
             Failure::Usage => text.push_str(
-                "mtreplay: usage: replay [--rows N], make NUMBER STEPS LANES, trial NUMBER STEPS, verify [--rows N]\n",
+                "mtreplay: usage: replay [--rows N], make NUMBER STEPS LANES, trial NUMBER STEPS, verify [--rows N], image [--rows N], show\n",
             ),
             Failure::ReadFault => text.push_str("mtreplay: read fault\n"),
             Failure::WriteFault => text.push_str("mtreplay: write fault\n"),
             Failure::NoMemory => text.push_str("mtreplay: out of memory\n"),
             Failure::TooLong => text.push_str("mtreplay: input too long\n"),
             Failure::Refused => text.push_str("mtreplay: transcript refused\n"),
+            Failure::BadImage { error } => push_refusal(&mut text, error),
         }
         text
     }
@@ -83,6 +93,63 @@ fn push_line(text: &mut ArrayString<TEXT_ROOM>, line: u64, why: &str)
     text.push_str(": ");
     text.push_str(why);
     text.push_str("\n");
+}
+
+/// The name of a law, in lower case.
+fn law_text(law: Law) -> &'static str
+    ensures { result.now ≡ law_text law }
+{
+    match law {
+        Law::Name => "name",
+        Law::Depth => "depth",
+        Law::Parent => "parent",
+        Law::Pivots => "pivots",
+        Law::Count => "count",
+        Law::Entries => "entries",
+        Law::Holes => "holes",
+        Law::Gaps => "gaps",
+    }
+}
+
+/// Why the input is no image.
+fn push_refusal(text: &mut ArrayString<TEXT_ROOM>, error: ImageError)
+    requires empty { text.old.bytes ≡ [] }
+    ensures { text.new.bytes ≡ refusal_text error }
+{
+    text.push_str("mtreplay: image refused: ");
+    push_error(text, error);
+    text.push_str("\n");
+}
+
+/// Appends the text of an image's fault, in at most 48 bytes.
+fn push_error(text: &mut ArrayString<TEXT_ROOM>, error: ImageError)
+    requires short { length text.old.bytes ≤ 64 }
+    ensures text { text.new.bytes ≡ text.old.bytes ++ error_text error }
+    ensures short { length text.new.bytes ≤ length text.old.bytes + 48 }
+{
+    match error {
+        ImageError::Length { want, got } => {
+            text.push_str("length ");
+            text.push_str(Buffer::new().format(want));
+            text.push_str(" ");
+            text.push_str(Buffer::new().format(got));
+        }
+        ImageError::Head { at } => {
+            text.push_str("head ");
+            text.push_str(Buffer::new().format(at));
+        }
+        ImageError::Broken { row, law } => {
+            text.push_str("row ");
+            text.push_str(Buffer::new().format(row));
+            text.push_str(" ");
+            text.push_str(law_text(law));
+        }
+        ImageError::Stray { row } => {
+            text.push_str("stray row ");
+            text.push_str(Buffer::new().format(row));
+        }
+        ImageError::NoMemory => text.push_str("out of memory"),
+    }
 }
 
 /// Writes the line that tells a failure. Where `err` fails, nobody is told.
@@ -118,6 +185,23 @@ impl From<LogError> for Failure {
         match error {
             LogError::Bad { line, why } => Failure::BadLog { line, why },
             LogError::NoMemory => Failure::NoMemory,
+        }
+    }
+}
+
+impl From<ImageError> for Failure {
+    ghost use Rattle.std.specs.Prelude.{◌≡◌};
+    ghost use Rattle.mtreplay.specs.Causes.{failure_of_image};
+
+    ghost from_gives = { λ r e. e ≡ failure_of_image r };
+
+    fn from(error: ImageError) -> Self {
+        match error {
+            ImageError::NoMemory => Failure::NoMemory,
+            ImageError::Length { .. }
+            | ImageError::Head { .. }
+            | ImageError::Broken { .. }
+            | ImageError::Stray { .. } => Failure::BadImage { error },
         }
     }
 }

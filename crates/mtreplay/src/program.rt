@@ -1,45 +1,35 @@
 ghost use Rattle.std.specs.Prelude.{◌≡◌, ◌≢◌, ◌⊎◌, ◌<◌, ◌≤◌, ◌^◌, ℕ, List, Some, None, Err, true, false, IfOk, IfErr, IfSome, OnOk, length, map, string_bytes};
 ghost use Rattle.std.specs.Io.KnownBytes.{IsAtEnd};
 ghost use Rattle.mt_base.specs.Width.{most_rows};
+ghost use Rattle.mt_image.specs.declared.errors.ImageError.{ImageError};
+ghost use Rattle.mt_image.specs.Reading.{image_in};
 ghost use Rattle.mt_io.specs.Faults.{Rose};
+ghost use Rattle.mt_log.specs.Fault.{Reads};
+ghost use Rattle.mt_log.specs.Reading.{log_of};
 ghost use Rattle.mt_log.specs.Trees.{IsReadable, most_lanes};
 ghost use Rattle.mt_play.specs.Trees.{fewest_rows};
-ghost use Rattle.mt_words.specs.Commands.{command_of};
-ghost use Rattle.mtreplay.specs.Causes.{ReadsLog, FailsOn, FailsToRead, EndsMaking, EndsPrint, EndsReading, HasEnded, streams};
+ghost use Rattle.mt_words.specs.Commands.{IsWithin, command_of};
+ghost use Rattle.mtreplay.specs.Causes.{FailsOn, EndsMaking, EndsPrint, EndsReading, HasEnded, streams};
 ghost use Rattle.mtreplay.specs.Command.{limit_of, longest, reads};
 ghost use Rattle.mtreplay.specs.Ending.{ReadsNoFurther, ReadsTooMany, ReadsWithin, status_of};
-ghost use Rattle.mt_texts.specs.Texts.{IsMadeText, IsTrialText};
-ghost use Rattle.mtreplay.specs.Headline.{IsVerifiedText, Writes, WritesPart};
-ghost use Rattle.mtreplay.specs.Verdicts.{IsBadLog, IsDue, IsRefused, IsTaken, IsUnverified, TellsStatus};
+ghost use Rattle.mt_texts.specs.Texts.{IsImageListing, IsMadeText, IsTrialText};
+ghost use Rattle.mtreplay.specs.Headline.{IsImageOfLog, IsOutput, IsTextOfRun, IsVerifiedText, Writes, WritesPart};
+ghost use Rattle.mtreplay.specs.Verdicts.{IsBadLog, IsDue, IsNoImage, IsRefused, IsTaken, IsTreeless, IsUnverified, Refuses, TellsStatus};
 
 use crate::failures::{Failure, report};
 use crate::limits::limit_of;
 use crate::parts::{cut, line_behind};
 use crate::streams::{read_input, write_output};
+use crate::treeless::declares_tree;
 use crate::verified::verified_text;
 use mt_io::{Gate, Sink, Source};
-use mt_log::{Log, read_log};
-use mt_texts::{answers, made_text, trial_text};
+use mt_log::{Log, LogError, read_log};
+use mt_texts::{answers, image_listing, image_of_run, made_text, trial_text};
 use mt_verify::{Verdict, calls_of, verify};
 use mt_words::{Command, read_words};
 use std::alloc::Global;
 use std::sync::Wait;
 use std::thread::Threads;
-
-/// Reads a log of so many bytes at the most.
-fn read<S: Source>(alloc: Global, src: &mut S, limit: usize) -> Result<Log, Failure>
-    requires limit { limit < 2 ^ 32 }
-    ensures log { IfOk result (λ log. ReadsLog limit (S.left src.old) (S.left src.new) log) }
-    ensures readable { IfOk result (λ log. IsReadable log.lines) }
-    ensures count { IfOk result (λ log. length log.lines ≤ limit) }
-    ensures fails { IfErr result (λ e. FailsToRead limit IsBadLog e (S.left src.old) (S.left src.new) (S.faults src.old) (S.faults src.new)) }
-    ensures quiet { result ≢ Err Failure.ReadFault → S.faults src.new ≡ S.faults src.old }
-    ensures reach { ReadsNoFurther limit (S.left src.old) (S.left src.new) }
-    ensures in_time { S.faults src.old ≡ 0 → S.late src.old ≡ 0 → S.late src.new ≡ 0 }
-{
-    let bytes = read_input(alloc, src, limit)?;
-    Ok(read_log(alloc, &bytes)?)
-}
 
 /// Prints a text.
 fn print<O: Sink>(out: &mut O, text: &[u8]) -> Result<(), Failure>
@@ -50,38 +40,70 @@ fn print<O: Sink>(out: &mut O, text: &[u8]) -> Result<(), Failure>
     write_output(out, text).map_err(|_| Failure::WriteFault)
 }
 
-/// Reads a log, plays its lines over trees of so many rows and prints what they were answered.
-fn replay<R: Threads + Wait + Sync, S: Source, O: Sink, G: Gate + Sync>(
+/// The log that an input is, whose memory is given back.
+fn log_in(alloc: Global, input: Vec<u8>) -> Result<Log, LogError>
+    ensures log { Reads (λ log. log) result (log_of input.items) }
+    ensures readable { IfOk result (λ log. IsReadable log.lines) }
+    ensures count { IfOk result (λ log. length log.lines ≤ length input.items) }
+{
+    read_log(alloc, &input)
+}
+
+/// The text of what the lines of a log were answered, over trees of so many rows.
+fn replayed<R: Threads + Wait + Sync, G: Gate + Sync>(
     rt: &R,
     alloc: Global,
     rows: u64,
-    src: &mut S,
-    out: &mut O,
+    input: Vec<u8>,
     gate: &G,
-) -> Result<(), Failure>
+) -> Result<Vec<u8>, Failure>
     requires few_rows { fewest_rows ≤ rows }
     requires rows { rows ≤ most_rows }
-    ensures ends { EndsReading (Command.Replay rows) result (streams (S.left src.old) (S.faults src.old) (O.written out.old) (O.faults out.old))
-        (streams (S.left src.new) (S.faults src.new) (O.written out.new) (O.faults out.new)) }
-    ensures reach { ReadsNoFurther (limit_of (Command.Replay rows)) (S.left src.old) (S.left src.new) }
-    ensures out_kept { IfErr result (λ e. e ≢ Failure.WriteFault → out.new ≡ out.old) }
-    ensures src_quiet { result ≢ Err Failure.ReadFault → S.faults src.new ≡ S.faults src.old }
-    ensures out_quiet { OnOk result (O.faults out.new ≡ O.faults out.old) }
-    ensures src_in_time { S.faults src.old ≡ 0 → S.late src.old ≡ 0 → S.late src.new ≡ 0 }
-    ensures out_in_time { O.faults out.old ≡ 0 → O.late out.old ≡ 0 → O.late out.new ≡ 0 }
+    requires count { length input.items < 2 ^ 32 }
+    ensures fine { IfOk result (λ text. IsTextOfRun rows input.items text.items) }
+    ensures fails { IfErr result (FailsOn IsBadLog input.items) }
 {
-    let log = read(alloc, src, limit_of(&Command::Replay { rows }))?;
-    let text = answers(rt, alloc, log, rows, gate)?;
-    print(out, &text)
+    let log = log_in(alloc, input)?;
+    Ok(answers(rt, alloc, log, rows, gate)?)
+}
+
+/// An image of the first tree of a run of a log, over trees of so many rows.
+fn imaged<R: Threads + Wait + Sync, G: Gate + Sync>(
+    rt: &R,
+    alloc: Global,
+    rows: u64,
+    input: Vec<u8>,
+    gate: &G,
+) -> Result<Vec<u8>, Failure>
+    requires few_rows { fewest_rows ≤ rows }
+    requires rows { rows ≤ most_rows }
+    requires count { length input.items < 2 ^ 32 }
+    ensures fine { IfOk result (λ image. IsImageOfLog rows input.items image.items) }
+    ensures fails { IfErr result (FailsOn IsTreeless input.items) }
+{
+    let line = line_behind(&input);
+    let log = log_in(alloc, input)?;
+    if !declares_tree(log.lines.as_slice()) {
+        return Err(Failure::NoTree { line });
+    }
+    Ok(image_of_run(rt, alloc, log, rows, gate)?)
+}
+
+/// The listing of the tree whose image the bytes are.
+fn listed<R: Wait>(rt: &R, alloc: Global, bytes: &[u8]) -> Result<Vec<u8>, Failure>
+    ensures fine { IfOk result (λ text. IsImageListing bytes.now text.items) }
+    ensures fails { IfErr result (FailsOn IsNoImage bytes.now) }
+{
+    Ok(image_listing(rt, alloc, bytes)?)
 }
 
 /// Tells how many calls and reads a transcript tells, if the bytes are a log, the line that cuts, and the text of a transcript of
 /// a run of the log over trees of so many rows.
-fn verified(alloc: Global, rows: u64, bytes: &[u8]) -> Result<String, Failure>
+fn verified(alloc: Global, rows: u64, bytes: &[u8]) -> Result<Vec<u8>, Failure>
     requires few_rows { fewest_rows ≤ rows }
     requires rows { rows ≤ most_rows }
     requires count { length bytes.now < 2 ^ 32 }
-    ensures fine { IfOk result (λ text. IsVerifiedText rows bytes.now (string_bytes text)) }
+    ensures fine { IfOk result (λ text. IsVerifiedText rows bytes.now text.items) }
     ensures fails { IfErr result (FailsOn (IsUnverified rows) bytes.now) }
 {
     let Some((front, text)) = cut(bytes) else {
@@ -95,28 +117,52 @@ fn verified(alloc: Global, rows: u64, bytes: &[u8]) -> Result<String, Failure>
     }
 }
 
-/// Reads a log and the text of a transcript, and prints how much that tells if it is one of a run of the log over trees of so
-/// many rows.
-fn judge<S: Source, O: Sink>(
+/// What a command that reads prints of its input, if it takes it.
+fn output_of<R: Threads + Wait + Sync, G: Gate + Sync>(
+    rt: &R,
     alloc: Global,
-    rows: u64,
+    command: &Command,
+    input: Vec<u8>,
+    gate: &G,
+) -> Result<Vec<u8>, Failure>
+    requires reads { reads (Some command.now) ≡ true }
+    requires within { IsWithin command.now }
+    requires count { length input.items < 2 ^ 32 }
+    ensures fine { IfOk result (λ text. IsOutput command.now input.items text.items) }
+    ensures fails { IfErr result (FailsOn (Refuses command.now) input.items) }
+{
+    match *command {
+        Command::Replay { rows } => replayed(rt, alloc, rows, input, gate),
+        Command::Verify { rows } => verified(alloc, rows, &input),
+        Command::Image { rows } => imaged(rt, alloc, rows, input, gate),
+        Command::Show => listed(rt, alloc, &input),
+        Command::Make { .. } | Command::Trial { .. } => unreachable!(),
+    }
+}
+
+/// Reads the input of a command, and prints what the command prints of it.
+fn answer<R: Threads + Wait + Sync, S: Source, O: Sink, G: Gate + Sync>(
+    rt: &R,
+    alloc: Global,
+    command: &Command,
     src: &mut S,
     out: &mut O,
+    gate: &G,
 ) -> Result<(), Failure>
-    requires few_rows { fewest_rows ≤ rows }
-    requires rows { rows ≤ most_rows }
-    ensures ends { EndsReading (Command.Verify rows) result (streams (S.left src.old) (S.faults src.old) (O.written out.old) (O.faults out.old))
+    requires reads { reads (Some command.now) ≡ true }
+    requires within { IsWithin command.now }
+    ensures ends { EndsReading command.now result (streams (S.left src.old) (S.faults src.old) (O.written out.old) (O.faults out.old))
         (streams (S.left src.new) (S.faults src.new) (O.written out.new) (O.faults out.new)) }
-    ensures reach { ReadsNoFurther (limit_of (Command.Verify rows)) (S.left src.old) (S.left src.new) }
+    ensures reach { ReadsNoFurther (limit_of command.now) (S.left src.old) (S.left src.new) }
     ensures out_kept { IfErr result (λ e. e ≢ Failure.WriteFault → out.new ≡ out.old) }
     ensures src_quiet { result ≢ Err Failure.ReadFault → S.faults src.new ≡ S.faults src.old }
     ensures out_quiet { OnOk result (O.faults out.new ≡ O.faults out.old) }
     ensures src_in_time { S.faults src.old ≡ 0 → S.late src.old ≡ 0 → S.late src.new ≡ 0 }
     ensures out_in_time { O.faults out.old ≡ 0 → O.late out.old ≡ 0 → O.late out.new ≡ 0 }
 {
-    let input = read_input(alloc, src, limit_of(&Command::Verify { rows }))?;
-    let text = verified(alloc, rows, &input)?;
-    print(out, text.as_str().as_bytes())
+    let input = read_input(alloc, src, limit_of(command))?;
+    let text = output_of(rt, alloc, command, input, gate)?;
+    print(out, &text)
 }
 
 /// Prints the log that is made of a number.
@@ -181,7 +227,8 @@ fn run<R: Threads + Wait + Sync, S: Source, O: Sink, G: Gate + Sync>(
     ensures out_in_time { O.faults out.old ≡ 0 → O.late out.old ≡ 0 → O.late out.new ≡ 0 }
 {
     match read_words(alloc, words)? {
-        Some(Command::Replay { rows }) => replay(rt, alloc, rows, src, out, gate),
+        Some(Command::Replay { rows }) =>
+            answer(rt, alloc, &Command::Replay { rows }, src, out, gate),
         Some(
             Command::Make {
                 number,
@@ -190,16 +237,20 @@ fn run<R: Threads + Wait + Sync, S: Source, O: Sink, G: Gate + Sync>(
             },
         ) => make(alloc, number, steps, lanes, out),
         Some(Command::Trial { number, steps }) => trial(rt, alloc, number, steps, out, gate),
-        Some(Command::Verify { rows }) => judge(alloc, rows, src, out),
+        Some(Command::Verify { rows }) =>
+            answer(rt, alloc, &Command::Verify { rows }, src, out, gate),
+        Some(Command::Image { rows }) =>
+            answer(rt, alloc, &Command::Image { rows }, src, out, gate),
+        Some(Command::Show) => answer(rt, alloc, &Command::Show, src, out, gate),
         None => Err(Failure::Usage),
     }
 }
 
 /// Does what the words after the program's name say, and gives the status to end with.
 ///
-/// 0: done. 1: the input is no log, or has no transcript. 2: the words are no command. 3: a fault of reading. 4: a fault of
-/// writing. 5: want of memory. 6: the input is longer than 8,388,608 bytes, or 67,108,864 with a transcript. 7: the transcript is
-/// refused. At every status but 0 a line on `err` says so.
+/// 0: done. 1: the input is no log, or has no transcript, or no tree. 2: the words are no command. 3: a fault of reading. 4: a fault of
+/// writing. 5: want of memory. 6: the input is longer than 8,388,608 bytes, or 67,108,864 with a transcript or where it is to be an
+/// image. 7: the transcript is refused. 8: the image is refused. At every status but 0 a line on `err` says so.
 pub fn mtreplay<R: Threads + Wait + Sync, S: Source, O: Sink, E: Sink, G: Gate + Sync>(
     rt: &R,
     alloc: Global,
@@ -209,8 +260,9 @@ pub fn mtreplay<R: Threads + Wait + Sync, S: Source, O: Sink, E: Sink, G: Gate +
     err: &mut E,
     gate: &G,
 ) -> u8
-    // What is printed is what the command prints: the text of a run of the log that was read, the log that is made of a number,
-    // what a run of that came to, or how much the transcript tells that was read, which is one of a run.
+    // What is printed is what the command prints: the text of a run of the log that was read, or an image of its first tree, the
+    // log that is made of a number, what a run of that came to, how much the transcript tells that was read, which is one of a
+    // run, or the listing of the tree whose image was read.
     ensures prints { (command : Command) → command_of (map string_bytes words.now) ≡ Some command → result ≡ 0
         → Writes command (S.left src.old) (O.written out.old) (O.written out.new) }
 
@@ -226,8 +278,10 @@ pub fn mtreplay<R: Threads + Wait + Sync, S: Source, O: Sink, E: Sink, G: Gate +
     ensures too_long { result ≡ 6 → ReadsTooMany (longest (command_of (map string_bytes words.now))) (S.left src.old) (S.left src.new) }
     ensures refused_too { result ≡ 7 → (rows : ℕ) × (command_of (map string_bytes words.now) ≡ Some (Command.Verify rows))
         × IfSome (S.left src.old) (λ bytes. IsUnverified rows bytes Failure.Refused) }
-    ensures within { result ≤ 7 }
-    ensures of_reading { reads (command_of (map string_bytes words.now)) ≡ false → (result ≢ 1) × (result ≢ 3) × (result ≢ 6) × (result ≢ 7) }
+    ensures refused_image { result ≡ 8 → (error : ImageError) × (command_of (map string_bytes words.now) ≡ Some Command.Show)
+        × IfSome (S.left src.old) (λ bytes. image_in bytes ≡ Err error) }
+    ensures within { result ≤ 8 }
+    ensures of_reading { reads (command_of (map string_bytes words.now)) ≡ false → (result ≢ 1) × (result ≢ 3) × (result ≢ 6) × (result ≢ 7) × (result ≢ 8) }
 
     // And it comes where its cause is, unless memory runs out.
     ensures usage_too { command_of (map string_bytes words.now) ≡ None → (result ≡ 2) ⊎ (result ≡ 5) }
@@ -243,7 +297,7 @@ pub fn mtreplay<R: Threads + Wait + Sync, S: Source, O: Sink, E: Sink, G: Gate +
 
     // The input is read to its end, and no further than an input may reach, and by the commands alone that ask for one.
     ensures at_end { reads (command_of (map string_bytes words.now)) ≡ true → result < 2 → IsAtEnd (S.left src.new) }
-    ensures at_end_too { reads (command_of (map string_bytes words.now)) ≡ true → (result ≡ 4) ⊎ (result ≡ 7) → IsAtEnd (S.left src.new) }
+    ensures at_end_too { reads (command_of (map string_bytes words.now)) ≡ true → (result ≡ 4) ⊎ (7 ≤ result) → IsAtEnd (S.left src.new) }
     ensures reach { ReadsNoFurther (longest (command_of (map string_bytes words.now))) (S.left src.old) (S.left src.new) }
     ensures limit { result ≢ 5 → result ≢ 6 → ReadsWithin (longest (command_of (map string_bytes words.now))) (S.left src.old) (S.left src.new) }
     ensures unread { reads (command_of (map string_bytes words.now)) ≡ false → src.new ≡ src.old }

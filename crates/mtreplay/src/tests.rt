@@ -3,6 +3,7 @@ mod cuts;
 mod desk;
 mod drawn;
 mod hostile;
+mod imaged;
 mod judged;
 mod lanes;
 mod narrow;
@@ -23,7 +24,7 @@ use std::thread::Threads;
 const LOG: &str = "mtlog 1\ntree a range\nstore a 10 19 5\nload a 10\n";
 
 const USAGE: &str =
-    "mtreplay: usage: replay [--rows N], make NUMBER STEPS LANES, trial NUMBER STEPS, verify [--rows N]\n";
+    "mtreplay: usage: replay [--rows N], make NUMBER STEPS LANES, trial NUMBER STEPS, verify [--rows N], image [--rows N], show\n";
 
 /// The kinds of trees, each with its greatest index.
 const KINDS: [(&str, &str); 4] = [
@@ -247,8 +248,25 @@ fn run_into<R: Threads + Wait + Sync + AllocGlobal, G: Gate + Sync>(
     Ok(Ending { status, out, err })
 }
 
-/// The program and one thread on sorted lists both answer the log by this text. The read behind the one that finds the end
-/// of the log would fail.
+/// What answered a log is verified by these words.
+fn expect_verified<R: Threads + Wait + Sync + AllocGlobal + Abort>(
+    rt: &R,
+    words: &[&str],
+    log: &[u8],
+    text: &[u8],
+) -> Result<(), Fail> {
+    let mut input = Vec::from_slice(rt.alloc(), log)?;
+    input.extend_from_slice(b"---\n")?;
+    input.extend_from_slice(text)?;
+    let mut src = MemSource::new(input, usize::MAX, Vec::new(rt.alloc()));
+    let ending = run(rt, words, &mut src, 256, 256)?;
+    assert_eq!(rt; ending.status, 0);
+    assert_eq!(rt; ending.err.bytes(), b"".as_slice());
+    Ok(())
+}
+
+/// The program and one thread on sorted lists both answer the log by this text, which is verified. The read behind the one that
+/// finds the end of the log would fail.
 fn expect_text<R: Threads + Wait + Sync + AllocGlobal + Abort>(
     rt: &R,
     log: &str,
@@ -262,7 +280,7 @@ fn expect_text<R: Threads + Wait + Sync + AllocGlobal + Abort>(
     assert_eq!(rt; ending.err.bytes(), b"".as_slice(), "{log}");
     let listed = listed_text(rt, rt.alloc(), log)?;
     assert_eq!(rt; listed.as_slice(), text.as_bytes(), "{log}");
-    Ok(())
+    expect_verified(rt, &["verify"], log.as_bytes(), text.as_bytes())
 }
 
 /// The log of these steps behind the header and the line that declares the range tree `a`, from line 3 on.
@@ -336,6 +354,23 @@ fn an_input_is_read_no_further_than_one_byte_too_many(rt: HostRuntime) -> Result
         ),
         (
             "verify",
+            1025,
+            67_108_865,
+            6,
+            0,
+            "mtreplay: input too long\n",
+        ),
+        ("image", 129, 8_388_609, 6, 0, "mtreplay: input too long\n"),
+        (
+            "show",
+            1025,
+            67_108_864,
+            8,
+            0,
+            "mtreplay: image refused: head 0\n",
+        ),
+        (
+            "show",
             1025,
             67_108_865,
             6,

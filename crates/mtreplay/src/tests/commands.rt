@@ -1,6 +1,6 @@
 ghost use Rattle.std.specs.Prelude.{◌<◌, ◌≤◌, ◌^◌};
 
-use crate::tests::{GIVEN, USAGE, run, source, steps};
+use crate::tests::{GIVEN, USAGE, expect_verified, run, source, steps};
 use mt_base::{MOST_ROWS, NoMemory};
 use mt_io::{Failed, MemSource, Source};
 use mt_list::ListMap;
@@ -12,7 +12,7 @@ use std::test::Fail;
 use std::thread::Threads;
 
 /// What these words print, with nothing on `err`, where the source has this text.
-fn printed<R: Threads + Wait + Sync + AllocGlobal + Abort>(
+pub fn printed<R: Threads + Wait + Sync + AllocGlobal + Abort>(
     rt: &R,
     words: &[&str],
     input: &[u8],
@@ -40,7 +40,7 @@ fn a_tree_has_as_many_rows_as_the_words_say(rt: HostRuntime) -> Result<(), Fail>
         let text = printed(&rt, words, log.as_bytes())?;
         assert_eq!(rt; text.as_slice(), want.as_bytes());
     }
-    Ok(())
+    expect_verified(&rt, &["verify", "--rows", "4"], log.as_bytes(), want.as_bytes())
 }
 
 #[test]
@@ -69,7 +69,7 @@ fn four_lanes_of_a_made_log_never_lack_rows(rt: HostRuntime) -> Result<(), Fail>
         let mut fields = line.split(|byte| *byte == b' ');
         assert!(rt; fields.nth(2) != Some(b"nomem".as_slice()));
     }
-    Ok(())
+    expect_verified(&rt, &["verify"], &log, &text)
 }
 
 #[test]
@@ -117,7 +117,7 @@ fn expect_unread(rt: &impl Abort, src: &mut MemSource) {
 
 #[test]
 fn words_that_are_no_command_read_nothing(rt: HostRuntime) -> Result<(), Fail> {
-    let rows: [&[&str]; 20] = [
+    let rows: [&[&str]; 26] = [
         &[],
         &["help"],
         &["--help"],
@@ -138,6 +138,12 @@ fn words_that_are_no_command_read_nothing(rt: HostRuntime) -> Result<(), Fail> {
         &["verify", "x"],
         &["verify", "--rows", "3"],
         &["verify", "--rows", "65505"],
+        &["image", "x"],
+        &["image", "--rows", "3"],
+        &["image", "--rows=65505"],
+        &["show", "x"],
+        &["show", "--rows", "4"],
+        &["show", "--"],
     ];
     for words in rows {
         let mut src = source(rt.alloc(), "mtlog 1\ntree a range\n", 0)?;

@@ -1,6 +1,6 @@
 //! Transcripts that `verify` judges.
 
-use crate::tests::{LOGS, NEVER, run, source};
+use crate::tests::{NEVER, expect_verified, run, source};
 use std::process::Abort;
 use std::sync::Wait;
 use std::test::Fail;
@@ -86,24 +86,95 @@ fn a_transcript_is_verified_or_refused(rt: HostRuntime) -> Result<(), Fail> {
     Ok(())
 }
 
-/// The text that answers a log is verified.
-fn expect_verified<R: Threads + Wait + Sync + AllocGlobal + Abort>(
-    rt: &R,
-    lines: &str,
-    text: &str,
-) -> Result<(), Fail> {
-    let input = format!(in rt.alloc(); "mtlog 1\n{lines}---\n{text}")?;
-    let mut src = source(rt.alloc(), &input, NEVER)?;
-    let ending = run(rt, &["verify"], &mut src, 256, 256)?;
-    assert_eq!(rt; ending.status, 0, "{lines}");
-    assert_eq!(rt; ending.err.bytes(), b"".as_slice(), "{lines}");
-    Ok(())
-}
+/// Logs of several lanes: reads beside calls, on trees of all kinds and in both versions, with copies and checks between phases.
+const LANES: [&str; 4] = [
+    LOG,
+    "mtlog 2
+tree a alloc32
+lane 0
+store a 1 1 5
+alloc a 2 0 9 7
+lane 1
+store a 2 2 9
+next a 0 9
+lane 2
+scan a 0 max 9
+ralloc a 3 0 max 4
+lane 3
+load a 1
+erase a 2
+prev a max 0
+",
+    "mtlog 2
+tree a range
+tree b alloc
+tree n range32
+tree m alloc32
+lane 3
+store a 0 99 4097
+store b 5 9 5
+store n 7 max 9
+store m 1 8 4
+lane 1
+find a 0 max
+load b 7
+lane 2
+store a 40 49 0
+rfind n max 9
+join
+dup a c
+check b
+dup m d
+lane 0
+store c 0 0 7
+erase a 99
+lane 1
+load c 0
+next a 0 max
+lane 2
+clear d
+store b 6 6 0
+lane 3
+load d 1
+scan b 0 max 4
+join
+check c
+check d
+",
+    "mtlog 1
+tree a range
+store a 0 9 1
+join
+dup a b
+dup b c
+lane 0
+store a 3 4 5
+lane 1
+store b 3 4 7
+load a 3
+lane 2
+erase c 3
+load b 3
+lane 15
+load c 3
+load a 3
+join
+dup c d
+check a
+load d 0
+",
+];
 
+/// What is printed of these logs, whichever way the lanes go beside one another, is verified.
 #[test]
-fn what_answers_a_log_is_verified(rt: HostRuntime) -> Result<(), Fail> {
-    for (lines, text) in LOGS {
-        expect_verified(&rt, lines, text)?;
+fn what_lanes_answer_is_verified(rt: HostRuntime) -> Result<(), Fail> {
+    for log in LANES {
+        for _ in 0..20_u8 {
+            let mut src = source(rt.alloc(), log, NEVER)?;
+            let ending = run(&rt, &["replay"], &mut src, 1 << 12, 256)?;
+            assert_eq!(rt; ending.status, 0, "{log}");
+            expect_verified(&rt, &["verify"], log.as_bytes(), ending.out.bytes())?;
+        }
     }
     Ok(())
 }

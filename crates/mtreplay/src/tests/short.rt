@@ -3,7 +3,7 @@ ghost use Rattle.mt_base.specs.Width.{most_rows};
 ghost use Rattle.mt_play.specs.Trees.{fewest_rows};
 
 use crate::tests::played::text_in_rows;
-use crate::tests::steps_on;
+use crate::tests::{expect_verified, steps_on};
 use std::alloc::{AllocError, Global};
 use std::process::Abort;
 use std::sync::Wait;
@@ -58,7 +58,8 @@ fn expect_short<R: Threads + Wait + Sync + AllocGlobal + Abort>(
     let want = short_text(kind, rt.alloc(), stores, short)?;
     let text = text_in_rows(rt, rt.alloc(), log.as_str(), rows)?;
     assert_eq!(rt; text.as_slice(), want.as_bytes(), "{kind} {rows}");
-    Ok(())
+    let words = format!(in rt.alloc(); "{rows}")?;
+    expect_verified(rt, &["verify", "--rows", words.as_str()], log.as_bytes(), &text)
 }
 
 #[test]

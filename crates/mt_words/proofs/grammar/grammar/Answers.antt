@@ -1,6 +1,6 @@
 use Rattle.std.proofs.Common.{◌∙◌, ap, ap₂, refl}
 use Rattle.clap.specs.Words.{App, with_subcommand}
-use Rattle.mt_words.specs.Grammar.{make_app, replay_app, trial_app, verify_app}
+use Rattle.mt_words.specs.Grammar.{image_app, make_app, replay_app, show_app, trial_app, verify_app}
 use Rattle.mt_words.proofs.Building.{local, plain, with_sub}
 use Rattle.mt_words.proofs.grammar.grammar.Goals as goal
 
@@ -10,4 +10,6 @@ returns c =
     let one = c.in_ok-subcommand.ensures.shape (local _ replay_app c.in_ok-rows_words.ensures refl) ∙ ap₂ with_subcommand none (ap (λ (a : App). a.top) c.in_ok-rows_words.ensures) in
     let two = c.in_ok-subcommand-2.ensures.shape (local _ make_app c.in_ok-make_words.ensures refl) ∙ ap₂ with_subcommand one (ap (λ (a : App). a.top) c.in_ok-make_words.ensures) in
     let three = c.in_ok-subcommand-3.ensures.shape (local _ trial_app c.in_ok-trial_words.ensures refl) ∙ ap₂ with_subcommand two (ap (λ (a : App). a.top) c.in_ok-trial_words.ensures) in
-    with_sub _ _ _ verify_app c.subcommand-4.result three c.in_ok-rows_words-2.ensures refl c.subcommand-4.ensures
+    let four = c.in_ok-subcommand-4.ensures.shape (local _ verify_app c.in_ok-rows_words-2.ensures refl) ∙ ap₂ with_subcommand three (ap (λ (a : App). a.top) c.in_ok-rows_words-2.ensures) in
+    let five = c.in_ok-subcommand-5.ensures.shape (local _ image_app c.in_ok-rows_words-3.ensures refl) ∙ ap₂ with_subcommand four (ap (λ (a : App). a.top) c.in_ok-rows_words-3.ensures) in
+    with_sub _ _ _ show_app c.subcommand-6.result five c.in_ok-show_words.ensures refl c.subcommand-6.ensures

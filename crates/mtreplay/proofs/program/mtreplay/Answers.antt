@@ -1,4 +1,4 @@
-use Rattle.std.proofs.Common.{◌≡◌, ◌⊎◌, ◌∙◌, ◌<◌, ℕ, ap, inl, subst, sym}
+use Rattle.std.proofs.Common.{◌≡◌, ◌⊎◌, ◌∙◌, ◌<◌, ◌≤◌, ℕ, ap, inl, subst, sym}
 use Rattle.mtreplay.specs.Verdicts.{IsDue}
 use Rattle.mtreplay.proofs.Statuses as statuses
 use Rattle.mtreplay.proofs.program.mtreplay.Goals as goal
@@ -24,6 +24,9 @@ returns-in-Err-clause-refused g c = λ is. (c.in-Err.failure, statuses.err_refus
 pub returns-in-Err-clause-refused_too : goal.returns-in-Err-clause-refused_too
 returns-in-Err-clause-refused_too g c = λ is. statuses.err_unverified c.in-Err.failure c.in-Err.ensures.ends (sym c.status.ensures ∙ is)
 
+pub returns-in-Err-clause-refused_image : goal.returns-in-Err-clause-refused_image
+returns-in-Err-clause-refused_image g c = λ is. statuses.err_no_image c.in-Err.failure c.in-Err.ensures.ends (sym c.status.ensures ∙ is)
+
 pub returns-in-Err-clause-usage : goal.returns-in-Err-clause-usage
 returns-in-Err-clause-usage g c = λ is. statuses.err_usage c.in-Err.failure c.in-Err.ensures.ends (sym c.status.ensures ∙ is)
 
@@ -45,7 +48,7 @@ returns-in-Err-clause-too_long g c = λ is. statuses.err_too_long c.in-Err.failu
 pub returns-in-Err-clause-of_reading : goal.returns-in-Err-clause-of_reading
 returns-in-Err-clause-of_reading g c = λ unread.
     let none = statuses.err_unread c.in-Err.failure c.in-Err.ensures.ends unread in
-    (λ is. none.0 (sym c.status.ensures ∙ is), λ is. none.1 (sym c.status.ensures ∙ is), λ is. none.2 (sym c.status.ensures ∙ is), λ is. none.3 (sym c.status.ensures ∙ is))
+    (λ is. none.0 (sym c.status.ensures ∙ is), λ is. none.1 (sym c.status.ensures ∙ is), λ is. none.2 (sym c.status.ensures ∙ is), λ is. none.3 (sym c.status.ensures ∙ is), λ is. none.4 (sym c.status.ensures ∙ is))
 
 pub returns-in-Err-clause-complete : goal.returns-in-Err-clause-complete
 returns-in-Err-clause-complete g c = λ command is read bytes left no_source no_sink. subst (λ (status : ℕ). IsDue command bytes status ⊎ (status ≡ 5)) (sym c.status.ensures)
@@ -56,7 +59,7 @@ returns-in-Err-clause-at_end g c = λ read is. statuses.err_ended c.in-Err.failu
 
 pub returns-in-Err-clause-at_end_too : goal.returns-in-Err-clause-at_end_too
 returns-in-Err-clause-at_end_too g c = λ read is.
-    statuses.err_ended_too c.in-Err.failure c.in-Err.ensures.ends read (subst (λ (status : ℕ). (status ≡ 4) ⊎ (status ≡ 7)) c.status.ensures is)
+    statuses.err_ended_too c.in-Err.failure c.in-Err.ensures.ends read (subst (λ (status : ℕ). (status ≡ 4) ⊎ (7 ≤ status)) c.status.ensures is)
 
 pub returns-in-Err-clause-limit : goal.returns-in-Err-clause-limit
 returns-in-Err-clause-limit g c = λ memory long. statuses.err_within c.in-Err.failure c.in-Err.ensures.ends (λ unread. ap g.S.Source.left (c.run.ensures.unread unread)) (λ is. memory (c.status.ensures ∙ is)) (λ is. long (c.status.ensures ∙ is))
