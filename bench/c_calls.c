@@ -1,0 +1,250 @@
+/* Every call of include/maple.h against a sorted array that this program keeps by itself: c_calls STEPS SEED.
+ * It says what differed first and exits with 1, or prints how many answers it compared. */
+#include "maple.h"
+#include <errno.h>
+#include <inttypes.h>
+#include <stdio.h>
+#include <stdlib.h>
+#include <string.h>
+
+#define SPAN 3000        /* indexes are drawn below */
+#define MOST (SPAN + 8)  /* ranges in the array */
+
+static struct maple_range list[MOST];
+static size_t count;
+static uint64_t answers, state;
+
+static void fail(const char *what, int line) {
+    fprintf(stderr, "differs: %s, line %d, after %" PRIu64 " answers\n", what, line, answers);
+    exit(1);
+}
+#define SAME(what, got, want) do { answers++; if ((uint64_t)(got) != (uint64_t)(want)) fail(what, __LINE__); } while (0)
+
+static uint64_t draw(uint64_t below) {
+    state = state * 6364136223846793005u + 1442695040888963407u;
+    return (state >> 33) % below;
+}
+
+/* ---- the array */
+
+static void place(size_t at, struct maple_range r) {
+    memmove(list + at + 1, list + at, (count - at) * sizeof *list);
+    list[at] = r;
+    count++;
+}
+
+static void drop(size_t at) {
+    memmove(list + at, list + at + 1, (count - at - 1) * sizeof *list);
+    count--;
+}
+
+/* The first range that ends at index or above. */
+static size_t from(uint64_t index) {
+    size_t at = 0;
+    while (at < count && list[at].last < index) at++;
+    return at;
+}
+
+static int held(uint64_t first, uint64_t last) {
+    size_t at = from(first);
+    return at < count && list[at].first <= last;
+}
+
+/* Stores, and gives the entry of the first range that it met. */
+static uint64_t over(uint64_t first, uint64_t last, uint64_t entry) {
+    size_t at = from(first);
+    uint64_t met = held(first, last) ? list[at].entry : 0;
+    while (at < count && list[at].first <= last) {
+        struct maple_range old = list[at];
+        drop(at);
+        if (old.first < first) place(at++, (struct maple_range){old.first, first - 1, old.entry});
+        if (old.last > last) { place(at, (struct maple_range){last + 1, old.last, old.entry}); break; }
+    }
+    if (entry) place(at, (struct maple_range){first, last, entry});
+    return met;
+}
+
+static int is_reserved(uint64_t entry) { return entry < 4096 && entry % 4 == 2; }
+
+/* The lowest, or the highest, start of size indexes in one hole of min .. max; 0 where there is none. */
+static int room(uint64_t size, uint64_t min, uint64_t max, int high, uint64_t *start) {
+    for (uint64_t n = 0; n + size - 1 <= max - min; n++) {
+        uint64_t at = high ? max - (size - 1) - n : min + n;
+        if (!held(at, at + size - 1)) { *start = at; return 1; }
+    }
+    return 0;
+}
+
+/* ---- comparing */
+
+static const struct maple_range none;
+
+static void same_range(const struct maple_range *got, const struct maple_range *want, int line) {
+    answers++;
+    if (memcmp(got, want, sizeof none)) fail("a range", line);
+}
+
+static void same_found(uint32_t status, const struct maple_range *got, const struct maple_range *want, int line) {
+    answers++;
+    if (status != (want ? 0 : ENOENT)) fail("whether a range is found", line);
+    same_range(got, want ? want : &none, line);
+}
+
+static void ask(struct maple_tree *t) {
+    uint64_t index = draw(SPAN + 9), other = draw(SPAN + 9);
+    struct maple_range got;
+    size_t at = from(index), k;
+    uint32_t status = maple_load(t, index, &got);
+    same_found(status, &got, at < count && list[at].first <= index ? list + at : 0, __LINE__);
+    status = maple_find(t, index, other, &got);
+    same_found(status, &got, index <= other && at < count && list[at].first <= other ? list + at : 0, __LINE__);
+    for (k = 0; k < count && list[k].first <= index; k++) {}
+    status = maple_next(t, index, other, &got);
+    same_found(status, &got, k < count && list[k].first <= other ? list + k : 0, __LINE__);
+    status = maple_rfind(t, index, other, &got);
+    same_found(status, &got, other <= index && k > 0 && list[k - 1].last >= other ? list + k - 1 : 0, __LINE__);
+    status = maple_prev(t, index, other, &got);
+    same_found(status, &got, at > 0 && list[at - 1].last >= other ? list + at - 1 : 0, __LINE__);
+}
+
+static void whole(struct maple_tree *t) {
+    struct maple_range got;
+    uint64_t index = 0;
+    for (size_t at = 0; at < count; at++) {
+        SAME("a range of the walk", maple_find(t, index, UINT32_MAX, &got), 0);
+        same_range(&got, list + at, __LINE__);
+        index = got.last + 1;
+    }
+    SAME("the end of the walk", maple_find(t, index, UINT32_MAX, &got), ENOENT);
+}
+
+static void act(struct maple_tree *t, uint32_t kind) {
+    uint64_t first = draw(SPAN), last = first + draw(12), entry = draw(5) ? draw(9000) : 0, word = 77, start = 0;
+    uint64_t size = 1 + draw(9), min = draw(SPAN), max = min + draw(200);
+    int wrong = draw(60) == 0, rooms = kind % 2;
+    struct maple_range was = {7, 7, 7};
+    if (wrong) { uint64_t x = first; first = last + 1; last = x; }
+    int bad = first > last || is_reserved(entry), no_area = !rooms || max - min < size - 1, high = draw(2);
+    size_t at;
+    uint32_t status;
+    switch (draw(8)) {
+    case 0: case 1: case 2:
+        switch (draw(3)) {
+        case 0: status = maple_store(t, first, last, entry, &word); break;
+        case 1: status = maple_store_pre(t, first, last, entry, &word); break;
+        default:
+            SAME("preallocate", maple_preallocate(t), 0);
+            status = maple_store_prealloc(t, first, last, entry, &word);
+        }
+        SAME("a store", status, bad ? EINVAL : 0);
+        SAME("what it met", word, bad ? 0 : over(first, last, entry));
+        break;
+    case 3:
+        bad |= entry == 0;
+        status = maple_insert(t, first, last, entry);
+        SAME("an insert", status, bad ? EINVAL : held(first, last) ? EEXIST : 0);
+        if (!status) over(first, last, entry);
+        break;
+    case 4: case 5:
+        at = from(first);
+        status = maple_erase(t, first, &was);
+        same_found(status, &was, at < count && list[at].first <= first ? list + at : 0, __LINE__);
+        if (!status) drop(at);
+        break;
+    case 6:
+        status = high ? maple_rgap(t, size, min, max, &word) : maple_gap(t, size, min, max, &word);
+        SAME("a gap", status, no_area ? EINVAL : room(size, min, max, high, &start) ? 0 : EBUSY);
+        SAME("its start", word, status ? 0 : start);
+        break;
+    default:
+        status = high ? maple_ralloc(t, size, min, max, entry, &word) : maple_alloc(t, size, min, max, entry, &word);
+        SAME("an allocation", status, no_area || entry == 0 || is_reserved(entry) ? EINVAL : room(size, min, max, high, &start) ? 0 : EBUSY);
+        SAME("its start", word, status ? 0 : start);
+        if (!status) over(start, start + size - 1, entry);
+    }
+}
+
+static void closed(struct maple_tree *t) {
+    struct maple_range r = {7, 7, 7};
+    uint64_t word = 7;
+    SAME("closed", maple_store(t, 1, 2, 3, &word), EINVAL); SAME("closed", word, 0);
+    SAME("closed", maple_store_pre(t, 1, 2, 3, &word), EINVAL); SAME("closed", maple_insert(t, 1, 2, 3), EINVAL);
+    SAME("closed", maple_erase(t, 1, &r), EINVAL); same_range(&r, &none, __LINE__);
+    SAME("closed", maple_alloc(t, 1, 0, 9, 4, &word), EINVAL); SAME("closed", maple_ralloc(t, 1, 0, 9, 4, &word), EINVAL);
+    SAME("closed", maple_gap(t, 1, 0, 9, &word), EINVAL); SAME("closed", maple_rgap(t, 1, 0, 9, &word), EINVAL);
+    SAME("closed", maple_clear(t), EINVAL); SAME("closed", maple_load(t, 1, &r), EINVAL);
+    SAME("closed", maple_find(t, 1, 9, &r), EINVAL); SAME("closed", maple_next(t, 1, 9, &r), EINVAL);
+    SAME("closed", maple_prev(t, 1, 0, &r), EINVAL); SAME("closed", maple_rfind(t, 1, 0, &r), EINVAL);
+    SAME("closed", maple_preallocate(t), EINVAL); SAME("closed", maple_store_prealloc(t, 1, 2, 3, &word), EINVAL);
+    maple_close(t);
+}
+
+static void opens(void) {
+    struct maple_tree t = {0};
+    struct maple_range r;
+    uint64_t word;
+    closed(&t);
+    SAME("no kind", maple_open(&t, 4, 100), EINVAL); closed(&t);
+    SAME("too many rows", maple_open(&t, MAPLE_RANGE, MAPLE_MOST_ROWS + 1), EINVAL); closed(&t);
+    SAME("open", maple_open(&t, MAPLE_RANGE32, 100), 0);
+    SAME("open twice", maple_open(&t, MAPLE_RANGE, 100), EBUSY);
+    SAME("above 32 bits", maple_store(&t, 0, (uint64_t)UINT32_MAX + 1, 4, &word), EINVAL);
+    SAME("to the top", maple_store(&t, 7, UINT32_MAX, 4, &word), 0);
+    SAME("at the top", maple_load(&t, UINT32_MAX, &r), 0);
+    SAME("its last", r.last, UINT32_MAX);
+    SAME("clear", maple_clear(&t), 0);
+    SAME("none left", maple_next(&t, 0, UINT32_MAX, &r), ENOENT);
+    maple_close(&t); closed(&t);
+    /* a small tree is refused rows before long, and then holds what it held */
+    int i, status = 0;
+    SAME("a small tree", maple_open(&t, MAPLE_RANGE, 4), 0);
+    for (i = 0; i < 200 && !status; i++) status = maple_store(&t, i * 10, i * 10 + 4, 8, &word);
+    SAME("too few rows", status, ENOMEM);
+    SAME("not stored", maple_load(&t, (i - 1) * 10, &r), ENOENT);
+    SAME("stored", maple_load(&t, (i - 2) * 10, &r), 0);
+    SAME("not ready", maple_preallocate(&t), ENOMEM);
+    SAME("so no store", maple_store_prealloc(&t, 9, 9, 4, &word), ENOMEM);
+    maple_close(&t);
+}
+
+static void texts(void) {
+    static const char log[] = "mtlog 1\ntree a range\nstore a 0 99 1\nload a 45\nstore a 9 3 1\n";
+    static uint8_t out[4096];
+    const uint8_t *bytes = (const uint8_t *)log;
+    size_t size = sizeof log - 1, used = 7;
+    uint64_t calls = 7, reads = 7;
+    SAME("too short", maple_replay(bytes, size, 65504, out, 3, &used), ERANGE);
+    size_t want = used;
+    SAME("replay", maple_replay(bytes, size, 65504, out, sizeof out, &used), 0);
+    SAME("its length", used, want);
+    SAME("verified", maple_verify(bytes, size, out, used, 65504, &calls, &reads), 0);
+    SAME("its calls", calls, 2); SAME("its reads", reads, 1);
+    SAME("cut", maple_verify(bytes, size, out, used - 1, 65504, &calls, &reads), EBADMSG);
+    SAME("none told", calls + reads, 0);
+    SAME("no log", maple_replay(bytes, size - 1, 65504, out, sizeof out, &used), EINVAL);
+    SAME("no log", maple_verify(bytes, 0, out, used, 65504, &calls, &reads), EINVAL);
+    SAME("rows", maple_replay(bytes, size, 3, out, sizeof out, &used), EDOM);
+    SAME("rows", maple_verify(bytes, size, out, 0, 65505, &calls, &reads), EDOM);
+}
+
+int main(int argc, char **argv) {
+    uint64_t steps = argc > 1 ? strtoull(argv[1], 0, 10) : 20000;
+    state = argc > 2 ? strtoull(argv[2], 0, 10) : 1;
+    opens();
+    texts();
+    for (uint32_t kind = 0; kind < 4; kind++) {
+        struct maple_tree t = {0};
+        count = 0;
+        SAME("open", maple_open(&t, kind, 4096), 0);
+        for (uint64_t step = 0; step < steps; step++) {
+            act(&t, kind);
+            if (step % 4 == 0) ask(&t);
+            if (step % 1000 == 999) whole(&t);
+        }
+        whole(&t);
+        maple_close(&t);
+        closed(&t);
+    }
+    printf("%" PRIu64 " answers are those of a sorted array\n", answers);
+    return 0;
+}

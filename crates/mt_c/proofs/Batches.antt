@@ -1,0 +1,32 @@
+-- A log that was played or judged.
+use Rattle.std.proofs.Common.{◌≡◌, ◌∙◌, ◌<◌, ◌≤◌, ◌++◌, ℕ, List, Ok, drop, length, subst, sym}
+use Rattle.mt_log.specs.declared.lines.Log.{Log}
+use Rattle.mt_log.specs.declared.transcripts.Transcript.{Transcript}
+use Rattle.mt_log.specs.Reading.{log_of}
+use Rattle.mt_log.specs.Run.{IsRun}
+use Rattle.mt_verify.specs.declared.verdicts.Verdict.{Verdict}
+use Rattle.mt_verify.specs.declared.verdicts.Verdict.TheVariants.{Yes, No}
+use Rattle.mt_verify.specs.Points.{AreLeastPoints, IsVerdict}
+use Rattle.mt_verify.specs.Tellings.{calls_told}
+use Rattle.mt_verify.proofs.Tellings.{reads_are_points}
+use Rattle.mt_c.specs.Batch.{IsNoRun, IsShort, IsTextOfRun, IsVerified, Writes}
+
+pub writes : (rows : ℕ) (bytes before after text : List ℕ) (used : ℕ) → IsTextOfRun rows bytes text → used ≡ length text → length text ≤ length before
+    → after ≡ text ++ drop (length text) before → Writes rows bytes before after used
+writes rows bytes before after text used run count room put = (text, run, count, room, put)
+
+pub is_short : (rows : ℕ) (bytes before text : List ℕ) (used : ℕ) → IsTextOfRun rows bytes text → used ≡ length text → length before < length text → IsShort rows bytes before used
+is_short rows bytes before text used run count lacks = (text, run, count, lacks)
+
+pub verified_so : (rows : ℕ) (bytes text : List ℕ) (log : Log) (verdict : Verdict) (points : List ℕ) (calls reads : ℕ) → log_of bytes ≡ Ok log → verdict ≡ Yes points
+    → IsVerdict log rows text verdict → ((n : ℕ) (t : Transcript) → IsRun log n t → calls_told t ≡ calls) → reads ≡ length points → IsVerified rows bytes text calls reads
+verified_so rows bytes text log verdict points calls reads found is judged told counted =
+    let least : AreLeastPoints log rows text points = subst (IsVerdict log rows text) is judged in
+    let t : Transcript = least.transcript in
+    let run : IsRun log rows t = (least.told.steps, least.told.trees, least.told.run) in
+    (log, t, found, run, least.printed, sym (told rows t run), counted ∙ sym (reads_are_points log rows t points least.told))
+
+pub no_run_so : (rows : ℕ) (bytes text : List ℕ) (log : Log) (verdict : Verdict) → log_of bytes ≡ Ok log → verdict ≡ No → IsVerdict log rows text verdict → IsNoRun rows bytes text
+no_run_so rows bytes text log verdict found is judged =
+    let none : IsVerdict log rows text No = subst (IsVerdict log rows text) is judged in
+    (log, found, λ tells. none tells.0 tells.2 tells.1)

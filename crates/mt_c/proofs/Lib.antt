@@ -1,0 +1,4 @@
+mod Batches
+mod Keeping
+mod KindCodes
+mod Telling

@@ -1,0 +1,49 @@
+-- What a log played for C, and a transcript judged for it, come to.
+-- Source: this project's own; the kernel's include/uapi/asm-generic/errno-base.h and errno.h: E2BIG, ENOMEM, EINVAL, EDOM, ERANGE
+-- and EBADMSG.
+use Rattle.std.specs.Prelude.{◌≡◌, ◌⊎◌, ℕ, ◌<◌, ◌≤◌, ◌-◌, ◌^◌, List, ◌++◌, Ok, drop, length}
+use Rattle.mt_base.specs.Width.{most_rows}
+use Rattle.mt_log.specs.declared.lines.Log.{Log}
+use Rattle.mt_log.specs.declared.transcripts.Transcript.{Transcript}
+use Rattle.mt_log.specs.Reading.{log_of}
+use Rattle.mt_log.specs.Run.{IsRun, TellsRun}
+use Rattle.mt_log.specs.Text.{text_of}
+use Rattle.mt_verify.specs.Tellings.{calls_told, reads_told}
+
+-- ---- what is refused unread
+
+-- a log has so many bytes at the most, and trees so many rows
+abbrev pub most_bytes : ℕ
+most_bytes = 2 ^ 32 - 1
+
+abbrev pub HaveRows : ℕ → Type 0
+HaveRows rows = (4 ≤ rows) × (rows ≤ most_rows)
+
+-- the numbers for rows that are too few or too many, and for too many bytes
+abbrev pub IsUnfit : ℕ → List ℕ → ℕ → Type 0
+IsUnfit rows log status = ((status ≡ 33) × (HaveRows rows → ⊥)) ⊎ ((status ≡ 7) × (most_bytes < length log))
+
+-- ---- replay
+
+-- this is the text of a run of the log that these bytes are
+abbrev pub IsTextOfRun : ℕ → List ℕ → List ℕ → Type 0
+IsTextOfRun rows bytes text = (log : Log) × (log_of bytes ≡ Ok log) × TellsRun rows log text
+
+-- the buffer begins with such a text of so many bytes, and is else as before
+abbrev pub Writes : ℕ → List ℕ → List ℕ → List ℕ → ℕ → Type 0
+Writes rows bytes before after used = (text : List ℕ) × IsTextOfRun rows bytes text × (used ≡ length text) × (length text ≤ length before) × (after ≡ text ++ drop (length text) before)
+
+-- such a text has so many bytes, and the buffer has fewer
+abbrev pub IsShort : ℕ → List ℕ → List ℕ → ℕ → Type 0
+IsShort rows bytes before used = (text : List ℕ) × IsTextOfRun rows bytes text × (used ≡ length text) × (length before < length text)
+
+-- ---- verify
+
+-- the bytes are a log, and the text is that of a run of it, which tells so many calls and reads
+abbrev pub IsVerified : ℕ → List ℕ → List ℕ → ℕ → ℕ → Type 0
+IsVerified rows bytes text calls reads =
+    (log : Log) × (t : Transcript) × (log_of bytes ≡ Ok log) × IsRun log rows t × (text ≡ text_of t) × (calls ≡ calls_told t) × (reads ≡ reads_told t)
+
+-- they are a log, and the text is of no run of it
+abbrev pub IsNoRun : ℕ → List ℕ → List ℕ → Type 0
+IsNoRun rows bytes text = (log : Log) × (log_of bytes ≡ Ok log) × (TellsRun rows log text → ⊥)

@@ -1,0 +1,131 @@
+-- What C is told of calls and of queries, and what they do to the tree that it keeps.
+-- Source: the kernel's include/uapi/asm-generic/errno-base.h and errno.h: ENOENT, ENOMEM, EBUSY, EEXIST, EINVAL and EOVERFLOW.
+use Rattle.std.specs.Prelude.{◌≡◌, ℕ, ◌-◌, ◌^◌, ◌<◌, ◌≤◌, Option, Some, None}
+use Rattle.mt_base.specs.declared.calls.Call.{Call}
+use Rattle.mt_base.specs.declared.calls.Query.{Query}
+use Rattle.mt_base.specs.declared.ranges.Range.{Range}
+use Rattle.mt_base.specs.declared.replies.Reply.{Reply}
+use Rattle.mt_base.specs.declared.replies.Reply.TheVariants as answers
+use Rattle.mt_base.specs.Call.{answer}
+use Rattle.mt_rows.specs.Publish.{map_by}
+use Rattle.mt_rows.specs.Sheet.{OnlyReads}
+use Rattle.mt_engine.specs.Engine.{Parts, IsApplied}
+use Rattle.mt_c.specs.declared.own_tree.OwnTree.{OwnTree}
+use Rattle.mt_c.specs.declared.told.OutRange.{OutRange}
+use Rattle.mt_c.specs.declared.told.Told.{Told}
+
+-- ---- numbers and answers
+
+-- a tree has so many calls at the most
+abbrev pub most_calls : ℕ
+most_calls = 2 ^ 62 - 1
+
+-- The number that C gets for a reply: 0, the error number of a refusal, or ENOENT where no range was there. Where the tree has had
+-- all its calls, none was made, and that is EOVERFLOW.
+abbrev pub status_of : Option Reply → ℕ
+status_of None = 75
+status_of (Some answers.Ok) = 0
+status_of (Some (answers.Over entry)) = 0
+status_of (Some (answers.Start start)) = 0
+status_of (Some (answers.Was range)) = 0
+status_of (Some answers.None) = 2
+status_of (Some answers.Exists) = 17
+status_of (Some answers.Invalid) = 22
+status_of (Some answers.Busy) = 16
+status_of (Some (answers.NoNodes shortage)) = 12
+
+-- the one word that a reply tells, and 0 where it tells none
+abbrev pub word_of : Option Reply → ℕ
+word_of None = 0
+word_of (Some answers.Ok) = 0
+word_of (Some (answers.Over entry)) = entry
+word_of (Some (answers.Start start)) = start
+word_of (Some (answers.Was range)) = 0
+word_of (Some answers.None) = 0
+word_of (Some answers.Exists) = 0
+word_of (Some answers.Invalid) = 0
+word_of (Some answers.Busy) = 0
+word_of (Some (answers.NoNodes shortage)) = 0
+
+-- a range, and three zeros where there is none
+abbrev pub no_range : OutRange
+no_range = record { first = 0; last = 0; entry = 0 }
+
+abbrev pub out_of : Option Range → OutRange
+out_of None = no_range
+out_of (Some r) = record { first = r.first; last = r.last; entry = r.entry }
+
+-- the range that a reply tells
+abbrev pub range_of : Option Reply → OutRange
+range_of None = no_range
+range_of (Some answers.Ok) = no_range
+range_of (Some (answers.Over entry)) = no_range
+range_of (Some (answers.Start start)) = no_range
+range_of (Some (answers.Was range)) = out_of (Some range)
+range_of (Some answers.None) = no_range
+range_of (Some answers.Exists) = no_range
+range_of (Some answers.Invalid) = no_range
+range_of (Some answers.Busy) = no_range
+range_of (Some (answers.NoNodes shortage)) = no_range
+
+-- all that C is told of a call
+abbrev pub told_of : Option Reply → Told
+told_of made = record { status = status_of made; word = word_of made; range = range_of made }
+
+-- and where it is closed
+abbrev pub no_told : Told
+no_told = record { status = 22; word = 0; range = no_range }
+
+-- the number for the answer of a query: ENOENT where there is none
+abbrev pub found_status : Option Range → ℕ
+found_status None = 2
+found_status (Some r) = 0
+
+-- ---- trees
+
+-- a call was made, and this is the reply
+pub record IsCalled (t t' : Parts) (call : Call) (reply : Reply) : Type 0 where
+  pub few : t.sheet.ended < most_calls
+  pub applied : IsApplied t.kind t.sheet t'.sheet t.book t'.book call reply
+  pub kind : t'.kind ≡ t.kind
+
+-- It was made, or the tree had had all its calls and is as before.
+abbrev pub Made : Parts → Parts → Call → Option Reply → Type 0
+Made t t' call None = (most_calls ≤ t.sheet.ended) × (t' ≡ t)
+Made t t' call (Some reply) = IsCalled t t' call reply
+
+-- what a query is answered by the ranges of a tree
+unfoldable pub answered : Parts → Query → Option Range
+answered t query = answer (map_by t.sheet.tree) query
+
+-- the tree was only read
+pub record IsAsked (t t' : Parts) : Type 0 where
+  pub rest : OnlyReads t.sheet t'.sheet
+  pub book : t'.book ≡ t.book
+  pub kind : t'.kind ≡ t.kind
+
+-- ---- what C keeps
+
+-- A call on what C keeps, the number that C gets, and what it is told beside by some reading of the reply. A closed one is EINVAL,
+-- with a blank beside, and stays closed; an open one stays open.
+abbrev pub Called : {A : Type 0} → A → (Option Reply → A) → Call → Option OwnTree → Option OwnTree → ℕ → A → Type 0
+Called blank told call None after status out = (after ≡ None) × (status ≡ 22) × (out ≡ blank)
+Called blank told call (Some t) None status out = ⊥
+Called blank told call (Some t) (Some t') status out = (made : Option Reply) × Made t.engine t'.engine call made × (status ≡ status_of made) × (out ≡ told made)
+
+-- one that tells the number alone, or a word, or a range beside
+abbrev pub CalledAlone : Call → Option OwnTree → Option OwnTree → ℕ → Type 0
+CalledAlone call before after status = Called {A = Unit {0}} tt (λ _. tt) call before after status tt
+
+abbrev pub CalledWord : Call → Option OwnTree → Option OwnTree → ℕ → ℕ → Type 0
+CalledWord = Called 0 word_of
+
+abbrev pub CalledRange : Call → Option OwnTree → Option OwnTree → ℕ → OutRange → Type 0
+CalledRange = Called no_range range_of
+
+-- A query of what C keeps. A closed one is EINVAL, and no range.
+abbrev pub Asked : Query → Option OwnTree → Option OwnTree → ℕ → OutRange → Type 0
+Asked query None after status out = (after ≡ None) × (status ≡ 22) × (out ≡ no_range)
+Asked query (Some t) None status out = ⊥
+Asked query (Some t) (Some t') status out =
+    IsAsked t.engine t'.engine × (status ≡ found_status (answered t.engine query)) × (out ≡ out_of (answered t.engine query))

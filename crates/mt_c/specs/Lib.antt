@@ -1,0 +1,5 @@
+pub mod Owned
+pub mod Calls
+pub mod Opening
+pub mod Preparing
+pub mod Batch

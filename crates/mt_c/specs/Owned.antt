@@ -1,0 +1,27 @@
+-- What C keeps of a tree, and what it owns by that. Source: this project's own.
+use base.Fml.{Fml, ftrue}
+use denote.RattleType.{RattleType}
+use denote.RawPtr.{Ptr}
+use mir.Syntax.{Ty}
+use Rattle.std.specs.Prelude.{ℕ, Option, Some, None}
+use Rattle.std.specs.contracts.impls.GlobalAllocator.TheImpl.{ghosts}
+use Rattle.std_alloc.specs.Box.Ownership.{box_owns}
+
+-- the right to give a block back to the C library
+abbrev pub to_free : Ty → Ptr → Fml
+to_free = ghosts.dealloc_token (record { memory = record { seal = tt } })
+
+-- the box of what is kept, if something is
+abbrev pub kept_owns : (R : RattleType) → Ptr → Option R.Denot → Fml
+kept_owns R p None = ftrue
+kept_owns R p (Some x) = box_owns to_free R p x
+
+-- something is kept
+abbrev pub IsOpen : {A : Type 0} → Option A → Type 0
+IsOpen None = ⊥
+IsOpen (Some x) = Unit {0}
+
+-- how many are kept
+abbrev pub count_of : {A : Type 0} → Option A → ℕ
+count_of None = 0
+count_of (Some x) = 1

@@ -1,0 +1,41 @@
+//! Calls and queries of what C keeps.
+
+ghost use Rattle.mt_c.specs.Calls.{Called, Asked, no_told, told_of};
+
+use crate::handle::Handle;
+use crate::own_tree::OwnTree;
+use crate::told::{EINVAL, OutRange, Told, found_status, no_range, out_of, told_of};
+use mt_base::{Call, Query};
+use std::alloc::Global;
+
+/// Makes one call of what C keeps.
+#[tactic(auto, using(crate::proofs::Telling::called_open, crate::proofs::Telling::called_closed))]
+pub fn call(alloc: Global, tree: &mut Handle, call: &Call) -> Told
+    ensures { Called no_told told_of call.now tree.old.kept.value tree.new.kept.value result.status result }
+{
+    let Some(mut whole) = tree.take(alloc) else {
+        return Told {
+            status: EINVAL,
+            word: 0,
+            range: no_range(),
+        };
+    };
+    let made = whole.act(call);
+    *tree = Handle::of(whole);
+    told_of(made)
+}
+
+/// Asks one query of what C keeps.
+#[tactic(auto, using(crate::proofs::Telling::asked_open, crate::proofs::Telling::asked_closed))]
+pub fn ask(alloc: Global, tree: &mut Handle, query: &Query, range: &mut OutRange) -> u32
+    ensures { Asked query.now tree.old.kept.value tree.new.kept.value result range.new }
+{
+    let Some(mut whole) = tree.take(alloc) else {
+        *range = no_range();
+        return EINVAL;
+    };
+    let found = whole.ask(query);
+    *tree = Handle::of(whole);
+    *range = out_of(found);
+    found_status(found)
+}

@@ -1,0 +1,52 @@
+//! A tree as C has it.
+
+ghost use Rattle.std.specs.Prelude.{◌≡◌, Option, Some, None, MatchOption};
+ghost use Rattle.mt_c.specs.Owned.{count_of};
+
+use crate::kept::Kept;
+use crate::own_tree::OwnTree;
+use std::alloc::Global;
+
+/// A tree as C has it: `struct maple_tree`, of two words. Where both are 0 it is closed. The second tells how many trees it has.
+#[repr(C)]
+#[derive(Drop)]
+pub struct Handle {
+    pub kept: Kept,
+    is_open: u64,
+    ghost counted: { is_open ≡ count_of kept.value },
+}
+
+impl Handle {
+    /// A closed one.
+    pub fn closed() -> Handle
+        ensures { result.kept.value ≡ None }
+    {
+        Handle {
+            kept: Kept::closed(),
+            is_open: 0,
+        }
+    }
+
+    /// One with this tree.
+    pub fn of(whole: Box<OwnTree>) -> Handle
+        ensures { result.kept.value ≡ Some whole.value }
+    {
+        Handle {
+            kept: Kept::of(whole),
+            is_open: 1,
+        }
+    }
+
+    /// Takes the tree out, where it is open, and leaves it closed.
+    #[tactic(auto, using(crate::proofs::Keeping::none_kept, crate::proofs::Keeping::some_kept))]
+    pub fn take(&mut self, alloc: Global) -> Option<Box<OwnTree>>
+        ensures tree { MatchOption result (self.old.kept.value ≡ None) (λ whole. self.old.kept.value ≡ Some whole.value) }
+        ensures closed { self.new.kept.value ≡ None }
+    {
+        let Handle { kept, is_open } = std::mem::replace(self, Handle::closed());
+        if is_open == 0 {
+            return None;
+        }
+        Some(kept.into_box(alloc))
+    }
+}

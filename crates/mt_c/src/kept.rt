@@ -1,0 +1,72 @@
+//! What C keeps of a tree: a pointer.
+
+ghost use Rattle.std.specs.Prelude.{◌≡◌, Option, Some, None};
+ghost use Rattle.mt_c.specs.Owned.{kept_owns, IsOpen};
+ghost use Rattle.mt_c.specs.declared.own_tree.OwnTree.{OwnTree};
+ghost use Rattle.mt_c.specs.contracts.own_tree.OwnTree.{the_row};
+
+use crate::own_tree::OwnTree;
+use crate::parts::Parts;
+use std::alloc::Global;
+use std::marker::Model;
+
+/// The box of a tree as one pointer, whose type names no other: C may keep it and sees nothing of what is behind.
+#[repr(C)]
+pub struct Kept {
+    at: *mut (),
+    pub ghost value: { Option OwnTree },
+}
+
+impl Model for Kept {
+    ghost also_owns = { λ k. kept_owns the_row k.at k.value };
+}
+
+impl Drop for Kept {
+    fn drop(self) {
+        let Kept { at: _ } = self;
+    }
+}
+
+impl Kept {
+    /// Nothing is kept.
+    pub fn closed() -> Kept
+        ensures { result.value ≡ None }
+    {
+        Kept {
+            at: std::ptr::null_mut(),
+        }
+    }
+
+    fn of_parts(parts: Parts<OwnTree, Global>) -> Kept
+        ensures { result.value ≡ Some parts.value }
+    {
+        let Parts { ptr, alloc: _ } = parts;
+        Kept { at: ptr as *mut () }
+    }
+
+    fn into_parts(self, alloc: Global) -> Parts<OwnTree, Global>
+        requires { IsOpen self.value }
+        ensures { self.value ≡ Some result.value }
+    {
+        let Kept { at } = self;
+        Parts {
+            ptr: at as *mut OwnTree,
+            alloc,
+        }
+    }
+
+    /// Keeps a box.
+    pub fn of(value: Box<OwnTree>) -> Kept
+        ensures { result.value ≡ Some value.value }
+    {
+        Kept::of_parts(Parts::of(value))
+    }
+
+    /// The box that is kept.
+    pub fn into_box(self, alloc: Global) -> Box<OwnTree>
+        requires { IsOpen self.value }
+        ensures { self.value ≡ Some result.value }
+    {
+        self.into_parts(alloc).into_box()
+    }
+}

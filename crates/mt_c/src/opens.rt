@@ -1,0 +1,73 @@
+//! Opening and closing.
+
+ghost use Rattle.std.specs.Prelude.{◌≡◌, ◌≢◌, ◌≤◌, None, IfOk, MatchOption};
+ghost use Rattle.mt_base.specs.declared.kinds.Kind.{Kind};
+ghost use Rattle.mt_image.specs.Bytes.{kind_code};
+ghost use Rattle.mt_base.specs.Width.{most_rows};
+ghost use Rattle.mt_c.specs.Opening.{IsNewTree, Opened, OpenedNew};
+
+use crate::handle::Handle;
+use crate::own_tree::OwnTree;
+use crate::told::{EBUSY, EINVAL, ENOMEM};
+use mt_base::{Kind, MOST_ROWS, NoMemory};
+use std::alloc::Global;
+
+/// The kind of a code.
+#[tactic(auto, using(crate::proofs::KindCodes::no_kind))]
+fn kind_of(code: u32) -> Option<Kind>
+    ensures { MatchOption result ((kind : Kind) → kind_code kind ≢ code) (λ kind. kind_code kind ≡ code) }
+{
+    match code {
+        0 => Some(Kind::Range),
+        1 => Some(Kind::Alloc),
+        2 => Some(Kind::Range32),
+        3 => Some(Kind::Alloc32),
+        _ => None,
+    }
+}
+
+/// The box of an empty tree of this kind, in so many rows.
+fn boxed(alloc: Global, kind: Kind, rows: u64) -> Result<Box<OwnTree>, NoMemory>
+    requires { rows ≤ most_rows }
+    ensures { IfOk result (λ whole. IsNewTree kind rows whole.value.engine) }
+{
+    Ok(Box::new(alloc, OwnTree::new(alloc, kind, rows)?)?)
+}
+
+/// What an open of a closed tree makes, and the number that C gets.
+fn opened(alloc: Global, code: u32, rows: u64) -> (Handle, u32)
+    ensures { OpenedNew code rows result.0.kept.value result.1 }
+{
+    let Some(kind) = kind_of(code) else {
+        return (Handle::closed(), EINVAL);
+    };
+    if rows > MOST_ROWS {
+        return (Handle::closed(), EINVAL);
+    }
+    match boxed(alloc, kind, rows) {
+        Ok(whole) => (Handle::of(whole), 0),
+        Err(NoMemory) => (Handle::closed(), ENOMEM),
+    }
+}
+
+/// Opens an empty tree of the kind with this code, in so many rows, 65,504 at the most.
+#[unsafe(no_mangle)]
+pub extern "C" fn maple_open(alloc: Global, tree: &mut Handle, kind: u32, rows: u64) -> u32
+    ensures { Opened kind rows tree.old.kept.value tree.new.kept.value result }
+{
+    if let Some(whole) = tree.take(alloc) {
+        *tree = Handle::of(whole);
+        return EBUSY;
+    }
+    let (made, status) = opened(alloc, kind, rows);
+    *tree = made;
+    status
+}
+
+/// Closes a tree: its memory is given back. One that is closed stays so.
+#[unsafe(no_mangle)]
+pub extern "C" fn maple_close(alloc: Global, tree: &mut Handle)
+    ensures { tree.new.kept.value ≡ None }
+{
+    drop(tree.take(alloc));
+}

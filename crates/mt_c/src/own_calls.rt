@@ -1,0 +1,83 @@
+//! What is done with a tree that one thread at a time uses.
+
+ghost use Rattle.std.specs.Prelude.{◌≡◌, ◌↔◌, ◌≤◌, IfOk, IsTrue};
+ghost use Rattle.mt_base.specs.declared.calls.Call.TheVariants.{StorePre};
+ghost use Rattle.mt_base.specs.Width.{most_rows};
+ghost use Rattle.mt_c.specs.Calls.{Made, IsAsked, answered};
+ghost use Rattle.mt_c.specs.Opening.{IsNewTree};
+ghost use Rattle.mt_c.specs.Preparing.{IsPrepared, IsReady, PreMade};
+
+use crate::own_tree::OwnTree;
+use mt_base::{Call, Kind, NoMemory, Query, Range, Reply, width_of};
+use mt_engine::Engine;
+use mt_free::RowBook;
+use mt_rows::PlainRows;
+use std::alloc::Global;
+
+/// A tree has so many calls at the most.
+const MOST_CALLS: u64 = (1 << 62) - 1;
+
+impl OwnTree {
+    /// An empty tree in so many rows, before its first call.
+    ///
+    /// # Errors
+    ///
+    /// `NoMemory` where memory ran out.
+    pub fn new(alloc: Global, kind: Kind, rows: u64) -> Result<OwnTree, NoMemory>
+        requires { rows ≤ most_rows }
+        ensures { IfOk result (λ t. IsNewTree kind rows t.engine) }
+    {
+        let book = RowBook::new(alloc, rows)?;
+        let rows = PlainRows::of_width(alloc, width_of(kind), rows)?;
+        Ok(OwnTree {
+            engine: Engine::of_height(rows, book, kind, 0),
+            calls: 0,
+        })
+    }
+
+    /// Makes one call; none where the tree has had all its calls.
+    pub fn act(&mut self, call: &Call) -> Option<Reply>
+        ensures { Made self.old.engine self.new.engine call.now result }
+    {
+        if self.calls >= MOST_CALLS {
+            return None;
+        }
+        let reply = self.engine.apply(call);
+        self.calls += 1;
+        Some(reply)
+    }
+
+    /// Answers one query.
+    #[tactic(auto, unfolding(crate::specs::Calls::answered))]
+    pub fn ask(&mut self, query: &Query) -> Option<Range>
+        ensures answer { result ≡ answered self.old.engine query.now }
+        ensures rest { IsAsked self.old.engine self.new.engine }
+    {
+        self.engine.ask(query)
+    }
+
+    /// Makes it ready for a store, if the rows that no section holds are enough.
+    pub fn preallocate(&mut self) -> bool
+        ensures prepared { IsPrepared self.old.engine self.new.engine }
+        ensures ready { IsTrue result ↔ IsReady self.new.engine }
+    {
+        // so many calls fit into 64 bits
+        let _calls = self.calls;
+        self.engine.preallocate().is_ok()
+    }
+
+    /// Makes one store for which it is ready; none where it is not, and the inner none where the tree has had all its calls.
+    pub fn store_prealloc(&mut self, first: u64, last: u64, entry: u64) -> Option<Option<Reply>>
+        ensures { PreMade self.old.engine self.new.engine (StorePre first last entry) result }
+    {
+        if !self.engine.ready() {
+            return None;
+        }
+        if self.calls >= MOST_CALLS {
+            return Some(None);
+        }
+        let reply = self.engine.store_prealloc(first, last, entry);
+        self.calls += 1;
+        Some(Some(reply))
+    }
+}

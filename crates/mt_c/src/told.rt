@@ -1,0 +1,132 @@
+//! What C is told.
+
+ghost use Rattle.std.specs.Prelude.{◌≡◌};
+ghost use Rattle.mt_c.specs.Calls as defined;
+
+use mt_base::{Range, Reply};
+
+/// A log has too many bytes.
+pub const E2BIG: u32 = 7;
+
+/// No range is there.
+pub const ENOENT: u32 = 2;
+
+/// Too few rows are free, or memory ran out.
+pub const ENOMEM: u32 = 12;
+
+/// No hole has room.
+pub const EBUSY: u32 = 16;
+
+/// Some index is held already.
+pub const EEXIST: u32 = 17;
+
+/// The call means nothing, or the tree is closed, or the bytes are no log.
+pub const EINVAL: u32 = 22;
+
+/// A tree has too few or too many rows.
+pub const EDOM: u32 = 33;
+
+/// A buffer is too short.
+pub const ERANGE: u32 = 34;
+
+/// The text is of no run.
+pub const EBADMSG: u32 = 74;
+
+/// The tree has had all its calls.
+pub const EOVERFLOW: u32 = 75;
+
+/// A range as C has it: `struct maple_range`.
+#[repr(C)]
+#[derive(Clone, Copy, Debug, PartialEq, Eq)]
+pub struct OutRange {
+    pub first: u64,
+    pub last: u64,
+    pub entry: u64,
+}
+
+/// What C is told of a call: its number, the one word of the reply, and its range.
+#[derive(Clone, Copy, Debug, PartialEq, Eq)]
+pub struct Told {
+    pub status: u32,
+    pub word: u64,
+    pub range: OutRange,
+}
+
+/// What is told where there is no range.
+pub fn no_range() -> OutRange
+    ensures { result ≡ defined.no_range }
+{
+    OutRange {
+        first: 0,
+        last: 0,
+        entry: 0,
+    }
+}
+
+/// A range, or three zeros.
+pub fn out_of(found: Option<Range>) -> OutRange
+    ensures { result ≡ defined.out_of found }
+{
+    match found {
+        None => no_range(),
+        Some(Range { first, last, entry }) => OutRange { first, last, entry },
+    }
+}
+
+/// The number that C gets for the answer of a query.
+pub fn found_status(found: Option<Range>) -> u32
+    ensures { result ≡ defined.found_status found }
+{
+    match found {
+        None => ENOENT,
+        Some(_) => 0,
+    }
+}
+
+/// The number that C gets for a reply, or where no call was made.
+pub fn status_of(made: Option<Reply>) -> u32
+    ensures { result ≡ defined.status_of made }
+{
+    let Some(reply) = made else {
+        return EOVERFLOW;
+    };
+    match reply {
+        Reply::Ok | Reply::Over(_) | Reply::Start(_) | Reply::Was(_) => 0,
+        Reply::None => ENOENT,
+        Reply::NoNodes(_) => ENOMEM,
+        Reply::Busy => EBUSY,
+        Reply::Exists => EEXIST,
+        Reply::Invalid => EINVAL,
+    }
+}
+
+/// The one word that a reply tells, or 0.
+pub fn word_of(made: Option<Reply>) -> u64
+    ensures { result ≡ defined.word_of made }
+{
+    match made {
+        Some(Reply::Over(word) | Reply::Start(word)) => word,
+        _ => 0,
+    }
+}
+
+/// The range that a reply tells, or three zeros.
+fn range_of(made: Option<Reply>) -> OutRange
+    ensures { result ≡ defined.range_of made }
+{
+    match made {
+        Some(Reply::Was(range)) => out_of(Some(range)),
+        _ => no_range(),
+    }
+}
+
+/// All that C is told of a call.
+pub fn told_of(made: Option<Reply>) -> Told
+    ensures { result ≡ defined.told_of made }
+{
+    Told {
+        status: status_of(made),
+        word: word_of(made),
+        range: range_of(made),
+    }
+}
