@@ -72,6 +72,15 @@ impl Plays<Token> for Bare {
         Ok(Vec::new(alloc))
     }
 
+    fn image<R: Wait>(
+        &self,
+        _rt: &R,
+        _alloc: Global,
+        _pass: &mut Token,
+    ) -> Result<Vec<u8>, NoMemory> {
+        Err(NoMemory)
+    }
+
     fn settle<R: Wait>(&self, _rt: &R, _passes: &mut [Token]) {}
 }
 

@@ -17,10 +17,16 @@ macro_rules! command {
     (verify $rows:expr) => {
         Command::Verify { rows: $rows }
     };
+    (image $rows:expr) => {
+        Command::Image { rows: $rows }
+    };
+    (show) => {
+        Command::Show
+    };
 }
 
 /// Lists of words, with a space between two, and the commands that they are.
-const COMMANDS: [(&str, Command); 15] = [
+const COMMANDS: [(&str, Command); 20] = [
     ("replay", command!(replay 65_504)),
     ("replay --rows 4", command!(replay 4)),
     ("replay --rows=4", command!(replay 4)),
@@ -39,6 +45,11 @@ const COMMANDS: [(&str, Command); 15] = [
     ("verify --rows 4", command!(verify 4)),
     ("verify --rows=65504", command!(verify 65_504)),
     ("verify --rows=0017", command!(verify 17)),
+    ("image", command!(image 65_504)),
+    ("image --rows 4", command!(image 4)),
+    ("image --rows=65504", command!(image 65_504)),
+    ("image --rows 0017", command!(image 17)),
+    ("show", command!(show)),
 ];
 
 /// Lists of words that are no commands.
@@ -114,6 +125,29 @@ verify -- --rows 5
 verify --help
 replay verify
 verify replay
+Image
+image 4
+image --rows
+image --rows=
+image --rows 3
+image --rows=65505
+image --rows +5
+image --rows 5 --rows=6
+image --rows 5 show
+image -- --rows 5
+image --help
+images
+Show
+show --
+show --help
+show -h
+show 1
+show image
+show --rows 5
+show --rows=5
+show\x20
+shows
+verify show
 replay --rows ٥";
 
 fn read_row(alloc: Global, row: &str) -> Result<Option<Command>, NoMemory> {
