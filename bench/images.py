@@ -5,12 +5,17 @@ images.py changes           the image of the range 10 to 19 with the entry 5, ea
                             made 0), and each of its cuts: a line `FROM TO ANSWER` for the places from FROM up to, but without, TO
 images.py check < IMAGE     whether the bytes are an image: its kind, its rows and its ranges, or the first reason why not
 images.py write KIND ROWS   the image of a tree of so many rows, whose ranges are single indexes side by side
+images.py try MTREPLAY      has the program `show` each changed byte and each cut of that image, and the largest images of each kind,
+                            and write the images of a few hundred drawn logs and show them: prints each on which it does not agree
+                            with the definition, and at the end how many were shown and how many refused
 
 Tables of changes stand in `crates/trials_rows/src/images.rt`. The largest images are seen to be images by
     for kind in range alloc range32 alloc32; do bench/images.py write $kind 65504 | bench/images.py check; done
 """
 
+import random
 import struct
+import subprocess
 import sys
 
 TEXT = b"mtimage1"
@@ -40,7 +45,7 @@ class Tree:
 
     def __init__(self, kind, count, root, words):
         self.sizes, self.count, self.root, self.words = Sizes(kind), count, root, words
-        self.walk, self.ranges, self.leaf_depth = [], 0, None
+        self.walk, self.ranges, self.leaf_depth = [], [], None
 
     def row(self, name):
         """The row and the kind that a word names in this tree, or none."""
@@ -101,7 +106,7 @@ class Tree:
         longest = 0
         for pivot, word, _ in items:
             longest = max(longest, pivot + 1 - first if word == 0 else 0)
-            self.ranges += word != 0
+            self.ranges += [(first, pivot, word)] * (word != 0)
             first = pivot + 1
         return longest
 
@@ -117,8 +122,8 @@ class Tree:
         return max(told)
 
 
-def answer(image):
-    """What bytes are an image of, or the first reason why they are none."""
+def read(image):
+    """The kind, the number of rows and the ranges that bytes are an image of, or the first reason why they are none."""
     if len(image) < 32:
         return f"length 32 {len(image)}"
     if image[:8] != TEXT:
@@ -141,16 +146,32 @@ def answer(image):
     for place, row in enumerate(range(FIRST, FIRST + count)):
         if place >= len(tree.walk) or tree.walk[place] != row:
             return f"stray row {row}"
-    return f"{KINDS[kind]} {count} rows {tree.ranges} ranges"
+    return KINDS[kind], count, tree.ranges
+
+
+def answer(image):
+    """The same in a line."""
+    told = read(image)
+    return told if isinstance(told, str) else f"{told[0]} {told[1]} rows {len(told[2])} ranges"
+
+
+# The image of the range 10 to 19 with the entry 5.
+LONE = TEXT + struct.pack("<35Q", 0, 1, 4108, *[1, 9, 19, 2**64 - 1], *12 * [0], *[0, 5], *14 * [0])
+
+
+def changed(image):
+    """Each byte greater by one, in turn."""
+    return [image[:at] + bytes([(image[at] + 1) % 256]) + image[at + 1 :] for at in range(len(image))]
+
+
+def cuts(image):
+    """It is cut after so many bytes."""
+    return [image[:at] for at in range(len(image))]
 
 
 def changes():
     """The answers to each changed byte, and then to each cut, places with the same answer together."""
-    lone = [1, 9, 19, 2**64 - 1] + 12 * [0] + [0, 5] + 14 * [0]
-    image = TEXT + struct.pack("<35Q", 0, 1, 4108, *lone)
-    changed = [answer(image[:at] + bytes([(image[at] + 1) % 256]) + image[at + 1 :]) for at in range(len(image))]
-    cuts = [answer(image[:at]).rsplit(" ", 1)[0] + " TO" for at in range(len(image))]
-    for told in (changed, cuts):
+    for told in ([answer(i) for i in changed(LONE)], [answer(i).rsplit(" ", 1)[0] + " TO" for i in cuts(LONE)]):
         first = 0
         for at in range(1, len(told) + 1):
             if at == len(told) or told[at] != told[first]:
@@ -223,9 +244,72 @@ def write(kind, rows):
     return TEXT + struct.pack(f"<{3 + len(words)}Q", kind, rows, name, *words)
 
 
+def listing(name, kind, ranges):
+    """The text of a listing."""
+    return "".join([f"tree {name} {kind} {len(ranges)}\n"] + [f"{first} {last} {entry}\n" for first, last, entry in ranges])
+
+
+def run(program, word, text):
+    """The status of a command, and what it prints and tells."""
+    ended = subprocess.run([program, word], input=text, capture_output=True, check=False)
+    return ended.returncode, ended.stdout, ended.stderr
+
+
+def showing(image):
+    """What `show` has to come to."""
+    told = read(image)
+    if isinstance(told, str):
+        return 8, b"", f"mtreplay: image refused: {told}\n".encode()
+    return 0, listing("image", told[0], told[2]).encode(), b""
+
+
+def drawn_log(draw):
+    """A log of stores and erases, of one tree or more."""
+    trees = [(f"t{i}", draw.choice(KINDS)) for i in range(draw.randint(1, 3))]
+    lines = ["mtlog 1"] + [f"tree {name} {kind}" for name, kind in trees]
+    wide = draw.choice([30, 300, 3000])
+    for _ in range(draw.choice([0, 5, 50, 500])):
+        first = draw.randrange(wide)
+        last = draw.choice([first, first, first + draw.randrange(wide // 10), "max"] if draw.random() < 0.1 else [first])
+        lines.append(f"store {draw.choice(trees)[0]} {first} {last} {draw.choice([0, 1, 5, 4096, 4100])}")
+    return "\n".join(lines).encode() + b"\n"
+
+
+def images_of(program):
+    """Images to show, and what may be wrong with them: those of drawn logs are seen to be images of the first tree that is listed."""
+    yield from ((image, None) for image in changed(LONE) + cuts(LONE))
+    yield from ((write(kind, MOST_ROWS), None) for kind in range(len(KINDS)))
+    draw = random.Random(7)
+    for _ in range(300):
+        log = drawn_log(draw)
+        status, image, _ = run(program, "image", log)
+        text = run(program, "replay", log)[1].decode()
+        lines = text[text.index("tree ") :].splitlines()
+        count = int(lines[0].split()[3])
+        want = lines[0].split()[2], [tuple(map(int, line.split())) for line in lines[1 : 1 + count]]
+        told = read(image)
+        right = status == 0 and not isinstance(told, str) and (told[0], told[2]) == want
+        yield image, None if right else f"no image of {want[0]} with {count} ranges: {log!r}"
+
+
+def attempt(program):
+    """Has the program show images and refuse others."""
+    ended = {0: 0, 8: 0}
+    for image, fault in images_of(program):
+        if fault:
+            sys.exit(fault)
+        want = showing(image)
+        if run(program, "show", image) != want:
+            sys.exit(f"{len(image)} bytes are not shown as {want[0]} {want[1][:80]!r} {want[2]!r}")
+        ended[want[0]] += 1
+    print(f"{ended[0]} shown {ended[8]} refused")
+
+
 if __name__ == "__main__":
     if sys.argv[1:] == ["changes"]:
         changes()
+    elif len(sys.argv) == 3 and sys.argv[1] == "try":
+        attempt(sys.argv[2])
     elif sys.argv[1:] == ["check"]:
         print(answer(sys.stdin.buffer.read()))
     elif len(sys.argv) == 4 and sys.argv[1] == "write" and sys.argv[2] in KINDS:

@@ -119,6 +119,10 @@ pub enum Room {
 pub enum Deed {
     Check,
     Dup(Room),
+    /// Its image is written.
+    Image,
+    /// Its image is read.
+    Read,
 }
 
 impl fmt::Display for Deed {
@@ -127,6 +131,8 @@ impl fmt::Display for Deed {
             Deed::Check => "check",
             Deed::Dup(Room::Fitting) => "dup",
             Deed::Dup(Room::Most) => "dup_most",
+            Deed::Image => "image",
+            Deed::Read => "read",
         };
         write!(f, "{word}")
     }

@@ -2,7 +2,7 @@
 //! for `rnodes_seq` and its like how many nodes the tree has for each range. The first letter of a work is the kind of the tree:
 //! `r` for ranges, `a` for allocation, and `n` before either for narrow rows. The tree is the engine's, or where `t` stands
 //! before the kind the one that threads share, of which a pass makes each call. `rcheck`, `rdup` and `rdup_most` are of such a
-//! tree too: a check of its words, and copies of it.
+//! tree too: a check of its words, and copies of it; and so are `rimage` and `rread`: its image is written, and read.
 //!
 //! `mt_bench DUTY N READERS` has so many threads load from one shared tree at once, 4,000,000 times each. `rreaders` and
 //! `rconc` print how many million loads and writes a second there were, `rconc` and `rslowest` beside one thread that writes
@@ -58,7 +58,7 @@ use std::{env, io};
 
 /// What is written where the words are no command.
 const USAGE: &str =
-    "usage: mt_bench [t][n][ra]{load,iter,store_seq,store_rand,overwrite,erase} N, [t][n]a{alloc,ralloc,holes,churn} N, [n][ra]{nodes_seq,nodes_rand,check,dup,dup_most} N, [n][ra]{readers,conc,slowest} N READERS, [n][ra]lanes N LANES, sums N";
+    "usage: mt_bench [t][n][ra]{load,iter,store_seq,store_rand,overwrite,erase} N, [t][n]a{alloc,ralloc,holes,churn} N, [n][ra]{nodes_seq,nodes_rand,check,dup,dup_most,image,read} N, [n][ra]{readers,conc,slowest} N READERS, [n][ra]lanes N LANES, sums N";
 
 /// The kinds of trees on which `sums` has all works done.
 const KINDS: [Kind; 4] = [Kind::Range, Kind::Alloc, Kind::Range32, Kind::Alloc32];

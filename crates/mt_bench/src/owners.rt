@@ -6,7 +6,8 @@ ghost use Rattle.mt_tree.specs.Trees.{IsPassOf};
 use crate::callers::{act, load, make, visit};
 use crate::trees::{Tree, Visit};
 use mt_base::{Call, Kind, Reply};
-use mt_tree::{Form, MOST_CALLS, Pass, Shape};
+use mt_image::read_image;
+use mt_tree::{Form, MOST_CALLS, MOST_ROWS, Pass, Shape};
 use std::alloc::Global;
 use std::io;
 use std::io::ErrorKind;
@@ -60,6 +61,26 @@ impl<'a, R: Wait> Owner<'a, R> {
             Ok((tree, passes)) => Owner::of(self.rt, tree, passes),
             Err(_) => None,
         }
+    }
+}
+
+impl<'a, R: Wait> Owner<'a, R> {
+    /// An image of the tree, or none where there was no room.
+    pub fn image(&mut self, alloc: Global) -> Option<Vec<u8>> {
+        self.tree.image(self.rt, alloc, &mut self.pass).ok()
+    }
+
+    /// A tree of the map of an image, or none where the bytes are none or there was no room.
+    pub fn read(&self, alloc: Global, image: &[u8]) -> Option<Self> {
+        let (kind, mut rows) = read_image(alloc, image).ok()?;
+        let shape = Shape {
+            kind,
+            rows: MOST_ROWS,
+            passes: 1,
+            calls: MOST_CALLS,
+        };
+        let (tree, passes) = mt_tree::Tree::of_rows(alloc, shape, kind, &mut rows).ok()?;
+        Owner::of(self.rt, tree, passes)
     }
 }
 

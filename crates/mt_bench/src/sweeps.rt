@@ -8,6 +8,7 @@ use crate::rounds::rounds_for;
 use crate::timed::nanos_of;
 use crate::works::store_all;
 use mt_base::{Kind, MOST_ROWS};
+use mt_image::read_image;
 use std::alloc::Global;
 use std::io;
 use std::rt::Clock;
@@ -68,6 +69,33 @@ fn dup_time<R: Wait + Clock>(
     Ok(copy.is_some().then_some(took))
 }
 
+/// The nanoseconds in which an image is written, or none where there was no memory.
+fn image_time<R: Wait + Clock>(
+    rt: &R,
+    alloc: Global,
+    owner: &mut Owner<'_, R>,
+) -> io::Result<Option<u64>> {
+    let start = Instant::now(rt)?;
+    let image = owner.image(alloc);
+    let took = nanos_of(&start.elapsed(rt)?);
+    Ok(image.is_some().then_some(took))
+}
+
+/// The nanoseconds in which an image is read, without those in which it is written, or none where there was no memory.
+fn read_time<R: Wait + Clock>(
+    rt: &R,
+    alloc: Global,
+    owner: &mut Owner<'_, R>,
+) -> io::Result<Option<u64>> {
+    let Some(image) = owner.image(alloc) else {
+        return Ok(None);
+    };
+    let start = Instant::now(rt)?;
+    let read = read_image(alloc, &image);
+    let took = nanos_of(&start.elapsed(rt)?);
+    Ok(read.is_ok().then_some(took))
+}
+
 /// The nanoseconds of a deed on a tree that has so many rows in use.
 fn time_once<R: Wait + Clock>(
     rt: &R,
@@ -79,6 +107,8 @@ fn time_once<R: Wait + Clock>(
     match deed {
         Deed::Check => check_time(rt, owner).map(Some),
         Deed::Dup(room) => dup_time(rt, alloc, owner, rows_for(room, used)),
+        Deed::Image => image_time(rt, alloc, owner),
+        Deed::Read => read_time(rt, alloc, owner),
     }
 }
 

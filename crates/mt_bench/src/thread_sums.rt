@@ -158,7 +158,15 @@ fn copy_visit<R: Wait>(alloc: Global, owner: &mut Owner<'_, R>, room: Room) -> O
     Some(copy.visit())
 }
 
-/// What a deed on a tree tells that has so many ranges: how many the check counts, or what the copy holds.
+/// What a tree holds that is made of the image of a tree.
+fn image_visit<R: Wait>(alloc: Global, owner: &mut Owner<'_, R>) -> Option<Visit> {
+    let image = owner.image(alloc)?;
+    let mut read = owner.read(alloc, &image)?;
+    Some(read.visit())
+}
+
+/// What a deed on a tree tells that has so many ranges: how many the check counts, or what the copy or the tree of its image
+/// holds.
 fn sweep_visit<R: Wait>(
     rt: &R,
     alloc: Global,
@@ -171,6 +179,7 @@ fn sweep_visit<R: Wait>(
     Ok(match sweep.deed {
         Deed::Check => Some(check_visit(&mut owner)),
         Deed::Dup(room) => copy_visit(alloc, &mut owner, room),
+        Deed::Image | Deed::Read => image_visit(alloc, &mut owner),
     })
 }
 
@@ -242,7 +251,7 @@ fn threads_of_lanes_agree<R: Threads + Wait + Clock + Print + Sync>(
     Ok(all_agree)
 }
 
-/// Prints what a check and the copies of a tree of this kind tell; whether all of it is as it is to be.
+/// Prints what a check, the copies and the images of a tree of this kind tell; whether all of it is as it is to be.
 fn sweeps_agree<R: Wait + Print>(
     rt: &R,
     alloc: Global,
@@ -250,7 +259,12 @@ fn sweeps_agree<R: Wait + Print>(
     ranges: u32,
 ) -> io::Result<bool> {
     let mut all_agree = true;
-    for deed in [Deed::Check, Deed::Dup(Room::Fitting), Deed::Dup(Room::Most)] {
+    for deed in [
+        Deed::Check,
+        Deed::Dup(Room::Fitting),
+        Deed::Dup(Room::Most),
+        Deed::Image,
+    ] {
         all_agree &= sweep_agrees(rt, alloc, Sweep { kind, deed }, ranges)?;
     }
     Ok(all_agree)

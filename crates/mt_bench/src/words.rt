@@ -99,6 +99,8 @@ fn deed_of(word: &str) -> Option<Deed> {
         "check" => Some(Deed::Check),
         "dup" => Some(Deed::Dup(Room::Fitting)),
         "dup_most" => Some(Deed::Dup(Room::Most)),
+        "image" => Some(Deed::Image),
+        "read" => Some(Deed::Read),
         _ => None,
     }
 }
