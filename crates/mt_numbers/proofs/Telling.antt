@@ -13,14 +13,11 @@ use Rattle.mt_base.specs.History.{AreLegalFrom, History, IsAnswered, IsLegal, Re
 use Rattle.mt_base.specs.Map.{holding}
 use Rattle.mt_base.specs.Nodes.{Limits}
 use Rattle.mt_base.specs.Passes.{Pass, Wrote, with_records}
+use Rattle.mt_tree.proofs.Allocations.{last_is_answered}
 use Rattle.mt_numbers.specs.Calls.{asking, lowest_free, start_of, was_there, TellsLowest, TellsTaken}
 use Rattle.mt_numbers.specs.declared.shared.TheConstants.{TAKEN}
 
 -- ---- the map before the last call
-
-last_is_answered : (h : History) (ended number : ℕ) (m : List Range) (records : List Record) (r : Record) → number ≡ ended + length records → AreLegalFrom h ended m (records ++ r ∷ []) → IsAnswered h.kind (limits_after h number) (fold (map_after h.kind) m records) r
-last_is_answered h ended number m [] r is legal = let same : ended ≡ number = omega arith in subst (λ (n : ℕ). IsAnswered h.kind (limits_after h n) m r) same legal.0
-last_is_answered h ended number m (s ∷ records) r is legal = last_is_answered h (ended + 1) number (map_after h.kind m s) records r (omega arith) legal.1
 
 -- a call that a pass made was answered by the map before it
 was_answered : (tree : History) (p q : Pass) (number : ℕ) (call : Call) (reply : Reply) → Wrote tree p number call reply q
