@@ -227,8 +227,14 @@ fn run<R: Threads + Wait + Sync, S: Source, O: Sink, G: Gate + Sync>(
     ensures out_in_time { O.faults out.old ≡ 0 → O.late out.old ≡ 0 → O.late out.new ≡ 0 }
 {
     match read_words(alloc, words)? {
-        Some(Command::Replay { rows }) =>
-            answer(rt, alloc, &Command::Replay { rows }, src, out, gate),
+        Some(Command::Replay { rows }) => answer(
+            rt,
+            alloc,
+            &Command::Replay { rows },
+            src,
+            out,
+            gate,
+        ),
         Some(
             Command::Make {
                 number,
@@ -237,10 +243,22 @@ fn run<R: Threads + Wait + Sync, S: Source, O: Sink, G: Gate + Sync>(
             },
         ) => make(alloc, number, steps, lanes, out),
         Some(Command::Trial { number, steps }) => trial(rt, alloc, number, steps, out, gate),
-        Some(Command::Verify { rows }) =>
-            answer(rt, alloc, &Command::Verify { rows }, src, out, gate),
-        Some(Command::Image { rows }) =>
-            answer(rt, alloc, &Command::Image { rows }, src, out, gate),
+        Some(Command::Verify { rows }) => answer(
+            rt,
+            alloc,
+            &Command::Verify { rows },
+            src,
+            out,
+            gate,
+        ),
+        Some(Command::Image { rows }) => answer(
+            rt,
+            alloc,
+            &Command::Image { rows },
+            src,
+            out,
+            gate,
+        ),
         Some(Command::Show) => answer(rt, alloc, &Command::Show, src, out, gate),
         None => Err(Failure::Usage),
     }

@@ -369,14 +369,7 @@ fn an_input_is_read_no_further_than_one_byte_too_many(rt: HostRuntime) -> Result
             0,
             "mtreplay: image refused: head 0\n",
         ),
-        (
-            "show",
-            1025,
-            67_108_865,
-            6,
-            0,
-            "mtreplay: input too long\n",
-        ),
+        ("show", 1025, 67_108_865, 6, 0, "mtreplay: input too long\n"),
     ];
     for (word, reads, len, status, left, told) in rows {
         let bytes = vec![in rt.alloc(); b'#'; len]?;

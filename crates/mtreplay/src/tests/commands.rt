@@ -40,7 +40,12 @@ fn a_tree_has_as_many_rows_as_the_words_say(rt: HostRuntime) -> Result<(), Fail>
         let text = printed(&rt, words, log.as_bytes())?;
         assert_eq!(rt; text.as_slice(), want.as_bytes());
     }
-    expect_verified(&rt, &["verify", "--rows", "4"], log.as_bytes(), want.as_bytes())
+    expect_verified(
+        &rt,
+        &["verify", "--rows", "4"],
+        log.as_bytes(),
+        want.as_bytes(),
+    )
 }
 
 #[test]

@@ -59,7 +59,12 @@ fn expect_short<R: Threads + Wait + Sync + AllocGlobal + Abort>(
     let text = text_in_rows(rt, rt.alloc(), log.as_str(), rows)?;
     assert_eq!(rt; text.as_slice(), want.as_bytes(), "{kind} {rows}");
     let words = format!(in rt.alloc(); "{rows}")?;
-    expect_verified(rt, &["verify", "--rows", words.as_str()], log.as_bytes(), &text)
+    expect_verified(
+        rt,
+        &["verify", "--rows", words.as_str()],
+        log.as_bytes(),
+        &text,
+    )
 }
 
 #[test]
