@@ -79,8 +79,10 @@ impl<'a, R: Wait> Owner<'a, R> {
             passes: 1,
             calls: MOST_CALLS,
         };
-        let (tree, passes) = mt_tree::Tree::of_rows(alloc, shape, kind, &mut rows).ok()?;
-        Owner::of(self.rt, tree, passes)
+        match mt_tree::Tree::of_rows(alloc, shape, kind, &mut rows) {
+            Ok((tree, passes)) => Owner::of(self.rt, tree, passes),
+            Err(_) => None,
+        }
     }
 }
 

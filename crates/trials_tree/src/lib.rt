@@ -4,8 +4,6 @@
 #[cfg(test)]
 mod asserts;
 #[cfg(test)]
-mod cyclic;
-#[cfg(test)]
 mod errors;
 #[cfg(test)]
 mod example;
