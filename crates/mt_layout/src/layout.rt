@@ -1,4 +1,4 @@
-ghost use Rattle.std.specs.Prelude.{◌≡◌, ◌≢◌, ℕ, ◌+◌, ◌<◌, length, nat_lt, slice_index, if◌then◌else◌};
+ghost use Rattle.std.specs.Prelude.{◌≡◌, ◌≢◌, ℕ, ◌+◌, ◌<◌, ◌≤◌, length, nat_lt, slice_index, if◌then◌else◌};
 ghost use Rattle.mt_layout.specs.Columns.{IsLayout, FitRow, pivot_column, slot_column, gap_column, item_at, items_at, row_words, end_of};
 
 use crate::items::Item;
@@ -60,9 +60,9 @@ impl<const SLOTS: usize, const GAPS: usize> Layout<SLOTS, GAPS> {
     /// Writes the words of a row with these items and this parent word, each once. What is unused is 0.
     pub fn words_of(items: &[Item], parent: u64, words: &mut [u64])
         requires layout { IsLayout (length words.old) SLOTS GAPS }
-        requires fit { FitRow SLOTS GAPS items.now }
+        requires fit { length items.now ≤ SLOTS }
         ensures words { words.new ≡ row_words (length words.old) SLOTS GAPS parent items.now }
-        ensures read_back { items_at SLOTS GAPS words.new 0 (end_of 0 items.now) ≡ items.now }
+        ensures read_back { FitRow SLOTS GAPS items.now → items_at SLOTS GAPS words.new 0 (end_of 0 items.now) ≡ items.now }
     {
         words[column!(parent)] = parent;
         for i in 0..SLOTS {

@@ -1,8 +1,8 @@
 //! How large rows are.
 
-ghost use Rattle.std.specs.Prelude.{◌≡◌, length};
+ghost use Rattle.std.specs.Prelude.{◌≡◌, ◌≤◌, length};
 ghost use Rattle.mt_base.specs.Width.{columns};
-ghost use Rattle.mt_layout.specs.Columns.{IsLayout, FitRow, items_at, row_words};
+ghost use Rattle.mt_layout.specs.Columns.{IsLayout, items_at, row_words};
 ghost use Rattle.mt_layout.specs.Sizes.{slots_of, gaps_of, least_items};
 
 use crate::items::Item;
@@ -88,7 +88,7 @@ pub fn items_of(width: Width, kind: RowKind, words: &[u64], max: u64) -> ArrayVe
 /// Writes the words of a row of this width and kind with these items and this parent word. What is unused is 0.
 pub fn words_of(width: Width, kind: RowKind, items: &[Item], parent: u64, words: &mut [u64])
     requires words { length words.old ≡ columns width }
-    requires fit { FitRow (slots_of width kind) (gaps_of width kind) items.now }
+    requires fit { length items.now ≤ slots_of width kind }
     ensures { words.new ≡ row_words (length words.old) (slots_of width kind) (gaps_of width kind) parent items.now }
 {
     match (width, kind) {

@@ -154,6 +154,13 @@ impl<'a, W: Writer> Rows for PenRows<'a, W> {
         self.table.draft(&mut self.pen, row, col, word);
     }
 
+    fn draft_row(&mut self, row: u32, words: &[u64]) {
+        self.draft(row, 0, words[0]);
+        for col in 1..words.len() {
+            self.draft(row, col as u32, words[col]);
+        }
+    }
+
     fn bury(&mut self, row: u32) {
         self.table.bury(&mut self.pen, row);
     }

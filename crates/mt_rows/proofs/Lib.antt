@@ -1,5 +1,6 @@
 mod ZeroWords
 pub mod Between
+pub mod ColumnByColumn
 pub mod Deeper
 pub mod Depth
 pub mod ExactStore

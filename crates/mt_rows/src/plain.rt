@@ -277,8 +277,8 @@ impl PlainRows {
         Ok(made)
     }
 
-    /// Puts words over all rows of a new table, and a root word.
-    fn put_words(&mut self, width: Width, root: u64, words: &[u64])
+    /// Puts words over all rows of a new table, and a root word. Where the words are lawful, the rows that are reached are live.
+    pub fn put_words(&mut self, width: Width, root: u64, words: &[u64])
         requires whole { length words.now % columns width ≡ 0 }
         requires new { sheet_in self.old ≡ new_sheet width (length words.now / columns width) }
         ensures { IsMadeOf width root words.now (sheet_in self.new) }
@@ -416,6 +416,10 @@ impl Rows for PlainRows {
         let at = self.state.width.place_of(row, col);
         self.state.words.set(at, word);
         self.state.fates[row as usize] = Fate::Draft;
+    }
+
+    fn draft_row(&mut self, row: u32, words: &[u64]) {
+        self.draft_columns(row, 0, words);
     }
 
     fn bury(&mut self, row: u32) {

@@ -3,7 +3,7 @@
 ghost use Rattle.std.specs.Prelude.{◌≡◌};
 ghost use Rattle.mt_rows.specs.Sheet.{one_more};
 
-use std::marker::Model;
+use std::marker::{Model, Send};
 use std::mem;
 use std::snapshot::Snapshot;
 
@@ -47,3 +47,6 @@ impl Reads {
         self.chain = Snapshot::of(&Chain::Longer(before));
     }
 }
+
+/// Reads own nothing that a thread could share.
+unsafe impl Send for Reads {}

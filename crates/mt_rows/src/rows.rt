@@ -1,5 +1,7 @@
-ghost use Rattle.std.specs.Prelude.{◌≡◌, ◌≤◌, ◌+◌, min};
+ghost use Rattle.std.specs.Prelude.{◌≡◌, ◌≤◌, ◌+◌, length, min};
 ghost use Rattle.mt_base.specs.declared.kinds.Kind.{Kind};
+ghost use Rattle.mt_base.specs.Width.{columns};
+ghost use Rattle.mt_rows.specs.Drafts.{AreDrafted};
 ghost use Rattle.mt_rows.specs.Publish.{MayPublish, Published, MayFinish, finished};
 ghost use Rattle.mt_rows.specs.Sheet.{Sheet, IsWhole, IsPlace, word_at, loaded, MayBegin, begun, IsScan, scanned, IsFree, life_of, drafted, MayBury, after_bury, MayTend, tended};
 
@@ -75,6 +77,13 @@ pub trait Rows {
         requires place { IsPlace (sheet self.old).tree row col }
         requires free { IsFree (sheet self.old).cleared (life_of (sheet self.old).lives row) }
         ensures { sheet self.new ≡ drafted (sheet self.old) row col word };
+
+    /// Writes all columns of a row that may be written anew. The row is then a draft.
+    fn draft_row(&mut self, row: u32, words: &[u64])
+        requires place { IsPlace (sheet self.old).tree row 0 }
+        requires columns { length words.now ≡ columns (sheet self.old).tree.table.width }
+        requires free { IsFree (sheet self.old).cleared (life_of (sheet self.old).lives row) }
+        ensures { AreDrafted row 0 words.now (sheet self.old) (sheet self.new) };
 
     /// Stores the dead mark of a live row that the call in flight replaces.
     fn bury(&mut self, row: u32)

@@ -1,12 +1,11 @@
 -- A row written anew, and the items of a row read.
 -- Source: the kernel's lib/maple_tree.c, mab_mas_cp and mas_mab_cp: a node's slots are copied out and written into a new node.
-use Rattle.std.specs.Prelude.{◌≡◌, ◌≢◌, ℕ, ◌+◌, ◌-◌, ◌*◌, ◌<◌, ◌≤◌, false, Some, List, [], ◌∷◌, ◌++◌, length, take, drop, slice_index, slice_set}
-use Rattle.mt_base.specs.declared.widths.Width.{Width}
+use Rattle.std.specs.Prelude.{◌≡◌, ◌≢◌, ℕ, ◌+◌, ◌-◌, ◌<◌, ◌≤◌, false, Some, List, [], ◌∷◌, ◌++◌, length, take, drop, slice_index, slice_set}
 use Rattle.mt_base.specs.Width.{columns, first_row}
 use Rattle.mt_layout.specs.declared.items.Item.{Item}
 use Rattle.mt_layout.specs.declared.names.RowKind.{RowKind}
 use Rattle.mt_layout.specs.Rows.{name_at, row_in, named_row, parent_at}
-use Rattle.mt_layout.specs.Columns.{row_words, items_at, pivot_column, slot_column, gap_column}
+use Rattle.mt_layout.specs.Columns.{row_words, items_at, slot_column}
 use Rattle.mt_free.specs.Book.{Book}
 use Rattle.mt_rows.specs.declared.rows.Life.TheVariants.{Draft, Live}
 use Rattle.mt_rows.specs.Spans.{Table, base_of, column}
@@ -23,28 +22,6 @@ pub record OnlyDrafts (s s' : Sheet) (row : ℕ) : Type 0 where
   pub size : length s'.tree.table.words ≡ length s.tree.table.words
   pub lives : s'.lives ≡ slice_set s.lives row Draft
   pub others : (r c : ℕ) → r ≢ row → c < columns s.tree.table.width → column s'.tree.table r c ≡ column s.tree.table r c
-
--- An item was written into a slot: into the columns of its pivot, its word and its gap, as far as the row has these.
-pub record IsItemPut (width : Width) (t t' : Table) (row : ℕ) (kind : RowKind) (slot : ℕ) (item : Item) : Type 0 where
-  pub pivot : slot + 1 < slots_of width kind → column t' row (pivot_column slot) ≡ item.last
-  pub word : column t' row (slot_column (slots_of width kind) slot) ≡ item.word
-  pub gap : 0 < gaps_of width kind → column t' row (gap_column (slots_of width kind) slot) ≡ item.gap
-  pub kept : (c : ℕ) → (slot + 1 < slots_of width kind → c ≢ pivot_column slot) → c ≢ slot_column (slots_of width kind) slot → (0 < gaps_of width kind → c ≢ gap_column (slots_of width kind) slot)
-      → column t' row c ≡ column t row c
-
-pub record IsItemDrafted (s s' : Sheet) (row : ℕ) (kind : RowKind) (slot : ℕ) (item : Item) : Type 0 where
-  pub only : OnlyDrafts s s' row
-  pub put : IsItemPut s.tree.table.width s.tree.table s'.tree.table row kind slot item
-
--- how many columns of a row its parent word and its items use
-abbrev pub used_columns : Width → RowKind → ℕ
-used_columns width kind = 2 * slots_of width kind + gaps_of width kind
-
--- Zeros were written into the columns that no item uses.
-pub record IsRestDrafted (s s' : Sheet) (row : ℕ) (kind : RowKind) : Type 0 where
-  pub only : OnlyDrafts s s' row
-  pub zeros : (c : ℕ) → used_columns s.tree.table.width kind ≤ c → c < columns s.tree.table.width → column s'.tree.table row c ≡ 0
-  pub kept : (c : ℕ) → c < used_columns s.tree.table.width kind → column s'.tree.table row c ≡ column s.tree.table row c
 
 -- the parent word of a row that has no parent yet: the root's
 abbrev pub no_parent : ℕ

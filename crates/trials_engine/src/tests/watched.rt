@@ -87,6 +87,10 @@ impl Rows for Watched {
         self.rows.draft(row, col, word);
     }
 
+    fn draft_row(&mut self, row: u32, words: &[u64]) {
+        self.rows.draft_row(row, words);
+    }
+
     fn bury(&mut self, row: u32) {
         self.rows.bury(row);
     }

@@ -10,9 +10,9 @@ returns g c =
     let room : 2 * g.row.SLOTS + g.row.GAPS ≤ all = slots-fit all g.row.SLOTS g.row.GAPS c.requires.layout in
     let long : length c.loop-i.words ≡ all = omega (arith, length-set {A = ℕ}) in
     let zeros : c.fill.new.self ≡ replicate {A = ℕ} (all - (2 * g.row.SLOTS + g.row.GAPS)) 0 = search rules in
-    let words = all_written all g.row.SLOTS g.row.GAPS c.args.parent c.args.items.now c.requires.layout c.requires.fit.fit c.loop-i.words c.fill.new.self c.loop-i.i long room c.loop-i-test.false c.loop-i.invariant zeros in
+    let words = all_written all g.row.SLOTS g.row.GAPS c.args.parent c.args.items.now c.requires.layout c.requires.fit c.loop-i.words c.fill.new.self c.loop-i.i long room c.loop-i-test.false c.loop-i.invariant zeros in
     record {
       words = words;
-      read_back = rw words (reads_back g.row.SLOTS g.row.GAPS _ 0 c.args.items.now c.requires.fit.fit c.requires.fit.rise
-          (row_words-hold all g.row.SLOTS g.row.GAPS c.args.parent c.args.items.now c.requires.layout c.requires.fit) c.requires.fit.some);
+      read_back = λ fits. rw words (reads_back g.row.SLOTS g.row.GAPS _ 0 c.args.items.now fits.fit fits.rise
+          (row_words-hold all g.row.SLOTS g.row.GAPS c.args.parent c.args.items.now c.requires.layout fits) fits.some);
     }
