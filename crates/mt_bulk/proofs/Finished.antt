@@ -8,11 +8,8 @@ use Rattle.mt_base.specs.declared.widths.Width.TheVariants.{Long, Short}
 use Rattle.mt_base.specs.Call.{finds_room}
 use Rattle.mt_base.specs.Width.{columns, first_row, greatest_of, kind_width, most_rows}
 use Rattle.mt_layout.specs.Spans.{spans_from, Apart}
-use Rattle.std.specs.Prelude.{Result, Ok, Err, IfOk}
-use Rattle.mt_base.specs.declared.memory.NoMemory.{NoMemory}
-use Rattle.mt_rows.specs.declared.plain.PlainRows.{PlainRows}
-use Rattle.mt_rows.specs.Memory.{sheet_in}
 use Rattle.mt_rows.specs.OfWords.{IsMadeOf, tree_made}
+use Rattle.mt_rows.specs.Plain.{new_sheet}
 use Rattle.mt_rows.specs.Publish.{IsLawfulOf, map_by}
 use Rattle.mt_rows.specs.Sheet.{Rooted, Sheet}
 use Rattle.mt_bulk.specs.declared.errors.BulkError.{BulkError}
@@ -116,7 +113,17 @@ pub refused_rows : (kind : Kind) (ranges : List Range) (rows : ℕ) (e : BulkErr
 unfolding refusal
 refused_rows kind ranges rows e good is many = (λ i. refused_by (good i) (is i)) ∙ many
 
-pub built_result : (l : Leaves) (r : Result PlainRows NoMemory) (W : Width) (root : ℕ) (words : List ℕ) → AreLeaves l → W ≡ kind_width l.kind → root ≡ (bulk l.kind l.ranges.now).root → words ≡ (bulk l.kind l.ranges.now).words
-    → IfOk r (λ p. IsMadeOf W root words (sheet_in p)) → IfOk r (λ p. IsBuilt l.kind l.ranges.now (sheet_in p))
-built_result l (Ok p) W root words are width_is root_is words_is made = leaves_built l (sheet_in p) root words are root_is words_is (subst (λ (w : Width). IsMadeOf w root words (sheet_in p)) width_is made)
-built_result l (Err e) W root words are width_is root_is words_is made = made
+-- ---- the table
+
+-- a table that was made for so many rows is one for these words
+pub table_for : (l : Leaves) (W : Width) (words : List ℕ) (s : Sheet) → AreLeaves l → W ≡ kind_width l.kind → words ≡ (bulk l.kind l.ranges.now).words → s ≡ new_sheet (kind_width l.kind) l.rows
+    → (length words % columns W ≡ 0) × (s ≡ new_sheet W (length words / columns W))
+table_for l W words s are width_is words_is made = subst (λ (w : Width). (length words % columns w ≡ 0) × (s ≡ new_sheet w (length words / columns w))) (sym width_is) (
+    let long = ap length words_is ∙ are.even in
+    let whole = (words_whole l words are words_is).0 in
+    let count = ap (λ (n : ℕ). n / columns (kind_width l.kind)) long ∙ whole_quotient (kind_width l.kind) l.rows in
+    (whole, made ∙ ap (new_sheet (kind_width l.kind)) (sym count)))
+
+pub built_in : (l : Leaves) (W : Width) (root : ℕ) (words : List ℕ) (s : Sheet) → AreLeaves l → W ≡ kind_width l.kind → root ≡ (bulk l.kind l.ranges.now).root → words ≡ (bulk l.kind l.ranges.now).words
+    → IsMadeOf W root words s → IsBuilt l.kind l.ranges.now s
+built_in l W root words s are width_is root_is words_is made = leaves_built l s root words are root_is words_is (subst (λ (w : Width). IsMadeOf w root words s) width_is made)

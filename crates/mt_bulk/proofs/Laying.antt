@@ -1,7 +1,8 @@
 -- The lanes of the workers: all leaves are laid on them, one chunk behind another, and what they make is that of all leaves.
-use Rattle.std.proofs.Common.{◌≡◌, ℕ, zero, suc, ◌+◌, ◌-◌, ◌*◌, ◌≤◌, List, [], ◌∷◌, ◌++◌, length, take, drop, refl, sym, ap, ◌∙◌, subst, arith, add-zero}
-use Rattle.std.specs.Prelude.{All, vec_len, vec_capacity}
+use Rattle.std.proofs.Common.{◌≡◌, ℕ, zero, suc, ◌+◌, ◌-◌, ◌*◌, ◌≤◌, ◌==◌, List, [], ◌∷◌, ◌++◌, length, take, drop, refl, sym, ap, ◌∙◌, subst, inl, inr, arith, add-zero, length-append}
+use Rattle.std.specs.Prelude.{◌<◌, All, slice_index_or, vec_len, vec_capacity}
 use Rattle.std.specs.List.{flat_map}
+use Rattle.std.proofs.lemmas.Bool.{cases_Bool, eqb-true, eqb-false}
 use Rattle.std.proofs.lemmas.List.{take_all}
 use Rattle.std.proofs.lemmas.List.Elements.{All-nil, All-cons}
 use Rattle.mt_base.specs.declared.widths.Width.{Width}
@@ -12,11 +13,12 @@ use Rattle.mt_layout.specs.declared.items.Item.{Item}
 use Rattle.mt_lanes.specs.declared.lanes.Lane.{Lane}
 use Rattle.mt_lanes.specs.Lanes.{CanRun, Chain, EachPlace, Ran}
 use Rattle.mt_bulk.specs.declared.desks.LeafDesk.{LeafDesk}
-use Rattle.mt_bulk.specs.Bulk.{heads, words_of}
+use Rattle.mt_bulk.specs.Bulk.{Built, heads, words_of}
 use Rattle.mt_bulk.specs.declared.leaves.Leaves.{Leaves}
-use Rattle.mt_bulk.specs.Builds.{AreLaid, AreLeaves, IsLaid, whole_of}
+use Rattle.mt_bulk.specs.Builds.{AreLaid, AreLeaves, AreNumbered, FirstHasRoom, IsLaid, above_leaves, heads_made, whole_of, words_made, words_room}
 use Rattle.mt_bulk.specs.Chunks.{AreRows, ChunkView, HasFilled, IsReady, begins_at, heads_in, part_of, rows_between, view_of, words_in}
 use Rattle.mt_bulk.proofs.Chunking.{heads_parts, length_part, part_rows, words_parts}
+use Rattle.mt_bulk.proofs.Leveling.{length_heads_in}
 
 pub laid_more : (whole : ChunkView) (from middle to : ℕ) (lanes : List (Lane LeafDesk)) (lane : Lane LeafDesk) → AreLaid whole from middle lanes → middle ≤ to → IsLaid whole middle to lane → AreLaid whole from to (lanes ++ lane ∷ [])
 laid_more whole from middle to [] lane before order laid = (to, omega arith, subst (λ (n : ℕ). IsLaid whole n to lane) (sym before) laid, refl)
@@ -34,7 +36,7 @@ abbrev pub Awaits : LeafDesk → ℕ → Type 0
 Awaits d s = IsReady (view_of d.chunk) (vec_len d.words) (vec_capacity d.words) (vec_len d.heads) (vec_capacity d.heads)
 
 abbrev pub Did : LeafDesk → ℕ → LeafDesk → Type 0
-Did a s b = HasFilled (view_of a.chunk) a.words.items b.words.items a.heads.items b.heads.items
+Did a s b = HasFilled (view_of a.chunk) a.words.items b.words.items a.heads.items b.heads.items × (vec_capacity a.words ≤ vec_capacity b.words) × (vec_capacity a.heads ≤ vec_capacity b.heads)
 
 pub laid_can_run : (whole : ChunkView) (from to : ℕ) (lanes : List (Lane LeafDesk)) → AreLaid whole from to lanes → All (CanRun (λ (d : LeafDesk). 1) Awaits) lanes
 laid_can_run whole from to [] laid = All-nil (CanRun (λ (d : LeafDesk). 1) Awaits)
@@ -46,12 +48,6 @@ one_step_done : (n : ℕ) (a b : LeafDesk) → n ≡ 1 → Chain Did n a b → D
 one_step_done zero a b one chain = absurd (omega arith)
 one_step_done (suc zero) a b one chain = subst (λ (d : LeafDesk). Did d 0 b) chain.1 chain.2
 one_step_done (suc (suc n)) a b one chain = absurd (omega arith)
-
-abbrev pub words_made : List (Lane LeafDesk) → List ℕ
-words_made lanes = flat_map (λ l. l.desk.words.items) lanes
-
-abbrev pub heads_made : List (Lane LeafDesk) → List Item
-heads_made lanes = flat_map (λ l. l.desk.heads.items) lanes
 
 no_words_left : (whole : ChunkView) (from to : ℕ) → from ≡ to → [] ≡ words_in (part_of whole from to)
 no_words_left whole from to same = let none : 0 ≡ to - from = omega arith in ap (λ (n : ℕ). words_of (kind_width whole.tree) whole.kind (take n (drop from whole.parents)) (rows_between whole.items (part_of whole from to).from (take (to - from) (drop from whole.ends)))) none
@@ -70,7 +66,7 @@ module _ (whole : ChunkView) (can : AreRows whole) (start : whole.from ≡ 0) (p
       let high = laid_order whole middle to xs laid.3 in
       let ran = each 0 x (omega arith) in
       let done = one_step_done x.steps x.desk y.desk laid.2.steps ran.desk in
-      let own : y.desk.words.items ≡ words_in (part_of whole from middle) = done.words ∙ (ap (λ (l : List ℕ). l ++ words_in (view_of x.desk.chunk)) laid.2.words ∙ ap words_in laid.2.chunk) in
+      let own : y.desk.words.items ≡ words_in (part_of whole from middle) = done.0.words ∙ (ap (λ (l : List ℕ). l ++ words_in (view_of x.desk.chunk)) laid.2.words ∙ ap words_in laid.2.chunk) in
       let behind = laid_words middle to xs ys inside laid.3 (omega arith) (λ place none within. each (suc place) none (omega arith)) in
       (λ i. own i ++ behind i) ∙ sym (words_parts whole can start from middle to low high inside)
 
@@ -84,7 +80,7 @@ module _ (whole : ChunkView) (can : AreRows whole) (start : whole.from ≡ 0) (p
       let high = laid_order whole middle to xs laid.3 in
       let ran = each 0 x (omega arith) in
       let done = one_step_done x.steps x.desk y.desk laid.2.steps ran.desk in
-      let own : y.desk.heads.items ≡ heads_in (part_of whole from middle) = done.above ∙ (ap (λ (l : List Item). l ++ heads_in (view_of x.desk.chunk)) laid.2.heads ∙ ap heads_in laid.2.chunk) in
+      let own : y.desk.heads.items ≡ heads_in (part_of whole from middle) = done.0.above ∙ (ap (λ (l : List Item). l ++ heads_in (view_of x.desk.chunk)) laid.2.heads ∙ ap heads_in laid.2.chunk) in
       let behind = laid_heads middle to xs ys inside laid.3 (omega arith) (λ place none within. each (suc place) none (omega arith)) in
       (λ i. own i ++ behind i) ∙ sym (heads_parts whole can start from middle to low high inside)
 
@@ -116,3 +112,101 @@ part_ready l from to used room heads heads_room are order inside for_words for_h
 pub columns_grow : (width : Width) (a b : ℕ) → a ≤ b → columns width * a ≤ columns width * b
 columns_grow Long a b low = omega arith
 columns_grow Short a b low = omega arith
+
+-- ---- room
+
+pub first_room : (words heads : ℕ) (lanes : List (Lane LeafDesk)) (lane : Lane LeafDesk) → FirstHasRoom words heads lanes → (length lanes ≡ 0 → FirstHasRoom words heads (lane ∷ [])) → FirstHasRoom words heads (lanes ++ lane ∷ [])
+first_room words heads [] lane before alone = alone refl
+first_room words heads (x ∷ lanes) lane before alone = before
+
+-- the first lane has as much room as before
+pub room_kept : (whole : ChunkView) (passed : ℕ → ℕ → Type 0) (from to words heads : ℕ) (xs ys : List (Lane LeafDesk)) → AreLaid whole from to xs → length ys ≡ length xs → EachPlace (Ran Did passed) xs ys → FirstHasRoom words heads xs → FirstHasRoom words heads ys
+room_kept whole passed from to words heads [] [] laid same each room = tt
+room_kept whole passed from to words heads [] (y ∷ ys) laid same each room = absurd (omega arith)
+room_kept whole passed from to words heads (x ∷ xs) [] laid same each room = absurd (omega arith)
+room_kept whole passed from to words heads (x ∷ xs) (y ∷ ys) laid same each room =
+    let done = one_step_done x.steps x.desk y.desk laid.2.steps (each 0 x (omega arith)).desk in
+    let more_words = done.1 in
+    let more_heads = done.2 in
+    let for_words = room.0 in
+    let for_heads = room.1 in
+    (omega arith, omega arith)
+
+pub less_room : (words heads words' heads' : ℕ) (lanes : List (Lane LeafDesk)) → words ≤ words' → heads ≤ heads' → FirstHasRoom words' heads' lanes → FirstHasRoom words heads lanes
+less_room words heads words' heads' [] less_words less_heads room = tt
+less_room words heads words' heads' (x ∷ lanes) less_words less_heads room =
+    let for_words = room.0 in
+    let for_heads = room.1 in
+    (omega arith, omega arith)
+
+-- what the others made fits behind what the first did
+pub room_behind : (lanes others : List (Lane LeafDesk)) (x : Lane LeafDesk) → lanes ≡ x ∷ others → FirstHasRoom (length (words_made lanes)) (length (heads_made lanes)) lanes
+    → (length x.desk.words.items + length (words_made others) ≤ vec_capacity x.desk.words) × (length x.desk.heads.items + length (heads_made others) ≤ vec_capacity x.desk.heads)
+room_behind lanes others x is room =
+    let both = subst (λ (ls : List (Lane LeafDesk)). FirstHasRoom (length (words_made ls)) (length (heads_made ls)) ls) is room in
+    let for_words = both.0 in
+    let for_heads = both.1 in
+    (omega (arith, for_words, length-append x.desk.words.items (words_made others)), omega (arith, for_heads, length-append x.desk.heads.items (heads_made others)))
+
+pub first_has : (lanes others : List (Lane LeafDesk)) (x : Lane LeafDesk) (words heads : ℕ) → lanes ≡ x ∷ others → FirstHasRoom words heads lanes → words ≤ vec_capacity x.desk.words
+first_has lanes others x words heads is room = (subst (FirstHasRoom words heads) is room).0
+
+-- what one of them makes fits where all of it does
+pub fits_in : {A : Type 0} → (f : Lane LeafDesk → List A) (lanes : List (Lane LeafDesk)) (at : ℕ) (none : Lane LeafDesk) → at < length lanes → length (flat_map f (take at lanes)) + length (f (slice_index_or lanes at none)) ≤ length (flat_map f lanes)
+fits_in f [] at none within = absurd (omega arith)
+fits_in f (x ∷ lanes) zero none within = omega (arith, length-append (f x) (flat_map f lanes))
+fits_in f (x ∷ lanes) (suc at) none within = omega (arith, length-append (f x) (flat_map f lanes), length-append (f x) (flat_map f (take at lanes)), fits_in f lanes at none (omega arith))
+
+-- ---- turns
+
+pub numbered_more : (first : ℕ) (lanes : List (Lane LeafDesk)) (lane : Lane LeafDesk) → AreNumbered first lanes → lane.lane ≡ first + length lanes → AreNumbered first (lanes ++ lane ∷ [])
+numbered_more first [] lane numbered is = (is ∙ add-zero first, tt)
+numbered_more first (x ∷ lanes) lane numbered is = (numbered.0, numbered_more (first + 1) lanes lane numbered.1 (omega arith))
+
+pub took_turns : (whole : ChunkView) (passed : ℕ → ℕ → Type 0) (first from to : ℕ) (xs ys : List (Lane LeafDesk)) → AreLaid whole from to xs → AreNumbered first xs → EachPlace (Ran Did passed) xs ys
+    → (at turn : ℕ) → at < length xs → turn < 2 → passed (first + at) turn
+took_turns whole passed first from to [] ys laid numbered each at turn within two = absurd (omega arith)
+took_turns whole passed first from to (x ∷ xs) ys laid numbered each zero turn within two =
+    let steps = laid.2.steps in
+    let ran = each 0 x (omega arith) in
+    subst (λ (n : ℕ). passed n turn) (numbered.0 ∙ sym (add-zero first)) (ran.turns turn (omega arith))
+took_turns whole passed first from to (x ∷ xs) [] laid numbered each (suc at) turn within two =
+    let place : first + 1 + at ≡ first + suc at = omega arith in
+    subst (λ (n : ℕ). passed n turn) place (took_turns whole passed (first + 1) laid.0 to xs [] laid.3 numbered.1 (λ p none low. each (suc p) none (omega arith)) at turn (omega arith) two)
+took_turns whole passed first from to (x ∷ xs) (y ∷ ys) laid numbered each (suc at) turn within two =
+    let place : first + 1 + at ≡ first + suc at = omega arith in
+    subst (λ (n : ℕ). passed n turn) place (took_turns whole passed (first + 1) laid.0 to xs ys laid.3 numbered.1 (λ p none low. each (suc p) none (omega arith)) at turn (omega arith) two)
+
+-- ---- all leaves
+
+pub all_words : (l : Leaves) → AreLeaves l → length (words_in (whole_of l)) ≤ words_room l
+all_words l are = elim (cases_Bool (length l.ends.items == 1)) [
+  | inl one ↦ let is = ap (λ (b : Built). length b.words) (are.alone (eqb-true (length l.ends.items) 1 one)) in omega (arith, is, are.even)
+  | inr more ↦
+      let above = above_leaves l.kind l.items.items l.ends.items l.parents.items in
+      let is = ap (λ (b : Built). length b.words) (are.several (eqb-false (length l.ends.items) 1 more)) in
+      omega (arith, is, are.even, length-append (words_in (whole_of l)) above.words)
+]
+
+-- what was made at the desks of all lanes is that of all leaves, and the first lane has room for it
+pub record AllMade (l : Leaves) (lanes : List (Lane LeafDesk)) : Type 0 where
+  pub words : words_made lanes ≡ words_in (whole_of l)
+  pub heads : heads_made lanes ≡ heads_in (whole_of l)
+  pub room : FirstHasRoom (words_room l) (length l.ends.items) lanes
+  pub fits : FirstHasRoom (length (words_made lanes)) (length (heads_made lanes)) lanes
+
+pub all_made : (l : Leaves) (passed : ℕ → ℕ → Type 0) (before after : List (Lane LeafDesk)) → AreLeaves l → AreLaid (whole_of l) 0 (length l.ends.items) before → length after ≡ length before → EachPlace (Ran Did passed) before after
+    → FirstHasRoom (words_room l) (length l.ends.items) before → AllMade l after
+all_made l passed before after are laid same each room =
+    let whole = whole_of l in
+    let n = length l.ends.items in
+    let words = laid_words whole are.whole refl passed 0 n before after (omega arith) laid same each ∙ words_all whole are.whole refl passed in
+    let heads = laid_heads whole are.whole refl passed 0 n before after (omega arith) laid same each ∙ heads_all whole are.whole refl passed in
+    let kept = room_kept whole passed 0 n (words_room l) n before after laid same each room in
+    let few = all_words l are in
+    record {
+      words = words;
+      heads = heads;
+      room = kept;
+      fits = less_room (length (words_made after)) (length (heads_made after)) (words_room l) n after (omega (arith, ap length words, few)) (omega (arith, ap length heads, length_heads_in whole)) kept;
+    }

@@ -12,6 +12,7 @@ pub mod Lawful
 pub mod LawfulTree
 pub mod Laying
 pub mod LeafFacts
+pub mod Leveling
 pub mod Placed
 pub mod Raised
 pub mod Raising

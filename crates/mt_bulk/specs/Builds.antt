@@ -1,23 +1,30 @@
 -- What a bulk build gives, why it refuses, and what it knows of the leaves before their rows are filled.
 -- Source: this project's own.
-use Rattle.std.specs.Prelude.{◌≡◌, ◌≢◌, ℕ, ◌+◌, ◌*◌, ◌≤◌, List, [], ◌∷◌, ◌++◌, Option, Some, None, nat_lt, length, vec_len, vec_capacity, if◌then◌else◌}
+use Rattle.std.specs.Prelude.{◌≡◌, ◌≢◌, ℕ, ◌+◌, ◌*◌, ◌<◌, ◌≤◌, List, [], ◌∷◌, ◌++◌, Option, Some, None, nat_lt, length, vec_len, vec_capacity, if◌then◌else◌}
+use Rattle.std.specs.List.{flat_map}
 use Rattle.mt_base.specs.declared.kinds.Kind.{Kind}
 use Rattle.mt_base.specs.declared.ranges.Range.{Range}
+use Rattle.mt_base.specs.Call.{finds_room}
 use Rattle.mt_base.specs.Width.{columns, first_row, kind_width, most_rows}
 use Rattle.mt_layout.specs.declared.items.Item.{Item}
 use Rattle.mt_layout.specs.declared.names.RowKind.TheVariants.{Leaf}
 use Rattle.mt_layout.specs.Rows.{name_at}
 use Rattle.mt_lanes.specs.declared.lanes.Lane.{Lane}
+use Rattle.mt_rows.specs.Memory.{sheet_in}
 use Rattle.mt_rows.specs.OfWords.{IsMadeOf}
+use Rattle.mt_rows.specs.Plain.{new_sheet}
 use Rattle.mt_rows.specs.Publish.{IsLawfulOf, map_by}
 use Rattle.mt_rows.specs.Sheet.{Sheet}
 use Rattle.mt_rows.specs.Spans.{inner_kind}
+use Rattle.mt_bulk.specs.declared.building.Upper.{Upper}
 use Rattle.mt_bulk.specs.declared.desks.LeafDesk.{LeafDesk}
 use Rattle.mt_bulk.specs.declared.errors.BulkError.{BulkError}
 use Rattle.mt_bulk.specs.declared.errors.BulkError.TheVariants as errors
 use Rattle.mt_bulk.specs.declared.leaves.Leaves.{Leaves}
-use Rattle.mt_bulk.specs.Bulk.{Built, bulk, raised, rows_in}
+use Rattle.mt_bulk.specs.declared.levels.Level.{Level}
+use Rattle.mt_bulk.specs.Bulk.{Built, bulk, inner_slots, parents_over, raised, rows_in}
 use Rattle.mt_bulk.specs.Chunks.{AreRows, ChunkView, IsLevel, IsReady, heads_in, part_of, view_of, words_in}
+use Rattle.mt_bulk.specs.Cuts.{cut, ends_from, inner_size}
 use Rattle.mt_bulk.specs.Items.{misplaced}
 
 -- the refusal of ranges in good order, where their tree has more rows than can be named
@@ -70,6 +77,10 @@ pub record LeafFacts (kind : Kind) (ranges : List Range) (items : List Item) (en
 abbrev pub AreLeaves : Leaves → Type 0
 AreLeaves l = LeafFacts l.kind l.ranges.now l.items.items l.ends.items l.parents.items l.rows
 
+-- how many words the rows of all levels have
+abbrev pub words_room : Leaves → ℕ
+words_room l = columns (kind_width l.kind) * l.rows
+
 -- ---- the lanes of the workers
 
 -- a lane with one step, whose desk is to fill the leaves from one place up to another
@@ -84,3 +95,47 @@ pub record IsLaid (whole : ChunkView) (from to : ℕ) (lane : Lane LeafDesk) : T
 abbrev pub AreLaid : ChunkView → ℕ → ℕ → List (Lane LeafDesk) → Type 0
 AreLaid whole from to [] = from ≡ to
 AreLaid whole from to (lane ∷ lanes) = (middle : ℕ) × (from ≤ middle) × IsLaid whole from middle lane × AreLaid whole middle to lanes
+
+-- these lanes are numbered from here on
+abbrev pub AreNumbered : ℕ → List (Lane LeafDesk) → Type 0
+AreNumbered first [] = Unit {0}
+AreNumbered first (lane ∷ lanes) = (lane.lane ≡ first) × AreNumbered (first + 1) lanes
+
+-- each of so many workers took both of its turns
+abbrev pub TookTurns : (ℕ → ℕ → Type 0) → ℕ → Type 0
+TookTurns passed workers = (worker turn : ℕ) → worker < workers → turn < 2 → passed worker turn
+
+-- what was made at these lanes' desks, one behind another
+abbrev pub words_made : List (Lane LeafDesk) → List ℕ
+words_made lanes = flat_map (λ l. l.desk.words.items) lanes
+
+abbrev pub heads_made : List (Lane LeafDesk) → List Item
+heads_made lanes = flat_map (λ l. l.desk.heads.items) lanes
+
+-- room for all rows is with the first of these lanes: for so many words, and so many items on the level above
+abbrev pub FirstHasRoom : ℕ → ℕ → List (Lane LeafDesk) → Type 0
+FirstHasRoom words heads [] = Unit {0}
+FirstHasRoom words heads (lane ∷ lanes) = (words ≤ vec_capacity lane.desk.words) × (heads ≤ vec_capacity lane.desk.heads)
+
+-- ---- the levels above the leaves, before their items are known
+
+-- Inner rows that hold so many items, the first of them with this number: where each ends and the parent word of each, whatever the
+-- items, and room for the items that they are on the level above.
+pub record IsLevelOf (tree : Kind) (number count : ℕ) (l : Level) : Type 0 where
+  pub ends : (items : List Item) → length items ≡ count → l.ends.items ≡ ends_from 0 (cut (inner_size (inner_slots (kind_width tree) (finds_room tree))) items)
+  pub parents : (items : List Item) → length items ≡ length l.ends.items → l.parents.items ≡ parents_over tree (number + length l.ends.items) items
+  pub heads : l.heads.items ≡ []
+  pub room : vec_len l.heads + length l.ends.items ≤ vec_capacity l.heads
+
+-- the levels above so many items, up to that of one row
+abbrev pub AreLevels : Kind → ℕ → ℕ → List Level → Type 0
+AreLevels tree number count [] = ⊥
+AreLevels tree number count (l ∷ levels) = IsLevelOf tree number count l × (length l.ends.items ≢ 1 → AreLevels tree (number + length l.ends.items) (length l.ends.items) levels)
+
+abbrev pub HavePushed : Kind → ℕ → ℕ → List Level → List Level → Type 0
+HavePushed tree number count before after = (made : List Level) × (after ≡ before ++ made) × AreLevels tree number count made
+
+-- what is made behind the workers has its memory: the levels above the leaves, and a table for all rows
+pub record IsUpperOf (l : Leaves) (u : Upper) : Type 0 where
+  pub levels : length l.ends.items ≢ 1 → AreLevels l.kind (first_row + length l.ends.items) (length l.ends.items) u.levels.items
+  pub table : sheet_in u.table ≡ new_sheet (kind_width l.kind) l.rows

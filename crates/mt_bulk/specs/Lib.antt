@@ -4,3 +4,4 @@ pub mod Chunks
 pub mod Cuts
 pub mod Examples
 pub mod Items
+pub mod Texts

@@ -2,6 +2,7 @@
 
 use mt_base::NoMemory;
 use std::alloc::AllocError;
+use std::fmt;
 
 /// Why no tree is built of ranges.
 #[derive(Clone, Copy, Debug, PartialEq, Eq)]
@@ -34,5 +35,20 @@ impl From<AllocError> for BulkError {
 
     fn from(_: AllocError) -> Self {
         BulkError::NoMemory
+    }
+}
+
+impl fmt::Display for BulkError {
+    ghost use Rattle.std.specs.Prelude.{Some};
+    ghost use Rattle.mt_bulk.specs.Texts.{error_text};
+
+    ghost output = { λ e. Some (error_text e) };
+
+    fn fmt<W: fmt::Write>(&self, f: &mut fmt::Formatter<W>) -> fmt::Result {
+        match *self {
+            BulkError::Order { at } => write!(f, "range {at} is out of order"),
+            BulkError::TooMany { rows } => write!(f, "too many rows: {rows}"),
+            BulkError::NoMemory => write!(f, "out of memory"),
+        }
     }
 }

@@ -1,11 +1,12 @@
-//! The levels above the leaves: where their rows end, their parent words, how many they are, and their words.
+//! The levels above the leaves: where their rows end, their parent words, how many they are, their room, and their words.
 
-ghost use Rattle.std.specs.Prelude.{◌≡◌, ◌+◌, ◌*◌, ◌<◌, ◌≤◌, ◌++◌, ℕ, List, length, map, IfOk, OnOk, ◌^◌, vec_len, vec_capacity};
+ghost use Rattle.std.specs.Prelude.{◌≡◌, ◌≢◌, ◌+◌, ◌*◌, ◌<◌, ◌≤◌, ◌++◌, ℕ, List, length, map, IfOk, OnOk, ◌^◌, vec_len, vec_capacity};
 ghost use Rattle.std.specs.List.{range_with_len};
 ghost use Rattle.mt_base.specs.Call.{finds_room};
 ghost use Rattle.mt_base.specs.Width.{kind_width};
 ghost use Rattle.mt_layout.specs.declared.items.Item.{Item};
 ghost use Rattle.mt_layout.specs.Rows.{parent_at};
+ghost use Rattle.mt_bulk.specs.Builds.{AreLevels, HavePushed, IsLevelOf};
 ghost use Rattle.mt_bulk.specs.Bulk as defined;
 ghost use Rattle.mt_rows.specs.Spans.{inner_kind};
 ghost use Rattle.mt_bulk.specs.Bulk.{parents_in, raised, rows_up};
@@ -132,40 +133,107 @@ pub(crate) fn parents_over(
     parents_above(alloc, next, inner_slots(tree), count)
 }
 
-/// Appends the words of the inner rows that hold these items, and of those above them, and answers the root word.
+/// A level of inner rows before its items are known: where its rows end, the parent word of each, and room for the items that they are
+/// on the level above.
+#[derive(Drop)]
+pub struct Level {
+    pub(crate) ends: Vec<usize>,
+    pub(crate) parents: Vec<u64>,
+    pub(crate) heads: Vec<Item>,
+}
+
+/// The level of the inner rows that hold so many items, the first of them with this number.
+fn level_over(alloc: Global, tree: Kind, number: u32, count: usize) -> Result<Level, NoMemory>
+    requires two { 2 ≤ count }
+    requires room { number + 2 * count < 2 ^ 32 }
+    ensures level { IfOk result (IsLevelOf tree number count) }
+    ensures some { IfOk result (λ level. 1 ≤ length level.ends.items) }
+    ensures half { IfOk result (λ level. 2 * length level.ends.items ≤ count) }
+{
+    let ends = inner_ends(alloc, inner_slots(tree), count)?;
+    let parents = parents_over(alloc, number + ends.len() as u32, tree, ends.len())?;
+    let heads = Vec::with_capacity(alloc, ends.len())?;
+    Ok(Level {
+        ends,
+        parents,
+        heads,
+    })
+}
+
+/// Appends the levels above so many items, up to that of one row; the first row has this number.
+fn push_levels(
+    alloc: Global,
+    tree: Kind,
+    number: u32,
+    count: usize,
+    levels: &mut Vec<Level>,
+) -> Result<(), NoMemory>
+    requires two { 2 ≤ count }
+    requires room { number + 2 * count < 2 ^ 32 }
+    ensures { OnOk result (HavePushed tree number count levels.old.items levels.new.items) }
+{
+    let level = level_over(alloc, tree, number, count)?;
+    let rows = level.ends.len();
+    levels.push(level)?;
+    if rows == 1 {
+        return Ok(());
+    }
+    push_levels(alloc, tree, number + rows as u32, rows, levels)
+}
+
+/// The levels above so many items, up to that of one row; the first row has this number. One item has none above it.
 ///
 /// # Errors
 ///
 /// `NoMemory` where memory ran out.
-pub(crate) fn raise(
+pub(crate) fn levels_over(
     alloc: Global,
     tree: Kind,
     number: u32,
-    items: &[Item],
-    words: &mut Vec<u64>,
-) -> Result<u64, NoMemory>
-    requires level { IsLevel tree number items.now }
-    requires room { vec_len words.old + length (raised tree (inner_kind tree) number items.now).words ≤ vec_capacity words.old }
-    ensures root { IfOk result (λ root. root ≡ (raised tree (inner_kind tree) number items.now).root) }
-    ensures words { OnOk result (words.new.items ≡ words.old.items ++ (raised tree (inner_kind tree) number items.now).words) }
+    count: usize,
+) -> Result<Vec<Level>, NoMemory>
+    requires some { 1 ≤ count }
+    requires room { number + 2 * count < 2 ^ 32 }
+    ensures { IfOk result (λ levels. count ≢ 1 → AreLevels tree number count levels.items) }
 {
+    let mut levels = Vec::new(alloc);
+    if count > 1 {
+        push_levels(alloc, tree, number, count, &mut levels)?;
+    }
+    Ok(levels)
+}
+
+/// Appends the words of the inner rows that hold these items, and of those above them, and answers the root word.
+pub(crate) fn raise(
+    tree: Kind,
+    number: u32,
+    items: &[Item],
+    levels: &mut [Level],
+    words: &mut Vec<u64>,
+) -> u64
+    requires level { IsLevel tree number items.now }
+    requires levels { AreLevels tree number (length items.now) levels.old }
+    requires room { vec_len words.old + length (raised tree (inner_kind tree) number items.now).words ≤ vec_capacity words.old }
+    ensures root { result ≡ (raised tree (inner_kind tree) number items.now).root }
+    ensures words { words.new.items ≡ words.old.items ++ (raised tree (inner_kind tree) number items.now).words }
+{
+    let Some((level, above)) = levels.split_first_mut() else {
+        unreachable!()
+    };
     let kind = inner_kind(tree);
-    let ends = inner_ends(alloc, inner_slots(tree), items.len())?;
-    let next = number + ends.len() as u32;
-    let parents = parents_over(alloc, next, tree, ends.len())?;
-    let mut heads = Vec::with_capacity(alloc, ends.len())?;
     let chunk = Chunk {
         tree,
         kind,
         number,
         items,
         from: 0,
-        ends: &ends,
-        parents: &parents,
+        ends: &level.ends,
+        parents: &level.parents,
     };
-    fill_rows(&chunk, words, &mut heads);
-    if ends.len() == 1 {
-        return Ok(name_of(number, kind).word());
+    fill_rows(&chunk, words, &mut level.heads);
+    let rows = level.ends.len();
+    if rows == 1 {
+        return name_of(number, kind).word();
     }
-    raise(alloc, tree, next, &heads, words)
+    raise(tree, number + rows as u32, &level.heads, above, words)
 }

@@ -83,6 +83,23 @@ fn every_number_of_workers_builds_the_same(rt: HostRuntime) {
     }
 }
 
+/// Why no tree is built, and how that is told.
+const TEXTS: [(BulkError, &str); 3] = [
+    (BulkError::Order { at: 7 }, "range 7 is out of order"),
+    (BulkError::TooMany { rows: 65_505 }, "too many rows: 65505"),
+    (BulkError::NoMemory, "out of memory"),
+];
+
+#[test]
+fn errors_are_told(rt: HostRuntime) -> Result<(), Fail> {
+    for (error, want) in TEXTS {
+        let mut text = String::new(rt.alloc());
+        text.write(error)?;
+        assert_eq!(rt; text.as_str(), want);
+    }
+    Ok(())
+}
+
 /// Where two workers meet: each is held in its turn 1 until both have come to theirs.
 #[derive(Drop)]
 struct Meeting {

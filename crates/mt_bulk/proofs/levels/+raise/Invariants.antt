@@ -2,4 +2,4 @@ use Rattle.std.proofs.Common.{length}
 use Rattle.mt_bulk.proofs.levels.+raise.Given as goal
 
 abbrev pub decreases-raise : goal.decreases-raise
-decreases-raise l = length l.items.now
+decreases-raise l = length l.levels.now
