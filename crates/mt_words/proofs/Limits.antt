@@ -5,10 +5,10 @@ use Rattle.std.specs.Str.{bytes_eq}
 use Rattle.std.specs.Str.Parse.{digits_value}
 use Rattle.std.proofs.lemmas.Bool.{leb-true}
 use Rattle.mt_base.specs.Width.{most_rows}
-use Rattle.mt_words.specs.Commands.{IsWithin, command_of, make_of, rows_said, rows_word, show_of, trial_of}
-use Rattle.mt_words.specs.Numbers.{fewest_rows, greatest_number, is_number, most_lanes, most_steps, number_in}
+use Rattle.mt_words.specs.Commands.{IsWithin, bulk_of, command_of, ids_of, make_of, rows_said, rows_word, show_of, trial_of}
+use Rattle.mt_words.specs.Numbers.{fewest_rows, greatest_number, is_number, most_index, most_lanes, most_steps, most_workers, number_in}
 use Rattle.mt_words.specs.declared.commands.Command.{Command}
-use Rattle.mt_words.specs.declared.commands.Command.TheVariants.{Image, Make, Replay, Trial, Verify}
+use Rattle.mt_words.specs.declared.commands.Command.TheVariants.{Bulk, Ids, Image, Make, Replay, Trial, Verify}
 
 abbrev IsBetween : ℕ → ℕ → ℕ → Type 0
 IsBetween least most n = (least ≤ n) × (n ≤ most)
@@ -74,10 +74,31 @@ trial_within (number ∷ steps ∷ []) =
     mapped (number_in 1 most_steps steps) (Trial n) (IsBetween 1 most_steps) IsWithin (number_within 1 most_steps steps) (λ s s_within. (n_within.1, s_within.0, s_within.1)))
 trial_within (number ∷ steps ∷ more ∷ words) = tt
 
+bulk_within : (words : List (List ℕ)) → IfSome (bulk_of words) IsWithin
+bulk_within [] = tt
+bulk_within (workers ∷ []) = mapped (number_in 1 most_workers workers) Bulk (IsBetween 1 most_workers) IsWithin (number_within 1 most_workers workers) (λ n within. within)
+bulk_within (workers ∷ more ∷ words) = tt
+
+ids_within : (words : List (List ℕ)) → IfSome (ids_of words) IsWithin
+ids_within [] = tt
+ids_within (lo ∷ []) = tt
+ids_within (lo ∷ hi ∷ []) = tt
+ids_within (lo ∷ hi ∷ steps ∷ []) = tt
+ids_within (lo ∷ hi ∷ steps ∷ drops ∷ []) =
+    chained (number_in 0 most_index lo) (λ l. option_and_then (λ h. option_and_then (λ s. option_map (Ids l h s) (number_in 1 s drops)) (number_in 1 most_steps steps)) (number_in l most_index hi))
+    (IsBetween 0 most_index) IsWithin (number_within 0 most_index lo) (λ l l_within.
+    chained (number_in l most_index hi) (λ h. option_and_then (λ s. option_map (Ids l h s) (number_in 1 s drops)) (number_in 1 most_steps steps)) (IsBetween l most_index) IsWithin
+    (number_within l most_index hi) (λ h h_within.
+    chained (number_in 1 most_steps steps) (λ s. option_map (Ids l h s) (number_in 1 s drops)) (IsBetween 1 most_steps) IsWithin (number_within 1 most_steps steps) (λ s s_within.
+    mapped (number_in 1 s drops) (Ids l h s) (IsBetween 1 s) IsWithin (number_within 1 s drops) (λ d d_within. (h_within.0, h_within.1, s_within.0, s_within.1, d_within.0, d_within.1)))))
+ids_within (lo ∷ hi ∷ steps ∷ drops ∷ more ∷ words) = tt
+
 of_words : (words : List (List ℕ)) → IfSome (command_of words) IsWithin
 of_words [] = tt
 of_words (word ∷ words) =
-    let shown : Option Command = if bytes_eq word (codes "show") then show_of words else None in
+    let ids : Option Command = if bytes_eq word (codes "ids") then ids_of words else None in
+    let built : Option Command = if bytes_eq word (codes "bulk") then bulk_of words else ids in
+    let shown : Option Command = if bytes_eq word (codes "show") then show_of words else built in
     let drawn : Option Command = if bytes_eq word (codes "image") then option_map Image (rows_said words) else shown in
     let judged : Option Command = if bytes_eq word (codes "verify") then option_map Verify (rows_said words) else drawn in
     let tried : Option Command = if bytes_eq word (codes "trial") then trial_of words else judged in
@@ -87,7 +108,9 @@ of_words (word ∷ words) =
     (either IsWithin (bytes_eq word (codes "trial")) (trial_of words) judged (trial_within words)
     (either IsWithin (bytes_eq word (codes "verify")) (option_map Verify (rows_said words)) drawn (verify_within words)
     (either IsWithin (bytes_eq word (codes "image")) (option_map Image (rows_said words)) shown (image_within words)
-    (either IsWithin (bytes_eq word (codes "show")) (show_of words) None (show_within words) tt)))))
+    (either IsWithin (bytes_eq word (codes "show")) (show_of words) built (show_within words)
+    (either IsWithin (bytes_eq word (codes "bulk")) (bulk_of words) ids (bulk_within words)
+    (either IsWithin (bytes_eq word (codes "ids")) (ids_of words) None (ids_within words) tt)))))))
 
 pub command_within : (command : Option Command) (words : List (List ℕ)) → command ≡ command_of words → IfSome command IsWithin
 command_within command words is = subst (λ (c : Option Command). IfSome c IsWithin) (sym is) (of_words words)

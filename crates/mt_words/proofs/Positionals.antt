@@ -1,4 +1,4 @@
--- `make`, `trial` and `show` and the words after them: which of them `clap` refuses, and what it tells of the others.
+-- `make`, `trial`, `show`, `bulk` and `ids` and the words after them: which of them `clap` refuses, and what it tells of the others.
 use Rattle.std.proofs.Common.{◌≡◌, ◌⊎◌, ℕ, false, List, [], ◌∷◌, Option, Some, None, refl, sym, subst, inl, inr, codes, fold}
 use Rattle.clap.specs.Faults.{step_fault}
 use Rattle.clap.specs.Kinds.{Kinds}
@@ -7,15 +7,15 @@ use Rattle.clap.specs.Walk.{Held, Row, Step, Text, Walk, after_step, arg_by_long
 use Rattle.clap.specs.declared.parser.matches.ValueSource.TheVariants.{CommandLine}
 use Rattle.clap.specs.declared.builder.value_parser.Reading.TheVariants.{AsWritten}
 use Rattle.clap.proofs.OnLiterals.{clap_on_literals}
-use Rattle.mt_words.specs.Commands.{make_of, show_of, trial_of}
-use Rattle.mt_words.specs.Grammar.{is_end_of_options, make_in, trial_in}
+use Rattle.mt_words.specs.Commands.{bulk_of, ids_of, make_of, show_of, trial_of}
+use Rattle.mt_words.specs.Grammar.{bulk_in, ids_in, is_end_of_options, make_in, trial_in}
 use Rattle.mt_words.specs.Numbers.{is_number}
 use Rattle.mt_words.specs.declared.commands.Command.{Command}
 use Rattle.mt_words.specs.declared.commands.Command.TheVariants.{Show}
 use Rattle.mt_words.proofs.Agreements.{Agrees, HasNoEnd}
-use Rattle.mt_words.proofs.NoCommands.{make_no_lanes, make_no_number, make_no_steps, trial_no_number, trial_no_steps}
+use Rattle.mt_words.proofs.NoCommands.{bulk_no_workers, ids_no_drop, ids_no_hi, ids_no_lo, ids_no_steps, make_no_lanes, make_no_number, make_no_steps, trial_no_number, trial_no_steps}
 use Rattle.mt_words.proofs.Refusals.{IsRefused}
-use Rattle.mt_words.proofs.Shapes.{make_no_shorts, make_shape, show_no_shorts, show_shape, trial_no_shorts, trial_shape}
+use Rattle.mt_words.proofs.Shapes.{bulk_no_shorts, bulk_shape, ids_no_shorts, ids_shape, make_no_shorts, make_shape, show_no_shorts, show_shape, trial_no_shorts, trial_shape}
 use Rattle.mt_words.proofs.Sorts.{IsValue, NoShorts, held, is_flags, is_long, is_value, sort_of}
 use Rattle.mt_words.proofs.Walks.{at, fault_from, flags_refused, long_refused, value_from, value_refused, value_walked}
 
@@ -156,3 +156,71 @@ pub show_agrees : (words : List Text) → HasNoEnd words → Agrees (fault_from 
 unfolding clap_on_literals
 show_agrees [] ends = inl (refl, refl)
 show_agrees (word ∷ words) ends = inr (full_lost show_shape show_no_shorts show_no_longs [] None 1 tt word words ends, refl)
+
+-- these words were met, and this one after them
+abbrev filled : List Row → Text → Text → ℕ → Walk
+filled rows name word position = at (held rows (Some (name, word ∷ []))) idle position
+
+abbrev BulkAgrees : Walk → List Text → List Text → Type 0
+BulkAgrees w words all = Agrees (fault_from bulk_shape w words) (bulk_in (rows_from bulk_shape w words)) (bulk_of all)
+
+bulk_no_longs : NoLongs bulk_shape
+bulk_no_longs name = refl
+
+bulk_one : (workers : Text) (words : List Text) → HasNoEnd words → BulkAgrees (filled [] (codes "workers") workers 2) words (workers ∷ words)
+unfolding clap_on_literals
+bulk_one workers [] ends = inl (refl, refl)
+bulk_one workers (word ∷ words) ends = inr (full_lost bulk_shape bulk_no_shorts bulk_no_longs [] (Some (codes "workers", workers ∷ [])) 2 tt word words ends, refl)
+
+pub bulk_agrees : (words : List Text) → HasNoEnd words → BulkAgrees none words words
+unfolding clap_on_literals
+bulk_agrees [] ends = inr (tt, refl)
+bulk_agrees (word ∷ words) (end, ends) = next_agrees bulk_shape bulk_no_shorts bulk_no_longs bulk_in (bulk_of (word ∷ words)) [] None 1 word words end refl (bulk_one word words ends) (bulk_no_workers word words)
+
+abbrev IdsAgrees : Walk → List Text → List Text → Type 0
+IdsAgrees w words all = Agrees (fault_from ids_shape w words) (ids_in (rows_from ids_shape w words)) (ids_of all)
+
+ids_no_longs : NoLongs ids_shape
+ids_no_longs name = refl
+
+abbrev lo_row : Text → List Row
+lo_row lo = row (codes "lo") lo ∷ []
+
+abbrev hi_rows : Text → Text → List Row
+hi_rows lo hi = row (codes "lo") lo ∷ row (codes "hi") hi ∷ []
+
+abbrev steps_rows : Text → Text → Text → List Row
+steps_rows lo hi steps = row (codes "lo") lo ∷ row (codes "hi") hi ∷ row steps_id steps ∷ []
+
+ids_four : (lo hi steps drops : Text) (words : List Text) → HasNoEnd words → IdsAgrees (filled (steps_rows lo hi steps) (codes "drop") drops 5) words (lo ∷ hi ∷ steps ∷ drops ∷ words)
+unfolding clap_on_literals
+ids_four lo hi steps drops [] ends = inl (refl, refl)
+ids_four lo hi steps drops (word ∷ words) ends = inr (
+  full_lost ids_shape ids_no_shorts ids_no_longs (steps_rows lo hi steps) (Some (codes "drop", drops ∷ [])) 5 tt word words ends,
+  refl,
+)
+
+ids_three : (lo hi steps : Text) (words : List Text) → HasNoEnd words → IdsAgrees (filled (hi_rows lo hi) steps_id steps 4) words (lo ∷ hi ∷ steps ∷ words)
+unfolding clap_on_literals
+ids_three lo hi steps [] ends = inr (tt, refl)
+ids_three lo hi steps (word ∷ words) (end, ends) =
+    next_agrees ids_shape ids_no_shorts ids_no_longs ids_in (ids_of (lo ∷ hi ∷ steps ∷ word ∷ words)) (hi_rows lo hi) (Some (steps_id, steps ∷ [])) 4 word words end refl
+    (ids_four lo hi steps word words ends) (ids_no_drop lo hi steps word words)
+
+ids_two : (lo hi : Text) (words : List Text) → HasNoEnd words → IdsAgrees (filled (lo_row lo) (codes "hi") hi 3) words (lo ∷ hi ∷ words)
+unfolding clap_on_literals
+ids_two lo hi [] ends = inr (tt, refl)
+ids_two lo hi (word ∷ words) (end, ends) =
+    next_agrees ids_shape ids_no_shorts ids_no_longs ids_in (ids_of (lo ∷ hi ∷ word ∷ words)) (lo_row lo) (Some (codes "hi", hi ∷ [])) 3 word words end refl
+    (ids_three lo hi word words ends) (ids_no_steps lo hi word words)
+
+ids_one : (lo : Text) (words : List Text) → HasNoEnd words → IdsAgrees (filled [] (codes "lo") lo 2) words (lo ∷ words)
+unfolding clap_on_literals
+ids_one lo [] ends = inr (tt, refl)
+ids_one lo (word ∷ words) (end, ends) =
+    next_agrees ids_shape ids_no_shorts ids_no_longs ids_in (ids_of (lo ∷ word ∷ words)) [] (Some (codes "lo", lo ∷ [])) 2 word words end refl (ids_two lo word words ends) (ids_no_hi lo word words)
+
+pub ids_agrees : (words : List Text) → HasNoEnd words → IdsAgrees none words words
+unfolding clap_on_literals
+ids_agrees [] ends = inr (tt, refl)
+ids_agrees (word ∷ words) (end, ends) = next_agrees ids_shape ids_no_shorts ids_no_longs ids_in (ids_of (word ∷ words)) [] None 1 word words end refl (ids_one word words ends) (ids_no_lo word words)

@@ -19,10 +19,10 @@ use Rattle.mt_words.specs.Grammar.{command_met, grammar, is_end_of_options}
 use Rattle.mt_words.specs.declared.commands.Command.{Command}
 use Rattle.mt_words.specs.declared.commands.Command.TheVariants.{Image, Replay, Verify}
 use Rattle.mt_words.proofs.Agreements.{Agrees, HasNoEnd}
-use Rattle.mt_words.proofs.Positionals.{make_agrees, show_agrees, trial_agrees}
+use Rattle.mt_words.proofs.Positionals.{bulk_agrees, ids_agrees, make_agrees, show_agrees, trial_agrees}
 use Rattle.mt_words.proofs.Refusals.{IsRefused, or_else_none, refused_first}
 use Rattle.mt_words.proofs.Replays.{rows_agree}
-use Rattle.mt_words.proofs.Shapes.{make_shape, rows_shape, show_shape, simple, simple_and_free, trial_shape}
+use Rattle.mt_words.proofs.Shapes.{bulk_shape, ids_shape, make_shape, rows_shape, show_shape, simple, simple_and_free, trial_shape}
 use Rattle.mt_words.proofs.Sorts.{NoShorts, held, is_flags, is_long, is_value, sort_of}
 use Rattle.mt_words.proofs.Walks.{at, fault_from}
 
@@ -91,6 +91,18 @@ module _ (words : List Text) where
       let fault : Kinds = fault_from show_shape (at (held [] None) idle 1) words in
       after_name (codes "show") fault (sym (walk_stopped top.rules names start (codes "show") [] words)) refl (or_else_none fault) (show_agrees words ends)
 
+  after_bulk : HasNoEnd words → AgreesOn (codes "bulk" ∷ words)
+  unfolding clap_on_literals
+  after_bulk ends =
+      let fault : Kinds = fault_from bulk_shape (at (held [] None) idle 1) words in
+      after_name (codes "bulk") fault (sym (walk_stopped top.rules names start (codes "bulk") [] words)) refl (or_else_none fault) (bulk_agrees words ends)
+
+  after_ids : HasNoEnd words → AgreesOn (codes "ids" ∷ words)
+  unfolding clap_on_literals
+  after_ids ends =
+      let fault : Kinds = fault_from ids_shape (at (held [] None) idle 1) words in
+      after_name (codes "ids") fault (sym (walk_stopped top.rules names start (codes "ids") [] words)) refl (or_else_none fault) (ids_agrees words ends)
+
   after_make : HasNoEnd words → AgreesOn (codes "make" ∷ words)
   unfolding clap_on_literals
   after_make ends =
@@ -125,9 +137,10 @@ stranger word end none = elim (sort_of word end) [
 ]
 
 other : (word : Text) (words : List Text) → is_end_of_options word ≡ false → bytes_eq word (codes "replay") ≡ false → bytes_eq word (codes "make") ≡ false → bytes_eq word (codes "trial") ≡ false
-    → bytes_eq word (codes "verify") ≡ false → bytes_eq word (codes "image") ≡ false → bytes_eq word (codes "show") ≡ false → AgreesOn (word ∷ words)
+    → bytes_eq word (codes "verify") ≡ false → bytes_eq word (codes "image") ≡ false → bytes_eq word (codes "show") ≡ false
+    → bytes_eq word (codes "bulk") ≡ false → bytes_eq word (codes "ids") ≡ false → AgreesOn (word ∷ words)
 unfolding walk_fault
-other word words end replay make trial verify image show =
+other word words end replay make trial verify image show bulk ids =
     let none : subcommand_met names idle word ≡ None = rw (
       differs word (codes "replay") replay,
       differs word (codes "make") make,
@@ -135,8 +148,10 @@ other word words end replay make trial verify image show =
       differs word (codes "verify") verify,
       differs word (codes "image") image,
       differs word (codes "show") show,
+      differs word (codes "bulk") bulk,
+      differs word (codes "ids") ids,
     ) refl in
-    inr (refused_first (walk_fault top names start (word ∷ words)) _ (refused_first (turn_fault top names start word) _ (stranger word end none)), rw (replay, make, trial, verify, image, show) refl)
+    inr (refused_first (walk_fault top names start (word ∷ words)) _ (refused_first (turn_fault top names start word) _ (stranger word end none)), rw (replay, make, trial, verify, image, show, bulk, ids) refl)
 
 no_words : AgreesOn []
 unfolding clap_on_literals
@@ -146,19 +161,23 @@ pub agrees : (words : List Text) → HasNoEnd words → AgreesOn words
 agrees [] ends = no_words
 agrees (word ∷ words) (end, ends) =
     go (bytes_eq word (codes "replay")) refl (bytes_eq word (codes "make")) refl (bytes_eq word (codes "trial")) refl (bytes_eq word (codes "verify")) refl (bytes_eq word (codes "image")) refl (bytes_eq word (codes "show")) refl
+    (bytes_eq word (codes "bulk")) refl (bytes_eq word (codes "ids")) refl
   where
     at_name : (name : Text) → bytes_eq word name ≡ true → AgreesOn (name ∷ words) → AgreesOn (word ∷ words)
     at_name name same = subst (λ (w : Text). AgreesOn (w ∷ words)) (sym ((bytes_eq-Decides word name).0 same))
 
     go : (a : Bool) → bytes_eq word (codes "replay") ≡ a → (b : Bool) → bytes_eq word (codes "make") ≡ b → (c : Bool) → bytes_eq word (codes "trial") ≡ c
-        → (d : Bool) → bytes_eq word (codes "verify") ≡ d → (e : Bool) → bytes_eq word (codes "image") ≡ e → (f : Bool) → bytes_eq word (codes "show") ≡ f → AgreesOn (word ∷ words)
-    go true is b _ c _ d _ e _ f _ = at_name (codes "replay") is (after_replay words ends)
-    go false _ true is c _ d _ e _ f _ = at_name (codes "make") is (after_make words ends)
-    go false _ false _ true is d _ e _ f _ = at_name (codes "trial") is (after_trial words ends)
-    go false _ false _ false _ true is e _ f _ = at_name (codes "verify") is (after_verify words ends)
-    go false _ false _ false _ false _ true is f _ = at_name (codes "image") is (after_image words ends)
-    go false _ false _ false _ false _ false _ true is = at_name (codes "show") is (after_show words ends)
-    go false replay false make false trial false verify false image false show = other word words end replay make trial verify image show
+        → (d : Bool) → bytes_eq word (codes "verify") ≡ d → (e : Bool) → bytes_eq word (codes "image") ≡ e → (f : Bool) → bytes_eq word (codes "show") ≡ f
+        → (g : Bool) → bytes_eq word (codes "bulk") ≡ g → (h : Bool) → bytes_eq word (codes "ids") ≡ h → AgreesOn (word ∷ words)
+    go true is b _ c _ d _ e _ f _ g _ h _ = at_name (codes "replay") is (after_replay words ends)
+    go false _ true is c _ d _ e _ f _ g _ h _ = at_name (codes "make") is (after_make words ends)
+    go false _ false _ true is d _ e _ f _ g _ h _ = at_name (codes "trial") is (after_trial words ends)
+    go false _ false _ false _ true is e _ f _ g _ h _ = at_name (codes "verify") is (after_verify words ends)
+    go false _ false _ false _ false _ true is f _ g _ h _ = at_name (codes "image") is (after_image words ends)
+    go false _ false _ false _ false _ false _ true is g _ h _ = at_name (codes "show") is (after_show words ends)
+    go false _ false _ false _ false _ false _ false _ true is h _ = at_name (codes "bulk") is (after_bulk words ends)
+    go false _ false _ false _ false _ false _ false _ false _ true is = at_name (codes "ids") is (after_ids words ends)
+    go false replay false make false trial false verify false image false show false bulk false ids = other word words end replay make trial verify image show bulk ids
 
 no_end : (words : List Text) → list_any is_end_of_options words ≡ false → HasNoEnd words
 no_end [] none = tt

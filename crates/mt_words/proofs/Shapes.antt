@@ -3,7 +3,7 @@ use Rattle.std.proofs.Common.{◌≡◌, [], ◌∷◌, refl, true, codes}
 use Rattle.clap.specs.Faults.{is_simple_and_free}
 use Rattle.clap.specs.Simple.{Shape, built, built_leaf, inherited, is_simple, marked_built, on_top, with_leaf_noted}
 use Rattle.clap.specs.Words.{Text}
-use Rattle.mt_words.specs.Grammar.{grammar, make_app, rows_app, show_app, trial_app}
+use Rattle.mt_words.specs.Grammar.{bulk_app, grammar, ids_app, make_app, rows_app, show_app, trial_app}
 use Rattle.mt_words.proofs.Sorts.{NoShorts}
 
 abbrev above : Shape
@@ -21,7 +21,14 @@ trial_shape = built_leaf (inherited above trial_app.top)
 abbrev pub show_shape : Shape
 show_shape = built_leaf (inherited above show_app.top)
 
-pub subs_are : (built grammar).subs ≡ rows_shape (codes "replay") ∷ make_shape ∷ trial_shape ∷ rows_shape (codes "verify") ∷ rows_shape (codes "image") ∷ show_shape ∷ []
+abbrev pub bulk_shape : Shape
+bulk_shape = built_leaf (inherited above bulk_app.top)
+
+abbrev pub ids_shape : Shape
+ids_shape = built_leaf (inherited above ids_app.top)
+
+pub subs_are : (built grammar).subs
+    ≡ rows_shape (codes "replay") ∷ make_shape ∷ trial_shape ∷ rows_shape (codes "verify") ∷ rows_shape (codes "image") ∷ show_shape ∷ bulk_shape ∷ ids_shape ∷ []
 subs_are = refl
 
 pub simple : is_simple grammar ≡ true
@@ -41,3 +48,9 @@ trial_no_shorts x = refl
 
 pub show_no_shorts : NoShorts show_shape
 show_no_shorts x = refl
+
+pub bulk_no_shorts : NoShorts bulk_shape
+bulk_no_shorts x = refl
+
+pub ids_no_shorts : NoShorts ids_shape
+ids_no_shorts x = refl

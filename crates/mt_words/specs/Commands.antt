@@ -3,9 +3,9 @@
 use Rattle.std.specs.Prelude.{◌≤◌, ℕ, List, [], ◌∷◌, Option, Some, None, drop, take, codes, if◌then◌else◌, option_map, option_and_then}
 use Rattle.std.specs.Str.{bytes_eq}
 use Rattle.mt_base.specs.Width.{most_rows}
-use Rattle.mt_words.specs.Numbers.{fewest_rows, greatest_number, most_lanes, most_steps, number_in}
+use Rattle.mt_words.specs.Numbers.{fewest_rows, greatest_number, most_index, most_lanes, most_steps, most_workers, number_in}
 use Rattle.mt_words.specs.declared.commands.Command.{Command}
-use Rattle.mt_words.specs.declared.commands.Command.TheVariants.{Image, Make, Replay, Show, Trial, Verify}
+use Rattle.mt_words.specs.declared.commands.Command.TheVariants.{Bulk, Ids, Image, Make, Replay, Show, Trial, Verify}
 
 -- as many rows as a word says
 abbrev pub rows_word : List ℕ → Option ℕ
@@ -48,6 +48,24 @@ abbrev pub show_of : List (List ℕ) → Option Command
 show_of [] = Some Show
 show_of (word ∷ words) = None
 
+abbrev pub bulk_with : List ℕ → Option Command
+bulk_with workers = option_map Bulk (number_in 1 most_workers workers)
+
+-- `bulk WORKERS`
+abbrev pub bulk_of : List (List ℕ) → Option Command
+bulk_of (workers ∷ []) = bulk_with workers
+bulk_of words = None
+
+-- LO is at most HI, and DROP at most STEPS
+abbrev pub ids_with : List ℕ → List ℕ → List ℕ → List ℕ → Option Command
+ids_with lo hi steps drops = option_and_then (λ l. option_and_then (λ h. option_and_then (λ s. option_map (Ids l h s) (number_in 1 s drops))
+    (number_in 1 most_steps steps)) (number_in l most_index hi)) (number_in 0 most_index lo)
+
+-- `ids LO HI STEPS DROP`
+abbrev pub ids_of : List (List ℕ) → Option Command
+ids_of (lo ∷ hi ∷ steps ∷ drops ∷ []) = ids_with lo hi steps drops
+ids_of words = None
+
 -- the command that the words after the program's name are, if they are one
 abbrev pub command_of : List (List ℕ) → Option Command
 command_of [] = None
@@ -56,7 +74,9 @@ command_of (word ∷ words) = if bytes_eq word (codes "replay") then option_map 
     else (if bytes_eq word (codes "trial") then trial_of words
     else (if bytes_eq word (codes "verify") then option_map Verify (rows_said words)
     else (if bytes_eq word (codes "image") then option_map Image (rows_said words)
-    else (if bytes_eq word (codes "show") then show_of words else None)))))
+    else (if bytes_eq word (codes "show") then show_of words
+    else (if bytes_eq word (codes "bulk") then bulk_of words
+    else (if bytes_eq word (codes "ids") then ids_of words else None)))))))
 
 -- the numbers of a command lie within their limits
 abbrev pub IsWithin : Command → Type 0
@@ -66,3 +86,5 @@ IsWithin (Trial number steps) = (number ≤ greatest_number) × (1 ≤ steps) ×
 IsWithin (Verify rows) = (fewest_rows ≤ rows) × (rows ≤ most_rows)
 IsWithin (Image rows) = (fewest_rows ≤ rows) × (rows ≤ most_rows)
 IsWithin Show = Unit {0}
+IsWithin (Bulk workers) = (1 ≤ workers) × (workers ≤ most_workers)
+IsWithin (Ids lo hi steps drops) = (lo ≤ hi) × (hi ≤ most_index) × (1 ≤ steps) × (steps ≤ most_steps) × (1 ≤ drops) × (drops ≤ steps)

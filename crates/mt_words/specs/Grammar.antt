@@ -4,7 +4,7 @@ use Rattle.std.specs.Prelude.{true, Bool, ℕ, List, Option, Some, None, codes, 
 use Rattle.std.specs.Str.{bytes_eq}
 use Rattle.clap.specs.Words.{App, Row, Rule, Text, first_of, new_app, new_rule, with_rule, with_subcommand}
 use Rattle.mt_base.specs.Width.{most_rows}
-use Rattle.mt_words.specs.Commands.{make_with, rows_word, trial_with}
+use Rattle.mt_words.specs.Commands.{bulk_with, ids_with, make_with, rows_word, trial_with}
 use Rattle.mt_words.specs.declared.commands.Command.{Command}
 use Rattle.mt_words.specs.declared.commands.Command.TheVariants.{Image, Replay, Show, Verify}
 
@@ -38,6 +38,16 @@ image_app = rows_app (codes "image")
 abbrev pub show_app : App
 show_app = new_app (codes "show")
 
+abbrev pub bulk_app : App
+bulk_app = with_rule (new_app (codes "bulk")) (word_rule (codes "workers"))
+
+-- `ids` and its bounds
+abbrev pub bounds_app : App
+bounds_app = with_rule (with_rule (new_app (codes "ids")) (word_rule (codes "lo"))) (word_rule (codes "hi"))
+
+abbrev pub ids_app : App
+ids_app = with_rule (with_rule bounds_app (word_rule (codes "steps"))) (word_rule (codes "drop"))
+
 -- the program's words: no name before them, and no help
 abbrev pub plain_app : App
 plain_app = record (new_app (codes "mtreplay")) {
@@ -45,7 +55,9 @@ plain_app = record (new_app (codes "mtreplay")) {
 }
 
 abbrev pub grammar : App
-grammar = with_subcommand (with_subcommand (with_subcommand (with_subcommand (with_subcommand (with_subcommand plain_app replay_app.top) make_app.top) trial_app.top) verify_app.top) image_app.top) show_app.top
+grammar =
+    let of_logs : App = with_subcommand (with_subcommand (with_subcommand (with_subcommand plain_app replay_app.top) make_app.top) trial_app.top) verify_app.top in
+    with_subcommand (with_subcommand (with_subcommand (with_subcommand of_logs image_app.top) show_app.top) bulk_app.top) ids_app.top
 
 -- the number of rows that the matches of a subcommand say
 abbrev pub rows_in : List Row → Option ℕ
@@ -59,13 +71,22 @@ make_in rows = option_and_then (λ number. option_and_then (λ steps. option_and
 abbrev pub trial_in : List Row → Option Command
 trial_in rows = option_and_then (λ number. option_and_then (λ steps. trial_with number steps) (first_of (codes "steps") rows)) (first_of (codes "number") rows)
 
+abbrev pub bulk_in : List Row → Option Command
+bulk_in rows = option_and_then bulk_with (first_of (codes "workers") rows)
+
+abbrev pub ids_in : List Row → Option Command
+ids_in rows = option_and_then (λ lo. option_and_then (λ hi. option_and_then (λ steps. option_and_then (λ drops. ids_with lo hi steps drops) (first_of (codes "drop") rows))
+    (first_of (codes "steps") rows)) (first_of (codes "hi") rows)) (first_of (codes "lo") rows)
+
 abbrev pub command_in : Text → List Row → Option Command
 command_in name rows = if bytes_eq name (codes "replay") then option_map Replay (rows_in rows)
     else (if bytes_eq name (codes "make") then make_in rows
     else (if bytes_eq name (codes "trial") then trial_in rows
     else (if bytes_eq name (codes "verify") then option_map Verify (rows_in rows)
     else (if bytes_eq name (codes "image") then option_map Image (rows_in rows)
-    else (if bytes_eq name (codes "show") then Some Show else None)))))
+    else (if bytes_eq name (codes "show") then Some Show
+    else (if bytes_eq name (codes "bulk") then bulk_in rows
+    else (if bytes_eq name (codes "ids") then ids_in rows else None)))))))
 
 abbrev pub command_met : Option (Text × List Row) → Option Command
 command_met = option_and_then (λ p. command_in p.0 p.1)

@@ -25,3 +25,10 @@ most_steps = 100000
 
 abbrev pub most_lanes : ℕ
 most_lanes = 16
+
+abbrev pub most_workers : ℕ
+most_workers = 16
+
+-- the greatest number of 64 bits
+abbrev pub most_index : ℕ
+most_index = 18446744073709551615

@@ -2,15 +2,39 @@
 #[derive(Clone, Copy, Debug, PartialEq, Eq)]
 pub enum Command {
     /// Runs the log that is read, with so many rows for each tree.
-    Replay { rows: u64 },
+    Replay {
+        rows: u64,
+    },
     /// Writes a log that is drawn from a number: so many steps, dealt out to so many lanes.
-    Make { number: u32, steps: u32, lanes: u32 },
+    Make {
+        number: u32,
+        steps: u32,
+        lanes: u32,
+    },
     /// Runs such a log of one lane, and writes how often each answer came.
-    Trial { number: u32, steps: u32 },
+    Trial {
+        number: u32,
+        steps: u32,
+    },
     /// Judges a transcript of the log before it, with so many rows for each tree.
-    Verify { rows: u64 },
+    Verify {
+        rows: u64,
+    },
     /// Runs the log that is read, with so many rows for each tree, and writes the image of its first tree.
-    Image { rows: u64 },
+    Image {
+        rows: u64,
+    },
     /// Writes the listing of the tree whose image is read.
     Show,
+    /// Writes the image of a tree that so many workers build of the listing that is read.
+    Bulk {
+        workers: u32,
+    },
+    /// Draws numbers from `lo` to `hi` by turns, so many times, and gives each back after `drop` draws more.
+    Ids {
+        lo: u64,
+        hi: u64,
+        steps: u32,
+        drop: u32,
+    },
 }

@@ -2,8 +2,8 @@
 
 ghost use Rattle.std.specs.Prelude.{◌≡◌, IfOk, option_map};
 ghost use Rattle.clap.specs.Words.{app_of, first_of, found_of, rows_of, subcommand_rows_of};
-ghost use Rattle.mt_words.specs.Commands.{make_with, trial_with};
-ghost use Rattle.mt_words.specs.Grammar.{command_in, command_met, grammar, make_app, make_in, rows_app, rows_in, show_app, trial_app, trial_in};
+ghost use Rattle.mt_words.specs.Commands.{bulk_with, ids_with, make_with, trial_with};
+ghost use Rattle.mt_words.specs.Grammar.{bounds_app, bulk_app, bulk_in, command_in, command_met, grammar, ids_app, ids_in, make_app, make_in, rows_app, rows_in, show_app, trial_app, trial_in};
 
 use crate::commands::Command;
 use crate::numbers::number_in;
@@ -22,6 +22,12 @@ const MOST_STEPS: u64 = 100_000;
 
 /// The most lanes of a log that is made.
 const MOST_LANES: u64 = 16;
+
+/// The most workers of a build.
+const MOST_WORKERS: u64 = 16;
+
+/// The greatest index.
+const MOST_INDEX: u64 = 18_446_744_073_709_551_615;
 
 /// A word, and perhaps a number of rows.
 fn rows_words<'a>(alloc: Global, verb: &'a str) -> Result<clap::Command<'a>, AllocError>
@@ -53,6 +59,29 @@ fn show_words<'a>(alloc: Global) -> Result<clap::Command<'a>, AllocError>
     Ok(clap::Command::new(alloc, "show"))
 }
 
+fn bulk_words<'a>(alloc: Global) -> Result<clap::Command<'a>, AllocError>
+    ensures { IfOk result (λ c. app_of c ≡ bulk_app) }
+{
+    clap::Command::new(alloc, "bulk").arg(Arg::new(alloc, "workers").required(true))
+}
+
+/// `ids` and its bounds.
+fn bounds_words<'a>(alloc: Global) -> Result<clap::Command<'a>, AllocError>
+    ensures { IfOk result (λ c. app_of c ≡ bounds_app) }
+{
+    clap::Command::new(alloc, "ids")
+        .arg(Arg::new(alloc, "lo").required(true))?
+        .arg(Arg::new(alloc, "hi").required(true))
+}
+
+fn ids_words<'a>(alloc: Global) -> Result<clap::Command<'a>, AllocError>
+    ensures { IfOk result (λ c. app_of c ≡ ids_app) }
+{
+    bounds_words(alloc)?
+        .arg(Arg::new(alloc, "steps").required(true))?
+        .arg(Arg::new(alloc, "drop").required(true))
+}
+
 /// The commands, as `clap` is told of them.
 pub fn grammar<'a>(alloc: Global) -> Result<clap::Command<'a>, AllocError>
     ensures { IfOk result (λ c. app_of c ≡ grammar) }
@@ -66,7 +95,9 @@ pub fn grammar<'a>(alloc: Global) -> Result<clap::Command<'a>, AllocError>
         .subcommand(trial_words(alloc)?)?
         .subcommand(rows_words(alloc, "verify")?)?
         .subcommand(rows_words(alloc, "image")?)?
-        .subcommand(show_words(alloc)?)
+        .subcommand(show_words(alloc)?)?
+        .subcommand(bulk_words(alloc)?)?
+        .subcommand(ids_words(alloc)?)
 }
 
 /// The word that was given for this name.
@@ -145,6 +176,45 @@ fn trial_in(matches: &ArgMatches) -> Option<Command>
     trial_with(number, steps)
 }
 
+fn bulk_with(workers: &str) -> Option<Command>
+    ensures { result ≡ bulk_with workers.now }
+{
+    let workers = number_in(workers, 1, MOST_WORKERS)? as u32;
+    Some(Command::Bulk { workers })
+}
+
+fn bulk_in(matches: &ArgMatches) -> Option<Command>
+    ensures { result ≡ bulk_in (rows_of (found_of matches.now)) }
+{
+    let workers = word_of(matches, "workers")?;
+    bulk_with(workers)
+}
+
+fn ids_with(lo: &str, hi: &str, steps: &str, drops: &str) -> Option<Command>
+    ensures { result ≡ ids_with lo.now hi.now steps.now drops.now }
+{
+    let lo = number_in(lo, 0, MOST_INDEX)?;
+    let hi = number_in(hi, lo, MOST_INDEX)?;
+    let steps = number_in(steps, 1, MOST_STEPS)? as u32;
+    let drop = number_in(drops, 1, steps as u64)? as u32;
+    Some(Command::Ids {
+        lo,
+        hi,
+        steps,
+        drop,
+    })
+}
+
+fn ids_in(matches: &ArgMatches) -> Option<Command>
+    ensures { result ≡ ids_in (rows_of (found_of matches.now)) }
+{
+    let lo = word_of(matches, "lo")?;
+    let hi = word_of(matches, "hi")?;
+    let steps = word_of(matches, "steps")?;
+    let drops = word_of(matches, "drop")?;
+    ids_with(lo, hi, steps, drops)
+}
+
 fn command_in(name: &str, matches: &ArgMatches) -> Option<Command>
     ensures { result ≡ command_in name.now (rows_of (found_of matches.now)) }
 {
@@ -155,6 +225,8 @@ fn command_in(name: &str, matches: &ArgMatches) -> Option<Command>
         "verify" => verify_in(matches),
         "image" => image_in(matches),
         "show" => Some(Command::Show),
+        "bulk" => bulk_in(matches),
+        "ids" => ids_in(matches),
         _ => None,
     }
 }

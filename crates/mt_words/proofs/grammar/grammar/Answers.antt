@@ -1,6 +1,6 @@
 use Rattle.std.proofs.Common.{◌∙◌, ap, ap₂, refl}
 use Rattle.clap.specs.Words.{App, with_subcommand}
-use Rattle.mt_words.specs.Grammar.{image_app, make_app, replay_app, show_app, trial_app, verify_app}
+use Rattle.mt_words.specs.Grammar.{bulk_app, ids_app, image_app, make_app, replay_app, show_app, trial_app, verify_app}
 use Rattle.mt_words.proofs.Building.{local, plain, with_sub}
 use Rattle.mt_words.proofs.grammar.grammar.Goals as goal
 
@@ -12,4 +12,6 @@ returns c =
     let three = c.in_ok-subcommand-3.ensures.shape (local _ trial_app c.in_ok-trial_words.ensures refl) ∙ ap₂ with_subcommand two (ap (λ (a : App). a.top) c.in_ok-trial_words.ensures) in
     let four = c.in_ok-subcommand-4.ensures.shape (local _ verify_app c.in_ok-rows_words-2.ensures refl) ∙ ap₂ with_subcommand three (ap (λ (a : App). a.top) c.in_ok-rows_words-2.ensures) in
     let five = c.in_ok-subcommand-5.ensures.shape (local _ image_app c.in_ok-rows_words-3.ensures refl) ∙ ap₂ with_subcommand four (ap (λ (a : App). a.top) c.in_ok-rows_words-3.ensures) in
-    with_sub _ _ _ show_app c.subcommand-6.result five c.in_ok-show_words.ensures refl c.subcommand-6.ensures
+    let six = c.in_ok-subcommand-6.ensures.shape (local _ show_app c.in_ok-show_words.ensures refl) ∙ ap₂ with_subcommand five (ap (λ (a : App). a.top) c.in_ok-show_words.ensures) in
+    let seven = c.in_ok-subcommand-7.ensures.shape (local _ bulk_app c.in_ok-bulk_words.ensures refl) ∙ ap₂ with_subcommand six (ap (λ (a : App). a.top) c.in_ok-bulk_words.ensures) in
+    with_sub _ _ _ ids_app c.subcommand-8.result seven c.in_ok-ids_words.ensures refl c.subcommand-8.ensures
