@@ -1,11 +1,14 @@
 -- A text is one listing, and shows at one line that it is none.
-use Rattle.std.proofs.Common.{◌≡◌, ◌≢◌, ◌⊎◌, ℕ, ◌<◌, ◌≤◌, List, [], ◌∷◌, ◌++◌, length, sym, ap, subst, ◌∙◌, inl, inr, arith, append_assoc}
+use Rattle.std.proofs.Common.{◌≡◌, ℕ, ◌<◌, ◌≤◌, List, [], ◌∷◌, length, sym, ap, ◌∙◌, inl, inr, arith}
 use Rattle.std.specs.List.{flat_map}
 use Rattle.std.proofs.lemmas.Bool.{cases_lt}
+use Rattle.std.proofs.lemmas.List.{length-append}
 use Rattle.mt_base.specs.declared.kinds.Kind.{Kind}
 use Rattle.mt_base.specs.declared.ranges.Range.{Range}
 use Rattle.mt_log.specs.declared.transcripts.Listing.{Listing}
+use Rattle.mt_base.specs.Text.{range_text}
 use Rattle.mt_log.specs.Text.{listing_text, range_line}
+use Rattle.mt_listing.specs.Fronts.{head_text}
 use Rattle.mt_listing.specs.Listings.{AreSmall, BeginsListing, IsBadAt, IsInForm}
 use Rattle.mt_listing.proofs.Bad.{head_good, head_of, whole}
 use Rattle.mt_listing.proofs.FirstLines.{heads_apart}
@@ -43,3 +46,13 @@ one_line text m n left right = elim (cases_lt m n) [
     apart m n left right less =
         let never : BeginsListing text → ⊥ = λ begins. omega (arith, left.short begins, right.short begins, less) in
         left.with_it never (right.before m less)
+
+each_has_a_line : (ranges : List Range) → length ranges ≤ length (flat_map range_line ranges)
+each_has_a_line [] = omega arith
+each_has_a_line (r ∷ ranges) =
+    let more = each_has_a_line ranges in
+    omega (arith, more, length-append (range_line r) (flat_map range_line ranges), length-append (range_text r) (10 ∷ []))
+
+-- a listing has no more ranges than its text has bytes
+pub few_ranges : (l : Listing) → length l.ranges ≤ length (listing_text l)
+few_ranges l = omega (arith, each_has_a_line l.ranges, ap length (whole l), length-append (head_text (head_of l)) (flat_map range_line l.ranges))
