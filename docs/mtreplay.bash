@@ -2,7 +2,7 @@
 _mtreplay() {
     local words=${COMP_WORDS[*]:1:COMP_CWORD-1}
     case $words in
-        "") mapfile -t COMPREPLY < <(compgen -W 'replay make trial verify image show' -- "$2") ;;
+        "") mapfile -t COMPREPLY < <(compgen -W 'replay make trial verify image show bulk ids' -- "$2") ;;
         replay | verify | image) mapfile -t COMPREPLY < <(compgen -W '--rows' -- "$2") ;;
         *) COMPREPLY=() ;;
     esac

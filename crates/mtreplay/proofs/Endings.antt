@@ -8,7 +8,7 @@ use Rattle.mt_verify.specs.Points.{AreLeastPoints}
 use Rattle.mt_verify.specs.Tellings.{calls_told, reads_told}
 use Rattle.mt_verify.proofs.Tellings.{reads_are_points}
 use Rattle.mt_words.specs.declared.commands.Command.{Command}
-use Rattle.mt_words.specs.declared.commands.Command.TheVariants.{Replay, Make, Trial, Verify, Image, Show}
+use Rattle.mt_words.specs.declared.commands.Command.TheVariants.{Replay, Make, Trial, Verify, Image, Show, Bulk, Ids}
 use Rattle.mtreplay.specs.Causes.{Ends, EndsMaking, EndsPrint, EndsReading, FailsOn, HasEnded, Streams}
 use Rattle.mtreplay.specs.Command.{limit_of}
 use Rattle.mtreplay.specs.Headline.{IsOutput, IsVerifiedText, verified_text}
@@ -40,6 +40,8 @@ of_bytes (Trial number steps) bytes = record { usage = λ no. no; read_fault = �
 of_bytes (Verify rows) bytes = record { usage = λ no. no; read_fault = λ no. no; write_fault = λ no. no; too_long = λ no. no }
 of_bytes (Image rows) bytes = record { usage = λ no. no; read_fault = λ no. no; write_fault = λ no. no; too_long = λ no. no }
 of_bytes Show bytes = record { usage = λ no. no; read_fault = λ no. no; write_fault = λ no. no; too_long = λ no. no }
+of_bytes (Bulk workers) bytes = record { usage = λ no. no; read_fault = λ no. no; write_fault = λ no. no; too_long = λ no. no }
+of_bytes (Ids lo hi steps drops) bytes = record { usage = λ no. no; read_fault = λ no. no; write_fault = λ no. no; too_long = λ no. no }
 
 -- the bytes were refused, or memory ran out
 pub refused_ends : (command : Command) (failure : Failure) (old new : Streams) (bytes : List ℕ) → ReadsAll (limit_of command) old.left new.left bytes
@@ -47,6 +49,7 @@ pub refused_ends : (command : Command) (failure : Failure) (old new : Streams) (
 refused_ends command (failures.BadLog line why) old new bytes all is = (bytes, all, is)
 refused_ends command (failures.NoTranscript line) old new bytes all is = (bytes, all, is)
 refused_ends command (failures.NoTree line) old new bytes all is = (bytes, all, is)
+refused_ends command (failures.NotBuilt line why) old new bytes all is = (bytes, all, is)
 refused_ends command failures.Refused old new bytes all is = (bytes, all, is)
 refused_ends command (failures.BadImage error) old new bytes all is = (bytes, all, is)
 refused_ends command failures.NoMemory old new bytes all is = tt
@@ -78,6 +81,8 @@ memory_ends (Some (Trial number steps)) old new = refl
 memory_ends (Some (Verify rows)) old new = tt
 memory_ends (Some (Image rows)) old new = tt
 memory_ends (Some Show) old new = tt
+memory_ends (Some (Bulk workers)) old new = tt
+memory_ends (Some (Ids lo hi steps drops)) old new = refl
 
 pub has_no_memory : (command : Option Command) (result : Result (Unit {0}) Failure) (old new : Streams) → IsErrAnd result (λ e. e ≡ failures.NoMemory) → HasEnded command result old new
 has_no_memory command (Ok done) old new is = absurd is

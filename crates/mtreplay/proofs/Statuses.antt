@@ -8,7 +8,7 @@ use Rattle.mt_image.specs.Reading.{image_in}
 use Rattle.mt_io.specs.Faults.{Rose}
 use Rattle.mt_log.specs.Text.{text_of}
 use Rattle.mt_words.specs.declared.commands.Command.{Command}
-use Rattle.mt_words.specs.declared.commands.Command.TheVariants.{Replay, Make, Trial, Verify, Image, Show}
+use Rattle.mt_words.specs.declared.commands.Command.TheVariants.{Replay, Make, Trial, Verify, Image, Show, Bulk, Ids}
 use Rattle.mtreplay.specs.Causes.{Ends, EndsMaking, EndsReading, Fails, FailsToRead, HasEnded, RefusesInput, Streams}
 use Rattle.mtreplay.specs.Command.{limit_of, longest, reads}
 use Rattle.mtreplay.specs.Ending.{ReadsTooMany, ReadsWithin, status_of}
@@ -29,6 +29,8 @@ takes (Trial number steps) bytes text tried = tt
 takes (Verify rows) bytes text (log, t, parts, run, told) = (log, text_of t, parts, (t, run, refl))
 takes (Image rows) bytes text (log, is, image) = (log, is, has_tree rows log text image)
 takes Show bytes text (x, is, told) = ap (λ r. is_ok r) is
+takes (Bulk workers) bytes text (l, listed, fits, image) = (l, listed, fits)
+takes (Ids lo hi steps drops) bytes text tried = tt
 
 module _ (old new : Streams) where
   -- a command reads the source, or makes its text of its words alone
@@ -39,6 +41,8 @@ module _ (old new : Streams) where
   ends_reading (Verify rows) result read ends = ends
   ends_reading (Image rows) result read ends = ends
   ends_reading Show result read ends = ends
+  ends_reading (Bulk workers) result read ends = ends
+  ends_reading (Ids lo hi steps drops) result read ends = absurd (true≢false (sym read))
 
   ends_making : (command : Command) (result : Result (Unit {0}) Failure) → reads (Some command) ≡ false → Ends (Some command) result old new
       → EndsMaking (Prints command old.left) result old.written new.written old.sink_faults new.sink_faults
@@ -48,6 +52,8 @@ module _ (old new : Streams) where
   ends_making (Verify rows) result unread ends = absurd (true≢false unread)
   ends_making (Image rows) result unread ends = absurd (true≢false unread)
   ends_making Show result unread ends = absurd (true≢false unread)
+  ends_making (Bulk workers) result unread ends = absurd (true≢false unread)
+  ends_making (Ids lo hi steps drops) result unread ends = ends
 
 -- a command that makes its text takes any bytes
 takes_any : (command : Command) (bytes : List ℕ) → reads (Some command) ≡ false → Takes command bytes
@@ -57,6 +63,8 @@ takes_any (Trial number steps) bytes unread = tt
 takes_any (Verify rows) bytes unread = absurd (true≢false unread)
 takes_any (Image rows) bytes unread = absurd (true≢false unread)
 takes_any Show bytes unread = absurd (true≢false unread)
+takes_any (Bulk workers) bytes unread = absurd (true≢false unread)
+takes_any (Ids lo hi steps drops) bytes unread = tt
 
 -- ---- what was read and written, where the bytes are known
 
@@ -80,6 +88,8 @@ prints (Trial number steps) limit left rest bytes text all is = is
 prints (Verify rows) limit left rest bytes text all is = known limit left rest bytes (λ b. IsOutput (Verify rows) b text) all is
 prints (Image rows) limit left rest bytes text all is = known limit left rest bytes (λ b. IsOutput (Image rows) b text) all is
 prints Show limit left rest bytes text all is = known limit left rest bytes (λ b. IsOutput Show b text) all is
+prints (Bulk workers) limit left rest bytes text all is = known limit left rest bytes (λ b. IsOutput (Bulk workers) b text) all is
+prints (Ids lo hi steps drops) limit left rest bytes text all is = is
 
 -- what holds of all bytes holds of those that were left
 any_known : (left : Option (List ℕ)) (P : List ℕ → Type 0) → ((bytes : List ℕ) → P bytes) → IfSome left P
@@ -98,6 +108,7 @@ abbrev is_refusal : Failure → Bool
 is_refusal (failures.BadLog line why) = true
 is_refusal (failures.NoTranscript line) = true
 is_refusal (failures.NoTree line) = true
+is_refusal (failures.NotBuilt line why) = true
 is_refusal failures.Usage = false
 is_refusal failures.ReadFault = false
 is_refusal failures.WriteFault = false
@@ -111,6 +122,7 @@ abbrev of_source : Failure → Bool
 of_source (failures.BadLog line why) = true
 of_source (failures.NoTranscript line) = true
 of_source (failures.NoTree line) = true
+of_source (failures.NotBuilt line why) = true
 of_source failures.Refused = true
 of_source (failures.BadImage error) = true
 of_source failures.Usage = false
@@ -207,6 +219,7 @@ module _ (old new : Streams) where
   fails_here command (failures.BadLog line why) source fails = fails
   fails_here command (failures.NoTranscript line) source fails = fails
   fails_here command (failures.NoTree line) source fails = fails
+  fails_here command (failures.NotBuilt line why) source fails = fails
   fails_here command failures.Refused source fails = fails
   fails_here command (failures.BadImage error) source fails = fails
   fails_here command failures.ReadFault source fails = fails
@@ -222,6 +235,7 @@ module _ (old new : Streams) where
   makes_here IsText (failures.BadLog line why) source ends = no_memory (failures.BadLog line why) source ends
   makes_here IsText (failures.NoTranscript line) source ends = no_memory (failures.NoTranscript line) source ends
   makes_here IsText (failures.NoTree line) source ends = no_memory (failures.NoTree line) source ends
+  makes_here IsText (failures.NotBuilt line why) source ends = no_memory (failures.NotBuilt line why) source ends
   makes_here IsText failures.Refused source ends = no_memory failures.Refused source ends
   makes_here IsText (failures.BadImage error) source ends = no_memory (failures.BadImage error) source ends
   makes_here IsText failures.ReadFault source ends = no_memory failures.ReadFault source ends
@@ -291,6 +305,8 @@ module _ (command : Option Command) (old new : Streams) where
   unverified (Verify rows) at (bytes, all, refuses) = (rows, at, known (limit_of (Verify rows)) old.left new.left bytes (λ b. IsUnverified rows b failures.Refused) all refuses)
   unverified (Image rows) at (bytes, all, refuses) = absurd refuses
   unverified Show at (bytes, all, refuses) = absurd refuses
+  unverified (Bulk workers) at (bytes, all, refuses) = absurd refuses
+  unverified (Ids lo hi steps drops) at (bytes, all, refuses) = absurd refuses
 
   -- and an image by another alone
   no_image : (error : ImageError) (c : Command) → command ≡ Some c → RefusesInput (limit_of c) (Refuses c) (failures.BadImage error) old.left new.left
@@ -301,6 +317,8 @@ module _ (command : Option Command) (old new : Streams) where
   no_image error (Verify rows) at (bytes, all, refuses) = absurd refuses
   no_image error (Image rows) at (bytes, all, refuses) = absurd refuses
   no_image error Show at (bytes, all, refuses) = (at, known (limit_of Show) old.left new.left bytes (λ b. image_in b ≡ Err error) all refuses)
+  no_image error (Bulk workers) at (bytes, all, refuses) = absurd refuses
+  no_image error (Ids lo hi steps drops) at (bytes, all, refuses) = absurd refuses
 
 module _ {command : Option Command} {old new : Streams} where
   -- ---- what the status 0 says
@@ -338,6 +356,7 @@ module _ {command : Option Command} {old new : Streams} where
   refusal (failures.BadLog line why) own ends = let (c, at, f) = failed old new command (failures.BadLog line why) refl ends.ends in record { by = c; is = at; input = f.cause }
   refusal (failures.NoTranscript line) own ends = let (c, at, f) = failed old new command (failures.NoTranscript line) refl ends.ends in record { by = c; is = at; input = f.cause }
   refusal (failures.NoTree line) own ends = let (c, at, f) = failed old new command (failures.NoTree line) refl ends.ends in record { by = c; is = at; input = f.cause }
+  refusal (failures.NotBuilt line why) own ends = let (c, at, f) = failed old new command (failures.NotBuilt line why) refl ends.ends in record { by = c; is = at; input = f.cause }
   refusal failures.Refused own ends = let (c, at, f) = failed old new command failures.Refused refl ends.ends in record { by = c; is = at; input = f.cause }
   refusal (failures.BadImage error) own ends = let (c, at, f) = failed old new command (failures.BadImage error) refl ends.ends in record { by = c; is = at; input = f.cause }
   refusal failures.Usage own ends = absurd (true≢false (sym own))
@@ -353,6 +372,7 @@ module _ {command : Option Command} {old new : Streams} where
   err_refused (failures.BadLog line why) ends is = refused_by (failures.BadLog line why) refl ends
   err_refused (failures.NoTranscript line) ends is = refused_by (failures.NoTranscript line) refl ends
   err_refused (failures.NoTree line) ends is = refused_by (failures.NoTree line) refl ends
+  err_refused (failures.NotBuilt line why) ends is = refused_by (failures.NotBuilt line why) refl ends
   err_refused failures.Refused ends is = absurd (omega (arith, is))
   err_refused (failures.BadImage error) ends is = absurd (omega (arith, is))
   err_refused failures.Usage ends is = absurd (omega (arith, is))
@@ -366,6 +386,7 @@ module _ {command : Option Command} {old new : Streams} where
   err_unverified (failures.BadLog line why) ends is = absurd (omega (arith, is))
   err_unverified (failures.NoTranscript line) ends is = absurd (omega (arith, is))
   err_unverified (failures.NoTree line) ends is = absurd (omega (arith, is))
+  err_unverified (failures.NotBuilt line why) ends is = absurd (omega (arith, is))
   err_unverified failures.Refused ends is = let r = refusal failures.Refused refl ends in unverified command old new r.by r.is r.input
   err_unverified (failures.BadImage error) ends is = absurd (omega (arith, is))
   err_unverified failures.Usage ends is = absurd (omega (arith, is))
@@ -379,6 +400,7 @@ module _ {command : Option Command} {old new : Streams} where
   err_no_image (failures.BadLog line why) ends is = absurd (omega (arith, is))
   err_no_image (failures.NoTranscript line) ends is = absurd (omega (arith, is))
   err_no_image (failures.NoTree line) ends is = absurd (omega (arith, is))
+  err_no_image (failures.NotBuilt line why) ends is = absurd (omega (arith, is))
   err_no_image failures.Refused ends is = absurd (omega (arith, is))
   err_no_image (failures.BadImage error) ends is = let r = refusal (failures.BadImage error) refl ends in let is_none = no_image command old new error r.by r.is r.input in (error, is_none.0, is_none.1)
   err_no_image failures.Usage ends is = absurd (omega (arith, is))
@@ -391,6 +413,7 @@ module _ {command : Option Command} {old new : Streams} where
   err_usage (failures.BadLog line why) ends is = absurd (omega (arith, is))
   err_usage (failures.NoTranscript line) ends is = absurd (omega (arith, is))
   err_usage (failures.NoTree line) ends is = absurd (omega (arith, is))
+  err_usage (failures.NotBuilt line why) ends is = absurd (omega (arith, is))
   err_usage failures.Refused ends is = absurd (omega (arith, is))
   err_usage (failures.BadImage error) ends is = absurd (omega (arith, is))
   err_usage failures.Usage ends is = no_command old new command ends.ends
@@ -409,6 +432,7 @@ module _ {command : Option Command} {old new : Streams} where
   err_read_fault (failures.BadLog line why) ends is = absurd (omega (arith, is))
   err_read_fault (failures.NoTranscript line) ends is = absurd (omega (arith, is))
   err_read_fault (failures.NoTree line) ends is = absurd (omega (arith, is))
+  err_read_fault (failures.NotBuilt line why) ends is = absurd (omega (arith, is))
   err_read_fault failures.Refused ends is = absurd (omega (arith, is))
   err_read_fault (failures.BadImage error) ends is = absurd (omega (arith, is))
   err_read_fault failures.Usage ends is = absurd (omega (arith, is))
@@ -423,6 +447,7 @@ module _ {command : Option Command} {old new : Streams} where
   write_fault (failures.BadLog line why) ends is = absurd (omega (arith, is))
   write_fault (failures.NoTranscript line) ends is = absurd (omega (arith, is))
   write_fault (failures.NoTree line) ends is = absurd (omega (arith, is))
+  write_fault (failures.NotBuilt line why) ends is = absurd (omega (arith, is))
   write_fault failures.Refused ends is = absurd (omega (arith, is))
   write_fault (failures.BadImage error) ends is = absurd (omega (arith, is))
   write_fault failures.Usage ends is = absurd (omega (arith, is))
@@ -451,6 +476,7 @@ module _ {command : Option Command} {old new : Streams} where
   err_too_long (failures.BadLog line why) ends is = absurd (omega (arith, is))
   err_too_long (failures.NoTranscript line) ends is = absurd (omega (arith, is))
   err_too_long (failures.NoTree line) ends is = absurd (omega (arith, is))
+  err_too_long (failures.NotBuilt line why) ends is = absurd (omega (arith, is))
   err_too_long failures.Refused ends is = absurd (omega (arith, is))
   err_too_long (failures.BadImage error) ends is = absurd (omega (arith, is))
   err_too_long failures.Usage ends is = absurd (omega (arith, is))
@@ -470,6 +496,7 @@ module _ {command : Option Command} {old new : Streams} where
   err_unread (failures.BadLog line why) ends unreads = absurd (never_reads command unreads (reads_it (failures.BadLog line why) refl ends))
   err_unread (failures.NoTranscript line) ends unreads = absurd (never_reads command unreads (reads_it (failures.NoTranscript line) refl ends))
   err_unread (failures.NoTree line) ends unreads = absurd (never_reads command unreads (reads_it (failures.NoTree line) refl ends))
+  err_unread (failures.NotBuilt line why) ends unreads = absurd (never_reads command unreads (reads_it (failures.NotBuilt line why) refl ends))
   err_unread failures.Refused ends unreads = absurd (never_reads command unreads (reads_it failures.Refused refl ends))
   err_unread (failures.BadImage error) ends unreads = absurd (never_reads command unreads (reads_it (failures.BadImage error) refl ends))
   err_unread failures.Usage ends unreads = (λ is. omega (arith, is), λ is. omega (arith, is), λ is. omega (arith, is), λ is. omega (arith, is), λ is. omega (arith, is))
@@ -486,6 +513,7 @@ module _ {command : Option Command} {old new : Streams} where
   err_complete (failures.BadLog line why) ends c is bytes left no_source no_sink = inl (due_by (failures.BadLog line why) refl ends c is bytes left)
   err_complete (failures.NoTranscript line) ends c is bytes left no_source no_sink = inl (due_by (failures.NoTranscript line) refl ends c is bytes left)
   err_complete (failures.NoTree line) ends c is bytes left no_source no_sink = inl (due_by (failures.NoTree line) refl ends c is bytes left)
+  err_complete (failures.NotBuilt line why) ends c is bytes left no_source no_sink = inl (due_by (failures.NotBuilt line why) refl ends c is bytes left)
   err_complete failures.Refused ends c is bytes left no_source no_sink = inl (due_by failures.Refused refl ends c is bytes left)
   err_complete (failures.BadImage error) ends c is bytes left no_source no_sink = inl (due_by (failures.BadImage error) refl ends c is bytes left)
   err_complete failures.Usage ends c is bytes left no_source no_sink = let none = no_command old new command ends.ends in absurd (cc (none, is))
@@ -505,6 +533,7 @@ module _ {command : Option Command} {old new : Streams} where
   err_ended (failures.BadLog line why) ends is = ended_by (failures.BadLog line why) refl ends
   err_ended (failures.NoTranscript line) ends is = ended_by (failures.NoTranscript line) refl ends
   err_ended (failures.NoTree line) ends is = ended_by (failures.NoTree line) refl ends
+  err_ended (failures.NotBuilt line why) ends is = ended_by (failures.NotBuilt line why) refl ends
   err_ended failures.Refused ends is = absurd (omega (arith, is))
   err_ended (failures.BadImage error) ends is = absurd (omega (arith, is))
   err_ended failures.Usage ends is = absurd (omega (arith, is))
@@ -517,6 +546,7 @@ module _ {command : Option Command} {old new : Streams} where
   err_ended_too (failures.BadLog line why) ends read is = ended_by (failures.BadLog line why) refl ends
   err_ended_too (failures.NoTranscript line) ends read is = ended_by (failures.NoTranscript line) refl ends
   err_ended_too (failures.NoTree line) ends read is = ended_by (failures.NoTree line) refl ends
+  err_ended_too (failures.NotBuilt line why) ends read is = ended_by (failures.NotBuilt line why) refl ends
   err_ended_too failures.Refused ends read is = ended_by failures.Refused refl ends
   err_ended_too (failures.BadImage error) ends read is = ended_by (failures.BadImage error) refl ends
   err_ended_too failures.Usage ends read is = elim is [ inl e ↦ absurd (omega (arith, e)) | inr e ↦ absurd (omega (arith, e)) ]
@@ -533,6 +563,7 @@ module _ {command : Option Command} {old new : Streams} where
   err_within (failures.BadLog line why) ends kept memory long = within_all (failures.BadLog line why) refl ends
   err_within (failures.NoTranscript line) ends kept memory long = within_all (failures.NoTranscript line) refl ends
   err_within (failures.NoTree line) ends kept memory long = within_all (failures.NoTree line) refl ends
+  err_within (failures.NotBuilt line why) ends kept memory long = within_all (failures.NotBuilt line why) refl ends
   err_within failures.Refused ends kept memory long = within_all failures.Refused refl ends
   err_within (failures.BadImage error) ends kept memory long = within_all (failures.BadImage error) refl ends
   err_within failures.Usage ends kept memory long = reads_nothing (longest command) old.left new.left (kept (ap reads (no_command old new command ends.ends)))
@@ -548,6 +579,7 @@ module _ {command : Option Command} {old new : Streams} where
   err_told (failures.BadLog line why) ends = refused_by (failures.BadLog line why) refl ends
   err_told (failures.NoTranscript line) ends = refused_by (failures.NoTranscript line) refl ends
   err_told (failures.NoTree line) ends = refused_by (failures.NoTree line) refl ends
+  err_told (failures.NotBuilt line why) ends = refused_by (failures.NotBuilt line why) refl ends
   err_told failures.Refused ends = refused_by failures.Refused refl ends
   err_told (failures.BadImage error) ends = refused_by (failures.BadImage error) refl ends
   err_told failures.Usage ends = tt

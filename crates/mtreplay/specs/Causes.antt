@@ -4,18 +4,22 @@ use Rattle.std.specs.Io.KnownBytes.{Appends}
 use Rattle.mt_io.specs.Faults.{Rose}
 use Rattle.mt_image.specs.declared.errors.ImageError.{ImageError}
 use Rattle.mt_image.specs.declared.errors.ImageError.TheVariants as images
+use Rattle.mt_listing.specs.declared.errors.ListingError.{ListingError}
+use Rattle.mt_listing.specs.declared.errors.ListingError.TheVariants as listings
 use Rattle.mt_log.specs.declared.faults.LogError.{LogError}
 use Rattle.mt_log.specs.declared.faults.LogError.TheVariants as logs
 use Rattle.mt_words.specs.declared.commands.Command.{Command}
-use Rattle.mt_words.specs.declared.commands.Command.TheVariants.{Replay, Make, Trial, Verify, Image, Show}
+use Rattle.mt_words.specs.declared.commands.Command.TheVariants.{Replay, Make, Trial, Verify, Image, Show, Bulk, Ids}
 use Rattle.mtreplay.specs.Command.{limit_of}
 use Rattle.mtreplay.specs.Ending.{ReadsTooMany, ReadsWithin}
+use Rattle.mt_cycles.specs.Turns.{IsIdsText}
 use Rattle.mt_texts.specs.Texts.{IsMadeText, IsTrialText}
 use Rattle.mtreplay.specs.Headline.{IsOutput}
 use Rattle.mtreplay.specs.Input.{ReadsAll}
 use Rattle.mtreplay.specs.Verdicts.{Refuses}
 use Rattle.mtreplay.specs.declared.failures.Failure.{Failure}
 use Rattle.mtreplay.specs.declared.failures.Failure.TheVariants as failures
+use Rattle.mtreplay.specs.declared.failures.Unbuilt.TheVariants as unbuilt
 use Rattle.mtreplay.specs.declared.streams.ReadError.{ReadError}
 use Rattle.mtreplay.specs.declared.streams.ReadError.TheVariants as reads
 
@@ -23,6 +27,10 @@ abbrev pub failure_of_read : ReadError → Failure
 failure_of_read reads.Fault = failures.ReadFault
 failure_of_read reads.TooLong = failures.TooLong
 failure_of_read reads.NoMemory = failures.NoMemory
+
+abbrev pub failure_of_listing : ListingError → Failure
+failure_of_listing (listings.Bad line) = failures.NotBuilt line unbuilt.Listing
+failure_of_listing listings.NoMemory = failures.NoMemory
 
 abbrev pub failure_of_log : LogError → Failure
 failure_of_log (logs.Bad line why) = failures.BadLog line why
@@ -42,6 +50,7 @@ abbrev pub FailsToRead : ℕ → (List ℕ → Failure → Type 0) → Failure �
 FailsToRead limit Refused (failures.BadLog line why) left rest before after = RefusesInput limit Refused (failures.BadLog line why) left rest
 FailsToRead limit Refused (failures.NoTranscript line) left rest before after = RefusesInput limit Refused (failures.NoTranscript line) left rest
 FailsToRead limit Refused (failures.NoTree line) left rest before after = RefusesInput limit Refused (failures.NoTree line) left rest
+FailsToRead limit Refused (failures.NotBuilt line why) left rest before after = RefusesInput limit Refused (failures.NotBuilt line why) left rest
 FailsToRead limit Refused failures.Usage left rest before after = ⊥
 FailsToRead limit Refused failures.ReadFault left rest before after = ReadsWithin limit left rest × Rose before after
 FailsToRead limit Refused failures.WriteFault left rest before after = ⊥
@@ -106,6 +115,8 @@ Ends (Some (Verify rows)) result old new = EndsReading (Verify rows) result old 
 Ends (Some (Image rows)) result old new = EndsReading (Image rows) result old new
 Ends (Some Show) result old new = EndsReading Show result old new
 Ends None result old new = (result ≡ Err failures.Usage) ⊎ (result ≡ Err failures.NoMemory)
+Ends (Some (Bulk workers)) result old new = EndsReading (Bulk workers) result old new
+Ends (Some (Ids lo hi steps drops)) result old new = EndsMaking (IsIdsText lo hi steps drops) result old.written new.written old.sink_faults new.sink_faults
 
 -- the same, as a fact that tells of which streams it speaks
 pub record HasEnded (command : Option Command) (result : Result (Unit {0}) Failure) (old new : Streams) : Type 0 where

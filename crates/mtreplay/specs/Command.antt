@@ -1,7 +1,7 @@
 -- Which commands read the source, and how much of it.
 use Rattle.std.specs.Prelude.{ℕ, Bool, true, false, Option, Some, None}
 use Rattle.mt_words.specs.declared.commands.Command.{Command}
-use Rattle.mt_words.specs.declared.commands.Command.TheVariants.{Replay, Make, Trial, Verify, Image, Show}
+use Rattle.mt_words.specs.declared.commands.Command.TheVariants.{Replay, Make, Trial, Verify, Image, Show, Bulk, Ids}
 
 -- the words are a command that reads the source
 abbrev pub reads : Option Command → Bool
@@ -12,6 +12,8 @@ reads (Some (Trial number steps)) = false
 reads (Some (Verify rows)) = true
 reads (Some (Image rows)) = true
 reads (Some Show) = true
+reads (Some (Bulk workers)) = true
+reads (Some (Ids lo hi steps drops)) = false
 
 -- the most bytes that the input of a command may have: one that reads nothing has none
 abbrev pub limit_of : Command → ℕ
@@ -21,6 +23,8 @@ limit_of (Trial number steps) = 0
 limit_of (Verify rows) = 67108864
 limit_of (Image rows) = 8388608
 limit_of Show = 67108864
+limit_of (Bulk workers) = 8388608
+limit_of (Ids lo hi steps drops) = 0
 
 -- the same of words, which may be no command
 abbrev pub longest : Option Command → ℕ

@@ -8,11 +8,14 @@ use Rattle.mt_image.specs.Texts.{error_text}
 use Rattle.mt_log.specs.Fault.{why_text}
 use Rattle.mtreplay.specs.declared.failures.Failure.{Failure}
 use Rattle.mtreplay.specs.declared.failures.Failure.TheVariants as failures
+use Rattle.mtreplay.specs.declared.failures.Unbuilt.{Unbuilt}
+use Rattle.mtreplay.specs.declared.failures.Unbuilt.TheVariants as unbuilt
 
 abbrev pub status_of : Failure → ℕ
 status_of (failures.BadLog line why) = 1
 status_of (failures.NoTranscript line) = 1
 status_of (failures.NoTree line) = 1
+status_of (failures.NotBuilt line why) = 1
 status_of failures.Usage = 2
 status_of failures.ReadFault = 3
 status_of failures.WriteFault = 4
@@ -25,6 +28,12 @@ status_of (failures.BadImage error) = 8
 abbrev pub line_text : ℕ → List ℕ → List ℕ
 line_text line why = codes "mtreplay: line " ++ (decimal line ++ (codes ": " ++ (why ++ 10 ∷ [])))
 
+-- why no tree is built of the input
+abbrev pub unbuilt_text : Unbuilt → List ℕ
+unbuilt_text unbuilt.Listing = codes "bad listing"
+unbuilt_text unbuilt.Order = codes "bad order"
+unbuilt_text unbuilt.Rows = codes "too many rows"
+
 -- why the input is no image
 abbrev pub refusal_text : ImageError → List ℕ
 refusal_text error = codes "mtreplay: image refused: " ++ (error_text error ++ 10 ∷ [])
@@ -34,7 +43,8 @@ abbrev pub failure_text : Failure → List ℕ
 failure_text (failures.BadLog line why) = line_text line (why_text why)
 failure_text (failures.NoTranscript line) = line_text line (codes "no transcript")
 failure_text (failures.NoTree line) = line_text line (codes "no tree")
-failure_text failures.Usage = codes "mtreplay: usage: replay [--rows N], make NUMBER STEPS LANES, trial NUMBER STEPS, verify [--rows N], image [--rows N], show\n"
+failure_text (failures.NotBuilt line why) = line_text line (unbuilt_text why)
+failure_text failures.Usage = codes "mtreplay: usage: replay [--rows N], make NUMBER STEPS LANES, trial NUMBER STEPS, verify [--rows N], image [--rows N], show, bulk WORKERS, ids LO HI STEPS DROP\n"
 failure_text failures.ReadFault = codes "mtreplay: read fault\n"
 failure_text failures.WriteFault = codes "mtreplay: write fault\n"
 failure_text failures.NoMemory = codes "mtreplay: out of memory\n"

@@ -1,18 +1,25 @@
 -- What a command says of the bytes that it read: it takes them, or refuses them for a cause; and which status they call for.
-use Rattle.std.specs.Prelude.{◌≡◌, ◌≢◌, ◌⊎◌, ◌<◌, ◌≤◌, ℕ, List, [], Option, Some, None, Ok, Err, length, IfSome, IsOk}
+use Rattle.std.specs.Prelude.{◌≡◌, ◌≢◌, ◌⊎◌, ◌+◌, ◌<◌, ◌≤◌, ℕ, List, [], Option, Some, None, Ok, Err, length, IfSome, IsOk}
+use Rattle.mt_bulk.specs.Builds.{refusal}
+use Rattle.mt_bulk.specs.declared.errors.BulkError.TheVariants as errors
 use Rattle.mt_image.specs.Reading.{image_in}
+use Rattle.mt_listing.specs.Listings.{IsBadAt}
 use Rattle.mt_log.specs.Fault.{fault_at}
 use Rattle.mt_log.specs.Reading.{log_of}
 use Rattle.mt_log.specs.Run.{TellsRun}
 use Rattle.mt_log.specs.Trees.{trees_of}
 use Rattle.mt_log.specs.declared.lines.Log.{Log}
+use Rattle.mt_log.specs.declared.transcripts.Listing.{Listing}
 use Rattle.mt_words.specs.declared.commands.Command.{Command}
-use Rattle.mt_words.specs.declared.commands.Command.TheVariants.{Replay, Make, Trial, Verify, Image, Show}
+use Rattle.mt_words.specs.declared.commands.Command.TheVariants.{Replay, Make, Trial, Verify, Image, Show, Bulk, Ids}
 use Rattle.mtreplay.specs.Command.{limit_of}
 use Rattle.mtreplay.specs.Ending.{Tells, failure_text, status_of}
+use Rattle.mtreplay.specs.Headline.{IsListed}
 use Rattle.mtreplay.specs.Parts.{AreParts, line_behind, parts_of}
 use Rattle.mtreplay.specs.declared.failures.Failure.{Failure}
 use Rattle.mtreplay.specs.declared.failures.Failure.TheVariants as failures
+use Rattle.mtreplay.specs.declared.failures.Unbuilt.{Unbuilt}
+use Rattle.mtreplay.specs.declared.failures.Unbuilt.TheVariants as unbuilt
 
 -- the bytes are no log, for this cause
 abbrev pub IsBadLog : List ℕ → Failure → Type 0
@@ -37,6 +44,18 @@ abbrev pub IsNoImage : List ℕ → Failure → Type 0
 IsNoImage bytes (failures.BadImage error) = image_in bytes ≡ Err error
 IsNoImage bytes failure = ⊥
 
+-- No tree is built of the bytes, for this reason, which is told at this line: they are no listing; the range at some place, counted
+-- from 0, which is none of the listing's kind or does not stand above the one before it, has the line two behind that place; or the
+-- tree has too many rows, which is told at the first line.
+abbrev pub IsUnbuiltAt : List ℕ → ℕ → Unbuilt → Type 0
+IsUnbuiltAt bytes line unbuilt.Listing = IsBadAt bytes line
+IsUnbuiltAt bytes line unbuilt.Order = (l : Listing) × (at : ℕ) × IsListed bytes l × (refusal l.kind l.ranges ≡ Some (errors.Order at)) × (line ≡ at + 2)
+IsUnbuiltAt bytes line unbuilt.Rows = (l : Listing) × (rows : ℕ) × IsListed bytes l × (refusal l.kind l.ranges ≡ Some (errors.TooMany rows)) × (line ≡ 1)
+
+abbrev pub IsUnbuilt : List ℕ → Failure → Type 0
+IsUnbuilt bytes (failures.NotBuilt line why) = IsUnbuiltAt bytes line why
+IsUnbuilt bytes failure = ⊥
+
 -- the bytes are what the command asks for: one that reads nothing takes any
 abbrev pub Takes : Command → List ℕ → Type 0
 Takes (Replay rows) bytes = IsOk (log_of bytes)
@@ -45,6 +64,8 @@ Takes (Trial number steps) bytes = Unit {0}
 Takes (Verify rows) bytes = (log : Log) × (text : List ℕ) × AreParts bytes log text × TellsRun rows log text
 Takes (Image rows) bytes = (log : Log) × (log_of bytes ≡ Ok log) × (trees_of log.lines ≢ [])
 Takes Show bytes = IsOk (image_in bytes)
+Takes (Bulk workers) bytes = (l : Listing) × IsListed bytes l × (refusal l.kind l.ranges ≡ None)
+Takes (Ids lo hi steps drops) bytes = Unit {0}
 
 -- the command refuses the bytes, for this cause
 abbrev pub Refuses : Command → List ℕ → Failure → Type 0
@@ -54,6 +75,8 @@ Refuses (Trial number steps) bytes failure = ⊥
 Refuses (Verify rows) bytes failure = IsUnverified rows bytes failure
 Refuses (Image rows) bytes failure = IsTreeless bytes failure
 Refuses Show bytes failure = IsNoImage bytes failure
+Refuses (Bulk workers) bytes failure = IsUnbuilt bytes failure
+Refuses (Ids lo hi steps drops) bytes failure = ⊥
 
 -- the status of the command's verdict on its bytes
 abbrev pub IsJudged : Command → List ℕ → ℕ → Type 0
@@ -80,6 +103,7 @@ abbrev pub IsToldOf : Option Command → Option (List ℕ) → Failure → Type 
 IsToldOf command left (failures.BadLog line why) = IsRefused command left (failures.BadLog line why)
 IsToldOf command left (failures.NoTranscript line) = IsRefused command left (failures.NoTranscript line)
 IsToldOf command left (failures.NoTree line) = IsRefused command left (failures.NoTree line)
+IsToldOf command left (failures.NotBuilt line why) = IsRefused command left (failures.NotBuilt line why)
 IsToldOf command left failures.Usage = Unit {0}
 IsToldOf command left failures.ReadFault = Unit {0}
 IsToldOf command left failures.WriteFault = Unit {0}

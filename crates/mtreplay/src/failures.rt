@@ -9,6 +9,7 @@ use mt_base::NoMemory;
 use mt_check::Law;
 use mt_image::ImageError;
 use mt_io::Sink;
+use mt_listing::ListingError;
 use mt_log::{LogError, Why};
 
 /// Room for the longest line that tells a failure.
@@ -23,6 +24,8 @@ pub enum Failure {
     NoTranscript { line: u64 },
     /// The log declares no tree: the number of the line behind all that are ended.
     NoTree { line: u64 },
+    /// No tree is built of the input: the line at which that shows.
+    NotBuilt { line: u64, why: Unbuilt },
     /// The words are no command.
     Usage,
     /// The source failed.
@@ -39,6 +42,33 @@ pub enum Failure {
     BadImage { error: ImageError },
 }
 
+/// Why no tree is built of an input.
+#[derive(Clone, Copy, Debug, PartialEq, Eq)]
+pub enum Unbuilt {
+    /// It is no listing.
+    Listing,
+    /// A range is none of a tree of the listing's kind, or does not stand above the one before it.
+    Order,
+    /// The tree would have more rows than can be named.
+    Rows,
+}
+
+impl Unbuilt {
+    ghost use Rattle.mtreplay.specs.Ending.{unbuilt_text};
+
+    /// The reason in words, of at most 23 bytes.
+    fn text(&self) -> &'static str
+        ensures text { result.now ≡ unbuilt_text self.now }
+        ensures short { length result.now ≤ 23 }
+    {
+        match self {
+            Unbuilt::Listing => "bad listing",
+            Unbuilt::Order => "bad order",
+            Unbuilt::Rows => "too many rows",
+        }
+    }
+}
+
 impl Failure {
     ghost use Rattle.std.specs.Prelude.{◌≡◌};
     ghost use Rattle.mtreplay.specs.Ending.{status_of, failure_text};
@@ -48,7 +78,10 @@ impl Failure {
         ensures { result ≡ status_of self.now }
     {
         match self {
-            Failure::BadLog { .. } | Failure::NoTranscript { .. } | Failure::NoTree { .. } => 1,
+            Failure::BadLog { .. }
+            | Failure::NoTranscript { .. }
+            | Failure::NoTree { .. }
+            | Failure::NotBuilt { .. } => 1,
             Failure::Usage => 2,
             Failure::ReadFault => 3,
             Failure::WriteFault => 4,
@@ -68,8 +101,9 @@ impl Failure {
             Failure::BadLog { line, why } => push_line(&mut text, line, why.text()),
             Failure::NoTranscript { line } => push_line(&mut text, line, "no transcript"),
             Failure::NoTree { line } => push_line(&mut text, line, "no tree"),
+            Failure::NotBuilt { line, why } => push_line(&mut text, line, why.text()),
             Failure::Usage => text.push_str(
-                "mtreplay: usage: replay [--rows N], make NUMBER STEPS LANES, trial NUMBER STEPS, verify [--rows N], image [--rows N], show\n",
+                "mtreplay: usage: replay [--rows N], make NUMBER STEPS LANES, trial NUMBER STEPS, verify [--rows N], image [--rows N], show, bulk WORKERS, ids LO HI STEPS DROP\n",
             ),
             Failure::ReadFault => text.push_str("mtreplay: read fault\n"),
             Failure::WriteFault => text.push_str("mtreplay: write fault\n"),
@@ -185,6 +219,23 @@ impl From<LogError> for Failure {
         match error {
             LogError::Bad { line, why } => Failure::BadLog { line, why },
             LogError::NoMemory => Failure::NoMemory,
+        }
+    }
+}
+
+impl From<ListingError> for Failure {
+    ghost use Rattle.std.specs.Prelude.{◌≡◌};
+    ghost use Rattle.mtreplay.specs.Causes.{failure_of_listing};
+
+    ghost from_gives = { λ r e. e ≡ failure_of_listing r };
+
+    fn from(error: ListingError) -> Self {
+        match error {
+            ListingError::Bad { line } => Failure::NotBuilt {
+                line,
+                why: Unbuilt::Listing,
+            },
+            ListingError::NoMemory => Failure::NoMemory,
         }
     }
 }

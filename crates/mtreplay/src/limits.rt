@@ -8,8 +8,8 @@ pub fn limit_of(command: &Command) -> usize
     ensures { result ≡ limit_of command.now }
 {
     match command {
-        Command::Replay { .. } | Command::Image { .. } => 8_388_608,
+        Command::Replay { .. } | Command::Image { .. } | Command::Bulk { .. } => 8_388_608,
         Command::Verify { .. } | Command::Show => 67_108_864,
-        Command::Make { .. } | Command::Trial { .. } => 0,
+        Command::Make { .. } | Command::Trial { .. } | Command::Ids { .. } => 0,
     }
 }

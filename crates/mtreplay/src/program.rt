@@ -12,19 +12,23 @@ ghost use Rattle.mt_words.specs.Commands.{IsWithin, command_of};
 ghost use Rattle.mtreplay.specs.Causes.{FailsOn, EndsMaking, EndsPrint, EndsReading, HasEnded, streams};
 ghost use Rattle.mtreplay.specs.Command.{limit_of, longest, reads};
 ghost use Rattle.mtreplay.specs.Ending.{ReadsNoFurther, ReadsTooMany, ReadsWithin, status_of};
+ghost use Rattle.mt_cycles.specs.Turns.{IsIdsText};
 ghost use Rattle.mt_texts.specs.Texts.{IsImageListing, IsMadeText, IsTrialText};
-ghost use Rattle.mtreplay.specs.Headline.{IsImageOfLog, IsOutput, IsTextOfRun, IsVerifiedText, Writes, WritesPart};
-ghost use Rattle.mtreplay.specs.Verdicts.{IsBadLog, IsDue, IsNoImage, IsRefused, IsTaken, IsTreeless, IsUnverified, Refuses, TellsStatus};
+ghost use Rattle.mtreplay.specs.Headline.{IsBuiltImage, IsImageOfLog, IsOutput, IsTextOfRun, IsVerifiedText, Writes, WritesPart};
+ghost use Rattle.mtreplay.specs.Verdicts.{IsBadLog, IsDue, IsNoImage, IsRefused, IsTaken, IsTreeless, IsUnbuilt, IsUnverified, Refuses, TellsStatus};
 
-use crate::failures::{Failure, report};
+use crate::failures::{Failure, Unbuilt, report};
 use crate::limits::limit_of;
 use crate::parts::{cut, line_behind};
 use crate::streams::{read_input, write_output};
 use crate::treeless::declares_tree;
 use crate::verified::verified_text;
+use mt_bulk::BulkError;
+use mt_cycles::ids_text;
 use mt_io::{Gate, Sink, Source};
+use mt_listing::read_listing;
 use mt_log::{Log, LogError, read_log};
-use mt_texts::{answers, image_listing, image_of_run, made_text, trial_text};
+use mt_texts::{answers, built_image, image_listing, image_of_run, made_text, trial_text};
 use mt_verify::{Verdict, calls_of, verify};
 use mt_words::{Command, read_words};
 use std::alloc::Global;
@@ -97,6 +101,37 @@ fn listed<R: Wait>(rt: &R, alloc: Global, bytes: &[u8]) -> Result<Vec<u8>, Failu
     Ok(image_listing(rt, alloc, bytes)?)
 }
 
+/// An image of a tree with just the ranges of the listing that the bytes are, built by so many workers at once.
+#[tactic(auto, using(crate::proofs::Places::place_fits, crate::proofs::Places::is_built, crate::proofs::Places::out_of_order, crate::proofs::Places::too_many_rows, crate::proofs::Places::no_listing))]
+fn built<R: Threads + Wait + Sync, G: Gate + Sync>(
+    rt: &R,
+    alloc: Global,
+    workers: u32,
+    bytes: &[u8],
+    gate: &G,
+) -> Result<Vec<u8>, Failure>
+    requires some { 1 ≤ workers }
+    requires few { workers ≤ 16 }
+    requires count { length bytes.now < 2 ^ 32 }
+    ensures fine { IfOk result (λ image. IsBuiltImage bytes.now image.items) }
+    ensures fails { IfErr result (FailsOn IsUnbuilt bytes.now) }
+{
+    let listing = read_listing(alloc, bytes)?;
+    let ranges = listing.ranges.as_slice();
+    match built_image(rt, alloc, listing.kind, ranges, workers, gate) {
+        Ok(image) => Ok(image),
+        Err(BulkError::Order { at }) => Err(Failure::NotBuilt {
+            line: at + 2,
+            why: Unbuilt::Order,
+        }),
+        Err(BulkError::TooMany { .. }) => Err(Failure::NotBuilt {
+            line: 1,
+            why: Unbuilt::Rows,
+        }),
+        Err(BulkError::NoMemory) => Err(Failure::NoMemory),
+    }
+}
+
 /// Tells how many calls and reads a transcript tells, if the bytes are a log, the line that cuts, and the text of a transcript of
 /// a run of the log over trees of so many rows.
 fn verified(alloc: Global, rows: u64, bytes: &[u8]) -> Result<Vec<u8>, Failure>
@@ -136,7 +171,8 @@ fn output_of<R: Threads + Wait + Sync, G: Gate + Sync>(
         Command::Verify { rows } => verified(alloc, rows, &input),
         Command::Image { rows } => imaged(rt, alloc, rows, input, gate),
         Command::Show => listed(rt, alloc, &input),
-        Command::Make { .. } | Command::Trial { .. } => unreachable!(),
+        Command::Bulk { workers } => built(rt, alloc, workers, &input, gate),
+        Command::Make { .. } | Command::Trial { .. } | Command::Ids { .. } => unreachable!(),
     }
 }
 
@@ -206,6 +242,27 @@ fn trial<R: Threads + Wait + Sync, O: Sink, G: Gate + Sync>(
     print(out, text.as_str().as_bytes())
 }
 
+/// Draws numbers by turns, and prints what that came to.
+fn cycle<R: Threads + Wait + Sync, O: Sink>(
+    rt: &R,
+    alloc: Global,
+    window: (u64, u64),
+    steps: u32,
+    drops: u32,
+    out: &mut O,
+) -> Result<(), Failure>
+    requires window { window.0 ≤ window.1 }
+    requires steps { steps ≤ 100000 }
+    ensures ends { EndsMaking (IsIdsText window.0 window.1 steps drops) result (O.written out.old) (O.written out.new) (O.faults out.old) (O.faults out.new) }
+    ensures out_kept { IfErr result (λ e. e ≢ Failure.WriteFault → out.new ≡ out.old) }
+    ensures out_quiet { OnOk result (O.faults out.new ≡ O.faults out.old) }
+    ensures out_in_time { O.faults out.old ≡ 0 → O.late out.old ≡ 0 → O.late out.new ≡ 0 }
+{
+    let (lo, hi) = window;
+    let text = ids_text(rt, alloc, lo, hi, steps, drops)?;
+    print(out, text.as_str().as_bytes())
+}
+
 /// Does what the words say.
 fn run<R: Threads + Wait + Sync, S: Source, O: Sink, G: Gate + Sync>(
     rt: &R,
@@ -260,15 +317,32 @@ fn run<R: Threads + Wait + Sync, S: Source, O: Sink, G: Gate + Sync>(
             gate,
         ),
         Some(Command::Show) => answer(rt, alloc, &Command::Show, src, out, gate),
+        Some(Command::Bulk { workers }) => answer(
+            rt,
+            alloc,
+            &Command::Bulk { workers },
+            src,
+            out,
+            gate,
+        ),
+        Some(
+            Command::Ids {
+                lo,
+                hi,
+                steps,
+                drop,
+            },
+        ) => cycle(rt, alloc, (lo, hi), steps, drop, out),
         None => Err(Failure::Usage),
     }
 }
 
 /// Does what the words after the program's name say, and gives the status to end with.
 ///
-/// 0: done. 1: the input is no log, or has no transcript, or no tree. 2: the words are no command. 3: a fault of reading. 4: a fault of
-/// writing. 5: want of memory. 6: the input is longer than 8,388,608 bytes, or 67,108,864 with a transcript or where it is to be an
-/// image. 7: the transcript is refused. 8: the image is refused. At every status but 0 a line on `err` says so.
+/// 0: done. 1: the input is no log, or has no transcript, or no tree, or no tree is built of it. 2: the words are no command. 3: a
+/// fault of reading. 4: a fault of writing. 5: want of memory. 6: the input is longer than 8,388,608 bytes, or 67,108,864 with a
+/// transcript or where it is to be an image. 7: the transcript is refused. 8: the image is refused. At every status but 0 a line on
+/// `err` says so.
 pub fn mtreplay<R: Threads + Wait + Sync, S: Source, O: Sink, E: Sink, G: Gate + Sync>(
     rt: &R,
     alloc: Global,
@@ -280,7 +354,7 @@ pub fn mtreplay<R: Threads + Wait + Sync, S: Source, O: Sink, E: Sink, G: Gate +
 ) -> u8
     // What is printed is what the command prints: the text of a run of the log that was read, or an image of its first tree, the
     // log that is made of a number, what a run of that came to, how much the transcript tells that was read, which is one of a
-    // run, or the listing of the tree whose image was read.
+    // run, the listing of the tree whose image was read, or an image of a tree with the ranges of the listing that was read.
     ensures prints { (command : Command) → command_of (map string_bytes words.now) ≡ Some command → result ≡ 0
         → Writes command (S.left src.old) (O.written out.old) (O.written out.new) }
 

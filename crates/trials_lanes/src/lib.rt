@@ -9,6 +9,8 @@ mod empty;
 #[cfg(test)]
 mod lanes;
 #[cfg(test)]
+mod locked;
+#[cfg(test)]
 mod phases;
 #[cfg(test)]
 mod streams;

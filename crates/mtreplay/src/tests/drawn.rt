@@ -1,5 +1,6 @@
+use crate::tests::lines::push_range;
 use crate::tests::played::listed_text;
-use crate::tests::{run, steps};
+use crate::tests::{run, same, steps};
 use mt_io::MemSource;
 use std::alloc::{AllocError, Global};
 use std::process::Abort;
@@ -36,7 +37,7 @@ pub fn push_store(log: &mut String, tree: &str, draws: &mut Draws) -> Result<(),
     let first = 8 * u64::from(draws.below(PLACES));
     let last = first + u64::from(draws.below(20));
     let entry = draws.below(6);
-    writeln!(log, "store {tree} {first} {last} {entry}")
+    push_range(log, tree, first, last, entry)
 }
 
 fn drawn_log(alloc: Global) -> Result<String, AllocError> {
@@ -49,7 +50,7 @@ fn drawn_log(alloc: Global) -> Result<String, AllocError> {
 }
 
 /// The program answers the log as a list does.
-fn expect_listed<R: Threads + Wait + Sync + AllocGlobal + Abort>(
+pub fn expect_listed<R: Threads + Wait + Sync + AllocGlobal + Abort>(
     rt: &R,
     log: &str,
     room: usize,
@@ -59,7 +60,7 @@ fn expect_listed<R: Threads + Wait + Sync + AllocGlobal + Abort>(
     let bytes = Vec::from_slice(alloc, log.as_bytes())?;
     let mut src = MemSource::new(bytes, usize::MAX, Vec::new(alloc));
     let ending = run(rt, &["replay"], &mut src, room, 256)?;
-    assert_eq!(rt; ending.status, 0);
+    same(rt, ending.status, 0, "its status");
     // The texts are too long to be printed where they differ.
     assert!(rt; ending.out.bytes() == want.as_slice());
     Ok(())

@@ -1,6 +1,7 @@
 //! Transcripts that `verify` judges.
 
-use crate::tests::{NEVER, expect_verified, run, source};
+use crate::tests::commands::printed;
+use crate::tests::{expect_run, expect_verified, unfolded};
 use std::process::Abort;
 use std::sync::Wait;
 use std::test::Fail;
@@ -10,86 +11,67 @@ use std::thread::Threads;
 const LOG: &str =
     "mtlog 1\ntree a range\nlane 0\nstore a 1 1 5\nstore a 1 1 7\nlane 1\nload a 1\nload a 1\n";
 
-/// What is said of it, the status, and what is printed and told.
-const JUDGED: [(&str, u8, &str, &str); 8] = [
-    (
-        "4 1 ok\n5 2 ok\n7 0 1 entry 5\n8 0 2 entry 7\ntree a range 1\n1 1 7\n",
-        0,
-        "verified 2 2\n",
-        "",
-    ),
-    (
-        "4 1 ok\n5 2 ok\n7 0 0 none\n8 0 2 entry 7\ntree a range 1\n1 1 7\n",
-        0,
-        "verified 2 2\n",
-        "",
-    ),
-    // The first read is true of two calls alone, and the second of one.
-    (
-        "4 1 ok\n5 2 ok\n7 0 2 entry 7\n8 1 2 entry 5\ntree a range 1\n1 1 7\n",
-        7,
-        "",
-        "mtreplay: transcript refused\n",
-    ),
-    // Nothing was there at one call or two.
-    (
-        "4 1 ok\n5 2 ok\n7 1 1 none\n8 1 2 entry 7\ntree a range 1\n1 1 7\n",
-        7,
-        "",
-        "mtreplay: transcript refused\n",
-    ),
-    // The tree holds 7 in the end.
-    (
-        "4 1 ok\n5 2 ok\n7 0 1 entry 5\n8 0 2 entry 7\ntree a range 1\n1 1 5\n",
-        7,
-        "",
-        "mtreplay: transcript refused\n",
-    ),
-    // The last line is not ended, a line is left out, and nothing is said.
-    (
-        "4 1 ok\n5 2 ok\n7 0 1 entry 5\n8 0 2 entry 7\ntree a range 1\n1 1 7",
-        7,
-        "",
-        "mtreplay: transcript refused\n",
-    ),
-    (
-        "4 1 ok\n5 2 ok\n7 0 1 entry 5\ntree a range 1\n1 1 7\n",
-        7,
-        "",
-        "mtreplay: transcript refused\n",
-    ),
-    ("", 7, "", "mtreplay: transcript refused\n"),
-];
+/// What is said of it, in which a stroke stands for LF, and the verdict. Where it is refused, the first read is true of two calls
+/// alone and the second of one; nothing was there at one call or two; the tree holds 7 in the end; the last line is not ended; a
+/// line is left out; and nothing is said.
+const JUDGED: &str = "\
+4 1 ok/5 2 ok/7 0 1 entry 5/8 0 2 entry 7/tree a range 1/1 1 7/ -> verified 2 2
+4 1 ok/5 2 ok/7 0 0 none/8 0 2 entry 7/tree a range 1/1 1 7/ -> verified 2 2
+4 1 ok/5 2 ok/7 0 2 entry 7/8 1 2 entry 5/tree a range 1/1 1 7/ -> refused
+4 1 ok/5 2 ok/7 1 1 none/8 1 2 entry 7/tree a range 1/1 1 7/ -> refused
+4 1 ok/5 2 ok/7 0 1 entry 5/8 0 2 entry 7/tree a range 1/1 1 5/ -> refused
+4 1 ok/5 2 ok/7 0 1 entry 5/8 0 2 entry 7/tree a range 1/1 1 7 -> refused
+4 1 ok/5 2 ok/7 0 1 entry 5/tree a range 1/1 1 7/ -> refused
+ -> refused";
 
 /// What is said of a log is judged so.
 fn expect_judged<R: Threads + Wait + Sync + AllocGlobal + Abort>(
     rt: &R,
     said: &str,
-    status: u8,
-    printed: &str,
-    told: &str,
+    want: &str,
 ) -> Result<(), Fail> {
-    let input = format!(in rt.alloc(); "{LOG}---\n{said}")?;
-    let mut src = source(rt.alloc(), &input, NEVER)?;
-    let ending = run(rt, &["verify"], &mut src, 256, 256)?;
-    assert_eq!(rt; ending.status, status, "{said}");
-    assert_eq!(rt; ending.out.bytes(), printed.as_bytes(), "{said}");
-    assert_eq!(rt; ending.err.bytes(), told.as_bytes(), "{said}");
-    Ok(())
+    let alloc = rt.alloc();
+    let mut input = Vec::from_slice(alloc, LOG.as_bytes())?;
+    input.extend_from_slice(b"---\n")?;
+    input.extend_from_slice(&unfolded(alloc, said)?)?;
+    if want == "refused" {
+        let told = "mtreplay: transcript refused\n";
+        return expect_run(rt, &["verify"], &input, (256, 256), 7, b"", told, said);
+    }
+    let line = format!(in alloc; "{want}\n")?;
+    expect_run(
+        rt,
+        &["verify"],
+        &input,
+        (256, 256),
+        0,
+        line.as_bytes(),
+        "",
+        said,
+    )
 }
 
 #[test]
 fn a_transcript_is_verified_or_refused(rt: HostRuntime) -> Result<(), Fail> {
-    for (said, status, printed, told) in JUDGED {
-        expect_judged(&rt, said, status, printed, told)?;
+    for row in JUDGED.lines() {
+        let (said, want) = row.split_once(" -> ").unwrap_or((row, "an arrow"));
+        expect_judged(&rt, said, want)?;
     }
     Ok(())
 }
 
-/// Logs of several lanes: reads beside calls, on trees of all kinds and in both versions, with copies and checks between phases.
-const LANES: [&str; 4] = [
-    LOG,
-    "mtlog 2
+/// Logs of several lanes, with a row of equals signs between two: reads beside calls, on trees of all kinds and in both versions, with copies and checks between phases.
+const LANES: &str = "\
+mtlog 1
+tree a range
+lane 0
+store a 1 1 5
+store a 1 1 7
+lane 1
+load a 1
+load a 1
+====
+mtlog 2
 tree a alloc32
 lane 0
 store a 1 1 5
@@ -104,8 +86,8 @@ lane 3
 load a 1
 erase a 2
 prev a max 0
-",
-    "mtlog 2
+====
+mtlog 2
 tree a range
 tree b alloc
 tree n range32
@@ -140,8 +122,8 @@ scan b 0 max 4
 join
 check c
 check d
-",
-    "mtlog 1
+====
+mtlog 1
 tree a range
 store a 0 9 1
 join
@@ -162,19 +144,24 @@ join
 dup c d
 check a
 load d 0
-",
-];
+";
 
-/// What is printed of these logs, whichever way the lanes go beside one another, is verified.
+/// What is printed of a log, whichever way its lanes go beside one another, is verified.
+fn expect_lanes<R: Threads + Wait + Sync + AllocGlobal + Abort>(
+    rt: &R,
+    log: &str,
+) -> Result<(), Fail> {
+    for _ in 0..20_u8 {
+        let text = printed(rt, &["replay"], log.as_bytes())?;
+        expect_verified(rt, &["verify"], log.as_bytes(), &text)?;
+    }
+    Ok(())
+}
+
 #[test]
 fn what_lanes_answer_is_verified(rt: HostRuntime) -> Result<(), Fail> {
-    for log in LANES {
-        for _ in 0..20_u8 {
-            let mut src = source(rt.alloc(), log, NEVER)?;
-            let ending = run(&rt, &["replay"], &mut src, 1 << 12, 256)?;
-            assert_eq!(rt; ending.status, 0, "{log}");
-            expect_verified(&rt, &["verify"], log.as_bytes(), ending.out.bytes())?;
-        }
+    for log in LANES.split("====\n") {
+        expect_lanes(&rt, log)?;
     }
     Ok(())
 }

@@ -1,14 +1,18 @@
 //! Logs of several lanes: what may come of them where the lanes run at once, and where a gate holds them.
 
-use crate::tests::drawn::{Draws, push_store};
-use crate::tests::played::{listed_text, text_in_rows};
-use crate::tests::trees::{push_erases, push_said, push_stores};
-use crate::tests::{NEVER, expect_text, run, run_held, source};
-use mt_io::{Gate, MemSource};
+use crate::tests::drawn::{Draws, expect_listed, push_store};
+use crate::tests::lines::{push_erases, push_said, push_stores};
+use crate::tests::logs::expect_logs;
+use crate::tests::played::text_in_rows;
+use crate::tests::{NEVER, expect_text, run_held, same, source};
+use mt_io::Gate;
 use std::alloc::AllocError;
+use std::process::Abort;
 use std::str;
+use std::sync::Wait;
 use std::sync::atomic::{AtomicBool, AtomicU64, Ordering};
 use std::test::Fail;
+use std::thread::Threads;
 
 /// Two stores of one lane, and two loads of another.
 const TWO_AND_TWO: &str =
@@ -79,30 +83,34 @@ impl Gate for Order {
     }
 }
 
+/// In this order of lanes, so many of the two stores are seen by each of the two loads.
+fn expect_order<R: Threads + Wait + Sync + AllocGlobal + Abort>(
+    rt: &R,
+    lanes: [u32; 4],
+    want: (u64, u64),
+) -> Result<(), Fail> {
+    let gate = Order {
+        lanes,
+        done: AtomicU64::new(0),
+        missed: AtomicU64::new(0),
+    };
+    let mut src = source(rt.alloc(), TWO_AND_TWO.as_bytes(), NEVER)?;
+    let ending = run_held(rt, &["replay"], &mut src, 256, 256, &gate)?;
+    same(rt, ending.status, 0, "its status");
+    same(rt, gate.missed.load(Ordering::SeqCst), 0, "turns missed");
+    same(rt, gate.done.load(Ordering::SeqCst), 4, "turns done");
+    same(rt, both_seen(ending.out.bytes()), Some(want), "stores seen");
+    Ok(())
+}
+
 #[test]
 fn each_order_of_two_stores_and_two_loads_is_played(rt: HostRuntime) -> Result<(), Fail> {
-    let rows = [
-        ([1, 1, 0, 0], (0, 0)),
-        ([1, 0, 1, 0], (0, 1)),
-        ([1, 0, 0, 1], (0, 2)),
-        ([0, 1, 1, 0], (1, 1)),
-        ([0, 1, 0, 1], (1, 2)),
-        ([0, 0, 1, 1], (2, 2)),
-    ];
-    for (lanes, want) in rows {
-        let gate = Order {
-            lanes,
-            done: AtomicU64::new(0),
-            missed: AtomicU64::new(0),
-        };
-        let mut src = source(rt.alloc(), TWO_AND_TWO, NEVER)?;
-        let ending = run_held(&rt, &["replay"], &mut src, 256, 256, &gate)?;
-        assert_eq!(rt; ending.status, 0);
-        assert_eq!(rt; gate.missed.load(Ordering::SeqCst), 0);
-        assert_eq!(rt; gate.done.load(Ordering::SeqCst), 4);
-        assert_eq!(rt; both_seen(ending.out.bytes()), Some(want));
-    }
-    Ok(())
+    expect_order(&rt, [1, 1, 0, 0], (0, 0))?;
+    expect_order(&rt, [1, 0, 1, 0], (0, 1))?;
+    expect_order(&rt, [1, 0, 0, 1], (0, 2))?;
+    expect_order(&rt, [0, 1, 1, 0], (1, 1))?;
+    expect_order(&rt, [0, 1, 0, 1], (1, 2))?;
+    expect_order(&rt, [0, 0, 1, 1], (2, 2))
 }
 
 /// Holds two lanes, each in its turn 1 until the other has come to its own.
@@ -140,12 +148,22 @@ fn two_lanes_are_at_work_on_one_tree_at_once(rt: HostRuntime) -> Result<(), Fail
         second: AtomicBool::new(false),
         missed: AtomicU64::new(0),
     };
-    let mut src = source(rt.alloc(), log, NEVER)?;
+    let mut src = source(rt.alloc(), log.as_bytes(), NEVER)?;
     let ending = run_held(&rt, &["replay"], &mut src, 256, 256, &gate)?;
-    assert_eq!(rt; ending.status, 0);
-    assert!(rt; gate.first.load(Ordering::SeqCst));
-    assert!(rt; gate.second.load(Ordering::SeqCst));
-    assert_eq!(rt; gate.missed.load(Ordering::SeqCst), 0);
+    same(&rt, ending.status, 0, "its status");
+    same(
+        &rt,
+        gate.first.load(Ordering::SeqCst),
+        true,
+        "the first lane",
+    );
+    same(
+        &rt,
+        gate.second.load(Ordering::SeqCst),
+        true,
+        "the second lane",
+    );
+    same(&rt, gate.missed.load(Ordering::SeqCst), 0, "turns missed");
     let told = ending.out.bytes();
     let first = b"4 1 ok\n6 2 ok\ntree a range 2\n0 9 1\n20 29 3\n".as_slice();
     let second = b"4 2 ok\n6 1 ok\ntree a range 2\n0 9 1\n20 29 3\n".as_slice();
@@ -153,25 +171,43 @@ fn two_lanes_are_at_work_on_one_tree_at_once(rt: HostRuntime) -> Result<(), Fail
     Ok(())
 }
 
+/// Logs whose lanes call trees of their own, and what is printed of each line.
+const OWN: &str = "\
+two lanes with a tree each
+tree a range
+lane 1
+tree b range
+store a 0 9 1 -> 5 1 ok
+lane 15
+store b 0 9 3 -> 7 1 ok
+lane 1
+load a 9 -> 9 1 1 entry 1
+join
+load a 0 -> 11 1 1 entry 1
+ -> tree a range 1
+ -> 0 9 1
+ -> tree b range 1
+ -> 0 9 3
+==== a copy that one lane reads, beside stores on the other tree
+tree a range
+lane 1
+store a 0 9 1 -> 4 1 ok
+join
+dup a b -> 6 copied 1
+lane 1
+load b 5 -> 8 0 0 entry 1
+lane 0
+store a 5 5 3 -> 10 2 ok
+ -> tree a range 3
+ -> 0 4 1
+ -> 5 5 3
+ -> 6 9 1
+ -> tree b range 1
+ -> 0 9 1";
+
 #[test]
 fn lanes_on_trees_of_their_own_are_answered_as_by_one_thread(rt: HostRuntime) -> Result<(), Fail> {
-    let rows = [
-        (
-            "tree a range\nlane 1\ntree b range\nstore a 0 9 1\nlane 15\nstore b 0 9 3\nlane 1\nload a 9\njoin\nload a 0\n",
-            "5 1 ok\n7 1 ok\n9 1 1 entry 1\n11 1 1 entry 1\n\
-             tree a range 1\n0 9 1\ntree b range 1\n0 9 3\n",
-        ),
-        (
-            "tree a range\nlane 1\nstore a 0 9 1\njoin\ndup a b\nlane 1\nload b 5\nlane 0\nstore a 5 5 3\n",
-            "4 1 ok\n6 copied 1\n8 0 0 entry 1\n10 2 ok\n\
-             tree a range 3\n0 4 1\n5 5 3\n6 9 1\ntree b range 1\n0 9 1\n",
-        ),
-    ];
-    for (lines, text) in rows {
-        let log = format!(in rt.alloc(); "mtlog 1\n{lines}")?;
-        expect_text(&rt, &log, text)?;
-    }
-    Ok(())
+    expect_logs(&rt, 1, OWN)
 }
 
 #[test]
@@ -226,12 +262,5 @@ fn drawn_stores_of_four_lanes_are_answered_as_by_one_thread(rt: HostRuntime) -> 
     push_phase(&mut log, ["a", "b", "c", "d"], &mut draws)?;
     push_phase(&mut log, ["c", "a", "d", "b"], &mut draws)?;
     push_phase(&mut log, ["b", "d", "a", "c"], &mut draws)?;
-    let want = listed_text(&rt, alloc, &log)?;
-    let bytes = Vec::from_slice(alloc, log.as_bytes())?;
-    let mut src = MemSource::new(bytes, usize::MAX, Vec::new(alloc));
-    let ending = run(&rt, &["replay"], &mut src, 1 << 20, 256)?;
-    assert_eq!(rt; ending.status, 0);
-    // The texts are too long to be printed where they differ.
-    assert!(rt; ending.out.bytes() == want.as_slice());
-    Ok(())
+    expect_listed(&rt, &log, 1 << 20)
 }

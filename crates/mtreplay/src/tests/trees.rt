@@ -1,5 +1,7 @@
 //! Logs of one lane: of several trees, of phases and of many calls, answered by the program and by lists alike.
 
+use crate::tests::lines::{push_erases, push_listed, push_said, push_stores};
+use crate::tests::logs::expect_logs;
 use crate::tests::{KINDS, expect_text, steps_on};
 use std::alloc::{AllocError, Global};
 use std::process::Abort;
@@ -7,64 +9,42 @@ use std::sync::Wait;
 use std::test::Fail;
 use std::thread::Threads;
 
+/// Logs of several trees, and what is printed of each line.
+const TREES: &str = "\
+a copy, and the tree that it is of
+tree a range
+store a 0 9 1 -> 3 1 ok
+join
+dup a b -> 5 copied 1
+store a 5 5 3 -> 6 2 ok
+load b 5 -> 7 0 0 entry 1
+ -> tree a range 3
+ -> 0 4 1
+ -> 5 5 3
+ -> 6 9 1
+ -> tree b range 1
+ -> 0 9 1
+==== a tree for allocation beside one of ranges
+tree a alloc
+tree b range
+store a 0 max 1 -> 4 1 ok
+alloc a 1 0 max 3 -> 5 2 busy
+alloc b 1 0 max 3 -> 6 1 invalid
+rgap b 1 0 0 -> 7 2 invalid
+ -> tree a alloc 1
+ -> 0 18446744073709551615 1
+ -> tree b range 0
+==== prepared stores
+tree a range
+pstore a 10 10 5 -> 3 1 ok
+pstore a 5 4 1 -> 4 2 invalid
+pstore a 10 10 7 -> 5 3 ok
+ -> tree a range 1
+ -> 10 10 7";
+
 #[test]
 fn trees_are_called_each_by_itself(rt: HostRuntime) -> Result<(), Fail> {
-    let rows = [
-        (
-            "tree a range\nstore a 0 9 1\njoin\ndup a b\nstore a 5 5 3\nload b 5\n",
-            "3 1 ok\n5 copied 1\n6 2 ok\n7 0 0 entry 1\n\
-             tree a range 3\n0 4 1\n5 5 3\n6 9 1\ntree b range 1\n0 9 1\n",
-        ),
-        (
-            "tree a alloc\ntree b range\nstore a 0 max 1\nalloc a 1 0 max 3\nalloc b 1 0 max 3\nrgap b 1 0 0\n",
-            "4 1 ok\n5 2 busy\n6 1 invalid\n7 2 invalid\n\
-             tree a alloc 1\n0 18446744073709551615 1\ntree b range 0\n",
-        ),
-        (
-            "tree a range\npstore a 10 10 5\npstore a 5 4 1\npstore a 10 10 7\n",
-            "3 1 ok\n4 2 invalid\n5 3 ok\ntree a range 1\n10 10 7\n",
-        ),
-    ];
-    for (lines, text) in rows {
-        let log = format!(in rt.alloc(); "mtlog 1\n{lines}")?;
-        expect_text(&rt, &log, text)?;
-    }
-    Ok(())
-}
-
-/// Adds lines that store 1 at each of the first even indexes.
-pub fn push_stores(log: &mut String, tree: &str, stores: u32) -> Result<(), AllocError> {
-    for n in 0..stores {
-        let index = 2 * u64::from(n);
-        writeln!(log, "store {tree} {index} {index} 1")?;
-    }
-    Ok(())
-}
-
-/// Adds lines that erase what is at each of the first 17 even indexes.
-pub fn push_erases(log: &mut String, tree: &str) -> Result<(), AllocError> {
-    for n in 0..17_u8 {
-        writeln!(log, "erase {tree} {}", 2 * u64::from(n))?;
-    }
-    Ok(())
-}
-
-/// Adds that calls, from this number on and from this line on, were each answered so.
-pub fn push_said(
-    text: &mut String,
-    line: u32,
-    call: u32,
-    calls: u32,
-    said: &str,
-) -> Result<(), AllocError> {
-    for n in 0..calls {
-        let (at, number) = (
-            u64::from(line) + u64::from(n),
-            u64::from(call) + u64::from(n),
-        );
-        writeln!(text, "{at} {number} {said}")?;
-    }
-    Ok(())
+    expect_logs(&rt, 1, TREES)
 }
 
 /// A tree of this kind is lawful with 17 ranges, and when all are erased.
@@ -87,7 +67,7 @@ fn expect_lawful<R: Threads + Wait + Sync + AllocGlobal + Abort>(
 
 #[test]
 fn a_tree_is_lawful_where_it_grew_and_where_it_is_empty_again(rt: HostRuntime) -> Result<(), Fail> {
-    for (kind, _top) in KINDS {
+    for &(kind, _) in KINDS {
         expect_lawful(&rt, kind)?;
     }
     Ok(())
@@ -122,7 +102,7 @@ fn expect_one<R: Threads + Wait + Sync + AllocGlobal + Abort>(
 
 #[test]
 fn a_store_over_a_thousand_ranges_leaves_one(rt: HostRuntime) -> Result<(), Fail> {
-    for (kind, top) in KINDS {
+    for &(kind, top) in KINDS {
         expect_one(&rt, kind, top)?;
     }
     Ok(())
@@ -155,10 +135,23 @@ fn expect_neighbours<R: Threads + Wait + Sync + AllocGlobal + Abort>(
 
 #[test]
 fn neighbours_are_found_up_and_down(rt: HostRuntime) -> Result<(), Fail> {
-    for (kind, top) in KINDS {
+    for &(kind, top) in KINDS {
         expect_neighbours(&rt, kind, top)?;
     }
     Ok(())
+}
+
+/// Adds that a line found this range among 17.
+fn push_found(text: &mut String, line: u64, index: u64) -> Result<(), AllocError> {
+    writeln!(text, "{line} 17 17 range {index} {index} 1")
+}
+
+/// Adds reads from the range of this number up and from behind it down, and what they find.
+fn push_finds(log: &mut String, text: &mut String, n: u8) -> Result<(), AllocError> {
+    let index = 2 * u64::from(n);
+    writeln!(log, "next a {index} max\nrfind a {} 0", index + 1)?;
+    push_found(text, index + 20, index + 2)?;
+    push_found(text, index + 21, index)
 }
 
 /// Each of 17 ranges of a tree of this kind finds the one above, and itself.
@@ -171,23 +164,16 @@ fn expect_found<R: Threads + Wait + Sync + AllocGlobal + Abort>(
     let mut text = String::new(rt.alloc());
     push_said(&mut text, 3, 1, 17, "ok")?;
     for n in 0..16_u8 {
-        let index = 2 * u64::from(n);
-        let above = index + 2;
-        writeln!(log, "next a {index} max\nrfind a {} 0", index + 1)?;
-        writeln!(text, "{} 17 17 range {above} {above} 1", index + 20)?;
-        writeln!(text, "{} 17 17 range {index} {index} 1", index + 21)?;
+        push_finds(&mut log, &mut text, n)?;
     }
     writeln!(text, "tree a {kind} 17")?;
-    for n in 0..17_u8 {
-        let index = 2 * u64::from(n);
-        writeln!(text, "{index} {index} 1")?;
-    }
+    push_listed(&mut text, 0, 17)?;
     expect_text(rt, &log, &text)
 }
 
 #[test]
 fn each_range_finds_the_one_above_and_itself(rt: HostRuntime) -> Result<(), Fail> {
-    for (kind, _top) in KINDS {
+    for &(kind, _) in KINDS {
         expect_found(&rt, kind)?;
     }
     Ok(())

@@ -1,4 +1,4 @@
-//! A desk of the program, which reads while another thread holds the tree's lock.
+//! A desk over the tree that threads share, which reads while another thread holds the tree's lock.
 
 ghost use Rattle.std.specs.Prelude.{◌≡◌, ◌≤◌, ◌^◌, None, All, IfOk, length, vec_len, vec_capacity};
 ghost use Rattle.std.specs.Thread.{IsSync};

@@ -2,8 +2,8 @@ use Rattle.std.proofs.Common.{List, [], ◌∷◌, ◌++◌, Vec, ap, sym, subst
 use Rattle.std.specs.Global.{Global}
 use Rattle.mt_desks.specs.Phases.{CanPass}
 use Rattle.mt_tree.specs.Trees.{IsPassOf, Pass, pass_in}
-use Rattle.mtreplay.proofs.Closed.{can_pass_one}
-use Rattle.mtreplay.proofs.tests.desk.answers.Goals as goal
+use Rattle.trials_lanes.proofs.Closed.{can_pass_one}
+use Rattle.trials_lanes.proofs.locked.answers.Goals as goal
 use Rattle.mt_texts.specs.declared.trees.LaneTree.{LaneTree}
 
 pub answers_to-requires-clause-can : goal.answers_to-requires-clause-can

@@ -4,8 +4,8 @@ use Rattle.mt_desks.specs.declared.desks.LaneDesk.{LaneDesk}
 use Rattle.mt_desks.specs.Phases.{IsLaid}
 use Rattle.mt_lanes.specs.declared.lanes.Lane.{Lane}
 use Rattle.mt_tree.specs.Trees.{Pass}
-use Rattle.mtreplay.proofs.Closed.{at_only}
-use Rattle.mtreplay.proofs.tests.desk.answers_to.Goals as goal
+use Rattle.trials_lanes.proofs.Closed.{at_only}
+use Rattle.trials_lanes.proofs.locked.answers_to.Goals as goal
 use Rattle.mt_texts.specs.declared.trees.LaneTree.{LaneTree}
 
 pub run_phase-requires-clause-laid : goal.run_phase-requires-clause-laid

@@ -1,5 +1,5 @@
 use Rattle.mt_tree.specs.Trees.{IsPassOf}
-use Rattle.mtreplay.proofs.tests.desk.fill.Given as goal
+use Rattle.trials_lanes.proofs.locked.fill.Given as goal
 
 abbrev pub invariant-loop-n : goal.invariant-loop-n
 invariant-loop-n g l = IsPassOf l.fn.tree.tree l.pass
