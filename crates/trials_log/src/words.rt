@@ -23,10 +23,16 @@ macro_rules! command {
     (show) => {
         Command::Show
     };
+    (bulk $workers:expr) => {
+        Command::Bulk { workers: $workers }
+    };
+    (ids $lo:expr, $hi:expr, $steps:expr, $drop:expr) => {
+        Command::Ids { lo: $lo, hi: $hi, steps: $steps, drop: $drop }
+    };
 }
 
 /// Lists of words, with a space between two, and the commands that they are.
-const COMMANDS: [(&str, Command); 20] = [
+const COMMANDS: [(&str, Command); 29] = [
     ("replay", command!(replay 65_504)),
     ("replay --rows 4", command!(replay 4)),
     ("replay --rows=4", command!(replay 4)),
@@ -50,6 +56,24 @@ const COMMANDS: [(&str, Command); 20] = [
     ("image --rows=65504", command!(image 65_504)),
     ("image --rows 0017", command!(image 17)),
     ("show", command!(show)),
+    ("bulk 1", command!(bulk 1)),
+    ("bulk 16", command!(bulk 16)),
+    ("bulk 00000000000000000003", command!(bulk 3)),
+    ("ids 5 8 6 2", command!(ids 5, 8, 6, 2)),
+    ("ids 5 6 3 3", command!(ids 5, 6, 3, 3)),
+    ("ids 0 0 1 1", command!(ids 0, 0, 1, 1)),
+    (
+        "ids 0 18446744073709551615 100000 100000",
+        command!(ids 0, 18_446_744_073_709_551_615, 100_000, 100_000),
+    ),
+    (
+        "ids 18446744073709551615 18446744073709551615 100000 1",
+        command!(ids 18_446_744_073_709_551_615, 18_446_744_073_709_551_615, 100_000, 1),
+    ),
+    (
+        "ids 00000000000000000005 08 006 02",
+        command!(ids 5, 8, 6, 2),
+    ),
 ];
 
 /// Lists of words that are no commands.
@@ -148,6 +172,54 @@ show --rows=5
 show\x20
 shows
 verify show
+Bulk 1
+bulk
+bulk 0
+bulk 17
+bulk +1
+bulk -1
+bulk 1 1
+bulk 000000000000000000001
+bulk 18446744073709551617
+bulk 0x1
+bulk --
+bulk -- 1
+bulk 1 --
+bulk --workers 1
+bulk --workers=1
+bulk --rows=5 1
+bulk --help
+bulk\x20
+ids
+ids 5
+ids 5 8
+ids 5 8 6
+ids 5 8 6 2 1
+ids 8 5 6 2
+ids 5 8 0 0
+ids 5 8 6 0
+ids 5 8 6 7
+ids 5 8 100001 2
+ids 5 18446744073709551616 6 2
+ids 18446744073709551616 18446744073709551617 6 2
+ids 000000000000000000005 8 6 2
+ids 5 000000000000000000008 6 2
+ids 5 8 000000000000000000006 2
+ids 5 8 6 000000000000000000002
+ids 5 8 6 max
+ids 0 max 6 2
+ids -5 8 6 2
+ids 5 -8 6 2
+ids 5 8 -6 2
+ids 5 8 6 -2
+ids +5 8 6 2
+ids 5 8 6 --
+ids -- 5 8 6 2
+ids 5 8 6 2 --
+ids 5 8 --steps 6 2
+ids 5 8 6 --drop=2
+ids 5  8 6 2
+ids help
 replay --rows ٥";
 
 fn read_row(alloc: Global, row: &str) -> Result<Option<Command>, NoMemory> {
