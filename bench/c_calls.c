@@ -118,6 +118,82 @@ static void whole(struct maple_tree *t) {
     SAME("the end of the walk", maple_find(t, index, UINT32_MAX, &got), ENOENT);
 }
 
+/* Two walks, one of which goes on now and then, with a store of what stands there already, and a query, between steps. */
+static void walks(struct maple_tree *t) {
+    struct maple_walk walk = {.next = draw(SPAN)}, other = {0}, kept;
+    struct maple_range got;
+    uint64_t word;
+    size_t at = from(walk.next), behind = 0;
+    for (; at < count; at++) {
+        SAME("a step", maple_step(t, &walk, &got), 0);
+        same_range(&got, list + at, __LINE__);
+        if (draw(30) == 0) {
+            uint32_t status = maple_step(t, &other, &got);
+            same_found(status, &got, behind < count ? list + behind : 0, __LINE__);
+            behind++;
+        }
+        if (draw(30) == 0) SAME("a store between", maple_store(t, list[at].first, list[at].last, list[at].entry, &word), 0);
+        if (draw(30) == 0) SAME("a query between", maple_load(t, list[at].first, &got), 0);
+    }
+    SAME("the end of the walk", maple_step(t, &walk, &got), ENOENT); same_range(&got, &none, __LINE__);
+    SAME("it has ended", walk.ended, 1);
+    kept = walk;
+    SAME("it stays so", maple_step(t, &walk, &got), ENOENT);
+    SAME("as it was", memcmp(&kept, &walk, sizeof walk), 0);
+    walk = (struct maple_walk){.next = UINT64_MAX};
+    SAME("above all", maple_step(t, &walk, &got), ENOENT);
+}
+
+/* Opens another tree with the same map, in one of three ways, each refused first where it has to be. */
+static void again(struct maple_tree *t, struct maple_tree *other, uint32_t kind) {
+    static uint8_t bytes[1 << 22], more[1 << 22];
+    struct maple_form form, read;
+    size_t used = 7, size = 7;
+    uint64_t at = 7;
+    SAME("a check", maple_check(t, &form), 0);
+    SAME("its ranges", form.ranges, count);
+    switch (draw(3)) {
+    case 0:
+        if (form.rows) SAME("too few rows for a copy", maple_copy(t, other, form.rows - 1), EDOM);
+        SAME("too many", maple_copy(t, other, MAPLE_MOST_ROWS + 1), EDOM);
+        SAME("a copy", maple_copy(t, other, draw(2) ? 4096 : 4000), 0);
+        SAME("a copy twice", maple_copy(t, other, 4096), EBUSY);
+        SAME("its check", maple_check(other, &read), 0);
+        SAME("its form", memcmp(&form, &read, sizeof form), 0);
+        break;
+    case 1:
+        SAME("an image, too short", maple_image(t, bytes, form.rows ? 32 + form.rows : 31, &used), ERANGE);
+        SAME("its length", used, 32 + form.rows * (kind < 2 ? 256 : 512));
+        SAME("an image", maple_image(t, bytes, sizeof bytes, &size), 0);
+        SAME("its length", size, used);
+        SAME("a cut one", maple_open_image(other, bytes, size - 1, 4096), EBADMSG);
+        if (form.rows) SAME("too few rows for it", maple_open_image(other, bytes, size, form.rows - 1), EDOM);
+        SAME("an image opened", maple_open_image(other, bytes, size, 4096), 0);
+        SAME("opened twice", maple_open_image(other, bytes, size, 4096), EBUSY);
+        SAME("its image", maple_image(other, more, sizeof more, &used), 0);
+        SAME("the same bytes", used == size && !memcmp(bytes, more, size), 1);
+        break;
+    default:
+        if (count) {
+            struct maple_range last = list[count - 1];
+            list[count - 1].last = list[count - 1].first - 1 + (list[count - 1].first == 0);
+            if (list[count - 1].last < list[count - 1].first) {
+                SAME("no order", maple_build(other, kind, 4096, list, count, &at), EINVAL);
+                SAME("where", at, count - 1);
+            }
+            list[count - 1] = last;
+            SAME("no rows", maple_build(other, kind, 0, list, count, &at), EDOM); SAME("no place", at, 0);
+        }
+        SAME("no kind", maple_build(other, 4, 4096, list, count, &at), EINVAL); SAME("no place", at, 0);
+        SAME("built", maple_build(other, kind, 4096, list, count, &at), 0); SAME("no place", at, 0);
+        SAME("built twice", maple_build(other, kind, 4096, list, count, &at), EBUSY);
+        SAME("its check", maple_check(other, &read), 0);
+        SAME("its ranges", read.ranges, count);
+    }
+    whole(t);
+    whole(other);
+}
+
 static void act(struct maple_tree *t, uint32_t kind) {
     uint64_t first = draw(SPAN), last = first + draw(12), entry = draw(5) ? draw(9000) : 0, word = 77, start = 0;
     uint64_t size = 1 + draw(9), min = draw(SPAN), max = min + draw(200);
@@ -176,6 +252,15 @@ static void closed(struct maple_tree *t) {
     SAME("closed", maple_find(t, 1, 9, &r), EINVAL); SAME("closed", maple_next(t, 1, 9, &r), EINVAL);
     SAME("closed", maple_prev(t, 1, 0, &r), EINVAL); SAME("closed", maple_rfind(t, 1, 0, &r), EINVAL);
     SAME("closed", maple_preallocate(t), EINVAL); SAME("closed", maple_store_prealloc(t, 1, 2, 3, &word), EINVAL);
+    struct maple_walk walk = {5, 0};
+    struct maple_form form = {7, 7, 7};
+    struct maple_tree copy = {0};
+    uint8_t out[4] = {7, 7, 7, 7};
+    size_t used = 7;
+    SAME("closed", maple_step(t, &walk, &r), EINVAL); SAME("the walk as it was", walk.next, 5); SAME("not ended", walk.ended, 0);
+    SAME("closed", maple_check(t, &form), EINVAL); SAME("no form", form.height + form.rows + form.ranges, 0);
+    SAME("closed", maple_copy(t, &copy, 9), EINVAL); SAME("no copy", maple_clear(&copy), EINVAL);
+    SAME("closed", maple_image(t, out, 4, &used), EINVAL); SAME("no bytes", used, 0); SAME("as before", out[0], 7);
     maple_close(t);
 }
 
@@ -233,17 +318,23 @@ int main(int argc, char **argv) {
     opens();
     texts();
     for (uint32_t kind = 0; kind < 4; kind++) {
-        struct maple_tree t = {0};
+        struct maple_tree trees[2] = {{0}, {0}}, *t = trees, *other = trees + 1;
         count = 0;
-        SAME("open", maple_open(&t, kind, 4096), 0);
+        SAME("open", maple_open(t, kind, 4096), 0);
         for (uint64_t step = 0; step < steps; step++) {
-            act(&t, kind);
-            if (step % 4 == 0) ask(&t);
-            if (step % 1000 == 999) whole(&t);
+            act(t, kind);
+            if (step % 4 == 0) ask(t);
+            if (step % 1000 == 999) { whole(t); walks(t); }
+            if (step % 1500 == 1499) {
+                again(t, other, kind);
+                maple_close(t);
+                struct maple_tree *old = t;
+                t = other; other = old;
+            }
         }
-        whole(&t);
-        maple_close(&t);
-        closed(&t);
+        whole(t);
+        maple_close(t);
+        closed(t);
     }
     printf("%" PRIu64 " answers are those of a sorted array\n", answers);
     return 0;

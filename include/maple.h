@@ -37,6 +37,17 @@ struct maple_range {
     uint64_t first, last, entry;
 };
 
+/* A walk: where it goes on. Zeroed it is before the first range; = {.next = index} it is before the first that ends at index or above.
+ * Any words are a walk, and it owns nothing. */
+struct maple_walk {
+    uint64_t next, ended;
+};
+
+/* How many levels a tree has, how many of its rows are in use, and how many ranges it has. */
+struct maple_form {
+    uint64_t height, rows, ranges;
+};
+
 /* What a tree is for: its calls say where a range goes, or it finds room for one (maple_alloc, maple_gap, ..) as well. */
 enum {
     MAPLE_RANGE = 0,   /* indexes of 64 bits */
@@ -53,6 +64,20 @@ enum {
 /* Opens an empty tree in so many rows, whose memory is taken here, once for all calls.
  * 0; EBUSY: it is open, and stays as it was; EINVAL: no such kind, or more rows than a tree may have; ENOMEM. */
 uint32_t maple_open(struct maple_tree *tree, uint32_t kind, uint64_t rows);
+
+/* The three that follow open a closed tree with a map that stands already, in so many rows. They take memory, also while they run.
+ * EBUSY: it is open, and stays as it was; EDOM: the rows are fewer than the map needs, or more than a tree may have; ENOMEM. */
+
+/* Opens copy with the map of tree, which needs the rows that tree has in use: so a tree goes on in more rows, or in fewer.
+ * EINVAL: tree is closed. */
+uint32_t maple_copy(struct maple_tree *tree, struct maple_tree *copy, uint64_t rows);
+
+/* Opens a tree with the map of an image (maple_image), which needs the image's rows. EBADMSG: the bytes are no image. */
+uint32_t maple_open_image(struct maple_tree *tree, const uint8_t *bytes, size_t length, uint64_t rows);
+
+/* Opens a tree of this kind that has just these ranges, whose rows are full and are written at once, from the left.
+ * EINVAL: no such kind; or the range with the number at, from 0, is none of the kind or does not stand above the one before. */
+uint32_t maple_build(struct maple_tree *tree, uint32_t kind, uint64_t rows, const struct maple_range *ranges, size_t count, uint64_t *at);
 
 /* Closes a tree. A closed one stays closed. */
 void maple_close(struct maple_tree *tree);
@@ -105,6 +130,20 @@ uint32_t maple_next(struct maple_tree *tree, uint64_t index, uint64_t max, struc
 /* The last range that ends below index, and at min or above; the last that begins at index or below and ends at min or above. */
 uint32_t maple_prev(struct maple_tree *tree, uint64_t index, uint64_t min, struct maple_range *range);
 uint32_t maple_rfind(struct maple_tree *tree, uint64_t index, uint64_t min, struct maple_range *range);
+
+/* The next range of a walk, which goes on behind it. ENOENT: there is none, and the walk has ended. EINVAL: the tree is closed, and the
+ * walk as it was. The tree remembers the leaf of the walk that went last, so that its next step goes down from the root no more than
+ * once a leaf. Calls between two steps do no harm, nor do other walks: the walk goes on from its index, by a way from the root. */
+uint32_t maple_step(struct maple_tree *tree, struct maple_walk *walk, struct maple_range *range);
+
+/* Tests each word of the tree. It answers 0, for every call keeps them lawful: EBADMSG says that something else wrote over them.
+ * It takes no memory. */
+uint32_t maple_check(struct maple_tree *tree, struct maple_form *form);
+
+/* Writes the image of the tree to out: its kind, and its rows in use, in the order of a walk from the root.
+ * used: how many bytes it has, 33538080 at the most. ERANGE: out has fewer, and is as before; used tells how many it must have.
+ * ENOMEM: it takes memory while it runs, and leaves none. */
+uint32_t maple_image(struct maple_tree *tree, uint8_t *out, size_t room, size_t *used);
 
 /* ---- logs and transcripts (docs/LANGUAGE.md). They take memory while they run, and leave none. rows: of each tree, 4 to 65504.
  * EDOM: other rows; E2BIG: a log of 2^32 bytes or more; EINVAL: the bytes are no log; ENOMEM. */

@@ -1,5 +1,5 @@
 -- The codes of kinds.
-use Rattle.std.proofs.Common.{◌≡◌, ◌≢◌, ◌<◌, ℕ, sym, arith}
+use Rattle.std.proofs.Common.{◌≢◌, ◌<◌, ℕ, arith}
 use Rattle.mt_base.specs.declared.kinds.Kind.{Kind}
 use Rattle.mt_base.specs.declared.kinds.Kind.TheVariants as kinds
 use Rattle.mt_image.specs.Bytes.{kind_code}

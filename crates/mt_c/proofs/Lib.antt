@@ -1,4 +1,9 @@
 mod Batches
+mod Copying
+mod ImagesOpened
 mod Keeping
 mod KindCodes
+mod RangesBuilt
+mod Reading
 mod Telling
+mod Walking

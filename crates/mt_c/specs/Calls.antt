@@ -10,7 +10,7 @@ use Rattle.mt_base.specs.Call.{answer}
 use Rattle.mt_rows.specs.Publish.{map_by}
 use Rattle.mt_rows.specs.Sheet.{OnlyReads}
 use Rattle.mt_engine.specs.Engine.{Parts, IsApplied}
-use Rattle.mt_c.specs.declared.own_tree.OwnTree.{OwnTree}
+use Rattle.mt_c.specs.Own.{OwnTree}
 use Rattle.mt_c.specs.declared.told.OutRange.{OutRange}
 use Rattle.mt_c.specs.declared.told.Told.{Told}
 

@@ -1,5 +1,10 @@
+pub mod Own
 pub mod Owned
 pub mod Calls
+pub mod Walking
 pub mod Opening
 pub mod Preparing
 pub mod Batch
+pub mod Copying
+pub mod Images
+pub mod Building

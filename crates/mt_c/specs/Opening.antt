@@ -7,7 +7,7 @@ use Rattle.mt_rows.specs.Plain.{new_sheet}
 use Rattle.mt_rows.specs.Publish.{map_by}
 use Rattle.mt_engine.specs.Engine.{Parts}
 use Rattle.mt_image.specs.Bytes.{kind_code}
-use Rattle.mt_c.specs.declared.own_tree.OwnTree.{OwnTree}
+use Rattle.mt_c.specs.Own.{OwnTree}
 
 -- an empty tree in so many rows, none of which was used
 pub record IsNewTree (kind : Kind) (rows : ℕ) (t : Parts) : Type 0 where

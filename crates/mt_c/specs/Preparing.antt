@@ -6,7 +6,7 @@ use Rattle.mt_base.specs.declared.replies.Reply.{Reply}
 use Rattle.mt_engine.specs.Engine.{Parts}
 use Rattle.mt_engine.specs.Prepared.{IsPrestored}
 use Rattle.mt_engine.specs.Rooms.{HasRoom, IsScanned}
-use Rattle.mt_c.specs.declared.own_tree.OwnTree.{OwnTree}
+use Rattle.mt_c.specs.Own.{OwnTree}
 use Rattle.mt_c.specs.Calls.{most_calls, status_of, word_of}
 
 abbrev pub IsReady : Parts → Type 0

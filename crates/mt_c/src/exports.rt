@@ -1,6 +1,5 @@
 //! The calls and the queries that C has.
 
-ghost use Rattle.std.specs.Prelude.{◌≡◌};
 ghost use Rattle.mt_base.specs.declared.calls.Call.TheVariants.{Store, StorePre, Insert, Erase, Alloc, Ralloc, Gap, Rgap, Clear};
 ghost use Rattle.mt_base.specs.declared.calls.Query.TheVariants.{Load, Find, Next, Prev, Rfind};
 ghost use Rattle.mt_c.specs.Calls.{CalledAlone, CalledWord, CalledRange, Asked};

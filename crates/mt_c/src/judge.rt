@@ -1,7 +1,6 @@
 //! A transcript judged for C.
 
 ghost use Rattle.std.specs.Prelude.{◌≡◌, ◌≢◌, ◌⊎◌, ◌≤◌, length, IsErr, IfOk, IfErr};
-ghost use Rattle.mt_base.specs.Width.{most_rows};
 ghost use Rattle.mt_log.specs.Reading.{log_of};
 ghost use Rattle.mt_c.specs.Batch.{HaveRows, IsNoRun, IsUnfit, IsVerified, most_bytes};
 

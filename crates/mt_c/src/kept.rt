@@ -2,7 +2,7 @@
 
 ghost use Rattle.std.specs.Prelude.{◌≡◌, Option, Some, None};
 ghost use Rattle.mt_c.specs.Owned.{kept_owns, IsOpen};
-ghost use Rattle.mt_c.specs.declared.own_tree.OwnTree.{OwnTree};
+ghost use Rattle.mt_c.specs.Own.{OwnTree};
 ghost use Rattle.mt_c.specs.contracts.own_tree.OwnTree.{the_row};
 
 use crate::own_tree::OwnTree;

@@ -14,7 +14,7 @@ use std::alloc::Global;
 
 /// The kind of a code.
 #[tactic(auto, using(crate::proofs::KindCodes::no_kind))]
-fn kind_of(code: u32) -> Option<Kind>
+pub fn kind_of(code: u32) -> Option<Kind>
     ensures { MatchOption result ((kind : Kind) → kind_code kind ≢ code) (λ kind. kind_code kind ≡ code) }
 {
     match code {

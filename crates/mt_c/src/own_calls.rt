@@ -8,6 +8,7 @@ ghost use Rattle.mt_c.specs.Opening.{IsNewTree};
 ghost use Rattle.mt_c.specs.Preparing.{IsPrepared, IsReady, PreMade};
 
 use crate::own_tree::OwnTree;
+use crate::steps::ended;
 use mt_base::{Call, Kind, NoMemory, Query, Range, Reply, width_of};
 use mt_engine::Engine;
 use mt_free::RowBook;
@@ -29,10 +30,21 @@ impl OwnTree {
     {
         let book = RowBook::new(alloc, rows)?;
         let rows = PlainRows::of_width(alloc, width_of(kind), rows)?;
-        Ok(OwnTree {
-            engine: Engine::of_height(rows, book, kind, 0),
+        Ok(OwnTree::begun(Engine::of_height(rows, book, kind, 0), kind))
+    }
+
+    /// A tree of which no call was made.
+    pub fn begun(engine: Engine<PlainRows>, kind: Kind) -> OwnTree
+        requires kind { kind ≡ engine.kind }
+        requires first { engine.sheet.ended ≡ 0 }
+        ensures { result.engine ≡ engine }
+    {
+        OwnTree {
+            engine,
+            kind,
             calls: 0,
-        })
+            place: ended(),
+        }
     }
 
     /// Makes one call; none where the tree has had all its calls.
@@ -42,6 +54,7 @@ impl OwnTree {
         if self.calls >= MOST_CALLS {
             return None;
         }
+        self.place = ended();
         let reply = self.engine.apply(call);
         self.calls += 1;
         Some(reply)
@@ -63,6 +76,7 @@ impl OwnTree {
     {
         // so many calls fit into 64 bits
         let _calls = self.calls;
+        self.place = ended();
         self.engine.preallocate().is_ok()
     }
 
@@ -76,6 +90,7 @@ impl OwnTree {
         if self.calls >= MOST_CALLS {
             return Some(None);
         }
+        self.place = ended();
         let reply = self.engine.store_prealloc(first, last, entry);
         self.calls += 1;
         Some(Some(reply))

@@ -1,14 +1,25 @@
 //! A tree that one thread at a time uses.
 
-ghost use Rattle.std.specs.Prelude.{◌≡◌};
-
-use mt_engine::Engine;
+use mt_base::Kind;
+use mt_engine::{Engine, RangeWalk};
 use mt_rows::PlainRows;
+use std::marker::Model;
 
-/// A tree of nodes, and how many calls were made of it.
+/// A tree of nodes, its kind, how many calls were made of it, and the place of the walk that went last there.
 #[derive(Drop)]
 pub struct OwnTree {
-    pub engine: Engine<PlainRows>,
-    pub calls: u64,
-    ghost counted: { calls ≡ engine.sheet.ended },
+    pub(crate) engine: Engine<PlainRows>,
+    pub(crate) kind: Kind,
+    pub(crate) calls: u64,
+    pub(crate) place: RangeWalk,
+}
+
+impl Model for OwnTree {
+    ghost use Rattle.mt_c.specs.Own.{OwnTree, own_of, IsOwn};
+
+    ghost Value = { OwnTree };
+
+    ghost view = { own_of };
+
+    ghost invariant = { IsOwn };
 }

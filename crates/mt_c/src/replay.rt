@@ -51,7 +51,7 @@ fn text(alloc: Global, log: &[u8], rows: u64) -> Result<Vec<u8>, u32>
 }
 
 /// Writes a text at the front of a buffer, where it has room.
-fn put(text: &[u8], out: &mut [u8]) -> bool
+pub fn put(text: &[u8], out: &mut [u8]) -> bool
     ensures written { result ≡ true → out.new ≡ text.now ++ drop (length text.now) out.old }
     ensures room { result ≡ true → length text.now ≤ length out.old }
     ensures short { result ≡ false → length out.old < length text.now }

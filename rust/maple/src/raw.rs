@@ -2,52 +2,88 @@
 
 use crate::Range;
 use std::ffi::c_void;
+use std::num::NonZeroU64;
 
 /// `struct maple_tree`. Zeroed it is closed.
 #[repr(C)]
 pub struct RawTree {
-    pub at: *mut c_void,
-    pub open: u64,
+    at: *mut c_void,
+    open: u64,
 }
 
-/// `struct maple_range`.
+impl RawTree {
+    pub const CLOSED: RawTree = RawTree { at: std::ptr::null_mut(), open: 0 };
+}
+
+/// `struct maple_range`, or three zeros.
 #[repr(C)]
-#[derive(Clone, Copy)]
+#[derive(Clone, Copy, Default)]
 pub struct RawRange {
-    pub first: u64,
-    pub last: u64,
-    pub entry: u64,
+    first: u64,
+    last: u64,
+    entry: u64,
 }
 
 impl RawRange {
-    pub const NONE: RawRange = RawRange { first: 0, last: 0, entry: 0 };
-
-    pub fn shown(self) -> Range {
-        Range { first: self.first, last: self.last, entry: self.entry }
+    /// The range, or none where these are three zeros.
+    pub fn shown(self) -> Option<Range> {
+        let entry = NonZeroU64::new(self.entry)?;
+        Some(Range { first: self.first, last: self.last, entry })
     }
 }
 
+/// `struct maple_walk`.
+#[repr(C)]
+#[derive(Clone, Copy, Default, Debug)]
+pub struct RawWalk {
+    pub next: u64,
+    pub ended: u64,
+}
+
+/// `struct maple_form`.
+#[repr(C)]
+#[derive(Default)]
+pub struct RawForm {
+    pub height: u64,
+    pub rows: u64,
+    pub ranges: u64,
+}
+
+type Tree = *mut RawTree;
+type Bytes = *const u8;
+
 extern "C" {
-    pub fn maple_open(tree: *mut RawTree, kind: u32, rows: u64) -> u32;
-    pub fn maple_close(tree: *mut RawTree);
-    pub fn maple_store(tree: *mut RawTree, first: u64, last: u64, entry: u64, old: *mut u64) -> u32;
-    pub fn maple_insert(tree: *mut RawTree, first: u64, last: u64, entry: u64) -> u32;
-    pub fn maple_erase(tree: *mut RawTree, index: u64, was: *mut RawRange) -> u32;
-    pub fn maple_alloc(tree: *mut RawTree, size: u64, min: u64, max: u64, entry: u64, start: *mut u64) -> u32;
-    pub fn maple_ralloc(tree: *mut RawTree, size: u64, min: u64, max: u64, entry: u64, start: *mut u64) -> u32;
-    pub fn maple_gap(tree: *mut RawTree, size: u64, min: u64, max: u64, start: *mut u64) -> u32;
-    pub fn maple_rgap(tree: *mut RawTree, size: u64, min: u64, max: u64, start: *mut u64) -> u32;
-    pub fn maple_clear(tree: *mut RawTree) -> u32;
-    pub fn maple_preallocate(tree: *mut RawTree) -> u32;
-    pub fn maple_store_prealloc(tree: *mut RawTree, first: u64, last: u64, entry: u64, old: *mut u64) -> u32;
-    pub fn maple_load(tree: *mut RawTree, index: u64, range: *mut RawRange) -> u32;
-    pub fn maple_find(tree: *mut RawTree, index: u64, max: u64, range: *mut RawRange) -> u32;
-    pub fn maple_rfind(tree: *mut RawTree, index: u64, min: u64, range: *mut RawRange) -> u32;
-    pub fn maple_replay(log: *const u8, length: usize, rows: u64, out: *mut u8, room: usize, used: *mut usize) -> u32;
+    pub fn maple_open(tree: Tree, kind: u32, rows: u64) -> u32;
+    pub fn maple_open_image(tree: Tree, bytes: Bytes, length: usize, rows: u64) -> u32;
+    pub fn maple_build(tree: Tree, kind: u32, rows: u64, ranges: *const Range, count: usize, at: *mut u64) -> u32;
+    pub fn maple_copy(tree: Tree, copy: Tree, rows: u64) -> u32;
+    pub fn maple_close(tree: Tree);
+
+    pub fn maple_store(tree: Tree, first: u64, last: u64, entry: u64, old: *mut u64) -> u32;
+    pub fn maple_insert(tree: Tree, first: u64, last: u64, entry: u64) -> u32;
+    pub fn maple_erase(tree: Tree, index: u64, was: *mut RawRange) -> u32;
+    pub fn maple_alloc(tree: Tree, size: u64, min: u64, max: u64, entry: u64, start: *mut u64) -> u32;
+    pub fn maple_ralloc(tree: Tree, size: u64, min: u64, max: u64, entry: u64, start: *mut u64) -> u32;
+    pub fn maple_gap(tree: Tree, size: u64, min: u64, max: u64, start: *mut u64) -> u32;
+    pub fn maple_rgap(tree: Tree, size: u64, min: u64, max: u64, start: *mut u64) -> u32;
+    pub fn maple_clear(tree: Tree) -> u32;
+    pub fn maple_preallocate(tree: Tree) -> u32;
+    pub fn maple_store_prealloc(tree: Tree, first: u64, last: u64, entry: u64, old: *mut u64) -> u32;
+
+    pub fn maple_load(tree: Tree, index: u64, range: *mut RawRange) -> u32;
+    pub fn maple_find(tree: Tree, index: u64, max: u64, range: *mut RawRange) -> u32;
+    pub fn maple_next(tree: Tree, index: u64, max: u64, range: *mut RawRange) -> u32;
+    pub fn maple_prev(tree: Tree, index: u64, min: u64, range: *mut RawRange) -> u32;
+    pub fn maple_rfind(tree: Tree, index: u64, min: u64, range: *mut RawRange) -> u32;
+    pub fn maple_step(tree: Tree, walk: *mut RawWalk, range: *mut RawRange) -> u32;
+    pub fn maple_check(tree: Tree, form: *mut RawForm) -> u32;
+    pub fn maple_image(tree: Tree, out: *mut u8, room: usize, used: *mut usize) -> u32;
+
+    pub fn maple_replay(log: Bytes, length: usize, rows: u64, out: *mut u8, room: usize, used: *mut usize) -> u32;
     pub fn maple_verify(
-        log: *const u8,
+        log: Bytes,
         length: usize,
-        text: *const u8,
+        text: Bytes,
         text_length: usize,
         rows: u64,
         calls: *mut u64,

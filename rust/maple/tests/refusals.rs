@@ -1,6 +1,6 @@
 //! What each refusal is, and what it leaves.
 
-use maple::{Error, Kind, Tree};
+use maple::{Error, Kind, OpenError, Range, Tree};
 use std::num::NonZeroU64;
 
 fn entry(value: u64) -> NonZeroU64 {
@@ -30,4 +30,13 @@ fn a_small_tree_is_short_of_rows() {
     assert_eq!(tree.preallocate(), Err(Error::NoRows));
     assert_eq!(tree.iter().count(), stored);
     assert_eq!(tree.iter().rev().last().unwrap().first, 0);
+}
+
+#[test]
+fn a_tree_that_cannot_be_made_says_why() {
+    let ranges = [(0, 4), (10, 14), (14, 20)].map(|(first, last)| Range { first, last, entry: entry(8) });
+    assert_eq!(Tree::build(Kind::Range, 100, &ranges).err(), Some(OpenError::Range(2)));
+    assert!(Tree::build(Kind::Range, 100, &ranges[..2]).is_ok());
+    assert_eq!(Tree::build(Kind::Range, 70_000, &ranges[..2]).err(), Some(OpenError::Rows));
+    assert_eq!(Tree::new(Kind::Range, 100).unwrap().copy(70_000).err(), Some(OpenError::Rows));
 }

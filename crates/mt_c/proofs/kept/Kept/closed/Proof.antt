@@ -2,7 +2,7 @@ use Rattle.std.proofs.Common.{List, [], ◌∷◌, refl, lit<, w64, None, ◌≡
 use Rattle.std.proofs.raw_atomic.Walks.{proved, leaves}
 use contract.Monad.{fact, fact_i}
 use base.Logic.{emp}
-use Rattle.mt_c.specs.declared.own_tree.OwnTree.{OwnTree}
+use Rattle.mt_c.specs.Own.{OwnTree}
 use base.Fml.{ftrue}
 use mir.Val.{Val, vint, vstruct, of_list}
 use denote.RattleType.{Valss}

@@ -28,7 +28,7 @@ use Rattle.std.specs.contracts.alloc.Global as heap
 use Rattle.std.proofs.alloc.Global.TheLaws as heap_laws
 use Rattle.std.specs.contracts.impls.GlobalAllocator.TheImpl.{ghosts, dict}
 use Rattle.mt_c.specs.Owned.{kept_owns, IsOpen, to_free}
-use Rattle.mt_c.specs.declared.own_tree.OwnTree.{OwnTree}
+use Rattle.mt_c.specs.Own.{OwnTree}
 use Rattle.mt_c.specs.contracts.own_tree.OwnTree as words
 use Rattle.mt_c.proofs.own_tree.OwnTree.TheLaws as words_laws
 use Rattle.mt_c.specs.contracts.kept.Kept as own

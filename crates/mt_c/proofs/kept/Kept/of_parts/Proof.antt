@@ -1,5 +1,5 @@
 use Rattle.std.proofs.Common.{List, [], ◌∷◌, ◌++◌, refl, sym, subst, Some, ◌≡◌, Option}
-use Rattle.mt_c.specs.declared.own_tree.OwnTree.{OwnTree}
+use Rattle.mt_c.specs.Own.{OwnTree}
 use Rattle.std.proofs.raw_atomic.Walks.{proved_at, leaves}
 use base.Logic.{SProp, emp, ent, id⊢}
 use base.Fml.{ftrue, fsep}

@@ -1,0 +1,62 @@
+-- A step of a walk that C keeps.
+use Rattle.std.proofs.Common.{◌≡◌, ◌∙◌, ℕ, ◌≤◌, Option, Some, None, refl, sym, ap, subst}
+use Rattle.std.specs.Prelude.{IfSome}
+use Rattle.std.proofs.lemmas.Bool.{le-leb}
+use Rattle.mt_base.specs.declared.ranges.Range.{Range}
+use Rattle.mt_base.specs.Width.{greatest}
+use Rattle.mt_rows.specs.Publish.{map_by}
+use Rattle.mt_rows.specs.Sheet.{OnlyReads, Rooted, Sheet}
+use Rattle.mt_engine.specs.Engine.{Parts}
+use Rattle.mt_engine.specs.declared.range_walk.RangeWalk.{RangeWalk}
+use Rattle.mt_engine.specs.RangeWalks.{WalksFrom, StepsWithin, found_from, index_behind}
+use Rattle.mt_c.specs.Own.{OwnTree}
+use Rattle.mt_c.specs.Calls.{IsAsked, found_status, no_range, out_of}
+use Rattle.mt_c.specs.Walking.{IsStepped, Stepped, index_of, start_in, top_of, walk_from}
+use Rattle.mt_c.specs.declared.told.OutRange.{OutRange}
+use Rattle.mt_c.specs.declared.steps.OutWalk.{OutWalk}
+
+-- a walk goes on where a tree was only read
+pub walks_if_read : (s s' : Sheet) (walk : RangeWalk) → OnlyReads s s' → WalksFrom s.tree walk → WalksFrom s'.tree walk
+walks_if_read s s' walk reads is = subst (λ (x : Sheet). WalksFrom x.tree walk) (sym reads) is
+
+pub walks_if_asked : (e e' : Parts) (walk : RangeWalk) → IsAsked e e' → WalksFrom e.sheet.tree walk → WalksFrom e'.sheet.tree walk
+walks_if_asked e e' walk asked is = walks_if_read e.sheet e'.sheet walk asked.rest is
+
+pub ended_if_asked : (e e' : Parts) (calls : ℕ) → IsAsked e e' → calls ≡ e.sheet.ended → calls ≡ e'.sheet.ended
+ended_if_asked e e' calls asked count = count ∙ sym (ap (λ (x : Sheet). x.ended) asked.rest)
+
+-- an index that is kept is one of the tree
+start_is : (top : ℕ) (index : Option ℕ) → IfSome index (λ i. i ≤ top) → index ≡ start_in top index
+start_is top None low = refl
+start_is top (Some i) low = rw (le-leb i top low) refl
+
+pub kept_start : (t : Rooted) (kept : RangeWalk) (index : Option ℕ) → WalksFrom t kept → kept.next ≡ index → kept.next ≡ start_in (greatest t.table.width) index
+kept_start t kept index walk same = start_is (greatest t.table.width) kept.next walk.within ∙ ap (start_in (greatest t.table.width)) same
+
+-- what a step loads, where it goes on from the place that is kept
+pub stepped_near : (s s' : Sheet) (kept place : RangeWalk) (index : Option ℕ) (found : Option Range) → (kept.next ≡ index → place ≡ kept) → IfSome found (λ _. StepsWithin place s s')
+    → kept.next ≡ index → IfSome found (λ _. StepsWithin kept s s')
+stepped_near s s' kept place index found same near is = subst (λ (w : RangeWalk). IfSome found (λ _. StepsWithin w s s')) (same is) near
+
+pub stepped_open : (walk walk' : OutWalk) (before after : Option OwnTree) (t t' : OwnTree) (index behind : Option ℕ) (found : Option Range) (status : ℕ) (out : OutRange) → before ≡ Some t → after ≡ Some t'
+    → index ≡ index_of walk → IsStepped t t' index found → behind ≡ t'.place.next → status ≡ found_status found → out ≡ out_of found → walk' ≡ walk_from behind → Stepped walk before after status out walk'
+stepped_open walk walk' before after t t' index behind found status out was is from step ends number shown goes =
+    subst (λ (x : Option OwnTree × Option OwnTree). Stepped walk x.0 x.1 status out walk') (λ i. (sym was i, sym is i))
+    (found, subst (λ (o : Option ℕ). IsStepped t t' o found) from step, number, shown, goes ∙ ap walk_from (ends ∙ step.place))
+
+pub stepped_closed : (walk walk' : OutWalk) (before after : Option OwnTree) (status : ℕ) (out : OutRange) → before ≡ None → after ≡ None → status ≡ 22 → out ≡ no_range → walk' ≡ walk
+    → Stepped walk before after status out walk'
+stepped_closed walk walk' before after status out was is number shown stays =
+    subst (λ (x : Option OwnTree × Option OwnTree). Stepped walk x.0 x.1 status out walk') (λ i. (sym was i, sym is i)) (refl, number, shown, stays)
+
+-- a step of a tree, whose fields stand for `inside`
+pub stepped : (inside t : OwnTree) (e' : Parts) (place place' : RangeWalk) (index : Option ℕ) (found : Option Range) → inside ≡ t → place.next ≡ start_in (top_of inside) index → (inside.place.next ≡ index → place ≡ inside.place)
+    → IsAsked inside.engine e' → found ≡ found_from (map_by inside.engine.sheet.tree) (top_of inside) place.next → place'.next ≡ index_behind (top_of inside) found → IfSome found (λ _. StepsWithin place inside.engine.sheet e'.sheet)
+    → IsStepped t (record { engine = e'; place = place' }) index found
+stepped inside t e' place place' index found same start kept asked range behind near =
+    subst (λ (x : OwnTree). IsStepped x (record { engine = e'; place = place' }) index found) same (record {
+      rest = asked;
+      range = range ∙ ap (found_from (map_by inside.engine.sheet.tree) (top_of inside)) start;
+      place = behind;
+      near = stepped_near inside.engine.sheet e'.sheet inside.place place index found kept near;
+    })

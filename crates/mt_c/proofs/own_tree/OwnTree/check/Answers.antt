@@ -1,0 +1,7 @@
+use Rattle.std.proofs.Common.{ap}
+use Rattle.mt_c.specs.Own.{OwnTree}
+use Rattle.mt_c.proofs.Reading.{form_in}
+use Rattle.mt_c.proofs.own_tree.OwnTree.check.Goals as goal
+
+pub returns-clause-form : goal.returns-clause-form
+returns-clause-form c = form_in _ _ _ c.check_in.ensures.form (ap (λ (t : OwnTree). t.engine) c.self.view_is)

@@ -1,0 +1,67 @@
+-- Trees that open with a map, and the form of a tree's words.
+-- Source: the kernel's lib/maple_tree.c, mtree_dup and mt_validate; the numbers of rows are this project's.
+use Rattle.std.specs.Prelude.{◌≡◌, ◌⊎◌, ℕ, ◌≤◌, List, Option, Some, None}
+use Rattle.mt_base.specs.declared.kinds.Kind.{Kind}
+use Rattle.mt_base.specs.declared.ranges.Range.{Range}
+use Rattle.mt_base.specs.Width.{most_rows}
+use Rattle.mt_check.specs.declared.faults.Form.{Form}
+use Rattle.mt_check.specs.Check.{form_of}
+use Rattle.mt_rows.specs.Publish.{IsLawfulOf, map_by, tree_as}
+use Rattle.mt_engine.specs.Engine.{Parts}
+use Rattle.mt_tree.specs.Copies.{live_rows}
+use Rattle.mt_c.specs.declared.forms.OutForm.{OutForm}
+use Rattle.mt_c.specs.Calls.{IsAsked}
+use Rattle.mt_c.specs.Own.{OwnTree}
+
+-- ---- a tree's form
+
+abbrev pub no_form : OutForm
+no_form = record { height = 0; rows = 0; ranges = 0 }
+
+abbrev pub out_form : Form → OutForm
+out_form form = record { height = form.height; rows = form.rows; ranges = form.ranges }
+
+-- The words of an open tree are lawful, and their form is told.
+abbrev pub Checked : Option OwnTree → Option OwnTree → ℕ → OutForm → Type 0
+Checked None after status form = (after ≡ None) × (status ≡ 22) × (form ≡ no_form)
+Checked (Some t) None status form = ⊥
+Checked (Some t) (Some t') status form =
+    IsAsked t.engine t'.engine × IsLawfulOf t.engine.sheet.tree t.engine.kind × (status ≡ 0) × (form ≡ out_form (form_of (tree_as t.engine.kind t.engine.sheet.tree)))
+
+-- ---- opening with a map
+
+-- A tree of this kind, in so many rows, that has this map, and no call was made of it.
+pub record IsOpenedWith (kind : Kind) (rows : ℕ) (m : List Range) (t : Parts) : Type 0 where
+  pub kind_is : t.kind ≡ kind
+  pub rows_are : t.sheet.tree.rows ≡ rows
+  pub map : map_by t.sheet.tree ≡ m
+  pub first : t.sheet.ended ≡ 0
+
+-- so many rows hold those that are used, and are no more than a tree may have
+abbrev pub Fits : ℕ → ℕ → Type 0
+Fits used rows = (used ≤ rows) × (rows ≤ most_rows)
+
+-- Why there is no tree: EDOM where the rows do not fit, and ENOMEM where they do and memory ran out.
+abbrev pub Lacks : ℕ → ℕ → ℕ → Type 0
+Lacks used rows status = ((status ≡ 33) × (Fits used rows → ⊥)) ⊎ ((status ≡ 12) × Fits used rows)
+
+-- An open of what C keeps: a tree that is so, or the number that says why there is none. One that is open is EBUSY, and stays as it was.
+abbrev pub OpensAs : (Parts → Type 0) → (ℕ → Type 0) → Option OwnTree → ℕ → Type 0
+OpensAs is lacks (Some t) status = (status ≡ 0) × is t.engine
+OpensAs is lacks None status = lacks status
+
+abbrev pub Opens : (Parts → Type 0) → (ℕ → Type 0) → Option OwnTree → Option OwnTree → ℕ → Type 0
+Opens is lacks (Some t) after status = (after ≡ Some t) × (status ≡ 16)
+Opens is lacks None after status = OpensAs is lacks after status
+
+-- ---- copies
+
+-- a tree with the map of another, in so many rows, which hold those that the other has in use
+abbrev pub IsCopyIn : ℕ → Parts → Parts → Type 0
+IsCopyIn rows t t' = Fits (live_rows t.sheet.tree) rows × IsOpenedWith t.kind rows (map_by t.sheet.tree) t'
+
+-- An open of one tree with the map of another, which is only read. A closed one is EINVAL, and the copy is as it was.
+abbrev pub Copied : ℕ → Option OwnTree → Option OwnTree → Option OwnTree → Option OwnTree → ℕ → Type 0
+Copied rows None after copy copy' status = (after ≡ None) × (copy' ≡ copy) × (status ≡ 22)
+Copied rows (Some t) None copy copy' status = ⊥
+Copied rows (Some t) (Some t') copy copy' status = IsAsked t.engine t'.engine × Opens (IsCopyIn rows t.engine) (Lacks (live_rows t.engine.sheet.tree) rows) copy copy' status

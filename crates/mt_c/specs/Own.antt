@@ -1,0 +1,20 @@
+-- What a tree that one thread at a time uses stands for. Source: this project's own.
+use Rattle.std.specs.Prelude.{◌≡◌}
+use Rattle.mt_engine.specs.declared.range_walk.RangeWalk.{RangeWalk}
+use Rattle.mt_engine.specs.Engine.{Parts}
+use Rattle.mt_engine.specs.RangeWalks.{WalksFrom}
+use Rattle.mt_c.specs.declared.own_tree.OwnTree.TheInside.{Inside}
+
+-- what its engine stands for, and the place of the walk that went last there
+pub record OwnTree : Type 0 where
+  pub engine : Parts
+  pub place : RangeWalk
+
+abbrev pub own_of : Inside → OwnTree
+own_of t = record { engine = t.engine; place = t.place }
+
+-- its kind is told, and its calls are counted; the walk is one of the tree as it stands
+pub record IsOwn (t : Inside) : Type 0 where
+  pub told : t.kind ≡ t.engine.kind
+  pub counted : t.calls ≡ t.engine.sheet.ended
+  pub walks : WalksFrom t.engine.sheet.tree t.place

@@ -1,0 +1,201 @@
+//! Trees that open with a copy of rows.
+
+ghost use Rattle.std.specs.Prelude.{◌≡◌, ◌↔◌, ◌<◌, ◌≤◌, IfOk, IfErr, IsTrue};
+ghost use Rattle.mt_base.specs.declared.kinds.Kind.{Kind};
+ghost use Rattle.mt_free.specs.Book.{new_book};
+ghost use Rattle.mt_rows.specs.Memory.{sheet_in};
+ghost use Rattle.mt_rows.specs.Plain.{new_sheet};
+ghost use Rattle.mt_rows.specs.Publish.{IsLawfulOf, map_by};
+ghost use Rattle.mt_rows.specs.Sheet.{OnlyReads};
+ghost use Rattle.mt_tree.specs.Copies.{IsReadyToOpen, live_rows};
+ghost use Rattle.mt_c.specs.Calls.{IsAsked};
+ghost use Rattle.mt_c.specs.Copying.{Copied, Fits, IsCopyIn, IsOpenedWith, Lacks};
+
+use crate::handle::Handle;
+use crate::own_tree::OwnTree;
+use crate::told::{EBUSY, EDOM, EINVAL, ENOMEM};
+use core::mem::replace_with;
+use mt_base::{Kind, MOST_ROWS, NoMemory, Steps, width_of};
+use mt_dup::copy_rows;
+use mt_engine::Engine;
+use mt_free::RowBook;
+use mt_rows::{PlainRows, Rows};
+use std::alloc::Global;
+use std::marker::Brand;
+use std::sync::ledger::{Blank, Ledger};
+
+/// Copies lawful rows into new rows of their width, and plants them there.
+fn copy_into<L: Ledger>(blank: Blank, src: &mut PlainRows, dst: &mut PlainRows, book: &mut RowBook)
+    requires name { blank.name ≡ L.name }
+    requires parts { blank.parts ≡ L.parts }
+    requires some { 0 < blank.parts }
+    requires lawful { (kind : Kind) × IsLawfulOf (sheet_in src.old).tree kind }
+    requires rows { sheet_in dst.old ≡ new_sheet (sheet_in src.old).tree.table.width book.old.rows }
+    requires book { book.old ≡ new_book book.old.rows }
+    requires room { live_rows (sheet_in src.old).tree ≤ book.old.rows }
+    ensures copy { (kind : Kind) → IsLawfulOf (sheet_in src.old).tree kind → IsReadyToOpen kind book.old.rows (map_by (sheet_in src.old).tree) (sheet_in dst.new) book.new }
+    ensures rest { OnlyReads (sheet_in src.old) (sheet_in src.new) }
+{
+    let mut steps = Steps::<L>::new(blank);
+    let root = copy_rows(src, dst, book, &mut steps);
+    dst.plant(root);
+}
+
+/// An engine of this kind, in so many rows, with a copy of lawful rows.
+fn engine_with(
+    alloc: Global,
+    kind: Kind,
+    src: &mut PlainRows,
+    rows: u64,
+) -> Result<Engine<PlainRows>, NoMemory>
+    requires lawful { IsLawfulOf (sheet_in src.old).tree kind }
+    requires fits { Fits (live_rows (sheet_in src.old).tree) rows }
+    ensures engine { IfOk result (IsOpenedWith kind rows (map_by (sheet_in src.old).tree)) }
+    ensures rest { OnlyReads (sheet_in src.old) (sheet_in src.new) }
+{
+    let mut book = RowBook::new(alloc, rows)?;
+    let mut dst = PlainRows::of_width(alloc, width_of(kind), rows)?;
+    copy_into::<Brand>(Blank::new(1), src, &mut dst, &mut book);
+    Ok(Engine::new(dst, book, kind))
+}
+
+/// A tree of this kind, in so many rows, with a copy of lawful rows.
+fn copied(
+    alloc: Global,
+    kind: Kind,
+    src: &mut PlainRows,
+    rows: u64,
+) -> Result<Box<OwnTree>, NoMemory>
+    requires lawful { IsLawfulOf (sheet_in src.old).tree kind }
+    requires fits { Fits (live_rows (sheet_in src.old).tree) rows }
+    ensures tree { IfOk result (λ whole. IsOpenedWith kind rows (map_by (sheet_in src.old).tree) whole.value.engine) }
+    ensures rest { OnlyReads (sheet_in src.old) (sheet_in src.new) }
+{
+    let engine = engine_with(alloc, kind, src, rows)?;
+    Ok(Box::new(alloc, OwnTree::begun(engine, kind))?)
+}
+
+/// How many rows there are: as many as are used at the least.
+pub fn used_in(kind: Kind, rows: &PlainRows) -> u64
+    requires { IsLawfulOf (sheet_in rows.now).tree kind }
+    ensures size { result ≡ (sheet_in rows.now).tree.rows }
+    ensures used { live_rows (sheet_in rows.now).tree ≤ result }
+{
+    // it is named for the proof
+    let _kind = kind;
+    rows.size()
+}
+
+/// Whether so many rows hold those that are used, and are no more than a tree may have.
+fn fits(used: u64, rows: u64) -> bool
+    ensures { IsTrue result ↔ Fits used rows }
+{
+    (used..=MOST_ROWS).contains(&rows)
+}
+
+/// The same where the rows fit; or the number that says why there is none.
+pub fn fitted(
+    alloc: Global,
+    kind: Kind,
+    src: &mut PlainRows,
+    used: u64,
+    rows: u64,
+) -> Result<Box<OwnTree>, u32>
+    requires lawful { IsLawfulOf (sheet_in src.old).tree kind }
+    requires used { live_rows (sheet_in src.old).tree ≤ used }
+    ensures fits { IfOk result (λ _. Fits used rows) }
+    ensures tree { IfOk result (λ whole. IsOpenedWith kind rows (map_by (sheet_in src.old).tree) whole.value.engine) }
+    ensures lacks { IfErr result (Lacks used rows) }
+    ensures rest { OnlyReads (sheet_in src.old) (sheet_in src.new) }
+{
+    if !fits(used, rows) {
+        return Err(EDOM);
+    }
+    match copied(alloc, kind, src, rows) {
+        Ok(whole) => Ok(whole),
+        Err(NoMemory) => Err(ENOMEM),
+    }
+}
+
+/// How many rows a copy is to have, of a tree of which kind.
+#[derive(Drop)]
+struct Wanted {
+    alloc: Global,
+    kind: Kind,
+    rows: u64,
+}
+
+/// A copy of a tree, which is only read.
+#[tactic(auto, using(mt_tree::proofs::Forms::lawful_as, mt_tree::proofs::Forms::idle_as, mt_tree::proofs::Forms::high_as, mt_tree::proofs::Forms::live_as, crate::proofs::Reading::asked_as, crate::proofs::Copying::copy_in, crate::proofs::Copying::lacks_in))]
+fn copy_of(
+    engine: Engine<PlainRows>,
+    wanted: Wanted,
+) -> (Engine<PlainRows>, Result<Box<OwnTree>, u32>)
+    requires { wanted.kind ≡ engine.kind }
+    ensures rest { IsAsked engine result.0 }
+    ensures copy { IfOk result.1 (λ whole. IsCopyIn wanted.rows engine whole.value.engine) }
+    ensures lacks { IfErr result.1 (Lacks (live_rows engine.sheet.tree) wanted.rows) }
+{
+    let height = engine.height();
+    let (mut src, book) = engine.parts();
+    let made = fitted(
+        wanted.alloc,
+        wanted.kind,
+        &mut src,
+        book.live(),
+        wanted.rows,
+    );
+    (Engine::of_height(src, book, wanted.kind, height), made)
+}
+
+/// A copy of an engine's tree, which is only read.
+fn copy_in(engine: &mut Engine<PlainRows>, wanted: Wanted) -> Result<Box<OwnTree>, u32>
+    requires { wanted.kind ≡ engine.old.kind }
+    ensures rest { IsAsked engine.old engine.new }
+    ensures copy { IfOk result (λ whole. IsCopyIn wanted.rows engine.old whole.value.engine) }
+    ensures lacks { IfErr result (Lacks (live_rows engine.old.sheet.tree) wanted.rows) }
+{
+    replace_with(engine, wanted, copy_of)
+}
+
+impl OwnTree {
+    /// A copy in so many rows; or the number that says why there is none.
+    #[tactic(auto, using(crate::proofs::Walking::walks_if_asked, crate::proofs::Walking::ended_if_asked))]
+    fn copy(&mut self, alloc: Global, rows: u64) -> Result<Box<OwnTree>, u32>
+        ensures rest { IsAsked self.old.engine self.new.engine }
+        ensures copy { IfOk result (λ whole. IsCopyIn rows self.old.engine whole.value.engine) }
+        ensures lacks { IfErr result (Lacks (live_rows self.old.engine.sheet.tree) rows) }
+    {
+        let wanted = Wanted {
+            alloc,
+            kind: self.kind,
+            rows,
+        };
+        copy_in(&mut self.engine, wanted)
+    }
+}
+
+/// Opens a tree with the map of another, in so many rows: as many as that has in use at the least, and 65,504 at the most.
+#[tactic(auto, using(crate::proofs::Copying::copied_closed, crate::proofs::Copying::copied_busy))]
+#[unsafe(no_mangle)]
+pub extern "C" fn maple_copy(alloc: Global, tree: &mut Handle, copy: &mut Handle, rows: u64) -> u32
+    ensures { Copied rows tree.old.kept.value tree.new.kept.value copy.old.kept.value copy.new.kept.value result }
+{
+    let Some(mut whole) = tree.take(alloc) else {
+        return EINVAL;
+    };
+    if let Some(there) = copy.take(alloc) {
+        *tree = Handle::of(whole);
+        *copy = Handle::of(there);
+        return EBUSY;
+    }
+    let made = whole.copy(alloc, rows);
+    *tree = Handle::of(whole);
+    match made {
+        Ok(made) => {
+            *copy = Handle::of(made);
+            0
+        }
+        Err(status) => status,
+    }
+}

@@ -1,0 +1,116 @@
+//! Walks by ranges, whose place the tree keeps.
+
+ghost use Rattle.std.specs.Prelude.{◌≡◌, None, Option};
+ghost use Rattle.mt_base.specs.Width.{greatest};
+ghost use Rattle.mt_rows.specs.Sheet.{Rooted};
+ghost use Rattle.mt_engine.specs.RangeWalks.{WalksFrom};
+ghost use Rattle.mt_c.specs.Walking as defined;
+ghost use Rattle.mt_c.specs.Walking.{IsStepped, Stepped, index_of, start_in, walk_from};
+
+use crate::handle::Handle;
+use crate::own_tree::OwnTree;
+use crate::told::{EINVAL, OutRange, found_status, no_range, out_of};
+use mt_base::Range;
+use mt_engine::{Engine, RangeWalk};
+use mt_rows::PlainRows;
+use std::alloc::Global;
+
+/// A walk as C has it: `struct maple_walk`. Zeroed it is before the first range.
+#[repr(C)]
+#[derive(Clone, Copy, Debug, PartialEq, Eq)]
+pub struct OutWalk {
+    pub next: u64,
+    pub ended: u64,
+}
+
+impl OutWalk {
+    /// The walk that goes on from an index, or has ended.
+    fn from_index(index: Option<u64>) -> OutWalk
+        ensures { result ≡ walk_from index }
+    {
+        match index {
+            Some(next) => OutWalk { next, ended: 0 },
+            None => OutWalk { next: 0, ended: 1 },
+        }
+    }
+
+    /// The index from which it goes on.
+    fn index(&self) -> Option<u64>
+        ensures { result ≡ index_of self.now }
+    {
+        if self.ended == 0 {
+            Some(self.next)
+        } else {
+            None
+        }
+    }
+}
+
+/// A walk that has ended, which is one of every tree.
+pub fn ended() -> RangeWalk
+    ensures next { result.next ≡ None }
+    ensures walk { (t : Rooted) → WalksFrom t result }
+{
+    RangeWalk {
+        next: None,
+        last: None,
+    }
+}
+
+/// The place from which a walk goes on: the one that is kept, where it is this, or else one whose leaf is not known.
+#[tactic(auto, using(crate::proofs::Walking::kept_start))]
+fn place_for(engine: &Engine<PlainRows>, kept: &RangeWalk, index: Option<u64>) -> RangeWalk
+    requires { WalksFrom engine.now.sheet.tree kept.now }
+    ensures walk { WalksFrom engine.now.sheet.tree result }
+    ensures next { result.next ≡ start_in (greatest engine.now.sheet.tree.table.width) index }
+    ensures kept { kept.now.next ≡ index → result ≡ kept.now }
+{
+    if kept.next == index {
+        return *kept;
+    }
+    match index {
+        Some(index) => engine.walk_from(index),
+        None => ended(),
+    }
+}
+
+impl OwnTree {
+    /// The first range that ends at an index or above, from behind which a walk goes on then.
+    fn step(&mut self, index: Option<u64>) -> Option<Range>
+        ensures { IsStepped self.old self.new index result }
+    {
+        self.place = place_for(&self.engine, &self.place, index);
+        self.engine.next_range(&mut self.place)
+    }
+
+    /// The index behind the range that was told last.
+    fn behind(&self) -> Option<u64>
+        ensures { result ≡ self.now.place.next }
+    {
+        self.place.next
+    }
+}
+
+/// Tells the next range of a walk, which goes on behind it. What the tree keeps of the walk that went last is used where this is that
+/// one, and so a call between two steps does no harm.
+#[tactic(auto, using(crate::proofs::Walking::stepped_open, crate::proofs::Walking::stepped_closed))]
+#[unsafe(no_mangle)]
+pub extern "C" fn maple_step(
+    alloc: Global,
+    tree: &mut Handle,
+    walk: &mut OutWalk,
+    range: &mut OutRange,
+) -> u32
+    ensures { Stepped walk.old tree.old.kept.value tree.new.kept.value result range.new walk.new }
+{
+    let Some(mut whole) = tree.take(alloc) else {
+        *range = no_range();
+        return EINVAL;
+    };
+    let found = whole.step(walk.index());
+    let behind = whole.behind();
+    *tree = Handle::of(whole);
+    *range = out_of(found);
+    *walk = OutWalk::from_index(behind);
+    found_status(found)
+}

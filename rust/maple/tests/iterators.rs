@@ -1,0 +1,75 @@
+//! What iterators give, from either end, on trees of each kind.
+
+use maple::{Kind, Range, Tree};
+use std::num::NonZeroU64;
+
+const KINDS: [Kind; 4] = [Kind::Range, Kind::Alloc, Kind::Range32, Kind::Alloc32];
+
+fn top_of(kind: Kind) -> u64 {
+    match kind {
+        Kind::Range | Kind::Alloc => u64::MAX,
+        Kind::Range32 | Kind::Alloc32 => u64::from(u32::MAX),
+    }
+}
+
+/// 2,000 ranges with holes between them, and one that ends at the greatest index.
+fn ranges_of(kind: Kind) -> Vec<Range> {
+    let entry = |n| NonZeroU64::new(4 * n + 4).expect("an entry is not 0");
+    let low = (0..2000).map(|n| Range { first: 7 * n, last: 7 * n + n % 5, entry: entry(n) });
+    let high = Range { first: top_of(kind) - 3, last: top_of(kind), entry: entry(0) };
+    low.chain([high]).collect()
+}
+
+#[test]
+fn windows_are_given_from_both_ends() {
+    for kind in KINDS {
+        let ranges = ranges_of(kind);
+        let tree = Tree::build(kind, 5000, &ranges).unwrap();
+        for (from, to) in [(0, u64::MAX), (0, top_of(kind)), (3, 3), (5, 6), (100, 9000), (top_of(kind), u64::MAX)] {
+            let wanted: Vec<Range> = ranges.iter().copied().filter(|r| r.first <= to && r.last >= from).collect();
+            assert_eq!(tree.range(from..=to).collect::<Vec<_>>(), wanted);
+            let mut falling: Vec<Range> = tree.range(from..=to).rev().collect();
+            falling.reverse();
+            assert_eq!(falling, wanted);
+            let mut both = tree.range(from..=to);
+            let (mut front, mut back) = (Vec::new(), Vec::new());
+            while let Some(range) = both.next() {
+                front.push(range);
+                back.extend(both.next_back());
+            }
+            assert_eq!((both.next(), both.next_back()), (None, None));
+            front.extend(back.into_iter().rev());
+            assert_eq!(front, wanted);
+        }
+        #[allow(clippy::reversed_empty_ranges)]
+        let empty = 9..=3;
+        assert_eq!(tree.range(empty.clone()).next(), None);
+        assert_eq!(tree.range(empty).next_back(), None);
+    }
+}
+
+#[test]
+fn two_walks_of_one_tree_do_not_disturb_each_other() {
+    let ranges = ranges_of(Kind::Range);
+    let tree = Tree::build(Kind::Range, 5000, &ranges).unwrap();
+    assert!(tree
+        .iter()
+        .zip(tree.range(0..=u64::MAX))
+        .all(|(one, other)| one == other && tree.load(one.last) == Some(one)));
+}
+
+#[test]
+fn copies_and_images_have_the_same_ranges() {
+    for kind in KINDS {
+        let ranges = ranges_of(kind);
+        let tree = Tree::build(kind, 5000, &ranges).unwrap();
+        let form = tree.check().unwrap();
+        assert_eq!(form.ranges, ranges.len() as u64);
+        let mut copy = tree.copy(form.rows).unwrap();
+        let mut read = Tree::of_image(&tree.image().unwrap(), 5000).unwrap();
+        assert!(copy.iter().eq(ranges.iter().copied()) && read.iter().eq(ranges.iter().copied()));
+        copy.clear().unwrap();
+        assert_eq!(read.erase(7), Ok(Some(ranges[1])));
+        assert!(tree.iter().eq(ranges.iter().copied()));
+    }
+}
