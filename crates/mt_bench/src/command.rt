@@ -152,6 +152,13 @@ pub struct Lanes {
     pub threads: u32,
 }
 
+/// A tree of this kind, built at once by so many workers.
+#[derive(Clone, Copy, Debug)]
+pub struct Build {
+    pub kind: Kind,
+    pub workers: u32,
+}
+
 /// What is timed.
 #[derive(Clone, Copy, Debug)]
 pub enum Timing {
@@ -159,6 +166,7 @@ pub enum Timing {
     Swept(Sweep),
     Together(Crew),
     Apart(Lanes),
+    Built(Build),
 }
 
 /// What is asked for, on trees of so many ranges: the time that something takes, or what all works come to.
@@ -184,6 +192,16 @@ fn write_lanes<W: fmt::Write>(
     write!(f, "{letter}lanes {ranges} lanes {threads}")
 }
 
+/// Writes what is built, of so many ranges.
+fn write_build<W: fmt::Write>(
+    f: &mut fmt::Formatter<W>,
+    build: &Build,
+    ranges: u32,
+) -> fmt::Result {
+    let (letter, workers) = (letter_of(build.kind), build.workers);
+    write!(f, "{letter}build {ranges} workers {workers}")
+}
+
 /// Writes what is done by a sweep, on so many ranges.
 fn write_sweep<W: fmt::Write>(
     f: &mut fmt::Formatter<W>,
@@ -205,6 +223,7 @@ fn write_timing<W: fmt::Write>(
         Timing::Swept(sweep) => write_sweep(f, sweep, ranges),
         Timing::Together(crew) => write_crew(f, crew, ranges),
         Timing::Apart(lanes) => write_lanes(f, lanes, ranges),
+        Timing::Built(build) => write_build(f, build, ranges),
     }
 }
 

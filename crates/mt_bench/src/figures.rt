@@ -32,11 +32,23 @@ pub enum Report {
     /// One operation's time, or the nodes for a range.
     One(Figure),
     /// Millions of loads a second of all readers together, and of writes.
-    Rates { reads: Figure, writes: Figure },
+    Rates {
+        reads: Figure,
+        writes: Figure,
+    },
     /// Nanoseconds of the slowest load and of the slowest write.
-    Slowest { load: u64, write: u64 },
+    Slowest {
+        load: u64,
+        write: u64,
+    },
     /// Milliseconds from the first thread's start to the last one's end.
     Whole(Figure),
+    /// Nanoseconds of a build for each range, and of its workers alone, and rows for each range.
+    Built {
+        whole: Figure,
+        lanes: Figure,
+        rows: Figure,
+    },
 }
 
 impl Report {
@@ -47,6 +59,7 @@ impl Report {
             Report::Rates { .. } => "rates",
             Report::Slowest { .. } => "slowest",
             Report::Whole(_) => "whole",
+            Report::Built { .. } => "built",
         }
     }
 }
@@ -58,6 +71,9 @@ impl fmt::Display for Report {
             Report::Rates { reads, writes } => write!(f, "reads_mops {reads} writes_mops {writes}"),
             Report::Slowest { load, write } => write!(f, "load_ns {load} write_ns {write}"),
             Report::Whole(figure) => write!(f, "ms {figure}"),
+            Report::Built { whole, lanes, rows } => {
+                write!(f, "ns {whole} lanes_ns {lanes} rows {rows}")
+            }
         }
     }
 }

@@ -11,10 +11,14 @@
 //! `mt_bench rlanes N LANES` makes 100,000 calls on each of four shared trees, in so many threads, and prints the milliseconds
 //! of them all.
 //!
+//! `mt_bench rbuild N WORKERS` builds a tree at once of its ranges by so many workers, and prints the nanoseconds for each range, of
+//! it all and of the workers alone, and how many rows there are for each range.
+//!
 //! `mt_bench sums N` times nothing. It prints what each work comes to on the engine, on a shared tree and on a sorted list, and
 //! what threads come to, and whether these agree; and then what each line of its input is read as.
 #![tactic(auto)]
 
+mod builds;
 mod callers;
 mod command;
 mod crews;
@@ -36,6 +40,7 @@ mod trees;
 mod words;
 mod works;
 
+use crate::builds::build_times;
 use crate::command::{Command, Timing};
 use crate::crews::together;
 use crate::draws::print_draws;
@@ -58,7 +63,7 @@ use std::{env, io};
 
 /// What is written where the words are no command.
 const USAGE: &str =
-    "usage: mt_bench [t][n][ra]{load,iter,store_seq,store_rand,overwrite,erase} N, [t][n]a{alloc,ralloc,holes,churn} N, [n][ra]{nodes_seq,nodes_rand,check,dup,dup_most,image,read} N, [n][ra]{readers,conc,slowest} N READERS, [n][ra]lanes N LANES, sums N";
+    "usage: mt_bench [t][n][ra]{load,iter,store_seq,store_rand,overwrite,erase} N, [t][n]a{alloc,ralloc,holes,churn} N, [n][ra]{nodes_seq,nodes_rand,check,dup,dup_most,image,read} N, [n][ra]{readers,conc,slowest} N READERS, [n][ra]lanes N LANES, [n][ra]build N WORKERS, sums N";
 
 /// The kinds of trees on which `sums` has all works done.
 const KINDS: [Kind; 4] = [Kind::Range, Kind::Alloc, Kind::Range32, Kind::Alloc32];
@@ -84,6 +89,7 @@ fn report_of<R: Threads + Wait + Clock + Sync>(
     match timing {
         Timing::Alone(work) => alone(rt, alloc, work, ranges),
         Timing::Swept(sweep) => swept(rt, alloc, sweep, ranges),
+        Timing::Built(build) => build_times(rt, alloc, build, ranges),
         Timing::Together(crew) => {
             let times = LOADS;
             let told = together(rt, alloc, crew, Extent { ranges, times })?;

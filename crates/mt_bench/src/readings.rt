@@ -24,6 +24,11 @@ fn report_on(timing: &Timing) -> Report {
             },
         },
         Timing::Apart(_) => Report::Whole(Figure::Hundredths(1205)),
+        Timing::Built(_) => Report::Built {
+            whole: Figure::Tenths(421),
+            lanes: Figure::Tenths(208),
+            rows: Figure::TenThousandths(1334),
+        },
     }
 }
 

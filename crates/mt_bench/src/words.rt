@@ -1,11 +1,19 @@
 //! What words ask for.
 
-use crate::command::{Command, Crew, Deed, Duty, Host, Job, Lanes, Room, Sweep, Timing, Work};
+use crate::command::{
+    Build, Command, Crew, Deed, Duty, Host, Job, Lanes, Room, Sweep, Timing, Work,
+};
 use crate::lanes::TREES;
 use mt_base::{Kind, finds_room};
 
 /// More ranges than the rows hold are not asked for.
 const MOST_RANGES: u32 = 200_000;
+
+/// So many ranges are in no more rows than can be named where a tree is built at once.
+const MOST_BUILT: u32 = 400_000;
+
+/// A tree is built by so many workers at the most.
+const MOST_WORKERS: u32 = 16;
 
 /// A tree has so many passes at the most, and one is the writer's.
 const MOST_READERS: u32 = 61;
@@ -148,6 +156,33 @@ fn at_once(word: &str, threads: &str) -> Option<Timing> {
     }
 }
 
+/// What is built by so many workers, of how many ranges.
+fn build_of(word: &str, count: &str, workers: &str) -> Option<Command> {
+    let (kind, rest) = kind_of(word)?;
+    if rest != "build" {
+        return None;
+    }
+    let workers = count_of(workers, MOST_WORKERS)?;
+    let ranges = count_of(count, MOST_BUILT)?;
+    let timing = Timing::Built(Build { kind, workers });
+    Some(Command::Time { timing, ranges })
+}
+
+/// What threads do on trees of so many ranges.
+fn command_at_once(word: &str, count: &str, threads: &str) -> Option<Command> {
+    let timing = at_once(word, threads)?;
+    let ranges = count_of(count, MOST_RANGES)?;
+    Some(Command::Time { timing, ranges })
+}
+
+/// The command of three words.
+fn command_of_three(word: &str, count: &str, threads: &str) -> Option<Command> {
+    match build_of(word, count, threads) {
+        Some(command) => Some(command),
+        None => command_at_once(word, count, threads),
+    }
+}
+
 /// The command of these words, of which the second one says how many ranges the trees have.
 fn command_on(word: &str, ranges: u32) -> Option<Command> {
     if word == "sums" {
@@ -157,15 +192,12 @@ fn command_on(word: &str, ranges: u32) -> Option<Command> {
     Some(Command::Time { timing, ranges })
 }
 
-/// The command that the words are: what is done and how many ranges, and then how many readers or lanes where there are such.
+/// The command that the words are: what is done and how many ranges, and then how many readers, lanes or workers where there
+/// are such.
 pub fn command_of(words: &[String]) -> Option<Command> {
     match words {
         [word, count] => command_on(word.as_str(), count_of(count.as_str(), MOST_RANGES)?),
-        [word, count, threads] => {
-            let timing = at_once(word.as_str(), threads.as_str())?;
-            let ranges = count_of(count.as_str(), MOST_RANGES)?;
-            Some(Command::Time { timing, ranges })
-        }
+        [word, count, threads] => command_of_three(word.as_str(), count.as_str(), threads.as_str()),
         _ => None,
     }
 }
