@@ -269,7 +269,7 @@ fn a_bad_log_is_told_by_its_line(rt: HostRuntime) -> Result<(), Fail> {
 /// An input of so many bytes is read by so many reads, and so many of its bytes are left then.
 fn expect_reach<R: Threads + Wait + Sync + AllocGlobal + Abort>(
     rt: &R,
-    word: &str,
+    words: &[&str],
     reads: u64,
     len: usize,
     status: u8,
@@ -279,10 +279,10 @@ fn expect_reach<R: Threads + Wait + Sync + AllocGlobal + Abort>(
     let bytes = vec![in rt.alloc(); b'#'; len]?;
     // All reads but the last give 65,536 bytes, and that one more byte or the end.
     let mut src = MemSource::new(bytes, usize::MAX, vec![in rt.alloc(); reads]?);
-    let ending = run(rt, &[word], &mut src, 256, 256)?;
-    expect_ending(rt, &ending, status, b"", told, word);
-    same(rt, read_eight(&mut src), Err(Failed), word);
-    same(rt, read_eight(&mut src), Ok(left), word);
+    let ending = run(rt, words, &mut src, 256, 256)?;
+    expect_ending(rt, &ending, status, b"", told, told);
+    same(rt, read_eight(&mut src), Err(Failed), told);
+    same(rt, read_eight(&mut src), Ok(left), told);
     Ok(())
 }
 
@@ -291,18 +291,19 @@ const TOO_LONG: &str = "mtreplay: input too long\n";
 #[test]
 fn a_log_is_read_no_further_than_one_byte_too_many(rt: HostRuntime) -> Result<(), Fail> {
     let no_line = "mtreplay: line 1: no newline\n";
-    expect_reach(&rt, "replay", 129, 8_388_608, 1, 0, no_line)?;
-    expect_reach(&rt, "replay", 129, 8_388_609, 6, 0, TOO_LONG)?;
-    expect_reach(&rt, "replay", 129, 8_388_612, 6, 3, TOO_LONG)?;
-    expect_reach(&rt, "image", 129, 8_388_609, 6, 0, TOO_LONG)
+    expect_reach(&rt, &["replay"], 129, 8_388_608, 1, 0, no_line)?;
+    expect_reach(&rt, &["replay"], 129, 8_388_609, 6, 0, TOO_LONG)?;
+    expect_reach(&rt, &["replay"], 129, 8_388_612, 6, 3, TOO_LONG)?;
+    expect_reach(&rt, &["image"], 129, 8_388_609, 6, 0, TOO_LONG)?;
+    expect_reach(&rt, &["bulk", "3"], 129, 8_388_609, 6, 0, TOO_LONG)
 }
 
 #[test]
 fn a_longer_input_is_read_no_further_than_one_byte_too_many(rt: HostRuntime) -> Result<(), Fail> {
     let none = "mtreplay: line 1: no transcript\n";
-    expect_reach(&rt, "verify", 1025, 67_108_864, 1, 0, none)?;
-    expect_reach(&rt, "verify", 1025, 67_108_865, 6, 0, TOO_LONG)?;
+    expect_reach(&rt, &["verify"], 1025, 67_108_864, 1, 0, none)?;
+    expect_reach(&rt, &["verify"], 1025, 67_108_865, 6, 0, TOO_LONG)?;
     let head = "mtreplay: image refused: head 0\n";
-    expect_reach(&rt, "show", 1025, 67_108_864, 8, 0, head)?;
-    expect_reach(&rt, "show", 1025, 67_108_865, 6, 0, TOO_LONG)
+    expect_reach(&rt, &["show"], 1025, 67_108_864, 8, 0, head)?;
+    expect_reach(&rt, &["show"], 1025, 67_108_865, 6, 0, TOO_LONG)
 }
