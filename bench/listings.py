@@ -1,5 +1,5 @@
 #!/usr/bin/env python3
-"""Whether the table of listings in mt_listing's tests says what a listing is, by a reader of another make.
+"""Whether the table of listings in trials_log says what a listing is, by a reader of another make.
 
 A text is taken line by line, by regular expressions: what a whole line is, and what may still become one. `bench/listings.py`
 reads the table, and `bench/listings.py FILE` tells of a file whether it is a listing, or at which line it shows that it is none.
@@ -88,7 +88,7 @@ def told(text):
 
 def table():
     """The texts of the table, and what is told of each."""
-    source = (Path(__file__).parent.parent / "crates/mt_listing/src/tests.rt").read_text()
+    source = (Path(__file__).parent.parent / "crates/trials_log/src/listings.rt").read_text()
     rows = re.search(r'const TEXTS: &str = "\\\n(.*?)";', source, re.S).group(1)
     for row in rows.replace("\\r", "\r").split("\n"):
         case, want = row.split(" -> ")

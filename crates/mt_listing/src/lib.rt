@@ -8,6 +8,3 @@ mod reading;
 
 pub use errors::ListingError;
 pub use reading::read_listing;
-
-#[cfg(test)]
-mod tests;

@@ -1,7 +1,9 @@
-//! Trials of texts: logs that are read, printed and made, what a text tells of them, what a run comes to, and the words of
-//! commands.
+//! Trials of texts: logs that are read, printed and made, what a text tells of them, what a run comes to, listings, and the words
+//! of commands.
 #![tactic(auto)]
 
+#[cfg(test)]
+mod listings;
 #[cfg(test)]
 mod log;
 #[cfg(test)]

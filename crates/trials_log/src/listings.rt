@@ -1,5 +1,6 @@
-use crate::errors::ListingError;
-use crate::reading::read_listing;
+//! Texts that are listings, and others.
+
+use mt_listing::{ListingError, read_listing};
 use mt_log::Listing;
 use std::alloc::{AllocError, Global};
 use std::test::Fail;
