@@ -12,6 +12,7 @@ ghost use Rattle.mt_gap.specs.Children.{row_children};
 ghost use Rattle.mt_gap.specs.Slots.{last_in, word_in, gap_in, child_in};
 
 use arrayvec::ArrayVec;
+use mt_base::Width;
 use mt_layout::{MOST_SLOTS, RowKind, Span, slots};
 use mt_rows::Rows;
 
@@ -27,13 +28,21 @@ pub(crate) type Children = ArrayVec<Child, MOST_SLOTS>;
 
 /// The last index of what stands in a slot of a row of this kind that ends at `max`.
 #[tactic(auto, using(crate::proofs::Readings::one_load, crate::proofs::Readings::no_load))]
-pub(crate) fn load_last<R: Rows>(rows: &mut R, kind: RowKind, row: u32, max: u64, slot: u32) -> u64
+pub(crate) fn load_last<R: Rows>(
+    rows: &mut R,
+    width: Width,
+    kind: RowKind,
+    row: u32,
+    max: u64,
+    slot: u32,
+) -> u64
+    requires width { width ≡ (R.sheet rows.old).tree.table.width }
     requires row { IsPlace (R.sheet rows.old).tree row 0 }
     requires slot { slot < slots_of (R.sheet rows.old).tree.table.width kind }
     ensures last { result ≡ last_in (R.sheet rows.old).tree.table kind row max slot }
     ensures reads { ReadsUpTo 1 (R.sheet rows.old) (R.sheet rows.new) }
 {
-    if slot + 1 < slots(rows.width(), kind) {
+    if slot + 1 < slots(width, kind) {
         rows.load(row, 1 + slot)
     } else {
         max
@@ -41,24 +50,32 @@ pub(crate) fn load_last<R: Rows>(rows: &mut R, kind: RowKind, row: u32, max: u64
 }
 
 /// The word in a slot of a row of this kind.
-pub(crate) fn load_word<R: Rows>(rows: &mut R, kind: RowKind, row: u32, slot: u32) -> u64
+pub(crate) fn load_word<R: Rows>(
+    rows: &mut R,
+    width: Width,
+    kind: RowKind,
+    row: u32,
+    slot: u32,
+) -> u64
+    requires width { width ≡ (R.sheet rows.old).tree.table.width }
     requires row { IsPlace (R.sheet rows.old).tree row 0 }
     requires slot { slot < slots_of (R.sheet rows.old).tree.table.width kind }
     ensures word { result ≡ word_in (R.sheet rows.old).tree.table kind row slot }
     ensures rest { R.sheet rows.new ≡ loaded (R.sheet rows.old) }
 {
-    let column = slots(rows.width(), kind) + slot;
+    let column = slots(width, kind) + slot;
     rows.load(row, column)
 }
 
 /// The gap word of a slot of a row with gaps.
-pub(crate) fn load_gap<R: Rows>(rows: &mut R, row: u32, slot: u32) -> u64
+pub(crate) fn load_gap<R: Rows>(rows: &mut R, width: Width, row: u32, slot: u32) -> u64
+    requires width { width ≡ (R.sheet rows.old).tree.table.width }
     requires row { IsPlace (R.sheet rows.old).tree row 0 }
     requires slot { slot < slots_of (R.sheet rows.old).tree.table.width Gapped }
     ensures gap { result ≡ gap_in (R.sheet rows.old).tree.table Gapped row slot }
     ensures rest { R.sheet rows.new ≡ loaded (R.sheet rows.old) }
 {
-    let column = 2 * slots(rows.width(), RowKind::Gapped) + slot;
+    let column = 2 * slots(width, RowKind::Gapped) + slot;
     rows.load(row, column)
 }
 
@@ -68,11 +85,12 @@ pub(crate) fn load_children<R: Rows>(rows: &mut R, row: u32, first: u64, max: u6
     ensures items { result.items ≡ row_children (R.sheet rows.old).tree.table row Gapped first max }
     ensures reads { ReadsUpTo (columns (R.sheet rows.old).tree.table.width) (R.sheet rows.old) (R.sheet rows.new) }
 {
+    let width = rows.width();
     let mut children = Children::new();
     let mut begin = first;
-    for slot in 0..slots(rows.width(), RowKind::Gapped) {
-        let last = load_last(rows, RowKind::Gapped, row, max, slot);
-        let child = load_child(rows, row, slot, begin, last);
+    for slot in 0..slots(width, RowKind::Gapped) {
+        let last = load_last(rows, width, RowKind::Gapped, row, max, slot);
+        let child = load_child(rows, width, row, slot, begin, last);
         children.push(child);
         if max <= last {
             return children;
@@ -84,15 +102,23 @@ pub(crate) fn load_children<R: Rows>(rows: &mut R, row: u32, first: u64, max: u6
 
 /// What stands in a slot of a row with gaps, from an index to another.
 #[tactic(auto, using(crate::proofs::Readings::two_loads))]
-fn load_child<R: Rows>(rows: &mut R, row: u32, slot: u32, first: u64, last: u64) -> Child
+fn load_child<R: Rows>(
+    rows: &mut R,
+    width: Width,
+    row: u32,
+    slot: u32,
+    first: u64,
+    last: u64,
+) -> Child
+    requires width { width ≡ (R.sheet rows.old).tree.table.width }
     requires row { IsPlace (R.sheet rows.old).tree row 0 }
     requires slot { slot < slots_of (R.sheet rows.old).tree.table.width Gapped }
     ensures child { result ≡ child_in (R.sheet rows.old).tree.table Gapped row slot first last }
     ensures reads { ReadsUpTo 2 (R.sheet rows.old) (R.sheet rows.new) }
 {
-    let word = load_word(rows, RowKind::Gapped, row, slot);
+    let word = load_word(rows, width, RowKind::Gapped, row, slot);
     Child {
         span: Span { first, last, word },
-        gap: load_gap(rows, row, slot),
+        gap: load_gap(rows, width, row, slot),
     }
 }

@@ -46,11 +46,12 @@ fn longest_of<R: Rows>(rows: &mut R, row: u32, first: u64, max: u64) -> u64
     ensures longest { result ≡ longest_in (row_spans (R.sheet rows.old).tree.table row Leaf first max) }
     ensures reads { ReadsUpTo (columns (R.sheet rows.old).tree.table.width) (R.sheet rows.old) (R.sheet rows.new) }
 {
+    let width = rows.width();
     let mut longest = 0;
     let mut begin = first;
-    for slot in 0..slots(rows.width(), RowKind::Leaf) {
-        let last = load_last(rows, RowKind::Leaf, row, max, slot);
-        let word = load_word(rows, RowKind::Leaf, row, slot);
+    for slot in 0..slots(width, RowKind::Leaf) {
+        let last = load_last(rows, width, RowKind::Leaf, row, max, slot);
+        let word = load_word(rows, width, RowKind::Leaf, row, slot);
         longest = longest.max(hole_length(Span {
             first: begin,
             last,
@@ -70,9 +71,10 @@ fn greatest_of<R: Rows>(rows: &mut R, row: u32) -> u64
     ensures greatest { result ≡ most_gap (R.sheet rows.old).tree.table row (slots_of (R.sheet rows.old).tree.table.width Gapped) }
     ensures reads { ReadsUpTo (columns (R.sheet rows.old).tree.table.width) (R.sheet rows.old) (R.sheet rows.new) }
 {
+    let width = rows.width();
     let mut greatest = 0;
-    for slot in 0..slots(rows.width(), RowKind::Gapped) {
-        greatest = greatest.max(load_gap(rows, row, slot));
+    for slot in 0..slots(width, RowKind::Gapped) {
+        greatest = greatest.max(load_gap(rows, width, row, slot));
     }
     greatest
 }

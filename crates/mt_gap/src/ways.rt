@@ -16,7 +16,7 @@ ghost use Rattle.mt_gap.specs.Ways.{one_more, with_room, IsBelow, EndsIn};
 
 use crate::children::load_last;
 use crate::windows::{Window, is_inside, room_in_slot};
-use mt_base::DEEPEST;
+use mt_base::{DEEPEST, Width};
 use mt_layout::{RowKind, Span, kind_of, row_of, slots};
 use mt_path::{Path, PathStep};
 use mt_rows::Rows;
@@ -51,6 +51,7 @@ fn one_more(below: Below, slot: u32, span: Span) -> Below
 /// Takes what stands in a slot of a row with gaps, where it may have room, and tells whether it lies in the window then.
 fn take_slot<R: Rows>(
     rows: &mut R,
+    width: Width,
     row: u32,
     slot: u32,
     first: u64,
@@ -58,13 +59,14 @@ fn take_slot<R: Rows>(
     window: Window,
     below: &mut Below,
 ) -> bool
+    requires width { width ≡ (R.sheet rows.old).tree.table.width }
     requires row { IsPlace (R.sheet rows.old).tree row 0 }
     requires slot { slot < slots_of (R.sheet rows.old).tree.table.width Gapped }
     ensures below { below.new ≡ with_room window slot (child_in (R.sheet rows.old).tree.table Gapped row slot first last) below.old }
     ensures found { result ≡ has_sure window.size window.lo window.hi (child_in (R.sheet rows.old).tree.table Gapped row slot first last ∷ []) }
     ensures reads { ReadsUpTo 2 (R.sheet rows.old) (R.sheet rows.new) }
 {
-    let Some(child) = room_in_slot(rows, row, slot, first, last, window) else {
+    let Some(child) = room_in_slot(rows, width, row, slot, first, last, window) else {
         return false;
     };
     *below = one_more(*below, slot, child.span);
@@ -77,11 +79,12 @@ fn look_below<R: Rows>(rows: &mut R, row: u32, first: u64, max: u64, window: Win
     ensures below { IsBelow window (row_children (R.sheet rows.old).tree.table row Gapped first max) result }
     ensures reads { ReadsUpTo (columns (R.sheet rows.old).tree.table.width) (R.sheet rows.old) (R.sheet rows.new) }
 {
+    let width = rows.width();
     let mut below = Below::Nothing;
     let mut begin = first;
-    for slot in 0..slots(rows.width(), RowKind::Gapped) {
-        let last = load_last(rows, RowKind::Gapped, row, max, slot);
-        if take_slot(rows, row, slot, begin, last, window, &mut below) {
+    for slot in 0..slots(width, RowKind::Gapped) {
+        let last = load_last(rows, width, RowKind::Gapped, row, max, slot);
+        if take_slot(rows, width, row, slot, begin, last, window, &mut below) {
             return below;
         }
         if max <= last {

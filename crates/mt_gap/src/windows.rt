@@ -17,6 +17,7 @@ ghost use Rattle.mt_gap.specs.Slots.{child_in};
 
 use crate::children::{Child, load_gap, load_last, load_word};
 use arrayvec::ArrayVec;
+use mt_base::Width;
 use mt_layout::{RowKind, Span, slots};
 use mt_rows::Rows;
 
@@ -51,22 +52,24 @@ pub(crate) fn is_inside(window: Window, first: u64, last: u64) -> bool
 /// What stands in a slot of a row with gaps, where it may have room. Only then its word is loaded.
 pub(crate) fn room_in_slot<R: Rows>(
     rows: &mut R,
+    width: Width,
     row: u32,
     slot: u32,
     first: u64,
     last: u64,
     window: Window,
 ) -> Option<Child>
+    requires width { width ≡ (R.sheet rows.old).tree.table.width }
     requires row { IsPlace (R.sheet rows.old).tree row 0 }
     requires slot { slot < slots_of (R.sheet rows.old).tree.table.width Gapped }
     ensures child { let x = child_in (R.sheet rows.old).tree.table Gapped row slot first last in result ≡ (if may_have window.size window.lo window.hi x then Some x else None) }
     ensures reads { ReadsUpTo 2 (R.sheet rows.old) (R.sheet rows.new) }
 {
-    let gap = load_gap(rows, row, slot);
+    let gap = load_gap(rows, width, row, slot);
     if !may_have(window, first, last, gap) {
         return None;
     }
-    let word = load_word(rows, RowKind::Gapped, row, slot);
+    let word = load_word(rows, width, RowKind::Gapped, row, slot);
     Some(Child {
         span: Span { first, last, word },
         gap,
@@ -77,6 +80,7 @@ pub(crate) fn room_in_slot<R: Rows>(
 /// lies in the window then.
 fn ask_slot<R: Rows>(
     rows: &mut R,
+    width: Width,
     row: u32,
     slot: u32,
     first: u64,
@@ -84,6 +88,7 @@ fn ask_slot<R: Rows>(
     window: Window,
     asked: &mut Asked,
 ) -> bool
+    requires width { width ≡ (R.sheet rows.old).tree.table.width }
     requires row { IsPlace (R.sheet rows.old).tree row 0 }
     requires slot { slot < slots_of (R.sheet rows.old).tree.table.width Gapped }
     requires room { length asked.old.items + length (narrow window.size window.lo window.hi (child_in (R.sheet rows.old).tree.table Gapped row slot first last ∷ [])) ≤ 3 }
@@ -91,7 +96,7 @@ fn ask_slot<R: Rows>(
     ensures found { result ≡ has_sure window.size window.lo window.hi (child_in (R.sheet rows.old).tree.table Gapped row slot first last ∷ []) }
     ensures reads { ReadsUpTo 2 (R.sheet rows.old) (R.sheet rows.new) }
 {
-    let Some(child) = room_in_slot(rows, row, slot, first, last, window) else {
+    let Some(child) = room_in_slot(rows, width, row, slot, first, last, window) else {
         return false;
     };
     asked.push(child);
@@ -114,10 +119,11 @@ pub(crate) fn ask_row<R: Rows>(
     ensures found { result ≡ has_sure window.size window.lo window.hi (row_children (R.sheet rows.old).tree.table row Gapped first max) }
     ensures reads { ReadsUpTo (columns (R.sheet rows.old).tree.table.width) (R.sheet rows.old) (R.sheet rows.new) }
 {
+    let width = rows.width();
     let mut begin = first;
-    for slot in 0..slots(rows.width(), RowKind::Gapped) {
-        let last = load_last(rows, RowKind::Gapped, row, max, slot);
-        if ask_slot(rows, row, slot, begin, last, window, asked) {
+    for slot in 0..slots(width, RowKind::Gapped) {
+        let last = load_last(rows, width, RowKind::Gapped, row, max, slot);
+        if ask_slot(rows, width, row, slot, begin, last, window, asked) {
             return true;
         }
         if max <= last {
@@ -143,6 +149,7 @@ fn take_up(child: Child, is_inside: bool, asked: &mut Asked)
 /// before it.
 fn ask_slot_up<R: Rows>(
     rows: &mut R,
+    width: Width,
     row: u32,
     slot: u32,
     first: u64,
@@ -150,13 +157,14 @@ fn ask_slot_up<R: Rows>(
     window: Window,
     asked: &mut Asked,
 )
+    requires width { width ≡ (R.sheet rows.old).tree.table.width }
     requires row { IsPlace (R.sheet rows.old).tree row 0 }
     requires slot { slot < slots_of (R.sheet rows.old).tree.table.width Gapped }
     requires room { length (next_up window.size window.lo window.hi asked.old.items (child_in (R.sheet rows.old).tree.table Gapped row slot first last)) ≤ 3 }
     ensures items { asked.new.items ≡ next_up window.size window.lo window.hi asked.old.items (child_in (R.sheet rows.old).tree.table Gapped row slot first last) }
     ensures reads { ReadsUpTo 2 (R.sheet rows.old) (R.sheet rows.new) }
 {
-    if let Some(child) = room_in_slot(rows, row, slot, first, last, window) {
+    if let Some(child) = room_in_slot(rows, width, row, slot, first, last, window) {
         take_up(child, is_inside(window, first, last), asked);
     }
 }
@@ -176,10 +184,11 @@ pub(crate) fn ask_row_up<R: Rows>(
     ensures items { asked.new.items ≡ narrow_up window.size window.lo window.hi asked.old.items (row_children (R.sheet rows.old).tree.table row Gapped first max) }
     ensures reads { ReadsUpTo (columns (R.sheet rows.old).tree.table.width) (R.sheet rows.old) (R.sheet rows.new) }
 {
+    let width = rows.width();
     let mut begin = first;
-    for slot in 0..slots(rows.width(), RowKind::Gapped) {
-        let last = load_last(rows, RowKind::Gapped, row, max, slot);
-        ask_slot_up(rows, row, slot, begin, last, window, asked);
+    for slot in 0..slots(width, RowKind::Gapped) {
+        let last = load_last(rows, width, RowKind::Gapped, row, max, slot);
+        ask_slot_up(rows, width, row, slot, begin, last, window, asked);
         if max <= last {
             return;
         }
@@ -242,10 +251,11 @@ pub(crate) fn lowest_of<R: Rows>(
     ensures place { result ≡ picked lowest_in window (flat_map child_hole (row_children (R.sheet rows.old).tree.table row kind first max)) }
     ensures reads { ReadsUpTo (columns (R.sheet rows.old).tree.table.width) (R.sheet rows.old) (R.sheet rows.new) }
 {
+    let width = rows.width();
     let mut begin = first;
-    for slot in 0..slots(rows.width(), kind) {
-        let last = load_last(rows, kind, row, max, slot);
-        let word = load_word(rows, kind, row, slot);
+    for slot in 0..slots(width, kind) {
+        let last = load_last(rows, width, kind, row, max, slot);
+        let word = load_word(rows, width, kind, row, slot);
         let place = low_place(
             window,
             Span {
@@ -280,11 +290,12 @@ pub(crate) fn highest_of<R: Rows>(
     ensures place { result ≡ picked (highest_in window.size) window (flat_map child_hole (row_children (R.sheet rows.old).tree.table row kind first max)) }
     ensures reads { ReadsUpTo (columns (R.sheet rows.old).tree.table.width) (R.sheet rows.old) (R.sheet rows.new) }
 {
+    let width = rows.width();
     let mut found = None;
     let mut begin = first;
-    for slot in 0..slots(rows.width(), kind) {
-        let last = load_last(rows, kind, row, max, slot);
-        let word = load_word(rows, kind, row, slot);
+    for slot in 0..slots(width, kind) {
+        let last = load_last(rows, width, kind, row, max, slot);
+        let word = load_word(rows, width, kind, row, slot);
         found = high_place(
             window,
             Span {

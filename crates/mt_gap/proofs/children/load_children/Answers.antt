@@ -15,7 +15,7 @@ returns-then-max-last-clause-items g c =
     let s = g.R.Rows.sheet c.args.rows.now in let t = g.R.Rows.sheet c.loop-slot.rows in
     let t₁ = g.R.Rows.sheet c.load_last-last.new.rows in let u = g.R.Rows.sheet c.load_child-child.new.rows in
     let done = c.loop-slot.invariant in
-    let count = c.slots-slot-end.ensures ∙ ap (λ (w : Width). slots_of w Gapped) c.width.ensures in
+    let count = c.slots-slot-end.ensures ∙ ap (λ (w : Width). slots_of w Gapped) c.width-width.ensures in
     let test = c.loop-slot-test.true in
     let same = tree_kept 1 t t₁ c.load_last-last.ensures.reads ∙ same_read s t Gapped c.args.row c.args.first c.args.max c.loop-slot.slot c.loop-slot.begin done.before done.read in
     let child = c.load_child-child.ensures.child ∙ ap (λ (r : Rooted). child_in r.table Gapped c.args.row c.loop-slot.slot c.loop-slot.begin c.load_last-last.result) same in
@@ -29,7 +29,7 @@ loop-slot-preserved g c =
     let s = g.R.Rows.sheet c.args.rows.now in let t = g.R.Rows.sheet c.loop-slot.rows in
     let t₁ = g.R.Rows.sheet c.load_last-last.new.rows in let u = g.R.Rows.sheet c.load_child-child.new.rows in
     let done = c.loop-slot.invariant in
-    let count = c.slots-slot-end.ensures ∙ ap (λ (w : Width). slots_of w Gapped) c.width.ensures in
+    let count = c.slots-slot-end.ensures ∙ ap (λ (w : Width). slots_of w Gapped) c.width-width.ensures in
     let test = c.loop-slot-test.true in
     let same = tree_kept 1 t t₁ c.load_last-last.ensures.reads ∙ same_read s t Gapped c.args.row c.args.first c.args.max c.loop-slot.slot c.loop-slot.begin done.before done.read in
     let child = c.load_child-child.ensures.child ∙ ap (λ (r : Rooted). child_in r.table Gapped c.args.row c.loop-slot.slot c.loop-slot.begin c.load_last-last.result) same in

@@ -21,7 +21,7 @@ load_gap-requires-clause-row g c =
 pub load_gap-requires-clause-slot : goal.load_gap-requires-clause-slot
 load_gap-requires-clause-slot g c =
     let s = g.R.Rows.sheet c.args.rows.now in let t = g.R.Rows.sheet c.loop-slot.rows in
-    let count = c.slots-slot-end.ensures ∙ ap (λ (v : Width). slots_of v Gapped) c.width.ensures in
+    let count = c.slots-slot-end.ensures ∙ ap (λ (v : Width). slots_of v Gapped) c.width-width.ensures in
     let same = ap (λ (r : Rooted). slots_of r.table.width Gapped) (tree_kept c.loop-slot.slot s t c.loop-slot.invariant.1) in
     let test = c.loop-slot-test.true in
     omega arith
@@ -39,7 +39,7 @@ loop-slot-preserved g c =
 pub returns-clause-greatest : goal.returns-clause-greatest
 returns-clause-greatest g c =
     let s = g.R.Rows.sheet c.args.rows.now in
-    let count = c.slots-slot-end.ensures ∙ ap (λ (v : Width). slots_of v Gapped) c.width.ensures in
+    let count = c.slots-slot-end.ensures ∙ ap (λ (v : Width). slots_of v Gapped) c.width-width.ensures in
     let test = c.loop-slot-test.false in let most = c.loop-slot.auto.slot-end in
     let all : c.loop-slot.slot ≡ slots_of s.tree.table.width Gapped = omega arith in
     c.loop-slot.invariant.0 ∙ ap (most_gap s.tree.table c.args.row) all
@@ -47,7 +47,7 @@ returns-clause-greatest g c =
 pub returns-clause-reads : goal.returns-clause-reads
 returns-clause-reads g c =
     let s = g.R.Rows.sheet c.args.rows.now in let t = g.R.Rows.sheet c.loop-slot.rows in
-    let count = c.slots-slot-end.ensures ∙ ap (λ (v : Width). slots_of v Gapped) c.width.ensures in
+    let count = c.slots-slot-end.ensures ∙ ap (λ (v : Width). slots_of v Gapped) c.width-width.ensures in
     let test = c.loop-slot-test.false in let most = c.loop-slot.auto.slot-end in
     let few = slots_of-columns s.tree.table.width Gapped in
     reads_up c.loop-slot.slot (columns s.tree.table.width) s t (omega arith) c.loop-slot.invariant.1

@@ -20,7 +20,7 @@ pub hole_length-requires-clause-order : goal.hole_length-requires-clause-order
 hole_length-requires-clause-order g c =
     let s = g.R.Rows.sheet c.args.rows.now in let t = g.R.Rows.sheet c.loop-slot.rows in
     let done = c.loop-slot.invariant in
-    let count = c.slots-slot-end.ensures ∙ ap (λ (v : Width). slots_of v Leaf) c.width.ensures in
+    let count = c.slots-slot-end.ensures ∙ ap (λ (v : Width). slots_of v Leaf) c.width-width.ensures in
     let t₁ = g.R.Rows.sheet c.load_last-last.new.rows in let u = g.R.Rows.sheet c.load_word-word.new.rows in
     let test = c.loop-slot-test.true in
     let same = tree_kept 1 t t₁ c.load_last-last.ensures.reads ∙ same_read s t Leaf c.args.row c.args.first c.args.max c.loop-slot.slot c.loop-slot.begin done.before done.read in
@@ -35,7 +35,7 @@ pub hole_length-requires-clause-fits : goal.hole_length-requires-clause-fits
 hole_length-requires-clause-fits g c =
     let s = g.R.Rows.sheet c.args.rows.now in let t = g.R.Rows.sheet c.loop-slot.rows in
     let done = c.loop-slot.invariant in
-    let count = c.slots-slot-end.ensures ∙ ap (λ (v : Width). slots_of v Leaf) c.width.ensures in
+    let count = c.slots-slot-end.ensures ∙ ap (λ (v : Width). slots_of v Leaf) c.width-width.ensures in
     let t₁ = g.R.Rows.sheet c.load_last-last.new.rows in let u = g.R.Rows.sheet c.load_word-word.new.rows in
     let test = c.loop-slot-test.true in
     let same = tree_kept 1 t t₁ c.load_last-last.ensures.reads ∙ same_read s t Leaf c.args.row c.args.first c.args.max c.loop-slot.slot c.loop-slot.begin done.before done.read in
@@ -51,7 +51,7 @@ pub returns-then-max-last-clause-longest : goal.returns-then-max-last-clause-lon
 returns-then-max-last-clause-longest g c =
     let s = g.R.Rows.sheet c.args.rows.now in let t = g.R.Rows.sheet c.loop-slot.rows in
     let done = c.loop-slot.invariant in
-    let count = c.slots-slot-end.ensures ∙ ap (λ (v : Width). slots_of v Leaf) c.width.ensures in
+    let count = c.slots-slot-end.ensures ∙ ap (λ (v : Width). slots_of v Leaf) c.width-width.ensures in
     let t₁ = g.R.Rows.sheet c.load_last-last.new.rows in let u = g.R.Rows.sheet c.load_word-word.new.rows in
     let test = c.loop-slot-test.true in
     let same = tree_kept 1 t t₁ c.load_last-last.ensures.reads ∙ same_read s t Leaf c.args.row c.args.first c.args.max c.loop-slot.slot c.loop-slot.begin done.before done.read in
@@ -68,7 +68,7 @@ pub loop-slot-preserved : goal.loop-slot-preserved
 loop-slot-preserved g c =
     let s = g.R.Rows.sheet c.args.rows.now in let t = g.R.Rows.sheet c.loop-slot.rows in
     let done = c.loop-slot.invariant in
-    let count = c.slots-slot-end.ensures ∙ ap (λ (v : Width). slots_of v Leaf) c.width.ensures in
+    let count = c.slots-slot-end.ensures ∙ ap (λ (v : Width). slots_of v Leaf) c.width-width.ensures in
     let t₁ = g.R.Rows.sheet c.load_last-last.new.rows in let u = g.R.Rows.sheet c.load_word-word.new.rows in
     let test = c.loop-slot-test.true in
     let same = tree_kept 1 t t₁ c.load_last-last.ensures.reads ∙ same_read s t Leaf c.args.row c.args.first c.args.max c.loop-slot.slot c.loop-slot.begin done.before done.read in
@@ -85,7 +85,7 @@ pub returns-clause-longest : goal.returns-clause-longest
 returns-clause-longest g c =
     let s = g.R.Rows.sheet c.args.rows.now in let t = g.R.Rows.sheet c.loop-slot.rows in
     let done = c.loop-slot.invariant in
-    let count = c.slots-slot-end.ensures ∙ ap (λ (v : Width). slots_of v Leaf) c.width.ensures in
+    let count = c.slots-slot-end.ensures ∙ ap (λ (v : Width). slots_of v Leaf) c.width-width.ensures in
     let test = c.loop-slot-test.false in let most = c.loop-slot.auto.slot-end in
     let all : c.loop-slot.slot ≡ slots_of s.tree.table.width Leaf = omega arith in
     done.holds ∙ (ap (λ (l : List Child). longest_in (spans l)) (read_all s t Leaf c.args.row c.args.first c.args.max c.loop-slot.slot c.loop-slot.begin done.before done.read all).0 ∙ ap longest_in (spans_are c.args.first _))

@@ -16,7 +16,7 @@ pub returns-then-take_slot-clause-below : goal.returns-then-take_slot-clause-bel
 returns-then-take_slot-clause-below g c =
     let s = g.R.Rows.sheet c.args.rows.now in let t = g.R.Rows.sheet c.loop-slot.rows in let w = c.args.window in
     let done = c.loop-slot.invariant in
-    let count = c.slots-slot-end.ensures ∙ ap (λ (w : Width). slots_of w Gapped) c.width.ensures in
+    let count = c.slots-slot-end.ensures ∙ ap (λ (w : Width). slots_of w Gapped) c.width-width.ensures in
     let t₁ = g.R.Rows.sheet c.load_last-last.new.rows in let u = g.R.Rows.sheet c.take_slot.new.rows in
     let test = c.loop-slot-test.true in
     let same = tree_kept 1 t t₁ c.load_last-last.ensures.reads ∙ same_read s t Gapped c.args.row c.args.first c.args.max c.loop-slot.slot c.loop-slot.begin done.before done.read in
@@ -32,7 +32,7 @@ pub returns-then-max-last-clause-below : goal.returns-then-max-last-clause-below
 returns-then-max-last-clause-below g c =
     let s = g.R.Rows.sheet c.args.rows.now in let t = g.R.Rows.sheet c.loop-slot.rows in let w = c.args.window in
     let done = c.loop-slot.invariant in
-    let count = c.slots-slot-end.ensures ∙ ap (λ (w : Width). slots_of w Gapped) c.width.ensures in
+    let count = c.slots-slot-end.ensures ∙ ap (λ (w : Width). slots_of w Gapped) c.width-width.ensures in
     let t₁ = g.R.Rows.sheet c.load_last-last.new.rows in let u = g.R.Rows.sheet c.take_slot.new.rows in
     let test = c.loop-slot-test.true in
     let same = tree_kept 1 t t₁ c.load_last-last.ensures.reads ∙ same_read s t Gapped c.args.row c.args.first c.args.max c.loop-slot.slot c.loop-slot.begin done.before done.read in
@@ -47,7 +47,7 @@ pub loop-slot-preserved : goal.loop-slot-preserved
 loop-slot-preserved g c =
     let s = g.R.Rows.sheet c.args.rows.now in let t = g.R.Rows.sheet c.loop-slot.rows in let w = c.args.window in
     let done = c.loop-slot.invariant in
-    let count = c.slots-slot-end.ensures ∙ ap (λ (w : Width). slots_of w Gapped) c.width.ensures in
+    let count = c.slots-slot-end.ensures ∙ ap (λ (w : Width). slots_of w Gapped) c.width-width.ensures in
     let t₁ = g.R.Rows.sheet c.load_last-last.new.rows in let u = g.R.Rows.sheet c.take_slot.new.rows in
     let test = c.loop-slot-test.true in
     let same = tree_kept 1 t t₁ c.load_last-last.ensures.reads ∙ same_read s t Gapped c.args.row c.args.first c.args.max c.loop-slot.slot c.loop-slot.begin done.before done.read in
@@ -63,7 +63,7 @@ pub returns-clause-below : goal.returns-clause-below
 returns-clause-below g c =
     let s = g.R.Rows.sheet c.args.rows.now in let t = g.R.Rows.sheet c.loop-slot.rows in let w = c.args.window in
     let done = c.loop-slot.invariant in
-    let count = c.slots-slot-end.ensures ∙ ap (λ (w : Width). slots_of w Gapped) c.width.ensures in
+    let count = c.slots-slot-end.ensures ∙ ap (λ (w : Width). slots_of w Gapped) c.width-width.ensures in
     let test = c.loop-slot-test.false in let most = c.loop-slot.auto.slot-end in
     let all : c.loop-slot.slot ≡ slots_of s.tree.table.width Gapped = omega arith in
     seen_all w c.loop-slot.below done.before _ done.holds (read_all s t Gapped c.args.row c.args.first c.args.max c.loop-slot.slot c.loop-slot.begin done.before done.read all).0

@@ -15,7 +15,7 @@ pub ask_slot-requires-clause-room : goal.ask_slot-requires-clause-room
 ask_slot-requires-clause-room g c =
     let s = g.R.Rows.sheet c.args.rows.now in let t = g.R.Rows.sheet c.loop-slot.rows in let w = c.args.window in
     let done = c.loop-slot.invariant in
-    let count = c.slots-slot-end.ensures ∙ ap (λ (w : Width). slots_of w Gapped) c.width.ensures in
+    let count = c.slots-slot-end.ensures ∙ ap (λ (w : Width). slots_of w Gapped) c.width-width.ensures in
     let t₁ = g.R.Rows.sheet c.load_last-last.new.rows in let u = t₁ in
     let test = c.loop-slot-test.true in
     let same = tree_kept 1 t t₁ c.load_last-last.ensures.reads ∙ same_read s t Gapped c.args.row c.args.first c.args.max c.loop-slot.slot c.loop-slot.begin done.before done.read in
@@ -29,7 +29,7 @@ pub returns-then-ask_slot-clause-items : goal.returns-then-ask_slot-clause-items
 returns-then-ask_slot-clause-items g c =
     let s = g.R.Rows.sheet c.args.rows.now in let t = g.R.Rows.sheet c.loop-slot.rows in let w = c.args.window in
     let done = c.loop-slot.invariant in
-    let count = c.slots-slot-end.ensures ∙ ap (λ (w : Width). slots_of w Gapped) c.width.ensures in
+    let count = c.slots-slot-end.ensures ∙ ap (λ (w : Width). slots_of w Gapped) c.width-width.ensures in
     let t₁ = g.R.Rows.sheet c.load_last-last.new.rows in let u = g.R.Rows.sheet c.ask_slot.new.rows in
     let test = c.loop-slot-test.true in
     let same = tree_kept 1 t t₁ c.load_last-last.ensures.reads ∙ same_read s t Gapped c.args.row c.args.first c.args.max c.loop-slot.slot c.loop-slot.begin done.before done.read in
@@ -44,7 +44,7 @@ pub returns-then-ask_slot-clause-found : goal.returns-then-ask_slot-clause-found
 returns-then-ask_slot-clause-found g c =
     let s = g.R.Rows.sheet c.args.rows.now in let t = g.R.Rows.sheet c.loop-slot.rows in let w = c.args.window in
     let done = c.loop-slot.invariant in
-    let count = c.slots-slot-end.ensures ∙ ap (λ (w : Width). slots_of w Gapped) c.width.ensures in
+    let count = c.slots-slot-end.ensures ∙ ap (λ (w : Width). slots_of w Gapped) c.width-width.ensures in
     let t₁ = g.R.Rows.sheet c.load_last-last.new.rows in let u = g.R.Rows.sheet c.ask_slot.new.rows in
     let test = c.loop-slot-test.true in
     let same = tree_kept 1 t t₁ c.load_last-last.ensures.reads ∙ same_read s t Gapped c.args.row c.args.first c.args.max c.loop-slot.slot c.loop-slot.begin done.before done.read in
@@ -59,7 +59,7 @@ pub returns-then-max-last-clause-items : goal.returns-then-max-last-clause-items
 returns-then-max-last-clause-items g c =
     let s = g.R.Rows.sheet c.args.rows.now in let t = g.R.Rows.sheet c.loop-slot.rows in let w = c.args.window in
     let done = c.loop-slot.invariant in
-    let count = c.slots-slot-end.ensures ∙ ap (λ (w : Width). slots_of w Gapped) c.width.ensures in
+    let count = c.slots-slot-end.ensures ∙ ap (λ (w : Width). slots_of w Gapped) c.width-width.ensures in
     let t₁ = g.R.Rows.sheet c.load_last-last.new.rows in let u = g.R.Rows.sheet c.ask_slot.new.rows in
     let test = c.loop-slot-test.true in
     let same = tree_kept 1 t t₁ c.load_last-last.ensures.reads ∙ same_read s t Gapped c.args.row c.args.first c.args.max c.loop-slot.slot c.loop-slot.begin done.before done.read in
@@ -73,7 +73,7 @@ pub returns-then-max-last-clause-found : goal.returns-then-max-last-clause-found
 returns-then-max-last-clause-found g c =
     let s = g.R.Rows.sheet c.args.rows.now in let t = g.R.Rows.sheet c.loop-slot.rows in let w = c.args.window in
     let done = c.loop-slot.invariant in
-    let count = c.slots-slot-end.ensures ∙ ap (λ (w : Width). slots_of w Gapped) c.width.ensures in
+    let count = c.slots-slot-end.ensures ∙ ap (λ (w : Width). slots_of w Gapped) c.width-width.ensures in
     let t₁ = g.R.Rows.sheet c.load_last-last.new.rows in let u = g.R.Rows.sheet c.ask_slot.new.rows in
     let test = c.loop-slot-test.true in
     let same = tree_kept 1 t t₁ c.load_last-last.ensures.reads ∙ same_read s t Gapped c.args.row c.args.first c.args.max c.loop-slot.slot c.loop-slot.begin done.before done.read in
@@ -87,7 +87,7 @@ pub loop-slot-preserved : goal.loop-slot-preserved
 loop-slot-preserved g c =
     let s = g.R.Rows.sheet c.args.rows.now in let t = g.R.Rows.sheet c.loop-slot.rows in let w = c.args.window in
     let done = c.loop-slot.invariant in
-    let count = c.slots-slot-end.ensures ∙ ap (λ (w : Width). slots_of w Gapped) c.width.ensures in
+    let count = c.slots-slot-end.ensures ∙ ap (λ (w : Width). slots_of w Gapped) c.width-width.ensures in
     let t₁ = g.R.Rows.sheet c.load_last-last.new.rows in let u = g.R.Rows.sheet c.ask_slot.new.rows in
     let test = c.loop-slot-test.true in
     let same = tree_kept 1 t t₁ c.load_last-last.ensures.reads ∙ same_read s t Gapped c.args.row c.args.first c.args.max c.loop-slot.slot c.loop-slot.begin done.before done.read in
@@ -102,7 +102,7 @@ pub returns-clause-items : goal.returns-clause-items
 returns-clause-items g c =
     let s = g.R.Rows.sheet c.args.rows.now in let t = g.R.Rows.sheet c.loop-slot.rows in let w = c.args.window in
     let done = c.loop-slot.invariant in
-    let count = c.slots-slot-end.ensures ∙ ap (λ (w : Width). slots_of w Gapped) c.width.ensures in
+    let count = c.slots-slot-end.ensures ∙ ap (λ (w : Width). slots_of w Gapped) c.width-width.ensures in
     let test = c.loop-slot-test.false in let most = c.loop-slot.auto.slot-end in
     let all : c.loop-slot.slot ≡ slots_of s.tree.table.width Gapped = omega arith in
     (asked_all w.size w.lo w.hi c.args.asked.now.items c.loop-slot.asked.items done.before _ done.holds (read_all s t Gapped c.args.row c.args.first c.args.max c.loop-slot.slot c.loop-slot.begin done.before done.read all).0).0
@@ -111,7 +111,7 @@ pub returns-clause-found : goal.returns-clause-found
 returns-clause-found g c =
     let s = g.R.Rows.sheet c.args.rows.now in let t = g.R.Rows.sheet c.loop-slot.rows in let w = c.args.window in
     let done = c.loop-slot.invariant in
-    let count = c.slots-slot-end.ensures ∙ ap (λ (w : Width). slots_of w Gapped) c.width.ensures in
+    let count = c.slots-slot-end.ensures ∙ ap (λ (w : Width). slots_of w Gapped) c.width-width.ensures in
     let test = c.loop-slot-test.false in let most = c.loop-slot.auto.slot-end in
     let all : c.loop-slot.slot ≡ slots_of s.tree.table.width Gapped = omega arith in
     (asked_all w.size w.lo w.hi c.args.asked.now.items c.loop-slot.asked.items done.before _ done.holds (read_all s t Gapped c.args.row c.args.first c.args.max c.loop-slot.slot c.loop-slot.begin done.before done.read all).0).1

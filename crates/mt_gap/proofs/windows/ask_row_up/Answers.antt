@@ -15,7 +15,7 @@ pub ask_slot_up-requires-clause-room : goal.ask_slot_up-requires-clause-room
 ask_slot_up-requires-clause-room g c =
     let s = g.R.Rows.sheet c.args.rows.now in let t = g.R.Rows.sheet c.loop-slot.rows in let w = c.args.window in
     let done = c.loop-slot.invariant in
-    let count = c.slots-slot-end.ensures ∙ ap (λ (w : Width). slots_of w Gapped) c.width.ensures in
+    let count = c.slots-slot-end.ensures ∙ ap (λ (w : Width). slots_of w Gapped) c.width-width.ensures in
     let t₁ = g.R.Rows.sheet c.load_last-last.new.rows in let u = t₁ in
     let test = c.loop-slot-test.true in
     let same = tree_kept 1 t t₁ c.load_last-last.ensures.reads ∙ same_read s t Gapped c.args.row c.args.first c.args.max c.loop-slot.slot c.loop-slot.begin done.before done.read in
@@ -29,7 +29,7 @@ pub returns-then-max-last-clause-items : goal.returns-then-max-last-clause-items
 returns-then-max-last-clause-items g c =
     let s = g.R.Rows.sheet c.args.rows.now in let t = g.R.Rows.sheet c.loop-slot.rows in let w = c.args.window in
     let done = c.loop-slot.invariant in
-    let count = c.slots-slot-end.ensures ∙ ap (λ (w : Width). slots_of w Gapped) c.width.ensures in
+    let count = c.slots-slot-end.ensures ∙ ap (λ (w : Width). slots_of w Gapped) c.width-width.ensures in
     let t₁ = g.R.Rows.sheet c.load_last-last.new.rows in let u = g.R.Rows.sheet c.ask_slot_up.new.rows in
     let test = c.loop-slot-test.true in
     let same = tree_kept 1 t t₁ c.load_last-last.ensures.reads ∙ same_read s t Gapped c.args.row c.args.first c.args.max c.loop-slot.slot c.loop-slot.begin done.before done.read in
@@ -42,7 +42,7 @@ pub loop-slot-preserved : goal.loop-slot-preserved
 loop-slot-preserved g c =
     let s = g.R.Rows.sheet c.args.rows.now in let t = g.R.Rows.sheet c.loop-slot.rows in let w = c.args.window in
     let done = c.loop-slot.invariant in
-    let count = c.slots-slot-end.ensures ∙ ap (λ (w : Width). slots_of w Gapped) c.width.ensures in
+    let count = c.slots-slot-end.ensures ∙ ap (λ (w : Width). slots_of w Gapped) c.width-width.ensures in
     let t₁ = g.R.Rows.sheet c.load_last-last.new.rows in let u = g.R.Rows.sheet c.ask_slot_up.new.rows in
     let test = c.loop-slot-test.true in
     let same = tree_kept 1 t t₁ c.load_last-last.ensures.reads ∙ same_read s t Gapped c.args.row c.args.first c.args.max c.loop-slot.slot c.loop-slot.begin done.before done.read in
@@ -56,7 +56,7 @@ pub returns-clause-items : goal.returns-clause-items
 returns-clause-items g c =
     let s = g.R.Rows.sheet c.args.rows.now in let t = g.R.Rows.sheet c.loop-slot.rows in let w = c.args.window in
     let done = c.loop-slot.invariant in
-    let count = c.slots-slot-end.ensures ∙ ap (λ (w : Width). slots_of w Gapped) c.width.ensures in
+    let count = c.slots-slot-end.ensures ∙ ap (λ (w : Width). slots_of w Gapped) c.width-width.ensures in
     let test = c.loop-slot-test.false in let most = c.loop-slot.auto.slot-end in
     let all : c.loop-slot.slot ≡ slots_of s.tree.table.width Gapped = omega arith in
     done.holds ∙ ap (narrow_up w.size w.lo w.hi c.args.asked.now.items) (read_all s t Gapped c.args.row c.args.first c.args.max c.loop-slot.slot c.loop-slot.begin done.before done.read all).0

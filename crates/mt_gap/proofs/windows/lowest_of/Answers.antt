@@ -16,7 +16,7 @@ pub returns-then-is_some-clause-place : goal.returns-then-is_some-clause-place
 returns-then-is_some-clause-place g c =
     let s = g.R.Rows.sheet c.args.rows.now in let t = g.R.Rows.sheet c.loop-slot.rows in let w = c.args.window in
     let done = c.loop-slot.invariant in
-    let count = c.slots-slot-end.ensures ∙ ap (λ (v : Width). slots_of v c.args.kind) c.width.ensures in
+    let count = c.slots-slot-end.ensures ∙ ap (λ (v : Width). slots_of v c.args.kind) c.width-width.ensures in
     let t₁ = g.R.Rows.sheet c.load_last-last.new.rows in let u = g.R.Rows.sheet c.load_word-word.new.rows in
     let test = c.loop-slot-test.true in
     let same = tree_kept 1 t t₁ c.load_last-last.ensures.reads ∙ same_read s t c.args.kind c.args.row c.args.first c.args.max c.loop-slot.slot c.loop-slot.begin done.before done.read in
@@ -32,7 +32,7 @@ pub returns-then-max-last-clause-place : goal.returns-then-max-last-clause-place
 returns-then-max-last-clause-place g c =
     let s = g.R.Rows.sheet c.args.rows.now in let t = g.R.Rows.sheet c.loop-slot.rows in let w = c.args.window in
     let done = c.loop-slot.invariant in
-    let count = c.slots-slot-end.ensures ∙ ap (λ (v : Width). slots_of v c.args.kind) c.width.ensures in
+    let count = c.slots-slot-end.ensures ∙ ap (λ (v : Width). slots_of v c.args.kind) c.width-width.ensures in
     let t₁ = g.R.Rows.sheet c.load_last-last.new.rows in let u = g.R.Rows.sheet c.load_word-word.new.rows in
     let test = c.loop-slot-test.true in
     let same = tree_kept 1 t t₁ c.load_last-last.ensures.reads ∙ same_read s t c.args.kind c.args.row c.args.first c.args.max c.loop-slot.slot c.loop-slot.begin done.before done.read in
@@ -47,7 +47,7 @@ pub loop-slot-preserved : goal.loop-slot-preserved
 loop-slot-preserved g c =
     let s = g.R.Rows.sheet c.args.rows.now in let t = g.R.Rows.sheet c.loop-slot.rows in let w = c.args.window in
     let done = c.loop-slot.invariant in
-    let count = c.slots-slot-end.ensures ∙ ap (λ (v : Width). slots_of v c.args.kind) c.width.ensures in
+    let count = c.slots-slot-end.ensures ∙ ap (λ (v : Width). slots_of v c.args.kind) c.width-width.ensures in
     let t₁ = g.R.Rows.sheet c.load_last-last.new.rows in let u = g.R.Rows.sheet c.load_word-word.new.rows in
     let test = c.loop-slot-test.true in
     let same = tree_kept 1 t t₁ c.load_last-last.ensures.reads ∙ same_read s t c.args.kind c.args.row c.args.first c.args.max c.loop-slot.slot c.loop-slot.begin done.before done.read in
@@ -63,7 +63,7 @@ pub returns-clause-place : goal.returns-clause-place
 returns-clause-place g c =
     let s = g.R.Rows.sheet c.args.rows.now in let t = g.R.Rows.sheet c.loop-slot.rows in let w = c.args.window in
     let done = c.loop-slot.invariant in
-    let count = c.slots-slot-end.ensures ∙ ap (λ (v : Width). slots_of v c.args.kind) c.width.ensures in
+    let count = c.slots-slot-end.ensures ∙ ap (λ (v : Width). slots_of v c.args.kind) c.width-width.ensures in
     let test = c.loop-slot-test.false in let most = c.loop-slot.auto.slot-end in
     let all : c.loop-slot.slot ≡ slots_of s.tree.table.width c.args.kind = omega arith in
     let read = read_all s t c.args.kind c.args.row c.args.first c.args.max c.loop-slot.slot c.loop-slot.begin done.before done.read all in
