@@ -178,6 +178,20 @@ pub fn load_span<R: Rows>(rows: &mut R, leaf: PathStep) -> Span
     Span { first, last, word }
 }
 
+/// The slot of another leaf that holds an index, and what stands there. It is apart from the steps within a leaf, which are
+/// many, so that they make no room for what it finds.
+fn handle_far<R: Rows>(rows: &mut R, index: u64) -> Option<Handle>
+    requires tree { (kind : Kind) × IsTreeOf (R.sheet rows.old).tree kind }
+    requires index { index ≤ greatest (R.sheet rows.old).tree.table.width }
+    ensures none { IsNone result ↔ ((R.sheet rows.old).tree.root ≡ 0) }
+    ensures some { IfSome result (λ handle. handle ≡ handle_in (R.sheet rows.old).tree index) }
+    ensures rest { OnlyReads (R.sheet rows.old) (R.sheet rows.new) }
+    ensures reads { ReadsUpTo (loads_on (path_in (R.sheet rows.old).tree.table (R.sheet rows.old).tree.root index)) (R.sheet rows.old) (R.sheet rows.new) }
+{
+    let far = handle_at(rows, index)?;
+    Some(far)
+}
+
 /// What stands behind a handle: in the next slot of its leaf, or in the first slot of the leaf behind. There is none where
 /// the handle's span ends at the greatest index.
 pub fn behind<R: Rows>(rows: &mut R, here: &Handle) -> Option<Handle>
@@ -194,8 +208,7 @@ pub fn behind<R: Rows>(rows: &mut R, here: &Handle) -> Option<Handle>
         return None;
     }
     if last == here.leaf.max {
-        let far = handle_at(rows, last + 1)?;
-        return Some(far);
+        return handle_far(rows, last + 1);
     }
     let leaf = PathStep {
         slot: here.leaf.slot + 1,
@@ -229,8 +242,7 @@ pub fn before<R: Rows>(rows: &mut R, here: &Handle) -> Option<Handle>
         return None;
     }
     if here.leaf.slot == 0 {
-        let far = handle_at(rows, first - 1)?;
-        return Some(far);
+        return handle_far(rows, first - 1);
     }
     let leaf = PathStep {
         slot: here.leaf.slot - 1,

@@ -6,8 +6,8 @@ use Rattle.mt_path.proofs.LeafSteps.{here_in}
 use Rattle.mt_rows.proofs.Loads.{same_tree}
 use Rattle.mt_path.proofs.handles.before.Goals as goal
 
-pub handle_at-requires-clause-index : goal.handle_at-requires-clause-index
-handle_at-requires-clause-index g c =
+pub handle_far-requires-clause-index : goal.handle_far-requires-clause-index
+handle_far-requires-clause-index g c =
     let within = handle_within (g.R.Rows.sheet c.args.rows.now).tree c.requires.tree.0 c.requires.tree.1 c.args.here.now c.requires.here in
     let order = within.0 in let end = within.1 in
     omega arith
