@@ -1,14 +1,17 @@
 -- Rows of which words were only read.
-use Rattle.std.proofs.Common.{◌≡◌, ℕ, ◌+◌, ◌-◌, ◌<◌, ◌≤◌, List, [], ◌∷◌, ◌++◌, length, nat_lt, refl, sym, ap, ◌∙◌, subst, length-append}
-use Rattle.std.specs.Prelude.{if◌then◌else◌}
+use Rattle.std.proofs.Common.{◌≡◌, ℕ, suc, ◌+◌, ◌-◌, ◌<◌, ◌≤◌, ◌==◌, ◌&&◌, Bool, true, List, [], ◌∷◌, ◌++◌, length, nat_lt, refl, sym, ap, ◌∙◌, subst, length-append, inl, inr, arith, lt-ltb}
+use Rattle.std.proofs.Math.Bool.{and_assoc}
+use Rattle.std.proofs.lemmas.Bool.{cases_Bool, ltb-true}
+use Rattle.std.specs.Prelude.{if◌then◌else◌, nat_le}
 use Rattle.mt_layout.specs.declared.items.Item.{Item}
 use Rattle.mt_layout.specs.declared.names.RowKind.{RowKind}
 use Rattle.mt_layout.specs.Columns.{item_at, items_from, pivot_column}
 use Rattle.mt_layout.specs.Sizes.{slots_of, gaps_of}
-use Rattle.mt_layout.proofs.Reading.{read_last, read_more, read_all}
+use Rattle.mt_layout.proofs.Reading.{read_last, read_more, read_all, ends, goes_on, some_items}
 use Rattle.mt_rows.specs.Spans.{Table, base_of, column}
 use Rattle.mt_rows.specs.Sheet.{Sheet, Rooted, OnlyReads}
 use Rattle.mt_check.specs.Reads.{items_of}
+use Rattle.mt_check.specs.RowTests.{rise_to}
 use Rattle.mt_rows.proofs.Loads.{reads_on, same_tree}
 
 pub none_read : (s : Sheet) → OnlyReads s s
@@ -25,6 +28,14 @@ pub record AreRead (s s' : Sheet) (kind : RowKind) (row max slot : ℕ) (items :
   pub rest : OnlyReads s s'
   pub read : items ++ items_behind s.tree.table kind row max slot ≡ items_of s.tree.table kind row max
   pub count : length items ≡ slot
+
+-- those of the slots before one rise, or do not, and the next is to begin at an index
+abbrev pub RiseSoFar : Table → RowKind → ℕ → ℕ → ℕ → ℕ → Bool → ℕ → Type 0
+RiseSoFar t kind row first max slot rise begin = (rise && rise_to begin max (items_behind t kind row max slot)) ≡ rise_to first max (items_of t kind row max)
+
+rise_on : (begin max : ℕ) (x : Item) (items : List Item) → 1 ≤ length items → x.last < max → rise_to begin max (x ∷ items) ≡ (nat_le begin x.last && rise_to (x.last + 1) max items)
+rise_on begin max x [] some more = absurd (omega arith)
+rise_on begin max x (y ∷ items) some more = let test : nat_lt x.last max ≡ true = lt-ltb x.last max more in rw test refl
 
 abbrev IsRead : Table → RowKind → ℕ → ℕ → ℕ → Item → Type 0
 IsRead t kind row max slot item =
@@ -49,6 +60,38 @@ module _ (s t u : Sheet) (kind : RowKind) (row max slot : ℕ) (before after : L
             (read_more (slots_of s.tree.table.width kind) (gaps_of s.tree.table.width kind) s.tree.table.words (base_of s.tree.table row) max before (items_of s.tree.table kind row max) slot item done.read inside here more);
         count = ap length pushed ∙ (length-append before (item ∷ []) ∙ ap (λ (n : ℕ). n + 1) count);
       }
+
+  abbrev slots : ℕ
+  slots = slots_of s.tree.table.width kind
+
+  abbrev gaps : ℕ
+  gaps = gaps_of s.tree.table.width kind
+
+  behind_here : item.last < max → items_behind s.tree.table kind row max slot ≡ item ∷ items_behind s.tree.table kind row max (slot + 1)
+  behind_here more =
+      let left : slots - slot ≡ suc (slots - (slot + 1)) = omega (arith, inside) in
+      ap (λ (n : ℕ). items_from slots gaps s.tree.table.words (base_of s.tree.table row) max n slot) left
+      ∙ goes_on slots gaps s.tree.table.words (base_of s.tree.table row) max (slots - (slot + 1)) slot item (omega (arith, inside)) here more
+
+  more_slots : item.last < max → slot + 1 < slots
+  more_slots more = elim (cases_Bool (nat_lt (slot + 1) slots)) [
+    | inl before ↦ ltb-true (slot + 1) slots before
+    | inr past ↦ let at_max : item.last ≡ max = rw past at here.1 in absurd (omega (arith, at_max, more))
+  ]
+
+  pub one_more_rises : (first begin : ℕ) (rise : Bool) → RiseSoFar s.tree.table kind row first max slot rise begin → item.last < max
+      → RiseSoFar s.tree.table kind row first max (slot + 1) (rise && nat_le begin item.last) (item.last + 1)
+  one_more_rises first begin rise told more =
+      let some = some_items slots gaps s.tree.table.words (base_of s.tree.table row) max (slots - (slot + 1)) (slot + 1) (omega (arith, more_slots more)) in
+      and_assoc rise (nat_le begin item.last) (rise_to (item.last + 1) max (items_behind s.tree.table kind row max (slot + 1)))
+      ∙ (ap (λ (b : Bool). rise && b) (sym (rise_on begin max item (items_behind s.tree.table kind row max (slot + 1)) some more))
+      ∙ (ap (λ (l : List Item). rise && rise_to begin max l) (sym (behind_here more)) ∙ told))
+
+  pub last_rises : (first begin : ℕ) (rise : Bool) → RiseSoFar s.tree.table kind row first max slot rise begin → max ≤ item.last
+      → ((rise && nat_le begin item.last) && (item.last == max)) ≡ rise_to first max (items_of s.tree.table kind row max)
+  last_rises first begin rise told last =
+      let one : items_behind s.tree.table kind row max slot ≡ item ∷ [] = ends slots gaps s.tree.table.words (base_of s.tree.table row) max (slots - slot) slot item (omega (arith, inside)) (omega (arith, inside)) here last in
+      and_assoc rise (nat_le begin item.last) (item.last == max) ∙ (ap (λ (l : List Item). rise && rise_to begin max l) (sym one) ∙ told)
 
   pub last_read : max ≤ item.last → after ≡ items_of s.tree.table kind row max
   last_read last =

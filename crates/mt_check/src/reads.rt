@@ -16,36 +16,36 @@ use mt_rows::{Rows, load_item_of};
 
 pub(crate) type Items = ArrayVec<Item, MOST_SLOTS>;
 
-/// Reads the items of a row of this kind that ends at `max`.
+/// Reads the items of a row of this kind that ends at `last`. Whether they rise from one index to that.
 #[tactic(auto, using(crate::proofs::Loaded::all_read))]
-fn read_items<R: Rows>(rows: &mut R, kind: RowKind, row: u32, max: u64, items: &mut Items)
+fn read_items<R: Rows>(
+    rows: &mut R,
+    kind: RowKind,
+    row: u32,
+    first: u64,
+    last: u64,
+    items: &mut Items,
+) -> bool
     requires first { first_row ≤ row }
     requires last { row < first_row + (R.sheet rows.old).tree.rows }
-    ensures items { items.new.items ≡ reads.items_of (R.sheet rows.old).tree.table kind row max }
+    ensures items { items.new.items ≡ reads.items_of (R.sheet rows.old).tree.table kind row last }
+    ensures rise { result ≡ tests.rise_to first last (reads.items_of (R.sheet rows.old).tree.table kind row last) }
     ensures rest { OnlyReads (R.sheet rows.old) (R.sheet rows.new) }
 {
     items.clear();
     let width = rows.width();
+    let mut begin = first;
+    let mut rise = true;
     for slot in 0..slots(width, kind) {
-        let item = load_item_of(rows, width, kind, row, max, slot);
+        let item = load_item_of(rows, width, kind, row, last, slot);
         items.push(item);
-        if max <= item.last {
-            return;
+        rise &= begin <= item.last;
+        if last <= item.last {
+            return rise & (item.last == last);
         }
+        begin = item.last + 1;
     }
-}
-
-/// Whether the greatest indexes of these items rise from one index to another.
-fn rise_to(items: &[Item], first: u64, last: u64) -> bool
-    ensures { result ≡ tests.rise_to first last items.now }
-{
-    match items {
-        [] => false,
-        [item] => first <= item.last && item.last == last,
-        [item, rest @ ..] => {
-            first <= item.last && item.last < last && rise_to(rest, item.last + 1, last)
-        }
-    }
+    false
 }
 
 /// Whether the columns of a row from `from` up to, but without, `end` are 0.
@@ -97,8 +97,7 @@ pub(crate) fn items_in<R: Rows>(
     ensures items { items.new.items ≡ reads.items_of (R.sheet rows.old).tree.table kind row last }
     ensures rest { OnlyReads (R.sheet rows.old) (R.sheet rows.new) }
 {
-    read_items(rows, kind, row, last, items);
-    if !rise_to(items.as_slice(), first, last) {
+    if !read_items(rows, kind, row, first, last, items) {
         return false;
     }
     holds_no_more(rows, kind, row, items.len() as u32)

@@ -16,8 +16,8 @@ returns-clause-is g c =
     let row = c.args.row in
     let same = same_tree s (g.R.Rows.sheet c.read_items.new.rows) c.read_items.ensures.rest in
     let many = c.len.ensures.value ∙ ap length c.read_items.ensures.items in
-    let rise : c.rise_to.result ≡ true = search rules in
-    let rises : rise_to c.args.first c.args.last (items_of t kind row c.args.last) ≡ true = ap (rise_to c.args.first c.args.last) (sym (c.as_slice.ensures.value ∙ c.read_items.ensures.items)) ∙ (sym c.rise_to.ensures ∙ rise) in
+    let rise : c.read_items.result ≡ true = search rules in
+    let rises : rise_to c.args.first c.args.last (items_of t kind row c.args.last) ≡ true = sym c.read_items.ensures.rise ∙ rise in
     c.holds_no_more.ensures.is
     ∙ (ap (λ (x : Rooted). holds_no_more x.table kind row c.len.result) same
     ∙ (ap (holds_no_more t kind row) many
