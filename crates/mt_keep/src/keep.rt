@@ -1,0 +1,188 @@
+//! A lock whose value is of a place, for those who do not wait.
+
+ghost use Rattle.std.specs.Prelude.{◌≡◌, IfOk, IfErr, None, true, false, [], ◌∷◌};
+ghost use Rattle.mt_keep.specs.Keeping.{HasGrabbed, IsBusyAt, IsSeatedAt, IsTakenOf, refused, waiting};
+
+use atomic_table::{Badge, Play, Seat, Split, Table, TableRule};
+use mt_base::NoMemory;
+use std::alloc::Global;
+use std::snapshot::Snapshot;
+
+/// What is of a place.
+pub trait Placed<K> {
+    /// It is of this place.
+    ghost fits: { K → Self → Type 0 };
+}
+
+/// What a seat knows. None is made when the program runs.
+pub struct Sight<K> {
+    /// Whether it has the value, and whether it has had it.
+    pub holds: bool,
+    pub held: bool,
+    /// Whether it has found the value away.
+    pub refused: bool,
+    /// The place that the value is of.
+    pub of: Snapshot<K>,
+}
+
+/// Whoever has one may take the value. It has no bytes.
+pub type Chair<K> = Badge<Sight<K>>;
+
+/// What is told by who has found a keep's value away. Only a step at the keep makes one: it has no bytes.
+#[derive(Drop)]
+pub struct Busy<K> {
+    seat: Badge<Sight<K>>,
+}
+
+/// The value is with one seat, or in the slot.
+pub struct Kept;
+
+impl<C: Placed<K>, K> TableRule<Option<C>, Sight<K>, Snapshot<K>> for Kept {
+    ghost use Rattle.mt_keep.specs.Keeping.{IsKept, waiting};
+
+    ghost holds = { IsKept C.fits };
+
+    ghost first = { waiting };
+}
+
+/// Takes the value, where it is in the slot.
+struct Grabs;
+
+impl<C: Placed<K>, K> Play<Option<C>, Sight<K>> for Grabs {
+    ghost use Rattle.mt_keep.specs.Keeping.{grabs};
+
+    ghost then = { grabs C.fits };
+}
+
+/// Gives the value back.
+struct Releases;
+
+impl<C: Placed<K>, K> Play<Option<C>, Sight<K>> for Releases {
+    ghost use Rattle.mt_keep.specs.Keeping.{releases};
+
+    ghost then = { releases };
+}
+
+/// A seat beside another.
+struct Sits;
+
+impl<K> Split<Sight<K>> for Sits {
+    ghost left = { λ v. v };
+
+    ghost right = { λ v. v };
+}
+
+/// A value of one place. Whoever takes it has it until he gives it back; nobody waits for it.
+#[derive(Drop)]
+pub struct Keep<C: Placed<K>, K> {
+    table: Table<Option<C>, Sight<K>, Snapshot<K>, Kept, Global>,
+    ghost one: { (table.shared.table_id.words ≡ 1) × (table.shared.table_id.slots ≡ 1) },
+}
+
+/// The value while it is taken. It cannot be dropped: whoever takes it gives it back, by [`Keep::give`].
+pub struct Taken<C: Placed<K>, K> {
+    pub value: C,
+    seat: Seat<Option<C>, Sight<K>>,
+    ghost held: { seat.me.1 ≡ (0, None) ∷ [] },
+}
+
+impl<C: Placed<K> + Drop, K> Keep<C, K> {
+    /// A keep of this value, and the first chair at it. Where there is no memory the value is dropped.
+    ///
+    /// # Errors
+    ///
+    /// `NoMemory` where memory ran out.
+    pub fn make(alloc: Global, place: &K, value: C) -> Result<(Keep<C, K>, Chair<K>), NoMemory>
+        requires { C.fits place.now value }
+        ensures place { IfOk result (λ r. r.0.table.shared.key.value ≡ place.now) }
+        ensures chair { IfOk result (λ r. IsSeatedAt r.0.table.shared.table_id r.0.table.shared.key r.1) }
+    {
+        let key = Snapshot::of(place);
+        let mut slots = Vec::with_capacity(alloc, 1)?;
+        slots.push_reserved(Some(value));
+        match Table::new(alloc, &[0], slots, &key) {
+            Ok((table, seat)) => Ok((Keep { table }, seat.into_badge())),
+            Err(_) => Err(NoMemory),
+        }
+    }
+}
+
+impl<C: Placed<K>, K> Keep<C, K> {
+    /// A seat beside a chair.
+    fn seat(&self, chair: &mut Chair<K>) -> Seat<Option<C>, Sight<K>>
+        requires { IsSeatedAt self.now.table.shared.table_id self.now.table.shared.key chair.old }
+        ensures chair { IsSeatedAt self.now.table.shared.table_id self.now.table.shared.key chair.new }
+        ensures table { result.table_id ≡ self.now.table.shared.table_id }
+        ensures seat { result.me ≡ (waiting self.now.table.shared.key, []) }
+    {
+        let badge = std::mem::replace(chair, Badge::blank());
+        let mut seat = badge.into_seat::<Option<C>>();
+        let other = self.table.shared.split_seat::<Sits>(&mut seat);
+        *chair = seat.into_badge();
+        other
+    }
+
+    /// Another chair.
+    pub fn chair(&self, chair: &mut Chair<K>) -> Chair<K>
+        requires { IsSeatedAt self.now.table.shared.table_id self.now.table.shared.key chair.old }
+        ensures chair { IsSeatedAt self.now.table.shared.table_id self.now.table.shared.key chair.new }
+        ensures other { IsSeatedAt self.now.table.shared.table_id self.now.table.shared.key result }
+    {
+        self.seat(chair).into_badge()
+    }
+
+    /// Takes the value, if it is in the slot: by one swap.
+    ///
+    /// # Errors
+    ///
+    /// `Busy` where the swap found it away. Only a seat that has found it away says so, and none has before the value was ever
+    /// taken: so that no answer is `Busy` but by a step at the keep.
+    pub fn try_take(&self, chair: &mut Chair<K>) -> Result<Taken<C, K>, Busy<K>>
+        requires { IsSeatedAt self.now.table.shared.table_id self.now.table.shared.key chair.old }
+        ensures chair { IsSeatedAt self.now.table.shared.table_id self.now.table.shared.key chair.new }
+        ensures value { IfOk result (λ taken. C.fits self.now.table.shared.key.value taken.value) }
+        ensures taken { IfOk result (λ taken. IsTakenOf self.now.table.shared.table_id self.now.table.shared.key taken.seat) }
+        ensures busy { IfErr result (IsBusyAt self.now.table.shared.table_id self.now.table.shared.key) }
+    {
+        let mut seat = self.seat(chair);
+        if !self.grab(&mut seat) {
+            return Err(Busy {
+                seat: seat.into_badge(),
+            });
+        }
+        Ok(self.grabbed(seat))
+    }
+
+    /// Swaps 1 into the word. Where the value was in its slot, that is then away with the seat; else the seat has found it away.
+    fn grab(&self, seat: &mut Seat<Option<C>, Sight<K>>) -> bool
+        requires table { seat.old.table_id ≡ self.now.table.shared.table_id }
+        requires idle { seat.old.me ≡ (waiting self.now.table.shared.key, []) }
+        ensures table { seat.new.table_id ≡ seat.old.table_id }
+        ensures away { result ≡ true → HasGrabbed C.fits self.now.table.shared.key seat.new.me }
+        ensures refused { result ≡ false → seat.new.me ≡ (refused self.now.table.shared.key, []) }
+    {
+        self.table.shared.swap::<Grabs>(seat, 0, 1) == 0
+    }
+
+    /// Takes the value out of the slot, which is away with the seat.
+    fn grabbed(&self, mut seat: Seat<Option<C>, Sight<K>>) -> Taken<C, K>
+        requires table { seat.table_id ≡ self.now.table.shared.table_id }
+        requires away { HasGrabbed C.fits self.now.table.shared.key seat.me }
+        ensures value { C.fits self.now.table.shared.key.value result.value }
+        ensures taken { IsTakenOf self.now.table.shared.table_id self.now.table.shared.key result.seat }
+    {
+        let value = self.table.shared.exchange(&mut seat, 0, None).unwrap();
+        Taken { value, seat }
+    }
+
+    /// Gives the value back.
+    pub fn give(&self, taken: Taken<C, K>)
+        requires taken { IsTakenOf self.now.table.shared.table_id self.now.table.shared.key taken.seat }
+        requires value { C.fits self.now.table.shared.key.value taken.value }
+    {
+        let Taken { value, mut seat } = taken;
+        let empty = self.table.shared.exchange(&mut seat, 0, Some(value));
+        let None = empty else { unreachable!() };
+        self.table.shared.store::<Releases>(&mut seat, 0, 0);
+    }
+}

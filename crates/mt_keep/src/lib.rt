@@ -1,0 +1,6 @@
+//! A value that threads take by turns, of a place that each of them knows.
+#![tactic(auto)]
+
+mod keep;
+
+pub use keep::{Busy, Chair, Keep, Placed, Sight, Taken};
