@@ -1,5 +1,6 @@
 mod Batches
 mod Copying
+mod Crossing
 mod ImagesOpened
 mod Keeping
 mod KindCodes
@@ -7,3 +8,5 @@ mod RangesBuilt
 mod Reading
 mod Telling
 mod Walking
+mod Sharing
+mod Using

@@ -8,3 +8,8 @@ pub mod Batch
 pub mod Copying
 pub mod Images
 pub mod Building
+pub mod KeptWalks
+pub mod Walkers
+pub mod Purses
+pub mod Users
+pub mod Shared

@@ -25,7 +25,7 @@ pub struct OutWalk {
 
 impl OutWalk {
     /// The walk that goes on from an index, or has ended.
-    fn from_index(index: Option<u64>) -> OutWalk
+    pub fn from_index(index: Option<u64>) -> OutWalk
         ensures { result ≡ walk_from index }
     {
         match index {
@@ -35,7 +35,7 @@ impl OutWalk {
     }
 
     /// The index from which it goes on.
-    fn index(&self) -> Option<u64>
+    pub fn index(&self) -> Option<u64>
         ensures { result ≡ index_of self.now }
     {
         if self.ended == 0 {

@@ -1,0 +1,147 @@
+-- What the calls of C on a shared tree say, read off what its user does.
+use Rattle.std.proofs.Common.{◌≡◌, ◌≢◌, ◌≤◌, ◌<◌, Bool, ℕ, refl, sym, ap, ◌∙◌, inl, inr, subst, Option, Some, None}
+use Rattle.std.specs.Prelude.{MatchOption, Ok, Result, nat_le, if◌then◌else◌}
+use Rattle.std.proofs.lemmas.Bool.{le-leb, lt-leb}
+use Rattle.std.proofs.lemmas.Option.{none-some}
+use Rattle.mt_base.specs.declared.calls.Call.{Call}
+use Rattle.mt_base.specs.declared.calls.Query.{Query}
+use Rattle.mt_base.specs.declared.kinds.Kind.{Kind}
+use Rattle.mt_base.specs.declared.kinds.Kind.TheVariants as kinds
+use Rattle.mt_base.specs.declared.calls.Query.TheVariants.{Load}
+use Rattle.mt_base.specs.declared.ranges.Range.{Range}
+use Rattle.mt_image.specs.Bytes.{kind_code}
+use Rattle.mt_rule.specs.declared.busy.Busy.{Busy}
+use Rattle.mt_tree.specs.declared.shapes.Field.{Field}
+use Rattle.mt_tree.specs.declared.shapes.Shape.{Shape}
+use Rattle.mt_tree.specs.Shapes.{first_bad}
+use Rattle.mt_tree.specs.declared.shapes.Read.{Read}
+use Rattle.mt_c.specs.declared.user.User.{User}
+use Rattle.mt_c.specs.declared.user_acts.Settling.{Settling}
+use Rattle.mt_c.specs.declared.user_opens.Unchanged.{Unchanged}
+use Rattle.mt_c.specs.declared.shared_told.Outcome.{Outcome}
+use Rattle.mt_c.specs.declared.steps.OutWalk.{OutWalk}
+use Rattle.mt_c.specs.declared.shared_told.Window.{Window}
+use Rattle.mt_c.specs.Shared.{IsFirst, IsSettled, IsShape, IsSynced, IsWhy, OnUser, SharedAsked, SharedLearned, SharedLeft, SharedNew, SharedOpened, SharedSettled, SharedStepped, SharedSynced, SharedTried, SharedWith, answer_status, calls_told, common_of, known_to, no_outcome, no_window, outcome_of, paused, settled_status, settled_told, synced_status, tree_of, tried_status, unchanged_status, went_on, window_of}
+use Rattle.mt_c.specs.Walkers.{Answer, GoesOn, IsAnswer, IsAtRest, IsTried, Tried, top}
+use Rattle.mt_c.specs.Walking.{index_of}
+use Rattle.mt_read.specs.Cursors.{query_at}
+
+on_open : (before after : Option User) (u v : User) (status : ℕ) (blank : Type 0) (says : User → User → Type 0) → before ≡ Some u → after ≡ Some v → tree_of v ≡ tree_of u → says u v → OnUser before after status blank says
+on_open before after u v status blank says was is tree said = subst (λ (x : Option User × Option User). OnUser x.0 x.1 status blank says) (λ i. (sym was i, sym is i)) (tree, said)
+
+on_closed : (before after : Option User) (status : ℕ) (blank : Type 0) (says : User → User → Type 0) → before ≡ None → after ≡ None → status ≡ 22 → blank → OnUser before after status blank says
+on_closed before after status blank says was is number told = subst (λ (x : Option User × Option User). OnUser x.0 x.1 status blank says) (λ i. (sym was i, sym is i)) (refl, number, told)
+
+pub asked_open : (query : Query) (before after : Option User) (u v : User) (answer : Answer) (status : ℕ) (out : Window) → before ≡ Some u → after ≡ Some v → tree_of v ≡ tree_of u
+    → IsAnswer (tree_of u) (known_to u) query answer (known_to v) → IsAtRest v.walker → status ≡ answer_status answer → out ≡ window_of answer → SharedAsked query before after status out
+asked_open query before after u v answer status out was is tree said rests number shown = on_open before after u v status _ _ was is tree (answer, said, rests, number, shown)
+
+pub asked_closed : (query : Query) (before after : Option User) (status : ℕ) (out : Window) → before ≡ None → after ≡ None → status ≡ 22 → out ≡ no_window → SharedAsked query before after status out
+asked_closed query before after status out was is number shown = on_closed before after status _ _ was is number shown
+
+pub tried_open : (call : Call) (before after : Option User) (u v : User) (tried : Tried) (status : ℕ) (out : Outcome) → before ≡ Some u → after ≡ Some v → tree_of v ≡ tree_of u
+    → IsTried (tree_of u) (paused u) call tried (known_to v) → status ≡ tried_status tried → out ≡ outcome_of tried → SharedTried call before after status out
+tried_open call before after u v tried status out was is tree said number shown = on_open before after u v status _ _ was is tree (tried, said, number, shown)
+
+pub tried_closed : (call : Call) (before after : Option User) (status : ℕ) (out : Outcome) → before ≡ None → after ≡ None → status ≡ 22 → out ≡ no_outcome → SharedTried call before after status out
+tried_closed call before after status out was is number shown = on_closed before after status _ _ was is number shown
+
+pub stepped_open : (w w' : OutWalk) (from : Option ℕ) (before after : Option User) (u v : User) (r : Read (Option Range)) (status : ℕ) (out : Window) → from ≡ index_of w → before ≡ Some u → after ≡ Some v → tree_of v ≡ tree_of u
+    → IsAnswer (tree_of u) (known_to u) (query_at from top) (Ok r) (known_to v) → MatchOption from (IsAtRest v.walker) (λ _. GoesOn r.value v.walker) → status ≡ answer_status (Ok r) → out ≡ window_of (Ok r) → w' ≡ went_on r.value
+    → SharedStepped w w' before after status out
+stepped_open w w' from before after u v r status out place was is tree said goes number shown behind =
+    let asked = subst (λ (i : Option ℕ). IsAnswer (tree_of u) (known_to u) (query_at i top) (Ok r) (known_to v)) place said in
+    let going = subst (λ (i : Option ℕ). MatchOption i (IsAtRest v.walker) (λ _. GoesOn r.value v.walker)) place goes in
+    on_open before after u v status _ _ was is tree (r, asked, going, number, shown, behind)
+
+pub stepped_closed : (w w' : OutWalk) (before after : Option User) (status : ℕ) (out : Window) → before ≡ None → after ≡ None → status ≡ 22 → out ≡ no_window → w' ≡ w → SharedStepped w w' before after status out
+stepped_closed w w' before after status out was is number shown same = on_closed before after status _ _ was is number (shown, same)
+
+learned : (calls : ℕ) (before after : Option User) (u v : User) (r : Read (Option Range)) (status : ℕ) → before ≡ Some u → after ≡ Some v → tree_of v ≡ tree_of u
+    → IsAnswer (tree_of u) (known_to u) (Load 0) (Ok r) (known_to v) → IsAtRest v.walker → status ≡ (if nat_le calls r.lo then 0 else 11) → SharedLearned calls before after status
+learned calls before after u v r status was is tree said rests number = on_open before after u v status _ _ was is tree (r, said, rests, number)
+
+pub learned_yes : (calls : ℕ) (before after : Option User) (u v : User) (r : Read (Option Range)) (status : ℕ) → before ≡ Some u → after ≡ Some v → tree_of v ≡ tree_of u
+    → IsAnswer (tree_of u) (known_to u) (Load 0) (Ok r) (known_to v) → IsAtRest v.walker → calls ≤ r.lo → status ≡ 0 → SharedLearned calls before after status
+learned_yes calls before after u v r status was is tree said rests many number = learned calls before after u v r status was is tree said rests (number ∙ sym (ap (λ (b : Bool). if b then 0 else 11) (le-leb calls r.lo many)))
+
+pub learned_no : (calls : ℕ) (before after : Option User) (u v : User) (r : Read (Option Range)) (status : ℕ) → before ≡ Some u → after ≡ Some v → tree_of v ≡ tree_of u
+    → IsAnswer (tree_of u) (known_to u) (Load 0) (Ok r) (known_to v) → IsAtRest v.walker → r.lo < calls → status ≡ 11 → SharedLearned calls before after status
+learned_no calls before after u v r status was is tree said rests few number = learned calls before after u v r status was is tree said rests (number ∙ sym (ap (λ (b : Bool). if b then 0 else 11) (lt-leb calls r.lo few)))
+
+pub learned_closed : (calls : ℕ) (before after : Option User) (status : ℕ) → before ≡ None → after ≡ None → status ≡ 22 → SharedLearned calls before after status
+learned_closed calls before after status was is number = on_closed before after status _ _ was is number tt
+
+pub synced_open : (before after : Option User) (u v : User) (synced : Result ℕ Busy) (status calls : ℕ) → before ≡ Some u → after ≡ Some v → tree_of v ≡ tree_of u
+    → IsSynced (tree_of u) (paused u) synced (known_to v) → status ≡ synced_status synced → calls ≡ calls_told synced → SharedSynced before after status calls
+synced_open before after u v synced status calls was is tree said number told = on_open before after u v status _ _ was is tree (synced, said, number, told)
+
+pub synced_closed : (before after : Option User) (status calls : ℕ) → before ≡ None → after ≡ None → status ≡ 22 → calls ≡ 0 → SharedSynced before after status calls
+synced_closed before after status calls was is number none = on_closed before after status _ _ was is number none
+
+-- ---- shapes
+
+abbrev bad_of : ℕ → ℕ → ℕ → Option Field
+bad_of rows passes calls = first_bad (record { kind = kinds.Range; rows = rows; passes = passes; calls = calls })
+
+-- where one field is out of range there is no such shape
+pub no_such_shape : (s : Shape) (field : Field) (code rows passes calls : ℕ) → first_bad s ≡ Some field → s.rows ≡ rows → s.passes ≡ passes → s.calls ≡ calls → (shape : Shape) → IsShape code rows passes calls shape → ⊥
+no_such_shape s field code rows passes calls bad r p c shape is =
+    none-some field (sym is.4 ∙ ((λ i. bad_of ((is.1 ∙ sym r) i) ((is.2 ∙ sym p) i) ((is.3 ∙ sym c) i)) ∙ bad))
+
+pub no_such_kind : (code rows passes calls : ℕ) → ((kind : Kind) → kind_code kind ≢ code) → (shape : Shape) → IsShape code rows passes calls shape → ⊥
+no_such_kind code rows passes calls none shape is = none shape.kind is.0
+
+-- ---- opening
+
+pub new_open : (code rows passes calls : ℕ) (after : Option User) (status : ℕ) (u : User) (shape : Shape) → after ≡ Some u → status ≡ 0 → IsShape code rows passes calls shape → IsFirst shape u → SharedNew code rows passes calls after status
+new_open code rows passes calls after status u shape is done of first = rw is (done, shape, of, first)
+
+pub new_bad : (code rows passes calls : ℕ) (after : Option User) (status : ℕ) → after ≡ None → status ≡ 22 → ((shape : Shape) → IsShape code rows passes calls shape → ⊥) → SharedNew code rows passes calls after status
+new_bad code rows passes calls after status is number none = rw is (inl (number, none))
+
+pub new_short : (code rows passes calls : ℕ) (after : Option User) (status : ℕ) → after ≡ None → status ≡ 12 → SharedNew code rows passes calls after status
+new_short code rows passes calls after status is number = rw is (inr number)
+
+pub opened_busy : (code rows passes calls : ℕ) (before after : Option User) (status : ℕ) (u : User) → before ≡ Some u → after ≡ Some u → status ≡ 16 → SharedOpened code rows passes calls before after status
+opened_busy code rows passes calls before after status u was is number = rw was (is, number)
+
+pub opened_new : (code rows passes calls : ℕ) (before after : Option User) (status : ℕ) → before ≡ None → SharedNew code rows passes calls after status → SharedOpened code rows passes calls before after status
+opened_new code rows passes calls before after status was new = rw was new
+
+-- ---- sharing
+
+module _ (before after other other' : Option User) (status : ℕ) where
+  pub with_closed : before ≡ None → after ≡ None → other' ≡ other → status ≡ 22 → SharedWith before after other other' status
+  with_closed was is same number = rw was (is, same, number)
+
+  pub with_busy : (u o : User) → before ≡ Some u → after ≡ Some u → other ≡ Some o → other' ≡ Some o → status ≡ 16 → SharedWith before after other other' status
+  with_busy u o was is held still number = rw (was, is, held) (refl, still, number)
+
+  pub with_made : (u v w : User) → before ≡ Some u → after ≡ Some v → other ≡ None → other' ≡ Some w → status ≡ 0 → tree_of v ≡ tree_of u → known_to v ≡ known_to u → v.walker.walk ≡ u.walker.walk → tree_of w ≡ tree_of u → SharedWith before after other other' status
+  with_made u v w was is none made number tree known walk of = rw (was, is, none, made) (number, record { tree = tree; known = known; walk = walk }, of)
+
+  pub with_none : (u v : User) (why : Unchanged) → before ≡ Some u → after ≡ Some v → other ≡ None → other' ≡ None → status ≡ unchanged_status why → tree_of v ≡ tree_of u → known_to v ≡ known_to u → v.walker.walk ≡ u.walker.walk → IsWhy (common_of u) why
+      → SharedWith before after other other' status
+  with_none u v why was is none still number tree known walk told = rw (was, is, none, still) (record { tree = tree; known = known; walk = walk }, why, told, number)
+
+-- ---- leaving
+
+pub left_closed : (before after : Option User) (status : ℕ) → before ≡ None → after ≡ None → status ≡ 22 → SharedLeft before after status
+left_closed before after status was is number = rw was (is, number)
+
+pub left_done : (before after : Option User) (status : ℕ) (u : User) → before ≡ Some u → after ≡ None → status ≡ 0 → SharedLeft before after status
+left_done before after status u was is number = rw (was, is) number
+
+pub left_open : (before after : Option User) (status : ℕ) (u v : User) (why : Unchanged) → before ≡ Some u → after ≡ Some v → tree_of v ≡ tree_of u → known_to v ≡ paused u → IsWhy (common_of u) why → status ≡ unchanged_status why
+    → SharedLeft before after status
+left_open before after status u v why was is tree known told number = rw (was, is) (tree, known, why, told, number)
+
+-- ---- settling
+
+pub settled_open : (before after : Option User) (u v : User) (settled : Result (ℕ × ℕ) Settling) (status calls passes : ℕ) → before ≡ Some u → after ≡ Some v → tree_of v ≡ tree_of u
+    → IsSettled (common_of u) (paused u) settled (known_to v) → status ≡ settled_status settled → calls ≡ (settled_told settled).0 → passes ≡ (settled_told settled).1 → SharedSettled before after status calls passes
+settled_open before after u v settled status calls passes was is tree said number told met = on_open before after u v status _ _ was is tree (settled, said, number, told, met)
+
+pub settled_closed : (before after : Option User) (status calls passes : ℕ) → before ≡ None → after ≡ None → status ≡ 22 → calls ≡ 0 → passes ≡ 0 → SharedSettled before after status calls passes
+settled_closed before after status calls passes was is number none zero = on_closed before after status _ _ was is number (none, zero)

@@ -1,0 +1,184 @@
+-- What a user of a shared tree does: which section stands open is no part of what a read says, and where a walk goes on.
+use Rattle.std.proofs.Common.{◌≡◌, ◌∙◌, ℕ, List, [], ◌∷◌, ◌++◌, ◌<◌, ◌^◌, length, map, refl, sym, ap, subst, arith, Bool, Option, Some, None}
+use Rattle.std.proofs.lemmas.Bool.{le-leb}
+use Rattle.std.proofs.lemmas.List.{length-map, map-append}
+use Rattle.std.specs.Prelude.{◌↔◌, Ok, Err, Result, IfOk, IfErr, IfSome, if◌then◌else◌}
+use Rattle.atomic_table.specs.declared.badge.Badge.{Badge}
+use Rattle.mt_base.specs.declared.calls.Call.{Call}
+use Rattle.mt_base.specs.declared.calls.Query.{Query}
+use Rattle.mt_base.specs.declared.ranges.Range.{Range}
+use Rattle.mt_base.specs.History.{History}
+use Rattle.mt_base.specs.Passes as known
+use Rattle.mt_read.specs.declared.cursor.Cursor.{Cursor}
+use Rattle.mt_read.specs.declared.cursor.KeptLeaf.{KeptLeaf}
+use Rattle.mt_read.specs.Cursors.{IsKept, place_behind, place_from, query_at}
+use Rattle.mt_read.specs.Neighbours.{WasMoved}
+use Rattle.mt_read.specs.Windows.{HasRead}
+use Rattle.mt_keep.specs.declared.keep.Sight.{Sight}
+use Rattle.mt_rule.specs.Tokens.{part_of}
+use Rattle.mt_tree.specs.declared.shapes.Read.{Read}
+use Rattle.mt_tree.specs.declared.trees.Tree.{Tree}
+use Rattle.mt_tree.specs.Asks.{IsForNeighbour}
+use Rattle.mt_tree.specs.Meeting.{HaveMet}
+use Rattle.mt_tree.specs.Trees.{IsNew, IsPassOf, Pass, limit_of, pass_in, opened}
+use Rattle.mt_tree.specs.Tries.{IsBusyOf, WasMade}
+use Rattle.mt_tree.specs.Walks.{HasWalked, IsWalkOf}
+use Rattle.mt_tree.specs.declared.shapes.Field.{Field}
+use Rattle.mt_tree.specs.declared.shapes.MakeError.{MakeError}
+use Rattle.mt_tree.specs.declared.shapes.MakeError.TheVariants as make_error
+use Rattle.mt_tree.specs.declared.shapes.Shape.{Shape}
+use Rattle.mt_tree.specs.Shapes.{first_bad}
+use Rattle.mt_c.specs.declared.purse.Common.{Common}
+use Rattle.mt_c.specs.declared.user.User.{User}
+use Rattle.mt_c.specs.declared.walker.Walker.{Walker}
+use Rattle.mt_c.specs.Purses.{IsSeatedAt}
+use Rattle.mt_c.specs.KeptWalks.{IsKeptWalk, top}
+use Rattle.mt_c.specs.Users.{IsFirst, IsSettled, IsSynced, tree_of}
+use Rattle.mt_c.specs.Walkers.{Answer, GoesOn, HasSeen, IsAnswer, IsTried, KnowsAs, Tried, closed_by, knows}
+
+-- ---- which section stands open is no part of what a read says
+
+pub halted_knows : (p q : known.Pass) → q ≡ record p { standing = None } → KnowsAs p q
+halted_knows p q is = record { same = ap (λ (z : known.Pass). record z { standing = None }) (sym is) }
+
+pub same_knows : (p q : known.Pass) → q ≡ p → KnowsAs p q
+same_knows p q is = record { same = ap (λ (z : known.Pass). record z { standing = None }) (sym is) }
+
+module _ (tree : History) (lo hi k : ℕ) (query : Query) (value : Option Range) where
+  into_closed : (p q : known.Pass) → known.Read tree p lo hi k query value q → known.Read tree (record p { standing = None }) lo hi k query value (record q { standing = None })
+  into_closed p q r = record {
+    grows = record { number = r.grows.number; seen = r.grows.seen; mine = r.grows.mine; opened = r.grows.opened; begun = r.grows.begun; ended = r.grows.ended };
+    true = r.true;
+    from = r.from;
+    floor = r.floor;
+    before = r.before;
+    lo_known = r.lo_known;
+    hi_known = r.hi_known;
+    sound = record { own = r.sound.own; legal = r.sound.legal };
+  }
+
+  out_of_closed : (p q : known.Pass) → known.Read tree (record p { standing = None }) lo hi k query value (record q { standing = None }) → known.Read tree p lo hi k query value q
+  out_of_closed p q r = record {
+    grows = record { number = r.grows.number; seen = r.grows.seen; mine = r.grows.mine; opened = r.grows.opened; begun = r.grows.begun; ended = r.grows.ended };
+    true = r.true;
+    from = r.from;
+    floor = r.floor;
+    before = r.before;
+    lo_known = r.lo_known;
+    hi_known = r.hi_known;
+    sound = record { own = r.sound.own; legal = r.sound.legal };
+  }
+
+  reads_as : (p p' q q' : known.Pass) → KnowsAs p p' → KnowsAs q' q → known.Read tree p' lo hi k query value q' → known.Read tree p lo hi k query value q
+  reads_as p p' q q' before after r =
+      out_of_closed p q (subst (λ (x : known.Pass × known.Pass). known.Read tree x.0 lo hi k query value x.1) (λ i. (sym before.same i, after.same i)) (into_closed p' q' r))
+
+seen_as : (lo hi : ℕ) (q q' : known.Pass) → KnowsAs q' q → HasSeen lo hi q' → HasSeen lo hi q
+seen_as lo hi q q' after seen = subst (λ (x : known.Pass). HasSeen lo hi x) after.same seen
+
+moved_before : (t : History) (p q : known.Pass) (lo begun : ℕ) → WasMoved t (record p { standing = None }) lo begun q → WasMoved t p lo begun q
+moved_before t p q lo begun m = record {
+  grows = record { number = m.grows.number; seen = m.grows.seen; mine = m.grows.mine; opened = m.grows.opened; begun = m.grows.begun; ended = m.grows.ended };
+  floor = m.floor;
+  before = m.before;
+  later = m.later;
+  sound = m.sound;
+}
+
+pub read_as : (t : Tree) (query : Query) (r : Read (Option Range)) (p p' q q' : known.Pass) → KnowsAs p p' → KnowsAs q' q → (k : ℕ) × known.Read (opened t) p' r.lo r.hi k query r.value q' → HasSeen r.lo r.hi q' → IsAnswer t p query (Ok r) q
+read_as t query r p p' q q' before after read seen = ((read.0, reads_as (opened t) r.lo r.hi read.0 query r.value p p' q q' before after read.1), seen_as r.lo r.hi q q' after seen)
+
+pub answered_before : (t : Tree) (query : Query) (answer : Answer) (walk : Option Cursor) (p q : known.Pass) → IsAnswer t (closed_by walk p) query answer q → IsAnswer t p query answer q
+answered_before t query answer None p q said = said
+answered_before t query (Ok r) (Some w) p q said = read_as t query r p (record p { standing = None }) q q (halted_knows p (record p { standing = None }) refl) (same_knows q q refl) said.0 said.1
+answered_before t query (Err m) (Some w) p q said = (moved_before (opened t) p q m.lo m.begun said.0, said.1, said.2)
+
+-- what a read that was made or given up answers, once the walk was paused
+pub answer_made : (t : Tree) (query : Query) (walk : Option Cursor) (p q : known.Pass) (before : Pass) (answer : Answer) → pass_in before ≡ closed_by walk p
+    → IfOk answer (λ r. (k : ℕ) × known.Read (opened t) (pass_in before) r.lo r.hi k query r.value q) → IfOk answer (λ r. HasRead r.lo r.hi (pass_in before) q)
+    → IfErr answer (λ m. WasMoved (opened t) (pass_in before) m.lo m.begun q) → IfErr answer (λ m. HasRead m.lo m.begun (pass_in before) q) → IfErr answer (λ _. IsForNeighbour query)
+    → IsAnswer t p query answer q
+answer_made t query walk p q before (Ok r) was read section moved given near =
+    answered_before t query (Ok r) walk p q ((read.0, subst (λ (x : known.Pass). known.Read (opened t) x r.lo r.hi read.0 query r.value q) was read.1), section.window)
+answer_made t query walk p q before (Err m) was read section moved given near =
+    answered_before t query (Err m) walk p q (subst (λ (x : known.Pass). WasMoved (opened t) x m.lo m.begun q) was moved, near, given.window)
+
+-- no section stands open behind a read
+pub rested : (answer : Answer) (p q : known.Pass) → IfOk answer (λ r. HasRead r.lo r.hi p q) → IfErr answer (λ m. HasRead m.lo m.begun p q) → q.standing ≡ None
+rested (Ok r) p q section given = ap (λ (x : known.Pass). x.standing) section.pass
+rested (Err m) p q section given = ap (λ (x : known.Pass). x.standing) given.pass
+
+-- ---- walks
+
+pub kept_on : (v : Walker) (found : Option Range) (range : Range) (walk : Cursor) → found ≡ Some range → v.walk ≡ Some walk → walk.at ≡ place_behind found top → GoesOn found v
+kept_on v found range walk is kept at = subst (λ (o : Option Range). GoesOn o v) (sym is) (walk, kept, at ∙ ap (λ (o : Option Range). place_behind o top) is)
+
+pub forgotten : (v : Walker) (found : Option Range) → found ≡ None → v.walk ≡ None → (knows v).standing ≡ None → GoesOn found v
+forgotten v found is none closed = subst (λ (o : Option Range). GoesOn o v) (sym is) (none, closed)
+
+pub from_any : (from : ℕ) → from < 2 ^ 64 → place_from from top ≡ Some from
+from_any from few = ap (λ (b : Bool). if b then Some from else None) (le-leb from top (omega arith))
+
+pub begins_walk : (p : Pass) (w : Cursor) → w.leaf ≡ None → w.epoch ≡ None → w.max ≡ top → IsKeptWalk p w
+begins_walk p w leaf epoch max = record {
+  of = record {
+    standing = subst (λ (e : Option ℕ). IfSome e (λ epoch. (part_of p).standing ≡ Some epoch)) (sym epoch) tt;
+    leaf = subst (λ (l : Option KeptLeaf). IfSome l (IsKept (part_of p))) (sym leaf) tt;
+    closed = λ _. leaf;
+  };
+  max = max;
+}
+
+pub goes_on : (t : Tree) (r : Read (Option Range)) (p q : Pass) (w w' : Cursor) → IsKeptWalk p w → HasWalked t p w r q w' → IsWalkOf q w' → IsKeptWalk q w'
+goes_on t r p q w w' kept walked of = record { of = of; max = walked.max ∙ kept.max }
+
+-- a step of a walk at this index answers the find from there
+pub walked_answer : (t : Tree) (from : ℕ) (r : Read (Option Range)) (p : known.Pass) (p1 p2 : Pass) (q : known.Pass) (w w' : Cursor) → KnowsAs p (pass_in p1) → w.at ≡ Some from → IsKeptWalk p1 w → HasWalked t p1 w r p2 w'
+    → KnowsAs (pass_in p2) q → IsAnswer t p (query_at (Some from) top) (Ok r) q
+walked_answer t from r p p1 p2 q w w' before at kept walked after =
+    let read : (k : ℕ) × known.Read (opened t) (pass_in p1) r.lo r.hi k (query_at (Some from) top) r.value (pass_in p2) =
+    subst (λ (x : Option ℕ × ℕ). (k : ℕ) × known.Read (opened t) (pass_in p1) r.lo r.hi k (query_at x.0 x.1) r.value (pass_in p2)) (λ i. (at i, kept.max i)) walked.read in
+    read_as t (query_at (Some from) top) r p (pass_in p1) q (pass_in p2) before after read walked.section.window
+
+-- ---- calls
+
+pub tried_made : (t : Tree) (p : known.Pass) (a b : Pass) (call : Call) (tried : Tried) → pass_in a ≡ p → IfOk tried (λ made. WasMade t (pass_in a) call made (pass_in b)) → IfErr tried (IsBusyOf t) → IfErr tried (λ _. b ≡ a) → IsTried t p call tried (pass_in b)
+tried_made t p a b call (Ok made) was done busy kept = subst (λ (x : known.Pass). WasMade t x call made (pass_in b)) was done
+tried_made t p a b call (Err why) was done busy kept = (busy, ap pass_in kept ∙ was)
+
+-- ---- under the lock
+
+pub synced : (t : Tree) (p q : known.Pass) (ps qs : List known.Pass) (calls : ℕ) → HaveMet t (p ∷ ps) (q ∷ qs) calls → IsSynced t p (Ok calls) q
+synced t p q ps qs calls met = let mine = met.each 0 p q refl refl in (mine.0, ap length mine.1 ∙ met.all)
+
+pub settled : (c : Common) (p q : known.Pass) (others others' : List Pass) (calls passes : ℕ) → HaveMet c.tree (p ∷ map pass_in others) (q ∷ map pass_in others') calls → passes ≡ length others' → IsSettled c p (Ok (calls, passes)) q
+settled c p q others others' calls passes met many = (map pass_in others, map pass_in others', met, many ∙ sym (length-map others' pass_in))
+
+-- ---- what is owned together
+
+-- a pass is of the tree of what is owned together, by whichever share that is reached
+pub on : {x c : Common} {p : Pass} → x ≡ c → IsPassOf c.tree p → IsPassOf x.tree p
+on {x} {c} {p} same of = subst (λ (y : Common). IsPassOf y.tree p) (sym same) of
+
+-- and so is a chair at its purse
+pub at : {x c : Common} {chair : Badge (Sight Tree)} → x ≡ c → IsSeatedAt c chair → IsSeatedAt x chair
+at {x} {c} {chair} same seated = subst (λ (y : Common). IsSeatedAt y chair) (sym same) seated
+
+-- ---- new trees
+
+-- where no field is out of range the shape is in range
+pub none_bad : {A : Type 0} (shape : Shape) (r : Result A MakeError) (a : A) → ((field : Field) → (r ≡ Err (make_error.BadShape field)) ↔ (first_bad shape ≡ Some field)) → r ≡ Ok a → first_bad shape ≡ None
+none_bad shape r a bad ok = by_case (first_bad shape) refl
+  where
+    by_case : (o : Option Field) → first_bad shape ≡ o → first_bad shape ≡ None
+    by_case None is = is
+    by_case (Some field) is = let e : r ≡ Err (make_error.BadShape field) = (bad field).1 is in cc
+
+pub is_first : (shape : Shape) (t : Tree) (ps : List Pass) (u : User) → IsNew shape [] t ps → tree_of u ≡ t → (others : List Pass) × (ps ≡ others ++ u.walker.pass ∷ []) → u.walker.walk ≡ None → IsFirst shape u
+is_first shape t ps u new tree last walk = record {
+  tree = ap opened tree ∙ new.tree;
+  calls = ap limit_of tree ∙ new.calls;
+  others = map pass_in last.0;
+  passes = sym (ap (map pass_in) last.1 ∙ map-append pass_in last.0 (u.walker.pass ∷ [])) ∙ new.passes;
+  walk = walk;
+}

@@ -1,0 +1,14 @@
+use Rattle.std.proofs.Common.{Err, ap, refl, ◌≡◌}
+use Rattle.mt_tree.specs.declared.shapes.MakeError.TheVariants as make_error
+use Rattle.mt_c.proofs.Using.{is_first, none_bad}
+use Rattle.mt_c.proofs.user.User.open.Goals as goal
+
+pub returns-in-Err-clause-bad : goal.returns-in-Err-clause-bad
+returns-in-Err-clause-bad c = λ field e. let why : c.in-Err.why ≡ make_error.BadShape field = cc in (c.in-Err.ensures.bad field).0 (ap Err why)
+
+pub returns-in-Ok-first-clause-good : goal.returns-in-Ok-first-clause-good
+returns-in-Ok-first-clause-good c = none_bad c.args.shape _ c.in-Ok.made c.in-Ok.ensures.bad refl
+
+pub returns-in-Ok-first-clause-first : goal.returns-in-Ok-first-clause-first
+returns-in-Ok-first-clause-first c =
+    is_first c.args.shape c.in-Ok.made.0 c.in-Ok.made.1.items c.in-Ok-first.user c.in-Ok.ensures.new c.in-Ok-first.ensures.tree c.in-Ok-first.ensures.passes c.in-Ok-first.ensures.walk

@@ -1,0 +1,164 @@
+-- What the calls of C on a shared tree say. Each user of it has a pass, which knows a beginning of the tree's one history.
+-- Source: this project's own; EAGAIN and EUSERS are of the kernel's include/uapi/asm-generic/errno-base.h and errno.h.
+use Rattle.std.specs.Prelude.{◌≡◌, ◌⊎◌, ℕ, Option, Some, None, MatchOption, Result, Ok, Err, nat_le, if◌then◌else◌}
+use Rattle.mt_base.specs.declared.ranges.Range.{Range}
+use Rattle.mt_base.specs.declared.calls.Call.{Call}
+use Rattle.mt_base.specs.declared.calls.Query.{Query}
+use Rattle.mt_base.specs.declared.calls.Query.TheVariants.{Load}
+use Rattle.mt_image.specs.Bytes.{kind_code}
+use Rattle.mt_rule.specs.declared.busy.Busy.{Busy}
+use Rattle.mt_tree.specs.declared.shapes.Done.{Done}
+use Rattle.mt_tree.specs.declared.shapes.Read.{Read}
+use Rattle.mt_tree.specs.declared.shapes.Shape.{Shape}
+use Rattle.mt_tree.specs.Shapes.{first_bad}
+use Rattle.mt_read.specs.Cursors.{place_behind, query_at}
+use Rattle.mt_c.specs.declared.steps.OutWalk.{OutWalk}
+use Rattle.mt_c.specs.declared.user.User.{User}
+use Rattle.mt_c.specs.declared.told.OutRange.{OutRange}
+use Rattle.mt_c.specs.declared.user_acts.Settling.{Settling}
+use Rattle.mt_c.specs.declared.user_opens.Unchanged.{Unchanged}
+use Rattle.mt_c.specs.declared.user_opens.Unchanged.TheVariants as unchanged
+use Rattle.mt_c.specs.declared.shared_told.Outcome.{Outcome}
+use Rattle.mt_c.specs.declared.shared_told.Window.{Window}
+use Rattle.mt_c.specs.Calls.{found_status, no_range, out_of, range_of, status_of, word_of}
+use Rattle.mt_c.specs.KeptWalks.{top}
+pub use Rattle.mt_c.specs.Users.{IsFirst, IsSame, IsSettled, IsSynced, IsWhy, common_of, known_to, paused, tree_of}
+use Rattle.mt_c.specs.Walkers.{Answer, GoesOn, IsAnswer, IsAtRest, Tried, IsTried}
+use Rattle.mt_c.specs.Walking.{index_of, walk_from}
+
+-- ---- users
+
+-- A call on what C keeps, and the number that C gets. A closed one is EINVAL, with a blank beside, and stays closed; an open one
+-- stays open, and is of the same tree.
+abbrev pub OnUser : Option User → Option User → ℕ → Type 0 → (User → User → Type 0) → Type 0
+OnUser None after status blank says = (after ≡ None) × (status ≡ 22) × blank
+OnUser (Some u) None status blank says = ⊥
+OnUser (Some u) (Some v) status blank says = (tree_of v ≡ tree_of u) × says u v
+
+-- ---- reads
+
+abbrev pub no_window : Window
+no_window = record { lo = 0; hi = 0; first = 0; last = 0; entry = 0 }
+
+abbrev pub window : ℕ → ℕ → OutRange → Window
+window lo hi r = record { lo = lo; hi = hi; first = r.first; last = r.last; entry = r.entry }
+
+-- what C is told of it: EAGAIN where it was given up
+abbrev pub answer_status : Answer → ℕ
+answer_status (Ok r) = found_status r.value
+answer_status (Err m) = 11
+
+abbrev pub window_of : Answer → Window
+window_of (Ok r) = window r.lo r.hi (out_of r.value)
+window_of (Err m) = window m.lo m.begun no_range
+
+-- A query of a user of a shared tree, which is on no walk then.
+abbrev pub SharedAsked : Query → Option User → Option User → ℕ → Window → Type 0
+SharedAsked query before after status out =
+    OnUser before after status (out ≡ no_window) (λ u v. (answer : Answer) × IsAnswer (tree_of u) (known_to u) query answer (known_to v) × IsAtRest v.walker × (status ≡ answer_status answer) × (out ≡ window_of answer))
+
+-- What a step of a walk of C's asks, and the walk that goes on behind what was found.
+abbrev pub step_query : OutWalk → Query
+step_query walk = query_at (index_of walk) top
+
+abbrev pub went_on : Option Range → OutWalk
+went_on found = walk_from (place_behind found top)
+
+-- A step of a walk of C's: it goes on behind what was found, and the user keeps its place where a range was found. Where the user is
+-- closed the walk is as it was.
+abbrev pub SharedStepped : OutWalk → OutWalk → Option User → Option User → ℕ → Window → Type 0
+SharedStepped w w' before after status out =
+    OnUser before after status ((out ≡ no_window) × (w' ≡ w)) (λ u v. (r : Read (Option Range)) × IsAnswer (tree_of u) (known_to u) (step_query w) (Ok r) (known_to v) × MatchOption (index_of w) (IsAtRest v.walker) (λ _. GoesOn r.value v.walker) × (status ≡ answer_status (Ok r)) × (out ≡ window_of (Ok r)) × (w' ≡ went_on r.value))
+
+-- The user looked how many calls had ended, by a read, and has seen those: 0 where they are so many as it was to learn, else EAGAIN.
+abbrev pub SharedLearned : ℕ → Option User → Option User → ℕ → Type 0
+SharedLearned calls before after status =
+    OnUser before after status (Unit {0}) (λ u v. (r : Read (Option Range)) × IsAnswer (tree_of u) (known_to u) (Load 0) (Ok r) (known_to v) × IsAtRest v.walker × (status ≡ (if nat_le calls r.lo then 0 else 11)))
+
+-- ---- calls
+
+abbrev pub no_outcome : Outcome
+no_outcome = record { call = 0; word = 0; first = 0; last = 0; entry = 0 }
+
+-- the number of the call in the history, the one word of the reply, and its range
+abbrev pub done_outcome : Done → Outcome
+done_outcome d = let r = range_of (Some d.reply) in record { call = d.call; word = word_of (Some d.reply); first = r.first; last = r.last; entry = r.entry }
+
+abbrev pub done_status : Done → ℕ
+done_status d = status_of (Some d.reply)
+
+-- what C is told of a try: EAGAIN where the lock was found taken, EOVERFLOW where the tree is worn
+abbrev pub tried_status : Tried → ℕ
+tried_status (Ok (Ok d)) = done_status d
+tried_status (Ok (Err w)) = status_of None
+tried_status (Err busy) = 11
+
+abbrev pub outcome_of : Tried → Outcome
+outcome_of (Ok (Ok d)) = done_outcome d
+outcome_of (Ok (Err w)) = no_outcome
+outcome_of (Err busy) = no_outcome
+
+-- A call of a user of a shared tree, made under the tree's lock if that is free.
+abbrev pub SharedTried : Call → Option User → Option User → ℕ → Outcome → Type 0
+SharedTried call before after status out =
+    OnUser before after status (out ≡ no_outcome) (λ u v. (tried : Tried) × IsTried (tree_of u) (paused u) call tried (known_to v) × (status ≡ tried_status tried) × (out ≡ outcome_of tried))
+
+-- ---- users that come and go
+
+-- An open of a shared tree: of a kind of this code, in so many rows, for so many users, and for so many calls.
+abbrev pub IsShape : ℕ → ℕ → ℕ → ℕ → Shape → Type 0
+IsShape code rows passes calls shape = (kind_code shape.kind ≡ code) × (shape.rows ≡ rows) × (shape.passes ≡ passes) × (shape.calls ≡ calls) × (first_bad shape ≡ None)
+
+-- A closed one is opened so, or stays closed: EINVAL tells that there is no such shape, and ENOMEM that memory ran out for one.
+abbrev pub SharedNew : ℕ → ℕ → ℕ → ℕ → Option User → ℕ → Type 0
+SharedNew code rows passes calls (Some u) status = (status ≡ 0) × (shape : Shape) × IsShape code rows passes calls shape × IsFirst shape u
+SharedNew code rows passes calls None status = ((status ≡ 22) × ((shape : Shape) → IsShape code rows passes calls shape → ⊥)) ⊎ (status ≡ 12)
+
+-- One that is open is EBUSY, and stays as it was.
+abbrev pub SharedOpened : ℕ → ℕ → ℕ → ℕ → Option User → Option User → ℕ → Type 0
+SharedOpened code rows passes calls (Some u) after status = (after ≡ Some u) × (status ≡ 16)
+SharedOpened code rows passes calls None after status = SharedNew code rows passes calls after status
+
+-- Why no user was opened, or none has left: another had the purse (EAGAIN), it was empty (EUSERS), or memory ran out (ENOMEM).
+abbrev pub unchanged_status : Unchanged → ℕ
+unchanged_status (unchanged.Busy busy) = 11
+unchanged_status unchanged.NoPlace = 87
+unchanged_status unchanged.NoMemory = 12
+
+-- One user is opened beside another, of the same tree. It stays as it was where it is open, and where none is opened.
+abbrev pub SharedWith : Option User → Option User → Option User → Option User → ℕ → Type 0
+SharedWith None after other other' status = (after ≡ None) × (other' ≡ other) × (status ≡ 22)
+SharedWith (Some u) None other other' status = ⊥
+SharedWith (Some u) (Some v) (Some o) other' status = (v ≡ u) × (other' ≡ Some o) × (status ≡ 16)
+SharedWith (Some u) (Some v) None (Some w) status = (status ≡ 0) × IsSame u v × (tree_of w ≡ tree_of u)
+SharedWith (Some u) (Some v) None None status = IsSame u v × (why : Unchanged) × IsWhy (common_of u) why × (status ≡ unchanged_status why)
+
+-- A user has left its pass to users to come, and is closed; or it is open as it was, but for its walk, which is paused.
+abbrev pub SharedLeft : Option User → Option User → ℕ → Type 0
+SharedLeft None after status = (after ≡ None) × (status ≡ 22)
+SharedLeft (Some u) None status = status ≡ 0
+SharedLeft (Some u) (Some v) status = (tree_of v ≡ tree_of u) × (known_to v ≡ paused u) × (why : Unchanged) × IsWhy (common_of u) why × (status ≡ unchanged_status why)
+
+abbrev pub synced_status : Result ℕ Busy → ℕ
+synced_status (Ok calls) = 0
+synced_status (Err busy) = 11
+
+abbrev pub calls_told : Result ℕ Busy → ℕ
+calls_told (Ok calls) = calls
+calls_told (Err busy) = 0
+
+abbrev pub SharedSynced : Option User → Option User → ℕ → ℕ → Type 0
+SharedSynced before after status calls =
+    OnUser before after status (calls ≡ 0) (λ u v. (synced : Result ℕ Busy) × IsSynced (tree_of u) (paused u) synced (known_to v) × (status ≡ synced_status synced) × (calls ≡ calls_told synced))
+
+abbrev pub settled_status : Result (ℕ × ℕ) Settling → ℕ
+settled_status (Ok r) = 0
+settled_status (Err why) = 11
+
+abbrev pub settled_told : Result (ℕ × ℕ) Settling → ℕ × ℕ
+settled_told (Ok r) = r
+settled_told (Err why) = (0, 0)
+
+abbrev pub SharedSettled : Option User → Option User → ℕ → ℕ → ℕ → Type 0
+SharedSettled before after status calls passes =
+    OnUser before after status ((calls ≡ 0) × (passes ≡ 0)) (λ u v. (settled : Result (ℕ × ℕ) Settling) × IsSettled (common_of u) (paused u) settled (known_to v) × (status ≡ settled_status settled) × (calls ≡ (settled_told settled).0) × (passes ≡ (settled_told settled).1))

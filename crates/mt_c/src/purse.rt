@@ -1,0 +1,27 @@
+//! A tree that its users own together, and the passes that none of them has.
+
+ghost use Rattle.std.specs.Prelude.{◌≡◌};
+
+use mt_keep::{Keep, Placed};
+use mt_tree::{Pass, Tree};
+
+/// Passes of one tree, for users to come.
+#[derive(Drop)]
+pub struct Purse {
+    pub passes: Vec<Pass>,
+}
+
+impl Placed<Tree> for Purse {
+    ghost use Rattle.std.specs.Prelude.{All};
+    ghost use Rattle.mt_tree.specs.Trees.{IsPassOf};
+
+    ghost fits = { λ tree purse. All (IsPassOf tree) purse.passes.items };
+}
+
+/// A tree and the purse of its passes.
+#[derive(Drop)]
+pub struct Common {
+    pub tree: Tree,
+    pub purse: Keep<Purse, Tree>,
+    ghost of: { purse.table.shared.key.value ≡ tree },
+}

@@ -1,0 +1,109 @@
+//! Queries, steps and calls of what C keeps of a shared tree.
+
+ghost use Rattle.mt_c.specs.Shared.{SharedAsked, SharedLearned, SharedSettled, SharedStepped, SharedSynced, SharedTried};
+
+use crate::shared_told::{
+    EAGAIN, Outcome, Window, answer_told, no_outcome, place_behind, seen, settled_told,
+    synced_told, tried_told,
+};
+use crate::steps::OutWalk;
+use crate::told::{EINVAL, no_range};
+use crate::user_handle::UserHandle;
+use mt_base::{Call, Query};
+use std::alloc::Global;
+
+/// Asks one query of what C keeps.
+#[tactic(auto, using(crate::proofs::Sharing::asked_open, crate::proofs::Sharing::asked_closed))]
+pub fn ask(alloc: Global, user: &mut UserHandle, query: &Query, out: &mut Window) -> u32
+    ensures { SharedAsked query.now user.old.kept.value user.new.kept.value result out.new }
+{
+    let Some(mut whole) = user.take(alloc) else {
+        *out = seen(0, 0, no_range());
+        return EINVAL;
+    };
+    let answer = whole.ask(query);
+    *user = UserHandle::of(whole);
+    let (window, status) = answer_told(answer);
+    *out = window;
+    status
+}
+
+/// Makes one step of a walk of C's.
+#[tactic(auto, using(crate::proofs::Sharing::stepped_open, crate::proofs::Sharing::stepped_closed))]
+pub fn step(alloc: Global, user: &mut UserHandle, walk: &mut OutWalk, out: &mut Window) -> u32
+    ensures { SharedStepped walk.old walk.new user.old.kept.value user.new.kept.value result out.new }
+{
+    let Some(mut whole) = user.take(alloc) else {
+        *out = seen(0, 0, no_range());
+        return EINVAL;
+    };
+    let read = whole.step_from(walk.index());
+    *user = UserHandle::of(whole);
+    *walk = OutWalk::from_index(place_behind(read.value));
+    let (window, status) = answer_told(Ok(read));
+    *out = window;
+    status
+}
+
+/// Looks how many calls have ended.
+#[tactic(auto, using(crate::proofs::Sharing::learned_yes, crate::proofs::Sharing::learned_no, crate::proofs::Sharing::learned_closed))]
+pub fn learn(alloc: Global, user: &mut UserHandle, calls: u64) -> u32
+    ensures { SharedLearned calls user.old.kept.value user.new.kept.value result }
+{
+    let Some(mut whole) = user.take(alloc) else {
+        return EINVAL;
+    };
+    let read = whole.look();
+    *user = UserHandle::of(whole);
+    if calls <= read.lo { 0 } else { EAGAIN }
+}
+
+/// Sees the whole history, if the tree's lock is free.
+#[tactic(auto, using(crate::proofs::Sharing::synced_open, crate::proofs::Sharing::synced_closed))]
+pub fn sync(alloc: Global, user: &mut UserHandle, calls: &mut u64) -> u32
+    ensures { SharedSynced user.old.kept.value user.new.kept.value result calls.new }
+{
+    let Some(mut whole) = user.take(alloc) else {
+        *calls = 0;
+        return EINVAL;
+    };
+    let synced = whole.sync();
+    *user = UserHandle::of(whole);
+    let (told, status) = synced_told(synced);
+    *calls = told;
+    status
+}
+
+/// Sees the whole history, and so do the passes in the purse, if neither that nor the tree's lock is taken.
+#[tactic(auto, using(crate::proofs::Sharing::settled_open, crate::proofs::Sharing::settled_closed))]
+pub fn settle(alloc: Global, user: &mut UserHandle, calls: &mut u64, passes: &mut u64) -> u32
+    ensures { SharedSettled user.old.kept.value user.new.kept.value result calls.new passes.new }
+{
+    let Some(mut whole) = user.take(alloc) else {
+        *calls = 0;
+        *passes = 0;
+        return EINVAL;
+    };
+    let settled = whole.settle();
+    *user = UserHandle::of(whole);
+    let (told, met, status) = settled_told(settled);
+    *calls = told;
+    *passes = met;
+    status
+}
+
+/// Makes one call of what C keeps, if the tree's lock is free.
+#[tactic(auto, using(crate::proofs::Sharing::tried_open, crate::proofs::Sharing::tried_closed))]
+pub fn try_call(alloc: Global, user: &mut UserHandle, call: &Call, out: &mut Outcome) -> u32
+    ensures { SharedTried call.now user.old.kept.value user.new.kept.value result out.new }
+{
+    let Some(mut whole) = user.take(alloc) else {
+        *out = no_outcome();
+        return EINVAL;
+    };
+    let tried = whole.try_act(call);
+    *user = UserHandle::of(whole);
+    let (outcome, status) = tried_told(tried);
+    *out = outcome;
+    status
+}

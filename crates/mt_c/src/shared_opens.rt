@@ -1,0 +1,136 @@
+//! Opening, sharing and closing users of a shared tree.
+
+ghost use Rattle.std.specs.Prelude.{◌≡◌, Err, None, Some, IfOk};
+ghost use Rattle.mt_tree.specs.Shapes.{first_bad};
+ghost use Rattle.mt_tree.specs.declared.shapes.Field.{Field};
+ghost use Rattle.mt_tree.specs.declared.shapes.MakeError.TheVariants as make_error;
+ghost use Rattle.mt_c.specs.Shared.{IsFirst, SharedLeft, SharedNew, SharedOpened, SharedWith, unchanged_status};
+
+use crate::opens::kind_of;
+use crate::shared_told::{EAGAIN, EUSERS};
+use crate::told::{EBUSY, EINVAL, ENOMEM};
+use crate::user::User;
+use crate::user_handle::UserHandle;
+use crate::user_opens::Unchanged;
+use mt_tree::{MakeError, Shape};
+use std::alloc::Global;
+
+/// The box of the first user of a new tree.
+fn boxed(alloc: Global, shape: Shape) -> Result<Box<User>, MakeError>
+    ensures bad { (field : Field) → result ≡ Err (make_error.BadShape field) → first_bad shape ≡ Some field }
+    ensures first { IfOk result (λ whole. (first_bad shape ≡ None) × IsFirst shape whole.value) }
+{
+    let user = User::open(alloc, shape)?;
+    match Box::new(alloc, user) {
+        Ok(whole) => Ok(whole),
+        Err(_) => Err(MakeError::NoMemory),
+    }
+}
+
+/// What an open of a closed user makes, and the number that C gets.
+#[tactic(auto, using(crate::proofs::Sharing::new_open, crate::proofs::Sharing::new_bad, crate::proofs::Sharing::new_short, crate::proofs::Sharing::no_such_shape, crate::proofs::Sharing::no_such_kind))]
+fn opened(alloc: Global, code: u32, rows: u64, passes: u32, calls: u64) -> (UserHandle, u32)
+    ensures { SharedNew code rows passes calls result.0.kept.value result.1 }
+{
+    let Some(kind) = kind_of(code) else {
+        return (UserHandle::closed(), EINVAL);
+    };
+    let shape = Shape {
+        kind,
+        rows,
+        passes,
+        calls,
+    };
+    match boxed(alloc, shape) {
+        Ok(whole) => (UserHandle::of(whole), 0),
+        Err(MakeError::BadShape { .. }) => (UserHandle::closed(), EINVAL),
+        Err(MakeError::NoMemory) => (UserHandle::closed(), ENOMEM),
+    }
+}
+
+/// Opens an empty tree of the kind with this code, and its first user.
+#[tactic(auto, using(crate::proofs::Sharing::opened_busy, crate::proofs::Sharing::opened_new))]
+#[unsafe(no_mangle)]
+pub extern "C" fn maple_shared_open(
+    alloc: Global,
+    user: &mut UserHandle,
+    kind: u32,
+    rows: u64,
+    users: u32,
+    calls: u64,
+) -> u32
+    ensures { SharedOpened kind rows users calls user.old.kept.value user.new.kept.value result }
+{
+    if let Some(whole) = user.take(alloc) {
+        *user = UserHandle::of(whole);
+        return EBUSY;
+    }
+    let (made, status) = opened(alloc, kind, rows, users, calls);
+    *user = made;
+    status
+}
+
+/// The number that C gets where no user was opened, or none has left.
+fn unchanged_told(why: Unchanged) -> u32
+    ensures { result ≡ unchanged_status why }
+{
+    match why {
+        Unchanged::Busy { .. } => EAGAIN,
+        Unchanged::NoPlace => EUSERS,
+        Unchanged::NoMemory => ENOMEM,
+    }
+}
+
+/// Opens another user of the same tree.
+#[tactic(auto, using(crate::proofs::Sharing::with_closed, crate::proofs::Sharing::with_busy, crate::proofs::Sharing::with_made, crate::proofs::Sharing::with_none))]
+#[unsafe(no_mangle)]
+pub extern "C" fn maple_share(alloc: Global, user: &mut UserHandle, other: &mut UserHandle) -> u32
+    ensures { SharedWith user.old.kept.value user.new.kept.value other.old.kept.value other.new.kept.value result }
+{
+    let Some(mut whole) = user.take(alloc) else {
+        return EINVAL;
+    };
+    if let Some(open) = other.take(alloc) {
+        *other = UserHandle::of(open);
+        *user = UserHandle::of(whole);
+        return EBUSY;
+    }
+    let made = whole.share(alloc);
+    *user = UserHandle::of(whole);
+    match made {
+        Ok(made) => {
+            *other = UserHandle::of(made);
+            0
+        }
+        Err(why) => unchanged_told(why),
+    }
+}
+
+/// Closes a user, and leaves its place to users to come.
+#[tactic(auto, using(crate::proofs::Sharing::left_closed, crate::proofs::Sharing::left_done, crate::proofs::Sharing::left_open))]
+#[unsafe(no_mangle)]
+pub extern "C" fn maple_leave(alloc: Global, user: &mut UserHandle) -> u32
+    ensures { SharedLeft user.old.kept.value user.new.kept.value result }
+{
+    let Some(whole) = user.take(alloc) else {
+        return EINVAL;
+    };
+    match User::leave(whole) {
+        Ok(()) => 0,
+        Err((whole, why)) => {
+            *user = UserHandle::of(whole);
+            unchanged_told(why)
+        }
+    }
+}
+
+/// Closes a user, whose place in the tree is then lost. The last one gives the tree's memory back.
+#[unsafe(no_mangle)]
+pub extern "C" fn maple_shared_close(alloc: Global, user: &mut UserHandle)
+    ensures { user.new.kept.value ≡ None }
+{
+    if let Some(mut whole) = user.take(alloc) {
+        // a section that stood open would hold rows for good
+        whole.pause();
+    }
+}

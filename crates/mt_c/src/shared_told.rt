@@ -1,0 +1,142 @@
+//! What C is told of a shared tree.
+
+ghost use Rattle.std.specs.Prelude.{◌≡◌};
+ghost use Rattle.mt_read.specs.Cursors as cursors;
+ghost use Rattle.mt_c.specs.Shared as defined;
+ghost use Rattle.mt_c.specs.Walkers.{top};
+
+use crate::told::{EOVERFLOW, OutRange, found_status, no_range, out_of, told_of};
+use crate::user_acts::Settling;
+use mt_base::Range;
+use mt_tree::{Busy, Done, Moved, Read, Worn};
+
+/// Another user has the lock, or the leaf of a search for a neighbour was replaced: it may be tried again.
+pub const EAGAIN: u32 = 11;
+
+/// The tree has no pass left for another user.
+pub const EUSERS: u32 = 87;
+
+/// A read as C has it: `struct maple_read`, the window of the calls after which it is true, and the range that was found.
+#[repr(C)]
+#[derive(Clone, Copy, Debug, PartialEq, Eq)]
+pub struct Window {
+    pub lo: u64,
+    pub hi: u64,
+    pub first: u64,
+    pub last: u64,
+    pub entry: u64,
+}
+
+/// A call as C has it: `struct maple_done`, its number in the tree's history, and what it was answered.
+#[repr(C)]
+#[derive(Clone, Copy, Debug, PartialEq, Eq)]
+pub struct Outcome {
+    pub call: u64,
+    pub word: u64,
+    pub first: u64,
+    pub last: u64,
+    pub entry: u64,
+}
+
+/// Where a walk looks from behind what a step found.
+pub fn place_behind(found: Option<Range>) -> Option<u64>
+    ensures { result ≡ cursors.place_behind found top }
+{
+    match found {
+        Some(range) if range.last < u64::MAX => Some(range.last + 1),
+        _ => None,
+    }
+}
+
+/// A window, and a range that was found there.
+pub fn seen(lo: u64, hi: u64, range: OutRange) -> Window
+    ensures { result ≡ defined.window lo hi range }
+{
+    let OutRange { first, last, entry } = range;
+    Window {
+        lo,
+        hi,
+        first,
+        last,
+        entry,
+    }
+}
+
+/// What C is told of a read.
+pub fn answer_told(answer: Result<Read<Option<Range>>, Moved>) -> (Window, u32)
+    ensures window { result.0 ≡ defined.window_of answer }
+    ensures status { result.1 ≡ defined.answer_status answer }
+{
+    match answer {
+        Ok(read) => (
+            seen(read.lo, read.hi, out_of(read.value)),
+            found_status(read.value),
+        ),
+        Err(moved) => (seen(moved.lo, moved.begun, no_range()), EAGAIN),
+    }
+}
+
+/// What C is told where no call was made.
+pub fn no_outcome() -> Outcome
+    ensures { result ≡ defined.no_outcome }
+{
+    Outcome {
+        call: 0,
+        word: 0,
+        first: 0,
+        last: 0,
+        entry: 0,
+    }
+}
+
+/// What C is told of a call that was made.
+fn done_told(done: Done) -> (Outcome, u32)
+    ensures outcome { result.0 ≡ defined.done_outcome done }
+    ensures status { result.1 ≡ defined.done_status done }
+{
+    let told = told_of(Some(done.reply));
+    let OutRange { first, last, entry } = told.range;
+    let outcome = Outcome {
+        call: done.call,
+        word: told.word,
+        first,
+        last,
+        entry,
+    };
+    (outcome, told.status)
+}
+
+/// What C is told of a try.
+pub fn tried_told(tried: Result<Result<Done, Worn>, Busy>) -> (Outcome, u32)
+    ensures outcome { result.0 ≡ defined.outcome_of tried }
+    ensures status { result.1 ≡ defined.tried_status tried }
+{
+    match tried {
+        Ok(Ok(done)) => done_told(done),
+        Ok(Err(_)) => (no_outcome(), EOVERFLOW),
+        Err(_) => (no_outcome(), EAGAIN),
+    }
+}
+
+/// What C is told of a look under the lock.
+pub fn synced_told(synced: Result<u64, Busy>) -> (u64, u32)
+    ensures calls { result.0 ≡ defined.calls_told synced }
+    ensures status { result.1 ≡ defined.synced_status synced }
+{
+    match synced {
+        Ok(calls) => (calls, 0),
+        Err(_) => (0, EAGAIN),
+    }
+}
+
+/// What C is told of a settling.
+pub fn settled_told(settled: Result<(u64, u64), Settling>) -> (u64, u64, u32)
+    ensures calls { result.0 ≡ (defined.settled_told settled).0 }
+    ensures passes { result.1 ≡ (defined.settled_told settled).1 }
+    ensures status { result.2 ≡ defined.settled_status settled }
+{
+    match settled {
+        Ok((calls, passes)) => (calls, passes, 0),
+        Err(_) => (0, 0, EAGAIN),
+    }
+}

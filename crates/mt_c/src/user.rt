@@ -1,0 +1,21 @@
+//! A user of a tree that threads share.
+
+ghost use Rattle.std.specs.Arc.{arc_value};
+ghost use Rattle.mt_tree.specs.Trees.{IsPassOf};
+ghost use Rattle.mt_c.specs.Purses.{IsSeatedAt};
+
+use crate::purse::Common;
+use crate::walker::Walker;
+use mt_keep::Chair;
+use mt_tree::Tree;
+use std::sync::Arc;
+
+/// A share of a tree, a pass of it with its walk, and a chair at the purse of the other passes. One thread at a time uses it.
+#[derive(Drop)]
+pub struct User {
+    pub common: Arc<Common>,
+    pub walker: Walker,
+    pub chair: Chair<Tree>,
+    ghost of: { IsPassOf (arc_value common).tree walker.pass },
+    ghost seated: { IsSeatedAt (arc_value common) chair },
+}

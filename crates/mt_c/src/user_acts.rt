@@ -1,0 +1,119 @@
+//! What a user of a shared tree does: its walker does it on the tree that they own together.
+
+ghost use Rattle.std.specs.Prelude.{◌≡◌, MatchOption, None, Ok};
+ghost use Rattle.mt_base.specs.declared.calls.Query.TheVariants.{Load};
+ghost use Rattle.mt_read.specs.Cursors.{query_at};
+ghost use Rattle.mt_tree.specs.Trees.{IsPassOf};
+ghost use Rattle.mt_c.specs.KeptWalks.{top};
+ghost use Rattle.mt_c.specs.Purses.{IsSeatedAt};
+ghost use Rattle.mt_c.specs.Users.{IsSettled, IsSynced, common_of, known_to, paused, tree_of};
+ghost use Rattle.mt_c.specs.Walkers.{GoesOn, IsAnswer, IsAtRest, IsTried, halted, knows};
+
+use crate::purse::Common;
+use crate::user::User;
+use crate::walker::Walker;
+use mt_base::{Call, Query, Range};
+use mt_keep::Chair;
+use mt_tree::{Busy, Done, Moved, Read, Tree, Worn};
+
+/// Why a user and the purse did not see the whole history.
+#[derive(Drop)]
+pub enum Settling {
+    /// Another user has the purse.
+    Unpursed { busy: mt_keep::Busy<Tree> },
+    /// The lock was found taken.
+    Locked { busy: Busy },
+}
+
+impl Common {
+    /// A walker and all passes of the purse see the whole history, if neither the purse nor the lock is taken.
+    #[tactic(auto, using(crate::proofs::Using::settled))]
+    pub fn settle(
+        &self,
+        walker: &mut Walker,
+        chair: &mut Chair<Tree>,
+    ) -> Result<(u64, u64), Settling>
+        requires of { IsPassOf self.now.tree walker.old.pass }
+        requires seated { IsSeatedAt self.now chair.old }
+        ensures of { IsPassOf self.now.tree walker.new.pass }
+        ensures seated { IsSeatedAt self.now chair.new }
+        ensures settled { IsSettled self.now (halted walker.old) result (knows walker.new) }
+    {
+        walker.pause(&self.tree);
+        let mut taken = match self.take(chair) {
+            Ok(taken) => taken,
+            Err(busy) => return Err(Settling::Unpursed { busy }),
+        };
+        let met = walker.meet(&self.tree, taken.value.passes.as_mut_slice());
+        let passes = taken.value.passes.len() as u64;
+        self.give(taken);
+        match met {
+            Ok(calls) => Ok((calls, passes)),
+            Err(busy) => Err(Settling::Locked { busy }),
+        }
+    }
+}
+
+impl User {
+    /// Closes the section of its walk, if it has one, and forgets the walk.
+    pub fn pause(&mut self)
+        ensures common { common_of self.new ≡ common_of self.old }
+        ensures known { known_to self.new ≡ paused self.old }
+        ensures walk { self.new.walker.walk ≡ None }
+    {
+        self.walker.pause(&self.common.tree);
+    }
+
+    /// Asks one query, without the lock.
+    pub fn ask(&mut self, query: &Query) -> Result<Read<Option<Range>>, Moved>
+        ensures tree { tree_of self.new ≡ tree_of self.old }
+        ensures answer { IsAnswer (tree_of self.old) (known_to self.old) query.now result (known_to self.new) }
+        ensures rests { IsAtRest self.new.walker }
+    {
+        self.walker.ask(&self.common.tree, query)
+    }
+
+    /// The first range that ends at a place or above, as `Walker::step_from` tells it: the leaf that it is in is kept.
+    pub fn step_from(&mut self, place: Option<u64>) -> Read<Option<Range>>
+        ensures tree { tree_of self.new ≡ tree_of self.old }
+        ensures answer { IsAnswer (tree_of self.old) (known_to self.old) (query_at place top) (Ok result) (known_to self.new) }
+        ensures going { MatchOption place (IsAtRest self.new.walker) (λ _. GoesOn result.value self.new.walker) }
+    {
+        self.walker.step_from(&self.common.tree, place)
+    }
+
+    /// Looks how many calls have ended, by a read.
+    pub fn look(&mut self) -> Read<Option<Range>>
+        ensures tree { tree_of self.new ≡ tree_of self.old }
+        ensures answer { IsAnswer (tree_of self.old) (known_to self.old) (Load 0) (Ok result) (known_to self.new) }
+        ensures rests { IsAtRest self.new.walker }
+    {
+        self.walker.look(&self.common.tree)
+    }
+
+    /// Makes one call, if the lock is free.
+    pub fn try_act(&mut self, call: &Call) -> Result<Result<Done, Worn>, Busy>
+        ensures tree { tree_of self.new ≡ tree_of self.old }
+        ensures tried { IsTried (tree_of self.old) (paused self.old) call.now result (known_to self.new) }
+    {
+        self.walker.try_act(&self.common.tree, call)
+    }
+
+    /// Sees the whole history, if the lock is free. Answers how many calls it has.
+    #[tactic(auto, using(crate::proofs::Using::synced))]
+    pub fn sync(&mut self) -> Result<u64, Busy>
+        ensures tree { tree_of self.new ≡ tree_of self.old }
+        ensures synced { IsSynced (tree_of self.old) (paused self.old) result (known_to self.new) }
+    {
+        self.walker.meet(&self.common.tree, &mut [])
+    }
+
+    /// With all passes of the purse it sees the whole history, if neither the purse nor the lock is taken. Answers how many calls
+    /// that has, and how many passes of the purse have then seen it.
+    pub fn settle(&mut self) -> Result<(u64, u64), Settling>
+        ensures tree { tree_of self.new ≡ tree_of self.old }
+        ensures settled { IsSettled (common_of self.old) (paused self.old) result (known_to self.new) }
+    {
+        self.common.settle(&mut self.walker, &mut self.chair)
+    }
+}

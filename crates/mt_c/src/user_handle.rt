@@ -1,0 +1,52 @@
+//! A user of a shared tree as C has it.
+
+ghost use Rattle.std.specs.Prelude.{◌≡◌, Option, Some, None, MatchOption};
+ghost use Rattle.mt_c.specs.Owned.{count_of};
+
+use crate::kept_user::KeptUser;
+use crate::user::User;
+use std::alloc::Global;
+
+/// A user as C has it: `struct maple_user`, of two words. Where both are 0 it is closed. The second tells how many users it has.
+#[repr(C)]
+#[derive(Drop)]
+pub struct UserHandle {
+    pub kept: KeptUser,
+    is_open: u64,
+    ghost counted: { is_open ≡ count_of kept.value },
+}
+
+impl UserHandle {
+    /// A closed one.
+    pub fn closed() -> UserHandle
+        ensures { result.kept.value ≡ None }
+    {
+        UserHandle {
+            kept: KeptUser::closed(),
+            is_open: 0,
+        }
+    }
+
+    /// One with this user.
+    pub fn of(whole: Box<User>) -> UserHandle
+        ensures { result.kept.value ≡ Some whole.value }
+    {
+        UserHandle {
+            kept: KeptUser::of(whole),
+            is_open: 1,
+        }
+    }
+
+    /// Takes the user out, where it is open, and leaves it closed.
+    #[tactic(auto, using(crate::proofs::Keeping::none_kept, crate::proofs::Keeping::some_kept))]
+    pub fn take(&mut self, alloc: Global) -> Option<Box<User>>
+        ensures user { MatchOption result (self.old.kept.value ≡ None) (λ whole. self.old.kept.value ≡ Some whole.value) }
+        ensures closed { self.new.kept.value ≡ None }
+    {
+        let UserHandle { kept, is_open } = std::mem::replace(self, UserHandle::closed());
+        if is_open == 0 {
+            return None;
+        }
+        Some(kept.into_box(alloc))
+    }
+}

@@ -1,0 +1,247 @@
+//! Users that are made, that make others, and that leave.
+
+ghost use Rattle.std.specs.Prelude.{◌≡◌, ◌+◌, ◌<◌, ◌≤◌, ◌∷◌, ◌++◌, All, Err, IfErr, IfOk, List, None, Some, []};
+ghost use Rattle.std.specs.Vec.{vec_capacity, vec_len};
+ghost use Rattle.mt_keep.specs.Keeping.{IsTakenOf};
+ghost use Rattle.mt_tree.specs.Shapes.{first_bad};
+ghost use Rattle.mt_tree.specs.Trees.{IsPassOf, Pass};
+ghost use Rattle.mt_tree.specs.declared.shapes.Field.{Field};
+ghost use Rattle.mt_tree.specs.declared.shapes.MakeError.TheVariants as make_error;
+ghost use Rattle.std.specs.Arc.{arc_value};
+ghost use Rattle.mt_c.specs.Purses.{IsSeatedAt};
+ghost use Rattle.mt_c.specs.Users.{IsFirst, IsWhy, common_of, known_to, paused, tree_of};
+
+use crate::purse::{Common, Purse};
+use crate::user::User;
+use crate::walker::Walker;
+use mt_keep::{Busy, Chair, Keep, Taken};
+use mt_tree::{MakeError, NoMemory, Pass, Shape, Tree};
+use std::alloc::{AllocFailed, Global};
+use std::sync::Arc;
+
+/// Why no user was opened, or none has left.
+#[derive(Drop)]
+pub enum Unchanged {
+    /// Another user has the purse.
+    Busy { busy: Busy<Tree> },
+    /// The purse is empty.
+    NoPlace,
+    NoMemory,
+}
+
+/// A new tree with the purse of these passes, and a chair at that.
+fn shared(
+    alloc: Global,
+    tree: Tree,
+    passes: Vec<Pass>,
+) -> Result<(Arc<Common>, Chair<Tree>), NoMemory>
+    requires { All (IsPassOf tree) passes.items }
+    ensures tree { IfOk result (λ r. (arc_value r.0).tree ≡ tree) }
+    ensures seated { IfOk result (λ r. IsSeatedAt (arc_value r.0) r.1) }
+{
+    let (purse, chair) = Keep::make(alloc, &tree, Purse { passes })?;
+    let common = Common { tree, purse };
+    match Arc::new(alloc, common) {
+        Ok(common) => Ok((common, chair)),
+        Err(_) => Err(NoMemory),
+    }
+}
+
+impl Purse {
+    /// A user with a pass that is taken out. Where there is none, or no memory, the purse is as it was.
+    fn open_user(
+        &mut self,
+        alloc: Global,
+        common: Arc<Common>,
+        chair: Chair<Tree>,
+    ) -> Result<Box<User>, Unchanged>
+        requires seated { IsSeatedAt (arc_value common) chair }
+        requires passes { All (IsPassOf (arc_value common).tree) self.old.passes.items }
+        ensures passes { All (IsPassOf (arc_value common).tree) self.new.passes.items }
+        ensures other { IfOk result (λ other. common_of other.value ≡ arc_value common) }
+        ensures why { IfErr result (IsWhy (arc_value common)) }
+    {
+        let Some(pass) = self.passes.pop() else {
+            return Err(Unchanged::NoPlace);
+        };
+        let user = User {
+            common,
+            walker: Walker::new(pass),
+            chair,
+        };
+        match Box::new(alloc, user) {
+            Ok(other) => Ok(other),
+            Err(AllocFailed { value }) => {
+                let User { walker, .. } = value;
+                let Walker { pass, .. } = walker;
+                self.passes.push_reserved(pass);
+                Err(Unchanged::NoMemory)
+            }
+        }
+    }
+}
+
+impl Common {
+    /// A user beside another, with a pass of the purse.
+    fn open_user(
+        &self,
+        alloc: Global,
+        common: Arc<Common>,
+        chair: &mut Chair<Tree>,
+    ) -> Result<Box<User>, Unchanged>
+        requires same { arc_value common ≡ self.now }
+        requires seated { IsSeatedAt self.now chair.old }
+        ensures seated { IsSeatedAt self.now chair.new }
+        ensures other { IfOk result (λ other. common_of other.value ≡ self.now) }
+        ensures why { IfErr result (IsWhy self.now) }
+    {
+        let other_chair = self.purse.chair(chair);
+        let mut taken = match self.take(chair) {
+            Ok(taken) => taken,
+            Err(busy) => return Err(Unchanged::Busy { busy }),
+        };
+        let other = taken.value.open_user(alloc, common, other_chair);
+        self.give(taken);
+        other
+    }
+
+    /// Takes the purse, with room for one more pass.
+    fn take_room(&self, chair: &mut Chair<Tree>) -> Result<Taken<Purse, Tree>, Unchanged>
+        requires { IsSeatedAt self.now chair.old }
+        ensures seated { IsSeatedAt self.now chair.new }
+        ensures taken { IfOk result (λ taken. IsTakenOf self.now.purse.table.shared.table_id self.now.purse.table.shared.key taken.seat) }
+        ensures passes { IfOk result (λ taken. All (IsPassOf self.now.tree) taken.value.passes.items) }
+        ensures room { IfOk result (λ taken. vec_len taken.value.passes + 1 ≤ vec_capacity taken.value.passes) }
+        ensures why { IfErr result (IsWhy self.now) }
+    {
+        let mut taken = match self.take(chair) {
+            Ok(taken) => taken,
+            Err(busy) => return Err(Unchanged::Busy { busy }),
+        };
+        if taken.value.passes.reserve(1).is_err() {
+            self.give(taken);
+            return Err(Unchanged::NoMemory);
+        }
+        Ok(taken)
+    }
+
+    /// Puts a pass into the purse and gives that back.
+    fn leave(&self, mut taken: Taken<Purse, Tree>, pass: Pass)
+        requires taken { IsTakenOf self.now.purse.table.shared.table_id self.now.purse.table.shared.key taken.seat }
+        requires passes { All (IsPassOf self.now.tree) taken.value.passes.items }
+        requires room { vec_len taken.value.passes + 1 ≤ vec_capacity taken.value.passes }
+        requires pass { IsPassOf self.now.tree pass }
+    {
+        taken.value.passes.push_reserved(pass);
+        self.give(taken);
+    }
+}
+
+/// A user with the last of these passes of a new tree. The others are in the purse.
+fn first(alloc: Global, tree: Tree, passes: Vec<Pass>) -> Result<User, NoMemory>
+    requires passes { All (IsPassOf tree) passes.items }
+    requires some { 0 < vec_len passes }
+    ensures tree { IfOk result (λ user. tree_of user ≡ tree) }
+    ensures passes { IfOk result (λ user. (others : List Pass) × (passes.items ≡ others ++ user.walker.pass ∷ [])) }
+    ensures walk { IfOk result (λ user. user.walker.walk ≡ None) }
+{
+    let mut passes = passes;
+    let Some(pass) = passes.pop() else {
+        unreachable!()
+    };
+    let (common, chair) = shared(alloc, tree, passes)?;
+    Ok(User {
+        common,
+        walker: Walker::new(pass),
+        chair,
+    })
+}
+
+impl User {
+    /// The first user of a new tree of this shape. The other passes are in the purse.
+    ///
+    /// # Errors
+    ///
+    /// `BadShape` with the first field that is out of range; `NoMemory` where memory ran out.
+    pub fn open(alloc: Global, shape: Shape) -> Result<User, MakeError>
+        ensures bad { (field : Field) → result ≡ Err (make_error.BadShape field) → first_bad shape ≡ Some field }
+        ensures good { IfOk result (λ _. first_bad shape ≡ None) }
+        ensures first { IfOk result (IsFirst shape) }
+    {
+        let (tree, passes) = match Tree::make(alloc, shape) {
+            Ok(made) => made,
+            Err(why) => return Err(why),
+        };
+        match first(alloc, tree, passes) {
+            Ok(user) => Ok(user),
+            Err(_) => Err(MakeError::NoMemory),
+        }
+    }
+
+    /// Opens another user of the same tree, with a pass of the purse.
+    ///
+    /// # Errors
+    ///
+    /// `Busy` where another user has the purse; `NoPlace` where it is empty; `NoMemory` where memory ran out.
+    pub fn share(&mut self, alloc: Global) -> Result<Box<User>, Unchanged>
+        ensures tree { tree_of self.new ≡ tree_of self.old }
+        ensures known { known_to self.new ≡ known_to self.old }
+        ensures walk { self.new.walker.walk ≡ self.old.walker.walk }
+        ensures other { IfOk result (λ other. tree_of other.value ≡ tree_of self.old) }
+        ensures why { IfErr result (IsWhy (common_of self.old)) }
+    {
+        let Ok(common) = Arc::try_clone(&self.common) else {
+            return Err(Unchanged::NoMemory);
+        };
+        self.common.open_user(alloc, common, &mut self.chair)
+    }
+
+    /// Takes the purse, with room for one more pass.
+    ///
+    /// # Errors
+    ///
+    /// `Busy` where another user has the purse; `NoMemory` where memory ran out.
+    fn take_purse(&mut self) -> Result<Taken<Purse, Tree>, Unchanged>
+        ensures common { common_of self.new ≡ common_of self.old }
+        ensures known { known_to self.new ≡ known_to self.old }
+        ensures walk { self.new.walker.walk ≡ self.old.walker.walk }
+        ensures taken { IfOk result (λ taken. IsTakenOf (common_of self.old).purse.table.shared.table_id (common_of self.old).purse.table.shared.key taken.seat) }
+        ensures passes { IfOk result (λ taken. All (IsPassOf (common_of self.old).tree) taken.value.passes.items) }
+        ensures room { IfOk result (λ taken. vec_len taken.value.passes + 1 ≤ vec_capacity taken.value.passes) }
+        ensures why { IfErr result (IsWhy (common_of self.old)) }
+    {
+        self.common.take_room(&mut self.chair)
+    }
+
+    /// Leaves its pass in the purse.
+    fn leave_to(self, taken: Taken<Purse, Tree>)
+        requires taken { IsTakenOf (common_of self).purse.table.shared.table_id (common_of self).purse.table.shared.key taken.seat }
+        requires passes { All (IsPassOf (common_of self).tree) taken.value.passes.items }
+        requires room { vec_len taken.value.passes + 1 ≤ vec_capacity taken.value.passes }
+    {
+        let User { common, walker, .. } = self;
+        let Walker { pass, .. } = walker;
+        common.leave(taken, pass);
+    }
+
+    /// Closes a user, and leaves its pass in the purse.
+    ///
+    /// # Errors
+    ///
+    /// `Busy` where another user has the purse; `NoMemory` where memory ran out. The user is handed back, its walk paused.
+    pub fn leave(user: Box<User>) -> Result<(), (Box<User>, Unchanged)>
+        ensures tree { IfErr result (λ r. tree_of r.0.value ≡ tree_of user.value) }
+        ensures known { IfErr result (λ r. known_to r.0.value ≡ paused user.value) }
+        ensures why { IfErr result (λ r. IsWhy (common_of user.value) r.1) }
+    {
+        let mut user = user;
+        user.pause();
+        match user.take_purse() {
+            Ok(taken) => {
+                Box::into_inner(user).leave_to(taken);
+                Ok(())
+            }
+            Err(why) => Err((user, why)),
+        }
+    }
+}
